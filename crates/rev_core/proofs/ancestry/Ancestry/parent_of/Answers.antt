@@ -1,0 +1,21 @@
+use Rattle.std.proofs.Common.{sym, ap, ◌∙◌, rules}
+use Rattle.std.specs.FinMap.{find}
+use Rattle.rev_core.specs.Rev.{rev_cmp}
+use Rattle.rev_core.specs.Ancestry.{edges_of}
+use Rattle.rev_core.specs.AncestryLaws.{edges_end}
+use Rattle.rev_core.proofs.Ties.{edge_found, edge_passed}
+use Rattle.rev_core.proofs.ancestry.Ancestry.parent_of.Goals as goal
+
+pub returns-then-eq : goal.returns-then-eq
+returns-then-eq c =
+    sym (ap (λ t. find rev_cmp c.args.rev (edges_of t)) (sym c.self.view_is) ∙ c.loop-i.invariant
+    ∙ edge_found c.self.inside.revs.items c.loop-i.i c.index.result.now c.index-then-eq.result.now c.args.rev (search rules) (search rules) c.index.ensures c.index-then-eq.ensures (sym c.eq.ensures ∙ c.if-eq.true))
+
+pub loop-i-preserved : goal.loop-i-preserved
+loop-i-preserved c =
+    c.loop-i.invariant ∙ edge_passed c.self.inside.revs.items c.loop-i.i c.index.result.now c.args.rev (search rules) (search rules) c.index.ensures (sym c.eq.ensures ∙ c.if-eq.false)
+
+pub returns : goal.returns
+returns c =
+    sym (ap (λ t. find rev_cmp c.args.rev (edges_of t)) (sym c.self.view_is) ∙ c.loop-i.invariant
+    ∙ ap (find rev_cmp c.args.rev) (edges_end c.self.inside.revs.items _ (search rules)))

@@ -1,0 +1,13 @@
+use Rattle.std.proofs.Common.{◌≡◌, ◌<◌, ◌≤◌, ◌^◌, drop, fold}
+use Rattle.std.specs.List.{list_all}
+use Rattle.rev_core.specs.Text.{with_digit, value_of, is_digit}
+use Rattle.rev_core.proofs.rev.generation_of.Given as goal
+
+-- the rest of the text gives what all of it gives
+abbrev pub invariant-loop-b : goal.invariant-loop-b
+invariant-loop-b l = record {
+  value : fold with_digit l.value (drop l.b-index l.text) ≡ value_of l.text;
+  digits : list_all is_digit (drop l.b-index l.text) ≡ list_all is_digit l.text;
+  fits : l.value < 2 ^ 32;
+  low : 0 < l.b-index → 1 ≤ l.value;
+}

@@ -1,0 +1,47 @@
+-- Ancestries: docs/PROFILE.md, "Ancestries"; the member `_revisions` of CouchDB, "Replication Protocol".
+use Rattle.std.specs.Prelude.{◌≡◌, ℕ, ◌+◌, ◌-◌, ◌<◌, Bool, List, [], ◌∷◌, length, Option, Some, None, Result, Ok, Err, if◌then◌else◌, nat_lt, ◌==◌}
+use Rattle.std.specs.List.{AllByRecursion, list_any}
+use Rattle.std.specs.Ordering.{eq_by_cmp}
+use Rattle.rev_core.specs.Rev.{RevId, IsRev, rev_cmp}
+use Rattle.rev_core.specs.declared.fault.RevFault.{RevFault}
+use Rattle.rev_core.specs.declared.fault.RevFault.TheVariants as faults
+
+-- each generation is one above the next
+abbrev pub FallsByOne : List RevId → Type 0
+FallsByOne [] = Unit {0}
+FallsByOne (r ∷ []) = Unit {0}
+FallsByOne (r ∷ (s ∷ rest)) = (r.generation ≡ s.generation + 1) × FallsByOne (s ∷ rest)
+
+-- a nonempty list of revisions whose generations fall by one
+pub record IsAncestry (revs : List RevId) : Type 0 where
+  pub nonempty : 0 < length revs
+  pub each : AllByRecursion IsRev revs
+  pub falls : FallsByOne revs
+
+-- the first revision, which is the newest
+abbrev pub head_of : List RevId → Option RevId
+head_of [] = None
+head_of (r ∷ rest) = Some r
+
+-- neighbours: each child with its parent, newest child first
+abbrev pub edges_of : List RevId → List (RevId × RevId)
+edges_of [] = []
+edges_of (r ∷ []) = []
+edges_of (r ∷ (s ∷ rest)) = (r, s) ∷ edges_of (s ∷ rest)
+
+-- whether one of the edges has a revision as its parent
+abbrev pub has_parent : List (RevId × RevId) → RevId → Bool
+has_parent edges r = list_any (λ (e : RevId × RevId). eq_by_cmp rev_cmp r e.1) edges
+
+-- whether a revision is one of them
+abbrev pub is_among : RevId → List RevId → Bool
+is_among r revs = list_any (eq_by_cmp rev_cmp r) revs
+
+-- the revisions that signatures spell from a generation downwards
+abbrev pub numbered : ℕ → List (List ℕ) → List RevId
+numbered start [] = []
+numbered start (sig ∷ sigs) = record { generation = start; sig = sig } ∷ numbered (start - 1) sigs
+
+-- what the newest generation and the signatures give
+abbrev pub ancestry_read : ℕ → List (List ℕ) → Result (List RevId) RevFault
+ancestry_read start sigs = if length sigs == 0 then Err faults.NoIds else (if nat_lt start (length sigs) then Err faults.StartTooSmall else Ok (numbered start sigs))

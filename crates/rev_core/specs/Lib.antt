@@ -1,0 +1,9 @@
+pub mod Sig
+pub mod Stored
+pub mod Rev
+pub mod RevOrder
+pub mod Text
+pub mod TextLaws
+pub mod Ancestry
+pub mod AncestryLaws
+pub mod Answers

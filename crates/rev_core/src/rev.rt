@@ -1,0 +1,182 @@
+//! Revision ids.
+ghost use Rattle.std.specs.Prelude.{◌≡◌, ◌≤◌, Ok, IfSome, IfOk, IfErr, position, refl};
+ghost use Rattle.std.specs.Ordering.{eq_by_cmp, as_partial_cmp};
+ghost use Rattle.std.specs.Cmp;
+ghost use Rattle.std.specs.Cmp.{eq_by_cmp_equiv};
+ghost use Rattle.rev_core.specs.Rev.{rev_cmp};
+ghost use Rattle.rev_core.specs.RevOrder.{rev_cmp_total, hashed, hashed_alike};
+ghost use Rattle.rev_core.specs.Text.{generation_read, is_dash};
+
+use crate::fault::RevFault;
+use crate::sig::Sig;
+use std::alloc::Global;
+use std::cmp::Ordering;
+use std::hash::{Hash, Hasher};
+use std::marker::Model;
+
+/// A revision id `N-sig`: a generation from 1 to 4,294,967,295, and a signature.
+///
+/// It is a plain value of fixed size, copied without memory, and ordered by generation, then by signature.
+#[derive(Clone, Copy, Debug)]
+pub struct Rev {
+    generation: u32,
+    sig: Sig,
+}
+
+impl Model for Rev {
+    ghost use Rattle.rev_core.specs.Rev.{RevId, IsRev};
+
+    ghost Value = { RevId };
+
+    ghost view = { λ r. record { generation = r.generation; sig = r.sig } };
+
+    ghost invariant = { λ r. IsRev (record { generation = r.generation; sig = r.sig }) };
+
+    ghost inverse = { λ r. record { generation = r.generation; sig = r.sig } };
+}
+
+impl Rev {
+    ghost use Rattle.rev_core.specs.Rev.{RevId, IsRev};
+    ghost use Rattle.rev_core.specs.Text.{rev_read, rev_text};
+
+    /// The revision of a generation and a signature.
+    pub(crate) fn new(generation: u32, sig: Sig) -> Rev
+        requires { 1 ≤ generation }
+        ensures parts { result ≡ record { generation = generation; sig = sig } }
+        ensures is_rev { IsRev result }
+    {
+        let _text = sig.bytes();
+        Rev { generation, sig }
+    }
+
+    /// The revision that a text spells, which is cut at its first dash.
+    ///
+    /// `BadGeneration` where there is no dash, or no generation before it; else `BadSig` where no signature is behind it.
+    /// Only the revision's own text spells it.
+    pub fn parse(text: &[u8]) -> Result<Rev, RevFault>
+        ensures read { result ≡ rev_read text.now }
+        ensures own_text { IfOk result (λ r. rev_text r ≡ text.now) }
+    {
+        let Some(dash) = first_dash(text) else {
+            return Err(RevFault::BadGeneration);
+        };
+        let Some(generation) = generation_of(&text[..dash]) else {
+            return Err(RevFault::BadGeneration);
+        };
+        match Sig::parse(&text[dash + 1..]) {
+            Ok(sig) => Ok(Rev::new(generation, sig)),
+            Err(fault) => Err(fault),
+        }
+    }
+
+    /// The text of the revision, which parses back to it. The only error is `Memory`.
+    pub fn write(&self, alloc: Global) -> Result<Vec<u8>, RevFault>
+        ensures text { IfOk result (λ v. v.items ≡ rev_text self.now) }
+        ensures parses_back { rev_read (rev_text self.now) ≡ Ok self.now }
+        ensures err { IfErr result (λ e. e ≡ RevFault.Memory) }
+    {
+        let generation = self.generation();
+        let Ok(text) = format!(in alloc; "{generation}-") else {
+            return Err(RevFault::Memory);
+        };
+        let mut bytes = text.into_bytes();
+        let Ok(()) = bytes.extend_from_slice(self.sig.bytes()) else {
+            return Err(RevFault::Memory);
+        };
+        Ok(bytes)
+    }
+
+    /// The generation.
+    pub fn generation(&self) -> u32
+        ensures part { result ≡ self.now.generation }
+        ensures is_rev { IsRev self.now }
+    {
+        self.generation
+    }
+
+    /// The signature.
+    pub fn sig(&self) -> Sig
+        ensures { result ≡ self.now.sig }
+    {
+        self.sig
+    }
+}
+
+impl PartialEq for Rev {
+    ghost eq = { eq_by_cmp rev_cmp };
+
+    ghost laws = { Cmp.partial_equiv_from_equiv (eq_by_cmp_equiv rev_cmp_total) };
+
+    fn eq(&self, other: &Rev) -> bool {
+        let same_sig = self.sig == other.sig;
+        self.generation == other.generation && same_sig
+    }
+}
+
+impl Eq for Rev {
+    ghost laws = { eq_by_cmp_equiv rev_cmp_total };
+}
+
+impl PartialOrd for Rev {
+    ghost partial_cmp = { as_partial_cmp rev_cmp };
+
+    ghost laws = { Cmp.po rev_cmp_total (λ x y. refl) };
+
+    fn partial_cmp(&self, other: &Rev) -> Option<Ordering> {
+        Some(self.cmp(other))
+    }
+}
+
+impl Ord for Rev {
+    ghost cmp = { rev_cmp };
+
+    ghost total = { rev_cmp_total };
+
+    ghost matches_partial_cmp = { λ x y. refl };
+
+    ghost matches_eq = { λ x y. refl };
+
+    fn cmp(&self, other: &Rev) -> Ordering {
+        let by_generation = self.generation.cmp(&other.generation);
+        by_generation.then(self.sig.cmp(&other.sig))
+    }
+}
+
+impl Hash for Rev {
+    ghost hash_input = { hashed };
+
+    ghost respects_eq = { hashed_alike };
+
+    fn hash<H: Hasher>(&self, state: &mut H) {
+        self.generation.hash(state);
+        self.sig.hash(state);
+    }
+}
+
+/// The place of the first dash.
+fn first_dash(text: &[u8]) -> Option<usize>
+    ensures { result ≡ position is_dash text.now }
+{
+    text.iter().position(|b| *b == b'-')
+}
+
+/// The generation that a text writes.
+fn generation_of(text: &[u8]) -> Option<u32>
+    ensures value { result ≡ generation_read text.now }
+    ensures low { IfSome result (λ n. 1 ≤ n) }
+{
+    if text.is_empty() || text[0] < b'1' {
+        return None;
+    }
+    let mut value: u64 = 0;
+    for b in text {
+        if *b < b'0' || *b > b'9' {
+            return None;
+        }
+        value = value * 10 + u64::from(*b - b'0');
+        if value >= 4_294_967_296 {
+            return None;
+        }
+    }
+    Some(value as u32)
+}

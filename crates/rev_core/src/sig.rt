@@ -1,0 +1,154 @@
+//! Signatures: the part of a revision id behind the dash.
+ghost use Rattle.std.specs.Prelude.{◌≡◌, ◌≤◌, true, length, nat_eq};
+ghost use Rattle.std.specs.List.{list_all};
+ghost use Rattle.std.specs.Ordering.{nat_cmp, as_partial_cmp};
+ghost use Rattle.std.specs.Cmp;
+ghost use Rattle.std.specs.Cmp.{partial_order_from_own_ties};
+ghost use Rattle.std.specs.Cmp.Rules.{comparing, hashing};
+ghost use Rattle.std.specs.Cmp.Lexicographic.{pointwise, slice_cmp};
+ghost use Rattle.std.specs.Hash as fed;
+ghost use Rattle.std.proofs.Common.{rules};
+ghost use Rattle.std.proofs.lemmas.Cmp.{nat_list_eq_equiv};
+ghost use Rattle.rev_core.specs.Sig.{is_sig, is_sig_byte, padded};
+
+use crate::fault::RevFault;
+use std::cmp::Ordering;
+use std::hash::{Hash, Hasher};
+use std::marker::Model;
+
+/// The most bytes of a signature.
+const MOST_BYTES: usize = 64;
+
+/// A signature: a text of 1 to 64 bytes, each an ASCII letter, a digit, `-`, `_` or `.`.
+///
+/// It is a plain value of fixed size: the text stands in front, and zeros behind it.
+/// Signatures are ordered as their texts are in ASCII.
+#[derive(Clone, Copy, Debug)]
+pub struct Sig {
+    bytes: [u8; 64],
+    len: u8,
+}
+
+impl Model for Sig {
+    ghost use Rattle.std.specs.Prelude.{List, ℕ, take, length};
+
+    ghost Value = { List ℕ };
+
+    ghost use Rattle.rev_core.specs.Sig.{IsStored, padded};
+    ghost use Rattle.rev_core.specs.Stored.{padded_back};
+
+    ghost view = { λ s. take s.len s.bytes };
+
+    ghost invariant = { λ s. IsStored s.bytes s.len };
+
+    ghost inverse = { λ text. record { bytes = padded text; len = length text } };
+
+    ghost inverse_ok = { padded_back };
+}
+
+impl Sig {
+    ghost use Rattle.rev_core.specs.Sig.{sig_read, is_sig};
+
+    /// The signature that a text spells, or `BadSig` where it spells none.
+    pub fn parse(text: &[u8]) -> Result<Sig, RevFault>
+        ensures { result ≡ sig_read text.now }
+    {
+        if !is_sig(text) {
+            return Err(RevFault::BadSig);
+        }
+        Ok(Sig {
+            bytes: padded(text),
+            len: text.len() as u8,
+        })
+    }
+
+    /// The text.
+    pub fn bytes(&self) -> &[u8]
+        ensures text { result.now ≡ self.now }
+        ensures sig { is_sig self.now ≡ true }
+    {
+        &self.bytes[..self.len as usize]
+    }
+}
+
+impl PartialEq for Sig {
+    ghost eq = { pointwise nat_eq };
+
+    ghost laws = { Cmp.partial_equiv_from_equiv nat_list_eq_equiv };
+
+    fn eq(&self, other: &Sig) -> bool {
+        self.bytes() == other.bytes()
+    }
+}
+
+impl Eq for Sig {
+    ghost laws = { nat_list_eq_equiv };
+}
+
+impl PartialOrd for Sig {
+    ghost partial_cmp = { as_partial_cmp (slice_cmp nat_cmp) };
+
+    ghost laws = { partial_order_from_own_ties (Prim.search (comparing, rules)) (Prim.search (comparing, rules)) };
+
+    fn partial_cmp(&self, other: &Sig) -> Option<Ordering> {
+        Some(self.cmp(other))
+    }
+}
+
+impl Ord for Sig {
+    ghost cmp = { slice_cmp nat_cmp };
+
+    ghost total = { Prim.search (comparing, rules) };
+
+    ghost matches_partial_cmp = { Prim.search (comparing, rules) };
+
+    ghost matches_eq = { Prim.search (comparing, rules) };
+
+    fn cmp(&self, other: &Sig) -> Ordering {
+        self.bytes().cmp(other.bytes())
+    }
+}
+
+impl Hash for Sig {
+    ghost hash_input = { fed.slice fed.u8 };
+
+    ghost respects_eq = { Prim.search (hashing, rules) };
+
+    fn hash<H: Hasher>(&self, state: &mut H) {
+        self.bytes().hash(state);
+    }
+}
+
+/// Whether a text is a signature.
+fn is_sig(text: &[u8]) -> bool
+    ensures { result ≡ is_sig text.now }
+{
+    let all = all_sig_bytes(text);
+    1 <= text.len() && text.len() <= MOST_BYTES && all
+}
+
+/// Whether each byte may stand in a signature.
+fn all_sig_bytes(text: &[u8]) -> bool
+    ensures { result ≡ list_all is_sig_byte text.now }
+{
+    text.iter().all(|b| is_sig_byte(*b))
+}
+
+/// Whether a byte may stand in a signature.
+fn is_sig_byte(b: u8) -> bool
+    ensures { result ≡ is_sig_byte b }
+{
+    b.is_ascii_alphanumeric() || b == b'-' || b == b'_' || b == b'.'
+}
+
+/// A text with zeros behind it.
+fn padded(text: &[u8]) -> [u8; 64]
+    requires { length text.now ≤ 64 }
+    ensures { result ≡ padded text.now }
+{
+    let mut bytes = [0; 64];
+    for i in 0..text.len() {
+        bytes[i] = text[i];
+    }
+    bytes
+}
