@@ -1,0 +1,10 @@
+//! Generated tests over several crates: each compares a crate with a reference of its own, written from the definitions
+//! by other means.
+#![tactic(auto)]
+
+#[cfg(test)]
+mod fronts;
+#[cfg(test)]
+mod merges;
+#[cfg(test)]
+mod reference;

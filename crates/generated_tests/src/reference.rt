@@ -1,0 +1,174 @@
+//! A tree over eighteen revisions, as bits: generations 1 to 6 with the signatures a, b and c.
+//!
+//! The revision at place `p` has the generation `p / 3 + 1` and the signature `p % 3`, so places rise as revisions do.
+//! It is written from docs/PROFILE.md, "Merging" and "Leaves and the winner": sets are masks, union is `|`.
+
+use std::alloc::{AllocError, Global};
+
+/// How many revisions there can be.
+pub const PLACES: usize = 18;
+
+/// The bit of a place.
+fn bit(place: usize) -> u32 {
+    1 << (place % PLACES)
+}
+
+/// The place of the lowest bit.
+fn lowest(mask: u32) -> usize {
+    for place in 0..PLACES {
+        if mask & bit(place) != 0 {
+            return place;
+        }
+    }
+    0
+}
+
+/// What a merge answers.
+#[derive(Clone, Copy, Debug, PartialEq, Eq)]
+pub enum Answer {
+    Changed,
+    Same,
+    Contradiction {
+        child: usize,
+        known: usize,
+        given: usize,
+    },
+}
+
+/// Three sets and the origins.
+#[derive(Clone, Copy)]
+pub struct Reference {
+    revisions: u32,
+    parents: [u32; PLACES],
+    contents: [Option<(bool, u8)>; PLACES],
+    origins: [Option<u64>; PLACES],
+}
+
+impl Reference {
+    /// No revisions.
+    pub fn new() -> Reference {
+        Reference {
+            revisions: 0,
+            parents: [0; PLACES],
+            contents: [None; PLACES],
+            origins: [None; PLACES],
+        }
+    }
+
+    /// Whether a revision is there.
+    pub fn has(&self, place: usize) -> bool {
+        self.revisions & bit(place) != 0
+    }
+
+    /// How many there are.
+    pub fn count(&self) -> usize {
+        let mut count = 0usize;
+        for place in 0..PLACES {
+            if self.has(place) {
+                count = count.saturating_add(1);
+            }
+        }
+        count
+    }
+
+    /// The content of a revision.
+    pub fn content(&self, place: usize) -> Option<(bool, u8)> {
+        self.contents[place % PLACES]
+    }
+
+    /// The origin of a revision.
+    pub fn origin(&self, place: usize) -> Option<u64> {
+        self.origins[place % PLACES]
+    }
+
+    /// The first given child, newest first, that has another parent.
+    fn contradiction(&self, revs: &[usize]) -> Option<Answer> {
+        for pair in revs.windows(2) {
+            if let [child, given] = pair {
+                let others = self.parents[*child % PLACES] & !bit(*given);
+                if others != 0 {
+                    return Some(Answer::Contradiction {
+                        child: *child,
+                        known: lowest(others),
+                        given: *given,
+                    });
+                }
+            }
+        }
+        None
+    }
+
+    /// Union with an ancestry, newest first, and a content of its head.
+    pub fn merge(&mut self, revs: &[usize], content: (bool, u8), origin: u64) -> Answer {
+        if let Some(answer) = self.contradiction(revs) {
+            return answer;
+        }
+        let before = *self;
+        for place in revs {
+            self.revisions |= bit(*place);
+            let at = *place % PLACES;
+            self.origins[at] = self.origins[at].or(Some(origin));
+        }
+        for pair in revs.windows(2) {
+            if let [child, given] = pair {
+                self.parents[*child % PLACES] |= bit(*given);
+            }
+        }
+        if let Some(head) = revs.first() {
+            let at = *head % PLACES;
+            self.contents[at] = self.contents[at].or(Some(content));
+        }
+        if self.is_as(&before) {
+            Answer::Same
+        } else {
+            Answer::Changed
+        }
+    }
+
+    /// Whether the three sets are equal.
+    fn is_as(&self, other: &Reference) -> bool {
+        self.revisions == other.revisions
+            && self.parents == other.parents
+            && self.contents == other.contents
+    }
+
+    /// Whether a revision is there and nobody's parent.
+    pub fn is_leaf(&self, place: usize) -> bool {
+        let mut parents = 0;
+        for mask in self.parents {
+            parents |= mask;
+        }
+        self.has(place) && parents & bit(place) == 0
+    }
+
+    /// The leaves: those that are not deleted first, then by falling place.
+    pub fn leaves(&self, alloc: Global) -> Result<Vec<usize>, AllocError> {
+        let mut leaves = Vec::new(alloc);
+        for deleted in [false, true] {
+            for back in 0..PLACES {
+                let place = PLACES - 1 - back;
+                if self.is_leaf(place)
+                    && self.content(place).map(|content| content.0) == Some(deleted)
+                {
+                    leaves.push(place)?;
+                }
+            }
+        }
+        Ok(leaves)
+    }
+
+    /// A revision and its known ancestors, newest first.
+    pub fn ancestry(&self, alloc: Global, place: usize) -> Result<Vec<usize>, AllocError> {
+        let mut walk = Vec::new(alloc);
+        let mut at = place;
+        for _ in 0..PLACES {
+            walk.push(at)?;
+            let parents = self.parents[at % PLACES];
+            if parents == 0 {
+                break;
+            }
+            at = lowest(parents);
+        }
+        Ok(walk)
+    }
+}

@@ -1,0 +1,310 @@
+-- The laws of fronts by recursion over their windows; specs/FrontLaws.antt states them of a whole front.
+use Rattle.std.proofs.Common.{◌≡◌, ◌⊎◌, inl, inr, ℕ, ◌<◌, ◌≤◌, Bool, true, false, cond, ◌&&◌, ◌||◌, eqb, List, [], ◌∷◌, ◌++◌, map, refl, sym, ap, ◌∙◌, arith}
+use Rattle.std.specs.List.{list_any, list_all, take_while}
+use Rattle.std.proofs.lemmas.Bool.{eqb-true, ne_eqb, eq-eqb, both_ways, and_parts, and_from, and_left, or_cases, or_left, or_right, or_from, or_parts, cond-false, cond_both, cases_lt, cond-true}
+use Rattle.std.proofs.lemmas.List.Sums.{take_while-cons}
+use Rattle.range_front.specs.Front.{FrontWindow, Span, spans_from, end_from, finished_from, IsConsecutive, Rises}
+
+-- ---- readings of the windows from a place on
+
+abbrev pub window_in : ℕ → List FrontWindow → ℕ → ℕ → Bool
+window_in from ws lo hi = list_any (λ s. eqb s.lo lo && eqb s.hi hi) (spans_from from ws)
+
+abbrev pub done_in : ℕ → List FrontWindow → ℕ → ℕ → Bool
+done_in from ws lo hi = list_any (λ s. eqb s.lo lo && (eqb s.hi hi && s.done)) (spans_from from ws)
+
+abbrev pub low_in : ℕ → List FrontWindow → ℕ
+low_in from [] = from
+low_in from (w ∷ ws) = cond w.done (low_in w.hi ws) from
+
+pub low_in-is : (from : ℕ) (ws : List FrontWindow) → end_from from (take_while (λ (w : FrontWindow). w.done) ws) ≡ low_in from ws
+low_in-is from [] = refl
+low_in-is from (w ∷ ws) =
+    ap (end_from from) (take_while-cons (λ (v : FrontWindow). v.done) w ws)
+    ∙ elim w.done as (λ b. end_from from (cond b (w ∷ take_while (λ (v : FrontWindow). v.done) ws) []) ≡ cond b (low_in w.hi ws) from) [ true ↦ low_in-is w.hi ws | false ↦ refl ]
+
+-- ---- tests of one window and of the rest
+
+window_here : (x y r : Bool) → x ≡ true → y ≡ true → ((x && y) || r) ≡ true
+window_here x y r a b = or_left (x && y) r (and_from x y a b)
+
+done_here : (x y d r : Bool) → x ≡ true → y ≡ true → d ≡ true → ((x && (y && d)) || r) ≡ true
+done_here x y d r a b c = or_left (x && (y && d)) r (and_from x (y && d) a (and_from y d b c))
+
+or_assoc : (x y z : Bool) → (x || (y || z)) ≡ ((x || y) || z)
+or_assoc true y z = refl
+or_assoc false y z = refl
+
+-- ---- where windows lie
+
+pub from-le-end : (from : ℕ) (ws : List FrontWindow) → Rises from ws → from ≤ end_from from ws
+from-le-end from [] h = omega arith
+from-le-end from (w ∷ ws) h = omega (arith, h.0, from-le-end w.hi ws h.1)
+
+pub spans-consecutive_from : (from : ℕ) (ws : List FrontWindow) → Rises from ws → IsConsecutive from (spans_from from ws)
+spans-consecutive_from from [] h = tt
+spans-consecutive_from from (w ∷ ws) h = (refl, h.0, spans-consecutive_from w.hi ws h.1)
+
+pub window-within : (from : ℕ) (ws : List FrontWindow) (lo hi : ℕ) → Rises from ws → window_in from ws lo hi ≡ true → (from ≤ lo) × (lo < hi) × (hi ≤ end_from from ws)
+window-within from [] lo hi h e = elim (both_ways false refl e) [ ]
+window-within from (w ∷ ws) lo hi h e =
+    elim (or_cases _ _ e) [
+      | inl here ↦
+          let p = and_parts _ _ here in
+          let a : from ≡ lo = eqb-true from lo p.0 in
+          let b : w.hi ≡ hi = eqb-true w.hi hi p.1 in
+          (omega arith, omega (arith, h.0), omega (arith, from-le-end w.hi ws h.1))
+      | inr later ↦
+          let p = window-within w.hi ws lo hi h.1 later in
+          (omega (arith, h.0, p.0), p.1, p.2)
+    ]
+
+pub window-bounds : (from : ℕ) (ws : List FrontWindow) (lo hi : ℕ) → window_in from ws lo hi ≡ list_any (λ (b : ℕ × ℕ). eqb b.0 lo && eqb b.1 hi) (map (λ (s : Span). (s.lo, s.hi)) (spans_from from ws))
+window-bounds from [] lo hi = refl
+window-bounds from (w ∷ ws) lo hi = ap (λ r. (eqb from lo && eqb w.hi hi) || r) (window-bounds w.hi ws lo hi)
+
+pub window-below : (from : ℕ) (ws : List FrontWindow) (lo hi : ℕ) → Rises from ws → lo < from → window_in from ws lo hi ≡ false
+window-below from [] lo hi h l = refl
+window-below from (w ∷ ws) lo hi h l =
+    let ne : eqb from lo ≡ false = ne_eqb from lo (λ e. omega arith) in
+    or_from _ _ (and_left _ _ ne) (window-below w.hi ws lo hi h.1 (omega (arith, h.0)))
+
+pub done-below : (from : ℕ) (ws : List FrontWindow) (lo hi : ℕ) → Rises from ws → lo < from → done_in from ws lo hi ≡ false
+done-below from [] lo hi h l = refl
+done-below from (w ∷ ws) lo hi h l =
+    let ne : eqb from lo ≡ false = ne_eqb from lo (λ e. omega arith) in
+    or_from _ _ (and_left _ _ ne) (done-below w.hi ws lo hi h.1 (omega (arith, h.0)))
+
+pub done-window : (from : ℕ) (ws : List FrontWindow) (lo hi : ℕ) → done_in from ws lo hi ≡ true → window_in from ws lo hi ≡ true
+done-window from [] lo hi e = e
+done-window from (w ∷ ws) lo hi e =
+    elim (or_cases (eqb from lo && (eqb w.hi hi && w.done)) _ e) [
+      | inl here ↦ let p = and_parts (eqb from lo) _ here in window_here (eqb from lo) (eqb w.hi hi) _ p.0 (and_parts (eqb w.hi hi) _ p.1).0
+      | inr later ↦ or_right (eqb from lo && eqb w.hi hi) _ (done-window w.hi ws lo hi later)
+    ]
+
+pub done-all : (from : ℕ) (ws : List FrontWindow) (lo hi : ℕ) → list_all (λ (w : FrontWindow). w.done) ws ≡ true → window_in from ws lo hi ≡ true → done_in from ws lo hi ≡ true
+done-all from [] lo hi a e = e
+done-all from (w ∷ ws) lo hi a e =
+    let p = and_parts _ _ a in
+    elim (or_cases _ _ e) [
+      | inl here ↦ let q = and_parts (eqb from lo) _ here in done_here (eqb from lo) (eqb w.hi hi) w.done _ q.0 q.1 p.0
+      | inr later ↦ or_right (eqb from lo && (eqb w.hi hi && w.done)) _ (done-all w.hi ws lo hi p.1 later)
+    ]
+
+-- ---- the low water
+
+pub from-le-low : (from : ℕ) (ws : List FrontWindow) → Rises from ws → from ≤ low_in from ws
+from-le-low from [] h = omega arith
+from-le-low from (w ∷ ws) h =
+    cond_both w.done (low_in w.hi ws) from (λ n. from ≤ n) (λ e. omega (arith, h.0, from-le-low w.hi ws h.1)) (λ e. omega arith)
+
+pub low-le-end : (from : ℕ) (ws : List FrontWindow) → Rises from ws → low_in from ws ≤ end_from from ws
+low-le-end from [] h = omega arith
+low-le-end from (w ∷ ws) h =
+    cond_both w.done (low_in w.hi ws) from (λ n. n ≤ end_from w.hi ws) (λ e. low-le-end w.hi ws h.1) (λ e. omega (arith, h.0, from-le-end w.hi ws h.1))
+
+-- the low water is where the windows begin, or the end of one that is done
+pub low-is-end : (from : ℕ) (ws : List FrontWindow) → (low_in from ws ≡ from) ⊎ ((lo : ℕ) × (done_in from ws lo (low_in from ws) ≡ true))
+low-is-end from [] = inl refl
+low-is-end from (w ∷ ws) =
+    cond_both w.done (low_in w.hi ws) from (λ n. (n ≡ from) ⊎ ((lo : ℕ) × (done_in from (w ∷ ws) lo n ≡ true)))
+    (λ e. elim (low-is-end w.hi ws) [
+      | inl first ↦ inr (from, done_here (eqb from from) (eqb w.hi (low_in w.hi ws)) w.done _ (eq-eqb from from refl) (eq-eqb _ _ (sym first)) e)
+      | inr later ↦ inr (later.0, or_right (eqb from later.0 && (eqb w.hi (low_in w.hi ws) && w.done)) _ later.1)
+    ])
+    (λ e. inl refl)
+
+-- a window that the low water has reached is done
+pub done-under_low : (from : ℕ) (ws : List FrontWindow) (lo hi : ℕ) → Rises from ws → window_in from ws lo hi ≡ true → hi ≤ low_in from ws → done_in from ws lo hi ≡ true
+done-under_low from [] lo hi h e l = e
+done-under_low from (w ∷ ws) lo hi h e l =
+    let P : Bool → Type 0 = λ b. w.done ≡ b → hi ≤ cond b (low_in w.hi ws) from → done_in from (w ∷ ws) lo hi ≡ true in
+    let reached : P true =
+    λ d m. elim (or_cases _ _ e) [
+      | inl here ↦ let p = and_parts (eqb from lo) _ here in done_here (eqb from lo) (eqb w.hi hi) w.done _ p.0 p.1 d
+      | inr later ↦ or_right (eqb from lo && (eqb w.hi hi && w.done)) _ (done-under_low w.hi ws lo hi h.1 later m)
+    ] in
+    let not_reached : P false = λ d m. let p = window-within from (w ∷ ws) lo hi h e in absurd (omega (arith, p.0, p.1, m)) in
+    elim w.done as P [ true ↦ reached | false ↦ not_reached ] refl l
+
+-- the window that begins at the low water, if there is one, isn't done
+pub done-at_low : (from : ℕ) (ws : List FrontWindow) (hi : ℕ) → Rises from ws → done_in from ws (low_in from ws) hi ≡ false
+done-at_low from [] hi h = refl
+done-at_low from (w ∷ ws) hi h =
+    cond_both w.done (low_in w.hi ws) from (λ n. done_in from (w ∷ ws) n hi ≡ false)
+    (λ e.
+    let more : w.hi ≤ low_in w.hi ws = from-le-low w.hi ws h.1 in
+    let ne : eqb from (low_in w.hi ws) ≡ false = ne_eqb _ _ (λ q. omega (arith, h.0, more, q)) in
+    or_from _ _ (and_left _ _ ne) (done-at_low w.hi ws hi h.1))
+    (λ e. or_from _ _ (open_here (eqb from from) (eqb w.hi hi) w.done e) (done-below w.hi ws from hi h.1 h.0))
+  where
+    open_here : (x y d : Bool) → d ≡ false → (x && (y && d)) ≡ false
+    open_here true true d e = e
+    open_here true false d e = refl
+    open_here false y d e = refl
+
+-- what lies above the start and at or under the low water lies in a window that is done
+pub reached-in : (from : ℕ) (ws : List FrontWindow) (q : ℕ) → Rises from ws → from < q → q ≤ low_in from ws → (lo : ℕ) × (hi : ℕ) × (lo < q) × (q ≤ hi) × (done_in from ws lo hi ≡ true)
+reached-in from [] q h a l = absurd (omega arith)
+reached-in from (w ∷ ws) q h a l =
+    let P : Bool → Type 0 = λ b. w.done ≡ b → q ≤ cond b (low_in w.hi ws) from → (lo : ℕ) × (hi : ℕ) × (lo < q) × (q ≤ hi) × (done_in from (w ∷ ws) lo hi ≡ true) in
+    let reached : P true =
+    λ d m. elim (cases_lt w.hi q) [
+      | inl above ↦
+          let r = reached-in w.hi ws q h.1 above m in
+          (r.0, r.1, r.2, r.3, or_right (eqb from r.0 && (eqb w.hi r.1 && w.done)) _ r.4)
+      | inr here ↦ (from, w.hi, a, here, done_here (eqb from from) (eqb w.hi w.hi) w.done _ (eq-eqb from from refl) (eq-eqb w.hi w.hi refl) d)
+    ] in
+    let not_reached : P false = λ d m. absurd (omega (arith, a, m)) in
+    elim w.done as P [ true ↦ reached | false ↦ not_reached ] refl l
+
+pub low-all_done : (from : ℕ) (ws : List FrontWindow) → list_all (λ (w : FrontWindow). w.done) ws ≡ true → low_in from ws ≡ end_from from ws
+low-all_done from [] e = refl
+low-all_done from (w ∷ ws) e =
+    let p = and_parts _ _ e in
+    cond-true w.done (low_in w.hi ws) from p.0 ∙ low-all_done w.hi ws p.1
+
+pub all_done-low : (from : ℕ) (ws : List FrontWindow) → Rises from ws → low_in from ws ≡ end_from from ws → list_all (λ (w : FrontWindow). w.done) ws ≡ true
+all_done-low from [] h e = refl
+all_done-low from (w ∷ ws) h e =
+    let P : Bool → Type 0 = λ b. w.done ≡ b → cond b (low_in w.hi ws) from ≡ end_from w.hi ws → list_all (λ (v : FrontWindow). v.done) (w ∷ ws) ≡ true in
+    let done : P true = λ d m. and_from w.done _ d (all_done-low w.hi ws h.1 m) in
+    let open_yet : P false = λ d m. absurd (omega (arith, h.0, from-le-end w.hi ws h.1, m)) in
+    elim w.done as P [ true ↦ done | false ↦ open_yet ] refl e
+
+-- ---- a window more
+
+pub end-append : (from : ℕ) (ws : List FrontWindow) (w : FrontWindow) → end_from from (ws ++ w ∷ []) ≡ w.hi
+end-append from [] w = refl
+end-append from (v ∷ ws) w = end-append v.hi ws w
+
+pub Rises-append : (from : ℕ) (ws : List FrontWindow) (w : FrontWindow) → Rises from ws → end_from from ws < w.hi → Rises from (ws ++ w ∷ [])
+Rises-append from [] w h l = (l, tt)
+Rises-append from (v ∷ ws) w h l = (h.0, Rises-append v.hi ws w h.1 l)
+
+pub spans-append : (from : ℕ) (ws : List FrontWindow) (w : FrontWindow) → spans_from from (ws ++ w ∷ []) ≡ spans_from from ws ++ record { lo = end_from from ws; hi = w.hi; done = w.done } ∷ []
+spans-append from [] w = refl
+spans-append from (v ∷ ws) w = ap (λ ss. record { lo = from; hi = v.hi; done = v.done } ∷ ss) (spans-append v.hi ws w)
+
+pub low-append : (from : ℕ) (ws : List FrontWindow) (hi : ℕ) → low_in from (ws ++ record { hi = hi; done = false } ∷ []) ≡ low_in from ws
+low-append from [] hi = refl
+low-append from (w ∷ ws) hi = ap (λ n. cond w.done n from) (low-append w.hi ws hi)
+
+pub done-append : (from : ℕ) (ws : List FrontWindow) (hi a b : ℕ) → done_in from (ws ++ record { hi = hi; done = false } ∷ []) a b ≡ done_in from ws a b
+done-append from [] hi a b = or_from _ _ (never (eqb from a) (eqb hi b)) refl
+  where
+    never : (x y : Bool) → (x && (y && false)) ≡ false
+    never true true = refl
+    never true false = refl
+    never false y = refl
+done-append from (w ∷ ws) hi a b = ap (λ r. (eqb from a && (eqb w.hi b && w.done)) || r) (done-append w.hi ws hi a b)
+
+pub window-append : (from : ℕ) (ws : List FrontWindow) (hi a b : ℕ) → window_in from (ws ++ record { hi = hi; done = false } ∷ []) a b ≡ (window_in from ws a b || (eqb (end_from from ws) a && eqb hi b))
+window-append from [] hi a b = alone (eqb from a && eqb hi b)
+  where
+    alone : (x : Bool) → (x || false) ≡ x
+    alone true = refl
+    alone false = refl
+window-append from (w ∷ ws) hi a b =
+    ap (λ r. (eqb from a && eqb w.hi b) || r) (window-append w.hi ws hi a b) ∙ or_assoc (eqb from a && eqb w.hi b) (window_in w.hi ws a b) (eqb (end_from w.hi ws) a && eqb hi b)
+
+-- ---- a window done
+
+-- the mark alone changes
+pub end-finished : (from : ℕ) (ws : List FrontWindow) (lo hi : ℕ) → end_from from (finished_from from ws lo hi) ≡ end_from from ws
+end-finished from [] lo hi = refl
+end-finished from (w ∷ ws) lo hi =
+    cond_both (eqb from lo && eqb w.hi hi) (record w { done = true }) w (λ v. end_from v.hi (finished_from w.hi ws lo hi) ≡ end_from w.hi ws) (λ e. end-finished w.hi ws lo hi) (λ e. end-finished w.hi ws lo hi)
+
+pub Rises-finished : (from : ℕ) (ws : List FrontWindow) (lo hi : ℕ) → Rises from ws → Rises from (finished_from from ws lo hi)
+Rises-finished from [] lo hi h = tt
+Rises-finished from (w ∷ ws) lo hi h =
+    cond_both (eqb from lo && eqb w.hi hi) (record w { done = true }) w (λ v. Rises from (v ∷ finished_from w.hi ws lo hi)) (λ e. (h.0, Rises-finished w.hi ws lo hi h.1)) (λ e. (h.0, Rises-finished w.hi ws lo hi h.1))
+
+abbrev pub bounds_from : ℕ → List FrontWindow → List (ℕ × ℕ)
+bounds_from from ws = map (λ (s : Span). (s.lo, s.hi)) (spans_from from ws)
+
+pub bounds-finished_from : (from : ℕ) (ws : List FrontWindow) (lo hi : ℕ) → bounds_from from (finished_from from ws lo hi) ≡ bounds_from from ws
+bounds-finished_from from [] lo hi = refl
+bounds-finished_from from (w ∷ ws) lo hi =
+    cond_both (eqb from lo && eqb w.hi hi) (record w { done = true }) w (λ v. bounds_from from (v ∷ finished_from w.hi ws lo hi) ≡ (from, w.hi) ∷ bounds_from w.hi ws)
+    (λ e. ap (λ bs. (from, w.hi) ∷ bs) (bounds-finished_from w.hi ws lo hi))
+    (λ e. ap (λ bs. (from, w.hi) ∷ bs) (bounds-finished_from w.hi ws lo hi))
+
+pub window-finished_from : (from : ℕ) (ws : List FrontWindow) (lo hi a b : ℕ) → window_in from (finished_from from ws lo hi) a b ≡ window_in from ws a b
+window-finished_from from [] lo hi a b = refl
+window-finished_from from (w ∷ ws) lo hi a b =
+    cond_both (eqb from lo && eqb w.hi hi) (record w { done = true }) w (λ v. window_in from (v ∷ finished_from w.hi ws lo hi) a b ≡ ((eqb from a && eqb w.hi b) || window_in w.hi ws a b))
+    (λ e. ap (λ r. (eqb from a && eqb w.hi b) || r) (window-finished_from w.hi ws lo hi a b))
+    (λ e. ap (λ r. (eqb from a && eqb w.hi b) || r) (window-finished_from w.hi ws lo hi a b))
+
+-- where no window has the bounds, or the one that has them is done, nothing changes
+pub finished-no_window : (from : ℕ) (ws : List FrontWindow) (lo hi : ℕ) → window_in from ws lo hi ≡ false → finished_from from ws lo hi ≡ ws
+finished-no_window from [] lo hi e = refl
+finished-no_window from (w ∷ ws) lo hi e =
+    let p = or_parts (eqb from lo && eqb w.hi hi) (window_in w.hi ws lo hi) e in
+    ap (λ v. v ∷ finished_from w.hi ws lo hi) (cond-false (eqb from lo && eqb w.hi hi) (record w { done = true }) w p.0)
+    ∙ ap (λ vs. w ∷ vs) (finished-no_window w.hi ws lo hi p.1)
+
+pub finished-done : (from : ℕ) (ws : List FrontWindow) (lo hi : ℕ) → Rises from ws → done_in from ws lo hi ≡ true → finished_from from ws lo hi ≡ ws
+finished-done from [] lo hi h e = refl
+finished-done from (w ∷ ws) lo hi h e =
+    elim (or_cases (eqb from lo && (eqb w.hi hi && w.done)) (done_in w.hi ws lo hi) e) [
+      | inl here ↦
+          let p = and_parts (eqb from lo) _ here in
+          let q = and_parts (eqb w.hi hi) _ p.1 in
+          let first : from ≡ lo = eqb-true from lo p.0 in
+          let rest = window-below w.hi ws lo hi h.1 (omega (arith, h.0, first)) in
+          ap (λ v. v ∷ finished_from w.hi ws lo hi) (cond-true (eqb from lo && eqb w.hi hi) (record w { done = true }) w (and_from (eqb from lo) (eqb w.hi hi) p.0 q.0))
+          ∙ ap (λ b. record w { done = b } ∷ finished_from w.hi ws lo hi) (sym q.1) ∙ ap (λ vs. w ∷ vs) (finished-no_window w.hi ws lo hi rest)
+      | inr later ↦
+          let within = window-within w.hi ws lo hi h.1 (done-window w.hi ws lo hi later) in
+          let other = and_left (eqb from lo) (eqb w.hi hi) (ne_eqb from lo (λ e. omega (arith, h.0, within.0, e))) in
+          ap (λ v. v ∷ finished_from w.hi ws lo hi) (cond-false (eqb from lo && eqb w.hi hi) (record w { done = true }) w other)
+          ∙ ap (λ vs. w ∷ vs) (finished-done w.hi ws lo hi h.1 later)
+    ]
+
+-- a window is done after it exactly where it was done before, or is the one that is finished
+pub done-finished_from : (from : ℕ) (ws : List FrontWindow) (lo hi a b : ℕ) → done_in from (finished_from from ws lo hi) a b ≡ (done_in from ws a b || (window_in from ws lo hi && (eqb lo a && eqb hi b)))
+done-finished_from from [] lo hi a b = refl
+done-finished_from from (w ∷ ws) lo hi a b =
+    cond_both (eqb from lo && eqb w.hi hi) (record w { done = true }) w
+    (λ v. ((eqb from a && (eqb v.hi b && v.done)) || done_in v.hi (finished_from w.hi ws lo hi) a b) ≡ (((eqb from a && (eqb w.hi b && w.done)) || done_in w.hi ws a b) || (window_in from (w ∷ ws) lo hi && (eqb lo a && eqb hi b))))
+    (λ e.
+    let p = and_parts _ _ e in
+    let s : eqb from a ≡ eqb lo a = ap (λ n. eqb n a) (eqb-true from lo p.0) in
+    let t : eqb w.hi b ≡ eqb hi b = ap (λ n. eqb n b) (eqb-true w.hi hi p.1) in
+    ap (λ r. (eqb from a && (eqb w.hi b && true)) || r) (done-finished_from w.hi ws lo hi a b)
+    ∙ now (eqb from a) (eqb w.hi b) w.done (done_in w.hi ws a b) (window_in w.hi ws lo hi) (eqb from lo && eqb w.hi hi) (eqb lo a) (eqb hi b) e s t)
+    (λ e.
+    ap (λ r. (eqb from a && (eqb w.hi b && w.done)) || r) (done-finished_from w.hi ws lo hi a b)
+    ∙ or_assoc (eqb from a && (eqb w.hi b && w.done)) (done_in w.hi ws a b) (window_in w.hi ws lo hi && (eqb lo a && eqb hi b))
+    ∙ ap (λ m. ((eqb from a && (eqb w.hi b && w.done)) || done_in w.hi ws a b) || ((m || window_in w.hi ws lo hi) && (eqb lo a && eqb hi b))) (sym e))
+  where
+    same : (x y d r i : Bool) → ((x && (y && true)) || (r || (i && (x && y)))) ≡ (((x && (y && d)) || r) || (x && y))
+    same true true d r i = sym (last_true ((true && (true && d)) || r))
+      where
+        last_true : (z : Bool) → (z || true) ≡ true
+        last_true true = refl
+        last_true false = refl
+    same true false d true i = refl
+    same true false d false true = refl
+    same true false d false false = refl
+    same false y d true i = refl
+    same false y d false true = refl
+    same false y d false false = refl
+
+    now : (x y d r i m x' y' : Bool) → m ≡ true → x ≡ x' → y ≡ y' → ((x && (y && true)) || (r || (i && (x' && y')))) ≡ (((x && (y && d)) || r) || ((m || i) && (x' && y')))
+    now x y d r i m x' y' e s t =
+        rw (e, ← s, ← t) (same x y d r i)
+
+-- no mark lowers the low water
+pub low-finished : (from : ℕ) (ws : List FrontWindow) (lo hi : ℕ) → Rises from ws → low_in from ws ≤ low_in from (finished_from from ws lo hi)
+low-finished from [] lo hi h = omega arith
+low-finished from (w ∷ ws) lo hi h =
+    let ih : low_in w.hi ws ≤ low_in w.hi (finished_from w.hi ws lo hi) = low-finished w.hi ws lo hi h.1 in
+    let more : w.hi ≤ low_in w.hi ws = from-le-low w.hi ws h.1 in
+    cond_both (eqb from lo && eqb w.hi hi) (record w { done = true }) w (λ v. cond w.done (low_in w.hi ws) from ≤ low_in from (v ∷ finished_from w.hi ws lo hi))
+    (λ e. cond_both w.done (low_in w.hi ws) from (λ n. n ≤ low_in w.hi (finished_from w.hi ws lo hi)) (λ d. ih) (λ d. omega (arith, h.0, more, ih)))
+    (λ e. elim w.done as (λ b. cond b (low_in w.hi ws) from ≤ cond b (low_in w.hi (finished_from w.hi ws lo hi)) from) [ true ↦ ih | false ↦ omega arith ])

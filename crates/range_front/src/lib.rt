@@ -1,0 +1,12 @@
+//! Windows of a feed that are done in any order, and how far all of them are done.
+//!
+//! The rules stand in docs/PROFILE.md: "Goal and windows" and "Windows and low water".
+#![tactic(auto)]
+
+mod fault;
+mod front;
+#[cfg(test)]
+mod tests;
+
+pub use fault::FrontFault;
+pub use front::Front;

@@ -1,0 +1,10 @@
+pub mod Adding
+pub mod Finding
+pub mod Ties
+pub mod Scan
+pub mod Parents
+pub mod Merging
+pub mod Edges
+pub mod Keys
+pub mod Members
+pub mod Starts

@@ -1,0 +1,22 @@
+-- The lists of the tree of no revisions.
+use Rattle.std.proofs.Common.{[], sym, ap, ◌∙◌, is_some}
+use Rattle.std.proofs.lemmas.Bool.{and_parts, false≢true}
+use Rattle.std.specs.FinMap.{get-empty}
+use Rattle.rev_core.specs.Rev.{rev_cmp}
+use Rattle.rev_tree.specs.Tree.{has, no_revisions}
+use Rattle.rev_tree.specs.Kept.{IsKept}
+
+pub IsKept-none : IsKept [] [] []
+IsKept-none = record {
+  agree = tt;
+  contents_once = tt;
+  origins_once = tt;
+  tree = record {
+    revs = λ r h. absurd (false≢true (sym (ap is_some (get-empty rev_cmp r)) ∙ h));
+    child = λ c p h. absurd (false≢true (sym (ap is_some (get-empty rev_cmp c)) ∙ ap is_some h));
+    parent = λ c p h. absurd (false≢true (sym (ap is_some (get-empty rev_cmp c)) ∙ ap is_some h));
+    falls = λ c p h. absurd (false≢true (sym (ap is_some (get-empty rev_cmp c)) ∙ ap is_some h));
+    content = λ r h. absurd (false≢true (sym (ap is_some (get-empty rev_cmp r)) ∙ h));
+    leaf = λ r h. absurd (false≢true (sym (ap is_some (get-empty rev_cmp r)) ∙ (and_parts (has no_revisions r) _ h).0));
+  };
+}

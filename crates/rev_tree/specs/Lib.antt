@@ -1,0 +1,9 @@
+pub mod Content
+pub mod InOrder
+pub mod Tree
+pub mod TreeLaws
+pub mod LeafLaws
+pub mod MergeLaws
+pub mod Entries
+pub mod Room
+pub mod Kept

@@ -1,0 +1,18 @@
+//! Revision trees of CouchDB documents, and merging into them.
+//!
+//! The rules stand in docs/PROFILE.md: "Revision trees", "Merging" and "Leaves and the winner".
+#![tactic(auto)]
+
+mod content;
+mod entries;
+mod fault;
+mod origin;
+mod tree;
+
+pub use content::Content;
+pub use fault::{Contradiction, Merged, TreeFault};
+pub use origin::{Origin, SessionId};
+pub use tree::Tree;
+
+#[cfg(test)]
+mod tests;
