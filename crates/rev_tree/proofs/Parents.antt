@@ -7,7 +7,8 @@ use Rattle.rev_core.specs.Ancestry.{has_parent}
 use Rattle.rev_tree.specs.Content.{ContentValue}
 use Rattle.rev_tree.specs.Tree.{is_parent}
 use Rattle.rev_tree.specs.TreeLaws.{child_of_parent, parent_from_child}
-use Rattle.rev_tree.specs.MergeLaws.{found_has, has_found, same_tests}
+use Rattle.rev_tree.specs.MergeLaws.{found_has, has_found}
+use Rattle.rev_tree.specs.LeafLaws.{same_tests}
 use Rattle.rev_tree.specs.Kept.{EdgesAgree, tree_of, all_edges}
 use Rattle.rev_tree.specs.declared.origin.Origin.{Origin}
 

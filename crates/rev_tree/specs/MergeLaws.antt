@@ -12,14 +12,9 @@ use Rattle.rev_core.specs.Ancestry.{edges_of, has_parent, is_among, IsAncestry, 
 use Rattle.rev_tree.specs.Content.{ContentValue}
 use Rattle.rev_tree.specs.Tree.{TreeValue, IsTree, has, is_parent, is_leaf, is_same, leaves, leaves_above, ancestors, merged, first_contradiction, contradiction_at}
 use Rattle.rev_tree.specs.TreeLaws.{or_cases, and_both, is_some-or, child_of_parent, parent_from_child, get-joined, get-joined_known, has-merged, edge_cases, given_edge, edge_found, apart, lower_later}
-use Rattle.rev_tree.specs.LeafLaws.{leaf_above, is_among-leaves, any_filter}
+use Rattle.rev_tree.specs.LeafLaws.{same_tests, leaf_above, is_among-leaves, any_filter}
 use Rattle.rev_tree.specs.Kept.{EdgesAgree}
 use Rattle.rev_tree.specs.declared.origin.Origin.{Origin}
-
-pub same_tests : (x y : Bool) → (x ≡ true → y ≡ true) → (y ≡ true → x ≡ true) → x ≡ y
-same_tests true y f g = sym (f refl)
-same_tests false true f g = g refl
-same_tests false false f g = refl
 
 -- ---- parents and leaves
 

@@ -291,6 +291,24 @@ impl Tree {
         }
     }
 
+    /// The same tree. The only error is `Memory`.
+    pub fn copy(&self, alloc: Global) -> Result<Tree, TreeFault>
+        ensures copied { IfOk result (λ t. t ≡ self.now) }
+        ensures err { IfErr result (λ e. e ≡ TreeFault.Memory) }
+        ensures tree { IsTree self.now }
+    {
+        let ancestries = copy_ancestries(alloc, &self.ancestries)?;
+        let contents = copy_contents(alloc, &self.contents)?;
+        let Ok(origins) = Vec::from_slice(alloc, &self.origins) else {
+            return Err(TreeFault::Memory);
+        };
+        Ok(Tree {
+            ancestries,
+            contents,
+            origins,
+        })
+    }
+
     /// Merges an ancestry, the content of its head and the origin of what is new.
     pub fn merge(
         &mut self,
@@ -389,6 +407,41 @@ impl Tree {
         }
         true
     }
+}
+
+/// The same ancestries. The only error is `Memory`.
+fn copy_ancestries(alloc: Global, ancestries: &[Ancestry]) -> Result<Vec<Ancestry>, TreeFault>
+    ensures copied { IfOk result (λ v. v.items ≡ ancestries.now) }
+    ensures err { IfErr result (λ e. e ≡ TreeFault.Memory) }
+{
+    let mut copies = Vec::new(alloc);
+    for ancestry in ancestries {
+        let Ok(copy) = ancestry.copy(alloc) else {
+            return Err(TreeFault::Memory);
+        };
+        let Ok(()) = copies.push(copy) else {
+            return Err(TreeFault::Memory);
+        };
+    }
+    Ok(copies)
+}
+
+/// The same contents. The only error is `Memory`.
+fn copy_contents(
+    alloc: Global,
+    contents: &[(Rev, Content)],
+) -> Result<Vec<(Rev, Content)>, TreeFault>
+    ensures copied { IfOk result (λ v. v.items ≡ contents.now) }
+    ensures err { IfErr result (λ e. e ≡ TreeFault.Memory) }
+{
+    let mut copies = Vec::new(alloc);
+    for entry in contents {
+        let copy = entry.1.copy(alloc)?;
+        let Ok(()) = copies.push((entry.0, copy)) else {
+            return Err(TreeFault::Memory);
+        };
+    }
+    Ok(copies)
 }
 
 /// Makes room for one ancestry more, for its head's content and for the origins of its revisions.
