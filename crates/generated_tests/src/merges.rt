@@ -32,7 +32,7 @@ fn rev(rt: &impl Abort, place: usize) -> Rev {
 }
 
 /// Whether the revisions are those at the places.
-fn are(rt: &impl Abort, revs: &[Rev], places: &[usize]) -> bool {
+pub(crate) fn are(rt: &impl Abort, revs: &[Rev], places: &[usize]) -> bool {
     revs.len() == places.len()
         && revs
             .iter()
@@ -41,7 +41,7 @@ fn are(rt: &impl Abort, revs: &[Rev], places: &[usize]) -> bool {
 }
 
 /// A number below a bound, or 0.
-fn below(rng: &mut ChaCha8Rng, bound: u32) -> usize
+pub(crate) fn below(rng: &mut ChaCha8Rng, bound: u32) -> usize
     ensures { result ≤ bound }
 {
     if bound == 0 {
@@ -52,7 +52,7 @@ fn below(rng: &mut ChaCha8Rng, bound: u32) -> usize
 }
 
 /// The places of an ancestry by chance, newest first.
-fn places(rng: &mut ChaCha8Rng, alloc: Global) -> Result<Vec<usize>, Fail> {
+pub(crate) fn places(rng: &mut ChaCha8Rng, alloc: Global) -> Result<Vec<usize>, Fail> {
     let start = below(rng, 6);
     let length = below(rng, 6);
     let mut places = Vec::new(alloc);
@@ -65,7 +65,7 @@ fn places(rng: &mut ChaCha8Rng, alloc: Global) -> Result<Vec<usize>, Fail> {
 }
 
 /// The ancestry at the places.
-fn ancestry(rt: &impl Abort, alloc: Global, places: &[usize]) -> Result<Ancestry, Fail> {
+pub(crate) fn ancestry(rt: &impl Abort, alloc: Global, places: &[usize]) -> Result<Ancestry, Fail> {
     let mut sigs = Vec::new(alloc);
     for place in places {
         sigs.push(sig(rt, *place))?;

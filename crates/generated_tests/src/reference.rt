@@ -6,7 +6,7 @@
 use std::alloc::{AllocError, Global};
 
 /// How many revisions there can be.
-pub const PLACES: usize = 18;
+pub(crate) const PLACES: usize = 18;
 
 /// The bit of a place.
 fn bit(place: usize) -> u32 {
@@ -25,7 +25,7 @@ fn lowest(mask: u32) -> usize {
 
 /// What a merge answers.
 #[derive(Clone, Copy, Debug, PartialEq, Eq)]
-pub enum Answer {
+pub(crate) enum Answer {
     Changed,
     Same,
     Contradiction {
@@ -37,7 +37,7 @@ pub enum Answer {
 
 /// Three sets and the origins.
 #[derive(Clone, Copy)]
-pub struct Reference {
+pub(crate) struct Reference {
     revisions: u32,
     parents: [u32; PLACES],
     contents: [Option<(bool, u8)>; PLACES],
@@ -46,7 +46,7 @@ pub struct Reference {
 
 impl Reference {
     /// No revisions.
-    pub fn new() -> Reference {
+    pub(crate) fn new() -> Reference {
         Reference {
             revisions: 0,
             parents: [0; PLACES],
@@ -56,12 +56,12 @@ impl Reference {
     }
 
     /// Whether a revision is there.
-    pub fn has(&self, place: usize) -> bool {
+    pub(crate) fn has(&self, place: usize) -> bool {
         self.revisions & bit(place) != 0
     }
 
     /// How many there are.
-    pub fn count(&self) -> usize {
+    pub(crate) fn count(&self) -> usize {
         let mut count = 0usize;
         for place in 0..PLACES {
             if self.has(place) {
@@ -72,12 +72,12 @@ impl Reference {
     }
 
     /// The content of a revision.
-    pub fn content(&self, place: usize) -> Option<(bool, u8)> {
+    pub(crate) fn content(&self, place: usize) -> Option<(bool, u8)> {
         self.contents[place % PLACES]
     }
 
     /// The origin of a revision.
-    pub fn origin(&self, place: usize) -> Option<u64> {
+    pub(crate) fn origin(&self, place: usize) -> Option<u64> {
         self.origins[place % PLACES]
     }
 
@@ -99,7 +99,7 @@ impl Reference {
     }
 
     /// Union with an ancestry, newest first, and a content of its head.
-    pub fn merge(&mut self, revs: &[usize], content: (bool, u8), origin: u64) -> Answer {
+    pub(crate) fn merge(&mut self, revs: &[usize], content: (bool, u8), origin: u64) -> Answer {
         if let Some(answer) = self.contradiction(revs) {
             return answer;
         }
@@ -133,7 +133,7 @@ impl Reference {
     }
 
     /// Whether a revision is there and nobody's parent.
-    pub fn is_leaf(&self, place: usize) -> bool {
+    pub(crate) fn is_leaf(&self, place: usize) -> bool {
         let mut parents = 0;
         for mask in self.parents {
             parents |= mask;
@@ -142,7 +142,7 @@ impl Reference {
     }
 
     /// The leaves: those that are not deleted first, then by falling place.
-    pub fn leaves(&self, alloc: Global) -> Result<Vec<usize>, AllocError> {
+    pub(crate) fn leaves(&self, alloc: Global) -> Result<Vec<usize>, AllocError> {
         let mut leaves = Vec::new(alloc);
         for deleted in [false, true] {
             for back in 0..PLACES {
@@ -158,7 +158,7 @@ impl Reference {
     }
 
     /// A revision and its known ancestors, newest first.
-    pub fn ancestry(&self, alloc: Global, place: usize) -> Result<Vec<usize>, AllocError> {
+    pub(crate) fn ancestry(&self, alloc: Global, place: usize) -> Result<Vec<usize>, AllocError> {
         let mut walk = Vec::new(alloc);
         let mut at = place;
         for _ in 0..PLACES {

@@ -19,7 +19,7 @@ fn reserved(front: &mut Front) -> Result<(), FrontFault> {
     }
 }
 
-pub fn run(rt: &impl Print, alloc: Global) -> Result<()> {
+pub(crate) fn run(rt: &impl Print, alloc: Global) -> Result<()> {
     let mut front = Front::new(alloc, 0);
     for hi in [2u64, 4, 6, 8, 10] {
         appended(&mut front, hi)?;

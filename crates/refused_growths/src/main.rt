@@ -1,8 +1,10 @@
 //! Calls each function that may want memory, and calls it once more where a growth was refused: then every run prints the
-//! same, whichever allocation fails. `rt try --fail-alloc 1..` in this folder refuses each of them in turn.
+//! same, whichever allocation fails. `.ci/refused-growths` refuses each of them in turn.
 #![tactic(auto)]
 
+mod documents;
 mod fronts;
+mod logs;
 mod revisions;
 mod trees;
 
@@ -12,5 +14,7 @@ fn main(rt: HostRuntime) -> Result<()> {
     revisions::run(&rt, rt.alloc())?;
     trees::run(&rt, rt.alloc())?;
     fronts::run(&rt, rt.alloc())?;
+    logs::run(&rt, rt.alloc())?;
+    documents::run(&rt, rt.alloc())?;
     Ok(())
 }

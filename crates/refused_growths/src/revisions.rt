@@ -9,7 +9,7 @@ fn sigs() -> Result<[Sig; 3], RevFault> {
 }
 
 /// 3-c, 2-b, 1-a.
-pub fn three(alloc: Global) -> Result<Ancestry, RevFault> {
+pub(crate) fn three(alloc: Global) -> Result<Ancestry, RevFault> {
     let sigs = sigs()?;
     match Ancestry::from_parts(alloc, 3, &sigs) {
         Err(RevFault::Memory) => Ancestry::from_parts(alloc, 3, &sigs),
@@ -31,7 +31,7 @@ fn written(alloc: Global, rev: Rev) -> Result<Vec<u8>, RevFault> {
     }
 }
 
-pub fn run(rt: &impl Print, alloc: Global) -> Result<()> {
+pub(crate) fn run(rt: &impl Print, alloc: Global) -> Result<()> {
     let ancestry = three(alloc)?;
     let copy = copied(alloc, &ancestry)?;
     if copy.revs() != ancestry.revs() {

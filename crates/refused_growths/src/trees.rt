@@ -98,7 +98,7 @@ fn copied(alloc: Global, tree: &Tree) -> Result<Tree, TreeFault> {
     }
 }
 
-pub fn run(rt: &impl Print, alloc: Global) -> Result<()> {
+pub(crate) fn run(rt: &impl Print, alloc: Global) -> Result<()> {
     let tree = copied(alloc, &grown(alloc)?)?;
     let leaves = leaves(alloc, &tree)?;
     for leaf in &leaves {

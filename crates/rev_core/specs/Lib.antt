@@ -7,3 +7,4 @@ pub mod TextLaws
 pub mod Ancestry
 pub mod AncestryLaws
 pub mod Answers
+pub mod NewRev

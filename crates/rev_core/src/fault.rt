@@ -17,6 +17,9 @@ pub enum RevFault {
     /// Generations would fall below 1: there are more signatures than the newest generation says.
     #[error("more revisions than generations")]
     StartTooSmall,
+    /// The parent has the greatest generation.
+    #[error("no generation after 4294967295")]
+    GenerationFull,
     /// An allocation was refused.
     #[error("out of memory")]
     Memory,

@@ -1,15 +1,17 @@
 //! Revision ids of CouchDB documents, and ancestries: lists of revisions, newest first.
 //!
-//! The rules stand in docs/PROFILE.md: "Revision ids", "Revision id text" and "Ancestries".
+//! The rules stand in docs/PROFILE.md: "Revision ids", "Revision id text", "Ancestries" and "Ids of local edits".
 #![tactic(auto)]
 
 mod ancestry;
 mod fault;
+mod local_edit;
 mod rev;
 mod sig;
 
 pub use ancestry::Ancestry;
 pub use fault::RevFault;
+pub use local_edit::new_rev;
 pub use rev::Rev;
 pub use sig::Sig;
 

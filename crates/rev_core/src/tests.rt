@@ -1,6 +1,7 @@
 //! What no clause says: the worked row of texts, and that each call succeeds where memory suffices.
 use super::*;
-use std::alloc::Global;
+use md5::{Digest, Md5};
+use std::alloc::{AllocError, Global};
 use std::process::Abort;
 use std::test::Fail;
 
@@ -122,4 +123,74 @@ fn refuses_parts_that_make_no_ancestry(rt: HostRuntime) {
         Ancestry::from_parts(rt.alloc(), 0, &two).err(),
         Some(RevFault::StartTooSmall)
     );
+}
+
+/// The hexadecimal digits of a digest.
+fn digest_text(alloc: Global, text: &[u8]) -> Result<String, AllocError> {
+    hex::encode(alloc, Md5::digest(text).as_slice())
+}
+
+#[test]
+fn digests_of_the_standard(rt: HostRuntime) -> Result<(), Fail> {
+    for (text, digest) in [
+        (b"".as_slice(), "d41d8cd98f00b204e9800998ecf8427e"),
+        (b"a".as_slice(), "0cc175b9c0f1b6a831c399e269772661"),
+        (b"abc".as_slice(), "900150983cd24fb0d6963f7d28e17f72"),
+        (
+            b"message digest".as_slice(),
+            "f96b697d7cb7938d525a2f31aaf161d0",
+        ),
+    ] {
+        assert!(rt; digest_text(rt.alloc(), text)?.as_str() == digest);
+    }
+    Ok(())
+}
+
+#[test]
+fn ids_of_local_edits(rt: HostRuntime) -> Result<(), Fail> {
+    let parent = rev(&rt, b"1-a");
+    let live = b"{\"n\":1}".as_slice();
+    let empty = b"{}".as_slice();
+    let stated = hex::decode(rt.alloc(), "312d610a6c6976650a7b226e223a317d")?;
+    assert_eq!(rt; stated.as_slice(), b"1-a\nlive\n{\"n\":1}".as_slice());
+    for (parent, deleted, body, generation, sig) in [
+        (
+            Some(parent),
+            false,
+            live,
+            2,
+            "c96964c5f2e1e7ba6a7331423f490bd6",
+        ),
+        (
+            Some(parent),
+            true,
+            empty,
+            2,
+            "c529cc259c1f74b71d33b9bc42900d24",
+        ),
+        (None, false, empty, 1, "a7b2c897c2eeb544e2e818194f53a9e3"),
+    ] {
+        let made = new_rev(rt.alloc(), parent, deleted, body)?;
+        assert_eq!(rt; made.generation(), generation);
+        assert_eq!(rt; made.sig().bytes(), sig.as_bytes());
+    }
+    let digest = digest_text(rt.alloc(), stated.as_slice())?;
+    let made = new_rev(rt.alloc(), Some(parent), false, live)?;
+    assert_eq!(rt; made.sig().bytes(), digest.as_bytes());
+    Ok(())
+}
+
+#[test]
+fn no_generation_after_the_greatest(rt: HostRuntime) -> Result<(), Fail> {
+    let last = rev(&rt, b"4294967295-z");
+    let before = rev(&rt, b"4294967294-z");
+    assert_eq!(rt;
+        new_rev(rt.alloc(), Some(last), false, b"{}").err(),
+        Some(RevFault::GenerationFull)
+    );
+    assert_eq!(rt;
+        new_rev(rt.alloc(), Some(before), false, b"{}")?.generation(),
+        4_294_967_295
+    );
+    Ok(())
 }

@@ -1,0 +1,94 @@
+-- What an edit leaves.
+use Rattle.std.proofs.Common.{◌≡◌, ℕ, ◌+◌, ◌<◌, Bool, true, false, ◌&&◌, List, [], ◌∷◌, Option, Some, None, is_some, Ok, Err, cond, sym, ap, subst, ◌∙◌, refl}
+use Rattle.std.specs.Prelude.{Result, unwrap_or}
+use Rattle.std.specs.List.{list_all, AllByRecursion}
+use Rattle.std.specs.Option.{option_or, option_to_list}
+use Rattle.std.specs.Str.{bytes_eq}
+use Rattle.std.specs.FinMap.{get, get-empty}
+use Rattle.std.proofs.lemmas.Bool.{false≢true}
+use Rattle.rev_core.specs.Rev.{RevId, rev_cmp}
+use Rattle.rev_core.specs.Ancestry.{edges_of, head_of}
+use Rattle.rev_tree.specs.Tree.{TreeValue, IsTree, has, has_edge, no_revisions, first_contradiction, contradiction_at, is_same, at_head, merged}
+use Rattle.rev_tree.specs.declared.origin.Origin.{Origin}
+use Rattle.couch_base.specs.Answers.{◌>>=◌, refused_if}
+use Rattle.couch_base.specs.Database.{Id, DocumentValue, DatabaseValue, LawfulDatabase, IsDocumentTree, tree_in, tree_of, with_tree, most}
+use Rattle.couch_base.specs.Put.{content_of}
+use Rattle.couch_base.specs.Edit.{parent_answer, edit_id, edit_revs, edited, edit_document, after_edited, after_edit}
+use Rattle.couch_base.specs.declared.fault.BaseFault.{BaseFault}
+use Rattle.couch_base.specs.declared.fault.BaseFault.TheVariants as faults
+use Rattle.couch_base.proofs.Found.{some_is, none_some}
+use Rattle.couch_base.proofs.Putting.{answer-changed, after_put-changed}
+
+-- ---- the trees of a lawful database
+
+document_tree : (ds : List DocumentValue) → AllByRecursion (λ (d : DocumentValue). IsDocumentTree d.tree) ds → (id : Id) (t : TreeValue) → tree_in ds id ≡ Some t → IsDocumentTree t
+document_tree [] all id t is = absurd (none_some t is)
+document_tree (d ∷ ds) all id t is =
+    elim (bytes_eq d.id id) as (λ b. cond b (Some d.tree) (tree_in ds id) ≡ Some t → IsDocumentTree t) [
+      | true ↦ λ h. subst IsDocumentTree (some_is d.tree t h) all.0
+      | false ↦ λ h. document_tree ds all.1 id t h
+    ] is
+
+-- a revision that isn't there has no parent
+no_parent_in : (t : TreeValue) → IsTree t → (r : RevId) → has t r ≡ false → get t.parents r ≡ None
+no_parent_in t tree r absent =
+    elim (get t.parents r) as (λ o. get t.parents r ≡ o → o ≡ None) [
+      | None ↦ λ _. refl
+      | Some p ↦ λ is. absurd (false≢true (sym absent ∙ tree.child r p is))
+    ] refl
+
+no_parent : (db : DatabaseValue) → LawfulDatabase db → (id : Id) (r : RevId) → has (tree_of db.docs id) r ≡ false → get (tree_of db.docs id).parents r ≡ None
+no_parent db law id r absent = go (tree_in db.docs id) refl
+  where
+    go : (o : Option TreeValue) → tree_in db.docs id ≡ o → get (tree_of db.docs id).parents r ≡ None
+    go None is = ap (λ o. get (unwrap_or o no_revisions).parents r) is ∙ get-empty rev_cmp r
+    go (Some t) is =
+        ap (λ o. get (unwrap_or o no_revisions).parents r) is
+        ∙ no_parent_in t (document_tree db.docs law.trees id t is).tree r (sym (ap (λ o. has (unwrap_or o no_revisions) r) is) ∙ absent)
+
+-- ---- a new revision on another
+
+new_contradicts_none : (t : TreeValue) (r : RevId) (before : Option RevId) → get t.parents r ≡ None → first_contradiction t.parents (edges_of (r ∷ option_to_list before)) ≡ None
+new_contradicts_none t r None alone = refl
+new_contradicts_none t r (Some p) alone = ap (λ o. option_or (contradiction_at r p o) None) alone
+
+new_is_not_same : (t : TreeValue) (r : RevId) (rest : List RevId) → has t r ≡ false → is_same t (r ∷ rest) ≡ false
+new_is_not_same t r rest absent =
+    ap (λ b. (b && list_all (has t) rest) && list_all (has_edge t) (edges_of (r ∷ rest)) && list_all (λ (e : RevId × Unit {0}). is_some (get t.contents e.0)) (at_head (r ∷ rest) tt)) absent
+
+-- what the steps of an edit found out
+pub record IsEdited (db : DatabaseValue) (id : Id) (parent : Option RevId) (deleted : Bool) (body : List ℕ) (before : Option RevId) (revs : List RevId) (rev : RevId) : Type 0 where
+  pub told : edited db id parent deleted body ≡ Ok (rev, before)
+  pub whole : revs ≡ rev ∷ option_to_list before
+
+from_id : (db : DatabaseValue) (id : Id) (parent : Option RevId) (deleted : Bool) (body : List ℕ) (before : Option RevId) (revs : List RevId) (rev : RevId) (r : Result RevId BaseFault)
+    → edit_id before deleted body ≡ r → Ok before ≡ parent_answer (tree_in db.docs id) parent → Ok revs ≡ (r >>= λ x. Ok (x ∷ option_to_list before)) → head_of revs ≡ Some rev → has (tree_of db.docs id) rev ≡ false → IsEdited db id parent deleted body before revs rev
+from_id db id parent deleted body before revs rev (Err e) is on told head absent = cc
+from_id db id parent deleted body before revs rev (Ok x) is on told head absent =
+    let whole : revs ≡ x ∷ option_to_list before = cc in
+    let same : x ≡ rev = some_is x rev (sym (ap head_of whole) ∙ head) in
+    let last : RevId → Result (RevId × Option RevId) BaseFault = λ y. refused_if (has (tree_of db.docs id) y) (faults.RevExists y) >>= λ _. Ok (y, before) in
+    let next : Option RevId → Result (RevId × Option RevId) BaseFault = λ b. edit_id b deleted body >>= λ y. refused_if (has (tree_of db.docs id) y) (faults.RevExists y) >>= λ _. Ok (y, b) in
+    record {
+      told =
+          ap (λ p. p >>= next) (sym on)
+          ∙ ap (λ i. i >>= last) is
+          ∙ ap last same
+          ∙ ap (λ b. refused_if b (faults.RevExists rev) >>= λ _. Ok (rev, before)) absent;
+      whole = whole ∙ ap (λ r. r ∷ option_to_list before) same;
+    }
+
+pub edited_from : (db : DatabaseValue) (id : Id) (parent : Option RevId) (deleted : Bool) (body : List ℕ) (before : Option RevId) (revs : List RevId) (rev : RevId)
+    → Ok before ≡ parent_answer (tree_in db.docs id) parent → Ok revs ≡ edit_revs before deleted body → head_of revs ≡ Some rev → has (tree_of db.docs id) rev ≡ false → IsEdited db id parent deleted body before revs rev
+edited_from db id parent deleted body before revs rev on told head absent = from_id db id parent deleted body before revs rev (edit_id before deleted body) refl on told head absent
+
+-- an edit leaves its new revision merged in
+pub after_edit-changed : (db : DatabaseValue) → LawfulDatabase db → (id : Id) (parent : Option RevId) (deleted : Bool) (body : List ℕ) (o : Origin) (before : Option RevId) (revs : List RevId) (rev : RevId)
+    → IsEdited db id parent deleted body before revs rev → has (tree_of db.docs id) rev ≡ false → db.update_seq < most
+    → after_edit db id parent deleted body o ≡ with_tree db id (merged (tree_of db.docs id) revs (content_of deleted body) o)
+after_edit-changed db law id parent deleted body o before revs rev e absent room =
+    let d = edit_document id (rev, before) deleted body in
+    ap (after_edited db id deleted body o) e.told
+    ∙ after_put-changed db d o (db.update_seq + 1)
+    (answer-changed db d (new_contradicts_none (tree_of db.docs id) rev before (no_parent db law id rev absent)) (new_is_not_same (tree_of db.docs id) rev (option_to_list before) absent) room)
+    ∙ ap (λ (rs : List RevId). with_tree db id (merged (tree_of db.docs id) rs (content_of deleted body) o)) (sym e.whole)

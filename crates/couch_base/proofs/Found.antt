@@ -1,0 +1,67 @@
+-- What a look-up by id finds.
+use Rattle.std.proofs.Common.{◌≡◌, ℕ, List, [], ◌∷◌, Option, Some, None, Bool, true, false, cond, is_some, sym, ap, ◌∙◌, refl, arith}
+use Rattle.std.proofs.Common.{inl, inr}
+use Rattle.std.proofs.lemmas.Bool.{false≢true, cond_both, both_ways, eqb-true}
+use Rattle.std.proofs.lemmas.Slice.Eq.{bytes_eq-Decides}
+use Rattle.std.specs.Ordering.{nat_cmp}
+use Rattle.std.specs.BTreeMap.{is_at}
+use Rattle.std.specs.Option.{option_map_or}
+use Rattle.std.specs.Prelude.{unwrap_or}
+use Rattle.std.specs.Cmp.{unsigned_ties}
+use Rattle.std.specs.Str.{bytes_eq}
+use Rattle.rev_tree.specs.Tree.{no_revisions}
+use Rattle.couch_base.specs.Lists.{Among}
+use Rattle.couch_base.specs.Database.{Id, tree_in, tree_of}
+use Rattle.couch_base.specs.Table.{at_seq, seq_of, tree_at, documents, IsTable}
+use Rattle.couch_base.specs.declared.kept.Kept.{Kept}
+
+-- ids and sequences that a test finds equal
+pub id_is : (a b : Id) → bytes_eq a b ≡ true → a ≡ b
+id_is a b h = (bytes_eq-Decides a b).0 h
+
+pub id_same : (a : Id) → bytes_eq a a ≡ true
+id_same a = (bytes_eq-Decides a a).1 refl
+
+pub seq_is : (a b : ℕ) → is_at (nat_cmp a) b ≡ true → a ≡ b
+seq_is a b h = eqb-true a b (unsigned_ties a b ∙ h)
+
+pub seq_same : (a : ℕ) → is_at (nat_cmp a) a ≡ true
+seq_same a = sym (unsigned_ties a a) ∙ grind (arith)
+
+pub not_true : (b : Bool) → (b ≡ true → ⊥) → b ≡ false
+not_true true h = absurd (h refl)
+not_true false h = refl
+
+pub some_is : {X : Type 0} (x y : X) → Some x ≡ Some y → x ≡ y
+some_is x y e = ap (λ o. option_map_or (λ v. v) o x) e
+
+pub none_some : {X : Type 0} (x : X) → None ≡ Some x → ⊥
+none_some x e = false≢true (ap is_some e)
+
+-- an id that the table hasn't is no document's
+pub none_in : (g : Id → Option Kept) (index : List (ℕ × Id)) (id : Id) → ((e : ℕ × Id) → Among e index → seq_of (g e.1) ≡ Some e.0) → g id ≡ None → tree_in (documents g index) id ≡ None
+none_in g [] id held gone = refl
+none_in g (e ∷ es) id held gone =
+    cond_both (bytes_eq e.1 id) (Some (tree_at (g e.1))) (tree_in (documents g es) id) (λ o. o ≡ None)
+    (λ same. absurd (none_some e.0 (sym (ap seq_of (ap g (id_is e.1 id same) ∙ gone)) ∙ held e (inl refl))))
+    (λ _. none_in g es id (λ x m. held x (inr m)) gone)
+
+not_first : (b : Bool) (x y : Id) (o : Option Id) → cond b (Some x) o ≡ Some y → bytes_eq x y ≡ false → o ≡ Some y
+not_first true x y o h apart = absurd (both_ways (bytes_eq x y) apart (ap (bytes_eq x) (sym (some_is x y h)) ∙ id_same x))
+not_first false x y o h apart = h
+
+-- an id that the index has at its sequence is a document's
+pub found_in : (g : Id → Option Kept) (index : List (ℕ × Id)) (id : Id) (k : Kept) → g id ≡ Some k → at_seq k.seq index ≡ Some id → tree_in (documents g index) id ≡ Some k.tree
+found_in g [] id k is at = absurd (none_some id at)
+found_in g (e ∷ es) id k is at =
+    cond_both (bytes_eq e.1 id) (Some (tree_at (g e.1))) (tree_in (documents g es) id) (λ o. o ≡ Some k.tree)
+    (λ same. ap (λ o. Some (tree_at o)) (ap g (id_is e.1 id same) ∙ is))
+    (λ apart. found_in g es id k is (not_first (is_at (nat_cmp k.seq) e.0) e.1 id (at_seq k.seq es) at apart))
+
+-- the tree of a document is the table's
+pub tree_of-documents : (g : Id → Option Kept) (index : List (ℕ × Id)) (hi : ℕ) → IsTable g index hi → (id : Id) → tree_of (documents g index) id ≡ tree_at (g id)
+tree_of-documents g index hi t id = go (g id) refl
+  where
+    go : (o : Option Kept) → g id ≡ o → tree_of (documents g index) id ≡ tree_at (g id)
+    go None is = ap (λ o. unwrap_or o no_revisions) (none_in g index id t.held is) ∙ sym (ap tree_at is)
+    go (Some k) is = ap (λ o. unwrap_or o no_revisions) (found_in g index id k is (t.indexed id k is)) ∙ sym (ap tree_at is)

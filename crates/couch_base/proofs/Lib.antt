@@ -1,0 +1,12 @@
+mod Found
+mod Rising
+mod Index
+mod Moves
+mod Writing
+mod DocumentTrees
+mod Laws
+mod Pages
+mod Edges
+mod Putting
+mod Deleted
+mod Editing

@@ -1,0 +1,97 @@
+-- Pages.
+use Rattle.std.proofs.Common.{◌≡◌, ℕ, zero, suc, ◌-◌, is_lt, Less, Equal, Greater, append-nil, ◌<◌, ◌≤◌, List, [], ◌∷◌, ◌++◌, map, length, take, Option, Some, Bool, true, false, cond, sym, ap, ◌∙◌, refl, arith, append_assoc, length-append}
+use Rattle.std.specs.Prelude.{if◌then◌else◌, Ok, Err, slice_range, ◌==◌, not, ◌&&◌, nat_lt, nat_le, slice_get}
+use Rattle.std.specs.List.{filter}
+use Rattle.std.specs.Ordering.{nat_cmp}
+use Rattle.std.specs.BTreeMap.Range.{entries_between, range_contains}
+use Rattle.std.specs.declared.ops.Bound.TheVariants.{Included, Excluded}
+use Rattle.std.proofs.Math.Seq.{take-append_seam}
+use Rattle.std.proofs.lemmas.Option.{slice_get_within}
+use Rattle.indexmap.proofs.MapLemmas.{split_last}
+use Rattle.couch_base.specs.Database.{Id, DocumentValue, DatabaseValue}
+use Rattle.couch_base.specs.Feed.{RowValue, WindowValue, row_of, last_seq, page, page_end, page_answer, window_of}
+use Rattle.couch_base.specs.declared.fault.BaseFault.TheVariants as faults
+use Rattle.couch_base.specs.Table.{document, documents}
+use Rattle.couch_base.specs.declared.kept.Kept.{Kept}
+
+-- the row of an entry of the index
+abbrev pub row_at : (Id → Option Kept) → ℕ × Id → RowValue
+row_at g e = row_of (document g e)
+
+-- the rows so far and those of what is left make up the whole
+pub record Collected (g : Id → Option Kept) (done : List RowValue) (left all : List (ℕ × Id)) (limit : ℕ) : Type 0 where
+  pub whole : done ++ map (row_at g) left ≡ map (row_at g) all
+  pub small : length done ≤ limit
+
+pub take_all : {X : Type 0} (n : ℕ) (xs : List X) → length xs ≤ n → take n xs ≡ xs
+take_all zero [] h = refl
+take_all zero (x ∷ xs) h = absurd (omega (arith, h))
+take_all (suc n) [] h = refl
+take_all (suc n) (x ∷ xs) h = ap (λ l. x ∷ l) (take_all n xs (omega (arith, h)))
+
+pub collected_next : (g : Id → Option Kept) (done : List RowValue) (e : ℕ × Id) (left all : List (ℕ × Id)) (limit : ℕ) → Collected g done (e ∷ left) all limit → length done < limit → Collected g (done ++ row_at g e ∷ []) left all limit
+collected_next g done e left all limit c room = record {
+  whole = append_assoc done (row_at g e ∷ []) (map (row_at g) left) ∙ c.whole;
+  small = omega (arith, length-append done (row_at g e ∷ []), room);
+}
+
+lt_of : (t u : Bool) → is_lt (cond t Less (cond u Equal Greater)) ≡ t
+lt_of true u = refl
+lt_of false true = refl
+lt_of false false = refl
+
+not_lt : (b q : ℕ) → not (nat_lt b q) ≡ nat_le q b
+not_lt b q = grind arith
+
+-- whether a sequence is in the range
+in_range : (a b q : ℕ) → range_contains nat_cmp (Excluded a) (Included b) q ≡ (nat_lt a q && nat_le q b)
+in_range a b q = λ i. lt_of (nat_lt a q) (a == q) i && (ap not (lt_of (nat_lt b q) (b == q)) ∙ not_lt b q) i
+
+kept_or_not : (g : Id → Option Kept) (a b : ℕ) (e : ℕ × Id) (es : List (ℕ × Id)) (t : Bool)
+    → map (row_at g) (entries_between nat_cmp (Excluded a) (Included b) es) ≡ map row_of (filter (λ (d : DocumentValue). nat_lt a d.seq && nat_le d.seq b) (documents g es))
+    → map (row_at g) (cond t (e ∷ entries_between nat_cmp (Excluded a) (Included b) es) (entries_between nat_cmp (Excluded a) (Included b) es))
+    ≡ map row_of (cond t (document g e ∷ filter (λ (d : DocumentValue). nat_lt a d.seq && nat_le d.seq b) (documents g es)) (filter (λ (d : DocumentValue). nat_lt a d.seq && nat_le d.seq b) (documents g es)))
+kept_or_not g a b e es true h = ap (λ l. row_at g e ∷ l) h
+kept_or_not g a b e es false h = h
+
+-- the rows of a range of the index are the feed's
+pub between_rows : (g : Id → Option Kept) (a b : ℕ) (index : List (ℕ × Id)) → map (row_at g) (entries_between nat_cmp (Excluded a) (Included b) index) ≡ map row_of (filter (λ (d : DocumentValue). nat_lt a d.seq && nat_le d.seq b) (documents g index))
+between_rows g a b [] = refl
+between_rows g a b (e ∷ es) =
+    ap (λ t. map (row_at g) (cond t (e ∷ entries_between nat_cmp (Excluded a) (Included b) es) (entries_between nat_cmp (Excluded a) (Included b) es))) (in_range a b e.0)
+    ∙ kept_or_not g a b e es (nat_lt a e.0 && nat_le e.0 b) (between_rows g a b es)
+
+-- where the limit is reached, and where the range ends
+pub collected_full : (g : Id → Option Kept) (done : List RowValue) (left all : List (ℕ × Id)) (limit : ℕ) → Collected g done left all limit → limit ≤ length done → done ≡ take limit (map (row_at g) all)
+collected_full g done left all limit c full =
+    let n : length done ≡ limit = (let s : length done ≤ limit = c.small in omega (arith, s, full)) in
+    sym (take-append_seam done (map (row_at g) left)) ∙ ap (λ k. take k (done ++ map (row_at g) left)) n ∙ ap (take limit) c.whole
+
+pub collected_end : (g : Id → Option Kept) (done : List RowValue) (left all : List (ℕ × Id)) (limit : ℕ) → Collected g done left all limit → left ≡ [] → done ≡ take limit (map (row_at g) all)
+collected_end g done left all limit c none =
+    let same : done ≡ map (row_at g) all = sym (append-nil done) ∙ ap (λ l. done ++ map (row_at g) l) (sym none) ∙ c.whole in
+    sym (take_all limit done c.small) ∙ ap (take limit) same
+
+last_of : (lo : ℕ) (xs : List RowValue) (r : RowValue) → last_seq lo (xs ++ r ∷ []) ≡ r.seq
+last_of lo [] r = refl
+last_of lo (x ∷ xs) r = last_of x.seq xs r
+
+pub last_is : (lo : ℕ) (xs : List RowValue) (r : RowValue) → slice_get xs (length xs - 1) ≡ Some r → last_seq lo xs ≡ r.seq
+last_is lo xs r h =
+    let within = slice_get_within xs (length xs - 1) r h in
+    ap (last_seq lo) (split_last xs r h (omega (arith, within))) ∙ last_of lo (slice_range xs 0 (length xs - 1)) r
+
+-- the collected rows and their end make the page
+pub page_of : (g : Id → Option Kept) (index : List (ℕ × Id)) (uuid hi since goal limit end : ℕ) (rows : List RowValue)
+    → rows ≡ take limit (map (row_at g) (entries_between nat_cmp (Excluded since) (Included goal) index)) → end ≡ page_end since goal limit rows
+    → record { lo = since; hi = end; rows = rows } ≡ page (record { uuid = uuid; update_seq = hi; docs = documents g index }) since goal limit
+page_of g index uuid hi since goal limit end rows collected ends =
+    ap (λ (h : ℕ). let w : WindowValue = record { lo = since; hi = h; rows = rows } in w) ends
+    ∙ ap (window_of since goal limit) (collected ∙ ap (take limit) (between_rows g since goal index))
+
+pub page_answer-ok : (db : DatabaseValue) (since goal limit : ℕ) → (limit ≡ 0 → ⊥) → since < goal → goal ≤ db.update_seq → page_answer db since goal limit ≡ Ok (page db since goal limit)
+page_answer-ok db since goal limit some below within =
+    let a : (limit == 0) ≡ false = grind (arith, some) in
+    let b : nat_le goal since ≡ false = grind (arith, below) in
+    let c : nat_lt db.update_seq goal ≡ false = grind (arith, within) in
+    λ i. if a i then Err faults.BadLimit else (if b i then Err faults.BadRange else (if c i then Err (faults.GoalAhead db.update_seq) else Ok (page db since goal limit)))

@@ -1,0 +1,75 @@
+-- Rising sequences of an index.
+use Rattle.std.proofs.Common.{◌≡◌, ◌⊎◌, ℕ, ◌<◌, ◌≤◌, List, [], ◌∷◌, ◌++◌, Bool, map, sym, ap, ◌∙◌, arith, inl, inr}
+use Rattle.std.proofs.lemmas.Bool.{cond_both, both_ways}
+use Rattle.std.specs.Ordering.{nat_cmp}
+use Rattle.std.specs.BTreeMap.{is_at}
+use Rattle.std.specs.Map.{remove_entry}
+use Rattle.couch_base.specs.Lists.{Among, Rises}
+use Rattle.couch_base.specs.Database.{Id}
+use Rattle.couch_base.specs.Table.{AllBelow}
+use Rattle.couch_base.proofs.Found.{seq_is, seq_same}
+
+-- the sequences of an index rise
+abbrev pub Rising : ℕ → List (ℕ × Id) → ℕ → Type 0
+Rising lo index hi = Rises lo (map (λ e. e.0) index) hi
+
+pub rises_le : (lo : ℕ) (ns : List ℕ) (hi : ℕ) → Rises lo ns hi → lo ≤ hi
+rises_le lo [] hi r = r
+rises_le lo (n ∷ ns) hi r = let a : lo < n = r.0 in let b : n ≤ hi = rises_le n ns hi r.1 in omega (arith, a, b)
+
+pub rising_le : (lo : ℕ) (index : List (ℕ × Id)) (hi : ℕ) → Rising lo index hi → lo ≤ hi
+rising_le lo index hi r = rises_le lo (map (λ e. e.0) index) hi r
+
+pub member_over : (lo : ℕ) (index : List (ℕ × Id)) (hi : ℕ) (x : ℕ × Id) → Rising lo index hi → Among x index → lo < x.0
+member_over lo [] hi x r m = absurd m
+member_over lo (e ∷ es) hi x r (inl s) = let a : lo < e.0 = r.0 in let b : x.0 ≡ e.0 = ap (λ (p : ℕ × Id). p.0) s in omega (arith, a, b)
+member_over lo (e ∷ es) hi x r (inr m) = let a : lo < e.0 = r.0 in let b : e.0 < x.0 = member_over e.0 es hi x r.1 m in omega (arith, a, b)
+
+pub member_upto : (lo : ℕ) (index : List (ℕ × Id)) (hi : ℕ) (x : ℕ × Id) → Rising lo index hi → Among x index → x.0 ≤ hi
+member_upto lo [] hi x r m = absurd m
+member_upto lo (e ∷ es) hi x r (inl s) = let a : e.0 ≤ hi = rising_le e.0 es hi r.1 in let b : x.0 ≡ e.0 = ap (λ (p : ℕ × Id). p.0) s in omega (arith, a, b)
+member_upto lo (e ∷ es) hi x r (inr m) = member_upto e.0 es hi x r.1 m
+
+pub all_below : (index : List (ℕ × Id)) (hi s : ℕ) → Rising 0 index hi → hi < s → AllBelow s index
+all_below index hi s r above x m = let a : x.0 ≤ hi = member_upto 0 index hi x r m in omega (arith, a, above)
+
+pub rising_append : (lo : ℕ) (index : List (ℕ × Id)) (hi s : ℕ) (id : Id) → Rising lo index hi → hi < s → Rising lo (index ++ (s, id) ∷ []) s
+rising_append lo [] hi s id r above = let a : lo ≤ hi = r in (omega (arith, a, above), omega arith)
+rising_append lo (e ∷ es) hi s id r above = (r.0, rising_append e.0 es hi s id r.1 above)
+
+pub rises_lower : (lo k : ℕ) (ns : List ℕ) (hi : ℕ) → lo < k → Rises k ns hi → Rises lo ns hi
+rises_lower lo k [] hi l r = let a : k ≤ hi = r in omega (arith, l, a)
+rises_lower lo k (n ∷ ns) hi l r = let a : k < n = r.0 in (omega (arith, l, a), r.1)
+
+pub rising_remove : (t : ℕ → Bool) (lo : ℕ) (index : List (ℕ × Id)) (hi : ℕ) → Rising lo index hi → Rising lo (remove_entry t index) hi
+rising_remove t lo [] hi r = r
+rising_remove t lo (e ∷ es) hi r =
+    cond_both (t e.0) es (e ∷ remove_entry t es) (λ l. Rising lo l hi)
+    (λ _. rises_lower lo e.0 (map (λ e. e.0) es) hi r.0 r.1)
+    (λ _. (r.0, rising_remove t e.0 es hi r.1))
+
+-- ---- members
+
+pub among_append : {X : Type 0} (x y : X) (xs : List X) → Among x (xs ++ y ∷ []) → Among x xs ⊎ (x ≡ y)
+among_append x y [] (inl s) = inr s
+among_append x y [] (inr m) = absurd m
+among_append x y (z ∷ xs) (inl s) = inl (inl s)
+among_append x y (z ∷ xs) (inr m) = elim (among_append x y xs m) [ inl k ↦ inl (inr k) | inr s ↦ inr s ]
+
+pub among_remove : (t : ℕ → Bool) (index : List (ℕ × Id)) (x : ℕ × Id) → Among x (remove_entry t index) → Among x index
+among_remove t [] x m = m
+among_remove t (e ∷ es) x m =
+    cond_both (t e.0) es (e ∷ remove_entry t es) (λ l. Among x l → Among x (e ∷ es))
+    (λ _ k. inr k)
+    (λ _ k. elim k [ inl s ↦ inl s | inr n ↦ inr (among_remove t es x n) ]) m
+
+-- what is taken out is gone
+pub apart_remove : (s lo : ℕ) (index : List (ℕ × Id)) (hi : ℕ) (x : ℕ × Id) → Rising lo index hi → Among x (remove_entry (is_at (nat_cmp s)) index) → x.0 ≡ s → ⊥
+apart_remove s lo [] hi x r m same = m
+apart_remove s lo (e ∷ es) hi x r m same =
+    cond_both (is_at (nat_cmp s) e.0) es (e ∷ remove_entry (is_at (nat_cmp s)) es) (λ l. Among x l → ⊥)
+    (λ hit k. let a : s ≡ e.0 = seq_is s e.0 hit in let b : e.0 < x.0 = member_over e.0 es hi x r.1 k in omega (arith, a, b, same))
+    (λ miss k. elim k [
+      | inl at ↦ both_ways (is_at (nat_cmp s) e.0) miss (ap (is_at (nat_cmp s)) (sym (ap (λ (p : ℕ × Id). p.0) at) ∙ same) ∙ seq_same s)
+      | inr n ↦ apart_remove s e.0 es hi x r.1 n same
+    ]) m

@@ -1,0 +1,18 @@
+use Rattle.std.proofs.Common.{◌<◌, arith, sym, ap, ◌∙◌}
+use Rattle.rev_tree.specs.Content.{ContentValue}
+use Rattle.rev_tree.specs.Tree.{merged}
+use Rattle.couch_base.specs.Database.{tree_of, with_tree, most}
+use Rattle.couch_base.proofs.Editing.{edited_from, after_edit-changed}
+use Rattle.couch_base.proofs.database.Database.edit.Goals as goal
+
+pub returns-clause-ok : goal.returns-clause-ok
+returns-clause-ok c =
+    let db = c.args.self.now in
+    let id = c.args.id.now in
+    let absent = sym c.has.ensures ∙ c.if-has.false in
+    let room : db.update_seq < most = omega (arith, c.update_seq-update_seq.ensures.seq, c.if-update_seq-ge-MOST.false) in
+    let revs = c.in_ok-ancestry.ancestry in
+    let e = edited_from db id c.args.parent c.args.deleted c.args.body.now c.in_ok-before.before revs c.head-rev.result c.in_ok-before.ensures c.in_ok-ancestry.ensures c.head-rev.ensures absent in
+    c.in_ok-write.ensures.ok
+    ∙ ap (λ (b : ContentValue). with_tree db id (merged (tree_of db.docs id) revs b c.args.origin)) c.in_ok-content.ensures.content
+    ∙ sym (after_edit-changed db c.update_seq-update_seq.ensures.law id c.args.parent c.args.deleted c.args.body.now c.args.origin c.in_ok-before.before revs c.head-rev.result e absent room)

@@ -1,0 +1,34 @@
+use Rattle.std.proofs.Common.{◌∙◌, sym, ap, subst, rules}
+use Rattle.std.specs.Map.{remove_entry}
+use Rattle.std.specs.BTreeMap.{is_at}
+use Rattle.std.specs.Ordering.{nat_cmp}
+use Rattle.std.proofs.lemmas.Map.Steps.{set_value_same}
+use Rattle.rev_tree.specs.Tree.{TreeValue, IsTree, merged}
+use Rattle.couch_base.specs.declared.kept.Kept.{Kept}
+use Rattle.couch_base.proofs.Found.{some_is}
+use Rattle.couch_base.proofs.Index.{remove_last}
+use Rattle.couch_base.proofs.table.change.Goals as goal
+
+pub returns-in_default-clause-index : goal.returns-in_default-clause-index
+returns-in_default-clause-index c =
+    c.remove.ensures.entries ∙ ap (remove_entry (is_at (nat_cmp c.args.next))) c.in_ok-note.ensures.ok ∙ remove_last c.args.next c.args.index.now.entries c.args.id.now c.requires
+
+pub returns-in-Err-clause-docs : goal.returns-in-Err-clause-docs
+returns-in-Err-clause-docs c =
+    ap (λ (t : TreeValue). (c.get_mut.follows.lender (record { seq = c.in-Some.kept.now.seq; tree = t })).entries) c.in-Err.ensures.err
+    ∙ (c.get_mut.follows.holds c.in-Some.kept.now).0
+    ∙ set_value_same _ _ c.in-Some.kept.now (sym c.in-Some.ensures.value)
+
+pub returns-in-Err-clause-index : goal.returns-in-Err-clause-index
+returns-in-Err-clause-index c =
+    c.remove-in-Err.ensures.entries ∙ ap (remove_entry (is_at (nat_cmp c.args.next))) c.in_ok-note.ensures.ok ∙ remove_last c.args.next c.args.index.now.entries c.args.id.now c.requires
+
+pub returns-in-Ok-clause-ok : goal.returns-in-Ok-clause-ok
+returns-in-Ok-clause-ok c = λ was is.
+    let here = some_is c.in-Some.kept.now was (c.in-Some.ensures.value ∙ is) in
+    let made = c.in-Ok.ensures.ok ∙ ap (λ (k : Kept). merged k.tree c.args.ancestry.now c.args.content c.args.origin) here in
+    record {
+      sets = search rules;
+      index = search rules;
+      lawful = subst IsTree made c.in-Ok.ensures.tree;
+    }

@@ -1,0 +1,65 @@
+-- A database as it is kept: a table of documents by id, and an index of the ids by sequence.
+use Rattle.std.specs.Prelude.{◌≡◌, ℕ, ◌<◌, ◌≤◌, List, [], ◌∷◌, ◌++◌, cond, map, Option, Some, None}
+use Rattle.std.specs.Option.{option_map, option_map_or}
+use Rattle.std.specs.Ordering.{nat_cmp}
+use Rattle.std.specs.BTreeMap.{is_at}
+use Rattle.std.specs.Map.{lookup, remove_entry}
+use Rattle.std.specs.Str.{bytes_eq}
+use Rattle.rev_tree.specs.Tree.{TreeValue, IsTree, no_revisions}
+use Rattle.couch_base.specs.Lists.{Among, Rises}
+use Rattle.couch_base.specs.Database.{Id, DocumentValue, IsDocumentTree, most}
+use Rattle.couch_base.specs.declared.kept.Kept.{Kept}
+
+-- the id at a sequence of the index
+abbrev pub at_seq : ℕ → List (ℕ × Id) → Option Id
+at_seq s index = lookup (is_at (nat_cmp s)) index
+
+-- what the table has at an id
+abbrev pub found : List (Id × Kept) → Id → Option Kept
+found docs id = lookup (bytes_eq id) docs
+
+abbrev pub seq_of : Option Kept → Option ℕ
+seq_of o = option_map (λ (k : Kept). k.seq) o
+
+abbrev pub tree_at : Option Kept → TreeValue
+tree_at o = option_map_or (λ (k : Kept). k.tree) o no_revisions
+
+-- the document of an entry of the index
+abbrev pub document : (Id → Option Kept) → ℕ × Id → DocumentValue
+document g e = record { id = e.1; seq = e.0; tree = tree_at (g e.1) }
+
+abbrev pub documents : (Id → Option Kept) → List (ℕ × Id) → List DocumentValue
+documents g index = map (document g) index
+
+-- the index names each document of the table at its sequence, and nothing else
+pub record IsTable (g : Id → Option Kept) (index : List (ℕ × Id)) (hi : ℕ) : Type 0 where
+  pub rising : Rises 0 (map (λ e. e.0) index) hi
+  pub within : hi ≤ most
+  pub held : (e : ℕ × Id) → Among e index → seq_of (g e.1) ≡ Some e.0
+  pub indexed : (id : Id) (k : Kept) → g id ≡ Some k → at_seq k.seq index ≡ Some id
+  pub trees : (id : Id) (k : Kept) → g id ≡ Some k → IsDocumentTree k.tree
+
+-- h has k at the id, and at others what g has
+abbrev pub Sets : (Id → Option Kept) → (Id → Option Kept) → Id → Kept → Type 0
+Sets g h id k = (q : Id) → h q ≡ cond (bytes_eq id q) (Some k) (g q)
+
+-- each sequence of the index is below s
+abbrev pub AllBelow : ℕ → List (ℕ × Id) → Type 0
+AllBelow s index = (e : ℕ × Id) → Among e index → e.0 < s
+
+-- a write of a tree at a new sequence: to a document that is there,
+pub record Moves (old new : List (Id × Kept)) (before after : List (ℕ × Id)) (id : Id) (tree : TreeValue) (s : ℕ) (was : Kept) : Type 0 where
+  pub sets : Sets (found old) (found new) id (record { seq = s; tree = tree })
+  pub index : after ≡ remove_entry (is_at (nat_cmp was.seq)) (before ++ (s, id) ∷ [])
+  pub lawful : IsTree tree
+
+-- and to one that is new
+pub record Adds (old new : List (Id × Kept)) (before after : List (ℕ × Id)) (id : Id) (tree : TreeValue) (s : ℕ) : Type 0 where
+  pub sets : Sets (found old) (found new) id (record { seq = s; tree = tree })
+  pub index : after ≡ before ++ (s, id) ∷ []
+  pub lawful : IsTree tree
+
+-- whichever it is, of the tree that is made from the one before
+pub record Writes (old new : List (Id × Kept)) (before after : List (ℕ × Id)) (id : Id) (made : TreeValue → TreeValue) (s : ℕ) : Type 0 where
+  pub there : (was : Kept) → found old id ≡ Some was → Moves old new before after id (made was.tree) s was
+  pub absent : found old id ≡ None → Adds old new before after id (made no_revisions) s

@@ -1,0 +1,132 @@
+//! What a local edit stands on, and what it brings.
+ghost use Rattle.std.specs.Prelude.{◌≡◌, ◌∷◌, Some, IfOk, IfErr};
+ghost use Rattle.std.specs.Option.{option_to_list};
+ghost use Rattle.rev_core.specs.NewRev.{next_generation};
+ghost use Rattle.rev_tree.specs.Tree.{is_deleted};
+ghost use Rattle.doc_json.specs.Body.{IsBody};
+ghost use Rattle.couch_base.specs.Answers.{GivesUnlessMemory};
+ghost use Rattle.couch_base.specs.Edit.{parent_answer, edit_id, edit_revs};
+ghost use Rattle.couch_base.specs.Put.{content_of};
+
+use crate::fault::BaseFault;
+use doc_json::Body;
+use rev_core::{Ancestry, Rev, RevFault, new_rev};
+use rev_tree::{Content, Tree};
+use std::alloc::Global;
+
+/// The revision of a document that an edit stands on: the leaf that is named, or, where none is named and all leaves are
+/// deleted, the winner. Else `Conflict`.
+pub(crate) fn parent_in(tree: &Tree, parent: Option<Rev>) -> Result<Option<Rev>, BaseFault>
+    ensures { result ≡ parent_answer (Some tree.now) parent }
+{
+    match parent {
+        Some(parent) => {
+            if tree.is_leaf(parent) {
+                Ok(Some(parent))
+            } else {
+                Err(BaseFault::Conflict)
+            }
+        }
+        None => deleted_winner(tree),
+    }
+}
+
+/// The winner of a document of which all leaves are deleted.
+fn deleted_winner(tree: &Tree) -> Result<Option<Rev>, BaseFault>
+    ensures { result ≡ parent_answer (Some tree.now) None }
+{
+    // The winner is deleted only where all leaves are, since live leaves stand first.
+    let Some(winner) = tree.winner() else {
+        return Ok(None);
+    };
+    if is_deleted(tree, winner) {
+        Ok(Some(winner))
+    } else {
+        Err(BaseFault::Conflict)
+    }
+}
+
+/// Whether a revision has a content that deletes.
+fn is_deleted(tree: &Tree, rev: Rev) -> bool
+    ensures { result ≡ is_deleted tree.now rev }
+{
+    match tree.content(rev) {
+        Some(content) => content.deleted(),
+        None => false,
+    }
+}
+
+/// The ancestry that an edit brings: the new revision, and the one that it stands on.
+///
+/// `GenerationFull` where that one has the greatest generation.
+pub(crate) fn edit_ancestry(
+    alloc: Global,
+    before: Option<Rev>,
+    deleted: bool,
+    body: &Body,
+) -> Result<Ancestry, BaseFault>
+    ensures { GivesUnlessMemory result (edit_revs before deleted body.now) }
+{
+    match before {
+        None => {
+            let rev = edit_rev(alloc, None, deleted, body)?;
+            ancestry_of(alloc, rev, None)
+        }
+        Some(parent) => {
+            let rev = edit_rev(alloc, Some(parent), deleted, body)?;
+            ancestry_of(alloc, rev, Some(parent))
+        }
+    }
+}
+
+/// The id of an edit.
+fn edit_rev(
+    alloc: Global,
+    parent: Option<Rev>,
+    deleted: bool,
+    body: &Body,
+) -> Result<Rev, BaseFault>
+    ensures { GivesUnlessMemory result (edit_id parent deleted body.now) }
+{
+    match new_rev(alloc, parent, deleted, body.text()) {
+        Ok(rev) => Ok(rev),
+        Err(RevFault::Memory) => Err(BaseFault::Memory),
+        Err(_) => Err(BaseFault::GenerationFull),
+    }
+}
+
+/// The ancestry of a revision and the one that it stands on. The only error is `Memory`.
+fn ancestry_of(alloc: Global, rev: Rev, parent: Option<Rev>) -> Result<Ancestry, BaseFault>
+    requires { rev.generation ≡ next_generation parent }
+    ensures ancestry { IfOk result (λ a. a ≡ rev ∷ option_to_list parent) }
+    ensures err { IfErr result (λ e. e ≡ BaseFault.Memory) }
+{
+    let Ok(mut revs) = Vec::with_capacity(alloc, 2) else {
+        return Err(BaseFault::Memory);
+    };
+    // Readings of generations tell the proof that these are revisions.
+    let _generation = rev.generation();
+    let Ok(()) = revs.push(rev) else {
+        return Err(BaseFault::Memory);
+    };
+    let Some(parent) = parent else {
+        return Ok(Ancestry::from_revs(revs));
+    };
+    let _generation = parent.generation();
+    let Ok(()) = revs.push(parent) else {
+        return Err(BaseFault::Memory);
+    };
+    Ok(Ancestry::from_revs(revs))
+}
+
+/// The content that a document brings. The only error is `Memory`.
+pub(crate) fn content_of(alloc: Global, deleted: bool, body: &Body) -> Result<Content, BaseFault>
+    ensures content { IfOk result (λ c. c ≡ content_of deleted body.now) }
+    ensures body { IfOk result (λ c. IsBody c.body) }
+    ensures err { IfErr result (λ e. e ≡ BaseFault.Memory) }
+{
+    match body.copy(alloc) {
+        Ok(body) => Ok(Content::new(deleted, body.into_text())),
+        Err(_) => Err(BaseFault::Memory),
+    }
+}

@@ -1,0 +1,48 @@
+//! What a put answers, and what the calls of this crate refuse.
+
+use rev_core::Rev;
+use thiserror::Error;
+
+/// What a put did.
+#[derive(Clone, Copy, Debug, PartialEq, Eq)]
+pub enum Put {
+    /// The document changed, at this sequence.
+    Changed { seq: u64 },
+    /// The document had all of it already. No sequence was taken.
+    Same,
+}
+
+/// Why a call is refused, or that memory ran out.
+#[derive(Clone, Copy, Debug, Error)]
+pub enum BaseFault {
+    /// A given child has another parent in the document's tree: the first such child, newest first.
+    #[error("a revision has another parent in the document's tree")]
+    Contradiction { child: Rev, known: Rev, given: Rev },
+    /// The update sequence is the greatest one, 9,007,199,254,740,991.
+    #[error("no sequence after 9007199254740991")]
+    SeqFull,
+    /// A page of no rows is asked for.
+    #[error("a page has at least one row")]
+    BadLimit,
+    /// The goal of a page is not above its start.
+    #[error("the goal is not above the start")]
+    BadRange,
+    /// The goal of a page is above the update sequence.
+    #[error("the goal is above the update sequence {update_seq}")]
+    GoalAhead { update_seq: u64 },
+    /// An edit names a parent, and the document is not there.
+    #[error("no such document")]
+    NoSuchDocument,
+    /// An edit's parent is no leaf; or it names none, and the document has a leaf that is not deleted.
+    #[error("the edit's parent is not a leaf, or a live leaf is passed over")]
+    Conflict,
+    /// The edit's parent has the greatest generation, 4,294,967,295.
+    #[error("no generation after 4294967295")]
+    GenerationFull,
+    /// The id of the edit is in the document's tree already.
+    #[error("the edit is there already")]
+    RevExists { rev: Rev },
+    /// An allocation was refused.
+    #[error("out of memory")]
+    Memory,
+}

@@ -1,0 +1,74 @@
+//! Rows of the changes feed.
+ghost use Rattle.std.specs.Prelude.{◌≡◌, IfOk, IfErr};
+
+use crate::fault::BaseFault;
+use doc_json::DocId;
+use rev_core::Rev;
+use std::alloc::Global;
+use std::marker::Model;
+
+/// A document in the changes feed: the sequence of its latest change, its id, and all its leaves, winner first.
+#[derive(Drop)]
+pub struct Row {
+    seq: u64,
+    id: DocId,
+    leaves: Vec<Rev>,
+}
+
+impl Model for Row {
+    ghost use Rattle.couch_base.specs.Feed.{RowValue};
+
+    ghost Value = { RowValue };
+
+    ghost view = { λ r. record { seq = r.seq; id = r.id; leaves = r.leaves.items } };
+}
+
+impl Row {
+    ghost use Rattle.couch_base.specs.Feed.{RowValue};
+
+    /// The row of these parts.
+    pub(crate) fn new(seq: u64, id: DocId, leaves: Vec<Rev>) -> Row
+        ensures { result ≡ record { seq = seq; id = id; leaves = leaves.items } }
+    {
+        Row { seq, id, leaves }
+    }
+
+    /// The sequence of the document's latest change.
+    pub fn seq(&self) -> u64
+        ensures { result ≡ self.now.seq }
+    {
+        self.seq
+    }
+
+    /// The document's id.
+    pub fn id(&self) -> &DocId
+        ensures { result.now ≡ self.now.id }
+    {
+        &self.id
+    }
+
+    /// All leaves of the document, winner first.
+    pub fn leaves(&self) -> &[Rev]
+        ensures { result.now ≡ self.now.leaves }
+    {
+        &self.leaves
+    }
+
+    /// The same row. The only error is `Memory`.
+    pub fn copy(&self, alloc: Global) -> Result<Row, BaseFault>
+        ensures copied { IfOk result (λ r. r ≡ self.now) }
+        ensures err { IfErr result (λ e. e ≡ BaseFault.Memory) }
+    {
+        let Ok(id) = self.id.copy(alloc) else {
+            return Err(BaseFault::Memory);
+        };
+        match Vec::from_slice(alloc, &self.leaves) {
+            Ok(leaves) => Ok(Row {
+                seq: self.seq,
+                id,
+                leaves,
+            }),
+            Err(_) => Err(BaseFault::Memory),
+        }
+    }
+}

@@ -1,0 +1,10 @@
+pub mod MembersLemmas
+pub mod TableLemmas
+pub mod DatabasesLemmas
+pub mod DocumentLemmas
+pub mod ReplyLemmas
+pub mod DeviceLemmas
+pub mod ServedLemmas
+pub mod RunLemmas
+pub mod ServeLemmas
+pub mod AnswersLemmas

@@ -1,0 +1,14 @@
+pub mod Device
+pub mod Lines
+pub mod Members
+pub mod Document
+pub mod Command
+pub mod Databases
+pub mod Reply
+pub mod Answers
+pub mod Script
+pub mod Serving
+pub mod Tables
+pub mod Served
+pub mod Places
+pub mod Faults

@@ -1,0 +1,81 @@
+-- What a line is answered, and its text: docs/PROFILE.md, "Answers".
+use Rattle.std.specs.Prelude.{ℕ, List, [], ◌∷◌, ◌++◌, length, map, Bool, true, false, if◌then◌else◌, codes, decimal, Option}
+use Rattle.std.specs.List.{flat_map, join_with_byte}
+use Rattle.std.specs.Option.{option_map_or}
+use Rattle.std.specs.FinMap as finmap
+use Rattle.serde_json.specs.Data.{string}
+use Rattle.serde_json.specs.Written.{compact_text}
+use Rattle.rev_core.specs.Rev.{RevId}
+use Rattle.rev_core.specs.Text.{rev_text}
+use Rattle.rev_tree.specs.InOrder.{first_of}
+use Rattle.rev_tree.specs.Tree.{TreeValue, leaves, ancestors, is_deleted}
+use Rattle.couch_replicate.specs.declared.refusal.Refusal.{Refusal}
+use Rattle.couch_replicate.specs.declared.refusal.Refusal.TheVariants as why
+
+-- an answer, of which only the number of the line is left open
+pub data Reply : Type 0 where
+  -- of a blank line
+  silent : Reply
+  made : (db : List ℕ) → Reply
+  there : (db : List ℕ) → Reply
+  loaded : (db id : List ℕ) (rev : Option RevId) (seq : ℕ) → Reply
+  same : (db id : List ℕ) (rev : Option RevId) → Reply
+  shown : (id : List ℕ) (tree : TreeValue) → Reply
+  refused : Refusal → Reply
+
+abbrev pub is_refusal : Reply → Bool
+is_refusal silent = false
+is_refusal (made db) = false
+is_refusal (there db) = false
+is_refusal (loaded db id rev seq) = false
+is_refusal (same db id rev) = false
+is_refusal (shown id tree) = false
+is_refusal (refused refusal) = true
+
+abbrev pub name_of : Refusal → List ℕ
+name_of why.BadLine = codes "BadLine"
+name_of why.BadCommand = codes "BadCommand"
+name_of why.NoDatabase = codes "NoDatabase"
+name_of why.NoSuchDocument = codes "NoSuchDocument"
+name_of why.NoSuchRevision = codes "NoSuchRevision"
+name_of why.Contradiction = codes "Contradiction"
+name_of why.Memory = codes "Memory"
+
+-- ---- parts of answers
+
+-- with the line's end
+abbrev pub ended : List ℕ → List ℕ
+ended text = text ++ 10 ∷ []
+
+-- the text as JSON, in quotation marks
+abbrev pub quoted : List ℕ → List ℕ
+quoted text = compact_text (string text)
+
+-- the text of a revision, where there is one
+abbrev pub text_of_any : Option RevId → List ℕ
+text_of_any rev = option_map_or rev_text rev []
+
+-- their texts, joined by commas
+abbrev pub texts_of_revs : List RevId → List ℕ
+texts_of_revs revs = join_with_byte 44 (map rev_text revs)
+
+-- ---- the answer to `show`
+
+abbrev pub shown_head : List ℕ → TreeValue → List ℕ
+shown_head id tree = ended (codes "doc " ++ quoted id ++ codes " winner " ++ text_of_any (first_of (leaves tree)) ++ codes " leaves " ++ decimal (length (leaves tree)) ++ codes " revs " ++ decimal (finmap.len tree.origins))
+
+-- a leaf, whether it is deleted, and its known ancestry
+abbrev pub leaf_line : TreeValue → RevId → List ℕ
+leaf_line tree leaf = ended (codes "leaf " ++ rev_text leaf ++ (if is_deleted tree leaf then codes " deleted " else codes " live ") ++ texts_of_revs (ancestors tree leaf))
+
+-- ---- answers
+
+-- the answer to the line of that number
+abbrev pub reply_text : ℕ → Reply → List ℕ
+reply_text n silent = []
+reply_text n (made db) = ended (codes "made " ++ db)
+reply_text n (there db) = ended (codes "there " ++ db)
+reply_text n (loaded db id rev seq) = ended (codes "loaded " ++ db ++ codes " " ++ quoted id ++ codes " " ++ text_of_any rev ++ codes " seq " ++ decimal seq)
+reply_text n (same db id rev) = ended (codes "same " ++ db ++ codes " " ++ quoted id ++ codes " " ++ text_of_any rev)
+reply_text n (shown id tree) = shown_head id tree ++ flat_map (leaf_line tree) (leaves tree)
+reply_text n (refused refusal) = ended (codes "refused " ++ decimal n ++ codes " " ++ name_of refusal)

@@ -1,0 +1,32 @@
+-- How a line is served, for the functions that do it.
+use Rattle.std.specs.Prelude.{◌≡◌, ℕ, List, false, ◌⊎◌}
+use Rattle.couch_replicate.specs.Command.{Ask}
+use Rattle.couch_replicate.specs.Databases.{State}
+use Rattle.couch_replicate.specs.Reply.{Reply, refused, is_refusal, reply_text}
+use Rattle.couch_replicate.specs.Answers.{Answers}
+use Rattle.couch_replicate.specs.Script.{AnswersLine}
+use Rattle.couch_replicate.specs.declared.refusal.Refusal.{Refusal}
+use Rattle.couch_replicate.specs.declared.refusal.Refusal.TheVariants.{Memory}
+
+-- what is asked is answered with this text
+abbrev pub Tells : State → Ask → List ℕ → State → Type 0
+Tells old ask text new = (reply : Reply) × Answers old ask reply new × (is_refusal reply ≡ false) × ((n : ℕ) → text ≡ reply_text n reply)
+
+-- what is asked is refused, or memory was wanting before a change, or for the text of the reply
+pub data RefusesAsk : State → Ask → Refusal → State → Type 0 where
+  asked_in_vain : {old new : State} {ask : Ask} {why : Refusal} → Answers old ask (refused why) new → RefusesAsk old ask why new
+  asked_before : {old : State} {ask : Ask} → RefusesAsk old ask Memory old
+  asked_after : {old new : State} {ask : Ask} (reply : Reply) → Answers old ask reply new → RefusesAsk old ask Memory new
+
+-- the same of a line
+abbrev pub TellsLine : State → List ℕ → List ℕ → State → Type 0
+TellsLine old line text new = (reply : Reply) × AnswersLine old line reply new × (is_refusal reply ≡ false) × ((n : ℕ) → text ≡ reply_text n reply)
+
+pub data RefusesLine : State → List ℕ → Refusal → State → Type 0 where
+  in_vain : {old new : State} {line : List ℕ} {why : Refusal} → AnswersLine old line (refused why) new → RefusesLine old line why new
+  before : {old : State} {line : List ℕ} → RefusesLine old line Memory old
+  after : {old new : State} {line : List ℕ} (reply : Reply) → AnswersLine old line reply new → RefusesLine old line Memory new
+
+-- the text says why, or that memory was wanting to say it
+abbrev pub IsRefusalText : ℕ → Refusal → List ℕ → Type 0
+IsRefusalText n why text = (text ≡ reply_text n (refused why)) ⊎ (text ≡ reply_text n (refused Memory))

@@ -1,0 +1,154 @@
+//! The texts of answers (docs/PROFILE.md, "Answers").
+ghost use Rattle.std.specs.Prelude.{◌≡◌, ◌++◌, ℕ, IfOk, Some, string_bytes};
+ghost use Rattle.rev_core.specs.Text.{rev_text};
+ghost use Rattle.rev_tree.specs.Tree.{is_deleted};
+ghost use Rattle.couch_replicate.specs.Reply.{leaf_line, loaded, made, quoted, refused, reply_text, same, shown, shown_head, texts_of_revs, there};
+
+use crate::refusal::Refusal;
+use rev_core::Rev;
+use rev_tree::Tree;
+use serde_json::Value;
+use std::alloc::{AllocError, Global};
+
+/// The answer to a refused line.
+pub fn refusal_text(alloc: Global, number: u64, refusal: Refusal) -> Result<Vec<u8>, AllocError>
+    ensures { IfOk result (λ text. text.items ≡ reply_text number (refused refusal)) }
+{
+    let name = refusal.name();
+    let text = format!(in alloc; "refused {number} {name}\n")?;
+    Ok(text.into_bytes())
+}
+
+/// The answer to a `load` that made a database.
+pub fn made_text(alloc: Global, db: &str) -> Result<Vec<u8>, AllocError>
+    ensures { IfOk result (λ text. (n : ℕ) → text.items ≡ reply_text n (made db.now)) }
+{
+    let text = format!(in alloc; "made {db}\n")?;
+    Ok(text.into_bytes())
+}
+
+/// The answer to a `load` of a database that is there.
+pub fn there_text(alloc: Global, db: &str) -> Result<Vec<u8>, AllocError>
+    ensures { IfOk result (λ text. (n : ℕ) → text.items ≡ reply_text n (there db.now)) }
+{
+    let text = format!(in alloc; "there {db}\n")?;
+    Ok(text.into_bytes())
+}
+
+/// The answer to a `load` that changed something.
+pub fn loaded_text(
+    alloc: Global,
+    db: &str,
+    id: &str,
+    rev: Rev,
+    seq: u64,
+) -> Result<Vec<u8>, AllocError>
+    ensures { IfOk result (λ text. (n : ℕ) → text.items ≡ reply_text n (loaded db.now id.now (Some rev) seq)) }
+{
+    let id = json_text(alloc, id)?;
+    let mut text = format!(in alloc; "loaded {db} {id} ")?.into_bytes();
+    push_rev(alloc, &mut text, rev)?;
+    let end = format!(in alloc; " seq {seq}\n")?;
+    text.extend_from_slice(end.as_bytes())?;
+    Ok(text)
+}
+
+/// The answer to a `load` that changed nothing.
+pub fn same_text(alloc: Global, db: &str, id: &str, rev: Rev) -> Result<Vec<u8>, AllocError>
+    ensures { IfOk result (λ text. (n : ℕ) → text.items ≡ reply_text n (same db.now id.now (Some rev))) }
+{
+    let id = json_text(alloc, id)?;
+    let mut text = format!(in alloc; "same {db} {id} ")?.into_bytes();
+    push_rev(alloc, &mut text, rev)?;
+    text.extend_from_slice(b"\n")?;
+    Ok(text)
+}
+
+/// The answer to a `show`.
+pub fn shown_text(alloc: Global, id: &str, tree: &Tree) -> Result<Vec<u8>, AllocError>
+    ensures { IfOk result (λ text. (n : ℕ) → text.items ≡ reply_text n (shown id.now tree.now)) }
+{
+    let Ok(leaves) = tree.leaves(alloc) else {
+        return Err(AllocError);
+    };
+    let mut text = head_text(alloc, id, tree)?;
+    for leaf in &leaves {
+        push_leaf(alloc, &mut text, tree, *leaf)?;
+    }
+    Ok(text)
+}
+
+/// The first line of the answer to a `show`.
+fn head_text(alloc: Global, id: &str, tree: &Tree) -> Result<Vec<u8>, AllocError>
+    ensures { IfOk result (λ text. text.items ≡ shown_head id.now tree.now) }
+{
+    let id = json_text(alloc, id)?;
+    let mut text = format!(in alloc; "doc {id} winner ")?.into_bytes();
+    if let Some(rev) = tree.winner() {
+        push_rev(alloc, &mut text, rev)?;
+    }
+    let leaves = tree.leaf_count();
+    let revs = tree.rev_count();
+    let end = format!(in alloc; " leaves {leaves} revs {revs}\n")?;
+    text.extend_from_slice(end.as_bytes())?;
+    Ok(text)
+}
+
+/// Adds the line of a leaf. The leaf is in the tree, so only memory can be wanting.
+fn push_leaf(alloc: Global, text: &mut Vec<u8>, tree: &Tree, leaf: Rev) -> Result<(), AllocError>
+    ensures { IfOk result (λ _. text.new.items ≡ text.old.items ++ leaf_line tree.now leaf) }
+{
+    let Ok(ancestry) = tree.ancestry(alloc, leaf) else {
+        return Err(AllocError);
+    };
+    text.extend_from_slice(b"leaf ")?;
+    push_rev(alloc, text, leaf)?;
+    if is_deleted(tree, leaf) {
+        text.extend_from_slice(b" deleted ")?;
+    } else {
+        text.extend_from_slice(b" live ")?;
+    }
+    push_revs(alloc, text, ancestry.revs())?;
+    text.extend_from_slice(b"\n")
+}
+
+/// Whether what stands at a revision is a deletion.
+fn is_deleted(tree: &Tree, rev: Rev) -> bool
+    ensures { result ≡ is_deleted tree.now rev }
+{
+    match tree.content(rev) {
+        Some(content) => content.deleted(),
+        None => false,
+    }
+}
+
+/// Adds the texts of revisions, joined by commas.
+fn push_revs(alloc: Global, text: &mut Vec<u8>, revs: &[Rev]) -> Result<(), AllocError>
+    ensures { IfOk result (λ _. text.new.items ≡ text.old.items ++ texts_of_revs revs.now) }
+{
+    for i in 0..revs.len() {
+        if i > 0 {
+            text.extend_from_slice(b",")?;
+        }
+        push_rev(alloc, text, revs[i])?;
+    }
+    Ok(())
+}
+
+/// Adds the text of a revision.
+fn push_rev(alloc: Global, text: &mut Vec<u8>, rev: Rev) -> Result<(), AllocError>
+    ensures { IfOk result (λ _. text.new.items ≡ text.old.items ++ rev_text rev) }
+{
+    let Ok(bytes) = rev.write(alloc) else {
+        return Err(AllocError);
+    };
+    text.extend_from_slice(&bytes)?;
+    Ok(())
+}
+
+/// The text as JSON, in quotation marks.
+fn json_text(alloc: Global, text: &str) -> Result<String, AllocError>
+    ensures { IfOk result (λ json. string_bytes json ≡ quoted text.now) }
+{
+    Value::String(String::from_str(alloc, text)?).to_string(alloc)
+}

@@ -1,0 +1,34 @@
+//! What a program of scripts is set to.
+ghost use Rattle.std.specs.Prelude.{◌≡◌};
+
+/// The program's settings, which its options give.
+///
+/// None is looked at yet: the commands that look at them come later.
+#[derive(Drop)]
+pub struct Settings {
+    /// A target refuses each document whose id begins with this.
+    pub deny: Option<String>,
+    /// The seed of the ids that are made.
+    pub seed: u64,
+    /// The moment of a replication, in seconds since 1970.
+    pub at: u64,
+    /// How many workers a replication has.
+    pub workers: u64,
+    /// How many rows a window of a replication has at most.
+    pub batch: u64,
+}
+
+impl Settings {
+    /// The settings of a program without options: no prefix, 0, 0, 4, 500.
+    pub fn new() -> Settings
+        ensures { result ≡ record { deny = None; seed = 0; at = 0; workers = 4; batch = 500 } }
+    {
+        Settings {
+            deny: None,
+            seed: 0,
+            at: 0,
+            workers: 4,
+            batch: 500,
+        }
+    }
+}

@@ -1,0 +1,47 @@
+-- Reading a value as a body, check by check.
+use Rattle.std.proofs.Common.{◌≡◌, ℕ, List, Bool, true, false, cond, Some, None, Ok, Err, refl, sym, ap, subst}
+use Rattle.serde_json.specs.Data.{Data, null, boolean, number, string, array, object, Members, no_members, member}
+use Rattle.serde_json.specs.Find.{as_object}
+use Rattle.serde_json.specs.Written.{compact_text, members_have_float}
+use Rattle.doc_json.specs.DocId.{is_special}
+use Rattle.doc_json.specs.Members.{has_special, plain_members}
+use Rattle.doc_json.specs.Body.{body_read, IsWritten, IsBody}
+use Rattle.doc_json.specs.declared.fault.DocFault.TheVariants as faults
+
+pub is_object : (d : Data) (ms : Members) → as_object d ≡ Some ms → d ≡ object ms
+is_object null ms e = cc
+is_object (boolean b) ms e = cc
+is_object (number n) ms e = cc
+is_object (string s) ms e = cc
+is_object (array ds) ms e = cc
+is_object (object ns) ms e = cc
+
+pub body_no_object : (d : Data) → as_object d ≡ None → body_read d ≡ Err faults.NotObject
+unfolding body_read
+body_no_object d e = rw e refl
+
+pub body_special : (d : Data) (ms : Members) → as_object d ≡ Some ms → has_special ms ≡ true → body_read d ≡ Err faults.SpecialMember
+unfolding body_read
+body_special d ms e special = rw (e, special) refl
+
+pub body_fraction : (d : Data) (ms : Members) → as_object d ≡ Some ms → has_special ms ≡ false → members_have_float ms ≡ true → body_read d ≡ Err faults.Fraction
+unfolding body_read
+body_fraction d ms e plain float = rw (e, plain, float) refl
+
+pub body_ok : (d : Data) (ms : Members) → as_object d ≡ Some ms → has_special ms ≡ false → members_have_float ms ≡ false → body_read d ≡ Ok (compact_text d)
+unfolding body_read
+body_ok d ms e plain exact = rw (e, plain, exact) (ap (λ x. Ok (compact_text x)) (sym (is_object d ms e)))
+
+-- ---- the plain members are plain
+
+plain_if : (b : Bool) (name : List ℕ) (d : Data) (ms : Members) → is_special name ≡ b → has_special ms ≡ false → has_special (cond b ms (member name d ms)) ≡ false
+plain_if true name d ms is h = h
+plain_if false name d ms is h = rw is h
+
+pub plain_members_plain : (ms : Members) → has_special (plain_members ms) ≡ false
+plain_members_plain no_members = refl
+plain_members_plain (member name d ms) = plain_if (is_special name) name d (plain_members ms) refl (plain_members_plain ms)
+
+-- what the writer promises of a value is what a body is
+pub is_body : (text : List ℕ) (d : Data) (ms : Members) → d ≡ object ms → has_special ms ≡ false → members_have_float ms ≡ false → IsWritten text d → IsBody text
+is_body text d ms is plain exact written = record { members = ms; plain = plain; exact = exact; written = subst (IsWritten text) is written }

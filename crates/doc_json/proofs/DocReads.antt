@@ -1,0 +1,61 @@
+-- Reading a value as a document, check by check.
+use Rattle.std.proofs.Common.{◌≡◌, ℕ, List, Bool, true, false, Option, Some, None, option_map, is_some, Result, Ok, Err, codes, refl}
+use Rattle.std.specs.Prelude.{IsOk}
+use Rattle.std.proofs.lemmas.Bool.{false≢true}
+use Rattle.serde_json.specs.Data.{Data, Members}
+use Rattle.serde_json.specs.Find.{get, as_object}
+use Rattle.serde_json.specs.Written.{members_have_float}
+use Rattle.rev_core.specs.Rev.{RevId}
+use Rattle.doc_json.specs.Members.{has_unknown, plain_members}
+use Rattle.doc_json.specs.Body.{body_text}
+use Rattle.doc_json.specs.Revisions.{revs_read}
+use Rattle.doc_json.specs.DocRead.{doc_read, id_member, flag_of}
+use Rattle.doc_json.specs.declared.fault.DocFault.{DocFault}
+use Rattle.doc_json.specs.declared.fault.DocFault.TheVariants as faults
+
+pub is_some-option_map : {A B : Type 0} (f : A → B) (o : Option A) → is_some (option_map f o) ≡ is_some o
+is_some-option_map f None = refl
+is_some-option_map f (Some x) = refl
+
+-- the value of a result that has one
+pub ok_value : {A E : Type 0} (r : Result A E) → IsOk r → (x : A) × (r ≡ Ok x)
+ok_value (Ok x) h = (x, refl)
+ok_value (Err e) h = absurd (false≢true h)
+
+pub no_object : (d : Data) → as_object d ≡ None → doc_read d ≡ Err faults.NotObject
+unfolding doc_read
+no_object d e = rw e refl
+
+module _ (d : Data) (ms : Members) (object : as_object d ≡ Some ms) where
+  pub bad_id : (e : DocFault) → id_member d ≡ Err e → doc_read d ≡ Err e
+  unfolding doc_read
+  bad_id e h = rw (object, h) refl
+
+  module _ (id : List ℕ) (named : id_member d ≡ Ok id) where
+    pub attached : is_some (get (codes "_attachments") d) ≡ true → doc_read d ≡ Err faults.Attachments
+    unfolding doc_read
+    attached h = rw (object, named, h) refl
+
+    module _ (unattached : is_some (get (codes "_attachments") d) ≡ false) where
+      pub unknown : has_unknown ms ≡ true → doc_read d ≡ Err faults.SpecialMember
+      unfolding doc_read
+      unknown h = rw (object, named, unattached, h) refl
+
+      module _ (known : has_unknown ms ≡ false) where
+        pub bad_flag : (e : DocFault) → flag_of (get (codes "_deleted") d) ≡ Err e → doc_read d ≡ Err e
+        unfolding doc_read
+        bad_flag e h = rw (object, named, unattached, known, h) refl
+
+        module _ (deleted : Bool) (flag : flag_of (get (codes "_deleted") d) ≡ Ok deleted) where
+          pub bad_revs : (e : DocFault) → revs_read d ≡ Err e → doc_read d ≡ Err e
+          unfolding doc_read
+          bad_revs e h = rw (object, named, unattached, known, flag, h) refl
+
+          module _ (revs : List RevId) (read : revs_read d ≡ Ok revs) where
+            pub fraction : members_have_float (plain_members ms) ≡ true → doc_read d ≡ Err faults.Fraction
+            unfolding doc_read
+            fraction h = rw (object, named, unattached, known, flag, read, h) refl
+
+            pub accepted : members_have_float (plain_members ms) ≡ false → doc_read d ≡ Ok (record { id = id; ancestry = revs; deleted = deleted; body = body_text ms })
+            unfolding doc_read
+            accepted h = rw (object, named, unattached, known, flag, read, h) refl

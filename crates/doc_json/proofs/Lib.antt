@@ -1,0 +1,11 @@
+pub mod PlainMembers
+pub mod BodyReads
+pub mod DocReads
+pub mod SigTexts
+pub mod Sorted
+pub mod WrittenTexts
+pub mod SigBytes
+pub mod DocData
+pub mod Ancestries
+pub mod FoundRevisions
+pub mod ReadBack

@@ -1,0 +1,33 @@
+-- What reading a value as a document gives: docs/PROFILE.md, "What `read_doc` accepts". The first refusal is the answer.
+use Rattle.std.specs.Prelude.{ℕ, Bool, false, List, codes, Option, Some, None, option_and_then, is_some, Result, Ok}
+use Rattle.serde_json.specs.Data.{Data}
+use Rattle.serde_json.specs.Find.{get, as_str, as_bool, as_object}
+use Rattle.serde_json.specs.Written.{members_have_float}
+use Rattle.doc_json.specs.Answers.{◌>>=◌, or_refused, refused_if}
+use Rattle.doc_json.specs.DocId.{doc_id_read}
+use Rattle.doc_json.specs.Members.{has_unknown, plain_members}
+use Rattle.doc_json.specs.Body.{body_text}
+use Rattle.doc_json.specs.Revisions.{revs_read}
+use Rattle.doc_json.specs.Document.{Document}
+use Rattle.doc_json.specs.declared.fault.DocFault.{DocFault}
+use Rattle.doc_json.specs.declared.fault.DocFault.TheVariants as faults
+
+-- the member `_id` as an id
+abbrev pub id_member : Data → Result (List ℕ) DocFault
+id_member d = or_refused faults.NoId (option_and_then as_str (get (codes "_id") d)) >>= doc_id_read
+
+-- the member `_deleted`, false where it is absent
+abbrev pub flag_of : Option Data → Result Bool DocFault
+flag_of None = Ok false
+flag_of (Some d) = or_refused faults.SpecialMember (as_bool d)
+
+unfoldable pub doc_read : Data → Result Document DocFault
+doc_read d = do
+  ms ← or_refused faults.NotObject (as_object d)
+  id ← id_member d
+  attachments ← refused_if (is_some (get (codes "_attachments") d)) faults.Attachments
+  names ← refused_if (has_unknown ms) faults.SpecialMember
+  deleted ← flag_of (get (codes "_deleted") d)
+  ancestry ← revs_read d
+  numbers ← refused_if (members_have_float (plain_members ms)) faults.Fraction
+  Ok (record { id = id; ancestry = ancestry; deleted = deleted; body = body_text ms })

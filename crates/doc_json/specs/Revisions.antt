@@ -1,0 +1,79 @@
+-- The members `_rev` and `_revisions`: docs/PROFILE.md, "What `read_doc` accepts" and "Ancestries"; CouchDB, "Replication Protocol".
+use Rattle.std.specs.Prelude.{ℕ, ◌^◌, Bool, true, false, List, [], ◌∷◌, nat_lt, codes, Option, Some, None, option_and_then, option_map, Result, Ok, Err, if◌then◌else◌}
+use Rattle.std.specs.Ordering.{eq_by_cmp}
+use Rattle.serde_json.specs.Data.{Data, Items, no_items, item}
+use Rattle.serde_json.specs.Find.{get, as_str, as_array, as_number, as_u64}
+use Rattle.rev_core.specs.Sig.{is_sig}
+use Rattle.rev_core.specs.Rev.{RevId, rev_cmp}
+use Rattle.rev_core.specs.Text.{rev_read}
+use Rattle.rev_core.specs.Ancestry.{ancestry_read}
+use Rattle.doc_json.specs.Answers.{◌>>=◌, named}
+use Rattle.doc_json.specs.declared.fault.DocFault.{DocFault}
+use Rattle.doc_json.specs.declared.fault.DocFault.TheVariants as faults
+
+-- the revision id that a text spells
+abbrev pub rev_of_text : Option (List ℕ) → Result (Option RevId) DocFault
+rev_of_text None = Err faults.NoRev
+rev_of_text (Some text) = named faults.NoRev (rev_read text) >>= (λ r. Ok (Some r))
+
+-- what a member `_rev` gives
+abbrev pub rev_member : Option Data → Result (Option RevId) DocFault
+rev_member None = Ok None
+rev_member (Some d) = rev_of_text (as_str d)
+
+-- a signature, from a text
+abbrev pub sig_of : Option (List ℕ) → Option (List ℕ)
+sig_of None = None
+sig_of (Some text) = if is_sig text then Some text else None
+
+-- the signatures, where each item is one
+abbrev pub sigs_of : Items → Option (List (List ℕ))
+sigs_of no_items = Some []
+sigs_of (item d ds) = option_and_then (λ sig. option_map (λ sigs. sig ∷ sigs) (sigs_of ds)) (sig_of (as_str d))
+
+-- a start that is a generation, and a nonempty list of at most so many signatures
+abbrev pub numbered_from : Option ℕ → Option (List (List ℕ)) → Result (List RevId) DocFault
+numbered_from None sigs = Err faults.BadRevisions
+numbered_from (Some start) None = Err faults.BadRevisions
+numbered_from (Some start) (Some sigs) = if nat_lt start (2 ^ 32) then named faults.BadRevisions (ancestry_read start sigs) else Err faults.BadRevisions
+
+abbrev pub start_of : Data → Option ℕ
+start_of d = option_and_then as_u64 (option_and_then as_number (get (codes "start") d))
+
+abbrev pub ids_of : Data → Option (List (List ℕ))
+ids_of d = option_and_then sigs_of (option_and_then as_array (get (codes "ids") d))
+
+-- what a value of `_revisions` gives
+abbrev pub revisions_read : Data → Result (List RevId) DocFault
+revisions_read d = numbered_from (start_of d) (ids_of d)
+
+-- whether a revision is the first of a list
+abbrev pub is_head : RevId → List RevId → Bool
+is_head r [] = false
+is_head r (s ∷ rest) = eq_by_cmp rev_cmp r s
+
+-- `_rev`, where it is there, is the newest revision
+abbrev pub agrees : Option RevId → List RevId → Bool
+agrees None revs = true
+agrees (Some r) revs = is_head r revs
+
+abbrev pub matched : Option RevId → List RevId → Result (List RevId) DocFault
+matched rev revs = if agrees rev revs then Ok revs else Err faults.RevMismatch
+
+-- a lone `_rev`
+abbrev pub alone : Option RevId → Result (List RevId) DocFault
+alone None = Err faults.NoRev
+alone (Some r) = Ok (r ∷ [])
+
+-- a value of `_revisions`, beside what `_rev` gave
+abbrev pub revisions_beside : Option RevId → Data → Result (List RevId) DocFault
+revisions_beside rev d = revisions_read d >>= matched rev
+
+-- the member `_revisions`, beside what `_rev` gave
+abbrev pub with_revisions : Option Data → Option RevId → Result (List RevId) DocFault
+with_revisions None rev = alone rev
+with_revisions (Some d) rev = revisions_beside rev d
+
+-- the ancestry of a document
+unfoldable pub revs_read : Data → Result (List RevId) DocFault
+revs_read d = rev_member (get (codes "_rev") d) >>= with_revisions (get (codes "_revisions") d)

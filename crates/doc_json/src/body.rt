@@ -1,0 +1,122 @@
+//! The bodies of documents.
+ghost use Rattle.std.specs.Prelude.{◌≡◌, false, IfOk, IfErr};
+ghost use Rattle.serde_json.specs.View.{view, members_view};
+ghost use Rattle.serde_json.specs.Written.{has_float, members_have_float};
+ghost use Rattle.doc_json.specs.Answers.{GivesUnlessMemory};
+ghost use Rattle.doc_json.specs.Members.{plain_members};
+ghost use Rattle.doc_json.specs.Body.{body_read, body_text, IsWritten};
+
+use crate::fault::DocFault;
+use crate::members;
+use serde_json::{Map, Value};
+use std::alloc::Global;
+use std::marker::Model;
+
+/// The body of a document: the compact text of a JSON object without members that begin with `_`, and
+/// without numbers other than 64-bit integers.
+#[derive(Debug, Drop)]
+pub struct Body {
+    text: Vec<u8>,
+}
+
+impl Model for Body {
+    ghost use Rattle.std.specs.Prelude.{List, ℕ};
+
+    ghost Value = { List ℕ };
+
+    ghost use Rattle.doc_json.specs.Body.{IsBody};
+
+    ghost view = { λ a. a.text.items };
+
+    ghost invariant = { λ a. IsBody a.text.items };
+}
+
+impl Body {
+    ghost use Rattle.std.specs.Prelude.{◌≡◌, IfOk, IfErr};
+    ghost use Rattle.doc_json.specs.Body.{IsBody};
+
+    /// The body of a text that is one.
+    pub fn from_text(text: Vec<u8>) -> Body
+        requires { IsBody text.items }
+        ensures { result ≡ text.items }
+    {
+        Body { text }
+    }
+
+    /// The text.
+    pub fn text(&self) -> &[u8]
+        ensures text { result.now ≡ self.now }
+        ensures body { IsBody self.now }
+    {
+        &self.text
+    }
+
+    /// The text, as it is kept.
+    pub fn into_text(self) -> Vec<u8>
+        ensures text { result.items ≡ self }
+        ensures body { IsBody self }
+    {
+        self.text
+    }
+
+    /// The same body. The only error is `Memory`.
+    pub fn copy(&self, alloc: Global) -> Result<Body, DocFault>
+        ensures copied { IfOk result (λ b. b ≡ self.now) }
+        ensures err { IfErr result (λ e. e ≡ DocFault.Memory) }
+    {
+        match Vec::from_slice(alloc, &self.text) {
+            Ok(text) => Ok(Body { text }),
+            Err(_) => Err(DocFault::Memory),
+        }
+    }
+}
+
+/// The body that a JSON value is.
+///
+/// The first of these refusals is the answer: `NotObject` where it is no object; `SpecialMember` where it has
+/// a member that begins with `_`; `Fraction` where it holds, at any depth, a number that is neither an i64 nor
+/// a u64. `Memory` stands only in the place of a body.
+pub fn read_body(alloc: Global, value: &Value) -> Result<Body, DocFault>
+    ensures { GivesUnlessMemory result (body_read (view value.now)) }
+{
+    let Some(members) = value.as_object() else {
+        return Err(DocFault::NotObject);
+    };
+    if members::has_special(members) {
+        return Err(DocFault::SpecialMember);
+    }
+    if members::members_have_fraction(members) {
+        return Err(DocFault::Fraction);
+    }
+    match written(alloc, value) {
+        Ok(text) => Ok(Body::from_text(text)),
+        Err(_) => Err(DocFault::Memory),
+    }
+}
+
+/// The body of an object's members without a leading `_`. The only error is `Memory`.
+pub(crate) fn plain_body(alloc: Global, members: &Map<String, Value>) -> Result<Body, DocFault>
+    requires { members_have_float (plain_members (members_view members.now.entries)) ≡ false }
+    ensures body { IfOk result (λ b. b ≡ body_text (members_view members.now.entries)) }
+    ensures err { IfErr result (λ e. e ≡ DocFault.Memory) }
+{
+    let Ok(value) = members::plain_object(alloc, members) else {
+        return Err(DocFault::Memory);
+    };
+    match written(alloc, &value) {
+        Ok(text) => Ok(Body::from_text(text)),
+        Err(_) => Err(DocFault::Memory),
+    }
+}
+
+/// The compact text of a value. The only error is `Memory`.
+fn written(alloc: Global, value: &Value) -> Result<Vec<u8>, DocFault>
+    requires { has_float (view value.now) ≡ false }
+    ensures written { IfOk result (λ v. IsWritten v.items (view value.now)) }
+    ensures err { IfErr result (λ e. e ≡ DocFault.Memory) }
+{
+    match value.to_vec(alloc) {
+        Ok(text) => Ok(text),
+        Err(_) => Err(DocFault::Memory),
+    }
+}

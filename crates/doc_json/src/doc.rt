@@ -1,0 +1,120 @@
+//! Documents.
+use crate::body::Body;
+use crate::doc_id::DocId;
+use crate::fault::DocFault;
+use rev_core::Ancestry;
+use std::alloc::Global;
+use std::marker::Model;
+
+/// A document: its id, its ancestry, whether it is deleted, and its body.
+#[derive(Drop)]
+pub struct Doc {
+    id: DocId,
+    ancestry: Ancestry,
+    deleted: bool,
+    body: Body,
+}
+
+impl Model for Doc {
+    ghost use Rattle.doc_json.specs.Document.{Document, IsDocument};
+
+    ghost Value = { Document };
+
+    ghost view = { λ d. record {
+      id = d.id;
+      ancestry = d.ancestry;
+      deleted = d.deleted;
+      body = d.body;
+    } };
+
+    ghost invariant = { λ d. IsDocument (record {
+      id = d.id;
+      ancestry = d.ancestry;
+      deleted = d.deleted;
+      body = d.body;
+    }) };
+}
+
+impl Doc {
+    ghost use Rattle.std.specs.Prelude.{◌≡◌, IfOk, IfErr};
+    ghost use Rattle.doc_json.specs.Document.{Document, IsDocument};
+
+    /// The document of these parts.
+    pub fn new(id: DocId, ancestry: Ancestry, deleted: bool, body: Body) -> Doc
+        ensures parts { result
+            ≡ record { id = id; ancestry = ancestry; deleted = deleted; body = body } }
+        ensures document { IsDocument result }
+    {
+        let _id = id.text();
+        let _ancestry = ancestry.revs();
+        let _body = body.text();
+        Doc {
+            id,
+            ancestry,
+            deleted,
+            body,
+        }
+    }
+
+    /// The id.
+    pub fn id(&self) -> &DocId
+        ensures part { result.now ≡ self.now.id }
+        ensures document { IsDocument self.now }
+    {
+        &self.id
+    }
+
+    /// The ancestry, whose newest revision is the document's.
+    pub fn ancestry(&self) -> &Ancestry
+        ensures part { result.now ≡ self.now.ancestry }
+        ensures document { IsDocument self.now }
+    {
+        &self.ancestry
+    }
+
+    /// Whether the revision deletes the document.
+    pub fn deleted(&self) -> bool
+        ensures part { result ≡ self.now.deleted }
+        ensures document { IsDocument self.now }
+    {
+        self.deleted
+    }
+
+    /// The body.
+    pub fn body(&self) -> &Body
+        ensures part { result.now ≡ self.now.body }
+        ensures document { IsDocument self.now }
+    {
+        &self.body
+    }
+
+    /// The id, the ancestry, whether it is deleted, and the body.
+    pub fn into_parts(self) -> (DocId, Ancestry, bool, Body)
+        ensures parts { self ≡ record {
+          id = result.0;
+          ancestry = result.1;
+          deleted = result.2;
+          body = result.3;
+        } }
+        ensures document { IsDocument self }
+    {
+        (self.id, self.ancestry, self.deleted, self.body)
+    }
+
+    /// The same document. The only error is `Memory`.
+    pub fn copy(&self, alloc: Global) -> Result<Doc, DocFault>
+        ensures copied { IfOk result (λ d. d ≡ self.now) }
+        ensures err { IfErr result (λ e. e ≡ DocFault.Memory) }
+    {
+        let Ok(id) = self.id.copy(alloc) else {
+            return Err(DocFault::Memory);
+        };
+        let Ok(ancestry) = self.ancestry.copy(alloc) else {
+            return Err(DocFault::Memory);
+        };
+        let Ok(body) = self.body.copy(alloc) else {
+            return Err(DocFault::Memory);
+        };
+        Ok(Doc::new(id, ancestry, self.deleted, body))
+    }
+}

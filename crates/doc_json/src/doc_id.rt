@@ -1,0 +1,167 @@
+//! The ids of documents.
+ghost use Rattle.std.specs.Prelude.{◌≡◌, Ok, Err, IfErr, OnOk, nat_eq};
+ghost use Rattle.std.specs.Ordering.{nat_cmp, as_partial_cmp};
+ghost use Rattle.std.specs.Cmp;
+ghost use Rattle.std.specs.Cmp.{partial_order_from_own_ties};
+ghost use Rattle.std.specs.Cmp.Rules.{comparing, hashing};
+ghost use Rattle.std.specs.Cmp.Lexicographic.{pointwise, slice_cmp};
+ghost use Rattle.std.specs.Hash as fed;
+ghost use Rattle.std.proofs.Common.{rules};
+ghost use Rattle.std.proofs.lemmas.Cmp.{nat_list_eq_equiv};
+ghost use Rattle.doc_json.specs.DocId.{doc_id_read, is_special, is_design};
+
+use crate::fault::DocFault;
+use std::alloc::Global;
+use std::cmp::Ordering;
+use std::hash::{Hash, Hasher};
+use std::marker::Model;
+
+/// The id of a document: a text that is not empty, and that begins with `_` only where it is `_design/`
+/// and at least one character more.
+///
+/// Ids are ordered as the bytes of their texts are.
+#[derive(Debug, Drop)]
+pub struct DocId {
+    text: String,
+}
+
+impl Model for DocId {
+    ghost use Rattle.std.specs.Prelude.{◌≡◌, List, ℕ, Ok, string_bytes};
+
+    ghost Value = { List ℕ };
+
+    ghost use Rattle.doc_json.specs.DocId.{doc_id_read};
+
+    ghost view = { λ a. string_bytes a.text };
+
+    ghost invariant = { λ a. doc_id_read (string_bytes a.text) ≡ Ok (string_bytes a.text) };
+}
+
+impl DocId {
+    ghost use Rattle.std.specs.Prelude.{◌≡◌, Ok, IfOk, IfErr};
+    ghost use Rattle.doc_json.specs.Answers.{GivesUnlessMemory};
+    ghost use Rattle.doc_json.specs.DocId.{doc_id_read};
+
+    /// The id that a text spells, which is that text.
+    ///
+    /// `NoId` where it is empty; `ReservedId` where it begins with `_` and is no design document's id. `Memory`
+    /// stands only in the place of an id.
+    pub fn parse(alloc: Global, text: &str) -> Result<DocId, DocFault>
+        ensures { GivesUnlessMemory result (doc_id_read text.now) }
+    {
+        match check_id(text) {
+            Ok(()) => DocId::of_checked(alloc, text),
+            Err(fault) => Err(fault),
+        }
+    }
+
+    /// The id of a text that is one. The only error is `Memory`.
+    pub(crate) fn of_checked(alloc: Global, text: &str) -> Result<DocId, DocFault>
+        requires { doc_id_read text.now ≡ Ok text.now }
+        ensures id { IfOk result (λ a. a ≡ text.now) }
+        ensures err { IfErr result (λ e. e ≡ DocFault.Memory) }
+    {
+        match String::from_str(alloc, text) {
+            Ok(text) => Ok(DocId { text }),
+            Err(_) => Err(DocFault::Memory),
+        }
+    }
+
+    /// The text.
+    pub fn text(&self) -> &str
+        ensures text { result.now ≡ self.now }
+        ensures id { doc_id_read self.now ≡ Ok self.now }
+    {
+        self.text.as_str()
+    }
+
+    /// The same id. The only error is `Memory`.
+    pub fn copy(&self, alloc: Global) -> Result<DocId, DocFault>
+        ensures copied { IfOk result (λ a. a ≡ self.now) }
+        ensures err { IfErr result (λ e. e ≡ DocFault.Memory) }
+    {
+        match String::from_str(alloc, self.text()) {
+            Ok(text) => Ok(DocId { text }),
+            Err(_) => Err(DocFault::Memory),
+        }
+    }
+}
+
+impl PartialEq for DocId {
+    ghost eq = { pointwise nat_eq };
+
+    ghost laws = { Cmp.partial_equiv_from_equiv nat_list_eq_equiv };
+
+    fn eq(&self, other: &DocId) -> bool {
+        self.text().as_bytes() == other.text().as_bytes()
+    }
+}
+
+impl Eq for DocId {
+    ghost laws = { nat_list_eq_equiv };
+}
+
+impl PartialOrd for DocId {
+    ghost partial_cmp = { as_partial_cmp (slice_cmp nat_cmp) };
+
+    ghost laws = { partial_order_from_own_ties (Prim.search (comparing, rules)) (Prim.search (comparing, rules)) };
+
+    fn partial_cmp(&self, other: &DocId) -> Option<Ordering> {
+        Some(self.cmp(other))
+    }
+}
+
+impl Ord for DocId {
+    ghost cmp = { slice_cmp nat_cmp };
+
+    ghost total = { Prim.search (comparing, rules) };
+
+    ghost matches_partial_cmp = { Prim.search (comparing, rules) };
+
+    ghost matches_eq = { Prim.search (comparing, rules) };
+
+    fn cmp(&self, other: &DocId) -> Ordering {
+        self.text().as_bytes().cmp(other.text().as_bytes())
+    }
+}
+
+impl Hash for DocId {
+    ghost hash_input = { fed.slice fed.u8 };
+
+    ghost respects_eq = { Prim.search (hashing, rules) };
+
+    fn hash<H: Hasher>(&self, state: &mut H) {
+        self.text().as_bytes().hash(state);
+    }
+}
+
+/// Why a text is no id, where it is none.
+pub(crate) fn check_id(text: &str) -> Result<(), DocFault>
+    ensures ok { OnOk result (doc_id_read text.now ≡ Ok text.now) }
+    ensures err { IfErr result (λ e. doc_id_read text.now ≡ Err e) }
+{
+    if text.is_empty() {
+        return Err(DocFault::NoId);
+    }
+    if is_special(text) && !is_design(text) {
+        return Err(DocFault::ReservedId);
+    }
+    Ok(())
+}
+
+/// Whether a text begins with `_`.
+pub(crate) fn is_special(text: &str) -> bool
+    ensures { result ≡ is_special text.now }
+{
+    match text.as_bytes().first() {
+        Some(first) => *first == b'_',
+        None => false,
+    }
+}
+
+/// Whether a text is `_design/` and at least one character more.
+fn is_design(text: &str) -> bool
+    ensures { result ≡ is_design text.now }
+{
+    text.as_bytes().starts_with(b"_design/") && text.len() > 8
+}

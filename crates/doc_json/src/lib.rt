@@ -1,0 +1,24 @@
+//! Documents of CouchDB as JSON: what is read from a value, and the text that is written.
+//!
+//! The rules stand in docs/PROFILE.md: "Document ids", "Documents", "What `read_doc` accepts" and
+//! "What `write_doc` writes".
+#![tactic(auto)]
+
+mod body;
+mod doc;
+mod doc_id;
+mod fault;
+mod members;
+mod read;
+mod revisions;
+mod write;
+
+pub use body::{Body, read_body};
+pub use doc::Doc;
+pub use doc_id::DocId;
+pub use fault::DocFault;
+pub use read::read_doc;
+pub use write::write_doc;
+
+#[cfg(test)]
+mod tests;

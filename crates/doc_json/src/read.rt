@@ -1,0 +1,86 @@
+//! Reading documents.
+ghost use Rattle.std.specs.Prelude.{◌≡◌, Ok, Err, IfOk, IfErr, option_map};
+ghost use Rattle.serde_json.specs.View.{view};
+ghost use Rattle.doc_json.specs.Answers.{GivesUnlessMemory};
+ghost use Rattle.doc_json.specs.DocId.{doc_id_read};
+ghost use Rattle.doc_json.specs.DocRead.{doc_read, flag_of, id_member};
+
+use crate::doc::Doc;
+use crate::doc_id::{DocId, check_id};
+use crate::fault::DocFault;
+use crate::{body, members, revisions};
+use serde_json::Value;
+use std::alloc::Global;
+
+/// The document that a JSON value is. Members `_conflicts`, `_deleted_conflicts`, `_revs_info` and
+/// `_local_seq` are passed over.
+///
+/// The first of these refusals is the answer: `NotObject`; `NoId` where `_id` is absent, no text, or empty;
+/// `ReservedId` where it begins with `_` and is no design document's; `Attachments` where there is a member
+/// `_attachments`; `SpecialMember` where another member begins with `_` and is not known, or `_deleted` is
+/// neither true nor false; `NoRev` where `_rev` is no revision id, or neither `_rev` nor `_revisions` is
+/// there; `BadRevisions` where `_revisions` is no ancestry; `RevMismatch` where `_rev` is not its newest
+/// revision; `Fraction` where a member without a leading `_` holds, at any depth, a number that is neither
+/// an i64 nor a u64. `Memory` stands only in the place of a document.
+pub fn read_doc(alloc: Global, value: &Value) -> Result<Doc, DocFault>
+    ensures { GivesUnlessMemory result (doc_read (view value.now)) }
+{
+    let Some(members) = value.as_object() else {
+        return Err(DocFault::NotObject);
+    };
+    let id = match find_id(value) {
+        Ok(id) => id,
+        Err(fault) => return Err(fault),
+    };
+    if value.get("_attachments").is_some() {
+        return Err(DocFault::Attachments);
+    }
+    if members::has_unknown(members) {
+        return Err(DocFault::SpecialMember);
+    }
+    let deleted = match read_flag(value.get("_deleted")) {
+        Ok(deleted) => deleted,
+        Err(fault) => return Err(fault),
+    };
+    if let Err(fault) = revisions::check_revs(value) {
+        return Err(fault);
+    }
+    if members::plain_members_have_fraction(members) {
+        return Err(DocFault::Fraction);
+    }
+    let Ok(id) = DocId::of_checked(alloc, id) else {
+        return Err(DocFault::Memory);
+    };
+    let Ok(ancestry) = revisions::build_revs(alloc, value) else {
+        return Err(DocFault::Memory);
+    };
+    let Ok(body) = body::plain_body(alloc, members) else {
+        return Err(DocFault::Memory);
+    };
+    Ok(Doc::new(id, ancestry, deleted, body))
+}
+
+/// The text of a document's id.
+fn find_id(value: &Value) -> Result<&str, DocFault>
+    ensures id { IfOk result (λ text. id_member (view value.now) ≡ Ok text.now) }
+    ensures read { IfOk result (λ text. doc_id_read text.now ≡ Ok text.now) }
+    ensures err { IfErr result (λ e. id_member (view value.now) ≡ Err e) }
+{
+    let Some(text) = value.get("_id").and_then(Value::as_str) else {
+        return Err(DocFault::NoId);
+    };
+    match check_id(text) {
+        Ok(()) => Ok(text),
+        Err(fault) => Err(fault),
+    }
+}
+
+/// The flag of a member `_deleted`, false where it is absent.
+fn read_flag(member: Option<&Value>) -> Result<bool, DocFault>
+    ensures { result ≡ flag_of (option_map (λ v. view v.now) member.entry) }
+{
+    match member {
+        None => Ok(false),
+        Some(value) => value.as_bool().ok_or(DocFault::SpecialMember),
+    }
+}

@@ -1,0 +1,132 @@
+//! Writing documents.
+ghost use Rattle.std.specs.Prelude.{◌≡◌, ◌++◌, Ok, Some, OnOk, IfOk, IfErr};
+ghost use Rattle.serde_json.specs.Data.{Data, string};
+ghost use Rattle.serde_json.specs.Read.{read};
+ghost use Rattle.serde_json.specs.Written.{compact_text};
+ghost use Rattle.doc_json.specs.DocRead.{doc_read};
+ghost use Rattle.doc_json.specs.DocText.{doc_text, revs_text, head_text, start_text, sig_text};
+ghost use Rattle.doc_json.specs.DocText.{sig_texts, deleted_text, rest_text};
+
+use crate::doc::Doc;
+use crate::fault::DocFault;
+use rev_core::{Ancestry, Rev};
+use serde_json::Value;
+use std::alloc::{AllocError, Global};
+
+/// The text of a document, in compact form with its members in the order `_id`, `_rev`, `_revisions`,
+/// `_deleted` where it is deleted, and those of the body. The only error is `Memory`.
+///
+/// Where `serde_json` reads the text, `read_doc` gives the document back.
+pub fn write_doc(alloc: Global, doc: &Doc) -> Result<Vec<u8>, DocFault>
+    ensures text { IfOk result (λ v. v.items ≡ doc_text doc.now) }
+    ensures reads_back { (d : Data) → read (doc_text doc.now) ≡ Some d → doc_read d ≡ Ok doc.now }
+    ensures err { IfErr result (λ e. e ≡ DocFault.Memory) }
+{
+    let _deleted = doc.deleted();
+    match written(alloc, doc) {
+        Ok(text) => Ok(text),
+        Err(_) => Err(DocFault::Memory),
+    }
+}
+
+/// The text of a document.
+fn written(alloc: Global, doc: &Doc) -> Result<Vec<u8>, AllocError>
+    ensures { IfOk result (λ v. v.items ≡ doc_text doc.now) }
+{
+    let mut out = Vec::with_capacity(alloc, 128)?;
+    out.extend_from_slice(b"{\"_id\":")?;
+    push_json(alloc, &mut out, doc.id().text())?;
+    push_revs(alloc, &mut out, doc.ancestry())?;
+    out.extend_from_slice(deleted_text(doc.deleted()))?;
+    push_rest(&mut out, doc.body().text())?;
+    Ok(out)
+}
+
+/// `_rev` and `_revisions`, each behind a comma.
+fn push_revs(alloc: Global, out: &mut Vec<u8>, ancestry: &Ancestry) -> Result<(), AllocError>
+    ensures { OnOk result (out.new.items ≡ out.old.items ++ revs_text ancestry.now) }
+{
+    out.extend_from_slice(b",\"_rev\":\"")?;
+    push_head(alloc, out, ancestry)?;
+    out.extend_from_slice(b"\",\"_revisions\":{\"start\":")?;
+    push_start(alloc, out, ancestry)?;
+    out.extend_from_slice(b",\"ids\":[")?;
+    push_sigs(out, ancestry.revs())?;
+    out.extend_from_slice(b"]}")?;
+    Ok(())
+}
+
+/// A text as JSON.
+fn push_json(alloc: Global, out: &mut Vec<u8>, text: &str) -> Result<(), AllocError>
+    ensures { OnOk result (out.new.items ≡ out.old.items ++ compact_text (string text.now)) }
+{
+    let text = Value::try_from_str(alloc, text)?.to_vec(alloc)?;
+    out.extend_from_slice(&text)?;
+    Ok(())
+}
+
+/// The newest revision.
+fn push_head(alloc: Global, out: &mut Vec<u8>, ancestry: &Ancestry) -> Result<(), AllocError>
+    ensures { OnOk result (out.new.items ≡ out.old.items ++ head_text ancestry.now) }
+{
+    let Ok(text) = ancestry.head().write(alloc) else {
+        return Err(AllocError);
+    };
+    out.extend_from_slice(&text)?;
+    Ok(())
+}
+
+/// The newest revision's generation.
+fn push_start(alloc: Global, out: &mut Vec<u8>, ancestry: &Ancestry) -> Result<(), AllocError>
+    ensures { OnOk result (out.new.items ≡ out.old.items ++ start_text ancestry.now) }
+{
+    let start = ancestry.head().generation();
+    let text = format!(in alloc; "{start}")?;
+    out.extend_from_slice(text.as_bytes())?;
+    Ok(())
+}
+
+/// The signatures, each in quotation marks.
+fn push_sigs(out: &mut Vec<u8>, revs: &[Rev]) -> Result<(), AllocError>
+    ensures { OnOk result (out.new.items ≡ out.old.items ++ sig_texts revs.now) }
+{
+    for i in 0..revs.len() {
+        if i > 0 {
+            out.push(b',')?;
+        }
+        push_sig(out, revs[i])?;
+    }
+    Ok(())
+}
+
+/// A signature in quotation marks.
+fn push_sig(out: &mut Vec<u8>, rev: Rev) -> Result<(), AllocError>
+    ensures { OnOk result (out.new.items ≡ out.old.items ++ sig_text rev) }
+{
+    out.push(b'"')?;
+    out.extend_from_slice(rev.sig().bytes())?;
+    out.push(b'"')?;
+    Ok(())
+}
+
+/// The mark of a deleted document.
+fn deleted_text(deleted: bool) -> &'static [u8]
+    ensures { result.now ≡ deleted_text deleted }
+{
+    if deleted { b",\"_deleted\":true" } else { b"" }
+}
+
+/// The body's members, and the end of the object.
+fn push_rest(out: &mut Vec<u8>, body: &[u8]) -> Result<(), AllocError>
+    ensures { OnOk result (out.new.items ≡ out.old.items ++ rest_text body.now) }
+{
+    if body == b"{}".as_slice() {
+        out.push(b'}')?;
+        return Ok(());
+    }
+    out.push(b',')?;
+    if let Some((_, rest)) = body.split_first() {
+        out.extend_from_slice(rest)?;
+    }
+    Ok(())
+}

@@ -1,0 +1,9 @@
+pub mod Answers
+pub mod Entry
+pub mod Log
+pub mod LogLaws
+pub mod Places
+pub mod Time
+pub mod TimeLaws
+pub mod Text
+pub mod TextLaws

@@ -1,0 +1,77 @@
+-- Texts of replication ids and logs: docs/PROFILE.md, "Replication ids and logs".
+use Rattle.std.specs.Prelude.{ℕ, ◌<◌, ◌^◌, List, [], ◌∷◌, ◌++◌, map, codes, Result, Ok, Err}
+use Rattle.std.specs.Int.{w128, to_be_bytes}
+use Rattle.hex.specs.Hex.{encode_lower}
+use Rattle.serde_json.specs.Data.{Data, number, unsigned, string, array, object, Items, Members, no_members, member}
+use Rattle.serde_json.specs.View.{items_of}
+use Rattle.serde_json.specs.Written.{compact_text}
+use Rattle.repl_log.specs.declared.fault.LogFault.{LogFault}
+use Rattle.repl_log.specs.declared.fault.LogFault.TheVariants as faults
+use Rattle.repl_log.specs.declared.replication.RepId.{RepId}
+use Rattle.repl_log.specs.Entry.{EntryValue}
+use Rattle.repl_log.specs.Time.{time_text}
+
+-- the 32 lower case hexadecimal digits of a number below 2^128
+unfoldable pub id_digits : ℕ → List ℕ
+id_digits n = encode_lower (to_be_bytes w128 n)
+
+-- ---- replication ids
+
+-- both numbers are those of a UUID
+pub record IsRepId (id : RepId) : Type 0 where
+  pub source : id.source < 2 ^ 128
+  pub target : id.target < 2 ^ 128
+
+-- the source's digits, a dash, and the target's
+abbrev pub rep_text : RepId → List ℕ
+rep_text id = id_digits id.source ++ 45 ∷ id_digits id.target
+
+-- ---- logs
+
+-- the members of an object, in order
+abbrev pub members : List (List ℕ × Data) → Members
+members [] = no_members
+members (m ∷ ms) = member m.0 m.1 (members ms)
+
+abbrev pub whole : ℕ → Data
+whole n = number (unsigned n)
+
+-- an entry of the history, with the texts of its session and its two times
+abbrev pub entry_with : EntryValue → List ℕ → List ℕ → List ℕ → Data
+entry_with e session_id start_time end_time =
+    object (members
+    ((codes "doc_write_failures", whole e.failures)
+    ∷ (codes "docs_read", whole e.read)
+    ∷ (codes "docs_written", whole e.written)
+    ∷ (codes "end_last_seq", whole e.recorded)
+    ∷ (codes "end_time", string end_time)
+    ∷ (codes "missing_checked", whole e.checked)
+    ∷ (codes "missing_found", whole e.found)
+    ∷ (codes "recorded_seq", whole e.recorded)
+    ∷ (codes "session_id", string session_id)
+    ∷ (codes "start_last_seq", whole e.start)
+    ∷ (codes "start_time", string start_time)
+    ∷ []))
+
+abbrev pub entry_json : EntryValue → Data
+entry_json e = entry_with e (id_digits e.session.0) (time_text e.start_time) (time_text e.end_time)
+
+-- a log, newest first, by its replication id's text, its history and the session and the recorded sequence of its newest
+-- entry
+abbrev pub log_with : List ℕ → Items → List ℕ → ℕ → Data
+log_with name history session_id recorded =
+    object (members
+    ((codes "_id", string (codes "_local/" ++ name))
+    ∷ (codes "history", array history)
+    ∷ (codes "replication_id_version", whole 3)
+    ∷ (codes "session_id", string session_id)
+    ∷ (codes "source_last_seq", whole recorded)
+    ∷ []))
+
+abbrev pub log_json : RepId → EntryValue → List EntryValue → Data
+log_json id newest log = log_with (rep_text id) (items_of (map entry_json log)) (id_digits newest.session.0) newest.recorded
+
+-- the text of a log, which is that of its object in compact form; a log without entries has none
+abbrev pub log_text : RepId → List EntryValue → Result (List ℕ) LogFault
+log_text id [] = Err faults.EmptyLog
+log_text id (newest ∷ older) = Ok (compact_text (log_json id newest (newest ∷ older)))

@@ -1,0 +1,36 @@
+-- The IMF-fixdate text of a moment (RFC 9110, 5.6.7), by httpdate's calendar and form.
+use Rattle.std.specs.Prelude.{ℕ, zero, suc, ◌+◌, ◌-◌, ◌/◌, ◌%◌, nat_lt, if◌then◌else◌, List}
+use Rattle.httpdate.specs.declared.parts.Parts.{Parts}
+use Rattle.httpdate.specs.Calendar.{days_of_years, days_of_months, weekday}
+use Rattle.httpdate.specs.Text.{imf_fixdate}
+
+-- the first number from n on, of `left` more at most, behind which f passes x
+unfoldable pub place_from : ℕ → ℕ → (ℕ → ℕ) → ℕ → ℕ
+place_from zero n f x = n
+place_from (suc left) n f x = if nat_lt x (f (n + 1)) then n else place_from left (n + 1) f x
+
+-- the year in which a day lies, up to 9999; days are counted from 1 January 1970, which is day 0
+unfoldable pub year_of : ℕ → ℕ
+year_of day = 1970 + place_from 8029 0 days_of_years day
+
+-- how many days of its year lie before it
+unfoldable pub day_of_year : ℕ → ℕ
+day_of_year day = day - days_of_years (year_of day - 1970)
+
+-- the month in which it lies
+unfoldable pub month_of : ℕ → ℕ
+month_of day = 1 + place_from 11 0 (days_of_months (year_of day)) (day_of_year day)
+
+-- which day of that month it is
+unfoldable pub day_of_month : ℕ → ℕ
+day_of_month day = 1 + (day_of_year day - days_of_months (year_of day) (month_of day - 1))
+
+-- the numbers that a second's date shows
+unfoldable pub parts_of : ℕ → Parts
+parts_of seconds =
+    let day = seconds / 86400 in
+    record { year = year_of day; mon = month_of day; day = day_of_month day; hour = seconds % 86400 / 3600; min = seconds % 3600 / 60; sec = seconds % 60; wday = weekday day }
+
+-- the text of a moment, which is seconds since 1970
+unfoldable pub time_text : ℕ → List ℕ
+time_text seconds = imf_fixdate (parts_of seconds)

@@ -1,0 +1,21 @@
+//! Where two logs agree.
+ghost use Rattle.std.specs.Prelude.{◌≡◌, IfSome, IfNone};
+ghost use Rattle.repl_log.specs.Log.{common, IsCommon, IsUnshared};
+
+use crate::log::Log;
+use rev_tree::SessionId;
+
+/// The newest session of the target's log that the source's log also holds, with the lesser of its two recorded
+/// sequences (docs/PROFILE.md, "Common checkpoint"). None where the logs share no session.
+pub fn common(source: &Log, target: &Log) -> Option<(SessionId, u64)>
+    ensures value { result ≡ common source.now target.now }
+    ensures shared { IfSome result (λ c. IsCommon source.now target.now c.0 c.1) }
+    ensures unshared { IfNone result (IsUnshared source.now target.now) }
+{
+    for entry in target.entries() {
+        if let Some(recorded) = source.recorded_of(entry.session) {
+            return Some((entry.session, recorded.min(entry.recorded)));
+        }
+    }
+    None
+}

@@ -1,0 +1,20 @@
+//! What the calls of this crate refuse.
+
+use thiserror::Error;
+
+/// Why a moment, an entry or a log is refused, or that memory ran out.
+#[derive(Clone, Copy, Debug, PartialEq, Eq, Error)]
+pub enum LogFault {
+    /// The moment lies after the year 9999.
+    #[error("a moment after the year 9999")]
+    BadMoment,
+    /// The log's entry of this session has a greater recorded sequence, which is `stored`.
+    #[error("older than the stored entry, which recorded {stored}")]
+    Older { stored: u64 },
+    /// A log without entries has no text.
+    #[error("a log without entries")]
+    EmptyLog,
+    /// An allocation was refused.
+    #[error("out of memory")]
+    Memory,
+}

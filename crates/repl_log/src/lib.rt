@@ -1,0 +1,23 @@
+//! Logs of replications, and where two sides agree that the next one may start.
+//!
+//! The rules stand in docs/PROFILE.md: "Replication ids and logs", "Common checkpoint" and "Limits".
+#![tactic(auto)]
+
+mod checkpoint;
+mod entry;
+mod fault;
+mod log;
+mod moment;
+mod replication;
+mod text;
+
+pub use checkpoint::common;
+pub use entry::Entry;
+pub use fault::LogFault;
+pub use log::Log;
+pub use moment::Moment;
+pub use replication::RepId;
+pub use text::{rep_id, write_log};
+
+#[cfg(test)]
+mod tests;

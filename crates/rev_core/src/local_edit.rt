@@ -1,0 +1,80 @@
+//! The ids of local edits.
+ghost use Rattle.std.specs.Prelude.{◌≡◌, IfOk, IfErr};
+ghost use Rattle.hex.specs.Hex.{encode_lower};
+ghost use Rattle.rev_core.specs.Rev.{IsRev};
+ghost use Rattle.rev_core.specs.Answers.{GivesUnlessMemory};
+ghost use Rattle.rev_core.specs.NewRev.{edit_rev, edit_sig, kind_text, parent_text};
+
+use crate::fault::RevFault;
+use crate::rev::Rev;
+use crate::sig::Sig;
+use md5::{Digest, Md5};
+use std::alloc::Global;
+
+/// The id that a local edit gives its document: the generation after the parent's, and a signature that
+/// names the parent, whether the edit deletes, and the body's compact text.
+///
+/// `GenerationFull` where the parent has the greatest generation, 4,294,967,295.
+pub fn new_rev(
+    alloc: Global,
+    parent: Option<Rev>,
+    deleted: bool,
+    body: &[u8],
+) -> Result<Rev, RevFault>
+    ensures answer { GivesUnlessMemory result (edit_rev parent deleted body.now) }
+    ensures is_rev { IfOk result IsRev }
+{
+    let generation = match parent {
+        Some(rev) => rev.generation(),
+        None => 0,
+    };
+    if generation == u32::MAX {
+        return Err(RevFault::GenerationFull);
+    }
+    match edit_sig(alloc, parent, deleted, body) {
+        Ok(sig) => Ok(Rev::new(generation + 1, sig)),
+        Err(fault) => Err(fault),
+    }
+}
+
+/// The digits of the digest of the parent's text, the kind of the edit and the body, a line feed between each.
+fn edit_sig(alloc: Global, parent: Option<Rev>, deleted: bool, body: &[u8]) -> Result<Sig, RevFault>
+    ensures sig { IfOk result (λ s. s ≡ edit_sig parent deleted body.now) }
+    ensures err { IfErr result (λ e. e ≡ RevFault.Memory) }
+{
+    let before = parent_text(alloc, parent)?;
+    let mut hasher = Md5::new();
+    hasher.update(before.as_slice());
+    hasher.update(b"\n");
+    hasher.update(kind_text(deleted));
+    hasher.update(b"\n");
+    hasher.update(body);
+    Ok(digits(&hasher.finalize()))
+}
+
+/// The parent's text, or nothing.
+fn parent_text(alloc: Global, parent: Option<Rev>) -> Result<Vec<u8>, RevFault>
+    ensures text { IfOk result (λ v. v.items ≡ parent_text parent) }
+    ensures err { IfErr result (λ e. e ≡ RevFault.Memory) }
+{
+    match parent {
+        Some(rev) => rev.write(alloc),
+        None => Ok(Vec::new(alloc)),
+    }
+}
+
+/// Whether the edit deletes its document.
+fn kind_text(deleted: bool) -> &'static [u8]
+    ensures { result.now ≡ kind_text deleted }
+{
+    if deleted { b"deleted" } else { b"live" }
+}
+
+/// A digest as lower case hexadecimal digits.
+fn digits(digest: &[u8; 16]) -> Sig
+    ensures { result ≡ encode_lower digest.now }
+{
+    let mut text = [0; 32];
+    hex::encode_to_slice(digest.as_slice(), &mut text).unwrap();
+    Sig::parse(&text).unwrap()
+}
