@@ -4,7 +4,6 @@
 
 mod documents;
 mod fronts;
-mod logs;
 mod revisions;
 mod trees;
 
@@ -14,7 +13,6 @@ fn main(rt: HostRuntime) -> Result<()> {
     revisions::run(&rt, rt.alloc())?;
     trees::run(&rt, rt.alloc())?;
     fronts::run(&rt, rt.alloc())?;
-    logs::run(&rt, rt.alloc())?;
     documents::run(&rt, rt.alloc())?;
     Ok(())
 }
