@@ -1,5 +1,5 @@
 -- Where the winner is deleted all leaves are.
-use Rattle.std.proofs.Common.{◌≡◌, Bool, true, false, T, ◌&&◌, List, [], ◌∷◌, map, filter, Some, None, sym, ap, subst, ◌∙◌, refl}
+use Rattle.std.proofs.Common.{◌≡◌, Bool, true, false, T, ◌&&◌, List, [], ◌∷◌, map, filter, Some, ap, subst, ◌∙◌, refl}
 use Rattle.std.specs.List.{list_all}
 use Rattle.std.specs.Ordering.{is_lt, bool_cmp, ordering_then}
 use Rattle.std.specs.FinMap as finmap
@@ -8,7 +8,7 @@ use Rattle.std.specs.FinMap.Entries.{is_sorted, below_all}
 use Rattle.rev_core.specs.Rev.{RevId, rev_cmp}
 use Rattle.rev_tree.specs.InOrder.{marked, first_of}
 use Rattle.rev_tree.specs.Tree.{TreeValue, is_deleted, is_leaf, leaf_cmp, leaves}
-use Rattle.couch_base.proofs.Found.{some_is, none_some}
+use Rattle.couch_base.specs.ListLaws.{some_is, none_some}
 
 both_hold : (a b : Bool) → T (a && b) → T a × T b
 both_hold true b h = (tt, h)
@@ -43,8 +43,3 @@ pub all_deleted : (t : TreeValue) (w : RevId) → first_of (leaves t) ≡ Some w
 all_deleted t w first =
     let m = from_entries {R = leaf_cmp t} (marked (filter (is_leaf t) (finmap.keys t.origins))) in
     all_sorted t (entries m) w (entries_sorted m) first
-
--- a list without a first element has none
-pub no_first : {X : Type 0} (xs : List X) → first_of xs ≡ None → xs ≡ []
-no_first [] h = refl
-no_first (x ∷ xs) h = absurd (none_some x (sym h))

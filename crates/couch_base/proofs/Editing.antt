@@ -1,9 +1,8 @@
 -- What an edit leaves.
-use Rattle.std.proofs.Common.{◌≡◌, ℕ, ◌+◌, ◌<◌, Bool, true, false, ◌&&◌, List, [], ◌∷◌, Option, Some, None, is_some, Ok, Err, cond, sym, ap, subst, ◌∙◌, refl}
+use Rattle.std.proofs.Common.{◌≡◌, ℕ, ◌+◌, ◌<◌, Bool, false, ◌&&◌, List, ◌∷◌, Option, Some, None, is_some, Ok, Err, sym, ap, ◌∙◌, refl}
 use Rattle.std.specs.Prelude.{Result, unwrap_or}
-use Rattle.std.specs.List.{list_all, AllByRecursion}
+use Rattle.std.specs.List.{list_all}
 use Rattle.std.specs.Option.{option_or, option_to_list}
-use Rattle.std.specs.Str.{bytes_eq}
 use Rattle.std.specs.FinMap.{get, get-empty}
 use Rattle.std.proofs.lemmas.Bool.{false≢true}
 use Rattle.rev_core.specs.Rev.{RevId, rev_cmp}
@@ -11,23 +10,16 @@ use Rattle.rev_core.specs.Ancestry.{edges_of, head_of}
 use Rattle.rev_tree.specs.Tree.{TreeValue, IsTree, has, has_edge, no_revisions, first_contradiction, contradiction_at, is_same, at_head, merged}
 use Rattle.rev_tree.specs.declared.origin.Origin.{Origin}
 use Rattle.couch_base.specs.Answers.{◌>>=◌, refused_if}
-use Rattle.couch_base.specs.Database.{Id, DocumentValue, DatabaseValue, LawfulDatabase, IsDocumentTree, tree_in, tree_of, with_tree, most}
+use Rattle.couch_base.specs.Database.{Id, DatabaseValue, LawfulDatabase, tree_in, tree_of, with_tree, most}
+use Rattle.couch_base.specs.DatabaseLaws.{IsDocumentTree-tree_in}
 use Rattle.couch_base.specs.Put.{content_of}
 use Rattle.couch_base.specs.Edit.{parent_answer, edit_id, edit_revs, edited, edit_document, after_edited, after_edit}
 use Rattle.couch_base.specs.declared.fault.BaseFault.{BaseFault}
 use Rattle.couch_base.specs.declared.fault.BaseFault.TheVariants as faults
-use Rattle.couch_base.proofs.Found.{some_is, none_some}
+use Rattle.couch_base.specs.ListLaws.{some_is}
 use Rattle.couch_base.proofs.Putting.{answer-changed, after_put-changed}
 
--- ---- the trees of a lawful database
-
-document_tree : (ds : List DocumentValue) → AllByRecursion (λ (d : DocumentValue). IsDocumentTree d.tree) ds → (id : Id) (t : TreeValue) → tree_in ds id ≡ Some t → IsDocumentTree t
-document_tree [] all id t is = absurd (none_some t is)
-document_tree (d ∷ ds) all id t is =
-    elim (bytes_eq d.id id) as (λ b. cond b (Some d.tree) (tree_in ds id) ≡ Some t → IsDocumentTree t) [
-      | true ↦ λ h. subst IsDocumentTree (some_is d.tree t h) all.0
-      | false ↦ λ h. document_tree ds all.1 id t h
-    ] is
+-- ---- a new revision
 
 -- a revision that isn't there has no parent
 no_parent_in : (t : TreeValue) → IsTree t → (r : RevId) → has t r ≡ false → get t.parents r ≡ None
@@ -44,7 +36,7 @@ no_parent db law id r absent = go (tree_in db.docs id) refl
     go None is = ap (λ o. get (unwrap_or o no_revisions).parents r) is ∙ get-empty rev_cmp r
     go (Some t) is =
         ap (λ o. get (unwrap_or o no_revisions).parents r) is
-        ∙ no_parent_in t (document_tree db.docs law.trees id t is).tree r (sym (ap (λ o. has (unwrap_or o no_revisions) r) is) ∙ absent)
+        ∙ no_parent_in t (IsDocumentTree-tree_in db law id t is).tree r (sym (ap (λ o. has (unwrap_or o no_revisions) r) is) ∙ absent)
 
 -- ---- a new revision on another
 

@@ -1,15 +1,15 @@
 -- What a look-up by id finds.
-use Rattle.std.proofs.Common.{◌≡◌, ℕ, List, [], ◌∷◌, Option, Some, None, Bool, true, false, cond, is_some, sym, ap, ◌∙◌, refl, arith}
+use Rattle.std.proofs.Common.{◌≡◌, ℕ, List, [], ◌∷◌, Option, Some, None, Bool, true, false, cond, sym, ap, ◌∙◌, refl, arith}
 use Rattle.std.proofs.Common.{inl, inr}
-use Rattle.std.proofs.lemmas.Bool.{false≢true, cond_both, both_ways, eqb-true}
+use Rattle.std.proofs.lemmas.Bool.{cond_both, both_ways, eqb-true}
 use Rattle.std.proofs.lemmas.Slice.Eq.{bytes_eq-Decides}
 use Rattle.std.specs.Ordering.{nat_cmp}
 use Rattle.std.specs.BTreeMap.{is_at}
-use Rattle.std.specs.Option.{option_map_or}
 use Rattle.std.specs.Prelude.{unwrap_or}
 use Rattle.std.specs.Cmp.{unsigned_ties}
 use Rattle.std.specs.Str.{bytes_eq}
 use Rattle.rev_tree.specs.Tree.{no_revisions}
+use Rattle.couch_base.specs.ListLaws.{some_is, none_some}
 use Rattle.couch_base.specs.Lists.{Among}
 use Rattle.couch_base.specs.Database.{Id, tree_in, tree_of}
 use Rattle.couch_base.specs.Table.{at_seq, seq_of, tree_at, documents, IsTable}
@@ -31,12 +31,6 @@ seq_same a = sym (unsigned_ties a a) ∙ grind (arith)
 pub not_true : (b : Bool) → (b ≡ true → ⊥) → b ≡ false
 not_true true h = absurd (h refl)
 not_true false h = refl
-
-pub some_is : {X : Type 0} (x y : X) → Some x ≡ Some y → x ≡ y
-some_is x y e = ap (λ o. option_map_or (λ v. v) o x) e
-
-pub none_some : {X : Type 0} (x : X) → None ≡ Some x → ⊥
-none_some x e = false≢true (ap is_some e)
 
 -- an id that the table hasn't is no document's
 pub none_in : (g : Id → Option Kept) (index : List (ℕ × Id)) (id : Id) → ((e : ℕ × Id) → Among e index → seq_of (g e.1) ≡ Some e.0) → g id ≡ None → tree_in (documents g index) id ≡ None

@@ -8,7 +8,8 @@ use Rattle.std.specs.BTreeMap.{is_at, insert_entry}
 use Rattle.std.specs.Map.{remove_entry}
 use Rattle.couch_base.specs.Database.{Id}
 use Rattle.couch_base.specs.Table.{at_seq, AllBelow}
-use Rattle.couch_base.proofs.Found.{seq_is, seq_same, not_true, none_some}
+use Rattle.couch_base.specs.ListLaws.{none_some}
+use Rattle.couch_base.proofs.Found.{seq_is, seq_same, not_true}
 use Rattle.couch_base.proofs.Rising.{Rising, rising_le}
 
 keep_tail : (b : Bool) (a q : Id) (o p : Option Id) → (o ≡ Some q → p ≡ Some q) → cond b (Some a) o ≡ Some q → cond b (Some a) p ≡ Some q

@@ -6,7 +6,8 @@ use Rattle.couch_base.specs.Lists.{Among, Rises, EachOnce}
 use Rattle.couch_base.specs.Database.{Id, DocumentValue, LawfulDatabase, IsDocumentTree}
 use Rattle.couch_base.specs.Table.{documents, seq_of, tree_at, IsTable}
 use Rattle.couch_base.specs.declared.kept.Kept.{Kept}
-use Rattle.couch_base.proofs.Found.{id_is, not_true, some_is}
+use Rattle.couch_base.specs.ListLaws.{some_is}
+use Rattle.couch_base.proofs.Found.{id_is, not_true}
 use Rattle.couch_base.proofs.Rising.{Rising, member_over}
 use Rattle.couch_base.proofs.Moves.{kept_at}
 

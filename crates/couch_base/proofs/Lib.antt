@@ -3,10 +3,10 @@ mod Rising
 mod Index
 mod Moves
 mod Writing
-mod DocumentTrees
 mod Laws
 mod Pages
 mod Edges
 mod Putting
 mod Deleted
 mod Editing
+mod Exchanging

@@ -10,7 +10,8 @@ use Rattle.couch_base.specs.Lists.{Among}
 use Rattle.couch_base.specs.Database.{Id, DocumentValue, IsDocumentTree, without, most}
 use Rattle.couch_base.specs.Table.{at_seq, seq_of, tree_at, document, documents, IsTable, Sets}
 use Rattle.couch_base.specs.declared.kept.Kept.{Kept}
-use Rattle.couch_base.proofs.Found.{id_is, id_same, seq_is, seq_same, not_true, some_is, none_some}
+use Rattle.couch_base.specs.ListLaws.{some_is, none_some}
+use Rattle.couch_base.proofs.Found.{id_is, id_same, seq_is, seq_same, not_true}
 use Rattle.couch_base.proofs.Rising.{Rising, member_over, all_below, rising_append, rising_remove, among_append, among_remove, apart_remove}
 use Rattle.couch_base.proofs.Index.{at_append, at_new, at_remove, at_upto, remove_append}
 

@@ -1,11 +1,10 @@
 -- Pages.
-use Rattle.std.proofs.Common.{◌≡◌, ℕ, zero, suc, ◌-◌, is_lt, Less, Equal, Greater, append-nil, ◌<◌, ◌≤◌, List, [], ◌∷◌, ◌++◌, map, length, take, Option, Some, Bool, true, false, cond, sym, ap, ◌∙◌, refl, arith, append_assoc, length-append}
+use Rattle.std.proofs.Common.{◌≡◌, ℕ, ◌-◌, is_lt, Less, Equal, Greater, ◌<◌, ◌≤◌, List, [], ◌∷◌, ◌++◌, map, length, take, Option, Some, Bool, true, false, cond, ap, ◌∙◌, refl, arith}
 use Rattle.std.specs.Prelude.{if◌then◌else◌, Ok, Err, slice_range, ◌==◌, not, ◌&&◌, nat_lt, nat_le, slice_get}
 use Rattle.std.specs.List.{filter}
 use Rattle.std.specs.Ordering.{nat_cmp}
 use Rattle.std.specs.BTreeMap.Range.{entries_between, range_contains}
 use Rattle.std.specs.declared.ops.Bound.TheVariants.{Included, Excluded}
-use Rattle.std.proofs.Math.Seq.{take-append_seam}
 use Rattle.std.proofs.lemmas.Option.{slice_get_within}
 use Rattle.indexmap.proofs.MapLemmas.{split_last}
 use Rattle.couch_base.specs.Database.{Id, DocumentValue, DatabaseValue}
@@ -22,18 +21,6 @@ row_at g e = row_of (document g e)
 pub record Collected (g : Id → Option Kept) (done : List RowValue) (left all : List (ℕ × Id)) (limit : ℕ) : Type 0 where
   pub whole : done ++ map (row_at g) left ≡ map (row_at g) all
   pub small : length done ≤ limit
-
-pub take_all : {X : Type 0} (n : ℕ) (xs : List X) → length xs ≤ n → take n xs ≡ xs
-take_all zero [] h = refl
-take_all zero (x ∷ xs) h = absurd (omega (arith, h))
-take_all (suc n) [] h = refl
-take_all (suc n) (x ∷ xs) h = ap (λ l. x ∷ l) (take_all n xs (omega (arith, h)))
-
-pub collected_next : (g : Id → Option Kept) (done : List RowValue) (e : ℕ × Id) (left all : List (ℕ × Id)) (limit : ℕ) → Collected g done (e ∷ left) all limit → length done < limit → Collected g (done ++ row_at g e ∷ []) left all limit
-collected_next g done e left all limit c room = record {
-  whole = append_assoc done (row_at g e ∷ []) (map (row_at g) left) ∙ c.whole;
-  small = omega (arith, length-append done (row_at g e ∷ []), room);
-}
 
 lt_of : (t u : Bool) → is_lt (cond t Less (cond u Equal Greater)) ≡ t
 lt_of true u = refl
@@ -60,17 +47,6 @@ between_rows g a b [] = refl
 between_rows g a b (e ∷ es) =
     ap (λ t. map (row_at g) (cond t (e ∷ entries_between nat_cmp (Excluded a) (Included b) es) (entries_between nat_cmp (Excluded a) (Included b) es))) (in_range a b e.0)
     ∙ kept_or_not g a b e es (nat_lt a e.0 && nat_le e.0 b) (between_rows g a b es)
-
--- where the limit is reached, and where the range ends
-pub collected_full : (g : Id → Option Kept) (done : List RowValue) (left all : List (ℕ × Id)) (limit : ℕ) → Collected g done left all limit → limit ≤ length done → done ≡ take limit (map (row_at g) all)
-collected_full g done left all limit c full =
-    let n : length done ≡ limit = (let s : length done ≤ limit = c.small in omega (arith, s, full)) in
-    sym (take-append_seam done (map (row_at g) left)) ∙ ap (λ k. take k (done ++ map (row_at g) left)) n ∙ ap (take limit) c.whole
-
-pub collected_end : (g : Id → Option Kept) (done : List RowValue) (left all : List (ℕ × Id)) (limit : ℕ) → Collected g done left all limit → left ≡ [] → done ≡ take limit (map (row_at g) all)
-collected_end g done left all limit c none =
-    let same : done ≡ map (row_at g) all = sym (append-nil done) ∙ ap (λ l. done ++ map (row_at g) l) (sym none) ∙ c.whole in
-    sym (take_all limit done c.small) ∙ ap (take limit) same
 
 last_of : (lo : ℕ) (xs : List RowValue) (r : RowValue) → last_seq lo (xs ++ r ∷ []) ≡ r.seq
 last_of lo [] r = refl

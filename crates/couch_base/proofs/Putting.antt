@@ -1,5 +1,5 @@
--- What a put answers and leaves, case by case.
-use Rattle.std.proofs.Common.{◌≡◌, ℕ, ◌+◌, ◌<◌, ◌≤◌, Bool, true, false, ◌&&◌, List, [], ◌∷◌, Some, None, is_some, Ok, Err, cond, ap, ◌∙◌, refl, arith}
+-- What a put answers and leaves, where it is a change.
+use Rattle.std.proofs.Common.{◌≡◌, ℕ, ◌+◌, ◌<◌, Bool, true, false, ◌&&◌, List, [], ◌∷◌, None, is_some, Ok, cond, ap, ◌∙◌, refl, arith}
 use Rattle.std.specs.Prelude.{nat_lt, Result}
 use Rattle.std.specs.List.{list_all}
 use Rattle.std.specs.Option.{option_or}
@@ -7,7 +7,6 @@ use Rattle.std.specs.FinMap.{get, get-empty}
 use Rattle.rev_core.specs.Rev.{RevId, rev_cmp}
 use Rattle.rev_core.specs.Ancestry.{edges_of, IsAncestry}
 use Rattle.rev_tree.specs.Tree.{has, has_edge, no_revisions, first_contradiction, contradiction_at, is_same, merged, at_head}
-use Rattle.rev_tree.specs.declared.fault.Contradiction.{Contradiction}
 use Rattle.rev_tree.specs.declared.origin.Origin.{Origin}
 use Rattle.doc_json.specs.Document.{Document}
 use Rattle.couch_base.specs.Database.{DatabaseValue, tree_of, with_tree, most}
@@ -15,7 +14,6 @@ use Rattle.couch_base.specs.Put.{put_answer, answer_of, after_put, is_changed, c
 use Rattle.couch_base.specs.declared.fault.Put.{Put}
 use Rattle.couch_base.specs.declared.fault.Put.TheVariants as answers
 use Rattle.couch_base.specs.declared.fault.BaseFault.{BaseFault}
-use Rattle.couch_base.specs.declared.fault.BaseFault.TheVariants as faults
 
 -- ---- a document that is new
 
@@ -31,30 +29,16 @@ not_same [] a = absurd (omega (arith, a.nonempty))
 not_same (r ∷ rest) a =
     ap (λ o. (is_some o && list_all (has no_revisions) rest) && list_all (has_edge no_revisions) (edges_of (r ∷ rest)) && list_all (λ (e : RevId × Unit {0}). is_some (get no_revisions.contents e.0)) (at_head (r ∷ rest) tt)) (get-empty rev_cmp r)
 
--- ---- the four answers
-
-pub answer-contradiction : (db : DatabaseValue) (d : Document) (c : Contradiction) → first_contradiction (tree_of db.docs d.id).parents (edges_of d.ancestry) ≡ Some c → put_answer db d ≡ Err (faults.Contradiction c.child c.known c.given)
-answer-contradiction db d c some = ap (λ o. answer_of o (is_same (tree_of db.docs d.id) d.ancestry) (nat_lt db.update_seq most) (db.update_seq + 1)) some
+-- ---- a change
 
 answer_none : (db : DatabaseValue) (d : Document) (same room : Bool) → first_contradiction (tree_of db.docs d.id).parents (edges_of d.ancestry) ≡ None → is_same (tree_of db.docs d.id) d.ancestry ≡ same → nat_lt db.update_seq most ≡ room → put_answer db d ≡ answer_of None same room (db.update_seq + 1)
 answer_none db d same room none s r = λ i. answer_of (none i) (s i) (r i) (db.update_seq + 1)
 
-pub answer-same : (db : DatabaseValue) (d : Document) → first_contradiction (tree_of db.docs d.id).parents (edges_of d.ancestry) ≡ None → is_same (tree_of db.docs d.id) d.ancestry ≡ true → put_answer db d ≡ Ok answers.Same
-answer-same db d none same = answer_none db d true _ none same refl
-
-pub answer-full : (db : DatabaseValue) (d : Document) → first_contradiction (tree_of db.docs d.id).parents (edges_of d.ancestry) ≡ None → is_same (tree_of db.docs d.id) d.ancestry ≡ false → most ≤ db.update_seq → put_answer db d ≡ Err faults.SeqFull
-answer-full db d none apart full = answer_none db d false false none apart (grind (arith, full))
-
 pub answer-changed : (db : DatabaseValue) (d : Document) → first_contradiction (tree_of db.docs d.id).parents (edges_of d.ancestry) ≡ None → is_same (tree_of db.docs d.id) d.ancestry ≡ false → db.update_seq < most → put_answer db d ≡ Ok (answers.Changed (db.update_seq + 1))
 answer-changed db d none apart room = answer_none db d false true none apart (grind (arith, room))
 
--- ---- what it leaves
-
 abbrev left : DatabaseValue → Document → Origin → Result Put BaseFault → DatabaseValue
 left db d o answer = cond (is_changed answer) (with_tree db d.id (merged (tree_of db.docs d.id) d.ancestry (content_of d.deleted d.body) o)) db
-
-pub after_put-same : (db : DatabaseValue) (d : Document) (o : Origin) → put_answer db d ≡ Ok answers.Same → after_put db d o ≡ db
-after_put-same db d o answer = ap (left db d o) answer
 
 pub after_put-changed : (db : DatabaseValue) (d : Document) (o : Origin) (seq : ℕ) → put_answer db d ≡ Ok (answers.Changed seq) → after_put db d o ≡ with_tree db d.id (merged (tree_of db.docs d.id) d.ancestry (content_of d.deleted d.body) o)
 after_put-changed db d o seq answer = ap (left db d o) answer

@@ -5,7 +5,7 @@ use Rattle.couch_base.specs.Database.{Id, DocumentValue, IsDocumentTree, HasBodi
 use Rattle.couch_base.specs.Table.{documents, found, tree_at, IsTable, Writes}
 use Rattle.couch_base.specs.declared.kept.Kept.{Kept}
 use Rattle.couch_base.proofs.Found.{tree_of-documents}
-use Rattle.couch_base.proofs.DocumentTrees.{no_bodies}
+use Rattle.couch_base.specs.DocumentTreeLaws.{no_bodies}
 use Rattle.couch_base.proofs.Moves.{added_documents, added_kept, changed_documents, changed_kept}
 
 -- the table and the index agree after it

@@ -6,3 +6,9 @@ pub mod Feed
 pub mod Table
 pub mod FeedLaws
 pub mod Edit
+pub mod ListLaws
+pub mod DocumentTreeLaws
+pub mod DatabaseLaws
+pub mod WriteLaws
+pub mod Messages
+pub mod MessageLaws

@@ -1,5 +1,5 @@
 //! Databases.
-ghost use Rattle.std.specs.Prelude.{◌≡◌, ◌<◌, ◌≤◌, ◌+◌, OnOk, OnErr, IfOk, IfErr, None};
+ghost use Rattle.std.specs.Prelude.{◌≡◌, ◌<◌, ◌≤◌, ◌+◌, OnOk, OnErr, IfOk, IfErr, IfSome, None};
 ghost use Rattle.std.specs.Option.{option_copied};
 ghost use Rattle.rev_core.specs.Ancestry.{edges_of};
 ghost use Rattle.rev_tree.specs.Tree.{has, merged, is_same, first_contradiction};
@@ -41,7 +41,11 @@ impl Model for Database {
 
     ghost use Rattle.couch_base.specs.Table.{documents, found, IsTable};
 
-    ghost view = { λ a. record { uuid = a.uuid; update_seq = a.update_seq; docs = documents (found a.docs.entries) a.index.entries } };
+    ghost view = { λ a. record {
+      uuid = a.uuid;
+      update_seq = a.update_seq;
+      docs = documents (found a.docs.entries) a.index.entries;
+    } };
 
     ghost invariant = { λ a. IsTable (found a.docs.entries) a.index.entries a.update_seq };
 }
@@ -64,7 +68,7 @@ impl Database {
 }
 
 impl Database {
-    ghost use Rattle.couch_base.specs.Database.{LawfulDatabase, no_documents, tree_in, tree_of, with_tree, most};
+    ghost use Rattle.couch_base.specs.Database.{LawfulDatabase, IsDocumentTree, no_documents, tree_in, tree_of, with_tree, most};
     ghost use Rattle.doc_json.specs.Body.{IsBody};
     ghost use Rattle.couch_base.specs.Put.{put_answer, after_put};
     ghost use Rattle.couch_base.specs.Edit.{parent_answer, edit_answer, after_edit, EditGives};
@@ -103,7 +107,8 @@ impl Database {
 
     /// The revision tree of a document, where it is there.
     pub fn tree(&self, id: &DocId) -> Option<&Tree>
-        ensures { option_copied result ≡ tree_in self.now.docs id.now }
+        ensures value { option_copied result ≡ tree_in self.now.docs id.now }
+        ensures document { IfSome result (λ t. IsDocumentTree t.now) }
     {
         match self.docs.get(id) {
             Some(kept) => Some(&kept.tree),
@@ -214,7 +219,8 @@ impl Database {
 
     /// The first given child whose known parent is another than the given one.
     fn contradiction(&self, doc: &Doc) -> Option<Contradiction>
-        ensures { result ≡ first_contradiction (tree_of self.now.docs doc.now.id).parents (edges_of doc.now.ancestry) }
+        ensures { result
+            ≡ first_contradiction (tree_of self.now.docs doc.now.id).parents (edges_of doc.now.ancestry) }
     {
         match self.tree(doc.id()) {
             Some(tree) => merging::contradiction(tree, doc.ancestry()),
@@ -267,7 +273,8 @@ impl Database {
     ) -> Result<u64, BaseFault>
         requires room { self.old.update_seq < most }
         requires body { IsBody content.body }
-        ensures ok { OnOk result (self.new ≡ with_tree self.old id.now (merged (tree_of self.old.docs id.now) ancestry.now content origin)) }
+        ensures ok { OnOk result (self.new ≡ with_tree self.old id.now
+            (merged (tree_of self.old.docs id.now) ancestry.now content origin)) }
         ensures seq { IfOk result (λ s. s ≡ self.old.update_seq + 1) }
         ensures err { OnErr result (self.new ≡ self.old) }
         ensures memory { IfErr result (λ e. e ≡ BaseFault.Memory) }

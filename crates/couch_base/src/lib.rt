@@ -1,22 +1,30 @@
-//! One database: puts, local edits, and pages of its changes feed.
+//! One database: puts, local edits, pages of its changes feed, and what is asked and fetched for a page.
 //!
-//! The rules stand in docs/PROFILE.md: "Sequences", "Merging", "Local edits" and "Changes feed".
+//! The rules stand in docs/PROFILE.md: "Sequences", "Merging", "Local edits", "Changes feed", "Missing revisions" and
+//! "Fetching".
 #![tactic(auto)]
 
+mod asked;
 mod database;
 mod edit;
+mod exchange;
 mod fault;
 mod kept;
 mod merging;
 mod paging;
+mod parcel;
 mod row;
 mod table;
 mod window;
 
+pub use asked::{Asked, Wanted};
 pub use database::Database;
 pub use fault::{BaseFault, Put};
+pub use parcel::Parcel;
 pub use row::Row;
 pub use window::Window;
 
+#[cfg(test)]
+mod exchange_tests;
 #[cfg(test)]
 mod tests;

@@ -40,7 +40,9 @@ pub(crate) fn collect(
     limit: u64,
 ) -> Result<Vec<Row>, BaseFault>
     requires { since < goal }
-    ensures rows { IfOk result (λ v. v.items ≡ take limit (map (λ e. row_of (document (found docs.now.entries) e)) (entries_between nat_cmp (Excluded since) (Included goal) index.now.entries))) }
+    ensures rows { IfOk result (λ v. v.items
+        ≡ take limit (map (λ e. row_of (document (found docs.now.entries) e))
+        (entries_between nat_cmp (Excluded since) (Included goal) index.now.entries))) }
     ensures err { IfErr result (λ e. e ≡ BaseFault.Memory) }
 {
     let mut rows: Vec<Row> = Vec::new(alloc);

@@ -1,5 +1,5 @@
 //! The table of documents and the index by sequence, written together.
-ghost use Rattle.std.specs.Prelude.{◌≡◌, ◌∷◌, ◌++◌, [], OnOk, OnErr, Some, None};
+ghost use Rattle.std.specs.Prelude.{◌≡◌, ◌∷◌, ◌++◌, [], OnOk, OnErr, IsSome, Some, None};
 ghost use Rattle.rev_tree.specs.Tree.{no_revisions, merged};
 ghost use Rattle.couch_base.specs.Table.{found, AllBelow, Moves, Adds, Writes};
 
@@ -41,7 +41,9 @@ fn add(
     next: u64,
 ) -> Result<(), AllocError>
     requires { AllBelow next index.old.entries }
-    ensures ok { OnOk result (Adds docs.old.entries docs.new.entries index.old.entries index.new.entries id.now (merged no_revisions ancestry.now content origin) next) }
+    ensures ok { OnOk result
+        (Adds docs.old.entries docs.new.entries index.old.entries index.new.entries id.now
+        (merged no_revisions ancestry.now content origin) next) }
     ensures docs { OnErr result (docs.new.entries ≡ docs.old.entries) }
     ensures index { OnErr result (index.new.entries ≡ index.old.entries) }
 {
@@ -71,16 +73,17 @@ fn change(
     origin: Origin,
     next: u64,
 ) -> Result<(), AllocError>
-    requires { AllBelow next index.old.entries }
-    ensures ok { OnOk result ((was : Kept) → found docs.old.entries id.now ≡ Some was → Moves docs.old.entries docs.new.entries index.old.entries index.new.entries id.now (merged was.tree ancestry.now content origin) next was) }
+    requires index { AllBelow next index.old.entries }
+    requires there { IsSome (found docs.old.entries id.now) }
+    ensures ok { OnOk result
+        ((was : Kept) → found docs.old.entries id.now ≡ Some was
+        → Moves docs.old.entries docs.new.entries index.old.entries index.new.entries id.now
+        (merged was.tree ancestry.now content origin) next was) }
     ensures docs { OnErr result (docs.new.entries ≡ docs.old.entries) }
     ensures index { OnErr result (index.new.entries ≡ index.old.entries) }
 {
     note(*docs.allocator(), index, id, next)?;
-    let Some(kept) = docs.get_mut(id) else {
-        index.remove(&next);
-        return Err(AllocError);
-    };
+    let kept = docs.get_mut(id).unwrap();
     match kept.tree.merge(ancestry, content, origin) {
         Ok(_) => {
             let old = kept.seq;
@@ -106,7 +109,9 @@ pub(crate) fn write(
     next: u64,
 ) -> Result<(), AllocError>
     requires { AllBelow next index.old.entries }
-    ensures ok { OnOk result (Writes docs.old.entries docs.new.entries index.old.entries index.new.entries id.now (λ t. merged t ancestry.now content origin) next) }
+    ensures ok { OnOk result
+        (Writes docs.old.entries docs.new.entries index.old.entries index.new.entries id.now
+        (λ t. merged t ancestry.now content origin) next) }
     ensures docs { OnErr result (docs.new.entries ≡ docs.old.entries) }
     ensures index { OnErr result (index.new.entries ≡ index.old.entries) }
 {

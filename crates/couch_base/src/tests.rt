@@ -1,4 +1,6 @@
 //! The worked rows of databases as calls, and each call with ample memory.
+ghost use Rattle.std.specs.Prelude.{◌≡◌};
+
 use super::*;
 use doc_json::{Body, Doc, DocId, read_body, read_doc};
 use rev_core::Rev;
@@ -12,7 +14,7 @@ use std::test::Fail;
 const MOST: u64 = 9_007_199_254_740_991;
 
 /// The revision of a text that is one.
-fn rev(rt: &impl Abort, text: &[u8]) -> Rev {
+pub(crate) fn rev(rt: &impl Abort, text: &[u8]) -> Rev {
     match Rev::parse(text) {
         Ok(rev) => rev,
         Err(_) => rt.panic(format_args!("a revision")),
@@ -32,7 +34,7 @@ fn body(alloc: Global, text: &str) -> Result<Body, Fail> {
 }
 
 /// Puts the document of a text.
-fn put(alloc: Global, db: &mut Database, text: &str) -> Result<Put, Fail> {
+pub(crate) fn put(alloc: Global, db: &mut Database, text: &str) -> Result<Put, Fail> {
     Ok(db.put(&doc(alloc, text)?, Origin::Local(0))?)
 }
 
@@ -124,7 +126,8 @@ fn a_changed_document_moves_in_the_feed(rt: HostRuntime) -> Result<(), Fail> {
         r#"{"_id":"a","_revisions":{"start":2,"ids":["x","a"]}}"#,
     )?;
     assert_eq!(rt; answer, Put::Changed { seq: 6 });
-    let window = db.page(alloc, 1, 6, 10)?;
+    let db = moved(db);
+    let window = shared(&db).page(alloc, 1, 6, 10)?;
     let copy = moved(window).copy(alloc)?;
     shows(
         &rt,
@@ -148,6 +151,13 @@ fn a_changed_document_moves_in_the_feed(rt: HostRuntime) -> Result<(), Fail> {
 
 /// A value that may be moved between threads.
 fn moved<T: Send>(value: T) -> T {
+    value
+}
+
+/// A value that threads may read at once.
+fn shared<T: Sync>(value: &T) -> &T
+    ensures { result.now ≡ value.now }
+{
     value
 }
 

@@ -12,10 +12,10 @@ use std::process::Abort;
 use std::test::Fail;
 
 /// How many documents there can be, with the ids d0 to d4.
-const IDS: usize = 5;
+pub(crate) const IDS: usize = 5;
 
 /// The sequence of each document's latest change, and its tree.
-type Documents = [Option<(u64, Reference)>; IDS];
+pub(crate) type Documents = [Option<(u64, Reference)>; IDS];
 
 /// The id of a number.
 fn id(alloc: Global, number: usize) -> Result<DocId, Fail> {
@@ -43,7 +43,7 @@ fn document(
 }
 
 /// Puts a document by chance into both. Returns the update sequence that the reference then has.
-fn put(
+pub(crate) fn put(
     rt: &impl Abort,
     alloc: Global,
     rng: &mut ChaCha8Rng,
@@ -74,7 +74,7 @@ fn put(
 }
 
 /// The number of the document that stands next above a sequence, and at or under a goal.
-fn next_above(documents: &Documents, seq: u64, goal: u64) -> Option<(usize, u64)> {
+pub(crate) fn next_above(documents: &Documents, seq: u64, goal: u64) -> Option<(usize, u64)> {
     let mut best: Option<(usize, u64)> = None;
     for number in 0..IDS {
         if let Some((at, _)) = documents[number] {

@@ -2,8 +2,10 @@
 //! same, whichever allocation fails. `.ci/refused-growths` refuses each of them in turn.
 #![tactic(auto)]
 
+mod databases;
 mod documents;
 mod fronts;
+mod logs;
 mod revisions;
 mod trees;
 
@@ -13,6 +15,8 @@ fn main(rt: HostRuntime) -> Result<()> {
     revisions::run(&rt, rt.alloc())?;
     trees::run(&rt, rt.alloc())?;
     fronts::run(&rt, rt.alloc())?;
+    logs::run(&rt, rt.alloc())?;
     documents::run(&rt, rt.alloc())?;
+    databases::run(&rt, rt.alloc())?;
     Ok(())
 }

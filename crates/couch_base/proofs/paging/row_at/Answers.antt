@@ -3,7 +3,7 @@ use Rattle.std.specs.Option.{option_copied}
 use Rattle.rev_tree.specs.Tree.{leaves}
 use Rattle.couch_base.specs.Feed.{RowValue}
 use Rattle.couch_base.specs.Table.{tree_at}
-use Rattle.couch_base.proofs.DocumentTrees.{leaves-no_revisions}
+use Rattle.couch_base.specs.DocumentTreeLaws.{leaves-no_revisions}
 use Rattle.couch_base.proofs.paging.row_at.Goals as goal
 
 pub returns-in_default-get-clause-row : goal.returns-in_default-get-clause-row

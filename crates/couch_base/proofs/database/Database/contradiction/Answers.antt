@@ -9,6 +9,6 @@ use Rattle.couch_base.proofs.database.Database.contradiction.Goals as goal
 
 pub returns-in-None : goal.returns-in-None
 returns-in-None c =
-    let gone = ap (tree_in c.args.self.now.docs) (sym c.id.ensures.part) ∙ sym c.tree.ensures ∙ ap option_copied c.in-None.is in
+    let gone = ap (tree_in c.args.self.now.docs) (sym c.id.ensures.part) ∙ sym c.tree.ensures.value ∙ ap option_copied c.in-None.is in
     let edges = edges_of c.args.doc.now.ancestry in
     sym (ap (λ o. first_contradiction (unwrap_or o no_revisions).parents edges) gone ∙ no_contradiction edges)

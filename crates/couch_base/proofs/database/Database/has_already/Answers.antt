@@ -9,5 +9,5 @@ use Rattle.couch_base.proofs.database.Database.has_already.Goals as goal
 
 pub returns-in-None : goal.returns-in-None
 returns-in-None c =
-    let gone = ap (tree_in c.args.self.now.docs) (sym c.id.ensures.part) ∙ sym c.tree.ensures ∙ ap option_copied c.in-None.is in
+    let gone = ap (tree_in c.args.self.now.docs) (sym c.id.ensures.part) ∙ sym c.tree.ensures.value ∙ ap option_copied c.in-None.is in
     sym (ap (λ o. is_same (unwrap_or o no_revisions) c.args.doc.now.ancestry) gone ∙ not_same c.args.doc.now.ancestry (subst IsAncestry c.ancestry.ensures.part c.revs-revs.ensures.ancestry))

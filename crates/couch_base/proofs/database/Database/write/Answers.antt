@@ -4,7 +4,7 @@ use Rattle.couch_base.specs.Database.{DocumentValue, DatabaseValue, with_tree, t
 use Rattle.couch_base.specs.Table.{found, IsTable}
 use Rattle.couch_base.proofs.Rising.{all_below}
 use Rattle.couch_base.proofs.Writing.{written_kept, written_documents}
-use Rattle.couch_base.proofs.DocumentTrees.{merged_document}
+use Rattle.couch_base.specs.DocumentTreeLaws.{merged_document}
 use Rattle.couch_base.proofs.Laws.{lawful}
 use Rattle.couch_base.proofs.database.Database.write.Goals as goal
 

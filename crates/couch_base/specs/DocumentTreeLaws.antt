@@ -1,8 +1,8 @@
--- The tree of a document after a merge.
-use Rattle.std.proofs.Common.{◌≡◌, ◌<◌, ◌||◌, cond, inl, inr, subst, false, Some, None, List, [], ◌∷◌, true, length, map, filter, sym, ap, ◌∙◌, arith}
+-- Laws of the trees of documents: a merge leaves one.
+use Rattle.std.proofs.Common.{◌≡◌, ◌<◌, ◌||◌, cond, inl, inr, subst, false, is_some, Some, None, List, [], ◌∷◌, true, length, map, filter, sym, ap, ◌∙◌, arith}
 use Rattle.std.proofs.lemmas.List.{nil_from_length}
 use Rattle.std.specs.FinMap.{FinMap, empty, entries, find, get, get-empty, len-entries, len-empty}
-use Rattle.std.proofs.lemmas.Bool.{false≢true}
+use Rattle.std.proofs.lemmas.Bool.{and_parts, false≢true}
 use Rattle.std.specs.Ordering.{eq_by_cmp}
 use Rattle.doc_json.specs.Body.{IsBody}
 use Rattle.rev_core.specs.Rev.{RevId, rev_cmp}
@@ -15,7 +15,7 @@ use Rattle.rev_tree.specs.TreeLaws.{has-merged_given, get-joined, some_or}
 use Rattle.rev_tree.specs.LeafLaws.{leaf_above, is_among-leaves}
 use Rattle.rev_tree.specs.declared.origin.Origin.{Origin}
 use Rattle.couch_base.specs.Database.{IsDocumentTree, HasBodies}
-use Rattle.couch_base.proofs.Found.{none_some, some_is}
+use Rattle.couch_base.specs.ListLaws.{none_some, some_is}
 
 nonempty : (r : RevId) (revs : List RevId) → is_among r revs ≡ true → 0 < length revs
 nonempty r [] h = absurd (false≢true h)
@@ -62,3 +62,17 @@ leaves-no_revisions =
   where
     none : FinMap rev_cmp Origin
     none = empty
+
+nothing_there : (r : RevId) → has no_revisions r ≡ true → ⊥
+nothing_there r h = false≢true (sym (ap is_some (get-empty rev_cmp r)) ∙ h)
+
+-- it is a tree
+pub IsTree-no_revisions : IsTree no_revisions
+IsTree-no_revisions = record {
+  revs = λ r h. absurd (nothing_there r h);
+  child = λ c p h. absurd (none_some p (sym (get-empty rev_cmp c) ∙ h));
+  parent = λ c p h. absurd (none_some p (sym (get-empty rev_cmp c) ∙ h));
+  falls = λ c p h. absurd (none_some p (sym (get-empty rev_cmp c) ∙ h));
+  content = λ r h. absurd (false≢true (sym (ap is_some (get-empty rev_cmp r)) ∙ h));
+  leaf = λ r h. absurd (nothing_there r (and_parts _ _ h).0);
+}

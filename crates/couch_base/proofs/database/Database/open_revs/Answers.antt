@@ -1,0 +1,31 @@
+use Rattle.std.proofs.Common.{◌≡◌, ◌++◌, ◌+◌, drop, refl, subst, sym, ap, ◌∙◌, arith}
+use Rattle.couch_base.specs.Messages.{IsParcel, fetched, gone_of, open_revs}
+use Rattle.couch_base.specs.MessageLaws.{IsParcel-open_revs}
+use Rattle.couch_base.proofs.Exchanging.{fetched_next, gone_next, end_of}
+use Rattle.couch_base.proofs.database.Database.open_revs.Goals as goal
+
+pub loop-wanted-preserved : goal.loop-wanted-preserved
+loop-wanted-preserved c =
+    let ds = c.args.self.now.docs in
+    let ws = c.docs-wanted-items.result.now in
+    let i = c.loop-wanted.wanted-index in
+    let w = c.wanted-item.result in
+    record {
+      docs =
+          ap (λ l. l ++ fetched ds (drop (i + 1) ws)) c.in_ok-open.ensures.ok
+          ∙ fetched_next ds c.loop-wanted.docs.items (fetched ds ws) ws i w c.loop-wanted-test.true c.wanted-item.is c.loop-wanted.invariant.docs;
+      gone =
+          ap (λ l. l ++ gone_of ds (drop (i + 1) ws)) c.in_ok-miss.ensures.ok
+          ∙ gone_next ds c.loop-wanted.gone.items (gone_of ds ws) ws i w c.loop-wanted-test.true c.wanted-item.is c.loop-wanted.invariant.gone;
+    }
+
+pub new-requires : goal.new-requires
+new-requires c =
+    let ds = c.args.self.now.docs in
+    let ws = c.docs-wanted-items in
+    let i = c.loop-wanted.wanted-index in
+    let docs = end_of (fetched ds) refl c.loop-wanted.docs.items (fetched ds ws.result.now) ws.result.now i (omega arith) c.loop-wanted.invariant.docs ∙ ap (fetched ds) ws.ensures.value in
+    let gone = end_of (gone_of ds) refl c.loop-wanted.gone.items (gone_of ds ws.result.now) ws.result.now i (omega arith) c.loop-wanted.invariant.gone ∙ ap (gone_of ds) ws.ensures.value in
+    let same : record { asked = c.in_ok-asked.asked; docs = c.loop-wanted.docs.items; gone = c.loop-wanted.gone.items } ≡ open_revs c.args.self.now c.args.asked.now =
+    λ j. record { asked = c.in_ok-asked.ensures.copied j; docs = docs j; gone = gone j } in
+    subst IsParcel (sym same) (IsParcel-open_revs c.args.self.now c.args.asked.now c.update_seq-seq.ensures.law c.docs-wanted-items.ensures.asked)

@@ -1,0 +1,10 @@
+use Rattle.std.proofs.Common.{◌≡◌, ◌++◌, drop}
+use Rattle.couch_base.specs.Messages.{fetched, gone_of}
+use Rattle.couch_base.proofs.database.Database.open_revs.Given as goal
+
+-- what is fetched and gone so far, with that of the other documents, is the whole
+abbrev pub invariant-loop-wanted : goal.invariant-loop-wanted
+invariant-loop-wanted l = record {
+  docs : l.docs.items ++ fetched l.self.docs (drop l.wanted-index l.wanted-items) ≡ fetched l.self.docs l.wanted-items;
+  gone : l.gone.items ++ gone_of l.self.docs (drop l.wanted-index l.wanted-items) ≡ gone_of l.self.docs l.wanted-items;
+}

@@ -1,0 +1,88 @@
+-- Laws of lists: tests of some or of all elements, and lists in which nothing comes twice.
+use Rattle.std.specs.Prelude.{◌≡◌, Bool, true, false, ◌&&◌, ◌||◌, List, [], ◌∷◌, ◌++◌, map, filter, Some, None, is_some, refl}
+use Rattle.std.proofs.Common.{ap, sym, ◌∙◌, inl, inr}
+use Rattle.std.proofs.lemmas.Bool.{and_parts, or_right, cond_both, false≢true}
+use Rattle.std.specs.List.{list_any, list_all, AllByRecursion}
+use Rattle.std.specs.Option.{option_map_or}
+use Rattle.rev_core.specs.Rev.{RevId}
+use Rattle.rev_core.specs.RevOrder.{rev_tie_self}
+use Rattle.rev_core.specs.Ancestry.{is_among}
+use Rattle.rev_tree.specs.TreeLaws.{or_cases, and_both}
+use Rattle.couch_base.specs.Lists.{EachOnce}
+
+-- ---- tests
+
+pub both_false : (a b : Bool) → (a || b) ≡ false → (a ≡ false) × (b ≡ false)
+both_false true b h = absurd (false≢true (sym h))
+both_false false b h = (refl, h)
+
+pub not_both : (a b : Bool) → a ≡ false → (a && b) ≡ false
+not_both a b h = ap (λ x. x && b) h
+
+pub some_is : {X : Type 0} (x y : X) → Some x ≡ Some y → x ≡ y
+some_is x y e = ap (λ o. option_map_or (λ v. v) o x) e
+
+pub none_some : {X : Type 0} (x : X) → None ≡ Some x → ⊥
+none_some x e = false≢true (ap is_some e)
+
+-- ---- some element
+
+pub any_left : {X : Type 0} (p : X → Bool) (xs ys : List X) → list_any p xs ≡ true → list_any p (xs ++ ys) ≡ true
+any_left p [] ys h = absurd (false≢true h)
+any_left p (x ∷ xs) ys h =
+    elim (or_cases (p x) (list_any p xs) h) [
+      | inl here ↦ ap (λ b. b || list_any p (xs ++ ys)) here
+      | inr later ↦ or_right _ _ (any_left p xs ys later)
+    ]
+
+pub any_right : {X : Type 0} (p : X → Bool) (xs ys : List X) → list_any p ys ≡ true → list_any p (xs ++ ys) ≡ true
+any_right p [] ys h = h
+any_right p (x ∷ xs) ys h = or_right _ _ (any_right p xs ys h)
+
+pub none_append : {X : Type 0} (p : X → Bool) (xs ys : List X) → list_any p xs ≡ false → list_any p ys ≡ false → list_any p (xs ++ ys) ≡ false
+none_append p [] ys h k = k
+none_append p (x ∷ xs) ys h k = let parts = both_false (p x) (list_any p xs) h in ap (λ b. b || list_any p (xs ++ ys)) parts.0 ∙ none_append p xs ys parts.1 k
+
+pub none_filter : {X : Type 0} (q p : X → Bool) (xs : List X) → list_any q xs ≡ false → list_any q (filter p xs) ≡ false
+none_filter q p [] h = h
+none_filter q p (x ∷ xs) h =
+    let parts = both_false (q x) (list_any q xs) h in
+    cond_both (p x) (x ∷ filter p xs) (filter p xs) (λ l. list_any q l ≡ false)
+    (λ _. ap (λ b. b || list_any q (filter p xs)) parts.0 ∙ none_filter q p xs parts.1)
+    (λ _. none_filter q p xs parts.1)
+
+-- ---- all elements
+
+pub all_weaker : {X : Type 0} (p q : X → Bool) → ((x : X) → p x ≡ true → q x ≡ true) → (xs : List X) → list_all p xs ≡ true → list_all q xs ≡ true
+all_weaker p q f [] h = h
+all_weaker p q f (x ∷ xs) h = let parts = and_parts _ _ h in and_both (f x parts.0) (all_weaker p q f xs parts.1)
+
+pub all_append : {X : Type 0} (p : X → Bool) (xs ys : List X) → list_all p xs ≡ true → list_all p ys ≡ true → list_all p (xs ++ ys) ≡ true
+all_append p [] ys h k = k
+all_append p (x ∷ xs) ys h k = let parts = and_parts _ _ h in and_both parts.0 (all_append p xs ys parts.1 k)
+
+-- what holds of those that pass a test holds of all that are made of them
+pub all_made : {X Y : Type 0} (p : Y → Bool) (f : X → Y) (q : X → Bool) → ((x : X) → q x ≡ true → p (f x) ≡ true) → (xs : List X) → list_all p (map f (filter q xs)) ≡ true
+all_made p f q h [] = refl
+all_made p f q h (x ∷ xs) =
+    cond_both (q x) (x ∷ filter q xs) (filter q xs) (λ l. list_all p (map f l) ≡ true)
+    (λ passes. and_both (h x passes) (all_made p f q h xs))
+    (λ _. all_made p f q h xs)
+
+-- what holds of each member holds of all
+pub all_members : (p : RevId → Bool) (revs : List RevId) → ((r : RevId) → is_among r revs ≡ true → p r ≡ true) → list_all p revs ≡ true
+all_members p [] h = refl
+all_members p (r ∷ revs) h = and_both (h r (ap (λ b. b || is_among r revs) (rev_tie_self r))) (all_members p revs (λ x m. h x (or_right _ _ m)))
+
+-- ---- nothing twice
+
+pub each_filter : {X : Type 0} (eq : X → X → Bool) (p : X → Bool) (xs : List X) → EachOnce eq xs → EachOnce eq (filter p xs)
+each_filter eq p [] h = tt
+each_filter eq p (x ∷ xs) h =
+    cond_both (p x) (x ∷ filter p xs) (filter p xs) (λ l. EachOnce eq l)
+    (λ _. (none_filter (eq x) p xs h.0, each_filter eq p xs h.1))
+    (λ _. each_filter eq p xs h.1)
+
+pub each_append : {X : Type 0} (eq : X → X → Bool) (xs ys : List X) → EachOnce eq xs → EachOnce eq ys → AllByRecursion (λ x. list_any (eq x) ys ≡ false) xs → EachOnce eq (xs ++ ys)
+each_append eq [] ys h k apart = k
+each_append eq (x ∷ xs) ys h k apart = (none_append (eq x) xs ys h.0 apart.0, each_append eq xs ys h.1 k apart.1)

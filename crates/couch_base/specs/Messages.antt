@@ -1,0 +1,121 @@
+-- Asking for missing revisions, and fetching them: docs/PROFILE.md, "Missing revisions" and "Fetching"; CouchDB,
+-- "Replication Protocol", `_revs_diff`, and a fetch with `latest`.
+use Rattle.std.specs.Prelude.{◌≡◌, ℕ, ◌<◌, Bool, true, false, ◌&&◌, ◌||◌, List, [], ◌∷◌, ◌++◌, map, length}
+use Rattle.std.specs.List.{list_any, list_all, AllByRecursion}
+use Rattle.std.specs.Option.{option_map_or}
+use Rattle.std.specs.Ordering.{eq_by_cmp}
+use Rattle.std.specs.Str.{bytes_eq}
+use Rattle.std.specs.FinMap.{get}
+use Rattle.rev_core.specs.Rev.{RevId, rev_cmp}
+use Rattle.rev_core.specs.Ancestry.{is_among}
+use Rattle.rev_tree.specs.Content.{ContentValue}
+use Rattle.rev_tree.specs.Tree.{TreeValue, ancestors, is_deleted, leaves_above, missing}
+use Rattle.doc_json.specs.Document.{Document}
+use Rattle.couch_base.specs.Lists.{EachOnce}
+use Rattle.couch_base.specs.Database.{Id, DocumentValue, DatabaseValue, tree_of}
+use Rattle.couch_base.specs.Feed.{RowValue, WindowValue}
+
+-- what is asked of one document
+pub record WantedValue : Type 0 where
+  pub id : Id
+  pub revs : List RevId
+
+-- what is asked for a window of the feed
+pub record AskedValue : Type 0 where
+  pub lo : ℕ
+  pub hi : ℕ
+  pub docs : List WantedValue
+
+-- what is fetched: the asked, the documents, and the asked revisions that aren't there
+pub record ParcelValue : Type 0 where
+  pub asked : AskedValue
+  pub docs : List Document
+  pub gone : List (Id × RevId)
+
+-- ---- asking
+
+-- revisions of one document before those of others; nothing where there are none
+abbrev pub want_first : Id → List RevId → List WantedValue → List WantedValue
+want_first id [] others = others
+want_first id (r ∷ revs) others = record { id = id; revs = r ∷ revs } ∷ others
+
+-- the rows' leaves that aren't in the trees, in the order of the rows
+abbrev pub wanted : List DocumentValue → List RowValue → List WantedValue
+wanted ds [] = []
+wanted ds (r ∷ rows) = want_first r.id (missing (tree_of ds r.id) r.leaves) (wanted ds rows)
+
+-- what a database asks for a window of another one's feed
+abbrev pub revs_diff : DatabaseValue → WindowValue → AskedValue
+revs_diff db w = record { lo = w.lo; hi = w.hi; docs = wanted db.docs w.rows }
+
+-- ---- fetching
+
+-- the text of a revision's body
+abbrev pub body_at : TreeValue → RevId → List ℕ
+body_at t r = option_map_or (λ (b : ContentValue). b.body) (get t.contents r) []
+
+-- a leaf with its whole known ancestry and its content
+abbrev pub leaf_document : Id → TreeValue → RevId → Document
+leaf_document id t leaf = record { id = id; ancestry = ancestors t leaf; deleted = is_deleted t leaf; body = body_at t leaf }
+
+-- the leaves of a document at or above the asked revisions, winner first
+abbrev pub opened : Id → TreeValue → List RevId → List Document
+opened id t revs = map (leaf_document id t) (leaves_above t revs)
+
+abbrev pub fetched : List DocumentValue → List WantedValue → List Document
+fetched ds [] = []
+fetched ds (w ∷ ws) = opened w.id (tree_of ds w.id) w.revs ++ fetched ds ws
+
+-- the asked revisions that aren't in the trees
+abbrev pub gone_of : List DocumentValue → List WantedValue → List (Id × RevId)
+gone_of ds [] = []
+gone_of ds (w ∷ ws) = map (λ r. (w.id, r)) (missing (tree_of ds w.id) w.revs) ++ gone_of ds ws
+
+-- what a database answers to what is asked
+abbrev pub open_revs : DatabaseValue → AskedValue → ParcelValue
+open_revs db a = record { asked = a; docs = fetched db.docs a.docs; gone = gone_of db.docs a.docs }
+
+-- ---- what holds of these messages
+
+-- at least one revision, and none twice
+pub record IsWanted (w : WantedValue) : Type 0 where
+  pub some : 0 < length w.revs
+  pub distinct : EachOnce (eq_by_cmp rev_cmp) w.revs
+
+-- each document is named once
+pub record IsAsked (a : AskedValue) : Type 0 where
+  pub distinct : EachOnce bytes_eq (map (λ w. w.id) a.docs)
+  pub docs : AllByRecursion IsWanted a.docs
+
+-- whether a document is of an id, and its ancestry has a revision
+abbrev pub brings : Id → RevId → Document → Bool
+brings id r d = bytes_eq d.id id && is_among r d.ancestry
+
+-- whether this is a revision of an id
+abbrev pub is_rev_of : Id → RevId → Id × RevId → Bool
+is_rev_of id r g = bytes_eq g.0 id && eq_by_cmp rev_cmp r g.1
+
+-- whether each asked revision of a document is in the ancestry of a fetched document of its id, or gone
+abbrev pub is_answered : List Document → List (Id × RevId) → WantedValue → Bool
+is_answered docs gone w = list_all (λ r. list_any (brings w.id r) docs || list_any (is_rev_of w.id r) gone) w.revs
+
+-- whether a fetched document brings an asked revision
+abbrev pub is_wanted : List WantedValue → Document → Bool
+is_wanted ws d = list_any (λ w. list_any (λ r. brings w.id r d) w.revs) ws
+
+-- whether two ancestries begin with one revision
+abbrev pub same_head : List RevId → List RevId → Bool
+same_head [] others = false
+same_head (r ∷ revs) [] = false
+same_head (r ∷ revs) (s ∷ others) = eq_by_cmp rev_cmp r s
+
+-- whether two documents have one id and one head
+abbrev pub same_revision : Document → Document → Bool
+same_revision d e = bytes_eq d.id e.id && same_head d.ancestry e.ancestry
+
+-- what holds of every parcel
+pub record IsParcel (p : ParcelValue) : Type 0 where
+  pub asked : IsAsked p.asked
+  pub answered : list_all (is_answered p.docs p.gone) p.asked.docs ≡ true
+  pub wanted : list_all (is_wanted p.asked.docs) p.docs ≡ true
+  pub distinct : EachOnce same_revision p.docs

@@ -1,0 +1,149 @@
+//! What is asked for a window of the feed.
+ghost use Rattle.std.specs.Prelude.{◌≡◌, IfOk, IfErr};
+
+use crate::fault::BaseFault;
+use doc_json::DocId;
+use rev_core::Rev;
+use std::alloc::Global;
+use std::marker::Model;
+
+/// Revisions that are asked of one document: at least one, none twice.
+#[derive(Drop)]
+pub struct Wanted {
+    id: DocId,
+    revs: Vec<Rev>,
+}
+
+impl Model for Wanted {
+    ghost use Rattle.couch_base.specs.Messages.{WantedValue};
+
+    ghost Value = { WantedValue };
+
+    ghost view = { λ w. record { id = w.id; revs = w.revs.items } };
+}
+
+impl Wanted {
+    ghost use Rattle.couch_base.specs.Messages.{WantedValue};
+
+    /// What is asked, of these parts.
+    pub(crate) fn new(id: DocId, revs: Vec<Rev>) -> Wanted
+        ensures { result ≡ record { id = id; revs = revs.items } }
+    {
+        Wanted { id, revs }
+    }
+
+    /// The document's id.
+    pub fn id(&self) -> &DocId
+        ensures { result.now ≡ self.now.id }
+    {
+        &self.id
+    }
+
+    /// The revisions that are asked for.
+    pub fn revs(&self) -> &[Rev]
+        ensures { result.now ≡ self.now.revs }
+    {
+        &self.revs
+    }
+
+    /// The same again. The only error is `Memory`.
+    pub fn copy(&self, alloc: Global) -> Result<Wanted, BaseFault>
+        ensures copied { IfOk result (λ w. w ≡ self.now) }
+        ensures err { IfErr result (λ e. e ≡ BaseFault.Memory) }
+    {
+        let Ok(id) = self.id.copy(alloc) else {
+            return Err(BaseFault::Memory);
+        };
+        match Vec::from_slice(alloc, &self.revs) {
+            Ok(revs) => Ok(Wanted { id, revs }),
+            Err(_) => Err(BaseFault::Memory),
+        }
+    }
+}
+
+/// What is asked for the window `(lo, hi]` of a feed: documents, each once, with their revisions.
+#[derive(Drop)]
+pub struct Asked {
+    lo: u64,
+    hi: u64,
+    docs: Vec<Wanted>,
+}
+
+impl Model for Asked {
+    ghost use Rattle.couch_base.specs.Messages.{AskedValue};
+
+    ghost Value = { AskedValue };
+
+    ghost use Rattle.couch_base.specs.Messages.{IsAsked};
+
+    ghost view = { λ a. record { lo = a.lo; hi = a.hi; docs = a.docs.items } };
+
+    ghost invariant = { λ a. IsAsked (record { lo = a.lo; hi = a.hi; docs = a.docs.items }) };
+}
+
+impl Asked {
+    ghost use Rattle.couch_base.specs.Messages.{AskedValue, IsAsked};
+
+    /// What is asked, of parts that make it.
+    pub(crate) fn new(lo: u64, hi: u64, docs: Vec<Wanted>) -> Asked
+        requires { IsAsked (record { lo = lo; hi = hi; docs = docs.items }) }
+        ensures { result ≡ record { lo = lo; hi = hi; docs = docs.items } }
+    {
+        Asked { lo, hi, docs }
+    }
+
+    /// The sequence above which the window begins.
+    pub fn lo(&self) -> u64
+        ensures value { result ≡ self.now.lo }
+        ensures asked { IsAsked self.now }
+    {
+        self.lo
+    }
+
+    /// The sequence at which it ends.
+    pub fn hi(&self) -> u64
+        ensures value { result ≡ self.now.hi }
+        ensures asked { IsAsked self.now }
+    {
+        self.hi
+    }
+
+    /// The documents, in the order of the window's rows.
+    pub fn docs(&self) -> &[Wanted]
+        ensures value { result.now ≡ self.now.docs }
+        ensures asked { IsAsked self.now }
+    {
+        &self.docs
+    }
+
+    /// The same again. The only error is `Memory`.
+    pub fn copy(&self, alloc: Global) -> Result<Asked, BaseFault>
+        ensures copied { IfOk result (λ a. a ≡ self.now) }
+        ensures err { IfErr result (λ e. e ≡ BaseFault.Memory) }
+        ensures asked { IsAsked self.now }
+    {
+        let docs = copied(alloc, &self.docs)?;
+        Ok(Asked {
+            lo: self.lo,
+            hi: self.hi,
+            docs,
+        })
+    }
+}
+
+/// The same list.
+fn copied(alloc: Global, docs: &[Wanted]) -> Result<Vec<Wanted>, BaseFault>
+    ensures copied { IfOk result (λ v. v.items ≡ docs.now) }
+    ensures err { IfErr result (λ e. e ≡ BaseFault.Memory) }
+{
+    let Ok(mut copy) = Vec::with_capacity(alloc, docs.len()) else {
+        return Err(BaseFault::Memory);
+    };
+    for wanted in docs {
+        let again = wanted.copy(alloc)?;
+        let Ok(()) = copy.push(again) else {
+            return Err(BaseFault::Memory);
+        };
+    }
+    Ok(copy)
+}

@@ -1,0 +1,186 @@
+//! Asking for missing revisions, and fetching them.
+ghost use Rattle.std.specs.Prelude.{◌≡◌, ◌++◌, [], true, map, OnOk, IfOk, IfErr};
+ghost use Rattle.std.specs.List.{list_all};
+ghost use Rattle.rev_tree.specs.Tree.{is_leaf, missing};
+ghost use Rattle.couch_base.specs.Database.{IsDocumentTree, tree_of};
+ghost use Rattle.couch_base.specs.Messages.{leaf_document, opened, want_first};
+
+use crate::asked::{Asked, Wanted};
+use crate::database::Database;
+use crate::fault::BaseFault;
+use crate::parcel::Parcel;
+use crate::row::Row;
+use crate::window::Window;
+use doc_json::{Body, Doc, DocId};
+use rev_core::Rev;
+use rev_tree::Tree;
+use std::alloc::Global;
+
+impl Database {
+    ghost use Rattle.couch_base.specs.Messages.{revs_diff, open_revs};
+
+    /// What this database misses of another one's window: the leaves of the rows that are not in its trees, in the rows'
+    /// order. The only error is `Memory`.
+    ///
+    /// A revision that is known as an ancestor only is not missing.
+    pub fn revs_diff(&self, alloc: Global, window: &Window) -> Result<Asked, BaseFault>
+        ensures asked { IfOk result (λ a. a ≡ revs_diff self.now window.now) }
+        ensures err { IfErr result (λ e. e ≡ BaseFault.Memory) }
+    {
+        let mut docs = Vec::new(alloc);
+        for row in window.rows() {
+            self.want(alloc, row, &mut docs)?;
+        }
+        Ok(Asked::new(window.lo(), window.hi(), docs))
+    }
+
+    /// What this database has of the asked revisions: of each document the leaves at or above them, each with its whole
+    /// known ancestry and its content; and the asked revisions that are gone. The only error is `Memory`.
+    ///
+    /// Documents stand in the order of the asked ones, their leaves with the winner first.
+    pub fn open_revs(&self, alloc: Global, asked: &Asked) -> Result<Parcel, BaseFault>
+        ensures parcel { IfOk result (λ p. p ≡ open_revs self.now asked.now) }
+        ensures err { IfErr result (λ e. e ≡ BaseFault.Memory) }
+    {
+        // The reading tells the proof that the database is lawful.
+        let _seq = self.update_seq();
+        let mut docs = Vec::new(alloc);
+        let mut gone = Vec::new(alloc);
+        for wanted in asked.docs() {
+            self.open(alloc, wanted, &mut docs)?;
+            self.miss(alloc, wanted, &mut gone)?;
+        }
+        let asked = asked.copy(alloc)?;
+        Ok(Parcel::new(asked, docs, gone))
+    }
+
+    /// Adds what is missing of a row.
+    fn want(&self, alloc: Global, row: &Row, docs: &mut Vec<Wanted>) -> Result<(), BaseFault>
+        ensures ok { OnOk result (docs.new.items ≡ docs.old.items
+            ++ want_first row.now.id (missing (tree_of self.now.docs row.now.id) row.now.leaves) []) }
+        ensures err { IfErr result (λ e. e ≡ BaseFault.Memory) }
+    {
+        let revs = self.missing(alloc, row.id(), row.leaves())?;
+        if revs.is_empty() {
+            return Ok(());
+        }
+        let Ok(id) = row.id().copy(alloc) else {
+            return Err(BaseFault::Memory);
+        };
+        let Ok(()) = docs.push(Wanted::new(id, revs)) else {
+            return Err(BaseFault::Memory);
+        };
+        Ok(())
+    }
+
+    /// Adds the documents of the leaves at or above the wanted revisions.
+    fn open(&self, alloc: Global, wanted: &Wanted, docs: &mut Vec<Doc>) -> Result<(), BaseFault>
+        ensures ok { OnOk result (docs.new.items ≡ docs.old.items
+            ++ opened wanted.now.id (tree_of self.now.docs wanted.now.id) wanted.now.revs) }
+        ensures err { IfErr result (λ e. e ≡ BaseFault.Memory) }
+    {
+        let Some(tree) = self.tree(wanted.id()) else {
+            return Ok(());
+        };
+        let Ok(leaves) = tree.leaves_above(alloc, wanted.revs()) else {
+            return Err(BaseFault::Memory);
+        };
+        add_documents(alloc, wanted.id(), tree, &leaves, docs)
+    }
+
+    /// Adds the wanted revisions that are not in the tree.
+    fn miss(
+        &self,
+        alloc: Global,
+        wanted: &Wanted,
+        gone: &mut Vec<(DocId, Rev)>,
+    ) -> Result<(), BaseFault>
+        ensures ok { OnOk result (gone.new.items ≡ gone.old.items
+            ++ map (λ r. (wanted.now.id, r)) (missing (tree_of self.now.docs wanted.now.id) wanted.now.revs)) }
+        ensures err { IfErr result (λ e. e ≡ BaseFault.Memory) }
+    {
+        let revs = self.missing(alloc, wanted.id(), wanted.revs())?;
+        add_revs(alloc, wanted.id(), &revs, gone)
+    }
+
+    /// The revisions that are not in the tree of a document.
+    fn missing(&self, alloc: Global, id: &DocId, revs: &[Rev]) -> Result<Vec<Rev>, BaseFault>
+        ensures missing { IfOk result (λ v. v.items ≡ missing (tree_of self.now.docs id.now) revs.now) }
+        ensures err { IfErr result (λ e. e ≡ BaseFault.Memory) }
+    {
+        let Some(tree) = self.tree(id) else {
+            return match Vec::from_slice(alloc, revs) {
+                Ok(missing) => Ok(missing),
+                Err(_) => Err(BaseFault::Memory),
+            };
+        };
+        match tree.missing(alloc, revs) {
+            Ok(missing) => Ok(missing),
+            Err(_) => Err(BaseFault::Memory),
+        }
+    }
+}
+
+/// Adds the documents of some leaves.
+fn add_documents(
+    alloc: Global,
+    id: &DocId,
+    tree: &Tree,
+    leaves: &[Rev],
+    docs: &mut Vec<Doc>,
+) -> Result<(), BaseFault>
+    requires document { IsDocumentTree tree.now }
+    requires leaves { list_all (is_leaf tree.now) leaves.now ≡ true }
+    ensures ok { OnOk result
+        (docs.new.items ≡ docs.old.items ++ map (leaf_document id.now tree.now) leaves.now) }
+    ensures err { IfErr result (λ e. e ≡ BaseFault.Memory) }
+{
+    for leaf in leaves {
+        let doc = document(alloc, id, tree, *leaf)?;
+        let Ok(()) = docs.push(doc) else {
+            return Err(BaseFault::Memory);
+        };
+    }
+    Ok(())
+}
+
+/// The document of a leaf.
+fn document(alloc: Global, id: &DocId, tree: &Tree, leaf: Rev) -> Result<Doc, BaseFault>
+    requires document { IsDocumentTree tree.now }
+    requires leaf { is_leaf tree.now leaf ≡ true }
+    ensures document { IfOk result (λ d. d ≡ leaf_document id.now tree.now leaf) }
+    ensures err { IfErr result (λ e. e ≡ BaseFault.Memory) }
+{
+    let content = tree.content(leaf).unwrap();
+    let Ok(text) = Vec::from_slice(alloc, content.body()) else {
+        return Err(BaseFault::Memory);
+    };
+    let Ok(id) = id.copy(alloc) else {
+        return Err(BaseFault::Memory);
+    };
+    let Ok(ancestry) = tree.ancestry(alloc, leaf) else {
+        return Err(BaseFault::Memory);
+    };
+    Ok(Doc::new(id, ancestry, content.deleted(), Body::from_text(text)))
+}
+
+/// Adds revisions of a document.
+fn add_revs(
+    alloc: Global,
+    id: &DocId,
+    revs: &[Rev],
+    gone: &mut Vec<(DocId, Rev)>,
+) -> Result<(), BaseFault>
+    ensures ok { OnOk result (gone.new.items ≡ gone.old.items ++ map (λ r. (id.now, r)) revs.now) }
+    ensures err { IfErr result (λ e. e ≡ BaseFault.Memory) }
+{
+    for rev in revs {
+        let Ok(again) = id.copy(alloc) else {
+            return Err(BaseFault::Memory);
+        };
+        let Ok(()) = gone.push((again, *rev)) else {
+            return Err(BaseFault::Memory);
+        };
+    }
+    Ok(())
+}

@@ -1,0 +1,142 @@
+//! What is fetched.
+ghost use Rattle.std.specs.Prelude.{◌≡◌, IfOk, IfErr};
+
+use crate::asked::Asked;
+use crate::fault::BaseFault;
+use doc_json::{Doc, DocId};
+use rev_core::Rev;
+use std::alloc::Global;
+use std::marker::Model;
+
+/// What is fetched for the asked of a window `(lo, hi]`: the asked, documents, and the asked revisions that are gone.
+///
+/// Each asked revision is in the ancestry of a fetched document of its id, or gone. Each fetched ancestry has an asked
+/// revision. No id and head comes twice.
+#[derive(Drop)]
+pub struct Parcel {
+    asked: Asked,
+    docs: Vec<Doc>,
+    gone: Vec<(DocId, Rev)>,
+}
+
+impl Model for Parcel {
+    ghost use Rattle.couch_base.specs.Messages.{ParcelValue};
+
+    ghost Value = { ParcelValue };
+
+    ghost use Rattle.couch_base.specs.Messages.{IsParcel};
+
+    ghost view = { λ p. record { asked = p.asked; docs = p.docs.items; gone = p.gone.items } };
+
+    ghost invariant = { λ p. IsParcel (record { asked = p.asked; docs = p.docs.items; gone = p.gone.items }) };
+}
+
+impl Parcel {
+    ghost use Rattle.couch_base.specs.Messages.{ParcelValue, IsParcel};
+
+    /// The parcel of these parts, which make one.
+    pub(crate) fn new(asked: Asked, docs: Vec<Doc>, gone: Vec<(DocId, Rev)>) -> Parcel
+        requires { IsParcel (record { asked = asked; docs = docs.items; gone = gone.items }) }
+        ensures { result ≡ record { asked = asked; docs = docs.items; gone = gone.items } }
+    {
+        Parcel { asked, docs, gone }
+    }
+
+    /// The sequence above which the window begins.
+    pub fn lo(&self) -> u64
+        ensures value { result ≡ self.now.asked.lo }
+        ensures parcel { IsParcel self.now }
+    {
+        self.asked.lo()
+    }
+
+    /// The sequence at which it ends.
+    pub fn hi(&self) -> u64
+        ensures value { result ≡ self.now.asked.hi }
+        ensures parcel { IsParcel self.now }
+    {
+        self.asked.hi()
+    }
+
+    /// What was asked for.
+    pub fn asked(&self) -> &Asked
+        ensures value { result.now ≡ self.now.asked }
+        ensures parcel { IsParcel self.now }
+    {
+        &self.asked
+    }
+
+    /// The fetched documents, in the order of the asked ones, of each one the winner first.
+    pub fn docs(&self) -> &[Doc]
+        ensures value { result.now ≡ self.now.docs }
+        ensures parcel { IsParcel self.now }
+    {
+        &self.docs
+    }
+
+    /// The asked revisions that are not in their documents' trees.
+    pub fn gone(&self) -> &[(DocId, Rev)]
+        ensures value { result.now ≡ self.now.gone }
+        ensures parcel { IsParcel self.now }
+    {
+        &self.gone
+    }
+
+    /// The asked, the documents and the gone revisions.
+    pub fn into_parts(self) -> (Asked, Vec<Doc>, Vec<(DocId, Rev)>)
+        ensures parts { self ≡ record { asked = result.0; docs = result.1.items; gone = result.2.items } }
+        ensures parcel { IsParcel self }
+    {
+        (self.asked, self.docs, self.gone)
+    }
+
+    /// The same parcel. The only error is `Memory`.
+    pub fn copy(&self, alloc: Global) -> Result<Parcel, BaseFault>
+        ensures copied { IfOk result (λ p. p ≡ self.now) }
+        ensures err { IfErr result (λ e. e ≡ BaseFault.Memory) }
+        ensures parcel { IsParcel self.now }
+    {
+        let asked = self.asked.copy(alloc)?;
+        let docs = docs_copied(alloc, &self.docs)?;
+        let gone = gone_copied(alloc, &self.gone)?;
+        Ok(Parcel { asked, docs, gone })
+    }
+}
+
+/// The same documents.
+fn docs_copied(alloc: Global, docs: &[Doc]) -> Result<Vec<Doc>, BaseFault>
+    ensures copied { IfOk result (λ v. v.items ≡ docs.now) }
+    ensures err { IfErr result (λ e. e ≡ BaseFault.Memory) }
+{
+    let Ok(mut copy) = Vec::with_capacity(alloc, docs.len()) else {
+        return Err(BaseFault::Memory);
+    };
+    for doc in docs {
+        let Ok(again) = doc.copy(alloc) else {
+            return Err(BaseFault::Memory);
+        };
+        let Ok(()) = copy.push(again) else {
+            return Err(BaseFault::Memory);
+        };
+    }
+    Ok(copy)
+}
+
+/// The same revisions.
+fn gone_copied(alloc: Global, gone: &[(DocId, Rev)]) -> Result<Vec<(DocId, Rev)>, BaseFault>
+    ensures copied { IfOk result (λ v. v.items ≡ gone.now) }
+    ensures err { IfErr result (λ e. e ≡ BaseFault.Memory) }
+{
+    let Ok(mut copy) = Vec::with_capacity(alloc, gone.len()) else {
+        return Err(BaseFault::Memory);
+    };
+    for (id, rev) in gone {
+        let Ok(again) = id.copy(alloc) else {
+            return Err(BaseFault::Memory);
+        };
+        let Ok(()) = copy.push((again, *rev)) else {
+            return Err(BaseFault::Memory);
+        };
+    }
+    Ok(copy)
+}

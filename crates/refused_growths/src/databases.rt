@@ -1,0 +1,176 @@
+//! `Database::put`, `edit`, `page`, `revs_diff` and `open_revs`, and the copies of their messages. A refused growth leaves a
+//! database as it was.
+use anyhow::{Result, bail};
+use couch_base::{Asked, BaseFault, Database, Parcel, Put, Window};
+use doc_json::{Body, Doc, DocFault, DocId, read_body, read_doc};
+use rev_core::Rev;
+use rev_tree::Origin;
+use serde_json::Value;
+use std::alloc::Global;
+
+fn value(alloc: Global, text: &str) -> Result<Value> {
+    match Value::from_str(alloc, text) {
+        Ok(value) => Ok(value),
+        Err(_) => Ok(Value::from_str(alloc, text)?),
+    }
+}
+
+fn doc(alloc: Global, text: &str) -> Result<Doc> {
+    let value = value(alloc, text)?;
+    match read_doc(alloc, &value) {
+        Err(DocFault::Memory) => Ok(read_doc(alloc, &value)?),
+        answer => Ok(answer?),
+    }
+}
+
+fn body(alloc: Global, text: &str) -> Result<Body> {
+    let value = value(alloc, text)?;
+    match read_body(alloc, &value) {
+        Err(DocFault::Memory) => Ok(read_body(alloc, &value)?),
+        answer => Ok(answer?),
+    }
+}
+
+fn doc_id(alloc: Global, text: &str) -> Result<DocId> {
+    match DocId::parse(alloc, text) {
+        Err(DocFault::Memory) => Ok(DocId::parse(alloc, text)?),
+        answer => Ok(answer?),
+    }
+}
+
+/// The update sequence, and how many revisions and leaves a document has, and which leaf wins.
+fn reading(db: &Database, id: &DocId) -> (u64, usize, usize, Option<Rev>) {
+    match db.tree(id) {
+        Some(tree) => (
+            db.update_seq(),
+            tree.rev_count(),
+            tree.leaf_count(),
+            tree.winner(),
+        ),
+        None => (db.update_seq(), 0, 0, None),
+    }
+}
+
+/// The sequences of the feed, summed with their places.
+fn feed(alloc: Global, db: &Database) -> Result<u64> {
+    if db.update_seq() == 0 {
+        return Ok(0);
+    }
+    let window = page(alloc, db, 0, 100)?;
+    let mut sum = 0u64;
+    for row in window.rows() {
+        sum = sum.wrapping_mul(1000).wrapping_add(row.seq());
+    }
+    Ok(sum)
+}
+
+fn put(alloc: Global, db: &mut Database, text: &str) -> Result<Put> {
+    let doc = doc(alloc, text)?;
+    let before = reading(db, doc.id());
+    let rows = feed(alloc, db)?;
+    match db.put(&doc, Origin::Local(0)) {
+        Err(BaseFault::Memory) => {
+            if reading(db, doc.id()) != before || feed(alloc, db)? != rows {
+                bail!("a refused put changed the database");
+            }
+            Ok(db.put(&doc, Origin::Local(0))?)
+        }
+        answer => Ok(answer?),
+    }
+}
+
+fn edit(
+    alloc: Global,
+    db: &mut Database,
+    id: &DocId,
+    parent: Option<Rev>,
+    body: &Body,
+) -> Result<Rev> {
+    let before = reading(db, id);
+    let rows = feed(alloc, db)?;
+    match db.edit(id, parent, false, body, Origin::Local(0)) {
+        Err(BaseFault::Memory) => {
+            if reading(db, id) != before || feed(alloc, db)? != rows {
+                bail!("a refused edit changed the database");
+            }
+            Ok(db.edit(id, parent, false, body, Origin::Local(0))?)
+        }
+        answer => Ok(answer?),
+    }
+}
+
+fn page(alloc: Global, db: &Database, since: u64, limit: u64) -> Result<Window> {
+    match db.page(alloc, since, db.update_seq(), limit) {
+        Err(BaseFault::Memory) => Ok(db.page(alloc, since, db.update_seq(), limit)?),
+        answer => Ok(answer?),
+    }
+}
+
+fn window_copied(alloc: Global, window: &Window) -> Result<Window> {
+    match window.copy(alloc) {
+        Err(BaseFault::Memory) => Ok(window.copy(alloc)?),
+        answer => Ok(answer?),
+    }
+}
+
+fn asked(alloc: Global, db: &Database, window: &Window) -> Result<Asked> {
+    let asked = match db.revs_diff(alloc, window) {
+        Err(BaseFault::Memory) => db.revs_diff(alloc, window)?,
+        answer => answer?,
+    };
+    match asked.copy(alloc) {
+        Err(BaseFault::Memory) => Ok(asked.copy(alloc)?),
+        answer => Ok(answer?),
+    }
+}
+
+fn opened(alloc: Global, db: &Database, asked: &Asked) -> Result<Parcel> {
+    let parcel = match db.open_revs(alloc, asked) {
+        Err(BaseFault::Memory) => db.open_revs(alloc, asked)?,
+        answer => answer?,
+    };
+    match parcel.copy(alloc) {
+        Err(BaseFault::Memory) => Ok(parcel.copy(alloc)?),
+        answer => Ok(answer?),
+    }
+}
+
+/// A database of four documents, two of them edited.
+fn grown(alloc: Global) -> Result<Database> {
+    let mut db = Database::new(alloc, 7);
+    for text in [
+        r#"{"_id":"a","_revisions":{"start":2,"ids":["b","a"]},"n":1}"#,
+        r#"{"_id":"b","_rev":"1-a"}"#,
+        r#"{"_id":"c","_rev":"1-a","_deleted":true}"#,
+        r#"{"_id":"a","_revisions":{"start":2,"ids":["c","a"]}}"#,
+    ] {
+        let Put::Changed { .. } = put(alloc, &mut db, text)? else {
+            bail!("a put changed nothing");
+        };
+    }
+    let body = body(alloc, r#"{"n":2}"#)?;
+    let first = doc_id(alloc, "c")?;
+    let rev = edit(alloc, &mut db, &first, None, &body)?;
+    edit(alloc, &mut db, &first, Some(rev), &body)?;
+    let second = doc_id(alloc, "d")?;
+    edit(alloc, &mut db, &second, None, &body)?;
+    Ok(db)
+}
+
+pub(crate) fn run(rt: &impl Print, alloc: Global) -> Result<()> {
+    let db = grown(alloc)?;
+    let window = window_copied(alloc, &page(alloc, &db, 0, 10)?)?;
+    let empty = Database::new(alloc, 8);
+    let asked = asked(alloc, &empty, &window)?;
+    let parcel = opened(alloc, &db, &asked)?;
+    let nothing = opened(alloc, &empty, &asked)?;
+    println!(rt;
+        "databases as wanted: sequence {}, rows {}, asked {}, fetched {}, gone {}",
+        db.update_seq(),
+        window.rows().len(),
+        asked.docs().len(),
+        parcel.docs().len(),
+        nothing.gone().len()
+    )?;
+    Ok(())
+}

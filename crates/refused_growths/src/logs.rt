@@ -1,0 +1,79 @@
+//! `Log::put`, `Log::copy`, `rep_id` and `write_log`.
+use anyhow::{Result, bail};
+use repl_log::{Entry, Log, LogFault, Moment, RepId, rep_id, write_log};
+use rev_tree::SessionId;
+use std::alloc::Global;
+
+/// The entry of a session that recorded up to the sequence of its own number and read nothing.
+fn entry(recorded: u64) -> Result<Entry, LogFault> {
+    let at = Moment::new(1_381_384_598)?;
+    Ok(Entry {
+        session: SessionId(u128::from(recorded)),
+        start: 0,
+        recorded,
+        start_time: at,
+        end_time: at,
+        checked: 0,
+        found: 0,
+        read: 0,
+        written: 0,
+        failures: 0,
+    })
+}
+
+/// Puts, and once more where memory was refused. Says whether a refusal changed the log.
+fn put(log: &mut Log, recorded: u64) -> Result<bool, LogFault> {
+    let before = log.entries().len();
+    match log.put(entry(recorded)?) {
+        Err(LogFault::Memory) => {
+            let changed = log.entries().len() != before;
+            log.put(entry(recorded)?)?;
+            Ok(changed)
+        }
+        answer => answer.map(|_| false),
+    }
+}
+
+fn copied(alloc: Global, log: &Log) -> Result<Log, LogFault> {
+    match log.copy(alloc) {
+        Err(LogFault::Memory) => log.copy(alloc),
+        answer => answer,
+    }
+}
+
+fn named(alloc: Global, id: &RepId) -> Result<Vec<u8>, LogFault> {
+    match rep_id(alloc, id) {
+        Err(LogFault::Memory) => rep_id(alloc, id),
+        answer => answer,
+    }
+}
+
+fn written(alloc: Global, id: &RepId, log: &Log) -> Result<Vec<u8>, LogFault> {
+    match write_log(alloc, id, log) {
+        Err(LogFault::Memory) => write_log(alloc, id, log),
+        answer => answer,
+    }
+}
+
+pub(crate) fn run(rt: &impl Print, alloc: Global) -> Result<()> {
+    let mut log = Log::new(alloc);
+    for recorded in 1..6u64 {
+        if put(&mut log, recorded)? {
+            bail!("a refused put changed the log");
+        }
+    }
+    let log = copied(alloc, &log)?;
+    let id = RepId {
+        source: 1,
+        target: 2,
+    };
+    if named(alloc, &id)?.len() != 32 + 1 + 32 {
+        bail!("another id");
+    }
+    let text = written(alloc, &id, &log)?;
+    if !text.starts_with(b"{\"_id\":\"_local/00000000000000000000000000000001-") {
+        bail!("another text");
+    }
+    println!(rt; "logs as wanted")?;
+    Ok(())
+}
