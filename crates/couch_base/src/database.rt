@@ -168,6 +168,7 @@ impl Database {
     ) -> Result<Rev, BaseFault>
         ensures answer { EditGives result (edit_answer self.old id.now parent deleted body.now) }
         ensures ok { OnOk result (self.new ≡ after_edit self.old id.now parent deleted body.now origin) }
+        ensures seq { OnOk result (self.new.update_seq ≡ self.old.update_seq + 1) }
         ensures err { OnErr result (self.new ≡ self.old) }
         ensures law { LawfulDatabase self.new }
     {

@@ -1,7 +1,8 @@
 pub mod MembersLemmas
 pub mod TableLemmas
-pub mod DatabasesLemmas
-pub mod DocumentLemmas
+pub mod NamedLemmas
+pub mod IndexLemmas
+pub mod PageLemmas
 pub mod ReplyLemmas
 pub mod DeviceLemmas
 pub mod ServedLemmas

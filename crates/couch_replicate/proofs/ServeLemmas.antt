@@ -1,26 +1,29 @@
 -- From what is asked to what the line is answered.
-use Rattle.std.proofs.Common.{◌≡◌, ◌≢◌, ℕ, List, true, false, refl, sym, ap, Ok, Err, inl, inr}
+use Rattle.std.proofs.Common.{◌≡◌, ◌⊎◌, ℕ, List, true, false, refl, sym, ap, subst, ◌∙◌, Some, None, Ok, Err, inl, inr}
 use Rattle.std.specs.Prelude.{not}
+use Rattle.serde_json.specs.Data.{Data, Members, object}
 use Rattle.couch_replicate.specs.Lines.{is_blank}
-use Rattle.couch_replicate.specs.Command.{Ask, Asks}
+use Rattle.couch_replicate.specs.Command.{Ask, Asks, IsObject, IsNoObject, ask_in}
 use Rattle.couch_replicate.specs.Reply.{Reply, refused, reply_text}
 use Rattle.couch_replicate.specs.Databases.{State}
 use Rattle.couch_replicate.specs.Script.{Step, answered, gave_up, served_only, is_accepted}
 use Rattle.couch_replicate.specs.Serving.{RefusesAsk, asked_in_vain, asked_before, asked_after, TellsLine, RefusesLine, in_vain, before, after, IsRefusalText}
 use Rattle.couch_replicate.specs.declared.refusal.Refusal.{Refusal}
-use Rattle.couch_replicate.specs.declared.refusal.Refusal.TheVariants.{BadLine, BadCommand, NoDatabase, NoSuchDocument, NoSuchRevision, Contradiction, Memory}
+use Rattle.couch_replicate.specs.declared.refusal.Refusal.TheVariants.{BadLine, BadCommand, Memory}
 
 -- a line that asks for nothing
-pub line_refused : (old : State) (line : List ℕ) (why : Refusal) → (why ≢ Memory → Asks line (Err why)) → RefusesLine old line why old
-line_refused old line BadLine h = in_vain (Err BadLine, h (λ e. cc), (refl, refl))
-line_refused old line BadCommand h = in_vain (Err BadCommand, h (λ e. cc), (refl, refl))
-line_refused old line NoDatabase h = absurd (h (λ e. cc))
-line_refused old line NoSuchDocument h = absurd (h (λ e. cc))
-line_refused old line NoSuchRevision h = absurd (h (λ e. cc))
-line_refused old line Contradiction h = absurd (h (λ e. cc))
-line_refused old line Memory h = before
+pub line_refused : (old : State) (line : List ℕ) (why : Refusal) → (why ≡ Memory) ⊎ ((why ≡ BadLine) × IsNoObject line) → RefusesLine old line why old
+line_refused old line why (inl e) = subst (λ w. RefusesLine old line w old) (sym e) before
+line_refused old line why (inr h) = subst (λ w. RefusesLine old line w old) (sym h.0) (in_vain (Err BadLine, h.1, (refl, refl)))
 
--- a line that asks for what is refused
+pub line_bad : (old : State) (line : List ℕ) (ms : Members) (d : Data) → IsObject line ms → d ≡ object ms → ask_in d ≡ None → RefusesLine old line BadCommand old
+line_bad old line ms d is e none = in_vain (Err BadCommand, (ms, is, ap ask_in (sym e) ∙ none), (refl, refl))
+
+-- a line that asks for something
+pub asks : (line : List ℕ) (ms : Members) (d : Data) (ask : Ask) → IsObject line ms → d ≡ object ms → ask_in d ≡ Some ask → Asks line (Ok ask)
+asks line ms d ask is e some = (ms, is, ap ask_in (sym e) ∙ some)
+
+-- one that asks for what is refused
 pub ask_refused : {old new : State} {ask : Ask} {why : Refusal} (line : List ℕ) → Asks line (Ok ask) → RefusesAsk old ask why new → RefusesLine old line why new
 ask_refused {ask = ask} line asks (asked_in_vain a) = in_vain (Ok ask, asks, a)
 ask_refused line asks asked_before = before

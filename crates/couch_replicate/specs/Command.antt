@@ -1,41 +1,61 @@
 -- What a line asks for: docs/PROFILE.md, "Command lines".
-use Rattle.std.specs.Prelude.{◌≡◌, ℕ, List, [], ◌∷◌, if◌then◌else◌, Option, Some, None, option_and_then, option_map, Result, Ok, Err, codes, string_bytes}
+use Rattle.std.specs.Prelude.{◌≡◌, ℕ, Bool, false, List, [], ◌∷◌, if◌then◌else◌, Option, Some, None, unwrap_or, option_and_then, option_map, Result, Ok, Err, codes}
+use Rattle.std.specs.Option.{option_copied}
 use Rattle.std.specs.Str.{IsUtf8, bytes_eq}
 use Rattle.serde_json.specs.Data.{Data, object, Members}
+use Rattle.serde_json.specs.Find.{get, as_bool, as_str}
 use Rattle.serde_json.specs.Read.{read}
-use Rattle.couch_replicate.specs.Members.{text_at, name_at, optional, if_only}
-use Rattle.couch_replicate.specs.Document.{DocumentValue, document_in, id_at}
+use Rattle.serde_json.specs.View.{view}
+use Rattle.couch_replicate.specs.Members.{text_at, name_at, optional, if_only, as_whole, as_uuid}
 use Rattle.couch_replicate.specs.declared.command.Command.{Command}
 use Rattle.couch_replicate.specs.declared.command.Command.TheVariants as command
-use Rattle.couch_replicate.specs.declared.document.Document.{Document}
 use Rattle.couch_replicate.specs.declared.refusal.Refusal.{Refusal}
 use Rattle.couch_replicate.specs.declared.refusal.Refusal.TheVariants as why
 
--- what a line may ask for: to load a document, or make a database where none is given; to show a document
+-- what a line may ask for; ids and revisions are texts, documents and bodies JSON values
 pub data Ask : Type 0 where
-  load : (db : List ℕ) (doc : Option DocumentValue) → Ask
+  -- to load a document, or make a database where none is given, with the UUID of that number where one is given
+  load : (db : List ℕ) (uuid : Option ℕ) (given : Option Data) → Ask
+  edit : (db id : List ℕ) (parent : Option (List ℕ)) (deleted : Bool) (body : Option Data) → Ask
   show : (db id : List ℕ) → Ask
+  -- the document at a revision, or at the winner where none is named
+  doc : (db id : List ℕ) (rev : Option (List ℕ)) → Ask
+  -- the changes above a sequence
+  changes : (db : List ℕ) (since : ℕ) → Ask
 
--- a document and a command without where they lie in memory
-abbrev pub document_of : Document → DocumentValue
-document_of doc = record { id = string_bytes doc.id; ancestry = doc.ancestry; deleted = doc.deleted }
-
+-- a command without where it lies in memory
 abbrev pub ask_of : Command → Ask
-ask_of (command.Load db doc) = load (string_bytes db) (option_map document_of doc)
-ask_of (command.Show db id) = show (string_bytes db) (string_bytes id)
+ask_of (command.Load db uuid given) = load db.now uuid (option_map (λ v. view v.now) given)
+ask_of (command.Edit db id parent deleted body) = edit db.now id.now (option_copied parent) deleted (option_map (λ v. view v.now) body)
+ask_of (command.Show db id) = show db.now id.now
+ask_of (command.Doc db id rev) = doc db.now id.now (option_copied rev)
+ask_of (command.Changes db since) = changes db.now since
 
 -- ---- the commands: all required members, each of its kind, and no others
 
--- `doc` may be left out
+-- `doc` may be any value
 abbrev pub load_in : Data → Option Ask
-load_in d = option_and_then (λ db. option_and_then (λ doc. if_only (codes "do" ∷ codes "db" ∷ codes "doc" ∷ []) d (load db doc)) (optional document_in (codes "doc") d)) (name_at (codes "db") d)
+load_in d = option_and_then (λ db. option_and_then (λ uuid. if_only (codes "do" ∷ codes "db" ∷ codes "uuid" ∷ codes "doc" ∷ []) d (load db uuid (get (codes "doc") d))) (optional as_uuid (codes "uuid") d)) (name_at (codes "db") d)
+
+-- `body` may be any value
+abbrev pub edit_with : Data → List ℕ → List ℕ → Option Ask
+edit_with d db id = option_and_then (λ parent. option_and_then (λ deleted. if_only (codes "do" ∷ codes "db" ∷ codes "id" ∷ codes "parent" ∷ codes "deleted" ∷ codes "body" ∷ []) d (edit db id parent (unwrap_or deleted false) (get (codes "body") d))) (optional as_bool (codes "deleted") d)) (optional as_str (codes "parent") d)
+
+abbrev pub edit_in : Data → Option Ask
+edit_in d = option_and_then (λ db. option_and_then (λ id. edit_with d db id) (text_at (codes "id") d)) (name_at (codes "db") d)
 
 abbrev pub show_in : Data → Option Ask
-show_in d = option_and_then (λ db. option_and_then (λ id. if_only (codes "do" ∷ codes "db" ∷ codes "id" ∷ []) d (show db id)) (id_at (codes "id") d)) (name_at (codes "db") d)
+show_in d = option_and_then (λ db. option_and_then (λ id. if_only (codes "do" ∷ codes "db" ∷ codes "id" ∷ []) d (show db id)) (text_at (codes "id") d)) (name_at (codes "db") d)
+
+abbrev pub doc_in : Data → Option Ask
+doc_in d = option_and_then (λ db. option_and_then (λ id. option_and_then (λ rev. if_only (codes "do" ∷ codes "db" ∷ codes "id" ∷ codes "rev" ∷ []) d (doc db id rev)) (optional as_str (codes "rev") d)) (text_at (codes "id") d)) (name_at (codes "db") d)
+
+abbrev pub changes_in : Data → Option Ask
+changes_in d = option_and_then (λ db. option_and_then (λ since. if_only (codes "do" ∷ codes "db" ∷ codes "since" ∷ []) d (changes db (unwrap_or since 0))) (optional as_whole (codes "since") d)) (name_at (codes "db") d)
 
 -- the command of a word
 abbrev pub ask_by : List ℕ → Data → Option Ask
-ask_by word d = if bytes_eq word (codes "load") then load_in d else (if bytes_eq word (codes "show") then show_in d else None)
+ask_by word d = if bytes_eq word (codes "load") then load_in d else (if bytes_eq word (codes "edit") then edit_in d else (if bytes_eq word (codes "show") then show_in d else (if bytes_eq word (codes "doc") then doc_in d else (if bytes_eq word (codes "changes") then changes_in d else None))))
 
 -- the member `do` is the word
 abbrev pub ask_in : Data → Option Ask
@@ -47,9 +67,13 @@ ask_in d = option_and_then (λ word. ask_by word d) (text_at (codes "do") d)
 abbrev pub IsObject : List ℕ → Members → Type 0
 IsObject line ms = IsUtf8 line × (read line ≡ Some (object ms))
 
+-- it is none
+abbrev pub IsNoObject : List ℕ → Type 0
+IsNoObject line = (ms : Members) → IsObject line ms → ⊥
+
 -- what the line asks for, or why it asks for nothing
 abbrev pub Asks : List ℕ → Result Ask Refusal → Type 0
 Asks line (Ok ask) = (ms : Members) × IsObject line ms × (ask_in (object ms) ≡ Some ask)
 Asks line (Err why.BadCommand) = (ms : Members) × IsObject line ms × (ask_in (object ms) ≡ None)
-Asks line (Err why.BadLine) = (ms : Members) → IsObject line ms → ⊥
+Asks line (Err why.BadLine) = IsNoObject line
 Asks line (Err refusal) = ⊥

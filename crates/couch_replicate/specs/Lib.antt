@@ -1,9 +1,12 @@
 pub mod Device
 pub mod Lines
 pub mod Members
-pub mod Document
+pub mod Given
+pub mod Edits
+pub mod Local
 pub mod Command
 pub mod Databases
+pub mod MadeIds
 pub mod Reply
 pub mod Answers
 pub mod Script

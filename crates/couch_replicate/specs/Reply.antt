@@ -9,6 +9,9 @@ use Rattle.rev_core.specs.Rev.{RevId}
 use Rattle.rev_core.specs.Text.{rev_text}
 use Rattle.rev_tree.specs.InOrder.{first_of}
 use Rattle.rev_tree.specs.Tree.{TreeValue, leaves, ancestors, is_deleted}
+use Rattle.doc_json.specs.Document.{Document}
+use Rattle.doc_json.specs.DocText.{doc_text}
+use Rattle.couch_base.specs.Feed.{RowValue}
 use Rattle.couch_replicate.specs.declared.refusal.Refusal.{Refusal}
 use Rattle.couch_replicate.specs.declared.refusal.Refusal.TheVariants as why
 
@@ -20,7 +23,10 @@ pub data Reply : Type 0 where
   there : (db : List ℕ) → Reply
   loaded : (db id : List ℕ) (rev : Option RevId) (seq : ℕ) → Reply
   same : (db id : List ℕ) (rev : Option RevId) → Reply
+  edited : (db id : List ℕ) (rev : RevId) (seq : ℕ) → Reply
   shown : (id : List ℕ) (tree : TreeValue) → Reply
+  written : (doc : Document) → Reply
+  listed : (rows : List RowValue) (last : ℕ) → Reply
   refused : Refusal → Reply
 
 abbrev pub is_refusal : Reply → Bool
@@ -29,16 +35,39 @@ is_refusal (made db) = false
 is_refusal (there db) = false
 is_refusal (loaded db id rev seq) = false
 is_refusal (same db id rev) = false
+is_refusal (edited db id rev seq) = false
 is_refusal (shown id tree) = false
+is_refusal (written doc) = false
+is_refusal (listed rows last) = false
 is_refusal (refused refusal) = true
 
 abbrev pub name_of : Refusal → List ℕ
 name_of why.BadLine = codes "BadLine"
 name_of why.BadCommand = codes "BadCommand"
 name_of why.NoDatabase = codes "NoDatabase"
+name_of why.DatabaseExists = codes "DatabaseExists"
+name_of why.UuidTaken = codes "UuidTaken"
+name_of why.NoId = codes "NoId"
+name_of why.ReservedId = codes "ReservedId"
+name_of why.BadGeneration = codes "BadGeneration"
+name_of why.BadSig = codes "BadSig"
+name_of why.NotObject = codes "NotObject"
+name_of why.Attachments = codes "Attachments"
+name_of why.SpecialMember = codes "SpecialMember"
+name_of why.NoRev = codes "NoRev"
+name_of why.BadRevisions = codes "BadRevisions"
+name_of why.RevMismatch = codes "RevMismatch"
+name_of why.Fraction = codes "Fraction"
 name_of why.NoSuchDocument = codes "NoSuchDocument"
 name_of why.NoSuchRevision = codes "NoSuchRevision"
 name_of why.Contradiction = codes "Contradiction"
+name_of why.Conflict = codes "Conflict"
+name_of why.GenerationFull = codes "GenerationFull"
+name_of why.RevExists = codes "RevExists"
+name_of why.SeqFull = codes "SeqFull"
+name_of why.BadLimit = codes "BadLimit"
+name_of why.BadRange = codes "BadRange"
+name_of why.GoalAhead = codes "GoalAhead"
 name_of why.Memory = codes "Memory"
 
 -- ---- parts of answers
@@ -68,6 +97,12 @@ shown_head id tree = ended (codes "doc " ++ quoted id ++ codes " winner " ++ tex
 abbrev pub leaf_line : TreeValue → RevId → List ℕ
 leaf_line tree leaf = ended (codes "leaf " ++ rev_text leaf ++ (if is_deleted tree leaf then codes " deleted " else codes " live ") ++ texts_of_revs (ancestors tree leaf))
 
+-- ---- the answer to `changes`
+
+-- a document's latest change, and its leaves
+abbrev pub row_line : RowValue → List ℕ
+row_line r = ended (codes "change " ++ decimal r.seq ++ codes " " ++ quoted r.id ++ codes " " ++ texts_of_revs r.leaves)
+
 -- ---- answers
 
 -- the answer to the line of that number
@@ -77,5 +112,8 @@ reply_text n (made db) = ended (codes "made " ++ db)
 reply_text n (there db) = ended (codes "there " ++ db)
 reply_text n (loaded db id rev seq) = ended (codes "loaded " ++ db ++ codes " " ++ quoted id ++ codes " " ++ text_of_any rev ++ codes " seq " ++ decimal seq)
 reply_text n (same db id rev) = ended (codes "same " ++ db ++ codes " " ++ quoted id ++ codes " " ++ text_of_any rev)
+reply_text n (edited db id rev seq) = ended (codes "edited " ++ db ++ codes " " ++ quoted id ++ codes " " ++ rev_text rev ++ codes " seq " ++ decimal seq)
 reply_text n (shown id tree) = shown_head id tree ++ flat_map (leaf_line tree) (leaves tree)
+reply_text n (written doc) = ended (doc_text doc)
+reply_text n (listed rows last) = flat_map row_line rows ++ ended (codes "last " ++ decimal last)
 reply_text n (refused refusal) = ended (codes "refused " ++ decimal n ++ codes " " ++ name_of refusal)

@@ -1,9 +1,10 @@
 -- How a line is served, for the functions that do it.
-use Rattle.std.specs.Prelude.{◌≡◌, ℕ, List, false, ◌⊎◌}
+use Rattle.std.specs.Prelude.{◌≡◌, ℕ, List, false, ◌⊎◌, Option, Ok}
+use Rattle.doc_json.specs.Document.{Document}
 use Rattle.couch_replicate.specs.Command.{Ask}
 use Rattle.couch_replicate.specs.Databases.{State}
 use Rattle.couch_replicate.specs.Reply.{Reply, refused, is_refusal, reply_text}
-use Rattle.couch_replicate.specs.Answers.{Answers}
+use Rattle.couch_replicate.specs.Answers.{Answers, LoadsNew}
 use Rattle.couch_replicate.specs.Script.{AnswersLine}
 use Rattle.couch_replicate.specs.declared.refusal.Refusal.{Refusal}
 use Rattle.couch_replicate.specs.declared.refusal.Refusal.TheVariants.{Memory}
@@ -17,6 +18,15 @@ pub data RefusesAsk : State → Ask → Refusal → State → Type 0 where
   asked_in_vain : {old new : State} {ask : Ask} {why : Refusal} → Answers old ask (refused why) new → RefusesAsk old ask why new
   asked_before : {old : State} {ask : Ask} → RefusesAsk old ask Memory old
   asked_after : {old new : State} {ask : Ask} (reply : Reply) → Answers old ask reply new → RefusesAsk old ask Memory new
+
+-- the same of the load of a database that is new, with a document that was read
+abbrev pub TellsNew : State → List ℕ → ℕ → Option Document → List ℕ → State → Type 0
+TellsNew old db uuid given text new = (reply : Reply) × LoadsNew old db uuid (Ok given) reply new × (is_refusal reply ≡ false) × ((n : ℕ) → text ≡ reply_text n reply)
+
+pub data RefusesNew : State → List ℕ → ℕ → Option Document → Refusal → State → Type 0 where
+  new_in_vain : {old new : State} {db : List ℕ} {uuid : ℕ} {given : Option Document} {why : Refusal} → LoadsNew old db uuid (Ok given) (refused why) new → RefusesNew old db uuid given why new
+  new_before : {old : State} {db : List ℕ} {uuid : ℕ} {given : Option Document} → RefusesNew old db uuid given Memory old
+  new_after : {old new : State} {db : List ℕ} {uuid : ℕ} {given : Option Document} (reply : Reply) → LoadsNew old db uuid (Ok given) reply new → RefusesNew old db uuid given Memory new
 
 -- the same of a line
 abbrev pub TellsLine : State → List ℕ → List ℕ → State → Type 0

@@ -1,22 +1,21 @@
 -- What the tables in memory stand for.
-use Rattle.std.specs.Prelude.{List, map, String, string_bytes}
+use Rattle.std.specs.Prelude.{◌≡◌, ℕ, true, List, map, nat_eq, String, string_bytes}
 use Rattle.std.specs.declared.alloc.Global.{Global}
 use Rattle.std.specs.FinMap as finmap
 use Rattle.std.specs.FinMap.{FinMap}
-use Rattle.rev_tree.specs.Tree.{TreeValue}
-use Rattle.couch_replicate.specs.Databases.{State, DatabaseValue, text_cmp}
-use Rattle.couch_replicate.specs.declared.databases.Database.{Database}
-use Rattle.couch_replicate.specs.declared.databases.Databases.{Databases}
+use Rattle.std.specs.List.{list_any}
+use Rattle.couch_replicate.specs.Local.{LocalValue}
+use Rattle.couch_replicate.specs.Databases.{State, IsTaken, text_cmp}
 
 -- the entries of a table by the bytes of their names, each as its value
 abbrev pub by_text : {X V : Type 0} → (X → V) → List (String Global × X) → FinMap text_cmp V
 by_text value entries = finmap.from_entries (map (λ e. (string_bytes e.0, value e.1)) entries)
 
-abbrev pub trees_of : List (String Global × TreeValue) → FinMap text_cmp TreeValue
-trees_of = by_text (λ tree. tree)
+-- the databases of a table
+abbrev pub state_of : List (String Global × LocalValue) → State
+state_of entries = by_text (λ l. l) entries
 
-abbrev pub database_of : Database → DatabaseValue
-database_of d = record { changes = d.changes; documents = trees_of d.documents.entries }
-
-abbrev pub state_of : Databases → State
-state_of all = by_text database_of all.by_name.entries
+-- the list holds the numbers of the databases' UUIDs, and no others
+pub record IsIndex (s : State) (uuids : List ℕ) : Type 0 where
+  pub noted : (uuid : ℕ) → list_any (nat_eq uuid) uuids ≡ true → IsTaken s uuid
+  pub taken : (uuid : ℕ) → IsTaken s uuid → list_any (nat_eq uuid) uuids ≡ true

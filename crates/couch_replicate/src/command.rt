@@ -1,28 +1,55 @@
 //! What a line asks for.
-ghost use Rattle.std.specs.Prelude.{◌≡◌, ◌≢◌, Ok, Err, IfOk, IfErr, option_map};
+ghost use Rattle.std.specs.Prelude.{◌≡◌, ◌⊎◌, IfOk, IfErr, option_map};
+ghost use Rattle.serde_json.specs.Data.{Members, object};
 ghost use Rattle.serde_json.specs.View.{view};
-ghost use Rattle.couch_replicate.specs.Command.{Asks, ask_of, ask_in, load_in, show_in, document_of};
-ghost use Rattle.couch_replicate.specs.Document.{document_in};
-ghost use Rattle.couch_replicate.specs.Members.{optional};
-ghost use Rattle.couch_replicate.specs.declared.refusal.Refusal.TheVariants.{Memory};
+ghost use Rattle.couch_replicate.specs.Command.{IsObject, IsNoObject, ask_of, ask_in, changes_in, doc_in, edit_in, load_in, show_in};
+ghost use Rattle.couch_replicate.specs.declared.refusal.Refusal.TheVariants.{BadLine, Memory};
 
-use crate::document::{Document, id_member, read_document};
-use crate::members::{has_only_members, name_member, text_member};
+use crate::members::{
+    has_only_members, name_member, optional_flag, optional_text, optional_uuid, optional_whole,
+    text_member,
+};
 use crate::refusal::Refusal;
 use serde_json::{Category, Value};
-use std::alloc::{AllocError, Global};
+use std::alloc::Global;
 
 /// What a line asks for (docs/PROFILE.md, "Command lines").
+///
+/// Its ids and revisions are texts still, and its documents and bodies JSON values: they are read where their turn among
+/// the checks has come.
 #[derive(Drop)]
-pub enum Command {
-    Load { db: String, doc: Option<Document> },
-    Show { db: String, id: String },
+pub enum Command<'a> {
+    Load {
+        db: &'a str,
+        uuid: Option<u128>,
+        doc: Option<&'a Value>,
+    },
+    Edit {
+        db: &'a str,
+        id: &'a str,
+        parent: Option<&'a str>,
+        deleted: bool,
+        body: Option<&'a Value>,
+    },
+    Show {
+        db: &'a str,
+        id: &'a str,
+    },
+    Doc {
+        db: &'a str,
+        id: &'a str,
+        rev: Option<&'a str>,
+    },
+    Changes {
+        db: &'a str,
+        since: u64,
+    },
 }
 
-/// What a line asks for, or why it asks for nothing. Want of memory may come in the place of any answer.
-pub fn read_command(alloc: Global, line: &[u8]) -> Result<Command, Refusal>
-    ensures ok { IfOk result (λ command. Asks line.now (Ok (ask_of command))) }
-    ensures err { IfErr result (λ why. why ≢ Memory → Asks line.now (Err why)) }
+/// The JSON object that a line is. `BadLine` where it is none; want of memory may come in the place of any answer.
+pub fn read_object(alloc: Global, line: &[u8]) -> Result<Value, Refusal>
+    ensures ok { IfOk result (λ value. (ms : Members) × IsObject line.now ms × (view value ≡ object ms)) }
+    ensures err { IfErr result (λ why. (why ≡ Memory) ⊎ ((why ≡ BadLine) × IsNoObject line.now)) }
 {
     let value = match Value::from_slice(alloc, line) {
         Ok(value) => value,
@@ -37,68 +64,98 @@ pub fn read_command(alloc: Global, line: &[u8]) -> Result<Command, Refusal>
     if !value.is_object() {
         return Err(Refusal::BadLine);
     }
-    match command_in(alloc, &value) {
-        Ok(Some(command)) => Ok(command),
-        Ok(None) => Err(Refusal::BadCommand),
-        Err(_) => Err(Refusal::Memory),
-    }
+    Ok(value)
 }
 
 /// The command that an object is, by its word.
-fn command_in(alloc: Global, value: &Value) -> Result<Option<Command>, AllocError>
-    ensures { IfOk result (λ command. option_map ask_of command ≡ ask_in (view value.now)) }
+pub fn command_in(value: &Value) -> Option<Command<'_>>
+    ensures { option_map ask_of result ≡ ask_in (view value.now) }
 {
     match text_member(value, "do") {
-        Some("load") => load_command(alloc, value),
-        Some("show") => show_command(alloc, value),
-        _ => Ok(None),
+        Some("load") => load_command(value),
+        Some("edit") => edit_command(value),
+        Some("show") => show_command(value),
+        Some("doc") => doc_command(value),
+        Some("changes") => changes_command(value),
+        _ => None,
     }
 }
 
-fn load_command(alloc: Global, value: &Value) -> Result<Option<Command>, AllocError>
-    ensures { IfOk result (λ command. option_map ask_of command ≡ load_in (view value.now)) }
+fn load_command(value: &Value) -> Option<Command<'_>>
+    ensures { option_map ask_of result ≡ load_in (view value.now) }
 {
-    let Some(db) = name_member(value, "db") else {
-        return Ok(None);
+    let (Some(db), Some(uuid)) = (name_member(value, "db"), optional_uuid(value, "uuid")) else {
+        return None;
     };
-    let Some(doc) = optional_document(alloc, value, "doc")? else {
-        return Ok(None);
-    };
-    if !has_only_members(value, &["do", "db", "doc"]) {
-        return Ok(None);
+    if !has_only_members(value, &["do", "db", "uuid", "doc"]) {
+        return None;
     }
-    let db = String::from_str(alloc, db)?;
-    Ok(Some(Command::Load { db, doc }))
+    let doc = value.get("doc");
+    Some(Command::Load { db, uuid, doc })
 }
 
-fn show_command(alloc: Global, value: &Value) -> Result<Option<Command>, AllocError>
-    ensures { IfOk result (λ command. option_map ask_of command ≡ show_in (view value.now)) }
+fn edit_command(value: &Value) -> Option<Command<'_>>
+    ensures { option_map ask_of result ≡ edit_in (view value.now) }
 {
-    let (Some(db), Some(id)) = (name_member(value, "db"), id_member(value, "id")) else {
-        return Ok(None);
+    let (Some(db), Some(id)) = (name_member(value, "db"), text_member(value, "id")) else {
+        return None;
+    };
+    let (Some(parent), Some(deleted)) = (
+        optional_text(value, "parent"),
+        optional_flag(value, "deleted"),
+    ) else {
+        return None;
+    };
+    if !has_only_members(value, &["do", "db", "id", "parent", "deleted", "body"]) {
+        return None;
+    }
+    let deleted = deleted.unwrap_or(false);
+    let body = value.get("body");
+    Some(Command::Edit {
+        db,
+        id,
+        parent,
+        deleted,
+        body,
+    })
+}
+
+fn show_command(value: &Value) -> Option<Command<'_>>
+    ensures { option_map ask_of result ≡ show_in (view value.now) }
+{
+    let (Some(db), Some(id)) = (name_member(value, "db"), text_member(value, "id")) else {
+        return None;
     };
     if !has_only_members(value, &["do", "db", "id"]) {
-        return Ok(None);
+        return None;
     }
-    let db = String::from_str(alloc, db)?;
-    let id = String::from_str(alloc, id)?;
-    Ok(Some(Command::Show { db, id }))
+    Some(Command::Show { db, id })
 }
 
-/// A document that may be left out.
-fn optional_document(
-    alloc: Global,
-    value: &Value,
-    key: &str,
-) -> Result<Option<Option<Document>>, AllocError>
-    ensures { IfOk result (λ document. option_map (option_map document_of) document
-        ≡ optional document_in key.now (view value.now)) }
+fn doc_command(value: &Value) -> Option<Command<'_>>
+    ensures { option_map ask_of result ≡ doc_in (view value.now) }
 {
-    let Some(member) = value.get(key) else {
-        return Ok(Some(None));
+    let (Some(db), Some(id)) = (name_member(value, "db"), text_member(value, "id")) else {
+        return None;
     };
-    match read_document(alloc, member)? {
-        Some(document) => Ok(Some(Some(document))),
-        None => Ok(None),
+    let Some(rev) = optional_text(value, "rev") else {
+        return None;
+    };
+    if !has_only_members(value, &["do", "db", "id", "rev"]) {
+        return None;
     }
+    Some(Command::Doc { db, id, rev })
+}
+
+fn changes_command(value: &Value) -> Option<Command<'_>>
+    ensures { option_map ask_of result ≡ changes_in (view value.now) }
+{
+    let (Some(db), Some(since)) = (name_member(value, "db"), optional_whole(value, "since")) else {
+        return None;
+    };
+    if !has_only_members(value, &["do", "db", "since"]) {
+        return None;
+    }
+    let since = since.unwrap_or(0);
+    Some(Command::Changes { db, since })
 }

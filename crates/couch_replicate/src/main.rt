@@ -1,15 +1,21 @@
 //! A program that runs scripts of commands on document databases in memory.
 //!
 //! What a script is stands in docs/PROFILE.md, "Command lines" and "Answers". A line goes from bytes (`device`,
-//! `script`) to a command (`command`, `document`, `members`), which is served (`serve`) by the databases
-//! (`databases`) and answered with a text (`reply`).
+//! `script`) to a command (`command`, `members`), which is served (`serve`, `loading`) by the databases (`databases`, `named`,
+//! `local_database`, `made_ids`) with what it gives (`given`), and answered with a text (`reply`, `changes`, `document`).
 #![tactic(auto)]
 
+mod changes;
 mod command;
 mod databases;
 mod device;
 mod document;
+mod given;
+mod loading;
+mod local_database;
+mod made_ids;
 mod members;
+mod named;
 mod program;
 mod refusal;
 mod reply;

@@ -1,12 +1,14 @@
 //! Why a line is refused.
 ghost use Rattle.std.specs.Prelude.{◌≡◌};
 ghost use Rattle.couch_replicate.specs.Reply.{name_of};
-ghost use Rattle.couch_replicate.specs.Databases.{refusal_of};
+ghost use Rattle.couch_replicate.specs.Given.{base_refusal, doc_refusal, rev_refusal};
 
-use rev_tree::TreeFault;
+use couch_base::BaseFault;
+use doc_json::DocFault;
+use rev_core::RevFault;
 use thiserror::Error;
 
-/// Why a line is refused, or that memory ran out (docs/PROFILE.md, "Command lines").
+/// Why a line is refused, or that memory ran out (docs/PROFILE.md, "Order of checks").
 #[derive(Clone, Copy, Debug, PartialEq, Eq, Error)]
 pub enum Refusal {
     /// The line is no JSON object.
@@ -18,15 +20,75 @@ pub enum Refusal {
     /// No database has the name.
     #[error("no database has this name")]
     NoDatabase,
+    /// A UUID is given for a database that is there.
+    #[error("the database is there already")]
+    DatabaseExists,
+    /// Another database has the UUID.
+    #[error("another database has this UUID")]
+    UuidTaken,
+    /// A document's id is absent, no text, or empty.
+    #[error("no document id")]
+    NoId,
+    /// A document's id begins with `_` and is no id of a design document.
+    #[error("a reserved document id")]
+    ReservedId,
+    /// A revision id has no generation.
+    #[error("a revision id without a generation")]
+    BadGeneration,
+    /// A revision id has no signature.
+    #[error("a revision id without a signature")]
+    BadSig,
+    /// A document or a body is no object.
+    #[error("not an object")]
+    NotObject,
+    /// A document has attachments.
+    #[error("a document with attachments")]
+    Attachments,
+    /// A special member is not known, or `_deleted` is no flag.
+    #[error("a special member that is not known, or '_deleted' that is no flag")]
+    SpecialMember,
+    /// A document has no revision id.
+    #[error("no revision id")]
+    NoRev,
+    /// A document's `_revisions` is no ancestry.
+    #[error("'_revisions' that is no ancestry")]
+    BadRevisions,
+    /// A document's `_rev` is not the newest of its `_revisions`.
+    #[error("'_rev' that is not the newest of '_revisions'")]
+    RevMismatch,
+    /// A number is neither an i64 nor a u64.
+    #[error("a number that is no 64-bit integer")]
+    Fraction,
     /// The database has no document of the id.
     #[error("the database has no such document")]
     NoSuchDocument,
-    /// The document has no such revision.
+    /// The document has no such revision, or it has no content.
     #[error("the document has no such revision")]
     NoSuchRevision,
     /// A given revision has another parent in the document's tree.
     #[error("a revision has another parent in the tree")]
     Contradiction,
+    /// An edit's parent is no leaf, or it names none and a leaf is live.
+    #[error("the edit's parent is not a leaf, or a live leaf is passed over")]
+    Conflict,
+    /// An edit's parent has the greatest generation.
+    #[error("no generation after 4294967295")]
+    GenerationFull,
+    /// The revision of an edit is there already.
+    #[error("the edit is there already")]
+    RevExists,
+    /// The update sequence is the greatest one.
+    #[error("no sequence after 9007199254740991")]
+    SeqFull,
+    /// A page of no rows is asked for, which no line does.
+    #[error("a page has at least one row")]
+    BadLimit,
+    /// The goal of a page is not above its start, which no line asks.
+    #[error("the goal is not above the start")]
+    BadRange,
+    /// The goal of a page is above the update sequence, which no line asks.
+    #[error("the goal is above the update sequence")]
+    GoalAhead,
     /// An allocation was refused.
     #[error("out of memory")]
     Memory,
@@ -41,21 +103,82 @@ impl Refusal {
             Refusal::BadLine => "BadLine",
             Refusal::BadCommand => "BadCommand",
             Refusal::NoDatabase => "NoDatabase",
+            Refusal::DatabaseExists => "DatabaseExists",
+            Refusal::UuidTaken => "UuidTaken",
+            Refusal::NoId => "NoId",
+            Refusal::ReservedId => "ReservedId",
+            Refusal::BadGeneration => "BadGeneration",
+            Refusal::BadSig => "BadSig",
+            Refusal::NotObject => "NotObject",
+            Refusal::Attachments => "Attachments",
+            Refusal::SpecialMember => "SpecialMember",
+            Refusal::NoRev => "NoRev",
+            Refusal::BadRevisions => "BadRevisions",
+            Refusal::RevMismatch => "RevMismatch",
+            Refusal::Fraction => "Fraction",
             Refusal::NoSuchDocument => "NoSuchDocument",
             Refusal::NoSuchRevision => "NoSuchRevision",
             Refusal::Contradiction => "Contradiction",
+            Refusal::Conflict => "Conflict",
+            Refusal::GenerationFull => "GenerationFull",
+            Refusal::RevExists => "RevExists",
+            Refusal::SeqFull => "SeqFull",
+            Refusal::BadLimit => "BadLimit",
+            Refusal::BadRange => "BadRange",
+            Refusal::GoalAhead => "GoalAhead",
             Refusal::Memory => "Memory",
         }
     }
 
-    /// The refusal of a line whose merge a tree refused.
-    pub fn of_tree(fault: TreeFault) -> Refusal
-        ensures { result ≡ refusal_of fault }
+    /// The refusal of a line whose document, body or id is refused.
+    pub fn of_doc(fault: DocFault) -> Refusal
+        ensures { result ≡ doc_refusal fault }
     {
         match fault {
-            TreeFault::Contradiction { .. } => Refusal::Contradiction,
-            TreeFault::NoSuchRevision => Refusal::NoSuchRevision,
-            TreeFault::Memory => Refusal::Memory,
+            DocFault::NotObject => Refusal::NotObject,
+            DocFault::NoId => Refusal::NoId,
+            DocFault::ReservedId => Refusal::ReservedId,
+            DocFault::Attachments => Refusal::Attachments,
+            DocFault::SpecialMember => Refusal::SpecialMember,
+            DocFault::NoRev => Refusal::NoRev,
+            DocFault::BadRevisions => Refusal::BadRevisions,
+            DocFault::RevMismatch => Refusal::RevMismatch,
+            DocFault::Fraction => Refusal::Fraction,
+            DocFault::Memory => Refusal::Memory,
+        }
+    }
+
+    /// The refusal of a line whose revision id is refused.
+    ///
+    /// An ancestry's two refusals come from no text of a revision id.
+    pub fn of_rev(fault: RevFault) -> Refusal
+        ensures { result ≡ rev_refusal fault }
+    {
+        match fault {
+            RevFault::BadGeneration => Refusal::BadGeneration,
+            RevFault::BadSig => Refusal::BadSig,
+            RevFault::NoIds => Refusal::BadRevisions,
+            RevFault::StartTooSmall => Refusal::BadRevisions,
+            RevFault::GenerationFull => Refusal::GenerationFull,
+            RevFault::Memory => Refusal::Memory,
+        }
+    }
+
+    /// The refusal of a line whose call a database refused.
+    pub fn of_base(fault: BaseFault) -> Refusal
+        ensures { result ≡ base_refusal fault }
+    {
+        match fault {
+            BaseFault::Contradiction { .. } => Refusal::Contradiction,
+            BaseFault::SeqFull => Refusal::SeqFull,
+            BaseFault::BadLimit => Refusal::BadLimit,
+            BaseFault::BadRange => Refusal::BadRange,
+            BaseFault::GoalAhead { .. } => Refusal::GoalAhead,
+            BaseFault::NoSuchDocument => Refusal::NoSuchDocument,
+            BaseFault::Conflict => Refusal::Conflict,
+            BaseFault::GenerationFull => Refusal::GenerationFull,
+            BaseFault::RevExists { .. } => Refusal::RevExists,
+            BaseFault::Memory => Refusal::Memory,
         }
     }
 }

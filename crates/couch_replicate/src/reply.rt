@@ -2,8 +2,9 @@
 ghost use Rattle.std.specs.Prelude.{◌≡◌, ◌++◌, ℕ, IfOk, Some, string_bytes};
 ghost use Rattle.rev_core.specs.Text.{rev_text};
 ghost use Rattle.rev_tree.specs.Tree.{is_deleted};
-ghost use Rattle.couch_replicate.specs.Reply.{leaf_line, loaded, made, quoted, refused, reply_text, same, shown, shown_head, texts_of_revs, there};
+ghost use Rattle.couch_replicate.specs.Reply.{edited, leaf_line, loaded, made, quoted, refused, reply_text, same, shown, shown_head, texts_of_revs, there};
 
+use crate::databases::Edited;
 use crate::refusal::Refusal;
 use rev_core::Rev;
 use rev_tree::Tree;
@@ -61,6 +62,24 @@ pub fn same_text(alloc: Global, db: &str, id: &str, rev: Rev) -> Result<Vec<u8>,
     let mut text = format!(in alloc; "same {db} {id} ")?.into_bytes();
     push_rev(alloc, &mut text, rev)?;
     text.extend_from_slice(b"\n")?;
+    Ok(text)
+}
+
+/// The answer to an `edit`.
+pub fn edited_text(
+    alloc: Global,
+    db: &str,
+    id: &str,
+    done: Edited,
+) -> Result<Vec<u8>, AllocError>
+    ensures { IfOk result (λ text. (n : ℕ) → text.items ≡ reply_text n (edited db.now id.now done.rev done.seq)) }
+{
+    let id = json_text(alloc, id)?;
+    let mut text = format!(in alloc; "edited {db} {id} ")?.into_bytes();
+    push_rev(alloc, &mut text, done.rev)?;
+    let seq = done.seq;
+    let end = format!(in alloc; " seq {seq}\n")?;
+    text.extend_from_slice(end.as_bytes())?;
     Ok(text)
 }
 
@@ -123,7 +142,7 @@ fn is_deleted(tree: &Tree, rev: Rev) -> bool
 }
 
 /// Adds the texts of revisions, joined by commas.
-fn push_revs(alloc: Global, text: &mut Vec<u8>, revs: &[Rev]) -> Result<(), AllocError>
+pub fn push_revs(alloc: Global, text: &mut Vec<u8>, revs: &[Rev]) -> Result<(), AllocError>
     ensures { IfOk result (λ _. text.new.items ≡ text.old.items ++ texts_of_revs revs.now) }
 {
     for i in 0..revs.len() {
@@ -147,7 +166,7 @@ fn push_rev(alloc: Global, text: &mut Vec<u8>, rev: Rev) -> Result<(), AllocErro
 }
 
 /// The text as JSON, in quotation marks.
-fn json_text(alloc: Global, text: &str) -> Result<String, AllocError>
+pub fn json_text(alloc: Global, text: &str) -> Result<String, AllocError>
     ensures { IfOk result (λ json. string_bytes json ≡ quoted text.now) }
 {
     Value::String(String::from_str(alloc, text)?).to_string(alloc)

@@ -184,6 +184,7 @@ fn run_chunks<R: ScriptRead, W: ScriptWrite>(
     alloc: Global,
     reader: &mut R,
     writer: &mut W,
+    settings: &Settings,
     chunk: &mut [u8],
 ) -> Result<bool, ScriptFault>
     requires room { 0 < length chunk.old }
@@ -201,7 +202,7 @@ fn run_chunks<R: ScriptRead, W: ScriptWrite>(
         (W.failures writer.old) (W.failures writer.new)) }
 {
     let mut script = Script {
-        databases: Databases::new(alloc),
+        databases: Databases::new(alloc, settings.seed),
         begun: Vec::new(alloc),
         number: 1,
         clean: true,
@@ -230,14 +231,15 @@ fn run_chunks<R: ScriptRead, W: ScriptWrite>(
 ///
 /// Where memory is wanting within a line, the line is answered as refused and the script goes on. `Read` and `Write`
 /// come only where that device failed in this call, but that `Read` also comes in the place of a further read after
-/// 4,294,967,295 reads, each of at most 65,536 bytes. `Memory` comes only while a line is read in. No setting is
-/// looked at yet.
+/// 4,294,967,295 reads, each of at most 65,536 bytes. `Memory` comes only while a line is read in.
+///
+/// The seed is looked at; the other settings are for commands that are not there yet.
 #[tactic(none)]
 pub fn run_script<H: AllocGlobal, R: ScriptRead, W: ScriptWrite>(
     rt: &H,
     reader: &mut R,
     writer: &mut W,
-    _settings: &Settings,
+    settings: &Settings,
 ) -> Result<bool, ScriptFault>
     // What is written is the answers to the lines of what was read, to its end.
     ensures answers { IfOk result (λ clean. (input : List ℕ) × (text : List ℕ) × Gives (R.left reader.old) input
@@ -255,5 +257,5 @@ pub fn run_script<H: AllocGlobal, R: ScriptRead, W: ScriptWrite>(
     let Ok(mut chunk) = zeros(alloc, CHUNK) else {
         return Err(ScriptFault::Memory);
     };
-    run_chunks(alloc, reader, writer, chunk.as_mut_slice())
+    run_chunks(alloc, reader, writer, settings, chunk.as_mut_slice())
 }

@@ -1,20 +1,25 @@
 //! A line served, from its bytes to its answer.
-ghost use Rattle.std.specs.Prelude.{◌≡◌, ℕ, None, Some, IfOk, IfErr, if◌then◌else◌};
+ghost use Rattle.std.specs.Prelude.{◌≡◌, ℕ, None, Some, IfOk, IfErr, option_map};
+ghost use Rattle.std.specs.Option.{option_copied};
+ghost use Rattle.std.specs.FinMap.{get};
+ghost use Rattle.serde_json.specs.View.{view};
 ghost use Rattle.couch_replicate.specs.Lines.{is_blank};
-ghost use Rattle.couch_replicate.specs.Command.{ask_of, document_of, load as ask_load, show as ask_show};
-ghost use Rattle.couch_replicate.specs.Reply.{Reply, made as reply_made, there as reply_there, refused, reply_text};
-ghost use Rattle.couch_replicate.specs.Answers.{loaded_reply};
+ghost use Rattle.couch_replicate.specs.Command.{ask_of, changes as ask_changes, doc as ask_doc, edit as ask_edit, load as ask_load, show as ask_show};
+ghost use Rattle.couch_replicate.specs.Reply.{Reply, refused, reply_text};
 ghost use Rattle.couch_replicate.specs.Script.{Step, is_accepted};
-ghost use Rattle.couch_replicate.specs.Tables.{state_of};
 ghost use Rattle.couch_replicate.specs.Serving.{Tells, RefusesAsk, TellsLine, RefusesLine, IsRefusalText};
 ghost use Rattle.couch_replicate.specs.declared.refusal.Refusal.TheVariants.{Memory};
 
-use crate::command::{Command, read_command};
-use crate::databases::{Databases, Loaded};
-use crate::document::Document;
+use crate::changes::listed_text;
+use crate::command::{Command, command_in, read_object};
+use crate::databases::Databases;
+use crate::document::{find_document, written_text};
+use crate::given::{read_edit, read_id, read_rev};
+use crate::loading::serve_load;
 use crate::refusal::Refusal;
-use crate::reply::{loaded_text, made_text, refusal_text, same_text, shown_text, there_text};
-use std::alloc::{AllocError, Global};
+use crate::reply::{edited_text, refusal_text, shown_text};
+use serde_json::Value;
+use std::alloc::Global;
 
 /// Serves a line, and answers with its text and whether it was accepted. `spare` is the text for want of memory.
 pub fn serve_line(
@@ -25,7 +30,7 @@ pub fn serve_line(
     spare: Vec<u8>,
 ) -> (Vec<u8>, bool)
     requires { spare.items ≡ reply_text number (refused Memory) }
-    ensures { (reply : Reply) × Step (state_of databases.old) line.now reply (state_of databases.new)
+    ensures { (reply : Reply) × Step databases.old line.now reply databases.new
         × (result.0.items ≡ reply_text number reply) × (result.1 ≡ is_accepted reply) }
 {
     if is_blank_line(line) {
@@ -56,12 +61,15 @@ fn refuse(alloc: Global, number: u64, refusal: Refusal, spare: Vec<u8>) -> Vec<u
 }
 
 fn serve_command(alloc: Global, databases: &mut Databases, line: &[u8]) -> Result<Vec<u8>, Refusal>
-    ensures told { IfOk result (λ text. TellsLine (state_of databases.old) line.now text.items (state_of databases.new)) }
-    ensures refused { IfErr result (λ why. RefusesLine (state_of databases.old) line.now why (state_of databases.new)) }
+    ensures told { IfOk result (λ text. TellsLine databases.old line.now text.items databases.new) }
+    ensures refused { IfErr result (λ why. RefusesLine databases.old line.now why databases.new) }
 {
-    let command = match read_command(alloc, line) {
-        Ok(command) => command,
+    let value = match read_object(alloc, line) {
+        Ok(value) => value,
         Err(refusal) => return Err(refusal),
+    };
+    let Some(command) = command_in(&value) else {
+        return Err(Refusal::BadCommand);
     };
     match serve(alloc, databases, &command) {
         Ok(text) => Ok(text),
@@ -70,99 +78,133 @@ fn serve_command(alloc: Global, databases: &mut Databases, line: &[u8]) -> Resul
 }
 
 /// Serves a command: each has its own function.
-fn serve(alloc: Global, databases: &mut Databases, command: &Command) -> Result<Vec<u8>, Refusal>
-    ensures told { IfOk result (λ text. Tells (state_of databases.old) (ask_of command.now) text.items (state_of databases.new)) }
-    ensures refused { IfErr result (λ why. RefusesAsk (state_of databases.old) (ask_of command.now) why (state_of databases.new)) }
+fn serve(
+    alloc: Global,
+    databases: &mut Databases,
+    command: &Command<'_>,
+) -> Result<Vec<u8>, Refusal>
+    ensures told { IfOk result (λ text. Tells databases.old (ask_of command.now) text.items databases.new) }
+    ensures refused { IfErr result (λ why. RefusesAsk databases.old (ask_of command.now) why databases.new) }
 {
-    match command {
-        Command::Load { db, doc } => match doc {
-            Some(document) => serve_load(alloc, databases, db.as_str(), document),
-            None => serve_make(alloc, databases, db.as_str()),
-        },
-        Command::Show { db, id } => serve_show(alloc, databases, db.as_str(), id.as_str()),
+    match *command {
+        Command::Load { db, uuid, doc } => serve_load(alloc, databases, db, uuid, doc),
+        Command::Edit {
+            db,
+            id,
+            parent,
+            deleted,
+            body,
+        } => serve_edit(alloc, databases, db, id, parent, deleted, body),
+        Command::Show { db, id } => serve_show(alloc, databases, db, id),
+        Command::Doc { db, id, rev } => serve_doc(alloc, databases, db, id, rev),
+        Command::Changes { db, since } => serve_changes(alloc, databases, db, since),
     }
 }
 
-/// `load` with a document.
-fn serve_load(
+/// `edit`.
+fn serve_edit(
     alloc: Global,
     databases: &mut Databases,
     db: &str,
-    document: &Document,
+    id: &str,
+    parent: Option<&str>,
+    deleted: bool,
+    body: Option<&Value>,
 ) -> Result<Vec<u8>, Refusal>
-    ensures told { IfOk result (λ text. Tells (state_of databases.old)
-        (ask_load db.now (Some (document_of document.now))) text.items (state_of databases.new)) }
-    ensures refused { IfErr result (λ why. RefusesAsk (state_of databases.old)
-        (ask_load db.now (Some (document_of document.now))) why (state_of databases.new)) }
+    ensures told { IfOk result (λ text. Tells databases.old
+        (ask_edit db.now id.now (option_copied parent.entry) deleted (option_map (λ v. view v.now) body.entry)) text.items databases.new) }
+    ensures refused { IfErr result (λ why. RefusesAsk databases.old
+        (ask_edit db.now id.now (option_copied parent.entry) deleted (option_map (λ v. view v.now) body.entry)) why databases.new) }
 {
-    let done = match databases.load(alloc, db, document) {
+    if !databases.has(db) {
+        return Err(Refusal::NoDatabase);
+    }
+    let given = match read_edit(alloc, id, parent, body) {
+        Ok(given) => given,
+        Err(refusal) => return Err(refusal),
+    };
+    let done = match databases.edit(db, &given, deleted) {
         Ok(done) => done,
         Err(refusal) => return Err(refusal),
     };
-    match load_text(alloc, db, document, done) {
+    match edited_text(alloc, db, given.id.text(), done) {
         Ok(text) => Ok(text),
         Err(_) => Err(Refusal::Memory),
-    }
-}
-
-fn load_text(
-    alloc: Global,
-    db: &str,
-    document: &Document,
-    done: Loaded,
-) -> Result<Vec<u8>, AllocError>
-    ensures { IfOk result (λ text. (n : ℕ) → text.items ≡ reply_text n (loaded_reply db.now (document_of document.now) done)) }
-{
-    let id = document.id.as_str();
-    let rev = document.ancestry.head();
-    match done {
-        Loaded::Changed { seq } => {
-            let text = loaded_text(alloc, db, id, rev, seq)?;
-            Ok(text)
-        }
-        Loaded::Same => {
-            let text = same_text(alloc, db, id, rev)?;
-            Ok(text)
-        }
-    }
-}
-
-/// `load` without a document.
-fn serve_make(alloc: Global, databases: &mut Databases, db: &str) -> Result<Vec<u8>, Refusal>
-    ensures told { IfOk result (λ text. Tells (state_of databases.old) (ask_load db.now None) text.items (state_of databases.new)) }
-    ensures refused { IfErr result (λ why. RefusesAsk (state_of databases.old) (ask_load db.now None) why (state_of databases.new)) }
-{
-    let Ok(made) = databases.make(alloc, db) else {
-        return Err(Refusal::Memory);
-    };
-    match make_text(alloc, db, made) {
-        Ok(text) => Ok(text),
-        Err(_) => Err(Refusal::Memory),
-    }
-}
-
-fn make_text(alloc: Global, db: &str, made: bool) -> Result<Vec<u8>, AllocError>
-    ensures { IfOk result (λ text. (n : ℕ) → text.items ≡ reply_text n (if made then reply_made db.now else reply_there db.now)) }
-{
-    if made {
-        let text = made_text(alloc, db)?;
-        Ok(text)
-    } else {
-        let text = there_text(alloc, db)?;
-        Ok(text)
     }
 }
 
 /// `show`.
 fn serve_show(alloc: Global, databases: &Databases, db: &str, id: &str) -> Result<Vec<u8>, Refusal>
-    ensures told { IfOk result (λ text. Tells (state_of databases.now) (ask_show db.now id.now) text.items (state_of databases.now)) }
-    ensures refused { IfErr result (λ why. RefusesAsk (state_of databases.now) (ask_show db.now id.now) why (state_of databases.now)) }
+    ensures told { IfOk result (λ text. Tells databases.now (ask_show db.now id.now) text.items databases.now) }
+    ensures refused { IfErr result (λ why. RefusesAsk databases.now (ask_show db.now id.now) why databases.now) }
 {
-    let tree = match databases.find(db, id) {
-        Ok(tree) => tree,
+    let Some(local) = databases.find(db) else {
+        return Err(Refusal::NoDatabase);
+    };
+    let id = match read_id(alloc, id) {
+        Ok(id) => id,
         Err(refusal) => return Err(refusal),
     };
-    match shown_text(alloc, id, tree) {
+    let Some(tree) = local.database().tree(&id) else {
+        return Err(Refusal::NoSuchDocument);
+    };
+    match shown_text(alloc, id.text(), tree) {
+        Ok(text) => Ok(text),
+        Err(_) => Err(Refusal::Memory),
+    }
+}
+
+/// `doc`.
+fn serve_doc(
+    alloc: Global,
+    databases: &Databases,
+    db: &str,
+    id: &str,
+    rev: Option<&str>,
+) -> Result<Vec<u8>, Refusal>
+    ensures told { IfOk result (λ text. Tells databases.now
+        (ask_doc db.now id.now (option_copied rev.entry)) text.items databases.now) }
+    ensures refused { IfErr result (λ why. RefusesAsk databases.now
+        (ask_doc db.now id.now (option_copied rev.entry)) why databases.now) }
+{
+    let Some(local) = databases.find(db) else {
+        return Err(Refusal::NoDatabase);
+    };
+    let id = match read_id(alloc, id) {
+        Ok(id) => id,
+        Err(refusal) => return Err(refusal),
+    };
+    let rev = match read_rev(rev) {
+        Ok(rev) => rev,
+        Err(refusal) => return Err(refusal),
+    };
+    let Some(tree) = local.database().tree(&id) else {
+        return Err(Refusal::NoSuchDocument);
+    };
+    let document = match find_document(alloc, &id, tree, rev) {
+        Ok(document) => document,
+        Err(refusal) => return Err(refusal),
+    };
+    match written_text(alloc, &document) {
+        Ok(text) => Ok(text),
+        Err(_) => Err(Refusal::Memory),
+    }
+}
+
+/// `changes`.
+fn serve_changes(
+    alloc: Global,
+    databases: &Databases,
+    db: &str,
+    since: u64,
+) -> Result<Vec<u8>, Refusal>
+    ensures told { IfOk result (λ text. Tells databases.now (ask_changes db.now since) text.items databases.now) }
+    ensures refused { IfErr result (λ why. RefusesAsk databases.now (ask_changes db.now since) why databases.now) }
+{
+    let Some(local) = databases.find(db) else {
+        return Err(Refusal::NoDatabase);
+    };
+    match listed_text(alloc, local.database(), since) {
         Ok(text) => Ok(text),
         Err(_) => Err(Refusal::Memory),
     }

@@ -3,7 +3,7 @@ ghost use Rattle.std.specs.Prelude.{◌≡◌};
 
 /// The program's settings, which its options give.
 ///
-/// None is looked at yet: the commands that look at them come later.
+/// The seed is looked at; the others are for commands that are not there yet.
 #[derive(Drop)]
 pub struct Settings {
     /// A target refuses each document whose id begins with this.
