@@ -12,7 +12,8 @@ use Rattle.rev_tree.specs.declared.origin.Origin.{Origin}
 use Rattle.couch_base.specs.Answers.{◌>>=◌, refused_if}
 use Rattle.couch_base.specs.Database.{Id, DatabaseValue, LawfulDatabase, tree_in, tree_of, with_tree, most}
 use Rattle.couch_base.specs.DatabaseLaws.{IsDocumentTree-tree_in}
-use Rattle.couch_base.specs.Put.{content_of}
+use Rattle.couch_base.specs.Put.{content_of, put_answer}
+use Rattle.couch_base.specs.declared.fault.Put.TheVariants as answers
 use Rattle.couch_base.specs.Edit.{parent_answer, edit_id, edit_revs, edited, edit_document, after_edited, after_edit}
 use Rattle.couch_base.specs.declared.fault.BaseFault.{BaseFault}
 use Rattle.couch_base.specs.declared.fault.BaseFault.TheVariants as faults
@@ -74,6 +75,12 @@ pub edited_from : (db : DatabaseValue) (id : Id) (parent : Option RevId) (delete
     → Ok before ≡ parent_answer (tree_in db.docs id) parent → Ok revs ≡ edit_revs before deleted body → head_of revs ≡ Some rev → has (tree_of db.docs id) rev ≡ false → IsEdited db id parent deleted body before revs rev
 edited_from db id parent deleted body before revs rev on told head absent = from_id db id parent deleted body before revs rev (edit_id before deleted body) refl on told head absent
 
+-- the document of a new revision changes the database, where a sequence is left
+pub put_answer-edit : (db : DatabaseValue) → LawfulDatabase db → (id : Id) (rev : RevId) (before : Option RevId) (deleted : Bool) (body : List ℕ) → has (tree_of db.docs id) rev ≡ false → db.update_seq < most
+    → put_answer db (edit_document id (rev, before) deleted body) ≡ Ok (answers.Changed (db.update_seq + 1))
+put_answer-edit db law id rev before deleted body absent room =
+    answer-changed db (edit_document id (rev, before) deleted body) (new_contradicts_none (tree_of db.docs id) rev before (no_parent db law id rev absent)) (new_is_not_same (tree_of db.docs id) rev (option_to_list before) absent) room
+
 -- an edit leaves its new revision merged in
 pub after_edit-changed : (db : DatabaseValue) → LawfulDatabase db → (id : Id) (parent : Option RevId) (deleted : Bool) (body : List ℕ) (o : Origin) (before : Option RevId) (revs : List RevId) (rev : RevId)
     → IsEdited db id parent deleted body before revs rev → has (tree_of db.docs id) rev ≡ false → db.update_seq < most
@@ -81,6 +88,5 @@ pub after_edit-changed : (db : DatabaseValue) → LawfulDatabase db → (id : Id
 after_edit-changed db law id parent deleted body o before revs rev e absent room =
     let d = edit_document id (rev, before) deleted body in
     ap (after_edited db id deleted body o) e.told
-    ∙ after_put-changed db d o (db.update_seq + 1)
-    (answer-changed db d (new_contradicts_none (tree_of db.docs id) rev before (no_parent db law id rev absent)) (new_is_not_same (tree_of db.docs id) rev (option_to_list before) absent) room)
+    ∙ after_put-changed db d o (db.update_seq + 1) (put_answer-edit db law id rev before deleted body absent room)
     ∙ ap (λ (rs : List RevId). with_tree db id (merged (tree_of db.docs id) rs (content_of deleted body) o)) (sym e.whole)

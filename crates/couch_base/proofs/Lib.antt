@@ -8,5 +8,5 @@ mod Pages
 mod Edges
 mod Putting
 mod Deleted
-mod Editing
+pub mod Editing
 mod Exchanging

@@ -7,7 +7,7 @@ use std::alloc::Global;
 use std::marker::Model;
 
 /// A document: its id, its ancestry, whether it is deleted, and its body.
-#[derive(Drop)]
+#[derive(Debug, Drop)]
 pub struct Doc {
     id: DocId,
     ancestry: Ancestry,

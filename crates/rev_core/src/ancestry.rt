@@ -10,7 +10,7 @@ use std::marker::Model;
 /// A revision and its known ancestors, newest first: at least one revision, generations falling by one.
 ///
 /// It may end above generation 1: older ancestors are then not known.
-#[derive(Drop)]
+#[derive(Debug, Drop)]
 pub struct Ancestry {
     revs: Vec<Rev>,
 }

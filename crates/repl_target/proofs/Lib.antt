@@ -1,0 +1,16 @@
+pub mod Filtering
+pub mod Table
+pub mod Refusing
+pub mod Members
+pub mod Keeping
+pub mod Laws
+pub mod Windows
+pub mod SettleLaws
+pub mod Honest
+pub mod Originating
+pub mod Trusting
+pub mod Logging
+pub mod LogLaws
+pub mod Feeds
+pub mod Standing
+pub mod Edits

@@ -1,0 +1,55 @@
+-- Adding revisions to the index.
+use Rattle.std.proofs.Common.{◌≡◌, ℕ, ◌+◌, ◌<◌, Bool, true, false, ◌||◌, List, [], ◌∷◌, ◌++◌, length, take, get_or, cond, ◌&&◌, Option, Some, None, refl, subst, sym, ap, ◌∙◌}
+use Rattle.std.proofs.Math.Bool.{or-false, or_assoc}
+use Rattle.std.proofs.lemmas.Bool.{cond_both, or_right}
+use Rattle.std.proofs.lemmas.List.Folds.{list_any-append, list_any_more}
+use Rattle.std.specs.Ordering.{eq_by_cmp}
+use Rattle.rev_core.specs.Rev.{RevId, rev_cmp}
+use Rattle.rev_core.specs.RevOrder.{rev_tie_is}
+use Rattle.rev_core.specs.Ancestry.{is_among}
+use Rattle.indexmap.specs.IndexSet.{insert_key}
+use Rattle.std.specs.HashSet.{HashSet}
+use Rattle.std.specs.Option.{option_map_or}
+use Rattle.std.specs.Str.{bytes_eq}
+use Rattle.std.proofs.lemmas.Slice.Eq.{bytes_eq-Decides}
+use Rattle.couch_base.specs.Database.{Id}
+
+pub or_held : (a b : Bool) → (a ≡ true → b ≡ true) → (b || a) ≡ b
+or_held true b h = or_right b true refl ∙ sym (h refl)
+or_held false b h = or-false b
+
+pub among_inserted : (known : List RevId) (rev r : RevId) → is_among r (insert_key (eq_by_cmp rev_cmp) known rev) ≡ (is_among r known || eq_by_cmp rev_cmp r rev)
+among_inserted known rev r =
+    cond_both (is_among rev known) known (known ++ rev ∷ []) (λ l. is_among r l ≡ (is_among r known || eq_by_cmp rev_cmp r rev))
+    (λ there. sym (or_held (eq_by_cmp rev_cmp r rev) (is_among r known) (λ e. subst (λ x. is_among x known ≡ true) (sym (rev_tie_is r rev e)) there)))
+    (λ _. list_any-append (eq_by_cmp rev_cmp r) known (rev ∷ []) ∙ ap (λ b. is_among r known || b) (or-false (eq_by_cmp rev_cmp r rev)))
+
+-- one more revision of a list
+pub among_next : (before known new revs : List RevId) (i : ℕ) (rev r d : RevId)
+    → i < length revs → rev ≡ get_or revs i d → new ≡ insert_key (eq_by_cmp rev_cmp) known rev
+    → is_among r known ≡ (is_among r before || is_among r (take i revs))
+    → is_among r new ≡ (is_among r before || is_among r (take (i + 1) revs))
+among_next before known new revs i rev r d within at is h =
+    ap (is_among r) is ∙ among_inserted known rev r
+    ∙ ap (λ b. b || eq_by_cmp rev_cmp r rev) h
+    ∙ or_assoc (is_among r before) (is_among r (take i revs)) (eq_by_cmp rev_cmp r rev)
+    ∙ ap (λ x. is_among r before || (is_among r (take i revs) || eq_by_cmp rev_cmp r x)) at
+    ∙ ap (λ b. is_among r before || b) (sym (list_any_more (eq_by_cmp rev_cmp r) revs i d within))
+
+-- whether a document's refused revisions have one
+abbrev pub has_rev : {S : Type 0} → Option (HashSet RevId S) → RevId → Bool
+has_rev o r = option_map_or (λ revs. is_among r revs.keys) o false
+
+-- the revisions of a document that had none
+pub added_new : {S : Type 0} (old new : Id → Option (HashSet RevId S)) (revs : HashSet RevId S) (id : Id) (ancestry : List RevId)
+    → old id ≡ None → ((r : RevId) → is_among r revs.keys ≡ is_among r ancestry)
+    → ((q : Id) → new q ≡ cond (bytes_eq id q) (Some revs) (old q))
+    → (q : Id) (r : RevId) → has_rev (new q) r ≡ (has_rev (old q) r || (bytes_eq id q && is_among r ancestry))
+added_new old new revs id ancestry absent all sets q r =
+    ap (λ o. has_rev o r) (sets q)
+    ∙ elim (bytes_eq id q) as (λ b. bytes_eq id q ≡ b → has_rev (cond b (Some revs) (old q)) r ≡ (has_rev (old q) r || (b && is_among r ancestry))) [
+      | true ↦ λ same.
+          let there = ap old ((bytes_eq-Decides id q).0 same) in
+          all r ∙ sym (ap (λ o. has_rev o r || is_among r ancestry) (sym there ∙ absent))
+      | false ↦ λ _. sym (or-false (has_rev (old q) r))
+    ] refl

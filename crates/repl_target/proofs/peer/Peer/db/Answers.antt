@@ -1,0 +1,5 @@
+use Rattle.repl_target.proofs.Honest.{honest_is}
+use Rattle.repl_target.proofs.peer.Peer.db.Goals as goal
+
+pub returns-clause-honest : goal.returns-clause-honest
+returns-clause-honest g c = rw (← c.self.view_is) (honest_is _ _ c.self.invariant.law)

@@ -1,0 +1,36 @@
+-- The audit of a replication: docs/PROFILE.md, "Common checkpoint" and "Covered leaves".
+use Rattle.std.specs.Prelude.{ℕ, Option, Some, None}
+use Rattle.rev_tree.specs.declared.origin.SessionId.{SessionId}
+use Rattle.repl_log.specs.declared.replication.RepId.{RepId}
+use Rattle.repl_log.specs.Log.{common}
+use Rattle.couch_base.specs.Feed.{feed}
+use Rattle.repl_target.specs.Peer.{PeerValue}
+use Rattle.repl_target.specs.Covered.{Leaf, first_uncovered}
+use Rattle.repl_target.specs.Logs.{source_log, target_log}
+use Rattle.repl_target.specs.declared.fault.Audit.{Audit}
+use Rattle.repl_target.specs.declared.fault.Audit.TheVariants.{Clean, Hole}
+
+-- the replication from one peer's database into another's
+abbrev pub rep_between : PeerValue → PeerValue → RepId
+rep_between source target = record { source = source.db.uuid; target = target.db.uuid }
+
+-- the first leaf of the source's feed at or under a sequence that isn't covered at the target
+abbrev pub hole_under : PeerValue → PeerValue → ℕ → Option Leaf
+hole_under source target n = first_uncovered target (feed source.db 0 n)
+
+-- nothing is asked where the two logs share no session
+abbrev pub hole_at : PeerValue → PeerValue → Option (SessionId × ℕ) → Option Leaf
+hole_at source target None = None
+hole_at source target (Some checkpoint) = hole_under source target checkpoint.1
+
+-- the first such leaf at or under the common checkpoint
+abbrev pub hole_between : PeerValue → PeerValue → RepId → Option Leaf
+hole_between source target rep = hole_at source target (common (source_log source rep) (target_log target rep))
+
+abbrev pub audit_answer : PeerValue → PeerValue → Option Leaf
+audit_answer source target = hole_between source target (rep_between source target)
+
+-- the leaf that an audit names
+abbrev pub hole_of : Audit → Option Leaf
+hole_of Clean = None
+hole_of (Hole seq id rev) = Some (record { seq = seq; id = id; rev = rev })

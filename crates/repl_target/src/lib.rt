@@ -1,0 +1,20 @@
+//! What stands behind a lock: a database with the sessions that were replicated into it.
+//!
+//! The rules stand in docs/PROFILE.md: "Sessions of a peer", "Settling", "Goal and windows" and "Common checkpoint".
+#![tactic(auto)]
+
+mod auditing;
+mod fault;
+mod filter;
+mod incoming;
+mod local;
+mod logs;
+mod peer;
+mod refusals;
+mod session;
+mod written;
+
+pub use auditing::audit;
+pub use fault::{Audit, Cause, Reason, Report, Settled, TargetFault};
+pub use filter::{Rules, Verdict, WriteFilter};
+pub use peer::Peer;

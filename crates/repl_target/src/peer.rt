@@ -1,0 +1,277 @@
+//! Peers.
+ghost use Rattle.std.specs.Prelude.{◌≡◌, Ok, OnOk, OnErr, IfOk, IfErr};
+ghost use Rattle.rev_tree.specs.Tree.{has};
+ghost use Rattle.couch_base.specs.Database.{tree_of};
+
+use crate::fault::{Report, TargetFault};
+use crate::filter::WriteFilter;
+use crate::incoming::{self, Sessions};
+use crate::local;
+use crate::refusals::Refusals;
+use crate::written::Written;
+use couch_base::{Asked, BaseFault, Database, Parcel, Put, Window};
+use doc_json::{Body, Doc, DocId};
+use indexmap::IndexMap;
+use repl_log::{Entry, Log, Moment, RepId};
+use rev_core::Rev;
+use rev_tree::SessionId;
+use std::alloc::Global;
+use std::marker::Model;
+
+/// What stands behind a target's lock: a database, its local writes, the sessions that were replicated into it, and the
+/// logs of those that were replicated from it.
+///
+/// Its law (docs/PROFILE.md, "The peer's law") holds after every call, whatever the calls and their order.
+#[derive(Drop)]
+pub struct Peer<F: WriteFilter> {
+    filter: F,
+    pub(crate) db: Database,
+    locals: Vec<Written>,
+    pub(crate) sessions: Sessions,
+    refusals: Refusals,
+    pub(crate) outgoing: IndexMap<RepId, Log>,
+}
+
+impl<F: WriteFilter> Model for Peer<F> {
+    ghost use Rattle.std.specs.Coded.{coded×};
+    ghost use Rattle.repl_target.specs.Peer.{PeerValue};
+    ghost use Rattle.repl_target.specs.PeerCode.{coded_peer};
+
+    ghost Value = { F × PeerValue };
+
+    ghost coded = { coded× F.code coded_peer };
+
+    ghost use Rattle.repl_target.specs.Kept.{sessions_of};
+    ghost use Rattle.repl_target.specs.Standing.{Stands};
+
+    ghost view = { λ p. (
+      p.filter,
+      record {
+        db = p.db;
+        locals = p.locals.items;
+        sessions = sessions_of p.sessions.entries;
+        outgoing = p.outgoing.entries;
+      },
+    ) };
+
+    ghost invariant = { λ p. Stands (F.refuses p.filter) p.refusals (record {
+      db = p.db;
+      locals = p.locals.items;
+      sessions = sessions_of p.sessions.entries;
+      outgoing = p.outgoing.entries;
+    }) };
+}
+
+impl<F: WriteFilter> Peer<F> {
+    ghost use Rattle.couch_base.specs.Lists.{Among};
+    ghost use Rattle.couch_base.specs.Answers.{GivesUnlessMemory as BaseUnlessMemory};
+    ghost use Rattle.couch_base.specs.Put.{put_answer};
+    ghost use Rattle.couch_base.specs.Edit.{edit_answer};
+    ghost use Rattle.couch_base.specs.Feed.{page_answer};
+    ghost use Rattle.couch_base.specs.Messages.{revs_diff, open_revs};
+    ghost use Rattle.repl_target.specs.Peer.{SessionValue, new_peer, entry_of};
+    ghost use Rattle.repl_target.specs.Covered.{covers, Honest};
+    ghost use Rattle.repl_target.specs.Writing.{after_load, after_edit, BaseGives};
+    ghost use Rattle.repl_target.specs.Sessions.{GivesUnlessMemory, session_answer, begin_answer, after_begin, append_answer, after_append, record_answer, after_record, conclude_answer, after_conclude};
+    ghost use Rattle.repl_target.specs.Table.{entry_value};
+    ghost use Rattle.repl_target.specs.Law.{Lawful};
+
+    /// A peer with a database of no documents. It grows by `alloc`.
+    ///
+    /// `uuid` is the number of the database's UUID, and `filter` refuses what replications may not write.
+    pub fn new(alloc: Global, uuid: u128, filter: F) -> Peer<F>
+        ensures value { result ≡ (filter, new_peer uuid) }
+        ensures law { Lawful (F.refuses result.0) result.1 }
+    {
+        Peer {
+            filter,
+            db: Database::new(alloc, uuid),
+            locals: Vec::new(alloc),
+            sessions: IndexMap::new(alloc),
+            refusals: Refusals::new(alloc),
+            outgoing: IndexMap::new(alloc),
+        }
+    }
+
+    /// The database.
+    ///
+    /// The peer is lawful, and honest: of each session, all rows of its windows at or under its recorded sequence are
+    /// covered.
+    pub fn db(&self) -> &Database
+        ensures value { result.now ≡ self.now.1.db }
+        ensures law { Lawful (F.refuses self.now.0) self.now.1 }
+        ensures honest { (s : SessionValue) → Among s self.now.1.sessions → Honest self.now.1 s s.recorded }
+    {
+        &self.db
+    }
+
+    /// The write filter.
+    pub fn filter(&self) -> &F
+        ensures { result.now ≡ self.now.0 }
+    {
+        &self.filter
+    }
+
+    // ---- local writes
+
+    /// Puts a document of the user's own with its ancestry as they are given. Where that changes the database, it is the
+    /// next local write.
+    ///
+    /// The refusals are those of `Database::put`; `Memory` may stand in the place of each. A refusal changes nothing.
+    pub fn load(&mut self, doc: &Doc) -> Result<Put, BaseFault>
+        ensures answer { BaseGives result (put_answer self.old.1.db doc.now) }
+        ensures filter { self.new.0 ≡ self.old.0 }
+        ensures ok { OnOk result (self.new.1 ≡ after_load self.old.1 doc.now) }
+        ensures err { OnErr result (self.new.1 ≡ self.old.1) }
+        ensures law { Lawful (F.refuses self.new.0) self.new.1 }
+    {
+        local::load(&mut self.db, &mut self.locals, doc)
+    }
+
+    /// Edits a document, as the next local write, and answers the new revision's id.
+    ///
+    /// The refusals are those of `Database::edit`; `Memory` may stand in the place of each. A refusal changes nothing.
+    pub fn edit(
+        &mut self,
+        id: &DocId,
+        parent: Option<Rev>,
+        deleted: bool,
+        body: &Body,
+    ) -> Result<Rev, BaseFault>
+        ensures answer { BaseGives result (edit_answer self.old.1.db id.now parent deleted body.now) }
+        ensures filter { self.new.0 ≡ self.old.0 }
+        ensures ok { OnOk result (self.new.1 ≡ after_edit self.old.1 id.now parent deleted body.now) }
+        ensures err { OnErr result (self.new.1 ≡ self.old.1) }
+        ensures law { Lawful (F.refuses self.new.0) self.new.1 }
+    {
+        local::edit(&mut self.db, &mut self.locals, id, parent, deleted, body)
+    }
+
+    // ---- the database's messages
+
+    /// The page of the database's changes feed above `since`, towards `goal`: `Database::page`.
+    pub fn page(
+        &self,
+        alloc: Global,
+        since: u64,
+        goal: u64,
+        limit: u64,
+    ) -> Result<Window, BaseFault>
+        ensures { BaseUnlessMemory result (page_answer self.now.1.db since goal limit) }
+    {
+        self.db.page(alloc, since, goal, limit)
+    }
+
+    /// What the database misses of another one's window: `Database::revs_diff`. The only error is `Memory`.
+    pub fn revs_diff(&self, alloc: Global, window: &Window) -> Result<Asked, BaseFault>
+        ensures asked { IfOk result (λ a. a ≡ revs_diff self.now.1.db window.now) }
+        ensures err { IfErr result (λ e. e ≡ BaseFault.Memory) }
+    {
+        self.db.revs_diff(alloc, window)
+    }
+
+    /// What the database has of the asked revisions: `Database::open_revs`. The only error is `Memory`.
+    pub fn open_revs(&self, alloc: Global, asked: &Asked) -> Result<Parcel, BaseFault>
+        ensures parcel { IfOk result (λ p. p ≡ open_revs self.now.1.db asked.now) }
+        ensures err { IfErr result (λ e. e ≡ BaseFault.Memory) }
+    {
+        self.db.open_revs(alloc, asked)
+    }
+
+    /// Whether a revision is in its document's tree, or in the ancestry of a document that a session refused.
+    pub fn covered(&self, id: &DocId, rev: Rev) -> bool
+        ensures { result ≡ covers self.now.1 id.now rev }
+    {
+        stores(&self.db, id, rev) || self.refusals.has(id, rev)
+    }
+
+    // ---- sessions
+
+    /// Begins a session, which is the newest: it reads a source's feed from `start` up to `goal`.
+    ///
+    /// `SessionExists` where the peer holds the id; else `NoSuchBase` where the base is no session of the same replication;
+    /// else `StartAboveBase` where the start is above what it has recorded, or above 0 where there is no base; else
+    /// `GoalBelowStart`; else `Memory`. A refusal changes nothing.
+    pub fn begin(
+        &mut self,
+        id: SessionId,
+        rep: RepId,
+        base: Option<SessionId>,
+        start: u64,
+        goal: u64,
+        at: Moment,
+    ) -> Result<(), TargetFault>
+        ensures answer { GivesUnlessMemory result (begin_answer self.old.1 id rep base start goal) }
+        ensures filter { self.new.0 ≡ self.old.0 }
+        ensures ok { OnOk result (self.new.1 ≡ after_begin self.old.1 id rep base start goal at) }
+        ensures err { OnErr result (self.new.1 ≡ self.old.1) }
+        ensures law { Lawful (F.refuses self.new.0) self.new.1 }
+    {
+        incoming::begin(&mut self.sessions, id, rep, base, start, goal, at)
+    }
+
+    /// Stores the next window of a session.
+    ///
+    /// `NoSuchSession` where the peer doesn't hold it; else `Gap` where the window doesn't begin where the stored ones end;
+    /// else `PastGoal` where it ends above the goal; else `Memory`. A refusal changes nothing.
+    pub fn append(&mut self, id: SessionId, window: Window) -> Result<(), TargetFault>
+        ensures answer { GivesUnlessMemory result (append_answer self.old.1 id window) }
+        ensures filter { self.new.0 ≡ self.old.0 }
+        ensures ok { OnOk result (self.new.1 ≡ after_append self.old.1 id window) }
+        ensures err { OnErr result (self.new.1 ≡ self.old.1) }
+        ensures law { Lawful (F.refuses self.new.0) self.new.1 }
+    {
+        // Readings of the window tell the proof that it is one.
+        let _hi = window.hi();
+        incoming::append(&mut self.sessions, id, window)
+    }
+
+    /// Records what a session has done without a gap, and answers it: the source's sequence up to which all is done.
+    ///
+    /// `NoSuchSession` where the peer doesn't hold it. It takes no memory.
+    pub fn record(&mut self, id: SessionId, at: Moment) -> Result<u64, TargetFault>
+        ensures answer { result ≡ record_answer self.old.1 id }
+        ensures filter { self.new.0 ≡ self.old.0 }
+        ensures peer { self.new.1 ≡ after_record self.old.1 id at }
+        ensures law { Lawful (F.refuses self.new.0) self.new.1 }
+    {
+        incoming::record(&mut self.sessions, id, at)
+    }
+
+    /// Records and reports a session that has done all up to its goal.
+    ///
+    /// `NoSuchSession` where the peer doesn't hold it; else `Unfinished` where all is done only up to a sequence below the
+    /// goal, which changes nothing. It takes no memory.
+    pub fn conclude(&mut self, id: SessionId, at: Moment) -> Result<Report, TargetFault>
+        ensures answer { result ≡ conclude_answer self.old.1 id }
+        ensures filter { self.new.0 ≡ self.old.0 }
+        ensures peer { self.new.1 ≡ after_conclude self.old.1 id at }
+        ensures law { Lawful (F.refuses self.new.0) self.new.1 }
+    {
+        incoming::conclude(&mut self.sessions, id, at)
+    }
+
+    /// What a log says of a session.
+    ///
+    /// `NoSuchSession` where the peer doesn't hold it. It takes no memory.
+    pub fn entry(&self, id: SessionId) -> Result<Entry, TargetFault>
+        ensures { entry_value result ≡ session_answer self.now.1 id (λ s. Ok (entry_of s)) }
+    {
+        // No id comes twice: the reading tells the proof.
+        let _len = self.sessions.len();
+        match self.sessions.get(&id) {
+            Some(session) => Ok(session.entry(id)),
+            None => Err(TargetFault::NoSuchSession),
+        }
+    }
+}
+
+/// Whether a revision is in its document's tree.
+fn stores(db: &Database, id: &DocId, rev: Rev) -> bool
+    ensures { result ≡ has (tree_of db.now.docs id.now) rev }
+{
+    match db.tree(id) {
+        Some(tree) => tree.has(rev),
+        None => false,
+    }
+}

@@ -1,0 +1,55 @@
+//! Revisions that were written.
+ghost use Rattle.std.specs.Prelude.{◌≡◌, ◌∷◌, []};
+ghost use Rattle.std.specs.Option.{option_to_list};
+
+use doc_json::DocId;
+use rev_core::{Ancestry, Rev};
+use std::marker::Model;
+
+/// The revisions of a write: a whole ancestry, or what an edit brings.
+#[derive(Drop)]
+enum Lineage {
+    Whole(Ancestry),
+    Edit { rev: Rev, parent: Option<Rev> },
+}
+
+/// A local write or an arrival: a document's id and the revisions that were written, newest first.
+#[derive(Drop)]
+pub(crate) struct Written {
+    id: DocId,
+    lineage: Lineage,
+}
+
+impl Model for Written {
+    ghost use Rattle.repl_target.specs.Peer.{WrittenValue};
+
+    ghost Value = { WrittenValue };
+
+    ghost use Rattle.repl_target.specs.Lineage.{revs_of};
+
+    ghost view = { λ w. record { id = w.id; ancestry = revs_of w.lineage } };
+}
+
+impl Written {
+    ghost use Rattle.repl_target.specs.Peer.{WrittenValue};
+
+    /// A document with its whole ancestry.
+    pub(crate) fn whole(id: DocId, ancestry: Ancestry) -> Written
+        ensures { result ≡ record { id = id; ancestry = ancestry } }
+    {
+        Written {
+            id,
+            lineage: Lineage::Whole(ancestry),
+        }
+    }
+
+    /// What an edit brought: the new revision, and the one that it stands on.
+    pub(crate) fn edit(id: DocId, rev: Rev, parent: Option<Rev>) -> Written
+        ensures { result ≡ record { id = id; ancestry = rev ∷ option_to_list parent } }
+    {
+        Written {
+            id,
+            lineage: Lineage::Edit { rev, parent },
+        }
+    }
+}
