@@ -66,12 +66,7 @@ pub fn same_text(alloc: Global, db: &str, id: &str, rev: Rev) -> Result<Vec<u8>,
 }
 
 /// The answer to an `edit`.
-pub fn edited_text(
-    alloc: Global,
-    db: &str,
-    id: &str,
-    done: Edited,
-) -> Result<Vec<u8>, AllocError>
+pub fn edited_text(alloc: Global, db: &str, id: &str, done: Edited) -> Result<Vec<u8>, AllocError>
     ensures { IfOk result (λ text. (n : ℕ) → text.items ≡ reply_text n (edited db.now id.now done.rev done.seq)) }
 {
     let id = json_text(alloc, id)?;

@@ -47,6 +47,45 @@ fn conflict_shown(rt: HostRuntime) -> Result<(), Fail> {
     Ok(())
 }
 
+/// The first tour: docs/tour/script, with docs/tour/answers.
+const TOUR: (&str, &str) = (
+    r#"{"do":"load","db":"notes"}
+{"do":"edit","db":"notes","id":"shopping","body":{"buy":"bread"}}
+{"do":"edit","db":"notes","id":"shopping","parent":"1-0dec81e4c3adb472d3ea9423cd42bd50","body":{"buy":"bread and milk"}}
+{"do":"doc","db":"notes","id":"shopping"}
+{"do":"load","db":"notes","doc":{"_id":"shopping","_rev":"2-phone","_revisions":{"start":2,"ids":["phone","0dec81e4c3adb472d3ea9423cd42bd50"]},"buy":"eggs"}}
+{"do":"show","db":"notes","id":"shopping"}
+{"do":"doc","db":"notes","id":"shopping"}
+{"do":"edit","db":"notes","id":"shopping","parent":"2-phone","deleted":true}
+{"do":"show","db":"notes","id":"shopping"}
+{"do":"changes","db":"notes"}
+"#,
+    r#"made notes
+edited notes "shopping" 1-0dec81e4c3adb472d3ea9423cd42bd50 seq 1
+edited notes "shopping" 2-454d739bf6b0b81d907d3701416abea6 seq 2
+{"_id":"shopping","_rev":"2-454d739bf6b0b81d907d3701416abea6","_revisions":{"start":2,"ids":["454d739bf6b0b81d907d3701416abea6","0dec81e4c3adb472d3ea9423cd42bd50"]},"buy":"bread and milk"}
+loaded notes "shopping" 2-phone seq 3
+doc "shopping" winner 2-phone leaves 2 revs 3
+leaf 2-phone live 2-phone,1-0dec81e4c3adb472d3ea9423cd42bd50
+leaf 2-454d739bf6b0b81d907d3701416abea6 live 2-454d739bf6b0b81d907d3701416abea6,1-0dec81e4c3adb472d3ea9423cd42bd50
+{"_id":"shopping","_rev":"2-phone","_revisions":{"start":2,"ids":["phone","0dec81e4c3adb472d3ea9423cd42bd50"]},"buy":"eggs"}
+edited notes "shopping" 3-d943ada8b0f36e6494fa5aab460115de seq 4
+doc "shopping" winner 2-454d739bf6b0b81d907d3701416abea6 leaves 2 revs 4
+leaf 2-454d739bf6b0b81d907d3701416abea6 live 2-454d739bf6b0b81d907d3701416abea6,1-0dec81e4c3adb472d3ea9423cd42bd50
+leaf 3-d943ada8b0f36e6494fa5aab460115de deleted 3-d943ada8b0f36e6494fa5aab460115de,2-phone,1-0dec81e4c3adb472d3ea9423cd42bd50
+change 4 "shopping" 2-454d739bf6b0b81d907d3701416abea6,3-d943ada8b0f36e6494fa5aab460115de
+last 4
+"#,
+);
+
+#[test]
+fn first_tour(rt: HostRuntime) -> Result<(), Fail> {
+    let (clean, text) = run_text(&rt, TOUR.0.as_bytes())?;
+    assert!(rt; clean);
+    assert_eq!(rt; text.as_slice(), TOUR.1.as_bytes());
+    Ok(())
+}
+
 /// Scripts with what they print: the worked rows, and what no single line shows. Made ids are of the seed 0, and were worked
 /// out by another program, as the ids of edits were.
 const SCRIPTS: &[(&str, &str, &str)] = &[
@@ -291,54 +330,138 @@ fn has_refusal(text: &[u8]) -> bool {
 /// Single lines with what each is answered, as the first of a script.
 const LINES: &[(&str, &str)] = &[
     (r#"{"do":"load","db":"a"}"#, r#"made a"#),
-    (r#"{"do":"load","db":"a","doc":{"_id":"q\"é","_rev":"1-a"}}"#, r#"loaded a "q\"é" 1-a seq 1"#),
+    (
+        r#"{"do":"load","db":"a","doc":{"_id":"q\"é","_rev":"1-a"}}"#,
+        r#"loaded a "q\"é" 1-a seq 1"#,
+    ),
     (r#"{"do":"load","db":"a","do"#, r#"refused 1 BadLine"#),
     (r#"[]"#, r#"refused 1 BadLine"#),
     (r#"null"#, r#"refused 1 BadLine"#),
-    (r#"{"do":"load","db":"a"} {"do":"load","db":"a"}"#, r#"refused 1 BadLine"#),
+    (
+        r#"{"do":"load","db":"a"} {"do":"load","db":"a"}"#,
+        r#"refused 1 BadLine"#,
+    ),
     (r#"{}"#, r#"refused 1 BadCommand"#),
     (r#"{"do":1,"db":"a"}"#, r#"refused 1 BadCommand"#),
-    (r#"{"do":"replicate","source":"a","target":"b"}"#, r#"refused 1 BadCommand"#),
+    (
+        r#"{"do":"replicate","source":"a","target":"b"}"#,
+        r#"refused 1 BadCommand"#,
+    ),
     (r#"{"do":"load"}"#, r#"refused 1 BadCommand"#),
     (r#"{"do":"load","db":""}"#, r#"refused 1 BadCommand"#),
     (r#"{"do":"load","db":"a.b"}"#, r#"refused 1 BadCommand"#),
-    (r#"{"do":"load","db":"a23456789-123456789_123456789-1X"}"#, r#"made a23456789-123456789_123456789-1X"#),
-    (r#"{"do":"load","db":"a23456789-123456789_123456789-12X"}"#, r#"refused 1 BadCommand"#),
-    (r#"{"do":"load","db":"a","id":"d"}"#, r#"refused 1 BadCommand"#),
-    (r#"{"do":"load","db":"a","uuid":1}"#, r#"refused 1 BadCommand"#),
-    (r#"{"do":"load","db":"a","doc":null}"#, r#"refused 1 NotObject"#),
+    (
+        r#"{"do":"load","db":"a23456789-123456789_123456789-1X"}"#,
+        r#"made a23456789-123456789_123456789-1X"#,
+    ),
+    (
+        r#"{"do":"load","db":"a23456789-123456789_123456789-12X"}"#,
+        r#"refused 1 BadCommand"#,
+    ),
+    (
+        r#"{"do":"load","db":"a","id":"d"}"#,
+        r#"refused 1 BadCommand"#,
+    ),
+    (
+        r#"{"do":"load","db":"a","uuid":1}"#,
+        r#"refused 1 BadCommand"#,
+    ),
+    (
+        r#"{"do":"load","db":"a","doc":null}"#,
+        r#"refused 1 NotObject"#,
+    ),
     (r#"{"do":"show","db":"a"}"#, r#"refused 1 BadCommand"#),
-    (r#"{"do":"show","db":"a","id":1}"#, r#"refused 1 BadCommand"#),
-    (r#"{"do":"show","db":"a","id":"d","x":1}"#, r#"refused 1 BadCommand"#),
-    (r#"{"do":"show","db":"a","id":"_d"}"#, r#"refused 1 NoDatabase"#),
+    (
+        r#"{"do":"show","db":"a","id":1}"#,
+        r#"refused 1 BadCommand"#,
+    ),
+    (
+        r#"{"do":"show","db":"a","id":"d","x":1}"#,
+        r#"refused 1 BadCommand"#,
+    ),
+    (
+        r#"{"do":"show","db":"a","id":"_d"}"#,
+        r#"refused 1 NoDatabase"#,
+    ),
     (r#"{"do":"edit","db":"a"}"#, r#"refused 1 BadCommand"#),
-    (r#"{"do":"edit","db":"a","id":"d","deleted":1}"#, r#"refused 1 BadCommand"#),
-    (r#"{"do":"edit","db":"a","id":"d","rev":"1-a"}"#, r#"refused 1 BadCommand"#),
-    (r#"{"do":"doc","db":"a","id":"d","rev":1}"#, r#"refused 1 BadCommand"#),
-    (r#"{"do":"doc","db":"a","id":"d","parent":"1-a"}"#, r#"refused 1 BadCommand"#),
+    (
+        r#"{"do":"edit","db":"a","id":"d","deleted":1}"#,
+        r#"refused 1 BadCommand"#,
+    ),
+    (
+        r#"{"do":"edit","db":"a","id":"d","rev":"1-a"}"#,
+        r#"refused 1 BadCommand"#,
+    ),
+    (
+        r#"{"do":"doc","db":"a","id":"d","rev":1}"#,
+        r#"refused 1 BadCommand"#,
+    ),
+    (
+        r#"{"do":"doc","db":"a","id":"d","parent":"1-a"}"#,
+        r#"refused 1 BadCommand"#,
+    ),
     (r#"{"do":"changes"}"#, r#"refused 1 BadCommand"#),
-    (r#"{"do":"changes","db":"a","since":-1}"#, r#"refused 1 BadCommand"#),
-    (r#"{"do":"changes","db":"a","since":18446744073709551615}"#, r#"refused 1 NoDatabase"#),
-    (r#"{"do":"changes","db":"a","since":18446744073709551616}"#, r#"refused 1 BadCommand"#),
-    (r#"{"do":"changes","db":"a","id":"d"}"#, r#"refused 1 BadCommand"#),
+    (
+        r#"{"do":"changes","db":"a","since":-1}"#,
+        r#"refused 1 BadCommand"#,
+    ),
+    (
+        r#"{"do":"changes","db":"a","since":18446744073709551615}"#,
+        r#"refused 1 NoDatabase"#,
+    ),
+    (
+        r#"{"do":"changes","db":"a","since":18446744073709551616}"#,
+        r#"refused 1 BadCommand"#,
+    ),
+    (
+        r#"{"do":"changes","db":"a","id":"d"}"#,
+        r#"refused 1 BadCommand"#,
+    ),
 ];
 
 /// Documents with what loading each into a new database is answered.
 const DOCUMENTS: &[(&str, &str)] = &[
     (r#"{"_id":"d","_rev":"3-c"}"#, r#"loaded a "d" 3-c seq 1"#),
-    (r#"{"_id":"d","_revisions":{"start":2,"ids":["b","a"],"x":1}}"#, r#"loaded a "d" 2-b seq 1"#),
-    (r#"{"_id":"d","_rev":"1-a","_deleted":false,"_conflicts":1.5,"n":[18446744073709551615,-9223372036854775808]}"#, r#"loaded a "d" 1-a seq 1"#),
+    (
+        r#"{"_id":"d","_revisions":{"start":2,"ids":["b","a"],"x":1}}"#,
+        r#"loaded a "d" 2-b seq 1"#,
+    ),
+    (
+        r#"{"_id":"d","_rev":"1-a","_deleted":false,"_conflicts":1.5,"n":[18446744073709551615,-9223372036854775808]}"#,
+        r#"loaded a "d" 1-a seq 1"#,
+    ),
     (r#"[]"#, r#"refused 1 NotObject"#),
     (r#"{"_rev":"1-a"}"#, r#"refused 1 NoId"#),
     (r#"{"_id":"","_rev":"1-a"}"#, r#"refused 1 NoId"#),
-    (r#"{"_id":"_design/","_rev":"1-a"}"#, r#"refused 1 ReservedId"#),
-    (r#"{"_id":"d","_rev":"1-a","_attachments":null,"_x":1}"#, r#"refused 1 Attachments"#),
-    (r#"{"_id":"d","_rev":"1","_deleted":null}"#, r#"refused 1 SpecialMember"#),
-    (r#"{"_id":"d","_rev":"01-a","_revisions":{}}"#, r#"refused 1 NoRev"#),
+    (
+        r#"{"_id":"_design/","_rev":"1-a"}"#,
+        r#"refused 1 ReservedId"#,
+    ),
+    (
+        r#"{"_id":"d","_rev":"1-a","_attachments":null,"_x":1}"#,
+        r#"refused 1 Attachments"#,
+    ),
+    (
+        r#"{"_id":"d","_rev":"1","_deleted":null}"#,
+        r#"refused 1 SpecialMember"#,
+    ),
+    (
+        r#"{"_id":"d","_rev":"01-a","_revisions":{}}"#,
+        r#"refused 1 NoRev"#,
+    ),
     (r#"{"_id":"d"}"#, r#"refused 1 NoRev"#),
-    (r#"{"_id":"d","_revisions":{"start":1,"ids":["b","a"]}}"#, r#"refused 1 BadRevisions"#),
-    (r#"{"_id":"d","_rev":"2-x","_revisions":{"start":2,"ids":["b","a"]},"n":1.5}"#, r#"refused 1 RevMismatch"#),
-    (r#"{"_id":"d","_rev":"1-a","n":{"m":[-0]}}"#, r#"refused 1 Fraction"#),
+    (
+        r#"{"_id":"d","_revisions":{"start":1,"ids":["b","a"]}}"#,
+        r#"refused 1 BadRevisions"#,
+    ),
+    (
+        r#"{"_id":"d","_rev":"2-x","_revisions":{"start":2,"ids":["b","a"]},"n":1.5}"#,
+        r#"refused 1 RevMismatch"#,
+    ),
+    (
+        r#"{"_id":"d","_rev":"1-a","n":{"m":[-0]}}"#,
+        r#"refused 1 Fraction"#,
+    ),
 ];
 
 /// Whether a line alone is answered so.

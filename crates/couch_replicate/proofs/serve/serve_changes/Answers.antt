@@ -12,8 +12,7 @@ returns-in_default-clause-refused c = asked_in_vain (reads_refused _ c.args.data
 
 pub returns-in-Ok-clause-told : goal.returns-in-Ok-clause-told
 returns-in-Ok-clause-told c =
-    let db = c.in-Some.local.now.base in
-    (
+    let db = c.in-Some.local.now.base in (
       listed (feed db c.args.since db.update_seq) db.update_seq,
       reads_told _ c.args.databases.now _ (ap (λ o. changes_answer o c.args.since) (sym c.in-Some.ensures)),
       refl,

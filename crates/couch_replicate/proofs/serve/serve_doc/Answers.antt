@@ -37,12 +37,11 @@ returns-in-Err-find_document-clause-refused c =
 
 pub returns-in-Ok-written_text-clause-told : goal.returns-in-Ok-written_text-clause-told
 returns-in-Ok-written_text-clause-told c =
-    let tree = c.in-Some-tree.tree.now in
-    (
+    let tree = c.in-Some-tree.tree.now in (
       written c.in-Ok-find_document.document,
       reads_told _ c.args.databases.now _
-      (writes _ c.in-Some.local.now _ c.in-Ok.id _ c.in-Ok-read_rev.rev (Some tree) c.in-Some.ensures c.in-Ok.ensures (sym c.in-Ok-read_rev.ensures) (tree_is c.database.result.now c.in-Some.local.now c.in-Ok.id (Some tree) c.database.ensures c.in-Some-tree.ensures.value)
-      ∙ ap written_as c.in-Ok-find_document.ensures),
+          (writes _ c.in-Some.local.now _ c.in-Ok.id _ c.in-Ok-read_rev.rev (Some tree) c.in-Some.ensures c.in-Ok.ensures (sym c.in-Ok-read_rev.ensures) (tree_is c.database.result.now c.in-Some.local.now c.in-Ok.id (Some tree) c.database.ensures c.in-Some-tree.ensures.value)
+          ∙ ap written_as c.in-Ok-find_document.ensures),
       refl,
       c.in-Ok-written_text.ensures,
     )

@@ -21,8 +21,7 @@ returns-in_default-tree-clause-refused c =
 
 pub returns-in-Ok-shown_text-clause-told : goal.returns-in-Ok-shown_text-clause-told
 returns-in-Ok-shown_text-clause-told c =
-    let tree = c.in-Some-tree.tree.now in
-    (
+    let tree = c.in-Some-tree.tree.now in (
       shown c.in-Ok.id tree,
       reads_told _ c.args.databases.now _ (shows _ c.in-Some.local.now _ c.in-Ok.id (Some tree) c.in-Some.ensures c.in-Ok.ensures (tree_is c.database.result.now c.in-Some.local.now c.in-Ok.id (Some tree) c.database.ensures c.in-Some-tree.ensures.value)),
       refl,
