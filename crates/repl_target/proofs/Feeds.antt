@@ -1,15 +1,17 @@
 -- Feeds and their pages: a page's rows come first, then those of the feed from where it ends.
-use Rattle.std.proofs.Common.{◌≡◌, ℕ, zero, suc, ◌+◌, ◌<◌, ◌≤◌, nat_lt, nat_le, ◌==◌, Bool, true, false, cond, ◌&&◌, List, [], ◌∷◌, ◌++◌, map, filter, length, take, drop, get_or, min, Option, Some, None, Ok, Err, refl, sym, ap, ◌∙◌, subst, arith, take_all, length-take}
-use Rattle.std.specs.List.{AllByRecursion}
-use Rattle.std.specs.Option.{option_or}
+use Rattle.std.proofs.Common.{◌≡◌, ℕ, zero, suc, ◌+◌, ◌<◌, ◌≤◌, nat_lt, nat_le, ◌==◌, Bool, true, false, cond, not, inl, inr, ◌&&◌, List, [], ◌∷◌, ◌++◌, map, filter, length, take, drop, get_or, min, Option, Some, None, Ok, Err, refl, sym, ap, ◌∙◌, subst, arith, take_all, length-take}
+use Rattle.std.specs.List.{find, AllByRecursion}
+use Rattle.std.specs.Option.{option_or, option_map}
 use Rattle.std.proofs.lemmas.Bool.{cond_both, and_parts, and_from, both_ways, ltb-true, leb-true, eqb-false}
 use Rattle.std.proofs.lemmas.List.{drop_more}
 use Rattle.rev_core.specs.Rev.{RevId}
-use Rattle.couch_base.specs.Lists.{Rises}
+use Rattle.couch_base.specs.Lists.{Among, Rises}
 use Rattle.couch_base.specs.Database.{Id, DocumentValue, DatabaseValue, LawfulDatabase}
 use Rattle.couch_base.specs.Feed.{RowValue, WindowValue, row_of, feed, last_seq, page, page_answer}
 use Rattle.couch_base.specs.declared.fault.BaseFault.TheVariants as base_faults
-use Rattle.repl_target.specs.Covered.{Leaf, unknown_in, first_unknown}
+use Rattle.repl_target.specs.Peer.{PeerValue}
+use Rattle.repl_target.specs.Audit.{hole_at, audit_answer, IsAudited}
+use Rattle.repl_target.specs.Covered.{Leaf, covers, unknown_in, first_unknown}
 
 abbrev seqs : List DocumentValue → List ℕ
 seqs ds = map (λ (d : DocumentValue). d.seq) ds
@@ -155,6 +157,32 @@ feed-passed known db since goal limit law is =
     let w = page db since goal limit in
     ap (first_unknown known) (feed-page db since goal limit law) ∙ first_unknown-append known w.rows (feed db w.hi goal) ∙ ap (λ o. option_or o (first_unknown known (feed db w.hi goal))) is
 
+-- where none is unknown, each is known
+found_step : {X P : Type 0} (b : Bool) (y : X) (o : Option X) → cond (not b) (Some y) o ≡ None → (b ≡ true → o ≡ None → P) → P
+found_step true y o none go = go refl none
+found_step false y o none go = cc
+
+none_found : {X : Type 0} (test : X → Bool) (xs : List X) → find (λ x. not (test x)) xs ≡ None → (x : X) → Among x xs → test x ≡ true
+none_found test [] none x held = absurd held
+none_found test (y ∷ ys) none x held = found_step (test y) y (find (λ x. not (test x)) ys) none (λ b later. elim held [ inl here ↦ ap test here ∙ b | inr there ↦ none_found test ys later x there ])
+
+mapped_none : {X Y : Type 0} (f : X → Y) (o : Option X) → option_map f o ≡ None → o ≡ None
+mapped_none f None is = refl
+mapped_none f (Some x) is = cc
+
+both_none : {X : Type 0} (o p : Option X) → option_or o p ≡ None → (o ≡ None) × (p ≡ None)
+both_none None p is = (refl, is)
+both_none (Some x) p is = cc
+
+pub none_unknown : (known : Id → RevId → Bool) (rows : List RowValue) → first_unknown known rows ≡ None → (row : RowValue) → Among row rows → (leaf : RevId) → Among leaf row.leaves → known row.id leaf ≡ true
+none_unknown known [] none row held leaf k = absurd held
+none_unknown known (x ∷ rows) none row held leaf k =
+    let parts = both_none (unknown_in known x) (first_unknown known rows) none in
+    elim held [
+      | inl here ↦ none_found (known row.id) row.leaves (ap (λ (r : RowValue). find (λ rev. not (known r.id rev)) r.leaves) here ∙ mapped_none _ _ parts.0) leaf k
+      | inr there ↦ none_unknown known rows parts.1 row there leaf k
+    ]
+
 -- ---- what asking for a page gives
 
 passed_tests : {X E : Type 0} (a b c : Bool) (e f g : E) (w x : X) → Ok w ≡ cond a (Err e) (cond b (Err f) (cond c (Err g) (Ok x))) → w ≡ x
@@ -166,3 +194,9 @@ passed_tests false false false e f g w x is = cc
 pub page_is : (db : DatabaseValue) (since goal limit : ℕ) (w : WindowValue) → Ok w ≡ page_answer db since goal limit → w ≡ page db since goal limit
 page_is db since goal limit w is =
     passed_tests (limit == 0) (nat_le goal since) (nat_lt db.update_seq goal) base_faults.BadLimit base_faults.BadRange (base_faults.GoalAhead db.update_seq) w (page db since goal limit) is
+
+-- ---- what an audit says
+
+pub clean_is : (source target : PeerValue) → audit_answer source target ≡ None → IsAudited source target
+clean_is source target none s n is =
+    none_unknown (covers target) (feed source.db 0 n) (sym (ap (hole_at source target) is) ∙ none)

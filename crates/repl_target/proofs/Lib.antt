@@ -1,6 +1,11 @@
 pub mod Filtering
 pub mod Table
 pub mod Refusing
+pub mod Listing
+pub mod Searching
+pub mod Documents
+pub mod Checks
+pub mod Parcels
 pub mod Members
 pub mod Keeping
 pub mod Laws
@@ -14,3 +19,4 @@ pub mod LogLaws
 pub mod Feeds
 pub mod Standing
 pub mod Edits
+pub mod Settles

@@ -31,7 +31,7 @@ pub logs_origins : (p : PeerValue) (logs : List (RepId × List EntryValue)) → 
 logs_origins p logs h = has_from (record p { outgoing = logs }) (stands_same p (record p { outgoing = logs }) (logs_later p logs) refl (stands_from p h))
 
 pub Stands-logs : (refuses : Document → Bool) (refusals : Refusals) (p : PeerValue) (logs : List (RepId × List EntryValue)) → Stands refuses refusals p → Stands refuses refusals (record p { outgoing = logs })
-Stands-logs refuses refusals p logs h = record { law = logs_law refuses p logs h.law; index = h.index }
+Stands-logs refuses refusals p logs h = record { law = logs_law refuses p logs h.law; origins = logs_origins p logs h.origins; index = h.index }
 
 -- ---- putting an entry
 

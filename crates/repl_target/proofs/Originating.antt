@@ -43,15 +43,15 @@ use Rattle.repl_target.proofs.SettleLaws.{document_settles, documents_settle, wi
 -- ---- origins that stand say what is so
 
 -- each origin that stands in a tree
-abbrev pub Stands : PeerValue → Type 0
-Stands p = (id : Id) (r : RevId) (o : Origin) → get (tree_of p.db.docs id).origins r ≡ Some o → ComesFrom p id r o
+abbrev pub TellsOrigins : PeerValue → Type 0
+TellsOrigins p = (id : Id) (r : RevId) (o : Origin) → get (tree_of p.db.docs id).origins r ≡ Some o → ComesFrom p id r o
 
-pub stands_from : (p : PeerValue) → HasOrigins p → Stands p
+pub stands_from : (p : PeerValue) → HasOrigins p → TellsOrigins p
 stands_from p h id r o is =
     let k = h id r (ap is_some is) in
     subst (ComesFrom p id r) (some_is k.0 o (sym k.1 ∙ is)) k.2
 
-pub has_from : (p : PeerValue) → Stands p → HasOrigins p
+pub has_from : (p : PeerValue) → TellsOrigins p → HasOrigins p
 has_from p h id r there = go (get (tree_of p.db.docs id).origins r) refl
   where
     go : (x : Option Origin) → get (tree_of p.db.docs id).origins r ≡ x → (o : Origin) × (get (tree_of p.db.docs id).origins r ≡ Some o) × ComesFrom p id r o
@@ -74,7 +74,7 @@ comes_later p q later id r (Feed session seq) h =
     }
 
 -- no tree changes
-pub stands_same : (p q : PeerValue) → IsLaterPeer p q → q.db ≡ p.db → Stands p → Stands q
+pub stands_same : (p q : PeerValue) → IsLaterPeer p q → q.db ≡ p.db → TellsOrigins p → TellsOrigins q
 stands_same p q later same h id r o is = comes_later p q later id r o (h id r o (ap (λ (db : DatabaseValue). get (tree_of db.docs id).origins r) (sym same) ∙ is))
 
 -- ---- what a put brings
@@ -127,7 +127,7 @@ load_origins p d h = has_from (after_load p d) stands
     stored changed =
         ap (λ xs. slice_get xs (length p.locals)) (cond-true (is_changed (put_answer p.db d)) (p.locals ++ written_of d ∷ []) p.locals changed) ∙ at-end p.locals (written_of d)
 
-    stands : Stands (after_load p d)
+    stands : TellsOrigins (after_load p d)
     stands id r o is =
         elim (put_origin p.db d (next_local p) o id r is) [
           | inl old ↦ comes_later p (after_load p d) (load_later p d) id r o (stands_from p h id r o old)
@@ -181,7 +181,7 @@ row_listed (row ∷ rows) id h = step (λ k. row_listed rows id k) (bytes_eq row
 
 -- what arrives comes from its row, in the session's feed
 arrival_stands : (refuses : Document → Bool) (p : PeerValue) (s : SessionValue) (w : WindowValue) (d : Document) → Among s p.sessions → Among w s.windows → has_row w d ≡ true
-    → IsLaterPeer p (with_settling p (record { db = after_put p.db d (fed w s.id d); session = with_arrival d s })) → Stands p → Stands (with_settling p (record { db = after_put p.db d (fed w s.id d); session = with_arrival d s }))
+    → IsLaterPeer p (with_settling p (record { db = after_put p.db d (fed w s.id d); session = with_arrival d s })) → TellsOrigins p → TellsOrigins (with_settling p (record { db = after_put p.db d (fed w s.id d); session = with_arrival d s }))
 arrival_stands refuses p s w d m n has_one later h id r o is =
     let q : PeerValue = with_settling p (record { db = after_put p.db d (fed w s.id d); session = with_arrival d s }) in
     elim (put_origin p.db d (fed w s.id d) o id r is) [
@@ -197,18 +197,18 @@ arrival_stands refuses p s w d m n has_one later h id r o is =
           })
     ]
 
-document_stands : (refuses : Document → Bool) (p : PeerValue) (s : SessionValue) (w : WindowValue) (d : Document) → Among s p.sessions → Among w s.windows → has_row w d ≡ true → Lawful refuses p → Stands p → Stands (with_settling p (settle_one refuses w (settling_of p s) d))
+document_stands : (refuses : Document → Bool) (p : PeerValue) (s : SessionValue) (w : WindowValue) (d : Document) → Among s p.sessions → Among w s.windows → has_row w d ≡ true → Lawful refuses p → TellsOrigins p → TellsOrigins (with_settling p (settle_one refuses w (settling_of p s) d))
 document_stands refuses p s w d m n has_one l h = go (refusal_of refuses p.db d) (document_settles refuses p s w d m l).later
   where
-    go : (o : Option Reason) → IsLaterPeer p (with_settling p (settle_as w (settling_of p s) d o)) → Stands (with_settling p (settle_as w (settling_of p s) d o))
+    go : (o : Option Reason) → IsLaterPeer p (with_settling p (settle_as w (settling_of p s) d o)) → TellsOrigins (with_settling p (settle_as w (settling_of p s) d o))
     go (Some reason) later = stands_same p (with_settling p (settle_as w (settling_of p s) d (Some reason))) later refl h
     go None later =
-        cond_both (is_full (put_answer p.db d)) (settling_of p s) (record { db = after_put p.db d (fed w s.id d); session = with_arrival d s }) (λ (z : Settling). IsLaterPeer p (with_settling p z) → Stands (with_settling p z))
+        cond_both (is_full (put_answer p.db d)) (settling_of p s) (record { db = after_put p.db d (fed w s.id d); session = with_arrival d s }) (λ (z : Settling). IsLaterPeer p (with_settling p z) → TellsOrigins (with_settling p z))
         (λ _ k. stands_same p (with_settling p (settling_of p s)) k refl h)
         (λ _ k. arrival_stands refuses p s w d m n has_one k h)
         later
 
-documents_stand : (refuses : Document → Bool) (p : PeerValue) (s : SessionValue) (w : WindowValue) (docs : List Document) → Among s p.sessions → Among w s.windows → list_all (has_row w) docs ≡ true → Lawful refuses p → Stands p → Stands (after_documents refuses p s w docs)
+documents_stand : (refuses : Document → Bool) (p : PeerValue) (s : SessionValue) (w : WindowValue) (docs : List Document) → Among s p.sessions → Among w s.windows → list_all (has_row w) docs ≡ true → Lawful refuses p → TellsOrigins p → TellsOrigins (after_documents refuses p s w docs)
 documents_stand refuses p s w [] m n rows l h =
     stands_same p (with_settling p (settling_of p s)) (documents_settle refuses p s w [] m l).later refl h
 documents_stand refuses p s w (d ∷ docs) m n rows l h =
@@ -217,7 +217,7 @@ documents_stand refuses p s w (d ∷ docs) m n rows l h =
     let both = and_parts (has_row w d) (list_all (has_row w) docs) rows in
     let first = document_settles refuses p s w d m l in
     let others = documents_settle refuses (with_settling p y) y.session w docs first.held first.lawful in
-    subst Stands (with_settling-twice p y z others.keeps.id)
+    subst TellsOrigins (with_settling-twice p y z others.keeps.id)
     (documents_stand refuses (with_settling p y) y.session w docs first.held (first.keeps.windows w n) both.1 first.lawful (document_stands refuses p s w d m n both.0 l h))
 
 all_take : (p : Document → Bool) (n : ℕ) (docs : List Document) → list_all p docs ≡ true → list_all p (take n docs) ≡ true
@@ -225,7 +225,7 @@ all_take p zero docs h = refl
 all_take p (suc n) [] h = refl
 all_take p (suc n) (d ∷ docs) h = let both = and_parts (p d) (list_all p docs) h in and_from (p d) (list_all p (take n docs)) both.0 (all_take p n docs both.1)
 
-all_stand : (refuses : Document → Bool) (p : PeerValue) (s : SessionValue) (w : WindowValue) (parcel : ParcelValue) → Among s p.sessions → Among w s.windows → list_all (has_row w) parcel.docs ≡ true → Lawful refuses p → Stands p → Stands (after_all refuses p s w parcel)
+all_stand : (refuses : Document → Bool) (p : PeerValue) (s : SessionValue) (w : WindowValue) (parcel : ParcelValue) → Among s p.sessions → Among w s.windows → list_all (has_row w) parcel.docs ≡ true → Lawful refuses p → TellsOrigins p → TellsOrigins (after_all refuses p s w parcel)
 all_stand refuses p s w parcel m n rows l h =
     let z = settle_docs refuses w (settling_of p s) parcel.docs in
     let q = with_settling p z in

@@ -21,6 +21,7 @@ use Rattle.repl_target.specs.Writing.{next_local, after_load, after_edit, load_e
 use Rattle.repl_target.specs.Sessions.{GivesUnlessMemory, on_session, on_found, new_session, begin_answer, begun, after_begin, append_in, with_window, after_append, recorded_at, after_record, after_conclude}
 use Rattle.repl_target.specs.Local.{with_load, with_edited, with_edit}
 use Rattle.repl_target.specs.Law.{Lawful, session_numbers}
+use Rattle.repl_target.specs.Origins.{HasOrigins}
 use Rattle.repl_target.specs.Table.{in_ledgers, with_changed, changed}
 use Rattle.repl_target.specs.Refusals.{is_refused}
 use Rattle.repl_target.specs.Standing.{Stands}
@@ -28,6 +29,7 @@ use Rattle.repl_target.specs.declared.refusals.Refusals.{Refusals}
 use Rattle.repl_target.specs.declared.fault.TargetFault.{TargetFault}
 use Rattle.repl_target.proofs.Keeping.{one_session, session_found}
 use Rattle.repl_target.proofs.Laws.{new_law, load_law, edit_law, begin_law, append_law, record_law, conclude_law}
+use Rattle.repl_target.proofs.Originating.{new_origins, load_origins, edit_origins, begin_origins, append_origins, record_origins, conclude_origins}
 
 -- ---- a change of a session that keeps its ledger
 
@@ -68,13 +70,14 @@ on_session-changed p id change = found-changed p change (session_in p.sessions i
 -- a peer as it begins
 pub Stands-new : (refuses : Document → Bool) (refusals : Refusals) (uuid : ℕ) (p : PeerValue) → p ≡ new_peer uuid → ((id : Id) (r : RevId) → is_refused refusals id r ≡ false) → Stands refuses refusals p
 Stands-new refuses refusals uuid p new none =
-    subst (Stands refuses refusals) (sym new) (record { law = new_law refuses uuid; index = none })
+    subst (Stands refuses refusals) (sym new) (record { law = new_law refuses uuid; origins = new_origins uuid; index = none })
 
 module _ (refuses : Document → Bool) (refusals : Refusals) (p : PeerValue) (stands : Stands refuses refusals p) where
-  stands-changed : (id : SessionId) (change : SessionValue → SessionValue) → KeepsLedger change → Lawful refuses (on_session p id change) → Stands refuses refusals (on_session p id change)
-  stands-changed id change keeps law =
+  stands-changed : (id : SessionId) (change : SessionValue → SessionValue) → KeepsLedger change → Lawful refuses (on_session p id change) → HasOrigins (on_session p id change) → Stands refuses refusals (on_session p id change)
+  stands-changed id change keeps law origins =
       record {
         law = law;
+        origins = origins;
         index =
             λ doc r.
             stands.index doc r
@@ -85,7 +88,7 @@ module _ (refuses : Document → Bool) (refusals : Refusals) (p : PeerValue) (st
   -- ---- local writes
 
   pub Stands-after_load : (d : Document) → Stands refuses refusals (after_load p d)
-  Stands-after_load d = record { law = load_law refuses p d stands.law; index = stands.index }
+  Stands-after_load d = record { law = load_law refuses p d stands.law; origins = load_origins p d stands.origins; index = stands.index }
 
   edited_sessions : (id : Id) (deleted : Bool) (body : List ℕ) (e : Result (RevId × Option RevId) BaseFault) → (load_edited p id deleted body e).sessions ≡ p.sessions
   edited_sessions id deleted body (Ok e) = refl
@@ -95,6 +98,7 @@ module _ (refuses : Document → Bool) (refusals : Refusals) (p : PeerValue) (st
   Stands-after_edit id parent deleted body =
       record {
         law = edit_law refuses p id parent deleted body stands.law;
+        origins = edit_origins p id parent deleted body stands.origins;
         index = λ doc r. stands.index doc r ∙ ap (λ s. in_ledgers s doc r) (sym (edited_sessions id deleted body (edited p.db id parent deleted body)));
       }
 
@@ -108,6 +112,7 @@ module _ (refuses : Document → Bool) (refusals : Refusals) (p : PeerValue) (st
   Stands-after_begin id rep base start goal at fits =
       record {
         law = begin_law refuses p id rep base start goal at fits stands.law;
+        origins = begin_origins p id rep base start goal at stands.origins;
         index = λ doc r. stands.index doc r ∙ sym (begun_ledgers id rep base start goal at (begin_answer p id rep base start goal) doc r);
       }
 
@@ -124,9 +129,10 @@ module _ (refuses : Document → Bool) (refusals : Refusals) (p : PeerValue) (st
       stands-changed id (λ s. with_window w s (append_in w s))
       (record { id = λ s. window_id w s (append_in w s); ledger = λ s. window_ledger w s (append_in w s) })
       (append_law refuses p id w window fits stands.law)
+      (append_origins refuses p id w window fits stands.law stands.origins)
 
   pub Stands-after_record : (id : SessionId) (at : ℕ) → Stands refuses refusals (after_record p id at)
-  Stands-after_record id at = stands-changed id (recorded_at at) (record { id = λ s. refl; ledger = λ s. refl }) (record_law refuses p id at stands.law)
+  Stands-after_record id at = stands-changed id (recorded_at at) (record { id = λ s. refl; ledger = λ s. refl }) (record_law refuses p id at stands.law) (record_origins refuses p id at stands.law stands.origins)
 
   either : {A : Type 0} (f : SessionValue → A) (s t : SessionValue) (b : Bool) → f t ≡ f s → f (cond b t s) ≡ f s
   either f s t true same = same
@@ -140,6 +146,7 @@ module _ (refuses : Document → Bool) (refusals : Refusals) (p : PeerValue) (st
         ledger = λ s. either (λ x. x.ledger) s (recorded_at at s) (low_water s.front == s.goal) refl;
       })
       (conclude_law refuses p id at stands.law)
+      (conclude_origins refuses p id at stands.law stands.origins)
 
   -- ---- what a call leaves, by its result
 

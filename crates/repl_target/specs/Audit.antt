@@ -1,11 +1,13 @@
 -- The audit of a replication: docs/PROFILE.md, "Common checkpoint" and "Covered leaves".
-use Rattle.std.specs.Prelude.{ℕ, Option, Some, None}
+use Rattle.std.specs.Prelude.{◌≡◌, ℕ, true, Option, Some, None}
+use Rattle.rev_core.specs.Rev.{RevId}
 use Rattle.rev_tree.specs.declared.origin.SessionId.{SessionId}
 use Rattle.repl_log.specs.declared.replication.RepId.{RepId}
 use Rattle.repl_log.specs.Log.{common}
-use Rattle.couch_base.specs.Feed.{feed}
+use Rattle.couch_base.specs.Lists.{Among}
+use Rattle.couch_base.specs.Feed.{RowValue, feed}
 use Rattle.repl_target.specs.Peer.{PeerValue}
-use Rattle.repl_target.specs.Covered.{Leaf, first_uncovered}
+use Rattle.repl_target.specs.Covered.{Leaf, covers, first_uncovered}
 use Rattle.repl_target.specs.Logs.{source_log, target_log}
 use Rattle.repl_target.specs.declared.fault.Audit.{Audit}
 use Rattle.repl_target.specs.declared.fault.Audit.TheVariants.{Clean, Hole}
@@ -23,9 +25,13 @@ abbrev pub hole_at : PeerValue → PeerValue → Option (SessionId × ℕ) → O
 hole_at source target None = None
 hole_at source target (Some checkpoint) = hole_under source target checkpoint.1
 
+-- the common checkpoint of the two logs
+abbrev pub checkpoint_between : PeerValue → PeerValue → RepId → Option (SessionId × ℕ)
+checkpoint_between source target rep = common (source_log source rep) (target_log target rep)
+
 -- the first such leaf at or under the common checkpoint
 abbrev pub hole_between : PeerValue → PeerValue → RepId → Option Leaf
-hole_between source target rep = hole_at source target (common (source_log source rep) (target_log target rep))
+hole_between source target rep = hole_at source target (checkpoint_between source target rep)
 
 abbrev pub audit_answer : PeerValue → PeerValue → Option Leaf
 audit_answer source target = hole_between source target (rep_between source target)
@@ -34,3 +40,13 @@ audit_answer source target = hole_between source target (rep_between source targ
 abbrev pub hole_of : Audit → Option Leaf
 hole_of Clean = None
 hole_of (Hole seq id rev) = Some (record { seq = seq; id = id; rev = rev })
+
+-- ---- what it says
+
+-- each leaf of the source's feed at or under a sequence is covered at the target
+abbrev pub CoversFeed : PeerValue → PeerValue → ℕ → Type 0
+CoversFeed source target n = (row : RowValue) → Among row (feed source.db 0 n) → (leaf : RevId) → Among leaf row.leaves → covers target row.id leaf ≡ true
+
+-- each leaf up to the common checkpoint is covered
+abbrev pub IsAudited : PeerValue → PeerValue → Type 0
+IsAudited source target = (s : SessionId) (n : ℕ) → checkpoint_between source target (rep_between source target) ≡ Some (s, n) → CoversFeed source target n

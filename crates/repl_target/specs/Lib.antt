@@ -15,5 +15,6 @@ pub mod Table
 pub mod Refusals
 pub mod Logs
 pub mod Audit
+pub mod SettleParts
 pub mod Standing
 pub mod Local

@@ -1,10 +1,12 @@
--- What holds of a peer as it is kept: its law, and that its index of refused revisions is that of its ledgers.
+-- What holds of a peer as it is kept: its law, that each of its revisions has an origin, and that its index of refused
+-- revisions is that of its ledgers.
 use Rattle.std.specs.Prelude.{◌≡◌, Bool, List}
 use Rattle.rev_core.specs.Rev.{RevId}
 use Rattle.doc_json.specs.Document.{Document}
 use Rattle.couch_base.specs.Database.{Id}
 use Rattle.repl_target.specs.Peer.{PeerValue, SessionValue}
 use Rattle.repl_target.specs.Law.{Lawful}
+use Rattle.repl_target.specs.Origins.{HasOrigins}
 use Rattle.repl_target.specs.Refusals.{is_refused}
 use Rattle.repl_target.specs.Table.{in_ledgers}
 use Rattle.repl_target.specs.declared.refusals.Refusals.{Refusals}
@@ -15,4 +17,5 @@ Indexes refusals sessions = (id : Id) (r : RevId) → is_refused refusals id r �
 
 pub record Stands (refuses : Document → Bool) (refusals : Refusals) (p : PeerValue) : Type 0 where
   pub law : Lawful refuses p
+  pub origins : HasOrigins p
   pub index : Indexes refusals p.sessions

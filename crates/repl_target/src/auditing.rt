@@ -2,7 +2,7 @@
 ghost use Rattle.std.specs.Prelude.{◌≡◌, not, IfOk, IfErr};
 ghost use Rattle.std.specs.List.{find};
 ghost use Rattle.repl_target.specs.Covered.{covers, first_uncovered};
-ghost use Rattle.repl_target.specs.Audit.{hole_under, audit_answer, hole_of};
+ghost use Rattle.repl_target.specs.Audit.{hole_under, audit_answer, hole_of, IsAudited};
 
 use crate::fault::{Audit, TargetFault};
 use crate::filter::WriteFilter;
@@ -25,6 +25,7 @@ pub fn audit<F: WriteFilter, G: WriteFilter>(
     target: &Peer<G>,
 ) -> Result<Audit, TargetFault>
     ensures answer { IfOk result (λ a. hole_of a ≡ audit_answer source.now.1 target.now.1) }
+    ensures clean { IfOk result (λ a. a ≡ Audit.Clean → IsAudited source.now.1 target.now.1) }
     ensures err { IfErr result (λ e. e ≡ TargetFault.Memory) }
 {
     let rep = RepId {

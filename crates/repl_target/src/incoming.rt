@@ -3,11 +3,18 @@ ghost use Rattle.std.specs.Prelude.{◌≡◌, ◌∷◌, ◌==◌, Ok, OnOk, On
 ghost use Rattle.range_front.specs.Front.{low_water};
 ghost use Rattle.repl_target.specs.Kept.{sessions_of};
 ghost use Rattle.repl_target.specs.Sessions.{GivesUnlessMemory, new_session, append_in, with_window, recorded_at, conclude_in};
+ghost use Rattle.repl_target.specs.Peer.{PeerValue};
+ghost use Rattle.repl_target.specs.Settling.{SettleGives};
+ghost use Rattle.repl_target.specs.SettleParts.{with_parts};
+ghost use Rattle.repl_target.specs.Standing.{Stands, Indexes};
 ghost use Rattle.repl_target.specs.Table.{with_changed, answer_in, begin_in, recorded_by};
 
-use crate::fault::{Report, TargetFault};
+use crate::fault::{Report, Settled, TargetFault};
+use crate::filter::WriteFilter;
+use crate::refusals::Refusals;
 use crate::session::Session;
-use couch_base::Window;
+use crate::settle;
+use couch_base::{Database, Parcel, Window};
 use indexmap::IndexMap;
 use repl_log::{Moment, RepId};
 use rev_tree::SessionId;
@@ -132,6 +139,29 @@ pub(crate) fn conclude(
 {
     match sessions.get_mut(&id) {
         Some(session) => session.conclude(id, at),
+        None => Err(TargetFault::NoSuchSession),
+    }
+}
+
+/// Settles a parcel of a session, as `settle::settle` says. `NoSuchSession` comes before all else.
+pub(crate) fn settle<F: WriteFilter>(
+    filter: &F,
+    db: &mut Database,
+    refusals: &mut Refusals,
+    sessions: &mut Sessions,
+    id: SessionId,
+    parcel: Parcel,
+) -> Result<Settled, TargetFault>
+    requires { (p : PeerValue)
+        × Stands (F.refuses filter.now) refusals.old
+        (with_parts p db.old (sessions_of sessions.old.entries)) }
+    ensures gives { (p : PeerValue)
+        → SettleGives (F.refuses filter.now) (with_parts p db.old (sessions_of sessions.old.entries)) id parcel result
+        (with_parts p db.new (sessions_of sessions.new.entries)) }
+    ensures index { Indexes refusals.new (sessions_of sessions.new.entries) }
+{
+    match sessions.get_mut(&id) {
+        Some(session) => settle::settle(filter, db, refusals, id, session, parcel),
         None => Err(TargetFault::NoSuchSession),
     }
 }

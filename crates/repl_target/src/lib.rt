@@ -11,10 +11,16 @@ mod local;
 mod logs;
 mod peer;
 mod refusals;
+mod rows;
 mod session;
+mod settle;
+mod stored;
 mod written;
 
 pub use auditing::audit;
 pub use fault::{Audit, Cause, Reason, Report, Settled, TargetFault};
 pub use filter::{Rules, Verdict, WriteFilter};
 pub use peer::Peer;
+
+#[cfg(test)]
+mod tests;

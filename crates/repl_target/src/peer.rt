@@ -3,7 +3,7 @@ ghost use Rattle.std.specs.Prelude.{◌≡◌, Ok, OnOk, OnErr, IfOk, IfErr};
 ghost use Rattle.rev_tree.specs.Tree.{has};
 ghost use Rattle.couch_base.specs.Database.{tree_of};
 
-use crate::fault::{Report, TargetFault};
+use crate::fault::{Report, Settled, TargetFault};
 use crate::filter::WriteFilter;
 use crate::incoming::{self, Sessions};
 use crate::local;
@@ -73,8 +73,10 @@ impl<F: WriteFilter> Peer<F> {
     ghost use Rattle.repl_target.specs.Covered.{covers, Honest};
     ghost use Rattle.repl_target.specs.Writing.{after_load, after_edit, BaseGives};
     ghost use Rattle.repl_target.specs.Sessions.{GivesUnlessMemory, session_answer, begin_answer, after_begin, append_answer, after_append, record_answer, after_record, conclude_answer, after_conclude};
+    ghost use Rattle.repl_target.specs.Settling.{SettleGives};
     ghost use Rattle.repl_target.specs.Table.{entry_value};
     ghost use Rattle.repl_target.specs.Law.{Lawful};
+    ghost use Rattle.repl_target.specs.Trusted.{IsTrusted};
 
     /// A peer with a database of no documents. It grows by `alloc`.
     ///
@@ -96,11 +98,13 @@ impl<F: WriteFilter> Peer<F> {
     /// The database.
     ///
     /// The peer is lawful, and honest: of each session, all rows of its windows at or under its recorded sequence are
-    /// covered.
+    /// covered. So it may be trusted: each leaf of these rows stands in its document's tree or was rightly refused, each
+    /// revision comes from a local write or a stored row, and documents read are documents written and those refused.
     pub fn db(&self) -> &Database
         ensures value { result.now ≡ self.now.1.db }
         ensures law { Lawful (F.refuses self.now.0) self.now.1 }
         ensures honest { (s : SessionValue) → Among s self.now.1.sessions → Honest self.now.1 s s.recorded }
+        ensures trusted { IsTrusted (F.refuses self.now.0) self.now.1 }
     {
         &self.db
     }
@@ -224,6 +228,32 @@ impl<F: WriteFilter> Peer<F> {
         // Readings of the window tell the proof that it is one.
         let _hi = window.hi();
         incoming::append(&mut self.sessions, id, window)
+    }
+
+    /// Settles a parcel that a session fetched: its documents in order, then the mark of its window.
+    ///
+    /// `NoSuchSession` where the peer doesn't hold the session; else `ForeignParcel` where it stores no window of the
+    /// parcel's bounds, or a document has no row in that; else `AlreadyDone` where the window is done; else `CountFull`
+    /// where a count of the session would pass 9,007,199,254,740,991. These change nothing.
+    ///
+    /// Else each document in order is refused by the filter or as a contradiction, and goes into the session's ledger, or
+    /// is put, and counts as written also where it was there already. `Stopped` where a document that is put finds no
+    /// sequence, or where memory is refused: the first `settled` documents are settled then, and `rest` are the others.
+    /// Else `Uncovered` where a leaf of the window's rows isn't covered: the first such one; all documents are settled
+    /// then. Else the window is done, and the answer is how many of the documents were written, and how many refused.
+    pub fn settle(&mut self, id: SessionId, parcel: Parcel) -> Result<Settled, TargetFault>
+        ensures settles { SettleGives (F.refuses self.old.0) self.old.1 id parcel result self.new.1 }
+        ensures filter { self.new.0 ≡ self.old.0 }
+        ensures law { Lawful (F.refuses self.new.0) self.new.1 }
+    {
+        incoming::settle(
+            &self.filter,
+            &mut self.db,
+            &mut self.refusals,
+            &mut self.sessions,
+            id,
+            parcel,
+        )
     }
 
     /// Records what a session has done without a gap, and answers it: the source's sequence up to which all is done.

@@ -1,0 +1,8 @@
+use Rattle.std.proofs.Common.{◌≡◌, drop}
+use Rattle.repl_target.specs.Covered.{first_unknown}
+use Rattle.repl_target.specs.SettleParts.{known_of}
+use Rattle.repl_target.proofs.rows.first_unknown.Given as goal
+
+-- none of the rows so far has an unknown leaf
+abbrev pub invariant-loop-row : goal.invariant-loop-row
+invariant-loop-row l = first_unknown (known_of l.db l.refusals) (drop l.row-index l.rows) ≡ first_unknown (known_of l.db l.refusals) l.rows

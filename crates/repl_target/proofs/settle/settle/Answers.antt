@@ -1,0 +1,150 @@
+use Rattle.std.proofs.Common.{◌≡◌, ◌+◌, ◌-◌, ◌≤◌, ℕ, List, Some, Ok, length, slice_get, true, sym, ap, ◌∙◌, subst, arith}
+use Rattle.doc_json.specs.Document.{Document}
+use Rattle.couch_base.specs.Database.{most}
+use Rattle.couch_base.specs.Feed.{WindowValue}
+use Rattle.couch_base.specs.Messages.{ParcelValue}
+use Rattle.std.specs.List.{list_all}
+use Rattle.range_front.specs.Front.{FrontValue, finish_answer}
+use Rattle.repl_target.specs.Covered.{in_ledger}
+use Rattle.repl_target.specs.Peer.{RefusedValue}
+use Rattle.repl_target.specs.Kept.{session_value}
+use Rattle.repl_target.specs.Settling.{has_row}
+use Rattle.repl_target.specs.SettleParts.{Reached, IsFull, settling_at, known_of}
+use Rattle.repl_target.proofs.Checks.{passed_by, room_of, consecutive, can_finish}
+use Rattle.repl_target.proofs.Documents.{grown_by, reached_left, items_of}
+use Rattle.repl_target.proofs.Parcels.{gives_from, stopped, ended_err, ended_ok}
+use Rattle.repl_target.proofs.settle.settle.Goals as goal
+
+pub check-requires : goal.check-requires
+check-requires g c = consecutive c.args.session.now.front.front c.args.session.now.windows.items c.requires.front c.requires.bounds
+
+pub settle_in_order-stop-requires-clause-rows : goal.settle_in_order-stop-requires-clause-rows
+settle_in_order-stop-requires-clause-rows g c =
+    let docs = ap (λ (p : ParcelValue). p.docs) c.into_parts-docs.ensures.parts in
+    let p = c.in_ok-checked.ensures.ok c.args.id in
+    let q = passed_by (session_value c.args.id c.args.session.now) c.args.parcel _ _ _ p in
+    (p.window, p.at, subst (λ (l : List Document). list_all (has_row p.window) l ≡ true) docs q.rows)
+
+pub settle_in_order-stop-requires-clause-room : goal.settle_in_order-stop-requires-clause-room
+settle_in_order-stop-requires-clause-room g c =
+    let docs = ap (λ (p : ParcelValue). p.docs) c.into_parts-docs.ensures.parts in
+    let p = c.in_ok-checked.ensures.ok c.args.id in
+    let q = passed_by (session_value c.args.id c.args.session.now) c.args.parcel _ _ _ p in
+    let room = room_of (session_value c.args.id c.args.session.now) p.window c.args.parcel q.room in
+    subst (λ (l : List Document). c.args.session.now.read + length l ≤ most) docs room.read
+
+pub returns-in-Err-clause-gives : goal.returns-in-Err-clause-gives
+returns-in-Err-clause-gives g c =
+    let docs = ap (λ (p : ParcelValue). p.docs) c.into_parts-docs.ensures.parts in
+    let p = c.in_ok-checked.ensures.ok c.args.id in
+    let before = settling_at c.args.db.now c.args.id c.args.session.now in
+    let after = settling_at c.settle_in_order-stop.new.db c.args.id c.settle_in_order-stop.new.session in
+    let refuses = g.F.WriteFilter.refuses c.args.filter.now in
+    let known = known_of c.settle_in_order-stop.new.db c.settle_in_order-stop.new.refusals in
+    let all = c.into_parts-docs.result.1 in
+    let left = c.settle_in_order-stop.new.docs in
+    let n : length all.items - length left.items ≡ c.len-all.result - c.len.result = omega (arith, all.ok, left.ok, c.len-all.ensures, c.len.ensures) in
+    gives_from refuses known before after c.args.parcel _ _ _ _ p
+    (stopped refuses known p.window before after c.args.parcel all.items (c.len-all.result - c.len.result) left c.in-Err.cause (sym docs)
+    (subst (λ (k : ℕ). Reached refuses p.window before all.items k left.items after) n (c.settle_in_order-stop.ensures.reached p.window p.at))
+    (λ full. subst (λ (k : ℕ). IsFull refuses p.window before all.items k) n (c.in-Err.ensures.full full p.window p.at)))
+
+pub close-requires-clause-stored : goal.close-requires-clause-stored
+close-requires-clause-stored g c =
+    let p = c.in_ok-checked.ensures.ok c.args.id in
+    let q = passed_by (session_value c.args.id c.args.session.now) c.args.parcel _ _ _ p in (
+      p.window,
+      subst (λ (l : List WindowValue). slice_get l c.in_ok-checked.checked.place ≡ Some p.window) (ap items_of (sym c.settle_in_order-stop.ensures.windows)) p.at,
+      subst (λ (f : FrontValue). finish_answer f p.window.lo p.window.hi ≡ Ok tt) (sym c.settle_in_order-stop.ensures.front)
+          (can_finish c.args.session.now.front.front c.args.session.now.windows.items c.in_ok-checked.checked.place p.window c.requires.bounds p.at q.remains),
+    )
+
+pub close-requires-clause-checked : goal.close-requires-clause-checked
+close-requires-clause-checked g c =
+    let p = c.in_ok-checked.ensures.ok c.args.id in
+    let q = passed_by (session_value c.args.id c.args.session.now) c.args.parcel _ _ _ p in
+    let room = room_of (session_value c.args.id c.args.session.now) p.window c.args.parcel q.room in
+    let before = settling_at c.args.db.now c.args.id c.args.session.now in
+    let reached = c.settle_in_order-stop.ensures.reached p.window p.at in
+    let same : c.settle_in_order-stop.new.session.checked ≡ c.args.session.now.checked = (grown_by _ _ before _ _ _ _ reached).checked in
+    omega (arith, room.checked, same, p.leaf_count)
+
+pub close-requires-clause-found : goal.close-requires-clause-found
+close-requires-clause-found g c =
+    let p = c.in_ok-checked.ensures.ok c.args.id in
+    let q = passed_by (session_value c.args.id c.args.session.now) c.args.parcel _ _ _ p in
+    let room = room_of (session_value c.args.id c.args.session.now) p.window c.args.parcel q.room in
+    let before = settling_at c.args.db.now c.args.id c.args.session.now in
+    let reached = c.settle_in_order-stop.ensures.reached p.window p.at in
+    let same : c.settle_in_order-stop.new.session.found ≡ c.args.session.now.found = (grown_by _ _ before _ _ _ _ reached).found in
+    omega (arith, room.found, same, p.asked_count)
+
+pub returns-in-Err-close-clause-gives : goal.returns-in-Err-close-clause-gives
+returns-in-Err-close-clause-gives g c =
+    let docs = ap (λ (p : ParcelValue). p.docs) c.into_parts-docs.ensures.parts in
+    let p = c.in_ok-checked.ensures.ok c.args.id in
+    let before = settling_at c.args.db.now c.args.id c.args.session.now in
+    let mid = settling_at c.settle_in_order-stop.new.db c.args.id c.settle_in_order-stop.new.session in
+    let after = settling_at c.settle_in_order-stop.new.db c.args.id c.close.new.session in
+    let refuses = g.F.WriteFilter.refuses c.args.filter.now in
+    let known = known_of c.settle_in_order-stop.new.db c.settle_in_order-stop.new.refusals in
+    let all = c.into_parts-docs.result.1 in
+    let left = c.settle_in_order-stop.new.docs in
+    let n : length all.items - length left.items ≡ c.len-all.result - c.len.result = omega (arith, all.ok, left.ok, c.len-all.ensures, c.len.ensures) in
+    let reached = reached_left refuses p.window before mid all.items c.args.parcel.docs left.items _ (c.len-all.result - c.len.result) (sym docs) n c.in_default.ensures.ok (c.settle_in_order-stop.ensures.reached p.window p.at) in
+    let still = subst (λ (l : List WindowValue). slice_get l c.in_ok-checked.checked.place ≡ Some p.window) (ap items_of (sym c.settle_in_order-stop.ensures.windows)) p.at in
+    gives_from refuses known before after c.args.parcel _ _ _ _ p
+    (ended_err refuses known p.window before mid.db mid.session after.session c.args.parcel (c.len-all.result - c.len.result) c.in_ok-checked.checked.leaves c.in_ok-checked.checked.asked c.in-Err-close.fault reached (c.in-Err-close.ensures.ends c.args.id p.window still))
+
+pub overflow_sub-result : goal.overflow_sub-result
+overflow_sub-result g c =
+    let p = c.in_ok-checked.ensures.ok c.args.id in
+    let before = settling_at c.args.db.now c.args.id c.args.session.now in
+    let grown = grown_by _ _ before _ _ _ _ (c.settle_in_order-stop.ensures.reached p.window p.at) in
+    omega (arith, grown.written, c.close.ensures.written)
+
+pub overflow_sub-result-in-Ok : goal.overflow_sub-result-in-Ok
+overflow_sub-result-in-Ok g c =
+    let p = c.in_ok-checked.ensures.ok c.args.id in
+    let before = settling_at c.args.db.now c.args.id c.args.session.now in
+    let grown = grown_by _ _ before _ _ _ _ (c.settle_in_order-stop.ensures.reached p.window p.at) in
+    omega (arith, grown.failures, c.close.ensures.failures)
+
+pub returns-in-Ok-clause-gives : goal.returns-in-Ok-clause-gives
+returns-in-Ok-clause-gives g c =
+    let docs = ap (λ (p : ParcelValue). p.docs) c.into_parts-docs.ensures.parts in
+    let p = c.in_ok-checked.ensures.ok c.args.id in
+    let before = settling_at c.args.db.now c.args.id c.args.session.now in
+    let mid = settling_at c.settle_in_order-stop.new.db c.args.id c.settle_in_order-stop.new.session in
+    let after = settling_at c.settle_in_order-stop.new.db c.args.id c.close.new.session in
+    let refuses = g.F.WriteFilter.refuses c.args.filter.now in
+    let known = known_of c.settle_in_order-stop.new.db c.settle_in_order-stop.new.refusals in
+    let all = c.into_parts-docs.result.1 in
+    let left = c.settle_in_order-stop.new.docs in
+    let n : length all.items - length left.items ≡ c.len-all.result - c.len.result = omega (arith, all.ok, left.ok, c.len-all.ensures, c.len.ensures) in
+    let reached = reached_left refuses p.window before mid all.items c.args.parcel.docs left.items _ (c.len-all.result - c.len.result) (sym docs) n c.in_default.ensures.ok (c.settle_in_order-stop.ensures.reached p.window p.at) in
+    let still = subst (λ (l : List WindowValue). slice_get l c.in_ok-checked.checked.place ≡ Some p.window) (ap items_of (sym c.settle_in_order-stop.ensures.windows)) p.at in
+    gives_from refuses known before after c.args.parcel _ _ _ _ p
+    (ended_ok refuses known p.window before mid.db mid.session after.session c.args.parcel (c.len-all.result - c.len.result) c.in_ok-checked.checked.leaves c.in_ok-checked.checked.asked _ tt reached (c.in-Ok.ensures.ends c.args.id p.window still) p.leaf_count p.asked_count
+    (ap (λ (k : ℕ). k - c.args.session.now.written) c.close.ensures.written)
+    (ap (λ (k : ℕ). k - c.args.session.now.failures) c.close.ensures.failures))
+
+pub returns-in-Err-clause-ledger : goal.returns-in-Err-clause-ledger
+returns-in-Err-clause-ledger g c = λ i r there.
+    let p = c.in_ok-checked.ensures.ok c.args.id in
+    let before = settling_at c.args.db.now c.args.id c.args.session.now in
+    (grown_by _ _ before _ _ _ _ (c.settle_in_order-stop.ensures.reached p.window p.at)).ledger i r there
+
+pub returns-in-Ok-clause-ledger : goal.returns-in-Ok-clause-ledger
+returns-in-Ok-clause-ledger g c = λ i r there.
+    let p = c.in_ok-checked.ensures.ok c.args.id in
+    let before = settling_at c.args.db.now c.args.id c.args.session.now in
+    ap (λ (l : List RefusedValue). in_ledger l i r) c.close.ensures.ledger
+    ∙ (grown_by _ _ before _ _ _ _ (c.settle_in_order-stop.ensures.reached p.window p.at)).ledger i r there
+
+pub returns-in-Err-close-clause-ledger : goal.returns-in-Err-close-clause-ledger
+returns-in-Err-close-clause-ledger g c = λ i r there.
+    let p = c.in_ok-checked.ensures.ok c.args.id in
+    let before = settling_at c.args.db.now c.args.id c.args.session.now in
+    ap (λ (l : List RefusedValue). in_ledger l i r) c.close.ensures.ledger
+    ∙ (grown_by _ _ before _ _ _ _ (c.settle_in_order-stop.ensures.reached p.window p.at)).ledger i r there

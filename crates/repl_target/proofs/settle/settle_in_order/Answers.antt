@@ -1,0 +1,35 @@
+use Rattle.std.proofs.Common.{◌≡◌, ◌-◌, Some, slice_get, length, ap, arith}
+use Rattle.std.proofs.lemmas.List.{length-reverse}
+use Rattle.couch_base.specs.Feed.{WindowValue}
+use Rattle.repl_target.specs.Kept.{session_value}
+use Rattle.repl_target.specs.Settling.{has_row}
+use Rattle.repl_target.specs.SettleParts.{settling_at, Reached}
+use Rattle.repl_target.proofs.Documents.{reached_turned, full_from, all_turned, IfErr_then}
+use Rattle.repl_target.proofs.settle.settle_in_order.Given.{Over}
+use Rattle.repl_target.proofs.settle.settle_in_order.Goals as goal
+
+pub settle_documents-settled-requires-clause-rows : goal.settle_documents-settled-requires-clause-rows
+settle_documents-settled-requires-clause-rows g c =
+    let stored = c.requires.rows in
+    (stored.0, stored.1, all_turned (has_row stored.0) c.args.docs.now.items c.reverse.new.self.items c.reverse.ensures.items stored.2)
+
+reached : (g : Over) (c : goal.After-reverse-2 g) (w : WindowValue) → slice_get c.args.session.now.windows.items c.args.place ≡ Some w
+    → Reached (g.F.WriteFilter.refuses c.args.filter.now) w (settling_at c.args.db.now c.args.id c.args.session.now) c.args.docs.now.items (length c.args.docs.now.items - length c.reverse-2.new.self.items) c.reverse-2.new.self.items (settling_at c.settle_documents-settled.new.db c.args.id c.settle_documents-settled.new.session)
+reached g c w is =
+    let same : settling_at c.args.db.now c.args.id (record c.args.session.now { front = c.reserve.new.self }) ≡ settling_at c.args.db.now c.args.id c.args.session.now =
+    λ i. record { db = c.args.db.now; session = record (session_value c.args.id c.args.session.now) { front = c.in-Ok.ensures.kept i } } in
+    reached_turned (g.F.WriteFilter.refuses c.args.filter.now) w _ _ _ c.args.docs.now.items c.reverse.new.self.items c.settle_documents-settled.new.docs.items c.reverse-2.new.self.items same c.reverse.ensures.items c.reverse-2.ensures.items (c.settle_documents-settled.ensures.reached w is)
+
+pub returns-clause-reached : goal.returns-clause-reached
+returns-clause-reached g c = λ w is. reached g c w is
+
+pub returns-clause-fewer : goal.returns-clause-fewer
+returns-clause-fewer g c =
+    let fewer = c.settle_documents-settled.ensures.fewer in
+    omega (arith, fewer, ap length c.reverse.ensures.items, ap length c.reverse-2.ensures.items, length-reverse c.args.docs.now.items, length-reverse c.settle_documents-settled.new.docs.items)
+
+pub returns-clause-full : goal.returns-clause-full
+returns-clause-full g c =
+    IfErr_then c.settle_documents-settled.result
+    (λ cause h full w is. full_from (g.F.WriteFilter.refuses c.args.filter.now) w _ _ c.args.docs.now.items c.settle_documents-settled.new.docs.items c.reverse-2.new.self.items _ (reached g c w is) c.reverse-2.ensures.items (h full))
+    c.settle_documents-settled.ensures.full
