@@ -70,12 +70,7 @@ fn number_of(rt: &impl Abort, text: &str) -> usize {
 }
 
 /// The leaves of a document at the source that the target has not, winner first.
-fn wanted(
-    alloc: Global,
-    source: &Side,
-    target: &Side,
-    number: usize,
-) -> Result<Vec<usize>, Fail> {
+fn wanted(alloc: Global, source: &Side, target: &Side, number: usize) -> Result<Vec<usize>, Fail> {
     let held = target.tree(number);
     let mut places = Vec::new(alloc);
     for leaf in &source.tree(number).leaves(alloc)? {
@@ -152,7 +147,10 @@ fn brings_leaves(
         };
         assert_eq!(rt; number_of(rt, doc.id().text()), number);
         assert!(rt; are(rt, doc.ancestry().revs(), &tree.ancestry(alloc, *leaf)?));
-        assert_eq!(rt; Some(doc.deleted()), tree.content(*leaf).map(|content| content.0));
+        assert_eq!(rt;
+            Some(doc.deleted()),
+            tree.content(*leaf).map(|content| content.0)
+        );
         at = at.saturating_add(1);
     }
     Ok(at)
@@ -219,9 +217,7 @@ fn a_hundred_exchanges_agree(rt: HostRuntime) -> Result<(), Fail> {
         let mut target = Side::new(alloc, 2);
         source.grow(&rt, alloc, &mut rng, 20)?;
         target.grow(&rt, alloc, &mut rng, 10)?;
-        let window = source
-            .db
-            .page(alloc, 0, source.update_seq, 100)?;
+        let window = source.db.page(alloc, 0, source.update_seq, 100)?;
         let asked = target.db.revs_diff(alloc, &window)?;
         let all = asks(&rt, alloc, &source, &target, &asked)?;
         // The source may have moved on by the time of the fetch, and another database may lack what is asked.
