@@ -20,3 +20,4 @@ pub mod Feeds
 pub mod Standing
 pub mod Edits
 pub mod Settles
+pub mod Reading

@@ -60,6 +60,8 @@ ended_err refuses known w before db mid t parcel n leaves asked faults.AlreadyDo
 ended_err refuses known w before db mid t parcel n leaves asked faults.CountFull h e = absurd e
 ended_err refuses known w before db mid t parcel n leaves asked (faults.Unfinished r) h e = absurd e
 ended_err refuses known w before db mid t parcel n leaves asked (faults.Older r) h e = absurd e
+ended_err refuses known w before db mid t parcel n leaves asked faults.BadBatch h e = absurd e
+ended_err refuses known w before db mid t parcel n leaves asked faults.SamePeer h e = absurd e
 ended_err refuses known w before db mid t parcel n leaves asked faults.Memory h e = absurd e
 
 pub ended_ok : (refuses : Document → Bool) (known : Id → RevId → Bool) (w : WindowValue) (before : Settling) (db : DatabaseValue) (mid t : SessionValue) (parcel : ParcelValue) (n leaves asked : ℕ) (settled : Settled) (tell : Unit {0})

@@ -138,6 +138,8 @@ module _ (refuses : Document → Bool) (known : Id → RevId → Bool) (p : Peer
   settles_at (Err faults.CountFull) after agrees h = absurd h
   settles_at (Err (faults.Unfinished r)) after agrees h = absurd h
   settles_at (Err (faults.Older r)) after agrees h = absurd h
+  settles_at (Err faults.BadBatch) after agrees h = absurd h
+  settles_at (Err faults.SamePeer) after agrees h = absurd h
   settles_at (Err faults.Memory) after agrees h = absurd h
 
 abbrev told : Result (SessionValue × WindowValue) TargetFault → SessionValue → SessionValue

@@ -18,3 +18,4 @@ pub mod Audit
 pub mod SettleParts
 pub mod Standing
 pub mod Local
+pub mod Replication

@@ -92,6 +92,12 @@ pub enum TargetFault {
     Older {
         stored: u64,
     },
+    /// A plan's windows have no rows, or more than 10,000.
+    #[error("a window has 1 to 10000 rows")]
+    BadBatch,
+    /// The source and the target have one UUID.
+    #[error("a database is not replicated into itself")]
+    SamePeer,
     /// An allocation was refused.
     #[error("out of memory")]
     Memory,

@@ -11,6 +11,7 @@ mod local;
 mod logs;
 mod peer;
 mod refusals;
+mod replication;
 mod rows;
 mod session;
 mod settle;
@@ -21,6 +22,7 @@ pub use auditing::audit;
 pub use fault::{Audit, Cause, Reason, Report, Settled, TargetFault};
 pub use filter::{Rules, Verdict, WriteFilter};
 pub use peer::Peer;
+pub use replication::{Plan, replicate_alone};
 
 #[cfg(test)]
 mod tests;

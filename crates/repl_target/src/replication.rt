@@ -1,0 +1,233 @@
+//! Replication by one thread.
+ghost use Rattle.std.specs.Prelude.{◌≡◌, ◌⊎◌, ℕ, ◌<◌, true, false, Some, Ok, Err, IfOk, IfErr, OnOk, OnErr};
+ghost use Rattle.couch_base.specs.Database.{LawfulDatabase};
+ghost use Rattle.repl_log.specs.Entry.{EntryValue};
+ghost use Rattle.repl_target.specs.Audit.{rep_between};
+ghost use Rattle.repl_target.specs.Peer.{SessionValue, session_in, entry_of};
+ghost use Rattle.repl_target.specs.Sessions.{session_answer, conclude_answer};
+ghost use Rattle.repl_target.specs.Replication.{Reading, is_batch, plan_answer, start_between, begins_answer, after_begins, Carries, WindowRefused, has_left, ReadsAll, ReadsUntil, closed, PutsOver, Closes, Replicates, CoversFrom, IsReported};
+ghost use Rattle.repl_target.specs.Law.{Lawful};
+ghost use Rattle.repl_target.specs.declared.fault.TargetFault.TheVariants as faults;
+
+use crate::fault::{Report, TargetFault};
+use crate::filter::WriteFilter;
+use crate::peer::Peer;
+use repl_log::{Moment, RepId, common};
+use rev_tree::SessionId;
+use std::alloc::Global;
+
+/// The most rows of a window.
+const MOST_ROWS: u64 = 10_000;
+
+/// What a replication is asked to do.
+#[derive(Clone, Copy, Debug)]
+pub struct Plan {
+    /// The new session's id.
+    pub session: SessionId,
+    /// How many workers fetch, and how many write; one thread doesn't look at it.
+    pub workers: u64,
+    /// How many rows a window has at most: 1 to 10,000.
+    pub batch: u64,
+    /// After how many windows the replication stops, also below its goal.
+    pub stop_after: Option<u64>,
+    /// When it takes place.
+    pub at: Moment,
+}
+
+/// Replicates the source's documents into the target, by one thread: from the common checkpoint of the two logs up to the
+/// source's update sequence, in windows, each settled before the next is read. Then the session is recorded, first at the
+/// target, then in the source's log.
+///
+/// `BadBatch` where the batch isn't 1 to 10,000; else `SamePeer` where the two databases have one UUID; else what a step
+/// refuses: after it the steps before it stand, with what that refusal leaves. `Unfinished` where as many windows as the
+/// plan allows are read, and they end below the goal: then both sides are recorded. An entry that is older than the one in
+/// the source's log is passed over.
+///
+/// At `Ok` each leaf of the source's feed above the start is covered at the target, and the report is the session's. The
+/// source's database is unchanged, whatever the answer.
+pub fn replicate_alone<F: WriteFilter, G: WriteFilter>(
+    alloc: Global,
+    source: &mut Peer<F>,
+    target: &mut Peer<G>,
+    plan: &Plan,
+) -> Result<Report, TargetFault>
+    ensures replicates { Replicates (G.refuses target.old.0) source.old.1 target.old.1 plan.now result source.new.1 target.new.1 }
+    ensures filters { (source.new.0 ≡ source.old.0) × (target.new.0 ≡ target.old.0) }
+    ensures source { source.new.1 ≡ record source.old.1 { outgoing = source.new.1.outgoing } }
+    ensures covered { OnOk result (CoversFrom source.old.1 target.new.1 (start_between source.old.1 target.old.1)) }
+    ensures report { IfOk result (λ report. IsReported source.old.1 target.old.1 target.new.1 plan.now report) }
+{
+    check_plan(source, target, plan)?;
+    let start = begin(alloc, source, target, plan)?;
+    read_windows(alloc, source, target, plan, start)?;
+    close(source, target, plan)
+}
+
+/// `BadBatch` where the batch isn't 1 to 10,000; else `SamePeer` where the two databases have one UUID.
+fn check_plan<F: WriteFilter, G: WriteFilter>(
+    source: &Peer<F>,
+    target: &Peer<G>,
+    plan: &Plan,
+) -> Result<(), TargetFault>
+    ensures { result ≡ plan_answer source.now.1 target.now.1 plan.now }
+{
+    if plan.batch < 1 || plan.batch > MOST_ROWS {
+        return Err(TargetFault::BadBatch);
+    }
+    if source.db().uuid() == target.db().uuid() {
+        return Err(TargetFault::SamePeer);
+    }
+    Ok(())
+}
+
+/// Begins the session of a plan where the two logs agree, and answers its start.
+fn begin<F: WriteFilter, G: WriteFilter>(
+    alloc: Global,
+    source: &Peer<F>,
+    target: &mut Peer<G>,
+    plan: &Plan,
+) -> Result<u64, TargetFault>
+    ensures filter { target.new.0 ≡ target.old.0 }
+    ensures start { IfOk result (λ start. start ≡ start_between source.now.1 target.old.1) }
+    ensures ok { OnOk result ((begins_answer source.now.1 target.old.1 plan.now ≡ Ok tt) × (target.new.1 ≡ after_begins source.now.1 target.old.1 plan.now)) }
+    ensures err { OnErr result (target.new.1 ≡ target.old.1) }
+    ensures refused { IfErr result (λ why. (why ≡ faults.Memory) ⊎ (begins_answer source.now.1 target.old.1 plan.now ≡ Err why)) }
+    ensures target_law { Lawful (G.refuses target.new.0) target.new.1 }
+    ensures source_law { LawfulDatabase source.now.1.db }
+{
+    let goal = source.db().update_seq();
+    let rep = RepId {
+        source: source.db().uuid(),
+        target: target.db().uuid(),
+    };
+    let outgoing = source.source_log(alloc, &rep)?;
+    let incoming = target.target_log(alloc, &rep)?;
+    let (base, start) = match common(&outgoing, &incoming) {
+        Some((session, recorded)) => (Some(session), recorded),
+        None => (None, 0),
+    };
+    target.begin(plan.session, rep, base, start, goal, plan.at)?;
+    Ok(start)
+}
+
+/// Reads windows from a start, each settled before the next, until none is due.
+fn read_windows<F: WriteFilter, G: WriteFilter>(
+    alloc: Global,
+    source: &Peer<F>,
+    target: &mut Peer<G>,
+    plan: &Plan,
+    start: u64,
+) -> Result<(), TargetFault>
+    requires { is_batch plan.now.batch ≡ true }
+    ensures filter { target.new.0 ≡ target.old.0 }
+    ensures ok { OnOk result (ReadsAll (G.refuses target.old.0) source.now.1.db plan.now (record { since = start; target = target.old.1 }) target.new.1) }
+    ensures err { IfErr result (λ why. ReadsUntil (G.refuses target.old.0) source.now.1.db plan.now (record { since = start; target = target.old.1 }) why target.new.1) }
+{
+    let goal = source.db().update_seq();
+    let mut since = start;
+    let mut windows = 0;
+    while since < goal && has_left(plan.stop_after, windows) {
+        since = carry_window(alloc, source, target, plan, since)?;
+        windows += 1;
+    }
+    Ok(())
+}
+
+/// Whether a plan lets another window be read after some.
+fn has_left(stop_after: Option<u64>, windows: u64) -> bool
+    ensures { result ≡ has_left stop_after windows }
+{
+    match stop_after {
+        Some(most) => windows < most,
+        None => true,
+    }
+}
+
+/// Reads the window above a sequence, stores it, and settles what the target misses of it. The answer is where it ends.
+fn carry_window<F: WriteFilter, G: WriteFilter>(
+    alloc: Global,
+    source: &Peer<F>,
+    target: &mut Peer<G>,
+    plan: &Plan,
+    since: u64,
+) -> Result<u64, TargetFault>
+    requires batch { is_batch plan.now.batch ≡ true }
+    requires due { since < source.now.1.db.update_seq }
+    ensures filter { target.new.0 ≡ target.old.0 }
+    ensures moves { IfOk result (λ hi. since < hi) }
+    ensures ok { IfOk result (λ hi. Carries (G.refuses target.old.0) source.now.1.db plan.now (record { since = since; target = target.old.1 }) (record { since = hi; target = target.new.1 })) }
+    ensures err { IfErr result (λ why. WindowRefused (G.refuses target.old.0) source.now.1.db plan.now (record { since = since; target = target.old.1 }) why target.new.1) }
+{
+    let goal = source.db().update_seq();
+    let Ok(window) = source.page(alloc, since, goal, plan.batch) else {
+        return Err(TargetFault::Memory);
+    };
+    let Ok(asked) = target.revs_diff(alloc, &window) else {
+        return Err(TargetFault::Memory);
+    };
+    let Ok(parcel) = source.open_revs(alloc, &asked) else {
+        return Err(TargetFault::Memory);
+    };
+    let hi = window.hi();
+    target.append(plan.session, window)?;
+    target.settle(plan.session, parcel)?;
+    Ok(hi)
+}
+
+/// Records the session at the target, then in the source's log. The answer is that of concluding the session.
+fn close<F: WriteFilter, G: WriteFilter>(
+    source: &mut Peer<F>,
+    target: &mut Peer<G>,
+    plan: &Plan,
+) -> Result<Report, TargetFault>
+    requires held { (s : SessionValue) × (session_in target.now.1.sessions plan.now.session ≡ Some s) }
+    ensures filters { (source.new.0 ≡ source.old.0) × (target.new.0 ≡ target.old.0) }
+    ensures closes { Closes source.old.1 target.old.1 plan.now result source.new.1 target.new.1 }
+    ensures source { source.new.1 ≡ record source.old.1 { outgoing = source.new.1.outgoing } }
+{
+    let concluded = record_at_target(target, plan);
+    record_at_source(source, target, plan)?;
+    concluded
+}
+
+/// Concludes the session of a plan, or records it where it can't be concluded.
+fn record_at_target<G: WriteFilter>(
+    target: &mut Peer<G>,
+    plan: &Plan,
+) -> Result<Report, TargetFault>
+    ensures filter { target.new.0 ≡ target.old.0 }
+    ensures answer { result ≡ conclude_answer target.old.1 plan.now.session }
+    ensures closed { target.new.1 ≡ closed target.old.1 plan.now }
+{
+    match target.conclude(plan.session, plan.at) {
+        Ok(report) => Ok(report),
+        Err(fault) => {
+            let _low_water = target.record(plan.session, plan.at);
+            Err(fault)
+        }
+    }
+}
+
+/// Puts the session's entry into the source's log; an older one is passed over.
+fn record_at_source<F: WriteFilter, G: WriteFilter>(
+    source: &mut Peer<F>,
+    target: &Peer<G>,
+    plan: &Plan,
+) -> Result<(), TargetFault>
+    requires held { (s : SessionValue) × (session_in target.now.1.sessions plan.now.session ≡ Some s) }
+    ensures filter { source.new.0 ≡ source.old.0 }
+    ensures told { (entry : EntryValue) × (session_answer target.now.1 plan.now.session (λ s. Ok (entry_of s)) ≡ Ok entry)
+        × PutsOver source.old.1 (rep_between source.old.1 target.now.1) entry result source.new.1 }
+{
+    let rep = RepId {
+        source: source.db().uuid(),
+        target: target.db().uuid(),
+    };
+    let Ok(entry) = target.entry(plan.session) else {
+        unreachable!()
+    };
+    match source.put_entry(&rep, entry) {
+        Err(TargetFault::Memory) => Err(TargetFault::Memory),
+        _ => Ok(()),
+    }
+}
