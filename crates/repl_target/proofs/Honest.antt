@@ -16,7 +16,7 @@ rises_le : (lo : ℕ) (ns : List ℕ) (hi : ℕ) → Rises lo ns hi → lo ≤ h
 rises_le lo [] hi r = r
 rises_le lo (n ∷ ns) hi r = omega (arith, r.0, rises_le n ns hi r.1)
 
-rises_member : (lo : ℕ) (ns : List ℕ) (hi n : ℕ) → Rises lo ns hi → Among n ns → (lo < n) × (n ≤ hi)
+pub rises_member : (lo : ℕ) (ns : List ℕ) (hi n : ℕ) → Rises lo ns hi → Among n ns → (lo < n) × (n ≤ hi)
 rises_member lo [] hi n r m = absurd m
 rises_member lo (k ∷ ns) hi n r (inl e) = (omega (arith, r.0, e), omega (arith, e, rises_le k ns hi r.1))
 rises_member lo (k ∷ ns) hi n r (inr m) = let h = rises_member k ns hi n r.1 m in (omega (arith, r.0, h.0), h.1)

@@ -21,3 +21,5 @@ pub mod Standing
 pub mod Edits
 pub mod Settles
 pub mod Reading
+pub mod Parts
+pub mod Copies

@@ -220,7 +220,7 @@ concludes s report h =
     ok_is : (x y : Report) → ◌≡◌ {A = Result Report TargetFault} (Ok x) (Ok y) → x ≡ y
     ok_is x y e = cc
 
-concluded : (answer : Result Report TargetFault) (put : Result (Unit {0}) TargetFault) (report : Report) → told_by answer put ≡ Ok report → answer ≡ Ok report
+pub concluded : (answer : Result Report TargetFault) (put : Result (Unit {0}) TargetFault) (report : Report) → told_by answer put ≡ Ok report → answer ≡ Ok report
 concluded answer (Ok done) report h = h
 concluded answer (Err why) report h = absurd (false≢true (ap is_ok h))
 
@@ -266,6 +266,9 @@ module _ (refuses : Document → Bool) (source target : PeerValue) (plan : Plan)
             let end : source.db.update_seq ≤ now.since = omega (arith, u.goal, r.concluded.reached, low_water-le-end_of s.front (u.law.sessions s u.held).front, u.end) in
             absurd (subst (Among row) (feed-none source.db now.since source.db.update_seq end) further)
       ]
+
+  pub closes_lawful : (report : Report) (source' target' : PeerValue) → Closes source now.target plan (Ok report) source' target' → Lawful refuses target'
+  closes_lawful report source' target' c = (recorded report source' target' c).law
 
   -- and the report is the session's
   pub closes_reported : start ≡ start_between source target → (report : Report) (source' target' : PeerValue) → Closes source now.target plan (Ok report) source' target' → IsReported source target target' plan report
@@ -399,3 +402,10 @@ module _ (refuses : Document → Bool) (source target : PeerValue) (plan : Plan)
   all-reported (Ok report) source' target' s law lawful reads closes =
       let a = all_read s law lawful reads in
       closes_reported refuses source target plan (start_between source target) a.now a.underway refl report source' target' (subst (λ q. Closes source q plan (Ok report) source' target') a.is closes)
+
+  pub all-lawful : (result : Result Report TargetFault) (source' target' : PeerValue) → Started source target plan from → LawfulDatabase source.db → Lawful refuses from.target → ReadsAll refuses source.db plan from read
+      → Closes source read plan result source' target' → OnOk result (Lawful refuses target')
+  all-lawful (Err why) source' target' s law lawful reads closes = tt
+  all-lawful (Ok report) source' target' s law lawful reads closes =
+      let a = all_read s law lawful reads in
+      closes_lawful refuses source target plan (start_between source target) a.now a.underway report source' target' (subst (λ q. Closes source q plan (Ok report) source' target') a.is closes)

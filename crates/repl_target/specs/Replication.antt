@@ -1,9 +1,11 @@
 -- Replication by one thread: docs/PROFILE.md, "Replication by one thread"; CouchDB, "Replication Protocol".
-use Rattle.std.specs.Prelude.{◌≡◌, ◌⊎◌, ℕ, zero, suc, ◌+◌, ◌==◌, ◌<◌, Bool, true, false, ◌&&◌, nat_lt, nat_le, if◌then◌else◌, Option, Some, None, Result, Ok, Err, IsOk}
+use Rattle.std.specs.Prelude.{◌≡◌, ◌⊎◌, ℕ, zero, suc, ◌+◌, ◌==◌, ◌<◌, Bool, true, false, ◌&&◌, nat_lt, nat_le, if◌then◌else◌, List, [], Option, Some, None, Result, Ok, Err, IsOk}
+use Rattle.std.specs.FinMap.{get}
 use Rattle.rev_core.specs.Rev.{RevId}
+use Rattle.rev_tree.specs.Tree.{TreeValue, has, is_leaf}
 use Rattle.rev_tree.specs.declared.origin.SessionId.{SessionId}
 use Rattle.doc_json.specs.Document.{Document}
-use Rattle.couch_base.specs.Database.{DatabaseValue}
+use Rattle.couch_base.specs.Database.{Id, DatabaseValue, tree_of}
 use Rattle.couch_base.specs.Feed.{RowValue, WindowValue, feed, page}
 use Rattle.couch_base.specs.Lists.{Among}
 use Rattle.couch_base.specs.Messages.{ParcelValue, revs_diff, open_revs}
@@ -177,3 +179,17 @@ pub record IsReported (source target target' : PeerValue) (plan : Plan) (report 
   pub start : report.start ≡ start_between source target
   pub recorded : report.recorded ≡ source.db.update_seq
   pub counts : report.read ≡ report.written + report.failures
+
+-- two trees have the same revisions with the same parents, and the same contents of their leaves; so they have one winner
+pub record SameRevisions (s t : TreeValue) : Type 0 where
+  pub revs : (r : RevId) → has s r ≡ has t r
+  pub edges : s.parents ≡ t.parents
+  pub contents : (leaf : RevId) → is_leaf s leaf ≡ true → get s.contents leaf ≡ get t.contents leaf
+
+-- a peer without documents and sessions
+abbrev pub IsEmpty : PeerValue → Type 0
+IsEmpty p = (p.db.docs ≡ []) × (p.sessions ≡ [])
+
+-- each document of one database is in the other as it is there
+abbrev pub SameDocuments : DatabaseValue → DatabaseValue → Type 0
+SameDocuments a b = (id : Id) → SameRevisions (tree_of a.docs id) (tree_of b.docs id)

@@ -5,7 +5,7 @@ ghost use Rattle.repl_log.specs.Entry.{EntryValue};
 ghost use Rattle.repl_target.specs.Audit.{rep_between};
 ghost use Rattle.repl_target.specs.Peer.{SessionValue, session_in, entry_of};
 ghost use Rattle.repl_target.specs.Sessions.{session_answer, conclude_answer};
-ghost use Rattle.repl_target.specs.Replication.{Reading, is_batch, plan_answer, start_between, begins_answer, after_begins, Carries, WindowRefused, has_left, ReadsAll, ReadsUntil, closed, PutsOver, Closes, Replicates, CoversFrom, IsReported};
+ghost use Rattle.repl_target.specs.Replication.{Reading, is_batch, plan_answer, start_between, begins_answer, after_begins, Carries, WindowRefused, has_left, ReadsAll, ReadsUntil, closed, PutsOver, Closes, Replicates, CoversFrom, IsReported, IsEmpty, SameDocuments};
 ghost use Rattle.repl_target.specs.Law.{Lawful};
 ghost use Rattle.repl_target.specs.declared.fault.TargetFault.TheVariants as faults;
 
@@ -43,8 +43,9 @@ pub struct Plan {
 /// plan allows are read, and they end below the goal: then both sides are recorded. An entry that is older than the one in
 /// the source's log is passed over.
 ///
-/// At `Ok` each leaf of the source's feed above the start is covered at the target, and the report is the session's. The
-/// source's database is unchanged, whatever the answer.
+/// At `Ok` each leaf of the source's feed above the start is covered at the target, and the report is the session's. Where
+/// the target was empty and nothing failed, each document has the revisions, the parents and the contents of leaves that it
+/// has at the source. The source's database is unchanged, whatever the answer.
 pub fn replicate_alone<F: WriteFilter, G: WriteFilter>(
     alloc: Global,
     source: &mut Peer<F>,
@@ -56,6 +57,7 @@ pub fn replicate_alone<F: WriteFilter, G: WriteFilter>(
     ensures source { source.new.1 ≡ record source.old.1 { outgoing = source.new.1.outgoing } }
     ensures covered { OnOk result (CoversFrom source.old.1 target.new.1 (start_between source.old.1 target.old.1)) }
     ensures report { IfOk result (λ report. IsReported source.old.1 target.old.1 target.new.1 plan.now report) }
+    ensures copied { IfOk result (λ report. IsEmpty target.old.1 → report.failures ≡ 0 → SameDocuments source.old.1.db target.new.1.db) }
 {
     check_plan(source, target, plan)?;
     let start = begin(alloc, source, target, plan)?;

@@ -1,6 +1,7 @@
 use Rattle.std.proofs.Common.{◌≡◌, Bool, Ok, Err, sym, ap, ◌∙◌, subst}
 use Rattle.std.proofs.lemmas.Result.{err_from_is_err_and}
 use Rattle.repl_target.specs.Replication.{Reading, ReadsAll, ReadsUntil}
+use Rattle.repl_target.proofs.Copies.{all-copied}
 use Rattle.repl_target.proofs.Reading.{Started, refused_plan, refused_begin, cut_short, ended_all, all-found, all-covered, all-reported}
 use Rattle.repl_target.proofs.replication.replicate_alone.Goals as goal
 
@@ -56,5 +57,13 @@ returns-clause-report g c =
     let from : Reading = record { since = c.in_ok-start.start; target = c.begin.new.target.1 } in
     let begun = c.in_ok-start.ensures.ok in
     all-reported (g.G.WriteFilter.refuses c.begin.new.target.0) c.args.source.now.1 c.args.target.now.1 c.args.plan.now from _ _ _ _
+    (record { planned = sym c.in_ok-check_plan.ensures; begun = begun.0; is = λ i. record { since = c.in_ok-start.ensures.start i; target = begun.1 i } })
+    c.in_ok-start.ensures.source_law c.in_ok-start.ensures.target_law c.in_ok-read_windows.ensures.ok c.close.ensures.closes
+
+pub returns-clause-copied : goal.returns-clause-copied
+returns-clause-copied g c =
+    let from : Reading = record { since = c.in_ok-start.start; target = c.begin.new.target.1 } in
+    let begun = c.in_ok-start.ensures.ok in
+    all-copied (g.G.WriteFilter.refuses c.begin.new.target.0) c.args.source.now.1 c.args.target.now.1 c.args.plan.now from _ _ _ _
     (record { planned = sym c.in_ok-check_plan.ensures; begun = begun.0; is = λ i. record { since = c.in_ok-start.ensures.start i; target = begun.1 i } })
     c.in_ok-start.ensures.source_law c.in_ok-start.ensures.target_law c.in_ok-read_windows.ensures.ok c.close.ensures.closes
