@@ -9,4 +9,10 @@ mod database_rows;
 #[cfg(test)]
 mod databases;
 #[cfg(test)]
+mod peer_rows;
+#[cfg(test)]
+mod peers;
+#[cfg(test)]
+mod records;
+#[cfg(test)]
 mod texts;

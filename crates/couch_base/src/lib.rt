@@ -25,6 +25,4 @@ pub use row::Row;
 pub use window::Window;
 
 #[cfg(test)]
-mod exchange_tests;
-#[cfg(test)]
 mod tests;

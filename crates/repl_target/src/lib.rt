@@ -23,6 +23,3 @@ pub use fault::{Audit, Cause, Reason, Report, Settled, TargetFault};
 pub use filter::{Rules, Verdict, WriteFilter};
 pub use peer::Peer;
 pub use replication::{Plan, replicate_alone};
-
-#[cfg(test)]
-mod tests;

@@ -1,0 +1,392 @@
+//! Peers with what is read and fetched from them, and the calls on these by name.
+use crate::databases::{edit_text, node, parent_of, put_text, tree};
+use crate::records::{entry_text, fault_text, log_text, report_text, settled_text};
+use crate::texts::{
+    asked_text, base_fault_text, body, doc, parcel_text, rev, rev_text, shown, window_text,
+};
+use couch_base::{Asked, Parcel, Window};
+use doc_json::DocId;
+use repl_log::{Entry, Moment, RepId, common};
+use repl_target::{Audit, Peer, Rules, WriteFilter, audit};
+use rev_tree::SessionId;
+use std::alloc::Global;
+use std::process::Abort;
+
+/// How a session begins: its replication, its base, its start and its goal.
+#[derive(Clone, Copy)]
+pub(crate) struct Beginning {
+    pub(crate) rep: RepId,
+    pub(crate) base: Option<SessionId>,
+    pub(crate) start: u64,
+    pub(crate) goal: u64,
+}
+
+/// A call on a peer, which is named by its place, as windows, asked lists and parcels are.
+#[derive(Clone, Copy)]
+pub(crate) enum Call<'a> {
+    /// Makes the next peer: its uuid, and the prefix that its filter refuses.
+    Peer(u128, Option<&'a str>),
+    /// Loads a document.
+    Load(usize, &'a str),
+    /// Edits a document: its id, the parent (an empty text for none), whether it is deleted, and the body.
+    Edit(usize, &'a str, &'a str, bool, &'a str),
+    /// Reads the uuid and the update sequence.
+    Numbers(usize),
+    /// Reads the tree of a document.
+    Tree(usize, &'a str),
+    /// Reads a revision of a document.
+    Node(usize, &'a str, &'a str),
+    /// Asks the filter for its verdict on a document.
+    Verdict(usize, &'a str),
+    /// Asks whether a revision of a document is covered.
+    Covered(usize, &'a str, &'a str),
+    /// Reads a page above a sequence, towards a goal, of 500 rows at most. It becomes the next window.
+    Page(usize, u64, u64),
+    /// Asks a peer for what it misses of a window. That becomes the next asked list.
+    Diff(usize, usize),
+    /// Fetches an asked list from a peer. That becomes the next parcel.
+    Fetch(usize, usize),
+    /// Begins a session at a moment.
+    Begin(usize, SessionId, Beginning, u64),
+    /// Appends a copy of a window to a session.
+    Append(usize, SessionId, usize),
+    /// Settles a copy of a parcel in a session.
+    Settle(usize, SessionId, usize),
+    /// Records a session at a moment.
+    Record(usize, SessionId, u64),
+    /// Concludes a session at a moment.
+    Conclude(usize, SessionId, u64),
+    /// Reads the entry of a session.
+    Entry(usize, SessionId),
+    /// Reads the log of a replication into a peer.
+    TargetLog(usize, RepId),
+    /// Reads the log of a replication from a peer.
+    SourceLog(usize, RepId),
+    /// Puts into the log of a replication from a peer the entry of a session that recorded up to a sequence.
+    PutEntry(usize, RepId, SessionId, u64),
+    /// Puts into the log of a replication from a peer the entry that another peer, the target, has of a session.
+    PutEntryOf(usize, RepId, usize, SessionId),
+    /// Compares the logs of a replication at its source and its target.
+    Common(usize, usize, RepId),
+    /// Audits a target, the second one, against a source.
+    Audit(usize, usize),
+}
+
+/// Peers, and what was read and fetched from them.
+#[derive(Drop)]
+pub(crate) struct Bench {
+    alloc: Global,
+    peers: Vec<Peer<Rules>>,
+    windows: Vec<Window>,
+    asked: Vec<Asked>,
+    parcels: Vec<Parcel>,
+}
+
+impl Bench {
+    /// No peers.
+    pub(crate) fn new(alloc: Global) -> Bench {
+        Bench {
+            alloc,
+            peers: Vec::new(alloc),
+            windows: Vec::new(alloc),
+            asked: Vec::new(alloc),
+            parcels: Vec::new(alloc),
+        }
+    }
+
+    /// Makes the calls in order, and asserts what each answers.
+    pub(crate) fn run(&mut self, rt: &impl Abort, calls: &[(Call, &str)]) {
+        for (i, (call, wanted)) in calls.iter().enumerate() {
+            let Some(answer) = self.answer(call) else {
+                rt.panic(format_args!("call {i} can't be made"))
+            };
+            assert_eq!(rt; answer.as_str(), *wanted, "call {i}");
+        }
+    }
+
+    /// Makes a call, and gives the text of its answer.
+    fn answer(&mut self, call: &Call) -> Option<String> {
+        match *call {
+            Call::Peer(uuid, deny) => self.make(uuid, deny),
+            Call::Page(at, since, goal) => self.page(at, since, goal),
+            Call::Diff(at, window) => self.diff(at, window),
+            Call::Fetch(at, asked) => self.fetch(at, asked),
+            Call::Append(at, session, window) => self.append(at, session, window),
+            Call::Settle(at, session, parcel) => self.settle(at, session, parcel),
+            Call::PutEntryOf(at, rep, target, session) => self.put_of(at, rep, target, session),
+            Call::Common(source, target, rep) => self.common(source, target, rep),
+            Call::Audit(source, target) => self.audit(source, target),
+            other => self.answer_of_one(&other),
+        }
+    }
+
+    /// Makes a call on one peer that reads or writes nothing else.
+    fn answer_of_one(&mut self, call: &Call) -> Option<String> {
+        let alloc = self.alloc;
+        match *call {
+            Call::Load(at, text) => load(alloc, self.peers.get_mut(at)?, text),
+            Call::Edit(at, id, parent, deleted, text) => {
+                edit(alloc, self.peers.get_mut(at)?, id, parent, deleted, text)
+            }
+            Call::Begin(at, session, how, moment) => {
+                begin(alloc, self.peers.get_mut(at)?, session, how, moment)
+            }
+            Call::Record(at, session, moment) => {
+                record(alloc, self.peers.get_mut(at)?, session, moment)
+            }
+            Call::Conclude(at, session, moment) => {
+                conclude(alloc, self.peers.get_mut(at)?, session, moment)
+            }
+            Call::PutEntry(at, rep, session, recorded) => {
+                put_entry(alloc, self.peers.get_mut(at)?, rep, session, recorded)
+            }
+            reading => self.reading(&reading),
+        }
+    }
+
+    /// Makes a call that changes nothing.
+    fn reading(&self, call: &Call) -> Option<String> {
+        let alloc = self.alloc;
+        match *call {
+            Call::Numbers(at) => {
+                let db = self.peers.get(at)?.db();
+                format!(in alloc; "{} at {}", db.uuid(), db.update_seq()).ok()
+            }
+            Call::Tree(at, id) => tree(alloc, self.peers.get(at)?.db(), id),
+            Call::Node(at, id, rev) => node(alloc, self.peers.get(at)?.db(), id, rev),
+            Call::Verdict(at, text) => verdict(alloc, self.peers.get(at)?, text),
+            Call::Covered(at, id, rev) => covered(alloc, self.peers.get(at)?, id, rev),
+            Call::Entry(at, session) => entry(alloc, self.peers.get(at)?, session),
+            Call::TargetLog(at, rep) => {
+                let log = self.peers.get(at)?.target_log(alloc, &rep).ok()?;
+                log_text(alloc, &log)
+            }
+            Call::SourceLog(at, rep) => {
+                let log = self.peers.get(at)?.source_log(alloc, &rep).ok()?;
+                log_text(alloc, &log)
+            }
+            _ => None,
+        }
+    }
+
+    /// Makes the next peer.
+    fn make(&mut self, uuid: u128, deny: Option<&str>) -> Option<String> {
+        let deny = match deny {
+            Some(prefix) => Some(prefix.to_string(self.alloc).ok()?),
+            None => None,
+        };
+        self.peers
+            .push(Peer::new(self.alloc, uuid, Rules { deny }))
+            .ok()?;
+        "made".to_string(self.alloc).ok()
+    }
+
+    /// Reads a page, which becomes the next window.
+    fn page(&mut self, at: usize, since: u64, goal: u64) -> Option<String> {
+        let peer = self.peers.get(at)?;
+        match peer.page(self.alloc, since, goal, 500) {
+            Ok(window) => {
+                let text = window_text(self.alloc, &window);
+                self.windows.push(window).ok()?;
+                text
+            }
+            Err(fault) => base_fault_text(self.alloc, fault),
+        }
+    }
+
+    /// Asks a peer for what it misses of a window.
+    fn diff(&mut self, at: usize, window: usize) -> Option<String> {
+        let peer = self.peers.get(at)?;
+        let asked = peer.revs_diff(self.alloc, self.windows.get(window)?).ok()?;
+        let text = asked_text(self.alloc, &asked);
+        self.asked.push(asked).ok()?;
+        text
+    }
+
+    /// Fetches an asked list.
+    fn fetch(&mut self, at: usize, asked: usize) -> Option<String> {
+        let peer = self.peers.get(at)?;
+        let parcel = peer.open_revs(self.alloc, self.asked.get(asked)?).ok()?;
+        let text = parcel_text(self.alloc, &parcel);
+        self.parcels.push(parcel).ok()?;
+        text
+    }
+
+    /// Appends a copy of a window.
+    fn append(&mut self, at: usize, session: SessionId, window: usize) -> Option<String> {
+        let copy = self.windows.get(window)?.copy(self.alloc).ok()?;
+        match self.peers.get_mut(at)?.append(session, copy) {
+            Ok(()) => "appended".to_string(self.alloc).ok(),
+            Err(fault) => fault_text(self.alloc, fault),
+        }
+    }
+
+    /// Settles a copy of a parcel.
+    fn settle(&mut self, at: usize, session: SessionId, parcel: usize) -> Option<String> {
+        let copy = self.parcels.get(parcel)?.copy(self.alloc).ok()?;
+        match self.peers.get_mut(at)?.settle(session, copy) {
+            Ok(settled) => settled_text(self.alloc, settled),
+            Err(fault) => fault_text(self.alloc, fault),
+        }
+    }
+
+    /// Puts an entry of a target at its source.
+    fn put_of(
+        &mut self,
+        at: usize,
+        rep: RepId,
+        target: usize,
+        session: SessionId,
+    ) -> Option<String> {
+        let entry = self.peers.get(target)?.entry(session).ok()?;
+        put(self.alloc, self.peers.get_mut(at)?, rep, entry)
+    }
+
+    /// Compares two logs.
+    fn common(&self, source: usize, target: usize, rep: RepId) -> Option<String> {
+        let outgoing = self.peers.get(source)?.source_log(self.alloc, &rep).ok()?;
+        let incoming = self.peers.get(target)?.target_log(self.alloc, &rep).ok()?;
+        match common(&outgoing, &incoming) {
+            Some((session, recorded)) => {
+                format!(in self.alloc; "{} at {recorded}", session.0).ok()
+            }
+            None => "none".to_string(self.alloc).ok(),
+        }
+    }
+
+    /// Audits a target.
+    fn audit(&self, source: usize, target: usize) -> Option<String> {
+        let found = audit(self.alloc, self.peers.get(source)?, self.peers.get(target)?);
+        match found {
+            Ok(found) => audit_text(self.alloc, found),
+            Err(fault) => fault_text(self.alloc, fault),
+        }
+    }
+}
+
+/// What an audit finds.
+fn audit_text(alloc: Global, found: Audit) -> Option<String> {
+    match found {
+        Audit::Clean => "clean".to_string(alloc).ok(),
+        Audit::Hole { seq, id, rev } => {
+            let rev = rev_text(alloc, rev)?;
+            format!(in alloc; "hole {seq} {} {rev}", id.text()).ok()
+        }
+    }
+}
+
+/// Loads a document.
+fn load(alloc: Global, peer: &mut Peer<Rules>, text: &str) -> Option<String> {
+    let doc = doc(alloc, text)?;
+    put_text(alloc, peer.load(&doc))
+}
+
+/// Edits a document.
+fn edit(
+    alloc: Global,
+    peer: &mut Peer<Rules>,
+    id: &str,
+    parent: &str,
+    deleted: bool,
+    text: &str,
+) -> Option<String> {
+    let id = DocId::parse(alloc, id).ok()?;
+    let parent = parent_of(parent)?;
+    let body = body(alloc, text)?;
+    edit_text(alloc, peer.edit(&id, parent, deleted, &body))
+}
+
+/// Begins a session.
+fn begin(
+    alloc: Global,
+    peer: &mut Peer<Rules>,
+    session: SessionId,
+    how: Beginning,
+    moment: u64,
+) -> Option<String> {
+    let at = Moment::new(moment).ok()?;
+    match peer.begin(session, how.rep, how.base, how.start, how.goal, at) {
+        Ok(()) => "begun".to_string(alloc).ok(),
+        Err(fault) => fault_text(alloc, fault),
+    }
+}
+
+/// Records a session.
+fn record(
+    alloc: Global,
+    peer: &mut Peer<Rules>,
+    session: SessionId,
+    moment: u64,
+) -> Option<String> {
+    let at = Moment::new(moment).ok()?;
+    match peer.record(session, at) {
+        Ok(recorded) => shown(alloc, &recorded),
+        Err(fault) => fault_text(alloc, fault),
+    }
+}
+
+/// Concludes a session.
+fn conclude(
+    alloc: Global,
+    peer: &mut Peer<Rules>,
+    session: SessionId,
+    moment: u64,
+) -> Option<String> {
+    let at = Moment::new(moment).ok()?;
+    match peer.conclude(session, at) {
+        Ok(report) => report_text(alloc, report),
+        Err(fault) => fault_text(alloc, fault),
+    }
+}
+
+/// Puts the entry of a session that read nothing and recorded up to a sequence.
+fn put_entry(
+    alloc: Global,
+    peer: &mut Peer<Rules>,
+    rep: RepId,
+    session: SessionId,
+    recorded: u64,
+) -> Option<String> {
+    let at = Moment::new(10).ok()?;
+    let entry = Entry {
+        session,
+        start: 0,
+        recorded,
+        start_time: at,
+        end_time: at,
+        checked: 0,
+        found: 0,
+        read: 0,
+        written: 0,
+        failures: 0,
+    };
+    put(alloc, peer, rep, entry)
+}
+
+/// Puts an entry.
+fn put(alloc: Global, peer: &mut Peer<Rules>, rep: RepId, entry: Entry) -> Option<String> {
+    match peer.put_entry(&rep, entry) {
+        Ok(()) => "put".to_string(alloc).ok(),
+        Err(fault) => fault_text(alloc, fault),
+    }
+}
+
+/// Reads the entry of a session.
+fn entry(alloc: Global, peer: &Peer<Rules>, session: SessionId) -> Option<String> {
+    match peer.entry(session) {
+        Ok(entry) => entry_text(alloc, entry),
+        Err(fault) => fault_text(alloc, fault),
+    }
+}
+
+/// Asks the filter for its verdict on a document.
+fn verdict(alloc: Global, peer: &Peer<Rules>, text: &str) -> Option<String> {
+    let doc = doc(alloc, text)?;
+    shown(alloc, &peer.filter().verdict(&doc))
+}
+
+/// Asks whether a revision of a document is covered.
+fn covered(alloc: Global, peer: &Peer<Rules>, id: &str, text: &str) -> Option<String> {
+    let id = DocId::parse(alloc, id).ok()?;
+    shown(alloc, &peer.covered(&id, rev(text)?))
+}
