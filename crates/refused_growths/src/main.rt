@@ -6,6 +6,7 @@ mod databases;
 mod documents;
 mod fronts;
 mod logs;
+mod peers;
 mod revisions;
 mod trees;
 
@@ -18,5 +19,6 @@ fn main(rt: HostRuntime) -> Result<()> {
     logs::run(&rt, rt.alloc())?;
     documents::run(&rt, rt.alloc())?;
     databases::run(&rt, rt.alloc())?;
+    peers::run(&rt, rt.alloc())?;
     Ok(())
 }

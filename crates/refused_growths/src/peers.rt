@@ -1,0 +1,250 @@
+//! `Peer`: its local writes, its sessions, and settling. A refused growth leaves a peer as the call says.
+use anyhow::{Result, bail};
+use couch_base::{Asked, BaseFault, Parcel, Put, Window};
+use doc_json::{Body, Doc, DocFault, DocId, read_body, read_doc};
+use repl_log::{Moment, RepId};
+use repl_target::{Cause, Peer, Report, Rules, Settled, TargetFault};
+use rev_core::Rev;
+use rev_tree::SessionId;
+use serde_json::Value;
+use std::alloc::Global;
+
+/// The one session.
+const SESSION: SessionId = SessionId(1);
+
+/// The replication from the peer 1 to the peer 2.
+const REP: RepId = RepId {
+    source: 1,
+    target: 2,
+};
+
+fn value(alloc: Global, text: &str) -> Option<Value> {
+    match Value::from_str(alloc, text) {
+        Ok(value) => Some(value),
+        Err(_) => Value::from_str(alloc, text).ok(),
+    }
+}
+
+fn doc(alloc: Global, text: &str) -> Option<Doc> {
+    let value = value(alloc, text)?;
+    match read_doc(alloc, &value) {
+        Err(DocFault::Memory) => read_doc(alloc, &value).ok(),
+        answer => answer.ok(),
+    }
+}
+
+fn body(alloc: Global, text: &str) -> Option<Body> {
+    let value = value(alloc, text)?;
+    match read_body(alloc, &value) {
+        Err(DocFault::Memory) => read_body(alloc, &value).ok(),
+        answer => answer.ok(),
+    }
+}
+
+fn doc_id(alloc: Global, text: &str) -> Option<DocId> {
+    match DocId::parse(alloc, text) {
+        Err(DocFault::Memory) => DocId::parse(alloc, text).ok(),
+        answer => answer.ok(),
+    }
+}
+
+fn load(alloc: Global, peer: &mut Peer<Rules>, text: &str) -> Option<Put> {
+    let doc = doc(alloc, text)?;
+    let before = peer.db().update_seq();
+    match peer.load(&doc) {
+        Err(BaseFault::Memory) => {
+            if peer.db().update_seq() != before {
+                return None;
+            }
+            peer.load(&doc).ok()
+        }
+        answer => answer.ok(),
+    }
+}
+
+/// An edit that is made once.
+fn edited(peer: &mut Peer<Rules>, id: &DocId, parent: &Option<Rev>, body: &Body) -> Option<Rev> {
+    peer.edit(id, *parent, false, body).ok()
+}
+
+fn edit(alloc: Global, peer: &mut Peer<Rules>, id: &str, parent: &Option<Rev>) -> Option<Rev> {
+    let id = doc_id(alloc, id)?;
+    let body = body(alloc, r#"{"n":1}"#)?;
+    let before = peer.db().update_seq();
+    match edited(peer, &id, parent, &body) {
+        Some(rev) => Some(rev),
+        None => {
+            if peer.db().update_seq() != before {
+                return None;
+            }
+            edited(peer, &id, parent, &body)
+        }
+    }
+}
+
+fn page(alloc: Global, peer: &Peer<Rules>) -> Option<Window> {
+    let goal = peer.db().update_seq();
+    match peer.page(alloc, 0, goal, 10) {
+        Err(BaseFault::Memory) => peer.page(alloc, 0, goal, 10).ok(),
+        answer => answer.ok(),
+    }
+}
+
+fn copied(alloc: Global, window: &Window) -> Option<Window> {
+    match window.copy(alloc) {
+        Err(BaseFault::Memory) => window.copy(alloc).ok(),
+        answer => answer.ok(),
+    }
+}
+
+fn asked(alloc: Global, peer: &Peer<Rules>, window: &Window) -> Option<Asked> {
+    match peer.revs_diff(alloc, window) {
+        Err(BaseFault::Memory) => peer.revs_diff(alloc, window).ok(),
+        answer => answer.ok(),
+    }
+}
+
+fn opened(alloc: Global, peer: &Peer<Rules>, asked: &Asked) -> Option<Parcel> {
+    match peer.open_revs(alloc, asked) {
+        Err(BaseFault::Memory) => peer.open_revs(alloc, asked).ok(),
+        answer => answer.ok(),
+    }
+}
+
+fn begin(peer: &mut Peer<Rules>, goal: u64, at: Moment) -> Option<()> {
+    match peer.begin(SESSION, REP, None, 0, goal, at) {
+        Err(TargetFault::Memory) => {
+            if peer.entry(SESSION).is_ok() {
+                return None;
+            }
+            peer.begin(SESSION, REP, None, 0, goal, at).ok()
+        }
+        answer => answer.ok(),
+    }
+}
+
+fn append(alloc: Global, peer: &mut Peer<Rules>, window: &Window) -> Option<()> {
+    match peer.append(SESSION, copied(alloc, window)?) {
+        Err(TargetFault::Memory) => peer.append(SESSION, copied(alloc, window)?).ok(),
+        answer => answer.ok(),
+    }
+}
+
+/// How many documents stand where settling stopped for want of memory, and how many came back.
+fn stopped(fault: TargetFault) -> Option<(u64, usize)> {
+    match fault {
+        TargetFault::Stopped {
+            settled,
+            rest,
+            cause: Cause::Memory,
+        } => Some((settled, rest.len())),
+        _ => None,
+    }
+}
+
+/// How many documents the session read, and how many leaves it checked.
+fn counted(peer: &Peer<Rules>) -> Option<(u64, u64)> {
+    let entry = peer.entry(SESSION).ok()?;
+    Some((entry.read, entry.checked))
+}
+
+/// Settles, and once more where memory was refused.
+fn settle(
+    alloc: Global,
+    peer: &mut Peer<Rules>,
+    source: &Peer<Rules>,
+    asked: &Asked,
+) -> Option<Settled> {
+    let first = opened(alloc, source, asked)?;
+    let all = first.docs().len();
+    match peer.settle(SESSION, first) {
+        Ok(settled) => Some(settled),
+        Err(fault) => {
+            let (settled, rest) = stopped(fault).unwrap_or((0, 0));
+            if settled.saturating_add(rest as u64) != all as u64
+                || counted(peer) != Some((settled, 0))
+            {
+                return None;
+            }
+            let again = opened(alloc, source, asked)?;
+            peer.settle(SESSION, again).ok()
+        }
+    }
+}
+
+fn source(alloc: Global) -> Option<Peer<Rules>> {
+    let mut source = Peer::new(alloc, 1, Rules { deny: None });
+    for text in [
+        r#"{"_id":"a","_revisions":{"start":2,"ids":["b","a"]},"n":1}"#,
+        r#"{"_id":"secret","_revisions":{"start":2,"ids":["b","a"]}}"#,
+        r#"{"_id":"d","_revisions":{"start":3,"ids":["d","c","x"]}}"#,
+    ] {
+        load(alloc, &mut source, text)?;
+    }
+    let rev = edit(alloc, &mut source, "e", &None)?;
+    edit(alloc, &mut source, "e", &Some(rev))?;
+    Some(source)
+}
+
+fn prefix(alloc: Global) -> Option<String> {
+    match "secret".to_string(alloc) {
+        Ok(prefix) => Some(prefix),
+        Err(_) => "secret".to_string(alloc).ok(),
+    }
+}
+
+/// The target: it refuses one document, and holds a tree that contradicts another one.
+fn target(alloc: Global) -> Option<Peer<Rules>> {
+    let deny = Some(prefix(alloc)?);
+    let mut target = Peer::new(alloc, 2, Rules { deny });
+    load(
+        alloc,
+        &mut target,
+        r#"{"_id":"d","_revisions":{"start":2,"ids":["c","b"]}}"#,
+    )?;
+    Some(target)
+}
+
+/// Begins the session with the source's whole feed, and asks for what the target misses.
+fn ask(alloc: Global, source: &Peer<Rules>, target: &mut Peer<Rules>, at: Moment) -> Option<Asked> {
+    let window = page(alloc, source)?;
+    begin(target, source.db().update_seq(), at)?;
+    append(alloc, target, &window)?;
+    asked(alloc, target, &window)
+}
+
+/// Runs the session.
+fn replicate(
+    alloc: Global,
+    source: &Peer<Rules>,
+    target: &mut Peer<Rules>,
+) -> Option<(Settled, Report)> {
+    let at = Moment::new(10).ok()?;
+    let asked = ask(alloc, source, target, at)?;
+    let settled = settle(alloc, target, source, &asked)?;
+    Some((settled, target.conclude(SESSION, at).ok()?))
+}
+
+/// Prints what the session did.
+fn tell(rt: &impl Print, settled: Settled, report: Report, sequence: u64) -> Result<()> {
+    println!(rt;
+        "peers as wanted: written {}, failures {}, recorded {}, checked {}, sequence {sequence}",
+        settled.written, settled.failures, report.recorded, report.checked
+    )?;
+    Ok(())
+}
+
+/// The peers' session: what it settled, its report, and the target's sequence.
+fn session(alloc: Global) -> Option<(Settled, Report, u64)> {
+    let source = source(alloc)?;
+    let mut target = target(alloc)?;
+    let (settled, report) = replicate(alloc, &source, &mut target)?;
+    Some((settled, report, target.db().update_seq()))
+}
+
+pub(crate) fn run(rt: &impl Print, alloc: Global) -> Result<()> {
+    let Some((settled, report, sequence)) = session(alloc) else {
+        bail!("peers: another answer");
+    };
+    tell(rt, settled, report, sequence)
+}
