@@ -11,4 +11,8 @@ mod fronts;
 #[cfg(test)]
 mod merges;
 #[cfg(test)]
+mod pairs;
+#[cfg(test)]
 mod reference;
+#[cfg(test)]
+mod sides;

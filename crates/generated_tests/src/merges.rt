@@ -6,7 +6,7 @@ use rand_chacha::ChaCha8Rng;
 use rand_core::{Rng, SeedableRng};
 use rev_core::{Ancestry, Rev, Sig};
 use rev_tree::{Content, Merged, Origin, Tree, TreeFault};
-use std::alloc::Global;
+use std::alloc::{AllocError, Global};
 use std::process::Abort;
 use std::test::Fail;
 
@@ -19,7 +19,7 @@ fn sig(rt: &impl Abort, place: usize) -> Sig {
 }
 
 /// The revision at a place.
-fn rev(rt: &impl Abort, place: usize) -> Rev {
+pub(crate) fn rev(rt: &impl Abort, place: usize) -> Rev {
     let text = [
         b'1' + (place % PLACES / 3) as u8,
         b'-',
@@ -52,7 +52,7 @@ pub(crate) fn below(rng: &mut ChaCha8Rng, bound: u32) -> usize
 }
 
 /// The places of an ancestry by chance, newest first.
-pub(crate) fn places(rng: &mut ChaCha8Rng, alloc: Global) -> Result<Vec<usize>, Fail> {
+pub(crate) fn places(rng: &mut ChaCha8Rng, alloc: Global) -> Result<Vec<usize>, AllocError> {
     let start = below(rng, 6);
     let length = below(rng, 6);
     let mut places = Vec::new(alloc);

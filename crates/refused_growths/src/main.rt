@@ -7,6 +7,7 @@ mod documents;
 mod fronts;
 mod logs;
 mod peers;
+mod replications;
 mod revisions;
 mod trees;
 
@@ -20,5 +21,6 @@ fn main(rt: HostRuntime) -> Result<()> {
     documents::run(&rt, rt.alloc())?;
     databases::run(&rt, rt.alloc())?;
     peers::run(&rt, rt.alloc())?;
+    replications::run(&rt, rt.alloc())?;
     Ok(())
 }

@@ -48,7 +48,7 @@ fn doc_id(alloc: Global, text: &str) -> Option<DocId> {
     }
 }
 
-fn load(alloc: Global, peer: &mut Peer<Rules>, text: &str) -> Option<Put> {
+pub(crate) fn load(alloc: Global, peer: &mut Peer<Rules>, text: &str) -> Option<Put> {
     let doc = doc(alloc, text)?;
     let before = peer.db().update_seq();
     match peer.load(&doc) {

@@ -1,0 +1,97 @@
+//! `replicate_alone`: after a refused growth an audit finds nothing, and a further replication ends at the goal.
+use crate::peers::load;
+use anyhow::{Result, bail};
+use repl_log::Moment;
+use repl_target::{Audit, Cause, Peer, Plan, Report, Rules, TargetFault, audit, replicate_alone};
+use rev_tree::SessionId;
+use std::alloc::Global;
+
+/// The plan of a session with windows of one row.
+fn plan(session: u128, at: Moment) -> Plan {
+    Plan {
+        session: SessionId(session),
+        workers: 1,
+        batch: 1,
+        stop_after: None,
+        at,
+    }
+}
+
+/// Whether a replication was refused for want of memory.
+fn is_memory(fault: TargetFault) -> bool {
+    match fault {
+        TargetFault::Memory => true,
+        TargetFault::Stopped { cause, .. } => cause == Cause::Memory,
+        _ => false,
+    }
+}
+
+/// Whether an audit finds nothing; once more where memory was refused.
+fn is_clean(alloc: Global, source: &Peer<Rules>, target: &Peer<Rules>) -> bool {
+    let found = match audit(alloc, source, target).ok() {
+        Some(found) => Some(found),
+        None => audit(alloc, source, target).ok(),
+    };
+    match found {
+        Some(found) => is_nothing(found),
+        None => false,
+    }
+}
+
+/// Whether an audit found no hole.
+fn is_nothing(found: Audit) -> bool {
+    match found {
+        Audit::Clean => true,
+        Audit::Hole { .. } => false,
+    }
+}
+
+/// Replicates, and once more by another session where memory was refused.
+fn replicate(
+    alloc: Global,
+    source: &mut Peer<Rules>,
+    target: &mut Peer<Rules>,
+    at: Moment,
+) -> Option<Report> {
+    match replicate_alone(alloc, source, target, &plan(1, at)) {
+        Ok(report) => Some(report),
+        Err(fault) => {
+            if !is_memory(fault) || !is_clean(alloc, source, target) {
+                return None;
+            }
+            replicate_alone(alloc, source, target, &plan(2, at)).ok()
+        }
+    }
+}
+
+/// A source of two documents.
+fn source(alloc: Global) -> Option<Peer<Rules>> {
+    let mut source = Peer::new(alloc, 1, Rules { deny: None });
+    load(
+        alloc,
+        &mut source,
+        r#"{"_id":"d","_revisions":{"start":2,"ids":["b","a"]},"n":1}"#,
+    )?;
+    load(alloc, &mut source, r#"{"_id":"e","_rev":"1-a"}"#)?;
+    Some(source)
+}
+
+/// What the last replication recorded, the target's sequence, and whether an audit is clean.
+fn ended(alloc: Global) -> Option<(u64, u64, bool)> {
+    let at = Moment::new(10).ok()?;
+    let mut source = source(alloc)?;
+    let mut target = Peer::new(alloc, 2, Rules { deny: None });
+    let report = replicate(alloc, &mut source, &mut target, at)?;
+    let clean = is_clean(alloc, &source, &target);
+    Some((report.recorded, target.db().update_seq(), clean))
+}
+
+pub(crate) fn run(rt: &impl Print, alloc: Global) -> Result<()> {
+    let Some((recorded, sequence, clean)) = ended(alloc) else {
+        bail!("replications: another answer");
+    };
+    println!(rt;
+        "replications as wanted: recorded {recorded}, sequence {sequence}, clean {clean}"
+    )?;
+    Ok(())
+}
