@@ -7,17 +7,17 @@ use Rattle.couch_replicate.specs.Faults.{IsOfWriter, IsFaultOf}
 use Rattle.couch_replicate.specs.declared.script.ScriptFault.{ScriptFault}
 use Rattle.couch_replicate.specs.declared.script.ScriptFault.TheVariants.{Read, Write, Memory}
 use Rattle.couch_replicate.specs.Lines.{lines_of}
-use Rattle.couch_replicate.specs.Databases.{State, no_databases}
+use Rattle.couch_replicate.specs.Databases.{Program, State, no_databases}
 use Rattle.couch_replicate.specs.Script.{IsAnswered, IsAnsweredSoFar}
 use Rattle.couch_replicate.specs.Served.{Place, start, Served, Begins, Feeds, FeedsInPart, Finishes, FinishesInPart}
 use Rattle.couch_replicate.proofs.DeviceLemmas.{Appends-joined, Appends-none}
 use Rattle.couch_replicate.proofs.ServedLemmas.{Served-none, Served-joined, Begins-none, Begins-joined, Begins-more, is_answered, is_answered_so_far}
 
 -- these bytes were read in so many turns, and served, and their answers written
-pub record Ran (p : Place) (left left' held held' : Option (List ℕ)) (turns : ℕ) : Type 0 where
+pub record Ran (g : Program) (p : Place) (left left' held held' : Option (List ℕ)) (turns : ℕ) : Type 0 where
   pub input : List ℕ
   pub text : List ℕ
-  pub served : Served start input p text
+  pub served : Served (start g) input p text
   pub taken : Consumes left left' input
   pub written : Appends held held' text
   pub enough : turns ≤ length input
@@ -54,19 +54,19 @@ Gives-end (Some a) (Some b) x p e = p ∙ ap (λ z. x ++ z) e ∙ append-nil x
 
 -- ---- turns
 
-pub Ran-none : (p : Place) (left held : Option (List ℕ)) → p ≡ start → Ran p left left held held 0
-Ran-none p left held e = record {
+pub Ran-none : {g : Program} (p : Place) (left held : Option (List ℕ)) → p ≡ start g → Ran g p left left held held 0
+Ran-none {g} p left held e = record {
   input = [];
   text = [];
-  served = subst (λ q. Served start [] q []) (sym e) (Served-none start);
+  served = subst (λ q. Served (start g) [] q []) (sym e) (Served-none (start g));
   taken = Consumes-none left;
   written = Appends-none held;
   enough = omega arith;
   few = omega arith;
 }
 
-pub Ran-more : {p : Place} {left left' held held' : Option (List ℕ)} {turns : ℕ} (q : Place) (left'' held'' : Option (List ℕ)) (bytes : List ℕ) → Ran p left left' held held' turns → Consumes left' left'' bytes → 0 < length bytes → length bytes ≤ 65536 → Feeds p bytes q held' held'' →
-    Ran q left left'' held held'' (turns + 1)
+pub Ran-more : {g : Program} {p : Place} {left left' held held' : Option (List ℕ)} {turns : ℕ} (q : Place) (left'' held'' : Option (List ℕ)) (bytes : List ℕ) → Ran g p left left' held held' turns → Consumes left' left'' bytes → 0 < length bytes → length bytes ≤ 65536 → Feeds p bytes q held' held'' →
+    Ran g q left left'' held held'' (turns + 1)
 Ran-more {turns = turns} q left'' held'' bytes r c some most (t, s, w) = record {
   input = r.input ++ bytes;
   text = r.text ++ t;
@@ -78,27 +78,27 @@ Ran-more {turns = turns} q left'' held'' bytes r c some most (t, s, w) = record 
 }
 
 -- the number of the line is far below its limit
-pub Ran-number : {p : Place} {left left' held held' : Option (List ℕ)} {turns : ℕ} → Ran p left left' held held' turns → turns < 4294967295 → p.number + 65536 < 18446744073709551616
+pub Ran-number : {g : Program} {p : Place} {left left' held held' : Option (List ℕ)} {turns : ℕ} → Ran g p left left' held held' turns → turns < 4294967295 → p.number + 65536 < 18446744073709551616
 Ran-number r h = omega (arith, r.served.number_is, r.served.few, r.few)
 
 -- ---- faults
 
 -- an answer to a whole input that begins with this text
-pub record SoFar (left held held' : Option (List ℕ)) (least : ℕ) : Type 0 where
+pub record SoFar (g : Program) (left held held' : Option (List ℕ)) (least : ℕ) : Type 0 where
   pub input : List ℕ
   pub text : List ℕ
   pub gives : Gives left input
   pub written : Appends held held' text
-  pub answered : IsAnsweredSoFar input text
+  pub answered : IsAnsweredSoFar g input text
   pub long : least ≤ length input
 
-pub SoFar-none : (left held : Option (List ℕ)) → SoFar left held held 0
-SoFar-none left held = record {
+pub SoFar-none : {g : Program} (left held : Option (List ℕ)) → SoFar g left held held 0
+SoFar-none {g} left held = record {
   input = [] ++ unwrap_or left [];
   text = [];
   gives = Gives-left left left [] (Consumes-none left);
   written = Appends-none held;
-  answered = is_answered_so_far (unwrap_or left []) (Begins-none start (unwrap_or left [])) refl;
+  answered = is_answered_so_far (unwrap_or left []) (Begins-none (start g) (unwrap_or left [])) refl;
   long = omega arith;
 }
 
@@ -106,7 +106,7 @@ begins : {p q : Place} {xs t : List ℕ} → Served p xs q t → Begins p xs t
 begins {p} {q} {xs} {t} s = record { front = xs; back = []; new = q; more = []; bytes_are = sym (append-nil xs); serves = subst (λ z. Served p xs q z) (sym (append-nil t)) s }
 
 -- the script stopped between two turns
-pub SoFar-stopped : {p : Place} {left left' held held' : Option (List ℕ)} {turns : ℕ} (left'' : Option (List ℕ)) → Ran p left left' held held' turns → Keeps left' left'' → SoFar left held held' turns
+pub SoFar-stopped : {g : Program} {p : Place} {left left' held held' : Option (List ℕ)} {turns : ℕ} (left'' : Option (List ℕ)) → Ran g p left left' held held' turns → Keeps left' left'' → SoFar g left held held' turns
 SoFar-stopped {left = left} {left'} left'' r k = record {
   input = r.input ++ unwrap_or left'' [];
   text = r.text;
@@ -117,7 +117,7 @@ SoFar-stopped {left = left} {left'} left'' r k = record {
 }
 
 -- it stopped in a chunk
-pub SoFar-fed : {p : Place} {left left' held held' : Option (List ℕ)} {turns : ℕ} (left'' held'' : Option (List ℕ)) (bytes : List ℕ) → Ran p left left' held held' turns → Consumes left' left'' bytes → FeedsInPart p bytes held' held'' → SoFar left held held'' 0
+pub SoFar-fed : {g : Program} {p : Place} {left left' held held' : Option (List ℕ)} {turns : ℕ} (left'' held'' : Option (List ℕ)) (bytes : List ℕ) → Ran g p left left' held held' turns → Consumes left' left'' bytes → FeedsInPart p bytes held' held'' → SoFar g left held held'' 0
 SoFar-fed {left = left} {left'} left'' held'' bytes r c (t, b, w) = record {
   input = (r.input ++ bytes) ++ unwrap_or left'' [];
   text = r.text ++ t;
@@ -129,11 +129,11 @@ SoFar-fed {left = left} {left'} left'' held'' bytes r c (t, b, w) = record {
 
 -- ---- the end
 
-same_lines : {p : Place} {xs t : List ℕ} (bytes : List ℕ) → Served start xs p t → lines_of (p.begun ++ bytes) ≡ lines_of p.begun → lines_of (xs ++ bytes) ≡ lines_of xs
+same_lines : {g : Program} {p : Place} {xs t : List ℕ} (bytes : List ℕ) → Served (start g) xs p t → lines_of (p.begun ++ bytes) ≡ lines_of p.begun → lines_of (xs ++ bytes) ≡ lines_of xs
 same_lines {p} {xs} bytes s e = s.cut bytes ∙ ap (λ z. s.lines ++ z) (e ∙ ap lines_of (sym (append-nil p.begun))) ∙ sym (s.cut []) ∙ ap lines_of (append-nil xs)
 
 -- it stopped in its last line
-pub SoFar-finished : {p : Place} {left left' held held' : Option (List ℕ)} {turns : ℕ} (held'' : Option (List ℕ)) → Ran p left left' held held' turns → IsAtEnd left' → FinishesInPart p held' held'' → SoFar left held held'' 0
+pub SoFar-finished : {g : Program} {p : Place} {left left' held held' : Option (List ℕ)} {turns : ℕ} (held'' : Option (List ℕ)) → Ran g p left left' held held' turns → IsAtEnd left' → FinishesInPart p held' held'' → SoFar g left held held'' 0
 SoFar-finished {left = left} {left'} held'' r e (bytes, l, (t, b, w)) = record {
   input = r.input;
   text = r.text ++ t;
@@ -144,13 +144,13 @@ SoFar-finished {left = left} {left'} held'' r e (bytes, l, (t, b, w)) = record {
 }
 
 -- it came to its end
-pub Ran-finished : {p : Place} {left left' held held' : Option (List ℕ)} {turns : ℕ} (q : Place) (held'' : Option (List ℕ)) → Ran p left left' held held' turns → IsAtEnd left' → Finishes p q held' held'' →
-    (input : List ℕ) × (text : List ℕ) × Gives left input × Appends held held'' text × IsAnswered input q.clean text
+pub Ran-finished : {g : Program} {p : Place} {left left' held held' : Option (List ℕ)} {turns : ℕ} (q : Place) (held'' : Option (List ℕ)) → Ran g p left left' held held' turns → IsAtEnd left' → Finishes p q held' held'' →
+    (input : List ℕ) × (text : List ℕ) × Gives left input × Appends held held'' text × IsAnswered g input q.clean text
 Ran-finished {left = left} {left'} q held'' r e (bytes, l, n, (t, s, w)) =
     (r.input, r.text ++ t, Gives-end left left' r.input r.taken e, Appends-joined _ _ _ r.text t r.written w, is_answered r.input (Served-joined r.served s) n (same_lines bytes r.served l))
 
 -- a read that gave nothing
-pub Ran-end : {p : Place} {left left' held held' : Option (List ℕ)} {turns : ℕ} (left'' : Option (List ℕ)) (buffer : List ℕ) (n : ℕ) → n ≡ 0 → Ran p left left' held held' turns → Consumes left' left'' (take n buffer) → Ran p left left'' held held' turns
+pub Ran-end : {g : Program} {p : Place} {left left' held held' : Option (List ℕ)} {turns : ℕ} (left'' : Option (List ℕ)) (buffer : List ℕ) (n : ℕ) → n ≡ 0 → Ran g p left left' held held' turns → Consumes left' left'' (take n buffer) → Ran g p left left'' held held' turns
 Ran-end {left = left} {left'} left'' buffer n z r c = record {
   input = r.input;
   text = r.text;
@@ -173,12 +173,12 @@ Keeps-same None = tt
 Keeps-same (Some a) = refl
 
 -- a script that has not begun stands at its start
-pub place_equal : (s : State) (b : List ℕ) → s ≡ no_databases → b ≡ [] → (record { state = s; begun = b; number = 1; clean = true }) ≡ start
-place_equal s b e f = λ i. record { state = e i; begun = f i; number = 1; clean = true }
+pub place_equal : (g : Program) (s : State) (b : List ℕ) → s ≡ no_databases g → b ≡ [] → (record { state = s; begun = b; number = 1; clean = true }) ≡ start g
+place_equal g s b e f = λ i. record { state = e i; begun = f i; number = 1; clean = true }
 
 -- a script over memory
-pub over_memory : (l h h' : Option (List ℕ)) (bytes written input text : List ℕ) (clean : Bool) → l ≡ Some bytes → h ≡ Some [] → Some written ≡ h' → Gives l input → Appends h h' text → IsAnswered input clean text → IsAnswered bytes clean written
-over_memory l h h' bytes written input text clean el eh ew gives appends answered =
+pub over_memory : (g : Program) (l h h' : Option (List ℕ)) (bytes written input text : List ℕ) (clean : Bool) → l ≡ Some bytes → h ≡ Some [] → Some written ≡ h' → Gives l input → Appends h h' text → IsAnswered g input clean text → IsAnswered g bytes clean written
+over_memory g l h h' bytes written input text clean el eh ew gives appends answered =
     let taken : bytes ≡ input = subst (λ o. Gives o input) el gives in
     let put : written ≡ text = subst (λ o. Appends o (Some written) text) eh (subst (λ o. Appends h o text) (sym ew) appends) in
-    subst (λ w. IsAnswered bytes clean w) (sym put) (subst (λ b. IsAnswered b clean text) (sym taken) answered)
+    subst (λ w. IsAnswered g bytes clean w) (sym put) (subst (λ b. IsAnswered g b clean text) (sym taken) answered)

@@ -6,7 +6,7 @@ use Rattle.couch_replicate.specs.Lines.{is_line_end, lines_of, onto_first, has_l
 use Rattle.couch_replicate.specs.Reply.{Reply, silent, refused, reply_text}
 use Rattle.couch_replicate.specs.Script.{Step, blank, gave_up, Run, texts, is_accepted, IsAnswered, IsAnsweredSoFar}
 use Rattle.couch_replicate.specs.Served.{Place, start, Served, Begins}
-use Rattle.couch_replicate.specs.Databases.{State, no_databases}
+use Rattle.couch_replicate.specs.Databases.{Program, State, no_databases}
 use Rattle.couch_replicate.specs.declared.refusal.Refusal.TheVariants.{Memory}
 
 or_false : (a b : Bool) → (a || b) ≡ false → (a ≡ false) × (b ≡ false)
@@ -201,18 +201,18 @@ Begins-part {p} {q} {text} byte bytes front back e s t f = record {
 }
 
 -- a script that was served to its end
-pub is_answered : {q : Place} {xs text : List ℕ} (input : List ℕ) → Served start xs q text → q.begun ≡ [] → lines_of xs ≡ lines_of input → IsAnswered input q.clean text
-is_answered {q} {xs} {text} input s e l =
+pub is_answered : {g : Program} {q : Place} {xs text : List ℕ} (input : List ℕ) → Served (start g) xs q text → q.begun ≡ [] → lines_of xs ≡ lines_of input → IsAnswered g input q.clean text
+is_answered {g} {q} {xs} {text} input s e l =
     let all : lines_of xs ≡ s.lines = ap lines_of (sym (append-nil xs)) ∙ s.cut [] ∙ ap (λ z. s.lines ++ lines_of (z ++ [])) e ∙ append-nil s.lines in
-    (s.replies, q.state, subst (λ z. Run no_databases z s.replies q.state) (sym all ∙ l) s.run, s.text_is, s.clean_is)
+    (s.replies, q.state, subst (λ z. Run (no_databases g) z s.replies q.state) (sym all ∙ l) s.run, s.text_is, s.clean_is)
 
 -- one that was cut off
-pub is_answered_so_far : {xs text : List ℕ} (input : List ℕ) → Begins start xs text → lines_of xs ≡ lines_of input → IsAnsweredSoFar input text
-is_answered_so_far {xs} {text} input h l =
+pub is_answered_so_far : {g : Program} {xs text : List ℕ} (input : List ℕ) → Begins (start g) xs text → lines_of xs ≡ lines_of input → IsAnsweredSoFar g input text
+is_answered_so_far {g} {xs} {text} input h l =
     let s = h.serves in
     let more = Run-exists h.new.state (lines_of (h.new.begun ++ h.back)) in
     let all : lines_of input ≡ s.lines ++ lines_of (h.new.begun ++ h.back) = sym l ∙ ap lines_of h.bytes_are ∙ s.cut h.back in
-    let run : Run no_databases (lines_of input) (s.replies ++ more.0) h.new.state = subst (λ z. Run no_databases z (s.replies ++ more.0) h.new.state) (sym all) (Run-joined _ _ _ s.lines _ s.replies more.0 s.run more.1) in
+    let run : Run (no_databases g) (lines_of input) (s.replies ++ more.0) h.new.state = subst (λ z. Run (no_databases g) z (s.replies ++ more.0) h.new.state) (sym all) (Run-joined _ _ _ s.lines _ s.replies more.0 s.run more.1) in
     let rest = texts (1 + length s.replies) more.0 in (
       list_all is_accepted (s.replies ++ more.0),
       h.more ++ rest,

@@ -9,6 +9,8 @@ use Rattle.serde_json.specs.View.{view}
 use Rattle.couch_replicate.specs.Members.{text_at, name_at, optional, if_only, as_whole, as_uuid}
 use Rattle.couch_replicate.specs.declared.command.Command.{Command}
 use Rattle.couch_replicate.specs.declared.command.Command.TheVariants as command
+use Rattle.couch_replicate.specs.declared.command.Side.{Side}
+use Rattle.couch_replicate.specs.declared.command.Side.TheVariants.{Source, Target}
 use Rattle.couch_replicate.specs.declared.refusal.Refusal.{Refusal}
 use Rattle.couch_replicate.specs.declared.refusal.Refusal.TheVariants as why
 
@@ -22,6 +24,10 @@ pub data Ask : Type 0 where
   doc : (db id : List ℕ) (rev : Option (List ℕ)) → Ask
   -- the changes above a sequence
   changes : (db : List ℕ) (since : ℕ) → Ask
+  -- the log of the replication from one database into another, as one of its sides holds it
+  log : (source target : List ℕ) (side : Side) → Ask
+  -- whether the target covers what the two logs say is done
+  audit : (source target : List ℕ) → Ask
 
 -- a command without where it lies in memory
 abbrev pub ask_of : Command → Ask
@@ -30,6 +36,8 @@ ask_of (command.Edit db id parent deleted body) = edit db.now id.now (option_cop
 ask_of (command.Show db id) = show db.now id.now
 ask_of (command.Doc db id rev) = doc db.now id.now (option_copied rev)
 ask_of (command.Changes db since) = changes db.now since
+ask_of (command.Log source target side) = log source.now target.now side
+ask_of (command.Audit source target) = audit source.now target.now
 
 -- ---- the commands: all required members, each of its kind, and no others
 
@@ -53,9 +61,22 @@ doc_in d = option_and_then (λ db. option_and_then (λ id. option_and_then (λ r
 abbrev pub changes_in : Data → Option Ask
 changes_in d = option_and_then (λ db. option_and_then (λ since. if_only (codes "do" ∷ codes "db" ∷ codes "since" ∷ []) d (changes db (unwrap_or since 0))) (optional as_whole (codes "since") d)) (name_at (codes "db") d)
 
+-- a side of a replication
+abbrev pub side_of : List ℕ → Option Side
+side_of text = if bytes_eq text (codes "source") then Some Source else (if bytes_eq text (codes "target") then Some Target else None)
+
+abbrev pub side_at : Data → Option Side
+side_at d = option_and_then side_of (text_at (codes "side") d)
+
+abbrev pub log_in : Data → Option Ask
+log_in d = option_and_then (λ source. option_and_then (λ target. option_and_then (λ side. if_only (codes "do" ∷ codes "source" ∷ codes "target" ∷ codes "side" ∷ []) d (log source target side)) (side_at d)) (name_at (codes "target") d)) (name_at (codes "source") d)
+
+abbrev pub audit_in : Data → Option Ask
+audit_in d = option_and_then (λ source. option_and_then (λ target. if_only (codes "do" ∷ codes "source" ∷ codes "target" ∷ []) d (audit source target)) (name_at (codes "target") d)) (name_at (codes "source") d)
+
 -- the command of a word
 abbrev pub ask_by : List ℕ → Data → Option Ask
-ask_by word d = if bytes_eq word (codes "load") then load_in d else (if bytes_eq word (codes "edit") then edit_in d else (if bytes_eq word (codes "show") then show_in d else (if bytes_eq word (codes "doc") then doc_in d else (if bytes_eq word (codes "changes") then changes_in d else None))))
+ask_by word d = if bytes_eq word (codes "load") then load_in d else (if bytes_eq word (codes "edit") then edit_in d else (if bytes_eq word (codes "show") then show_in d else (if bytes_eq word (codes "doc") then doc_in d else (if bytes_eq word (codes "changes") then changes_in d else (if bytes_eq word (codes "log") then log_in d else (if bytes_eq word (codes "audit") then audit_in d else None))))))
 
 -- the member `do` is the word
 abbrev pub ask_in : Data → Option Ask

@@ -1,9 +1,9 @@
 -- The databases of a script: docs/PROFILE.md, "Command lines".
-use Rattle.std.specs.Prelude.{◌≡◌, ℕ, Bool, List, Option, Some, None, Result, Ok, Err}
+use Rattle.std.specs.Prelude.{◌≡◌, ℕ, Bool, List, Option, Some, None, Result, Ok, Err, refl}
 use Rattle.std.specs.declared.cmp.Ordering.{Ordering}
 use Rattle.std.specs.Ordering.{nat_cmp}
 use Rattle.std.specs.Cmp.Lexicographic.{slice_cmp}
-use Rattle.std.specs.Coded.{Coded, coded_ℕ, coded_list}
+use Rattle.std.specs.Coded.{Coded, code_by, coded×, coded_ℕ, coded_list, coded_option}
 use Rattle.std.specs.FinMap as finmap
 use Rattle.std.specs.FinMap.{FinMap}
 use Rattle.rev_core.specs.Rev.{RevId}
@@ -12,7 +12,9 @@ use Rattle.couch_base.specs.Put.{put_answer}
 use Rattle.couch_base.specs.Edit.{edit_answer}
 use Rattle.couch_base.specs.declared.fault.Put.{Put}
 use Rattle.couch_base.specs.declared.fault.BaseFault.{BaseFault}
-use Rattle.couch_replicate.specs.Local.{LocalValue, coded_local, after_load, after_local_edit}
+use Rattle.repl_target.specs.Peer.{PeerValue}
+use Rattle.repl_target.specs.PeerCode.{coded_peer}
+use Rattle.repl_target.specs.Writing.{after_load, after_edit}
 use Rattle.couch_replicate.specs.Given.{told_as, base_refusal}
 use Rattle.couch_replicate.specs.declared.given.EditGiven.{EditGiven}
 use Rattle.couch_replicate.specs.declared.databases.Edited.{Edited}
@@ -23,50 +25,70 @@ use Rattle.couch_replicate.specs.declared.refusal.Refusal.TheVariants as why
 abbrev pub text_cmp : List ℕ → List ℕ → Ordering
 text_cmp = slice_cmp nat_cmp
 
--- the databases by name
-abbrev pub State : Type 0
-State = FinMap text_cmp LocalValue
+-- what the program is set to: the beginning of the ids that a target refuses, and the moment and the batch of replications that
+-- name none
+pub record Program : Type 0 where
+  pub deny : Option (List ℕ)
+  pub at : ℕ
+  pub batch : ℕ
+
+-- what the program is set to, which no line changes, and the peers by name
+pub record State : Type 0 where
+  pub program : Program
+  pub peers : FinMap text_cmp PeerValue
 
 abbrev pub coded_state : Coded State
-coded_state = finmap.code (coded_list coded_ℕ) coded_local
+coded_state = code_by (Option (List ℕ) × (ℕ × (ℕ × FinMap text_cmp PeerValue)))
+    (coded× (coded_option (coded_list coded_ℕ)) (coded× coded_ℕ (coded× coded_ℕ (finmap.code (coded_list coded_ℕ) coded_peer))))
+    (λ s. (s.program.deny, (s.program.at, (s.program.batch, s.peers))))
+    (λ p. record { program = record { deny = p.0; at = p.1.0; batch = p.1.1.0 }; peers = p.1.1.1 })
+    (λ _. refl)
 
-abbrev pub no_databases : State
-no_databases = finmap.empty
+abbrev pub no_databases : Program → State
+no_databases program = record { program = program; peers = finmap.empty }
+
+-- the peer of a name, where one has it
+abbrev pub peer_at : State → List ℕ → Option PeerValue
+peer_at s name = finmap.get s.peers name
+
+-- the state with this peer under a name
+abbrev pub with_peer : State → List ℕ → PeerValue → State
+with_peer s name p = record s { peers = finmap.insert s.peers name p }
 
 -- a database has the UUID of that number
 abbrev pub IsTaken : State → ℕ → Type 0
-IsTaken s uuid = (name : List ℕ) × (l : LocalValue) × (finmap.get s name ≡ Some l) × (l.base.uuid ≡ uuid)
+IsTaken s uuid = (name : List ℕ) × (p : PeerValue) × (peer_at s name ≡ Some p) × (p.db.uuid ≡ uuid)
 
--- the databases with one of them changed; as they were where none has the name
-abbrev pub with_changed : State → List ℕ → (LocalValue → LocalValue) → Option LocalValue → State
+-- the state with one of the peers changed; as it was where none has the name
+abbrev pub with_changed : State → List ℕ → (PeerValue → PeerValue) → Option PeerValue → State
 with_changed s name f None = s
-with_changed s name f (Some l) = finmap.insert s name (f l)
+with_changed s name f (Some p) = with_peer s name (f p)
 
-abbrev pub changed_at : State → List ℕ → (LocalValue → LocalValue) → State
-changed_at s name f = with_changed s name f (finmap.get s name)
+abbrev pub changed_at : State → List ℕ → (PeerValue → PeerValue) → State
+changed_at s name f = with_changed s name f (peer_at s name)
 
 -- ---- a document loaded into one of them
 
-abbrev pub load_answer : Option LocalValue → Document → Result Put Refusal
+abbrev pub load_answer : Option PeerValue → Document → Result Put Refusal
 load_answer None doc = Err why.NoDatabase
-load_answer (Some l) doc = told_as base_refusal (put_answer l.base doc)
+load_answer (Some l) doc = told_as base_refusal (put_answer l.db doc)
 
 abbrev pub loaded_at : State → List ℕ → Document → State
 loaded_at s name doc = changed_at s name (λ l. after_load l doc)
 
 -- ---- an edit in one of them
 
-abbrev pub after_given : LocalValue → EditGiven → Bool → LocalValue
-after_given l given deleted = after_local_edit l given.id given.parent deleted given.body
+abbrev pub after_given : PeerValue → EditGiven → Bool → PeerValue
+after_given l given deleted = after_edit l given.id given.parent deleted given.body
 
 -- the new revision, and the sequence of the change
-abbrev pub edited_as : LocalValue → Result RevId BaseFault → Result Edited Refusal
-edited_as after (Ok rev) = Ok (record { rev = rev; seq = after.base.update_seq })
+abbrev pub edited_as : PeerValue → Result RevId BaseFault → Result Edited Refusal
+edited_as after (Ok rev) = Ok (record { rev = rev; seq = after.db.update_seq })
 edited_as after (Err fault) = Err (base_refusal fault)
 
-abbrev pub edited_answer : Option LocalValue → EditGiven → Bool → Result Edited Refusal
+abbrev pub edited_answer : Option PeerValue → EditGiven → Bool → Result Edited Refusal
 edited_answer None given deleted = Err why.NoDatabase
-edited_answer (Some l) given deleted = edited_as (after_given l given deleted) (edit_answer l.base given.id given.parent deleted given.body)
+edited_answer (Some l) given deleted = edited_as (after_given l given deleted) (edit_answer l.db given.id given.parent deleted given.body)
 
 abbrev pub edited_at : State → List ℕ → EditGiven → Bool → State
 edited_at s name given deleted = changed_at s name (λ l. after_given l given deleted)

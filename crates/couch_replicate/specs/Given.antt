@@ -13,6 +13,8 @@ use Rattle.doc_json.specs.declared.fault.DocFault.{DocFault}
 use Rattle.doc_json.specs.declared.fault.DocFault.TheVariants as doc
 use Rattle.couch_base.specs.declared.fault.BaseFault.{BaseFault}
 use Rattle.couch_base.specs.declared.fault.BaseFault.TheVariants as base
+use Rattle.repl_log.specs.declared.fault.LogFault.{LogFault}
+use Rattle.repl_log.specs.declared.fault.LogFault.TheVariants as log
 use Rattle.couch_replicate.specs.declared.refusal.Refusal.{Refusal}
 use Rattle.couch_replicate.specs.declared.refusal.Refusal.TheVariants as why
 
@@ -54,6 +56,12 @@ base_refusal base.Conflict = why.Conflict
 base_refusal base.GenerationFull = why.GenerationFull
 base_refusal (base.RevExists r) = why.RevExists
 base_refusal base.Memory = why.Memory
+
+abbrev pub log_refusal : LogFault → Refusal
+log_refusal log.BadMoment = why.BadMoment
+log_refusal (log.Older stored) = why.Older
+log_refusal log.EmptyLog = why.EmptyLog
+log_refusal log.Memory = why.Memory
 
 -- a result whose fault is told as a refusal
 abbrev pub told_as : {A E : Type 0} → (E → Refusal) → Result A E → Result A Refusal

@@ -3,7 +3,6 @@ pub mod Lines
 pub mod Members
 pub mod Given
 pub mod Edits
-pub mod Local
 pub mod Command
 pub mod Databases
 pub mod MadeIds

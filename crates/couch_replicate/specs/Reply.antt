@@ -12,6 +12,7 @@ use Rattle.rev_tree.specs.Tree.{TreeValue, leaves, ancestors, is_deleted}
 use Rattle.doc_json.specs.Document.{Document}
 use Rattle.doc_json.specs.DocText.{doc_text}
 use Rattle.couch_base.specs.Feed.{RowValue}
+use Rattle.repl_target.specs.Covered.{Leaf}
 use Rattle.couch_replicate.specs.declared.refusal.Refusal.{Refusal}
 use Rattle.couch_replicate.specs.declared.refusal.Refusal.TheVariants as why
 
@@ -27,6 +28,9 @@ pub data Reply : Type 0 where
   shown : (id : List ℕ) (tree : TreeValue) → Reply
   written : (doc : Document) → Reply
   listed : (rows : List RowValue) (last : ℕ) → Reply
+  logged : (text : List ℕ) → Reply
+  clean : Reply
+  hole : (leaf : Leaf) → Reply
   refused : Refusal → Reply
 
 abbrev pub is_refusal : Reply → Bool
@@ -39,6 +43,9 @@ is_refusal (edited db id rev seq) = false
 is_refusal (shown id tree) = false
 is_refusal (written doc) = false
 is_refusal (listed rows last) = false
+is_refusal (logged text) = false
+is_refusal clean = false
+is_refusal (hole leaf) = false
 is_refusal (refused refusal) = true
 
 abbrev pub name_of : Refusal → List ℕ
@@ -68,6 +75,9 @@ name_of why.SeqFull = codes "SeqFull"
 name_of why.BadLimit = codes "BadLimit"
 name_of why.BadRange = codes "BadRange"
 name_of why.GoalAhead = codes "GoalAhead"
+name_of why.BadMoment = codes "BadMoment"
+name_of why.EmptyLog = codes "EmptyLog"
+name_of why.Older = codes "Older"
 name_of why.Memory = codes "Memory"
 
 -- ---- parts of answers
@@ -116,4 +126,7 @@ reply_text n (edited db id rev seq) = ended (codes "edited " ++ db ++ codes " " 
 reply_text n (shown id tree) = shown_head id tree ++ flat_map (leaf_line tree) (leaves tree)
 reply_text n (written doc) = ended (doc_text doc)
 reply_text n (listed rows last) = flat_map row_line rows ++ ended (codes "last " ++ decimal last)
+reply_text n (logged text) = ended text
+reply_text n clean = codes "clean\n"
+reply_text n (hole leaf) = ended (codes "hole " ++ decimal leaf.seq ++ codes " " ++ quoted leaf.id ++ codes " " ++ rev_text leaf.rev)
 reply_text n (refused refusal) = ended (codes "refused " ++ decimal n ++ codes " " ++ name_of refusal)

@@ -3,7 +3,7 @@ use Rattle.std.specs.Prelude.{◌≡◌, ℕ, ◌+◌, List, [], ◌∷◌, ◌+
 use Rattle.std.specs.List.{list_all}
 use Rattle.couch_replicate.specs.Lines.{is_blank, lines_of}
 use Rattle.couch_replicate.specs.Command.{Ask, Asks}
-use Rattle.couch_replicate.specs.Databases.{State, no_databases}
+use Rattle.couch_replicate.specs.Databases.{Program, State, no_databases}
 use Rattle.couch_replicate.specs.Reply.{Reply, silent, refused, is_refusal, reply_text}
 use Rattle.couch_replicate.specs.Answers.{Answers}
 use Rattle.couch_replicate.specs.declared.refusal.Refusal.{Refusal}
@@ -39,10 +39,10 @@ abbrev pub is_accepted : Reply → Bool
 is_accepted reply = not (is_refusal reply)
 
 -- the text is the answers to a script, and the flag says that no line was refused
-abbrev pub IsAnswered : List ℕ → Bool → List ℕ → Type 0
-IsAnswered input clean text = (replies : List Reply) × (state : State) × Run no_databases (lines_of input) replies state
+abbrev pub IsAnswered : Program → List ℕ → Bool → List ℕ → Type 0
+IsAnswered program input clean text = (replies : List Reply) × (state : State) × Run (no_databases program) (lines_of input) replies state
     × (text ≡ texts 1 replies) × (clean ≡ list_all is_accepted replies)
 
 -- the text is a beginning of the answers to a script
-abbrev pub IsAnsweredSoFar : List ℕ → List ℕ → Type 0
-IsAnsweredSoFar input text = (clean : Bool) × (rest : List ℕ) × IsAnswered input clean (text ++ rest)
+abbrev pub IsAnsweredSoFar : Program → List ℕ → List ℕ → Type 0
+IsAnsweredSoFar program input text = (clean : Bool) × (rest : List ℕ) × IsAnswered program input clean (text ++ rest)

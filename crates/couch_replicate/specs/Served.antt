@@ -3,7 +3,7 @@ use Rattle.std.specs.Prelude.{◌≡◌, ℕ, ◌+◌, ◌≤◌, List, [], ◌+
 use Rattle.std.specs.List.{list_all}
 use Rattle.std.specs.Io.KnownBytes.{Appends}
 use Rattle.couch_replicate.specs.Lines.{lines_of}
-use Rattle.couch_replicate.specs.Databases.{State, no_databases}
+use Rattle.couch_replicate.specs.Databases.{Program, State, no_databases}
 use Rattle.couch_replicate.specs.Reply.{Reply}
 use Rattle.couch_replicate.specs.Script.{Run, texts, is_accepted}
 
@@ -18,8 +18,8 @@ pub record Place : Type 0 where
   pub clean : Bool
 
 -- where a script begins
-abbrev pub start : Place
-start = record { state = no_databases; begun = []; number = 1; clean = true }
+abbrev pub start : Program → Place
+start program = record { state = no_databases program; begun = []; number = 1; clean = true }
 
 -- these bytes lead from one place to another, and are answered with this text
 pub record Served (old : Place) (bytes : List ℕ) (new : Place) (text : List ℕ) : Type 0 where

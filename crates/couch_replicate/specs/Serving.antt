@@ -1,5 +1,6 @@
 -- How a line is served, for the functions that do it.
-use Rattle.std.specs.Prelude.{◌≡◌, ℕ, List, false, ◌⊎◌, Option, Ok}
+use Rattle.std.specs.Prelude.{◌≡◌, ℕ, List, Vec, false, ◌⊎◌, Option, Result, Ok, Err}
+use Rattle.std.specs.declared.alloc.Global.{Global}
 use Rattle.doc_json.specs.Document.{Document}
 use Rattle.couch_replicate.specs.Command.{Ask}
 use Rattle.couch_replicate.specs.Databases.{State}
@@ -40,3 +41,8 @@ pub data RefusesLine : State → List ℕ → Refusal → State → Type 0 where
 -- the text says why, or that memory was wanting to say it
 abbrev pub IsRefusalText : ℕ → Refusal → List ℕ → Type 0
 IsRefusalText n why text = (text ≡ reply_text n (refused why)) ⊎ (text ≡ reply_text n (refused Memory))
+
+-- the text of the expected reply, or the expected refusal, unless memory ran out
+abbrev pub TextUnlessMemory : Result (Vec ℕ Global) Refusal → Result Reply Refusal → Type 0
+TextUnlessMemory (Ok text) expected = (reply : Reply) × (expected ≡ Ok reply) × (is_refusal reply ≡ false) × ((n : ℕ) → text.items ≡ reply_text n reply)
+TextUnlessMemory (Err why) expected = (expected ≡ Err why) ⊎ (why ≡ Memory)

@@ -2,7 +2,7 @@
 ghost use Rattle.std.specs.Prelude.{◌≡◌, ◌⊎◌, IfOk, IfErr, option_map};
 ghost use Rattle.serde_json.specs.Data.{Members, object};
 ghost use Rattle.serde_json.specs.View.{view};
-ghost use Rattle.couch_replicate.specs.Command.{IsObject, IsNoObject, ask_of, ask_in, changes_in, doc_in, edit_in, load_in, show_in};
+ghost use Rattle.couch_replicate.specs.Command.{IsObject, IsNoObject, ask_of, ask_in, audit_in, changes_in, doc_in, edit_in, load_in, log_in, show_in, side_at};
 ghost use Rattle.couch_replicate.specs.declared.refusal.Refusal.TheVariants.{BadLine, Memory};
 
 use crate::members::{
@@ -44,6 +44,22 @@ pub enum Command<'a> {
         db: &'a str,
         since: u64,
     },
+    Log {
+        source: &'a str,
+        target: &'a str,
+        side: Side,
+    },
+    Audit {
+        source: &'a str,
+        target: &'a str,
+    },
+}
+
+/// A side of a replication.
+#[derive(Clone, Copy, Debug, PartialEq, Eq)]
+pub enum Side {
+    Source,
+    Target,
 }
 
 /// The JSON object that a line is. `BadLine` where it is none; want of memory may come in the place of any answer.
@@ -77,6 +93,8 @@ pub fn command_in(value: &Value) -> Option<Command<'_>>
         Some("show") => show_command(value),
         Some("doc") => doc_command(value),
         Some("changes") => changes_command(value),
+        Some("log") => log_command(value),
+        Some("audit") => audit_command(value),
         _ => None,
     }
 }
@@ -158,4 +176,48 @@ fn changes_command(value: &Value) -> Option<Command<'_>>
     }
     let since = since.unwrap_or(0);
     Some(Command::Changes { db, since })
+}
+
+fn log_command(value: &Value) -> Option<Command<'_>>
+    ensures { option_map ask_of result ≡ log_in (view value.now) }
+{
+    let (Some(source), Some(target)) = (name_member(value, "source"), name_member(value, "target"))
+    else {
+        return None;
+    };
+    let Some(side) = side_member(value) else {
+        return None;
+    };
+    if !has_only_members(value, &["do", "source", "target", "side"]) {
+        return None;
+    }
+    Some(Command::Log {
+        source,
+        target,
+        side,
+    })
+}
+
+/// The side of a replication, which has to be there.
+fn side_member(value: &Value) -> Option<Side>
+    ensures { result ≡ side_at (view value.now) }
+{
+    match text_member(value, "side") {
+        Some("source") => Some(Side::Source),
+        Some("target") => Some(Side::Target),
+        _ => None,
+    }
+}
+
+fn audit_command(value: &Value) -> Option<Command<'_>>
+    ensures { option_map ask_of result ≡ audit_in (view value.now) }
+{
+    let (Some(source), Some(target)) = (name_member(value, "source"), name_member(value, "target"))
+    else {
+        return None;
+    };
+    if !has_only_members(value, &["do", "source", "target"]) {
+        return None;
+    }
+    Some(Command::Audit { source, target })
 }

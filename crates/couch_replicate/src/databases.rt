@@ -1,16 +1,17 @@
 //! The databases of a script.
-ghost use Rattle.std.specs.Prelude.{◌≡◌, ◌<◌, false, true, None, IsOk, OnErr, OnOk};
-ghost use Rattle.std.specs.FinMap.{contains_key, get, insert};
+ghost use Rattle.std.specs.Prelude.{◌≡◌, ◌<◌, false, true, None, IfOk, IsOk, OnErr, OnOk, option_map};
+ghost use Rattle.std.specs.FinMap.{contains_key};
 ghost use Rattle.std.specs.Option.{option_copied};
 
 use crate::given::EditGiven;
-use crate::local_database::LocalDatabase;
 use crate::made_ids::MadeIds;
-use crate::named::{edit_at, load_at};
+use crate::named::{add_at, edit_at, load_at};
 use crate::refusal::Refusal;
+use crate::settings::Settings;
 use couch_base::Put;
 use doc_json::Doc;
 use indexmap::{IndexMap, IndexSet};
+use repl_target::{Peer, Rules};
 use rev_core::Rev;
 use std::alloc::{AllocError, Global};
 use std::marker::Model;
@@ -22,12 +23,14 @@ pub struct Edited {
     pub seq: u64,
 }
 
-/// The databases by their names.
-pub type Names = IndexMap<String, LocalDatabase>;
+/// The peers by their names.
+pub type Names = IndexMap<String, Peer<Rules>>;
 
-/// The databases of a script by their names, the numbers of their UUIDs, and the stream of made ids.
+/// The databases of a script, each a peer under its name, the numbers of their UUIDs, and the stream of made ids. Each peer
+/// refuses what the settings say.
 #[derive(Drop)]
 pub struct Databases {
+    settings: Settings,
     by_name: Names,
     uuids: IndexSet<u128>,
     ids: MadeIds,
@@ -40,38 +43,44 @@ impl Model for Databases {
 
     ghost coded = { coded_state };
 
-    ghost use Rattle.couch_replicate.specs.Tables.{IsIndex, state_of};
+    ghost use Rattle.couch_replicate.specs.Tables.{IsIndex, AllDeny, program_of, state_of};
 
-    ghost view = { λ a. state_of a.by_name.entries };
+    ghost view = { λ a. state_of (program_of a.settings) a.by_name.entries };
 
-    ghost invariant = { λ a. IsIndex (state_of a.by_name.entries) a.uuids.keys };
+    ghost invariant = { λ a. IsIndex (state_of (program_of a.settings) a.by_name.entries) a.uuids.keys
+        × AllDeny (program_of a.settings).deny a.by_name.entries };
 }
 
 impl Databases {
-    ghost use Rattle.couch_replicate.specs.Databases.{IsTaken, edited_answer, edited_at, load_answer, loaded_at, no_databases};
+    ghost use Rattle.couch_replicate.specs.Databases.{IsTaken, edited_answer, edited_at, load_answer, loaded_at, no_databases, peer_at, with_peer};
+    ghost use Rattle.couch_replicate.specs.Tables.{deny_of, program_of};
+    ghost use Rattle.repl_target.specs.Peer.{new_peer};
     ghost use Rattle.couch_replicate.specs.Given.{GivesUnlessMemory};
 
-    /// No databases. Ids are made from the stream of the seed.
-    pub fn new(alloc: Global, seed: u64) -> Databases
-        ensures { result ≡ no_databases }
+    /// No databases, with a copy of the settings, from whose seed ids are made.
+    pub fn new(alloc: Global, settings: &Settings) -> Result<Databases, AllocError>
+        ensures { IfOk result (λ databases. databases ≡ no_databases (program_of settings.now)) }
     {
-        Databases {
+        let settings = settings.copy(alloc)?;
+        let ids = MadeIds::new(settings.seed);
+        Ok(Databases {
+            settings,
             by_name: IndexMap::new(alloc),
             uuids: IndexSet::new(alloc),
-            ids: MadeIds::new(seed),
-        }
+            ids,
+        })
     }
 
-    /// The database of a name, where one has it.
-    pub fn find(&self, name: &str) -> Option<&LocalDatabase>
-        ensures { option_copied result ≡ get self.now name.now }
+    /// The peer of a name, where one has it.
+    pub fn find(&self, name: &str) -> Option<&Peer<Rules>>
+        ensures { option_map (λ p. p.1) (option_copied result) ≡ peer_at self.now name.now }
     {
         self.by_name.get(name)
     }
 
-    /// Whether a database has the name.
+    /// Whether a peer has the name.
     pub fn has(&self, name: &str) -> bool
-        ensures { result ≡ contains_key self.now name.now }
+        ensures { result ≡ contains_key self.now.peers name.now }
     {
         self.by_name.contains_key(name)
     }
@@ -91,28 +100,30 @@ impl Databases {
         self.ids.draw()
     }
 
-    /// Adds a database under a name that is not there.
-    pub fn add(
-        &mut self,
-        alloc: Global,
-        name: &str,
-        database: LocalDatabase,
-    ) -> Result<(), AllocError>
-        requires { get self.old name.now ≡ None }
-        ensures ok { OnOk result (self.new ≡ insert self.old name.now database) }
+    /// A peer of no documents that refuses what the settings say. `uuid` is the number of its UUID.
+    pub fn make(&self, alloc: Global, uuid: u128) -> Result<Peer<Rules>, AllocError>
+        ensures { IfOk result (λ p. (p.1 ≡ new_peer uuid) × (deny_of p.0 ≡ self.now.program.deny)) }
+    {
+        let deny = match &self.settings.deny {
+            Some(prefix) => Some(String::from_str(alloc, prefix.as_str())?),
+            None => None,
+        };
+        Ok(Peer::new(alloc, uuid, Rules { deny }))
+    }
+
+    /// Adds a peer under a name that is not there. It refuses what the settings say.
+    pub fn add(&mut self, alloc: Global, name: &str, peer: Peer<Rules>) -> Result<(), AllocError>
+        requires absent { peer_at self.old name.now ≡ None }
+        requires filter { deny_of peer.0 ≡ self.old.program.deny }
+        ensures ok { OnOk result (self.new ≡ with_peer self.old name.now peer.1) }
         ensures err { OnErr result (self.new ≡ self.old) }
     {
-        let key = String::from_str(alloc, name)?;
-        let uuid = database.database().uuid();
-        self.by_name.reserve(1)?;
-        self.uuids.insert(uuid)?;
-        self.by_name.insert(key, database)?;
-        Ok(())
+        add_at(&mut self.by_name, &mut self.uuids, alloc, name, peer)
     }
 
     /// Loads a document into the database of a name. `NoDatabase` where none has it; else what the database refuses.
     pub fn load(&mut self, name: &str, doc: &Doc) -> Result<Put, Refusal>
-        ensures answer { GivesUnlessMemory result (load_answer (get self.old name.now) doc.now) }
+        ensures answer { GivesUnlessMemory result (load_answer (peer_at self.old name.now) doc.now) }
         ensures ok { OnOk result (self.new ≡ loaded_at self.old name.now doc.now) }
         ensures err { OnErr result (self.new ≡ self.old) }
     {
@@ -121,7 +132,7 @@ impl Databases {
 
     /// Edits a document of the database of a name. `NoDatabase` where none has it; else what the database refuses.
     pub fn edit(&mut self, name: &str, given: &EditGiven, deleted: bool) -> Result<Edited, Refusal>
-        ensures answer { GivesUnlessMemory result (edited_answer (get self.old name.now) given.now deleted) }
+        ensures answer { GivesUnlessMemory result (edited_answer (peer_at self.old name.now) given.now deleted) }
         ensures ok { OnOk result (self.new ≡ edited_at self.old name.now given.now deleted) }
         ensures err { OnErr result (self.new ≡ self.old) }
     {

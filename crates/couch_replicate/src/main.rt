@@ -1,8 +1,8 @@
 //! A program that runs scripts of commands on document databases in memory.
 //!
 //! What a script is stands in docs/PROFILE.md, "Command lines" and "Answers". A line goes from bytes (`device`,
-//! `script`) to a command (`command`, `members`), which is served (`serve`, `loading`) by the databases (`databases`, `named`,
-//! `local_database`, `made_ids`) with what it gives (`given`), and answered with a text (`reply`, `changes`, `document`).
+//! `script`) to a command (`command`, `members`), which is served (`serve`, `loading`, `replication`) by the databases (`databases`, `named`,
+//! `made_ids`) with what it gives (`given`), and answered with a text (`reply`, `changes`, `document`).
 #![tactic(auto)]
 
 mod changes;
@@ -12,12 +12,12 @@ mod device;
 mod document;
 mod given;
 mod loading;
-mod local_database;
 mod made_ids;
 mod members;
 mod named;
 mod program;
 mod refusal;
+mod replication;
 mod reply;
 mod script;
 mod serve;

@@ -1,24 +1,53 @@
 //! Changes of one database in a table of names.
-ghost use Rattle.std.specs.Prelude.{◌≡◌, OnErr, OnOk};
-ghost use Rattle.std.specs.FinMap.{get};
-ghost use Rattle.couch_replicate.specs.Databases.{edited_answer, edited_at, load_answer, loaded_at};
+ghost use Rattle.std.specs.Prelude.{◌≡◌, OnErr, OnOk, ℕ, true, nat_eq, if◌then◌else◌};
+ghost use Rattle.std.specs.List.{list_any};
+ghost use Rattle.std.specs.FinMap.{get, insert};
+ghost use Rattle.couch_replicate.specs.Databases.{Program, edited_answer, edited_at, load_answer, loaded_at};
 ghost use Rattle.couch_replicate.specs.Given.{GivesUnlessMemory};
-ghost use Rattle.couch_replicate.specs.Tables.{state_of};
+ghost use Rattle.couch_replicate.specs.Tables.{deny_of, denied_of, peers_of, state_of};
 
 use crate::databases::{Edited, Names};
 use crate::given::EditGiven;
 use crate::refusal::Refusal;
 use couch_base::Put;
 use doc_json::Doc;
+use indexmap::IndexSet;
+use repl_target::{Peer, Rules};
+use std::alloc::{AllocError, Global};
+
+/// Adds a peer under a name, and notes its UUID. A refusal changes nothing.
+pub fn add_at(
+    names: &mut Names,
+    uuids: &mut IndexSet<u128>,
+    alloc: Global,
+    name: &str,
+    peer: Peer<Rules>,
+) -> Result<(), AllocError>
+    ensures peers { OnOk result (peers_of names.new.entries ≡ insert (peers_of names.old.entries) name.now peer.1) }
+    ensures filters { OnOk result
+        (denied_of names.new.entries ≡ insert (denied_of names.old.entries) name.now (deny_of peer.0)) }
+    ensures uuids { OnOk result ((uuid : ℕ) → list_any (nat_eq uuid) uuids.new.keys
+        ≡ (if nat_eq peer.1.db.uuid uuid then true else list_any (nat_eq uuid) uuids.old.keys)) }
+    ensures err { OnErr result ((names.new.entries ≡ names.old.entries) × (uuids.new.keys ≡ uuids.old.keys)) }
+{
+    let key = String::from_str(alloc, name)?;
+    let uuid = peer.db().uuid();
+    names.reserve(1)?;
+    uuids.insert(uuid)?;
+    names.insert(key, peer)?;
+    Ok(())
+}
 
 /// Loads a document into the database of a name.
 pub fn load_at(names: &mut Names, name: &str, doc: &Doc) -> Result<Put, Refusal>
-    ensures answer { GivesUnlessMemory result (load_answer (get (state_of names.old.entries) name.now) doc.now) }
-    ensures ok { OnOk result (state_of names.new.entries ≡ loaded_at (state_of names.old.entries) name.now doc.now) }
-    ensures err { OnErr result (state_of names.new.entries ≡ state_of names.old.entries) }
+    ensures answer { GivesUnlessMemory result (load_answer (get (peers_of names.old.entries) name.now) doc.now) }
+    ensures ok { (g : Program) → OnOk result
+        (state_of g names.new.entries ≡ loaded_at (state_of g names.old.entries) name.now doc.now) }
+    ensures err { OnErr result (peers_of names.new.entries ≡ peers_of names.old.entries) }
+    ensures filters { denied_of names.new.entries ≡ denied_of names.old.entries }
 {
     match names.get_mut(name) {
-        Some(local) => match local.load(doc) {
+        Some(peer) => match peer.load(doc) {
             Ok(put) => Ok(put),
             Err(fault) => Err(Refusal::of_base(fault)),
         },
@@ -34,16 +63,17 @@ pub fn edit_at(
     deleted: bool,
 ) -> Result<Edited, Refusal>
     ensures answer { GivesUnlessMemory result
-        (edited_answer (get (state_of names.old.entries) name.now) given.now deleted) }
-    ensures ok { OnOk result
-        (state_of names.new.entries ≡ edited_at (state_of names.old.entries) name.now given.now deleted) }
-    ensures err { OnErr result (state_of names.new.entries ≡ state_of names.old.entries) }
+        (edited_answer (get (peers_of names.old.entries) name.now) given.now deleted) }
+    ensures ok { (g : Program) → OnOk result
+        (state_of g names.new.entries ≡ edited_at (state_of g names.old.entries) name.now given.now deleted) }
+    ensures err { OnErr result (peers_of names.new.entries ≡ peers_of names.old.entries) }
+    ensures filters { denied_of names.new.entries ≡ denied_of names.old.entries }
 {
     match names.get_mut(name) {
-        Some(local) => match local.edit(&given.id, given.parent, deleted, &given.body) {
+        Some(peer) => match peer.edit(&given.id, given.parent, deleted, &given.body) {
             Ok(rev) => Ok(Edited {
                 rev,
-                seq: local.database().update_seq(),
+                seq: peer.db().update_seq(),
             }),
             Err(fault) => Err(Refusal::of_base(fault)),
         },

@@ -1,10 +1,11 @@
 //! Why a line is refused.
 ghost use Rattle.std.specs.Prelude.{◌≡◌};
 ghost use Rattle.couch_replicate.specs.Reply.{name_of};
-ghost use Rattle.couch_replicate.specs.Given.{base_refusal, doc_refusal, rev_refusal};
+ghost use Rattle.couch_replicate.specs.Given.{base_refusal, doc_refusal, log_refusal, rev_refusal};
 
 use couch_base::BaseFault;
 use doc_json::DocFault;
+use repl_log::LogFault;
 use rev_core::RevFault;
 use thiserror::Error;
 
@@ -89,6 +90,15 @@ pub enum Refusal {
     /// The goal of a page is above the update sequence, which no line asks.
     #[error("the goal is above the update sequence")]
     GoalAhead,
+    /// A moment lies after the year 9999.
+    #[error("a moment after the year 9999")]
+    BadMoment,
+    /// A log without entries is asked for.
+    #[error("no replication has begun")]
+    EmptyLog,
+    /// A log's entry has a greater recorded sequence, which no line is refused for.
+    #[error("older than the log's entry")]
+    Older,
     /// An allocation was refused.
     #[error("out of memory")]
     Memory,
@@ -126,6 +136,9 @@ impl Refusal {
             Refusal::BadLimit => "BadLimit",
             Refusal::BadRange => "BadRange",
             Refusal::GoalAhead => "GoalAhead",
+            Refusal::BadMoment => "BadMoment",
+            Refusal::EmptyLog => "EmptyLog",
+            Refusal::Older => "Older",
             Refusal::Memory => "Memory",
         }
     }
@@ -179,6 +192,18 @@ impl Refusal {
             BaseFault::GenerationFull => Refusal::GenerationFull,
             BaseFault::RevExists { .. } => Refusal::RevExists,
             BaseFault::Memory => Refusal::Memory,
+        }
+    }
+
+    /// The refusal of a line whose log or moment is refused.
+    pub fn of_log(fault: LogFault) -> Refusal
+        ensures { result ≡ log_refusal fault }
+    {
+        match fault {
+            LogFault::BadMoment => Refusal::BadMoment,
+            LogFault::Older { .. } => Refusal::Older,
+            LogFault::EmptyLog => Refusal::EmptyLog,
+            LogFault::Memory => Refusal::Memory,
         }
     }
 }

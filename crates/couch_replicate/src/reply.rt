@@ -2,7 +2,7 @@
 ghost use Rattle.std.specs.Prelude.{◌≡◌, ◌++◌, ℕ, IfOk, Some, string_bytes};
 ghost use Rattle.rev_core.specs.Text.{rev_text};
 ghost use Rattle.rev_tree.specs.Tree.{is_deleted};
-ghost use Rattle.couch_replicate.specs.Reply.{edited, leaf_line, loaded, made, quoted, refused, reply_text, same, shown, shown_head, texts_of_revs, there};
+ghost use Rattle.couch_replicate.specs.Reply.{clean, edited, hole, leaf_line, loaded, made, quoted, refused, reply_text, same, shown, shown_head, texts_of_revs, there};
 
 use crate::databases::Edited;
 use crate::refusal::Refusal;
@@ -75,6 +75,25 @@ pub fn edited_text(alloc: Global, db: &str, id: &str, done: Edited) -> Result<Ve
     let seq = done.seq;
     let end = format!(in alloc; " seq {seq}\n")?;
     text.extend_from_slice(end.as_bytes())?;
+    Ok(text)
+}
+
+/// The answer to an `audit` that finds no hole.
+pub fn clean_text(alloc: Global) -> Result<Vec<u8>, AllocError>
+    ensures { IfOk result (λ text. (n : ℕ) → text.items ≡ reply_text n clean) }
+{
+    let text = Vec::from_slice(alloc, b"clean\n")?;
+    Ok(text)
+}
+
+/// The answer to an `audit` that finds one.
+pub fn hole_text(alloc: Global, seq: u64, id: &str, rev: Rev) -> Result<Vec<u8>, AllocError>
+    ensures { IfOk result (λ text. (n : ℕ) → text.items ≡ reply_text n (hole (record { seq = seq; id = id.now; rev = rev }))) }
+{
+    let id = json_text(alloc, id)?;
+    let mut text = format!(in alloc; "hole {seq} {id} ")?.into_bytes();
+    push_rev(alloc, &mut text, rev)?;
+    text.extend_from_slice(b"\n")?;
     Ok(text)
 }
 

@@ -6,7 +6,9 @@ ghost use Rattle.couch_replicate.specs.Lines.{has_line_end};
 ghost use Rattle.couch_replicate.specs.Served.{Served, Feeds, FeedsInPart, Finishes, FinishesInPart};
 ghost use Rattle.couch_replicate.specs.Script.{IsAnswered, IsAnsweredSoFar};
 ghost use Rattle.couch_replicate.specs.Faults.{IsOfWriter, IsFaultOf};
+ghost use Rattle.couch_replicate.specs.Databases.{no_databases};
 ghost use Rattle.couch_replicate.specs.Places.{place_of};
+ghost use Rattle.couch_replicate.specs.Tables.{program_of};
 ghost use Rattle.couch_replicate.specs.declared.script.ScriptFault.TheVariants.{Write, Memory};
 
 use crate::databases::Databases;
@@ -185,24 +187,26 @@ fn run_chunks<R: ScriptRead, W: ScriptWrite>(
     reader: &mut R,
     writer: &mut W,
     settings: &Settings,
+    databases: Databases,
     chunk: &mut [u8],
 ) -> Result<bool, ScriptFault>
+    requires none { databases ≡ no_databases (program_of settings.now) }
     requires room { 0 < length chunk.old }
     requires most { length chunk.old ≤ 65536 }
     // What is written is the answers to the lines of what was read, to its end.
     ensures answers { IfOk result (λ clean. (input : List ℕ) × (text : List ℕ) × Gives (R.left reader.old) input
-        × Appends (W.held writer.old) (W.held writer.new) text × IsAnswered input clean text) }
+        × Appends (W.held writer.old) (W.held writer.new) text × IsAnswered (program_of settings.now) input clean text) }
     ensures end { OnOk result (IsAtEnd (R.left reader.new)) }
     ensures counted { OnOk result ((R.failures reader.new ≡ R.failures reader.old)
         × (W.failures writer.new ≡ W.failures writer.old)) }
     // After a fault it is a beginning of such answers, and the device that is named has failed.
     ensures fault { IfErr result (λ fault. (input : List ℕ) × (text : List ℕ) × Gives (R.left reader.old) input
-        × Appends (W.held writer.old) (W.held writer.new) text × IsAnsweredSoFar input text
+        × Appends (W.held writer.old) (W.held writer.new) text × IsAnsweredSoFar (program_of settings.now) input text
         × IsFaultOf fault input (R.failures reader.old) (R.failures reader.new)
         (W.failures writer.old) (W.failures writer.new)) }
 {
     let mut script = Script {
-        databases: Databases::new(alloc, settings.seed),
+        databases,
         begun: Vec::new(alloc),
         number: 1,
         clean: true,
@@ -232,8 +236,6 @@ fn run_chunks<R: ScriptRead, W: ScriptWrite>(
 /// Where memory is wanting within a line, the line is answered as refused and the script goes on. `Read` and `Write`
 /// come only where that device failed in this call, but that `Read` also comes in the place of a further read after
 /// 4,294,967,295 reads, each of at most 65,536 bytes. `Memory` comes only while a line is read in.
-///
-/// The seed is looked at; the other settings are for commands that are not there yet.
 #[tactic(none)]
 pub fn run_script<H: AllocGlobal, R: ScriptRead, W: ScriptWrite>(
     rt: &H,
@@ -243,13 +245,13 @@ pub fn run_script<H: AllocGlobal, R: ScriptRead, W: ScriptWrite>(
 ) -> Result<bool, ScriptFault>
     // What is written is the answers to the lines of what was read, to its end.
     ensures answers { IfOk result (λ clean. (input : List ℕ) × (text : List ℕ) × Gives (R.left reader.old) input
-        × Appends (W.held writer.old) (W.held writer.new) text × IsAnswered input clean text) }
+        × Appends (W.held writer.old) (W.held writer.new) text × IsAnswered (program_of settings.now) input clean text) }
     ensures end { OnOk result (IsAtEnd (R.left reader.new)) }
     ensures counted { OnOk result ((R.failures reader.new ≡ R.failures reader.old)
         × (W.failures writer.new ≡ W.failures writer.old)) }
     // After a fault it is a beginning of such answers, and the device that is named has failed.
     ensures fault { IfErr result (λ fault. (input : List ℕ) × (text : List ℕ) × Gives (R.left reader.old) input
-        × Appends (W.held writer.old) (W.held writer.new) text × IsAnsweredSoFar input text
+        × Appends (W.held writer.old) (W.held writer.new) text × IsAnsweredSoFar (program_of settings.now) input text
         × IsFaultOf fault input (R.failures reader.old) (R.failures reader.new)
         (W.failures writer.old) (W.failures writer.new)) }
 {
@@ -257,5 +259,15 @@ pub fn run_script<H: AllocGlobal, R: ScriptRead, W: ScriptWrite>(
     let Ok(mut chunk) = zeros(alloc, CHUNK) else {
         return Err(ScriptFault::Memory);
     };
-    run_chunks(alloc, reader, writer, settings, chunk.as_mut_slice())
+    let Ok(databases) = Databases::new(alloc, settings) else {
+        return Err(ScriptFault::Memory);
+    };
+    run_chunks(
+        alloc,
+        reader,
+        writer,
+        settings,
+        databases,
+        chunk.as_mut_slice(),
+    )
 }

@@ -17,6 +17,7 @@ use crate::document::{find_document, written_text};
 use crate::given::{read_edit, read_id, read_rev};
 use crate::loading::serve_load;
 use crate::refusal::Refusal;
+use crate::replication::{serve_audit, serve_log};
 use crate::reply::{edited_text, refusal_text, shown_text};
 use serde_json::Value;
 use std::alloc::Global;
@@ -98,6 +99,12 @@ fn serve(
         Command::Show { db, id } => serve_show(alloc, databases, db, id),
         Command::Doc { db, id, rev } => serve_doc(alloc, databases, db, id, rev),
         Command::Changes { db, since } => serve_changes(alloc, databases, db, since),
+        Command::Log {
+            source,
+            target,
+            side,
+        } => serve_log(alloc, databases, source, target, side),
+        Command::Audit { source, target } => serve_audit(alloc, databases, source, target),
     }
 }
 
@@ -138,14 +145,14 @@ fn serve_show(alloc: Global, databases: &Databases, db: &str, id: &str) -> Resul
     ensures told { IfOk result (λ text. Tells databases.now (ask_show db.now id.now) text.items databases.now) }
     ensures refused { IfErr result (λ why. RefusesAsk databases.now (ask_show db.now id.now) why databases.now) }
 {
-    let Some(local) = databases.find(db) else {
+    let Some(peer) = databases.find(db) else {
         return Err(Refusal::NoDatabase);
     };
     let id = match read_id(alloc, id) {
         Ok(id) => id,
         Err(refusal) => return Err(refusal),
     };
-    let Some(tree) = local.database().tree(&id) else {
+    let Some(tree) = peer.db().tree(&id) else {
         return Err(Refusal::NoSuchDocument);
     };
     match shown_text(alloc, id.text(), tree) {
@@ -167,7 +174,7 @@ fn serve_doc(
     ensures refused { IfErr result (λ why. RefusesAsk databases.now
         (ask_doc db.now id.now (option_copied rev.entry)) why databases.now) }
 {
-    let Some(local) = databases.find(db) else {
+    let Some(peer) = databases.find(db) else {
         return Err(Refusal::NoDatabase);
     };
     let id = match read_id(alloc, id) {
@@ -178,7 +185,7 @@ fn serve_doc(
         Ok(rev) => rev,
         Err(refusal) => return Err(refusal),
     };
-    let Some(tree) = local.database().tree(&id) else {
+    let Some(tree) = peer.db().tree(&id) else {
         return Err(Refusal::NoSuchDocument);
     };
     let document = match find_document(alloc, &id, tree, rev) {
@@ -201,10 +208,10 @@ fn serve_changes(
     ensures told { IfOk result (λ text. Tells databases.now (ask_changes db.now since) text.items databases.now) }
     ensures refused { IfErr result (λ why. RefusesAsk databases.now (ask_changes db.now since) why databases.now) }
 {
-    let Some(local) = databases.find(db) else {
+    let Some(peer) = databases.find(db) else {
         return Err(Refusal::NoDatabase);
     };
-    match listed_text(alloc, local.database(), since) {
+    match listed_text(alloc, peer.db(), since) {
         Ok(text) => Ok(text),
         Err(_) => Err(Refusal::Memory),
     }

@@ -1,6 +1,7 @@
 //! Scripts that run over memory and over devices that fail.
 ghost use Rattle.std.specs.Prelude.{IfOk};
 ghost use Rattle.couch_replicate.specs.Script.{IsAnswered};
+ghost use Rattle.couch_replicate.specs.Tables.{program_of};
 
 use crate::device::{OverRead, OverWrite, ScriptRead, ScriptWrite};
 use crate::made_ids::MadeIds;
@@ -11,15 +12,24 @@ use std::io::ErrorKind;
 use std::test::Fail;
 
 /// Runs a script over memory.
-fn run_text(rt: &HostRuntime, input: &[u8]) -> Result<(bool, Vec<u8>), ScriptFault>
-    ensures { IfOk result (λ ran. IsAnswered input.now ran.0 ran.1.items) }
+fn run_with(
+    rt: &HostRuntime,
+    settings: &Settings,
+    input: &[u8],
+) -> Result<(bool, Vec<u8>), ScriptFault>
+    ensures { IfOk result (λ ran. IsAnswered (program_of settings.now) input.now ran.0 ran.1.items) }
 {
     let mut reader = OverRead::new(input);
     let mut writer = OverWrite::new(Vec::new(rt.alloc()));
-    match run_script(rt, &mut reader, &mut writer, &Settings::new()) {
+    match run_script(rt, &mut reader, &mut writer, settings) {
         Ok(clean) => Ok((clean, writer.into_inner())),
         Err(fault) => Err(fault),
     }
+}
+
+/// Runs a script over memory, of a program without options.
+fn run_text(rt: &HostRuntime, input: &[u8]) -> Result<(bool, Vec<u8>), ScriptFault> {
+    run_with(rt, &Settings::new(), input)
 }
 
 const CONFLICT: &str = concat!(

@@ -8,8 +8,8 @@ use Rattle.couch_replicate.proofs.script.run_chunks.Goals as goal
 
 pub loop-turn-init : goal.loop-turn-init
 loop-turn-init g c = record {
-  ran = Ran-none _ _ _ (place_equal _ _ c.new.ensures c.new-2.ensures.items);
-  begun = ap has_line_end c.new-2.ensures.items;
+  ran = Ran-none _ _ _ (place_equal _ _ _ c.requires.none c.new.ensures.items);
+  begun = ap has_line_end c.new.ensures.items;
   reader = refl;
   writer = refl;
 }

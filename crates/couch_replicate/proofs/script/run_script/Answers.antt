@@ -7,6 +7,14 @@ returns-in_default-clause-fault g c =
     let s = SoFar-none (g.R.ScriptRead.left c.args.reader.now) (g.W.ScriptWrite.held c.args.writer.now) in
     (s.input, s.text, s.gives, s.written, s.answered, (refl, refl))
 
+pub returns-in_default-new-clause-fault : goal.returns-in_default-new-clause-fault
+returns-in_default-new-clause-fault g c =
+    let s = SoFar-none (g.R.ScriptRead.left c.args.reader.now) (g.W.ScriptWrite.held c.args.writer.now) in
+    (s.input, s.text, s.gives, s.written, s.answered, (refl, refl))
+
+pub run_chunks-requires-clause-none : goal.run_chunks-requires-clause-none
+run_chunks-requires-clause-none g c = c.in-Ok-new.ensures
+
 pub run_chunks-requires-clause-room : goal.run_chunks-requires-clause-room
 run_chunks-requires-clause-room g c = omega (arith, ap length c.as_mut_slice.ensures.value, c.in-Ok.ensures)
 

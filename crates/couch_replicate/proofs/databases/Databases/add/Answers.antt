@@ -1,20 +1,12 @@
-use Rattle.std.proofs.Common.{◌≡◌, string_bytes, ap, ◌∙◌}
-use Rattle.std.specs.FinMap.{get, insert}
-use Rattle.couch_replicate.specs.Tables.{state_of}
-use Rattle.couch_replicate.proofs.IndexLemmas.{index_added}
-use Rattle.couch_replicate.proofs.TableLemmas.{written}
+use Rattle.std.proofs.Common.{refl, ap, sym, ◌∙◌}
+use Rattle.couch_replicate.specs.Databases.{peer_at, with_peer}
+use Rattle.couch_replicate.specs.Tables.{program_of, state_of, deny_of}
+use Rattle.couch_replicate.proofs.IndexLemmas.{kept_or_added, state_with}
 use Rattle.couch_replicate.proofs.databases.Databases.add.Goals as goal
 
--- the table has one more
-more : (c : goal.Joined-branch-5) → state_of c.insert-2.new.self.entries ≡ insert (state_of c.self.inside.by_name.entries) c.args.name.now c.args.database
-more c =
-    written (λ l. l) c.reserve.new.self c.insert-2.new.self (string_bytes c.in_ok-key.key) c.args.name.now c.args.database c.in_ok-key.ensures.ok c.in_ok-insert-2.ensures.updates
-    ∙ ap (λ es. insert (state_of es) c.args.name.now c.args.database) c.in_ok-reserve.ensures.entries
-
-pub invariant_of-self-2 : goal.invariant_of-self-2
-invariant_of-self-2 c =
-    index_added (state_of c.self.inside.by_name.entries) (state_of c.insert-2.new.self.entries) c.args.name.now c.args.database c.self.inside.uuids.keys c.insert.new.self.keys c.uuid-uuid.result c.self.invariant
-    (ap (λ s. get s c.args.name.now) c.self.view_is ∙ c.requires) (more c) (c.uuid-uuid.ensures ∙ ap (λ d. d.uuid) c.database-2.ensures) c.in_ok-insert.ensures.updates.0
-
-pub returns-clause-ok : goal.returns-clause-ok
-returns-clause-ok c = more c ∙ ap (λ s. insert s c.args.name.now c.args.database) c.self.view_is
+pub invariant_of-self : goal.invariant_of-self
+invariant_of-self c =
+    let g = program_of c.self.inside.settings in
+    kept_or_added c.add_at.result g c.self.inside.by_name.entries c.add_at.new.names.entries c.args.name.now c.args.peer c.self.inside.uuids.keys c.add_at.new.uuids.keys c.self.invariant.0 c.self.invariant.1
+    (ap (λ s. peer_at s c.args.name.now) c.self.view_is ∙ c.requires.absent) (c.requires.filter ∙ ap (λ s. s.program.deny) (sym c.self.view_is))
+    c.add_at.ensures.peers c.add_at.ensures.filters c.add_at.ensures.uuids c.add_at.ensures.err
