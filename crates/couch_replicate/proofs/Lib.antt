@@ -9,3 +9,5 @@ pub mod ServedLemmas
 pub mod RunLemmas
 pub mod ServeLemmas
 pub mod AnswersLemmas
+pub mod UuidLemmas
+pub mod ReplicationLemmas

@@ -7,6 +7,7 @@ pub mod Command
 pub mod Databases
 pub mod MadeIds
 pub mod Reply
+pub mod Replicating
 pub mod Answers
 pub mod Script
 pub mod Serving

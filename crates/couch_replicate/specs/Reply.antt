@@ -12,7 +12,10 @@ use Rattle.rev_tree.specs.Tree.{TreeValue, leaves, ancestors, is_deleted}
 use Rattle.doc_json.specs.Document.{Document}
 use Rattle.doc_json.specs.DocText.{doc_text}
 use Rattle.couch_base.specs.Feed.{RowValue}
+use Rattle.rev_tree.specs.declared.origin.SessionId.{SessionId}
+use Rattle.repl_log.specs.Text.{id_digits}
 use Rattle.repl_target.specs.Covered.{Leaf}
+use Rattle.repl_target.specs.declared.fault.Report.{Report}
 use Rattle.couch_replicate.specs.declared.refusal.Refusal.{Refusal}
 use Rattle.couch_replicate.specs.declared.refusal.Refusal.TheVariants as why
 
@@ -31,6 +34,9 @@ pub data Reply : Type 0 where
   logged : (text : List ℕ) → Reply
   clean : Reply
   hole : (leaf : Leaf) → Reply
+  replicated : (report : Report) → Reply
+  -- by its plan, with all done up to a sequence below the goal
+  stopped : (session : SessionId) (low_water : ℕ) → Reply
   refused : Refusal → Reply
 
 abbrev pub is_refusal : Reply → Bool
@@ -46,6 +52,8 @@ is_refusal (listed rows last) = false
 is_refusal (logged text) = false
 is_refusal clean = false
 is_refusal (hole leaf) = false
+is_refusal (replicated report) = false
+is_refusal (stopped session low_water) = false
 is_refusal (refused refusal) = true
 
 abbrev pub name_of : Refusal → List ℕ
@@ -78,6 +86,20 @@ name_of why.GoalAhead = codes "GoalAhead"
 name_of why.BadMoment = codes "BadMoment"
 name_of why.EmptyLog = codes "EmptyLog"
 name_of why.Older = codes "Older"
+name_of why.SessionExists = codes "SessionExists"
+name_of why.NoSuchBase = codes "NoSuchBase"
+name_of why.StartAboveBase = codes "StartAboveBase"
+name_of why.GoalBelowStart = codes "GoalBelowStart"
+name_of why.NoSuchSession = codes "NoSuchSession"
+name_of why.Gap = codes "Gap"
+name_of why.PastGoal = codes "PastGoal"
+name_of why.ForeignParcel = codes "ForeignParcel"
+name_of why.AlreadyDone = codes "AlreadyDone"
+name_of why.CountFull = codes "CountFull"
+name_of why.Stopped = codes "Stopped"
+name_of why.Uncovered = codes "Uncovered"
+name_of why.BadBatch = codes "BadBatch"
+name_of why.SamePeer = codes "SamePeer"
 name_of why.Memory = codes "Memory"
 
 -- ---- parts of answers
@@ -113,6 +135,15 @@ leaf_line tree leaf = ended (codes "leaf " ++ rev_text leaf ++ (if is_deleted tr
 abbrev pub row_line : RowValue → List ℕ
 row_line r = ended (codes "change " ++ decimal r.seq ++ codes " " ++ quoted r.id ++ codes " " ++ texts_of_revs r.leaves)
 
+-- ---- the answer to `replicate`
+
+-- what a session did
+abbrev pub report_line : Report → List ℕ
+report_line r =
+    ended (codes "session " ++ id_digits r.session.0 ++ codes " from " ++ decimal r.start ++ codes " to " ++ decimal r.recorded
+    ++ codes " checked " ++ decimal r.checked ++ codes " found " ++ decimal r.found
+    ++ codes " read " ++ decimal r.read ++ codes " written " ++ decimal r.written ++ codes " failed " ++ decimal r.failures)
+
 -- ---- answers
 
 -- the answer to the line of that number
@@ -129,4 +160,6 @@ reply_text n (listed rows last) = flat_map row_line rows ++ ended (codes "last "
 reply_text n (logged text) = ended text
 reply_text n clean = codes "clean\n"
 reply_text n (hole leaf) = ended (codes "hole " ++ decimal leaf.seq ++ codes " " ++ quoted leaf.id ++ codes " " ++ rev_text leaf.rev)
+reply_text n (replicated report) = report_line report
+reply_text n (stopped session low_water) = ended (codes "stopped " ++ id_digits session.0 ++ codes " at " ++ decimal low_water)
 reply_text n (refused refusal) = ended (codes "refused " ++ decimal n ++ codes " " ++ name_of refusal)

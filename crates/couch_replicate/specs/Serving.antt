@@ -46,3 +46,8 @@ IsRefusalText n why text = (text ≡ reply_text n (refused why)) ⊎ (text ≡ r
 abbrev pub TextUnlessMemory : Result (Vec ℕ Global) Refusal → Result Reply Refusal → Type 0
 TextUnlessMemory (Ok text) expected = (reply : Reply) × (expected ≡ Ok reply) × (is_refusal reply ≡ false) × ((n : ℕ) → text.items ≡ reply_text n reply)
 TextUnlessMemory (Err why) expected = (expected ≡ Err why) ⊎ (why ≡ Memory)
+
+-- the text of a reply, or its refusal, unless memory ran out
+abbrev pub TextOf : Result (Vec ℕ Global) Refusal → Reply → Type 0
+TextOf (Ok text) reply = (is_refusal reply ≡ false) × ((n : ℕ) → text.items ≡ reply_text n reply)
+TextOf (Err why) reply = (reply ≡ refused why) ⊎ (why ≡ Memory)

@@ -18,6 +18,8 @@ mod named;
 mod program;
 mod refusal;
 mod replication;
+#[cfg(test)]
+mod replication_tests;
 mod reply;
 mod script;
 mod serve;

@@ -2,12 +2,14 @@
 ghost use Rattle.std.specs.Prelude.{◌≡◌, ◌++◌, ℕ, IfOk, Some, string_bytes};
 ghost use Rattle.rev_core.specs.Text.{rev_text};
 ghost use Rattle.rev_tree.specs.Tree.{is_deleted};
-ghost use Rattle.couch_replicate.specs.Reply.{clean, edited, hole, leaf_line, loaded, made, quoted, refused, reply_text, same, shown, shown_head, texts_of_revs, there};
+ghost use Rattle.repl_log.specs.Text.{id_digits};
+ghost use Rattle.couch_replicate.specs.Reply.{clean, edited, hole, leaf_line, loaded, made, quoted, refused, replicated, reply_text, same, shown, shown_head, stopped, texts_of_revs, there};
 
 use crate::databases::Edited;
 use crate::refusal::Refusal;
+use repl_target::Report;
 use rev_core::Rev;
-use rev_tree::Tree;
+use rev_tree::{SessionId, Tree};
 use serde_json::Value;
 use std::alloc::{AllocError, Global};
 
@@ -76,6 +78,48 @@ pub fn edited_text(alloc: Global, db: &str, id: &str, done: Edited) -> Result<Ve
     let end = format!(in alloc; " seq {seq}\n")?;
     text.extend_from_slice(end.as_bytes())?;
     Ok(text)
+}
+
+/// The answer to a `replicate` that came to its goal.
+pub fn replicated_text(alloc: Global, report: &Report) -> Result<Vec<u8>, AllocError>
+    ensures { IfOk result (λ text. (n : ℕ) → text.items ≡ reply_text n (replicated report.now)) }
+{
+    let Report {
+        session,
+        start,
+        recorded,
+        checked,
+        found,
+        read,
+        written,
+        failures,
+    } = *report;
+    let id = session_text(alloc, session)?;
+    let text = format!(in alloc;
+        "session {id} from {start} to {recorded} checked {checked} found {found} read {read} written {written} failed {failures}\n"
+    )?;
+    Ok(text.into_bytes())
+}
+
+/// The answer to a `replicate` that its plan stopped.
+pub fn stopped_text(
+    alloc: Global,
+    session: SessionId,
+    low_water: u64,
+) -> Result<Vec<u8>, AllocError>
+    ensures { IfOk result (λ text. (n : ℕ) → text.items ≡ reply_text n (stopped session low_water)) }
+{
+    let id = session_text(alloc, session)?;
+    let text = format!(in alloc; "stopped {id} at {low_water}\n")?;
+    Ok(text.into_bytes())
+}
+
+/// The 32 lower case hexadecimal digits of a session's id.
+#[tactic(auto, unfolding(repl_log::specs::Text::id_digits))]
+fn session_text(alloc: Global, session: SessionId) -> Result<String, AllocError>
+    ensures { IfOk result (λ text. string_bytes text ≡ id_digits session.0) }
+{
+    hex::encode(alloc, session.0.to_be_bytes())
 }
 
 /// The answer to an `audit` that finds no hole.

@@ -17,7 +17,7 @@ use crate::document::{find_document, written_text};
 use crate::given::{read_edit, read_id, read_rev};
 use crate::loading::serve_load;
 use crate::refusal::Refusal;
-use crate::replication::{serve_audit, serve_log};
+use crate::replication::{serve_audit, serve_log, serve_replicate};
 use crate::reply::{edited_text, refusal_text, shown_text};
 use serde_json::Value;
 use std::alloc::Global;
@@ -105,6 +105,11 @@ fn serve(
             side,
         } => serve_log(alloc, databases, source, target, side),
         Command::Audit { source, target } => serve_audit(alloc, databases, source, target),
+        Command::Replicate {
+            source,
+            target,
+            options,
+        } => serve_replicate(alloc, databases, source, target, options),
     }
 }
 

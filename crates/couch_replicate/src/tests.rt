@@ -12,7 +12,7 @@ use std::io::ErrorKind;
 use std::test::Fail;
 
 /// Runs a script over memory.
-fn run_with(
+pub fn run_with(
     rt: &HostRuntime,
     settings: &Settings,
     input: &[u8],
@@ -328,7 +328,7 @@ fn answers_scripts(rt: HostRuntime) -> Result<(), Fail> {
 }
 
 /// Whether a line of answers is a refusal.
-fn has_refusal(text: &[u8]) -> bool {
+pub fn has_refusal(text: &[u8]) -> bool {
     for i in 0..text.len() {
         if text[i..].starts_with(b"refused ") {
             return true;
@@ -355,7 +355,7 @@ const LINES: &[(&str, &str)] = &[
     (r#"{"do":1,"db":"a"}"#, r#"refused 1 BadCommand"#),
     (
         r#"{"do":"replicate","source":"a","target":"b"}"#,
-        r#"refused 1 BadCommand"#,
+        r#"refused 1 NoDatabase"#,
     ),
     (r#"{"do":"load"}"#, r#"refused 1 BadCommand"#),
     (r#"{"do":"load","db":""}"#, r#"refused 1 BadCommand"#),
