@@ -26,6 +26,8 @@ mod serve;
 mod settings;
 #[cfg(test)]
 mod tests;
+#[cfg(test)]
+mod tours;
 
 use std::process::ExitCode;
 

@@ -7,6 +7,7 @@ use crate::device::{OverRead, OverWrite, ScriptRead, ScriptWrite};
 use crate::made_ids::MadeIds;
 use crate::script::{ScriptFault, run_script};
 use crate::settings::Settings;
+use crate::tours::TOURS;
 use std::io;
 use std::io::ErrorKind;
 use std::test::Fail;
@@ -57,42 +58,13 @@ fn conflict_shown(rt: HostRuntime) -> Result<(), Fail> {
     Ok(())
 }
 
-/// The first tour: docs/tour/script, with docs/tour/answers.
-const TOUR: (&str, &str) = (
-    r#"{"do":"load","db":"notes"}
-{"do":"edit","db":"notes","id":"shopping","body":{"buy":"bread"}}
-{"do":"edit","db":"notes","id":"shopping","parent":"1-0dec81e4c3adb472d3ea9423cd42bd50","body":{"buy":"bread and milk"}}
-{"do":"doc","db":"notes","id":"shopping"}
-{"do":"load","db":"notes","doc":{"_id":"shopping","_rev":"2-phone","_revisions":{"start":2,"ids":["phone","0dec81e4c3adb472d3ea9423cd42bd50"]},"buy":"eggs"}}
-{"do":"show","db":"notes","id":"shopping"}
-{"do":"doc","db":"notes","id":"shopping"}
-{"do":"edit","db":"notes","id":"shopping","parent":"2-phone","deleted":true}
-{"do":"show","db":"notes","id":"shopping"}
-{"do":"changes","db":"notes"}
-"#,
-    r#"made notes
-edited notes "shopping" 1-0dec81e4c3adb472d3ea9423cd42bd50 seq 1
-edited notes "shopping" 2-454d739bf6b0b81d907d3701416abea6 seq 2
-{"_id":"shopping","_rev":"2-454d739bf6b0b81d907d3701416abea6","_revisions":{"start":2,"ids":["454d739bf6b0b81d907d3701416abea6","0dec81e4c3adb472d3ea9423cd42bd50"]},"buy":"bread and milk"}
-loaded notes "shopping" 2-phone seq 3
-doc "shopping" winner 2-phone leaves 2 revs 3
-leaf 2-phone live 2-phone,1-0dec81e4c3adb472d3ea9423cd42bd50
-leaf 2-454d739bf6b0b81d907d3701416abea6 live 2-454d739bf6b0b81d907d3701416abea6,1-0dec81e4c3adb472d3ea9423cd42bd50
-{"_id":"shopping","_rev":"2-phone","_revisions":{"start":2,"ids":["phone","0dec81e4c3adb472d3ea9423cd42bd50"]},"buy":"eggs"}
-edited notes "shopping" 3-d943ada8b0f36e6494fa5aab460115de seq 4
-doc "shopping" winner 2-454d739bf6b0b81d907d3701416abea6 leaves 2 revs 4
-leaf 2-454d739bf6b0b81d907d3701416abea6 live 2-454d739bf6b0b81d907d3701416abea6,1-0dec81e4c3adb472d3ea9423cd42bd50
-leaf 3-d943ada8b0f36e6494fa5aab460115de deleted 3-d943ada8b0f36e6494fa5aab460115de,2-phone,1-0dec81e4c3adb472d3ea9423cd42bd50
-change 4 "shopping" 2-454d739bf6b0b81d907d3701416abea6,3-d943ada8b0f36e6494fa5aab460115de
-last 4
-"#,
-);
-
 #[test]
-fn first_tour(rt: HostRuntime) -> Result<(), Fail> {
-    let (clean, text) = run_text(&rt, TOUR.0.as_bytes())?;
-    assert!(rt; clean);
-    assert_eq!(rt; text.as_slice(), TOUR.1.as_bytes());
+fn tours(rt: HostRuntime) -> Result<(), Fail> {
+    for (name, input, answers) in TOURS {
+        let (clean, text) = run_text(&rt, input.as_bytes())?;
+        assert_eq!(rt; text.as_slice(), answers.as_bytes(), "{name}");
+        assert!(rt; clean);
+    }
     Ok(())
 }
 
