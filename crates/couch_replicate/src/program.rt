@@ -40,9 +40,18 @@ const SCRIPT_HELP: &str =
   {\"do\":\"changes\",\"db\":\"a\",\"since\":1}
       lists the documents that changed after a sequence (0 without `since`), each with its
       latest change and its leaves, and the update sequence
+  {\"do\":\"replicate\",\"source\":\"a\",\"target\":\"b\"}
+      carries to `b` what it misses of `a`, from where their logs agree; \"session\" gives the
+      session's UUID, else one is made; \"batch\" and \"at\" stand in the place of the options,
+      and \"stop_after\":1 stops after one window
+  {\"do\":\"log\",\"source\":\"a\",\"target\":\"b\",\"side\":\"source\"}
+      prints what a side, `source` or `target`, keeps of the replications from `a` to `b`
+  {\"do\":\"audit\",\"source\":\"a\",\"target\":\"b\"}
+      tells whether `b` has, or has refused, all that both logs say was carried: `clean`, or
+      the first revision that is missing
 
 Blank lines are passed over. A line that is refused is answered with `refused LINE NAME`,
-and changes nothing.
+and changes nothing; but what a replication has carried before it was refused stays.
 
 Exit status: 0; 1 where a line was refused; 2 for a bad command line; 3 where reading,
 writing or memory failed.";
