@@ -300,7 +300,7 @@ fn answers_scripts(rt: HostRuntime) -> Result<(), Fail> {
 }
 
 /// Whether a line of answers is a refusal.
-pub fn has_refusal(text: &[u8]) -> bool {
+pub(crate) fn has_refusal(text: &[u8]) -> bool {
     for i in 0..text.len() {
         if text[i..].starts_with(b"refused ") {
             return true;
