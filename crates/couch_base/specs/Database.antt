@@ -1,5 +1,5 @@
 -- Databases: docs/PROFILE.md, "Sequences" and "Changes feed".
-use Rattle.std.specs.Prelude.{◌≡◌, ℕ, ◌+◌, ◌-◌, ◌^◌, ◌<◌, ◌≤◌, List, [], ◌∷◌, ◌++◌, map, filter, length, not, Option, Some, None, unwrap_or, if◌then◌else◌, refl}
+use Rattle.std.specs.Prelude.{◌≡◌, ℕ, ◌+◌, ◌-◌, ◌^◌, ◌<◌, ◌≤◌, List, [], ◌∷◌, ◌++◌, map, filter, length, not, nat_le, Option, Some, None, unwrap_or, Result, Ok, Err, if◌then◌else◌, refl}
 use Rattle.std.specs.List.{AllByRecursion}
 use Rattle.std.specs.Str.{bytes_eq}
 use Rattle.std.specs.Coded.{Coded, code_by, coded×, coded_ℕ, coded_list}
@@ -9,6 +9,8 @@ use Rattle.rev_tree.specs.Content.{ContentValue}
 use Rattle.rev_tree.specs.Tree.{TreeValue, IsTree, coded_tree, no_revisions, leaves}
 use Rattle.doc_json.specs.Body.{IsBody}
 use Rattle.couch_base.specs.Lists.{Rises, EachOnce}
+use Rattle.couch_base.specs.declared.fault.BaseFault.{BaseFault}
+use Rattle.couch_base.specs.declared.fault.BaseFault.TheVariants as faults
 
 -- the bytes of a document's id
 abbrev pub Id : Type 0
@@ -36,8 +38,17 @@ coded_database = code_by (ℕ × (ℕ × List DocumentValue)) (coded× coded_ℕ
 abbrev pub most : ℕ
 most = 2 ^ 53 - 1
 
+-- a database without documents, whose next change takes the sequence after this one
+abbrev pub no_documents_at : ℕ → ℕ → DatabaseValue
+no_documents_at uuid seq = record { uuid = uuid; update_seq = seq; docs = [] }
+
+-- a new one has no change behind it
 abbrev pub no_documents : ℕ → DatabaseValue
-no_documents uuid = record { uuid = uuid; update_seq = 0; docs = [] }
+no_documents uuid = no_documents_at uuid 0
+
+-- there is one at each sequence
+abbrev pub new_at_answer : ℕ → ℕ → Result DatabaseValue BaseFault
+new_at_answer uuid seq = if nat_le seq most then Ok (no_documents_at uuid seq) else Err faults.SeqTooLarge
 
 -- the tree of a document, where it is there
 abbrev pub tree_in : List DocumentValue → Id → Option TreeValue

@@ -50,25 +50,8 @@ impl Model for Database {
     ghost invariant = { λ a. IsTable (found a.docs.entries) a.index.entries a.update_seq };
 }
 
-#[cfg(test)]
 impl Database {
-    ghost use Rattle.couch_base.specs.Database.{no_documents, most};
-
-    /// A database of no documents at a sequence, which no test reaches by puts.
-    pub(crate) fn empty_at(alloc: Global, update_seq: u64) -> Database
-        requires { update_seq ≤ most }
-    {
-        Database {
-            uuid: 0,
-            update_seq,
-            docs: IndexMap::new(alloc),
-            index: BTreeMap::new(alloc),
-        }
-    }
-}
-
-impl Database {
-    ghost use Rattle.couch_base.specs.Database.{LawfulDatabase, IsDocumentTree, no_documents, tree_in, tree_of, with_tree, most};
+    ghost use Rattle.couch_base.specs.Database.{LawfulDatabase, IsDocumentTree, no_documents, new_at_answer, tree_in, tree_of, with_tree, most};
     ghost use Rattle.doc_json.specs.Body.{IsBody};
     ghost use Rattle.couch_base.specs.Put.{put_answer, after_put};
     ghost use Rattle.couch_base.specs.Edit.{parent_answer, edit_answer, after_edit, EditGives};
@@ -88,6 +71,24 @@ impl Database {
             docs: IndexMap::new(alloc),
             index: BTreeMap::new(alloc),
         }
+    }
+
+    /// A database of no documents whose update sequence is `seq`, so that its first change takes the next one.
+    ///
+    /// `SeqTooLarge` where `seq` is above 9,007,199,254,740,991. It takes no memory.
+    pub fn new_at(alloc: Global, uuid: u128, seq: u64) -> Result<Database, BaseFault>
+        ensures answer { result ≡ new_at_answer uuid seq }
+        ensures law { IfOk result LawfulDatabase }
+    {
+        if seq > MOST {
+            return Err(BaseFault::SeqTooLarge);
+        }
+        Ok(Database {
+            uuid,
+            update_seq: seq,
+            docs: IndexMap::new(alloc),
+            index: BTreeMap::new(alloc),
+        })
     }
 
     /// The number of the database's UUID.

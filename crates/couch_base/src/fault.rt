@@ -21,6 +21,9 @@ pub enum BaseFault {
     /// The update sequence is the greatest one, 9,007,199,254,740,991.
     #[error("no sequence after 9007199254740991")]
     SeqFull,
+    /// A database is asked for whose update sequence is above the greatest one, 9,007,199,254,740,991.
+    #[error("an update sequence above 9007199254740991")]
+    SeqTooLarge,
     /// A page of no rows is asked for.
     #[error("a page has at least one row")]
     BadLimit,

@@ -23,6 +23,3 @@ pub use fault::{BaseFault, Put};
 pub use parcel::Parcel;
 pub use row::Row;
 pub use window::Window;
-
-#[cfg(test)]
-mod tests;
