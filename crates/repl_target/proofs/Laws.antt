@@ -19,7 +19,7 @@ use Rattle.range_front.specs.FrontLaws.{IsFront-no_windows, IsFront-appended, is
 use Rattle.repl_log.specs.declared.replication.RepId.{RepId}
 use Rattle.repl_target.specs.declared.fault.TargetFault.{TargetFault}
 use Rattle.repl_target.specs.declared.fault.TargetFault.TheVariants as faults
-use Rattle.repl_target.specs.Peer.{PeerValue, SessionValue, WrittenValue, new_peer, written_of, is_of, session_in, holds, same_rep}
+use Rattle.repl_target.specs.Peer.{PeerValue, SessionValue, WrittenValue, new_peer_at, written_of, is_of, session_in, holds, same_rep}
 use Rattle.repl_target.specs.Writing.{next_local, after_load, load_edited, after_edit}
 use Rattle.repl_target.specs.Sessions.{on_found, on_session, start_answer, base_in, on_base, base_answer, goal_answer, begin_answer, new_session, begun, after_begin, append_in, with_window, after_append, recorded_at, after_record, after_conclude}
 use Rattle.repl_target.specs.Law.{LawfulSession, Lawful, session_numbers}
@@ -29,9 +29,9 @@ use Rattle.repl_target.proofs.Keeping.{Keeps-same, IsLaterPeer-same, lawful-late
 
 -- ---- a peer as it begins
 
-pub new_law : (refuses : Document → Bool) (uuid : ℕ) → Lawful refuses (new_peer uuid)
+pub new_law : (refuses : Document → Bool) (uuid seq : ℕ) → Lawful refuses (new_peer_at uuid seq)
 unfolding IsDistinct
-new_law refuses uuid = record { sessions = λ s m. absurd m; based = tt; distinct = tt }
+new_law refuses uuid seq = record { sessions = λ s m. absurd m; based = tt; distinct = tt }
 
 -- ---- local writes
 

@@ -27,7 +27,7 @@ use Rattle.repl_log.specs.declared.replication.RepId.{RepId}
 use Rattle.repl_target.specs.declared.fault.Reason.{Reason}
 use Rattle.repl_target.specs.declared.fault.Settled.{Settled}
 use Rattle.repl_target.specs.declared.fault.TargetFault.{TargetFault}
-use Rattle.repl_target.specs.Peer.{PeerValue, SessionValue, new_peer, written_of, session_in, with_session}
+use Rattle.repl_target.specs.Peer.{PeerValue, SessionValue, new_peer_at, written_of, session_in, with_session}
 use Rattle.repl_target.specs.Covered.{covers_window, refusal_of}
 use Rattle.repl_target.specs.Writing.{next_local, after_load, load_edited, after_edit}
 use Rattle.repl_target.specs.Sessions.{on_found, begin_answer, new_session, begun, after_begin, after_append, after_record, after_conclude}
@@ -117,8 +117,8 @@ put_origin db d o p id r h =
 
 -- ---- local writes
 
-pub new_origins : (uuid : ℕ) → HasOrigins (new_peer uuid)
-new_origins uuid id r there = absurd (false≢true (sym (ap is_some (get-empty {X = Origin} rev_cmp r)) ∙ there))
+pub new_origins : (uuid seq : ℕ) → HasOrigins (new_peer_at uuid seq)
+new_origins uuid seq id r there = absurd (false≢true (sym (ap is_some (get-empty {X = Origin} rev_cmp r)) ∙ there))
 
 pub load_origins : (p : PeerValue) (d : Document) → HasOrigins p → HasOrigins (after_load p d)
 load_origins p d h = has_from (after_load p d) stands

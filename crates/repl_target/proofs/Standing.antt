@@ -15,7 +15,7 @@ use Rattle.couch_base.specs.declared.fault.BaseFault.{BaseFault}
 use Rattle.couch_base.specs.declared.fault.Put.{Put}
 use Rattle.range_front.specs.Front.{low_water}
 use Rattle.repl_log.specs.declared.replication.RepId.{RepId}
-use Rattle.repl_target.specs.Peer.{PeerValue, SessionValue, WrittenValue, new_peer, session_in, is_of}
+use Rattle.repl_target.specs.Peer.{PeerValue, SessionValue, WrittenValue, new_peer_at, session_in, is_of}
 use Rattle.repl_target.specs.Covered.{in_ledger}
 use Rattle.repl_target.specs.Writing.{next_local, after_load, after_edit, load_edited}
 use Rattle.repl_target.specs.Sessions.{GivesUnlessMemory, on_session, on_found, new_session, begin_answer, begun, after_begin, append_in, with_window, after_append, recorded_at, after_record, after_conclude}
@@ -68,9 +68,9 @@ pub on_session-changed : (p : PeerValue) (id : SessionId) (change : SessionValue
 on_session-changed p id change = found-changed p change (session_in p.sessions id)
 
 -- a peer as it begins
-pub Stands-new : (refuses : Document → Bool) (refusals : Refusals) (uuid : ℕ) (p : PeerValue) → p ≡ new_peer uuid → ((id : Id) (r : RevId) → is_refused refusals id r ≡ false) → Stands refuses refusals p
-Stands-new refuses refusals uuid p new none =
-    subst (Stands refuses refusals) (sym new) (record { law = new_law refuses uuid; origins = new_origins uuid; index = none })
+pub Stands-new : (refuses : Document → Bool) (refusals : Refusals) (uuid seq : ℕ) (p : PeerValue) → p ≡ new_peer_at uuid seq → ((id : Id) (r : RevId) → is_refused refusals id r ≡ false) → Stands refuses refusals p
+Stands-new refuses refusals uuid seq p new none =
+    subst (Stands refuses refusals) (sym new) (record { law = new_law refuses uuid seq; origins = new_origins uuid seq; index = none })
 
 module _ (refuses : Document → Bool) (refusals : Refusals) (p : PeerValue) (stands : Stands refuses refusals p) where
   stands-changed : (id : SessionId) (change : SessionValue → SessionValue) → KeepsLedger change → Lawful refuses (on_session p id change) → HasOrigins (on_session p id change) → Stands refuses refusals (on_session p id change)

@@ -1,11 +1,13 @@
 -- Peers and their sessions: docs/PROFILE.md, "Sessions of a peer".
-use Rattle.std.specs.Prelude.{ℕ, ◌==◌, Bool, ◌&&◌, if◌then◌else◌, List, [], map, Option}
+use Rattle.std.specs.Prelude.{ℕ, ◌==◌, Bool, ◌&&◌, nat_le, if◌then◌else◌, List, [], map, Option, Result, Ok, Err}
 use Rattle.std.specs.List.{find, list_any}
 use Rattle.rev_core.specs.Rev.{RevId}
 use Rattle.rev_tree.specs.declared.origin.SessionId.{SessionId}
 use Rattle.doc_json.specs.Document.{Document}
-use Rattle.couch_base.specs.Database.{Id, DatabaseValue, no_documents}
+use Rattle.couch_base.specs.Database.{Id, DatabaseValue, no_documents_at, most}
 use Rattle.couch_base.specs.Feed.{WindowValue}
+use Rattle.couch_base.specs.declared.fault.BaseFault.{BaseFault}
+use Rattle.couch_base.specs.declared.fault.BaseFault.TheVariants as base_faults
 use Rattle.range_front.specs.Front.{FrontValue}
 use Rattle.repl_log.specs.declared.replication.RepId.{RepId}
 use Rattle.repl_log.specs.Entry.{EntryValue}
@@ -49,9 +51,17 @@ pub record PeerValue : Type 0 where
   pub sessions : List SessionValue
   pub outgoing : List (RepId × List EntryValue)
 
--- a peer as it begins
+-- a peer as it begins, with a database of no documents at a sequence
+abbrev pub new_peer_at : ℕ → ℕ → PeerValue
+new_peer_at uuid seq = record { db = no_documents_at uuid seq; locals = []; sessions = []; outgoing = [] }
+
+-- a new one has no change behind it
 abbrev pub new_peer : ℕ → PeerValue
-new_peer uuid = record { db = no_documents uuid; locals = []; sessions = []; outgoing = [] }
+new_peer uuid = new_peer_at uuid 0
+
+-- there is one with its filter at each sequence
+abbrev pub new_at_answer : {F : Type 0} → F → ℕ → ℕ → Result (F × PeerValue) BaseFault
+new_at_answer filter uuid seq = if nat_le seq most then Ok (filter, new_peer_at uuid seq) else Err base_faults.SeqTooLarge
 
 abbrev pub written_of : Document → WrittenValue
 written_of d = record { id = d.id; ancestry = d.ancestry }

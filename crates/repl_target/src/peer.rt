@@ -64,12 +64,13 @@ impl<F: WriteFilter> Model for Peer<F> {
 
 impl<F: WriteFilter> Peer<F> {
     ghost use Rattle.couch_base.specs.Lists.{Among};
+    ghost use Rattle.couch_base.specs.Database.{no_documents_at};
     ghost use Rattle.couch_base.specs.Answers.{GivesUnlessMemory as BaseUnlessMemory};
     ghost use Rattle.couch_base.specs.Put.{put_answer};
     ghost use Rattle.couch_base.specs.Edit.{edit_answer};
     ghost use Rattle.couch_base.specs.Feed.{page_answer};
     ghost use Rattle.couch_base.specs.Messages.{revs_diff, open_revs};
-    ghost use Rattle.repl_target.specs.Peer.{SessionValue, new_peer, entry_of};
+    ghost use Rattle.repl_target.specs.Peer.{SessionValue, new_peer, new_peer_at, entry_of};
     ghost use Rattle.repl_target.specs.Covered.{covers, Honest};
     ghost use Rattle.repl_target.specs.Writing.{after_load, after_edit, BaseGives};
     ghost use Rattle.repl_target.specs.Sessions.{GivesUnlessMemory, session_answer, begin_answer, after_begin, append_answer, after_append, record_answer, after_record, conclude_answer, after_conclude};
@@ -85,9 +86,18 @@ impl<F: WriteFilter> Peer<F> {
         ensures value { result ≡ (filter, new_peer uuid) }
         ensures law { Lawful (F.refuses result.0) result.1 }
     {
+        Peer::without_sessions(alloc, Database::new(alloc, uuid), filter)
+    }
+
+    /// A peer with a database, which has no documents.
+    fn without_sessions(alloc: Global, db: Database, filter: F) -> Peer<F>
+        requires { db ≡ no_documents_at db.uuid db.update_seq }
+        ensures value { result ≡ (filter, new_peer_at db.uuid db.update_seq) }
+        ensures law { Lawful (F.refuses result.0) result.1 }
+    {
         Peer {
             filter,
-            db: Database::new(alloc, uuid),
+            db,
             locals: Vec::new(alloc),
             sessions: IndexMap::new(alloc),
             refusals: Refusals::new(alloc),
@@ -293,6 +303,22 @@ impl<F: WriteFilter> Peer<F> {
             Some(session) => Ok(session.entry(id)),
             None => Err(TargetFault::NoSuchSession),
         }
+    }
+}
+
+impl<F: WriteFilter + Drop> Peer<F> {
+    ghost use Rattle.repl_target.specs.Peer.{new_at_answer};
+    ghost use Rattle.repl_target.specs.Law.{Lawful};
+
+    /// A peer with a database of no documents whose update sequence is `seq`, so that its first change takes the next one.
+    ///
+    /// `SeqTooLarge` where `seq` is above 9,007,199,254,740,991. It takes no memory.
+    pub fn new_at(alloc: Global, uuid: u128, filter: F, seq: u64) -> Result<Peer<F>, BaseFault>
+        ensures answer { result ≡ new_at_answer filter uuid seq }
+        ensures law { IfOk result (λ p. Lawful (F.refuses p.0) p.1) }
+    {
+        let db = Database::new_at(alloc, uuid, seq)?;
+        Ok(Peer::without_sessions(alloc, db, filter))
     }
 }
 
