@@ -243,6 +243,43 @@ fn an_edit_that_is_there(rt: HostRuntime) {
 }
 
 #[test]
+fn at_the_last_sequences(rt: HostRuntime) {
+    let last = r#"{"_id":"d","_revisions":{"start":2,"ids":["b","a"]}}"#;
+    let other = r#"{"_id":"d","_revisions":{"start":2,"ids":["b","x"]}}"#;
+    let refused = "GoalAhead { update_seq: 9007199254740991 }";
+    Bench::new(&rt, rt.alloc(), &[]).run(
+        &rt,
+        &[
+            (Call::DatabaseAt(7, 9_007_199_254_740_992), "SeqTooLarge"),
+            (
+                Call::DatabaseAt(7, 18_446_744_073_709_551_615),
+                "SeqTooLarge",
+            ),
+            (Call::DatabaseAt(7, 9_007_199_254_740_990), "made"),
+            (Call::DatabaseAt(8, 9_007_199_254_740_991), "made"),
+            (Call::Numbers(A), "7 at 9007199254740990"),
+            (Call::Numbers(B), "8 at 9007199254740991"),
+            (Call::Tree(A, "d"), "no document"),
+            (Call::Put(A, last), "Changed { seq: 9007199254740991 }"),
+            // What changes nothing takes no sequence; a contradiction is told before the want of one.
+            (Call::Put(A, last), "Same"),
+            (Call::Put(A, other), "Contradiction 2-b,1-a,1-x"),
+            (Call::Put(A, r#"{"_id":"e","_rev":"1-a"}"#), "SeqFull"),
+            (Call::Put(B, last), "SeqFull"),
+            (Call::Edit(A, "d", "", false, "{}", 0), "Conflict"),
+            (Call::Edit(A, "d", "2-b", false, "{}", 0), "SeqFull"),
+            (Call::Edit(B, "d", "", false, "{}", 0), "SeqFull"),
+            (Call::Numbers(A), "7 at 9007199254740991"),
+            (
+                Call::Page(A, 9_007_199_254_740_990, 9_007_199_254_740_991, 2),
+                "9007199254740990 to 9007199254740991: 9007199254740991 d 2-b;",
+            ),
+            (Call::Page(A, 0, 9_007_199_254_740_992, 2), refused),
+        ],
+    );
+}
+
+#[test]
 fn fetch_both_leaves(rt: HostRuntime) {
     let mut bench = Bench::new(&rt, rt.alloc(), &[1, 2]);
     bench.run(&rt, &BOTH);

@@ -13,6 +13,8 @@ use std::process::Abort;
 /// A call on a database, which is named by its place, as windows, asked lists and parcels are.
 #[derive(Clone, Copy)]
 pub(crate) enum Call<'a> {
+    /// Makes the next database: its uuid, and its sequence.
+    DatabaseAt(u128, u64),
     /// Puts a document.
     Put(usize, &'a str),
     /// Edits a document: its id, the parent (an empty text for none), whether it is deleted, the body, and the number of
@@ -86,6 +88,7 @@ impl Bench {
     fn answer(&mut self, call: &Call) -> Option<String> {
         let alloc = self.alloc;
         match *call {
+            Call::DatabaseAt(uuid, seq) => self.make_at(uuid, seq),
             Call::Put(at, text) => put(alloc, self.databases.get_mut(at)?, text),
             Call::Edit(at, id, parent, deleted, text, number) => {
                 let db = self.databases.get_mut(at)?;
@@ -105,6 +108,17 @@ impl Bench {
                 asked_text(alloc, parcel.asked())
             }
             copy => self.copied(&copy),
+        }
+    }
+
+    /// Makes the next database, at a sequence.
+    fn make_at(&mut self, uuid: u128, seq: u64) -> Option<String> {
+        match Database::new_at(self.alloc, uuid, seq) {
+            Ok(db) => {
+                self.databases.push(db).ok()?;
+                "made".to_string(self.alloc).ok()
+            }
+            Err(fault) => base_fault_text(self.alloc, fault),
         }
     }
 

@@ -195,6 +195,53 @@ fn a_refused_descendant_covers(rt: HostRuntime) {
     );
 }
 
+/// A sequence that leaves room for one change.
+const LAST_BUT_ONE: u64 = 9_007_199_254_740_990;
+
+#[test]
+fn sequences_run_out(rt: HostRuntime) {
+    let fetched = "0 to 2: d 1-a live {}; e 1-a live {};";
+    let mut bench = Bench::new(rt.alloc());
+    bench.run(
+        &rt,
+        &[
+            (Call::Peer(1, None), "made"),
+            (Call::PeerAt(2, None, LAST_BUT_ONE + 2), "SeqTooLarge"),
+            (Call::PeerAt(2, None, LAST_BUT_ONE), "made"),
+            (Call::PeerAt(3, Some("e"), LAST_BUT_ONE), "made"),
+            (Call::Load(SOURCE, D), "Changed { seq: 1 }"),
+            (
+                Call::Load(SOURCE, r#"{"_id":"e","_rev":"1-a"}"#),
+                "Changed { seq: 2 }",
+            ),
+            (Call::Begin(TARGET, S1, whole(2), 10), "begun"),
+            (Call::Page(SOURCE, 0, 2), "0 to 2: 1 d 1-a; 2 e 1-a;"),
+            (Call::Append(TARGET, S1, FIRST), "appended"),
+            (Call::Diff(TARGET, FIRST), "0 to 2: d 1-a; e 1-a;"),
+            (Call::Fetch(SOURCE, FIRST), fetched),
+        ],
+    );
+    // The first document takes the last sequence, and the second one stays out; the first is an arrival once more.
+    let stopped = "Stopped 1, rest e, SeqFull";
+    let twice = "session 1 from 0 to 0 checked 0 found 0 read 2 written 2 failed 0, 10 to 11";
+    bench.run(
+        &rt,
+        &[
+            (Call::Settle(TARGET, S1, FIRST), stopped),
+            (Call::Numbers(TARGET), "2 at 9007199254740991"),
+            (Call::Record(TARGET, S1, 11), "0"),
+            (Call::Settle(TARGET, S1, FIRST), stopped),
+            (Call::Entry(TARGET, S1), twice),
+            (Call::Covered(TARGET, "e", "1-a"), "false"),
+            // A document that is refused takes no sequence.
+            (Call::Begin(OTHER, S1, whole(2), 10), "begun"),
+            (Call::Append(OTHER, S1, FIRST), "appended"),
+            (Call::Settle(OTHER, S1, FIRST), "written 1 failed 1"),
+            (Call::Record(OTHER, S1, 11), "2"),
+        ],
+    );
+}
+
 #[test]
 fn session_refusals(rt: HostRuntime) {
     let fetched = "0 to 2: a 1-a live {}; b 1-a live {};";

@@ -26,6 +26,8 @@ pub(crate) struct Beginning {
 pub(crate) enum Call<'a> {
     /// Makes the next peer: its uuid, and the prefix that its filter refuses.
     Peer(u128, Option<&'a str>),
+    /// Makes the next peer, with a database at a sequence.
+    PeerAt(u128, Option<&'a str>, u64),
     /// Loads a document.
     Load(usize, &'a str),
     /// Edits a document: its id, the parent (an empty text for none), whether it is deleted, and the body.
@@ -108,6 +110,7 @@ impl Bench {
     fn answer(&mut self, call: &Call) -> Option<String> {
         match *call {
             Call::Peer(uuid, deny) => self.make(uuid, deny),
+            Call::PeerAt(uuid, deny, seq) => self.make_at(uuid, deny, seq),
             Call::Page(at, since, goal) => self.page(at, since, goal),
             Call::Diff(at, window) => self.diff(at, window),
             Call::Fetch(at, asked) => self.fetch(at, asked),
@@ -171,14 +174,21 @@ impl Bench {
 
     /// Makes the next peer.
     fn make(&mut self, uuid: u128, deny: Option<&str>) -> Option<String> {
-        let deny = match deny {
-            Some(prefix) => Some(prefix.to_string(self.alloc).ok()?),
-            None => None,
-        };
-        self.peers
-            .push(Peer::new(self.alloc, uuid, Rules { deny }))
-            .ok()?;
+        let filter = rules(self.alloc, deny)?;
+        self.peers.push(Peer::new(self.alloc, uuid, filter)).ok()?;
         "made".to_string(self.alloc).ok()
+    }
+
+    /// Makes the next peer, with a database at a sequence.
+    fn make_at(&mut self, uuid: u128, deny: Option<&str>, seq: u64) -> Option<String> {
+        let filter = rules(self.alloc, deny)?;
+        match Peer::new_at(self.alloc, uuid, filter, seq) {
+            Ok(peer) => {
+                self.peers.push(peer).ok()?;
+                "made".to_string(self.alloc).ok()
+            }
+            Err(fault) => base_fault_text(self.alloc, fault),
+        }
     }
 
     /// Reads a page, which becomes the next window.
@@ -261,6 +271,16 @@ impl Bench {
             Ok(found) => audit_text(self.alloc, found),
             Err(fault) => fault_text(self.alloc, fault),
         }
+    }
+}
+
+/// The filter that refuses a prefix.
+fn rules(alloc: Global, deny: Option<&str>) -> Option<Rules> {
+    match deny {
+        Some(prefix) => Some(Rules {
+            deny: Some(prefix.to_string(alloc).ok()?),
+        }),
+        None => Some(Rules { deny: None }),
     }
 }
 
