@@ -1,5 +1,5 @@
 //! The worked rows of documents as calls with the texts of their answers, and each call once with ample memory.
-use crate::texts::{ancestry, revs_text, shown};
+use crate::texts::{ancestry, expect_answer, revs_text, shown};
 use doc_json::{Body, Doc, DocFault, DocId, read_body, read_doc, write_doc};
 use serde_json::Value;
 use std::alloc::Global;
@@ -65,10 +65,7 @@ const DELETED: Parts<'static> = Parts {
 /// Makes the calls in order, and asserts what each answers.
 fn run(rt: &impl Abort, alloc: Global, calls: &[(Call, &str)]) {
     for (i, (call, wanted)) in calls.iter().enumerate() {
-        let Some(answer) = answer(alloc, call) else {
-            rt.panic(format_args!("call {i} can't be made"))
-        };
-        assert_eq!(rt; answer.as_str(), *wanted, "call {i}");
+        expect_answer(rt, i, answer(alloc, call), wanted);
     }
 }
 

@@ -1,5 +1,5 @@
 //! The worked row of fronts as calls with the texts of their answers. It makes each public call once at least.
-use crate::texts::shown;
+use crate::texts::{expect_answer, shown};
 use range_front::Front;
 use std::alloc::Global;
 use std::process::Abort;
@@ -39,10 +39,7 @@ fn answer(alloc: Global, front: &mut Front, call: &Call) -> Option<String> {
 /// Makes the calls in order, and asserts what each answers.
 fn run(rt: &impl Abort, alloc: Global, front: &mut Front, calls: &[(Call, &str)]) {
     for (i, (call, wanted)) in calls.iter().enumerate() {
-        let Some(answer) = answer(alloc, front, call) else {
-            rt.panic(format_args!("call {i} can't be made"))
-        };
-        assert_eq!(rt; answer.as_str(), *wanted, "call {i}");
+        expect_answer(rt, i, answer(alloc, front, call), wanted);
     }
 }
 

@@ -1,8 +1,8 @@
-//! Tests of revisions, trees, documents, fronts and logs: what no clause of their crates says, as worked rows and that each
-//! call succeeds where memory suffices. They stand in a crate of their own, since a crate with tests is proved twice.
+//! Tests of revisions, trees, documents, fronts and logs, each a table of calls with the texts that they must answer: the
+//! worked rows, and that each call succeeds where memory suffices. They stand above the crates that they test, since a crate
+//! with tests is proved twice.
 //!
-//! Most are tables of calls with the texts that they must answer. A call is made by its name, so a proof sees each kind of
-//! call once, and a test is data.
+//! A call is made by its name, so a proof sees each kind of call once. The tables are statics, so it sees none of their rows.
 #![tactic(auto)]
 
 #[cfg(test)]

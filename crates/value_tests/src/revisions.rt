@@ -1,5 +1,5 @@
 //! The worked rows of revisions as calls with the texts of their answers, and each call once with ample memory.
-use crate::texts::{ancestry, rev, rev_text, revs_text, shown, sigs};
+use crate::texts::{ancestry, expect_answer, rev, rev_text, revs_text, shown, sigs};
 use md5::{Digest, Md5};
 use rev_core::{Ancestry, Rev, new_rev};
 use std::alloc::Global;
@@ -49,10 +49,7 @@ const THREE: Parts<'static> = Parts {
 /// Makes the calls in order, and asserts what each answers.
 fn run(rt: &impl Abort, alloc: Global, calls: &[(Call, &str)]) {
     for (i, (call, wanted)) in calls.iter().enumerate() {
-        let Some(answer) = answer(alloc, call) else {
-            rt.panic(format_args!("call {i} can't be made"))
-        };
-        assert_eq!(rt; answer.as_str(), *wanted, "call {i}");
+        expect_answer(rt, i, answer(alloc, call), wanted);
     }
 }
 

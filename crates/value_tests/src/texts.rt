@@ -1,7 +1,16 @@
-//! Revisions, signatures and ancestries of texts, and the texts of what calls answer.
+//! Revisions, signatures and ancestries of texts, the texts of what calls answer, and the wanted answers.
 use rev_core::{Ancestry, Rev, Sig};
 use std::alloc::Global;
 use std::fmt::Debug;
+use std::process::Abort;
+
+/// Asserts that the call of a number could be made, and what it answered.
+pub(crate) fn expect_answer(rt: &impl Abort, number: usize, answer: Option<String>, wanted: &str) {
+    let Some(answer) = answer else {
+        rt.panic(format_args!("call {number} can't be made"))
+    };
+    assert_eq!(rt; answer.as_str(), wanted, "call {number}");
+}
 
 /// The revision of a text that is one.
 pub(crate) fn rev(text: &str) -> Option<Rev> {

@@ -1,5 +1,5 @@
 //! The worked rows of trees as calls with the texts of their answers, and each call once with ample memory.
-use crate::texts::{ancestry, rev, rev_text, revs, revs_text, shown};
+use crate::texts::{ancestry, expect_answer, rev, rev_text, revs, revs_text, shown};
 use rev_core::Rev;
 use rev_tree::{Content, Origin, SessionId, Tree, TreeFault};
 use std::alloc::Global;
@@ -60,10 +60,7 @@ impl Bench {
     /// Makes the calls in order, and asserts what each answers.
     fn run(&mut self, rt: &impl Abort, calls: &[(Call, &str)]) {
         for (i, (call, wanted)) in calls.iter().enumerate() {
-            let Some(answer) = self.answer(call) else {
-                rt.panic(format_args!("call {i} can't be made"))
-            };
-            assert_eq!(rt; answer.as_str(), *wanted, "call {i}");
+            expect_answer(rt, i, self.answer(call), wanted);
         }
     }
 
