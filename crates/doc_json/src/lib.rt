@@ -19,6 +19,3 @@ pub use doc_id::DocId;
 pub use fault::DocFault;
 pub use read::read_doc;
 pub use write::write_doc;
-
-#[cfg(test)]
-mod tests;

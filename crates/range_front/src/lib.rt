@@ -5,8 +5,6 @@
 
 mod fault;
 mod front;
-#[cfg(test)]
-mod tests;
 
 pub use fault::FrontFault;
 pub use front::Front;

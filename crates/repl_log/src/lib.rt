@@ -18,6 +18,3 @@ pub use log::Log;
 pub use moment::Moment;
 pub use replication::RepId;
 pub use text::{rep_id, write_log};
-
-#[cfg(test)]
-mod tests;

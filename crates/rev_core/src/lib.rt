@@ -14,6 +14,3 @@ pub use fault::RevFault;
 pub use local_edit::new_rev;
 pub use rev::Rev;
 pub use sig::Sig;
-
-#[cfg(test)]
-mod tests;

@@ -13,6 +13,3 @@ pub use content::Content;
 pub use fault::{Contradiction, Merged, TreeFault};
 pub use origin::{Origin, SessionId};
 pub use tree::Tree;
-
-#[cfg(test)]
-mod tests;

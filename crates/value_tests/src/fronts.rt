@@ -1,0 +1,70 @@
+//! The worked row of fronts as calls with the texts of their answers. It makes each public call once at least.
+use crate::texts::{expect_answer, shown};
+use range_front::Front;
+use std::alloc::Global;
+use std::process::Abort;
+
+/// A call on a front.
+#[derive(Clone, Copy)]
+enum Call {
+    /// Appends the window up to a number.
+    Append(u64),
+    /// Makes room for a mark.
+    Reserve,
+    /// Finishes a window.
+    Finish(u64, u64),
+    /// Asks whether a window is done.
+    IsDone(u64, u64),
+    /// Reads the start.
+    Start,
+    /// Reads the end.
+    End,
+    /// Reads the low water.
+    LowWater,
+}
+
+/// Makes a call, and gives the text of its answer.
+fn answer(alloc: Global, front: &mut Front, call: &Call) -> Option<String> {
+    match *call {
+        Call::Append(hi) => shown(alloc, &front.append(hi)),
+        Call::Reserve => shown(alloc, &front.reserve()),
+        Call::Finish(lo, hi) => shown(alloc, &front.finish(lo, hi)),
+        Call::IsDone(lo, hi) => shown(alloc, &front.is_done(lo, hi)),
+        Call::Start => shown(alloc, &front.start()),
+        Call::End => shown(alloc, &front.end()),
+        Call::LowWater => shown(alloc, &front.low_water()),
+    }
+}
+
+/// Makes the calls in order, and asserts what each answers.
+fn run(rt: &impl Abort, alloc: Global, front: &mut Front, calls: &[(Call, &str)]) {
+    for (i, (call, wanted)) in calls.iter().enumerate() {
+        expect_answer(rt, i, answer(alloc, front, call), wanted);
+    }
+}
+
+/// Windows up to 2, 4 and 6, finished out of order.
+static OUT_OF_ORDER: &[(Call, &str)] = &[
+    (Call::Append(2), "Ok(())"),
+    (Call::Append(4), "Ok(())"),
+    (Call::Append(6), "Ok(())"),
+    (Call::Start, "0"),
+    (Call::End, "6"),
+    (Call::LowWater, "0"),
+    (Call::Reserve, "Ok(())"),
+    (Call::Finish(2, 4), "Ok(())"),
+    (Call::LowWater, "0"),
+    (Call::IsDone(2, 4), "true"),
+    (Call::IsDone(0, 2), "false"),
+    (Call::Finish(0, 2), "Ok(())"),
+    (Call::LowWater, "4"),
+    (Call::Finish(0, 2), "Err(AlreadyDone)"),
+    (Call::Finish(1, 2), "Err(NoSuchWindow)"),
+    (Call::Append(6), "Err(NotRising { end: 6 })"),
+];
+
+#[test]
+fn front_out_of_order(rt: HostRuntime) {
+    let mut front = Front::new(rt.alloc(), 0);
+    run(&rt, rt.alloc(), &mut front, OUT_OF_ORDER);
+}
