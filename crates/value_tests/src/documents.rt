@@ -362,9 +362,10 @@ fn refusals_of_bodies_and_ids(rt: HostRuntime) {
     run(&rt, rt.alloc(), REFUSED_BODIES_AND_IDS);
 }
 
-/// The greatest and the least number that are kept, and what they are kept as.
+/// The greatest number that is kept, which is kept as it stands.
 const GREATEST: &str = r#"{"a":[{"b":18446744073709551615}]}"#;
 
+/// The least one.
 const LEAST: &str = r#"{"a":[{"b":-9223372036854775808}]}"#;
 
 /// Numbers that are kept and refused in bodies.

@@ -236,7 +236,7 @@ const LIVE: &str = r#"{"n":1}"#;
 
 const STATED: &str = "1-a\nlive\n{\"n\":1}";
 
-/// The signatures are MD5 of the parent, the kind and the body, each behind a line feed.
+/// The signatures are MD5 of the parent, the kind and the body, with a line feed between each.
 static EDIT_ROWS: Rows = &[
     (Call::Decode("312d610a6c6976650a7b226e223a317d"), STATED),
     (Call::Digest(STATED), "c96964c5f2e1e7ba6a7331423f490bd6"),
