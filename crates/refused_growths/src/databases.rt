@@ -64,19 +64,22 @@ fn feed(alloc: Global, db: &Database) -> Result<u64> {
     Ok(sum)
 }
 
-fn put(alloc: Global, db: &mut Database, text: &str) -> Result<Put> {
-    let doc = doc(alloc, text)?;
+fn put_doc(alloc: Global, db: &mut Database, doc: &Doc) -> Result<Put> {
     let before = reading(db, doc.id());
     let rows = feed(alloc, db)?;
-    match db.put(&doc, Origin::Local(0)) {
+    match db.put(doc, Origin::Local(0)) {
         Err(BaseFault::Memory) => {
             if reading(db, doc.id()) != before || feed(alloc, db)? != rows {
                 bail!("a refused put changed the database");
             }
-            Ok(db.put(&doc, Origin::Local(0))?)
+            Ok(db.put(doc, Origin::Local(0))?)
         }
         answer => Ok(answer?),
     }
+}
+
+fn put(alloc: Global, db: &mut Database, text: &str) -> Result<Put> {
+    put_doc(alloc, db, &doc(alloc, text)?)
 }
 
 fn edit(
@@ -135,42 +138,93 @@ fn opened(alloc: Global, db: &Database, asked: &Asked) -> Result<Parcel> {
     }
 }
 
-/// A database of four documents, two of them edited.
-fn grown(alloc: Global) -> Result<Database> {
-    let mut db = Database::new(alloc, 7);
+/// Puts three documents, the first of them twice.
+fn put_all(alloc: Global, db: &mut Database) -> Result<()> {
     for text in [
         r#"{"_id":"a","_revisions":{"start":2,"ids":["b","a"]},"n":1}"#,
         r#"{"_id":"b","_rev":"1-a"}"#,
         r#"{"_id":"c","_rev":"1-a","_deleted":true}"#,
         r#"{"_id":"a","_revisions":{"start":2,"ids":["c","a"]}}"#,
     ] {
-        let Put::Changed { .. } = put(alloc, &mut db, text)? else {
+        let Put::Changed { .. } = put(alloc, db, text)? else {
             bail!("a put changed nothing");
         };
     }
+    Ok(())
+}
+
+/// Edits a document, and once more above the new revision where that is wanted.
+fn edit_id(alloc: Global, db: &mut Database, id: &str, body: &Body, twice: bool) -> Result<()> {
+    let id = doc_id(alloc, id)?;
+    let rev = edit(alloc, db, &id, None, body)?;
+    if twice {
+        edit(alloc, db, &id, Some(rev), body)?;
+    }
+    Ok(())
+}
+
+/// Puts and edits: four documents, two of them edited.
+fn grow(alloc: Global, db: &mut Database) -> Result<()> {
+    put_all(alloc, db)?;
     let body = body(alloc, r#"{"n":2}"#)?;
-    let first = doc_id(alloc, "c")?;
-    let rev = edit(alloc, &mut db, &first, None, &body)?;
-    edit(alloc, &mut db, &first, Some(rev), &body)?;
-    let second = doc_id(alloc, "d")?;
-    edit(alloc, &mut db, &second, None, &body)?;
-    Ok(db)
+    edit_id(alloc, db, "c", &body, true)?;
+    edit_id(alloc, db, "d", &body, false)
+}
+
+/// How many documents are fetched of what is asked, and how many revisions are gone.
+fn fetched(alloc: Global, db: &Database, asked: &Asked) -> Result<(usize, usize)> {
+    let parcel = opened(alloc, db, asked)?;
+    Ok((parcel.docs().len(), parcel.gone().len()))
+}
+
+/// What the exchange with a database of no documents counts.
+#[derive(Clone, Copy)]
+struct Counts {
+    rows: usize,
+    asked: usize,
+    fetched: usize,
+    gone: usize,
+}
+
+/// Asks for a window for a database of no documents, and fetches from both.
+fn counted(alloc: Global, db: &Database, empty: &Database, window: &Window) -> Result<Counts> {
+    let asked = asked(alloc, empty, window)?;
+    let (count, _) = fetched(alloc, db, &asked)?;
+    let (_, gone) = fetched(alloc, empty, &asked)?;
+    Ok(Counts {
+        rows: window.rows().len(),
+        asked: asked.docs().len(),
+        fetched: count,
+        gone,
+    })
+}
+
+/// Exchanges the whole feed with a database of no documents.
+fn exchanged(alloc: Global, db: &Database, empty: &Database) -> Result<Counts> {
+    let page = page(alloc, db, 0, 10)?;
+    let window = window_copied(alloc, &page)?;
+    counted(alloc, db, empty, &window)
+}
+
+/// Grows a database, and exchanges it with another one.
+fn session(alloc: Global, db: &mut Database, empty: &Database) -> Result<(u64, Counts)> {
+    grow(alloc, db)?;
+    let counts = exchanged(alloc, db, empty)?;
+    Ok((db.update_seq(), counts))
+}
+
+/// The session of two databases. Few values live beside a database: each adds to its proof at every step.
+fn between(alloc: Global) -> Result<(u64, Counts)> {
+    let mut db = Database::new(alloc, 7);
+    let empty = Database::new(alloc, 8);
+    session(alloc, &mut db, &empty)
 }
 
 pub(crate) fn run(rt: &impl Print, alloc: Global) -> Result<()> {
-    let db = grown(alloc)?;
-    let window = window_copied(alloc, &page(alloc, &db, 0, 10)?)?;
-    let empty = Database::new(alloc, 8);
-    let asked = asked(alloc, &empty, &window)?;
-    let parcel = opened(alloc, &db, &asked)?;
-    let nothing = opened(alloc, &empty, &asked)?;
+    let (sequence, counts) = between(alloc)?;
     println!(rt;
-        "databases as wanted: sequence {}, rows {}, asked {}, fetched {}, gone {}",
-        db.update_seq(),
-        window.rows().len(),
-        asked.docs().len(),
-        parcel.docs().len(),
-        nothing.gone().len()
+        "databases as wanted: sequence {sequence}, rows {}, asked {}, fetched {}, gone {}",
+        counts.rows, counts.asked, counts.fetched, counts.gone
     )?;
     Ok(())
 }

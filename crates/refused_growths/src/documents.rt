@@ -56,10 +56,17 @@ fn edited(alloc: Global) -> Result<bool> {
     Ok(id.text() == "d" && body.text() == b"{\"n\":1}".as_slice() && rev.generation() == 1)
 }
 
+/// Whether a copy of the document of a value is written as the text.
+fn is_text(alloc: Global, value: &Value) -> Result<bool, DocFault> {
+    let doc = read(alloc, value)?;
+    let copy = copied(alloc, &doc)?;
+    let text = written(alloc, &copy)?;
+    Ok(text.as_slice() == TEXT)
+}
+
 pub(crate) fn run(rt: &impl Print, alloc: Global) -> Result<()> {
     let value = value(alloc, TEXT)?;
-    let doc = copied(alloc, &read(alloc, &value)?)?;
-    if written(alloc, &doc)?.as_slice() != TEXT {
+    if !is_text(alloc, &value)? {
         bail!("another text was written");
     }
     if !edited(alloc)? {

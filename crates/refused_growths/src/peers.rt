@@ -172,18 +172,18 @@ fn settle(
     }
 }
 
-fn source(alloc: Global) -> Option<Peer<Rules>> {
-    let mut source = Peer::new(alloc, 1, Rules { deny: None });
+/// Loads three documents, and edits a fourth one twice.
+fn fill_source(alloc: Global, source: &mut Peer<Rules>) -> Option<()> {
     for text in [
         r#"{"_id":"a","_revisions":{"start":2,"ids":["b","a"]},"n":1}"#,
         r#"{"_id":"secret","_revisions":{"start":2,"ids":["b","a"]}}"#,
         r#"{"_id":"d","_revisions":{"start":3,"ids":["d","c","x"]}}"#,
     ] {
-        load(alloc, &mut source, text)?;
+        load(alloc, source, text)?;
     }
-    let rev = edit(alloc, &mut source, "e", &None)?;
-    edit(alloc, &mut source, "e", &Some(rev))?;
-    Some(source)
+    let rev = edit(alloc, source, "e", &None)?;
+    edit(alloc, source, "e", &Some(rev))?;
+    Some(())
 }
 
 fn prefix(alloc: Global) -> Option<String> {
@@ -191,18 +191,6 @@ fn prefix(alloc: Global) -> Option<String> {
         Ok(prefix) => Some(prefix),
         Err(_) => "secret".to_string(alloc).ok(),
     }
-}
-
-/// The target: it refuses one document, and holds a tree that contradicts another one.
-fn target(alloc: Global) -> Option<Peer<Rules>> {
-    let deny = Some(prefix(alloc)?);
-    let mut target = Peer::new(alloc, 2, Rules { deny });
-    load(
-        alloc,
-        &mut target,
-        r#"{"_id":"d","_revisions":{"start":2,"ids":["c","b"]}}"#,
-    )?;
-    Some(target)
 }
 
 /// Begins the session with the source's whole feed, and asks for what the target misses.
@@ -234,16 +222,47 @@ fn tell(rt: &impl Print, settled: Settled, report: Report, sequence: u64) -> Res
     Ok(())
 }
 
-/// The peers' session: what it settled, its report, and the target's sequence.
-fn session(alloc: Global) -> Option<(Settled, Report, u64)> {
-    let source = source(alloc)?;
-    let mut target = target(alloc)?;
-    let (settled, report) = replicate(alloc, &source, &mut target)?;
+/// The peers' session: what it settled, its report, and the target's sequence. The target holds a tree that contradicts
+/// one of the source's.
+fn session(
+    alloc: Global,
+    source: &mut Peer<Rules>,
+    target: &mut Peer<Rules>,
+) -> Option<(Settled, Report, u64)> {
+    fill_source(alloc, source)?;
+    load(
+        alloc,
+        target,
+        r#"{"_id":"d","_revisions":{"start":2,"ids":["c","b"]}}"#,
+    )?;
+    let (settled, report) = replicate(alloc, source, target)?;
     Some((settled, report, target.db().update_seq()))
 }
 
+/// The session with a target that refuses documents. Nothing else lives beside a peer: each value adds to its proof.
+fn into_target(
+    alloc: Global,
+    source: &mut Peer<Rules>,
+    deny: Option<String>,
+) -> Option<(Settled, Report, u64)> {
+    let mut target = Peer::new(alloc, 2, Rules { deny });
+    session(alloc, source, &mut target)
+}
+
+/// The session of a source and a target.
+fn between(alloc: Global, deny: Option<String>) -> Option<(Settled, Report, u64)> {
+    let mut source = Peer::new(alloc, 1, Rules { deny: None });
+    into_target(alloc, &mut source, deny)
+}
+
+/// The session with a target that refuses the documents of the prefix.
+fn refusing(alloc: Global) -> Option<(Settled, Report, u64)> {
+    let deny = prefix(alloc)?;
+    between(alloc, Some(deny))
+}
+
 pub(crate) fn run(rt: &impl Print, alloc: Global) -> Result<()> {
-    let Some((settled, report, sequence)) = session(alloc) else {
+    let Some((settled, report, sequence)) = refusing(alloc) else {
         bail!("peers: another answer");
     };
     tell(rt, settled, report, sequence)

@@ -64,30 +64,44 @@ fn replicate(
     }
 }
 
-/// A source of two documents.
-fn source(alloc: Global) -> Option<Peer<Rules>> {
-    let mut source = Peer::new(alloc, 1, Rules { deny: None });
+/// Loads two documents.
+fn fill(alloc: Global, source: &mut Peer<Rules>) -> Option<()> {
     load(
         alloc,
-        &mut source,
+        source,
         r#"{"_id":"d","_revisions":{"start":2,"ids":["b","a"]},"n":1}"#,
     )?;
-    load(alloc, &mut source, r#"{"_id":"e","_rev":"1-a"}"#)?;
-    Some(source)
+    load(alloc, source, r#"{"_id":"e","_rev":"1-a"}"#)?;
+    Some(())
 }
 
 /// What the last replication recorded, the target's sequence, and whether an audit is clean.
-fn ended(alloc: Global) -> Option<(u64, u64, bool)> {
+fn ended(
+    alloc: Global,
+    source: &mut Peer<Rules>,
+    target: &mut Peer<Rules>,
+) -> Option<(u64, u64, bool)> {
     let at = Moment::new(10).ok()?;
-    let mut source = source(alloc)?;
-    let mut target = Peer::new(alloc, 2, Rules { deny: None });
-    let report = replicate(alloc, &mut source, &mut target, at)?;
-    let clean = is_clean(alloc, &source, &target);
+    fill(alloc, source)?;
+    let report = replicate(alloc, source, target, at)?;
+    let clean = is_clean(alloc, source, target);
     Some((report.recorded, target.db().update_seq(), clean))
 }
 
+/// The replications into a target. Nothing else lives beside a peer: each value adds to its proof.
+fn into_target(alloc: Global, source: &mut Peer<Rules>) -> Option<(u64, u64, bool)> {
+    let mut target = Peer::new(alloc, 2, Rules { deny: None });
+    ended(alloc, source, &mut target)
+}
+
+/// The replications of a source and a target.
+fn between(alloc: Global) -> Option<(u64, u64, bool)> {
+    let mut source = Peer::new(alloc, 1, Rules { deny: None });
+    into_target(alloc, &mut source)
+}
+
 pub(crate) fn run(rt: &impl Print, alloc: Global) -> Result<()> {
-    let Some((recorded, sequence, clean)) = ended(alloc) else {
+    let Some((recorded, sequence, clean)) = between(alloc) else {
         bail!("replications: another answer");
     };
     println!(rt;
