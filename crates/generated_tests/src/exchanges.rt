@@ -207,23 +207,66 @@ fn answers(
     Ok(docs)
 }
 
+/// What the target asks for the source's whole feed.
+fn asked(alloc: Global, source: &Side, target: &Side) -> Result<Asked, Fail> {
+    let window = source.db.page(alloc, 0, source.update_seq, 100)?;
+    Ok(target.db.revs_diff(alloc, &window)?)
+}
+
+/// Asserts what both sides answer to what is asked. Gives how many documents the source brings.
+fn both_answer(
+    rt: &impl Abort,
+    alloc: Global,
+    rng: &mut ChaCha8Rng,
+    source: &mut Side,
+    target: &Side,
+    asked: &Asked,
+) -> Result<usize, Fail> {
+    let all = asks(rt, alloc, source, target, asked)?;
+    // The source may have moved on by the time of the fetch, and another database may lack what is asked.
+    source.grow(rt, alloc, rng, 10)?;
+    let docs = answers(rt, alloc, source, asked, &all)?;
+    answers(rt, alloc, target, asked, &all)?;
+    Ok(docs)
+}
+
+/// Grows both sides, and asserts what is asked and answered. Gives how many documents the source brings.
+fn exchange(
+    rt: &impl Abort,
+    alloc: Global,
+    rng: &mut ChaCha8Rng,
+    source: &mut Side,
+    target: &mut Side,
+) -> Result<usize, Fail> {
+    source.grow(rt, alloc, rng, 20)?;
+    target.grow(rt, alloc, rng, 10)?;
+    let asked = asked(alloc, source, target)?;
+    both_answer(rt, alloc, rng, source, target, &asked)
+}
+
+/// The exchange of a source with a target. Nothing else lives beside a side: each value adds to its proof.
+fn with_target(
+    rt: &impl Abort,
+    alloc: Global,
+    rng: &mut ChaCha8Rng,
+    source: &mut Side,
+) -> Result<usize, Fail> {
+    let mut target = Side::new(alloc, 2);
+    exchange(rt, alloc, rng, source, &mut target)
+}
+
+/// The exchange of a seed.
+fn of_seed(rt: &impl Abort, alloc: Global, seed: u64) -> Result<usize, Fail> {
+    let mut rng = ChaCha8Rng::seed_from_u64(seed);
+    let mut source = Side::new(alloc, 1);
+    with_target(rt, alloc, &mut rng, &mut source)
+}
+
 #[test]
 fn a_hundred_exchanges_agree(rt: HostRuntime) -> Result<(), Fail> {
-    let alloc = rt.alloc();
     let mut docs = 0usize;
     for seed in 0..100u64 {
-        let mut rng = ChaCha8Rng::seed_from_u64(seed);
-        let mut source = Side::new(alloc, 1);
-        let mut target = Side::new(alloc, 2);
-        source.grow(&rt, alloc, &mut rng, 20)?;
-        target.grow(&rt, alloc, &mut rng, 10)?;
-        let window = source.db.page(alloc, 0, source.update_seq, 100)?;
-        let asked = target.db.revs_diff(alloc, &window)?;
-        let all = asks(&rt, alloc, &source, &target, &asked)?;
-        // The source may have moved on by the time of the fetch, and another database may lack what is asked.
-        source.grow(&rt, alloc, &mut rng, 10)?;
-        docs = docs.saturating_add(answers(&rt, alloc, &source, &asked, &all)?);
-        answers(&rt, alloc, &target, &asked, &all)?;
+        docs = docs.saturating_add(of_seed(&rt, rt.alloc(), seed)?);
     }
     assert!(rt; 300 < docs, "{docs} documents");
     Ok(())

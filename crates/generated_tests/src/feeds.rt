@@ -1,7 +1,7 @@
 //! Puts and pages by chance, compared with a reference that filters and sorts all documents.
 use crate::merges::{ancestry, are, below, places};
 use crate::reference::{Answer, Reference};
-use couch_base::{BaseFault, Database, Put, Window};
+use couch_base::{BaseFault, Database, Put, Row, Window};
 use doc_json::{Doc, DocId, read_body};
 use rand_chacha::ChaCha8Rng;
 use rand_core::SeedableRng;
@@ -78,12 +78,51 @@ pub(crate) fn next_above(documents: &Documents, seq: u64, goal: u64) -> Option<(
     let mut best: Option<(usize, u64)> = None;
     for number in 0..IDS {
         if let Some((at, _)) = documents[number] {
-            if seq < at && at <= goal && best.is_none_or(|(_, least)| at < least) {
+            let nearer = match best {
+                Some((_, least)) => at < least,
+                None => true,
+            };
+            if seq < at && at <= goal && nearer {
                 best = Some((number, at));
             }
         }
     }
     best
+}
+
+/// Asserts that a row has an id and the leaves of a tree.
+fn row_has(
+    rt: &impl Abort,
+    alloc: Global,
+    row: &Row,
+    number: usize,
+    tree: &Reference,
+) -> Result<(), Fail> {
+    let id = id(alloc, number)?;
+    assert!(rt; *row.id() == id);
+    let leaves = tree.leaves(alloc)?;
+    assert!(rt; are(rt, row.leaves(), &leaves));
+    Ok(())
+}
+
+/// Asserts that a row is that of the document next above a sequence. Gives its own.
+fn row_is(
+    rt: &impl Abort,
+    alloc: Global,
+    row: &Row,
+    documents: &Documents,
+    after: u64,
+    goal: u64,
+) -> Result<u64, Fail> {
+    let Some((number, seq)) = next_above(documents, after, goal) else {
+        rt.panic(format_args!("a row too many"))
+    };
+    let Some((_, tree)) = &documents[number % IDS] else {
+        rt.panic(format_args!("no document"))
+    };
+    assert_eq!(rt; row.seq(), seq);
+    row_has(rt, alloc, row, number, tree)?;
+    Ok(seq)
 }
 
 /// Asserts that the window has the first rows above `since`, and ends where it should.
@@ -99,16 +138,7 @@ fn window_is(
     let mut at = since;
     let mut rows = 0u64;
     for row in window.rows() {
-        let Some((number, seq)) = next_above(documents, at, goal) else {
-            rt.panic(format_args!("a row too many"))
-        };
-        let Some((_, tree)) = documents[number % IDS] else {
-            rt.panic(format_args!("no document"))
-        };
-        assert_eq!(rt; row.seq(), seq);
-        assert!(rt; *row.id() == id(alloc, number)?);
-        assert!(rt; are(rt, row.leaves(), &tree.leaves(alloc)?));
-        at = seq;
+        at = row_is(rt, alloc, row, documents, at, goal)?;
         rows = rows.saturating_add(1);
     }
     assert!(rt; rows <= limit && (rows == limit || next_above(documents, at, goal).is_none()));
@@ -141,25 +171,34 @@ fn page(
     }
 }
 
+/// Forty puts, and a page after each.
+fn grow(
+    rt: &impl Abort,
+    alloc: Global,
+    rng: &mut ChaCha8Rng,
+    db: &mut Database,
+) -> Result<(), Fail> {
+    let mut documents: Documents = [None; IDS];
+    let mut update_seq = 0;
+    for _ in 0..40 {
+        update_seq = put(rt, alloc, rng, db, &mut documents, update_seq)?;
+        assert_eq!(rt; db.update_seq(), update_seq);
+        page(rt, alloc, rng, db, &documents, update_seq)?;
+    }
+    Ok(())
+}
+
+/// The puts and pages of a seed. Nothing else lives beside the database: each value adds to its proof.
+fn of_seed(rt: &impl Abort, alloc: Global, seed: u64) -> Result<(), Fail> {
+    let mut rng = ChaCha8Rng::seed_from_u64(seed);
+    let mut db = Database::new(alloc, 1);
+    grow(rt, alloc, &mut rng, &mut db)
+}
+
 #[test]
 fn a_hundred_databases_agree(rt: HostRuntime) -> Result<(), Fail> {
     for seed in 0..100u64 {
-        let mut rng = ChaCha8Rng::seed_from_u64(seed);
-        let mut db = Database::new(rt.alloc(), 1);
-        let mut documents: Documents = [None; IDS];
-        let mut update_seq = 0;
-        for _ in 0..40 {
-            update_seq = put(
-                &rt,
-                rt.alloc(),
-                &mut rng,
-                &mut db,
-                &mut documents,
-                update_seq,
-            )?;
-            assert_eq!(rt; db.update_seq(), update_seq);
-            page(&rt, rt.alloc(), &mut rng, &db, &documents, update_seq)?;
-        }
+        of_seed(&rt, rt.alloc(), seed)?;
     }
     Ok(())
 }

@@ -74,6 +74,54 @@ pub(crate) fn ancestry(rt: &impl Abort, alloc: Global, places: &[usize]) -> Resu
     Ok(Ancestry::from_parts(alloc, start as u32, &sigs)?)
 }
 
+/// Asserts that a revision has the content that the reference has.
+fn agree_on_content(rt: &impl Abort, tree: &Tree, reference: &Reference, one: Rev, place: usize) {
+    match (tree.content(one), reference.content(place)) {
+        (Some(content), Some((deleted, body))) => {
+            assert!(rt; content.deleted() == deleted && content.body() == [body].as_slice());
+        }
+        (None, None) => {}
+        _ => rt.panic(format_args!("a content on one side alone")),
+    }
+}
+
+/// Asserts that a revision has the ancestry that the reference has.
+fn agree_on_walk(
+    rt: &impl Abort,
+    alloc: Global,
+    tree: &Tree,
+    reference: &Reference,
+    one: Rev,
+    place: usize,
+) -> Result<(), Fail> {
+    match tree.ancestry(alloc, one) {
+        Ok(walk) => assert!(rt;
+            reference.has(place) && are(rt, walk.revs(), &reference.ancestry(alloc, place)?)
+        ),
+        Err(_) => assert!(rt; !reference.has(place)),
+    }
+    Ok(())
+}
+
+/// Asserts that every reading of a revision is that of the reference.
+fn agree_at(
+    rt: &impl Abort,
+    alloc: Global,
+    tree: &Tree,
+    reference: &Reference,
+    place: usize,
+) -> Result<(), Fail> {
+    let one = rev(rt, place);
+    assert_eq!(rt; tree.has(one), reference.has(place));
+    assert_eq!(rt; tree.is_leaf(one), reference.is_leaf(place));
+    assert_eq!(rt;
+        tree.origin(one),
+        reference.origin(place).map(|n| Origin::Local(n))
+    );
+    agree_on_content(rt, tree, reference, one, place);
+    agree_on_walk(rt, alloc, tree, reference, one, place)
+}
+
 /// Asserts that every reading of the tree is that of the reference.
 fn agree(rt: &impl Abort, alloc: Global, tree: &Tree, reference: &Reference) -> Result<(), Fail> {
     let leaves = reference.leaves(alloc)?;
@@ -82,26 +130,7 @@ fn agree(rt: &impl Abort, alloc: Global, tree: &Tree, reference: &Reference) -> 
     assert_eq!(rt; tree.rev_count(), reference.count());
     assert!(rt; tree.winner() == leaves.first().map(|place| rev(rt, *place)));
     for place in 0..PLACES {
-        let one = rev(rt, place);
-        assert_eq!(rt; tree.has(one), reference.has(place));
-        assert_eq!(rt; tree.is_leaf(one), reference.is_leaf(place));
-        assert_eq!(rt;
-            tree.origin(one),
-            reference.origin(place).map(|n| Origin::Local(n))
-        );
-        match (tree.content(one), reference.content(place)) {
-            (Some(content), Some((deleted, body))) => {
-                assert!(rt; content.deleted() == deleted && content.body() == [body].as_slice());
-            }
-            (None, None) => {}
-            _ => rt.panic(format_args!("a content on one side alone")),
-        }
-        match tree.ancestry(alloc, one) {
-            Ok(walk) => assert!(rt;
-                reference.has(place) && are(rt, walk.revs(), &reference.ancestry(alloc, place)?)
-            ),
-            Err(_) => assert!(rt; !reference.has(place)),
-        }
+        agree_at(rt, alloc, tree, reference, place)?;
     }
     Ok(())
 }

@@ -86,23 +86,49 @@ fn thrice(
     Some(of_other && of_source && again)
 }
 
+/// Runs the replications of a source and another one. Nothing else lives beside a side: each value adds to its proof.
+fn with_other(
+    rt: &impl Abort,
+    alloc: Global,
+    rng: &mut ChaCha8Rng,
+    source: &mut Side,
+    target: &mut Side,
+    deny: Option<usize>,
+) -> Option<bool> {
+    let mut other = Side::new(alloc, 3, None);
+    thrice(rt, alloc, rng, source, target, &mut other, deny)
+}
+
+/// Runs the replications into a target.
+fn with_source(
+    rt: &impl Abort,
+    alloc: Global,
+    rng: &mut ChaCha8Rng,
+    target: &mut Side,
+    deny: Option<usize>,
+) -> Option<bool> {
+    let mut source = Side::new(alloc, 1, None);
+    with_other(rt, alloc, rng, &mut source, target, deny)
+}
+
+/// Runs the replications into a target that refuses the documents of a prefix.
+fn with_prefix(
+    rt: &impl Abort,
+    alloc: Global,
+    rng: &mut ChaCha8Rng,
+    prefix: Option<String>,
+    deny: Option<usize>,
+) -> Option<bool> {
+    let mut target = Side::new(alloc, 2, prefix);
+    with_source(rt, alloc, rng, &mut target, deny)
+}
+
 /// Runs a seed.
 fn run(rt: &impl Abort, alloc: Global, seed: u64) -> Option<bool> {
     let mut rng = ChaCha8Rng::seed_from_u64(seed);
     let deny = denied(&mut rng);
     let prefix = prefix(alloc, deny)?;
-    let mut source = Side::new(alloc, 1, None);
-    let mut target = Side::new(alloc, 2, prefix);
-    let mut other = Side::new(alloc, 3, None);
-    thrice(
-        rt,
-        alloc,
-        &mut rng,
-        &mut source,
-        &mut target,
-        &mut other,
-        deny,
-    )
+    with_prefix(rt, alloc, &mut rng, prefix, deny)
 }
 
 #[test]
