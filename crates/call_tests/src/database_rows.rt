@@ -1,5 +1,5 @@
 //! The rows of databases: pages, puts, edits, and what is asked and fetched. Each call with ample memory.
-use crate::databases::{Bench, Call};
+use crate::databases::{Bench, Call, Rows};
 use std::process::Abort;
 use std::test::Fail;
 use std::thread;
@@ -16,7 +16,7 @@ const FIRST: usize = 0;
 const SECOND: usize = 1;
 
 /// Three documents at the sequences 1, 2 and 5.
-const THREE: [(Call<'static>, &'static str); 6] = [
+static THREE: Rows = &[
     (
         Call::Put(A, r#"{"_id":"a","_rev":"1-a"}"#),
         "Changed { seq: 1 }",
@@ -41,7 +41,7 @@ const THREE: [(Call<'static>, &'static str); 6] = [
 ];
 
 /// The document d with the leaves 2-b and 2-a over 1-r in A.
-const BOTH: [(Call<'static>, &'static str); 2] = [
+static BOTH: Rows = &[
     (
         Call::Put(
             A,
@@ -56,7 +56,7 @@ const BOTH: [(Call<'static>, &'static str); 2] = [
 ];
 
 /// The whole feed of `BOTH`, and what B asks for where it is empty.
-const BOTH_ASKED: [(Call<'static>, &'static str); 2] = [
+static BOTH_ASKED: Rows = &[
     (Call::Page(A, 0, 2, 10), "0 to 2: 2 d 2-b,2-a;"),
     (Call::Diff(B, FIRST), "0 to 2: d 2-b,2-a;"),
 ];
@@ -64,47 +64,43 @@ const BOTH_ASKED: [(Call<'static>, &'static str); 2] = [
 #[test]
 fn pages_cut(rt: HostRuntime) {
     let mut bench = Bench::new(&rt, rt.alloc(), &[7]);
-    bench.run(&rt, &THREE);
-    bench.run(
-        &rt,
-        &[
-            (Call::Page(A, 0, 5, 2), "0 to 2: 1 a 1-a; 2 b 1-b;"),
-            (Call::Page(A, 2, 5, 2), "2 to 5: 5 c 1-e,1-d,1-c;"),
-            (
-                Call::Page(A, 0, 5, 3),
-                "0 to 5: 1 a 1-a; 2 b 1-b; 5 c 1-e,1-d,1-c;",
-            ),
-            (Call::Page(A, 5, 5, 2), "BadRange"),
-            (Call::Page(A, 0, 6, 2), "GoalAhead { update_seq: 5 }"),
-            (Call::Page(A, 6, 5, 0), "BadLimit"),
-        ],
-    );
+    bench.run(&rt, THREE);
+    static ROWS: Rows = &[
+        (Call::Page(A, 0, 5, 2), "0 to 2: 1 a 1-a; 2 b 1-b;"),
+        (Call::Page(A, 2, 5, 2), "2 to 5: 5 c 1-e,1-d,1-c;"),
+        (
+            Call::Page(A, 0, 5, 3),
+            "0 to 5: 1 a 1-a; 2 b 1-b; 5 c 1-e,1-d,1-c;",
+        ),
+        (Call::Page(A, 5, 5, 2), "BadRange"),
+        (Call::Page(A, 0, 6, 2), "GoalAhead { update_seq: 5 }"),
+        (Call::Page(A, 6, 5, 0), "BadLimit"),
+    ];
+    bench.run(&rt, ROWS);
 }
 
 #[test]
 fn a_changed_document_moves_in_the_feed(rt: HostRuntime) {
     let mut bench = Bench::new(&rt, rt.alloc(), &[7]);
-    bench.run(&rt, &THREE);
-    bench.run(
-        &rt,
-        &[
-            (
-                Call::Put(A, r#"{"_id":"a","_revisions":{"start":2,"ids":["x","a"]}}"#),
-                "Changed { seq: 6 }",
-            ),
-            (
-                Call::Page(A, 1, 6, 10),
-                "1 to 6: 2 b 1-b; 5 c 1-e,1-d,1-c; 6 a 2-x;",
-            ),
-            (
-                Call::CopyWindow(FIRST),
-                "1 to 6: 2 b 1-b; 5 c 1-e,1-d,1-c; 6 a 2-x;",
-            ),
-            (Call::CopyRow(SECOND), "2"),
-            // Nothing changed between 2 and 4.
-            (Call::Page(A, 2, 4, 1), "2 to 4:"),
-        ],
-    );
+    bench.run(&rt, THREE);
+    static ROWS: Rows = &[
+        (
+            Call::Put(A, r#"{"_id":"a","_revisions":{"start":2,"ids":["x","a"]}}"#),
+            "Changed { seq: 6 }",
+        ),
+        (
+            Call::Page(A, 1, 6, 10),
+            "1 to 6: 2 b 1-b; 5 c 1-e,1-d,1-c; 6 a 2-x;",
+        ),
+        (
+            Call::CopyWindow(FIRST),
+            "1 to 6: 2 b 1-b; 5 c 1-e,1-d,1-c; 6 a 2-x;",
+        ),
+        (Call::CopyRow(SECOND), "2"),
+        // Nothing changed between 2 and 4.
+        (Call::Page(A, 2, 4, 1), "2 to 4:"),
+    ];
+    bench.run(&rt, ROWS);
 }
 
 /// A value that may be moved between threads.
@@ -120,272 +116,254 @@ fn shared<T: Sync>(value: &T) -> &T {
 #[test]
 fn threads_may_have_all_of_it(rt: HostRuntime) {
     let mut bench = moved(Bench::new(&rt, rt.alloc(), &[7]));
-    bench.run(&rt, &THREE);
+    bench.run(&rt, THREE);
     let _bench = shared(&bench);
 }
 
 #[test]
 fn puts_as_given(rt: HostRuntime) {
-    let grown = r#"{"_id":"d","_revisions":{"start":3,"ids":["c","b"]}}"#;
+    const GROWN: &str = r#"{"_id":"d","_revisions":{"start":3,"ids":["c","b"]}}"#;
     // A longer ancestry fills the gap, and the first content of an ancestor is a change.
-    let longer = r#"{"_id":"d","_revisions":{"start":3,"ids":["c","b","a"]}}"#;
-    let ancestor = r#"{"_id":"d","_rev":"2-b","n":1}"#;
+    const LONGER: &str = r#"{"_id":"d","_revisions":{"start":3,"ids":["c","b","a"]}}"#;
+    const ANCESTOR: &str = r#"{"_id":"d","_rev":"2-b","n":1}"#;
     // Its content stays as it came first.
-    let again = r#"{"_id":"d","_rev":"2-b","n":2}"#;
-    let other = r#"{"_id":"d","_revisions":{"start":4,"ids":["d","c","x"]}}"#;
-    Bench::new(&rt, rt.alloc(), &[0]).run(
-        &rt,
-        &[
-            (Call::Put(A, grown), "Changed { seq: 1 }"),
-            (Call::Put(A, grown), "Same"),
-            (Call::Put(A, longer), "Changed { seq: 2 }"),
-            (Call::Put(A, ancestor), "Changed { seq: 3 }"),
-            (Call::Put(A, again), "Same"),
-            (Call::Put(A, other), "Contradiction 3-c,2-b,2-x"),
-            (Call::Numbers(A), "0 at 3"),
-            (Call::Tree(A, "d"), "3-c of 3"),
-            (Call::Node(A, "d", "2-b"), r#"1-a, Local(0), live {"n":1}"#),
-            (Call::Tree(A, "e"), "no document"),
-        ],
-    );
+    const AGAIN: &str = r#"{"_id":"d","_rev":"2-b","n":2}"#;
+    const OTHER: &str = r#"{"_id":"d","_revisions":{"start":4,"ids":["d","c","x"]}}"#;
+    static ROWS: Rows = &[
+        (Call::Put(A, GROWN), "Changed { seq: 1 }"),
+        (Call::Put(A, GROWN), "Same"),
+        (Call::Put(A, LONGER), "Changed { seq: 2 }"),
+        (Call::Put(A, ANCESTOR), "Changed { seq: 3 }"),
+        (Call::Put(A, AGAIN), "Same"),
+        (Call::Put(A, OTHER), "Contradiction 3-c,2-b,2-x"),
+        (Call::Numbers(A), "0 at 3"),
+        (Call::Tree(A, "d"), "3-c of 3"),
+        (Call::Node(A, "d", "2-b"), r#"1-a, Local(0), live {"n":1}"#),
+        (Call::Tree(A, "e"), "no document"),
+    ];
+    Bench::new(&rt, rt.alloc(), &[0]).run(&rt, ROWS);
 }
 
 #[test]
 fn edits_of_each_kind(rt: HostRuntime) {
     // The signatures are MD5 of the parent, the kind and the body.
-    let first = "1-a7b2c897c2eeb544e2e818194f53a9e3";
-    let second = "2-cb54dc74c0a7939aa02f5c29b5058e05";
-    let gone = "3-5978dd13991326701fd91ce8b9f1cd04";
-    let again = "4-b09ed53430120f58c04d525cbbd3e33d";
-    let dead = "1-e2ee0f94de389cef87fb74faf99cc2e1";
-    let live = "2-e7915e5a79f14ff8d97a52f9ef488bbf";
-    Bench::new(&rt, rt.alloc(), &[0]).run(
-        &rt,
-        &[
-            // The first edit of a document, then one of its leaf.
-            (Call::Edit(A, "d", "", false, "{}", 0), first),
-            (Call::Edit(A, "d", first, false, r#"{"n":1}"#, 1), second),
-            // A deletion, then an edit without a parent, which stands on the deleted winner.
-            (Call::Edit(A, "d", second, true, "{}", 2), gone),
-            (
-                Call::Tree(A, "d"),
-                "3-5978dd13991326701fd91ce8b9f1cd04 of 3",
-            ),
-            (Call::Edit(A, "d", "", false, r#"{"n":1}"#, 3), again),
-            (
-                Call::Tree(A, "d"),
-                "4-b09ed53430120f58c04d525cbbd3e33d of 4",
-            ),
-            (
-                Call::Node(A, "d", again),
-                r#"3-5978dd13991326701fd91ce8b9f1cd04, Local(3), live {"n":1}"#,
-            ),
-            (
-                Call::Node(A, "d", gone),
-                "2-cb54dc74c0a7939aa02f5c29b5058e05, Local(2), deleted {}",
-            ),
-            (Call::Node(A, "d", first), "no parent, Local(0), live {}"),
-            (Call::Numbers(A), "0 at 4"),
-            // A first edit may delete, and a deleted leaf may be named.
-            (Call::Edit(A, "e", "", true, "{}", 4), dead),
-            (Call::Edit(A, "e", dead, false, "{}", 5), live),
-            (
-                Call::Tree(A, "e"),
-                "2-e7915e5a79f14ff8d97a52f9ef488bbf of 2",
-            ),
-            (Call::Numbers(A), "0 at 6"),
-        ],
-    );
+    const FIRST_EDIT: &str = "1-a7b2c897c2eeb544e2e818194f53a9e3";
+    const SECOND_EDIT: &str = "2-cb54dc74c0a7939aa02f5c29b5058e05";
+    const GONE: &str = "3-5978dd13991326701fd91ce8b9f1cd04";
+    const AGAIN: &str = "4-b09ed53430120f58c04d525cbbd3e33d";
+    const DEAD: &str = "1-e2ee0f94de389cef87fb74faf99cc2e1";
+    const LIVE: &str = "2-e7915e5a79f14ff8d97a52f9ef488bbf";
+    static ROWS: Rows = &[
+        // The first edit of a document, then one of its leaf.
+        (Call::Edit(A, "d", "", false, "{}", 0), FIRST_EDIT),
+        (
+            Call::Edit(A, "d", FIRST_EDIT, false, r#"{"n":1}"#, 1),
+            SECOND_EDIT,
+        ),
+        // A deletion, then an edit without a parent, which stands on the deleted winner.
+        (Call::Edit(A, "d", SECOND_EDIT, true, "{}", 2), GONE),
+        (
+            Call::Tree(A, "d"),
+            "3-5978dd13991326701fd91ce8b9f1cd04 of 3",
+        ),
+        (Call::Edit(A, "d", "", false, r#"{"n":1}"#, 3), AGAIN),
+        (
+            Call::Tree(A, "d"),
+            "4-b09ed53430120f58c04d525cbbd3e33d of 4",
+        ),
+        (
+            Call::Node(A, "d", AGAIN),
+            r#"3-5978dd13991326701fd91ce8b9f1cd04, Local(3), live {"n":1}"#,
+        ),
+        (
+            Call::Node(A, "d", GONE),
+            "2-cb54dc74c0a7939aa02f5c29b5058e05, Local(2), deleted {}",
+        ),
+        (
+            Call::Node(A, "d", FIRST_EDIT),
+            "no parent, Local(0), live {}",
+        ),
+        (Call::Numbers(A), "0 at 4"),
+        // A first edit may delete, and a deleted leaf may be named.
+        (Call::Edit(A, "e", "", true, "{}", 4), DEAD),
+        (Call::Edit(A, "e", DEAD, false, "{}", 5), LIVE),
+        (
+            Call::Tree(A, "e"),
+            "2-e7915e5a79f14ff8d97a52f9ef488bbf of 2",
+        ),
+        (Call::Numbers(A), "0 at 6"),
+    ];
+    Bench::new(&rt, rt.alloc(), &[0]).run(&rt, ROWS);
 }
 
 #[test]
 fn edits_refused_by_name(rt: HostRuntime) {
-    let both = r#"{"_id":"d","_revisions":{"start":2,"ids":["b","a"]}}"#;
-    let full = r#"{"_id":"f","_rev":"4294967295-a"}"#;
-    Bench::new(&rt, rt.alloc(), &[0]).run(
-        &rt,
-        &[
-            (Call::Edit(A, "d", "1-a", false, "{}", 0), "NoSuchDocument"),
-            (Call::Put(A, both), "Changed { seq: 1 }"),
-            // A parent that is no leaf, one that is not in the tree, and none beside a live leaf.
-            (Call::Edit(A, "d", "1-a", false, "{}", 0), "Conflict"),
-            (Call::Edit(A, "d", "2-x", false, "{}", 0), "Conflict"),
-            (Call::Edit(A, "d", "", false, "{}", 0), "Conflict"),
-            (Call::Put(A, full), "Changed { seq: 2 }"),
-            (
-                Call::Edit(A, "f", "4294967295-a", false, "{}", 0),
-                "GenerationFull",
-            ),
-            (Call::Numbers(A), "0 at 2"),
-        ],
-    );
+    const TWO: &str = r#"{"_id":"d","_revisions":{"start":2,"ids":["b","a"]}}"#;
+    const FULL: &str = r#"{"_id":"f","_rev":"4294967295-a"}"#;
+    static ROWS: Rows = &[
+        (Call::Edit(A, "d", "1-a", false, "{}", 0), "NoSuchDocument"),
+        (Call::Put(A, TWO), "Changed { seq: 1 }"),
+        // A parent that is no leaf, one that is not in the tree, and none beside a live leaf.
+        (Call::Edit(A, "d", "1-a", false, "{}", 0), "Conflict"),
+        (Call::Edit(A, "d", "2-x", false, "{}", 0), "Conflict"),
+        (Call::Edit(A, "d", "", false, "{}", 0), "Conflict"),
+        (Call::Put(A, FULL), "Changed { seq: 2 }"),
+        (
+            Call::Edit(A, "f", "4294967295-a", false, "{}", 0),
+            "GenerationFull",
+        ),
+        (Call::Numbers(A), "0 at 2"),
+    ];
+    Bench::new(&rt, rt.alloc(), &[0]).run(&rt, ROWS);
 }
 
 #[test]
 fn an_edit_that_is_there(rt: HostRuntime) {
     // The id of this edit is put into the tree, without the parent.
-    let there = r#"{"_id":"d","_rev":"2-1c600d37126a8e6d3c67d6f7a6a5c299"}"#;
-    Bench::new(&rt, rt.alloc(), &[0]).run(
-        &rt,
-        &[
-            (
-                Call::Put(A, r#"{"_id":"d","_rev":"1-a"}"#),
-                "Changed { seq: 1 }",
-            ),
-            (Call::Put(A, there), "Changed { seq: 2 }"),
-            (
-                Call::Edit(A, "d", "1-a", false, "{}", 0),
-                "RevExists 2-1c600d37126a8e6d3c67d6f7a6a5c299",
-            ),
-            (Call::Numbers(A), "0 at 2"),
-        ],
-    );
+    const THERE: &str = r#"{"_id":"d","_rev":"2-1c600d37126a8e6d3c67d6f7a6a5c299"}"#;
+    static ROWS: Rows = &[
+        (
+            Call::Put(A, r#"{"_id":"d","_rev":"1-a"}"#),
+            "Changed { seq: 1 }",
+        ),
+        (Call::Put(A, THERE), "Changed { seq: 2 }"),
+        (
+            Call::Edit(A, "d", "1-a", false, "{}", 0),
+            "RevExists 2-1c600d37126a8e6d3c67d6f7a6a5c299",
+        ),
+        (Call::Numbers(A), "0 at 2"),
+    ];
+    Bench::new(&rt, rt.alloc(), &[0]).run(&rt, ROWS);
 }
 
 #[test]
 fn at_the_last_sequences(rt: HostRuntime) {
-    let last = r#"{"_id":"d","_revisions":{"start":2,"ids":["b","a"]}}"#;
-    let other = r#"{"_id":"d","_revisions":{"start":2,"ids":["b","x"]}}"#;
-    let refused = "GoalAhead { update_seq: 9007199254740991 }";
-    Bench::new(&rt, rt.alloc(), &[]).run(
-        &rt,
-        &[
-            (Call::DatabaseAt(7, 9_007_199_254_740_992), "SeqTooLarge"),
-            (
-                Call::DatabaseAt(7, 18_446_744_073_709_551_615),
-                "SeqTooLarge",
-            ),
-            (Call::DatabaseAt(7, 9_007_199_254_740_990), "made"),
-            (Call::DatabaseAt(8, 9_007_199_254_740_991), "made"),
-            (Call::Numbers(A), "7 at 9007199254740990"),
-            (Call::Numbers(B), "8 at 9007199254740991"),
-            (Call::Tree(A, "d"), "no document"),
-            (Call::Put(A, last), "Changed { seq: 9007199254740991 }"),
-            // What changes nothing takes no sequence; a contradiction is told before the want of one.
-            (Call::Put(A, last), "Same"),
-            (Call::Put(A, other), "Contradiction 2-b,1-a,1-x"),
-            (Call::Put(A, r#"{"_id":"e","_rev":"1-a"}"#), "SeqFull"),
-            (Call::Put(B, last), "SeqFull"),
-            (Call::Edit(A, "d", "", false, "{}", 0), "Conflict"),
-            (Call::Edit(A, "d", "2-b", false, "{}", 0), "SeqFull"),
-            (Call::Edit(B, "d", "", false, "{}", 0), "SeqFull"),
-            (Call::Numbers(A), "7 at 9007199254740991"),
-            (
-                Call::Page(A, 9_007_199_254_740_990, 9_007_199_254_740_991, 2),
-                "9007199254740990 to 9007199254740991: 9007199254740991 d 2-b;",
-            ),
-            (Call::Page(A, 0, 9_007_199_254_740_992, 2), refused),
-        ],
-    );
+    const LAST: &str = r#"{"_id":"d","_revisions":{"start":2,"ids":["b","a"]}}"#;
+    const OTHER: &str = r#"{"_id":"d","_revisions":{"start":2,"ids":["b","x"]}}"#;
+    const REFUSED: &str = "GoalAhead { update_seq: 9007199254740991 }";
+    static ROWS: Rows = &[
+        (Call::DatabaseAt(7, 9_007_199_254_740_992), "SeqTooLarge"),
+        (
+            Call::DatabaseAt(7, 18_446_744_073_709_551_615),
+            "SeqTooLarge",
+        ),
+        (Call::DatabaseAt(7, 9_007_199_254_740_990), "made"),
+        (Call::DatabaseAt(8, 9_007_199_254_740_991), "made"),
+        (Call::Numbers(A), "7 at 9007199254740990"),
+        (Call::Numbers(B), "8 at 9007199254740991"),
+        (Call::Tree(A, "d"), "no document"),
+        (Call::Put(A, LAST), "Changed { seq: 9007199254740991 }"),
+        // What changes nothing takes no sequence; a contradiction is told before the want of one.
+        (Call::Put(A, LAST), "Same"),
+        (Call::Put(A, OTHER), "Contradiction 2-b,1-a,1-x"),
+        (Call::Put(A, r#"{"_id":"e","_rev":"1-a"}"#), "SeqFull"),
+        (Call::Put(B, LAST), "SeqFull"),
+        (Call::Edit(A, "d", "", false, "{}", 0), "Conflict"),
+        (Call::Edit(A, "d", "2-b", false, "{}", 0), "SeqFull"),
+        (Call::Edit(B, "d", "", false, "{}", 0), "SeqFull"),
+        (Call::Numbers(A), "7 at 9007199254740991"),
+        (
+            Call::Page(A, 9_007_199_254_740_990, 9_007_199_254_740_991, 2),
+            "9007199254740990 to 9007199254740991: 9007199254740991 d 2-b;",
+        ),
+        (Call::Page(A, 0, 9_007_199_254_740_992, 2), REFUSED),
+    ];
+    Bench::new(&rt, rt.alloc(), &[]).run(&rt, ROWS);
 }
 
 #[test]
 fn fetch_both_leaves(rt: HostRuntime) {
     let mut bench = Bench::new(&rt, rt.alloc(), &[1, 2]);
-    bench.run(&rt, &BOTH);
-    bench.run(&rt, &BOTH_ASKED);
-    bench.run(
-        &rt,
-        &[
-            (Call::CopyWanted(FIRST), "d"),
-            (
-                Call::Fetch(A, FIRST),
-                r#"0 to 2: d 2-b,1-r live {}; d 2-a,1-r live {"n":1};"#,
-            ),
-        ],
-    );
+    bench.run(&rt, BOTH);
+    bench.run(&rt, BOTH_ASKED);
+    static ROWS: Rows = &[
+        (Call::CopyWanted(FIRST), "d"),
+        (
+            Call::Fetch(A, FIRST),
+            r#"0 to 2: d 2-b,1-r live {}; d 2-a,1-r live {"n":1};"#,
+        ),
+    ];
+    bench.run(&rt, ROWS);
 }
 
 #[test]
 fn a_fetched_document_has_its_ancestry_and_content(rt: HostRuntime) {
-    let deleted = r#"{"_id":"d","_revisions":{"start":3,"ids":["c","b"]},"_deleted":true}"#;
+    const DELETED: &str = r#"{"_id":"d","_revisions":{"start":3,"ids":["c","b"]},"_deleted":true}"#;
     let mut bench = Bench::new(&rt, rt.alloc(), &[1, 2]);
-    bench.run(&rt, &BOTH);
-    bench.run(
-        &rt,
-        &[
-            (Call::Put(A, deleted), "Changed { seq: 3 }"),
-            (Call::Page(A, 0, 3, 10), "0 to 3: 3 d 2-a,3-c;"),
-            (Call::Diff(B, FIRST), "0 to 3: d 2-a,3-c;"),
-            // The live leaf comes before the deleted one, whose ancestry is longer than it was given.
-            (
-                Call::Fetch(A, FIRST),
-                r#"0 to 3: d 2-a,1-r live {"n":1}; d 3-c,2-b,1-r deleted {};"#,
-            ),
-        ],
-    );
+    bench.run(&rt, BOTH);
+    static ROWS: Rows = &[
+        (Call::Put(A, DELETED), "Changed { seq: 3 }"),
+        (Call::Page(A, 0, 3, 10), "0 to 3: 3 d 2-a,3-c;"),
+        (Call::Diff(B, FIRST), "0 to 3: d 2-a,3-c;"),
+        // The live leaf comes before the deleted one, whose ancestry is longer than it was given.
+        (
+            Call::Fetch(A, FIRST),
+            r#"0 to 3: d 2-a,1-r live {"n":1}; d 3-c,2-b,1-r deleted {};"#,
+        ),
+    ];
+    bench.run(&rt, ROWS);
 }
 
 #[test]
 fn fetch_moved_leaf(rt: HostRuntime) {
-    let newer = r#"{"_id":"d","_revisions":{"start":3,"ids":["c","b","r"]}}"#;
+    const NEWER: &str = r#"{"_id":"d","_revisions":{"start":3,"ids":["c","b","r"]}}"#;
     let mut bench = Bench::new(&rt, rt.alloc(), &[1, 2]);
-    bench.run(&rt, &BOTH);
-    bench.run(&rt, &BOTH_ASKED);
-    bench.run(
-        &rt,
-        &[
-            (Call::Put(A, newer), "Changed { seq: 3 }"),
-            (
-                Call::Fetch(A, FIRST),
-                r#"0 to 2: d 3-c,2-b,1-r live {}; d 2-a,1-r live {"n":1};"#,
-            ),
-        ],
-    );
+    bench.run(&rt, BOTH);
+    bench.run(&rt, BOTH_ASKED);
+    static ROWS: Rows = &[
+        (Call::Put(A, NEWER), "Changed { seq: 3 }"),
+        (
+            Call::Fetch(A, FIRST),
+            r#"0 to 2: d 3-c,2-b,1-r live {}; d 2-a,1-r live {"n":1};"#,
+        ),
+    ];
+    bench.run(&rt, ROWS);
 }
 
 #[test]
 fn fetch_at_empty_database(rt: HostRuntime) {
     let mut bench = Bench::new(&rt, rt.alloc(), &[1, 2]);
-    bench.run(&rt, &BOTH);
-    bench.run(&rt, &BOTH_ASKED);
-    bench.run(
-        &rt,
-        &[(Call::Fetch(B, FIRST), "0 to 2: gone d 2-b; gone d 2-a;")],
-    );
+    bench.run(&rt, BOTH);
+    bench.run(&rt, BOTH_ASKED);
+    static ROWS: Rows = &[(Call::Fetch(B, FIRST), "0 to 2: gone d 2-b; gone d 2-a;")];
+    bench.run(&rt, ROWS);
 }
 
 #[test]
 fn known_ancestor_not_asked(rt: HostRuntime) {
-    let newer = r#"{"_id":"d","_revisions":{"start":3,"ids":["c","b","r"]}}"#;
+    const NEWER: &str = r#"{"_id":"d","_revisions":{"start":3,"ids":["c","b","r"]}}"#;
     let mut bench = Bench::new(&rt, rt.alloc(), &[1, 2]);
-    bench.run(&rt, &BOTH);
-    bench.run(
-        &rt,
-        &[
-            (Call::Put(B, newer), "Changed { seq: 1 }"),
-            (Call::Page(A, 0, 2, 10), "0 to 2: 2 d 2-b,2-a;"),
-            (Call::Diff(B, FIRST), "0 to 2: d 2-a;"),
-        ],
-    );
+    bench.run(&rt, BOTH);
+    static ROWS: Rows = &[
+        (Call::Put(B, NEWER), "Changed { seq: 1 }"),
+        (Call::Page(A, 0, 2, 10), "0 to 2: 2 d 2-b,2-a;"),
+        (Call::Diff(B, FIRST), "0 to 2: d 2-a;"),
+    ];
+    bench.run(&rt, ROWS);
 }
 
 #[test]
 fn a_parcel_moves_into_a_thread_and_back(rt: HostRuntime) -> Result<(), Fail> {
-    let fetched = r#"0 to 2: d 2-b,1-r live {}; d 2-a,1-r live {"n":1};"#;
+    const FETCHED: &str = r#"0 to 2: d 2-b,1-r live {}; d 2-a,1-r live {"n":1};"#;
     let mut bench = Bench::new(&rt, rt.alloc(), &[1, 2]);
-    bench.run(&rt, &BOTH);
-    bench.run(&rt, &BOTH_ASKED);
-    bench.run(
-        &rt,
-        &[
-            (Call::CopyAsked(FIRST), "0 to 2: d 2-b,2-a;"),
-            (Call::Fetch(A, SECOND), fetched),
-            (Call::CopyParcel(FIRST), fetched),
-        ],
-    );
+    bench.run(&rt, BOTH);
+    bench.run(&rt, BOTH_ASKED);
+    static ROWS: Rows = &[
+        (Call::CopyAsked(FIRST), "0 to 2: d 2-b,2-a;"),
+        (Call::Fetch(A, SECOND), FETCHED),
+        (Call::CopyParcel(FIRST), FETCHED),
+    ];
+    bench.run(&rt, ROWS);
     let Some(parcel) = bench.parcels.pop() else {
         rt.panic(format_args!("a parcel"))
     };
     let child = thread::spawn(&rt, move || parcel)?;
     let parcel = child.join(&rt);
     bench.parcels.push(parcel)?;
-    bench.run(
-        &rt,
-        &[
-            (Call::Parcel(SECOND), "0 to 2: d 2-b,2-a;"),
-            (Call::CopyParcel(SECOND), fetched),
-        ],
-    );
+    static THEN: Rows = &[
+        (Call::Parcel(SECOND), "0 to 2: d 2-b,2-a;"),
+        (Call::CopyParcel(SECOND), FETCHED),
+    ];
+    bench.run(&rt, THEN);
     Ok(())
 }

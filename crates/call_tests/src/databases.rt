@@ -1,7 +1,7 @@
 //! Databases with what is read and fetched from them, and the calls on these by name.
 use crate::texts::{
-    asked_text, base_fault_text, body, doc, node_text, parcel_text, rev, rev_text, shown,
-    tree_text, window_text,
+    asked_text, base_fault_text, body, doc, expect_answer, node_text, parcel_text, rev, rev_text,
+    shown, tree_text, window_text,
 };
 use couch_base::{Asked, BaseFault, Database, Parcel, Put, Window};
 use doc_json::DocId;
@@ -46,6 +46,9 @@ pub(crate) enum Call<'a> {
     Parcel(usize),
 }
 
+/// Calls, each with the text that it must answer.
+pub(crate) type Rows = &'static [(Call<'static>, &'static str)];
+
 /// Databases, and what was read and fetched from them.
 #[derive(Drop)]
 pub(crate) struct Bench {
@@ -77,10 +80,7 @@ impl Bench {
     /// Makes the calls in order, and asserts what each answers.
     pub(crate) fn run(&mut self, rt: &impl Abort, calls: &[(Call, &str)]) {
         for (i, (call, wanted)) in calls.iter().enumerate() {
-            let Some(answer) = self.answer(call) else {
-                rt.panic(format_args!("call {i} can't be made"))
-            };
-            assert_eq!(rt; answer.as_str(), *wanted, "call {i}");
+            expect_answer(rt, i, self.answer(call), wanted);
         }
     }
 

@@ -1,5 +1,5 @@
 //! The rows of peers: local writes, sessions, each refusal, logs and audits. Each call with ample memory.
-use crate::peers::{Beginning, Bench, Call};
+use crate::peers::{Beginning, Bench, Call, Rows};
 use repl_log::RepId;
 use rev_tree::SessionId;
 
@@ -36,26 +36,6 @@ const OTHER_REP: RepId = RepId {
     target: 2,
 };
 
-/// A session of `REP` on no other one, from 0 to a goal.
-fn whole(goal: u64) -> Beginning {
-    beginning(REP, None, 0, goal)
-}
-
-/// A session of `REP` on the first one.
-fn after_first(start: u64, goal: u64) -> Beginning {
-    beginning(REP, Some(S1), start, goal)
-}
-
-/// A session.
-fn beginning(rep: RepId, base: Option<SessionId>, start: u64, goal: u64) -> Beginning {
-    Beginning {
-        rep,
-        base,
-        start,
-        goal,
-    }
-}
-
 /// The document d at 1-a, as it is loaded.
 const D: &str = r#"{"_id":"d","_rev":"1-a"}"#;
 
@@ -87,7 +67,7 @@ const FROM_ONE: Beginning = Beginning {
 };
 
 /// A source of d at 1-a, an empty target, and another peer.
-const THREE: [(Call<'static>, &'static str); 4] = [
+static THREE: Rows = &[
     (Call::Peer(1, None), "made"),
     (Call::Peer(2, None), "made"),
     (Call::Peer(3, None), "made"),
@@ -95,7 +75,7 @@ const THREE: [(Call<'static>, &'static str); 4] = [
 ];
 
 /// The first session of the target stores the source's feed and asks for its document.
-const ASKED: [(Call<'static>, &'static str); 4] = [
+static ASKED: Rows = &[
     (Call::Begin(TARGET, S1, TO_ONE, 10), "begun"),
     (Call::Page(SOURCE, 0, 1), "0 to 1: 1 d 1-a;"),
     (Call::Append(TARGET, S1, FIRST), "appended"),
@@ -103,7 +83,7 @@ const ASKED: [(Call<'static>, &'static str); 4] = [
 ];
 
 /// The source edits d, and the asked revision is answered by its descendant.
-const MOVED: [(Call<'static>, &'static str); 3] = [
+static MOVED: Rows = &[
     (Call::Edit(SOURCE, "d", "1-a", false, "{}"), NEXT),
     (Call::Numbers(SOURCE), "1 at 2"),
     (
@@ -113,7 +93,7 @@ const MOVED: [(Call<'static>, &'static str); 3] = [
 ];
 
 /// The second session of the target stores the rest of the source's feed.
-const SECOND_SESSION: [(Call<'static>, &'static str); 3] = [
+static SECOND_SESSION: Rows = &[
     (Call::Begin(TARGET, S2, FROM_ONE, 12), "begun"),
     (
         Call::Page(SOURCE, 1, 2),
@@ -125,74 +105,64 @@ const SECOND_SESSION: [(Call<'static>, &'static str); 3] = [
 #[test]
 fn fetch_brings_descendant(rt: HostRuntime) {
     let mut bench = Bench::new(rt.alloc());
-    bench.run(&rt, &THREE);
-    bench.run(&rt, &ASKED);
-    bench.run(&rt, &MOVED);
-    bench.run(
-        &rt,
-        &[
-            (Call::Settle(TARGET, S1, FIRST), "written 1 failed 0"),
-            (Call::Covered(TARGET, "d", "1-a"), "true"),
-            (Call::Record(TARGET, S1, 11), "1"),
-        ],
-    );
-    bench.run(&rt, &SECOND_SESSION);
+    bench.run(&rt, THREE);
+    bench.run(&rt, ASKED);
+    bench.run(&rt, MOVED);
+    static ROWS: Rows = &[
+        (Call::Settle(TARGET, S1, FIRST), "written 1 failed 0"),
+        (Call::Covered(TARGET, "d", "1-a"), "true"),
+        (Call::Record(TARGET, S1, 11), "1"),
+    ];
+    bench.run(&rt, ROWS);
+    bench.run(&rt, SECOND_SESSION);
     // The next session has nothing to ask for.
-    bench.run(
-        &rt,
-        &[
-            (Call::Diff(TARGET, SECOND), "1 to 2:"),
-            (Call::Fetch(SOURCE, SECOND), "1 to 2:"),
-            (Call::Settle(TARGET, S2, SECOND), "written 0 failed 0"),
-            (
-                Call::Entry(TARGET, S2),
-                "session 2 from 1 to 1 checked 1 found 0 read 0 written 0 failed 0, 12 to 12",
-            ),
-        ],
-    );
+    static THEN: Rows = &[
+        (Call::Diff(TARGET, SECOND), "1 to 2:"),
+        (Call::Fetch(SOURCE, SECOND), "1 to 2:"),
+        (Call::Settle(TARGET, S2, SECOND), "written 0 failed 0"),
+        (
+            Call::Entry(TARGET, S2),
+            "session 2 from 1 to 1 checked 1 found 0 read 0 written 0 failed 0, 12 to 12",
+        ),
+    ];
+    bench.run(&rt, THEN);
 }
 
 #[test]
 fn a_refused_descendant_covers(rt: HostRuntime) {
     let mut bench = Bench::new(rt.alloc());
-    bench.run(
-        &rt,
-        &[
-            (Call::Peer(1, None), "made"),
-            (Call::Peer(2, Some("d")), "made"),
-            (Call::Load(SOURCE, D), "Changed { seq: 1 }"),
-        ],
-    );
-    bench.run(&rt, &ASKED);
-    bench.run(&rt, &MOVED);
-    bench.run(
-        &rt,
-        &[
-            (Call::Settle(TARGET, S1, FIRST), "written 0 failed 1"),
-            (Call::Covered(TARGET, "d", "1-a"), "true"),
-            (Call::Record(TARGET, S1, 11), "1"),
-        ],
-    );
-    bench.run(&rt, &SECOND_SESSION);
+    static ROWS: Rows = &[
+        (Call::Peer(1, None), "made"),
+        (Call::Peer(2, Some("d")), "made"),
+        (Call::Load(SOURCE, D), "Changed { seq: 1 }"),
+    ];
+    bench.run(&rt, ROWS);
+    bench.run(&rt, ASKED);
+    bench.run(&rt, MOVED);
+    static THEN: Rows = &[
+        (Call::Settle(TARGET, S1, FIRST), "written 0 failed 1"),
+        (Call::Covered(TARGET, "d", "1-a"), "true"),
+        (Call::Record(TARGET, S1, 11), "1"),
+    ];
+    bench.run(&rt, THEN);
+    bench.run(&rt, SECOND_SESSION);
     // The document is not in the tree, so it is asked for and refused once more.
-    bench.run(
-        &rt,
-        &[
-            (
-                Call::Diff(TARGET, SECOND),
-                "1 to 2: d 2-1c600d37126a8e6d3c67d6f7a6a5c299;",
-            ),
-            (
-                Call::Fetch(SOURCE, SECOND),
-                "1 to 2: d 2-1c600d37126a8e6d3c67d6f7a6a5c299,1-a live {};",
-            ),
-            (Call::Settle(TARGET, S2, SECOND), "written 0 failed 1"),
-            (
-                Call::Entry(TARGET, S2),
-                "session 2 from 1 to 1 checked 1 found 1 read 1 written 0 failed 1, 12 to 12",
-            ),
-        ],
-    );
+    static LAST: Rows = &[
+        (
+            Call::Diff(TARGET, SECOND),
+            "1 to 2: d 2-1c600d37126a8e6d3c67d6f7a6a5c299;",
+        ),
+        (
+            Call::Fetch(SOURCE, SECOND),
+            "1 to 2: d 2-1c600d37126a8e6d3c67d6f7a6a5c299,1-a live {};",
+        ),
+        (Call::Settle(TARGET, S2, SECOND), "written 0 failed 1"),
+        (
+            Call::Entry(TARGET, S2),
+            "session 2 from 1 to 1 checked 1 found 1 read 1 written 0 failed 1, 12 to 12",
+        ),
+    ];
+    bench.run(&rt, LAST);
 }
 
 /// A sequence that leaves room for one change.
@@ -200,313 +170,361 @@ const LAST_BUT_ONE: u64 = 9_007_199_254_740_990;
 
 #[test]
 fn sequences_run_out(rt: HostRuntime) {
-    let fetched = "0 to 2: d 1-a live {}; e 1-a live {};";
+    const FETCHED: &str = "0 to 2: d 1-a live {}; e 1-a live {};";
     let mut bench = Bench::new(rt.alloc());
-    bench.run(
-        &rt,
-        &[
-            (Call::Peer(1, None), "made"),
-            (Call::PeerAt(2, None, LAST_BUT_ONE + 2), "SeqTooLarge"),
-            (Call::PeerAt(2, None, LAST_BUT_ONE), "made"),
-            (Call::PeerAt(3, Some("e"), LAST_BUT_ONE), "made"),
-            (Call::Load(SOURCE, D), "Changed { seq: 1 }"),
-            (
-                Call::Load(SOURCE, r#"{"_id":"e","_rev":"1-a"}"#),
-                "Changed { seq: 2 }",
-            ),
-            (Call::Begin(TARGET, S1, whole(2), 10), "begun"),
-            (Call::Page(SOURCE, 0, 2), "0 to 2: 1 d 1-a; 2 e 1-a;"),
-            (Call::Append(TARGET, S1, FIRST), "appended"),
-            (Call::Diff(TARGET, FIRST), "0 to 2: d 1-a; e 1-a;"),
-            (Call::Fetch(SOURCE, FIRST), fetched),
-        ],
-    );
+    static ROWS: Rows = &[
+        (Call::Peer(1, None), "made"),
+        (Call::PeerAt(2, None, LAST_BUT_ONE + 2), "SeqTooLarge"),
+        (Call::PeerAt(2, None, LAST_BUT_ONE), "made"),
+        (Call::PeerAt(3, Some("e"), LAST_BUT_ONE), "made"),
+        (Call::Load(SOURCE, D), "Changed { seq: 1 }"),
+        (
+            Call::Load(SOURCE, r#"{"_id":"e","_rev":"1-a"}"#),
+            "Changed { seq: 2 }",
+        ),
+        (
+            Call::Begin(TARGET, S1, Beginning { goal: 2, ..TO_ONE }, 10),
+            "begun",
+        ),
+        (Call::Page(SOURCE, 0, 2), "0 to 2: 1 d 1-a; 2 e 1-a;"),
+        (Call::Append(TARGET, S1, FIRST), "appended"),
+        (Call::Diff(TARGET, FIRST), "0 to 2: d 1-a; e 1-a;"),
+        (Call::Fetch(SOURCE, FIRST), FETCHED),
+    ];
+    bench.run(&rt, ROWS);
     // The first document takes the last sequence, and the second one stays out; the first is an arrival once more.
-    let stopped = "Stopped 1, rest e, SeqFull";
-    let twice = "session 1 from 0 to 0 checked 0 found 0 read 2 written 2 failed 0, 10 to 11";
-    bench.run(
-        &rt,
-        &[
-            (Call::Settle(TARGET, S1, FIRST), stopped),
-            (Call::Numbers(TARGET), "2 at 9007199254740991"),
-            (Call::Record(TARGET, S1, 11), "0"),
-            (Call::Settle(TARGET, S1, FIRST), stopped),
-            (Call::Entry(TARGET, S1), twice),
-            (Call::Covered(TARGET, "e", "1-a"), "false"),
-            // A document that is refused takes no sequence.
-            (Call::Begin(OTHER, S1, whole(2), 10), "begun"),
-            (Call::Append(OTHER, S1, FIRST), "appended"),
-            (Call::Settle(OTHER, S1, FIRST), "written 1 failed 1"),
-            (Call::Record(OTHER, S1, 11), "2"),
-        ],
-    );
+    const STOPPED: &str = "Stopped 1, rest e, SeqFull";
+    const TWICE: &str =
+        "session 1 from 0 to 0 checked 0 found 0 read 2 written 2 failed 0, 10 to 11";
+    static THEN: Rows = &[
+        (Call::Settle(TARGET, S1, FIRST), STOPPED),
+        (Call::Numbers(TARGET), "2 at 9007199254740991"),
+        (Call::Record(TARGET, S1, 11), "0"),
+        (Call::Settle(TARGET, S1, FIRST), STOPPED),
+        (Call::Entry(TARGET, S1), TWICE),
+        (Call::Covered(TARGET, "e", "1-a"), "false"),
+        // A document that is refused takes no sequence.
+        (
+            Call::Begin(OTHER, S1, Beginning { goal: 2, ..TO_ONE }, 10),
+            "begun",
+        ),
+        (Call::Append(OTHER, S1, FIRST), "appended"),
+        (Call::Settle(OTHER, S1, FIRST), "written 1 failed 1"),
+        (Call::Record(OTHER, S1, 11), "2"),
+    ];
+    bench.run(&rt, THEN);
 }
 
 #[test]
 fn session_refusals(rt: HostRuntime) {
-    let fetched = "0 to 2: a 1-a live {}; b 1-a live {};";
-    let entry = "session 1 from 0 to 0 checked 2 found 2 read 2 written 2 failed 0, 10 to 10";
-    Bench::new(rt.alloc()).run(
-        &rt,
-        &[
-            (Call::Peer(1, None), "made"),
-            (Call::Peer(2, None), "made"),
-            (
-                Call::Load(SOURCE, r#"{"_id":"a","_rev":"1-a"}"#),
-                "Changed { seq: 1 }",
-            ),
-            (
-                Call::Load(SOURCE, r#"{"_id":"b","_rev":"1-a"}"#),
-                "Changed { seq: 2 }",
-            ),
-            (
-                Call::Load(SOURCE, r#"{"_id":"c","_rev":"1-a"}"#),
-                "Changed { seq: 3 }",
-            ),
-            (Call::Load(SOURCE, D), "Changed { seq: 4 }"),
-            (Call::Begin(TARGET, S1, whole(4), 10), "begun"),
-            (Call::Page(SOURCE, 0, 2), "0 to 2: 1 a 1-a; 2 b 1-a;"),
-            (Call::Page(SOURCE, 2, 4), "2 to 4: 3 c 1-a; 4 d 1-a;"),
-            (Call::Append(TARGET, S1, SECOND), "Gap { expected: 0 }"),
-            (Call::Diff(TARGET, FIRST), "0 to 2: a 1-a; b 1-a;"),
-            (Call::Fetch(SOURCE, FIRST), fetched),
-            (Call::Settle(TARGET, S1, FIRST), "ForeignParcel"),
-            (Call::Append(TARGET, S1, FIRST), "appended"),
-            (Call::Settle(TARGET, S1, FIRST), "written 2 failed 0"),
-            (Call::Entry(TARGET, S1), entry),
-            (Call::Settle(TARGET, S1, FIRST), "AlreadyDone"),
-            (Call::Entry(TARGET, S1), entry),
-            (
-                Call::Conclude(TARGET, S1, 11),
-                "Unfinished { low_water: 2 }",
-            ),
-            (Call::Entry(TARGET, S1), entry),
-        ],
-    );
+    const FETCHED: &str = "0 to 2: a 1-a live {}; b 1-a live {};";
+    const ENTRY: &str =
+        "session 1 from 0 to 0 checked 2 found 2 read 2 written 2 failed 0, 10 to 10";
+    static ROWS: Rows = &[
+        (Call::Peer(1, None), "made"),
+        (Call::Peer(2, None), "made"),
+        (
+            Call::Load(SOURCE, r#"{"_id":"a","_rev":"1-a"}"#),
+            "Changed { seq: 1 }",
+        ),
+        (
+            Call::Load(SOURCE, r#"{"_id":"b","_rev":"1-a"}"#),
+            "Changed { seq: 2 }",
+        ),
+        (
+            Call::Load(SOURCE, r#"{"_id":"c","_rev":"1-a"}"#),
+            "Changed { seq: 3 }",
+        ),
+        (Call::Load(SOURCE, D), "Changed { seq: 4 }"),
+        (
+            Call::Begin(TARGET, S1, Beginning { goal: 4, ..TO_ONE }, 10),
+            "begun",
+        ),
+        (Call::Page(SOURCE, 0, 2), "0 to 2: 1 a 1-a; 2 b 1-a;"),
+        (Call::Page(SOURCE, 2, 4), "2 to 4: 3 c 1-a; 4 d 1-a;"),
+        (Call::Append(TARGET, S1, SECOND), "Gap { expected: 0 }"),
+        (Call::Diff(TARGET, FIRST), "0 to 2: a 1-a; b 1-a;"),
+        (Call::Fetch(SOURCE, FIRST), FETCHED),
+        (Call::Settle(TARGET, S1, FIRST), "ForeignParcel"),
+        (Call::Append(TARGET, S1, FIRST), "appended"),
+        (Call::Settle(TARGET, S1, FIRST), "written 2 failed 0"),
+        (Call::Entry(TARGET, S1), ENTRY),
+        (Call::Settle(TARGET, S1, FIRST), "AlreadyDone"),
+        (Call::Entry(TARGET, S1), ENTRY),
+        (
+            Call::Conclude(TARGET, S1, 11),
+            "Unfinished { low_water: 2 }",
+        ),
+        (Call::Entry(TARGET, S1), ENTRY),
+    ];
+    Bench::new(rt.alloc()).run(&rt, ROWS);
 }
 
 #[test]
 fn uncovered_window(rt: HostRuntime) {
     let mut bench = Bench::new(rt.alloc());
-    bench.run(&rt, &THREE);
-    bench.run(&rt, &ASKED);
-    bench.run(
-        &rt,
-        &[
-            (Call::Fetch(OTHER, FIRST), "0 to 1: gone d 1-a;"),
-            (Call::Settle(TARGET, S1, FIRST), "Uncovered 1 d 1-a"),
-            (Call::Record(TARGET, S1, 11), "0"),
-            (Call::Fetch(SOURCE, FIRST), "0 to 1: d 1-a live {};"),
-            (Call::Settle(TARGET, S1, SECOND), "written 1 failed 0"),
-            (Call::Record(TARGET, S1, 12), "1"),
-        ],
-    );
+    bench.run(&rt, THREE);
+    bench.run(&rt, ASKED);
+    static ROWS: Rows = &[
+        (Call::Fetch(OTHER, FIRST), "0 to 1: gone d 1-a;"),
+        (Call::Settle(TARGET, S1, FIRST), "Uncovered 1 d 1-a"),
+        (Call::Record(TARGET, S1, 11), "0"),
+        (Call::Fetch(SOURCE, FIRST), "0 to 1: d 1-a live {};"),
+        (Call::Settle(TARGET, S1, SECOND), "written 1 failed 0"),
+        (Call::Record(TARGET, S1, 12), "1"),
+    ];
+    bench.run(&rt, ROWS);
 }
 
 #[test]
 fn a_session_from_beginning_to_end(rt: HostRuntime) {
-    let given = r#"{"_id":"d","_revisions":{"start":3,"ids":["d","c","x"]}}"#;
-    let known = r#"{"_id":"d","_revisions":{"start":2,"ids":["c","b"]}}"#;
+    const GIVEN: &str = r#"{"_id":"d","_revisions":{"start":3,"ids":["d","c","x"]}}"#;
+    const KNOWN: &str = r#"{"_id":"d","_revisions":{"start":2,"ids":["c","b"]}}"#;
     let mut bench = Bench::new(rt.alloc());
-    bench.run(
-        &rt,
-        &[
-            (Call::Peer(1, None), "made"),
-            (Call::Peer(2, Some("secret")), "made"),
-            (
-                Call::Load(SOURCE, r#"{"_id":"x1","_rev":"1-a"}"#),
-                "Changed { seq: 1 }",
-            ),
-            (
-                Call::Load(SOURCE, r#"{"_id":"secret","_rev":"1-a"}"#),
-                "Changed { seq: 2 }",
-            ),
-            (Call::Load(SOURCE, given), "Changed { seq: 3 }"),
-            (Call::Load(TARGET, known), "Changed { seq: 1 }"),
-            (Call::Begin(TARGET, S1, whole(3), 10), "begun"),
-            (
-                Call::Page(SOURCE, 0, 3),
-                "0 to 3: 1 x1 1-a; 2 secret 1-a; 3 d 3-d;",
-            ),
-            (Call::Append(TARGET, S1, FIRST), "appended"),
-            (
-                Call::Diff(TARGET, FIRST),
-                "0 to 3: x1 1-a; secret 1-a; d 3-d;",
-            ),
-            (
-                Call::Fetch(SOURCE, FIRST),
-                "0 to 3: x1 1-a live {}; secret 1-a live {}; d 3-d,2-c,1-x live {};",
-            ),
-        ],
-    );
-    bench.run(
-        &rt,
-        &[
-            // One is filtered, and the ancestry of d contradicts its tree: 2-c has the parent 1-b there.
-            (Call::Settle(TARGET, S1, FIRST), "written 1 failed 2"),
-            (Call::Covered(TARGET, "secret", "1-a"), "true"),
-            (Call::Covered(TARGET, "d", "3-d"), "true"),
-            (Call::Covered(TARGET, "secret", "1-b"), "false"),
-            (Call::Tree(TARGET, "secret"), "no document"),
-            (
-                Call::Conclude(TARGET, S1, 20),
-                "session 1 from 0 to 3 checked 3 found 3 read 3 written 1 failed 2",
-            ),
-            (
-                Call::Entry(TARGET, S1),
-                "session 1 from 0 to 3 checked 3 found 3 read 3 written 1 failed 2, 10 to 20",
-            ),
-            // What arrived has the session and its row's sequence as its origin; a local write its number.
-            (
-                Call::Node(TARGET, "x1", "1-a"),
-                "no parent, Feed(SessionId(1), 1), live {}",
-            ),
-            (Call::Tree(TARGET, "d"), "2-c of 2"),
-            (Call::Node(TARGET, "d", "2-c"), "1-b, Local(0), live {}"),
-        ],
-    );
+    static ROWS: Rows = &[
+        (Call::Peer(1, None), "made"),
+        (Call::Peer(2, Some("secret")), "made"),
+        (
+            Call::Load(SOURCE, r#"{"_id":"x1","_rev":"1-a"}"#),
+            "Changed { seq: 1 }",
+        ),
+        (
+            Call::Load(SOURCE, r#"{"_id":"secret","_rev":"1-a"}"#),
+            "Changed { seq: 2 }",
+        ),
+        (Call::Load(SOURCE, GIVEN), "Changed { seq: 3 }"),
+        (Call::Load(TARGET, KNOWN), "Changed { seq: 1 }"),
+        (
+            Call::Begin(TARGET, S1, Beginning { goal: 3, ..TO_ONE }, 10),
+            "begun",
+        ),
+        (
+            Call::Page(SOURCE, 0, 3),
+            "0 to 3: 1 x1 1-a; 2 secret 1-a; 3 d 3-d;",
+        ),
+        (Call::Append(TARGET, S1, FIRST), "appended"),
+        (
+            Call::Diff(TARGET, FIRST),
+            "0 to 3: x1 1-a; secret 1-a; d 3-d;",
+        ),
+        (
+            Call::Fetch(SOURCE, FIRST),
+            "0 to 3: x1 1-a live {}; secret 1-a live {}; d 3-d,2-c,1-x live {};",
+        ),
+    ];
+    bench.run(&rt, ROWS);
+    static THEN: Rows = &[
+        // One is filtered, and the ancestry of d contradicts its tree: 2-c has the parent 1-b there.
+        (Call::Settle(TARGET, S1, FIRST), "written 1 failed 2"),
+        (Call::Covered(TARGET, "secret", "1-a"), "true"),
+        (Call::Covered(TARGET, "d", "3-d"), "true"),
+        (Call::Covered(TARGET, "secret", "1-b"), "false"),
+        (Call::Tree(TARGET, "secret"), "no document"),
+        (
+            Call::Conclude(TARGET, S1, 20),
+            "session 1 from 0 to 3 checked 3 found 3 read 3 written 1 failed 2",
+        ),
+        (
+            Call::Entry(TARGET, S1),
+            "session 1 from 0 to 3 checked 3 found 3 read 3 written 1 failed 2, 10 to 20",
+        ),
+        // What arrived has the session and its row's sequence as its origin; a local write its number.
+        (
+            Call::Node(TARGET, "x1", "1-a"),
+            "no parent, Feed(SessionId(1), 1), live {}",
+        ),
+        (Call::Tree(TARGET, "d"), "2-c of 2"),
+        (Call::Node(TARGET, "d", "2-c"), "1-b, Local(0), live {}"),
+    ];
+    bench.run(&rt, THEN);
 }
 
 #[test]
 fn local_writes_are_numbered(rt: HostRuntime) {
-    let other =
+    const SECOND_WRITE: &str =
         r#"{"_id":"d","_revisions":{"start":3,"ids":["c","1c600d37126a8e6d3c67d6f7a6a5c299","x"]}}"#;
-    Bench::new(rt.alloc()).run(
-        &rt,
-        &[
-            // The filter is not asked.
-            (Call::Peer(1, Some("d")), "made"),
-            (
-                Call::Edit(SOURCE, "d", "1-a", false, "{}"),
-                "NoSuchDocument",
-            ),
-            (Call::Load(SOURCE, D), "Changed { seq: 1 }"),
-            (Call::Load(SOURCE, D), "Same"),
-            (Call::Edit(SOURCE, "d", "", false, "{}"), "Conflict"),
-            (Call::Edit(SOURCE, "d", "1-a", false, "{}"), NEXT),
-            (
-                Call::Load(SOURCE, other),
-                "Contradiction 2-1c600d37126a8e6d3c67d6f7a6a5c299,1-a,1-x",
-            ),
-            (
-                Call::Node(SOURCE, "d", "1-a"),
-                "no parent, Local(0), live {}",
-            ),
-            (Call::Node(SOURCE, "d", NEXT), "1-a, Local(1), live {}"),
-            (Call::Numbers(SOURCE), "1 at 2"),
-            (Call::Page(SOURCE, 0, 3), "GoalAhead { update_seq: 2 }"),
-        ],
-    );
+    static ROWS: Rows = &[
+        // The filter is not asked.
+        (Call::Peer(1, Some("d")), "made"),
+        (
+            Call::Edit(SOURCE, "d", "1-a", false, "{}"),
+            "NoSuchDocument",
+        ),
+        (Call::Load(SOURCE, D), "Changed { seq: 1 }"),
+        (Call::Load(SOURCE, D), "Same"),
+        (Call::Edit(SOURCE, "d", "", false, "{}"), "Conflict"),
+        (Call::Edit(SOURCE, "d", "1-a", false, "{}"), NEXT),
+        (
+            Call::Load(SOURCE, SECOND_WRITE),
+            "Contradiction 2-1c600d37126a8e6d3c67d6f7a6a5c299,1-a,1-x",
+        ),
+        (
+            Call::Node(SOURCE, "d", "1-a"),
+            "no parent, Local(0), live {}",
+        ),
+        (Call::Node(SOURCE, "d", NEXT), "1-a, Local(1), live {}"),
+        (Call::Numbers(SOURCE), "1 at 2"),
+        (Call::Page(SOURCE, 0, 3), "GoalAhead { update_seq: 2 }"),
+    ];
+    Bench::new(rt.alloc()).run(&rt, ROWS);
 }
 
 #[test]
 fn an_empty_prefix_refuses_every_document(rt: HostRuntime) {
-    Bench::new(rt.alloc()).run(
-        &rt,
-        &[
-            (Call::Peer(1, Some("")), "made"),
-            (Call::Verdict(0, D), "Refuse"),
-            (Call::Peer(2, Some("d")), "made"),
-            (Call::Verdict(1, D), "Refuse"),
-            (Call::Peer(3, Some("dd")), "made"),
-            (Call::Verdict(2, D), "Accept"),
-            (Call::Peer(4, None), "made"),
-            (Call::Verdict(3, D), "Accept"),
-        ],
-    );
+    static ROWS: Rows = &[
+        (Call::Peer(1, Some("")), "made"),
+        (Call::Verdict(0, D), "Refuse"),
+        (Call::Peer(2, Some("d")), "made"),
+        (Call::Verdict(1, D), "Refuse"),
+        (Call::Peer(3, Some("dd")), "made"),
+        (Call::Verdict(2, D), "Accept"),
+        (Call::Peer(4, None), "made"),
+        (Call::Verdict(3, D), "Accept"),
+    ];
+    Bench::new(rt.alloc()).run(&rt, ROWS);
 }
 
 #[test]
 fn beginnings_are_refused_by_name(rt: HostRuntime) {
-    let of_other = beginning(OTHER_REP, Some(S2), 9, 4);
-    let on_other = beginning(OTHER_REP, Some(S1), 0, 4);
-    let on_itself = beginning(REP, Some(S2), 0, 4);
-    let above = beginning(REP, None, 1, 4);
+    const OF_OTHER: Beginning = Beginning {
+        rep: OTHER_REP,
+        base: Some(S2),
+        start: 9,
+        goal: 4,
+    };
+    const ON_OTHER: Beginning = Beginning {
+        rep: OTHER_REP,
+        base: Some(S1),
+        start: 0,
+        goal: 4,
+    };
+    const ON_ITSELF: Beginning = Beginning {
+        rep: REP,
+        base: Some(S2),
+        start: 0,
+        goal: 4,
+    };
+    const ABOVE: Beginning = Beginning {
+        rep: REP,
+        base: None,
+        start: 1,
+        goal: 4,
+    };
     let mut bench = Bench::new(rt.alloc());
-    bench.run(&rt, &THREE);
-    bench.run(
-        &rt,
-        &[
-            (
-                Call::Begin(TARGET, S1, above, 10),
-                "StartAboveBase { recorded: 0 }",
+    bench.run(&rt, THREE);
+    static ROWS: Rows = &[
+        (
+            Call::Begin(TARGET, S1, ABOVE, 10),
+            "StartAboveBase { recorded: 0 }",
+        ),
+        (
+            Call::Begin(TARGET, S1, Beginning { goal: 4, ..TO_ONE }, 10),
+            "begun",
+        ),
+        (Call::Begin(TARGET, S1, OF_OTHER, 10), "SessionExists"),
+        (Call::Begin(TARGET, S2, ON_ITSELF, 10), "NoSuchBase"),
+        (Call::Begin(TARGET, S2, ON_OTHER, 10), "NoSuchBase"),
+        (
+            Call::Begin(
+                TARGET,
+                S2,
+                Beginning {
+                    start: 1,
+                    goal: 0,
+                    ..FROM_ONE
+                },
+                10,
             ),
-            (Call::Begin(TARGET, S1, whole(4), 10), "begun"),
-            (Call::Begin(TARGET, S1, of_other, 10), "SessionExists"),
-            (Call::Begin(TARGET, S2, on_itself, 10), "NoSuchBase"),
-            (Call::Begin(TARGET, S2, on_other, 10), "NoSuchBase"),
-            (
-                Call::Begin(TARGET, S2, after_first(1, 0), 10),
-                "StartAboveBase { recorded: 0 }",
+            "StartAboveBase { recorded: 0 }",
+        ),
+        (Call::Page(SOURCE, 0, 1), "0 to 1: 1 d 1-a;"),
+        (Call::Append(TARGET, S1, FIRST), "appended"),
+        (Call::Diff(TARGET, FIRST), "0 to 1: d 1-a;"),
+        (Call::Fetch(SOURCE, FIRST), "0 to 1: d 1-a live {};"),
+        (Call::Settle(TARGET, S1, FIRST), "written 1 failed 0"),
+        (Call::Record(TARGET, S1, 10), "1"),
+        (
+            Call::Begin(
+                TARGET,
+                S2,
+                Beginning {
+                    start: 1,
+                    goal: 0,
+                    ..FROM_ONE
+                },
+                10,
             ),
-            (Call::Page(SOURCE, 0, 1), "0 to 1: 1 d 1-a;"),
-            (Call::Append(TARGET, S1, FIRST), "appended"),
-            (Call::Diff(TARGET, FIRST), "0 to 1: d 1-a;"),
-            (Call::Fetch(SOURCE, FIRST), "0 to 1: d 1-a live {};"),
-            (Call::Settle(TARGET, S1, FIRST), "written 1 failed 0"),
-            (Call::Record(TARGET, S1, 10), "1"),
-            (
-                Call::Begin(TARGET, S2, after_first(1, 0), 10),
-                "GoalBelowStart",
+            "GoalBelowStart",
+        ),
+        (
+            Call::Begin(
+                TARGET,
+                S2,
+                Beginning {
+                    start: 1,
+                    goal: 1,
+                    ..FROM_ONE
+                },
+                10,
             ),
-            (Call::Begin(TARGET, S2, after_first(1, 1), 10), "begun"),
-            (Call::Append(TARGET, S2, FIRST), "Gap { expected: 1 }"),
-        ],
-    );
+            "begun",
+        ),
+        (Call::Append(TARGET, S2, FIRST), "Gap { expected: 1 }"),
+    ];
+    bench.run(&rt, ROWS);
 }
 
 #[test]
 fn a_session_that_is_not_there_is_refused(rt: HostRuntime) {
     let mut bench = Bench::new(rt.alloc());
-    bench.run(&rt, &THREE);
-    bench.run(
-        &rt,
-        &[
-            (Call::Page(SOURCE, 0, 1), "0 to 1: 1 d 1-a;"),
-            (Call::Diff(TARGET, FIRST), "0 to 1: d 1-a;"),
-            (Call::Fetch(SOURCE, FIRST), "0 to 1: d 1-a live {};"),
-            (Call::Append(TARGET, S1, FIRST), "NoSuchSession"),
-            (Call::Settle(TARGET, S1, FIRST), "NoSuchSession"),
-            (Call::Record(TARGET, S1, 10), "NoSuchSession"),
-            (Call::Conclude(TARGET, S1, 10), "NoSuchSession"),
-            (Call::Entry(TARGET, S1), "NoSuchSession"),
-            // A session whose goal is below a window's end.
-            (Call::Begin(TARGET, S1, whole(0), 10), "begun"),
-            (Call::Append(TARGET, S1, FIRST), "PastGoal"),
-            (
-                Call::Conclude(TARGET, S1, 10),
-                "session 1 from 0 to 0 checked 0 found 0 read 0 written 0 failed 0",
-            ),
-        ],
-    );
+    bench.run(&rt, THREE);
+    static ROWS: Rows = &[
+        (Call::Page(SOURCE, 0, 1), "0 to 1: 1 d 1-a;"),
+        (Call::Diff(TARGET, FIRST), "0 to 1: d 1-a;"),
+        (Call::Fetch(SOURCE, FIRST), "0 to 1: d 1-a live {};"),
+        (Call::Append(TARGET, S1, FIRST), "NoSuchSession"),
+        (Call::Settle(TARGET, S1, FIRST), "NoSuchSession"),
+        (Call::Record(TARGET, S1, 10), "NoSuchSession"),
+        (Call::Conclude(TARGET, S1, 10), "NoSuchSession"),
+        (Call::Entry(TARGET, S1), "NoSuchSession"),
+        // A session whose goal is below a window's end.
+        (
+            Call::Begin(TARGET, S1, Beginning { goal: 0, ..TO_ONE }, 10),
+            "begun",
+        ),
+        (Call::Append(TARGET, S1, FIRST), "PastGoal"),
+        (
+            Call::Conclude(TARGET, S1, 10),
+            "session 1 from 0 to 0 checked 0 found 0 read 0 written 0 failed 0",
+        ),
+    ];
+    bench.run(&rt, ROWS);
 }
 
 #[test]
 fn a_foreign_document_is_refused(rt: HostRuntime) {
-    let e = r#"{"_id":"e","_rev":"1-a"}"#;
+    const E: &str = r#"{"_id":"e","_rev":"1-a"}"#;
     let mut bench = Bench::new(rt.alloc());
-    bench.run(&rt, &THREE);
-    bench.run(&rt, &ASKED);
-    bench.run(
-        &rt,
-        &[
-            // The other source's window has the same bounds, and its document no row in the stored one.
-            (Call::Load(OTHER, e), "Changed { seq: 1 }"),
-            (Call::Page(OTHER, 0, 1), "0 to 1: 1 e 1-a;"),
-            (Call::Diff(TARGET, SECOND), "0 to 1: e 1-a;"),
-            (Call::Fetch(OTHER, SECOND), "0 to 1: e 1-a live {};"),
-            (Call::Settle(TARGET, S1, FIRST), "ForeignParcel"),
-            (
-                Call::Entry(TARGET, S1),
-                "session 1 from 0 to 0 checked 0 found 0 read 0 written 0 failed 0, 10 to 10",
-            ),
-            (Call::Numbers(TARGET), "2 at 0"),
-        ],
-    );
+    bench.run(&rt, THREE);
+    bench.run(&rt, ASKED);
+    static ROWS: Rows = &[
+        // The other source's window has the same bounds, and its document no row in the stored one.
+        (Call::Load(OTHER, E), "Changed { seq: 1 }"),
+        (Call::Page(OTHER, 0, 1), "0 to 1: 1 e 1-a;"),
+        (Call::Diff(TARGET, SECOND), "0 to 1: e 1-a;"),
+        (Call::Fetch(OTHER, SECOND), "0 to 1: e 1-a live {};"),
+        (Call::Settle(TARGET, S1, FIRST), "ForeignParcel"),
+        (
+            Call::Entry(TARGET, S1),
+            "session 1 from 0 to 0 checked 0 found 0 read 0 written 0 failed 0, 10 to 10",
+        ),
+        (Call::Numbers(TARGET), "2 at 0"),
+    ];
+    bench.run(&rt, ROWS);
 }
 
 /// A source at the sequence 12 of one document, which changed each time, and an empty target.
-const TWELVE: [(Call<'static>, &'static str); 14] = [
+static TWELVE: Rows = &[
     (Call::Peer(1, None), "made"),
     (Call::Peer(2, None), "made"),
     (
@@ -560,7 +578,7 @@ const TWELVE: [(Call<'static>, &'static str); 14] = [
 ];
 
 /// Sessions at the target that recorded 9 and 5. The feed has no row below 12.
-const RECORDED: [(Call<'static>, &'static str); 18] = [
+static RECORDED: Rows = &[
     (Call::Begin(TARGET, S1, TO_NINE, 10), "begun"),
     (Call::Page(SOURCE, 0, 9), "0 to 9:"),
     (Call::Append(TARGET, S1, FIRST), "appended"),
@@ -584,102 +602,97 @@ const RECORDED: [(Call<'static>, &'static str); 18] = [
 #[test]
 fn common_session(rt: HostRuntime) {
     let mut bench = Bench::new(rt.alloc());
-    bench.run(&rt, &TWELVE);
-    bench.run(&rt, &RECORDED);
-    bench.run(
-        &rt,
-        &[
-            // The third session, which the source doesn't know.
-            (Call::Begin(TARGET, S3, whole(12), 10), "begun"),
-            (
-                Call::Page(SOURCE, 0, 12),
-                "0 to 12: 12 d 1-l,1-k,1-j,1-i,1-h,1-g,1-f,1-e,1-d,1-c,1-b,1-a;",
-            ),
-            (Call::Append(TARGET, S3, THIRD), "appended"),
-            (
-                Call::Diff(TARGET, THIRD),
-                "0 to 12: d 1-l,1-k,1-j,1-i,1-h,1-g,1-f,1-e,1-d,1-c,1-b,1-a;",
-            ),
-            (
-                Call::Fetch(SOURCE, THIRD),
-                "0 to 12: d 1-l live {}; d 1-k live {}; d 1-j live {}; d 1-i live {}; d 1-h live {}; d 1-g live {}; d 1-f live {}; d 1-e live {}; d 1-d live {}; d 1-c live {}; d 1-b live {}; d 1-a live {};",
-            ),
-            (Call::Settle(TARGET, S3, THIRD), "written 12 failed 0"),
-            (
-                Call::Conclude(TARGET, S3, 11),
-                "session 3 from 0 to 12 checked 12 found 12 read 12 written 12 failed 0",
-            ),
-            (Call::TargetLog(TARGET, REP), "3 at 12;2 at 5;1 at 9;"),
-        ],
-    );
-    bench.run(
-        &rt,
-        &[
-            (Call::PutEntry(SOURCE, REP, S1, 9), "put"),
-            (Call::PutEntry(SOURCE, REP, S2, 4), "put"),
-            (Call::SourceLog(SOURCE, REP), "2 at 4;1 at 9;"),
-            (Call::SourceLog(SOURCE, OTHER_REP), ""),
-            (Call::Common(SOURCE, TARGET, REP), "2 at 4"),
-            (Call::PutEntry(SOURCE, REP, S2, 3), "Older { stored: 4 }"),
-            (Call::SourceLog(SOURCE, REP), "2 at 4;1 at 9;"),
-            // A session that is there is replaced in its place, also at the same sequence.
-            (Call::PutEntry(SOURCE, REP, S1, 9), "put"),
-            (Call::PutEntry(SOURCE, REP, S1, 10), "put"),
-            (Call::SourceLog(SOURCE, REP), "2 at 4;1 at 10;"),
-            (Call::PutEntryOf(SOURCE, REP, TARGET, S2), "put"),
-            (Call::SourceLog(SOURCE, REP), "2 at 5;1 at 10;"),
-            (Call::Common(SOURCE, TARGET, REP), "2 at 5"),
-        ],
-    );
+    bench.run(&rt, TWELVE);
+    bench.run(&rt, RECORDED);
+    static ROWS: Rows = &[
+        // The third session, which the source doesn't know.
+        (
+            Call::Begin(TARGET, S3, Beginning { goal: 12, ..TO_ONE }, 10),
+            "begun",
+        ),
+        (
+            Call::Page(SOURCE, 0, 12),
+            "0 to 12: 12 d 1-l,1-k,1-j,1-i,1-h,1-g,1-f,1-e,1-d,1-c,1-b,1-a;",
+        ),
+        (Call::Append(TARGET, S3, THIRD), "appended"),
+        (
+            Call::Diff(TARGET, THIRD),
+            "0 to 12: d 1-l,1-k,1-j,1-i,1-h,1-g,1-f,1-e,1-d,1-c,1-b,1-a;",
+        ),
+        (
+            Call::Fetch(SOURCE, THIRD),
+            "0 to 12: d 1-l live {}; d 1-k live {}; d 1-j live {}; d 1-i live {}; d 1-h live {}; d 1-g live {}; d 1-f live {}; d 1-e live {}; d 1-d live {}; d 1-c live {}; d 1-b live {}; d 1-a live {};",
+        ),
+        (Call::Settle(TARGET, S3, THIRD), "written 12 failed 0"),
+        (
+            Call::Conclude(TARGET, S3, 11),
+            "session 3 from 0 to 12 checked 12 found 12 read 12 written 12 failed 0",
+        ),
+        (Call::TargetLog(TARGET, REP), "3 at 12;2 at 5;1 at 9;"),
+    ];
+    bench.run(&rt, ROWS);
+    static THEN: Rows = &[
+        (Call::PutEntry(SOURCE, REP, S1, 9), "put"),
+        (Call::PutEntry(SOURCE, REP, S2, 4), "put"),
+        (Call::SourceLog(SOURCE, REP), "2 at 4;1 at 9;"),
+        (Call::SourceLog(SOURCE, OTHER_REP), ""),
+        (Call::Common(SOURCE, TARGET, REP), "2 at 4"),
+        (Call::PutEntry(SOURCE, REP, S2, 3), "Older { stored: 4 }"),
+        (Call::SourceLog(SOURCE, REP), "2 at 4;1 at 9;"),
+        // A session that is there is replaced in its place, also at the same sequence.
+        (Call::PutEntry(SOURCE, REP, S1, 9), "put"),
+        (Call::PutEntry(SOURCE, REP, S1, 10), "put"),
+        (Call::SourceLog(SOURCE, REP), "2 at 4;1 at 10;"),
+        (Call::PutEntryOf(SOURCE, REP, TARGET, S2), "put"),
+        (Call::SourceLog(SOURCE, REP), "2 at 5;1 at 10;"),
+        (Call::Common(SOURCE, TARGET, REP), "2 at 5"),
+    ];
+    bench.run(&rt, THEN);
 }
 
 #[test]
 fn an_audit_is_clean(rt: HostRuntime) {
-    let e = r#"{"_id":"e","_rev":"1-a"}"#;
+    const E: &str = r#"{"_id":"e","_rev":"1-a"}"#;
     let mut bench = Bench::new(rt.alloc());
-    bench.run(&rt, &THREE);
-    bench.run(&rt, &ASKED);
-    bench.run(
-        &rt,
-        &[
-            (Call::Fetch(SOURCE, FIRST), "0 to 1: d 1-a live {};"),
-            (Call::Settle(TARGET, S1, FIRST), "written 1 failed 0"),
-            (
-                Call::Conclude(TARGET, S1, 11),
-                "session 1 from 0 to 1 checked 1 found 1 read 1 written 1 failed 0",
-            ),
-            // There is no common session, and then there is one.
-            (Call::Audit(SOURCE, TARGET), "clean"),
-            (Call::PutEntryOf(SOURCE, REP, TARGET, S1), "put"),
-            (Call::Common(SOURCE, TARGET, REP), "1 at 1"),
-            (Call::Audit(SOURCE, TARGET), "clean"),
-            // What comes above its sequence is not looked at.
-            (Call::Load(SOURCE, e), "Changed { seq: 2 }"),
-            (Call::Audit(SOURCE, TARGET), "clean"),
-        ],
-    );
+    bench.run(&rt, THREE);
+    bench.run(&rt, ASKED);
+    static ROWS: Rows = &[
+        (Call::Fetch(SOURCE, FIRST), "0 to 1: d 1-a live {};"),
+        (Call::Settle(TARGET, S1, FIRST), "written 1 failed 0"),
+        (
+            Call::Conclude(TARGET, S1, 11),
+            "session 1 from 0 to 1 checked 1 found 1 read 1 written 1 failed 0",
+        ),
+        // There is no common session, and then there is one.
+        (Call::Audit(SOURCE, TARGET), "clean"),
+        (Call::PutEntryOf(SOURCE, REP, TARGET, S1), "put"),
+        (Call::Common(SOURCE, TARGET, REP), "1 at 1"),
+        (Call::Audit(SOURCE, TARGET), "clean"),
+        // What comes above its sequence is not looked at.
+        (Call::Load(SOURCE, E), "Changed { seq: 2 }"),
+        (Call::Audit(SOURCE, TARGET), "clean"),
+    ];
+    bench.run(&rt, ROWS);
 }
 
 #[test]
 fn an_audit_finds_a_hole(rt: HostRuntime) {
-    let e = r#"{"_id":"e","_rev":"1-a"}"#;
+    const E: &str = r#"{"_id":"e","_rev":"1-a"}"#;
     let mut bench = Bench::new(rt.alloc());
-    bench.run(&rt, &THREE);
-    bench.run(
-        &rt,
-        &[
-            // The session is fed by another source than its replication names.
-            (Call::Load(OTHER, e), "Changed { seq: 1 }"),
-            (Call::Begin(TARGET, S1, whole(1), 10), "begun"),
-            (Call::Page(OTHER, 0, 1), "0 to 1: 1 e 1-a;"),
-            (Call::Append(TARGET, S1, FIRST), "appended"),
-            (Call::Diff(TARGET, FIRST), "0 to 1: e 1-a;"),
-            (Call::Fetch(OTHER, FIRST), "0 to 1: e 1-a live {};"),
-            (Call::Settle(TARGET, S1, FIRST), "written 1 failed 0"),
-            (Call::Record(TARGET, S1, 11), "1"),
-            (Call::Audit(SOURCE, TARGET), "clean"),
-            (Call::PutEntryOf(SOURCE, REP, TARGET, S1), "put"),
-            (Call::Audit(SOURCE, TARGET), "hole 1 d 1-a"),
-        ],
-    );
+    bench.run(&rt, THREE);
+    static ROWS: Rows = &[
+        // The session is fed by another source than its replication names.
+        (Call::Load(OTHER, E), "Changed { seq: 1 }"),
+        (Call::Begin(TARGET, S1, TO_ONE, 10), "begun"),
+        (Call::Page(OTHER, 0, 1), "0 to 1: 1 e 1-a;"),
+        (Call::Append(TARGET, S1, FIRST), "appended"),
+        (Call::Diff(TARGET, FIRST), "0 to 1: e 1-a;"),
+        (Call::Fetch(OTHER, FIRST), "0 to 1: e 1-a live {};"),
+        (Call::Settle(TARGET, S1, FIRST), "written 1 failed 0"),
+        (Call::Record(TARGET, S1, 11), "1"),
+        (Call::Audit(SOURCE, TARGET), "clean"),
+        (Call::PutEntryOf(SOURCE, REP, TARGET, S1), "put"),
+        (Call::Audit(SOURCE, TARGET), "hole 1 d 1-a"),
+    ];
+    bench.run(&rt, ROWS);
 }

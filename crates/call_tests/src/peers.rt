@@ -2,7 +2,8 @@
 use crate::databases::{edit_text, node, parent_of, put_text, tree};
 use crate::records::{entry_text, fault_text, log_text, report_text, settled_text};
 use crate::texts::{
-    asked_text, base_fault_text, body, doc, parcel_text, rev, rev_text, shown, window_text,
+    asked_text, base_fault_text, body, doc, expect_answer, parcel_text, rev, rev_text, shown,
+    window_text,
 };
 use couch_base::{Asked, Parcel, Window};
 use doc_json::DocId;
@@ -74,6 +75,9 @@ pub(crate) enum Call<'a> {
     Audit(usize, usize),
 }
 
+/// Calls, each with the text that it must answer.
+pub(crate) type Rows = &'static [(Call<'static>, &'static str)];
+
 /// Peers, and what was read and fetched from them.
 #[derive(Drop)]
 pub(crate) struct Bench {
@@ -99,10 +103,7 @@ impl Bench {
     /// Makes the calls in order, and asserts what each answers.
     pub(crate) fn run(&mut self, rt: &impl Abort, calls: &[(Call, &str)]) {
         for (i, (call, wanted)) in calls.iter().enumerate() {
-            let Some(answer) = self.answer(call) else {
-                rt.panic(format_args!("call {i} can't be made"))
-            };
-            assert_eq!(rt; answer.as_str(), *wanted, "call {i}");
+            expect_answer(rt, i, self.answer(call), wanted);
         }
     }
 

@@ -6,6 +6,15 @@ use rev_tree::Tree;
 use serde_json::Value;
 use std::alloc::Global;
 use std::fmt::Debug;
+use std::process::Abort;
+
+/// Asserts that the call of a number could be made, and what it answered.
+pub(crate) fn expect_answer(rt: &impl Abort, number: usize, answer: Option<String>, wanted: &str) {
+    let Some(answer) = answer else {
+        rt.panic(format_args!("call {number} can't be made"))
+    };
+    assert_eq!(rt; answer.as_str(), wanted, "call {number}");
+}
 
 /// The document of a text that is one.
 pub(crate) fn doc(alloc: Global, text: &str) -> Option<Doc> {
