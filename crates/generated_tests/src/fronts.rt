@@ -21,6 +21,19 @@ fn low_water(start: u64, marks: &[bool; WINDOWS]) -> u64 {
     water
 }
 
+/// How many longest runs of marks there are above the low water. The run from the start on, up to the low water, isn't counted.
+fn range_count(marks: &[bool; WINDOWS]) -> usize {
+    let mut count: usize = 0;
+    let mut before = true;
+    for mark in marks {
+        if *mark && !before {
+            count = count.saturating_add(1);
+        }
+        before = *mark;
+    }
+    count
+}
+
 /// Forty tries to finish a window by chance: each is taken the first time, and refused after it.
 fn finishes(rt: &impl Abort, alloc: Global, seed: u64) -> Result<(), Fail> {
     let mut rng = ChaCha8Rng::seed_from_u64(seed);
@@ -45,6 +58,7 @@ fn finishes(rt: &impl Abort, alloc: Global, seed: u64) -> Result<(), Fail> {
         assert!(rt; front.is_done(lo, lo + 10));
         assert_eq!(rt; front.finish(lo, lo + 20), Err(FrontFault::NoSuchWindow));
         assert_eq!(rt; front.low_water(), low_water(start, &marks));
+        assert_eq!(rt; front.range_count(), range_count(&marks));
     }
     assert_eq!(rt; front.end(), start + 10 * WINDOWS as u64);
     Ok(())

@@ -1,5 +1,5 @@
 -- Fronts of windows and their low water: docs/PROFILE.md, "Windows and low water".
-use Rattle.std.specs.Prelude.{◌≡◌, ℕ, ◌<◌, ◌^◌, Bool, false, true, ◌&&◌, ◌==◌, nat_le, if◌then◌else◌, List, [], ◌∷◌, ◌++◌, Result, Ok, Err, map, take_while}
+use Rattle.std.specs.Prelude.{◌≡◌, ℕ, ◌<◌, ◌^◌, ◌+◌, Bool, false, true, ◌&&◌, ◌==◌, nat_le, if◌then◌else◌, List, [], ◌∷◌, ◌++◌, Result, Ok, Err, map, take_while}
 use Rattle.std.specs.List.{list_any, list_all}
 use Rattle.range_front.specs.declared.fault.FrontFault.{FrontFault}
 use Rattle.range_front.specs.declared.fault.FrontFault.TheVariants as faults
@@ -64,6 +64,21 @@ end_of f = end_from f.start f.windows
 -- the end of the longest front of windows that are all done; the start if there is none
 abbrev pub low_water : FrontValue → ℕ
 low_water f = end_from f.start (take_while (λ w. w.done) f.windows)
+
+-- the windows above the low water: without those of the longest front that are all done
+abbrev pub above_low_water : List FrontWindow → List FrontWindow
+above_low_water [] = []
+above_low_water (w ∷ ws) = if w.done then above_low_water ws else w ∷ ws
+
+-- how many longest runs of neighbouring done windows begin among windows, where the one before them is done or not:
+-- a run begins at each window that is done and has no done one just before it
+abbrev pub run_count : Bool → List FrontWindow → ℕ
+run_count before [] = 0
+run_count before (w ∷ ws) = (if w.done then (if before then 0 else 1) else 0) + run_count w.done ws
+
+-- how many longest runs of neighbouring done windows lie above the low water
+abbrev pub range_count : FrontValue → ℕ
+range_count f = run_count false (above_low_water f.windows)
 
 -- ---- what each call makes
 

@@ -5,8 +5,8 @@ use Rattle.std.specs.List.{list_any}
 use Rattle.std.proofs.lemmas.List.{map_push}
 use Rattle.range_front.specs.declared.fault.FrontFault.{FrontFault}
 use Rattle.range_front.specs.declared.fault.FrontFault.TheVariants as faults
-use Rattle.range_front.specs.Front.{FrontValue, Span, spans, bounds, is_window, is_done, all_done, end_of, low_water, no_windows, appended, append_answer, finished, finished_from, finish_answer, IsConsecutive, IsFront}
-use Rattle.range_front.specs.WindowLaws.{low_in-is, spans-consecutive_from, window-within, window-bounds, done-window, done-all, from-le-end, from-le-low, low-le-end, low-is-end, done-under_low, done-at_low, reached-in, low-all_done, all_done-low, end-append, Rises-append, spans-append, low-append, done-append, window-append, finished-no_window, finished-done, end-finished, Rises-finished, bounds-finished_from, window-finished_from, done-finished_from, low-finished}
+use Rattle.range_front.specs.Front.{FrontValue, Span, spans, bounds, is_window, is_done, all_done, end_of, low_water, range_count, no_windows, appended, append_answer, finished, finished_from, finish_answer, IsConsecutive, IsFront}
+use Rattle.range_front.specs.WindowLaws.{low_in-is, spans-consecutive_from, window-within, window-bounds, done-window, done-all, from-le-end, from-le-low, low-le-end, low-is-end, done-under_low, done-at_low, reached-in, low-all_done, all_done-low, run_count-above, run_count-low, run_count-append, run_count-all_done, end-append, Rises-append, spans-append, low-append, done-append, window-append, finished-no_window, finished-done, end-finished, Rises-finished, bounds-finished_from, window-finished_from, done-finished_from, low-finished}
 
 -- ---- the law is kept
 
@@ -80,6 +80,16 @@ all_done-at_end f front all = all_done-low f.start f.windows front.rises (sym (l
 pub is_done-all_done : (f : FrontValue) (lo hi : ℕ) → all_done f ≡ true → is_window f lo hi ≡ true → is_done f lo hi ≡ true
 is_done-all_done f lo hi all window = done-all f.start f.windows lo hi all window
 
+-- ---- the ranges above the low water
+
+-- where there are none, the low water has reached each done window
+pub range_count-none : (f : FrontValue) (lo hi : ℕ) → IsFront f → range_count f ≡ 0 → is_done f lo hi ≡ true → hi ≤ low_water f
+range_count-none f lo hi front none done =
+    rw low_in-is (run_count-low f.start f.windows lo hi front.rises (sym (run_count-above f.windows) ∙ none) done)
+
+pub range_count-all_done : (f : FrontValue) → all_done f ≡ true → range_count f ≡ 0
+range_count-all_done f all = run_count-above f.windows ∙ run_count-all_done f.windows all
+
 -- ---- a window appended
 
 pub end_of-appended : (f : FrontValue) (hi : ℕ) → end_of (appended f hi) ≡ hi
@@ -100,6 +110,10 @@ is_done-appended f hi a b = done-append f.start f.windows hi a b
 pub low_water-appended : (f : FrontValue) (hi : ℕ) → low_water (appended f hi) ≡ low_water f
 low_water-appended f hi =
     low_in-is f.start (f.windows ++ record { hi = hi; done = false } ∷ []) ∙ low-append f.start f.windows hi ∙ sym (low_in-is f.start f.windows)
+
+pub range_count-appended : (f : FrontValue) (hi : ℕ) → range_count (appended f hi) ≡ range_count f
+range_count-appended f hi =
+    run_count-above (f.windows ++ record { hi = hi; done = false } ∷ []) ∙ run_count-append true f.windows hi ∙ sym (run_count-above f.windows)
 
 -- ---- a window finished
 

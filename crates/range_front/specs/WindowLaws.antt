@@ -1,9 +1,9 @@
 -- The laws of fronts by recursion over their windows; specs/FrontLaws.antt states them of a whole front.
-use Rattle.std.proofs.Common.{◌≡◌, ◌⊎◌, inl, inr, ℕ, ◌<◌, ◌≤◌, Bool, true, false, cond, ◌&&◌, ◌||◌, eqb, List, [], ◌∷◌, ◌++◌, map, refl, sym, ap, ◌∙◌, arith}
+use Rattle.std.proofs.Common.{◌≡◌, ◌⊎◌, inl, inr, ℕ, ◌+◌, ◌<◌, ◌≤◌, Bool, true, false, cond, ◌&&◌, ◌||◌, eqb, List, [], ◌∷◌, ◌++◌, map, refl, sym, ap, ◌∙◌, arith}
 use Rattle.std.specs.List.{list_any, list_all, take_while}
 use Rattle.std.proofs.lemmas.Bool.{eqb-true, ne_eqb, eq-eqb, both_ways, and_parts, and_from, and_left, or_cases, or_left, or_right, or_from, or_parts, cond-false, cond_both, cases_lt, cond-true}
 use Rattle.std.proofs.lemmas.List.Sums.{take_while-cons}
-use Rattle.range_front.specs.Front.{FrontWindow, Span, spans_from, end_from, finished_from, IsConsecutive, Rises}
+use Rattle.range_front.specs.Front.{FrontWindow, Span, spans_from, end_from, finished_from, above_low_water, run_count, IsConsecutive, Rises}
 
 -- ---- readings of the windows from a place on
 
@@ -172,6 +172,68 @@ all_done-low from (w ∷ ws) h e =
     let done : P true = λ d m. and_from w.done _ d (all_done-low w.hi ws h.1 m) in
     let open_yet : P false = λ d m. absurd (omega (arith, h.0, from-le-end w.hi ws h.1, m)) in
     elim w.done as P [ true ↦ done | false ↦ open_yet ] refl e
+
+-- ---- runs of done windows
+
+pub run_count-done : (before : Bool) (w : FrontWindow) (ws : List FrontWindow) → w.done ≡ true → run_count before (w ∷ ws) ≡ cond before 0 1 + run_count true ws
+run_count-done before w ws e = ap (λ b. cond b (cond before 0 1) 0 + run_count b ws) e
+
+pub run_count-open : (before : Bool) (w : FrontWindow) (ws : List FrontWindow) → w.done ≡ false → run_count before (w ∷ ws) ≡ 0 + run_count false ws
+run_count-open before w ws e = ap (λ b. cond b (cond before 0 1) 0 + run_count b ws) e
+
+pub run_count-above : (ws : List FrontWindow) → run_count false (above_low_water ws) ≡ run_count true ws
+run_count-above [] = refl
+run_count-above (w ∷ ws) =
+    let P : Bool → Type 0 = λ b. w.done ≡ b → run_count false (cond b (above_low_water ws) (w ∷ ws)) ≡ run_count true (w ∷ ws) in
+    elim w.done as P [
+      | true ↦ λ d. omega (arith, run_count-above ws, run_count-done true w ws d)
+      | false ↦ λ d. omega (arith, run_count-open false w ws d, run_count-open true w ws d)
+    ] refl
+
+-- where none begins, no window is done
+run_count-none : (from : ℕ) (ws : List FrontWindow) (lo hi : ℕ) → run_count false ws ≡ 0 → done_in from ws lo hi ≡ true → ⊥
+run_count-none from [] lo hi e d = both_ways false refl d
+run_count-none from (w ∷ ws) lo hi e d =
+    let P : Bool → Type 0 = λ b. w.done ≡ b → ⊥ in
+    elim w.done as P [
+      | true ↦ λ t. omega (arith, e, run_count-done false w ws t)
+      | false ↦ λ t.
+          let rest : run_count false ws ≡ 0 = omega (arith, e, run_count-open false w ws t) in
+          elim (or_cases (eqb from lo && (eqb w.hi hi && w.done)) _ d) [
+            | inl here ↦ both_ways w.done t (and_parts (eqb w.hi hi) w.done (and_parts (eqb from lo) _ here).1).1
+            | inr later ↦ run_count-none w.hi ws lo hi rest later
+          ]
+    ] refl
+
+-- where none begins behind the low water, the low water has reached each done window
+pub run_count-low : (from : ℕ) (ws : List FrontWindow) (lo hi : ℕ) → Rises from ws → run_count true ws ≡ 0 → done_in from ws lo hi ≡ true → hi ≤ low_in from ws
+run_count-low from [] lo hi h e d = absurd (both_ways false refl d)
+run_count-low from (w ∷ ws) lo hi h e d =
+    cond_both w.done (low_in w.hi ws) from (λ n. hi ≤ n)
+    (λ t.
+    let rest : run_count true ws ≡ 0 = omega (arith, e, run_count-done true w ws t) in
+    elim (or_cases (eqb from lo && (eqb w.hi hi && w.done)) _ d) [
+      | inl here ↦
+          let at : w.hi ≡ hi = eqb-true w.hi hi (and_parts (eqb w.hi hi) w.done (and_parts (eqb from lo) _ here).1).0 in
+          omega (arith, at, from-le-low w.hi ws h.1)
+      | inr later ↦ run_count-low w.hi ws lo hi h.1 rest later
+    ])
+    (λ t.
+    let rest : run_count false ws ≡ 0 = omega (arith, e, run_count-open true w ws t) in
+    elim (or_cases (eqb from lo && (eqb w.hi hi && w.done)) _ d) [
+      | inl here ↦ absurd (both_ways w.done t (and_parts (eqb w.hi hi) w.done (and_parts (eqb from lo) _ here).1).1)
+      | inr later ↦ absurd (run_count-none w.hi ws lo hi rest later)
+    ])
+
+pub run_count-append : (before : Bool) (ws : List FrontWindow) (hi : ℕ) → run_count before (ws ++ record { hi = hi; done = false } ∷ []) ≡ run_count before ws
+run_count-append before [] hi = omega arith
+run_count-append before (w ∷ ws) hi = ap (λ n. cond w.done (cond before 0 1) 0 + n) (run_count-append w.done ws hi)
+
+pub run_count-all_done : (ws : List FrontWindow) → list_all (λ (w : FrontWindow). w.done) ws ≡ true → run_count true ws ≡ 0
+run_count-all_done [] e = refl
+run_count-all_done (w ∷ ws) e =
+    let p = and_parts w.done (list_all (λ (w : FrontWindow). w.done) ws) e in
+    omega (arith, run_count-done true w ws p.0, run_count-all_done ws p.1)
 
 -- ---- a window more
 

@@ -1,45 +1,46 @@
 //! Fronts.
-ghost use Rattle.std.specs.Prelude.{◌≡◌, ◌<◌, ◌≤◌, OnOk, OnErr, IfSome, IfNone, IsOkUnless, true, false};
-ghost use Rattle.range_front.specs.Front.{is_window};
-ghost use Rattle.range_front.specs.Marks.{IsPlace, front_of};
+ghost use Rattle.std.specs.Prelude.{◌≡◌, ◌<◌, ◌≤◌, OnOk, OnErr, IsOkUnless};
 
+use crate::ends::is_window;
 use crate::fault::FrontFault;
+use crate::ranges::{DoneRange, is_covered, join};
 use std::alloc::Global;
 use std::marker::Model;
 
-/// A window, by its upper bound. It begins where the window before it ends.
-#[derive(Clone, Copy)]
-struct Window {
-    hi: u64,
-    done: bool,
-}
-
 /// Windows `(lo, hi]` of sequences, one behind the other from a start, each done or not.
 ///
-/// Windows are appended in order and finished in any order. The low water says up to where all are done.
+/// Windows are appended in order and finished in any order. The low water says up to where all are done. Above it the done
+/// windows are kept as ranges, of which none touches another or the low water.
 #[derive(Drop)]
 pub struct Front {
     start: u64,
-    windows: Vec<Window>,
+    /// The windows' upper bounds, rising.
+    ends: Vec<u64>,
+    /// The low water.
+    mark: u64,
+    /// The done windows above the low water, neighbours as one range, rising.
+    ranges: Vec<DoneRange>,
 }
 
 impl Model for Front {
-    ghost use Rattle.std.specs.Prelude.{◌≡◌};
+    ghost use Rattle.std.specs.Prelude.{◌≡◌, ◌-◌};
     ghost use Rattle.range_front.specs.Front.{FrontWithRoom};
 
     ghost Value = { FrontWithRoom };
 
-    ghost use Rattle.range_front.specs.Front.{IsFront};
-    ghost use Rattle.range_front.specs.Marks.{front_of};
+    ghost use Rattle.std.specs.Vec.{vec_len, vec_capacity};
+    ghost use Rattle.range_front.specs.Ranges.{front_of, IsKept};
 
-    // No `finish` of this form needs memory, so there is always room for one.
-    ghost view = { λ f. record { front = front_of f.start f.windows.items; room = 1 } };
+    ghost view = { λ f. record {
+      front = front_of f.start f.ends.items f.mark f.ranges.items;
+      room = vec_capacity f.ranges - vec_len f.ranges;
+    } };
 
-    ghost invariant = { λ f. IsFront (front_of f.start f.windows.items) };
+    ghost invariant = { λ f. IsKept f.start f.ends.items f.mark f.ranges.items };
 }
 
 impl Front {
-    ghost use Rattle.range_front.specs.Front.{IsFront, no_windows, end_of, appended, append_answer, finished, finish_answer, is_done, low_water};
+    ghost use Rattle.range_front.specs.Front.{IsFront, no_windows, end_of, appended, append_answer, finished, finish_answer, is_done, low_water, range_count};
     ghost use Rattle.range_front.specs.Answers.{GivesUnlessMemory};
 
     /// A front of no windows, from the sequence `start`. It grows by `alloc`.
@@ -49,7 +50,9 @@ impl Front {
     {
         Front {
             start,
-            windows: Vec::new(alloc),
+            ends: Vec::new(alloc),
+            mark: start,
+            ranges: Vec::new(alloc),
         }
     }
 
@@ -66,8 +69,8 @@ impl Front {
         ensures value { result ≡ end_of self.now.front }
         ensures front { IsFront self.now.front }
     {
-        match self.windows.last() {
-            Some(window) => window.hi,
+        match self.ends.last() {
+            Some(end) => *end,
             None => self.start,
         }
     }
@@ -87,7 +90,7 @@ impl Front {
         if hi <= end {
             return Err(FrontFault::NotRising { end });
         }
-        let Ok(()) = self.windows.push(Window { hi, done: false }) else {
+        let Ok(()) = self.ends.push(hi) else {
             return Err(FrontFault::Memory);
         };
         Ok(())
@@ -102,8 +105,9 @@ impl Front {
         ensures kept { self.new.front ≡ self.old.front }
         ensures front { IsFront self.new.front }
     {
-        // Each window has its mark already, so there is nothing to make. The reading opens the value for the proof.
-        let _ = &self.windows;
+        let Ok(()) = self.ranges.reserve(1) else {
+            return Err(FrontFault::Memory);
+        };
         Ok(())
     }
 
@@ -118,13 +122,15 @@ impl Front {
         ensures err { OnErr result (self.new.front ≡ self.old.front) }
         ensures front { IsFront self.new.front }
     {
-        let Some(place) = place_of(self.start, &self.windows, lo, hi) else {
+        if !is_window(self.start, &self.ends, lo, hi) {
             return Err(FrontFault::NoSuchWindow);
-        };
-        if self.windows[place].done {
+        }
+        if is_covered(self.mark, &self.ranges, hi) {
             return Err(FrontFault::AlreadyDone);
         }
-        self.windows[place].done = true;
+        let Ok(()) = join(&mut self.mark, &mut self.ranges, lo, hi) else {
+            return Err(FrontFault::Memory);
+        };
         Ok(())
     }
 
@@ -133,10 +139,7 @@ impl Front {
         ensures value { result ≡ is_done self.now.front lo hi }
         ensures front { IsFront self.now.front }
     {
-        match place_of(self.start, &self.windows, lo, hi) {
-            Some(place) => self.windows[place].done,
-            None => false,
-        }
+        is_window(self.start, &self.ends, lo, hi) && is_covered(self.mark, &self.ranges, hi)
     }
 
     /// The low water: the end of the longest front of windows that are all done, the start if there is none
@@ -145,28 +148,14 @@ impl Front {
         ensures value { result ≡ low_water self.now.front }
         ensures front { IsFront self.now.front }
     {
-        let mut mark = self.start;
-        for window in &self.windows {
-            if !window.done {
-                return mark;
-            }
-            mark = window.hi;
-        }
-        mark
+        self.mark
     }
-}
 
-/// The place of the window `(lo, hi]` among windows from `start`.
-fn place_of(start: u64, windows: &[Window], lo: u64, hi: u64) -> Option<usize>
-    ensures found { IfSome result (λ i. IsPlace start windows.now lo hi i) }
-    ensures none { IfNone result (is_window (front_of start windows.now) lo hi ≡ false) }
-{
-    let mut begin = start;
-    for (i, window) in windows.iter().enumerate() {
-        if begin == lo && window.hi == hi {
-            return Some(i);
-        }
-        begin = window.hi;
+    /// How many longest runs of neighbouring done windows lie above the low water.
+    pub fn range_count(&self) -> usize
+        ensures value { result ≡ range_count self.now.front }
+        ensures front { IsFront self.now.front }
+    {
+        self.ranges.as_slice().len()
     }
-    None
 }

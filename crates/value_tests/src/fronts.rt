@@ -1,4 +1,4 @@
-//! The worked row of fronts as calls with the texts of their answers. It makes each public call once at least.
+//! The worked rows of fronts as calls with the texts of their answers. They make each public call once at least.
 use crate::texts::{expect_answer, shown};
 use range_front::Front;
 use std::alloc::Global;
@@ -9,7 +9,7 @@ use std::process::Abort;
 enum Call {
     /// Appends the window up to a number.
     Append(u64),
-    /// Makes room for a mark.
+    /// Makes room to finish a window.
     Reserve,
     /// Finishes a window.
     Finish(u64, u64),
@@ -21,6 +21,8 @@ enum Call {
     End,
     /// Reads the low water.
     LowWater,
+    /// Counts the runs of done windows above the low water.
+    RangeCount,
 }
 
 /// Makes a call, and gives the text of its answer.
@@ -33,6 +35,7 @@ fn answer(alloc: Global, front: &mut Front, call: &Call) -> Option<String> {
         Call::Start => shown(alloc, &front.start()),
         Call::End => shown(alloc, &front.end()),
         Call::LowWater => shown(alloc, &front.low_water()),
+        Call::RangeCount => shown(alloc, &front.range_count()),
     }
 }
 
@@ -63,8 +66,39 @@ static OUT_OF_ORDER: &[(Call, &str)] = &[
     (Call::Append(6), "Err(NotRising { end: 6 })"),
 ];
 
+/// Windows up to 2, 4, 6, 8 and 10, finished so that ranges come up, join, and are passed by the low water.
+static RANGES_MERGED: &[(Call, &str)] = &[
+    (Call::Append(2), "Ok(())"),
+    (Call::Append(4), "Ok(())"),
+    (Call::Append(6), "Ok(())"),
+    (Call::Append(8), "Ok(())"),
+    (Call::Append(10), "Ok(())"),
+    (Call::Finish(2, 4), "Ok(())"),
+    (Call::LowWater, "0"),
+    (Call::RangeCount, "1"),
+    (Call::Finish(6, 8), "Ok(())"),
+    (Call::LowWater, "0"),
+    (Call::RangeCount, "2"),
+    (Call::Finish(4, 6), "Ok(())"),
+    (Call::LowWater, "0"),
+    (Call::RangeCount, "1"),
+    (Call::Finish(0, 2), "Ok(())"),
+    (Call::LowWater, "8"),
+    (Call::RangeCount, "0"),
+    (Call::IsDone(4, 6), "true"),
+    (Call::IsDone(8, 10), "false"),
+    (Call::IsDone(2, 6), "false"),
+    (Call::Finish(4, 6), "Err(AlreadyDone)"),
+];
+
 #[test]
 fn front_out_of_order(rt: HostRuntime) {
     let mut front = Front::new(rt.alloc(), 0);
     run(&rt, rt.alloc(), &mut front, OUT_OF_ORDER);
+}
+
+#[test]
+fn ranges_merged(rt: HostRuntime) {
+    let mut front = Front::new(rt.alloc(), 0);
+    run(&rt, rt.alloc(), &mut front, RANGES_MERGED);
 }

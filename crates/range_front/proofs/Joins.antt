@@ -1,0 +1,304 @@
+-- A window joined to the mark or put among the ranges: what is covered then, and that the ranges stay apart.
+use Rattle.std.proofs.Common.{◌≡◌, ◌⊎◌, inl, inr, ℕ, zero, suc, ◌<◌, ◌≤◌, Bool, true, false, cond, leb, eqb, List, [], ◌∷◌, ◌++◌, length, take, drop, set, get_or, slice_get, Some, add-one, ◌+◌, refl, sym, ap, ◌∙◌, arith}
+use Rattle.std.proofs.lemmas.Bool.{le-leb, lt-leb, leb-true, leb-false, eqb-true, eqb-false, eq-eqb, ne_eqb, cond-true, cond-false, cond_both, cases_lt, both_ways}
+use Rattle.std.proofs.lemmas.Option.{slice_get_within, slice_get_read, get_or_from_slice_get}
+use Rattle.std.specs.List.{insert}
+use Rattle.range_front.specs.declared.ranges.DoneRange.{DoneRange}
+use Rattle.range_front.specs.Ranges.{Apart, AtBounds, IsBound, Rising, has_window, covers, absorbed, put_at, put_in, joined}
+use Rattle.range_front.proofs.RisingEnds.{bound-apart}
+use Rattle.range_front.proofs.Cover.{cover-low, cover-high, cover-under, EndBelow, end-below-next}
+
+-- (lo, hi] lies above the mark, and outside the ranges
+abbrev pub Clear : ℕ → ℕ → ℕ → List DoneRange → Type 0
+Clear lo hi m [] = m ≤ lo
+Clear lo hi m (r ∷ rs) = (m ≤ lo) × ((hi ≤ r.lo) ⊎ Clear lo hi r.hi rs)
+
+-- the first range begins at hi or above it
+abbrev pub Free : ℕ → List DoneRange → Type 0
+Free hi [] = Unit {0}
+Free hi (r ∷ rs) = hi ≤ r.lo
+
+clear-mark : (lo hi m : ℕ) (rs : List DoneRange) → Clear lo hi m rs → m ≤ lo
+clear-mark lo hi m [] c = c
+clear-mark lo hi m (r ∷ rs) c = c.0
+
+clear-free : (lo hi m : ℕ) (rs : List DoneRange) → Apart m rs → Clear lo hi m rs → m ≡ lo → Free hi rs
+clear-free lo hi m [] h c e = tt
+clear-free lo hi m (r ∷ rs) h c e =
+    elim c.1 [
+      | inl free ↦ free
+      | inr later ↦ absurd (omega (arith, e, h.0, h.1, clear-mark lo hi r.hi rs later))
+    ]
+
+-- a window that isn't covered is clear of the ranges
+pub clear-from : (start : ℕ) (es : List ℕ) (lo hi m : ℕ) (rs : List DoneRange) → Rising start es → has_window start es lo hi ≡ true → lo < hi → IsBound start es m → AtBounds start es rs → Apart m rs → covers m rs hi ≡ false → Clear lo hi m rs
+clear-from start es lo hi m [] rising window l b bs h open_yet =
+    elim (bound-apart start es lo hi m rising window b) [
+      | inl under ↦ under
+      | inr over ↦ absurd (omega (arith, leb-false hi m open_yet, over))
+    ]
+clear-from start es lo hi m (r ∷ rs) rising window l b bs h open_yet =
+    let under : m ≤ lo = elim (bound-apart start es lo hi m rising window b) [
+      | inl below ↦ below
+      | inr over ↦ absurd (both_ways _ open_yet (cover-under m (r ∷ rs) hi h over))
+    ] in
+    elim (bound-apart start es lo hi r.lo rising window bs.0) [
+      | inl below ↦ (under, inr (clear-from start es lo hi r.hi rs rising window l bs.1 bs.2 h.2 (sym (cover-high m r rs hi (omega (arith, below, l))) ∙ open_yet)))
+      | inr over ↦ (under, inl over)
+    ]
+
+strict : {a b : ℕ} → a ≤ b → (b ≡ a → ⊥) → a < b
+strict {a} {b} le other = elim (cases_lt a b) [
+  | inl lt ↦ lt
+  | inr ge ↦ absurd (other (omega (arith, le, ge)))
+]
+
+-- the window lies behind a range that ends under it
+clear-behind : (lo hi : ℕ) (r : DoneRange) (rs : List DoneRange) → r.lo < r.hi → r.hi < lo → lo < hi → (hi ≤ r.lo) ⊎ Clear lo hi r.hi rs → Clear lo hi r.hi rs
+clear-behind lo hi r rs a b l (inl free) = absurd (omega (arith, a, b, l, free))
+clear-behind lo hi r rs a b l (inr later) = later
+
+-- or ends where it begins
+clear-touched : (lo hi : ℕ) (r : DoneRange) (rs : List DoneRange) → r.lo < r.hi → lo < hi → r.hi ≡ lo → (hi ≤ r.lo) ⊎ Clear lo hi r.hi rs → Clear lo hi r.hi rs
+clear-touched lo hi r rs a l at (inl free) = absurd (omega (arith, at, a, l, free))
+clear-touched lo hi r rs a l at (inr later) = later
+
+-- or in front of it
+clear-before : (lo hi : ℕ) (r : DoneRange) (rs : List DoneRange) → lo ≤ r.hi → (r.hi ≡ lo → ⊥) → (hi ≤ r.lo) ⊎ Clear lo hi r.hi rs → hi ≤ r.lo
+clear-before lo hi r rs reach other (inl free) = free
+clear-before lo hi r rs reach other (inr later) = absurd (other (omega (arith, reach, clear-mark lo hi r.hi rs later)))
+
+-- ---- what is covered
+
+-- what b' covers is what b covers, and (lo, hi]
+pub record Grown (b b' : Bool) (lo hi x : ℕ) : Type 0 where
+  pub within : lo < x → x ≤ hi → b' ≡ true
+  pub below : x ≤ lo → b' ≡ b
+  pub above : hi < x → b' ≡ b
+
+absorbed-grown : (m lo hi : ℕ) (rs : List DoneRange) (x : ℕ) → m ≡ lo → lo < hi → Apart m rs → Free hi rs → Grown (covers m rs x) (covers (absorbed hi rs).0 (absorbed hi rs).1 x) lo hi x
+absorbed-grown m lo hi [] x e l h f =
+    record {
+      within = λ a b. le-leb x hi b;
+      below = λ a. le-leb x hi (omega (arith, a, l)) ∙ sym (le-leb x m (omega (arith, a, e)));
+      above = λ a. lt-leb x hi a ∙ sym (lt-leb x m (omega (arith, a, e, l)));
+    }
+absorbed-grown m lo hi (r ∷ rs) x e l h f =
+    cond_both (eqb r.lo hi) (r.hi, rs) (hi, r ∷ rs) (λ (a : ℕ × List DoneRange). Grown (covers m (r ∷ rs) x) (covers a.0 a.1 x) lo hi x)
+    (λ t. let at = eqb-true r.lo hi t in
+    record {
+      within = λ a b. cover-under r.hi rs x h.2 (omega (arith, at, h.1, b));
+      below = λ a. cover-under r.hi rs x h.2 (omega (arith, at, h.1, a, l)) ∙ sym (cover-under m (r ∷ rs) x h (omega (arith, a, e)));
+      above = λ a. sym (cover-high m r rs x (omega (arith, at, a)));
+    })
+    (λ t.
+    record {
+      within = λ a b. cover-low hi r rs x (omega (arith, f, b)) ∙ le-leb x hi b;
+      below = λ a. cover-low hi r rs x (omega (arith, f, a, l)) ∙ le-leb x hi (omega (arith, a, l)) ∙ sym (cover-under m (r ∷ rs) x h (omega (arith, a, e)));
+      above = λ a. elim (cases_lt r.lo x) [
+        | inl over ↦ cover-high hi r rs x over ∙ sym (cover-high m r rs x over)
+        | inr under ↦ cover-low hi r rs x under ∙ lt-leb x hi a ∙ sym (cover-low m r rs x under ∙ lt-leb x m (omega (arith, a, e, l)))
+      ];
+    })
+
+-- behind a range that ends under the window
+grown-behind : (m lo hi : ℕ) (r : DoneRange) (rs : List DoneRange) (x : ℕ) (b : Bool) → r.lo ≤ lo → lo < hi → Grown (covers r.hi rs x) b lo hi x → Grown (covers m (r ∷ rs) x) (cond (leb x r.lo) (leb x m) b) lo hi x
+grown-behind m lo hi r rs x b u l g =
+    cond_both (leb x r.lo) (leb x m) b (λ z. Grown (covers m (r ∷ rs) x) z lo hi x)
+    (λ t. let low = leb-true x r.lo t in
+    record {
+      within = λ a c. absurd (omega (arith, low, u, a));
+      below = λ a. sym (cover-low m r rs x low);
+      above = λ a. absurd (omega (arith, low, u, a, l));
+    })
+    (λ t. let high = leb-false x r.lo t in
+    record {
+      within = λ a c. g.within a c;
+      below = λ a. g.below a ∙ sym (cover-high m r rs x high);
+      above = λ a. g.above a ∙ sym (cover-high m r rs x high);
+    })
+
+-- where the first range ends at lo or above it
+put_at-grown : (m lo hi : ℕ) (r : DoneRange) (rs : List DoneRange) (x : ℕ) → m < lo → lo < hi → Apart m (r ∷ rs) → Clear lo hi m (r ∷ rs) → lo ≤ r.hi → Grown (covers m (r ∷ rs) x) (covers m (put_at r rs lo hi) x) lo hi x
+put_at-grown m lo hi r rs x u l h c reach =
+    let P : List DoneRange → Type 0 = λ qs. Grown (covers m (r ∷ rs) x) (covers m qs x) lo hi x in
+    let next : DoneRange = record { lo = lo; hi = r.hi } in
+    let new : DoneRange = record { lo = lo; hi = hi } in
+    cond_both (eqb r.hi lo) _ _ P
+    (λ t. let at = eqb-true r.hi lo t in
+    grown-behind m lo hi r rs x (covers (absorbed hi rs).0 (absorbed hi rs).1 x) (omega (arith, at, h.1)) l
+    (absorbed-grown r.hi lo hi rs x at l h.2 (clear-free lo hi r.hi rs h.2 (clear-touched lo hi r rs h.1 l at c.1) at)))
+    (λ t. let free = clear-before lo hi r rs reach (eqb-false r.hi lo t) c.1 in
+    cond_both (eqb r.lo hi) _ _ P
+    (λ v. let at = eqb-true r.lo hi v in
+    record {
+      within = λ a b. cover-high m next rs x a ∙ cover-under r.hi rs x h.2 (omega (arith, at, h.1, b));
+      below = λ a. cover-low m next rs x a ∙ sym (cover-low m r rs x (omega (arith, at, a, l)));
+      above = λ a. cover-high m next rs x (omega (arith, a, l)) ∙ sym (cover-high m r rs x (omega (arith, at, a)));
+    })
+    (λ v. let gap : hi < r.lo = strict free (eqb-false r.lo hi v) in
+    record {
+      within = λ a b. cover-high m new (r ∷ rs) x a ∙ cover-under hi (r ∷ rs) x (gap, h.1, h.2) b;
+      below = λ a. cover-low m new (r ∷ rs) x a ∙ sym (cover-low m r rs x (omega (arith, gap, a, l)));
+      above = λ a. cover-high m new (r ∷ rs) x (omega (arith, a, l)) ∙ elim (cases_lt r.lo x) [
+        | inl over ↦ cover-high hi r rs x over ∙ sym (cover-high m r rs x over)
+        | inr under ↦ cover-low hi r rs x under ∙ lt-leb x hi a ∙ sym (cover-low m r rs x under ∙ lt-leb x m (omega (arith, a, l, u)))
+      ];
+    }))
+
+put_in-grown : (m lo hi : ℕ) (rs : List DoneRange) (x : ℕ) → m < lo → lo < hi → Apart m rs → Clear lo hi m rs → Grown (covers m rs x) (covers m (put_in rs lo hi) x) lo hi x
+put_in-grown m lo hi [] x u l h c =
+    let new : DoneRange = record { lo = lo; hi = hi } in
+    record {
+      within = λ a b. cover-high m new [] x a ∙ le-leb x hi b;
+      below = λ a. cover-low m new [] x a;
+      above = λ a. cover-high m new [] x (omega (arith, a, l)) ∙ lt-leb x hi a ∙ sym (lt-leb x m (omega (arith, a, l, u)));
+    }
+put_in-grown m lo hi (r ∷ rs) x u l h c =
+    cond_both (leb lo r.hi) (put_at r rs lo hi) (r ∷ put_in rs lo hi) (λ qs. Grown (covers m (r ∷ rs) x) (covers m qs x) lo hi x)
+    (λ s. put_at-grown m lo hi r rs x u l h c (leb-true lo r.hi s))
+    (λ s. let under = leb-false lo r.hi s in
+    grown-behind m lo hi r rs x (covers r.hi (put_in rs lo hi) x) (omega (arith, under, h.1)) l (put_in-grown r.hi lo hi rs x under l h.2 (clear-behind lo hi r rs h.1 under l c.1)))
+
+-- ---- the ranges stay apart
+
+absorbed-apart : (m lo hi : ℕ) (rs : List DoneRange) → Apart m rs → Free hi rs → Apart (absorbed hi rs).0 (absorbed hi rs).1 × (hi ≤ (absorbed hi rs).0)
+absorbed-apart m lo hi [] h f = (tt, omega arith)
+absorbed-apart m lo hi (r ∷ rs) h f =
+    cond_both (eqb r.lo hi) (r.hi, rs) (hi, r ∷ rs) (λ (a : ℕ × List DoneRange). Apart a.0 a.1 × (hi ≤ a.0))
+    (λ t. (h.2, omega (arith, f, h.1)))
+    (λ t. ((strict f (eqb-false r.lo hi t), h.1, h.2), omega arith))
+
+put_at-apart : (m lo hi : ℕ) (r : DoneRange) (rs : List DoneRange) → m < lo → lo < hi → Apart m (r ∷ rs) → Clear lo hi m (r ∷ rs) → lo ≤ r.hi → Apart m (put_at r rs lo hi)
+put_at-apart m lo hi r rs u l h c reach =
+    cond_both (eqb r.hi lo) _ _ (Apart m)
+    (λ t. let at = eqb-true r.hi lo t in
+    let a = absorbed-apart r.hi lo hi rs h.2 (clear-free lo hi r.hi rs h.2 (clear-touched lo hi r rs h.1 l at c.1) at) in
+    (h.0, omega (arith, h.1, at, l, a.1), a.0))
+    (λ t. let free = clear-before lo hi r rs reach (eqb-false r.hi lo t) c.1 in
+    cond_both (eqb r.lo hi) _ _ (Apart m)
+    (λ v. (u, omega (arith, l, free, h.1), h.2))
+    (λ v. (u, l, (strict free (eqb-false r.lo hi v), h.1, h.2))))
+
+put_in-apart : (m lo hi : ℕ) (rs : List DoneRange) → m < lo → lo < hi → Apart m rs → Clear lo hi m rs → Apart m (put_in rs lo hi)
+put_in-apart m lo hi [] u l h c = (u, l, tt)
+put_in-apart m lo hi (r ∷ rs) u l h c =
+    cond_both (leb lo r.hi) (put_at r rs lo hi) (r ∷ put_in rs lo hi) (Apart m)
+    (λ s. put_at-apart m lo hi r rs u l h c (leb-true lo r.hi s))
+    (λ s. let under = leb-false lo r.hi s in
+    (h.0, h.1, put_in-apart r.hi lo hi rs under l h.2 (clear-behind lo hi r rs h.1 under l c.1)))
+
+-- ---- the ranges begin and end at bounds
+
+absorbed-bounds : (start : ℕ) (es : List ℕ) (hi : ℕ) (rs : List DoneRange) → IsBound start es hi → AtBounds start es rs → IsBound start es (absorbed hi rs).0 × AtBounds start es (absorbed hi rs).1
+absorbed-bounds start es hi [] b bs = (b, tt)
+absorbed-bounds start es hi (r ∷ rs) b bs =
+    cond_both (eqb r.lo hi) (r.hi, rs) (hi, r ∷ rs) (λ (a : ℕ × List DoneRange). IsBound start es a.0 × AtBounds start es a.1)
+    (λ t. (bs.1, bs.2))
+    (λ t. (b, bs))
+
+put_at-bounds : (start : ℕ) (es : List ℕ) (lo hi : ℕ) (r : DoneRange) (rs : List DoneRange) → IsBound start es lo → IsBound start es hi → AtBounds start es (r ∷ rs) → AtBounds start es (put_at r rs lo hi)
+put_at-bounds start es lo hi r rs a b bs =
+    cond_both (eqb r.hi lo) _ _ (AtBounds start es)
+    (λ t. let far = absorbed-bounds start es hi rs b bs.2 in (bs.0, far.0, far.1))
+    (λ t. cond_both (eqb r.lo hi) _ _ (AtBounds start es) (λ v. (a, bs.1, bs.2)) (λ v. (a, b, bs)))
+
+put_in-bounds : (start : ℕ) (es : List ℕ) (lo hi : ℕ) (rs : List DoneRange) → IsBound start es lo → IsBound start es hi → AtBounds start es rs → AtBounds start es (put_in rs lo hi)
+put_in-bounds start es lo hi [] a b bs = (a, b, tt)
+put_in-bounds start es lo hi (r ∷ rs) a b bs =
+    cond_both (leb lo r.hi) (put_at r rs lo hi) (r ∷ put_in rs lo hi) (AtBounds start es)
+    (λ s. put_at-bounds start es lo hi r rs a b bs)
+    (λ s. (bs.0, bs.1, put_in-bounds start es lo hi rs a b bs.2))
+
+-- ---- all of it, at the mark too
+
+pub joined-grown : (m lo hi : ℕ) (rs : List DoneRange) (x : ℕ) → lo < hi → Apart m rs → Clear lo hi m rs → Grown (covers m rs x) (covers (joined m rs lo hi).0 (joined m rs lo hi).1 x) lo hi x
+joined-grown m lo hi rs x l h c =
+    cond_both (eqb m lo) (absorbed hi rs) (m, put_in rs lo hi) (λ (a : ℕ × List DoneRange). Grown (covers m rs x) (covers a.0 a.1 x) lo hi x)
+    (λ t. let at = eqb-true m lo t in absorbed-grown m lo hi rs x at l h (clear-free lo hi m rs h c at))
+    (λ t. put_in-grown m lo hi rs x (strict (clear-mark lo hi m rs c) (λ e. eqb-false m lo t (sym e))) l h c)
+
+pub joined-apart : (m lo hi : ℕ) (rs : List DoneRange) → lo < hi → Apart m rs → Clear lo hi m rs → Apart (joined m rs lo hi).0 (joined m rs lo hi).1
+joined-apart m lo hi rs l h c =
+    cond_both (eqb m lo) (absorbed hi rs) (m, put_in rs lo hi) (λ (a : ℕ × List DoneRange). Apart a.0 a.1)
+    (λ t. (absorbed-apart m lo hi rs h (clear-free lo hi m rs h c (eqb-true m lo t))).0)
+    (λ t. put_in-apart m lo hi rs (strict (clear-mark lo hi m rs c) (λ e. eqb-false m lo t (sym e))) l h c)
+
+pub joined-bounds : (start : ℕ) (es : List ℕ) (m lo hi : ℕ) (rs : List DoneRange) → IsBound start es m → IsBound start es lo → IsBound start es hi → AtBounds start es rs → IsBound start es (joined m rs lo hi).0 × AtBounds start es (joined m rs lo hi).1
+joined-bounds start es m lo hi rs k a b bs =
+    cond_both (eqb m lo) (absorbed hi rs) (m, put_in rs lo hi) (λ (q : ℕ × List DoneRange). IsBound start es q.0 × AtBounds start es q.1)
+    (λ t. absorbed-bounds start es hi rs b bs)
+    (λ t. (k, put_in-bounds start es lo hi rs a b bs))
+
+-- ---- the window put in at the place of the first range that ends at lo or above it
+
+put_in-past : (r : DoneRange) (rs : List DoneRange) (lo hi : ℕ) → r.hi < lo → put_in (r ∷ rs) lo hi ≡ r ∷ put_in rs lo hi
+put_in-past r rs lo hi l = cond-false (leb lo r.hi) (put_at r rs lo hi) (r ∷ put_in rs lo hi) (lt-leb lo r.hi l)
+
+put_in-here : (r : DoneRange) (rs : List DoneRange) (lo hi : ℕ) → lo ≤ r.hi → put_in (r ∷ rs) lo hi ≡ put_at r rs lo hi
+put_in-here r rs lo hi l = cond-true (leb lo r.hi) (put_at r rs lo hi) (r ∷ put_in rs lo hi) (le-leb lo r.hi l)
+
+-- the range at the place ends at lo: it grows, also over the one behind it that begins at hi
+put_in-left : (rs : List DoneRange) (lo hi p : ℕ) (d : DoneRange) → EndBelow rs lo p → p < length rs → (get_or rs p d).hi ≡ lo → put_in rs lo hi ≡ set (take (suc p) rs ++ (absorbed hi (drop (suc p) rs)).1) p (record { lo = (get_or rs p d).lo; hi = (absorbed hi (drop (suc p) rs)).0 })
+put_in-left [] lo hi p d b l e = absurd (omega (arith, l))
+put_in-left (r ∷ rs) lo hi zero d b l e = put_in-here r rs lo hi (omega (arith, e)) ∙ cond-true (eqb r.hi lo) _ _ (eq-eqb r.hi lo e)
+put_in-left (r ∷ rs) lo hi (suc p) d b l e =
+    put_in-past r rs lo hi (b 0 r (omega arith) (omega arith)) ∙ ap (λ qs. r ∷ qs) (put_in-left rs lo hi p d (end-below-next r rs lo p b) (omega (arith, l)) e)
+
+-- it begins at hi
+put_in-right : (rs : List DoneRange) (lo hi p : ℕ) (d : DoneRange) → EndBelow rs lo p → p < length rs → lo ≤ (get_or rs p d).hi → ((get_or rs p d).hi ≡ lo → ⊥) → (get_or rs p d).lo ≡ hi → put_in rs lo hi ≡ set rs p (record { lo = lo; hi = (get_or rs p d).hi })
+put_in-right [] lo hi p d b l u n e = absurd (omega (arith, l))
+put_in-right (r ∷ rs) lo hi zero d b l u n e = put_in-here r rs lo hi u ∙ cond-false (eqb r.hi lo) _ _ (ne_eqb r.hi lo n) ∙ cond-true (eqb r.lo hi) _ _ (eq-eqb r.lo hi e)
+put_in-right (r ∷ rs) lo hi (suc p) d b l u n e =
+    put_in-past r rs lo hi (b 0 r (omega arith) (omega arith)) ∙ ap (λ qs. r ∷ qs) (put_in-right rs lo hi p d (end-below-next r rs lo p b) (omega (arith, l)) u n e)
+
+-- it touches none
+put_in-new : (rs : List DoneRange) (lo hi p : ℕ) → EndBelow rs lo p → p ≤ length rs → ((d : DoneRange) → p < length rs → (lo ≤ (get_or rs p d).hi) × ((get_or rs p d).hi ≡ lo → ⊥) × ((get_or rs p d).lo ≡ hi → ⊥)) → put_in rs lo hi ≡ insert rs p (record { lo = lo; hi = hi })
+put_in-new [] lo hi zero b l n = refl
+put_in-new [] lo hi (suc p) b l n = absurd (omega (arith, l))
+put_in-new (r ∷ rs) lo hi zero b l n =
+    let at = n r (omega arith) in
+    put_in-here r rs lo hi at.0 ∙ cond-false (eqb r.hi lo) _ _ (ne_eqb r.hi lo at.1) ∙ cond-false (eqb r.lo hi) _ _ (ne_eqb r.lo hi at.2)
+put_in-new (r ∷ rs) lo hi (suc p) b l n =
+    put_in-past r rs lo hi (b 0 r (omega arith) (omega arith)) ∙ ap (λ qs. r ∷ qs) (put_in-new rs lo hi p (end-below-next r rs lo p b) (omega (arith, l)) (λ d k. n d (omega (arith, k))))
+
+-- ---- what `join` writes, as it reads it
+
+get-kept : (rs qs : List DoneRange) (p : ℕ) (d : DoneRange) → p < length rs → get_or (take (suc p) rs ++ qs) p d ≡ get_or rs p d
+get-kept [] qs p d l = absurd (omega (arith, l))
+get-kept (r ∷ rs) qs zero d l = refl
+get-kept (r ∷ rs) qs (suc p) d l = get-kept rs qs p d (omega (arith, l))
+
+-- w stands at the place; x is read there once the ranges behind it are qs
+pub left-written : (rs qs : List DoneRange) (lo hi p reach : ℕ) (w x : DoneRange) → EndBelow rs lo p → slice_get rs p ≡ Some w → w.hi ≡ lo → qs ≡ take (p + 1) rs ++ (absorbed hi (drop (p + 1) rs)).1 → reach ≡ (absorbed hi (drop (p + 1) rs)).0 → x ≡ get_or qs p x → set qs p (record { lo = x.lo; hi = reach }) ≡ put_in rs lo hi
+left-written rs qs lo hi p reach w x below at touches rest far read =
+    let within = slice_get_within rs p w at in
+    let rest' : qs ≡ take (suc p) rs ++ (absorbed hi (drop (suc p) rs)).1 = rest ∙ ap (λ n. take n rs ++ (absorbed hi (drop n rs)).1) (add-one p) in
+    let far' : reach ≡ (absorbed hi (drop (suc p) rs)).0 = far ∙ ap (λ n. (absorbed hi (drop n rs)).0) (add-one p) in
+    let first : x.lo ≡ (get_or rs p x).lo = ap (λ (y : DoneRange). y.lo) (read ∙ ap (λ l. get_or l p x) rest' ∙ get-kept rs (absorbed hi (drop (suc p) rs)).1 p x within) in
+    let new : ℕ → ℕ → DoneRange = λ a b. record { lo = a; hi = b } in
+    ap (λ l. set l p (new x.lo reach)) rest'
+    ∙ ap (λ n. set (take (suc p) rs ++ (absorbed hi (drop (suc p) rs)).1) p (new x.lo n)) far'
+    ∙ ap (λ n. set (take (suc p) rs ++ (absorbed hi (drop (suc p) rs)).1) p (new n (absorbed hi (drop (suc p) rs)).0)) first
+    ∙ sym (put_in-left rs lo hi p x below within (ap (λ (y : DoneRange). y.hi) (get_or_from_slice_get rs p w x at) ∙ touches))
+
+pub right-written : (rs : List DoneRange) (lo hi p : ℕ) (w x : DoneRange) → EndBelow rs lo p → slice_get rs p ≡ Some w → lo ≤ w.hi → (w.hi ≡ lo → ⊥) → w.lo ≡ hi → x ≡ get_or rs p x → set rs p (record { lo = lo; hi = x.hi }) ≡ put_in rs lo hi
+right-written rs lo hi p w x below at above apart touches read =
+    let same : get_or rs p x ≡ w = get_or_from_slice_get rs p w x at in
+    let top : (get_or rs p x).hi ≡ w.hi = ap (λ (y : DoneRange). y.hi) same in
+    let new : ℕ → DoneRange = λ b. record { lo = lo; hi = b } in
+    ap (λ n. set rs p (new n)) (ap (λ (y : DoneRange). y.hi) read)
+    ∙ sym (put_in-right rs lo hi p x below (slice_get_within rs p w at) (omega (arith, top, above)) (λ e. apart (sym top ∙ e)) (ap (λ (y : DoneRange). y.lo) same ∙ touches))
+
+pub new-written : (rs : List DoneRange) (lo hi p : ℕ) → EndBelow rs lo p → p ≤ length rs → ((w : DoneRange) → slice_get rs p ≡ Some w → (lo ≤ w.hi) × (w.hi ≡ lo → ⊥) × (w.lo ≡ hi → ⊥)) → insert rs p (record { lo = lo; hi = hi }) ≡ put_in rs lo hi
+new-written rs lo hi p below le apart =
+    sym (put_in-new rs lo hi p below le (λ d l. apart (get_or rs p d) (slice_get_read rs (length rs) p (get_or rs p d) refl l (default d (get_or rs p d) p rs l))))
+  where
+    default : (a b : DoneRange) (k : ℕ) (xs : List DoneRange) → k < length xs → get_or xs k a ≡ get_or xs k b
+    default a b k [] l = absurd (omega (arith, l))
+    default a b zero (x ∷ xs) l = refl
+    default a b (suc k) (x ∷ xs) l = default a b k xs (omega (arith, l))
+
+-- where the window doesn't begin at the mark
+pub joined-above : (m lo hi : ℕ) (rs : List DoneRange) → (m ≡ lo → ⊥) → joined m rs lo hi ≡ (m, put_in rs lo hi)
+joined-above m lo hi rs n = cond-false (eqb m lo) (absorbed hi rs) (m, put_in rs lo hi) (ne_eqb m lo n)

@@ -1,0 +1,88 @@
+//! The low water and the ranges above it.
+ghost use Rattle.std.specs.Prelude.{◌≡◌, ℕ, ◌<◌, ◌≤◌, ◌++◌, length, take, drop, OnErr, IsOk, IsOkUnless};
+ghost use Rattle.std.specs.List.Sorted.{IsPartitionPoint};
+ghost use Rattle.std.specs.Vec.{vec_len, vec_capacity};
+ghost use Rattle.range_front.specs.Ranges.{Apart, covers, absorbed, joined};
+
+use crate::fault::FrontFault;
+
+/// Neighbouring windows that are done: all of `(lo, hi]`.
+#[derive(Clone, Copy)]
+pub(crate) struct DoneRange {
+    pub(crate) lo: u64,
+    pub(crate) hi: u64,
+}
+
+/// The place of the first range that ends at a bound or above it.
+fn place_from(ranges: &[DoneRange], bound: u64) -> usize
+    requires { (mark : ℕ) × Apart mark ranges.now }
+    ensures within { result ≤ length ranges.now }
+    ensures point { IsPartitionPoint (λ r. r.hi < bound) (λ r. bound ≤ r.hi) ranges.now result }
+{
+    ranges.partition_point(|range| range.hi < bound)
+}
+
+/// Whether what ends at `hi` is done: it lies at or under the low water `mark`, or in one of the ranges above it.
+pub(crate) fn is_covered(mark: u64, ranges: &[DoneRange], hi: u64) -> bool
+    requires { Apart mark ranges.now }
+    ensures { result ≡ covers mark ranges.now hi }
+{
+    if hi <= mark {
+        return true;
+    }
+    match ranges.get(place_from(ranges, hi)) {
+        Some(range) => range.lo < hi,
+        None => false,
+    }
+}
+
+/// Takes the range at a place out where it begins at `hi`, and answers up to where the windows are then done.
+fn absorb(ranges: &mut Vec<DoneRange>, place: usize, hi: u64) -> u64
+    ensures reach { result ≡ (absorbed hi (drop place ranges.old.items)).0 }
+    ensures rest { ranges.new.items ≡ take place ranges.old.items ++ (absorbed hi (drop place ranges.old.items)).1 }
+{
+    match ranges.get(place) {
+        Some(next) if next.lo == hi => {
+            let reach = next.hi;
+            ranges.remove(place);
+            reach
+        }
+        _ => hi,
+    }
+}
+
+/// Marks `(lo, hi]`, which lies outside the ranges and above the low water: what it touches becomes one with it.
+///
+/// The only error is `Memory`, which changes nothing.
+pub(crate) fn join(
+    mark: &mut u64,
+    ranges: &mut Vec<DoneRange>,
+    lo: u64,
+    hi: u64,
+) -> Result<(), FrontFault>
+    requires { Apart mark.old ranges.old.items }
+    ensures memory { IsOkUnless result FrontFault.Memory }
+    ensures room { vec_len ranges.old < vec_capacity ranges.old → IsOk result }
+    ensures mark { IsOk result → mark.new ≡ (joined mark.old ranges.old.items lo hi).0 }
+    ensures ranges { IsOk result → ranges.new.items ≡ (joined mark.old ranges.old.items lo hi).1 }
+    ensures err { OnErr result ((mark.new ≡ mark.old) × (ranges.new.items ≡ ranges.old.items)) }
+{
+    if *mark == lo {
+        *mark = absorb(ranges, 0, hi);
+        return Ok(());
+    }
+    let place = place_from(ranges, lo);
+    match ranges.get(place) {
+        Some(before) if before.hi == lo => {
+            let reach = absorb(ranges, place + 1, hi);
+            ranges[place].hi = reach;
+        }
+        Some(next) if next.lo == hi => ranges[place].lo = lo,
+        _ => {
+            let Ok(()) = ranges.insert(place, DoneRange { lo, hi }) else {
+                return Err(FrontFault::Memory);
+            };
+        }
+    }
+    Ok(())
+}
