@@ -7,11 +7,15 @@ mod exchanges;
 #[cfg(test)]
 mod feeds;
 #[cfg(test)]
+mod forms;
+#[cfg(test)]
 mod fronts;
 #[cfg(test)]
 mod merges;
 #[cfg(test)]
 mod pairs;
+#[cfg(test)]
+mod plain;
 #[cfg(test)]
 mod reference;
 #[cfg(test)]

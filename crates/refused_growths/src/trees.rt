@@ -74,13 +74,23 @@ fn other(alloc: Global) -> Result<Ancestry> {
     }
 }
 
-/// The tree of both ancestries, the first of them merged twice.
+/// 12-l to 1-l: with them the revisions are too many to be walked, and have an index.
+fn long(alloc: Global) -> Result<Ancestry> {
+    let sigs = [Sig::parse(b"l")?; 12];
+    match Ancestry::from_parts(alloc, 12, &sigs) {
+        Ok(ancestry) => Ok(ancestry),
+        Err(_) => Ok(Ancestry::from_parts(alloc, 12, &sigs)?),
+    }
+}
+
+/// The tree of the three ancestries, the first of them merged twice.
 fn grown(alloc: Global) -> Result<Tree> {
     let mut tree = Tree::new(alloc);
     let three = revisions::three(alloc)?;
     for (given, wanted) in [
         (&three, Merged::Changed),
         (&other(alloc)?, Merged::Changed),
+        (&long(alloc)?, Merged::Changed),
         (&three, Merged::Same),
     ] {
         let (answer, changed) = merged(alloc, &mut tree, given)?;

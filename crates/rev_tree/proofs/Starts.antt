@@ -1,16 +1,15 @@
--- The lists of the tree of no revisions.
-use Rattle.std.proofs.Common.{[], sym, ap, ◌∙◌, is_some}
+-- The nodes of the tree of no revisions.
+use Rattle.std.proofs.Common.{[], sym, ap, ◌∙◌, is_some, refl}
 use Rattle.std.proofs.lemmas.Bool.{and_parts, false≢true}
 use Rattle.std.specs.FinMap.{get-empty}
 use Rattle.rev_core.specs.Rev.{rev_cmp}
 use Rattle.rev_tree.specs.Tree.{has, no_revisions}
-use Rattle.rev_tree.specs.Kept.{IsKept}
+use Rattle.rev_tree.specs.Nodes.{IsIndexed}
 
-pub IsKept-none : IsKept [] [] []
-IsKept-none = record {
-  agree = tt;
-  contents_once = tt;
-  origins_once = tt;
+pub IsIndexed-none : IsIndexed [] []
+IsIndexed-none = record {
+  index = refl;
+  linked = record { once = tt; each = λ r n h. absurd (false≢true (ap is_some h)) };
   tree = record {
     revs = λ r h. absurd (false≢true (sym (ap is_some (get-empty rev_cmp r)) ∙ h));
     child = λ c p h. absurd (false≢true (sym (ap is_some (get-empty rev_cmp c)) ∙ ap is_some h));

@@ -4,10 +4,12 @@
 #![tactic(auto)]
 
 mod content;
-mod entries;
 mod fault;
+mod merging;
+mod nodes;
 mod origin;
 mod tree;
+mod walks;
 
 pub use content::Content;
 pub use fault::{Contradiction, Merged, TreeFault};

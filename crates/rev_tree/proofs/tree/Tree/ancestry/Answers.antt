@@ -1,48 +1,37 @@
-use Rattle.std.proofs.Common.{◌≡◌, ◌++◌, ◌∷◌, [], sym, ap, ◌∙◌, subst, arith, Ok}
-use Rattle.std.proofs.lemmas.List.{append_assoc}
-use Rattle.std.proofs.lemmas.Bool.{cond-true}
+use Rattle.std.proofs.Common.{◌<◌, length, Ok, sym, ap, ◌∙◌, subst}
+use Rattle.std.proofs.lemmas.Bool.{cond-true, cond-false}
 use Rattle.rev_core.specs.Ancestry.{IsAncestry}
-use Rattle.rev_tree.specs.Tree.{ancestors}
-use Rattle.rev_tree.specs.LeafLaws.{ancestors_step, ancestors_last, IsAncestry-ancestors}
+use Rattle.rev_tree.specs.Tree.{IsTree}
+use Rattle.rev_tree.specs.LeafLaws.{IsAncestry-ancestors}
+use Rattle.rev_tree.specs.Nodes.{place_of}
+use Rattle.rev_tree.specs.Walks.{ancestors_at}
+use Rattle.rev_tree.proofs.Places.{place_unknown}
+use Rattle.rev_tree.proofs.Lookups.{has_is, ok_known}
+use Rattle.rev_tree.proofs.Walking.{place_is}
 use Rattle.rev_tree.proofs.tree.Tree.ancestry.Goals as goal
 
-pub walk-init : goal.walk-init
-walk-init c = record {
-  walked = ap (λ xs. xs ++ ancestors c.args.self.now c.args.rev) c.new-revs.ensures.items;
-  known = sym c.has.ensures.found ∙ c.if-not-has.false;
-}
+pub returns-in_default : goal.returns-in_default
+returns-in_default c =
+    let items = c.self.inside.nodes.items in
+    sym (cond-false _ _ _ (has_is items c.args.self.now c.args.rev _ c.self.invariant.linked c.self.view_is (place_unknown items c.args.rev (ap (λ l. place_of l c.args.rev) (sym c.deref.ensures.value) ∙ sym c.place_in.ensures ∙ c.in_default.is))))
 
-pub walk-preserved : goal.walk-preserved
-walk-preserved c =
-    let t = c.args.self.now in
-    let edge = sym c.parent_of.ensures ∙ c.in-Some.is in
-    record {
-      walked =
-          ap (λ xs. xs ++ ancestors t c.in-Some.parent) c.in-Ok.ensures.items
-          ∙ append_assoc c.walk.revs.items (c.walk.at ∷ []) (ancestors t c.in-Some.parent)
-          ∙ ap (λ xs. c.walk.revs.items ++ xs) (sym (ancestors_step t c.has.ensures.tree c.walk.at c.in-Some.parent edge))
-          ∙ c.walk.invariant.walked;
-      known = c.has.ensures.tree.parent c.walk.at c.in-Some.parent edge;
-    }
+pub walk-requires-clause-within : goal.walk-requires-clause-within
+walk-requires-clause-within c =
+    let at = place_is c.self.inside.nodes.items c.args.self.now c.args.rev c.in-Some.place c.self.invariant.linked c.self.view_is (ap (λ l. place_of l c.args.rev) (sym c.deref.ensures.value) ∙ sym c.place_in.ensures ∙ c.in-Some.is) in
+    subst (λ l. c.in-Some.place < length l) (sym c.deref-2.ensures.value) at.within
 
-pub walk-smaller : goal.walk-smaller
-walk-smaller c =
-    let falls = c.has.ensures.tree.falls c.walk.at c.in-Some.parent (sym c.parent_of.ensures ∙ c.in-Some.is) in
-    omega arith
-
-all : (c : goal.In-None) → c.push.new.self.items ≡ ancestors c.args.self.now c.args.rev
-all c =
-    c.in-Ok.ensures.items
-    ∙ ap (λ xs. c.walk.revs.items ++ xs) (sym (ancestors_last c.args.self.now c.walk.at (sym c.parent_of.ensures ∙ c.in-None.is)))
-    ∙ c.walk.invariant.walked
+pub returns-in_default-walk : goal.returns-in_default-walk
+returns-in_default-walk c =
+    let at = place_is c.self.inside.nodes.items c.args.self.now c.args.rev c.in-Some.place c.self.invariant.linked c.self.view_is (ap (λ l. place_of l c.args.rev) (sym c.deref.ensures.value) ∙ sym c.place_in.ensures ∙ c.in-Some.is) in
+    ok_known _ _ _ at.known
 
 pub from_revs-requires : goal.from_revs-requires
-from_revs-requires c = subst IsAncestry (sym (all c)) (IsAncestry-ancestors c.args.self.now c.has.ensures.tree c.args.rev (sym c.has.ensures.found ∙ c.if-not-has.false))
+from_revs-requires c =
+    let at = place_is c.self.inside.nodes.items c.args.self.now c.args.rev c.in-Some.place c.self.invariant.linked c.self.view_is (ap (λ l. place_of l c.args.rev) (sym c.deref.ensures.value) ∙ sym c.place_in.ensures ∙ c.in-Some.is) in
+    subst IsAncestry (sym (c.in-Ok.ensures.walked ∙ ap (λ l. ancestors_at l c.in-Some.place) c.deref-2.ensures.value ∙ at.walk))
+    (IsAncestry-ancestors c.args.self.now (subst IsTree c.self.view_is c.self.invariant.tree) c.args.rev at.known)
 
 pub returns : goal.returns
 returns c =
-    ap Ok (c.from_revs.ensures
-    ∙ c.in-Ok.ensures.items
-    ∙ ap (λ xs. c.walk.revs.items ++ xs) (sym (ancestors_last c.args.self.now c.walk.at (sym c.parent_of.ensures ∙ c.in-None.is)))
-    ∙ c.walk.invariant.walked)
-    ∙ sym (cond-true _ _ _ (sym c.has.ensures.found ∙ c.if-not-has.false))
+    let at = place_is c.self.inside.nodes.items c.args.self.now c.args.rev c.in-Some.place c.self.invariant.linked c.self.view_is (ap (λ l. place_of l c.args.rev) (sym c.deref.ensures.value) ∙ sym c.place_in.ensures ∙ c.in-Some.is) in
+    ap Ok (c.from_revs.ensures ∙ c.in-Ok.ensures.walked ∙ ap (λ l. ancestors_at l c.in-Some.place) c.deref-2.ensures.value ∙ at.walk) ∙ sym (cond-true _ _ _ at.known)

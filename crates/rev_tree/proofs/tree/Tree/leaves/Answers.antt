@@ -1,32 +1,46 @@
-use Rattle.std.proofs.Common.{take, filter, sym, ap, ◌∙◌}
-use Rattle.std.proofs.lemmas.List.{take_all}
-use Rattle.std.proofs.lemmas.Bool.{cond-true, cond-false}
-use Rattle.rev_tree.specs.InOrder.{in_order, placed, in_order-nil}
-use Rattle.rev_tree.specs.Tree.{is_leaf, leaf_cmp, leaves}
-use Rattle.rev_tree.proofs.Keys.{revs_of, revs_more, leaves_more, leaves_of_contents}
+use Rattle.std.proofs.Common.{◌≡◌, ◌++◌, ◌∷◌, [], take, filter, map, cond, not, IfOk, sym, ap, ◌∙◌, subst, rules}
+use Rattle.std.proofs.lemmas.List.{take_all, append-nil, map-append}
+use Rattle.std.proofs.lemmas.Fn.{always_returns_same}
+use Rattle.std.proofs.lemmas.List.Sorted.{ranks_by}
+use Rattle.std.specs.List.Sorted.{IsPermutation}
+use Rattle.std.specs.Ordering.{is_lt}
+use Rattle.rev_tree.specs.Tree.{is_leaf}
+use Rattle.rev_tree.specs.Nodes.{revs_in}
+use Rattle.rev_tree.proofs.Leaves.{leaf_item, deleted_item, leaves_pushed, leaves_of_nodes, count_once}
+use Rattle.rev_tree.proofs.Sorting.{told_deleted, pair_cmp, pair_cmp_total, pairs_in_order}
 use Rattle.rev_tree.proofs.tree.Tree.leaves.Goals as goal
-use Rattle.rev_tree.proofs.tree.Tree.leaves.Goals.{then-is_leaf+in-Ok, else-is_leaf}
+use Rattle.rev_tree.proofs.tree.Tree.leaves.Goals.{then-not-node+in-Ok-push, else-not-node}
 
-pub loop-entry-init : goal.loop-entry-init
-loop-entry-init c = c.new-leaves.ensures.items ∙ sym (in_order-nil (leaf_cmp c.args.self.now))
-
-pub loop-entry-preserved : goal.loop-entry-preserved
-loop-entry-preserved c =
+pub loop-node-preserved : goal.loop-node-preserved
+loop-node-preserved c =
     let t = c.args.self.now in
-    let rev = c.entry-item.result.0 in
-    let more =
-    ap (λ revs. in_order (leaf_cmp t) (filter (is_leaf t) revs)) (revs_more c.deref-entry-items.result.now c.loop-entry.entry-index c.entry-item.result c.loop-entry-test.true c.entry-item.is)
-    ∙ leaves_more t (revs_of (take c.loop-entry.entry-index c.deref-entry-items.result.now)) rev in
-    elim c.if-is_leaf.branch [
-      | then-is_leaf+in-Ok w ↦ ap (λ v. v.items) w.leaves-is ∙ w.in-Ok.ensures.ok ∙ ap (placed (leaf_cmp t) rev) c.loop-entry.invariant ∙ sym (more ∙ cond-true _ _ _ (sym c.is_leaf.ensures ∙ w.if-is_leaf.true))
-      | else-is_leaf w ↦ ap (λ v. v.items) w.leaves-is ∙ c.loop-entry.invariant ∙ sym (more ∙ cond-false _ _ _ (sym c.is_leaf.ensures ∙ w.if-is_leaf.false))
+    let items = c.deref-node-items.result.now in
+    let i = c.loop-node.node-index in
+    let n = c.node-item.result in
+    let before = filter (is_leaf t) (revs_in (take i items)) in
+    let leaf = leaf_item c.self.inside.nodes.items items t c.self.invariant.linked c.self.view_is c.deref-node-items.ensures.value i n c.loop-node-test.true c.node-item.is in
+    let deletes = deleted_item c.self.inside.nodes.items items t c.self.invariant.linked c.self.view_is c.deref-node-items.ensures.value i n c.loop-node-test.true c.node-item.is in
+    let more = leaves_pushed t items i n c.loop-node-test.true c.node-item.is in
+    elim c.if-not-node.branch [
+      | then-not-node+in-Ok-push w ↦
+          ap (λ v. v.items) w.found-is ∙ w.in-Ok-push.ensures.items ∙ ap (λ l. l ++ (w.is_deleted.result, n.rev) ∷ []) c.loop-node.invariant
+          ∙ ap (λ b. map (told_deleted t) before ++ (b, n.rev) ∷ []) (w.is_deleted.ensures ∙ sym deletes)
+          ∙ sym (map-append (told_deleted t) before (n.rev ∷ []))
+          ∙ ap (map (told_deleted t)) (sym (more ∙ ap (λ b. before ++ cond b (n.rev ∷ []) []) (leaf ∙ ap not w.if-not-node.true)))
+      | else-not-node w ↦
+          ap (λ v. v.items) w.found-is ∙ c.loop-node.invariant
+          ∙ ap (map (told_deleted t)) (sym (more ∙ ap (λ b. before ++ cond b (n.rev ∷ []) []) (leaf ∙ ap not w.if-not-node.false) ∙ append-nil before))
     ]
 
 pub returns-clause-leaves : goal.returns-clause-leaves
 returns-clause-leaves c =
-    let inside = c.self.inside in
-    c.loop-entry.invariant
-    ∙ ap (λ es. in_order (leaf_cmp c.args.self.now) (filter (is_leaf c.args.self.now) (revs_of es))) (take_all _ _ c.loop-entry-test.false ∙ c.deref-entry-items.ensures.value)
-    ∙ ap (λ t. in_order (leaf_cmp t) (filter (is_leaf t) (revs_of inside.contents.items))) (sym c.self.view_is)
-    ∙ leaves_of_contents inside.ancestries.items inside.contents.items inside.origins.items c.self.invariant
-    ∙ ap leaves c.self.view_is
+    let t = c.args.self.now in
+    let nodes = c.self.inside.nodes.items in
+    let revs = filter (is_leaf t) (revs_in nodes) in
+    let found : c.loop-node.found.items ≡ map (told_deleted t) revs = c.loop-node.invariant ∙ ap (λ l. map (told_deleted t) (filter (is_leaf t) (revs_in l))) (take_all _ _ c.loop-node-test.false ∙ c.deref-node-items.ensures.value) in
+    let sorted =
+    pairs_in_order t revs c.sort_unstable_by.new.self.items (count_once t (revs_in nodes) c.self.invariant.linked.once)
+    (subst (λ l. IsPermutation l c.sort_unstable_by.new.self.items) found c.sort_unstable_by.ensures.permutation)
+    (c.sort_unstable_by.ensures.sorted (λ x y. is_lt (pair_cmp x y)) (ranks_by pair_cmp_total (λ x. x)) (always_returns_same _ _ _ (λ a r q k. search rules)))
+    ∙ leaves_of_nodes nodes t c.self.invariant.linked c.self.view_is in
+    subst (λ l. IfOk c.revs_of.result (λ v. v.items ≡ l)) (ap (map (λ p. p.1)) c.deref.ensures.value ∙ sorted) c.revs_of.ensures.revs

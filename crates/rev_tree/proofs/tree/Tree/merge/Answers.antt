@@ -1,40 +1,54 @@
-use Rattle.std.proofs.Common.{◌++◌, ◌∷◌, [], map, sym, ap, ◌∙◌, subst}
-use Rattle.rev_core.specs.Ancestry.{edges_of, IsAncestry}
-use Rattle.rev_tree.specs.Entries.{added}
-use Rattle.rev_tree.specs.Tree.{at_head, first_contradiction, merged}
-use Rattle.rev_tree.specs.TreeLaws.{merged-same}
-use Rattle.rev_tree.specs.Kept.{IsKept, tree_of}
-use Rattle.rev_tree.proofs.Merging.{tree_of_push, kept_push}
+use Rattle.std.proofs.Common.{◌≡◌, Ok, length, sym, ap, ◌∙◌, subst, ◌<◌, arith}
+use Rattle.rev_tree.specs.Tree.{IsTree, merged}
+use Rattle.rev_tree.specs.TreeLaws.{merged-same, IsTree-merged}
+use Rattle.rev_tree.specs.Nodes.{IsLinked, index_for, revs_in, tree_of}
+use Rattle.rev_tree.proofs.Linking.{length-revs_in}
+use Rattle.rev_tree.proofs.Indexing.{index_short}
+use Rattle.rev_tree.proofs.Answering.{none_from_answer, same_from_answer}
 use Rattle.rev_tree.proofs.tree.Tree.merge.Goals as goal
+use Rattle.rev_tree.proofs.tree.Tree.merge.Goals.{After-put}
 
-pub returns-then-is_same-clause-ok : goal.returns-then-is_same-clause-ok
-returns-then-is_same-clause-ok c = sym (merged-same c.args.self.now c.args.ancestry.now c.args.content c.args.origin (sym c.is_same.ensures ∙ c.if-is_same.true))
+pub make_room-requires : goal.make_room-requires
+make_room-requires c =
+    let items = c.self.inside.nodes.items in
+    omega (arith, index_short (revs_in items) c.self.inside.places.entries c.self.invariant.index, length-revs_in items, c.self.inside.nodes.ok.0)
 
--- the three lists with the copied ancestry
-kept : (c : goal.After-put) → IsKept c.put.new.ancestries.items c.put.new.contents.items c.put.new.origins.items
-kept c =
-    let inside = c.self.inside in
-    let revs = c.in-Ok.given in
-    let none =
-    ap (λ revs. first_contradiction (tree_of inside.ancestries.items inside.contents.items inside.origins.items).parents (edges_of revs)) c.in-Ok.ensures.copied
-    ∙ ap (λ t. first_contradiction t.parents (edges_of c.args.ancestry.now)) c.self.view_is ∙ sym c.contradiction.ensures ∙ c.in_default.is in
-    rw (c.put.ensures.ancestries, c.put.ensures.contents, c.put.ensures.origins, c.in-Ok-make_room.ensures.ancestries, c.in-Ok-make_room.ensures.contents, c.in-Ok-make_room.ensures.origins)
-    (kept_push inside.ancestries.items inside.contents.items inside.origins.items revs c.args.content c.args.origin c.self.invariant (subst IsAncestry (sym c.in-Ok.ensures.copied) c.in-Ok.ensures.ancestry) none)
+pub put-requires-clause-index : goal.put-requires-clause-index
+put-requires-clause-index c = c.make_room.ensures.index ∙ c.self.invariant.index ∙ ap (λ l. index_for (revs_in l)) (sym c.make_room.ensures.nodes)
+
+pub put-requires-clause-linked : goal.put-requires-clause-linked
+put-requires-clause-linked c = subst IsLinked (sym c.make_room.ensures.nodes) c.self.invariant.linked
+
+pub put-requires-clause-some : goal.put-requires-clause-some
+put-requires-clause-some c = subst (λ l. 0 < length l) (sym c.revs-revs.ensures.all) c.revs-revs.ensures.ancestry.nonempty
+
+pub returns-in-Ok-Same-clause-ok : goal.returns-in-Ok-Same-clause-ok
+returns-in-Ok-Same-clause-ok c =
+    let t = c.args.self.now in
+    let revs = c.args.ancestry.now in
+    sym (merged-same t revs c.args.content c.args.origin (same_from_answer t revs (sym c.answer.ensures ∙ c.in-Ok-Same.is ∙ ap Ok c.in-Ok-Same.field-0-is)))
+
+-- the nodes with the ancestry are the merged tree, which is a tree
+after : (c : After-put) → tree_of c.put.new.nodes.items ≡ merged c.args.self.now c.args.ancestry.now c.args.content c.args.origin
+after c =
+    c.put.ensures.tree
+    ∙ ap (λ l. merged (tree_of l) c.revs-revs.result.now c.args.content c.args.origin) c.make_room.ensures.nodes
+    ∙ ap (λ t. merged t c.revs-revs.result.now c.args.content c.args.origin) c.self.view_is
+    ∙ ap (λ revs. merged c.args.self.now revs c.args.content c.args.origin) c.revs-revs.ensures.all
+
+lawful : (c : After-put) → IsTree (tree_of c.put.new.nodes.items)
+lawful c =
+    let t = c.args.self.now in
+    let revs = c.args.ancestry.now in
+    subst IsTree (sym (after c))
+    (IsTree-merged t revs c.args.content c.args.origin (subst IsTree c.self.view_is c.self.invariant.tree) c.revs-revs.ensures.ancestry
+    (none_from_answer t revs c.in-Ok-Changed.field-0 (sym c.answer.ensures ∙ c.in-Ok-Changed.is)))
 
 pub invariant_of-self-2 : goal.invariant_of-self-2
-invariant_of-self-2 c = kept c
+invariant_of-self-2 c = record { index = c.put.ensures.index; linked = c.put.ensures.linked; tree = lawful c }
 
 pub returns-clause-ok : goal.returns-clause-ok
-returns-clause-ok c =
-    let inside = c.self.inside in
-    let revs = c.in-Ok.given in
-    let a = c.put.ensures.ancestries ∙ ap (λ ps. ps ++ revs ∷ []) c.in-Ok-make_room.ensures.ancestries in
-    let b = c.put.ensures.contents ∙ ap (λ cs. added cs (at_head revs c.args.content)) c.in-Ok-make_room.ensures.contents in
-    let o = c.put.ensures.origins ∙ ap (λ os. added os (map (λ r. (r, c.args.origin)) revs)) c.in-Ok-make_room.ensures.origins in
-    (λ i. tree_of (a i) (b i) (o i))
-    ∙ tree_of_push inside.ancestries.items inside.contents.items inside.origins.items revs c.args.content c.args.origin
-    ∙ ap (λ t. merged t revs c.args.content c.args.origin) c.self.view_is
-    ∙ ap (λ revs. merged c.args.self.now revs c.args.content c.args.origin) c.in-Ok.ensures.copied
+returns-clause-ok c = after c
 
 pub returns-clause-tree : goal.returns-clause-tree
-returns-clause-tree c = (kept c).tree
+returns-clause-tree c = lawful c

@@ -1,0 +1,189 @@
+//! A tree in its plain form: the ancestries as they were given, and two lists of what stands at each revision.
+//!
+//! It is slow and short: each question is a walk over the lists, the first entry counts, and nothing is kept by place.
+
+use rev_core::{Ancestry, Rev};
+use rev_tree::{Merged, Origin};
+use std::alloc::{AllocError, Global};
+use std::cmp::Ordering;
+
+/// What a merge answers, or the child, the known and the given parent of a contradiction.
+pub(crate) type PlainAnswer = Result<Merged, (Rev, Rev, Rev)>;
+
+/// The ancestries, the contents and the origins.
+#[derive(Drop)]
+pub(crate) struct PlainTree {
+    ancestries: Vec<Ancestry>,
+    contents: Vec<(Rev, bool, u8)>,
+    origins: Vec<(Rev, Origin)>,
+}
+
+impl PlainTree {
+    /// The tree of no revisions.
+    pub(crate) fn new(alloc: Global) -> PlainTree {
+        PlainTree {
+            ancestries: Vec::new(alloc),
+            contents: Vec::new(alloc),
+            origins: Vec::new(alloc),
+        }
+    }
+
+    /// How many revisions there are.
+    pub(crate) fn rev_count(&self) -> usize {
+        self.origins.as_slice().len()
+    }
+
+    /// Where a revision came from.
+    pub(crate) fn origin(&self, rev: Rev) -> Option<Origin> {
+        for entry in &self.origins {
+            if entry.0 == rev {
+                return Some(entry.1);
+            }
+        }
+        None
+    }
+
+    /// The flag and the byte of a revision's content.
+    pub(crate) fn content(&self, rev: Rev) -> Option<(bool, u8)> {
+        for entry in &self.contents {
+            if entry.0 == rev {
+                return Some((entry.1, entry.2));
+            }
+        }
+        None
+    }
+
+    /// The parent of a revision.
+    pub(crate) fn parent_of(&self, rev: Rev) -> Option<Rev> {
+        for ancestry in &self.ancestries {
+            if let Some(parent) = ancestry.parent_of(rev) {
+                return Some(parent);
+            }
+        }
+        None
+    }
+
+    /// Whether a revision is there and nobody's parent.
+    pub(crate) fn is_leaf(&self, rev: Rev) -> bool {
+        for ancestry in &self.ancestries {
+            if ancestry.contains(rev) && ancestry.head() != rev {
+                return false;
+            }
+        }
+        self.origin(rev).is_some()
+    }
+
+    /// The order of leaves.
+    fn compare(&self, a: Rev, b: Rev) -> Ordering {
+        let deleted = |rev| self.content(rev).is_some_and(|content| content.0);
+        deleted(a).cmp(&deleted(b)).then(b.cmp(&a))
+    }
+
+    /// The leaves, winner first: each is put before the first that it precedes.
+    pub(crate) fn leaves(&self, alloc: Global) -> Result<Vec<Rev>, AllocError> {
+        let mut leaves: Vec<Rev> = Vec::new(alloc);
+        for entry in &self.origins {
+            if self.is_leaf(entry.0) {
+                let later = leaves
+                    .iter()
+                    .position(|leaf| self.compare(entry.0, *leaf) == Ordering::Less);
+                let all = leaves.as_slice().len();
+                leaves.insert(later.unwrap_or(all).min(all), entry.0)?;
+            }
+        }
+        Ok(leaves)
+    }
+
+    /// A revision and its ancestors, which are fewer than its generation says.
+    pub(crate) fn ancestry(&self, alloc: Global, rev: Rev) -> Result<Vec<Rev>, AllocError> {
+        let mut walk = Vec::new(alloc);
+        let mut at = Some(rev);
+        for _ in 0..rev.generation() {
+            if let Some(known) = at {
+                walk.push(known)?;
+                at = self.parent_of(known);
+            }
+        }
+        Ok(walk)
+    }
+
+    /// Those of the leaves of which one of the revisions is an ancestor.
+    pub(crate) fn above(
+        &self,
+        alloc: Global,
+        leaves: &[Rev],
+        revs: &[Rev],
+    ) -> Result<Vec<Rev>, AllocError> {
+        let mut above = Vec::new(alloc);
+        for leaf in leaves {
+            let walk = self.ancestry(alloc, *leaf)?;
+            if revs.iter().any(|rev| walk.contains(rev)) {
+                above.push(*leaf)?;
+            }
+        }
+        Ok(above)
+    }
+
+    /// Those that are not there.
+    pub(crate) fn missing(&self, alloc: Global, revs: &[Rev]) -> Result<Vec<Rev>, AllocError> {
+        let mut missing = Vec::new(alloc);
+        for rev in revs {
+            if self.origin(*rev).is_none() {
+                missing.push(*rev)?;
+            }
+        }
+        Ok(missing)
+    }
+
+    /// The first given child whose known parent is another.
+    fn contradiction(&self, revs: &[Rev]) -> Option<(Rev, Rev, Rev)> {
+        for pair in revs.windows(2) {
+            if let [child, given] = pair {
+                if let Some(known) = self.parent_of(*child) {
+                    if known != *given {
+                        return Some((*child, known, *given));
+                    }
+                }
+            }
+        }
+        None
+    }
+
+    /// Whether the revisions, their edges and a content of the head are there.
+    fn is_same(&self, ancestry: &Ancestry) -> bool {
+        let revs = ancestry.revs();
+        revs.iter().all(|rev| self.origin(*rev).is_some())
+            && revs.iter().all(|rev| ancestry.parent_of(*rev).is_none()
+                || self.parent_of(*rev).is_some())
+            && self.content(ancestry.head()).is_some()
+    }
+
+    /// Merges an ancestry, the content of its head and the origin of what is new.
+    pub(crate) fn merge(
+        &mut self,
+        alloc: Global,
+        ancestry: &Ancestry,
+        content: (bool, u8),
+        origin: Origin,
+    ) -> Result<PlainAnswer, AllocError> {
+        if let Some(told) = self.contradiction(ancestry.revs()) {
+            return Ok(Err(told));
+        }
+        if self.is_same(ancestry) {
+            return Ok(Ok(Merged::Same));
+        }
+        for rev in ancestry.revs() {
+            if self.origin(*rev).is_none() {
+                self.origins.push((*rev, origin))?;
+            }
+        }
+        if self.content(ancestry.head()).is_none() {
+            self.contents.push((ancestry.head(), content.0, content.1))?;
+        }
+        let Ok(given) = ancestry.copy(alloc) else {
+            return Err(AllocError);
+        };
+        self.ancestries.push(given)?;
+        Ok(Ok(Merged::Changed))
+    }
+}

@@ -1,0 +1,157 @@
+-- The leaves among the nodes, counted, put in order and sorted.
+use Rattle.std.proofs.Common.{◌≡◌, ℕ, zero, suc, ◌+◌, ◌<◌, ◌≤◌, ◌&&◌, ◌||◌, ◌++◌, ◌∷◌, [], List, Bool, true, false, cond, not, length, take, get_or, filter, sym, ap, ◌∙◌, subst, Some, refl, arith, add-one}
+use Rattle.std.proofs.lemmas.Bool.{false≢true}
+use Rattle.std.specs.List.{list_any}
+use Rattle.std.specs.List.Sorted.{IsSortedBy, IsPermutation}
+use Rattle.std.proofs.lemmas.List.Sorted.{list_any-IsPermutation, length_permutation}
+use Rattle.std.specs.declared.cmp.Ordering.{Ordering}
+use Rattle.std.specs.declared.cmp.Ordering.TheVariants.{Less, Equal, Greater}
+use Rattle.std.specs.Ordering.{eq_by_cmp, is_lt, is_eq, ordering_reverse}
+use Rattle.std.specs.Cmp.{IsTotalOrder}
+use Rattle.std.specs.FinMap.{keys, contains_key-keys, IsAntisymmetric}
+use Rattle.std.specs.FinMap.Entries.{by_order}
+use Rattle.std.proofs.lemmas.List.{take_more, map-append, append-nil, length-append}
+use Rattle.std.proofs.lemmas.List.Elements.{filter-append}
+use Rattle.rev_core.specs.Rev.{RevId, rev_cmp}
+use Rattle.rev_tree.specs.InOrder.{in_order, placed, same_in_order, in_order-push, in_order-cons, in_order-nil, length-placed}
+use Rattle.rev_tree.specs.Tree.{TreeValue, is_leaf, is_deleted, leaf_cmp, leaves}
+use Rattle.rev_tree.specs.Content.{ContentValue}
+use Rattle.std.specs.Option.{option_map_or}
+use Rattle.rev_tree.specs.LeafLaws.{leaf_cmp_total, leaf_cmp_exact, leaf_tie, any_agree, any_filter}
+use Rattle.rev_tree.specs.Nodes.{revs_in, tree_of, Distinct, IsLinked}
+use Rattle.rev_tree.specs.declared.nodes.Node.{Node}
+use Rattle.rev_tree.proofs.Places.{is_some-node_of, node_at, read_at}
+use Rattle.rev_tree.proofs.Lookups.{leaf_is, content_is}
+use Rattle.rev_tree.proofs.Views.{has-tree_of}
+
+pub revs_more : (nodes : List Node) (i : ℕ) (n : Node) → i < length nodes → n ≡ get_or nodes i n → revs_in (take (i + 1) nodes) ≡ revs_in (take i nodes) ++ n.rev ∷ []
+revs_more nodes i n low is =
+    ap revs_in (take_more nodes i n low ∙ ap (λ x. take i nodes ++ x ∷ []) (sym is))
+    ∙ map-append (λ (x : Node). x.rev) (take i nodes) (n ∷ [])
+
+-- the mark of a node tells whether its revision is a leaf
+pub leaf_item : (nodes items : List Node) (t : TreeValue) → IsLinked nodes → tree_of nodes ≡ t → items ≡ nodes → (i : ℕ) (n : Node) → i < length items → n ≡ get_or items i n → is_leaf t n.rev ≡ not n.has_child
+leaf_item nodes items t linked view same i n low is =
+    leaf_is nodes t n.rev (Some n) linked view
+    (node_at nodes linked.once i n (read_at nodes i n (subst (λ l. i < length l) same low) (subst (λ l. n ≡ get_or l i n) same is)))
+
+-- and its content whether it deletes
+pub deleted_item : (nodes items : List Node) (t : TreeValue) → IsLinked nodes → tree_of nodes ≡ t → items ≡ nodes → (i : ℕ) (n : Node) → i < length items → n ≡ get_or items i n → is_deleted t n.rev ≡ option_map_or (λ (b : ContentValue). b.deleted) n.content false
+deleted_item nodes items t linked view same i n low is =
+    ap (λ o. option_map_or (λ (b : ContentValue). b.deleted) o false)
+    (content_is nodes t n.rev (Some n) linked view
+    (node_at nodes linked.once i n (read_at nodes i n (subst (λ l. i < length l) same low) (subst (λ l. n ≡ get_or l i n) same is))))
+
+-- the leaves so far, with one node more
+pub leaves_pushed : (t : TreeValue) (nodes : List Node) (i : ℕ) (n : Node) → i < length nodes → n ≡ get_or nodes i n → filter (is_leaf t) (revs_in (take (i + 1) nodes)) ≡ filter (is_leaf t) (revs_in (take i nodes)) ++ cond (is_leaf t n.rev) (n.rev ∷ []) []
+leaves_pushed t nodes i n low is = ap (filter (is_leaf t)) (revs_more nodes i n low is) ∙ filter-append (is_leaf t) (revs_in (take i nodes)) (n.rev ∷ [])
+
+-- one revision more: a leaf is placed, another is passed over
+pub leaves_more : (t : TreeValue) (nodes : List Node) (i : ℕ) (n : Node) → i < length nodes → n ≡ get_or nodes i n
+    → in_order (leaf_cmp t) (filter (is_leaf t) (revs_in (take (i + 1) nodes)))
+    ≡ cond (is_leaf t n.rev) (placed (leaf_cmp t) n.rev (in_order (leaf_cmp t) (filter (is_leaf t) (revs_in (take i nodes))))) (in_order (leaf_cmp t) (filter (is_leaf t) (revs_in (take i nodes))))
+leaves_more t nodes i n low is =
+    let before = filter (is_leaf t) (revs_in (take i nodes)) in
+    ap (in_order (leaf_cmp t)) (leaves_pushed t nodes i n low is)
+    ∙ elim (is_leaf t n.rev) as (λ b. in_order (leaf_cmp t) (before ++ cond b (n.rev ∷ []) []) ≡ cond b (placed (leaf_cmp t) n.rev (in_order (leaf_cmp t) before)) (in_order (leaf_cmp t) before)) [
+      | true ↦ in_order-push (leaf_cmp_total t) (leaf_cmp_exact t) before n.rev
+      | false ↦ ap (in_order (leaf_cmp t)) (append-nil before)
+    ]
+
+-- the nodes have all leaves among them
+pub leaves_of_nodes : (nodes : List Node) (t : TreeValue) → IsLinked nodes → tree_of nodes ≡ t → in_order (leaf_cmp t) (filter (is_leaf t) (revs_in nodes)) ≡ leaves t
+leaves_of_nodes nodes t linked view =
+    same_in_order (leaf_cmp_total t) (leaf_cmp_exact t) (filter (is_leaf t) (revs_in nodes)) (filter (is_leaf t) (keys t.origins)) (λ q.
+    any_agree (eq_by_cmp (leaf_cmp t) q) (eq_by_cmp rev_cmp q) (leaf_tie t q) (filter (is_leaf t) (revs_in nodes))
+    ∙ any_filter (is_leaf t) q (revs_in nodes)
+    ∙ ap (λ b. b && is_leaf t q) (sym (is_some-node_of nodes q) ∙ sym (has-tree_of nodes linked.once q) ∙ contains_key-keys (tree_of nodes).origins q ∙ ap (λ (u : TreeValue). list_any (eq_by_cmp rev_cmp q) (keys u.origins)) view)
+    ∙ sym (any_filter (is_leaf t) q (keys t.origins))
+    ∙ any_agree (eq_by_cmp rev_cmp q) (eq_by_cmp (leaf_cmp t) q) (λ x. sym (leaf_tie t q x)) (filter (is_leaf t) (keys t.origins)))
+
+-- ---- how many
+
+pub count_once : (t : TreeValue) (revs : List RevId) → Distinct revs → length (in_order (leaf_cmp t) (filter (is_leaf t) revs)) ≡ length (filter (is_leaf t) revs)
+count_once t [] once = ap length (in_order-nil (leaf_cmp t))
+count_once t (r ∷ revs) once =
+    let rest = filter (is_leaf t) revs in
+    elim (is_leaf t r) as (λ b. length (in_order (leaf_cmp t) (cond b (r ∷ rest) rest)) ≡ length (cond b (r ∷ rest) rest)) [
+      | true ↦
+          ap length (in_order-cons (leaf_cmp_total t) r rest)
+          ∙ length-placed (leaf_cmp_total t) r rest
+          ∙ ap (λ b. cond b (length (in_order (leaf_cmp t) rest)) (length (in_order (leaf_cmp t) rest) + 1))
+          (any_agree (eq_by_cmp (leaf_cmp t) r) (eq_by_cmp rev_cmp r) (leaf_tie t r) rest ∙ any_filter (is_leaf t) r revs ∙ ap (λ b. b && is_leaf t r) once.0)
+          ∙ ap (λ n. n + 1) (count_once t revs once.1) ∙ omega arith
+      | false ↦ count_once t revs once.1
+    ]
+
+pub length-leaves : (nodes : List Node) (t : TreeValue) → IsLinked nodes → tree_of nodes ≡ t → length (leaves t) ≡ length (filter (is_leaf t) (revs_in nodes))
+length-leaves nodes t linked view = ap length (sym (leaves_of_nodes nodes t linked view)) ∙ count_once t (revs_in nodes) linked.once
+
+pub count_more : (t : TreeValue) (nodes : List Node) (i : ℕ) (n : Node) → i < length nodes → n ≡ get_or nodes i n → length (filter (is_leaf t) (revs_in (take (i + 1) nodes))) ≡ length (filter (is_leaf t) (revs_in (take i nodes))) + cond (is_leaf t n.rev) 1 0
+count_more t nodes i n low is =
+    let before = filter (is_leaf t) (revs_in (take i nodes)) in
+    ap length (leaves_pushed t nodes i n low is)
+    ∙ length-append before (cond (is_leaf t n.rev) (n.rev ∷ []) [])
+    ∙ ap (λ k. length before + k) (elim (is_leaf t n.rev) as (λ b. length (cond b (n.rev ∷ []) []) ≡ cond b 1 0) [ true ↦ refl | false ↦ refl ])
+
+-- ---- a sorted list
+
+-- no element is less than the one before it
+abbrev Rises : {K : Type 0} → (K → K → Ordering) → List K → Type 0
+Rises R [] = Unit {0}
+Rises R (x ∷ []) = Unit {0}
+Rises R (x ∷ (y ∷ xs)) = (is_lt (R y x) ≡ false) × Rises R (y ∷ xs)
+
+rises : {K : Type 0} (R : K → K → Ordering) (xs : List K) → ((k : ℕ) (d : K) → suc k < length xs → is_lt (R (get_or xs (suc k) d) (get_or xs k d)) ≡ false) → Rises R xs
+rises R [] h = tt
+rises R (x ∷ []) h = tt
+rises R (x ∷ (y ∷ xs)) h = (h zero x (omega arith), rises R (y ∷ xs) (λ k d low. h (suc k) d (omega arith)))
+
+most : {K : Type 0} (R : K → K → Ordering) → IsTotalOrder R → (xs : List K) → length (in_order R xs) ≤ length xs
+most R o [] = let e : length (in_order R []) ≡ 0 = ap length (in_order-nil R) in omega arith
+most R o (x ∷ xs) =
+    let less = most R o xs in
+    let e = ap length (in_order-cons o x xs) ∙ length-placed o x xs in
+    by (list_any (eq_by_cmp R x) xs) (length (in_order R (x ∷ xs))) (length (in_order R xs)) (length xs) less e
+  where
+    by : (b : Bool) (m l n : ℕ) → l ≤ n → m ≡ cond b l (l + 1) → m ≤ suc n
+    by true m l n h e = omega arith
+    by false m l n h e = omega arith
+
+full : (b : Bool) (m l n : ℕ) → l ≤ n → m ≡ cond b l (l + 1) → suc n ≤ m → (b ≡ false) × (n ≤ l)
+full true m l n h e k = absurd (omega arith)
+full false m l n h e k = (refl, omega arith)
+
+goes_first : (a b : Ordering) → a ≡ ordering_reverse b → is_eq a ≡ false → is_lt b ≡ false → a ≡ Less
+goes_first a Less e ne nl = absurd (false≢true (sym nl))
+goes_first a Equal e ne nl = absurd (false≢true (sym ne ∙ ap is_eq e))
+goes_first a Greater e ne nl = e
+
+first_false : (a b : Bool) → (a || b) ≡ false → a ≡ false
+first_false true b h = absurd (false≢true (sym h))
+first_false false b h = refl
+
+-- one that rises and has nothing twice is in order
+pub in_order-sorted : {K : Type 0} (R : K → K → Ordering) → IsTotalOrder R → (xs : List K) → Rises R xs → length xs ≤ length (in_order R xs) → in_order R xs ≡ xs
+in_order-sorted R o [] up h = in_order-nil R
+in_order-sorted {K} R o (x ∷ xs) up h =
+    let e = ap length (in_order-cons o x xs) ∙ length-placed o x xs in
+    let parts = full (list_any (eq_by_cmp R x) xs) (length (in_order R (x ∷ xs))) (length (in_order R xs)) (length xs) (most R o xs) e h in
+    in_order-cons o x xs ∙ ap (placed R x) (in_order-sorted R o xs (later xs up) parts.1) ∙ placed_first xs up parts.0
+  where
+    later : (xs : List K) → Rises R (x ∷ xs) → Rises R xs
+    later [] up = tt
+    later (y ∷ xs) up = up.1
+
+    placed_first : (xs : List K) → Rises R (x ∷ xs) → list_any (eq_by_cmp R x) xs ≡ false → placed R x xs ≡ x ∷ xs
+    placed_first [] up none = refl
+    placed_first (y ∷ xs) up none =
+        ap (λ r. by_order r (x ∷ (y ∷ xs)) (y ∷ xs) (y ∷ placed R x xs)) (goes_first (R x y) (R y x) (o.antisymm x y) (first_false (eq_by_cmp R x y) (list_any (eq_by_cmp R x) xs) none) up.0)
+
+-- and a sorted list that has the elements of one with nothing twice is that one in order
+pub sorted_in_order : {K : Type 0} (R : K → K → Ordering) → IsTotalOrder R → IsAntisymmetric R → (xs ys : List K) → length (in_order R xs) ≡ length xs → IsPermutation xs ys → IsSortedBy (λ x y. is_lt (R x y)) ys → ys ≡ in_order R xs
+sorted_in_order {K} R o exact xs ys once moved up =
+    let same = same_in_order o exact xs ys (λ q. list_any-IsPermutation (eq_by_cmp R q) xs ys moved) in
+    let long = length_permutation xs ys moved in
+    let full = ap length same in
+    sym (same ∙ in_order-sorted R o ys (rises R ys (λ k d low. ap is_lt (ap (λ j. R (get_or ys j d) (get_or ys k d)) (sym (add-one k))) ∙ up k d (omega arith) (omega arith))) (omega (arith, once, long, full)))

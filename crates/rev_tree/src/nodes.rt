@@ -1,0 +1,161 @@
+//! The nodes of a tree, and the place of each revision among them.
+ghost use Rattle.std.specs.Prelude.{◌≡◌, ◌+◌, ◌<◌, ◌≤◌, [], Some, IfOk, IfErr, OnOk, slice_get, length, take};
+ghost use Rattle.std.specs.Option.{option_copied};
+ghost use Rattle.indexmap.specs.IndexMap.{index_map_len, spare};
+ghost use Rattle.rev_tree.specs.Room.{HasIndexRoom};
+ghost use Rattle.rev_tree.specs.declared.nodes.TheConstants.{MOST_WALKED};
+
+use crate::content::Content;
+use crate::fault::TreeFault;
+use crate::origin::Origin;
+use indexmap::IndexMap;
+use rev_core::Rev;
+use std::alloc::Global;
+
+/// The most nodes that are walked for a revision. From one more on an index has their places.
+pub(crate) const MOST_WALKED: usize = 8;
+
+/// A revision, the place of its parent where one is known, what stands at it where that is known, where it came
+/// from, and whether it is the parent of another node.
+#[derive(Drop)]
+pub(crate) struct Node {
+    pub(crate) rev: Rev,
+    pub(crate) parent: Option<usize>,
+    pub(crate) content: Option<Content>,
+    pub(crate) origin: Origin,
+    pub(crate) has_child: bool,
+}
+
+ghost use Rattle.rev_tree.specs.Nodes.{Distinct, index_for, node_of, place_of, places_from, revs_in};
+
+/// The node at a place.
+pub(crate) fn node_at(nodes: &[Node], place: usize) -> &Node
+    requires { place < length nodes.now }
+    ensures { slice_get nodes.now place ≡ Some result.now }
+{
+    &nodes[place]
+}
+
+/// The node of a revision.
+pub(crate) fn node_in<'a>(
+    nodes: &'a [Node],
+    places: &IndexMap<Rev, usize>,
+    rev: Rev,
+) -> Option<&'a Node>
+    requires { places.now.entries ≡ index_for (revs_in nodes.now) }
+    ensures { option_copied result ≡ node_of nodes.now rev }
+{
+    let place = place_in(nodes, places, rev)?;
+    Some(node_at(nodes, place))
+}
+
+/// The place of a revision.
+pub(crate) fn place_in(nodes: &[Node], places: &IndexMap<Rev, usize>, rev: Rev) -> Option<usize>
+    requires { places.now.entries ≡ index_for (revs_in nodes.now) }
+    ensures { result ≡ place_of nodes.now rev }
+{
+    if nodes.len() <= MOST_WALKED {
+        return walked_to(nodes, rev);
+    }
+    places.get(&rev).copied()
+}
+
+/// The place of a revision, for which the nodes are walked.
+fn walked_to(nodes: &[Node], rev: Rev) -> Option<usize>
+    ensures { result ≡ place_of nodes.now rev }
+{
+    for i in 0..nodes.len() {
+        if rev == nodes[i].rev {
+            return Some(i);
+        }
+    }
+    None
+}
+
+/// Puts the places of the last nodes, which the index lacks, into it, unless the nodes are few enough to be walked.
+/// There is room for them.
+pub(crate) fn index_rest(nodes: &[Node], places: &mut IndexMap<Rev, usize>)
+    requires once { Distinct (revs_in nodes.now) }
+    requires few { length nodes.now ≤ MOST_WALKED → places.old.entries ≡ [] }
+    requires begun { places.old.entries ≡ places_from 0 (take (index_map_len places.old) (revs_in nodes.now)) }
+    requires room { HasIndexRoom (length nodes.now) (index_map_len places.old + spare places.old) }
+    ensures index { places.new.entries ≡ index_for (revs_in nodes.now) }
+    ensures room { index_map_len places.old + spare places.old ≤ index_map_len places.new + spare places.new }
+{
+    if nodes.len() <= MOST_WALKED {
+        return;
+    }
+    for i in places.len()..nodes.len() {
+        let Ok(_) = places.insert(nodes[i].rev, i) else {
+            unreachable!()
+        };
+    }
+}
+
+/// Makes room in the index for so many nodes, unless they are few enough to be walked.
+pub(crate) fn reserve_index(
+    places: &mut IndexMap<Rev, usize>,
+    nodes: usize,
+) -> Result<(), TreeFault>
+    requires { index_map_len places.old ≤ nodes }
+    ensures index { places.new.entries ≡ places.old.entries }
+    ensures room { OnOk result (HasIndexRoom nodes (index_map_len places.new + spare places.new)) }
+    ensures err { IfErr result (λ e. e ≡ TreeFault.Memory) }
+{
+    if nodes <= MOST_WALKED {
+        return Ok(());
+    }
+    match places.reserve(nodes - places.len()) {
+        Ok(()) => Ok(()),
+        Err(_) => Err(TreeFault::Memory),
+    }
+}
+
+/// The index of the nodes. The only error is `Memory`.
+pub(crate) fn index_of(alloc: Global, nodes: &[Node]) -> Result<IndexMap<Rev, usize>, TreeFault>
+    requires { Distinct (revs_in nodes.now) }
+    ensures index { IfOk result (λ m. m.entries ≡ index_for (revs_in nodes.now)) }
+    ensures err { IfErr result (λ e. e ≡ TreeFault.Memory) }
+{
+    let mut places = IndexMap::new(alloc);
+    let Ok(()) = reserve_index(&mut places, nodes.len()) else {
+        return Err(TreeFault::Memory);
+    };
+    index_rest(nodes, &mut places);
+    Ok(places)
+}
+
+/// The same nodes. The only error is `Memory`.
+pub(crate) fn copy_nodes(alloc: Global, nodes: &[Node]) -> Result<Vec<Node>, TreeFault>
+    ensures copied { IfOk result (λ v. v.items ≡ nodes.now) }
+    ensures err { IfErr result (λ e. e ≡ TreeFault.Memory) }
+{
+    let Ok(mut copies) = Vec::with_capacity(alloc, nodes.len()) else {
+        return Err(TreeFault::Memory);
+    };
+    for node in nodes {
+        let copy = copy_node(alloc, node)?;
+        let Ok(()) = copies.push(copy) else {
+            return Err(TreeFault::Memory);
+        };
+    }
+    Ok(copies)
+}
+
+/// The same node. The only error is `Memory`.
+fn copy_node(alloc: Global, node: &Node) -> Result<Node, TreeFault>
+    ensures copied { IfOk result (λ n. n ≡ node.now) }
+    ensures err { IfErr result (λ e. e ≡ TreeFault.Memory) }
+{
+    let content = match &node.content {
+        Some(content) => Some(content.copy(alloc)?),
+        None => None,
+    };
+    Ok(Node {
+        rev: node.rev,
+        parent: node.parent,
+        content,
+        origin: node.origin,
+        has_child: node.has_child,
+    })
+}
