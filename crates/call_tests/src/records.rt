@@ -50,7 +50,8 @@ pub(crate) fn entry_text(alloc: Global, entry: Entry) -> Option<String> {
 /// Of each entry the session and what it has recorded, newest session first.
 pub(crate) fn log_text(alloc: Global, log: &Log) -> Option<String> {
     let mut all = String::new(alloc);
-    for entry in log.entries() {
+    for i in 0..log.len() {
+        let entry = log.get(i)?;
         let text = format!(in alloc; "{} at {};", entry.session.0, entry.recorded).ok()?;
         all.push_str(text.as_str()).ok()?;
     }

@@ -23,10 +23,10 @@ fn entry(recorded: u64) -> Result<Entry, LogFault> {
 
 /// Puts, and once more where memory was refused. Says whether a refusal changed the log.
 fn put(log: &mut Log, recorded: u64) -> Result<bool, LogFault> {
-    let before = log.entries().len();
+    let before = log.len();
     match log.put(entry(recorded)?) {
         Err(LogFault::Memory) => {
-            let changed = log.entries().len() != before;
+            let changed = log.len() != before;
             log.put(entry(recorded)?)?;
             Ok(changed)
         }

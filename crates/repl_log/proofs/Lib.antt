@@ -1,2 +1,2 @@
-mod Putting
 mod Floats
+mod Logging

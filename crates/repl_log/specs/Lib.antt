@@ -2,7 +2,8 @@ pub mod Answers
 pub mod Entry
 pub mod Log
 pub mod LogLaws
-pub mod Places
+pub mod Table
+pub mod TableLaws
 pub mod Time
 pub mod TimeLaws
 pub mod Text

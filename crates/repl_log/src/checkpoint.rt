@@ -12,7 +12,10 @@ pub fn common(source: &Log, target: &Log) -> Option<(SessionId, u64)>
     ensures shared { IfSome result (λ c. IsCommon source.now target.now c.0 c.1) }
     ensures unshared { IfNone result (IsUnshared source.now target.now) }
 {
-    for entry in target.entries() {
+    for i in 0..target.len() {
+        let Some(entry) = target.get(i) else {
+            unreachable!()
+        };
         if let Some(recorded) = source.recorded_of(entry.session) {
             return Some((entry.session, recorded.min(entry.recorded)));
         }

@@ -1,19 +1,17 @@
 //! Logs.
-ghost use Rattle.std.specs.Prelude.{◌≡◌, IfSome, IfNone, OnOk, OnErr, IfOk, IfErr, IsTrue, false};
-ghost use Rattle.repl_log.specs.Entry.{values_of};
-ghost use Rattle.repl_log.specs.Log.{holds};
-ghost use Rattle.repl_log.specs.Places.{IsPlace};
-
 use crate::entry::Entry;
 use crate::fault::LogFault;
+use indexmap::IndexMap;
 use rev_tree::SessionId;
 use std::alloc::Global;
 use std::marker::Model;
 
 /// The sessions of one replication, newest first, each once.
+///
+/// They are kept the oldest first, under their ids: what a call does with one session doesn't look at the others.
 #[derive(Drop)]
 pub struct Log {
-    entries: Vec<Entry>,
+    entries: IndexMap<SessionId, Entry>,
 }
 
 impl Model for Log {
@@ -22,16 +20,18 @@ impl Model for Log {
 
     ghost Value = { List EntryValue };
 
-    ghost use Rattle.repl_log.specs.Entry.{values_of};
+    ghost use Rattle.repl_log.specs.Entry.{value_of};
     ghost use Rattle.repl_log.specs.Log.{IsLog};
+    ghost use Rattle.repl_log.specs.Table.{newest_first, IsKeyed};
 
-    ghost view = { λ l. values_of l.entries.items };
+    ghost view = { λ l. newest_first value_of l.entries.entries };
 
-    ghost invariant = { λ l. IsLog (values_of l.entries.items) };
+    ghost invariant = { λ l. IsLog (newest_first value_of l.entries.entries) × IsKeyed (λ e. e.session) l.entries.entries };
 }
 
 impl Log {
-    ghost use Rattle.std.specs.Prelude.{[]};
+    ghost use Rattle.std.specs.Prelude.{◌≡◌, [], length, OnOk, OnErr, IfOk, IfErr, IsTrue, slice_get};
+    ghost use Rattle.std.specs.Option.{option_map};
     ghost use Rattle.repl_log.specs.Answers.{GivesUnlessMemory};
     ghost use Rattle.repl_log.specs.Entry.{value_of};
     ghost use Rattle.repl_log.specs.Log.{IsLog, holds, with_entry, put_answer, recorded_of, ChangesOnly};
@@ -42,7 +42,7 @@ impl Log {
         ensures log { IsLog result }
     {
         Log {
-            entries: Vec::new(alloc),
+            entries: IndexMap::new(alloc),
         }
     }
 
@@ -59,34 +59,52 @@ impl Log {
         ensures err { OnErr result (self.new ≡ self.old) }
         ensures log { IsLog self.new }
     {
-        if let Some(place) = place_of(&self.entries, entry.session) {
-            let stored = self.entries[place].recorded;
-            if stored > entry.recorded {
-                return Err(LogFault::Older { stored });
+        match self.entries.get_mut(&entry.session) {
+            Some(place) => {
+                let stored = place.recorded;
+                if stored > entry.recorded {
+                    return Err(LogFault::Older { stored });
+                }
+                *place = entry;
+                Ok(())
             }
-            self.entries[place] = entry;
-            return Ok(());
+            None => {
+                let Ok(_) = self.entries.insert(entry.session, entry) else {
+                    return Err(LogFault::Memory);
+                };
+                Ok(())
+            }
         }
-        let Ok(()) = self.entries.insert(0, entry) else {
-            return Err(LogFault::Memory);
-        };
-        Ok(())
     }
 
-    /// The entries, newest session first.
-    pub fn entries(&self) -> &[Entry]
-        ensures all { values_of result.now ≡ self.now }
+    /// How many sessions it holds.
+    pub fn len(&self) -> usize
+        ensures len { result ≡ length self.now }
         ensures log { IsLog self.now }
     {
-        &self.entries
+        self.entries.len()
+    }
+
+    /// The entry at a place, where it has so many; the newest session's is at 0.
+    pub fn get(&self, place: usize) -> Option<Entry>
+        ensures { option_map value_of result ≡ slice_get self.now place }
+    {
+        let len = self.entries.len();
+        if place >= len {
+            return None;
+        }
+        let (_, entry) = self.entries.get_index(len - 1 - place)?;
+        Some(*entry)
     }
 
     /// The recorded sequence of a session, where the log holds it.
     pub(crate) fn recorded_of(&self, session: SessionId) -> Option<u64>
         ensures { result ≡ recorded_of self.now session }
     {
-        let place = place_of(&self.entries, session)?;
-        Some(self.entries[place].recorded)
+        // No id comes twice: the reading tells the proof.
+        let _len = self.entries.len();
+        let entry = self.entries.get(&session)?;
+        Some(entry.recorded)
     }
 
     /// A log of the same entries. The only error is `Memory`.
@@ -95,22 +113,9 @@ impl Log {
         ensures err { IfErr result (λ e. e ≡ LogFault.Memory) }
         ensures log { IsLog self.now }
     {
-        match Vec::from_slice(alloc, &self.entries) {
+        match self.entries.clone() {
             Ok(entries) => Ok(Log { entries }),
             Err(_) => Err(LogFault::Memory),
         }
     }
-}
-
-/// The place of a session's entry.
-fn place_of(entries: &[Entry], session: SessionId) -> Option<usize>
-    ensures found { IfSome result (λ i. IsPlace entries.now session i) }
-    ensures none { IfNone result (holds (values_of entries.now) session ≡ false) }
-{
-    for (i, entry) in entries.iter().enumerate() {
-        if entry.session == session {
-            return Some(i);
-        }
-    }
-    None
 }

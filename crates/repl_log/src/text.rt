@@ -44,37 +44,31 @@ pub fn write_log(alloc: Global, id: &RepId, log: &Log) -> Result<Vec<u8>, LogFau
     // The texts of its times are httpdate's.
     ensures times { (date : Date) → time_text (unix_secs date) ≡ date_text date }
 {
-    let entries = log.entries();
-    let Some(newest) = entries.first() else {
+    let Some(newest) = log.get(0) else {
         return Err(LogFault::EmptyLog);
     };
-    match log_text(alloc, *id, *newest, entries) {
+    match log_text(alloc, id, newest, log) {
         Ok(text) => Ok(text.into_bytes()),
         Err(_) => Err(LogFault::Memory),
     }
 }
 
 /// The text of a log whose newest entry is given.
-fn log_text(
-    alloc: Global,
-    id: RepId,
-    newest: Entry,
-    entries: &[Entry],
-) -> Result<String, AllocError>
+fn log_text(alloc: Global, id: &RepId, newest: Entry, log: &Log) -> Result<String, AllocError>
     ensures { IfOk result
-        (λ text. string_bytes text ≡ compact_text (log_json id (value_of newest) (values_of entries.now))) }
+        (λ text. string_bytes text ≡ compact_text (log_json id.now (value_of newest) log.now)) }
 {
     let name = pair_text(alloc, id.source, id.target)?;
     let session_id = digits(alloc, newest.session.0)?;
-    let history = history(alloc, entries)?;
-    let log = log_members(
+    let history = history(alloc, log)?;
+    let members = log_members(
         alloc,
         name.as_str(),
         history,
         session_id.as_str(),
         newest.recorded,
     )?;
-    log.to_string(alloc)
+    members.to_string(alloc)
 }
 
 /// The digits of two numbers, joined by `-`.
@@ -147,12 +141,15 @@ fn entry_members(
 }
 
 /// The entries of the history.
-fn history(alloc: Global, entries: &[Entry]) -> Result<Vec<Value>, AllocError>
-    ensures { IfOk result (λ history. map view history.items ≡ map entry_json (values_of entries.now)) }
+fn history(alloc: Global, log: &Log) -> Result<Vec<Value>, AllocError>
+    ensures { IfOk result (λ history. map view history.items ≡ map entry_json log.now) }
 {
-    let mut history = Vec::with_capacity(alloc, entries.len())?;
-    for entry in entries {
-        history.push(entry_json(alloc, *entry)?)?;
+    let mut history = Vec::with_capacity(alloc, log.len())?;
+    for i in 0..log.len() {
+        let Some(entry) = log.get(i) else {
+            unreachable!()
+        };
+        history.push(entry_json(alloc, entry)?)?;
     }
     Ok(history)
 }

@@ -125,11 +125,11 @@ fn one_document(moment: u64) -> Option<Entry> {
 
 /// Whether a log has just the entries of sessions, newest first.
 fn has(alloc: Global, log: &Log, sessions: &[(u128, u64)]) -> Option<String> {
-    let mut wanted = Vec::new(alloc);
-    for &(session, recorded) in sessions {
-        wanted.push(entry(session, recorded)?).ok()?;
+    let mut same = log.len() == sessions.len();
+    for (i, &(session, recorded)) in sessions.iter().enumerate() {
+        let wanted = entry(session, recorded)?;
+        same = same && log.get(i) == Some(wanted);
     }
-    let same = log.entries() == wanted.as_slice();
     shown(alloc, &same)
 }
 

@@ -1,8 +1,7 @@
 use Rattle.std.proofs.Common.{◌≡◌, drop}
-use Rattle.repl_log.specs.Entry.{values_of}
 use Rattle.repl_log.specs.Log.{common}
 use Rattle.repl_log.proofs.checkpoint.common.Given as goal
 
 -- no session so far is shared: the rest decides
-abbrev pub invariant-loop-entry : goal.invariant-loop-entry
-invariant-loop-entry l = common l.source l.target ≡ common l.source (values_of (drop l.entry-index l.entry-items))
+abbrev pub invariant-loop-i : goal.invariant-loop-i
+invariant-loop-i l = common l.source l.target ≡ common l.source (drop l.i l.target)

@@ -1,8 +1,11 @@
+use Rattle.std.proofs.Common.{sym, subst}
+use Rattle.repl_log.specs.Log.{IsLog}
 use Rattle.repl_log.specs.LogLaws.{IsLog-nothing}
+use Rattle.repl_log.proofs.Logging.{Entries, logged, Keyed}
 use Rattle.repl_log.proofs.log.Log.new.Goals as goal
 
 pub invariant_of-result : goal.invariant_of-result
-invariant_of-result c = rw c.new.ensures.items IsLog-nothing
+invariant_of-result c = subst (λ (es : Entries). IsLog (logged es) × Keyed es) (sym c.new.ensures.empty) (IsLog-nothing, tt)
 
 pub returns-clause-log : goal.returns-clause-log
-returns-clause-log c = rw c.new.ensures.items IsLog-nothing
+returns-clause-log c = subst (λ (es : Entries). IsLog (logged es)) (sym c.new.ensures.empty) IsLog-nothing

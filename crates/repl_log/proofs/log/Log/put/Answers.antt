@@ -1,19 +1,32 @@
-use Rattle.std.proofs.Common.{◌≡◌, false, Ok, Err, set, subst, sym, refl}
+use Rattle.std.proofs.Common.{◌≡◌, ◌∷◌, ◌++◌, [], Ok, Err, List, is_ok, sym, ap, ◌∙◌, subst}
+use Rattle.std.specs.Option.{option_copied_mut}
+use Rattle.std.specs.Map.{set_value}
+use Rattle.std.proofs.lemmas.Bool.{false≢true}
+use Rattle.std.proofs.lemmas.Map.Steps.{set_value_same}
+use Rattle.indexmap.specs.IndexMap.{insert_entry}
+use Rattle.indexmap.proofs.CallerLemmas.{insert_entry-new}
 use Rattle.repl_log.specs.declared.fault.LogFault.TheVariants as faults
-use Rattle.repl_log.specs.Entry.{value_of, values_of}
-use Rattle.repl_log.specs.Log.{IsLog, holds, put_answer, with_entry, ChangesOnly}
-use Rattle.repl_log.specs.LogLaws.{IsLog-with_entry, ChangesOnly-with_entry}
-use Rattle.repl_log.specs.Places.{IsPlace}
-use Rattle.repl_log.proofs.Putting.{IsSound-value_of, entry_for-place, with_entry-place, with_entry-front, put_answer-older, put_answer-ok, put_answer-front}
+use Rattle.repl_log.specs.Entry.{EntryValue, value_of}
+use Rattle.repl_log.specs.Log.{IsLog, with_entry, put_answer, ChangesOnly}
+use Rattle.repl_log.specs.LogLaws.{ChangesOnly-with_entry}
+use Rattle.repl_log.specs.Table.{at_session}
+use Rattle.repl_log.proofs.Logging.{Entries, logged, Lawful, Lawful-known, Lawful-new, put_answer-older, put_answer-known, put_answer-new, with_entry-known, with_entry-new, not_held}
 use Rattle.repl_log.proofs.log.Log.put.Goals as goal
-use Rattle.repl_log.proofs.log.Log.put.Goals.{In-Ok}
 
--- ---- the stored entry has a greater recorded sequence
+-- ---- the stored entry has a greater recorded sequence: nothing is written
 
-older : (c : goal.Then-stored-entry) → Err (faults.Older c.index.result.now.recorded) ≡ put_answer c.args.self.now (value_of c.args.entry)
+same : (c : goal.After-self-then-stored-entry-1) → (c.get_mut.follows.lender c.in-Some.place.now).entries ≡ c.self.inside.entries.entries
+same c =
+    let is = sym c.get_mut.ensures.value ∙ ap option_copied_mut c.in-Some.is in
+    (c.get_mut.follows.holds c.in-Some.place.now).0 ∙ set_value_same (at_session c.args.entry.session) c.self.inside.entries.entries c.in-Some.place.now is
+
+older : (c : goal.After-self-then-stored-entry-1) → Err (faults.Older c.in-Some.place.now.recorded) ≡ put_answer c.args.self.now (value_of c.args.entry)
 older c =
-    let place : IsPlace c.self.inside.entries.items c.args.entry.session c.in-Some.place = rw c.deref.ensures.value at c.in-Some.ensures.found in
-    rw (← c.self.view_is) (sym (put_answer-older (values_of c.self.inside.entries.items) (value_of c.args.entry) (value_of c.index.result.now) (entry_for-place place c.index.result.now c.index.ensures) c.if-stored-entry.true))
+    let is = sym c.get_mut.ensures.value ∙ ap option_copied_mut c.in-Some.is in
+    rw (← c.self.view_is) (put_answer-older c.self.inside.entries.entries c.args.entry c.in-Some.place.now c.self.invariant.1 c.get_mut.ensures.unique is c.if-stored-entry.true)
+
+pub invariant_of-self : goal.invariant_of-self
+invariant_of-self c = subst Lawful (sym (same c)) c.self.invariant
 
 pub returns-then-stored-entry-clause-answer : goal.returns-then-stored-entry-clause-answer
 returns-then-stored-entry-clause-answer c = older c
@@ -21,59 +34,101 @@ returns-then-stored-entry-clause-answer c = older c
 pub returns-then-stored-entry-clause-known : goal.returns-then-stored-entry-clause-known
 returns-then-stored-entry-clause-known c = λ held. older c
 
--- ---- the write puts the entry in its session's place
+pub returns-then-stored-entry-clause-err : goal.returns-then-stored-entry-clause-err
+returns-then-stored-entry-clause-err c = rw (← c.self.view_is) (ap logged (same c))
 
-written : (c : goal.After-self-1) → with_entry (values_of c.self.inside.entries.items) (value_of c.args.entry) ≡ values_of (set c.self.inside.entries.items c.in-Some.place c.args.entry)
+pub returns-then-stored-entry-clause-log : goal.returns-then-stored-entry-clause-log
+returns-then-stored-entry-clause-log c = subst (λ (es : Entries). IsLog (logged es)) (sym (same c)) c.self.invariant.0
+
+-- ---- the entry takes the place of the stored one
+
+set_there : (c : goal.After-self-in-Some-1) → (c.get_mut.follows.lender c.args.entry).entries ≡ set_value (at_session c.args.entry.session) c.self.inside.entries.entries c.args.entry
+set_there c = (c.get_mut.follows.holds c.args.entry).0
+
+known : (c : goal.After-self-in-Some-1) → Ok tt ≡ put_answer c.args.self.now (value_of c.args.entry)
+known c =
+    let is = sym c.get_mut.ensures.value ∙ ap option_copied_mut c.in-Some.is in
+    rw (← c.self.view_is) (put_answer-known c.self.inside.entries.entries c.args.entry c.in-Some.place.now c.self.invariant.1 c.get_mut.ensures.unique is c.if-stored-entry.false)
+
+kept : (c : goal.After-self-in-Some-1) → Lawful (c.get_mut.follows.lender c.args.entry).entries
+kept c =
+    let is = sym c.get_mut.ensures.value ∙ ap option_copied_mut c.in-Some.is in
+    subst Lawful (sym (set_there c)) (Lawful-known c.self.inside.entries.entries c.args.entry c.in-Some.place.now c.self.invariant c.get_mut.ensures.unique is)
+
+written : (c : goal.After-self-in-Some-1) → logged (c.get_mut.follows.lender c.args.entry).entries ≡ with_entry (logged c.self.inside.entries.entries) (value_of c.args.entry)
 written c =
-    let place : IsPlace c.self.inside.entries.items c.args.entry.session c.in-Some.place = rw c.deref.ensures.value at c.in-Some.ensures.found in
-    with_entry-place c.args.entry c.index.result.now c.self.invariant place c.index.ensures
+    let is = sym c.get_mut.ensures.value ∙ ap option_copied_mut c.in-Some.is in
+    ap logged (set_there c) ∙ with_entry-known c.self.inside.entries.entries c.args.entry c.in-Some.place.now c.self.invariant.1 c.get_mut.ensures.unique is
 
-kept : (c : goal.After-self-1) → IsLog (values_of (set c.self.inside.entries.items c.in-Some.place c.args.entry))
-kept c = subst IsLog (written c) (IsLog-with_entry (values_of c.self.inside.entries.items) (value_of c.args.entry) c.self.invariant (IsSound-value_of c.args.entry))
+pub invariant_of-self-in-Some : goal.invariant_of-self-in-Some
+invariant_of-self-in-Some c = kept c
 
-taken : (c : goal.After-self-1) → Ok tt ≡ put_answer c.args.self.now (value_of c.args.entry)
-taken c =
-    let place : IsPlace c.self.inside.entries.items c.args.entry.session c.in-Some.place = rw c.deref.ensures.value at c.in-Some.ensures.found in
-    rw (← c.self.view_is) (sym (put_answer-ok (values_of c.self.inside.entries.items) (value_of c.args.entry) (value_of c.index.result.now) (entry_for-place place c.index.result.now c.index.ensures) c.if-stored-entry.false))
+pub returns-else-stored-entry-clause-answer : goal.returns-else-stored-entry-clause-answer
+returns-else-stored-entry-clause-answer c = known c
 
-pub invariant_of-self : goal.invariant_of-self
-invariant_of-self c = kept c
+pub returns-else-stored-entry-clause-known : goal.returns-else-stored-entry-clause-known
+returns-else-stored-entry-clause-known c = λ held. known c
 
-pub returns-in-Some-clause-answer : goal.returns-in-Some-clause-answer
-returns-in-Some-clause-answer c = taken c
+pub returns-else-stored-entry-clause-ok : goal.returns-else-stored-entry-clause-ok
+returns-else-stored-entry-clause-ok c = rw (← c.self.view_is) (written c)
 
-pub returns-in-Some-clause-known : goal.returns-in-Some-clause-known
-returns-in-Some-clause-known c = λ held. taken c
+pub returns-else-stored-entry-clause-changes : goal.returns-else-stored-entry-clause-changes
+returns-else-stored-entry-clause-changes c =
+    rw (← c.self.view_is) (subst (λ (log : List EntryValue). ChangesOnly (logged c.self.inside.entries.entries) log (value_of c.args.entry)) (sym (written c)) (ChangesOnly-with_entry (logged c.self.inside.entries.entries) (value_of c.args.entry)))
 
-pub returns-in-Some-clause-ok : goal.returns-in-Some-clause-ok
-returns-in-Some-clause-ok c = rw (← c.self.view_is) (sym (written c))
+pub returns-else-stored-entry-clause-log : goal.returns-else-stored-entry-clause-log
+returns-else-stored-entry-clause-log c = (kept c).0
 
-pub returns-in-Some-clause-changes : goal.returns-in-Some-clause-changes
-returns-in-Some-clause-changes c =
-    rw (← c.self.view_is) (subst (λ log. ChangesOnly (values_of c.self.inside.entries.items) log (value_of c.args.entry)) (written c) (ChangesOnly-with_entry (values_of c.self.inside.entries.items) (value_of c.args.entry)))
+-- ---- a new session
 
-pub returns-in-Some-clause-log : goal.returns-in-Some-clause-log
-returns-in-Some-clause-log c = kept c
+pub returns-in_default-clause-answer : goal.returns-in_default-clause-answer
+returns-in_default-clause-answer c =
+    let is = sym c.get_mut.ensures.value ∙ ap option_copied_mut c.in-None.is in
+    rw (← c.self.view_is) (ap is_ok (sym (put_answer-new c.self.inside.entries.entries c.args.entry c.self.invariant.1 c.get_mut.ensures.unique is)))
 
--- ---- a new session goes first
+pub returns-in_default-clause-known : goal.returns-in_default-clause-known
+returns-in_default-clause-known c =
+    let is = sym c.get_mut.ensures.value ∙ ap option_copied_mut c.in-None.is in
+    let fresh = not_held c.self.inside.entries.entries c.args.entry c.self.invariant.1 c.get_mut.ensures.unique is in
+    λ held. absurd (false≢true (sym (rw (← c.self.view_is) fresh) ∙ held))
 
-fronted : (c : In-Ok) → IsLog (values_of c.insert.new.self.items)
+pushed : (c : goal.In-Ok) → c.insert.new.self.entries ≡ c.self.inside.entries.entries ++ (c.args.entry.session, c.args.entry) ∷ []
+pushed c =
+    let is = sym c.get_mut.ensures.value ∙ ap option_copied_mut c.in-None.is in
+    c.in-Ok.ensures.entries
+    ∙ ap (λ m. insert_entry at_session m.entries c.args.entry.session c.args.entry) c.get_mut.follows.holds-at-none
+    ∙ insert_entry-new at_session c.self.inside.entries c.args.entry.session c.args.entry is
+
+new : (c : goal.In-Ok) → Ok tt ≡ put_answer c.args.self.now (value_of c.args.entry)
+new c =
+    let is = sym c.get_mut.ensures.value ∙ ap option_copied_mut c.in-None.is in
+    rw (← c.self.view_is) (put_answer-new c.self.inside.entries.entries c.args.entry c.self.invariant.1 c.get_mut.ensures.unique is)
+
+kept_new : (c : goal.In-Ok) → Lawful c.insert.new.self.entries
+kept_new c =
+    let is = sym c.get_mut.ensures.value ∙ ap option_copied_mut c.in-None.is in
+    subst Lawful (sym (pushed c)) (Lawful-new c.self.inside.entries.entries c.args.entry c.self.invariant c.get_mut.ensures.unique is)
+
+fronted : (c : goal.In-Ok) → logged c.insert.new.self.entries ≡ with_entry (logged c.self.inside.entries.entries) (value_of c.args.entry)
 fronted c =
-    let fresh : holds (values_of c.self.inside.entries.items) c.args.entry.session ≡ false = rw c.deref.ensures.value at c.in_default.ensures.none in
-    rw c.in-Ok.ensures.items (subst IsLog (with_entry-front c.self.inside.entries.items c.args.entry fresh) (IsLog-with_entry (values_of c.self.inside.entries.items) (value_of c.args.entry) c.self.invariant (IsSound-value_of c.args.entry)))
+    let is = sym c.get_mut.ensures.value ∙ ap option_copied_mut c.in-None.is in
+    ap logged (pushed c) ∙ with_entry-new c.self.inside.entries.entries c.args.entry c.self.invariant.1 c.get_mut.ensures.unique is
 
-pub invariant_of-self-2 : goal.invariant_of-self-2
-invariant_of-self-2 c = fronted c
+pub invariant_of-self-in-None : goal.invariant_of-self-in-None
+invariant_of-self-in-None c = kept_new c
 
-pub returns-clause-log : goal.returns-clause-log
-returns-clause-log c = fronted c
+pub returns-in-Ok-clause-answer : goal.returns-in-Ok-clause-answer
+returns-in-Ok-clause-answer c = new c
 
-pub returns-in_default-insert-clause-answer : goal.returns-in_default-insert-clause-answer
-returns-in_default-insert-clause-answer c =
-    let fresh : holds (values_of c.self.inside.entries.items) c.args.entry.session ≡ false = rw c.deref.ensures.value at c.in_default.ensures.none in
-    rw (← c.self.view_is, put_answer-front (values_of c.self.inside.entries.items) (value_of c.args.entry) fresh) refl
+pub returns-in-Ok-clause-known : goal.returns-in-Ok-clause-known
+returns-in-Ok-clause-known c = λ held. new c
 
-pub returns-clause-answer : goal.returns-clause-answer
-returns-clause-answer c =
-    let fresh : holds (values_of c.self.inside.entries.items) c.args.entry.session ≡ false = rw c.deref.ensures.value at c.in_default.ensures.none in
-    rw (← c.self.view_is) (sym (put_answer-front (values_of c.self.inside.entries.items) (value_of c.args.entry) fresh))
+pub returns-in-Ok-clause-ok : goal.returns-in-Ok-clause-ok
+returns-in-Ok-clause-ok c = rw (← c.self.view_is) (fronted c)
+
+pub returns-in-Ok-clause-changes : goal.returns-in-Ok-clause-changes
+returns-in-Ok-clause-changes c =
+    rw (← c.self.view_is) (subst (λ (log : List EntryValue). ChangesOnly (logged c.self.inside.entries.entries) log (value_of c.args.entry)) (sym (fronted c)) (ChangesOnly-with_entry (logged c.self.inside.entries.entries) (value_of c.args.entry)))
+
+pub returns-in-Ok-clause-log : goal.returns-in-Ok-clause-log
+returns-in-Ok-clause-log c = (kept_new c).0
