@@ -10,7 +10,6 @@ use Rattle.rev_tree.specs.Tree.{TreeValue, IsTree, has, has_edge, contradiction_
 use Rattle.rev_tree.specs.Content.{ContentValue}
 use Rattle.rev_tree.specs.TreeLaws.{and_both, both_none, agrees, same_from_merged}
 use Rattle.rev_tree.specs.LeafLaws.{same_tests}
-use Rattle.rev_tree.specs.declared.fault.TreeFault.{TreeFault}
 use Rattle.rev_tree.specs.declared.fault.Merged.{Merged}
 use Rattle.rev_tree.specs.declared.fault.Merged.TheVariants.{Same, Changed}
 use Rattle.rev_tree.specs.declared.fault.Contradiction.{Contradiction}
@@ -59,11 +58,11 @@ answer_missed t revs none missed =
     let head : Bool = list_all (λ (e : RevId × Unit {0}). is_some (get t.contents e.0)) (at_head revs tt) in
     answer_of_none t revs false none (ap (λ e. (list_all (has t) revs && e) && head) missed ∙ ap (λ b. b && head) (and-false (list_all (has t) revs)))
 
-abbrev is_told : Result Merged TreeFault → Bool
+abbrev is_told : Result Merged Contradiction → Bool
 is_told (Ok m) = true
 is_told (Err e) = false
 
-abbrev pub is_told_same : Result Merged TreeFault → Bool
+abbrev pub is_told_same : Result Merged Contradiction → Bool
 is_told_same (Ok Same) = true
 is_told_same (Ok Changed) = false
 is_told_same (Err e) = false

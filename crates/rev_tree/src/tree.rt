@@ -231,12 +231,12 @@ impl Tree {
         Ok(Tree { nodes, places })
     }
 
-    /// What a merge of the ancestry answers where memory is ample. It takes none.
+    /// What a merge of the ancestry would do. It takes no memory.
     ///
-    /// `Contradiction` names the first given child, newest first, whose known parent is another than the given one. Else
+    /// The contradiction is the first given child, newest first, whose known parent is another than the given one. Else
     /// `Same` where all revisions, their edges and a content of the head are in the tree, so that a merge changes nothing;
     /// else `Changed`.
-    pub fn merge_answer(&self, ancestry: &Ancestry) -> Result<Merged, TreeFault>
+    pub fn merge_answer(&self, ancestry: &Ancestry) -> Result<Merged, Contradiction>
         ensures answer { result ≡ merge_answer self.now ancestry.now }
         ensures tree { IsTree self.now }
     {
@@ -248,25 +248,14 @@ impl Tree {
                     Ok(Merged::Changed)
                 }
             }
-            Err(contradiction) => {
-                let Contradiction {
-                    child,
-                    known,
-                    given,
-                } = contradiction;
-                Err(TreeFault::Contradiction {
-                    child,
-                    known,
-                    given,
-                })
-            }
+            Err(contradiction) => Err(contradiction),
         }
     }
 
     /// Merges an ancestry, the content of its head and the origin of what is new: the tree becomes the union. What is known
     /// stays as it is.
     ///
-    /// It answers as `merge_answer`, or `Memory` where the tree would change. A refusal changes nothing.
+    /// It answers what `merge_answer` does, or `Memory` where the tree would change. A refusal changes nothing.
     pub fn merge(
         &mut self,
         ancestry: &Ancestry,
@@ -282,7 +271,18 @@ impl Tree {
         match self.merge_answer(ancestry) {
             Ok(Merged::Changed) => {}
             Ok(Merged::Same) => return Ok(Merged::Same),
-            Err(fault) => return Err(fault),
+            Err(contradiction) => {
+                let Contradiction {
+                    child,
+                    known,
+                    given,
+                } = contradiction;
+                return Err(TreeFault::Contradiction {
+                    child,
+                    known,
+                    given,
+                });
+            }
         }
         match self.merge_change(ancestry, content, origin) {
             Ok(()) => Ok(Merged::Changed),
