@@ -7,7 +7,8 @@ use Rattle.std.specs.FinMap.{get, get-empty}
 use Rattle.std.proofs.lemmas.Bool.{false≢true}
 use Rattle.rev_core.specs.Rev.{RevId, rev_cmp}
 use Rattle.rev_core.specs.Ancestry.{edges_of, head_of}
-use Rattle.rev_tree.specs.Tree.{TreeValue, IsTree, has, has_edge, no_revisions, first_contradiction, contradiction_at, is_same, at_head, merged}
+use Rattle.rev_tree.specs.Tree.{TreeValue, IsTree, has, has_edge, no_revisions, first_contradiction, contradiction_at, is_same, at_head, merged, merge_answer}
+use Rattle.rev_tree.specs.declared.fault.Merged.TheVariants.{Changed}
 use Rattle.rev_tree.specs.declared.origin.Origin.{Origin}
 use Rattle.couch_base.specs.Answers.{◌>>=◌, refused_if}
 use Rattle.couch_base.specs.Database.{Id, DatabaseValue, LawfulDatabase, tree_in, tree_of, with_tree, most}
@@ -18,7 +19,7 @@ use Rattle.couch_base.specs.Edit.{parent_answer, edit_id, edit_revs, edited, edi
 use Rattle.couch_base.specs.declared.fault.BaseFault.{BaseFault}
 use Rattle.couch_base.specs.declared.fault.BaseFault.TheVariants as faults
 use Rattle.couch_base.specs.ListLaws.{some_is}
-use Rattle.couch_base.proofs.Putting.{answer-changed, after_put-changed}
+use Rattle.couch_base.proofs.Putting.{from_tests, answer-changed, after_put-changed}
 
 -- ---- a new revision
 
@@ -75,11 +76,17 @@ pub edited_from : (db : DatabaseValue) (id : Id) (parent : Option RevId) (delete
     → Ok before ≡ parent_answer (tree_in db.docs id) parent → Ok revs ≡ edit_revs before deleted body → head_of revs ≡ Some rev → has (tree_of db.docs id) rev ≡ false → IsEdited db id parent deleted body before revs rev
 edited_from db id parent deleted body before revs rev on told head absent = from_id db id parent deleted body before revs rev (edit_id before deleted body) refl on told head absent
 
+-- a new revision changes the tree
+pub new_revision_changes : (db : DatabaseValue) → LawfulDatabase db → (id : Id) (rev : RevId) (before : Option RevId) → has (tree_of db.docs id) rev ≡ false → merge_answer (tree_of db.docs id) (rev ∷ option_to_list before) ≡ Ok Changed
+new_revision_changes db law id rev before absent =
+    let t = tree_of db.docs id in
+    from_tests t (rev ∷ option_to_list before) (new_contradicts_none t rev before (no_parent db law id rev absent)) (new_is_not_same t rev (option_to_list before) absent)
+
 -- the document of a new revision changes the database, where a sequence is left
 pub put_answer-edit : (db : DatabaseValue) → LawfulDatabase db → (id : Id) (rev : RevId) (before : Option RevId) (deleted : Bool) (body : List ℕ) → has (tree_of db.docs id) rev ≡ false → db.update_seq < most
     → put_answer db (edit_document id (rev, before) deleted body) ≡ Ok (answers.Changed (db.update_seq + 1))
 put_answer-edit db law id rev before deleted body absent room =
-    answer-changed db (edit_document id (rev, before) deleted body) (new_contradicts_none (tree_of db.docs id) rev before (no_parent db law id rev absent)) (new_is_not_same (tree_of db.docs id) rev (option_to_list before) absent) room
+    answer-changed db (edit_document id (rev, before) deleted body) (new_revision_changes db law id rev before absent) room
 
 -- an edit leaves its new revision merged in
 pub after_edit-changed : (db : DatabaseValue) → LawfulDatabase db → (id : Id) (parent : Option RevId) (deleted : Bool) (body : List ℕ) (o : Origin) (before : Option RevId) (revs : List RevId) (rev : RevId)

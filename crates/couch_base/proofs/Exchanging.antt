@@ -1,17 +1,19 @@
 -- Asking and fetching, one document after another.
-use Rattle.std.proofs.Common.{◌≡◌, ℕ, ◌+◌, ◌<◌, ◌≤◌, true, List, [], ◌∷◌, ◌++◌, map, filter, drop, length, get_or, sym, ap, ◌∙◌, refl, append_assoc}
+use Rattle.std.proofs.Common.{◌≡◌, ℕ, ◌+◌, ◌<◌, ◌≤◌, true, List, [], ◌∷◌, ◌++◌, map, filter, None, drop, length, get_or, sym, ap, ◌∙◌, refl, append_assoc}
 use Rattle.std.proofs.lemmas.Bool.{and_parts}
 use Rattle.std.proofs.lemmas.List.{append-nil, drop_more, drop_all}
 use Rattle.std.specs.List.{list_any, list_all}
+use Rattle.std.specs.Option.{option_map}
 use Rattle.std.specs.FinMap.{get-empty}
 use Rattle.rev_core.specs.Rev.{RevId, rev_cmp}
 use Rattle.rev_core.specs.Ancestry.{is_among}
+use Rattle.rev_tree.specs.Content.{ContentValue}
 use Rattle.rev_tree.specs.Tree.{TreeValue, is_leaf, leaves, leaves_above, ancestors, missing, no_revisions}
 use Rattle.rev_tree.specs.LeafLaws.{any_filter, is_among-leaves}
 use Rattle.doc_json.specs.Document.{Document}
 use Rattle.couch_base.specs.ListLaws.{all_members}
 use Rattle.couch_base.specs.Database.{Id, DocumentValue, tree_of}
-use Rattle.couch_base.specs.Messages.{WantedValue, leaf_document, opened, fetched, gone_of}
+use Rattle.couch_base.specs.Messages.{WantedValue, document_in, leaf_document, opened, fetched, gone_of}
 use Rattle.couch_base.specs.DocumentTreeLaws.{leaves-no_revisions}
 
 -- ---- a document that isn't there
@@ -23,6 +25,9 @@ missing-no_revisions (r ∷ revs) =
 
 pub opened-no_revisions : (id : Id) (revs : List RevId) → opened id no_revisions revs ≡ []
 opened-no_revisions id revs = ap (λ (ls : List RevId). map (leaf_document id no_revisions) (filter (λ leaf. list_any (λ r. is_among r (ancestors no_revisions leaf)) revs) ls)) leaves-no_revisions
+
+pub document_in-no_revisions : (id : Id) (r : RevId) → document_in id no_revisions r ≡ None
+document_in-no_revisions id r = ap (option_map (λ (c : ContentValue). let d : Document = record { id = id; ancestry = ancestors no_revisions r; deleted = c.deleted; body = c.body } in d)) (get-empty rev_cmp r)
 
 -- ---- leaves
 

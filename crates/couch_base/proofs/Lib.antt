@@ -5,7 +5,6 @@ mod Moves
 mod Writing
 mod Laws
 mod Pages
-mod Edges
 mod Putting
 mod Deleted
 pub mod Editing

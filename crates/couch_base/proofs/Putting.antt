@@ -1,19 +1,26 @@
 -- What a put answers and leaves, where it is a change.
-use Rattle.std.proofs.Common.{◌≡◌, ℕ, ◌+◌, ◌<◌, Bool, true, false, ◌&&◌, List, [], ◌∷◌, None, is_some, Ok, cond, ap, ◌∙◌, refl, arith}
+use Rattle.std.proofs.Common.{◌≡◌, ℕ, ◌+◌, ◌<◌, Bool, true, false, ◌&&◌, List, [], ◌∷◌, None, is_some, Ok, cond, sym, ap, ◌∙◌, refl, arith}
 use Rattle.std.specs.Prelude.{nat_lt, Result}
 use Rattle.std.specs.List.{list_all}
 use Rattle.std.specs.Option.{option_or}
 use Rattle.std.specs.FinMap.{get, get-empty}
 use Rattle.rev_core.specs.Rev.{RevId, rev_cmp}
 use Rattle.rev_core.specs.Ancestry.{edges_of, IsAncestry}
-use Rattle.rev_tree.specs.Tree.{has, has_edge, no_revisions, first_contradiction, contradiction_at, is_same, merged, at_head}
+use Rattle.rev_tree.specs.Tree.{TreeValue, has, has_edge, no_revisions, first_contradiction, contradiction_at, is_same, merged, merge_answer, answer_of, at_head}
+use Rattle.rev_tree.specs.declared.fault.Merged.TheVariants.{Changed}
 use Rattle.rev_tree.specs.declared.origin.Origin.{Origin}
 use Rattle.doc_json.specs.Document.{Document}
 use Rattle.couch_base.specs.Database.{DatabaseValue, tree_of, with_tree, most}
-use Rattle.couch_base.specs.Put.{put_answer, answer_of, after_put, is_changed, content_of}
+use Rattle.couch_base.specs.Put.{put_answer, put_told, after_put, is_changed, content_of}
 use Rattle.couch_base.specs.declared.fault.Put.{Put}
 use Rattle.couch_base.specs.declared.fault.Put.TheVariants as answers
 use Rattle.couch_base.specs.declared.fault.BaseFault.{BaseFault}
+
+-- ---- a change of a tree
+
+-- what nothing contradicts, and what is not there, is a change
+pub from_tests : (t : TreeValue) (revs : List RevId) → first_contradiction t.parents (edges_of revs) ≡ None → is_same t revs ≡ false → merge_answer t revs ≡ Ok Changed
+from_tests t revs none apart = λ i. answer_of (none i) (apart i)
 
 -- ---- a document that is new
 
@@ -29,13 +36,16 @@ not_same [] a = absurd (omega (arith, a.nonempty))
 not_same (r ∷ rest) a =
     ap (λ o. (is_some o && list_all (has no_revisions) rest) && list_all (has_edge no_revisions) (edges_of (r ∷ rest)) && list_all (λ (e : RevId × Unit {0}). is_some (get no_revisions.contents e.0)) (at_head (r ∷ rest) tt)) (get-empty rev_cmp r)
 
+-- so a merge changes it
+pub new_changes : (revs : List RevId) → IsAncestry revs → merge_answer no_revisions revs ≡ Ok Changed
+new_changes revs a = from_tests no_revisions revs (no_contradiction (edges_of revs)) (not_same revs a)
+
 -- ---- a change
 
-answer_none : (db : DatabaseValue) (d : Document) (same room : Bool) → first_contradiction (tree_of db.docs d.id).parents (edges_of d.ancestry) ≡ None → is_same (tree_of db.docs d.id) d.ancestry ≡ same → nat_lt db.update_seq most ≡ room → put_answer db d ≡ answer_of None same room (db.update_seq + 1)
-answer_none db d same room none s r = λ i. answer_of (none i) (s i) (r i) (db.update_seq + 1)
-
-pub answer-changed : (db : DatabaseValue) (d : Document) → first_contradiction (tree_of db.docs d.id).parents (edges_of d.ancestry) ≡ None → is_same (tree_of db.docs d.id) d.ancestry ≡ false → db.update_seq < most → put_answer db d ≡ Ok (answers.Changed (db.update_seq + 1))
-answer-changed db d none apart room = answer_none db d false true none apart (grind (arith, room))
+pub answer-changed : (db : DatabaseValue) (d : Document) → merge_answer (tree_of db.docs d.id) d.ancestry ≡ Ok Changed → db.update_seq < most → put_answer db d ≡ Ok (answers.Changed (db.update_seq + 1))
+answer-changed db d changes room =
+    let left : nat_lt db.update_seq most ≡ true = grind (arith, room) in
+    λ i. put_told (changes i) (left i) (db.update_seq + 1)
 
 abbrev left : DatabaseValue → Document → Origin → Result Put BaseFault → DatabaseValue
 left db d o answer = cond (is_changed answer) (with_tree db d.id (merged (tree_of db.docs d.id) d.ancestry (content_of d.deleted d.body) o)) db

@@ -1,8 +1,8 @@
 -- Asking for missing revisions, and fetching them: docs/PROFILE.md, "Missing revisions" and "Fetching"; CouchDB,
 -- "Replication Protocol", `_revs_diff`, and a fetch with `latest`.
-use Rattle.std.specs.Prelude.{◌≡◌, ℕ, ◌<◌, Bool, true, false, ◌&&◌, ◌||◌, List, [], ◌∷◌, ◌++◌, map, length}
+use Rattle.std.specs.Prelude.{◌≡◌, ℕ, ◌<◌, Bool, true, false, ◌&&◌, ◌||◌, List, [], ◌∷◌, ◌++◌, map, length, Option}
 use Rattle.std.specs.List.{list_any, list_all, AllByRecursion}
-use Rattle.std.specs.Option.{option_map_or}
+use Rattle.std.specs.Option.{option_map, option_map_or}
 use Rattle.std.specs.Ordering.{eq_by_cmp}
 use Rattle.std.specs.Str.{bytes_eq}
 use Rattle.std.specs.FinMap.{get}
@@ -57,6 +57,14 @@ body_at t r = option_map_or (λ (b : ContentValue). b.body) (get t.contents r) [
 -- a leaf with its whole known ancestry and its content
 abbrev pub leaf_document : Id → TreeValue → RevId → Document
 leaf_document id t leaf = record { id = id; ancestry = ancestors t leaf; deleted = is_deleted t leaf; body = body_at t leaf }
+
+-- the document at a revision, where a content stands at it
+abbrev pub document_in : Id → TreeValue → RevId → Option Document
+document_in id t r = option_map (λ (c : ContentValue). record { id = id; ancestry = ancestors t r; deleted = c.deleted; body = c.body }) (get t.contents r)
+
+-- the document of a database at a revision
+abbrev pub document_at : DatabaseValue → Id → RevId → Option Document
+document_at db id r = document_in id (tree_of db.docs id) r
 
 -- the leaves of a document at or above the asked revisions, winner first
 abbrev pub opened : Id → TreeValue → List RevId → List Document

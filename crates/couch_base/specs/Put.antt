@@ -1,9 +1,10 @@
 -- Putting a document: docs/PROFILE.md, "Merging" and "Sequences".
-use Rattle.std.specs.Prelude.{ℕ, ◌+◌, Bool, true, false, nat_lt, List, Option, Some, None, Result, Ok, Err, if◌then◌else◌}
-use Rattle.rev_core.specs.Ancestry.{edges_of}
+use Rattle.std.specs.Prelude.{◌≡◌, ℕ, ◌+◌, Bool, true, false, IsTrue, nat_lt, List, Result, Ok, Err, if◌then◌else◌}
 use Rattle.rev_tree.specs.Content.{ContentValue}
-use Rattle.rev_tree.specs.Tree.{merged, first_contradiction, is_same}
+use Rattle.rev_tree.specs.Tree.{merged, merge_answer}
 use Rattle.rev_tree.specs.declared.fault.Contradiction.{Contradiction}
+use Rattle.rev_tree.specs.declared.fault.Merged.{Merged}
+use Rattle.rev_tree.specs.declared.fault.Merged.TheVariants as merges
 use Rattle.rev_tree.specs.declared.origin.Origin.{Origin}
 use Rattle.doc_json.specs.Document.{Document}
 use Rattle.couch_base.specs.Database.{DatabaseValue, tree_of, with_tree, most}
@@ -13,21 +14,25 @@ use Rattle.couch_base.specs.declared.fault.BaseFault.{BaseFault}
 use Rattle.couch_base.specs.declared.fault.BaseFault.TheVariants as faults
 
 -- a contradiction is refused; what changes nothing takes no sequence; a change takes the next one, where one is left
-abbrev pub answer_of : Option Contradiction → Bool → Bool → ℕ → Result Put BaseFault
-answer_of (Some c) same room next = Err (faults.Contradiction c.child c.known c.given)
-answer_of None same room next = if same then Ok answers.Same else (if room then Ok (answers.Changed next) else Err faults.SeqFull)
+abbrev pub put_told : Result Merged Contradiction → Bool → ℕ → Result Put BaseFault
+put_told (Err c) room next = Err (faults.Contradiction c.child c.known c.given)
+put_told (Ok merges.Same) room next = Ok answers.Same
+put_told (Ok merges.Changed) room next = if room then Ok (answers.Changed next) else Err faults.SeqFull
 
 -- what putting a document answers
 abbrev pub put_answer : DatabaseValue → Document → Result Put BaseFault
-put_answer db d =
-    let t = tree_of db.docs d.id in
-    answer_of (first_contradiction t.parents (edges_of d.ancestry)) (is_same t d.ancestry) (nat_lt db.update_seq most) (db.update_seq + 1)
+put_answer db d = put_told (merge_answer (tree_of db.docs d.id) d.ancestry) (nat_lt db.update_seq most) (db.update_seq + 1)
 
 -- whether a put takes a sequence
 abbrev pub is_changed : Result Put BaseFault → Bool
 is_changed (Ok (answers.Changed seq)) = true
 is_changed (Ok answers.Same) = false
 is_changed (Err fault) = false
+
+-- what a put gives: the expected answer; `Memory` stands only where a sequence would be taken
+abbrev pub PutGives : Result Put BaseFault → Result Put BaseFault → Type 0
+PutGives (Err faults.Memory) expected = IsTrue (is_changed expected)
+PutGives result expected = result ≡ expected
 
 -- what stands at a new revision
 abbrev pub content_of : Bool → List ℕ → ContentValue

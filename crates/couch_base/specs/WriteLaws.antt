@@ -7,7 +7,7 @@ use Rattle.std.specs.List.{list_any, AllByRecursion}
 use Rattle.std.specs.Str.{bytes_eq}
 use Rattle.rev_core.specs.Rev.{RevId}
 use Rattle.rev_core.specs.Ancestry.{edges_of}
-use Rattle.rev_tree.specs.Tree.{TreeValue, IsTree, has, merged, no_revisions, first_contradiction, is_same}
+use Rattle.rev_tree.specs.Tree.{TreeValue, IsTree, has, merged, no_revisions, first_contradiction, is_same, answer_of}
 use Rattle.rev_tree.specs.TreeLaws.{has-merged_known, IsTree-merged}
 use Rattle.rev_tree.specs.MergeLaws.{contradiction-merged}
 use Rattle.rev_tree.specs.declared.fault.Contradiction.{Contradiction}
@@ -20,7 +20,7 @@ use Rattle.couch_base.specs.DatabaseLaws.{IsDocumentTree-tree_in}
 use Rattle.couch_base.specs.DocumentTreeLaws.{IsTree-no_revisions, no_bodies, merged_document}
 use Rattle.couch_base.specs.Edit.{edited, edit_document, after_edited, after_edit}
 use Rattle.couch_base.specs.declared.fault.BaseFault.{BaseFault}
-use Rattle.couch_base.specs.Put.{answer_of, put_answer, is_changed, after_put, content_of}
+use Rattle.couch_base.specs.Put.{put_told, put_answer, is_changed, after_put, content_of}
 
 id_is : (a b : Id) → bytes_eq a b ≡ true → a ≡ b
 id_is a b h = (bytes_eq-Decides a b).0 h
@@ -111,7 +111,7 @@ pub record IsChange (db : DatabaseValue) (d : Document) : Type 0 where
   pub fresh : is_same (tree_of db.docs d.id) d.ancestry ≡ false
   pub room : db.update_seq < most
 
-told : (db : DatabaseValue) (d : Document) (o : Option Contradiction) (same room : Bool) (next : ℕ) → first_contradiction (tree_of db.docs d.id).parents (edges_of d.ancestry) ≡ o → is_same (tree_of db.docs d.id) d.ancestry ≡ same → nat_lt db.update_seq most ≡ room → is_changed (answer_of o same room next) ≡ true → IsChange db d
+told : (db : DatabaseValue) (d : Document) (o : Option Contradiction) (same room : Bool) (next : ℕ) → first_contradiction (tree_of db.docs d.id).parents (edges_of d.ancestry) ≡ o → is_same (tree_of db.docs d.id) d.ancestry ≡ same → nat_lt db.update_seq most ≡ room → is_changed (put_told (answer_of o same) room next) ≡ true → IsChange db d
 told db d (Some c) same room next a b e h = absurd (false≢true h)
 told db d None true room next a b e h = absurd (false≢true h)
 told db d None false false next a b e h = absurd (false≢true h)

@@ -1,19 +1,17 @@
 //! Databases.
-ghost use Rattle.std.specs.Prelude.{◌≡◌, ◌<◌, ◌≤◌, ◌+◌, OnOk, OnErr, IfOk, IfErr, IfSome, None};
+ghost use Rattle.std.specs.Prelude.{◌≡◌, ◌<◌, ◌≤◌, ◌+◌, Ok, OnOk, OnErr, IfOk, IfErr, IfSome, None};
 ghost use Rattle.std.specs.Option.{option_copied};
-ghost use Rattle.rev_core.specs.Ancestry.{edges_of};
-ghost use Rattle.rev_tree.specs.Tree.{has, merged, is_same, first_contradiction};
+ghost use Rattle.rev_tree.specs.Tree.{has, merged, merge_answer};
 
 use crate::edit::{content_of, edit_ancestry, parent_in};
 use crate::fault::{BaseFault, Put};
-use crate::merging;
 use crate::paging::{collect, page_end};
 use crate::table::{Index, Table, write};
 use crate::window::Window;
 use doc_json::{Body, Doc, DocId};
 use indexmap::IndexMap;
 use rev_core::{Ancestry, Rev};
-use rev_tree::{Content, Contradiction, Origin, Tree};
+use rev_tree::{Content, Contradiction, Merged, Origin, Tree};
 use std::alloc::Global;
 use std::collections::BTreeMap;
 use std::marker::Model;
@@ -53,7 +51,7 @@ impl Model for Database {
 impl Database {
     ghost use Rattle.couch_base.specs.Database.{LawfulDatabase, IsDocumentTree, no_documents, new_at_answer, tree_in, tree_of, with_tree, most};
     ghost use Rattle.doc_json.specs.Body.{IsBody};
-    ghost use Rattle.couch_base.specs.Put.{put_answer, after_put};
+    ghost use Rattle.couch_base.specs.Put.{put_answer, after_put, PutGives};
     ghost use Rattle.couch_base.specs.Edit.{parent_answer, edit_answer, after_edit, EditGives};
     ghost use Rattle.couch_base.specs.Feed.{page_answer};
     ghost use Rattle.couch_base.specs.Answers.{GivesUnlessMemory};
@@ -120,29 +118,31 @@ impl Database {
     /// Puts a document with its ancestry as they are given (`new_edits` false): the document's tree becomes the union.
     ///
     /// It takes the next sequence exactly where that changes the tree; else it answers `Same`. `Contradiction` where a
-    /// given child has another parent in the tree; else `SeqFull` where a change finds no sequence; else `Memory`. A
-    /// refusal changes nothing.
+    /// given child has another parent in the tree; else `SeqFull` where a change finds no sequence; else `Memory`, which
+    /// stands only where a sequence would be taken. A refusal changes nothing.
     pub fn put(&mut self, doc: &Doc, origin: Origin) -> Result<Put, BaseFault>
-        ensures answer { GivesUnlessMemory result (put_answer self.old doc.now) }
+        ensures answer { PutGives result (put_answer self.old doc.now) }
         ensures ok { OnOk result (self.new ≡ after_put self.old doc.now origin) }
+        ensures same { IfOk result (λ p. (p ≡ Put.Same → self.new ≡ self.old) × (self.new ≡ self.old → p ≡ Put.Same)) }
         ensures err { OnErr result (self.new ≡ self.old) }
         ensures law { LawfulDatabase self.new }
     {
         let update_seq = self.update_seq();
-        if let Some(contradiction) = self.contradiction(doc) {
-            let Contradiction {
-                child,
-                known,
-                given,
-            } = contradiction;
-            return Err(BaseFault::Contradiction {
-                child,
-                known,
-                given,
-            });
-        }
-        if self.has_already(doc) {
-            return Ok(Put::Same);
+        match self.merge_answer(doc) {
+            Ok(Merged::Changed) => {}
+            Ok(Merged::Same) => return Ok(Put::Same),
+            Err(contradiction) => {
+                let Contradiction {
+                    child,
+                    known,
+                    given,
+                } = contradiction;
+                return Err(BaseFault::Contradiction {
+                    child,
+                    known,
+                    given,
+                });
+            }
         }
         if update_seq >= MOST {
             return Err(BaseFault::SeqFull);
@@ -219,26 +219,15 @@ impl Database {
         Ok(Window::new(since, hi, rows))
     }
 
-    /// The first given child whose known parent is another than the given one.
-    fn contradiction(&self, doc: &Doc) -> Option<Contradiction>
-        ensures { result
-            ≡ first_contradiction (tree_of self.now.docs doc.now.id).parents (edges_of doc.now.ancestry) }
-    {
-        match self.tree(doc.id()) {
-            Some(tree) => merging::contradiction(tree, doc.ancestry()),
-            None => None,
-        }
-    }
-
-    /// Whether a put of the document would change nothing.
-    fn has_already(&self, doc: &Doc) -> bool
-        ensures { result ≡ is_same (tree_of self.now.docs doc.now.id) doc.now.ancestry }
+    /// What merging the document into its tree would do.
+    fn merge_answer(&self, doc: &Doc) -> Result<Merged, Contradiction>
+        ensures { result ≡ merge_answer (tree_of self.now.docs doc.now.id) doc.now.ancestry }
     {
         // An ancestry has a revision: the reading tells the proof.
         let _revs = doc.ancestry().revs();
         match self.tree(doc.id()) {
-            Some(tree) => merging::is_same(tree, doc.ancestry()),
-            None => false,
+            Some(tree) => tree.merge_answer(doc.ancestry()),
+            None => Ok(Merged::Changed),
         }
     }
 
@@ -265,7 +254,8 @@ impl Database {
         }
     }
 
-    /// Merges into a document, which may be new, at the next sequence, and answers it. The only error is `Memory`.
+    /// Merges into a document, which may be new, what changes its tree, at the next sequence, and answers it. The only error
+    /// is `Memory`.
     fn write(
         &mut self,
         id: &DocId,
@@ -274,6 +264,7 @@ impl Database {
         origin: Origin,
     ) -> Result<u64, BaseFault>
         requires room { self.old.update_seq < most }
+        requires change { merge_answer (tree_of self.old.docs id.now) ancestry.now ≡ Ok Merged.Changed }
         requires body { IsBody content.body }
         ensures ok { OnOk result (self.new ≡ with_tree self.old id.now
             (merged (tree_of self.old.docs id.now) ancestry.now content origin)) }

@@ -2,7 +2,6 @@
 ghost use Rattle.std.specs.Prelude.{◌≡◌, ◌∷◌, Some, IfOk, IfErr};
 ghost use Rattle.std.specs.Option.{option_to_list};
 ghost use Rattle.rev_core.specs.NewRev.{next_generation};
-ghost use Rattle.rev_tree.specs.Tree.{is_deleted};
 ghost use Rattle.doc_json.specs.Body.{IsBody};
 ghost use Rattle.couch_base.specs.Answers.{GivesUnlessMemory};
 ghost use Rattle.couch_base.specs.Edit.{parent_answer, edit_id, edit_revs};
@@ -39,20 +38,10 @@ fn deleted_winner(tree: &Tree) -> Result<Option<Rev>, BaseFault>
     let Some(winner) = tree.winner() else {
         return Ok(None);
     };
-    if is_deleted(tree, winner) {
+    if tree.is_deleted(winner) {
         Ok(Some(winner))
     } else {
         Err(BaseFault::Conflict)
-    }
-}
-
-/// Whether a revision has a content that deletes.
-fn is_deleted(tree: &Tree, rev: Rev) -> bool
-    ensures { result ≡ is_deleted tree.now rev }
-{
-    match tree.content(rev) {
-        Some(content) => content.deleted(),
-        None => false,
     }
 }
 

@@ -1,9 +1,9 @@
-//! Asking for missing revisions, and fetching them.
+//! Asking for missing revisions, and fetching them; and the document at a revision.
 ghost use Rattle.std.specs.Prelude.{◌≡◌, ◌++◌, [], true, map, OnOk, IfOk, IfErr};
 ghost use Rattle.std.specs.List.{list_all};
 ghost use Rattle.rev_tree.specs.Tree.{is_leaf, missing};
 ghost use Rattle.couch_base.specs.Database.{IsDocumentTree, tree_of};
-ghost use Rattle.couch_base.specs.Messages.{leaf_document, opened, want_first};
+ghost use Rattle.couch_base.specs.Messages.{document_in, leaf_document, opened, want_first};
 
 use crate::asked::{Asked, Wanted};
 use crate::database::Database;
@@ -17,7 +17,7 @@ use rev_tree::Tree;
 use std::alloc::Global;
 
 impl Database {
-    ghost use Rattle.couch_base.specs.Messages.{revs_diff, open_revs};
+    ghost use Rattle.couch_base.specs.Messages.{revs_diff, open_revs, document_at};
 
     /// What this database misses of another one's window: the leaves of the rows that are not in its trees, in the rows'
     /// order. The only error is `Memory`.
@@ -52,6 +52,23 @@ impl Database {
         }
         let asked = asked.copy(alloc)?;
         Ok(Parcel::new(asked, docs, gone))
+    }
+
+    /// The document at a revision, leaf or not: its whole known ancestry, and its content. `None` where the document is not
+    /// there, the revision is not in its tree, or no content stands at it. The only error is `Memory`.
+    pub fn document(
+        &self,
+        alloc: Global,
+        id: &DocId,
+        rev: Rev,
+    ) -> Result<Option<Doc>, BaseFault>
+        ensures document { IfOk result (λ d. d ≡ document_at self.now id.now rev) }
+        ensures err { IfErr result (λ e. e ≡ BaseFault.Memory) }
+    {
+        match self.tree(id) {
+            Some(tree) => document_in(alloc, id, tree, rev),
+            None => Ok(None),
+        }
     }
 
     /// Adds what is missing of a row.
@@ -136,7 +153,7 @@ fn add_documents(
     ensures err { IfErr result (λ e. e ≡ BaseFault.Memory) }
 {
     for leaf in leaves {
-        let doc = document(alloc, id, tree, *leaf)?;
+        let doc = leaf_document(alloc, id, tree, *leaf)?;
         let Ok(()) = docs.push(doc) else {
             return Err(BaseFault::Memory);
         };
@@ -144,24 +161,42 @@ fn add_documents(
     Ok(())
 }
 
-/// The document of a leaf.
-fn document(alloc: Global, id: &DocId, tree: &Tree, leaf: Rev) -> Result<Doc, BaseFault>
+/// The document of a leaf, at which a content always stands.
+fn leaf_document(alloc: Global, id: &DocId, tree: &Tree, leaf: Rev) -> Result<Doc, BaseFault>
     requires document { IsDocumentTree tree.now }
     requires leaf { is_leaf tree.now leaf ≡ true }
     ensures document { IfOk result (λ d. d ≡ leaf_document id.now tree.now leaf) }
     ensures err { IfErr result (λ e. e ≡ BaseFault.Memory) }
 {
-    let content = tree.content(leaf).unwrap();
+    let found = document_in(alloc, id, tree, leaf)?;
+    Ok(found.unwrap())
+}
+
+/// The document at a revision, where a content stands at it.
+fn document_in(
+    alloc: Global,
+    id: &DocId,
+    tree: &Tree,
+    rev: Rev,
+) -> Result<Option<Doc>, BaseFault>
+    requires document { IsDocumentTree tree.now }
+    ensures document { IfOk result (λ d. d ≡ document_in id.now tree.now rev) }
+    ensures err { IfErr result (λ e. e ≡ BaseFault.Memory) }
+{
+    let Some(content) = tree.content(rev) else {
+        return Ok(None);
+    };
     let Ok(text) = Vec::from_slice(alloc, content.body()) else {
         return Err(BaseFault::Memory);
     };
     let Ok(id) = id.copy(alloc) else {
         return Err(BaseFault::Memory);
     };
-    let Ok(ancestry) = tree.ancestry(alloc, leaf) else {
+    let Ok(ancestry) = tree.ancestry(alloc, rev) else {
         return Err(BaseFault::Memory);
     };
-    Ok(Doc::new(id, ancestry, content.deleted(), Body::from_text(text)))
+    let body = Body::from_text(text);
+    Ok(Some(Doc::new(id, ancestry, content.deleted(), body)))
 }
 
 /// Adds revisions of a document.

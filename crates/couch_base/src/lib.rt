@@ -10,7 +10,6 @@ mod edit;
 mod exchange;
 mod fault;
 mod kept;
-mod merging;
 mod paging;
 mod parcel;
 mod row;

@@ -1,7 +1,8 @@
 //! The table of documents and the index by sequence, written together.
-ghost use Rattle.std.specs.Prelude.{◌≡◌, ◌∷◌, ◌++◌, [], OnOk, OnErr, IsSome, Some, None};
-ghost use Rattle.rev_tree.specs.Tree.{no_revisions, merged};
-ghost use Rattle.couch_base.specs.Table.{found, AllBelow, Moves, Adds, Writes};
+ghost use Rattle.std.specs.Prelude.{◌≡◌, ◌∷◌, ◌++◌, [], Ok, OnOk, OnErr, IsSome, Some, None};
+ghost use Rattle.rev_tree.specs.Tree.{no_revisions, merged, merge_answer};
+ghost use Rattle.rev_tree.specs.declared.fault.Merged.TheVariants.{Changed};
+ghost use Rattle.couch_base.specs.Table.{found, tree_at, AllBelow, Moves, Adds, Writes};
 
 use crate::kept::Kept;
 use doc_json::DocId;
@@ -40,7 +41,8 @@ fn add(
     origin: Origin,
     next: u64,
 ) -> Result<(), AllocError>
-    requires { AllBelow next index.old.entries }
+    requires index { AllBelow next index.old.entries }
+    requires change { merge_answer no_revisions ancestry.now ≡ Ok Changed }
     ensures ok { OnOk result
         (Adds docs.old.entries docs.new.entries index.old.entries index.new.entries id.now
         (merged no_revisions ancestry.now content origin) next) }
@@ -52,9 +54,7 @@ fn add(
         return Err(AllocError);
     };
     let mut tree = Tree::new(alloc);
-    let Ok(_) = tree.merge(ancestry, content, origin) else {
-        return Err(AllocError);
-    };
+    tree.merge_change(ancestry, content, origin)?;
     docs.reserve(1)?;
     note(alloc, index, id, next)?;
     docs.insert(key, Kept { seq: next, tree })?;
@@ -75,6 +75,7 @@ fn change(
 ) -> Result<(), AllocError>
     requires index { AllBelow next index.old.entries }
     requires there { IsSome (found docs.old.entries id.now) }
+    requires change { merge_answer (tree_at (found docs.old.entries id.now)) ancestry.now ≡ Ok Changed }
     ensures ok { OnOk result
         ((was : Kept) → found docs.old.entries id.now ≡ Some was
         → Moves docs.old.entries docs.new.entries index.old.entries index.new.entries id.now
@@ -84,8 +85,8 @@ fn change(
 {
     note(*docs.allocator(), index, id, next)?;
     let kept = docs.get_mut(id).unwrap();
-    match kept.tree.merge(ancestry, content, origin) {
-        Ok(_) => {
+    match kept.tree.merge_change(ancestry, content, origin) {
+        Ok(()) => {
             let old = kept.seq;
             kept.seq = next;
             index.remove(&old);
@@ -98,7 +99,7 @@ fn change(
     }
 }
 
-/// Writes to a document, which may be new.
+/// Writes to a document, which may be new, what its tree says is a change.
 pub(crate) fn write(
     docs: &mut Table,
     index: &mut Index,
@@ -108,7 +109,8 @@ pub(crate) fn write(
     origin: Origin,
     next: u64,
 ) -> Result<(), AllocError>
-    requires { AllBelow next index.old.entries }
+    requires index { AllBelow next index.old.entries }
+    requires change { merge_answer (tree_at (found docs.old.entries id.now)) ancestry.now ≡ Ok Changed }
     ensures ok { OnOk result
         (Writes docs.old.entries docs.new.entries index.old.entries index.new.entries id.now
         (λ t. merged t ancestry.now content origin) next) }

@@ -6,13 +6,14 @@ use Rattle.std.specs.List.{list_all}
 use Rattle.std.specs.FinMap.{get}
 use Rattle.rev_core.specs.Rev.{RevId}
 use Rattle.rev_core.specs.Ancestry.{edges_of, head_of}
-use Rattle.rev_tree.specs.Tree.{TreeValue, IsTree, has, has_edge, contradiction_at, first_contradiction, is_same, at_head, answer_of, merge_answer}
-use Rattle.rev_tree.specs.TreeLaws.{and_both, both_none, agrees}
+use Rattle.rev_tree.specs.Tree.{TreeValue, IsTree, has, has_edge, contradiction_at, first_contradiction, is_same, at_head, answer_of, merge_answer, merged}
+use Rattle.rev_tree.specs.Content.{ContentValue}
+use Rattle.rev_tree.specs.TreeLaws.{and_both, both_none, agrees, same_from_merged}
 use Rattle.rev_tree.specs.LeafLaws.{same_tests}
-use Rattle.rev_tree.specs.declared.fault.TreeFault.{TreeFault}
 use Rattle.rev_tree.specs.declared.fault.Merged.{Merged}
 use Rattle.rev_tree.specs.declared.fault.Merged.TheVariants.{Same, Changed}
 use Rattle.rev_tree.specs.declared.fault.Contradiction.{Contradiction}
+use Rattle.rev_tree.specs.declared.origin.Origin.{Origin}
 use Rattle.rev_tree.proofs.Places.{some_is}
 
 -- a parent that is known and contradicts nothing is in the tree
@@ -57,11 +58,11 @@ answer_missed t revs none missed =
     let head : Bool = list_all (λ (e : RevId × Unit {0}). is_some (get t.contents e.0)) (at_head revs tt) in
     answer_of_none t revs false none (ap (λ e. (list_all (has t) revs && e) && head) missed ∙ ap (λ b. b && head) (and-false (list_all (has t) revs)))
 
-abbrev is_told : Result Merged TreeFault → Bool
+abbrev is_told : Result Merged Contradiction → Bool
 is_told (Ok m) = true
 is_told (Err e) = false
 
-abbrev is_told_same : Result Merged TreeFault → Bool
+abbrev pub is_told_same : Result Merged Contradiction → Bool
 is_told_same (Ok Same) = true
 is_told_same (Ok Changed) = false
 is_told_same (Err e) = false
@@ -81,3 +82,11 @@ same_from_answer t revs = by (first_contradiction t.parents (edges_of revs)) (is
     by None true h = refl
     by None false h = absurd (false≢true (ap is_told_same h))
     by (Some c) b h = absurd (false≢true (ap is_told h))
+
+-- where a merge is a change, the tree doesn't stay as it is
+pub changed_from_answer : (t : TreeValue) (revs : List RevId) (b : ContentValue) (o : Origin) → merge_answer t revs ≡ Ok Changed → merged t revs b o ≡ t → ⊥
+changed_from_answer t revs b o h stays = by (first_contradiction t.parents (edges_of revs)) h
+  where
+    by : (c : Option Contradiction) → answer_of c (is_same t revs) ≡ Ok Changed → ⊥
+    by None k = false≢true (sym (ap is_told_same k) ∙ ap (λ x. is_told_same (answer_of None x)) (same_from_merged t revs b o stays))
+    by (Some c) k = false≢true (ap is_told k)

@@ -11,11 +11,12 @@ ghost use Rattle.rev_tree.specs.Steps.{with_rev, with_edge, with_content};
 ghost use Rattle.rev_tree.specs.Nodes.{IsLinked, index_for, place_of, rev_at, revs_in, tree_of};
 
 use crate::content::Content;
-use crate::fault::{Contradiction, TreeFault};
+use crate::fault::Contradiction;
 use crate::nodes::{MOST_WALKED, Node, index_rest, node_at, place_in, reserve_index};
 use crate::origin::Origin;
 use indexmap::IndexMap;
 use rev_core::Rev;
+use std::alloc::AllocError;
 
 /// Whether each given child has a known parent, or the first whose known parent is another than the given one.
 ///
@@ -76,14 +77,13 @@ pub(crate) fn make_room(
     nodes: &mut Vec<Node>,
     places: &mut IndexMap<Rev, usize>,
     revs: &[Rev],
-) -> Result<(), TreeFault>
+) -> Result<(), AllocError>
     requires { index_map_len places.old ≤ vec_len nodes.old }
     ensures nodes { nodes.new.items ≡ nodes.old.items }
     ensures index { places.new.entries ≡ places.old.entries }
     ensures room { OnOk result (HasRoom (vec_len nodes.new) (vec_capacity nodes.new) (length revs.now)) }
     ensures room_in_index { OnOk result
         (HasIndexRoom (vec_len nodes.new + length revs.now) (index_map_len places.new + spare places.new)) }
-    ensures err { IfErr result (λ e. e ≡ TreeFault.Memory) }
 {
     let all = nodes.as_slice().len() + revs.len();
     let reserved = if all <= MOST_WALKED {
@@ -92,7 +92,7 @@ pub(crate) fn make_room(
         nodes.reserve(revs.len())
     };
     if reserved.is_err() {
-        return Err(TreeFault::Memory);
+        return Err(AllocError);
     }
     reserve_index(places, all)
 }

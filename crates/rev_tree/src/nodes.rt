@@ -10,7 +10,7 @@ use crate::fault::TreeFault;
 use crate::origin::Origin;
 use indexmap::IndexMap;
 use rev_core::Rev;
-use std::alloc::Global;
+use std::alloc::{AllocError, Global};
 
 /// The most nodes that are walked for a revision. From one more on an index has their places.
 pub(crate) const MOST_WALKED: usize = 8;
@@ -96,19 +96,16 @@ pub(crate) fn index_rest(nodes: &[Node], places: &mut IndexMap<Rev, usize>)
 pub(crate) fn reserve_index(
     places: &mut IndexMap<Rev, usize>,
     nodes: usize,
-) -> Result<(), TreeFault>
+) -> Result<(), AllocError>
     requires { index_map_len places.old ≤ nodes }
     ensures index { places.new.entries ≡ places.old.entries }
     ensures room { OnOk result (HasIndexRoom nodes (index_map_len places.new + spare places.new)) }
-    ensures err { IfErr result (λ e. e ≡ TreeFault.Memory) }
 {
     if nodes <= MOST_WALKED {
         return Ok(());
     }
-    match places.reserve(nodes - places.len()) {
-        Ok(()) => Ok(()),
-        Err(_) => Err(TreeFault::Memory),
-    }
+    places.reserve(nodes - places.len())?;
+    Ok(())
 }
 
 /// The index of the nodes. The only error is `Memory`.

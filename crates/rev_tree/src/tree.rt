@@ -1,5 +1,5 @@
 //! Trees.
-ghost use Rattle.std.specs.Prelude.{◌≡◌, OnOk, OnErr, IfOk, IfErr, length, map, false};
+ghost use Rattle.std.specs.Prelude.{◌≡◌, Ok, OnOk, OnErr, IfOk, IfErr, length, map, false};
 ghost use Rattle.std.specs.Option.{option_map_or};
 
 use crate::content::Content;
@@ -10,7 +10,7 @@ use crate::origin::Origin;
 use crate::walks::{those_above, walk};
 use indexmap::IndexMap;
 use rev_core::{Ancestry, Rev};
-use std::alloc::Global;
+use std::alloc::{AllocError, Global};
 use std::cmp::Ordering;
 use std::marker::Model;
 
@@ -41,7 +41,7 @@ impl Model for Tree {
 impl Tree {
     ghost use Rattle.std.specs.FinMap.{get, len};
     ghost use Rattle.std.specs.Option.{option_copied};
-    ghost use Rattle.rev_tree.specs.Tree.{IsTree, no_revisions, has, is_leaf, merged, merge_answer, ancestry_answer, leaves, leaf_cmp, is_deleted, missing, leaves_above, GivesUnlessMemory};
+    ghost use Rattle.rev_tree.specs.Tree.{IsTree, no_revisions, has, is_leaf, merged, merge_answer, ancestry_answer, leaves, leaf_cmp, is_deleted, missing, leaves_above, GivesUnlessMemory, MergeGives};
     ghost use Rattle.rev_tree.specs.InOrder.{first_of, better};
 
     /// The tree of no revisions.
@@ -95,6 +95,16 @@ impl Tree {
             return false;
         };
         !node.has_child
+    }
+
+    /// Whether a revision has a content that deletes.
+    pub fn is_deleted(&self, rev: Rev) -> bool
+        ensures { result ≡ is_deleted self.now rev }
+    {
+        match self.content(rev) {
+            Some(content) => content.deleted(),
+            None => false,
+        }
     }
 
     /// A revision and its known ancestors.
@@ -210,16 +220,6 @@ impl Tree {
         self.is_deleted(a).cmp(&self.is_deleted(b)).then(b.cmp(&a))
     }
 
-    /// Whether a revision has a content that deletes.
-    fn is_deleted(&self, rev: Rev) -> bool
-        ensures { result ≡ is_deleted self.now rev }
-    {
-        match self.content(rev) {
-            Some(content) => content.deleted(),
-            None => false,
-        }
-    }
-
     /// The same tree. The only error is `Memory`.
     pub fn copy(&self, alloc: Global) -> Result<Tree, TreeFault>
         ensures copied { IfOk result (λ t. t ≡ self.now) }
@@ -231,34 +231,14 @@ impl Tree {
         Ok(Tree { nodes, places })
     }
 
-    /// Merges an ancestry, the content of its head and the origin of what is new.
-    pub fn merge(
-        &mut self,
-        ancestry: &Ancestry,
-        content: Content,
-        origin: Origin,
-    ) -> Result<Merged, TreeFault>
-        ensures answer { GivesUnlessMemory result (merge_answer self.old ancestry.now) }
-        ensures ok { OnOk result (self.new ≡ merged self.old ancestry.now content origin) }
-        ensures err { OnErr result (self.new ≡ self.old) }
-        ensures tree { IsTree self.new }
-    {
-        match self.answer(ancestry) {
-            Ok(Merged::Changed) => {}
-            Ok(Merged::Same) => return Ok(Merged::Same),
-            Err(fault) => return Err(fault),
-        }
-        let revs = ancestry.revs();
-        let Ok(()) = make_room(&mut self.nodes, &mut self.places, revs) else {
-            return Err(TreeFault::Memory);
-        };
-        put(&mut self.nodes, &mut self.places, revs, content, origin);
-        Ok(Merged::Changed)
-    }
-
-    /// What a merge answers where memory is ample.
-    fn answer(&self, ancestry: &Ancestry) -> Result<Merged, TreeFault>
-        ensures { result ≡ merge_answer self.now ancestry.now }
+    /// What a merge of the ancestry would do. It takes no memory.
+    ///
+    /// The contradiction is the first given child, newest first, whose known parent is another than the given one. Else
+    /// `Same` where all revisions, their edges and a content of the head are in the tree, so that a merge changes nothing;
+    /// else `Changed`.
+    pub fn merge_answer(&self, ancestry: &Ancestry) -> Result<Merged, Contradiction>
+        ensures answer { result ≡ merge_answer self.now ancestry.now }
+        ensures tree { IsTree self.now }
     {
         match knows_edges(&self.nodes, &self.places, ancestry.revs()) {
             Ok(all) => {
@@ -268,19 +248,64 @@ impl Tree {
                     Ok(Merged::Changed)
                 }
             }
+            Err(contradiction) => Err(contradiction),
+        }
+    }
+
+    /// Merges an ancestry, the content of its head and the origin of what is new: the tree becomes the union. What is known
+    /// stays as it is.
+    ///
+    /// It answers what `merge_answer` does, or `Memory` where the tree would change. A refusal changes nothing.
+    pub fn merge(
+        &mut self,
+        ancestry: &Ancestry,
+        content: Content,
+        origin: Origin,
+    ) -> Result<Merged, TreeFault>
+        ensures answer { MergeGives result (merge_answer self.old ancestry.now) }
+        ensures ok { OnOk result (self.new ≡ merged self.old ancestry.now content origin) }
+        ensures same { IfOk result (λ m. (m ≡ Merged.Same → self.new ≡ self.old) × (self.new ≡ self.old → m ≡ Merged.Same)) }
+        ensures err { OnErr result (self.new ≡ self.old) }
+        ensures tree { IsTree self.new }
+    {
+        match self.merge_answer(ancestry) {
+            Ok(Merged::Changed) => {}
+            Ok(Merged::Same) => return Ok(Merged::Same),
             Err(contradiction) => {
                 let Contradiction {
                     child,
                     known,
                     given,
                 } = contradiction;
-                Err(TreeFault::Contradiction {
+                return Err(TreeFault::Contradiction {
                     child,
                     known,
                     given,
-                })
+                });
             }
         }
+        match self.merge_change(ancestry, content, origin) {
+            Ok(()) => Ok(Merged::Changed),
+            Err(_) => Err(TreeFault::Memory),
+        }
+    }
+
+    /// Merges an ancestry of which `merge_answer` says that the tree changes, without asking again.
+    pub fn merge_change(
+        &mut self,
+        ancestry: &Ancestry,
+        content: Content,
+        origin: Origin,
+    ) -> Result<(), AllocError>
+        requires { merge_answer self.old ancestry.now ≡ Ok Merged.Changed }
+        ensures ok { OnOk result (self.new ≡ merged self.old ancestry.now content origin) }
+        ensures err { OnErr result (self.new ≡ self.old) }
+        ensures tree { IsTree self.new }
+    {
+        let revs = ancestry.revs();
+        make_room(&mut self.nodes, &mut self.places, revs)?;
+        put(&mut self.nodes, &mut self.places, revs, content, origin);
+        Ok(())
     }
 }
 

@@ -1,9 +1,18 @@
 use Rattle.std.proofs.Common.{◌<◌, arith, sym, ap, ◌∙◌}
 use Rattle.rev_tree.specs.Content.{ContentValue}
-use Rattle.rev_tree.specs.Tree.{merged}
+use Rattle.rev_tree.specs.Tree.{merged, merge_answer}
 use Rattle.couch_base.specs.Database.{tree_of, with_tree, most}
-use Rattle.couch_base.proofs.Editing.{edited_from, after_edit-changed}
+use Rattle.couch_base.proofs.Editing.{edited_from, new_revision_changes, after_edit-changed}
 use Rattle.couch_base.proofs.database.Database.edit.Goals as goal
+
+pub write-requires-clause-change : goal.write-requires-clause-change
+write-requires-clause-change c =
+    let db = c.args.self.now in
+    let id = c.args.id.now in
+    let absent = sym c.has.ensures ∙ c.if-has.false in
+    let revs = c.in_ok-ancestry.ancestry in
+    let e = edited_from db id c.args.parent c.args.deleted c.args.body.now c.in_ok-before.before revs c.head-rev.result c.in_ok-before.ensures c.in_ok-ancestry.ensures c.head-rev.ensures absent in
+    ap (merge_answer (tree_of db.docs id)) e.whole ∙ new_revision_changes db c.update_seq-update_seq.ensures.law id c.head-rev.result c.in_ok-before.before absent
 
 pub returns-clause-ok : goal.returns-clause-ok
 returns-clause-ok c =

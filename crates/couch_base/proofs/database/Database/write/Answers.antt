@@ -1,15 +1,23 @@
 use Rattle.std.proofs.Common.{◌∙◌, ◌<◌, ◌+◌, subst, sym, ap, List, arith}
-use Rattle.rev_tree.specs.Tree.{merged}
+use Rattle.rev_tree.specs.Tree.{merged, merge_answer}
 use Rattle.couch_base.specs.Database.{DocumentValue, DatabaseValue, with_tree, tree_of, most}
 use Rattle.couch_base.specs.Table.{found, IsTable}
+use Rattle.couch_base.proofs.Found.{tree_of-documents}
 use Rattle.couch_base.proofs.Rising.{all_below}
 use Rattle.couch_base.proofs.Writing.{written_kept, written_documents}
 use Rattle.couch_base.specs.DocumentTreeLaws.{merged_document}
 use Rattle.couch_base.proofs.Laws.{lawful}
 use Rattle.couch_base.proofs.database.Database.write.Goals as goal
 
-pub write-requires : goal.write-requires
-write-requires c = all_below c.self.inside.index.entries c.self.inside.update_seq (c.self.inside.update_seq + 1) c.self.invariant.rising (omega arith)
+pub write-requires-clause-index : goal.write-requires-clause-index
+write-requires-clause-index c = all_below c.self.inside.index.entries c.self.inside.update_seq (c.self.inside.update_seq + 1) c.self.invariant.rising (omega arith)
+
+pub write-requires-clause-change : goal.write-requires-clause-change
+write-requires-clause-change c =
+    let kept = found c.self.inside.docs.entries in
+    ap (λ t. merge_answer t c.args.ancestry.now) (sym (tree_of-documents kept c.self.inside.index.entries c.self.inside.update_seq c.self.invariant c.args.id.now))
+    ∙ ap (λ (v : DatabaseValue). merge_answer (tree_of v.docs c.args.id.now) c.args.ancestry.now) c.self.view_is
+    ∙ c.requires.change
 
 kept : (c : goal.After-self-1) → IsTable (found c.write.new.docs.entries) c.write.new.index.entries (c.self.inside.update_seq + 1)
 kept c =

@@ -1,54 +1,20 @@
-use Rattle.std.proofs.Common.{◌≡◌, Ok, length, sym, ap, ◌∙◌, subst, ◌<◌, arith}
-use Rattle.rev_tree.specs.Tree.{IsTree, merged}
-use Rattle.rev_tree.specs.TreeLaws.{merged-same, IsTree-merged}
-use Rattle.rev_tree.specs.Nodes.{IsLinked, index_for, revs_in, tree_of}
-use Rattle.rev_tree.proofs.Linking.{length-revs_in}
-use Rattle.rev_tree.proofs.Indexing.{index_short}
-use Rattle.rev_tree.proofs.Answering.{none_from_answer, same_from_answer}
+use Rattle.std.proofs.Common.{◌≡◌, Ok, sym, ap, ◌∙◌}
+use Rattle.rev_tree.specs.TreeLaws.{merged-same}
+use Rattle.std.proofs.lemmas.Bool.{false≢true}
+use Rattle.rev_tree.proofs.Answering.{is_told_same, same_from_answer, changed_from_answer}
 use Rattle.rev_tree.proofs.tree.Tree.merge.Goals as goal
-use Rattle.rev_tree.proofs.tree.Tree.merge.Goals.{After-put}
-
-pub make_room-requires : goal.make_room-requires
-make_room-requires c =
-    let items = c.self.inside.nodes.items in
-    omega (arith, index_short (revs_in items) c.self.inside.places.entries c.self.invariant.index, length-revs_in items, c.self.inside.nodes.ok.0)
-
-pub put-requires-clause-index : goal.put-requires-clause-index
-put-requires-clause-index c = c.make_room.ensures.index ∙ c.self.invariant.index ∙ ap (λ l. index_for (revs_in l)) (sym c.make_room.ensures.nodes)
-
-pub put-requires-clause-linked : goal.put-requires-clause-linked
-put-requires-clause-linked c = subst IsLinked (sym c.make_room.ensures.nodes) c.self.invariant.linked
-
-pub put-requires-clause-some : goal.put-requires-clause-some
-put-requires-clause-some c = subst (λ l. 0 < length l) (sym c.revs-revs.ensures.all) c.revs-revs.ensures.ancestry.nonempty
 
 pub returns-in-Ok-Same-clause-ok : goal.returns-in-Ok-Same-clause-ok
 returns-in-Ok-Same-clause-ok c =
     let t = c.args.self.now in
     let revs = c.args.ancestry.now in
-    sym (merged-same t revs c.args.content c.args.origin (same_from_answer t revs (sym c.answer.ensures ∙ c.in-Ok-Same.is ∙ ap Ok c.in-Ok-Same.field-0-is)))
+    sym (merged-same t revs c.args.content c.args.origin (same_from_answer t revs (sym c.merge_answer.ensures.answer ∙ c.in-Ok-Same.is ∙ ap Ok c.in-Ok-Same.field-0-is)))
 
--- the nodes with the ancestry are the merged tree, which is a tree
-after : (c : After-put) → tree_of c.put.new.nodes.items ≡ merged c.args.self.now c.args.ancestry.now c.args.content c.args.origin
-after c =
-    c.put.ensures.tree
-    ∙ ap (λ l. merged (tree_of l) c.revs-revs.result.now c.args.content c.args.origin) c.make_room.ensures.nodes
-    ∙ ap (λ t. merged t c.revs-revs.result.now c.args.content c.args.origin) c.self.view_is
-    ∙ ap (λ revs. merged c.args.self.now revs c.args.content c.args.origin) c.revs-revs.ensures.all
-
-lawful : (c : After-put) → IsTree (tree_of c.put.new.nodes.items)
-lawful c =
+pub returns-in-Ok-clause-same : goal.returns-in-Ok-clause-same
+returns-in-Ok-clause-same c =
     let t = c.args.self.now in
     let revs = c.args.ancestry.now in
-    subst IsTree (sym (after c))
-    (IsTree-merged t revs c.args.content c.args.origin (subst IsTree c.self.view_is c.self.invariant.tree) c.revs-revs.ensures.ancestry
-    (none_from_answer t revs c.in-Ok-Changed.field-0 (sym c.answer.ensures ∙ c.in-Ok-Changed.is)))
-
-pub invariant_of-self-2 : goal.invariant_of-self-2
-invariant_of-self-2 c = record { index = c.put.ensures.index; linked = c.put.ensures.linked; tree = lawful c }
-
-pub returns-clause-ok : goal.returns-clause-ok
-returns-clause-ok c = after c
-
-pub returns-clause-tree : goal.returns-clause-tree
-returns-clause-tree c = lawful c
+    let changes = sym c.merge_answer.ensures.answer ∙ c.in-Ok-Changed.is ∙ ap Ok c.in-Ok-Changed.field-0-is in
+    let apart = changed_from_answer t revs c.args.content c.args.origin changes in
+    let is = sym c.in-Ok.ensures.ok in
+    (λ told. absurd (false≢true (ap is_told_same (ap Ok told))), λ stays. absurd (apart (is ∙ stays)))

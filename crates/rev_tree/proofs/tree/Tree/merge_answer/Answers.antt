@@ -5,11 +5,11 @@ use Rattle.rev_tree.specs.Tree.{IsTree, has_edge, first_contradiction, is_same, 
 use Rattle.rev_tree.specs.Nodes.{tree_of}
 use Rattle.rev_tree.proofs.Lookups.{is_some-copied}
 use Rattle.rev_tree.proofs.Answering.{answer_known, answer_missed}
-use Rattle.rev_tree.proofs.tree.Tree.answer.Goals as goal
-use Rattle.rev_tree.proofs.tree.Tree.answer.Goals.{else-all-via-then-all+else-is_some, else-all-via-else-all}
+use Rattle.rev_tree.proofs.tree.Tree.merge_answer.Goals as goal
+use Rattle.rev_tree.proofs.tree.Tree.merge_answer.Goals.{else-all-via-then-all+else-is_some, else-all-via-else-all}
 
-pub returns-then-is_some : goal.returns-then-is_some
-returns-then-is_some c =
+pub returns-then-is_some-clause-answer : goal.returns-then-is_some-clause-answer
+returns-then-is_some-clause-answer c =
     let t = c.args.self.now in
     let whole = ap tree_of c.deref.ensures.value ∙ c.self.view_is in
     let none = (λ i. first_contradiction (sym whole i).parents (edges_of (sym c.revs.ensures.all i))) ∙ c.in-Ok.ensures.none in
@@ -17,8 +17,8 @@ returns-then-is_some c =
     sym (answer_known t (subst IsTree c.self.view_is c.self.invariant.tree) c.args.ancestry.now c.head.result _ c.head.ensures none all
     (ap is_some (sym c.content.ensures) ∙ sym (is_some-copied c.content.result) ∙ sym c.is_some.ensures ∙ c.if-is_some.true))
 
-pub returns-else-all : goal.returns-else-all
-returns-else-all c =
+pub returns-else-all-clause-answer : goal.returns-else-all-clause-answer
+returns-else-all-clause-answer c =
     let t = c.args.self.now in
     let whole = ap tree_of c.deref.ensures.value ∙ c.self.view_is in
     let none = (λ i. first_contradiction (sym whole i).parents (edges_of (sym c.revs.ensures.all i))) ∙ c.in-Ok.ensures.none in
@@ -30,8 +30,8 @@ returns-else-all c =
       | else-all-via-else-all w ↦ sym (answer_missed t c.args.ancestry.now none (all ∙ w.if-all.false))
     ]
 
-pub returns-in-Err : goal.returns-in-Err
-returns-in-Err c =
+pub returns-in-Err-clause-answer : goal.returns-in-Err-clause-answer
+returns-in-Err-clause-answer c =
     let t = c.args.self.now in
     let whole = ap tree_of c.deref.ensures.value ∙ c.self.view_is in
     let told = (λ i. first_contradiction (sym whole i).parents (edges_of (sym c.revs.ensures.all i))) ∙ c.in-Err.ensures.contradiction in
