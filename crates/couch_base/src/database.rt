@@ -1,9 +1,9 @@
 //! Databases.
-ghost use Rattle.std.specs.Prelude.{◌≡◌, ◌<◌, ◌≤◌, ◌+◌, Ok, OnOk, OnErr, IfOk, IfErr, IfSome, None};
+ghost use Rattle.std.specs.Prelude.{◌≡◌, ◌<◌, ◌≤◌, ◌+◌, Ok, OnOk, OnErr, IfOk, IfErr, IfSome, None, ℕ, Bool, List, IsTrue};
 ghost use Rattle.std.specs.Option.{option_copied};
 ghost use Rattle.rev_tree.specs.Tree.{has, merged, merge_answer};
 
-use crate::edit::{content_of, edit_ancestry, parent_in};
+use crate::edit::{content_of, edit_ancestry, next_is_full, parent_in};
 use crate::fault::{BaseFault, Put};
 use crate::paging::{collect, page_end};
 use crate::table::{Index, Table, write};
@@ -52,7 +52,7 @@ impl Database {
     ghost use Rattle.couch_base.specs.Database.{LawfulDatabase, IsDocumentTree, no_documents, new_at_answer, tree_in, tree_of, with_tree, most};
     ghost use Rattle.doc_json.specs.Body.{IsBody};
     ghost use Rattle.couch_base.specs.Put.{put_answer, after_put, PutGives};
-    ghost use Rattle.couch_base.specs.Edit.{parent_answer, edit_answer, after_edit, EditGives};
+    ghost use Rattle.couch_base.specs.Edit.{parent_answer, edit_answer, after_edit, EditGives, needs_id};
     ghost use Rattle.couch_base.specs.Feed.{page_answer};
     ghost use Rattle.couch_base.specs.Answers.{GivesUnlessMemory};
 
@@ -127,29 +127,44 @@ impl Database {
         ensures err { OnErr result (self.new ≡ self.old) }
         ensures law { LawfulDatabase self.new }
     {
-        let update_seq = self.update_seq();
+        // The reading tells the proof that the database is lawful.
+        let _seq = self.update_seq();
+        let Put::Changed { .. } = self.put_answer(doc)? else {
+            return Ok(Put::Same);
+        };
+        let content = content_of(*self.docs.allocator(), doc.deleted(), doc.body())?;
+        let seq = self.write(doc.id(), doc.ancestry(), content, origin)?;
+        Ok(Put::Changed { seq })
+    }
+
+    /// What a put of the document answers where memory is left. It takes none.
+    pub fn put_answer(&self, doc: &Doc) -> Result<Put, BaseFault>
+        ensures { result ≡ put_answer self.now doc.now }
+    {
         match self.merge_answer(doc) {
-            Ok(Merged::Changed) => {}
-            Ok(Merged::Same) => return Ok(Put::Same),
+            Ok(Merged::Changed) => {
+                if self.update_seq < MOST {
+                    Ok(Put::Changed {
+                        seq: self.update_seq + 1,
+                    })
+                } else {
+                    Err(BaseFault::SeqFull)
+                }
+            }
+            Ok(Merged::Same) => Ok(Put::Same),
             Err(contradiction) => {
                 let Contradiction {
                     child,
                     known,
                     given,
                 } = contradiction;
-                return Err(BaseFault::Contradiction {
+                Err(BaseFault::Contradiction {
                     child,
                     known,
                     given,
-                });
+                })
             }
         }
-        if update_seq >= MOST {
-            return Err(BaseFault::SeqFull);
-        }
-        let content = content_of(*self.docs.allocator(), doc.deleted(), doc.body())?;
-        let seq = self.write(doc.id(), doc.ancestry(), content, origin)?;
-        Ok(Put::Changed { seq })
     }
 
     /// Edits a document: adds a revision behind a leaf, the first one of a document that is not there, or one behind the
@@ -187,6 +202,20 @@ impl Database {
         let content = content_of(alloc, deleted, body)?;
         self.write(id, &ancestry, content, origin)?;
         Ok(rev)
+    }
+
+    /// What `edit` refuses before it needs the new revision's id: `NoSuchDocument`, `Conflict` or `GenerationFull`. It takes no
+    /// memory.
+    pub fn check_edit(&self, id: &DocId, parent: Option<Rev>) -> Result<(), BaseFault>
+        ensures ok { OnOk result ((deleted : Bool) (body : List ℕ) → IsTrue (needs_id (edit_answer self.now id.now parent deleted body))) }
+        ensures err { IfErr result
+            (λ why. (deleted : Bool) (body : List ℕ) → edit_answer self.now id.now parent deleted body ≡ Err why) }
+    {
+        let before = self.parent_of(id, parent)?;
+        if next_is_full(before) {
+            return Err(BaseFault::GenerationFull);
+        }
+        Ok(())
     }
 
     /// The page of the changes feed above `since`, towards `goal`: its first `limit` rows.

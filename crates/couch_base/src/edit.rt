@@ -1,5 +1,5 @@
 //! What a local edit stands on, and what it brings.
-ghost use Rattle.std.specs.Prelude.{◌≡◌, ◌∷◌, Some, IfOk, IfErr};
+ghost use Rattle.std.specs.Prelude.{◌≡◌, ◌^◌, ◌∷◌, Some, not, nat_lt, IfOk, IfErr};
 ghost use Rattle.std.specs.Option.{option_to_list};
 ghost use Rattle.rev_core.specs.NewRev.{next_generation};
 ghost use Rattle.doc_json.specs.Body.{IsBody};
@@ -42,6 +42,16 @@ fn deleted_winner(tree: &Tree) -> Result<Option<Rev>, BaseFault>
         Ok(Some(winner))
     } else {
         Err(BaseFault::Conflict)
+    }
+}
+
+/// Whether no generation is left behind a revision.
+pub(crate) fn next_is_full(before: Option<Rev>) -> bool
+    ensures { result ≡ not (nat_lt (next_generation before) (2 ^ 32)) }
+{
+    match before {
+        Some(before) => before.generation() == u32::MAX,
+        None => false,
     }
 }
 
