@@ -140,6 +140,12 @@ fn puts_as_given(rt: HostRuntime) {
         (Call::Tree(A, "d"), "3-c of 3"),
         (Call::Node(A, "d", "2-b"), r#"1-a, Local(0), live {"n":1}"#),
         (Call::Tree(A, "e"), "no document"),
+        (Call::Document(A, "d", "2-b"), r#" d 2-b,1-a live {"n":1};"#),
+        (Call::Document(A, "d", "3-c"), " d 3-c,2-b,1-a live {};"),
+        // An ancestor that is known by its id alone, a revision and a document that are not there.
+        (Call::Document(A, "d", "1-a"), "no content"),
+        (Call::Document(A, "d", "2-x"), "no content"),
+        (Call::Document(A, "e", "2-b"), "no content"),
     ];
     Bench::new(&rt, rt.alloc(), &[0]).run(&rt, ROWS);
 }

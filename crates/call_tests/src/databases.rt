@@ -1,7 +1,7 @@
 //! Databases with what is read and fetched from them, and the calls on these by name.
 use crate::texts::{
-    asked_text, base_fault_text, body, doc, expect_answer, node_text, parcel_text, rev, rev_text,
-    shown, tree_text, window_text,
+    asked_text, base_fault_text, body, doc, doc_text, expect_answer, node_text, parcel_text, rev,
+    rev_text, shown, tree_text, window_text,
 };
 use couch_base::{Asked, BaseFault, Database, Parcel, Put, Window};
 use doc_json::DocId;
@@ -26,6 +26,8 @@ pub(crate) enum Call<'a> {
     Tree(usize, &'a str),
     /// Reads a revision of a document.
     Node(usize, &'a str, &'a str),
+    /// Reads the document at a revision.
+    Document(usize, &'a str, &'a str),
     /// Reads a page above a sequence, towards a goal, of some rows at most. It becomes the next window.
     Page(usize, u64, u64, u64),
     /// Copies a window, which becomes the next window.
@@ -100,6 +102,7 @@ impl Bench {
             }
             Call::Tree(at, id) => tree(alloc, self.databases.get(at)?, id),
             Call::Node(at, id, rev) => node(alloc, self.databases.get(at)?, id, rev),
+            Call::Document(at, id, rev) => document(alloc, self.databases.get(at)?, id, rev),
             Call::Page(at, since, goal, limit) => self.page(at, since, goal, limit),
             Call::Diff(at, window) => self.diff(at, window),
             Call::Fetch(at, asked) => self.fetch(at, asked),
@@ -264,4 +267,13 @@ pub(crate) fn tree(alloc: Global, db: &Database, id: &str) -> Option<String> {
 pub(crate) fn node(alloc: Global, db: &Database, id: &str, text: &str) -> Option<String> {
     let id = DocId::parse(alloc, id).ok()?;
     node_text(alloc, db.tree(&id)?, rev(text)?)
+}
+
+/// Reads the document at a revision.
+fn document(alloc: Global, db: &Database, id: &str, text: &str) -> Option<String> {
+    let id = DocId::parse(alloc, id).ok()?;
+    match db.document(alloc, &id, rev(text)?).ok()? {
+        Some(doc) => doc_text(alloc, &doc),
+        None => "no content".to_string(alloc).ok(),
+    }
 }

@@ -95,7 +95,7 @@ pub(crate) fn parcel_text(alloc: Global, parcel: &Parcel) -> Option<String> {
 }
 
 /// A fetched document: its id, its ancestry, whether it is deleted, and its body.
-fn doc_text(alloc: Global, doc: &Doc) -> Option<String> {
+pub(crate) fn doc_text(alloc: Global, doc: &Doc) -> Option<String> {
     let revs = revs_text(alloc, doc.ancestry().revs())?;
     let body = std::str::from_utf8(doc.body().text()).ok()?;
     let kind = if doc.deleted() { "deleted" } else { "live" };

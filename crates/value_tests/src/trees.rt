@@ -1,7 +1,7 @@
 //! The worked rows of trees as calls with the texts of their answers, and each call once with ample memory.
 use crate::texts::{ancestry, expect_answer, rev, rev_text, revs, revs_text, shown};
 use rev_core::Rev;
-use rev_tree::{Content, Origin, SessionId, Tree, TreeFault};
+use rev_tree::{Content, Merged, Origin, SessionId, Tree, TreeFault};
 use std::alloc::Global;
 use std::process::Abort;
 
@@ -34,6 +34,12 @@ enum Call<'a> {
     LeavesAbove(&'a [&'a str]),
     /// Reads which revisions are not there.
     Missing(&'a [&'a str]),
+    /// Asks what merging the ancestry of a generation and signatures would do.
+    Asked(u32, &'a [&'a str]),
+    /// Merges an ancestry that changes the tree, live, with an empty body, as the local write 0, without asking again.
+    Change(u32, &'a [&'a str]),
+    /// Asks whether the content of a revision deletes.
+    Deleted(&'a str),
 }
 
 /// Calls, each with the text that it must answer.
@@ -80,10 +86,24 @@ impl Bench {
                 let content = copied_content(alloc, deleted, body)?;
                 content_text(alloc, &content)
             }
+            Call::Change(start, ids) => self.change(start, ids),
             Call::Copy => self.copy_tree(),
             Call::WholeCopy => whole(alloc, self.copy.as_ref()?),
             reading => read(alloc, &self.tree, &reading),
         }
+    }
+
+    /// Merges what changes the tree.
+    fn change(&mut self, start: u32, ids: &[&str]) -> Option<String> {
+        let given = ancestry(self.alloc, start, ids)?;
+        let Ok(Merged::Changed) = self.tree.merge_answer(&given) else {
+            return None;
+        };
+        let content = Content::new(false, Vec::new(self.alloc));
+        self.tree
+            .merge_change(&given, content, Origin::Local(0))
+            .ok()?;
+        "merged".to_string(self.alloc).ok()
     }
 
     /// Copies the tree.
@@ -99,6 +119,8 @@ fn read(alloc: Global, tree: &Tree, call: &Call) -> Option<String> {
     match *call {
         Call::Whole => whole(alloc, tree),
         Call::Stands(text) => stands(alloc, tree, text),
+        Call::Asked(start, ids) => asked(alloc, tree, start, ids),
+        Call::Deleted(text) => shown(alloc, &tree.is_deleted(rev(text)?)),
         Call::Parent(text) => rev_text(alloc, tree.parent_of(rev(text)?)?),
         Call::Origin(text) => shown(alloc, &tree.origin(rev(text)?)),
         Call::Content(text) => content_text(alloc, tree.content(rev(text)?)?),
@@ -134,6 +156,18 @@ fn merge(
     match tree.merge(&given, content, origin) {
         Ok(merged) => shown(alloc, &merged),
         Err(fault) => fault_text(alloc, fault),
+    }
+}
+
+/// What merging an ancestry would do.
+fn asked(alloc: Global, tree: &Tree, start: u32, ids: &[&str]) -> Option<String> {
+    let given = ancestry(alloc, start, ids)?;
+    match tree.merge_answer(&given) {
+        Ok(merged) => shown(alloc, &merged),
+        Err(found) => {
+            let edge = revs_text(alloc, &[found.child, found.known, found.given])?;
+            format!(in alloc; "would contradict {edge}").ok()
+        }
     }
 }
 
@@ -202,6 +236,10 @@ static LIVE_ROWS: Rows = &[
         "winner 2-a, 2 of 3: 2-a by 2-a,1-r; 5-z by 5-z;",
     ),
     (Call::Content("5-z"), "deleted "),
+    (Call::Deleted("5-z"), "true"),
+    (Call::Deleted("2-a"), "false"),
+    // It is known by its id alone.
+    (Call::Deleted("1-r"), "false"),
 ];
 
 #[test]
@@ -268,6 +306,25 @@ static CONTRADICTION_ROWS: Rows = &[
 #[test]
 fn contradiction_in_each_place(rt: HostRuntime) {
     Bench::new(rt.alloc()).run(&rt, CONTRADICTION_ROWS);
+}
+
+/// Asking changes nothing.
+static ASKED_ROWS: Rows = &[
+    (Call::Asked(4, &["d", "c", "b", "a"]), "Changed"),
+    (Call::Change(4, &["d", "c", "b", "a"]), "merged"),
+    (Call::Asked(4, &["d", "c", "b", "a"]), "Same"),
+    // An ancestor has no content yet.
+    (Call::Asked(3, &["c", "b"]), "Changed"),
+    (
+        Call::Asked(4, &["d", "x", "b", "x"]),
+        "would contradict 4-d,3-c,3-x",
+    ),
+    (Call::Whole, KEPT),
+];
+
+#[test]
+fn a_merge_asked_first(rt: HostRuntime) {
+    Bench::new(rt.alloc()).run(&rt, ASKED_ROWS);
 }
 
 const FED: Origin = Origin::Feed(SessionId(1), 3);
