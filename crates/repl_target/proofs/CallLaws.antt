@@ -68,6 +68,11 @@ calls_law refuses source (c ∷ calls) p law from l =
 
 -- ---- the windows that are stored
 
+-- the window of a call is so
+abbrev pub Brings : (WindowValue → Type 0) → Call → Type 0
+Brings P (Append session window) = P window
+Brings P c = Unit {0}
+
 module _ (Q : SessionId → RepId → Type 0) (P : WindowValue → Type 0) where
   -- the windows of a session that is looked at
   pub Each : SessionValue → Type 0
@@ -152,13 +157,8 @@ module _ (Q : SessionId → RepId → Type 0) (P : WindowValue → Type 0) where
       go (Err fault) e = h
       go (Ok at) e = stored-after_documents refuses p at.0 at.1 (take n parcel.docs) (settle_told p id parcel at e).held h
 
-  -- the window of a call is so
-  pub Brings : Call → Type 0
-  Brings (Append session window) = P window
-  Brings c = Unit {0}
-
-  pub call_stores : (refuses : Document → Bool) (p : PeerValue) (c : Call) → Brings c → EachStored Q P p.sessions → EachStored Q P (after_call refuses p c).sessions
-  unfolding Each Brings
+  pub call_stores : (refuses : Document → Bool) (p : PeerValue) (c : Call) → Brings P c → EachStored Q P p.sessions → EachStored Q P (after_call refuses p c).sessions
+  unfolding Each
   call_stores refuses p (Load doc) b h = h
   call_stores refuses p (Edit id parent deleted body) b h = stored-edited p id deleted body (edited p.db id parent deleted body) h
   call_stores refuses p (Begin session rep base start goal at) b h = stored-begun p (new_session session rep base start goal at) (begin_answer p session rep base start goal) refl h
@@ -169,20 +169,19 @@ module _ (Q : SessionId → RepId → Type 0) (P : WindowValue → Type 0) where
   call_stores refuses p (Conclude session at) b h = stored-on p session (λ s. cond (low_water s.front == s.goal) (recorded_at at s) s) (stored-conclude at) h
 
 -- a call whose messages are the source's brings tied windows
-from_brings : (Q : SessionId → RepId → Type 0) (source : DatabaseValue) (c : Call) → LawfulDatabase source → IsFrom source c → Brings Q (IsTiedWindow source) c
-unfolding Brings
-from_brings Q source (Load doc) law from = tt
-from_brings Q source (Edit id parent deleted body) law from = tt
-from_brings Q source (Begin session rep base start goal at) law from = tt
-from_brings Q source (Append session window) law from = (page_window source window law from).2
-from_brings Q source (Settle session parcel) law from = tt
-from_brings Q source (Stop session parcel settled) law from = tt
-from_brings Q source (Record session at) law from = tt
-from_brings Q source (Conclude session at) law from = tt
+from_brings : (source : DatabaseValue) (c : Call) → LawfulDatabase source → IsFrom source c → Brings (IsTiedWindow source) c
+from_brings source (Load doc) law from = tt
+from_brings source (Edit id parent deleted body) law from = tt
+from_brings source (Begin session rep base start goal at) law from = tt
+from_brings source (Append session window) law from = (page_window source window law from).2
+from_brings source (Settle session parcel) law from = tt
+from_brings source (Stop session parcel settled) law from = tt
+from_brings source (Record session at) law from = tt
+from_brings source (Conclude session at) law from = tt
 
 pub calls_store : (Q : SessionId → RepId → Type 0) (refuses : Document → Bool) (source : DatabaseValue) (calls : List Call) (p : PeerValue) → LawfulDatabase source → AllFrom source calls → EachStored Q (IsTiedWindow source) p.sessions → EachStored Q (IsTiedWindow source) (after_calls refuses p calls).sessions
 calls_store Q refuses source [] p law from h = h
-calls_store Q refuses source (c ∷ calls) p law from h = calls_store Q refuses source calls (after_call refuses p c) law from.1 (call_stores Q (IsTiedWindow source) refuses p c (from_brings Q source c law from.0) h)
+calls_store Q refuses source (c ∷ calls) p law from h = calls_store Q refuses source calls (after_call refuses p c) law from.1 (call_stores Q (IsTiedWindow source) refuses p c (from_brings source c law from.0) h)
 
 -- ---- pairs of peers
 
