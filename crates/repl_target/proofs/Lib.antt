@@ -23,3 +23,10 @@ pub mod Settles
 pub mod Reading
 pub mod Parts
 pub mod Copies
+pub mod TiesLaws
+pub mod MessageTies
+pub mod CallLaws
+pub mod Covering
+pub mod Replicated
+pub mod Taken
+pub mod Refused

@@ -19,3 +19,6 @@ pub mod SettleParts
 pub mod Standing
 pub mod Local
 pub mod Replication
+pub mod Ties
+pub mod Calls
+pub mod Tied

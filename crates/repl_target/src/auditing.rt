@@ -2,7 +2,9 @@
 ghost use Rattle.std.specs.Prelude.{◌≡◌, not, IfOk, IfErr};
 ghost use Rattle.std.specs.List.{find};
 ghost use Rattle.repl_target.specs.Covered.{covers, first_uncovered};
-ghost use Rattle.repl_target.specs.Audit.{hole_under, audit_answer, hole_of, IsAudited};
+ghost use Rattle.couch_base.specs.Feed.{feed};
+ghost use Rattle.repl_target.specs.Audit.{audit_answer, hole_of, IsAudited};
+ghost use Rattle.repl_target.specs.Calls.{IsTiedPair};
 
 use crate::fault::{Audit, TargetFault};
 use crate::filter::WriteFilter;
@@ -18,7 +20,8 @@ const PAGE: u64 = 1000;
 /// Whether the target covers all that the two logs of the replication say is done: each leaf of the source's feed at or
 /// under the common checkpoint.
 ///
-/// It reads the source's feed in pages. The only error is `Memory`.
+/// Where the windows that the target stores of this replication are tied to the source's database, it is `Clean`. It reads
+/// the source's feed in pages. The only error is `Memory`.
 pub fn audit<F: WriteFilter, G: WriteFilter>(
     alloc: Global,
     source: &Peer<F>,
@@ -26,6 +29,7 @@ pub fn audit<F: WriteFilter, G: WriteFilter>(
 ) -> Result<Audit, TargetFault>
     ensures answer { IfOk result (λ a. hole_of a ≡ audit_answer source.now.1 target.now.1) }
     ensures clean { IfOk result (λ a. a ≡ Audit.Clean → IsAudited source.now.1 target.now.1) }
+    ensures tied { IfOk result (λ a. IsTiedPair source.now.1 target.now.1 → a ≡ Audit.Clean) }
     ensures err { IfErr result (λ e. e ≡ TargetFault.Memory) }
 {
     let rep = RepId {
@@ -35,23 +39,39 @@ pub fn audit<F: WriteFilter, G: WriteFilter>(
     let outgoing = source.source_log(alloc, &rep)?;
     let incoming = target.target_log(alloc, &rep)?;
     match common(&outgoing, &incoming) {
-        Some((_, recorded)) => audit_under(alloc, source, target, recorded),
+        Some((_, recorded)) => hole_within(alloc, source, target, 0, recorded),
         None => Ok(Audit::Clean),
     }
 }
 
-/// Whether the target covers each leaf of the source's feed at or under a sequence.
-fn audit_under<F: WriteFilter, G: WriteFilter>(
+/// Whether the target covers each leaf of the source's feed above a sequence, else the first that it doesn't.
+///
+/// It reads the feed in pages. The only error is `Memory`.
+pub fn hole_above<F: WriteFilter, G: WriteFilter>(
     alloc: Global,
     source: &Peer<F>,
     target: &Peer<G>,
-    recorded: u64,
+    since: u64,
 ) -> Result<Audit, TargetFault>
-    ensures answer { IfOk result (λ a. hole_of a ≡ hole_under source.now.1 target.now.1 recorded) }
+    ensures answer { IfOk result (λ a. hole_of a ≡ first_uncovered target.now.1 (feed source.now.1.db since source.now.1.db.update_seq)) }
     ensures err { IfErr result (λ e. e ≡ TargetFault.Memory) }
 {
-    let goal = recorded.min(source.db().update_seq());
-    let mut since = 0;
+    hole_within(alloc, source, target, since, source.db().update_seq())
+}
+
+/// Whether the target covers each leaf of the source's feed above a sequence, and at or under another.
+fn hole_within<F: WriteFilter, G: WriteFilter>(
+    alloc: Global,
+    source: &Peer<F>,
+    target: &Peer<G>,
+    above: u64,
+    upto: u64,
+) -> Result<Audit, TargetFault>
+    ensures answer { IfOk result (λ a. hole_of a ≡ first_uncovered target.now.1 (feed source.now.1.db above upto)) }
+    ensures err { IfErr result (λ e. e ≡ TargetFault.Memory) }
+{
+    let goal = upto.min(source.db().update_seq());
+    let mut since = above;
     while since < goal {
         let Ok(page) = source.page(alloc, since, goal, PAGE) else {
             return Err(TargetFault::Memory);

@@ -18,8 +18,8 @@ mod settle;
 mod stored;
 mod written;
 
-pub use auditing::audit;
+pub use auditing::{audit, hole_above};
 pub use fault::{Audit, Cause, Reason, Report, Settled, TargetFault};
 pub use filter::{Rules, Verdict, WriteFilter};
 pub use peer::Peer;
-pub use replication::{Plan, replicate_alone};
+pub use replication::{Plan, begin_plan, check_plan, record_at_source, replicate_alone};

@@ -2,7 +2,8 @@
 ghost use Rattle.std.specs.Prelude.{◌≡◌, ◌⊎◌, ℕ, ◌<◌, true, false, Some, Ok, Err, IfOk, IfErr, OnOk, OnErr};
 ghost use Rattle.couch_base.specs.Database.{LawfulDatabase};
 ghost use Rattle.repl_log.specs.Entry.{EntryValue};
-ghost use Rattle.repl_target.specs.Audit.{rep_between};
+ghost use Rattle.repl_target.specs.Audit.{rep_between, CoversFeed};
+ghost use Rattle.repl_target.specs.Calls.{IsTiedPair};
 ghost use Rattle.repl_target.specs.Peer.{SessionValue, session_in, entry_of};
 ghost use Rattle.repl_target.specs.Sessions.{session_answer, conclude_answer};
 ghost use Rattle.repl_target.specs.Replication.{Reading, is_batch, plan_answer, start_between, begins_answer, after_begins, Carries, WindowRefused, has_left, ReadsAll, ReadsUntil, closed, PutsOver, Closes, Replicates, CoversFrom, IsReported, IsEmpty, SameDocuments};
@@ -46,7 +47,35 @@ pub struct Plan {
 /// At `Ok` each leaf of the source's feed above the start is covered at the target, and the report is the session's. Where
 /// the target was empty and nothing failed, each document has the revisions, the parents and the contents of leaves that it
 /// has at the source. The source's database is unchanged, whatever the answer.
+///
+/// Where the windows that the target stores of this replication are tied to the source's database (docs/PROFILE.md, "Tied
+/// windows and messages"), they are so afterwards, whatever the answer; and at `Ok` each leaf of the source's whole feed is
+/// covered then, those at or under the start too.
 pub fn replicate_alone<F: WriteFilter, G: WriteFilter>(
+    alloc: Global,
+    source: &mut Peer<F>,
+    target: &mut Peer<G>,
+    plan: &Plan,
+) -> Result<Report, TargetFault>
+    ensures replicates { Replicates (G.refuses target.old.0) source.old.1 target.old.1 plan.now result source.new.1 target.new.1 }
+    ensures filters { (source.new.0 ≡ source.old.0) × (target.new.0 ≡ target.old.0) }
+    ensures source { source.new.1 ≡ record source.old.1 { outgoing = source.new.1.outgoing } }
+    ensures covered { OnOk result (CoversFrom source.old.1 target.new.1 (start_between source.old.1 target.old.1)) }
+    ensures report { IfOk result (λ report. IsReported source.old.1 target.old.1 target.new.1 plan.now report) }
+    ensures copied { IfOk result (λ report. IsEmpty target.old.1 → report.failures ≡ 0 → SameDocuments source.old.1.db target.new.1.db) }
+    ensures tied { IsTiedPair source.old.1 target.old.1 → IsTiedPair source.new.1 target.new.1 }
+    ensures whole { OnOk result (IsTiedPair source.old.1 target.old.1 → CoversFeed source.old.1 target.new.1 source.old.1.db.update_seq) }
+{
+    // The readings tell the proof the laws of both peers before, and that of the target after.
+    let _seq = source.db().update_seq();
+    let _uuid = target.db().uuid();
+    let answer = carry_all(alloc, source, target, plan);
+    let _uuid_after = target.db().uuid();
+    answer
+}
+
+/// The steps of a replication by one thread: `replicate_alone`.
+fn carry_all<F: WriteFilter, G: WriteFilter>(
     alloc: Global,
     source: &mut Peer<F>,
     target: &mut Peer<G>,
@@ -60,13 +89,14 @@ pub fn replicate_alone<F: WriteFilter, G: WriteFilter>(
     ensures copied { IfOk result (λ report. IsEmpty target.old.1 → report.failures ≡ 0 → SameDocuments source.old.1.db target.new.1.db) }
 {
     check_plan(source, target, plan)?;
-    let start = begin(alloc, source, target, plan)?;
+    let start = begin_plan(alloc, source, target, plan)?;
     read_windows(alloc, source, target, plan, start)?;
     close(source, target, plan)
 }
 
-/// `BadBatch` where the batch isn't 1 to 10,000; else `SamePeer` where the two databases have one UUID.
-fn check_plan<F: WriteFilter, G: WriteFilter>(
+/// Whether a plan can be begun: `BadBatch` where the batch isn't 1 to 10,000; else `SamePeer` where the two databases have
+/// one UUID.
+pub fn check_plan<F: WriteFilter, G: WriteFilter>(
     source: &Peer<F>,
     target: &Peer<G>,
     plan: &Plan,
@@ -82,8 +112,11 @@ fn check_plan<F: WriteFilter, G: WriteFilter>(
     Ok(())
 }
 
-/// Begins the session of a plan where the two logs agree, and answers its start.
-fn begin<F: WriteFilter, G: WriteFilter>(
+/// Begins the session of a plan where the two logs agree, and answers its start: at their common checkpoint, based on that
+/// session, or at 0 without one. Its goal is the source's update sequence.
+///
+/// `Memory` where a log finds none, else what `Peer::begin` refuses. A refusal changes nothing.
+pub fn begin_plan<F: WriteFilter, G: WriteFilter>(
     alloc: Global,
     source: &Peer<F>,
     target: &mut Peer<G>,
@@ -210,8 +243,10 @@ fn record_at_target<G: WriteFilter>(
     }
 }
 
-/// Puts the session's entry into the source's log; an older one is passed over.
-fn record_at_source<F: WriteFilter, G: WriteFilter>(
+/// Puts the entry of a plan's session, which the target holds, into the source's log; an older one is passed over.
+///
+/// The only error is `Memory`, which changes nothing.
+pub fn record_at_source<F: WriteFilter, G: WriteFilter>(
     source: &mut Peer<F>,
     target: &Peer<G>,
     plan: &Plan,

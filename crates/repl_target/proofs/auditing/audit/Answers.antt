@@ -1,13 +1,23 @@
 use Rattle.std.proofs.Common.{◌≡◌, IfOk, rules, sym, ap, ◌∙◌}
 use Rattle.std.proofs.lemmas.Result.{IfOk-weaker}
 use Rattle.repl_target.specs.Audit.{hole_of, audit_answer, IsAudited}
+use Rattle.repl_target.specs.Calls.{IsTiedPair}
 use Rattle.repl_target.specs.declared.fault.Audit.TheVariants.{Clean}
 use Rattle.repl_target.proofs.Feeds.{clean_is}
+use Rattle.repl_target.proofs.Covering.{clean_from, tied_none}
 use Rattle.repl_target.proofs.auditing.audit.Goals as goal
 
 pub returns-in-Some-clause-clean : goal.returns-in-Some-clause-clean
 returns-in-Some-clause-clean g c =
     let p = c.args.source.now.1 in
     let q = c.args.target.now.1 in
-    let told : IfOk c.audit_under.result (λ a. hole_of a ≡ audit_answer p q) = search rules in
-    IfOk-weaker c.audit_under.result (λ a. hole_of a ≡ audit_answer p q) (λ a. a ≡ Clean → IsAudited p q) (λ a h e. clean_is p q (sym h ∙ ap hole_of e)) told
+    let told : IfOk c.hole_within.result (λ a. hole_of a ≡ audit_answer p q) = search rules in
+    IfOk-weaker c.hole_within.result (λ a. hole_of a ≡ audit_answer p q) (λ a. a ≡ Clean → IsAudited p q) (λ a h e. clean_is p q (sym h ∙ ap hole_of e)) told
+
+pub returns-in-Some-clause-tied : goal.returns-in-Some-clause-tied
+returns-in-Some-clause-tied g c =
+    let p = c.args.source.now.1 in
+    let q = c.args.target.now.1 in
+    let told : IfOk c.hole_within.result (λ a. hole_of a ≡ audit_answer p q) = search rules in
+    IfOk-weaker c.hole_within.result (λ a. hole_of a ≡ audit_answer p q) (λ a. IsTiedPair p q → a ≡ Clean)
+    (λ a h tied. clean_from a (h ∙ tied_none (g.G.WriteFilter.refuses c.args.target.now.0) p q c.db-2.ensures.law tied)) told

@@ -4,23 +4,23 @@ use Rattle.couch_base.specs.Feed.{WindowValue, feed, page}
 use Rattle.repl_target.specs.Covered.{Leaf, covers, first_uncovered}
 use Rattle.repl_target.specs.Audit.{hole_of}
 use Rattle.repl_target.proofs.Feeds.{feed-hole, feed-passed, feed-none, feed-to, page_is}
-use Rattle.repl_target.proofs.auditing.audit_under.Goals as goal
+use Rattle.repl_target.proofs.auditing.hole_within.Goals as goal
 
 pub returns-in-Hole-clause-answer : goal.returns-in-Hole-clause-answer
 returns-in-Hole-clause-answer g c =
     let p = c.args.source.now.1 in
     let q = c.args.target.now.1 in
     let law = subst LawfulDatabase c.db.ensures.value c.update_seq.ensures.law in
-    let upto : c.min-goal.result ≡ min c.args.recorded p.db.update_seq =
-    c.min-goal.ensures ∙ ap (min c.args.recorded) (c.update_seq.ensures.seq ∙ ap (λ (d : DatabaseValue). d.update_seq) c.db.ensures.value) in
+    let upto : c.min-goal.result ≡ min c.args.upto p.db.update_seq =
+    c.min-goal.ensures ∙ ap (min c.args.upto) (c.update_seq.ensures.seq ∙ ap (λ (d : DatabaseValue). d.update_seq) c.db.ensures.value) in
     let u : Leaf = record { seq = c.in-Hole.seq; id = c.in-Hole.id; rev = c.in-Hole.rev } in
     let w = page_is p.db c.loop-since.since c.min-goal.result 1000 c.in-Ok.page c.in-Ok.ensures in
     let rows = c.rows.ensures.value ∙ ap (λ (v : WindowValue). v.rows) w in
     let found : first_uncovered q (page p.db c.loop-since.since c.min-goal.result 1000).rows ≡ Some u = sym (ap (first_uncovered q) rows) ∙ sym c.in_ok-found.ensures.answer ∙ ap hole_of c.in-Hole.is in
     let whole = feed-hole (covers q) p.db c.loop-since.since c.min-goal.result 1000 u law found in
     sym
-    (ap (first_uncovered q) (feed-to p.db 0 c.args.recorded law)
-    ∙ ap (λ n. first_uncovered q (feed p.db 0 n)) (sym upto)
+    (ap (first_uncovered q) (feed-to p.db c.args.above c.args.upto law)
+    ∙ ap (λ n. first_uncovered q (feed p.db c.args.above n)) (sym upto)
     ∙ sym c.loop-since.invariant
     ∙ whole)
 
@@ -42,10 +42,10 @@ returns-clause-answer g c =
     let p = c.args.source.now.1 in
     let q = c.args.target.now.1 in
     let law = subst LawfulDatabase c.db.ensures.value c.update_seq.ensures.law in
-    let upto : c.min-goal.result ≡ min c.args.recorded p.db.update_seq =
-    c.min-goal.ensures ∙ ap (min c.args.recorded) (c.update_seq.ensures.seq ∙ ap (λ (d : DatabaseValue). d.update_seq) c.db.ensures.value) in
+    let upto : c.min-goal.result ≡ min c.args.upto p.db.update_seq =
+    c.min-goal.ensures ∙ ap (min c.args.upto) (c.update_seq.ensures.seq ∙ ap (λ (d : DatabaseValue). d.update_seq) c.db.ensures.value) in
     sym
-    (ap (first_uncovered q) (feed-to p.db 0 c.args.recorded law)
-    ∙ ap (λ n. first_uncovered q (feed p.db 0 n)) (sym upto)
+    (ap (first_uncovered q) (feed-to p.db c.args.above c.args.upto law)
+    ∙ ap (λ n. first_uncovered q (feed p.db c.args.above n)) (sym upto)
     ∙ sym c.loop-since.invariant
     ∙ ap (first_uncovered q) (feed-none p.db c.loop-since.since c.min-goal.result c.loop-since-test.false))

@@ -1,0 +1,81 @@
+-- Calls on a target in any order, and what they leave: docs/PROFILE.md, "Sessions of a peer" and "Tied windows and
+-- messages".
+use Rattle.std.specs.Prelude.{◌≡◌, ℕ, ◌<◌, ◌≤◌, ◌^◌, Bool, List, [], ◌∷◌, Option}
+use Rattle.rev_core.specs.Rev.{RevId}
+use Rattle.rev_tree.specs.declared.origin.SessionId.{SessionId}
+use Rattle.doc_json.specs.Document.{Document}
+use Rattle.couch_base.specs.Lists.{Among}
+use Rattle.couch_base.specs.Database.{Id, DatabaseValue}
+use Rattle.couch_base.specs.Feed.{WindowValue, page}
+use Rattle.couch_base.specs.Messages.{ParcelValue, open_revs}
+use Rattle.repl_log.specs.declared.replication.RepId.{RepId}
+use Rattle.repl_target.specs.Peer.{PeerValue, SessionValue}
+use Rattle.repl_target.specs.Writing.{after_load, after_edit}
+use Rattle.repl_target.specs.Sessions.{after_begin, after_append, after_record, after_conclude}
+use Rattle.repl_target.specs.Settling.{after_settle, after_stop}
+use Rattle.repl_target.specs.Audit.{rep_between}
+use Rattle.repl_target.specs.Ties.{IsTiedWindow}
+
+-- a call on a target. `Stop` is a settling that found no memory after so many documents
+pub data Call : Type 0 where
+  Load : (doc : Document) → Call
+  Edit : (id : Id) (parent : Option RevId) (deleted : Bool) (body : List ℕ) → Call
+  Begin : (session : SessionId) (rep : RepId) (base : Option SessionId) (start goal at : ℕ) → Call
+  Append : (session : SessionId) (window : WindowValue) → Call
+  Settle : (session : SessionId) (parcel : ParcelValue) → Call
+  Stop : (session : SessionId) (parcel : ParcelValue) (settled : ℕ) → Call
+  Record : (session : SessionId) (at : ℕ) → Call
+  Conclude : (session : SessionId) (at : ℕ) → Call
+
+-- the target after it, also where it is refused
+abbrev pub after_call : (Document → Bool) → PeerValue → Call → PeerValue
+after_call refuses p (Load doc) = after_load p doc
+after_call refuses p (Edit id parent deleted body) = after_edit p id parent deleted body
+after_call refuses p (Begin session rep base start goal at) = after_begin p session rep base start goal at
+after_call refuses p (Append session window) = after_append p session window
+after_call refuses p (Settle session parcel) = after_settle refuses p session parcel
+after_call refuses p (Stop session parcel settled) = after_stop refuses p session parcel settled
+after_call refuses p (Record session at) = after_record p session at
+after_call refuses p (Conclude session at) = after_conclude p session at
+
+-- after some calls, in their order
+abbrev pub after_calls : (Document → Bool) → PeerValue → List Call → PeerValue
+after_calls refuses p [] = p
+after_calls refuses p (c ∷ calls) = after_calls refuses (after_call refuses p c) calls
+
+-- a page of a database
+pub record IsPageOf (db : DatabaseValue) (w : WindowValue) : Type 0 where
+  pub since : ℕ
+  pub goal : ℕ
+  pub limit : ℕ
+  pub some : 0 < limit
+  pub above : since < goal
+  pub within : goal ≤ db.update_seq
+  pub is : w ≡ page db since goal limit
+
+-- the messages of a call are what a source answers
+abbrev pub IsFrom : DatabaseValue → Call → Type 0
+IsFrom source (Append session window) = IsPageOf source window
+IsFrom source (Settle session parcel) = parcel ≡ open_revs source parcel.asked
+IsFrom source (Stop session parcel settled) = parcel ≡ open_revs source parcel.asked
+IsFrom source (Begin session rep base start goal at) = start < 2 ^ 64
+IsFrom source call = Unit {0}
+
+abbrev pub AllFrom : DatabaseValue → List Call → Type 0
+AllFrom source [] = Unit {0}
+AllFrom source (c ∷ calls) = IsFrom source c × AllFrom source calls
+
+-- a target is a given one after some calls, whose messages are what a source answers
+abbrev pub IsGrown : (Document → Bool) → DatabaseValue → PeerValue → PeerValue → Type 0
+IsGrown refuses source given now =
+    (calls : List Call) × AllFrom source calls × (now ≡ after_calls refuses given calls)
+
+-- each window of the sessions that are looked at is so
+abbrev pub EachStored : (SessionId → RepId → Type 0) → (WindowValue → Type 0) → List SessionValue → Type 0
+EachStored Q P sessions =
+    (s : SessionValue) → Among s sessions → Q s.id s.rep → (w : WindowValue) → Among w s.windows → P w
+
+-- the windows that the target stores of the replication from the source are tied to the source's database
+abbrev pub IsTiedPair : PeerValue → PeerValue → Type 0
+IsTiedPair source target =
+    EachStored (λ id rep. rep ≡ rep_between source target) (IsTiedWindow source.db) target.sessions

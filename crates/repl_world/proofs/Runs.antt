@@ -1,0 +1,133 @@
+-- Runs of steps, and what a tied world may be trusted for.
+use Rattle.std.proofs.Common.{◌≡◌, ℕ, suc, ◌+◌, ◌<◌, ◌≤◌, ◌==◌, List, [], ◌∷◌, ◌++◌, Bool, Option, Some, None, Result, Ok, Err, OnOk, OnErr, take, get_or, length, slice_get, take_all, refl, sym, ap, ◌∙◌, subst, inr, arith}
+use Rattle.std.proofs.Math.Seq.{take-suc}
+use Rattle.std.proofs.lemmas.Bool.{cond-true, eq-eqb}
+use Rattle.std.proofs.lemmas.Option.{slice_get-get_or}
+use Rattle.rev_tree.specs.declared.origin.SessionId.{SessionId}
+use Rattle.doc_json.specs.Document.{Document}
+use Rattle.couch_base.specs.ListLaws.{some_is}
+use Rattle.couch_base.specs.Feed.{WindowValue}
+use Rattle.couch_base.specs.Messages.{ParcelValue}
+use Rattle.repl_target.specs.Peer.{PeerValue}
+use Rattle.repl_target.specs.Sessions.{GivesUnlessMemory, append_answer, after_append}
+use Rattle.repl_target.specs.Law.{Lawful}
+use Rattle.repl_target.specs.Settling.{SettleGives}
+use Rattle.repl_target.specs.Ties.{IsTiedParcel}
+use Rattle.repl_target.specs.Tied.{stopped_at}
+use Rattle.repl_target.specs.declared.fault.Settled.{Settled}
+use Rattle.repl_target.specs.declared.fault.TargetFault.{TargetFault}
+use Rattle.repl_target.specs.declared.fault.TargetFault.TheVariants as faults
+use Rattle.repl_target.proofs.Covering.{honest_is, audited_is, tied_none}
+use Rattle.repl_target.proofs.Refused.{append_refused}
+use Rattle.repl_target.proofs.Replicated.{settle_left, settle_gives}
+use Rattle.repl_target.proofs.Taken.{own_covered}
+use Rattle.repl_world.specs.declared.fault.WorldFault.TheVariants.{SamePeer}
+use Rattle.repl_world.specs.declared.step.Step.{Step}
+use Rattle.repl_world.specs.Bags.{BagValue, empty_bag}
+use Rattle.repl_world.specs.Worlds.{WorldValue, new_world, new_answer, appends, settles, stops, happens, run, IsStopped, CutShort, StoppedIn}
+use Rattle.repl_world.specs.Tied.{IsWorld, Tied, HoldsNone, IsTrustworthy}
+use Rattle.repl_world.proofs.Steps.{happens_tied, cut_tied}
+
+-- ---- new worlds
+
+pub new_refused : {F : Type 0} (source target : F × PeerValue) → source.1.db.uuid ≡ target.1.db.uuid → Err SamePeer ≡ new_answer source target
+new_refused source target same = sym (cond-true (source.1.db.uuid == target.1.db.uuid) (Err SamePeer) (Ok ((source.0, target.0), new_world source.1 target.1)) (eq-eqb _ _ same))
+
+-- where the target holds no session of the replication, there is nothing that isn't tied
+pub new_tied : (source target : PeerValue) (bag : BagValue) → bag ≡ empty_bag → HoldsNone source target → Tied (record { source = source; target = target; bag = bag })
+new_tied source target bag is none =
+    subst (λ (b : BagValue). Tied (record { source = source; target = target; bag = b })) (sym is)
+    (record { stored = λ s m e w n. absurd (none s m e); windows = λ x m. absurd m; asked = λ a m. absurd m; parcels = λ p m. absurd m })
+
+-- ---- steps that were taken
+
+-- one step more
+pub run_more : (refuses : Document → Bool) (w : WorldValue) (xs : List Step) (x : Step) → run refuses w (xs ++ x ∷ []) ≡ happens refuses (run refuses w xs) x
+run_more refuses w [] x = refl
+run_more refuses w (y ∷ xs) x = run_more refuses (happens refuses w y) xs x
+
+-- the step at a place is the one behind those before it
+pub run_next : (refuses : Document → Bool) (w v now : WorldValue) (steps : List Step) (k : ℕ) (step : Step) → k < length steps → step ≡ get_or steps k step → v ≡ run refuses w (take k steps) → now ≡ happens refuses v step → now ≡ run refuses w (take (k + 1) steps)
+run_next refuses w v now steps k step within at before is =
+    is
+    ∙ ap (λ x. happens refuses x step) before
+    ∙ sym (run_more refuses w (take k steps) step)
+    ∙ sym (ap (run refuses w) (next steps k step within ∙ ap (λ x. take k steps ++ x ∷ []) (sym at)))
+  where
+    next : (steps : List Step) (k : ℕ) (d : Step) → k < length steps → take (k + 1) steps ≡ take k steps ++ get_or steps k d ∷ []
+    next steps k d h = let e : k + 1 ≡ suc k = omega arith in ap (λ n. take n steps) e ∙ take-suc steps k d h
+
+-- all of them
+pub run_all : (refuses : Document → Bool) (w v : WorldValue) (steps : List Step) (k : ℕ) → length steps ≤ k → v ≡ run refuses w (take k steps) → v ≡ run refuses w steps
+run_all refuses w v steps k over is = is ∙ ap (run refuses w) (take_all k steps over)
+
+-- where a step finds no memory
+pub stopped_at_step : {A E : Type 0} (refuses : Document → Bool) (w v now : WorldValue) (steps : List Step) (k : ℕ) (step : Step) (result : Result A E) → k < length steps → step ≡ get_or steps k step → v ≡ run refuses w (take k steps) → CutShort refuses v step now
+    → OnErr result (StoppedIn refuses w steps now)
+stopped_at_step refuses w v now steps k step (Ok done) within at before is = tt
+stopped_at_step refuses w v now steps k step (Err fault) within at before is =
+    (k, step, slice_get-get_or steps k step within ∙ ap Some (sym at), subst (λ x. CutShort refuses x step now) before is)
+
+-- whatever a step answers, the world stays tied
+pub taken_tied : {A E : Type 0} (refuses : Document → Bool) (w : WorldValue) (step : Step) (result : Result A E) (now : WorldValue) → IsWorld refuses w
+    → OnOk result (now ≡ happens refuses w step) → OnErr result (CutShort refuses w step now) → Tied w → Tied now
+taken_tied refuses w step (Ok done) now l ok err h = subst Tied (sym ok) (happens_tied refuses w step l h)
+taken_tied refuses w step (Err fault) now l ok err h = cut_tied refuses w step now l err h
+
+-- ---- settling
+
+module _ (refuses : Document → Bool) (w : WorldValue) (session : SessionId) (place : ℕ) (held : ℕ × ParcelValue) (there : slice_get w.bag.parcels place ≡ Some held) (parcel : ParcelValue) (same : parcel ≡ held.1) (result : Result Settled TargetFault) (q : PeerValue)
+    (gives : SettleGives refuses w.target session parcel result q) where
+  left : (o : Option ℕ) → stopped_at result ≡ o → q ≡ settle_left refuses w.target session held.1 o
+  left o is =
+      subst (λ p. q ≡ settle_left refuses w.target session held.1 p) is
+      (settle_gives refuses w.target session held.1 result q (subst (λ p. SettleGives refuses w.target session p result q) same gives))
+
+  pub settled_ok : {E : Type 0} (r : Result (Unit {0}) E) → OnOk r (stopped_at result ≡ None) → OnOk r (record w { target = q } ≡ settles refuses w session (slice_get w.bag.parcels place))
+  settled_ok (Ok done) h = ap (λ t. record w { target = t }) (left None h) ∙ sym (ap (settles refuses w session) there)
+  settled_ok (Err e) h = tt
+
+  pub settled_err : {E : Type 0} (r : Result (Unit {0}) E) → OnErr r ((n : ℕ) × (stopped_at result ≡ Some n)) → OnErr r (IsStopped refuses w session (slice_get w.bag.parcels place) (record w { target = q }))
+  settled_err (Ok done) h = tt
+  settled_err (Err e) h = inr (h.0, ap (λ t. record w { target = t }) (left (Some h.0) h.1) ∙ sym (ap (stops refuses w session h.0) there))
+
+-- ---- storing
+
+-- what is stored is what stood at that place, also where that is refused
+module _ (refuses : Document → Bool) (w : WorldValue) (session : SessionId) (place : ℕ) (x : WindowValue) (there : slice_get w.bag.windows place ≡ Some x) (window : WindowValue) (same : window ≡ x) (law : Lawful refuses w.target) (result : Result (Unit {0}) TargetFault) (q : PeerValue)
+    (answer : GivesUnlessMemory result (append_answer w.target session window)) (ok : OnOk result (q ≡ after_append w.target session window)) (err : OnErr result (q ≡ w.target)) where
+  Stores : PeerValue → Type 0
+  Stores p = record w { target = p } ≡ appends w session (slice_get w.bag.windows place)
+
+  stored : q ≡ after_append w.target session window → Stores q
+  unfolding Stores
+  stored is = ap (λ t. record w { target = t }) (is ∙ ap (after_append w.target session) same) ∙ sym (ap (appends w session) there)
+
+  pub appended_ok : {E : Type 0} (r : Result (Unit {0}) E) → OnOk r (result ≡ Err faults.Memory → ⊥) → OnOk r (record w { target = q } ≡ appends w session (slice_get w.bag.windows place))
+  unfolding Stores
+  appended_ok (Err e) h = tt
+  appended_ok (Ok done) h = go result refl answer ok err
+    where
+      go : (a : Result (Unit {0}) TargetFault) → result ≡ a → GivesUnlessMemory a (append_answer w.target session window) → OnOk a (q ≡ after_append w.target session window) → OnErr a (q ≡ w.target) → Stores q
+      go (Ok stored_now) e k is stays = stored is
+      go (Err faults.Memory) e k is stays = absurd (h e)
+      go (Err why) e k is stays = stored (stays ∙ sym (append_refused refuses w.target session window why law (sym k)))
+
+  pub appended_err : {E : Type 0} (r : Result (Unit {0}) E) → OnErr r (result ≡ Err faults.Memory) → OnErr r (record w { target = q } ≡ w)
+  appended_err (Ok done) h = tt
+  appended_err (Err e) h = ap (λ t. record w { target = t }) (subst (λ a. OnErr a (q ≡ w.target)) h err)
+
+-- ---- what a tied world may be trusted for
+
+pub trustworthy : (refuses : Document → Bool) (w : WorldValue) → IsWorld refuses w → Tied w → IsTrustworthy refuses w
+trustworthy refuses w l h =
+    record {
+      tied = h;
+      honest = honest_is refuses w.source w.target l.target h.stored;
+      common = audited_is refuses w.source w.target l.target h.stored;
+      clean = tied_none refuses w.source w.target l.target h.stored;
+      covered = λ p m s n x k own result q gives.
+          (let t = h.parcels p m in
+          let same : x ≡ t.window = some_is x t.window (sym own ∙ t.own) in
+          own_covered refuses w.target s x p.1 l.target n k (subst (λ v. IsTiedParcel w.target.db v p.1) (sym same) t.tied) (l.bag.parcels_are p m) result q gives);
+    }

@@ -1,0 +1,4 @@
+pub mod Bags
+pub mod WorldCode
+pub mod Worlds
+pub mod Tied

@@ -1,0 +1,67 @@
+-- Worlds whose messages and stored windows are the source's own: docs/PROFILE.md, "Worlds" and "Tied windows and messages".
+use Rattle.std.specs.Prelude.{◌≡◌, ℕ, Bool, false, Some, None, Result, slice_get}
+use Rattle.doc_json.specs.Document.{Document}
+use Rattle.couch_base.specs.Lists.{Among}
+use Rattle.couch_base.specs.Database.{LawfulDatabase}
+use Rattle.couch_base.specs.Feed.{WindowValue}
+use Rattle.couch_base.specs.Messages.{AskedValue, ParcelValue}
+use Rattle.repl_target.specs.Peer.{PeerValue, SessionValue}
+use Rattle.repl_target.specs.Settling.{SettleGives}
+use Rattle.repl_target.specs.Law.{Lawful}
+use Rattle.repl_target.specs.Audit.{rep_between, audit_answer, IsAudited}
+use Rattle.repl_target.specs.Ties.{IsTiedWindow, IsTiedAsked, IsTiedParcel}
+use Rattle.repl_target.specs.Calls.{IsTiedPair}
+use Rattle.repl_target.specs.Tied.{LogsAreHonest, is_uncovered}
+use Rattle.repl_target.specs.declared.fault.Settled.{Settled}
+use Rattle.repl_target.specs.declared.fault.TargetFault.{TargetFault}
+use Rattle.repl_world.specs.Bags.{IsBag}
+use Rattle.repl_world.specs.Worlds.{WorldValue}
+
+-- what the parts of a world keep by their types
+pub record IsWorld (refuses : Document → Bool) (w : WorldValue) : Type 0 where
+  pub source : LawfulDatabase w.source.db
+  pub target : Lawful refuses w.target
+  pub bag : IsBag w.bag
+
+-- ---- tied worlds
+
+-- an asked list, or a parcel, agrees with its own window, which stands at that place
+pub record OwnAsked (w : WorldValue) (place : ℕ) (a : AskedValue) : Type 0 where
+  pub window : WindowValue
+  pub own : slice_get w.bag.windows place ≡ Some window
+  pub tied : IsTiedAsked w.target.db window a
+
+pub record OwnParcel (w : WorldValue) (place : ℕ) (p : ParcelValue) : Type 0 where
+  pub window : WindowValue
+  pub own : slice_get w.bag.windows place ≡ Some window
+  pub tied : IsTiedParcel w.target.db window p
+
+pub record Tied (w : WorldValue) : Type 0 where
+  pub stored : IsTiedPair w.source w.target
+  pub windows : (x : WindowValue) → Among x w.bag.windows → IsTiedWindow w.source.db x
+  pub asked : (a : ℕ × AskedValue) → Among a w.bag.asked → OwnAsked w a.0 a.1
+  pub parcels : (p : ℕ × ParcelValue) → Among p w.bag.parcels → OwnParcel w p.0 p.1
+
+-- the target holds no session of the replication
+abbrev pub HoldsNone : PeerValue → PeerValue → Type 0
+HoldsNone source target = (s : SessionValue) → Among s target.sessions → s.rep ≡ rep_between source target → ⊥
+
+-- ---- what they may be trusted for
+
+-- no settling of a parcel of the bag tells a leaf that isn't covered, where the session stores the parcel's own window
+abbrev pub NeverUncovered : (Document → Bool) → WorldValue → Type 0
+NeverUncovered refuses w =
+    (p : ℕ × ParcelValue) → Among p w.bag.parcels
+    → (s : SessionValue) → Among s w.target.sessions
+    → (x : WindowValue) → Among x s.windows → slice_get w.bag.windows p.0 ≡ Some x
+    → (result : Result Settled TargetFault) (now : PeerValue) → SettleGives refuses w.target s.id p.1 result now
+    → is_uncovered result ≡ false
+
+-- the source's own feed: what both logs say is done is covered, the common checkpoint is so, an audit finds nothing, and no
+-- settling of a parcel for its own window does
+pub record IsTrustworthy (refuses : Document → Bool) (w : WorldValue) : Type 0 where
+  pub tied : Tied w
+  pub honest : LogsAreHonest w.source w.target
+  pub common : IsAudited w.source w.target
+  pub clean : audit_answer w.source w.target ≡ None
+  pub covered : NeverUncovered refuses w

@@ -1,0 +1,125 @@
+-- Two peers and a bag of messages, and what each step leaves: docs/PROFILE.md, "Worlds".
+use Rattle.std.specs.Prelude.{◌≡◌, ◌⊎◌, ℕ, ◌==◌, List, [], ◌∷◌, Bool, if◌then◌else◌, Option, Some, None, Result, Ok, Err, take, slice_get}
+use Rattle.rev_tree.specs.declared.origin.SessionId.{SessionId}
+use Rattle.doc_json.specs.Document.{Document}
+use Rattle.couch_base.specs.Feed.{WindowValue, page_answer}
+use Rattle.couch_base.specs.Messages.{AskedValue, ParcelValue, revs_diff, open_revs}
+use Rattle.couch_base.specs.declared.fault.BaseFault.{BaseFault}
+use Rattle.repl_log.specs.Entry.{EntryValue}
+use Rattle.repl_target.specs.Peer.{PeerValue, SessionValue, entry_of}
+use Rattle.repl_target.specs.Writing.{after_load, after_edit}
+use Rattle.repl_target.specs.Sessions.{session_answer, after_begin, after_append, after_record, after_conclude, conclude_answer}
+use Rattle.repl_target.specs.Settling.{after_settle, after_stop}
+use Rattle.repl_target.specs.Logs.{after_put_entry}
+use Rattle.repl_target.specs.Audit.{rep_between}
+use Rattle.repl_target.specs.declared.fault.TargetFault.{TargetFault}
+use Rattle.repl_world.specs.declared.fault.WorldFault.{WorldFault}
+use Rattle.repl_world.specs.declared.fault.WorldFault.TheVariants.{SamePeer}
+use Rattle.repl_world.specs.declared.step.Step.{Step}
+use Rattle.repl_world.specs.declared.step.Step.TheVariants.{EditSource, EditTarget, LoadSource, ThirdParty, Begin, Page, Append, Diff, Fetch, Settle, Record, Conclude, PutEntry, Crash}
+use Rattle.repl_world.specs.Bags.{BagValue, empty_bag, with_window, with_asked, with_parcel, told, told_where}
+
+pub record WorldValue : Type 0 where
+  pub source : PeerValue
+  pub target : PeerValue
+  pub bag : BagValue
+
+-- ---- a new world
+
+abbrev pub new_world : PeerValue → PeerValue → WorldValue
+new_world source target = record { source = source; target = target; bag = empty_bag }
+
+-- a database is not replicated into itself
+abbrev pub new_answer : {F : Type 0} → F × PeerValue → F × PeerValue → Result ((F × F) × WorldValue) WorldFault
+new_answer source target =
+    if source.1.db.uuid == target.1.db.uuid then Err SamePeer else Ok ((source.0, target.0), new_world source.1 target.1)
+
+-- ---- what each step leaves; a place that isn't in the bag changes nothing
+
+abbrev pub paged : WorldValue → Result WindowValue BaseFault → WorldValue
+paged w (Ok x) = record w { bag = with_window w.bag x }
+paged w (Err fault) = w
+
+abbrev pub appends : WorldValue → SessionId → Option WindowValue → WorldValue
+appends w session None = w
+appends w session (Some x) = record w { target = after_append w.target session x }
+
+abbrev pub differs : WorldValue → ℕ → Option WindowValue → WorldValue
+differs w place None = w
+differs w place (Some x) = record w { bag = with_asked w.bag (place, revs_diff w.target.db x) }
+
+abbrev pub fetches : WorldValue → Option (ℕ × AskedValue) → WorldValue
+fetches w None = w
+fetches w (Some a) = record w { bag = with_parcel w.bag (a.0, open_revs w.source.db a.1) }
+
+abbrev pub settles : (Document → Bool) → WorldValue → SessionId → Option (ℕ × ParcelValue) → WorldValue
+settles refuses w session None = w
+settles refuses w session (Some p) = record w { target = after_settle refuses w.target session p.1 }
+
+-- where a settling found no memory after n documents
+abbrev pub stops : (Document → Bool) → WorldValue → SessionId → ℕ → Option (ℕ × ParcelValue) → WorldValue
+stops refuses w session n None = w
+stops refuses w session n (Some p) = record w { target = after_stop refuses w.target session p.1 n }
+
+-- what a log says of a session as it is now
+abbrev pub entry_in : PeerValue → SessionId → Result EntryValue TargetFault
+entry_in p session = session_answer p session (λ (s : SessionValue). Ok (entry_of s))
+
+-- a session is recorded, and its entry, as it then is, goes into the bag
+abbrev pub records : WorldValue → SessionId → ℕ → WorldValue
+records w session at =
+    let now = after_record w.target session at in
+    record w { target = now; bag = told w.bag (entry_in now session) }
+
+-- a session is concluded, and so does its entry where it is
+abbrev pub concludes : WorldValue → SessionId → ℕ → WorldValue
+concludes w session at =
+    let now = after_conclude w.target session at in
+    record w { target = now; bag = told_where (conclude_answer w.target session) w.bag (entry_in now session) }
+
+abbrev pub puts : WorldValue → Option EntryValue → WorldValue
+puts w None = w
+puts w (Some e) = record w { source = after_put_entry w.source (rep_between w.source w.target) e }
+
+abbrev pub crashed : WorldValue → WorldValue
+crashed w = record w { bag = empty_bag }
+
+abbrev pub begins : WorldValue → SessionId → Option SessionId → ℕ → ℕ → ℕ → WorldValue
+begins w session base start goal at =
+    record w { target = after_begin w.target session (rep_between w.source w.target) base start goal at }
+
+abbrev pub happens : (Document → Bool) → WorldValue → Step → WorldValue
+happens refuses w (EditSource id parent deleted body) = record w { source = after_edit w.source id parent deleted body }
+happens refuses w (EditTarget id parent deleted body) = record w { target = after_edit w.target id parent deleted body }
+happens refuses w (LoadSource doc) = record w { source = after_load w.source doc }
+happens refuses w (ThirdParty doc) = record w { target = after_load w.target doc }
+happens refuses w (Begin session base start goal at) = begins w session base start goal at
+happens refuses w (Page since goal limit) = paged w (page_answer w.source.db since goal limit)
+happens refuses w (Append session window) = appends w session (slice_get w.bag.windows window)
+happens refuses w (Diff window) = differs w window (slice_get w.bag.windows window)
+happens refuses w (Fetch asked) = fetches w (slice_get w.bag.asked asked)
+happens refuses w (Settle session parcel) = settles refuses w session (slice_get w.bag.parcels parcel)
+happens refuses w (Record session at) = records w session at
+happens refuses w (Conclude session at) = concludes w session at
+happens refuses w (PutEntry entry) = puts w (slice_get w.bag.entries entry)
+happens refuses w Crash = crashed w
+
+-- after some steps, in their order
+abbrev pub run : (Document → Bool) → WorldValue → List Step → WorldValue
+run refuses w [] = w
+run refuses w (step ∷ steps) = run refuses (happens refuses w step) steps
+
+-- ---- where memory was wanting
+
+-- what a step leaves that found no memory: a settling is cut short after some documents, and any other changes nothing
+abbrev pub IsStopped : (Document → Bool) → WorldValue → SessionId → Option (ℕ × ParcelValue) → WorldValue → Type 0
+IsStopped refuses w session parcel now = (now ≡ w) ⊎ (n : ℕ) × (now ≡ stops refuses w session n parcel)
+
+abbrev pub CutShort : (Document → Bool) → WorldValue → Step → WorldValue → Type 0
+CutShort refuses w (Settle session parcel) now = IsStopped refuses w session (slice_get w.bag.parcels parcel) now
+CutShort refuses w step now = now ≡ w
+
+-- a run that found no memory: the steps before one are done, and that one is cut short
+abbrev pub StoppedIn : (Document → Bool) → WorldValue → List Step → WorldValue → Type 0
+StoppedIn refuses w steps now =
+    (k : ℕ) × (step : Step) × (slice_get steps k ≡ Some step) × CutShort refuses (run refuses w (take k steps)) step now

@@ -1,0 +1,13 @@
+//! Two peers and a bag of messages, under every order of steps: a crate of theorems.
+//!
+//! The rules stand in docs/PROFILE.md: "Worlds" and "Tied windows and messages".
+#![tactic(auto)]
+
+mod bag;
+mod fault;
+mod step;
+mod world;
+
+pub use fault::WorldFault;
+pub use step::Step;
+pub use world::World;

@@ -1,0 +1,415 @@
+//! Worlds.
+ghost use Rattle.std.specs.Prelude.{◌≡◌, ℕ, Some, None, Err, IfOk, OnOk, OnErr};
+ghost use Rattle.repl_target.specs.Tied.{stopped_at};
+ghost use Rattle.repl_target.specs.declared.fault.TargetFault.TheVariants as faults;
+
+use crate::bag::Bag;
+use crate::fault::WorldFault;
+use crate::step::Step;
+use couch_base::BaseFault;
+use doc_json::{Body, Doc, DocId};
+use repl_log::{Moment, RepId};
+use repl_target::{Cause, Peer, Settled, TargetFault, WriteFilter};
+use rev_core::Rev;
+use rev_tree::SessionId;
+use std::alloc::{AllocError, Global};
+use std::marker::Model;
+
+/// A source, a target, and a bag of windows, asked lists, parcels and entries.
+#[derive(Drop)]
+pub struct World<F: WriteFilter> {
+    source: Peer<F>,
+    target: Peer<F>,
+    bag: Bag,
+}
+
+impl<F: WriteFilter> Model for World<F> {
+    ghost use Rattle.std.specs.Coded.{coded×};
+    ghost use Rattle.repl_world.specs.Worlds.{WorldValue};
+    ghost use Rattle.repl_world.specs.WorldCode.{coded_world};
+
+    ghost Value = { (F × F) × WorldValue };
+
+    ghost coded = { coded× (coded× F.code F.code) coded_world };
+
+    ghost view = { λ w. (
+      (w.source.0, w.target.0),
+      record { source = w.source.1; target = w.target.1; bag = w.bag },
+    ) };
+}
+
+impl<F: WriteFilter + Drop> World<F> {
+    ghost use Rattle.repl_world.specs.Worlds.{new_answer};
+    ghost use Rattle.repl_world.specs.Tied.{IsWorld, Tied, HoldsNone};
+
+    /// A world of two peers, with an empty bag. It grows by `alloc`.
+    ///
+    /// `SamePeer` where the two databases have one UUID. A world whose target holds no session of the replication from the
+    /// source is tied.
+    pub fn new(alloc: Global, source: Peer<F>, target: Peer<F>) -> Result<World<F>, WorldFault>
+        ensures answer { result ≡ new_answer source target }
+        ensures tied { IfOk result (λ w. HoldsNone source.1 target.1 → Tied w.1) }
+        ensures world { IfOk result (λ w. IsWorld (F.refuses w.0.1) w.1) }
+    {
+        // Readings of the source tell the proof that its database is lawful.
+        let _seq = source.db().update_seq();
+        if source.db().uuid() == target.db().uuid() {
+            return Err(WorldFault::SamePeer);
+        }
+        let bag = Bag::new(alloc);
+        Ok(World {
+            source,
+            target,
+            bag,
+        })
+    }
+}
+
+impl<F: WriteFilter> World<F> {
+    ghost use Rattle.std.specs.Prelude.{length, slice_get};
+    ghost use Rattle.couch_base.specs.Feed.{page_answer};
+    ghost use Rattle.repl_target.specs.Writing.{after_load, after_edit};
+    ghost use Rattle.repl_world.specs.Worlds.{paged, appends, differs, fetches, settles, stops, records, concludes, puts, begins, happens, run, IsStopped, CutShort, StoppedIn};
+    ghost use Rattle.repl_world.specs.Tied.{IsWorld, Tied, IsTrustworthy};
+
+    /// The source.
+    pub fn source(&self) -> &Peer<F>
+        ensures { result.now ≡ (self.now.0.0, self.now.1.source) }
+    {
+        &self.source
+    }
+
+    /// The target.
+    pub fn target(&self) -> &Peer<F>
+        ensures { result.now ≡ (self.now.0.1, self.now.1.target) }
+    {
+        &self.target
+    }
+
+    /// How many windows, asked lists, parcels and entries the bag holds.
+    pub fn bag_sizes(&self) -> (usize, usize, usize, usize)
+        ensures sizes { result ≡ (length self.now.1.bag.windows, length self.now.1.bag.asked, length self.now.1.bag.parcels, length self.now.1.bag.entries) }
+        ensures world { IsWorld (F.refuses self.now.0.1) self.now.1 }
+    {
+        // Readings of the peers tell the proof their laws.
+        let _seq = self.source.db().update_seq();
+        let _uuid = self.target.db().uuid();
+        self.bag.sizes()
+    }
+
+    /// Takes steps in their order.
+    ///
+    /// A step that is refused leaves what that refusal leaves, and one whose place isn't in the bag changes nothing. Where
+    /// memory is wanting in a step, the world is that of the steps before it, or, in a settling, after `Stopped` of it.
+    ///
+    /// Where the world was tied, it is tied then, and may be trusted: what both logs say is done is covered of the source's
+    /// feed as it is now.
+    pub fn run(&mut self, alloc: Global, steps: &[Step]) -> Result<(), AllocError>
+        ensures filters { self.new.0 ≡ self.old.0 }
+        ensures ok { OnOk result (self.new.1 ≡ run (F.refuses self.old.0.1) self.old.1 steps.now) }
+        ensures memory { OnErr result (StoppedIn (F.refuses self.old.0.1) self.old.1 steps.now self.new.1) }
+        ensures trust { Tied self.old.1 → IsTrustworthy (F.refuses self.new.0.1) self.new.1 }
+    {
+        let answer = self.take_all(alloc, steps);
+        // The reading tells the proof what the world's parts keep.
+        let _sizes = self.bag_sizes();
+        answer
+    }
+
+    /// Takes steps in their order.
+    fn take_all(&mut self, alloc: Global, steps: &[Step]) -> Result<(), AllocError>
+        ensures filters { self.new.0 ≡ self.old.0 }
+        ensures ok { OnOk result (self.new.1 ≡ run (F.refuses self.old.0.1) self.old.1 steps.now) }
+        ensures memory { OnErr result (StoppedIn (F.refuses self.old.0.1) self.old.1 steps.now self.new.1) }
+        ensures tied { Tied self.old.1 → Tied self.new.1 }
+    {
+        for step in steps {
+            self.take(alloc, step)?;
+        }
+        Ok(())
+    }
+
+    /// Takes a step.
+    fn take(&mut self, alloc: Global, step: &Step) -> Result<(), AllocError>
+        ensures filters { self.new.0 ≡ self.old.0 }
+        ensures ok { OnOk result (self.new.1 ≡ happens (F.refuses self.old.0.1) self.old.1 step.now) }
+        ensures err { OnErr result (CutShort (F.refuses self.old.0.1) self.old.1 step.now self.new.1) }
+        ensures tied { Tied self.old.1 → Tied self.new.1 }
+    {
+        // The reading tells the proof what the world's parts keep.
+        let _sizes = self.bag_sizes();
+        self.do_step(alloc, step)
+    }
+
+    /// Does what a step says.
+    fn do_step(&mut self, alloc: Global, step: &Step) -> Result<(), AllocError>
+        ensures filters { self.new.0 ≡ self.old.0 }
+        ensures ok { OnOk result (self.new.1 ≡ happens (F.refuses self.old.0.1) self.old.1 step.now) }
+        ensures err { OnErr result (CutShort (F.refuses self.old.0.1) self.old.1 step.now self.new.1) }
+    {
+        match step {
+            Step::EditSource {
+                id,
+                parent,
+                deleted,
+                body,
+            } => self.edit_source(id, *parent, *deleted, body),
+            Step::EditTarget {
+                id,
+                parent,
+                deleted,
+                body,
+            } => self.edit_target(id, *parent, *deleted, body),
+            Step::LoadSource(doc) => self.load_source(doc),
+            Step::ThirdParty(doc) => self.load_target(doc),
+            Step::Begin {
+                session,
+                base,
+                start,
+                goal,
+                at,
+            } => self.begin(*session, *base, *start, *goal, *at),
+            Step::Page { since, goal, limit } => self.page(alloc, *since, *goal, *limit),
+            Step::Append { session, window } => self.append(alloc, *session, *window),
+            Step::Diff { window } => self.diff(alloc, *window),
+            Step::Fetch { asked } => self.fetch(alloc, *asked),
+            Step::Settle { session, parcel } => self.settle(alloc, *session, *parcel),
+            Step::Record { session, at } => self.record(*session, *at),
+            Step::Conclude { session, at } => self.conclude(*session, *at),
+            Step::PutEntry { entry } => self.put_entry(*entry),
+            Step::Crash => {
+                self.bag.clear();
+                Ok(())
+            }
+        }
+    }
+
+    /// An edit at the source.
+    fn edit_source(
+        &mut self,
+        id: &DocId,
+        parent: Option<Rev>,
+        deleted: bool,
+        body: &Body,
+    ) -> Result<(), AllocError>
+        ensures filters { self.new.0 ≡ self.old.0 }
+        ensures ok { OnOk result (self.new.1 ≡ record self.old.1 { source = after_edit self.old.1.source id.now parent deleted body.now }) }
+        ensures err { OnErr result (self.new.1 ≡ self.old.1) }
+    {
+        match self.source.edit(id, parent, deleted, body) {
+            Ok(_) => Ok(()),
+            Err(BaseFault::Memory) => Err(AllocError),
+            Err(_) => Ok(()),
+        }
+    }
+
+    /// An edit at the target.
+    fn edit_target(
+        &mut self,
+        id: &DocId,
+        parent: Option<Rev>,
+        deleted: bool,
+        body: &Body,
+    ) -> Result<(), AllocError>
+        ensures filters { self.new.0 ≡ self.old.0 }
+        ensures ok { OnOk result (self.new.1 ≡ record self.old.1 { target = after_edit self.old.1.target id.now parent deleted body.now }) }
+        ensures err { OnErr result (self.new.1 ≡ self.old.1) }
+    {
+        match self.target.edit(id, parent, deleted, body) {
+            Ok(_) => Ok(()),
+            Err(BaseFault::Memory) => Err(AllocError),
+            Err(_) => Ok(()),
+        }
+    }
+
+    /// A document is put at the source as it is given.
+    fn load_source(&mut self, doc: &Doc) -> Result<(), AllocError>
+        ensures filters { self.new.0 ≡ self.old.0 }
+        ensures ok { OnOk result (self.new.1 ≡ record self.old.1 { source = after_load self.old.1.source doc.now }) }
+        ensures err { OnErr result (self.new.1 ≡ self.old.1) }
+    {
+        match self.source.load(doc) {
+            Ok(_) => Ok(()),
+            Err(BaseFault::Memory) => Err(AllocError),
+            Err(_) => Ok(()),
+        }
+    }
+
+    /// A document is put at the target as it is given.
+    fn load_target(&mut self, doc: &Doc) -> Result<(), AllocError>
+        ensures filters { self.new.0 ≡ self.old.0 }
+        ensures ok { OnOk result (self.new.1 ≡ record self.old.1 { target = after_load self.old.1.target doc.now }) }
+        ensures err { OnErr result (self.new.1 ≡ self.old.1) }
+    {
+        match self.target.load(doc) {
+            Ok(_) => Ok(()),
+            Err(BaseFault::Memory) => Err(AllocError),
+            Err(_) => Ok(()),
+        }
+    }
+
+    /// A session of the replication begins at the target.
+    fn begin(
+        &mut self,
+        session: SessionId,
+        base: Option<SessionId>,
+        start: u64,
+        goal: u64,
+        at: Moment,
+    ) -> Result<(), AllocError>
+        ensures filters { self.new.0 ≡ self.old.0 }
+        ensures ok { OnOk result (self.new.1 ≡ begins self.old.1 session base start goal at) }
+        ensures err { OnErr result (self.new.1 ≡ self.old.1) }
+    {
+        let rep = RepId {
+            source: self.source.db().uuid(),
+            target: self.target.db().uuid(),
+        };
+        match self.target.begin(session, rep, base, start, goal, at) {
+            Ok(()) => Ok(()),
+            Err(TargetFault::Memory) => Err(AllocError),
+            Err(_) => Ok(()),
+        }
+    }
+
+    /// A page of the source's feed goes into the bag.
+    fn page(&mut self, alloc: Global, since: u64, goal: u64, limit: u64) -> Result<(), AllocError>
+        ensures filters { self.new.0 ≡ self.old.0 }
+        ensures ok { OnOk result (self.new.1 ≡ paged self.old.1 (page_answer self.old.1.source.db since goal limit)) }
+        ensures err { OnErr result (self.new.1 ≡ self.old.1) }
+    {
+        match self.source.page(alloc, since, goal, limit) {
+            Ok(window) => self.bag.put_window(window),
+            Err(BaseFault::Memory) => Err(AllocError),
+            Err(_) => Ok(()),
+        }
+    }
+
+    /// A window of the bag is stored for a session.
+    fn append(&mut self, alloc: Global, session: SessionId, place: usize) -> Result<(), AllocError>
+        ensures filters { self.new.0 ≡ self.old.0 }
+        ensures ok { OnOk result (self.new.1 ≡ appends self.old.1 session (slice_get self.old.1.bag.windows place)) }
+        ensures err { OnErr result (self.new.1 ≡ self.old.1) }
+    {
+        let Some(window) = self.bag.window(place) else {
+            return Ok(());
+        };
+        let Ok(window) = window.copy(alloc) else {
+            return Err(AllocError);
+        };
+        // The reading tells the proof that no session's id comes twice.
+        let _uuid = self.target.db().uuid();
+        unless_memory(self.target.append(session, window))
+    }
+
+    /// What the target misses of a window of the bag goes into the bag.
+    fn diff(&mut self, alloc: Global, place: usize) -> Result<(), AllocError>
+        ensures filters { self.new.0 ≡ self.old.0 }
+        ensures ok { OnOk result (self.new.1 ≡ differs self.old.1 place (slice_get self.old.1.bag.windows place)) }
+        ensures err { OnErr result (self.new.1 ≡ self.old.1) }
+    {
+        let Some(window) = self.bag.window(place) else {
+            return Ok(());
+        };
+        let Ok(asked) = self.target.revs_diff(alloc, window) else {
+            return Err(AllocError);
+        };
+        self.bag.put_asked(place, asked)
+    }
+
+    /// What the source has of an asked list of the bag goes into the bag.
+    fn fetch(&mut self, alloc: Global, place: usize) -> Result<(), AllocError>
+        ensures filters { self.new.0 ≡ self.old.0 }
+        ensures ok { OnOk result (self.new.1 ≡ fetches self.old.1 (slice_get self.old.1.bag.asked place)) }
+        ensures err { OnErr result (self.new.1 ≡ self.old.1) }
+    {
+        let Some((window, asked)) = self.bag.asked(place) else {
+            return Ok(());
+        };
+        let window = *window;
+        let Ok(parcel) = self.source.open_revs(alloc, asked) else {
+            return Err(AllocError);
+        };
+        self.bag.put_parcel(window, parcel)
+    }
+
+    /// A parcel of the bag is settled for a session.
+    fn settle(&mut self, alloc: Global, session: SessionId, place: usize) -> Result<(), AllocError>
+        ensures filters { self.new.0 ≡ self.old.0 }
+        ensures ok { OnOk result (self.new.1 ≡ settles (F.refuses self.old.0.1) self.old.1 session (slice_get self.old.1.bag.parcels place)) }
+        ensures err { OnErr result (IsStopped (F.refuses self.old.0.1) self.old.1 session (slice_get self.old.1.bag.parcels place) self.new.1) }
+    {
+        let Some(held) = self.bag.parcel(place) else {
+            return Ok(());
+        };
+        let Ok(parcel) = held.1.copy(alloc) else {
+            return Err(AllocError);
+        };
+        found_memory(self.target.settle(session, parcel))
+    }
+
+    /// A session is recorded, and its entry goes into the bag.
+    fn record(&mut self, session: SessionId, at: Moment) -> Result<(), AllocError>
+        ensures filters { self.new.0 ≡ self.old.0 }
+        ensures ok { OnOk result (self.new.1 ≡ records self.old.1 session at) }
+        ensures err { OnErr result (self.new.1 ≡ self.old.1) }
+    {
+        self.bag.record(&mut self.target, session, at)
+    }
+
+    /// A session is concluded; where it is, its entry goes into the bag.
+    fn conclude(&mut self, session: SessionId, at: Moment) -> Result<(), AllocError>
+        ensures filters { self.new.0 ≡ self.old.0 }
+        ensures ok { OnOk result (self.new.1 ≡ concludes self.old.1 session at) }
+        ensures err { OnErr result (self.new.1 ≡ self.old.1) }
+    {
+        self.bag.conclude(&mut self.target, session, at)
+    }
+
+    /// An entry of the bag is put into the source's log.
+    fn put_entry(&mut self, place: usize) -> Result<(), AllocError>
+        ensures filters { self.new.0 ≡ self.old.0 }
+        ensures ok { OnOk result (self.new.1 ≡ puts self.old.1 (slice_get self.old.1.bag.entries place)) }
+        ensures err { OnErr result (self.new.1 ≡ self.old.1) }
+    {
+        let Some(entry) = self.bag.entry(place) else {
+            return Ok(());
+        };
+        let rep = RepId {
+            source: self.source.db().uuid(),
+            target: self.target.db().uuid(),
+        };
+        match self.source.put_entry(&rep, entry) {
+            Err(TargetFault::Memory) => Err(AllocError),
+            _ => Ok(()),
+        }
+    }
+}
+
+/// Whether an answer is another one than that memory is wanting.
+fn unless_memory(answer: Result<(), TargetFault>) -> Result<(), AllocError>
+    ensures ok { OnOk result (answer ≡ Err faults.Memory → ⊥) }
+    ensures err { OnErr result (answer ≡ Err faults.Memory) }
+{
+    match answer {
+        Err(TargetFault::Memory) => Err(AllocError),
+        _ => Ok(()),
+    }
+}
+
+/// Whether a settling found memory.
+fn found_memory(answer: Result<Settled, TargetFault>) -> Result<(), AllocError>
+    ensures ok { OnOk result (stopped_at answer ≡ None) }
+    ensures err { OnErr result ((n : ℕ) × (stopped_at answer ≡ Some n)) }
+{
+    match answer {
+        Err(
+            TargetFault::Stopped {
+                settled: _,
+                rest: _,
+                cause: Cause::Memory,
+            },
+        ) => Err(AllocError),
+        _ => Ok(()),
+    }
+}
