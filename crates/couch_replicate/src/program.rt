@@ -1,12 +1,12 @@
 //! The program: its command line, its standard input and output, and its exit status.
 ghost use Rattle.std.specs.Prelude.{◌≡◌, ◌≤◌, IfErr};
-ghost use Rattle.couch_replicate.specs.Faults.{status_of};
+ghost use Rattle.couch_replicate.specs.Status.{status_of};
 
-use crate::device::{OverRead, OverWrite};
-use crate::script::{ScriptFault, run_script};
-use crate::settings::Settings;
 use clap::error::ErrorKind;
 use clap::{Arg, ArgAction, ArgMatches, Command, Error, value_parser};
+use script_databases::Settings;
+use script_engine::{OverRead, OverWrite, ScriptFault};
+use script_words::run_script;
 use std::alloc::{AllocError, Global};
 use std::env::Env;
 use std::io::{BufWriter, Eprint, Input, Print, Write};

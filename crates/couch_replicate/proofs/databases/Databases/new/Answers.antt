@@ -1,8 +1,0 @@
-use Rattle.std.proofs.Common.{ap, ◌∙◌}
-use Rattle.couch_replicate.specs.Databases.{no_databases}
-use Rattle.couch_replicate.specs.Tables.{program_of}
-use Rattle.couch_replicate.proofs.IndexLemmas.{index_none, none_deny, empty_is}
-use Rattle.couch_replicate.proofs.databases.Databases.new.Goals as goal
-
-pub invariant_of-result : goal.invariant_of-result
-invariant_of-result c = (index_none _ c.new.result.entries c.new-2.result.keys c.new.ensures.empty c.new-2.ensures.empty, none_deny _ c.new.result.entries c.new.ensures.empty)

@@ -1,0 +1,167 @@
+-- The numbers of the databases' UUIDs, beside the databases.
+use Rattle.std.proofs.Common.{◌≡◌, ℕ, Bool, true, false, cond, List, [], refl, sym, ap, subst, ◌∙◌, Option, Some, None, Result, Ok, Err}
+use Rattle.std.specs.Prelude.{nat_eq, OnOk, OnErr, option_map}
+use Rattle.std.specs.List.{list_any}
+use Rattle.std.specs.Ordering.{eq_by_cmp, is_eq}
+use Rattle.std.specs.Map.{lookup}
+use Rattle.std.specs.FinMap.{get, insert, get-insert, get-empty}
+use Rattle.std.proofs.lemmas.Bool.{true≢false, eqb-true, eq-eqb, cond_both}
+use Rattle.std.proofs.lemmas.Cmp.{nat_list_cmp_total, tied_itself}
+use Rattle.std.proofs.lemmas.Map.Text.{is_text}
+use Rattle.rev_core.specs.Rev.{RevId}
+use Rattle.rev_tree.specs.declared.origin.Origin.{Origin}
+use Rattle.doc_json.specs.Document.{Document}
+use Rattle.couch_base.specs.Database.{DatabaseValue}
+use Rattle.couch_base.specs.Put.{after_put, put_answer, is_changed}
+use Rattle.couch_base.specs.Edit.{edited, edit_document}
+use Rattle.couch_base.specs.ListLaws.{some_is, none_some}
+use Rattle.couch_base.specs.declared.fault.BaseFault.{BaseFault}
+use Rattle.repl_target.specs.Peer.{PeerValue}
+use Rattle.repl_target.specs.Writing.{after_edit, after_load, load_edited, next_local}
+use Rattle.repl_target.specs.declared.filter.Rules.{Rules}
+use Rattle.script_databases.specs.Databases.{Program, State, peer_at, with_peer, no_databases, IsTaken, text_cmp, changed_at, with_changed}
+use Rattle.script_databases.specs.declared.refusal.Refusal.{Refusal}
+use Rattle.script_databases.specs.Tables.{Entries, peers_of, state_of, IsIndex, AllDeny, deny_of, denied_of}
+use Rattle.script_databases.proofs.TableLemmas.{text_cmp-IsAntisymmetric, is_equal, get-by_text}
+
+-- ---- looking up
+
+same_option : {A : Type 0} (o : Option A) → option_map (λ x. x) o ≡ o
+same_option None = refl
+same_option (Some x) = refl
+
+-- what a table has at a name is what the state has there
+pub found_at : (g : Program) (es : Entries) (s : State) (q : List ℕ) → state_of g es ≡ s → option_map (λ p. p.1) (lookup (is_text q) es) ≡ peer_at s q
+found_at g es s q e = sym (get-by_text (λ p. p.1) es q) ∙ ap (λ t. peer_at t q) e
+
+-- a table with one written
+pub state_with : (g : Program) (old new : Entries) (name : List ℕ) (u : PeerValue) → peers_of new ≡ insert (peers_of old) name u → state_of g new ≡ with_peer (state_of g old) name u
+state_with g old new name u e = ap (λ m. let s : State = record { program = g; peers = m } in s) e
+
+pub same_state : {A : Type 0} (g : Program) (r : Result A Refusal) (old new : Entries) → OnErr r (peers_of new ≡ peers_of old) → OnErr r (state_of g new ≡ state_of g old)
+same_state g (Ok x) old new e = tt
+same_state g (Err why) old new e = ap (λ m. let s : State = record { program = g; peers = m } in s) e
+
+-- ---- no databases
+
+pub empty_is : (g : Program) (es : Entries) → es ≡ [] → state_of g es ≡ no_databases g
+empty_is g es e = ap (state_of g) e
+
+pub index_none : (g : Program) (es : Entries) (uuids : List ℕ) → es ≡ [] → uuids ≡ [] → IsIndex (state_of g es) uuids
+index_none g es uuids e f = record {
+  noted = λ u h. absurd (true≢false (sym h ∙ ap (list_any (nat_eq u)) f));
+  taken = λ u t. absurd (none_some t.1 (sym (get-empty text_cmp t.0) ∙ sym (ap (λ x. peer_at (state_of g x) t.0) e) ∙ t.2));
+}
+
+pub none_deny : (deny : Option (List ℕ)) (es : Entries) → es ≡ [] → AllDeny deny es
+none_deny deny es e = λ name d h. absurd (none_some d (sym (get-empty text_cmp name) ∙ sym (ap (λ x. get (denied_of x) name) e) ∙ h))
+
+-- ---- one more, or one changed
+
+-- what stands at a name after it
+at_name : (s : State) (name : List ℕ) (l : PeerValue) (q : List ℕ) → peer_at (with_peer s name l) q ≡ cond (eq_by_cmp text_cmp q name) (Some l) (peer_at s q)
+at_name s name l q = get-insert nat_list_cmp_total s.peers name l q
+
+-- the name is the one that was written, or it stands there as before
+pub split : (s : State) (name : List ℕ) (l : PeerValue) (q : List ℕ) (P : Type 0) → (q ≡ name → peer_at (with_peer s name l) q ≡ Some l → P) → (peer_at (with_peer s name l) q ≡ peer_at s q → P) → P
+split s name l q P f g =
+    elim (eq_by_cmp text_cmp q name) as (λ b. eq_by_cmp text_cmp q name ≡ b → P) [
+      | true ↦ λ e. f (text_cmp-IsAntisymmetric q name (is_equal _ e)) (at_name s name l q ∙ ap (λ b. cond b (Some l) (peer_at s q)) e)
+      | false ↦ λ e. g (at_name s name l q ∙ ap (λ b. cond b (Some l) (peer_at s q)) e)
+    ] refl
+
+written_is : (s : State) (name : List ℕ) (l : PeerValue) → peer_at (with_peer s name l) name ≡ Some l
+written_is s name l = at_name s name l name ∙ ap (λ o. cond (is_eq o) (Some l) (peer_at s name)) (tied_itself nat_list_cmp_total name)
+
+both_true : (b : Bool) → cond b true true ≡ true
+both_true true = refl
+both_true false = refl
+
+pub index_added : (old new : State) (name : List ℕ) (l : PeerValue) (uuids more : List ℕ) (k : ℕ) → IsIndex old uuids → peer_at old name ≡ None → new ≡ with_peer old name l → k ≡ l.db.uuid →
+    ((q : ℕ) → list_any (nat_eq q) more ≡ cond (nat_eq k q) true (list_any (nat_eq q) uuids)) → IsIndex new more
+index_added old new name l uuids more k index absent is e h = record {
+  noted = λ u among.
+      elim (nat_eq k u) as (λ b. nat_eq k u ≡ b → IsTaken new u) [
+        | true ↦ λ t. (name, l, ap (λ s. peer_at s name) is ∙ written_is old name l, sym e ∙ eqb-true k u t)
+        | false ↦ λ t.
+            let known = index.noted u (sym (h u ∙ ap (λ b. cond b true (list_any (nat_eq u) uuids)) t) ∙ among) in
+            split old name l known.0 (IsTaken new u)
+            (λ q _. absurd (none_some known.1 (sym absent ∙ ap (peer_at old) (sym q) ∙ known.2)))
+            (λ same. (known.0, known.1, ap (λ s. peer_at s known.0) is ∙ same ∙ known.2, known.3))
+      ] refl;
+  taken = λ u t.
+      let found : peer_at (with_peer old name l) t.0 ≡ Some t.1 = ap (λ s. peer_at s t.0) (sym is) ∙ t.2 in
+      split old name l t.0 (list_any (nat_eq u) more ≡ true)
+      (λ _ here.
+      let one : l ≡ t.1 = some_is l t.1 (sym here ∙ found) in
+      h u ∙ ap (λ b. cond b true (list_any (nat_eq u) uuids)) (eq-eqb k u (e ∙ ap (λ (x : PeerValue). x.db.uuid) one ∙ t.3)))
+      (λ same. h u ∙ ap (λ b. cond (nat_eq k u) true b) (index.taken u (t.0, t.1, sym same ∙ found, t.3)) ∙ both_true (nat_eq k u));
+}
+
+pub index_written : (old new : State) (name : List ℕ) (l m : PeerValue) (uuids : List ℕ) → IsIndex old uuids → peer_at old name ≡ Some l → new ≡ with_peer old name m → m.db.uuid ≡ l.db.uuid → IsIndex new uuids
+index_written old new name l m uuids index there is e = record {
+  noted = λ u among.
+      let known = index.noted u among in
+      split old name m known.0 (IsTaken new u)
+      (λ q here.
+      let one : l ≡ known.1 = some_is l known.1 (sym there ∙ ap (peer_at old) (sym q) ∙ known.2) in
+      (known.0, m, ap (λ s. peer_at s known.0) is ∙ here, e ∙ ap (λ (x : PeerValue). x.db.uuid) one ∙ known.3))
+      (λ same. (known.0, known.1, ap (λ s. peer_at s known.0) is ∙ same ∙ known.2, known.3));
+  taken = λ u t.
+      let found : peer_at (with_peer old name m) t.0 ≡ Some t.1 = ap (λ s. peer_at s t.0) (sym is) ∙ t.2 in
+      split old name m t.0 (list_any (nat_eq u) uuids ≡ true)
+      (λ q here.
+      let one : m ≡ t.1 = some_is m t.1 (sym here ∙ found) in
+      index.taken u (t.0, l, ap (peer_at old) q ∙ there, sym e ∙ ap (λ (x : PeerValue). x.db.uuid) one ∙ t.3))
+      (λ same. index.taken u (t.0, t.1, sym same ∙ found, t.3));
+}
+
+-- a change that keeps the UUID keeps the numbers
+index_changed : (old new : State) (name : List ℕ) (f : PeerValue → PeerValue) (uuids : List ℕ) → ((l : PeerValue) → (f l).db.uuid ≡ l.db.uuid) → IsIndex old uuids → new ≡ changed_at old name f → IsIndex new uuids
+index_changed old new name f uuids keeps index is = by (peer_at old name) refl
+  where
+    by : (o : Option PeerValue) → peer_at old name ≡ o → IsIndex new uuids
+    by None e = subst (λ s. IsIndex s uuids) (sym (is ∙ ap (with_changed old name f) e)) index
+    by (Some l) e = index_written old new name l (f l) uuids index e (is ∙ ap (with_changed old name f) e) (keeps l)
+
+pub index_kept : {A : Type 0} (r : Result A Refusal) (old new : State) (name : List ℕ) (f : PeerValue → PeerValue) (uuids : List ℕ) → ((l : PeerValue) → (f l).db.uuid ≡ l.db.uuid) → IsIndex old uuids → OnOk r (new ≡ changed_at old name f) → OnErr r (new ≡ old) → IsIndex new uuids
+index_kept (Ok x) old new name f uuids keeps index ok err = index_changed old new name f uuids keeps index ok
+index_kept (Err e) old new name f uuids keeps index ok err = subst (λ s. IsIndex s uuids) (sym err) index
+
+-- ---- neither a load nor an edit changes the UUID
+
+put_keeps : (db : DatabaseValue) (d : Document) (o : Origin) → (after_put db d o).uuid ≡ db.uuid
+put_keeps db d o = cond_both (is_changed (put_answer db d)) _ db (λ (x : DatabaseValue). x.uuid ≡ db.uuid) (λ _. refl) (λ _. refl)
+
+pub load_keeps : (d : Document) (l : PeerValue) → (after_load l d).db.uuid ≡ l.db.uuid
+load_keeps d l = put_keeps l.db d (next_local l)
+
+edited_keeps : (l : PeerValue) (id : List ℕ) (deleted : Bool) (body : List ℕ) (e : Result (RevId × Option RevId) BaseFault) → (load_edited l id deleted body e).db.uuid ≡ l.db.uuid
+edited_keeps l id deleted body (Ok e) = load_keeps (edit_document id e deleted body) l
+edited_keeps l id deleted body (Err fault) = refl
+
+pub edit_keeps : (id : List ℕ) (parent : Option RevId) (deleted : Bool) (body : List ℕ) (l : PeerValue) → (after_edit l id parent deleted body).db.uuid ≡ l.db.uuid
+edit_keeps id parent deleted body l = edited_keeps l id deleted body (edited l.db id parent deleted body)
+
+-- ---- what the peers refuse
+
+-- one more that refuses the same
+pub deny_added : (deny : Option (List ℕ)) (old new : Entries) (name : List ℕ) (d : Option (List ℕ)) → AllDeny deny old → d ≡ deny → denied_of new ≡ insert (denied_of old) name d → AllDeny deny new
+deny_added deny old new name d all e is = λ q found h.
+    let at : cond (eq_by_cmp text_cmp q name) (Some d) (get (denied_of old) q) ≡ Some found = sym (get-insert nat_list_cmp_total (denied_of old) name d q) ∙ sym (ap (λ m. get m q) is) ∙ h in
+    elim (eq_by_cmp text_cmp q name) as (λ b. cond b (Some d) (get (denied_of old) q) ≡ Some found → found ≡ deny) [
+      | true ↦ λ k. sym (some_is d found k) ∙ e
+      | false ↦ λ k. all q found k
+    ] at
+
+pub deny_kept : (deny : Option (List ℕ)) (old new : Entries) → AllDeny deny old → denied_of new ≡ denied_of old → AllDeny deny new
+deny_kept deny old new all e = λ q found h. all q found (sym (ap (λ m. get m q) e) ∙ h)
+
+-- one was added, or nothing was changed
+pub kept_or_added : {A E : Type 0} (r : Result A E) (g : Program) (old new : Entries) (name : List ℕ) (p : Rules × PeerValue) (uuids more : List ℕ) → IsIndex (state_of g old) uuids → AllDeny g.deny old → peer_at (state_of g old) name ≡ None → deny_of p.0 ≡ g.deny →
+    OnOk r (peers_of new ≡ insert (peers_of old) name p.1) → OnOk r (denied_of new ≡ insert (denied_of old) name (deny_of p.0)) → OnOk r ((q : ℕ) → list_any (nat_eq q) more ≡ cond (nat_eq p.1.db.uuid q) true (list_any (nat_eq q) uuids)) →
+    OnErr r ((new ≡ old) × (more ≡ uuids)) → IsIndex (state_of g new) more × AllDeny g.deny new
+kept_or_added (Ok x) g old new name p uuids more index all absent denies peers filters noted err =
+    (index_added (state_of g old) (state_of g new) name p.1 uuids more p.1.db.uuid index absent (state_with g old new name p.1 peers) refl noted, deny_added g.deny old new name (deny_of p.0) all denies filters)
+kept_or_added (Err e) g old new name p uuids more index all absent denies peers filters noted err =
+    (subst (λ es. IsIndex (state_of g es) more) (sym err.0) (subst (λ us. IsIndex (state_of g old) us) (sym err.1) index), deny_kept g.deny old new all (ap denied_of err.0))

@@ -1,0 +1,5 @@
+pub mod TableLemmas
+pub mod NamedLemmas
+pub mod IndexLemmas
+pub mod UuidLemmas
+pub mod CarryingLemmas

@@ -1,0 +1,10 @@
+use Rattle.std.proofs.Common.{ap, sym, ◌∙◌}
+use Rattle.std.specs.FinMap.{contains_key}
+use Rattle.script_databases.specs.Databases.{State}
+use Rattle.script_databases.proofs.TableLemmas.{contains_key-by_text}
+use Rattle.script_databases.proofs.databases.Databases.has.Goals as goal
+
+pub returns : goal.returns
+returns c =
+    c.contains_key.ensures ∙ sym (contains_key-by_text (λ p. p.1) c.self.inside.by_name.entries c.args.name.now)
+    ∙ ap (λ (s : State). contains_key s.peers c.args.name.now) c.self.view_is

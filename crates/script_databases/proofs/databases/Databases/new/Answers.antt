@@ -1,0 +1,8 @@
+use Rattle.std.proofs.Common.{ap, ◌∙◌}
+use Rattle.script_databases.specs.Databases.{no_databases}
+use Rattle.script_databases.specs.Tables.{program_of}
+use Rattle.script_databases.proofs.IndexLemmas.{index_none, none_deny, empty_is}
+use Rattle.script_databases.proofs.databases.Databases.new.Goals as goal
+
+pub invariant_of-result : goal.invariant_of-result
+invariant_of-result c = (index_none _ c.new.result.entries c.new-2.result.keys c.new.ensures.empty c.new-2.ensures.empty, none_deny _ c.new.result.entries c.new.ensures.empty)

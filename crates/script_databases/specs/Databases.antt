@@ -1,0 +1,91 @@
+-- The databases of a script: docs/PROFILE.md, "Command lines".
+use Rattle.std.specs.Prelude.{◌≡◌, ℕ, Bool, List, Option, Some, None, Result, Ok, Err, refl}
+use Rattle.std.specs.declared.cmp.Ordering.{Ordering}
+use Rattle.std.specs.Ordering.{nat_cmp}
+use Rattle.std.specs.Cmp.Lexicographic.{slice_cmp}
+use Rattle.std.specs.Coded.{Coded, code_by, coded×, coded_ℕ, coded_list, coded_option}
+use Rattle.std.specs.FinMap as finmap
+use Rattle.std.specs.FinMap.{FinMap}
+use Rattle.rev_core.specs.Rev.{RevId}
+use Rattle.doc_json.specs.Document.{Document}
+use Rattle.couch_base.specs.Put.{put_answer}
+use Rattle.couch_base.specs.Edit.{edit_answer}
+use Rattle.couch_base.specs.declared.fault.Put.{Put}
+use Rattle.couch_base.specs.declared.fault.BaseFault.{BaseFault}
+use Rattle.repl_target.specs.Peer.{PeerValue}
+use Rattle.repl_target.specs.PeerCode.{coded_peer}
+use Rattle.repl_target.specs.Writing.{after_load, after_edit}
+use Rattle.script_databases.specs.Refusals.{told_as, base_refusal}
+use Rattle.script_databases.specs.declared.databases.Edited.{Edited}
+use Rattle.script_databases.specs.declared.refusal.Refusal.{Refusal}
+use Rattle.script_databases.specs.declared.refusal.Refusal.TheVariants as why
+
+-- the order of texts, byte by byte
+abbrev pub text_cmp : List ℕ → List ℕ → Ordering
+text_cmp = slice_cmp nat_cmp
+
+-- what the program is set to: the beginning of the ids that a target refuses, and the moment, the workers and the batch of
+-- replications that name none
+pub record Program : Type 0 where
+  pub deny : Option (List ℕ)
+  pub at : ℕ
+  pub workers : ℕ
+  pub batch : ℕ
+
+-- what the program is set to, which no line changes, and the peers by name
+pub record State : Type 0 where
+  pub program : Program
+  pub peers : FinMap text_cmp PeerValue
+
+abbrev pub coded_state : Coded State
+coded_state = code_by (Option (List ℕ) × (ℕ × (ℕ × (ℕ × FinMap text_cmp PeerValue))))
+    (coded× (coded_option (coded_list coded_ℕ)) (coded× coded_ℕ (coded× coded_ℕ (coded× coded_ℕ (finmap.code (coded_list coded_ℕ) coded_peer)))))
+    (λ s. (s.program.deny, (s.program.at, (s.program.workers, (s.program.batch, s.peers)))))
+    (λ p. record { program = record { deny = p.0; at = p.1.0; workers = p.1.1.0; batch = p.1.1.1.0 }; peers = p.1.1.1.1 })
+    (λ _. refl)
+
+abbrev pub no_databases : Program → State
+no_databases program = record { program = program; peers = finmap.empty }
+
+-- the peer of a name, where one has it
+abbrev pub peer_at : State → List ℕ → Option PeerValue
+peer_at s name = finmap.get s.peers name
+
+-- the state with this peer under a name
+abbrev pub with_peer : State → List ℕ → PeerValue → State
+with_peer s name p = record s { peers = finmap.insert s.peers name p }
+
+-- a database has the UUID of that number
+abbrev pub IsTaken : State → ℕ → Type 0
+IsTaken s uuid = (name : List ℕ) × (p : PeerValue) × (peer_at s name ≡ Some p) × (p.db.uuid ≡ uuid)
+
+-- the state with one of the peers changed; as it was where none has the name
+abbrev pub with_changed : State → List ℕ → (PeerValue → PeerValue) → Option PeerValue → State
+with_changed s name f None = s
+with_changed s name f (Some p) = with_peer s name (f p)
+
+abbrev pub changed_at : State → List ℕ → (PeerValue → PeerValue) → State
+changed_at s name f = with_changed s name f (peer_at s name)
+
+-- ---- a document loaded into one of them
+
+abbrev pub load_answer : Option PeerValue → Document → Result Put Refusal
+load_answer None doc = Err why.NoDatabase
+load_answer (Some l) doc = told_as base_refusal (put_answer l.db doc)
+
+abbrev pub loaded_at : State → List ℕ → Document → State
+loaded_at s name doc = changed_at s name (λ l. after_load l doc)
+
+-- ---- an edit in one of them
+
+-- the new revision, and the sequence of the change
+abbrev pub edited_as : PeerValue → Result RevId BaseFault → Result Edited Refusal
+edited_as after (Ok rev) = Ok (record { rev = rev; seq = after.db.update_seq })
+edited_as after (Err fault) = Err (base_refusal fault)
+
+abbrev pub edited_answer : Option PeerValue → List ℕ → Option RevId → Bool → List ℕ → Result Edited Refusal
+edited_answer None id parent deleted body = Err why.NoDatabase
+edited_answer (Some l) id parent deleted body = edited_as (after_edit l id parent deleted body) (edit_answer l.db id parent deleted body)
+
+abbrev pub edited_at : State → List ℕ → List ℕ → Option RevId → Bool → List ℕ → State
+edited_at s name id parent deleted body = changed_at s name (λ l. after_edit l id parent deleted body)

@@ -1,0 +1,134 @@
+-- Why a line is refused: docs/PROFILE.md, "Order of checks" and "Answers".
+use Rattle.std.specs.Prelude.{◌≡◌, ◌⊎◌, ℕ, List, Result, Ok, Err, codes}
+use Rattle.rev_core.specs.declared.fault.RevFault.{RevFault}
+use Rattle.rev_core.specs.declared.fault.RevFault.TheVariants as rev
+use Rattle.doc_json.specs.declared.fault.DocFault.{DocFault}
+use Rattle.doc_json.specs.declared.fault.DocFault.TheVariants as doc
+use Rattle.couch_base.specs.declared.fault.BaseFault.{BaseFault}
+use Rattle.couch_base.specs.declared.fault.BaseFault.TheVariants as base
+use Rattle.repl_log.specs.declared.fault.LogFault.{LogFault}
+use Rattle.repl_log.specs.declared.fault.LogFault.TheVariants as log
+use Rattle.repl_target.specs.declared.fault.TargetFault.{TargetFault}
+use Rattle.repl_target.specs.declared.fault.TargetFault.TheVariants as target
+use Rattle.script_databases.specs.declared.refusal.Refusal.{Refusal}
+use Rattle.script_databases.specs.declared.refusal.Refusal.TheVariants as why
+
+-- r is the expected answer, unless memory ran out
+abbrev pub GivesUnlessMemory : {A : Type 0} → Result A Refusal → Result A Refusal → Type 0
+GivesUnlessMemory (Ok x) expected = expected ≡ Ok x
+GivesUnlessMemory (Err e) expected = (expected ≡ Err e) ⊎ (e ≡ why.Memory)
+
+-- ---- the refusals of the crates below
+
+abbrev pub doc_refusal : DocFault → Refusal
+doc_refusal doc.NotObject = why.NotObject
+doc_refusal doc.NoId = why.NoId
+doc_refusal doc.ReservedId = why.ReservedId
+doc_refusal doc.Attachments = why.Attachments
+doc_refusal doc.SpecialMember = why.SpecialMember
+doc_refusal doc.NoRev = why.NoRev
+doc_refusal doc.BadRevisions = why.BadRevisions
+doc_refusal doc.RevMismatch = why.RevMismatch
+doc_refusal doc.Fraction = why.Fraction
+doc_refusal doc.Memory = why.Memory
+
+abbrev pub rev_refusal : RevFault → Refusal
+rev_refusal rev.BadGeneration = why.BadGeneration
+rev_refusal rev.BadSig = why.BadSig
+rev_refusal rev.NoIds = why.BadRevisions
+rev_refusal rev.StartTooSmall = why.BadRevisions
+rev_refusal rev.GenerationFull = why.GenerationFull
+rev_refusal rev.Memory = why.Memory
+
+abbrev pub base_refusal : BaseFault → Refusal
+base_refusal (base.Contradiction child known given) = why.Contradiction
+base_refusal base.SeqFull = why.SeqFull
+base_refusal base.SeqTooLarge = why.SeqTooLarge
+base_refusal base.BadLimit = why.BadLimit
+base_refusal base.BadRange = why.BadRange
+base_refusal (base.GoalAhead seq) = why.GoalAhead
+base_refusal base.NoSuchDocument = why.NoSuchDocument
+base_refusal base.Conflict = why.Conflict
+base_refusal base.GenerationFull = why.GenerationFull
+base_refusal (base.RevExists r) = why.RevExists
+base_refusal base.Memory = why.Memory
+
+abbrev pub log_refusal : LogFault → Refusal
+log_refusal log.BadMoment = why.BadMoment
+log_refusal (log.Older stored) = why.Older
+log_refusal log.EmptyLog = why.EmptyLog
+log_refusal log.Memory = why.Memory
+
+-- how far a replication came that its plan stopped, or why it is refused
+abbrev pub stop_of : TargetFault → Result ℕ Refusal
+stop_of target.SessionExists = Err why.SessionExists
+stop_of target.NoSuchBase = Err why.NoSuchBase
+stop_of (target.StartAboveBase recorded) = Err why.StartAboveBase
+stop_of target.GoalBelowStart = Err why.GoalBelowStart
+stop_of target.NoSuchSession = Err why.NoSuchSession
+stop_of (target.Gap expected) = Err why.Gap
+stop_of target.PastGoal = Err why.PastGoal
+stop_of target.ForeignParcel = Err why.ForeignParcel
+stop_of target.AlreadyDone = Err why.AlreadyDone
+stop_of target.CountFull = Err why.CountFull
+stop_of (target.Stopped settled rest cause) = Err why.Stopped
+stop_of (target.Uncovered seq id rev) = Err why.Uncovered
+stop_of (target.Unfinished low_water) = Ok low_water
+stop_of (target.Older stored) = Err why.Older
+stop_of target.BadBatch = Err why.BadBatch
+stop_of target.SamePeer = Err why.SamePeer
+stop_of target.Memory = Err why.Memory
+
+-- a result whose fault is told as a refusal
+abbrev pub told_as : {A E : Type 0} → (E → Refusal) → Result A E → Result A Refusal
+told_as name (Ok x) = Ok x
+told_as name (Err fault) = Err (name fault)
+
+-- ---- the name that an answer gives
+
+abbrev pub name_of : Refusal → List ℕ
+name_of why.BadLine = codes "BadLine"
+name_of why.BadCommand = codes "BadCommand"
+name_of why.NoDatabase = codes "NoDatabase"
+name_of why.DatabaseExists = codes "DatabaseExists"
+name_of why.UuidTaken = codes "UuidTaken"
+name_of why.NoId = codes "NoId"
+name_of why.ReservedId = codes "ReservedId"
+name_of why.BadGeneration = codes "BadGeneration"
+name_of why.BadSig = codes "BadSig"
+name_of why.NotObject = codes "NotObject"
+name_of why.Attachments = codes "Attachments"
+name_of why.SpecialMember = codes "SpecialMember"
+name_of why.NoRev = codes "NoRev"
+name_of why.BadRevisions = codes "BadRevisions"
+name_of why.RevMismatch = codes "RevMismatch"
+name_of why.Fraction = codes "Fraction"
+name_of why.NoSuchDocument = codes "NoSuchDocument"
+name_of why.NoSuchRevision = codes "NoSuchRevision"
+name_of why.Contradiction = codes "Contradiction"
+name_of why.Conflict = codes "Conflict"
+name_of why.GenerationFull = codes "GenerationFull"
+name_of why.RevExists = codes "RevExists"
+name_of why.SeqFull = codes "SeqFull"
+name_of why.SeqTooLarge = codes "SeqTooLarge"
+name_of why.BadLimit = codes "BadLimit"
+name_of why.BadRange = codes "BadRange"
+name_of why.GoalAhead = codes "GoalAhead"
+name_of why.BadMoment = codes "BadMoment"
+name_of why.EmptyLog = codes "EmptyLog"
+name_of why.Older = codes "Older"
+name_of why.SessionExists = codes "SessionExists"
+name_of why.NoSuchBase = codes "NoSuchBase"
+name_of why.StartAboveBase = codes "StartAboveBase"
+name_of why.GoalBelowStart = codes "GoalBelowStart"
+name_of why.NoSuchSession = codes "NoSuchSession"
+name_of why.Gap = codes "Gap"
+name_of why.PastGoal = codes "PastGoal"
+name_of why.ForeignParcel = codes "ForeignParcel"
+name_of why.AlreadyDone = codes "AlreadyDone"
+name_of why.CountFull = codes "CountFull"
+name_of why.Stopped = codes "Stopped"
+name_of why.Uncovered = codes "Uncovered"
+name_of why.BadBatch = codes "BadBatch"
+name_of why.SamePeer = codes "SamePeer"
+name_of why.Memory = codes "Memory"

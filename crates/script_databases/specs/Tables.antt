@@ -1,0 +1,46 @@
+-- What the tables in memory stand for.
+use Rattle.std.specs.Prelude.{◌≡◌, ℕ, true, List, map, nat_eq, Option, Some, option_map, String, string_bytes}
+use Rattle.std.specs.declared.alloc.Global.{Global}
+use Rattle.std.specs.FinMap as finmap
+use Rattle.std.specs.FinMap.{FinMap}
+use Rattle.std.specs.List.{list_any}
+use Rattle.repl_target.specs.Peer.{PeerValue}
+use Rattle.repl_target.specs.declared.filter.Rules.{Rules}
+use Rattle.script_databases.specs.Databases.{Program, State, IsTaken, text_cmp}
+use Rattle.script_databases.specs.declared.settings.Settings.{Settings}
+
+-- the entries of a table by the bytes of their names, each as its value
+abbrev pub by_text : {X V : Type 0} → (X → V) → List (String Global × X) → FinMap text_cmp V
+by_text value entries = finmap.from_entries (map (λ e. (string_bytes e.0, value e.1)) entries)
+
+-- an entry: the filter, and the peer behind it
+abbrev pub Entries : Type 0
+Entries = List (String Global × (Rules × PeerValue))
+
+-- the peers of a table
+abbrev pub peers_of : Entries → FinMap text_cmp PeerValue
+peers_of entries = by_text (λ p. p.1) entries
+
+abbrev pub state_of : Program → Entries → State
+state_of program entries = record { program = program; peers = peers_of entries }
+
+-- the beginning of the ids that a filter refuses
+abbrev pub deny_of : Rules → Option (List ℕ)
+deny_of rules = option_map string_bytes rules.deny
+
+-- what the peers of a table refuse
+abbrev pub denied_of : Entries → FinMap text_cmp (Option (List ℕ))
+denied_of entries = by_text (λ p. deny_of p.0) entries
+
+-- each of them refuses the same
+abbrev pub AllDeny : Option (List ℕ) → Entries → Type 0
+AllDeny deny entries = (name : List ℕ) (denied : Option (List ℕ)) → finmap.get (denied_of entries) name ≡ Some denied → denied ≡ deny
+
+-- what settings say of a program
+abbrev pub program_of : Settings → Program
+program_of s = record { deny = option_map string_bytes s.deny; at = s.at; workers = s.workers; batch = s.batch }
+
+-- the list holds the numbers of the databases' UUIDs, and no others
+pub record IsIndex (s : State) (uuids : List ℕ) : Type 0 where
+  pub noted : (uuid : ℕ) → list_any (nat_eq uuid) uuids ≡ true → IsTaken s uuid
+  pub taken : (uuid : ℕ) → IsTaken s uuid → list_any (nat_eq uuid) uuids ≡ true

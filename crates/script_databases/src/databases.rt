@@ -1,0 +1,189 @@
+//! The databases of a script.
+ghost use Rattle.std.specs.Prelude.{◌≡◌, false, true, None, Some, Err, IfOk, OnErr, OnOk, option_map};
+ghost use Rattle.std.specs.FinMap.{contains_key};
+ghost use Rattle.std.specs.Option.{option_copied};
+ghost use Rattle.repl_target.specs.Peer.{PeerValue};
+ghost use Rattle.repl_target.specs.Replication.{plan_answer};
+
+use crate::made_ids::MadeIds;
+use crate::named::{add_at, edit_at, load_at, replicate_at};
+use crate::refusal::Refusal;
+use crate::settings::Settings;
+use couch_base::Put;
+use doc_json::{Body, Doc, DocId};
+use indexmap::{IndexMap, IndexSet};
+use repl_target::{Peer, Plan, Report, Rules, TargetFault};
+use rev_core::Rev;
+use std::alloc::{AllocError, Global};
+use std::marker::Model;
+
+/// What an edit did: the new revision, and the sequence of the change.
+#[derive(Clone, Copy, Debug, PartialEq, Eq)]
+pub struct Edited {
+    pub rev: Rev,
+    pub seq: u64,
+}
+
+/// The peers by their names.
+pub type Names = IndexMap<String, Peer<Rules>>;
+
+/// The databases of a script, each a peer under its name, the numbers of their UUIDs, and the stream of made ids. Each peer
+/// refuses what the settings say.
+#[derive(Drop)]
+pub struct Databases {
+    settings: Settings,
+    by_name: Names,
+    uuids: IndexSet<u128>,
+    ids: MadeIds,
+}
+
+impl Model for Databases {
+    ghost use Rattle.script_databases.specs.Databases.{State, coded_state};
+
+    ghost Value = { State };
+
+    ghost coded = { coded_state };
+
+    ghost use Rattle.script_databases.specs.Tables.{IsIndex, AllDeny, program_of, state_of};
+
+    ghost view = { λ a. state_of (program_of a.settings) a.by_name.entries };
+
+    ghost invariant = { λ a. IsIndex (state_of (program_of a.settings) a.by_name.entries) a.uuids.keys
+        × AllDeny (program_of a.settings).deny a.by_name.entries };
+}
+
+impl Databases {
+    ghost use Rattle.script_databases.specs.Databases.{IsTaken, edited_answer, edited_at, load_answer, loaded_at, no_databases, peer_at, with_peer};
+    ghost use Rattle.script_databases.specs.Tables.{deny_of, program_of};
+    ghost use Rattle.repl_target.specs.Peer.{new_peer};
+    ghost use Rattle.script_databases.specs.Refusals.{GivesUnlessMemory};
+    ghost use Rattle.script_databases.specs.Carrying.{Carried};
+
+    /// No databases, with a copy of the settings, from whose seed ids are made.
+    pub fn new(alloc: Global, settings: &Settings) -> Result<Databases, AllocError>
+        ensures { IfOk result (λ databases. databases ≡ no_databases (program_of settings.now)) }
+    {
+        let settings = settings.copy(alloc)?;
+        let ids = MadeIds::new(settings.seed);
+        Ok(Databases {
+            settings,
+            by_name: IndexMap::new(alloc),
+            uuids: IndexSet::new(alloc),
+            ids,
+        })
+    }
+
+    /// What the program is set to.
+    pub fn settings(&self) -> &Settings
+        ensures { program_of result.now ≡ self.now.program }
+    {
+        &self.settings
+    }
+
+    /// The peer of a name, where one has it.
+    pub fn find(&self, name: &str) -> Option<&Peer<Rules>>
+        ensures { option_map (λ p. p.1) (option_copied result) ≡ peer_at self.now name.now }
+    {
+        self.by_name.get(name)
+    }
+
+    /// Whether a peer has the name.
+    pub fn has(&self, name: &str) -> bool
+        ensures { result ≡ contains_key self.now.peers name.now }
+    {
+        self.by_name.contains_key(name)
+    }
+
+    /// Whether a database has the UUID of that number.
+    pub fn is_taken(&self, uuid: u128) -> bool
+        ensures taken { result ≡ true → IsTaken self.now uuid }
+        ensures free { result ≡ false → IsTaken self.now uuid → ⊥ }
+    {
+        self.uuids.contains(&uuid)
+    }
+
+    /// The number of the next made id.
+    pub fn draw(&mut self) -> u128
+        ensures { self.new ≡ self.old }
+    {
+        self.ids.draw()
+    }
+
+    /// A peer of no documents that refuses what the settings say. `uuid` is the number of its UUID.
+    pub fn make(&self, alloc: Global, uuid: u128) -> Result<Peer<Rules>, AllocError>
+        ensures { IfOk result (λ p. (p.1 ≡ new_peer uuid) × (deny_of p.0 ≡ self.now.program.deny)) }
+    {
+        let deny = match &self.settings.deny {
+            Some(prefix) => Some(String::from_str(alloc, prefix.as_str())?),
+            None => None,
+        };
+        Ok(Peer::new(alloc, uuid, Rules { deny }))
+    }
+
+    /// Adds a peer under a name that is not there. It refuses what the settings say.
+    pub fn add(&mut self, alloc: Global, name: &str, peer: Peer<Rules>) -> Result<(), AllocError>
+        requires absent { peer_at self.old name.now ≡ None }
+        requires filter { deny_of peer.0 ≡ self.old.program.deny }
+        ensures ok { OnOk result (self.new ≡ with_peer self.old name.now peer.1) }
+        ensures err { OnErr result (self.new ≡ self.old) }
+    {
+        add_at(&mut self.by_name, &mut self.uuids, alloc, name, peer)
+    }
+
+    /// Loads a document into the database of a name. `NoDatabase` where none has it; else what the database refuses.
+    pub fn load(&mut self, name: &str, doc: &Doc) -> Result<Put, Refusal>
+        ensures answer { GivesUnlessMemory result (load_answer (peer_at self.old name.now) doc.now) }
+        ensures ok { OnOk result (self.new ≡ loaded_at self.old name.now doc.now) }
+        ensures err { OnErr result (self.new ≡ self.old) }
+    {
+        load_at(&mut self.by_name, name, doc)
+    }
+
+    /// Edits a document of the database of a name. `NoDatabase` where none has it; else what the database refuses.
+    pub fn edit(
+        &mut self,
+        name: &str,
+        id: &DocId,
+        parent: Option<Rev>,
+        deleted: bool,
+        body: &Body,
+    ) -> Result<Edited, Refusal>
+        ensures answer { GivesUnlessMemory result (edited_answer (peer_at self.old name.now) id.now parent deleted body.now) }
+        ensures ok { OnOk result (self.new ≡ edited_at self.old name.now id.now parent deleted body.now) }
+        ensures err { OnErr result (self.new ≡ self.old) }
+    {
+        edit_at(&mut self.by_name, name, id, parent, deleted, body)
+    }
+
+    /// Replicates from the database of one name into that of another. Both are there.
+    ///
+    /// Where the names are one, its refusal is that of two peers with one UUID, and nothing is changed.
+    pub fn replicate(
+        &mut self,
+        alloc: Global,
+        source: &str,
+        target: &str,
+        plan: &Plan,
+    ) -> Result<Report, TargetFault>
+        requires source { contains_key self.old.peers source.now ≡ true }
+        requires target { contains_key self.old.peers target.now ≡ true }
+        ensures { (s : PeerValue) × (t : PeerValue) × (peer_at self.old source.now ≡ Some s) × (peer_at self.old target.now ≡ Some t)
+            × Carried self.old source.now target.now s t plan.now result self.new }
+    {
+        if source == target {
+            return Err(refused_by_itself(plan));
+        }
+        replicate_at(&mut self.by_name, alloc, source, target, plan)
+    }
+}
+
+/// What a replication of a peer into itself is refused for.
+fn refused_by_itself(plan: &Plan) -> TargetFault
+    ensures { (p : PeerValue) → plan_answer p p plan.now ≡ Err result }
+{
+    if plan.batch < 1 || plan.batch > 10_000 {
+        TargetFault::BadBatch
+    } else {
+        TargetFault::SamePeer
+    }
+}

@@ -1,0 +1,15 @@
+//! The databases of a script: peers by name, what the program is set to, and the ids that are made.
+//!
+//! Each call answers a value or why the line is refused (`Refusal`). What lines are is not known here.
+#![tactic(auto)]
+
+mod databases;
+mod made_ids;
+mod named;
+mod refusal;
+mod settings;
+
+pub use databases::{Databases, Edited};
+pub use made_ids::MadeIds;
+pub use refusal::Refusal;
+pub use settings::Settings;

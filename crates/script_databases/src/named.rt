@@ -1,0 +1,119 @@
+//! Changes of one database in a table of names.
+ghost use Rattle.std.specs.Prelude.{◌≡◌, ◌≢◌, true, Some, OnErr, OnOk, ℕ, nat_eq, if◌then◌else◌};
+ghost use Rattle.std.specs.List.{list_any};
+ghost use Rattle.std.specs.FinMap.{contains_key, get, insert};
+ghost use Rattle.script_databases.specs.Databases.{Program, edited_answer, edited_at, load_answer, loaded_at};
+ghost use Rattle.script_databases.specs.Refusals.{GivesUnlessMemory};
+ghost use Rattle.script_databases.specs.Carrying.{IntoAnother};
+ghost use Rattle.repl_target.specs.Peer.{PeerValue};
+ghost use Rattle.script_databases.specs.Tables.{deny_of, denied_of, peers_of, state_of, AllDeny};
+
+use crate::databases::{Edited, Names};
+use crate::refusal::Refusal;
+use couch_base::Put;
+use doc_json::{Body, Doc, DocId};
+use indexmap::IndexSet;
+use repl_target::{Peer, Plan, Report, Rules, TargetFault, replicate_alone};
+use rev_core::Rev;
+use std::alloc::{AllocError, Global};
+use std::mem;
+
+/// Adds a peer under a name, and notes its UUID. A refusal changes nothing.
+pub fn add_at(
+    names: &mut Names,
+    uuids: &mut IndexSet<u128>,
+    alloc: Global,
+    name: &str,
+    peer: Peer<Rules>,
+) -> Result<(), AllocError>
+    ensures peers { OnOk result (peers_of names.new.entries ≡ insert (peers_of names.old.entries) name.now peer.1) }
+    ensures filters { OnOk result
+        (denied_of names.new.entries ≡ insert (denied_of names.old.entries) name.now (deny_of peer.0)) }
+    ensures uuids { OnOk result ((uuid : ℕ) → list_any (nat_eq uuid) uuids.new.keys
+        ≡ (if nat_eq peer.1.db.uuid uuid then true else list_any (nat_eq uuid) uuids.old.keys)) }
+    ensures err { OnErr result ((names.new.entries ≡ names.old.entries) × (uuids.new.keys ≡ uuids.old.keys)) }
+{
+    let key = String::from_str(alloc, name)?;
+    let uuid = peer.db().uuid();
+    names.reserve(1)?;
+    uuids.insert(uuid)?;
+    names.insert(key, peer)?;
+    Ok(())
+}
+
+/// Loads a document into the database of a name.
+pub fn load_at(names: &mut Names, name: &str, doc: &Doc) -> Result<Put, Refusal>
+    ensures answer { GivesUnlessMemory result (load_answer (get (peers_of names.old.entries) name.now) doc.now) }
+    ensures ok { (g : Program) → OnOk result
+        (state_of g names.new.entries ≡ loaded_at (state_of g names.old.entries) name.now doc.now) }
+    ensures err { OnErr result (peers_of names.new.entries ≡ peers_of names.old.entries) }
+    ensures filters { denied_of names.new.entries ≡ denied_of names.old.entries }
+{
+    match names.get_mut(name) {
+        Some(peer) => match peer.load(doc) {
+            Ok(put) => Ok(put),
+            Err(fault) => Err(Refusal::of_base(fault)),
+        },
+        None => Err(Refusal::NoDatabase),
+    }
+}
+
+/// Edits a document of the database of a name.
+pub fn edit_at(
+    names: &mut Names,
+    name: &str,
+    id: &DocId,
+    parent: Option<Rev>,
+    deleted: bool,
+    body: &Body,
+) -> Result<Edited, Refusal>
+    ensures answer { GivesUnlessMemory result
+        (edited_answer (get (peers_of names.old.entries) name.now) id.now parent deleted body.now) }
+    ensures ok { (g : Program) → OnOk result
+        (state_of g names.new.entries ≡ edited_at (state_of g names.old.entries) name.now id.now parent deleted body.now) }
+    ensures err { OnErr result (peers_of names.new.entries ≡ peers_of names.old.entries) }
+    ensures filters { denied_of names.new.entries ≡ denied_of names.old.entries }
+{
+    match names.get_mut(name) {
+        Some(peer) => match peer.edit(id, parent, deleted, body) {
+            Ok(rev) => Ok(Edited {
+                rev,
+                seq: peer.db().update_seq(),
+            }),
+            Err(fault) => Err(Refusal::of_base(fault)),
+        },
+        None => Err(Refusal::NoDatabase),
+    }
+}
+
+/// Replicates from the peer of one name into that of another, and puts both back.
+pub fn replicate_at(
+    names: &mut Names,
+    alloc: Global,
+    source: &str,
+    target: &str,
+    plan: &Plan,
+) -> Result<Report, TargetFault>
+    requires source { contains_key (peers_of names.old.entries) source.now ≡ true }
+    requires target { contains_key (peers_of names.old.entries) target.now ≡ true }
+    requires two { source.now ≢ target.now }
+    ensures carried { (g : Program) → AllDeny g.deny names.old.entries → (s : PeerValue) × (t : PeerValue)
+        × (get (peers_of names.old.entries) source.now ≡ Some s) × (get (peers_of names.old.entries) target.now ≡ Some t)
+        × IntoAnother (state_of g names.old.entries) source.now target.now s t plan.now result (state_of g names.new.entries) }
+    ensures filters { denied_of names.new.entries ≡ denied_of names.old.entries }
+{
+    // A peer without documents stands in the source's place, so that both can be changed.
+    let Some(place) = names.get_mut(source) else {
+        unreachable!()
+    };
+    let mut sender = mem::replace(place, Peer::new(alloc, 0, Rules { deny: None }));
+    let Some(receiver) = names.get_mut(target) else {
+        unreachable!()
+    };
+    let outcome = replicate_alone(alloc, &mut sender, receiver, plan);
+    let Some(place) = names.get_mut(source) else {
+        unreachable!()
+    };
+    *place = sender;
+    outcome
+}

@@ -1,0 +1,296 @@
+//! Why a line is refused.
+ghost use Rattle.std.specs.Prelude.{◌≡◌};
+ghost use Rattle.script_databases.specs.Refusals.{name_of};
+ghost use Rattle.script_databases.specs.Refusals.{base_refusal, doc_refusal, log_refusal, rev_refusal, stop_of};
+
+use couch_base::BaseFault;
+use doc_json::DocFault;
+use repl_log::LogFault;
+use repl_target::TargetFault;
+use rev_core::RevFault;
+use thiserror::Error;
+
+/// Why a line is refused, or that memory ran out (docs/PROFILE.md, "Order of checks").
+#[derive(Clone, Copy, Debug, PartialEq, Eq, Error)]
+pub enum Refusal {
+    /// The line is no JSON object.
+    #[error("the line is no JSON object")]
+    BadLine,
+    /// The object is no command: a word, a member or its kind is wrong.
+    #[error("the object is no command")]
+    BadCommand,
+    /// No database has the name.
+    #[error("no database has this name")]
+    NoDatabase,
+    /// A UUID is given for a database that is there.
+    #[error("the database is there already")]
+    DatabaseExists,
+    /// Another database has the UUID.
+    #[error("another database has this UUID")]
+    UuidTaken,
+    /// A document's id is absent, no text, or empty.
+    #[error("no document id")]
+    NoId,
+    /// A document's id begins with `_` and is no id of a design document.
+    #[error("a reserved document id")]
+    ReservedId,
+    /// A revision id has no generation.
+    #[error("a revision id without a generation")]
+    BadGeneration,
+    /// A revision id has no signature.
+    #[error("a revision id without a signature")]
+    BadSig,
+    /// A document or a body is no object.
+    #[error("not an object")]
+    NotObject,
+    /// A document has attachments.
+    #[error("a document with attachments")]
+    Attachments,
+    /// A special member is not known, or `_deleted` is no flag.
+    #[error("a special member that is not known, or '_deleted' that is no flag")]
+    SpecialMember,
+    /// A document has no revision id.
+    #[error("no revision id")]
+    NoRev,
+    /// A document's `_revisions` is no ancestry.
+    #[error("'_revisions' that is no ancestry")]
+    BadRevisions,
+    /// A document's `_rev` is not the newest of its `_revisions`.
+    #[error("'_rev' that is not the newest of '_revisions'")]
+    RevMismatch,
+    /// A number is neither an i64 nor a u64.
+    #[error("a number that is no 64-bit integer")]
+    Fraction,
+    /// The database has no document of the id.
+    #[error("the database has no such document")]
+    NoSuchDocument,
+    /// The document has no such revision, or it has no content.
+    #[error("the document has no such revision")]
+    NoSuchRevision,
+    /// A given revision has another parent in the document's tree.
+    #[error("a revision has another parent in the tree")]
+    Contradiction,
+    /// An edit's parent is no leaf, or it names none and a leaf is live.
+    #[error("the edit's parent is not a leaf, or a live leaf is passed over")]
+    Conflict,
+    /// An edit's parent has the greatest generation.
+    #[error("no generation after 4294967295")]
+    GenerationFull,
+    /// The revision of an edit is there already.
+    #[error("the edit is there already")]
+    RevExists,
+    /// The update sequence is the greatest one.
+    #[error("no sequence after 9007199254740991")]
+    SeqFull,
+    /// A database is asked for at a sequence above the greatest one, which no line does.
+    #[error("an update sequence above 9007199254740991")]
+    SeqTooLarge,
+    /// A page of no rows is asked for, which no line does.
+    #[error("a page has at least one row")]
+    BadLimit,
+    /// The goal of a page is not above its start, which no line asks.
+    #[error("the goal is not above the start")]
+    BadRange,
+    /// The goal of a page is above the update sequence, which no line asks.
+    #[error("the goal is above the update sequence")]
+    GoalAhead,
+    /// A moment lies after the year 9999.
+    #[error("a moment after the year 9999")]
+    BadMoment,
+    /// A log without entries is asked for.
+    #[error("no replication has begun")]
+    EmptyLog,
+    /// A log's entry has a greater recorded sequence, which no line is refused for.
+    #[error("older than the log's entry")]
+    Older,
+    /// The target holds the session.
+    #[error("the session is there already")]
+    SessionExists,
+    /// A session begins behind none of its replication, which no line asks.
+    #[error("no such base session")]
+    NoSuchBase,
+    /// A session begins above what is recorded, which no line asks.
+    #[error("the start is above what is recorded")]
+    StartAboveBase,
+    /// A session has its goal below its start.
+    #[error("the goal is below the start")]
+    GoalBelowStart,
+    /// The target has no such session, which no line asks for.
+    #[error("no such session")]
+    NoSuchSession,
+    /// A window does not follow the ones before, which no line brings.
+    #[error("a gap before the window")]
+    Gap,
+    /// A window ends above the goal, which no line brings.
+    #[error("the window ends above the goal")]
+    PastGoal,
+    /// Documents are of no window of the session.
+    #[error("documents of no window of the session")]
+    ForeignParcel,
+    /// A window is done already, which no line brings.
+    #[error("the window is done already")]
+    AlreadyDone,
+    /// A count of the session would pass its limit.
+    #[error("a count of the session is full")]
+    CountFull,
+    /// A window was settled in part: memory or a sequence was wanting.
+    #[error("a window was settled in part")]
+    Stopped,
+    /// A leaf of a window is not covered by what was fetched.
+    #[error("a leaf of the window is not covered")]
+    Uncovered,
+    /// A batch is not 1 to 10,000.
+    #[error("a batch has 1 to 10000 documents")]
+    BadBatch,
+    /// Source and target are one database.
+    #[error("the source and the target are one database")]
+    SamePeer,
+    /// An allocation was refused.
+    #[error("out of memory")]
+    Memory,
+}
+
+impl Refusal {
+    /// The name that an answer gives.
+    pub fn name(&self) -> &'static str
+        ensures { result.now ≡ name_of self.now }
+    {
+        match self {
+            Refusal::BadLine => "BadLine",
+            Refusal::BadCommand => "BadCommand",
+            Refusal::NoDatabase => "NoDatabase",
+            Refusal::DatabaseExists => "DatabaseExists",
+            Refusal::UuidTaken => "UuidTaken",
+            Refusal::NoId => "NoId",
+            Refusal::ReservedId => "ReservedId",
+            Refusal::BadGeneration => "BadGeneration",
+            Refusal::BadSig => "BadSig",
+            Refusal::NotObject => "NotObject",
+            Refusal::Attachments => "Attachments",
+            Refusal::SpecialMember => "SpecialMember",
+            Refusal::NoRev => "NoRev",
+            Refusal::BadRevisions => "BadRevisions",
+            Refusal::RevMismatch => "RevMismatch",
+            Refusal::Fraction => "Fraction",
+            Refusal::NoSuchDocument => "NoSuchDocument",
+            Refusal::NoSuchRevision => "NoSuchRevision",
+            Refusal::Contradiction => "Contradiction",
+            Refusal::Conflict => "Conflict",
+            Refusal::GenerationFull => "GenerationFull",
+            Refusal::RevExists => "RevExists",
+            Refusal::SeqFull => "SeqFull",
+            Refusal::SeqTooLarge => "SeqTooLarge",
+            Refusal::BadLimit => "BadLimit",
+            Refusal::BadRange => "BadRange",
+            Refusal::GoalAhead => "GoalAhead",
+            Refusal::BadMoment => "BadMoment",
+            Refusal::EmptyLog => "EmptyLog",
+            Refusal::Older => "Older",
+            Refusal::SessionExists => "SessionExists",
+            Refusal::NoSuchBase => "NoSuchBase",
+            Refusal::StartAboveBase => "StartAboveBase",
+            Refusal::GoalBelowStart => "GoalBelowStart",
+            Refusal::NoSuchSession => "NoSuchSession",
+            Refusal::Gap => "Gap",
+            Refusal::PastGoal => "PastGoal",
+            Refusal::ForeignParcel => "ForeignParcel",
+            Refusal::AlreadyDone => "AlreadyDone",
+            Refusal::CountFull => "CountFull",
+            Refusal::Stopped => "Stopped",
+            Refusal::Uncovered => "Uncovered",
+            Refusal::BadBatch => "BadBatch",
+            Refusal::SamePeer => "SamePeer",
+            Refusal::Memory => "Memory",
+        }
+    }
+
+    /// The refusal of a line whose document, body or id is refused.
+    pub fn of_doc(fault: DocFault) -> Refusal
+        ensures { result ≡ doc_refusal fault }
+    {
+        match fault {
+            DocFault::NotObject => Refusal::NotObject,
+            DocFault::NoId => Refusal::NoId,
+            DocFault::ReservedId => Refusal::ReservedId,
+            DocFault::Attachments => Refusal::Attachments,
+            DocFault::SpecialMember => Refusal::SpecialMember,
+            DocFault::NoRev => Refusal::NoRev,
+            DocFault::BadRevisions => Refusal::BadRevisions,
+            DocFault::RevMismatch => Refusal::RevMismatch,
+            DocFault::Fraction => Refusal::Fraction,
+            DocFault::Memory => Refusal::Memory,
+        }
+    }
+
+    /// The refusal of a line whose revision id is refused.
+    ///
+    /// An ancestry's two refusals come from no text of a revision id.
+    pub fn of_rev(fault: RevFault) -> Refusal
+        ensures { result ≡ rev_refusal fault }
+    {
+        match fault {
+            RevFault::BadGeneration => Refusal::BadGeneration,
+            RevFault::BadSig => Refusal::BadSig,
+            RevFault::NoIds => Refusal::BadRevisions,
+            RevFault::StartTooSmall => Refusal::BadRevisions,
+            RevFault::GenerationFull => Refusal::GenerationFull,
+            RevFault::Memory => Refusal::Memory,
+        }
+    }
+
+    /// The refusal of a line whose call a database refused.
+    pub fn of_base(fault: BaseFault) -> Refusal
+        ensures { result ≡ base_refusal fault }
+    {
+        match fault {
+            BaseFault::Contradiction { .. } => Refusal::Contradiction,
+            BaseFault::SeqFull => Refusal::SeqFull,
+            BaseFault::SeqTooLarge => Refusal::SeqTooLarge,
+            BaseFault::BadLimit => Refusal::BadLimit,
+            BaseFault::BadRange => Refusal::BadRange,
+            BaseFault::GoalAhead { .. } => Refusal::GoalAhead,
+            BaseFault::NoSuchDocument => Refusal::NoSuchDocument,
+            BaseFault::Conflict => Refusal::Conflict,
+            BaseFault::GenerationFull => Refusal::GenerationFull,
+            BaseFault::RevExists { .. } => Refusal::RevExists,
+            BaseFault::Memory => Refusal::Memory,
+        }
+    }
+
+    /// The refusal of a line whose log or moment is refused.
+    pub fn of_log(fault: LogFault) -> Refusal
+        ensures { result ≡ log_refusal fault }
+    {
+        match fault {
+            LogFault::BadMoment => Refusal::BadMoment,
+            LogFault::Older { .. } => Refusal::Older,
+            LogFault::EmptyLog => Refusal::EmptyLog,
+            LogFault::Memory => Refusal::Memory,
+        }
+    }
+
+    /// How far a replication came that its plan stopped, or the refusal of a line whose replication is refused.
+    pub fn stop_of(fault: TargetFault) -> Result<u64, Refusal>
+        ensures { result ≡ stop_of fault }
+    {
+        match fault {
+            TargetFault::SessionExists => Err(Refusal::SessionExists),
+            TargetFault::NoSuchBase => Err(Refusal::NoSuchBase),
+            TargetFault::StartAboveBase { .. } => Err(Refusal::StartAboveBase),
+            TargetFault::GoalBelowStart => Err(Refusal::GoalBelowStart),
+            TargetFault::NoSuchSession => Err(Refusal::NoSuchSession),
+            TargetFault::Gap { .. } => Err(Refusal::Gap),
+            TargetFault::PastGoal => Err(Refusal::PastGoal),
+            TargetFault::ForeignParcel => Err(Refusal::ForeignParcel),
+            TargetFault::AlreadyDone => Err(Refusal::AlreadyDone),
+            TargetFault::CountFull => Err(Refusal::CountFull),
+            TargetFault::Stopped { .. } => Err(Refusal::Stopped),
+            TargetFault::Uncovered { .. } => Err(Refusal::Uncovered),
+            TargetFault::Unfinished { low_water } => Ok(low_water),
+            TargetFault::Older { .. } => Err(Refusal::Older),
+            TargetFault::BadBatch => Err(Refusal::BadBatch),
+            TargetFault::SamePeer => Err(Refusal::SamePeer),
+            TargetFault::Memory => Err(Refusal::Memory),
+        }
+    }
+}

@@ -1,0 +1,184 @@
+-- A script as far as it was read.
+use Rattle.std.proofs.Common.{◌≡◌, ℕ, ◌+◌, ◌*◌, ◌<◌, ◌≤◌, List, [], ◌++◌, length, take, Bool, true, refl, sym, ap, subst, ◌∙◌, arith, append_assoc, append-nil, length-append, Option, Some, None}
+use Rattle.std.specs.Prelude.{unwrap_or, min}
+use Rattle.std.specs.Io.KnownBytes.{Consumes, Appends, Keeps, IsAtEnd}
+use Rattle.script_engine.specs.Device.{Gives, full}
+use Rattle.script_engine.specs.Faults.{IsOfWriter, IsFaultOf}
+use Rattle.script_engine.specs.declared.fault.ScriptFault.{ScriptFault}
+use Rattle.script_engine.specs.declared.fault.ScriptFault.TheVariants.{Read, Write, Memory}
+use Rattle.script_engine.specs.Lines.{lines_of}
+use Rattle.script_engine.specs.Serving.{Answering}
+use Rattle.script_engine.specs.Script.{IsAnswered, IsAnsweredSoFar}
+use Rattle.script_engine.specs.Served.{Place, start, Served, Begins, Feeds, FeedsInPart, Finishes, FinishesInPart}
+use Rattle.script_engine.proofs.DeviceLemmas.{Appends-joined, Appends-none}
+use Rattle.script_engine.proofs.ServedLemmas.{Served-none, Served-joined, Begins-none, Begins-joined, Begins-more, is_answered, is_answered_so_far}
+
+-- these bytes were read in so many turns, and served, and their answers written
+pub record Ran {S : Type 0} (f : Answering S (List ℕ)) (g : S) (p : Place S) (left left' held held' : Option (List ℕ)) (turns : ℕ) : Type 0 where
+  pub input : List ℕ
+  pub text : List ℕ
+  pub served : Served f (start g) input p text
+  pub taken : Consumes left left' input
+  pub written : Appends held held' text
+  pub enough : turns ≤ length input
+  pub few : length input ≤ 65536 * turns
+
+-- ---- known bytes
+
+pub Consumes-none : (a : Option (List ℕ)) → Consumes a a []
+Consumes-none None = tt
+Consumes-none (Some a) = refl
+
+pub Consumes-joined : (a b c : Option (List ℕ)) (x y : List ℕ) → Consumes a b x → Consumes b c y → Consumes a c (x ++ y)
+Consumes-joined None b c x y p q = tt
+Consumes-joined (Some a) None c x y p q = absurd p
+Consumes-joined (Some a) (Some b) None x y p q = absurd q
+Consumes-joined (Some a) (Some b) (Some c) x y p q = p ∙ ap (λ z. x ++ z) q ∙ sym (append_assoc x y c)
+
+pub Consumes-kept : (a b c : Option (List ℕ)) (x : List ℕ) → Consumes a b x → Keeps b c → Consumes a c x
+Consumes-kept None b c x p q = tt
+Consumes-kept (Some a) None c x p q = absurd p
+Consumes-kept (Some a) (Some b) None x p q = absurd q
+Consumes-kept (Some a) (Some b) (Some c) x p q = p ∙ ap (λ z. x ++ z) (sym q)
+
+-- what was taken and what is left is all there was
+pub Gives-left : (a b : Option (List ℕ)) (x : List ℕ) → Consumes a b x → Gives a (x ++ unwrap_or b [])
+Gives-left None b x p = tt
+Gives-left (Some a) None x p = absurd p
+Gives-left (Some a) (Some b) x p = p
+
+pub Gives-end : (a b : Option (List ℕ)) (x : List ℕ) → Consumes a b x → IsAtEnd b → Gives a x
+Gives-end None b x p e = tt
+Gives-end (Some a) None x p e = absurd p
+Gives-end (Some a) (Some b) x p e = p ∙ ap (λ z. x ++ z) e ∙ append-nil x
+
+-- ---- turns
+
+pub Ran-none : {S : Type 0} {f : Answering S (List ℕ)} {g : S} (p : Place S) (left held : Option (List ℕ)) → p ≡ start g → Ran f g p left left held held 0
+Ran-none {f} {g} p left held e = record {
+  input = [];
+  text = [];
+  served = subst (λ q. Served f (start g) [] q []) (sym e) (Served-none (start g));
+  taken = Consumes-none left;
+  written = Appends-none held;
+  enough = omega arith;
+  few = omega arith;
+}
+
+pub Ran-more : {S : Type 0} {f : Answering S (List ℕ)} {g : S} {p : Place S} {left left' held held' : Option (List ℕ)} {turns : ℕ} (q : Place S) (left'' held'' : Option (List ℕ)) (bytes : List ℕ) → Ran f g p left left' held held' turns → Consumes left' left'' bytes → 0 < length bytes → length bytes ≤ 65536 → Feeds f p bytes q held' held'' →
+    Ran f g q left left'' held held'' (turns + 1)
+Ran-more {turns = turns} q left'' held'' bytes r c some most (t, s, w) = record {
+  input = r.input ++ bytes;
+  text = r.text ++ t;
+  served = Served-joined r.served s;
+  taken = Consumes-joined _ _ _ r.input bytes r.taken c;
+  written = Appends-joined _ _ _ r.text t r.written w;
+  enough = omega (arith, r.enough, length-append r.input bytes);
+  few = omega (arith, r.few, length-append r.input bytes);
+}
+
+-- the number of the line is far below its limit
+pub Ran-number : {S : Type 0} {f : Answering S (List ℕ)} {g : S} {p : Place S} {left left' held held' : Option (List ℕ)} {turns : ℕ} → Ran f g p left left' held held' turns → turns < 4294967295 → p.number + 65536 < 18446744073709551616
+Ran-number r h = omega (arith, r.served.number_is, r.served.few, r.few)
+
+-- ---- faults
+
+-- an answer to a whole input that begins with this text
+pub record SoFar {S : Type 0} (f : Answering S (List ℕ)) (g : S) (left held held' : Option (List ℕ)) (least : ℕ) : Type 0 where
+  pub input : List ℕ
+  pub text : List ℕ
+  pub gives : Gives left input
+  pub written : Appends held held' text
+  pub answered : IsAnsweredSoFar f g input text
+  pub long : least ≤ length input
+
+pub SoFar-none : {S : Type 0} {f : Answering S (List ℕ)} {g : S} (left held : Option (List ℕ)) → SoFar f g left held held 0
+SoFar-none {g} left held = record {
+  input = [] ++ unwrap_or left [];
+  text = [];
+  gives = Gives-left left left [] (Consumes-none left);
+  written = Appends-none held;
+  answered = is_answered_so_far (unwrap_or left []) (Begins-none (start g) (unwrap_or left [])) refl;
+  long = omega arith;
+}
+
+begins : {S : Type 0} {f : Answering S (List ℕ)} → {p q : Place S} {xs t : List ℕ} → Served f p xs q t → Begins f p xs t
+begins {f} {p} {q} {xs} {t} s = record { front = xs; back = []; new = q; more = []; bytes_are = sym (append-nil xs); serves = subst (λ z. Served f p xs q z) (sym (append-nil t)) s }
+
+-- the script stopped between two turns
+pub SoFar-stopped : {S : Type 0} {f : Answering S (List ℕ)} {g : S} {p : Place S} {left left' held held' : Option (List ℕ)} {turns : ℕ} (left'' : Option (List ℕ)) → Ran f g p left left' held held' turns → Keeps left' left'' → SoFar f g left held held' turns
+SoFar-stopped {left = left} {left'} left'' r k = record {
+  input = r.input ++ unwrap_or left'' [];
+  text = r.text;
+  gives = Gives-left left left'' r.input (Consumes-kept left left' left'' r.input r.taken k);
+  written = r.written;
+  answered = is_answered_so_far (r.input ++ unwrap_or left'' []) (Begins-more (unwrap_or left'' []) (begins r.served)) refl;
+  long = omega (arith, r.enough, length-append r.input (unwrap_or left'' []));
+}
+
+-- it stopped in a chunk
+pub SoFar-fed : {S : Type 0} {f : Answering S (List ℕ)} {g : S} {p : Place S} {left left' held held' : Option (List ℕ)} {turns : ℕ} (left'' held'' : Option (List ℕ)) (bytes : List ℕ) → Ran f g p left left' held held' turns → Consumes left' left'' bytes → FeedsInPart f p bytes held' held'' → SoFar f g left held held'' 0
+SoFar-fed {left = left} {left'} left'' held'' bytes r c (t, b, w) = record {
+  input = (r.input ++ bytes) ++ unwrap_or left'' [];
+  text = r.text ++ t;
+  gives = Gives-left left left'' (r.input ++ bytes) (Consumes-joined left left' left'' r.input bytes r.taken c);
+  written = Appends-joined _ _ _ r.text t r.written w;
+  answered = is_answered_so_far ((r.input ++ bytes) ++ unwrap_or left'' []) (Begins-more (unwrap_or left'' []) (Begins-joined r.served b)) refl;
+  long = omega arith;
+}
+
+-- ---- the end
+
+same_lines : {S : Type 0} {f : Answering S (List ℕ)} {g : S} {p : Place S} {xs t : List ℕ} (bytes : List ℕ) → Served f (start g) xs p t → lines_of (p.begun ++ bytes) ≡ lines_of p.begun → lines_of (xs ++ bytes) ≡ lines_of xs
+same_lines {p} {xs} bytes s e = s.cut bytes ∙ ap (λ z. s.lines ++ z) (e ∙ ap lines_of (sym (append-nil p.begun))) ∙ sym (s.cut []) ∙ ap lines_of (append-nil xs)
+
+-- it stopped in its last line
+pub SoFar-finished : {S : Type 0} {f : Answering S (List ℕ)} {g : S} {p : Place S} {left left' held held' : Option (List ℕ)} {turns : ℕ} (held'' : Option (List ℕ)) → Ran f g p left left' held held' turns → IsAtEnd left' → FinishesInPart f p held' held'' → SoFar f g left held held'' 0
+SoFar-finished {left = left} {left'} held'' r e (bytes, l, (t, b, w)) = record {
+  input = r.input;
+  text = r.text ++ t;
+  gives = Gives-end left left' r.input r.taken e;
+  written = Appends-joined _ _ _ r.text t r.written w;
+  answered = is_answered_so_far r.input (Begins-joined r.served b) (same_lines bytes r.served l);
+  long = omega arith;
+}
+
+-- it came to its end
+pub Ran-finished : {S : Type 0} {f : Answering S (List ℕ)} {g : S} {p : Place S} {left left' held held' : Option (List ℕ)} {turns : ℕ} (q : Place S) (held'' : Option (List ℕ)) → Ran f g p left left' held held' turns → IsAtEnd left' → Finishes f p q held' held'' →
+    (input : List ℕ) × (text : List ℕ) × Gives left input × Appends held held'' text × IsAnswered f g input q.clean text q.state
+Ran-finished {left = left} {left'} q held'' r e (bytes, l, n, (t, s, w)) =
+    (r.input, r.text ++ t, Gives-end left left' r.input r.taken e, Appends-joined _ _ _ r.text t r.written w, is_answered r.input (Served-joined r.served s) n (same_lines bytes r.served l))
+
+-- a read that gave nothing
+pub Ran-end : {S : Type 0} {f : Answering S (List ℕ)} {g : S} {p : Place S} {left left' held held' : Option (List ℕ)} {turns : ℕ} (left'' : Option (List ℕ)) (buffer : List ℕ) (n : ℕ) → n ≡ 0 → Ran f g p left left' held held' turns → Consumes left' left'' (take n buffer) → Ran f g p left left'' held held' turns
+Ran-end {left = left} {left'} left'' buffer n z r c = record {
+  input = r.input;
+  text = r.text;
+  served = r.served;
+  taken = subst (λ x. Consumes left left'' x) (append-nil r.input) (Consumes-joined left left' left'' r.input [] r.taken (subst (λ k. Consumes left' left'' (take k buffer)) z c));
+  written = r.written;
+  enough = r.enough;
+  few = r.few;
+}
+
+-- ---- which device failed
+
+pub IsFaultOf-writer : (fault : ScriptFault) (input : List ℕ) (r r' w w' w'' : ℕ) → r' ≡ r → w' ≡ w → IsOfWriter fault w' w'' → IsFaultOf fault input r r' w w''
+IsFaultOf-writer Read input r r' w w' w'' e f h = absurd h
+IsFaultOf-writer Write input r r' w w' w'' e f h = (e, h ∙ ap (λ n. min (n + 1) full) f)
+IsFaultOf-writer Memory input r r' w w' w'' e f h = (e, h ∙ f)
+
+pub Keeps-same : (a : Option (List ℕ)) → Keeps a a
+Keeps-same None = tt
+Keeps-same (Some a) = refl
+
+-- a script that has not begun stands at its start
+pub place_equal : {S : Type 0} (s : S) (b : List ℕ) → b ≡ [] → (record { state = s; begun = b; number = 1; clean = true }) ≡ start s
+place_equal s b e = λ i. record { state = s; begun = e i; number = 1; clean = true }
+
+-- a script over memory
+pub over_memory : {S : Type 0} (f : Answering S (List ℕ)) (s : S) (l h h' : Option (List ℕ)) (bytes written input text : List ℕ) (clean : Bool) (new : S) → l ≡ Some bytes → h ≡ Some [] → Some written ≡ h' → Gives l input → Appends h h' text → IsAnswered f s input clean text new → IsAnswered f s bytes clean written new
+over_memory f s l h h' bytes written input text clean new el eh ew gives appends answered =
+    let taken : bytes ≡ input = subst (λ o. Gives o input) el gives in
+    let put : written ≡ text = subst (λ o. Appends o (Some written) text) eh (subst (λ o. Appends h o text) (sym ew) appends) in
+    subst (λ w. IsAnswered f s bytes clean w new) (sym put) (subst (λ b. IsAnswered f s b clean text new) (sym taken) answered)

@@ -1,0 +1,6 @@
+pub mod MembersLemmas
+pub mod PageLemmas
+pub mod ReplyLemmas
+pub mod ServeLemmas
+pub mod AnswersLemmas
+pub mod ReplicationLemmas

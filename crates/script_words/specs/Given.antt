@@ -1,0 +1,37 @@
+-- What a line's texts and values give, and why they give nothing: docs/PROFILE.md, "Order of checks".
+use Rattle.std.specs.Prelude.{ℕ, List, Option, Some, None, unwrap_or, Result, Ok, Err}
+use Rattle.serde_json.specs.Data.{Data, object, no_members}
+use Rattle.rev_core.specs.Rev.{RevId}
+use Rattle.rev_core.specs.Text.{rev_read}
+use Rattle.doc_json.specs.Body.{body_read}
+use Rattle.doc_json.specs.DocId.{doc_id_read}
+use Rattle.doc_json.specs.DocRead.{doc_read}
+use Rattle.doc_json.specs.Document.{Document}
+use Rattle.script_databases.specs.Refusals.{told_as, doc_refusal, rev_refusal}
+use Rattle.script_databases.specs.declared.refusal.Refusal.{Refusal}
+
+-- the id that a text spells
+abbrev pub id_given : List ℕ → Result (List ℕ) Refusal
+id_given text = told_as doc_refusal (doc_id_read text)
+
+abbrev pub some_of : {A : Type 0} → Result A Refusal → Result (Option A) Refusal
+some_of (Ok x) = Ok (Some x)
+some_of (Err refusal) = Err refusal
+
+-- the revision that a text spells, where there is one
+abbrev pub rev_given : Option (List ℕ) → Result (Option RevId) Refusal
+rev_given None = Ok None
+rev_given (Some text) = some_of (told_as rev_refusal (rev_read text))
+
+-- the body that a value is
+abbrev pub body_given : Data → Result (List ℕ) Refusal
+body_given d = told_as doc_refusal (body_read d)
+
+-- an object without members, where there is none
+abbrev pub body_given_or_empty : Option Data → Result (List ℕ) Refusal
+body_given_or_empty d = body_given (unwrap_or d (object no_members))
+
+-- the document that a value is, where there is one
+abbrev pub document_given : Option Data → Result (Option Document) Refusal
+document_given None = Ok None
+document_given (Some d) = some_of (told_as doc_refusal (doc_read d))

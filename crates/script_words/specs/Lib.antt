@@ -1,0 +1,9 @@
+pub mod Members
+pub mod Given
+pub mod Edits
+pub mod Command
+pub mod Reply
+pub mod Replicating
+pub mod Answers
+pub mod Script
+pub mod Serving

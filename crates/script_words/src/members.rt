@@ -1,0 +1,138 @@
+//! Members of objects, each of its kind.
+ghost use Rattle.std.specs.Prelude.{◌≡◌, map, option_map, string_bytes};
+ghost use Rattle.std.specs.BTreeMap.{keys};
+ghost use Rattle.std.specs.List.{list_all, list_any};
+ghost use Rattle.std.specs.Str.{bytes_eq};
+ghost use Rattle.serde_json.specs.Find.{as_bool, as_str};
+ghost use Rattle.std.specs.Option.{option_copied};
+ghost use Rattle.serde_json.specs.View.{view};
+ghost use Rattle.script_words.specs.Members.{as_uuid, as_whole, has_only, is_name, is_name_byte, name_at, optional, text_at};
+
+use serde_json::{Map, Value};
+use uuid::Uuid;
+
+/// A text that has to be there.
+pub fn text_member<'a>(value: &'a Value, key: &str) -> Option<&'a str>
+    ensures { option_map (λ s. s.now) result ≡ text_at key.now (view value.now) }
+{
+    value.get(key).and_then(Value::as_str)
+}
+
+/// The name of a database, which has to be there: 1 to 32 ASCII letters, digits, `-` or `_`.
+pub fn name_member<'a>(value: &'a Value, key: &str) -> Option<&'a str>
+    ensures { option_map (λ s. s.now) result ≡ name_at key.now (view value.now) }
+{
+    match text_member(value, key) {
+        Some(text) if is_name(text) => Some(text),
+        _ => None,
+    }
+}
+
+/// A flag that may be left out: none inside where it is, and none at all where it is of another kind.
+pub fn optional_flag(value: &Value, key: &str) -> Option<Option<bool>>
+    ensures { result ≡ optional as_bool key.now (view value.now) }
+{
+    let Some(member) = value.get(key) else {
+        return Some(None);
+    };
+    match member.as_bool() {
+        Some(flag) => Some(Some(flag)),
+        None => None,
+    }
+}
+
+/// A text that may be left out.
+pub fn optional_text<'a>(value: &'a Value, key: &str) -> Option<Option<&'a str>>
+    ensures { option_map option_copied result ≡ optional as_str key.now (view value.now) }
+{
+    let Some(member) = value.get(key) else {
+        return Some(None);
+    };
+    match member.as_str() {
+        Some(text) => Some(Some(text)),
+        None => None,
+    }
+}
+
+/// A whole number from 0 to 2^64 - 1 that may be left out.
+pub fn optional_whole(value: &Value, key: &str) -> Option<Option<u64>>
+    ensures { result ≡ optional as_whole key.now (view value.now) }
+{
+    let Some(member) = value.get(key) else {
+        return Some(None);
+    };
+    match member.as_u64() {
+        Some(number) => Some(Some(number)),
+        None => None,
+    }
+}
+
+/// The number of a UUID that may be left out.
+pub fn optional_uuid(value: &Value, key: &str) -> Option<Option<u128>>
+    ensures { result ≡ optional as_uuid key.now (view value.now) }
+{
+    let Some(member) = value.get(key) else {
+        return Some(None);
+    };
+    match as_uuid(member) {
+        Some(uuid) => Some(Some(uuid)),
+        None => None,
+    }
+}
+
+/// The number of the UUID that a value spells.
+fn as_uuid(value: &Value) -> Option<u128>
+    ensures { result ≡ as_uuid (view value.now) }
+{
+    let Some(text) = value.as_str() else {
+        return None;
+    };
+    match Uuid::parse_str(text) {
+        Ok(uuid) => Some(uuid.as_u128()),
+        Err(_) => None,
+    }
+}
+
+/// Whether a value is an object with no other members than these.
+pub fn has_only_members(value: &Value, keys: &[&str]) -> bool
+    ensures { result ≡ has_only (map (λ x. x.now) keys.now) (view value.now) }
+{
+    match value.as_object() {
+        Some(members) => are_all_among(members, keys),
+        None => false,
+    }
+}
+
+fn are_all_among(members: &Map<String, Value>, allowed: &[&str]) -> bool
+    ensures { result ≡ list_all (λ key. list_any (λ k. bytes_eq (string_bytes key) k.now) allowed.now) (keys members.now) }
+{
+    members.keys().all(|key| is_one_of(key.as_str(), allowed))
+}
+
+fn is_one_of(key: &str, keys: &[&str]) -> bool
+    ensures { result ≡ list_any (λ k. bytes_eq key.now k.now) keys.now }
+{
+    keys.iter().any(|k| key == *k)
+}
+
+fn is_name(text: &str) -> bool
+    ensures { result ≡ is_name text.now }
+{
+    let bytes = text.as_bytes();
+    if bytes.is_empty() || bytes.len() > 32 {
+        return false;
+    }
+    are_name_bytes(bytes)
+}
+
+fn are_name_bytes(bytes: &[u8]) -> bool
+    ensures { result ≡ list_all is_name_byte bytes.now }
+{
+    bytes.iter().all(|b| is_name_byte(*b))
+}
+
+fn is_name_byte(b: u8) -> bool
+    ensures { result ≡ is_name_byte b }
+{
+    matches!(b, b'0'..=b'9' | b'A'..=b'Z' | b'a'..=b'z' | b'-' | b'_')
+}

@@ -1,0 +1,208 @@
+//! Replications served, their logs and their audit.
+ghost use Rattle.std.specs.Prelude.{◌≡◌, ◌<◌, IfOk, IfErr};
+ghost use Rattle.script_words.specs.Answers.{audit_reply, log_answer, log_held};
+ghost use Rattle.script_words.specs.Command.{audit as ask_audit, log as ask_log, replicate as ask_replicate};
+ghost use Rattle.script_words.specs.Replicating.{IsPlan, last_second, moment_of, replicated_as};
+ghost use Rattle.script_databases.specs.declared.refusal.Refusal.TheVariants.{BadMoment};
+ghost use Rattle.script_words.specs.Serving.{RefusesAsk, Tells, TextOf, TextUnlessMemory};
+
+use crate::command::{Options, Side};
+use script_databases::Databases;
+use script_databases::Refusal;
+use crate::reply::{clean_text, hole_text, replicated_text, stopped_text};
+use repl_log::{Log, Moment, RepId, write_log};
+use repl_target::{Audit, Peer, Plan, Report, Rules, TargetFault, audit};
+use rev_tree::SessionId;
+use std::alloc::{AllocError, Global};
+
+/// `log`.
+pub fn serve_log(
+    alloc: Global,
+    databases: &Databases,
+    source: &str,
+    target: &str,
+    side: Side,
+) -> Result<Vec<u8>, Refusal>
+    ensures told { IfOk result (λ text. Tells databases.now (ask_log source.now target.now side) text.items databases.now) }
+    ensures refused { IfErr result (λ why. RefusesAsk databases.now (ask_log source.now target.now side) why databases.now) }
+{
+    let Some(sender) = databases.find(source) else {
+        return Err(Refusal::NoDatabase);
+    };
+    let Some(receiver) = databases.find(target) else {
+        return Err(Refusal::NoDatabase);
+    };
+    match logged_text(alloc, sender, receiver, side) {
+        Ok(text) => Ok(text),
+        Err(refusal) => Err(refusal),
+    }
+}
+
+/// The answer to `log`.
+fn logged_text(
+    alloc: Global,
+    source: &Peer<Rules>,
+    target: &Peer<Rules>,
+    side: Side,
+) -> Result<Vec<u8>, Refusal>
+    ensures { TextUnlessMemory result (log_answer side source.now.1 target.now.1) }
+{
+    let rep = RepId {
+        source: source.db().uuid(),
+        target: target.db().uuid(),
+    };
+    let Ok(log) = log_held(alloc, source, target, side, &rep) else {
+        return Err(Refusal::Memory);
+    };
+    let mut text = match write_log(alloc, &rep, &log) {
+        Ok(text) => text,
+        Err(fault) => return Err(Refusal::of_log(fault)),
+    };
+    match text.push(10) {
+        Ok(()) => Ok(text),
+        Err(_) => Err(Refusal::Memory),
+    }
+}
+
+/// The log of a replication, as one of its sides holds it.
+fn log_held(
+    alloc: Global,
+    source: &Peer<Rules>,
+    target: &Peer<Rules>,
+    side: Side,
+    rep: &RepId,
+) -> Result<Log, AllocError>
+    ensures { IfOk result (λ log. log ≡ log_held side source.now.1 target.now.1 rep.now) }
+{
+    match side {
+        Side::Source => match source.source_log(alloc, rep) {
+            Ok(log) => Ok(log),
+            Err(_) => Err(AllocError),
+        },
+        Side::Target => match target.target_log(alloc, rep) {
+            Ok(log) => Ok(log),
+            Err(_) => Err(AllocError),
+        },
+    }
+}
+
+/// `audit`.
+pub fn serve_audit(
+    alloc: Global,
+    databases: &Databases,
+    source: &str,
+    target: &str,
+) -> Result<Vec<u8>, Refusal>
+    ensures told { IfOk result (λ text. Tells databases.now (ask_audit source.now target.now) text.items databases.now) }
+    ensures refused { IfErr result (λ why. RefusesAsk databases.now (ask_audit source.now target.now) why databases.now) }
+{
+    let Some(sender) = databases.find(source) else {
+        return Err(Refusal::NoDatabase);
+    };
+    let Some(receiver) = databases.find(target) else {
+        return Err(Refusal::NoDatabase);
+    };
+    match audited_text(alloc, sender, receiver) {
+        Ok(text) => Ok(text),
+        Err(refusal) => Err(refusal),
+    }
+}
+
+/// The answer to `audit`.
+fn audited_text(
+    alloc: Global,
+    source: &Peer<Rules>,
+    target: &Peer<Rules>,
+) -> Result<Vec<u8>, Refusal>
+    ensures { TextUnlessMemory result (audit_reply source.now.1 target.now.1) }
+{
+    let Ok(audited) = audit(alloc, source, target) else {
+        return Err(Refusal::Memory);
+    };
+    match audited {
+        Audit::Clean => match clean_text(alloc) {
+            Ok(text) => Ok(text),
+            Err(_) => Err(Refusal::Memory),
+        },
+        Audit::Hole { seq, id, rev } => match hole_text(alloc, seq, id.text(), rev) {
+            Ok(text) => Ok(text),
+            Err(_) => Err(Refusal::Memory),
+        },
+    }
+}
+
+/// `replicate`. An id is made for a session that has none, once both databases are found.
+pub fn serve_replicate(
+    alloc: Global,
+    databases: &mut Databases,
+    source: &str,
+    target: &str,
+    options: Options,
+) -> Result<Vec<u8>, Refusal>
+    ensures told { IfOk result (λ text. Tells databases.old (ask_replicate source.now target.now options) text.items databases.new) }
+    ensures refused { IfErr result (λ why. RefusesAsk databases.old (ask_replicate source.now target.now options) why databases.new) }
+{
+    if !databases.has(source) {
+        return Err(Refusal::NoDatabase);
+    }
+    if !databases.has(target) {
+        return Err(Refusal::NoDatabase);
+    }
+    let plan = match plan_of(databases, &options) {
+        Ok(plan) => plan,
+        Err(refusal) => return Err(refusal),
+    };
+    let outcome = databases.replicate(alloc, source, target, &plan);
+    match outcome_text(alloc, plan.session, outcome) {
+        Ok(text) => Ok(text),
+        Err(refusal) => Err(refusal),
+    }
+}
+
+/// The plan that a line asks for: what it leaves out is the program's, and an id is drawn where it names no session.
+///
+/// `BadMoment` where the moment lies after the year 9999.
+fn plan_of(databases: &mut Databases, options: &Options) -> Result<Plan, Refusal>
+    ensures state { databases.new ≡ databases.old }
+    ensures ok { IfOk result (λ plan. IsPlan databases.old.program options.now plan) }
+    ensures err { IfErr result (λ why. (why ≡ BadMoment) × (last_second < moment_of databases.old.program options.now)) }
+{
+    let session = match options.session {
+        Some(session) => session,
+        None => databases.draw(),
+    };
+    let settings = databases.settings();
+    let Ok(at) = Moment::new(options.at.unwrap_or(settings.at)) else {
+        return Err(Refusal::BadMoment);
+    };
+    Ok(Plan {
+        session: SessionId(session),
+        workers: options.workers.unwrap_or(settings.workers),
+        batch: options.batch.unwrap_or(settings.batch),
+        stop_after: options.stop_after,
+        at,
+    })
+}
+
+/// The answer to `replicate`: a replication that its plan stopped is not refused.
+fn outcome_text(
+    alloc: Global,
+    session: SessionId,
+    outcome: Result<Report, TargetFault>,
+) -> Result<Vec<u8>, Refusal>
+    ensures { TextOf result (replicated_as session outcome) }
+{
+    match outcome {
+        Ok(report) => match replicated_text(alloc, &report) {
+            Ok(text) => Ok(text),
+            Err(_) => Err(Refusal::Memory),
+        },
+        Err(fault) => match Refusal::stop_of(fault) {
+            Ok(low_water) => match stopped_text(alloc, session, low_water) {
+                Ok(text) => Ok(text),
+                Err(_) => Err(Refusal::Memory),
+            },
+            Err(refusal) => Err(refusal),
+        },
+    }
+}

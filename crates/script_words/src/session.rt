@@ -1,0 +1,76 @@
+//! A script of commands on databases in memory.
+ghost use Rattle.std.specs.Prelude.{◌≡◌, ℕ, List, IfOk, IfErr, OnOk};
+ghost use Rattle.std.specs.Io.KnownBytes.{Appends, IsAtEnd};
+ghost use Rattle.script_engine.specs.Device.{Gives};
+ghost use Rattle.script_engine.specs.Script.{IsAnswered, IsAnsweredSoFar};
+ghost use Rattle.script_engine.specs.Faults.{IsFaultOf};
+ghost use Rattle.script_databases.specs.Databases.{State, no_databases};
+ghost use Rattle.script_words.specs.Script.{LinesAnswer};
+ghost use Rattle.script_databases.specs.Tables.{program_of};
+
+use crate::serve::serve_command;
+use script_databases::{Databases, Settings};
+use script_engine::{ScriptFault, ScriptRead, ScriptWrite, Serve, run_lines};
+use std::marker::Model;
+
+/// The databases that a script's lines are served by, and what they run on.
+#[derive(Drop)]
+struct Session<'a, H> {
+    rt: &'a H,
+    databases: Databases,
+}
+
+impl<'a, H> Model for Session<'a, H> {
+    ghost use Rattle.script_databases.specs.Databases.{State, coded_state};
+
+    ghost Value = { State };
+
+    ghost coded = { coded_state };
+
+    ghost view = { λ a. a.databases };
+}
+
+impl<'a, H: AllocGlobal> Serve for Session<'a, H> {
+    ghost answers = { LinesAnswer };
+
+    fn serve(&mut self, line: &[u8], answer: &mut Vec<u8>) -> Result<(), &'static str> {
+        let text = match serve_command(self.rt.alloc(), &mut self.databases, line) {
+            Ok(text) => text,
+            Err(refusal) => return Err(refusal.name()),
+        };
+        *answer = text;
+        Ok(())
+    }
+}
+
+/// Runs a script: reads lines to the reader's end, each of which is one command, and writes the answers in their
+/// order (docs/PROFILE.md, "Command lines" and "Answers"). `true` where no line was refused.
+pub fn run_script<H: AllocGlobal, R: ScriptRead, W: ScriptWrite>(
+    rt: &H,
+    reader: &mut R,
+    writer: &mut W,
+    settings: &Settings,
+) -> Result<bool, ScriptFault>
+    // What is written is the answers to the lines of what was read, to its end.
+    ensures answers { IfOk result (λ clean. (input : List ℕ) × (text : List ℕ) × (state : State) × Gives (R.left reader.old) input
+        × Appends (W.held writer.old) (W.held writer.new) text
+        × IsAnswered LinesAnswer (no_databases (program_of settings.now)) input clean text state) }
+    ensures end { OnOk result (IsAtEnd (R.left reader.new)) }
+    ensures counted { OnOk result ((R.failures reader.new ≡ R.failures reader.old)
+        × (W.failures writer.new ≡ W.failures writer.old)) }
+    // After a fault it is a beginning of such answers, and the device that is named has failed.
+    ensures fault { IfErr result (λ fault. (input : List ℕ) × (text : List ℕ) × Gives (R.left reader.old) input
+        × Appends (W.held writer.old) (W.held writer.new) text
+        × IsAnsweredSoFar LinesAnswer (no_databases (program_of settings.now)) input text
+        × IsFaultOf fault input (R.failures reader.old) (R.failures reader.new)
+        (W.failures writer.old) (W.failures writer.new)) }
+{
+    let Ok(databases) = Databases::new(rt.alloc(), settings) else {
+        return Err(ScriptFault::Memory);
+    };
+    let mut session = Session { rt, databases };
+    match run_lines(rt.alloc(), &mut session, reader, writer) {
+        Ok(clean) => Ok(clean),
+        Err(fault) => Err(fault),
+    }
+}
