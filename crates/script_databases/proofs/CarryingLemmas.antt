@@ -19,9 +19,9 @@ use Rattle.repl_target.specs.declared.fault.Report.{Report}
 use Rattle.repl_target.specs.declared.fault.TargetFault.{TargetFault}
 use Rattle.repl_target.specs.declared.filter.Rules.{Rules}
 use Rattle.repl_target.specs.declared.replication.Plan.{Plan}
-use Rattle.script_databases.specs.Databases.{Program, State, peer_at, with_peer, text_cmp}
+use Rattle.script_databases.specs.Databases.{State, peer_at, with_peer, text_cmp}
 use Rattle.script_databases.specs.Carrying.{deny_refuses, Carried, IntoAnother}
-use Rattle.script_databases.specs.Tables.{AllDeny, Entries, IsIndex, denied_of, deny_of, peers_of, state_of}
+use Rattle.script_databases.specs.Tables.{Beside, AllDeny, Entries, IsIndex, denied_of, deny_of, peers_of, state_of}
 use Rattle.script_databases.specs.declared.refusal.Refusal.{Refusal}
 use Rattle.script_databases.specs.declared.refusal.Refusal.TheVariants as why
 use Rattle.script_databases.proofs.IndexLemmas.{index_written}

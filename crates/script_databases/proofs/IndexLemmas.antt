@@ -19,9 +19,9 @@ use Rattle.couch_base.specs.declared.fault.BaseFault.{BaseFault}
 use Rattle.repl_target.specs.Peer.{PeerValue}
 use Rattle.repl_target.specs.Writing.{after_edit, after_load, load_edited, next_local}
 use Rattle.repl_target.specs.declared.filter.Rules.{Rules}
-use Rattle.script_databases.specs.Databases.{Program, State, peer_at, with_peer, no_databases, IsTaken, text_cmp, changed_at, with_changed}
+use Rattle.script_databases.specs.Databases.{State, peer_at, with_peer, no_databases, IsTaken, text_cmp, changed_at, with_changed}
 use Rattle.script_databases.specs.declared.refusal.Refusal.{Refusal}
-use Rattle.script_databases.specs.Tables.{Entries, peers_of, state_of, IsIndex, AllDeny, deny_of, denied_of}
+use Rattle.script_databases.specs.Tables.{Beside, Entries, peers_of, state_of, IsIndex, AllDeny, deny_of, denied_of}
 use Rattle.script_databases.proofs.TableLemmas.{text_cmp-IsAntisymmetric, is_equal, get-by_text}
 
 -- ---- looking up
@@ -31,23 +31,21 @@ same_option None = refl
 same_option (Some x) = refl
 
 -- what a table has at a name is what the state has there
-pub found_at : (g : Program) (es : Entries) (s : State) (q : List ℕ) → state_of g es ≡ s → option_map (λ p. p.1) (lookup (is_text q) es) ≡ peer_at s q
+pub found_at : (g : Beside) (es : Entries) (s : State) (q : List ℕ) → state_of g es ≡ s → option_map (λ p. p.1) (lookup (is_text q) es) ≡ peer_at s q
 found_at g es s q e = sym (get-by_text (λ p. p.1) es q) ∙ ap (λ t. peer_at t q) e
 
 -- a table with one written
-pub state_with : (g : Program) (old new : Entries) (name : List ℕ) (u : PeerValue) → peers_of new ≡ insert (peers_of old) name u → state_of g new ≡ with_peer (state_of g old) name u
-state_with g old new name u e = ap (λ m. let s : State = record { program = g; peers = m } in s) e
+pub state_with : (g : Beside) (old new : Entries) (name : List ℕ) (u : PeerValue) → peers_of new ≡ insert (peers_of old) name u → state_of g new ≡ with_peer (state_of g old) name u
+state_with g old new name u e = ap (λ m. let s : State = record { program = g.program; drawn = g.drawn; peers = m } in s) e
 
-pub same_state : {A : Type 0} (g : Program) (r : Result A Refusal) (old new : Entries) → OnErr r (peers_of new ≡ peers_of old) → OnErr r (state_of g new ≡ state_of g old)
+pub same_state : {A : Type 0} (g : Beside) (r : Result A Refusal) (old new : Entries) → OnErr r (peers_of new ≡ peers_of old) → OnErr r (state_of g new ≡ state_of g old)
 same_state g (Ok x) old new e = tt
-same_state g (Err why) old new e = ap (λ m. let s : State = record { program = g; peers = m } in s) e
+same_state g (Err why) old new e = ap (λ m. let s : State = record { program = g.program; drawn = g.drawn; peers = m } in s) e
 
 -- ---- no databases
 
-pub empty_is : (g : Program) (es : Entries) → es ≡ [] → state_of g es ≡ no_databases g
-empty_is g es e = ap (state_of g) e
 
-pub index_none : (g : Program) (es : Entries) (uuids : List ℕ) → es ≡ [] → uuids ≡ [] → IsIndex (state_of g es) uuids
+pub index_none : (g : Beside) (es : Entries) (uuids : List ℕ) → es ≡ [] → uuids ≡ [] → IsIndex (state_of g es) uuids
 index_none g es uuids e f = record {
   noted = λ u h. absurd (true≢false (sym h ∙ ap (list_any (nat_eq u)) f));
   taken = λ u t. absurd (none_some t.1 (sym (get-empty text_cmp t.0) ∙ sym (ap (λ x. peer_at (state_of g x) t.0) e) ∙ t.2));
@@ -158,10 +156,10 @@ pub deny_kept : (deny : Option (List ℕ)) (old new : Entries) → AllDeny deny 
 deny_kept deny old new all e = λ q found h. all q found (sym (ap (λ m. get m q) e) ∙ h)
 
 -- one was added, or nothing was changed
-pub kept_or_added : {A E : Type 0} (r : Result A E) (g : Program) (old new : Entries) (name : List ℕ) (p : Rules × PeerValue) (uuids more : List ℕ) → IsIndex (state_of g old) uuids → AllDeny g.deny old → peer_at (state_of g old) name ≡ None → deny_of p.0 ≡ g.deny →
+pub kept_or_added : {A E : Type 0} (r : Result A E) (g : Beside) (old new : Entries) (name : List ℕ) (p : Rules × PeerValue) (uuids more : List ℕ) → IsIndex (state_of g old) uuids → AllDeny g.program.deny old → peer_at (state_of g old) name ≡ None → deny_of p.0 ≡ g.program.deny →
     OnOk r (peers_of new ≡ insert (peers_of old) name p.1) → OnOk r (denied_of new ≡ insert (denied_of old) name (deny_of p.0)) → OnOk r ((q : ℕ) → list_any (nat_eq q) more ≡ cond (nat_eq p.1.db.uuid q) true (list_any (nat_eq q) uuids)) →
-    OnErr r ((new ≡ old) × (more ≡ uuids)) → IsIndex (state_of g new) more × AllDeny g.deny new
+    OnErr r ((new ≡ old) × (more ≡ uuids)) → IsIndex (state_of g new) more × AllDeny g.program.deny new
 kept_or_added (Ok x) g old new name p uuids more index all absent denies peers filters noted err =
-    (index_added (state_of g old) (state_of g new) name p.1 uuids more p.1.db.uuid index absent (state_with g old new name p.1 peers) refl noted, deny_added g.deny old new name (deny_of p.0) all denies filters)
+    (index_added (state_of g old) (state_of g new) name p.1 uuids more p.1.db.uuid index absent (state_with g old new name p.1 peers) refl noted, deny_added g.program.deny old new name (deny_of p.0) all denies filters)
 kept_or_added (Err e) g old new name p uuids more index all absent denies peers filters noted err =
-    (subst (λ es. IsIndex (state_of g es) more) (sym err.0) (subst (λ us. IsIndex (state_of g old) us) (sym err.1) index), deny_kept g.deny old new all (ap denied_of err.0))
+    (subst (λ es. IsIndex (state_of g es) more) (sym err.0) (subst (λ us. IsIndex (state_of g old) us) (sym err.1) index), deny_kept g.program.deny old new all (ap denied_of err.0))

@@ -7,9 +7,9 @@ use Rattle.couch_base.specs.declared.fault.BaseFault.TheVariants as base
 use Rattle.repl_target.specs.Peer.{PeerValue}
 use Rattle.repl_target.specs.Writing.{BaseGives}
 use Rattle.script_databases.specs.Refusals.{told_as, base_refusal}
-use Rattle.script_databases.specs.Databases.{Program, State, text_cmp, with_changed, changed_at, edited_as}
+use Rattle.script_databases.specs.Databases.{State, text_cmp, with_changed, changed_at, edited_as}
 use Rattle.script_databases.specs.declared.refusal.Refusal.TheVariants as why
-use Rattle.script_databases.specs.Tables.{Entries, peers_of, state_of}
+use Rattle.script_databases.specs.Tables.{Beside, Entries, peers_of, state_of}
 use Rattle.script_databases.proofs.IndexLemmas.{state_with}
 use Rattle.script_databases.proofs.TableLemmas.{insert-same}
 
@@ -41,7 +41,7 @@ edit_refused after (base.RevExists r) expected h = inl (ap (edited_as after) (sy
 edit_refused after base.Memory expected h = inr refl
 
 -- one that is there was changed
-pub changed_there : (g : Program) (old new : Entries) (name : List ℕ) (f : PeerValue → PeerValue) (l u : PeerValue) → get (peers_of old) name ≡ Some l → peers_of new ≡ insert (peers_of old) name u → u ≡ f l → state_of g new ≡ changed_at (state_of g old) name f
+pub changed_there : (g : Beside) (old new : Entries) (name : List ℕ) (f : PeerValue → PeerValue) (l u : PeerValue) → get (peers_of old) name ≡ Some l → peers_of new ≡ insert (peers_of old) name u → u ≡ f l → state_of g new ≡ changed_at (state_of g old) name f
 changed_there g old new name f l u there is e = state_with g old new name (f l) (is ∙ ap (insert (peers_of old) name) e) ∙ sym (ap (with_changed (state_of g old) name f) there)
 
 -- or stayed

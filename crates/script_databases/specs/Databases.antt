@@ -15,6 +15,7 @@ use Rattle.couch_base.specs.declared.fault.BaseFault.{BaseFault}
 use Rattle.repl_target.specs.Peer.{PeerValue}
 use Rattle.repl_target.specs.PeerCode.{coded_peer}
 use Rattle.repl_target.specs.Writing.{after_load, after_edit}
+use Rattle.script_databases.specs.MadeIds.{made_id, next_place}
 use Rattle.script_databases.specs.Refusals.{told_as, base_refusal}
 use Rattle.script_databases.specs.declared.databases.Edited.{Edited}
 use Rattle.script_databases.specs.declared.refusal.Refusal.{Refusal}
@@ -24,28 +25,37 @@ use Rattle.script_databases.specs.declared.refusal.Refusal.TheVariants as why
 abbrev pub text_cmp : List ℕ → List ℕ → Ordering
 text_cmp = slice_cmp nat_cmp
 
--- what the program is set to: the beginning of the ids that a target refuses, and the moment, the workers and the batch of
--- replications that name none
+-- what the program is set to: the beginning of the ids that a target refuses, the seed of made ids, and the moment, the workers and
+-- the batch of replications that name none
 pub record Program : Type 0 where
   pub deny : Option (List ℕ)
+  pub seed : ℕ
   pub at : ℕ
   pub workers : ℕ
   pub batch : ℕ
 
--- what the program is set to, which no line changes, and the peers by name
+-- what the program is set to, which no line changes, how many ids were made (until the stream begins again), and the peers by name
 pub record State : Type 0 where
   pub program : Program
+  pub drawn : ℕ
   pub peers : FinMap text_cmp PeerValue
 
 abbrev pub coded_state : Coded State
-coded_state = code_by (Option (List ℕ) × (ℕ × (ℕ × (ℕ × FinMap text_cmp PeerValue))))
-    (coded× (coded_option (coded_list coded_ℕ)) (coded× coded_ℕ (coded× coded_ℕ (coded× coded_ℕ (finmap.code (coded_list coded_ℕ) coded_peer)))))
-    (λ s. (s.program.deny, (s.program.at, (s.program.workers, (s.program.batch, s.peers)))))
-    (λ p. record { program = record { deny = p.0; at = p.1.0; workers = p.1.1.0; batch = p.1.1.1.0 }; peers = p.1.1.1.1 })
+coded_state = code_by (Option (List ℕ) × (ℕ × (ℕ × (ℕ × (ℕ × (ℕ × FinMap text_cmp PeerValue))))))
+    (coded× (coded_option (coded_list coded_ℕ)) (coded× coded_ℕ (coded× coded_ℕ (coded× coded_ℕ (coded× coded_ℕ (coded× coded_ℕ (finmap.code (coded_list coded_ℕ) coded_peer)))))))
+    (λ s. (s.program.deny, (s.program.seed, (s.program.at, (s.program.workers, (s.program.batch, (s.drawn, s.peers)))))))
+    (λ p. record { program = record { deny = p.0; seed = p.1.0; at = p.1.1.0; workers = p.1.1.1.0; batch = p.1.1.1.1.0 }; drawn = p.1.1.1.1.1.0; peers = p.1.1.1.1.1.1 })
     (λ _. refl)
 
 abbrev pub no_databases : Program → State
-no_databases program = record { program = program; peers = finmap.empty }
+no_databases program = record { program = program; drawn = 0; peers = finmap.empty }
+
+-- the number of the next made id, and the state behind it
+abbrev pub next_made : State → ℕ
+next_made s = made_id s.program.seed s.drawn
+
+abbrev pub drawn_one : State → State
+drawn_one s = record s { drawn = next_place s.drawn }
 
 -- the peer of a name, where one has it
 abbrev pub peer_at : State → List ℕ → Option PeerValue

@@ -1,5 +1,6 @@
 pub mod Refusals
 pub mod MadeIds
+pub mod MadeIdsLaws
 pub mod Databases
 pub mod Carrying
 pub mod Tables

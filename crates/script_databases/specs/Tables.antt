@@ -21,8 +21,13 @@ Entries = List (String Global × (Rules × PeerValue))
 abbrev pub peers_of : Entries → FinMap text_cmp PeerValue
 peers_of entries = by_text (λ p. p.1) entries
 
-abbrev pub state_of : Program → Entries → State
-state_of program entries = record { program = program; peers = peers_of entries }
+-- what stands beside the peers
+pub record Beside : Type 0 where
+  pub program : Program
+  pub drawn : ℕ
+
+abbrev pub state_of : Beside → Entries → State
+state_of beside entries = record { program = beside.program; drawn = beside.drawn; peers = peers_of entries }
 
 -- the beginning of the ids that a filter refuses
 abbrev pub deny_of : Rules → Option (List ℕ)
@@ -38,7 +43,10 @@ AllDeny deny entries = (name : List ℕ) (denied : Option (List ℕ)) → finmap
 
 -- what settings say of a program
 abbrev pub program_of : Settings → Program
-program_of s = record { deny = option_map string_bytes s.deny; at = s.at; workers = s.workers; batch = s.batch }
+program_of s = record { deny = option_map string_bytes s.deny; seed = s.seed; at = s.at; workers = s.workers; batch = s.batch }
+
+abbrev pub beside_of : Settings → ℕ → Beside
+beside_of s drawn = record { program = program_of s; drawn = drawn }
 
 -- the list holds the numbers of the databases' UUIDs, and no others
 pub record IsIndex (s : State) (uuids : List ℕ) : Type 0 where

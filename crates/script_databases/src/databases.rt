@@ -27,14 +27,15 @@ pub struct Edited {
 /// The peers by their names.
 pub type Names = IndexMap<String, Peer<Rules>>;
 
-/// The databases of a script, each a peer under its name, the numbers of their UUIDs, and the stream of made ids. Each peer
-/// refuses what the settings say.
+/// The databases of a script, each a peer under its name, the numbers of their UUIDs, and how many ids were made. Each
+/// peer refuses what the settings say.
 #[derive(Drop)]
 pub struct Databases {
     settings: Settings,
     by_name: Names,
     uuids: IndexSet<u128>,
-    ids: MadeIds,
+    /// How many ids were made.
+    drawn: u128,
 }
 
 impl Model for Databases {
@@ -44,16 +45,16 @@ impl Model for Databases {
 
     ghost coded = { coded_state };
 
-    ghost use Rattle.script_databases.specs.Tables.{IsIndex, AllDeny, program_of, state_of};
+    ghost use Rattle.script_databases.specs.Tables.{IsIndex, AllDeny, beside_of, program_of, state_of};
 
-    ghost view = { λ a. state_of (program_of a.settings) a.by_name.entries };
+    ghost view = { λ a. state_of (beside_of a.settings a.drawn) a.by_name.entries };
 
-    ghost invariant = { λ a. IsIndex (state_of (program_of a.settings) a.by_name.entries) a.uuids.keys
+    ghost invariant = { λ a. IsIndex (state_of (beside_of a.settings a.drawn) a.by_name.entries) a.uuids.keys
         × AllDeny (program_of a.settings).deny a.by_name.entries };
 }
 
 impl Databases {
-    ghost use Rattle.script_databases.specs.Databases.{IsTaken, edited_answer, edited_at, load_answer, loaded_at, no_databases, peer_at, with_peer};
+    ghost use Rattle.script_databases.specs.Databases.{IsTaken, drawn_one, edited_answer, edited_at, load_answer, loaded_at, next_made, no_databases, peer_at, with_peer};
     ghost use Rattle.script_databases.specs.Tables.{deny_of, program_of};
     ghost use Rattle.repl_target.specs.Peer.{new_peer};
     ghost use Rattle.script_databases.specs.Refusals.{GivesUnlessMemory};
@@ -64,12 +65,11 @@ impl Databases {
         ensures { IfOk result (λ databases. databases ≡ no_databases (program_of settings.now)) }
     {
         let settings = settings.copy(alloc)?;
-        let ids = MadeIds::new(settings.seed);
         Ok(Databases {
             settings,
             by_name: IndexMap::new(alloc),
             uuids: IndexSet::new(alloc),
-            ids,
+            drawn: 0,
         })
     }
 
@@ -102,11 +102,18 @@ impl Databases {
         self.uuids.contains(&uuid)
     }
 
-    /// The number of the next made id.
+    /// The number of the next made id, which is drawn.
     pub fn draw(&mut self) -> u128
-        ensures { self.new ≡ self.old }
+        ensures id { result ≡ next_made self.old }
+        ensures drawn { self.new ≡ drawn_one self.old }
     {
-        self.ids.draw()
+        let mut ids = MadeIds {
+            seed: self.settings.seed,
+            drawn: self.drawn,
+        };
+        let id = ids.draw();
+        self.drawn = ids.drawn;
+        id
     }
 
     /// A peer of no documents that refuses what the settings say. `uuid` is the number of its UUID.

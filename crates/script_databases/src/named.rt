@@ -2,11 +2,11 @@
 ghost use Rattle.std.specs.Prelude.{◌≡◌, ◌≢◌, true, Some, OnErr, OnOk, ℕ, nat_eq, if◌then◌else◌};
 ghost use Rattle.std.specs.List.{list_any};
 ghost use Rattle.std.specs.FinMap.{contains_key, get, insert};
-ghost use Rattle.script_databases.specs.Databases.{Program, edited_answer, edited_at, load_answer, loaded_at};
+ghost use Rattle.script_databases.specs.Databases.{edited_answer, edited_at, load_answer, loaded_at};
 ghost use Rattle.script_databases.specs.Refusals.{GivesUnlessMemory};
 ghost use Rattle.script_databases.specs.Carrying.{IntoAnother};
 ghost use Rattle.repl_target.specs.Peer.{PeerValue};
-ghost use Rattle.script_databases.specs.Tables.{deny_of, denied_of, peers_of, state_of, AllDeny};
+ghost use Rattle.script_databases.specs.Tables.{Beside, deny_of, denied_of, peers_of, state_of, AllDeny};
 
 use crate::databases::{Edited, Names};
 use crate::refusal::Refusal;
@@ -44,7 +44,7 @@ pub fn add_at(
 /// Loads a document into the database of a name.
 pub fn load_at(names: &mut Names, name: &str, doc: &Doc) -> Result<Put, Refusal>
     ensures answer { GivesUnlessMemory result (load_answer (get (peers_of names.old.entries) name.now) doc.now) }
-    ensures ok { (g : Program) → OnOk result
+    ensures ok { (g : Beside) → OnOk result
         (state_of g names.new.entries ≡ loaded_at (state_of g names.old.entries) name.now doc.now) }
     ensures err { OnErr result (peers_of names.new.entries ≡ peers_of names.old.entries) }
     ensures filters { denied_of names.new.entries ≡ denied_of names.old.entries }
@@ -69,7 +69,7 @@ pub fn edit_at(
 ) -> Result<Edited, Refusal>
     ensures answer { GivesUnlessMemory result
         (edited_answer (get (peers_of names.old.entries) name.now) id.now parent deleted body.now) }
-    ensures ok { (g : Program) → OnOk result
+    ensures ok { (g : Beside) → OnOk result
         (state_of g names.new.entries ≡ edited_at (state_of g names.old.entries) name.now id.now parent deleted body.now) }
     ensures err { OnErr result (peers_of names.new.entries ≡ peers_of names.old.entries) }
     ensures filters { denied_of names.new.entries ≡ denied_of names.old.entries }
@@ -97,7 +97,7 @@ pub fn replicate_at(
     requires source { contains_key (peers_of names.old.entries) source.now ≡ true }
     requires target { contains_key (peers_of names.old.entries) target.now ≡ true }
     requires two { source.now ≢ target.now }
-    ensures carried { (g : Program) → AllDeny g.deny names.old.entries → (s : PeerValue) × (t : PeerValue)
+    ensures carried { (g : Beside) → AllDeny g.program.deny names.old.entries → (s : PeerValue) × (t : PeerValue)
         × (get (peers_of names.old.entries) source.now ≡ Some s) × (get (peers_of names.old.entries) target.now ≡ Some t)
         × IntoAnother (state_of g names.old.entries) source.now target.now s t plan.now result (state_of g names.new.entries) }
     ensures filters { denied_of names.new.entries ≡ denied_of names.old.entries }

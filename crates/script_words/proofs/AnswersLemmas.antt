@@ -17,7 +17,7 @@ use Rattle.repl_target.specs.Writing.{after_load}
 use Rattle.script_databases.specs.Refusals.{told_as, base_refusal}
 use Rattle.script_words.specs.Given.{document_given}
 use Rattle.script_words.specs.Edits.{edit_given}
-use Rattle.script_databases.specs.Databases.{State, peer_at, with_peer, IsTaken, with_changed, changed_at, load_answer, loaded_at, edited_at}
+use Rattle.script_databases.specs.Databases.{State, peer_at, with_peer, IsTaken, drawn_one, next_made, with_changed, changed_at, load_answer, loaded_at, edited_at}
 use Rattle.script_words.specs.Edits.{given_answer, after_given}
 use Rattle.script_words.specs.Reply.{Reply, refused, edited, is_refusal}
 use Rattle.script_words.specs.Answers.{Answers, Loads, LoadsThere, LoadsNew, LoadsUntaken, LoadsMade, Puts, Edits, EditsIn, Reads, loaded_reply, show_answer, show_of, shown_as, tree_found, doc_answer, doc_given, doc_of}
@@ -118,10 +118,10 @@ given_refused old new db uuid d given refusal e f free (new_after reply h) = ask
 pub loads_made : (old new : State) (db : List ℕ) (d : Option Data) (given : Result (Option Document) Refusal) (reply : Reply) → peer_at old db ≡ None → document_given d ≡ given → LoadsMade old db given reply new → Answers old (load db None d) reply new
 loads_made old new db d given reply e f h = subst (λ o. Loads old db o None (document_given d) reply new) (sym e) (subst (λ g. LoadsMade old db g reply new) (sym f) h)
 
-pub made_refused : (old new : State) (db : List ℕ) (uuid : ℕ) (d : Option Data) (given : Option Document) (refusal : Refusal) → peer_at old db ≡ None → document_given d ≡ Ok given → (IsTaken old uuid → ⊥) → RefusesNew old db uuid given refusal new → RefusesAsk old (load db None d) refusal new
-made_refused old new db uuid d given refusal e f free (new_in_vain h) = asked_in_vain (loads_made old new db d (Ok given) _ e f (uuid, inr (free, h)))
-made_refused old new db uuid d given refusal e f free new_before = asked_before
-made_refused old new db uuid d given refusal e f free (new_after reply h) = asked_after reply (loads_made old new db d (Ok given) reply e f (uuid, inr (free, h)))
+pub made_refused : (old new : State) (db : List ℕ) (d : Option Data) (given : Option Document) (refusal : Refusal) → peer_at old db ≡ None → document_given d ≡ Ok given → (IsTaken (drawn_one old) (next_made old) → ⊥) → RefusesNew (drawn_one old) db (next_made old) given refusal new → RefusesAsk old (load db None d) refusal new
+made_refused old new db d given refusal e f free (new_in_vain h) = asked_in_vain (loads_made old new db d (Ok given) _ e f (inl (inr (free, h))))
+made_refused old new db d given refusal e f free new_before = asked_in_vain (loads_made old new db d (Ok given) _ e f (inr (refl, refl)))
+made_refused old new db d given refusal e f free (new_after reply h) = asked_after reply (loads_made old new db d (Ok given) reply e f (inl (inr (free, h))))
 
 -- ---- `edit`
 

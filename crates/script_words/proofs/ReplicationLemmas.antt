@@ -1,5 +1,5 @@
 -- Replications of a script.
-use Rattle.std.proofs.Common.{◌≡◌, ◌≢◌, ◌⊎◌, inl, inr, ℕ, Bool, true, false, cond, nat_eq, List, Option, Some, None, Result, Ok, Err, String, string_bytes, refl, sym, ap, subst, ◌∙◌}
+use Rattle.std.proofs.Common.{◌≡◌, ◌≢◌, ◌≤◌, ◌⊎◌, inl, inr, ℕ, Bool, true, false, cond, nat_eq, List, Option, Some, None, Result, Ok, Err, String, string_bytes, refl, sym, ap, subst, ◌∙◌}
 use Rattle.std.specs.Prelude.{option_map}
 use Rattle.std.specs.List.{starts_with}
 use Rattle.std.specs.Option.{option_map_or}
@@ -23,7 +23,7 @@ use Rattle.script_words.specs.Answers.{Answers, ReplicatesBoth, ReplicatesFound}
 use Rattle.script_words.specs.Command.{Ask, replicate}
 use Rattle.script_databases.specs.Databases.{Program, State, peer_at, with_peer, text_cmp}
 use Rattle.script_databases.specs.Carrying.{deny_refuses, Carried, IntoAnother}
-use Rattle.script_words.specs.Replicating.{IsPlan, replicated_as}
+use Rattle.script_words.specs.Replicating.{last_second, moment_of, plan_of, replicated_as, with_drawn, with_session}
 use Rattle.script_words.specs.Reply.{Reply, refused}
 use Rattle.script_words.specs.Serving.{RefusesAsk, asked_in_vain, asked_after}
 use Rattle.script_databases.specs.Tables.{AllDeny, Entries, IsIndex, denied_of, deny_of, peers_of, state_of}
@@ -43,15 +43,21 @@ pub replicate_no_target : (old : State) (source target : List ℕ) (options : Op
 replicate_no_target old source target options s e f =
     subst (λ o. ReplicatesFound old source target options o (peer_at old target) (refused why.NoDatabase) old) (sym e) (subst (λ o. ReplicatesFound old source target options (Some s) o (refused why.NoDatabase) old) (sym f) (refl, refl))
 
+-- an id that is drawn changes no peer
+same_peer : (s : State) (given : Option ℕ) (name : List ℕ) → peer_at (with_drawn s given) name ≡ peer_at s name
+same_peer s (Some session) name = refl
+same_peer s None name = refl
+
 pub replicate_both : (old new : State) (source target : List ℕ) (options : Options) (s t : PeerValue) (reply : Reply) → peer_at old source ≡ Some s → peer_at old target ≡ Some t → ReplicatesBoth old source target options s t reply new → Answers old (replicate source target options) reply new
 replicate_both old new source target options s t reply e f h =
     subst (λ o. ReplicatesFound old source target options o (peer_at old target) reply new) (sym e) (subst (λ o. ReplicatesFound old source target options (Some s) o reply new) (sym f) h)
 
-pub replicate_done : (old mid new : State) (source target : List ℕ) (options : Options) (plan : Plan) (result : Result Report TargetFault) (reply : Reply) → mid ≡ old → IsPlan old.program options plan → CarriesFrom mid source target plan result new → reply ≡ replicated_as plan.session result →
-    Answers old (replicate source target options) reply new
-replicate_done old mid new source target options plan result reply e p h r =
-    let c = subst (λ m. CarriesFrom m source target plan result new) e h in
-    replicate_both old new source target options c.0 c.1 reply c.2 c.3 (inr (plan, p, result, c.4, r))
+pub replicate_done : (old mid new : State) (source target : List ℕ) (options : Options) (plan : Plan) (result : Result Report TargetFault) (reply : Reply) → mid ≡ with_session old options → moment_of old.program options ≤ last_second → plan ≡ plan_of old options →
+    CarriesFrom mid source target plan result new → reply ≡ replicated_as plan.session result → Answers old (replicate source target options) reply new
+replicate_done old mid new source target options plan result reply e m p h r =
+    let c = subst (λ q. CarriesFrom (with_session old options) source target q result new) p (subst (λ m. CarriesFrom m source target plan result new) e h) in
+    replicate_both old new source target options c.0 c.1 reply (sym (same_peer old options.session source) ∙ c.2) (sym (same_peer old options.session target) ∙ c.3)
+    (inr (m, result, c.4, r ∙ ap (λ (q : Plan). replicated_as q.session result) p))
 
 -- the reply, or want of memory for its text
 pub told_or_memory : {old new : State} {ask : Ask} {refusal : Refusal} (reply : Reply) → Answers old ask reply new → (reply ≡ refused refusal) ⊎ (refusal ≡ why.Memory) → RefusesAsk old ask refusal new

@@ -1,5 +1,5 @@
 -- What each command is answered, by cases: docs/PROFILE.md, "Command lines", "Order of checks" and "Answers".
-use Rattle.std.specs.Prelude.{◌≡◌, ◌⊎◌, ℕ, ◌<◌, Bool, List, Option, Some, None, Result, Ok, Err}
+use Rattle.std.specs.Prelude.{◌≡◌, ◌⊎◌, ℕ, ◌<◌, ◌≤◌, Bool, List, Option, Some, None, Result, Ok, Err}
 use Rattle.std.specs.FinMap as finmap
 use Rattle.rev_core.specs.Rev.{RevId}
 use Rattle.rev_core.specs.Ancestry.{head_of}
@@ -28,12 +28,12 @@ use Rattle.script_words.specs.Given.{id_given, rev_given, document_given}
 use Rattle.script_databases.specs.Refusals.{base_refusal, log_refusal}
 use Rattle.script_words.specs.Edits.{edit_given}
 use Rattle.script_words.specs.Command.{Ask, load, edit, show, doc, changes, log, audit, replicate}
-use Rattle.script_databases.specs.Databases.{State, peer_at, with_peer, IsTaken}
+use Rattle.script_databases.specs.Databases.{State, peer_at, with_peer, IsTaken, drawn_one, next_made}
 use Rattle.script_words.specs.Edits.{given_answer, after_given}
 use Rattle.repl_target.specs.declared.fault.Report.{Report}
 use Rattle.repl_target.specs.declared.fault.TargetFault.{TargetFault}
 use Rattle.repl_target.specs.declared.replication.Plan.{Plan}
-use Rattle.script_words.specs.Replicating.{last_second, moment_of, IsPlan, replicated_as}
+use Rattle.script_words.specs.Replicating.{last_second, moment_of, plan_of, replicated_as, with_session}
 use Rattle.script_databases.specs.Carrying.{Carried}
 use Rattle.script_words.specs.declared.command.Options.{Options}
 use Rattle.script_words.specs.Reply.{Reply, made, there, loaded, same, edited, shown, written, listed, logged, clean, hole, refused}
@@ -79,9 +79,9 @@ LoadsNew old db uuid (Err refusal) reply new = Refuses refusal old reply new
 abbrev pub LoadsUntaken : State → List ℕ → ℕ → Result (Option Document) Refusal → Reply → State → Type 0
 LoadsUntaken old db uuid given reply new = (IsTaken old uuid × Refuses why.UuidTaken old reply new) ⊎ ((IsTaken old uuid → ⊥) × LoadsNew old db uuid given reply new)
 
--- with a made UUID, which may be any: then the document is looked at first
+-- with a made UUID: the document is looked at first, and the id is drawn once it was accepted, also where memory is wanting behind that
 abbrev pub LoadsMade : State → List ℕ → Result (Option Document) Refusal → Reply → State → Type 0
-LoadsMade old db (Ok given) reply new = (uuid : ℕ) × LoadsUntaken old db uuid (Ok given) reply new
+LoadsMade old db (Ok given) reply new = LoadsUntaken (drawn_one old) db (next_made old) (Ok given) reply new ⊎ Refuses why.Memory (drawn_one old) reply new
 LoadsMade old db (Err refusal) reply new = Refuses refusal old reply new
 
 abbrev pub Loads : State → List ℕ → Option PeerValue → Option ℕ → Result (Option Document) Refusal → Reply → State → Type 0
@@ -189,8 +189,9 @@ audit_reply source target = Ok (audited_as (audit_answer source target))
 
 abbrev pub ReplicatesBoth : State → List ℕ → List ℕ → Options → PeerValue → PeerValue → Reply → State → Type 0
 ReplicatesBoth old source target options s t reply new =
-    (last_second < moment_of old.program options) × Refuses why.BadMoment old reply new
-    ⊎ (plan : Plan) × IsPlan old.program options plan × (result : Result Report TargetFault) × Carried old source target s t plan result new × (reply ≡ replicated_as plan.session result)
+    (last_second < moment_of old.program options) × Refuses why.BadMoment (with_session old options) reply new
+    ⊎ (moment_of old.program options ≤ last_second) × (result : Result Report TargetFault) × Carried (with_session old options) source target s t (plan_of old options) result new
+    × (reply ≡ replicated_as (plan_of old options).session result)
 
 abbrev pub ReplicatesFound : State → List ℕ → List ℕ → Options → Option PeerValue → Option PeerValue → Reply → State → Type 0
 ReplicatesFound old source target options None t reply new = Refuses why.NoDatabase old reply new

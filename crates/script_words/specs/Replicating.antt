@@ -9,7 +9,7 @@ use Rattle.repl_target.specs.Replication.{plan_answer, Replicates}
 use Rattle.repl_target.specs.declared.fault.Report.{Report}
 use Rattle.repl_target.specs.declared.fault.TargetFault.{TargetFault}
 use Rattle.repl_target.specs.declared.replication.Plan.{Plan}
-use Rattle.script_databases.specs.Databases.{Program, State, peer_at, with_peer}
+use Rattle.script_databases.specs.Databases.{Program, State, drawn_one, next_made}
 use Rattle.script_databases.specs.Refusals.{stop_of}
 use Rattle.script_words.specs.Reply.{Reply, replicated, stopped, refused}
 use Rattle.script_words.specs.declared.command.Options.{Options}
@@ -25,10 +25,16 @@ last_second = 253402300799
 abbrev pub moment_of : Program → Options → ℕ
 moment_of program options = unwrap_or options.at program.at
 
--- a given session has the given id, and a made id may be any
-abbrev pub IsSession : Option ℕ → ℕ → Type 0
-IsSession (Some given) session = session ≡ given
-IsSession None session = Unit {0}
+-- a session's id is the given one, or else the next made one, which is drawn
+abbrev pub session_of : State → Options → ℕ
+session_of s options = unwrap_or options.session (next_made s)
+
+abbrev pub with_drawn : State → Option ℕ → State
+with_drawn s (Some given) = s
+with_drawn s None = drawn_one s
+
+abbrev pub with_session : State → Options → State
+with_session s options = with_drawn s options.session
 
 -- what a line leaves out is the program's
 abbrev pub plan_with : Program → Options → ℕ → Plan
@@ -40,9 +46,9 @@ plan_with program options session = record {
   at = moment_of program options;
 }
 
--- a plan of a line
-abbrev pub IsPlan : Program → Options → Plan → Type 0
-IsPlan program options plan = (moment_of program options ≤ last_second) × (session : ℕ) × IsSession options.session session × (plan ≡ plan_with program options session)
+-- the plan of a line
+abbrev pub plan_of : State → Options → Plan
+plan_of s options = plan_with s.program options (session_of s options)
 
 -- ---- what it is told as
 

@@ -1,8 +1,8 @@
 //! Replications served, their logs and their audit.
-ghost use Rattle.std.specs.Prelude.{◌≡◌, ◌<◌, IfOk, IfErr};
+ghost use Rattle.std.specs.Prelude.{◌≡◌, ◌<◌, ◌≤◌, IfOk, IfErr};
 ghost use Rattle.script_words.specs.Answers.{audit_reply, log_answer, log_held};
 ghost use Rattle.script_words.specs.Command.{audit as ask_audit, log as ask_log, replicate as ask_replicate};
-ghost use Rattle.script_words.specs.Replicating.{IsPlan, last_second, moment_of, replicated_as};
+ghost use Rattle.script_words.specs.Replicating.{last_second, moment_of, plan_of, replicated_as, with_session};
 ghost use Rattle.script_databases.specs.declared.refusal.Refusal.TheVariants.{BadMoment};
 ghost use Rattle.script_words.specs.Serving.{RefusesAsk, Tells, TextOf, TextUnlessMemory};
 
@@ -148,7 +148,7 @@ pub fn serve_replicate(
     if !databases.has(target) {
         return Err(Refusal::NoDatabase);
     }
-    let plan = match plan_of(databases, &options) {
+    let plan = match plan_asked(databases, &options) {
         Ok(plan) => plan,
         Err(refusal) => return Err(refusal),
     };
@@ -162,9 +162,9 @@ pub fn serve_replicate(
 /// The plan that a line asks for: what it leaves out is the program's, and an id is drawn where it names no session.
 ///
 /// `BadMoment` where the moment lies after the year 9999.
-fn plan_of(databases: &mut Databases, options: &Options) -> Result<Plan, Refusal>
-    ensures state { databases.new ≡ databases.old }
-    ensures ok { IfOk result (λ plan. IsPlan databases.old.program options.now plan) }
+fn plan_asked(databases: &mut Databases, options: &Options) -> Result<Plan, Refusal>
+    ensures state { databases.new ≡ with_session databases.old options.now }
+    ensures ok { IfOk result (λ plan. (moment_of databases.old.program options.now ≤ last_second) × (plan ≡ plan_of databases.old options.now)) }
     ensures err { IfErr result (λ why. (why ≡ BadMoment) × (last_second < moment_of databases.old.program options.now)) }
 {
     let session = match options.session {

@@ -70,8 +70,8 @@ returns-clause-carried c = λ g all.
       (
         ns.1,
         nt.1,
-        subst (λ f. Replicates f place.1 receiver.1 plan result ns.1 nt.1) (refuses_is g.deny es.entries target receiver.0 all denies) done,
-        ap (λ m. let s : State = record { program = g; peers = m } in s) (written_back (peers_of es.entries) (peers_of h1.entries) (peers_of h2.entries) (peers_of h3.entries) source target dest.1 ns.1 nt.1 c.requires.two w1 w2 w3),
+        subst (λ f. Replicates f place.1 receiver.1 plan result ns.1 nt.1) (refuses_is g.program.deny es.entries target receiver.0 all denies) done,
+        ap (λ m. let s : State = record { program = g.program; drawn = g.drawn; peers = m } in s) (written_back (peers_of es.entries) (peers_of h1.entries) (peers_of h2.entries) (peers_of h3.entries) source target dest.1 ns.1 nt.1 c.requires.two w1 w2 w3),
       ),
     )
 

@@ -1,5 +1,5 @@
-use Rattle.std.proofs.Common.{Ok, Err, refl, subst, inl, inr}
-use Rattle.script_databases.specs.Databases.{State, IsTaken}
+use Rattle.std.proofs.Common.{Ok, Err, refl, sym, subst, inl, inr, ◌∙◌}
+use Rattle.script_databases.specs.Databases.{State, IsTaken, drawn_one, next_made}
 use Rattle.script_words.specs.Serving.{asked_in_vain, RefusesNew, TellsNew}
 use Rattle.script_words.proofs.AnswersLemmas.{unless_memory, loads_made, made_refused}
 use Rattle.script_words.proofs.loading.load_made.Goals as goal
@@ -12,22 +12,21 @@ returns-in-Err-clause-refused c =
 pub returns-then-is_taken-clause-refused : goal.returns-then-is_taken-clause-refused
 returns-then-is_taken-clause-refused c =
     let old = c.args.databases.now in
-    let uuid = c.draw-uuid.result in
-    let taken = subst (λ (s : State). IsTaken s uuid) c.draw-uuid.ensures (c.is_taken.ensures.taken c.if-is_taken.true) in
-    asked_in_vain (loads_made old _ c.args.db.now _ (Ok c.in-Ok.given) _ c.requires c.in-Ok.ensures (uuid, inl (taken, (refl, c.draw-uuid.ensures))))
+    let taken = subst (λ u. IsTaken (drawn_one old) u) c.draw-uuid.ensures.id (subst (λ (s : State). IsTaken s c.draw-uuid.result) c.draw-uuid.ensures.drawn (c.is_taken.ensures.taken c.if-is_taken.true)) in
+    asked_in_vain (loads_made old _ c.args.db.now _ (Ok c.in-Ok.given) _ c.requires c.in-Ok.ensures (inl (inl (taken, (refl, c.draw-uuid.ensures.drawn)))))
 
 pub returns-in-Ok-load_new-clause-told : goal.returns-in-Ok-load_new-clause-told
 returns-in-Ok-load_new-clause-told c =
     let old = c.args.databases.now in
-    let uuid = c.draw-uuid.result in
-    let free = subst (λ (s : State). IsTaken s uuid → ⊥) c.draw-uuid.ensures (c.is_taken.ensures.free c.if-is_taken.false) in
-    let told = subst (λ (s : State). TellsNew s c.args.db.now uuid c.in-Ok.given c.in-Ok-load_new.text.items c.load_new.new.databases) c.draw-uuid.ensures c.in-Ok-load_new.ensures.told in
-    (told.0, loads_made old _ c.args.db.now _ (Ok c.in-Ok.given) told.0 c.requires c.in-Ok.ensures (uuid, inr (free, told.1)), told.2, told.3)
+    let free = subst (λ u. IsTaken (drawn_one old) u → ⊥) c.draw-uuid.ensures.id (subst (λ (s : State). IsTaken s c.draw-uuid.result → ⊥) c.draw-uuid.ensures.drawn (c.is_taken.ensures.free c.if-is_taken.false)) in
+    let told = subst (λ u. TellsNew (drawn_one old) c.args.db.now u c.in-Ok.given c.in-Ok-load_new.text.items c.load_new.new.databases) c.draw-uuid.ensures.id
+        (subst (λ (s : State). TellsNew s c.args.db.now c.draw-uuid.result c.in-Ok.given c.in-Ok-load_new.text.items c.load_new.new.databases) c.draw-uuid.ensures.drawn c.in-Ok-load_new.ensures.told) in
+    (told.0, loads_made old _ c.args.db.now _ (Ok c.in-Ok.given) told.0 c.requires c.in-Ok.ensures (inl (inr (free, told.1))), told.2, told.3)
 
 pub returns-in-Err-load_new-clause-refused : goal.returns-in-Err-load_new-clause-refused
 returns-in-Err-load_new-clause-refused c =
     let old = c.args.databases.now in
-    let uuid = c.draw-uuid.result in
-    let free = subst (λ (s : State). IsTaken s uuid → ⊥) c.draw-uuid.ensures (c.is_taken.ensures.free c.if-is_taken.false) in
-    let told = subst (λ (s : State). RefusesNew s c.args.db.now uuid c.in-Ok.given c.in-Err-load_new.refusal c.load_new.new.databases) c.draw-uuid.ensures c.in-Err-load_new.ensures.refused in
-    made_refused old _ c.args.db.now uuid _ c.in-Ok.given c.in-Err-load_new.refusal c.requires c.in-Ok.ensures free told
+    let free = subst (λ u. IsTaken (drawn_one old) u → ⊥) c.draw-uuid.ensures.id (subst (λ (s : State). IsTaken s c.draw-uuid.result → ⊥) c.draw-uuid.ensures.drawn (c.is_taken.ensures.free c.if-is_taken.false)) in
+    let told = subst (λ u. RefusesNew (drawn_one old) c.args.db.now u c.in-Ok.given c.in-Err-load_new.refusal c.load_new.new.databases) c.draw-uuid.ensures.id
+        (subst (λ (s : State). RefusesNew s c.args.db.now c.draw-uuid.result c.in-Ok.given c.in-Err-load_new.refusal c.load_new.new.databases) c.draw-uuid.ensures.drawn c.in-Err-load_new.ensures.refused) in
+    made_refused old _ c.args.db.now _ c.in-Ok.given c.in-Err-load_new.refusal c.requires c.in-Ok.ensures free told

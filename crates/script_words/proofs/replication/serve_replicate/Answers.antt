@@ -23,7 +23,7 @@ returns-in-Err-clause-refused c =
     let old = c.args.databases.now in
     let s = is_there old c.args.source.now (sym c.has.ensures ∙ c.if-not-has.false) in
     let t = is_there old c.args.target.now (sym c.has-2.ensures ∙ c.if-not-has-2.false) in
-    let new = c.plan_of.new.databases in
+    let new = c.plan_asked.new.databases in
     subst (λ r. RefusesAsk old (replicate c.args.source.now c.args.target.now c.args.options) r new) (sym c.in-Err.ensures.err.0)
     (asked_in_vain (replicate_both old new c.args.source.now c.args.target.now c.args.options s.0 t.0 (refused why.BadMoment) s.1 t.1 (inl (c.in-Err.ensures.err.1, (refl, c.in-Err.ensures.state)))))
 
@@ -32,7 +32,7 @@ returns-in-Ok-outcome_text-clause-told c =
     let plan = c.in-Ok.plan in
     let result = c.replicate-outcome.result in (
       replicated_as plan.session result,
-      replicate_done c.args.databases.now c.plan_of.new.databases _ c.args.source.now c.args.target.now c.args.options plan result _ c.in-Ok.ensures.state c.in-Ok.ensures.ok c.replicate-outcome.ensures refl,
+      replicate_done c.args.databases.now c.plan_asked.new.databases _ c.args.source.now c.args.target.now c.args.options plan result _ c.in-Ok.ensures.state c.in-Ok.ensures.ok.0 c.in-Ok.ensures.ok.1 c.replicate-outcome.ensures refl,
       c.in-Ok-outcome_text.ensures.0,
       c.in-Ok-outcome_text.ensures.1,
     )
@@ -42,5 +42,5 @@ returns-in-Err-outcome_text-clause-refused c =
     let plan = c.in-Ok.plan in
     let result = c.replicate-outcome.result in
     told_or_memory (replicated_as plan.session result)
-    (replicate_done c.args.databases.now c.plan_of.new.databases _ c.args.source.now c.args.target.now c.args.options plan result _ c.in-Ok.ensures.state c.in-Ok.ensures.ok c.replicate-outcome.ensures refl)
+    (replicate_done c.args.databases.now c.plan_asked.new.databases _ c.args.source.now c.args.target.now c.args.options plan result _ c.in-Ok.ensures.state c.in-Ok.ensures.ok.0 c.in-Ok.ensures.ok.1 c.replicate-outcome.ensures refl)
     c.in-Err-outcome_text.ensures

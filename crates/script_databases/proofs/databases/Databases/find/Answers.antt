@@ -2,11 +2,11 @@ use Rattle.std.proofs.Common.{ap, ◌∙◌, Option}
 use Rattle.std.specs.Prelude.{option_map}
 use Rattle.repl_target.specs.Peer.{PeerValue}
 use Rattle.repl_target.specs.declared.filter.Rules.{Rules}
-use Rattle.script_databases.specs.Tables.{program_of}
+use Rattle.script_databases.specs.Tables.{beside_of}
 use Rattle.script_databases.proofs.IndexLemmas.{found_at}
 use Rattle.script_databases.proofs.databases.Databases.find.Goals as goal
 
 pub returns : goal.returns
 returns c =
     ap (λ (o : Option (Rules × PeerValue)). option_map (λ (p : Rules × PeerValue). p.1) o) c.get.ensures.value
-    ∙ found_at (program_of c.self.inside.settings) c.self.inside.by_name.entries c.args.self.now c.args.name.now c.self.view_is
+    ∙ found_at (beside_of c.self.inside.settings c.self.inside.drawn) c.self.inside.by_name.entries c.args.self.now c.args.name.now c.self.view_is
