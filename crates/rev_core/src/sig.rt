@@ -147,8 +147,6 @@ fn padded(text: &[u8]) -> [u8; 64]
     ensures { result ≡ padded text.now }
 {
     let mut bytes = [0; 64];
-    for i in 0..text.len() {
-        bytes[i] = text[i];
-    }
+    bytes[..text.len()].copy_from_slice(text);
     bytes
 }
