@@ -19,7 +19,7 @@ returns-in-Ok-there_text-clause-told c =
 pub returns-in-Err-there_text-clause-refused : goal.returns-in-Err-there_text-clause-refused
 returns-in-Err-there_text-clause-refused c =
     let l = is_there c.args.databases.now c.args.db.now c.requires in
-    asked_after (there c.args.db.now) (loads_there c.args.databases.now c.args.databases.now c.args.db.now _ l.0 (Ok None) _ l.1 (c.in-Ok.ensures ∙ ap Ok c.in_default.is) (refl, refl))
+    asked_after (there c.args.db.now) refl (loads_there c.args.databases.now c.args.databases.now c.args.db.now _ l.0 (Ok None) _ l.1 (c.in-Ok.ensures ∙ ap Ok c.in_default.is) (refl, refl))
 
 pub returns-in-Err-load-clause-refused : goal.returns-in-Err-load-clause-refused
 returns-in-Err-load-clause-refused c =
@@ -39,5 +39,5 @@ returns-in-Ok-load_text-clause-told c =
 pub returns-clause-refused : goal.returns-clause-refused
 returns-clause-refused c =
     let l = is_there c.args.databases.now c.args.db.now c.requires in
-    asked_after (loaded_reply c.args.db.now c.in-Some.document c.in-Ok-load.done)
+    asked_after (loaded_reply c.args.db.now c.in-Some.document c.in-Ok-load.done) (load_accepted c.args.db.now c.in-Some.document c.in-Ok-load.done)
     (loads_put c.args.databases.now _ c.args.db.now _ l.0 c.in-Some.document c.in-Ok-load.done l.1 (c.in-Ok.ensures ∙ ap Ok c.in-Some.is) c.in-Ok-load.ensures.answer c.in-Ok-load.ensures.ok)
