@@ -1,6 +1,5 @@
 -- How a line is served, for the functions that do it.
-use Rattle.std.specs.Prelude.{◌≡◌, ℕ, List, Vec, false, ◌⊎◌, Option, Result, Ok, Err}
-use Rattle.std.specs.declared.alloc.Global.{Global}
+use Rattle.std.specs.Prelude.{◌≡◌, ℕ, List, false, ◌⊎◌, Option, Result, Ok, Err}
 use Rattle.doc_json.specs.Document.{Document}
 use Rattle.script_words.specs.Command.{Ask}
 use Rattle.script_databases.specs.Databases.{State}
@@ -39,11 +38,11 @@ pub data RefusesLine : State → List ℕ → Refusal → State → Type 0 where
   after : {old new : State} {line : List ℕ} (reply : Reply) → is_refusal reply ≡ false → AnswersLine old line reply new → RefusesLine old line Memory new
 
 -- the text of the expected reply, or the expected refusal, unless memory ran out
-abbrev pub TextUnlessMemory : Result (Vec ℕ Global) Refusal → Result Reply Refusal → Type 0
-TextUnlessMemory (Ok text) expected = (reply : Reply) × (expected ≡ Ok reply) × (is_refusal reply ≡ false) × ((n : ℕ) → text.items ≡ reply_text n reply)
-TextUnlessMemory (Err why) expected = (expected ≡ Err why) ⊎ (why ≡ Memory)
+abbrev pub TextUnlessMemory : {A : Type 0} → Result A Refusal → List ℕ → Result Reply Refusal → Type 0
+TextUnlessMemory (Ok done) text expected = (reply : Reply) × (expected ≡ Ok reply) × (is_refusal reply ≡ false) × ((n : ℕ) → text ≡ reply_text n reply)
+TextUnlessMemory (Err why) text expected = (expected ≡ Err why) ⊎ (why ≡ Memory)
 
 -- the text of a reply, or its refusal, unless memory ran out for the text
-abbrev pub TextOf : Result (Vec ℕ Global) Refusal → Reply → Type 0
-TextOf (Ok text) reply = (is_refusal reply ≡ false) × ((n : ℕ) → text.items ≡ reply_text n reply)
-TextOf (Err why) reply = (reply ≡ refused why) ⊎ ((why ≡ Memory) × (is_refusal reply ≡ false))
+abbrev pub TextOf : {A : Type 0} → Result A Refusal → List ℕ → Reply → Type 0
+TextOf (Ok done) text reply = (is_refusal reply ≡ false) × ((n : ℕ) → text ≡ reply_text n reply)
+TextOf (Err why) text reply = (reply ≡ refused why) ⊎ ((why ≡ Memory) × (is_refusal reply ≡ false))

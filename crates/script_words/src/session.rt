@@ -35,11 +35,10 @@ impl<'a, H: AllocGlobal> Serve for Session<'a, H> {
     ghost answers = { LinesAnswer };
 
     fn serve(&mut self, line: &[u8], answer: &mut Vec<u8>) -> Result<(), &'static str> {
-        let text = match serve_command(self.rt.alloc(), &mut self.databases, line) {
-            Ok(text) => text,
+        match serve_command(self.rt.alloc(), answer, &mut self.databases, line) {
+            Ok(()) => {}
             Err(refusal) => return Err(refusal.name()),
-        };
-        *answer = text;
+        }
         Ok(())
     }
 }

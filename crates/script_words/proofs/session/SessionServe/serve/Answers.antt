@@ -8,7 +8,7 @@ use Rattle.script_words.proofs.ServeLemmas.{tells, refuses, name_short}
 use Rattle.script_words.proofs.session.SessionServe.serve.Goals as goal
 
 pub returns-clause-told : goal.returns-clause-told
-returns-clause-told g c = subst (λ (s : State). MayTell LinesAnswer s c.args.line.now (Ok c.in-Ok.text.items) c.serve_command.new.databases) c.self.view_is (tells c.in-Ok.ensures.told)
+returns-clause-told g c = subst (λ (s : State). MayTell LinesAnswer s c.args.line.now (Ok c.serve_command.new.answer.items) c.serve_command.new.databases) c.self.view_is (tells c.in-Ok.ensures.told)
 
 pub returns-in-Err-clause-refused : goal.returns-in-Err-clause-refused
 returns-in-Err-clause-refused g c =
