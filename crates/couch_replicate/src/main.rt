@@ -4,7 +4,9 @@
 //! `script_words` over `script_databases`; here stand the command line, the standard streams and the exit status.
 #![tactic(auto)]
 
+mod options;
 mod program;
+mod run;
 
 use std::process::ExitCode;
 

@@ -44,7 +44,6 @@ same_state g (Err why) old new e = ap (λ m. let s : State = record { program = 
 
 -- ---- no databases
 
-
 pub index_none : (g : Beside) (es : Entries) (uuids : List ℕ) → es ≡ [] → uuids ≡ [] → IsIndex (state_of g es) uuids
 index_none g es uuids e f = record {
   noted = λ u h. absurd (true≢false (sym h ∙ ap (list_any (nat_eq u)) f));

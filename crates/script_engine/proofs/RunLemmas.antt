@@ -2,7 +2,7 @@
 use Rattle.std.proofs.Common.{◌≡◌, ℕ, ◌+◌, ◌*◌, ◌<◌, ◌≤◌, List, [], ◌++◌, length, take, Bool, true, refl, sym, ap, subst, ◌∙◌, arith, append_assoc, append-nil, length-append, Option, Some, None}
 use Rattle.std.specs.Prelude.{unwrap_or, min}
 use Rattle.std.specs.Io.KnownBytes.{Consumes, Appends, Keeps, IsAtEnd}
-use Rattle.script_engine.specs.Device.{Gives, full}
+use Rattle.script_engine.specs.Device.{Gives, counted, full}
 use Rattle.script_engine.specs.Faults.{IsOfWriter, IsFaultOf}
 use Rattle.script_engine.specs.declared.fault.ScriptFault.{ScriptFault}
 use Rattle.script_engine.specs.declared.fault.ScriptFault.TheVariants.{Read, Write, Memory}
@@ -20,7 +20,6 @@ pub record Ran {S : Type 0} (f : Answering S (List ℕ)) (g : S) (p : Place S) (
   pub served : Served f (start g) input p text
   pub taken : Consumes left left' input
   pub written : Appends held held' text
-  pub enough : turns ≤ length input
   pub few : length input ≤ 65536 * turns
 
 -- ---- known bytes
@@ -61,7 +60,6 @@ Ran-none {f} {g} p left held e = record {
   served = subst (λ q. Served f (start g) [] q []) (sym e) (Served-none (start g));
   taken = Consumes-none left;
   written = Appends-none held;
-  enough = omega arith;
   few = omega arith;
 }
 
@@ -73,7 +71,6 @@ Ran-more {turns = turns} q left'' held'' bytes r c some most (t, s, w) = record 
   served = Served-joined r.served s;
   taken = Consumes-joined _ _ _ r.input bytes r.taken c;
   written = Appends-joined _ _ _ r.text t r.written w;
-  enough = omega (arith, r.enough, length-append r.input bytes);
   few = omega (arith, r.few, length-append r.input bytes);
 }
 
@@ -84,47 +81,43 @@ Ran-number r h = omega (arith, r.served.number_is, r.served.few, r.few)
 -- ---- faults
 
 -- an answer to a whole input that begins with this text
-pub record SoFar {S : Type 0} (f : Answering S (List ℕ)) (g : S) (left held held' : Option (List ℕ)) (least : ℕ) : Type 0 where
+pub record SoFar {S : Type 0} (f : Answering S (List ℕ)) (g : S) (left held held' : Option (List ℕ)) : Type 0 where
   pub input : List ℕ
   pub text : List ℕ
   pub gives : Gives left input
   pub written : Appends held held' text
   pub answered : IsAnsweredSoFar f g input text
-  pub long : least ≤ length input
 
-pub SoFar-none : {S : Type 0} {f : Answering S (List ℕ)} {g : S} (left held : Option (List ℕ)) → SoFar f g left held held 0
+pub SoFar-none : {S : Type 0} {f : Answering S (List ℕ)} {g : S} (left held : Option (List ℕ)) → SoFar f g left held held
 SoFar-none {g} left held = record {
   input = [] ++ unwrap_or left [];
   text = [];
   gives = Gives-left left left [] (Consumes-none left);
   written = Appends-none held;
   answered = is_answered_so_far (unwrap_or left []) (Begins-none (start g) (unwrap_or left [])) refl;
-  long = omega arith;
 }
 
 begins : {S : Type 0} {f : Answering S (List ℕ)} → {p q : Place S} {xs t : List ℕ} → Served f p xs q t → Begins f p xs t
 begins {f} {p} {q} {xs} {t} s = record { front = xs; back = []; new = q; more = []; bytes_are = sym (append-nil xs); serves = subst (λ z. Served f p xs q z) (sym (append-nil t)) s }
 
 -- the script stopped between two turns
-pub SoFar-stopped : {S : Type 0} {f : Answering S (List ℕ)} {g : S} {p : Place S} {left left' held held' : Option (List ℕ)} {turns : ℕ} (left'' : Option (List ℕ)) → Ran f g p left left' held held' turns → Keeps left' left'' → SoFar f g left held held' turns
+pub SoFar-stopped : {S : Type 0} {f : Answering S (List ℕ)} {g : S} {p : Place S} {left left' held held' : Option (List ℕ)} {turns : ℕ} (left'' : Option (List ℕ)) → Ran f g p left left' held held' turns → Keeps left' left'' → SoFar f g left held held'
 SoFar-stopped {left = left} {left'} left'' r k = record {
   input = r.input ++ unwrap_or left'' [];
   text = r.text;
   gives = Gives-left left left'' r.input (Consumes-kept left left' left'' r.input r.taken k);
   written = r.written;
   answered = is_answered_so_far (r.input ++ unwrap_or left'' []) (Begins-more (unwrap_or left'' []) (begins r.served)) refl;
-  long = omega (arith, r.enough, length-append r.input (unwrap_or left'' []));
 }
 
 -- it stopped in a chunk
-pub SoFar-fed : {S : Type 0} {f : Answering S (List ℕ)} {g : S} {p : Place S} {left left' held held' : Option (List ℕ)} {turns : ℕ} (left'' held'' : Option (List ℕ)) (bytes : List ℕ) → Ran f g p left left' held held' turns → Consumes left' left'' bytes → FeedsInPart f p bytes held' held'' → SoFar f g left held held'' 0
+pub SoFar-fed : {S : Type 0} {f : Answering S (List ℕ)} {g : S} {p : Place S} {left left' held held' : Option (List ℕ)} {turns : ℕ} (left'' held'' : Option (List ℕ)) (bytes : List ℕ) → Ran f g p left left' held held' turns → Consumes left' left'' bytes → FeedsInPart f p bytes held' held'' → SoFar f g left held held''
 SoFar-fed {left = left} {left'} left'' held'' bytes r c (t, b, w) = record {
   input = (r.input ++ bytes) ++ unwrap_or left'' [];
   text = r.text ++ t;
   gives = Gives-left left left'' (r.input ++ bytes) (Consumes-joined left left' left'' r.input bytes r.taken c);
   written = Appends-joined _ _ _ r.text t r.written w;
   answered = is_answered_so_far ((r.input ++ bytes) ++ unwrap_or left'' []) (Begins-more (unwrap_or left'' []) (Begins-joined r.served b)) refl;
-  long = omega arith;
 }
 
 -- ---- the end
@@ -133,14 +126,13 @@ same_lines : {S : Type 0} {f : Answering S (List ℕ)} {g : S} {p : Place S} {xs
 same_lines {p} {xs} bytes s e = s.cut bytes ∙ ap (λ z. s.lines ++ z) (e ∙ ap lines_of (sym (append-nil p.begun))) ∙ sym (s.cut []) ∙ ap lines_of (append-nil xs)
 
 -- it stopped in its last line
-pub SoFar-finished : {S : Type 0} {f : Answering S (List ℕ)} {g : S} {p : Place S} {left left' held held' : Option (List ℕ)} {turns : ℕ} (held'' : Option (List ℕ)) → Ran f g p left left' held held' turns → IsAtEnd left' → FinishesInPart f p held' held'' → SoFar f g left held held'' 0
+pub SoFar-finished : {S : Type 0} {f : Answering S (List ℕ)} {g : S} {p : Place S} {left left' held held' : Option (List ℕ)} {turns : ℕ} (held'' : Option (List ℕ)) → Ran f g p left left' held held' turns → IsAtEnd left' → FinishesInPart f p held' held'' → SoFar f g left held held''
 SoFar-finished {left = left} {left'} held'' r e (bytes, l, (t, b, w)) = record {
   input = r.input;
   text = r.text ++ t;
   gives = Gives-end left left' r.input r.taken e;
   written = Appends-joined _ _ _ r.text t r.written w;
   answered = is_answered_so_far r.input (Begins-joined r.served b) (same_lines bytes r.served l);
-  long = omega arith;
 }
 
 -- it came to its end
@@ -157,16 +149,15 @@ Ran-end {left = left} {left'} left'' buffer n z r c = record {
   served = r.served;
   taken = subst (λ x. Consumes left left'' x) (append-nil r.input) (Consumes-joined left left' left'' r.input [] r.taken (subst (λ k. Consumes left' left'' (take k buffer)) z c));
   written = r.written;
-  enough = r.enough;
   few = r.few;
 }
 
 -- ---- which device failed
 
-pub IsFaultOf-writer : (fault : ScriptFault) (input : List ℕ) (r r' w w' w'' : ℕ) → r' ≡ r → w' ≡ w → IsOfWriter fault w' w'' → IsFaultOf fault input r r' w w''
-IsFaultOf-writer Read input r r' w w' w'' e f h = absurd h
-IsFaultOf-writer Write input r r' w w' w'' e f h = (e, h ∙ ap (λ n. min (n + 1) full) f)
-IsFaultOf-writer Memory input r r' w w' w'' e f h = (e, h ∙ f)
+pub IsFaultOf-writer : (fault : ScriptFault) (k k' r r' w w' w'' : ℕ) → r' ≡ r → w' ≡ w → IsOfWriter fault w' w'' → IsFaultOf fault k k' r r' w w''
+IsFaultOf-writer Read k k' r r' w w' w'' e f h = absurd h
+IsFaultOf-writer Write k k' r r' w w' w'' e f h = (e, h ∙ ap (λ n. min (n + 1) full) f)
+IsFaultOf-writer Memory k k' r r' w w' w'' e f h = (e, h ∙ f)
 
 pub Keeps-same : (a : Option (List ℕ)) → Keeps a a
 Keeps-same None = tt
@@ -182,3 +173,8 @@ over_memory f s l h h' bytes written input text clean new el eh ew gives appends
     let taken : bytes ≡ input = subst (λ o. Gives o input) el gives in
     let put : written ≡ text = subst (λ o. Appends o (Some written) text) eh (subst (λ o. Appends h o text) (sym ew) appends) in
     subst (λ w. IsAnswered f s bytes clean w new) (sym put) (subst (λ b. IsAnswered f s b clean text new) (sym taken) answered)
+
+-- ---- counts
+
+pub one_more : (a b n : ℕ) → counted b 0 ≡ counted a n → counted (counted b 1) 0 ≡ counted a (n + 1)
+one_more a b n e = omega (arith, e)

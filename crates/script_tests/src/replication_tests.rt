@@ -1,7 +1,7 @@
 //! Replications of scripts.
 
-use script_databases::Settings;
 use crate::tests::{has_refusal, run_with};
+use script_databases::Settings;
 use std::test::Fail;
 
 /// Scripts of replications, each with what the ids begin with that its targets refuse, where that isn't empty, and with what

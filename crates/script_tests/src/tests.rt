@@ -571,12 +571,18 @@ struct NarrowReader<'a> {
     bytes: &'a [u8],
     calls_left: u64,
     failures: u64,
+    reads: u64,
 }
 
 impl ScriptRead for NarrowReader<'_> {
     ghost failures = { λ s. s.failures };
 
+    ghost reads = { λ s. s.reads };
+
     fn read(&mut self, buffer: &mut [u8]) -> io::Result<usize> {
+        if self.reads < u64::MAX {
+            self.reads += 1;
+        }
         if self.failures == u64::MAX {
             return Err(io::Error::from(ErrorKind::Other));
         }
@@ -604,6 +610,7 @@ fn stops_at_a_failed_read(rt: HostRuntime) -> Result<(), Fail> {
             bytes: CONFLICT.as_bytes(),
             calls_left,
             failures: 0,
+            reads: 0,
         };
         let mut writer = OverWrite::new(Vec::new(rt.alloc()));
         let ended = run_script(&rt, &mut reader, &mut writer, &Settings::new());
@@ -617,6 +624,7 @@ fn stops_at_a_failed_read(rt: HostRuntime) -> Result<(), Fail> {
         bytes: CONFLICT.as_bytes(),
         calls_left: reads,
         failures: 0,
+        reads: 0,
     };
     let mut writer = OverWrite::new(Vec::new(rt.alloc()));
     assert!(rt; run_script(&rt, &mut reader, &mut writer, &Settings::new())?);

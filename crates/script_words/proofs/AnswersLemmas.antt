@@ -112,7 +112,7 @@ loads_given old new db uuid d given reply e f h = subst (λ o. Loads old db o (S
 pub given_refused : (old new : State) (db : List ℕ) (uuid : ℕ) (d : Option Data) (given : Option Document) (refusal : Refusal) → peer_at old db ≡ None → document_given d ≡ Ok given → (IsTaken old uuid → ⊥) → RefusesNew old db uuid given refusal new → RefusesAsk old (load db (Some uuid) d) refusal new
 given_refused old new db uuid d given refusal e f free (new_in_vain h) = asked_in_vain (loads_given old new db uuid d (Ok given) _ e f (inr (free, h)))
 given_refused old new db uuid d given refusal e f free new_before = asked_before
-given_refused old new db uuid d given refusal e f free (new_after reply h) = asked_after reply (loads_given old new db uuid d (Ok given) reply e f (inr (free, h)))
+given_refused old new db uuid d given refusal e f free (new_after reply r h) = asked_after reply r (loads_given old new db uuid d (Ok given) reply e f (inr (free, h)))
 
 -- with a made one
 pub loads_made : (old new : State) (db : List ℕ) (d : Option Data) (given : Result (Option Document) Refusal) (reply : Reply) → peer_at old db ≡ None → document_given d ≡ given → LoadsMade old db given reply new → Answers old (load db None d) reply new
@@ -121,7 +121,7 @@ loads_made old new db d given reply e f h = subst (λ o. Loads old db o None (do
 pub made_refused : (old new : State) (db : List ℕ) (d : Option Data) (given : Option Document) (refusal : Refusal) → peer_at old db ≡ None → document_given d ≡ Ok given → (IsTaken (drawn_one old) (next_made old) → ⊥) → RefusesNew (drawn_one old) db (next_made old) given refusal new → RefusesAsk old (load db None d) refusal new
 made_refused old new db d given refusal e f free (new_in_vain h) = asked_in_vain (loads_made old new db d (Ok given) _ e f (inl (inr (free, h))))
 made_refused old new db d given refusal e f free new_before = asked_in_vain (loads_made old new db d (Ok given) _ e f (inr (refl, refl)))
-made_refused old new db d given refusal e f free (new_after reply h) = asked_after reply (loads_made old new db d (Ok given) reply e f (inl (inr (free, h))))
+made_refused old new db d given refusal e f free (new_after reply r h) = asked_after reply r (loads_made old new db d (Ok given) reply e f (inl (inr (free, h))))
 
 -- ---- `edit`
 

@@ -4,3 +4,4 @@ pub mod ReplyLemmas
 pub mod ServeLemmas
 pub mod AnswersLemmas
 pub mod ReplicationLemmas
+pub mod SessionLemmas

@@ -24,7 +24,7 @@ use Rattle.script_words.specs.Command.{Ask, replicate}
 use Rattle.script_databases.specs.Databases.{Program, State, peer_at, with_peer, text_cmp}
 use Rattle.script_databases.specs.Carrying.{deny_refuses, Carried, IntoAnother}
 use Rattle.script_words.specs.Replicating.{last_second, moment_of, plan_of, replicated_as, with_drawn, with_session}
-use Rattle.script_words.specs.Reply.{Reply, refused}
+use Rattle.script_words.specs.Reply.{Reply, is_refusal, refused}
 use Rattle.script_words.specs.Serving.{RefusesAsk, asked_in_vain, asked_after}
 use Rattle.script_databases.specs.Tables.{AllDeny, Entries, IsIndex, denied_of, deny_of, peers_of, state_of}
 use Rattle.script_words.specs.declared.command.Options.{Options}
@@ -60,6 +60,6 @@ replicate_done old mid new source target options plan result reply e m p h r =
     (inr (m, result, c.4, r ∙ ap (λ (q : Plan). replicated_as q.session result) p))
 
 -- the reply, or want of memory for its text
-pub told_or_memory : {old new : State} {ask : Ask} {refusal : Refusal} (reply : Reply) → Answers old ask reply new → (reply ≡ refused refusal) ⊎ (refusal ≡ why.Memory) → RefusesAsk old ask refusal new
+pub told_or_memory : {old new : State} {ask : Ask} {refusal : Refusal} (reply : Reply) → Answers old ask reply new → (reply ≡ refused refusal) ⊎ ((refusal ≡ why.Memory) × (is_refusal reply ≡ false)) → RefusesAsk old ask refusal new
 told_or_memory {old} {new} {ask} reply a (inl e) = asked_in_vain (subst (λ r. Answers old ask r new) e a)
-told_or_memory {old} {new} {ask} reply a (inr m) = subst (λ r. RefusesAsk old ask r new) (sym m) (asked_after reply a)
+told_or_memory {old} {new} {ask} reply a (inr (m, r)) = subst (λ x. RefusesAsk old ask x new) (sym m) (asked_after reply r a)

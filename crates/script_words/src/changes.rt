@@ -1,10 +1,10 @@
 //! The answer to `changes`: the changes feed, page by page.
-ghost use Rattle.std.specs.Prelude.{◌≡◌, ◌≤◌, ◌++◌, ℕ, IfOk};
+ghost use Rattle.std.specs.Prelude.{◌≡◌, ◌≤◌, ◌++◌, [], ℕ, IfOk, OnOk};
 ghost use Rattle.std.specs.List.{flat_map};
 ghost use Rattle.couch_base.specs.Feed.{feed};
 ghost use Rattle.script_words.specs.Reply.{listed, reply_text, row_line};
 
-use crate::reply::{json_text, push_revs};
+use crate::reply::{push_json, push_number, push_revs};
 use couch_base::{Database, Row};
 use std::alloc::{AllocError, Global};
 
@@ -12,39 +12,46 @@ use std::alloc::{AllocError, Global};
 const PAGE: u64 = 10_000;
 
 /// The rows of the changes feed above a sequence, and the update sequence.
-pub fn listed_text(alloc: Global, database: &Database, since: u64) -> Result<Vec<u8>, AllocError>
-    ensures { IfOk result (λ text. (n : ℕ) → text.items
+pub fn listed_text(
+    alloc: Global,
+    text: &mut Vec<u8>,
+    database: &Database,
+    since: u64,
+) -> Result<(), AllocError>
+    requires { text.old.items ≡ [] }
+    ensures { OnOk result ((n : ℕ) → text.new.items
         ≡ reply_text n (listed (feed database.now since database.now.update_seq) database.now.update_seq)) }
 {
     let last = database.update_seq();
-    let mut text = rows_text(alloc, database, since, last)?;
-    let end = format!(in alloc; "last {last}\n")?;
-    text.extend_from_slice(end.as_bytes())?;
-    Ok(text)
+    rows_text(alloc, text, database, since, last)?;
+    text.extend_from_slice(b"last ")?;
+    push_number(text, last)?;
+    text.extend_from_slice(b"\n")
 }
 
 /// The rows above a sequence and at or under the goal. The goal is at most the update sequence, so only memory can be
 /// wanting.
 fn rows_text(
     alloc: Global,
+    text: &mut Vec<u8>,
     database: &Database,
     since: u64,
     goal: u64,
-) -> Result<Vec<u8>, AllocError>
-    ensures { IfOk result (λ text. text.items ≡ flat_map row_line (feed database.now since goal)) }
+) -> Result<(), AllocError>
+    requires { text.old.items ≡ [] }
+    ensures { OnOk result (text.new.items ≡ flat_map row_line (feed database.now since goal)) }
 {
     // A reading of the update sequence tells the proof that the database is lawful.
     let _seq = database.update_seq();
-    let mut text = Vec::new(alloc);
     let mut cursor = since;
     while cursor < goal {
         let Ok(page) = database.page(alloc, cursor, goal, PAGE) else {
             return Err(AllocError);
         };
-        push_rows(alloc, &mut text, page.rows())?;
+        push_rows(alloc, text, page.rows())?;
         cursor = page.hi();
     }
-    Ok(text)
+    Ok(())
 }
 
 /// Adds the lines of rows.
@@ -61,11 +68,11 @@ fn push_rows(alloc: Global, text: &mut Vec<u8>, rows: &[Row]) -> Result<(), Allo
 fn push_row(alloc: Global, text: &mut Vec<u8>, row: &Row) -> Result<(), AllocError>
     ensures { IfOk result (λ _. text.new.items ≡ text.old.items ++ row_line row.now) }
 {
-    let id = json_text(alloc, row.id().text())?;
-    let seq = row.seq();
-    let head = format!(in alloc; "change {seq} {id} ")?;
-    text.extend_from_slice(head.as_bytes())?;
+    text.extend_from_slice(b"change ")?;
+    push_number(text, row.seq())?;
+    text.extend_from_slice(b" ")?;
+    push_json(alloc, text, row.id().text())?;
+    text.extend_from_slice(b" ")?;
     push_revs(alloc, text, row.leaves())?;
-    text.extend_from_slice(b"\n")?;
-    Ok(())
+    text.extend_from_slice(b"\n")
 }

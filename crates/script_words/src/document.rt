@@ -1,5 +1,5 @@
 //! The answer to `doc`: a document with a revision's known ancestry and content.
-ghost use Rattle.std.specs.Prelude.{◌≡◌, Ok, Err, IfOk, ℕ};
+ghost use Rattle.std.specs.Prelude.{◌≡◌, [], Ok, Err, OnOk, ℕ};
 ghost use Rattle.rev_tree.specs.Tree.{TreeValue};
 ghost use Rattle.doc_json.specs.DocId.{doc_id_read};
 ghost use Rattle.couch_base.specs.Database.{IsDocumentTree};
@@ -7,10 +7,10 @@ ghost use Rattle.script_words.specs.Answers.{chosen, document_at};
 ghost use Rattle.script_databases.specs.Refusals.{GivesUnlessMemory};
 ghost use Rattle.script_words.specs.Reply.{reply_text, written};
 
-use script_databases::Refusal;
 use doc_json::{Body, Doc, DocId, write_doc};
 use rev_core::Rev;
 use rev_tree::{Content, Tree};
+use script_databases::Refusal;
 use std::alloc::{AllocError, Global};
 
 /// The document at a revision, or at the winner where none is named.
@@ -54,12 +54,13 @@ fn chosen(tree: &Tree, rev: Option<Rev>) -> Option<Rev>
 }
 
 /// The text of a document, as an answer.
-pub fn written_text(alloc: Global, document: &Doc) -> Result<Vec<u8>, AllocError>
-    ensures { IfOk result (λ text. (n : ℕ) → text.items ≡ reply_text n (written document.now)) }
+pub fn written_text(alloc: Global, text: &mut Vec<u8>, document: &Doc) -> Result<(), AllocError>
+    requires { text.old.items ≡ [] }
+    ensures { OnOk result ((n : ℕ) → text.new.items ≡ reply_text n (written document.now)) }
 {
-    let Ok(mut text) = write_doc(alloc, document) else {
+    let Ok(written) = write_doc(alloc, document) else {
         return Err(AllocError);
     };
-    text.extend_from_slice(b"\n")?;
-    Ok(text)
+    text.extend_from_slice(written.as_slice())?;
+    text.extend_from_slice(b"\n")
 }

@@ -6,9 +6,9 @@ ghost use Rattle.script_databases.specs.Refusals.{GivesUnlessMemory};
 ghost use Rattle.script_words.specs.Given.{body_given, body_given_or_empty, document_given, id_given, rev_given};
 ghost use Rattle.script_words.specs.Edits.{edit_given};
 
-use script_databases::Refusal;
 use doc_json::{Body, Doc, DocId, read_body, read_doc};
 use rev_core::Rev;
+use script_databases::Refusal;
 use serde_json::{Map, Value};
 use std::alloc::Global;
 

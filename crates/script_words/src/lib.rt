@@ -16,4 +16,4 @@ mod reply;
 mod serve;
 mod session;
 
-pub use session::run_script;
+pub use session::{run_last_script, run_script};

@@ -1,29 +1,31 @@
 //! Replications served, their logs and their audit.
-ghost use Rattle.std.specs.Prelude.{◌≡◌, ◌<◌, ◌≤◌, IfOk, IfErr};
+ghost use Rattle.std.specs.Prelude.{◌≡◌, ◌<◌, ◌≤◌, ◌++◌, [], IfOk, OnOk, IfErr};
 ghost use Rattle.script_words.specs.Answers.{audit_reply, log_answer, log_held};
 ghost use Rattle.script_words.specs.Command.{audit as ask_audit, log as ask_log, replicate as ask_replicate};
+ghost use Rattle.script_words.specs.Reply.{ended};
 ghost use Rattle.script_words.specs.Replicating.{last_second, moment_of, plan_of, replicated_as, with_session};
 ghost use Rattle.script_databases.specs.declared.refusal.Refusal.TheVariants.{BadMoment};
 ghost use Rattle.script_words.specs.Serving.{RefusesAsk, Tells, TextOf, TextUnlessMemory};
 
 use crate::command::{Options, Side};
-use script_databases::Databases;
-use script_databases::Refusal;
 use crate::reply::{clean_text, hole_text, replicated_text, stopped_text};
 use repl_log::{Log, Moment, RepId, write_log};
 use repl_target::{Audit, Peer, Plan, Report, Rules, TargetFault, audit};
 use rev_tree::SessionId;
+use script_databases::{Databases, Refusal};
 use std::alloc::{AllocError, Global};
 
 /// `log`.
 pub fn serve_log(
     alloc: Global,
+    answer: &mut Vec<u8>,
     databases: &Databases,
     source: &str,
     target: &str,
     side: Side,
-) -> Result<Vec<u8>, Refusal>
-    ensures told { IfOk result (λ text. Tells databases.now (ask_log source.now target.now side) text.items databases.now) }
+) -> Result<(), Refusal>
+    requires { answer.old.items ≡ [] }
+    ensures told { OnOk result (Tells databases.now (ask_log source.now target.now side) answer.new.items databases.now) }
     ensures refused { IfErr result (λ why. RefusesAsk databases.now (ask_log source.now target.now side) why databases.now) }
 {
     let Some(sender) = databases.find(source) else {
@@ -32,8 +34,8 @@ pub fn serve_log(
     let Some(receiver) = databases.find(target) else {
         return Err(Refusal::NoDatabase);
     };
-    match logged_text(alloc, sender, receiver, side) {
-        Ok(text) => Ok(text),
+    match logged_text(alloc, answer, sender, receiver, side) {
+        Ok(()) => Ok(()),
         Err(refusal) => Err(refusal),
     }
 }
@@ -41,11 +43,13 @@ pub fn serve_log(
 /// The answer to `log`.
 fn logged_text(
     alloc: Global,
+    answer: &mut Vec<u8>,
     source: &Peer<Rules>,
     target: &Peer<Rules>,
     side: Side,
-) -> Result<Vec<u8>, Refusal>
-    ensures { TextUnlessMemory result (log_answer side source.now.1 target.now.1) }
+) -> Result<(), Refusal>
+    requires { answer.old.items ≡ [] }
+    ensures { TextUnlessMemory result answer.new.items (log_answer side source.now.1 target.now.1) }
 {
     let rep = RepId {
         source: source.db().uuid(),
@@ -54,14 +58,22 @@ fn logged_text(
     let Ok(log) = log_held(alloc, source, target, side, &rep) else {
         return Err(Refusal::Memory);
     };
-    let mut text = match write_log(alloc, &rep, &log) {
+    let text = match write_log(alloc, &rep, &log) {
         Ok(text) => text,
         Err(fault) => return Err(Refusal::of_log(fault)),
     };
-    match text.push(10) {
-        Ok(()) => Ok(text),
+    match push_line(answer, text.as_slice()) {
+        Ok(()) => Ok(()),
         Err(_) => Err(Refusal::Memory),
     }
+}
+
+/// Adds a text, and its line end.
+fn push_line(answer: &mut Vec<u8>, text: &[u8]) -> Result<(), AllocError>
+    ensures { OnOk result (answer.new.items ≡ answer.old.items ++ ended text.now) }
+{
+    answer.extend_from_slice(text)?;
+    answer.extend_from_slice(b"\n")
 }
 
 /// The log of a replication, as one of its sides holds it.
@@ -89,11 +101,13 @@ fn log_held(
 /// `audit`.
 pub fn serve_audit(
     alloc: Global,
+    answer: &mut Vec<u8>,
     databases: &Databases,
     source: &str,
     target: &str,
-) -> Result<Vec<u8>, Refusal>
-    ensures told { IfOk result (λ text. Tells databases.now (ask_audit source.now target.now) text.items databases.now) }
+) -> Result<(), Refusal>
+    requires { answer.old.items ≡ [] }
+    ensures told { OnOk result (Tells databases.now (ask_audit source.now target.now) answer.new.items databases.now) }
     ensures refused { IfErr result (λ why. RefusesAsk databases.now (ask_audit source.now target.now) why databases.now) }
 {
     let Some(sender) = databases.find(source) else {
@@ -102,8 +116,8 @@ pub fn serve_audit(
     let Some(receiver) = databases.find(target) else {
         return Err(Refusal::NoDatabase);
     };
-    match audited_text(alloc, sender, receiver) {
-        Ok(text) => Ok(text),
+    match audited_text(alloc, answer, sender, receiver) {
+        Ok(()) => Ok(()),
         Err(refusal) => Err(refusal),
     }
 }
@@ -111,21 +125,23 @@ pub fn serve_audit(
 /// The answer to `audit`.
 fn audited_text(
     alloc: Global,
+    answer: &mut Vec<u8>,
     source: &Peer<Rules>,
     target: &Peer<Rules>,
-) -> Result<Vec<u8>, Refusal>
-    ensures { TextUnlessMemory result (audit_reply source.now.1 target.now.1) }
+) -> Result<(), Refusal>
+    requires { answer.old.items ≡ [] }
+    ensures { TextUnlessMemory result answer.new.items (audit_reply source.now.1 target.now.1) }
 {
     let Ok(audited) = audit(alloc, source, target) else {
         return Err(Refusal::Memory);
     };
     match audited {
-        Audit::Clean => match clean_text(alloc) {
-            Ok(text) => Ok(text),
+        Audit::Clean => match clean_text(answer) {
+            Ok(()) => Ok(()),
             Err(_) => Err(Refusal::Memory),
         },
-        Audit::Hole { seq, id, rev } => match hole_text(alloc, seq, id.text(), rev) {
-            Ok(text) => Ok(text),
+        Audit::Hole { seq, id, rev } => match hole_text(alloc, answer, seq, id.text(), rev) {
+            Ok(()) => Ok(()),
             Err(_) => Err(Refusal::Memory),
         },
     }
@@ -134,12 +150,14 @@ fn audited_text(
 /// `replicate`. An id is made for a session that has none, once both databases are found.
 pub fn serve_replicate(
     alloc: Global,
+    answer: &mut Vec<u8>,
     databases: &mut Databases,
     source: &str,
     target: &str,
     options: Options,
-) -> Result<Vec<u8>, Refusal>
-    ensures told { IfOk result (λ text. Tells databases.old (ask_replicate source.now target.now options) text.items databases.new) }
+) -> Result<(), Refusal>
+    requires { answer.old.items ≡ [] }
+    ensures told { OnOk result (Tells databases.old (ask_replicate source.now target.now options) answer.new.items databases.new) }
     ensures refused { IfErr result (λ why. RefusesAsk databases.old (ask_replicate source.now target.now options) why databases.new) }
 {
     if !databases.has(source) {
@@ -153,8 +171,8 @@ pub fn serve_replicate(
         Err(refusal) => return Err(refusal),
     };
     let outcome = databases.replicate(alloc, source, target, &plan);
-    match outcome_text(alloc, plan.session, outcome) {
-        Ok(text) => Ok(text),
+    match outcome_text(alloc, answer, plan.session, outcome) {
+        Ok(()) => Ok(()),
         Err(refusal) => Err(refusal),
     }
 }
@@ -187,19 +205,21 @@ fn plan_asked(databases: &mut Databases, options: &Options) -> Result<Plan, Refu
 /// The answer to `replicate`: a replication that its plan stopped is not refused.
 fn outcome_text(
     alloc: Global,
+    answer: &mut Vec<u8>,
     session: SessionId,
     outcome: Result<Report, TargetFault>,
-) -> Result<Vec<u8>, Refusal>
-    ensures { TextOf result (replicated_as session outcome) }
+) -> Result<(), Refusal>
+    requires { answer.old.items ≡ [] }
+    ensures { TextOf result answer.new.items (replicated_as session outcome) }
 {
     match outcome {
-        Ok(report) => match replicated_text(alloc, &report) {
-            Ok(text) => Ok(text),
+        Ok(report) => match replicated_text(alloc, answer, &report) {
+            Ok(()) => Ok(()),
             Err(_) => Err(Refusal::Memory),
         },
         Err(fault) => match Refusal::stop_of(fault) {
-            Ok(low_water) => match stopped_text(alloc, session, low_water) {
-                Ok(text) => Ok(text),
+            Ok(low_water) => match stopped_text(alloc, answer, session, low_water) {
+                Ok(()) => Ok(()),
                 Err(_) => Err(Refusal::Memory),
             },
             Err(refusal) => Err(refusal),

@@ -1,141 +1,165 @@
 //! The texts of answers (docs/PROFILE.md, "Answers").
-ghost use Rattle.std.specs.Prelude.{◌≡◌, ◌++◌, ℕ, IfOk, Some, string_bytes};
+ghost use Rattle.std.specs.Prelude.{◌≡◌, ◌++◌, [], ℕ, IfOk, OnOk, Some, decimal, string_bytes};
 ghost use Rattle.rev_core.specs.Text.{rev_text};
 ghost use Rattle.rev_tree.specs.Tree.{is_deleted};
 ghost use Rattle.repl_log.specs.Text.{id_digits};
-ghost use Rattle.script_words.specs.Reply.{checked_part, clean, documents_part, edited, hole, leaf_line, loaded, made, quoted, refused, replicated, reply_text, same, session_part, shown, shown_head, stopped, texts_of_revs, there};
+ghost use Rattle.script_words.specs.Reply.{checked_part, clean, documents_part, edited, hole, leaf_line, loaded, made, quoted, replicated, reply_text, same, session_part, shown, shown_head, stopped, texts_of_revs, there};
 
-use script_databases::Edited;
-use script_databases::Refusal;
+use itoa::Buffer;
 use repl_target::Report;
 use rev_core::Rev;
 use rev_tree::{SessionId, Tree};
+use script_databases::Edited;
 use serde_json::Value;
 use std::alloc::{AllocError, Global};
 
-/// The answer to a refused line.
-pub fn refusal_text(alloc: Global, number: u64, refusal: Refusal) -> Result<Vec<u8>, AllocError>
-    ensures { IfOk result (λ text. text.items ≡ reply_text number (refused refusal)) }
-{
-    let name = refusal.name();
-    let text = format!(in alloc; "refused {number} {name}\n")?;
-    Ok(text.into_bytes())
-}
-
 /// The answer to a `load` that made a database.
-pub fn made_text(alloc: Global, db: &str) -> Result<Vec<u8>, AllocError>
-    ensures { IfOk result (λ text. (n : ℕ) → text.items ≡ reply_text n (made db.now)) }
+pub fn made_text(text: &mut Vec<u8>, db: &str) -> Result<(), AllocError>
+    requires { text.old.items ≡ [] }
+    ensures { OnOk result ((n : ℕ) → text.new.items ≡ reply_text n (made db.now)) }
 {
-    let text = format!(in alloc; "made {db}\n")?;
-    Ok(text.into_bytes())
+    text.extend_from_slice(b"made ")?;
+    text.extend_from_slice(db.as_bytes())?;
+    text.extend_from_slice(b"\n")
 }
 
 /// The answer to a `load` of a database that is there.
-pub fn there_text(alloc: Global, db: &str) -> Result<Vec<u8>, AllocError>
-    ensures { IfOk result (λ text. (n : ℕ) → text.items ≡ reply_text n (there db.now)) }
+pub fn there_text(text: &mut Vec<u8>, db: &str) -> Result<(), AllocError>
+    requires { text.old.items ≡ [] }
+    ensures { OnOk result ((n : ℕ) → text.new.items ≡ reply_text n (there db.now)) }
 {
-    let text = format!(in alloc; "there {db}\n")?;
-    Ok(text.into_bytes())
+    text.extend_from_slice(b"there ")?;
+    text.extend_from_slice(db.as_bytes())?;
+    text.extend_from_slice(b"\n")
 }
 
 /// The answer to a `load` that changed something.
 pub fn loaded_text(
     alloc: Global,
+    text: &mut Vec<u8>,
     db: &str,
     id: &str,
     rev: Rev,
     seq: u64,
-) -> Result<Vec<u8>, AllocError>
-    ensures { IfOk result (λ text. (n : ℕ) → text.items ≡ reply_text n (loaded db.now id.now (Some rev) seq)) }
+) -> Result<(), AllocError>
+    requires { text.old.items ≡ [] }
+    ensures { OnOk result ((n : ℕ) → text.new.items ≡ reply_text n (loaded db.now id.now (Some rev) seq)) }
 {
-    let id = json_text(alloc, id)?;
-    let mut text = format!(in alloc; "loaded {db} {id} ")?.into_bytes();
-    push_rev(alloc, &mut text, rev)?;
-    let end = format!(in alloc; " seq {seq}\n")?;
-    text.extend_from_slice(end.as_bytes())?;
-    Ok(text)
+    text.extend_from_slice(b"loaded ")?;
+    text.extend_from_slice(db.as_bytes())?;
+    text.extend_from_slice(b" ")?;
+    push_json(alloc, text, id)?;
+    text.extend_from_slice(b" ")?;
+    push_rev(alloc, text, rev)?;
+    text.extend_from_slice(b" seq ")?;
+    push_number(text, seq)?;
+    text.extend_from_slice(b"\n")
 }
 
 /// The answer to a `load` that changed nothing.
-pub fn same_text(alloc: Global, db: &str, id: &str, rev: Rev) -> Result<Vec<u8>, AllocError>
-    ensures { IfOk result (λ text. (n : ℕ) → text.items ≡ reply_text n (same db.now id.now (Some rev))) }
+pub fn same_text(
+    alloc: Global,
+    text: &mut Vec<u8>,
+    db: &str,
+    id: &str,
+    rev: Rev,
+) -> Result<(), AllocError>
+    requires { text.old.items ≡ [] }
+    ensures { OnOk result ((n : ℕ) → text.new.items ≡ reply_text n (same db.now id.now (Some rev))) }
 {
-    let id = json_text(alloc, id)?;
-    let mut text = format!(in alloc; "same {db} {id} ")?.into_bytes();
-    push_rev(alloc, &mut text, rev)?;
-    text.extend_from_slice(b"\n")?;
-    Ok(text)
+    text.extend_from_slice(b"same ")?;
+    text.extend_from_slice(db.as_bytes())?;
+    text.extend_from_slice(b" ")?;
+    push_json(alloc, text, id)?;
+    text.extend_from_slice(b" ")?;
+    push_rev(alloc, text, rev)?;
+    text.extend_from_slice(b"\n")
 }
 
 /// The answer to an `edit`.
-pub fn edited_text(alloc: Global, db: &str, id: &str, done: Edited) -> Result<Vec<u8>, AllocError>
-    ensures { IfOk result (λ text. (n : ℕ) → text.items ≡ reply_text n (edited db.now id.now done.rev done.seq)) }
+pub fn edited_text(
+    alloc: Global,
+    text: &mut Vec<u8>,
+    db: &str,
+    id: &str,
+    done: Edited,
+) -> Result<(), AllocError>
+    requires { text.old.items ≡ [] }
+    ensures { OnOk result ((n : ℕ) → text.new.items ≡ reply_text n (edited db.now id.now done.rev done.seq)) }
 {
-    let id = json_text(alloc, id)?;
-    let mut text = format!(in alloc; "edited {db} {id} ")?.into_bytes();
-    push_rev(alloc, &mut text, done.rev)?;
-    let seq = done.seq;
-    let end = format!(in alloc; " seq {seq}\n")?;
-    text.extend_from_slice(end.as_bytes())?;
-    Ok(text)
+    text.extend_from_slice(b"edited ")?;
+    text.extend_from_slice(db.as_bytes())?;
+    text.extend_from_slice(b" ")?;
+    push_json(alloc, text, id)?;
+    text.extend_from_slice(b" ")?;
+    push_rev(alloc, text, done.rev)?;
+    text.extend_from_slice(b" seq ")?;
+    push_number(text, done.seq)?;
+    text.extend_from_slice(b"\n")
 }
 
 /// The answer to a `replicate` that came to its goal.
-pub fn replicated_text(alloc: Global, report: &Report) -> Result<Vec<u8>, AllocError>
-    ensures { IfOk result (λ text. (n : ℕ) → text.items ≡ reply_text n (replicated report.now)) }
+pub fn replicated_text(alloc: Global, text: &mut Vec<u8>, report: &Report) -> Result<(), AllocError>
+    requires { text.old.items ≡ [] }
+    ensures { OnOk result ((n : ℕ) → text.new.items ≡ reply_text n (replicated report.now)) }
 {
-    let mut text = session_part(alloc, report)?;
-    let checked = checked_part(alloc, report)?;
-    let documents = documents_part(alloc, report)?;
-    text.extend_from_slice(checked.as_slice())?;
-    text.extend_from_slice(documents.as_slice())?;
-    text.push(10)?;
-    Ok(text)
+    push_session(alloc, text, report)?;
+    push_checked(text, report)?;
+    push_documents(text, report)?;
+    text.extend_from_slice(b"\n")
 }
 
 /// From where a session read, and up to where all is done.
-fn session_part(alloc: Global, report: &Report) -> Result<Vec<u8>, AllocError>
-    ensures { IfOk result (λ text. text.items ≡ session_part report.now) }
+fn push_session(alloc: Global, text: &mut Vec<u8>, report: &Report) -> Result<(), AllocError>
+    ensures { OnOk result (text.new.items ≡ text.old.items ++ session_part report.now) }
 {
     let id = session_text(alloc, report.session)?;
-    let start = report.start;
-    let recorded = report.recorded;
-    let text = format!(in alloc; "session {id} from {start} to {recorded}")?;
-    Ok(text.into_bytes())
+    text.extend_from_slice(b"session ")?;
+    text.extend_from_slice(id.as_bytes())?;
+    text.extend_from_slice(b" from ")?;
+    push_number(text, report.start)?;
+    text.extend_from_slice(b" to ")?;
+    push_number(text, report.recorded)
 }
 
 /// How many leaves a session checked, and how many of them were missing.
-fn checked_part(alloc: Global, report: &Report) -> Result<Vec<u8>, AllocError>
-    ensures { IfOk result (λ text. text.items ≡ checked_part report.now) }
+fn push_checked(text: &mut Vec<u8>, report: &Report) -> Result<(), AllocError>
+    ensures { OnOk result (text.new.items ≡ text.old.items ++ checked_part report.now) }
 {
-    let checked = report.checked;
-    let found = report.found;
-    let text = format!(in alloc; " checked {checked} found {found}")?;
-    Ok(text.into_bytes())
+    text.extend_from_slice(b" checked ")?;
+    push_number(text, report.checked)?;
+    text.extend_from_slice(b" found ")?;
+    push_number(text, report.found)
 }
 
 /// How many documents a session read, wrote and failed to write.
-fn documents_part(alloc: Global, report: &Report) -> Result<Vec<u8>, AllocError>
-    ensures { IfOk result (λ text. text.items ≡ documents_part report.now) }
+fn push_documents(text: &mut Vec<u8>, report: &Report) -> Result<(), AllocError>
+    ensures { OnOk result (text.new.items ≡ text.old.items ++ documents_part report.now) }
 {
-    let read = report.read;
-    let written = report.written;
-    let failures = report.failures;
-    let text = format!(in alloc; " read {read} written {written} failed {failures}")?;
-    Ok(text.into_bytes())
+    text.extend_from_slice(b" read ")?;
+    push_number(text, report.read)?;
+    text.extend_from_slice(b" written ")?;
+    push_number(text, report.written)?;
+    text.extend_from_slice(b" failed ")?;
+    push_number(text, report.failures)
 }
 
 /// The answer to a `replicate` that its plan stopped.
 pub fn stopped_text(
     alloc: Global,
+    text: &mut Vec<u8>,
     session: SessionId,
     low_water: u64,
-) -> Result<Vec<u8>, AllocError>
-    ensures { IfOk result (λ text. (n : ℕ) → text.items ≡ reply_text n (stopped session low_water)) }
+) -> Result<(), AllocError>
+    requires { text.old.items ≡ [] }
+    ensures { OnOk result ((n : ℕ) → text.new.items ≡ reply_text n (stopped session low_water)) }
 {
     let id = session_text(alloc, session)?;
-    let text = format!(in alloc; "stopped {id} at {low_water}\n")?;
-    Ok(text.into_bytes())
+    text.extend_from_slice(b"stopped ")?;
+    text.extend_from_slice(id.as_bytes())?;
+    text.extend_from_slice(b" at ")?;
+    push_number(text, low_water)?;
+    text.extend_from_slice(b"\n")
 }
 
 /// The 32 lower case hexadecimal digits of a session's id.
@@ -147,52 +171,69 @@ fn session_text(alloc: Global, session: SessionId) -> Result<String, AllocError>
 }
 
 /// The answer to an `audit` that finds no hole.
-pub fn clean_text(alloc: Global) -> Result<Vec<u8>, AllocError>
-    ensures { IfOk result (λ text. (n : ℕ) → text.items ≡ reply_text n clean) }
+pub fn clean_text(text: &mut Vec<u8>) -> Result<(), AllocError>
+    requires { text.old.items ≡ [] }
+    ensures { OnOk result ((n : ℕ) → text.new.items ≡ reply_text n clean) }
 {
-    let text = Vec::from_slice(alloc, b"clean\n")?;
-    Ok(text)
+    text.extend_from_slice(b"clean\n")
 }
 
 /// The answer to an `audit` that finds one.
-pub fn hole_text(alloc: Global, seq: u64, id: &str, rev: Rev) -> Result<Vec<u8>, AllocError>
-    ensures { IfOk result (λ text. (n : ℕ) → text.items ≡ reply_text n (hole (record { seq = seq; id = id.now; rev = rev }))) }
+pub fn hole_text(
+    alloc: Global,
+    text: &mut Vec<u8>,
+    seq: u64,
+    id: &str,
+    rev: Rev,
+) -> Result<(), AllocError>
+    requires { text.old.items ≡ [] }
+    ensures { OnOk result ((n : ℕ) → text.new.items ≡ reply_text n (hole (record { seq = seq; id = id.now; rev = rev }))) }
 {
-    let id = json_text(alloc, id)?;
-    let mut text = format!(in alloc; "hole {seq} {id} ")?.into_bytes();
-    push_rev(alloc, &mut text, rev)?;
-    text.extend_from_slice(b"\n")?;
-    Ok(text)
+    text.extend_from_slice(b"hole ")?;
+    push_number(text, seq)?;
+    text.extend_from_slice(b" ")?;
+    push_json(alloc, text, id)?;
+    text.extend_from_slice(b" ")?;
+    push_rev(alloc, text, rev)?;
+    text.extend_from_slice(b"\n")
 }
 
 /// The answer to a `show`.
-pub fn shown_text(alloc: Global, id: &str, tree: &Tree) -> Result<Vec<u8>, AllocError>
-    ensures { IfOk result (λ text. (n : ℕ) → text.items ≡ reply_text n (shown id.now tree.now)) }
+pub fn shown_text(
+    alloc: Global,
+    text: &mut Vec<u8>,
+    id: &str,
+    tree: &Tree,
+) -> Result<(), AllocError>
+    requires { text.old.items ≡ [] }
+    ensures { OnOk result ((n : ℕ) → text.new.items ≡ reply_text n (shown id.now tree.now)) }
 {
     let Ok(leaves) = tree.leaves(alloc) else {
         return Err(AllocError);
     };
-    let mut text = head_text(alloc, id, tree)?;
+    head_text(alloc, text, id, tree)?;
     for leaf in &leaves {
-        push_leaf(alloc, &mut text, tree, *leaf)?;
+        push_leaf(alloc, text, tree, *leaf)?;
     }
-    Ok(text)
+    Ok(())
 }
 
 /// The first line of the answer to a `show`.
-fn head_text(alloc: Global, id: &str, tree: &Tree) -> Result<Vec<u8>, AllocError>
-    ensures { IfOk result (λ text. text.items ≡ shown_head id.now tree.now) }
+fn head_text(alloc: Global, text: &mut Vec<u8>, id: &str, tree: &Tree) -> Result<(), AllocError>
+    requires { text.old.items ≡ [] }
+    ensures { OnOk result (text.new.items ≡ shown_head id.now tree.now) }
 {
-    let id = json_text(alloc, id)?;
-    let mut text = format!(in alloc; "doc {id} winner ")?.into_bytes();
+    text.extend_from_slice(b"doc ")?;
+    push_json(alloc, text, id)?;
+    text.extend_from_slice(b" winner ")?;
     if let Some(rev) = tree.winner() {
-        push_rev(alloc, &mut text, rev)?;
+        push_rev(alloc, text, rev)?;
     }
-    let leaves = tree.leaf_count();
-    let revs = tree.rev_count();
-    let end = format!(in alloc; " leaves {leaves} revs {revs}\n")?;
-    text.extend_from_slice(end.as_bytes())?;
-    Ok(text)
+    text.extend_from_slice(b" leaves ")?;
+    push_count(text, tree.leaf_count())?;
+    text.extend_from_slice(b" revs ")?;
+    push_count(text, tree.rev_count())?;
+    text.extend_from_slice(b"\n")
 }
 
 /// Adds the line of a leaf. The leaf is in the tree, so only memory can be wanting.
@@ -247,9 +288,26 @@ fn push_rev(alloc: Global, text: &mut Vec<u8>, rev: Rev) -> Result<(), AllocErro
     Ok(())
 }
 
-/// The text as JSON, in quotation marks.
-pub fn json_text(alloc: Global, text: &str) -> Result<String, AllocError>
-    ensures { IfOk result (λ json. string_bytes json ≡ quoted text.now) }
+/// Adds a number.
+pub fn push_number(text: &mut Vec<u8>, number: u64) -> Result<(), AllocError>
+    ensures { OnOk result (text.new.items ≡ text.old.items ++ decimal number) }
 {
-    Value::String(String::from_str(alloc, text)?).to_string(alloc)
+    let mut digits = Buffer::new();
+    text.extend_from_slice(digits.format(number).as_bytes())
+}
+
+/// Adds a count.
+fn push_count(text: &mut Vec<u8>, count: usize) -> Result<(), AllocError>
+    ensures { OnOk result (text.new.items ≡ text.old.items ++ decimal count) }
+{
+    let mut digits = Buffer::new();
+    text.extend_from_slice(digits.format(count).as_bytes())
+}
+
+/// Adds a text as JSON, in quotation marks.
+pub fn push_json(alloc: Global, text: &mut Vec<u8>, id: &str) -> Result<(), AllocError>
+    ensures { OnOk result (text.new.items ≡ text.old.items ++ quoted id.now) }
+{
+    let json = Value::String(String::from_str(alloc, id)?).to_string(alloc)?;
+    text.extend_from_slice(json.as_bytes())
 }

@@ -12,6 +12,7 @@ use crate::serve::serve_command;
 use script_databases::{Databases, Settings};
 use script_engine::{ScriptFault, ScriptRead, ScriptWrite, Serve, run_lines};
 use std::marker::Model;
+use std::mem;
 
 /// The databases that a script's lines are served by, and what they run on.
 #[derive(Drop)]
@@ -34,17 +35,20 @@ impl<'a, H: AllocGlobal> Serve for Session<'a, H> {
     ghost answers = { LinesAnswer };
 
     fn serve(&mut self, line: &[u8], answer: &mut Vec<u8>) -> Result<(), &'static str> {
-        let text = match serve_command(self.rt.alloc(), &mut self.databases, line) {
-            Ok(text) => text,
+        match serve_command(self.rt.alloc(), answer, &mut self.databases, line) {
+            Ok(()) => {}
             Err(refusal) => return Err(refusal.name()),
-        };
-        *answer = text;
+        }
         Ok(())
     }
 }
 
 /// Runs a script: reads lines to the reader's end, each of which is one command, and writes the answers in their
 /// order (docs/PROFILE.md, "Command lines" and "Answers"). `true` where no line was refused.
+///
+/// Where memory is wanting within a line, the line is answered as refused and the script goes on. `Read` and `Write`
+/// come only where that device failed in this call, but that `Read` also comes in the place of a further read after
+/// 4,294,967,295 reads, each of at most 65,536 bytes. `Memory` comes only while a line is read in.
 pub fn run_script<H: AllocGlobal, R: ScriptRead, W: ScriptWrite>(
     rt: &H,
     reader: &mut R,
@@ -62,15 +66,65 @@ pub fn run_script<H: AllocGlobal, R: ScriptRead, W: ScriptWrite>(
     ensures fault { IfErr result (λ fault. (input : List ℕ) × (text : List ℕ) × Gives (R.left reader.old) input
         × Appends (W.held writer.old) (W.held writer.new) text
         × IsAnsweredSoFar LinesAnswer (no_databases (program_of settings.now)) input text
-        × IsFaultOf fault input (R.failures reader.old) (R.failures reader.new)
+        × IsFaultOf fault (R.reads reader.old) (R.reads reader.new) (R.failures reader.old) (R.failures reader.new)
         (W.failures writer.old) (W.failures writer.new)) }
 {
     let Ok(databases) = Databases::new(rt.alloc(), settings) else {
         return Err(ScriptFault::Memory);
     };
+    let (ended, _databases) = run_on(rt, databases, reader, writer);
+    ended
+}
+
+/// Runs a script as `run_script` does, and leaves its databases in memory: for a program that ends behind it, since to let go of each
+/// document takes long.
+pub fn run_last_script<H: AllocGlobal, R: ScriptRead, W: ScriptWrite>(
+    rt: &H,
+    reader: &mut R,
+    writer: &mut W,
+    settings: &Settings,
+) -> Result<bool, ScriptFault>
+    // What is written is the answers to the lines of what was read, to its end.
+    ensures answers { IfOk result (λ clean. (input : List ℕ) × (text : List ℕ) × (state : State) × Gives (R.left reader.old) input
+        × Appends (W.held writer.old) (W.held writer.new) text
+        × IsAnswered LinesAnswer (no_databases (program_of settings.now)) input clean text state) }
+    ensures end { OnOk result (IsAtEnd (R.left reader.new)) }
+    ensures counted { OnOk result ((R.failures reader.new ≡ R.failures reader.old)
+        × (W.failures writer.new ≡ W.failures writer.old)) }
+    // After a fault it is a beginning of such answers, and the device that is named has failed.
+    ensures fault { IfErr result (λ fault. (input : List ℕ) × (text : List ℕ) × Gives (R.left reader.old) input
+        × Appends (W.held writer.old) (W.held writer.new) text
+        × IsAnsweredSoFar LinesAnswer (no_databases (program_of settings.now)) input text
+        × IsFaultOf fault (R.reads reader.old) (R.reads reader.new) (R.failures reader.old) (R.failures reader.new)
+        (W.failures writer.old) (W.failures writer.new)) }
+{
+    let Ok(databases) = Databases::new(rt.alloc(), settings) else {
+        return Err(ScriptFault::Memory);
+    };
+    let (ended, databases) = run_on(rt, databases, reader, writer);
+    mem::forget(databases);
+    ended
+}
+
+/// Runs a script on databases that are there, and gives them back: the last state of the script.
+fn run_on<H: AllocGlobal, R: ScriptRead, W: ScriptWrite>(
+    rt: &H,
+    databases: Databases,
+    reader: &mut R,
+    writer: &mut W,
+) -> (Result<bool, ScriptFault>, Databases)
+    ensures answers { IfOk result.0 (λ clean. (input : List ℕ) × (text : List ℕ) × Gives (R.left reader.old) input
+        × Appends (W.held writer.old) (W.held writer.new) text × IsAnswered LinesAnswer databases input clean text result.1) }
+    ensures end { OnOk result.0 (IsAtEnd (R.left reader.new)) }
+    ensures counted { OnOk result.0 ((R.failures reader.new ≡ R.failures reader.old)
+        × (W.failures writer.new ≡ W.failures writer.old)) }
+    ensures fault { IfErr result.0 (λ fault. (input : List ℕ) × (text : List ℕ) × Gives (R.left reader.old) input
+        × Appends (W.held writer.old) (W.held writer.new) text × IsAnsweredSoFar LinesAnswer databases input text
+        × IsFaultOf fault (R.reads reader.old) (R.reads reader.new) (R.failures reader.old) (R.failures reader.new)
+        (W.failures writer.old) (W.failures writer.new)) }
+{
     let mut session = Session { rt, databases };
-    match run_lines(rt.alloc(), &mut session, reader, writer) {
-        Ok(clean) => Ok(clean),
-        Err(fault) => Err(fault),
-    }
+    let ended = run_lines(rt.alloc(), &mut session, reader, writer);
+    let Session { rt: _, databases } = session;
+    (ended, databases)
 }

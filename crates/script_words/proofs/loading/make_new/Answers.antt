@@ -12,4 +12,4 @@ pub returns-in_default-add-clause-refused : goal.returns-in_default-add-clause-r
 returns-in_default-add-clause-refused c = new_for_memory c.args.databases.now _ c.args.db.now c.args.uuid None c.in_default-add.ensures.err
 
 pub returns-in-Err-clause-refused : goal.returns-in-Err-clause-refused
-returns-in-Err-clause-refused c = new_after (made c.args.db.now) (refl, c.in-Ok-add.ensures.ok ∙ ap (with_peer c.args.databases.now c.args.db.now) c.in-Ok.ensures.0)
+returns-in-Err-clause-refused c = new_after (made c.args.db.now) refl (refl, c.in-Ok-add.ensures.ok ∙ ap (with_peer c.args.databases.now c.args.db.now) c.in-Ok.ensures.0)

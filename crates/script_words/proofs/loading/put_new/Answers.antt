@@ -38,4 +38,4 @@ returns-in-Ok-load_text-clause-told c =
 
 pub returns-in-Err-load_text-clause-refused : goal.returns-in-Err-load_text-clause-refused
 returns-in-Err-load_text-clause-refused c =
-    new_after (loaded_reply c.args.db.now c.args.document.now c.in-Ok-load.done) (put (goal.at.returns-in-Err-load_text-clause-refused c).After-load_text)
+    new_after (loaded_reply c.args.db.now c.args.document.now c.in-Ok-load.done) (load_accepted c.args.db.now c.args.document.now c.in-Ok-load.done) (put (goal.at.returns-in-Err-load_text-clause-refused c).After-load_text)

@@ -22,4 +22,4 @@ returns-in-Ok-clause-told c =
 pub returns-in-Err-clause-refused : goal.returns-in-Err-clause-refused
 returns-in-Err-clause-refused c =
     let db = c.in-Some.peer.now.1.db in
-    asked_after (listed (feed db c.args.since db.update_seq) db.update_seq) (reads_told _ c.args.databases.now _ (ap (λ o. changes_answer o c.args.since) (sym c.in-Some.ensures)))
+    asked_after (listed (feed db c.args.since db.update_seq) db.update_seq) refl (reads_told _ c.args.databases.now _ (ap (λ o. changes_answer o c.args.since) (sym c.in-Some.ensures)))

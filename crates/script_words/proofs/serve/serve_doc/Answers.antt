@@ -49,7 +49,7 @@ returns-in-Ok-written_text-clause-told c =
 pub returns-clause-refused : goal.returns-clause-refused
 returns-clause-refused c =
     let tree = c.in-Some-tree.tree.now in
-    asked_after (written c.in-Ok-find_document.document)
+    asked_after (written c.in-Ok-find_document.document) refl
     (reads_told _ c.args.databases.now _
     (writes _ c.in-Some.peer.now.1 _ c.in-Ok.id _ c.in-Ok-read_rev.rev (Some tree) c.in-Some.ensures c.in-Ok.ensures (sym c.in-Ok-read_rev.ensures) (tree_is c.db.result.now c.in-Some.peer.now.1 c.in-Ok.id (Some tree) c.db.ensures.value c.in-Some-tree.ensures.value)
     ∙ ap written_as c.in-Ok-find_document.ensures))

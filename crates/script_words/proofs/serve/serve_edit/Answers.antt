@@ -35,5 +35,5 @@ pub returns-clause-refused : goal.returns-clause-refused
 returns-clause-refused c =
     let l = is_there c.args.databases.now c.args.db.now (sym c.has.ensures ∙ c.if-not-has.false) in
     let done = c.in-Ok-edit.done in
-    asked_after (edited c.args.db.now c.in-Ok.given.id done.rev done.seq)
+    asked_after (edited c.args.db.now c.in-Ok.given.id done.rev done.seq) refl
     (edits_told c.args.databases.now _ c.args.db.now c.args.id.now (option_copied c.args.parent) c.args.deleted (option_map (λ v. view v.now) c.args.body) l.0 c.in-Ok.given done l.1 c.in-Ok.ensures c.in-Ok-edit.ensures.answer c.in-Ok-edit.ensures.ok)

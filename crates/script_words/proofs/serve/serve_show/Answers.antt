@@ -31,5 +31,5 @@ returns-in-Ok-shown_text-clause-told c =
 pub returns-clause-refused : goal.returns-clause-refused
 returns-clause-refused c =
     let tree = c.in-Some-tree.tree.now in
-    asked_after (shown c.in-Ok.id tree)
+    asked_after (shown c.in-Ok.id tree) refl
     (reads_told _ c.args.databases.now _ (shows _ c.in-Some.peer.now.1 _ c.in-Ok.id (Some tree) c.in-Some.ensures c.in-Ok.ensures (tree_is c.db.result.now c.in-Some.peer.now.1 c.in-Ok.id (Some tree) c.db.ensures.value c.in-Some-tree.ensures.value)))

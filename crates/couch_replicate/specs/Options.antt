@@ -1,0 +1,58 @@
+-- What the options of the command line set: docs/PROFILE.md, "Settings".
+use Rattle.std.specs.Prelude.{◌≡◌, ◌^◌, ◌<◌, ℕ, List, Option, Some, None, codes, option_map, string_bytes, true}
+use Rattle.std.specs.Str.Parse.{without_leading_plus, IsNumeral, digits_value}
+use Rattle.clap.specs.Words.{App, HasKind, Rule, fault_of, first_of, one_of, matches_of, new_app, new_rule, with_rule}
+use Rattle.clap.specs.Simple.{on_top}
+use Rattle.clap.specs.declared.builder.action.ArgAction.TheVariants.{Set, Help}
+use Rattle.clap.specs.declared.builder.value_parser.ValueParser.TheVariants as vp
+use Rattle.script_databases.specs.declared.settings.Settings.{Settings}
+use Rattle.couch_replicate.specs.declared.options.NoSettings.{NoSettings}
+use Rattle.couch_replicate.specs.declared.options.NoSettings.TheVariants.{Words, NoNumber, Memory}
+
+-- the option `--deny`
+abbrev pub deny_option : Rule
+deny_option = record (new_rule (codes "deny")) { long = Some (codes "deny"); action = Some Set; value_names = 1 }
+
+-- an option of a whole number below 2 ^ 64
+abbrev pub number_option : List ℕ → Rule
+number_option name = record (new_rule name) { long = Some name; action = Some Set; value_names = 1; parser = Some (vp.Unsigned 0 18446744073709551615) }
+
+abbrev pub help_option : Rule
+help_option = record (new_rule (codes "help")) { long = Some (codes "help"); action = Some Help }
+
+-- the program without options; its help is one of them
+abbrev pub program_app : App
+program_app = on_top (λ s. record s { disable_help_flag = true }) (new_app (codes "couch_replicate"))
+
+-- the program's command line
+abbrev pub options : App
+options = with_rule (with_rule (with_rule (with_rule (with_rule (with_rule program_app
+    deny_option) (number_option (codes "seed"))) (number_option (codes "at"))) (number_option (codes "workers"))) (number_option (codes "batch"))) help_option
+
+-- the text spells the number, or the default stands in its place
+abbrev pub IsNumber : Option (List ℕ) → ℕ → ℕ → Type 0
+IsNumber None default n = n ≡ default
+IsNumber (Some text) default n = IsNumeral 10 (without_leading_plus text) × (digits_value 10 (without_leading_plus text) < 2 ^ 64) × (n ≡ digits_value 10 (without_leading_plus text))
+
+-- the settings are what the options' texts say
+abbrev pub AreSettings : (List ℕ → Option (List ℕ)) → (List ℕ → Option (List ℕ)) → Settings → Type 0
+AreSettings text number s = (option_map string_bytes s.deny ≡ text (codes "deny")) × IsNumber (number (codes "seed")) 0 s.seed × IsNumber (number (codes "at")) 0 s.at
+    × IsNumber (number (codes "workers")) 4 s.workers × IsNumber (number (codes "batch")) 500 s.batch
+
+-- the same of the words, as the command line is read
+abbrev pub Says : List (List ℕ) → Settings → Type 0
+Says words s = AreSettings (λ id. first_of id (matches_of options words)) (λ id. one_of id (matches_of options words)) s
+
+-- ---- words that give none
+
+-- no settings are what the options' texts say, or memory was wanting
+abbrev pub SetNothing : (List ℕ → Option (List ℕ)) → (List ℕ → Option (List ℕ)) → NoSettings → Type 0
+SetNothing text number (Words error) = ⊥
+SetNothing text number NoNumber = (s : Settings) → AreSettings text number s → ⊥
+SetNothing text number Memory = Unit {0}
+
+-- what `clap` says of the words, or no settings are what they say, or memory was wanting
+abbrev pub Refuses : List (List ℕ) → NoSettings → Type 0
+Refuses words (Words error) = HasKind (fault_of options words) error
+Refuses words NoNumber = (s : Settings) → Says words s → ⊥
+Refuses words Memory = Unit {0}

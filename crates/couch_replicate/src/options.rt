@@ -1,0 +1,209 @@
+//! The command line: what its words set, or why they set nothing.
+ghost use Rattle.std.specs.Prelude.{◌≡◌, ℕ, IfOk, IfErr, map, string_bytes, codes, true, false};
+ghost use Rattle.clap.specs.Words.{HasKind, app_of, fault_of, found_of, first_value, kind_of, one_text, rule_of};
+ghost use Rattle.couch_replicate.specs.declared.options.NoSettings.TheVariants.{NoNumber};
+ghost use Rattle.couch_replicate.specs.Options.{AreSettings, IsNumber, Refuses, Says, deny_option, help_option, number_option, options, program_app, SetNothing};
+
+use clap::{Arg, ArgAction, ArgMatches, Command, Error, value_parser};
+use script_databases::Settings;
+use std::alloc::{AllocError, Global};
+
+/// What the program says of itself.
+const ABOUT: &str =
+    "Runs a script of commands on document databases in memory, and prints the answers.";
+
+/// What a script is, for `--help`.
+const SCRIPT_HELP: &str =
+    "Each line of standard input is a JSON object, and is answered on standard output.
+`db` is a name of 1 to 32 letters, digits, `-` or `_`.
+
+  {\"do\":\"load\",\"db\":\"a\"}
+      makes the database `a`, where it is not there;
+      \"uuid\":\"11111111-1111-4111-8111-111111111111\" gives it this UUID, else one is made
+  {\"do\":\"load\",\"db\":\"a\",\"doc\":{\"_id\":\"d\",\"_rev\":\"2-b\",\"_revisions\":{\"start\":2,\"ids\":[\"b\",\"r\"]},\"n\":1}}
+      loads a revision of the document `d` as it is given, with its known ancestors,
+      newest first; with \"_deleted\":true the revision deletes the document
+  {\"do\":\"edit\",\"db\":\"a\",\"id\":\"d\",\"parent\":\"2-b\",\"body\":{\"n\":2}}
+      adds a revision behind the leaf `2-b`; without `parent` it is the first of a document
+      that is not there or is deleted; with \"deleted\":true it deletes the document
+  {\"do\":\"show\",\"db\":\"a\",\"id\":\"d\"}
+      shows the winning revision of `d` and each leaf of its tree
+  {\"do\":\"doc\",\"db\":\"a\",\"id\":\"d\",\"rev\":\"2-b\"}
+      prints the document at a revision, or at the winner without `rev`
+  {\"do\":\"changes\",\"db\":\"a\",\"since\":1}
+      lists the documents that changed after a sequence (0 without `since`), each with its
+      latest change and its leaves, and the update sequence
+  {\"do\":\"replicate\",\"source\":\"a\",\"target\":\"b\"}
+      carries to `b` what it misses of `a`, from where their logs agree; \"session\" gives the
+      session's UUID, else one is made; \"batch\" and \"at\" stand in the place of the options,
+      and \"stop_after\":1 stops after one window
+  {\"do\":\"log\",\"source\":\"a\",\"target\":\"b\",\"side\":\"source\"}
+      prints what a side, `source` or `target`, keeps of the replications from `a` to `b`
+  {\"do\":\"audit\",\"source\":\"a\",\"target\":\"b\"}
+      tells whether `b` has, or has refused, all that both logs say was carried: `clean`, or
+      the first revision that is missing
+
+Blank lines are passed over. A line that is refused is answered with `refused LINE NAME`,
+and changes nothing; but what a replication has carried before it was refused stays.
+
+Exit status: 0; 1 where a line was refused; 2 for a bad command line; 3 where reading,
+writing or memory failed.";
+
+/// Why the words of a command line give no settings.
+#[derive(Drop)]
+pub enum NoSettings {
+    /// What `clap` says of them, the help that was asked for too.
+    Words(Error),
+    /// An option's text is no number, which `clap` has seen before.
+    NoNumber,
+    /// An allocation was refused.
+    Memory,
+}
+
+/// The settings that the words of a command line give, the program's name first.
+pub fn read_words<'a>(alloc: Global, words: &'a [String]) -> Result<Settings, NoSettings>
+    ensures ok { IfOk result (λ s. Says (map string_bytes words.entry.now) s) }
+    ensures err { IfErr result (λ why. Refuses (map string_bytes words.entry.now) why) }
+{
+    let command = match command(alloc) {
+        Ok(command) => command,
+        Err(_) => return Err(NoSettings::Memory),
+    };
+    let matches = match command.try_get_matches_from(words) {
+        Ok(matches) => matches,
+        Err(error) => return Err(NoSettings::Words(error)),
+    };
+    match settings_of(alloc, &matches) {
+        Ok(settings) => Ok(settings),
+        Err(why) => Err(why),
+    }
+}
+
+/// The settings that the options give.
+fn settings_of(alloc: Global, matches: &ArgMatches<'_>) -> Result<Settings, NoSettings>
+    ensures ok { IfOk result (λ s. AreSettings (first_value (found_of matches.now)) (one_text (found_of matches.now)) s) }
+    ensures err { IfErr result (SetNothing (first_value (found_of matches.now)) (one_text (found_of matches.now))) }
+{
+    let deny = match matches.get_str("deny") {
+        Some(prefix) => match String::from_str(alloc, prefix) {
+            Ok(deny) => Some(deny),
+            Err(_) => return Err(NoSettings::Memory),
+        },
+        None => None,
+    };
+    let seed = match number_of(matches, "seed", 0) {
+        Ok(seed) => seed,
+        Err(why) => return Err(why),
+    };
+    let at = match number_of(matches, "at", 0) {
+        Ok(at) => at,
+        Err(why) => return Err(why),
+    };
+    let workers = match number_of(matches, "workers", 4) {
+        Ok(workers) => workers,
+        Err(why) => return Err(why),
+    };
+    let batch = match number_of(matches, "batch", 500) {
+        Ok(batch) => batch,
+        Err(why) => return Err(why),
+    };
+    Ok(Settings {
+        deny,
+        seed,
+        at,
+        workers,
+        batch,
+    })
+}
+
+/// The number of an option, or its default. `NoNumber` where its text is none.
+fn number_of(matches: &ArgMatches<'_>, name: &str, default: u64) -> Result<u64, NoSettings>
+    ensures ok { IfOk result (λ n. IsNumber (one_text (found_of matches.now) name.now) default n) }
+    ensures err { IfErr result (λ why. (why ≡ NoNumber) × ((n : ℕ) → IsNumber (one_text (found_of matches.now) name.now) default n → ⊥)) }
+{
+    match matches.try_get_one::<u64>(name) {
+        Ok(Some(number)) => Ok(number),
+        Ok(None) => Ok(default),
+        Err(_) => Err(NoSettings::NoNumber),
+    }
+}
+
+/// The command line: the five options, each at most once, and `--help`.
+fn command<'a>(alloc: Global) -> Result<Command<'a>, AllocError>
+    ensures { IfOk result (λ c. app_of c ≡ options) }
+{
+    let command = program(alloc)
+        .arg(deny(alloc))?
+        .arg(number(
+            alloc,
+            "seed",
+            "N",
+            "Makes ids from this seed, so that a run can be repeated [default: 0]",
+        ))?
+        .arg(number(
+            alloc,
+            "at",
+            "SECONDS",
+            "The moment of replications, in seconds since 1970 [default: 0]",
+        ))?
+        .arg(number(
+            alloc,
+            "workers",
+            "N",
+            "How many workers a replication has, 1 to 64 [default: 4]",
+        ))?
+        .arg(number(
+            alloc,
+            "batch",
+            "N",
+            "How many documents a window of a replication has at most, 1 to 10000 [default: 500]",
+        ))?
+        .arg(help(alloc))?;
+    Ok(command)
+}
+
+/// The program without options; its help is one of them.
+fn program<'a>(alloc: Global) -> Command<'a>
+    ensures { app_of result ≡ program_app }
+{
+    Command::new(alloc, "couch_replicate")
+        .about(ABOUT)
+        .after_help(SCRIPT_HELP)
+        .disable_help_flag(true)
+}
+
+/// The option `--deny`.
+fn deny<'a>(alloc: Global) -> Arg<'a>
+    ensures rule { rule_of result ≡ deny_option }
+    ensures local { result.global ≡ false }
+{
+    Arg::new(alloc, "deny")
+        .long("deny")
+        .value_name("PREFIX")
+        .action(ArgAction::Set)
+        .help("A target of replications refuses each document whose id begins with this")
+}
+
+/// An option that takes a whole number from 0 to 2^64 - 1.
+fn number<'a>(alloc: Global, name: &'a str, value: &'a str, help: &'a str) -> Arg<'a>
+    ensures rule { rule_of result ≡ number_option name.entry.now }
+    ensures local { result.global ≡ false }
+{
+    Arg::new(alloc, name)
+        .long(name)
+        .value_name(value)
+        .value_parser(value_parser!(u64))
+        .action(ArgAction::Set)
+        .help(help)
+}
+
+/// The option `--help`.
+fn help<'a>(alloc: Global) -> Arg<'a>
+    ensures rule { rule_of result ≡ help_option }
+    ensures local { result.global ≡ false }
+{
+    Arg::new(alloc, "help")
+        .long("help")
+        .action(ArgAction::Help)
+        .help("Print this text")
+}

@@ -1,0 +1,36 @@
+//! A run of the program over any reader and writer: its words, and the script that they have it run.
+ghost use Rattle.std.specs.Prelude.{map, string_bytes};
+ghost use Rattle.couch_replicate.specs.Ends.{Ends};
+
+use crate::options::{NoSettings, read_words};
+use script_engine::{ScriptFault, ScriptRead, ScriptWrite};
+use script_words::run_last_script;
+
+/// How a run ended.
+#[derive(Drop)]
+pub enum Ended {
+    /// The words give no settings, and no script was run.
+    NotRun(NoSettings),
+    /// A script was run; whether no line of it was refused, or why it was not run to its end.
+    Ran(Result<bool, ScriptFault>),
+}
+
+/// Reads the words of a command line, the program's name first, and runs the script of the reader.
+///
+/// The databases are left in memory, since the program ends behind it.
+pub fn run_words<'a, H: AllocGlobal, R: ScriptRead, W: ScriptWrite>(
+    rt: &H,
+    words: &'a [String],
+    reader: &mut R,
+    writer: &mut W,
+) -> Ended
+    ensures { Ends (map string_bytes words.entry.now) (R.left reader.old) (R.left reader.new)
+        (W.held writer.old) (W.held writer.new) result }
+{
+    let settings = match read_words(rt.alloc(), words) {
+        Ok(settings) => settings,
+        Err(why) => return Ended::NotRun(why),
+    };
+    let ended = run_last_script(rt, reader, writer, &settings);
+    Ended::Ran(ended)
+}
