@@ -15,7 +15,7 @@ use Rattle.couch_base.specs.Put.{put_answer, after_put}
 use Rattle.range_front.specs.Front.{finished}
 use Rattle.repl_target.specs.Peer.{PeerValue, SessionValue, RefusedValue}
 use Rattle.repl_target.specs.Covered.{refusal_of, in_ledger, first_unknown}
-use Rattle.repl_target.specs.Kept.{session_value, refused_value}
+use Rattle.repl_target.specs.Kept.{session_value}
 use Rattle.repl_target.specs.Refusals.{is_refused}
 use Rattle.repl_target.specs.Settling.{Settling, is_full, with_refused, with_arrival, fed, Halts, stops_in, stops_at, settle_one, leaf_count, asked_count, settle_docs, settled_before, settle_at, window_in, with_done, Counts}
 use Rattle.repl_target.specs.declared.fault.Cause.{Cause}
@@ -73,7 +73,7 @@ abbrev pub settling_at : DatabaseValue → SessionId → Session → Settling
 settling_at db id session = record { db = db; session = session_value id session }
 
 abbrev pub ledger_of : Session → List RefusedValue
-ledger_of session = map refused_value session.ledger.items
+ledger_of session = session.ledger.items
 
 -- a document that comes from an origin is settled
 pub record Steps (refuses : Document → Bool) (o : Origin) (d : Document) (before after : Settling) : Type 0 where

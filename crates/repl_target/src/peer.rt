@@ -26,7 +26,7 @@ use std::marker::Model;
 pub struct Peer<F: WriteFilter> {
     filter: F,
     pub(crate) db: Database,
-    locals: Vec<Written>,
+    pub(crate) locals: Vec<Written>,
     pub(crate) sessions: Sessions,
     refusals: Refusals,
     pub(crate) outgoing: IndexMap<RepId, Log>,

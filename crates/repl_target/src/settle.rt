@@ -13,7 +13,7 @@ ghost use Rattle.couch_base.specs.Put.{after_put};
 ghost use Rattle.range_front.specs.Front.{IsFront, bounds, finish_answer};
 ghost use Rattle.repl_target.specs.Covered.{refusal_of, in_ledger};
 ghost use Rattle.repl_target.specs.Law.{window_bounds};
-ghost use Rattle.repl_target.specs.Kept.{session_value, refused_value};
+ghost use Rattle.repl_target.specs.Kept.{session_value};
 ghost use Rattle.repl_target.specs.declared.refusals.Refusals.{Refusals as RefusedIndex};
 ghost use Rattle.repl_target.specs.Refusals.{is_refused};
 ghost use Rattle.repl_target.specs.Settling.{Halts, stops_in, has_row};
@@ -22,8 +22,9 @@ ghost use Rattle.repl_target.specs.SettleParts.{PartsGive, Reached, Ends, Accept
 use crate::fault::{Cause, Reason, Settled, TargetFault};
 use crate::filter::{Verdict, WriteFilter};
 use crate::refusals::Refusals;
+use crate::refused::Refused;
 use crate::rows::{first_unknown, seq_from};
-use crate::session::{Refused, Session};
+use crate::session::Session;
 use crate::stored::{Checked, check};
 use crate::written::Written;
 use couch_base::{BaseFault, Database, Parcel};
@@ -130,7 +131,7 @@ fn enter(session: &mut Session, doc: Doc, reason: Option<Reason>)
 {
     match reason {
         Some(reason) => {
-            session.ledger.push(Refused { doc, reason }).unwrap();
+            session.ledger.push(Refused::new(doc, reason)).unwrap();
             session.failures += 1;
         }
         None => {
