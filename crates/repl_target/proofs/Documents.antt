@@ -16,13 +16,15 @@ use Rattle.rev_core.specs.Rev.{RevId}
 use Rattle.doc_json.specs.Document.{Document}
 use Rattle.couch_base.specs.Database.{Id, DatabaseValue}
 use Rattle.couch_base.specs.Feed.{WindowValue}
-use Rattle.couch_base.specs.ListLaws.{some_is, any_left}
+use Rattle.couch_base.specs.ListLaws.{some_is, none_some, any_left}
 use Rattle.couch_base.specs.Put.{put_answer, after_put}
 use Rattle.repl_target.specs.Peer.{SessionValue, RefusedValue}
 use Rattle.repl_target.specs.Covered.{refusal_of, in_ledger}
 use Rattle.repl_target.specs.Refusals.{is_refused}
-use Rattle.repl_target.specs.Settling.{Settling, is_full, settle_as, settle_one, settle_docs, stops_as, stops_at, settled_before, fed}
-use Rattle.repl_target.specs.SettleParts.{Accepts, Rejects, Steps, Stuck, Indexes, Reached, ReachedAll, IsFull, entered}
+use Rattle.repl_target.specs.Settling.{Settling, is_full, settle_as, settle_one, settle_docs, Halts, stops_as, stops_in, stops_at, settled_before, fed}
+use Rattle.repl_target.specs.SettleParts.{Accepts, Rejects, Steps, Stuck, Indexes, Reached, ReachedAll, cause_at, entered}
+use Rattle.repl_target.specs.declared.fault.Cause.{Cause}
+use Rattle.repl_target.specs.declared.fault.Cause.TheVariants as causes
 use Rattle.repl_target.specs.declared.fault.Reason.{Reason}
 use Rattle.repl_target.specs.declared.refusals.Refusals.{Refusals}
 
@@ -34,7 +36,7 @@ pub steps_from : (refuses : Document → Bool) (o : Origin) (d : Document) (befo
 steps_from refuses o d before after old new None s t is a e =
     let z : Settling = record { db = before; session = s } in
     record {
-      goes = ap (stops_as z d) (sym is) ∙ a.room;
+      goes = ap (stops_as before d) (sym is) ∙ a.room;
       step = λ w from. let got : settle_one refuses w z d ≡ record { db = after_put before d (fed w s.id d); session = entered d None s } =
           ap (settle_as w z d) (sym is) ∙ cond-false (is_full (put_answer before d)) z (record { db = after_put before d (fed w s.id d); session = entered d None s }) a.room in
           (λ i. let r : Settling = record { db = (a.db ∙ ap (after_put before d) from) i; session = e i } in r) ∙ sym got;
@@ -42,7 +44,7 @@ steps_from refuses o d before after old new None s t is a e =
 steps_from refuses o d before after old new (Some reason) s t is a e =
     let z : Settling = record { db = before; session = s } in
     record {
-      goes = ap (stops_as z d) (sym is);
+      goes = ap (stops_as before d) (sym is);
       step = λ w from. (λ i. let r : Settling = record { db = a.db i; session = e i } in r) ∙ ap (settle_as w z d) is;
     }
 
@@ -211,13 +213,31 @@ reached_turned refuses w z z' after docs given others left same turned back h =
     (subst (λ (k : ℕ). Reached refuses w z docs k (reverse others) after) n
     (subst (λ (l : List Document). Reached refuses w z l (length given - length others) (reverse others) after) all h)))
 
-pub full_from : (refuses : Document → Bool) (w : WindowValue) (z after : Settling) (docs others left : List Document) (n : ℕ)
-    → Reached refuses w z docs n left after → left ≡ reverse others → (s : Stuck refuses others after.db) → IsFull refuses w z docs n
-full_from refuses w z after docs others left n h back s =
+-- why the next of them stops
+halts_at : (refuses : Document → Bool) (w : WindowValue) (z mid : Settling) (ds : List Document) (n : ℕ) (d : Document) (rest : List Document) → Reached refuses w z ds n (d ∷ rest) mid → (b : Bool) → stops_at refuses mid d ≡ b → Halts refuses w z ds n (cause_at b)
+halts_at refuses w z mid ds n d rest h true stops = reached_full refuses w z mid ds n d rest h stops
+halts_at refuses w z mid ds n d rest h false goes =
+    λ within. let next = (reached_next refuses w z mid (settle_one refuses w mid d) ds n d rest h goes refl).within in omega (arith, next)
+
+pub halts_next : (refuses : Document → Bool) (w : WindowValue) (z mid : Settling) (ds : List Document) (n : ℕ) (d : Document) (rest : List Document) (cause : Cause) → Reached refuses w z ds n (d ∷ rest) mid → cause ≡ cause_at (stops_in refuses mid.db d) → Halts refuses w z ds n cause
+halts_next refuses w z mid ds n d rest cause h why = subst (Halts refuses w z ds n) (sym why) (halts_at refuses w z mid ds n d rest h (stops_in refuses mid.db d) refl)
+
+pub halts_first : (refuses : Document → Bool) (w : WindowValue) (z : Settling) (ds : List Document) (n : ℕ) (d : Document) (cause : Cause) → n ≡ 0 → Some d ≡ slice_get ds 0 → cause ≡ cause_at (stops_in refuses z.db d) → Halts refuses w z ds n cause
+halts_first refuses w z [] n d cause none at why = absurd (none_some d (sym at))
+halts_first refuses w z (x ∷ rest) n d cause none at why =
+    let same : x ≡ d = some_is x d (sym at) in
+    subst (λ k. Halts refuses w z (x ∷ rest) k cause) (sym none)
+    (halts_next refuses w z z (x ∷ rest) 0 x rest cause (reached_none refuses w z (x ∷ rest)) (why ∙ ap (λ (y : Document). cause_at (stops_in refuses z.db y)) (sym same)))
+
+-- none of them is left
+pub halts_end : (refuses : Document → Bool) (w : WindowValue) (z mid : Settling) (ds : List Document) (n : ℕ) → Reached refuses w z ds n [] mid → Halts refuses w z ds n causes.Memory
+halts_end refuses w z mid ds n h = λ within. let none : 0 ≡ length ds - n = ap length h.rest ∙ length-drop n ds in absurd (omega (arith, none, within))
+
+pub halts_from : (refuses : Document → Bool) (w : WindowValue) (z after : Settling) (docs others left : List Document) (n : ℕ) (cause : Cause)
+    → Reached refuses w z docs n left after → left ≡ reverse others → Stuck refuses others after.db cause → Halts refuses w z docs n cause
+halts_from refuses w z after docs others left n cause h back s =
     let turned : left ≡ s.last ∷ reverse s.others = back ∙ ap reverse s.split ∙ reverse-append s.others (s.last ∷ []) in
-    let stops : stops_at refuses after s.last ≡ true = ap (stops_as after s.last) s.none ∙ s.full in
-    let parts = reached_full refuses w z after docs n s.last (reverse s.others) (subst (λ (l : List Document). Reached refuses w z docs n l after) turned h) stops in
-    record { at = parts.0; within = parts.1 }
+    halts_next refuses w z after docs n s.last (reverse s.others) cause (subst (λ (l : List Document). Reached refuses w z docs n l after) turned h) s.why
 
 pub all_turned : (test : Document → Bool) (docs given : List Document) → given ≡ reverse docs → list_all test docs ≡ true → list_all test given ≡ true
 all_turned test docs given turned h = ap (list_all test) turned ∙ all_reverse test docs h

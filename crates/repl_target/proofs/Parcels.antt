@@ -8,14 +8,14 @@ use Rattle.couch_base.specs.Feed.{WindowValue}
 use Rattle.couch_base.specs.Messages.{ParcelValue}
 use Rattle.range_front.specs.Front.{finished}
 use Rattle.repl_target.specs.Peer.{SessionValue}
-use Rattle.repl_target.specs.Settling.{Settling, settle_docs, settled_before, leaf_count, asked_count, with_done}
-use Rattle.repl_target.specs.SettleParts.{Passes, Reached, ReachedAll, IsFull, Ends, PartsSettled, PartsSettle, PartsGive}
+use Rattle.repl_target.specs.Settling.{Settling, Halts, settle_docs, settled_before, leaf_count, asked_count, with_done}
+use Rattle.repl_target.specs.SettleParts.{Passes, Reached, ReachedAll, Ends, PartsSettled, PartsSettle, PartsGive}
 use Rattle.repl_target.specs.declared.fault.Cause.{Cause}
 use Rattle.repl_target.specs.declared.fault.Cause.TheVariants as causes
 use Rattle.repl_target.specs.declared.fault.Settled.{Settled}
 use Rattle.repl_target.specs.declared.fault.TargetFault.{TargetFault}
 use Rattle.repl_target.specs.declared.fault.TargetFault.TheVariants as faults
-use Rattle.repl_target.proofs.Documents.{reached_all, grows}
+use Rattle.repl_target.proofs.Documents.{reached_all, halts_end, grows}
 
 pub refused_by : (refuses : Document → Bool) (known : Id → RevId → Bool) (before after : Settling) (parcel : ParcelValue) (r : Result (SessionValue × WindowValue) TargetFault) (fault : TargetFault)
     → r ≡ Err fault → after ≡ before → PartsSettle refuses known before parcel r (Err fault) after
@@ -28,15 +28,10 @@ gives_from refuses known before after parcel place leaves asked result p h =
     subst (λ (r : Result (SessionValue × WindowValue) TargetFault). PartsSettle refuses known before parcel r result after) (sym p.answer) h
 
 pub stopped : (refuses : Document → Bool) (known : Id → RevId → Bool) (w : WindowValue) (before after : Settling) (parcel : ParcelValue) (docs : List Document) (n : ℕ) (rest : Vec Document) (cause : Cause)
-    → docs ≡ parcel.docs → Reached refuses w before docs n rest.items after → (cause ≡ causes.SeqFull → IsFull refuses w before docs n)
+    → docs ≡ parcel.docs → Reached refuses w before docs n rest.items after → Halts refuses w before docs n cause
     → PartsSettled refuses known w before parcel (Err (faults.Stopped n rest cause)) after
-stopped refuses known w before after parcel docs n rest causes.Memory same h full = subst (λ (l : List Document). Reached refuses w before l n rest.items after) same h
-stopped refuses known w before after parcel docs n rest causes.SeqFull same h full =
-    let f = full refl in (
-      subst (λ (l : List Document). Reached refuses w before l n rest.items after) same h,
-      f.at ∙ ap (settled_before refuses w before) same,
-      subst (λ (l : List Document). n < length l) same f.within,
-    )
+stopped refuses known w before after parcel docs n rest cause same h why =
+    (subst (λ (l : List Document). Reached refuses w before l n rest.items after) same h, subst (λ (l : List Document). Halts refuses w before l n cause) same why)
 
 pub ended_err : (refuses : Document → Bool) (known : Id → RevId → Bool) (w : WindowValue) (before : Settling) (db : DatabaseValue) (mid t : SessionValue) (parcel : ParcelValue) (n leaves asked : ℕ) (fault : TargetFault)
     → Reached refuses w before parcel.docs n [] (record { db = db; session = mid }) → Ends known w mid leaves asked n (Err fault) t
@@ -44,9 +39,11 @@ pub ended_err : (refuses : Document → Bool) (known : Id → RevId → Bool) (w
 ended_err refuses known w before db mid t parcel n leaves asked (faults.Uncovered seq id rev) h e =
     (subst (λ (s : SessionValue). ReachedAll refuses w before parcel.docs (record { db = db; session = s })) (sym e.1) (reached_all refuses w before (record { db = db; session = mid }) parcel.docs n h), e.0)
 ended_err refuses known w before db mid t parcel n leaves asked (faults.Stopped m rest causes.Memory) h e =
-    subst (λ (s : SessionValue). Reached refuses w before parcel.docs m rest.items (record { db = db; session = s })) (sym e.2)
-    (subst (λ (l : List Document). Reached refuses w before parcel.docs m l (record { db = db; session = mid })) (sym e.1)
-    (subst (λ (k : ℕ). Reached refuses w before parcel.docs k [] (record { db = db; session = mid })) (sym e.0) h))
+    let here : Reached refuses w before parcel.docs m [] (record { db = db; session = mid }) = subst (λ (k : ℕ). Reached refuses w before parcel.docs k [] (record { db = db; session = mid })) (sym e.0) h in (
+      subst (λ (s : SessionValue). Reached refuses w before parcel.docs m rest.items (record { db = db; session = s })) (sym e.2)
+          (subst (λ (l : List Document). Reached refuses w before parcel.docs m l (record { db = db; session = mid })) (sym e.1) here),
+      halts_end refuses w before (record { db = db; session = mid }) parcel.docs m here,
+    )
 ended_err refuses known w before db mid t parcel n leaves asked (faults.Stopped m rest causes.SeqFull) h e = absurd e
 ended_err refuses known w before db mid t parcel n leaves asked faults.SessionExists h e = absurd e
 ended_err refuses known w before db mid t parcel n leaves asked faults.NoSuchBase h e = absurd e

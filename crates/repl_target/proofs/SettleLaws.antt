@@ -8,7 +8,7 @@ use Rattle.std.proofs.lemmas.List.{length-append}
 use Rattle.std.proofs.lemmas.Slice.Eq.{bytes_eq-Decides}
 use Rattle.rev_core.specs.Rev.{RevId}
 use Rattle.rev_core.specs.Ancestry.{is_among}
-use Rattle.rev_tree.specs.Tree.{has, merged, is_same, no_revisions}
+use Rattle.rev_tree.specs.Tree.{has, merged, is_same, answer_of, no_revisions}
 use Rattle.rev_tree.specs.TreeLaws.{has-merged_given}
 use Rattle.rev_tree.specs.MergeLaws.{has-same}
 use Rattle.rev_tree.specs.declared.fault.Contradiction.{Contradiction}
@@ -20,7 +20,7 @@ use Rattle.couch_base.specs.ListLaws.{none_some}
 use Rattle.couch_base.specs.Database.{DatabaseValue, tree_of, tree_in, with_tree, most}
 use Rattle.couch_base.specs.Feed.{WindowValue}
 use Rattle.couch_base.specs.Messages.{ParcelValue}
-use Rattle.couch_base.specs.Put.{answer_of, put_answer, is_changed, after_put, content_of}
+use Rattle.couch_base.specs.Put.{put_told, put_answer, is_changed, after_put, content_of}
 use Rattle.couch_base.specs.WriteLaws.{IsLater-same, IsLater-after_put, tree_in-with_tree}
 use Rattle.range_front.specs.Front.{is_done}
 use Rattle.range_front.specs.FrontLaws.{IsFront-finished, bounds-finished, end_of-finished, is_done-finished_cases, low_water-finished}
@@ -72,8 +72,8 @@ tree_of-with_tree_same db d o r =
 pub put_holds : (db : DatabaseValue) (d : Document) (o : Origin) → contradiction_of db d ≡ None → is_full (put_answer db d) ≡ false → (r : RevId) → is_among r d.ancestry ≡ true → has (tree_of (after_put db d o).docs d.id) r ≡ true
 put_holds db d o none room r given = go (contradiction_of db d) (is_same (tree_of db.docs d.id) d.ancestry) (nat_lt db.update_seq most) none refl room
   where
-    go : (c : Option Contradiction) (same left : Bool) → c ≡ None → is_same (tree_of db.docs d.id) d.ancestry ≡ same → is_full (answer_of c same left (db.update_seq + 1)) ≡ false
-        → has (tree_of (cond (is_changed (answer_of c same left (db.update_seq + 1))) (with_tree db d.id (merged (tree_of db.docs d.id) d.ancestry (content_of d.deleted d.body) o)) db).docs d.id) r ≡ true
+    go : (c : Option Contradiction) (same left : Bool) → c ≡ None → is_same (tree_of db.docs d.id) d.ancestry ≡ same → is_full (put_told (answer_of c same) left (db.update_seq + 1)) ≡ false
+        → has (tree_of (cond (is_changed (put_told (answer_of c same) left (db.update_seq + 1))) (with_tree db d.id (merged (tree_of db.docs d.id) d.ancestry (content_of d.deleted d.body) o)) db).docs d.id) r ≡ true
     go (Some c) same left e s f = absurd (none_some c (sym e))
     go None true left e s f = has-same (tree_of db.docs d.id) d.ancestry r s given
     go None false true e s f = tree_of-with_tree_same db d o r ∙ has-merged_given (tree_of db.docs d.id) d.ancestry (content_of d.deleted d.body) o r given
@@ -286,8 +286,7 @@ Ends refuses p id parcel q =
 settles_at_ends : (refuses : Document → Bool) (p q : PeerValue) (parcel : ParcelValue) (s : SessionValue) (w : WindowValue) (result : Result Settled TargetFault) → SettlesAt refuses p parcel s w result q → (q ≡ after_all refuses p s w parcel) ⊎ ((n : ℕ) × (q ≡ after_documents refuses p s w (take n parcel.docs)))
 settles_at_ends refuses p q parcel s w (Ok settled) h = inl h.0.peer
 settles_at_ends refuses p q parcel s w (Err (faults.Uncovered seq id rev)) h = inl h.0.peer
-settles_at_ends refuses p q parcel s w (Err (faults.Stopped n rest causes.Memory)) h = inr (n, h.peer)
-settles_at_ends refuses p q parcel s w (Err (faults.Stopped n rest causes.SeqFull)) h = inr (n, h.0.peer)
+settles_at_ends refuses p q parcel s w (Err (faults.Stopped n rest cause)) h = inr (n, h.0.peer)
 settles_at_ends refuses p q parcel s w (Err fault) h = absurd h
 
 pub settle_ends : (refuses : Document → Bool) (p : PeerValue) (id : SessionId) (parcel : ParcelValue) (result : Result Settled TargetFault) (q : PeerValue) → SettleGives refuses p id parcel result q → Ends refuses p id parcel q

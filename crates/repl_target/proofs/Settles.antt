@@ -124,8 +124,7 @@ module _ (refuses : Document → Bool) (known : Id → RevId → Bool) (p : Peer
       let whole : documents ≡ after_all refuses p s w parcel =
       sym (cond-false (covers_window documents w) (record documents { sessions = with_session documents.sessions (with_done w parcel z.session) }) documents missing) in
       (record { all = h.0.all; peer = q ∙ whole }, ap (λ k. first_unknown k w.rows) (sym (agreed known (with_settling p after) agrees)) ∙ h.1)
-  settles_at (Err (faults.Stopped n rest causes.Memory)) after agrees h = record { within = h.within; rest = h.rest; peer = ap (with_settling p) h.settling }
-  settles_at (Err (faults.Stopped n rest causes.SeqFull)) after agrees h = (record { within = h.0.within; rest = h.0.rest; peer = ap (with_settling p) h.0.settling }, h.1, h.2)
+  settles_at (Err (faults.Stopped n rest cause)) after agrees h = (record { within = h.0.within; rest = h.0.rest; peer = ap (with_settling p) h.0.settling }, h.1)
   settles_at (Err faults.SessionExists) after agrees h = absurd h
   settles_at (Err faults.NoSuchBase) after agrees h = absurd h
   settles_at (Err (faults.StartAboveBase r)) after agrees h = absurd h

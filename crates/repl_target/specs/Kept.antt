@@ -1,12 +1,8 @@
 -- Sessions as they are kept.
 use Rattle.std.specs.Prelude.{List, map, reverse}
 use Rattle.rev_tree.specs.declared.origin.SessionId.{SessionId}
-use Rattle.repl_target.specs.Peer.{SessionValue, RefusedValue}
+use Rattle.repl_target.specs.Peer.{SessionValue}
 use Rattle.repl_target.specs.declared.session.Session.{Session}
-use Rattle.repl_target.specs.declared.session.Refused.{Refused}
-
-abbrev pub refused_value : Refused → RefusedValue
-refused_value x = record { doc = x.doc; reason = x.reason }
 
 -- what is kept of a session under its id
 abbrev pub session_value : SessionId → Session → SessionValue
@@ -19,7 +15,7 @@ session_value id s = record {
   windows = s.windows.items;
   recorded = s.recorded;
   arrivals = s.arrivals.items;
-  ledger = map refused_value s.ledger.items;
+  ledger = s.ledger.items;
   checked = s.checked;
   found = s.found;
   read = s.read;

@@ -1,5 +1,5 @@
 -- Settling over the parts of a peer: a database, one session and the index of refused revisions.
-use Rattle.std.specs.Prelude.{◌≡◌, ℕ, ◌+◌, ◌<◌, ◌≤◌, ◌==◌, Bool, true, false, ◌&&◌, ◌||◌, List, [], ◌∷◌, ◌++◌, map, length, take, drop, slice_get, Option, Some, None, Result, Ok, Err}
+use Rattle.std.specs.Prelude.{◌≡◌, ℕ, ◌+◌, ◌<◌, ◌≤◌, ◌==◌, Bool, true, false, ◌&&◌, ◌||◌, if◌then◌else◌, List, [], ◌∷◌, ◌++◌, map, length, take, drop, slice_get, Option, Some, None, Result, Ok, Err}
 use Rattle.std.specs.List.{find}
 use Rattle.std.specs.Str.{bytes_eq}
 use Rattle.rev_core.specs.Rev.{RevId}
@@ -15,9 +15,10 @@ use Rattle.couch_base.specs.Put.{put_answer, after_put}
 use Rattle.range_front.specs.Front.{finished}
 use Rattle.repl_target.specs.Peer.{PeerValue, SessionValue, RefusedValue}
 use Rattle.repl_target.specs.Covered.{refusal_of, in_ledger, first_unknown}
-use Rattle.repl_target.specs.Kept.{session_value, refused_value}
+use Rattle.repl_target.specs.Kept.{session_value}
 use Rattle.repl_target.specs.Refusals.{is_refused}
-use Rattle.repl_target.specs.Settling.{Settling, is_full, with_refused, with_arrival, fed, stops_at, settle_one, leaf_count, asked_count, settle_docs, settled_before, settle_at, window_in, with_done, Counts}
+use Rattle.repl_target.specs.Settling.{Settling, is_full, with_refused, with_arrival, fed, Halts, stops_in, stops_at, settle_one, leaf_count, asked_count, settle_docs, settled_before, settle_at, window_in, with_done, Counts}
+use Rattle.repl_target.specs.declared.fault.Cause.{Cause}
 use Rattle.repl_target.specs.declared.fault.Cause.TheVariants as causes
 use Rattle.repl_target.specs.declared.fault.Reason.{Reason}
 use Rattle.repl_target.specs.declared.fault.Settled.{Settled}
@@ -72,20 +73,23 @@ abbrev pub settling_at : DatabaseValue → SessionId → Session → Settling
 settling_at db id session = record { db = db; session = session_value id session }
 
 abbrev pub ledger_of : Session → List RefusedValue
-ledger_of session = map refused_value session.ledger.items
+ledger_of session = session.ledger.items
 
 -- a document that comes from an origin is settled
 pub record Steps (refuses : Document → Bool) (o : Origin) (d : Document) (before after : Settling) : Type 0 where
   pub goes : stops_at refuses before d ≡ false
   pub step : (w : WindowValue) → o ≡ fed w before.session.id d → after ≡ settle_one refuses w before d
 
--- the last of some documents finds no sequence
-pub record Stuck (refuses : Document → Bool) (all : List Document) (before : DatabaseValue) : Type 0 where
+-- why a document stops, where it does: it finds no sequence, or memory was refused
+abbrev pub cause_at : Bool → Cause
+cause_at full = if full then causes.SeqFull else causes.Memory
+
+-- the last of some documents stops
+pub record Stuck (refuses : Document → Bool) (all : List Document) (before : DatabaseValue) (cause : Cause) : Type 0 where
   pub others : List Document
   pub last : Document
   pub split : all ≡ others ++ last ∷ []
-  pub none : refusal_of refuses before last ≡ None
-  pub full : is_full (put_answer before last) ≡ true
+  pub why : cause ≡ cause_at (stops_in refuses before last)
 
 -- ---- the documents of a parcel
 
@@ -94,11 +98,6 @@ pub record Reached (refuses : Document → Bool) (w : WindowValue) (before : Set
   pub within : n ≤ settled_before refuses w before docs
   pub rest : others ≡ drop n docs
   pub settling : after ≡ settle_docs refuses w before (take n docs)
-
--- the next one finds no sequence
-pub record IsFull (refuses : Document → Bool) (w : WindowValue) (before : Settling) (docs : List Document) (n : ℕ) : Type 0 where
-  pub at : n ≡ settled_before refuses w before docs
-  pub within : n < length docs
 
 -- all of them are
 pub record ReachedAll (refuses : Document → Bool) (w : WindowValue) (before : Settling) (docs : List Document) (after : Settling) : Type 0 where
@@ -138,9 +137,8 @@ abbrev pub PartsSettled : (Document → Bool) → (Id → RevId → Bool) → Wi
 PartsSettled refuses known w before parcel (Ok settled) after = Closes refuses known w before parcel settled after
 PartsSettled refuses known w before parcel (Err (faults.Uncovered seq id rev)) after =
     ReachedAll refuses w before parcel.docs after × (first_unknown known w.rows ≡ Some (record { seq = seq; id = id; rev = rev }))
-PartsSettled refuses known w before parcel (Err (faults.Stopped n rest causes.Memory)) after = Reached refuses w before parcel.docs n rest.items after
-PartsSettled refuses known w before parcel (Err (faults.Stopped n rest causes.SeqFull)) after =
-    Reached refuses w before parcel.docs n rest.items after × (n ≡ settled_before refuses w before parcel.docs) × (n < length parcel.docs)
+PartsSettled refuses known w before parcel (Err (faults.Stopped n rest cause)) after =
+    Reached refuses w before parcel.docs n rest.items after × Halts refuses w before parcel.docs n cause
 PartsSettled refuses known w before parcel (Err fault) after = ⊥
 
 -- what settling answers, and what it leaves

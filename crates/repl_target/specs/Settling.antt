@@ -17,6 +17,7 @@ use Rattle.range_front.specs.Front.{is_done, finished}
 use Rattle.repl_target.specs.Peer.{PeerValue, SessionValue, written_of, with_session}
 use Rattle.repl_target.specs.Covered.{refusal_of, covers_window, first_uncovered}
 use Rattle.repl_target.specs.Sessions.{session_answer}
+use Rattle.repl_target.specs.declared.fault.Cause.{Cause}
 use Rattle.repl_target.specs.declared.fault.Cause.TheVariants as causes
 use Rattle.repl_target.specs.declared.fault.Reason.{Reason}
 use Rattle.repl_target.specs.declared.fault.Settled.{Settled}
@@ -68,12 +69,15 @@ settle_docs refuses w z [] = z
 settle_docs refuses w z (d ∷ docs) = settle_docs refuses w (settle_one refuses w z d) docs
 
 -- whether a document is neither refused nor finds a sequence
-abbrev pub stops_as : Settling → Document → Option Reason → Bool
-stops_as z d (Some reason) = false
-stops_as z d None = is_full (put_answer z.db d)
+abbrev pub stops_as : DatabaseValue → Document → Option Reason → Bool
+stops_as db d (Some reason) = false
+stops_as db d None = is_full (put_answer db d)
+
+abbrev pub stops_in : (Document → Bool) → DatabaseValue → Document → Bool
+stops_in refuses db d = stops_as db d (refusal_of refuses db d)
 
 abbrev pub stops_at : (Document → Bool) → Settling → Document → Bool
-stops_at refuses z d = stops_as z d (refusal_of refuses z.db d)
+stops_at refuses z d = stops_in refuses z.db d
 
 -- how many documents are settled before the first that finds no sequence
 abbrev pub settled_before : (Document → Bool) → WindowValue → Settling → List Document → ℕ
@@ -165,6 +169,12 @@ pub record Stops (refuses : Document → Bool) (p q : PeerValue) (parcel : Parce
   pub rest : others ≡ drop n parcel.docs
   pub peer : q ≡ after_documents refuses p s w (take n parcel.docs)
 
+-- why the document behind the first n stops: it finds no sequence; or it finds one, unless none is left, and memory was
+-- refused
+abbrev pub Halts : (Document → Bool) → WindowValue → Settling → List Document → ℕ → Cause → Type 0
+Halts refuses w z docs n causes.SeqFull = (n ≡ settled_before refuses w z docs) × (n < length docs)
+Halts refuses w z docs n causes.Memory = n < length docs → n < settled_before refuses w z docs
+
 -- all documents of a parcel are settled
 pub record SettlesAll (refuses : Document → Bool) (p q : PeerValue) (parcel : ParcelValue) (s : SessionValue) (w : WindowValue) : Type 0 where
   pub all : settled_before refuses w (settling_of p s) parcel.docs ≡ length parcel.docs
@@ -181,9 +191,8 @@ SettlesAt refuses p parcel s w (Ok settled) q =
     SettlesAll refuses p q parcel s w × (first_uncovered (after_documents refuses p s w parcel.docs) w.rows ≡ None) × Counts (settle_docs refuses w (settling_of p s) parcel.docs).session s settled
 SettlesAt refuses p parcel s w (Err (faults.Uncovered seq id rev)) q =
     SettlesAll refuses p q parcel s w × (first_uncovered q w.rows ≡ Some (record { seq = seq; id = id; rev = rev }))
-SettlesAt refuses p parcel s w (Err (faults.Stopped n rest causes.Memory)) q = Stops refuses p q parcel s w n rest.items
-SettlesAt refuses p parcel s w (Err (faults.Stopped n rest causes.SeqFull)) q =
-    Stops refuses p q parcel s w n rest.items × (n ≡ settled_before refuses w (settling_of p s) parcel.docs) × (n < length parcel.docs)
+SettlesAt refuses p parcel s w (Err (faults.Stopped n rest cause)) q =
+    Stops refuses p q parcel s w n rest.items × Halts refuses w (settling_of p s) parcel.docs n cause
 SettlesAt refuses p parcel s w (Err fault) q = ⊥
 
 -- what settling answers, and the peer that it leaves

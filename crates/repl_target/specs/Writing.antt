@@ -8,7 +8,6 @@ use Rattle.couch_base.specs.Database.{Id}
 use Rattle.couch_base.specs.Put.{put_answer, after_put, is_changed}
 use Rattle.couch_base.specs.Edit.{edited, edit_document}
 use Rattle.couch_base.specs.declared.fault.BaseFault.{BaseFault}
-use Rattle.couch_base.specs.declared.fault.BaseFault.TheVariants as base_faults
 use Rattle.repl_target.specs.Peer.{PeerValue, written_of}
 
 -- the number of the next local write, as the origin of what it brings
@@ -29,8 +28,3 @@ load_edited p id deleted body (Err fault) = p
 
 abbrev pub after_edit : PeerValue → Id → Option RevId → Bool → List ℕ → PeerValue
 after_edit p id parent deleted body = load_edited p id deleted body (edited p.db id parent deleted body)
-
--- the result is the expected one, or memory was refused
-abbrev pub BaseGives : {A : Type 0} → Result A BaseFault → Result A BaseFault → Type 0
-BaseGives (Err base_faults.Memory) expected = Unit {0}
-BaseGives result expected = result ≡ expected

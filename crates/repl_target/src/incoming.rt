@@ -1,9 +1,10 @@
 //! The table of incoming sessions, oldest first.
 ghost use Rattle.std.specs.Prelude.{◌≡◌, ◌∷◌, ◌==◌, Ok, OnOk, OnErr, if◌then◌else◌};
+ghost use Rattle.std.specs.Option.{option_copied, option_map};
 ghost use Rattle.range_front.specs.Front.{low_water};
-ghost use Rattle.repl_target.specs.Kept.{sessions_of};
+ghost use Rattle.repl_target.specs.Kept.{session_value, sessions_of};
 ghost use Rattle.repl_target.specs.Sessions.{GivesUnlessMemory, new_session, append_in, with_window, recorded_at, conclude_in};
-ghost use Rattle.repl_target.specs.Peer.{PeerValue};
+ghost use Rattle.repl_target.specs.Peer.{PeerValue, session_in};
 ghost use Rattle.repl_target.specs.Settling.{SettleGives};
 ghost use Rattle.repl_target.specs.SettleParts.{with_parts};
 ghost use Rattle.repl_target.specs.Standing.{Stands, Indexes};
@@ -96,6 +97,15 @@ fn recorded_of(sessions: &Sessions, rep: RepId, base: Option<SessionId>) -> Resu
         }
         None => Err(TargetFault::NoSuchBase),
     }
+}
+
+/// The session of an id.
+pub(crate) fn find(sessions: &Sessions, id: SessionId) -> Option<&Session>
+    ensures { option_map (session_value id) (option_copied result) ≡ session_in (sessions_of sessions.now.entries) id }
+{
+    // No id comes twice: the reading tells the proof.
+    let _len = sessions.len();
+    sessions.get(&id)
 }
 
 /// Stores the next window of a session.

@@ -1,10 +1,11 @@
 //! Local writes.
-ghost use Rattle.std.specs.Prelude.{◌≡◌, None, length, OnOk, OnErr};
+ghost use Rattle.std.specs.Prelude.{◌≡◌, ◌<◌, None, length, OnOk, OnErr, IfOk};
+ghost use Rattle.std.specs.Vec.{vec_len, vec_capacity};
 ghost use Rattle.rev_tree.specs.declared.origin.Origin.TheVariants.{Local};
 ghost use Rattle.couch_base.specs.Database.{tree_in};
-ghost use Rattle.couch_base.specs.Put.{put_answer, after_put};
-ghost use Rattle.couch_base.specs.Edit.{edit_answer, after_edit};
-ghost use Rattle.repl_target.specs.Writing.{BaseGives};
+ghost use Rattle.couch_base.specs.Put.{put_answer, after_put, PutGives};
+ghost use Rattle.couch_base.specs.Edit.{edit_answer, after_edit, EditGives};
+ghost use Rattle.repl_target.specs.Peer.{written_of};
 ghost use Rattle.repl_target.specs.Local.{with_load, with_edit, stood_on};
 
 use crate::written::Written;
@@ -12,35 +13,33 @@ use couch_base::{BaseFault, Database, Put};
 use doc_json::{Body, Doc, DocId};
 use rev_core::Rev;
 use rev_tree::Origin;
+use std::alloc::AllocError;
 
 /// Puts a document of the user's own.
 ///
-/// What can fail comes before the put, so that a refusal changes nothing.
+/// What the local write needs is made first, so that a refusal changes nothing. Where that finds no memory, the answer is what a
+/// put refuses, or `Same`, which need none.
 pub(crate) fn load(
     db: &mut Database,
     locals: &mut Vec<Written>,
     doc: &Doc,
 ) -> Result<Put, BaseFault>
-    ensures answer { BaseGives result (put_answer db.old doc.now) }
+    ensures answer { PutGives result (put_answer db.old doc.now) }
     ensures db { OnOk result (db.new ≡ after_put db.old doc.now (Local (length locals.old.items))) }
     ensures locals { OnOk result (locals.new.items ≡ with_load db.old locals.old.items doc.now) }
     ensures db_kept { OnErr result (db.new ≡ db.old) }
     ensures locals_kept { OnErr result (locals.new.items ≡ locals.old.items) }
 {
-    let alloc = *locals.allocator();
-    let Ok(id) = doc.id().copy(alloc) else {
-        return Err(BaseFault::Memory);
-    };
-    let Ok(ancestry) = doc.ancestry().copy(alloc) else {
-        return Err(BaseFault::Memory);
-    };
-    let Ok(()) = locals.reserve(1) else {
-        return Err(BaseFault::Memory);
+    let Ok(written) = prepare(locals, doc) else {
+        return match db.put_answer(doc) {
+            Ok(Put::Changed { .. }) => Err(BaseFault::Memory),
+            answer => answer,
+        };
     };
     let origin = Origin::Local(locals.len() as u64);
     match db.put(doc, origin) {
         Ok(Put::Changed { seq }) => {
-            let Ok(()) = locals.push(Written::whole(id, ancestry)) else {
+            let Ok(()) = locals.push(written) else {
                 return Err(BaseFault::Memory);
             };
             Ok(Put::Changed { seq })
@@ -49,9 +48,36 @@ pub(crate) fn load(
     }
 }
 
+/// The local write that a put brings, and a place for it.
+fn prepare(locals: &mut Vec<Written>, doc: &Doc) -> Result<Written, AllocError>
+    ensures written { IfOk result (λ w. w ≡ written_of doc.now) }
+    ensures place { OnOk result (vec_len locals.new < vec_capacity locals.new) }
+    ensures locals { locals.new.items ≡ locals.old.items }
+{
+    let id = prepare_id(locals, doc.id())?;
+    match doc.ancestry().copy(*locals.allocator()) {
+        Ok(ancestry) => Ok(Written::whole(id, ancestry)),
+        Err(_) => Err(AllocError),
+    }
+}
+
+/// The id of a document that a local write names, and a place for it.
+fn prepare_id(locals: &mut Vec<Written>, id: &DocId) -> Result<DocId, AllocError>
+    ensures copied { IfOk result (λ again. again ≡ id.now) }
+    ensures place { OnOk result (vec_len locals.new < vec_capacity locals.new) }
+    ensures locals { locals.new.items ≡ locals.old.items }
+{
+    locals.reserve(1)?;
+    match id.copy(*locals.allocator()) {
+        Ok(again) => Ok(again),
+        Err(_) => Err(AllocError),
+    }
+}
+
 /// Edits a document.
 ///
-/// What can fail comes before the edit, so that a refusal changes nothing.
+/// What the local write needs is made first, so that a refusal changes nothing. Where that finds no memory, the answer is what an
+/// edit refuses without any.
 pub(crate) fn edit(
     db: &mut Database,
     locals: &mut Vec<Written>,
@@ -60,7 +86,7 @@ pub(crate) fn edit(
     deleted: bool,
     body: &Body,
 ) -> Result<Rev, BaseFault>
-    ensures answer { BaseGives result (edit_answer db.old id.now parent deleted body.now) }
+    ensures answer { EditGives result (edit_answer db.old id.now parent deleted body.now) }
     ensures db { OnOk result (db.new
         ≡ after_edit db.old id.now parent deleted body.now (Local (length locals.old.items))) }
     ensures locals { OnOk result (locals.new.items
@@ -70,10 +96,8 @@ pub(crate) fn edit(
 {
     // The reading tells the proof that the database is lawful.
     let _seq = db.update_seq();
-    let Ok(again) = id.copy(*locals.allocator()) else {
-        return Err(BaseFault::Memory);
-    };
-    let Ok(()) = locals.reserve(1) else {
+    let Ok(again) = prepare_id(locals, id) else {
+        db.check_edit(id, parent)?;
         return Err(BaseFault::Memory);
     };
     let before = match parent {

@@ -26,7 +26,7 @@ use std::marker::Model;
 pub struct Peer<F: WriteFilter> {
     filter: F,
     pub(crate) db: Database,
-    locals: Vec<Written>,
+    pub(crate) locals: Vec<Written>,
     pub(crate) sessions: Sessions,
     refusals: Refusals,
     pub(crate) outgoing: IndexMap<RepId, Log>,
@@ -66,13 +66,13 @@ impl<F: WriteFilter> Peer<F> {
     ghost use Rattle.couch_base.specs.Lists.{Among};
     ghost use Rattle.couch_base.specs.Database.{no_documents_at};
     ghost use Rattle.couch_base.specs.Answers.{GivesUnlessMemory as BaseUnlessMemory};
-    ghost use Rattle.couch_base.specs.Put.{put_answer};
-    ghost use Rattle.couch_base.specs.Edit.{edit_answer};
+    ghost use Rattle.couch_base.specs.Put.{put_answer, PutGives};
+    ghost use Rattle.couch_base.specs.Edit.{edit_answer, EditGives};
     ghost use Rattle.couch_base.specs.Feed.{page_answer};
     ghost use Rattle.couch_base.specs.Messages.{revs_diff, open_revs};
     ghost use Rattle.repl_target.specs.Peer.{SessionValue, new_peer, new_peer_at, entry_of};
     ghost use Rattle.repl_target.specs.Covered.{covers, Honest};
-    ghost use Rattle.repl_target.specs.Writing.{after_load, after_edit, BaseGives};
+    ghost use Rattle.repl_target.specs.Writing.{after_load, after_edit};
     ghost use Rattle.repl_target.specs.Sessions.{GivesUnlessMemory, session_answer, begin_answer, after_begin, append_answer, after_append, record_answer, after_record, conclude_answer, after_conclude};
     ghost use Rattle.repl_target.specs.Settling.{SettleGives};
     ghost use Rattle.repl_target.specs.Table.{entry_value};
@@ -131,9 +131,9 @@ impl<F: WriteFilter> Peer<F> {
     /// Puts a document of the user's own with its ancestry as they are given. Where that changes the database, it is the
     /// next local write.
     ///
-    /// The refusals are those of `Database::put`; `Memory` may stand in the place of each. A refusal changes nothing.
+    /// The refusals are those of `Database::put`, and `Memory` stands only where that may answer it. A refusal changes nothing.
     pub fn load(&mut self, doc: &Doc) -> Result<Put, BaseFault>
-        ensures answer { BaseGives result (put_answer self.old.1.db doc.now) }
+        ensures answer { PutGives result (put_answer self.old.1.db doc.now) }
         ensures filter { self.new.0 ≡ self.old.0 }
         ensures ok { OnOk result (self.new.1 ≡ after_load self.old.1 doc.now) }
         ensures err { OnErr result (self.new.1 ≡ self.old.1) }
@@ -144,7 +144,7 @@ impl<F: WriteFilter> Peer<F> {
 
     /// Edits a document, as the next local write, and answers the new revision's id.
     ///
-    /// The refusals are those of `Database::edit`; `Memory` may stand in the place of each. A refusal changes nothing.
+    /// The refusals are those of `Database::edit`, and `Memory` stands only where that may answer it. A refusal changes nothing.
     pub fn edit(
         &mut self,
         id: &DocId,
@@ -152,7 +152,7 @@ impl<F: WriteFilter> Peer<F> {
         deleted: bool,
         body: &Body,
     ) -> Result<Rev, BaseFault>
-        ensures answer { BaseGives result (edit_answer self.old.1.db id.now parent deleted body.now) }
+        ensures answer { EditGives result (edit_answer self.old.1.db id.now parent deleted body.now) }
         ensures filter { self.new.0 ≡ self.old.0 }
         ensures ok { OnOk result (self.new.1 ≡ after_edit self.old.1 id.now parent deleted body.now) }
         ensures err { OnErr result (self.new.1 ≡ self.old.1) }
@@ -248,7 +248,8 @@ impl<F: WriteFilter> Peer<F> {
     ///
     /// Else each document in order is refused by the filter or as a contradiction, and goes into the session's ledger, or
     /// is put, and counts as written also where it was there already. `Stopped` where a document that is put finds no
-    /// sequence, or where memory is refused: the first `settled` documents are settled then, and `rest` are the others.
+    /// sequence, or, where the next one does or none is left, memory is refused: the first `settled` documents are settled
+    /// then, and `rest` are the others.
     /// Else `Uncovered` where a leaf of the window's rows isn't covered: the first such one; all documents are settled
     /// then. Else the window is done, and the answer is how many of the documents were written, and how many refused.
     pub fn settle(&mut self, id: SessionId, parcel: Parcel) -> Result<Settled, TargetFault>

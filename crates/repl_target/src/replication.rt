@@ -60,6 +60,8 @@ pub fn replicate_alone<F: WriteFilter, G: WriteFilter>(
     ensures replicates { Replicates (G.refuses target.old.0) source.old.1 target.old.1 plan.now result source.new.1 target.new.1 }
     ensures filters { (source.new.0 ≡ source.old.0) × (target.new.0 ≡ target.old.0) }
     ensures source { source.new.1 ≡ record source.old.1 { outgoing = source.new.1.outgoing } }
+    ensures source_law { Lawful (F.refuses source.new.0) source.new.1 }
+    ensures target_law { Lawful (G.refuses target.new.0) target.new.1 }
     ensures covered { OnOk result (CoversFrom source.old.1 target.new.1 (start_between source.old.1 target.old.1)) }
     ensures report { IfOk result (λ report. IsReported source.old.1 target.old.1 target.new.1 plan.now report) }
     ensures copied { IfOk result (λ report. IsEmpty target.old.1 → report.failures ≡ 0 → SameDocuments source.old.1.db target.new.1.db) }
@@ -88,6 +90,8 @@ fn carry_all<F: WriteFilter, G: WriteFilter>(
     ensures report { IfOk result (λ report. IsReported source.old.1 target.old.1 target.new.1 plan.now report) }
     ensures copied { IfOk result (λ report. IsEmpty target.old.1 → report.failures ≡ 0 → SameDocuments source.old.1.db target.new.1.db) }
 {
+    // The readings tell the proof that both peers are lawful.
+    let (_source, _target) = (source.db(), target.db());
     check_plan(source, target, plan)?;
     let start = begin_plan(alloc, source, target, plan)?;
     read_windows(alloc, source, target, plan, start)?;
@@ -157,6 +161,7 @@ fn read_windows<F: WriteFilter, G: WriteFilter>(
     ensures filter { target.new.0 ≡ target.old.0 }
     ensures ok { OnOk result (ReadsAll (G.refuses target.old.0) source.now.1.db plan.now (record { since = start; target = target.old.1 }) target.new.1) }
     ensures err { IfErr result (λ why. ReadsUntil (G.refuses target.old.0) source.now.1.db plan.now (record { since = start; target = target.old.1 }) why target.new.1) }
+    ensures law { Lawful (G.refuses target.new.0) target.new.1 }
 {
     let goal = source.db().update_seq();
     let mut since = start;
@@ -165,6 +170,8 @@ fn read_windows<F: WriteFilter, G: WriteFilter>(
         since = carry_window(alloc, source, target, plan, since)?;
         windows += 1;
     }
+    // The reading tells the proof that the target is lawful.
+    let _target = target.db();
     Ok(())
 }
 
@@ -192,7 +199,10 @@ fn carry_window<F: WriteFilter, G: WriteFilter>(
     ensures moves { IfOk result (λ hi. since < hi) }
     ensures ok { IfOk result (λ hi. Carries (G.refuses target.old.0) source.now.1.db plan.now (record { since = since; target = target.old.1 }) (record { since = hi; target = target.new.1 })) }
     ensures err { IfErr result (λ why. WindowRefused (G.refuses target.old.0) source.now.1.db plan.now (record { since = since; target = target.old.1 }) why target.new.1) }
+    ensures law { Lawful (G.refuses target.new.0) target.new.1 }
 {
+    // The reading tells the proof that the target is lawful.
+    let _target = target.db();
     let goal = source.db().update_seq();
     let Ok(window) = source.page(alloc, since, goal, plan.batch) else {
         return Err(TargetFault::Memory);
@@ -219,6 +229,8 @@ fn close<F: WriteFilter, G: WriteFilter>(
     ensures filters { (source.new.0 ≡ source.old.0) × (target.new.0 ≡ target.old.0) }
     ensures closes { Closes source.old.1 target.old.1 plan.now result source.new.1 target.new.1 }
     ensures source { source.new.1 ≡ record source.old.1 { outgoing = source.new.1.outgoing } }
+    ensures source_law { Lawful (F.refuses source.new.0) source.new.1 }
+    ensures target_law { Lawful (G.refuses target.new.0) target.new.1 }
 {
     let concluded = record_at_target(target, plan);
     record_at_source(source, target, plan)?;
@@ -233,6 +245,7 @@ fn record_at_target<G: WriteFilter>(
     ensures filter { target.new.0 ≡ target.old.0 }
     ensures answer { result ≡ conclude_answer target.old.1 plan.now.session }
     ensures closed { target.new.1 ≡ closed target.old.1 plan.now }
+    ensures law { Lawful (G.refuses target.new.0) target.new.1 }
 {
     match target.conclude(plan.session, plan.at) {
         Ok(report) => Ok(report),
@@ -253,6 +266,7 @@ pub fn record_at_source<F: WriteFilter, G: WriteFilter>(
 ) -> Result<(), TargetFault>
     requires held { (s : SessionValue) × (session_in target.now.1.sessions plan.now.session ≡ Some s) }
     ensures filter { source.new.0 ≡ source.old.0 }
+    ensures law { Lawful (F.refuses source.new.0) source.new.1 }
     ensures told { (entry : EntryValue) × (session_answer target.now.1 plan.now.session (λ s. Ok (entry_of s)) ≡ Ok entry)
         × PutsOver source.old.1 (rep_between source.old.1 target.now.1) entry result source.new.1 }
 {

@@ -7,21 +7,14 @@ ghost use Rattle.repl_log.specs.Entry.{value_of};
 ghost use Rattle.repl_target.specs.Peer.{entry_of};
 ghost use Rattle.repl_target.specs.Sessions.{GivesUnlessMemory, new_session, append_in, with_window, recorded_at, report_of, conclude_in};
 
-use crate::fault::{Reason, Report, TargetFault};
+use crate::fault::{Report, TargetFault};
+use crate::refused::Refused;
 use crate::written::Written;
 use couch_base::Window;
-use doc_json::Doc;
 use range_front::Front;
 use repl_log::{Entry, Moment, RepId};
 use rev_tree::SessionId;
 use std::alloc::Global;
-
-/// A document that was refused, and why.
-#[derive(Drop)]
-pub(crate) struct Refused {
-    pub(crate) doc: Doc,
-    pub(crate) reason: Reason,
-}
 
 /// An incoming session.
 #[derive(Drop)]

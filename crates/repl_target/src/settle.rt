@@ -9,21 +9,22 @@ ghost use Rattle.rev_tree.specs.declared.origin.SessionId.{SessionId as SessionN
 ghost use Rattle.doc_json.specs.Document.{Document};
 ghost use Rattle.couch_base.specs.Database.{Id, most};
 ghost use Rattle.couch_base.specs.Feed.{WindowValue};
-ghost use Rattle.couch_base.specs.Put.{put_answer, after_put};
+ghost use Rattle.couch_base.specs.Put.{after_put};
 ghost use Rattle.range_front.specs.Front.{IsFront, bounds, finish_answer};
 ghost use Rattle.repl_target.specs.Covered.{refusal_of, in_ledger};
 ghost use Rattle.repl_target.specs.Law.{window_bounds};
-ghost use Rattle.repl_target.specs.Kept.{session_value, refused_value};
+ghost use Rattle.repl_target.specs.Kept.{session_value};
 ghost use Rattle.repl_target.specs.declared.refusals.Refusals.{Refusals as RefusedIndex};
 ghost use Rattle.repl_target.specs.Refusals.{is_refused};
-ghost use Rattle.repl_target.specs.Settling.{is_full, has_row};
-ghost use Rattle.repl_target.specs.SettleParts.{PartsGive, Reached, IsFull, Ends, Accepts, Rejects, Steps, Stuck, Indexes, entered, known_of, settling_at, ledger_of};
+ghost use Rattle.repl_target.specs.Settling.{Halts, stops_in, has_row};
+ghost use Rattle.repl_target.specs.SettleParts.{PartsGive, Reached, Ends, Accepts, Rejects, Steps, Stuck, cause_at, Indexes, entered, known_of, settling_at, ledger_of};
 
 use crate::fault::{Cause, Reason, Settled, TargetFault};
 use crate::filter::{Verdict, WriteFilter};
 use crate::refusals::Refusals;
+use crate::refused::Refused;
 use crate::rows::{first_unknown, seq_from};
-use crate::session::{Refused, Session};
+use crate::session::Session;
 use crate::stored::{Checked, check};
 use crate::written::Written;
 use couch_base::{BaseFault, Database, Parcel};
@@ -50,6 +51,19 @@ fn note_refused(refusals: &mut Refusals, ledger: &mut Vec<Refused>, doc: &Doc) -
     }
 }
 
+/// Why a document for which memory is refused stops: it may find no sequence either. It takes no memory.
+fn cause_of<F: WriteFilter>(filter: &F, db: &Database, doc: &Doc) -> Cause
+    ensures { result ≡ cause_at (stops_in (F.refuses filter.now) db.now doc.now) }
+{
+    match filter.verdict(doc) {
+        Verdict::Refuse => Cause::Memory,
+        Verdict::Accept => match db.put_answer(doc) {
+            Err(BaseFault::SeqFull) => Cause::SeqFull,
+            _ => Cause::Memory,
+        },
+    }
+}
+
 /// Puts a document, or answers why it is refused. Its arrival or its place in the ledger then needs no memory.
 ///
 /// An error changes nothing.
@@ -73,16 +87,14 @@ fn decide<F: WriteFilter>(
     ensures ledger { ledger.new.items ≡ ledger.old.items }
     ensures db { OnErr result (db.new ≡ db.old) }
     ensures index { OnErr result ((id : Id) (r : RevId) → is_refused refusals.new id r ≡ is_refused refusals.old id r) }
-    ensures full { IfErr result
-        (λ cause. cause ≡ Cause.SeqFull
-        → (refusal_of (F.refuses filter.now) db.old doc.now ≡ None) × (is_full (put_answer db.old doc.now) ≡ true)) }
+    ensures why { IfErr result (λ cause. cause ≡ cause_at (stops_in (F.refuses filter.now) db.old doc.now)) }
 {
     if filter.verdict(doc) == Verdict::Refuse {
         note_refused(refusals, ledger, doc)?;
         return Ok(Some(Reason::Filtered));
     }
     let Ok(()) = arrivals.reserve(1) else {
-        return Err(Cause::Memory);
+        return Err(cause_of(filter, db, doc));
     };
     match db.put(doc, origin) {
         Ok(_) => Ok(None),
@@ -119,7 +131,7 @@ fn enter(session: &mut Session, doc: Doc, reason: Option<Reason>)
 {
     match reason {
         Some(reason) => {
-            session.ledger.push(Refused { doc, reason }).unwrap();
+            session.ledger.push(Refused::new(doc, reason)).unwrap();
             session.failures += 1;
         }
         None => {
@@ -153,7 +165,7 @@ fn settle_last<F: WriteFilter>(
     ensures db { OnErr result (db.new ≡ db.old) }
     ensures session { OnErr result
         ((id : SessionName) → session_value id session.new ≡ session_value id session.old) }
-    ensures full { IfErr result (λ cause. cause ≡ Cause.SeqFull → Stuck (F.refuses filter.now) docs.old.items db.old) }
+    ensures why { IfErr result (Stuck (F.refuses filter.now) docs.old.items db.old) }
     ensures read { OnOk result (session.new.read ≡ session.old.read + 1) }
     ensures counts { session.new.read ≡ session.new.written + session.new.failures }
     ensures front { session.new.front ≡ session.old.front }
@@ -201,7 +213,7 @@ fn settle_documents<F: WriteFilter>(
         (settling_at db.new id session.new) }
     ensures fewer { length docs.new.items ≤ length docs.old.items }
     ensures ok { OnOk result (docs.new.items ≡ []) }
-    ensures full { IfErr result (λ cause. cause ≡ Cause.SeqFull → Stuck (F.refuses filter.now) docs.new.items db.new) }
+    ensures why { IfErr result (Stuck (F.refuses filter.now) docs.new.items db.new) }
     ensures front { session.new.front ≡ session.old.front }
     ensures windows { session.new.windows ≡ session.old.windows }
     ensures indexed { (base : RefusedIndex)
@@ -240,12 +252,11 @@ fn settle_in_order<F: WriteFilter>(
         (length docs.old.items - length docs.new.items) docs.new.items (settling_at db.new id session.new) }
     ensures fewer { length docs.new.items ≤ length docs.old.items }
     ensures ok { OnOk result (docs.new.items ≡ []) }
-    ensures full { IfErr result
-        (λ cause. cause ≡ Cause.SeqFull
-        → (w : WindowValue)
+    ensures why { IfErr result
+        (λ cause. (w : WindowValue)
         → slice_get session.old.windows.items place ≡ Some w
-        → IsFull (F.refuses filter.now) w (settling_at db.old id session.old) docs.old.items
-        (length docs.old.items - length docs.new.items)) }
+        → Halts (F.refuses filter.now) w (settling_at db.old id session.old) docs.old.items
+        (length docs.old.items - length docs.new.items) cause) }
     ensures room { OnOk result (0 < session.new.front.room) }
     ensures front { session.new.front.front ≡ session.old.front.front }
     ensures windows { session.new.windows ≡ session.old.windows }
@@ -254,7 +265,10 @@ fn settle_in_order<F: WriteFilter>(
         → Indexes base (ledger_of session.new) refusals.new }
 {
     let Ok(()) = session.front.reserve() else {
-        return Err(Cause::Memory);
+        return match docs.first() {
+            Some(doc) => Err(cause_of(filter, db, doc)),
+            None => Err(Cause::Memory),
+        };
     };
     docs.reverse();
     let settled = settle_documents(filter, db, refusals, id, session, place, docs);

@@ -1,5 +1,5 @@
 //! Revisions that were written.
-ghost use Rattle.std.specs.Prelude.{◌≡◌, ◌∷◌, []};
+ghost use Rattle.std.specs.Prelude.{◌≡◌, ◌∷◌, [], slice_get};
 ghost use Rattle.std.specs.Option.{option_to_list};
 
 use doc_json::DocId;
@@ -15,7 +15,7 @@ enum Lineage {
 
 /// A local write or an arrival: a document's id and the revisions that were written, newest first.
 #[derive(Drop)]
-pub(crate) struct Written {
+pub struct Written {
     id: DocId,
     lineage: Lineage,
 }
@@ -50,6 +50,27 @@ impl Written {
         Written {
             id,
             lineage: Lineage::Edit { rev, parent },
+        }
+    }
+
+    /// The document's id.
+    pub fn id(&self) -> &DocId
+        ensures { result.now ≡ self.now.id }
+    {
+        &self.id
+    }
+
+    /// The revision at a place, where there are so many; the newest is at 0.
+    pub fn rev(&self, place: usize) -> Option<Rev>
+        ensures { result ≡ slice_get self.now.ancestry place }
+    {
+        match &self.lineage {
+            Lineage::Whole(ancestry) => ancestry.revs().get(place).copied(),
+            Lineage::Edit { rev, parent } => match place {
+                0 => Some(*rev),
+                1 => *parent,
+                _ => None,
+            },
         }
     }
 }

@@ -2,10 +2,12 @@
 use Rattle.std.proofs.Common.{◌≡◌, ◌⊎◌, inl, inr, ℕ, List, refl, sym, ap, ◌∙◌, Some, Result, Err}
 use Rattle.std.specs.FinMap.{FinMap, get, insert}
 use Rattle.rev_core.specs.Rev.{RevId}
+use Rattle.couch_base.specs.Edit.{EditGives}
+use Rattle.couch_base.specs.Put.{PutGives}
 use Rattle.couch_base.specs.declared.fault.BaseFault.{BaseFault}
 use Rattle.couch_base.specs.declared.fault.BaseFault.TheVariants as base
+use Rattle.couch_base.specs.declared.fault.Put.{Put}
 use Rattle.repl_target.specs.Peer.{PeerValue}
-use Rattle.repl_target.specs.Writing.{BaseGives}
 use Rattle.script_databases.specs.Refusals.{told_as, base_refusal}
 use Rattle.script_databases.specs.Databases.{State, text_cmp, with_changed, changed_at, edited_as}
 use Rattle.script_databases.specs.declared.refusal.Refusal.TheVariants as why
@@ -14,7 +16,7 @@ use Rattle.script_databases.proofs.IndexLemmas.{state_with}
 use Rattle.script_databases.proofs.TableLemmas.{insert-same}
 
 -- what a database refuses is told by its name
-pub put_refused : {A : Type 0} (fault : BaseFault) (expected : Result A BaseFault) → BaseGives (Err fault) expected → (told_as base_refusal expected ≡ Err (base_refusal fault)) ⊎ (base_refusal fault ≡ why.Memory)
+pub put_refused : (fault : BaseFault) (expected : Result Put BaseFault) → PutGives (Err fault) expected → (told_as base_refusal expected ≡ Err (base_refusal fault)) ⊎ (base_refusal fault ≡ why.Memory)
 put_refused (base.Contradiction child known given) expected h = inl (ap (told_as base_refusal) (sym h))
 put_refused base.SeqFull expected h = inl (ap (told_as base_refusal) (sym h))
 put_refused base.SeqTooLarge expected h = inl (ap (told_as base_refusal) (sym h))
@@ -27,7 +29,7 @@ put_refused base.GenerationFull expected h = inl (ap (told_as base_refusal) (sym
 put_refused (base.RevExists r) expected h = inl (ap (told_as base_refusal) (sym h))
 put_refused base.Memory expected h = inr refl
 
-pub edit_refused : (after : PeerValue) (fault : BaseFault) (expected : Result RevId BaseFault) → BaseGives (Err fault) expected → (edited_as after expected ≡ Err (base_refusal fault)) ⊎ (base_refusal fault ≡ why.Memory)
+pub edit_refused : (after : PeerValue) (fault : BaseFault) (expected : Result RevId BaseFault) → EditGives (Err fault) expected → (edited_as after expected ≡ Err (base_refusal fault)) ⊎ (base_refusal fault ≡ why.Memory)
 edit_refused after (base.Contradiction child known given) expected h = inl (ap (edited_as after) (sym h))
 edit_refused after base.SeqFull expected h = inl (ap (edited_as after) (sym h))
 edit_refused after base.SeqTooLarge expected h = inl (ap (edited_as after) (sym h))

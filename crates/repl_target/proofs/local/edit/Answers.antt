@@ -11,10 +11,10 @@ returns-in-Ok-push-clause-locals c =
     let id = c.args.id.now in
     let tree = tree_in db.docs id in
     let made =
-    with_edit-pushed db c.update_seq-seq.ensures.law c.args.locals.now.items id c.args.parent c.args.deleted c.args.body.now c.in-Ok-edit.rev c.match-parent.parent c.match-parent.before c.in-Ok.again c.reserve.new.self.items c.push.new.self.items c.edit-in-Ok-edit.result in
+    with_edit-pushed db c.update_seq-seq.ensures.law c.args.locals.now.items id c.args.parent c.args.deleted c.args.body.now c.in-Ok-edit.rev c.match-parent.parent c.match-parent.before c.in-Ok.again c.prepare_id.new.locals.items c.push.new.self.items c.edit-in-Ok-edit.result in
     elim c.match-parent.branch [
       | in-Some w ↦
-          made (w.parent-is ∙ sym w.in-Some.is) (w.before-is ∙ ap (stood_on tree) (sym w.in-Some.is)) c.in-Ok-edit.ensures.answer c.in-Ok.ensures.copied c.edit-in-Ok-edit.ensures c.reserve.ensures.items c.in-Ok-push.ensures.items
+          made (w.parent-is ∙ sym w.in-Some.is) (w.before-is ∙ ap (stood_on tree) (sym w.in-Some.is)) c.in-Ok-edit.ensures.answer c.in-Ok.ensures.copied c.edit-in-Ok-edit.ensures c.prepare_id.ensures.locals c.in-Ok-push.ensures.items
       | in-None w ↦
-          made w.parent-is (w.before-is ∙ w.winner-before.ensures ∙ ap (stood_on tree) (sym w.in-None.is)) c.in-Ok-edit.ensures.answer c.in-Ok.ensures.copied c.edit-in-Ok-edit.ensures c.reserve.ensures.items c.in-Ok-push.ensures.items
+          made w.parent-is (w.before-is ∙ w.winner-before.ensures ∙ ap (stood_on tree) (sym w.in-None.is)) c.in-Ok-edit.ensures.answer c.in-Ok.ensures.copied c.edit-in-Ok-edit.ensures c.prepare_id.ensures.locals c.in-Ok-push.ensures.items
     ]

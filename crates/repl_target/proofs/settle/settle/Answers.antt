@@ -8,8 +8,8 @@ use Rattle.range_front.specs.Front.{FrontValue, finish_answer}
 use Rattle.repl_target.specs.Covered.{in_ledger}
 use Rattle.repl_target.specs.Peer.{RefusedValue}
 use Rattle.repl_target.specs.Kept.{session_value}
-use Rattle.repl_target.specs.Settling.{has_row}
-use Rattle.repl_target.specs.SettleParts.{Reached, IsFull, settling_at, known_of}
+use Rattle.repl_target.specs.Settling.{Halts, has_row}
+use Rattle.repl_target.specs.SettleParts.{Reached, settling_at, known_of}
 use Rattle.repl_target.proofs.Checks.{passed_by, room_of, consecutive, can_finish}
 use Rattle.repl_target.proofs.Documents.{grown_by, reached_left, items_of}
 use Rattle.repl_target.proofs.Parcels.{gives_from, stopped, ended_err, ended_ok}
@@ -47,7 +47,7 @@ returns-in-Err-clause-gives g c =
     gives_from refuses known before after c.args.parcel _ _ _ _ p
     (stopped refuses known p.window before after c.args.parcel all.items (c.len-all.result - c.len.result) left c.in-Err.cause (sym docs)
     (subst (λ (k : ℕ). Reached refuses p.window before all.items k left.items after) n (c.settle_in_order-stop.ensures.reached p.window p.at))
-    (λ full. subst (λ (k : ℕ). IsFull refuses p.window before all.items k) n (c.in-Err.ensures.full full p.window p.at)))
+    (subst (λ (k : ℕ). Halts refuses p.window before all.items k c.in-Err.cause) n (c.in-Err.ensures.why p.window p.at)))
 
 pub close-requires-clause-stored : goal.close-requires-clause-stored
 close-requires-clause-stored g c =

@@ -1,10 +1,11 @@
-use Rattle.std.proofs.Common.{◌≡◌, ◌-◌, Some, slice_get, length, ap, arith}
+use Rattle.std.proofs.Common.{◌≡◌, ◌-◌, Some, List, slice_get, length, ap, ◌∙◌, arith}
 use Rattle.std.proofs.lemmas.List.{length-reverse}
+use Rattle.doc_json.specs.Document.{Document}
 use Rattle.couch_base.specs.Feed.{WindowValue}
 use Rattle.repl_target.specs.Kept.{session_value}
 use Rattle.repl_target.specs.Settling.{has_row}
 use Rattle.repl_target.specs.SettleParts.{settling_at, Reached}
-use Rattle.repl_target.proofs.Documents.{reached_turned, full_from, all_turned, IfErr_then}
+use Rattle.repl_target.proofs.Documents.{reached_turned, halts_first, halts_from, all_turned, IfErr_then}
 use Rattle.repl_target.proofs.settle.settle_in_order.Given.{Over}
 use Rattle.repl_target.proofs.settle.settle_in_order.Goals as goal
 
@@ -28,8 +29,13 @@ returns-clause-fewer g c =
     let fewer = c.settle_documents-settled.ensures.fewer in
     omega (arith, fewer, ap length c.reverse.ensures.items, ap length c.reverse-2.ensures.items, length-reverse c.args.docs.now.items, length-reverse c.settle_documents-settled.new.docs.items)
 
-pub returns-clause-full : goal.returns-clause-full
-returns-clause-full g c =
+pub returns-clause-why : goal.returns-clause-why
+returns-clause-why g c =
     IfErr_then c.settle_documents-settled.result
-    (λ cause h full w is. full_from (g.F.WriteFilter.refuses c.args.filter.now) w _ _ c.args.docs.now.items c.settle_documents-settled.new.docs.items c.reverse-2.new.self.items _ (reached g c w is) c.reverse-2.ensures.items (h full))
-    c.settle_documents-settled.ensures.full
+    (λ cause h w is. halts_from (g.F.WriteFilter.refuses c.args.filter.now) w _ _ c.args.docs.now.items c.settle_documents-settled.new.docs.items c.reverse-2.new.self.items _ cause (reached g c w is) c.reverse-2.ensures.items h)
+    c.settle_documents-settled.ensures.why
+
+pub returns-in-Some-clause-why : goal.returns-in-Some-clause-why
+returns-in-Some-clause-why g c = λ w is.
+    halts_first (g.F.WriteFilter.refuses c.args.filter.now) w (settling_at c.args.db.now c.args.id c.args.session.now) c.args.docs.now.items _ c.in-Some.doc.now c.cause_of.result (omega arith)
+    (c.in-Some.ensures.value ∙ ap (λ (l : List Document). slice_get l 0) c.deref.ensures.value) c.cause_of.ensures

@@ -1,8 +1,8 @@
-use Rattle.std.proofs.Common.{◌≡◌, ◌++◌, ◌∷◌, ◌-◌, [], List, map, length, slice_get, sym, ap, ◌∙◌, subst}
+use Rattle.std.proofs.Common.{◌≡◌, ◌++◌, ◌∷◌, ◌-◌, [], List, length, slice_get, sym, ap, ◌∙◌, subst}
 use Rattle.std.specs.Option.{option_copied, option_to_list}
 use Rattle.rev_tree.specs.declared.origin.SessionId.{SessionId}
 use Rattle.doc_json.specs.Document.{Document}
-use Rattle.repl_target.specs.Kept.{session_value, refused_value}
+use Rattle.repl_target.specs.Kept.{session_value}
 use Rattle.repl_target.specs.Peer.{SessionValue}
 use Rattle.repl_target.specs.SettleParts.{entered}
 use Rattle.repl_target.proofs.Documents.{steps_from, indexes_from, last_is}
@@ -22,7 +22,7 @@ session_is : (g : Over) (c : goal.After-enter g) (id : SessionId) → session_va
 session_is g c id =
     c.enter.ensures.value id
     ∙ ap (λ (s : SessionValue). entered c.unwrap-doc-2.result c.in_ok-reason.reason s)
-    (λ i. let s : SessionValue = record (session_value id c.args.session.now) { arrivals = c.decide.ensures.arrivals i; ledger = map refused_value (c.decide.ensures.ledger i) } in s)
+    (λ i. let s : SessionValue = record (session_value id c.args.session.now) { arrivals = c.decide.ensures.arrivals i; ledger = c.decide.ensures.ledger i } in s)
     ∙ ap (λ (x : Document). entered x c.in_ok-reason.reason (session_value id c.args.session.now)) (sym (same_doc g c))
 
 pub returns-clause-settled : goal.returns-clause-settled
