@@ -29,4 +29,4 @@ pub mod CallLaws
 pub mod Covering
 pub mod Replicated
 pub mod Taken
-pub mod Refused
+pub mod RefusedCalls

@@ -53,11 +53,11 @@ settle_gives refuses p id parcel result q gives = go (settle_check p id parcel) 
     at_window : (s : SessionValue) (w : WindowValue) (result : Result Settled TargetFault) → SettlesAt refuses p parcel s w result q → q ≡ left (Ok (s, w)) (stopped_at result)
     at_window s w (Ok settled) h = h.0.peer ∙ all s w h.0.all
     at_window s w (Err (faults.Uncovered seq id rev)) h = h.0.peer ∙ all s w h.0.all
-    at_window s w (Err (faults.Stopped n rest causes.Memory)) h = h.peer
+    at_window s w (Err (faults.Stopped n rest causes.Memory)) h = h.0.peer
     at_window s w (Err (faults.Stopped n rest causes.SeqFull)) h =
         let m = settled_before refuses w (settling_of p s) parcel.docs in
-        h.0.peer ∙ ap (λ k. after_documents refuses p s w (take k parcel.docs)) h.1
-        ∙ sym (cond-false (m == length parcel.docs) (after_all refuses p s w parcel) (after_documents refuses p s w (take m parcel.docs)) (ne_eqb m (length parcel.docs) (λ e. omega (arith, e, h.1, h.2))))
+        h.0.peer ∙ ap (λ k. after_documents refuses p s w (take k parcel.docs)) h.1.0
+        ∙ sym (cond-false (m == length parcel.docs) (after_all refuses p s w parcel) (after_documents refuses p s w (take m parcel.docs)) (ne_eqb m (length parcel.docs) (λ e. omega (arith, e, h.1.0, h.1.1))))
     at_window s w (Err fault) h = absurd h
 
     same : (o : Option ℕ) → left (settle_check p id parcel) o ≡ settle_left refuses p id parcel o

@@ -51,7 +51,7 @@ taken-docs : (refuses : Document → Bool) (w : WindowValue) (z : Settling) (doc
 taken-docs refuses w z [] d h = h
 taken-docs refuses w z (e ∷ docs) d h = taken-docs refuses w (settle_one refuses w z e) docs d (taken-as w z e d (refusal_of refuses z.db e) h)
 
-taken-one : (w : WindowValue) (z : Settling) (d : Document) (o : Option Reason) → stops_as z d o ≡ false → IsTaken (settle_as w z d o).session d
+taken-one : (w : WindowValue) (z : Settling) (d : Document) (o : Option Reason) → stops_as z.db d o ≡ false → IsTaken (settle_as w z d o).session d
 unfolding IsTaken
 taken-one w z d (Some reason) go = inr (reason, Among-last _ z.session.ledger)
 taken-one w z d None go =
@@ -76,7 +76,7 @@ all_taken refuses w z (e ∷ docs) all d m =
 
 -- ---- each document counts
 
-read-one : (w : WindowValue) (z : Settling) (d : Document) (o : Option Reason) → stops_as z d o ≡ false → (settle_as w z d o).session.read ≡ z.session.read + 1
+read-one : (w : WindowValue) (z : Settling) (d : Document) (o : Option Reason) → stops_as z.db d o ≡ false → (settle_as w z d o).session.read ≡ z.session.read + 1
 read-one w z d (Some reason) go = refl
 read-one w z d None go = cond_both (is_full (put_answer z.db d)) z _ (λ (y : Settling). y.session.read ≡ z.session.read + 1) (λ full. absurd (both_ways _ go full)) (λ _. refl)
 

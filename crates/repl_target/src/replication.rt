@@ -68,11 +68,12 @@ pub fn replicate_alone<F: WriteFilter, G: WriteFilter>(
     ensures tied { IsTiedPair source.old.1 target.old.1 → IsTiedPair source.new.1 target.new.1 }
     ensures whole { OnOk result (IsTiedPair source.old.1 target.old.1 → CoversFeed source.old.1 target.new.1 source.old.1.db.update_seq) }
 {
-    // The readings tell the proof the laws of both peers before, and that of the target after.
+    // The readings tell the proof the laws of both peers, before and after.
     let _seq = source.db().update_seq();
     let _uuid = target.db().uuid();
     let answer = carry_all(alloc, source, target, plan);
     let _uuid_after = target.db().uuid();
+    let _seq_after = source.db().update_seq();
     answer
 }
 

@@ -9,8 +9,8 @@ use Rattle.couch_base.specs.Answers.{◌>>=◌, refused_if}
 use Rattle.couch_base.specs.Lists.{Among}
 use Rattle.couch_base.specs.Database.{Id, DatabaseValue, with_tree, most, tree_of}
 use Rattle.couch_base.specs.Feed.{WindowValue}
-use Rattle.couch_base.specs.Put.{answer_of, put_answer, is_changed, content_of}
-use Rattle.rev_tree.specs.Tree.{merged, first_contradiction, is_same}
+use Rattle.couch_base.specs.Put.{put_told, put_answer, is_changed, content_of}
+use Rattle.rev_tree.specs.Tree.{merged, first_contradiction, is_same, answer_of}
 use Rattle.rev_core.specs.Ancestry.{edges_of}
 use Rattle.couch_base.specs.Edit.{edited, edit_answer, edit_document}
 use Rattle.couch_base.specs.declared.fault.Put.{Put}
@@ -70,7 +70,7 @@ err_unchanged r why e = ap is_changed e
 pub load_refused : (p : PeerValue) (d : Document) (why : BaseFault) → put_answer p.db d ≡ Err why → after_load p d ≡ p
 load_refused p d why h = unchanged p d (err_unchanged (put_answer p.db d) why h)
 
-no_room : (c : Option Contradiction) (same : Bool) (n : ℕ) → is_changed (answer_of c same false n) ≡ false
+no_room : (c : Option Contradiction) (same : Bool) (n : ℕ) → is_changed (put_told (answer_of c same) false n) ≡ false
 no_room (Some c) same n = refl
 no_room None true n = refl
 no_room None false n = refl
@@ -79,7 +79,7 @@ full_unchanged : (db : DatabaseValue) (d : Document) → most ≤ db.update_seq 
 full_unchanged db d full =
     let c = first_contradiction (tree_of db.docs d.id).parents (edges_of d.ancestry) in
     let same = is_same (tree_of db.docs d.id) d.ancestry in
-    ap (λ b. is_changed (answer_of c same b (db.update_seq + 1))) (not_less full) ∙ no_room c same (db.update_seq + 1)
+    ap (λ b. is_changed (put_told (answer_of c same) b (db.update_seq + 1))) (not_less full) ∙ no_room c same (db.update_seq + 1)
   where
     not_less : most ≤ db.update_seq → nat_lt db.update_seq most ≡ false
     not_less h = grind (arith, h)
