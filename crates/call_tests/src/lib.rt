@@ -16,3 +16,7 @@ mod peers;
 mod records;
 #[cfg(test)]
 mod texts;
+#[cfg(test)]
+mod world_rows;
+#[cfg(test)]
+mod worlds;
