@@ -177,7 +177,7 @@ impl Side {
 }
 
 /// The id of a number.
-fn id(alloc: Global, number: usize) -> Option<DocId> {
+pub(crate) fn id(alloc: Global, number: usize) -> Option<DocId> {
     let text = format!(in alloc; "d{number}").ok()?;
     DocId::parse(alloc, text.as_str()).ok()
 }
@@ -193,7 +193,7 @@ fn ancestry(rt: &impl Abort, alloc: Global, given: &[usize]) -> Option<Ancestry>
 }
 
 /// A document by its id's number and the places of its ancestry, with the body `{}`.
-fn document(
+pub(crate) fn document(
     rt: &impl Abort,
     alloc: Global,
     number: usize,
@@ -219,7 +219,12 @@ fn is_answer(answer: Result<Put, BaseFault>, wanted: Answer, update_seq: u64) ->
 }
 
 /// Whether a tree has the revisions of the model, its leaves with their ancestries, and their contents.
-fn is_tree(rt: &impl Abort, alloc: Global, tree: &Tree, model: &Reference) -> Option<bool> {
+pub(crate) fn is_tree(
+    rt: &impl Abort,
+    alloc: Global,
+    tree: &Tree,
+    model: &Reference,
+) -> Option<bool> {
     let leaves = model.leaves(alloc).ok()?;
     let mut same = tree.rev_count() == model.count() && are(rt, &tree.leaves(alloc).ok()?, &leaves);
     for leaf in &leaves {

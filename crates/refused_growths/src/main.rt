@@ -10,6 +10,7 @@ mod peers;
 mod replications;
 mod revisions;
 mod trees;
+mod worlds;
 
 use anyhow::Result;
 
@@ -22,5 +23,6 @@ fn main(rt: HostRuntime) -> Result<()> {
     databases::run(&rt, rt.alloc())?;
     peers::run(&rt, rt.alloc())?;
     replications::run(&rt, rt.alloc())?;
+    worlds::run(&rt, rt.alloc())?;
     Ok(())
 }

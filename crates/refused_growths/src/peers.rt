@@ -25,7 +25,7 @@ fn value(alloc: Global, text: &str) -> Option<Value> {
     }
 }
 
-fn doc(alloc: Global, text: &str) -> Option<Doc> {
+pub(crate) fn doc(alloc: Global, text: &str) -> Option<Doc> {
     let value = value(alloc, text)?;
     match read_doc(alloc, &value) {
         Err(DocFault::Memory) => read_doc(alloc, &value).ok(),
@@ -33,7 +33,7 @@ fn doc(alloc: Global, text: &str) -> Option<Doc> {
     }
 }
 
-fn body(alloc: Global, text: &str) -> Option<Body> {
+pub(crate) fn body(alloc: Global, text: &str) -> Option<Body> {
     let value = value(alloc, text)?;
     match read_body(alloc, &value) {
         Err(DocFault::Memory) => read_body(alloc, &value).ok(),
@@ -41,7 +41,7 @@ fn body(alloc: Global, text: &str) -> Option<Body> {
     }
 }
 
-fn doc_id(alloc: Global, text: &str) -> Option<DocId> {
+pub(crate) fn doc_id(alloc: Global, text: &str) -> Option<DocId> {
     match DocId::parse(alloc, text) {
         Err(DocFault::Memory) => DocId::parse(alloc, text).ok(),
         answer => answer.ok(),

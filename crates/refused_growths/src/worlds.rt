@@ -1,0 +1,197 @@
+//! `World::run`: after a refused growth the world is that of the steps before, or a settling is cut short; the steps that are
+//! left then end as all of them would have.
+use crate::peers::{body, doc, doc_id};
+use anyhow::{Result, bail};
+use repl_log::Moment;
+use repl_target::{Audit, Peer, Rules, audit};
+use repl_world::{Step, World};
+use rev_core::Rev;
+use rev_tree::SessionId;
+use std::alloc::Global;
+
+/// The one session.
+const SESSION: SessionId = SessionId(1);
+
+/// What is seen of a world: the update sequences of its peers, whether the session has begun, and the sizes of the bag.
+#[derive(Clone, Copy, PartialEq, Eq)]
+struct Seen {
+    source: u64,
+    target: u64,
+    begun: bool,
+    sizes: (usize, usize, usize, usize),
+}
+
+/// What is seen before each step that may be the first of those left, with its place. A settling that was cut short stands at
+/// its own place.
+static BEFORE: &[(u64, u64, bool, (usize, usize, usize, usize), usize)] = &[
+    (0, 0, false, (0, 0, 0, 0), 0),
+    (1, 0, false, (0, 0, 0, 0), 1),
+    (2, 0, false, (0, 0, 0, 0), 2),
+    (3, 0, false, (0, 0, 0, 0), 3),
+    (3, 1, false, (0, 0, 0, 0), 4),
+    (3, 2, false, (0, 0, 0, 0), 5),
+    (3, 2, true, (0, 0, 0, 0), 6),
+    (3, 2, true, (1, 0, 0, 0), 7),
+    (3, 2, true, (1, 1, 0, 0), 9),
+    (3, 2, true, (1, 1, 1, 0), 10),
+    (3, 3, true, (1, 1, 1, 0), 10),
+    (3, 4, true, (1, 1, 1, 0), 11),
+    (3, 4, true, (1, 1, 1, 1), 12),
+    (3, 4, true, (1, 1, 1, 2), 13),
+];
+
+/// An edit of a document at 1-a: its id, its parent and its body.
+fn edit(alloc: Global, id: &str) -> Option<(doc_json::DocId, Option<Rev>, doc_json::Body)> {
+    let id = doc_id(alloc, id)?;
+    let parent = Rev::parse(b"1-a").ok();
+    let body = body(alloc, r#"{"n":1}"#)?;
+    Some((id, parent, body))
+}
+
+/// The steps on the two databases.
+fn writes(alloc: Global, steps: &mut Vec<Step>) -> Option<()> {
+    let d = doc(
+        alloc,
+        r#"{"_id":"d","_revisions":{"start":2,"ids":["b","a"]}}"#,
+    )?;
+    steps.push(Step::LoadSource(d)).ok()?;
+    let e = doc(alloc, r#"{"_id":"e","_rev":"1-a"}"#)?;
+    steps.push(Step::LoadSource(e)).ok()?;
+    let (id, parent, body) = edit(alloc, "e")?;
+    steps
+        .push(Step::EditSource {
+            id,
+            parent,
+            deleted: false,
+            body,
+        })
+        .ok()?;
+    let f = doc(alloc, r#"{"_id":"f","_rev":"1-a"}"#)?;
+    steps.push(Step::ThirdParty(f)).ok()?;
+    let (id, parent, body) = edit(alloc, "f")?;
+    steps
+        .push(Step::EditTarget {
+            id,
+            parent,
+            deleted: false,
+            body,
+        })
+        .ok()
+}
+
+/// The steps of a replication, of which a place is the number.
+fn step(at: Moment, place: usize) -> Step {
+    let (window, asked, parcel, entry) = (0, 0, 0, 1);
+    let session = SESSION;
+    match place {
+        0 => Step::Begin {
+            session,
+            base: None,
+            start: 0,
+            goal: 3,
+            at,
+        },
+        1 => Step::Page {
+            since: 0,
+            goal: 3,
+            limit: 10,
+        },
+        2 => Step::Append { session, window },
+        3 => Step::Diff { window },
+        4 => Step::Fetch { asked },
+        5 => Step::Settle { session, parcel },
+        6 => Step::Record { session, at },
+        7 => Step::Conclude { session, at },
+        _ => Step::PutEntry { entry },
+    }
+}
+
+/// All the steps; nothing where memory is refused.
+fn steps(alloc: Global) -> Option<Vec<Step>> {
+    let at = Moment::new(10).ok()?;
+    let mut steps = Vec::new(alloc);
+    writes(alloc, &mut steps)?;
+    for place in 0..9usize {
+        steps.push(step(at, place)).ok()?;
+    }
+    Some(steps)
+}
+
+/// What is seen of a world.
+fn look(world: &World<Rules>) -> Seen {
+    Seen {
+        source: world.source().db().update_seq(),
+        target: world.target().db().update_seq(),
+        begun: world.target().entry(SESSION).is_ok(),
+        sizes: world.bag_sizes(),
+    }
+}
+
+/// The place of the first step that is left, where the world is one of those that the steps go through.
+fn left(seen: Seen) -> Option<usize> {
+    for (source, target, begun, sizes, place) in BEFORE {
+        let before = Seen {
+            source: *source,
+            target: *target,
+            begun: *begun,
+            sizes: *sizes,
+        };
+        if seen == before {
+            return Some(*place);
+        }
+    }
+    None
+}
+
+/// Takes the steps, and those that are left where a growth was refused.
+fn take(alloc: Global, world: &mut World<Rules>, steps: &[Step]) -> Option<()> {
+    if world.run(alloc, steps).is_ok() {
+        return Some(());
+    }
+    let place = left(look(world))?;
+    world.run(alloc, steps.get(place..)?).ok()
+}
+
+/// Whether an audit finds nothing; once more where memory was refused.
+fn is_clean(alloc: Global, world: &World<Rules>) -> bool {
+    let found = match audit(alloc, world.source(), world.target()).ok() {
+        Some(found) => Some(found),
+        None => audit(alloc, world.source(), world.target()).ok(),
+    };
+    match found {
+        Some(Audit::Clean) => true,
+        _ => false,
+    }
+}
+
+/// What the session recorded, what is seen at the end, and whether an audit is clean.
+fn ended(alloc: Global, world: &mut World<Rules>) -> Option<(u64, Seen, bool)> {
+    let all = match steps(alloc) {
+        Some(all) => Some(all),
+        None => steps(alloc),
+    };
+    take(alloc, world, &all?)?;
+    let clean = is_clean(alloc, world);
+    let entry = world.target().entry(SESSION).ok()?;
+    Some((entry.recorded, look(world), clean))
+}
+
+/// The world of two peers without documents. Nothing else lives beside it.
+fn of_two(alloc: Global) -> Option<(u64, Seen, bool)> {
+    let source = Peer::new(alloc, 1, Rules { deny: None });
+    let target = Peer::new(alloc, 2, Rules { deny: None });
+    let mut world = World::new(alloc, source, target).ok()?;
+    ended(alloc, &mut world)
+}
+
+pub(crate) fn run(rt: &impl Print, alloc: Global) -> Result<()> {
+    let Some((recorded, seen, clean)) = of_two(alloc) else {
+        bail!("worlds: another answer");
+    };
+    let (windows, asked, parcels, entries) = seen.sizes;
+    println!(rt;
+        "worlds as wanted: recorded {recorded}, sequence {}, bag {windows} {asked} {parcels} {entries}, clean {clean}",
+        seen.target
+    )?;
+    Ok(())
+}
