@@ -1,4 +1,5 @@
-//! Replications of random pairs, each compared with the plain model: both sides' trees, what is covered, and the report.
+//! Replications of random pairs, each compared with the plain model: both sides' trees, what is covered, the report, and the
+//! session's ledger.
 use crate::merges::below;
 use crate::sides::Side;
 use rand_chacha::ChaCha8Rng;
@@ -48,7 +49,7 @@ fn replicate(
     plan: &Plan,
 ) -> Option<bool> {
     let report = replicate_alone(alloc, &mut source.peer, &mut target.peer, plan).ok()?;
-    let counts = target.carry(alloc, source, start, deny)?;
+    let (counts, mut ledger) = target.carry(alloc, source, start, deny)?;
     let wanted = Report {
         session: plan.session,
         start,
@@ -59,7 +60,8 @@ fn replicate(
         written: counts.written,
         failures: counts.failures,
     };
-    Some(report == wanted && source.agrees(rt, alloc)? && target.agrees(rt, alloc)?)
+    let ledgers = target.has_ledger(rt, alloc, plan.session, &mut ledger)?;
+    Some(report == wanted && ledgers && source.agrees(rt, alloc)? && target.agrees(rt, alloc)?)
 }
 
 /// Replicates another source into the target, then the source, and the source once more after it has grown.

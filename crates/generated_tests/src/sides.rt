@@ -5,9 +5,9 @@ use crate::reference::{Answer, PLACES, Reference};
 use couch_base::{BaseFault, Put};
 use doc_json::{Doc, DocId, read_body};
 use rand_chacha::ChaCha8Rng;
-use repl_target::{Peer, Rules};
-use rev_core::Ancestry;
-use rev_tree::Tree;
+use repl_target::{Peer, Reason, Refused, Rules};
+use rev_core::{Ancestry, Rev};
+use rev_tree::{SessionId, Tree};
 use serde_json::Value;
 use std::alloc::Global;
 use std::process::Abort;
@@ -20,6 +20,10 @@ pub(crate) struct Counts {
     pub(crate) written: u64,
     pub(crate) failures: u64,
 }
+
+/// A row of a ledger: a document's number, the place of its head, and the places of the contradiction, none where the filter
+/// refuses it.
+pub(crate) type Row = (usize, usize, Option<(usize, usize, usize)>);
 
 /// A peer and its model.
 #[derive(Drop)]
@@ -109,15 +113,33 @@ impl Side {
         Some(trees && covers)
     }
 
-    /// Carries the source's feed above a sequence into the model, and counts as a replication does. Documents of a number
-    /// are refused.
+    /// Whether a session of the peer has the rows in its ledger, in whatever order.
+    pub(crate) fn has_ledger(
+        &self,
+        rt: &impl Abort,
+        alloc: Global,
+        session: SessionId,
+        wanted: &mut Vec<Row>,
+    ) -> Option<bool> {
+        let mut rows = Vec::new(alloc);
+        for refused in self.peer.ledger(session)? {
+            rows.push(row(rt, alloc, refused)?).ok()?;
+        }
+        rows.sort().ok()?;
+        wanted.sort().ok()?;
+        Some(rows.as_slice() == wanted.as_slice())
+    }
+
+    /// Carries the source's feed above a sequence into the model, counts as a replication does, and gives the rows of its
+    /// ledger. Documents of a number are refused.
     pub(crate) fn carry(
         &mut self,
         alloc: Global,
         source: &Side,
         since: u64,
         deny: Option<usize>,
-    ) -> Option<Counts> {
+    ) -> Option<(Counts, Vec<Row>)> {
+        let mut ledger = Vec::new(alloc);
         let mut counts = Counts {
             checked: 0,
             found: 0,
@@ -131,9 +153,16 @@ impl Side {
             };
             seq = next;
             let denied = deny == Some(number);
-            self.carry_tree(alloc, &source.tree(number), number, denied, &mut counts)?;
+            self.carry_tree(
+                alloc,
+                &source.tree(number),
+                number,
+                denied,
+                &mut counts,
+                &mut ledger,
+            )?;
         }
-        Some(counts)
+        Some((counts, ledger))
     }
 
     /// Carries the leaves of a document that the model misses.
@@ -144,6 +173,7 @@ impl Side {
         number: usize,
         denied: bool,
         counts: &mut Counts,
+        ledger: &mut Vec<Row>,
     ) -> Option<()> {
         let held = self.tree(number);
         for leaf in &tree.leaves(alloc).ok()? {
@@ -153,27 +183,70 @@ impl Side {
             }
             counts.found = counts.found.saturating_add(1);
             let walk = tree.ancestry(alloc, *leaf).ok()?;
-            if self.settle(number, &walk, tree.content(*leaf)?, denied) {
-                counts.written = counts.written.saturating_add(1);
-            } else {
-                counts.failures = counts.failures.saturating_add(1);
+            match self.settle(number, &walk, tree.content(*leaf)?, denied) {
+                None => counts.written = counts.written.saturating_add(1),
+                Some(reason) => {
+                    counts.failures = counts.failures.saturating_add(1);
+                    ledger.push((number, *leaf, reason)).ok()?;
+                }
             }
         }
         Some(())
     }
 
-    /// Merges or refuses a fetched document, and says whether it was written.
-    fn settle(&mut self, number: usize, walk: &[usize], content: (bool, u8), denied: bool) -> bool {
+    /// Merges or refuses a fetched document, and says why it is refused: by a contradiction, or by the filter.
+    fn settle(
+        &mut self,
+        number: usize,
+        walk: &[usize],
+        content: (bool, u8),
+        denied: bool,
+    ) -> Option<Option<(usize, usize, usize)>> {
+        let mut reason = None;
         if !denied {
-            if let Answer::Changed | Answer::Same = self.merge(number, walk, content) {
-                return true;
+            match self.merge(number, walk, content) {
+                Answer::Changed | Answer::Same => return None,
+                Answer::Contradiction {
+                    child,
+                    known,
+                    given,
+                } => reason = Some((child, known, given)),
             }
         }
         for place in walk {
             self.refused[number % IDS][*place % PLACES] = true;
         }
-        false
+        Some(reason)
     }
+}
+
+/// The place of a revision.
+fn place_of(rt: &impl Abort, wanted: Rev) -> Option<usize> {
+    (0..PLACES).find(|place| rev(rt, *place) == wanted)
+}
+
+/// A row of a peer's ledger.
+fn row(rt: &impl Abort, alloc: Global, refused: &Refused) -> Option<Row> {
+    let doc = refused.doc();
+    let head = place_of(rt, doc.ancestry().head())?;
+    let reason = match refused.reason() {
+        Reason::Filtered => None,
+        Reason::Contradicting {
+            child,
+            known,
+            given,
+        } => Some((
+            place_of(rt, child)?,
+            place_of(rt, known)?,
+            place_of(rt, given)?,
+        )),
+    };
+    for number in 0..IDS {
+        if id(alloc, number)?.text() == doc.id().text() {
+            return Some((number, head, reason));
+        }
+    }
+    None
 }
 
 /// The id of a number.
