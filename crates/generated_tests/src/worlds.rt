@@ -351,12 +351,19 @@ fn is_entry(entry: &Entry, done: &Done) -> bool {
 
 /// Whether a log, newest first, tells what sessions of the model have done, oldest first.
 fn is_log(log: &Log, sessions: &[Done]) -> bool {
-    log.entries().len() == sessions.len()
-        && log
-            .entries()
-            .iter()
-            .zip(sessions.iter().rev())
-            .all(|(entry, done)| is_entry(entry, done))
+    if log.len() != sessions.len() {
+        return false;
+    }
+    for (place, done) in sessions.iter().rev().enumerate() {
+        let same = match log.get(place) {
+            Some(entry) => is_entry(&entry, done),
+            None => false,
+        };
+        if !same {
+            return false;
+        }
+    }
+    true
 }
 
 /// Whether both logs are the model's.
