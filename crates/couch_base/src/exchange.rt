@@ -56,12 +56,7 @@ impl Database {
 
     /// The document at a revision, leaf or not: its whole known ancestry, and its content. `None` where the document is not
     /// there, the revision is not in its tree, or no content stands at it. The only error is `Memory`.
-    pub fn document(
-        &self,
-        alloc: Global,
-        id: &DocId,
-        rev: Rev,
-    ) -> Result<Option<Doc>, BaseFault>
+    pub fn document(&self, alloc: Global, id: &DocId, rev: Rev) -> Result<Option<Doc>, BaseFault>
         ensures document { IfOk result (λ d. d ≡ document_at self.now id.now rev) }
         ensures err { IfErr result (λ e. e ≡ BaseFault.Memory) }
     {
@@ -173,12 +168,7 @@ fn leaf_document(alloc: Global, id: &DocId, tree: &Tree, leaf: Rev) -> Result<Do
 }
 
 /// The document at a revision, where a content stands at it.
-fn document_in(
-    alloc: Global,
-    id: &DocId,
-    tree: &Tree,
-    rev: Rev,
-) -> Result<Option<Doc>, BaseFault>
+fn document_in(alloc: Global, id: &DocId, tree: &Tree, rev: Rev) -> Result<Option<Doc>, BaseFault>
     requires document { IsDocumentTree tree.now }
     ensures document { IfOk result (λ d. d ≡ document_in id.now tree.now rev) }
     ensures err { IfErr result (λ e. e ≡ BaseFault.Memory) }
