@@ -5,9 +5,9 @@ use crate::reference::{Answer, PLACES, Reference};
 use couch_base::{BaseFault, Put};
 use doc_json::{Doc, DocId, read_body};
 use rand_chacha::ChaCha8Rng;
-use repl_target::{Peer, Reason, Refused, Rules};
-use rev_core::{Ancestry, Rev};
-use rev_tree::{SessionId, Tree};
+use repl_target::{Peer, Rules};
+use rev_core::Ancestry;
+use rev_tree::Tree;
 use serde_json::Value;
 use std::alloc::Global;
 use std::process::Abort;
@@ -20,10 +20,6 @@ pub(crate) struct Counts {
     pub(crate) written: u64,
     pub(crate) failures: u64,
 }
-
-/// A row of a ledger: a document's number, the place of its head, and the places of the contradiction, none where the filter
-/// refuses it.
-pub(crate) type Row = (usize, usize, Option<(usize, usize, usize)>);
 
 /// A peer and its model.
 #[derive(Drop)]
@@ -113,33 +109,15 @@ impl Side {
         Some(trees && covers)
     }
 
-    /// Whether a session of the peer has the rows in its ledger, in whatever order.
-    pub(crate) fn has_ledger(
-        &self,
-        rt: &impl Abort,
-        alloc: Global,
-        session: SessionId,
-        wanted: &mut Vec<Row>,
-    ) -> Option<bool> {
-        let mut rows = Vec::new(alloc);
-        for refused in self.peer.ledger(session)? {
-            rows.push(row(rt, alloc, refused)?).ok()?;
-        }
-        rows.sort().ok()?;
-        wanted.sort().ok()?;
-        Some(rows.as_slice() == wanted.as_slice())
-    }
-
-    /// Carries the source's feed above a sequence into the model, counts as a replication does, and gives the rows of its
-    /// ledger. Documents of a number are refused.
+    /// Carries the source's feed above a sequence into the model, and counts as a replication does. Documents of a number
+    /// are refused.
     pub(crate) fn carry(
         &mut self,
         alloc: Global,
         source: &Side,
         since: u64,
         deny: Option<usize>,
-    ) -> Option<(Counts, Vec<Row>)> {
-        let mut ledger = Vec::new(alloc);
+    ) -> Option<Counts> {
         let mut counts = Counts {
             checked: 0,
             found: 0,
@@ -153,16 +131,9 @@ impl Side {
             };
             seq = next;
             let denied = deny == Some(number);
-            self.carry_tree(
-                alloc,
-                &source.tree(number),
-                number,
-                denied,
-                &mut counts,
-                &mut ledger,
-            )?;
+            self.carry_tree(alloc, &source.tree(number), number, denied, &mut counts)?;
         }
-        Some((counts, ledger))
+        Some(counts)
     }
 
     /// Carries the leaves of a document that the model misses.
@@ -173,7 +144,6 @@ impl Side {
         number: usize,
         denied: bool,
         counts: &mut Counts,
-        ledger: &mut Vec<Row>,
     ) -> Option<()> {
         let held = self.tree(number);
         for leaf in &tree.leaves(alloc).ok()? {
@@ -183,74 +153,31 @@ impl Side {
             }
             counts.found = counts.found.saturating_add(1);
             let walk = tree.ancestry(alloc, *leaf).ok()?;
-            match self.settle(number, &walk, tree.content(*leaf)?, denied) {
-                None => counts.written = counts.written.saturating_add(1),
-                Some(reason) => {
-                    counts.failures = counts.failures.saturating_add(1);
-                    ledger.push((number, *leaf, reason)).ok()?;
-                }
+            if self.settle(number, &walk, tree.content(*leaf)?, denied) {
+                counts.written = counts.written.saturating_add(1);
+            } else {
+                counts.failures = counts.failures.saturating_add(1);
             }
         }
         Some(())
     }
 
-    /// Merges or refuses a fetched document, and says why it is refused: by a contradiction, or by the filter.
-    fn settle(
-        &mut self,
-        number: usize,
-        walk: &[usize],
-        content: (bool, u8),
-        denied: bool,
-    ) -> Option<Option<(usize, usize, usize)>> {
-        let mut reason = None;
+    /// Merges or refuses a fetched document, and says whether it was written.
+    fn settle(&mut self, number: usize, walk: &[usize], content: (bool, u8), denied: bool) -> bool {
         if !denied {
-            match self.merge(number, walk, content) {
-                Answer::Changed | Answer::Same => return None,
-                Answer::Contradiction {
-                    child,
-                    known,
-                    given,
-                } => reason = Some((child, known, given)),
+            if let Answer::Changed | Answer::Same = self.merge(number, walk, content) {
+                return true;
             }
         }
         for place in walk {
             self.refused[number % IDS][*place % PLACES] = true;
         }
-        Some(reason)
+        false
     }
-}
-
-/// The place of a revision.
-fn place_of(rt: &impl Abort, wanted: Rev) -> Option<usize> {
-    (0..PLACES).find(|place| rev(rt, *place) == wanted)
-}
-
-/// A row of a peer's ledger.
-fn row(rt: &impl Abort, alloc: Global, refused: &Refused) -> Option<Row> {
-    let doc = refused.doc();
-    let head = place_of(rt, doc.ancestry().head())?;
-    let reason = match refused.reason() {
-        Reason::Filtered => None,
-        Reason::Contradicting {
-            child,
-            known,
-            given,
-        } => Some((
-            place_of(rt, child)?,
-            place_of(rt, known)?,
-            place_of(rt, given)?,
-        )),
-    };
-    for number in 0..IDS {
-        if id(alloc, number)?.text() == doc.id().text() {
-            return Some((number, head, reason));
-        }
-    }
-    None
 }
 
 /// The id of a number.
-pub(crate) fn id(alloc: Global, number: usize) -> Option<DocId> {
+fn id(alloc: Global, number: usize) -> Option<DocId> {
     let text = format!(in alloc; "d{number}").ok()?;
     DocId::parse(alloc, text.as_str()).ok()
 }
@@ -266,7 +193,7 @@ fn ancestry(rt: &impl Abort, alloc: Global, given: &[usize]) -> Option<Ancestry>
 }
 
 /// A document by its id's number and the places of its ancestry, with the body `{}`.
-pub(crate) fn document(
+fn document(
     rt: &impl Abort,
     alloc: Global,
     number: usize,
@@ -292,12 +219,7 @@ fn is_answer(answer: Result<Put, BaseFault>, wanted: Answer, update_seq: u64) ->
 }
 
 /// Whether a tree has the revisions of the model, its leaves with their ancestries, and their contents.
-pub(crate) fn is_tree(
-    rt: &impl Abort,
-    alloc: Global,
-    tree: &Tree,
-    model: &Reference,
-) -> Option<bool> {
+fn is_tree(rt: &impl Abort, alloc: Global, tree: &Tree, model: &Reference) -> Option<bool> {
     let leaves = model.leaves(alloc).ok()?;
     let mut same = tree.rev_count() == model.count() && are(rt, &tree.leaves(alloc).ok()?, &leaves);
     for leaf in &leaves {
