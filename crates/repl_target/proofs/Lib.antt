@@ -30,3 +30,5 @@ pub mod Covering
 pub mod Replicated
 pub mod Taken
 pub mod RefusedCalls
+pub mod Begun
+pub mod ReadCounts

@@ -22,3 +22,4 @@ pub mod Replication
 pub mod Ties
 pub mod Calls
 pub mod Tied
+pub mod ReadCounts

@@ -25,5 +25,5 @@ pub use fault::{Audit, Cause, Reason, Report, Settled, TargetFault};
 pub use filter::{Rules, Verdict, WriteFilter};
 pub use peer::Peer;
 pub use refused::Refused;
-pub use replication::{Plan, begin_plan, check_plan, record_at_source, replicate_alone};
+pub use replication::{Plan, begin_plan, check_plan, has_left, record_at_source, replicate_alone};
 pub use written::Written;

@@ -176,8 +176,8 @@ fn read_windows<F: WriteFilter, G: WriteFilter>(
     Ok(())
 }
 
-/// Whether a plan lets another window be read after some.
-fn has_left(stop_after: Option<u64>, windows: u64) -> bool
+/// Whether a plan lets another window be read after some: all, or as many as `stop_after` says.
+pub fn has_left(stop_after: Option<u64>, windows: u64) -> bool
     ensures { result ≡ has_left stop_after windows }
 {
     match stop_after {
