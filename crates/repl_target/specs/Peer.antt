@@ -1,4 +1,11 @@
 -- Peers and their sessions: docs/PROFILE.md, "Sessions of a peer".
+--
+-- A peer is a database with what replication must remember beside it. A target holds a session for each replication into it that
+-- ever began: the windows of the source's changes feed that were stored for it, which of them are done, and of each document that
+-- came whether it was taken (an arrival) or refused (a row of the ledger). So what a session may claim as carried can be held
+-- against what stands there. A source holds a log for each replication out of it: what the target said, session by session, that
+-- it had recorded. The common checkpoint of a later replication is read from both. Local writes are noted too, so that of each
+-- revision of a tree it can be said where it came from.
 use Rattle.std.specs.Prelude.{ℕ, ◌==◌, Bool, ◌&&◌, nat_le, if◌then◌else◌, List, [], map, Option, Result, Ok, Err}
 use Rattle.std.specs.List.{find, list_any}
 use Rattle.rev_core.specs.Rev.{RevId}
