@@ -1,8 +1,15 @@
 -- Reading a value as a body, check by check.
-use Rattle.std.proofs.Common.{◌≡◌, ℕ, List, Bool, true, false, cond, Some, None, Ok, Err, refl, sym, ap, subst}
-use Rattle.serde_json.specs.Data.{Data, null, boolean, number, string, array, object, Members, no_members, member}
+use Rattle.std.proofs.Common.{◌≡◌, ◌≤◌, ◌∙◌, ℕ, List, [], Option, option_and_then, arith, append-nil, Bool, true, false, cond, Some, None, Ok, Err, refl, sym, ap, subst}
+use Rattle.json.specs.Token.{Token}
+use Rattle.json.specs.Lex.{tokens}
+use Rattle.json.specs.Print.{print}
+use Rattle.json.specs.Json as json
+use Rattle.json.proofs.Printed.Trees.{value-json_tokens}
+use Rattle.serde_json.specs.Data.{Data, depth, null, boolean, number, string, array, object, Members, no_members, member}
 use Rattle.serde_json.specs.Find.{as_object}
-use Rattle.serde_json.specs.Written.{compact_text, members_have_float}
+use Rattle.serde_json.specs.Written.{compact_text, has_float, members_have_float, IsInOrder, WritesValue}
+use Rattle.serde_json.proofs.Texts.{tokens_from_order, print-outline}
+use Rattle.serde_json.specs.Read.{of_json, read, max_depth}
 use Rattle.doc_json.specs.DocId.{is_special}
 use Rattle.doc_json.specs.Members.{has_special, plain_members}
 use Rattle.doc_json.specs.Body.{body_read, IsWritten, IsBody}
@@ -45,3 +52,21 @@ plain_members_plain (member name d ms) = plain_if (is_special name) name d (plai
 -- what the writer promises of a value is what a body is
 pub is_body : (text : List ℕ) (d : Data) (ms : Members) → d ≡ object ms → has_special ms ≡ false → members_have_float ms ≡ false → IsWritten text d → IsBody text
 is_body text d ms is plain exact written = record { members = ms; plain = plain; exact = exact; written = subst (IsWritten text) is written }
+
+-- what a list of tokens is read as, where all of it was taken
+abbrev whole : Option (json.Json × List Token) → Option Data
+whole o = option_and_then of_json (option_and_then (λ p. json.if_last p.0 p.1) o)
+
+-- the tokens that were written for a value are read back as that value
+read_back : (d : Data) (ts : List Token) (text : List ℕ) → WritesValue d [] ts → tokens text ≡ ts → depth d ≤ max_depth → read text ≡ Some d
+read_back d ts text w same shallow =
+    ap whole (ap (json.value max_depth) (same ∙ w.1 ∙ sym (append-nil _)) ∙ value-json_tokens w.0 max_depth [] (omega (arith, w.3))) ∙ w.2
+
+-- what was written token by token, and is read as those tokens, is the text of the value
+pub is_written : (d : Data) (ts : List Token) (text : List ℕ) → WritesValue d [] ts → text ≡ print ts → tokens text ≡ ts → has_float d ≡ false → IsWritten text d
+is_written d ts text w printed same exact =
+    let order : IsInOrder text d = (w.0, same ∙ w.1, w.4) in record {
+      compact = printed ∙ ap print (sym same ∙ tokens_from_order text d order exact) ∙ print-outline d;
+      order = order;
+      reads_back = read_back d ts text w same;
+    }

@@ -37,3 +37,12 @@ pub special_last : (done : List Entry) (e : Entry) → is_special (string_bytes 
 special_last [] e special = rw special refl
 special_last (first ∷ done) e special =
     ap (λ ms. cond (is_special (string_bytes first.0)) ms (member (string_bytes first.0) (view first.1) ms)) (special_last done e special)
+
+-- a plain member stands before the plain ones behind it
+pub plain_step : (e : Entry) (more : List Entry) → is_special (string_bytes e.0) ≡ false
+    → plain_members (members_view (e ∷ more)) ≡ member (string_bytes e.0) (view e.1) (plain_members (members_view more))
+plain_step e more plain = rw plain refl
+
+-- a special one is none of them
+pub special_step : (e : Entry) (more : List Entry) → is_special (string_bytes e.0) ≡ true → plain_members (members_view (e ∷ more)) ≡ plain_members (members_view more)
+special_step e more special = rw special refl

@@ -7,7 +7,7 @@ ghost use Rattle.doc_json.specs.Members.{plain_members};
 ghost use Rattle.doc_json.specs.Body.{body_read, body_text, IsWritten};
 
 use crate::fault::DocFault;
-use crate::members;
+use crate::{compact, members};
 use serde_json::{Map, Value};
 use std::alloc::Global;
 use std::marker::Model;
@@ -100,10 +100,7 @@ pub(crate) fn plain_body(alloc: Global, members: &Map<String, Value>) -> Result<
     ensures body { IfOk result (λ b. b ≡ body_text (members_view members.now.entries)) }
     ensures err { IfErr result (λ e. e ≡ DocFault.Memory) }
 {
-    let Ok(value) = members::plain_object(alloc, members) else {
-        return Err(DocFault::Memory);
-    };
-    match written(alloc, &value) {
+    match compact::plain_text(alloc, members) {
         Ok(text) => Ok(Body::from_text(text)),
         Err(_) => Err(DocFault::Memory),
     }

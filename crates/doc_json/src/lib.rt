@@ -5,6 +5,7 @@
 #![tactic(auto)]
 
 mod body;
+mod compact;
 mod doc;
 mod doc_id;
 mod fault;

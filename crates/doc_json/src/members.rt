@@ -1,6 +1,5 @@
 //! Members of JSON objects, with and without a leading `_`.
-ghost use Rattle.std.specs.Prelude.{◌≡◌, IfOk, IfErr, OnOk, string_bytes};
-ghost use Rattle.serde_json.specs.Data.{object, put};
+ghost use Rattle.std.specs.Prelude.{◌≡◌};
 ghost use Rattle.serde_json.specs.View.{view, items_view, members_view};
 ghost use Rattle.serde_json.specs.Written.{has_float, items_have_float, members_have_float};
 ghost use Rattle.std.specs.Str.{bytes_eq};
@@ -9,9 +8,7 @@ ghost use Rattle.doc_json.specs.Members.{plain_members, has_special};
 ghost use Rattle.doc_json.specs.Members.{has_unknown, is_unknown, special_names};
 
 use crate::doc_id::is_special;
-use crate::fault::DocFault;
 use serde_json::{Map, Value};
-use std::alloc::{AllocError, Global};
 
 /// Whether a value is, or holds at any depth, a number that is neither an i64 nor a u64.
 #[cycle(fraction)]
@@ -113,49 +110,4 @@ fn is_special_name(name: &str) -> bool
             | "_revs_info"
             | "_local_seq"
     )
-}
-
-/// The members without a leading `_`. The only error is `Memory`.
-fn plain_copy(alloc: Global, members: &Map<String, Value>) -> Result<Map<String, Value>, DocFault>
-    ensures plain { IfOk result
-        (λ m. members_view m.entries ≡ plain_members (members_view members.now.entries)) }
-    ensures err { IfErr result (λ e. e ≡ DocFault.Memory) }
-{
-    let mut plain = Map::new(alloc);
-    for (name, member) in members.iter() {
-        if !is_special(name.as_str()) {
-            match put_copy(alloc, &mut plain, name, member) {
-                Ok(()) => {}
-                Err(_) => return Err(DocFault::Memory),
-            }
-        }
-    }
-    Ok(plain)
-}
-
-/// The object of the members without a leading `_`. The only error is `Memory`.
-pub(crate) fn plain_object(alloc: Global, members: &Map<String, Value>) -> Result<Value, DocFault>
-    ensures plain { IfOk result
-        (λ v. view v ≡ object (plain_members (members_view members.now.entries))) }
-    ensures err { IfErr result (λ e. e ≡ DocFault.Memory) }
-{
-    match plain_copy(alloc, members) {
-        Ok(plain) => Ok(Value::Object(plain)),
-        Err(fault) => Err(fault),
-    }
-}
-
-/// Puts a copy of a member into an object.
-fn put_copy(
-    alloc: Global,
-    into: &mut Map<String, Value>,
-    name: &String,
-    member: &Value,
-) -> Result<(), AllocError>
-    ensures { OnOk result (members_view into.new.entries
-        ≡ put (string_bytes name.now) (view member.now) (members_view into.old.entries)) }
-{
-    let member = member.clone()?;
-    serde_json::put(into, alloc, name.as_str(), member)?;
-    Ok(())
 }
