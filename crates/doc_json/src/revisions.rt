@@ -168,7 +168,9 @@ fn build_alone(alloc: Global, rev: Rev) -> Result<Ancestry, DocFault>
     ensures err { IfErr result (λ e. e ≡ DocFault.Memory) }
 {
     let _generation = rev.generation();
-    let mut revs = Vec::new(alloc);
+    let Ok(mut revs) = Vec::with_capacity(alloc, 1) else {
+        return Err(DocFault::Memory);
+    };
     match revs.push(rev) {
         Ok(()) => Ok(Ancestry::from_revs(revs)),
         Err(_) => Err(DocFault::Memory),

@@ -32,6 +32,7 @@ pub(crate) fn walk(alloc: Global, nodes: &[Node], start: usize) -> Result<Vec<Re
             None => break 'walk,
         }
     }
+    revs.shrink_to_fit();
     Ok(revs)
 }
 
@@ -55,7 +56,9 @@ pub(crate) fn those_above(
     ensures err { IfErr result (λ e. e ≡ TreeFault.Memory) }
 {
     let mut told = asked(alloc, nodes, places, revs)?;
-    let mut above = Vec::new(alloc);
+    let Ok(mut above) = Vec::with_capacity(alloc, leaves.len()) else {
+        return Err(TreeFault::Memory);
+    };
     for leaf in leaves {
         let Some(place) = place_in(nodes, places, *leaf) else {
             unreachable!()
