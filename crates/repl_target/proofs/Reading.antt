@@ -30,7 +30,7 @@ use Rattle.repl_target.proofs.Keeping.{one_session, session_found, with_session_
 use Rattle.repl_target.proofs.Laws.{append_law, conclude_law}
 use Rattle.repl_target.proofs.SettleLaws.{settle_told, documents_settle, settle_law}
 use Rattle.repl_target.proofs.Honest.{honest_is}
-use Rattle.repl_target.proofs.Feeds.{feed-page, feed-none}
+use Rattle.couch_base.specs.FeedLaws.{feed-page, feed-none}
 
 -- ---- lists
 

@@ -3,7 +3,8 @@ use Rattle.couch_base.specs.Database.{DatabaseValue, LawfulDatabase}
 use Rattle.couch_base.specs.Feed.{WindowValue, feed, page}
 use Rattle.repl_target.specs.Covered.{Leaf, covers, first_uncovered}
 use Rattle.repl_target.specs.Audit.{hole_of}
-use Rattle.repl_target.proofs.Feeds.{feed-hole, feed-passed, feed-none, feed-to, page_is}
+use Rattle.couch_base.specs.FeedLaws.{feed-none, feed-to, page_is}
+use Rattle.repl_target.proofs.Feeds.{feed-hole, feed-passed}
 use Rattle.repl_target.proofs.auditing.hole_within.Goals as goal
 
 pub returns-in-Hole-clause-answer : goal.returns-in-Hole-clause-answer
