@@ -1,10 +1,12 @@
-//! Tests of revisions, trees, documents, fronts and logs, each a table of calls with the texts that they must answer: the
+//! Tests of revisions, trees, documents, fronts, logs and boards, each a table of calls with the texts that they must answer: the
 //! worked rows, and that each call succeeds where memory suffices. They stand above the crates that they test, since a crate
 //! with tests is proved twice.
 //!
 //! A call is made by its name, so a proof sees each kind of call once. The tables are statics, so it sees none of their rows.
 #![tactic(auto)]
 
+#[cfg(test)]
+mod boards;
 #[cfg(test)]
 mod documents;
 #[cfg(test)]

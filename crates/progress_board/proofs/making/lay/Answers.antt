@@ -1,0 +1,15 @@
+use Rattle.std.proofs.Common.{rules, ◌≡◌, ◌*◌, ℕ, get_or, length, replicate, ap, ◌∙◌, arith}
+use Rattle.std.proofs.lemmas.List.{length-replicate}
+use Rattle.progress_board.proofs.RuleLaws.{zeros}
+use Rattle.progress_board.proofs.making.lay.Goals as goal
+
+pub lay_words-requires : goal.lay_words-requires
+lay_words-requires c =
+    let n = 2 * c.args.workers in
+    let items : c.as_slice.result.now ≡ replicate n 0 = c.as_slice.ensures.value ∙ c.in_ok-words.ensures.items_if_clones_equal (λ y h. search rules) in
+    record {
+      words = (
+        (let l = ap (length {A = ℕ}) items ∙ length-replicate n 0 in omega (arith, l)),
+        λ j. ap (λ r. get_or r j 0) items ∙ zeros n j,
+      );
+    }

@@ -1,0 +1,6 @@
+use Rattle.std.proofs.Common.{arith}
+use Rattle.progress_board.proofs.RuleLaws.{splits_viewer}
+use Rattle.progress_board.proofs.steps.admit.Goals as goal
+
+pub split_seat-requires : goal.split_seat-requires
+split_seat-requires c = (c.requires.dealer.0, omega arith, splits_viewer c.args.table.now.shared.key _ _)

@@ -1,0 +1,89 @@
+//! What a seat knows of the words, and the rule that they keep.
+//!
+//! No value of these types is ever made: they stand for what is known.
+
+use atomic_table::{Play, Split, TableRule};
+use std::collections::LinkedList;
+
+/// What a seat knows: whether it deals seats out or is a worker's, its number, and a lower bound for each word, of what was read
+/// and of what was settled.
+pub struct SeatView {
+    pub deals: bool,
+    pub works: bool,
+    pub number: u64,
+    pub reads: LinkedList<u64>,
+    pub settles: LinkedList<u64>,
+}
+
+/// The rule of a board of k workers: the words 0 to k - 1 are what each has read, k to 2k - 1 what each has settled.
+pub struct BoardRule;
+
+impl TableRule<(), SeatView, u64> for BoardRule {
+    ghost use Rattle.progress_board.specs.Rule.{Kept, dealer};
+
+    ghost holds = { λ k s. Kept k s.words s.views };
+
+    ghost first = { λ k. dealer k 0 };
+}
+
+/// A worker adds to what it has read.
+pub struct AddsRead;
+
+impl Play<(), SeatView> for AddsRead {
+    ghost use Rattle.std.specs.Prelude.{◌≡◌};
+    ghost use Rattle.progress_board.specs.Rule.{added_read};
+
+    ghost then = { λ st v n w. (w.0 ≡ added_read v.0 st.first) × (w.1 ≡ v.1) };
+}
+
+/// A worker adds to what it has settled.
+pub struct AddsSettled;
+
+impl Play<(), SeatView> for AddsSettled {
+    ghost use Rattle.std.specs.Prelude.{◌≡◌};
+    ghost use Rattle.progress_board.specs.Rule.{added_settled};
+
+    ghost then = { λ st v n w. (w.0 ≡ added_settled v.0 st.first) × (w.1 ≡ v.1) };
+}
+
+/// A seat loads what a worker has read.
+pub struct LooksAtRead;
+
+impl Play<(), SeatView> for LooksAtRead {
+    ghost use Rattle.std.specs.Prelude.{◌≡◌};
+    ghost use Rattle.progress_board.specs.Rule.{SeesRead};
+
+    ghost then = { λ st v n w. SeesRead v.0 st.word n w.0 × (w.1 ≡ v.1) };
+}
+
+/// A seat loads what a worker has settled.
+pub struct LooksAtSettled;
+
+impl Play<(), SeatView> for LooksAtSettled {
+    ghost use Rattle.std.specs.Prelude.{◌≡◌, ◌-◌, length};
+    ghost use Rattle.progress_board.specs.Rule.{SeesSettled};
+
+    ghost then = { λ st v n w. SeesSettled v.0 (st.word - length v.0.reads) n w.0 × (w.1 ≡ v.1) };
+}
+
+/// The dealing seat gives a worker its number.
+pub struct ToWorker;
+
+impl Split<SeatView> for ToWorker {
+    ghost use Rattle.progress_board.specs.Rule.{dealt, hired};
+
+    ghost left = { dealt };
+
+    ghost right = { hired };
+}
+
+/// The dealing seat lets a viewer in.
+pub struct ToViewer;
+
+impl Split<SeatView> for ToViewer {
+    ghost use Rattle.progress_board.specs.Rule.{viewer};
+
+    ghost left = { λ v. v };
+
+    ghost right = { viewer };
+}
