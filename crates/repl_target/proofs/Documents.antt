@@ -20,17 +20,17 @@ use Rattle.couch_base.specs.ListLaws.{some_is, none_some, any_left}
 use Rattle.couch_base.specs.Put.{put_answer, after_put}
 use Rattle.repl_target.specs.Peer.{SessionValue, RefusedValue}
 use Rattle.repl_target.specs.Covered.{refusal_of, in_ledger}
-use Rattle.repl_target.specs.Refusals.{is_refused}
+use Rattle.repl_target.specs.LedgerIndex.{is_ledgered}
 use Rattle.repl_target.specs.Settling.{Settling, is_full, settle_as, settle_one, settle_docs, Halts, stops_as, stops_in, stops_at, settled_before, fed}
 use Rattle.repl_target.specs.SettleParts.{Accepts, Rejects, Steps, Stuck, Indexes, Reached, ReachedAll, cause_at, entered}
 use Rattle.repl_target.specs.declared.fault.Cause.{Cause}
 use Rattle.repl_target.specs.declared.fault.Cause.TheVariants as causes
 use Rattle.repl_target.specs.declared.fault.Reason.{Reason}
-use Rattle.repl_target.specs.declared.refusals.Refusals.{Refusals}
+use Rattle.repl_target.specs.declared.ledger_index.LedgerIndex.{LedgerIndex}
 
 -- ---- one document
 
-pub steps_from : (refuses : Document → Bool) (o : Origin) (d : Document) (before after : DatabaseValue) (old new : Refusals) (reason : Option Reason) (s t : SessionValue)
+pub steps_from : (refuses : Document → Bool) (o : Origin) (d : Document) (before after : DatabaseValue) (old new : LedgerIndex) (reason : Option Reason) (s t : SessionValue)
     → reason ≡ refusal_of refuses before d → MatchOption reason (Accepts d o before after old new) (λ _. Rejects d before after old new)
     → t ≡ entered d reason s → Steps refuses o d (record { db = before; session = s }) (record { db = after; session = t })
 steps_from refuses o d before after old new None s t is a e =
@@ -48,19 +48,19 @@ steps_from refuses o d before after old new (Some reason) s t is a e =
       step = λ w from. (λ i. let r : Settling = record { db = a.db i; session = e i } in r) ∙ ap (settle_as w z d) is;
     }
 
-pub indexes_from : (o : Origin) (d : Document) (before after : DatabaseValue) (old new base : Refusals) (reason : Option Reason) (s t : SessionValue)
+pub indexes_from : (o : Origin) (d : Document) (before after : DatabaseValue) (old new base : LedgerIndex) (reason : Option Reason) (s t : SessionValue)
     → MatchOption reason (Accepts d o before after old new) (λ _. Rejects d before after old new)
     → t ≡ entered d reason s → Indexes base s.ledger old → Indexes base t.ledger new
 indexes_from o d before after old new base None s t a e h id r =
-    a.index id r ∙ h id r ∙ ap (λ (x : SessionValue). is_refused base id r || in_ledger x.ledger id r) (sym e)
+    a.index id r ∙ h id r ∙ ap (λ (x : SessionValue). is_ledgered base id r || in_ledger x.ledger id r) (sym e)
 indexes_from o d before after old new base (Some reason) s t a e h id r =
     let x : RefusedValue = record { doc = d; reason = reason } in
     let here = bytes_eq d.id id && is_among r d.ancestry in
     let more : in_ledger (s.ledger ++ x ∷ []) id r ≡ (in_ledger s.ledger id r || here) =
     list_any-append (λ (y : RefusedValue). bytes_eq y.doc.id id && is_among r y.doc.ancestry) s.ledger (x ∷ []) ∙ ap (λ b. in_ledger s.ledger id r || b) (or-false here) in
-    a.index id r ∙ ap (λ b. b || here) (h id r) ∙ or_assoc (is_refused base id r) (in_ledger s.ledger id r) here
-    ∙ ap (λ b. is_refused base id r || b) (sym more)
-    ∙ ap (λ (x : SessionValue). is_refused base id r || in_ledger x.ledger id r) (sym e)
+    a.index id r ∙ ap (λ b. b || here) (h id r) ∙ or_assoc (is_ledgered base id r) (in_ledger s.ledger id r) here
+    ∙ ap (λ b. is_ledgered base id r || b) (sym more)
+    ∙ ap (λ (x : SessionValue). is_ledgered base id r || in_ledger x.ledger id r) (sym e)
 
 get_end : {X : Type 0} (others : List X) (last : X) → slice_get (others ++ last ∷ []) (length others) ≡ Some last
 get_end [] last = refl

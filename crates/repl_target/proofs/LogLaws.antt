@@ -9,7 +9,7 @@ use Rattle.repl_target.specs.Law.{Lawful}
 use Rattle.repl_target.specs.Later.{IsLaterPeer}
 use Rattle.repl_target.specs.Origins.{HasOrigins}
 use Rattle.repl_target.specs.Standing.{Stands}
-use Rattle.repl_target.specs.declared.refusals.Refusals.{Refusals}
+use Rattle.repl_target.specs.declared.ledger_index.LedgerIndex.{LedgerIndex}
 use Rattle.repl_target.specs.Logs.{put_by, put_entry_answer, after_put_entry}
 use Rattle.repl_target.specs.declared.fault.TargetFault.{TargetFault}
 use Rattle.repl_target.proofs.Keeping.{Keeps-same, IsLaterPeer-same, lawful-later}
@@ -30,8 +30,8 @@ logs_law refuses p logs l = record {
 pub logs_origins : (p : PeerValue) (logs : List (RepId × List EntryValue)) → HasOrigins p → HasOrigins (record p { outgoing = logs })
 logs_origins p logs h = has_from (record p { outgoing = logs }) (stands_same p (record p { outgoing = logs }) (logs_later p logs) refl (stands_from p h))
 
-pub Stands-logs : (refuses : Document → Bool) (refusals : Refusals) (p : PeerValue) (logs : List (RepId × List EntryValue)) → Stands refuses refusals p → Stands refuses refusals (record p { outgoing = logs })
-Stands-logs refuses refusals p logs h = record { law = logs_law refuses p logs h.law; origins = logs_origins p logs h.origins; index = h.index }
+pub Stands-logs : (refuses : Document → Bool) (ledgered : LedgerIndex) (p : PeerValue) (logs : List (RepId × List EntryValue)) → Stands refuses ledgered p → Stands refuses ledgered (record p { outgoing = logs })
+Stands-logs refuses ledgered p logs h = record { law = logs_law refuses p logs h.law; origins = logs_origins p logs h.origins; index = h.index }
 
 -- ---- putting an entry
 

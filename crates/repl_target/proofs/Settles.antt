@@ -20,9 +20,9 @@ use Rattle.repl_target.specs.Sessions.{found_answer}
 use Rattle.repl_target.specs.Settling.{Settling, has_row, has_room, settle_docs, settle_at, window_in, settle_check, with_settling, settling_of, with_done, after_all, SettlesAt, Settles, SettleGives}
 use Rattle.repl_target.specs.SettleParts.{with_mark, PartsSettled, PartsSettle, PartsGive}
 use Rattle.repl_target.specs.Table.{in_ledgers}
-use Rattle.repl_target.specs.Refusals.{is_refused}
+use Rattle.repl_target.specs.LedgerIndex.{is_ledgered}
 use Rattle.repl_target.specs.Standing.{Indexes}
-use Rattle.repl_target.specs.declared.refusals.Refusals.{Refusals}
+use Rattle.repl_target.specs.declared.ledger_index.LedgerIndex.{LedgerIndex}
 use Rattle.repl_target.proofs.Refusing.{or_held}
 use Rattle.repl_target.specs.declared.fault.Cause.TheVariants as causes
 use Rattle.repl_target.specs.declared.fault.Settled.{Settled}
@@ -217,14 +217,14 @@ settle_absent refuses p q id parcel none same =
     (sym (ap (found_answer (λ (s : SessionValue). settle_at s parcel (window_in s parcel.asked.lo parcel.asked.hi))) none)) (refl, same)
 
 -- an index of all ledgers has that of each
-pub indexed_own : (sessions : List SessionValue) (refusals : Refusals) (s : SessionValue) → Indexes refusals sessions → Among s sessions → (id : Id) (r : RevId) → is_refused refusals id r ≡ (is_refused refusals id r || in_ledger s.ledger id r)
-indexed_own sessions refusals s index held id r =
-    sym (or_held (in_ledger s.ledger id r) (is_refused refusals id r) (λ h. index id r ∙ any_from (λ (x : SessionValue). in_ledger x.ledger id r) s sessions held h))
+pub indexed_own : (sessions : List SessionValue) (ledgered : LedgerIndex) (s : SessionValue) → Indexes ledgered sessions → Among s sessions → (id : Id) (r : RevId) → is_ledgered ledgered id r ≡ (is_ledgered ledgered id r || in_ledger s.ledger id r)
+indexed_own sessions ledgered s index held id r =
+    sym (or_held (in_ledger s.ledger id r) (is_ledgered ledgered id r) (λ h. index id r ∙ any_from (λ (x : SessionValue). in_ledger x.ledger id r) s sessions held h))
 
 -- the index after a session has refused more is that of the ledgers
-pub index_after : (sessions : List SessionValue) (old new : Refusals) (s t : SessionValue) → Indexes old sessions → IsDistinct nat_eq (session_numbers sessions) → Among s sessions → t.id ≡ s.id
+pub index_after : (sessions : List SessionValue) (old new : LedgerIndex) (s t : SessionValue) → Indexes old sessions → IsDistinct nat_eq (session_numbers sessions) → Among s sessions → t.id ≡ s.id
     → ((id : Id) (r : RevId) → in_ledger s.ledger id r ≡ true → in_ledger t.ledger id r ≡ true)
-    → (((id : Id) (r : RevId) → is_refused old id r ≡ (is_refused old id r || in_ledger s.ledger id r)) → (id : Id) (r : RevId) → is_refused new id r ≡ (is_refused old id r || in_ledger t.ledger id r))
+    → (((id : Id) (r : RevId) → is_ledgered old id r ≡ (is_ledgered old id r || in_ledger s.ledger id r)) → (id : Id) (r : RevId) → is_ledgered new id r ≡ (is_ledgered old id r || in_ledger t.ledger id r))
     → Indexes new (with_session sessions t)
 index_after sessions old new s t index distinct held same more indexed id r =
     indexed (indexed_own sessions old s index held) id r

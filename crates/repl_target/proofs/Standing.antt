@@ -23,9 +23,9 @@ use Rattle.repl_target.specs.Local.{with_load, with_edited, with_edit}
 use Rattle.repl_target.specs.Law.{Lawful, session_numbers}
 use Rattle.repl_target.specs.Origins.{HasOrigins}
 use Rattle.repl_target.specs.Table.{in_ledgers, with_changed, changed}
-use Rattle.repl_target.specs.Refusals.{is_refused}
+use Rattle.repl_target.specs.LedgerIndex.{is_ledgered}
 use Rattle.repl_target.specs.Standing.{Stands}
-use Rattle.repl_target.specs.declared.refusals.Refusals.{Refusals}
+use Rattle.repl_target.specs.declared.ledger_index.LedgerIndex.{LedgerIndex}
 use Rattle.repl_target.specs.declared.fault.TargetFault.{TargetFault}
 use Rattle.repl_target.proofs.Keeping.{one_session, session_found}
 use Rattle.repl_target.proofs.Laws.{new_law, load_law, edit_law, begin_law, append_law, record_law, conclude_law}
@@ -68,12 +68,12 @@ pub on_session-changed : (p : PeerValue) (id : SessionId) (change : SessionValue
 on_session-changed p id change = found-changed p change (session_in p.sessions id)
 
 -- a peer as it begins
-pub Stands-new : (refuses : Document → Bool) (refusals : Refusals) (uuid seq : ℕ) (p : PeerValue) → p ≡ new_peer_at uuid seq → ((id : Id) (r : RevId) → is_refused refusals id r ≡ false) → Stands refuses refusals p
-Stands-new refuses refusals uuid seq p new none =
-    subst (Stands refuses refusals) (sym new) (record { law = new_law refuses uuid seq; origins = new_origins uuid seq; index = none })
+pub Stands-new : (refuses : Document → Bool) (ledgered : LedgerIndex) (uuid seq : ℕ) (p : PeerValue) → p ≡ new_peer_at uuid seq → ((id : Id) (r : RevId) → is_ledgered ledgered id r ≡ false) → Stands refuses ledgered p
+Stands-new refuses ledgered uuid seq p new none =
+    subst (Stands refuses ledgered) (sym new) (record { law = new_law refuses uuid seq; origins = new_origins uuid seq; index = none })
 
-module _ (refuses : Document → Bool) (refusals : Refusals) (p : PeerValue) (stands : Stands refuses refusals p) where
-  stands-changed : (id : SessionId) (change : SessionValue → SessionValue) → KeepsLedger change → Lawful refuses (on_session p id change) → HasOrigins (on_session p id change) → Stands refuses refusals (on_session p id change)
+module _ (refuses : Document → Bool) (ledgered : LedgerIndex) (p : PeerValue) (stands : Stands refuses ledgered p) where
+  stands-changed : (id : SessionId) (change : SessionValue → SessionValue) → KeepsLedger change → Lawful refuses (on_session p id change) → HasOrigins (on_session p id change) → Stands refuses ledgered (on_session p id change)
   stands-changed id change keeps law origins =
       record {
         law = law;
@@ -87,14 +87,14 @@ module _ (refuses : Document → Bool) (refusals : Refusals) (p : PeerValue) (st
 
   -- ---- local writes
 
-  pub Stands-after_load : (d : Document) → Stands refuses refusals (after_load p d)
+  pub Stands-after_load : (d : Document) → Stands refuses ledgered (after_load p d)
   Stands-after_load d = record { law = load_law refuses p d stands.law; origins = load_origins p d stands.origins; index = stands.index }
 
   edited_sessions : (id : Id) (deleted : Bool) (body : List ℕ) (e : Result (RevId × Option RevId) BaseFault) → (load_edited p id deleted body e).sessions ≡ p.sessions
   edited_sessions id deleted body (Ok e) = refl
   edited_sessions id deleted body (Err fault) = refl
 
-  pub Stands-after_edit : (id : Id) (parent : Option RevId) (deleted : Bool) (body : List ℕ) → Stands refuses refusals (after_edit p id parent deleted body)
+  pub Stands-after_edit : (id : Id) (parent : Option RevId) (deleted : Bool) (body : List ℕ) → Stands refuses ledgered (after_edit p id parent deleted body)
   Stands-after_edit id parent deleted body =
       record {
         law = edit_law refuses p id parent deleted body stands.law;
@@ -108,7 +108,7 @@ module _ (refuses : Document → Bool) (refusals : Refusals) (p : PeerValue) (st
   begun_ledgers id rep base start goal at (Ok done) doc r = refl
   begun_ledgers id rep base start goal at (Err fault) doc r = refl
 
-  pub Stands-after_begin : (id : SessionId) (rep : RepId) (base : Option SessionId) (start goal at : ℕ) → start < 2 ^ 64 → Stands refuses refusals (after_begin p id rep base start goal at)
+  pub Stands-after_begin : (id : SessionId) (rep : RepId) (base : Option SessionId) (start goal at : ℕ) → start < 2 ^ 64 → Stands refuses ledgered (after_begin p id rep base start goal at)
   Stands-after_begin id rep base start goal at fits =
       record {
         law = begin_law refuses p id rep base start goal at fits stands.law;
@@ -124,21 +124,21 @@ module _ (refuses : Document → Bool) (refusals : Refusals) (p : PeerValue) (st
   window_ledger w s (Ok done) = refl
   window_ledger w s (Err fault) = refl
 
-  pub Stands-after_append : (id : SessionId) (w : WindowValue) → IsWindow w → w.hi < 2 ^ 64 → Stands refuses refusals (after_append p id w)
+  pub Stands-after_append : (id : SessionId) (w : WindowValue) → IsWindow w → w.hi < 2 ^ 64 → Stands refuses ledgered (after_append p id w)
   Stands-after_append id w window fits =
       stands-changed id (λ s. with_window w s (append_in w s))
       (record { id = λ s. window_id w s (append_in w s); ledger = λ s. window_ledger w s (append_in w s) })
       (append_law refuses p id w window fits stands.law)
       (append_origins refuses p id w window fits stands.law stands.origins)
 
-  pub Stands-after_record : (id : SessionId) (at : ℕ) → Stands refuses refusals (after_record p id at)
+  pub Stands-after_record : (id : SessionId) (at : ℕ) → Stands refuses ledgered (after_record p id at)
   Stands-after_record id at = stands-changed id (recorded_at at) (record { id = λ s. refl; ledger = λ s. refl }) (record_law refuses p id at stands.law) (record_origins refuses p id at stands.law stands.origins)
 
   either : {A : Type 0} (f : SessionValue → A) (s t : SessionValue) (b : Bool) → f t ≡ f s → f (cond b t s) ≡ f s
   either f s t true same = same
   either f s t false same = refl
 
-  pub Stands-after_conclude : (id : SessionId) (at : ℕ) → Stands refuses refusals (after_conclude p id at)
+  pub Stands-after_conclude : (id : SessionId) (at : ℕ) → Stands refuses ledgered (after_conclude p id at)
   Stands-after_conclude id at =
       stands-changed id (λ s. if low_water s.front == s.goal then recorded_at at s else s)
       (record {
@@ -151,9 +151,9 @@ module _ (refuses : Document → Bool) (refusals : Refusals) (p : PeerValue) (st
   -- ---- what a call leaves, by its result
 
   -- a call that leaves the peer where it is refused
-  either_way : {T E : Type 0} (r : Result T E) (q new : PeerValue) → OnOk r (new ≡ q) → OnErr r (new ≡ p) → Stands refuses refusals q → Stands refuses refusals new
-  either_way (Ok x) q new made kept there = subst (Stands refuses refusals) (sym made) there
-  either_way (Err e) q new made kept there = subst (Stands refuses refusals) (sym kept) stands
+  either_way : {T E : Type 0} (r : Result T E) (q new : PeerValue) → OnOk r (new ≡ q) → OnErr r (new ≡ p) → Stands refuses ledgered q → Stands refuses ledgered new
+  either_way (Ok x) q new made kept there = subst (Stands refuses ledgered) (sym made) there
+  either_way (Err e) q new made kept there = subst (Stands refuses ledgered) (sym kept) stands
 
   both_ok : {T E A B C : Type 0} (r : Result T E) → (A → B → C) → OnOk r A → OnOk r B → OnOk r C
   both_ok (Ok x) f a b = f a b
@@ -168,7 +168,7 @@ module _ (refuses : Document → Bool) (refusals : Refusals) (p : PeerValue) (st
   edit_parts id deleted body (Err fault) = refl
 
   pub Stands-loaded : (d : Document) (r : Result Put BaseFault) (db : DatabaseValue) (locals : List WrittenValue)
-      → OnOk r (db ≡ after_put p.db d (next_local p)) → OnOk r (locals ≡ with_load p.db p.locals d) → OnErr r (db ≡ p.db) → OnErr r (locals ≡ p.locals) → Stands refuses refusals (record p { db = db; locals = locals })
+      → OnOk r (db ≡ after_put p.db d (next_local p)) → OnOk r (locals ≡ with_load p.db p.locals d) → OnErr r (db ≡ p.db) → OnErr r (locals ≡ p.locals) → Stands refuses ledgered (record p { db = db; locals = locals })
   Stands-loaded d r db locals a b c e =
       either_way r (after_load p d) (record p { db = db; locals = locals })
       (both_ok r (λ x y i. record p { db = x i; locals = y i }) a b)
@@ -177,7 +177,7 @@ module _ (refuses : Document → Bool) (refusals : Refusals) (p : PeerValue) (st
 
   pub Stands-edited : (id : Id) (parent : Option RevId) (deleted : Bool) (body : List ℕ) (r : Result RevId BaseFault) (db : DatabaseValue) (locals : List WrittenValue)
       → OnOk r (db ≡ database_after_edit p.db id parent deleted body (next_local p)) → OnOk r (locals ≡ with_edit p.db p.locals id parent deleted body) → OnErr r (db ≡ p.db) → OnErr r (locals ≡ p.locals)
-      → Stands refuses refusals (record p { db = db; locals = locals })
+      → Stands refuses ledgered (record p { db = db; locals = locals })
   Stands-edited id parent deleted body r db locals a b c e =
       let parts = edit_parts id deleted body (edited p.db id parent deleted body) in
       either_way r (after_edit p id parent deleted body) (record p { db = db; locals = locals })
@@ -192,7 +192,7 @@ module _ (refuses : Document → Bool) (refusals : Refusals) (p : PeerValue) (st
   begun_peer id rep base start goal at (Err fault) sessions told made = tt
 
   pub Stands-begun : (id : SessionId) (rep : RepId) (base : Option SessionId) (start goal at : ℕ) → start < 2 ^ 64 → (r : Result (Unit {0}) TargetFault) (sessions : List SessionValue)
-      → GivesUnlessMemory r (begin_answer p id rep base start goal) → OnOk r (sessions ≡ new_session id rep base start goal at ∷ p.sessions) → OnErr r (sessions ≡ p.sessions) → Stands refuses refusals (record p { sessions = sessions })
+      → GivesUnlessMemory r (begin_answer p id rep base start goal) → OnOk r (sessions ≡ new_session id rep base start goal at ∷ p.sessions) → OnErr r (sessions ≡ p.sessions) → Stands refuses ledgered (record p { sessions = sessions })
   Stands-begun id rep base start goal at fits r sessions told made kept =
       either_way r (after_begin p id rep base start goal at) (record p { sessions = sessions })
       (begun_peer id rep base start goal at r sessions told made)
@@ -200,7 +200,7 @@ module _ (refuses : Document → Bool) (refusals : Refusals) (p : PeerValue) (st
       (Stands-after_begin id rep base start goal at fits)
 
   pub Stands-appended : (id : SessionId) (w : WindowValue) → IsWindow w → w.hi < 2 ^ 64 → (r : Result (Unit {0}) TargetFault) (sessions : List SessionValue)
-      → OnOk r (sessions ≡ with_changed p.sessions id (λ s. with_window w s (append_in w s))) → OnErr r (sessions ≡ p.sessions) → Stands refuses refusals (record p { sessions = sessions })
+      → OnOk r (sessions ≡ with_changed p.sessions id (λ s. with_window w s (append_in w s))) → OnErr r (sessions ≡ p.sessions) → Stands refuses ledgered (record p { sessions = sessions })
   Stands-appended id w window fits r sessions made kept =
       let whole = on_session-changed p id (λ s. with_window w s (append_in w s)) in
       either_way r (after_append p id w) (record p { sessions = sessions })
@@ -208,10 +208,10 @@ module _ (refuses : Document → Bool) (refusals : Refusals) (p : PeerValue) (st
       (on_err_weaker r (λ x. ap (λ s. record p { sessions = s }) x) kept)
       (Stands-after_append id w window fits)
 
-  pub Stands-recorded : (id : SessionId) (at : ℕ) (sessions : List SessionValue) → sessions ≡ with_changed p.sessions id (recorded_at at) → Stands refuses refusals (record p { sessions = sessions })
+  pub Stands-recorded : (id : SessionId) (at : ℕ) (sessions : List SessionValue) → sessions ≡ with_changed p.sessions id (recorded_at at) → Stands refuses ledgered (record p { sessions = sessions })
   Stands-recorded id at sessions made =
-      subst (Stands refuses refusals) (on_session-changed p id (recorded_at at) ∙ ap (λ s. record p { sessions = s }) (sym made)) (Stands-after_record id at)
+      subst (Stands refuses ledgered) (on_session-changed p id (recorded_at at) ∙ ap (λ s. record p { sessions = s }) (sym made)) (Stands-after_record id at)
 
-  pub Stands-concluded : (id : SessionId) (at : ℕ) (sessions : List SessionValue) → sessions ≡ with_changed p.sessions id (λ s. if low_water s.front == s.goal then recorded_at at s else s) → Stands refuses refusals (record p { sessions = sessions })
+  pub Stands-concluded : (id : SessionId) (at : ℕ) (sessions : List SessionValue) → sessions ≡ with_changed p.sessions id (λ s. if low_water s.front == s.goal then recorded_at at s else s) → Stands refuses ledgered (record p { sessions = sessions })
   Stands-concluded id at sessions made =
-      subst (Stands refuses refusals) (on_session-changed p id (λ s. if low_water s.front == s.goal then recorded_at at s else s) ∙ ap (λ s. record p { sessions = s }) (sym made)) (Stands-after_conclude id at)
+      subst (Stands refuses ledgered) (on_session-changed p id (λ s. if low_water s.front == s.goal then recorded_at at s else s) ∙ ap (λ s. record p { sessions = s }) (sym made)) (Stands-after_conclude id at)

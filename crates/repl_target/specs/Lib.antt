@@ -12,7 +12,7 @@ pub mod PeerCode
 pub mod Origins
 pub mod Trusted
 pub mod Table
-pub mod Refusals
+pub mod LedgerIndex
 pub mod Logs
 pub mod Audit
 pub mod SettleParts

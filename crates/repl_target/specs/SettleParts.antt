@@ -16,7 +16,7 @@ use Rattle.range_front.specs.Front.{finished}
 use Rattle.repl_target.specs.Peer.{PeerValue, SessionValue, RefusedValue}
 use Rattle.repl_target.specs.Covered.{refusal_of, in_ledger, first_unknown}
 use Rattle.repl_target.specs.Kept.{session_value}
-use Rattle.repl_target.specs.Refusals.{is_refused}
+use Rattle.repl_target.specs.LedgerIndex.{is_ledgered}
 use Rattle.repl_target.specs.Settling.{Settling, is_full, with_refused, with_arrival, fed, Halts, stops_in, stops_at, settle_one, leaf_count, asked_count, settle_docs, settled_before, settle_at, window_in, with_done, Counts}
 use Rattle.repl_target.specs.declared.fault.Cause.{Cause}
 use Rattle.repl_target.specs.declared.fault.Cause.TheVariants as causes
@@ -25,15 +25,15 @@ use Rattle.repl_target.specs.declared.fault.Settled.{Settled}
 use Rattle.repl_target.specs.declared.fault.TargetFault.{TargetFault}
 use Rattle.repl_target.specs.declared.fault.TargetFault.TheVariants as faults
 use Rattle.repl_target.specs.declared.session.Session.{Session}
-use Rattle.repl_target.specs.declared.refusals.Refusals.{Refusals}
+use Rattle.repl_target.specs.declared.ledger_index.LedgerIndex.{LedgerIndex}
 
 -- a revision is in its document's tree, or refused
-abbrev pub known_of : DatabaseValue → Refusals → Id → RevId → Bool
-known_of db index id r = has (tree_of db.docs id) r || is_refused index id r
+abbrev pub known_of : DatabaseValue → LedgerIndex → Id → RevId → Bool
+known_of db index id r = has (tree_of db.docs id) r || is_ledgered index id r
 
 -- an index has what an earlier one had, and the revisions of the documents of a ledger
-abbrev pub Indexes : Refusals → List RefusedValue → Refusals → Type 0
-Indexes old ledger new = (id : Id) (r : RevId) → is_refused new id r ≡ (is_refused old id r || in_ledger ledger id r)
+abbrev pub Indexes : LedgerIndex → List RefusedValue → LedgerIndex → Type 0
+Indexes old ledger new = (id : Id) (r : RevId) → is_ledgered new id r ≡ (is_ledgered old id r || in_ledger ledger id r)
 
 -- a place has a row of an id
 abbrev pub IsRowOf : List RowValue → Id → ℕ → Type 0
@@ -53,15 +53,15 @@ pub record IsWindowAt (ws : List WindowValue) (lo hi i : ℕ) : Type 0 where
 -- ---- one document
 
 -- a document that is taken: the database has it, and nothing more is refused
-pub record Accepts (d : Document) (o : Origin) (before after : DatabaseValue) (old new : Refusals) : Type 0 where
+pub record Accepts (d : Document) (o : Origin) (before after : DatabaseValue) (old new : LedgerIndex) : Type 0 where
   pub room : is_full (put_answer before d) ≡ false
   pub db : after ≡ after_put before d o
-  pub index : (id : Id) (r : RevId) → is_refused new id r ≡ is_refused old id r
+  pub index : (id : Id) (r : RevId) → is_ledgered new id r ≡ is_ledgered old id r
 
 -- a document that is refused: the database stays, and its revisions are refused
-pub record Rejects (d : Document) (before after : DatabaseValue) (old new : Refusals) : Type 0 where
+pub record Rejects (d : Document) (before after : DatabaseValue) (old new : LedgerIndex) : Type 0 where
   pub db : after ≡ before
-  pub index : (id : Id) (r : RevId) → is_refused new id r ≡ (is_refused old id r || (bytes_eq d.id id && is_among r d.ancestry))
+  pub index : (id : Id) (r : RevId) → is_ledgered new id r ≡ (is_ledgered old id r || (bytes_eq d.id id && is_among r d.ancestry))
 
 -- the session with it
 abbrev pub entered : Document → Option Reason → SessionValue → SessionValue

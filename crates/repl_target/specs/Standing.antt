@@ -7,15 +7,15 @@ use Rattle.couch_base.specs.Database.{Id}
 use Rattle.repl_target.specs.Peer.{PeerValue, SessionValue}
 use Rattle.repl_target.specs.Law.{Lawful}
 use Rattle.repl_target.specs.Origins.{HasOrigins}
-use Rattle.repl_target.specs.Refusals.{is_refused}
+use Rattle.repl_target.specs.LedgerIndex.{is_ledgered}
 use Rattle.repl_target.specs.Table.{in_ledgers}
-use Rattle.repl_target.specs.declared.refusals.Refusals.{Refusals}
+use Rattle.repl_target.specs.declared.ledger_index.LedgerIndex.{LedgerIndex}
 
 -- the index has the revisions of the documents of the ledgers, and no others
-abbrev pub Indexes : Refusals → List SessionValue → Type 0
-Indexes refusals sessions = (id : Id) (r : RevId) → is_refused refusals id r ≡ in_ledgers sessions id r
+abbrev pub Indexes : LedgerIndex → List SessionValue → Type 0
+Indexes ledgered sessions = (id : Id) (r : RevId) → is_ledgered ledgered id r ≡ in_ledgers sessions id r
 
-pub record Stands (refuses : Document → Bool) (refusals : Refusals) (p : PeerValue) : Type 0 where
+pub record Stands (refuses : Document → Bool) (ledgered : LedgerIndex) (p : PeerValue) : Type 0 where
   pub law : Lawful refuses p
   pub origins : HasOrigins p
-  pub index : Indexes refusals p.sessions
+  pub index : Indexes ledgered p.sessions

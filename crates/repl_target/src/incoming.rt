@@ -12,7 +12,7 @@ ghost use Rattle.repl_target.specs.Table.{with_changed, answer_in, begin_in, rec
 
 use crate::fault::{Report, Settled, TargetFault};
 use crate::filter::WriteFilter;
-use crate::refusals::Refusals;
+use crate::ledger_index::LedgerIndex;
 use crate::session::Session;
 use crate::settle;
 use couch_base::{Database, Parcel, Window};
@@ -157,21 +157,21 @@ pub(crate) fn conclude(
 pub(crate) fn settle<F: WriteFilter>(
     filter: &F,
     db: &mut Database,
-    refusals: &mut Refusals,
+    ledgered: &mut LedgerIndex,
     sessions: &mut Sessions,
     id: SessionId,
     parcel: Parcel,
 ) -> Result<Settled, TargetFault>
     requires { (p : PeerValue)
-        × Stands (F.refuses filter.now) refusals.old
+        × Stands (F.refuses filter.now) ledgered.old
         (with_parts p db.old (sessions_of sessions.old.entries)) }
     ensures gives { (p : PeerValue)
         → SettleGives (F.refuses filter.now) (with_parts p db.old (sessions_of sessions.old.entries)) id parcel result
         (with_parts p db.new (sessions_of sessions.new.entries)) }
-    ensures index { Indexes refusals.new (sessions_of sessions.new.entries) }
+    ensures index { Indexes ledgered.new (sessions_of sessions.new.entries) }
 {
     match sessions.get_mut(&id) {
-        Some(session) => settle::settle(filter, db, refusals, id, session, parcel),
+        Some(session) => settle::settle(filter, db, ledgered, id, session, parcel),
         None => Err(TargetFault::NoSuchSession),
     }
 }

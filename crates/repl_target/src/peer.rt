@@ -6,8 +6,8 @@ ghost use Rattle.couch_base.specs.Database.{tree_of};
 use crate::fault::{Report, Settled, TargetFault};
 use crate::filter::WriteFilter;
 use crate::incoming::{self, Sessions};
+use crate::ledger_index::LedgerIndex;
 use crate::local;
-use crate::refusals::Refusals;
 use crate::written::Written;
 use couch_base::{Asked, BaseFault, Database, Parcel, Put, Window};
 use doc_json::{Body, Doc, DocId};
@@ -28,7 +28,7 @@ pub struct Peer<F: WriteFilter> {
     pub(crate) db: Database,
     pub(crate) locals: Vec<Written>,
     pub(crate) sessions: Sessions,
-    refusals: Refusals,
+    ledgered: LedgerIndex,
     pub(crate) outgoing: IndexMap<RepId, Log>,
 }
 
@@ -54,7 +54,7 @@ impl<F: WriteFilter> Model for Peer<F> {
       },
     ) };
 
-    ghost invariant = { λ p. Stands (F.refuses p.filter) p.refusals (record {
+    ghost invariant = { λ p. Stands (F.refuses p.filter) p.ledgered (record {
       db = p.db;
       locals = p.locals.items;
       sessions = sessions_of p.sessions.entries;
@@ -100,7 +100,7 @@ impl<F: WriteFilter> Peer<F> {
             db,
             locals: Vec::new(alloc),
             sessions: IndexMap::new(alloc),
-            refusals: Refusals::new(alloc),
+            ledgered: LedgerIndex::new(alloc),
             outgoing: IndexMap::new(alloc),
         }
     }
@@ -196,7 +196,7 @@ impl<F: WriteFilter> Peer<F> {
     pub fn covered(&self, id: &DocId, rev: Rev) -> bool
         ensures { result ≡ covers self.now.1 id.now rev }
     {
-        stores(&self.db, id, rev) || self.refusals.has(id, rev)
+        stores(&self.db, id, rev) || self.ledgered.has(id, rev)
     }
 
     // ---- sessions
@@ -260,7 +260,7 @@ impl<F: WriteFilter> Peer<F> {
         incoming::settle(
             &self.filter,
             &mut self.db,
-            &mut self.refusals,
+            &mut self.ledgered,
             &mut self.sessions,
             id,
             parcel,

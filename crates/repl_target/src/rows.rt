@@ -6,11 +6,11 @@ ghost use Rattle.std.specs.Str.{bytes_eq};
 ghost use Rattle.rev_tree.specs.Tree.{has, no_revisions};
 ghost use Rattle.couch_base.specs.Lists.{EachOnce};
 ghost use Rattle.repl_target.specs.Covered.{first_unknown};
-ghost use Rattle.repl_target.specs.Refusals.{is_refused};
+ghost use Rattle.repl_target.specs.LedgerIndex.{is_ledgered};
 ghost use Rattle.repl_target.specs.Settling.{seq_in};
 ghost use Rattle.repl_target.specs.SettleParts.{known_of, IsRowOf};
 
-use crate::refusals::Refusals;
+use crate::ledger_index::LedgerIndex;
 use couch_base::{Database, Row, Wanted};
 use doc_json::{Doc, DocId};
 use rev_core::Rev;
@@ -100,19 +100,19 @@ fn has_in(tree: Option<&Tree>, rev: Rev) -> bool
 }
 
 /// Whether a revision is in a document's tree or refused.
-fn is_known(tree: Option<&Tree>, refusals: &Refusals, id: &DocId, rev: Rev) -> bool
-    ensures { result ≡ (has (unwrap_or (option_copied tree.entry) no_revisions) rev || is_refused refusals.now id.now rev) }
+fn is_known(tree: Option<&Tree>, ledgered: &LedgerIndex, id: &DocId, rev: Rev) -> bool
+    ensures { result ≡ (has (unwrap_or (option_copied tree.entry) no_revisions) rev || is_ledgered ledgered.now id.now rev) }
 {
-    has_in(tree, rev) || refusals.has(id, rev)
+    has_in(tree, rev) || ledgered.has(id, rev)
 }
 
 /// The first leaf of a row that is neither in its document's tree nor refused.
-fn unknown_in(db: &Database, refusals: &Refusals, row: &Row) -> Option<Rev>
-    ensures { result ≡ find (λ rev. not (known_of db.now refusals.now row.now.id rev)) row.now.leaves }
+fn unknown_in(db: &Database, ledgered: &LedgerIndex, row: &Row) -> Option<Rev>
+    ensures { result ≡ find (λ rev. not (known_of db.now ledgered.now row.now.id rev)) row.now.leaves }
 {
     let tree = db.tree(row.id());
     for rev in row.leaves() {
-        if !is_known(tree, refusals, row.id(), *rev) {
+        if !is_known(tree, ledgered, row.id(), *rev) {
             return Some(*rev);
         }
     }
@@ -122,14 +122,14 @@ fn unknown_in(db: &Database, refusals: &Refusals, row: &Row) -> Option<Rev>
 /// The first such leaf of some rows, with its row.
 pub(crate) fn first_unknown<'a>(
     db: &Database,
-    refusals: &Refusals,
+    ledgered: &LedgerIndex,
     rows: &'a [Row],
 ) -> Option<(&'a Row, Rev)>
     ensures { option_map (λ u. record { seq = u.0.now.seq; id = u.0.now.id; rev = u.1 }) result
-        ≡ first_unknown (known_of db.now refusals.now) rows.now }
+        ≡ first_unknown (known_of db.now ledgered.now) rows.now }
 {
     for row in rows {
-        if let Some(rev) = unknown_in(db, refusals, row) {
+        if let Some(rev) = unknown_in(db, ledgered, row) {
             return Some((row, rev));
         }
     }

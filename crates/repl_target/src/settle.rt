@@ -14,14 +14,14 @@ ghost use Rattle.range_front.specs.Front.{IsFront, bounds, finish_answer};
 ghost use Rattle.repl_target.specs.Covered.{refusal_of, in_ledger};
 ghost use Rattle.repl_target.specs.Law.{window_bounds};
 ghost use Rattle.repl_target.specs.Kept.{session_value};
-ghost use Rattle.repl_target.specs.declared.refusals.Refusals.{Refusals as RefusedIndex};
-ghost use Rattle.repl_target.specs.Refusals.{is_refused};
+ghost use Rattle.repl_target.specs.declared.ledger_index.LedgerIndex.{LedgerIndex};
+ghost use Rattle.repl_target.specs.LedgerIndex.{is_ledgered};
 ghost use Rattle.repl_target.specs.Settling.{Halts, stops_in, has_row};
 ghost use Rattle.repl_target.specs.SettleParts.{PartsGive, Reached, Ends, Accepts, Rejects, Steps, Stuck, cause_at, Indexes, entered, known_of, settling_at, ledger_of};
 
 use crate::fault::{Cause, Reason, Settled, TargetFault};
 use crate::filter::{Verdict, WriteFilter};
-use crate::refusals::Refusals;
+use crate::ledger_index::LedgerIndex;
 use crate::refused::Refused;
 use crate::rows::{first_unknown, seq_from};
 use crate::session::Session;
@@ -31,21 +31,25 @@ use couch_base::{BaseFault, Database, Parcel};
 use doc_json::Doc;
 use rev_tree::{Origin, SessionId};
 
-/// Makes a place in the ledger, and notes a document's revisions as refused. A refusal changes nothing.
-fn note_refused(refusals: &mut Refusals, ledger: &mut Vec<Refused>, doc: &Doc) -> Result<(), Cause>
+/// Makes a place in the ledger, and adds a document's revisions to its index. A refusal changes nothing.
+fn note_ledgered(
+    ledgered: &mut LedgerIndex,
+    ledger: &mut Vec<Refused>,
+    doc: &Doc,
+) -> Result<(), Cause>
     ensures place { OnOk result (vec_len ledger.new < vec_capacity ledger.new) }
     ensures noted { OnOk result
         ((id : Id) (r : RevId)
-        → is_refused refusals.new id r
-        ≡ (is_refused refusals.old id r || (bytes_eq doc.now.id id && is_among r doc.now.ancestry))) }
+        → is_ledgered ledgered.new id r
+        ≡ (is_ledgered ledgered.old id r || (bytes_eq doc.now.id id && is_among r doc.now.ancestry))) }
     ensures ledger { ledger.new.items ≡ ledger.old.items }
-    ensures index { OnErr result ((id : Id) (r : RevId) → is_refused refusals.new id r ≡ is_refused refusals.old id r) }
+    ensures index { OnErr result ((id : Id) (r : RevId) → is_ledgered ledgered.new id r ≡ is_ledgered ledgered.old id r) }
     ensures memory { IfErr result (λ cause. cause ≡ Cause.Memory) }
 {
     let Ok(()) = ledger.reserve(1) else {
         return Err(Cause::Memory);
     };
-    match refusals.add(doc) {
+    match ledgered.add(doc) {
         Ok(()) => Ok(()),
         Err(_) => Err(Cause::Memory),
     }
@@ -70,7 +74,7 @@ fn cause_of<F: WriteFilter>(filter: &F, db: &Database, doc: &Doc) -> Cause
 fn decide<F: WriteFilter>(
     filter: &F,
     db: &mut Database,
-    refusals: &mut Refusals,
+    ledgered: &mut LedgerIndex,
     arrivals: &mut Vec<Written>,
     ledger: &mut Vec<Refused>,
     doc: &Doc,
@@ -78,19 +82,19 @@ fn decide<F: WriteFilter>(
 ) -> Result<Option<Reason>, Cause>
     ensures reason { IfOk result (λ reason. reason ≡ refusal_of (F.refuses filter.now) db.old doc.now) }
     ensures decided { IfOk result
-        (λ reason. MatchOption reason (Accepts doc.now origin db.old db.new refusals.old refusals.new)
-        (λ _. Rejects doc.now db.old db.new refusals.old refusals.new)) }
+        (λ reason. MatchOption reason (Accepts doc.now origin db.old db.new ledgered.old ledgered.new)
+        (λ _. Rejects doc.now db.old db.new ledgered.old ledgered.new)) }
     ensures place { IfOk result
         (λ reason. MatchOption reason (vec_len arrivals.new < vec_capacity arrivals.new)
         (λ _. vec_len ledger.new < vec_capacity ledger.new)) }
     ensures arrivals { arrivals.new.items ≡ arrivals.old.items }
     ensures ledger { ledger.new.items ≡ ledger.old.items }
     ensures db { OnErr result (db.new ≡ db.old) }
-    ensures index { OnErr result ((id : Id) (r : RevId) → is_refused refusals.new id r ≡ is_refused refusals.old id r) }
+    ensures index { OnErr result ((id : Id) (r : RevId) → is_ledgered ledgered.new id r ≡ is_ledgered ledgered.old id r) }
     ensures why { IfErr result (λ cause. cause ≡ cause_at (stops_in (F.refuses filter.now) db.old doc.now)) }
 {
     if filter.verdict(doc) == Verdict::Refuse {
-        note_refused(refusals, ledger, doc)?;
+        note_ledgered(ledgered, ledger, doc)?;
         return Ok(Some(Reason::Filtered));
     }
     let Ok(()) = arrivals.reserve(1) else {
@@ -104,7 +108,7 @@ fn decide<F: WriteFilter>(
                 known,
                 given,
             } => {
-                note_refused(refusals, ledger, doc)?;
+                note_ledgered(ledgered, ledger, doc)?;
                 Ok(Some(Reason::Contradicting {
                     child,
                     known,
@@ -147,7 +151,7 @@ fn enter(session: &mut Session, doc: Doc, reason: Option<Reason>)
 fn settle_last<F: WriteFilter>(
     filter: &F,
     db: &mut Database,
-    refusals: &mut Refusals,
+    ledgered: &mut LedgerIndex,
     session: &mut Session,
     docs: &mut Vec<Doc>,
     origin: Origin,
@@ -170,15 +174,15 @@ fn settle_last<F: WriteFilter>(
     ensures counts { session.new.read ≡ session.new.written + session.new.failures }
     ensures front { session.new.front ≡ session.old.front }
     ensures windows { session.new.windows ≡ session.old.windows }
-    ensures indexed { (base : RefusedIndex)
-        → Indexes base (ledger_of session.old) refusals.old
-        → Indexes base (ledger_of session.new) refusals.new }
+    ensures indexed { (base : LedgerIndex)
+        → Indexes base (ledger_of session.old) ledgered.old
+        → Indexes base (ledger_of session.new) ledgered.new }
 {
     let doc = docs.last().unwrap();
     let reason = decide(
         filter,
         db,
-        refusals,
+        ledgered,
         &mut session.arrivals,
         &mut session.ledger,
         doc,
@@ -195,7 +199,7 @@ fn settle_last<F: WriteFilter>(
 fn settle_documents<F: WriteFilter>(
     filter: &F,
     db: &mut Database,
-    refusals: &mut Refusals,
+    ledgered: &mut LedgerIndex,
     id: SessionId,
     session: &mut Session,
     place: usize,
@@ -216,15 +220,15 @@ fn settle_documents<F: WriteFilter>(
     ensures why { IfErr result (Stuck (F.refuses filter.now) docs.new.items db.new) }
     ensures front { session.new.front ≡ session.old.front }
     ensures windows { session.new.windows ≡ session.old.windows }
-    ensures indexed { (base : RefusedIndex)
-        → Indexes base (ledger_of session.old) refusals.old
-        → Indexes base (ledger_of session.new) refusals.new }
+    ensures indexed { (base : LedgerIndex)
+        → Indexes base (ledger_of session.old) ledgered.old
+        → Indexes base (ledger_of session.new) ledgered.new }
 {
     let mut row = 0;
     while let Some(doc) = docs.last() {
         let (found, seq) = seq_from(session.windows[place].rows(), doc.id(), row);
         row = found;
-        settle_last(filter, db, refusals, session, docs, Origin::Feed(id, seq))?;
+        settle_last(filter, db, ledgered, session, docs, Origin::Feed(id, seq))?;
     }
     Ok(())
 }
@@ -235,7 +239,7 @@ fn settle_documents<F: WriteFilter>(
 fn settle_in_order<F: WriteFilter>(
     filter: &F,
     db: &mut Database,
-    refusals: &mut Refusals,
+    ledgered: &mut LedgerIndex,
     id: SessionId,
     session: &mut Session,
     place: usize,
@@ -260,9 +264,9 @@ fn settle_in_order<F: WriteFilter>(
     ensures room { OnOk result (0 < session.new.front.room) }
     ensures front { session.new.front.front ≡ session.old.front.front }
     ensures windows { session.new.windows ≡ session.old.windows }
-    ensures indexed { (base : RefusedIndex)
-        → Indexes base (ledger_of session.old) refusals.old
-        → Indexes base (ledger_of session.new) refusals.new }
+    ensures indexed { (base : LedgerIndex)
+        → Indexes base (ledger_of session.old) ledgered.old
+        → Indexes base (ledger_of session.new) ledgered.new }
 {
     let Ok(()) = session.front.reserve() else {
         return match docs.first() {
@@ -271,7 +275,7 @@ fn settle_in_order<F: WriteFilter>(
         };
     };
     docs.reverse();
-    let settled = settle_documents(filter, db, refusals, id, session, place, docs);
+    let settled = settle_documents(filter, db, ledgered, id, session, place, docs);
     docs.reverse();
     settled
 }
@@ -281,7 +285,7 @@ fn settle_in_order<F: WriteFilter>(
 /// `settled` documents are settled, and none is left: `docs` is empty.
 fn close(
     db: &Database,
-    refusals: &Refusals,
+    ledgered: &LedgerIndex,
     session: &mut Session,
     checked: Checked,
     settled: u64,
@@ -299,12 +303,12 @@ fn close(
     ensures failures { session.new.failures ≡ session.old.failures }
     ensures ends { (id : SessionName) (w : WindowValue)
         → slice_get session.old.windows.items checked.place ≡ Some w
-        → Ends (known_of db.now refusals.now) w (session_value id session.old) checked.leaves checked.asked settled result
+        → Ends (known_of db.now ledgered.now) w (session_value id session.old) checked.leaves checked.asked settled result
         (session_value id session.new) }
 {
     let window = &session.windows[checked.place];
     let (lo, hi) = (window.lo(), window.hi());
-    match first_unknown(db, refusals, window.rows()) {
+    match first_unknown(db, ledgered, window.rows()) {
         Some((row, rev)) => match row.id().copy(*session.windows.allocator()) {
             Ok(id) => Err(TargetFault::Uncovered {
                 seq: row.seq(),
@@ -336,7 +340,7 @@ fn close(
 pub(crate) fn settle<F: WriteFilter>(
     filter: &F,
     db: &mut Database,
-    refusals: &mut Refusals,
+    ledgered: &mut LedgerIndex,
     id: SessionId,
     session: &mut Session,
     parcel: Parcel,
@@ -344,20 +348,20 @@ pub(crate) fn settle<F: WriteFilter>(
     requires front { IsFront session.old.front.front }
     requires bounds { window_bounds session.old.windows.items ≡ bounds session.old.front.front }
     requires counts { session.old.read ≡ session.old.written + session.old.failures }
-    ensures gives { PartsGive (F.refuses filter.now) (known_of db.new refusals.new)
+    ensures gives { PartsGive (F.refuses filter.now) (known_of db.new ledgered.new)
         (settling_at db.old id session.old) parcel result (settling_at db.new id session.new) }
     ensures ledger { (i : Id) (r : RevId)
         → in_ledger (ledger_of session.old) i r ≡ true
         → in_ledger (ledger_of session.new) i r ≡ true }
-    ensures indexed { (base : RefusedIndex)
-        → Indexes base (ledger_of session.old) refusals.old
-        → Indexes base (ledger_of session.new) refusals.new }
+    ensures indexed { (base : LedgerIndex)
+        → Indexes base (ledger_of session.old) ledgered.old
+        → Indexes base (ledger_of session.new) ledgered.new }
 {
     let checked = check(session, &parcel)?;
     let (_, mut docs, _) = parcel.into_parts();
     let (written, failures) = (session.written, session.failures);
     let all = docs.len();
-    let stop = settle_in_order(filter, db, refusals, id, session, checked.place, &mut docs);
+    let stop = settle_in_order(filter, db, ledgered, id, session, checked.place, &mut docs);
     let settled = (all - docs.len()) as u64;
     if let Err(cause) = stop {
         return Err(TargetFault::Stopped {
@@ -366,7 +370,7 @@ pub(crate) fn settle<F: WriteFilter>(
             cause,
         });
     }
-    match close(db, refusals, session, checked, settled, docs) {
+    match close(db, ledgered, session, checked, settled, docs) {
         Ok(()) => Ok(Settled {
             written: session.written - written,
             failures: session.failures - failures,

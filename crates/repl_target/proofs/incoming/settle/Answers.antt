@@ -40,12 +40,12 @@ returns-in-Some-clause-gives g c = λ p.
     let found = session_in-found c.args.id es c.in-Some.session.now c.get_mut.ensures.unique there in
     let held = (session_found sessions c.args.id s found).0 in
     let stands = c.requires.1 in
-    let index = index_after sessions c.args.refusals.now c.settle.new.refusals s t stands.index stands.law.distinct held refl c.settle.ensures.ledger (c.settle.ensures.indexed c.args.refusals.now) in
+    let index = index_after sessions c.args.ledgered.now c.settle.new.ledgered s t stands.index stands.law.distinct held refl c.settle.ensures.ledger (c.settle.ensures.indexed c.args.ledgered.now) in
     let table = ap sessions_of (c.get_mut.follows.holds c.settle.new.session).0 ∙ with_session-set c.args.id c.settle.new.session es c.get_mut.ensures.unique in
     let before : PeerValue = with_parts p c.args.db.now sessions in
     let after : Settling = settling_at c.settle.new.db c.args.id c.settle.new.session in
     let refuses = g.F.WriteFilter.refuses c.args.filter.now in
-    let known = known_of c.settle.new.db c.settle.new.refusals in
+    let known = known_of c.settle.new.db c.settle.new.ledgered in
     let same = sym (with_session-set c.args.id c.in-Some.session.now es c.get_mut.ensures.unique) ∙ sessions_of-same c.args.id c.in-Some.session.now c.in-Some.session.now es c.get_mut.ensures.unique there refl in
     subst (λ (l : List SessionValue). SettleGives refuses before c.args.id c.args.parcel c.settle.result (with_parts p c.settle.new.db l)) (sym table)
     (settle_gives refuses known before c.args.id s c.args.parcel c.settle.result after found same (record { at = λ id r. ap (λ b. has (tree_of c.settle.new.db.docs id) r || b) (index id r) }) c.settle.ensures.gives)
@@ -60,7 +60,7 @@ returns-in-Some-clause-index g c =
     let found = session_in-found c.args.id es c.in-Some.session.now c.get_mut.ensures.unique there in
     let held = (session_found sessions c.args.id s found).0 in
     let stands = c.requires.1 in
-    let index = index_after sessions c.args.refusals.now c.settle.new.refusals s t stands.index stands.law.distinct held refl c.settle.ensures.ledger (c.settle.ensures.indexed c.args.refusals.now) in
+    let index = index_after sessions c.args.ledgered.now c.settle.new.ledgered s t stands.index stands.law.distinct held refl c.settle.ensures.ledger (c.settle.ensures.indexed c.args.ledgered.now) in
     let table = ap sessions_of (c.get_mut.follows.holds c.settle.new.session).0 ∙ with_session-set c.args.id c.settle.new.session es c.get_mut.ensures.unique in
     λ id r. index id r ∙ ap (λ l. in_ledgers l id r) (sym table)
 

@@ -5,4 +5,4 @@ use Rattle.repl_target.proofs.rows.first_unknown.Given as goal
 
 -- none of the rows so far has an unknown leaf
 abbrev pub invariant-loop-row : goal.invariant-loop-row
-invariant-loop-row l = first_unknown (known_of l.db l.refusals) (drop l.row-index l.rows) ≡ first_unknown (known_of l.db l.refusals) l.rows
+invariant-loop-row l = first_unknown (known_of l.db l.ledgered) (drop l.row-index l.rows) ≡ first_unknown (known_of l.db l.ledgered) l.rows

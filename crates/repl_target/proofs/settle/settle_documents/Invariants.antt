@@ -2,7 +2,7 @@ use Rattle.std.proofs.Common.{◌≡◌, ◌≤◌, ◌+◌, ◌-◌, Some, true
 use Rattle.std.specs.List.{list_all}
 use Rattle.couch_base.specs.Database.{most}
 use Rattle.couch_base.specs.Feed.{WindowValue}
-use Rattle.repl_target.specs.declared.refusals.Refusals.{Refusals as RefusedIndex}
+use Rattle.repl_target.specs.declared.ledger_index.LedgerIndex.{LedgerIndex}
 use Rattle.repl_target.specs.Settling.{has_row}
 use Rattle.repl_target.specs.SettleParts.{Reached, Indexes, settling_at, ledger_of}
 use Rattle.repl_target.proofs.settle.settle_documents.Given as goal
@@ -19,7 +19,7 @@ invariant-loop-doc g l = record {
   counts : l.session.read ≡ l.session.written + l.session.failures;
   front : l.session.front ≡ l.fn.session.front;
   windows : l.session.windows ≡ l.fn.session.windows;
-  indexed : (base : RefusedIndex) → Indexes base (ledger_of l.fn.session) l.fn.refusals → Indexes base (ledger_of l.session) l.refusals;
+  indexed : (base : LedgerIndex) → Indexes base (ledger_of l.fn.session) l.fn.ledgered → Indexes base (ledger_of l.session) l.ledgered;
 }
 
 abbrev pub decreases-loop-doc : goal.decreases-loop-doc

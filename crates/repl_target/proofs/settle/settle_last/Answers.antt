@@ -30,12 +30,12 @@ returns-clause-settled g c =
     let split = c.pop.ensures.items ∙ ap (λ o. c.pop.new.self.items ++ option_to_list o) c.unwrap-doc-2.ensures in (
       c.unwrap-doc.result.now,
       split ∙ ap (λ (x : Document). c.pop.new.self.items ++ x ∷ []) (sym (same_doc g c)),
-      λ id. steps_from (g.F.WriteFilter.refuses c.args.filter.now) c.args.origin c.unwrap-doc.result.now c.args.db.now c.decide.new.db c.args.refusals.now c.decide.new.refusals c.in_ok-reason.reason (session_value id c.args.session.now) (session_value id c.enter.new.session)
+      λ id. steps_from (g.F.WriteFilter.refuses c.args.filter.now) c.args.origin c.unwrap-doc.result.now c.args.db.now c.decide.new.db c.args.ledgered.now c.decide.new.ledgered c.in_ok-reason.reason (session_value id c.args.session.now) (session_value id c.enter.new.session)
           c.in_ok-reason.ensures.reason c.in_ok-reason.ensures.decided (session_is g c id),
     )
 
 pub returns-clause-indexed : goal.returns-clause-indexed
 returns-clause-indexed g c = λ base h.
     let id : SessionId = record { 0 = 0 } in
-    indexes_from c.args.origin c.unwrap-doc.result.now c.args.db.now c.decide.new.db c.args.refusals.now c.decide.new.refusals base c.in_ok-reason.reason (session_value id c.args.session.now) (session_value id c.enter.new.session)
+    indexes_from c.args.origin c.unwrap-doc.result.now c.args.db.now c.decide.new.db c.args.ledgered.now c.decide.new.ledgered base c.in_ok-reason.reason (session_value id c.args.session.now) (session_value id c.enter.new.session)
     c.in_ok-reason.ensures.decided (session_is g c id) h

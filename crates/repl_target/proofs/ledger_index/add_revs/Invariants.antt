@@ -2,7 +2,7 @@ use Rattle.std.proofs.Common.{◌≡◌, ◌≤◌, ◌||◌, ◌+◌, take}
 use Rattle.rev_core.specs.Rev.{RevId}
 use Rattle.rev_core.specs.Ancestry.{is_among}
 use Rattle.indexmap.specs.IndexSet.{spare}
-use Rattle.repl_target.proofs.refusals.add_revs.Given as goal
+use Rattle.repl_target.proofs.ledger_index.add_revs.Given as goal
 
 -- the revisions so far are added, and there is room for the others
 abbrev pub invariant-loop-rev : goal.invariant-loop-rev

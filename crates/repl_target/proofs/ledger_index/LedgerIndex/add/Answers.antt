@@ -6,7 +6,7 @@ use Rattle.std.specs.Str.{bytes_eq}
 use Rattle.rev_core.specs.Ancestry.{is_among}
 use Rattle.couch_base.specs.Database.{Id}
 use Rattle.repl_target.proofs.Refusing.{added_new}
-use Rattle.repl_target.proofs.refusals.Refusals.add.Goals as goal
+use Rattle.repl_target.proofs.ledger_index.LedgerIndex.add.Goals as goal
 
 abbrev entries_of : {K V S : Type 0} → HashMap K V S → List (K × V)
 entries_of m = m.entries

@@ -1,6 +1,6 @@
 use Rattle.std.proofs.Common.{arith}
 use Rattle.repl_target.proofs.Refusing.{among_next}
-use Rattle.repl_target.proofs.refusals.add_revs.Goals as goal
+use Rattle.repl_target.proofs.ledger_index.add_revs.Goals as goal
 
 pub loop-rev-preserved : goal.loop-rev-preserved
 loop-rev-preserved c = record {

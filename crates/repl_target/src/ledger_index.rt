@@ -1,4 +1,4 @@
-//! The revisions of the documents that were refused.
+//! The index of ledgered revisions: which revisions a refused document stands for.
 ghost use Rattle.std.specs.Prelude.{◌≡◌, ◌≤◌, ◌||◌, ◌&&◌, false, length, OnOk, OnErr};
 ghost use Rattle.std.specs.Str.{bytes_eq};
 ghost use Rattle.rev_core.specs.Rev.{RevId};
@@ -10,27 +10,27 @@ use indexmap::{IndexMap, IndexSet};
 use rev_core::Rev;
 use std::alloc::{AllocError, Global};
 
-/// The revisions in the ancestries of refused documents, by document.
+/// The revisions in the ancestries of ledgered documents, by document.
 #[derive(Drop)]
-pub(crate) struct Refusals {
+pub(crate) struct LedgerIndex {
     docs: IndexMap<DocId, IndexSet<Rev>>,
 }
 
-impl Refusals {
-    ghost use Rattle.repl_target.specs.Refusals.{is_refused};
+impl LedgerIndex {
+    ghost use Rattle.repl_target.specs.LedgerIndex.{is_ledgered};
 
     /// No revisions. It grows by `alloc`.
-    pub(crate) fn new(alloc: Global) -> Refusals
-        ensures { (id : Id) (r : RevId) → is_refused result id r ≡ false }
+    pub(crate) fn new(alloc: Global) -> LedgerIndex
+        ensures { (id : Id) (r : RevId) → is_ledgered result id r ≡ false }
     {
-        Refusals {
+        LedgerIndex {
             docs: IndexMap::new(alloc),
         }
     }
 
-    /// Whether a revision is in the ancestry of a refused document of an id.
+    /// Whether a revision is in the ancestry of a ledgered document of an id.
     pub(crate) fn has(&self, id: &DocId, rev: Rev) -> bool
-        ensures { result ≡ is_refused self.now id.now rev }
+        ensures { result ≡ is_ledgered self.now id.now rev }
     {
         match self.docs.get(id) {
             Some(revs) => revs.contains(&rev),
@@ -38,13 +38,13 @@ impl Refusals {
         }
     }
 
-    /// Adds the revisions of a refused document. A refusal changes nothing.
+    /// Adds the revisions of a document that goes into the ledger. A refusal changes nothing.
     pub(crate) fn add(&mut self, doc: &Doc) -> Result<(), AllocError>
         ensures ok { OnOk result
             ((id : Id) (r : RevId)
-            → is_refused self.new id r
-            ≡ (is_refused self.old id r || (bytes_eq doc.now.id id && is_among r doc.now.ancestry))) }
-        ensures err { OnErr result ((id : Id) (r : RevId) → is_refused self.new id r ≡ is_refused self.old id r) }
+            → is_ledgered self.new id r
+            ≡ (is_ledgered self.old id r || (bytes_eq doc.now.id id && is_among r doc.now.ancestry))) }
+        ensures err { OnErr result ((id : Id) (r : RevId) → is_ledgered self.new id r ≡ is_ledgered self.old id r) }
     {
         let alloc = *self.docs.allocator();
         match self.docs.get_mut(doc.id()) {
