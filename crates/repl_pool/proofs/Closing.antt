@@ -1,5 +1,5 @@
 -- The end of a run at both peers.
-use Rattle.std.proofs.Common.{◌≡◌, ◌⊎◌, ℕ, Bool, Option, None, Result, Ok, Err, IfOk, OnOk, refl, sym, subst, inl, inr}
+use Rattle.std.proofs.Common.{◌≡◌, ℕ, Bool, Option, None, Result, Ok, Err, IfOk, OnOk, refl, sym, subst, inl, inr}
 use Rattle.repl_log.specs.declared.replication.RepId.{RepId}
 use Rattle.repl_log.specs.Entry.{EntryValue}
 use Rattle.repl_target.specs.declared.fault.Report.{Report}

@@ -6,7 +6,6 @@ use Rattle.repl_pool.specs.declared.gate.Place.{Place}
 use Rattle.repl_pool.specs.declared.fault.Halt.{Halt}
 use Rattle.repl_pool.specs.declared.fault.Halt.TheVariants as halts
 use Rattle.repl_pool.specs.declared.fault.PoolFault.{PoolFault}
-use Rattle.repl_pool.specs.declared.fault.PoolFault.TheVariants as faults
 
 allowed_late : (P : Place → Type 0) (h : Halt) → Allows P h → IsLate P (fault_of h)
 allowed_late P (halts.Stopped place) a = a

@@ -1,4 +1,4 @@
-use Rattle.std.proofs.Common.{◌≡◌, IfSome, Option, ap, sym, ◌∙◌, subst, sum, length, arith}
+use Rattle.std.proofs.Common.{◌≡◌, IfSome, Option, sym, subst, length, arith}
 use Rattle.std.proofs.lemmas.Bool.{eqb-true}
 use Rattle.crossbeam_channel.specs.Claims.{view}
 use Rattle.repl_pool.specs.Faults.{Allows}
