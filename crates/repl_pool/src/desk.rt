@@ -1,8 +1,11 @@
 //! What lies under the lock: the target, and a book of what its session has read.
-ghost use Rattle.std.specs.Prelude.{◌≡◌, ℕ, ◌+◌, ◌<◌, length, Some};
+ghost use Rattle.std.specs.Prelude.{◌≡◌, ℕ, ◌+◌, ◌<◌, length, Some, IfSome, IfOk, OnOk, OnErr};
 ghost use Rattle.rev_tree.specs.declared.origin.SessionId.{SessionId};
 ghost use Rattle.repl_pool.specs.Grown.{DeskKeeps};
+ghost use Rattle.couch_base.specs.Messages.{revs_diff};
 ghost use Rattle.repl_target.specs.ReadCounts.{read_in, taken};
+ghost use Rattle.repl_target.specs.Sessions.{GivesUnlessMemory, append_answer, after_append, record_answer, after_record};
+ghost use Rattle.repl_target.specs.Settling.{SettleGives};
 
 use crate::messages::{Fetched, Paged};
 use crate::picks::{Given, Origin};
@@ -15,7 +18,7 @@ use std::marker::{Model, PhantomData};
 use std::sync::ledger::{Book, Ledger, Share};
 
 /// The target: the given one after calls whose messages are what the source answers. The book is what the run's session has
-/// read.
+/// read. Each method is the call of the same name on the target, for that session.
 #[derive(Drop)]
 pub struct Desk<F: WriteFilter, S: Origin, J: Given<F>, L: Ledger> {
     target: Peer<F>,
@@ -59,6 +62,7 @@ impl<F: WriteFilter, S: Origin, J: Given<F>, L: Ledger> Desk<F, S, J, L> {
         requires given { J.given ≡ Some (target, session) }
         requires none { read_in target.1.sessions session ≡ 0 }
         requires book { book.total ≡ 0 }
+        ensures { result ≡ target }
     {
         Desk {
             target,
@@ -70,13 +74,20 @@ impl<F: WriteFilter, S: Origin, J: Given<F>, L: Ledger> Desk<F, S, J, L> {
     }
 
     /// Stores a page of the source in the run's session: `Peer::append`.
-    pub fn append(&mut self, page: Paged<S>) -> Result<(), TargetFault> {
+    pub fn append(&mut self, page: Paged<S>) -> Result<(), TargetFault>
+        ensures filter { self.new.0 ≡ self.old.0 }
+        ensures answer { IfSome J.given (λ g. GivesUnlessMemory result (append_answer self.old.1 g.1 page)) }
+        ensures ok { OnOk result (IfSome J.given (λ g. self.new.1 ≡ after_append self.old.1 g.1 page)) }
+        ensures err { OnErr result (self.new.1 ≡ self.old.1) }
+    {
         let window = page.into_window();
         self.target.append(self.session, window)
     }
 
     /// What the target misses of a page. The only error is `Memory`.
-    pub fn diff(&self, alloc: Global, page: &Paged<S>) -> Result<Asked, BaseFault> {
+    pub fn diff(&self, alloc: Global, page: &Paged<S>) -> Result<Asked, BaseFault>
+        ensures { IfOk result (λ asked. asked ≡ revs_diff self.now.1.db page.now) }
+    {
         self.target.revs_diff(alloc, page.window())
     }
 
@@ -89,6 +100,8 @@ impl<F: WriteFilter, S: Origin, J: Given<F>, L: Ledger> Desk<F, S, J, L> {
         requires { 0 < share.old.parts }
         ensures parts { share.new.parts ≡ share.old.parts }
         ensures taken { share.new.amount ≡ share.old.amount + taken result (length fetched.docs) }
+        ensures filter { self.new.0 ≡ self.old.0 }
+        ensures settles { IfSome J.given (λ g. SettleGives (F.refuses self.old.0) self.old.1 g.1 fetched result self.new.1) }
     {
         // The reading tells the proof that the peer is lawful.
         let _uuid = self.target.db().uuid();
@@ -101,7 +114,11 @@ impl<F: WriteFilter, S: Origin, J: Given<F>, L: Ledger> Desk<F, S, J, L> {
     }
 
     /// Records what is done: `Peer::record`.
-    pub fn record(&mut self, at: Moment) -> Result<u64, TargetFault> {
+    pub fn record(&mut self, at: Moment) -> Result<u64, TargetFault>
+        ensures filter { self.new.0 ≡ self.old.0 }
+        ensures answer { IfSome J.given (λ g. result ≡ record_answer self.old.1 g.1) }
+        ensures peer { IfSome J.given (λ g. self.new.1 ≡ after_record self.old.1 g.1 at) }
+    {
         self.target.record(self.session, at)
     }
 

@@ -35,7 +35,8 @@ pub struct Fetcher<S: Origin> {
 
 /// Asks the gate: an error where it answers `Stop`.
 pub fn pass<G: Gate, R: Wait>(rt: &R, gate: &G, place: Place) -> Result<(), Halt>
-    ensures { IfErr result (Allows (G.may_stop gate.now)) }
+    ensures place { IfErr result (λ halt. halt ≡ Halt.Stopped place) }
+    ensures allowed { IfErr result (Allows (G.may_stop gate.now)) }
 {
     match gate.at(rt, place) {
         Turn::Go => Ok(()),

@@ -2,6 +2,7 @@
 ghost use Rattle.std.specs.Prelude.{◌≡◌, ◌<◌, ◌≤◌, length, IfOk};
 ghost use Rattle.repl_target.specs.Calls.{IsPageOf};
 ghost use Rattle.couch_base.specs.Feed.{page};
+ghost use Rattle.couch_base.specs.Messages.{open_revs};
 ghost use Rattle.repl_pool.specs.Grown.{IsAnswerOf};
 
 use crate::picks::Origin;
@@ -110,6 +111,7 @@ impl<S: Origin> Fetched<S> {
         asked: &Asked,
     ) -> Result<Fetched<S>, AllocError>
         requires { S.source ≡ source.now.1.db }
+        ensures { IfOk result (λ p. p ≡ open_revs source.now.1.db asked.now) }
     {
         match source.open_revs(alloc, asked) {
             Ok(parcel) => Ok(Fetched {

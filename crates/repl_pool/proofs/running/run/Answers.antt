@@ -1,7 +1,8 @@
-use Rattle.std.proofs.Common.{rules, sym, ap, ◌∙◌}
+use Rattle.std.proofs.Common.{rules, ◌≡◌, Ok, sym, ap, ◌∙◌}
 use Rattle.repl_target.specs.Peer.{PeerValue}
 use Rattle.repl_target.specs.ReadCounts.{read_in}
 use Rattle.repl_target.proofs.ReadCounts.{begun_reads}
+use Rattle.repl_pool.specs.Faults.{early_answer}
 use Rattle.repl_pool.proofs.Ending.{begun_held}
 use Rattle.repl_pool.proofs.RunLaws.{Passes, passes, runs_early, runs_refused, runs_begun}
 use Rattle.repl_pool.proofs.running.run.Goals as goal
@@ -22,8 +23,9 @@ pub returns-in-Ok : goal.returns-in-Ok
 returns-in-Ok g c = record {
   runs =
       let e = c.in-Ok.ensures in
+      let early : early_answer c.args.source.1 c.args.target.1 c.args.plan.now ≡ Ok tt = sym c.check_run.ensures ∙ c.in_default.is in
       runs_begun g.F.WriteFilter.refuses (g.G.Gate.may_stop c.args.gate.now) c.args.plan.now c.args.source c.args.target c.begin_plan.new.target _ _ c.run_begun.result.source c.run_begun.result.target _
-      (sym c.check_run.ensures ∙ c.in_default.is) e.source_law c.db-2.ensures.law e.target_law e.ok.0 e.filter e.ok.1 e.start
+      early e.source_law c.db-2.ensures.law e.target_law e.ok.0 e.filter e.ok.1 e.start
       c.run_begun.ensures.filter c.run_begun.ensures.source c.run_begun.ensures.grown c.run_begun.ensures.ends;
 }
 
@@ -36,5 +38,6 @@ returns-in-Err g c = record {
 pub returns-in-Err-begin_plan : goal.returns-in-Err-begin_plan
 returns-in-Err-begin_plan g c = record {
   runs =
-      runs_refused g.F.WriteFilter.refuses (g.G.Gate.may_stop c.args.gate.now) c.args.plan.now c.args.source c.args.target _ _ c.begin_plan.new.target (sym c.check_run.ensures ∙ c.in_default.is) c.in-Err-begin_plan.ensures.filter c.in-Err-begin_plan.ensures.err;
+      let early : early_answer c.args.source.1 c.args.target.1 c.args.plan.now ≡ Ok tt = sym c.check_run.ensures ∙ c.in_default.is in
+      runs_refused g.F.WriteFilter.refuses (g.G.Gate.may_stop c.args.gate.now) c.args.plan.now c.args.source c.args.target _ _ c.begin_plan.new.target early c.in-Err-begin_plan.ensures.filter c.in-Err-begin_plan.ensures.err;
 }
