@@ -1,0 +1,9 @@
+pub mod Sums
+pub mod ParcelRule
+pub mod WindowRule
+pub mod Growing
+pub mod Steps
+pub mod Ending
+pub mod Halting
+pub mod Closing
+pub mod RunLaws

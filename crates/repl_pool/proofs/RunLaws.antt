@@ -1,0 +1,173 @@
+-- What a run says, from what came out of the lock.
+use Rattle.std.proofs.Common.{◌≡◌, ℕ, ◌<◌, ◌≤◌, ◌==◌, Bool, true, false, cond, nat_lt, List, [], Option, Some, None, Result, Ok, Err, is_ok, is_some, IfOk, IfErr, IfSome, sum, refl, sym, ap, ◌∙◌, subst, inl, inr, arith}
+use Rattle.std.proofs.lemmas.Bool.{cond_both, false≢true}
+use Rattle.std.proofs.lemmas.Bool.Decides.{nat_tests}
+use Rattle.rev_tree.specs.declared.origin.SessionId.{SessionId}
+use Rattle.doc_json.specs.Document.{Document}
+use Rattle.couch_base.specs.Database.{DatabaseValue, LawfulDatabase}
+use Rattle.couch_base.specs.Feed.{feed}
+use Rattle.repl_target.specs.declared.fault.Report.{Report}
+use Rattle.repl_target.specs.declared.fault.TargetFault.{TargetFault}
+use Rattle.repl_target.specs.declared.replication.Plan.{Plan}
+use Rattle.repl_target.specs.Calls.{IsGrown}
+use Rattle.repl_target.specs.Covered.{Leaf, covers, first_uncovered}
+use Rattle.repl_target.specs.Peer.{PeerValue}
+use Rattle.repl_target.specs.Law.{Lawful}
+use Rattle.repl_target.specs.ReadCounts.{read_in}
+use Rattle.repl_target.specs.Sessions.{record_answer}
+use Rattle.repl_target.specs.Replication.{is_batch, start_between, begins_answer, after_begins}
+use Rattle.repl_target.proofs.Covering.{start_small}
+use Rattle.repl_target.proofs.Keeping.{IsLaterPeer-same}
+use Rattle.repl_target.proofs.Replicated.{grown-same}
+use Rattle.repl_target.proofs.Taken.{all_known}
+use Rattle.repl_pool.specs.Grown.{GrownPeer, DeskKeeps}
+use Rattle.repl_pool.specs.Runs.{IsConcluded, unfinished_at, IsRecorded, stopped, fewer, refused, PutsEntry, Walks, clean, hole, no_memory, Ends, concluded, recorded, EndsRun, EndsWell, EarlyOrLate, Runs}
+use Rattle.repl_pool.specs.Faults.{early_answer, IsLate}
+use Rattle.repl_pool.specs.declared.gate.Place.{Place}
+use Rattle.repl_pool.specs.declared.fault.PoolFault.{PoolFault}
+use Rattle.repl_pool.specs.declared.fault.PoolFault.TheVariants as faults
+use Rattle.repl_pool.proofs.Growing.{from_given}
+use Rattle.repl_pool.proofs.Ending.{ends_well, grown_same, grown_then, grown_begins, peer_later, peers_tied}
+
+-- ---- what was given
+
+module _ {F : Type 0} (refuses : F → Document → Bool) (db source : DatabaseValue) (origin : source ≡ db) (given : F × PeerValue) (run : SessionId) (o : Option ((F × PeerValue) × SessionId)) (is : o ≡ Some (given, run)) where
+  pub given_grown : (session : SessionId) (total : ℕ) (t : F × PeerValue) → DeskKeeps refuses source o session total t → GrownPeer refuses db given t × (read_in t.1.sessions run ≡ total)
+  given_grown session total t h =
+      from_given refuses db given run session total t (subst (λ s. DeskKeeps refuses s (Some (given, run)) session total t) origin (subst (λ x. DeskKeeps refuses source x session total t) is h))
+
+-- ---- how a run ends
+
+unfinished_late : (P : Place → Type 0) (r : Result ℕ TargetFault) → IsLate P (unfinished_at r)
+unfinished_late P (Ok n) = tt
+unfinished_late P (Err why) = tt
+
+-- where the session is recorded, a halt is told where the gate allows it
+recorded_late : (P : Place → Type 0) (plan : Plan) (fault : Option PoolFault) (complete : Bool) (before after : PeerValue) (why : PoolFault) → IfSome fault (IsLate P) → IsRecorded plan fault complete before after why → IsLate P why
+recorded_late P plan fault complete before after why late (stopped e same) = subst (λ (x : Option PoolFault). IfSome x (IsLate P)) e late
+recorded_late P plan fault complete before after why late (fewer none less same) = unfinished_late P (record_answer before plan.session)
+recorded_late P plan fault complete before after why late (refused none whole answer same) = tt
+
+module _ {F : Type 0} (refuses : F → Document → Bool) (may_stop : Place → Type 0) (source target : PeerValue) (begun : F × PeerValue) (plan : Plan) (start : ℕ) (counts : List ℕ) (source' now : PeerValue) (law : LawfulDatabase source.db) (l : Lawful (refuses begun.0) begun.1) (ok : begins_answer source target plan ≡ Ok tt) (is : begun.1 ≡ after_begins source target plan) (first : start ≡ start_between source target) where
+  -- what a session says that concluded
+  concluded_well : (fault : Option PoolFault) (complete : Bool) (before : PeerValue) (report : Report) → IsGrown (refuses begun.0) source.db begun.1 before → (fault ≡ None → complete ≡ true → read_in before.sessions plan.session ≡ sum counts)
+      → IsConcluded plan fault complete before now report → EndsWell source target now plan (sum counts) report
+  concluded_well fault complete before report grown read c =
+      ends_well (refuses begun.0) source target plan before now report (sum counts) law (subst (Lawful (refuses begun.0)) is l) ok
+      (subst (λ p. IsGrown (refuses begun.0) source.db p before) is grown) (read c.free c.whole) c.answer c.peer
+
+  -- so the walk finds nothing
+  no_hole : (report : Report) → EndsWell source target now plan (sum counts) report → (leaf : Leaf) → first_uncovered now (feed source.db start source.db.update_seq) ≡ Some leaf → ⊥
+  no_hole report w leaf some =
+      let none : first_uncovered now (feed source.db start source.db.update_seq) ≡ None =
+      ap (λ n. first_uncovered now (feed source.db n source.db.update_seq)) first ∙ all_known (covers now) (feed source.db (start_between source target) source.db.update_seq) w.covered in
+      false≢true (ap is_some (sym none ∙ some))
+
+  walk_well : (report : Report) (outcome : Result Report PoolFault) → Walks source now plan start report source' outcome → EndsWell source target now plan (sum counts) report → IfOk outcome (EndsWell source target now plan (sum counts))
+  walk_well report outcome (clean none put) w = w
+  walk_well report outcome (hole found same) w = tt
+  walk_well report outcome (no_memory put) w = tt
+
+  walk_late : (report : Report) (outcome : Result Report PoolFault) → Walks source now plan start report source' outcome → EndsWell source target now plan (sum counts) report → IfErr outcome (IsLate may_stop) × PutsEntry source now source' plan outcome
+  walk_late report outcome (clean none put) w = (tt, put)
+  walk_late report outcome (hole found same) w = absurd (no_hole report w _ found)
+  walk_late report outcome (no_memory put) w = (tt, put)
+
+  pub run_well : (outcome : Result Report PoolFault) → EndsRun refuses may_stop plan start source begun counts source' now outcome → IfOk outcome (EndsWell source target now plan (sum counts))
+  run_well outcome e = go outcome e.ends
+    where
+      go : (o : Result Report PoolFault) → Ends plan start e.fault e.complete source e.before source' now o → IfOk o (EndsWell source target now plan (sum counts))
+      go o (concluded c w) = walk_well _ o w (concluded_well e.fault e.complete e.before _ e.grown e.read c)
+      go o (recorded r put) = tt
+
+  pub run_late : (outcome : Result Report PoolFault) → EndsRun refuses may_stop plan start source begun counts source' now outcome → IfErr outcome (IsLate may_stop) × PutsEntry source now source' plan outcome
+  run_late outcome e = go outcome e.ends
+    where
+      go : (o : Result Report PoolFault) → Ends plan start e.fault e.complete source e.before source' now o → IfErr o (IsLate may_stop) × PutsEntry source now source' plan o
+      go o (concluded c w) = walk_late _ o w (concluded_well e.fault e.complete e.before _ e.grown e.read c)
+      go o (recorded r put) = (recorded_late may_stop plan e.fault e.complete e.before now _ e.late r, put)
+
+-- ---- what it says
+
+-- no worker was started
+pub no_workers : {F : Type 0} (refuses : F → Document → Bool) (may_stop : Place → Type 0) (plan : Plan) (start : ℕ) (source : PeerValue) (given : F × PeerValue) (counts : List ℕ) (source' after : PeerValue) (outcome : Result Report PoolFault)
+    → Ends plan start (Some faults.Memory) false source given.1 source' after outcome → EndsRun refuses may_stop plan start source given counts source' after outcome
+no_workers refuses may_stop plan start source given counts source' after outcome e = record {
+  fault = Some faults.Memory;
+  complete = false;
+  before = given.1;
+  grown = grown-same (refuses given.0) source.db given.1;
+  late = tt;
+  read = λ none whole. absurd (false≢true whole);
+  ends = e;
+}
+
+module _ {F : Type 0} (refuses : F → Document → Bool) (may_stop : Place → Type 0) (plan : Plan) (source target : F × PeerValue) where
+  -- refused early
+  pub runs_early : (fetched : List ℕ) (why : PoolFault) → early_answer source.1 target.1 plan ≡ Err why → fetched ≡ [] → Runs refuses may_stop plan source target source target fetched (Err why)
+  runs_early fetched why early none = record {
+    early = subst (λ r. EarlyOrLate may_stop r source target source target fetched (Err why)) (sym early) (refl, refl, refl, none);
+    filter = refl;
+    log = refl;
+    grown = grown_same refuses source.1.db target;
+    later = IsLaterPeer-same target.1;
+    tied = λ tied. tied;
+    put = inl (refl, refl, refl);
+    well = tt;
+  }
+
+  -- the session isn't begun
+  pub runs_refused : (fetched : List ℕ) (why : TargetFault) (target' : F × PeerValue) → early_answer source.1 target.1 plan ≡ Ok tt → target'.0 ≡ target.0 → target'.1 ≡ target.1
+      → Runs refuses may_stop plan source target source target' fetched (Err (faults.Refused why))
+  runs_refused fetched why target' early filter peer =
+      let same : target' ≡ target = λ i. (filter i, peer i) in
+      subst (λ t. Runs refuses may_stop plan source target source t fetched (Err (faults.Refused why))) (sym same)
+      (record {
+        early = subst (λ r. EarlyOrLate may_stop r source target source target fetched (Err (faults.Refused why))) (sym early) tt;
+        filter = refl;
+        log = refl;
+        grown = grown_same refuses source.1.db target;
+        later = IsLaterPeer-same target.1;
+        tied = λ tied. tied;
+        put = inl (refl, refl, refl);
+        well = tt;
+      })
+
+  -- the workers were to be started
+  pub runs_begun : (begun : F × PeerValue) (start : ℕ) (counts : List ℕ) (source' target' : F × PeerValue) (outcome : Result Report PoolFault) → early_answer source.1 target.1 plan ≡ Ok tt
+      → LawfulDatabase source.1.db → Lawful (refuses target.0) target.1 → Lawful (refuses begun.0) begun.1 → begins_answer source.1 target.1 plan ≡ Ok tt → begun.0 ≡ target.0 → begun.1 ≡ after_begins source.1 target.1 plan → start ≡ start_between source.1 target.1
+      → source'.0 ≡ source.0 → source'.1 ≡ record source.1 { outgoing = source'.1.outgoing } → GrownPeer refuses source.1.db begun target' → EndsRun refuses may_stop plan start source.1 begun counts source'.1 target'.1 outcome
+      → Runs refuses may_stop plan source target source' target' counts outcome
+  runs_begun begun start counts source' target' outcome early law lawful lawful_begun ok same is first filter log more e =
+      let grown = grown_then refuses source.1.db target begun target' (grown_begins refuses source.1.db source.1 target begun plan refl (start_small (refuses target.0) source.1 target.1 lawful) same is) more in
+      let late = run_late refuses may_stop source.1 target.1 begun plan start counts source'.1 target'.1 law lawful_begun ok is first outcome e in
+      record {
+        early = subst (λ r. EarlyOrLate may_stop r source target source' target' counts outcome) (sym early) late.0;
+        filter = filter;
+        log = log;
+        grown = grown;
+        later = peer_later refuses source.1 target target' law lawful grown;
+        tied = peers_tied refuses source.1 target source'.1 target' law lawful grown (ap (λ (q : PeerValue). q.db) log);
+        put = inr late.1;
+        well = run_well refuses may_stop source.1 target.1 begun plan start counts source'.1 target'.1 law lawful_begun ok is first outcome e;
+      }
+
+-- ---- a plan that isn't refused early
+
+pub record Passes (plan : Plan) : Type 0 where
+  pub some : 0 < plan.workers
+  pub most : plan.workers ≤ 64
+  pub batch : is_batch plan.batch ≡ true
+
+pub passes : (source target : PeerValue) (plan : Plan) → early_answer source target plan ≡ Ok tt → Passes plan
+passes source target plan h =
+    let rest = cond (is_batch plan.batch) (cond (source.db.uuid == target.db.uuid) (Err faults.SamePeer) (Ok tt)) (Err faults.BadBatch) in
+    let Asks : Result (Unit {0}) PoolFault → Type 0 = λ r. r ≡ Ok tt → Passes plan in
+    cond_both (plan.workers == 0) (Err faults.NoWorkers) (cond (nat_lt 64 plan.workers) (Err faults.TooManyWorkers) rest) Asks
+    (λ _ k. absurd (false≢true (ap is_ok k)))
+    (λ none. cond_both (nat_lt 64 plan.workers) (Err faults.TooManyWorkers) rest Asks
+    (λ _ k. absurd (false≢true (ap is_ok k)))
+    (λ few. cond_both (is_batch plan.batch) (cond (source.db.uuid == target.db.uuid) (Err faults.SamePeer) (Ok tt)) (Err faults.BadBatch) Asks
+    (λ batch _. record { some = grind (arith, nat_tests, none); most = grind (arith, nat_tests, few); batch = batch })
+    (λ _ k. absurd (false≢true (ap is_ok k)))))
+    h

@@ -1,0 +1,24 @@
+use Rattle.std.proofs.Common.{rules, ap, sym, ◌∙◌, arith, length}
+use Rattle.crossbeam_channel.specs.Claims.{view}
+use Rattle.repl_pool.specs.Workers.{names}
+use Rattle.repl_pool.proofs.Steps.{SentOne, sent_one}
+use Rattle.repl_pool.specs.declared.parcels.Hand.{Hand}
+use Rattle.std.proofs.lemmas.List.{append-nil}
+use Rattle.repl_pool.proofs.fetcher.Fetcher.hand_over.Goals as goal
+
+pub put-requires-clause-part : goal.put-requires-clause-part
+put-requires-clause-part g c = let e = ap (λ (y : Hand). y.parts) c.requires.counted.1 in omega (arith, e)
+
+pub returns-then-put-clause-knows : goal.returns-then-put-clause-knows
+returns-then-put-clause-knows g c =
+    let k = c.requires.counted in
+    let s : SentOne (view c.args.self.now.parcels) (c.args.number, length c.args.fetched.docs) (view c.put.new.pass) =
+    sent_one _ _ _ k.1 (search rules) in (
+      k.0,
+      s.0,
+      omega (arith, s.1, k.2),
+      λ none. (
+        omega (arith, s.2, k.4),
+        k.5 ∙ sym s.3 ∙ sym (append-nil (names (view c.put.new.pass).sent)),
+      ),
+    )

@@ -1,0 +1,17 @@
+use Rattle.std.proofs.Common.{◌≡◌, ◌+◌, [], vec_len, vec_items}
+use Rattle.std.specs.List.{All}
+use Rattle.crossbeam_channel.specs.Claims.{view, IsSeatAt}
+use Rattle.crossbeam_channel.specs.Ends.{sends_on}
+use Rattle.repl_pool.specs.Parcels.{hand}
+use Rattle.repl_pool.proofs.start.start_writers.Given as goal
+
+abbrev pub invariant-loop-i : goal.invariant-loop-i
+invariant-loop-i g l = record {
+  parcel_seat : IsSeatAt (sends_on l.lines.to_writers) l.parcels;
+  parcel_view : view l.parcels ≡ hand (view l.parcels).parts [] [];
+  parcel_parts : (view l.parcels).parts + l._i ≡ (view l.initial.parcels).parts;
+  all_parts : l.all.parts + l._i ≡ l.workers;
+  all_amount : l.all.amount ≡ 0;
+  count : vec_len l.started ≡ l._i;
+  promised : All (λ h. (h.promise.lines.now ≡ l.lines) × (h.promise.gate.now ≡ l.gate)) (vec_items l.started);
+}

@@ -1,0 +1,33 @@
+use Rattle.std.proofs.Common.{◌≡◌, ◌≤◌, ℕ, length, sym, subst, refl}
+use Rattle.crossbeam_channel.specs.Claims.{view}
+use Rattle.repl_pool.specs.Sums.{times}
+use Rattle.repl_pool.specs.Workers.{amounts, names}
+use Rattle.repl_pool.specs.declared.windows.Seen.{Seen}
+use Rattle.repl_pool.specs.declared.parcels.Hand.{Hand}
+use Rattle.repl_pool.proofs.WindowRule as window
+use Rattle.repl_pool.proofs.ParcelRule as parcel
+use Rattle.repl_pool.proofs.Steps.{taken_once, got_once, sums_agree}
+use Rattle.repl_pool.proofs.totals.each_once.Goals as goal
+
+pub learn_as-requires-clause-rule : goal.learn_as-requires-clause-rule
+learn_as-requires-clause-rule g c = window.learns _ _ c.requires.whole.0
+
+pub learn_as-requires-2-clause-rule : goal.learn_as-requires-2-clause-rule
+learn_as-requires-2-clause-rule g c = parcel.learns _ _ c.requires.whole.1
+
+pub returns : goal.returns
+returns g c =
+    let v = view c.args.ended.now.windows in
+    let p = view c.args.ended.now.parcels in
+    let w = c.learn_as.ensures.rule in
+    let s = c.learn_as-2.ensures.rule in
+    let once : (k : ℕ) → times k v.taken ≤ 1 = taken_once v w.0 w.1 in
+    let sv = c.learn_as.ensures.channel.2 in
+    let sp = c.learn_as-2.ensures.channel.2 in
+    record {
+      taken = λ k. subst (λ (y : Seen). times k y.taken ≤ 1) (sym sv) (once k);
+      got = λ none k. subst (λ (y : Hand). times k (names y.got) ≤ 1) (sym sp) (got_once p s.0 v.taken s.1 (c.requires.tells.0 none).2 once k);
+      agree = subst (λ (y : Hand). length y.sent ≡ length y.got → amounts y.sent ≡ amounts y.got) (sym sp) (λ same. sums_agree p s.0 s.1 same);
+      tells = rw (sv, sp) c.requires.tells;
+      same = (refl, refl, refl, refl);
+    }

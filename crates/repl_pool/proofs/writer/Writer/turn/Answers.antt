@@ -1,0 +1,19 @@
+use Rattle.std.proofs.Common.{rules, None, ◌≡◌, ◌<◌, ap, arith, length}
+use Rattle.crossbeam_channel.specs.Claims.{view}
+use Rattle.repl_pool.specs.declared.parcels.Hand.{Hand}
+use Rattle.repl_pool.proofs.ParcelRule.{gets}
+use Rattle.repl_pool.proofs.Steps.{GotOne, got_one}
+use Rattle.repl_pool.proofs.writer.Writer.turn.Goals as goal
+
+pub recv_as-requires-clause-rule : goal.recv_as-requires-clause-rule
+recv_as-requires-clause-rule g c =
+    let part : 0 < (view c.args.self.now.parcels).parts = let e = ap (λ (y : Hand). y.parts) c.requires.knows.0 in omega (arith, e) in
+    (gets _ _ part, λ _ _ _ _. tt)
+
+pub settle-requires : goal.settle-requires
+settle-requires g c =
+    let k = c.requires.knows in
+    let none : c.args.self.now.stopped ≡ None = search rules in
+    let s : GotOne (view c.args.self.now.parcels) (c.in-Ok-Full.number, length c.in-Ok-Full.fetched.docs) (view c.recv_as.new.pass) =
+    got_one _ _ (c.in-Ok-Full.number, length c.in-Ok-Full.fetched.docs) k.0 (rw c.in-Ok-Full.field-0-is at c.in-Ok-Full.ensures.rule) in
+    record { knows = ((s.0, k.1, λ _. (omega (arith, s.1, (k.2 none).0), omega (arith, s.2, (k.2 none).1))), none) }

@@ -1,0 +1,9 @@
+pub mod Sums
+pub mod Parcels
+pub mod Windows
+pub mod Gates
+pub mod Faults
+pub mod Grown
+pub mod Workers
+pub mod Gathered
+pub mod Runs

@@ -1,0 +1,128 @@
+-- A run of the pool: docs/PROFILE.md, "The pool".
+use Rattle.std.specs.Prelude.{◌≡◌, ◌⊎◌, ℕ, Bool, true, false, List, [], Option, Some, None, Result, Ok, Err, IfOk, IfErr, IfSome, IsErr, sum}
+use Rattle.rev_core.specs.Rev.{RevId}
+use Rattle.doc_json.specs.Document.{Document}
+use Rattle.couch_base.specs.Database.{Id}
+use Rattle.couch_base.specs.Feed.{feed}
+use Rattle.repl_log.specs.Entry.{EntryValue}
+use Rattle.repl_target.specs.Audit.{rep_between}
+use Rattle.repl_target.specs.Calls.{IsGrown, IsTiedPair}
+use Rattle.repl_target.specs.Covered.{first_uncovered}
+use Rattle.repl_target.specs.Later.{IsLaterPeer}
+use Rattle.repl_target.specs.Peer.{PeerValue, entry_of}
+use Rattle.repl_target.specs.ReadCounts.{read_in}
+use Rattle.repl_target.specs.Replication.{PutsOver, closed, start_between, CoversFrom, IsReported}
+use Rattle.repl_target.specs.Sessions.{session_answer, record_answer, after_record, conclude_answer, after_conclude}
+use Rattle.repl_target.specs.declared.fault.Report.{Report}
+use Rattle.repl_target.specs.declared.fault.TargetFault.{TargetFault}
+use Rattle.repl_target.specs.declared.fault.TargetFault.TheVariants as refusals
+use Rattle.repl_target.specs.declared.replication.Plan.{Plan}
+use Rattle.repl_pool.specs.Faults.{early_answer, IsLate}
+use Rattle.repl_pool.specs.Grown.{GrownPeer}
+use Rattle.repl_pool.specs.declared.gate.Place.{Place}
+use Rattle.repl_pool.specs.declared.fault.PoolFault.{PoolFault}
+use Rattle.repl_pool.specs.declared.fault.PoolFault.TheVariants as faults
+
+-- ---- how a run ends that began
+
+-- the session was concluded: nothing was refused or stopped, and all was got that was sent
+pub record IsConcluded (plan : Plan) (fault : Option PoolFault) (complete : Bool) (before after : PeerValue) (report : Report) : Type 0 where
+  pub free : fault ≡ None
+  pub whole : complete ≡ true
+  pub answer : conclude_answer before plan.session ≡ Ok report
+  pub peer : after ≡ after_conclude before plan.session plan.at
+
+-- a session that is recorded, not concluded, is unfinished at its low water
+abbrev pub unfinished_at : Result ℕ TargetFault → PoolFault
+unfinished_at (Ok low_water) = faults.Refused (refusals.Unfinished low_water)
+unfinished_at (Err why) = faults.Refused why
+
+-- the session was recorded: something was refused or stopped; or less was got than was sent; or it can't be concluded
+pub data IsRecorded (plan : Plan) (fault : Option PoolFault) (complete : Bool) (before after : PeerValue) : PoolFault → Type 0 where
+  stopped : {why : PoolFault} → fault ≡ Some why → after ≡ after_record before plan.session plan.at
+      → IsRecorded plan fault complete before after why
+  fewer : fault ≡ None → complete ≡ false → after ≡ after_record before plan.session plan.at
+      → IsRecorded plan fault complete before after (unfinished_at (record_answer before plan.session))
+  refused : {why : TargetFault} → fault ≡ None → complete ≡ true → conclude_answer before plan.session ≡ Err why
+      → after ≡ closed before plan → IsRecorded plan fault complete before after (faults.Refused why)
+
+-- an outcome stands, unless it is Ok and memory is wanting for the entry at the source
+abbrev pub UnlessMemory : Result Report PoolFault → Result Report PoolFault → Type 0
+UnlessMemory (Ok report) result = (result ≡ Ok report) ⊎ (result ≡ Err faults.Memory)
+UnlessMemory (Err why) result = result ≡ Err why
+
+-- the entry that the target's session has then is put at the source, where an older one is passed over: surely where
+-- the run is Ok
+pub record PutsEntry (source target source' : PeerValue) (plan : Plan) (outcome : Result Report PoolFault) : Type 0 where
+  pub entry : EntryValue
+  pub told : session_answer target plan.session (λ s. Ok (entry_of s)) ≡ Ok entry
+  pub put : Result (Unit {0}) TargetFault
+  pub puts : PutsOver source (rep_between source target) entry put source'
+  pub done : IfOk outcome (λ _. put ≡ Ok tt)
+
+-- what a walk above the start finds, where the session was concluded: nothing, and the entry is put; or a leaf that isn't
+-- covered, and nothing is put; or no memory
+pub data Walks (source target : PeerValue) (plan : Plan) (start : ℕ) (report : Report) (source' : PeerValue) : Result Report PoolFault → Type 0 where
+  clean : first_uncovered target (feed source.db start source.db.update_seq) ≡ None
+      → PutsEntry source target source' plan (Ok report) → Walks source target plan start report source' (Ok report)
+  hole : {seq : ℕ} {id : Id} {rev : RevId}
+      → first_uncovered target (feed source.db start source.db.update_seq) ≡ Some (record { seq = seq; id = id; rev = rev })
+      → source' ≡ source → Walks source target plan start report source' (Err (faults.Hole seq id rev))
+  no_memory : PutsEntry source target source' plan (Err faults.Memory)
+      → Walks source target plan start report source' (Err faults.Memory)
+
+-- from the target as the workers left it: concluded, and then the walk; or recorded, and the entry is put
+pub data Ends (plan : Plan) (start : ℕ) (fault : Option PoolFault) (complete : Bool) (source before source' after : PeerValue) : Result Report PoolFault → Type 0 where
+  concluded : {report : Report} {outcome : Result Report PoolFault} → IsConcluded plan fault complete before after report
+      → Walks source after plan start report source' outcome → Ends plan start fault complete source before source' after outcome
+  recorded : {why : PoolFault} → IsRecorded plan fault complete before after why
+      → PutsEntry source after source' plan (Err why) → Ends plan start fault complete source before source' after (Err why)
+
+-- with what is known of the workers: the target had grown from the given one, each halt stands where the gate allows it,
+-- and where nothing was stopped and all was got, the session had read what the fetchers fetched
+pub record EndsRun {F : Type 0} (refuses : F → Document → Bool) (may_stop : Place → Type 0) (plan : Plan) (start : ℕ) (source : PeerValue) (given : F × PeerValue) (counts : List ℕ) (source' after : PeerValue) (outcome : Result Report PoolFault) : Type 0 where
+  pub fault : Option PoolFault
+  pub complete : Bool
+  pub before : PeerValue
+  pub grown : IsGrown (refuses given.0) source.db given.1 before
+  pub late : IfSome fault (IsLate may_stop)
+  pub read : fault ≡ None → complete ≡ true → read_in before.sessions plan.session ≡ sum counts
+  pub ends : Ends plan start fault complete source before source' after outcome
+
+-- ---- a run
+
+-- what is refused early leaves both peers as they were given, and nothing is fetched; else no such refusal is told
+abbrev pub EarlyOrLate : {F : Type 0} → (Place → Type 0) → Result (Unit {0}) PoolFault → F × PeerValue → F × PeerValue → F × PeerValue → F × PeerValue → List ℕ → Result Report PoolFault → Type 0
+EarlyOrLate may_stop (Err why) source target source' target' fetched outcome =
+    (outcome ≡ Err why) × (source' ≡ source) × (target' ≡ target) × (fetched ≡ [])
+EarlyOrLate may_stop (Ok done) source target source' target' fetched outcome = IfErr outcome (IsLate may_stop)
+
+-- where the session isn't begun, both peers are the given ones; else its entry is put at the source
+abbrev pub LeavesOrPuts : {F : Type 0} → Plan → F × PeerValue → F × PeerValue → F × PeerValue → F × PeerValue → Result Report PoolFault → Type 0
+LeavesOrPuts plan source target source' target' outcome =
+    (source' ≡ source) × (target' ≡ target) × IsErr outcome ⊎ PutsEntry source.1 target'.1 source'.1 plan outcome
+
+-- what a run that is Ok says: the report is that of the plan's session, which began at the common checkpoint and is
+-- recorded at its goal; all of the source's feed above the start is covered; and the fetchers' counts add up to the
+-- documents read
+pub record EndsWell (source target target' : PeerValue) (plan : Plan) (n : ℕ) (report : Report) : Type 0 where
+  pub reported : IsReported source target target' plan report
+  pub covered : CoversFrom source target' (start_between source target)
+  pub sum : n ≡ report.read
+
+-- What running the pool answers, and the two peers that it gives back.
+pub record Runs {F : Type 0} (refuses : F → Document → Bool) (may_stop : Place → Type 0) (plan : Plan) (source target source' target' : F × PeerValue) (fetched : List ℕ) (outcome : Result Report PoolFault) : Type 0 where
+  -- the four early refusals stand exactly where they are due; later a halt only where the gate allows it, and never a hole
+  pub early : EarlyOrLate may_stop (early_answer source.1 target.1 plan) source target source' target' fetched outcome
+  -- the source is the given one but for its log
+  pub filter : source'.0 ≡ source.0
+  pub log : source'.1 ≡ record source.1 { outgoing = source'.1.outgoing }
+  -- the target is the given one after calls whose messages are what the source answers
+  pub grown : GrownPeer refuses source.1.db target target'
+  -- so it keeps all that it held, and a tied pair stays tied
+  pub later : IsLaterPeer target.1 target'.1
+  pub tied : IsTiedPair source.1 target.1 → IsTiedPair source'.1 target'.1
+  -- the entry is put at the source
+  pub put : LeavesOrPuts plan source target source' target' outcome
+  -- what stands at Ok
+  pub well : IfOk outcome (EndsWell source.1 target.1 target'.1 plan (sum fetched))

@@ -1,0 +1,31 @@
+//! What a run is refused for before anything else.
+ghost use Rattle.std.specs.Prelude.{◌≡◌};
+ghost use Rattle.repl_pool.specs.Faults.{early_answer};
+
+use crate::fault::PoolFault;
+use repl_target::{Peer, Plan, TargetFault, WriteFilter, check_plan};
+
+/// The most workers of each crew.
+const MOST_WORKERS: u64 = 64;
+
+/// Whether a run can be begun: `NoWorkers`, else `TooManyWorkers` above 64, else `BadBatch` where the batch isn't 1 to
+/// 10,000, else `SamePeer` where the two databases have one UUID.
+pub fn check_run<F: WriteFilter>(
+    source: &Peer<F>,
+    target: &Peer<F>,
+    plan: &Plan,
+) -> Result<(), PoolFault>
+    ensures { result ≡ early_answer source.now.1 target.now.1 plan.now }
+{
+    if plan.workers == 0 {
+        return Err(PoolFault::NoWorkers);
+    }
+    if plan.workers > MOST_WORKERS {
+        return Err(PoolFault::TooManyWorkers);
+    }
+    match check_plan(source, target, plan) {
+        Ok(()) => Ok(()),
+        Err(TargetFault::BadBatch) => Err(PoolFault::BadBatch),
+        Err(_) => Err(PoolFault::SamePeer),
+    }
+}

@@ -1,0 +1,155 @@
+//! What lies under the lock: the target, and a book of what its session has read.
+ghost use Rattle.std.specs.Prelude.{◌≡◌, ℕ, ◌+◌, ◌<◌, length, Some, IfSome, IfOk, OnOk, OnErr};
+ghost use Rattle.rev_tree.specs.declared.origin.SessionId.{SessionId};
+ghost use Rattle.repl_pool.specs.Grown.{DeskKeeps};
+ghost use Rattle.couch_base.specs.Messages.{revs_diff};
+ghost use Rattle.repl_target.specs.ReadCounts.{read_in, taken};
+ghost use Rattle.repl_target.specs.Sessions.{GivesUnlessMemory, append_answer, after_append, record_answer, after_record};
+ghost use Rattle.repl_target.specs.Settling.{SettleGives};
+
+use crate::messages::{Fetched, Paged};
+use crate::picks::{Given, Origin};
+use couch_base::{Asked, BaseFault};
+use repl_log::Moment;
+use repl_target::{Peer, Settled, TargetFault, WriteFilter};
+use rev_tree::SessionId;
+use std::alloc::Global;
+use std::marker::{Model, PhantomData};
+use std::sync::ledger::{Book, Ledger, Share};
+
+/// The target: the given one after calls whose messages are what the source answers. The book is what the run's session has
+/// read. Each method is the call of the same name on the target, for that session.
+#[derive(Drop)]
+pub struct Desk<F: WriteFilter, S: Origin, J: Given<F>, L: Ledger> {
+    target: Peer<F>,
+    session: SessionId,
+    book: Book<L>,
+    origin: PhantomData<S>,
+    of: PhantomData<J>,
+}
+
+impl<F: WriteFilter, S: Origin, J: Given<F>, L: Ledger> Model for Desk<F, S, J, L> {
+    ghost use Rattle.std.specs.Coded.{coded×};
+    ghost use Rattle.repl_target.specs.Peer.{PeerValue};
+    ghost use Rattle.repl_target.specs.PeerCode.{coded_peer};
+
+    ghost Value = { F × PeerValue };
+
+    ghost coded = { coded× F.code coded_peer };
+
+    ghost use Rattle.repl_pool.specs.Grown.{DeskKeeps};
+
+    ghost view = { λ d. d.target };
+
+    ghost invariant = { λ d. DeskKeeps F.refuses S.source J.given d.session d.book.total d.target };
+}
+
+/// How many documents of a parcel of so many a settling has taken.
+fn taken_of(answer: &Result<Settled, TargetFault>, documents: u64) -> u64
+    ensures { result ≡ taken answer.now documents }
+{
+    match answer {
+        Ok(_) => documents,
+        Err(TargetFault::Uncovered { .. }) => documents,
+        Err(TargetFault::Stopped { settled, .. }) => *settled,
+        Err(_) => 0,
+    }
+}
+
+impl<F: WriteFilter, S: Origin, J: Given<F>, L: Ledger> Desk<F, S, J, L> {
+    /// The given target, where nothing was read in its session.
+    pub fn open(target: Peer<F>, session: SessionId, book: Book<L>) -> Desk<F, S, J, L>
+        requires given { J.given ≡ Some (target, session) }
+        requires none { read_in target.1.sessions session ≡ 0 }
+        requires book { book.total ≡ 0 }
+        ensures { result ≡ target }
+    {
+        Desk {
+            target,
+            session,
+            book,
+            origin: PhantomData,
+            of: PhantomData,
+        }
+    }
+
+    /// Stores a page of the source in the run's session: `Peer::append`.
+    pub fn append(&mut self, page: Paged<S>) -> Result<(), TargetFault>
+        ensures filter { self.new.0 ≡ self.old.0 }
+        ensures answer { IfSome J.given (λ g. GivesUnlessMemory result (append_answer self.old.1 g.1 page)) }
+        ensures ok { OnOk result (IfSome J.given (λ g. self.new.1 ≡ after_append self.old.1 g.1 page)) }
+        ensures err { OnErr result (self.new.1 ≡ self.old.1) }
+    {
+        let window = page.into_window();
+        self.target.append(self.session, window)
+    }
+
+    /// What the target misses of a page. The only error is `Memory`.
+    pub fn diff(&self, alloc: Global, page: &Paged<S>) -> Result<Asked, BaseFault>
+        ensures { IfOk result (λ asked. asked ≡ revs_diff self.now.1.db page.now) }
+    {
+        self.target.revs_diff(alloc, page.window())
+    }
+
+    /// Settles what the source answers: `Peer::settle`. The share grows by the documents that this has taken.
+    pub fn settle(
+        &mut self,
+        share: &mut Share<L>,
+        fetched: Fetched<S>,
+    ) -> Result<Settled, TargetFault>
+        requires { 0 < share.old.parts }
+        ensures parts { share.new.parts ≡ share.old.parts }
+        ensures taken { share.new.amount ≡ share.old.amount + taken result (length fetched.docs) }
+        ensures filter { self.new.0 ≡ self.old.0 }
+        ensures settles { IfSome J.given (λ g. SettleGives (F.refuses self.old.0) self.old.1 g.1 fetched result self.new.1) }
+    {
+        // The reading tells the proof that the peer is lawful.
+        let _uuid = self.target.db().uuid();
+        let documents = fetched.documents();
+        let parcel = fetched.into_parcel();
+        let result = self.target.settle(self.session, parcel);
+        let taken = taken_of(&result, documents);
+        self.book.add(share, taken);
+        result
+    }
+
+    /// Records what is done: `Peer::record`.
+    pub fn record(&mut self, at: Moment) -> Result<u64, TargetFault>
+        ensures filter { self.new.0 ≡ self.old.0 }
+        ensures answer { IfSome J.given (λ g. result ≡ record_answer self.old.1 g.1) }
+        ensures peer { IfSome J.given (λ g. self.new.1 ≡ after_record self.old.1 g.1 at) }
+    {
+        self.target.record(self.session, at)
+    }
+
+    /// Gives the target back, where all shares are gathered: what the run's session has read is their amount.
+    pub fn close(self, all: &mut Share<L>) -> Peer<F>
+        requires { all.old.parts ≡ L.parts }
+        ensures { (session : SessionId) × DeskKeeps F.refuses S.source J.given session all.old.amount result }
+    {
+        let Desk {
+            target,
+            session: _,
+            mut book,
+            origin: _,
+            of: _,
+        } = self;
+        book.audit(all);
+        target
+    }
+
+    /// Gives the target back.
+    pub fn give_back(self) -> Peer<F>
+        ensures { (session : SessionId) × (total : ℕ) × DeskKeeps F.refuses S.source J.given session total result }
+    {
+        let Desk {
+            target,
+            session: _,
+            book,
+            origin: _,
+            of: _,
+        } = self;
+        drop(book);
+        target
+    }
+}

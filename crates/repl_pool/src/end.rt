@@ -1,0 +1,177 @@
+//! The end of a run.
+ghost use Rattle.std.specs.Prelude.{◌≡◌, Some, Ok, IfOk, IfErr, OnOk};
+ghost use Rattle.couch_base.specs.Database.{DatabaseValue};
+ghost use Rattle.repl_target.specs.Peer.{SessionValue, session_in};
+ghost use Rattle.repl_pool.specs.Grown.{GrownPeer};
+ghost use Rattle.repl_target.specs.Sessions.{record_answer, after_record};
+ghost use Rattle.repl_pool.specs.Runs.{IsConcluded, unfinished_at, IsRecorded, UnlessMemory, PutsEntry, Walks, Ends};
+
+use crate::fault::PoolFault;
+use crate::running::Ran;
+use crate::totals::Summed;
+use repl_target::{
+    Audit, Peer, Plan, Report, TargetFault, WriteFilter, hole_above, record_at_source,
+};
+use std::alloc::Global;
+
+/// Records at the target, and tells that a run didn't reach its goal.
+fn record<F: WriteFilter>(target: &mut Peer<F>, plan: &Plan) -> PoolFault
+    ensures told { result ≡ unfinished_at (record_answer target.old.1 plan.now.session) }
+    ensures peer { target.new.1 ≡ after_record target.old.1 plan.now.session plan.now.at }
+    ensures grown { (db : DatabaseValue) → GrownPeer F.refuses db target.old target.new }
+{
+    match target.record(plan.session, plan.at) {
+        Ok(low_water) => PoolFault::Refused(TargetFault::Unfinished { low_water }),
+        Err(fault) => PoolFault::Refused(fault),
+    }
+}
+
+/// Concludes at the target where nothing was refused or stopped and all was got that was sent; else, or where that is
+/// refused, records.
+fn close_target<F: WriteFilter>(
+    target: &mut Peer<F>,
+    plan: &Plan,
+    fault: Option<PoolFault>,
+    complete: bool,
+) -> Result<Report, PoolFault>
+    ensures grown { (db : DatabaseValue) → GrownPeer F.refuses db target.old target.new }
+    ensures ok { IfOk result (IsConcluded plan.now fault complete target.old.1 target.new.1) }
+    ensures err { IfErr result (IsRecorded plan.now fault complete target.old.1 target.new.1) }
+{
+    if let Some(fault) = fault {
+        let _ = record(target, plan);
+        return Err(fault);
+    }
+    if !complete {
+        return Err(record(target, plan));
+    }
+    match target.conclude(plan.session, plan.at) {
+        Ok(report) => Ok(report),
+        Err(fault) => {
+            let _ = record(target, plan);
+            Err(PoolFault::Refused(fault))
+        }
+    }
+}
+
+/// An outcome, unless the source found no memory for its entry.
+fn both(
+    outcome: Result<Report, PoolFault>,
+    put: &Result<(), TargetFault>,
+) -> Result<Report, PoolFault>
+    ensures told { UnlessMemory outcome result }
+    ensures put { OnOk result (put.now ≡ Ok tt) }
+{
+    match (outcome, put) {
+        (Ok(report), Ok(())) => Ok(report),
+        (Ok(_), Err(_)) => Err(PoolFault::Memory),
+        (Err(fault), _) => Err(fault),
+    }
+}
+
+/// Puts the entry of a run's session, which the target holds, into the source's log, where an older one is passed over.
+///
+/// The answer is the outcome, or where that is `Ok` and the log finds no memory, `Memory`.
+fn put_entry<F: WriteFilter>(
+    source: &mut Peer<F>,
+    target: &Peer<F>,
+    plan: &Plan,
+    outcome: Result<Report, PoolFault>,
+) -> Result<Report, PoolFault>
+    requires held { (s : SessionValue) × (session_in target.now.1.sessions plan.now.session ≡ Some s) }
+    ensures filter { source.new.0 ≡ source.old.0 }
+    ensures source { source.new.1 ≡ record source.old.1 { outgoing = source.new.1.outgoing } }
+    ensures told { UnlessMemory outcome result }
+    ensures puts { PutsEntry source.old.1 target.now.1 source.new.1 plan.now result }
+{
+    let put = record_at_source(source, target, plan);
+    both(outcome, &put)
+}
+
+/// Walks over the source's feed above a run's start, where the run was concluded, and puts its entry.
+///
+/// `Hole` is the first leaf that the target doesn't cover; nothing is put then. `Memory` where the walk or the log finds
+/// none.
+fn walk_and_put<F: WriteFilter>(
+    alloc: Global,
+    source: &mut Peer<F>,
+    target: &Peer<F>,
+    plan: &Plan,
+    start: u64,
+    report: Report,
+) -> Result<Report, PoolFault>
+    requires held { (s : SessionValue) × (session_in target.now.1.sessions plan.now.session ≡ Some s) }
+    ensures filter { source.new.0 ≡ source.old.0 }
+    ensures source { source.new.1 ≡ record source.old.1 { outgoing = source.new.1.outgoing } }
+    ensures walks { Walks source.old.1 target.now.1 plan.now start report source.new.1 result }
+{
+    match hole_above(alloc, source, target, start) {
+        Ok(Audit::Hole { seq, id, rev }) => Err(PoolFault::Hole { seq, id, rev }),
+        Ok(Audit::Clean) => put_entry(source, target, plan, Ok(report)),
+        Err(_) => put_entry(source, target, plan, Err(PoolFault::Memory)),
+    }
+}
+
+/// Closes a run at both peers, once its workers have ended.
+fn close<F: WriteFilter>(
+    alloc: Global,
+    source: &mut Peer<F>,
+    target: &mut Peer<F>,
+    plan: &Plan,
+    start: u64,
+    fault: Option<PoolFault>,
+    complete: bool,
+) -> Result<Report, PoolFault>
+    requires held { (s : SessionValue) × (session_in target.old.1.sessions plan.now.session ≡ Some s) }
+    ensures filter { source.new.0 ≡ source.old.0 }
+    ensures source { source.new.1 ≡ record source.old.1 { outgoing = source.new.1.outgoing } }
+    ensures grown { (db : DatabaseValue) → GrownPeer F.refuses db target.old target.new }
+    ensures ends { Ends plan.now start fault complete source.old.1 target.old.1 source.new.1 target.new.1 result }
+{
+    // These readings tell the proof that the source's database and the target are lawful.
+    let _update_seq = source.db().update_seq();
+    let _uuid = target.db().uuid();
+    match close_target(target, plan, fault, complete) {
+        Ok(report) => walk_and_put(alloc, source, target, plan, start, report),
+        Err(fault) => put_entry(source, target, plan, Err(fault)),
+    }
+}
+
+/// Ends a run: both peers are closed, and given back.
+pub fn end<F: WriteFilter>(
+    alloc: Global,
+    source: Peer<F>,
+    summed: Summed<F>,
+    plan: &Plan,
+    start: u64,
+) -> Ran<F>
+    requires held { (s : SessionValue) × (session_in summed.target.1.sessions plan.now.session ≡ Some s) }
+    ensures fetched { result.fetched ≡ summed.fetched }
+    ensures filter { result.source.0 ≡ source.0 }
+    ensures source { result.source.1 ≡ record source.1 { outgoing = result.source.1.outgoing } }
+    ensures grown { (db : DatabaseValue) → GrownPeer F.refuses db summed.target result.target }
+    ensures ends { Ends plan.now start summed.fault summed.complete source.1 summed.target.1 result.source.1 result.target.1 result.outcome }
+{
+    let Summed {
+        mut target,
+        fetched,
+        fault,
+        complete,
+    } = summed;
+    let mut source = source;
+    let outcome = close(
+        alloc,
+        &mut source,
+        &mut target,
+        plan,
+        start,
+        fault,
+        complete,
+    );
+    Ran {
+        source,
+        target,
+        fetched,
+        outcome,
+    }
+}

@@ -1,0 +1,190 @@
+//! Taking the workers in after they have ended.
+ghost use Rattle.std.specs.Prelude.{◌≡◌, ◌+◌, ◌<◌, ◌≤◌, [], None, IfSome, vec_len, vec_capacity};
+ghost use Rattle.std.specs.List.{All};
+ghost use Rattle.crossbeam_channel.specs.Claims.{view, IsSeatAt};
+ghost use Rattle.crossbeam_channel.specs.Ends.{sends_on};
+ghost use Rattle.repl_pool.specs.Workers.{FetcherKnows, WriterKnows};
+ghost use Rattle.repl_pool.specs.Faults.{Allows};
+ghost use Rattle.repl_pool.specs.Gathered.{FetchedKnows, WrittenKnows, IsOneOf};
+
+use crate::fault::Halt;
+use crate::fetcher::Fetcher;
+use crate::gate::Gate;
+use crate::lines::Lines;
+use crate::parcels::{Cut, ParcelPass};
+use crate::picks::Origin;
+use crate::start::{FetcherHandle, WriterHandle};
+use crate::windows::{Crew, WindowPass};
+use crate::writer::Writer;
+use std::sync::ledger::{Ledger, Share};
+use std::thread::Threads;
+
+/// What the fetchers did: the documents of each, the parcels of all, and why one was stopped.
+#[derive(Drop)]
+pub struct FetchedAll {
+    pub counts: Vec<u64>,
+    pub sent: u64,
+    pub stopped: Option<Halt>,
+}
+
+/// What the writers did: the parcels of all, and why one was stopped.
+#[derive(Drop)]
+pub struct WrittenAll {
+    pub got: u64,
+    pub stopped: Option<Halt>,
+}
+
+/// Adds two counts, unless one was stopped or the sum is too large.
+fn count_up(
+    total: u64,
+    more: u64,
+    stopped: Option<Halt>,
+    also_stopped: Option<Halt>,
+) -> (u64, Option<Halt>)
+    ensures sum { result.1 ≡ None → (result.0 ≡ total + more) × (stopped ≡ None) × (also_stopped ≡ None) }
+    ensures told { IfSome result.1 (IsOneOf stopped also_stopped) }
+{
+    match (stopped, also_stopped) {
+        (Some(halt), _) => (total, Some(halt)),
+        (None, Some(halt)) => (total, Some(halt)),
+        (None, None) => match total.checked_add(more) {
+            Some(sum) => (sum, None),
+            None => (total, Some(Halt::CountFull)),
+        },
+    }
+}
+
+impl FetchedAll {
+    /// Takes one fetcher in.
+    fn take_in<S: Origin>(
+        &mut self,
+        lines: &Lines<S>,
+        windows: &mut WindowPass<S>,
+        parcels: &mut ParcelPass<S>,
+        one: Fetcher<S>,
+    )
+        requires room { vec_len self.old.counts < vec_capacity self.old.counts }
+        requires windows { IsSeatAt (sends_on lines.now.to_fetchers) windows.old × (0 < (view windows.old).parts) }
+        requires parcels { IsSeatAt (sends_on lines.now.to_writers) parcels.old × (0 < (view parcels.old).parts) }
+        requires one_seats { IsSeatAt (sends_on lines.now.to_fetchers) one.windows × IsSeatAt (sends_on lines.now.to_writers) one.parcels }
+        requires one_knows { FetcherKnows [] one }
+        requires knows { FetchedKnows (view windows.old) (view parcels.old) self.old }
+        ensures seats { IsSeatAt (sends_on lines.now.to_fetchers) windows.new × IsSeatAt (sends_on lines.now.to_writers) parcels.new }
+        ensures windows { ((view windows.new).parts ≡ (view windows.old).parts + 1) × ((view windows.new).reads ≡ (view windows.old).reads) × ((view windows.new).count ≡ (view windows.old).count) }
+        ensures parcels { ((view parcels.new).parts ≡ (view parcels.old).parts + 1) × ((view parcels.new).got ≡ (view parcels.old).got) }
+        ensures knows { FetchedKnows (view windows.new) (view parcels.new) self.new }
+        ensures told { IfSome self.new.stopped (IsOneOf self.old.stopped one.stopped) }
+        ensures len { vec_len self.new.counts ≡ vec_len self.old.counts + 1 }
+        ensures capacity { vec_capacity self.new.counts ≡ vec_capacity self.old.counts }
+    {
+        let Fetcher {
+            windows: its_windows,
+            parcels: its_parcels,
+            sent,
+            fetched,
+            stopped,
+        } = one;
+        lines.to_fetchers.absorb::<Crew>(windows, its_windows);
+        lines.to_writers.absorb::<Cut>(parcels, its_parcels);
+        self.counts.push_reserved(fetched);
+        let (sum, halt) = count_up(self.sent, sent, self.stopped.take(), stopped);
+        self.sent = sum;
+        self.stopped = halt;
+    }
+}
+
+impl WrittenAll {
+    /// Takes one writer in.
+    fn take_in<S: Origin, L: Ledger>(
+        &mut self,
+        lines: &Lines<S>,
+        parcels: &mut ParcelPass<S>,
+        all: &mut Share<L>,
+        one: Writer<S, L>,
+    )
+        requires parcels { IsSeatAt (sends_on lines.now.to_writers) parcels.old × (0 < (view parcels.old).parts) }
+        requires one_seat { IsSeatAt (sends_on lines.now.to_writers) one.parcels }
+        requires one_knows { WriterKnows [] one }
+        requires knows { WrittenKnows (view parcels.old) all.old.amount self.old }
+        ensures seat { IsSeatAt (sends_on lines.now.to_writers) parcels.new }
+        ensures parcels { ((view parcels.new).parts ≡ (view parcels.old).parts + 1) × ((view parcels.new).sent ≡ (view parcels.old).sent) }
+        ensures all { all.new.parts ≡ all.old.parts + 1 }
+        ensures knows { WrittenKnows (view parcels.new) all.new.amount self.new }
+        ensures told { IfSome self.new.stopped (IsOneOf self.old.stopped one.stopped) }
+    {
+        let Writer {
+            parcels: its_parcels,
+            share,
+            got,
+            stopped,
+        } = one;
+        lines.to_writers.absorb::<Cut>(parcels, its_parcels);
+        all.merge(share);
+        let (sum, halt) = count_up(self.got, got, self.stopped.take(), stopped);
+        self.got = sum;
+        self.stopped = halt;
+    }
+}
+
+/// Joins the fetchers, and takes them in.
+pub fn join_fetchers<S: Origin, G: Gate, R: Threads>(
+    rt: &R,
+    lines: &Lines<S>,
+    gate: &G,
+    handles: Vec<FetcherHandle<'_, S, G>>,
+    counts: Vec<u64>,
+    windows: &mut WindowPass<S>,
+    parcels: &mut ParcelPass<S>,
+) -> FetchedAll
+    requires room { vec_len handles ≤ vec_capacity counts }
+    requires counts { counts.items ≡ [] }
+    requires promised { All (λ h. (h.promise.lines.now ≡ lines.now) × (h.promise.gate.now ≡ gate.now)) handles.items }
+    requires windows { IsSeatAt (sends_on lines.now.to_fetchers) windows.old × (0 < (view windows.old).parts) × ((view windows.old).taken ≡ []) }
+    requires parcels { IsSeatAt (sends_on lines.now.to_writers) parcels.old × (0 < (view parcels.old).parts) × ((view parcels.old).sent ≡ []) }
+    ensures seats { IsSeatAt (sends_on lines.now.to_fetchers) windows.new × IsSeatAt (sends_on lines.now.to_writers) parcels.new }
+    ensures windows { ((view windows.new).parts ≡ (view windows.old).parts + vec_len handles.entry) × ((view windows.new).reads ≡ (view windows.old).reads) × ((view windows.new).count ≡ (view windows.old).count) }
+    ensures parcels { ((view parcels.new).parts ≡ (view parcels.old).parts + vec_len handles.entry) × ((view parcels.new).got ≡ (view parcels.old).got) }
+    ensures len { vec_len result.counts ≡ vec_len handles.entry }
+    ensures knows { FetchedKnows (view windows.new) (view parcels.new) result }
+    ensures halted { IfSome result.stopped (Allows (G.may_stop gate.now)) }
+{
+    let mut fetched = FetchedAll {
+        counts,
+        sent: 0,
+        stopped: None,
+    };
+    for handle in handles {
+        let one = handle.join(rt);
+        fetched.take_in(lines, windows, parcels, one);
+    }
+    fetched
+}
+
+/// Joins the writers, and takes them in.
+pub fn join_writers<S: Origin, L: Ledger, G: Gate, R: Threads>(
+    rt: &R,
+    lines: &Lines<S>,
+    gate: &G,
+    handles: Vec<WriterHandle<'_, S, L, G>>,
+    parcels: &mut ParcelPass<S>,
+    all: &mut Share<L>,
+) -> WrittenAll
+    requires promised { All (λ h. (h.promise.lines.now ≡ lines.now) × (h.promise.gate.now ≡ gate.now)) handles.items }
+    requires parcels { IsSeatAt (sends_on lines.now.to_writers) parcels.old × (0 < (view parcels.old).parts) × ((view parcels.old).got ≡ []) }
+    requires all { all.old.amount ≡ 0 }
+    ensures seat { IsSeatAt (sends_on lines.now.to_writers) parcels.new }
+    ensures parcels { ((view parcels.new).parts ≡ (view parcels.old).parts + vec_len handles.entry) × ((view parcels.new).sent ≡ (view parcels.old).sent) }
+    ensures all { all.new.parts ≡ all.old.parts + vec_len handles.entry }
+    ensures knows { WrittenKnows (view parcels.new) all.new.amount result }
+    ensures halted { IfSome result.stopped (Allows (G.may_stop gate.now)) }
+{
+    let mut written = WrittenAll {
+        got: 0,
+        stopped: None,
+    };
+    for handle in handles {
+        let one = handle.join(rt);
+        written.take_in(lines, parcels, all, one);
+    }
+    written
+}

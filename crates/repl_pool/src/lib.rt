@@ -1,0 +1,28 @@
+//! A pool of fetchers and writers that replicates one peer into another.
+//!
+//! The rules stand in docs/PROFILE.md: "The pool".
+#![tactic(auto)]
+
+mod begin;
+mod crew;
+mod desk;
+mod end;
+mod fault;
+mod fetcher;
+mod gate;
+mod gather;
+mod lines;
+mod messages;
+mod parcels;
+mod picks;
+mod reader;
+mod running;
+mod start;
+mod threads;
+mod totals;
+mod windows;
+mod writer;
+
+pub use fault::PoolFault;
+pub use gate::{Gate, Open, Place, Turn};
+pub use running::{Ran, run};

@@ -1,0 +1,175 @@
+//! A run of the pool.
+ghost use Rattle.std.specs.Prelude.{◌≡◌, ◌<◌, ◌≤◌, true, false, Some};
+ghost use Rattle.couch_base.specs.Database.{DatabaseValue};
+ghost use Rattle.repl_target.specs.Peer.{SessionValue, session_in};
+ghost use Rattle.repl_target.specs.ReadCounts.{read_in};
+ghost use Rattle.repl_target.specs.Replication.{is_batch};
+ghost use Rattle.repl_pool.specs.Grown.{GrownPeer};
+ghost use Rattle.repl_pool.specs.Runs.{Ends, EndsRun, Runs};
+
+use crate::begin::check_run;
+use crate::desk::Desk;
+use crate::end::end;
+use crate::fault::PoolFault;
+use crate::gate::Gate;
+use crate::lines::Lines;
+use crate::picks::{Given, Origin};
+use crate::threads::with_workers;
+use crate::totals::{Summed, collect};
+use repl_target::{Peer, Plan, Report, WriteFilter, begin_plan};
+use std::alloc::Global;
+use std::marker::Brand;
+use std::sync::ledger::{Blank, Ledger};
+use std::sync::{Mutex, Wait};
+use std::thread::Threads;
+
+/// What a run gives back: both peers, how many documents each fetcher fetched, and how it ended.
+#[derive(Drop)]
+pub struct Ran<F: WriteFilter> {
+    /// The source: the given one but for its log.
+    pub source: Peer<F>,
+    /// The target.
+    pub target: Peer<F>,
+    /// How many documents each fetcher fetched; empty where none was started.
+    pub fetched: Vec<u64>,
+    /// The report of the plan's session, or why there is none.
+    pub outcome: Result<Report, PoolFault>,
+}
+
+/// The end of a run whose workers weren't started: memory ran out.
+fn out_of_memory<F: WriteFilter>(
+    alloc: Global,
+    source: Peer<F>,
+    target: Peer<F>,
+    plan: &Plan,
+    start: u64,
+) -> Ran<F>
+    requires held { (s : SessionValue) × (session_in target.1.sessions plan.now.session ≡ Some s) }
+    ensures filter { result.source.0 ≡ source.0 }
+    ensures source { result.source.1 ≡ record source.1 { outgoing = result.source.1.outgoing } }
+    ensures grown { (db : DatabaseValue) → GrownPeer F.refuses db target result.target }
+    ensures ends { Ends plan.now start (Some PoolFault.Memory) false source.1 target.1 result.source.1 result.target.1 result.outcome }
+{
+    let summed = Summed {
+        target,
+        fetched: Vec::new(alloc),
+        fault: Some(PoolFault::Memory),
+        complete: false,
+    };
+    end(alloc, source, summed, plan, start)
+}
+
+/// Runs the pool over a target whose session has begun at a start.
+fn run_begun<
+    F: WriteFilter + Send + Sync,
+    S: Origin + Send + Sync,
+    J: Given<F> + Send + Sync,
+    L: Ledger + Send + Sync,
+    G: Gate + Sync,
+    R: Threads + Wait + Sync,
+>(
+    rt: &R,
+    alloc: Global,
+    blank: Blank,
+    source: Peer<F>,
+    target: Peer<F>,
+    plan: &Plan,
+    gate: &G,
+    start: u64,
+) -> Ran<F>
+    requires name { blank.name ≡ L.name }
+    requires parts { blank.parts ≡ L.parts }
+    requires workers { (blank.parts ≡ plan.now.workers) × (0 < plan.now.workers) × (plan.now.workers ≤ 64) }
+    requires batch { is_batch plan.now.batch ≡ true }
+    requires source { S.source ≡ source.1.db }
+    requires given { J.given ≡ Some (target, plan.now.session) }
+    requires none { read_in target.1.sessions plan.now.session ≡ 0 }
+    requires held { (s : SessionValue) × (session_in target.1.sessions plan.now.session ≡ Some s) }
+    ensures filter { result.source.0 ≡ source.0 }
+    ensures source { result.source.1 ≡ record source.1 { outgoing = result.source.1.outgoing } }
+    ensures grown { GrownPeer F.refuses source.1.db target result.target }
+    ensures ends { EndsRun F.refuses (G.may_stop gate.now) plan.now start source.1 target result.fetched.items result.source.1 result.target.1 result.outcome }
+{
+    // These readings tell the proof that the source's database and the target are lawful.
+    let _update_seq = source.db().update_seq();
+    let _uuid = target.db().uuid();
+    let workers = plan.workers as usize;
+    let Ok(counts) = Vec::with_capacity(alloc, workers) else {
+        return out_of_memory(alloc, source, target, plan, start);
+    };
+    let Ok((lines, windows, parcels)) = Lines::<S>::open(alloc, 2 * workers) else {
+        return out_of_memory(alloc, source, target, plan, start);
+    };
+    let (book, all) = blank.open::<L>();
+    let desk = Mutex::new(Desk::<F, S, J, L>::open(target, plan.session, book));
+    let ended = with_workers(
+        rt, alloc, &lines, &source, &desk, gate, plan, workers, start, counts, windows, parcels,
+        all,
+    );
+    let desk = desk.into_inner();
+    let summed = collect(alloc, &lines, gate, desk, workers, ended);
+    end(alloc, source, summed, plan, start)
+}
+
+/// Replicates the source's documents into the target by a pool of threads: the caller's thread begins the session from the
+/// common checkpoint of the two logs, reads the source's feed in windows, stores each at the target and sends it to
+/// `plan.workers` fetchers; these ask the target, fetch at the source, and send parcels to as many writers, which settle and
+/// record. The target stands behind a lock, the source is shared. The gate is asked at each place, with no lock held.
+///
+/// `NoWorkers`, else `TooManyWorkers` above 64, else `BadBatch` where the batch isn't 1 to 10,000, else `SamePeer` where the
+/// two databases have one UUID: then both peers are as given. Else `Refused` of what a step refuses; `Halted` of a place
+/// where the gate answered `Stop`; `CountFull` where a fetcher's count of documents would pass 9,007,199,254,740,991;
+/// `Memory`, also where a thread can't be made. Where several workers were stopped or refused, one of them is told. Where
+/// none was, and all windows that the plan allows are settled, but they end below the goal, it is `Refused` of `Unfinished`.
+///
+/// Once all workers have ended, the caller's thread concludes the session, or where that isn't due or is refused records
+/// it, and puts its entry into the source's log; an older one is passed over. Before that it walks the source's feed above
+/// the start, where it concluded: the first leaf that the target doesn't cover would be `Hole`, which never comes.
+///
+/// At `Ok` each leaf of the source's feed above the start is covered at the target, the report is that of the session,
+/// which began at the common checkpoint and is recorded at the source's update sequence, and what the fetchers fetched adds
+/// up to the documents read. Whatever the answer, the source is the given one but for its log, and the target is the given
+/// one after calls whose messages are what the source answers: it keeps all that it held, and a tied pair stays tied.
+///
+/// It waits. That it ends is not proved.
+pub fn run<F: WriteFilter + Send + Sync, G: Gate + Sync, R: Threads + Wait + Sync>(
+    rt: &R,
+    alloc: Global,
+    source: Peer<F>,
+    target: Peer<F>,
+    plan: &Plan,
+    gate: &G,
+) -> Ran<F>
+    ensures runs { Runs F.refuses (G.may_stop gate.now) plan.now source target result.source result.target result.fetched.items result.outcome }
+{
+    // These readings tell the proof that the source's database and the target are lawful.
+    let _update_seq = source.db().update_seq();
+    let _uuid = target.db().uuid();
+    if let Err(why) = check_run(&source, &target, plan) {
+        return Ran {
+            source,
+            target,
+            fetched: Vec::new(alloc),
+            outcome: Err(why),
+        };
+    }
+    let mut begun = target;
+    match begin_plan(alloc, &source, &mut begun, plan) {
+        Ok(start) => run_begun::<F, Brand, Brand, Brand, G, R>(
+            rt,
+            alloc,
+            Blank::new(plan.workers),
+            source,
+            begun,
+            plan,
+            gate,
+            start,
+        ),
+        Err(fault) => Ran {
+            source,
+            target: begun,
+            fetched: Vec::new(alloc),
+            outcome: Err(PoolFault::Refused(fault)),
+        },
+    }
+}

@@ -1,0 +1,126 @@
+//! What a run has done, once its workers have ended.
+ghost use Rattle.std.specs.Prelude.{◌≡◌, ℕ, ◌≤◌, true, None, IfSome, length, sum};
+ghost use Rattle.rev_tree.specs.declared.origin.SessionId.{SessionId};
+ghost use Rattle.crossbeam_channel.specs.Claims.{view, IsSeatAt};
+ghost use Rattle.crossbeam_channel.specs.Ends.{sends_on};
+ghost use Rattle.repl_pool.specs.Faults.{IsLate};
+ghost use Rattle.repl_pool.specs.Gathered.{IsWhole, Tells, StopsWhere};
+ghost use Rattle.repl_pool.specs.Grown.{DeskKeeps};
+ghost use Rattle.repl_pool.specs.Sums.{times};
+ghost use Rattle.repl_pool.specs.Workers.{amounts, names};
+
+use crate::desk::Desk;
+use crate::fault::{PoolFault, merge};
+use crate::gate::Gate;
+use crate::gather::{FetchedAll, WrittenAll};
+use crate::lines::Lines;
+use crate::parcels::Whole;
+use crate::picks::{Given, Origin};
+use crate::threads::Ended;
+use crate::windows::AllTaken;
+use repl_target::{Peer, WriteFilter};
+use std::alloc::Global;
+use std::sync::ledger::Ledger;
+
+/// The target, how many documents each fetcher fetched, the fault of a step, and whether as many parcels were got as sent.
+#[derive(Drop)]
+pub struct Summed<F: WriteFilter> {
+    pub target: Peer<F>,
+    pub fetched: Vec<u64>,
+    pub fault: Option<PoolFault>,
+    pub complete: bool,
+}
+
+/// What the workers did, where they were started.
+pub fn collect<F: WriteFilter, S: Origin, J: Given<F>, L: Ledger, G: Gate>(
+    alloc: Global,
+    lines: &Lines<S>,
+    gate: &G,
+    desk: Desk<F, S, J, L>,
+    workers: usize,
+    ended: Option<Ended<S, L>>,
+) -> Summed<F>
+    requires parts { L.parts ≡ workers }
+    requires window_seat { IfSome ended (λ e. IsSeatAt (sends_on lines.now.to_fetchers) e.windows) }
+    requires parcel_seat { IfSome ended (λ e. IsSeatAt (sends_on lines.now.to_writers) e.parcels) }
+    requires whole { IfSome ended (IsWhole workers) }
+    requires tells { IfSome ended Tells }
+    requires halted { IfSome ended (StopsWhere (G.may_stop gate.now)) }
+    ensures desk { (session : SessionId) × (total : ℕ) × DeskKeeps F.refuses S.source J.given session total result.target }
+    ensures sum { result.fault ≡ None → result.complete ≡ true → (session : SessionId) × DeskKeeps F.refuses S.source J.given session (sum result.fetched.items) result.target }
+    ensures halted { IfSome result.fault (IsLate (G.may_stop gate.now)) }
+{
+    match ended {
+        Some(ended) => sum_up(lines, gate, desk, workers, ended),
+        None => Summed {
+            target: desk.give_back(),
+            fetched: Vec::new(alloc),
+            fault: Some(PoolFault::Memory),
+            complete: false,
+        },
+    }
+}
+
+/// What the workers did: the target out of the lock, and whether as many parcels were got as sent.
+fn sum_up<F: WriteFilter, S: Origin, J: Given<F>, L: Ledger, G: Gate>(
+    lines: &Lines<S>,
+    gate: &G,
+    desk: Desk<F, S, J, L>,
+    workers: usize,
+    ended: Ended<S, L>,
+) -> Summed<F>
+    requires parts { L.parts ≡ workers }
+    requires window_seat { IsSeatAt (sends_on lines.now.to_fetchers) ended.windows }
+    requires parcel_seat { IsSeatAt (sends_on lines.now.to_writers) ended.parcels }
+    requires whole { IsWhole workers ended }
+    requires tells { Tells ended }
+    requires halted { StopsWhere (G.may_stop gate.now) ended }
+    ensures desk { (session : SessionId) × (total : ℕ) × DeskKeeps F.refuses S.source J.given session total result.target }
+    ensures sum { result.fault ≡ None → result.complete ≡ true → (session : SessionId) × DeskKeeps F.refuses S.source J.given session (sum result.fetched.items) result.target }
+    ensures halted { IfSome result.fault (IsLate (G.may_stop gate.now)) }
+{
+    let mut ended = ended;
+    each_once(lines, workers, &mut ended);
+    let Ended {
+        windows: _,
+        parcels: _,
+        mut all,
+        read,
+        fetched,
+        written,
+    } = ended;
+    let target = desk.close(&mut all);
+    let FetchedAll {
+        counts,
+        sent,
+        stopped,
+    } = fetched;
+    let WrittenAll {
+        got,
+        stopped: halted,
+    } = written;
+    let fault = merge(read, stopped, halted);
+    Summed {
+        target,
+        fetched: counts,
+        fault,
+        complete: sent == got,
+    }
+}
+
+/// Each window was taken by one fetcher, and each parcel got by one writer, at most; where as many were got as sent, they have
+/// the same documents: what the passes learn of both channels once they are whole.
+fn each_once<S: Origin, L: Ledger>(lines: &Lines<S>, workers: usize, ended: &mut Ended<S, L>)
+    requires window_seat { IsSeatAt (sends_on lines.now.to_fetchers) ended.old.windows }
+    requires parcel_seat { IsSeatAt (sends_on lines.now.to_writers) ended.old.parcels }
+    requires whole { IsWhole workers ended.old }
+    requires tells { Tells ended.old }
+    ensures taken { (k : ℕ) → times k (view ended.new.windows).taken ≤ 1 }
+    ensures got { ended.new.fetched.stopped ≡ None → (k : ℕ) → times k (names (view ended.new.parcels).got) ≤ 1 }
+    ensures agree { length (view ended.new.parcels).sent ≡ length (view ended.new.parcels).got → amounts (view ended.new.parcels).sent ≡ amounts (view ended.new.parcels).got }
+    ensures tells { Tells ended.new }
+    ensures same { (ended.new.all ≡ ended.old.all) × (ended.new.read ≡ ended.old.read) × (ended.new.fetched ≡ ended.old.fetched) × (ended.new.written ≡ ended.old.written) }
+{
+    lines.to_fetchers.learn_as::<AllTaken>(&mut ended.windows);
+    lines.to_writers.learn_as::<Whole>(&mut ended.parcels);
+}
