@@ -131,7 +131,12 @@ fn is_sig(text: &[u8]) -> bool
 fn all_sig_bytes(text: &[u8]) -> bool
     ensures { result ≡ list_all is_sig_byte text.now }
 {
-    text.iter().all(|b| is_sig_byte(*b))
+    let mut all = true;
+    // Without an early end, many bytes are looked at in one instruction.
+    for b in text {
+        all = is_sig_byte(*b) & all;
+    }
+    all
 }
 
 /// Whether a byte may stand in a signature.

@@ -1,0 +1,8 @@
+use Rattle.std.proofs.Common.{◌≡◌, ◌&&◌, drop}
+use Rattle.std.specs.List.{list_all}
+use Rattle.rev_core.specs.Sig.{is_sig_byte}
+use Rattle.rev_core.proofs.sig.all_sig_bytes.Given as goal
+
+-- the bytes so far, and those that are left
+abbrev pub invariant-loop-b : goal.invariant-loop-b
+invariant-loop-b l = (l.all && list_all is_sig_byte (drop l.b-index l.text)) ≡ list_all is_sig_byte l.text
