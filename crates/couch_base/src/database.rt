@@ -5,6 +5,7 @@ ghost use Rattle.rev_tree.specs.Tree.{has, merged, merge_answer};
 
 use crate::edit::{content_of, edit_ancestry, next_is_full, parent_in};
 use crate::fault::{BaseFault, Put};
+use crate::id_hash::IdHash;
 use crate::paging::{collect, page_end};
 use crate::table::{Index, Table, write};
 use crate::window::Window;
@@ -66,7 +67,7 @@ impl Database {
         Database {
             uuid,
             update_seq: 0,
-            docs: IndexMap::new(alloc),
+            docs: IndexMap::with_hasher(alloc, IdHash::new(uuid)),
             index: BTreeMap::new(alloc),
         }
     }
@@ -84,7 +85,7 @@ impl Database {
         Ok(Database {
             uuid,
             update_seq: seq,
-            docs: IndexMap::new(alloc),
+            docs: IndexMap::with_hasher(alloc, IdHash::new(uuid)),
             index: BTreeMap::new(alloc),
         })
     }

@@ -9,6 +9,7 @@ mod database;
 mod edit;
 mod exchange;
 mod fault;
+mod id_hash;
 mod kept;
 mod paging;
 mod parcel;

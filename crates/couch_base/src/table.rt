@@ -4,6 +4,7 @@ ghost use Rattle.rev_tree.specs.Tree.{no_revisions, merged, merge_answer};
 ghost use Rattle.rev_tree.specs.declared.fault.Merged.TheVariants.{Changed};
 ghost use Rattle.couch_base.specs.Table.{found, tree_at, AllBelow, Moves, Adds, Writes};
 
+use crate::id_hash::IdHash;
 use crate::kept::Kept;
 use doc_json::DocId;
 use indexmap::IndexMap;
@@ -13,7 +14,7 @@ use std::alloc::{AllocError, Global};
 use std::collections::BTreeMap;
 
 /// The documents by id.
-pub(crate) type Table = IndexMap<DocId, Kept>;
+pub(crate) type Table = IndexMap<DocId, Kept, IdHash>;
 
 /// The ids of the documents by the sequences of their latest changes.
 pub(crate) type Index = BTreeMap<u64, DocId>;

@@ -1,5 +1,5 @@
 -- The order of revisions is total, and only equal revisions tie.
-use Rattle.std.specs.Prelude.{◌≡◌, ℕ, Bool, true, false, ◌&&◌, List, ◌++◌, nat_eq, refl}
+use Rattle.std.specs.Prelude.{◌≡◌, ℕ, Bool, true, false, ◌&&◌, List, [], ◌∷◌, ◌++◌, nat_eq, refl}
 use Rattle.std.proofs.Common.{ap, sym, ◌∙◌, subst, T}
 use Rattle.std.specs.declared.cmp.Ordering.{Ordering}
 use Rattle.std.specs.declared.cmp.Ordering.TheVariants.{Less, Equal, Greater}
@@ -56,7 +56,7 @@ rev_eq_is a b = same_tests _ _
 
 -- what a revision hands a hasher: its generation, then its signature
 abbrev pub hashed : RevId → List (List ℕ)
-hashed r = fed.u32 r.generation ++ fed.slice fed.u8 r.sig
+hashed r = fed.u32 r.generation ++ r.sig ∷ []
 
 -- equal revisions hash alike
 pub hashed_alike : (a b : RevId) → eq_by_cmp rev_cmp a b ≡ true → hashed a ≡ hashed b
