@@ -1,5 +1,5 @@
 -- What loads are told, by their parts.
-use Rattle.std.proofs.Common.{◌≡◌, inl, inr, ℕ, List, Option, None, Result, Ok, refl, sym, subst}
+use Rattle.std.proofs.Common.{◌≡◌, inl, inr, ℕ, Option, None, Result, Ok, refl, sym, subst}
 use Rattle.doc_json.specs.Document.{Document}
 use Rattle.repl_target.specs.Peer.{PeerValue}
 use Rattle.script_engine.specs.Serving.{Told, MayTell, in_full, gave_up, served_only}

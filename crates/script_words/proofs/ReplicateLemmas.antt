@@ -1,5 +1,5 @@
 -- What replications are told.
-use Rattle.std.proofs.Common.{◌≡◌, ◌≤◌, inr, ℕ, List, Option, Some, None, Result, Ok, Err, refl, sym, ap, subst, ◌∙◌}
+use Rattle.std.proofs.Common.{◌≡◌, ◌≤◌, inr, ℕ, List, Option, Some, None, Result, Ok, refl, sym, ap, subst, ◌∙◌}
 use Rattle.repl_target.specs.Peer.{PeerValue}
 use Rattle.repl_target.specs.declared.fault.Report.{Report}
 use Rattle.repl_target.specs.declared.fault.TargetFault.{TargetFault}

@@ -1,5 +1,5 @@
 -- From checks that pass, or don't, to what a word is told.
-use Rattle.std.proofs.Common.{◌≡◌, ◌⊎◌, inl, inr, ℕ, Bool, true, false, List, [], ◌++◌, Option, Some, None, Result, Ok, Err, refl, sym, ap, subst, ◌∙◌, is_some}
+use Rattle.std.proofs.Common.{◌≡◌, ◌⊎◌, inl, inr, ℕ, true, false, List, [], ◌++◌, Option, Some, None, Result, Ok, Err, refl, sym, ap, subst, ◌∙◌, is_some}
 use Rattle.std.proofs.lemmas.Bool.{true≢false}
 use Rattle.std.specs.FinMap.{contains_key}
 use Rattle.rev_tree.specs.Tree.{TreeValue}
@@ -11,7 +11,7 @@ use Rattle.script_databases.specs.Refusals.{name_of}
 use Rattle.script_databases.specs.declared.refusal.Refusal.{Refusal}
 use Rattle.script_databases.specs.declared.refusal.Refusal.TheVariants as why
 use Rattle.script_words.specs.Checks.{◌>>=◌, found}
-use Rattle.script_words.specs.Telling.{told_of, Refuses, Reads, Does}
+use Rattle.script_words.specs.Telling.{told_of, Reads, Does}
 
 -- ---- checks
 

@@ -1,6 +1,6 @@
-use Rattle.std.proofs.Common.{ℕ, Ok, Err, None, refl, sym, subst, inl, inr}
+use Rattle.std.proofs.Common.{ℕ, Ok, Err, None, refl, subst, inl}
 use Rattle.script_engine.specs.Serving.{MayTell, in_full}
-use Rattle.script_databases.specs.Databases.{State, IsTaken, drawn_one, next_made}
+use Rattle.script_databases.specs.Databases.{State, IsTaken, drawn_one}
 use Rattle.script_words.specs.Telling.{told_by}
 use Rattle.script_words.specs.words.Load.{LoadsNew}
 use Rattle.script_words.proofs.LoadLemmas.{loads, loads_made}

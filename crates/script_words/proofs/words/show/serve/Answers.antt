@@ -1,6 +1,4 @@
-use Rattle.std.proofs.Common.{List, ℕ, Ok, Err, Some, None, refl, sym, ap, ◌∙◌}
-use Rattle.couch_base.specs.Database.{DatabaseValue, tree_in}
-use Rattle.rev_tree.specs.Tree.{TreeValue}
+use Rattle.std.proofs.Common.{List, ℕ, Ok, Err, refl, sym, ap, ◌∙◌}
 use Rattle.script_engine.specs.Serving.{in_full, gave_up}
 use Rattle.script_databases.specs.declared.refusal.Refusal.TheVariants as why
 use Rattle.script_words.specs.words.Show.{show_text}
