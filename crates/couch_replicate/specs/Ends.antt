@@ -2,7 +2,8 @@
 use Rattle.std.specs.Prelude.{◌≡◌, ℕ, List, Bool, Option, Result, Ok, Err}
 use Rattle.std.specs.Io.KnownBytes.{Appends}
 use Rattle.script_engine.specs.Device.{Gives}
-use Rattle.script_engine.specs.Script.{IsAnswered, IsAnsweredSoFar}
+use Rattle.script_engine.specs.Script.{IsAnswered}
+use Rattle.script_engine.specs.Faults.{IsToldUntil}
 use Rattle.script_engine.specs.declared.fault.ScriptFault.{ScriptFault}
 use Rattle.script_databases.specs.Databases.{Program, State, no_databases}
 use Rattle.script_databases.specs.Tables.{program_of}
@@ -12,13 +13,14 @@ use Rattle.couch_replicate.specs.Options.{Says, Refuses}
 use Rattle.couch_replicate.specs.declared.run.Ended.{Ended}
 use Rattle.couch_replicate.specs.declared.run.Ended.TheVariants.{NotRun, Ran}
 
--- What a script was answered, of a program that is set so: all of it, or a beginning. First what the reader has left, then what the
+-- What a script was answered, of a program that is set so: all of it, or a beginning, which a fault of a read or of memory cuts between two
+-- answers. First what the reader has left, then what the
 -- writer holds, before and after.
 abbrev pub Answered : Program → Option (List ℕ) → Option (List ℕ) → Option (List ℕ) → Result Bool ScriptFault → Type 0
 Answered program left held held' (Ok clean) = (input : List ℕ) × (text : List ℕ) × (state : State) × Gives left input × Appends held held' text
     × IsAnswered LinesAnswer (no_databases program) input clean text state
 Answered program left held held' (Err fault) = (input : List ℕ) × (text : List ℕ) × Gives left input × Appends held held' text
-    × IsAnsweredSoFar LinesAnswer (no_databases program) input text
+    × IsToldUntil fault LinesAnswer (no_databases program) input text
 
 -- words that give no settings: nothing is read or written; else a script is run with the settings that they give
 abbrev pub Ends : List (List ℕ) → Option (List ℕ) → Option (List ℕ) → Option (List ℕ) → Option (List ℕ) → Ended → Type 0

@@ -2,14 +2,14 @@
 use Rattle.std.proofs.Common.{◌≡◌, ℕ, ◌+◌, ◌*◌, ◌<◌, ◌≤◌, List, [], ◌++◌, length, take, Bool, true, refl, sym, ap, subst, ◌∙◌, arith, append_assoc, append-nil, length-append, Option, Some, None}
 use Rattle.std.specs.Prelude.{unwrap_or, min}
 use Rattle.std.specs.Io.KnownBytes.{Consumes, Appends, Keeps, IsAtEnd}
-use Rattle.script_engine.specs.Device.{Gives, counted, full}
-use Rattle.script_engine.specs.Faults.{IsOfWriter, IsFaultOf}
+use Rattle.script_engine.specs.Device.{FailsOnce, Gives, counted, full}
+use Rattle.script_engine.specs.Faults.{FeedsUntil, IsOfWriter, IsFaultOf, IsToldUntil}
 use Rattle.script_engine.specs.declared.fault.ScriptFault.{ScriptFault}
 use Rattle.script_engine.specs.declared.fault.ScriptFault.TheVariants.{Read, Write, Memory}
 use Rattle.script_engine.specs.Lines.{lines_of}
 use Rattle.script_engine.specs.Serving.{Answering}
-use Rattle.script_engine.specs.Script.{IsAnswered, IsAnsweredSoFar}
-use Rattle.script_engine.specs.Served.{Place, start, Served, Begins, Feeds, FeedsInPart, Finishes, FinishesInPart}
+use Rattle.script_engine.specs.Script.{IsAnswered, IsAnsweredSoFar, AnswersFirst}
+use Rattle.script_engine.specs.Served.{Place, start, Served, Begins, Fed, Feeds, FeedsInPart, Finishes, FinishesInPart}
 use Rattle.script_engine.proofs.DeviceLemmas.{Appends-joined, Appends-none}
 use Rattle.script_engine.proofs.ServedLemmas.{Served-none, Served-joined, Begins-none, Begins-joined, Begins-more, is_answered, is_answered_so_far}
 
@@ -80,44 +80,58 @@ Ran-number r h = omega (arith, r.served.number_is, r.served.few, r.few)
 
 -- ---- faults
 
--- an answer to a whole input that begins with this text
-pub record SoFar {S : Type 0} (f : Answering S (List ℕ)) (g : S) (left held held' : Option (List ℕ)) : Type 0 where
+-- what is written answers a whole input that begins so
+pub record SoFar {S : Type 0} (fault : ScriptFault) (f : Answering S (List ℕ)) (g : S) (left held held' : Option (List ℕ)) : Type 0 where
   pub input : List ℕ
   pub text : List ℕ
   pub gives : Gives left input
   pub written : Appends held held' text
-  pub answered : IsAnsweredSoFar f g input text
-
-pub SoFar-none : {S : Type 0} {f : Answering S (List ℕ)} {g : S} (left held : Option (List ℕ)) → SoFar f g left held held
-SoFar-none {g} left held = record {
-  input = [] ++ unwrap_or left [];
-  text = [];
-  gives = Gives-left left left [] (Consumes-none left);
-  written = Appends-none held;
-  answered = is_answered_so_far (unwrap_or left []) (Begins-none (start g) (unwrap_or left [])) refl;
-}
+  pub answered : IsToldUntil fault f g input text
 
 begins : {S : Type 0} {f : Answering S (List ℕ)} → {p q : Place S} {xs t : List ℕ} → Served f p xs q t → Begins f p xs t
 begins {f} {p} {q} {xs} {t} s = record { front = xs; back = []; new = q; more = []; bytes_are = sym (append-nil xs); serves = subst (λ z. Served f p xs q z) (sym (append-nil t)) s }
 
+-- the first lines of an input of which a front was served, whatever follows
+answers_whole : {S : Type 0} {f : Answering S (List ℕ)} {g : S} {q : Place S} {xs text : List ℕ} (rest input : List ℕ) → xs ++ rest ≡ input → Served f (start g) xs q text → IsAnsweredSoFar f g input text × AnswersFirst f g input text
+answers_whole {f = f} {g} {q} {xs} {text} rest input e s =
+    (is_answered_so_far input (Begins-more rest (begins s)) (ap lines_of e), (s.lines, lines_of (q.begun ++ rest), s.told, q.state, ap lines_of (sym e) ∙ s.cut rest, s.run, s.text_is))
+
+-- nothing was read
+pub SoFar-none : {S : Type 0} {f : Answering S (List ℕ)} {g : S} (left held : Option (List ℕ)) → SoFar Memory f g left held held
+SoFar-none {g = g} left held = record {
+  input = [] ++ unwrap_or left [];
+  text = [];
+  gives = Gives-left left left [] (Consumes-none left);
+  written = Appends-none held;
+  answered = answers_whole (unwrap_or left []) (unwrap_or left []) refl (Served-none (start g));
+}
+
 -- the script stopped between two turns
-pub SoFar-stopped : {S : Type 0} {f : Answering S (List ℕ)} {g : S} {p : Place S} {left left' held held' : Option (List ℕ)} {turns : ℕ} (left'' : Option (List ℕ)) → Ran f g p left left' held held' turns → Keeps left' left'' → SoFar f g left held held'
+pub SoFar-stopped : {S : Type 0} {f : Answering S (List ℕ)} {g : S} {p : Place S} {left left' held held' : Option (List ℕ)} {turns : ℕ} (left'' : Option (List ℕ)) → Ran f g p left left' held held' turns → Keeps left' left'' → SoFar Read f g left held held'
 SoFar-stopped {left = left} {left'} left'' r k = record {
   input = r.input ++ unwrap_or left'' [];
   text = r.text;
   gives = Gives-left left left'' r.input (Consumes-kept left left' left'' r.input r.taken k);
   written = r.written;
-  answered = is_answered_so_far (r.input ++ unwrap_or left'' []) (Begins-more (unwrap_or left'' []) (begins r.served)) refl;
+  answered = answers_whole (unwrap_or left'' []) (r.input ++ unwrap_or left'' []) refl r.served;
 }
 
 -- it stopped in a chunk
-pub SoFar-fed : {S : Type 0} {f : Answering S (List ℕ)} {g : S} {p : Place S} {left left' held held' : Option (List ℕ)} {turns : ℕ} (left'' held'' : Option (List ℕ)) (bytes : List ℕ) → Ran f g p left left' held held' turns → Consumes left' left'' bytes → FeedsInPart f p bytes held' held'' → SoFar f g left held held''
-SoFar-fed {left = left} {left'} left'' held'' bytes r c (t, b, w) = record {
+pub SoFar-fed : {S : Type 0} {f : Answering S (List ℕ)} {g : S} {p : Place S} {left left' held held' : Option (List ℕ)} {turns : ℕ} (fault : ScriptFault) (left'' held'' : Option (List ℕ)) (bytes : List ℕ) → Ran f g p left left' held held' turns → Consumes left' left'' bytes → FeedsUntil fault f p bytes held' held'' → SoFar fault f g left held held''
+SoFar-fed Read left'' held'' bytes r c x = absurd x
+SoFar-fed {left = left} {left'} Write left'' held'' bytes r c (t, b, w) = record {
   input = (r.input ++ bytes) ++ unwrap_or left'' [];
   text = r.text ++ t;
   gives = Gives-left left left'' (r.input ++ bytes) (Consumes-joined left left' left'' r.input bytes r.taken c);
   written = Appends-joined _ _ _ r.text t r.written w;
   answered = is_answered_so_far ((r.input ++ bytes) ++ unwrap_or left'' []) (Begins-more (unwrap_or left'' []) (Begins-joined r.served b)) refl;
+}
+SoFar-fed {left = left} {left'} Memory left'' held'' bytes r c (new, rest, fed) = record {
+  input = (r.input ++ bytes) ++ unwrap_or left'' [];
+  text = r.text ++ fed.feeds.0;
+  gives = Gives-left left left'' (r.input ++ bytes) (Consumes-joined left left' left'' r.input bytes r.taken c);
+  written = Appends-joined _ _ _ r.text fed.feeds.0 r.written fed.feeds.2;
+  answered = answers_whole (rest ++ unwrap_or left'' []) _ (sym (append_assoc (r.input ++ fed.front) rest (unwrap_or left'' [])) ∙ ap (λ z. z ++ unwrap_or left'' []) (append_assoc r.input fed.front rest ∙ ap (λ z. r.input ++ z) (sym fed.bytes_are))) (Served-joined r.served fed.feeds.1);
 }
 
 -- ---- the end
@@ -126,7 +140,7 @@ same_lines : {S : Type 0} {f : Answering S (List ℕ)} {g : S} {p : Place S} {xs
 same_lines {p} {xs} bytes s e = s.cut bytes ∙ ap (λ z. s.lines ++ z) (e ∙ ap lines_of (sym (append-nil p.begun))) ∙ sym (s.cut []) ∙ ap lines_of (append-nil xs)
 
 -- it stopped in its last line
-pub SoFar-finished : {S : Type 0} {f : Answering S (List ℕ)} {g : S} {p : Place S} {left left' held held' : Option (List ℕ)} {turns : ℕ} (held'' : Option (List ℕ)) → Ran f g p left left' held held' turns → IsAtEnd left' → FinishesInPart f p held' held'' → SoFar f g left held held''
+pub SoFar-finished : {S : Type 0} {f : Answering S (List ℕ)} {g : S} {p : Place S} {left left' held held' : Option (List ℕ)} {turns : ℕ} (held'' : Option (List ℕ)) → Ran f g p left left' held held' turns → IsAtEnd left' → FinishesInPart f p held' held'' → SoFar Write f g left held held''
 SoFar-finished {left = left} {left'} held'' r e (bytes, l, (t, b, w)) = record {
   input = r.input;
   text = r.text ++ t;
@@ -153,6 +167,9 @@ Ran-end {left = left} {left'} left'' buffer n z r c = record {
 }
 
 -- ---- which device failed
+
+pub IsOfWriter-write : (fault : ScriptFault) (w w' : ℕ) → fault ≡ Write → FailsOnce w w' → IsOfWriter fault w w'
+IsOfWriter-write fault w w' e h = subst (λ f. IsOfWriter f w w') (sym e) h
 
 pub IsFaultOf-writer : (fault : ScriptFault) (k k' r r' w w' w'' : ℕ) → r' ≡ r → w' ≡ w → IsOfWriter fault w' w'' → IsFaultOf fault k k' r r' w w''
 IsFaultOf-writer Read k k' r r' w w' w'' e f h = absurd h

@@ -1,6 +1,9 @@
-//! Tests of scripts: the worked rows and the tours as tables of scripts with what they print, broken lines, and devices that fail.
+//! Tests of scripts: the worked rows and the tours as tables of scripts with what they print, broken lines, devices that fail, and
+//! the engine by itself.
 #![tactic(auto)]
 
+#[cfg(test)]
+mod engine_tests;
 #[cfg(test)]
 mod replication_tests;
 #[cfg(test)]

@@ -567,11 +567,11 @@ fn takes_a_long_line(rt: HostRuntime) -> Result<(), Fail> {
 
 /// A reader that gives a few bytes a call, and fails at one of its calls.
 #[derive(Drop)]
-struct NarrowReader<'a> {
-    bytes: &'a [u8],
-    calls_left: u64,
-    failures: u64,
-    reads: u64,
+pub(crate) struct NarrowReader<'a> {
+    pub(crate) bytes: &'a [u8],
+    pub(crate) calls_left: u64,
+    pub(crate) failures: u64,
+    pub(crate) reads: u64,
 }
 
 impl ScriptRead for NarrowReader<'_> {

@@ -1,7 +1,6 @@
 pub mod MembersLemmas
-pub mod PageLemmas
-pub mod ReplyLemmas
-pub mod ServeLemmas
-pub mod AnswersLemmas
-pub mod ReplicationLemmas
+pub mod TextLemmas
+pub mod TellingLemmas
 pub mod SessionLemmas
+pub mod LoadLemmas
+pub mod ReplicateLemmas

@@ -1,9 +1,7 @@
+pub mod Checks
 pub mod Members
 pub mod Given
-pub mod Edits
-pub mod Command
-pub mod Reply
-pub mod Replicating
-pub mod Answers
+pub mod Texts
+pub mod Telling
+pub mod words
 pub mod Script
-pub mod Serving

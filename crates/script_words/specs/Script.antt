@@ -1,23 +1,32 @@
--- What a line may be answered: docs/PROFILE.md, "Command lines" and "Answers". What each command is answered stands in `Answers`.
-use Rattle.std.specs.Prelude.{◌≡◌, ℕ, List, Result, Ok, Err, MatchResult}
+-- What a line may be answered: docs/PROFILE.md, "Command lines" and "Answers". What each word is told stands in its room, in `words`.
+use Rattle.std.specs.Prelude.{◌≡◌, ◌⊎◌, ℕ, List, Some, Result, Ok, Err}
+use Rattle.std.specs.Str.{IsUtf8}
+use Rattle.serde_json.specs.Data.{object, Members}
+use Rattle.serde_json.specs.Read.{read}
 use Rattle.script_engine.specs.Serving.{Told, Answering}
-use Rattle.script_words.specs.Command.{Ask, Asks}
 use Rattle.script_databases.specs.Databases.{State}
-use Rattle.script_words.specs.Reply.{Reply, refused, reply_text}
-use Rattle.script_databases.specs.Refusals.{name_of}
-use Rattle.script_words.specs.Answers.{Answers}
 use Rattle.script_databases.specs.declared.refusal.Refusal.{Refusal}
+use Rattle.script_databases.specs.declared.refusal.Refusal.TheVariants as why
+use Rattle.script_words.specs.Telling.{Refuses}
+use Rattle.script_words.specs.words.{Asked, asked_in, Answers}
 
--- a line asks for something, which is answered, or is refused
-abbrev pub AnswersLine : State → List ℕ → Reply → State → Type 0
-AnswersLine old line reply new = (told : Result Ask Refusal) × Asks line told
-    × MatchResult told (λ ask. Answers old ask reply new) (λ why. (reply ≡ refused why) × (new ≡ old))
+-- the line is this JSON object
+abbrev pub IsObject : List ℕ → Members → Type 0
+IsObject line ms = IsUtf8 line × (read line ≡ Some (object ms))
 
--- what a reply tells
-abbrev pub told_as : Reply → Told
-told_as (refused why) = Err (name_of why)
-told_as reply = Ok (reply_text 0 reply)
+-- it is none
+abbrev pub IsNoObject : List ℕ → Type 0
+IsNoObject line = (ms : Members) → IsObject line ms → ⊥
+
+-- what a line asks, or why it asks nothing
+abbrev pub Asks : List ℕ → Result Asked Refusal → Type 0
+Asks line asked = ((ms : Members) × IsObject line ms × (asked ≡ asked_in (object ms))) ⊎ (IsNoObject line × (asked ≡ Err why.BadLine))
+
+-- what is asked is answered, or refused and everything stays
+abbrev pub AnswersAsked : State → Result Asked Refusal → Told → State → Type 0
+AnswersAsked old (Ok ask) told new = Answers old ask told new
+AnswersAsked old (Err refusal) told new = Refuses refusal old told new
 
 -- what lines may be told
 abbrev pub LinesAnswer : Answering State (List ℕ)
-LinesAnswer old line told new = (reply : Reply) × AnswersLine old line reply new × (told ≡ told_as reply)
+LinesAnswer old line told new = (asked : Result Asked Refusal) × Asks line asked × AnswersAsked old asked told new

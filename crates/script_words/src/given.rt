@@ -4,21 +4,12 @@ ghost use Rattle.std.specs.Option.{option_copied};
 ghost use Rattle.serde_json.specs.View.{view};
 ghost use Rattle.script_databases.specs.Refusals.{GivesUnlessMemory};
 ghost use Rattle.script_words.specs.Given.{body_given, body_given_or_empty, document_given, id_given, rev_given};
-ghost use Rattle.script_words.specs.Edits.{edit_given};
 
 use doc_json::{Body, Doc, DocId, read_body, read_doc};
 use rev_core::Rev;
 use script_databases::Refusal;
 use serde_json::{Map, Value};
 use std::alloc::Global;
-
-/// What an edit gives: the document's id, the parent where one is named, and the body.
-#[derive(Drop)]
-pub struct EditGiven {
-    pub id: DocId,
-    pub parent: Option<Rev>,
-    pub body: Body,
-}
 
 /// The document's id that a text spells.
 pub fn read_id(alloc: Global, text: &str) -> Result<DocId, Refusal>
@@ -54,38 +45,13 @@ fn read_content(alloc: Global, value: &Value) -> Result<Body, Refusal>
 }
 
 /// The body that a line gives, an object without members where it gives none.
-fn read_content_or_empty(alloc: Global, body: Option<&Value>) -> Result<Body, Refusal>
+pub fn read_content_or_empty(alloc: Global, body: Option<&Value>) -> Result<Body, Refusal>
     ensures { GivesUnlessMemory result (body_given_or_empty (option_map (λ v. view v.now) body.entry)) }
 {
     match body {
         Some(value) => read_content(alloc, value),
         None => read_content(alloc, &Value::Object(Map::new(alloc))),
     }
-}
-
-/// What an edit gives. Its id is looked at first, then the parent, then the body.
-pub fn read_edit(
-    alloc: Global,
-    id: &str,
-    parent: Option<&str>,
-    body: Option<&Value>,
-) -> Result<EditGiven, Refusal>
-    ensures { GivesUnlessMemory result
-        (edit_given id.now (option_copied parent.entry) (option_map (λ v. view v.now) body.entry)) }
-{
-    let id = match read_id(alloc, id) {
-        Ok(id) => id,
-        Err(refusal) => return Err(refusal),
-    };
-    let parent = match read_rev(parent) {
-        Ok(parent) => parent,
-        Err(refusal) => return Err(refusal),
-    };
-    let body = match read_content_or_empty(alloc, body) {
-        Ok(body) => body,
-        Err(refusal) => return Err(refusal),
-    };
-    Ok(EditGiven { id, parent, body })
 }
 
 /// The document that a line gives, where it gives one.

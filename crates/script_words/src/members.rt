@@ -1,15 +1,41 @@
-//! Members of objects, each of its kind.
-ghost use Rattle.std.specs.Prelude.{◌≡◌, map, option_map, string_bytes};
+//! The object that a line is, and its members, each of its kind.
+ghost use Rattle.std.specs.Prelude.{◌≡◌, ◌⊎◌, IfOk, IfErr, map, option_map, string_bytes};
 ghost use Rattle.std.specs.BTreeMap.{keys};
 ghost use Rattle.std.specs.List.{list_all, list_any};
 ghost use Rattle.std.specs.Str.{bytes_eq};
 ghost use Rattle.serde_json.specs.Find.{as_bool, as_str};
 ghost use Rattle.std.specs.Option.{option_copied};
+ghost use Rattle.serde_json.specs.Data.{Members, object};
 ghost use Rattle.serde_json.specs.View.{view};
+ghost use Rattle.script_databases.specs.declared.refusal.Refusal.TheVariants.{BadLine, Memory};
+ghost use Rattle.script_words.specs.Script.{IsObject, IsNoObject};
 ghost use Rattle.script_words.specs.Members.{as_uuid, as_whole, has_only, is_name, is_name_byte, name_at, optional, text_at};
 
-use serde_json::{Map, Value};
+use script_databases::Refusal;
+use serde_json::{Category, Map, Value};
+use std::alloc::Global;
 use uuid::Uuid;
+
+/// The JSON object that a line is. `BadLine` where it is none; want of memory may come in the place of any answer.
+pub fn read_object(alloc: Global, line: &[u8]) -> Result<Value, Refusal>
+    ensures ok { IfOk result (λ value. (ms : Members) × IsObject line.now ms × (view value ≡ object ms)) }
+    ensures err { IfErr result (λ why. (why ≡ Memory) ⊎ ((why ≡ BadLine) × IsNoObject line.now)) }
+{
+    let value = match Value::from_slice(alloc, line) {
+        Ok(value) => value,
+        Err(error) => {
+            return Err(if let Category::Memory = error.classify() {
+                Refusal::Memory
+            } else {
+                Refusal::BadLine
+            });
+        }
+    };
+    if !value.is_object() {
+        return Err(Refusal::BadLine);
+    }
+    Ok(value)
+}
 
 /// A text that has to be there.
 pub fn text_member<'a>(value: &'a Value, key: &str) -> Option<&'a str>

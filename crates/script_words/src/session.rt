@@ -1,15 +1,18 @@
 //! A script of commands on databases in memory.
-ghost use Rattle.std.specs.Prelude.{◌≡◌, ℕ, List, IfOk, IfErr, OnOk};
+ghost use Rattle.std.specs.Prelude.{◌≡◌, ℕ, List, [], IfOk, IfErr, OnOk};
 ghost use Rattle.std.specs.Io.KnownBytes.{Appends, IsAtEnd};
 ghost use Rattle.script_engine.specs.Device.{Gives};
-ghost use Rattle.script_engine.specs.Script.{IsAnswered, IsAnsweredSoFar};
-ghost use Rattle.script_engine.specs.Faults.{IsFaultOf};
+ghost use Rattle.script_engine.specs.Script.{IsAnswered};
+ghost use Rattle.script_engine.specs.Faults.{IsFaultOf, IsToldUntil};
 ghost use Rattle.script_databases.specs.Databases.{State, no_databases};
+ghost use Rattle.script_engine.specs.Serving.{MayTell};
 ghost use Rattle.script_words.specs.Script.{LinesAnswer};
+ghost use Rattle.script_words.specs.Telling.{told_by};
 ghost use Rattle.script_databases.specs.Tables.{program_of};
 
-use crate::serve::serve_command;
-use script_databases::{Databases, Settings};
+use crate::members::read_object;
+use crate::words;
+use script_databases::{Databases, Refusal, Settings};
 use script_engine::{ScriptFault, ScriptRead, ScriptWrite, Serve, run_lines};
 use std::marker::Model;
 use std::mem;
@@ -35,12 +38,32 @@ impl<'a, H: AllocGlobal> Serve for Session<'a, H> {
     ghost answers = { LinesAnswer };
 
     fn serve(&mut self, line: &[u8], answer: &mut Vec<u8>) -> Result<(), &'static str> {
-        match serve_command(self.rt.alloc(), answer, &mut self.databases, line) {
+        match serve_line(self.rt, &mut self.databases, line, answer) {
             Ok(()) => {}
             Err(refusal) => return Err(refusal.name()),
         }
         Ok(())
     }
+}
+
+/// Serves a line that is not blank.
+fn serve_line<H: AllocGlobal>(
+    rt: &H,
+    databases: &mut Databases,
+    line: &[u8],
+    answer: &mut Vec<u8>,
+) -> Result<(), Refusal>
+    requires { answer.old.items ≡ [] }
+    ensures { MayTell LinesAnswer databases.old line.now (told_by result answer.new.items) databases.new }
+{
+    let value = match read_object(rt.alloc(), line) {
+        Ok(value) => value,
+        Err(refusal) => return Err(refusal),
+    };
+    let Some(word) = words::read(&value) else {
+        return Err(Refusal::BadCommand);
+    };
+    words::serve(rt, databases, &word, answer)
 }
 
 /// Runs a script: reads lines to the reader's end, each of which is one command, and writes the answers in their
@@ -62,10 +85,11 @@ pub fn run_script<H: AllocGlobal, R: ScriptRead, W: ScriptWrite>(
     ensures end { OnOk result (IsAtEnd (R.left reader.new)) }
     ensures counted { OnOk result ((R.failures reader.new ≡ R.failures reader.old)
         × (W.failures writer.new ≡ W.failures writer.old)) }
-    // After a fault it is a beginning of such answers, and the device that is named has failed.
+    // After a fault it is a beginning of such answers, and the device that is named has failed. `Memory` comes only while a line is read
+    // in: the lines before it are answered whole.
     ensures fault { IfErr result (λ fault. (input : List ℕ) × (text : List ℕ) × Gives (R.left reader.old) input
         × Appends (W.held writer.old) (W.held writer.new) text
-        × IsAnsweredSoFar LinesAnswer (no_databases (program_of settings.now)) input text
+        × IsToldUntil fault LinesAnswer (no_databases (program_of settings.now)) input text
         × IsFaultOf fault (R.reads reader.old) (R.reads reader.new) (R.failures reader.old) (R.failures reader.new)
         (W.failures writer.old) (W.failures writer.new)) }
 {
@@ -91,10 +115,11 @@ pub fn run_last_script<H: AllocGlobal, R: ScriptRead, W: ScriptWrite>(
     ensures end { OnOk result (IsAtEnd (R.left reader.new)) }
     ensures counted { OnOk result ((R.failures reader.new ≡ R.failures reader.old)
         × (W.failures writer.new ≡ W.failures writer.old)) }
-    // After a fault it is a beginning of such answers, and the device that is named has failed.
+    // After a fault it is a beginning of such answers, and the device that is named has failed. `Memory` comes only while a line is read
+    // in: the lines before it are answered whole.
     ensures fault { IfErr result (λ fault. (input : List ℕ) × (text : List ℕ) × Gives (R.left reader.old) input
         × Appends (W.held writer.old) (W.held writer.new) text
-        × IsAnsweredSoFar LinesAnswer (no_databases (program_of settings.now)) input text
+        × IsToldUntil fault LinesAnswer (no_databases (program_of settings.now)) input text
         × IsFaultOf fault (R.reads reader.old) (R.reads reader.new) (R.failures reader.old) (R.failures reader.new)
         (W.failures writer.old) (W.failures writer.new)) }
 {
@@ -119,7 +144,7 @@ fn run_on<H: AllocGlobal, R: ScriptRead, W: ScriptWrite>(
     ensures counted { OnOk result.0 ((R.failures reader.new ≡ R.failures reader.old)
         × (W.failures writer.new ≡ W.failures writer.old)) }
     ensures fault { IfErr result.0 (λ fault. (input : List ℕ) × (text : List ℕ) × Gives (R.left reader.old) input
-        × Appends (W.held writer.old) (W.held writer.new) text × IsAnsweredSoFar LinesAnswer databases input text
+        × Appends (W.held writer.old) (W.held writer.new) text × IsToldUntil fault LinesAnswer databases input text
         × IsFaultOf fault (R.reads reader.old) (R.reads reader.new) (R.failures reader.old) (R.failures reader.new)
         (W.failures writer.old) (W.failures writer.new)) }
 {

@@ -2,8 +2,8 @@ use Rattle.std.proofs.Common.{◌≡◌, ℕ, List, Bool, Option, Result, Ok, Er
 use Rattle.std.specs.Prelude.{IfOk, IfErr}
 use Rattle.std.specs.Io.KnownBytes.{Appends}
 use Rattle.script_engine.specs.Device.{Gives}
-use Rattle.script_engine.specs.Faults.{IsFaultOf}
-use Rattle.script_engine.specs.Script.{IsAnswered, IsAnsweredSoFar}
+use Rattle.script_engine.specs.Faults.{IsFaultOf, IsToldUntil}
+use Rattle.script_engine.specs.Script.{IsAnswered}
 use Rattle.script_engine.specs.declared.fault.ScriptFault.{ScriptFault}
 use Rattle.script_databases.specs.Databases.{Program, State, no_databases}
 use Rattle.script_words.specs.Script.{LinesAnswer}
@@ -13,7 +13,7 @@ use Rattle.couch_replicate.proofs.run.run_words.Goals as goal
 -- what the run of a script answered
 answered : (g : Program) (l h h' : Option (List ℕ)) (k k' r r' w w' : ℕ) (x : Result Bool ScriptFault) →
     IfOk x (λ clean. (input : List ℕ) × (text : List ℕ) × (state : State) × Gives l input × Appends h h' text × IsAnswered LinesAnswer (no_databases g) input clean text state) →
-    IfErr x (λ fault. (input : List ℕ) × (text : List ℕ) × Gives l input × Appends h h' text × IsAnsweredSoFar LinesAnswer (no_databases g) input text × IsFaultOf fault k k' r r' w w') → Answered g l h h' x
+    IfErr x (λ fault. (input : List ℕ) × (text : List ℕ) × Gives l input × Appends h h' text × IsToldUntil fault LinesAnswer (no_databases g) input text × IsFaultOf fault k k' r r' w w') → Answered g l h h' x
 answered g l h h' k k' r r' w w' (Ok clean) a f = a
 answered g l h h' k k' r r' w w' (Err fault) a (input, text, gives, written, so_far, is) = (input, text, gives, written, so_far)
 

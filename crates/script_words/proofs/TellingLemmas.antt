@@ -1,0 +1,92 @@
+-- From checks that pass, or don't, to what a word is told.
+use Rattle.std.proofs.Common.{◌≡◌, ◌⊎◌, inl, inr, ℕ, true, false, List, [], ◌++◌, Option, Some, None, Result, Ok, Err, refl, sym, ap, subst, ◌∙◌, is_some}
+use Rattle.std.proofs.lemmas.Bool.{true≢false}
+use Rattle.std.specs.FinMap.{contains_key}
+use Rattle.rev_tree.specs.Tree.{TreeValue}
+use Rattle.couch_base.specs.Database.{DatabaseValue, tree_in}
+use Rattle.repl_target.specs.Peer.{PeerValue}
+use Rattle.script_engine.specs.Serving.{Told, Answering, MayTell, in_full, gave_up, served_only}
+use Rattle.script_databases.specs.Databases.{State, peer_at, with_peer, with_changed, changed_at}
+use Rattle.script_databases.specs.Refusals.{name_of}
+use Rattle.script_databases.specs.declared.refusal.Refusal.{Refusal}
+use Rattle.script_databases.specs.declared.refusal.Refusal.TheVariants as why
+use Rattle.script_words.specs.Checks.{◌>>=◌, found}
+use Rattle.script_words.specs.Telling.{told_of, Reads, Does}
+
+-- ---- checks
+
+-- one that passes, and one that doesn't
+pub passes : {A B : Type 0} {r : Result A Refusal} {x : A} (f : A → Result B Refusal) → r ≡ Ok x → (r >>= f) ≡ f x
+passes f e = ap (λ s. s >>= f) e
+
+pub stops : {A B : Type 0} {r : Result A Refusal} {refusal : Refusal} (f : A → Result B Refusal) → r ≡ Err refusal → (r >>= f) ≡ Err refusal
+stops f e = ap (λ s. s >>= f) e
+
+-- what is there, and what isn't
+pub is_found : {A : Type 0} {o : Option A} {x : A} (refusal : Refusal) → o ≡ Some x → found refusal o ≡ Ok x
+is_found refusal e = ap (found refusal) e
+
+pub is_missing : {A : Type 0} {o : Option A} (refusal : Refusal) → o ≡ None → found refusal o ≡ Err refusal
+is_missing refusal e = ap (found refusal) e
+
+-- ---- what is told
+
+pub reads : {text : Result (List ℕ) Refusal} {old : State} (r : Result (List ℕ) Refusal) → text ≡ r → Reads text old (told_of r) old
+reads r e = (ap told_of (sym e), refl)
+
+pub does : {done : Result (List ℕ × State) Refusal} {new : State} (old : State) (text : List ℕ) → done ≡ Ok (text, new) → Does done old (Ok text) new
+does {done} {new} old text e = subst (λ d. Does d old (Ok text) new) (sym e) (refl, refl)
+
+pub does_nothing : {done : Result (List ℕ × State) Refusal} {old new : State} (refusal : Refusal) → done ≡ Err refusal → new ≡ old → Does done old (Err (name_of refusal)) new
+does_nothing {done} {old} {new} refusal e s = subst (λ d. Does d old (Err (name_of refusal)) new) (sym e) (refl, s)
+
+-- the text that was told, and the state that was left
+pub both : {text text' : List ℕ} {s s' : State} → text' ≡ text → s' ≡ s → ◌≡◌ {A = Result (List ℕ × State) Refusal} (Ok (text, s)) (Ok (text', s'))
+both e f = λ i. Ok (sym e i, sym f i)
+
+-- memory was wanting, and nothing was changed
+pub gave_up_at : {L : Type 0} {answers : Answering State L} {old new : State} {ask : L} → new ≡ old → MayTell answers old ask (Err (name_of why.Memory)) new
+gave_up_at {answers = answers} {old = old} {ask = ask} s = subst (λ (x : State). MayTell answers old ask (Err (name_of why.Memory)) x) (sym s) gave_up
+
+-- what was put into a buffer that was empty
+pub printed : {items old text expected : List ℕ} → items ≡ old ++ text → old ≡ [] → text ≡ expected → items ≡ expected
+printed {text = text} e none is = e ∙ ap (λ x. x ++ text) none ∙ is
+
+-- the refusal is the expected one, or memory was wanting before a change
+pub unless_memory : {L A : Type 0} {answers : Answering State L} {old new : State} {ask : L} {refusal : Refusal} (expected : Result A Refusal) → (expected ≡ Err refusal) ⊎ (refusal ≡ why.Memory) → new ≡ old →
+    (expected ≡ Err refusal → answers old ask (Err (name_of refusal)) new) → MayTell answers old ask (Err (name_of refusal)) new
+unless_memory expected (inl e) s f = in_full (f e)
+unless_memory {answers = answers} {old = old} {new = new} {ask = ask} {refusal = refusal} expected (inr m) s f =
+    subst (λ r. MayTell answers old ask (Err (name_of r)) new) (sym m) (subst (λ (x : State). MayTell answers old ask (Err (name_of why.Memory)) x) (sym s) gave_up)
+
+-- what a part may be told, the whole may
+pub may_tell : {K L : Type 0} {part : Answering State K} {whole : Answering State L} {old new : State} {k : K} {l : L} {told : Told} → ((t : Told) → part old k t new → whole old l t new) → MayTell part old k told new → MayTell whole old l told new
+may_tell f (in_full a) = in_full (f _ a)
+may_tell f gave_up = gave_up
+may_tell f (served_only text a) = served_only text (f _ a)
+
+-- ---- documents
+
+-- the document's tree, where the database and the id are known
+pub tree_is : (base : DatabaseValue) (l : PeerValue) (id : List ℕ) (o : Option TreeValue) → base ≡ l.db → o ≡ tree_in base.docs id → tree_in l.db.docs id ≡ o
+tree_is base l id o e h = sym (h ∙ ap (λ (d : DatabaseValue). tree_in d.docs id) e)
+
+-- ---- names
+
+pub is_there : (s : State) (name : List ℕ) → contains_key s.peers name ≡ true → (l : PeerValue) × (peer_at s name ≡ Some l)
+is_there s name h = by (peer_at s name) refl
+  where
+    by : (o : Option PeerValue) → peer_at s name ≡ o → (l : PeerValue) × (peer_at s name ≡ Some l)
+    by None e = absurd (true≢false (sym h ∙ ap is_some e))
+    by (Some l) e = (l, e)
+
+pub is_absent : (s : State) (name : List ℕ) → contains_key s.peers name ≡ false → peer_at s name ≡ None
+is_absent s name h = by (peer_at s name) refl
+  where
+    by : (o : Option PeerValue) → peer_at s name ≡ o → peer_at s name ≡ None
+    by None e = e
+    by (Some l) e = absurd (true≢false (sym (ap is_some e) ∙ h))
+
+-- a change of one that is there
+pub changed_is : (s new : State) (name : List ℕ) (f : PeerValue → PeerValue) (l : PeerValue) → peer_at s name ≡ Some l → new ≡ changed_at s name f → new ≡ with_peer s name (f l)
+changed_is s new name f l e is = is ∙ ap (with_changed s name f) e

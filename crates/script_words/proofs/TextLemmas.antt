@@ -1,0 +1,69 @@
+-- The texts of lists, and of what stands for itself in JSON.
+use Rattle.std.proofs.Common.{◌≡◌, ℕ, ◌+◌, ◌<◌, ◌≤◌, List, [], ◌∷◌, ◌++◌, length, take, get_or, map, true, refl, sym, ap, ◌∙◌, append_assoc, arith}
+use Rattle.std.proofs.lemmas.Bool.{and_parts}
+use Rattle.std.proofs.lemmas.Bool.Decides.{nat_tests}
+use Rattle.std.proofs.lemmas.Grind.{flat_map-append}
+use Rattle.std.specs.List.{flat_map, join_with_byte, list_all}
+use Rattle.std.proofs.lemmas.List.{flat_map_more, take_more, map-append}
+use Rattle.rev_core.specs.Rev.{RevId}
+use Rattle.rev_core.specs.Text.{rev_text}
+use Rattle.json.specs.Print.{escape, escape_byte}
+use Rattle.script_words.specs.Texts.{is_plain_byte, texts_of_revs}
+
+join-push : (c : ℕ) (x y : List ℕ) (xs : List (List ℕ)) → join_with_byte c ((x ∷ xs) ++ y ∷ []) ≡ (join_with_byte c (x ∷ xs) ++ c ∷ []) ++ y
+join-push c x y [] = sym (append_assoc x (c ∷ []) y)
+join-push c x y (z ∷ xs) =
+    ap (λ t. x ++ (c ∷ t)) (join-push c z y xs)
+    ∙ ap (λ t. x ++ (c ∷ t)) (append_assoc (join_with_byte c (z ∷ xs)) (c ∷ []) y)
+    ∙ sym (append_assoc x (c ∷ join_with_byte c (z ∷ xs)) (c ∷ y))
+    ∙ sym (append_assoc (x ++ (c ∷ join_with_byte c (z ∷ xs))) (c ∷ []) y)
+
+texts-push : (revs : List RevId) (rev : RevId) → 0 < length revs → texts_of_revs (revs ++ rev ∷ []) ≡ (texts_of_revs revs ++ 44 ∷ []) ++ rev_text rev
+texts-push [] rev h = absurd (omega arith)
+texts-push (r ∷ revs) rev h = ap (join_with_byte 44) (map-append rev_text (r ∷ revs) (rev ∷ [])) ∙ join-push 44 (rev_text r) (rev_text rev) (map rev_text revs)
+
+-- one more, behind a comma
+pub texts-more : (revs : List RevId) (i : ℕ) (rev : RevId) → 0 < i → i < length revs → rev ≡ get_or revs i rev → texts_of_revs (take (i + 1) revs) ≡ (texts_of_revs (take i revs) ++ 44 ∷ []) ++ rev_text rev
+texts-more revs i rev some h e =
+    ap texts_of_revs (take_more revs i rev h ∙ ap (λ r. take i revs ++ r ∷ []) (sym e))
+    ∙ texts-push (take i revs) rev (grind (arith, Rattle.std.proofs.lemmas.Grind.common_steps))
+
+-- the first
+pub texts-first : (old : List ℕ) (revs : List RevId) (i : ℕ) (rev : RevId) → i ≤ 0 → i < length revs → rev ≡ get_or revs i rev → (old ++ texts_of_revs (take i revs)) ++ rev_text rev ≡ old ++ texts_of_revs (take (i + 1) revs)
+texts-first old revs i rev z h e =
+    let none : i ≡ 0 = omega arith in
+    ap (λ n. (old ++ texts_of_revs (take n revs)) ++ rev_text rev) none
+    ∙ append_assoc old [] (rev_text rev)
+    ∙ ap (λ n. old ++ texts_of_revs (take n revs ++ rev ∷ [])) (sym none)
+    ∙ ap (λ rs. old ++ texts_of_revs rs) (sym (take_more revs i rev h ∙ ap (λ r. take i revs ++ r ∷ []) (sym e)))
+
+-- the line of one more
+pub lines-more : {X : Type 0} (f : X → List ℕ) (head : List ℕ) (revs : List X) (i : ℕ) (rev : X) → i < length revs → rev ≡ get_or revs i rev → (head ++ flat_map f (take i revs)) ++ f rev ≡ head ++ flat_map f (take (i + 1) revs)
+lines-more f head revs i rev h e =
+    flat_map_more f head (take i revs) rev
+    ∙ ap (λ rs. head ++ flat_map f rs) (sym (take_more revs i rev h ∙ ap (λ r. take i revs ++ r ∷ []) (sym e)))
+
+-- all of them
+pub lines-all : {X : Type 0} (f : X → List ℕ) (head : List ℕ) (revs all : List X) (i : ℕ) → length revs ≤ i → revs ≡ all → head ++ flat_map f (take i revs) ≡ head ++ flat_map f all
+lines-all {X} f head revs all i h e = ap (λ rs. head ++ flat_map f rs) (past revs i h ∙ e)
+  where
+    past : (rs : List X) (n : ℕ) → length rs ≤ n → take n rs ≡ rs
+    past rs n l = grind (arith, Rattle.std.proofs.lemmas.Grind.common_steps)
+
+-- the rows of a page, and those behind it
+pub texts_step : {X : Type 0} (f : X → List ℕ) (text next all : List ℕ) (rows rest whole : List X) → rows ++ rest ≡ whole → text ++ flat_map f whole ≡ all → next ≡ text ++ flat_map f rows → next ++ flat_map f rest ≡ all
+texts_step f text next all rows rest whole e h n =
+    ap (λ t. t ++ flat_map f rest) n ∙ append_assoc text (flat_map f rows) (flat_map f rest)
+    ∙ ap (λ t. text ++ t) (sym (flat_map-append f rows rest) ∙ ap (flat_map f) e) ∙ h
+
+-- a byte that stands for itself
+plain_byte : (b : ℕ) → is_plain_byte b ≡ true → escape_byte b ≡ b ∷ []
+unfolding escape_byte
+plain_byte b h = grind (arith, nat_tests)
+
+-- a text in which each byte stands for itself
+pub escape-plain : (s : List ℕ) → list_all is_plain_byte s ≡ true → escape s ≡ s
+escape-plain [] h = refl
+escape-plain (b ∷ s) h =
+    let parts = and_parts _ _ h in
+    ap (λ x. x ++ escape s) (plain_byte b parts.0) ∙ ap (λ x. b ∷ x) (escape-plain s parts.1)

@@ -1,0 +1,28 @@
+use Rattle.std.proofs.Common.{◌≡◌, ◌⊎◌, inl, inr, ℕ, List, Ok, Err, refl, sym, ap, subst, ◌∙◌}
+use Rattle.script_engine.specs.Serving.{MayTell, in_full, gave_up}
+use Rattle.script_databases.specs.Databases.{State}
+use Rattle.script_databases.specs.Refusals.{name_of}
+use Rattle.script_databases.specs.declared.refusal.Refusal.{Refusal}
+use Rattle.script_databases.specs.declared.refusal.Refusal.TheVariants as why
+use Rattle.script_words.specs.Script.{IsNoObject, LinesAnswer}
+use Rattle.script_words.specs.words.{asked_in, asked_of}
+use Rattle.script_words.proofs.TellingLemmas.{may_tell}
+use Rattle.script_words.proofs.session.serve_line.Goals as goal
+
+-- a line that is no object, or for which memory was wanting
+line_refused : (old : State) (line : List ℕ) (refusal : Refusal) → (refusal ≡ why.Memory) ⊎ ((refusal ≡ why.BadLine) × IsNoObject line) → MayTell LinesAnswer old line (Err (name_of refusal)) old
+line_refused old line refusal (inl m) = subst (λ r. MayTell LinesAnswer old line (Err (name_of r)) old) (sym m) gave_up
+line_refused old line refusal (inr h) = subst (λ r. MayTell LinesAnswer old line (Err (name_of r)) old) (sym h.0) (in_full (Err why.BadLine, inr (h.1, refl), (refl, refl)))
+
+pub returns-in-Err : goal.returns-in-Err
+returns-in-Err g c = line_refused c.args.databases.now c.args.line.now c.in-Err.refusal c.in-Err.ensures.err
+
+pub returns-in_default : goal.returns-in_default
+returns-in_default g c =
+    let o = c.in-Ok.ensures.ok in
+    in_full (Err why.BadCommand, inl (o.0, o.1, c.in_default.ensures ∙ ap asked_in o.2), (refl, refl))
+
+pub returns : goal.returns
+returns g c =
+    let o = c.in-Ok.ensures.ok in
+    may_tell (λ t a. (Ok (asked_of c.in-Some.word), inl (o.0, o.1, c.in-Some.ensures ∙ ap asked_in o.2), a)) c.serve.ensures

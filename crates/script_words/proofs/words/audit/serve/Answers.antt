@@ -1,0 +1,23 @@
+use Rattle.std.proofs.Common.{Ok, Err, sym, ap, ◌∙◌}
+use Rattle.script_engine.specs.Serving.{in_full, gave_up}
+use Rattle.script_databases.specs.declared.refusal.Refusal.TheVariants as why
+use Rattle.script_words.specs.words.Audit.{audit_text}
+use Rattle.script_words.proofs.TellingLemmas.{passes, stops, is_found, is_missing, reads, printed}
+use Rattle.script_words.proofs.words.audit.serve.Goals as goal
+
+pub returns-in_default : goal.returns-in_default
+returns-in_default c = in_full (reads (Err why.NoDatabase) (stops _ (is_missing why.NoDatabase (sym c.in_default.ensures))))
+
+pub returns-in_default-find : goal.returns-in_default-find
+returns-in_default-find c = in_full (reads (Err why.NoDatabase) (passes _ (is_found why.NoDatabase (sym c.in-Some.ensures)) ∙ stops _ (is_missing why.NoDatabase (sym c.in_default-find.ensures))))
+
+pub returns-in_default-audit : goal.returns-in_default-audit
+returns-in_default-audit c = gave_up
+
+pub returns-in-Ok-print : goal.returns-in-Ok-print
+returns-in-Ok-print c =
+    let text = printed c.in-Ok-print.ensures c.requires (ap audit_text c.in-Ok.ensures.answer) in
+    in_full (reads (Ok c.print.new.answer.items) (passes _ (is_found why.NoDatabase (sym c.in-Some.ensures)) ∙ passes _ (is_found why.NoDatabase (sym c.in-Some-find.ensures)) ∙ ap Ok (sym text)))
+
+pub returns-in-Err : goal.returns-in-Err
+returns-in-Err c = gave_up

@@ -1,0 +1,57 @@
+use Rattle.std.proofs.Common.{◌≡◌, List, ℕ, Option, Ok, Err, Some, None, refl, sym, ap, ◌∙◌}
+use Rattle.rev_core.specs.Rev.{RevId}
+use Rattle.doc_json.specs.Document.{Document}
+use Rattle.couch_base.specs.Database.{DatabaseValue}
+use Rattle.couch_base.specs.Messages.{document_at}
+use Rattle.repl_target.specs.Peer.{PeerValue}
+use Rattle.script_engine.specs.Serving.{in_full, gave_up}
+use Rattle.script_databases.specs.declared.refusal.Refusal.TheVariants as why
+use Rattle.script_words.proofs.TellingLemmas.{passes, stops, is_found, is_missing, reads, printed, unless_memory, tree_is}
+use Rattle.script_words.proofs.words.doc.serve.Goals as goal
+
+pub returns-in_default : goal.returns-in_default
+returns-in_default c = in_full (reads (Err why.NoDatabase) (stops _ (is_missing why.NoDatabase (sym c.in_default.ensures))))
+
+pub returns-in-Err : goal.returns-in-Err
+returns-in-Err c = unless_memory _ c.in-Err.ensures refl (λ e. reads (Err c.in-Err.refusal) (passes _ (is_found why.NoDatabase (sym c.in-Some.ensures)) ∙ stops _ e))
+
+pub returns-in-Err-read_rev : goal.returns-in-Err-read_rev
+returns-in-Err-read_rev c = in_full (reads (Err c.in-Err-read_rev.refusal) (passes _ (is_found why.NoDatabase (sym c.in-Some.ensures)) ∙ passes _ c.in-Ok.ensures ∙ stops _ (sym c.in-Err-read_rev.ensures)))
+
+pub returns-in_default-tree : goal.returns-in_default-tree
+returns-in_default-tree c =
+    let none = tree_is _ c.in-Some.peer.now.1 c.in-Ok.id _ c.db.ensures.value c.in_default-tree.ensures.value in
+    in_full (reads (Err why.NoSuchDocument) (passes _ (is_found why.NoDatabase (sym c.in-Some.ensures)) ∙ passes _ c.in-Ok.ensures ∙ passes _ (sym c.in-Ok-read_rev.ensures) ∙ stops _ (is_missing why.NoSuchDocument none)))
+
+pub returns-in_default-chosen : goal.returns-in_default-chosen
+returns-in_default-chosen c =
+    let some = tree_is _ c.in-Some.peer.now.1 c.in-Ok.id _ c.db.ensures.value c.in-Some-tree.ensures.value in
+    in_full (reads (Err why.NoSuchRevision)
+    (passes _ (is_found why.NoDatabase (sym c.in-Some.ensures)) ∙ passes _ c.in-Ok.ensures ∙ passes _ (sym c.in-Ok-read_rev.ensures) ∙ passes _ (is_found why.NoSuchDocument some) ∙ stops _ (is_missing why.NoSuchRevision (sym c.in_default-chosen.ensures))))
+
+pub returns-in_default-document : goal.returns-in_default-document
+returns-in_default-document c = gave_up
+
+-- the document at the revision, where the database is the peer's
+at_peer : (base : DatabaseValue) (l : PeerValue) (id : List ℕ) (rev : RevId) (o : Option Document) → base ≡ l.db → o ≡ document_at base id rev → document_at l.db id rev ≡ o
+at_peer base l id rev o e h = sym (h ∙ ap (λ (d : DatabaseValue). document_at d id rev) e)
+
+pub returns-in_default-found : goal.returns-in_default-found
+returns-in_default-found c =
+    let some = tree_is _ c.in-Some.peer.now.1 c.in-Ok.id _ c.db.ensures.value c.in-Some-tree.ensures.value in
+    let none = at_peer _ c.in-Some.peer.now.1 c.in-Ok.id c.in-Some-chosen.rev None c.db-2.ensures.value (sym c.in_default-found.is ∙ c.in-Ok-document.ensures.document) in
+    in_full (reads (Err why.NoSuchRevision)
+    (passes _ (is_found why.NoDatabase (sym c.in-Some.ensures)) ∙ passes _ c.in-Ok.ensures ∙ passes _ (sym c.in-Ok-read_rev.ensures) ∙ passes _ (is_found why.NoSuchDocument some) ∙ passes _ (is_found why.NoSuchRevision (sym c.in-Some-chosen.ensures))
+    ∙ stops _ (is_missing why.NoSuchRevision none)))
+
+pub returns-in-Ok-print : goal.returns-in-Ok-print
+returns-in-Ok-print c =
+    let some = tree_is _ c.in-Some.peer.now.1 c.in-Ok.id _ c.db.ensures.value c.in-Some-tree.ensures.value in
+    let document = at_peer _ c.in-Some.peer.now.1 c.in-Ok.id c.in-Some-chosen.rev (Some c.in-Some-found.document) c.db-2.ensures.value (sym c.in-Some-found.is ∙ c.in-Ok-document.ensures.document) in
+    let text = printed c.in-Ok-print.ensures c.requires refl in
+    in_full (reads (Ok c.print.new.answer.items)
+    (passes _ (is_found why.NoDatabase (sym c.in-Some.ensures)) ∙ passes _ c.in-Ok.ensures ∙ passes _ (sym c.in-Ok-read_rev.ensures) ∙ passes _ (is_found why.NoSuchDocument some) ∙ passes _ (is_found why.NoSuchRevision (sym c.in-Some-chosen.ensures))
+    ∙ passes _ (is_found why.NoSuchRevision document) ∙ ap Ok (sym text)))
+
+pub returns : goal.returns
+returns c = gave_up

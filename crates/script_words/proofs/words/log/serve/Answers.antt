@@ -1,0 +1,50 @@
+use Rattle.std.proofs.Common.{◌≡◌, ◌⊎◌, inl, inr, ℕ, List, Result, Ok, Err, refl, sym, ap, ◌∙◌}
+use Rattle.repl_log.specs.Answers.{GivesUnlessMemory}
+use Rattle.repl_log.specs.Text.{log_text}
+use Rattle.repl_log.specs.declared.fault.LogFault.{LogFault}
+use Rattle.repl_log.specs.declared.fault.LogFault.TheVariants as faults
+use Rattle.repl_log.specs.declared.replication.RepId.{RepId}
+use Rattle.repl_target.specs.Audit.{rep_between}
+use Rattle.script_engine.specs.Serving.{in_full, gave_up}
+use Rattle.script_databases.specs.Refusals.{told_as, log_refusal}
+use Rattle.script_databases.specs.declared.refusal.Refusal.TheVariants as why
+use Rattle.script_words.specs.Texts.{ended}
+use Rattle.script_words.proofs.TellingLemmas.{passes, stops, is_found, is_missing, reads, printed, unless_memory}
+use Rattle.script_words.proofs.words.log.serve.Goals as goal
+
+pub returns-in_default : goal.returns-in_default
+returns-in_default c = in_full (reads (Err why.NoDatabase) (stops _ (is_missing why.NoDatabase (sym c.in_default.ensures))))
+
+pub returns-in_default-find : goal.returns-in_default-find
+returns-in_default-find c = in_full (reads (Err why.NoDatabase) (passes _ (is_found why.NoDatabase (sym c.in-Some.ensures)) ∙ stops _ (is_missing why.NoDatabase (sym c.in_default-find.ensures))))
+
+pub returns-in_default-log_held : goal.returns-in_default-log_held
+returns-in_default-log_held c = gave_up
+
+-- a fault of the log's text
+log_refused : (fault : LogFault) (expected : Result (List ℕ) LogFault) → GivesUnlessMemory (Err fault) expected → (told_as log_refusal expected ≡ Err (log_refusal fault)) ⊎ (log_refusal fault ≡ why.Memory)
+log_refused faults.BadMoment expected h = inl (ap (told_as log_refusal) (sym h))
+log_refused (faults.Older stored) expected h = inl (ap (told_as log_refusal) (sym h))
+log_refused faults.EmptyLog expected h = inl (ap (told_as log_refusal) (sym h))
+log_refused faults.Memory expected h = inr refl
+
+pub returns-in-Err : goal.returns-in-Err
+returns-in-Err c =
+    let s = c.in-Some.source.now.1 in
+    let t = c.in-Some-find.target.now.1 in
+    let same = ap (λ (r : RepId). log_text r c.in-Ok.log) c.rep_of-rep.ensures ∙ ap (log_text (rep_between s t)) c.in-Ok.ensures in
+    rw c.of_log.ensures
+    (unless_memory (told_as log_refusal (log_text c.rep_of-rep.result c.in-Ok.log)) (log_refused c.in-Err.fault (log_text c.rep_of-rep.result c.in-Ok.log) c.in-Err.ensures.answer) refl
+    (λ e. reads (Err (log_refusal c.in-Err.fault)) (passes _ (is_found why.NoDatabase (sym c.in-Some.ensures)) ∙ passes _ (is_found why.NoDatabase (sym c.in-Some-find.ensures)) ∙ stops _ (ap (told_as log_refusal) (sym same) ∙ e))))
+
+pub returns-in-Ok-print : goal.returns-in-Ok-print
+returns-in-Ok-print c =
+    let s = c.in-Some.source.now.1 in
+    let t = c.in-Some-find.target.now.1 in
+    let same = ap (λ (r : RepId). log_text r c.in-Ok.log) c.rep_of-rep.ensures ∙ ap (log_text (rep_between s t)) c.in-Ok.ensures in
+    let text = printed c.in-Ok-print.ensures c.requires (ap ended c.as_slice.ensures.value) in
+    in_full (reads (Ok c.print.new.answer.items)
+    (passes _ (is_found why.NoDatabase (sym c.in-Some.ensures)) ∙ passes _ (is_found why.NoDatabase (sym c.in-Some-find.ensures)) ∙ passes _ (ap (told_as log_refusal) (sym same ∙ sym c.in-Ok-write_log.ensures.answer)) ∙ ap Ok (sym text)))
+
+pub returns : goal.returns
+returns c = gave_up

@@ -1,0 +1,49 @@
+use Rattle.std.proofs.Common.{Ok, Err, refl, sym, ap, subst, inl, ◌∙◌}
+use Rattle.script_engine.specs.Serving.{MayTell, in_full, served_only}
+use Rattle.script_databases.specs.Refusals.{name_of}
+use Rattle.script_databases.specs.declared.refusal.Refusal.TheVariants as why
+use Rattle.script_words.specs.Telling.{told_of}
+use Rattle.script_words.specs.words.Replicate.{Replicates, replicate_asked, ending_line}
+use Rattle.script_words.proofs.ReplicateLemmas.{replicates, replicated, are_both}
+use Rattle.script_words.proofs.TellingLemmas.{passes, stops, is_found, is_missing, is_there, is_absent, printed}
+use Rattle.script_words.proofs.words.replicate.serve.Goals as goal
+
+pub returns-then-not-has : goal.returns-then-not-has
+returns-then-not-has g c =
+    let old = c.args.databases.now in
+    in_full (replicates old old (replicate_asked c.args.ask.now) _ (Err why.NoDatabase) (stops _ (is_missing why.NoDatabase (is_absent old c.args.ask.now.source.now (sym c.has.ensures ∙ c.if-not-has.true)))) (refl, refl))
+
+pub returns-then-not-has-2 : goal.returns-then-not-has-2
+returns-then-not-has-2 g c =
+    let old = c.args.databases.now in
+    let s = is_there old c.args.ask.now.source.now (sym c.has.ensures ∙ c.if-not-has.false) in
+    in_full (replicates old old (replicate_asked c.args.ask.now) _ (Err why.NoDatabase) (passes _ (is_found why.NoDatabase s.1) ∙ stops _ (is_missing why.NoDatabase (is_absent old c.args.ask.now.target.now (sym c.has-2.ensures ∙ c.if-not-has-2.true)))) (refl, refl))
+
+pub returns-in-Err : goal.returns-in-Err
+returns-in-Err g c =
+    let old = c.args.databases.now in
+    let ask = replicate_asked c.args.ask.now in
+    let s = is_there old c.args.ask.now.source.now (sym c.has.ensures ∙ c.if-not-has.false) in
+    let t = is_there old c.args.ask.now.target.now (sym c.has-2.ensures ∙ c.if-not-has-2.false) in
+    let new = c.plan_asked.new.databases in
+    subst (λ r. MayTell Replicates old ask (Err (name_of r)) new) (sym c.in-Err.ensures.err.0)
+    (in_full (replicates old new ask _ (Ok (s.0, t.0)) (are_both old ask s.0 t.0 s.1 t.1) (inl (c.in-Err.ensures.err.1, (refl, c.in-Err.ensures.state)))))
+
+pub returns-in-Err-ending_of : goal.returns-in-Err-ending_of
+returns-in-Err-ending_of g c =
+    let ask = replicate_asked c.args.ask.now in
+    in_full (replicated c.args.databases.now c.plan_asked.new.databases _ ask c.in-Ok.plan c.replicate-outcome.result _ c.in-Ok.ensures.state c.in-Ok.ensures.ok.0 c.in-Ok.ensures.ok.1 c.replicate-outcome.ensures
+    (sym (ap told_of (stops _ (sym c.in-Err-ending_of.ensures)))))
+
+pub returns-in-Ok-print : goal.returns-in-Ok-print
+returns-in-Ok-print g c =
+    let ask = replicate_asked c.args.ask.now in
+    in_full (replicated c.args.databases.now c.plan_asked.new.databases _ ask c.in-Ok.plan c.replicate-outcome.result _ c.in-Ok.ensures.state c.in-Ok.ensures.ok.0 c.in-Ok.ensures.ok.1 c.replicate-outcome.ensures
+    (ap Ok (printed c.in-Ok-print.ensures c.requires refl) ∙ sym (ap told_of (passes _ (sym c.in-Ok-ending_of.ensures)))))
+
+pub returns-in-Err-print : goal.returns-in-Err-print
+returns-in-Err-print g c =
+    let ask = replicate_asked c.args.ask.now in
+    served_only (ending_line c.in-Ok.plan.session c.in-Ok-ending_of.ending)
+    (replicated c.args.databases.now c.plan_asked.new.databases _ ask c.in-Ok.plan c.replicate-outcome.result _ c.in-Ok.ensures.state c.in-Ok.ensures.ok.0 c.in-Ok.ensures.ok.1 c.replicate-outcome.ensures
+    (sym (ap told_of (passes _ (sym c.in-Ok-ending_of.ensures)))))

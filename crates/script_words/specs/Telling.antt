@@ -1,0 +1,36 @@
+-- What a word is told, and what it leaves: docs/PROFILE.md, "Order of checks" and "Answers".
+use Rattle.std.specs.Prelude.{◌≡◌, ℕ, List, Result, Ok, Err}
+use Rattle.repl_target.specs.Peer.{PeerValue}
+use Rattle.script_engine.specs.Serving.{Told}
+use Rattle.script_databases.specs.Databases.{State, peer_at}
+use Rattle.script_databases.specs.Refusals.{name_of}
+use Rattle.script_databases.specs.declared.refusal.Refusal.{Refusal}
+use Rattle.script_databases.specs.declared.refusal.Refusal.TheVariants as why
+use Rattle.script_words.specs.Checks.{found}
+
+-- the database of a name
+abbrev pub database_of : State → List ℕ → Result PeerValue Refusal
+database_of s name = found why.NoDatabase (peer_at s name)
+
+-- a text is told as it is, and a refusal by its name
+abbrev pub told_of : Result (List ℕ) Refusal → Told
+told_of (Ok text) = Ok text
+told_of (Err refusal) = Err (name_of refusal)
+
+-- the line is refused, and everything stays
+abbrev pub Refuses : Refusal → State → Told → State → Type 0
+Refuses refusal old told new = (told ≡ Err (name_of refusal)) × (new ≡ old)
+
+-- the line is told this, and everything stays
+abbrev pub Reads : Result (List ℕ) Refusal → State → Told → State → Type 0
+Reads text old told new = (told ≡ told_of text) × (new ≡ old)
+
+-- the line is told a text and leaves a state, or is refused
+abbrev pub Does : Result (List ℕ × State) Refusal → State → Told → State → Type 0
+Does (Ok done) old told new = (told ≡ Ok done.0) × (new ≡ done.1)
+Does (Err refusal) old told new = Refuses refusal old told new
+
+-- what a call tells that puts its text into a buffer
+abbrev pub told_by : {A : Type 0} → Result A Refusal → List ℕ → Told
+told_by (Ok done) text = Ok text
+told_by (Err refusal) text = Err (name_of refusal)

@@ -1,0 +1,79 @@
+-- The words of a script, each in a room of its own: docs/PROFILE.md, "Command lines".
+use Rattle.std.specs.Prelude.{ℕ, List, codes, if◌then◌else◌, Result, Ok, Err}
+use Rattle.std.specs.Str.{bytes_eq}
+use Rattle.serde_json.specs.Data.{Data}
+use Rattle.script_engine.specs.Serving.{Answering}
+use Rattle.script_databases.specs.Databases.{State}
+use Rattle.script_databases.specs.declared.refusal.Refusal.{Refusal}
+use Rattle.script_databases.specs.declared.refusal.Refusal.TheVariants as why
+use Rattle.script_words.specs.Checks.{◌>>=◌, needed, seen_as}
+use Rattle.script_words.specs.Members.{text_at}
+use Rattle.script_words.specs.words.Load.{LoadAsk, load_asked, load_in, Loads}
+use Rattle.script_words.specs.words.Edit.{EditAsk, edit_asked, edit_in, Edits}
+use Rattle.script_words.specs.words.Show.{ShowAsk, show_asked, show_in, Shows}
+use Rattle.script_words.specs.words.Doc.{DocAsk, doc_asked, doc_in, PrintsDocument}
+use Rattle.script_words.specs.words.Changes.{ChangesAsk, changes_asked, changes_in, ListsChanges}
+use Rattle.script_words.specs.words.Log.{LogAsk, log_asked, log_in, Logs}
+use Rattle.script_words.specs.words.Audit.{AuditAsk, audit_asked, audit_in, Audits}
+use Rattle.script_words.specs.words.Replicate.{ReplicateAsk, replicate_asked, replicate_in, Replicates}
+use Rattle.script_words.specs.declared.words.Word.{Word}
+use Rattle.script_words.specs.declared.words.Word.TheVariants as word
+pub mod Load
+pub mod Edit
+pub mod Show
+pub mod Doc
+pub mod Changes
+pub mod Log
+pub mod Audit
+pub mod Replicate
+
+-- what a line asks: a word, with what it names
+pub data Asked : Type 0 where
+  load : LoadAsk → Asked
+  edit : EditAsk → Asked
+  show : ShowAsk → Asked
+  doc : DocAsk → Asked
+  changes : ChangesAsk → Asked
+  log : LogAsk → Asked
+  audit : AuditAsk → Asked
+  replicate : ReplicateAsk → Asked
+
+abbrev pub asked_of : Word → Asked
+asked_of (word.Load ask) = load (load_asked ask)
+asked_of (word.Edit ask) = edit (edit_asked ask)
+asked_of (word.Show ask) = show (show_asked ask)
+asked_of (word.Doc ask) = doc (doc_asked ask)
+asked_of (word.Changes ask) = changes (changes_asked ask)
+asked_of (word.Log ask) = log (log_asked ask)
+asked_of (word.Audit ask) = audit (audit_asked ask)
+asked_of (word.Replicate ask) = replicate (replicate_asked ask)
+
+-- what an object asks by a word
+abbrev pub asked_by : List ℕ → Data → Result Asked Refusal
+asked_by name d =
+    if bytes_eq name (codes "load") then seen_as load (load_in d)
+    else (if bytes_eq name (codes "edit") then seen_as edit (edit_in d)
+    else (if bytes_eq name (codes "show") then seen_as show (show_in d)
+    else (if bytes_eq name (codes "doc") then seen_as doc (doc_in d)
+    else (if bytes_eq name (codes "changes") then seen_as changes (changes_in d)
+    else (if bytes_eq name (codes "log") then seen_as log (log_in d)
+    else (if bytes_eq name (codes "audit") then seen_as audit (audit_in d)
+    else (if bytes_eq name (codes "replicate") then seen_as replicate (replicate_in d)
+    else Err why.BadCommand)))))))
+
+-- by its member `do`
+abbrev pub asked_in : Data → Result Asked Refusal
+asked_in d = do
+  name ← needed (text_at (codes "do") d)
+  asked_by name d
+
+-- what is told to what is asked, and the state that it leaves
+abbrev pub Answers : Answering State Asked
+Answers old (load ask) told new = Loads old ask told new
+Answers old (edit ask) told new = Edits old ask told new
+Answers old (show ask) told new = Shows old ask told new
+Answers old (doc ask) told new = PrintsDocument old ask told new
+Answers old (changes ask) told new = ListsChanges old ask told new
+Answers old (log ask) told new = Logs old ask told new
+Answers old (audit ask) told new = Audits old ask told new
+Answers old (replicate ask) told new = Replicates old ask told new

@@ -1,0 +1,51 @@
+-- `audit`: docs/PROFILE.md, "Command lines" and "Answers".
+use Rattle.std.specs.Prelude.{ℕ, List, [], ◌∷◌, ◌++◌, codes, decimal, Option, Some, None, Result, Ok}
+use Rattle.serde_json.specs.Data.{Data}
+use Rattle.rev_core.specs.Text.{rev_text}
+use Rattle.repl_target.specs.Covered.{Leaf}
+use Rattle.repl_target.specs.Audit.{audit_answer}
+use Rattle.script_engine.specs.Serving.{Answering}
+use Rattle.script_databases.specs.Databases.{State}
+use Rattle.script_databases.specs.declared.refusal.Refusal.{Refusal}
+use Rattle.script_words.specs.Checks.{◌>>=◌, needed}
+use Rattle.script_words.specs.Members.{name_at, if_only}
+use Rattle.script_words.specs.Telling.{database_of, Reads}
+use Rattle.script_words.specs.Texts.{ended, quoted}
+use Rattle.script_words.specs.declared.words.audit.Audit.{Audit}
+
+-- ---- what it asks
+
+-- whether the target covers what the two logs say is done
+pub record AuditAsk : Type 0 where
+  pub source : List ℕ
+  pub target : List ℕ
+
+abbrev pub audit_asked : Audit → AuditAsk
+audit_asked ask = record { source = ask.source.now; target = ask.target.now }
+
+abbrev pub audit_in : Data → Result AuditAsk Refusal
+audit_in d = do
+  source ← needed (name_at (codes "source") d)
+  target ← needed (name_at (codes "target") d)
+  needed (if_only (codes "do" ∷ codes "source" ∷ codes "target" ∷ []) d (record { source = source; target = target }))
+
+-- ---- what it prints
+
+-- a leaf that is not covered, at its sequence
+abbrev pub hole_line : Leaf → List ℕ
+hole_line leaf = ended (codes "hole " ++ decimal leaf.seq ++ codes " " ++ quoted leaf.id ++ codes " " ++ rev_text leaf.rev)
+
+abbrev pub audit_text : Option Leaf → List ℕ
+audit_text None = codes "clean\n"
+audit_text (Some leaf) = hole_line leaf
+
+-- ---- what it does
+
+abbrev pub audit_told : State → AuditAsk → Result (List ℕ) Refusal
+audit_told s ask = do
+  source ← database_of s ask.source
+  target ← database_of s ask.target
+  Ok (audit_text (audit_answer source target))
+
+abbrev pub Audits : Answering State AuditAsk
+Audits old ask told new = Reads (audit_told old ask) old told new

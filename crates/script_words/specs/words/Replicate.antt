@@ -1,0 +1,152 @@
+-- `replicate`: docs/PROFILE.md, "Command lines", "Order of checks" and "Answers".
+use Rattle.std.specs.Prelude.{◌≡◌, ◌⊎◌, ◌<◌, ◌≤◌, ℕ, false, List, [], ◌∷◌, ◌++◌, codes, decimal, Option, Some, None, unwrap_or, Result, Ok, Err}
+use Rattle.serde_json.specs.Data.{Data}
+use Rattle.serde_json.specs.Find.{as_bool}
+use Rattle.rev_tree.specs.declared.origin.SessionId.{SessionId}
+use Rattle.repl_log.specs.Text.{id_digits}
+use Rattle.repl_target.specs.Peer.{PeerValue}
+use Rattle.repl_target.specs.declared.fault.Report.{Report}
+use Rattle.repl_target.specs.declared.fault.TargetFault.{TargetFault}
+use Rattle.repl_target.specs.declared.replication.Plan.{Plan}
+use Rattle.script_engine.specs.Serving.{Told, Answering}
+use Rattle.script_databases.specs.Carrying.{Carried}
+use Rattle.script_databases.specs.Databases.{Program, State, drawn_one, next_made}
+use Rattle.script_databases.specs.Refusals.{stop_of}
+use Rattle.script_databases.specs.declared.refusal.Refusal.{Refusal}
+use Rattle.script_databases.specs.declared.refusal.Refusal.TheVariants as why
+use Rattle.script_words.specs.Checks.{◌>>=◌, needed}
+use Rattle.script_words.specs.Members.{name_at, optional, if_only, as_uuid, as_whole}
+use Rattle.script_words.specs.Telling.{database_of, told_of, Refuses}
+use Rattle.script_words.specs.Texts.{ended}
+use Rattle.script_words.specs.declared.words.replicate.Ending.{Ending}
+use Rattle.script_words.specs.declared.words.replicate.Ending.TheVariants.{Done, Stopped}
+use Rattle.script_words.specs.declared.words.replicate.Options.{Options}
+use Rattle.script_words.specs.declared.words.replicate.Replicate.{Replicate}
+
+-- ---- what it asks
+
+-- the replication from one database into another
+pub record ReplicateAsk : Type 0 where
+  pub source : List ℕ
+  pub target : List ℕ
+  pub options : Options
+
+abbrev pub replicate_asked : Replicate → ReplicateAsk
+replicate_asked ask = record { source = ask.source.now; target = ask.target.now; options = ask.options }
+
+-- what is left out is None, and `alone` is false then
+abbrev pub options_in : Data → Result Options Refusal
+options_in d = do
+  session ← needed (optional as_uuid (codes "session") d)
+  workers ← needed (optional as_whole (codes "workers") d)
+  batch ← needed (optional as_whole (codes "batch") d)
+  at ← needed (optional as_whole (codes "at") d)
+  stop_after ← needed (optional as_whole (codes "stop_after") d)
+  alone ← needed (optional as_bool (codes "alone") d)
+  Ok (record { session = session; workers = workers; batch = batch; at = at; stop_after = stop_after; alone = unwrap_or alone false })
+
+abbrev pub replicate_keys : List (List ℕ)
+replicate_keys = codes "do" ∷ codes "source" ∷ codes "target" ∷ codes "session" ∷ codes "workers" ∷ codes "batch" ∷ codes "at" ∷ codes "stop_after" ∷ codes "alone" ∷ []
+
+abbrev pub replicate_in : Data → Result ReplicateAsk Refusal
+replicate_in d = do
+  source ← needed (name_at (codes "source") d)
+  target ← needed (name_at (codes "target") d)
+  options ← options_in d
+  needed (if_only replicate_keys d (record { source = source; target = target; options = options }))
+
+-- ---- what it prints
+
+-- from where a session read, and up to where all is done
+abbrev pub session_part : Report → List ℕ
+session_part r = codes "session " ++ id_digits r.session.0 ++ codes " from " ++ decimal r.start ++ codes " to " ++ decimal r.recorded
+
+-- how many leaves it checked, and how many of them were missing
+abbrev pub checked_part : Report → List ℕ
+checked_part r = codes " checked " ++ decimal r.checked ++ codes " found " ++ decimal r.found
+
+-- how many documents it read, wrote and failed to write
+abbrev pub documents_part : Report → List ℕ
+documents_part r = codes " read " ++ decimal r.read ++ codes " written " ++ decimal r.written ++ codes " failed " ++ decimal r.failures
+
+-- what a session did
+abbrev pub report_line : Report → List ℕ
+report_line r = ended (session_part r ++ checked_part r ++ documents_part r)
+
+-- how far a session came that its plan stopped
+abbrev pub stopped_line : SessionId → ℕ → List ℕ
+stopped_line session low_water = ended (codes "stopped " ++ id_digits session.0 ++ codes " at " ++ decimal low_water)
+
+abbrev pub ending_line : SessionId → Ending → List ℕ
+ending_line session (Done report) = report_line report
+ending_line session (Stopped low_water) = stopped_line session low_water
+
+-- ---- its plan
+
+-- the last moment
+abbrev pub last_second : ℕ
+last_second = 253402300799
+
+-- the moment, which is the program's where a line names none
+abbrev pub moment_of : Program → Options → ℕ
+moment_of program options = unwrap_or options.at program.at
+
+-- a session's id is the given one, or else the next made one, which is drawn
+abbrev pub session_of : State → Options → ℕ
+session_of s options = unwrap_or options.session (next_made s)
+
+abbrev pub with_drawn : State → Option ℕ → State
+with_drawn s (Some given) = s
+with_drawn s None = drawn_one s
+
+abbrev pub with_session : State → Options → State
+with_session s options = with_drawn s options.session
+
+-- what a line leaves out is the program's
+abbrev pub plan_with : Program → Options → ℕ → Plan
+plan_with program options session = record {
+  session = record { 0 = session };
+  workers = unwrap_or options.workers program.workers;
+  batch = unwrap_or options.batch program.batch;
+  stop_after = options.stop_after;
+  at = moment_of program options;
+}
+
+-- the plan of a line
+abbrev pub plan_of : State → Options → Plan
+plan_of s options = plan_with s.program options (session_of s options)
+
+-- ---- what it does
+
+-- one that its plan stopped is not refused
+abbrev pub ending_of : Result Report TargetFault → Result Ending Refusal
+ending_of (Ok report) = Ok (Done report)
+ending_of (Err fault) = do
+  low_water ← stop_of fault
+  Ok (Stopped low_water)
+
+abbrev pub replicated_text : SessionId → Result Report TargetFault → Result (List ℕ) Refusal
+replicated_text session result = do
+  ending ← ending_of result
+  Ok (ending_line session ending)
+
+-- of two databases that are there
+abbrev pub ReplicatesBoth : State → ReplicateAsk → PeerValue × PeerValue → Told → State → Type 0
+ReplicatesBoth old ask both told new =
+    (last_second < moment_of old.program ask.options) × Refuses why.BadMoment (with_session old ask.options) told new
+    ⊎ (moment_of old.program ask.options ≤ last_second) × (result : Result Report TargetFault)
+    × Carried (with_session old ask.options) ask.source ask.target both.0 both.1 (plan_of old ask.options) result new
+    × (told ≡ told_of (replicated_text (plan_of old ask.options).session result))
+
+abbrev pub ReplicatesFound : State → ReplicateAsk → Result (PeerValue × PeerValue) Refusal → Told → State → Type 0
+ReplicatesFound old ask (Ok both) told new = ReplicatesBoth old ask both told new
+ReplicatesFound old ask (Err refusal) told new = Refuses refusal old told new
+
+abbrev pub both_of : State → ReplicateAsk → Result (PeerValue × PeerValue) Refusal
+both_of s ask = do
+  source ← database_of s ask.source
+  target ← database_of s ask.target
+  Ok (source, target)
+
+abbrev pub Replicates : Answering State ReplicateAsk
+Replicates old ask told new = ReplicatesFound old ask (both_of old ask) told new

@@ -1,0 +1,92 @@
+//! Parts of answers that several words print (docs/PROFILE.md, "Answers").
+ghost use Rattle.std.specs.Prelude.{◌≡◌, ◌++◌, ◌∷◌, [], OnOk, IfOk, decimal, string_bytes};
+ghost use Rattle.std.specs.List.{list_all};
+ghost use Rattle.rev_core.specs.Text.{rev_text};
+ghost use Rattle.script_words.specs.Texts.{is_plain_byte, quoted, texts_of_revs};
+
+use itoa::Buffer;
+use rev_core::Rev;
+use serde_json::Value;
+use std::alloc::{AllocError, Global};
+
+/// Adds a number.
+pub fn push_number(text: &mut Vec<u8>, number: u64) -> Result<(), AllocError>
+    ensures { OnOk result (text.new.items ≡ text.old.items ++ decimal number) }
+{
+    let mut digits = Buffer::new();
+    text.extend_from_slice(digits.format(number).as_bytes())
+}
+
+/// Adds a count.
+pub fn push_count(text: &mut Vec<u8>, count: usize) -> Result<(), AllocError>
+    ensures { OnOk result (text.new.items ≡ text.old.items ++ decimal count) }
+{
+    let mut digits = Buffer::new();
+    text.extend_from_slice(digits.format(count).as_bytes())
+}
+
+/// Adds the text of a revision.
+pub fn push_rev(text: &mut Vec<u8>, rev: Rev) -> Result<(), AllocError>
+    ensures { OnOk result (text.new.items ≡ text.old.items ++ rev_text rev) }
+{
+    let mut digits = Buffer::new();
+    let sig = rev.sig();
+    text.extend_from_slice(digits.format(rev.generation()).as_bytes())?;
+    text.extend_from_slice(b"-")?;
+    text.extend_from_slice(sig.bytes())
+}
+
+/// Adds the texts of revisions, joined by commas.
+pub fn push_revs(text: &mut Vec<u8>, revs: &[Rev]) -> Result<(), AllocError>
+    ensures { OnOk result (text.new.items ≡ text.old.items ++ texts_of_revs revs.now) }
+{
+    for i in 0..revs.len() {
+        if i > 0 {
+            text.extend_from_slice(b",")?;
+        }
+        push_rev(text, revs[i])?;
+    }
+    Ok(())
+}
+
+/// Adds a text as JSON, in quotation marks. A text in which each byte stands for itself is copied.
+pub fn push_json(alloc: Global, text: &mut Vec<u8>, string: &str) -> Result<(), AllocError>
+    ensures { OnOk result (text.new.items ≡ text.old.items ++ quoted string.now) }
+{
+    if is_plain(string.as_bytes()) {
+        push_plain(text, string)?;
+        return Ok(());
+    }
+    let json = escaped(alloc, string)?;
+    text.extend_from_slice(json.as_bytes())
+}
+
+/// Adds a text as it is, in quotation marks.
+fn push_plain(text: &mut Vec<u8>, string: &str) -> Result<(), AllocError>
+    ensures { OnOk result (text.new.items ≡ text.old.items ++ 34 ∷ (string.now ++ 34 ∷ [])) }
+{
+    text.extend_from_slice(b"\"")?;
+    text.extend_from_slice(string.as_bytes())?;
+    text.extend_from_slice(b"\"")
+}
+
+/// A text as JSON.
+fn escaped(alloc: Global, string: &str) -> Result<String, AllocError>
+    ensures { IfOk result (λ json. string_bytes json ≡ quoted string.now) }
+{
+    Value::String(String::from_str(alloc, string)?).to_string(alloc)
+}
+
+/// Whether each byte stands for itself in JSON.
+fn is_plain(bytes: &[u8]) -> bool
+    ensures { result ≡ list_all is_plain_byte bytes.now }
+{
+    bytes.iter().all(|b| is_plain_byte(*b))
+}
+
+/// Whether a byte stands for itself in JSON: no control character, quotation mark or backslash.
+fn is_plain_byte(b: u8) -> bool
+    ensures { result ≡ is_plain_byte b }
+{
+    b >= 32 && b != b'"' && b != b'\\'
+}

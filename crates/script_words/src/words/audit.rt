@@ -1,0 +1,89 @@
+//! `audit`: whether the target covers what the two logs say is done.
+ghost use Rattle.std.specs.Prelude.{◌≡◌, ◌++◌, [], OnOk, option_map};
+ghost use Rattle.serde_json.specs.View.{view};
+ghost use Rattle.repl_target.specs.Audit.{hole_of};
+ghost use Rattle.script_engine.specs.Serving.{MayTell};
+ghost use Rattle.script_words.specs.Checks.{needed};
+ghost use Rattle.script_words.specs.Telling.{told_by};
+ghost use Rattle.script_words.specs.words.Audit.{Audits, audit_asked, audit_in, audit_text, hole_line};
+
+use crate::members::{has_only_members, name_member};
+use crate::texts::{push_json, push_number, push_rev};
+use repl_target::{Audit as Found, audit};
+use rev_core::Rev;
+use script_databases::{Databases, Refusal};
+use serde_json::Value;
+use std::alloc::{AllocError, Global};
+
+/// What an `audit` line asks.
+#[derive(Drop)]
+pub struct Audit<'a> {
+    pub source: &'a str,
+    pub target: &'a str,
+}
+
+/// What an object asks by `audit`.
+pub fn read(value: &Value) -> Option<Audit<'_>>
+    ensures { needed (option_map audit_asked result) ≡ audit_in (view value.now) }
+{
+    let source = name_member(value, "source")?;
+    let target = name_member(value, "target")?;
+    if !has_only_members(value, &["do", "source", "target"]) {
+        return None;
+    }
+    Some(Audit { source, target })
+}
+
+/// Serves `audit`.
+pub fn serve(
+    alloc: Global,
+    databases: &Databases,
+    ask: &Audit<'_>,
+    answer: &mut Vec<u8>,
+) -> Result<(), Refusal>
+    requires { answer.old.items ≡ [] }
+    ensures { MayTell Audits databases.now (audit_asked ask.now) (told_by result answer.new.items) databases.now }
+{
+    let Some(source) = databases.find(ask.source) else {
+        return Err(Refusal::NoDatabase);
+    };
+    let Some(target) = databases.find(ask.target) else {
+        return Err(Refusal::NoDatabase);
+    };
+    let Ok(found) = audit(alloc, source, target) else {
+        return Err(Refusal::Memory);
+    };
+    match print(alloc, answer, found) {
+        Ok(()) => Ok(()),
+        Err(_) => Err(Refusal::Memory),
+    }
+}
+
+/// Prints what an audit found.
+fn print(alloc: Global, answer: &mut Vec<u8>, found: Found) -> Result<(), AllocError>
+    ensures { OnOk result (answer.new.items ≡ answer.old.items ++ audit_text (hole_of found)) }
+{
+    match found {
+        Found::Clean => answer.extend_from_slice(b"clean\n"),
+        Found::Hole { seq, id, rev } => push_hole(alloc, answer, seq, id.text(), rev),
+    }
+}
+
+/// Prints a leaf that is not covered.
+fn push_hole(
+    alloc: Global,
+    answer: &mut Vec<u8>,
+    seq: u64,
+    id: &str,
+    rev: Rev,
+) -> Result<(), AllocError>
+    ensures { OnOk result (answer.new.items ≡ answer.old.items ++ hole_line (record { seq = seq; id = id.now; rev = rev })) }
+{
+    answer.extend_from_slice(b"hole ")?;
+    push_number(answer, seq)?;
+    answer.extend_from_slice(b" ")?;
+    push_json(alloc, answer, id)?;
+    answer.extend_from_slice(b" ")?;
+    push_rev(answer, rev)?;
+    answer.extend_from_slice(b"\n")
+}

@@ -1,0 +1,103 @@
+//! `edit`: a new revision of a document, behind a leaf.
+ghost use Rattle.std.specs.Prelude.{◌≡◌, ◌++◌, [], OnOk, option_map};
+ghost use Rattle.serde_json.specs.View.{view};
+ghost use Rattle.script_engine.specs.Serving.{MayTell};
+ghost use Rattle.script_words.specs.Checks.{needed};
+ghost use Rattle.script_words.specs.Telling.{told_by};
+ghost use Rattle.script_words.specs.words.Edit.{Edits, edit_asked, edit_in, edited_line};
+
+use crate::given::{read_content_or_empty, read_id, read_rev};
+use crate::members::{has_only_members, name_member, optional_flag, optional_text, text_member};
+use crate::texts::{push_json, push_number, push_rev};
+use script_databases::{Databases, Edited, Refusal};
+use serde_json::Value;
+use std::alloc::{AllocError, Global};
+
+/// What an `edit` line asks.
+#[derive(Drop)]
+pub struct Edit<'a> {
+    pub db: &'a str,
+    pub id: &'a str,
+    /// The revision behind which the new one goes.
+    pub parent: Option<&'a str>,
+    pub deleted: bool,
+    pub body: Option<&'a Value>,
+}
+
+/// What an object asks by `edit`.
+pub fn read(value: &Value) -> Option<Edit<'_>>
+    ensures { needed (option_map edit_asked result) ≡ edit_in (view value.now) }
+{
+    let db = name_member(value, "db")?;
+    let id = text_member(value, "id")?;
+    let parent = optional_text(value, "parent")?;
+    let deleted = optional_flag(value, "deleted")?;
+    if !has_only_members(value, &["do", "db", "id", "parent", "deleted", "body"]) {
+        return None;
+    }
+    let deleted = deleted.unwrap_or(false);
+    let body = value.get("body");
+    Some(Edit {
+        db,
+        id,
+        parent,
+        deleted,
+        body,
+    })
+}
+
+/// Serves `edit`. The id is looked at first, then the parent, then the body.
+pub fn serve(
+    alloc: Global,
+    databases: &mut Databases,
+    ask: &Edit<'_>,
+    answer: &mut Vec<u8>,
+) -> Result<(), Refusal>
+    requires { answer.old.items ≡ [] }
+    ensures { MayTell Edits databases.old (edit_asked ask.now) (told_by result answer.new.items) databases.new }
+{
+    if !databases.has(ask.db) {
+        return Err(Refusal::NoDatabase);
+    }
+    let id = match read_id(alloc, ask.id) {
+        Ok(id) => id,
+        Err(refusal) => return Err(refusal),
+    };
+    let parent = match read_rev(ask.parent) {
+        Ok(parent) => parent,
+        Err(refusal) => return Err(refusal),
+    };
+    let body = match read_content_or_empty(alloc, ask.body) {
+        Ok(body) => body,
+        Err(refusal) => return Err(refusal),
+    };
+    let edited = match databases.edit(ask.db, &id, parent, ask.deleted, &body) {
+        Ok(edited) => edited,
+        Err(refusal) => return Err(refusal),
+    };
+    match print(alloc, answer, ask.db, id.text(), edited) {
+        Ok(()) => Ok(()),
+        Err(_) => Err(Refusal::Memory),
+    }
+}
+
+/// Prints the new revision, and the sequence of the change.
+fn print(
+    alloc: Global,
+    answer: &mut Vec<u8>,
+    db: &str,
+    id: &str,
+    edited: Edited,
+) -> Result<(), AllocError>
+    ensures { OnOk result (answer.new.items ≡ answer.old.items ++ edited_line db.now id.now edited) }
+{
+    answer.extend_from_slice(b"edited ")?;
+    answer.extend_from_slice(db.as_bytes())?;
+    answer.extend_from_slice(b" ")?;
+    push_json(alloc, answer, id)?;
+    answer.extend_from_slice(b" ")?;
+    push_rev(answer, edited.rev)?;
+    answer.extend_from_slice(b" seq ")?;
+    push_number(answer, edited.seq)?;
+    answer.extend_from_slice(b"\n")
+}

@@ -1,0 +1,294 @@
+//! `load`: a database is made, or a document is put into one.
+ghost use Rattle.std.specs.Prelude.{◌≡◌, ◌++◌, [], true, None, Some, OnOk, option_map};
+ghost use Rattle.std.specs.FinMap.{contains_key};
+ghost use Rattle.serde_json.specs.View.{view};
+ghost use Rattle.script_engine.specs.Serving.{MayTell};
+ghost use Rattle.script_databases.specs.Databases.{peer_at};
+ghost use Rattle.script_words.specs.Checks.{needed};
+ghost use Rattle.script_words.specs.Telling.{told_by};
+ghost use Rattle.script_words.specs.words.Load.{Loads, LoadsNew, document_part, load_asked, load_in, loaded_line, made_line, put_line, same_line, there_line};
+
+use crate::given::read_document;
+use crate::members::{has_only_members, name_member, optional_uuid};
+use crate::texts::{push_json, push_number, push_rev};
+use couch_base::Put;
+use doc_json::Doc;
+use script_databases::{Databases, Refusal};
+use serde_json::Value;
+use std::alloc::{AllocError, Global};
+
+/// What a `load` line asks.
+#[derive(Drop)]
+pub struct Load<'a> {
+    pub db: &'a str,
+    /// The number of the UUID of a database that is made.
+    pub uuid: Option<u128>,
+    pub doc: Option<&'a Value>,
+}
+
+/// What an object asks by `load`.
+pub fn read(value: &Value) -> Option<Load<'_>>
+    ensures { needed (option_map load_asked result) ≡ load_in (view value.now) }
+{
+    let db = name_member(value, "db")?;
+    let uuid = optional_uuid(value, "uuid")?;
+    if !has_only_members(value, &["do", "db", "uuid", "doc"]) {
+        return None;
+    }
+    let doc = value.get("doc");
+    Some(Load { db, uuid, doc })
+}
+
+/// Serves `load`. A UUID is given only for a database that is new.
+pub fn serve(
+    alloc: Global,
+    databases: &mut Databases,
+    ask: &Load<'_>,
+    answer: &mut Vec<u8>,
+) -> Result<(), Refusal>
+    requires { answer.old.items ≡ [] }
+    ensures { MayTell Loads databases.old (load_asked ask.now) (told_by result answer.new.items) databases.new }
+{
+    if databases.has(ask.db) {
+        return match ask.uuid {
+            Some(_) => Err(Refusal::DatabaseExists),
+            None => load_there(alloc, databases, ask.db, ask.doc, answer),
+        };
+    }
+    match ask.uuid {
+        Some(uuid) => load_given(alloc, databases, ask.db, uuid, ask.doc, answer),
+        None => load_made(alloc, databases, ask.db, ask.doc, answer),
+    }
+}
+
+/// Loads into a database that is there.
+fn load_there(
+    alloc: Global,
+    databases: &mut Databases,
+    db: &str,
+    doc: Option<&Value>,
+    answer: &mut Vec<u8>,
+) -> Result<(), Refusal>
+    requires empty { answer.old.items ≡ [] }
+    requires there { contains_key databases.old.peers db.now ≡ true }
+    ensures { MayTell Loads databases.old (record { db = db.now; uuid = None; doc = option_map (λ v. view v.now) doc.entry })
+        (told_by result answer.new.items) databases.new }
+{
+    let given = match read_document(alloc, doc) {
+        Ok(given) => given,
+        Err(refusal) => return Err(refusal),
+    };
+    let Some(document) = given else {
+        return match print_there(answer, db) {
+            Ok(()) => Ok(()),
+            Err(_) => Err(Refusal::Memory),
+        };
+    };
+    let put = match databases.load(db, &document) {
+        Ok(put) => put,
+        Err(refusal) => return Err(refusal),
+    };
+    match print_put(alloc, answer, db, &document, put) {
+        Ok(()) => Ok(()),
+        Err(_) => Err(Refusal::Memory),
+    }
+}
+
+/// Makes a database with a UUID: that no other has it is looked at first.
+fn load_given(
+    alloc: Global,
+    databases: &mut Databases,
+    db: &str,
+    uuid: u128,
+    doc: Option<&Value>,
+    answer: &mut Vec<u8>,
+) -> Result<(), Refusal>
+    requires empty { answer.old.items ≡ [] }
+    requires absent { peer_at databases.old db.now ≡ None }
+    ensures { MayTell Loads databases.old (record { db = db.now; uuid = Some uuid; doc = option_map (λ v. view v.now) doc.entry })
+        (told_by result answer.new.items) databases.new }
+{
+    if databases.is_taken(uuid) {
+        return Err(Refusal::UuidTaken);
+    }
+    let given = match read_document(alloc, doc) {
+        Ok(given) => given,
+        Err(refusal) => return Err(refusal),
+    };
+    load_new(alloc, databases, db, uuid, given, answer)
+}
+
+/// Makes a database with a made UUID, which is drawn once the document has been read.
+fn load_made(
+    alloc: Global,
+    databases: &mut Databases,
+    db: &str,
+    doc: Option<&Value>,
+    answer: &mut Vec<u8>,
+) -> Result<(), Refusal>
+    requires empty { answer.old.items ≡ [] }
+    requires absent { peer_at databases.old db.now ≡ None }
+    ensures { MayTell Loads databases.old (record { db = db.now; uuid = None; doc = option_map (λ v. view v.now) doc.entry })
+        (told_by result answer.new.items) databases.new }
+{
+    let given = match read_document(alloc, doc) {
+        Ok(given) => given,
+        Err(refusal) => return Err(refusal),
+    };
+    let uuid = databases.draw();
+    if databases.is_taken(uuid) {
+        return Err(Refusal::UuidTaken);
+    }
+    load_new(alloc, databases, db, uuid, given, answer)
+}
+
+/// Makes a database, with the document where one is given.
+fn load_new(
+    alloc: Global,
+    databases: &mut Databases,
+    db: &str,
+    uuid: u128,
+    given: Option<Doc>,
+    answer: &mut Vec<u8>,
+) -> Result<(), Refusal>
+    requires empty { answer.old.items ≡ [] }
+    requires absent { peer_at databases.old db.now ≡ None }
+    ensures { MayTell LoadsNew databases.old (record { db = db.now; uuid = uuid; doc = given }) (told_by result answer.new.items) databases.new }
+{
+    match given {
+        None => make_empty(alloc, databases, db, uuid, answer),
+        Some(document) => make_with(alloc, databases, db, uuid, &document, answer),
+    }
+}
+
+/// Makes a database of no documents.
+fn make_empty(
+    alloc: Global,
+    databases: &mut Databases,
+    db: &str,
+    uuid: u128,
+    answer: &mut Vec<u8>,
+) -> Result<(), Refusal>
+    requires empty { answer.old.items ≡ [] }
+    requires absent { peer_at databases.old db.now ≡ None }
+    ensures { MayTell LoadsNew databases.old (record { db = db.now; uuid = uuid; doc = None }) (told_by result answer.new.items) databases.new }
+{
+    let Ok(peer) = databases.make(alloc, uuid) else {
+        return Err(Refusal::Memory);
+    };
+    let Ok(()) = databases.add(alloc, db, peer) else {
+        return Err(Refusal::Memory);
+    };
+    match print_made(answer, db) {
+        Ok(()) => Ok(()),
+        Err(_) => Err(Refusal::Memory),
+    }
+}
+
+/// Makes a database with a document.
+fn make_with(
+    alloc: Global,
+    databases: &mut Databases,
+    db: &str,
+    uuid: u128,
+    document: &Doc,
+    answer: &mut Vec<u8>,
+) -> Result<(), Refusal>
+    requires empty { answer.old.items ≡ [] }
+    requires absent { peer_at databases.old db.now ≡ None }
+    ensures { MayTell LoadsNew databases.old (record { db = db.now; uuid = uuid; doc = Some document.now }) (told_by result answer.new.items) databases.new }
+{
+    let Ok(mut peer) = databases.make(alloc, uuid) else {
+        return Err(Refusal::Memory);
+    };
+    let put = match peer.load(document) {
+        Ok(put) => put,
+        Err(fault) => return Err(Refusal::of_base(fault)),
+    };
+    let Ok(()) = databases.add(alloc, db, peer) else {
+        return Err(Refusal::Memory);
+    };
+    match print_put(alloc, answer, db, document, put) {
+        Ok(()) => Ok(()),
+        Err(_) => Err(Refusal::Memory),
+    }
+}
+
+/// Prints that a database was made.
+fn print_made(answer: &mut Vec<u8>, db: &str) -> Result<(), AllocError>
+    ensures { OnOk result (answer.new.items ≡ answer.old.items ++ made_line db.now) }
+{
+    answer.extend_from_slice(b"made ")?;
+    answer.extend_from_slice(db.as_bytes())?;
+    answer.extend_from_slice(b"\n")
+}
+
+/// Prints that a database is there.
+fn print_there(answer: &mut Vec<u8>, db: &str) -> Result<(), AllocError>
+    ensures { OnOk result (answer.new.items ≡ answer.old.items ++ there_line db.now) }
+{
+    answer.extend_from_slice(b"there ")?;
+    answer.extend_from_slice(db.as_bytes())?;
+    answer.extend_from_slice(b"\n")
+}
+
+/// Prints what putting a document did.
+fn print_put(
+    alloc: Global,
+    answer: &mut Vec<u8>,
+    db: &str,
+    document: &Doc,
+    put: Put,
+) -> Result<(), AllocError>
+    ensures { OnOk result (answer.new.items ≡ answer.old.items ++ put_line db.now document.now put) }
+{
+    match put {
+        Put::Changed { seq } => print_loaded(alloc, answer, db, document, seq),
+        Put::Same => print_same(alloc, answer, db, document),
+    }
+}
+
+/// Prints that putting a document changed something.
+fn print_loaded(
+    alloc: Global,
+    answer: &mut Vec<u8>,
+    db: &str,
+    document: &Doc,
+    seq: u64,
+) -> Result<(), AllocError>
+    ensures { OnOk result (answer.new.items ≡ answer.old.items ++ loaded_line db.now document.now seq) }
+{
+    answer.extend_from_slice(b"loaded ")?;
+    answer.extend_from_slice(db.as_bytes())?;
+    answer.extend_from_slice(b" ")?;
+    push_document(alloc, answer, document)?;
+    answer.extend_from_slice(b" seq ")?;
+    push_number(answer, seq)?;
+    answer.extend_from_slice(b"\n")
+}
+
+/// Prints that putting a document changed nothing.
+fn print_same(
+    alloc: Global,
+    answer: &mut Vec<u8>,
+    db: &str,
+    document: &Doc,
+) -> Result<(), AllocError>
+    ensures { OnOk result (answer.new.items ≡ answer.old.items ++ same_line db.now document.now) }
+{
+    answer.extend_from_slice(b"same ")?;
+    answer.extend_from_slice(db.as_bytes())?;
+    answer.extend_from_slice(b" ")?;
+    push_document(alloc, answer, document)?;
+    answer.extend_from_slice(b"\n")
+}
+
+/// Prints a document's id, and its newest revision.
+fn push_document(alloc: Global, answer: &mut Vec<u8>, document: &Doc) -> Result<(), AllocError>
+    ensures { OnOk result (answer.new.items ≡ answer.old.items ++ document_part document.now) }
+{
+    let rev = document.ancestry().head();
+    push_json(alloc, answer, document.id().text())?;
+    answer.extend_from_slice(b" ")?;
+    push_rev(answer, rev)
+}

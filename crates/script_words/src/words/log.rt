@@ -1,0 +1,130 @@
+//! `log`: the log of a replication, as one of its sides holds it.
+ghost use Rattle.std.specs.Prelude.{◌≡◌, ◌++◌, [], OnOk, IfOk, option_map};
+ghost use Rattle.serde_json.specs.View.{view};
+ghost use Rattle.repl_target.specs.Audit.{rep_between};
+ghost use Rattle.script_engine.specs.Serving.{MayTell};
+ghost use Rattle.script_words.specs.Checks.{needed};
+ghost use Rattle.script_words.specs.Telling.{told_by};
+ghost use Rattle.script_words.specs.Texts.{ended};
+ghost use Rattle.script_words.specs.words.Log.{Logs, log_asked, log_held, log_in, side_at};
+
+use crate::members::{has_only_members, name_member, text_member};
+use repl_log::{RepId, write_log};
+use repl_target::{Peer, Rules};
+use script_databases::{Databases, Refusal};
+use serde_json::Value;
+use std::alloc::{AllocError, Global};
+
+/// What a `log` line asks.
+#[derive(Drop)]
+pub struct Log<'a> {
+    pub source: &'a str,
+    pub target: &'a str,
+    pub side: Side,
+}
+
+/// A side of a replication.
+#[derive(Clone, Copy, Debug, PartialEq, Eq)]
+pub enum Side {
+    Source,
+    Target,
+}
+
+/// What an object asks by `log`.
+pub fn read(value: &Value) -> Option<Log<'_>>
+    ensures { needed (option_map log_asked result) ≡ log_in (view value.now) }
+{
+    let source = name_member(value, "source")?;
+    let target = name_member(value, "target")?;
+    let side = side_member(value)?;
+    if !has_only_members(value, &["do", "source", "target", "side"]) {
+        return None;
+    }
+    Some(Log {
+        source,
+        target,
+        side,
+    })
+}
+
+/// The side of a replication, which has to be there.
+fn side_member(value: &Value) -> Option<Side>
+    ensures { result ≡ side_at (view value.now) }
+{
+    match text_member(value, "side") {
+        Some("source") => Some(Side::Source),
+        Some("target") => Some(Side::Target),
+        _ => None,
+    }
+}
+
+/// Serves `log`.
+pub fn serve(
+    alloc: Global,
+    databases: &Databases,
+    ask: &Log<'_>,
+    answer: &mut Vec<u8>,
+) -> Result<(), Refusal>
+    requires { answer.old.items ≡ [] }
+    ensures { MayTell Logs databases.now (log_asked ask.now) (told_by result answer.new.items) databases.now }
+{
+    let Some(source) = databases.find(ask.source) else {
+        return Err(Refusal::NoDatabase);
+    };
+    let Some(target) = databases.find(ask.target) else {
+        return Err(Refusal::NoDatabase);
+    };
+    let rep = rep_of(source, target);
+    let Ok(log) = log_held(alloc, source, target, ask.side, &rep) else {
+        return Err(Refusal::Memory);
+    };
+    let text = match write_log(alloc, &rep, &log) {
+        Ok(text) => text,
+        Err(fault) => return Err(Refusal::of_log(fault)),
+    };
+    match print(answer, text.as_slice()) {
+        Ok(()) => Ok(()),
+        Err(_) => Err(Refusal::Memory),
+    }
+}
+
+/// The replication from one database into another.
+fn rep_of(source: &Peer<Rules>, target: &Peer<Rules>) -> RepId
+    ensures { result ≡ rep_between source.now.1 target.now.1 }
+{
+    RepId {
+        source: source.db().uuid(),
+        target: target.db().uuid(),
+    }
+}
+
+/// The log that a side holds of the replication of the two.
+fn log_held(
+    alloc: Global,
+    source: &Peer<Rules>,
+    target: &Peer<Rules>,
+    side: Side,
+    rep: &RepId,
+) -> Result<repl_log::Log, AllocError>
+    requires { rep.now ≡ rep_between source.now.1 target.now.1 }
+    ensures { IfOk result (λ log. log ≡ log_held side source.now.1 target.now.1) }
+{
+    match side {
+        Side::Source => match source.source_log(alloc, rep) {
+            Ok(log) => Ok(log),
+            Err(_) => Err(AllocError),
+        },
+        Side::Target => match target.target_log(alloc, rep) {
+            Ok(log) => Ok(log),
+            Err(_) => Err(AllocError),
+        },
+    }
+}
+
+/// Prints a log's text.
+fn print(answer: &mut Vec<u8>, text: &[u8]) -> Result<(), AllocError>
+    ensures { OnOk result (answer.new.items ≡ answer.old.items ++ ended text.now) }
+{
+    answer.extend_from_slice(text)?;
+    answer.extend_from_slice(b"\n")
+}

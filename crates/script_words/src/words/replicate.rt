@@ -1,0 +1,256 @@
+//! `replicate`: a replication from one database into another.
+ghost use Rattle.std.specs.Prelude.{◌≡◌, ◌<◌, ◌≤◌, ◌++◌, [], OnOk, IfOk, IfErr, option_map, string_bytes};
+ghost use Rattle.serde_json.specs.View.{view};
+ghost use Rattle.repl_log.specs.Text.{id_digits};
+ghost use Rattle.script_engine.specs.Serving.{MayTell};
+ghost use Rattle.script_databases.specs.declared.refusal.Refusal.TheVariants.{BadMoment};
+ghost use Rattle.script_words.specs.Checks.{needed};
+ghost use Rattle.script_words.specs.Telling.{told_by};
+ghost use Rattle.script_words.specs.words.Replicate.{Replicates, checked_part, documents_part, ending_line, ending_of, last_second, moment_of, options_in, plan_of, replicate_asked, replicate_in, report_line, session_part, stopped_line, with_session};
+
+use crate::members::{has_only_members, name_member, optional_flag, optional_uuid, optional_whole};
+use crate::texts::push_number;
+use repl_log::Moment;
+use repl_target::{Plan, Report, TargetFault};
+use rev_tree::SessionId;
+use script_databases::{Databases, Refusal};
+use serde_json::Value;
+use std::alloc::{AllocError, Global};
+
+/// What a `replicate` line asks.
+#[derive(Drop)]
+pub struct Replicate<'a> {
+    pub source: &'a str,
+    pub target: &'a str,
+    pub options: Options,
+}
+
+/// What a line says of a replication besides its two sides: what it leaves out is none, and `alone` is false then.
+#[derive(Clone, Copy, Debug, PartialEq, Eq)]
+pub struct Options {
+    /// The number of the UUID that is the new session's id.
+    pub session: Option<u128>,
+    /// How many workers fetch, and how many write.
+    pub workers: Option<u64>,
+    /// How many rows a window has at most.
+    pub batch: Option<u64>,
+    /// When it takes place, in seconds since 1970.
+    pub at: Option<u64>,
+    /// After how many windows it stops.
+    pub stop_after: Option<u64>,
+    /// Whether it is to have one thread.
+    pub alone: bool,
+}
+
+/// How a replication ended that was not refused.
+#[derive(Drop)]
+enum Ending {
+    /// It came to its goal.
+    Done(Report),
+    /// Its plan stopped it, with all done up to a sequence below the goal.
+    Stopped(u64),
+}
+
+/// What an object asks by `replicate`.
+pub fn read(value: &Value) -> Option<Replicate<'_>>
+    ensures { needed (option_map replicate_asked result) ≡ replicate_in (view value.now) }
+{
+    let source = name_member(value, "source")?;
+    let target = name_member(value, "target")?;
+    let options = options_of(value)?;
+    if !has_only_members(
+        value,
+        &[
+            "do",
+            "source",
+            "target",
+            "session",
+            "workers",
+            "batch",
+            "at",
+            "stop_after",
+            "alone",
+        ],
+    ) {
+        return None;
+    }
+    Some(Replicate {
+        source,
+        target,
+        options,
+    })
+}
+
+/// What an object says of a replication besides its two sides.
+fn options_of(value: &Value) -> Option<Options>
+    ensures { needed result ≡ options_in (view value.now) }
+{
+    let session = optional_uuid(value, "session")?;
+    let workers = optional_whole(value, "workers")?;
+    let batch = optional_whole(value, "batch")?;
+    let at = optional_whole(value, "at")?;
+    let stop_after = optional_whole(value, "stop_after")?;
+    let alone = optional_flag(value, "alone")?.unwrap_or(false);
+    Some(Options {
+        session,
+        workers,
+        batch,
+        at,
+        stop_after,
+        alone,
+    })
+}
+
+/// Serves `replicate`. An id is made for a session that has none, once both databases are found.
+pub fn serve<H: AllocGlobal>(
+    rt: &H,
+    databases: &mut Databases,
+    ask: &Replicate<'_>,
+    answer: &mut Vec<u8>,
+) -> Result<(), Refusal>
+    requires { answer.old.items ≡ [] }
+    ensures { MayTell Replicates databases.old (replicate_asked ask.now) (told_by result answer.new.items) databases.new }
+{
+    if !databases.has(ask.source) {
+        return Err(Refusal::NoDatabase);
+    }
+    if !databases.has(ask.target) {
+        return Err(Refusal::NoDatabase);
+    }
+    let plan = match plan_asked(databases, &ask.options) {
+        Ok(plan) => plan,
+        Err(refusal) => return Err(refusal),
+    };
+    let outcome = databases.replicate(rt.alloc(), ask.source, ask.target, &plan);
+    let ending = match ending_of(outcome) {
+        Ok(ending) => ending,
+        Err(refusal) => return Err(refusal),
+    };
+    match print(rt.alloc(), answer, plan.session, &ending) {
+        Ok(()) => Ok(()),
+        Err(_) => Err(Refusal::Memory),
+    }
+}
+
+/// The plan that a line asks for: what it leaves out is the program's, and an id is drawn where it names no session.
+///
+/// `BadMoment` where the moment lies after the year 9999.
+fn plan_asked(databases: &mut Databases, options: &Options) -> Result<Plan, Refusal>
+    ensures state { databases.new ≡ with_session databases.old options.now }
+    ensures ok { IfOk result (λ plan. (moment_of databases.old.program options.now ≤ last_second) × (plan ≡ plan_of databases.old options.now)) }
+    ensures err { IfErr result (λ why. (why ≡ BadMoment) × (last_second < moment_of databases.old.program options.now)) }
+{
+    let session = match options.session {
+        Some(session) => session,
+        None => databases.draw(),
+    };
+    let settings = databases.settings();
+    let Ok(at) = Moment::new(options.at.unwrap_or(settings.at)) else {
+        return Err(Refusal::BadMoment);
+    };
+    Ok(Plan {
+        session: SessionId(session),
+        workers: options.workers.unwrap_or(settings.workers),
+        batch: options.batch.unwrap_or(settings.batch),
+        stop_after: options.stop_after,
+        at,
+    })
+}
+
+/// How a replication ended: one that its plan stopped is not refused.
+fn ending_of(outcome: Result<Report, TargetFault>) -> Result<Ending, Refusal>
+    ensures { result ≡ ending_of outcome }
+{
+    match outcome {
+        Ok(report) => Ok(Ending::Done(report)),
+        Err(fault) => match Refusal::stop_of(fault) {
+            Ok(low_water) => Ok(Ending::Stopped(low_water)),
+            Err(refusal) => Err(refusal),
+        },
+    }
+}
+
+/// Prints how a session ended.
+fn print(
+    alloc: Global,
+    answer: &mut Vec<u8>,
+    session: SessionId,
+    ending: &Ending,
+) -> Result<(), AllocError>
+    ensures { OnOk result (answer.new.items ≡ answer.old.items ++ ending_line session ending.now) }
+{
+    match ending {
+        Ending::Done(report) => print_report(alloc, answer, report),
+        Ending::Stopped(low_water) => print_stopped(alloc, answer, session, *low_water),
+    }
+}
+
+/// Prints what a session did.
+fn print_report(alloc: Global, answer: &mut Vec<u8>, report: &Report) -> Result<(), AllocError>
+    ensures { OnOk result (answer.new.items ≡ answer.old.items ++ report_line report.now) }
+{
+    push_session(alloc, answer, report)?;
+    push_checked(answer, report)?;
+    push_documents(answer, report)?;
+    answer.extend_from_slice(b"\n")
+}
+
+/// From where a session read, and up to where all is done.
+fn push_session(alloc: Global, answer: &mut Vec<u8>, report: &Report) -> Result<(), AllocError>
+    ensures { OnOk result (answer.new.items ≡ answer.old.items ++ session_part report.now) }
+{
+    let id = session_text(alloc, report.session)?;
+    answer.extend_from_slice(b"session ")?;
+    answer.extend_from_slice(id.as_bytes())?;
+    answer.extend_from_slice(b" from ")?;
+    push_number(answer, report.start)?;
+    answer.extend_from_slice(b" to ")?;
+    push_number(answer, report.recorded)
+}
+
+/// How many leaves a session checked, and how many of them were missing.
+fn push_checked(answer: &mut Vec<u8>, report: &Report) -> Result<(), AllocError>
+    ensures { OnOk result (answer.new.items ≡ answer.old.items ++ checked_part report.now) }
+{
+    answer.extend_from_slice(b" checked ")?;
+    push_number(answer, report.checked)?;
+    answer.extend_from_slice(b" found ")?;
+    push_number(answer, report.found)
+}
+
+/// How many documents a session read, wrote and failed to write.
+fn push_documents(answer: &mut Vec<u8>, report: &Report) -> Result<(), AllocError>
+    ensures { OnOk result (answer.new.items ≡ answer.old.items ++ documents_part report.now) }
+{
+    answer.extend_from_slice(b" read ")?;
+    push_number(answer, report.read)?;
+    answer.extend_from_slice(b" written ")?;
+    push_number(answer, report.written)?;
+    answer.extend_from_slice(b" failed ")?;
+    push_number(answer, report.failures)
+}
+
+/// Prints how far a session came that its plan stopped.
+fn print_stopped(
+    alloc: Global,
+    answer: &mut Vec<u8>,
+    session: SessionId,
+    low_water: u64,
+) -> Result<(), AllocError>
+    ensures { OnOk result (answer.new.items ≡ answer.old.items ++ stopped_line session low_water) }
+{
+    let id = session_text(alloc, session)?;
+    answer.extend_from_slice(b"stopped ")?;
+    answer.extend_from_slice(id.as_bytes())?;
+    answer.extend_from_slice(b" at ")?;
+    push_number(answer, low_water)?;
+    answer.extend_from_slice(b"\n")
+}
+
+/// The 32 lower case hexadecimal digits of a session's id.
+#[tactic(auto, unfolding(repl_log::specs::Text::id_digits))]
+fn session_text(alloc: Global, session: SessionId) -> Result<String, AllocError>
+    ensures { IfOk result (λ text. string_bytes text ≡ id_digits session.0) }
+{
+    hex::encode(alloc, session.0.to_be_bytes())
+}

@@ -1,0 +1,144 @@
+//! `show`: a document's leaves, the winner first, each with its known ancestry.
+ghost use Rattle.std.specs.Prelude.{◌≡◌, ◌++◌, [], OnOk, option_map};
+ghost use Rattle.std.specs.List.{flat_map};
+ghost use Rattle.serde_json.specs.View.{view};
+ghost use Rattle.rev_tree.specs.InOrder.{first_of};
+ghost use Rattle.rev_tree.specs.Tree.{is_deleted, leaves};
+ghost use Rattle.script_engine.specs.Serving.{MayTell};
+ghost use Rattle.script_words.specs.Checks.{needed};
+ghost use Rattle.script_words.specs.Telling.{told_by};
+ghost use Rattle.script_words.specs.Texts.{text_of_any};
+ghost use Rattle.script_words.specs.words.Show.{Shows, head_line, leaf_line, show_asked, show_in, show_text};
+
+use crate::given::read_id;
+use crate::members::{has_only_members, name_member, text_member};
+use crate::texts::{push_count, push_json, push_rev, push_revs};
+use rev_core::Rev;
+use rev_tree::Tree;
+use script_databases::{Databases, Refusal};
+use serde_json::Value;
+use std::alloc::{AllocError, Global};
+
+/// What a `show` line asks.
+#[derive(Drop)]
+pub struct Show<'a> {
+    pub db: &'a str,
+    pub id: &'a str,
+}
+
+/// What an object asks by `show`.
+pub fn read(value: &Value) -> Option<Show<'_>>
+    ensures { needed (option_map show_asked result) ≡ show_in (view value.now) }
+{
+    let db = name_member(value, "db")?;
+    let id = text_member(value, "id")?;
+    if !has_only_members(value, &["do", "db", "id"]) {
+        return None;
+    }
+    Some(Show { db, id })
+}
+
+/// Serves `show`.
+pub fn serve(
+    alloc: Global,
+    databases: &Databases,
+    ask: &Show<'_>,
+    answer: &mut Vec<u8>,
+) -> Result<(), Refusal>
+    requires { answer.old.items ≡ [] }
+    ensures { MayTell Shows databases.now (show_asked ask.now) (told_by result answer.new.items) databases.now }
+{
+    let Some(peer) = databases.find(ask.db) else {
+        return Err(Refusal::NoDatabase);
+    };
+    let id = match read_id(alloc, ask.id) {
+        Ok(id) => id,
+        Err(refusal) => return Err(refusal),
+    };
+    let Some(tree) = peer.db().tree(&id) else {
+        return Err(Refusal::NoSuchDocument);
+    };
+    match print(alloc, answer, id.text(), tree) {
+        Ok(()) => Ok(()),
+        Err(_) => Err(Refusal::Memory),
+    }
+}
+
+/// Prints a document's leaves.
+fn print(alloc: Global, answer: &mut Vec<u8>, id: &str, tree: &Tree) -> Result<(), AllocError>
+    ensures { OnOk result (answer.new.items ≡ answer.old.items ++ show_text id.now tree.now) }
+{
+    let Ok(leaves) = tree.leaves(alloc) else {
+        return Err(AllocError);
+    };
+    push_head(alloc, answer, id, tree)?;
+    push_leaves(alloc, answer, tree, leaves.as_slice())
+}
+
+/// Prints the first line.
+fn push_head(alloc: Global, answer: &mut Vec<u8>, id: &str, tree: &Tree) -> Result<(), AllocError>
+    ensures { OnOk result (answer.new.items ≡ answer.old.items ++ head_line id.now tree.now) }
+{
+    answer.extend_from_slice(b"doc ")?;
+    push_json(alloc, answer, id)?;
+    answer.extend_from_slice(b" winner ")?;
+    push_winner(answer, tree)?;
+    answer.extend_from_slice(b" leaves ")?;
+    push_count(answer, tree.leaf_count())?;
+    answer.extend_from_slice(b" revs ")?;
+    push_count(answer, tree.rev_count())?;
+    answer.extend_from_slice(b"\n")
+}
+
+/// Prints the winner. Each tree of a database has one.
+fn push_winner(answer: &mut Vec<u8>, tree: &Tree) -> Result<(), AllocError>
+    ensures { OnOk result (answer.new.items ≡ answer.old.items ++ text_of_any (first_of (leaves tree.now))) }
+{
+    match tree.winner() {
+        Some(rev) => push_rev(answer, rev),
+        None => Ok(()),
+    }
+}
+
+/// Prints leaves, each on a line.
+fn push_leaves(
+    alloc: Global,
+    answer: &mut Vec<u8>,
+    tree: &Tree,
+    leaves: &[Rev],
+) -> Result<(), AllocError>
+    ensures { OnOk result (answer.new.items ≡ answer.old.items ++ flat_map (leaf_line tree.now) leaves.now) }
+{
+    for leaf in leaves {
+        push_leaf(alloc, answer, tree, *leaf)?;
+    }
+    Ok(())
+}
+
+/// Prints a leaf. It is in the tree, so only memory can be wanting.
+fn push_leaf(alloc: Global, answer: &mut Vec<u8>, tree: &Tree, leaf: Rev) -> Result<(), AllocError>
+    ensures { OnOk result (answer.new.items ≡ answer.old.items ++ leaf_line tree.now leaf) }
+{
+    let Ok(ancestry) = tree.ancestry(alloc, leaf) else {
+        return Err(AllocError);
+    };
+    answer.extend_from_slice(b"leaf ")?;
+    push_rev(answer, leaf)?;
+    if is_deleted(tree, leaf) {
+        answer.extend_from_slice(b" deleted ")?;
+    } else {
+        answer.extend_from_slice(b" live ")?;
+    }
+    push_revs(answer, ancestry.revs())?;
+    answer.extend_from_slice(b"\n")
+}
+
+/// Whether what stands at a revision is a deletion.
+fn is_deleted(tree: &Tree, rev: Rev) -> bool
+    ensures { result ≡ is_deleted tree.now rev }
+{
+    match tree.content(rev) {
+        Some(content) => content.deleted(),
+        None => false,
+    }
+}
