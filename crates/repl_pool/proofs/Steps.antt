@@ -100,9 +100,6 @@ settles v items know same h =
     let k = know h in
     omega (arith, k, weigh_none h (parcels items) none)
 
-pub sums_agree : {S : Type 0} (v : Hand) (items : List (Carried S)) → Accounts v items → length v.sent ≡ length v.got → amounts v.sent ≡ amounts v.got
-sums_agree v items know same = settles v items know same (λ n a. a)
-
 names_times : (k : ℕ) (xs : List (ℕ × ℕ)) → weigh (λ n a. if n == k then 1 else 0) xs ≡ times k (names xs)
 names_times k [] = refl
 names_times k (x ∷ xs) = let s = names_times k xs in omega (arith, s)

@@ -6,8 +6,8 @@ ghost use Rattle.crossbeam_channel.specs.Ends.{sends_on};
 ghost use Rattle.repl_pool.specs.Faults.{IsLate};
 ghost use Rattle.repl_pool.specs.Gathered.{IsWhole, Tells, StopsWhere};
 ghost use Rattle.repl_pool.specs.Grown.{DeskKeeps};
-ghost use Rattle.repl_pool.specs.Sums.{times};
-ghost use Rattle.repl_pool.specs.Workers.{amounts, names};
+ghost use Rattle.repl_pool.specs.Sums.{times, weigh};
+ghost use Rattle.repl_pool.specs.Workers.{names};
 
 use crate::desk::Desk;
 use crate::fault::{PoolFault, merge};
@@ -108,8 +108,8 @@ fn sum_up<F: WriteFilter, S: Origin, J: Given<F>, L: Ledger, G: Gate>(
     }
 }
 
-/// Each window was taken by one fetcher, and each parcel got by one writer, at most; where as many were got as sent, they have
-/// the same documents: what the passes learn of both channels once they are whole.
+/// Each window was taken by one fetcher, and each parcel got by one writer, at most; where as many were got as sent, these are
+/// the same, each number with its documents, however they are weighed. The passes learn it of both channels once they are whole.
 fn each_once<S: Origin, L: Ledger>(lines: &Lines<S>, workers: usize, ended: &mut Ended<S, L>)
     requires window_seat { IsSeatAt (sends_on lines.now.to_fetchers) ended.old.windows }
     requires parcel_seat { IsSeatAt (sends_on lines.now.to_writers) ended.old.parcels }
@@ -117,7 +117,7 @@ fn each_once<S: Origin, L: Ledger>(lines: &Lines<S>, workers: usize, ended: &mut
     requires tells { Tells ended.old }
     ensures taken { (k : ℕ) → times k (view ended.new.windows).taken ≤ 1 }
     ensures got { ended.new.fetched.stopped ≡ None → (k : ℕ) → times k (names (view ended.new.parcels).got) ≤ 1 }
-    ensures agree { length (view ended.new.parcels).sent ≡ length (view ended.new.parcels).got → amounts (view ended.new.parcels).sent ≡ amounts (view ended.new.parcels).got }
+    ensures agree { length (view ended.new.parcels).sent ≡ length (view ended.new.parcels).got → (h : ℕ → ℕ → ℕ) → weigh h (view ended.new.parcels).sent ≡ weigh h (view ended.new.parcels).got }
     ensures tells { Tells ended.new }
     ensures same { (ended.new.all ≡ ended.old.all) × (ended.new.read ≡ ended.old.read) × (ended.new.fetched ≡ ended.old.fetched) × (ended.new.written ≡ ended.old.written) }
 {

@@ -1,12 +1,12 @@
 use Rattle.std.proofs.Common.{◌≡◌, ◌≤◌, ℕ, length, sym, subst, refl}
 use Rattle.crossbeam_channel.specs.Claims.{view}
-use Rattle.repl_pool.specs.Sums.{times}
-use Rattle.repl_pool.specs.Workers.{amounts, names}
+use Rattle.repl_pool.specs.Sums.{times, weigh}
+use Rattle.repl_pool.specs.Workers.{names}
 use Rattle.repl_pool.specs.declared.windows.Seen.{Seen}
 use Rattle.repl_pool.specs.declared.parcels.Hand.{Hand}
 use Rattle.repl_pool.proofs.WindowRule as window
 use Rattle.repl_pool.proofs.ParcelRule as parcel
-use Rattle.repl_pool.proofs.Steps.{taken_once, got_once, sums_agree}
+use Rattle.repl_pool.proofs.Steps.{taken_once, got_once, settles}
 use Rattle.repl_pool.proofs.totals.each_once.Goals as goal
 
 pub learn_as-requires-clause-rule : goal.learn_as-requires-clause-rule
@@ -27,7 +27,7 @@ returns g c =
     record {
       taken = λ k. subst (λ (y : Seen). times k y.taken ≤ 1) (sym sv) (once k);
       got = λ none k. subst (λ (y : Hand). times k (names y.got) ≤ 1) (sym sp) (got_once p s.0 v.taken s.1 (c.requires.tells.0 none).2 once k);
-      agree = subst (λ (y : Hand). length y.sent ≡ length y.got → amounts y.sent ≡ amounts y.got) (sym sp) (λ same. sums_agree p s.0 s.1 same);
+      agree = subst (λ (y : Hand). length y.sent ≡ length y.got → (h : ℕ → ℕ → ℕ) → weigh h y.sent ≡ weigh h y.got) (sym sp) (λ same. settles p s.0 s.1 same);
       tells = rw (sv, sp) c.requires.tells;
       same = (refl, refl, refl, refl);
     }

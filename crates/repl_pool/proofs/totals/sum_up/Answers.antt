@@ -23,7 +23,7 @@ returns g c =
           let f = c.each_once.ensures.tells.0 m.1 in
           let w = c.each_once.ensures.tells.1 m.2 in
           let lengths : length v.sent ≡ length v.got = omega (arith, f.1, w.1, eqb-true _ _ equal) in
-          let agree : amounts v.sent ≡ amounts v.got = c.each_once.ensures.agree lengths in (
+          let agree : amounts v.sent ≡ amounts v.got = c.each_once.ensures.agree lengths (λ n a. a) in (
             c.close-target.ensures.0,
             subst (λ n. DeskKeeps g.F.WriteFilter.refuses g.S.Origin.source g.J.Given.given c.close-target.ensures.0 n c.close-target.result) (omega (arith, f.0, w.0, agree)) c.close-target.ensures.1,
           );
