@@ -71,31 +71,38 @@ fn print(alloc: Global, answer: &mut Vec<u8>, id: &str, tree: &Tree) -> Result<(
     let Ok(leaves) = tree.leaves(alloc) else {
         return Err(AllocError);
     };
-    push_head(alloc, answer, id, tree)?;
+    push_head(alloc, answer, id, tree, leaves.as_slice())?;
     push_leaves(alloc, answer, tree, leaves.as_slice())
 }
 
-/// Prints the first line.
-fn push_head(alloc: Global, answer: &mut Vec<u8>, id: &str, tree: &Tree) -> Result<(), AllocError>
+/// Prints the first line. The leaves are the tree's.
+fn push_head(
+    alloc: Global,
+    answer: &mut Vec<u8>,
+    id: &str,
+    tree: &Tree,
+    all: &[Rev],
+) -> Result<(), AllocError>
+    requires { all.now ≡ leaves tree.now }
     ensures { OnOk result (answer.new.items ≡ answer.old.items ++ head_line id.now tree.now) }
 {
     answer.extend_from_slice(b"doc ")?;
     push_json(alloc, answer, id)?;
     answer.extend_from_slice(b" winner ")?;
-    push_winner(answer, tree)?;
+    push_winner(answer, all)?;
     answer.extend_from_slice(b" leaves ")?;
-    push_count(answer, tree.leaf_count())?;
+    push_count(answer, all.len())?;
     answer.extend_from_slice(b" revs ")?;
     push_count(answer, tree.rev_count())?;
     answer.extend_from_slice(b"\n")
 }
 
-/// Prints the winner. Each tree of a database has one.
-fn push_winner(answer: &mut Vec<u8>, tree: &Tree) -> Result<(), AllocError>
-    ensures { OnOk result (answer.new.items ≡ answer.old.items ++ text_of_any (first_of (leaves tree.now))) }
+/// Prints the winner, which is the first of the leaves. Each tree of a database has one.
+fn push_winner(answer: &mut Vec<u8>, all: &[Rev]) -> Result<(), AllocError>
+    ensures { OnOk result (answer.new.items ≡ answer.old.items ++ text_of_any (first_of all.now)) }
 {
-    match tree.winner() {
-        Some(rev) => push_rev(answer, rev),
+    match all.first() {
+        Some(rev) => push_rev(answer, *rev),
         None => Ok(()),
     }
 }
