@@ -21,6 +21,12 @@ mod plan_rows;
 #[cfg(test)]
 mod plans;
 #[cfg(test)]
+mod pool_gates;
+#[cfg(test)]
+mod pool_rows;
+#[cfg(test)]
+mod pools;
+#[cfg(test)]
 mod records;
 #[cfg(test)]
 mod texts;
