@@ -1,5 +1,5 @@
-//! Replications of random pairs, each compared with the plain model: both sides' trees, what is covered, the report, and the
-//! session's ledger.
+//! Replications of random pairs, by one thread and by the pool, each compared with the plain model: both sides' trees, what is
+//! covered, the report, and the session's ledger.
 use crate::feeds::{document_by_chance, is_answer};
 use crate::merges::below;
 use crate::plain_sides::{Carried, IDS, PlainSide, carry};
@@ -7,10 +7,14 @@ use crate::sides::{agrees, has_ledger};
 use rand_chacha::ChaCha8Rng;
 use rand_core::SeedableRng;
 use repl_log::Moment;
+use repl_pool::{Open, Ran, run};
 use repl_target::{Peer, Plan, Report, Rules, replicate_alone};
 use rev_tree::SessionId;
 use std::alloc::Global;
+use std::mem;
 use std::process::Abort;
+use std::sync::Wait;
+use std::thread::Threads;
 
 /// How many choices there are of the document that is refused; some are no document's.
 const CHOICES: u32 = 8;
@@ -73,6 +77,8 @@ impl Side {
 struct Bench {
     alloc: Global,
     rng: ChaCha8Rng,
+    /// How many workers replicate; none for one thread alone.
+    workers: u64,
     deny: Option<usize>,
     sessions: u128,
     sides: Vec<Side>,
@@ -80,13 +86,14 @@ struct Bench {
 
 impl Bench {
     /// A target that refuses a document by chance, a source and another one, of no documents.
-    fn new(rt: &impl Abort, alloc: Global, seed: u64) -> Bench {
+    fn new(rt: &impl Abort, alloc: Global, seed: u64, workers: u64) -> Bench {
         let mut rng = ChaCha8Rng::seed_from_u64(seed);
         let number = below(&mut rng, CHOICES);
         let deny = if number < IDS { Some(number) } else { None };
         let mut bench = Bench {
             alloc,
             rng,
+            workers,
             deny,
             sessions: 0,
             sides: Vec::new(alloc),
@@ -104,7 +111,7 @@ impl Bench {
     }
 
     /// Makes a call.
-    fn call(&mut self, rt: &impl Abort, call: Call) {
+    fn call<R: Abort + Threads + Wait + Sync>(&mut self, rt: &R, call: Call) {
         match call {
             Call::GrowTarget(loads) => self.grow(rt, 0, loads),
             Call::Grow(source, loads) => self.grow(rt, source.saturating_add(1), loads),
@@ -121,9 +128,9 @@ impl Bench {
     }
 
     /// Replicates a source into the target, by a session of its own.
-    fn replicate(&mut self, rt: &impl Abort, source: usize) {
+    fn replicate<R: Abort + Threads + Wait + Sync>(&mut self, rt: &R, source: usize) {
         self.sessions = self.sessions.saturating_add(1);
-        let plan = plan(rt, &mut self.rng, self.sessions);
+        let plan = plan(rt, &mut self.rng, self.workers, self.sessions);
         let (target, sources) = self.sides.split_first_mut().expect(rt, "a target");
         let source = sources.get_mut(source).expect(rt, "a source");
         replicate(rt, self.alloc, source, target, self.deny, &plan);
@@ -139,27 +146,65 @@ pub(crate) fn prefix(rt: &impl Abort, alloc: Global, deny: Option<usize>) -> Opt
 }
 
 /// A plan with windows of 1 to 4 rows by chance.
-fn plan(rt: &impl Abort, rng: &mut ChaCha8Rng, session: u128) -> Plan {
+fn plan(rt: &impl Abort, rng: &mut ChaCha8Rng, workers: u64, session: u128) -> Plan {
     Plan {
         session: SessionId(session),
-        workers: 1,
+        workers,
         batch: below(rng, 4) as u64 + 1,
         stop_after: None,
         at: Moment::new(10).expect(rt, "a moment"),
     }
 }
 
+/// A peer that is taken from its place for a run of the pool.
+fn taken(alloc: Global, place: &mut Peer<Rules>) -> Peer<Rules> {
+    mem::replace(place, Peer::new(alloc, 0, Rules { deny: None }))
+}
+
+/// Takes both peers of a run back to their places, and gives its report.
+fn taken_back(
+    ran: Ran<Rules>,
+    source: &mut Peer<Rules>,
+    target: &mut Peer<Rules>,
+) -> Option<Report> {
+    let Ran {
+        source: from,
+        target: into,
+        fetched: _,
+        outcome,
+    } = ran;
+    *source = from;
+    *target = into;
+    outcome.ok()
+}
+
+/// Replicates one peer into another: by one thread where the plan has no workers, else by the pool.
+fn carry_peers<R: Threads + Wait + Sync>(
+    rt: &R,
+    alloc: Global,
+    source: &mut Peer<Rules>,
+    target: &mut Peer<Rules>,
+    plan: &Plan,
+) -> Option<Report> {
+    if plan.workers == 0 {
+        return replicate_alone(alloc, source, target, plan).ok();
+    }
+    let (from, into) = (taken(alloc, source), taken(alloc, target));
+    let ran = run(rt, alloc, from, into, plan, &Open);
+    taken_back(ran, source, target)
+}
+
 /// Replicates both, and asserts that the reports, the ledgers and the sides agree.
-fn replicate(
-    rt: &impl Abort,
+fn replicate<R: Abort + Threads + Wait + Sync>(
+    rt: &R,
     alloc: Global,
     source: &mut Side,
     target: &mut Side,
     deny: Option<usize>,
     plan: &Plan,
 ) {
-    let report = replicate_alone(alloc, &mut source.peer, &mut target.peer, plan);
-    compare(rt, alloc, source, target, deny, plan.session, report.ok());
+    let report = carry_peers(rt, alloc, &mut source.peer, &mut target.peer, plan);
+    compare(rt, alloc, source, target, deny, plan.session, report);
     assert!(rt;
         agrees(rt, alloc, &source.peer, &source.plain, IDS),
         "the source"
@@ -205,12 +250,24 @@ fn wanted(source: &PlainSide, since: u64, session: SessionId, carried: &Carried)
     }
 }
 
+/// The calls of a seed, with so many workers.
+fn of_seed<R: Abort + Threads + Wait + Sync>(rt: &R, alloc: Global, seed: u64, workers: u64) {
+    let mut bench = Bench::new(rt, alloc, seed, workers);
+    for call in CALLS {
+        bench.call(rt, *call);
+    }
+}
+
 #[test]
 fn thirty_pairs_agree(rt: HostRuntime) {
     for seed in 0..30u64 {
-        let mut bench = Bench::new(&rt, rt.alloc(), seed);
-        for call in CALLS {
-            bench.call(&rt, *call);
-        }
+        of_seed(&rt, rt.alloc(), seed, 0);
+    }
+}
+
+#[test]
+fn thirty_pairs_agree_by_the_pool(rt: HostRuntime) {
+    for seed in 0..30u64 {
+        of_seed(&rt, rt.alloc(), seed, 1 + seed % 4);
     }
 }
