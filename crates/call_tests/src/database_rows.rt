@@ -1,5 +1,5 @@
 //! The rows of databases: pages, puts, edits, and what is asked and fetched. Each call with ample memory.
-use crate::databases::{Bench, Call, Rows};
+use crate::databases::{Bench, Call, Rows, expect};
 use std::process::Abort;
 use std::test::Fail;
 use std::thread;
@@ -63,8 +63,6 @@ static BOTH_ASKED: Rows = &[
 
 #[test]
 fn pages_cut(rt: HostRuntime) {
-    let mut bench = Bench::new(&rt, rt.alloc(), &[7]);
-    bench.run(&rt, THREE);
     static ROWS: Rows = &[
         (Call::Page(A, 0, 5, 2), "0 to 2: 1 a 1-a; 2 b 1-b;"),
         (Call::Page(A, 2, 5, 2), "2 to 5: 5 c 1-e,1-d,1-c;"),
@@ -76,13 +74,11 @@ fn pages_cut(rt: HostRuntime) {
         (Call::Page(A, 0, 6, 2), "GoalAhead { update_seq: 5 }"),
         (Call::Page(A, 6, 5, 0), "BadLimit"),
     ];
-    bench.run(&rt, ROWS);
+    expect(&rt, rt.alloc(), &[7], &[THREE, ROWS]);
 }
 
 #[test]
 fn a_changed_document_moves_in_the_feed(rt: HostRuntime) {
-    let mut bench = Bench::new(&rt, rt.alloc(), &[7]);
-    bench.run(&rt, THREE);
     static ROWS: Rows = &[
         (
             Call::Put(A, r#"{"_id":"a","_revisions":{"start":2,"ids":["x","a"]}}"#),
@@ -100,7 +96,7 @@ fn a_changed_document_moves_in_the_feed(rt: HostRuntime) {
         // Nothing changed between 2 and 4.
         (Call::Page(A, 2, 4, 1), "2 to 4:"),
     ];
-    bench.run(&rt, ROWS);
+    expect(&rt, rt.alloc(), &[7], &[THREE, ROWS]);
 }
 
 /// A value that may be moved between threads.
@@ -147,7 +143,7 @@ fn puts_as_given(rt: HostRuntime) {
         (Call::Document(A, "d", "2-x"), "no content"),
         (Call::Document(A, "e", "2-b"), "no content"),
     ];
-    Bench::new(&rt, rt.alloc(), &[0]).run(&rt, ROWS);
+    expect(&rt, rt.alloc(), &[0], &[ROWS]);
 }
 
 #[test]
@@ -199,7 +195,7 @@ fn edits_of_each_kind(rt: HostRuntime) {
         ),
         (Call::Numbers(A), "0 at 6"),
     ];
-    Bench::new(&rt, rt.alloc(), &[0]).run(&rt, ROWS);
+    expect(&rt, rt.alloc(), &[0], &[ROWS]);
 }
 
 #[test]
@@ -220,7 +216,7 @@ fn edits_refused_by_name(rt: HostRuntime) {
         ),
         (Call::Numbers(A), "0 at 2"),
     ];
-    Bench::new(&rt, rt.alloc(), &[0]).run(&rt, ROWS);
+    expect(&rt, rt.alloc(), &[0], &[ROWS]);
 }
 
 #[test]
@@ -239,7 +235,7 @@ fn an_edit_that_is_there(rt: HostRuntime) {
         ),
         (Call::Numbers(A), "0 at 2"),
     ];
-    Bench::new(&rt, rt.alloc(), &[0]).run(&rt, ROWS);
+    expect(&rt, rt.alloc(), &[0], &[ROWS]);
 }
 
 #[test]
@@ -274,14 +270,11 @@ fn at_the_last_sequences(rt: HostRuntime) {
         ),
         (Call::Page(A, 0, 9_007_199_254_740_992, 2), REFUSED),
     ];
-    Bench::new(&rt, rt.alloc(), &[]).run(&rt, ROWS);
+    expect(&rt, rt.alloc(), &[], &[ROWS]);
 }
 
 #[test]
 fn fetch_both_leaves(rt: HostRuntime) {
-    let mut bench = Bench::new(&rt, rt.alloc(), &[1, 2]);
-    bench.run(&rt, BOTH);
-    bench.run(&rt, BOTH_ASKED);
     static ROWS: Rows = &[
         (Call::CopyWanted(FIRST), "d"),
         (
@@ -289,14 +282,12 @@ fn fetch_both_leaves(rt: HostRuntime) {
             r#"0 to 2: d 2-b,1-r live {}; d 2-a,1-r live {"n":1};"#,
         ),
     ];
-    bench.run(&rt, ROWS);
+    expect(&rt, rt.alloc(), &[1, 2], &[BOTH, BOTH_ASKED, ROWS]);
 }
 
 #[test]
 fn a_fetched_document_has_its_ancestry_and_content(rt: HostRuntime) {
     const DELETED: &str = r#"{"_id":"d","_revisions":{"start":3,"ids":["c","b"]},"_deleted":true}"#;
-    let mut bench = Bench::new(&rt, rt.alloc(), &[1, 2]);
-    bench.run(&rt, BOTH);
     static ROWS: Rows = &[
         (Call::Put(A, DELETED), "Changed { seq: 3 }"),
         (Call::Page(A, 0, 3, 10), "0 to 3: 3 d 2-a,3-c;"),
@@ -307,15 +298,12 @@ fn a_fetched_document_has_its_ancestry_and_content(rt: HostRuntime) {
             r#"0 to 3: d 2-a,1-r live {"n":1}; d 3-c,2-b,1-r deleted {};"#,
         ),
     ];
-    bench.run(&rt, ROWS);
+    expect(&rt, rt.alloc(), &[1, 2], &[BOTH, ROWS]);
 }
 
 #[test]
 fn fetch_moved_leaf(rt: HostRuntime) {
     const NEWER: &str = r#"{"_id":"d","_revisions":{"start":3,"ids":["c","b","r"]}}"#;
-    let mut bench = Bench::new(&rt, rt.alloc(), &[1, 2]);
-    bench.run(&rt, BOTH);
-    bench.run(&rt, BOTH_ASKED);
     static ROWS: Rows = &[
         (Call::Put(A, NEWER), "Changed { seq: 3 }"),
         (
@@ -323,29 +311,24 @@ fn fetch_moved_leaf(rt: HostRuntime) {
             r#"0 to 2: d 3-c,2-b,1-r live {}; d 2-a,1-r live {"n":1};"#,
         ),
     ];
-    bench.run(&rt, ROWS);
+    expect(&rt, rt.alloc(), &[1, 2], &[BOTH, BOTH_ASKED, ROWS]);
 }
 
 #[test]
 fn fetch_at_empty_database(rt: HostRuntime) {
-    let mut bench = Bench::new(&rt, rt.alloc(), &[1, 2]);
-    bench.run(&rt, BOTH);
-    bench.run(&rt, BOTH_ASKED);
     static ROWS: Rows = &[(Call::Fetch(B, FIRST), "0 to 2: gone d 2-b; gone d 2-a;")];
-    bench.run(&rt, ROWS);
+    expect(&rt, rt.alloc(), &[1, 2], &[BOTH, BOTH_ASKED, ROWS]);
 }
 
 #[test]
 fn known_ancestor_not_asked(rt: HostRuntime) {
     const NEWER: &str = r#"{"_id":"d","_revisions":{"start":3,"ids":["c","b","r"]}}"#;
-    let mut bench = Bench::new(&rt, rt.alloc(), &[1, 2]);
-    bench.run(&rt, BOTH);
     static ROWS: Rows = &[
         (Call::Put(B, NEWER), "Changed { seq: 1 }"),
         (Call::Page(A, 0, 2, 10), "0 to 2: 2 d 2-b,2-a;"),
         (Call::Diff(B, FIRST), "0 to 2: d 2-a;"),
     ];
-    bench.run(&rt, ROWS);
+    expect(&rt, rt.alloc(), &[1, 2], &[BOTH, ROWS]);
 }
 
 #[test]
@@ -372,4 +355,35 @@ fn a_parcel_moves_into_a_thread_and_back(rt: HostRuntime) -> Result<(), Fail> {
     ];
     bench.run(&rt, THEN);
     Ok(())
+}
+
+#[test]
+fn pages_of_few_documents_with_high_sequences(rt: HostRuntime) {
+    // No call gives up for the size of a number.
+    const MOST: u64 = 18_446_744_073_709_551_615;
+    const LAST: u64 = 9_007_199_254_740_990;
+    static ROWS: Rows = &[
+        (Call::DatabaseAt(7, 9_007_199_254_740_988), "made"),
+        (
+            Call::Put(A, r#"{"_id":"d","_rev":"1-a"}"#),
+            "Changed { seq: 9007199254740989 }",
+        ),
+        (
+            Call::Put(A, r#"{"_id":"e","_rev":"1-b"}"#),
+            "Changed { seq: 9007199254740990 }",
+        ),
+        (
+            Call::Page(A, 0, LAST, MOST),
+            "0 to 9007199254740990: 9007199254740989 d 1-a; 9007199254740990 e 1-b;",
+        ),
+        (
+            Call::Page(A, 0, LAST, 1),
+            "0 to 9007199254740989: 9007199254740989 d 1-a;",
+        ),
+        (
+            Call::Page(A, 9_007_199_254_740_989, LAST, MOST),
+            "9007199254740989 to 9007199254740990: 9007199254740990 e 1-b;",
+        ),
+    ];
+    expect(&rt, rt.alloc(), &[], &[ROWS]);
 }

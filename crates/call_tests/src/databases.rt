@@ -207,6 +207,14 @@ impl Bench {
     }
 }
 
+/// Makes lists of calls on a bench of their own, with databases of these uuids, and asserts what each answers.
+pub(crate) fn expect(rt: &impl Abort, alloc: Global, uuids: &[u128], lists: &[Rows]) {
+    let mut bench = Bench::new(rt, alloc, uuids);
+    for calls in lists {
+        bench.run(rt, calls);
+    }
+}
+
 /// The text of what a put answers.
 pub(crate) fn put_text(alloc: Global, answer: Result<Put, BaseFault>) -> Option<String> {
     match answer {

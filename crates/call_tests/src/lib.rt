@@ -9,9 +9,23 @@ mod database_rows;
 #[cfg(test)]
 mod databases;
 #[cfg(test)]
+mod large;
+#[cfg(test)]
+mod large_rows;
+#[cfg(test)]
 mod peer_rows;
 #[cfg(test)]
 mod peers;
+#[cfg(test)]
+mod plan_rows;
+#[cfg(test)]
+mod plans;
+#[cfg(test)]
+mod pool_gates;
+#[cfg(test)]
+mod pool_rows;
+#[cfg(test)]
+mod pools;
 #[cfg(test)]
 mod records;
 #[cfg(test)]

@@ -1,5 +1,5 @@
 //! The rows of peers: local writes, sessions, each refusal, logs and audits. Each call with ample memory.
-use crate::peers::{Beginning, Bench, Call, Rows};
+use crate::peers::{Beginning, Call, Rows, expect};
 use repl_log::RepId;
 use rev_tree::SessionId;
 
@@ -104,17 +104,11 @@ static SECOND_SESSION: Rows = &[
 
 #[test]
 fn fetch_brings_descendant(rt: HostRuntime) {
-    let mut bench = Bench::new(rt.alloc());
-    bench.run(&rt, THREE);
-    bench.run(&rt, ASKED);
-    bench.run(&rt, MOVED);
     static ROWS: Rows = &[
         (Call::Settle(TARGET, S1, FIRST), "written 1 failed 0"),
         (Call::Covered(TARGET, "d", "1-a"), "true"),
         (Call::Record(TARGET, S1, 11), "1"),
     ];
-    bench.run(&rt, ROWS);
-    bench.run(&rt, SECOND_SESSION);
     // The next session has nothing to ask for.
     static THEN: Rows = &[
         (Call::Diff(TARGET, SECOND), "1 to 2:"),
@@ -125,27 +119,25 @@ fn fetch_brings_descendant(rt: HostRuntime) {
             "session 2 from 1 to 1 checked 1 found 0 read 0 written 0 failed 0, 12 to 12",
         ),
     ];
-    bench.run(&rt, THEN);
+    expect(
+        &rt,
+        rt.alloc(),
+        &[THREE, ASKED, MOVED, ROWS, SECOND_SESSION, THEN],
+    );
 }
 
 #[test]
 fn a_refused_descendant_covers(rt: HostRuntime) {
-    let mut bench = Bench::new(rt.alloc());
     static ROWS: Rows = &[
         (Call::Peer(1, None), "made"),
         (Call::Peer(2, Some("d")), "made"),
         (Call::Load(SOURCE, D), "Changed { seq: 1 }"),
     ];
-    bench.run(&rt, ROWS);
-    bench.run(&rt, ASKED);
-    bench.run(&rt, MOVED);
     static THEN: Rows = &[
         (Call::Settle(TARGET, S1, FIRST), "written 0 failed 1"),
         (Call::Covered(TARGET, "d", "1-a"), "true"),
         (Call::Record(TARGET, S1, 11), "1"),
     ];
-    bench.run(&rt, THEN);
-    bench.run(&rt, SECOND_SESSION);
     // The document is not in the tree, so it is asked for and refused once more.
     static LAST: Rows = &[
         (
@@ -162,7 +154,11 @@ fn a_refused_descendant_covers(rt: HostRuntime) {
             "session 2 from 1 to 1 checked 1 found 1 read 1 written 0 failed 1, 12 to 12",
         ),
     ];
-    bench.run(&rt, LAST);
+    expect(
+        &rt,
+        rt.alloc(),
+        &[ROWS, ASKED, MOVED, THEN, SECOND_SESSION, LAST],
+    );
 }
 
 /// A sequence that leaves room for one change.
@@ -171,7 +167,6 @@ const LAST_BUT_ONE: u64 = 9_007_199_254_740_990;
 #[test]
 fn sequences_run_out(rt: HostRuntime) {
     const FETCHED: &str = "0 to 2: d 1-a live {}; e 1-a live {};";
-    let mut bench = Bench::new(rt.alloc());
     static ROWS: Rows = &[
         (Call::Peer(1, None), "made"),
         (Call::PeerAt(2, None, LAST_BUT_ONE + 2), "SeqTooLarge"),
@@ -191,7 +186,6 @@ fn sequences_run_out(rt: HostRuntime) {
         (Call::Diff(TARGET, FIRST), "0 to 2: d 1-a; e 1-a;"),
         (Call::Fetch(SOURCE, FIRST), FETCHED),
     ];
-    bench.run(&rt, ROWS);
     // The first document takes the last sequence, and the second one stays out; the first is an arrival once more.
     const STOPPED: &str = "Stopped 1, rest e, SeqFull";
     const TWICE: &str =
@@ -212,7 +206,7 @@ fn sequences_run_out(rt: HostRuntime) {
         (Call::Settle(OTHER, S1, FIRST), "written 1 failed 1"),
         (Call::Record(OTHER, S1, 11), "2"),
     ];
-    bench.run(&rt, THEN);
+    expect(&rt, rt.alloc(), &[ROWS, THEN]);
 }
 
 #[test]
@@ -257,14 +251,11 @@ fn session_refusals(rt: HostRuntime) {
         ),
         (Call::Entry(TARGET, S1), ENTRY),
     ];
-    Bench::new(rt.alloc()).run(&rt, ROWS);
+    expect(&rt, rt.alloc(), &[ROWS]);
 }
 
 #[test]
 fn uncovered_window(rt: HostRuntime) {
-    let mut bench = Bench::new(rt.alloc());
-    bench.run(&rt, THREE);
-    bench.run(&rt, ASKED);
     static ROWS: Rows = &[
         (Call::Fetch(OTHER, FIRST), "0 to 1: gone d 1-a;"),
         (Call::Settle(TARGET, S1, FIRST), "Uncovered 1 d 1-a"),
@@ -273,14 +264,13 @@ fn uncovered_window(rt: HostRuntime) {
         (Call::Settle(TARGET, S1, SECOND), "written 1 failed 0"),
         (Call::Record(TARGET, S1, 12), "1"),
     ];
-    bench.run(&rt, ROWS);
+    expect(&rt, rt.alloc(), &[THREE, ASKED, ROWS]);
 }
 
 #[test]
 fn a_session_from_beginning_to_end(rt: HostRuntime) {
     const GIVEN: &str = r#"{"_id":"d","_revisions":{"start":3,"ids":["d","c","x"]}}"#;
     const KNOWN: &str = r#"{"_id":"d","_revisions":{"start":2,"ids":["c","b"]}}"#;
-    let mut bench = Bench::new(rt.alloc());
     static ROWS: Rows = &[
         (Call::Peer(1, None), "made"),
         (Call::Peer(2, Some("secret")), "made"),
@@ -312,7 +302,6 @@ fn a_session_from_beginning_to_end(rt: HostRuntime) {
             "0 to 3: x1 1-a live {}; secret 1-a live {}; d 3-d,2-c,1-x live {};",
         ),
     ];
-    bench.run(&rt, ROWS);
     static THEN: Rows = &[
         // One is filtered, and the ancestry of d contradicts its tree: 2-c has the parent 1-b there.
         (Call::Settle(TARGET, S1, FIRST), "written 1 failed 2"),
@@ -336,7 +325,7 @@ fn a_session_from_beginning_to_end(rt: HostRuntime) {
         (Call::Tree(TARGET, "d"), "2-c of 2"),
         (Call::Node(TARGET, "d", "2-c"), "1-b, Local(0), live {}"),
     ];
-    bench.run(&rt, THEN);
+    expect(&rt, rt.alloc(), &[ROWS, THEN]);
 }
 
 #[test]
@@ -366,7 +355,7 @@ fn local_writes_are_numbered(rt: HostRuntime) {
         (Call::Numbers(SOURCE), "1 at 2"),
         (Call::Page(SOURCE, 0, 3), "GoalAhead { update_seq: 2 }"),
     ];
-    Bench::new(rt.alloc()).run(&rt, ROWS);
+    expect(&rt, rt.alloc(), &[ROWS]);
 }
 
 #[test]
@@ -381,7 +370,7 @@ fn an_empty_prefix_refuses_every_document(rt: HostRuntime) {
         (Call::Peer(4, None), "made"),
         (Call::Verdict(3, D), "Accept"),
     ];
-    Bench::new(rt.alloc()).run(&rt, ROWS);
+    expect(&rt, rt.alloc(), &[ROWS]);
 }
 
 #[test]
@@ -410,8 +399,6 @@ fn beginnings_are_refused_by_name(rt: HostRuntime) {
         start: 1,
         goal: 4,
     };
-    let mut bench = Bench::new(rt.alloc());
-    bench.run(&rt, THREE);
     static ROWS: Rows = &[
         (
             Call::Begin(TARGET, S1, ABOVE, 10),
@@ -471,13 +458,11 @@ fn beginnings_are_refused_by_name(rt: HostRuntime) {
         ),
         (Call::Append(TARGET, S2, FIRST), "Gap { expected: 1 }"),
     ];
-    bench.run(&rt, ROWS);
+    expect(&rt, rt.alloc(), &[THREE, ROWS]);
 }
 
 #[test]
 fn a_session_that_is_not_there_is_refused(rt: HostRuntime) {
-    let mut bench = Bench::new(rt.alloc());
-    bench.run(&rt, THREE);
     static ROWS: Rows = &[
         (Call::Page(SOURCE, 0, 1), "0 to 1: 1 d 1-a;"),
         (Call::Diff(TARGET, FIRST), "0 to 1: d 1-a;"),
@@ -498,15 +483,12 @@ fn a_session_that_is_not_there_is_refused(rt: HostRuntime) {
             "session 1 from 0 to 0 checked 0 found 0 read 0 written 0 failed 0",
         ),
     ];
-    bench.run(&rt, ROWS);
+    expect(&rt, rt.alloc(), &[THREE, ROWS]);
 }
 
 #[test]
 fn a_foreign_document_is_refused(rt: HostRuntime) {
     const E: &str = r#"{"_id":"e","_rev":"1-a"}"#;
-    let mut bench = Bench::new(rt.alloc());
-    bench.run(&rt, THREE);
-    bench.run(&rt, ASKED);
     static ROWS: Rows = &[
         // The other source's window has the same bounds, and its document no row in the stored one.
         (Call::Load(OTHER, E), "Changed { seq: 1 }"),
@@ -520,7 +502,42 @@ fn a_foreign_document_is_refused(rt: HostRuntime) {
         ),
         (Call::Numbers(TARGET), "2 at 0"),
     ];
-    bench.run(&rt, ROWS);
+    expect(&rt, rt.alloc(), &[THREE, ASKED, ROWS]);
+}
+
+// With the one above, the hostile parcels: of another source, and fetched before a third party wrote.
+#[test]
+fn a_parcel_of_another_leaf_leaves_its_window_uncovered(rt: HostRuntime) {
+    static ROWS: Rows = &[
+        (
+            Call::Load(OTHER, r#"{"_id":"d","_rev":"1-b"}"#),
+            "Changed { seq: 1 }",
+        ),
+        (Call::Page(OTHER, 0, 1), "0 to 1: 1 d 1-b;"),
+        (Call::Diff(TARGET, SECOND), "0 to 1: d 1-b;"),
+        (Call::Fetch(OTHER, SECOND), "0 to 1: d 1-b live {};"),
+        (Call::Settle(TARGET, S1, FIRST), "Uncovered 1 d 1-a"),
+        (Call::Tree(TARGET, "d"), "1-b of 1"),
+        (
+            Call::Entry(TARGET, S1),
+            "session 1 from 0 to 0 checked 0 found 0 read 1 written 1 failed 0, 10 to 10",
+        ),
+        (Call::Record(TARGET, S1, 11), "0"),
+    ];
+    expect(&rt, rt.alloc(), &[THREE, ASKED, ROWS]);
+}
+
+#[test]
+fn a_parcel_of_what_a_third_party_wrote_counts(rt: HostRuntime) {
+    static ROWS: Rows = &[
+        (Call::Fetch(SOURCE, FIRST), "0 to 1: d 1-a live {};"),
+        (Call::Load(TARGET, D), "Changed { seq: 1 }"),
+        (Call::Settle(TARGET, S1, FIRST), "written 1 failed 0"),
+        (Call::Tree(TARGET, "d"), "1-a of 1"),
+        (Call::Numbers(TARGET), "2 at 1"),
+        (Call::Record(TARGET, S1, 11), "1"),
+    ];
+    expect(&rt, rt.alloc(), &[THREE, ASKED, ROWS]);
 }
 
 /// A source at the sequence 12 of one document, which changed each time, and an empty target.
@@ -601,9 +618,6 @@ static RECORDED: Rows = &[
 
 #[test]
 fn common_session(rt: HostRuntime) {
-    let mut bench = Bench::new(rt.alloc());
-    bench.run(&rt, TWELVE);
-    bench.run(&rt, RECORDED);
     static ROWS: Rows = &[
         // The third session, which the source doesn't know.
         (
@@ -630,7 +644,6 @@ fn common_session(rt: HostRuntime) {
         ),
         (Call::TargetLog(TARGET, REP), "3 at 12;2 at 5;1 at 9;"),
     ];
-    bench.run(&rt, ROWS);
     static THEN: Rows = &[
         (Call::PutEntry(SOURCE, REP, S1, 9), "put"),
         (Call::PutEntry(SOURCE, REP, S2, 4), "put"),
@@ -647,15 +660,12 @@ fn common_session(rt: HostRuntime) {
         (Call::SourceLog(SOURCE, REP), "2 at 5;1 at 10;"),
         (Call::Common(SOURCE, TARGET, REP), "2 at 5"),
     ];
-    bench.run(&rt, THEN);
+    expect(&rt, rt.alloc(), &[TWELVE, RECORDED, ROWS, THEN]);
 }
 
 #[test]
 fn an_audit_is_clean(rt: HostRuntime) {
     const E: &str = r#"{"_id":"e","_rev":"1-a"}"#;
-    let mut bench = Bench::new(rt.alloc());
-    bench.run(&rt, THREE);
-    bench.run(&rt, ASKED);
     static ROWS: Rows = &[
         (Call::Fetch(SOURCE, FIRST), "0 to 1: d 1-a live {};"),
         (Call::Settle(TARGET, S1, FIRST), "written 1 failed 0"),
@@ -672,14 +682,12 @@ fn an_audit_is_clean(rt: HostRuntime) {
         (Call::Load(SOURCE, E), "Changed { seq: 2 }"),
         (Call::Audit(SOURCE, TARGET), "clean"),
     ];
-    bench.run(&rt, ROWS);
+    expect(&rt, rt.alloc(), &[THREE, ASKED, ROWS]);
 }
 
 #[test]
 fn an_audit_finds_a_hole(rt: HostRuntime) {
     const E: &str = r#"{"_id":"e","_rev":"1-a"}"#;
-    let mut bench = Bench::new(rt.alloc());
-    bench.run(&rt, THREE);
     static ROWS: Rows = &[
         // The session is fed by another source than its replication names.
         (Call::Load(OTHER, E), "Changed { seq: 1 }"),
@@ -694,5 +702,5 @@ fn an_audit_finds_a_hole(rt: HostRuntime) {
         (Call::PutEntryOf(SOURCE, REP, TARGET, S1), "put"),
         (Call::Audit(SOURCE, TARGET), "hole 1 d 1-a"),
     ];
-    bench.run(&rt, ROWS);
+    expect(&rt, rt.alloc(), &[THREE, ROWS]);
 }

@@ -5,10 +5,11 @@ use crate::texts::{
     asked_text, base_fault_text, body, doc, expect_answer, parcel_text, rev, rev_text, shown,
     window_text,
 };
+use crate::{large, plans};
 use couch_base::{Asked, Parcel, Window};
 use doc_json::DocId;
 use repl_log::{Entry, Moment, RepId, common};
-use repl_target::{Audit, Peer, Rules, WriteFilter, audit};
+use repl_target::{Audit, Peer, Rules, TargetFault, WriteFilter, audit, hole_above};
 use rev_tree::SessionId;
 use std::alloc::Global;
 use std::process::Abort;
@@ -73,6 +74,24 @@ pub(crate) enum Call<'a> {
     Common(usize, usize, RepId),
     /// Audits a target, the second one, against a source.
     Audit(usize, usize),
+    /// Asks whether a plan between two peers can be begun, with windows of some rows at most.
+    CheckPlan(usize, usize, u64),
+    /// Begins the session of a plan at the second peer, from the first, at a moment.
+    BeginPlan(SessionId, u64),
+    /// Puts the entry of a session of the second peer into the log of the first.
+    RecordAtSource(SessionId),
+    /// Asks for the first hole of a target, the second one, above a sequence of its source.
+    HoleAbove(usize, usize, u64),
+    /// Replicates the first peer into the second: a session, and how many rows a window has at most.
+    Replicate(SessionId, u64),
+    /// Loads d with so many revisions in its ancestry.
+    LoadLong(usize, u32),
+    /// Loads so many leaves of d.
+    LoadWide(usize, u32),
+    /// Makes d with so many letters in its body.
+    EditLarge(usize, usize),
+    /// Reads how large the tree of d is.
+    Sizes(usize),
 }
 
 /// Calls, each with the text that it must answer.
@@ -80,7 +99,7 @@ pub(crate) type Rows = &'static [(Call<'static>, &'static str)];
 
 /// Peers, and what was read and fetched from them.
 #[derive(Drop)]
-pub(crate) struct Bench {
+struct Bench {
     alloc: Global,
     peers: Vec<Peer<Rules>>,
     windows: Vec<Window>,
@@ -90,7 +109,7 @@ pub(crate) struct Bench {
 
 impl Bench {
     /// No peers.
-    pub(crate) fn new(alloc: Global) -> Bench {
+    fn new(alloc: Global) -> Bench {
         Bench {
             alloc,
             peers: Vec::new(alloc),
@@ -101,7 +120,7 @@ impl Bench {
     }
 
     /// Makes the calls in order, and asserts what each answers.
-    pub(crate) fn run(&mut self, rt: &impl Abort, calls: &[(Call, &str)]) {
+    fn run(&mut self, rt: &impl Abort, calls: &[(Call, &str)]) {
         for (i, (call, wanted)) in calls.iter().enumerate() {
             expect_answer(rt, i, self.answer(call), wanted);
         }
@@ -120,6 +139,15 @@ impl Bench {
             Call::PutEntryOf(at, rep, target, session) => self.put_of(at, rep, target, session),
             Call::Common(source, target, rep) => self.common(source, target, rep),
             Call::Audit(source, target) => self.audit(source, target),
+            Call::CheckPlan(source, target, batch) => self.check_plan(source, target, batch),
+            Call::BeginPlan(session, moment) => {
+                plans::begin(self.alloc, &mut self.peers, session, moment)
+            }
+            Call::RecordAtSource(session) => plans::record(self.alloc, &mut self.peers, session),
+            Call::HoleAbove(source, target, since) => self.hole_above(source, target, since),
+            Call::Replicate(session, batch) => {
+                large::replicate(self.alloc, &mut self.peers, session, batch)
+            }
             other => self.answer_of_one(&other),
         }
     }
@@ -144,6 +172,15 @@ impl Bench {
             Call::PutEntry(at, rep, session, recorded) => {
                 put_entry(alloc, self.peers.get_mut(at)?, rep, session, recorded)
             }
+            Call::LoadLong(at, length) => {
+                large::load_long(alloc, self.peers.get_mut(at)?, length)
+            }
+            Call::LoadWide(at, leaves) => {
+                large::load_wide(alloc, self.peers.get_mut(at)?, leaves)
+            }
+            Call::EditLarge(at, letters) => {
+                large::edit_large(alloc, self.peers.get_mut(at)?, letters)
+            }
             reading => self.reading(&reading),
         }
     }
@@ -160,6 +197,7 @@ impl Bench {
             Call::Node(at, id, rev) => node(alloc, self.peers.get(at)?.db(), id, rev),
             Call::Verdict(at, text) => verdict(alloc, self.peers.get(at)?, text),
             Call::Covered(at, id, rev) => covered(alloc, self.peers.get(at)?, id, rev),
+            Call::Sizes(at) => large::sizes(alloc, self.peers.get(at)?),
             Call::Entry(at, session) => entry(alloc, self.peers.get(at)?, session),
             Call::TargetLog(at, rep) => {
                 let log = self.peers.get(at)?.target_log(alloc, &rep).ok()?;
@@ -268,15 +306,32 @@ impl Bench {
     /// Audits a target.
     fn audit(&self, source: usize, target: usize) -> Option<String> {
         let found = audit(self.alloc, self.peers.get(source)?, self.peers.get(target)?);
-        match found {
-            Ok(found) => audit_text(self.alloc, found),
-            Err(fault) => fault_text(self.alloc, fault),
-        }
+        found_text(self.alloc, found)
+    }
+
+    /// Asks whether a plan can be begun.
+    fn check_plan(&self, source: usize, target: usize, batch: u64) -> Option<String> {
+        let (source, target) = (self.peers.get(source)?, self.peers.get(target)?);
+        plans::check(self.alloc, source, target, batch)
+    }
+
+    /// Asks for the first hole above a sequence.
+    fn hole_above(&self, source: usize, target: usize, since: u64) -> Option<String> {
+        let (source, target) = (self.peers.get(source)?, self.peers.get(target)?);
+        found_text(self.alloc, hole_above(self.alloc, source, target, since))
+    }
+}
+
+/// Makes lists of calls on a bench of their own, and asserts what each answers.
+pub(crate) fn expect(rt: &impl Abort, alloc: Global, lists: &[Rows]) {
+    let mut bench = Bench::new(alloc);
+    for calls in lists {
+        bench.run(rt, calls);
     }
 }
 
 /// The filter that refuses a prefix.
-fn rules(alloc: Global, deny: Option<&str>) -> Option<Rules> {
+pub(crate) fn rules(alloc: Global, deny: Option<&str>) -> Option<Rules> {
     match deny {
         Some(prefix) => Some(Rules {
             deny: Some(prefix.to_string(alloc).ok()?),
@@ -286,13 +341,14 @@ fn rules(alloc: Global, deny: Option<&str>) -> Option<Rules> {
 }
 
 /// What an audit finds.
-fn audit_text(alloc: Global, found: Audit) -> Option<String> {
+pub(crate) fn found_text(alloc: Global, found: Result<Audit, TargetFault>) -> Option<String> {
     match found {
-        Audit::Clean => "clean".to_string(alloc).ok(),
-        Audit::Hole { seq, id, rev } => {
+        Ok(Audit::Clean) => "clean".to_string(alloc).ok(),
+        Ok(Audit::Hole { seq, id, rev }) => {
             let rev = rev_text(alloc, rev)?;
             format!(in alloc; "hole {seq} {} {rev}", id.text()).ok()
         }
+        Err(fault) => fault_text(alloc, fault),
     }
 }
 

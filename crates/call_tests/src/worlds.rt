@@ -5,7 +5,7 @@ use crate::texts::{body, doc, expect_answer, rev};
 use doc_json::DocId;
 use repl_log::{Moment, RepId, common};
 use repl_target::{Audit, Peer, Rules, audit};
-use repl_world::{Step, World};
+use repl_world::{Step, World, WorldFault};
 use rev_tree::SessionId;
 use std::alloc::Global;
 use std::process::Abort;
@@ -27,6 +27,8 @@ pub(crate) enum Act<'a> {
     ThirdParty(&'a str),
     /// Begins a session without a base: its start and its goal.
     Begin(SessionId, u64, u64),
+    /// Begins a session on another one: its start and its goal.
+    BeginOn(SessionId, SessionId, u64, u64),
     Page(u64, u64, u64),
     Append(SessionId, usize),
     Diff(usize),
@@ -94,6 +96,13 @@ fn plain_step(act: Act) -> Option<Step> {
         Act::Begin(session, start, goal) => Some(Step::Begin {
             session,
             base: None,
+            start,
+            goal,
+            at,
+        }),
+        Act::BeginOn(session, base, start, goal) => Some(Step::Begin {
+            session,
+            base: Some(base),
             start,
             goal,
             at,
@@ -199,18 +208,21 @@ fn peer(alloc: Global, uuid: u128) -> Peer<Rules> {
     Peer::new(alloc, uuid, Rules { deny: None })
 }
 
-/// Takes lists of steps in a world of two empty peers, and asserts what its questions are answered.
-pub(crate) fn expect(rt: &impl Abort, alloc: Global, lists: &[Acts], told: Told) {
-    match World::new(alloc, peer(alloc, 1), peer(alloc, 2)) {
-        Ok(world) => {
-            let mut world = world;
-            tell(rt, alloc, &mut world, lists, told)
-        }
-        Err(_) => rt.panic(format_args!("no world")),
-    }
+/// A world of two empty peers.
+fn world(rt: &impl Abort, alloc: Global) -> World<Rules> {
+    let (source, target) = (peer(alloc, 1), peer(alloc, 2));
+    World::new(alloc, source, target).expect(rt, "two peers")
 }
 
-/// Whether two peers of one uuid make no world.
-pub(crate) fn refuses_one(alloc: Global) -> bool {
-    World::new(alloc, peer(alloc, 1), peer(alloc, 1)).is_err()
+/// Takes lists of steps in a world of two empty peers, and asserts what its questions are answered.
+pub(crate) fn expect(rt: &impl Abort, alloc: Global, lists: &[Acts], told: Told) {
+    let mut world = world(rt, alloc);
+    tell(rt, alloc, &mut world, lists, told);
+}
+
+/// Asserts that two peers of one uuid make no world.
+pub(crate) fn refuse_one(rt: &impl Abort, alloc: Global) {
+    let (source, target) = (peer(alloc, 1), peer(alloc, 1));
+    let fault = World::new(alloc, source, target).err();
+    assert_eq!(rt; fault, Some(WorldFault::SamePeer));
 }

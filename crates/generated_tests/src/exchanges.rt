@@ -1,95 +1,76 @@
 //! What one database asks for another one's feed, and what is fetched for it, compared with the reference.
-use crate::feeds::{Documents, IDS, next_above, put};
-use crate::merges::are;
-use crate::reference::Reference;
+use crate::feeds::{number_of, put};
+use crate::merges::{are, rev};
+use crate::plain_sides::{IDS, PlainSide, next_above};
+use crate::reference::{PLACES, Reference, bit};
 use couch_base::{Asked, Database, Parcel, Wanted};
+use doc_json::Doc;
 use rand_chacha::ChaCha8Rng;
 use rand_core::SeedableRng;
 use rev_core::Rev;
 use std::alloc::Global;
 use std::process::Abort;
-use std::test::Fail;
 
 /// A database and its reference.
 #[derive(Drop)]
 struct Side {
     db: Database,
-    documents: Documents,
-    update_seq: u64,
+    plain: PlainSide,
 }
-
-/// What is asked of a document by its number: the places of the revisions.
-type Places = [Option<Vec<usize>>; IDS];
 
 impl Side {
     /// A database of no documents.
     fn new(alloc: Global, uuid: u128) -> Side {
         Side {
             db: Database::new(alloc, uuid),
-            documents: [None; IDS],
-            update_seq: 0,
+            plain: PlainSide::new(),
         }
     }
 
     /// Puts documents by chance.
-    fn grow(
-        &mut self,
-        rt: &impl Abort,
-        alloc: Global,
-        rng: &mut ChaCha8Rng,
-        puts: usize,
-    ) -> Result<(), Fail> {
+    fn grow(&mut self, rt: &impl Abort, alloc: Global, rng: &mut ChaCha8Rng, puts: usize) {
         for _ in 0..puts {
-            self.update_seq = put(
-                rt,
-                alloc,
-                rng,
-                &mut self.db,
-                &mut self.documents,
-                self.update_seq,
-            )?;
-        }
-        Ok(())
-    }
-
-    /// The tree of a document.
-    fn tree(&self, number: usize) -> Reference {
-        match self.documents[number % IDS] {
-            Some((_, tree)) => tree,
-            None => Reference::new(),
+            put(rt, alloc, rng, &mut self.db, &mut self.plain);
         }
     }
 }
 
-/// The number of the document of an id, which is `d` and a digit.
-fn number_of(rt: &impl Abort, text: &str) -> usize {
-    match text.as_bytes() {
-        [b'd', digit] if *digit >= b'0' => (*digit - b'0') as usize % IDS,
-        _ => rt.panic(format_args!("another id")),
-    }
-}
-
-/// The leaves of a document at the source that the target has not, winner first.
-fn wanted(alloc: Global, source: &Side, target: &Side, number: usize) -> Result<Vec<usize>, Fail> {
-    let held = target.tree(number);
-    let mut places = Vec::new(alloc);
-    for leaf in &source.tree(number).leaves(alloc)? {
-        if !held.has(*leaf) {
-            places.push(*leaf)?;
+/// The place of a revision.
+pub(crate) fn place_of(rt: &impl Abort, wanted: Rev) -> usize {
+    for place in 0..PLACES {
+        if rev(rt, place) == wanted {
+            return place;
         }
     }
-    Ok(places)
+    PLACES
 }
 
-/// Asserts that what is asked is what the target has not, in the order of the source's feed. Gives it by documents.
-fn asks(
+/// The bits of some revisions.
+fn mask_of(rt: &impl Abort, revs: &[Rev]) -> u32 {
+    let mut mask = 0;
+    for one in revs {
+        mask |= bit(place_of(rt, *one));
+    }
+    mask
+}
+
+/// Asserts that what is asked of a document are those leaves of a tree that another one has not, winner first.
+fn asks_of(
     rt: &impl Abort,
     alloc: Global,
-    source: &Side,
-    target: &Side,
-    asked: &Asked,
-) -> Result<Places, Fail> {
-    let mut all = [None, None, None, None, None];
+    wanted: &Wanted,
+    number: usize,
+    tree: &Reference,
+    held: &Reference,
+) {
+    assert_eq!(rt; number_of(rt, wanted.id().text()), number);
+    let leaves = tree.leaves(alloc).expect(rt, "memory");
+    let missing = held.missing(rt, alloc, &leaves);
+    assert!(rt; are(rt, wanted.revs(), &missing));
+}
+
+/// Asserts that what is asked is what the target has not, in the order of the source's feed.
+fn asks(rt: &impl Abort, alloc: Global, source: &PlainSide, target: &PlainSide, asked: &Asked) {
     let mut seq = 0u64;
     let mut at = 0usize;
     for _ in 0..IDS {
@@ -97,40 +78,32 @@ fn asks(
             break;
         };
         seq = next;
-        let places = wanted(alloc, source, target, number)?;
-        if places.is_empty() {
-            continue;
+        let (tree, held) = (source.tree(number), target.tree(number));
+        if tree.leaf_mask() & !held.revisions() != 0 {
+            let wanted = asked.docs().get(at).expect(rt, "a document that is asked");
+            asks_of(rt, alloc, wanted, number, &tree, &held);
+            at = at.saturating_add(1);
         }
-        let Some(document) = asked.docs().get(at) else {
-            rt.panic(format_args!("d{number} is not asked"))
-        };
-        asks_of(rt, document, number, &places);
-        all[number % IDS] = Some(places);
-        at = at.saturating_add(1);
     }
     assert_eq!(rt; asked.docs().len(), at);
-    Ok(all)
 }
 
-/// Asserts what is asked of one document.
-fn asks_of(rt: &impl Abort, document: &Wanted, number: usize, places: &[usize]) {
-    assert_eq!(rt; number_of(rt, document.id().text()), number);
-    assert!(rt; are(rt, document.revs(), places));
+/// Asserts that a fetched document is a leaf of a tree.
+fn is_leaf(
+    rt: &impl Abort,
+    alloc: Global,
+    doc: &Doc,
+    number: usize,
+    tree: &Reference,
+    leaf: usize,
+) {
+    assert_eq!(rt; number_of(rt, doc.id().text()), number);
+    let walk = tree.ancestry(alloc, leaf).expect(rt, "memory");
+    assert!(rt; are(rt, doc.ancestry().revs(), &walk));
+    assert!(rt; tree.content(leaf) == Some((doc.deleted(), 0)));
 }
 
-/// The leaves of a document whose ancestries have one of the revisions, winner first.
-fn above(alloc: Global, tree: &Reference, revs: &[usize]) -> Result<Vec<usize>, Fail> {
-    let mut leaves = Vec::new(alloc);
-    for leaf in &tree.leaves(alloc)? {
-        let walk = tree.ancestry(alloc, *leaf)?;
-        if walk.iter().any(|place| revs.contains(place)) {
-            leaves.push(*leaf)?;
-        }
-    }
-    Ok(leaves)
-}
-
-/// Asserts that the documents from a place on are those of some leaves. Gives the place behind them.
+/// Asserts that the documents from a place on are the leaves of a tree above some revisions. Gives the place behind them.
 fn brings_leaves(
     rt: &impl Abort,
     alloc: Global,
@@ -138,22 +111,15 @@ fn brings_leaves(
     from: usize,
     number: usize,
     tree: &Reference,
-    leaves: &[usize],
-) -> Result<usize, Fail> {
+    revs: u32,
+) -> usize {
     let mut at = from;
-    for leaf in leaves {
-        let Some(doc) = parcel.docs().get(at) else {
-            rt.panic(format_args!("a document too few"))
-        };
-        assert_eq!(rt; number_of(rt, doc.id().text()), number);
-        assert!(rt; are(rt, doc.ancestry().revs(), &tree.ancestry(alloc, *leaf)?));
-        assert_eq!(rt;
-            Some(doc.deleted()),
-            tree.content(*leaf).map(|content| content.0)
-        );
+    for leaf in &tree.leaves_above(rt, alloc, revs) {
+        let doc = parcel.docs().get(at).expect(rt, "a document too few");
+        is_leaf(rt, alloc, doc, number, tree, *leaf);
         at = at.saturating_add(1);
     }
-    Ok(at)
+    at
 }
 
 /// Asserts that the gone revisions from a place on are those that a tree has not. Gives the place behind them.
@@ -163,71 +129,53 @@ fn loses(
     from: usize,
     number: usize,
     tree: &Reference,
-    revs: &[usize],
+    revs: &[Rev],
 ) -> usize {
     let mut at = from;
-    for place in revs {
-        if tree.has(*place) {
-            continue;
+    for one in revs {
+        if !tree.has(place_of(rt, *one)) {
+            let (id, lost) = parcel.gone().get(at).expect(rt, "a gone revision too few");
+            assert_eq!(rt; number_of(rt, id.text()), number);
+            assert!(rt; *lost == *one);
+            at = at.saturating_add(1);
         }
-        let Some((id, rev)) = parcel.gone().get(at) else {
-            rt.panic(format_args!("a gone revision too few"))
-        };
-        assert_eq!(rt; number_of(rt, id.text()), number);
-        let lost: [Rev; 1] = [*rev];
-        assert!(rt; are(rt, &lost, &[*place]));
-        at = at.saturating_add(1);
     }
     at
 }
 
-/// Asserts that what a side answers to what is asked is what its trees say. Gives how many documents that are.
-fn answers(
+/// Asserts that a parcel is what the trees say of what was asked. Gives how many documents it has.
+fn brings(
     rt: &impl Abort,
     alloc: Global,
-    side: &Side,
+    plain: &PlainSide,
     asked: &Asked,
-    all: &Places,
-) -> Result<usize, Fail> {
-    let parcel = side.db.open_revs(alloc, asked)?;
+    parcel: &Parcel,
+) -> usize {
     let mut docs = 0usize;
     let mut gone = 0usize;
-    for document in asked.docs() {
-        let number = number_of(rt, document.id().text());
-        let tree = side.tree(number);
-        let Some(revs) = &all[number % IDS] else {
-            rt.panic(format_args!("not asked"))
-        };
-        let leaves = above(alloc, &tree, revs)?;
-        docs = brings_leaves(rt, alloc, &parcel, docs, number, &tree, &leaves)?;
-        gone = loses(rt, &parcel, gone, number, &tree, revs);
+    for wanted in asked.docs() {
+        let number = number_of(rt, wanted.id().text());
+        let tree = plain.tree(number);
+        let revs = mask_of(rt, wanted.revs());
+        docs = brings_leaves(rt, alloc, parcel, docs, number, &tree, revs);
+        gone = loses(rt, parcel, gone, number, &tree, wanted.revs());
     }
     assert_eq!(rt; parcel.docs().len(), docs);
     assert_eq!(rt; parcel.gone().len(), gone);
-    Ok(docs)
+    docs
+}
+
+/// Asserts that what a side answers to what is asked is what its trees say. Gives how many documents that are.
+fn answers(rt: &impl Abort, alloc: Global, side: &Side, asked: &Asked) -> usize {
+    let parcel = side.db.open_revs(alloc, asked).expect(rt, "memory");
+    brings(rt, alloc, &side.plain, asked, &parcel)
 }
 
 /// What the target asks for the source's whole feed.
-fn asked(alloc: Global, source: &Side, target: &Side) -> Result<Asked, Fail> {
-    let window = source.db.page(alloc, 0, source.update_seq, 100)?;
-    Ok(target.db.revs_diff(alloc, &window)?)
-}
-
-/// Asserts what both sides answer to what is asked. Gives how many documents the source brings.
-fn both_answer(
-    rt: &impl Abort,
-    alloc: Global,
-    rng: &mut ChaCha8Rng,
-    source: &mut Side,
-    target: &Side,
-    asked: &Asked,
-) -> Result<usize, Fail> {
-    let all = asks(rt, alloc, source, target, asked)?;
-    // The source may have moved on by the time of the fetch, and another database may lack what is asked.
-    source.grow(rt, alloc, rng, 10)?;
-    let docs = answers(rt, alloc, source, asked, &all)?;
-    answers(rt, alloc, target, asked, &all)?;
-    Ok(docs)
+fn asked(rt: &impl Abort, alloc: Global, source: &Side, target: &Side) -> Asked {
+    let goal = source.plain.update_seq;
+    let window = source.db.page(alloc, 0, goal, 100).expect(rt, "a page");
+    target.db.revs_diff(alloc, &window).expect(rt, "memory")
 }
 
 /// Grows both sides, and asserts what is asked and answered. Gives how many documents the source brings.
@@ -237,37 +185,31 @@ fn exchange(
     rng: &mut ChaCha8Rng,
     source: &mut Side,
     target: &mut Side,
-) -> Result<usize, Fail> {
-    source.grow(rt, alloc, rng, 20)?;
-    target.grow(rt, alloc, rng, 10)?;
-    let asked = asked(alloc, source, target)?;
-    both_answer(rt, alloc, rng, source, target, &asked)
+) -> usize {
+    source.grow(rt, alloc, rng, 20);
+    target.grow(rt, alloc, rng, 10);
+    let asked = asked(rt, alloc, source, target);
+    asks(rt, alloc, &source.plain, &target.plain, &asked);
+    // The source may have moved on by the time of the fetch, and another database may lack what is asked.
+    source.grow(rt, alloc, rng, 10);
+    let docs = answers(rt, alloc, source, &asked);
+    let _others = answers(rt, alloc, target, &asked);
+    docs
 }
 
 /// The exchange of a source with a target. Nothing else lives beside a side: each value adds to its proof.
-fn with_target(
-    rt: &impl Abort,
-    alloc: Global,
-    rng: &mut ChaCha8Rng,
-    source: &mut Side,
-) -> Result<usize, Fail> {
-    let mut target = Side::new(alloc, 2);
-    exchange(rt, alloc, rng, source, &mut target)
-}
-
-/// The exchange of a seed.
-fn of_seed(rt: &impl Abort, alloc: Global, seed: u64) -> Result<usize, Fail> {
+fn with_target(rt: &impl Abort, alloc: Global, seed: u64, source: &mut Side) -> usize {
     let mut rng = ChaCha8Rng::seed_from_u64(seed);
-    let mut source = Side::new(alloc, 1);
-    with_target(rt, alloc, &mut rng, &mut source)
+    let mut target = Side::new(alloc, 2);
+    exchange(rt, alloc, &mut rng, source, &mut target)
 }
 
 #[test]
-fn a_hundred_exchanges_agree(rt: HostRuntime) -> Result<(), Fail> {
+fn a_hundred_exchanges_agree(rt: HostRuntime) {
     let mut docs = 0usize;
     for seed in 0..100u64 {
-        docs = docs.saturating_add(of_seed(&rt, rt.alloc(), seed)?);
+        let mut source = Side::new(rt.alloc(), 1);
+        docs = docs.saturating_add(with_target(&rt, rt.alloc(), seed, &mut source));
     }
     assert!(rt; 300 < docs, "{docs} documents");
-    Ok(())
 }

@@ -1,108 +1,94 @@
 //! Puts and pages by chance, compared with a reference that filters and sorts all documents.
 use crate::merges::{ancestry, are, below, places};
+use crate::plain_sides::{IDS, PlainSide, next_above};
 use crate::reference::{Answer, Reference};
 use couch_base::{BaseFault, Database, Put, Row, Window};
-use doc_json::{Doc, DocId, read_body};
+use doc_json::{Body, Doc, DocId, read_body};
 use rand_chacha::ChaCha8Rng;
 use rand_core::SeedableRng;
 use rev_tree::Origin;
 use serde_json::Value;
 use std::alloc::Global;
 use std::process::Abort;
-use std::test::Fail;
-
-/// How many documents there can be, with the ids d0 to d4.
-pub(crate) const IDS: usize = 5;
-
-/// The sequence of each document's latest change, and its tree.
-pub(crate) type Documents = [Option<(u64, Reference)>; IDS];
 
 /// The id of a number.
-fn id(alloc: Global, number: usize) -> Result<DocId, Fail> {
+pub(crate) fn id(rt: &impl Abort, alloc: Global, number: usize) -> DocId {
     let number = number % IDS;
-    let text = format!(in alloc; "d{number}")?;
-    Ok(DocId::parse(alloc, text.as_str())?)
+    let text = format!(in alloc; "d{number}").expect(rt, "memory");
+    DocId::parse(alloc, text.as_str()).expect(rt, "an id")
+}
+
+/// The number of the document of an id, which is `d` and a digit.
+pub(crate) fn number_of(rt: &impl Abort, text: &str) -> usize {
+    match text.as_bytes() {
+        [b'd', digit] if *digit >= b'0' => (*digit - b'0') as usize % IDS,
+        _ => rt.panic(format_args!("another id")),
+    }
+}
+
+/// The body `{}`.
+pub(crate) fn body(rt: &impl Abort, alloc: Global) -> Body {
+    let value = Value::from_slice(alloc, b"{}").expect(rt, "a value");
+    read_body(alloc, &value).expect(rt, "a body")
 }
 
 /// A document by its id's number and the places of its ancestry, with the body `{}`.
-fn document(
+pub(crate) fn document(
     rt: &impl Abort,
     alloc: Global,
     number: usize,
-    given: &[usize],
+    walk: &[usize],
     deleted: bool,
-) -> Result<Doc, Fail> {
-    let value = Value::from_slice(alloc, b"{}")?;
-    let body = read_body(alloc, &value)?;
-    Ok(Doc::new(
-        id(alloc, number)?,
-        ancestry(rt, alloc, given)?,
-        deleted,
-        body,
-    ))
+) -> Doc {
+    let ancestry = ancestry(rt, alloc, walk);
+    Doc::new(id(rt, alloc, number), ancestry, deleted, body(rt, alloc))
 }
 
-/// Puts a document by chance into both. Returns the update sequence that the reference then has.
+/// A document by chance, and what merging it gives, which is done in the plain side.
+pub(crate) fn document_by_chance(
+    rt: &impl Abort,
+    alloc: Global,
+    rng: &mut ChaCha8Rng,
+    plain: &mut PlainSide,
+    documents: usize,
+) -> (Doc, Answer) {
+    let number = below(rng, 5) % documents.max(1);
+    let walk = places(rng, alloc).expect(rt, "memory");
+    let deleted = below(rng, 3) == 0;
+    let answer = plain.merge(number, &walk, deleted);
+    (document(rt, alloc, number, &walk, deleted), answer)
+}
+
+/// Whether a put answers what is wanted, with the update sequence that then stands.
+pub(crate) fn is_answer(answer: Result<Put, BaseFault>, wanted: Answer, update_seq: u64) -> bool {
+    match answer {
+        Ok(Put::Changed { seq }) => wanted == Answer::Changed && seq == update_seq,
+        Ok(Put::Same) => wanted == Answer::Same,
+        Err(BaseFault::Contradiction { .. }) => {
+            wanted != Answer::Changed && wanted != Answer::Same
+        }
+        Err(_) => false,
+    }
+}
+
+/// Puts a document by chance into both.
 pub(crate) fn put(
     rt: &impl Abort,
     alloc: Global,
     rng: &mut ChaCha8Rng,
     db: &mut Database,
-    documents: &mut Documents,
-    update_seq: u64,
-) -> Result<u64, Fail> {
-    let number = below(rng, IDS as u32) % IDS;
-    let given = places(rng, alloc)?;
-    let deleted = below(rng, 3) == 0;
-    let doc = document(rt, alloc, number, &given, deleted)?;
-    let mut tree = match documents[number] {
-        Some((_, tree)) => tree,
-        None => Reference::new(),
-    };
-    let next = update_seq.saturating_add(1);
-    let wanted = tree.merge(&given, (deleted, 0), 0);
-    match (db.put(&doc, Origin::Local(0)), wanted) {
-        (Ok(Put::Changed { seq }), Answer::Changed) => {
-            assert_eq!(rt; seq, next);
-            documents[number] = Some((next, tree));
-            Ok(next)
-        }
-        (Ok(Put::Same), Answer::Same) => Ok(update_seq),
-        (Err(_), Answer::Contradiction { .. }) => Ok(update_seq),
-        (_, _) => rt.panic(format_args!("another answer than {wanted:?}")),
-    }
-}
-
-/// The number of the document that stands next above a sequence, and at or under a goal.
-pub(crate) fn next_above(documents: &Documents, seq: u64, goal: u64) -> Option<(usize, u64)> {
-    let mut best: Option<(usize, u64)> = None;
-    for number in 0..IDS {
-        if let Some((at, _)) = documents[number] {
-            let nearer = match best {
-                Some((_, least)) => at < least,
-                None => true,
-            };
-            if seq < at && at <= goal && nearer {
-                best = Some((number, at));
-            }
-        }
-    }
-    best
+    plain: &mut PlainSide,
+) {
+    let (doc, wanted) = document_by_chance(rt, alloc, rng, plain, IDS);
+    let answer = db.put(&doc, Origin::Local(0));
+    assert!(rt; is_answer(answer, wanted, plain.update_seq), "a put");
 }
 
 /// Asserts that a row has an id and the leaves of a tree.
-fn row_has(
-    rt: &impl Abort,
-    alloc: Global,
-    row: &Row,
-    number: usize,
-    tree: &Reference,
-) -> Result<(), Fail> {
-    let id = id(alloc, number)?;
-    assert!(rt; *row.id() == id);
-    let leaves = tree.leaves(alloc)?;
+fn row_has(rt: &impl Abort, alloc: Global, row: &Row, number: usize, tree: &Reference) {
+    assert_eq!(rt; number_of(rt, row.id().text()), number);
+    let leaves = tree.leaves(alloc).expect(rt, "memory");
     assert!(rt; are(rt, row.leaves(), &leaves));
-    Ok(())
 }
 
 /// Asserts that a row is that of the document next above a sequence. Gives its own.
@@ -110,19 +96,16 @@ fn row_is(
     rt: &impl Abort,
     alloc: Global,
     row: &Row,
-    documents: &Documents,
+    plain: &PlainSide,
     after: u64,
     goal: u64,
-) -> Result<u64, Fail> {
-    let Some((number, seq)) = next_above(documents, after, goal) else {
+) -> u64 {
+    let Some((number, seq)) = next_above(&plain.documents, after, goal) else {
         rt.panic(format_args!("a row too many"))
     };
-    let Some((_, tree)) = &documents[number % IDS] else {
-        rt.panic(format_args!("no document"))
-    };
     assert_eq!(rt; row.seq(), seq);
-    row_has(rt, alloc, row, number, tree)?;
-    Ok(seq)
+    row_has(rt, alloc, row, number, &plain.tree(number));
+    seq
 }
 
 /// Asserts that the window has the first rows above `since`, and ends where it should.
@@ -130,75 +113,70 @@ fn window_is(
     rt: &impl Abort,
     alloc: Global,
     window: &Window,
-    documents: &Documents,
+    plain: &PlainSide,
     since: u64,
     goal: u64,
     limit: u64,
-) -> Result<(), Fail> {
+) {
     let mut at = since;
     let mut rows = 0u64;
     for row in window.rows() {
-        at = row_is(rt, alloc, row, documents, at, goal)?;
+        at = row_is(rt, alloc, row, plain, at, goal);
         rows = rows.saturating_add(1);
     }
-    assert!(rt; rows <= limit && (rows == limit || next_above(documents, at, goal).is_none()));
+    let is_last = next_above(&plain.documents, at, goal).is_none();
+    assert!(rt; rows <= limit && (rows == limit || is_last));
     assert_eq!(rt; window.lo(), since);
     assert_eq!(rt; window.hi(), if rows == limit { at } else { goal });
-    Ok(())
 }
 
 /// Asks for a page by chance.
-fn page(
-    rt: &impl Abort,
-    alloc: Global,
-    rng: &mut ChaCha8Rng,
-    db: &Database,
-    documents: &Documents,
-    update_seq: u64,
-) -> Result<(), Fail> {
+fn page(rt: &impl Abort, alloc: Global, rng: &mut ChaCha8Rng, db: &Database, plain: &PlainSide) {
     let since = below(rng, 30) as u64;
     let goal = below(rng, 40) as u64;
     let limit = below(rng, 4) as u64;
     match db.page(alloc, since, goal, limit) {
-        Ok(window) => window_is(rt, alloc, &window, documents, since, goal, limit),
-        Err(BaseFault::BadLimit) => Ok(assert_eq!(rt; limit, 0)),
-        Err(BaseFault::BadRange) => Ok(assert!(rt; limit != 0 && goal <= since)),
-        Err(BaseFault::GoalAhead { update_seq: told }) => {
-            assert!(rt; limit != 0 && since < goal && update_seq < goal && told == update_seq);
-            Ok(())
-        }
-        Err(_) => rt.panic(format_args!("another refusal")),
+        Ok(window) => window_is(rt, alloc, &window, plain, since, goal, limit),
+        Err(fault) => page_refused(rt, fault, plain, since, goal, limit),
     }
+}
+
+/// Asserts that a page is rightly refused.
+fn page_refused(
+    rt: &impl Abort,
+    fault: BaseFault,
+    plain: &PlainSide,
+    since: u64,
+    goal: u64,
+    limit: u64,
+) {
+    let seq = plain.update_seq;
+    let rightly = match fault {
+        BaseFault::BadLimit => limit == 0,
+        BaseFault::BadRange => limit != 0 && goal <= since,
+        BaseFault::GoalAhead { update_seq } => {
+            limit != 0 && since < goal && seq < goal && update_seq == seq
+        }
+        _ => false,
+    };
+    assert!(rt; rightly, "a page is refused");
 }
 
 /// Forty puts, and a page after each.
-fn grow(
-    rt: &impl Abort,
-    alloc: Global,
-    rng: &mut ChaCha8Rng,
-    db: &mut Database,
-) -> Result<(), Fail> {
-    let mut documents: Documents = [None; IDS];
-    let mut update_seq = 0;
+fn grow(rt: &impl Abort, alloc: Global, rng: &mut ChaCha8Rng, db: &mut Database) {
+    let mut plain = PlainSide::new();
     for _ in 0..40 {
-        update_seq = put(rt, alloc, rng, db, &mut documents, update_seq)?;
-        assert_eq!(rt; db.update_seq(), update_seq);
-        page(rt, alloc, rng, db, &documents, update_seq)?;
+        put(rt, alloc, rng, db, &mut plain);
+        assert_eq!(rt; db.update_seq(), plain.update_seq);
+        page(rt, alloc, rng, db, &plain);
     }
-    Ok(())
-}
-
-/// The puts and pages of a seed. Nothing else lives beside the database: each value adds to its proof.
-fn of_seed(rt: &impl Abort, alloc: Global, seed: u64) -> Result<(), Fail> {
-    let mut rng = ChaCha8Rng::seed_from_u64(seed);
-    let mut db = Database::new(alloc, 1);
-    grow(rt, alloc, &mut rng, &mut db)
 }
 
 #[test]
-fn a_hundred_databases_agree(rt: HostRuntime) -> Result<(), Fail> {
+fn a_hundred_databases_agree(rt: HostRuntime) {
     for seed in 0..100u64 {
-        of_seed(&rt, rt.alloc(), seed)?;
+        let mut rng = ChaCha8Rng::seed_from_u64(seed);
+        let mut db = Database::new(rt.alloc(), 1);
+        grow(&rt, rt.alloc(), &mut rng, &mut db);
     }
-    Ok(())
 }

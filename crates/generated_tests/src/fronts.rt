@@ -4,7 +4,6 @@ use rand_core::{Rng, SeedableRng};
 use range_front::{Front, FrontFault};
 use std::alloc::Global;
 use std::process::Abort;
-use std::test::Fail;
 
 /// How many windows a front has here.
 const WINDOWS: usize = 20;
@@ -34,40 +33,90 @@ fn range_count(marks: &[bool; WINDOWS]) -> usize {
     count
 }
 
-/// Forty tries to finish a window by chance: each is taken the first time, and refused after it.
-fn finishes(rt: &impl Abort, alloc: Global, seed: u64) -> Result<(), Fail> {
-    let mut rng = ChaCha8Rng::seed_from_u64(seed);
-    let start = seed % 7;
+/// A front of windows of ten sequences above a start.
+fn filled(rt: &impl Abort, alloc: Global, start: u64) -> Front {
     let mut front = Front::new(alloc, start);
     for i in 0..WINDOWS as u64 {
-        front.append(start + 10 * i + 10)?;
+        front.append(start % 7 + 10 * i + 10).expect(rt, "memory");
     }
+    front
+}
+
+/// Finishes a window, and asserts what that answers and leaves.
+fn finish_one(rt: &impl Abort, front: &mut Front, lo: u64, is_done: bool) {
+    let wanted = if is_done {
+        Err(FrontFault::AlreadyDone)
+    } else {
+        Ok(())
+    };
+    let hi = lo.saturating_add(10);
+    assert_eq!(rt; front.is_done(lo, hi), is_done);
+    front.reserve().expect(rt, "memory");
+    assert_eq!(rt; front.finish(lo, hi), wanted);
+    assert!(rt; front.is_done(lo, hi));
+    let beyond = lo.saturating_add(20);
+    assert_eq!(rt; front.finish(lo, beyond), Err(FrontFault::NoSuchWindow));
+}
+
+/// Forty tries to finish a window by chance: each is taken the first time, and refused after it.
+fn finishes(rt: &impl Abort, front: &mut Front, seed: u64) {
+    let mut rng = ChaCha8Rng::seed_from_u64(seed);
+    let start = seed % 7;
     let mut marks = [false; WINDOWS];
     for _ in 0..40 {
         let i = (rng.next_u32() % WINDOWS as u32) as usize;
-        let lo = start + 10 * i as u64;
-        let wanted = if marks[i] {
-            Err(FrontFault::AlreadyDone)
-        } else {
-            Ok(())
-        };
-        assert_eq!(rt; front.is_done(lo, lo + 10), marks[i]);
-        front.reserve()?;
-        assert_eq!(rt; front.finish(lo, lo + 10), wanted);
+        finish_one(rt, front, start + 10 * i as u64, marks[i]);
         marks[i] = true;
-        assert!(rt; front.is_done(lo, lo + 10));
-        assert_eq!(rt; front.finish(lo, lo + 20), Err(FrontFault::NoSuchWindow));
         assert_eq!(rt; front.low_water(), low_water(start, &marks));
         assert_eq!(rt; front.range_count(), range_count(&marks));
     }
     assert_eq!(rt; front.end(), start + 10 * WINDOWS as u64);
-    Ok(())
 }
 
 #[test]
-fn two_hundred_orders_agree(rt: HostRuntime) -> Result<(), Fail> {
+fn two_hundred_orders_agree(rt: HostRuntime) {
     for seed in 0..200u64 {
-        finishes(&rt, rt.alloc(), seed)?;
+        let mut front = filled(&rt, rt.alloc(), seed % 7);
+        finishes(&rt, &mut front, seed);
     }
-    Ok(())
+}
+
+/// Windows of two sequences, so many.
+fn many(rt: &impl Abort, front: &mut Front, windows: u64) {
+    for number in 0..windows {
+        let hi = number.saturating_mul(2).saturating_add(2);
+        front.append(hi).expect(rt, "a window");
+    }
+}
+
+/// Finishes the window of a number.
+fn finish(rt: &impl Abort, front: &mut Front, number: u64) {
+    let lo = number.saturating_mul(2);
+    let hi = lo.saturating_add(2);
+    front.finish(lo, hi).expect(rt, "a window that is not done");
+}
+
+/// Finishes every second of so many pairs of windows, from the front on.
+fn finish_odd(rt: &impl Abort, front: &mut Front, pairs: u64) {
+    for pair in 0..pairs {
+        finish(rt, front, pair.saturating_mul(2).saturating_add(1));
+    }
+}
+
+/// Finishes the others, from the back on.
+fn finish_even(rt: &impl Abort, front: &mut Front, pairs: u64) {
+    for back in 0..pairs {
+        let pair = pairs.saturating_sub(back).saturating_sub(1);
+        finish(rt, front, pair.saturating_mul(2));
+    }
+}
+
+#[test]
+fn seventy_thousand_windows(rt: HostRuntime) {
+    let mut front = Front::new(rt.alloc(), 0);
+    many(&rt, &mut front, 70_000);
+    finish_odd(&rt, &mut front, 35_000);
+    assert_eq!(rt; (front.range_count(), front.low_water()), (35_000, 0));
+    finish_even(&rt, &mut front, 35_000);
+    assert_eq!(rt; (front.range_count(), front.low_water()), (0, 140_000));
 }

@@ -17,6 +17,12 @@ mod pairs;
 #[cfg(test)]
 mod plain;
 #[cfg(test)]
+mod plain_sides;
+#[cfg(test)]
+mod plain_worlds;
+#[cfg(test)]
 mod reference;
 #[cfg(test)]
 mod sides;
+#[cfg(test)]
+mod worlds;

@@ -4,13 +4,23 @@
 //! It is written from docs/PROFILE.md, "Merging" and "Leaves and the winner": sets are masks, union is `|`.
 
 use std::alloc::{AllocError, Global};
+use std::process::Abort;
 
 /// How many revisions there can be.
 pub(crate) const PLACES: usize = 18;
 
 /// The bit of a place.
-fn bit(place: usize) -> u32 {
+pub(crate) fn bit(place: usize) -> u32 {
     1 << (place % PLACES)
+}
+
+/// The bits of some places.
+pub(crate) fn mask_of(places: &[usize]) -> u32 {
+    let mut mask = 0;
+    for place in places {
+        mask |= bit(*place);
+    }
+    mask
 }
 
 /// The place of the lowest bit.
@@ -132,13 +142,23 @@ impl Reference {
             && self.contents == other.contents
     }
 
-    /// Whether a revision is there and nobody's parent.
-    pub(crate) fn is_leaf(&self, place: usize) -> bool {
+    /// A bit for each revision.
+    pub(crate) fn revisions(&self) -> u32 {
+        self.revisions
+    }
+
+    /// A bit for each revision that is nobody's parent.
+    pub(crate) fn leaf_mask(&self) -> u32 {
         let mut parents = 0;
         for mask in self.parents {
             parents |= mask;
         }
-        self.has(place) && parents & bit(place) == 0
+        self.revisions & !parents
+    }
+
+    /// Whether a revision is there and nobody's parent.
+    pub(crate) fn is_leaf(&self, place: usize) -> bool {
+        self.leaf_mask() & bit(place) != 0
     }
 
     /// The leaves: those that are not deleted first, then by falling place.
@@ -170,5 +190,32 @@ impl Reference {
             at = lowest(parents);
         }
         Ok(walk)
+    }
+
+    /// A bit for each revision of an ancestry.
+    pub(crate) fn walk_mask(&self, rt: &impl Abort, alloc: Global, place: usize) -> u32 {
+        mask_of(&self.ancestry(alloc, place).expect(rt, "memory"))
+    }
+
+    /// The leaves whose ancestries have one of the revisions, winner first.
+    pub(crate) fn leaves_above(&self, rt: &impl Abort, alloc: Global, revs: u32) -> Vec<usize> {
+        let mut above = Vec::new(alloc);
+        for leaf in &self.leaves(alloc).expect(rt, "memory") {
+            if self.walk_mask(rt, alloc, *leaf) & revs != 0 {
+                above.push(*leaf).expect(rt, "memory");
+            }
+        }
+        above
+    }
+
+    /// Those of some revisions that are not there.
+    pub(crate) fn missing(&self, rt: &impl Abort, alloc: Global, revs: &[usize]) -> Vec<usize> {
+        let mut missing = Vec::new(alloc);
+        for place in revs {
+            if !self.has(*place) {
+                missing.push(*place).expect(rt, "memory");
+            }
+        }
+        missing
     }
 }

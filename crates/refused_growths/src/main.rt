@@ -7,6 +7,7 @@ mod documents;
 mod fronts;
 mod logs;
 mod peers;
+mod pools;
 mod replications;
 mod revisions;
 mod trees;
@@ -24,5 +25,6 @@ fn main(rt: HostRuntime) -> Result<()> {
     peers::run(&rt, rt.alloc())?;
     replications::run(&rt, rt.alloc())?;
     worlds::run(&rt, rt.alloc())?;
+    pools::run(&rt, rt.alloc())?;
     Ok(())
 }

@@ -7,7 +7,7 @@ use rev_tree::SessionId;
 use std::alloc::Global;
 
 /// The plan of a session with windows of one row.
-fn plan(session: u128, at: Moment) -> Plan {
+pub(crate) fn plan(session: u128, at: Moment) -> Plan {
     Plan {
         session: SessionId(session),
         workers: 1,
@@ -18,7 +18,7 @@ fn plan(session: u128, at: Moment) -> Plan {
 }
 
 /// Whether a replication was refused for want of memory.
-fn is_memory(fault: TargetFault) -> bool {
+pub(crate) fn is_memory(fault: TargetFault) -> bool {
     match fault {
         TargetFault::Memory => true,
         TargetFault::Stopped { cause, .. } => cause == Cause::Memory,
@@ -27,7 +27,7 @@ fn is_memory(fault: TargetFault) -> bool {
 }
 
 /// Whether an audit finds nothing; once more where memory was refused.
-fn is_clean(alloc: Global, source: &Peer<Rules>, target: &Peer<Rules>) -> bool {
+pub(crate) fn is_clean(alloc: Global, source: &Peer<Rules>, target: &Peer<Rules>) -> bool {
     let found = match audit(alloc, source, target).ok() {
         Some(found) => Some(found),
         None => audit(alloc, source, target).ok(),

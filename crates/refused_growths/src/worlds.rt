@@ -12,32 +12,43 @@ use std::alloc::Global;
 /// The one session.
 const SESSION: SessionId = SessionId(1);
 
-/// What is seen of a world: the update sequences of its peers, whether the session has begun, and the sizes of the bag.
+/// What is seen of a session: how many windows it stores, up to where these are done, and what it has recorded.
+type Session = (usize, u64, u64);
+
+/// What is seen of a world: the update sequences of its peers, the session where it has begun, and the sizes of the bag.
 #[derive(Clone, Copy, PartialEq, Eq)]
 struct Seen {
     source: u64,
     target: u64,
-    begun: bool,
+    session: Option<Session>,
     sizes: (usize, usize, usize, usize),
 }
 
 /// What is seen before each step that may be the first of those left, with its place. A settling that was cut short stands at
 /// its own place.
-static BEFORE: &[(u64, u64, bool, (usize, usize, usize, usize), usize)] = &[
-    (0, 0, false, (0, 0, 0, 0), 0),
-    (1, 0, false, (0, 0, 0, 0), 1),
-    (2, 0, false, (0, 0, 0, 0), 2),
-    (3, 0, false, (0, 0, 0, 0), 3),
-    (3, 1, false, (0, 0, 0, 0), 4),
-    (3, 2, false, (0, 0, 0, 0), 5),
-    (3, 2, true, (0, 0, 0, 0), 6),
-    (3, 2, true, (1, 0, 0, 0), 7),
-    (3, 2, true, (1, 1, 0, 0), 9),
-    (3, 2, true, (1, 1, 1, 0), 10),
-    (3, 3, true, (1, 1, 1, 0), 10),
-    (3, 4, true, (1, 1, 1, 0), 11),
-    (3, 4, true, (1, 1, 1, 1), 12),
-    (3, 4, true, (1, 1, 1, 2), 13),
+static BEFORE: &[(
+    u64,
+    u64,
+    Option<Session>,
+    (usize, usize, usize, usize),
+    usize,
+)] = &[
+    (0, 0, None, (0, 0, 0, 0), 0),
+    (1, 0, None, (0, 0, 0, 0), 1),
+    (2, 0, None, (0, 0, 0, 0), 2),
+    (3, 0, None, (0, 0, 0, 0), 3),
+    (3, 1, None, (0, 0, 0, 0), 4),
+    (3, 2, None, (0, 0, 0, 0), 5),
+    (3, 2, Some((0, 0, 0)), (0, 0, 0, 0), 6),
+    (3, 2, Some((0, 0, 0)), (1, 0, 0, 0), 7),
+    (3, 2, Some((1, 0, 0)), (1, 0, 0, 0), 8),
+    (3, 2, Some((1, 0, 0)), (1, 1, 0, 0), 9),
+    (3, 2, Some((1, 0, 0)), (1, 1, 1, 0), 10),
+    (3, 3, Some((1, 0, 0)), (1, 1, 1, 0), 10),
+    (3, 4, Some((1, 0, 0)), (1, 1, 1, 0), 10),
+    (3, 4, Some((1, 3, 0)), (1, 1, 1, 0), 11),
+    (3, 4, Some((1, 3, 3)), (1, 1, 1, 1), 12),
+    (3, 4, Some((1, 3, 3)), (1, 1, 1, 2), 13),
 ];
 
 /// An edit of a document at 1-a: its id, its parent and its body.
@@ -117,23 +128,30 @@ fn steps(alloc: Global) -> Option<Vec<Step>> {
     Some(steps)
 }
 
+/// What is seen of the session, where it has begun.
+fn session(target: &Peer<Rules>) -> Option<Session> {
+    let windows = target.windows(SESSION)?.len();
+    let done = target.front(SESSION)?.low_water();
+    Some((windows, done, target.entry(SESSION).ok()?.recorded))
+}
+
 /// What is seen of a world.
 fn look(world: &World<Rules>) -> Seen {
     Seen {
         source: world.source().db().update_seq(),
         target: world.target().db().update_seq(),
-        begun: world.target().entry(SESSION).is_ok(),
+        session: session(world.target()),
         sizes: world.bag_sizes(),
     }
 }
 
 /// The place of the first step that is left, where the world is one of those that the steps go through.
 fn left(seen: Seen) -> Option<usize> {
-    for (source, target, begun, sizes, place) in BEFORE {
+    for (source, target, session, sizes, place) in BEFORE {
         let before = Seen {
             source: *source,
             target: *target,
-            begun: *begun,
+            session: *session,
             sizes: *sizes,
         };
         if seen == before {

@@ -1,0 +1,129 @@
+//! `run` of the pool with one worker in each crew: after a refused growth both peers come back, an audit finds nothing, and a
+//! further run ends at the goal.
+use crate::peers::load;
+use crate::replications::{is_clean, is_memory, plan};
+use anyhow::{Result, bail};
+use repl_log::Moment;
+use repl_pool::{Open, PoolFault, Ran, run as run_pool};
+use repl_target::{Peer, Report, Rules};
+use std::alloc::Global;
+use std::mem;
+use std::sync::Wait;
+use std::thread::Threads;
+
+/// A peer that is taken from its place for a run.
+fn taken(alloc: Global, place: &mut Peer<Rules>) -> Peer<Rules> {
+    mem::replace(place, Peer::new(alloc, 0, Rules { deny: None }))
+}
+
+/// Takes both peers of a run back to their places, and gives how it ended.
+fn taken_back(
+    ran: Ran<Rules>,
+    source: &mut Peer<Rules>,
+    target: &mut Peer<Rules>,
+) -> Result<Report, PoolFault> {
+    let Ran {
+        source: from,
+        target: into,
+        fetched: _,
+        outcome,
+    } = ran;
+    *source = from;
+    *target = into;
+    outcome
+}
+
+/// Runs a session between two peers, which come back.
+fn once<R: Threads + Wait + Sync>(
+    rt: &R,
+    alloc: Global,
+    source: &mut Peer<Rules>,
+    target: &mut Peer<Rules>,
+    session: u128,
+    at: Moment,
+) -> Result<Report, PoolFault> {
+    let (from, into) = (taken(alloc, source), taken(alloc, target));
+    let ran = run_pool(rt, alloc, from, into, &plan(session, at), &Open);
+    taken_back(ran, source, target)
+}
+
+/// Whether a run was refused for want of memory.
+fn is_want(fault: PoolFault) -> bool {
+    match fault {
+        PoolFault::Memory => true,
+        PoolFault::Refused(fault) => is_memory(fault),
+        _ => false,
+    }
+}
+
+/// Runs, and once more by another session where memory was refused.
+fn replicate<R: Threads + Wait + Sync>(
+    rt: &R,
+    alloc: Global,
+    source: &mut Peer<Rules>,
+    target: &mut Peer<Rules>,
+    at: Moment,
+) -> Option<Report> {
+    match once(rt, alloc, source, target, 1, at) {
+        Ok(report) => Some(report),
+        Err(fault) => {
+            if !is_want(fault) || !is_clean(alloc, source, target) {
+                return None;
+            }
+            once(rt, alloc, source, target, 2, at).ok()
+        }
+    }
+}
+
+/// Loads two conflicting edits of a document.
+fn fill(alloc: Global, source: &mut Peer<Rules>) -> Option<()> {
+    load(
+        alloc,
+        source,
+        r#"{"_id":"d","_rev":"2-a","_revisions":{"start":2,"ids":["a","r"]}}"#,
+    )?;
+    load(
+        alloc,
+        source,
+        r#"{"_id":"d","_rev":"2-b","_revisions":{"start":2,"ids":["b","r"]}}"#,
+    )?;
+    Some(())
+}
+
+/// What the last run recorded, the target's sequence, and whether an audit is clean.
+fn ended<R: Threads + Wait + Sync>(
+    rt: &R,
+    alloc: Global,
+    source: &mut Peer<Rules>,
+    target: &mut Peer<Rules>,
+) -> Option<(u64, u64, bool)> {
+    let at = Moment::new(10).ok()?;
+    fill(alloc, source)?;
+    let report = replicate(rt, alloc, source, target, at)?;
+    let clean = is_clean(alloc, source, target);
+    Some((report.recorded, target.db().update_seq(), clean))
+}
+
+/// The runs into a target. Nothing else lives beside a peer: each value adds to its proof.
+fn into_target<R: Threads + Wait + Sync>(
+    rt: &R,
+    alloc: Global,
+    source: &mut Peer<Rules>,
+) -> Option<(u64, u64, bool)> {
+    let mut target = Peer::new(alloc, 2, Rules { deny: None });
+    ended(rt, alloc, source, &mut target)
+}
+
+/// The runs of a source and a target.
+fn between<R: Threads + Wait + Sync>(rt: &R, alloc: Global) -> Option<(u64, u64, bool)> {
+    let mut source = Peer::new(alloc, 1, Rules { deny: None });
+    into_target(rt, alloc, &mut source)
+}
+
+pub(crate) fn run<R: Print + Threads + Wait + Sync>(rt: &R, alloc: Global) -> Result<()> {
+    let Some((recorded, sequence, clean)) = between(rt, alloc) else {
+        bail!("pools: another answer");
+    };
+    println!(rt; "pools as wanted: recorded {recorded}, sequence {sequence}, clean {clean}")?;
+    Ok(())
+}
