@@ -342,6 +342,51 @@ fn refusals_of_documents(rt: HostRuntime) {
     run(&rt, rt.alloc(), REFUSED_ANCESTRIES);
 }
 
+/// Documents that a stranger might send.
+static HOSTILE_DOCUMENTS: Rows = &[
+    (
+        Call::Read(r#"{"_id":"x","_rev":"1-a","_revisions":{"start":2,"ids":["b","a"]}}"#),
+        "RevMismatch",
+    ),
+    (
+        Call::Read(r#"{"_id":"x","_revisions":{"start":1,"ids":["b","a"]}}"#),
+        "BadRevisions",
+    ),
+    (
+        Call::Read(r#"{"_id":"x","_revisions":{"start":0,"ids":["a"]}}"#),
+        "BadRevisions",
+    ),
+    (
+        Call::Read(r#"{"_id":"x","_revisions":{"start":1,"ids":[]}}"#),
+        "BadRevisions",
+    ),
+    (
+        Call::Read(r#"{"_id":"x","_rev":"1-a","_deleted":1}"#),
+        "SpecialMember",
+    ),
+    (
+        Call::Read(r#"{"_id":"x","_rev":"1-a","_foo":1}"#),
+        "SpecialMember",
+    ),
+    (
+        Call::Read(r#"{"_id":"x","_rev":"1-a","v":18446744073709551616}"#),
+        "Fraction",
+    ),
+    (
+        Call::Read(r#"{"_id":"x","_rev":"1-a","v":1e2}"#),
+        "Fraction",
+    ),
+    (
+        Call::Read(r#"{"_id":"x","_rev":"1-a","v":[{"w":-0.5}]}"#),
+        "Fraction",
+    ),
+];
+
+#[test]
+fn hostile_documents(rt: HostRuntime) {
+    run(&rt, rt.alloc(), HOSTILE_DOCUMENTS);
+}
+
 static REFUSED_BODIES_AND_IDS: Rows = &[
     (Call::Body("[]"), "NotObject"),
     (Call::Body("null"), "NotObject"),
