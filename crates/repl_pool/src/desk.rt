@@ -1,5 +1,5 @@
 //! What lies under the lock: the target, and a book of what its session has read.
-ghost use Rattle.std.specs.Prelude.{◌≡◌, ℕ, ◌+◌, ◌<◌, length, Some, IfSome, IfOk, OnOk, OnErr};
+ghost use Rattle.std.specs.Prelude.{◌≡◌, ℕ, ◌+◌, ◌<◌, length, Some, IfSome, IfOk, IfErr, OnOk, OnErr};
 ghost use Rattle.rev_tree.specs.declared.origin.SessionId.{SessionId};
 ghost use Rattle.repl_pool.specs.Grown.{DeskKeeps};
 ghost use Rattle.couch_base.specs.Messages.{revs_diff};
@@ -86,7 +86,8 @@ impl<F: WriteFilter, S: Origin, J: Given<F>, L: Ledger> Desk<F, S, J, L> {
 
     /// What the target misses of a page. The only error is `Memory`.
     pub fn diff(&self, alloc: Global, page: &Paged<S>) -> Result<Asked, BaseFault>
-        ensures { IfOk result (λ asked. asked ≡ revs_diff self.now.1.db page.now) }
+        ensures asked { IfOk result (λ asked. asked ≡ revs_diff self.now.1.db page.now) }
+        ensures err { IfErr result (λ e. e ≡ BaseFault.Memory) }
     {
         self.target.revs_diff(alloc, page.window())
     }
