@@ -45,7 +45,7 @@ const D2A: &str = r#"{"_id":"d","_rev":"2-a","_revisions":{"start":2,"ids":["a",
 const D2B: &str = r#"{"_id":"d","_rev":"2-b","_revisions":{"start":2,"ids":["b","r"]}}"#;
 
 /// The document d at 1-a.
-const D1: &str = r#"{"_id":"d","_rev":"1-a"}"#;
+const FIRST_OF_D: &str = r#"{"_id":"d","_rev":"1-a"}"#;
 
 /// Makes the calls with each number of workers.
 fn run_all<R: Abort + Threads + Wait + Sync>(rt: &R, alloc: Global, rows: Rows) {
@@ -113,8 +113,8 @@ fn revision_already_there(rt: HostRuntime) {
     static ROWS: Rows = &[
         (Call::Peer(1, None), "made"),
         (Call::Peer(2, None), "made"),
-        (Call::Load(A, D1), "Changed { seq: 1 }"),
-        (Call::Load(B, D1), "Changed { seq: 1 }"),
+        (Call::Load(A, FIRST_OF_D), "Changed { seq: 1 }"),
+        (Call::Load(B, FIRST_OF_D), "Changed { seq: 1 }"),
         (
             Call::Run(A, B, FIRST),
             "session 1 from 0 to 1 checked 1 found 0 read 0 written 0 failed 0, fetched 0",
@@ -255,7 +255,7 @@ fn replications_refused(rt: HostRuntime) {
         (Call::Peer(1, None), "made"),
         (Call::Peer(2, None), "made"),
         (Call::Peer(1, None), "made"),
-        (Call::Load(A, D1), "Changed { seq: 1 }"),
+        (Call::Load(A, FIRST_OF_D), "Changed { seq: 1 }"),
         (
             Call::Run(A, B, FIRST),
             "session 1 from 0 to 1 checked 1 found 1 read 1 written 1 failed 0, fetched 1",
