@@ -35,8 +35,8 @@ const SCRIPT_HELP: &str =
       latest change and its leaves, and the update sequence
   {\"do\":\"replicate\",\"source\":\"a\",\"target\":\"b\"}
       carries to `b` what it misses of `a`, from where their logs agree; \"session\" gives the
-      session's UUID, else one is made; \"batch\" and \"at\" stand in the place of the options,
-      and \"stop_after\":1 stops after one window
+      session's UUID, else one is made; \"workers\", \"batch\" and \"at\" stand in the place of
+      the options; \"stop_after\":1 stops after one window, \"alone\":true has one thread
   {\"do\":\"log\",\"source\":\"a\",\"target\":\"b\",\"side\":\"source\"}
       prints what a side, `source` or `target`, keeps of the replications from `a` to `b`
   {\"do\":\"audit\",\"source\":\"a\",\"target\":\"b\"}

@@ -10,6 +10,8 @@ use clap::error::ErrorKind;
 use script_engine::{OverRead, OverWrite, ScriptFault};
 use std::env::Env;
 use std::io::{BufWriter, Eprint, Input, Print, Write};
+use std::sync::Wait;
+use std::thread::Threads;
 use std::{env, io};
 
 /// The exit status for words that are no command line.
@@ -20,7 +22,9 @@ const BUFFER: usize = 65536;
 
 /// Runs the program, and gives its exit status: 0; 1 where a line was refused; 2 for a bad command line; 3 where
 /// reading, writing or memory failed.
-pub fn run_program<H: AllocGlobal + Env + Input + Print + Eprint>(rt: &H) -> u8
+pub fn run_program<H: AllocGlobal + Env + Input + Print + Eprint + Threads + Wait + Sync>(
+    rt: &H,
+) -> u8
     ensures { result ≤ 3 }
 {
     match words_of(rt) {
@@ -43,7 +47,10 @@ fn words_of<H: AllocGlobal + Env>(rt: &H) -> io::Result<Vec<String>> {
 }
 
 /// Runs the words over standard input and output. Answers go out once the buffer is full, and at the end.
-fn run_standard<H: AllocGlobal + Input + Print>(rt: &H, words: &[String]) -> Ended {
+fn run_standard<H: AllocGlobal + Input + Print + Threads + Wait + Sync>(
+    rt: &H,
+    words: &[String],
+) -> Ended {
     let Ok(buffered) = BufWriter::with_capacity(rt.alloc(), BUFFER, io::writer(rt)) else {
         return Ended::NotRun(NoSettings::Memory);
     };

@@ -5,6 +5,8 @@ ghost use Rattle.couch_replicate.specs.Ends.{Ends};
 use crate::options::{NoSettings, read_words};
 use script_engine::{ScriptFault, ScriptRead, ScriptWrite};
 use script_words::run_last_script;
+use std::sync::Wait;
+use std::thread::Threads;
 
 /// How a run ended.
 #[derive(Drop)]
@@ -18,7 +20,7 @@ pub enum Ended {
 /// Reads the words of a command line, the program's name first, and runs the script of the reader.
 ///
 /// The databases are left in memory, since the program ends behind it.
-pub fn run_words<'a, H: AllocGlobal, R: ScriptRead, W: ScriptWrite>(
+pub fn run_words<'a, H: AllocGlobal + Threads + Wait + Sync, R: ScriptRead, W: ScriptWrite>(
     rt: &H,
     words: &'a [String],
     reader: &mut R,

@@ -1,11 +1,11 @@
 -- Replications between two of the databases.
-use Rattle.std.proofs.Common.{◌≡◌, ◌≢◌, ◌⊎◌, inl, inr, ℕ, Bool, true, false, cond, nat_eq, List, Option, Some, None, Result, Ok, Err, String, string_bytes, refl, sym, ap, subst, ◌∙◌}
+use Rattle.std.proofs.Common.{◌≡◌, ◌≢◌, ◌⊎◌, inl, inr, ℕ, Bool, true, false, cond, nat_eq, List, Option, Some, None, is_some, Result, Ok, Err, String, string_bytes, refl, sym, ap, subst, ◌∙◌}
 use Rattle.std.specs.Prelude.{option_map}
 use Rattle.std.specs.List.{starts_with}
 use Rattle.std.specs.Option.{option_map_or}
 use Rattle.std.specs.declared.alloc.Global.{Global}
 use Rattle.std.specs.Ordering.{eq_by_cmp, is_eq}
-use Rattle.std.specs.FinMap.{FinMap, get, insert, get-insert, same_map}
+use Rattle.std.specs.FinMap.{FinMap, get, contains_key, insert, get-insert, same_map}
 use Rattle.std.proofs.lemmas.Cmp.{nat_list_cmp_total, tied_itself}
 use Rattle.std.specs.Str.{bytes_eq}
 use Rattle.std.proofs.lemmas.Bool.{true≢false}
@@ -14,19 +14,21 @@ use Rattle.couch_base.specs.ListLaws.{some_is}
 use Rattle.doc_json.specs.Document.{Document}
 use Rattle.repl_target.specs.Peer.{PeerValue}
 use Rattle.repl_target.specs.Rules.{rules_refuse}
-use Rattle.repl_target.specs.Replication.{Replicates}
+use Rattle.repl_target.specs.Calls.{IsGrown}
 use Rattle.repl_target.specs.declared.fault.Report.{Report}
-use Rattle.repl_target.specs.declared.fault.TargetFault.{TargetFault}
+use Rattle.repl_pool.specs.Faults.{early_answer}
+use Rattle.repl_pool.specs.Runs.{EarlyOrLate, LeavesOrPuts, Runs}
+use Rattle.repl_pool.specs.declared.fault.PoolFault.{PoolFault}
+use Rattle.repl_pool.specs.declared.gate.Place.{Place}
 use Rattle.repl_target.specs.declared.filter.Rules.{Rules}
 use Rattle.repl_target.specs.declared.replication.Plan.{Plan}
 use Rattle.script_databases.specs.Databases.{State, peer_at, with_peer, text_cmp}
-use Rattle.script_databases.specs.Carrying.{deny_refuses, Carried, IntoAnother}
+use Rattle.script_databases.specs.Carrying.{deny_refuses, with_both}
 use Rattle.script_databases.specs.Tables.{Beside, AllDeny, Entries, IsIndex, denied_of, deny_of, peers_of, state_of}
 use Rattle.script_databases.specs.declared.refusal.Refusal.{Refusal}
 use Rattle.script_databases.specs.declared.refusal.Refusal.TheVariants as why
 use Rattle.script_databases.proofs.IndexLemmas.{index_written}
 use Rattle.script_databases.proofs.TableLemmas.{insert-same, is_equal, text_cmp-IsAntisymmetric}
-use Rattle.script_databases.proofs.UuidLemmas.{source_keeps, target_keeps}
 
 -- ---- two names of a table
 
@@ -46,24 +48,33 @@ other {V} m a b d ne = get-insert nat_list_cmp_total m a d b ∙ no (eq_by_cmp t
 pub here : {V : Type 0} (m : FinMap text_cmp V) (a : List ℕ) (d : V) → get (insert m a d) a ≡ Some d
 here m a d = get-insert nat_list_cmp_total m a d a ∙ ap (λ o. cond (is_eq o) (Some d) (get m a)) (tied_itself nat_list_cmp_total a)
 
--- what is put back at a name
-pub put_back : {V : Type 0} (m : FinMap text_cmp V) (a b : List ℕ) (d x y : V) → a ≢ b → insert (insert (insert m a d) b y) a x ≡ insert (insert m a x) b y
-put_back {V} m a b d x y ne = same_map nat_list_cmp_total text_cmp-IsAntisymmetric _ _ (λ q.
-    get-insert nat_list_cmp_total (insert (insert m a d) b y) a x q
-    ∙ ap (cond (eq_by_cmp text_cmp q a) (Some x)) (get-insert nat_list_cmp_total (insert m a d) b y q ∙ ap (cond (eq_by_cmp text_cmp q b) (Some y)) (get-insert nat_list_cmp_total m a d q))
-    ∙ by q (eq_by_cmp text_cmp q a) (eq_by_cmp text_cmp q b) refl refl
-    ∙ ap (cond (eq_by_cmp text_cmp q b) (Some y)) (sym (get-insert nat_list_cmp_total m a x q))
-    ∙ sym (get-insert nat_list_cmp_total (insert m a x) b y q))
+-- what was there before stays there
+pub still_there : {V : Type 0} (m : FinMap text_cmp V) (a b : List ℕ) (d : V) → contains_key m b ≡ true → contains_key (insert m a d) b ≡ true
+still_there {V} m a b d h = ap is_some (get-insert nat_list_cmp_total m a d b) ∙ by (eq_by_cmp text_cmp b a)
   where
-    by : (q : List ℕ) (i j : Bool) → eq_by_cmp text_cmp q a ≡ i → eq_by_cmp text_cmp q b ≡ j → cond i (Some x) (cond j (Some y) (cond i (Some d) (get m q))) ≡ cond j (Some y) (cond i (Some x) (get m q))
-    by q true true e f = absurd (ne (sym (text_cmp-IsAntisymmetric q a (is_equal _ e)) ∙ text_cmp-IsAntisymmetric q b (is_equal _ f)))
-    by q true false e f = refl
-    by q false true e f = refl
-    by q false false e f = refl
+    by : (e : Bool) → is_some (cond e (Some d) (get m b)) ≡ true
+    by true = refl
+    by false = h
 
--- a table in which one stood at a name for a while
-pub written_back : {V : Type 0} (m m1 m2 m3 : FinMap text_cmp V) (a b : List ℕ) (d x y : V) → a ≢ b → m1 ≡ insert m a d → m2 ≡ insert m1 b y → m3 ≡ insert m2 a x → m3 ≡ insert (insert m a x) b y
-written_back m m1 m2 m3 a b d x y ne e f g = g ∙ ap (λ n. insert n a x) (f ∙ ap (λ n. insert n b y) e) ∙ put_back m a b d x y ne
+-- what is written over two names, whatever stood there for a while
+put_over : {V : Type 0} (m : FinMap text_cmp V) (a b : List ℕ) (d e x y : V) → insert (insert (insert (insert m a d) b e) a x) b y ≡ insert (insert m a x) b y
+put_over {V} m a b d e x y = same_map nat_list_cmp_total text_cmp-IsAntisymmetric _ _ (λ q.
+    get-insert nat_list_cmp_total (insert (insert (insert m a d) b e) a x) b y q
+    ∙ ap (cond (eq_by_cmp text_cmp q b) (Some y)) (get-insert nat_list_cmp_total (insert (insert m a d) b e) a x q
+    ∙ ap (cond (eq_by_cmp text_cmp q a) (Some x)) (get-insert nat_list_cmp_total (insert m a d) b e q
+    ∙ ap (cond (eq_by_cmp text_cmp q b) (Some e)) (get-insert nat_list_cmp_total m a d q)))
+    ∙ by q (eq_by_cmp text_cmp q a) (eq_by_cmp text_cmp q b)
+    ∙ sym (get-insert nat_list_cmp_total (insert m a x) b y q ∙ ap (cond (eq_by_cmp text_cmp q b) (Some y)) (get-insert nat_list_cmp_total m a x q)))
+  where
+    by : (q : List ℕ) (i j : Bool) → cond j (Some y) (cond i (Some x) (cond j (Some e) (cond i (Some d) (get m q)))) ≡ cond j (Some y) (cond i (Some x) (get m q))
+    by q true true = refl
+    by q true false = refl
+    by q false true = refl
+    by q false false = refl
+
+-- a table whose two places were emptied for a while
+pub written_over : {V : Type 0} (m mid last : FinMap text_cmp V) (a b : List ℕ) (d e x y : V) → mid ≡ insert (insert m a d) b e → last ≡ insert (insert mid a x) b y → last ≡ insert (insert m a x) b y
+written_over m mid last a b d e x y emptied written = written ∙ ap (λ n. insert (insert n a x) b y) emptied ∙ put_over m a b d e x y
 
 -- both were there before
 pub same_back : {V : Type 0} (m : FinMap text_cmp V) (a b : List ℕ) (x y : V) → get m a ≡ Some x → get m b ≡ Some y → insert (insert m a x) b y ≡ m
@@ -85,13 +96,33 @@ refuses_is deny entries name rules all there = rules_are rules.deny ∙ ap deny_
 
 -- ---- the databases' UUIDs
 
-pub index_carried : (old new : State) (source target : List ℕ) (s t : PeerValue) (plan : Plan) (result : Result Report TargetFault) (uuids : List ℕ) → source ≢ target → peer_at old source ≡ Some s → peer_at old target ≡ Some t →
-    IsIndex old uuids → IntoAnother old source target s t plan result new → IsIndex new uuids
-index_carried old new source target s t plan result uuids ne e f index (s', t', r, is) =
+pub index_carried : (old new : State) (source target : List ℕ) (s t s' t' : PeerValue) (uuids : List ℕ) → source ≢ target → peer_at old source ≡ Some s → peer_at old target ≡ Some t →
+    s'.db.uuid ≡ s.db.uuid → t'.db.uuid ≡ t.db.uuid → new ≡ with_both old source target s' t' → IsIndex old uuids → IsIndex new uuids
+index_carried old new source target s t s' t' uuids ne e f es et is index =
     let mid = with_peer old source s' in
-    index_written mid new target t t' uuids (index_written old mid source s s' uuids index e refl (source_keeps _ s t s' t' plan result r)) (other old.peers source target s' ne ∙ f) is (target_keeps _ s t s' t' plan result r)
+    index_written mid new target t t' uuids (index_written old mid source s s' uuids index e refl es) (other old.peers source target s' ne ∙ f) is et
 
--- what a replication did, where both are there
-abbrev pub CarriesFrom : State → List ℕ → List ℕ → Plan → Result Report TargetFault → State → Type 0
-CarriesFrom old source target plan result new =
-    (s : PeerValue) × (t : PeerValue) × (peer_at old source ≡ Some s) × (peer_at old target ≡ Some t) × Carried old source target s t plan result new
+-- ---- a run between two filters is one between what they refuse
+
+-- what is refused early leaves both as they are
+early_denied : (may : Place → Type 0) (answer : Result (Unit {0}) PoolFault) (deny : Option (List ℕ)) (s t s' t' : Rules × PeerValue) (fetched : List ℕ) (outcome : Result Report PoolFault) → EarlyOrLate may answer s t s' t' fetched outcome →
+    EarlyOrLate may answer (deny, s.1) (deny, t.1) (deny, s'.1) (deny, t'.1) fetched outcome
+early_denied may (Err why) deny s t s' t' fetched outcome h = (h.0, ap (λ (p : Rules × PeerValue). (deny, p.1)) h.1, ap (λ (p : Rules × PeerValue). (deny, p.1)) h.2, h.3)
+early_denied may (Ok done) deny s t s' t' fetched outcome h = h
+
+leaves_denied : (deny : Option (List ℕ)) (plan : Plan) (s t s' t' : Rules × PeerValue) (outcome : Result Report PoolFault) → LeavesOrPuts plan s t s' t' outcome → LeavesOrPuts plan (deny, s.1) (deny, t.1) (deny, s'.1) (deny, t'.1) outcome
+leaves_denied deny plan s t s' t' outcome (inl h) = inl (ap (λ (p : Rules × PeerValue). (deny, p.1)) h.0, ap (λ (p : Rules × PeerValue). (deny, p.1)) h.1, h.2)
+leaves_denied deny plan s t s' t' outcome (inr h) = inr h
+
+pub run_denied : (may : Place → Type 0) (plan : Plan) (deny : Option (List ℕ)) (s t s' t' : Rules × PeerValue) (fetched : List ℕ) (outcome : Result Report PoolFault) → rules_refuse t.0 ≡ deny_refuses deny → Runs rules_refuse may plan s t s' t' fetched outcome →
+    Runs deny_refuses may plan (deny, s.1) (deny, t.1) (deny, s'.1) (deny, t'.1) fetched outcome
+run_denied may plan deny s t s' t' fetched outcome same runs = record {
+  early = early_denied may (early_answer s.1 t.1 plan) deny s t s' t' fetched outcome runs.early;
+  filter = refl;
+  log = runs.log;
+  grown = (refl, subst (λ f. IsGrown f s.1.db t.1 t'.1) same runs.grown.1);
+  later = runs.later;
+  tied = runs.tied;
+  put = leaves_denied deny plan s t s' t' outcome runs.put;
+  well = runs.well;
+}

@@ -1,8 +1,12 @@
 -- Replications between two of the databases: docs/PROFILE.md, "Command lines".
-use Rattle.std.specs.Prelude.{◌≡◌, ◌≢◌, ◌⊎◌, ℕ, Bool, false, nat_eq, List, Option, Result, Err}
+use Rattle.std.specs.Prelude.{◌≡◌, ◌≢◌, ◌⊎◌, ℕ, Bool, false, nat_eq, List, Option, Some, Result, Err}
 use Rattle.std.specs.List.{starts_with}
 use Rattle.std.specs.Option.{option_map_or}
 use Rattle.doc_json.specs.Document.{Document}
+use Rattle.repl_pool.specs.Faults.{early_answer}
+use Rattle.repl_pool.specs.Runs.{Runs}
+use Rattle.repl_pool.specs.declared.fault.PoolFault.{PoolFault}
+use Rattle.repl_pool.specs.declared.gate.Place.{Place}
 use Rattle.repl_target.specs.Peer.{PeerValue}
 use Rattle.repl_target.specs.Replication.{plan_answer, Replicates}
 use Rattle.repl_target.specs.declared.fault.Report.{Report}
@@ -14,16 +18,51 @@ use Rattle.script_databases.specs.Databases.{State, peer_at, with_peer}
 abbrev pub deny_refuses : Option (List ℕ) → Document → Bool
 deny_refuses deny d = option_map_or (λ prefix. starts_with nat_eq d.id prefix) deny false
 
--- of a database into itself, which its plan's checks refuse
-abbrev pub IntoItself : State → PeerValue → Plan → Result Report TargetFault → State → Type 0
-IntoItself old p plan result new = (why : TargetFault) × (plan_answer p p plan ≡ Err why) × (result ≡ Err why) × (new ≡ old)
+-- the state with these two peers under two names
+abbrev pub with_both : State → List ℕ → List ℕ → PeerValue → PeerValue → State
+with_both old source target s t = with_peer (with_peer old source s) target t
+
+-- ---- by one thread
 
 -- of one into another: both are left as the replication leaves them, also where it is refused
-abbrev pub IntoAnother : State → List ℕ → List ℕ → PeerValue → PeerValue → Plan → Result Report TargetFault → State → Type 0
-IntoAnother old source target s t plan result new =
-    (s' : PeerValue) × (t' : PeerValue) × Replicates (deny_refuses old.program.deny) s t plan result s' t' × (new ≡ with_peer (with_peer old source s') target t')
+abbrev pub AloneIntoAnother : State → List ℕ → List ℕ → PeerValue → PeerValue → Plan → Result Report TargetFault → State → Type 0
+AloneIntoAnother old source target s t plan result new =
+    (s' : PeerValue) × (t' : PeerValue) × Replicates (deny_refuses old.program.deny) s t plan result s' t'
+    × (new ≡ with_both old source target s' t')
 
--- of the peers of two names
-abbrev pub Carried : State → List ℕ → List ℕ → PeerValue → PeerValue → Plan → Result Report TargetFault → State → Type 0
-Carried old source target s t plan result new =
-    (source ≡ target) × IntoItself old s plan result new ⊎ (source ≢ target) × IntoAnother old source target s t plan result new
+-- ---- by the pool
+
+-- no worker is stopped
+abbrev pub Nowhere : Place → Type 0
+Nowhere place = ⊥
+
+-- of one into another: any answer and next two peers that a run of the pool may give, also where it is refused
+abbrev pub ByPoolIntoAnother : State → List ℕ → List ℕ → PeerValue → PeerValue → Plan → Result Report PoolFault → State → Type 0
+ByPoolIntoAnother old source target s t plan result new =
+    (s' : PeerValue) × (t' : PeerValue) × (fetched : List ℕ)
+    × Runs deny_refuses Nowhere plan (old.program.deny, s) (old.program.deny, t) (old.program.deny, s') (old.program.deny, t') fetched result
+    × (new ≡ with_both old source target s' t')
+
+-- ---- between any two names
+
+-- of a database into itself, which is refused before anything is done
+abbrev pub IntoItself : {E : Type 0} → State → Result (Unit {0}) E → Result Report E → State → Type 0
+IntoItself {E} old answer result new = (why : E) × (answer ≡ Err why) × (result ≡ Err why) × (new ≡ old)
+
+-- between the peers of two names, by one thread
+abbrev pub CarriedAlone : State → List ℕ → List ℕ → PeerValue → PeerValue → Plan → Result Report TargetFault → State → Type 0
+CarriedAlone old source target s t plan result new =
+    (source ≡ target) × IntoItself old (plan_answer s s plan) result new
+    ⊎ (source ≢ target) × AloneIntoAnother old source target s t plan result new
+
+-- by the pool
+abbrev pub CarriedByPool : State → List ℕ → List ℕ → PeerValue → PeerValue → Plan → Result Report PoolFault → State → Type 0
+CarriedByPool old source target s t plan result new =
+    (source ≡ target) × IntoItself old (early_answer s s plan) result new
+    ⊎ (source ≢ target) × ByPoolIntoAnother old source target s t plan result new
+
+-- between two names under which peers stand, in one of the two ways
+abbrev pub CarriesFrom : {R : Type 0} → (State → List ℕ → List ℕ → PeerValue → PeerValue → Plan → R → State → Type 0) → State → List ℕ → List ℕ → Plan → R → State → Type 0
+CarriesFrom carried old source target plan result new =
+    (s : PeerValue) × (t : PeerValue) × (peer_at old source ≡ Some s) × (peer_at old target ≡ Some t)
+    × carried old source target s t plan result new

@@ -8,6 +8,8 @@ use Rattle.couch_base.specs.declared.fault.BaseFault.{BaseFault}
 use Rattle.couch_base.specs.declared.fault.BaseFault.TheVariants as base
 use Rattle.repl_log.specs.declared.fault.LogFault.{LogFault}
 use Rattle.repl_log.specs.declared.fault.LogFault.TheVariants as log
+use Rattle.repl_pool.specs.declared.fault.PoolFault.{PoolFault}
+use Rattle.repl_pool.specs.declared.fault.PoolFault.TheVariants as pool
 use Rattle.repl_target.specs.declared.fault.TargetFault.{TargetFault}
 use Rattle.repl_target.specs.declared.fault.TargetFault.TheVariants as target
 use Rattle.script_databases.specs.declared.refusal.Refusal.{Refusal}
@@ -79,6 +81,18 @@ stop_of target.BadBatch = Err why.BadBatch
 stop_of target.SamePeer = Err why.SamePeer
 stop_of target.Memory = Err why.Memory
 
+-- how far a run of the pool came that its plan stopped, or why it is refused
+abbrev pub run_stop_of : PoolFault → Result ℕ Refusal
+run_stop_of pool.NoWorkers = Err why.NoWorkers
+run_stop_of pool.TooManyWorkers = Err why.TooManyWorkers
+run_stop_of pool.BadBatch = Err why.BadBatch
+run_stop_of pool.SamePeer = Err why.SamePeer
+run_stop_of (pool.Refused fault) = stop_of fault
+run_stop_of (pool.Halted place) = Err why.Halted
+run_stop_of (pool.Hole seq id rev) = Err why.Hole
+run_stop_of pool.CountFull = Err why.CountFull
+run_stop_of pool.Memory = Err why.Memory
+
 -- a result whose fault is told as a refusal
 abbrev pub told_as : {A E : Type 0} → (E → Refusal) → Result A E → Result A Refusal
 told_as name (Ok x) = Ok x
@@ -131,4 +145,9 @@ name_of why.Stopped = codes "Stopped"
 name_of why.Uncovered = codes "Uncovered"
 name_of why.BadBatch = codes "BadBatch"
 name_of why.SamePeer = codes "SamePeer"
+name_of why.NoWorkers = codes "NoWorkers"
+name_of why.TooManyWorkers = codes "TooManyWorkers"
+name_of why.Halted = codes "Halted"
+name_of why.Hole = codes "Hole"
+name_of why.BoardFull = codes "BoardFull"
 name_of why.Memory = codes "Memory"

@@ -41,6 +41,13 @@ denied_of entries = by_text (λ p. deny_of p.0) entries
 abbrev pub AllDeny : Option (List ℕ) → Entries → Type 0
 AllDeny deny entries = (name : List ℕ) (denied : Option (List ℕ)) → finmap.get (denied_of entries) name ≡ Some denied → denied ≡ deny
 
+-- any peers stand at two names, and all else stays
+abbrev pub IsEmptied : Entries → List ℕ → List ℕ → Entries → Type 0
+IsEmptied old source target new =
+    (p : Rules × PeerValue) × (q : Rules × PeerValue)
+    × (peers_of new ≡ finmap.insert (finmap.insert (peers_of old) source p.1) target q.1)
+    × (denied_of new ≡ finmap.insert (finmap.insert (denied_of old) source (deny_of p.0)) target (deny_of q.0))
+
 -- what settings say of a program
 abbrev pub program_of : Settings → Program
 program_of s = record { deny = option_map string_bytes s.deny; seed = s.seed; at = s.at; workers = s.workers; batch = s.batch }

@@ -4,18 +4,23 @@ ghost use Rattle.std.specs.FinMap.{contains_key};
 ghost use Rattle.std.specs.Option.{option_copied};
 ghost use Rattle.repl_target.specs.Peer.{PeerValue};
 ghost use Rattle.repl_target.specs.Replication.{plan_answer};
+ghost use Rattle.repl_pool.specs.Faults.{early_answer};
 
+use crate::carrying::{replicate_alone_at, replicate_at};
 use crate::made_ids::MadeIds;
-use crate::named::{add_at, edit_at, load_at, replicate_at};
+use crate::named::{add_at, edit_at, load_at};
 use crate::refusal::Refusal;
 use crate::settings::Settings;
 use couch_base::Put;
 use doc_json::{Body, Doc, DocId};
 use indexmap::{IndexMap, IndexSet};
+use repl_pool::PoolFault;
 use repl_target::{Peer, Plan, Report, Rules, TargetFault};
 use rev_core::Rev;
 use std::alloc::{AllocError, Global};
 use std::marker::Model;
+use std::sync::Wait;
+use std::thread::Threads;
 
 /// What an edit did: the new revision, and the sequence of the change.
 #[derive(Clone, Copy, Debug, PartialEq, Eq)]
@@ -58,7 +63,7 @@ impl Databases {
     ghost use Rattle.script_databases.specs.Tables.{deny_of, program_of};
     ghost use Rattle.repl_target.specs.Peer.{new_peer};
     ghost use Rattle.script_databases.specs.Refusals.{GivesUnlessMemory};
-    ghost use Rattle.script_databases.specs.Carrying.{Carried};
+    ghost use Rattle.script_databases.specs.Carrying.{CarriedAlone, CarriedByPool, CarriesFrom};
 
     /// No databases, with a copy of the settings, from whose seed ids are made.
     pub fn new(alloc: Global, settings: &Settings) -> Result<Databases, AllocError>
@@ -162,10 +167,32 @@ impl Databases {
         edit_at(&mut self.by_name, name, id, parent, deleted, body)
     }
 
-    /// Replicates from the database of one name into that of another. Both are there.
+    /// Replicates from the database of one name into that of another by the pool. Both are there. It waits.
+    ///
+    /// Where the names are one, its refusal is the first of those of a run between two peers with one UUID, and nothing is
+    /// changed.
+    pub fn replicate<H: Threads + Wait + Sync>(
+        &mut self,
+        rt: &H,
+        alloc: Global,
+        source: &str,
+        target: &str,
+        plan: &Plan,
+    ) -> Result<Report, PoolFault>
+        requires source { contains_key self.old.peers source.now ≡ true }
+        requires target { contains_key self.old.peers target.now ≡ true }
+        ensures { CarriesFrom CarriedByPool self.old source.now target.now plan.now result self.new }
+    {
+        if source == target {
+            return Err(pool_refuses_itself(plan));
+        }
+        replicate_at(&mut self.by_name, rt, alloc, source, target, plan)
+    }
+
+    /// Replicates from the database of one name into that of another by one thread. Both are there.
     ///
     /// Where the names are one, its refusal is that of two peers with one UUID, and nothing is changed.
-    pub fn replicate(
+    pub fn replicate_alone(
         &mut self,
         alloc: Global,
         source: &str,
@@ -174,23 +201,37 @@ impl Databases {
     ) -> Result<Report, TargetFault>
         requires source { contains_key self.old.peers source.now ≡ true }
         requires target { contains_key self.old.peers target.now ≡ true }
-        ensures { (s : PeerValue) × (t : PeerValue) × (peer_at self.old source.now ≡ Some s) × (peer_at self.old target.now ≡ Some t)
-            × Carried self.old source.now target.now s t plan.now result self.new }
+        ensures { CarriesFrom CarriedAlone self.old source.now target.now plan.now result self.new }
     {
         if source == target {
-            return Err(refused_by_itself(plan));
+            return Err(refuses_itself(plan));
         }
-        replicate_at(&mut self.by_name, alloc, source, target, plan)
+        replicate_alone_at(&mut self.by_name, alloc, source, target, plan)
     }
 }
 
-/// What a replication of a peer into itself is refused for.
-fn refused_by_itself(plan: &Plan) -> TargetFault
+/// What a replication of a peer into itself by one thread is refused for.
+fn refuses_itself(plan: &Plan) -> TargetFault
     ensures { (p : PeerValue) → plan_answer p p plan.now ≡ Err result }
 {
     if plan.batch < 1 || plan.batch > 10_000 {
         TargetFault::BadBatch
     } else {
         TargetFault::SamePeer
+    }
+}
+
+/// What a run of the pool from a peer into itself is refused for.
+fn pool_refuses_itself(plan: &Plan) -> PoolFault
+    ensures { (p : PeerValue) → early_answer p p plan.now ≡ Err result }
+{
+    if plan.workers == 0 {
+        PoolFault::NoWorkers
+    } else if plan.workers > 64 {
+        PoolFault::TooManyWorkers
+    } else if plan.batch < 1 || plan.batch > 10_000 {
+        PoolFault::BadBatch
+    } else {
+        PoolFault::SamePeer
     }
 }

@@ -3,6 +3,7 @@
 //! Each call answers a value or why the line is refused (`Refusal`). What lines are is not known here.
 #![tactic(auto)]
 
+mod carrying;
 mod databases;
 mod made_ids;
 mod named;

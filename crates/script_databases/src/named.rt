@@ -1,22 +1,19 @@
 //! Changes of one database in a table of names.
-ghost use Rattle.std.specs.Prelude.{◌≡◌, ◌≢◌, true, Some, OnErr, OnOk, ℕ, nat_eq, if◌then◌else◌};
+ghost use Rattle.std.specs.Prelude.{◌≡◌, true, OnErr, OnOk, ℕ, nat_eq, if◌then◌else◌};
 ghost use Rattle.std.specs.List.{list_any};
-ghost use Rattle.std.specs.FinMap.{contains_key, get, insert};
+ghost use Rattle.std.specs.FinMap.{get, insert};
 ghost use Rattle.script_databases.specs.Databases.{edited_answer, edited_at, load_answer, loaded_at};
 ghost use Rattle.script_databases.specs.Refusals.{GivesUnlessMemory};
-ghost use Rattle.script_databases.specs.Carrying.{IntoAnother};
-ghost use Rattle.repl_target.specs.Peer.{PeerValue};
-ghost use Rattle.script_databases.specs.Tables.{Beside, deny_of, denied_of, peers_of, state_of, AllDeny};
+ghost use Rattle.script_databases.specs.Tables.{Beside, deny_of, denied_of, peers_of, state_of};
 
 use crate::databases::{Edited, Names};
 use crate::refusal::Refusal;
 use couch_base::Put;
 use doc_json::{Body, Doc, DocId};
 use indexmap::IndexSet;
-use repl_target::{Peer, Plan, Report, Rules, TargetFault, replicate_alone};
+use repl_target::{Peer, Rules};
 use rev_core::Rev;
 use std::alloc::{AllocError, Global};
-use std::mem;
 
 /// Adds a peer under a name, and notes its UUID. A refusal changes nothing.
 pub fn add_at(
@@ -84,36 +81,4 @@ pub fn edit_at(
         },
         None => Err(Refusal::NoDatabase),
     }
-}
-
-/// Replicates from the peer of one name into that of another, and puts both back.
-pub fn replicate_at(
-    names: &mut Names,
-    alloc: Global,
-    source: &str,
-    target: &str,
-    plan: &Plan,
-) -> Result<Report, TargetFault>
-    requires source { contains_key (peers_of names.old.entries) source.now ≡ true }
-    requires target { contains_key (peers_of names.old.entries) target.now ≡ true }
-    requires two { source.now ≢ target.now }
-    ensures carried { (g : Beside) → AllDeny g.program.deny names.old.entries → (s : PeerValue) × (t : PeerValue)
-        × (get (peers_of names.old.entries) source.now ≡ Some s) × (get (peers_of names.old.entries) target.now ≡ Some t)
-        × IntoAnother (state_of g names.old.entries) source.now target.now s t plan.now result (state_of g names.new.entries) }
-    ensures filters { denied_of names.new.entries ≡ denied_of names.old.entries }
-{
-    // A peer without documents stands in the source's place, so that both can be changed.
-    let Some(place) = names.get_mut(source) else {
-        unreachable!()
-    };
-    let mut sender = mem::replace(place, Peer::new(alloc, 0, Rules { deny: None }));
-    let Some(receiver) = names.get_mut(target) else {
-        unreachable!()
-    };
-    let outcome = replicate_alone(alloc, &mut sender, receiver, plan);
-    let Some(place) = names.get_mut(source) else {
-        unreachable!()
-    };
-    *place = sender;
-    outcome
 }

@@ -1,11 +1,12 @@
 //! Why a line is refused.
 ghost use Rattle.std.specs.Prelude.{◌≡◌};
 ghost use Rattle.script_databases.specs.Refusals.{name_of};
-ghost use Rattle.script_databases.specs.Refusals.{base_refusal, doc_refusal, log_refusal, rev_refusal, stop_of};
+ghost use Rattle.script_databases.specs.Refusals.{base_refusal, doc_refusal, log_refusal, rev_refusal, run_stop_of, stop_of};
 
 use couch_base::BaseFault;
 use doc_json::DocFault;
 use repl_log::LogFault;
+use repl_pool::PoolFault;
 use repl_target::TargetFault;
 use rev_core::RevFault;
 use thiserror::Error;
@@ -145,6 +146,21 @@ pub enum Refusal {
     /// Source and target are one database.
     #[error("the source and the target are one database")]
     SamePeer,
+    /// A pool without workers.
+    #[error("a pool has 1 to 64 workers")]
+    NoWorkers,
+    /// A pool of more than 64 workers.
+    #[error("a pool has 1 to 64 workers")]
+    TooManyWorkers,
+    /// A worker was stopped, which no line's replication is.
+    #[error("a worker was stopped")]
+    Halted,
+    /// A leaf of the source isn't covered, which no replication ends with.
+    #[error("a leaf of the source is not covered")]
+    Hole,
+    /// A word of the board that shows progress would pass its limit.
+    #[error("a word of the board is full")]
+    BoardFull,
     /// An allocation was refused.
     #[error("out of memory")]
     Memory,
@@ -200,6 +216,11 @@ impl Refusal {
             Refusal::Uncovered => "Uncovered",
             Refusal::BadBatch => "BadBatch",
             Refusal::SamePeer => "SamePeer",
+            Refusal::NoWorkers => "NoWorkers",
+            Refusal::TooManyWorkers => "TooManyWorkers",
+            Refusal::Halted => "Halted",
+            Refusal::Hole => "Hole",
+            Refusal::BoardFull => "BoardFull",
             Refusal::Memory => "Memory",
         }
     }
@@ -291,6 +312,23 @@ impl Refusal {
             TargetFault::BadBatch => Err(Refusal::BadBatch),
             TargetFault::SamePeer => Err(Refusal::SamePeer),
             TargetFault::Memory => Err(Refusal::Memory),
+        }
+    }
+
+    /// How far a run of the pool came that its plan stopped, or the refusal of a line whose run is refused.
+    pub fn run_stop_of(fault: PoolFault) -> Result<u64, Refusal>
+        ensures { result ≡ run_stop_of fault }
+    {
+        match fault {
+            PoolFault::NoWorkers => Err(Refusal::NoWorkers),
+            PoolFault::TooManyWorkers => Err(Refusal::TooManyWorkers),
+            PoolFault::BadBatch => Err(Refusal::BadBatch),
+            PoolFault::SamePeer => Err(Refusal::SamePeer),
+            PoolFault::Refused(fault) => Refusal::stop_of(fault),
+            PoolFault::Halted(_) => Err(Refusal::Halted),
+            PoolFault::Hole { .. } => Err(Refusal::Hole),
+            PoolFault::CountFull => Err(Refusal::CountFull),
+            PoolFault::Memory => Err(Refusal::Memory),
         }
     }
 }

@@ -5,6 +5,8 @@
 #[cfg(test)]
 mod engine_tests;
 #[cfg(test)]
+mod pool_tests;
+#[cfg(test)]
 mod replication_tests;
 #[cfg(test)]
 mod tests;

@@ -2,7 +2,10 @@
 
 use crate::tests::{has_refusal, run_with};
 use script_databases::Settings;
+use std::alloc::{AllocError, Global};
+use std::sync::Wait;
 use std::test::Fail;
+use std::thread::Threads;
 
 /// Scripts of replications, each with what the ids begin with that its targets refuse, where that isn't empty, and with what
 /// it prints. Made ids are of the seed 0, and were worked out by another program.
@@ -336,6 +339,37 @@ session d2aefa0deaa54151bf0adb6c01f2a5ad from 0 to 0 checked 0 found 0 read 0 wr
     ),
 ];
 
+/// A script whose replications have one thread: each `replicate` line that doesn't say how it is to be done says so.
+fn with_one_thread(alloc: Global, input: &str) -> Result<String, AllocError> {
+    let mut text = String::new(alloc);
+    for line in input.split_inclusive('\n') {
+        let rest = match line.strip_prefix(r#"{"do":"replicate","#) {
+            Some(rest) if !line.contains(r#""alone""#) => {
+                text.push_str(r#"{"do":"replicate","alone":true,"#)?;
+                rest
+            }
+            _ => line,
+        };
+        text.push_str(rest)?;
+    }
+    Ok(text)
+}
+
+/// Runs a script of the table, and looks at what it prints.
+fn check<H: AllocGlobal + Threads + Wait + Sync>(
+    rt: &H,
+    settings: &Settings,
+    name: &str,
+    input: &str,
+    answers: &str,
+) -> Result<(), Fail> {
+    let (clean, text) = run_with(rt, settings, input.as_bytes())?;
+    assert_eq!(rt; text.as_slice(), answers.as_bytes(), "{name}");
+    assert_eq!(rt; clean, !has_refusal(text.as_slice()), "{name}");
+    Ok(())
+}
+
+/// Each script prints the same where its replications go through the pool and where they have one thread.
 #[test]
 fn answers_replications(rt: HostRuntime) -> Result<(), Fail> {
     for (name, deny, input, answers) in SCRIPTS {
@@ -343,9 +377,9 @@ fn answers_replications(rt: HostRuntime) -> Result<(), Fail> {
         if !deny.is_empty() {
             settings.deny = Some(String::from_str(rt.alloc(), deny)?);
         }
-        let (clean, text) = run_with(&rt, &settings, input.as_bytes())?;
-        assert_eq!(rt; text.as_slice(), answers.as_bytes(), "{name}");
-        assert_eq!(rt; clean, !has_refusal(text.as_slice()), "{name}");
+        check(&rt, &settings, name, input, answers)?;
+        let alone = with_one_thread(rt.alloc(), input)?;
+        check(&rt, &settings, name, alone.as_str(), answers)?;
     }
     Ok(())
 }

@@ -11,11 +11,13 @@ use script_engine::{OverRead, OverWrite, ScriptFault, ScriptRead, ScriptWrite};
 use script_words::run_script;
 use std::io;
 use std::io::ErrorKind;
+use std::sync::Wait;
 use std::test::Fail;
+use std::thread::Threads;
 
 /// Runs a script over memory.
-pub fn run_with(
-    rt: &HostRuntime,
+pub fn run_with<H: AllocGlobal + Threads + Wait + Sync>(
+    rt: &H,
     settings: &Settings,
     input: &[u8],
 ) -> Result<(bool, Vec<u8>), ScriptFault>
@@ -31,7 +33,10 @@ pub fn run_with(
 }
 
 /// Runs a script over memory, of a program without options.
-fn run_text(rt: &HostRuntime, input: &[u8]) -> Result<(bool, Vec<u8>), ScriptFault> {
+fn run_text<H: AllocGlobal + Threads + Wait + Sync>(
+    rt: &H,
+    input: &[u8],
+) -> Result<(bool, Vec<u8>), ScriptFault> {
     run_with(rt, &Settings::new(), input)
 }
 
@@ -449,7 +454,11 @@ static DOCUMENTS: &[(&str, &str)] = &[
 ];
 
 /// Whether a line alone is answered so.
-fn is_answered(rt: &HostRuntime, line: &str, answer: &str) -> Result<bool, Fail> {
+fn is_answered<H: AllocGlobal + Threads + Wait + Sync>(
+    rt: &H,
+    line: &str,
+    answer: &str,
+) -> Result<bool, Fail> {
     let (clean, text) = run_text(rt, line.as_bytes())?;
     let wanted = format!(in rt.alloc(); "{answer}\n")?;
     let told = clean != answer.starts_with("refused");

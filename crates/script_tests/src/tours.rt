@@ -87,7 +87,7 @@ clean
 {"do":"edit","db":"work","id":"budget","parent":"1-76eea3ccc5b9d395ea07a1ccbb6890b5","body":{"euros":120}}
 {"do":"edit","db":"work","id":"notes","body":{"text":"seeds"}}
 {"do":"edit","db":"work","id":"letters","body":{"to":"Ada"}}
-{"do":"replicate","source":"work","target":"backup","session":"00000000000000000000000000000002","at":1381470998,"batch":1,"stop_after":2}
+{"do":"replicate","source":"work","target":"backup","session":"00000000000000000000000000000002","at":1381470998,"batch":1,"stop_after":2,"workers":1}
 {"do":"audit","source":"work","target":"backup"}
 {"do":"replicate","source":"work","target":"backup","session":"00000000000000000000000000000003","at":1381474598}
 {"do":"replicate","source":"work","target":"backup","session":"00000000000000000000000000000004","at":1381557398}

@@ -1,16 +1,15 @@
 -- What replications are told.
 use Rattle.std.proofs.Common.{◌≡◌, ◌≤◌, inr, ℕ, List, Option, Some, None, Result, Ok, refl, sym, ap, subst, ◌∙◌}
 use Rattle.repl_target.specs.Peer.{PeerValue}
-use Rattle.repl_target.specs.declared.fault.Report.{Report}
-use Rattle.repl_target.specs.declared.fault.TargetFault.{TargetFault}
 use Rattle.repl_target.specs.declared.replication.Plan.{Plan}
 use Rattle.script_engine.specs.Serving.{Told}
 use Rattle.script_databases.specs.Databases.{State, peer_at}
-use Rattle.script_databases.proofs.CarryingLemmas.{CarriesFrom}
+use Rattle.script_databases.specs.Carrying.{CarriesFrom}
 use Rattle.script_databases.specs.declared.refusal.Refusal.{Refusal}
 use Rattle.script_databases.specs.declared.refusal.Refusal.TheVariants as why
 use Rattle.script_words.specs.Telling.{told_of}
-use Rattle.script_words.specs.words.Replicate.{ReplicateAsk, Replicates, ReplicatesFound, both_of, last_second, moment_of, plan_of, replicated_text, with_drawn, with_session}
+use Rattle.script_words.specs.words.Replicate.{EndsBy, ReplicateAsk, Replicates, ReplicatesFound, both_of, last_second, moment_of, plan_of, replicated_text, with_drawn, with_session}
+use Rattle.script_words.specs.declared.words.replicate.Ending.{Ending}
 use Rattle.script_words.proofs.TellingLemmas.{passes, is_found}
 
 -- where it is known whether both databases are there
@@ -27,9 +26,10 @@ same_peer s (Some session) name = refl
 same_peer s None name = refl
 
 -- a replication that took place
-pub replicated : (old mid new : State) (ask : ReplicateAsk) (plan : Plan) (result : Result Report TargetFault) (told : Told) → mid ≡ with_session old ask.options → moment_of old.program ask.options ≤ last_second → plan ≡ plan_of old ask.options →
-    CarriesFrom mid ask.source ask.target plan result new → told ≡ told_of (replicated_text plan.session result) → Replicates old ask told new
-replicated old mid new ask plan result told e m p h r =
-    let c = subst (λ q. CarriesFrom (with_session old ask.options) ask.source ask.target q result new) p (subst (λ m. CarriesFrom m ask.source ask.target plan result new) e h) in
+pub replicated : (old mid new : State) (ask : ReplicateAsk) (plan : Plan) (ending : Result Ending Refusal) (told : Told) → mid ≡ with_session old ask.options → moment_of old.program ask.options ≤ last_second → plan ≡ plan_of old ask.options →
+    CarriesFrom (EndsBy ask.options.alone) mid ask.source ask.target plan ending new → told ≡ told_of (replicated_text plan.session ending) → Replicates old ask told new
+replicated old mid new ask plan ending told e m p h r =
+    let way = EndsBy ask.options.alone in
+    let c = subst (λ q. CarriesFrom way (with_session old ask.options) ask.source ask.target q ending new) p (subst (λ m. CarriesFrom way m ask.source ask.target plan ending new) e h) in
     replicates old new ask told (Ok (c.0, c.1)) (are_both old ask c.0 c.1 (sym (same_peer old ask.options.session ask.source) ∙ c.2) (sym (same_peer old ask.options.session ask.target) ∙ c.3))
-    (inr (m, result, c.4, r ∙ ap (λ (q : Plan). told_of (replicated_text q.session result)) p))
+    (inr (m, ending, c.4, r ∙ ap (λ (q : Plan). told_of (replicated_text q.session ending)) p))

@@ -14,13 +14,17 @@ use crate::members::read_object;
 use crate::words;
 use script_databases::{Databases, Refusal, Settings};
 use script_engine::{ScriptFault, ScriptRead, ScriptWrite, Serve, run_lines};
+use std::alloc::Global;
 use std::marker::Model;
 use std::mem;
+use std::sync::Wait;
+use std::thread::Threads;
 
 /// The databases that a script's lines are served by, and what they run on.
 #[derive(Drop)]
 struct Session<'a, H> {
     rt: &'a H,
+    alloc: Global,
     databases: Databases,
 }
 
@@ -34,11 +38,15 @@ impl<'a, H> Model for Session<'a, H> {
     ghost view = { λ a. a.databases };
 }
 
-impl<'a, H: AllocGlobal> Serve for Session<'a, H> {
+impl<'a, H: Threads + Wait + Sync> Serve for Session<'a, H> {
+    ghost use Rattle.std.specs.Thread.{IsSync};
+
+    ghost can_serve = { IsSync H.row };
+
     ghost answers = { LinesAnswer };
 
     fn serve(&mut self, line: &[u8], answer: &mut Vec<u8>) -> Result<(), &'static str> {
-        match serve_line(self.rt, &mut self.databases, line, answer) {
+        match serve_line(self.rt, self.alloc, &mut self.databases, line, answer) {
             Ok(()) => {}
             Err(refusal) => return Err(refusal.name()),
         }
@@ -47,8 +55,9 @@ impl<'a, H: AllocGlobal> Serve for Session<'a, H> {
 }
 
 /// Serves a line that is not blank.
-fn serve_line<H: AllocGlobal>(
+fn serve_line<H: Threads + Wait + Sync>(
     rt: &H,
+    alloc: Global,
     databases: &mut Databases,
     line: &[u8],
     answer: &mut Vec<u8>,
@@ -56,14 +65,14 @@ fn serve_line<H: AllocGlobal>(
     requires { answer.old.items ≡ [] }
     ensures { MayTell LinesAnswer databases.old line.now (told_by result answer.new.items) databases.new }
 {
-    let value = match read_object(rt.alloc(), line) {
+    let value = match read_object(alloc, line) {
         Ok(value) => value,
         Err(refusal) => return Err(refusal),
     };
     let Some(word) = words::read(&value) else {
         return Err(Refusal::BadCommand);
     };
-    words::serve(rt, databases, &word, answer)
+    words::serve(rt, alloc, databases, &word, answer)
 }
 
 /// Runs a script: reads lines to the reader's end, each of which is one command, and writes the answers in their
@@ -72,7 +81,9 @@ fn serve_line<H: AllocGlobal>(
 /// Where memory is wanting within a line, the line is answered as refused and the script goes on. `Read` and `Write`
 /// come only where that device failed in this call, but that `Read` also comes in the place of a further read after
 /// 4,294,967,295 reads, each of at most 65,536 bytes. `Memory` comes only while a line is read in.
-pub fn run_script<H: AllocGlobal, R: ScriptRead, W: ScriptWrite>(
+///
+/// It waits for the threads of a `replicate` line. That it ends is not proved.
+pub fn run_script<H: AllocGlobal + Threads + Wait + Sync, R: ScriptRead, W: ScriptWrite>(
     rt: &H,
     reader: &mut R,
     writer: &mut W,
@@ -96,13 +107,13 @@ pub fn run_script<H: AllocGlobal, R: ScriptRead, W: ScriptWrite>(
     let Ok(databases) = Databases::new(rt.alloc(), settings) else {
         return Err(ScriptFault::Memory);
     };
-    let (ended, _databases) = run_on(rt, databases, reader, writer);
+    let (ended, _databases) = run_on(rt, rt.alloc(), databases, reader, writer);
     ended
 }
 
 /// Runs a script as `run_script` does, and leaves its databases in memory: for a program that ends behind it, since to let go of each
 /// document takes long.
-pub fn run_last_script<H: AllocGlobal, R: ScriptRead, W: ScriptWrite>(
+pub fn run_last_script<H: AllocGlobal + Threads + Wait + Sync, R: ScriptRead, W: ScriptWrite>(
     rt: &H,
     reader: &mut R,
     writer: &mut W,
@@ -126,14 +137,15 @@ pub fn run_last_script<H: AllocGlobal, R: ScriptRead, W: ScriptWrite>(
     let Ok(databases) = Databases::new(rt.alloc(), settings) else {
         return Err(ScriptFault::Memory);
     };
-    let (ended, databases) = run_on(rt, databases, reader, writer);
+    let (ended, databases) = run_on(rt, rt.alloc(), databases, reader, writer);
     mem::forget(databases);
     ended
 }
 
 /// Runs a script on databases that are there, and gives them back: the last state of the script.
-fn run_on<H: AllocGlobal, R: ScriptRead, W: ScriptWrite>(
+fn run_on<H: Threads + Wait + Sync, R: ScriptRead, W: ScriptWrite>(
     rt: &H,
+    alloc: Global,
     databases: Databases,
     reader: &mut R,
     writer: &mut W,
@@ -148,8 +160,16 @@ fn run_on<H: AllocGlobal, R: ScriptRead, W: ScriptWrite>(
         × IsFaultOf fault (R.reads reader.old) (R.reads reader.new) (R.failures reader.old) (R.failures reader.new)
         (W.failures writer.old) (W.failures writer.new)) }
 {
-    let mut session = Session { rt, databases };
-    let ended = run_lines(rt.alloc(), &mut session, reader, writer);
-    let Session { rt: _, databases } = session;
+    let mut session = Session {
+        rt,
+        alloc,
+        databases,
+    };
+    let ended = run_lines(alloc, &mut session, reader, writer);
+    let Session {
+        rt: _,
+        alloc: _,
+        databases,
+    } = session;
     (ended, databases)
 }

@@ -19,6 +19,9 @@ mod show;
 use crate::members::text_member;
 use script_databases::{Databases, Refusal};
 use serde_json::Value;
+use std::alloc::Global;
+use std::sync::Wait;
+use std::thread::Threads;
 
 /// What a line asks.
 #[derive(Drop)]
@@ -50,9 +53,10 @@ pub fn read(value: &Value) -> Option<Word<'_>>
     }
 }
 
-/// Serves a word.
-pub fn serve<H: AllocGlobal>(
+/// Serves a word. It waits, where the word is `replicate`.
+pub fn serve<H: Threads + Wait + Sync>(
     rt: &H,
+    alloc: Global,
     databases: &mut Databases,
     word: &Word<'_>,
     answer: &mut Vec<u8>,
@@ -60,7 +64,6 @@ pub fn serve<H: AllocGlobal>(
     requires { answer.old.items ≡ [] }
     ensures { MayTell Answers databases.old (asked_of word.now) (told_by result answer.new.items) databases.new }
 {
-    let alloc = rt.alloc();
     match word {
         Word::Load(ask) => load::serve(alloc, databases, ask, answer),
         Word::Edit(ask) => edit::serve(alloc, databases, ask, answer),
@@ -69,6 +72,6 @@ pub fn serve<H: AllocGlobal>(
         Word::Changes(ask) => changes::serve(alloc, databases, ask, answer),
         Word::Log(ask) => log::serve(alloc, databases, ask, answer),
         Word::Audit(ask) => audit::serve(alloc, databases, ask, answer),
-        Word::Replicate(ask) => replicate::serve(rt, databases, ask, answer),
+        Word::Replicate(ask) => replicate::serve(rt, alloc, databases, ask, answer),
     }
 }

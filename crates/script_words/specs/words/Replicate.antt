@@ -1,17 +1,18 @@
 -- `replicate`: docs/PROFILE.md, "Command lines", "Order of checks" and "Answers".
-use Rattle.std.specs.Prelude.{◌≡◌, ◌⊎◌, ◌<◌, ◌≤◌, ℕ, false, List, [], ◌∷◌, ◌++◌, codes, decimal, Option, Some, None, unwrap_or, Result, Ok, Err}
+use Rattle.std.specs.Prelude.{◌≡◌, ◌⊎◌, ◌<◌, ◌≤◌, ℕ, Bool, true, false, List, [], ◌∷◌, ◌++◌, codes, decimal, Option, Some, None, unwrap_or, Result, Ok, Err}
 use Rattle.serde_json.specs.Data.{Data}
 use Rattle.serde_json.specs.Find.{as_bool}
 use Rattle.rev_tree.specs.declared.origin.SessionId.{SessionId}
 use Rattle.repl_log.specs.Text.{id_digits}
+use Rattle.repl_pool.specs.declared.fault.PoolFault.{PoolFault}
 use Rattle.repl_target.specs.Peer.{PeerValue}
 use Rattle.repl_target.specs.declared.fault.Report.{Report}
 use Rattle.repl_target.specs.declared.fault.TargetFault.{TargetFault}
 use Rattle.repl_target.specs.declared.replication.Plan.{Plan}
 use Rattle.script_engine.specs.Serving.{Told, Answering}
-use Rattle.script_databases.specs.Carrying.{Carried}
+use Rattle.script_databases.specs.Carrying.{CarriedAlone, CarriedByPool}
 use Rattle.script_databases.specs.Databases.{Program, State, drawn_one, next_made}
-use Rattle.script_databases.specs.Refusals.{stop_of}
+use Rattle.script_databases.specs.Refusals.{run_stop_of, stop_of}
 use Rattle.script_databases.specs.declared.refusal.Refusal.{Refusal}
 use Rattle.script_databases.specs.declared.refusal.Refusal.TheVariants as why
 use Rattle.script_words.specs.Checks.{◌>>=◌, needed}
@@ -118,25 +119,39 @@ plan_of s options = plan_with s.program options (session_of s options)
 
 -- ---- what it does
 
--- one that its plan stopped is not refused
+-- by one thread: a replication that its plan stopped is not refused
 abbrev pub ending_of : Result Report TargetFault → Result Ending Refusal
 ending_of (Ok report) = Ok (Done report)
 ending_of (Err fault) = do
   low_water ← stop_of fault
   Ok (Stopped low_water)
 
-abbrev pub replicated_text : SessionId → Result Report TargetFault → Result (List ℕ) Refusal
-replicated_text session result = do
-  ending ← ending_of result
+-- by the pool
+abbrev pub ending_of_run : Result Report PoolFault → Result Ending Refusal
+ending_of_run (Ok report) = Ok (Done report)
+ending_of_run (Err fault) = do
+  low_water ← run_stop_of fault
+  Ok (Stopped low_water)
+
+-- how a replication ended that was carried by one thread, where the line says so, or else by the pool
+abbrev pub EndsBy : Bool → State → List ℕ → List ℕ → PeerValue → PeerValue → Plan → Result Ending Refusal → State → Type 0
+EndsBy true old source target s t plan ending new =
+    (result : Result Report TargetFault) × CarriedAlone old source target s t plan result new × (ending ≡ ending_of result)
+EndsBy false old source target s t plan ending new =
+    (result : Result Report PoolFault) × CarriedByPool old source target s t plan result new × (ending ≡ ending_of_run result)
+
+abbrev pub replicated_text : SessionId → Result Ending Refusal → Result (List ℕ) Refusal
+replicated_text session ended = do
+  ending ← ended
   Ok (ending_line session ending)
 
 -- of two databases that are there
 abbrev pub ReplicatesBoth : State → ReplicateAsk → PeerValue × PeerValue → Told → State → Type 0
 ReplicatesBoth old ask both told new =
     (last_second < moment_of old.program ask.options) × Refuses why.BadMoment (with_session old ask.options) told new
-    ⊎ (moment_of old.program ask.options ≤ last_second) × (result : Result Report TargetFault)
-    × Carried (with_session old ask.options) ask.source ask.target both.0 both.1 (plan_of old ask.options) result new
-    × (told ≡ told_of (replicated_text (plan_of old ask.options).session result))
+    ⊎ (moment_of old.program ask.options ≤ last_second) × (ending : Result Ending Refusal)
+    × EndsBy ask.options.alone (with_session old ask.options) ask.source ask.target both.0 both.1 (plan_of old ask.options) ending new
+    × (told ≡ told_of (replicated_text (plan_of old ask.options).session ending))
 
 abbrev pub ReplicatesFound : State → ReplicateAsk → Result (PeerValue × PeerValue) Refusal → Told → State → Type 0
 ReplicatesFound old ask (Ok both) told new = ReplicatesBoth old ask both told new

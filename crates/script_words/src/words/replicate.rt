@@ -1,21 +1,26 @@
 //! `replicate`: a replication from one database into another.
-ghost use Rattle.std.specs.Prelude.{◌≡◌, ◌<◌, ◌≤◌, ◌++◌, [], OnOk, IfOk, IfErr, option_map, string_bytes};
+ghost use Rattle.std.specs.Prelude.{◌≡◌, ◌<◌, ◌≤◌, ◌++◌, [], true, OnOk, IfOk, IfErr, option_map, string_bytes};
+ghost use Rattle.std.specs.FinMap.{contains_key};
 ghost use Rattle.serde_json.specs.View.{view};
 ghost use Rattle.repl_log.specs.Text.{id_digits};
 ghost use Rattle.script_engine.specs.Serving.{MayTell};
+ghost use Rattle.script_databases.specs.Carrying.{CarriesFrom};
 ghost use Rattle.script_databases.specs.declared.refusal.Refusal.TheVariants.{BadMoment};
 ghost use Rattle.script_words.specs.Checks.{needed};
 ghost use Rattle.script_words.specs.Telling.{told_by};
-ghost use Rattle.script_words.specs.words.Replicate.{Replicates, checked_part, documents_part, ending_line, ending_of, last_second, moment_of, options_in, plan_of, replicate_asked, replicate_in, report_line, session_part, stopped_line, with_session};
+ghost use Rattle.script_words.specs.words.Replicate.{Replicates, EndsBy, checked_part, documents_part, ending_line, ending_of, ending_of_run, last_second, moment_of, options_in, plan_of, replicate_asked, replicate_in, report_line, session_part, stopped_line, with_session};
 
 use crate::members::{has_only_members, name_member, optional_flag, optional_uuid, optional_whole};
 use crate::texts::push_number;
 use repl_log::Moment;
+use repl_pool::PoolFault;
 use repl_target::{Plan, Report, TargetFault};
 use rev_tree::SessionId;
 use script_databases::{Databases, Refusal};
 use serde_json::Value;
 use std::alloc::{AllocError, Global};
+use std::sync::Wait;
+use std::thread::Threads;
 
 /// What a `replicate` line asks.
 #[derive(Drop)]
@@ -101,9 +106,11 @@ fn options_of(value: &Value) -> Option<Options>
     })
 }
 
-/// Serves `replicate`. An id is made for a session that has none, once both databases are found.
-pub fn serve<H: AllocGlobal>(
+/// Serves `replicate`. An id is made for a session that has none, once both databases are found. It waits, where the line
+/// does not ask for one thread.
+pub fn serve<H: Threads + Wait + Sync>(
     rt: &H,
+    alloc: Global,
     databases: &mut Databases,
     ask: &Replicate<'_>,
     answer: &mut Vec<u8>,
@@ -121,12 +128,11 @@ pub fn serve<H: AllocGlobal>(
         Ok(plan) => plan,
         Err(refusal) => return Err(refusal),
     };
-    let outcome = databases.replicate(rt.alloc(), ask.source, ask.target, &plan);
-    let ending = match ending_of(outcome) {
+    let ending = match carry(rt, alloc, databases, ask, &plan) {
         Ok(ending) => ending,
         Err(refusal) => return Err(refusal),
     };
-    match print(rt.alloc(), answer, plan.session, &ending) {
+    match print(alloc, answer, plan.session, &ending) {
         Ok(()) => Ok(()),
         Err(_) => Err(Refusal::Memory),
     }
@@ -157,7 +163,38 @@ fn plan_asked(databases: &mut Databases, options: &Options) -> Result<Plan, Refu
     })
 }
 
-/// How a replication ended: one that its plan stopped is not refused.
+/// Replicates between the two databases of a line, which are there: by one thread where the line says so, else by the pool.
+fn carry<H: Threads + Wait + Sync>(
+    rt: &H,
+    alloc: Global,
+    databases: &mut Databases,
+    ask: &Replicate<'_>,
+    plan: &Plan,
+) -> Result<Ending, Refusal>
+    requires source { contains_key databases.old.peers ask.now.source.now ≡ true }
+    requires target { contains_key databases.old.peers ask.now.target.now ≡ true }
+    ensures { CarriesFrom (EndsBy ask.now.options.alone) databases.old ask.now.source.now ask.now.target.now plan.now result databases.new }
+{
+    if ask.options.alone {
+        return ending_of(databases.replicate_alone(alloc, ask.source, ask.target, plan));
+    }
+    ending_of_run(databases.replicate(rt, alloc, ask.source, ask.target, plan))
+}
+
+/// How a run of the pool ended: one that its plan stopped is not refused.
+fn ending_of_run(outcome: Result<Report, PoolFault>) -> Result<Ending, Refusal>
+    ensures { result ≡ ending_of_run outcome }
+{
+    match outcome {
+        Ok(report) => Ok(Ending::Done(report)),
+        Err(fault) => match Refusal::run_stop_of(fault) {
+            Ok(low_water) => Ok(Ending::Stopped(low_water)),
+            Err(refusal) => Err(refusal),
+        },
+    }
+}
+
+/// How a replication by one thread ended: one that its plan stopped is not refused.
 fn ending_of(outcome: Result<Report, TargetFault>) -> Result<Ending, Refusal>
     ensures { result ≡ ending_of outcome }
 {

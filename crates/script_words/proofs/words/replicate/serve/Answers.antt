@@ -29,21 +29,21 @@ returns-in-Err g c =
     subst (λ r. MayTell Replicates old ask (Err (name_of r)) new) (sym c.in-Err.ensures.err.0)
     (in_full (replicates old new ask _ (Ok (s.0, t.0)) (are_both old ask s.0 t.0 s.1 t.1) (inl (c.in-Err.ensures.err.1, (refl, c.in-Err.ensures.state)))))
 
-pub returns-in-Err-ending_of : goal.returns-in-Err-ending_of
-returns-in-Err-ending_of g c =
+pub returns-in-Err-carry : goal.returns-in-Err-carry
+returns-in-Err-carry g c =
     let ask = replicate_asked c.args.ask.now in
-    in_full (replicated c.args.databases.now c.plan_asked.new.databases _ ask c.in-Ok.plan c.replicate-outcome.result _ c.in-Ok.ensures.state c.in-Ok.ensures.ok.0 c.in-Ok.ensures.ok.1 c.replicate-outcome.ensures
-    (sym (ap told_of (stops _ (sym c.in-Err-ending_of.ensures)))))
+    in_full (replicated c.args.databases.now c.plan_asked.new.databases _ ask c.in-Ok.plan c.carry.result _ c.in-Ok.ensures.state c.in-Ok.ensures.ok.0 c.in-Ok.ensures.ok.1 c.carry.ensures
+    (sym (ap told_of (stops _ c.in-Err-carry.is))))
 
 pub returns-in-Ok-print : goal.returns-in-Ok-print
 returns-in-Ok-print g c =
     let ask = replicate_asked c.args.ask.now in
-    in_full (replicated c.args.databases.now c.plan_asked.new.databases _ ask c.in-Ok.plan c.replicate-outcome.result _ c.in-Ok.ensures.state c.in-Ok.ensures.ok.0 c.in-Ok.ensures.ok.1 c.replicate-outcome.ensures
-    (ap Ok (printed c.in-Ok-print.ensures c.requires refl) ∙ sym (ap told_of (passes _ (sym c.in-Ok-ending_of.ensures)))))
+    in_full (replicated c.args.databases.now c.plan_asked.new.databases _ ask c.in-Ok.plan c.carry.result _ c.in-Ok.ensures.state c.in-Ok.ensures.ok.0 c.in-Ok.ensures.ok.1 c.carry.ensures
+    (ap Ok (printed c.in-Ok-print.ensures c.requires refl) ∙ sym (ap told_of (passes _ c.in-Ok-carry.is))))
 
 pub returns-in-Err-print : goal.returns-in-Err-print
 returns-in-Err-print g c =
     let ask = replicate_asked c.args.ask.now in
-    served_only (ending_line c.in-Ok.plan.session c.in-Ok-ending_of.ending)
-    (replicated c.args.databases.now c.plan_asked.new.databases _ ask c.in-Ok.plan c.replicate-outcome.result _ c.in-Ok.ensures.state c.in-Ok.ensures.ok.0 c.in-Ok.ensures.ok.1 c.replicate-outcome.ensures
-    (sym (ap told_of (passes _ (sym c.in-Ok-ending_of.ensures)))))
+    served_only (ending_line c.in-Ok.plan.session c.in-Ok-carry.ending)
+    (replicated c.args.databases.now c.plan_asked.new.databases _ ask c.in-Ok.plan c.carry.result _ c.in-Ok.ensures.state c.in-Ok.ensures.ok.0 c.in-Ok.ensures.ok.1 c.carry.ensures
+    (sym (ap told_of (passes _ c.in-Ok-carry.is))))
