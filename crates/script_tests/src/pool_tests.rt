@@ -3,6 +3,7 @@
 use crate::tests::run_with;
 use script_databases::Settings;
 use std::alloc::{AllocError, Global};
+use std::process::Abort;
 use std::sync::Wait;
 use std::test::Fail;
 use std::thread::Threads;
@@ -103,7 +104,7 @@ static WINDOWS_END: &str =
     "made b\nsession 00000000000000000000000000000001 from 0 to 300 checked 300 found 300 read 300 written 300 failed 0\nclean\n";
 
 /// What a script prints where a pool has so many workers.
-fn printed_by<H: AllocGlobal + Threads + Wait + Sync>(
+fn printed_by<H: Abort + AllocGlobal + Threads + Wait + Sync>(
     rt: &H,
     workers: u64,
     input: &str,

@@ -3,6 +3,7 @@
 use crate::tests::{has_refusal, run_with};
 use script_databases::Settings;
 use std::alloc::{AllocError, Global};
+use std::process::Abort;
 use std::sync::Wait;
 use std::test::Fail;
 use std::thread::Threads;
@@ -356,7 +357,7 @@ fn with_one_thread(alloc: Global, input: &str) -> Result<String, AllocError> {
 }
 
 /// Runs a script of the table, and looks at what it prints.
-fn check<H: AllocGlobal + Threads + Wait + Sync>(
+fn check<H: Abort + AllocGlobal + Threads + Wait + Sync>(
     rt: &H,
     settings: &Settings,
     name: &str,
