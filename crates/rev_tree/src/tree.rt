@@ -1,5 +1,5 @@
 //! Trees.
-ghost use Rattle.std.specs.Prelude.{◌≡◌, Ok, OnOk, OnErr, IfOk, IfErr, length, map, false};
+ghost use Rattle.std.specs.Prelude.{◌≡◌, ◌∷◌, [], Ok, OnOk, OnErr, IfOk, IfErr, length, map, false};
 ghost use Rattle.std.specs.Option.{option_map_or};
 
 use crate::content::Content;
@@ -42,7 +42,7 @@ impl Tree {
     ghost use Rattle.std.specs.FinMap.{get, len};
     ghost use Rattle.std.specs.Option.{option_copied};
     ghost use Rattle.rev_tree.specs.Tree.{IsTree, no_revisions, has, is_leaf, merged, merge_answer, ancestry_answer, leaves, leaf_cmp, is_deleted, missing, leaves_above, GivesUnlessMemory, MergeGives};
-    ghost use Rattle.rev_tree.specs.InOrder.{first_of, better};
+    ghost use Rattle.rev_tree.specs.InOrder.{first_of, only_of, better};
 
     /// The tree of no revisions.
     pub fn new(alloc: Global) -> Tree
@@ -138,6 +138,28 @@ impl Tree {
         ensures leaves { IfOk result (λ v. v.items ≡ leaves self.now) }
         ensures err { IfErr result (λ e. e ≡ TreeFault.Memory) }
     {
+        match self.only_leaf() {
+            Some(leaf) => alone(alloc, leaf),
+            None => self.sorted_leaves(alloc),
+        }
+    }
+
+    /// The leaf, where there is one alone.
+    fn only_leaf(&self) -> Option<Rev>
+        ensures { result ≡ only_of (leaves self.now) }
+    {
+        if self.leaf_count() == 1 {
+            self.winner()
+        } else {
+            None
+        }
+    }
+
+    /// The leaves, winner first, of which there may be several.
+    fn sorted_leaves(&self, alloc: Global) -> Result<Vec<Rev>, TreeFault>
+        ensures leaves { IfOk result (λ v. v.items ≡ leaves self.now) }
+        ensures err { IfErr result (λ e. e ≡ TreeFault.Memory) }
+    {
         let Ok(mut found) = Vec::with_capacity(alloc, self.leaf_count()) else {
             return Err(TreeFault::Memory);
         };
@@ -177,6 +199,11 @@ impl Tree {
         ensures leaves { IfOk result (λ v. v.items ≡ leaves_above self.now revs.now) }
         ensures err { IfErr result (λ e. e ≡ TreeFault.Memory) }
     {
+        if let Some(leaf) = self.only_leaf() {
+            if revs.contains(&leaf) {
+                return alone(alloc, leaf);
+            }
+        }
         let leaves = self.leaves(alloc)?;
         those_above(alloc, &self.nodes, &self.places, &leaves, revs)
     }
@@ -316,6 +343,20 @@ fn is_deleted(node: &Node) -> bool
     match &node.content {
         Some(content) => content.deleted(),
         None => false,
+    }
+}
+
+/// The list of a revision. The only error is `Memory`.
+fn alone(alloc: Global, rev: Rev) -> Result<Vec<Rev>, TreeFault>
+    ensures revs { IfOk result (λ v. v.items ≡ rev ∷ []) }
+    ensures err { IfErr result (λ e. e ≡ TreeFault.Memory) }
+{
+    let Ok(mut revs) = Vec::with_capacity(alloc, 1) else {
+        return Err(TreeFault::Memory);
+    };
+    match revs.push(rev) {
+        Ok(()) => Ok(revs),
+        Err(_) => Err(TreeFault::Memory),
     }
 }
 

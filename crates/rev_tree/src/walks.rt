@@ -20,7 +20,13 @@ pub(crate) fn walk(alloc: Global, nodes: &[Node], start: usize) -> Result<Vec<Re
     ensures walked { IfOk result (λ v. v.items ≡ ancestors_at nodes.now start) }
     ensures err { IfErr result (λ e. e ≡ TreeFault.Memory) }
 {
-    let mut revs = Vec::new(alloc);
+    // There are at most so many ancestors as nodes, and at most so many as the generation says.
+    let most = nodes
+        .len()
+        .min(node_at(nodes, start).rev.generation() as usize);
+    let Ok(mut revs) = Vec::with_capacity(alloc, most) else {
+        return Err(TreeFault::Memory);
+    };
     let mut at = start;
     'walk: loop {
         let node = node_at(nodes, at);

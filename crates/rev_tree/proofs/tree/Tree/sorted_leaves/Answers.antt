@@ -8,8 +8,8 @@ use Rattle.rev_tree.specs.Tree.{is_leaf}
 use Rattle.rev_tree.specs.Nodes.{revs_in}
 use Rattle.rev_tree.proofs.Leaves.{leaf_item, deleted_item, leaves_pushed, leaves_of_nodes, count_once}
 use Rattle.rev_tree.proofs.Sorting.{told_deleted, pair_cmp, pair_cmp_total, pairs_in_order}
-use Rattle.rev_tree.proofs.tree.Tree.leaves.Goals as goal
-use Rattle.rev_tree.proofs.tree.Tree.leaves.Goals.{then-not-node+in-Ok-push, else-not-node}
+use Rattle.rev_tree.proofs.tree.Tree.sorted_leaves.Goals as goal
+use Rattle.rev_tree.proofs.tree.Tree.sorted_leaves.Goals.{then-not-node+in-Ok-push, else-not-node}
 
 pub loop-node-preserved : goal.loop-node-preserved
 loop-node-preserved c =
