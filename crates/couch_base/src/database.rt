@@ -133,7 +133,7 @@ impl Database {
         let Put::Changed { .. } = self.put_answer(doc)? else {
             return Ok(Put::Same);
         };
-        let content = content_of(*self.docs.allocator(), doc.deleted(), doc.body())?;
+        let content = content_of(doc.deleted(), doc.body())?;
         let seq = self.write(doc.id(), doc.ancestry(), content, origin)?;
         Ok(Put::Changed { seq })
     }
@@ -200,7 +200,7 @@ impl Database {
         if update_seq >= MOST {
             return Err(BaseFault::SeqFull);
         }
-        let content = content_of(alloc, deleted, body)?;
+        let content = content_of(deleted, body)?;
         self.write(id, &ancestry, content, origin)?;
         Ok(rev)
     }

@@ -118,14 +118,14 @@ fn ancestry_of(alloc: Global, rev: Rev, parent: Option<Rev>) -> Result<Ancestry,
     Ok(Ancestry::from_revs(revs))
 }
 
-/// The content that a document brings. The only error is `Memory`.
-pub(crate) fn content_of(alloc: Global, deleted: bool, body: &Body) -> Result<Content, BaseFault>
+/// The content that a document brings, which shares its text. The only error is `Memory`.
+pub(crate) fn content_of(deleted: bool, body: &Body) -> Result<Content, BaseFault>
     ensures content { IfOk result (λ c. c ≡ content_of deleted body.now) }
     ensures body { IfOk result (λ c. IsBody c.body) }
     ensures err { IfErr result (λ e. e ≡ BaseFault.Memory) }
 {
-    match body.copy(alloc) {
-        Ok(body) => Ok(Content::new(deleted, body.into_text())),
+    match body.share() {
+        Ok(text) => Ok(Content::new(deleted, text)),
         Err(_) => Err(BaseFault::Memory),
     }
 }

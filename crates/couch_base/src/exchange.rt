@@ -176,7 +176,7 @@ fn document_in(alloc: Global, id: &DocId, tree: &Tree, rev: Rev) -> Result<Optio
     let Some(content) = tree.content(rev) else {
         return Ok(None);
     };
-    let Ok(text) = Vec::from_slice(alloc, content.body()) else {
+    let Ok(text) = content.share() else {
         return Err(BaseFault::Memory);
     };
     let Ok(id) = id.copy(alloc) else {

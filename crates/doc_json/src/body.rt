@@ -1,5 +1,7 @@
 //! The bodies of documents.
 ghost use Rattle.std.specs.Prelude.{◌≡◌, false, IfOk, IfErr};
+ghost use Rattle.std.specs.Arc.{arc_slice_items};
+ghost use Rattle.serde_json.specs.Data.{object};
 ghost use Rattle.serde_json.specs.View.{view, members_view};
 ghost use Rattle.serde_json.specs.Written.{has_float, members_have_float};
 ghost use Rattle.doc_json.specs.Answers.{GivesUnlessMemory};
@@ -9,14 +11,15 @@ ghost use Rattle.doc_json.specs.Body.{body_read, body_text, IsWritten};
 use crate::fault::DocFault;
 use crate::{compact, members};
 use serde_json::{Map, Value};
-use std::alloc::Global;
+use std::alloc::{AllocError, Global};
 use std::marker::Model;
+use std::sync::ArcSlice;
 
 /// The body of a document: the compact text of a JSON object without members that begin with `_`, and
-/// without numbers other than 64-bit integers.
+/// without numbers other than 64-bit integers. A body shares its text with its copies.
 #[derive(Debug, Drop)]
 pub struct Body {
-    text: Vec<u8>,
+    text: ArcSlice<u8>,
 }
 
 impl Model for Body {
@@ -24,21 +27,23 @@ impl Model for Body {
 
     ghost Value = { List ℕ };
 
+    ghost use Rattle.std.specs.Arc.{arc_slice_items};
     ghost use Rattle.doc_json.specs.Body.{IsBody};
 
-    ghost view = { λ a. a.text.items };
+    ghost view = { λ a. arc_slice_items a.text };
 
-    ghost invariant = { λ a. IsBody a.text.items };
+    ghost invariant = { λ a. IsBody (arc_slice_items a.text) };
 }
 
 impl Body {
     ghost use Rattle.std.specs.Prelude.{◌≡◌, IfOk, IfErr};
+    ghost use Rattle.std.specs.Arc.{arc_slice_items};
     ghost use Rattle.doc_json.specs.Body.{IsBody};
 
     /// The body of a text that is one.
-    pub fn from_text(text: Vec<u8>) -> Body
-        requires { IsBody text.items }
-        ensures { result ≡ text.items }
+    pub fn from_text(text: ArcSlice<u8>) -> Body
+        requires { IsBody (arc_slice_items text) }
+        ensures { result ≡ arc_slice_items text }
     {
         Body { text }
     }
@@ -48,26 +53,28 @@ impl Body {
         ensures text { result.now ≡ self.now }
         ensures body { IsBody self.now }
     {
-        &self.text
+        self.text.as_slice()
     }
 
-    /// The text, as it is kept.
-    pub fn into_text(self) -> Vec<u8>
-        ensures text { result.items ≡ self }
-        ensures body { IsBody self }
+    /// The text, shared. The only error is `Memory`.
+    pub fn share(&self) -> Result<ArcSlice<u8>, DocFault>
+        ensures shared { IfOk result (λ text. arc_slice_items text ≡ self.now) }
+        ensures body { IsBody self.now }
+        ensures err { IfErr result (λ e. e ≡ DocFault.Memory) }
     {
-        self.text
+        match self.text.clone() {
+            Ok(text) => Ok(text),
+            Err(_) => Err(DocFault::Memory),
+        }
     }
 
-    /// The same body. The only error is `Memory`.
-    pub fn copy(&self, alloc: Global) -> Result<Body, DocFault>
+    /// The same body, which shares its text with this one. The only error is `Memory`.
+    pub fn copy(&self) -> Result<Body, DocFault>
         ensures copied { IfOk result (λ b. b ≡ self.now) }
         ensures err { IfErr result (λ e. e ≡ DocFault.Memory) }
     {
-        match Vec::from_slice(alloc, &self.text) {
-            Ok(text) => Ok(Body { text }),
-            Err(_) => Err(DocFault::Memory),
-        }
+        let text = self.share()?;
+        Ok(Body { text })
     }
 }
 
@@ -100,19 +107,33 @@ pub(crate) fn plain_body(alloc: Global, members: &Map<String, Value>) -> Result<
     ensures body { IfOk result (λ b. b ≡ body_text (members_view members.now.entries)) }
     ensures err { IfErr result (λ e. e ≡ DocFault.Memory) }
 {
-    match compact::plain_text(alloc, members) {
+    match plain_written(alloc, members) {
         Ok(text) => Ok(Body::from_text(text)),
         Err(_) => Err(DocFault::Memory),
     }
 }
 
-/// The compact text of a value. The only error is `Memory`.
-fn written(alloc: Global, value: &Value) -> Result<Vec<u8>, DocFault>
+/// The compact text of an object's members without a leading `_`, to be shared.
+fn plain_written(alloc: Global, members: &Map<String, Value>) -> Result<ArcSlice<u8>, AllocError>
+    requires { members_have_float (plain_members (members_view members.now.entries)) ≡ false }
+    ensures { IfOk result
+        (λ v. IsWritten (arc_slice_items v) (object (plain_members (members_view members.now.entries)))) }
+{
+    let text = compact::plain_text(alloc, members)?;
+    ArcSlice::from_vec(text)
+}
+
+/// The compact text of a value, to be shared. The only error is `Memory`.
+fn written(alloc: Global, value: &Value) -> Result<ArcSlice<u8>, DocFault>
     requires { has_float (view value.now) ≡ false }
-    ensures written { IfOk result (λ v. IsWritten v.items (view value.now)) }
+    ensures written { IfOk result (λ v. IsWritten (arc_slice_items v) (view value.now)) }
     ensures err { IfErr result (λ e. e ≡ DocFault.Memory) }
 {
-    match value.to_vec(alloc) {
+    let Ok(mut text) = value.to_vec(alloc) else {
+        return Err(DocFault::Memory);
+    };
+    text.shrink_to_fit();
+    match ArcSlice::from_vec(text) {
         Ok(text) => Ok(text),
         Err(_) => Err(DocFault::Memory),
     }

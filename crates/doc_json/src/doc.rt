@@ -112,7 +112,7 @@ impl Doc {
         let Ok(ancestry) = self.ancestry.copy(alloc) else {
             return Err(DocFault::Memory);
         };
-        let Ok(body) = self.body.copy(alloc) else {
+        let Ok(body) = self.body.copy() else {
             return Err(DocFault::Memory);
         };
         Ok(Doc::new(id, ancestry, self.deleted, body))

@@ -8,6 +8,7 @@ use rev_core::{Ancestry, Rev, Sig};
 use rev_tree::{Content, Merged, Origin, Tree, TreeFault};
 use std::alloc::{AllocError, Global};
 use std::process::Abort;
+use std::sync::ArcSlice;
 
 /// The signature at a place.
 fn sig(rt: &impl Abort, place: usize) -> Sig {
@@ -231,7 +232,8 @@ fn refused(rt: &impl Abort, fault: TreeFault, wanted: Answer) {
 
 /// A content with a body of one byte.
 pub(crate) fn content(rt: &impl Abort, alloc: Global, deleted: bool, byte: u8) -> Content {
-    Content::new(deleted, [byte].to_vec(alloc).expect(rt, "memory"))
+    let body = ArcSlice::from_slice(alloc, &[byte]).expect(rt, "memory");
+    Content::new(deleted, body)
 }
 
 /// One merge into both. Says whether it was refused.

@@ -4,11 +4,12 @@ use anyhow::{Result, bail};
 use rev_core::{Ancestry, Rev, Sig};
 use rev_tree::{Content, Merged, Origin, Tree, TreeFault};
 use std::alloc::Global;
+use std::sync::ArcSlice;
 
 /// A live content of a body.
 fn content(alloc: Global, body: &[u8]) -> Result<Content, TreeFault> {
-    let first = Vec::from_slice(alloc, body);
-    let Ok(text) = first.or_else(|_| Vec::from_slice(alloc, body)) else {
+    let first = ArcSlice::from_slice(alloc, body);
+    let Ok(text) = first.or_else(|_| ArcSlice::from_slice(alloc, body)) else {
         return Err(TreeFault::Memory);
     };
     Ok(Content::new(false, text))

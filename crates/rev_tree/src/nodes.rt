@@ -131,7 +131,7 @@ pub(crate) fn copy_nodes(alloc: Global, nodes: &[Node]) -> Result<Vec<Node>, Tre
         return Err(TreeFault::Memory);
     };
     for node in nodes {
-        let copy = copy_node(alloc, node)?;
+        let copy = copy_node(node)?;
         let Ok(()) = copies.push(copy) else {
             return Err(TreeFault::Memory);
         };
@@ -140,12 +140,12 @@ pub(crate) fn copy_nodes(alloc: Global, nodes: &[Node]) -> Result<Vec<Node>, Tre
 }
 
 /// The same node. The only error is `Memory`.
-fn copy_node(alloc: Global, node: &Node) -> Result<Node, TreeFault>
+fn copy_node(node: &Node) -> Result<Node, TreeFault>
     ensures copied { IfOk result (λ n. n ≡ node.now) }
     ensures err { IfErr result (λ e. e ≡ TreeFault.Memory) }
 {
     let content = match &node.content {
-        Some(content) => Some(content.copy(alloc)?),
+        Some(content) => Some(content.copy()?),
         None => None,
     };
     Ok(Node {

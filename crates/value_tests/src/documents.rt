@@ -79,8 +79,8 @@ fn answer(alloc: Global, call: &Call) -> Option<String> {
         }
         Call::Body(text) => body_text(alloc, text),
         Call::CopyBody(text) => {
-            let copy = body(alloc, text)?.copy(alloc).ok()?;
-            String::from_utf8(copy.into_text()).ok()
+            let copy = body(alloc, text)?.copy().ok()?;
+            shared_text(alloc, &copy)
         }
         Call::Write(parts) => written(alloc, &made(alloc, parts)?),
         Call::CopyParts(parts) => copy_text(alloc, &made(alloc, parts)?),
@@ -161,9 +161,18 @@ fn read_text(alloc: Global, text: &str) -> Option<String> {
 fn body_text(alloc: Global, text: &str) -> Option<String> {
     let value = Value::from_str(alloc, text).ok()?;
     match read_body(alloc, &value) {
-        Ok(body) => String::from_utf8(body.into_text()).ok(),
+        Ok(body) => shared_text(alloc, &body),
         Err(fault) => shown(alloc, &fault),
     }
+}
+
+/// The text that a body shares.
+fn shared_text(alloc: Global, body: &Body) -> Option<String> {
+    let text = body.share().ok()?;
+    std::str::from_utf8(text.as_slice())
+        .ok()?
+        .to_string(alloc)
+        .ok()
 }
 
 /// The text that is written of a document.

@@ -4,6 +4,7 @@ use rev_core::Rev;
 use rev_tree::{Content, Merged, Origin, SessionId, Tree, TreeFault};
 use std::alloc::Global;
 use std::process::Abort;
+use std::sync::ArcSlice;
 
 /// A call on a tree.
 #[derive(Clone, Copy)]
@@ -75,7 +76,7 @@ impl Bench {
         let alloc = self.alloc;
         match *call {
             Call::Merge(start, ids, deleted) => {
-                let content = Content::new(deleted, Vec::new(alloc));
+                let content = Content::new(deleted, ArcSlice::from_slice(alloc, b"").ok()?);
                 merge(alloc, &mut self.tree, start, ids, content, Origin::Local(0))
             }
             Call::MergeCopy(start, ids, deleted, body, origin) => {
@@ -99,7 +100,7 @@ impl Bench {
         let Ok(Merged::Changed) = self.tree.merge_answer(&given) else {
             return None;
         };
-        let content = Content::new(false, Vec::new(self.alloc));
+        let content = Content::new(false, ArcSlice::from_slice(self.alloc, b"").ok()?);
         self.tree
             .merge_change(&given, content, Origin::Local(0))
             .ok()?;
@@ -139,8 +140,8 @@ fn read(alloc: Global, tree: &Tree, call: &Call) -> Option<String> {
 
 /// A copy of a content.
 fn copied_content(alloc: Global, deleted: bool, body: &str) -> Option<Content> {
-    let body = body.as_bytes().to_vec(alloc).ok()?;
-    Content::new(deleted, body).copy(alloc).ok()
+    let body = ArcSlice::from_slice(alloc, body.as_bytes()).ok()?;
+    Content::new(deleted, body).copy().ok()
 }
 
 /// Merges an ancestry.

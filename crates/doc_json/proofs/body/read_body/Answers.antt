@@ -1,5 +1,6 @@
 use Rattle.std.proofs.Common.{Ok, inl, inr, refl, sym, ap, ◌∙◌, subst}
 use Rattle.std.specs.Prelude.{IsOk}
+use Rattle.std.specs.Arc.{arc_slice_items}
 use Rattle.doc_json.proofs.BodyReads.{body_no_object, body_special, body_fraction, body_ok, is_object, is_body}
 use Rattle.doc_json.proofs.body.read_body.Goals as goal
 
@@ -15,7 +16,7 @@ returns-then-members_have_fraction c =
 
 pub from_text-requires : goal.from_text-requires
 from_text-requires c =
-    is_body c.in-Ok.text.items _ _ (is_object _ _ (sym c.in-Some.ensures)) (sym c.has_special.ensures ∙ c.if-has_special.false)
+    is_body (arc_slice_items c.in-Ok.text) _ _ (is_object _ _ (sym c.in-Some.ensures)) (sym c.has_special.ensures ∙ c.if-has_special.false)
     (sym c.members_have_fraction.ensures ∙ c.if-members_have_fraction.false) c.in-Ok.ensures.written
 
 pub returns-in-Ok : goal.returns-in-Ok
