@@ -6,3 +6,4 @@ pub mod Document
 pub mod Revisions
 pub mod DocRead
 pub mod DocText
+pub mod IdText

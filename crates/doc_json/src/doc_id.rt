@@ -10,10 +10,47 @@ ghost use Rattle.std.proofs.lemmas.Cmp.{nat_list_eq_equiv};
 ghost use Rattle.doc_json.specs.DocId.{doc_id_read, is_special, is_design};
 
 use crate::fault::DocFault;
+use arrayvec::ArrayString;
 use std::alloc::Global;
 use std::cmp::Ordering;
 use std::hash::{Hash, Hasher};
 use std::marker::Model;
+
+/// The text of an id: in place where it has at most 32 bytes, so that it takes no memory of its own.
+#[derive(Debug, Drop)]
+enum IdText {
+    Near(ArrayString<32>),
+    Far(String),
+}
+
+impl IdText {
+    ghost use Rattle.std.specs.Prelude.{◌≡◌, IfOk, IfErr};
+    ghost use Rattle.doc_json.specs.IdText.{text_of};
+
+    /// The text, kept. The only error is `Memory`.
+    fn keep(alloc: Global, text: &str) -> Result<IdText, DocFault>
+        ensures kept { IfOk result (λ t. text_of t ≡ text.now) }
+        ensures err { IfErr result (λ e. e ≡ DocFault.Memory) }
+    {
+        if let Ok(near) = ArrayString::from(text) {
+            return Ok(IdText::Near(near));
+        }
+        match String::from_str(alloc, text) {
+            Ok(far) => Ok(IdText::Far(far)),
+            Err(_) => Err(DocFault::Memory),
+        }
+    }
+
+    /// The text.
+    fn as_str(&self) -> &str
+        ensures { result.now ≡ text_of self.now }
+    {
+        match self {
+            IdText::Near(near) => near.as_str(),
+            IdText::Far(far) => far.as_str(),
+        }
+    }
+}
 
 /// The id of a document: a text that is not empty, and that begins with `_` only where it is `_design/`
 /// and at least one character more.
@@ -21,19 +58,20 @@ use std::marker::Model;
 /// Ids are ordered as the bytes of their texts are.
 #[derive(Debug, Drop)]
 pub struct DocId {
-    text: String,
+    text: IdText,
 }
 
 impl Model for DocId {
-    ghost use Rattle.std.specs.Prelude.{◌≡◌, List, ℕ, Ok, string_bytes};
+    ghost use Rattle.std.specs.Prelude.{◌≡◌, List, ℕ, Ok};
 
     ghost Value = { List ℕ };
 
     ghost use Rattle.doc_json.specs.DocId.{doc_id_read};
+    ghost use Rattle.doc_json.specs.IdText.{text_of};
 
-    ghost view = { λ a. string_bytes a.text };
+    ghost view = { λ a. text_of a.text };
 
-    ghost invariant = { λ a. doc_id_read (string_bytes a.text) ≡ Ok (string_bytes a.text) };
+    ghost invariant = { λ a. doc_id_read (text_of a.text) ≡ Ok (text_of a.text) };
 }
 
 impl DocId {
@@ -60,10 +98,8 @@ impl DocId {
         ensures id { IfOk result (λ a. a ≡ text.now) }
         ensures err { IfErr result (λ e. e ≡ DocFault.Memory) }
     {
-        match String::from_str(alloc, text) {
-            Ok(text) => Ok(DocId { text }),
-            Err(_) => Err(DocFault::Memory),
-        }
+        let text = IdText::keep(alloc, text)?;
+        Ok(DocId { text })
     }
 
     /// The text.
@@ -79,10 +115,8 @@ impl DocId {
         ensures copied { IfOk result (λ a. a ≡ self.now) }
         ensures err { IfErr result (λ e. e ≡ DocFault.Memory) }
     {
-        match String::from_str(alloc, self.text()) {
-            Ok(text) => Ok(DocId { text }),
-            Err(_) => Err(DocFault::Memory),
-        }
+        let text = IdText::keep(alloc, self.text())?;
+        Ok(DocId { text })
     }
 }
 

@@ -1,5 +1,5 @@
 //! Writing documents.
-ghost use Rattle.std.specs.Prelude.{◌≡◌, ◌++◌, Ok, Some, OnOk, IfOk, IfErr};
+ghost use Rattle.std.specs.Prelude.{◌≡◌, ◌++◌, Ok, Some, OnOk, IfOk, IfErr, decimal};
 ghost use Rattle.serde_json.specs.Data.{Data, string};
 ghost use Rattle.serde_json.specs.Read.{read};
 ghost use Rattle.serde_json.specs.Written.{compact_text};
@@ -9,8 +9,9 @@ ghost use Rattle.doc_json.specs.DocText.{sig_texts, deleted_text, rest_text};
 
 use crate::doc::Doc;
 use crate::fault::DocFault;
+use itoa::Buffer;
+use json::Writer;
 use rev_core::{Ancestry, Rev};
-use serde_json::Value;
 use std::alloc::{AllocError, Global};
 
 /// The text of a document, in compact form with its members in the order `_id`, `_rev`, `_revisions`,
@@ -29,60 +30,67 @@ pub fn write_doc(alloc: Global, doc: &Doc) -> Result<Vec<u8>, DocFault>
     }
 }
 
-/// The text of a document.
+/// The text of a document, in one buffer.
 fn written(alloc: Global, doc: &Doc) -> Result<Vec<u8>, AllocError>
     ensures { IfOk result (λ v. v.items ≡ doc_text doc.now) }
 {
-    let mut out = Vec::with_capacity(alloc, 128)?;
-    out.extend_from_slice(b"{\"_id\":")?;
-    push_json(alloc, &mut out, doc.id().text())?;
-    push_revs(alloc, &mut out, doc.ancestry())?;
+    let body = doc.body().text();
+    let mut head = Vec::with_capacity(alloc, body.len().saturating_add(256))?;
+    head.extend_from_slice(b"{\"_id\":")?;
+    let mut out = with_json(head, doc.id().text())?;
+    push_revs(&mut out, doc.ancestry())?;
     out.extend_from_slice(deleted_text(doc.deleted()))?;
-    push_rest(&mut out, doc.body().text())?;
+    push_rest(&mut out, body)?;
     Ok(out)
 }
 
+/// A text as JSON, behind what the buffer holds.
+fn with_json(out: Vec<u8>, text: &str) -> Result<Vec<u8>, AllocError>
+    ensures { IfOk result (λ v. v.items ≡ out.items ++ compact_text (string text.now)) }
+{
+    let mut writer = Writer::new(out);
+    writer.string(text)?;
+    Ok(writer.into_inner())
+}
+
 /// `_rev` and `_revisions`, each behind a comma.
-fn push_revs(alloc: Global, out: &mut Vec<u8>, ancestry: &Ancestry) -> Result<(), AllocError>
+fn push_revs(out: &mut Vec<u8>, ancestry: &Ancestry) -> Result<(), AllocError>
     ensures { OnOk result (out.new.items ≡ out.old.items ++ revs_text ancestry.now) }
 {
     out.extend_from_slice(b",\"_rev\":\"")?;
-    push_head(alloc, out, ancestry)?;
+    push_head(out, ancestry)?;
     out.extend_from_slice(b"\",\"_revisions\":{\"start\":")?;
-    push_start(alloc, out, ancestry)?;
+    push_start(out, ancestry)?;
     out.extend_from_slice(b",\"ids\":[")?;
     push_sigs(out, ancestry.revs())?;
     out.extend_from_slice(b"]}")?;
     Ok(())
 }
 
-/// A text as JSON.
-fn push_json(alloc: Global, out: &mut Vec<u8>, text: &str) -> Result<(), AllocError>
-    ensures { OnOk result (out.new.items ≡ out.old.items ++ compact_text (string text.now)) }
-{
-    let text = Value::try_from_str(alloc, text)?.to_vec(alloc)?;
-    out.extend_from_slice(&text)?;
-    Ok(())
-}
-
 /// The newest revision.
-fn push_head(alloc: Global, out: &mut Vec<u8>, ancestry: &Ancestry) -> Result<(), AllocError>
+fn push_head(out: &mut Vec<u8>, ancestry: &Ancestry) -> Result<(), AllocError>
     ensures { OnOk result (out.new.items ≡ out.old.items ++ head_text ancestry.now) }
 {
-    let Ok(text) = ancestry.head().write(alloc) else {
-        return Err(AllocError);
-    };
-    out.extend_from_slice(&text)?;
+    let head = ancestry.head();
+    push_number(out, head.generation())?;
+    out.push(b'-')?;
+    out.extend_from_slice(head.sig().bytes())?;
     Ok(())
 }
 
 /// The newest revision's generation.
-fn push_start(alloc: Global, out: &mut Vec<u8>, ancestry: &Ancestry) -> Result<(), AllocError>
+fn push_start(out: &mut Vec<u8>, ancestry: &Ancestry) -> Result<(), AllocError>
     ensures { OnOk result (out.new.items ≡ out.old.items ++ start_text ancestry.now) }
 {
-    let start = ancestry.head().generation();
-    let text = format!(in alloc; "{start}")?;
-    out.extend_from_slice(text.as_bytes())?;
+    push_number(out, ancestry.head().generation())
+}
+
+/// A number in decimal.
+fn push_number(out: &mut Vec<u8>, number: u32) -> Result<(), AllocError>
+    ensures { OnOk result (out.new.items ≡ out.old.items ++ decimal number) }
+{
+    let mut buffer = Buffer::new();
+    out.extend_from_slice(buffer.format(number).as_bytes())?;
     Ok(())
 }
 
