@@ -42,15 +42,25 @@ impl Database {
         ensures parcel { IfOk result (λ p. p ≡ open_revs self.now asked.now) }
         ensures err { IfErr result (λ e. e ≡ BaseFault.Memory) }
     {
+        let again = asked.copy(alloc)?;
+        self.open_asked(alloc, again)
+    }
+
+    /// The same as `open_revs`, for an asked list that goes into the parcel.
+    pub fn open_asked(&self, alloc: Global, asked: Asked) -> Result<Parcel, BaseFault>
+        ensures parcel { IfOk result (λ p. p ≡ open_revs self.now asked) }
+        ensures err { IfErr result (λ e. e ≡ BaseFault.Memory) }
+    {
         // The reading tells the proof that the database is lawful.
         let _seq = self.update_seq();
-        let mut docs = Vec::new(alloc);
+        let Ok(mut docs) = Vec::with_capacity(alloc, asked.docs().len()) else {
+            return Err(BaseFault::Memory);
+        };
         let mut gone = Vec::new(alloc);
         for wanted in asked.docs() {
             self.open(alloc, wanted, &mut docs)?;
             self.miss(alloc, wanted, &mut gone)?;
         }
-        let asked = asked.copy(alloc)?;
         Ok(Parcel::new(asked, docs, gone))
     }
 

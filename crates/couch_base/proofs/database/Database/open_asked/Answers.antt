@@ -2,7 +2,7 @@ use Rattle.std.proofs.Common.{◌≡◌, ◌++◌, ◌+◌, drop, refl, subst, s
 use Rattle.couch_base.specs.Messages.{IsParcel, fetched, gone_of, open_revs}
 use Rattle.couch_base.specs.MessageLaws.{IsParcel-open_revs}
 use Rattle.couch_base.proofs.Exchanging.{fetched_next, gone_next, end_of}
-use Rattle.couch_base.proofs.database.Database.open_revs.Goals as goal
+use Rattle.couch_base.proofs.database.Database.open_asked.Goals as goal
 
 pub loop-wanted-preserved : goal.loop-wanted-preserved
 loop-wanted-preserved c =
@@ -26,6 +26,6 @@ new-requires c =
     let i = c.loop-wanted.wanted-index in
     let docs = end_of (fetched ds) refl c.loop-wanted.docs.items (fetched ds ws.result.now) ws.result.now i (omega arith) c.loop-wanted.invariant.docs ∙ ap (fetched ds) ws.ensures.value in
     let gone = end_of (gone_of ds) refl c.loop-wanted.gone.items (gone_of ds ws.result.now) ws.result.now i (omega arith) c.loop-wanted.invariant.gone ∙ ap (gone_of ds) ws.ensures.value in
-    let same : record { asked = c.in_ok-asked.asked; docs = c.loop-wanted.docs.items; gone = c.loop-wanted.gone.items } ≡ open_revs c.args.self.now c.args.asked.now =
-    λ j. record { asked = c.in_ok-asked.ensures.copied j; docs = docs j; gone = gone j } in
-    subst IsParcel (sym same) (IsParcel-open_revs c.args.self.now c.args.asked.now c.update_seq-seq.ensures.law c.docs-wanted-items.ensures.asked)
+    let same : record { asked = c.args.asked; docs = c.loop-wanted.docs.items; gone = c.loop-wanted.gone.items } ≡ open_revs c.args.self.now c.args.asked =
+    λ j. record { asked = c.args.asked; docs = docs j; gone = gone j } in
+    subst IsParcel (sym same) (IsParcel-open_revs c.args.self.now c.args.asked c.update_seq-seq.ensures.law c.docs-wanted-items.ensures.asked)

@@ -1,6 +1,6 @@
 use Rattle.std.proofs.Common.{◌≡◌, ◌++◌, drop}
 use Rattle.couch_base.specs.Messages.{fetched, gone_of}
-use Rattle.couch_base.proofs.database.Database.open_revs.Given as goal
+use Rattle.couch_base.proofs.database.Database.open_asked.Given as goal
 
 -- what is fetched and gone so far, with that of the other documents, is the whole
 abbrev pub invariant-loop-wanted : goal.invariant-loop-wanted
