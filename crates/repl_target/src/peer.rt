@@ -192,6 +192,14 @@ impl<F: WriteFilter> Peer<F> {
         self.db.open_revs(alloc, asked)
     }
 
+    /// The same as `open_revs`, for an asked list that goes into the parcel.
+    pub fn open_asked(&self, alloc: Global, asked: Asked) -> Result<Parcel, BaseFault>
+        ensures parcel { IfOk result (λ p. p ≡ open_revs self.now.1.db asked) }
+        ensures err { IfErr result (λ e. e ≡ BaseFault.Memory) }
+    {
+        self.db.open_asked(alloc, asked)
+    }
+
     /// Whether a revision is in its document's tree, or in the ancestry of a document that a session refused.
     pub fn covered(&self, id: &DocId, rev: Rev) -> bool
         ensures { result ≡ covers self.now.1 id.now rev }

@@ -211,7 +211,7 @@ fn carry_window<F: WriteFilter, G: WriteFilter>(
     let Ok(asked) = target.revs_diff(alloc, &window) else {
         return Err(TargetFault::Memory);
     };
-    let Ok(parcel) = source.open_revs(alloc, &asked) else {
+    let Ok(parcel) = source.open_asked(alloc, asked) else {
         return Err(TargetFault::Memory);
     };
     let hi = window.hi();
