@@ -91,8 +91,10 @@ pub(crate) fn has_unknown(members: &Map<String, Value>) -> bool
 fn is_unknown(name: &str) -> bool
     ensures { result ≡ is_unknown name.now }
 {
-    let known = is_special_name(name);
-    is_special(name) && !known
+    if !is_special(name) {
+        return false;
+    }
+    !is_special_name(name)
 }
 
 /// Whether a name is one of those that a document may have.

@@ -108,8 +108,11 @@ impl PartialEq for Rev {
     ghost laws = { Cmp.partial_equiv_from_equiv (eq_by_cmp_equiv rev_cmp_total) };
 
     fn eq(&self, other: &Rev) -> bool {
-        let same_sig = self.sig == other.sig;
-        self.generation == other.generation && same_sig
+        // Most revisions that are compared differ in the generation.
+        if self.generation != other.generation {
+            return false;
+        }
+        self.sig == other.sig
     }
 }
 
