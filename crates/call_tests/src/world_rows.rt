@@ -144,42 +144,21 @@ static WHOLE: Acts = &[
 
 static CRASH: Acts = &[Act::Crash];
 
-/// A session on what both logs agree about, in one window up to the goal.
-static FROM_0: Acts = &[
-    Act::Begin(S2, 0, 7),
-    Act::Page(0, 7, 500),
+/// The beginnings of a session on what both logs agree about, each with one window up to the goal; at the goal there is none.
+static FROM_0: Acts = &[Act::Begin(S2, 0, 7), Act::Page(0, 7, 500)];
+
+static FROM_2: Acts = &[Act::BeginOn(S2, S1, 2, 7), Act::Page(2, 7, 500)];
+
+static FROM_5: Acts = &[Act::BeginOn(S2, S1, 5, 7), Act::Page(5, 7, 500)];
+
+static FROM_7: Acts = &[Act::BeginOn(S2, S1, 7, 7)];
+
+/// What carries that window, and ends the session. Without one, the steps up to the conclusion change nothing.
+static CLOSED: Acts = &[
     Act::Append(S2, 0),
     Act::Diff(0),
     Act::Fetch(0),
     Act::Settle(S2, 0),
-    Act::Conclude(S2),
-    Act::PutEntry(0),
-];
-
-static FROM_2: Acts = &[
-    Act::BeginOn(S2, S1, 2, 7),
-    Act::Page(2, 7, 500),
-    Act::Append(S2, 0),
-    Act::Diff(0),
-    Act::Fetch(0),
-    Act::Settle(S2, 0),
-    Act::Conclude(S2),
-    Act::PutEntry(0),
-];
-
-static FROM_5: Acts = &[
-    Act::BeginOn(S2, S1, 5, 7),
-    Act::Page(5, 7, 500),
-    Act::Append(S2, 0),
-    Act::Diff(0),
-    Act::Fetch(0),
-    Act::Settle(S2, 0),
-    Act::Conclude(S2),
-    Act::PutEntry(0),
-];
-
-static FROM_7: Acts = &[
-    Act::BeginOn(S2, S1, 7, 7),
     Act::Conclude(S2),
     Act::PutEntry(0),
 ];
@@ -204,8 +183,8 @@ fn first_steps(rt: &impl Abort, steps: usize) -> Acts {
     }
 }
 
-/// The session that carries the rest, from the sequence about which both logs agree.
-fn closing(from: u64) -> Acts {
+/// The beginning of the session that carries the rest, from the sequence about which both logs agree.
+fn beginning(from: u64) -> Acts {
     match from {
         0 => FROM_0,
         2 => FROM_2,
@@ -222,7 +201,7 @@ fn cut(rt: &impl Abort, alloc: Global, first: usize, last: usize, told: Told, fr
         expect(
             rt,
             alloc,
-            &[SIX, first_steps(rt, steps), CRASH, closing(from)],
+            &[SIX, first_steps(rt, steps), CRASH, beginning(from), CLOSED],
             CARRIED_ALL,
         );
     }
