@@ -1,10 +1,11 @@
-//! Tests of scripts: the worked rows and the tours as tables of scripts with what they print, broken lines, devices that fail, and
-//! the engine by itself.
+//! Tests of scripts: the worked rows and the tours as tables of scripts with what they print, broken lines, devices that fail,
+//! large and hostile lines, and the engine by itself.
 #![tactic(auto)]
 
 #[cfg(test)]
 mod engine_tests;
 #[cfg(test)]
+mod large_tests;
 mod pool_tests;
 #[cfg(test)]
 mod replication_tests;
