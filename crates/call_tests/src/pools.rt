@@ -176,6 +176,7 @@ impl Bench {
             source: from,
             target: into,
             fetched,
+            seats: _,
             outcome,
         } = ran;
         self.give(rt, source, from);

@@ -171,6 +171,7 @@ fn taken_back(
         source: from,
         target: into,
         fetched: _,
+        seats: _,
         outcome,
     } = ran;
     *source = from;

@@ -26,6 +26,7 @@ fn taken_back(
         source: from,
         target: into,
         fetched: _,
+        seats: _,
         outcome,
     } = ran;
     *source = from;

@@ -1,15 +1,18 @@
 -- The desk keeps what it keeps, by each call.
-use Rattle.std.proofs.Common.{◌≡◌, ℕ, ◌+◌, Bool, Option, Some, Result, Ok, Err, OnOk, OnErr, length, refl, sym, ap, ◌∙◌, subst, arith}
+use Rattle.std.proofs.Common.{◌≡◌, ℕ, ◌+◌, ◌≤◌, Bool, List, [], ◌∷◌, Option, Some, Result, Ok, Err, OnOk, OnErr, length, refl, sym, ap, ◌∙◌, subst, arith}
+use Rattle.std.proofs.lemmas.Bool.{cond_both}
 use Rattle.std.proofs.lemmas.Option.{same_Some}
 use Rattle.rev_tree.specs.declared.origin.SessionId.{SessionId}
 use Rattle.doc_json.specs.Document.{Document}
 use Rattle.couch_base.specs.Database.{DatabaseValue}
+use Rattle.couch_base.specs.Feed.{WindowValue}
 use Rattle.couch_base.specs.Messages.{ParcelValue}
 use Rattle.repl_target.specs.declared.fault.Settled.{Settled}
 use Rattle.repl_target.specs.declared.fault.TargetFault.{TargetFault}
-use Rattle.repl_target.specs.Peer.{PeerValue}
+use Rattle.repl_target.specs.declared.fault.TargetFault.TheVariants as refusals
+use Rattle.repl_target.specs.Peer.{PeerValue, SessionValue}
 use Rattle.repl_target.specs.Law.{Lawful}
-use Rattle.repl_target.specs.Settling.{SettleGives}
+use Rattle.repl_target.specs.Settling.{Settling, settled_before, settle_one, stops_at, settle_check, SettlesAt, Settles, SettleGives}
 use Rattle.repl_target.specs.Calls.{Call, IsFrom, IsGrown, after_call}
 use Rattle.repl_target.proofs.Replicated.{grown-same, grown-later, grown-one, settled_grown}
 use Rattle.repl_pool.specs.Grown.{IsAnswerOf, GrownPeer, DeskKeeps}
@@ -58,3 +61,30 @@ module _ {F : Type 0} (refuses : F → Document → Bool) (source : DatabaseValu
   from_given given run session total now h =
       let same = same_Some (given, run) (h.0, session) h.1 in
       (subst (λ (x : (F × PeerValue) × SessionId). GrownPeer refuses source x.0 now) (sym same) h.2, subst (λ (x : (F × PeerValue) × SessionId). read_in now.1.sessions x.1 ≡ total) (sym same) h.3)
+
+-- ---- no more documents are taken than a parcel has
+
+before_most : (refuses : Document → Bool) (w : WindowValue) (z : Settling) (docs : List Document) → settled_before refuses w z docs ≤ length docs
+before_most refuses w z [] = omega arith
+before_most refuses w z (d ∷ docs) =
+    let rest : settled_before refuses w (settle_one refuses w z d) docs ≤ length docs = before_most refuses w (settle_one refuses w z d) docs in
+    cond_both (stops_at refuses z d) 0 (settled_before refuses w (settle_one refuses w z d) docs + 1) (λ n. n ≤ length (d ∷ docs))
+    (λ _. omega arith)
+    (λ _. omega (arith, rest))
+
+module _ (refuses : Document → Bool) (p : PeerValue) (id : SessionId) (parcel : ParcelValue) (q : PeerValue) where
+  at_most : (s : SessionValue) (w : WindowValue) (result : Result Settled TargetFault) → SettlesAt refuses p parcel s w result q → taken result (length parcel.docs) ≤ length parcel.docs
+  at_most s w (Ok settled) h = omega arith
+  at_most s w (Err (refusals.Uncovered seq uncovered rev)) h = omega arith
+  at_most s w (Err (refusals.Stopped n rest cause)) h = omega (arith, h.0.within, before_most refuses w (record { db = p.db; session = s }) parcel.docs)
+  at_most s w (Err fault) h = absurd h
+
+  pub taken_most : (result : Result Settled TargetFault) → Lawful refuses p → SettleGives refuses p id parcel result q → taken result (length parcel.docs) ≤ length parcel.docs
+  taken_most result law gives = go (settle_check p id parcel) gives
+    where
+      go : (r : Result (SessionValue × WindowValue) TargetFault) → Settles refuses p parcel r result q → taken result (length parcel.docs) ≤ length parcel.docs
+      go (Err fault) h =
+          let reads = settle_reads refuses p id law parcel result q gives in
+          let same : read_in q.sessions id ≡ read_in p.sessions id = ap (λ (x : PeerValue). read_in x.sessions id) h.1 in
+          omega (arith, reads, same)
+      go (Ok at) h = at_most at.0 at.1 result h

@@ -1,28 +1,42 @@
 -- A run halts only where the gate allows it.
 use Rattle.std.proofs.Common.{◌≡◌, ◌⊎◌, ⊎_elim, Option, None, Some, IfSome, sym, subst, inl, inr}
-use Rattle.repl_pool.specs.Faults.{Allows, fault_of, IsOneFault, IsLate}
+use Rattle.repl_pool.specs.Faults.{AllowsOn, Allows, fault_of, IsOneFault, IsLateOn}
 use Rattle.repl_pool.specs.Gathered.{IsOneOf}
 use Rattle.repl_pool.specs.declared.gate.Place.{Place}
 use Rattle.repl_pool.specs.declared.fault.Halt.{Halt}
 use Rattle.repl_pool.specs.declared.fault.Halt.TheVariants as halts
 use Rattle.repl_pool.specs.declared.fault.PoolFault.{PoolFault}
 
-allowed_late : (P : Place → Type 0) (h : Halt) → Allows P h → IsLate P (fault_of h)
-allowed_late P (halts.Stopped place) a = a
-allowed_late P (halts.Refused fault) a = tt
-allowed_late P halts.CountFull a = tt
-allowed_late P halts.Memory a = tt
-allowed_late P halts.Lost a = tt
+allowed_late : (B : Type 0) (P : Place → Type 0) (h : Halt) → AllowsOn B P h → IsLateOn B P (fault_of h)
+allowed_late B P (halts.Stopped place) a = a
+allowed_late B P (halts.Refused fault) a = tt
+allowed_late B P halts.CountFull a = tt
+allowed_late B P halts.BoardFull a = a
+allowed_late B P halts.Memory a = tt
+allowed_late B P halts.Lost a = tt
 
-pub merged_late : (P : Place → Type 0) (o : Option PoolFault) (a b c : Option Halt) → IfSome o (IsOneFault a b c) → IfSome a (Allows P) → IfSome b (Allows P) → IfSome c (Allows P) → IfSome o (IsLate P)
-merged_late P None a b c told ia ib ic = tt
-merged_late P (Some fault) a b c told ia ib ic =
-    subst (IsLate P) (sym told.1) (allowed_late P told.0
+-- what may halt without a board may halt beside one
+allowed_on : (B : Type 0) (P : Place → Type 0) (h : Halt) → Allows P h → AllowsOn B P h
+allowed_on B P (halts.Stopped place) a = a
+allowed_on B P (halts.Refused fault) a = tt
+allowed_on B P halts.CountFull a = tt
+allowed_on B P halts.BoardFull a = absurd a
+allowed_on B P halts.Memory a = tt
+allowed_on B P halts.Lost a = tt
+
+some_on : (B : Type 0) (P : Place → Type 0) (o : Option Halt) → IfSome o (Allows P) → IfSome o (AllowsOn B P)
+some_on B P None a = tt
+some_on B P (Some h) a = allowed_on B P h a
+
+pub merged_late : (B : Type 0) (P : Place → Type 0) (o : Option PoolFault) (a b c : Option Halt) → IfSome o (IsOneFault a b c) → IfSome a (Allows P) → IfSome b (Allows P) → IfSome c (AllowsOn B P) → IfSome o (IsLateOn B P)
+merged_late B P None a b c told ia ib ic = tt
+merged_late B P (Some fault) a b c told ia ib ic =
+    subst (IsLateOn B P) (sym told.1) (allowed_late B P told.0
     (elim told.2 [
-      | inl e ↦ subst (λ (x : Option Halt). IfSome x (Allows P)) e ia
+      | inl e ↦ subst (λ (x : Option Halt). IfSome x (AllowsOn B P)) e (some_on B P a ia)
       | inr r ↦ elim r [
-        | inl e ↦ subst (λ (x : Option Halt). IfSome x (Allows P)) e ib
-        | inr e ↦ subst (λ (x : Option Halt). IfSome x (Allows P)) e ic
+        | inl e ↦ subst (λ (x : Option Halt). IfSome x (AllowsOn B P)) e (some_on B P b ib)
+        | inr e ↦ subst (λ (x : Option Halt). IfSome x (AllowsOn B P)) e ic
       ]
     ]))
 

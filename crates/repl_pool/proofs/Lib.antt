@@ -3,7 +3,10 @@ pub mod ParcelRule
 pub mod WindowRule
 pub mod Growing
 pub mod Steps
+pub mod Boarding
 pub mod Ending
 pub mod Halting
 pub mod Closing
+pub mod Showing
+pub mod NewSeats
 pub mod RunLaws

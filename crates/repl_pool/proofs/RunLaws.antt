@@ -21,8 +21,11 @@ use Rattle.repl_target.proofs.Keeping.{IsLaterPeer-same}
 use Rattle.repl_target.proofs.Replicated.{grown-same}
 use Rattle.repl_target.proofs.Taken.{all_known}
 use Rattle.repl_pool.specs.Grown.{GrownPeer, DeskKeeps}
-use Rattle.repl_pool.specs.Runs.{IsConcluded, unfinished_at, IsRecorded, stopped, fewer, refused, PutsEntry, Walks, clean, hole, no_memory, Ends, concluded, recorded, EndsRun, EndsWell, EarlyOrLate, Runs}
-use Rattle.repl_pool.specs.Faults.{early_answer, IsLate}
+use Rattle.repl_pool.specs.Runs.{IsConcluded, unfinished_at, IsRecorded, stopped, fewer, refused, PutsEntry, Walks, clean, hole, no_memory, Ends, concluded, recorded, EndsRun, EndsWell, EarlyOrLate, RunsOn}
+use Rattle.repl_pool.specs.Faults.{early_answer, IsLateOn}
+use Rattle.progress_board.specs.declared.board.Board.{Board}
+use Rattle.progress_board.specs.declared.seat.BoardSeat.{BoardSeat}
+use Rattle.repl_pool.specs.Boards.{HaveShown}
 use Rattle.repl_pool.specs.declared.gate.Place.{Place}
 use Rattle.repl_pool.specs.declared.fault.PoolFault.{PoolFault}
 use Rattle.repl_pool.specs.declared.fault.PoolFault.TheVariants as faults
@@ -38,17 +41,17 @@ module _ {F : Type 0} (refuses : F → Document → Bool) (db source : DatabaseV
 
 -- ---- how a run ends
 
-unfinished_late : (P : Place → Type 0) (r : Result ℕ TargetFault) → IsLate P (unfinished_at r)
-unfinished_late P (Ok n) = tt
-unfinished_late P (Err why) = tt
+unfinished_late : (B : Type 0) (P : Place → Type 0) (r : Result ℕ TargetFault) → IsLateOn B P (unfinished_at r)
+unfinished_late B P (Ok n) = tt
+unfinished_late B P (Err why) = tt
 
 -- where the session is recorded, a halt is told where the gate allows it
-recorded_late : (P : Place → Type 0) (plan : Plan) (fault : Option PoolFault) (complete : Bool) (before after : PeerValue) (why : PoolFault) → IfSome fault (IsLate P) → IsRecorded plan fault complete before after why → IsLate P why
-recorded_late P plan fault complete before after why late (stopped e same) = subst (λ (x : Option PoolFault). IfSome x (IsLate P)) e late
-recorded_late P plan fault complete before after why late (fewer none less same) = unfinished_late P (record_answer before plan.session)
-recorded_late P plan fault complete before after why late (refused none whole answer same) = tt
+recorded_late : (B : Type 0) (P : Place → Type 0) (plan : Plan) (fault : Option PoolFault) (complete : Bool) (before after : PeerValue) (why : PoolFault) → IfSome fault (IsLateOn B P) → IsRecorded plan fault complete before after why → IsLateOn B P why
+recorded_late B P plan fault complete before after why late (stopped e same) = subst (λ (x : Option PoolFault). IfSome x (IsLateOn B P)) e late
+recorded_late B P plan fault complete before after why late (fewer none less same) = unfinished_late B P (record_answer before plan.session)
+recorded_late B P plan fault complete before after why late (refused none whole answer same) = tt
 
-module _ {F : Type 0} (refuses : F → Document → Bool) (may_stop : Place → Type 0) (source target : PeerValue) (begun : F × PeerValue) (plan : Plan) (start : ℕ) (counts : List ℕ) (source' now : PeerValue) (law : LawfulDatabase source.db) (l : Lawful (refuses begun.0) begun.1) (ok : begins_answer source target plan ≡ Ok tt) (is : begun.1 ≡ after_begins source target plan) (first : start ≡ start_between source target) where
+module _ {F : Type 0} (refuses : F → Document → Bool) (may_fill : Type 0) (may_stop : Place → Type 0) (source target : PeerValue) (begun : F × PeerValue) (plan : Plan) (start : ℕ) (counts : List ℕ) (source' now : PeerValue) (law : LawfulDatabase source.db) (l : Lawful (refuses begun.0) begun.1) (ok : begins_answer source target plan ≡ Ok tt) (is : begun.1 ≡ after_begins source target plan) (first : start ≡ start_between source target) where
   -- what a session says that concluded
   concluded_well : (fault : Option PoolFault) (complete : Bool) (before : PeerValue) (report : Report) → IsGrown (refuses begun.0) source.db begun.1 before → (fault ≡ None → complete ≡ true → read_in before.sessions plan.session ≡ sum counts)
       → IsConcluded plan fault complete before now report → EndsWell source target now plan (sum counts) report
@@ -68,31 +71,47 @@ module _ {F : Type 0} (refuses : F → Document → Bool) (may_stop : Place → 
   walk_well report outcome (hole found same) w = tt
   walk_well report outcome (no_memory put) w = tt
 
-  walk_late : (report : Report) (outcome : Result Report PoolFault) → Walks source now plan start report source' outcome → EndsWell source target now plan (sum counts) report → IfErr outcome (IsLate may_stop) × PutsEntry source now source' plan outcome
+  walk_late : (report : Report) (outcome : Result Report PoolFault) → Walks source now plan start report source' outcome → EndsWell source target now plan (sum counts) report → IfErr outcome (IsLateOn may_fill may_stop) × PutsEntry source now source' plan outcome
   walk_late report outcome (clean none put) w = (tt, put)
   walk_late report outcome (hole found same) w = absurd (no_hole report w _ found)
   walk_late report outcome (no_memory put) w = (tt, put)
 
-  pub run_well : (outcome : Result Report PoolFault) → EndsRun refuses may_stop plan start source begun counts source' now outcome → IfOk outcome (EndsWell source target now plan (sum counts))
+  pub run_well : (outcome : Result Report PoolFault) → EndsRun refuses may_fill may_stop plan start source begun counts source' now outcome → IfOk outcome (EndsWell source target now plan (sum counts))
   run_well outcome e = go outcome e.ends
     where
       go : (o : Result Report PoolFault) → Ends plan start e.fault e.complete source e.before source' now o → IfOk o (EndsWell source target now plan (sum counts))
       go o (concluded c w) = walk_well _ o w (concluded_well e.fault e.complete e.before _ e.grown e.read c)
       go o (recorded r put) = tt
 
-  pub run_late : (outcome : Result Report PoolFault) → EndsRun refuses may_stop plan start source begun counts source' now outcome → IfErr outcome (IsLate may_stop) × PutsEntry source now source' plan outcome
+  pub run_late : (outcome : Result Report PoolFault) → EndsRun refuses may_fill may_stop plan start source begun counts source' now outcome → IfErr outcome (IsLateOn may_fill may_stop) × PutsEntry source now source' plan outcome
   run_late outcome e = go outcome e.ends
     where
-      go : (o : Result Report PoolFault) → Ends plan start e.fault e.complete source e.before source' now o → IfErr o (IsLate may_stop) × PutsEntry source now source' plan o
+      go : (o : Result Report PoolFault) → Ends plan start e.fault e.complete source e.before source' now o → IfErr o (IsLateOn may_fill may_stop) × PutsEntry source now source' plan o
       go o (concluded c w) = walk_late _ o w (concluded_well e.fault e.complete e.before _ e.grown e.read c)
-      go o (recorded r put) = (recorded_late may_stop plan e.fault e.complete e.before now _ e.late r, put)
+      go o (recorded r put) = (recorded_late may_fill may_stop plan e.fault e.complete e.before now _ e.late r, put)
+
+ok_of : {A E : Type 0} (r : Result A E) (X : Type 0) → X → IfOk r (λ _. X)
+ok_of (Ok a) X x = x
+ok_of (Err e) X x = tt
+
+-- where it is Ok, nothing was stopped and all was got
+pub ends_free : (plan : Plan) (start : ℕ) (fault : Option PoolFault) (complete : Bool) (source before source' after : PeerValue) (outcome : Result Report PoolFault) (X : Type 0)
+    → Ends plan start fault complete source before source' after outcome → (fault ≡ None → complete ≡ true → X) → IfOk outcome (λ _. X)
+ends_free plan start fault complete source before source' after outcome X (concluded c w) f = ok_of outcome X (f c.free c.whole)
+ends_free plan start fault complete source before source' after outcome X (recorded r put) f = tt
+
+-- and what was shown is what the report tells
+pub shown_well : (board : Option Board) (given now : List BoardSeat) (source target target' : PeerValue) (plan : Plan) (n : ℕ) (outcome : Result Report PoolFault)
+    → IfOk outcome (λ _. HaveShown board n None given now) → IfOk outcome (EndsWell source target target' plan n) → IfOk outcome (λ report. HaveShown board report.read None given now)
+shown_well board given now source target target' plan n (Ok report) h w = subst (λ m. HaveShown board m None given now) w.sum h
+shown_well board given now source target target' plan n (Err why) h w = tt
 
 -- ---- what it says
 
 -- no worker was started
-pub no_workers : {F : Type 0} (refuses : F → Document → Bool) (may_stop : Place → Type 0) (plan : Plan) (start : ℕ) (source : PeerValue) (given : F × PeerValue) (counts : List ℕ) (source' after : PeerValue) (outcome : Result Report PoolFault)
-    → Ends plan start (Some faults.Memory) false source given.1 source' after outcome → EndsRun refuses may_stop plan start source given counts source' after outcome
-no_workers refuses may_stop plan start source given counts source' after outcome e = record {
+pub no_workers : {F : Type 0} (refuses : F → Document → Bool) (may_fill : Type 0) (may_stop : Place → Type 0) (plan : Plan) (start : ℕ) (source : PeerValue) (given : F × PeerValue) (counts : List ℕ) (source' after : PeerValue) (outcome : Result Report PoolFault)
+    → Ends plan start (Some faults.Memory) false source given.1 source' after outcome → EndsRun refuses may_fill may_stop plan start source given counts source' after outcome
+no_workers refuses may_fill may_stop plan start source given counts source' after outcome e = record {
   fault = Some faults.Memory;
   complete = false;
   before = given.1;
@@ -102,11 +121,11 @@ no_workers refuses may_stop plan start source given counts source' after outcome
   ends = e;
 }
 
-module _ {F : Type 0} (refuses : F → Document → Bool) (may_stop : Place → Type 0) (plan : Plan) (source target : F × PeerValue) where
+module _ {F : Type 0} (refuses : F → Document → Bool) (may_fill : Type 0) (may_stop : Place → Type 0) (plan : Plan) (source target : F × PeerValue) where
   -- refused early
-  pub runs_early : (fetched : List ℕ) (why : PoolFault) → early_answer source.1 target.1 plan ≡ Err why → fetched ≡ [] → Runs refuses may_stop plan source target source target fetched (Err why)
+  pub runs_early : (fetched : List ℕ) (why : PoolFault) → early_answer source.1 target.1 plan ≡ Err why → fetched ≡ [] → RunsOn refuses may_fill may_stop plan source target source target fetched (Err why)
   runs_early fetched why early none = record {
-    early = subst (λ r. EarlyOrLate may_stop r source target source target fetched (Err why)) (sym early) (refl, refl, refl, none);
+    early = subst (λ r. EarlyOrLate may_fill may_stop r source target source target fetched (Err why)) (sym early) (refl, refl, refl, none);
     filter = refl;
     log = refl;
     grown = grown_same refuses source.1.db target;
@@ -118,12 +137,12 @@ module _ {F : Type 0} (refuses : F → Document → Bool) (may_stop : Place → 
 
   -- the session isn't begun
   pub runs_refused : (fetched : List ℕ) (why : TargetFault) (target' : F × PeerValue) → early_answer source.1 target.1 plan ≡ Ok tt → target'.0 ≡ target.0 → target'.1 ≡ target.1
-      → Runs refuses may_stop plan source target source target' fetched (Err (faults.Refused why))
+      → RunsOn refuses may_fill may_stop plan source target source target' fetched (Err (faults.Refused why))
   runs_refused fetched why target' early filter peer =
       let same : target' ≡ target = λ i. (filter i, peer i) in
-      subst (λ t. Runs refuses may_stop plan source target source t fetched (Err (faults.Refused why))) (sym same)
+      subst (λ t. RunsOn refuses may_fill may_stop plan source target source t fetched (Err (faults.Refused why))) (sym same)
       (record {
-        early = subst (λ r. EarlyOrLate may_stop r source target source target fetched (Err (faults.Refused why))) (sym early) tt;
+        early = subst (λ r. EarlyOrLate may_fill may_stop r source target source target fetched (Err (faults.Refused why))) (sym early) tt;
         filter = refl;
         log = refl;
         grown = grown_same refuses source.1.db target;
@@ -136,20 +155,20 @@ module _ {F : Type 0} (refuses : F → Document → Bool) (may_stop : Place → 
   -- the workers were to be started
   pub runs_begun : (begun : F × PeerValue) (start : ℕ) (counts : List ℕ) (source' target' : F × PeerValue) (outcome : Result Report PoolFault) → early_answer source.1 target.1 plan ≡ Ok tt
       → LawfulDatabase source.1.db → Lawful (refuses target.0) target.1 → Lawful (refuses begun.0) begun.1 → begins_answer source.1 target.1 plan ≡ Ok tt → begun.0 ≡ target.0 → begun.1 ≡ after_begins source.1 target.1 plan → start ≡ start_between source.1 target.1
-      → source'.0 ≡ source.0 → source'.1 ≡ record source.1 { outgoing = source'.1.outgoing } → GrownPeer refuses source.1.db begun target' → EndsRun refuses may_stop plan start source.1 begun counts source'.1 target'.1 outcome
-      → Runs refuses may_stop plan source target source' target' counts outcome
+      → source'.0 ≡ source.0 → source'.1 ≡ record source.1 { outgoing = source'.1.outgoing } → GrownPeer refuses source.1.db begun target' → EndsRun refuses may_fill may_stop plan start source.1 begun counts source'.1 target'.1 outcome
+      → RunsOn refuses may_fill may_stop plan source target source' target' counts outcome
   runs_begun begun start counts source' target' outcome early law lawful lawful_begun ok same is first filter log more e =
       let grown = grown_then refuses source.1.db target begun target' (grown_begins refuses source.1.db source.1 target begun plan refl (start_small (refuses target.0) source.1 target.1 lawful) same is) more in
-      let late = run_late refuses may_stop source.1 target.1 begun plan start counts source'.1 target'.1 law lawful_begun ok is first outcome e in
+      let late = run_late refuses may_fill may_stop source.1 target.1 begun plan start counts source'.1 target'.1 law lawful_begun ok is first outcome e in
       record {
-        early = subst (λ r. EarlyOrLate may_stop r source target source' target' counts outcome) (sym early) late.0;
+        early = subst (λ r. EarlyOrLate may_fill may_stop r source target source' target' counts outcome) (sym early) late.0;
         filter = filter;
         log = log;
         grown = grown;
         later = peer_later refuses source.1 target target' law lawful grown;
         tied = peers_tied refuses source.1 target source'.1 target' law lawful grown (ap (λ (q : PeerValue). q.db) log);
         put = inr late.1;
-        well = run_well refuses may_stop source.1 target.1 begun plan start counts source'.1 target'.1 law lawful_begun ok is first outcome e;
+        well = run_well refuses may_fill may_stop source.1 target.1 begun plan start counts source'.1 target'.1 law lawful_begun ok is first outcome e;
       }
 
 -- ---- a plan that isn't refused early

@@ -17,15 +17,21 @@ early_answer source target plan =
     else (if is_batch plan.batch then (if source.db.uuid == target.db.uuid then Err faults.SamePeer else Ok tt)
     else Err faults.BadBatch))
 
--- a fault of a run that isn't refused so: a halt by the gate stands where the gate allows one, and a hole nowhere
+-- a fault of a run that isn't refused so: a halt by the gate stands where the gate allows one, a full board where one may be
+-- found, and a hole nowhere
+abbrev pub IsLateOn : Type 0 → (Place → Type 0) → PoolFault → Type 0
+IsLateOn may_fill may_stop faults.NoWorkers = ⊥
+IsLateOn may_fill may_stop faults.TooManyWorkers = ⊥
+IsLateOn may_fill may_stop faults.BadBatch = ⊥
+IsLateOn may_fill may_stop faults.SamePeer = ⊥
+IsLateOn may_fill may_stop (faults.Hole seq id rev) = ⊥
+IsLateOn may_fill may_stop (faults.Halted place) = may_stop place
+IsLateOn may_fill may_stop faults.BoardFull = may_fill
+IsLateOn may_fill may_stop fault = Unit {0}
+
+-- of a run without a board
 abbrev pub IsLate : (Place → Type 0) → PoolFault → Type 0
-IsLate may_stop faults.NoWorkers = ⊥
-IsLate may_stop faults.TooManyWorkers = ⊥
-IsLate may_stop faults.BadBatch = ⊥
-IsLate may_stop faults.SamePeer = ⊥
-IsLate may_stop (faults.Hole seq id rev) = ⊥
-IsLate may_stop (faults.Halted place) = may_stop place
-IsLate may_stop fault = Unit {0}
+IsLate may_stop fault = IsLateOn ⊥ may_stop fault
 
 -- ---- from the halts of workers
 
@@ -34,13 +40,19 @@ abbrev pub fault_of : Halt → PoolFault
 fault_of (halts.Stopped place) = faults.Halted place
 fault_of (halts.Refused fault) = faults.Refused fault
 fault_of halts.CountFull = faults.CountFull
+fault_of halts.BoardFull = faults.BoardFull
 fault_of halts.Memory = faults.Memory
 fault_of halts.Lost = faults.Memory
 
--- a halt that stands where the gate allows one
+-- a halt that stands where the gate allows one, or a full board where one may be found
+abbrev pub AllowsOn : Type 0 → (Place → Type 0) → Halt → Type 0
+AllowsOn may_fill may_stop (halts.Stopped place) = may_stop place
+AllowsOn may_fill may_stop halts.BoardFull = may_fill
+AllowsOn may_fill may_stop halt = Unit {0}
+
+-- of one that shows nothing
 abbrev pub Allows : (Place → Type 0) → Halt → Type 0
-Allows may_stop (halts.Stopped place) = may_stop place
-Allows may_stop halt = Unit {0}
+Allows may_stop halt = AllowsOn ⊥ may_stop halt
 
 -- the fault is that of one of three halts
 abbrev pub IsOneFault : Option Halt → Option Halt → Option Halt → PoolFault → Type 0

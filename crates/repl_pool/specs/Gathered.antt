@@ -1,7 +1,7 @@
 -- What is known once the workers have ended: docs/PROFILE.md, "The pool".
 use Rattle.std.specs.Prelude.{◌≡◌, ◌⊎◌, ℕ, length, sum, Option, None, Some, IfSome}
 use Rattle.crossbeam_channel.specs.Claims.{view}
-use Rattle.repl_pool.specs.Faults.{Allows}
+use Rattle.repl_pool.specs.Faults.{AllowsOn, Allows}
 use Rattle.repl_pool.specs.declared.gate.Place.{Place}
 use Rattle.repl_pool.specs.declared.threads.Ended.{Ended}
 use Rattle.repl_pool.specs.Workers.{amounts, names}
@@ -35,8 +35,8 @@ module _ {S L : Type 0} where
   Tells e =
       FetchedKnows (view e.windows) (view e.parcels) e.fetched × WrittenKnows (view e.parcels) e.all.amount e.written
 
-  -- each stop is where the gate allows one
-  abbrev pub StopsWhere : (Place → Type 0) → Ended S L → Type 0
-  StopsWhere may_stop e =
+  -- each stop is where the gate allows one, or a full board
+  abbrev pub StopsWhere : Type 0 → (Place → Type 0) → Ended S L → Type 0
+  StopsWhere may_fill may_stop e =
       IfSome e.read (Allows may_stop) × IfSome e.fetched.stopped (Allows may_stop)
-      × IfSome e.written.stopped (Allows may_stop)
+      × IfSome e.written.stopped (AllowsOn may_fill may_stop)

@@ -3,6 +3,7 @@ pub mod Parcels
 pub mod Windows
 pub mod Gates
 pub mod Faults
+pub mod Boards
 pub mod Grown
 pub mod Workers
 pub mod Gathered

@@ -17,7 +17,7 @@ use Rattle.repl_target.specs.declared.fault.Report.{Report}
 use Rattle.repl_target.specs.declared.fault.TargetFault.{TargetFault}
 use Rattle.repl_target.specs.declared.fault.TargetFault.TheVariants as refusals
 use Rattle.repl_target.specs.declared.replication.Plan.{Plan}
-use Rattle.repl_pool.specs.Faults.{early_answer, IsLate}
+use Rattle.repl_pool.specs.Faults.{early_answer, IsLateOn}
 use Rattle.repl_pool.specs.Grown.{GrownPeer}
 use Rattle.repl_pool.specs.declared.gate.Place.{Place}
 use Rattle.repl_pool.specs.declared.fault.PoolFault.{PoolFault}
@@ -80,22 +80,22 @@ pub data Ends (plan : Plan) (start : ℕ) (fault : Option PoolFault) (complete :
 
 -- with what is known of the workers: the target had grown from the given one, each halt stands where the gate allows it,
 -- and where nothing was stopped and all was got, the session had read what the fetchers fetched
-pub record EndsRun {F : Type 0} (refuses : F → Document → Bool) (may_stop : Place → Type 0) (plan : Plan) (start : ℕ) (source : PeerValue) (given : F × PeerValue) (counts : List ℕ) (source' after : PeerValue) (outcome : Result Report PoolFault) : Type 0 where
+pub record EndsRun {F : Type 0} (refuses : F → Document → Bool) (may_fill : Type 0) (may_stop : Place → Type 0) (plan : Plan) (start : ℕ) (source : PeerValue) (given : F × PeerValue) (counts : List ℕ) (source' after : PeerValue) (outcome : Result Report PoolFault) : Type 0 where
   pub fault : Option PoolFault
   pub complete : Bool
   pub before : PeerValue
   pub grown : IsGrown (refuses given.0) source.db given.1 before
-  pub late : IfSome fault (IsLate may_stop)
+  pub late : IfSome fault (IsLateOn may_fill may_stop)
   pub read : fault ≡ None → complete ≡ true → read_in before.sessions plan.session ≡ sum counts
   pub ends : Ends plan start fault complete source before source' after outcome
 
 -- ---- a run
 
 -- what is refused early leaves both peers as they were given, and nothing is fetched; else no such refusal is told
-abbrev pub EarlyOrLate : {F : Type 0} → (Place → Type 0) → Result (Unit {0}) PoolFault → F × PeerValue → F × PeerValue → F × PeerValue → F × PeerValue → List ℕ → Result Report PoolFault → Type 0
-EarlyOrLate may_stop (Err why) source target source' target' fetched outcome =
+abbrev pub EarlyOrLate : {F : Type 0} → Type 0 → (Place → Type 0) → Result (Unit {0}) PoolFault → F × PeerValue → F × PeerValue → F × PeerValue → F × PeerValue → List ℕ → Result Report PoolFault → Type 0
+EarlyOrLate may_fill may_stop (Err why) source target source' target' fetched outcome =
     (outcome ≡ Err why) × (source' ≡ source) × (target' ≡ target) × (fetched ≡ [])
-EarlyOrLate may_stop (Ok done) source target source' target' fetched outcome = IfErr outcome (IsLate may_stop)
+EarlyOrLate may_fill may_stop (Ok done) source target source' target' fetched outcome = IfErr outcome (IsLateOn may_fill may_stop)
 
 -- where the session isn't begun, both peers are the given ones; else its entry is put at the source
 abbrev pub LeavesOrPuts : {F : Type 0} → Plan → F × PeerValue → F × PeerValue → F × PeerValue → F × PeerValue → Result Report PoolFault → Type 0
@@ -110,10 +110,11 @@ pub record EndsWell (source target target' : PeerValue) (plan : Plan) (n : ℕ) 
   pub covered : CoversFrom source target' (start_between source target)
   pub sum : n ≡ report.read
 
--- What running the pool answers, and the two peers that it gives back.
-pub record Runs {F : Type 0} (refuses : F → Document → Bool) (may_stop : Place → Type 0) (plan : Plan) (source target source' target' : F × PeerValue) (fetched : List ℕ) (outcome : Result Report PoolFault) : Type 0 where
-  -- the four early refusals stand exactly where they are due; later a halt only where the gate allows it, and never a hole
-  pub early : EarlyOrLate may_stop (early_answer source.1 target.1 plan) source target source' target' fetched outcome
+-- What running the pool answers, and the two peers that it gives back; a board may be found full where there is one.
+pub record RunsOn {F : Type 0} (refuses : F → Document → Bool) (may_fill : Type 0) (may_stop : Place → Type 0) (plan : Plan) (source target source' target' : F × PeerValue) (fetched : List ℕ) (outcome : Result Report PoolFault) : Type 0 where
+  -- the four early refusals stand exactly where they are due; later a halt only where the gate allows it, a full board
+  -- only where one may be found, and never a hole
+  pub early : EarlyOrLate may_fill may_stop (early_answer source.1 target.1 plan) source target source' target' fetched outcome
   -- the source is the given one but for its log
   pub filter : source'.0 ≡ source.0
   pub log : source'.1 ≡ record source.1 { outgoing = source'.1.outgoing }
@@ -126,3 +127,8 @@ pub record Runs {F : Type 0} (refuses : F → Document → Bool) (may_stop : Pla
   pub put : LeavesOrPuts plan source target source' target' outcome
   -- what stands at Ok
   pub well : IfOk outcome (EndsWell source.1 target.1 target'.1 plan (sum fetched))
+
+-- without a board
+abbrev pub Runs : {F : Type 0} → (F → Document → Bool) → (Place → Type 0) → Plan → F × PeerValue → F × PeerValue → F × PeerValue → F × PeerValue → List ℕ → Result Report PoolFault → Type 0
+Runs refuses may_stop plan source target source' target' fetched outcome =
+    RunsOn refuses ⊥ may_stop plan source target source' target' fetched outcome

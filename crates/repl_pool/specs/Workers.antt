@@ -1,6 +1,9 @@
 -- What a worker knows between two messages: docs/PROFILE.md, "The pool".
-use Rattle.std.specs.Prelude.{◌≡◌, ◌+◌, ℕ, List, [], ◌∷◌, ◌++◌, map, length, None}
+use Rattle.std.specs.Prelude.{◌≡◌, ◌+◌, ℕ, List, [], ◌∷◌, ◌++◌, map, length, Option, None, option_to_list}
 use Rattle.crossbeam_channel.specs.Claims.{view}
+use Rattle.progress_board.specs.declared.board.Board.{Board}
+use Rattle.progress_board.specs.declared.seat.BoardSeat.{BoardSeat}
+use Rattle.repl_pool.specs.Boards.{AreBack, HaveShown}
 use Rattle.repl_pool.specs.Sums.{weigh}
 use Rattle.repl_pool.specs.Parcels.{hand}
 use Rattle.repl_pool.specs.Windows.{seen}
@@ -43,3 +46,9 @@ WriterKnows in_hand w =
     × (w.share.parts ≡ 1)
     × (w.stopped ≡ None → (w.got + length in_hand ≡ length (view w.parcels).got)
     × (w.share.amount + amounts in_hand ≡ amounts (view w.parcels).got))
+
+-- what a writer's seat shows: what its share has grown to since the seat was given
+abbrev pub WriterShows : {S L : Type 0} → Option Board → Option BoardSeat → Writer S L → Type 0
+WriterShows board given w =
+    AreBack board (option_to_list given) (option_to_list w.seat)
+    × HaveShown board w.share.amount w.stopped (option_to_list given) (option_to_list w.seat)

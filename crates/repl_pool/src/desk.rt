@@ -1,5 +1,5 @@
 //! What lies under the lock: the target, and a book of what its session has read.
-ghost use Rattle.std.specs.Prelude.{◌≡◌, ℕ, ◌+◌, ◌<◌, length, Some, IfSome, IfOk, IfErr, OnOk, OnErr};
+ghost use Rattle.std.specs.Prelude.{◌≡◌, ℕ, ◌+◌, ◌<◌, ◌≤◌, length, Some, IfSome, IfOk, IfErr, OnOk, OnErr};
 ghost use Rattle.rev_tree.specs.declared.origin.SessionId.{SessionId};
 ghost use Rattle.repl_pool.specs.Grown.{DeskKeeps};
 ghost use Rattle.couch_base.specs.Messages.{revs_diff};
@@ -45,7 +45,7 @@ impl<F: WriteFilter, S: Origin, J: Given<F>, L: Ledger> Model for Desk<F, S, J, 
 }
 
 /// How many documents of a parcel of so many a settling has taken.
-fn taken_of(answer: &Result<Settled, TargetFault>, documents: u64) -> u64
+pub fn taken_of(answer: &Result<Settled, TargetFault>, documents: u64) -> u64
     ensures { result ≡ taken answer.now documents }
 {
     match answer {
@@ -101,6 +101,7 @@ impl<F: WriteFilter, S: Origin, J: Given<F>, L: Ledger> Desk<F, S, J, L> {
         requires { 0 < share.old.parts }
         ensures parts { share.new.parts ≡ share.old.parts }
         ensures taken { share.new.amount ≡ share.old.amount + taken result (length fetched.docs) }
+        ensures most { taken result (length fetched.docs) ≤ length fetched.docs }
         ensures filter { self.new.0 ≡ self.old.0 }
         ensures settles { IfSome J.given (λ g. SettleGives (F.refuses self.old.0) self.old.1 g.1 fetched result self.new.1) }
     {

@@ -147,6 +147,7 @@ pub fn end<F: WriteFilter>(
 ) -> Ran<F>
     requires held { (s : SessionValue) × (session_in summed.target.1.sessions plan.now.session ≡ Some s) }
     ensures fetched { result.fetched ≡ summed.fetched }
+    ensures seats { result.seats ≡ summed.seats }
     ensures filter { result.source.0 ≡ source.0 }
     ensures source { result.source.1 ≡ record source.1 { outgoing = result.source.1.outgoing } }
     ensures grown { (db : DatabaseValue) → GrownPeer F.refuses db summed.target result.target }
@@ -155,6 +156,7 @@ pub fn end<F: WriteFilter>(
     let Summed {
         mut target,
         fetched,
+        seats,
         fault,
         complete,
     } = summed;
@@ -172,6 +174,7 @@ pub fn end<F: WriteFilter>(
         source,
         target,
         fetched,
+        seats,
         outcome,
     }
 }

@@ -17,6 +17,8 @@ pub enum Halt {
     Refused(TargetFault),
     /// A count would pass its limit.
     CountFull,
+    /// The worker's count on the board would pass its limit.
+    BoardFull,
     /// An allocation was refused.
     Memory,
     /// A channel was cut.
@@ -51,6 +53,9 @@ pub enum PoolFault {
     /// A fetcher's count of documents would pass 9,007,199,254,740,991.
     #[error("a count of documents is full")]
     CountFull,
+    /// A writer's count on the board of documents read would pass 9,007,199,254,740,991. Only a run with a board tells it.
+    #[error("a worker's count on the board is full")]
+    BoardFull,
     /// An allocation was refused, or a thread can't be made.
     #[error("out of memory")]
     Memory,
@@ -64,6 +69,7 @@ fn told(halt: Halt) -> PoolFault
         Halt::Stopped(place) => PoolFault::Halted(place),
         Halt::Refused(fault) => PoolFault::Refused(fault),
         Halt::CountFull => PoolFault::CountFull,
+        Halt::BoardFull => PoolFault::BoardFull,
         Halt::Memory => PoolFault::Memory,
         Halt::Lost => PoolFault::Memory,
     }

@@ -1,10 +1,11 @@
 //! Taking the workers in after they have ended.
-ghost use Rattle.std.specs.Prelude.{◌≡◌, ◌+◌, ◌<◌, ◌≤◌, [], None, IfSome, vec_len, vec_capacity};
+ghost use Rattle.std.specs.Prelude.{◌≡◌, ◌+◌, ◌<◌, ◌≤◌, ◌++◌, [], length, None, IfSome, vec_len, vec_capacity, option_copied, option_to_list};
 ghost use Rattle.std.specs.List.{All};
 ghost use Rattle.crossbeam_channel.specs.Claims.{view, IsSeatAt};
 ghost use Rattle.crossbeam_channel.specs.Ends.{sends_on};
 ghost use Rattle.repl_pool.specs.Workers.{FetcherKnows, WriterKnows};
-ghost use Rattle.repl_pool.specs.Faults.{Allows};
+ghost use Rattle.repl_pool.specs.Boards.{MayFill, AreBack, HaveShown, AreSeated, held};
+ghost use Rattle.repl_pool.specs.Faults.{AllowsOn, Allows};
 ghost use Rattle.repl_pool.specs.Gathered.{FetchedKnows, WrittenKnows, IsOneOf};
 
 use crate::fault::Halt;
@@ -13,9 +14,11 @@ use crate::gate::Gate;
 use crate::lines::Lines;
 use crate::parcels::{Cut, ParcelPass};
 use crate::picks::Origin;
+use crate::show::give_back;
 use crate::start::{FetcherHandle, WriterHandle};
 use crate::windows::{Crew, WindowPass};
 use crate::writer::Writer;
+use progress_board::{Board, BoardSeat};
 use std::sync::ledger::{Ledger, Share};
 use std::thread::Threads;
 
@@ -100,26 +103,33 @@ impl WrittenAll {
         lines: &Lines<S>,
         parcels: &mut ParcelPass<S>,
         all: &mut Share<L>,
+        seats: &mut Vec<BoardSeat>,
         one: Writer<S, L>,
     )
         requires parcels { IsSeatAt (sends_on lines.now.to_writers) parcels.old × (0 < (view parcels.old).parts) }
         requires one_seat { IsSeatAt (sends_on lines.now.to_writers) one.parcels }
         requires one_knows { WriterKnows [] one }
         requires knows { WrittenKnows (view parcels.old) all.old.amount self.old }
+        requires room { vec_len seats.old + length (option_to_list one.seat) ≤ vec_capacity seats.old }
         ensures seat { IsSeatAt (sends_on lines.now.to_writers) parcels.new }
         ensures parcels { ((view parcels.new).parts ≡ (view parcels.old).parts + 1) × ((view parcels.new).sent ≡ (view parcels.old).sent) }
-        ensures all { all.new.parts ≡ all.old.parts + 1 }
+        ensures all { (all.new.parts ≡ all.old.parts + 1) × (all.new.amount ≡ all.old.amount + one.share.amount) }
         ensures knows { WrittenKnows (view parcels.new) all.new.amount self.new }
         ensures told { IfSome self.new.stopped (IsOneOf self.old.stopped one.stopped) }
+        ensures free { self.new.stopped ≡ None → (self.old.stopped ≡ None) × (one.stopped ≡ None) }
+        ensures seats { seats.new.items ≡ seats.old.items ++ option_to_list one.seat }
+        ensures capacity { vec_capacity seats.new ≡ vec_capacity seats.old }
     {
         let Writer {
             parcels: its_parcels,
             share,
             got,
+            seat,
             stopped,
         } = one;
         lines.to_writers.absorb::<Cut>(parcels, its_parcels);
         all.merge(share);
+        give_back(seats, seat);
         let (sum, halt) = count_up(self.got, got, self.stopped.take(), stopped);
         self.got = sum;
         self.stopped = halt;
@@ -160,31 +170,38 @@ pub fn join_fetchers<S: Origin, G: Gate, R: Threads>(
     fetched
 }
 
-/// Joins the writers, and takes them in.
+/// Joins the writers, and takes them in, the last first: so their seats come back in order.
 pub fn join_writers<S: Origin, L: Ledger, G: Gate, R: Threads>(
     rt: &R,
     lines: &Lines<S>,
     gate: &G,
+    board: Option<&Board>,
     handles: Vec<WriterHandle<'_, S, L, G>>,
     parcels: &mut ParcelPass<S>,
     all: &mut Share<L>,
+    seats: &mut Vec<BoardSeat>,
 ) -> WrittenAll
-    requires promised { All (λ h. (h.promise.lines.now ≡ lines.now) × (h.promise.gate.now ≡ gate.now)) handles.items }
+    requires promised { All (λ h. (h.promise.lines.now ≡ lines.now) × (h.promise.gate.now ≡ gate.now) × (option_copied h.promise.board ≡ option_copied board)) handles.items }
     requires parcels { IsSeatAt (sends_on lines.now.to_writers) parcels.old × (0 < (view parcels.old).parts) × ((view parcels.old).got ≡ []) }
     requires all { all.old.amount ≡ 0 }
+    requires seats { AreSeated (option_copied board) (seats.old.items ++ held (λ h. h.promise.seat.value) handles.items) }
+    requires room { length (seats.old.items ++ held (λ h. h.promise.seat.value) handles.items) ≤ vec_capacity seats.old }
     ensures seat { IsSeatAt (sends_on lines.now.to_writers) parcels.new }
     ensures parcels { ((view parcels.new).parts ≡ (view parcels.old).parts + vec_len handles.entry) × ((view parcels.new).sent ≡ (view parcels.old).sent) }
     ensures all { all.new.parts ≡ all.old.parts + vec_len handles.entry }
     ensures knows { WrittenKnows (view parcels.new) all.new.amount result }
-    ensures halted { IfSome result.stopped (Allows (G.may_stop gate.now)) }
+    ensures halted { IfSome result.stopped (AllowsOn (MayFill (option_copied board.entry)) (G.may_stop gate.now)) }
+    ensures back { AreBack (option_copied board.entry) (seats.old.items ++ held (λ h. h.promise.seat.value) handles.entry.items) seats.new.items }
+    ensures shown { HaveShown (option_copied board.entry) all.new.amount result.stopped (seats.old.items ++ held (λ h. h.promise.seat.value) handles.entry.items) seats.new.items }
 {
     let mut written = WrittenAll {
         got: 0,
         stopped: None,
     };
-    for handle in handles {
+    let mut left = handles;
+    while let Some(handle) = left.pop() {
         let one = handle.join(rt);
-        written.take_in(lines, parcels, all, one);
+        written.take_in(lines, parcels, all, seats, one);
     }
     written
 }

@@ -1,11 +1,13 @@
 //! A run of the pool.
-ghost use Rattle.std.specs.Prelude.{◌≡◌, ◌<◌, ◌≤◌, true, false, Some};
+ghost use Rattle.std.specs.Prelude.{◌≡◌, ◌<◌, ◌≤◌, [], true, false, Some, None, IfOk, sum, vec_len, option_copied};
+ghost use Rattle.std.specs.List.{All};
 ghost use Rattle.couch_base.specs.Database.{DatabaseValue};
 ghost use Rattle.repl_target.specs.Peer.{SessionValue, session_in};
 ghost use Rattle.repl_target.specs.ReadCounts.{read_in};
 ghost use Rattle.repl_target.specs.Replication.{is_batch};
 ghost use Rattle.repl_pool.specs.Grown.{GrownPeer};
-ghost use Rattle.repl_pool.specs.Runs.{Ends, EndsRun, Runs};
+ghost use Rattle.repl_pool.specs.Boards.{WorksAt, AreRisen, HaveRisenBy, MayFill, AreSeats, AreBack, HaveShown};
+ghost use Rattle.repl_pool.specs.Runs.{Ends, EndsRun, RunsOn, Runs};
 
 use crate::begin::check_run;
 use crate::desk::Desk;
@@ -16,6 +18,7 @@ use crate::lines::Lines;
 use crate::picks::{Given, Origin};
 use crate::threads::with_workers;
 use crate::totals::{Summed, collect};
+use progress_board::{Board, BoardSeat};
 use repl_target::{Peer, Plan, Report, WriteFilter, begin_plan};
 use std::alloc::Global;
 use std::marker::Brand;
@@ -23,7 +26,7 @@ use std::sync::ledger::{Blank, Ledger};
 use std::sync::{Mutex, Wait};
 use std::thread::Threads;
 
-/// What a run gives back: both peers, how many documents each fetcher fetched, and how it ended.
+/// What a run gives back: both peers, how many documents each fetcher fetched, the writers' seats, and how it ended.
 #[derive(Drop)]
 pub struct Ran<F: WriteFilter> {
     /// The source: the given one but for its log.
@@ -32,6 +35,8 @@ pub struct Ran<F: WriteFilter> {
     pub target: Peer<F>,
     /// How many documents each fetcher fetched; empty where none was started.
     pub fetched: Vec<u64>,
+    /// The seats that the writers were given at a board, in the order in which they were given; empty after `run`.
+    pub seats: Vec<BoardSeat>,
     /// The report of the plan's session, or why there is none.
     pub outcome: Result<Report, PoolFault>,
 }
@@ -43,8 +48,10 @@ fn out_of_memory<F: WriteFilter>(
     target: Peer<F>,
     plan: &Plan,
     start: u64,
+    seats: Vec<BoardSeat>,
 ) -> Ran<F>
     requires held { (s : SessionValue) × (session_in target.1.sessions plan.now.session ≡ Some s) }
+    ensures seats { result.seats ≡ seats }
     ensures filter { result.source.0 ≡ source.0 }
     ensures source { result.source.1 ≡ record source.1 { outgoing = result.source.1.outgoing } }
     ensures grown { (db : DatabaseValue) → GrownPeer F.refuses db target result.target }
@@ -53,6 +60,7 @@ fn out_of_memory<F: WriteFilter>(
     let summed = Summed {
         target,
         fetched: Vec::new(alloc),
+        seats,
         fault: Some(PoolFault::Memory),
         complete: false,
     };
@@ -75,12 +83,15 @@ fn run_begun<
     target: Peer<F>,
     plan: &Plan,
     gate: &G,
+    board: Option<&Board>,
+    seats: Vec<BoardSeat>,
     start: u64,
 ) -> Ran<F>
     requires name { blank.name ≡ L.name }
     requires parts { blank.parts ≡ L.parts }
     requires workers { (blank.parts ≡ plan.now.workers) × (0 < plan.now.workers) × (plan.now.workers ≤ 64) }
     requires batch { is_batch plan.now.batch ≡ true }
+    requires seats { AreSeats (option_copied board) 0 plan.now.workers seats.items }
     requires source { S.source ≡ source.1.db }
     requires given { J.given ≡ Some (target, plan.now.session) }
     requires none { read_in target.1.sessions plan.now.session ≡ 0 }
@@ -88,27 +99,81 @@ fn run_begun<
     ensures filter { result.source.0 ≡ source.0 }
     ensures source { result.source.1 ≡ record source.1 { outgoing = result.source.1.outgoing } }
     ensures grown { GrownPeer F.refuses source.1.db target result.target }
-    ensures ends { EndsRun F.refuses (G.may_stop gate.now) plan.now start source.1 target result.fetched.items result.source.1 result.target.1 result.outcome }
+    ensures ends { EndsRun F.refuses (MayFill (option_copied board.entry)) (G.may_stop gate.now) plan.now start source.1 target result.fetched.items result.source.1 result.target.1 result.outcome }
+    ensures back { AreBack (option_copied board.entry) seats.items result.seats.items }
+    ensures shown { IfOk result.outcome (λ _. HaveShown (option_copied board.entry) (sum result.fetched.items) None seats.items result.seats.items) }
 {
     // These readings tell the proof that the source's database and the target are lawful.
     let _update_seq = source.db().update_seq();
     let _uuid = target.db().uuid();
     let workers = plan.workers as usize;
     let Ok(counts) = Vec::with_capacity(alloc, workers) else {
-        return out_of_memory(alloc, source, target, plan, start);
+        return out_of_memory(alloc, source, target, plan, start, seats);
     };
     let Ok((lines, windows, parcels)) = Lines::<S>::open(alloc, 2 * workers) else {
-        return out_of_memory(alloc, source, target, plan, start);
+        return out_of_memory(alloc, source, target, plan, start, seats);
     };
     let (book, all) = blank.open::<L>();
     let desk = Mutex::new(Desk::<F, S, J, L>::open(target, plan.session, book));
-    let ended = with_workers(
-        rt, alloc, &lines, &source, &desk, gate, plan, workers, start, counts, windows, parcels,
-        all,
+    let (ended, seats) = with_workers(
+        rt, alloc, &lines, &source, &desk, gate, plan, board, workers, start, counts, windows,
+        parcels, all, seats,
     );
     let desk = desk.into_inner();
-    let summed = collect(alloc, &lines, gate, desk, workers, ended);
+    let summed = collect(alloc, &lines, gate, board, desk, workers, ended, seats);
     end(alloc, source, summed, plan, start)
+}
+
+/// A run with a board, where the writers show what they do, or without one: `run_on`, `run`.
+fn run_with<F: WriteFilter + Send + Sync, G: Gate + Sync, R: Threads + Wait + Sync>(
+    rt: &R,
+    alloc: Global,
+    source: Peer<F>,
+    target: Peer<F>,
+    plan: &Plan,
+    gate: &G,
+    board: Option<&Board>,
+    seats: Vec<BoardSeat>,
+) -> Ran<F>
+    requires seats { AreSeats (option_copied board) 0 plan.now.workers seats.items }
+    ensures runs { RunsOn F.refuses (MayFill (option_copied board.entry)) (G.may_stop gate.now) plan.now source target result.source result.target result.fetched.items result.outcome }
+    ensures back { AreBack (option_copied board.entry) seats.items result.seats.items }
+    ensures shown { IfOk result.outcome (λ report. HaveShown (option_copied board.entry) report.read None seats.items result.seats.items) }
+{
+    // These readings tell the proof that the source's database and the target are lawful.
+    let _update_seq = source.db().update_seq();
+    let _uuid = target.db().uuid();
+    if let Err(why) = check_run(&source, &target, plan) {
+        return Ran {
+            source,
+            target,
+            fetched: Vec::new(alloc),
+            seats,
+            outcome: Err(why),
+        };
+    }
+    let mut begun = target;
+    match begin_plan(alloc, &source, &mut begun, plan) {
+        Ok(start) => run_begun::<F, Brand, Brand, Brand, G, R>(
+            rt,
+            alloc,
+            Blank::new(plan.workers),
+            source,
+            begun,
+            plan,
+            gate,
+            board,
+            seats,
+            start,
+        ),
+        Err(fault) => Ran {
+            source,
+            target: begun,
+            fetched: Vec::new(alloc),
+            seats,
+            outcome: Err(PoolFault::Refused(fault)),
+        },
+    }
 }
 
 /// Replicates the source's documents into the target by a pool of threads: the caller's thread begins the session from the
@@ -141,35 +206,34 @@ pub fn run<F: WriteFilter + Send + Sync, G: Gate + Sync, R: Threads + Wait + Syn
     gate: &G,
 ) -> Ran<F>
     ensures runs { Runs F.refuses (G.may_stop gate.now) plan.now source target result.source result.target result.fetched.items result.outcome }
+    ensures seats { result.seats.items ≡ [] }
 {
-    // These readings tell the proof that the source's database and the target are lawful.
-    let _update_seq = source.db().update_seq();
-    let _uuid = target.db().uuid();
-    if let Err(why) = check_run(&source, &target, plan) {
-        return Ran {
-            source,
-            target,
-            fetched: Vec::new(alloc),
-            outcome: Err(why),
-        };
-    }
-    let mut begun = target;
-    match begin_plan(alloc, &source, &mut begun, plan) {
-        Ok(start) => run_begun::<F, Brand, Brand, Brand, G, R>(
-            rt,
-            alloc,
-            Blank::new(plan.workers),
-            source,
-            begun,
-            plan,
-            gate,
-            start,
-        ),
-        Err(fault) => Ran {
-            source,
-            target: begun,
-            fetched: Vec::new(alloc),
-            outcome: Err(PoolFault::Refused(fault)),
-        },
-    }
+    run_with(rt, alloc, source, target, plan, gate, None, Vec::new(alloc))
+}
+
+/// `run`, of whose progress others may read on a board meanwhile: `Board::read`. Each writer has a seat of a worker of the board.
+/// Before it settles a parcel it adds the documents of that to its count of those read; after that, and before the gate is asked at
+/// `Settled`, it adds to its count of those settled the ones that this settling has counted. No lock is taken for the board.
+///
+/// The seats are so many as the plan has workers, and of workers of this board. They come back in their order, whatever the outcome,
+/// and no count has fallen. At `Ok` both counts, added up over the seats, have risen by the documents read that the report tells.
+///
+/// Besides what `run` answers it answers `BoardFull` where a writer's count of documents read would pass 9,007,199,254,740,991; that
+/// parcel isn't settled.
+pub fn run_on<F: WriteFilter + Send + Sync, G: Gate + Sync, R: Threads + Wait + Sync>(
+    rt: &R,
+    alloc: Global,
+    source: Peer<F>,
+    target: Peer<F>,
+    plan: &Plan,
+    gate: &G,
+    board: &Board,
+    seats: Vec<BoardSeat>,
+) -> Ran<F>
+    requires seats { (vec_len seats ≡ plan.now.workers) × All (WorksAt board.now) seats.items }
+    ensures runs { RunsOn F.refuses (Unit {0}) (G.may_stop gate.now) plan.now source target result.source result.target result.fetched.items result.outcome }
+    ensures seats { AreRisen board.now seats.items result.seats.items }
+    ensures shown { IfOk result.outcome (λ report. HaveRisenBy report.read seats.items result.seats.items) }
+{
+    run_with(rt, alloc, source, target, plan, gate, Some(board), seats)
 }

@@ -1,20 +1,24 @@
-//! Starting the workers, reading the windows, and telling the ends.
-ghost use Rattle.std.specs.Prelude.{◌≡◌, ◌+◌, ◌-◌, ◌<◌, ◌≤◌, [], IfSome, vec_len};
+//! Starting the workers.
+ghost use Rattle.std.specs.Prelude.{◌≡◌, ℕ, ◌+◌, ◌-◌, ◌<◌, ◌≤◌, ◌++◌, [], None, IfSome, vec_len, vec_capacity, option_copied, option_to_list};
 ghost use Rattle.std.specs.List.{All};
 ghost use Rattle.crossbeam_channel.specs.Claims.{view, IsSeatAt};
 ghost use Rattle.crossbeam_channel.specs.Ends.{sends_on};
+ghost use Rattle.repl_pool.specs.Boards.{AreSeats, AreBack, held};
 ghost use Rattle.repl_pool.specs.Parcels.{hand};
 ghost use Rattle.repl_pool.specs.Windows.{seen};
 
 use crate::crew::{FetcherOf, WriterOf, start_fetcher, start_writer};
 use crate::desk::Desk;
+use crate::ends::end_parcels;
 use crate::fetcher::Fetcher;
 use crate::gate::Gate;
 use crate::lines::Lines;
-use crate::parcels::{Carried, Cut, ParcelPass, Sends};
+use crate::parcels::{Cut, ParcelPass};
 use crate::picks::{Given, Origin};
-use crate::windows::{Crew, Reads, Ticket, WindowPass};
+use crate::show::give_back;
+use crate::windows::{Crew, WindowPass};
 use crate::writer::Writer;
+use progress_board::{Board, BoardSeat};
 use repl_target::{Peer, Plan, WriteFilter};
 use std::alloc::Global;
 use std::sync::ledger::{Ledger, Share};
@@ -122,7 +126,8 @@ pub fn start_fetchers<
     started
 }
 
-/// Cuts a pass and a part of the ledger off, and starts a writer with them.
+/// Cuts a pass and a part of the ledger off, takes the last seat, and starts a writer with them: `start_writer`. There are so many
+/// others. `None` where no thread can be made; then its seat is back.
 fn hire_writer<
     's,
     'e: 's,
@@ -140,22 +145,51 @@ fn hire_writer<
     desk: &'e Mutex<Desk<F, S, J, L>>,
     gate: &'e G,
     plan: &'e Plan,
+    board: Option<&'e Board>,
+    others: usize,
     parcels: &mut ParcelPass<S>,
     all: &mut Share<L>,
+    seats: &mut Vec<BoardSeat>,
 ) -> Option<WriterHandle<'e, S, L, G>>
     requires parcels { IsSeatAt (sends_on lines.now.to_writers) parcels.old × (1 < (view parcels.old).parts) }
     requires all { (0 < all.old.parts) × (all.old.amount ≡ 0) }
+    requires seats { (workers : ℕ) × (others < workers) × (workers ≤ 64) × AreSeats (option_copied board) others workers seats.old.items }
     ensures parcel_seat { IsSeatAt (sends_on lines.now.to_writers) parcels.new }
     ensures parcels { view parcels.new ≡ hand ((view parcels.old).parts - 1) (view parcels.old).sent (view parcels.old).got }
     ensures all { (all.new.parts + 1 ≡ all.old.parts) × (all.new.amount ≡ 0) }
-    ensures promised { IfSome result (λ h. (h.promise.lines.now ≡ lines.now) × (h.promise.gate.now ≡ gate.now)) }
+    ensures promised { IfSome result (λ h. (h.promise.lines.now ≡ lines.now) × (h.promise.gate.now ≡ gate.now) × (option_copied h.promise.board ≡ option_copied board.entry)) }
+    ensures seats { IfSome result (λ h. seats.old.items ≡ seats.new.items ++ option_to_list h.promise.seat.value) }
+    ensures left { IfSome result (λ _. (workers : ℕ) → others < workers → AreSeats (option_copied board.entry) others workers seats.old.items → AreSeats (option_copied board.entry) (others + 1) workers seats.new.items) }
+    ensures back { result ≡ None → AreBack (option_copied board.entry) seats.old.items seats.new.items }
+    ensures capacity { vec_capacity seats.new ≡ vec_capacity seats.old }
 {
     let parcel_pass = lines.to_writers.another::<Cut>(parcels);
     let share = all.split_off(1, 0);
-    start_writer(scope, rt, lines, desk, gate, plan, parcel_pass, share)
+    let seat = seats.pop();
+    match start_writer(
+        scope,
+        rt,
+        lines,
+        desk,
+        gate,
+        plan,
+        board,
+        others,
+        parcels,
+        parcel_pass,
+        share,
+        seat,
+    ) {
+        Ok(handle) => Some(handle),
+        Err(seat) => {
+            give_back(seats, seat);
+            None
+        }
+    }
 }
 
-/// Starts the writers. There are fewer than asked for where no thread can be made or memory runs out.
+/// Starts the writers, each with a seat where there is a board, the first with the last. There are fewer than asked for where no
+/// thread can be made or memory runs out; then they are told the end of the parcels.
 pub fn start_writers<
     's,
     'e: 's,
@@ -174,64 +208,38 @@ pub fn start_writers<
     desk: &'e Mutex<Desk<F, S, J, L>>,
     gate: &'e G,
     plan: &'e Plan,
+    board: Option<&'e Board>,
     workers: usize,
     parcels: &mut ParcelPass<S>,
     all: &mut Share<L>,
+    seats: &mut Vec<BoardSeat>,
 ) -> Vec<WriterHandle<'e, S, L, G>>
     requires workers { workers ≤ 64 }
     requires parcels { IsSeatAt (sends_on lines.now.to_writers) parcels.old × (view parcels.old ≡ hand (view parcels.old).parts [] []) × (64 < (view parcels.old).parts) }
     requires all { (all.old.parts ≡ workers) × (all.old.amount ≡ 0) }
+    requires seats { AreSeats (option_copied board) 0 workers seats.old.items }
     ensures parcels { IsSeatAt (sends_on lines.now.to_writers) parcels.new × (view parcels.new ≡ hand (view parcels.new).parts [] []) × ((view parcels.old).parts ≤ (view parcels.new).parts + 64) }
     ensures most { vec_len result ≤ workers }
     ensures whole_parcels { vec_len result ≡ workers → (view parcels.new).parts + workers ≡ (view parcels.old).parts }
-    ensures whole_shares { vec_len result ≡ workers → (all.new.parts ≡ 0) × (all.new.amount ≡ 0) }
-    ensures promised { All (λ h. (h.promise.lines.now ≡ lines.now) × (h.promise.gate.now ≡ gate.now)) result.items }
+    ensures whole_shares { vec_len result ≡ workers → all.new.parts ≡ 0 }
+    ensures amount { all.new.amount ≡ 0 }
+    ensures promised { All (λ h. (h.promise.lines.now ≡ lines.now) × (h.promise.gate.now ≡ gate.now) × (option_copied h.promise.board ≡ option_copied board.entry)) result.items }
+    ensures back { AreBack (option_copied board.entry) seats.old.items (seats.new.items ++ held (λ h. h.promise.seat.value) result.items) }
+    ensures whole_seats { vec_len result ≡ workers → seats.old.items ≡ seats.new.items ++ held (λ h. h.promise.seat.value) result.items }
+    ensures capacity { vec_capacity seats.new ≡ vec_capacity seats.old }
 {
     let mut started = Vec::new(alloc);
-    for _i in 0..workers {
+    for i in 0..workers {
         if started.reserve(1).is_err() {
+            end_parcels(rt, lines, parcels, i);
             break;
         }
-        match hire_writer(scope, rt, lines, desk, gate, plan, parcels, all) {
+        match hire_writer(
+            scope, rt, lines, desk, gate, plan, board, i, parcels, all, seats,
+        ) {
             Some(handle) => started.push_reserved(handle),
             None => break,
         }
     }
     started
-}
-
-/// Tells the fetchers the end of the windows, by one message for each.
-pub fn end_windows<S: Origin, R: Wait>(
-    rt: &R,
-    lines: &Lines<S>,
-    windows: &mut WindowPass<S>,
-    fetchers: usize,
-)
-    requires seat { IsSeatAt (sends_on lines.now.to_fetchers) windows.old × (0 < (view windows.old).parts) }
-    ensures seat { IsSeatAt (sends_on lines.now.to_fetchers) windows.new }
-    ensures same { view windows.new ≡ view windows.old }
-{
-    for _i in 0..fetchers {
-        let _ = lines
-            .to_fetchers
-            .send_as::<Reads, R>(rt, windows, Ticket::End);
-    }
-}
-
-/// Tells writers the end of the parcels, where fewer fetchers were started.
-pub fn end_parcels<S: Origin, R: Wait>(
-    rt: &R,
-    lines: &Lines<S>,
-    parcels: &mut ParcelPass<S>,
-    missing: usize,
-)
-    requires seat { IsSeatAt (sends_on lines.now.to_writers) parcels.old × (0 < (view parcels.old).parts) }
-    ensures seat { IsSeatAt (sends_on lines.now.to_writers) parcels.new }
-    ensures same { view parcels.new ≡ view parcels.old }
-{
-    for _i in 0..missing {
-        let _ = lines
-            .to_writers
-            .send_as::<Sends, R>(rt, parcels, Carried::End);
-    }
 }

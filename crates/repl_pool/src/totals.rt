@@ -1,13 +1,15 @@
 //! What a run has done, once its workers have ended.
-ghost use Rattle.std.specs.Prelude.{◌≡◌, ℕ, ◌≤◌, true, None, IfSome, length, sum};
+ghost use Rattle.std.specs.Prelude.{◌≡◌, ℕ, ◌≤◌, true, Some, None, IfSome, length, sum, option_copied};
 ghost use Rattle.rev_tree.specs.declared.origin.SessionId.{SessionId};
 ghost use Rattle.crossbeam_channel.specs.Claims.{view, IsSeatAt};
 ghost use Rattle.crossbeam_channel.specs.Ends.{sends_on};
-ghost use Rattle.repl_pool.specs.Faults.{IsLate};
+ghost use Rattle.repl_pool.specs.Boards.{MayFill};
+ghost use Rattle.repl_pool.specs.Faults.{IsLateOn};
 ghost use Rattle.repl_pool.specs.Gathered.{IsWhole, Tells, StopsWhere};
 ghost use Rattle.repl_pool.specs.Grown.{DeskKeeps};
 ghost use Rattle.repl_pool.specs.Sums.{times, weigh};
 ghost use Rattle.repl_pool.specs.Workers.{names};
+ghost use Rattle.repl_pool.specs.declared.threads.Ended.{Ended};
 
 use crate::desk::Desk;
 use crate::fault::{PoolFault, merge};
@@ -18,15 +20,18 @@ use crate::parcels::Whole;
 use crate::picks::{Given, Origin};
 use crate::threads::Ended;
 use crate::windows::AllTaken;
+use progress_board::{Board, BoardSeat};
 use repl_target::{Peer, WriteFilter};
 use std::alloc::Global;
 use std::sync::ledger::Ledger;
 
-/// The target, how many documents each fetcher fetched, the fault of a step, and whether as many parcels were got as sent.
+/// The target, how many documents each fetcher fetched, the seats at the board, the fault of a step, and whether as many parcels
+/// were got as sent.
 #[derive(Drop)]
 pub struct Summed<F: WriteFilter> {
     pub target: Peer<F>,
     pub fetched: Vec<u64>,
+    pub seats: Vec<BoardSeat>,
     pub fault: Option<PoolFault>,
     pub complete: bool,
 }
@@ -36,25 +41,30 @@ pub fn collect<F: WriteFilter, S: Origin, J: Given<F>, L: Ledger, G: Gate>(
     alloc: Global,
     lines: &Lines<S>,
     gate: &G,
+    board: Option<&Board>,
     desk: Desk<F, S, J, L>,
     workers: usize,
     ended: Option<Ended<S, L>>,
+    seats: Vec<BoardSeat>,
 ) -> Summed<F>
     requires parts { L.parts ≡ workers }
     requires window_seat { IfSome ended (λ e. IsSeatAt (sends_on lines.now.to_fetchers) e.windows) }
     requires parcel_seat { IfSome ended (λ e. IsSeatAt (sends_on lines.now.to_writers) e.parcels) }
     requires whole { IfSome ended (IsWhole workers) }
     requires tells { IfSome ended Tells }
-    requires halted { IfSome ended (StopsWhere (G.may_stop gate.now)) }
+    requires halted { IfSome ended (StopsWhere (MayFill (option_copied board)) (G.may_stop gate.now)) }
     ensures desk { (session : SessionId) × (total : ℕ) × DeskKeeps F.refuses S.source J.given session total result.target }
     ensures sum { result.fault ≡ None → result.complete ≡ true → (session : SessionId) × DeskKeeps F.refuses S.source J.given session (sum result.fetched.items) result.target }
-    ensures halted { IfSome result.fault (IsLate (G.may_stop gate.now)) }
+    ensures halted { IfSome result.fault (IsLateOn (MayFill (option_copied board.entry)) (G.may_stop gate.now)) }
+    ensures amount { result.fault ≡ None → result.complete ≡ true → (e : Ended S L) × (ended ≡ Some e) × (e.written.stopped ≡ None) × (e.all.amount ≡ sum result.fetched.items) }
+    ensures seats { result.seats ≡ seats }
 {
     match ended {
-        Some(ended) => sum_up(lines, gate, desk, workers, ended),
+        Some(ended) => sum_up(lines, gate, board, desk, workers, ended, seats),
         None => Summed {
             target: desk.give_back(),
             fetched: Vec::new(alloc),
+            seats,
             fault: Some(PoolFault::Memory),
             complete: false,
         },
@@ -65,19 +75,23 @@ pub fn collect<F: WriteFilter, S: Origin, J: Given<F>, L: Ledger, G: Gate>(
 fn sum_up<F: WriteFilter, S: Origin, J: Given<F>, L: Ledger, G: Gate>(
     lines: &Lines<S>,
     gate: &G,
+    board: Option<&Board>,
     desk: Desk<F, S, J, L>,
     workers: usize,
     ended: Ended<S, L>,
+    seats: Vec<BoardSeat>,
 ) -> Summed<F>
     requires parts { L.parts ≡ workers }
     requires window_seat { IsSeatAt (sends_on lines.now.to_fetchers) ended.windows }
     requires parcel_seat { IsSeatAt (sends_on lines.now.to_writers) ended.parcels }
     requires whole { IsWhole workers ended }
     requires tells { Tells ended }
-    requires halted { StopsWhere (G.may_stop gate.now) ended }
+    requires halted { StopsWhere (MayFill (option_copied board)) (G.may_stop gate.now) ended }
     ensures desk { (session : SessionId) × (total : ℕ) × DeskKeeps F.refuses S.source J.given session total result.target }
     ensures sum { result.fault ≡ None → result.complete ≡ true → (session : SessionId) × DeskKeeps F.refuses S.source J.given session (sum result.fetched.items) result.target }
-    ensures halted { IfSome result.fault (IsLate (G.may_stop gate.now)) }
+    ensures halted { IfSome result.fault (IsLateOn (MayFill (option_copied board.entry)) (G.may_stop gate.now)) }
+    ensures amount { result.fault ≡ None → result.complete ≡ true → (ended.written.stopped ≡ None) × (ended.all.amount ≡ sum result.fetched.items) }
+    ensures seats { result.seats ≡ seats }
 {
     let mut ended = ended;
     each_once(lines, workers, &mut ended);
@@ -103,6 +117,7 @@ fn sum_up<F: WriteFilter, S: Origin, J: Given<F>, L: Ledger, G: Gate>(
     Summed {
         target,
         fetched: counts,
+        seats,
         fault,
         complete: sent == got,
     }

@@ -6,6 +6,7 @@
 mod engine_tests;
 #[cfg(test)]
 mod large_tests;
+#[cfg(test)]
 mod pool_tests;
 #[cfg(test)]
 mod replication_tests;

@@ -1,20 +1,24 @@
-use Rattle.std.proofs.Common.{◌∙◌, sym, ap, subst, sum, vec_items}
+use Rattle.std.proofs.Common.{◌∙◌, sym, ap, subst, sum, None, is_some, vec_items, option_copied}
+use Rattle.std.proofs.lemmas.Bool.{false≢true}
+use Rattle.repl_pool.specs.Boards.{MayFill, HaveShown}
+use Rattle.repl_pool.proofs.Boarding.{seats_seated}
+use Rattle.repl_pool.proofs.Showing.{back_is, shown_end}
 use Rattle.couch_base.specs.Database.{LawfulDatabase}
 use Rattle.repl_pool.proofs.Ending.{grown_then, held_grown}
-use Rattle.repl_pool.proofs.RunLaws.{given_grown, no_workers}
+use Rattle.repl_pool.proofs.RunLaws.{given_grown, no_workers, ends_free}
 use Rattle.repl_pool.proofs.running.run_begun.Goals as goal
 
 pub returns-in_default-clause-grown : goal.returns-in_default-clause-grown
 returns-in_default-clause-grown g c = c.out_of_memory.ensures.grown c.args.source.1.db
 
 pub returns-in_default-clause-ends : goal.returns-in_default-clause-ends
-returns-in_default-clause-ends g c = no_workers g.F.WriteFilter.refuses (g.G.Gate.may_stop c.args.gate.now) _ _ _ c.args.target _ _ _ _ c.out_of_memory.ensures.ends
+returns-in_default-clause-ends g c = no_workers g.F.WriteFilter.refuses (MayFill (option_copied c.args.board)) (g.G.Gate.may_stop c.args.gate.now) _ _ _ c.args.target _ _ _ _ c.out_of_memory.ensures.ends
 
 pub returns-in_default-open-clause-grown : goal.returns-in_default-open-clause-grown
 returns-in_default-open-clause-grown g c = c.out_of_memory-in_default-open.ensures.grown c.args.source.1.db
 
 pub returns-in_default-open-clause-ends : goal.returns-in_default-open-clause-ends
-returns-in_default-open-clause-ends g c = no_workers g.F.WriteFilter.refuses (g.G.Gate.may_stop c.args.gate.now) _ _ _ c.args.target _ _ _ _ c.out_of_memory-in_default-open.ensures.ends
+returns-in_default-open-clause-ends g c = no_workers g.F.WriteFilter.refuses (MayFill (option_copied c.args.board)) (g.G.Gate.may_stop c.args.gate.now) _ _ _ c.args.target _ _ _ _ c.out_of_memory-in_default-open.ensures.ends
 
 pub returns-clause-grown : goal.returns-clause-grown
 returns-clause-grown g c =
@@ -49,3 +53,30 @@ end-requires g c =
           held_grown g.F.WriteFilter.refuses c.args.source.1.db c.args.target c.collect-summed.result.target c.args.plan.now.session (subst LawfulDatabase c.db.ensures.value c.update_seq-update_seq.ensures.law) c.db-2.ensures.law
           (given_grown g.F.WriteFilter.refuses c.args.source.1.db g.S.Origin.source c.requires.source c.args.target c.args.plan.now.session g.J.Given.given c.requires.given d.0 d.1 c.collect-summed.result.target d.2).0 c.requires.held;
     }
+
+pub returns-in_default-clause-back : goal.returns-in_default-clause-back
+returns-in_default-clause-back g c =
+    back_is (option_copied c.args.board) c.args.seats.items _ (seats_seated (option_copied c.args.board) 0 c.args.plan.now.workers c.args.seats.items c.requires.seats) (ap vec_items (sym c.out_of_memory.ensures.seats))
+
+pub returns-in_default-clause-shown : goal.returns-in_default-clause-shown
+returns-in_default-clause-shown g c =
+    let r = c.out_of_memory.result in
+    ends_free _ _ _ _ _ _ _ _ r.outcome (HaveShown (option_copied c.args.board) (sum r.fetched.items) None c.args.seats.items r.seats.items) c.out_of_memory.ensures.ends (λ e _. absurd (false≢true (sym (ap is_some e))))
+
+pub returns-in_default-open-clause-back : goal.returns-in_default-open-clause-back
+returns-in_default-open-clause-back g c =
+    back_is (option_copied c.args.board) c.args.seats.items _ (seats_seated (option_copied c.args.board) 0 c.args.plan.now.workers c.args.seats.items c.requires.seats) (ap vec_items (sym c.out_of_memory-in_default-open.ensures.seats))
+
+pub returns-in_default-open-clause-shown : goal.returns-in_default-open-clause-shown
+returns-in_default-open-clause-shown g c =
+    let r = c.out_of_memory-in_default-open.result in
+    ends_free _ _ _ _ _ _ _ _ r.outcome (HaveShown (option_copied c.args.board) (sum r.fetched.items) None c.args.seats.items r.seats.items) c.out_of_memory-in_default-open.ensures.ends (λ e _. absurd (false≢true (sym (ap is_some e))))
+
+pub returns-clause-shown : goal.returns-clause-shown
+returns-clause-shown g c =
+    let r = c.end.result in
+    ends_free _ _ _ _ _ _ _ _ r.outcome (HaveShown (option_copied c.args.board) (sum r.fetched.items) None c.args.seats.items r.seats.items) c.end.ensures.ends
+    (λ none whole.
+    let k = c.collect-summed.ensures.amount none whole in
+    shown_end (option_copied c.args.board) c.args.seats.items _ r.seats.items _ k.0 (λ x. x.all.amount) (λ x. x.written.stopped) _ c.with_workers-ended.ensures.shown k.1 k.2
+    (k.3 ∙ ap sum (sym (ap vec_items c.end.ensures.fetched))) (ap vec_items (c.end.ensures.seats ∙ c.collect-summed.ensures.seats)))

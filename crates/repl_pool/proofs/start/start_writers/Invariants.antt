@@ -1,7 +1,8 @@
-use Rattle.std.proofs.Common.{◌≡◌, ◌+◌, [], vec_len, vec_items}
+use Rattle.std.proofs.Common.{◌≡◌, ◌+◌, ◌++◌, [], vec_len, vec_items, vec_capacity, option_copied}
 use Rattle.std.specs.List.{All}
 use Rattle.crossbeam_channel.specs.Claims.{view, IsSeatAt}
 use Rattle.crossbeam_channel.specs.Ends.{sends_on}
+use Rattle.repl_pool.specs.Boards.{AreSeats, held}
 use Rattle.repl_pool.specs.Parcels.{hand}
 use Rattle.repl_pool.proofs.start.start_writers.Given as goal
 
@@ -9,9 +10,12 @@ abbrev pub invariant-loop-i : goal.invariant-loop-i
 invariant-loop-i g l = record {
   parcel_seat : IsSeatAt (sends_on l.lines.to_writers) l.parcels;
   parcel_view : view l.parcels ≡ hand (view l.parcels).parts [] [];
-  parcel_parts : (view l.parcels).parts + l._i ≡ (view l.initial.parcels).parts;
-  all_parts : l.all.parts + l._i ≡ l.workers;
+  parcel_parts : (view l.parcels).parts + l.i ≡ (view l.initial.parcels).parts;
+  all_parts : l.all.parts + l.i ≡ l.workers;
   all_amount : l.all.amount ≡ 0;
-  count : vec_len l.started ≡ l._i;
-  promised : All (λ h. (h.promise.lines.now ≡ l.lines) × (h.promise.gate.now ≡ l.gate)) (vec_items l.started);
+  count : vec_len l.started ≡ l.i;
+  promised : All (λ h. (h.promise.lines.now ≡ l.lines) × (h.promise.gate.now ≡ l.gate) × (option_copied h.promise.board ≡ option_copied l.board)) (vec_items l.started);
+  seats : AreSeats (option_copied l.board) l.i l.workers (vec_items l.seats);
+  out : vec_items l.initial.seats ≡ vec_items l.seats ++ held (λ h. h.promise.seat.value) (vec_items l.started);
+  capacity : vec_capacity l.seats ≡ vec_capacity l.initial.seats;
 }

@@ -1,9 +1,15 @@
-use Rattle.std.proofs.Common.{[], IfSome}
+use Rattle.std.proofs.Common.{[], IfSome, option_copied}
 use Rattle.crossbeam_channel.specs.Claims.{IsSeatAt}
 use Rattle.crossbeam_channel.specs.Ends.{receives_on}
-use Rattle.repl_pool.specs.Workers.{WriterKnows}
-use Rattle.repl_pool.specs.Faults.{Allows}
+use Rattle.repl_pool.specs.Workers.{WriterKnows, WriterShows}
+use Rattle.repl_pool.specs.Boards.{MayFill, IsSeated}
+use Rattle.repl_pool.specs.Faults.{AllowsOn}
 use Rattle.repl_pool.proofs.writer.write_all.Given as goal
 
 abbrev pub invariant-loop : goal.invariant-loop
-invariant-loop g l = IsSeatAt (receives_on l.parcels) l.writer.parcels × WriterKnows [] l.writer × IfSome l.writer.stopped (Allows (g.G.Gate.may_stop l.gate))
+invariant-loop g l =
+    IsSeatAt (receives_on l.parcels) l.writer.parcels
+    × WriterKnows [] l.writer
+    × IfSome l.writer.stopped (AllowsOn (MayFill (option_copied l.board)) (g.G.Gate.may_stop l.gate))
+    × IsSeated (option_copied l.board) l.writer.seat
+    × WriterShows (option_copied l.board) l.fn.seat l.writer

@@ -1,5 +1,5 @@
 use Rattle.std.proofs.Common.{Some}
-use Rattle.repl_pool.proofs.running.run.Given as goal
+use Rattle.repl_pool.proofs.running.run_with.Given as goal
 
 abbrev pub ghosts-run_begun-S-Origin : goal.ghosts-run_begun-S-Origin
 ghosts-run_begun-S-Origin g a = record { source = a.source.1.db }

@@ -2,7 +2,7 @@ use Rattle.std.proofs.Common.{◌<◌, subst, sym}
 use Rattle.crossbeam_channel.specs.Claims.{view}
 use Rattle.repl_pool.specs.declared.windows.Seen.{Seen}
 use Rattle.repl_pool.proofs.WindowRule as window
-use Rattle.repl_pool.proofs.start.end_windows.Goals as goal
+use Rattle.repl_pool.proofs.ends.end_windows.Goals as goal
 
 pub send_as-requires-clause-rule : goal.send_as-requires-clause-rule
 send_as-requires-clause-rule g c =

@@ -1,7 +1,7 @@
 use Rattle.std.proofs.Common.{◌≡◌}
 use Rattle.crossbeam_channel.specs.Claims.{view, IsSeatAt}
 use Rattle.crossbeam_channel.specs.Ends.{sends_on}
-use Rattle.repl_pool.proofs.start.end_parcels.Given as goal
+use Rattle.repl_pool.proofs.ends.end_parcels.Given as goal
 
 abbrev pub invariant-loop-i : goal.invariant-loop-i
 invariant-loop-i g l = IsSeatAt (sends_on l.lines.to_writers) l.parcels × (view l.parcels ≡ view l.initial.parcels)

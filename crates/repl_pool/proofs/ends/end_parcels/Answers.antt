@@ -3,7 +3,7 @@ use Rattle.crossbeam_channel.specs.Claims.{view}
 use Rattle.repl_pool.specs.declared.parcels.Hand.{Hand}
 use Rattle.repl_pool.specs.declared.parcels.Carried.TheVariants.{End}
 use Rattle.repl_pool.proofs.ParcelRule as parcel
-use Rattle.repl_pool.proofs.start.end_parcels.Goals as goal
+use Rattle.repl_pool.proofs.ends.end_parcels.Goals as goal
 
 pub send_as-requires-clause-rule : goal.send_as-requires-clause-rule
 send_as-requires-clause-rule g c =
