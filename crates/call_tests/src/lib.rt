@@ -21,6 +21,8 @@ mod plan_rows;
 #[cfg(test)]
 mod plans;
 #[cfg(test)]
+mod pool_boards;
+#[cfg(test)]
 mod pool_gates;
 #[cfg(test)]
 mod pool_rows;

@@ -1,10 +1,15 @@
 //! Peers that are replicated by the pool, and the calls on these by name.
+ghost use Rattle.std.specs.Prelude.{◌≡◌, vec_len};
+ghost use Rattle.std.specs.List.{All};
+ghost use Rattle.repl_pool.specs.Boards.{WorksAt};
+
 use crate::databases::{put_text, tree};
 use crate::peers::{found_text, rules};
 use crate::records::{entry_text, fault_text, log_text, report_text};
 use crate::texts::{doc, expect_answer, rev_text, shown};
+use progress_board::{Board, BoardSeat};
 use repl_log::{Moment, RepId, common};
-use repl_pool::{Gate, Open, PoolFault, Ran, run};
+use repl_pool::{Gate, Open, PoolFault, Ran, run, run_on};
 use repl_target::{Peer, Plan, Report, Rules, audit, replicate_alone};
 use rev_tree::SessionId;
 use std::alloc::Global;
@@ -164,6 +169,27 @@ impl Bench {
         self.take_back(rt, source, target, ran)
     }
 
+    /// The same on a board, where there is a seat for each worker.
+    pub(crate) fn replicate_on<G: Gate + Sync, R: Abort + Threads + Wait + Sync>(
+        &mut self,
+        rt: &R,
+        gate: &G,
+        board: &Board,
+        seats: Vec<BoardSeat>,
+        how: How,
+    ) -> Option<String>
+        requires { All (WorksAt board.now) seats.items }
+    {
+        let plan = self.plan(how)?;
+        if seats.len() as u64 != plan.workers {
+            return None;
+        }
+        let from = self.taken(rt, 0);
+        let into = self.taken(rt, 1);
+        let ran = ran_on(rt, self.alloc, from, into, &plan, gate, board, seats);
+        self.take_back(rt, 0, 1, ran)
+    }
+
     /// Takes both peers back to their places, and tells how a run ended.
     fn take_back(
         &mut self,
@@ -205,6 +231,22 @@ fn ran<G: Gate + Sync, R: Threads + Wait + Sync>(
     gate: &G,
 ) -> Ran<Rules> {
     run(rt, alloc, source, target, plan, gate)
+}
+
+/// Runs the pool on a board.
+fn ran_on<G: Gate + Sync, R: Threads + Wait + Sync>(
+    rt: &R,
+    alloc: Global,
+    source: Peer<Rules>,
+    target: Peer<Rules>,
+    plan: &Plan,
+    gate: &G,
+    board: &Board,
+    seats: Vec<BoardSeat>,
+) -> Ran<Rules>
+    requires { (vec_len seats ≡ plan.now.workers) × All (WorksAt board.now) seats.items }
+{
+    run_on(rt, alloc, source, target, plan, gate, board, seats)
 }
 
 /// How a run ended, and the sum of what was fetched.
