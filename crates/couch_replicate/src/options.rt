@@ -36,7 +36,8 @@ const SCRIPT_HELP: &str =
   {\"do\":\"replicate\",\"source\":\"a\",\"target\":\"b\"}
       carries to `b` what it misses of `a`, from where their logs agree; \"session\" gives the
       session's UUID, else one is made; \"workers\", \"batch\" and \"at\" stand in the place of
-      the options; \"stop_after\":1 stops after one window, \"alone\":true has one thread
+      the options; \"stop_after\":1 stops after one window, \"alone\":true has one thread,
+      \"progress\":true tells before the answer how much was settled of what was read
   {\"do\":\"log\",\"source\":\"a\",\"target\":\"b\",\"side\":\"source\"}
       prints what a side, `source` or `target`, keeps of the replications from `a` to `b`
   {\"do\":\"audit\",\"source\":\"a\",\"target\":\"b\"}

@@ -1,6 +1,7 @@
 -- Replications between two of the databases.
-use Rattle.std.proofs.Common.{◌≡◌, ◌≢◌, ◌⊎◌, inl, inr, ℕ, Bool, true, false, cond, nat_eq, List, Option, Some, None, is_some, Result, Ok, Err, String, string_bytes, refl, sym, ap, subst, ◌∙◌}
-use Rattle.std.specs.Prelude.{option_map}
+use Rattle.std.proofs.Common.{◌≡◌, ◌≢◌, ◌⊎◌, inl, inr, ℕ, Bool, true, false, cond, nat_eq, ◌+◌, List, [], ◌∷◌, ◌++◌, length, length-append, arith, Option, Some, None, is_some, Result, Ok, Err, String, string_bytes, refl, sym, ap, subst, ◌∙◌}
+use Rattle.std.specs.Prelude.{option_map, slice_index_or}
+use Rattle.std.proofs.Math.Seq.{get_or-append_seam}
 use Rattle.std.specs.List.{starts_with}
 use Rattle.std.specs.Option.{option_map_or}
 use Rattle.std.specs.declared.alloc.Global.{Global}
@@ -16,14 +17,19 @@ use Rattle.repl_target.specs.Peer.{PeerValue}
 use Rattle.repl_target.specs.Rules.{rules_refuse}
 use Rattle.repl_target.specs.Calls.{IsGrown}
 use Rattle.repl_target.specs.declared.fault.Report.{Report}
+use Rattle.progress_board.specs.Seats.{AreNew, CameWith}
+use Rattle.progress_board.specs.declared.board.Board.{Board}
+use Rattle.progress_board.specs.declared.seat.BoardSeat.{BoardSeat}
+use Rattle.repl_pool.proofs.NewSeats.{new_came}
 use Rattle.repl_pool.specs.Faults.{early_answer}
-use Rattle.repl_pool.specs.Runs.{EarlyOrLate, LeavesOrPuts, Runs}
+use Rattle.repl_pool.specs.Runs.{EarlyOrLate, LeavesOrPuts, RunsOn}
 use Rattle.repl_pool.specs.declared.fault.PoolFault.{PoolFault}
 use Rattle.repl_pool.specs.declared.gate.Place.{Place}
 use Rattle.repl_target.specs.declared.filter.Rules.{Rules}
 use Rattle.repl_target.specs.declared.replication.Plan.{Plan}
 use Rattle.script_databases.specs.Databases.{State, peer_at, with_peer, text_cmp}
-use Rattle.script_databases.specs.Carrying.{deny_refuses, with_both}
+use Rattle.script_databases.specs.Carrying.{deny_refuses, with_both, WatchedIntoAnother}
+use Rattle.script_databases.specs.declared.carrying.Watched.{Watched}
 use Rattle.script_databases.specs.Tables.{Beside, AllDeny, Entries, IsIndex, denied_of, deny_of, peers_of, state_of}
 use Rattle.script_databases.specs.declared.refusal.Refusal.{Refusal}
 use Rattle.script_databases.specs.declared.refusal.Refusal.TheVariants as why
@@ -105,19 +111,19 @@ index_carried old new source target s t s' t' uuids ne e f es et is index =
 -- ---- a run between two filters is one between what they refuse
 
 -- what is refused early leaves both as they are
-early_denied : (may : Place → Type 0) (answer : Result (Unit {0}) PoolFault) (deny : Option (List ℕ)) (s t s' t' : Rules × PeerValue) (fetched : List ℕ) (outcome : Result Report PoolFault) → EarlyOrLate may answer s t s' t' fetched outcome →
-    EarlyOrLate may answer (deny, s.1) (deny, t.1) (deny, s'.1) (deny, t'.1) fetched outcome
-early_denied may (Err why) deny s t s' t' fetched outcome h = (h.0, ap (λ (p : Rules × PeerValue). (deny, p.1)) h.1, ap (λ (p : Rules × PeerValue). (deny, p.1)) h.2, h.3)
-early_denied may (Ok done) deny s t s' t' fetched outcome h = h
+early_denied : (full : Type 0) (may : Place → Type 0) (answer : Result (Unit {0}) PoolFault) (deny : Option (List ℕ)) (s t s' t' : Rules × PeerValue) (fetched : List ℕ) (outcome : Result Report PoolFault) → EarlyOrLate full may answer s t s' t' fetched outcome →
+    EarlyOrLate full may answer (deny, s.1) (deny, t.1) (deny, s'.1) (deny, t'.1) fetched outcome
+early_denied full may (Err why) deny s t s' t' fetched outcome h = (h.0, ap (λ (p : Rules × PeerValue). (deny, p.1)) h.1, ap (λ (p : Rules × PeerValue). (deny, p.1)) h.2, h.3)
+early_denied full may (Ok done) deny s t s' t' fetched outcome h = h
 
 leaves_denied : (deny : Option (List ℕ)) (plan : Plan) (s t s' t' : Rules × PeerValue) (outcome : Result Report PoolFault) → LeavesOrPuts plan s t s' t' outcome → LeavesOrPuts plan (deny, s.1) (deny, t.1) (deny, s'.1) (deny, t'.1) outcome
 leaves_denied deny plan s t s' t' outcome (inl h) = inl (ap (λ (p : Rules × PeerValue). (deny, p.1)) h.0, ap (λ (p : Rules × PeerValue). (deny, p.1)) h.1, h.2)
 leaves_denied deny plan s t s' t' outcome (inr h) = inr h
 
-pub run_denied : (may : Place → Type 0) (plan : Plan) (deny : Option (List ℕ)) (s t s' t' : Rules × PeerValue) (fetched : List ℕ) (outcome : Result Report PoolFault) → rules_refuse t.0 ≡ deny_refuses deny → Runs rules_refuse may plan s t s' t' fetched outcome →
-    Runs deny_refuses may plan (deny, s.1) (deny, t.1) (deny, s'.1) (deny, t'.1) fetched outcome
-run_denied may plan deny s t s' t' fetched outcome same runs = record {
-  early = early_denied may (early_answer s.1 t.1 plan) deny s t s' t' fetched outcome runs.early;
+pub run_denied : (full : Type 0) (may : Place → Type 0) (plan : Plan) (deny : Option (List ℕ)) (s t s' t' : Rules × PeerValue) (fetched : List ℕ) (outcome : Result Report PoolFault) → rules_refuse t.0 ≡ deny_refuses deny → RunsOn rules_refuse full may plan s t s' t' fetched outcome →
+    RunsOn deny_refuses full may plan (deny, s.1) (deny, t.1) (deny, s'.1) (deny, t'.1) fetched outcome
+run_denied full may plan deny s t s' t' fetched outcome same runs = record {
+  early = early_denied full may (early_answer s.1 t.1 plan) deny s t s' t' fetched outcome runs.early;
   filter = refl;
   log = runs.log;
   grown = (refl, subst (λ f. IsGrown f s.1.db t.1 t'.1) same runs.grown.1);
@@ -126,3 +132,17 @@ run_denied may plan deny s t s' t' fetched outcome same runs = record {
   put = leaves_denied deny plan s t s' t' outcome runs.put;
   well = runs.well;
 }
+
+-- ---- a run that was watched
+
+pub index_watched : (old new : State) (source target : List ℕ) (s t : PeerValue) (plan : Plan) (result : Result Watched PoolFault) (uuids : List ℕ) → source ≢ target → peer_at old source ≡ Some s → peer_at old target ≡ Some t →
+    WatchedIntoAnother old source target s t plan result new → IsIndex old uuids → IsIndex new uuids
+index_watched old new source target s t plan result uuids ne e f (inl h) index = subst (λ st. IsIndex st uuids) (sym h.1) index
+index_watched old new source target s t plan result uuids ne e f (inr (shown, s', t', fetched, run, is)) index =
+    index_carried old new source target s t s' t' uuids ne e f (ap (λ (p : PeerValue). p.db.uuid) run.log) run.later.db.uuid is index
+
+-- the last seat of a new board came with it
+pub new_last : (b : Board) (seats rest : List BoardSeat) (last : BoardSeat) → AreNew b seats → seats ≡ rest ++ (last ∷ []) → CameWith b last
+new_last b seats rest last new e =
+    let l : length seats ≡ length rest + 1 = ap (length {A = BoardSeat}) e ∙ length-append rest (last ∷ []) in
+    subst (CameWith b) (ap (λ (xs : List BoardSeat). slice_index_or xs (length rest) last) e ∙ get_or-append_seam rest last [] last) (new_came b seats new (length rest) last (omega (arith, l)))

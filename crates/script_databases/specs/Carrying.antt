@@ -1,11 +1,12 @@
 -- Replications between two of the databases: docs/PROFILE.md, "Command lines".
-use Rattle.std.specs.Prelude.{◌≡◌, ◌≢◌, ◌⊎◌, ℕ, Bool, false, nat_eq, List, Option, Some, Result, Err}
+use Rattle.std.specs.Prelude.{◌≡◌, ◌≢◌, ◌⊎◌, ℕ, Bool, false, nat_eq, List, Option, Some, Result, Ok, Err, IfOk, ◌≤◌}
 use Rattle.std.specs.List.{starts_with}
 use Rattle.std.specs.Option.{option_map_or}
 use Rattle.doc_json.specs.Document.{Document}
 use Rattle.repl_pool.specs.Faults.{early_answer}
-use Rattle.repl_pool.specs.Runs.{Runs}
+use Rattle.repl_pool.specs.Runs.{Runs, RunsOn}
 use Rattle.repl_pool.specs.declared.fault.PoolFault.{PoolFault}
+use Rattle.repl_pool.specs.declared.fault.PoolFault.TheVariants as faults
 use Rattle.repl_pool.specs.declared.gate.Place.{Place}
 use Rattle.repl_target.specs.Peer.{PeerValue}
 use Rattle.repl_target.specs.Replication.{plan_answer, Replicates}
@@ -13,6 +14,7 @@ use Rattle.repl_target.specs.declared.fault.Report.{Report}
 use Rattle.repl_target.specs.declared.fault.TargetFault.{TargetFault}
 use Rattle.repl_target.specs.declared.replication.Plan.{Plan}
 use Rattle.script_databases.specs.Databases.{State, peer_at, with_peer}
+use Rattle.script_databases.specs.declared.carrying.Watched.{Watched}
 
 -- a target refuses the documents whose ids begin with what the program denies
 abbrev pub deny_refuses : Option (List ℕ) → Document → Bool
@@ -41,6 +43,21 @@ abbrev pub ByPoolIntoAnother : State → List ℕ → List ℕ → PeerValue →
 ByPoolIntoAnother old source target s t plan result new =
     (s' : PeerValue) × (t' : PeerValue) × (fetched : List ℕ)
     × Runs deny_refuses Nowhere plan (old.program.deny, s) (old.program.deny, t) (old.program.deny, s') (old.program.deny, t') fetched result
+    × (new ≡ with_both old source target s' t')
+
+-- ---- by the pool, with its progress on a board
+
+-- how a run ended that was watched
+abbrev pub unwatched : Result Watched PoolFault → Result Report PoolFault
+unwatched (Ok watched) = Ok watched.report
+unwatched (Err why) = Err why
+
+-- of one into another: no more was settled than was read; or nothing was done, where memory was wanting for the board
+abbrev pub WatchedIntoAnother : State → List ℕ → List ℕ → PeerValue → PeerValue → Plan → Result Watched PoolFault → State → Type 0
+WatchedIntoAnother old source target s t plan result new =
+    (result ≡ Err faults.Memory) × (new ≡ old)
+    ⊎ IfOk result (λ w. w.settled ≤ w.read) × (s' : PeerValue) × (t' : PeerValue) × (fetched : List ℕ)
+    × RunsOn deny_refuses (Unit {0}) Nowhere plan (old.program.deny, s) (old.program.deny, t) (old.program.deny, s') (old.program.deny, t') fetched (unwatched result)
     × (new ≡ with_both old source target s' t')
 
 -- ---- between any two names

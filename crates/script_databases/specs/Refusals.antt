@@ -91,6 +91,7 @@ run_stop_of (pool.Refused fault) = stop_of fault
 run_stop_of (pool.Halted place) = Err why.Halted
 run_stop_of (pool.Hole seq id rev) = Err why.Hole
 run_stop_of pool.CountFull = Err why.CountFull
+run_stop_of pool.BoardFull = Err why.BoardFull
 run_stop_of pool.Memory = Err why.Memory
 
 -- a result whose fault is told as a refusal

@@ -1,12 +1,12 @@
 //! The databases of a script.
-ghost use Rattle.std.specs.Prelude.{◌≡◌, false, true, None, Some, Err, IfOk, OnErr, OnOk, option_map};
+ghost use Rattle.std.specs.Prelude.{◌≡◌, ◌≢◌, ◌≤◌, false, true, None, Some, Err, IfOk, OnErr, OnOk, option_map};
 ghost use Rattle.std.specs.FinMap.{contains_key};
 ghost use Rattle.std.specs.Option.{option_copied};
 ghost use Rattle.repl_target.specs.Peer.{PeerValue};
 ghost use Rattle.repl_target.specs.Replication.{plan_answer};
 ghost use Rattle.repl_pool.specs.Faults.{early_answer};
 
-use crate::carrying::{replicate_alone_at, replicate_at};
+use crate::carrying::{Watched, replicate_alone_at, replicate_at, replicate_watched_at};
 use crate::made_ids::MadeIds;
 use crate::named::{add_at, edit_at, load_at};
 use crate::refusal::Refusal;
@@ -63,7 +63,7 @@ impl Databases {
     ghost use Rattle.script_databases.specs.Tables.{deny_of, program_of};
     ghost use Rattle.repl_target.specs.Peer.{new_peer};
     ghost use Rattle.script_databases.specs.Refusals.{GivesUnlessMemory};
-    ghost use Rattle.script_databases.specs.Carrying.{CarriedAlone, CarriedByPool, CarriesFrom};
+    ghost use Rattle.script_databases.specs.Carrying.{CarriedAlone, CarriedByPool, CarriesFrom, WatchedIntoAnother};
 
     /// No databases, with a copy of the settings, from whose seed ids are made.
     pub fn new(alloc: Global, settings: &Settings) -> Result<Databases, AllocError>
@@ -187,6 +187,27 @@ impl Databases {
             return Err(pool_refuses_itself(plan));
         }
         replicate_at(&mut self.by_name, rt, alloc, source, target, plan)
+    }
+
+    /// Replicates from the database of one name into that of another by the pool, as `replicate`, over a new board with one
+    /// viewer, which reads it once the run has ended. Both are there, and the plan's workers are 1 to 64. It waits.
+    ///
+    /// `Memory` too, with nothing changed, where there is none for the board.
+    pub fn replicate_watched<H: Threads + Wait + Sync>(
+        &mut self,
+        rt: &H,
+        alloc: Global,
+        source: &str,
+        target: &str,
+        plan: &Plan,
+    ) -> Result<Watched, PoolFault>
+        requires source { contains_key self.old.peers source.now ≡ true }
+        requires target { contains_key self.old.peers target.now ≡ true }
+        requires two { source.now ≢ target.now }
+        requires workers { (1 ≤ plan.now.workers) × (plan.now.workers ≤ 64) }
+        ensures { CarriesFrom WatchedIntoAnother self.old source.now target.now plan.now result self.new }
+    {
+        replicate_watched_at(&mut self.by_name, rt, alloc, source, target, plan)
     }
 
     /// Replicates from the database of one name into that of another by one thread. Both are there.

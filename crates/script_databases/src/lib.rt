@@ -10,6 +10,7 @@ mod named;
 mod refusal;
 mod settings;
 
+pub use carrying::Watched;
 pub use databases::{Databases, Edited};
 pub use made_ids::MadeIds;
 pub use refusal::Refusal;

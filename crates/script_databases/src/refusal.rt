@@ -328,6 +328,7 @@ impl Refusal {
             PoolFault::Halted(_) => Err(Refusal::Halted),
             PoolFault::Hole { .. } => Err(Refusal::Hole),
             PoolFault::CountFull => Err(Refusal::CountFull),
+            PoolFault::BoardFull => Err(Refusal::BoardFull),
             PoolFault::Memory => Err(Refusal::Memory),
         }
     }

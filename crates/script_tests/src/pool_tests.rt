@@ -78,6 +78,58 @@ fn refuses_replications_by_the_pool(rt: HostRuntime) -> Result<(), Fail> {
     Ok(())
 }
 
+/// Scripts whose replications tell their progress, each with what it prints.
+static PROGRESS: &[(&str, &str, &str)] = &[
+    (
+        "progress-shown",
+        r#"{"do":"load","db":"a","doc":{"_id":"d","_rev":"2-a","_revisions":{"start":2,"ids":["a","r"]}}}
+{"do":"load","db":"a","doc":{"_id":"d","_rev":"2-b","_revisions":{"start":2,"ids":["b","r"]}}}
+{"do":"load","db":"b"}
+{"do":"replicate","source":"a","target":"b","session":"00000000000000000000000000000001","progress":true}
+"#,
+        r#"loaded a "d" 2-a seq 1
+loaded a "d" 2-b seq 2
+made b
+progress 2 of 2
+session 00000000000000000000000000000001 from 0 to 2 checked 2 found 2 read 2 written 2 failed 0
+"#,
+    ),
+    (
+        "progress-not-shown",
+        r#"{"do":"load","db":"a","doc":{"_id":"d","_rev":"1-a","_revisions":{"start":1,"ids":["a"]}}}
+{"do":"load","db":"b"}
+{"do":"replicate","source":"a","target":"b","session":"00000000000000000000000000000001","progress":true,"stop_after":0}
+{"do":"replicate","source":"a","target":"b","session":"00000000000000000000000000000002","progress":true,"workers":0}
+{"do":"replicate","source":"a","target":"b","session":"00000000000000000000000000000002","progress":true,"workers":65}
+{"do":"replicate","source":"a","target":"a","session":"00000000000000000000000000000002","progress":true}
+{"do":"replicate","source":"a","target":"b","session":"00000000000000000000000000000001","progress":true}
+{"do":"replicate","source":"a","target":"b","session":"00000000000000000000000000000002","progress":1}
+{"do":"replicate","source":"a","target":"b","session":"00000000000000000000000000000002","progress":true,"alone":true}
+{"do":"replicate","source":"a","target":"b","session":"00000000000000000000000000000003","progress":false}
+"#,
+        r#"loaded a "d" 1-a seq 1
+made b
+stopped 00000000000000000000000000000001 at 0
+refused 4 NoWorkers
+refused 5 TooManyWorkers
+refused 6 SamePeer
+refused 7 SessionExists
+refused 8 BadCommand
+session 00000000000000000000000000000002 from 0 to 1 checked 1 found 1 read 1 written 1 failed 0
+session 00000000000000000000000000000003 from 1 to 1 checked 0 found 0 read 0 written 0 failed 0
+"#,
+    ),
+];
+
+#[test]
+fn tells_progress(rt: HostRuntime) -> Result<(), Fail> {
+    for (name, input, answers) in PROGRESS {
+        let (_, text) = run_with(&rt, &Settings::new(), input.as_bytes())?;
+        assert_eq!(rt; text.as_slice(), answers.as_bytes(), "{name}");
+    }
+    Ok(())
+}
+
 /// How many documents, and so how many windows of one row, the script of windows replicates.
 const DOCUMENTS: u64 = 300;
 

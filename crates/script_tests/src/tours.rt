@@ -116,4 +116,30 @@ last 5
 clean
 "#,
     ),
+    (
+        "progress",
+        r#"{"do":"load","db":"work","doc":{"_id":"plan","_rev":"1-a","title":"garden"}}
+{"do":"load","db":"work","doc":{"_id":"budget","_rev":"1-a","euros":100}}
+{"do":"load","db":"work","doc":{"_id":"notes","_rev":"1-a","text":"seeds"}}
+{"do":"load","db":"backup"}
+{"do":"replicate","source":"work","target":"backup","session":"00000000000000000000000000000001","batch":1,"workers":2,"progress":true}
+{"do":"load","db":"work","doc":{"_id":"plan","_rev":"2-b","_revisions":{"start":2,"ids":["b","a"]},"title":"orchard"}}
+{"do":"replicate","source":"work","target":"backup","session":"00000000000000000000000000000002","progress":true}
+{"do":"replicate","source":"work","target":"backup","session":"00000000000000000000000000000003","progress":true}
+{"do":"audit","source":"work","target":"backup"}
+"#,
+        r#"loaded work "plan" 1-a seq 1
+loaded work "budget" 1-a seq 2
+loaded work "notes" 1-a seq 3
+made backup
+progress 3 of 3
+session 00000000000000000000000000000001 from 0 to 3 checked 3 found 3 read 3 written 3 failed 0
+loaded work "plan" 2-b seq 4
+progress 1 of 1
+session 00000000000000000000000000000002 from 3 to 4 checked 1 found 1 read 1 written 1 failed 0
+progress 0 of 0
+session 00000000000000000000000000000003 from 4 to 4 checked 0 found 0 read 0 written 0 failed 0
+clean
+"#,
+    ),
 ];

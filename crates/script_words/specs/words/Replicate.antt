@@ -1,5 +1,6 @@
 -- `replicate`: docs/PROFILE.md, "Command lines", "Order of checks" and "Answers".
-use Rattle.std.specs.Prelude.{◌≡◌, ◌⊎◌, ◌<◌, ◌≤◌, ℕ, Bool, true, false, List, [], ◌∷◌, ◌++◌, codes, decimal, Option, Some, None, unwrap_or, Result, Ok, Err}
+use Rattle.std.specs.Prelude.{◌≡◌, ◌⊎◌, ◌<◌, ◌≤◌, ℕ, Bool, true, false, not, ◌&&◌, nat_le, List, [], ◌∷◌, ◌++◌, codes, decimal, Option, Some, None, unwrap_or, Result, Ok, Err}
+use Rattle.std.specs.Str.{bytes_eq}
 use Rattle.serde_json.specs.Data.{Data}
 use Rattle.serde_json.specs.Find.{as_bool}
 use Rattle.rev_tree.specs.declared.origin.SessionId.{SessionId}
@@ -10,9 +11,10 @@ use Rattle.repl_target.specs.declared.fault.Report.{Report}
 use Rattle.repl_target.specs.declared.fault.TargetFault.{TargetFault}
 use Rattle.repl_target.specs.declared.replication.Plan.{Plan}
 use Rattle.script_engine.specs.Serving.{Told, Answering}
-use Rattle.script_databases.specs.Carrying.{CarriedAlone, CarriedByPool}
+use Rattle.script_databases.specs.Carrying.{CarriedAlone, CarriedByPool, WatchedIntoAnother}
 use Rattle.script_databases.specs.Databases.{Program, State, drawn_one, next_made}
 use Rattle.script_databases.specs.Refusals.{run_stop_of, stop_of}
+use Rattle.script_databases.specs.declared.carrying.Watched.{Watched}
 use Rattle.script_databases.specs.declared.refusal.Refusal.{Refusal}
 use Rattle.script_databases.specs.declared.refusal.Refusal.TheVariants as why
 use Rattle.script_words.specs.Checks.{◌>>=◌, needed}
@@ -20,7 +22,7 @@ use Rattle.script_words.specs.Members.{name_at, optional, if_only, as_uuid, as_w
 use Rattle.script_words.specs.Telling.{database_of, told_of, Refuses}
 use Rattle.script_words.specs.Texts.{ended}
 use Rattle.script_words.specs.declared.words.replicate.Ending.{Ending}
-use Rattle.script_words.specs.declared.words.replicate.Ending.TheVariants.{Done, Stopped}
+use Rattle.script_words.specs.declared.words.replicate.Ending.TheVariants.{Done, Shown, Stopped}
 use Rattle.script_words.specs.declared.words.replicate.Options.{Options}
 use Rattle.script_words.specs.declared.words.replicate.Replicate.{Replicate}
 
@@ -35,7 +37,7 @@ pub record ReplicateAsk : Type 0 where
 abbrev pub replicate_asked : Replicate → ReplicateAsk
 replicate_asked ask = record { source = ask.source.now; target = ask.target.now; options = ask.options }
 
--- what is left out is None, and `alone` is false then
+-- what is left out is None, and `alone` and `progress` are false then
 abbrev pub options_in : Data → Result Options Refusal
 options_in d = do
   session ← needed (optional as_uuid (codes "session") d)
@@ -44,10 +46,11 @@ options_in d = do
   at ← needed (optional as_whole (codes "at") d)
   stop_after ← needed (optional as_whole (codes "stop_after") d)
   alone ← needed (optional as_bool (codes "alone") d)
-  Ok (record { session = session; workers = workers; batch = batch; at = at; stop_after = stop_after; alone = unwrap_or alone false })
+  progress ← needed (optional as_bool (codes "progress") d)
+  Ok (record { session = session; workers = workers; batch = batch; at = at; stop_after = stop_after; alone = unwrap_or alone false; progress = unwrap_or progress false })
 
 abbrev pub replicate_keys : List (List ℕ)
-replicate_keys = codes "do" ∷ codes "source" ∷ codes "target" ∷ codes "session" ∷ codes "workers" ∷ codes "batch" ∷ codes "at" ∷ codes "stop_after" ∷ codes "alone" ∷ []
+replicate_keys = codes "do" ∷ codes "source" ∷ codes "target" ∷ codes "session" ∷ codes "workers" ∷ codes "batch" ∷ codes "at" ∷ codes "stop_after" ∷ codes "alone" ∷ codes "progress" ∷ []
 
 abbrev pub replicate_in : Data → Result ReplicateAsk Refusal
 replicate_in d = do
@@ -74,12 +77,17 @@ documents_part r = codes " read " ++ decimal r.read ++ codes " written " ++ deci
 abbrev pub report_line : Report → List ℕ
 report_line r = ended (session_part r ++ checked_part r ++ documents_part r)
 
+-- how many documents a board showed as settled, of those that it showed as read
+abbrev pub progress_line : Watched → List ℕ
+progress_line w = ended (codes "progress " ++ decimal w.settled ++ codes " of " ++ decimal w.read)
+
 -- how far a session came that its plan stopped
 abbrev pub stopped_line : SessionId → ℕ → List ℕ
 stopped_line session low_water = ended (codes "stopped " ++ id_digits session.0 ++ codes " at " ++ decimal low_water)
 
 abbrev pub ending_line : SessionId → Ending → List ℕ
 ending_line session (Done report) = report_line report
+ending_line session (Shown watched) = progress_line watched ++ report_line watched.report
 ending_line session (Stopped low_water) = stopped_line session low_water
 
 -- ---- its plan
@@ -133,11 +141,23 @@ ending_of_run (Err fault) = do
   low_water ← run_stop_of fault
   Ok (Stopped low_water)
 
--- how a replication ended that was carried by one thread, where the line says so, or else by the pool
-abbrev pub EndsBy : Bool → State → List ℕ → List ℕ → PeerValue → PeerValue → Plan → Result Ending Refusal → State → Type 0
-EndsBy true old source target s t plan ending new =
+-- by the pool, watched
+abbrev pub ending_of_watched : Result Watched PoolFault → Result Ending Refusal
+ending_of_watched (Ok watched) = Ok (Shown watched)
+ending_of_watched (Err fault) = ending_of_run (Err fault)
+
+-- a line asks for progress that a board can show: between two databases, by as many workers as a pool may have
+abbrev pub is_watched : ReplicateAsk → Plan → Bool
+is_watched ask plan = ask.options.progress && not (bytes_eq ask.source ask.target) && nat_le 1 plan.workers && nat_le plan.workers 64
+
+-- how a replication ended that was carried by one thread, where the line says so; else by the pool, with a board where the line
+-- asks for progress that one can show
+abbrev pub EndsBy : Bool → Bool → State → List ℕ → List ℕ → PeerValue → PeerValue → Plan → Result Ending Refusal → State → Type 0
+EndsBy true watched old source target s t plan ending new =
     (result : Result Report TargetFault) × CarriedAlone old source target s t plan result new × (ending ≡ ending_of result)
-EndsBy false old source target s t plan ending new =
+EndsBy false true old source target s t plan ending new =
+    (result : Result Watched PoolFault) × WatchedIntoAnother old source target s t plan result new × (ending ≡ ending_of_watched result)
+EndsBy false false old source target s t plan ending new =
     (result : Result Report PoolFault) × CarriedByPool old source target s t plan result new × (ending ≡ ending_of_run result)
 
 abbrev pub replicated_text : SessionId → Result Ending Refusal → Result (List ℕ) Refusal
@@ -150,7 +170,7 @@ abbrev pub ReplicatesBoth : State → ReplicateAsk → PeerValue × PeerValue �
 ReplicatesBoth old ask both told new =
     (last_second < moment_of old.program ask.options) × Refuses why.BadMoment (with_session old ask.options) told new
     ⊎ (moment_of old.program ask.options ≤ last_second) × (ending : Result Ending Refusal)
-    × EndsBy ask.options.alone (with_session old ask.options) ask.source ask.target both.0 both.1 (plan_of old ask.options) ending new
+    × EndsBy ask.options.alone (is_watched ask (plan_of old ask.options)) (with_session old ask.options) ask.source ask.target both.0 both.1 (plan_of old ask.options) ending new
     × (told ≡ told_of (replicated_text (plan_of old ask.options).session ending))
 
 abbrev pub ReplicatesFound : State → ReplicateAsk → Result (PeerValue × PeerValue) Refusal → Told → State → Type 0

@@ -8,7 +8,7 @@ ghost use Rattle.script_databases.specs.Carrying.{CarriesFrom};
 ghost use Rattle.script_databases.specs.declared.refusal.Refusal.TheVariants.{BadMoment};
 ghost use Rattle.script_words.specs.Checks.{needed};
 ghost use Rattle.script_words.specs.Telling.{told_by};
-ghost use Rattle.script_words.specs.words.Replicate.{Replicates, EndsBy, checked_part, documents_part, ending_line, ending_of, ending_of_run, last_second, moment_of, options_in, plan_of, replicate_asked, replicate_in, report_line, session_part, stopped_line, with_session};
+ghost use Rattle.script_words.specs.words.Replicate.{Replicates, EndsBy, checked_part, documents_part, ending_line, ending_of, ending_of_run, ending_of_watched, is_watched, last_second, moment_of, options_in, plan_of, progress_line, replicate_asked, replicate_in, report_line, session_part, stopped_line, with_session};
 
 use crate::members::{has_only_members, name_member, optional_flag, optional_uuid, optional_whole};
 use crate::texts::push_number;
@@ -16,7 +16,7 @@ use repl_log::Moment;
 use repl_pool::PoolFault;
 use repl_target::{Plan, Report, TargetFault};
 use rev_tree::SessionId;
-use script_databases::{Databases, Refusal};
+use script_databases::{Databases, Refusal, Watched};
 use serde_json::Value;
 use std::alloc::{AllocError, Global};
 use std::sync::Wait;
@@ -30,7 +30,7 @@ pub struct Replicate<'a> {
     pub options: Options,
 }
 
-/// What a line says of a replication besides its two sides: what it leaves out is none, and `alone` is false then.
+/// What a line says of a replication besides its two sides: what it leaves out is none, and `alone` and `progress` are false then.
 #[derive(Clone, Copy, Debug, PartialEq, Eq)]
 pub struct Options {
     /// The number of the UUID that is the new session's id.
@@ -45,6 +45,8 @@ pub struct Options {
     pub stop_after: Option<u64>,
     /// Whether it is to have one thread.
     pub alone: bool,
+    /// Whether it is to tell how far it came, of those that it has several threads for.
+    pub progress: bool,
 }
 
 /// How a replication ended that was not refused.
@@ -52,6 +54,8 @@ pub struct Options {
 enum Ending {
     /// It came to its goal.
     Done(Report),
+    /// It came to its goal, and its board was read then.
+    Shown(Watched),
     /// Its plan stopped it, with all done up to a sequence below the goal.
     Stopped(u64),
 }
@@ -75,6 +79,7 @@ pub fn read(value: &Value) -> Option<Replicate<'_>>
             "at",
             "stop_after",
             "alone",
+            "progress",
         ],
     ) {
         return None;
@@ -96,6 +101,7 @@ fn options_of(value: &Value) -> Option<Options>
     let at = optional_whole(value, "at")?;
     let stop_after = optional_whole(value, "stop_after")?;
     let alone = optional_flag(value, "alone")?.unwrap_or(false);
+    let progress = optional_flag(value, "progress")?.unwrap_or(false);
     Some(Options {
         session,
         workers,
@@ -103,6 +109,7 @@ fn options_of(value: &Value) -> Option<Options>
         at,
         stop_after,
         alone,
+        progress,
     })
 }
 
@@ -173,12 +180,33 @@ fn carry<H: Threads + Wait + Sync>(
 ) -> Result<Ending, Refusal>
     requires source { contains_key databases.old.peers ask.now.source.now ≡ true }
     requires target { contains_key databases.old.peers ask.now.target.now ≡ true }
-    ensures { CarriesFrom (EndsBy ask.now.options.alone) databases.old ask.now.source.now ask.now.target.now plan.now result databases.new }
+    ensures { CarriesFrom (EndsBy ask.now.options.alone (is_watched (replicate_asked ask.now) plan.now)) databases.old ask.now.source.now ask.now.target.now plan.now result databases.new }
 {
     if ask.options.alone {
         return ending_of(databases.replicate_alone(alloc, ask.source, ask.target, plan));
     }
+    if is_watched(ask, plan) {
+        let outcome = databases.replicate_watched(rt, alloc, ask.source, ask.target, plan);
+        return ending_of_watched(outcome);
+    }
     ending_of_run(databases.replicate(rt, alloc, ask.source, ask.target, plan))
+}
+
+/// Whether a line asks for progress that a board can show: between two databases, by as many workers as a pool may have.
+fn is_watched(ask: &Replicate<'_>, plan: &Plan) -> bool
+    ensures { result ≡ is_watched (replicate_asked ask.now) plan.now }
+{
+    ask.options.progress && ask.source != ask.target && plan.workers >= 1 && plan.workers <= 64
+}
+
+/// How a run of the pool ended that was watched.
+fn ending_of_watched(outcome: Result<Watched, PoolFault>) -> Result<Ending, Refusal>
+    ensures { result ≡ ending_of_watched outcome }
+{
+    match outcome {
+        Ok(watched) => Ok(Ending::Shown(watched)),
+        Err(fault) => ending_of_run(Err(fault)),
+    }
 }
 
 /// How a run of the pool ended: one that its plan stopped is not refused.
@@ -218,8 +246,23 @@ fn print(
 {
     match ending {
         Ending::Done(report) => print_report(alloc, answer, report),
+        Ending::Shown(watched) => {
+            print_progress(answer, watched)?;
+            print_report(alloc, answer, &watched.report)
+        }
         Ending::Stopped(low_water) => print_stopped(alloc, answer, session, *low_water),
     }
+}
+
+/// Prints how far a run was seen.
+fn print_progress(answer: &mut Vec<u8>, watched: &Watched) -> Result<(), AllocError>
+    ensures { OnOk result (answer.new.items ≡ answer.old.items ++ progress_line watched.now) }
+{
+    answer.extend_from_slice(b"progress ")?;
+    push_number(answer, watched.settled)?;
+    answer.extend_from_slice(b" of ")?;
+    push_number(answer, watched.read)?;
+    answer.extend_from_slice(b"\n")
 }
 
 /// Prints what a session did.
