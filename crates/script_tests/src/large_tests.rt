@@ -5,10 +5,16 @@ use script_databases::Settings;
 use script_engine::OverWrite;
 use script_words::run_script;
 use std::alloc::{AllocError, Global};
+use std::sync::Wait;
 use std::test::Fail;
+use std::thread::Threads;
 
 /// Whether a script is answered so, and no line of it refused.
-fn is_answered(rt: &HostRuntime, input: &[u8], wanted: &[u8]) -> Result<bool, Fail> {
+fn is_answered<H: AllocGlobal + Threads + Wait + Sync>(
+    rt: &H,
+    input: &[u8],
+    wanted: &[u8],
+) -> Result<bool, Fail> {
     let (clean, text) = run_with(rt, &Settings::new(), input)?;
     Ok(clean && text.as_slice() == wanted)
 }
@@ -28,8 +34,8 @@ static CARRIED: &str = concat!(
 );
 
 /// Whether lines that make d are answered so, and the document is read and carried as it is.
-fn is_carried(
-    rt: &HostRuntime,
+fn is_carried<H: AllocGlobal + Threads + Wait + Sync>(
+    rt: &H,
     lines: &[u8],
     answers: &str,
     document: &[u8],
