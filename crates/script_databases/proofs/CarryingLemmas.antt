@@ -1,5 +1,5 @@
 -- Replications between two of the databases.
-use Rattle.std.proofs.Common.{◌≡◌, ◌≢◌, ◌⊎◌, inl, inr, ℕ, Bool, true, false, cond, nat_eq, ◌+◌, List, [], ◌∷◌, ◌++◌, length, length-append, arith, Option, Some, None, is_some, Result, Ok, Err, String, string_bytes, refl, sym, ap, subst, ◌∙◌}
+use Rattle.std.proofs.Common.{◌≡◌, ◌≢◌, inl, inr, ℕ, Bool, true, false, cond, nat_eq, ◌+◌, List, [], ◌∷◌, ◌++◌, length, length-append, arith, Option, Some, None, is_some, Result, Ok, Err, String, string_bytes, refl, sym, ap, subst, ◌∙◌}
 use Rattle.std.specs.Prelude.{option_map, slice_index_or}
 use Rattle.std.proofs.Math.Seq.{get_or-append_seam}
 use Rattle.std.specs.List.{starts_with}
@@ -11,7 +11,6 @@ use Rattle.std.proofs.lemmas.Cmp.{nat_list_cmp_total, tied_itself}
 use Rattle.std.specs.Str.{bytes_eq}
 use Rattle.std.proofs.lemmas.Bool.{true≢false}
 use Rattle.std.proofs.lemmas.Map.Text.{is_eq-slice_cmp}
-use Rattle.couch_base.specs.ListLaws.{some_is}
 use Rattle.doc_json.specs.Document.{Document}
 use Rattle.repl_target.specs.Peer.{PeerValue}
 use Rattle.repl_target.specs.Rules.{rules_refuse}
@@ -30,9 +29,7 @@ use Rattle.repl_target.specs.declared.replication.Plan.{Plan}
 use Rattle.script_databases.specs.Databases.{State, peer_at, with_peer, text_cmp}
 use Rattle.script_databases.specs.Carrying.{deny_refuses, with_both, WatchedIntoAnother}
 use Rattle.script_databases.specs.declared.carrying.Watched.{Watched}
-use Rattle.script_databases.specs.Tables.{Beside, AllDeny, Entries, IsIndex, denied_of, deny_of, peers_of, state_of}
-use Rattle.script_databases.specs.declared.refusal.Refusal.{Refusal}
-use Rattle.script_databases.specs.declared.refusal.Refusal.TheVariants as why
+use Rattle.script_databases.specs.Tables.{AllDeny, Entries, IsIndex, denied_of, deny_of}
 use Rattle.script_databases.proofs.IndexLemmas.{index_written}
 use Rattle.script_databases.proofs.TableLemmas.{insert-same, is_equal, text_cmp-IsAntisymmetric}
 

@@ -1,7 +1,5 @@
-use Rattle.std.proofs.Common.{Some, sym, ap, ◌∙◌, subst}
+use Rattle.std.proofs.Common.{ap, ◌∙◌}
 use Rattle.std.specs.FinMap.{contains_key}
-use Rattle.repl_target.specs.Peer.{PeerValue}
-use Rattle.repl_target.specs.declared.filter.Rules.{Rules}
 use Rattle.script_databases.specs.Databases.{State}
 use Rattle.script_databases.specs.Carrying.{Nowhere}
 use Rattle.script_databases.specs.Tables.{deny_of, denied_of, peers_of}

@@ -1,16 +1,12 @@
-use Rattle.std.proofs.Common.{◌≡◌, ◌≤◌, ℕ, List, Some, Result, Ok, Err, inr, refl, sym, ap, ◌∙◌, subst, arith, length}
-use Rattle.std.specs.Prelude.{IfOk}
+use Rattle.std.proofs.Common.{Result, Ok, inr, sym, ap, ◌∙◌, subst, arith}
 use Rattle.std.specs.FinMap.{contains_key}
-use Rattle.repl_pool.proofs.NewSeats.{new_came, new_workers}
+use Rattle.repl_pool.proofs.NewSeats.{new_workers}
 use Rattle.repl_pool.specs.Runs.{RunsOn}
 use Rattle.repl_pool.specs.declared.fault.PoolFault.{PoolFault}
-use Rattle.repl_target.specs.Peer.{PeerValue}
 use Rattle.repl_target.specs.declared.fault.Report.{Report}
-use Rattle.repl_target.specs.declared.filter.Rules.{Rules}
 use Rattle.script_databases.specs.Databases.{State}
-use Rattle.script_databases.specs.Carrying.{Nowhere, deny_refuses, unwatched}
+use Rattle.script_databases.specs.Carrying.{Nowhere, deny_refuses}
 use Rattle.script_databases.specs.Tables.{deny_of, denied_of, peers_of}
-use Rattle.script_databases.specs.declared.carrying.Watched.{Watched}
 use Rattle.script_databases.proofs.CarryingLemmas.{denied_back, new_last, refuses_is, run_denied, still_there, written_over}
 use Rattle.script_databases.proofs.carrying.replicate_watched_at.Goals as goal
 

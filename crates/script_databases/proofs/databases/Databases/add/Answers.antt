@@ -1,7 +1,7 @@
-use Rattle.std.proofs.Common.{refl, ap, sym, ◌∙◌}
-use Rattle.script_databases.specs.Databases.{peer_at, with_peer}
+use Rattle.std.proofs.Common.{ap, sym, ◌∙◌}
+use Rattle.script_databases.specs.Databases.{peer_at}
 use Rattle.script_databases.specs.Tables.{beside_of}
-use Rattle.script_databases.proofs.IndexLemmas.{kept_or_added, state_with}
+use Rattle.script_databases.proofs.IndexLemmas.{kept_or_added}
 use Rattle.script_databases.proofs.databases.Databases.add.Goals as goal
 
 pub invariant_of-self : goal.invariant_of-self

@@ -1,6 +1,3 @@
-use Rattle.std.proofs.Common.{ap, ◌∙◌}
-use Rattle.script_databases.specs.Databases.{no_databases}
-use Rattle.script_databases.specs.Tables.{program_of}
 use Rattle.script_databases.proofs.IndexLemmas.{index_none, none_deny}
 use Rattle.script_databases.proofs.databases.Databases.new.Goals as goal
 

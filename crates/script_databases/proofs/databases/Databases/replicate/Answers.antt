@@ -1,4 +1,4 @@
-use Rattle.std.proofs.Common.{◌≡◌, Result, subst, inr, ap}
+use Rattle.std.proofs.Common.{subst, inr, ap}
 use Rattle.repl_target.specs.Peer.{PeerValue}
 use Rattle.script_databases.specs.Carrying.{CarriedByPool, CarriesFrom}
 use Rattle.script_databases.specs.Databases.{State}

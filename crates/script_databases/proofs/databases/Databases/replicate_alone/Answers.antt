@@ -1,4 +1,4 @@
-use Rattle.std.proofs.Common.{◌≡◌, Result, subst, inr}
+use Rattle.std.proofs.Common.{subst, inr}
 use Rattle.script_databases.specs.Carrying.{CarriedAlone, CarriesFrom}
 use Rattle.script_databases.specs.Databases.{State}
 use Rattle.script_databases.specs.Tables.{beside_of, state_of}

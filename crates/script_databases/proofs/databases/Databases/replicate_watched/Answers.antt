@@ -1,4 +1,4 @@
-use Rattle.std.proofs.Common.{◌≡◌, Result, subst}
+use Rattle.std.proofs.Common.{subst}
 use Rattle.script_databases.specs.Carrying.{CarriesFrom, WatchedIntoAnother}
 use Rattle.script_databases.specs.Databases.{State}
 use Rattle.script_databases.specs.Tables.{beside_of, state_of}
