@@ -17,8 +17,8 @@ pub(crate) enum Call<'a> {
     DatabaseAt(u128, u64),
     /// Puts a document.
     Put(usize, &'a str),
-    /// Edits a document: its id, the parent (an empty text for none), whether it is deleted, the body, and the number of
-    /// the local write.
+    /// Edits a document: its id, the parent (an empty text for none), whether it is deleted, the body, and the number
+    /// of the local write.
     Edit(usize, &'a str, &'a str, bool, &'a str, u64),
     /// Reads the uuid and the update sequence.
     Numbers(usize),

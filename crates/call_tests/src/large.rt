@@ -61,7 +61,8 @@ pub(crate) fn edit_large(alloc: Global, peer: &mut Peer<Rules>, letters: usize) 
     edit_text(alloc, peer.edit(&id, None, false, &body))
 }
 
-/// Reads how large the tree of d is: the winner, the leaves, the revisions, the winner's ancestry and the length of its body.
+/// Reads how large the tree of d is: the winner, the leaves, the revisions, the winner's ancestry and the length of its
+/// body.
 pub(crate) fn sizes(alloc: Global, peer: &Peer<Rules>) -> Option<String> {
     let id = DocId::parse(alloc, "d").ok()?;
     let tree = peer.db().tree(&id)?;

@@ -1,7 +1,7 @@
 //! Tests of databases and peers, each a table of calls with the texts that they must answer.
 //!
-//! A bench holds the databases or peers and what was read and fetched from them. It makes a call by its name, so a proof
-//! sees each kind of call once, and a test is data: it needs no proof of its own that is worth the name.
+//! A bench holds the databases or peers and what was read and fetched from them. It makes a call by its name, so a
+//! proof sees each kind of call once, and a test is data: it needs no proof of its own that is worth the name.
 #![tactic(auto)]
 
 #[cfg(test)]

@@ -212,7 +212,8 @@ fn run_watched<R: Abort + Threads + Wait + Sync>(
     viewers: Viewers,
 ) -> (Option<String>, u32)
     requires seats { All (WorksAt board.now) seats.items }
-    requires viewers { CameWith board.now viewers.0 × CameWith board.now viewers.1 × CameWith board.now viewers.2 × CameWith board.now viewers.3 }
+    requires viewers { CameWith board.now viewers.0 × CameWith board.now viewers.1 × CameWith board.now viewers.2
+        × CameWith board.now viewers.3 }
 {
     let (a, b, c, d) = viewers;
     thread::scope(
@@ -220,7 +221,8 @@ fn run_watched<R: Abort + Threads + Wait + Sync>(
         rt,
         |scope| -> (Option<String>, u32)
             requires seats { All (WorksAt board.now) seats.items }
-            requires viewers { CameWith board.now a × CameWith board.now b × CameWith board.now c × CameWith board.now d }
+            requires viewers { CameWith board.now a × CameWith board.now b × CameWith board.now c
+                × CameWith board.now d }
         {
             let first = scope.spawn(
                 move || -> bool

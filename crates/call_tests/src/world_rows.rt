@@ -68,7 +68,8 @@ fn steps_with_crash_and_the_older_entry(rt: HostRuntime) {
 
 #[test]
 fn edits_while_messages_are_under_way(rt: HostRuntime) {
-    // The source edits d once its window is read, so that the descendant is fetched; the target has a document of its own.
+    // The source edits d once its window is read, so that the descendant is fetched; the target has a document of its
+    // own.
     static STEPS: Acts = &[
         Act::LoadSource(r#"{"_id":"d","_rev":"1-a"}"#),
         Act::Begin(S1, 0, 1),
@@ -144,7 +145,8 @@ static WHOLE: Acts = &[
 
 static CRASH: Acts = &[Act::Crash];
 
-/// The beginnings of a session on what both logs agree about, each with one window up to the goal; at the goal there is none.
+/// The beginnings of a session on what both logs agree about, each with one window up to the goal; at the goal there is
+/// none.
 static FROM_0: Acts = &[Act::Begin(S2, 0, 7), Act::Page(0, 7, 500)];
 
 static FROM_2: Acts = &[Act::BeginOn(S2, S1, 2, 7), Act::Page(2, 7, 500)];
@@ -193,8 +195,8 @@ fn beginning(from: u64) -> Acts {
     }
 }
 
-/// Cuts a whole replication by a crash behind each of so many steps, the first and the last of which are told, and asserts what
-/// is told then; a further session, from where both logs agree, carries the rest.
+/// Cuts a whole replication by a crash behind each of so many steps, the first and the last of which are told, and
+/// asserts what is told then; a further session, from where both logs agree, carries the rest.
 fn cut(rt: &impl Abort, alloc: Global, first: usize, last: usize, told: Told, from: u64) {
     for steps in first..=last {
         expect(rt, alloc, &[SIX, first_steps(rt, steps), CRASH], told);

@@ -13,16 +13,19 @@ use Rattle.couch_replicate.specs.Options.{Says, Refuses}
 use Rattle.couch_replicate.specs.declared.run.Ended.{Ended}
 use Rattle.couch_replicate.specs.declared.run.Ended.TheVariants.{NotRun, Ran}
 
--- What a script was answered, of a program that is set so: all of it, or a beginning, which a fault of a read or of memory cuts between two
--- answers. First what the reader has left, then what the
--- writer holds, before and after.
+-- What a script was answered, of a program that is set so: all of it, or a beginning, which a fault of a read or of
+-- memory cuts between two answers. First what the reader has left, then what
+-- the writer holds, before and after.
 abbrev pub Answered : Program → Option (List ℕ) → Option (List ℕ) → Option (List ℕ) → Result Bool ScriptFault → Type 0
-Answered program left held held' (Ok clean) = (input : List ℕ) × (text : List ℕ) × (state : State) × Gives left input × Appends held held' text
+Answered program left held held' (Ok clean) =
+    (input : List ℕ) × (text : List ℕ) × (state : State) × Gives left input × Appends held held' text
     × IsAnswered LinesAnswer (no_databases program) input clean text state
-Answered program left held held' (Err fault) = (input : List ℕ) × (text : List ℕ) × Gives left input × Appends held held' text
+Answered program left held held' (Err fault) =
+    (input : List ℕ) × (text : List ℕ) × Gives left input × Appends held held' text
     × IsToldUntil fault LinesAnswer (no_databases program) input text
 
 -- words that give no settings: nothing is read or written; else a script is run with the settings that they give
 abbrev pub Ends : List (List ℕ) → Option (List ℕ) → Option (List ℕ) → Option (List ℕ) → Option (List ℕ) → Ended → Type 0
 Ends words left left' held held' (NotRun why) = Refuses words why × (left' ≡ left) × (held' ≡ held)
-Ends words left left' held held' (Ran ended) = (s : Settings) × Says words s × Answered (program_of s) left held held' ended
+Ends words left left' held held' (Ran ended) =
+    (s : Settings) × Says words s × Answered (program_of s) left held held' ended

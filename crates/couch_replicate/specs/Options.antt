@@ -15,7 +15,9 @@ deny_option = record (new_rule (codes "deny")) { long = Some (codes "deny"); act
 
 -- an option of a whole number below 2 ^ 64
 abbrev pub number_option : List ℕ → Rule
-number_option name = record (new_rule name) { long = Some name; action = Some Set; value_names = 1; parser = Some (vp.Unsigned 0 18446744073709551615) }
+number_option name =
+    record (new_rule name)
+    { long = Some name; action = Some Set; value_names = 1; parser = Some (vp.Unsigned 0 18446744073709551615) }
 
 abbrev pub help_option : Rule
 help_option = record (new_rule (codes "help")) { long = Some (codes "help"); action = Some Help }
@@ -27,16 +29,21 @@ program_app = on_top (λ s. record s { disable_help_flag = true }) (new_app (cod
 -- the program's command line
 abbrev pub options : App
 options = with_rule (with_rule (with_rule (with_rule (with_rule (with_rule program_app
-    deny_option) (number_option (codes "seed"))) (number_option (codes "at"))) (number_option (codes "workers"))) (number_option (codes "batch"))) help_option
+    deny_option) (number_option (codes "seed"))) (number_option (codes "at"))) (number_option (codes "workers")))
+    (number_option (codes "batch"))) help_option
 
 -- the text spells the number, or the default stands in its place
 abbrev pub IsNumber : Option (List ℕ) → ℕ → ℕ → Type 0
 IsNumber None default n = n ≡ default
-IsNumber (Some text) default n = IsNumeral 10 (without_leading_plus text) × (digits_value 10 (without_leading_plus text) < 2 ^ 64) × (n ≡ digits_value 10 (without_leading_plus text))
+IsNumber (Some text) default n =
+    IsNumeral 10 (without_leading_plus text) × (digits_value 10 (without_leading_plus text) < 2 ^ 64)
+    × (n ≡ digits_value 10 (without_leading_plus text))
 
 -- the settings are what the options' texts say
 abbrev pub AreSettings : (List ℕ → Option (List ℕ)) → (List ℕ → Option (List ℕ)) → Settings → Type 0
-AreSettings text number s = (option_map string_bytes s.deny ≡ text (codes "deny")) × IsNumber (number (codes "seed")) 0 s.seed × IsNumber (number (codes "at")) 0 s.at
+AreSettings text number s =
+    (option_map string_bytes s.deny ≡ text (codes "deny")) × IsNumber (number (codes "seed")) 0 s.seed
+    × IsNumber (number (codes "at")) 0 s.at
     × IsNumber (number (codes "workers")) 4 s.workers × IsNumber (number (codes "batch")) 500 s.batch
 
 -- the same of the words, as the command line is read

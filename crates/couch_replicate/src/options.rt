@@ -82,7 +82,8 @@ pub fn read_words<'a>(alloc: Global, words: &'a [String]) -> Result<Settings, No
 
 /// The settings that the options give.
 fn settings_of(alloc: Global, matches: &ArgMatches<'_>) -> Result<Settings, NoSettings>
-    ensures ok { IfOk result (λ s. AreSettings (first_value (found_of matches.now)) (one_text (found_of matches.now)) s) }
+    ensures ok { IfOk result
+        (λ s. AreSettings (first_value (found_of matches.now)) (one_text (found_of matches.now)) s) }
     ensures err { IfErr result (SetNothing (first_value (found_of matches.now)) (one_text (found_of matches.now))) }
 {
     let deny = match matches.get_str("deny") {
@@ -120,7 +121,8 @@ fn settings_of(alloc: Global, matches: &ArgMatches<'_>) -> Result<Settings, NoSe
 /// The number of an option, or its default. `NoNumber` where its text is none.
 fn number_of(matches: &ArgMatches<'_>, name: &str, default: u64) -> Result<u64, NoSettings>
     ensures ok { IfOk result (λ n. IsNumber (one_text (found_of matches.now) name.now) default n) }
-    ensures err { IfErr result (λ why. (why ≡ NoNumber) × ((n : ℕ) → IsNumber (one_text (found_of matches.now) name.now) default n → ⊥)) }
+    ensures err { IfErr result
+        (λ why. (why ≡ NoNumber) × ((n : ℕ) → IsNumber (one_text (found_of matches.now) name.now) default n → ⊥)) }
 {
     match matches.try_get_one::<u64>(name) {
         Ok(Some(number)) => Ok(number),

@@ -103,7 +103,8 @@ fn is_leaf(
     assert!(rt; tree.content(leaf) == Some((doc.deleted(), 0)));
 }
 
-/// Asserts that the documents from a place on are the leaves of a tree above some revisions. Gives the place behind them.
+/// Asserts that the documents from a place on are the leaves of a tree above some revisions. Gives the place behind
+/// them.
 fn brings_leaves(
     rt: &impl Abort,
     alloc: Global,

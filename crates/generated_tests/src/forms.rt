@@ -155,8 +155,8 @@ fn merge_and_read(
     agree(rt, alloc, tree, plain, asked.revs());
 }
 
-/// Fifty merges from one seed into both forms. Each is followed by readings of what was given and of other revisions, half of
-/// them of a copy, and the last by readings of every revision.
+/// Fifty merges from one seed into both forms. Each is followed by readings of what was given and of other revisions,
+/// half of them of a copy, and the last by readings of every revision.
 fn merges_alike(rt: &impl Abort, alloc: Global, seed: u64, tree: &mut Tree) {
     let mut rng = ChaCha8Rng::seed_from_u64(seed);
     let mut plain = PlainTree::new(alloc);

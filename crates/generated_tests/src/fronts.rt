@@ -20,7 +20,8 @@ fn low_water(start: u64, marks: &[bool; WINDOWS]) -> u64 {
     water
 }
 
-/// How many longest runs of marks there are above the low water. The run from the start on, up to the low water, isn't counted.
+/// How many longest runs of marks there are above the low water. The run from the start on, up to the low water, isn't
+/// counted.
 fn range_count(marks: &[bool; WINDOWS]) -> usize {
     let mut count: usize = 0;
     let mut before = true;

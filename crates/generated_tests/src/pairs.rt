@@ -1,5 +1,5 @@
-//! Replications of random pairs, by one thread and by the pool, each compared with the plain model: both sides' trees, what is
-//! covered, the report, and the session's ledger.
+//! Replications of random pairs, by one thread and by the pool, each compared with the plain model: both sides' trees,
+//! what is covered, the report, and the session's ledger.
 use crate::feeds::{document_by_chance, is_answer};
 use crate::merges::below;
 use crate::plain_sides::{Carried, IDS, PlainSide, carry};
@@ -35,7 +35,8 @@ enum Call {
     Replicate(usize),
 }
 
-/// Another source goes into a target with documents of its own, then the source, and the source once more after it has grown.
+/// Another source goes into a target with documents of its own, then the source, and the source once more after it has
+/// grown.
 static CALLS: &[Call] = &[
     Call::Grow(OTHER, 10),
     Call::GrowTarget(5),

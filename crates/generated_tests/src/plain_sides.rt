@@ -29,8 +29,8 @@ pub(crate) fn next_above(documents: &Documents, seq: u64, goal: u64) -> Option<(
 /// Of each document a bit for each revision that is meant.
 pub(crate) type Masks = [u32; IDS];
 
-/// A row of a ledger: the document, its head, and the child, its known and its given parent of a contradiction; `PLACES` for
-/// each of these three where the filter refuses it.
+/// A row of a ledger: the document, its head, and the child, its known and its given parent of a contradiction;
+/// `PLACES` for each of these three where the filter refuses it.
 pub(crate) type Row = [usize; 5];
 
 /// The tree of each document with the sequence of its latest change, and the revisions of what was refused.

@@ -1,5 +1,5 @@
-//! A plain model of a world, written from docs/PROFILE.md, "Worlds", "Sessions of a peer" and "Settling": trees are bit masks,
-//! a feed is a scan over all documents, and what was sent and stored stands in tables of plain rows.
+//! A plain model of a world, written from docs/PROFILE.md, "Worlds", "Sessions of a peer" and "Settling": trees are bit
+//! masks, a feed is a scan over all documents, and what was sent and stored stands in tables of plain rows.
 use crate::plain_sides::{IDS, Masks, PlainSide, Row, next_above, take_leaf};
 use crate::reference::mask_of;
 use std::alloc::Global;

@@ -9,7 +9,8 @@ use rev_tree::{SessionId, Tree};
 use std::alloc::Global;
 use std::process::Abort;
 
-/// Whether a peer holds the first documents, by their numbers, as its plain side does, and covers the same revisions of them.
+/// Whether a peer holds the first documents, by their numbers, as its plain side does, and covers the same revisions of
+/// them.
 pub(crate) fn agrees(
     rt: &impl Abort,
     alloc: Global,

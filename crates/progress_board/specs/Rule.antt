@@ -9,7 +9,8 @@ abbrev pub most : ℕ
 most = 9007199254740991
 
 abbrev pub seat_view : Bool → Bool → ℕ → List ℕ → List ℕ → SeatView
-seat_view deals works number reads settles = record { deals = deals; works = works; number = number; reads = reads; settles = settles }
+seat_view deals works number reads settles =
+    record { deals = deals; works = works; number = number; reads = reads; settles = settles }
 
 -- the seat that deals, of k workers, from the number n on
 abbrev pub dealer : ℕ → ℕ → SeatView
@@ -29,10 +30,12 @@ viewer v = seat_view false false 0 (replicate (length v.reads) 0) (replicate (le
 
 -- a worker's view after it added to what it has read, or settled
 abbrev pub added_read : SeatView → ℕ → SeatView
-added_read v n = seat_view v.deals v.works v.number (slice_set v.reads v.number (slice_index v.reads v.number + n)) v.settles
+added_read v n =
+    seat_view v.deals v.works v.number (slice_set v.reads v.number (slice_index v.reads v.number + n)) v.settles
 
 abbrev pub added_settled : SeatView → ℕ → SeatView
-added_settled v n = seat_view v.deals v.works v.number v.reads (slice_set v.settles v.number (slice_index v.settles v.number + n))
+added_settled v n =
+    seat_view v.deals v.works v.number v.reads (slice_set v.settles v.number (slice_index v.settles v.number + n))
 
 -- the bound of what i has read is now the number found, which was not below it; a worker finds its own number
 abbrev pub SeesRead : SeatView → ℕ → ℕ → SeatView → Type 0
@@ -40,10 +43,12 @@ SeesRead v i n w =
     (w ≡ seat_view v.deals v.works v.number (slice_set v.reads i n) v.settles)
     × (slice_index v.reads i ≤ n) × (n ≤ most) × (v.works ≡ true → v.number ≡ i → n ≡ slice_index v.reads i)
 
--- the bound of what i has settled is now the number found, which was not below it, and i has read no less; a worker finds its own number
+-- the bound of what i has settled is now the number found, which was not below it, and i has read no less; a worker
+-- finds its own number
 abbrev pub SeesSettled : SeatView → ℕ → ℕ → SeatView → Type 0
 SeesSettled v i n w =
-    (w ≡ seat_view v.deals v.works v.number (slice_set v.reads i (max (slice_index v.reads i) n)) (slice_set v.settles i n))
+    (w ≡ seat_view v.deals v.works v.number (slice_set v.reads i (max (slice_index v.reads i) n))
+    (slice_set v.settles i n))
     × (slice_index v.settles i ≤ n) × (n ≤ most) × (v.works ≡ true → v.number ≡ i → n ≡ slice_index v.settles i)
 
 -- what a seat knows is true of the words
@@ -52,8 +57,12 @@ pub record Fits (k : ℕ) (words : List ℕ) (v : SeatView) : Type 0 where
   pub settle_size : length v.settles ≡ k
   pub read_bound : (j : ℕ) → j < k → slice_index v.reads j ≤ slice_index words j
   pub settle_bound : (j : ℕ) → j < k → slice_index v.settles j ≤ slice_index words (k + j)
-  pub own : v.works ≡ true → (v.number < k) × (slice_index v.reads v.number ≡ slice_index words v.number) × (slice_index v.settles v.number ≡ slice_index words (k + v.number))
-  pub fresh : v.deals ≡ true → (v.works ≡ false) × ((j : ℕ) → v.number ≤ j → j < k → (slice_index words j ≡ 0) × (slice_index words (k + j) ≡ 0))
+  pub own : v.works ≡ true
+      → (v.number < k) × (slice_index v.reads v.number ≡ slice_index words v.number)
+      × (slice_index v.settles v.number ≡ slice_index words (k + v.number))
+  pub fresh : v.deals ≡ true
+      → (v.works ≡ false)
+      × ((j : ℕ) → v.number ≤ j → j < k → (slice_index words j ≡ 0) × (slice_index words (k + j) ≡ 0))
 
 -- one worker's words, of which the settled is at most the read
 abbrev pub InOrder : ℕ → List ℕ → Type 0
@@ -64,15 +73,19 @@ pub record Kept (k : ℕ) (words : List ℕ) (views : List SeatView) : Type 0 wh
   pub size : length words ≡ k + k
   pub order : InOrder k words
   pub fits : (id : ℕ) (v : SeatView) → get_elem? views id ≡ some v → Fits k words v
-  pub apart : (a b : ℕ) (u v : SeatView) → get_elem? views a ≡ some u → get_elem? views b ≡ some v → u.works ≡ true → v.works ≡ true → u.number ≡ v.number → a ≡ b
-  pub below : (a b : ℕ) (u v : SeatView) → get_elem? views a ≡ some u → get_elem? views b ≡ some v → u.deals ≡ true → v.works ≡ true → v.number < u.number
-  pub one : (a b : ℕ) (u v : SeatView) → get_elem? views a ≡ some u → get_elem? views b ≡ some v → u.deals ≡ true → v.deals ≡ true → a ≡ b
+  pub apart : (a b : ℕ) (u v : SeatView) → get_elem? views a ≡ some u → get_elem? views b ≡ some v → u.works ≡ true
+      → v.works ≡ true → u.number ≡ v.number → a ≡ b
+  pub below : (a b : ℕ) (u v : SeatView) → get_elem? views a ≡ some u → get_elem? views b ≡ some v → u.deals ≡ true
+      → v.works ≡ true → v.number < u.number
+  pub one : (a b : ℕ) (u v : SeatView) → get_elem? views a ≡ some u → get_elem? views b ≡ some v → u.deals ≡ true
+      → v.deals ≡ true → a ≡ b
 
 -- ---- new views
 
 -- a view whose bounds are all 0
 abbrev pub IsFresh : ℕ → Bool → ℕ → SeatView → Type 0
-IsFresh k works number v = (v.works ≡ works) × (v.number ≡ number) × (v.reads ≡ replicate k 0) × (v.settles ≡ replicate k 0)
+IsFresh k works number v =
+    (v.works ≡ works) × (v.number ≡ number) × (v.reads ≡ replicate k 0) × (v.settles ≡ replicate k 0)
 
 abbrev pub AllZero : List ℕ → Type 0
 AllZero xs = (j : ℕ) → slice_index xs j ≡ 0

@@ -22,7 +22,9 @@ seen_settled s = sum s.place.me.0.settles
 
 -- no bound has fallen
 abbrev pub IsLater : SeatView → SeatView → Type 0
-IsLater v w = ((j : ℕ) → slice_index v.reads j ≤ slice_index w.reads j) × ((j : ℕ) → slice_index v.settles j ≤ slice_index w.settles j)
+IsLater v w =
+    ((j : ℕ) → slice_index v.reads j ≤ slice_index w.reads j)
+    × ((j : ℕ) → slice_index v.settles j ≤ slice_index w.settles j)
 
 -- the seat stands for the same worker, with the same words of its own
 abbrev pub SameSeat : BoardSeat → BoardSeat → Type 0
@@ -36,11 +38,14 @@ SeesItself s settled read = s.works ≡ true → (s.settled ≤ settled) × (s.r
 
 -- why an addition to what was read is refused
 abbrev pub read_refusal : BoardSeat → ℕ → Option BoardFault
-read_refusal s n = if not s.works then Some faults.NotWorker else (if nat_lt most (s.read + n) then Some faults.BoardFull else None)
+read_refusal s n =
+    if not s.works then Some faults.NotWorker else (if nat_lt most (s.read + n) then Some faults.BoardFull else None)
 
 -- why an addition to what was settled is refused
 abbrev pub settled_refusal : BoardSeat → ℕ → Option BoardFault
-settled_refusal s n = if not s.works then Some faults.NotWorker else (if nat_lt s.read (s.settled + n) then Some faults.AheadOfRead else None)
+settled_refusal s n =
+    if not s.works then Some faults.NotWorker
+    else (if nat_lt s.read (s.settled + n) then Some faults.AheadOfRead else None)
 
 -- so many workers and viewers may share a board
 abbrev pub are_seats : ℕ → ℕ → Bool
@@ -52,7 +57,8 @@ new_fault workers viewers = if are_seats workers viewers then faults.Memory else
 
 -- ---- new seats
 
--- a new seat of this table, with k workers: the i-th is a worker's, of that number, where i is below n, and else a viewer's
+-- a new seat of this table, with k workers: the i-th is a worker's, of that number, where i is below n, and else a
+-- viewer's
 abbrev pub IsSeat : TableId → ℕ → ℕ → ℕ → BoardSeat → Type 0
 IsSeat table k n i s =
     (s.place.table_id ≡ table) × (s.works ≡ nat_lt i n) × (i < n → s.number ≡ i) × (s.read ≡ 0) × (s.settled ≡ 0)
@@ -61,8 +67,8 @@ IsSeat table k n i s =
 abbrev pub SeatsAre : TableId → ℕ → ℕ → List BoardSeat → Type 0
 SeatsAre table k n seats = (i : ℕ) (d : BoardSeat) → i < length seats → IsSeat table k n i (slice_index_or seats i d)
 
--- a seat as the board was made with it, at a place among the seats: the first are the workers', each of its number, the others are
--- viewers', and none has added or seen anything
+-- a seat as the board was made with it, at a place among the seats: the first are the workers', each of its number, the
+-- others are viewers', and none has added or seen anything
 pub record IsNew (b : Board) (i : ℕ) (s : BoardSeat) : Type 0 where
   pub came : CameWith b s
   pub works : s.works ≡ nat_lt i b.workers

@@ -22,7 +22,8 @@ pub struct Board {
 
 /// The board of a table.
 pub(crate) fn board_of(table: BoardTable, workers: usize) -> Board
-    requires { (table.shared.key ≡ workers) × (table.shared.table_id.words ≡ workers + workers) × (0 < workers) × (workers ≤ 64) }
+    requires { (table.shared.key ≡ workers) × (table.shared.table_id.words ≡ workers + workers) × (0 < workers)
+        × (workers ≤ 64) }
     ensures { (result.table.shared.table_id ≡ table.shared.table_id) × (result.workers ≡ workers) }
 {
     Board { table, workers }
@@ -34,8 +35,8 @@ impl Board {
 
     /// What all workers have settled and what they have read, as this seat has seen it then, in this order.
     ///
-    /// Settled is at most read, neither is below what the seat had seen, and a worker sees at least its own additions. It waits
-    /// for nobody, and takes no memory. The seat came with this board.
+    /// Settled is at most read, neither is below what the seat had seen, and a worker sees at least its own additions.
+    /// It waits for nobody, and takes no memory. The seat came with this board.
     pub fn read(&self, seat: &mut BoardSeat) -> (u64, u64)
         requires came { CameWith self.now seat.old }
         ensures came { CameWith self.now seat.new }
@@ -52,14 +53,15 @@ impl Board {
 
     /// Adds to what this worker has read.
     ///
-    /// `NotWorker` for a viewer; else `BoardFull` where its word would pass 2^53 - 1. A refusal changes nothing. It waits for nobody,
-    /// and takes no memory. The seat came with this board.
+    /// `NotWorker` for a viewer; else `BoardFull` where its word would pass 2^53 - 1. A refusal changes nothing. It
+    /// waits for nobody, and takes no memory. The seat came with this board.
     pub fn add_read(&self, seat: &mut BoardSeat, n: u64) -> Result<(), BoardFault>
         requires came { CameWith self.now seat.old }
         ensures came { CameWith self.now seat.new }
         ensures ok { OnOk result (read_refusal seat.old n ≡ None) }
         ensures own { OnOk result ((seat.new.read ≡ seat.old.read + n) × (seat.new.settled ≡ seat.old.settled)) }
-        ensures seen { OnOk result ((seen_read seat.new ≡ seen_read seat.old + n) × (seen_settled seat.new ≡ seen_settled seat.old)) }
+        ensures seen { OnOk result
+            ((seen_read seat.new ≡ seen_read seat.old + n) × (seen_settled seat.new ≡ seen_settled seat.old)) }
         ensures seat { (seat.new.works ≡ seat.old.works) × (seat.new.number ≡ seat.old.number) }
         ensures err { IfErr result (λ e. read_refusal seat.old n ≡ Some e) }
         ensures kept { OnErr result (seat.new ≡ seat.old) }
@@ -79,14 +81,15 @@ impl Board {
 
     /// Adds to what this worker has settled.
     ///
-    /// `NotWorker` for a viewer; else `AheadOfRead` where it would have settled more than it has read. A refusal changes nothing.
-    /// It waits for nobody, and takes no memory. The seat came with this board.
+    /// `NotWorker` for a viewer; else `AheadOfRead` where it would have settled more than it has read. A refusal
+    /// changes nothing. It waits for nobody, and takes no memory. The seat came with this board.
     pub fn add_settled(&self, seat: &mut BoardSeat, n: u64) -> Result<(), BoardFault>
         requires came { CameWith self.now seat.old }
         ensures came { CameWith self.now seat.new }
         ensures ok { OnOk result (settled_refusal seat.old n ≡ None) }
         ensures own { OnOk result ((seat.new.settled ≡ seat.old.settled + n) × (seat.new.read ≡ seat.old.read)) }
-        ensures seen { OnOk result ((seen_settled seat.new ≡ seen_settled seat.old + n) × (seen_read seat.new ≡ seen_read seat.old)) }
+        ensures seen { OnOk result
+            ((seen_settled seat.new ≡ seen_settled seat.old + n) × (seen_read seat.new ≡ seen_read seat.old)) }
         ensures seat { (seat.new.works ≡ seat.old.works) × (seat.new.number ≡ seat.old.number) }
         ensures err { IfErr result (λ e. settled_refusal seat.old n ≡ Some e) }
         ensures kept { OnErr result (seat.new ≡ seat.old) }

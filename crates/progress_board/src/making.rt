@@ -70,7 +70,8 @@ fn add_workers(table: &BoardTable, dealing: &mut Place, workers: usize, seats: &
     requires board { (table.now.shared.key ≡ workers) × (table.now.shared.table_id.words ≡ workers + workers) }
     requires desk { (dealing.old.table_id ≡ table.now.shared.table_id) × (dealing.old.me ≡ (dealer workers 0, [])) }
     requires room { (seats.old.items ≡ []) × (workers ≤ vec_capacity seats.old) }
-    ensures desk { (dealing.new.table_id ≡ table.now.shared.table_id) × (dealing.new.me ≡ (dealer workers workers, [])) }
+    ensures desk { (dealing.new.table_id ≡ table.now.shared.table_id)
+        × (dealing.new.me ≡ (dealer workers workers, [])) }
     ensures seats { SeatsAre table.now.shared.table_id workers workers seats.new.items × (vec_len seats.new ≡ workers) }
     ensures capacity { vec_capacity seats.new ≡ vec_capacity seats.old }
 {
@@ -88,11 +89,14 @@ fn add_viewers(
     viewers: usize,
     seats: &mut Vec<BoardSeat>,
 )
-    requires board { (table.now.shared.key ≡ workers) × (table.now.shared.table_id.words ≡ workers + workers) × (0 < workers) }
-    requires desk { (dealing.old.table_id ≡ table.now.shared.table_id) × (dealing.old.me ≡ (dealer workers workers, [])) }
+    requires board { (table.now.shared.key ≡ workers) × (table.now.shared.table_id.words ≡ workers + workers)
+        × (0 < workers) }
+    requires desk { (dealing.old.table_id ≡ table.now.shared.table_id)
+        × (dealing.old.me ≡ (dealer workers workers, [])) }
     requires room { (vec_len seats.old ≡ workers) × (workers + viewers ≤ vec_capacity seats.old) }
     requires seats { SeatsAre table.now.shared.table_id workers workers seats.old.items }
-    ensures seats { SeatsAre table.now.shared.table_id workers workers seats.new.items × (vec_len seats.new ≡ workers + viewers) }
+    ensures seats { SeatsAre table.now.shared.table_id workers workers seats.new.items
+        × (vec_len seats.new ≡ workers + viewers) }
 {
     for _i in 0..viewers {
         let place = admit(table, dealing, workers);

@@ -5,8 +5,8 @@
 use atomic_table::{Play, Split, TableRule};
 use std::collections::LinkedList;
 
-/// What a seat knows: whether it deals seats out or is a worker's, its number, and a lower bound for each word, of what was read
-/// and of what was settled.
+/// What a seat knows: whether it deals seats out or is a worker's, its number, and a lower bound for each word, of what
+/// was read and of what was settled.
 pub struct SeatView {
     pub deals: bool,
     pub works: bool,

@@ -50,8 +50,10 @@ pub(crate) fn look_at_settled(
     workers: usize,
     i: usize,
 ) -> u64
-    requires board { (table.now.shared.key ≡ workers) × (table.now.shared.table_id.words ≡ workers + workers) × (workers ≤ 64) }
-    requires place { (place.old.table_id ≡ table.now.shared.table_id) × (place.old.me.1 ≡ []) × (length place.old.me.0.reads ≡ workers) }
+    requires board { (table.now.shared.key ≡ workers) × (table.now.shared.table_id.words ≡ workers + workers)
+        × (workers ≤ 64) }
+    requires place { (place.old.table_id ≡ table.now.shared.table_id) × (place.old.me.1 ≡ [])
+        × (length place.old.me.0.reads ≡ workers) }
     requires i { i < workers }
     ensures place { (place.new.table_id ≡ place.old.table_id) × (place.new.me.1 ≡ []) }
     ensures sees { SeesSettled place.old.me.0 i result place.new.me.0 }
@@ -67,7 +69,8 @@ pub(crate) fn add_to_settled(
     number: usize,
     n: u64,
 )
-    requires board { (table.now.shared.key ≡ workers) × (table.now.shared.table_id.words ≡ workers + workers) × (workers ≤ 64) }
+    requires board { (table.now.shared.key ≡ workers) × (table.now.shared.table_id.words ≡ workers + workers)
+        × (workers ≤ 64) }
     requires place { (place.old.table_id ≡ table.now.shared.table_id) × (place.old.me.1 ≡ []) }
     requires own { (place.old.me.0.works ≡ true) × (place.old.me.0.number ≡ number) × (number < workers) }
     requires fits { slice_index place.old.me.0.settles number + n ≤ slice_index place.old.me.0.reads number }
@@ -82,7 +85,8 @@ pub(crate) fn add_to_settled(
 /// Cuts a worker's seat off the dealing one.
 pub(crate) fn hire(table: &BoardTable, dealer: &mut Place, workers: usize) -> Place
     requires board { (table.now.shared.key ≡ workers) × (table.now.shared.table_id.words ≡ workers + workers) }
-    requires dealer { (dealer.old.table_id ≡ table.now.shared.table_id) × (dealer.old.me.1 ≡ []) × (dealer.old.me.0.deals ≡ true) × (dealer.old.me.0.number < workers) }
+    requires dealer { (dealer.old.table_id ≡ table.now.shared.table_id) × (dealer.old.me.1 ≡ [])
+        × (dealer.old.me.0.deals ≡ true) × (dealer.old.me.0.number < workers) }
     ensures dealer { (dealer.new.table_id ≡ dealer.old.table_id) × (dealer.new.me ≡ (dealt dealer.old.me.0, [])) }
     ensures worker { (result.table_id ≡ dealer.old.table_id) × (result.me ≡ (hired dealer.old.me.0, [])) }
 {
@@ -91,7 +95,8 @@ pub(crate) fn hire(table: &BoardTable, dealer: &mut Place, workers: usize) -> Pl
 
 /// Cuts a viewer's seat off the dealing one.
 pub(crate) fn admit(table: &BoardTable, dealer: &mut Place, workers: usize) -> Place
-    requires board { (table.now.shared.key ≡ workers) × (table.now.shared.table_id.words ≡ workers + workers) × (0 < workers) }
+    requires board { (table.now.shared.key ≡ workers) × (table.now.shared.table_id.words ≡ workers + workers)
+        × (0 < workers) }
     requires dealer { (dealer.old.table_id ≡ table.now.shared.table_id) × (dealer.old.me.1 ≡ []) }
     ensures dealer { (dealer.new.table_id ≡ dealer.old.table_id) × (dealer.new.me ≡ (dealer.old.me.0, [])) }
     ensures viewer { (result.table_id ≡ dealer.old.table_id) × (result.me ≡ (viewer dealer.old.me.0, [])) }

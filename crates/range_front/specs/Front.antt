@@ -97,7 +97,8 @@ append_answer f hi = if nat_le hi (end_of f) then Err (faults.NotRising (end_of 
 -- of windows that begin at `from`, the one with both bounds gets the mark
 abbrev pub finished_from : ℕ → List FrontWindow → ℕ → ℕ → List FrontWindow
 finished_from from [] lo hi = []
-finished_from from (w ∷ ws) lo hi = (if (from == lo) && (w.hi == hi) then record w { done = true } else w) ∷ finished_from w.hi ws lo hi
+finished_from from (w ∷ ws) lo hi =
+    (if (from == lo) && (w.hi == hi) then record w { done = true } else w) ∷ finished_from w.hi ws lo hi
 
 -- the window (lo, hi] is done, and the others are as they were
 abbrev pub finished : FrontValue → ℕ → ℕ → FrontValue
@@ -105,7 +106,8 @@ finished f lo hi = record f { windows = finished_from f.start f.windows lo hi }
 
 -- what `finish` answers where there is room
 abbrev pub finish_answer : FrontValue → ℕ → ℕ → Result (Unit {0}) FrontFault
-finish_answer f lo hi = if is_window f lo hi then (if is_done f lo hi then Err faults.AlreadyDone else Ok tt) else Err faults.NoSuchWindow
+finish_answer f lo hi =
+    if is_window f lo hi then (if is_done f lo hi then Err faults.AlreadyDone else Ok tt) else Err faults.NoSuchWindow
 
 -- ---- the law
 

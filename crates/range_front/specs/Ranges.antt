@@ -42,9 +42,12 @@ abbrev pub absorbed : ℕ → List DoneRange → ℕ × List DoneRange
 absorbed hi [] = (hi, [])
 absorbed hi (r ∷ rs) = if r.lo == hi then (r.hi, rs) else (hi, r ∷ rs)
 
--- (lo, hi] at the first range that ends at lo or above it: the range ends there and grows, or begins at hi and grows, or stays behind
+-- (lo, hi] at the first range that ends at lo or above it: the range ends there and grows, or begins at hi and grows,
+-- or stays behind
 abbrev pub put_at : DoneRange → List DoneRange → ℕ → ℕ → List DoneRange
-put_at r rs lo hi = if r.hi == lo then record { lo = r.lo; hi = (absorbed hi rs).0 } ∷ (absorbed hi rs).1 else (if r.lo == hi then record { lo = lo; hi = r.hi } ∷ rs else record { lo = lo; hi = hi } ∷ (r ∷ rs))
+put_at r rs lo hi =
+    if r.hi == lo then record { lo = r.lo; hi = (absorbed hi rs).0 } ∷ (absorbed hi rs).1
+    else (if r.lo == hi then record { lo = lo; hi = r.hi } ∷ rs else record { lo = lo; hi = hi } ∷ (r ∷ rs))
 
 -- the ranges with (lo, hi] among them
 abbrev pub put_in : List DoneRange → ℕ → ℕ → List DoneRange

@@ -9,8 +9,8 @@ use std::marker::Model;
 
 /// Windows `(lo, hi]` of sequences, one behind the other from a start, each done or not.
 ///
-/// Windows are appended in order and finished in any order. The low water says up to where all are done. Above it the done
-/// windows are kept as ranges, of which none touches another or the low water.
+/// Windows are appended in order and finished in any order. The low water says up to where all are done. Above it the
+/// done windows are kept as ranges, of which none touches another or the low water.
 #[derive(Drop)]
 pub struct Front {
     start: u64,

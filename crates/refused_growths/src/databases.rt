@@ -1,5 +1,5 @@
-//! `Database::put`, `edit`, `page`, `revs_diff` and `open_revs`, and the copies of their messages. A refused growth leaves a
-//! database as it was.
+//! `Database::put`, `edit`, `page`, `revs_diff` and `open_revs`, and the copies of their messages. A refused growth
+//! leaves a database as it was.
 use anyhow::{Result, bail};
 use couch_base::{Asked, BaseFault, Database, Parcel, Put, Window};
 use doc_json::{Body, Doc, DocFault, DocId, read_body, read_doc};

@@ -1,5 +1,5 @@
-//! `run` of the pool with one worker in each crew: after a refused growth both peers come back, an audit finds nothing, and a
-//! further run ends at the goal.
+//! `run` of the pool with one worker in each crew: after a refused growth both peers come back, an audit finds nothing,
+//! and a further run ends at the goal.
 use crate::peers::load;
 use crate::replications::{is_clean, is_memory, plan};
 use anyhow::{Result, bail};

@@ -1,5 +1,5 @@
-//! `World::run`: after a refused growth the world is that of the steps before, or a settling is cut short; the steps that are
-//! left then end as all of them would have.
+//! `World::run`: after a refused growth the world is that of the steps before, or a settling is cut short; the steps
+//! that are left then end as all of them would have.
 use crate::peers::{body, doc, doc_id};
 use anyhow::{Result, bail};
 use repl_log::Moment;
@@ -15,7 +15,8 @@ const SESSION: SessionId = SessionId(1);
 /// What is seen of a session: how many windows it stores, up to where these are done, and what it has recorded.
 type Session = (usize, u64, u64);
 
-/// What is seen of a world: the update sequences of its peers, the session where it has begun, and the sizes of the bag.
+/// What is seen of a world: the update sequences of its peers, the session where it has begun, and the sizes of the
+/// bag.
 #[derive(Clone, Copy, PartialEq, Eq)]
 struct Seen {
     source: u64,
@@ -24,8 +25,8 @@ struct Seen {
     sizes: (usize, usize, usize, usize),
 }
 
-/// What is seen before each step that may be the first of those left, with its place. A settling that was cut short stands at
-/// its own place.
+/// What is seen before each step that may be the first of those left, with its place. A settling that was cut short
+/// stands at its own place.
 static BEFORE: &[(
     u64,
     u64,

@@ -70,7 +70,8 @@ IsSeated board seat = ⊥
 -- n documents more are shown as read
 abbrev pub HasRead : Option Board → ℕ → Option BoardSeat → Option BoardSeat → Type 0
 HasRead None n s t = t ≡ s
-HasRead (Some b) n (Some s) (Some t) = WorksAt b t × (t.number ≡ s.number) × (t.read ≡ s.read + n) × (t.settled ≡ s.settled)
+HasRead (Some b) n (Some s) (Some t) =
+    WorksAt b t × (t.number ≡ s.number) × (t.read ≡ s.read + n) × (t.settled ≡ s.settled)
 HasRead (Some b) n s t = ⊥
 
 -- no more are shown as settled than as read, were it n more
@@ -81,14 +82,16 @@ HasRoom board n seat = Unit {0}
 -- what is shown as settled has grown as from a to b
 abbrev pub HasSettled : Option Board → ℕ → ℕ → Option BoardSeat → Option BoardSeat → Type 0
 HasSettled None a z s t = t ≡ s
-HasSettled (Some b) a z (Some s) (Some t) = WorksAt b t × (t.number ≡ s.number) × (t.read ≡ s.read) × (t.settled + a ≡ s.settled + z)
+HasSettled (Some b) a z (Some s) (Some t) =
+    WorksAt b t × (t.number ≡ s.number) × (t.read ≡ s.read) × (t.settled + a ≡ s.settled + z)
 HasSettled (Some b) a z s t = ⊥
 
 -- and what is shown as read, where nothing was stopped
 abbrev pub HasWritten : Option Board → ℕ → ℕ → Option Halt → Option BoardSeat → Option BoardSeat → Type 0
 HasWritten None a z stopped s t = t ≡ s
 HasWritten (Some b) a z stopped (Some s) (Some t) =
-    WorksAt b t × (t.number ≡ s.number) × (s.read ≤ t.read) × (t.settled + a ≡ s.settled + z) × (stopped ≡ None → t.read + a ≡ s.read + z)
+    WorksAt b t × (t.number ≡ s.number) × (s.read ≤ t.read) × (t.settled + a ≡ s.settled + z)
+    × (stopped ≡ None → t.read + a ≡ s.read + z)
 HasWritten (Some b) a z stopped s t = ⊥
 
 -- why a writing halts

@@ -17,8 +17,8 @@ early_answer source target plan =
     else (if is_batch plan.batch then (if source.db.uuid == target.db.uuid then Err faults.SamePeer else Ok tt)
     else Err faults.BadBatch))
 
--- a fault of a run that isn't refused so: a halt by the gate stands where the gate allows one, a full board where one may be
--- found, and a hole nowhere
+-- a fault of a run that isn't refused so: a halt by the gate stands where the gate allows one, a full board where one
+-- may be found, and a hole nowhere
 abbrev pub IsLateOn : Type 0 → (Place → Type 0) → PoolFault → Type 0
 IsLateOn may_fill may_stop faults.NoWorkers = ⊥
 IsLateOn may_fill may_stop faults.TooManyWorkers = ⊥

@@ -26,7 +26,8 @@ use Rattle.repl_pool.specs.declared.fault.PoolFault.TheVariants as faults
 -- ---- how a run ends that began
 
 -- the session was concluded: nothing was refused or stopped, and all was got that was sent
-pub record IsConcluded (plan : Plan) (fault : Option PoolFault) (complete : Bool) (before after : PeerValue) (report : Report) : Type 0 where
+pub record IsConcluded (plan : Plan) (fault : Option PoolFault) (complete : Bool) (before after : PeerValue)
+    (report : Report) : Type 0 where
   pub free : fault ≡ None
   pub whole : complete ≡ true
   pub answer : conclude_answer before plan.session ≡ Ok report
@@ -38,7 +39,8 @@ unfinished_at (Ok low_water) = faults.Refused (refusals.Unfinished low_water)
 unfinished_at (Err why) = faults.Refused why
 
 -- the session was recorded: something was refused or stopped; or less was got than was sent; or it can't be concluded
-pub data IsRecorded (plan : Plan) (fault : Option PoolFault) (complete : Bool) (before after : PeerValue) : PoolFault → Type 0 where
+pub data IsRecorded (plan : Plan) (fault : Option PoolFault) (complete : Bool) (before after : PeerValue) : PoolFault
+    → Type 0 where
   stopped : {why : PoolFault} → fault ≡ Some why → after ≡ after_record before plan.session plan.at
       → IsRecorded plan fault complete before after why
   fewer : fault ≡ None → complete ≡ false → after ≡ after_record before plan.session plan.at
@@ -53,34 +55,43 @@ UnlessMemory (Err why) result = result ≡ Err why
 
 -- the entry that the target's session has then is put at the source, where an older one is passed over: surely where
 -- the run is Ok
-pub record PutsEntry (source target source' : PeerValue) (plan : Plan) (outcome : Result Report PoolFault) : Type 0 where
-  pub entry : EntryValue
-  pub told : session_answer target plan.session (λ s. Ok (entry_of s)) ≡ Ok entry
-  pub put : Result (Unit {0}) TargetFault
-  pub puts : PutsOver source (rep_between source target) entry put source'
-  pub done : IfOk outcome (λ _. put ≡ Ok tt)
+pub record PutsEntry (source target source' : PeerValue) (plan : Plan) (outcome : Result Report PoolFault) : Type 0
+  where
+    pub entry : EntryValue
+    pub told : session_answer target plan.session (λ s. Ok (entry_of s)) ≡ Ok entry
+    pub put : Result (Unit {0}) TargetFault
+    pub puts : PutsOver source (rep_between source target) entry put source'
+    pub done : IfOk outcome (λ _. put ≡ Ok tt)
 
--- what a walk above the start finds, where the session was concluded: nothing, and the entry is put; or a leaf that isn't
--- covered, and nothing is put; or no memory
-pub data Walks (source target : PeerValue) (plan : Plan) (start : ℕ) (report : Report) (source' : PeerValue) : Result Report PoolFault → Type 0 where
+-- what a walk above the start finds, where the session was concluded: nothing, and the entry is put; or a leaf that
+-- isn't covered, and nothing is put; or no memory
+pub data Walks (source target : PeerValue) (plan : Plan) (start : ℕ) (report : Report) (source' : PeerValue) : Result
+    Report PoolFault → Type 0 where
   clean : first_uncovered target (feed source.db start source.db.update_seq) ≡ None
       → PutsEntry source target source' plan (Ok report) → Walks source target plan start report source' (Ok report)
   hole : {seq : ℕ} {id : Id} {rev : RevId}
-      → first_uncovered target (feed source.db start source.db.update_seq) ≡ Some (record { seq = seq; id = id; rev = rev })
+      → first_uncovered target (feed source.db start source.db.update_seq)
+      ≡ Some (record { seq = seq; id = id; rev = rev })
       → source' ≡ source → Walks source target plan start report source' (Err (faults.Hole seq id rev))
   no_memory : PutsEntry source target source' plan (Err faults.Memory)
       → Walks source target plan start report source' (Err faults.Memory)
 
 -- from the target as the workers left it: concluded, and then the walk; or recorded, and the entry is put
-pub data Ends (plan : Plan) (start : ℕ) (fault : Option PoolFault) (complete : Bool) (source before source' after : PeerValue) : Result Report PoolFault → Type 0 where
-  concluded : {report : Report} {outcome : Result Report PoolFault} → IsConcluded plan fault complete before after report
-      → Walks source after plan start report source' outcome → Ends plan start fault complete source before source' after outcome
+pub data Ends (plan : Plan) (start : ℕ) (fault : Option PoolFault) (complete : Bool)
+    (source before source' after : PeerValue) : Result Report PoolFault → Type 0 where
+  concluded : {report : Report} {outcome : Result Report PoolFault}
+      → IsConcluded plan fault complete before after report
+      → Walks source after plan start report source' outcome
+      → Ends plan start fault complete source before source' after outcome
   recorded : {why : PoolFault} → IsRecorded plan fault complete before after why
-      → PutsEntry source after source' plan (Err why) → Ends plan start fault complete source before source' after (Err why)
+      → PutsEntry source after source' plan (Err why)
+      → Ends plan start fault complete source before source' after (Err why)
 
--- with what is known of the workers: the target had grown from the given one, each halt stands where the gate allows it,
--- and where nothing was stopped and all was got, the session had read what the fetchers fetched
-pub record EndsRun {F : Type 0} (refuses : F → Document → Bool) (may_fill : Type 0) (may_stop : Place → Type 0) (plan : Plan) (start : ℕ) (source : PeerValue) (given : F × PeerValue) (counts : List ℕ) (source' after : PeerValue) (outcome : Result Report PoolFault) : Type 0 where
+-- with what is known of the workers: the target had grown from the given one, each halt stands where the gate allows
+-- it, and where nothing was stopped and all was got, the session had read what the fetchers fetched
+pub record EndsRun {F : Type 0} (refuses : F → Document → Bool) (may_fill : Type 0) (may_stop : Place → Type 0)
+    (plan : Plan) (start : ℕ) (source : PeerValue) (given : F × PeerValue) (counts : List ℕ) (source' after : PeerValue)
+    (outcome : Result Report PoolFault) : Type 0 where
   pub fault : Option PoolFault
   pub complete : Bool
   pub before : PeerValue
@@ -92,13 +103,16 @@ pub record EndsRun {F : Type 0} (refuses : F → Document → Bool) (may_fill : 
 -- ---- a run
 
 -- what is refused early leaves both peers as they were given, and nothing is fetched; else no such refusal is told
-abbrev pub EarlyOrLate : {F : Type 0} → Type 0 → (Place → Type 0) → Result (Unit {0}) PoolFault → F × PeerValue → F × PeerValue → F × PeerValue → F × PeerValue → List ℕ → Result Report PoolFault → Type 0
+abbrev pub EarlyOrLate : {F : Type 0} → Type 0 → (Place → Type 0) → Result (Unit {0}) PoolFault → F × PeerValue
+    → F × PeerValue → F × PeerValue → F × PeerValue → List ℕ → Result Report PoolFault → Type 0
 EarlyOrLate may_fill may_stop (Err why) source target source' target' fetched outcome =
     (outcome ≡ Err why) × (source' ≡ source) × (target' ≡ target) × (fetched ≡ [])
-EarlyOrLate may_fill may_stop (Ok done) source target source' target' fetched outcome = IfErr outcome (IsLateOn may_fill may_stop)
+EarlyOrLate may_fill may_stop (Ok done) source target source' target' fetched outcome =
+    IfErr outcome (IsLateOn may_fill may_stop)
 
 -- where the session isn't begun, both peers are the given ones; else its entry is put at the source
-abbrev pub LeavesOrPuts : {F : Type 0} → Plan → F × PeerValue → F × PeerValue → F × PeerValue → F × PeerValue → Result Report PoolFault → Type 0
+abbrev pub LeavesOrPuts : {F : Type 0} → Plan → F × PeerValue → F × PeerValue → F × PeerValue → F × PeerValue
+    → Result Report PoolFault → Type 0
 LeavesOrPuts plan source target source' target' outcome =
     (source' ≡ source) × (target' ≡ target) × IsErr outcome ⊎ PutsEntry source.1 target'.1 source'.1 plan outcome
 
@@ -111,10 +125,13 @@ pub record EndsWell (source target target' : PeerValue) (plan : Plan) (n : ℕ) 
   pub sum : n ≡ report.read
 
 -- What running the pool answers, and the two peers that it gives back; a board may be found full where there is one.
-pub record RunsOn {F : Type 0} (refuses : F → Document → Bool) (may_fill : Type 0) (may_stop : Place → Type 0) (plan : Plan) (source target source' target' : F × PeerValue) (fetched : List ℕ) (outcome : Result Report PoolFault) : Type 0 where
+pub record RunsOn {F : Type 0} (refuses : F → Document → Bool) (may_fill : Type 0) (may_stop : Place → Type 0)
+    (plan : Plan) (source target source' target' : F × PeerValue) (fetched : List ℕ) (outcome : Result Report PoolFault)
+    : Type 0 where
   -- the four early refusals stand exactly where they are due; later a halt only where the gate allows it, a full board
   -- only where one may be found, and never a hole
-  pub early : EarlyOrLate may_fill may_stop (early_answer source.1 target.1 plan) source target source' target' fetched outcome
+  pub early : EarlyOrLate may_fill may_stop (early_answer source.1 target.1 plan) source target source' target' fetched
+      outcome
   -- the source is the given one but for its log
   pub filter : source'.0 ≡ source.0
   pub log : source'.1 ≡ record source.1 { outgoing = source'.1.outgoing }
@@ -129,6 +146,7 @@ pub record RunsOn {F : Type 0} (refuses : F → Document → Bool) (may_fill : T
   pub well : IfOk outcome (EndsWell source.1 target.1 target'.1 plan (sum fetched))
 
 -- without a board
-abbrev pub Runs : {F : Type 0} → (F → Document → Bool) → (Place → Type 0) → Plan → F × PeerValue → F × PeerValue → F × PeerValue → F × PeerValue → List ℕ → Result Report PoolFault → Type 0
+abbrev pub Runs : {F : Type 0} → (F → Document → Bool) → (Place → Type 0) → Plan → F × PeerValue → F × PeerValue
+    → F × PeerValue → F × PeerValue → List ℕ → Result Report PoolFault → Type 0
 Runs refuses may_stop plan source target source' target' fetched outcome =
     RunsOn refuses ⊥ may_stop plan source target source' target' fetched outcome

@@ -38,8 +38,8 @@ HasCounted x f =
     × (f.fetched ≡ amounts (view f.parcels).sent + x.1)
     × ((view f.windows).taken ≡ names (view f.parcels).sent ++ x.0 ∷ [])
 
--- what a writer knows: where it wasn't stopped, its count and its share are those of what it got, but for the parcels in
--- hand
+-- what a writer knows: where it wasn't stopped, its count and its share are those of what it got, but for the parcels
+-- in hand
 abbrev pub WriterKnows : {S L : Type 0} → List (ℕ × ℕ) → Writer S L → Type 0
 WriterKnows in_hand w =
     (view w.parcels ≡ hand 1 [] (view w.parcels).got)

@@ -33,7 +33,9 @@ pub struct FetcherOf<'a, S: Origin, G: Gate> {
 }
 
 impl<'a, S: Origin, G: Gate> Promise<Fetcher<S>> for FetcherOf<'a, S, G> {
-    ghost kept_by = { λ p r. IsSeatAt (sends_on p.lines.now.to_fetchers) r.windows × IsSeatAt (sends_on p.lines.now.to_writers) r.parcels × FetcherKnows [] r × IfSome r.stopped (Allows (G.may_stop p.gate.now)) };
+    ghost kept_by = { λ p r. IsSeatAt (sends_on p.lines.now.to_fetchers) r.windows
+        × IsSeatAt (sends_on p.lines.now.to_writers) r.parcels × FetcherKnows [] r
+        × IfSome r.stopped (Allows (G.may_stop p.gate.now)) };
 }
 
 /// What a writer gives back, and the seat that it was given.
@@ -46,7 +48,9 @@ pub struct WriterOf<'a, S: Origin, G: Gate> {
 }
 
 impl<'a, S: Origin, L: Ledger, G: Gate> Promise<Writer<S, L>> for WriterOf<'a, S, G> {
-    ghost kept_by = { λ p r. IsSeatAt (sends_on p.lines.now.to_writers) r.parcels × WriterKnows [] r × IfSome r.stopped (AllowsOn (MayFill (option_copied p.board)) (G.may_stop p.gate.now)) × WriterShows (option_copied p.board) p.seat.value r };
+    ghost kept_by = { λ p r. IsSeatAt (sends_on p.lines.now.to_writers) r.parcels × WriterKnows [] r
+        × IfSome r.stopped (AllowsOn (MayFill (option_copied p.board)) (G.may_stop p.gate.now))
+        × WriterShows (option_copied p.board) p.seat.value r };
 }
 
 /// Starts a fetcher. `None` where no thread can be made.
@@ -100,8 +104,8 @@ pub fn start_fetcher<
     scope.spawn_with(FetcherOf { lines, gate }, work).ok()
 }
 
-/// Starts a writer; there are so many others. The error is its seat, where no thread can be made: then all of them are told the end
-/// of the parcels, and it takes that end here.
+/// Starts a writer; there are so many others. The error is its seat, where no thread can be made: then all of them are
+/// told the end of the parcels, and it takes that end here.
 pub fn start_writer<
     's,
     'e: 's,
@@ -132,7 +136,9 @@ pub fn start_writer<
     requires share { (share.parts ≡ 1) × (share.amount ≡ 0) }
     requires seat { IsSeated (option_copied board) seat }
     ensures whole { IsSeatAt (sends_on lines.now.to_writers) whole.new × (view whole.new ≡ view whole.old) }
-    ensures promised { IfOk result (λ h. (h.promise.lines.now ≡ lines.now) × (h.promise.gate.now ≡ gate.now) × (option_copied h.promise.board ≡ option_copied board.entry)) }
+    ensures promised { IfOk result
+        (λ h. (h.promise.lines.now ≡ lines.now) × (h.promise.gate.now ≡ gate.now)
+        × (option_copied h.promise.board ≡ option_copied board.entry)) }
     ensures seat { IfOk result (λ h. h.promise.seat.value ≡ seat) }
     ensures back { IfErr result (λ s. AreBack (option_copied board.entry) (option_to_list seat) (option_to_list s)) }
 {
@@ -148,7 +154,8 @@ pub fn start_writer<
         requires seat { IsSeated (option_copied board) seat }
         ensures seat { IsSeatAt (sends_on lines.entry.now.to_writers) result.parcels }
         ensures knows { WriterKnows [] result }
-        ensures halted { IfSome result.stopped (AllowsOn (MayFill (option_copied board.entry)) (G.may_stop gate.entry.now)) }
+        ensures halted { IfSome result.stopped
+            (AllowsOn (MayFill (option_copied board.entry)) (G.may_stop gate.entry.now)) }
         ensures shows { WriterShows (option_copied board.entry) seat result }
     {
         write_all(

@@ -17,8 +17,8 @@ use std::alloc::Global;
 use std::marker::{Model, PhantomData};
 use std::sync::ledger::{Book, Ledger, Share};
 
-/// The target: the given one after calls whose messages are what the source answers. The book is what the run's session has
-/// read. Each method is the call of the same name on the target, for that session.
+/// The target: the given one after calls whose messages are what the source answers. The book is what the run's session
+/// has read. Each method is the call of the same name on the target, for that session.
 #[derive(Drop)]
 pub struct Desk<F: WriteFilter, S: Origin, J: Given<F>, L: Ledger> {
     target: Peer<F>,
@@ -103,7 +103,8 @@ impl<F: WriteFilter, S: Origin, J: Given<F>, L: Ledger> Desk<F, S, J, L> {
         ensures taken { share.new.amount ≡ share.old.amount + taken result (length fetched.docs) }
         ensures most { taken result (length fetched.docs) ≤ length fetched.docs }
         ensures filter { self.new.0 ≡ self.old.0 }
-        ensures settles { IfSome J.given (λ g. SettleGives (F.refuses self.old.0) self.old.1 g.1 fetched result self.new.1) }
+        ensures settles { IfSome J.given
+            (λ g. SettleGives (F.refuses self.old.0) self.old.1 g.1 fetched result self.new.1) }
     {
         // The reading tells the proof that the peer is lawful.
         let _uuid = self.target.db().uuid();

@@ -90,8 +90,8 @@ fn put_entry<F: WriteFilter>(
 
 /// Walks over the source's feed above a run's start, where the run was concluded, and puts its entry.
 ///
-/// `Hole` is the first leaf that the target doesn't cover; nothing is put then. `Memory` where the walk or the log finds
-/// none.
+/// `Hole` is the first leaf that the target doesn't cover; nothing is put then. `Memory` where the walk or the log
+/// finds none.
 fn walk_and_put<F: WriteFilter>(
     alloc: Global,
     source: &mut Peer<F>,
@@ -151,7 +151,8 @@ pub fn end<F: WriteFilter>(
     ensures filter { result.source.0 ≡ source.0 }
     ensures source { result.source.1 ≡ record source.1 { outgoing = result.source.1.outgoing } }
     ensures grown { (db : DatabaseValue) → GrownPeer F.refuses db summed.target result.target }
-    ensures ends { Ends plan.now start summed.fault summed.complete source.1 summed.target.1 result.source.1 result.target.1 result.outcome }
+    ensures ends { Ends plan.now start summed.fault summed.complete source.1 summed.target.1 result.source.1
+        result.target.1 result.outcome }
 {
     let Summed {
         mut target,

@@ -46,14 +46,15 @@ pub enum PoolFault {
     /// The gate answered `Stop` at this place.
     #[error("stopped by the gate")]
     Halted(Place),
-    /// The first leaf of the source's feed above the start that the target doesn't cover. It never comes: the run's contract
-    /// says so.
+    /// The first leaf of the source's feed above the start that the target doesn't cover. It never comes: the run's
+    /// contract says so.
     #[error("a leaf of the source is not covered")]
     Hole { seq: u64, id: DocId, rev: Rev },
     /// A fetcher's count of documents would pass 9,007,199,254,740,991.
     #[error("a count of documents is full")]
     CountFull,
-    /// A writer's count on the board of documents read would pass 9,007,199,254,740,991. Only a run with a board tells it.
+    /// A writer's count on the board of documents read would pass 9,007,199,254,740,991. Only a run with a board tells
+    /// it.
     #[error("a worker's count on the board is full")]
     BoardFull,
     /// An allocation was refused, or a thread can't be made.

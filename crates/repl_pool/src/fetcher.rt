@@ -22,8 +22,8 @@ use std::sync::{Mutex, Wait};
 /// The greatest count.
 pub const MOST: u64 = 9_007_199_254_740_991;
 
-/// A fetcher: what it knows of both channels, its counts of the parcels that it sent and of the documents that it fetched,
-/// and why it was stopped.
+/// A fetcher: what it knows of both channels, its counts of the parcels that it sent and of the documents that it
+/// fetched, and why it was stopped.
 #[derive(Drop)]
 pub struct Fetcher<S: Origin> {
     pub windows: WindowPass<S>,
@@ -79,7 +79,10 @@ fn put<S: Origin, R: Wait>(
     requires seat { IsSeatAt (sends_on parcels.now) pass.old }
     requires part { 0 < (view pass.old).parts }
     ensures seat { IsSeatAt (sends_on parcels.now) pass.new }
-    ensures rule { MatchBool result (view pass.new ≡ hand (view pass.old).parts ((view pass.old).sent ++ (number, length fetched.docs) ∷ []) (view pass.old).got) (view pass.new ≡ view pass.old) }
+    ensures rule { MatchBool result
+        (view pass.new
+        ≡ hand (view pass.old).parts ((view pass.old).sent ++ (number, length fetched.docs) ∷ []) (view pass.old).got)
+        (view pass.new ≡ view pass.old) }
 {
     parcels
         .send_as::<Sends, R>(rt, pass, Carried::Full { number, fetched })

@@ -69,12 +69,17 @@ impl FetchedAll {
         requires room { vec_len self.old.counts < vec_capacity self.old.counts }
         requires windows { IsSeatAt (sends_on lines.now.to_fetchers) windows.old × (0 < (view windows.old).parts) }
         requires parcels { IsSeatAt (sends_on lines.now.to_writers) parcels.old × (0 < (view parcels.old).parts) }
-        requires one_seats { IsSeatAt (sends_on lines.now.to_fetchers) one.windows × IsSeatAt (sends_on lines.now.to_writers) one.parcels }
+        requires one_seats { IsSeatAt (sends_on lines.now.to_fetchers) one.windows
+            × IsSeatAt (sends_on lines.now.to_writers) one.parcels }
         requires one_knows { FetcherKnows [] one }
         requires knows { FetchedKnows (view windows.old) (view parcels.old) self.old }
-        ensures seats { IsSeatAt (sends_on lines.now.to_fetchers) windows.new × IsSeatAt (sends_on lines.now.to_writers) parcels.new }
-        ensures windows { ((view windows.new).parts ≡ (view windows.old).parts + 1) × ((view windows.new).reads ≡ (view windows.old).reads) × ((view windows.new).count ≡ (view windows.old).count) }
-        ensures parcels { ((view parcels.new).parts ≡ (view parcels.old).parts + 1) × ((view parcels.new).got ≡ (view parcels.old).got) }
+        ensures seats { IsSeatAt (sends_on lines.now.to_fetchers) windows.new
+            × IsSeatAt (sends_on lines.now.to_writers) parcels.new }
+        ensures windows { ((view windows.new).parts ≡ (view windows.old).parts + 1)
+            × ((view windows.new).reads ≡ (view windows.old).reads)
+            × ((view windows.new).count ≡ (view windows.old).count) }
+        ensures parcels { ((view parcels.new).parts ≡ (view parcels.old).parts + 1)
+            × ((view parcels.new).got ≡ (view parcels.old).got) }
         ensures knows { FetchedKnows (view windows.new) (view parcels.new) self.new }
         ensures told { IfSome self.new.stopped (IsOneOf self.old.stopped one.stopped) }
         ensures len { vec_len self.new.counts ≡ vec_len self.old.counts + 1 }
@@ -112,7 +117,8 @@ impl WrittenAll {
         requires knows { WrittenKnows (view parcels.old) all.old.amount self.old }
         requires room { vec_len seats.old + length (option_to_list one.seat) ≤ vec_capacity seats.old }
         ensures seat { IsSeatAt (sends_on lines.now.to_writers) parcels.new }
-        ensures parcels { ((view parcels.new).parts ≡ (view parcels.old).parts + 1) × ((view parcels.new).sent ≡ (view parcels.old).sent) }
+        ensures parcels { ((view parcels.new).parts ≡ (view parcels.old).parts + 1)
+            × ((view parcels.new).sent ≡ (view parcels.old).sent) }
         ensures all { (all.new.parts ≡ all.old.parts + 1) × (all.new.amount ≡ all.old.amount + one.share.amount) }
         ensures knows { WrittenKnows (view parcels.new) all.new.amount self.new }
         ensures told { IfSome self.new.stopped (IsOneOf self.old.stopped one.stopped) }
@@ -149,11 +155,17 @@ pub fn join_fetchers<S: Origin, G: Gate, R: Threads>(
     requires room { vec_len handles ≤ vec_capacity counts }
     requires counts { counts.items ≡ [] }
     requires promised { All (λ h. (h.promise.lines.now ≡ lines.now) × (h.promise.gate.now ≡ gate.now)) handles.items }
-    requires windows { IsSeatAt (sends_on lines.now.to_fetchers) windows.old × (0 < (view windows.old).parts) × ((view windows.old).taken ≡ []) }
-    requires parcels { IsSeatAt (sends_on lines.now.to_writers) parcels.old × (0 < (view parcels.old).parts) × ((view parcels.old).sent ≡ []) }
-    ensures seats { IsSeatAt (sends_on lines.now.to_fetchers) windows.new × IsSeatAt (sends_on lines.now.to_writers) parcels.new }
-    ensures windows { ((view windows.new).parts ≡ (view windows.old).parts + vec_len handles.entry) × ((view windows.new).reads ≡ (view windows.old).reads) × ((view windows.new).count ≡ (view windows.old).count) }
-    ensures parcels { ((view parcels.new).parts ≡ (view parcels.old).parts + vec_len handles.entry) × ((view parcels.new).got ≡ (view parcels.old).got) }
+    requires windows { IsSeatAt (sends_on lines.now.to_fetchers) windows.old × (0 < (view windows.old).parts)
+        × ((view windows.old).taken ≡ []) }
+    requires parcels { IsSeatAt (sends_on lines.now.to_writers) parcels.old × (0 < (view parcels.old).parts)
+        × ((view parcels.old).sent ≡ []) }
+    ensures seats { IsSeatAt (sends_on lines.now.to_fetchers) windows.new
+        × IsSeatAt (sends_on lines.now.to_writers) parcels.new }
+    ensures windows { ((view windows.new).parts ≡ (view windows.old).parts + vec_len handles.entry)
+        × ((view windows.new).reads ≡ (view windows.old).reads)
+        × ((view windows.new).count ≡ (view windows.old).count) }
+    ensures parcels { ((view parcels.new).parts ≡ (view parcels.old).parts + vec_len handles.entry)
+        × ((view parcels.new).got ≡ (view parcels.old).got) }
     ensures len { vec_len result.counts ≡ vec_len handles.entry }
     ensures knows { FetchedKnows (view windows.new) (view parcels.new) result }
     ensures halted { IfSome result.stopped (Allows (G.may_stop gate.now)) }
@@ -181,18 +193,24 @@ pub fn join_writers<S: Origin, L: Ledger, G: Gate, R: Threads>(
     all: &mut Share<L>,
     seats: &mut Vec<BoardSeat>,
 ) -> WrittenAll
-    requires promised { All (λ h. (h.promise.lines.now ≡ lines.now) × (h.promise.gate.now ≡ gate.now) × (option_copied h.promise.board ≡ option_copied board)) handles.items }
-    requires parcels { IsSeatAt (sends_on lines.now.to_writers) parcels.old × (0 < (view parcels.old).parts) × ((view parcels.old).got ≡ []) }
+    requires promised { All
+        (λ h. (h.promise.lines.now ≡ lines.now) × (h.promise.gate.now ≡ gate.now)
+        × (option_copied h.promise.board ≡ option_copied board)) handles.items }
+    requires parcels { IsSeatAt (sends_on lines.now.to_writers) parcels.old × (0 < (view parcels.old).parts)
+        × ((view parcels.old).got ≡ []) }
     requires all { all.old.amount ≡ 0 }
     requires seats { AreSeated (option_copied board) (seats.old.items ++ held (λ h. h.promise.seat.value) handles.items) }
     requires room { length (seats.old.items ++ held (λ h. h.promise.seat.value) handles.items) ≤ vec_capacity seats.old }
     ensures seat { IsSeatAt (sends_on lines.now.to_writers) parcels.new }
-    ensures parcels { ((view parcels.new).parts ≡ (view parcels.old).parts + vec_len handles.entry) × ((view parcels.new).sent ≡ (view parcels.old).sent) }
+    ensures parcels { ((view parcels.new).parts ≡ (view parcels.old).parts + vec_len handles.entry)
+        × ((view parcels.new).sent ≡ (view parcels.old).sent) }
     ensures all { all.new.parts ≡ all.old.parts + vec_len handles.entry }
     ensures knows { WrittenKnows (view parcels.new) all.new.amount result }
     ensures halted { IfSome result.stopped (AllowsOn (MayFill (option_copied board.entry)) (G.may_stop gate.now)) }
-    ensures back { AreBack (option_copied board.entry) (seats.old.items ++ held (λ h. h.promise.seat.value) handles.entry.items) seats.new.items }
-    ensures shown { HaveShown (option_copied board.entry) all.new.amount result.stopped (seats.old.items ++ held (λ h. h.promise.seat.value) handles.entry.items) seats.new.items }
+    ensures back { AreBack (option_copied board.entry)
+        (seats.old.items ++ held (λ h. h.promise.seat.value) handles.entry.items) seats.new.items }
+    ensures shown { HaveShown (option_copied board.entry) all.new.amount result.stopped
+        (seats.old.items ++ held (λ h. h.promise.seat.value) handles.entry.items) seats.new.items }
 {
     let mut written = WrittenAll {
         got: 0,

@@ -31,7 +31,8 @@ impl<S: Origin> Model for Paged<S> {
 }
 
 impl<S: Origin> Paged<S> {
-    /// The page of the source above a sequence, towards a goal, of at most so many rows. The only error is want of memory.
+    /// The page of the source above a sequence, towards a goal, of at most so many rows. The only error is want of
+    /// memory.
     pub fn read<F: WriteFilter>(
         alloc: Global,
         source: &Peer<F>,

@@ -14,8 +14,8 @@ pub enum Carried<S: Origin> {
     End,
 }
 
-/// What a thread knows of the channel: its parts of the right to know the whole, of 1,024; what it has sent and what it has got,
-/// each parcel by its number and how many documents it has. No value of it is made.
+/// What a thread knows of the channel: its parts of the right to know the whole, of 1,024; what it has sent and what it
+/// has got, each parcel by its number and how many documents it has. No value of it is made.
 pub struct Hand {
     pub parts: u64,
     pub sent: LinkedList<(u64, u64)>,

@@ -28,7 +28,8 @@ fn send_window<S: Origin, R: Wait>(
     requires seat { IsSeatAt (sends_on lines.now.to_fetchers) windows.old }
     requires windows { (view windows.old ≡ seen (view windows.old).parts 1 number []) × (0 < (view windows.old).parts) }
     ensures seat { IsSeatAt (sends_on lines.now.to_fetchers) windows.new }
-    ensures windows { MatchBool result (view windows.new ≡ seen (view windows.old).parts 1 (number + 1) []) (view windows.new ≡ view windows.old) }
+    ensures windows { MatchBool result (view windows.new ≡ seen (view windows.old).parts 1 (number + 1) [])
+        (view windows.new ≡ view windows.old) }
 {
     lines
         .to_fetchers

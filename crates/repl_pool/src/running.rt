@@ -55,7 +55,8 @@ fn out_of_memory<F: WriteFilter>(
     ensures filter { result.source.0 ≡ source.0 }
     ensures source { result.source.1 ≡ record source.1 { outgoing = result.source.1.outgoing } }
     ensures grown { (db : DatabaseValue) → GrownPeer F.refuses db target result.target }
-    ensures ends { Ends plan.now start (Some PoolFault.Memory) false source.1 target.1 result.source.1 result.target.1 result.outcome }
+    ensures ends { Ends plan.now start (Some PoolFault.Memory) false source.1 target.1 result.source.1 result.target.1
+        result.outcome }
 {
     let summed = Summed {
         target,
@@ -99,9 +100,11 @@ fn run_begun<
     ensures filter { result.source.0 ≡ source.0 }
     ensures source { result.source.1 ≡ record source.1 { outgoing = result.source.1.outgoing } }
     ensures grown { GrownPeer F.refuses source.1.db target result.target }
-    ensures ends { EndsRun F.refuses (MayFill (option_copied board.entry)) (G.may_stop gate.now) plan.now start source.1 target result.fetched.items result.source.1 result.target.1 result.outcome }
+    ensures ends { EndsRun F.refuses (MayFill (option_copied board.entry)) (G.may_stop gate.now) plan.now start source.1
+        target result.fetched.items result.source.1 result.target.1 result.outcome }
     ensures back { AreBack (option_copied board.entry) seats.items result.seats.items }
-    ensures shown { IfOk result.outcome (λ _. HaveShown (option_copied board.entry) (sum result.fetched.items) None seats.items result.seats.items) }
+    ensures shown { IfOk result.outcome
+        (λ _. HaveShown (option_copied board.entry) (sum result.fetched.items) None seats.items result.seats.items) }
 {
     // These readings tell the proof that the source's database and the target are lawful.
     let _update_seq = source.db().update_seq();
@@ -136,9 +139,11 @@ fn run_with<F: WriteFilter + Send + Sync, G: Gate + Sync, R: Threads + Wait + Sy
     seats: Vec<BoardSeat>,
 ) -> Ran<F>
     requires seats { AreSeats (option_copied board) 0 plan.now.workers seats.items }
-    ensures runs { RunsOn F.refuses (MayFill (option_copied board.entry)) (G.may_stop gate.now) plan.now source target result.source result.target result.fetched.items result.outcome }
+    ensures runs { RunsOn F.refuses (MayFill (option_copied board.entry)) (G.may_stop gate.now) plan.now source target
+        result.source result.target result.fetched.items result.outcome }
     ensures back { AreBack (option_copied board.entry) seats.items result.seats.items }
-    ensures shown { IfOk result.outcome (λ report. HaveShown (option_copied board.entry) report.read None seats.items result.seats.items) }
+    ensures shown { IfOk result.outcome
+        (λ report. HaveShown (option_copied board.entry) report.read None seats.items result.seats.items) }
 {
     // These readings tell the proof that the source's database and the target are lawful.
     let _update_seq = source.db().update_seq();
@@ -176,25 +181,29 @@ fn run_with<F: WriteFilter + Send + Sync, G: Gate + Sync, R: Threads + Wait + Sy
     }
 }
 
-/// Replicates the source's documents into the target by a pool of threads: the caller's thread begins the session from the
-/// common checkpoint of the two logs, reads the source's feed in windows, stores each at the target and sends it to
-/// `plan.workers` fetchers; these ask the target, fetch at the source, and send parcels to as many writers, which settle and
-/// record. The target stands behind a lock, the source is shared. The gate is asked at each place, with no lock held.
+/// Replicates the source's documents into the target by a pool of threads: the caller's thread begins the session from
+/// the common checkpoint of the two logs, reads the source's feed in windows, stores each at the target and sends it to
+/// `plan.workers` fetchers; these ask the target, fetch at the source, and send parcels to as many writers, which
+/// settle and record. The target stands behind a lock, the source is shared. The gate is asked at each place, with no
+/// lock held.
 ///
-/// `NoWorkers`, else `TooManyWorkers` above 64, else `BadBatch` where the batch isn't 1 to 10,000, else `SamePeer` where the
-/// two databases have one UUID: then both peers are as given. Else `Refused` of what a step refuses; `Halted` of a place
-/// where the gate answered `Stop`; `CountFull` where a fetcher's count of documents would pass 9,007,199,254,740,991;
-/// `Memory`, also where a thread can't be made. Where several workers were stopped or refused, one of them is told. Where
-/// none was, and all windows that the plan allows are settled, but they end below the goal, it is `Refused` of `Unfinished`.
+/// `NoWorkers`, else `TooManyWorkers` above 64, else `BadBatch` where the batch isn't 1 to 10,000, else `SamePeer`
+/// where the two databases have one UUID: then both peers are as given. Else `Refused` of what a step refuses; `Halted`
+/// of a place where the gate answered `Stop`; `CountFull` where a fetcher's count of documents would pass
+/// 9,007,199,254,740,991; `Memory`, also where a thread can't be made. Where several workers were stopped or refused,
+/// one of them is told. Where none was, and all windows that the plan allows are settled, but they end below the goal,
+/// it is `Refused` of `Unfinished`.
 ///
-/// Once all workers have ended, the caller's thread concludes the session, or where that isn't due or is refused records
-/// it, and puts its entry into the source's log; an older one is passed over. Before that it walks the source's feed above
-/// the start, where it concluded: the first leaf that the target doesn't cover would be `Hole`, which never comes.
+/// Once all workers have ended, the caller's thread concludes the session, or where that isn't due or is refused
+/// records it, and puts its entry into the source's log; an older one is passed over. Before that it walks the source's
+/// feed above the start, where it concluded: the first leaf that the target doesn't cover would be `Hole`, which never
+/// comes.
 ///
 /// At `Ok` each leaf of the source's feed above the start is covered at the target, the report is that of the session,
-/// which began at the common checkpoint and is recorded at the source's update sequence, and what the fetchers fetched adds
-/// up to the documents read. Whatever the answer, the source is the given one but for its log, and the target is the given
-/// one after calls whose messages are what the source answers: it keeps all that it held, and a tied pair stays tied.
+/// which began at the common checkpoint and is recorded at the source's update sequence, and what the fetchers fetched
+/// adds up to the documents read. Whatever the answer, the source is the given one but for its log, and the target is
+/// the given one after calls whose messages are what the source answers: it keeps all that it held, and a tied pair
+/// stays tied.
 ///
 /// It waits. That it ends is not proved.
 pub fn run<F: WriteFilter + Send + Sync, G: Gate + Sync, R: Threads + Wait + Sync>(
@@ -205,21 +214,24 @@ pub fn run<F: WriteFilter + Send + Sync, G: Gate + Sync, R: Threads + Wait + Syn
     plan: &Plan,
     gate: &G,
 ) -> Ran<F>
-    ensures runs { Runs F.refuses (G.may_stop gate.now) plan.now source target result.source result.target result.fetched.items result.outcome }
+    ensures runs { Runs F.refuses (G.may_stop gate.now) plan.now source target result.source result.target
+        result.fetched.items result.outcome }
     ensures seats { result.seats.items ≡ [] }
 {
     run_with(rt, alloc, source, target, plan, gate, None, Vec::new(alloc))
 }
 
-/// `run`, of whose progress others may read on a board meanwhile: `Board::read`. Each writer has a seat of a worker of the board.
-/// Before it settles a parcel it adds the documents of that to its count of those read; after that, and before the gate is asked at
-/// `Settled`, it adds to its count of those settled the ones that this settling has counted. No lock is taken for the board.
+/// `run`, of whose progress others may read on a board meanwhile: `Board::read`. Each writer has a seat of a worker of
+/// the board. Before it settles a parcel it adds the documents of that to its count of those read; after that, and
+/// before the gate is asked at `Settled`, it adds to its count of those settled the ones that this settling has
+/// counted. No lock is taken for the board.
 ///
-/// The seats are so many as the plan has workers, and of workers of this board. They come back in their order, whatever the outcome,
-/// and no count has fallen. At `Ok` both counts, added up over the seats, have risen by the documents read that the report tells.
+/// The seats are so many as the plan has workers, and of workers of this board. They come back in their order, whatever
+/// the outcome, and no count has fallen. At `Ok` both counts, added up over the seats, have risen by the documents read
+/// that the report tells.
 ///
-/// Besides what `run` answers it answers `BoardFull` where a writer's count of documents read would pass 9,007,199,254,740,991; that
-/// parcel isn't settled.
+/// Besides what `run` answers it answers `BoardFull` where a writer's count of documents read would pass
+/// 9,007,199,254,740,991; that parcel isn't settled.
 pub fn run_on<F: WriteFilter + Send + Sync, G: Gate + Sync, R: Threads + Wait + Sync>(
     rt: &R,
     alloc: Global,
@@ -231,7 +243,8 @@ pub fn run_on<F: WriteFilter + Send + Sync, G: Gate + Sync, R: Threads + Wait + 
     seats: Vec<BoardSeat>,
 ) -> Ran<F>
     requires seats { (vec_len seats ≡ plan.now.workers) × All (WorksAt board.now) seats.items }
-    ensures runs { RunsOn F.refuses (Unit {0}) (G.may_stop gate.now) plan.now source target result.source result.target result.fetched.items result.outcome }
+    ensures runs { RunsOn F.refuses (Unit {0}) (G.may_stop gate.now) plan.now source target result.source result.target
+        result.fetched.items result.outcome }
     ensures seats { AreRisen board.now seats.items result.seats.items }
     ensures shown { IfOk result.outcome (λ report. HaveRisenBy report.read seats.items result.seats.items) }
 {

@@ -57,9 +57,11 @@ fn hire_fetcher<
     requires windows { IsSeatAt (sends_on lines.now.to_fetchers) windows.old × (1 < (view windows.old).parts) }
     requires parcels { IsSeatAt (sends_on lines.now.to_writers) parcels.old × (1 < (view parcels.old).parts) }
     ensures window_seat { IsSeatAt (sends_on lines.now.to_fetchers) windows.new }
-    ensures windows { view windows.new ≡ seen ((view windows.old).parts - 1) (view windows.old).reads (view windows.old).count (view windows.old).taken }
+    ensures windows { view windows.new
+        ≡ seen ((view windows.old).parts - 1) (view windows.old).reads (view windows.old).count (view windows.old).taken }
     ensures parcel_seat { IsSeatAt (sends_on lines.now.to_writers) parcels.new }
-    ensures parcels { view parcels.new ≡ hand ((view parcels.old).parts - 1) (view parcels.old).sent (view parcels.old).got }
+    ensures parcels { view parcels.new
+        ≡ hand ((view parcels.old).parts - 1) (view parcels.old).sent (view parcels.old).got }
     ensures promised { IfSome result (λ h. (h.promise.lines.now ≡ lines.now) × (h.promise.gate.now ≡ gate.now)) }
 {
     let window_pass = lines.to_fetchers.another::<Crew>(windows);
@@ -102,10 +104,14 @@ pub fn start_fetchers<
 ) -> Vec<FetcherHandle<'e, S, G>>
     requires source { S.source ≡ source.now.1.db }
     requires workers { workers ≤ 64 }
-    requires windows { IsSeatAt (sends_on lines.now.to_fetchers) windows.old × (view windows.old ≡ seen (view windows.old).parts 1 0 []) × (64 < (view windows.old).parts) }
-    requires parcels { IsSeatAt (sends_on lines.now.to_writers) parcels.old × (view parcels.old ≡ hand (view parcels.old).parts [] []) × (64 < (view parcels.old).parts) }
-    ensures windows { IsSeatAt (sends_on lines.now.to_fetchers) windows.new × (view windows.new ≡ seen (view windows.new).parts 1 0 []) × (0 < (view windows.new).parts) }
-    ensures parcels { IsSeatAt (sends_on lines.now.to_writers) parcels.new × (view parcels.new ≡ hand (view parcels.new).parts [] []) × (0 < (view parcels.new).parts) }
+    requires windows { IsSeatAt (sends_on lines.now.to_fetchers) windows.old
+        × (view windows.old ≡ seen (view windows.old).parts 1 0 []) × (64 < (view windows.old).parts) }
+    requires parcels { IsSeatAt (sends_on lines.now.to_writers) parcels.old
+        × (view parcels.old ≡ hand (view parcels.old).parts [] []) × (64 < (view parcels.old).parts) }
+    ensures windows { IsSeatAt (sends_on lines.now.to_fetchers) windows.new
+        × (view windows.new ≡ seen (view windows.new).parts 1 0 []) × (0 < (view windows.new).parts) }
+    ensures parcels { IsSeatAt (sends_on lines.now.to_writers) parcels.new
+        × (view parcels.new ≡ hand (view parcels.new).parts [] []) × (0 < (view parcels.new).parts) }
     ensures most { vec_len result ≤ workers }
     ensures whole_windows { vec_len result ≡ workers → (view windows.new).parts + workers ≡ (view windows.old).parts }
     ensures whole_parcels { vec_len result ≡ workers → (view parcels.new).parts + workers ≡ (view parcels.old).parts }
@@ -126,8 +132,8 @@ pub fn start_fetchers<
     started
 }
 
-/// Cuts a pass and a part of the ledger off, takes the last seat, and starts a writer with them: `start_writer`. There are so many
-/// others. `None` where no thread can be made; then its seat is back.
+/// Cuts a pass and a part of the ledger off, takes the last seat, and starts a writer with them: `start_writer`. There
+/// are so many others. `None` where no thread can be made; then its seat is back.
 fn hire_writer<
     's,
     'e: 's,
@@ -153,13 +159,19 @@ fn hire_writer<
 ) -> Option<WriterHandle<'e, S, L, G>>
     requires parcels { IsSeatAt (sends_on lines.now.to_writers) parcels.old × (1 < (view parcels.old).parts) }
     requires all { (0 < all.old.parts) × (all.old.amount ≡ 0) }
-    requires seats { (workers : ℕ) × (others < workers) × (workers ≤ 64) × AreSeats (option_copied board) others workers seats.old.items }
+    requires seats { (workers : ℕ) × (others < workers) × (workers ≤ 64)
+        × AreSeats (option_copied board) others workers seats.old.items }
     ensures parcel_seat { IsSeatAt (sends_on lines.now.to_writers) parcels.new }
-    ensures parcels { view parcels.new ≡ hand ((view parcels.old).parts - 1) (view parcels.old).sent (view parcels.old).got }
+    ensures parcels { view parcels.new
+        ≡ hand ((view parcels.old).parts - 1) (view parcels.old).sent (view parcels.old).got }
     ensures all { (all.new.parts + 1 ≡ all.old.parts) × (all.new.amount ≡ 0) }
-    ensures promised { IfSome result (λ h. (h.promise.lines.now ≡ lines.now) × (h.promise.gate.now ≡ gate.now) × (option_copied h.promise.board ≡ option_copied board.entry)) }
+    ensures promised { IfSome result
+        (λ h. (h.promise.lines.now ≡ lines.now) × (h.promise.gate.now ≡ gate.now)
+        × (option_copied h.promise.board ≡ option_copied board.entry)) }
     ensures seats { IfSome result (λ h. seats.old.items ≡ seats.new.items ++ option_to_list h.promise.seat.value) }
-    ensures left { IfSome result (λ _. (workers : ℕ) → others < workers → AreSeats (option_copied board.entry) others workers seats.old.items → AreSeats (option_copied board.entry) (others + 1) workers seats.new.items) }
+    ensures left { IfSome result
+        (λ _. (workers : ℕ) → others < workers → AreSeats (option_copied board.entry) others workers seats.old.items
+        → AreSeats (option_copied board.entry) (others + 1) workers seats.new.items) }
     ensures back { result ≡ None → AreBack (option_copied board.entry) seats.old.items seats.new.items }
     ensures capacity { vec_capacity seats.new ≡ vec_capacity seats.old }
 {
@@ -188,8 +200,8 @@ fn hire_writer<
     }
 }
 
-/// Starts the writers, each with a seat where there is a board, the first with the last. There are fewer than asked for where no
-/// thread can be made or memory runs out; then they are told the end of the parcels.
+/// Starts the writers, each with a seat where there is a board, the first with the last. There are fewer than asked for
+/// where no thread can be made or memory runs out; then they are told the end of the parcels.
 pub fn start_writers<
     's,
     'e: 's,
@@ -215,17 +227,24 @@ pub fn start_writers<
     seats: &mut Vec<BoardSeat>,
 ) -> Vec<WriterHandle<'e, S, L, G>>
     requires workers { workers ≤ 64 }
-    requires parcels { IsSeatAt (sends_on lines.now.to_writers) parcels.old × (view parcels.old ≡ hand (view parcels.old).parts [] []) × (64 < (view parcels.old).parts) }
+    requires parcels { IsSeatAt (sends_on lines.now.to_writers) parcels.old
+        × (view parcels.old ≡ hand (view parcels.old).parts [] []) × (64 < (view parcels.old).parts) }
     requires all { (all.old.parts ≡ workers) × (all.old.amount ≡ 0) }
     requires seats { AreSeats (option_copied board) 0 workers seats.old.items }
-    ensures parcels { IsSeatAt (sends_on lines.now.to_writers) parcels.new × (view parcels.new ≡ hand (view parcels.new).parts [] []) × ((view parcels.old).parts ≤ (view parcels.new).parts + 64) }
+    ensures parcels { IsSeatAt (sends_on lines.now.to_writers) parcels.new
+        × (view parcels.new ≡ hand (view parcels.new).parts [] [])
+        × ((view parcels.old).parts ≤ (view parcels.new).parts + 64) }
     ensures most { vec_len result ≤ workers }
     ensures whole_parcels { vec_len result ≡ workers → (view parcels.new).parts + workers ≡ (view parcels.old).parts }
     ensures whole_shares { vec_len result ≡ workers → all.new.parts ≡ 0 }
     ensures amount { all.new.amount ≡ 0 }
-    ensures promised { All (λ h. (h.promise.lines.now ≡ lines.now) × (h.promise.gate.now ≡ gate.now) × (option_copied h.promise.board ≡ option_copied board.entry)) result.items }
-    ensures back { AreBack (option_copied board.entry) seats.old.items (seats.new.items ++ held (λ h. h.promise.seat.value) result.items) }
-    ensures whole_seats { vec_len result ≡ workers → seats.old.items ≡ seats.new.items ++ held (λ h. h.promise.seat.value) result.items }
+    ensures promised { All
+        (λ h. (h.promise.lines.now ≡ lines.now) × (h.promise.gate.now ≡ gate.now)
+        × (option_copied h.promise.board ≡ option_copied board.entry)) result.items }
+    ensures back { AreBack (option_copied board.entry) seats.old.items
+        (seats.new.items ++ held (λ h. h.promise.seat.value) result.items) }
+    ensures whole_seats { vec_len result ≡ workers
+        → seats.old.items ≡ seats.new.items ++ held (λ h. h.promise.seat.value) result.items }
     ensures capacity { vec_capacity seats.new ≡ vec_capacity seats.old }
 {
     let mut started = Vec::new(alloc);

@@ -28,8 +28,8 @@ use std::sync::{Mutex, Wait};
 use std::thread;
 use std::thread::{Scope, Threads};
 
-/// What the caller's thread has once all workers have ended: all parts of what was known of both channels, the whole share
-/// of the ledger, why the reading ended early, and what the two crews did.
+/// What the caller's thread has once all workers have ended: all parts of what was known of both channels, the whole
+/// share of the ledger, why the reading ended early, and what the two crews did.
 #[derive(Drop)]
 pub struct Ended<S: Origin, L: Ledger> {
     pub windows: WindowPass<S>,
@@ -40,8 +40,8 @@ pub struct Ended<S: Origin, L: Ledger> {
     pub written: WrittenAll,
 }
 
-/// Starts the fetchers, reads the windows, and joins the fetchers: why the reading ended early, and what they did. `None` where a
-/// thread can't be made; then no window is read, and the writers are told the end.
+/// Starts the fetchers, reads the windows, and joins the fetchers: why the reading ended early, and what they did.
+/// `None` where a thread can't be made; then no window is read, and the writers are told the end.
 fn fetch_in_scope<
     's,
     'e: 's,
@@ -72,12 +72,16 @@ fn fetch_in_scope<
     requires workers { workers ≤ 64 }
     requires counts { (counts.items ≡ []) × (workers ≤ vec_capacity counts) }
     requires windows { IsSeatAt (sends_on lines.now.to_fetchers) windows.old × (view windows.old ≡ seen 1024 1 0 []) }
-    requires parcels { IsSeatAt (sends_on lines.now.to_writers) parcels.old × (view parcels.old ≡ hand (view parcels.old).parts [] []) × (64 < (view parcels.old).parts) }
+    requires parcels { IsSeatAt (sends_on lines.now.to_writers) parcels.old
+        × (view parcels.old ≡ hand (view parcels.old).parts [] []) × (64 < (view parcels.old).parts) }
     ensures window_seat { IsSeatAt (sends_on lines.now.to_fetchers) windows.new }
-    ensures parcels { IsSeatAt (sends_on lines.now.to_writers) parcels.new × (0 < (view parcels.new).parts) × ((view parcels.new).got ≡ []) }
-    ensures whole { IfSome result (λ f. ((view windows.new).parts ≡ 1024) × ((view parcels.new).parts ≡ (view parcels.old).parts)) }
+    ensures parcels { IsSeatAt (sends_on lines.now.to_writers) parcels.new × (0 < (view parcels.new).parts)
+        × ((view parcels.new).got ≡ []) }
+    ensures whole { IfSome result
+        (λ f. ((view windows.new).parts ≡ 1024) × ((view parcels.new).parts ≡ (view parcels.old).parts)) }
     ensures knows { IfSome result (λ f. FetchedKnows (view windows.new) (view parcels.new) f.1) }
-    ensures halted { IfSome result (λ f. IfSome f.0 (Allows (G.may_stop gate.now)) × IfSome f.1.stopped (Allows (G.may_stop gate.now))) }
+    ensures halted { IfSome result
+        (λ f. IfSome f.0 (Allows (G.may_stop gate.now)) × IfSome f.1.stopped (Allows (G.may_stop gate.now))) }
 {
     let fetchers = start_fetchers(
         scope, rt, alloc, lines, source, desk, gate, workers, windows, parcels,
@@ -93,8 +97,8 @@ fn fetch_in_scope<
     Some((read, fetched))
 }
 
-/// Runs the workers beside the reading of the windows, and gives the seats back. `None` where a thread can't be made; then no
-/// window is read.
+/// Runs the workers beside the reading of the windows, and gives the seats back. `None` where a thread can't be made;
+/// then no window is read.
 fn in_scope<
     's,
     'e: 's,
@@ -137,7 +141,8 @@ fn in_scope<
     ensures tells { IfSome result.0 Tells }
     ensures halted { IfSome result.0 (StopsWhere (MayFill (option_copied board.entry)) (G.may_stop gate.now)) }
     ensures back { AreBack (option_copied board.entry) seats.items result.1.items }
-    ensures shown { IfSome result.0 (λ e. HaveShown (option_copied board.entry) e.all.amount e.written.stopped seats.items result.1.items) }
+    ensures shown { IfSome result.0
+        (λ e. HaveShown (option_copied board.entry) e.all.amount e.written.stopped seats.items result.1.items) }
 {
     let writers = start_writers(
         scope,
@@ -245,7 +250,8 @@ pub fn with_workers<
     ensures tells { IfSome result.0 Tells }
     ensures halted { IfSome result.0 (StopsWhere (MayFill (option_copied board.entry)) (G.may_stop gate.now)) }
     ensures back { AreBack (option_copied board.entry) seats.items result.1.items }
-    ensures shown { IfSome result.0 (λ e. HaveShown (option_copied board.entry) e.all.amount e.written.stopped seats.items result.1.items) }
+    ensures shown { IfSome result.0
+        (λ e. HaveShown (option_copied board.entry) e.all.amount e.written.stopped seats.items result.1.items) }
 {
     thread::scope(
         thread::scope_env(),
@@ -263,9 +269,11 @@ pub fn with_workers<
             ensures parcel_seat { IfSome result.0 (λ e. IsSeatAt (sends_on lines.entry.now.to_writers) e.parcels) }
             ensures whole { IfSome result.0 (IsWhole workers) }
             ensures tells { IfSome result.0 Tells }
-            ensures halted { IfSome result.0 (StopsWhere (MayFill (option_copied board.entry)) (G.may_stop gate.entry.now)) }
+            ensures halted { IfSome result.0
+                (StopsWhere (MayFill (option_copied board.entry)) (G.may_stop gate.entry.now)) }
             ensures back { AreBack (option_copied board.entry) seats.items result.1.items }
-            ensures shown { IfSome result.0 (λ e. HaveShown (option_copied board.entry) e.all.amount e.written.stopped seats.items result.1.items) }
+            ensures shown { IfSome result.0
+                (λ e. HaveShown (option_copied board.entry) e.all.amount e.written.stopped seats.items result.1.items) }
         {
             in_scope(
                 scope, rt, alloc, lines, source, desk, gate, plan, board, workers, start, counts,

@@ -25,8 +25,8 @@ use repl_target::{Peer, WriteFilter};
 use std::alloc::Global;
 use std::sync::ledger::Ledger;
 
-/// The target, how many documents each fetcher fetched, the seats at the board, the fault of a step, and whether as many parcels
-/// were got as sent.
+/// The target, how many documents each fetcher fetched, the seats at the board, the fault of a step, and whether as
+/// many parcels were got as sent.
 #[derive(Drop)]
 pub struct Summed<F: WriteFilter> {
     pub target: Peer<F>,
@@ -53,10 +53,14 @@ pub fn collect<F: WriteFilter, S: Origin, J: Given<F>, L: Ledger, G: Gate>(
     requires whole { IfSome ended (IsWhole workers) }
     requires tells { IfSome ended Tells }
     requires halted { IfSome ended (StopsWhere (MayFill (option_copied board)) (G.may_stop gate.now)) }
-    ensures desk { (session : SessionId) × (total : ℕ) × DeskKeeps F.refuses S.source J.given session total result.target }
-    ensures sum { result.fault ≡ None → result.complete ≡ true → (session : SessionId) × DeskKeeps F.refuses S.source J.given session (sum result.fetched.items) result.target }
+    ensures desk { (session : SessionId) × (total : ℕ)
+        × DeskKeeps F.refuses S.source J.given session total result.target }
+    ensures sum { result.fault ≡ None → result.complete ≡ true
+        → (session : SessionId)
+        × DeskKeeps F.refuses S.source J.given session (sum result.fetched.items) result.target }
     ensures halted { IfSome result.fault (IsLateOn (MayFill (option_copied board.entry)) (G.may_stop gate.now)) }
-    ensures amount { result.fault ≡ None → result.complete ≡ true → (e : Ended S L) × (ended ≡ Some e) × (e.written.stopped ≡ None) × (e.all.amount ≡ sum result.fetched.items) }
+    ensures amount { result.fault ≡ None → result.complete ≡ true
+        → (e : Ended S L) × (ended ≡ Some e) × (e.written.stopped ≡ None) × (e.all.amount ≡ sum result.fetched.items) }
     ensures seats { result.seats ≡ seats }
 {
     match ended {
@@ -87,10 +91,14 @@ fn sum_up<F: WriteFilter, S: Origin, J: Given<F>, L: Ledger, G: Gate>(
     requires whole { IsWhole workers ended }
     requires tells { Tells ended }
     requires halted { StopsWhere (MayFill (option_copied board)) (G.may_stop gate.now) ended }
-    ensures desk { (session : SessionId) × (total : ℕ) × DeskKeeps F.refuses S.source J.given session total result.target }
-    ensures sum { result.fault ≡ None → result.complete ≡ true → (session : SessionId) × DeskKeeps F.refuses S.source J.given session (sum result.fetched.items) result.target }
+    ensures desk { (session : SessionId) × (total : ℕ)
+        × DeskKeeps F.refuses S.source J.given session total result.target }
+    ensures sum { result.fault ≡ None → result.complete ≡ true
+        → (session : SessionId)
+        × DeskKeeps F.refuses S.source J.given session (sum result.fetched.items) result.target }
     ensures halted { IfSome result.fault (IsLateOn (MayFill (option_copied board.entry)) (G.may_stop gate.now)) }
-    ensures amount { result.fault ≡ None → result.complete ≡ true → (ended.written.stopped ≡ None) × (ended.all.amount ≡ sum result.fetched.items) }
+    ensures amount { result.fault ≡ None → result.complete ≡ true
+        → (ended.written.stopped ≡ None) × (ended.all.amount ≡ sum result.fetched.items) }
     ensures seats { result.seats ≡ seats }
 {
     let mut ended = ended;
@@ -123,8 +131,9 @@ fn sum_up<F: WriteFilter, S: Origin, J: Given<F>, L: Ledger, G: Gate>(
     }
 }
 
-/// Each window was taken by one fetcher, and each parcel got by one writer, at most; where as many were got as sent, these are
-/// the same, each number with its documents, however they are weighed. The passes learn it of both channels once they are whole.
+/// Each window was taken by one fetcher, and each parcel got by one writer, at most; where as many were got as sent,
+/// these are the same, each number with its documents, however they are weighed. The passes learn it of both channels
+/// once they are whole.
 fn each_once<S: Origin, L: Ledger>(lines: &Lines<S>, workers: usize, ended: &mut Ended<S, L>)
     requires window_seat { IsSeatAt (sends_on lines.now.to_fetchers) ended.old.windows }
     requires parcel_seat { IsSeatAt (sends_on lines.now.to_writers) ended.old.parcels }
@@ -132,9 +141,11 @@ fn each_once<S: Origin, L: Ledger>(lines: &Lines<S>, workers: usize, ended: &mut
     requires tells { Tells ended.old }
     ensures taken { (k : ℕ) → times k (view ended.new.windows).taken ≤ 1 }
     ensures got { ended.new.fetched.stopped ≡ None → (k : ℕ) → times k (names (view ended.new.parcels).got) ≤ 1 }
-    ensures agree { length (view ended.new.parcels).sent ≡ length (view ended.new.parcels).got → (h : ℕ → ℕ → ℕ) → weigh h (view ended.new.parcels).sent ≡ weigh h (view ended.new.parcels).got }
+    ensures agree { length (view ended.new.parcels).sent ≡ length (view ended.new.parcels).got → (h : ℕ → ℕ → ℕ)
+        → weigh h (view ended.new.parcels).sent ≡ weigh h (view ended.new.parcels).got }
     ensures tells { Tells ended.new }
-    ensures same { (ended.new.all ≡ ended.old.all) × (ended.new.read ≡ ended.old.read) × (ended.new.fetched ≡ ended.old.fetched) × (ended.new.written ≡ ended.old.written) }
+    ensures same { (ended.new.all ≡ ended.old.all) × (ended.new.read ≡ ended.old.read)
+        × (ended.new.fetched ≡ ended.old.fetched) × (ended.new.written ≡ ended.old.written) }
 {
     lines.to_fetchers.learn_as::<AllTaken>(&mut ended.windows);
     lines.to_writers.learn_as::<Whole>(&mut ended.parcels);

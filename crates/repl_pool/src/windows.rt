@@ -14,8 +14,9 @@ pub enum Ticket<S: Origin> {
     End,
 }
 
-/// What a thread knows of the channel: its parts of the right to know the whole, of 1,024; whether it is the page reader's (1,
-/// else 0), and then how many windows it has sent; the numbers of the windows that it has taken. No value of it is made.
+/// What a thread knows of the channel: its parts of the right to know the whole, of 1,024; whether it is the page
+/// reader's (1, else 0), and then how many windows it has sent; the numbers of the windows that it has taken. No value
+/// of it is made.
 pub struct Seen {
     pub parts: u64,
     pub reads: u64,

@@ -23,8 +23,8 @@ use repl_target::WriteFilter;
 use std::sync::ledger::{Ledger, Share};
 use std::sync::{Mutex, Wait};
 
-/// A writer: what it knows of the channel of parcels, its share of the ledger, its count of the parcels that it settled,
-/// its seat at the board, where there is one, and why it was stopped.
+/// A writer: what it knows of the channel of parcels, its share of the ledger, its count of the parcels that it
+/// settled, its seat at the board, where there is one, and why it was stopped.
 #[derive(Drop)]
 pub struct Writer<S: Origin, L: Ledger> {
     pub parcels: ParcelPass<S>,
@@ -60,8 +60,8 @@ fn settle<F: WriteFilter, S: Origin, J: Given<F>, L: Ledger, R: Wait>(
     }
 }
 
-/// Settles a parcel and records, unless the gate stops the writer or a call is refused. Its documents are shown as read before,
-/// and those that were settled as settled before the gate is asked.
+/// Settles a parcel and records, unless the gate stops the writer or a call is refused. Its documents are shown as read
+/// before, and those that were settled as settled before the gate is asked.
 fn write<F: WriteFilter, S: Origin, J: Given<F>, L: Ledger, G: Gate, R: Wait>(
     rt: &R,
     desk: &Mutex<Desk<F, S, J, L>>,
@@ -78,7 +78,8 @@ fn write<F: WriteFilter, S: Origin, J: Given<F>, L: Ledger, G: Gate, R: Wait>(
     ensures parts { share.new.parts ≡ share.old.parts }
     ensures ok { OnOk result (share.new.amount ≡ share.old.amount + length fetched.docs) }
     ensures err { IfErr result (AllowsOn (MayFill (option_copied board.entry)) (G.may_stop gate.now)) }
-    ensures shows { HasWritten (option_copied board.entry) share.old.amount share.new.amount (halt_in result) seat.old seat.new }
+    ensures shows { HasWritten (option_copied board.entry) share.old.amount share.new.amount (halt_in result) seat.old
+        seat.new }
 {
     show_read(board, seat, fetched.documents())?;
     settle(rt, desk, board, share, seat, fetched)?;
@@ -107,7 +108,8 @@ impl<S: Origin, L: Ledger> Writer<S, L> {
         ensures knows { WriterKnows [] self.new }
         ensures halted { IfSome self.new.stopped (AllowsOn (MayFill (option_copied board.entry)) (G.may_stop gate.now)) }
         ensures seat { IsSeated (option_copied board.entry) self.new.seat }
-        ensures shows { (given : Option BoardSeat) → WriterShows (option_copied board.entry) given self.old → WriterShows (option_copied board.entry) given self.new }
+        ensures shows { (given : Option BoardSeat) → WriterShows (option_copied board.entry) given self.old
+            → WriterShows (option_copied board.entry) given self.new }
     {
         if self.got == u64::MAX {
             self.stopped = Some(Halt::CountFull);
@@ -149,7 +151,8 @@ impl<S: Origin, L: Ledger> Writer<S, L> {
         ensures knows { WriterKnows [] self.new }
         ensures halted { IfSome self.new.stopped (AllowsOn (MayFill (option_copied board.entry)) (G.may_stop gate.now)) }
         ensures board_seat { IsSeated (option_copied board.entry) self.new.seat }
-        ensures shows { (given : Option BoardSeat) → WriterShows (option_copied board.entry) given self.old → WriterShows (option_copied board.entry) given self.new }
+        ensures shows { (given : Option BoardSeat) → WriterShows (option_copied board.entry) given self.old
+            → WriterShows (option_copied board.entry) given self.new }
     {
         match parcels.recv_as::<Gets, R>(rt, &mut self.parcels) {
             Ok(Carried::Full { number, fetched }) => {

@@ -6,7 +6,8 @@ use Rattle.couch_base.specs.Messages.{AskedValue, ParcelValue, IsAsked, IsParcel
 use Rattle.repl_log.specs.Entry.{EntryValue}
 use Rattle.repl_target.specs.declared.fault.TargetFault.{TargetFault}
 
--- each kind of message by its places; beside an asked list and a parcel stands the place of the window that it was made from
+-- each kind of message by its places; beside an asked list and a parcel stands the place of the window that it was made
+-- from
 pub record BagValue : Type 0 where
   pub windows : List WindowValue
   pub asked : List (ℕ × AskedValue)

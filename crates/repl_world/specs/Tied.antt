@@ -1,4 +1,5 @@
--- Worlds whose messages and stored windows are the source's own: docs/PROFILE.md, "Worlds" and "Tied windows and messages".
+-- Worlds whose messages and stored windows are the source's own: docs/PROFILE.md, "Worlds" and "Tied windows and
+-- messages".
 use Rattle.std.specs.Prelude.{◌≡◌, ℕ, Bool, false, Some, None, Result, slice_get}
 use Rattle.doc_json.specs.Document.{Document}
 use Rattle.couch_base.specs.Lists.{Among}
@@ -57,8 +58,8 @@ NeverUncovered refuses w =
     → (result : Result Settled TargetFault) (now : PeerValue) → SettleGives refuses w.target s.id p.1 result now
     → is_uncovered result ≡ false
 
--- the source's own feed: what both logs say is done is covered, the common checkpoint is so, an audit finds nothing, and no
--- settling of a parcel for its own window does
+-- the source's own feed: what both logs say is done is covered, the common checkpoint is so, an audit finds nothing,
+-- and no settling of a parcel for its own window does
 pub record IsTrustworthy (refuses : Document → Bool) (w : WorldValue) : Type 0 where
   pub tied : Tied w
   pub honest : LogsAreHonest w.source w.target

@@ -32,7 +32,9 @@ coded_parcel =
 abbrev pub coded_bag : Coded BagValue
 coded_bag =
     code_by (List WindowValue × (List (ℕ × AskedValue) × (List (ℕ × ParcelValue) × List EntryValue)))
-    (coded× (coded_list coded_window) (coded× (coded_list (coded× coded_ℕ coded_asked)) (coded× (coded_list (coded× coded_ℕ coded_parcel)) (coded_list coded_entry))))
+    (coded× (coded_list coded_window)
+    (coded× (coded_list (coded× coded_ℕ coded_asked))
+    (coded× (coded_list (coded× coded_ℕ coded_parcel)) (coded_list coded_entry))))
     (λ b. (b.windows, (b.asked, (b.parcels, b.entries))))
     (λ p. record { windows = p.0; asked = p.1.0; parcels = p.1.1.0; entries = p.1.1.1 }) (λ _. refl)
 

@@ -1,11 +1,11 @@
 -- Two peers and a bag of messages, and what each step leaves: docs/PROFILE.md, "Worlds".
 --
--- A replication is a conversation: pages of the source's feed, lists of what the target lacks, parcels of documents, and what was
--- recorded at the end. Between two databases such messages may be late, come twice, come in another order, or never. A world is
--- both peers with every message that was ever sent and not lost, and a step is one call on a peer, with any message of the bag:
--- a message stays in it when it is used, so it can come again, and a step needn't follow the one before it. A crash loses all
--- messages, and nothing else. What holds after every list of steps holds however the two databases talk, and whoever else writes
--- to them meanwhile.
+-- A replication is a conversation: pages of the source's feed, lists of what the target lacks, parcels of documents,
+-- and what was recorded at the end. Between two databases such messages may be late, come twice, come in another order,
+-- or never. A world is both peers with every message that was ever sent and not lost, and a step is one call on a peer,
+-- with any message of the bag: a message stays in it when it is used, so it can come again, and a step needn't follow
+-- the one before it. A crash loses all messages, and nothing else. What holds after every list of steps holds however
+-- the two databases talk, and whoever else writes to them meanwhile.
 use Rattle.std.specs.Prelude.{◌≡◌, ◌⊎◌, ℕ, ◌==◌, List, [], ◌∷◌, Bool, if◌then◌else◌, Option, Some, None, Result, Ok, Err, take, slice_get}
 use Rattle.rev_tree.specs.declared.origin.SessionId.{SessionId}
 use Rattle.doc_json.specs.Document.{Document}
@@ -39,7 +39,8 @@ new_world source target = record { source = source; target = target; bag = empty
 -- a database is not replicated into itself
 abbrev pub new_answer : {F : Type 0} → F × PeerValue → F × PeerValue → Result ((F × F) × WorldValue) WorldFault
 new_answer source target =
-    if source.1.db.uuid == target.1.db.uuid then Err SamePeer else Ok ((source.0, target.0), new_world source.1 target.1)
+    if source.1.db.uuid == target.1.db.uuid then Err SamePeer
+    else Ok ((source.0, target.0), new_world source.1 target.1)
 
 -- ---- what each step leaves; a place that isn't in the bag changes nothing
 

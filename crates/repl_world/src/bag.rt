@@ -64,7 +64,8 @@ impl Bag {
 
     /// How many windows, asked lists, parcels and entries there are.
     pub(crate) fn sizes(&self) -> (usize, usize, usize, usize)
-        ensures sizes { result ≡ (length self.now.windows, length self.now.asked, length self.now.parcels, length self.now.entries) }
+        ensures sizes { result
+            ≡ (length self.now.windows, length self.now.asked, length self.now.parcels, length self.now.entries) }
         ensures bag { IsBag self.now }
     {
         (
@@ -171,7 +172,9 @@ impl Bag {
     ) -> Result<(), AllocError>
         ensures filter { peer.new.0 ≡ peer.old.0 }
         ensures peer { OnOk result (peer.new.1 ≡ after_conclude peer.old.1 session at) }
-        ensures bag { OnOk result (self.new ≡ told_where (conclude_answer peer.old.1 session) self.old (session_answer peer.new.1 session (λ s. Ok (entry_of s)))) }
+        ensures bag { OnOk result
+            (self.new ≡ told_where (conclude_answer peer.old.1 session) self.old
+            (session_answer peer.new.1 session (λ s. Ok (entry_of s)))) }
         ensures err { OnErr result ((peer.new ≡ peer.old) × (self.new ≡ self.old)) }
     {
         self.entries.reserve(1)?;

@@ -44,8 +44,8 @@ impl<F: WriteFilter + Drop> World<F> {
 
     /// A world of two peers, with an empty bag. It grows by `alloc`.
     ///
-    /// `SamePeer` where the two databases have one UUID. A world whose target holds no session of the replication from the
-    /// source is tied.
+    /// `SamePeer` where the two databases have one UUID. A world whose target holds no session of the replication from
+    /// the source is tied.
     pub fn new(alloc: Global, source: Peer<F>, target: Peer<F>) -> Result<World<F>, WorldFault>
         ensures answer { result ≡ new_answer source target }
         ensures tied { IfOk result (λ w. HoldsNone source.1 target.1 → Tied w.1) }
@@ -88,7 +88,13 @@ impl<F: WriteFilter> World<F> {
 
     /// How many windows, asked lists, parcels and entries the bag holds.
     pub fn bag_sizes(&self) -> (usize, usize, usize, usize)
-        ensures sizes { result ≡ (length self.now.1.bag.windows, length self.now.1.bag.asked, length self.now.1.bag.parcels, length self.now.1.bag.entries) }
+        ensures sizes { result
+            ≡ (
+              length self.now.1.bag.windows,
+              length self.now.1.bag.asked,
+              length self.now.1.bag.parcels,
+              length self.now.1.bag.entries,
+            ) }
         ensures world { IsWorld (F.refuses self.now.0.1) self.now.1 }
     {
         // Readings of the peers tell the proof their laws.
@@ -99,11 +105,12 @@ impl<F: WriteFilter> World<F> {
 
     /// Takes steps in their order.
     ///
-    /// A step that is refused leaves what that refusal leaves, and one whose place isn't in the bag changes nothing. Where
-    /// memory is wanting in a step, the world is that of the steps before it, or, in a settling, after `Stopped` of it.
+    /// A step that is refused leaves what that refusal leaves, and one whose place isn't in the bag changes nothing.
+    /// Where memory is wanting in a step, the world is that of the steps before it, or, in a settling, after `Stopped`
+    /// of it.
     ///
-    /// Where the world was tied, it is tied then, and may be trusted: what both logs say is done is covered of the source's
-    /// feed as it is now.
+    /// Where the world was tied, it is tied then, and may be trusted: what both logs say is done is covered of the
+    /// source's feed as it is now.
     pub fn run(&mut self, alloc: Global, steps: &[Step]) -> Result<(), AllocError>
         ensures filters { self.new.0 ≡ self.old.0 }
         ensures ok { OnOk result (self.new.1 ≡ run (F.refuses self.old.0.1) self.old.1 steps.now) }
@@ -193,7 +200,8 @@ impl<F: WriteFilter> World<F> {
         body: &Body,
     ) -> Result<(), AllocError>
         ensures filters { self.new.0 ≡ self.old.0 }
-        ensures ok { OnOk result (self.new.1 ≡ record self.old.1 { source = after_edit self.old.1.source id.now parent deleted body.now }) }
+        ensures ok { OnOk result
+            (self.new.1 ≡ record self.old.1 { source = after_edit self.old.1.source id.now parent deleted body.now }) }
         ensures err { OnErr result (self.new.1 ≡ self.old.1) }
     {
         match self.source.edit(id, parent, deleted, body) {
@@ -212,7 +220,8 @@ impl<F: WriteFilter> World<F> {
         body: &Body,
     ) -> Result<(), AllocError>
         ensures filters { self.new.0 ≡ self.old.0 }
-        ensures ok { OnOk result (self.new.1 ≡ record self.old.1 { target = after_edit self.old.1.target id.now parent deleted body.now }) }
+        ensures ok { OnOk result
+            (self.new.1 ≡ record self.old.1 { target = after_edit self.old.1.target id.now parent deleted body.now }) }
         ensures err { OnErr result (self.new.1 ≡ self.old.1) }
     {
         match self.target.edit(id, parent, deleted, body) {
@@ -336,8 +345,10 @@ impl<F: WriteFilter> World<F> {
     /// A parcel of the bag is settled for a session.
     fn settle(&mut self, alloc: Global, session: SessionId, place: usize) -> Result<(), AllocError>
         ensures filters { self.new.0 ≡ self.old.0 }
-        ensures ok { OnOk result (self.new.1 ≡ settles (F.refuses self.old.0.1) self.old.1 session (slice_get self.old.1.bag.parcels place)) }
-        ensures err { OnErr result (IsStopped (F.refuses self.old.0.1) self.old.1 session (slice_get self.old.1.bag.parcels place) self.new.1) }
+        ensures ok { OnOk result
+            (self.new.1 ≡ settles (F.refuses self.old.0.1) self.old.1 session (slice_get self.old.1.bag.parcels place)) }
+        ensures err { OnErr result
+            (IsStopped (F.refuses self.old.0.1) self.old.1 session (slice_get self.old.1.bag.parcels place) self.new.1) }
     {
         let Some(held) = self.bag.parcel(place) else {
             return Ok(());

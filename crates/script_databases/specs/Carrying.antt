@@ -27,7 +27,8 @@ with_both old source target s t = with_peer (with_peer old source s) target t
 -- ---- by one thread
 
 -- of one into another: both are left as the replication leaves them, also where it is refused
-abbrev pub AloneIntoAnother : State → List ℕ → List ℕ → PeerValue → PeerValue → Plan → Result Report TargetFault → State → Type 0
+abbrev pub AloneIntoAnother : State → List ℕ → List ℕ → PeerValue → PeerValue → Plan → Result Report TargetFault → State
+    → Type 0
 AloneIntoAnother old source target s t plan result new =
     (s' : PeerValue) × (t' : PeerValue) × Replicates (deny_refuses old.program.deny) s t plan result s' t'
     × (new ≡ with_both old source target s' t')
@@ -39,10 +40,12 @@ abbrev pub Nowhere : Place → Type 0
 Nowhere place = ⊥
 
 -- of one into another: any answer and next two peers that a run of the pool may give, also where it is refused
-abbrev pub ByPoolIntoAnother : State → List ℕ → List ℕ → PeerValue → PeerValue → Plan → Result Report PoolFault → State → Type 0
+abbrev pub ByPoolIntoAnother : State → List ℕ → List ℕ → PeerValue → PeerValue → Plan → Result Report PoolFault → State
+    → Type 0
 ByPoolIntoAnother old source target s t plan result new =
     (s' : PeerValue) × (t' : PeerValue) × (fetched : List ℕ)
-    × Runs deny_refuses Nowhere plan (old.program.deny, s) (old.program.deny, t) (old.program.deny, s') (old.program.deny, t') fetched result
+    × Runs deny_refuses Nowhere plan (old.program.deny, s) (old.program.deny, t) (old.program.deny, s')
+    (old.program.deny, t') fetched result
     × (new ≡ with_both old source target s' t')
 
 -- ---- by the pool, with its progress on a board
@@ -53,11 +56,13 @@ unwatched (Ok watched) = Ok watched.report
 unwatched (Err why) = Err why
 
 -- of one into another: no more was settled than was read; or nothing was done, where memory was wanting for the board
-abbrev pub WatchedIntoAnother : State → List ℕ → List ℕ → PeerValue → PeerValue → Plan → Result Watched PoolFault → State → Type 0
+abbrev pub WatchedIntoAnother : State → List ℕ → List ℕ → PeerValue → PeerValue → Plan → Result Watched PoolFault
+    → State → Type 0
 WatchedIntoAnother old source target s t plan result new =
     (result ≡ Err faults.Memory) × (new ≡ old)
     ⊎ IfOk result (λ w. w.settled ≤ w.read) × (s' : PeerValue) × (t' : PeerValue) × (fetched : List ℕ)
-    × RunsOn deny_refuses (Unit {0}) Nowhere plan (old.program.deny, s) (old.program.deny, t) (old.program.deny, s') (old.program.deny, t') fetched (unwatched result)
+    × RunsOn deny_refuses (Unit {0}) Nowhere plan (old.program.deny, s) (old.program.deny, t) (old.program.deny, s')
+    (old.program.deny, t') fetched (unwatched result)
     × (new ≡ with_both old source target s' t')
 
 -- ---- between any two names
@@ -67,19 +72,22 @@ abbrev pub IntoItself : {E : Type 0} → State → Result (Unit {0}) E → Resul
 IntoItself {E} old answer result new = (why : E) × (answer ≡ Err why) × (result ≡ Err why) × (new ≡ old)
 
 -- between the peers of two names, by one thread
-abbrev pub CarriedAlone : State → List ℕ → List ℕ → PeerValue → PeerValue → Plan → Result Report TargetFault → State → Type 0
+abbrev pub CarriedAlone : State → List ℕ → List ℕ → PeerValue → PeerValue → Plan → Result Report TargetFault → State
+    → Type 0
 CarriedAlone old source target s t plan result new =
     (source ≡ target) × IntoItself old (plan_answer s s plan) result new
     ⊎ (source ≢ target) × AloneIntoAnother old source target s t plan result new
 
 -- by the pool
-abbrev pub CarriedByPool : State → List ℕ → List ℕ → PeerValue → PeerValue → Plan → Result Report PoolFault → State → Type 0
+abbrev pub CarriedByPool : State → List ℕ → List ℕ → PeerValue → PeerValue → Plan → Result Report PoolFault → State
+    → Type 0
 CarriedByPool old source target s t plan result new =
     (source ≡ target) × IntoItself old (early_answer s s plan) result new
     ⊎ (source ≢ target) × ByPoolIntoAnother old source target s t plan result new
 
 -- between two names under which peers stand, in one of the two ways
-abbrev pub CarriesFrom : {R : Type 0} → (State → List ℕ → List ℕ → PeerValue → PeerValue → Plan → R → State → Type 0) → State → List ℕ → List ℕ → Plan → R → State → Type 0
+abbrev pub CarriesFrom : {R : Type 0} → (State → List ℕ → List ℕ → PeerValue → PeerValue → Plan → R → State → Type 0)
+    → State → List ℕ → List ℕ → Plan → R → State → Type 0
 CarriesFrom carried old source target plan result new =
     (s : PeerValue) × (t : PeerValue) × (peer_at old source ≡ Some s) × (peer_at old target ≡ Some t)
     × carried old source target s t plan result new

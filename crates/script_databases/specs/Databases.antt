@@ -25,8 +25,8 @@ use Rattle.script_databases.specs.declared.refusal.Refusal.TheVariants as why
 abbrev pub text_cmp : List ℕ → List ℕ → Ordering
 text_cmp = slice_cmp nat_cmp
 
--- what the program is set to: the beginning of the ids that a target refuses, the seed of made ids, and the moment, the workers and
--- the batch of replications that name none
+-- what the program is set to: the beginning of the ids that a target refuses, the seed of made ids, and the moment, the
+-- workers and the batch of replications that name none
 pub record Program : Type 0 where
   pub deny : Option (List ℕ)
   pub seed : ℕ
@@ -34,7 +34,8 @@ pub record Program : Type 0 where
   pub workers : ℕ
   pub batch : ℕ
 
--- what the program is set to, which no line changes, how many ids were made (until the stream begins again), and the peers by name
+-- what the program is set to, which no line changes, how many ids were made (until the stream begins again), and the
+-- peers by name
 pub record State : Type 0 where
   pub program : Program
   pub drawn : ℕ
@@ -42,9 +43,19 @@ pub record State : Type 0 where
 
 abbrev pub coded_state : Coded State
 coded_state = code_by (Option (List ℕ) × (ℕ × (ℕ × (ℕ × (ℕ × (ℕ × FinMap text_cmp PeerValue))))))
-    (coded× (coded_option (coded_list coded_ℕ)) (coded× coded_ℕ (coded× coded_ℕ (coded× coded_ℕ (coded× coded_ℕ (coded× coded_ℕ (finmap.code (coded_list coded_ℕ) coded_peer)))))))
-    (λ s. (s.program.deny, (s.program.seed, (s.program.at, (s.program.workers, (s.program.batch, (s.drawn, s.peers)))))))
-    (λ p. record { program = record { deny = p.0; seed = p.1.0; at = p.1.1.0; workers = p.1.1.1.0; batch = p.1.1.1.1.0 }; drawn = p.1.1.1.1.1.0; peers = p.1.1.1.1.1.1 })
+    (coded× (coded_option (coded_list coded_ℕ))
+    (coded× coded_ℕ
+    (coded× coded_ℕ
+    (coded× coded_ℕ (coded× coded_ℕ (coded× coded_ℕ (finmap.code (coded_list coded_ℕ) coded_peer)))))))
+    (λ s. (
+      s.program.deny,
+      (s.program.seed, (s.program.at, (s.program.workers, (s.program.batch, (s.drawn, s.peers))))),
+    ))
+    (λ p. record {
+      program = record { deny = p.0; seed = p.1.0; at = p.1.1.0; workers = p.1.1.1.0; batch = p.1.1.1.1.0 };
+      drawn = p.1.1.1.1.1.0;
+      peers = p.1.1.1.1.1.1;
+    })
     (λ _. refl)
 
 abbrev pub no_databases : Program → State
@@ -95,7 +106,8 @@ edited_as after (Err fault) = Err (base_refusal fault)
 
 abbrev pub edited_answer : Option PeerValue → List ℕ → Option RevId → Bool → List ℕ → Result Edited Refusal
 edited_answer None id parent deleted body = Err why.NoDatabase
-edited_answer (Some l) id parent deleted body = edited_as (after_edit l id parent deleted body) (edit_answer l.db id parent deleted body)
+edited_answer (Some l) id parent deleted body =
+    edited_as (after_edit l id parent deleted body) (edit_answer l.db id parent deleted body)
 
 abbrev pub edited_at : State → List ℕ → List ℕ → Option RevId → Bool → List ℕ → State
 edited_at s name id parent deleted body = changed_at s name (λ l. after_edit l id parent deleted body)

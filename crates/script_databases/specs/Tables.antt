@@ -39,7 +39,8 @@ denied_of entries = by_text (λ p. deny_of p.0) entries
 
 -- each of them refuses the same
 abbrev pub AllDeny : Option (List ℕ) → Entries → Type 0
-AllDeny deny entries = (name : List ℕ) (denied : Option (List ℕ)) → finmap.get (denied_of entries) name ≡ Some denied → denied ≡ deny
+AllDeny deny entries =
+    (name : List ℕ) (denied : Option (List ℕ)) → finmap.get (denied_of entries) name ≡ Some denied → denied ≡ deny
 
 -- any peers stand at two names, and all else stays
 abbrev pub IsEmptied : Entries → List ℕ → List ℕ → Entries → Type 0
@@ -50,7 +51,8 @@ IsEmptied old source target new =
 
 -- what settings say of a program
 abbrev pub program_of : Settings → Program
-program_of s = record { deny = option_map string_bytes s.deny; seed = s.seed; at = s.at; workers = s.workers; batch = s.batch }
+program_of s =
+    record { deny = option_map string_bytes s.deny; seed = s.seed; at = s.at; workers = s.workers; batch = s.batch }
 
 abbrev pub beside_of : Settings → ℕ → Beside
 beside_of s drawn = record { program = program_of s; drawn = drawn }

@@ -90,8 +90,10 @@ pub fn replicate_alone_at(
     requires target { contains_key (peers_of names.old.entries) target.now ≡ true }
     requires two { source.now ≢ target.now }
     ensures carried { (g : Beside) → AllDeny g.program.deny names.old.entries → (s : PeerValue) × (t : PeerValue)
-        × (get (peers_of names.old.entries) source.now ≡ Some s) × (get (peers_of names.old.entries) target.now ≡ Some t)
-        × AloneIntoAnother (state_of g names.old.entries) source.now target.now s t plan.now result (state_of g names.new.entries) }
+        × (get (peers_of names.old.entries) source.now ≡ Some s)
+        × (get (peers_of names.old.entries) target.now ≡ Some t)
+        × AloneIntoAnother (state_of g names.old.entries) source.now target.now s t plan.now result
+        (state_of g names.new.entries) }
     ensures filters { denied_of names.new.entries ≡ denied_of names.old.entries }
 {
     let (mut sender, mut receiver) = take_out(names, alloc, source, target);
@@ -113,8 +115,10 @@ pub fn replicate_at<H: Threads + Wait + Sync>(
     requires target { contains_key (peers_of names.old.entries) target.now ≡ true }
     requires two { source.now ≢ target.now }
     ensures carried { (g : Beside) → AllDeny g.program.deny names.old.entries → (s : PeerValue) × (t : PeerValue)
-        × (get (peers_of names.old.entries) source.now ≡ Some s) × (get (peers_of names.old.entries) target.now ≡ Some t)
-        × ByPoolIntoAnother (state_of g names.old.entries) source.now target.now s t plan.now result (state_of g names.new.entries) }
+        × (get (peers_of names.old.entries) source.now ≡ Some s)
+        × (get (peers_of names.old.entries) target.now ≡ Some t)
+        × ByPoolIntoAnother (state_of g names.old.entries) source.now target.now s t plan.now result
+        (state_of g names.new.entries) }
     ensures filters { denied_of names.new.entries ≡ denied_of names.old.entries }
 {
     let (sender, receiver) = take_out(names, alloc, source, target);
@@ -129,8 +133,8 @@ pub fn replicate_at<H: Threads + Wait + Sync>(
     outcome
 }
 
-/// Replicates from the peer of one name into that of another by the pool, over a new board whose one viewer reads it once the
-/// run has ended. `Memory`, and both peers as they were, where there is none for the board.
+/// Replicates from the peer of one name into that of another by the pool, over a new board whose one viewer reads it
+/// once the run has ended. `Memory`, and both peers as they were, where there is none for the board.
 pub fn replicate_watched_at<H: Threads + Wait + Sync>(
     names: &mut Names,
     rt: &H,
@@ -144,8 +148,10 @@ pub fn replicate_watched_at<H: Threads + Wait + Sync>(
     requires two { source.now ≢ target.now }
     requires workers { (1 ≤ plan.now.workers) × (plan.now.workers ≤ 64) }
     ensures carried { (g : Beside) → AllDeny g.program.deny names.old.entries → (s : PeerValue) × (t : PeerValue)
-        × (get (peers_of names.old.entries) source.now ≡ Some s) × (get (peers_of names.old.entries) target.now ≡ Some t)
-        × WatchedIntoAnother (state_of g names.old.entries) source.now target.now s t plan.now result (state_of g names.new.entries) }
+        × (get (peers_of names.old.entries) source.now ≡ Some s)
+        × (get (peers_of names.old.entries) target.now ≡ Some t)
+        × WatchedIntoAnother (state_of g names.old.entries) source.now target.now s t plan.now result
+        (state_of g names.new.entries) }
     ensures filters { denied_of names.new.entries ≡ denied_of names.old.entries }
 {
     let Ok((board, mut seats)) = Board::new(alloc, plan.workers as usize, 1) else {

@@ -160,7 +160,8 @@ impl Databases {
         deleted: bool,
         body: &Body,
     ) -> Result<Edited, Refusal>
-        ensures answer { GivesUnlessMemory result (edited_answer (peer_at self.old name.now) id.now parent deleted body.now) }
+        ensures answer { GivesUnlessMemory result
+            (edited_answer (peer_at self.old name.now) id.now parent deleted body.now) }
         ensures ok { OnOk result (self.new ≡ edited_at self.old name.now id.now parent deleted body.now) }
         ensures err { OnErr result (self.new ≡ self.old) }
     {
@@ -169,8 +170,8 @@ impl Databases {
 
     /// Replicates from the database of one name into that of another by the pool. Both are there. It waits.
     ///
-    /// Where the names are one, its refusal is the first of those of a run between two peers with one UUID, and nothing is
-    /// changed.
+    /// Where the names are one, its refusal is the first of those of a run between two peers with one UUID, and nothing
+    /// is changed.
     pub fn replicate<H: Threads + Wait + Sync>(
         &mut self,
         rt: &H,
@@ -189,8 +190,8 @@ impl Databases {
         replicate_at(&mut self.by_name, rt, alloc, source, target, plan)
     }
 
-    /// Replicates from the database of one name into that of another by the pool, as `replicate`, over a new board with one
-    /// viewer, which reads it once the run has ended. Both are there, and the plan's workers are 1 to 64. It waits.
+    /// Replicates from the database of one name into that of another by the pool, as `replicate`, over a new board with
+    /// one viewer, which reads it once the run has ended. Both are there, and the plan's workers are 1 to 64. It waits.
     ///
     /// `Memory` too, with nothing changed, where there is none for the board.
     pub fn replicate_watched<H: Threads + Wait + Sync>(

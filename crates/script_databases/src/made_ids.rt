@@ -9,8 +9,8 @@ use uuid::Uuid;
 /// How many ids there are before the stream begins again.
 const IDS: u128 = 1 << 66;
 
-/// The stream of made ids of a seed, at its next one: ChaCha with 8 rounds, whose key is the seed as 8 bytes, least first,
-/// and 24 zeros, four words an id.
+/// The stream of made ids of a seed, at its next one: ChaCha with 8 rounds, whose key is the seed as 8 bytes, least
+/// first, and 24 zeros, four words an id.
 #[derive(Drop)]
 pub struct MadeIds {
     pub seed: u64,

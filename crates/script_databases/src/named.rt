@@ -67,7 +67,8 @@ pub fn edit_at(
     ensures answer { GivesUnlessMemory result
         (edited_answer (get (peers_of names.old.entries) name.now) id.now parent deleted body.now) }
     ensures ok { (g : Beside) → OnOk result
-        (state_of g names.new.entries ≡ edited_at (state_of g names.old.entries) name.now id.now parent deleted body.now) }
+        (state_of g names.new.entries
+        ≡ edited_at (state_of g names.old.entries) name.now id.now parent deleted body.now) }
     ensures err { OnErr result (peers_of names.new.entries ≡ peers_of names.old.entries) }
     ensures filters { denied_of names.new.entries ≡ denied_of names.old.entries }
 {

@@ -57,8 +57,8 @@ fn serves_other_words(rt: HostRuntime) -> Result<(), Fail> {
     Ok(())
 }
 
-/// Each line's answer goes out before the next read: of a reader that gives a line a call, and fails at one of its calls, each line that it
-/// gave is answered.
+/// Each line's answer goes out before the next read: of a reader that gives a line a call, and fails at one of its
+/// calls, each line that it gave is answered.
 #[test]
 fn answers_before_the_next_read(rt: HostRuntime) -> Result<(), Fail> {
     // Each line has 16 bytes with its line end, as many as a call gives.
@@ -93,7 +93,8 @@ fn lines_of(alloc: Global, count: usize) -> Result<Vec<u8>, AllocError> {
     Ok(input)
 }
 
-/// Behind a buffer of 65,536 bytes, as the program has one, answers go out once it is full, and the others when it is flushed.
+/// Behind a buffer of 65,536 bytes, as the program has one, answers go out once it is full, and the others when it is
+/// flushed.
 #[test]
 fn answers_once_the_buffer_is_full(rt: HostRuntime) -> Result<(), Fail> {
     // The first answer has 2 bytes, and each other 3.

@@ -1,5 +1,5 @@
-//! Tests of scripts: the worked rows and the tours as tables of scripts with what they print, broken lines, devices that fail,
-//! large and hostile lines, and the engine by itself.
+//! Tests of scripts: the worked rows and the tours as tables of scripts with what they print, broken lines, devices
+//! that fail, large and hostile lines, and the engine by itself.
 #![tactic(auto)]
 
 #[cfg(test)]

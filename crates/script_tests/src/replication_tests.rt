@@ -8,8 +8,8 @@ use std::sync::Wait;
 use std::test::Fail;
 use std::thread::Threads;
 
-/// Scripts of replications, each with what the ids begin with that its targets refuse, where that isn't empty, and with what
-/// it prints. Made ids are of the seed 0, and were worked out by another program.
+/// Scripts of replications, each with what the ids begin with that its targets refuse, where that isn't empty, and with
+/// what it prints. Made ids are of the seed 0, and were worked out by another program.
 static SCRIPTS: &[(&str, &str, &str, &str)] = &[
     (
         "empty-replication",

@@ -75,8 +75,8 @@ fn tours(rt: HostRuntime) -> Result<(), Fail> {
     Ok(())
 }
 
-/// Scripts with what they print: the worked rows, and what no single line shows. Made ids are of the seed 0, and were worked
-/// out by another program, as the ids of edits were.
+/// Scripts with what they print: the worked rows, and what no single line shows. Made ids are of the seed 0, and were
+/// worked out by another program, as the ids of edits were.
 static SCRIPTS: &[(&str, &str, &str)] = &[
     (
         "live-leaf-wins",

@@ -1,4 +1,5 @@
--- What a line may be answered: docs/PROFILE.md, "Command lines" and "Answers". What each word is told stands in its room, in `words`.
+-- What a line may be answered: docs/PROFILE.md, "Command lines" and "Answers". What each word is told stands in its
+-- room, in `words`.
 use Rattle.std.specs.Prelude.{◌≡◌, ◌⊎◌, ℕ, List, Some, Result, Ok, Err}
 use Rattle.std.specs.Str.{IsUtf8}
 use Rattle.serde_json.specs.Data.{object, Members}
@@ -20,7 +21,8 @@ IsNoObject line = (ms : Members) → IsObject line ms → ⊥
 
 -- what a line asks, or why it asks nothing
 abbrev pub Asks : List ℕ → Result Asked Refusal → Type 0
-Asks line asked = ((ms : Members) × IsObject line ms × (asked ≡ asked_in (object ms))) ⊎ (IsNoObject line × (asked ≡ Err why.BadLine))
+Asks line asked =
+    ((ms : Members) × IsObject line ms × (asked ≡ asked_in (object ms))) ⊎ (IsNoObject line × (asked ≡ Err why.BadLine))
 
 -- what is asked is answered, or refused and everything stays
 abbrev pub AnswersAsked : State → Result Asked Refusal → Told → State → Type 0

@@ -130,7 +130,8 @@ pub fn has_only_members(value: &Value, keys: &[&str]) -> bool
 }
 
 fn are_all_among(members: &Map<String, Value>, allowed: &[&str]) -> bool
-    ensures { result ≡ list_all (λ key. list_any (λ k. bytes_eq (string_bytes key) k.now) allowed.now) (keys members.now) }
+    ensures { result
+        ≡ list_all (λ key. list_any (λ k. bytes_eq (string_bytes key) k.now) allowed.now) (keys members.now) }
 {
     members.keys().all(|key| is_one_of(key.as_str(), allowed))
 }

@@ -90,14 +90,15 @@ pub fn run_script<H: AllocGlobal + Threads + Wait + Sync, R: ScriptRead, W: Scri
     settings: &Settings,
 ) -> Result<bool, ScriptFault>
     // What is written is the answers to the lines of what was read, to its end.
-    ensures answers { IfOk result (λ clean. (input : List ℕ) × (text : List ℕ) × (state : State) × Gives (R.left reader.old) input
+    ensures answers { IfOk result
+        (λ clean. (input : List ℕ) × (text : List ℕ) × (state : State) × Gives (R.left reader.old) input
         × Appends (W.held writer.old) (W.held writer.new) text
         × IsAnswered LinesAnswer (no_databases (program_of settings.now)) input clean text state) }
     ensures end { OnOk result (IsAtEnd (R.left reader.new)) }
     ensures counted { OnOk result ((R.failures reader.new ≡ R.failures reader.old)
         × (W.failures writer.new ≡ W.failures writer.old)) }
-    // After a fault it is a beginning of such answers, and the device that is named has failed. `Memory` comes only while a line is read
-    // in: the lines before it are answered whole.
+    // After a fault it is a beginning of such answers, and the device that is named has failed. `Memory` comes only
+    // while a line is read in: the lines before it are answered whole.
     ensures fault { IfErr result (λ fault. (input : List ℕ) × (text : List ℕ) × Gives (R.left reader.old) input
         × Appends (W.held writer.old) (W.held writer.new) text
         × IsToldUntil fault LinesAnswer (no_databases (program_of settings.now)) input text
@@ -111,8 +112,8 @@ pub fn run_script<H: AllocGlobal + Threads + Wait + Sync, R: ScriptRead, W: Scri
     ended
 }
 
-/// Runs a script as `run_script` does, and leaves its databases in memory: for a program that ends behind it, since to let go of each
-/// document takes long.
+/// Runs a script as `run_script` does, and leaves its databases in memory: for a program that ends behind it, since to
+/// let go of each document takes long.
 pub fn run_last_script<H: AllocGlobal + Threads + Wait + Sync, R: ScriptRead, W: ScriptWrite>(
     rt: &H,
     reader: &mut R,
@@ -120,14 +121,15 @@ pub fn run_last_script<H: AllocGlobal + Threads + Wait + Sync, R: ScriptRead, W:
     settings: &Settings,
 ) -> Result<bool, ScriptFault>
     // What is written is the answers to the lines of what was read, to its end.
-    ensures answers { IfOk result (λ clean. (input : List ℕ) × (text : List ℕ) × (state : State) × Gives (R.left reader.old) input
+    ensures answers { IfOk result
+        (λ clean. (input : List ℕ) × (text : List ℕ) × (state : State) × Gives (R.left reader.old) input
         × Appends (W.held writer.old) (W.held writer.new) text
         × IsAnswered LinesAnswer (no_databases (program_of settings.now)) input clean text state) }
     ensures end { OnOk result (IsAtEnd (R.left reader.new)) }
     ensures counted { OnOk result ((R.failures reader.new ≡ R.failures reader.old)
         × (W.failures writer.new ≡ W.failures writer.old)) }
-    // After a fault it is a beginning of such answers, and the device that is named has failed. `Memory` comes only while a line is read
-    // in: the lines before it are answered whole.
+    // After a fault it is a beginning of such answers, and the device that is named has failed. `Memory` comes only
+    // while a line is read in: the lines before it are answered whole.
     ensures fault { IfErr result (λ fault. (input : List ℕ) × (text : List ℕ) × Gives (R.left reader.old) input
         × Appends (W.held writer.old) (W.held writer.new) text
         × IsToldUntil fault LinesAnswer (no_databases (program_of settings.now)) input text
@@ -151,7 +153,8 @@ fn run_on<H: Threads + Wait + Sync, R: ScriptRead, W: ScriptWrite>(
     writer: &mut W,
 ) -> (Result<bool, ScriptFault>, Databases)
     ensures answers { IfOk result.0 (λ clean. (input : List ℕ) × (text : List ℕ) × Gives (R.left reader.old) input
-        × Appends (W.held writer.old) (W.held writer.new) text × IsAnswered LinesAnswer databases input clean text result.1) }
+        × Appends (W.held writer.old) (W.held writer.new) text
+        × IsAnswered LinesAnswer databases input clean text result.1) }
     ensures end { OnOk result.0 (IsAtEnd (R.left reader.new)) }
     ensures counted { OnOk result.0 ((R.failures reader.new ≡ R.failures reader.old)
         × (W.failures writer.new ≡ W.failures writer.old)) }

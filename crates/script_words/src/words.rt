@@ -1,5 +1,5 @@
-//! The words of a script, each in a room of its own: what it asks, what it does, and what it prints (docs/PROFILE.md, "Command lines",
-//! "Order of checks" and "Answers").
+//! The words of a script, each in a room of its own: what it asks, what it does, and what it prints (docs/PROFILE.md,
+//! "Command lines", "Order of checks" and "Answers").
 ghost use Rattle.std.specs.Prelude.{◌≡◌, [], option_map};
 ghost use Rattle.serde_json.specs.View.{view};
 ghost use Rattle.script_engine.specs.Serving.{MayTell};

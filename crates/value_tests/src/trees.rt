@@ -15,7 +15,8 @@ enum Call<'a> {
     MergeCopy(u32, &'a [&'a str], bool, &'a str, Origin),
     /// Copies a content, whether it is deleted and its body.
     CopyContent(bool, &'a str),
-    /// Reads the winner, how many leaves and revisions there are, and the leaves in their order, each with its ancestry.
+    /// Reads the winner, how many leaves and revisions there are, and the leaves in their order, each with its
+    /// ancestry.
     Whole,
     /// Copies the tree.
     Copy,

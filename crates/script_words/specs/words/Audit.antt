@@ -33,7 +33,8 @@ audit_in d = do
 
 -- a leaf that is not covered, at its sequence
 abbrev pub hole_line : Leaf → List ℕ
-hole_line leaf = ended (codes "hole " ++ decimal leaf.seq ++ codes " " ++ quoted leaf.id ++ codes " " ++ rev_text leaf.rev)
+hole_line leaf =
+    ended (codes "hole " ++ decimal leaf.seq ++ codes " " ++ quoted leaf.id ++ codes " " ++ rev_text leaf.rev)
 
 abbrev pub audit_text : Option Leaf → List ℕ
 audit_text None = codes "clean\n"

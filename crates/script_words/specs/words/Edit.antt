@@ -28,7 +28,14 @@ pub record EditAsk : Type 0 where
   pub body : Option Data
 
 abbrev pub edit_asked : Edit → EditAsk
-edit_asked ask = record { db = ask.db.now; id = ask.id.now; parent = option_copied ask.parent; deleted = ask.deleted; body = option_map (λ v. view v.now) ask.body }
+edit_asked ask =
+    record {
+      db = ask.db.now;
+      id = ask.id.now;
+      parent = option_copied ask.parent;
+      deleted = ask.deleted;
+      body = option_map (λ v. view v.now) ask.body;
+    }
 
 abbrev pub edit_in : Data → Result EditAsk Refusal
 edit_in d = do
@@ -42,7 +49,9 @@ edit_in d = do
 -- ---- what it prints
 
 abbrev pub edited_line : List ℕ → List ℕ → Edited → List ℕ
-edited_line db id e = ended (codes "edited " ++ db ++ codes " " ++ quoted id ++ codes " " ++ rev_text e.rev ++ codes " seq " ++ decimal e.seq)
+edited_line db id e =
+    ended (codes "edited " ++ db ++ codes " " ++ quoted id ++ codes " " ++ rev_text e.rev ++ codes " seq "
+    ++ decimal e.seq)
 
 -- ---- what it does
 

@@ -38,7 +38,8 @@ abbrev pub load_in : Data → Result LoadAsk Refusal
 load_in d = do
   db ← needed (name_at (codes "db") d)
   uuid ← needed (optional as_uuid (codes "uuid") d)
-  needed (if_only (codes "do" ∷ codes "db" ∷ codes "uuid" ∷ codes "doc" ∷ []) d (record { db = db; uuid = uuid; doc = get (codes "doc") d }))
+  needed (if_only (codes "do" ∷ codes "db" ∷ codes "uuid" ∷ codes "doc" ∷ []) d
+      (record { db = db; uuid = uuid; doc = get (codes "doc") d }))
 
 -- ---- what it prints
 
@@ -82,15 +83,20 @@ load_new s db uuid (Some doc) = put_into s db (new_peer uuid) doc
 
 -- unless another database has the UUID
 abbrev pub LoadsUntaken : State → List ℕ → ℕ → Result (Option Document) Refusal → Told → State → Type 0
-LoadsUntaken old db uuid doc told new = IsTaken old uuid × Refuses why.UuidTaken old told new ⊎ (IsTaken old uuid → ⊥) × Does (doc >>= load_new old db uuid) old told new
+LoadsUntaken old db uuid doc told new =
+    IsTaken old uuid × Refuses why.UuidTaken old told new
+    ⊎ (IsTaken old uuid → ⊥) × Does (doc >>= load_new old db uuid) old told new
 
--- with a made UUID: the document is looked at first, and the id is drawn once it was accepted, also where memory is wanting behind that
+-- with a made UUID: the document is looked at first, and the id is drawn once it was accepted, also where memory is
+-- wanting behind that
 abbrev pub LoadsMade : State → List ℕ → Result (Option Document) Refusal → Told → State → Type 0
-LoadsMade old db (Ok doc) told new = LoadsUntaken (drawn_one old) db (next_made old) (Ok doc) told new ⊎ Refuses why.Memory (drawn_one old) told new
+LoadsMade old db (Ok doc) told new =
+    LoadsUntaken (drawn_one old) db (next_made old) (Ok doc) told new ⊎ Refuses why.Memory (drawn_one old) told new
 LoadsMade old db (Err refusal) told new = Refuses refusal old told new
 
 -- by whether the database is there, and whether a UUID is given
-abbrev pub LoadsAt : State → List ℕ → Option PeerValue → Option ℕ → Result (Option Document) Refusal → Told → State → Type 0
+abbrev pub LoadsAt : State → List ℕ → Option PeerValue → Option ℕ → Result (Option Document) Refusal → Told → State
+    → Type 0
 LoadsAt old db (Some l) (Some uuid) doc told new = Refuses why.DatabaseExists old told new
 LoadsAt old db (Some l) None doc told new = Does (doc >>= load_there old db l) old told new
 LoadsAt old db None (Some uuid) doc told new = LoadsUntaken old db uuid doc told new

@@ -31,7 +31,9 @@ abbrev pub log_asked : Log → LogAsk
 log_asked ask = record { source = ask.source.now; target = ask.target.now; side = ask.side }
 
 abbrev pub side_of : List ℕ → Option Side
-side_of text = if bytes_eq text (codes "source") then Some Source else (if bytes_eq text (codes "target") then Some Target else None)
+side_of text =
+    if bytes_eq text (codes "source") then Some Source
+    else (if bytes_eq text (codes "target") then Some Target else None)
 
 abbrev pub side_at : Data → Option Side
 side_at d = option_and_then side_of (text_at (codes "side") d)
@@ -41,7 +43,8 @@ log_in d = do
   source ← needed (name_at (codes "source") d)
   target ← needed (name_at (codes "target") d)
   side ← needed (side_at d)
-  needed (if_only (codes "do" ∷ codes "source" ∷ codes "target" ∷ codes "side" ∷ []) d (record { source = source; target = target; side = side }))
+  needed (if_only (codes "do" ∷ codes "source" ∷ codes "target" ∷ codes "side" ∷ []) d
+      (record { source = source; target = target; side = side }))
 
 -- ---- what it does
 

@@ -47,10 +47,20 @@ options_in d = do
   stop_after ← needed (optional as_whole (codes "stop_after") d)
   alone ← needed (optional as_bool (codes "alone") d)
   progress ← needed (optional as_bool (codes "progress") d)
-  Ok (record { session = session; workers = workers; batch = batch; at = at; stop_after = stop_after; alone = unwrap_or alone false; progress = unwrap_or progress false })
+  Ok (record {
+    session = session;
+    workers = workers;
+    batch = batch;
+    at = at;
+    stop_after = stop_after;
+    alone = unwrap_or alone false;
+    progress = unwrap_or progress false;
+  })
 
 abbrev pub replicate_keys : List (List ℕ)
-replicate_keys = codes "do" ∷ codes "source" ∷ codes "target" ∷ codes "session" ∷ codes "workers" ∷ codes "batch" ∷ codes "at" ∷ codes "stop_after" ∷ codes "alone" ∷ codes "progress" ∷ []
+replicate_keys =
+    codes "do" ∷ codes "source" ∷ codes "target" ∷ codes "session" ∷ codes "workers" ∷ codes "batch" ∷ codes "at"
+    ∷ codes "stop_after" ∷ codes "alone" ∷ codes "progress" ∷ []
 
 abbrev pub replicate_in : Data → Result ReplicateAsk Refusal
 replicate_in d = do
@@ -63,7 +73,8 @@ replicate_in d = do
 
 -- from where a session read, and up to where all is done
 abbrev pub session_part : Report → List ℕ
-session_part r = codes "session " ++ id_digits r.session.0 ++ codes " from " ++ decimal r.start ++ codes " to " ++ decimal r.recorded
+session_part r =
+    codes "session " ++ id_digits r.session.0 ++ codes " from " ++ decimal r.start ++ codes " to " ++ decimal r.recorded
 
 -- how many leaves it checked, and how many of them were missing
 abbrev pub checked_part : Report → List ℕ
@@ -71,7 +82,8 @@ checked_part r = codes " checked " ++ decimal r.checked ++ codes " found " ++ de
 
 -- how many documents it read, wrote and failed to write
 abbrev pub documents_part : Report → List ℕ
-documents_part r = codes " read " ++ decimal r.read ++ codes " written " ++ decimal r.written ++ codes " failed " ++ decimal r.failures
+documents_part r =
+    codes " read " ++ decimal r.read ++ codes " written " ++ decimal r.written ++ codes " failed " ++ decimal r.failures
 
 -- what a session did
 abbrev pub report_line : Report → List ℕ
@@ -148,17 +160,22 @@ ending_of_watched (Err fault) = ending_of_run (Err fault)
 
 -- a line asks for progress that a board can show: between two databases, by as many workers as a pool may have
 abbrev pub is_watched : ReplicateAsk → Plan → Bool
-is_watched ask plan = ask.options.progress && not (bytes_eq ask.source ask.target) && nat_le 1 plan.workers && nat_le plan.workers 64
+is_watched ask plan =
+    ask.options.progress && not (bytes_eq ask.source ask.target) && nat_le 1 plan.workers && nat_le plan.workers 64
 
--- how a replication ended that was carried by one thread, where the line says so; else by the pool, with a board where the line
--- asks for progress that one can show
-abbrev pub EndsBy : Bool → Bool → State → List ℕ → List ℕ → PeerValue → PeerValue → Plan → Result Ending Refusal → State → Type 0
+-- how a replication ended that was carried by one thread, where the line says so; else by the pool, with a board where
+-- the line asks for progress that one can show
+abbrev pub EndsBy : Bool → Bool → State → List ℕ → List ℕ → PeerValue → PeerValue → Plan → Result Ending Refusal → State
+    → Type 0
 EndsBy true watched old source target s t plan ending new =
-    (result : Result Report TargetFault) × CarriedAlone old source target s t plan result new × (ending ≡ ending_of result)
+    (result : Result Report TargetFault) × CarriedAlone old source target s t plan result new
+    × (ending ≡ ending_of result)
 EndsBy false true old source target s t plan ending new =
-    (result : Result Watched PoolFault) × WatchedIntoAnother old source target s t plan result new × (ending ≡ ending_of_watched result)
+    (result : Result Watched PoolFault) × WatchedIntoAnother old source target s t plan result new
+    × (ending ≡ ending_of_watched result)
 EndsBy false false old source target s t plan ending new =
-    (result : Result Report PoolFault) × CarriedByPool old source target s t plan result new × (ending ≡ ending_of_run result)
+    (result : Result Report PoolFault) × CarriedByPool old source target s t plan result new
+    × (ending ≡ ending_of_run result)
 
 abbrev pub replicated_text : SessionId → Result Ending Refusal → Result (List ℕ) Refusal
 replicated_text session ended = do
@@ -170,7 +187,8 @@ abbrev pub ReplicatesBoth : State → ReplicateAsk → PeerValue × PeerValue �
 ReplicatesBoth old ask both told new =
     (last_second < moment_of old.program ask.options) × Refuses why.BadMoment (with_session old ask.options) told new
     ⊎ (moment_of old.program ask.options ≤ last_second) × (ending : Result Ending Refusal)
-    × EndsBy ask.options.alone (is_watched ask (plan_of old ask.options)) (with_session old ask.options) ask.source ask.target both.0 both.1 (plan_of old ask.options) ending new
+    × EndsBy ask.options.alone (is_watched ask (plan_of old ask.options)) (with_session old ask.options) ask.source
+    ask.target both.0 both.1 (plan_of old ask.options) ending new
     × (told ≡ told_of (replicated_text (plan_of old ask.options).session ending))
 
 abbrev pub ReplicatesFound : State → ReplicateAsk → Result (PeerValue × PeerValue) Refusal → Told → State → Type 0

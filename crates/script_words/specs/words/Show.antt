@@ -38,11 +38,15 @@ show_in d = do
 -- ---- what it prints
 
 abbrev pub head_line : List ℕ → TreeValue → List ℕ
-head_line id tree = ended (codes "doc " ++ quoted id ++ codes " winner " ++ text_of_any (first_of (leaves tree)) ++ codes " leaves " ++ decimal (length (leaves tree)) ++ codes " revs " ++ decimal (finmap.len tree.origins))
+head_line id tree =
+    ended (codes "doc " ++ quoted id ++ codes " winner " ++ text_of_any (first_of (leaves tree)) ++ codes " leaves "
+    ++ decimal (length (leaves tree)) ++ codes " revs " ++ decimal (finmap.len tree.origins))
 
 -- a leaf, whether it is deleted, and its known ancestry
 abbrev pub leaf_line : TreeValue → RevId → List ℕ
-leaf_line tree leaf = ended (codes "leaf " ++ rev_text leaf ++ (if is_deleted tree leaf then codes " deleted " else codes " live ") ++ texts_of_revs (ancestors tree leaf))
+leaf_line tree leaf =
+    ended (codes "leaf " ++ rev_text leaf ++ (if is_deleted tree leaf then codes " deleted " else codes " live ")
+    ++ texts_of_revs (ancestors tree leaf))
 
 -- the leaves in their order, the winner first
 abbrev pub show_text : List ℕ → TreeValue → List ℕ

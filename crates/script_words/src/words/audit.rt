@@ -77,7 +77,8 @@ fn push_hole(
     id: &str,
     rev: Rev,
 ) -> Result<(), AllocError>
-    ensures { OnOk result (answer.new.items ≡ answer.old.items ++ hole_line (record { seq = seq; id = id.now; rev = rev })) }
+    ensures { OnOk result
+        (answer.new.items ≡ answer.old.items ++ hole_line (record { seq = seq; id = id.now; rev = rev })) }
 {
     answer.extend_from_slice(b"hole ")?;
     push_number(answer, seq)?;

@@ -75,8 +75,8 @@ fn print(
     answer.extend_from_slice(b"\n")
 }
 
-/// Prints the rows above a sequence and at or under the goal. The goal is at most the update sequence, so only memory can be
-/// wanting.
+/// Prints the rows above a sequence and at or under the goal. The goal is at most the update sequence, so only memory
+/// can be wanting.
 fn push_feed(
     alloc: Global,
     answer: &mut Vec<u8>,

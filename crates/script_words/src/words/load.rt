@@ -71,7 +71,8 @@ fn load_there(
 ) -> Result<(), Refusal>
     requires empty { answer.old.items ≡ [] }
     requires there { contains_key databases.old.peers db.now ≡ true }
-    ensures { MayTell Loads databases.old (record { db = db.now; uuid = None; doc = option_map (λ v. view v.now) doc.entry })
+    ensures { MayTell Loads databases.old
+        (record { db = db.now; uuid = None; doc = option_map (λ v. view v.now) doc.entry })
         (told_by result answer.new.items) databases.new }
 {
     let given = match read_document(alloc, doc) {
@@ -105,7 +106,8 @@ fn load_given(
 ) -> Result<(), Refusal>
     requires empty { answer.old.items ≡ [] }
     requires absent { peer_at databases.old db.now ≡ None }
-    ensures { MayTell Loads databases.old (record { db = db.now; uuid = Some uuid; doc = option_map (λ v. view v.now) doc.entry })
+    ensures { MayTell Loads databases.old
+        (record { db = db.now; uuid = Some uuid; doc = option_map (λ v. view v.now) doc.entry })
         (told_by result answer.new.items) databases.new }
 {
     if databases.is_taken(uuid) {
@@ -128,7 +130,8 @@ fn load_made(
 ) -> Result<(), Refusal>
     requires empty { answer.old.items ≡ [] }
     requires absent { peer_at databases.old db.now ≡ None }
-    ensures { MayTell Loads databases.old (record { db = db.now; uuid = None; doc = option_map (λ v. view v.now) doc.entry })
+    ensures { MayTell Loads databases.old
+        (record { db = db.now; uuid = None; doc = option_map (λ v. view v.now) doc.entry })
         (told_by result answer.new.items) databases.new }
 {
     let given = match read_document(alloc, doc) {
@@ -153,7 +156,8 @@ fn load_new(
 ) -> Result<(), Refusal>
     requires empty { answer.old.items ≡ [] }
     requires absent { peer_at databases.old db.now ≡ None }
-    ensures { MayTell LoadsNew databases.old (record { db = db.now; uuid = uuid; doc = given }) (told_by result answer.new.items) databases.new }
+    ensures { MayTell LoadsNew databases.old (record { db = db.now; uuid = uuid; doc = given })
+        (told_by result answer.new.items) databases.new }
 {
     match given {
         None => make_empty(alloc, databases, db, uuid, answer),
@@ -171,7 +175,8 @@ fn make_empty(
 ) -> Result<(), Refusal>
     requires empty { answer.old.items ≡ [] }
     requires absent { peer_at databases.old db.now ≡ None }
-    ensures { MayTell LoadsNew databases.old (record { db = db.now; uuid = uuid; doc = None }) (told_by result answer.new.items) databases.new }
+    ensures { MayTell LoadsNew databases.old (record { db = db.now; uuid = uuid; doc = None })
+        (told_by result answer.new.items) databases.new }
 {
     let Ok(peer) = databases.make(alloc, uuid) else {
         return Err(Refusal::Memory);
@@ -196,7 +201,8 @@ fn make_with(
 ) -> Result<(), Refusal>
     requires empty { answer.old.items ≡ [] }
     requires absent { peer_at databases.old db.now ≡ None }
-    ensures { MayTell LoadsNew databases.old (record { db = db.now; uuid = uuid; doc = Some document.now }) (told_by result answer.new.items) databases.new }
+    ensures { MayTell LoadsNew databases.old (record { db = db.now; uuid = uuid; doc = Some document.now })
+        (told_by result answer.new.items) databases.new }
 {
     let Ok(mut peer) = databases.make(alloc, uuid) else {
         return Err(Refusal::Memory);

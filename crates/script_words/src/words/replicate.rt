@@ -30,7 +30,8 @@ pub struct Replicate<'a> {
     pub options: Options,
 }
 
-/// What a line says of a replication besides its two sides: what it leaves out is none, and `alone` and `progress` are false then.
+/// What a line says of a replication besides its two sides: what it leaves out is none, and `alone` and `progress` are
+/// false then.
 #[derive(Clone, Copy, Debug, PartialEq, Eq)]
 pub struct Options {
     /// The number of the UUID that is the new session's id.
@@ -113,8 +114,8 @@ fn options_of(value: &Value) -> Option<Options>
     })
 }
 
-/// Serves `replicate`. An id is made for a session that has none, once both databases are found. It waits, where the line
-/// does not ask for one thread.
+/// Serves `replicate`. An id is made for a session that has none, once both databases are found. It waits, where the
+/// line does not ask for one thread.
 pub fn serve<H: Threads + Wait + Sync>(
     rt: &H,
     alloc: Global,
@@ -150,8 +151,11 @@ pub fn serve<H: Threads + Wait + Sync>(
 /// `BadMoment` where the moment lies after the year 9999.
 fn plan_asked(databases: &mut Databases, options: &Options) -> Result<Plan, Refusal>
     ensures state { databases.new ≡ with_session databases.old options.now }
-    ensures ok { IfOk result (λ plan. (moment_of databases.old.program options.now ≤ last_second) × (plan ≡ plan_of databases.old options.now)) }
-    ensures err { IfErr result (λ why. (why ≡ BadMoment) × (last_second < moment_of databases.old.program options.now)) }
+    ensures ok { IfOk result
+        (λ plan. (moment_of databases.old.program options.now ≤ last_second)
+        × (plan ≡ plan_of databases.old options.now)) }
+    ensures err { IfErr result
+        (λ why. (why ≡ BadMoment) × (last_second < moment_of databases.old.program options.now)) }
 {
     let session = match options.session {
         Some(session) => session,
@@ -170,7 +174,8 @@ fn plan_asked(databases: &mut Databases, options: &Options) -> Result<Plan, Refu
     })
 }
 
-/// Replicates between the two databases of a line, which are there: by one thread where the line says so, else by the pool.
+/// Replicates between the two databases of a line, which are there: by one thread where the line says so, else by the
+/// pool.
 fn carry<H: Threads + Wait + Sync>(
     rt: &H,
     alloc: Global,
@@ -180,7 +185,8 @@ fn carry<H: Threads + Wait + Sync>(
 ) -> Result<Ending, Refusal>
     requires source { contains_key databases.old.peers ask.now.source.now ≡ true }
     requires target { contains_key databases.old.peers ask.now.target.now ≡ true }
-    ensures { CarriesFrom (EndsBy ask.now.options.alone (is_watched (replicate_asked ask.now) plan.now)) databases.old ask.now.source.now ask.now.target.now plan.now result databases.new }
+    ensures { CarriesFrom (EndsBy ask.now.options.alone (is_watched (replicate_asked ask.now) plan.now)) databases.old
+        ask.now.source.now ask.now.target.now plan.now result databases.new }
 {
     if ask.options.alone {
         return ending_of(databases.replicate_alone(alloc, ask.source, ask.target, plan));
@@ -192,7 +198,8 @@ fn carry<H: Threads + Wait + Sync>(
     ending_of_run(databases.replicate(rt, alloc, ask.source, ask.target, plan))
 }
 
-/// Whether a line asks for progress that a board can show: between two databases, by as many workers as a pool may have.
+/// Whether a line asks for progress that a board can show: between two databases, by as many workers as a pool may
+/// have.
 fn is_watched(ask: &Replicate<'_>, plan: &Plan) -> bool
     ensures { result ≡ is_watched (replicate_asked ask.now) plan.now }
 {
