@@ -11,159 +11,159 @@ use repl_target::TargetFault;
 use rev_core::RevFault;
 use thiserror::Error;
 
-/// Why a line is refused, or that memory ran out (docs/PROFILE.md, "Order of checks").
+/// Why a line is refused, or that memory ran out, by their names (docs/PROFILE.md, "Order of checks").
 #[derive(Clone, Copy, Debug, PartialEq, Eq, Error)]
 pub enum Refusal {
-    /// The line is no JSON object.
-    #[error("the line is no JSON object")]
-    BadLine,
-    /// The object is no command: a word, a member or its kind is wrong.
-    #[error("the object is no command")]
-    BadCommand,
-    /// No database has the name.
-    #[error("no database has this name")]
-    NoDatabase,
-    /// A UUID is given for a database that is there.
-    #[error("the database is there already")]
-    DatabaseExists,
-    /// Another database has the UUID.
-    #[error("another database has this UUID")]
-    UuidTaken,
-    /// A document's id is absent, no text, or empty.
-    #[error("no document id")]
-    NoId,
-    /// A document's id begins with `_` and is no id of a design document.
-    #[error("a reserved document id")]
-    ReservedId,
-    /// A revision id has no generation.
-    #[error("a revision id without a generation")]
-    BadGeneration,
-    /// A revision id has no signature.
-    #[error("a revision id without a signature")]
-    BadSig,
-    /// A document or a body is no object.
-    #[error("not an object")]
-    NotObject,
-    /// A document has attachments.
-    #[error("a document with attachments")]
-    Attachments,
-    /// A special member is not known, or `_deleted` is no flag.
-    #[error("a special member that is not known, or '_deleted' that is no flag")]
-    SpecialMember,
-    /// A document has no revision id.
-    #[error("no revision id")]
-    NoRev,
-    /// A document's `_revisions` is no ancestry.
-    #[error("'_revisions' that is no ancestry")]
-    BadRevisions,
-    /// A document's `_rev` is not the newest of its `_revisions`.
-    #[error("'_rev' that is not the newest of '_revisions'")]
-    RevMismatch,
-    /// A number is neither an i64 nor a u64.
-    #[error("a number that is no 64-bit integer")]
-    Fraction,
-    /// The database has no document of the id.
-    #[error("the database has no such document")]
-    NoSuchDocument,
-    /// The document has no such revision, or it has no content.
-    #[error("the document has no such revision")]
-    NoSuchRevision,
-    /// A given revision has another parent in the document's tree.
-    #[error("a revision has another parent in the tree")]
-    Contradiction,
-    /// An edit's parent is no leaf, or it names none and a leaf is live.
-    #[error("the edit's parent is not a leaf, or a live leaf is passed over")]
-    Conflict,
-    /// An edit's parent has the greatest generation.
-    #[error("no generation after 4294967295")]
-    GenerationFull,
-    /// The revision of an edit is there already.
-    #[error("the edit is there already")]
-    RevExists,
-    /// The update sequence is the greatest one.
-    #[error("no sequence after 9007199254740991")]
-    SeqFull,
-    /// A database is asked for at a sequence above the greatest one, which no line does.
-    #[error("an update sequence above 9007199254740991")]
-    SeqTooLarge,
-    /// A page of no rows is asked for, which no line does.
-    #[error("a page has at least one row")]
-    BadLimit,
-    /// The goal of a page is not above its start, which no line asks.
-    #[error("the goal is not above the start")]
-    BadRange,
-    /// The goal of a page is above the update sequence, which no line asks.
-    #[error("the goal is above the update sequence")]
-    GoalAhead,
-    /// A moment lies after the year 9999.
-    #[error("a moment after the year 9999")]
-    BadMoment,
-    /// A log without entries is asked for.
-    #[error("no replication has begun")]
-    EmptyLog,
-    /// A log's entry has a greater recorded sequence, which no line is refused for.
-    #[error("older than the log's entry")]
-    Older,
-    /// The target holds the session.
-    #[error("the session is there already")]
-    SessionExists,
-    /// A session begins behind none of its replication, which no line asks.
-    #[error("no such base session")]
-    NoSuchBase,
-    /// A session begins above what is recorded, which no line asks.
-    #[error("the start is above what is recorded")]
-    StartAboveBase,
-    /// A session has its goal below its start.
-    #[error("the goal is below the start")]
-    GoalBelowStart,
-    /// The target has no such session, which no line asks for.
-    #[error("no such session")]
-    NoSuchSession,
-    /// A window does not follow the ones before, which no line brings.
-    #[error("a gap before the window")]
-    Gap,
-    /// A window ends above the goal, which no line brings.
-    #[error("the window ends above the goal")]
-    PastGoal,
-    /// Documents are of no window of the session.
-    #[error("documents of no window of the session")]
-    ForeignParcel,
     /// A window is done already, which no line brings.
     #[error("the window is done already")]
     AlreadyDone,
-    /// A count of the session would pass its limit.
-    #[error("a count of the session is full")]
-    CountFull,
-    /// A window was settled in part: memory or a sequence was wanting.
-    #[error("a window was settled in part")]
-    Stopped,
-    /// A leaf of a window is not covered by what was fetched.
-    #[error("a leaf of the window is not covered")]
-    Uncovered,
+    /// A document has attachments.
+    #[error("a document with attachments")]
+    Attachments,
     /// A batch is not 1 to 10,000.
     #[error("a batch has 1 to 10000 documents")]
     BadBatch,
-    /// Source and target are one database.
-    #[error("the source and the target are one database")]
-    SamePeer,
-    /// A pool without workers.
-    #[error("a pool has 1 to 64 workers")]
-    NoWorkers,
-    /// A pool of more than 64 workers.
-    #[error("a pool has 1 to 64 workers")]
-    TooManyWorkers,
+    /// The object is no command: a word, a member or its kind is wrong.
+    #[error("the object is no command")]
+    BadCommand,
+    /// A revision id has no generation.
+    #[error("a revision id without a generation")]
+    BadGeneration,
+    /// A page of no rows is asked for, which no line does.
+    #[error("a page has at least one row")]
+    BadLimit,
+    /// The line is no JSON object.
+    #[error("the line is no JSON object")]
+    BadLine,
+    /// A moment lies after the year 9999.
+    #[error("a moment after the year 9999")]
+    BadMoment,
+    /// The goal of a page is not above its start, which no line asks.
+    #[error("the goal is not above the start")]
+    BadRange,
+    /// A document's `_revisions` is no ancestry.
+    #[error("'_revisions' that is no ancestry")]
+    BadRevisions,
+    /// A revision id has no signature.
+    #[error("a revision id without a signature")]
+    BadSig,
+    /// A word of the board that shows progress would pass its limit.
+    #[error("a word of the board is full")]
+    BoardFull,
+    /// An edit's parent is no leaf, or it names none and a leaf is live.
+    #[error("the edit's parent is not a leaf, or a live leaf is passed over")]
+    Conflict,
+    /// A given revision has another parent in the document's tree.
+    #[error("a revision has another parent in the tree")]
+    Contradiction,
+    /// A count of the session would pass its limit.
+    #[error("a count of the session is full")]
+    CountFull,
+    /// A UUID is given for a database that is there.
+    #[error("the database is there already")]
+    DatabaseExists,
+    /// A log without entries is asked for.
+    #[error("no replication has begun")]
+    EmptyLog,
+    /// Documents are of no window of the session.
+    #[error("documents of no window of the session")]
+    ForeignParcel,
+    /// A number is neither an i64 nor a u64.
+    #[error("a number that is no 64-bit integer")]
+    Fraction,
+    /// A window does not follow the ones before, which no line brings.
+    #[error("a gap before the window")]
+    Gap,
+    /// An edit's parent has the greatest generation.
+    #[error("no generation after 4294967295")]
+    GenerationFull,
+    /// The goal of a page is above the update sequence, which no line asks.
+    #[error("the goal is above the update sequence")]
+    GoalAhead,
+    /// A session has its goal below its start.
+    #[error("the goal is below the start")]
+    GoalBelowStart,
     /// A worker was stopped, which no line's replication is.
     #[error("a worker was stopped")]
     Halted,
     /// A leaf of the source isn't covered, which no replication ends with.
     #[error("a leaf of the source is not covered")]
     Hole,
-    /// A word of the board that shows progress would pass its limit.
-    #[error("a word of the board is full")]
-    BoardFull,
     /// An allocation was refused.
     #[error("out of memory")]
     Memory,
+    /// No database has the name.
+    #[error("no database has this name")]
+    NoDatabase,
+    /// A document's id is absent, no text, or empty.
+    #[error("no document id")]
+    NoId,
+    /// A document has no revision id.
+    #[error("no revision id")]
+    NoRev,
+    /// A session begins behind none of its replication, which no line asks.
+    #[error("no such base session")]
+    NoSuchBase,
+    /// The database has no document of the id.
+    #[error("the database has no such document")]
+    NoSuchDocument,
+    /// The document has no such revision, or it has no content.
+    #[error("the document has no such revision")]
+    NoSuchRevision,
+    /// The target has no such session, which no line asks for.
+    #[error("no such session")]
+    NoSuchSession,
+    /// A pool without workers.
+    #[error("a pool has 1 to 64 workers")]
+    NoWorkers,
+    /// A document or a body is no object.
+    #[error("not an object")]
+    NotObject,
+    /// A log's entry has a greater recorded sequence, which no line is refused for.
+    #[error("older than the log's entry")]
+    Older,
+    /// A window ends above the goal, which no line brings.
+    #[error("the window ends above the goal")]
+    PastGoal,
+    /// A document's id begins with `_` and is no id of a design document.
+    #[error("a reserved document id")]
+    ReservedId,
+    /// The revision of an edit is there already.
+    #[error("the edit is there already")]
+    RevExists,
+    /// A document's `_rev` is not the newest of its `_revisions`.
+    #[error("'_rev' that is not the newest of '_revisions'")]
+    RevMismatch,
+    /// Source and target are one database.
+    #[error("the source and the target are one database")]
+    SamePeer,
+    /// The update sequence is the greatest one.
+    #[error("no sequence after 9007199254740991")]
+    SeqFull,
+    /// A database is asked for at a sequence above the greatest one, which no line does.
+    #[error("an update sequence above 9007199254740991")]
+    SeqTooLarge,
+    /// The target holds the session.
+    #[error("the session is there already")]
+    SessionExists,
+    /// A special member is not known, or `_deleted` is no flag.
+    #[error("a special member that is not known, or '_deleted' that is no flag")]
+    SpecialMember,
+    /// A session begins above what is recorded, which no line asks.
+    #[error("the start is above what is recorded")]
+    StartAboveBase,
+    /// A window was settled in part: memory or a sequence was wanting.
+    #[error("a window was settled in part")]
+    Stopped,
+    /// A pool of more than 64 workers.
+    #[error("a pool has 1 to 64 workers")]
+    TooManyWorkers,
+    /// A leaf of a window is not covered by what was fetched.
+    #[error("a leaf of the window is not covered")]
+    Uncovered,
+    /// Another database has the UUID.
+    #[error("another database has this UUID")]
+    UuidTaken,
 }
 
 impl Refusal {
@@ -172,56 +172,56 @@ impl Refusal {
         ensures { result.now ≡ name_of self.now }
     {
         match self {
-            Refusal::BadLine => "BadLine",
-            Refusal::BadCommand => "BadCommand",
-            Refusal::NoDatabase => "NoDatabase",
-            Refusal::DatabaseExists => "DatabaseExists",
-            Refusal::UuidTaken => "UuidTaken",
-            Refusal::NoId => "NoId",
-            Refusal::ReservedId => "ReservedId",
-            Refusal::BadGeneration => "BadGeneration",
-            Refusal::BadSig => "BadSig",
-            Refusal::NotObject => "NotObject",
-            Refusal::Attachments => "Attachments",
-            Refusal::SpecialMember => "SpecialMember",
-            Refusal::NoRev => "NoRev",
-            Refusal::BadRevisions => "BadRevisions",
-            Refusal::RevMismatch => "RevMismatch",
-            Refusal::Fraction => "Fraction",
-            Refusal::NoSuchDocument => "NoSuchDocument",
-            Refusal::NoSuchRevision => "NoSuchRevision",
-            Refusal::Contradiction => "Contradiction",
-            Refusal::Conflict => "Conflict",
-            Refusal::GenerationFull => "GenerationFull",
-            Refusal::RevExists => "RevExists",
-            Refusal::SeqFull => "SeqFull",
-            Refusal::SeqTooLarge => "SeqTooLarge",
-            Refusal::BadLimit => "BadLimit",
-            Refusal::BadRange => "BadRange",
-            Refusal::GoalAhead => "GoalAhead",
-            Refusal::BadMoment => "BadMoment",
-            Refusal::EmptyLog => "EmptyLog",
-            Refusal::Older => "Older",
-            Refusal::SessionExists => "SessionExists",
-            Refusal::NoSuchBase => "NoSuchBase",
-            Refusal::StartAboveBase => "StartAboveBase",
-            Refusal::GoalBelowStart => "GoalBelowStart",
-            Refusal::NoSuchSession => "NoSuchSession",
-            Refusal::Gap => "Gap",
-            Refusal::PastGoal => "PastGoal",
-            Refusal::ForeignParcel => "ForeignParcel",
             Refusal::AlreadyDone => "AlreadyDone",
-            Refusal::CountFull => "CountFull",
-            Refusal::Stopped => "Stopped",
-            Refusal::Uncovered => "Uncovered",
+            Refusal::Attachments => "Attachments",
             Refusal::BadBatch => "BadBatch",
-            Refusal::SamePeer => "SamePeer",
-            Refusal::NoWorkers => "NoWorkers",
-            Refusal::TooManyWorkers => "TooManyWorkers",
+            Refusal::BadCommand => "BadCommand",
+            Refusal::BadGeneration => "BadGeneration",
+            Refusal::BadLimit => "BadLimit",
+            Refusal::BadLine => "BadLine",
+            Refusal::BadMoment => "BadMoment",
+            Refusal::BadRange => "BadRange",
+            Refusal::BadRevisions => "BadRevisions",
+            Refusal::BadSig => "BadSig",
+            Refusal::BoardFull => "BoardFull",
+            Refusal::Conflict => "Conflict",
+            Refusal::Contradiction => "Contradiction",
+            Refusal::CountFull => "CountFull",
+            Refusal::DatabaseExists => "DatabaseExists",
+            Refusal::EmptyLog => "EmptyLog",
+            Refusal::ForeignParcel => "ForeignParcel",
+            Refusal::Fraction => "Fraction",
+            Refusal::Gap => "Gap",
+            Refusal::GenerationFull => "GenerationFull",
+            Refusal::GoalAhead => "GoalAhead",
+            Refusal::GoalBelowStart => "GoalBelowStart",
             Refusal::Halted => "Halted",
             Refusal::Hole => "Hole",
-            Refusal::BoardFull => "BoardFull",
             Refusal::Memory => "Memory",
+            Refusal::NoDatabase => "NoDatabase",
+            Refusal::NoId => "NoId",
+            Refusal::NoRev => "NoRev",
+            Refusal::NoSuchBase => "NoSuchBase",
+            Refusal::NoSuchDocument => "NoSuchDocument",
+            Refusal::NoSuchRevision => "NoSuchRevision",
+            Refusal::NoSuchSession => "NoSuchSession",
+            Refusal::NoWorkers => "NoWorkers",
+            Refusal::NotObject => "NotObject",
+            Refusal::Older => "Older",
+            Refusal::PastGoal => "PastGoal",
+            Refusal::ReservedId => "ReservedId",
+            Refusal::RevExists => "RevExists",
+            Refusal::RevMismatch => "RevMismatch",
+            Refusal::SamePeer => "SamePeer",
+            Refusal::SeqFull => "SeqFull",
+            Refusal::SeqTooLarge => "SeqTooLarge",
+            Refusal::SessionExists => "SessionExists",
+            Refusal::SpecialMember => "SpecialMember",
+            Refusal::StartAboveBase => "StartAboveBase",
+            Refusal::Stopped => "Stopped",
+            Refusal::TooManyWorkers => "TooManyWorkers",
+            Refusal::Uncovered => "Uncovered",
+            Refusal::UuidTaken => "UuidTaken",
         }
     }
 

@@ -589,14 +589,9 @@ impl ScriptRead for NarrowReader<'_> {
     ghost reads = { λ s. s.reads };
 
     fn read(&mut self, buffer: &mut [u8]) -> io::Result<usize> {
-        if self.reads < u64::MAX {
-            self.reads += 1;
-        }
-        if self.failures == u64::MAX {
-            return Err(io::Error::from(ErrorKind::Other));
-        }
-        if self.calls_left == 0 {
-            self.failures += 1;
+        self.reads = self.reads.saturating_add(1);
+        if self.calls_left == 0 || self.failures == u64::MAX {
+            self.failures = self.failures.saturating_add(1);
             return Err(io::Error::from(ErrorKind::Other));
         }
         self.calls_left -= 1;
