@@ -1,7 +1,7 @@
 //! Databases with what is read and fetched from them, and the calls on these by name.
 use crate::texts::{
-    asked_text, base_fault_text, body, doc, doc_text, expect_answer, node_text, parcel_text, rev,
-    rev_text, shown, tree_text, window_text,
+    asked_text, base_fault_text, body, doc, doc_text, expect_answer, node_text, parcel_text,
+    tree_text, window_text,
 };
 use couch_base::{Asked, BaseFault, Database, Parcel, Put, Window};
 use doc_json::DocId;
@@ -9,6 +9,7 @@ use rev_core::Rev;
 use rev_tree::Origin;
 use std::alloc::Global;
 use std::process::Abort;
+use test_texts::{rev, rev_text, shown};
 
 /// A call on a database, which is named by its place, as windows, asked lists and parcels are.
 #[derive(Clone, Copy)]

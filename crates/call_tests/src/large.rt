@@ -2,12 +2,13 @@
 use crate::databases::{edit_text, put_text};
 use crate::plans::plan;
 use crate::records::{fault_text, report_text};
-use crate::texts::{body, rev_text};
+use crate::texts::body;
 use doc_json::{Doc, DocId};
 use repl_target::{Peer, Rules, replicate_alone};
 use rev_core::{Ancestry, Sig};
 use rev_tree::SessionId;
 use std::alloc::Global;
+use test_texts::rev_text;
 
 /// The signature of a number: its digits.
 fn sig(alloc: Global, number: u32) -> Option<Sig> {

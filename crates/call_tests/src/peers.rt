@@ -2,8 +2,7 @@
 use crate::databases::{edit_text, node, parent_of, put_text, tree};
 use crate::records::{entry_text, fault_text, log_text, report_text, settled_text};
 use crate::texts::{
-    asked_text, base_fault_text, body, doc, expect_answer, parcel_text, rev, rev_text, shown,
-    window_text,
+    asked_text, base_fault_text, body, doc, expect_answer, parcel_text, window_text,
 };
 use crate::{large, plans};
 use couch_base::{Asked, Parcel, Window};
@@ -13,6 +12,7 @@ use repl_target::{Audit, Peer, Rules, TargetFault, WriteFilter, audit, hole_abov
 use rev_tree::SessionId;
 use std::alloc::Global;
 use std::process::Abort;
+use test_texts::{bare_entry, rev, rev_text, shown};
 
 /// How a session begins: its replication, its base, its start and its goal.
 #[derive(Clone, Copy)]
@@ -425,19 +425,7 @@ fn put_entry(
     recorded: u64,
 ) -> Option<String> {
     let at = Moment::new(10).ok()?;
-    let entry = Entry {
-        session,
-        start: 0,
-        recorded,
-        start_time: at,
-        end_time: at,
-        checked: 0,
-        found: 0,
-        read: 0,
-        written: 0,
-        failures: 0,
-    };
-    put(alloc, peer, rep, entry)
+    put(alloc, peer, rep, bare_entry(session, recorded, at))
 }
 
 /// Puts an entry.

@@ -1,10 +1,10 @@
 //! The parts of a replication that every way to replicate shares, as calls on the peers of a bench.
 use crate::records::fault_text;
-use crate::texts::shown;
 use repl_log::Moment;
 use repl_target::{Peer, Plan, Rules, begin_plan, check_plan, record_at_source};
 use rev_tree::SessionId;
 use std::alloc::Global;
+use test_texts::shown;
 
 /// The plan of a session with windows of some rows at most, at a moment.
 pub(crate) fn plan(session: SessionId, batch: u64, moment: u64) -> Option<Plan> {

@@ -6,7 +6,7 @@ ghost use Rattle.repl_pool.specs.Boards.{WorksAt};
 use crate::databases::{put_text, tree};
 use crate::peers::{found_text, rules};
 use crate::records::{entry_text, fault_text, log_text, report_text};
-use crate::texts::{doc, expect_answer, rev_text, shown};
+use crate::texts::{doc, expect_answer};
 use progress_board::{Board, BoardSeat};
 use repl_log::{Moment, RepId, common};
 use repl_pool::{Gate, Open, PoolFault, Ran, run, run_on};
@@ -17,6 +17,7 @@ use std::mem;
 use std::process::Abort;
 use std::sync::Wait;
 use std::thread::Threads;
+use test_texts::{rev_text, shown};
 
 /// How a run is planned.
 #[derive(Clone, Copy)]

@@ -1,9 +1,9 @@
 //! Texts of what sessions say and refuse.
-use crate::texts::{rev_text, shown};
 use doc_json::Doc;
 use repl_log::{Entry, Log};
 use repl_target::{Report, Settled, TargetFault};
 use std::alloc::Global;
+use test_texts::{rev_text, shown};
 
 /// How many documents were written, and how many refused.
 pub(crate) fn settled_text(alloc: Global, settled: Settled) -> Option<String> {

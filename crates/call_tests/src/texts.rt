@@ -5,15 +5,12 @@ use rev_core::Rev;
 use rev_tree::Tree;
 use serde_json::Value;
 use std::alloc::Global;
-use std::fmt::Debug;
 use std::process::Abort;
+use test_texts::{rev_text, revs_text, shown};
 
 /// Asserts that the call of a number could be made, and what it answered.
 pub(crate) fn expect_answer(rt: &impl Abort, number: usize, answer: Option<String>, wanted: &str) {
-    let Some(answer) = answer else {
-        rt.panic(format_args!("call {number} can't be made"))
-    };
-    assert_eq!(rt; answer.as_str(), wanted, "call {number}");
+    assert_eq!(rt; answer.as_deref(), Some(wanted), "call {number}");
 }
 
 /// The document of a text that is one.
@@ -26,35 +23,6 @@ pub(crate) fn doc(alloc: Global, text: &str) -> Option<Doc> {
 pub(crate) fn body(alloc: Global, text: &str) -> Option<Body> {
     let value = Value::from_str(alloc, text).ok()?;
     read_body(alloc, &value).ok()
-}
-
-/// The revision of a text that is one.
-pub(crate) fn rev(text: &str) -> Option<Rev> {
-    Rev::parse(text.as_bytes()).ok()
-}
-
-/// A plain value as its type shows it.
-pub(crate) fn shown<T: Debug>(alloc: Global, value: &T) -> Option<String> {
-    format!(in alloc; "{value:?}").ok()
-}
-
-/// The text of a revision.
-pub(crate) fn rev_text(alloc: Global, rev: Rev) -> Option<String> {
-    let bytes = rev.write(alloc).ok()?;
-    String::from_utf8(bytes).ok()
-}
-
-/// The texts of revisions, joined by commas.
-pub(crate) fn revs_text(alloc: Global, revs: &[Rev]) -> Option<String> {
-    let mut all = String::new(alloc);
-    for rev in revs {
-        let text = rev_text(alloc, *rev)?;
-        if !all.is_empty() {
-            all.push_str(",").ok()?;
-        }
-        all.push_str(text.as_str()).ok()?;
-    }
-    Some(all)
 }
 
 /// The bounds of a window, and of each row the sequence, the id and the leaves.

@@ -1,7 +1,7 @@
 //! Worlds: steps by their names, and what they leave.
 use crate::databases::tree;
 use crate::records::{entry_text, fault_text, log_text};
-use crate::texts::{body, doc, expect_answer, rev};
+use crate::texts::{body, doc, expect_answer};
 use doc_json::DocId;
 use repl_log::{Moment, RepId, common};
 use repl_target::{Audit, Peer, Rules, audit};
@@ -9,6 +9,7 @@ use repl_world::{Step, World, WorldFault};
 use rev_tree::SessionId;
 use std::alloc::Global;
 use std::process::Abort;
+use test_texts::rev;
 
 /// The replication of a world's peers, which have the uuids 1 and 2.
 const REP: RepId = RepId {

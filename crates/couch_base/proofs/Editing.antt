@@ -10,7 +10,7 @@ use Rattle.rev_core.specs.Ancestry.{edges_of, head_of}
 use Rattle.rev_tree.specs.Tree.{TreeValue, IsTree, has, has_edge, no_revisions, first_contradiction, contradiction_at, is_same, at_head, merged, merge_answer}
 use Rattle.rev_tree.specs.declared.fault.Merged.TheVariants.{Changed}
 use Rattle.rev_tree.specs.declared.origin.Origin.{Origin}
-use Rattle.couch_base.specs.Answers.{◌>>=◌, refused_if}
+use Rattle.rev_core.specs.Checks.{◌>>=◌, refused_if}
 use Rattle.couch_base.specs.Database.{Id, DatabaseValue, LawfulDatabase, tree_in, tree_of, with_tree, most}
 use Rattle.couch_base.specs.DatabaseLaws.{IsDocumentTree-tree_in}
 use Rattle.couch_base.specs.Put.{content_of, put_answer}

@@ -8,7 +8,7 @@ use Rattle.rev_tree.specs.InOrder.{first_of}
 use Rattle.rev_tree.specs.Tree.{TreeValue, has, is_leaf, is_deleted, leaves}
 use Rattle.rev_tree.specs.declared.origin.Origin.{Origin}
 use Rattle.doc_json.specs.Document.{Document}
-use Rattle.couch_base.specs.Answers.{◌>>=◌, refused_if, named}
+use Rattle.rev_core.specs.Checks.{◌>>=◌, refused_if, named}
 use Rattle.couch_base.specs.Database.{Id, DatabaseValue, tree_in, tree_of, most}
 use Rattle.couch_base.specs.Put.{after_put}
 use Rattle.couch_base.specs.declared.fault.BaseFault.{BaseFault}

@@ -6,7 +6,7 @@ use Rattle.script_engine.specs.Script.{IsAnswered}
 use Rattle.script_engine.specs.Faults.{IsToldUntil}
 use Rattle.script_engine.specs.declared.fault.ScriptFault.{ScriptFault}
 use Rattle.script_databases.specs.Databases.{Program, State, no_databases}
-use Rattle.script_databases.specs.Tables.{program_of}
+use Rattle.script_databases.specs.Stored.{program_of}
 use Rattle.script_databases.specs.declared.settings.Settings.{Settings}
 use Rattle.script_words.specs.Script.{LinesAnswer}
 use Rattle.couch_replicate.specs.Options.{Says, Refuses}

@@ -6,7 +6,7 @@ use Rattle.std.proofs.lemmas.Bool.{cond-true, cond-false, lt-ltb, le-ltb, ne_eqb
 use Rattle.rev_core.specs.Rev.{RevId, IsRev}
 use Rattle.rev_core.specs.RevOrder.{rev_tie_self}
 use Rattle.rev_core.specs.Ancestry.{FallsByOne, IsAncestry, numbered, ancestry_read}
-use Rattle.doc_json.specs.Answers.{named}
+use Rattle.rev_core.specs.Checks.{named}
 use Rattle.doc_json.specs.Revisions.{sigs_of, numbered_from, revisions_read, matched}
 use Rattle.doc_json.specs.declared.fault.DocFault.TheVariants as faults
 use Rattle.doc_json.proofs.DocData.{sig_items, revisions_value}

@@ -11,7 +11,7 @@ use Rattle.rev_core.specs.Rev.{RevId, rev_cmp}
 use Rattle.rev_core.specs.Ancestry.{numbered, ancestry_read}
 use Rattle.rev_core.specs.declared.fault.RevFault.{RevFault}
 use Rattle.rev_core.specs.declared.fault.RevFault.TheVariants as rev_faults
-use Rattle.doc_json.specs.Answers.{named, ◌>>=◌}
+use Rattle.rev_core.specs.Checks.{named, ◌>>=◌}
 use Rattle.doc_json.specs.Revisions.{sig_of, sigs_of, numbered_from, revisions_read, is_head, agrees, matched, rev_member, with_revisions, revs_read}
 use Rattle.doc_json.specs.declared.fault.DocFault.{DocFault}
 use Rattle.doc_json.specs.declared.fault.DocFault.TheVariants as faults

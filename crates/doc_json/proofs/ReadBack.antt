@@ -13,7 +13,7 @@ use Rattle.rev_core.specs.Rev.{RevId}
 use Rattle.rev_core.specs.Text.{rev_text}
 use Rattle.rev_core.specs.Ancestry.{IsAncestry}
 use Rattle.rev_core.specs.TextLaws.{rev_read-text}
-use Rattle.doc_json.specs.Answers.{◌>>=◌, or_refused, named}
+use Rattle.rev_core.specs.Checks.{◌>>=◌, or_refused, named}
 use Rattle.doc_json.specs.DocId.{is_special, doc_id_read}
 use Rattle.doc_json.specs.Members.{has_special, has_unknown, plain_members}
 use Rattle.doc_json.specs.Body.{body_text}

@@ -4,7 +4,7 @@ use Rattle.serde_json.specs.Data.{Data, object, Members, depth}
 use Rattle.serde_json.specs.Find.{as_object}
 use Rattle.serde_json.specs.Read.{read, max_depth}
 use Rattle.serde_json.specs.Written.{compact_text, members_have_float, IsInOrder}
-use Rattle.doc_json.specs.Answers.{◌>>=◌, or_refused, refused_if}
+use Rattle.rev_core.specs.Checks.{◌>>=◌, or_refused, refused_if}
 use Rattle.doc_json.specs.Members.{has_special, plain_members}
 use Rattle.doc_json.specs.declared.fault.DocFault.{DocFault}
 use Rattle.doc_json.specs.declared.fault.DocFault.TheVariants as faults

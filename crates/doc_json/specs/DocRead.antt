@@ -3,7 +3,7 @@ use Rattle.std.specs.Prelude.{ℕ, Bool, false, List, codes, Option, Some, None,
 use Rattle.serde_json.specs.Data.{Data}
 use Rattle.serde_json.specs.Find.{get, as_str, as_bool, as_object}
 use Rattle.serde_json.specs.Written.{members_have_float}
-use Rattle.doc_json.specs.Answers.{◌>>=◌, or_refused, refused_if}
+use Rattle.rev_core.specs.Checks.{◌>>=◌, or_refused, refused_if}
 use Rattle.doc_json.specs.DocId.{doc_id_read}
 use Rattle.doc_json.specs.Members.{has_unknown, plain_members}
 use Rattle.doc_json.specs.Body.{body_text}

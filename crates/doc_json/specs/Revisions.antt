@@ -7,7 +7,7 @@ use Rattle.rev_core.specs.Sig.{is_sig}
 use Rattle.rev_core.specs.Rev.{RevId, rev_cmp}
 use Rattle.rev_core.specs.Text.{rev_read}
 use Rattle.rev_core.specs.Ancestry.{ancestry_read}
-use Rattle.doc_json.specs.Answers.{◌>>=◌, named}
+use Rattle.rev_core.specs.Checks.{◌>>=◌, named}
 use Rattle.doc_json.specs.declared.fault.DocFault.{DocFault}
 use Rattle.doc_json.specs.declared.fault.DocFault.TheVariants as faults
 

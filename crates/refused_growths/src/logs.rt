@@ -3,22 +3,12 @@ use anyhow::{Result, bail};
 use repl_log::{Entry, Log, LogFault, Moment, RepId, rep_id, write_log};
 use rev_tree::SessionId;
 use std::alloc::Global;
+use test_texts::bare_entry;
 
 /// The entry of a session that recorded up to the sequence of its own number and read nothing.
 fn entry(recorded: u64) -> Result<Entry, LogFault> {
     let at = Moment::new(1_381_384_598)?;
-    Ok(Entry {
-        session: SessionId(u128::from(recorded)),
-        start: 0,
-        recorded,
-        start_time: at,
-        end_time: at,
-        checked: 0,
-        found: 0,
-        read: 0,
-        written: 0,
-        failures: 0,
-    })
+    Ok(bare_entry(SessionId(u128::from(recorded)), recorded, at))
 }
 
 /// Puts, and once more where memory was refused. Says whether a refusal changed the log.

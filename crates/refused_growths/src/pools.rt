@@ -16,24 +16,6 @@ fn taken(alloc: Global, place: &mut Peer<Rules>) -> Peer<Rules> {
     mem::replace(place, Peer::new(alloc, 0, Rules { deny: None }))
 }
 
-/// Takes both peers of a run back to their places, and gives how it ended.
-fn taken_back(
-    ran: Ran<Rules>,
-    source: &mut Peer<Rules>,
-    target: &mut Peer<Rules>,
-) -> Result<Report, PoolFault> {
-    let Ran {
-        source: from,
-        target: into,
-        fetched: _,
-        seats: _,
-        outcome,
-    } = ran;
-    *source = from;
-    *target = into;
-    outcome
-}
-
 /// Runs a session between two peers, which come back.
 fn once<R: Threads + Wait + Sync>(
     rt: &R,
@@ -45,7 +27,15 @@ fn once<R: Threads + Wait + Sync>(
 ) -> Result<Report, PoolFault> {
     let (from, into) = (taken(alloc, source), taken(alloc, target));
     let ran = run_pool(rt, alloc, from, into, &plan(session, at), &Open);
-    taken_back(ran, source, target)
+    let Ran {
+        source: from,
+        target: into,
+        outcome,
+        ..
+    } = ran;
+    *source = from;
+    *target = into;
+    outcome
 }
 
 /// Whether a run was refused for want of memory.

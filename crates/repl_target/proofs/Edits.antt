@@ -6,7 +6,7 @@ use Rattle.std.proofs.lemmas.Bool.{leb-false}
 use Rattle.rev_core.specs.Rev.{RevId}
 use Rattle.rev_tree.specs.InOrder.{first_of}
 use Rattle.rev_tree.specs.Tree.{TreeValue, has, is_leaf, is_deleted, leaves}
-use Rattle.couch_base.specs.Answers.{◌>>=◌, refused_if}
+use Rattle.rev_core.specs.Checks.{◌>>=◌, refused_if}
 use Rattle.couch_base.specs.Database.{Id, DatabaseValue, LawfulDatabase, tree_in, tree_of, most}
 use Rattle.couch_base.specs.Put.{is_changed}
 use Rattle.couch_base.specs.Edit.{parent_answer, edit_id, edited, edit_answer, edit_document}

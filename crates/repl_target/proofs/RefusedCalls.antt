@@ -5,7 +5,7 @@ use Rattle.rev_core.specs.Rev.{RevId}
 use Rattle.rev_tree.specs.declared.fault.Contradiction.{Contradiction}
 use Rattle.rev_tree.specs.declared.origin.SessionId.{SessionId}
 use Rattle.doc_json.specs.Document.{Document}
-use Rattle.couch_base.specs.Answers.{◌>>=◌, refused_if}
+use Rattle.rev_core.specs.Checks.{◌>>=◌, refused_if}
 use Rattle.couch_base.specs.Lists.{Among}
 use Rattle.couch_base.specs.Database.{Id, DatabaseValue, with_tree, most, tree_of}
 use Rattle.couch_base.specs.Feed.{WindowValue}

@@ -7,4 +7,5 @@ pub mod TextLaws
 pub mod Ancestry
 pub mod AncestryLaws
 pub mod Answers
+pub mod Checks
 pub mod NewRev

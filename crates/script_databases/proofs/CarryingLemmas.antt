@@ -29,7 +29,7 @@ use Rattle.repl_target.specs.declared.replication.Plan.{Plan}
 use Rattle.script_databases.specs.Databases.{State, peer_at, with_peer, text_cmp}
 use Rattle.script_databases.specs.Carrying.{deny_refuses, with_both, WatchedIntoAnother}
 use Rattle.script_databases.specs.declared.carrying.Watched.{Watched}
-use Rattle.script_databases.specs.Tables.{AllDeny, Entries, IsIndex, denied_of, deny_of}
+use Rattle.script_databases.specs.Stored.{AllDeny, Entries, IsIndex, denied_of, deny_of}
 use Rattle.script_databases.proofs.IndexLemmas.{index_written}
 use Rattle.script_databases.proofs.TableLemmas.{insert-same, is_equal, text_cmp-IsAntisymmetric}
 

@@ -21,7 +21,7 @@ use Rattle.repl_target.specs.Writing.{after_edit, after_load, load_edited, next_
 use Rattle.repl_target.specs.declared.filter.Rules.{Rules}
 use Rattle.script_databases.specs.Databases.{State, peer_at, with_peer, IsTaken, text_cmp, changed_at, with_changed}
 use Rattle.script_databases.specs.declared.refusal.Refusal.{Refusal}
-use Rattle.script_databases.specs.Tables.{Beside, Entries, peers_of, state_of, IsIndex, AllDeny, deny_of, denied_of}
+use Rattle.script_databases.specs.Stored.{Beside, Entries, peers_of, state_of, IsIndex, AllDeny, deny_of, denied_of}
 use Rattle.script_databases.proofs.TableLemmas.{text_cmp-IsAntisymmetric, is_equal, get-by_text}
 
 -- ---- looking up

@@ -11,7 +11,7 @@ use Rattle.repl_target.specs.Peer.{PeerValue}
 use Rattle.script_databases.specs.Refusals.{told_as, base_refusal}
 use Rattle.script_databases.specs.Databases.{text_cmp, with_changed, changed_at, edited_as}
 use Rattle.script_databases.specs.declared.refusal.Refusal.TheVariants as why
-use Rattle.script_databases.specs.Tables.{Beside, Entries, peers_of, state_of}
+use Rattle.script_databases.specs.Stored.{Beside, Entries, peers_of, state_of}
 use Rattle.script_databases.proofs.IndexLemmas.{state_with}
 use Rattle.script_databases.proofs.TableLemmas.{insert-same}
 

@@ -15,7 +15,7 @@ use Rattle.std.specs.String.{string_eq}
 use Rattle.std.proofs.lemmas.Map.Text.{is_text, is_eq-slice_cmp, hash_map_updates_text}
 use Rattle.std.proofs.lemmas.Bool.{true≢false}
 use Rattle.script_databases.specs.Databases.{text_cmp}
-use Rattle.script_databases.specs.Tables.{by_text}
+use Rattle.script_databases.specs.Stored.{by_text}
 
 pub text_cmp-IsAntisymmetric : IsAntisymmetric text_cmp
 text_cmp-IsAntisymmetric = slice_cmp-IsAntisymmetric nat_cmp-IsAntisymmetric

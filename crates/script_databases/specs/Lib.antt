@@ -3,4 +3,4 @@ pub mod MadeIds
 pub mod MadeIdsLaws
 pub mod Databases
 pub mod Carrying
-pub mod Tables
+pub mod Stored

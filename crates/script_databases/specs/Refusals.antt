@@ -16,9 +16,9 @@ use Rattle.script_databases.specs.declared.refusal.Refusal.{Refusal}
 use Rattle.script_databases.specs.declared.refusal.Refusal.TheVariants as why
 
 -- r is the expected answer, unless memory ran out
-abbrev pub GivesUnlessMemory : {A : Type 0} → Result A Refusal → Result A Refusal → Type 0
-GivesUnlessMemory (Ok x) expected = expected ≡ Ok x
-GivesUnlessMemory (Err e) expected = (expected ≡ Err e) ⊎ (e ≡ why.Memory)
+abbrev pub GivesOrMemory : {A : Type 0} → Result A Refusal → Result A Refusal → Type 0
+GivesOrMemory (Ok x) expected = expected ≡ Ok x
+GivesOrMemory (Err e) expected = (expected ≡ Err e) ⊎ (e ≡ why.Memory)
 
 -- ---- the refusals of the crates below
 

@@ -50,7 +50,7 @@ impl Model for Databases {
 
     ghost coded = { coded_state };
 
-    ghost use Rattle.script_databases.specs.Tables.{IsIndex, AllDeny, beside_of, program_of, state_of};
+    ghost use Rattle.script_databases.specs.Stored.{IsIndex, AllDeny, beside_of, program_of, state_of};
 
     ghost view = { λ a. state_of (beside_of a.settings a.drawn) a.by_name.entries };
 
@@ -60,9 +60,9 @@ impl Model for Databases {
 
 impl Databases {
     ghost use Rattle.script_databases.specs.Databases.{IsTaken, drawn_one, edited_answer, edited_at, load_answer, loaded_at, next_made, no_databases, peer_at, with_peer};
-    ghost use Rattle.script_databases.specs.Tables.{deny_of, program_of};
+    ghost use Rattle.script_databases.specs.Stored.{deny_of, program_of};
     ghost use Rattle.repl_target.specs.Peer.{new_peer};
-    ghost use Rattle.script_databases.specs.Refusals.{GivesUnlessMemory};
+    ghost use Rattle.script_databases.specs.Refusals.{GivesOrMemory};
     ghost use Rattle.script_databases.specs.Carrying.{CarriedAlone, CarriedByPool, CarriesFrom, WatchedIntoAnother};
 
     /// No databases, with a copy of the settings, from whose seed ids are made.
@@ -144,7 +144,7 @@ impl Databases {
 
     /// Loads a document into the database of a name. `NoDatabase` where none has it; else what the database refuses.
     pub fn load(&mut self, name: &str, doc: &Doc) -> Result<Put, Refusal>
-        ensures answer { GivesUnlessMemory result (load_answer (peer_at self.old name.now) doc.now) }
+        ensures answer { GivesOrMemory result (load_answer (peer_at self.old name.now) doc.now) }
         ensures ok { OnOk result (self.new ≡ loaded_at self.old name.now doc.now) }
         ensures err { OnErr result (self.new ≡ self.old) }
     {
@@ -160,7 +160,7 @@ impl Databases {
         deleted: bool,
         body: &Body,
     ) -> Result<Edited, Refusal>
-        ensures answer { GivesUnlessMemory result
+        ensures answer { GivesOrMemory result
             (edited_answer (peer_at self.old name.now) id.now parent deleted body.now) }
         ensures ok { OnOk result (self.new ≡ edited_at self.old name.now id.now parent deleted body.now) }
         ensures err { OnErr result (self.new ≡ self.old) }

@@ -3,8 +3,8 @@ ghost use Rattle.std.specs.Prelude.{◌≡◌, true, OnErr, OnOk, ℕ, nat_eq, i
 ghost use Rattle.std.specs.List.{list_any};
 ghost use Rattle.std.specs.FinMap.{get, insert};
 ghost use Rattle.script_databases.specs.Databases.{edited_answer, edited_at, load_answer, loaded_at};
-ghost use Rattle.script_databases.specs.Refusals.{GivesUnlessMemory};
-ghost use Rattle.script_databases.specs.Tables.{Beside, deny_of, denied_of, peers_of, state_of};
+ghost use Rattle.script_databases.specs.Refusals.{GivesOrMemory};
+ghost use Rattle.script_databases.specs.Stored.{Beside, deny_of, denied_of, peers_of, state_of};
 
 use crate::databases::{Edited, Names};
 use crate::refusal::Refusal;
@@ -40,7 +40,7 @@ pub fn add_at(
 
 /// Loads a document into the database of a name.
 pub fn load_at(names: &mut Names, name: &str, doc: &Doc) -> Result<Put, Refusal>
-    ensures answer { GivesUnlessMemory result (load_answer (get (peers_of names.old.entries) name.now) doc.now) }
+    ensures answer { GivesOrMemory result (load_answer (get (peers_of names.old.entries) name.now) doc.now) }
     ensures ok { (g : Beside) → OnOk result
         (state_of g names.new.entries ≡ loaded_at (state_of g names.old.entries) name.now doc.now) }
     ensures err { OnErr result (peers_of names.new.entries ≡ peers_of names.old.entries) }
@@ -64,7 +64,7 @@ pub fn edit_at(
     deleted: bool,
     body: &Body,
 ) -> Result<Edited, Refusal>
-    ensures answer { GivesUnlessMemory result
+    ensures answer { GivesOrMemory result
         (edited_answer (get (peers_of names.old.entries) name.now) id.now parent deleted body.now) }
     ensures ok { (g : Beside) → OnOk result
         (state_of g names.new.entries

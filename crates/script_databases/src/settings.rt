@@ -1,6 +1,6 @@
 //! What a program of scripts is set to.
 ghost use Rattle.std.specs.Prelude.{◌≡◌, IfOk};
-ghost use Rattle.script_databases.specs.Tables.{program_of};
+ghost use Rattle.script_databases.specs.Stored.{program_of};
 
 use std::alloc::{AllocError, Global};
 

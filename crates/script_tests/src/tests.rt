@@ -2,7 +2,7 @@
 ghost use Rattle.std.specs.Prelude.{IfOk};
 ghost use Rattle.script_engine.specs.Script.{IsAnswered};
 ghost use Rattle.script_databases.specs.Databases.{State, no_databases};
-ghost use Rattle.script_databases.specs.Tables.{program_of};
+ghost use Rattle.script_databases.specs.Stored.{program_of};
 ghost use Rattle.script_words.specs.Script.{LinesAnswer};
 
 use crate::tours::TOURS;

@@ -10,7 +10,7 @@ use Rattle.script_databases.specs.Databases.{State, peer_at, with_peer, with_cha
 use Rattle.script_databases.specs.Refusals.{name_of}
 use Rattle.script_databases.specs.declared.refusal.Refusal.{Refusal}
 use Rattle.script_databases.specs.declared.refusal.Refusal.TheVariants as why
-use Rattle.script_words.specs.Checks.{◌>>=◌, found}
+use Rattle.rev_core.specs.Checks.{◌>>=◌, or_refused}
 use Rattle.script_words.specs.Telling.{told_of, Reads, Does}
 
 -- ---- checks
@@ -23,11 +23,11 @@ pub stops : {A B : Type 0} {r : Result A Refusal} {refusal : Refusal} (f : A →
 stops f e = ap (λ s. s >>= f) e
 
 -- what is there, and what isn't
-pub is_found : {A : Type 0} {o : Option A} {x : A} (refusal : Refusal) → o ≡ Some x → found refusal o ≡ Ok x
-is_found refusal e = ap (found refusal) e
+pub is_found : {A : Type 0} {o : Option A} {x : A} (refusal : Refusal) → o ≡ Some x → or_refused refusal o ≡ Ok x
+is_found refusal e = ap (or_refused refusal) e
 
-pub is_missing : {A : Type 0} {o : Option A} (refusal : Refusal) → o ≡ None → found refusal o ≡ Err refusal
-is_missing refusal e = ap (found refusal) e
+pub is_missing : {A : Type 0} {o : Option A} (refusal : Refusal) → o ≡ None → or_refused refusal o ≡ Err refusal
+is_missing refusal e = ap (or_refused refusal) e
 
 -- ---- what is told
 

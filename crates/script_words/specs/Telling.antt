@@ -6,11 +6,11 @@ use Rattle.script_databases.specs.Databases.{State, peer_at}
 use Rattle.script_databases.specs.Refusals.{name_of}
 use Rattle.script_databases.specs.declared.refusal.Refusal.{Refusal}
 use Rattle.script_databases.specs.declared.refusal.Refusal.TheVariants as why
-use Rattle.script_words.specs.Checks.{found}
+use Rattle.rev_core.specs.Checks.{or_refused}
 
 -- the database of a name
 abbrev pub database_of : State → List ℕ → Result PeerValue Refusal
-database_of s name = found why.NoDatabase (peer_at s name)
+database_of s name = or_refused why.NoDatabase (peer_at s name)
 
 -- a text is told as it is, and a refusal by its name
 abbrev pub told_of : Result (List ℕ) Refusal → Told

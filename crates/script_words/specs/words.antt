@@ -6,7 +6,8 @@ use Rattle.script_engine.specs.Serving.{Answering}
 use Rattle.script_databases.specs.Databases.{State}
 use Rattle.script_databases.specs.declared.refusal.Refusal.{Refusal}
 use Rattle.script_databases.specs.declared.refusal.Refusal.TheVariants as why
-use Rattle.script_words.specs.Checks.{◌>>=◌, needed, seen_as}
+use Rattle.rev_core.specs.Checks.{◌>>=◌}
+use Rattle.script_words.specs.Checks.{needed, seen_as}
 use Rattle.script_words.specs.Members.{text_at}
 use Rattle.script_words.specs.words.Load.{LoadAsk, load_asked, load_in, Loads}
 use Rattle.script_words.specs.words.Edit.{EditAsk, edit_asked, edit_in, Edits}

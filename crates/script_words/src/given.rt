@@ -2,7 +2,7 @@
 ghost use Rattle.std.specs.Prelude.{◌≡◌, option_map};
 ghost use Rattle.std.specs.Option.{option_copied};
 ghost use Rattle.serde_json.specs.View.{view};
-ghost use Rattle.script_databases.specs.Refusals.{GivesUnlessMemory};
+ghost use Rattle.script_databases.specs.Refusals.{GivesOrMemory};
 ghost use Rattle.script_words.specs.Given.{body_given, body_given_or_empty, document_given, id_given, rev_given};
 
 use doc_json::{Body, Doc, DocId, read_body, read_doc};
@@ -13,7 +13,7 @@ use std::alloc::Global;
 
 /// The document's id that a text spells.
 pub fn read_id(alloc: Global, text: &str) -> Result<DocId, Refusal>
-    ensures { GivesUnlessMemory result (id_given text.now) }
+    ensures { GivesOrMemory result (id_given text.now) }
 {
     match DocId::parse(alloc, text) {
         Ok(id) => Ok(id),
@@ -36,7 +36,7 @@ pub fn read_rev(text: Option<&str>) -> Result<Option<Rev>, Refusal>
 
 /// The body that a value is.
 fn read_content(alloc: Global, value: &Value) -> Result<Body, Refusal>
-    ensures { GivesUnlessMemory result (body_given (view value.now)) }
+    ensures { GivesOrMemory result (body_given (view value.now)) }
 {
     match read_body(alloc, value) {
         Ok(body) => Ok(body),
@@ -46,7 +46,7 @@ fn read_content(alloc: Global, value: &Value) -> Result<Body, Refusal>
 
 /// The body that a line gives, an object without members where it gives none.
 pub fn read_content_or_empty(alloc: Global, body: Option<&Value>) -> Result<Body, Refusal>
-    ensures { GivesUnlessMemory result (body_given_or_empty (option_map (λ v. view v.now) body.entry)) }
+    ensures { GivesOrMemory result (body_given_or_empty (option_map (λ v. view v.now) body.entry)) }
 {
     match body {
         Some(value) => read_content(alloc, value),
@@ -56,7 +56,7 @@ pub fn read_content_or_empty(alloc: Global, body: Option<&Value>) -> Result<Body
 
 /// The document that a line gives, where it gives one.
 pub fn read_document(alloc: Global, doc: Option<&Value>) -> Result<Option<Doc>, Refusal>
-    ensures { GivesUnlessMemory result (document_given (option_map (λ v. view v.now) doc.entry)) }
+    ensures { GivesOrMemory result (document_given (option_map (λ v. view v.now) doc.entry)) }
 {
     let Some(value) = doc else {
         return Ok(None);

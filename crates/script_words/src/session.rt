@@ -8,7 +8,7 @@ ghost use Rattle.script_databases.specs.Databases.{State, no_databases};
 ghost use Rattle.script_engine.specs.Serving.{MayTell};
 ghost use Rattle.script_words.specs.Script.{LinesAnswer};
 ghost use Rattle.script_words.specs.Telling.{told_by};
-ghost use Rattle.script_databases.specs.Tables.{program_of};
+ghost use Rattle.script_databases.specs.Stored.{program_of};
 
 use crate::members::read_object;
 use crate::words;

@@ -1,10 +1,11 @@
 //! The worked rows of documents as calls with the texts of their answers, and each call once with ample memory.
-use crate::texts::{ancestry, expect_answer, revs_text, shown};
+use crate::texts::{ancestry, expect_answer};
 use doc_json::{Body, Doc, DocFault, DocId, read_body, read_doc, write_doc};
 use serde_json::Value;
 use std::alloc::Global;
 use std::collections::HashSet;
 use std::process::Abort;
+use test_texts::{revs_text, shown};
 
 /// A call that reads, writes or copies a document, a body or an id.
 #[derive(Clone, Copy)]

@@ -1,8 +1,9 @@
 //! The worked rows of fronts as calls with the texts of their answers. They make each public call once at least.
-use crate::texts::{expect_answer, shown};
+use crate::texts::expect_answer;
 use range_front::Front;
 use std::alloc::Global;
 use std::process::Abort;
+use test_texts::shown;
 
 /// A call on a front.
 #[derive(Clone, Copy)]

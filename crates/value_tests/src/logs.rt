@@ -1,9 +1,10 @@
 //! The worked rows of logs as calls with the texts of their answers, and each public call once with ample memory.
-use crate::texts::{expect_answer, shown};
+use crate::texts::expect_answer;
 use repl_log::{Entry, Log, Moment, RepId, common, rep_id, write_log};
 use rev_tree::SessionId;
 use std::alloc::Global;
 use std::process::Abort;
+use test_texts::{bare_entry, shown};
 
 /// A call on logs, which are named by their places.
 #[derive(Clone, Copy)]
@@ -92,18 +93,7 @@ impl Bench {
 /// An entry of a session that recorded up to a sequence and read nothing.
 fn entry(session: u128, recorded: u64) -> Option<Entry> {
     let at = Moment::new(0).ok()?;
-    Some(Entry {
-        session: SessionId(session),
-        start: 0,
-        recorded,
-        start_time: at,
-        end_time: at,
-        checked: 0,
-        found: 0,
-        read: 0,
-        written: 0,
-        failures: 0,
-    })
+    Some(bare_entry(SessionId(session), recorded, at))
 }
 
 /// The entry of the session 1 that read one document, and recorded 1, at a moment.

@@ -1,9 +1,10 @@
 //! The worked rows of revisions as calls with the texts of their answers, and each call once with ample memory.
-use crate::texts::{ancestry, expect_answer, rev, rev_text, revs_text, shown, sigs};
+use crate::texts::{ancestry, expect_answer, sigs};
 use md5::{Digest, Md5};
 use rev_core::{Ancestry, Rev, new_rev};
 use std::alloc::Global;
 use std::process::Abort;
+use test_texts::{rev, rev_text, revs_text, shown};
 
 /// A call on texts of revisions.
 #[derive(Clone, Copy)]

@@ -1,10 +1,11 @@
 //! The worked rows of trees as calls with the texts of their answers, and each call once with ample memory.
-use crate::texts::{ancestry, expect_answer, rev, rev_text, revs, revs_text, shown};
+use crate::texts::{ancestry, expect_answer, revs};
 use rev_core::Rev;
 use rev_tree::{Content, Merged, Origin, SessionId, Tree, TreeFault};
 use std::alloc::Global;
 use std::process::Abort;
 use std::sync::ArcSlice;
+use test_texts::{rev, rev_text, revs_text, shown};
 
 /// A call on a tree.
 #[derive(Clone, Copy)]

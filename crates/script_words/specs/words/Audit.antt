@@ -7,7 +7,8 @@ use Rattle.repl_target.specs.Audit.{audit_answer}
 use Rattle.script_engine.specs.Serving.{Answering}
 use Rattle.script_databases.specs.Databases.{State}
 use Rattle.script_databases.specs.declared.refusal.Refusal.{Refusal}
-use Rattle.script_words.specs.Checks.{◌>>=◌, needed}
+use Rattle.rev_core.specs.Checks.{◌>>=◌}
+use Rattle.script_words.specs.Checks.{needed}
 use Rattle.script_words.specs.Members.{name_at, if_only}
 use Rattle.script_words.specs.Telling.{database_of, Reads}
 use Rattle.script_words.specs.Texts.{ended, quoted}

@@ -13,7 +13,8 @@ use Rattle.script_engine.specs.Serving.{Answering}
 use Rattle.script_databases.specs.Databases.{State}
 use Rattle.script_databases.specs.declared.refusal.Refusal.{Refusal}
 use Rattle.script_databases.specs.declared.refusal.Refusal.TheVariants as why
-use Rattle.script_words.specs.Checks.{◌>>=◌, needed, found}
+use Rattle.rev_core.specs.Checks.{◌>>=◌, or_refused}
+use Rattle.script_words.specs.Checks.{needed}
 use Rattle.script_words.specs.Given.{id_given, rev_given}
 use Rattle.script_words.specs.Members.{name_at, text_at, optional, if_only}
 use Rattle.script_words.specs.Telling.{database_of, Reads}
@@ -50,9 +51,9 @@ doc_told s ask = do
   l ← database_of s ask.db
   id ← id_given ask.id
   named ← rev_given ask.rev
-  tree ← found why.NoSuchDocument (tree_in l.db.docs id)
-  rev ← found why.NoSuchRevision (chosen tree named)
-  document ← found why.NoSuchRevision (document_at l.db id rev)
+  tree ← or_refused why.NoSuchDocument (tree_in l.db.docs id)
+  rev ← or_refused why.NoSuchRevision (chosen tree named)
+  document ← or_refused why.NoSuchRevision (document_at l.db id rev)
   Ok (ended (doc_text document))
 
 abbrev pub PrintsDocument : Answering State DocAsk

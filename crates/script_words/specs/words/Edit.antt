@@ -10,7 +10,8 @@ use Rattle.script_engine.specs.Serving.{Answering}
 use Rattle.script_databases.specs.Databases.{State, with_peer, edited_answer}
 use Rattle.script_databases.specs.declared.databases.Edited.{Edited}
 use Rattle.script_databases.specs.declared.refusal.Refusal.{Refusal}
-use Rattle.script_words.specs.Checks.{◌>>=◌, needed}
+use Rattle.rev_core.specs.Checks.{◌>>=◌}
+use Rattle.script_words.specs.Checks.{needed}
 use Rattle.script_words.specs.Given.{id_given, rev_given, body_given_or_empty}
 use Rattle.script_words.specs.Members.{name_at, text_at, optional, if_only}
 use Rattle.script_words.specs.Telling.{database_of, Does}

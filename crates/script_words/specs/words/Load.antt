@@ -15,7 +15,8 @@ use Rattle.script_databases.specs.Databases.{State, peer_at, with_peer, IsTaken,
 use Rattle.script_databases.specs.Refusals.{told_as, base_refusal}
 use Rattle.script_databases.specs.declared.refusal.Refusal.{Refusal}
 use Rattle.script_databases.specs.declared.refusal.Refusal.TheVariants as why
-use Rattle.script_words.specs.Checks.{◌>>=◌, needed}
+use Rattle.rev_core.specs.Checks.{◌>>=◌}
+use Rattle.script_words.specs.Checks.{needed}
 use Rattle.script_words.specs.Given.{document_given}
 use Rattle.script_words.specs.Members.{name_at, optional, if_only, as_uuid}
 use Rattle.script_words.specs.Telling.{Refuses, Does}

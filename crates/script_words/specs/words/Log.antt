@@ -11,7 +11,8 @@ use Rattle.script_engine.specs.Serving.{Answering}
 use Rattle.script_databases.specs.Databases.{State}
 use Rattle.script_databases.specs.Refusals.{told_as, log_refusal}
 use Rattle.script_databases.specs.declared.refusal.Refusal.{Refusal}
-use Rattle.script_words.specs.Checks.{◌>>=◌, needed}
+use Rattle.rev_core.specs.Checks.{◌>>=◌}
+use Rattle.script_words.specs.Checks.{needed}
 use Rattle.script_words.specs.Members.{name_at, text_at, if_only}
 use Rattle.script_words.specs.Telling.{database_of, Reads}
 use Rattle.script_words.specs.Texts.{ended}

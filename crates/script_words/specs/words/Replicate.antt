@@ -17,7 +17,8 @@ use Rattle.script_databases.specs.Refusals.{run_stop_of, stop_of}
 use Rattle.script_databases.specs.declared.carrying.Watched.{Watched}
 use Rattle.script_databases.specs.declared.refusal.Refusal.{Refusal}
 use Rattle.script_databases.specs.declared.refusal.Refusal.TheVariants as why
-use Rattle.script_words.specs.Checks.{◌>>=◌, needed}
+use Rattle.rev_core.specs.Checks.{◌>>=◌}
+use Rattle.script_words.specs.Checks.{needed}
 use Rattle.script_words.specs.Members.{name_at, optional, if_only, as_uuid, as_whole}
 use Rattle.script_words.specs.Telling.{database_of, told_of, Refuses}
 use Rattle.script_words.specs.Texts.{ended}

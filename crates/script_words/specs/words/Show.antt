@@ -12,7 +12,8 @@ use Rattle.script_engine.specs.Serving.{Answering}
 use Rattle.script_databases.specs.Databases.{State}
 use Rattle.script_databases.specs.declared.refusal.Refusal.{Refusal}
 use Rattle.script_databases.specs.declared.refusal.Refusal.TheVariants as why
-use Rattle.script_words.specs.Checks.{◌>>=◌, needed, found}
+use Rattle.rev_core.specs.Checks.{◌>>=◌, or_refused}
+use Rattle.script_words.specs.Checks.{needed}
 use Rattle.script_words.specs.Given.{id_given}
 use Rattle.script_words.specs.Members.{name_at, text_at, if_only}
 use Rattle.script_words.specs.Telling.{database_of, Reads}
@@ -58,7 +59,7 @@ abbrev pub show_told : State → ShowAsk → Result (List ℕ) Refusal
 show_told s ask = do
   l ← database_of s ask.db
   id ← id_given ask.id
-  tree ← found why.NoSuchDocument (tree_in l.db.docs id)
+  tree ← or_refused why.NoSuchDocument (tree_in l.db.docs id)
   Ok (show_text id tree)
 
 abbrev pub Shows : Answering State ShowAsk

@@ -1,7 +1,7 @@
 use Rattle.std.proofs.Common.{refl, sym, ap, ◌∙◌, rules}
 use Rattle.std.specs.FinMap.{contains_key, insert}
 use Rattle.std.proofs.lemmas.Bool.{true≢false}
-use Rattle.script_databases.specs.Tables.{deny_of, peers_of}
+use Rattle.script_databases.specs.Stored.{deny_of, peers_of}
 use Rattle.script_databases.proofs.CarryingLemmas.{still_there}
 use Rattle.script_databases.proofs.TableLemmas.{found_absent, written}
 use Rattle.script_databases.proofs.carrying.put_back.Goals as goal

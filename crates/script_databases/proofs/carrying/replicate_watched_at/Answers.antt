@@ -6,7 +6,7 @@ use Rattle.repl_pool.specs.declared.fault.PoolFault.{PoolFault}
 use Rattle.repl_target.specs.declared.fault.Report.{Report}
 use Rattle.script_databases.specs.Databases.{State}
 use Rattle.script_databases.specs.Carrying.{Nowhere, deny_refuses}
-use Rattle.script_databases.specs.Tables.{deny_of, denied_of, peers_of}
+use Rattle.script_databases.specs.Stored.{deny_of, denied_of, peers_of}
 use Rattle.script_databases.proofs.CarryingLemmas.{denied_back, new_last, refuses_is, run_denied, still_there, written_over}
 use Rattle.script_databases.proofs.carrying.replicate_watched_at.Goals as goal
 

@@ -1,7 +1,7 @@
 use Rattle.std.proofs.Common.{string_bytes, ap, sym, ◌∙◌}
 use Rattle.std.proofs.lemmas.Bool.{true≢false}
 use Rattle.std.specs.FinMap.{insert}
-use Rattle.script_databases.specs.Tables.{peers_of, deny_of, denied_of}
+use Rattle.script_databases.specs.Stored.{peers_of, deny_of, denied_of}
 use Rattle.script_databases.proofs.TableLemmas.{written}
 use Rattle.script_databases.proofs.named.add_at.Goals as goal
 

@@ -2,7 +2,7 @@ use Rattle.std.proofs.Common.{inl, sym, ap, ◌∙◌, rules, refl}
 use Rattle.repl_target.specs.Writing.{after_load}
 use Rattle.script_databases.specs.Databases.{load_answer}
 use Rattle.script_databases.specs.Refusals.{base_refusal, told_as}
-use Rattle.script_databases.specs.Tables.{denied_of, deny_of, peers_of}
+use Rattle.script_databases.specs.Stored.{denied_of, deny_of, peers_of}
 use Rattle.script_databases.proofs.TableLemmas.{found_there, found_absent, none_there, written}
 use Rattle.script_databases.proofs.NamedLemmas.{put_refused, changed_there, kept_there}
 use Rattle.script_databases.proofs.named.load_at.Goals as goal

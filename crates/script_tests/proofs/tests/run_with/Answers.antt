@@ -1,6 +1,6 @@
 use Rattle.std.proofs.Common.{Some, ap, ◌∙◌}
 use Rattle.script_databases.specs.Databases.{no_databases}
-use Rattle.script_databases.specs.Tables.{program_of}
+use Rattle.script_databases.specs.Stored.{program_of}
 use Rattle.script_engine.proofs.RunLemmas.{over_memory}
 use Rattle.script_words.specs.Script.{LinesAnswer}
 use Rattle.script_tests.proofs.tests.run_with.Goals as goal

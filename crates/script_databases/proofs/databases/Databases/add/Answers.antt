@@ -1,6 +1,6 @@
 use Rattle.std.proofs.Common.{ap, sym, ◌∙◌}
 use Rattle.script_databases.specs.Databases.{peer_at}
-use Rattle.script_databases.specs.Tables.{beside_of}
+use Rattle.script_databases.specs.Stored.{beside_of}
 use Rattle.script_databases.proofs.IndexLemmas.{kept_or_added}
 use Rattle.script_databases.proofs.databases.Databases.add.Goals as goal
 

@@ -2,7 +2,7 @@ use Rattle.std.proofs.Common.{ap, ◌∙◌, Option}
 use Rattle.std.specs.Prelude.{option_map}
 use Rattle.repl_target.specs.Peer.{PeerValue}
 use Rattle.repl_target.specs.declared.filter.Rules.{Rules}
-use Rattle.script_databases.specs.Tables.{beside_of}
+use Rattle.script_databases.specs.Stored.{beside_of}
 use Rattle.script_databases.proofs.IndexLemmas.{found_at}
 use Rattle.script_databases.proofs.databases.Databases.find.Goals as goal
 

@@ -2,7 +2,7 @@ use Rattle.std.proofs.Common.{subst, inr, ap}
 use Rattle.repl_target.specs.Peer.{PeerValue}
 use Rattle.script_databases.specs.Carrying.{CarriedByPool, CarriesFrom}
 use Rattle.script_databases.specs.Databases.{State}
-use Rattle.script_databases.specs.Tables.{beside_of, state_of}
+use Rattle.script_databases.specs.Stored.{beside_of, state_of}
 use Rattle.script_databases.proofs.IndexLemmas.{deny_kept}
 use Rattle.script_databases.proofs.CarryingLemmas.{differ, index_carried}
 use Rattle.script_databases.proofs.databases.Databases.replicate.Goals as goal

@@ -1,7 +1,7 @@
 use Rattle.std.proofs.Common.{subst, inr}
 use Rattle.script_databases.specs.Carrying.{CarriedAlone, CarriesFrom}
 use Rattle.script_databases.specs.Databases.{State}
-use Rattle.script_databases.specs.Tables.{beside_of, state_of}
+use Rattle.script_databases.specs.Stored.{beside_of, state_of}
 use Rattle.script_databases.proofs.IndexLemmas.{deny_kept}
 use Rattle.script_databases.proofs.CarryingLemmas.{differ, index_carried}
 use Rattle.script_databases.proofs.UuidLemmas.{source_keeps, target_keeps}

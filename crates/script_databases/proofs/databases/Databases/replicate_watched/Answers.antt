@@ -1,7 +1,7 @@
 use Rattle.std.proofs.Common.{subst}
 use Rattle.script_databases.specs.Carrying.{CarriesFrom, WatchedIntoAnother}
 use Rattle.script_databases.specs.Databases.{State}
-use Rattle.script_databases.specs.Tables.{beside_of, state_of}
+use Rattle.script_databases.specs.Stored.{beside_of, state_of}
 use Rattle.script_databases.proofs.IndexLemmas.{deny_kept}
 use Rattle.script_databases.proofs.CarryingLemmas.{index_watched}
 use Rattle.script_databases.proofs.databases.Databases.replicate_watched.Goals as goal

@@ -1,4 +1,4 @@
--- What the tables in memory stand for.
+-- Databases as they are stored: what the tables in memory stand for.
 use Rattle.std.specs.Prelude.{◌≡◌, ℕ, true, List, map, nat_eq, Option, Some, option_map, String, string_bytes}
 use Rattle.std.specs.declared.alloc.Global.{Global}
 use Rattle.std.specs.FinMap as finmap
