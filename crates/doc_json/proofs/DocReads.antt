@@ -1,9 +1,9 @@
 -- Reading a value as a document, check by check.
-use Rattle.std.proofs.Common.{◌≡◌, ℕ, List, Bool, true, false, Option, Some, None, option_map, is_some, Result, Ok, Err, codes, refl}
+use Rattle.std.proofs.Common.{◌≡◌, ℕ, List, Bool, true, false, Option, Some, None, option_map, is_some, Result, Ok, Err, codes, refl, sym, ap, ◌∙◌}
 use Rattle.std.specs.Prelude.{IsOk}
 use Rattle.std.proofs.lemmas.Bool.{false≢true}
 use Rattle.serde_json.specs.Data.{Data, Members}
-use Rattle.serde_json.specs.Find.{get, as_object}
+use Rattle.serde_json.specs.Find.{get, get_member, as_object}
 use Rattle.serde_json.specs.Written.{members_have_float}
 use Rattle.rev_core.specs.Rev.{RevId}
 use Rattle.doc_json.specs.Members.{has_unknown, plain_members}
@@ -12,6 +12,7 @@ use Rattle.doc_json.specs.Revisions.{revs_read}
 use Rattle.doc_json.specs.DocRead.{doc_read, id_member, flag_of}
 use Rattle.doc_json.specs.declared.fault.DocFault.{DocFault}
 use Rattle.doc_json.specs.declared.fault.DocFault.TheVariants as faults
+use Rattle.doc_json.proofs.BodyReads.{is_object}
 
 pub is_some-option_map : {A B : Type 0} (f : A → B) (o : Option A) → is_some (option_map f o) ≡ is_some o
 is_some-option_map f None = refl
@@ -21,6 +22,10 @@ is_some-option_map f (Some x) = refl
 pub ok_value : {A E : Type 0} (r : Result A E) → IsOk r → (x : A) × (r ≡ Ok x)
 ok_value (Ok x) h = (x, refl)
 ok_value (Err e) h = absurd (false≢true h)
+
+-- a member that was found
+pub found_at : (k : List ℕ) (d : Data) (ms : Members) (o : Option Data) → as_object d ≡ Some ms → o ≡ get_member k ms → get k d ≡ o
+found_at k d ms o object h = ap (get k) (is_object d ms object) ∙ sym h
 
 pub no_object : (d : Data) → as_object d ≡ None → doc_read d ≡ Err faults.NotObject
 unfolding doc_read

@@ -1,5 +1,5 @@
 -- The members `_rev` and `_revisions`, before anything of them is copied.
-use Rattle.std.proofs.Common.{◌≡◌, ℕ, ◌^◌, ◌<◌, ◌≤◌, List, [], ◌∷◌, length, Bool, true, false, cond, nat_eq, nat_lt, nat_le, Option, Some, None, is_some, option_map, option_and_then, Result, Ok, Err, is_ok, codes, slice_get, inl, inr, refl, sym, ap, ◌∙◌, subst, arith}
+use Rattle.std.proofs.Common.{◌≡◌, ℕ, ◌^◌, ◌<◌, ◌≤◌, List, [], ◌∷◌, length, Bool, true, false, cond, nat_eq, nat_lt, nat_le, Option, Some, None, is_some, option_map, option_and_then, Result, Ok, Err, is_ok, codes, slice_get, inl, inr, refl, sym, ap, ◌∙◌, arith}
 use Rattle.std.specs.Prelude.{IsOk}
 use Rattle.std.specs.Ordering.{eq_by_cmp}
 use Rattle.std.proofs.lemmas.Bool.{lt-ltb, le-ltb, le-leb, lt-leb, ne_eqb, cases_lt, false≢true}
@@ -12,7 +12,7 @@ use Rattle.rev_core.specs.Ancestry.{numbered, ancestry_read}
 use Rattle.rev_core.specs.declared.fault.RevFault.{RevFault}
 use Rattle.rev_core.specs.declared.fault.RevFault.TheVariants as rev_faults
 use Rattle.rev_core.specs.Checks.{named, ◌>>=◌}
-use Rattle.doc_json.specs.Revisions.{sig_of, sigs_of, numbered_from, revisions_read, is_head, agrees, matched, rev_member, with_revisions, revs_read}
+use Rattle.doc_json.specs.Revisions.{sig_of, sigs_of, numbered_from, is_head, agrees, matched, rev_member, with_revisions, revs_read}
 use Rattle.doc_json.specs.declared.fault.DocFault.{DocFault}
 use Rattle.doc_json.specs.declared.fault.DocFault.TheVariants as faults
 
@@ -84,34 +84,9 @@ left_as_it_is : (b : Bool) (revs : List RevId) → IsOk (cond b (Ok revs) (Err f
 left_as_it_is true revs h = refl
 left_as_it_is false revs h = absurd (false≢true h)
 
-beside_is : (rev : Option RevId) (r : Result (List RevId) DocFault) → IsOk (r >>= matched rev) → IsOk r × ((r >>= matched rev) ≡ r)
+pub beside_is : (rev : Option RevId) (r : Result (List RevId) DocFault) → IsOk (r >>= matched rev) → IsOk r × ((r >>= matched rev) ≡ r)
 beside_is rev (Ok revs) h = (refl, left_as_it_is (agrees rev revs) revs h)
 beside_is rev (Err e) h = absurd (false≢true h)
-
-numbered_by : (m : Result (Option RevId) DocFault) (d : Data) → IsOk (m >>= with_revisions (Some d)) → IsOk (revisions_read d) × ((m >>= with_revisions (Some d)) ≡ revisions_read d)
-numbered_by (Ok rev) d h = beside_is rev (revisions_read d) h
-numbered_by (Err e) d h = absurd (false≢true h)
-
-pub revs_numbered : (d revisions : Data) → get (codes "_revisions") d ≡ Some revisions → IsOk (revs_read d) → IsOk (revisions_read revisions) × (revs_read d ≡ revisions_read revisions)
-unfolding revs_read
-revs_numbered d revisions is h =
-    let m = rev_member (get (codes "_rev") d) in
-    let e = ap (λ o. m >>= with_revisions o) is in
-    let n = numbered_by m revisions (subst IsOk e h) in
-    (n.0, e ∙ n.1)
-
-alone_by : (m : Result (Option RevId) DocFault) → IsOk (m >>= with_revisions None) → (r : RevId) × (m ≡ Ok (Some r)) × ((m >>= with_revisions None) ≡ Ok (r ∷ []))
-alone_by (Ok None) h = absurd (false≢true h)
-alone_by (Ok (Some r)) h = (r, refl, refl)
-alone_by (Err e) h = absurd (false≢true h)
-
-pub revs_alone : (d : Data) → get (codes "_revisions") d ≡ None → IsOk (revs_read d) → (r : RevId) × (rev_member (get (codes "_rev") d) ≡ Ok (Some r)) × (revs_read d ≡ Ok (r ∷ []))
-unfolding revs_read
-revs_alone d is h =
-    let m = rev_member (get (codes "_rev") d) in
-    let e = ap (λ o. m >>= with_revisions o) is in
-    let n = alone_by m (subst IsOk e h) in
-    (n.0, n.1, e ∙ n.2)
 
 pub revs_by : (d : Data) (rev : Option RevId) → rev_member (get (codes "_rev") d) ≡ Ok rev → revs_read d ≡ with_revisions (get (codes "_revisions") d) rev
 unfolding revs_read

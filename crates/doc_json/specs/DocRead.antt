@@ -13,8 +13,11 @@ use Rattle.doc_json.specs.declared.fault.DocFault.{DocFault}
 use Rattle.doc_json.specs.declared.fault.DocFault.TheVariants as faults
 
 -- the member `_id` as an id
+abbrev pub id_of : Option Data → Result (List ℕ) DocFault
+id_of o = or_refused faults.NoId (option_and_then as_str o) >>= doc_id_read
+
 abbrev pub id_member : Data → Result (List ℕ) DocFault
-id_member d = or_refused faults.NoId (option_and_then as_str (get (codes "_id") d)) >>= doc_id_read
+id_member d = id_of (get (codes "_id") d)
 
 -- the member `_deleted`, false where it is absent
 abbrev pub flag_of : Option Data → Result Bool DocFault

@@ -126,7 +126,7 @@ impl PartialEq for DocId {
     ghost laws = { Cmp.partial_equiv_from_equiv nat_list_eq_equiv };
 
     fn eq(&self, other: &DocId) -> bool {
-        self.text().as_bytes() == other.text().as_bytes()
+        self.text() == other.text()
     }
 }
 
@@ -154,7 +154,7 @@ impl Ord for DocId {
     ghost matches_eq = { Prim.search (comparing, rules) };
 
     fn cmp(&self, other: &DocId) -> Ordering {
-        self.text().as_bytes().cmp(other.text().as_bytes())
+        self.text().cmp(other.text())
     }
 }
 

@@ -1,5 +1,8 @@
 //! Members of JSON objects, with and without a leading `_`.
-ghost use Rattle.std.specs.Prelude.{◌≡◌};
+ghost use Rattle.std.specs.Prelude.{◌≡◌, codes, option_map};
+ghost use Rattle.std.specs.Option.{option_or};
+ghost use Rattle.serde_json.specs.Data.{no_members, member as one_member};
+ghost use Rattle.serde_json.specs.Find.{get_member};
 ghost use Rattle.serde_json.specs.View.{view, items_view, members_view};
 ghost use Rattle.serde_json.specs.Written.{has_float, items_have_float, members_have_float};
 ghost use Rattle.std.specs.Str.{bytes_eq};
@@ -75,16 +78,68 @@ pub(crate) fn has_special(members: &Map<String, Value>) -> bool
     false
 }
 
-/// Whether there is a member with a leading `_` that no document has.
-pub(crate) fn has_unknown(members: &Map<String, Value>) -> bool
-    ensures { result ≡ has_unknown (members_view members.now.entries) }
+/// The members of a document with a leading `_`, each where it is there, and whether there is one that no document has.
+#[derive(Clone, Copy)]
+pub(crate) struct SpecialMembers<'a> {
+    pub(crate) id: Option<&'a Value>,
+    pub(crate) attachments: Option<&'a Value>,
+    pub(crate) deleted: Option<&'a Value>,
+    pub(crate) rev: Option<&'a Value>,
+    pub(crate) revisions: Option<&'a Value>,
+    pub(crate) has_unknown: bool,
+}
+
+/// Finds the members with a leading `_`, in one walk over all members.
+pub(crate) fn special_members(members: &Map<String, Value>) -> SpecialMembers<'_>
+    ensures id { option_map (λ v. view v.now) result.id
+        ≡ get_member (codes "_id") (members_view members.now.entries) }
+    ensures attachments { option_map (λ v. view v.now) result.attachments
+        ≡ get_member (codes "_attachments") (members_view members.now.entries) }
+    ensures deleted { option_map (λ v. view v.now) result.deleted
+        ≡ get_member (codes "_deleted") (members_view members.now.entries) }
+    ensures rev { option_map (λ v. view v.now) result.rev
+        ≡ get_member (codes "_rev") (members_view members.now.entries) }
+    ensures revisions { option_map (λ v. view v.now) result.revisions
+        ≡ get_member (codes "_revisions") (members_view members.now.entries) }
+    ensures unknown { result.has_unknown ≡ has_unknown (members_view members.now.entries) }
 {
-    for (name, _) in members.iter() {
-        if is_unknown(name.as_str()) {
-            return true;
+    let (mut id, mut attachments, mut deleted) = (None, None, None);
+    let (mut rev, mut revisions, mut has_unknown) = (None, None, false);
+    for (name, member) in members.iter() {
+        let name = name.as_str();
+        if is_special(name) {
+            id = kept(id, name, "_id", member);
+            attachments = kept(attachments, name, "_attachments", member);
+            deleted = kept(deleted, name, "_deleted", member);
+            rev = kept(rev, name, "_rev", member);
+            revisions = kept(revisions, name, "_revisions", member);
+            has_unknown = has_unknown || is_unknown(name);
         }
     }
-    false
+    SpecialMembers {
+        id,
+        attachments,
+        deleted,
+        rev,
+        revisions,
+        has_unknown,
+    }
+}
+
+/// What was found for a name, or this member where it has that name.
+fn kept<'a>(
+    found: Option<&'a Value>,
+    name: &str,
+    wanted: &str,
+    member: &'a Value,
+) -> Option<&'a Value>
+    ensures { option_map (λ v. view v.now) result ≡ option_or (option_map (λ v. view v.now) found.entry)
+        (get_member wanted.now (one_member name.now (view member.now) no_members)) }
+{
+    if found.is_some() {
+        return found;
+    }
+    if name == wanted { Some(member) } else { None }
 }
 
 /// Whether a name begins with `_` and is none of those that a document may have.

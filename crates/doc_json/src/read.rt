@@ -3,7 +3,7 @@ ghost use Rattle.std.specs.Prelude.{◌≡◌, Ok, Err, IfOk, IfErr, option_map}
 ghost use Rattle.serde_json.specs.View.{view};
 ghost use Rattle.doc_json.specs.Answers.{GivesUnlessMemory};
 ghost use Rattle.doc_json.specs.DocId.{doc_id_read};
-ghost use Rattle.doc_json.specs.DocRead.{doc_read, flag_of, id_member};
+ghost use Rattle.doc_json.specs.DocRead.{doc_read, flag_of, id_of};
 
 use crate::doc::Doc;
 use crate::doc_id::{DocId, check_id};
@@ -28,21 +28,26 @@ pub fn read_doc(alloc: Global, value: &Value) -> Result<Doc, DocFault>
     let Some(members) = value.as_object() else {
         return Err(DocFault::NotObject);
     };
-    let id = match find_id(value) {
+    let found = members::special_members(members);
+    let id = match read_id(found.id) {
         Ok(id) => id,
         Err(fault) => return Err(fault),
     };
-    if value.get("_attachments").is_some() {
+    if found.attachments.is_some() {
         return Err(DocFault::Attachments);
     }
-    if members::has_unknown(members) {
+    if found.has_unknown {
         return Err(DocFault::SpecialMember);
     }
-    let deleted = match read_flag(value.get("_deleted")) {
+    let deleted = match read_flag(found.deleted) {
         Ok(deleted) => deleted,
         Err(fault) => return Err(fault),
     };
-    if let Err(fault) = revisions::check_revs(value) {
+    let rev = match revisions::read_rev(found.rev) {
+        Ok(rev) => rev,
+        Err(fault) => return Err(fault),
+    };
+    if let Err(fault) = revisions::check_revisions(found.revisions, &rev) {
         return Err(fault);
     }
     if members::plain_members_have_fraction(members) {
@@ -51,7 +56,7 @@ pub fn read_doc(alloc: Global, value: &Value) -> Result<Doc, DocFault>
     let Ok(id) = DocId::of_checked(alloc, id) else {
         return Err(DocFault::Memory);
     };
-    let Ok(ancestry) = revisions::build_revs(alloc, value) else {
+    let Ok(ancestry) = revisions::build_revs(alloc, found.revisions, rev) else {
         return Err(DocFault::Memory);
     };
     let Ok(body) = body::plain_body(alloc, members) else {
@@ -60,13 +65,13 @@ pub fn read_doc(alloc: Global, value: &Value) -> Result<Doc, DocFault>
     Ok(Doc::new(id, ancestry, deleted, body))
 }
 
-/// The text of a document's id.
-fn find_id(value: &Value) -> Result<&str, DocFault>
-    ensures id { IfOk result (λ text. id_member (view value.now) ≡ Ok text.now) }
+/// The text of the id that a member `_id` is.
+fn read_id(member: Option<&Value>) -> Result<&str, DocFault>
+    ensures id { IfOk result (λ text. id_of (option_map (λ v. view v.now) member.entry) ≡ Ok text.now) }
     ensures read { IfOk result (λ text. doc_id_read text.now ≡ Ok text.now) }
-    ensures err { IfErr result (λ e. id_member (view value.now) ≡ Err e) }
+    ensures err { IfErr result (λ e. id_of (option_map (λ v. view v.now) member.entry) ≡ Err e) }
 {
-    let Some(text) = value.get("_id").and_then(Value::as_str) else {
+    let Some(text) = member.and_then(Value::as_str) else {
         return Err(DocFault::NoId);
     };
     match check_id(text) {

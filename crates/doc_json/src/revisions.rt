@@ -5,7 +5,7 @@ ghost use Rattle.std.specs.Ordering.{eq_by_cmp};
 ghost use Rattle.serde_json.specs.View.{view, items_view};
 ghost use Rattle.serde_json.specs.Find.{get, as_array, as_str};
 ghost use Rattle.rev_core.specs.Rev.{RevId, rev_cmp};
-ghost use Rattle.doc_json.specs.Revisions.{revs_read, rev_member, with_revisions, revisions_beside, agrees};
+ghost use Rattle.doc_json.specs.Revisions.{rev_member, with_revisions, revisions_beside, agrees};
 ghost use Rattle.doc_json.specs.Revisions.{revisions_read, start_of, numbered_from, sigs_of, sig_of};
 
 use crate::fault::DocFault;
@@ -13,19 +13,8 @@ use rev_core::{Ancestry, Rev, Sig};
 use serde_json::Value;
 use std::alloc::Global;
 
-/// Why the members `_rev` and `_revisions` give no ancestry, where they give none.
-pub(crate) fn check_revs(value: &Value) -> Result<(), DocFault>
-    ensures ok { OnOk result (IsOk (revs_read (view value.now))) }
-    ensures err { IfErr result (λ e. revs_read (view value.now) ≡ Err e) }
-{
-    match read_rev(value.get("_rev")) {
-        Ok(rev) => check_revisions(value.get("_revisions"), rev),
-        Err(fault) => Err(fault),
-    }
-}
-
 /// The revision id of a member `_rev`, where it is there.
-fn read_rev(member: Option<&Value>) -> Result<Option<Rev>, DocFault>
+pub(crate) fn read_rev(member: Option<&Value>) -> Result<Option<Rev>, DocFault>
     ensures { result ≡ rev_member (option_map (λ v. view v.now) member.entry) }
 {
     let Some(value) = member else {
@@ -41,15 +30,15 @@ fn read_rev(member: Option<&Value>) -> Result<Option<Rev>, DocFault>
 }
 
 /// Why a member `_revisions` gives no ancestry beside what `_rev` gave.
-fn check_revisions(member: Option<&Value>, rev: Option<Rev>) -> Result<(), DocFault>
+pub(crate) fn check_revisions(member: Option<&Value>, rev: &Option<Rev>) -> Result<(), DocFault>
     ensures ok { OnOk result
-        (IsOk (with_revisions (option_map (λ v. view v.now) member.entry) rev)) }
+        (IsOk (with_revisions (option_map (λ v. view v.now) member.entry) rev.now)) }
     ensures err { IfErr result
-        (λ e. with_revisions (option_map (λ v. view v.now) member.entry) rev ≡ Err e) }
+        (λ e. with_revisions (option_map (λ v. view v.now) member.entry) rev.now ≡ Err e) }
 {
     match member {
-        Some(value) => check_numbered(value, rev),
-        None => match rev {
+        Some(value) => check_numbered(value, *rev),
+        None => match *rev {
             Some(_) => Ok(()),
             None => Err(DocFault::NoRev),
         },
@@ -150,15 +139,19 @@ fn is_revision(rev: Rev, generation: u64, sig: Sig) -> bool
     u64::from(rev.generation()) == generation && same_sig
 }
 
-/// The ancestry that the members `_rev` and `_revisions` give. The only error is `Memory`.
-pub(crate) fn build_revs(alloc: Global, value: &Value) -> Result<Ancestry, DocFault>
-    requires { IsOk (revs_read (view value.now)) }
-    ensures built { IfOk result (λ a. revs_read (view value.now) ≡ Ok a) }
+/// The ancestry that a member `_revisions` gives beside what `_rev` gave. The only error is `Memory`.
+pub(crate) fn build_revs(
+    alloc: Global,
+    member: Option<&Value>,
+    rev: Option<Rev>,
+) -> Result<Ancestry, DocFault>
+    requires { IsOk (with_revisions (option_map (λ v. view v.now) member) rev) }
+    ensures built { IfOk result (λ a. with_revisions (option_map (λ v. view v.now) member.entry) rev ≡ Ok a) }
     ensures err { IfErr result (λ e. e ≡ DocFault.Memory) }
 {
-    match value.get("_revisions") {
-        Some(revisions) => build_numbered(alloc, revisions),
-        None => build_alone(alloc, read_rev(value.get("_rev")).unwrap().unwrap()),
+    match member {
+        Some(value) => build_numbered(alloc, value),
+        None => build_alone(alloc, rev.unwrap()),
     }
 }
 

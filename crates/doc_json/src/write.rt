@@ -35,7 +35,10 @@ fn written(alloc: Global, doc: &Doc) -> Result<Vec<u8>, AllocError>
     ensures { IfOk result (λ v. v.items ≡ doc_text doc.now) }
 {
     let body = doc.body().text();
-    let mut head = Vec::with_capacity(alloc, body.len().saturating_add(256))?;
+    // A signature mostly has 32 bytes, and stands in quotation marks behind a comma.
+    let sigs = doc.ancestry().revs().len().saturating_mul(36);
+    let room = body.len().saturating_add(sigs).saturating_add(256);
+    let mut head = Vec::with_capacity(alloc, room)?;
     head.extend_from_slice(b"{\"_id\":")?;
     let mut out = with_json(head, doc.id().text())?;
     push_revs(&mut out, doc.ancestry())?;

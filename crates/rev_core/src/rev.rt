@@ -141,7 +141,10 @@ impl Ord for Rev {
 
     fn cmp(&self, other: &Rev) -> Ordering {
         let by_generation = self.generation.cmp(&other.generation);
-        by_generation.then(self.sig.cmp(&other.sig))
+        if by_generation.is_ne() {
+            return by_generation;
+        }
+        self.sig.cmp(&other.sig)
     }
 }
 

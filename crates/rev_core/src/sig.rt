@@ -76,7 +76,11 @@ impl PartialEq for Sig {
     ghost laws = { Cmp.partial_equiv_from_equiv nat_list_eq_equiv };
 
     fn eq(&self, other: &Sig) -> bool {
-        self.bytes() == other.bytes()
+        // Zeros stand behind each text, so whole arrays are compared, of known length.
+        if self.len != other.len {
+            return false;
+        }
+        self.bytes == other.bytes
     }
 }
 
@@ -104,6 +108,11 @@ impl Ord for Sig {
     ghost matches_eq = { Prim.search (comparing, rules) };
 
     fn cmp(&self, other: &Sig) -> Ordering {
+        // Most signatures that are compared differ in the first byte.
+        let (first, against) = (self.bytes[0], other.bytes[0]);
+        if first != against {
+            return first.cmp(&against);
+        }
         self.bytes().cmp(other.bytes())
     }
 }

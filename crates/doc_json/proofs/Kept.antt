@@ -1,0 +1,54 @@
+-- What was found for a name among the members so far.
+use Rattle.std.proofs.Common.{◌≡◌, ℕ, List, Bool, true, false, cond, Option, Some, None, is_some, refl, sym, ap, ◌∙◌}
+use Rattle.std.specs.Option.{option_or}
+use Rattle.std.specs.declared.cmp.Ordering.{Ordering}
+use Rattle.std.specs.declared.cmp.Ordering.TheVariants.{Less, Equal, Greater}
+use Rattle.std.specs.Ordering.{nat_cmp, match_ordering, is_eq}
+use Rattle.std.specs.Str.{bytes_eq}
+use Rattle.std.specs.Cmp.Lexicographic.{slice_cmp}
+use Rattle.std.proofs.lemmas.Map.Text.{is_eq-slice_cmp}
+use Rattle.std.proofs.lemmas.Slice.Eq.{bytes_eq-Decides}
+use Rattle.std.proofs.lemmas.Bool.{false≢true, true≢false}
+use Rattle.serde_json.specs.Data.{Data, Members, no_members, member}
+use Rattle.serde_json.specs.Find.{get_member}
+
+-- what was found stays
+pub found_stays : {X : Type 0} (o p : Option X) → true ≡ is_some o → o ≡ option_or o p
+found_stays None p e = absurd (false≢true (sym e))
+found_stays (Some x) p e = refl
+
+pub none_yet : {X : Type 0} (o p : Option X) → false ≡ is_some o → option_or o p ≡ p
+none_yet None p e = refl
+none_yet (Some x) p e = absurd (true≢false (sym e))
+
+chosen : (o : Ordering) (d : Data) (rest : Option Data) (b : Bool) → is_eq o ≡ b → match_ordering o rest (Some d) rest ≡ cond b (Some d) rest
+chosen Less d rest b e = ap (λ t. cond t (Some d) rest) e
+chosen Equal d rest b e = ap (λ t. cond t (Some d) rest) e
+chosen Greater d rest b e = ap (λ t. cond t (Some d) rest) e
+
+turned : (xs ys : List ℕ) (b : Bool) → b ≡ bytes_eq xs ys → bytes_eq ys xs ≡ b
+turned xs ys true e = (bytes_eq-Decides ys xs).1 (sym ((bytes_eq-Decides xs ys).0 (sym e)))
+turned xs ys false e = is_false _ (λ t. false≢true (e ∙ (bytes_eq-Decides xs ys).1 (sym ((bytes_eq-Decides ys xs).0 t))))
+  where
+    is_false : (x : Bool) → (x ≡ true → ⊥) → x ≡ false
+    is_false true h = absurd (h refl)
+    is_false false h = refl
+
+-- the member of a name, or what is behind
+pub looked_at : (k name : List ℕ) (d : Data) (ms : Members) (b : Bool) → b ≡ bytes_eq name k → get_member k (member name d ms) ≡ cond b (Some d) (get_member k ms)
+looked_at k name d ms b e = chosen (slice_cmp nat_cmp k name) d (get_member k ms) b (is_eq-slice_cmp k name ∙ turned name k b e)
+
+-- one member more was looked at
+pub one_more : (k name : List ℕ) (d : Data) (ms : Members) (o found out : Option Data)
+    → found ≡ option_or o (get_member k (member name d no_members)) → option_or o (get_member k (member name d ms)) ≡ out → option_or found (get_member k ms) ≡ out
+one_more k name d ms (Some x) found out e h = ap (λ t. option_or t (get_member k ms)) e ∙ h
+one_more k name d ms None found out e h = ap (λ t. option_or t (get_member k ms)) e ∙ behind (slice_cmp nat_cmp k name) d (get_member k ms) ∙ h
+  where
+    behind : (o : Ordering) (d : Data) (rest : Option Data) → option_or (match_ordering o None (Some d) None) rest ≡ match_ordering o rest (Some d) rest
+    behind Less d rest = refl
+    behind Equal d rest = refl
+    behind Greater d rest = refl
+
+pub more : (k name : List ℕ) (d : Data) (ms before : Members) (o found out : Option Data) → before ≡ member name d ms
+    → found ≡ option_or o (get_member k (member name d no_members)) → option_or o (get_member k before) ≡ out → option_or found (get_member k ms) ≡ out
+more k name d ms before o found out seen e h = one_more k name d ms o found out e (ap (λ b. option_or o (get_member k b)) (sym seen) ∙ h)

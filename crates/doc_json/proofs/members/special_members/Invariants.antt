@@ -1,0 +1,20 @@
+use Rattle.std.proofs.Common.{◌≡◌, ◌||◌, codes, option_map}
+use Rattle.std.specs.Option.{option_or}
+use Rattle.serde_json.specs.Find.{get_member}
+use Rattle.serde_json.specs.View.{view, members_view}
+use Rattle.doc_json.specs.Members.{has_unknown}
+use Rattle.doc_json.proofs.members.special_members.Given as goal
+
+-- what was found, and else what is found in the members that are left
+abbrev pub invariant-loop-name : goal.invariant-loop-name
+invariant-loop-name l =
+    let all = members_view l.members.entries in
+    let left = members_view l.name-iterator in
+    record {
+      id : option_or (option_map (λ v. view v.now) l.id) (get_member (codes "_id") left) ≡ get_member (codes "_id") all;
+      attachments : option_or (option_map (λ v. view v.now) l.attachments) (get_member (codes "_attachments") left) ≡ get_member (codes "_attachments") all;
+      deleted : option_or (option_map (λ v. view v.now) l.deleted) (get_member (codes "_deleted") left) ≡ get_member (codes "_deleted") all;
+      rev : option_or (option_map (λ v. view v.now) l.rev) (get_member (codes "_rev") left) ≡ get_member (codes "_rev") all;
+      revisions : option_or (option_map (λ v. view v.now) l.revisions) (get_member (codes "_revisions") left) ≡ get_member (codes "_revisions") all;
+      unknown : (l.has_unknown || has_unknown left) ≡ has_unknown all;
+    }

@@ -1,0 +1,22 @@
+-- Signatures are ordered as they are stored.
+use Rattle.std.proofs.Common.{◌≡◌, ℕ, zero, suc, List, [], ◌∷◌, take, get_or, refl, sym, arith}
+use Rattle.std.proofs.lemmas.Bool.{false≢true}
+use Rattle.std.specs.declared.cmp.Ordering.{Ordering}
+use Rattle.std.specs.declared.cmp.Ordering.TheVariants.{Less, Equal, Greater}
+use Rattle.std.specs.Ordering.{nat_cmp, ordering_then}
+use Rattle.std.specs.Cmp.Lexicographic.{slice_cmp}
+use Rattle.std.specs.FinMap.{nat_cmp-IsAntisymmetric}
+use Rattle.rev_core.specs.Sig.{IsStored}
+
+then_first : (o p : Ordering) → (o ≡ Equal → ⊥) → ordering_then o p ≡ o
+then_first Less p h = refl
+then_first Equal p h = absurd (h refl)
+then_first Greater p h = refl
+
+-- first bytes that differ decide
+pub first_decides : (a b : List ℕ) (m n : ℕ) → IsStored a m → IsStored b n → (get_or a 0 0 ≡ get_or b 0 0 → ⊥) → nat_cmp (get_or a 0 0) (get_or b 0 0) ≡ slice_cmp nat_cmp (take m a) (take n b)
+first_decides [] b m n h k differ = absurd (omega (arith, h.size))
+first_decides (x ∷ a) [] m n h k differ = absurd (omega (arith, k.size))
+first_decides (x ∷ a) (y ∷ b) zero n h k differ = absurd (false≢true h.sig)
+first_decides (x ∷ a) (y ∷ b) (suc m) zero h k differ = absurd (false≢true k.sig)
+first_decides (x ∷ a) (y ∷ b) (suc m) (suc n) h k differ = sym (then_first (nat_cmp x y) _ (λ e. differ (nat_cmp-IsAntisymmetric x y e)))
