@@ -46,7 +46,7 @@ at_upto s lo (e ∷ es) hi q r h =
     (λ _ k. at_upto s e.0 es hi q r.1 k) h
 
 -- the last entry taken out again
-pub remove_last : (s : ℕ) (index : List (ℕ × Id)) (q : Id) → AllBelow s index → remove_entry (is_at (nat_cmp s)) (index ++ (s, q) ∷ []) ≡ index
+pub remove_last : {X : Type 0} (s : ℕ) (index : List (ℕ × X)) (q : X) → AllBelow s index → remove_entry (is_at (nat_cmp s)) (index ++ (s, q) ∷ []) ≡ index
 remove_last s [] q below = ap (λ b. cond b [] ((s, q) ∷ [])) (seq_same s)
 remove_last s (e ∷ es) q below =
     cond_both (is_at (nat_cmp s) e.0) (es ++ (s, q) ∷ []) (e ∷ remove_entry (is_at (nat_cmp s)) (es ++ (s, q) ∷ [])) (λ l. l ≡ e ∷ es)
@@ -63,7 +63,7 @@ remove_append s (e ∷ es) x q h =
     ] h
 
 -- an insertion at the end
-pub insert_last : (s : ℕ) (index : List (ℕ × Id)) (q : Id) → AllBelow s index → insert_entry nat_cmp index s q ≡ index ++ (s, q) ∷ []
+pub insert_last : {X : Type 0} (s : ℕ) (index : List (ℕ × X)) (q : X) → AllBelow s index → insert_entry nat_cmp index s q ≡ index ++ (s, q) ∷ []
 insert_last s [] q below = refl
 insert_last s (e ∷ es) q below =
     ap (λ o. match_ordering o ((s, q) ∷ e ∷ es) ((e.0, q) ∷ es) (e ∷ insert_entry nat_cmp es s q)) (above s e.0 (below e (inl refl)))

@@ -1,6 +1,7 @@
 mod Found
 mod Rising
 mod Index
+mod Naming
 mod Moves
 mod Writing
 mod Laws

@@ -1,17 +1,23 @@
 -- What a put answers and leaves, where it is a change.
-use Rattle.std.proofs.Common.{◌≡◌, ℕ, ◌+◌, ◌<◌, Bool, true, false, ◌&&◌, List, [], ◌∷◌, None, is_some, Ok, cond, sym, ap, ◌∙◌, refl, arith}
+use Rattle.std.proofs.Common.{◌≡◌, ℕ, ◌+◌, ◌<◌, Bool, true, false, ◌&&◌, List, [], ◌∷◌, None, is_some, Ok, Err, cond, sym, ap, ◌∙◌, refl, arith}
 use Rattle.std.specs.Prelude.{nat_lt, Result}
 use Rattle.std.specs.List.{list_all}
 use Rattle.std.specs.Option.{option_or}
 use Rattle.std.specs.FinMap.{get, get-empty}
+use Rattle.std.proofs.lemmas.Bool.{false≢true}
 use Rattle.rev_core.specs.Rev.{RevId, rev_cmp}
 use Rattle.rev_core.specs.Ancestry.{edges_of, IsAncestry}
 use Rattle.rev_tree.specs.Tree.{TreeValue, has, has_edge, no_revisions, first_contradiction, contradiction_at, is_same, merged, merge_answer, answer_of, at_head}
-use Rattle.rev_tree.specs.declared.fault.Merged.TheVariants.{Changed}
+use Rattle.rev_tree.specs.declared.fault.Merged.TheVariants.{Changed, Same}
+use Rattle.rev_tree.specs.declared.fault.Contradiction.{Contradiction}
+use Rattle.rev_tree.specs.declared.fault.Merged.{Merged}
 use Rattle.rev_tree.specs.declared.origin.Origin.{Origin}
 use Rattle.doc_json.specs.Document.{Document}
-use Rattle.couch_base.specs.Database.{DatabaseValue, tree_of, with_tree, most}
+use Rattle.couch_base.specs.Database.{Id, DatabaseValue, tree_of, with_tree, most}
 use Rattle.couch_base.specs.Put.{put_answer, put_told, after_put, is_changed, content_of}
+use Rattle.couch_base.specs.Table.{documents, feed_of, found, tree_at, IsKept}
+use Rattle.couch_base.specs.declared.kept.Kept.{Kept}
+use Rattle.couch_base.proofs.Found.{tree_of-documents}
 use Rattle.couch_base.specs.declared.fault.Put.{Put}
 use Rattle.couch_base.specs.declared.fault.Put.TheVariants as answers
 use Rattle.couch_base.specs.declared.fault.BaseFault.{BaseFault}
@@ -52,3 +58,30 @@ left db d o answer = cond (is_changed answer) (with_tree db d.id (merged (tree_o
 
 pub after_put-changed : (db : DatabaseValue) (d : Document) (o : Origin) (seq : ℕ) → put_answer db d ≡ Ok (answers.Changed seq) → after_put db d o ≡ with_tree db d.id (merged (tree_of db.docs d.id) d.ancestry (content_of d.deleted d.body) o)
 after_put-changed db d o seq answer = ap (left db d o) answer
+
+-- ---- what is told
+
+seq_in : Result Put BaseFault → ℕ
+seq_in (Ok (answers.Changed seq)) = seq
+seq_in (Ok answers.Same) = 0
+seq_in (Err fault) = 0
+
+pub told_changed : (m : Result Merged Contradiction) (room : Bool) (next seq : ℕ) → put_told m room next ≡ Ok (answers.Changed seq) → (m ≡ Ok Changed) × (room ≡ true) × (next ≡ seq)
+unfolding seq_in
+told_changed (Err why) room next seq h = absurd (false≢true (ap is_changed h))
+told_changed (Ok Same) room next seq h = absurd (false≢true (ap is_changed h))
+told_changed (Ok Changed) true next seq h = (refl, refl, ap seq_in h)
+told_changed (Ok Changed) false next seq h = absurd (false≢true (ap is_changed h))
+
+-- what is told of a table is what a put of its database answers
+pub told_is : (docs : List (Id × Kept)) (index : List (ℕ × ℕ)) (uuid seq : ℕ) → IsKept docs index seq → (db : DatabaseValue) → record { uuid = uuid; update_seq = seq; docs = documents (found docs) (feed_of docs index) } ≡ db → (d : Document)
+    → (id : Id) → id ≡ d.id → (revs : List RevId) → revs ≡ d.ancestry → (m : Result Merged Contradiction) → m ≡ merge_answer (tree_at (found docs id)) revs → put_told m (nat_lt seq most) (seq + 1) ≡ put_answer db d
+told_is docs index uuid seq t db view d id ids revs lists m answer =
+    ap (λ r. put_told r (nat_lt seq most) (seq + 1))
+    (answer
+    ∙ (λ i. merge_answer (tree_at (found docs (ids i))) (lists i))
+    ∙ ap (λ x. merge_answer x d.ancestry) (sym (tree_of-documents (found docs) (feed_of docs index) seq t.table d.id)))
+    ∙ ap (λ v. put_answer v d) view
+
+pub after_put-same : (db : DatabaseValue) (d : Document) (o : Origin) → put_answer db d ≡ Ok answers.Same → after_put db d o ≡ db
+after_put-same db d o answer = ap (left db d o) answer

@@ -1,7 +1,7 @@
 -- A write, whichever it is.
-use Rattle.std.proofs.Common.{◌≡◌, ℕ, ◌<◌, ◌≤◌, List, [], ◌∷◌, ◌++◌, Option, Some, None, sym, ap, ◌∙◌, refl, subst}
+use Rattle.std.proofs.Common.{◌≡◌, ℕ, ◌+◌, ◌<◌, ◌≤◌, List, [], ◌∷◌, ◌++◌, Option, Some, None, sym, ap, ◌∙◌, refl, subst}
 use Rattle.rev_tree.specs.Tree.{TreeValue, IsTree, no_revisions}
-use Rattle.couch_base.specs.Database.{Id, DocumentValue, IsDocumentTree, HasBodies, tree_of, without, most}
+use Rattle.couch_base.specs.Database.{Id, DocumentValue, DatabaseValue, IsDocumentTree, HasBodies, tree_of, with_tree, without, most}
 use Rattle.couch_base.specs.Table.{documents, found, tree_at, IsTable, Writes}
 use Rattle.couch_base.specs.declared.kept.Kept.{Kept}
 use Rattle.couch_base.proofs.Found.{tree_of-documents}
@@ -38,3 +38,9 @@ written_documents old new before after id made s hi t w =
         ap (documents (found new)) m.index
         ∙ changed_documents (found old) (found new) before hi t id k is (record { seq = s; tree = made k.tree }) m.sets s
         ∙ ap (λ (o : Option Kept). let e : DocumentValue = record { id = id; seq = s; tree = made (tree_at o) } in without (documents (found old) before) id ++ e ∷ []) (sym is)
+
+-- the whole of it
+pub written_whole : (uuid hi s : ℕ) (before after : List DocumentValue) (id : Id) (tree : TreeValue) → hi + 1 ≡ s → after ≡ without before id ++ record { id = id; seq = s; tree = tree } ∷ [] → record { uuid = uuid; update_seq = s; docs = after } ≡ with_tree (record { uuid = uuid; update_seq = hi; docs = before }) id tree
+written_whole uuid hi s before after id tree next is =
+    ap (λ (ds : List DocumentValue). let v : DatabaseValue = record { uuid = uuid; update_seq = s; docs = ds } in v) is
+    ∙ ap (λ (n : ℕ). let e : DocumentValue = record { id = id; seq = n; tree = tree } in let v : DatabaseValue = record { uuid = uuid; update_seq = n; docs = without before id ++ e ∷ [] } in v) (sym next)

@@ -1,14 +1,31 @@
--- A database as it is kept: a table of documents by id, and an index of the ids by sequence.
-use Rattle.std.specs.Prelude.{◌≡◌, ℕ, ◌<◌, ◌≤◌, List, [], ◌∷◌, ◌++◌, cond, map, Option, Some, None}
+-- A database as it is kept: a table of documents by id, and an index of their places by sequence.
+use Rattle.std.specs.Prelude.{◌≡◌, ℕ, ◌<◌, ◌≤◌, List, [], ◌∷◌, ◌++◌, cond, map, length, slice_get, unwrap_or, Option, Some, None, IfSome}
 use Rattle.std.specs.Option.{option_map, option_map_or}
 use Rattle.std.specs.Ordering.{nat_cmp}
 use Rattle.std.specs.BTreeMap.{is_at}
-use Rattle.std.specs.Map.{lookup, remove_entry}
+use Rattle.std.specs.Map.{keys_of, lookup, remove_entry}
 use Rattle.std.specs.Str.{bytes_eq}
 use Rattle.rev_tree.specs.Tree.{TreeValue, IsTree, no_revisions}
 use Rattle.couch_base.specs.Lists.{Among, Rises}
 use Rattle.couch_base.specs.Database.{Id, DocumentValue, IsDocumentTree, most}
+use Rattle.couch_base.specs.Feed.{RowValue, row_of}
 use Rattle.couch_base.specs.declared.kept.Kept.{Kept}
+
+-- the id at a place
+abbrev pub id_at : List Id → ℕ → Id
+id_at ids i = unwrap_or (slice_get ids i) []
+
+-- the index with the ids in the place of their places
+abbrev pub named : List Id → List (ℕ × ℕ) → List (ℕ × Id)
+named ids index = map (λ e. (e.0, id_at ids e.1)) index
+
+-- the same, of a table's ids
+abbrev pub feed_of : List (Id × Kept) → List (ℕ × ℕ) → List (ℕ × Id)
+feed_of docs index = named (keys_of docs) index
+
+-- each place of the index is one of so many
+abbrev pub ArePlaces : ℕ → List (ℕ × ℕ) → Type 0
+ArePlaces n index = (e : ℕ × ℕ) → Among e index → e.1 < n
 
 -- the id at a sequence of the index
 abbrev pub at_seq : ℕ → List (ℕ × Id) → Option Id
@@ -31,6 +48,10 @@ document g e = record { id = e.1; seq = e.0; tree = tree_at (g e.1) }
 abbrev pub documents : (Id → Option Kept) → List (ℕ × Id) → List DocumentValue
 documents g index = map (document g) index
 
+-- the row of an entry of the index
+abbrev pub row_by : List (Id × Kept) → ℕ × ℕ → RowValue
+row_by docs e = row_of (document (found docs) (e.0, id_at (keys_of docs) e.1))
+
 -- the index names each document of the table at its sequence, and nothing else
 pub record IsTable (g : Id → Option Kept) (index : List (ℕ × Id)) (hi : ℕ) : Type 0 where
   pub rising : Rises 0 (map (λ e. e.0) index) hi
@@ -39,13 +60,23 @@ pub record IsTable (g : Id → Option Kept) (index : List (ℕ × Id)) (hi : ℕ
   pub indexed : (id : Id) (k : Kept) → g id ≡ Some k → at_seq k.seq index ≡ Some id
   pub trees : (id : Id) (k : Kept) → g id ≡ Some k → IsDocumentTree k.tree
 
+-- what holds of a table and the index of its places
+pub record IsKept (docs : List (Id × Kept)) (index : List (ℕ × ℕ)) (hi : ℕ) : Type 0 where
+  pub table : IsTable (found docs) (feed_of docs index) hi
+  pub places : ArePlaces (length docs) index
+
+-- the place of an id's document, where it is there
+pub record IsPlace (docs : List (Id × Kept)) (id : Id) (place : Option ℕ) : Type 0 where
+  pub there : IfSome place (λ i. (k : Kept) × (slice_get docs i ≡ Some (id, k)) × (found docs id ≡ Some k))
+  pub absent : place ≡ None → found docs id ≡ None
+
 -- h has k at the id, and at others what g has
 abbrev pub Sets : (Id → Option Kept) → (Id → Option Kept) → Id → Kept → Type 0
 Sets g h id k = (q : Id) → h q ≡ cond (bytes_eq id q) (Some k) (g q)
 
 -- each sequence of the index is below s
-abbrev pub AllBelow : ℕ → List (ℕ × Id) → Type 0
-AllBelow s index = (e : ℕ × Id) → Among e index → e.0 < s
+abbrev pub AllBelow : {X : Type 0} → ℕ → List (ℕ × X) → Type 0
+AllBelow {X} s index = (e : ℕ × X) → Among e index → e.0 < s
 
 -- a write of a tree at a new sequence: to a document that is there,
 pub record Moves (old new : List (Id × Kept)) (before after : List (ℕ × Id)) (id : Id) (tree : TreeValue) (s : ℕ) (was : Kept) : Type 0 where

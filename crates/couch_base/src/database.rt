@@ -1,13 +1,15 @@
 //! Databases.
-ghost use Rattle.std.specs.Prelude.{◌≡◌, ◌<◌, ◌≤◌, ◌+◌, Ok, OnOk, OnErr, IfOk, IfErr, IfSome, None, ℕ, Bool, List, IsTrue};
+ghost use Rattle.std.specs.Prelude.{◌≡◌, ◌<◌, ◌≤◌, ◌+◌, nat_lt, Ok, OnOk, OnErr, IfOk, IfErr, IfSome, None, ℕ, Bool, List, IsTrue};
 ghost use Rattle.std.specs.Option.{option_copied};
 ghost use Rattle.rev_tree.specs.Tree.{has, merged, merge_answer};
+ghost use Rattle.couch_base.specs.Database.{most};
+ghost use Rattle.couch_base.specs.Put.{put_told, PutGives};
 
 use crate::edit::{content_of, edit_ancestry, next_is_full, parent_in};
 use crate::fault::{BaseFault, Put};
 use crate::id_hash::IdHash;
 use crate::paging::{collect, page_end};
-use crate::table::{Index, Table, write};
+use crate::table::{Index, Table, find, look, write};
 use crate::window::Window;
 use doc_json::{Body, Doc, DocId};
 use indexmap::IndexMap;
@@ -38,15 +40,15 @@ impl Model for Database {
 
     ghost coded = { coded_database };
 
-    ghost use Rattle.couch_base.specs.Table.{documents, found, IsTable};
+    ghost use Rattle.couch_base.specs.Table.{documents, feed_of, found, IsKept};
 
     ghost view = { λ a. record {
       uuid = a.uuid;
       update_seq = a.update_seq;
-      docs = documents (found a.docs.entries) a.index.entries;
+      docs = documents (found a.docs.entries) (feed_of a.docs.entries a.index.entries);
     } };
 
-    ghost invariant = { λ a. IsTable (found a.docs.entries) a.index.entries a.update_seq };
+    ghost invariant = { λ a. IsKept a.docs.entries a.index.entries a.update_seq };
 }
 
 impl Database {
@@ -128,44 +130,42 @@ impl Database {
         ensures err { OnErr result (self.new ≡ self.old) }
         ensures law { LawfulDatabase self.new }
     {
-        // The reading tells the proof that the database is lawful.
+        // The readings tell the proof that the database is lawful, and that the body is one.
         let _seq = self.update_seq();
-        let Put::Changed { .. } = self.put_answer(doc)? else {
-            return Ok(Put::Same);
+        let _revs = doc.ancestry().revs();
+        let (place, merged) = look(&self.docs, doc.id(), doc.ancestry());
+        let seq = match told(merged, self.update_seq) {
+            Ok(Put::Changed { seq }) => seq,
+            Ok(Put::Same) => return Ok(Put::Same),
+            Err(fault) => return Err(fault),
         };
-        let content = content_of(doc.deleted(), doc.body())?;
-        let seq = self.write(doc.id(), doc.ancestry(), content, origin)?;
-        Ok(Put::Changed { seq })
+        let Ok(content) = content_of(doc.deleted(), doc.body()) else {
+            return Err(BaseFault::Memory);
+        };
+        match write(
+            &mut self.docs,
+            &mut self.index,
+            place,
+            doc.id(),
+            doc.ancestry(),
+            content,
+            origin,
+            seq,
+        ) {
+            Ok(()) => {
+                self.update_seq = seq;
+                Ok(Put::Changed { seq })
+            }
+            Err(_) => Err(BaseFault::Memory),
+        }
     }
 
     /// What a put of the document answers where memory is left. It takes none.
     pub fn put_answer(&self, doc: &Doc) -> Result<Put, BaseFault>
         ensures { result ≡ put_answer self.now doc.now }
     {
-        match self.merge_answer(doc) {
-            Ok(Merged::Changed) => {
-                if self.update_seq < MOST {
-                    Ok(Put::Changed {
-                        seq: self.update_seq + 1,
-                    })
-                } else {
-                    Err(BaseFault::SeqFull)
-                }
-            }
-            Ok(Merged::Same) => Ok(Put::Same),
-            Err(contradiction) => {
-                let Contradiction {
-                    child,
-                    known,
-                    given,
-                } = contradiction;
-                Err(BaseFault::Contradiction {
-                    child,
-                    known,
-                    given,
-                })
-            }
-        }
+        let (_place, merged) = look(&self.docs, doc.id(), doc.ancestry());
+        told(merged, self.update_seq)
     }
 
     /// Edits a document: adds a revision behind a leaf, the first one of a document that is not there, or one behind the
@@ -249,18 +249,6 @@ impl Database {
         Ok(Window::new(since, hi, rows))
     }
 
-    /// What merging the document into its tree would do.
-    fn merge_answer(&self, doc: &Doc) -> Result<Merged, Contradiction>
-        ensures { result ≡ merge_answer (tree_of self.now.docs doc.now.id) doc.now.ancestry }
-    {
-        // An ancestry has a revision: the reading tells the proof.
-        let _revs = doc.ancestry().revs();
-        match self.tree(doc.id()) {
-            Some(tree) => tree.merge_answer(doc.ancestry()),
-            None => Ok(Merged::Changed),
-        }
-    }
-
     /// The revision that an edit stands on.
     fn parent_of(&self, id: &DocId, parent: Option<Rev>) -> Result<Option<Rev>, BaseFault>
         ensures { result ≡ parent_answer (tree_in self.now.docs id.now) parent }
@@ -306,9 +294,11 @@ impl Database {
         // An ancestry has a revision: the reading tells the proof.
         let _revs = ancestry.revs();
         let next = self.update_seq + 1;
+        let place = find(&self.docs, id);
         match write(
             &mut self.docs,
             &mut self.index,
+            place,
             id,
             ancestry,
             content,
@@ -320,6 +310,37 @@ impl Database {
                 Ok(next)
             }
             Err(_) => Err(BaseFault::Memory),
+        }
+    }
+}
+
+/// What a put answers, of what merging would do and the update sequence.
+fn told(merged: Result<Merged, Contradiction>, update_seq: u64) -> Result<Put, BaseFault>
+    ensures answer { result ≡ put_told merged (nat_lt update_seq most) (update_seq + 1) }
+    ensures gives { PutGives result (put_told merged (nat_lt update_seq most) (update_seq + 1)) }
+{
+    match merged {
+        Ok(Merged::Changed) => {
+            if update_seq < MOST {
+                Ok(Put::Changed {
+                    seq: update_seq + 1,
+                })
+            } else {
+                Err(BaseFault::SeqFull)
+            }
+        }
+        Ok(Merged::Same) => Ok(Put::Same),
+        Err(contradiction) => {
+            let Contradiction {
+                child,
+                known,
+                given,
+            } = contradiction;
+            Err(BaseFault::Contradiction {
+                child,
+                known,
+                given,
+            })
         }
     }
 }

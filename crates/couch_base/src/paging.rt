@@ -1,31 +1,31 @@
 //! The rows of a page.
-ghost use Rattle.std.specs.Prelude.{◌≡◌, ◌<◌, IfOk, IfErr, map, take};
+ghost use Rattle.std.specs.Prelude.{◌≡◌, ◌<◌, IfOk, IfErr, length, map, take};
 ghost use Rattle.std.specs.Ordering.{nat_cmp};
 ghost use Rattle.std.specs.BTreeMap.Range.{entries_between};
 ghost use Rattle.std.specs.declared.ops.Bound.TheVariants.{Included, Excluded};
-ghost use Rattle.couch_base.specs.Table.{found, document};
-ghost use Rattle.couch_base.specs.Feed.{row_of, last_seq, page_end};
+ghost use Rattle.couch_base.specs.Table.{row_by, ArePlaces};
+ghost use Rattle.couch_base.specs.Feed.{last_seq, page_end};
 
 use crate::fault::BaseFault;
 use crate::row::Row;
 use crate::table::{Index, Table};
-use doc_json::DocId;
 use std::alloc::Global;
 use std::ops::Bound;
 
 /// The row of a document of the index.
-fn row_at(alloc: Global, docs: &Table, seq: u64, id: &DocId) -> Result<Row, BaseFault>
-    ensures row { IfOk result (λ r. r ≡ row_of (document (found docs.now.entries) (seq, id.now))) }
+fn row_at(alloc: Global, docs: &Table, seq: u64, place: usize) -> Result<Row, BaseFault>
+    requires { place < length docs.now.entries }
+    ensures row { IfOk result (λ r. r ≡ row_by docs.now.entries (seq, place)) }
     ensures err { IfErr result (λ e. e ≡ BaseFault.Memory) }
 {
-    let Ok(again) = id.copy(alloc) else {
+    let Some((id, kept)) = docs.get_index(place) else {
+        unreachable!()
+    };
+    let Ok(id) = id.copy(alloc) else {
         return Err(BaseFault::Memory);
     };
-    let Some(kept) = docs.get(id) else {
-        return Ok(Row::new(seq, again, Vec::new(alloc)));
-    };
     match kept.tree.leaves(alloc) {
-        Ok(leaves) => Ok(Row::new(seq, again, leaves)),
+        Ok(leaves) => Ok(Row::new(seq, id, leaves)),
         Err(_) => Err(BaseFault::Memory),
     }
 }
@@ -39,19 +39,20 @@ pub(crate) fn collect(
     goal: u64,
     limit: u64,
 ) -> Result<Vec<Row>, BaseFault>
-    requires { since < goal }
+    requires range { since < goal }
+    requires places { ArePlaces (length docs.now.entries) index.now.entries }
     ensures rows { IfOk result (λ v. v.items
-        ≡ take limit (map (λ e. row_of (document (found docs.now.entries) e))
+        ≡ take limit (map (row_by docs.now.entries)
         (entries_between nat_cmp (Excluded since) (Included goal) index.now.entries))) }
     ensures err { IfErr result (λ e. e ≡ BaseFault.Memory) }
 {
     let mut rows: Vec<Row> = Vec::new(alloc);
     let mut range = index.range((Bound::Excluded(since), Bound::Included(goal)));
     while (rows.len() as u64) < limit {
-        let Some((seq, id)) = range.next() else {
+        let Some((seq, place)) = range.next() else {
             break;
         };
-        let row = row_at(alloc, docs, *seq, id)?;
+        let row = row_at(alloc, docs, *seq, *place)?;
         let Ok(()) = rows.push(row) else {
             return Err(BaseFault::Memory);
         };

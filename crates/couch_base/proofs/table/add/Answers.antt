@@ -1,12 +1,33 @@
-use Rattle.std.proofs.Common.{◌∙◌, ap, subst, rules}
+use Rattle.std.proofs.Common.{◌≡◌, ◌++◌, ◌∷◌, [], length, ◌∙◌, ap, subst, rules}
+use Rattle.std.specs.Str.{bytes_eq}
+use Rattle.indexmap.specs.IndexMap.{insert_entry}
 use Rattle.rev_tree.specs.Tree.{IsTree, merged}
+use Rattle.couch_base.specs.Database.{Id}
+use Rattle.couch_base.specs.declared.kept.Kept.{Kept}
+use Rattle.couch_base.proofs.Naming.{added_feed, added_places, inserted}
 use Rattle.couch_base.proofs.table.add.Goals as goal
+
+-- the table after it
+grown : (c : goal.Joined-branch-5) → c.insert.new.self.entries ≡ c.args.docs.now.entries ++ (c.args.id.now, record { seq = c.args.next; tree = c.merge_change.new.self }) ∷ []
+grown c =
+    let kept : Kept = record { seq = c.args.next; tree = c.merge_change.new.self } in
+    c.in_ok-insert.ensures.entries
+    ∙ ap (λ es. insert_entry bytes_eq es c.in-Ok.key kept) c.in_ok-reserve.ensures.entries
+    ∙ ap (λ (k : Id). insert_entry bytes_eq c.args.docs.now.entries k kept) c.in-Ok.ensures.copied
+    ∙ inserted c.args.docs.now.entries c.args.id.now kept c.requires.absent
+
+-- and the index
+longer : (c : goal.Joined-branch-5) → c.note.new.index.entries ≡ c.args.index.now.entries ++ (c.args.next, length c.args.docs.now.entries) ∷ []
+longer c = c.in_ok-note.ensures.ok ∙ ap (λ n. c.args.index.now.entries ++ (c.args.next, n) ∷ []) (c.len.ensures.len ∙ ap (λ es. length es) c.in_ok-reserve.ensures.entries)
 
 pub returns-clause-ok : goal.returns-clause-ok
 returns-clause-ok c =
     let made = c.in_ok-merge_change.ensures.ok ∙ ap (λ t. merged t c.args.ancestry.now c.args.content c.args.origin) c.new-tree.ensures in
     record {
       sets = search rules;
-      index = search rules;
+      index = added_feed c.args.docs.now.entries c.insert.new.self.entries c.args.index.now.entries c.note.new.index.entries c.args.next c.args.id.now _ (grown c) (longer c) c.requires.places;
       lawful = subst IsTree made c.in_ok-merge_change.ensures.tree;
     }
+
+pub returns-clause-places : goal.returns-clause-places
+returns-clause-places c = added_places c.args.docs.now.entries c.insert.new.self.entries c.args.index.now.entries c.note.new.index.entries c.args.next _ (grown c) (longer c) c.requires.places
