@@ -330,17 +330,10 @@ fn told(merged: Result<Merged, Contradiction>, update_seq: u64) -> Result<Put, B
             }
         }
         Ok(Merged::Same) => Ok(Put::Same),
-        Err(contradiction) => {
-            let Contradiction {
-                child,
-                known,
-                given,
-            } = contradiction;
-            Err(BaseFault::Contradiction {
-                child,
-                known,
-                given,
-            })
-        }
+        Err(found) => Err(BaseFault::Contradiction {
+            child: found.child,
+            known: found.known,
+            given: found.given,
+        }),
     }
 }
