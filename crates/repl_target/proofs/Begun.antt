@@ -1,5 +1,5 @@
 -- A session that began, in any later target that has grown by what the source answers.
-use Rattle.std.proofs.Common.{◌≡◌, ◌≤◌, Bool, true, false, ◌∷◌, Result, Ok, Err, is_ok, refl, sym, ap, ◌∙◌, subst, inl, inr, arith}
+use Rattle.std.proofs.Common.{◌≡◌, ◌≤◌, Bool, false, ◌∷◌, Result, Ok, Err, is_ok, refl, sym, ap, ◌∙◌, subst, inl, inr, arith}
 use Rattle.std.proofs.lemmas.Bool.{cond_both, false≢true, both_ways, eq-eqb}
 use Rattle.rev_tree.specs.declared.origin.SessionId.{SessionId}
 use Rattle.doc_json.specs.Document.{Document}
@@ -12,7 +12,7 @@ use Rattle.repl_target.specs.declared.fault.TargetFault.TheVariants as faults
 use Rattle.repl_target.specs.declared.replication.Plan.{Plan}
 use Rattle.repl_target.specs.Peer.{PeerValue, SessionValue, is_of, holds}
 use Rattle.repl_target.specs.Covered.{covers}
-use Rattle.repl_target.specs.Law.{Lawful}
+use Rattle.repl_target.specs.Law.{LawfulSessions}
 use Rattle.repl_target.specs.Sessions.{goal_answer, base_answer, new_session, begun}
 use Rattle.repl_target.specs.Audit.{rep_between}
 use Rattle.repl_target.specs.Replication.{start_between, base_at, checkpoint_of, begins_answer, after_begins, CoversFrom}
@@ -39,7 +39,7 @@ fresh_of source target plan h =
     cond_both (holds target.sessions plan.session) (Err faults.SessionExists) answer (λ (r : Result (Unit {0}) TargetFault). r ≡ Ok tt → holds target.sessions plan.session ≡ false)
     (λ _ k. absurd (false≢true (ap is_ok k))) (λ e _. e) h
 
-pub later_session : (refuses : Document → Bool) (source target : PeerValue) (plan : Plan) (now : PeerValue) → LawfulDatabase source.db → Lawful refuses (after_begins source target plan) → begins_answer source target plan ≡ Ok tt → IsGrown refuses source.db (after_begins source target plan) now → Later source target plan now
+pub later_session : (refuses : Document → Bool) (source target : PeerValue) (plan : Plan) (now : PeerValue) → LawfulDatabase source.db → LawfulSessions refuses (after_begins source target plan) → begins_answer source target plan ≡ Ok tt → IsGrown refuses source.db (after_begins source target plan) now → Later source target plan now
 later_session refuses source target plan now law l ok grown =
     let p = after_begins source target plan in
     let new = new_session plan.session (rep_between source target) (base_at (checkpoint_of source target)) (start_between source target) source.db.update_seq plan.at in
@@ -65,7 +65,7 @@ later_session refuses source target plan now law l ok grown =
     }
 
 -- where it is recorded at the goal, all of the source's feed above its start is covered
-pub later_covers : (refuses : Document → Bool) (source target : PeerValue) (plan : Plan) (now : PeerValue) → Lawful refuses now → (t : Later source target plan now) → source.db.update_seq ≤ t.session.recorded → CoversFrom source now (start_between source target)
+pub later_covers : (refuses : Document → Bool) (source target : PeerValue) (plan : Plan) (now : PeerValue) → LawfulSessions refuses now → (t : Later source target plan now) → source.db.update_seq ≤ t.session.recorded → CoversFrom source now (start_between source target)
 later_covers refuses source target plan now l t reached row m leaf k =
     let d = feed_member source.db (start_between source target) source.db.update_seq row m in
     let all = windows_cover refuses source.db now t.session (l.sessions t.session t.held) t.tied d.0 d.1 (omega (arith, t.start, d.3)) (omega (arith, d.4, reached)) in

@@ -22,7 +22,7 @@ use Rattle.repl_target.specs.Covered.{refusal_of, covers_window}
 use Rattle.repl_target.specs.Writing.{load_edited}
 use Rattle.repl_target.specs.Sessions.{on_found, on_session, begin_answer, new_session, begun, append_in, with_window, recorded_at}
 use Rattle.repl_target.specs.Settling.{Settling, settle_as, settle_one, settle_docs, settled_before, settle_check, settling_of, after_documents, with_done, after_all, after_front, after_stop, settled_at, after_settle, is_full}
-use Rattle.repl_target.specs.Law.{Lawful}
+use Rattle.repl_target.specs.Law.{LawfulSessions}
 use Rattle.repl_target.specs.Later.{IsLaterPeer}
 use Rattle.repl_target.specs.Audit.{rep_between}
 use Rattle.repl_target.proofs.Members.{Among-map, Among-push}
@@ -47,7 +47,7 @@ page_window db w law p =
 -- ---- the law
 
 -- what a call leaves of a lawful peer
-pub call_law : (refuses : Document → Bool) (source : DatabaseValue) (p : PeerValue) (c : Call) → LawfulDatabase source → IsFrom source c → Lawful refuses p → Lawful refuses (after_call refuses p c) × IsLaterPeer p (after_call refuses p c)
+pub call_law : (refuses : Document → Bool) (source : DatabaseValue) (p : PeerValue) (c : Call) → LawfulDatabase source → IsFrom source c → LawfulSessions refuses p → LawfulSessions refuses (after_call refuses p c) × IsLaterPeer p (after_call refuses p c)
 call_law refuses source p (Load doc) law from l = (load_law refuses p doc l, load_later p doc)
 call_law refuses source p (Edit id parent deleted body) law from l = (edit_law refuses p id parent deleted body l, edit_later p id parent deleted body)
 call_law refuses source p (Begin session rep base start goal at) law from l = (begin_law refuses p session rep base start goal at from l, begin_later p session rep base start goal at)
@@ -59,7 +59,7 @@ call_law refuses source p (Stop session parcel settled) law from l = after_stop_
 call_law refuses source p (Record session at) law from l = (record_law refuses p session at l, record_later refuses p session at l)
 call_law refuses source p (Conclude session at) law from l = (conclude_law refuses p session at l, conclude_later refuses p session at l)
 
-pub calls_law : (refuses : Document → Bool) (source : DatabaseValue) (calls : List Call) (p : PeerValue) → LawfulDatabase source → AllFrom source calls → Lawful refuses p → Lawful refuses (after_calls refuses p calls) × IsLaterPeer p (after_calls refuses p calls)
+pub calls_law : (refuses : Document → Bool) (source : DatabaseValue) (calls : List Call) (p : PeerValue) → LawfulDatabase source → AllFrom source calls → LawfulSessions refuses p → LawfulSessions refuses (after_calls refuses p calls) × IsLaterPeer p (after_calls refuses p calls)
 calls_law refuses source [] p law from l = (l, IsLaterPeer-same p)
 calls_law refuses source (c ∷ calls) p law from l =
     let h = call_law refuses source p c law from.0 l in
@@ -186,7 +186,7 @@ calls_store Q refuses source (c ∷ calls) p law from h = calls_store Q refuses 
 -- ---- pairs of peers
 
 -- two peers stay tied while the target grows by what the source answers
-pub tied_grown : (refuses : Document → Bool) (source given now : PeerValue) → LawfulDatabase source.db → Lawful refuses given → IsGrown refuses source.db given now → IsTiedPair source given → IsTiedPair source now
+pub tied_grown : (refuses : Document → Bool) (source given now : PeerValue) → LawfulDatabase source.db → LawfulSessions refuses given → IsGrown refuses source.db given now → IsTiedPair source given → IsTiedPair source now
 tied_grown refuses source given now law l grown h =
     let after = after_calls refuses given grown.0 in
     let later = (calls_law refuses source.db grown.0 given law grown.1 l).1 in

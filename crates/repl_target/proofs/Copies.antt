@@ -1,5 +1,5 @@
 -- Replicated into a peer that was empty, without a failure, each document is as it is at the source.
-use Rattle.std.proofs.Common.{◌≡◌, ◌⊎◌, ℕ, zero, suc, ◌+◌, ◌<◌, ◌≤◌, nat_lt, nat_le, Bool, true, false, cond, ◌&&◌, ◌||◌, List, [], ◌∷◌, ◌++◌, map, filter, length, Option, Some, None, is_some, unwrap_or, ◌==◌, Result, Ok, Err, is_ok, OnOk, IfOk, refl, sym, ap, ◌∙◌, subst, inl, inr, arith}
+use Rattle.std.proofs.Common.{◌≡◌, ℕ, zero, suc, ◌≤◌, nat_lt, nat_le, Bool, true, false, cond, ◌&&◌, ◌||◌, List, [], ◌∷◌, ◌++◌, map, filter, Option, Some, None, is_some, unwrap_or, ◌==◌, Result, Ok, Err, is_ok, IfOk, refl, sym, ap, ◌∙◌, subst, inl, inr, arith}
 use Rattle.std.specs.List.{AllByRecursion, list_any}
 use Rattle.std.specs.Str.{bytes_eq}
 use Rattle.std.proofs.lemmas.Bool.{and_parts, and_from, cond_both, false≢true, or_cases, or_right}
@@ -15,25 +15,25 @@ use Rattle.rev_tree.specs.LeafLaws.{is_among-leaves}
 use Rattle.rev_tree.specs.declared.origin.Origin.{Origin}
 use Rattle.rev_tree.specs.declared.origin.SessionId.{SessionId}
 use Rattle.doc_json.specs.Document.{Document}
-use Rattle.couch_base.specs.Lists.{Among, Rises}
+use Rattle.couch_base.specs.Lists.{Among}
 use Rattle.couch_base.specs.ListLaws.{none_some, some_is}
 use Rattle.range_front.specs.Front.{low_water}
 use Rattle.couch_base.specs.Database.{Id, DocumentValue, DatabaseValue, LawfulDatabase, tree_in, tree_of, with_tree}
 use Rattle.couch_base.specs.DatabaseLaws.{IsDocumentTree-tree_in}
 use Rattle.couch_base.specs.DocumentTreeLaws.{IsTree-no_revisions}
 use Rattle.couch_base.specs.WriteLaws.{tree_in-with_tree}
-use Rattle.couch_base.specs.Feed.{RowValue, WindowValue, row_of, feed}
+use Rattle.couch_base.specs.Feed.{WindowValue, row_of, feed}
 use Rattle.couch_base.specs.Messages.{WantedValue, ParcelValue, leaf_document, opened, fetched}
-use Rattle.couch_base.specs.Put.{put_answer, is_changed, after_put, content_of}
-use Rattle.repl_target.specs.Peer.{PeerValue, SessionValue, RefusedValue, is_of, session_in, with_session}
+use Rattle.couch_base.specs.Put.{put_answer, is_changed, after_put}
+use Rattle.repl_target.specs.Peer.{PeerValue, SessionValue, is_of, session_in, with_session}
 use Rattle.repl_target.specs.Covered.{refusal_of, in_ledger, covers, covers_window}
-use Rattle.repl_target.specs.Law.{Lawful}
+use Rattle.repl_target.specs.Law.{LawfulSessions}
 use Rattle.repl_target.specs.Audit.{rep_between}
 use Rattle.repl_target.specs.Logs.{log_of, source_log}
 use Rattle.repl_log.specs.Log.{common}
-use Rattle.repl_target.specs.Sessions.{on_found, on_session, found_answer, new_session, begun, append_in, with_window, after_append, recorded_at, after_record, after_conclude, conclude_answer}
-use Rattle.repl_target.specs.Settling.{Settling, fed, with_arrival, is_full, settle_as, settle_one, settle_docs, settle_check, settling_of, with_settling, with_done, after_all, Settles, SettleGives}
-use Rattle.repl_target.specs.Replication.{Reading, parcel_for, Carries, Reads, ReadsAll, start_at, start_between, after_begins, first_reading, closed_as, Closes, CoversFrom, IsReported, IsEmpty, SameDocuments}
+use Rattle.repl_target.specs.Sessions.{on_found, on_session, new_session, begun, append_in, with_window, after_append, recorded_at, conclude_answer}
+use Rattle.repl_target.specs.Settling.{Settling, fed, with_arrival, is_full, settle_as, settle_one, settle_docs, settle_check, settling_of, with_settling, with_done, Settles, SettleGives}
+use Rattle.repl_target.specs.Replication.{Reading, parcel_for, Carries, Reads, ReadsAll, start_at, start_between, after_begins, closed_as, Closes, CoversFrom, IsReported, IsEmpty, SameDocuments}
 use Rattle.repl_target.specs.declared.fault.Reason.{Reason}
 use Rattle.repl_target.specs.declared.fault.Report.{Report}
 use Rattle.repl_target.specs.declared.fault.Settled.{Settled}
@@ -41,7 +41,7 @@ use Rattle.repl_target.specs.declared.fault.TargetFault.{TargetFault}
 use Rattle.repl_target.specs.declared.replication.Plan.{Plan}
 use Rattle.repl_target.proofs.Members.{Among-map, Among-mapped, any_member}
 use Rattle.repl_target.proofs.Keeping.{one_session, session_found}
-use Rattle.repl_target.proofs.SettleLaws.{Settleable, settle_told}
+use Rattle.repl_target.proofs.SettleLaws.{settle_told}
 use Rattle.repl_target.proofs.Parts.{IsPart, nothing_is_part, given, part_merged, whole_part}
 use Rattle.repl_target.proofs.Honest.{rises_member}
 use Rattle.repl_target.proofs.Reading.{Started, less-is, concluded, all-covered, all-reported, all-lawful}
@@ -235,7 +235,7 @@ row_there db d law m =
     within-is a b h = grind (arith, h)
 
 -- a leaf that is covered, where nothing is in a ledger
-covered_there : (refuses : Document → Bool) (p : PeerValue) (id : SessionId) (s : SessionValue) → Lawful refuses p → ((x : SessionValue) → Among x p.sessions → x.id ≡ id) → session_in p.sessions id ≡ Some s → s.failures ≡ 0
+covered_there : (refuses : Document → Bool) (p : PeerValue) (id : SessionId) (s : SessionValue) → LawfulSessions refuses p → ((x : SessionValue) → Among x p.sessions → x.id ≡ id) → session_in p.sessions id ≡ Some s → s.failures ≡ 0
     → (doc : Id) (r : RevId) → covers p doc r ≡ true → has (tree_of p.db.docs doc) r ≡ true
 covered_there refuses p id s law only held none doc r h =
     elim (or_cases _ _ h) [
@@ -249,14 +249,14 @@ covered_there refuses p id s law only held none doc r h =
     ]
 
 copied : (refuses : Document → Bool) (source target : PeerValue) (plan : Plan) (from : Reading) (read : PeerValue) (report : Report) (source' target' : PeerValue)
-    → Started source target plan from → LawfulDatabase source.db → Lawful refuses from.target → ReadsAll refuses source.db plan from read → Closes source read plan (Ok report) source' target'
+    → Started source target plan from → LawfulDatabase source.db → LawfulSessions refuses from.target → ReadsAll refuses source.db plan from read → Closes source read plan (Ok report) source' target'
     → IsEmpty target → report.failures ≡ 0 → SameDocuments source.db target'.db
 copied refuses source target plan from read report source' target' s law lawful reads closes empty none = same
   where
     reported : IsReported source target target' plan report
     reported = all-reported refuses source target plan from read (Ok report) source' target' s law lawful reads closes
 
-    lawful' : Lawful refuses target'
+    lawful' : LawfulSessions refuses target'
     lawful' = all-lawful refuses source target plan from read (Ok report) source' target' s law lawful reads closes
 
     all_covered : CoversFrom source target' 0
@@ -287,7 +287,7 @@ copied refuses source target plan from read report source' target' s law lawful 
     same id = whole_part (tree_of source.db.docs id) (tree_of target'.db.docs id) (tree_lawful source.db law id) (copying.part id) (leaf_there id)
 
 pub all-copied : (refuses : Document → Bool) (source target : PeerValue) (plan : Plan) (from : Reading) (read : PeerValue) (result : Result Report TargetFault) (source' target' : PeerValue)
-    → Started source target plan from → LawfulDatabase source.db → Lawful refuses from.target → ReadsAll refuses source.db plan from read → Closes source read plan result source' target'
+    → Started source target plan from → LawfulDatabase source.db → LawfulSessions refuses from.target → ReadsAll refuses source.db plan from read → Closes source read plan result source' target'
     → IfOk result (λ report. IsEmpty target → report.failures ≡ 0 → SameDocuments source.db target'.db)
 all-copied refuses source target plan from read (Err why) source' target' s law lawful reads closes = tt
 all-copied refuses source target plan from read (Ok report) source' target' s law lawful reads closes = copied refuses source target plan from read report source' target' s law lawful reads closes

@@ -16,7 +16,7 @@ use Rattle.repl_log.specs.Log.{is_of}
 use Rattle.repl_log.specs.LogLaws.{common-IsCommon, common-le}
 use Rattle.repl_target.specs.Peer.{PeerValue, SessionValue, entry_of, same_rep}
 use Rattle.repl_target.specs.Covered.{covers}
-use Rattle.repl_target.specs.Law.{LawfulSession, Lawful, AllBased}
+use Rattle.repl_target.specs.Law.{LawfulSession, LawfulSessions, AllBased}
 use Rattle.repl_target.specs.Logs.{target_log}
 use Rattle.repl_target.specs.Audit.{rep_between, hole_at, hole_of, audit_answer, CoversFeed, IsAudited}
 use Rattle.repl_target.specs.Replication.{start_at, checkpoint_of, start_between}
@@ -67,7 +67,7 @@ based_covers p ds rep (x ∷ ss) b own s m =
     ]
 
 -- all that a session of the replication has recorded is covered
-pub session_covers : (refuses : Document → Bool) (source target : PeerValue) → Lawful refuses target → IsTiedPair source target → (s : SessionValue) → Among s target.sessions → s.rep ≡ rep_between source target → (c : ℕ) → c ≤ s.recorded → CoversFeed source target c
+pub session_covers : (refuses : Document → Bool) (source target : PeerValue) → LawfulSessions refuses target → IsTiedPair source target → (s : SessionValue) → Among s target.sessions → s.rep ≡ rep_between source target → (c : ℕ) → c ≤ s.recorded → CoversFeed source target c
 session_covers refuses source target law tied s m e c less r rm l k =
     let d = feed_member source.db 0 c r rm in
     let all = based_covers target source.db.docs (rep_between source target) target.sessions law.based
@@ -80,14 +80,14 @@ entry_session target rep t m =
     let f = Among-filter (λ (s : SessionValue). same_rep s.rep rep) g.0 target.sessions g.1 in
     (g.0, f.0, same_rep-is g.0.rep rep f.1, g.2)
 
-pub honest_is : (refuses : Document → Bool) (source target : PeerValue) → Lawful refuses target → IsTiedPair source target → LogsAreHonest source target
+pub honest_is : (refuses : Document → Bool) (source target : PeerValue) → LawfulSessions refuses target → IsTiedPair source target → LogsAreHonest source target
 honest_is refuses source target law tied e em t tm same =
     let s = entry_session target (rep_between source target) t tm in
     let rec : t.recorded ≡ s.0.recorded = ap (λ (y : EntryValue). y.recorded) s.3 in
     session_covers refuses source target law tied s.0 s.1 s.2 (min e.recorded t.recorded) (omega (arith, rec))
 
 -- so an audit finds no hole
-pub audited_is : (refuses : Document → Bool) (source target : PeerValue) → Lawful refuses target → IsTiedPair source target → IsAudited source target
+pub audited_is : (refuses : Document → Bool) (source target : PeerValue) → LawfulSessions refuses target → IsTiedPair source target → IsAudited source target
 audited_is refuses source target law tied session n e =
     let c = common-IsCommon _ (target_log target (rep_between source target)) (session, n) e in
     let f = found_member (is_of session) (target_log target (rep_between source target)) c.at_target c.target_has in
@@ -97,7 +97,7 @@ audited_is refuses source target law tied session n e =
     session_covers refuses source target law tied s.0 s.1 s.2 n (omega (arith, rec, le.1))
 
 -- none of the source's feed up to the common checkpoint is a hole
-pub tied_none : (refuses : Document → Bool) (source target : PeerValue) → Lawful refuses target → IsTiedPair source target → audit_answer source target ≡ None
+pub tied_none : (refuses : Document → Bool) (source target : PeerValue) → LawfulSessions refuses target → IsTiedPair source target → audit_answer source target ≡ None
 tied_none refuses source target law tied = go (checkpoint_of source target) refl
   where
     go : (o : Option (SessionId × ℕ)) → checkpoint_of source target ≡ o → hole_at source target o ≡ None
@@ -111,7 +111,7 @@ clean_from (Hole seq id rev) e = cc
 -- ---- where a replication starts
 
 -- a start is what a session has recorded, so it is no greater than the end of a front
-pub start_small : (refuses : Document → Bool) (source target : PeerValue) → Lawful refuses target → start_between source target < 2 ^ 64
+pub start_small : (refuses : Document → Bool) (source target : PeerValue) → LawfulSessions refuses target → start_between source target < 2 ^ 64
 start_small refuses source target law = go (checkpoint_of source target) refl
   where
     go : (o : Option (SessionId × ℕ)) → checkpoint_of source target ≡ o → start_at o < 2 ^ 64

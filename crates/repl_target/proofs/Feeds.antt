@@ -1,14 +1,12 @@
 -- The first unknown leaf of a feed, and of its pages.
-use Rattle.std.proofs.Common.{◌≡◌, ℕ, zero, suc, ◌+◌, ◌<◌, ◌≤◌, nat_lt, nat_le, ◌==◌, Bool, true, false, cond, not, inl, inr, ◌&&◌, List, [], ◌∷◌, ◌++◌, map, filter, length, take, drop, get_or, min, Option, Some, None, Ok, Err, refl, sym, ap, ◌∙◌, subst, arith, take_all, length-take}
-use Rattle.std.specs.List.{find, AllByRecursion}
+use Rattle.std.proofs.Common.{◌≡◌, ℕ, ◌+◌, ◌<◌, Bool, true, false, cond, not, inl, inr, List, [], ◌∷◌, ◌++◌, length, drop, get_or, Option, Some, None, refl, sym, ap, ◌∙◌}
+use Rattle.std.specs.List.{find}
 use Rattle.std.specs.Option.{option_or, option_map}
-use Rattle.std.proofs.lemmas.Bool.{cond_both, and_parts, and_from, both_ways, ltb-true, leb-true, eqb-false}
 use Rattle.std.proofs.lemmas.List.{drop_more}
 use Rattle.rev_core.specs.Rev.{RevId}
-use Rattle.couch_base.specs.Lists.{Among, Rises}
-use Rattle.couch_base.specs.Database.{Id, DocumentValue, DatabaseValue, LawfulDatabase}
-use Rattle.couch_base.specs.Feed.{RowValue, WindowValue, row_of, feed, last_seq, page, page_answer}
-use Rattle.couch_base.specs.declared.fault.BaseFault.TheVariants as base_faults
+use Rattle.couch_base.specs.Lists.{Among}
+use Rattle.couch_base.specs.Database.{Id, DatabaseValue, LawfulDatabase}
+use Rattle.couch_base.specs.Feed.{RowValue, feed, page}
 use Rattle.repl_target.specs.Peer.{PeerValue}
 use Rattle.repl_target.specs.Audit.{hole_at, audit_answer, IsAudited}
 use Rattle.repl_target.specs.Covered.{Leaf, covers, unknown_in, first_unknown}

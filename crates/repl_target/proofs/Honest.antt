@@ -7,7 +7,7 @@ use Rattle.range_front.specs.Front.{is_done, low_water}
 use Rattle.range_front.specs.FrontLaws.{reached, is_window-is_done}
 use Rattle.repl_target.specs.Peer.{PeerValue, SessionValue}
 use Rattle.repl_target.specs.Covered.{Honest}
-use Rattle.repl_target.specs.Law.{LawfulSession, Lawful}
+use Rattle.repl_target.specs.Law.{LawfulSession, LawfulSessions}
 use Rattle.repl_target.proofs.Members.{Among-mapped, each_member}
 use Rattle.repl_target.proofs.Windows.{windows-follow, window-above, window-stored, one_window}
 
@@ -38,12 +38,12 @@ reached_done refuses p s l w m n above below under =
     subst (λ a. is_done s.front a w.hi ≡ true) lo (subst (λ b. is_done s.front at.0 b ≡ true) hi at.4)
 
 -- all that a session of the peer has recorded of its windows is covered
-pub honest_is : (refuses : Document → Bool) (p : PeerValue) → Lawful refuses p → (s : SessionValue) → Among s p.sessions → Honest p s s.recorded
+pub honest_is : (refuses : Document → Bool) (p : PeerValue) → LawfulSessions refuses p → (s : SessionValue) → Among s p.sessions → Honest p s s.recorded
 honest_is refuses p l s held w m row n under leaf k =
     let law = l.sessions s held in
     let within = row_within w row (each_member IsWindow w s.windows law.windows m) n in
     law.done w m (reached_done refuses p s law w m row.seq within.0 within.1 (omega (arith, under, law.recorded))) row n leaf k
 
 -- each document that a session has read was written or refused
-pub counts_are : (refuses : Document → Bool) (p : PeerValue) → Lawful refuses p → (s : SessionValue) → Among s p.sessions → s.read ≡ s.written + s.failures
+pub counts_are : (refuses : Document → Bool) (p : PeerValue) → LawfulSessions refuses p → (s : SessionValue) → Among s p.sessions → s.read ≡ s.written + s.failures
 counts_are refuses p l s held = (l.sessions s held).read

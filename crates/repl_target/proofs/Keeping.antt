@@ -13,7 +13,7 @@ use Rattle.couch_base.specs.Database.{Id, DatabaseValue}
 use Rattle.couch_base.specs.WriteLaws.{IsLater, IsLater-same, IsLater-later}
 use Rattle.repl_target.specs.Peer.{PeerValue, SessionValue, WrittenValue, RefusedValue, is_of, session_in, with_session}
 use Rattle.repl_target.specs.Covered.{in_ledger, covers, rightly_refused}
-use Rattle.repl_target.specs.Law.{LawfulSession, AllBased, Lawful, session_numbers}
+use Rattle.repl_target.specs.Law.{LawfulSession, AllBased, LawfulSessions, session_numbers}
 use Rattle.repl_target.specs.Later.{Keeps, IsLaterPeer}
 use Rattle.repl_target.proofs.Members.{Among-map, Among-mapped, any_member, any_from, each_member, found_member}
 
@@ -103,7 +103,7 @@ numbers-map f (s ∷ sessions) k =
 
 -- each session changes by f, lawfully; the database and the local writes become later ones
 pub mapped_law : (refuses : Document → Bool) (p q : PeerValue) (f : SessionValue → SessionValue) → q.sessions ≡ map f p.sessions → IsLater p.db q.db → ((n : ℕ) (x : WrittenValue) → slice_get p.locals n ≡ Some x → slice_get q.locals n ≡ Some x)
-    → ((s : SessionValue) → Among s p.sessions → Keeps s (f s)) → (IsLaterPeer p q → (s : SessionValue) → Among s p.sessions → LawfulSession refuses q s → LawfulSession refuses q (f s)) → Lawful refuses p → Lawful refuses q × IsLaterPeer p q
+    → ((s : SessionValue) → Among s p.sessions → Keeps s (f s)) → (IsLaterPeer p q → (s : SessionValue) → Among s p.sessions → LawfulSession refuses q s → LawfulSession refuses q (f s)) → LawfulSessions refuses p → LawfulSessions refuses q × IsLaterPeer p q
 mapped_law refuses p q f is later locals keeps lawful l =
     let after : IsLaterPeer p q = record { db = later; locals = locals; sessions = λ s m. (f s, subst (Among (f s)) (sym is) (Among-mapped f s p.sessions m), keeps s m) } in (
       record {
@@ -149,7 +149,7 @@ with_session_holds sessions s t m e =
 -- a session that the peer holds changes, lawfully; the database becomes a later one
 pub session_law : (refuses : Document → Bool) (p : PeerValue) (db : DatabaseValue) (s t : SessionValue) → Among s p.sessions → IsLater p.db db → Keeps s t
     → (IsLaterPeer p (record p { db = db; sessions = with_session p.sessions t }) → LawfulSession refuses (record p { db = db; sessions = with_session p.sessions t }) s → LawfulSession refuses (record p { db = db; sessions = with_session p.sessions t }) t)
-    → Lawful refuses p → Lawful refuses (record p { db = db; sessions = with_session p.sessions t }) × IsLaterPeer p (record p { db = db; sessions = with_session p.sessions t })
+    → LawfulSessions refuses p → LawfulSessions refuses (record p { db = db; sessions = with_session p.sessions t }) × IsLaterPeer p (record p { db = db; sessions = with_session p.sessions t })
 session_law refuses p db s t m later keeps lawful l =
     let q : PeerValue = record p { db = db; sessions = with_session p.sessions t } in
     let f : SessionValue → SessionValue = λ x. cond (is_of t.id x) t x in

@@ -22,14 +22,14 @@ use Rattle.repl_target.specs.declared.fault.TargetFault.TheVariants as faults
 use Rattle.repl_target.specs.Peer.{PeerValue, SessionValue, WrittenValue, new_peer_at, written_of, is_of, session_in, holds, same_rep}
 use Rattle.repl_target.specs.Writing.{next_local, after_load, load_edited, after_edit}
 use Rattle.repl_target.specs.Sessions.{on_found, on_session, start_answer, base_in, on_base, base_answer, goal_answer, begin_answer, new_session, begun, after_begin, append_in, with_window, after_append, recorded_at, after_record, after_conclude}
-use Rattle.repl_target.specs.Law.{LawfulSession, Lawful, session_numbers}
+use Rattle.repl_target.specs.Law.{LawfulSession, LawfulSessions, session_numbers}
 use Rattle.repl_target.specs.Later.{Keeps, IsLaterPeer}
 use Rattle.repl_target.proofs.Members.{Among-left, Among-push, each_push, found_member, at-append}
 use Rattle.repl_target.proofs.Keeping.{Keeps-same, IsLaterPeer-same, lawful-later, session_found, session_law}
 
 -- ---- a peer as it begins
 
-pub new_law : (refuses : Document → Bool) (uuid seq : ℕ) → Lawful refuses (new_peer_at uuid seq)
+pub new_law : (refuses : Document → Bool) (uuid seq : ℕ) → LawfulSessions refuses (new_peer_at uuid seq)
 unfolding IsDistinct
 new_law refuses uuid seq = record { sessions = λ s m. absurd m; based = tt; distinct = tt }
 
@@ -42,17 +42,17 @@ locals_later p d n x e =
 pub load_later : (p : PeerValue) (d : Document) → IsLaterPeer p (after_load p d)
 load_later p d = record { db = IsLater-after_put p.db d (next_local p); locals = locals_later p d; sessions = λ s m. (s, m, Keeps-same s) }
 
-pub load_law : (refuses : Document → Bool) (p : PeerValue) (d : Document) → Lawful refuses p → Lawful refuses (after_load p d)
+pub load_law : (refuses : Document → Bool) (p : PeerValue) (d : Document) → LawfulSessions refuses p → LawfulSessions refuses (after_load p d)
 load_law refuses p d l = record {
   sessions = λ s m. lawful-later refuses p (after_load p d) s (load_later p d) (l.sessions s m);
   based = l.based;
   distinct = l.distinct;
 }
 
-pub edit_law : (refuses : Document → Bool) (p : PeerValue) (id : Id) (parent : Option RevId) (deleted : Bool) (body : List ℕ) → Lawful refuses p → Lawful refuses (after_edit p id parent deleted body)
+pub edit_law : (refuses : Document → Bool) (p : PeerValue) (id : Id) (parent : Option RevId) (deleted : Bool) (body : List ℕ) → LawfulSessions refuses p → LawfulSessions refuses (after_edit p id parent deleted body)
 edit_law refuses p id parent deleted body l = go (edited p.db id parent deleted body)
   where
-    go : (e : Result (RevId × Option RevId) BaseFault) → Lawful refuses (load_edited p id deleted body e)
+    go : (e : Result (RevId × Option RevId) BaseFault) → LawfulSessions refuses (load_edited p id deleted body e)
     go (Ok e) = load_law refuses p (edit_document id e deleted body) l
     go (Err fault) = l
 
@@ -143,10 +143,10 @@ new_lawful refuses p id rep base start goal at small within = record {
   read = refl;
 }
 
-pub begin_law : (refuses : Document → Bool) (p : PeerValue) (id : SessionId) (rep : RepId) (base : Option SessionId) (start goal at : ℕ) → start < 2 ^ 64 → Lawful refuses p → Lawful refuses (after_begin p id rep base start goal at)
+pub begin_law : (refuses : Document → Bool) (p : PeerValue) (id : SessionId) (rep : RepId) (base : Option SessionId) (start goal at : ℕ) → start < 2 ^ 64 → LawfulSessions refuses p → LawfulSessions refuses (after_begin p id rep base start goal at)
 begin_law refuses p id rep base start goal at small l = go (begin_answer p id rep base start goal) refl
   where
-    go : (r : Result (Unit {0}) TargetFault) → begin_answer p id rep base start goal ≡ r → Lawful refuses (begun p (new_session id rep base start goal at) r)
+    go : (r : Result (Unit {0}) TargetFault) → begin_answer p id rep base start goal ≡ r → LawfulSessions refuses (begun p (new_session id rep base start goal at) r)
     go (Err fault) e = l
     go (Ok done) e =
         let new = new_session id rep base start goal at in
@@ -164,11 +164,11 @@ begin_law refuses p id rep base start goal at small l = go (begin_answer p id re
 -- ---- a change of a session that the peer holds
 
 -- a change that keeps each lawful session lawful
-found_law : (refuses : Document → Bool) (p : PeerValue) (id : SessionId) (change : SessionValue → SessionValue) → ((q : PeerValue) (s : SessionValue) → LawfulSession refuses q s → Keeps s (change s) × LawfulSession refuses q (change s)) → Lawful refuses p
-    → Lawful refuses (on_session p id change) × IsLaterPeer p (on_session p id change)
+found_law : (refuses : Document → Bool) (p : PeerValue) (id : SessionId) (change : SessionValue → SessionValue) → ((q : PeerValue) (s : SessionValue) → LawfulSession refuses q s → Keeps s (change s) × LawfulSession refuses q (change s)) → LawfulSessions refuses p
+    → LawfulSessions refuses (on_session p id change) × IsLaterPeer p (on_session p id change)
 found_law refuses p id change keeps l = go (session_in p.sessions id) refl
   where
-    go : (o : Option SessionValue) → session_in p.sessions id ≡ o → Lawful refuses (on_found p change o) × IsLaterPeer p (on_found p change o)
+    go : (o : Option SessionValue) → session_in p.sessions id ≡ o → LawfulSessions refuses (on_found p change o) × IsLaterPeer p (on_found p change o)
     go None e = (l, IsLaterPeer-same p)
     go (Some s) e =
         let held = (session_found p.sessions id s e).0 in
@@ -212,7 +212,7 @@ takes w s done h =
     (λ _ k. absurd (err_ok _ done k))
     h
 
-append_both : (refuses : Document → Bool) (p : PeerValue) (id : SessionId) (w : WindowValue) → IsWindow w → w.hi < 2 ^ 64 → Lawful refuses p → Lawful refuses (after_append p id w) × IsLaterPeer p (after_append p id w)
+append_both : (refuses : Document → Bool) (p : PeerValue) (id : SessionId) (w : WindowValue) → IsWindow w → w.hi < 2 ^ 64 → LawfulSessions refuses p → LawfulSessions refuses (after_append p id w) × IsLaterPeer p (after_append p id w)
 append_both refuses p id w window small l =
     found_law refuses p id (λ s. with_window w s (append_in w s)) (λ q s h. (appended_keeps w s (append_in w s), go q s h (append_in w s) refl)) l
   where
@@ -220,10 +220,10 @@ append_both refuses p id w window small l =
     go q s h (Ok done) e = let t = takes w s done e in appended_lawful refuses q w s window small t.0 t.1 h
     go q s h (Err fault) e = h
 
-pub append_law : (refuses : Document → Bool) (p : PeerValue) (id : SessionId) (w : WindowValue) → IsWindow w → w.hi < 2 ^ 64 → Lawful refuses p → Lawful refuses (after_append p id w)
+pub append_law : (refuses : Document → Bool) (p : PeerValue) (id : SessionId) (w : WindowValue) → IsWindow w → w.hi < 2 ^ 64 → LawfulSessions refuses p → LawfulSessions refuses (after_append p id w)
 append_law refuses p id w window small l = (append_both refuses p id w window small l).0
 
-pub append_later : (refuses : Document → Bool) (p : PeerValue) (id : SessionId) (w : WindowValue) → IsWindow w → w.hi < 2 ^ 64 → Lawful refuses p → IsLaterPeer p (after_append p id w)
+pub append_later : (refuses : Document → Bool) (p : PeerValue) (id : SessionId) (w : WindowValue) → IsWindow w → w.hi < 2 ^ 64 → LawfulSessions refuses p → IsLaterPeer p (after_append p id w)
 append_later refuses p id w window small l = (append_both refuses p id w window small l).1
 
 -- ---- recording and concluding
@@ -247,23 +247,23 @@ recorded_lawful refuses q at s l = record {
   read = l.read;
 }
 
-record_both : (refuses : Document → Bool) (p : PeerValue) (id : SessionId) (at : ℕ) → Lawful refuses p → Lawful refuses (after_record p id at) × IsLaterPeer p (after_record p id at)
+record_both : (refuses : Document → Bool) (p : PeerValue) (id : SessionId) (at : ℕ) → LawfulSessions refuses p → LawfulSessions refuses (after_record p id at) × IsLaterPeer p (after_record p id at)
 record_both refuses p id at l = found_law refuses p id (recorded_at at) (λ q s h. (recorded_keeps refuses q at s h, recorded_lawful refuses q at s h)) l
 
-pub record_law : (refuses : Document → Bool) (p : PeerValue) (id : SessionId) (at : ℕ) → Lawful refuses p → Lawful refuses (after_record p id at)
+pub record_law : (refuses : Document → Bool) (p : PeerValue) (id : SessionId) (at : ℕ) → LawfulSessions refuses p → LawfulSessions refuses (after_record p id at)
 record_law refuses p id at l = (record_both refuses p id at l).0
 
-pub record_later : (refuses : Document → Bool) (p : PeerValue) (id : SessionId) (at : ℕ) → Lawful refuses p → IsLaterPeer p (after_record p id at)
+pub record_later : (refuses : Document → Bool) (p : PeerValue) (id : SessionId) (at : ℕ) → LawfulSessions refuses p → IsLaterPeer p (after_record p id at)
 record_later refuses p id at l = (record_both refuses p id at l).1
 
-conclude_both : (refuses : Document → Bool) (p : PeerValue) (id : SessionId) (at : ℕ) → Lawful refuses p → Lawful refuses (after_conclude p id at) × IsLaterPeer p (after_conclude p id at)
+conclude_both : (refuses : Document → Bool) (p : PeerValue) (id : SessionId) (at : ℕ) → LawfulSessions refuses p → LawfulSessions refuses (after_conclude p id at) × IsLaterPeer p (after_conclude p id at)
 conclude_both refuses p id at l =
     found_law refuses p id (λ s. cond (low_water s.front == s.goal) (recorded_at at s) s)
     (λ q s h. cond_both (low_water s.front == s.goal) (recorded_at at s) s (λ t. Keeps s t × LawfulSession refuses q t) (λ _. (recorded_keeps refuses q at s h, recorded_lawful refuses q at s h)) (λ _. (Keeps-same s, h)))
     l
 
-pub conclude_law : (refuses : Document → Bool) (p : PeerValue) (id : SessionId) (at : ℕ) → Lawful refuses p → Lawful refuses (after_conclude p id at)
+pub conclude_law : (refuses : Document → Bool) (p : PeerValue) (id : SessionId) (at : ℕ) → LawfulSessions refuses p → LawfulSessions refuses (after_conclude p id at)
 conclude_law refuses p id at l = (conclude_both refuses p id at l).0
 
-pub conclude_later : (refuses : Document → Bool) (p : PeerValue) (id : SessionId) (at : ℕ) → Lawful refuses p → IsLaterPeer p (after_conclude p id at)
+pub conclude_later : (refuses : Document → Bool) (p : PeerValue) (id : SessionId) (at : ℕ) → LawfulSessions refuses p → IsLaterPeer p (after_conclude p id at)
 conclude_later refuses p id at l = (conclude_both refuses p id at l).1

@@ -5,6 +5,7 @@ pub mod Listing
 pub mod Searching
 pub mod Documents
 pub mod Checks
+pub mod SessionLaws
 pub mod Parcels
 pub mod Members
 pub mod Keeping

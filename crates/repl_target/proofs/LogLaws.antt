@@ -5,11 +5,9 @@ use Rattle.couch_base.specs.WriteLaws.{IsLater-same}
 use Rattle.repl_log.specs.declared.replication.RepId.{RepId}
 use Rattle.repl_log.specs.Entry.{EntryValue}
 use Rattle.repl_target.specs.Peer.{PeerValue}
-use Rattle.repl_target.specs.Law.{Lawful}
+use Rattle.repl_target.specs.Law.{Lawful, LawfulSessions}
 use Rattle.repl_target.specs.Later.{IsLaterPeer}
 use Rattle.repl_target.specs.Origins.{HasOrigins}
-use Rattle.repl_target.specs.Standing.{Stands}
-use Rattle.repl_target.specs.declared.ledger_index.LedgerIndex.{LedgerIndex}
 use Rattle.repl_target.specs.Logs.{put_by, put_entry_answer, after_put_entry}
 use Rattle.repl_target.specs.declared.fault.TargetFault.{TargetFault}
 use Rattle.repl_target.proofs.Keeping.{Keeps-same, IsLaterPeer-same, lawful-later}
@@ -20,7 +18,7 @@ use Rattle.repl_target.proofs.Originating.{stands_from, has_from, stands_same}
 pub logs_later : (p : PeerValue) (logs : List (RepId × List EntryValue)) → IsLaterPeer p (record p { outgoing = logs })
 logs_later p logs = record { db = IsLater-same p.db; locals = λ n x e. e; sessions = λ s m. (s, m, Keeps-same s) }
 
-pub logs_law : (refuses : Document → Bool) (p : PeerValue) (logs : List (RepId × List EntryValue)) → Lawful refuses p → Lawful refuses (record p { outgoing = logs })
+pub logs_law : (refuses : Document → Bool) (p : PeerValue) (logs : List (RepId × List EntryValue)) → LawfulSessions refuses p → LawfulSessions refuses (record p { outgoing = logs })
 logs_law refuses p logs l = record {
   sessions = λ s m. lawful-later refuses p (record p { outgoing = logs }) s (logs_later p logs) (l.sessions s m);
   based = l.based;
@@ -30,8 +28,8 @@ logs_law refuses p logs l = record {
 pub logs_origins : (p : PeerValue) (logs : List (RepId × List EntryValue)) → HasOrigins p → HasOrigins (record p { outgoing = logs })
 logs_origins p logs h = has_from (record p { outgoing = logs }) (stands_same p (record p { outgoing = logs }) (logs_later p logs) refl (stands_from p h))
 
-pub Stands-logs : (refuses : Document → Bool) (ledgered : LedgerIndex) (p : PeerValue) (logs : List (RepId × List EntryValue)) → Stands refuses ledgered p → Stands refuses ledgered (record p { outgoing = logs })
-Stands-logs refuses ledgered p logs h = record { law = logs_law refuses p logs h.law; origins = logs_origins p logs h.origins; index = h.index }
+pub Lawful-logs : (refuses : Document → Bool) (p : PeerValue) (logs : List (RepId × List EntryValue)) → Lawful refuses p → Lawful refuses (record p { outgoing = logs })
+Lawful-logs refuses p logs h = record { sessions = logs_law refuses p logs h.sessions; origins = logs_origins p logs h.origins }
 
 -- ---- putting an entry
 
@@ -39,7 +37,7 @@ put_later : (p : PeerValue) (rep : RepId) (e : EntryValue) (r : Result (Unit {0}
 put_later p rep e (Ok done) = logs_later p _
 put_later p rep e (Err fault) = IsLaterPeer-same p
 
-put_law : (refuses : Document → Bool) (p : PeerValue) (rep : RepId) (e : EntryValue) (r : Result (Unit {0}) TargetFault) → Lawful refuses p → Lawful refuses (put_by p rep e r)
+put_law : (refuses : Document → Bool) (p : PeerValue) (rep : RepId) (e : EntryValue) (r : Result (Unit {0}) TargetFault) → LawfulSessions refuses p → LawfulSessions refuses (put_by p rep e r)
 put_law refuses p rep e (Ok done) l = logs_law refuses p _ l
 put_law refuses p rep e (Err fault) l = l
 
@@ -50,7 +48,7 @@ put_origins p rep e (Err fault) h = h
 pub put_entry_later : (p : PeerValue) (rep : RepId) (e : EntryValue) → IsLaterPeer p (after_put_entry p rep e)
 put_entry_later p rep e = put_later p rep e (put_entry_answer p rep e)
 
-pub put_entry_law : (refuses : Document → Bool) (p : PeerValue) (rep : RepId) (e : EntryValue) → Lawful refuses p → Lawful refuses (after_put_entry p rep e)
+pub put_entry_law : (refuses : Document → Bool) (p : PeerValue) (rep : RepId) (e : EntryValue) → LawfulSessions refuses p → LawfulSessions refuses (after_put_entry p rep e)
 put_entry_law refuses p rep e l = put_law refuses p rep e (put_entry_answer p rep e) l
 
 pub put_entry_origins : (p : PeerValue) (rep : RepId) (e : EntryValue) → HasOrigins p → HasOrigins (after_put_entry p rep e)

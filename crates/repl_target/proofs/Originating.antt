@@ -32,7 +32,7 @@ use Rattle.repl_target.specs.Covered.{covers_window, refusal_of}
 use Rattle.repl_target.specs.Writing.{next_local, after_load, load_edited, after_edit}
 use Rattle.repl_target.specs.Sessions.{on_found, begin_answer, new_session, begun, after_begin, after_append, after_record, after_conclude}
 use Rattle.repl_target.specs.Settling.{Settling, seq_in, fed, with_arrival, is_full, settle_as, settle_one, settle_docs, has_row, with_settling, settling_of, after_documents, with_done, marked, after_all, after_stop, after_settle, SettleGives}
-use Rattle.repl_target.specs.Law.{Lawful}
+use Rattle.repl_target.specs.Law.{LawfulSessions}
 use Rattle.repl_target.specs.Later.{IsLaterPeer}
 use Rattle.repl_target.specs.Origins.{ComesFrom, HasOrigins}
 use Rattle.repl_target.proofs.Members.{Among-last, at-end}
@@ -158,13 +158,13 @@ pub begin_origins : (p : PeerValue) (id : SessionId) (rep : RepId) (base : Optio
 begin_origins p id rep base start goal at h =
     same_origins p (after_begin p id rep base start goal at) (begin_later p id rep base start goal at) (begun_database p (new_session id rep base start goal at) (begin_answer p id rep base start goal)) h
 
-pub append_origins : (refuses : Document → Bool) (p : PeerValue) (id : SessionId) (w : WindowValue) → IsWindow w → w.hi < 2 ^ 64 → Lawful refuses p → HasOrigins p → HasOrigins (after_append p id w)
+pub append_origins : (refuses : Document → Bool) (p : PeerValue) (id : SessionId) (w : WindowValue) → IsWindow w → w.hi < 2 ^ 64 → LawfulSessions refuses p → HasOrigins p → HasOrigins (after_append p id w)
 append_origins refuses p id w window small l h = same_origins p (after_append p id w) (append_later refuses p id w window small l) (found_database p _ (session_in p.sessions id)) h
 
-pub record_origins : (refuses : Document → Bool) (p : PeerValue) (id : SessionId) (at : ℕ) → Lawful refuses p → HasOrigins p → HasOrigins (after_record p id at)
+pub record_origins : (refuses : Document → Bool) (p : PeerValue) (id : SessionId) (at : ℕ) → LawfulSessions refuses p → HasOrigins p → HasOrigins (after_record p id at)
 record_origins refuses p id at l h = same_origins p (after_record p id at) (record_later refuses p id at l) (found_database p _ (session_in p.sessions id)) h
 
-pub conclude_origins : (refuses : Document → Bool) (p : PeerValue) (id : SessionId) (at : ℕ) → Lawful refuses p → HasOrigins p → HasOrigins (after_conclude p id at)
+pub conclude_origins : (refuses : Document → Bool) (p : PeerValue) (id : SessionId) (at : ℕ) → LawfulSessions refuses p → HasOrigins p → HasOrigins (after_conclude p id at)
 conclude_origins refuses p id at l h = same_origins p (after_conclude p id at) (conclude_later refuses p id at l) (found_database p _ (session_in p.sessions id)) h
 
 -- ---- settling
@@ -197,7 +197,7 @@ arrival_stands refuses p s w d m n has_one later h id r o is =
           })
     ]
 
-document_stands : (refuses : Document → Bool) (p : PeerValue) (s : SessionValue) (w : WindowValue) (d : Document) → Among s p.sessions → Among w s.windows → has_row w d ≡ true → Lawful refuses p → TellsOrigins p → TellsOrigins (with_settling p (settle_one refuses w (settling_of p s) d))
+document_stands : (refuses : Document → Bool) (p : PeerValue) (s : SessionValue) (w : WindowValue) (d : Document) → Among s p.sessions → Among w s.windows → has_row w d ≡ true → LawfulSessions refuses p → TellsOrigins p → TellsOrigins (with_settling p (settle_one refuses w (settling_of p s) d))
 document_stands refuses p s w d m n has_one l h = go (refusal_of refuses p.db d) (document_settles refuses p s w d m l).later
   where
     go : (o : Option Reason) → IsLaterPeer p (with_settling p (settle_as w (settling_of p s) d o)) → TellsOrigins (with_settling p (settle_as w (settling_of p s) d o))
@@ -208,7 +208,7 @@ document_stands refuses p s w d m n has_one l h = go (refusal_of refuses p.db d)
         (λ _ k. arrival_stands refuses p s w d m n has_one k h)
         later
 
-documents_stand : (refuses : Document → Bool) (p : PeerValue) (s : SessionValue) (w : WindowValue) (docs : List Document) → Among s p.sessions → Among w s.windows → list_all (has_row w) docs ≡ true → Lawful refuses p → TellsOrigins p → TellsOrigins (after_documents refuses p s w docs)
+documents_stand : (refuses : Document → Bool) (p : PeerValue) (s : SessionValue) (w : WindowValue) (docs : List Document) → Among s p.sessions → Among w s.windows → list_all (has_row w) docs ≡ true → LawfulSessions refuses p → TellsOrigins p → TellsOrigins (after_documents refuses p s w docs)
 documents_stand refuses p s w [] m n rows l h =
     stands_same p (with_settling p (settling_of p s)) (documents_settle refuses p s w [] m l).later refl h
 documents_stand refuses p s w (d ∷ docs) m n rows l h =
@@ -225,7 +225,7 @@ all_take p zero docs h = refl
 all_take p (suc n) [] h = refl
 all_take p (suc n) (d ∷ docs) h = let both = and_parts (p d) (list_all p docs) h in and_from (p d) (list_all p (take n docs)) both.0 (all_take p n docs both.1)
 
-all_stand : (refuses : Document → Bool) (p : PeerValue) (s : SessionValue) (w : WindowValue) (parcel : ParcelValue) → Among s p.sessions → Among w s.windows → list_all (has_row w) parcel.docs ≡ true → Lawful refuses p → TellsOrigins p → TellsOrigins (after_all refuses p s w parcel)
+all_stand : (refuses : Document → Bool) (p : PeerValue) (s : SessionValue) (w : WindowValue) (parcel : ParcelValue) → Among s p.sessions → Among w s.windows → list_all (has_row w) parcel.docs ≡ true → LawfulSessions refuses p → TellsOrigins p → TellsOrigins (after_all refuses p s w parcel)
 all_stand refuses p s w parcel m n rows l h =
     let z = settle_docs refuses w (settling_of p s) parcel.docs in
     let q = with_settling p z in
@@ -234,7 +234,7 @@ all_stand refuses p s w parcel m n rows l h =
     stands_same q (marked q z.session w parcel) (mark_law refuses q z.session w parcel k.held (k.keeps.windows w n) k.lawful).1 same (documents_stand refuses p s w parcel.docs m n rows l h)
 
 -- wherever settling ends, every revision has an origin
-pub ends_origins : (refuses : Document → Bool) (p : PeerValue) (id : SessionId) (parcel : ParcelValue) (q : PeerValue) → Ends refuses p id parcel q → Lawful refuses p → HasOrigins p → HasOrigins q
+pub ends_origins : (refuses : Document → Bool) (p : PeerValue) (id : SessionId) (parcel : ParcelValue) (q : PeerValue) → Ends refuses p id parcel q → LawfulSessions refuses p → HasOrigins p → HasOrigins q
 ends_origins refuses p id parcel q (inl same) l h = subst HasOrigins (sym same) h
 ends_origins refuses p id parcel q (inr e) l h =
     let t = e.1 in
@@ -243,11 +243,11 @@ ends_origins refuses p id parcel q (inr e) l h =
       | inr some ↦ subst HasOrigins (sym some.1) (has_from _ (documents_stand refuses p e.0.0 e.0.1 (take some.0 parcel.docs) t.held t.stored (all_take _ some.0 parcel.docs t.rows) l (stands_from p h)))
     ]
 
-pub settle_origins : (refuses : Document → Bool) (p : PeerValue) (id : SessionId) (parcel : ParcelValue) (result : Result Settled TargetFault) (q : PeerValue) → SettleGives refuses p id parcel result q → Lawful refuses p → HasOrigins p → HasOrigins q
+pub settle_origins : (refuses : Document → Bool) (p : PeerValue) (id : SessionId) (parcel : ParcelValue) (result : Result Settled TargetFault) (q : PeerValue) → SettleGives refuses p id parcel result q → LawfulSessions refuses p → HasOrigins p → HasOrigins q
 settle_origins refuses p id parcel result q gives l h = ends_origins refuses p id parcel q (settle_ends refuses p id parcel result q gives) l h
 
-pub after_settle_origins : (refuses : Document → Bool) (p : PeerValue) (id : SessionId) (parcel : ParcelValue) → Lawful refuses p → HasOrigins p → HasOrigins (after_settle refuses p id parcel)
+pub after_settle_origins : (refuses : Document → Bool) (p : PeerValue) (id : SessionId) (parcel : ParcelValue) → LawfulSessions refuses p → HasOrigins p → HasOrigins (after_settle refuses p id parcel)
 after_settle_origins refuses p id parcel l h = ends_origins refuses p id parcel (after_settle refuses p id parcel) (after_settle_ends refuses p id parcel) l h
 
-pub after_stop_origins : (refuses : Document → Bool) (p : PeerValue) (id : SessionId) (parcel : ParcelValue) (n : ℕ) → Lawful refuses p → HasOrigins p → HasOrigins (after_stop refuses p id parcel n)
+pub after_stop_origins : (refuses : Document → Bool) (p : PeerValue) (id : SessionId) (parcel : ParcelValue) (n : ℕ) → LawfulSessions refuses p → HasOrigins p → HasOrigins (after_stop refuses p id parcel n)
 after_stop_origins refuses p id parcel n l h = ends_origins refuses p id parcel (after_stop refuses p id parcel n) (after_stop_ends refuses p id parcel n) l h

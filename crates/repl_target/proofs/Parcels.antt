@@ -1,5 +1,5 @@
 -- What settling a parcel answers and leaves.
-use Rattle.std.proofs.Common.{◌≡◌, ℕ, ◌+◌, ◌-◌, ◌<◌, Bool, List, [], length, Result, Ok, Err, refl, sym, ap, ◌∙◌, subst, arith}
+use Rattle.std.proofs.Common.{◌≡◌, ℕ, ◌+◌, ◌-◌, Bool, List, [], Result, Ok, Err, refl, sym, ap, ◌∙◌, subst, arith}
 use Rattle.std.specs.Global.{Vec}
 use Rattle.rev_core.specs.Rev.{RevId}
 use Rattle.doc_json.specs.Document.{Document}
@@ -8,7 +8,7 @@ use Rattle.couch_base.specs.Feed.{WindowValue}
 use Rattle.couch_base.specs.Messages.{ParcelValue}
 use Rattle.range_front.specs.Front.{finished}
 use Rattle.repl_target.specs.Peer.{SessionValue}
-use Rattle.repl_target.specs.Settling.{Settling, Halts, settle_docs, settled_before, leaf_count, asked_count, with_done}
+use Rattle.repl_target.specs.Settling.{Settling, Halts, settle_docs, leaf_count, asked_count, with_done}
 use Rattle.repl_target.specs.SettleParts.{Passes, Reached, ReachedAll, Ends, PartsSettled, PartsSettle, PartsGive}
 use Rattle.repl_target.specs.declared.fault.Cause.{Cause}
 use Rattle.repl_target.specs.declared.fault.Cause.TheVariants as causes

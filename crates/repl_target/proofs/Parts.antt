@@ -1,5 +1,5 @@
 -- Trees that are parts of others: they grow by leaves with their ancestors, and with all leaves they are the whole.
-use Rattle.std.proofs.Common.{◌≡◌, ◌⊎◌, ℕ, zero, suc, ◌≤◌, Bool, true, false, not, cond, ◌&&◌, ◌||◌, List, [], ◌∷◌, map, Option, Some, None, is_some, refl, sym, ap, ◌∙◌, subst, inl, inr, arith}
+use Rattle.std.proofs.Common.{◌≡◌, ℕ, zero, suc, ◌≤◌, true, false, not, cond, ◌||◌, List, [], ◌∷◌, Option, Some, None, is_some, refl, sym, ap, ◌∙◌, inl, inr, arith}
 use Rattle.std.specs.Option.{option_map_or, option_or}
 use Rattle.std.specs.Ordering.{eq_by_cmp}
 use Rattle.std.specs.FinMap.{FinMap, get, find, get-empty, same_map}
@@ -8,11 +8,11 @@ use Rattle.rev_core.specs.Rev.{RevId, rev_cmp}
 use Rattle.rev_core.specs.RevOrder.{rev_cmp_total, rev_cmp_exact, rev_tie_is, rev_tie_self}
 use Rattle.rev_core.specs.Ancestry.{edges_of, is_among}
 use Rattle.rev_tree.specs.Content.{ContentValue}
-use Rattle.rev_tree.specs.Tree.{TreeValue, IsTree, has, is_parent, is_leaf, is_deleted, walk, ancestors, at_head, merged, no_revisions}
+use Rattle.rev_tree.specs.Tree.{TreeValue, IsTree, has, is_leaf, is_deleted, walk, ancestors, at_head, merged, no_revisions}
 use Rattle.rev_tree.specs.TreeLaws.{some_or, or_cases, get-joined, has-merged, has-merged_known, has-merged_given, parent_from_child, edge_found, head_or_parent}
 use Rattle.rev_tree.specs.LeafLaws.{same_tests, has_walked, leaf_above, IsAncestry-ancestors}
 use Rattle.rev_tree.specs.declared.origin.Origin.{Origin}
-use Rattle.couch_base.specs.ListLaws.{none_some, some_is}
+use Rattle.couch_base.specs.ListLaws.{none_some}
 use Rattle.couch_base.specs.Messages.{body_at}
 use Rattle.couch_base.specs.Put.{content_of}
 use Rattle.repl_target.specs.Replication.{SameRevisions}

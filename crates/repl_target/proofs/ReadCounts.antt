@@ -18,7 +18,7 @@ use Rattle.repl_target.specs.Sessions.{found_answer, on_found, on_session, appen
 use Rattle.repl_target.specs.Settling.{settle_docs, settled_before, has_row, has_room, window_in, settle_at, settle_check, settling_of, with_settling, with_done, after_documents, after_all, SettlesAt, Settles, SettleGives}
 use Rattle.repl_target.specs.Replication.{start_between, base_at, checkpoint_of, begins_answer, after_begins}
 use Rattle.repl_target.specs.Audit.{rep_between}
-use Rattle.repl_target.specs.Law.{Lawful}
+use Rattle.repl_target.specs.Law.{LawfulSessions}
 use Rattle.repl_target.proofs.Keeping.{session_found}
 use Rattle.repl_target.proofs.Reading.{found-is}
 use Rattle.repl_target.proofs.SettleLaws.{settle_told, documents_settle}
@@ -115,7 +115,7 @@ refused_none p id parcel fault n h = in_peer (session_in p.sessions id) h
     in_peer None e = told faults.NoSuchSession refl e
     in_peer (Some s) e = in_window s (window_in s parcel.asked.lo parcel.asked.hi) e
 
-module _ (refuses : Document → Bool) (p : PeerValue) (id : SessionId) (l : Lawful refuses p) where
+module _ (refuses : Document → Bool) (p : PeerValue) (id : SessionId) (l : LawfulSessions refuses p) where
   -- the first n documents
   some_read : (s : SessionValue) (w : WindowValue) (docs : List Document) (n : ℕ) → session_in p.sessions id ≡ Some s → n ≤ settled_before refuses w (settling_of p s) docs
       → (q : PeerValue) → q ≡ after_documents refuses p s w (take n docs) → read_in q.sessions id ≡ read_in p.sessions id + n

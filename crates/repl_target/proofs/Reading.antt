@@ -1,8 +1,7 @@
 -- What a replication by one thread has read: its session stores the source's feed, and at the goal all of it is covered.
-use Rattle.std.proofs.Common.{◌≡◌, ◌⊎◌, ℕ, zero, suc, ◌+◌, ◌<◌, ◌≤◌, ◌^◌, nat_lt, nat_le, ◌==◌, Bool, true, false, cond, ◌&&◌, List, [], ◌∷◌, ◌++◌, map, filter, length, take, Option, Some, None, Result, Ok, Err, is_ok, OnOk, IfOk, refl, sym, ap, ◌∙◌, subst, inl, inr, arith, eqb}
+use Rattle.std.proofs.Common.{◌≡◌, ◌⊎◌, ℕ, zero, suc, ◌+◌, ◌<◌, ◌≤◌, ◌^◌, nat_lt, nat_le, ◌==◌, Bool, true, cond, ◌&&◌, List, [], ◌∷◌, ◌++◌, map, filter, length, take, Option, Some, None, Result, Ok, Err, is_ok, OnOk, IfOk, refl, sym, ap, ◌∙◌, subst, inl, inr, arith, eqb}
 use Rattle.std.specs.List.{find, IsDistinct, AllByRecursion}
 use Rattle.std.proofs.lemmas.Bool.{and_parts, cond_both, cond-true, eqb-true, eq-eqb, leb-true, false≢true}
-use Rattle.rev_core.specs.Rev.{RevId}
 use Rattle.rev_tree.specs.declared.origin.SessionId.{SessionId}
 use Rattle.doc_json.specs.Document.{Document}
 use Rattle.couch_base.specs.Lists.{Among}
@@ -14,12 +13,11 @@ use Rattle.couch_base.specs.Messages.{ParcelValue}
 use Rattle.range_front.specs.Front.{low_water, end_of}
 use Rattle.range_front.specs.FrontLaws.{end_of-appended, end_of-finished, low_water-le-end_of}
 use Rattle.repl_target.specs.Peer.{PeerValue, SessionValue, is_of, session_in, with_session}
-use Rattle.repl_target.specs.Covered.{covers, covers_window}
-use Rattle.repl_target.specs.Law.{Lawful, session_numbers}
-use Rattle.repl_target.specs.Later.{Keeps, IsLaterPeer}
-use Rattle.repl_target.specs.Sessions.{found_answer, on_found, on_session, new_session, begun, append_in, append_answer, with_window, after_append, recorded_at, report_of, conclude_in, conclude_answer, after_conclude, session_answer}
-use Rattle.repl_target.specs.Settling.{settling_of, with_settling, settle_docs, settle_check, with_done, marked, after_documents, after_all, SettlesAt, Settles, SettleGives}
-use Rattle.repl_target.specs.Replication.{Reading, is_batch, plan_answer, next_window, parcel_for, Carries, Reads, start_between, begins_answer, after_begins, first_reading, closed_as, closed, told_by, Closes, is_due, CoversFrom, IsReported, ReadsAll, ReadsUntil, Replicates, not_planned, no_memory, not_begun, cut, ended}
+use Rattle.repl_target.specs.Covered.{covers_window}
+use Rattle.repl_target.specs.Law.{LawfulSessions, session_numbers}
+use Rattle.repl_target.specs.Sessions.{found_answer, on_found, on_session, new_session, begun, append_in, append_answer, with_window, after_append, recorded_at, report_of, conclude_in, conclude_answer, after_conclude}
+use Rattle.repl_target.specs.Settling.{settling_of, with_settling, settle_docs, settle_check, with_done, after_all, Settles, SettleGives}
+use Rattle.repl_target.specs.Replication.{Reading, is_batch, plan_answer, parcel_for, Carries, Reads, start_between, begins_answer, after_begins, first_reading, closed_as, closed, told_by, Closes, is_due, CoversFrom, IsReported, ReadsAll, ReadsUntil, Replicates, not_planned, no_memory, not_begun, cut, ended}
 use Rattle.repl_target.specs.declared.fault.Report.{Report}
 use Rattle.repl_target.specs.declared.fault.Settled.{Settled}
 use Rattle.repl_target.specs.declared.fault.TargetFault.{TargetFault}
@@ -90,7 +88,7 @@ record GoesOn (s t : SessionValue) : Type 0 where
 
 -- settling a parcel of a session leaves its windows
 settled_session : (refuses : Document → Bool) (p : PeerValue) (id : SessionId) (parcel : ParcelValue) (settled : Settled) (q : PeerValue) (s : SessionValue)
-    → Lawful refuses p → Among s p.sessions → s.id ≡ id → SettleGives refuses p id parcel (Ok settled) q → (t : SessionValue) × Among t q.sessions × GoesOn s t
+    → LawfulSessions refuses p → Among s p.sessions → s.id ≡ id → SettleGives refuses p id parcel (Ok settled) q → (t : SessionValue) × Among t q.sessions × GoesOn s t
 settled_session refuses p id parcel settled q s l held same gives = go (settle_check p id parcel) refl gives
   where
     Stays : PeerValue → Type 0
@@ -134,7 +132,7 @@ settled_session refuses p id parcel settled q s l held same gives = go (settle_c
 
 -- the target is lawful, and its session stores each row of the source's feed from its start up to where it is read
 pub record Underway (refuses : Document → Bool) (source : DatabaseValue) (plan : Plan) (start : ℕ) (now : Reading) : Type 0 where
-  pub law : Lawful refuses now.target
+  pub law : LawfulSessions refuses now.target
   pub session : SessionValue
   pub held : Among session now.target.sessions
   pub id : session.id ≡ plan.session
@@ -144,7 +142,7 @@ pub record Underway (refuses : Document → Bool) (source : DatabaseValue) (plan
   pub rows : (row : RowValue) → Among row (feed source start source.update_seq) → ((w : WindowValue) × Among w session.windows × Among row w.rows) ⊎ Among row (feed source now.since source.update_seq)
 
 -- the session as it begins
-pub begun_underway : (refuses : Document → Bool) (source target : PeerValue) (plan : Plan) → begins_answer source target plan ≡ Ok tt → Lawful refuses (after_begins source target plan) → Underway refuses source.db plan (start_between source target) (first_reading source target plan)
+pub begun_underway : (refuses : Document → Bool) (source target : PeerValue) (plan : Plan) → begins_answer source target plan ≡ Ok tt → LawfulSessions refuses (after_begins source target plan) → Underway refuses source.db plan (start_between source target) (first_reading source target plan)
 begun_underway refuses source target plan ok l =
     let new = new_session plan.session _ _ (start_between source target) source.db.update_seq plan.at in
     let is : after_begins source target plan ≡ record target { sessions = new ∷ target.sessions } = ap (begun target new) ok in
@@ -231,7 +229,7 @@ module _ (refuses : Document → Bool) (source target : PeerValue) (plan : Plan)
     concluded : Concluded u.session report
     is : session ≡ recorded_at plan.at u.session
     held : Among session target'.sessions
-    law : Lawful refuses target'
+    law : LawfulSessions refuses target'
 
   recorded : (report : Report) (source' target' : PeerValue) → Closes source now.target plan (Ok report) source' target' → Recorded report target'
   recorded report source' target' c =
@@ -249,7 +247,7 @@ module _ (refuses : Document → Bool) (source target : PeerValue) (plan : Plan)
         concluded = done;
         is = refl;
         held = subst (λ (q : PeerValue). Among (recorded_at plan.at s) q.sessions) (sym (is ∙ after)) (with_session_holds p.sessions s (recorded_at plan.at s) u.held refl);
-        law = subst (Lawful refuses) (sym is) (conclude_law refuses p plan.session plan.at u.law);
+        law = subst (LawfulSessions refuses) (sym is) (conclude_law refuses p plan.session plan.at u.law);
       }
 
   -- so all that was to be read is covered
@@ -267,7 +265,7 @@ module _ (refuses : Document → Bool) (source target : PeerValue) (plan : Plan)
             absurd (subst (Among row) (feed-none source.db now.since source.db.update_seq end) further)
       ]
 
-  pub closes_lawful : (report : Report) (source' target' : PeerValue) → Closes source now.target plan (Ok report) source' target' → Lawful refuses target'
+  pub closes_lawful : (report : Report) (source' target' : PeerValue) → Closes source now.target plan (Ok report) source' target' → LawfulSessions refuses target'
   closes_lawful report source' target' c = (recorded report source' target' c).law
 
   -- and the report is the session's
@@ -373,9 +371,9 @@ module _ (refuses : Document → Bool) (source target : PeerValue) (plan : Plan)
     underway : Underway refuses source.db plan (start_between source target) now
     is : read ≡ now.target
 
-  all_read : Started source target plan from → LawfulDatabase source.db → Lawful refuses from.target → ReadsAll refuses source.db plan from read → AllRead
+  all_read : Started source target plan from → LawfulDatabase source.db → LawfulSessions refuses from.target → ReadsAll refuses source.db plan from read → AllRead
   all_read s law lawful reads =
-      let first = begun_underway refuses source target plan s.begun (subst (λ (f : Reading). Lawful refuses f.target) s.is lawful) in
+      let first = begun_underway refuses source target plan s.begun (subst (λ (f : Reading). LawfulSessions refuses f.target) s.is lawful) in
       let start = subst (Underway refuses source.db plan (start_between source target)) (sym s.is) first in
       record {
         now = reads.1;
@@ -383,28 +381,28 @@ module _ (refuses : Document → Bool) (source target : PeerValue) (plan : Plan)
         is = reads.4;
       }
 
-  pub all-found : Started source target plan from → LawfulDatabase source.db → Lawful refuses from.target → ReadsAll refuses source.db plan from read
+  pub all-found : Started source target plan from → LawfulDatabase source.db → LawfulSessions refuses from.target → ReadsAll refuses source.db plan from read
       → (t : SessionValue) × (session_in read.sessions plan.session ≡ Some t)
   all-found s law lawful reads =
       let a = all_read s law lawful reads in
       subst (λ (q : PeerValue). (t : SessionValue) × (session_in q.sessions plan.session ≡ Some t)) (sym a.is) (underway-found refuses source.db plan (start_between source target) a.now a.underway)
 
-  pub all-covered : (result : Result Report TargetFault) (source' target' : PeerValue) → Started source target plan from → LawfulDatabase source.db → Lawful refuses from.target → ReadsAll refuses source.db plan from read
+  pub all-covered : (result : Result Report TargetFault) (source' target' : PeerValue) → Started source target plan from → LawfulDatabase source.db → LawfulSessions refuses from.target → ReadsAll refuses source.db plan from read
       → Closes source read plan result source' target' → OnOk result (CoversFrom source target' (start_between source target))
   all-covered (Err why) source' target' s law lawful reads closes = tt
   all-covered (Ok report) source' target' s law lawful reads closes =
       let a = all_read s law lawful reads in
       closes_covered refuses source target plan (start_between source target) a.now a.underway report source' target' (subst (λ q. Closes source q plan (Ok report) source' target') a.is closes)
 
-  pub all-reported : (result : Result Report TargetFault) (source' target' : PeerValue) → Started source target plan from → LawfulDatabase source.db → Lawful refuses from.target → ReadsAll refuses source.db plan from read
+  pub all-reported : (result : Result Report TargetFault) (source' target' : PeerValue) → Started source target plan from → LawfulDatabase source.db → LawfulSessions refuses from.target → ReadsAll refuses source.db plan from read
       → Closes source read plan result source' target' → IfOk result (λ report. IsReported source target target' plan report)
   all-reported (Err why) source' target' s law lawful reads closes = tt
   all-reported (Ok report) source' target' s law lawful reads closes =
       let a = all_read s law lawful reads in
       closes_reported refuses source target plan (start_between source target) a.now a.underway refl report source' target' (subst (λ q. Closes source q plan (Ok report) source' target') a.is closes)
 
-  pub all-lawful : (result : Result Report TargetFault) (source' target' : PeerValue) → Started source target plan from → LawfulDatabase source.db → Lawful refuses from.target → ReadsAll refuses source.db plan from read
-      → Closes source read plan result source' target' → OnOk result (Lawful refuses target')
+  pub all-lawful : (result : Result Report TargetFault) (source' target' : PeerValue) → Started source target plan from → LawfulDatabase source.db → LawfulSessions refuses from.target → ReadsAll refuses source.db plan from read
+      → Closes source read plan result source' target' → OnOk result (LawfulSessions refuses target')
   all-lawful (Err why) source' target' s law lawful reads closes = tt
   all-lawful (Ok report) source' target' s law lawful reads closes =
       let a = all_read s law lawful reads in

@@ -22,7 +22,7 @@ use Rattle.repl_target.specs.Peer.{PeerValue, SessionValue, written_of, is_of, s
 use Rattle.repl_target.specs.Writing.{next_local, after_load, load_edited, after_edit}
 use Rattle.repl_target.specs.Sessions.{on_found, found_answer, begin_answer, new_session, begun, after_begin, append_in, append_answer, with_window, after_append}
 use Rattle.repl_target.specs.Logs.{put_by, put_entry_answer, after_put_entry}
-use Rattle.repl_target.specs.Law.{Lawful}
+use Rattle.repl_target.specs.Law.{LawfulSessions}
 use Rattle.repl_target.specs.declared.fault.TargetFault.{TargetFault}
 use Rattle.repl_target.proofs.Keeping.{one_session, session_found}
 
@@ -31,12 +31,12 @@ map-same f [] h = refl
 map-same f (x ∷ xs) h = λ i. h x (inl refl) i ∷ map-same f xs (λ y m. h y (inr m)) i
 
 -- a session that stands for itself changes nothing
-with_session-same : (refuses : Document → Bool) (p : PeerValue) (s : SessionValue) → Lawful refuses p → Among s p.sessions → with_session p.sessions s ≡ p.sessions
+with_session-same : (refuses : Document → Bool) (p : PeerValue) (s : SessionValue) → LawfulSessions refuses p → Among s p.sessions → with_session p.sessions s ≡ p.sessions
 with_session-same refuses p s l m =
     map-same (λ (x : SessionValue). cond (is_of s.id x) s x) p.sessions
     (λ x n. cond_both (is_of s.id x) s x (λ y. y ≡ x) (λ e. one_session p.sessions s x l.distinct m n (sym (eqb-true _ _ e))) (λ _. refl))
 
-pub append_refused : (refuses : Document → Bool) (p : PeerValue) (id : SessionId) (w : WindowValue) (why : TargetFault) → Lawful refuses p → append_answer p id w ≡ Err why → after_append p id w ≡ p
+pub append_refused : (refuses : Document → Bool) (p : PeerValue) (id : SessionId) (w : WindowValue) (why : TargetFault) → LawfulSessions refuses p → append_answer p id w ≡ Err why → after_append p id w ≡ p
 append_refused refuses p id w why l h = go (session_in p.sessions id) refl h
   where
     stays : (s : SessionValue) (r : Result (Unit {0}) TargetFault) → r ≡ Err why → with_window w s r ≡ s

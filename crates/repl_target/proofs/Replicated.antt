@@ -15,7 +15,7 @@ use Rattle.repl_target.specs.declared.fault.TargetFault.{TargetFault}
 use Rattle.repl_target.specs.declared.fault.TargetFault.TheVariants as faults
 use Rattle.repl_target.specs.declared.replication.Plan.{Plan}
 use Rattle.repl_target.specs.Peer.{PeerValue, SessionValue}
-use Rattle.repl_target.specs.Law.{Lawful}
+use Rattle.repl_target.specs.Law.{LawfulSessions}
 use Rattle.repl_target.specs.Sessions.{new_session, begun, after_append, conclude_answer}
 use Rattle.repl_target.specs.Settling.{settle_check, settling_of, settled_before, after_all, after_documents, after_front, after_stop, settled_at, after_settle, SettlesAt, Settles, SettleGives}
 use Rattle.repl_target.specs.Audit.{rep_between, CoversFeed}
@@ -182,7 +182,7 @@ replicates_grown refuses source target plan result source' target' small (ended 
     (closed_grown refuses source.db plan (planned_batch source target plan planned) read target' closes.at_target))
 
 -- a replication keeps a tied pair tied, whatever it answers
-pub replicates_tied : (refuses : Document → Bool) (source target : PeerValue) (plan : Plan) (result : Result Report TargetFault) (source' target' : PeerValue) → LawfulDatabase source.db → Lawful refuses target → start_between source target < 2 ^ 64
+pub replicates_tied : (refuses : Document → Bool) (source target : PeerValue) (plan : Plan) (result : Result Report TargetFault) (source' target' : PeerValue) → LawfulDatabase source.db → LawfulSessions refuses target → start_between source target < 2 ^ 64
     → Replicates refuses source target plan result source' target' → source'.db ≡ source.db → IsTiedPair source target → IsTiedPair source' target'
 replicates_tied refuses source target plan result source' target' law l small h same tied =
     let grown = tied_grown refuses source target target' law l (replicates_grown refuses source target plan result source' target' small h) tied in
@@ -197,7 +197,7 @@ record Began (source target target' : PeerValue) (plan : Plan) : Type 0 where
   id : session.id ≡ plan.session
   rep : session.rep ≡ rep_between source target
 
-began : (refuses : Document → Bool) (source target target' : PeerValue) (plan : Plan) → LawfulDatabase source.db → Lawful refuses target → start_between source target < 2 ^ 64 → begins_answer source target plan ≡ Ok tt → IsGrown refuses source.db (after_begins source target plan) target' → Began source target target' plan
+began : (refuses : Document → Bool) (source target target' : PeerValue) (plan : Plan) → LawfulDatabase source.db → LawfulSessions refuses target → start_between source target < 2 ^ 64 → begins_answer source target plan ≡ Ok tt → IsGrown refuses source.db (after_begins source target plan) target' → Began source target target' plan
 unfolding begins_grown grown-one
 began refuses source target target' plan law l small ok grown =
     let p = after_begins source target plan in
@@ -209,7 +209,7 @@ began refuses source target target' plan law l small ok grown =
     record { session = k.0; held = subst (λ (q : PeerValue). Among k.0 q.sessions) (sym grown.2) k.1; id = k.2.id; rep = k.2.rep }
 
 -- all of the source's feed is covered then, what is under the start too
-pub replicates_whole : (refuses : Document → Bool) (source target : PeerValue) (plan : Plan) (result : Result Report TargetFault) (source' target' : PeerValue) → LawfulDatabase source.db → Lawful refuses target → Lawful refuses target' → start_between source target < 2 ^ 64
+pub replicates_whole : (refuses : Document → Bool) (source target : PeerValue) (plan : Plan) (result : Result Report TargetFault) (source' target' : PeerValue) → LawfulDatabase source.db → LawfulSessions refuses target → LawfulSessions refuses target' → start_between source target < 2 ^ 64
     → Replicates refuses source target plan result source' target' → IsTiedPair source target → IfOk result (λ report. IsReported source target target' plan report → CoversFeed source target' source.db.update_seq)
 replicates_whole refuses source target plan result source' target' law l l' small (not_planned h) tied = tt
 replicates_whole refuses source target plan result source' target' law l l' small (no_memory h) tied = tt

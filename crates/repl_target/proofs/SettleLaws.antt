@@ -24,7 +24,6 @@ use Rattle.couch_base.specs.Put.{put_told, put_answer, is_changed, after_put, co
 use Rattle.couch_base.specs.WriteLaws.{IsLater-same, IsLater-after_put, tree_in-with_tree}
 use Rattle.range_front.specs.Front.{is_done}
 use Rattle.range_front.specs.FrontLaws.{IsFront-finished, bounds-finished, end_of-finished, is_done-finished_cases, low_water-finished}
-use Rattle.repl_target.specs.declared.fault.Cause.TheVariants as causes
 use Rattle.repl_target.specs.declared.fault.Reason.{Reason}
 use Rattle.repl_target.specs.declared.fault.Reason.TheVariants as reasons
 use Rattle.repl_target.specs.declared.fault.Settled.{Settled}
@@ -34,7 +33,7 @@ use Rattle.repl_target.specs.Peer.{PeerValue, SessionValue, WrittenValue, Refuse
 use Rattle.repl_target.specs.Covered.{contradiction_of, refusal_of, rightly_refused, covers, knows_row, covers_window, CoversWindow}
 use Rattle.repl_target.specs.Sessions.{found_answer}
 use Rattle.repl_target.specs.Settling.{Settling, fed, with_refused, with_arrival, is_full, settle_as, settle_one, settle_docs, settled_before, has_row, has_room, window_in, settle_at, settle_check, with_settling, settling_of, after_documents, with_done, marked, after_all, after_front, after_stop, settled_at, after_settle, SettlesAt, Settles, SettleGives}
-use Rattle.repl_target.specs.Law.{LawfulSession, Lawful}
+use Rattle.repl_target.specs.Law.{LawfulSession, LawfulSessions}
 use Rattle.repl_target.specs.Later.{Keeps, IsLaterPeer}
 use Rattle.repl_target.proofs.Members.{Among-left, Among-push, all_member, found_member}
 use Rattle.repl_target.proofs.Keeping.{Keeps-same, Keeps-later, IsLaterPeer-same, IsLaterPeer-later, covers-later, session_found, with_session_holds, session_law}
@@ -128,20 +127,20 @@ arrival_lawful refuses q s d stands l = record {
 
 -- what documents leave of a session that the peer holds
 pub record SettlesLawfully (refuses : Document → Bool) (p : PeerValue) (s : SessionValue) (z : Settling) : Type 0 where
-  pub lawful : Lawful refuses (with_settling p z)
+  pub lawful : LawfulSessions refuses (with_settling p z)
   pub later : IsLaterPeer p (with_settling p z)
   pub keeps : Keeps s z.session
   pub held : Among z.session (with_session p.sessions z.session)
   pub windows : z.session.windows ≡ s.windows
   pub front : z.session.front ≡ s.front
 
-same_settles : (refuses : Document → Bool) (p : PeerValue) (s : SessionValue) → Among s p.sessions → Lawful refuses p → SettlesLawfully refuses p s (settling_of p s)
+same_settles : (refuses : Document → Bool) (p : PeerValue) (s : SessionValue) → Among s p.sessions → LawfulSessions refuses p → SettlesLawfully refuses p s (settling_of p s)
 same_settles refuses p s m l =
     let k = session_law refuses p p.db s s m (IsLater-same p.db) (Keeps-same s) (λ _ h. h) l in
     record { lawful = k.0; later = k.1; keeps = Keeps-same s; held = with_session_holds p.sessions s s m refl; windows = refl; front = refl }
 
 -- one document
-pub document_settles : (refuses : Document → Bool) (p : PeerValue) (s : SessionValue) (w : WindowValue) (d : Document) → Among s p.sessions → Lawful refuses p → SettlesLawfully refuses p s (settle_one refuses w (settling_of p s) d)
+pub document_settles : (refuses : Document → Bool) (p : PeerValue) (s : SessionValue) (w : WindowValue) (d : Document) → Among s p.sessions → LawfulSessions refuses p → SettlesLawfully refuses p s (settle_one refuses w (settling_of p s) d)
 document_settles refuses p s w d m l = go (refusal_of refuses p.db d) refl
   where
     go : (o : Option Reason) → refusal_of refuses p.db d ≡ o → SettlesLawfully refuses p s (settle_as w (settling_of p s) d o)
@@ -158,7 +157,7 @@ document_settles refuses p s w d m l = go (refusal_of refuses p.db d) refl
         record { lawful = k.0; later = k.1; keeps = keeps; held = with_session_holds p.sessions s _ m refl; windows = refl; front = refl })
 
 -- the later change stands
-with_session-twice : (sessions : List SessionValue) (s t : SessionValue) → t.id ≡ s.id → with_session (with_session sessions s) t ≡ with_session sessions t
+pub with_session-twice : (sessions : List SessionValue) (s t : SessionValue) → t.id ≡ s.id → with_session (with_session sessions s) t ≡ with_session sessions t
 with_session-twice [] s t e = refl
 with_session-twice (x ∷ sessions) s t e =
     cond_both (is_of s.id x) s x (λ y. cond (is_of t.id y) t y ∷ with_session (with_session sessions s) t ≡ with_session (x ∷ sessions) t)
@@ -177,7 +176,7 @@ settles_on refuses p s y z h k =
     let same = with_session-twice p.sessions y.session z.session k.keeps.id in
     let is = with_settling-twice p y z k.keeps.id in
     record {
-      lawful = subst (Lawful refuses) is k.lawful;
+      lawful = subst (LawfulSessions refuses) is k.lawful;
       later = subst (IsLaterPeer p) is (IsLaterPeer-later p (with_settling p y) (with_settling (with_settling p y) z) h.later k.later);
       keeps = Keeps-later s y.session z.session h.keeps k.keeps;
       held = subst (Among z.session) same k.held;
@@ -185,14 +184,14 @@ settles_on refuses p s y z h k =
       front = k.front ∙ h.front;
     }
 
-pub documents_settle : (refuses : Document → Bool) (p : PeerValue) (s : SessionValue) (w : WindowValue) (docs : List Document) → Among s p.sessions → Lawful refuses p → SettlesLawfully refuses p s (settle_docs refuses w (settling_of p s) docs)
+pub documents_settle : (refuses : Document → Bool) (p : PeerValue) (s : SessionValue) (w : WindowValue) (docs : List Document) → Among s p.sessions → LawfulSessions refuses p → SettlesLawfully refuses p s (settle_docs refuses w (settling_of p s) docs)
 documents_settle refuses p s w [] m l = same_settles refuses p s m l
 documents_settle refuses p s w (d ∷ docs) m l =
     let y = settle_one refuses w (settling_of p s) d in
     let h = document_settles refuses p s w d m l in
     settles_on refuses p s y (settle_docs refuses w y docs) h (documents_settle refuses (with_settling p y) y.session w docs h.held h.lawful)
 
-pub documents_law : (refuses : Document → Bool) (p : PeerValue) (s : SessionValue) (w : WindowValue) (docs : List Document) → Among s p.sessions → Lawful refuses p → Lawful refuses (after_documents refuses p s w docs) × IsLaterPeer p (after_documents refuses p s w docs)
+pub documents_law : (refuses : Document → Bool) (p : PeerValue) (s : SessionValue) (w : WindowValue) (docs : List Document) → Among s p.sessions → LawfulSessions refuses p → LawfulSessions refuses (after_documents refuses p s w docs) × IsLaterPeer p (after_documents refuses p s w docs)
 documents_law refuses p s w docs m l = let h = documents_settle refuses p s w docs m l in (h.lawful, h.later)
 
 -- ---- the mark
@@ -223,15 +222,15 @@ done_lawful refuses q s w parcel m covered l =
       read = l.read;
     }
 
-pub mark_law : (refuses : Document → Bool) (q : PeerValue) (s : SessionValue) (w : WindowValue) (parcel : ParcelValue) → Among s q.sessions → Among w s.windows → Lawful refuses q → Lawful refuses (marked q s w parcel) × IsLaterPeer q (marked q s w parcel)
+pub mark_law : (refuses : Document → Bool) (q : PeerValue) (s : SessionValue) (w : WindowValue) (parcel : ParcelValue) → Among s q.sessions → Among w s.windows → LawfulSessions refuses q → LawfulSessions refuses (marked q s w parcel) × IsLaterPeer q (marked q s w parcel)
 mark_law refuses q s w parcel m n l =
-    cond_both (covers_window q w) (record q { sessions = with_session q.sessions (with_done w parcel s) }) q (λ x. Lawful refuses x × IsLaterPeer q x)
+    cond_both (covers_window q w) (record q { sessions = with_session q.sessions (with_done w parcel s) }) q (λ x. LawfulSessions refuses x × IsLaterPeer q x)
     (λ covered.
     let keeps : Keeps s (with_done w parcel s) = record { id = refl; rep = refl; base = refl; goal = refl; start = refl; recorded = omega arith; windows = λ w m. m; arrivals = λ a m. m; ledger = λ x m. m } in
     session_law refuses q q.db s (with_done w parcel s) m (IsLater-same q.db) keeps (λ later h. done_lawful refuses _ s w parcel n (λ row i leaf j. covers-later q _ later row.id leaf (window_covered q w covered row i leaf j)) h) l)
     (λ _. (l, IsLaterPeer-same q))
 
-pub all_law : (refuses : Document → Bool) (p : PeerValue) (s : SessionValue) (w : WindowValue) (parcel : ParcelValue) → Among s p.sessions → Among w s.windows → Lawful refuses p → Lawful refuses (after_all refuses p s w parcel) × IsLaterPeer p (after_all refuses p s w parcel)
+pub all_law : (refuses : Document → Bool) (p : PeerValue) (s : SessionValue) (w : WindowValue) (parcel : ParcelValue) → Among s p.sessions → Among w s.windows → LawfulSessions refuses p → LawfulSessions refuses (after_all refuses p s w parcel) × IsLaterPeer p (after_all refuses p s w parcel)
 all_law refuses p s w parcel m n l =
     let z = settle_docs refuses w (settling_of p s) parcel.docs in
     let h = documents_settle refuses p s w parcel.docs m l in
@@ -319,23 +318,23 @@ after_stop_ends refuses p id parcel n = go (settle_check p id parcel) refl
 -- ---- the peer
 
 -- wherever settling ends, the law is kept
-pub ends_law : (refuses : Document → Bool) (p : PeerValue) (id : SessionId) (parcel : ParcelValue) (q : PeerValue) → Ends refuses p id parcel q → Lawful refuses p → Lawful refuses q × IsLaterPeer p q
-ends_law refuses p id parcel q (inl same) l = subst (λ x. Lawful refuses x × IsLaterPeer p x) (sym same) (l, IsLaterPeer-same p)
+pub ends_law : (refuses : Document → Bool) (p : PeerValue) (id : SessionId) (parcel : ParcelValue) (q : PeerValue) → Ends refuses p id parcel q → LawfulSessions refuses p → LawfulSessions refuses q × IsLaterPeer p q
+ends_law refuses p id parcel q (inl same) l = subst (λ x. LawfulSessions refuses x × IsLaterPeer p x) (sym same) (l, IsLaterPeer-same p)
 ends_law refuses p id parcel q (inr e) l =
     let t = e.1 in
     elim e.2 [
-      | inl all ↦ subst (λ x. Lawful refuses x × IsLaterPeer p x) (sym all) (all_law refuses p e.0.0 e.0.1 parcel t.held t.stored l)
-      | inr some ↦ subst (λ x. Lawful refuses x × IsLaterPeer p x) (sym some.1) (documents_law refuses p e.0.0 e.0.1 (take some.0 parcel.docs) t.held l)
+      | inl all ↦ subst (λ x. LawfulSessions refuses x × IsLaterPeer p x) (sym all) (all_law refuses p e.0.0 e.0.1 parcel t.held t.stored l)
+      | inr some ↦ subst (λ x. LawfulSessions refuses x × IsLaterPeer p x) (sym some.1) (documents_law refuses p e.0.0 e.0.1 (take some.0 parcel.docs) t.held l)
     ]
 
-pub settle_law : (refuses : Document → Bool) (p : PeerValue) (id : SessionId) (parcel : ParcelValue) (result : Result Settled TargetFault) (q : PeerValue) → SettleGives refuses p id parcel result q → Lawful refuses p → Lawful refuses q
+pub settle_law : (refuses : Document → Bool) (p : PeerValue) (id : SessionId) (parcel : ParcelValue) (result : Result Settled TargetFault) (q : PeerValue) → SettleGives refuses p id parcel result q → LawfulSessions refuses p → LawfulSessions refuses q
 settle_law refuses p id parcel result q gives l = (ends_law refuses p id parcel q (settle_ends refuses p id parcel result q gives) l).0
 
-pub settle_later : (refuses : Document → Bool) (p : PeerValue) (id : SessionId) (parcel : ParcelValue) (result : Result Settled TargetFault) (q : PeerValue) → SettleGives refuses p id parcel result q → Lawful refuses p → IsLaterPeer p q
+pub settle_later : (refuses : Document → Bool) (p : PeerValue) (id : SessionId) (parcel : ParcelValue) (result : Result Settled TargetFault) (q : PeerValue) → SettleGives refuses p id parcel result q → LawfulSessions refuses p → IsLaterPeer p q
 settle_later refuses p id parcel result q gives l = (ends_law refuses p id parcel q (settle_ends refuses p id parcel result q gives) l).1
 
-pub after_settle_law : (refuses : Document → Bool) (p : PeerValue) (id : SessionId) (parcel : ParcelValue) → Lawful refuses p → Lawful refuses (after_settle refuses p id parcel) × IsLaterPeer p (after_settle refuses p id parcel)
+pub after_settle_law : (refuses : Document → Bool) (p : PeerValue) (id : SessionId) (parcel : ParcelValue) → LawfulSessions refuses p → LawfulSessions refuses (after_settle refuses p id parcel) × IsLaterPeer p (after_settle refuses p id parcel)
 after_settle_law refuses p id parcel l = ends_law refuses p id parcel (after_settle refuses p id parcel) (after_settle_ends refuses p id parcel) l
 
-pub after_stop_law : (refuses : Document → Bool) (p : PeerValue) (id : SessionId) (parcel : ParcelValue) (n : ℕ) → Lawful refuses p → Lawful refuses (after_stop refuses p id parcel n) × IsLaterPeer p (after_stop refuses p id parcel n)
+pub after_stop_law : (refuses : Document → Bool) (p : PeerValue) (id : SessionId) (parcel : ParcelValue) (n : ℕ) → LawfulSessions refuses p → LawfulSessions refuses (after_stop refuses p id parcel n) × IsLaterPeer p (after_stop refuses p id parcel n)
 after_stop_law refuses p id parcel n l = ends_law refuses p id parcel (after_stop refuses p id parcel n) (after_stop_ends refuses p id parcel n) l

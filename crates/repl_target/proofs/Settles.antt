@@ -1,8 +1,8 @@
 -- What settling over the parts of a peer gives of the peer.
-use Rattle.std.proofs.Common.{◌≡◌, Bool, true, false, not, cond, if◌then◌else◌, ◌&&◌, ◌||◌, List, [], ◌∷◌, Option, Some, None, Result, Ok, Err, is_ok, nat_eq, refl, sym, ap, ◌∙◌, subst, inl, inr}
-use Rattle.std.specs.List.{find, list_all, IsDistinct}
+use Rattle.std.proofs.Common.{◌≡◌, Bool, true, false, not, cond, if◌then◌else◌, ◌&&◌, ◌||◌, List, [], ◌∷◌, Option, Some, None, Result, Ok, Err, is_ok, refl, sym, ap, ◌∙◌, subst, inl, inr}
+use Rattle.std.specs.List.{find, list_all}
 use Rattle.std.specs.Option.{option_map, option_or}
-use Rattle.std.proofs.lemmas.Bool.{and_from, and_left, and_right, cond_both, cond-true, cond-false, eq-eqb, eqb-true, or_cases, or_left, or_right, false≢true}
+use Rattle.std.proofs.lemmas.Bool.{and_from, and_left, and_right, cond_both, cond-true, cond-false, or_cases, or_left, or_right, false≢true}
 use Rattle.rev_core.specs.Rev.{RevId}
 use Rattle.rev_tree.specs.Tree.{has}
 use Rattle.rev_tree.specs.declared.origin.SessionId.{SessionId}
@@ -15,7 +15,6 @@ use Rattle.couch_base.specs.Messages.{ParcelValue}
 use Rattle.range_front.specs.Front.{is_done}
 use Rattle.repl_target.specs.Peer.{PeerValue, SessionValue, is_of, session_in, with_session}
 use Rattle.repl_target.specs.Covered.{in_ledger, covers, knows_row, covers_window, unknown_in, first_unknown, Leaf}
-use Rattle.repl_target.specs.Law.{session_numbers}
 use Rattle.repl_target.specs.Sessions.{found_answer}
 use Rattle.repl_target.specs.Settling.{Settling, has_row, has_room, settle_docs, settle_at, window_in, settle_check, with_settling, settling_of, with_done, after_all, SettlesAt, Settles, SettleGives}
 use Rattle.repl_target.specs.SettleParts.{with_mark, PartsSettled, PartsSettle, PartsGive}
@@ -24,11 +23,11 @@ use Rattle.repl_target.specs.LedgerIndex.{is_ledgered}
 use Rattle.repl_target.specs.Standing.{Indexes}
 use Rattle.repl_target.specs.declared.ledger_index.LedgerIndex.{LedgerIndex}
 use Rattle.repl_target.proofs.Refusing.{or_held}
-use Rattle.repl_target.specs.declared.fault.Cause.TheVariants as causes
 use Rattle.repl_target.specs.declared.fault.Settled.{Settled}
 use Rattle.repl_target.specs.declared.fault.TargetFault.{TargetFault}
 use Rattle.repl_target.specs.declared.fault.TargetFault.TheVariants as faults
-use Rattle.repl_target.proofs.Keeping.{one_session, with_session_holds}
+use Rattle.repl_target.proofs.Keeping.{with_session_holds}
+use Rattle.repl_target.proofs.SettleLaws.{with_session-twice}
 use Rattle.repl_target.proofs.Members.{Among-map, Among-mapped, any_member, any_from}
 
 -- ---- leaves
@@ -69,19 +68,8 @@ not_known known (row ∷ rows) u h = unknown_step known row rows u (not_known kn
 
 -- ---- one session in the place of another
 
--- a session that stands for another of its id, twice
-with_session-twice : (sessions : List SessionValue) (s t : SessionValue) → t.id ≡ s.id → with_session (with_session sessions s) t ≡ with_session sessions t
-with_session-twice [] s t same = refl
-with_session-twice (x ∷ sessions) s t same =
-    (λ i. (elim (is_of s.id x) as (λ b. is_of s.id x ≡ b → (if is_of t.id (if b then s else x) then t else (if b then s else x)) ≡ (if is_of t.id x then t else x)) [
-      | true ↦ λ here.
-          cond-true (is_of t.id s) t s (eq-eqb s.id.0 t.id.0 (ap (λ (j : SessionId). j.0) (sym same)))
-          ∙ sym (cond-true (is_of t.id x) t x (ap (λ (j : SessionId). is_of j x) same ∙ here))
-      | false ↦ λ _. refl
-    ] refl) i ∷ with_session-twice sessions s t same i)
-
 -- sessions of one id and one ledger cover the same
-same_ledgers : (sessions : List SessionValue) (s t : SessionValue) (id : Id) (r : RevId) → t.id ≡ s.id → t.ledger ≡ s.ledger → in_ledgers (with_session sessions t) id r ≡ in_ledgers (with_session sessions s) id r
+pub same_ledgers : (sessions : List SessionValue) (s t : SessionValue) (id : Id) (r : RevId) → t.id ≡ s.id → t.ledger ≡ s.ledger → in_ledgers (with_session sessions t) id r ≡ in_ledgers (with_session sessions s) id r
 same_ledgers [] s t id r same ledger = refl
 same_ledgers (x ∷ sessions) s t id r same ledger =
     (λ i. (ap (λ (j : SessionId). in_ledger (if is_of j x then t else x).ledger id r) same ∙ here) i || same_ledgers sessions s t id r same ledger i)
@@ -185,10 +173,10 @@ refused id r x = in_ledger x.ledger id r
 abbrev put_in : SessionValue → SessionValue → SessionValue
 put_in t x = if is_of t.id x then t else x
 
--- the ledgers after a session has refused more
-pub ledgers_after : (sessions : List SessionValue) (s t : SessionValue) (id : Id) (r : RevId) → IsDistinct nat_eq (session_numbers sessions) → Among s sessions → t.id ≡ s.id
+-- the ledgers after a session that stands among the others has refused more
+pub ledgers_after : (sessions : List SessionValue) (s t : SessionValue) (id : Id) (r : RevId) → with_session sessions s ≡ sessions → Among s sessions → t.id ≡ s.id
     → (in_ledger s.ledger id r ≡ true → in_ledger t.ledger id r ≡ true) → in_ledgers (with_session sessions t) id r ≡ (in_ledgers sessions id r || in_ledger t.ledger id r)
-ledgers_after sessions s t id r distinct held same more = same_tests _ _ forth back
+ledgers_after sessions s t id r stands held same more = same_tests _ _ forth back
   where
     forth : in_ledgers (with_session sessions t) id r ≡ true → (in_ledgers sessions id r || in_ledger t.ledger id r) ≡ true
     forth h =
@@ -198,15 +186,19 @@ ledgers_after sessions s t id r distinct held same more = same_tests _ _ forth b
         (λ _ e. or_right (in_ledgers sessions id r) (in_ledger t.ledger id r) (ap (refused id r) (sym e) ∙ m.2))
         (λ _ e. or_left (in_ledgers sessions id r) (in_ledger t.ledger id r) (any_from (refused id r) from.0 sessions from.1 (ap (refused id r) (sym e) ∙ m.2))) from.2
 
+    kept : (x : SessionValue) → refused id r (put_in s x) ≡ true → refused id r (put_in t x) ≡ true
+    kept x h =
+        cond_both (is_of t.id x) t x (λ y. refused id r y ≡ true)
+        (λ here. more (ap (refused id r) (sym (cond-true (is_of s.id x) s x (ap (λ (j : SessionId). is_of j x) (sym same) ∙ here))) ∙ h))
+        (λ past. ap (refused id r) (sym (cond-false (is_of s.id x) s x (ap (λ (j : SessionId). is_of j x) (sym same) ∙ past))) ∙ h)
+
     back : (in_ledgers sessions id r || in_ledger t.ledger id r) ≡ true → in_ledgers (with_session sessions t) id r ≡ true
     back h =
         elim (or_cases (in_ledgers sessions id r) (in_ledger t.ledger id r) h) [
           | inl old ↦
-              let m = any_member (refused id r) sessions old in
-              any_from (refused id r) (put_in t m.0) (with_session sessions t) (Among-mapped (put_in t) m.0 sessions m.1)
-              (cond_both (is_of t.id m.0) t m.0 (λ x. refused id r x ≡ true)
-              (λ here. more (ap (refused id r) (one_session sessions s m.0 distinct held m.1 (sym (eqb-true m.0.id.0 t.id.0 here ∙ ap (λ (j : SessionId). j.0) same))) ∙ m.2))
-              (λ _. m.2))
+              let m = any_member (refused id r) (with_session sessions s) (ap (λ l. in_ledgers l id r) stands ∙ old) in
+              let from = Among-map (put_in s) m.0 sessions m.1 in
+              any_from (refused id r) (put_in t from.0) (with_session sessions t) (Among-mapped (put_in t) from.0 sessions from.1) (kept from.0 (ap (refused id r) (sym from.2) ∙ m.2))
           | inr new ↦ any_from (refused id r) t (with_session sessions t) (with_session_holds sessions s t held same) new
         ]
 
@@ -222,11 +214,11 @@ indexed_own sessions ledgered s index held id r =
     sym (or_held (in_ledger s.ledger id r) (is_ledgered ledgered id r) (λ h. index id r ∙ any_from (λ (x : SessionValue). in_ledger x.ledger id r) s sessions held h))
 
 -- the index after a session has refused more is that of the ledgers
-pub index_after : (sessions : List SessionValue) (old new : LedgerIndex) (s t : SessionValue) → Indexes old sessions → IsDistinct nat_eq (session_numbers sessions) → Among s sessions → t.id ≡ s.id
+pub index_after : (sessions : List SessionValue) (old new : LedgerIndex) (s t : SessionValue) → Indexes old sessions → with_session sessions s ≡ sessions → Among s sessions → t.id ≡ s.id
     → ((id : Id) (r : RevId) → in_ledger s.ledger id r ≡ true → in_ledger t.ledger id r ≡ true)
     → (((id : Id) (r : RevId) → is_ledgered old id r ≡ (is_ledgered old id r || in_ledger s.ledger id r)) → (id : Id) (r : RevId) → is_ledgered new id r ≡ (is_ledgered old id r || in_ledger t.ledger id r))
     → Indexes new (with_session sessions t)
-index_after sessions old new s t index distinct held same more indexed id r =
+index_after sessions old new s t index stands held same more indexed id r =
     indexed (indexed_own sessions old s index held) id r
     ∙ ap (λ b. b || in_ledger t.ledger id r) (index id r)
-    ∙ sym (ledgers_after sessions s t id r distinct held same (more id r))
+    ∙ sym (ledgers_after sessions s t id r stands held same (more id r))

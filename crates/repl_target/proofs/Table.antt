@@ -1,201 +1,168 @@
--- The table of sessions, and what contracts see of it: the sessions newest first.
-use Rattle.std.proofs.Common.{◌≡◌, ℕ, ◌<◌, ◌≤◌, nat_lt, ◌==◌, ◌&&◌, ◌||◌, Bool, true, false, cond, if◌then◌else◌, List, [], ◌∷◌, ◌++◌, map, Option, Some, None, is_some, reverse, Result, Ok, Err, refl, sym, ap, ◌∙◌, subst}
-use Rattle.std.specs.List.{find, list_any, IsDistinct, AllByRecursion}
-use Rattle.std.specs.Option.{option_map, option_or}
+-- The table of sessions: its look-ups and its writes, as contracts see them.
+use Rattle.std.proofs.Common.{◌≡◌, ℕ, ◌<◌, ◌≤◌, nat_lt, ◌==◌, ◌&&◌, ◌||◌, true, false, cond, if◌then◌else◌, Bool, List, [], ◌∷◌, ◌++◌, map, Option, Some, None, is_some, Result, Ok, Err, OnOk, OnErr, refl, sym, ap, ◌∙◌, subst}
+use Rattle.std.specs.List.{IsDistinct}
+use Rattle.std.specs.Option.{option_map}
 use Rattle.std.specs.Map.{keys_of, lookup, set_value}
-use Rattle.std.proofs.lemmas.Bool.{eqb-true, eq-eqb, ne_eqb, eqb-false, lt-ltb, le-ltb}
-use Rattle.std.proofs.lemmas.List.{map_push, reverse-append}
-use Rattle.std.proofs.lemmas.List.Folds.{find-append}
-use Rattle.std.proofs.lemmas.Grind.{reverse_onto}
+use Rattle.std.proofs.lemmas.Bool.{lt-ltb, le-ltb}
+use Rattle.std.proofs.lemmas.Map.{keys-set_value}
 use Rattle.std.proofs.lemmas.Map.Steps.{set_value_same}
-use Rattle.indexmap.proofs.ReorderLemmas.{map-reverse}
+use Rattle.rev_core.specs.Rev.{RevId}
 use Rattle.rev_tree.specs.declared.origin.SessionId.{SessionId}
+use Rattle.couch_base.specs.Database.{Id}
+use Rattle.couch_base.specs.Feed.{WindowValue}
+use Rattle.range_front.specs.Front.{low_water}
 use Rattle.repl_log.specs.declared.replication.RepId.{RepId}
+use Rattle.repl_log.specs.Table.{at_session, IsKeyed}
+use Rattle.repl_log.specs.TableLaws.{find-chosen, find-lookup, any-lookup, newest_first-set, newest_first-push, IsKeyed-set, IsKeyed-push}
 use Rattle.repl_target.specs.Peer.{SessionValue, is_of, session_in, holds, with_session, same_rep}
-use Rattle.repl_target.specs.Kept.{session_value, sessions_of}
-use Rattle.repl_target.specs.Sessions.{base_in, base_answer, on_base, goal_answer, start_answer}
-use Rattle.repl_target.specs.Table.{with_changed, changed, recorded_of, recorded_by, begin_in}
+use Rattle.repl_target.specs.Covered.{in_ledger}
+use Rattle.repl_target.specs.Sessions.{base_in, base_answer, on_base, goal_answer, start_answer, append_in, with_window, recorded_at}
+use Rattle.repl_target.specs.SettleParts.{Indexes as IndexesMore}
+use Rattle.repl_target.specs.Standing.{sessions_of, Indexes, IsStored}
+use Rattle.repl_target.specs.Table.{in_ledgers, with_changed, changed, recorded_of, recorded_by, begin_in}
 use Rattle.repl_target.specs.declared.fault.TargetFault.{TargetFault}
 use Rattle.repl_target.specs.declared.fault.TargetFault.TheVariants as faults
-use Rattle.repl_target.specs.declared.session.Session.{Session}
+use Rattle.repl_target.specs.declared.ledger_index.LedgerIndex.{LedgerIndex}
+use Rattle.repl_target.proofs.Keeping.{session_found}
+use Rattle.repl_target.proofs.Settles.{same_ledgers, index_after}
 
--- the test by which the table finds an id
-abbrev pub at_id : SessionId → SessionId → Bool
-at_id id k = id.0 == k.0
+abbrev pub Entries : Type 0
+Entries = List (SessionId × SessionValue)
 
--- no id comes twice
-abbrev pub EachOnce : List (SessionId × Session) → Type 0
-EachOnce es = IsDistinct at_id (keys_of es)
+abbrev itself : SessionValue → SessionValue
+itself s = s
 
-abbrev valued : SessionId × Session → SessionValue
-valued e = session_value e.0 e.1
-
--- ---- ids
+abbrev id_of : SessionValue → SessionId
+id_of s = s.id
 
 same_id : (a b : SessionId) → a.0 ≡ b.0 → a ≡ b
 same_id a b same = λ i. record { 0 = same i }
 
--- the test and its converse
-is_of-at : (id k : SessionId) (s : Session) → at_id id k ≡ true → is_of id (session_value k s) ≡ true
-is_of-at id k s at = eq-eqb k.0 id.0 (sym (eqb-true id.0 k.0 at))
+mapped_itself : (o : Option SessionValue) → option_map itself o ≡ o
+mapped_itself None = refl
+mapped_itself (Some s) = refl
 
-is_of-past : (id k : SessionId) (s : Session) → at_id id k ≡ false → is_of id (session_value k s) ≡ false
-is_of-past id k s past = ne_eqb k.0 id.0 (λ same. eqb-false id.0 k.0 past (sym same))
+-- what a table has at an id, where it is of the replication
+abbrev based_on : RepId → Option SessionValue → Option SessionValue
+based_on rep None = None
+based_on rep (Some s) = if same_rep s.rep rep then Some s else None
 
--- ---- look-ups
+absent_at : {A : Type 0} (o : Option A) → is_some o ≡ false → o ≡ None
+absent_at None none = refl
+absent_at (Some x) none = cc
 
-absent-lookup : (id : SessionId) (es : List (SessionId × Session)) → AllByRecursion (λ k. at_id id k ≡ false) (keys_of es) → lookup (at_id id) es ≡ None
-absent-lookup id [] none = refl
-absent-lookup id (e ∷ es) none = ap (λ b. cond b (Some e.1) (lookup (at_id id) es)) none.0 ∙ absent-lookup id es none.1
+-- a session with another's id and ledger
+pub record IsSame (s t : SessionValue) : Type 0 where
+  pub id : t.id ≡ s.id
+  pub ledger : t.ledger ≡ s.ledger
 
-sessions_of-cons : (e : SessionId × Session) (es : List (SessionId × Session)) → sessions_of (e ∷ es) ≡ sessions_of es ++ valued e ∷ []
-sessions_of-cons e es = reverse_onto (map valued es) (valued e) []
+window_same : (w : WindowValue) (s : SessionValue) (answer : Result (Unit {0}) TargetFault) → IsSame s (with_window w s answer)
+window_same w s (Ok done) = record { id = refl; ledger = refl }
+window_same w s (Err fault) = record { id = refl; ledger = refl }
 
--- what a table has at an id, where it passes a further test
-abbrev pub chosen : (SessionValue → Bool) → SessionId → Option Session → Option SessionValue
-chosen q id None = None
-chosen q id (Some s) = if q (session_value id s) then Some (session_value id s) else None
+pub appended_same : (w : WindowValue) (s t : SessionValue) (r : Result (Unit {0}) TargetFault) → OnOk r (t ≡ with_window w s (append_in w s)) → OnErr r (t ≡ s) → IsSame s t
+appended_same w s t (Ok done) made kept = subst (IsSame s) (sym made) (window_same w s (append_in w s))
+appended_same w s t (Err fault) made kept = subst (IsSame s) (sym kept) (record { id = refl; ledger = refl })
 
-or_none : {A : Type 0} (o : Option A) → option_or o None ≡ o
-or_none None = refl
-or_none (Some x) = refl
+pub concluded_same : (at : ℕ) (s t : SessionValue) → t ≡ (if low_water s.front == s.goal then recorded_at at s else s) → IsSame s t
+concluded_same at s t made =
+    subst (IsSame s) (sym made)
+    (elim (low_water s.front == s.goal) as (λ b. IsSame s (cond b (recorded_at at s) s)) [ true ↦ record { id = refl; ledger = refl } | false ↦ record { id = refl; ledger = refl } ])
 
-module _ (q p : SessionValue → Bool) (id : SessionId) (says : (s : SessionValue) → p s ≡ (is_of id s && q s)) where
-  -- an entry at the id
-  chosen_at : (k : SessionId) (s : Session) → k ≡ id → at_id id k ≡ true → cond (p (session_value k s)) (Some (session_value k s)) None ≡ chosen q id (Some s)
-  chosen_at k s same at =
-      ap (λ b. cond b (Some (session_value k s)) None) (says (session_value k s) ∙ ap (λ b. b && q (session_value k s)) (is_of-at id k s at))
-      ∙ ap (λ (j : SessionId). cond (q (session_value j s)) (Some (session_value j s)) None) same
+module _ (ledgered : LedgerIndex) (es : Entries) (stored : IsStored ledgered es) (id : SessionId) where
+  -- ---- look-ups
 
-  -- an entry at another
-  chosen_past : (k : SessionId) (s : Session) → at_id id k ≡ false → cond (p (session_value k s)) (Some (session_value k s)) None ≡ None
-  chosen_past k s past = ap (λ b. cond b (Some (session_value k s)) None) (says (session_value k s) ∙ ap (λ b. b && q (session_value k s)) (is_of-past id k s past))
+  -- the session of an id is what the table has there
+  pub session_in-lookup : session_in (sessions_of es) id ≡ lookup (at_session id) es
+  session_in-lookup = find-lookup itself id_of id es stored.keyed stored.once ∙ mapped_itself (lookup (at_session id) es)
 
-  chosen_step : (e : SessionId × Session) (es : List (SessionId × Session)) → AllByRecursion (λ k. at_id e.0 k ≡ false) (keys_of es) → (b : Bool) → at_id id e.0 ≡ b
-      → option_or (chosen q id (lookup (at_id id) es)) (cond (p (valued e)) (Some (valued e)) None) ≡ chosen q id (cond b (Some e.1) (lookup (at_id id) es))
-  chosen_step e es apart true at =
-      let same : e.0 ≡ id = same_id e.0 id (sym (eqb-true id.0 e.0.0 at)) in
-      let none = absent-lookup id es (subst (λ (j : SessionId). AllByRecursion (λ k. at_id j k ≡ false) (keys_of es)) same apart) in
-      ap (λ o. option_or (chosen q id o) (cond (p (valued e)) (Some (valued e)) None)) none ∙ chosen_at e.0 e.1 same at
-  chosen_step e es apart false past = ap (option_or (chosen q id (lookup (at_id id) es))) (chosen_past e.0 e.1 past) ∙ or_none (chosen q id (lookup (at_id id) es))
+  pub session_in-at : (o : Option SessionValue) → lookup (at_session id) es ≡ o → session_in (sessions_of es) id ≡ o
+  session_in-at o is = session_in-lookup ∙ is
 
-  pub find-chosen : (es : List (SessionId × Session)) → EachOnce es → find p (sessions_of es) ≡ chosen q id (lookup (at_id id) es)
-  unfolding IsDistinct
-  find-chosen [] once = refl
-  find-chosen (e ∷ es) once =
-      ap (find p) (sessions_of-cons e es)
-      ∙ find-append p (sessions_of es) (valued e ∷ [])
-      ∙ ap (λ o. option_or o (find p (valued e ∷ []))) (find-chosen es once.1)
-      ∙ chosen_step e es once.0 (at_id id e.0) refl
+  pub holds-lookup : holds (sessions_of es) id ≡ is_some (lookup (at_session id) es)
+  holds-lookup = any-lookup itself id_of id es stored.keyed stored.once
 
-always : (b : Bool) → b ≡ (b && true)
-always true = refl
-always false = refl
+  pub absent-not_held : holds (sessions_of es) id ≡ false → lookup (at_session id) es ≡ None
+  absent-not_held none = absent_at (lookup (at_session id) es) (sym holds-lookup ∙ none)
 
-chosen-always : (id : SessionId) (o : Option Session) → chosen (λ _. true) id o ≡ option_map (session_value id) o
-chosen-always id None = refl
-chosen-always id (Some s) = refl
+  -- a base is the session of its id, where that is of the replication
+  chosen-based : (rep : RepId) (o : Option SessionValue) → lookup (at_session id) es ≡ o → base_in (sessions_of es) rep id ≡ based_on rep o
+  chosen-based rep None is =
+      find-chosen itself id_of (λ s. same_rep s.rep rep) (λ s. is_of id s && same_rep s.rep rep) id (λ s. refl) es stored.keyed stored.once ∙ (rw is refl)
+  chosen-based rep (Some s) is =
+      find-chosen itself id_of (λ s. same_rep s.rep rep) (λ s. is_of id s && same_rep s.rep rep) id (λ s. refl) es stored.keyed stored.once ∙ (rw is refl)
 
--- the session of an id is what the table has there
-pub session_in-lookup : (id : SessionId) (es : List (SessionId × Session)) → EachOnce es → session_in (sessions_of es) id ≡ option_map (session_value id) (lookup (at_id id) es)
-session_in-lookup id es once =
-    find-chosen (λ _. true) (is_of id) id (λ s. always (is_of id s)) es once ∙ chosen-always id (lookup (at_id id) es)
+  pub recorded_by-at : (rep : RepId) (o : Option SessionValue) → lookup (at_session id) es ≡ o → recorded_by (sessions_of es) rep (Some id) ≡ recorded_of (based_on rep o)
+  recorded_by-at rep o is = ap recorded_of (chosen-based rep o is)
 
-pub session_in-found : (id : SessionId) (es : List (SessionId × Session)) (s : Session) → EachOnce es → lookup (at_id id) es ≡ Some s → session_in (sessions_of es) id ≡ Some (session_value id s)
-session_in-found id es s once is = session_in-lookup id es once ∙ ap (option_map (session_value id)) is
+  pub recorded_by-found : (rep : RepId) (s : SessionValue) → lookup (at_session id) es ≡ Some s → same_rep s.rep rep ≡ true → recorded_by (sessions_of es) rep (Some id) ≡ Ok s.recorded
+  recorded_by-found rep s is same = recorded_by-at rep (Some s) is ∙ ap (λ b. recorded_of (cond b (Some s) None)) same
 
-pub session_in-absent : (id : SessionId) (es : List (SessionId × Session)) → EachOnce es → lookup (at_id id) es ≡ None → session_in (sessions_of es) id ≡ None
-session_in-absent id es once is = session_in-lookup id es once ∙ ap (option_map (session_value id)) is
+  pub recorded_by-other : (rep : RepId) (s : SessionValue) → lookup (at_session id) es ≡ Some s → same_rep s.rep rep ≡ false → recorded_by (sessions_of es) rep (Some id) ≡ Err faults.NoSuchBase
+  recorded_by-other rep s is other = recorded_by-at rep (Some s) is ∙ ap (λ b. recorded_of (cond b (Some s) None)) other
 
--- a base is the session of its id, where that is of the replication
-pub base_in-lookup : (rep : RepId) (base : SessionId) (es : List (SessionId × Session)) → EachOnce es → base_in (sessions_of es) rep base ≡ chosen (λ s. same_rep s.rep rep) base (lookup (at_id base) es)
-base_in-lookup rep base es once = find-chosen (λ s. same_rep s.rep rep) (λ s. is_of base s && same_rep s.rep rep) base (λ s. refl) es once
+  -- ---- a new session
 
-recorded-chosen : (rep : RepId) (base : SessionId) (es : List (SessionId × Session)) (o : Option SessionValue) → EachOnce es → chosen (λ s. same_rep s.rep rep) base (lookup (at_id base) es) ≡ o → recorded_by (sessions_of es) rep (Some base) ≡ recorded_of o
-recorded-chosen rep base es o once is = ap recorded_of (base_in-lookup rep base es once ∙ is)
+  pub sessions_of-new : (s : SessionValue) → sessions_of (es ++ (id, s) ∷ []) ≡ s ∷ sessions_of es
+  sessions_of-new s = newest_first-push itself id_of id s es
 
-abbrev chosen_of : RepId → SessionId → Option Session → Option SessionValue
-chosen_of rep base o = chosen (λ s. same_rep s.rep rep) base o
+  pub Stored-new : (new : Entries) (s : SessionValue) → new ≡ es ++ (id, s) ∷ [] → IsDistinct at_session (keys_of new) → s.id ≡ id → s.ledger ≡ [] → IsStored ledgered new
+  Stored-new new s is once own none = record {
+    once = once;
+    keyed = subst (IsKeyed id_of) (sym is) (IsKeyed-push itself id_of id s es stored.keyed own);
+    index = λ doc r. stored.index doc r ∙ ap (λ l. in_ledger l doc r || in_ledgers (sessions_of es) doc r) (sym none) ∙ ap (λ ss. in_ledgers ss doc r) (sym (ap sessions_of is ∙ sessions_of-new s));
+  }
 
-pub recorded_by-found : (rep : RepId) (base : SessionId) (es : List (SessionId × Session)) (s : Session) → EachOnce es → lookup (at_id base) es ≡ Some s → same_rep s.rep rep ≡ true → recorded_by (sessions_of es) rep (Some base) ≡ Ok s.recorded
-recorded_by-found rep base es s once is same =
-    recorded-chosen rep base es (Some (session_value base s)) once (ap (chosen_of rep base) is ∙ ap (λ b. cond b (Some (session_value base s)) None) same)
+  -- ---- a write at the session of the id
 
-pub recorded_by-other : (rep : RepId) (base : SessionId) (es : List (SessionId × Session)) (s : Session) → EachOnce es → lookup (at_id base) es ≡ Some s → same_rep s.rep rep ≡ false → recorded_by (sessions_of es) rep (Some base) ≡ Err faults.NoSuchBase
-recorded_by-other rep base es s once is other =
-    recorded-chosen rep base es None once (ap (chosen_of rep base) is ∙ ap (λ b. cond b (Some (session_value base s)) None) other)
+  module _ (s t : SessionValue) (is : lookup (at_session id) es ≡ Some s) where
+    found : session_in (sessions_of es) id ≡ Some s
+    found = session_in-at (Some s) is
 
-pub recorded_by-absent : (rep : RepId) (base : SessionId) (es : List (SessionId × Session)) → EachOnce es → lookup (at_id base) es ≡ None → recorded_by (sessions_of es) rep (Some base) ≡ Err faults.NoSuchBase
-recorded_by-absent rep base es once is = recorded-chosen rep base es None once (ap (chosen_of rep base) is)
+    own : s.id ≡ id
+    own = same_id s.id id (session_found (sessions_of es) id s found).1
 
-found-any : {A : Type 0} (p : A → Bool) (xs : List A) → list_any p xs ≡ is_some (find p xs)
-found-any p [] = refl
-found-any p (x ∷ xs) = step (p x) (found-any p xs)
-  where
-    step : (b : Bool) → list_any p xs ≡ is_some (find p xs) → (b || list_any p xs) ≡ is_some (cond b (Some x) (find p xs))
-    step true rest = refl
-    step false rest = rest
+    put_back : (x : SessionValue) → x.id ≡ s.id → sessions_of (set_value (at_session id) es x) ≡ with_session (sessions_of es) x
+    put_back x same =
+        newest_first-set itself id_of id x es stored.keyed stored.once
+        ∙ ap (λ (j : SessionId). map (λ (y : SessionValue). cond (is_of j y) x y) (sessions_of es)) (sym (same ∙ own))
 
-mapped-some : {A B : Type 0} (f : A → B) (o : Option A) → is_some (option_map f o) ≡ is_some o
-mapped-some f None = refl
-mapped-some f (Some x) = refl
+    -- the session itself is there already
+    pub with_session-same : with_session (sessions_of es) s ≡ sessions_of es
+    with_session-same = sym (put_back s refl) ∙ ap sessions_of (set_value_same (at_session id) es s is)
 
-pub holds-lookup : (id : SessionId) (es : List (SessionId × Session)) → EachOnce es → holds (sessions_of es) id ≡ is_some (lookup (at_id id) es)
-holds-lookup id es once =
-    found-any (is_of id) (sessions_of es) ∙ ap is_some (session_in-lookup id es once) ∙ mapped-some (session_value id) (lookup (at_id id) es)
+    pub sessions_of-set : t.id ≡ s.id → sessions_of (set_value (at_session id) es t) ≡ with_session (sessions_of es) t
+    sessions_of-set same = put_back t same
 
--- ---- writes
+    pub sessions_of-same : t ≡ s → sessions_of (set_value (at_session id) es t) ≡ sessions_of es
+    sessions_of-same same = put_back t (ap id_of same) ∙ ap (with_session (sessions_of es)) same ∙ with_session-same
 
-abbrev put_in : SessionId → Session → SessionValue → SessionValue
-put_in id s x = if is_of id x then session_value id s else x
+    pub sessions_of-changed : (change : SessionValue → SessionValue) → t.id ≡ s.id → t ≡ change s → sessions_of (set_value (at_session id) es t) ≡ with_changed (sessions_of es) id change
+    sessions_of-changed change same made =
+        put_back t same ∙ ap (with_session (sessions_of es)) made ∙ ap (changed change (sessions_of es)) (sym found)
 
-untouched : (id : SessionId) (s : Session) (es : List (SessionId × Session)) → AllByRecursion (λ k. at_id id k ≡ false) (keys_of es) → map valued es ≡ map (put_in id s) (map valued es)
-untouched id s [] none = refl
-untouched id s (e ∷ es) none = λ i. cond (sym (is_of-past id e.0 e.1 none.0) i) (session_value id s) (valued e) ∷ untouched id s es none.1 i
+    written : (new : LedgerIndex) → t.id ≡ s.id → Indexes new (with_session (sessions_of es) t) → IsStored new (set_value (at_session id) es t)
+    written new same index = record {
+      once = subst (IsDistinct at_session) (sym (keys-set_value (at_session id) es t)) stored.once;
+      keyed = IsKeyed-set itself id_of id t es stored.keyed (same ∙ own);
+      index = λ doc r. index doc r ∙ ap (λ ss. in_ledgers ss doc r) (sym (put_back t same));
+    }
 
-put_step : (id : SessionId) (s : Session) (e : SessionId × Session) (es : List (SessionId × Session)) → AllByRecursion (λ k. at_id e.0 k ≡ false) (keys_of es)
-    → map valued (set_value (at_id id) es s) ≡ map (put_in id s) (map valued es) → (b : Bool) → at_id id e.0 ≡ b
-    → map valued (cond b ((e.0, s) ∷ es) (e ∷ set_value (at_id id) es s)) ≡ put_in id s (valued e) ∷ map (put_in id s) (map valued es)
-put_step id s e es apart rest true at =
-    let same : e.0 ≡ id = same_id e.0 id (sym (eqb-true id.0 e.0.0 at)) in
-    let others = untouched id s es (subst (λ (j : SessionId). AllByRecursion (λ k. at_id j k ≡ false) (keys_of es)) same apart) in
-    let here : session_value e.0 s ≡ put_in id s (valued e) =
-    ap (λ (j : SessionId). session_value j s) same ∙ ap (λ b. cond b (session_value id s) (valued e)) (sym (is_of-at id e.0 e.1 at)) in
-    λ i. here i ∷ others i
-put_step id s e es apart rest false past =
-    λ i. cond (sym (is_of-past id e.0 e.1 past) i) (session_value id s) (valued e) ∷ rest i
+    -- a write that keeps the ledger
+    pub Stored-same : (new : Entries) → new ≡ set_value (at_session id) es t → IsSame s t → IsStored ledgered new
+    Stored-same new set same =
+        subst (IsStored ledgered) (sym set)
+        (written ledgered same.id (λ doc r.
+        stored.index doc r ∙ ap (λ ss. in_ledgers ss doc r) (sym with_session-same) ∙ sym (same_ledgers (sessions_of es) s t doc r same.id same.ledger)))
 
-put_in-set : (id : SessionId) (s : Session) (es : List (SessionId × Session)) → EachOnce es → map valued (set_value (at_id id) es s) ≡ map (put_in id s) (map valued es)
-unfolding IsDistinct
-put_in-set id s [] once = refl
-put_in-set id s (e ∷ es) once = put_step id s e es once.0 (put_in-set id s es once.1) (at_id id e.0) refl
+    -- a write that adds to the ledger
+    pub Stored-more : (new : LedgerIndex) → t.id ≡ s.id → ((doc : Id) (r : RevId) → in_ledger s.ledger doc r ≡ true → in_ledger t.ledger doc r ≡ true)
+        → ((base : LedgerIndex) → IndexesMore base s.ledger ledgered → IndexesMore base t.ledger new) → IsStored new (set_value (at_session id) es t)
+    Stored-more new same more indexed =
+        written new same (index_after (sessions_of es) ledgered new s t stored.index with_session-same (session_found (sessions_of es) id s found).0 same more (indexed ledgered))
 
--- a write at an id puts the session in its place
-pub with_session-set : (id : SessionId) (s : Session) (es : List (SessionId × Session)) → EachOnce es → sessions_of (set_value (at_id id) es s) ≡ with_session (sessions_of es) (session_value id s)
-with_session-set id s es once = ap reverse (put_in-set id s es once) ∙ sym (map-reverse (put_in id s) (map valued es))
-
--- what a change of the session at an id leaves
-pub with_changed-set : (change : SessionValue → SessionValue) (id : SessionId) (s t : Session) (es : List (SessionId × Session)) → EachOnce es → lookup (at_id id) es ≡ Some s → session_value id t ≡ change (session_value id s)
-    → sessions_of (set_value (at_id id) es t) ≡ with_changed (sessions_of es) id change
-with_changed-set change id s t es once is made =
-    with_session-set id t es once
-    ∙ ap (with_session (sessions_of es)) made
-    ∙ ap (changed change (sessions_of es)) (sym (session_in-found id es s once is))
-
-pub with_changed-absent : (change : SessionValue → SessionValue) (id : SessionId) (es : List (SessionId × Session)) → EachOnce es → lookup (at_id id) es ≡ None → sessions_of es ≡ with_changed (sessions_of es) id change
-with_changed-absent change id es once is = ap (changed change (sessions_of es)) (sym (session_in-absent id es once is))
-
--- a new entry is the newest session
-pub sessions_of-push : (id : SessionId) (s : Session) (es : List (SessionId × Session)) → sessions_of (es ++ (id, s) ∷ []) ≡ session_value id s ∷ sessions_of es
-sessions_of-push id s es = ap reverse (map_push valued es (id, s)) ∙ reverse-append (map valued es) (session_value id s ∷ [])
-
--- a write that contracts don't see leaves the sessions
-pub sessions_of-same : (id : SessionId) (s t : Session) (es : List (SessionId × Session)) → EachOnce es → lookup (at_id id) es ≡ Some s → session_value id t ≡ session_value id s → sessions_of (set_value (at_id id) es t) ≡ sessions_of es
-sessions_of-same id s t es once is same =
-    with_session-set id t es once
-    ∙ ap (with_session (sessions_of es)) same
-    ∙ sym (with_session-set id s es once)
-    ∙ ap sessions_of (set_value_same (at_id id) es s is)
+  pub sessions_of-absent : (change : SessionValue → SessionValue) → lookup (at_session id) es ≡ None → sessions_of es ≡ with_changed (sessions_of es) id change
+  sessions_of-absent change is = ap (changed change (sessions_of es)) (sym (session_in-at None is))
 
 -- ---- beginning, by what a base has recorded
 
@@ -261,10 +228,3 @@ new_at false r told = refl
 
 pub begin_in-new : (sessions : List SessionValue) (id : SessionId) (rep : RepId) (base : Option SessionId) (start goal : ℕ) → Ok tt ≡ begin_in sessions id rep base start goal → holds sessions id ≡ false
 begin_in-new sessions id rep base start goal told = new_at (holds sessions id) _ told
-
-absent_at : {A : Type 0} (o : Option A) → is_some o ≡ false → o ≡ None
-absent_at None none = refl
-absent_at (Some x) none = cc
-
-pub absent-not_held : (id : SessionId) (es : List (SessionId × Session)) → EachOnce es → holds (sessions_of es) id ≡ false → lookup (at_id id) es ≡ None
-absent-not_held id es once none = absent_at (lookup (at_id id) es) (sym (holds-lookup id es once) ∙ none)

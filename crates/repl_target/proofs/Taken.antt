@@ -25,7 +25,7 @@ use Rattle.repl_target.specs.Peer.{PeerValue, SessionValue, RefusedValue, writte
 use Rattle.repl_target.specs.Covered.{refusal_of, in_ledger, covers, unknown_in, first_unknown}
 use Rattle.repl_target.specs.Sessions.{found_answer}
 use Rattle.repl_target.specs.Settling.{Settling, settle_as, settle_one, settle_docs, stops_as, stops_at, settled_before, is_full, has_row, has_room, window_in, settle_at, settle_check, settling_of, with_settling, after_documents, after_all, Settles, SettleGives}
-use Rattle.repl_target.specs.Law.{Lawful}
+use Rattle.repl_target.specs.Law.{LawfulSessions}
 use Rattle.repl_target.proofs.Members.{Among-left, Among-last, any_from}
 use Rattle.repl_target.proofs.Keeping.{covers-later, one_session}
 use Rattle.repl_target.proofs.SettleLaws.{SettlesLawfully, documents_settle, settle_told, mark_law}
@@ -128,7 +128,7 @@ checked p id parcel fault h = in_peer (session_in p.sessions id) h
     in_peer (Some s) e = in_window s (window_in s parcel.asked.lo parcel.asked.hi) e
 
 -- a leaf of the own window, after all documents
-leaf_covered : (refuses : Document → Bool) (p : PeerValue) (s : SessionValue) (w : WindowValue) (parcel : ParcelValue) → Lawful refuses p → Among s p.sessions → IsTiedParcel p.db w parcel → IsParcel parcel → settled_before refuses w (settling_of p s) parcel.docs ≡ length parcel.docs
+leaf_covered : (refuses : Document → Bool) (p : PeerValue) (s : SessionValue) (w : WindowValue) (parcel : ParcelValue) → LawfulSessions refuses p → Among s p.sessions → IsTiedParcel p.db w parcel → IsParcel parcel → settled_before refuses w (settling_of p s) parcel.docs ≡ length parcel.docs
     → (row : RowValue) → Among row w.rows → (leaf : RevId) → Among leaf row.leaves → covers (after_documents refuses p s w parcel.docs) row.id leaf ≡ true
 unfolding IsTaken
 leaf_covered refuses p s w parcel l m tied law all row n leaf k =
@@ -155,7 +155,7 @@ leaf_covered refuses p s w parcel l m tied law all row n leaf k =
         ]
 
 -- so settling a parcel of its own window never tells a leaf that isn't covered
-pub own_covered : (refuses : Document → Bool) (p : PeerValue) (s : SessionValue) (w : WindowValue) (parcel : ParcelValue) → Lawful refuses p → Among s p.sessions → Among w s.windows → IsTiedParcel p.db w parcel → IsParcel parcel
+pub own_covered : (refuses : Document → Bool) (p : PeerValue) (s : SessionValue) (w : WindowValue) (parcel : ParcelValue) → LawfulSessions refuses p → Among s p.sessions → Among w s.windows → IsTiedParcel p.db w parcel → IsParcel parcel
     → (result : Result Settled TargetFault) (q : PeerValue) → SettleGives refuses p s.id parcel result q → is_uncovered result ≡ false
 own_covered refuses p s w parcel l m n tied law (Ok settled) q gives = refl
 own_covered refuses p s w parcel l m n tied law (Err (faults.Uncovered seq id rev)) q gives = go (settle_check p s.id parcel) refl gives

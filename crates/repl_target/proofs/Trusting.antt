@@ -11,14 +11,14 @@ use Rattle.couch_base.specs.Database.{Id}
 use Rattle.repl_log.specs.Entry.{IsSound}
 use Rattle.repl_target.specs.Peer.{PeerValue, SessionValue, RefusedValue, entry_of}
 use Rattle.repl_target.specs.Covered.{in_ledger, covers}
-use Rattle.repl_target.specs.Law.{Lawful}
+use Rattle.repl_target.specs.Law.{LawfulSessions}
 use Rattle.repl_target.specs.Origins.{HasOrigins}
 use Rattle.repl_target.specs.Trusted.{IsAccounted, IsTrusted}
 use Rattle.repl_target.proofs.Members.{any_member}
 use Rattle.repl_target.proofs.Honest.{honest_is, counts_are}
 
 -- what a lawful peer covers is in a tree, or was rightly refused
-pub covered_accounted : (refuses : Document → Bool) (p : PeerValue) → Lawful refuses p → (id : Id) (r : RevId) → covers p id r ≡ true → IsAccounted refuses p id r
+pub covered_accounted : (refuses : Document → Bool) (p : PeerValue) → LawfulSessions refuses p → (id : Id) (r : RevId) → covers p id r ≡ true → IsAccounted refuses p id r
 covered_accounted refuses p l id r c =
     elim (or_cases _ _ c) [
       | inl there ↦ inl there
@@ -29,7 +29,7 @@ covered_accounted refuses p l id r c =
           inr (record { by = s.0; held = s.1; refused = x.0; stored = x.1; of = (bytes_eq-Decides x.0.doc.id id).0 both.0; holds = both.1; rightly = (l.sessions s.0 s.1).ledger x.0 x.1 })
     ]
 
-pub trusted_is : (refuses : Document → Bool) (p : PeerValue) → Lawful refuses p → HasOrigins p → IsTrusted refuses p
+pub trusted_is : (refuses : Document → Bool) (p : PeerValue) → LawfulSessions refuses p → HasOrigins p → IsTrusted refuses p
 trusted_is refuses p l origins = record {
   recorded = λ s m w n row k under leaf j. covered_accounted refuses p l row.id leaf (honest_is refuses p l s m w n row k under leaf j);
   origins = origins;
@@ -37,5 +37,5 @@ trusted_is refuses p l origins = record {
 }
 
 -- what a log says of a session is sound
-pub entry_sound : (refuses : Document → Bool) (p : PeerValue) → Lawful refuses p → (s : SessionValue) → Among s p.sessions → IsSound (entry_of s)
+pub entry_sound : (refuses : Document → Bool) (p : PeerValue) → LawfulSessions refuses p → (s : SessionValue) → Among s p.sessions → IsSound (entry_of s)
 entry_sound refuses p l s m = let law = l.sessions s m in record { accounted = law.read; from_start = law.start }

@@ -11,9 +11,17 @@ use Rattle.couch_base.specs.Feed.{WindowValue, IsWindow}
 use Rattle.range_front.specs.Front.{IsFront, bounds, end_of, is_done, low_water}
 use Rattle.repl_target.specs.Peer.{PeerValue, SessionValue, WrittenValue, RefusedValue}
 use Rattle.repl_target.specs.Covered.{rightly_refused, CoversWindow}
+use Rattle.repl_target.specs.Origins.{HasOrigins}
 
 abbrev pub window_bounds : List WindowValue → List (ℕ × ℕ)
 window_bounds ws = map (λ w. (w.lo, w.hi)) ws
+
+-- what holds of a session alone
+pub record IsSession (s : SessionValue) : Type 0 where
+  pub front : IsFront s.front
+  pub bounds : window_bounds s.windows ≡ bounds s.front
+  pub start : s.front.start ≤ s.recorded
+  pub read : s.read ≡ s.written + s.failures
 
 pub record LawfulSession (refuses : Document → Bool) (p : PeerValue) (s : SessionValue) : Type 0 where
   -- the windows are consecutive from the start, inside the goal, with rows rising; the done ones are of them
@@ -47,8 +55,13 @@ AllBased (s ∷ earlier) = IsBased earlier s × AllBased earlier
 abbrev pub session_numbers : List SessionValue → List ℕ
 session_numbers sessions = map (λ s. s.id.0) sessions
 
--- what holds of every peer
-pub record Lawful (refuses : Document → Bool) (p : PeerValue) : Type 0 where
+-- what holds of the sessions of every peer
+pub record LawfulSessions (refuses : Document → Bool) (p : PeerValue) : Type 0 where
   pub sessions : (s : SessionValue) → Among s p.sessions → LawfulSession refuses p s
   pub based : AllBased p.sessions
   pub distinct : IsDistinct nat_eq (session_numbers p.sessions)
+
+-- what holds of every peer: the laws of its sessions, and that each of its revisions has an origin
+pub record Lawful (refuses : Document → Bool) (p : PeerValue) : Type 0 where
+  pub sessions : LawfulSessions refuses p
+  pub origins : HasOrigins p

@@ -6,7 +6,7 @@ pub mod Settling
 pub mod Law
 pub mod Rules
 pub mod Lineage
-pub mod Kept
+pub mod Stored
 pub mod Later
 pub mod PeerCode
 pub mod Origins

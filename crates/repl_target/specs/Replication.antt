@@ -1,5 +1,5 @@
 -- Replication by one thread: docs/PROFILE.md, "Replication by one thread"; CouchDB, "Replication Protocol".
-use Rattle.std.specs.Prelude.{◌≡◌, ◌⊎◌, ℕ, zero, suc, ◌+◌, ◌==◌, ◌<◌, Bool, true, false, ◌&&◌, nat_lt, nat_le, if◌then◌else◌, List, [], Option, Some, None, Result, Ok, Err, IsOk}
+use Rattle.std.specs.Prelude.{◌≡◌, ◌⊎◌, ℕ, zero, suc, ◌+◌, ◌==◌, ◌<◌, Bool, true, false, ◌&&◌, nat_lt, nat_le, if◌then◌else◌, [], Option, Some, None, Result, Ok, Err, IsOk}
 use Rattle.std.specs.FinMap.{get}
 use Rattle.rev_core.specs.Rev.{RevId}
 use Rattle.rev_tree.specs.Tree.{TreeValue, has, is_leaf}

@@ -1,12 +1,11 @@
 -- Settling over the parts of a peer: a database, one session and the index of refused revisions.
-use Rattle.std.specs.Prelude.{◌≡◌, ℕ, ◌+◌, ◌<◌, ◌≤◌, ◌==◌, Bool, true, false, ◌&&◌, ◌||◌, if◌then◌else◌, List, [], ◌∷◌, ◌++◌, map, length, take, drop, slice_get, Option, Some, None, Result, Ok, Err}
+use Rattle.std.specs.Prelude.{◌≡◌, ℕ, ◌+◌, ◌<◌, ◌≤◌, ◌==◌, Bool, true, false, ◌&&◌, ◌||◌, if◌then◌else◌, List, [], ◌∷◌, ◌++◌, length, take, drop, slice_get, Option, Some, None, Result, Ok, Err}
 use Rattle.std.specs.List.{find}
 use Rattle.std.specs.Str.{bytes_eq}
 use Rattle.rev_core.specs.Rev.{RevId}
 use Rattle.rev_core.specs.Ancestry.{is_among}
 use Rattle.rev_tree.specs.Tree.{has}
 use Rattle.rev_tree.specs.declared.origin.Origin.{Origin}
-use Rattle.rev_tree.specs.declared.origin.SessionId.{SessionId}
 use Rattle.doc_json.specs.Document.{Document}
 use Rattle.couch_base.specs.Database.{Id, DatabaseValue, tree_of}
 use Rattle.couch_base.specs.Feed.{RowValue, WindowValue}
@@ -14,8 +13,7 @@ use Rattle.couch_base.specs.Messages.{ParcelValue}
 use Rattle.couch_base.specs.Put.{put_answer, after_put}
 use Rattle.range_front.specs.Front.{finished}
 use Rattle.repl_target.specs.Peer.{PeerValue, SessionValue, RefusedValue}
-use Rattle.repl_target.specs.Covered.{refusal_of, in_ledger, first_unknown}
-use Rattle.repl_target.specs.Kept.{session_value}
+use Rattle.repl_target.specs.Covered.{in_ledger, first_unknown}
 use Rattle.repl_target.specs.LedgerIndex.{is_ledgered}
 use Rattle.repl_target.specs.Settling.{Settling, is_full, with_refused, with_arrival, fed, Halts, stops_in, stops_at, settle_one, leaf_count, asked_count, settle_docs, settled_before, settle_at, window_in, with_done, Counts}
 use Rattle.repl_target.specs.declared.fault.Cause.{Cause}
@@ -24,7 +22,6 @@ use Rattle.repl_target.specs.declared.fault.Reason.{Reason}
 use Rattle.repl_target.specs.declared.fault.Settled.{Settled}
 use Rattle.repl_target.specs.declared.fault.TargetFault.{TargetFault}
 use Rattle.repl_target.specs.declared.fault.TargetFault.TheVariants as faults
-use Rattle.repl_target.specs.declared.session.Session.{Session}
 use Rattle.repl_target.specs.declared.ledger_index.LedgerIndex.{LedgerIndex}
 
 -- a revision is in its document's tree, or refused
@@ -68,12 +65,8 @@ abbrev pub entered : Document → Option Reason → SessionValue → SessionValu
 entered d None s = with_arrival d s
 entered d (Some reason) s = with_refused d reason s
 
--- a database and a session, as they are kept
-abbrev pub settling_at : DatabaseValue → SessionId → Session → Settling
-settling_at db id session = record { db = db; session = session_value id session }
-
-abbrev pub ledger_of : Session → List RefusedValue
-ledger_of session = session.ledger.items
+abbrev pub settling_at : DatabaseValue → SessionValue → Settling
+settling_at db session = record { db = db; session = session }
 
 -- a document that comes from an origin is settled
 pub record Steps (refuses : Document → Bool) (o : Origin) (d : Document) (before after : Settling) : Type 0 where

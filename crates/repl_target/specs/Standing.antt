@@ -1,21 +1,26 @@
--- What holds of a peer as it is kept: its law, that each of its revisions has an origin, and that its index of refused
--- revisions is that of its ledgers.
-use Rattle.std.specs.Prelude.{◌≡◌, Bool, List}
+-- The table of a peer's sessions, and their index of refused revisions.
+use Rattle.std.specs.Prelude.{◌≡◌, List}
+use Rattle.std.specs.List.{IsDistinct}
+use Rattle.std.specs.Map.{keys_of}
 use Rattle.rev_core.specs.Rev.{RevId}
-use Rattle.doc_json.specs.Document.{Document}
+use Rattle.rev_tree.specs.declared.origin.SessionId.{SessionId}
 use Rattle.couch_base.specs.Database.{Id}
-use Rattle.repl_target.specs.Peer.{PeerValue, SessionValue}
-use Rattle.repl_target.specs.Law.{Lawful}
-use Rattle.repl_target.specs.Origins.{HasOrigins}
+use Rattle.repl_log.specs.Table.{at_session, newest_first, IsKeyed}
+use Rattle.repl_target.specs.Peer.{SessionValue}
 use Rattle.repl_target.specs.LedgerIndex.{is_ledgered}
 use Rattle.repl_target.specs.Table.{in_ledgers}
 use Rattle.repl_target.specs.declared.ledger_index.LedgerIndex.{LedgerIndex}
+
+-- the sessions of a table, newest first
+abbrev pub sessions_of : List (SessionId × SessionValue) → List SessionValue
+sessions_of es = newest_first (λ s. s) es
 
 -- the index has the revisions of the documents of the ledgers, and no others
 abbrev pub Indexes : LedgerIndex → List SessionValue → Type 0
 Indexes ledgered sessions = (id : Id) (r : RevId) → is_ledgered ledgered id r ≡ in_ledgers sessions id r
 
-pub record Stands (refuses : Document → Bool) (ledgered : LedgerIndex) (p : PeerValue) : Type 0 where
-  pub law : Lawful refuses p
-  pub origins : HasOrigins p
-  pub index : Indexes ledgered p.sessions
+-- no id comes twice, each session stands under its own, and the index is that of their ledgers
+pub record IsStored (ledgered : LedgerIndex) (es : List (SessionId × SessionValue)) : Type 0 where
+  pub once : IsDistinct at_session (keys_of es)
+  pub keyed : IsKeyed (λ s. s.id) es
+  pub index : Indexes ledgered (sessions_of es)

@@ -6,7 +6,6 @@
 mod auditing;
 mod fault;
 mod filter;
-mod incoming;
 mod ledger_index;
 mod local;
 mod logs;
@@ -16,6 +15,7 @@ mod refused;
 mod replication;
 mod rows;
 mod session;
+mod sessions;
 mod settle;
 mod stored;
 mod written;

@@ -1,15 +1,11 @@
 //! The logs of a peer: those of the sessions that were replicated into it, and those of the replications from it.
 ghost use Rattle.std.specs.Prelude.{◌≡◌, OnOk, OnErr, IfOk, IfErr};
-ghost use Rattle.repl_log.specs.Entry.{value_of, IsSound};
-ghost use Rattle.couch_base.specs.Lists.{Among};
-ghost use Rattle.repl_target.specs.Peer.{SessionValue, entry_of};
-ghost use Rattle.repl_target.specs.Kept.{sessions_of};
+ghost use Rattle.repl_log.specs.Entry.{value_of};
 ghost use Rattle.repl_target.specs.Sessions.{GivesUnlessMemory};
-ghost use Rattle.repl_target.specs.Logs.{log_of, log_in, logs_with, put_answer_in, refused_by_log};
+ghost use Rattle.repl_target.specs.Logs.{log_in, logs_with, put_answer_in, refused_by_log};
 
 use crate::fault::TargetFault;
 use crate::filter::WriteFilter;
-use crate::incoming::Sessions;
 use crate::peer::Peer;
 use indexmap::IndexMap;
 use repl_log::{Entry, Log, LogFault, RepId};
@@ -18,13 +14,38 @@ use std::alloc::Global;
 /// The outgoing logs by replication.
 pub(crate) type Logs = IndexMap<RepId, Log>;
 
-/// What a log refuses, as the peer refuses it.
-fn refused_by_log(fault: LogFault) -> TargetFault
-    ensures { result ≡ refused_by_log fault }
-{
-    match fault {
-        LogFault::Older { stored } => TargetFault::Older { stored },
-        _ => TargetFault::Memory,
+impl<F: WriteFilter> Peer<F> {
+    ghost use Rattle.repl_target.specs.Logs.{target_log, source_log, put_entry_answer, after_put_entry};
+    ghost use Rattle.repl_target.specs.Law.{Lawful};
+
+    /// The log of a replication into this peer: what its sessions say, newest first. The only error is `Memory`.
+    pub fn target_log(&self, alloc: Global, rep: &RepId) -> Result<Log, TargetFault>
+        ensures log { IfOk result (λ l. l ≡ target_log self.now.1 rep.now) }
+        ensures err { IfErr result (λ e. e ≡ TargetFault.Memory) }
+    {
+        self.sessions.log(alloc, rep)
+    }
+
+    /// The log of a replication from this peer, an empty one where there is none. The only error is `Memory`.
+    pub fn source_log(&self, alloc: Global, rep: &RepId) -> Result<Log, TargetFault>
+        ensures log { IfOk result (λ l. l ≡ source_log self.now.1 rep.now) }
+        ensures err { IfErr result (λ e. e ≡ TargetFault.Memory) }
+    {
+        copy_of(&self.outgoing, alloc, rep)
+    }
+
+    /// Puts an entry into the log of a replication from this peer, which begins with it where there is none.
+    ///
+    /// `Older` exactly where the log's entry of the session has a greater recorded sequence; else `Memory`. A refusal
+    /// changes nothing.
+    pub fn put_entry(&mut self, rep: &RepId, entry: Entry) -> Result<(), TargetFault>
+        ensures answer { GivesUnlessMemory result (put_entry_answer self.old.1 rep.now (value_of entry)) }
+        ensures filter { self.new.0 ≡ self.old.0 }
+        ensures ok { OnOk result (self.new.1 ≡ after_put_entry self.old.1 rep.now (value_of entry)) }
+        ensures err { OnErr result (self.new.1 ≡ self.old.1) }
+        ensures law { Lawful (F.refuses self.new.0) self.new.1 }
+    {
+        put(&mut self.outgoing, rep, entry)
     }
 }
 
@@ -67,57 +88,12 @@ fn put(logs: &mut Logs, rep: &RepId, entry: Entry) -> Result<(), TargetFault>
     }
 }
 
-/// What the sessions of a replication say.
-fn told(sessions: &Sessions, alloc: Global, rep: &RepId) -> Result<Log, TargetFault>
-    requires { (s : SessionValue) → Among s (sessions_of sessions.now.entries) → IsSound (entry_of s) }
-    ensures log { IfOk result (λ l. l ≡ log_of (sessions_of sessions.now.entries) rep.now) }
-    ensures err { IfErr result (λ e. e ≡ TargetFault.Memory) }
+/// What a log refuses, as the peer refuses it.
+fn refused_by_log(fault: LogFault) -> TargetFault
+    ensures { result ≡ refused_by_log fault }
 {
-    let mut log = Log::new(alloc);
-    for i in 0..sessions.len() {
-        let Some((id, session)) = sessions.get_index(i) else {
-            unreachable!()
-        };
-        if session.rep == *rep {
-            let Ok(()) = log.put(session.entry(*id)) else {
-                return Err(TargetFault::Memory);
-            };
-        }
-    }
-    Ok(log)
-}
-
-impl<F: WriteFilter> Peer<F> {
-    ghost use Rattle.repl_target.specs.Logs.{target_log, source_log, put_entry_answer, after_put_entry};
-    ghost use Rattle.repl_target.specs.Law.{Lawful};
-
-    /// The log of a replication into this peer: what its sessions say, newest first. The only error is `Memory`.
-    pub fn target_log(&self, alloc: Global, rep: &RepId) -> Result<Log, TargetFault>
-        ensures log { IfOk result (λ l. l ≡ target_log self.now.1 rep.now) }
-        ensures err { IfErr result (λ e. e ≡ TargetFault.Memory) }
-    {
-        told(&self.sessions, alloc, rep)
-    }
-
-    /// The log of a replication from this peer, an empty one where there is none. The only error is `Memory`.
-    pub fn source_log(&self, alloc: Global, rep: &RepId) -> Result<Log, TargetFault>
-        ensures log { IfOk result (λ l. l ≡ source_log self.now.1 rep.now) }
-        ensures err { IfErr result (λ e. e ≡ TargetFault.Memory) }
-    {
-        copy_of(&self.outgoing, alloc, rep)
-    }
-
-    /// Puts an entry into the log of a replication from this peer, which begins with it where there is none.
-    ///
-    /// `Older` exactly where the log's entry of the session has a greater recorded sequence; else `Memory`. A refusal
-    /// changes nothing.
-    pub fn put_entry(&mut self, rep: &RepId, entry: Entry) -> Result<(), TargetFault>
-        ensures answer { GivesUnlessMemory result (put_entry_answer self.old.1 rep.now (value_of entry)) }
-        ensures filter { self.new.0 ≡ self.old.0 }
-        ensures ok { OnOk result (self.new.1 ≡ after_put_entry self.old.1 rep.now (value_of entry)) }
-        ensures err { OnErr result (self.new.1 ≡ self.old.1) }
-        ensures law { Lawful (F.refuses self.new.0) self.new.1 }
-    {
-        put(&mut self.outgoing, rep, entry)
+    match fault {
+        LogFault::Older { stored } => TargetFault::Older { stored },
+        _ => TargetFault::Memory,
     }
 }

@@ -5,9 +5,8 @@ ghost use Rattle.couch_base.specs.Database.{tree_of};
 
 use crate::fault::{Report, Settled, TargetFault};
 use crate::filter::WriteFilter;
-use crate::incoming::{self, Sessions};
-use crate::ledger_index::LedgerIndex;
 use crate::local;
+use crate::sessions::Sessions;
 use crate::written::Written;
 use couch_base::{Asked, BaseFault, Database, Parcel, Put, Window};
 use doc_json::{Body, Doc, DocId};
@@ -28,7 +27,6 @@ pub struct Peer<F: WriteFilter> {
     pub(crate) db: Database,
     pub(crate) locals: Vec<Written>,
     pub(crate) sessions: Sessions,
-    ledgered: LedgerIndex,
     pub(crate) outgoing: IndexMap<RepId, Log>,
 }
 
@@ -41,23 +39,22 @@ impl<F: WriteFilter> Model for Peer<F> {
 
     ghost coded = { coded× F.code coded_peer };
 
-    ghost use Rattle.repl_target.specs.Kept.{sessions_of};
-    ghost use Rattle.repl_target.specs.Standing.{Stands};
+    ghost use Rattle.repl_target.specs.Law.{Lawful};
 
     ghost view = { λ p. (
       p.filter,
       record {
         db = p.db;
         locals = p.locals.items;
-        sessions = sessions_of p.sessions.entries;
+        sessions = p.sessions;
         outgoing = p.outgoing.entries;
       },
     ) };
 
-    ghost invariant = { λ p. Stands (F.refuses p.filter) p.ledgered (record {
+    ghost invariant = { λ p. Lawful (F.refuses p.filter) (record {
       db = p.db;
       locals = p.locals.items;
-      sessions = sessions_of p.sessions.entries;
+      sessions = p.sessions;
       outgoing = p.outgoing.entries;
     }) };
 }
@@ -99,8 +96,7 @@ impl<F: WriteFilter> Peer<F> {
             filter,
             db,
             locals: Vec::new(alloc),
-            sessions: IndexMap::new(alloc),
-            ledgered: LedgerIndex::new(alloc),
+            sessions: Sessions::new(alloc),
             outgoing: IndexMap::new(alloc),
         }
     }
@@ -204,7 +200,7 @@ impl<F: WriteFilter> Peer<F> {
     pub fn covered(&self, id: &DocId, rev: Rev) -> bool
         ensures { result ≡ covers self.now.1 id.now rev }
     {
-        stores(&self.db, id, rev) || self.ledgered.has(id, rev)
+        stores(&self.db, id, rev) || self.sessions.has_refused(id, rev)
     }
 
     // ---- sessions
@@ -229,7 +225,7 @@ impl<F: WriteFilter> Peer<F> {
         ensures err { OnErr result (self.new.1 ≡ self.old.1) }
         ensures law { Lawful (F.refuses self.new.0) self.new.1 }
     {
-        incoming::begin(&mut self.sessions, id, rep, base, start, goal, at)
+        self.sessions.begin(id, rep, base, start, goal, at)
     }
 
     /// Stores the next window of a session.
@@ -245,7 +241,7 @@ impl<F: WriteFilter> Peer<F> {
     {
         // Readings of the window tell the proof that it is one.
         let _hi = window.hi();
-        incoming::append(&mut self.sessions, id, window)
+        self.sessions.append(id, window)
     }
 
     /// Settles a parcel that a session fetched: its documents in order, then the mark of its window.
@@ -265,14 +261,7 @@ impl<F: WriteFilter> Peer<F> {
         ensures filter { self.new.0 ≡ self.old.0 }
         ensures law { Lawful (F.refuses self.new.0) self.new.1 }
     {
-        incoming::settle(
-            &self.filter,
-            &mut self.db,
-            &mut self.ledgered,
-            &mut self.sessions,
-            id,
-            parcel,
-        )
+        self.sessions.settle(&self.filter, &mut self.db, id, parcel)
     }
 
     /// Records what a session has done without a gap, and answers it: the source's sequence up to which all is done.
@@ -284,7 +273,7 @@ impl<F: WriteFilter> Peer<F> {
         ensures peer { self.new.1 ≡ after_record self.old.1 id at }
         ensures law { Lawful (F.refuses self.new.0) self.new.1 }
     {
-        incoming::record(&mut self.sessions, id, at)
+        self.sessions.record(id, at)
     }
 
     /// Records and reports a session that has done all up to its goal.
@@ -297,7 +286,7 @@ impl<F: WriteFilter> Peer<F> {
         ensures peer { self.new.1 ≡ after_conclude self.old.1 id at }
         ensures law { Lawful (F.refuses self.new.0) self.new.1 }
     {
-        incoming::conclude(&mut self.sessions, id, at)
+        self.sessions.conclude(id, at)
     }
 
     /// What a log says of a session.
@@ -306,10 +295,8 @@ impl<F: WriteFilter> Peer<F> {
     pub fn entry(&self, id: SessionId) -> Result<Entry, TargetFault>
         ensures { entry_value result ≡ session_answer self.now.1 id (λ s. Ok (entry_of s)) }
     {
-        // No id comes twice: the reading tells the proof.
-        let _len = self.sessions.len();
-        match self.sessions.get(&id) {
-            Some(session) => Ok(session.entry(id)),
+        match self.sessions.find(id) {
+            Some(session) => Ok(session.entry()),
             None => Err(TargetFault::NoSuchSession),
         }
     }

@@ -1,6 +1,5 @@
 //! Readings of a peer's parts. None takes memory.
 use crate::filter::WriteFilter;
-use crate::incoming::find;
 use crate::peer::Peer;
 use crate::refused::Refused;
 use crate::written::Written;
@@ -31,19 +30,14 @@ impl<F: WriteFilter> Peer<F> {
     pub fn session_at(&self, place: usize) -> Option<SessionId>
         ensures { result ≡ option_map (λ s. s.id) (slice_get self.now.1.sessions place) }
     {
-        let len = self.sessions.len();
-        if place >= len {
-            return None;
-        }
-        let (id, _) = self.sessions.get_index(len - 1 - place)?;
-        Some(*id)
+        self.sessions.id_at(place)
     }
 
     /// The windows that a session stores, where the peer holds it.
     pub fn windows(&self, id: SessionId) -> Option<&[Window]>
         ensures { option_copied result ≡ option_map (λ s. s.windows) (session_in self.now.1.sessions id) }
     {
-        match find(&self.sessions, id) {
+        match self.sessions.find(id) {
             Some(session) => Some(&session.windows),
             None => None,
         }
@@ -53,7 +47,7 @@ impl<F: WriteFilter> Peer<F> {
     pub fn front(&self, id: SessionId) -> Option<&Front>
         ensures { option_map (λ f. f.front) (option_copied result) ≡ option_map (λ s. s.front) (session_in self.now.1.sessions id) }
     {
-        match find(&self.sessions, id) {
+        match self.sessions.find(id) {
             Some(session) => Some(&session.front),
             None => None,
         }
@@ -63,7 +57,7 @@ impl<F: WriteFilter> Peer<F> {
     pub fn arrivals(&self, id: SessionId) -> Option<&[Written]>
         ensures { option_copied result ≡ option_map (λ s. s.arrivals) (session_in self.now.1.sessions id) }
     {
-        match find(&self.sessions, id) {
+        match self.sessions.find(id) {
             Some(session) => Some(&session.arrivals),
             None => None,
         }
@@ -73,7 +67,7 @@ impl<F: WriteFilter> Peer<F> {
     pub fn ledger(&self, id: SessionId) -> Option<&[Refused]>
         ensures { option_copied result ≡ option_map (λ s. s.ledger) (session_in self.now.1.sessions id) }
     {
-        match find(&self.sessions, id) {
+        match self.sessions.find(id) {
             Some(session) => Some(&session.ledger),
             None => None,
         }

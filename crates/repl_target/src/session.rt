@@ -1,8 +1,7 @@
 //! Incoming sessions, as they are kept.
 
-ghost use Rattle.std.specs.Prelude.{◌≡◌, ◌+◌, ◌≤◌, ◌==◌, OnOk, OnErr, if◌then◌else◌};
+ghost use Rattle.std.specs.Prelude.{◌≡◌, ◌==◌, OnOk, OnErr, if◌then◌else◌};
 ghost use Rattle.range_front.specs.Front.{low_water};
-ghost use Rattle.rev_tree.specs.declared.origin.SessionId.{SessionId};
 ghost use Rattle.repl_log.specs.Entry.{value_of};
 ghost use Rattle.repl_target.specs.Peer.{entry_of};
 ghost use Rattle.repl_target.specs.Sessions.{GivesUnlessMemory, new_session, append_in, with_window, recorded_at, report_of, conclude_in};
@@ -15,10 +14,12 @@ use range_front::Front;
 use repl_log::{Entry, Moment, RepId};
 use rev_tree::SessionId;
 use std::alloc::Global;
+use std::marker::Model;
 
 /// An incoming session.
 #[derive(Drop)]
 pub(crate) struct Session {
+    pub(crate) id: SessionId,
     pub(crate) rep: RepId,
     pub(crate) base: Option<SessionId>,
     pub(crate) goal: u64,
@@ -36,21 +37,37 @@ pub(crate) struct Session {
     pub(crate) end_time: Moment,
 }
 
-impl Session {
-    ghost use Rattle.repl_target.specs.Kept.{session_value};
+impl Model for Session {
+    ghost use Rattle.repl_target.specs.Peer.{SessionValue};
+    ghost use Rattle.repl_target.specs.PeerCode.{coded_session};
 
+    ghost Value = { SessionValue };
+
+    ghost coded = { coded_session };
+
+    ghost use Rattle.repl_target.specs.Law.{IsSession};
+    ghost use Rattle.repl_target.specs.Stored.{session_value};
+
+    ghost view = { session_value };
+
+    ghost invariant = { λ s. IsSession (session_value s) };
+}
+
+impl Session {
     /// A session as it begins. It grows by `alloc`.
     pub(crate) fn new(
         alloc: Global,
+        id: SessionId,
         rep: RepId,
         base: Option<SessionId>,
         start: u64,
         goal: u64,
         at: Moment,
     ) -> Session
-        ensures { (id : SessionId) → session_value id result ≡ new_session id rep base start goal at }
+        ensures { result ≡ new_session id rep base start goal at }
     {
         Session {
+            id,
             rep,
             base,
             goal,
@@ -74,10 +91,9 @@ impl Session {
     /// `Gap` where it doesn't begin where the stored ones end; else `PastGoal` where it ends above the goal; else `Memory`.
     /// A refusal changes nothing.
     pub(crate) fn append(&mut self, window: Window) -> Result<(), TargetFault>
-        ensures answer { (id : SessionId) → GivesUnlessMemory result (append_in window (session_value id self.old)) }
-        ensures ok { OnOk result ((id : SessionId) → session_value id self.new
-            ≡ with_window window (session_value id self.old) (append_in window (session_value id self.old))) }
-        ensures err { OnErr result ((id : SessionId) → session_value id self.new ≡ session_value id self.old) }
+        ensures answer { GivesUnlessMemory result (append_in window self.old) }
+        ensures ok { OnOk result (self.new ≡ with_window window self.old (append_in window self.old)) }
+        ensures err { OnErr result (self.new ≡ self.old) }
     {
         let expected = self.front.end();
         let hi = window.hi();
@@ -101,8 +117,8 @@ impl Session {
 
     /// Records what is done without a gap, and answers it.
     pub(crate) fn record(&mut self, at: Moment) -> u64
-        ensures mark { result ≡ low_water self.old.front.front }
-        ensures session { (id : SessionId) → session_value id self.new ≡ recorded_at at (session_value id self.old) }
+        ensures mark { result ≡ low_water self.old.front }
+        ensures session { self.new ≡ recorded_at at self.old }
     {
         let mark = self.front.low_water();
         self.recorded = mark;
@@ -111,25 +127,25 @@ impl Session {
     }
 
     /// Records and reports where all is done up to the goal, else `Unfinished`, which changes nothing.
-    pub(crate) fn conclude(&mut self, id: SessionId, at: Moment) -> Result<Report, TargetFault>
-        ensures answer { result ≡ conclude_in (session_value id self.old) }
-        ensures session { session_value id self.new ≡ (if low_water self.old.front.front == self.old.goal
-            then recorded_at at (session_value id self.old) else session_value id self.old) }
+    pub(crate) fn conclude(&mut self, at: Moment) -> Result<Report, TargetFault>
+        ensures answer { result ≡ conclude_in self.old }
+        ensures session { self.new
+            ≡ (if low_water self.old.front == self.old.goal then recorded_at at self.old else self.old) }
     {
         let low_water = self.front.low_water();
         if low_water != self.goal {
             return Err(TargetFault::Unfinished { low_water });
         }
         self.record(at);
-        Ok(self.report(id))
+        Ok(self.report())
     }
 
     /// What the session did.
-    fn report(&self, id: SessionId) -> Report
-        ensures { result ≡ report_of (session_value id self.now) }
+    fn report(&self) -> Report
+        ensures { result ≡ report_of self.now }
     {
         Report {
-            session: id,
+            session: self.id,
             start: self.front.start(),
             recorded: self.recorded,
             checked: self.checked,
@@ -141,13 +157,11 @@ impl Session {
     }
 
     /// What a log says of the session.
-    pub(crate) fn entry(&self, id: SessionId) -> Entry
-        requires accounted { self.now.read ≡ self.now.written + self.now.failures }
-        requires from_start { self.now.front.front.start ≤ self.now.recorded }
-        ensures { value_of result ≡ entry_of (session_value id self.now) }
+    pub(crate) fn entry(&self) -> Entry
+        ensures { value_of result ≡ entry_of self.now }
     {
         Entry {
-            session: id,
+            session: self.id,
             start: self.front.start(),
             recorded: self.recorded,
             start_time: self.start_time,

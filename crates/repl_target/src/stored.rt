@@ -2,9 +2,7 @@
 ghost use Rattle.std.specs.Prelude.{◌≡◌, ◌<◌, ◌≤◌, ◌+◌, ◌==◌, ◌&&◌, ℕ, Err, None, nat_le, IfOk, IfErr, IfSome, IfNone};
 ghost use Rattle.std.specs.List.{find};
 ghost use Rattle.std.specs.List.Sorted.{IsPartitionPoint};
-ghost use Rattle.rev_tree.specs.declared.origin.SessionId.{SessionId as SessionName};
 ghost use Rattle.couch_base.specs.Database.{most};
-ghost use Rattle.repl_target.specs.Kept.{session_value};
 ghost use Rattle.repl_target.specs.Settling.{settle_at, window_in};
 ghost use Rattle.repl_target.specs.SettleParts.{Consecutive, IsWindowAt, Passes};
 
@@ -25,53 +23,13 @@ pub(crate) struct Checked {
     pub(crate) asked: u64,
 }
 
-/// The place of the first window that begins at a bound or above it.
-fn place_from(windows: &[Window], lo: u64) -> usize
-    requires { (start : ℕ) × Consecutive start windows.now }
-    ensures { IsPartitionPoint (λ w. w.lo < lo) (λ w. lo ≤ w.lo) windows.now result }
-{
-    windows.partition_point(|window| window.lo() < lo)
-}
-
-/// The place of the stored window of some bounds.
-fn find_window(windows: &[Window], lo: u64, hi: u64) -> Option<usize>
-    requires { (start : ℕ) × Consecutive start windows.now }
-    ensures some { IfSome result (IsWindowAt windows.now lo hi) }
-    ensures none { IfNone result (find (λ w. (w.lo == lo) && (w.hi == hi)) windows.now ≡ None) }
-{
-    let place = place_from(windows, lo);
-    match windows.get(place) {
-        Some(window) if window.lo() == lo && window.hi() == hi => Some(place),
-        _ => None,
-    }
-}
-
-/// Whether a count with some more stays in its range.
-fn fits(count: u64, more: u64) -> bool
-    ensures { result ≡ nat_le (count + more) most }
-{
-    count <= MOST && more <= MOST - count
-}
-
-/// Whether the counts of a session with some more stay in their range.
-fn has_room(session: &Session, read: u64, checked: u64, found: u64) -> bool
-    ensures { result
-        ≡ (nat_le (session.now.read + read) most
-        && (nat_le (session.now.checked + checked) most && nat_le (session.now.found + found) most)) }
-{
-    fits(session.read, read) && fits(session.checked, checked) && fits(session.found, found)
-}
-
 /// The window that a parcel settles: stored, with a row for each document, not done, and with room for the counts.
 pub(crate) fn check(session: &Session, parcel: &Parcel) -> Result<Checked, TargetFault>
-    requires { (start : ℕ) × Consecutive start session.now.windows.items }
     ensures ok { IfOk result
-        (λ found. (id : SessionName)
-        → Passes (session_value id session.now) parcel.now found.place found.leaves found.asked) }
+        (λ found. Passes session.now parcel.now found.place found.leaves found.asked) }
     ensures err { IfErr result
-        (λ fault. (id : SessionName)
-        → settle_at (session_value id session.now) parcel.now
-        (window_in (session_value id session.now) parcel.now.asked.lo parcel.now.asked.hi)
+        (λ fault. settle_at session.now parcel.now
+        (window_in session.now parcel.now.asked.lo parcel.now.asked.hi)
         ≡ Err fault) }
 {
     let (lo, hi) = (parcel.lo(), parcel.hi());
@@ -95,4 +53,41 @@ pub(crate) fn check(session: &Session, parcel: &Parcel) -> Result<Checked, Targe
         leaves,
         asked,
     })
+}
+
+/// The place of the stored window of some bounds.
+fn find_window(windows: &[Window], lo: u64, hi: u64) -> Option<usize>
+    requires { (start : ℕ) × Consecutive start windows.now }
+    ensures some { IfSome result (IsWindowAt windows.now lo hi) }
+    ensures none { IfNone result (find (λ w. (w.lo == lo) && (w.hi == hi)) windows.now ≡ None) }
+{
+    let place = place_from(windows, lo);
+    match windows.get(place) {
+        Some(window) if window.lo() == lo && window.hi() == hi => Some(place),
+        _ => None,
+    }
+}
+
+/// The place of the first window that begins at a bound or above it.
+fn place_from(windows: &[Window], lo: u64) -> usize
+    requires { (start : ℕ) × Consecutive start windows.now }
+    ensures { IsPartitionPoint (λ w. w.lo < lo) (λ w. lo ≤ w.lo) windows.now result }
+{
+    windows.partition_point(|window| window.lo() < lo)
+}
+
+/// Whether the counts of a session with some more stay in their range.
+fn has_room(session: &Session, read: u64, checked: u64, found: u64) -> bool
+    ensures { result
+        ≡ (nat_le (session.now.read + read) most
+        && (nat_le (session.now.checked + checked) most && nat_le (session.now.found + found) most)) }
+{
+    fits(session.read, read) && fits(session.checked, checked) && fits(session.found, found)
+}
+
+/// Whether a count with some more stays in its range.
+fn fits(count: u64, more: u64) -> bool
+    ensures { result ≡ nat_le (count + more) most }
+{
+    count <= MOST && more <= MOST - count
 }

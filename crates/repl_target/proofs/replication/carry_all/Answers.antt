@@ -32,7 +32,7 @@ close-requires g c =
     record {
       held = all-found (g.G.WriteFilter.refuses c.begin_plan.new.target.0) c.args.source.now.1 c.args.target.now.1 c.args.plan.now from _
           (record { planned = sym c.in_ok-check_plan.ensures; begun = begun.0; is = λ i. record { since = c.in_ok-start.ensures.start i; target = begun.1 i } })
-          c.in_ok-start.ensures.source_law c.in_ok-start.ensures.target_law c.in_ok-read_windows.ensures.ok;
+          c.in_ok-start.ensures.source_law c.in_ok-start.ensures.target_law.sessions c.in_ok-read_windows.ensures.ok;
     }
 
 pub returns-clause-replicates : goal.returns-clause-replicates
@@ -50,7 +50,7 @@ returns-clause-covered g c =
     let begun = c.in_ok-start.ensures.ok in
     all-covered (g.G.WriteFilter.refuses c.begin_plan.new.target.0) c.args.source.now.1 c.args.target.now.1 c.args.plan.now from _ _ _ _
     (record { planned = sym c.in_ok-check_plan.ensures; begun = begun.0; is = λ i. record { since = c.in_ok-start.ensures.start i; target = begun.1 i } })
-    c.in_ok-start.ensures.source_law c.in_ok-start.ensures.target_law c.in_ok-read_windows.ensures.ok c.close.ensures.closes
+    c.in_ok-start.ensures.source_law c.in_ok-start.ensures.target_law.sessions c.in_ok-read_windows.ensures.ok c.close.ensures.closes
 
 pub returns-clause-report : goal.returns-clause-report
 returns-clause-report g c =
@@ -58,7 +58,7 @@ returns-clause-report g c =
     let begun = c.in_ok-start.ensures.ok in
     all-reported (g.G.WriteFilter.refuses c.begin_plan.new.target.0) c.args.source.now.1 c.args.target.now.1 c.args.plan.now from _ _ _ _
     (record { planned = sym c.in_ok-check_plan.ensures; begun = begun.0; is = λ i. record { since = c.in_ok-start.ensures.start i; target = begun.1 i } })
-    c.in_ok-start.ensures.source_law c.in_ok-start.ensures.target_law c.in_ok-read_windows.ensures.ok c.close.ensures.closes
+    c.in_ok-start.ensures.source_law c.in_ok-start.ensures.target_law.sessions c.in_ok-read_windows.ensures.ok c.close.ensures.closes
 
 pub returns-clause-copied : goal.returns-clause-copied
 returns-clause-copied g c =
@@ -66,4 +66,4 @@ returns-clause-copied g c =
     let begun = c.in_ok-start.ensures.ok in
     all-copied (g.G.WriteFilter.refuses c.begin_plan.new.target.0) c.args.source.now.1 c.args.target.now.1 c.args.plan.now from _ _ _ _
     (record { planned = sym c.in_ok-check_plan.ensures; begun = begun.0; is = λ i. record { since = c.in_ok-start.ensures.start i; target = begun.1 i } })
-    c.in_ok-start.ensures.source_law c.in_ok-start.ensures.target_law c.in_ok-read_windows.ensures.ok c.close.ensures.closes
+    c.in_ok-start.ensures.source_law c.in_ok-start.ensures.target_law.sessions c.in_ok-read_windows.ensures.ok c.close.ensures.closes

@@ -1,6 +1,6 @@
-use Rattle.std.proofs.Common.{◌≡◌, ◌<◌, nat_lt, true, sym, ap, ◌∙◌, subst, arith, rules}
+use Rattle.std.proofs.Common.{◌<◌, sym, ◌∙◌, subst, arith}
 use Rattle.std.proofs.lemmas.Bool.{and_from}
-use Rattle.repl_target.specs.Replication.{Reading, Carries, has_left, is_due}
+use Rattle.repl_target.specs.Replication.{Reading, Carries}
 use Rattle.repl_target.proofs.Reading.{less-is, reads_more}
 use Rattle.repl_target.proofs.replication.read_windows.Goals as goal
 

@@ -6,16 +6,17 @@ use Rattle.rev_tree.specs.declared.origin.Origin.{Origin}
 use Rattle.rev_tree.specs.declared.origin.Origin.TheVariants.{Feed}
 use Rattle.doc_json.specs.Document.{Document}
 use Rattle.couch_base.specs.Feed.{WindowValue, RowValue}
+use Rattle.repl_target.specs.Peer.{SessionValue}
 use Rattle.repl_target.specs.Settling.{Settling, has_row, seq_in}
 use Rattle.repl_target.specs.SettleParts.{Reached, settling_at}
 use Rattle.repl_target.proofs.Listing.{all_at, all_before}
-use Rattle.repl_target.proofs.Documents.{window_is, items_of, last_at, last_is, reached_next}
+use Rattle.repl_target.proofs.Documents.{window_is, last_at, last_is, reached_next}
 use Rattle.repl_target.proofs.settle.settle_documents.Goals as goal
 
 pub seq_from-found-requires-clause-there : goal.seq_from-found-requires-clause-there
 seq_from-found-requires-clause-there g c =
     let stored = c.requires.rows in
-    let same = window_is c.args.session.now.windows.items c.loop-doc.session.windows.items c.args.place stored.0 c.index.result.now (ap items_of (sym c.loop-doc.invariant.windows)) stored.1 c.index.ensures in
+    let same = window_is c.args.session.now.windows c.session.inside.windows.items c.args.place stored.0 c.index.result.now (sym (ap (λ (s : SessionValue). s.windows) c.session.view_is ∙ c.loop-doc.invariant.windows)) stored.1 c.index.ensures in
     let at = last_at c.deref.result.now c.loop-doc.docs.items c.in-Some.doc.now c.deref.ensures.value (sym c.in-Some.ensures.value) in
     let there : has_row stored.0 c.in-Some.doc.now ≡ true = all_at (has_row stored.0) c.loop-doc.docs.items _ c.in-Some.doc.now (c.loop-doc.invariant.rows stored.0 stored.1) at in
     subst (λ (rows : List RowValue). list_any (λ row. bytes_eq row.id c.id.result.now) rows ≡ true) (ap (λ (w : WindowValue). w.rows) (sym same) ∙ sym c.rows.ensures.value)
@@ -23,9 +24,9 @@ seq_from-found-requires-clause-there g c =
 
 pub loop-doc-preserved : goal.loop-doc-preserved
 loop-doc-preserved g c =
-    let before : Settling = settling_at c.args.db.now c.args.id c.args.session.now in
-    let mid : Settling = settling_at c.loop-doc.db c.args.id c.loop-doc.session in
-    let after : Settling = settling_at c.settle_last.new.db c.args.id c.settle_last.new.session in
+    let before : Settling = settling_at c.args.db.now c.args.session.now in
+    let mid : Settling = settling_at c.loop-doc.db c.loop-doc.session in
+    let after : Settling = settling_at c.settle_last.new.db c.settle_last.new.session in
     let all = reverse c.args.docs.now.items in
     let docs = c.loop-doc.docs.items in
     let others = c.settle_last.new.docs.items in
@@ -35,9 +36,9 @@ loop-doc-preserved g c =
     let same = last_is docs others step.0 c.in-Some.doc.now step.1 at in
     let turned : reverse docs ≡ step.0 ∷ reverse others = ap reverse step.1 ∙ reverse-append others (step.0 ∷ []) in
     let inv = c.loop-doc.invariant in
-    let window = λ (w : WindowValue) (is : slice_get c.args.session.now.windows.items c.args.place ≡ Some w).
-    window_is c.args.session.now.windows.items c.loop-doc.session.windows.items c.args.place w c.index.result.now (ap items_of (sym inv.windows)) is c.index.ensures in
-    let rows = λ (w : WindowValue) (is : slice_get c.args.session.now.windows.items c.args.place ≡ Some w).
+    let window = λ (w : WindowValue) (is : slice_get c.args.session.now.windows c.args.place ≡ Some w).
+    window_is c.args.session.now.windows c.session.inside.windows.items c.args.place w c.index.result.now (sym (ap (λ (s : SessionValue). s.windows) c.session.view_is ∙ inv.windows)) is c.index.ensures in
+    let rows = λ (w : WindowValue) (is : slice_get c.args.session.now.windows c.args.place ≡ Some w).
     c.rows.ensures.value ∙ ap (λ (v : WindowValue). v.rows) (window w is) in
     record {
       reached = λ w is.
@@ -46,13 +47,12 @@ loop-doc-preserved g c =
           subst (λ (n : ℕ). Reached (g.F.WriteFilter.refuses c.args.filter.now) w before all n (reverse others) after) n
           (reached_next (g.F.WriteFilter.refuses c.args.filter.now) w before mid after all (length c.args.docs.now.items - length docs) step.0 (reverse others)
           (subst (λ (l : List Document). Reached (g.F.WriteFilter.refuses c.args.filter.now) w before all (length c.args.docs.now.items - length docs) l mid) turned (inv.reached w is))
-          (step.2 c.args.id).goes
-          ((step.2 c.args.id).step w (ap (λ (q : ℕ). let o : Origin = Feed c.args.id q in o) origin)));
+          step.2.goes
+          (step.2.step w (λ i. let o : Origin = Feed (ap (λ (s : SessionValue). s.id) c.session.view_is i) (origin i) in o)));
       rows = λ w is. all_before (has_row w) docs others step.0 step.1 (inv.rows w is);
       row = λ w is. let within = c.seq_from-found.ensures.within in subst (λ (l : List RowValue). c.seq_from-found.result.0 ≤ length l) (rows w is) within;
       room = omega (arith, count, inv.room, c.in_ok-settle_last.ensures.read);
       less = omega (arith, count, inv.less);
-      counts = c.in_ok-settle_last.ensures.counts;
       front = c.in_ok-settle_last.ensures.front ∙ inv.front;
       windows = c.in_ok-settle_last.ensures.windows ∙ inv.windows;
       indexed = λ base h. c.in_ok-settle_last.ensures.indexed base (inv.indexed base h);
@@ -60,12 +60,12 @@ loop-doc-preserved g c =
 
 pub returns-in_err-settle_last-clause-reached : goal.returns-in_err-settle_last-clause-reached
 returns-in_err-settle_last-clause-reached g c = λ w is.
-    let before : Settling = settling_at c.args.db.now c.args.id c.args.session.now in
+    let before : Settling = settling_at c.args.db.now c.args.session.now in
     let all = reverse c.args.docs.now.items in
     let n = length c.args.docs.now.items - length c.loop-doc.docs.items in
-    let kept : settling_at c.loop-doc.db c.args.id c.loop-doc.session ≡ settling_at c.settle_last.new.db c.args.id c.settle_last.new.session =
-    λ i. record { db = sym c.in_err-settle_last.ensures.db i; session = sym (c.in_err-settle_last.ensures.session c.args.id) i } in
-    subst (λ (l : List Document). Reached (g.F.WriteFilter.refuses c.args.filter.now) w before all (length c.args.docs.now.items - length l) (reverse l) (settling_at c.settle_last.new.db c.args.id c.settle_last.new.session)) (sym c.in_err-settle_last.ensures.docs)
+    let kept : settling_at c.loop-doc.db c.loop-doc.session ≡ settling_at c.settle_last.new.db c.settle_last.new.session =
+    λ i. record { db = sym c.in_err-settle_last.ensures.db i; session = sym c.in_err-settle_last.ensures.session i } in
+    subst (λ (l : List Document). Reached (g.F.WriteFilter.refuses c.args.filter.now) w before all (length c.args.docs.now.items - length l) (reverse l) (settling_at c.settle_last.new.db c.settle_last.new.session)) (sym c.in_err-settle_last.ensures.docs)
     (subst (λ (z : Settling). Reached (g.F.WriteFilter.refuses c.args.filter.now) w before all n (reverse c.loop-doc.docs.items) z) kept (c.loop-doc.invariant.reached w is))
 
 pub returns-in_err-settle_last-clause-indexed : goal.returns-in_err-settle_last-clause-indexed

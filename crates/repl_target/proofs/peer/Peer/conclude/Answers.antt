@@ -1,8 +1,8 @@
-use Rattle.repl_target.proofs.Standing.{Stands-concluded}
+use Rattle.repl_target.proofs.Standing.{Lawful-concluded}
 use Rattle.repl_target.proofs.peer.Peer.conclude.Goals as goal
 
 pub invariant_of-self : goal.invariant_of-self
-invariant_of-self g c = Stands-concluded _ _ _ c.self.invariant c.args.id c.args.at _ c.conclude.ensures.sessions
+invariant_of-self g c = Lawful-concluded _ _ c.self.invariant c.args.id c.args.at _ c.conclude.ensures.sessions
 
 pub returns-clause-law : goal.returns-clause-law
-returns-clause-law g c = (Stands-concluded _ _ _ c.self.invariant c.args.id c.args.at _ c.conclude.ensures.sessions).law
+returns-clause-law g c = Lawful-concluded _ _ c.self.invariant c.args.id c.args.at _ c.conclude.ensures.sessions

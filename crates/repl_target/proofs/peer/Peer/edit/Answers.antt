@@ -1,8 +1,8 @@
-use Rattle.repl_target.proofs.Standing.{Stands-edited}
+use Rattle.repl_target.proofs.Standing.{Lawful-edited}
 use Rattle.repl_target.proofs.peer.Peer.edit.Goals as goal
 
 pub invariant_of-self : goal.invariant_of-self
-invariant_of-self g c = Stands-edited _ _ _ c.self.invariant c.args.id.now c.args.parent c.args.deleted c.args.body.now c.edit.result _ _ c.edit.ensures.db c.edit.ensures.locals c.edit.ensures.db_kept c.edit.ensures.locals_kept
+invariant_of-self g c = Lawful-edited _ _ c.self.invariant c.args.id.now c.args.parent c.args.deleted c.args.body.now c.edit.result _ _ c.edit.ensures.db c.edit.ensures.locals c.edit.ensures.db_kept c.edit.ensures.locals_kept
 
 pub returns-clause-law : goal.returns-clause-law
-returns-clause-law g c = (Stands-edited _ _ _ c.self.invariant c.args.id.now c.args.parent c.args.deleted c.args.body.now c.edit.result _ _ c.edit.ensures.db c.edit.ensures.locals c.edit.ensures.db_kept c.edit.ensures.locals_kept).law
+returns-clause-law g c = Lawful-edited _ _ c.self.invariant c.args.id.now c.args.parent c.args.deleted c.args.body.now c.edit.result _ _ c.edit.ensures.db c.edit.ensures.locals c.edit.ensures.db_kept c.edit.ensures.locals_kept

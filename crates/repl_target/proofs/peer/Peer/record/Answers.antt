@@ -1,8 +1,8 @@
-use Rattle.repl_target.proofs.Standing.{Stands-recorded}
+use Rattle.repl_target.proofs.Standing.{Lawful-recorded}
 use Rattle.repl_target.proofs.peer.Peer.record.Goals as goal
 
 pub invariant_of-self : goal.invariant_of-self
-invariant_of-self g c = Stands-recorded _ _ _ c.self.invariant c.args.id c.args.at _ c.record.ensures.sessions
+invariant_of-self g c = Lawful-recorded _ _ c.self.invariant c.args.id c.args.at _ c.record.ensures.sessions
 
 pub returns-clause-law : goal.returns-clause-law
-returns-clause-law g c = (Stands-recorded _ _ _ c.self.invariant c.args.id c.args.at _ c.record.ensures.sessions).law
+returns-clause-law g c = Lawful-recorded _ _ c.self.invariant c.args.id c.args.at _ c.record.ensures.sessions

@@ -1,32 +1,28 @@
 use Rattle.std.proofs.Common.{subst}
-use Rattle.repl_target.specs.Kept.{sessions_of}
 use Rattle.repl_target.specs.Peer.{PeerValue}
 use Rattle.repl_target.specs.Settling.{SettleGives}
 use Rattle.repl_target.proofs.SettleLaws.{settle_law}
 use Rattle.repl_target.proofs.Originating.{settle_origins}
 use Rattle.repl_target.proofs.peer.Peer.settle.Goals as goal
 
-pub settle-requires : goal.settle-requires
-settle-requires g c =
-    let p : PeerValue = record { db = c.self.inside.db; locals = c.self.inside.locals.items; sessions = sessions_of c.self.inside.sessions.entries; outgoing = c.self.inside.outgoing.entries } in
-    (p, c.self.invariant)
-
 pub invariant_of-self : goal.invariant_of-self
 invariant_of-self g c =
-    let p : PeerValue = record { db = c.self.inside.db; locals = c.self.inside.locals.items; sessions = sessions_of c.self.inside.sessions.entries; outgoing = c.self.inside.outgoing.entries } in
+    let p : PeerValue = record { db = c.self.inside.db; locals = c.self.inside.locals.items; sessions = c.self.inside.sessions; outgoing = c.self.inside.outgoing.entries } in
     record {
-      law = settle_law (g.F.WriteFilter.refuses c.self.inside.filter) p c.args.id c.args.parcel c.settle.result _ (c.settle.ensures.gives p) c.self.invariant.law;
-      origins = settle_origins (g.F.WriteFilter.refuses c.self.inside.filter) p c.args.id c.args.parcel c.settle.result _ (c.settle.ensures.gives p) c.self.invariant.law c.self.invariant.origins;
-      index = c.settle.ensures.index;
+      sessions = settle_law (g.F.WriteFilter.refuses c.self.inside.filter) p c.args.id c.args.parcel c.settle.result _ (c.settle.ensures p) c.self.invariant.sessions;
+      origins = settle_origins (g.F.WriteFilter.refuses c.self.inside.filter) p c.args.id c.args.parcel c.settle.result _ (c.settle.ensures p) c.self.invariant.sessions c.self.invariant.origins;
     }
 
 pub returns-clause-settles : goal.returns-clause-settles
 returns-clause-settles g c =
-    let p : PeerValue = record { db = c.self.inside.db; locals = c.self.inside.locals.items; sessions = sessions_of c.self.inside.sessions.entries; outgoing = c.self.inside.outgoing.entries } in
-    let q : PeerValue = record { db = c.settle.new.db; locals = c.self.inside.locals.items; sessions = sessions_of c.settle.new.sessions.entries; outgoing = c.self.inside.outgoing.entries } in
-    subst (λ v. SettleGives (g.F.WriteFilter.refuses v.0) v.1 c.args.id c.args.parcel c.settle.result q) c.self.view_is (c.settle.ensures.gives p)
+    let p : PeerValue = record { db = c.self.inside.db; locals = c.self.inside.locals.items; sessions = c.self.inside.sessions; outgoing = c.self.inside.outgoing.entries } in
+    let q : PeerValue = record { db = c.settle.new.db; locals = c.self.inside.locals.items; sessions = c.settle.new.self; outgoing = c.self.inside.outgoing.entries } in
+    subst (λ v. SettleGives (g.F.WriteFilter.refuses v.0) v.1 c.args.id c.args.parcel c.settle.result q) c.self.view_is (c.settle.ensures p)
 
 pub returns-clause-law : goal.returns-clause-law
 returns-clause-law g c =
-    let p : PeerValue = record { db = c.self.inside.db; locals = c.self.inside.locals.items; sessions = sessions_of c.self.inside.sessions.entries; outgoing = c.self.inside.outgoing.entries } in
-    settle_law (g.F.WriteFilter.refuses c.self.inside.filter) p c.args.id c.args.parcel c.settle.result _ (c.settle.ensures.gives p) c.self.invariant.law
+    let p : PeerValue = record { db = c.self.inside.db; locals = c.self.inside.locals.items; sessions = c.self.inside.sessions; outgoing = c.self.inside.outgoing.entries } in
+    record {
+      sessions = settle_law (g.F.WriteFilter.refuses c.self.inside.filter) p c.args.id c.args.parcel c.settle.result _ (c.settle.ensures p) c.self.invariant.sessions;
+      origins = settle_origins (g.F.WriteFilter.refuses c.self.inside.filter) p c.args.id c.args.parcel c.settle.result _ (c.settle.ensures p) c.self.invariant.sessions c.self.invariant.origins;
+    }

@@ -1,25 +1,24 @@
 use Rattle.std.proofs.Common.{◌≡◌}
 use Rattle.repl_target.specs.Peer.{new_peer_at}
-use Rattle.repl_target.specs.Kept.{sessions_of}
-use Rattle.repl_target.proofs.Standing.{Stands-new}
+use Rattle.repl_target.proofs.Standing.{Lawful-new}
 use Rattle.repl_target.proofs.peer.Peer.without_sessions.Goals as goal
 
 pub invariant_of-result : goal.invariant_of-result
 invariant_of-result g c =
-    let new : record { db = c.args.db; locals = c.new.result.items; sessions = sessions_of c.new-2.result.entries; outgoing = c.new-4.result.entries } ≡ new_peer_at c.args.db.uuid c.args.db.update_seq = λ i. record {
+    let new : record { db = c.args.db; locals = c.new.result.items; sessions = c.new-2.result; outgoing = c.new-3.result.entries } ≡ new_peer_at c.args.db.uuid c.args.db.update_seq = λ i. record {
       db = c.requires i;
       locals = c.new.ensures.items i;
-      sessions = sessions_of (c.new-2.ensures.empty i);
-      outgoing = c.new-4.ensures.empty i;
+      sessions = c.new-2.ensures i;
+      outgoing = c.new-3.ensures.empty i;
     } in
-    Stands-new _ _ c.args.db.uuid c.args.db.update_seq _ new c.new-3.ensures
+    Lawful-new _ c.args.db.uuid c.args.db.update_seq _ new
 
 pub returns-clause-law : goal.returns-clause-law
 returns-clause-law g c =
-    let new : record { db = c.args.db; locals = c.new.result.items; sessions = sessions_of c.new-2.result.entries; outgoing = c.new-4.result.entries } ≡ new_peer_at c.args.db.uuid c.args.db.update_seq = λ i. record {
+    let new : record { db = c.args.db; locals = c.new.result.items; sessions = c.new-2.result; outgoing = c.new-3.result.entries } ≡ new_peer_at c.args.db.uuid c.args.db.update_seq = λ i. record {
       db = c.requires i;
       locals = c.new.ensures.items i;
-      sessions = sessions_of (c.new-2.ensures.empty i);
-      outgoing = c.new-4.ensures.empty i;
+      sessions = c.new-2.ensures i;
+      outgoing = c.new-3.ensures.empty i;
     } in
-    (Stands-new _ c.new-3.result c.args.db.uuid c.args.db.update_seq _ new c.new-3.ensures).law
+    Lawful-new _ c.args.db.uuid c.args.db.update_seq _ new
