@@ -45,6 +45,7 @@ fn write_plain(members: &Map<String, Value>, out: &mut Writer) -> Result<(), All
 
 /// Writes a value.
 #[cycle(write)]
+#[inline(always)]
 fn write_value(value: &Value, out: &mut Writer) -> Result<(), AllocError>
     requires { has_float (view value.now) ≡ false }
     ensures ok { OnOk result (WritesValue (view value.now) out.old.tokens out.new.tokens) }
@@ -68,6 +69,7 @@ fn write_value(value: &Value, out: &mut Writer) -> Result<(), AllocError>
 
 /// Writes the items of a list, and its end.
 #[cycle(write)]
+#[inline(never)]
 fn write_items(items: &Vec<Value>, out: &mut Writer) -> Result<(), AllocError>
     requires { items_have_float (items_view items.now.items) ≡ false }
     ensures ok { OnOk result (WritesItems (items_view items.now.items) out.old.tokens out.new.tokens) }
@@ -81,6 +83,7 @@ fn write_items(items: &Vec<Value>, out: &mut Writer) -> Result<(), AllocError>
 
 /// Writes the members of an object, and its end.
 #[cycle(write)]
+#[inline(never)]
 fn write_members(members: &Map<String, Value>, out: &mut Writer) -> Result<(), AllocError>
     requires { members_have_float (members_view members.now.entries) ≡ false }
     ensures ok { OnOk result

@@ -15,7 +15,8 @@ use serde_json::{Map, Value};
 
 /// Whether a value is, or holds at any depth, a number that is neither an i64 nor a u64.
 #[cycle(fraction)]
-pub(crate) fn has_fraction(value: &Value) -> bool
+#[inline(always)]
+fn has_fraction(value: &Value) -> bool
     ensures { result ≡ has_float (view value.now) }
 {
     match value {
@@ -30,6 +31,7 @@ pub(crate) fn has_fraction(value: &Value) -> bool
 
 /// Whether an item of a list does.
 #[cycle(fraction)]
+#[inline(never)]
 fn items_have_fraction(items: &Vec<Value>) -> bool
     ensures { result ≡ items_have_float (items_view items.now.items) }
 {
@@ -43,6 +45,7 @@ fn items_have_fraction(items: &Vec<Value>) -> bool
 
 /// Whether a member of an object does.
 #[cycle(fraction)]
+#[inline(never)]
 pub(crate) fn members_have_fraction(members: &Map<String, Value>) -> bool
     ensures { result ≡ members_have_float (members_view members.now.entries) }
 {
