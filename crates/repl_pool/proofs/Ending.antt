@@ -12,7 +12,7 @@ use Rattle.repl_target.specs.declared.fault.TargetFault.{TargetFault}
 use Rattle.repl_target.specs.declared.fault.TargetFault.TheVariants as faults
 use Rattle.repl_target.specs.declared.replication.Plan.{Plan}
 use Rattle.repl_target.specs.Peer.{PeerValue, SessionValue, is_of, session_in, with_session}
-use Rattle.repl_target.specs.Law.{Lawful}
+use Rattle.repl_target.specs.Law.{LawfulSessions}
 use Rattle.std.specs.List.{find}
 use Rattle.repl_target.specs.Sessions.{new_session, begun as begun_by, found_answer, on_found, recorded_at, after_record, report_of, conclude_in, conclude_answer, after_conclude}
 use Rattle.repl_target.specs.Audit.{rep_between}
@@ -80,13 +80,13 @@ closes_in p id at report now answer after = go (session_in p.sessions id) refl a
         h
 
 -- what a run that concluded says
-pub ends_well : (refuses : Document → Bool) (source target : PeerValue) (plan : Plan) (p now : PeerValue) (report : Report) (n : ℕ) → LawfulDatabase source.db → Lawful refuses (after_begins source target plan) → begins_answer source target plan ≡ Ok tt
+pub ends_well : (refuses : Document → Bool) (source target : PeerValue) (plan : Plan) (p now : PeerValue) (report : Report) (n : ℕ) → LawfulDatabase source.db → LawfulSessions refuses (after_begins source target plan) → begins_answer source target plan ≡ Ok tt
     → IsGrown refuses source.db (after_begins source target plan) p → read_in p.sessions plan.session ≡ n → conclude_answer p plan.session ≡ Ok report → now ≡ after_conclude p plan.session plan.at → EndsWell source target now plan n report
 ends_well refuses source target plan p now report n law l ok grown reads answer after =
     let begun = after_begins source target plan in
     let whole = grown-later refuses source.db begun p now grown (grown-one refuses source.db p now (Conclude plan.session plan.at) tt after) in
     let t = later_session refuses source target plan now law l ok whole in
-    let l' : Lawful refuses now = subst (Lawful refuses) (sym whole.2) (calls_law refuses source.db whole.0 begun law whole.1 l).0 in
+    let l' : LawfulSessions refuses now = subst (LawfulSessions refuses) (sym whole.2) (calls_law refuses source.db whole.0 begun law whole.1 l).0 in
     let c = closes_in p plan.session plan.at report now answer after in
     let found = found-is now.sessions plan.session t.session l'.distinct t.held t.id in
     let same : t.session ≡ recorded_at plan.at c.session = some_is t.session (recorded_at plan.at c.session) (sym found ∙ c.held) in
@@ -116,16 +116,16 @@ ends_well refuses source target plan p now report n law l ok grown reads answer 
 -- ---- any run
 
 -- what a target held stays
-pub peer_later : {F : Type 0} (refuses : F → Document → Bool) (source : PeerValue) (given now : F × PeerValue) → LawfulDatabase source.db → Lawful (refuses given.0) given.1 → GrownPeer refuses source.db given now → IsLaterPeer given.1 now.1
+pub peer_later : {F : Type 0} (refuses : F → Document → Bool) (source : PeerValue) (given now : F × PeerValue) → LawfulDatabase source.db → LawfulSessions (refuses given.0) given.1 → GrownPeer refuses source.db given now → IsLaterPeer given.1 now.1
 peer_later refuses source given now law l h = subst (IsLaterPeer given.1) (sym h.1.2) (calls_law (refuses given.0) source.db h.1.0 given.1 law h.1.1 l).1
 
 -- a tied pair stays tied
-pub peers_tied : {F : Type 0} (refuses : F → Document → Bool) (source : PeerValue) (given : F × PeerValue) (source' : PeerValue) (now : F × PeerValue) → LawfulDatabase source.db → Lawful (refuses given.0) given.1 → GrownPeer refuses source.db given now → source'.db ≡ source.db → IsTiedPair source given.1 → IsTiedPair source' now.1
+pub peers_tied : {F : Type 0} (refuses : F → Document → Bool) (source : PeerValue) (given : F × PeerValue) (source' : PeerValue) (now : F × PeerValue) → LawfulDatabase source.db → LawfulSessions (refuses given.0) given.1 → GrownPeer refuses source.db given now → source'.db ≡ source.db → IsTiedPair source given.1 → IsTiedPair source' now.1
 peers_tied refuses source given source' now law l h same tied =
     tied_source source source' now.1 (subst (λ db. IsLater source.db db) (sym same) (IsLater-same source.db)) (tied_grown (refuses given.0) source given.1 now.1 law l h.1 tied)
 
 -- the run's session stays held
-pub held_grown : {F : Type 0} (refuses : F → Document → Bool) (db : DatabaseValue) (given now : F × PeerValue) (id : SessionId) → LawfulDatabase db → Lawful (refuses given.0) given.1 → GrownPeer refuses db given now
+pub held_grown : {F : Type 0} (refuses : F → Document → Bool) (db : DatabaseValue) (given now : F × PeerValue) (id : SessionId) → LawfulDatabase db → LawfulSessions (refuses given.0) given.1 → GrownPeer refuses db given now
     → (s : SessionValue) × (session_in given.1.sessions id ≡ Some s) → (t : SessionValue) × (session_in now.1.sessions id ≡ Some t)
 held_grown refuses db given now id law l h held =
     let calls = calls_law (refuses given.0) db h.1.0 given.1 law h.1.1 l in

@@ -11,7 +11,7 @@ use Rattle.repl_target.specs.declared.fault.Settled.{Settled}
 use Rattle.repl_target.specs.declared.fault.TargetFault.{TargetFault}
 use Rattle.repl_target.specs.declared.fault.TargetFault.TheVariants as refusals
 use Rattle.repl_target.specs.Peer.{PeerValue, SessionValue}
-use Rattle.repl_target.specs.Law.{Lawful}
+use Rattle.repl_target.specs.Law.{LawfulSessions}
 use Rattle.repl_target.specs.Settling.{Settling, settled_before, settle_one, stops_at, settle_check, SettlesAt, Settles, SettleGives}
 use Rattle.repl_target.specs.Calls.{Call, IsFrom, IsGrown, after_call}
 use Rattle.repl_target.proofs.Replicated.{grown-same, grown-later, grown-one, settled_grown}
@@ -45,7 +45,7 @@ module _ {F : Type 0} (refuses : F → Document → Bool) (source : DatabaseValu
   tries given session total now next c (Err e) h same from reads ok err = stays given session total now next h same err
 
   -- a settling, however it ends
-  pub settles : (given : Option ((F × PeerValue) × SessionId)) (session : SessionId) (total : ℕ) (now next : F × PeerValue) (parcel : ParcelValue) (result : Result Settled TargetFault) → Lawful (refuses now.0) now.1 → DeskKeeps refuses source given session total now
+  pub settles : (given : Option ((F × PeerValue) × SessionId)) (session : SessionId) (total : ℕ) (now next : F × PeerValue) (parcel : ParcelValue) (result : Result Settled TargetFault) → LawfulSessions (refuses now.0) now.1 → DeskKeeps refuses source given session total now
       → next.0 ≡ now.0 → IsAnswerOf source parcel → SettleGives (refuses now.0) now.1 session parcel result next.1 → (more : ℕ) → more ≡ total + taken result (length parcel.docs) → DeskKeeps refuses source given session more next
   settles given session total now next parcel result law h same from gives more is =
       let g = h.0 in
@@ -79,7 +79,7 @@ module _ (refuses : Document → Bool) (p : PeerValue) (id : SessionId) (parcel 
   at_most s w (Err (refusals.Stopped n rest cause)) h = omega (arith, h.0.within, before_most refuses w (record { db = p.db; session = s }) parcel.docs)
   at_most s w (Err fault) h = absurd h
 
-  pub taken_most : (result : Result Settled TargetFault) → Lawful refuses p → SettleGives refuses p id parcel result q → taken result (length parcel.docs) ≤ length parcel.docs
+  pub taken_most : (result : Result Settled TargetFault) → LawfulSessions refuses p → SettleGives refuses p id parcel result q → taken result (length parcel.docs) ≤ length parcel.docs
   taken_most result law gives = go (settle_check p id parcel) gives
     where
       go : (r : Result (SessionValue × WindowValue) TargetFault) → Settles refuses p parcel r result q → taken result (length parcel.docs) ≤ length parcel.docs

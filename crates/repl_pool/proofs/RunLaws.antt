@@ -12,7 +12,7 @@ use Rattle.repl_target.specs.declared.replication.Plan.{Plan}
 use Rattle.repl_target.specs.Calls.{IsGrown}
 use Rattle.repl_target.specs.Covered.{Leaf, covers, first_uncovered}
 use Rattle.repl_target.specs.Peer.{PeerValue}
-use Rattle.repl_target.specs.Law.{Lawful}
+use Rattle.repl_target.specs.Law.{LawfulSessions}
 use Rattle.repl_target.specs.ReadCounts.{read_in}
 use Rattle.repl_target.specs.Sessions.{record_answer}
 use Rattle.repl_target.specs.Replication.{is_batch, start_between, begins_answer, after_begins}
@@ -51,12 +51,12 @@ recorded_late B P plan fault complete before after why late (stopped e same) = s
 recorded_late B P plan fault complete before after why late (fewer none less same) = unfinished_late B P (record_answer before plan.session)
 recorded_late B P plan fault complete before after why late (refused none whole answer same) = tt
 
-module _ {F : Type 0} (refuses : F → Document → Bool) (may_fill : Type 0) (may_stop : Place → Type 0) (source target : PeerValue) (begun : F × PeerValue) (plan : Plan) (start : ℕ) (counts : List ℕ) (source' now : PeerValue) (law : LawfulDatabase source.db) (l : Lawful (refuses begun.0) begun.1) (ok : begins_answer source target plan ≡ Ok tt) (is : begun.1 ≡ after_begins source target plan) (first : start ≡ start_between source target) where
+module _ {F : Type 0} (refuses : F → Document → Bool) (may_fill : Type 0) (may_stop : Place → Type 0) (source target : PeerValue) (begun : F × PeerValue) (plan : Plan) (start : ℕ) (counts : List ℕ) (source' now : PeerValue) (law : LawfulDatabase source.db) (l : LawfulSessions (refuses begun.0) begun.1) (ok : begins_answer source target plan ≡ Ok tt) (is : begun.1 ≡ after_begins source target plan) (first : start ≡ start_between source target) where
   -- what a session says that concluded
   concluded_well : (fault : Option PoolFault) (complete : Bool) (before : PeerValue) (report : Report) → IsGrown (refuses begun.0) source.db begun.1 before → (fault ≡ None → complete ≡ true → read_in before.sessions plan.session ≡ sum counts)
       → IsConcluded plan fault complete before now report → EndsWell source target now plan (sum counts) report
   concluded_well fault complete before report grown read c =
-      ends_well (refuses begun.0) source target plan before now report (sum counts) law (subst (Lawful (refuses begun.0)) is l) ok
+      ends_well (refuses begun.0) source target plan before now report (sum counts) law (subst (LawfulSessions (refuses begun.0)) is l) ok
       (subst (λ p. IsGrown (refuses begun.0) source.db p before) is grown) (read c.free c.whole) c.answer c.peer
 
   -- so the walk finds nothing
@@ -154,7 +154,7 @@ module _ {F : Type 0} (refuses : F → Document → Bool) (may_fill : Type 0) (m
 
   -- the workers were to be started
   pub runs_begun : (begun : F × PeerValue) (start : ℕ) (counts : List ℕ) (source' target' : F × PeerValue) (outcome : Result Report PoolFault) → early_answer source.1 target.1 plan ≡ Ok tt
-      → LawfulDatabase source.1.db → Lawful (refuses target.0) target.1 → Lawful (refuses begun.0) begun.1 → begins_answer source.1 target.1 plan ≡ Ok tt → begun.0 ≡ target.0 → begun.1 ≡ after_begins source.1 target.1 plan → start ≡ start_between source.1 target.1
+      → LawfulDatabase source.1.db → LawfulSessions (refuses target.0) target.1 → LawfulSessions (refuses begun.0) begun.1 → begins_answer source.1 target.1 plan ≡ Ok tt → begun.0 ≡ target.0 → begun.1 ≡ after_begins source.1 target.1 plan → start ≡ start_between source.1 target.1
       → source'.0 ≡ source.0 → source'.1 ≡ record source.1 { outgoing = source'.1.outgoing } → GrownPeer refuses source.1.db begun target' → EndsRun refuses may_fill may_stop plan start source.1 begun counts source'.1 target'.1 outcome
       → RunsOn refuses may_fill may_stop plan source target source' target' counts outcome
   runs_begun begun start counts source' target' outcome early law lawful lawful_begun ok same is first filter log more e =

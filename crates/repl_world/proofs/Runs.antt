@@ -10,7 +10,7 @@ use Rattle.couch_base.specs.Feed.{WindowValue}
 use Rattle.couch_base.specs.Messages.{ParcelValue}
 use Rattle.repl_target.specs.Peer.{PeerValue}
 use Rattle.repl_target.specs.Sessions.{GivesUnlessMemory, append_answer, after_append}
-use Rattle.repl_target.specs.Law.{Lawful}
+use Rattle.repl_target.specs.Law.{LawfulSessions}
 use Rattle.repl_target.specs.Settling.{SettleGives}
 use Rattle.repl_target.specs.Ties.{IsTiedParcel}
 use Rattle.repl_target.specs.Tied.{stopped_at}
@@ -94,7 +94,7 @@ module _ (refuses : Document → Bool) (w : WorldValue) (session : SessionId) (p
 -- ---- storing
 
 -- what is stored is what stood at that place, also where that is refused
-module _ (refuses : Document → Bool) (w : WorldValue) (session : SessionId) (place : ℕ) (x : WindowValue) (there : slice_get w.bag.windows place ≡ Some x) (window : WindowValue) (same : window ≡ x) (law : Lawful refuses w.target) (result : Result (Unit {0}) TargetFault) (q : PeerValue)
+module _ (refuses : Document → Bool) (w : WorldValue) (session : SessionId) (place : ℕ) (x : WindowValue) (there : slice_get w.bag.windows place ≡ Some x) (window : WindowValue) (same : window ≡ x) (law : LawfulSessions refuses w.target) (result : Result (Unit {0}) TargetFault) (q : PeerValue)
     (answer : GivesUnlessMemory result (append_answer w.target session window)) (ok : OnOk result (q ≡ after_append w.target session window)) (err : OnErr result (q ≡ w.target)) where
   Stores : PeerValue → Type 0
   Stores p = record w { target = p } ≡ appends w session (slice_get w.bag.windows place)
@@ -123,11 +123,11 @@ pub trustworthy : (refuses : Document → Bool) (w : WorldValue) → IsWorld ref
 trustworthy refuses w l h =
     record {
       tied = h;
-      honest = honest_is refuses w.source w.target l.target h.stored;
-      common = audited_is refuses w.source w.target l.target h.stored;
-      clean = tied_none refuses w.source w.target l.target h.stored;
+      honest = honest_is refuses w.source w.target l.target.sessions h.stored;
+      common = audited_is refuses w.source w.target l.target.sessions h.stored;
+      clean = tied_none refuses w.source w.target l.target.sessions h.stored;
       covered = λ p m s n x k own result q gives.
           (let t = h.parcels p m in
           let same : x ≡ t.window = some_is x t.window (sym own ∙ t.own) in
-          own_covered refuses w.target s x p.1 l.target n k (subst (λ v. IsTiedParcel w.target.db v p.1) (sym same) t.tied) (l.bag.parcels_are p m) result q gives);
+          own_covered refuses w.target s x p.1 l.target.sessions n k (subst (λ v. IsTiedParcel w.target.db v p.1) (sym same) t.tied) (l.bag.parcels_are p m) result q gives);
     }

@@ -156,15 +156,15 @@ append_step refuses w session place (Some x) is l h =
     let m = Among-at w.bag.windows place x is in
     let tied = h.windows x m in
     let small : x.hi < 2 ^ 64 = omega (arith, tied.reached, l.source.within) in
-    call_step refuses w (calls.Append session x) tied (append_later refuses w.target session x (l.bag.windows_are x m) small l.target) h
+    call_step refuses w (calls.Append session x) tied (append_later refuses w.target session x (l.bag.windows_are x m) small l.target.sessions) h
 
 settle_step : (refuses : Document → Bool) (w : WorldValue) (session : SessionId) (o : Option (ℕ × ParcelValue)) → IsWorld refuses w → Tied w → Tied (settles refuses w session o)
 settle_step refuses w session None l h = h
-settle_step refuses w session (Some p) l h = call_step refuses w (calls.Settle session p.1) tt (after_settle_law refuses w.target session p.1 l.target).1 h
+settle_step refuses w session (Some p) l h = call_step refuses w (calls.Settle session p.1) tt (after_settle_law refuses w.target session p.1 l.target.sessions).1 h
 
 stop_step : (refuses : Document → Bool) (w : WorldValue) (session : SessionId) (n : ℕ) (o : Option (ℕ × ParcelValue)) → IsWorld refuses w → Tied w → Tied (stops refuses w session n o)
 stop_step refuses w session n None l h = h
-stop_step refuses w session n (Some p) l h = call_step refuses w (calls.Stop session p.1 n) tt (after_stop_law refuses w.target session p.1 n l.target).1 h
+stop_step refuses w session n (Some p) l h = call_step refuses w (calls.Stop session p.1 n) tt (after_stop_law refuses w.target session p.1 n l.target.sessions).1 h
 
 puts_step : (w : WorldValue) (o : Option EntryValue) → Tied w → Tied (puts w o)
 puts_step w None h = h
@@ -186,10 +186,10 @@ happens_tied refuses w (Fetch asked) l h = fetch_step w asked (slice_get w.bag.a
 happens_tied refuses w (Settle session parcel) l h = settle_step refuses w session (slice_get w.bag.parcels parcel) l h
 happens_tied refuses w (Record session at) l h =
     let now = after_record w.target session at in
-    told_step (record w { target = now }) (entry_in now session) (call_step refuses w (calls.Record session at) tt (record_later refuses w.target session at l.target) h)
+    told_step (record w { target = now }) (entry_in now session) (call_step refuses w (calls.Record session at) tt (record_later refuses w.target session at l.target.sessions) h)
 happens_tied refuses w (Conclude session at) l h =
     let now = after_conclude w.target session at in
-    told_where_step (record w { target = now }) (conclude_answer w.target session) (entry_in now session) (call_step refuses w (calls.Conclude session at) tt (conclude_later refuses w.target session at l.target) h)
+    told_where_step (record w { target = now }) (conclude_answer w.target session) (entry_in now session) (call_step refuses w (calls.Conclude session at) tt (conclude_later refuses w.target session at l.target.sessions) h)
 happens_tied refuses w (PutEntry entry) l h = puts_step w (slice_get w.bag.entries entry) h
 happens_tied refuses w Crash l h = crash_step w h
 

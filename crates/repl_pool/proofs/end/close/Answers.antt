@@ -8,14 +8,14 @@ use Rattle.repl_pool.proofs.end.close.Goals as goal
 pub walk_and_put-requires : goal.walk_and_put-requires
 walk_and_put-requires g c = record {
   held =
-      held_grown g.F.WriteFilter.refuses c.args.source.now.1.db c.args.target.now c.close_target.new.target c.args.plan.now.session (subst LawfulDatabase c.db.ensures.value c.update_seq-update_seq.ensures.law) c.db-2.ensures.law
+      held_grown g.F.WriteFilter.refuses c.args.source.now.1.db c.args.target.now c.close_target.new.target c.args.plan.now.session (subst LawfulDatabase c.db.ensures.value c.update_seq-update_seq.ensures.law) c.db-2.ensures.law.sessions
       (c.close_target.ensures.grown c.args.source.now.1.db) c.requires.held;
 }
 
 pub put_entry-requires : goal.put_entry-requires
 put_entry-requires g c = record {
   held =
-      held_grown g.F.WriteFilter.refuses c.args.source.now.1.db c.args.target.now c.close_target.new.target c.args.plan.now.session (subst LawfulDatabase c.db.ensures.value c.update_seq-update_seq.ensures.law) c.db-2.ensures.law
+      held_grown g.F.WriteFilter.refuses c.args.source.now.1.db c.args.target.now c.close_target.new.target c.args.plan.now.session (subst LawfulDatabase c.db.ensures.value c.update_seq-update_seq.ensures.law) c.db-2.ensures.law.sessions
       (c.close_target.ensures.grown c.args.source.now.1.db) c.requires.held;
 }
 

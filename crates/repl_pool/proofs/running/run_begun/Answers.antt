@@ -50,7 +50,7 @@ end-requires g c =
     let d = c.collect-summed.ensures.desk in
     record {
       held =
-          held_grown g.F.WriteFilter.refuses c.args.source.1.db c.args.target c.collect-summed.result.target c.args.plan.now.session (subst LawfulDatabase c.db.ensures.value c.update_seq-update_seq.ensures.law) c.db-2.ensures.law
+          held_grown g.F.WriteFilter.refuses c.args.source.1.db c.args.target c.collect-summed.result.target c.args.plan.now.session (subst LawfulDatabase c.db.ensures.value c.update_seq-update_seq.ensures.law) c.db-2.ensures.law.sessions
           (given_grown g.F.WriteFilter.refuses c.args.source.1.db g.S.Origin.source c.requires.source c.args.target c.args.plan.now.session g.J.Given.given c.requires.given d.0 d.1 c.collect-summed.result.target d.2).0 c.requires.held;
     }
 
