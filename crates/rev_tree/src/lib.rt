@@ -8,6 +8,7 @@ mod fault;
 mod merging;
 mod nodes;
 mod origin;
+mod place_index;
 mod tree;
 mod walks;
 

@@ -2,7 +2,6 @@
 ghost use Rattle.std.specs.Prelude.{◌≡◌, ℕ, ◌+◌, ◌<◌, ◌≤◌, Some, None, IfSome, IfOk, IfErr, OnOk, slice_get, length, vec_len, vec_capacity};
 ghost use Rattle.std.specs.FinMap.{get};
 ghost use Rattle.std.specs.List.{list_all};
-ghost use Rattle.indexmap.specs.IndexMap.{index_map_len, spare};
 ghost use Rattle.rev_core.specs.Rev.{RevId};
 ghost use Rattle.rev_core.specs.Ancestry.{edges_of};
 ghost use Rattle.rev_tree.specs.Room.{HasRoom, HasIndexRoom};
@@ -14,7 +13,7 @@ use crate::content::Content;
 use crate::fault::Contradiction;
 use crate::nodes::{MOST_WALKED, Node, index_rest, node_at, place_in, reserve_index};
 use crate::origin::Origin;
-use indexmap::IndexMap;
+use crate::place_index::Places;
 use rev_core::Rev;
 use std::alloc::AllocError;
 
@@ -23,7 +22,7 @@ use std::alloc::AllocError;
 /// The place of a known parent is known with it, so an ancestry that is there is followed with one look-up.
 pub(crate) fn knows_edges(
     nodes: &[Node],
-    places: &IndexMap<Rev, usize>,
+    places: &Places,
     revs: &[Rev],
 ) -> Result<bool, Contradiction>
     requires index { places.now.entries ≡ index_for (revs_in nodes.now) }
@@ -75,15 +74,15 @@ fn parent_at(nodes: &[Node], place: Option<usize>) -> Option<usize>
 /// Makes room for the revisions of an ancestry, known ones too, and for no more where all together are few.
 pub(crate) fn make_room(
     nodes: &mut Vec<Node>,
-    places: &mut IndexMap<Rev, usize>,
+    places: &mut Places,
     revs: &[Rev],
 ) -> Result<(), AllocError>
-    requires { index_map_len places.old ≤ vec_len nodes.old }
+    requires { length places.old.entries ≤ vec_len nodes.old }
     ensures nodes { nodes.new.items ≡ nodes.old.items }
     ensures index { places.new.entries ≡ places.old.entries }
     ensures room { OnOk result (HasRoom (vec_len nodes.new) (vec_capacity nodes.new) (length revs.now)) }
     ensures room_in_index { OnOk result
-        (HasIndexRoom (vec_len nodes.new + length revs.now) (index_map_len places.new + spare places.new)) }
+        (HasIndexRoom (vec_len nodes.new + length revs.now) (length places.new.entries + places.new.spare)) }
 {
     let all = nodes.as_slice().len() + revs.len();
     let reserved = if all <= MOST_WALKED {
@@ -94,13 +93,13 @@ pub(crate) fn make_room(
     if reserved.is_err() {
         return Err(AllocError);
     }
-    reserve_index(places, all)
+    reserve_index(*nodes.allocator(), places, all)
 }
 
 /// Puts the revisions of an ancestry, its edges and the content of its head among the nodes. There is room for all.
 pub(crate) fn put(
     nodes: &mut Vec<Node>,
-    places: &mut IndexMap<Rev, usize>,
+    places: &mut Places,
     revs: &[Rev],
     content: Content,
     origin: Origin,
@@ -109,7 +108,7 @@ pub(crate) fn put(
     requires linked { IsLinked nodes.old.items }
     requires some { 0 < length revs.now }
     requires room { HasRoom (vec_len nodes.old) (vec_capacity nodes.old) (length revs.now) }
-    requires room_in_index { HasIndexRoom (vec_len nodes.old + length revs.now) (index_map_len places.old + spare places.old) }
+    requires room_in_index { HasIndexRoom (vec_len nodes.old + length revs.now) (length places.old.entries + places.old.spare) }
     ensures index { places.new.entries ≡ index_for (revs_in nodes.new.items) }
     ensures linked { IsLinked nodes.new.items }
     ensures tree { tree_of nodes.new.items ≡ merged (tree_of nodes.old.items) revs.now content origin }
@@ -129,7 +128,7 @@ pub(crate) fn put(
 /// It is looked for at one place first.
 fn add(
     nodes: &mut Vec<Node>,
-    places: &mut IndexMap<Rev, usize>,
+    places: &mut Places,
     near: Option<usize>,
     rev: Rev,
     origin: Origin,
@@ -138,7 +137,7 @@ fn add(
     requires linked { IsLinked nodes.old.items }
     requires near { IfSome near (λ i. i < length nodes.old.items) }
     requires room { vec_len nodes.old < vec_capacity nodes.old }
-    requires room_in_index { HasIndexRoom (vec_len nodes.old + 1) (index_map_len places.old + spare places.old) }
+    requires room_in_index { HasIndexRoom (vec_len nodes.old + 1) (length places.old.entries + places.old.spare) }
     ensures index { places.new.entries ≡ index_for (revs_in nodes.new.items) }
     ensures linked { IsLinked nodes.new.items }
     ensures tree { tree_of nodes.new.items ≡ with_rev (tree_of nodes.old.items) rev origin }
@@ -148,7 +147,7 @@ fn add(
         → slice_get (revs_in nodes.new.items) i ≡ Some r }
     ensures len { vec_len nodes.new ≤ vec_len nodes.old + 1 }
     ensures capacity { vec_capacity nodes.new ≡ vec_capacity nodes.old }
-    ensures capacity_of_index { index_map_len places.old + spare places.old ≤ index_map_len places.new + spare places.new }
+    ensures capacity_of_index { length places.old.entries + places.old.spare ≤ length places.new.entries + places.new.spare }
 {
     if let Some(place) = place_near(nodes, places, near, rev) {
         return place;
@@ -166,12 +165,7 @@ fn add(
 }
 
 /// The place of a revision, which is looked for at one place first.
-fn place_near(
-    nodes: &[Node],
-    places: &IndexMap<Rev, usize>,
-    near: Option<usize>,
-    rev: Rev,
-) -> Option<usize>
+fn place_near(nodes: &[Node], places: &Places, near: Option<usize>, rev: Rev) -> Option<usize>
     requires index { places.now.entries ≡ index_for (revs_in nodes.now) }
     requires linked { IsLinked nodes.now }
     requires near { IfSome near (λ i. i < length nodes.now) }

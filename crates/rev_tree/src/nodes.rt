@@ -1,14 +1,13 @@
 //! The nodes of a tree, and the place of each revision among them.
 ghost use Rattle.std.specs.Prelude.{◌≡◌, ◌+◌, ◌<◌, ◌≤◌, [], Some, IfOk, IfErr, OnOk, slice_get, length, take};
 ghost use Rattle.std.specs.Option.{option_copied};
-ghost use Rattle.indexmap.specs.IndexMap.{index_map_len, spare};
 ghost use Rattle.rev_tree.specs.Room.{HasIndexRoom};
 ghost use Rattle.rev_tree.specs.declared.nodes.TheConstants.{MOST_WALKED};
 
 use crate::content::Content;
 use crate::fault::TreeFault;
 use crate::origin::Origin;
-use indexmap::IndexMap;
+use crate::place_index::Places;
 use rev_core::Rev;
 use std::alloc::{AllocError, Global};
 
@@ -37,11 +36,7 @@ pub(crate) fn node_at(nodes: &[Node], place: usize) -> &Node
 }
 
 /// The node of a revision.
-pub(crate) fn node_in<'a>(
-    nodes: &'a [Node],
-    places: &IndexMap<Rev, usize>,
-    rev: Rev,
-) -> Option<&'a Node>
+pub(crate) fn node_in<'a>(nodes: &'a [Node], places: &Places, rev: Rev) -> Option<&'a Node>
     requires { places.now.entries ≡ index_for (revs_in nodes.now) }
     ensures { option_copied result ≡ node_of nodes.now rev }
 {
@@ -50,14 +45,14 @@ pub(crate) fn node_in<'a>(
 }
 
 /// The place of a revision.
-pub(crate) fn place_in(nodes: &[Node], places: &IndexMap<Rev, usize>, rev: Rev) -> Option<usize>
+pub(crate) fn place_in(nodes: &[Node], places: &Places, rev: Rev) -> Option<usize>
     requires { places.now.entries ≡ index_for (revs_in nodes.now) }
     ensures { result ≡ place_of nodes.now rev }
 {
     if nodes.len() <= MOST_WALKED {
         return walked_to(nodes, rev);
     }
-    places.get(&rev).copied()
+    places.get(rev)
 }
 
 /// The place of a revision, for which the nodes are walked.
@@ -74,48 +69,46 @@ fn walked_to(nodes: &[Node], rev: Rev) -> Option<usize>
 
 /// Puts the places of the last nodes, which the index lacks, into it, unless the nodes are few enough to be walked.
 /// There is room for them.
-pub(crate) fn index_rest(nodes: &[Node], places: &mut IndexMap<Rev, usize>)
+pub(crate) fn index_rest(nodes: &[Node], places: &mut Places)
     requires once { Distinct (revs_in nodes.now) }
     requires few { length nodes.now ≤ MOST_WALKED → places.old.entries ≡ [] }
-    requires begun { places.old.entries ≡ places_from 0 (take (index_map_len places.old) (revs_in nodes.now)) }
-    requires room { HasIndexRoom (length nodes.now) (index_map_len places.old + spare places.old) }
+    requires begun { places.old.entries ≡ places_from 0 (take (length places.old.entries) (revs_in nodes.now)) }
+    requires room { HasIndexRoom (length nodes.now) (length places.old.entries + places.old.spare) }
     ensures index { places.new.entries ≡ index_for (revs_in nodes.now) }
-    ensures room { index_map_len places.old + spare places.old ≤ index_map_len places.new + spare places.new }
+    ensures room { length places.old.entries + places.old.spare ≤ length places.new.entries + places.new.spare }
 {
     if nodes.len() <= MOST_WALKED {
         return;
     }
     for i in places.len()..nodes.len() {
-        let Ok(_) = places.insert(nodes[i].rev, i) else {
-            unreachable!()
-        };
+        places.insert(nodes[i].rev, i);
     }
 }
 
 /// Makes room in the index for so many nodes, unless they are few enough to be walked.
 pub(crate) fn reserve_index(
-    places: &mut IndexMap<Rev, usize>,
+    alloc: Global,
+    places: &mut Places,
     nodes: usize,
 ) -> Result<(), AllocError>
-    requires { index_map_len places.old ≤ nodes }
+    requires { length places.old.entries ≤ nodes }
     ensures index { places.new.entries ≡ places.old.entries }
-    ensures room { OnOk result (HasIndexRoom nodes (index_map_len places.new + spare places.new)) }
+    ensures room { OnOk result (HasIndexRoom nodes (length places.new.entries + places.new.spare)) }
 {
     if nodes <= MOST_WALKED {
         return Ok(());
     }
-    places.reserve(nodes - places.len())?;
-    Ok(())
+    places.reserve(alloc, nodes - places.len())
 }
 
 /// The index of the nodes. The only error is `Memory`.
-pub(crate) fn index_of(alloc: Global, nodes: &[Node]) -> Result<IndexMap<Rev, usize>, TreeFault>
+pub(crate) fn index_of(alloc: Global, nodes: &[Node]) -> Result<Places, TreeFault>
     requires { Distinct (revs_in nodes.now) }
     ensures index { IfOk result (λ m. m.entries ≡ index_for (revs_in nodes.now)) }
     ensures err { IfErr result (λ e. e ≡ TreeFault.Memory) }
 {
-    let mut places = IndexMap::new(alloc);
-    let Ok(()) = reserve_index(&mut places, nodes.len()) else {
+    let mut places = Places::new();
+    let Ok(()) = reserve_index(alloc, &mut places, nodes.len()) else {
         return Err(TreeFault::Memory);
     };
     index_rest(nodes, &mut places);

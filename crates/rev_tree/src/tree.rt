@@ -7,8 +7,8 @@ use crate::fault::{Contradiction, Merged, TreeFault};
 use crate::merging::{knows_edges, make_room, put};
 use crate::nodes::{Node, copy_nodes, index_of, node_at, node_in, place_in};
 use crate::origin::Origin;
+use crate::place_index::Places;
 use crate::walks::{those_above, walk};
-use indexmap::IndexMap;
 use rev_core::{Ancestry, Rev};
 use std::alloc::{AllocError, Global};
 use std::cmp::Ordering;
@@ -21,7 +21,7 @@ use std::marker::Model;
 #[derive(Drop)]
 pub struct Tree {
     nodes: Vec<Node>,
-    places: IndexMap<Rev, usize>,
+    places: Places,
 }
 
 impl Model for Tree {
@@ -50,7 +50,7 @@ impl Tree {
     {
         Tree {
             nodes: Vec::new(alloc),
-            places: IndexMap::new(alloc),
+            places: Places::new(),
         }
     }
 

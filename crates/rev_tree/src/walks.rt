@@ -8,7 +8,7 @@ ghost use Rattle.rev_tree.specs.Walks.{ancestors_at, is_above_at, is_above_one, 
 
 use crate::fault::TreeFault;
 use crate::nodes::{Node, node_at, place_in};
-use indexmap::IndexMap;
+use crate::place_index::Places;
 use rev_core::Rev;
 use std::alloc::Global;
 
@@ -48,7 +48,7 @@ pub(crate) fn walk(alloc: Global, nodes: &[Node], start: usize) -> Result<Vec<Re
 pub(crate) fn those_above(
     alloc: Global,
     nodes: &[Node],
-    places: &IndexMap<Rev, usize>,
+    places: &Places,
     leaves: &[Rev],
     revs: &[Rev],
 ) -> Result<Vec<Rev>, TreeFault>
@@ -82,7 +82,7 @@ pub(crate) fn those_above(
 fn asked(
     alloc: Global,
     nodes: &[Node],
-    places: &IndexMap<Rev, usize>,
+    places: &Places,
     revs: &[Rev],
 ) -> Result<Vec<Option<bool>>, TreeFault>
     requires index { places.now.entries ≡ index_for (revs_in nodes.now) }

@@ -1,5 +1,4 @@
 use Rattle.std.proofs.Common.{◌≡◌, ◌+◌, ◌-◌, ◌≤◌, length, slice_get, vec_len, vec_capacity}
-use Rattle.indexmap.specs.IndexMap.{index_map_len, spare}
 use Rattle.rev_tree.specs.Room.{HasIndexRoom}
 use Rattle.rev_tree.specs.Tree.{merged}
 use Rattle.rev_tree.specs.Nodes.{IsLinked, revs_in, tree_of, index_for}
@@ -14,5 +13,5 @@ invariant-loop-i l = record {
   tree : with_rest (tree_of l.nodes.items) l.origin l.revs l.i ≡ merged (tree_of l.fn.nodes.items) l.revs l.fn.content l.origin;
   child : slice_get (revs_in l.nodes.items) l.child ≡ slice_get l.revs (l.i - 1);
   room : vec_len l.nodes + (length l.revs - l.i) ≤ vec_capacity l.nodes;
-  room_in_index : HasIndexRoom (vec_len l.nodes + (length l.revs - l.i)) (index_map_len l.places + spare l.places);
+  room_in_index : HasIndexRoom (vec_len l.nodes + (length l.revs - l.i)) (length l.places.entries + l.places.spare);
 }

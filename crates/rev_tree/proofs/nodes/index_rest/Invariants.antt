@@ -1,5 +1,4 @@
 use Rattle.std.proofs.Common.{◌≡◌, ◌+◌, ◌≤◌, length, take}
-use Rattle.indexmap.specs.IndexMap.{index_map_len, spare}
 use Rattle.rev_tree.specs.Nodes.{revs_in, places_from}
 use Rattle.rev_tree.proofs.nodes.index_rest.Given as goal
 
@@ -7,7 +6,7 @@ use Rattle.rev_tree.proofs.nodes.index_rest.Given as goal
 abbrev pub invariant-loop-i : goal.invariant-loop-i
 invariant-loop-i l = record {
   places : l.places.entries ≡ places_from 0 (revs_in (take l.i l.nodes));
-  len : index_map_len l.places ≡ l.i;
-  room : length l.nodes ≤ index_map_len l.places + spare l.places;
-  kept : index_map_len l.fn.places + spare l.fn.places ≤ index_map_len l.places + spare l.places;
+  len : length l.places.entries ≡ l.i;
+  room : length l.nodes ≤ length l.places.entries + l.places.spare;
+  kept : length l.fn.places.entries + l.fn.places.spare ≤ length l.places.entries + l.places.spare;
 }

@@ -1,4 +1,4 @@
-use Rattle.std.proofs.Common.{◌≡◌, Ok, sym, ap, ◌∙◌}
+use Rattle.std.proofs.Common.{Ok, sym, ap, ◌∙◌}
 use Rattle.rev_tree.specs.TreeLaws.{merged-same}
 use Rattle.std.proofs.lemmas.Bool.{false≢true}
 use Rattle.rev_tree.proofs.Answering.{is_told_same, same_from_answer, changed_from_answer}
