@@ -12,7 +12,7 @@ use Rattle.rev_tree.specs.Tree.{no_revisions}
 use Rattle.couch_base.specs.ListLaws.{some_is, none_some}
 use Rattle.couch_base.specs.Lists.{Among}
 use Rattle.couch_base.specs.Database.{Id, tree_in, tree_of}
-use Rattle.couch_base.specs.Table.{at_seq, seq_of, tree_at, documents, IsTable}
+use Rattle.couch_base.specs.Stored.{at_seq, seq_of, tree_at, documents, IsTable}
 use Rattle.couch_base.specs.declared.kept.Kept.{Kept}
 
 -- ids and sequences that a test finds equal

@@ -7,7 +7,7 @@ use Rattle.std.specs.declared.cmp.Ordering.TheVariants.{Greater}
 use Rattle.std.specs.BTreeMap.{is_at, insert_entry}
 use Rattle.std.specs.Map.{remove_entry}
 use Rattle.couch_base.specs.Database.{Id}
-use Rattle.couch_base.specs.Table.{at_seq, AllBelow}
+use Rattle.couch_base.specs.Stored.{at_seq, AllBelow}
 use Rattle.couch_base.specs.ListLaws.{none_some}
 use Rattle.couch_base.proofs.Found.{seq_is, seq_same, not_true}
 use Rattle.couch_base.proofs.Rising.{Rising, rising_le}

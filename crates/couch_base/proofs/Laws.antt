@@ -4,7 +4,7 @@ use Rattle.std.specs.List.{list_any, AllByRecursion}
 use Rattle.std.specs.Str.{bytes_eq}
 use Rattle.couch_base.specs.Lists.{Among, Rises, EachOnce}
 use Rattle.couch_base.specs.Database.{Id, DocumentValue, LawfulDatabase, IsDocumentTree}
-use Rattle.couch_base.specs.Table.{documents, seq_of, tree_at, IsTable}
+use Rattle.couch_base.specs.Stored.{documents, seq_of, tree_at, IsTable}
 use Rattle.couch_base.specs.declared.kept.Kept.{Kept}
 use Rattle.couch_base.specs.ListLaws.{some_is}
 use Rattle.couch_base.proofs.Found.{id_is, not_true}

@@ -8,7 +8,7 @@ use Rattle.std.specs.Map.{remove_entry}
 use Rattle.std.specs.Str.{bytes_eq}
 use Rattle.couch_base.specs.Lists.{Among}
 use Rattle.couch_base.specs.Database.{Id, DocumentValue, IsDocumentTree, without, most}
-use Rattle.couch_base.specs.Table.{at_seq, seq_of, tree_at, document, documents, IsTable, Sets}
+use Rattle.couch_base.specs.Stored.{at_seq, seq_of, tree_at, document, documents, IsTable, Sets}
 use Rattle.couch_base.specs.declared.kept.Kept.{Kept}
 use Rattle.couch_base.specs.ListLaws.{some_is, none_some}
 use Rattle.couch_base.proofs.Found.{id_is, id_same, seq_is, seq_same, not_true}

@@ -18,7 +18,7 @@ use Rattle.rev_tree.proofs.Places.{slice_get-last}
 use Rattle.couch_base.specs.Lists.{Among}
 use Rattle.couch_base.specs.ListLaws.{some_is, none_some}
 use Rattle.couch_base.specs.Database.{Id}
-use Rattle.couch_base.specs.Table.{found, id_at, named, feed_of, ArePlaces, IsPlace, AllBelow}
+use Rattle.couch_base.specs.Stored.{found, id_at, named, feed_of, ArePlaces, IsPlace, AllBelow}
 use Rattle.couch_base.specs.declared.kept.Kept.{Kept}
 use Rattle.couch_base.proofs.Found.{id_is}
 use Rattle.couch_base.proofs.Rising.{among_append}

@@ -13,7 +13,7 @@ use Rattle.couch_base.specs.Database.{Id, DocumentValue, DatabaseValue}
 use Rattle.couch_base.specs.Feed.{RowValue, WindowValue, row_of, last_seq, page, page_end, page_answer, window_of}
 use Rattle.couch_base.specs.declared.fault.BaseFault.TheVariants as faults
 use Rattle.std.specs.Map.{keys_of}
-use Rattle.couch_base.specs.Table.{document, documents, feed_of, found, id_at, row_by, ArePlaces}
+use Rattle.couch_base.specs.Stored.{document, documents, feed_of, found, id_at, row_by, ArePlaces}
 use Rattle.couch_base.specs.declared.kept.Kept.{Kept}
 
 -- the rows so far and those of what is left make up the whole

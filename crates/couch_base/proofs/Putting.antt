@@ -15,7 +15,7 @@ use Rattle.rev_tree.specs.declared.origin.Origin.{Origin}
 use Rattle.doc_json.specs.Document.{Document}
 use Rattle.couch_base.specs.Database.{Id, DatabaseValue, tree_of, with_tree, most}
 use Rattle.couch_base.specs.Put.{put_answer, put_told, after_put, is_changed, content_of}
-use Rattle.couch_base.specs.Table.{documents, feed_of, found, tree_at, IsKept}
+use Rattle.couch_base.specs.Stored.{documents, feed_of, found, tree_at, IsKept}
 use Rattle.couch_base.specs.declared.kept.Kept.{Kept}
 use Rattle.couch_base.proofs.Found.{tree_of-documents}
 use Rattle.couch_base.specs.declared.fault.Put.{Put}

@@ -6,7 +6,7 @@ use Rattle.std.specs.BTreeMap.{is_at}
 use Rattle.std.specs.Map.{remove_entry}
 use Rattle.couch_base.specs.Lists.{Among, Rises}
 use Rattle.couch_base.specs.Database.{Id}
-use Rattle.couch_base.specs.Table.{AllBelow}
+use Rattle.couch_base.specs.Stored.{AllBelow}
 use Rattle.couch_base.proofs.Found.{seq_is, seq_same}
 
 -- the sequences of an index rise

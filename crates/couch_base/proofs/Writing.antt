@@ -2,7 +2,7 @@
 use Rattle.std.proofs.Common.{◌≡◌, ℕ, ◌+◌, ◌<◌, ◌≤◌, List, [], ◌∷◌, ◌++◌, Option, Some, None, sym, ap, ◌∙◌, refl, subst}
 use Rattle.rev_tree.specs.Tree.{TreeValue, IsTree, no_revisions}
 use Rattle.couch_base.specs.Database.{Id, DocumentValue, DatabaseValue, IsDocumentTree, HasBodies, tree_of, with_tree, without, most}
-use Rattle.couch_base.specs.Table.{documents, found, tree_at, IsTable, Writes}
+use Rattle.couch_base.specs.Stored.{documents, found, tree_at, IsTable, Writes}
 use Rattle.couch_base.specs.declared.kept.Kept.{Kept}
 use Rattle.couch_base.proofs.Found.{tree_of-documents}
 use Rattle.couch_base.specs.DocumentTreeLaws.{no_bodies}

@@ -3,7 +3,7 @@ pub mod Answers
 pub mod Database
 pub mod Put
 pub mod Feed
-pub mod Table
+pub mod Stored
 pub mod FeedLaws
 pub mod Edit
 pub mod ListLaws

@@ -40,7 +40,7 @@ impl Model for Database {
 
     ghost coded = { coded_database };
 
-    ghost use Rattle.couch_base.specs.Table.{documents, feed_of, found, IsKept};
+    ghost use Rattle.couch_base.specs.Stored.{documents, feed_of, found, IsKept};
 
     ghost view = { λ a. record {
       uuid = a.uuid;

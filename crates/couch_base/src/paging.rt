@@ -3,7 +3,7 @@ ghost use Rattle.std.specs.Prelude.{◌≡◌, ◌<◌, IfOk, IfErr, length, map
 ghost use Rattle.std.specs.Ordering.{nat_cmp};
 ghost use Rattle.std.specs.BTreeMap.Range.{entries_between};
 ghost use Rattle.std.specs.declared.ops.Bound.TheVariants.{Included, Excluded};
-ghost use Rattle.couch_base.specs.Table.{row_by, ArePlaces};
+ghost use Rattle.couch_base.specs.Stored.{row_by, ArePlaces};
 ghost use Rattle.couch_base.specs.Feed.{last_seq, page_end};
 
 use crate::fault::BaseFault;

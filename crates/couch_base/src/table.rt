@@ -3,7 +3,7 @@ ghost use Rattle.std.specs.Prelude.{◌≡◌, ◌<◌, ◌∷◌, ◌++◌, [],
 ghost use Rattle.rev_tree.specs.Tree.{no_revisions, merged, merge_answer};
 ghost use Rattle.rev_tree.specs.declared.fault.Merged.TheVariants.{Changed};
 ghost use Rattle.couch_base.specs.Database.{Id};
-ghost use Rattle.couch_base.specs.Table.{found, feed_of, tree_at, AllBelow, ArePlaces, IsPlace, Moves, Adds, Writes};
+ghost use Rattle.couch_base.specs.Stored.{found, feed_of, tree_at, AllBelow, ArePlaces, IsPlace, Moves, Adds, Writes};
 
 use crate::id_hash::IdHash;
 use crate::kept::Kept;

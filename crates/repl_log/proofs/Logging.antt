@@ -9,8 +9,8 @@ use Rattle.repl_log.specs.declared.fault.LogFault.TheVariants as faults
 use Rattle.repl_log.specs.Entry.{EntryValue, IsSound, value_of}
 use Rattle.repl_log.specs.Log.{IsLog, holds, entry_for, replaced, recorded_of, with_entry, put_beside, put_answer}
 use Rattle.repl_log.specs.LogLaws.{IsLog-with_entry}
-use Rattle.repl_log.specs.Table.{at_session, newest_first, IsKeyed}
-use Rattle.repl_log.specs.TableLaws.{EachOnce, find-lookup, any-lookup, newest_first-set, newest_first-push, IsKeyed-set, IsKeyed-push}
+use Rattle.repl_log.specs.Stored.{at_session, newest_first, IsKeyed}
+use Rattle.repl_log.specs.StoredLaws.{EachOnce, find-lookup, any-lookup, newest_first-set, newest_first-push, IsKeyed-set, IsKeyed-push}
 
 abbrev pub Entries : Type 0
 Entries = List (SessionId × Entry)

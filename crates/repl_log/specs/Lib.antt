@@ -2,8 +2,8 @@ pub mod Answers
 pub mod Entry
 pub mod Log
 pub mod LogLaws
-pub mod Table
-pub mod TableLaws
+pub mod Stored
+pub mod StoredLaws
 pub mod Time
 pub mod TimeLaws
 pub mod Text

@@ -22,7 +22,7 @@ impl Model for Log {
 
     ghost use Rattle.repl_log.specs.Entry.{value_of};
     ghost use Rattle.repl_log.specs.Log.{IsLog};
-    ghost use Rattle.repl_log.specs.Table.{newest_first, IsKeyed};
+    ghost use Rattle.repl_log.specs.Stored.{newest_first, IsKeyed};
 
     ghost view = { λ l. newest_first value_of l.entries.entries };
 

@@ -17,7 +17,7 @@ use Rattle.std.specs.List.{find}
 use Rattle.repl_target.specs.Sessions.{new_session, begun as begun_by, found_answer, on_found, recorded_at, after_record, report_of, conclude_in, conclude_answer, after_conclude}
 use Rattle.repl_target.specs.Audit.{rep_between}
 use Rattle.repl_target.specs.Replication.{start_between, base_at, checkpoint_of, begins_answer, after_begins}
-use Rattle.repl_target.proofs.Keeping.{session_found}
+use Rattle.repl_target.proofs.LaterPeers.{session_found}
 use Rattle.repl_target.proofs.Reading.{found-is}
 use Rattle.repl_target.specs.Calls.{Begin, Record, Conclude, IsGrown, IsTiedPair, after_calls}
 use Rattle.repl_target.specs.Later.{IsLaterPeer}

@@ -17,9 +17,9 @@ use Rattle.repl_target.specs.ReadCounts.{read_in}
 use Rattle.repl_target.specs.Sessions.{record_answer}
 use Rattle.repl_target.specs.Replication.{is_batch, start_between, begins_answer, after_begins}
 use Rattle.repl_target.proofs.Covering.{start_small}
-use Rattle.repl_target.proofs.Keeping.{IsLaterPeer-same}
+use Rattle.repl_target.proofs.LaterPeers.{IsLaterPeer-same}
 use Rattle.repl_target.proofs.Replicated.{grown-same}
-use Rattle.repl_target.proofs.Taken.{all_known}
+use Rattle.repl_target.proofs.SettlingTakes.{all_known}
 use Rattle.repl_pool.specs.Grown.{GrownPeer, DeskKeeps}
 use Rattle.repl_pool.specs.Runs.{IsConcluded, unfinished_at, IsRecorded, stopped, fewer, refused, PutsEntry, Walks, clean, hole, no_memory, Ends, concluded, recorded, EndsRun, EndsWell, EarlyOrLate, RunsOn}
 use Rattle.repl_pool.specs.Faults.{early_answer, IsLateOn}

@@ -26,9 +26,9 @@ use Rattle.repl_target.specs.Law.{LawfulSessions}
 use Rattle.repl_target.specs.Later.{IsLaterPeer}
 use Rattle.repl_target.specs.Audit.{rep_between}
 use Rattle.repl_target.proofs.Members.{Among-map, Among-push}
-use Rattle.repl_target.proofs.Keeping.{IsLaterPeer-same, IsLaterPeer-later, session_found}
-use Rattle.repl_target.proofs.Laws.{load_law, load_later, edit_law, edit_later, begin_law, begin_later, append_law, append_later, record_law, record_later, conclude_law, conclude_later}
-use Rattle.repl_target.proofs.SettleLaws.{settle_told, after_settle_law, after_stop_law}
+use Rattle.repl_target.proofs.LaterPeers.{IsLaterPeer-same, IsLaterPeer-later, session_found}
+use Rattle.repl_target.proofs.CallsKeepLaw.{load_law, load_later, edit_law, edit_later, begin_law, begin_later, append_law, append_later, record_law, record_later, conclude_law, conclude_later}
+use Rattle.repl_target.proofs.SettlingKeepsLaw.{settle_told, after_settle_law, after_stop_law}
 use Rattle.repl_target.specs.Ties.{IsTiedWindow}
 use Rattle.repl_target.specs.Calls.{Call, Load, Edit, Begin, Append, Settle, Stop, Record, Conclude, after_call, after_calls, IsPageOf, IsFrom, AllFrom, IsGrown, EachStored, IsTiedPair}
 use Rattle.repl_target.proofs.TiesLaws.{page_within, IsTiedWindow-page, IsTiedWindow-later}

@@ -40,10 +40,10 @@ use Rattle.repl_target.specs.declared.fault.Settled.{Settled}
 use Rattle.repl_target.specs.declared.fault.TargetFault.{TargetFault}
 use Rattle.repl_target.specs.declared.replication.Plan.{Plan}
 use Rattle.repl_target.proofs.Members.{Among-map, Among-mapped, any_member}
-use Rattle.repl_target.proofs.Keeping.{one_session, session_found}
-use Rattle.repl_target.proofs.SettleLaws.{settle_told}
+use Rattle.repl_target.proofs.LaterPeers.{one_session, session_found}
+use Rattle.repl_target.proofs.SettlingKeepsLaw.{settle_told}
 use Rattle.repl_target.proofs.Parts.{IsPart, nothing_is_part, given, part_merged, whole_part}
-use Rattle.repl_target.proofs.Honest.{rises_member}
+use Rattle.repl_target.proofs.HonestSessions.{rises_member}
 use Rattle.repl_target.proofs.Reading.{Started, less-is, concluded, all-covered, all-reported, all-lawful}
 
 -- ---- databases

@@ -23,13 +23,13 @@ use Rattle.repl_target.specs.Replication.{start_at, checkpoint_of, start_between
 use Rattle.repl_target.specs.declared.fault.Audit.{Audit}
 use Rattle.repl_target.specs.declared.fault.Audit.TheVariants.{Clean, Hole}
 use Rattle.repl_target.proofs.Members.{Among-map, found_member}
-use Rattle.repl_target.proofs.Laws.{same_rep-is}
+use Rattle.repl_target.proofs.CallsKeepLaw.{same_rep-is}
 use Rattle.repl_target.proofs.Windows.{window-stored}
 use Rattle.repl_target.specs.Ties.{IsTiedWindow}
 use Rattle.repl_target.specs.Calls.{IsTiedPair}
 use Rattle.repl_target.specs.Tied.{LogsAreHonest}
 use Rattle.repl_target.proofs.TiesLaws.{Among-filter, feed_member}
-use Rattle.repl_target.proofs.Taken.{all_known}
+use Rattle.repl_target.proofs.SettlingTakes.{all_known}
 
 -- each leaf of the document is covered
 abbrev pub IsCovered : PeerValue → DocumentValue → Type 0

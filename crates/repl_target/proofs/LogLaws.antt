@@ -10,7 +10,7 @@ use Rattle.repl_target.specs.Later.{IsLaterPeer}
 use Rattle.repl_target.specs.Origins.{HasOrigins}
 use Rattle.repl_target.specs.Logs.{put_by, put_entry_answer, after_put_entry}
 use Rattle.repl_target.specs.declared.fault.TargetFault.{TargetFault}
-use Rattle.repl_target.proofs.Keeping.{Keeps-same, IsLaterPeer-same, lawful-later}
+use Rattle.repl_target.proofs.LaterPeers.{Keeps-same, IsLaterPeer-same, lawful-later}
 use Rattle.repl_target.proofs.Originating.{stands_from, has_from, stands_same}
 
 -- ---- other outgoing logs

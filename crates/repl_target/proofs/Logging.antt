@@ -15,11 +15,11 @@ use Rattle.repl_log.specs.Answers.{GivesUnlessMemory as LogGives}
 use Rattle.repl_log.specs.Entry.{EntryValue}
 use Rattle.repl_log.specs.Log.{holds, replaced, entry_for, with_entry, put_beside, put_answer}
 use Rattle.repl_target.specs.Peer.{SessionValue, is_of, same_rep, entry_of}
-use Rattle.repl_target.specs.Standing.{sessions_of}
+use Rattle.repl_target.specs.StoredSessions.{sessions_of}
 use Rattle.repl_target.specs.Sessions.{GivesUnlessMemory}
 use Rattle.repl_target.specs.Logs.{log_of, log_in, logs_with, as_log_answers, put_answer_in}
-use Rattle.repl_log.specs.Table.{at_session, IsKeyed}
-use Rattle.repl_log.specs.TableLaws.{EachOnce, newest_first-push}
+use Rattle.repl_log.specs.Stored.{at_session, IsKeyed}
+use Rattle.repl_log.specs.StoredLaws.{EachOnce, newest_first-push}
 
 -- ---- outgoing logs
 

@@ -19,10 +19,10 @@ use Rattle.repl_target.specs.Settling.{settle_docs, settled_before, has_row, has
 use Rattle.repl_target.specs.Replication.{start_between, base_at, checkpoint_of, begins_answer, after_begins}
 use Rattle.repl_target.specs.Audit.{rep_between}
 use Rattle.repl_target.specs.Law.{LawfulSessions}
-use Rattle.repl_target.proofs.Keeping.{session_found}
+use Rattle.repl_target.proofs.LaterPeers.{session_found}
 use Rattle.repl_target.proofs.Reading.{found-is}
-use Rattle.repl_target.proofs.SettleLaws.{settle_told, documents_settle}
-use Rattle.repl_target.proofs.Taken.{read-docs}
+use Rattle.repl_target.proofs.SettlingKeepsLaw.{settle_told, documents_settle}
+use Rattle.repl_target.proofs.SettlingTakes.{read-docs}
 use Rattle.repl_target.specs.ReadCounts.{read_of, read_in, taken}
 
 -- ---- one session in the place of another

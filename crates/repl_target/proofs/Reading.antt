@@ -24,10 +24,10 @@ use Rattle.repl_target.specs.declared.fault.TargetFault.{TargetFault}
 use Rattle.repl_target.specs.declared.fault.TargetFault.TheVariants as faults
 use Rattle.repl_target.specs.declared.replication.Plan.{Plan}
 use Rattle.repl_target.proofs.Members.{Among-left, Among-last, each_member}
-use Rattle.repl_target.proofs.Keeping.{one_session, session_found, with_session_holds}
-use Rattle.repl_target.proofs.Laws.{append_law, conclude_law}
-use Rattle.repl_target.proofs.SettleLaws.{settle_told, documents_settle, settle_law}
-use Rattle.repl_target.proofs.Honest.{honest_is}
+use Rattle.repl_target.proofs.LaterPeers.{one_session, session_found, with_session_holds}
+use Rattle.repl_target.proofs.CallsKeepLaw.{append_law, conclude_law}
+use Rattle.repl_target.proofs.SettlingKeepsLaw.{settle_told, documents_settle, settle_law}
+use Rattle.repl_target.proofs.HonestSessions.{honest_is}
 use Rattle.couch_base.specs.FeedLaws.{feed-page, feed-none}
 
 -- ---- lists

@@ -24,7 +24,7 @@ use Rattle.repl_target.specs.Sessions.{on_found, found_answer, begin_answer, new
 use Rattle.repl_target.specs.Logs.{put_by, put_entry_answer, after_put_entry}
 use Rattle.repl_target.specs.Law.{LawfulSessions}
 use Rattle.repl_target.specs.declared.fault.TargetFault.{TargetFault}
-use Rattle.repl_target.proofs.Keeping.{one_session, session_found}
+use Rattle.repl_target.proofs.LaterPeers.{one_session, session_found}
 
 map-same : {X : Type 0} (f : X → X) (xs : List X) → ((x : X) → Among x xs → f x ≡ x) → map f xs ≡ xs
 map-same f [] h = refl

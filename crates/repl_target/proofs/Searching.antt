@@ -6,7 +6,7 @@ use Rattle.std.specs.List.{find}
 use Rattle.std.specs.List.Sorted.{IsPartitionPoint}
 use Rattle.couch_base.specs.ListLaws.{none_some, some_is}
 use Rattle.couch_base.specs.Feed.{WindowValue}
-use Rattle.repl_target.specs.SettleParts.{Consecutive, IsWindowAt}
+use Rattle.repl_target.specs.SettlingParts.{Consecutive, IsWindowAt}
 
 abbrev is_at : ℕ → ℕ → WindowValue → Bool
 is_at lo hi w = (w.lo == lo) && (w.hi == hi)

@@ -11,12 +11,12 @@ pub mod Later
 pub mod PeerCode
 pub mod Origins
 pub mod Trusted
-pub mod Table
+pub mod SessionCalls
 pub mod LedgerIndex
 pub mod Logs
 pub mod Audit
-pub mod SettleParts
-pub mod Standing
+pub mod SettlingParts
+pub mod StoredSessions
 pub mod Local
 pub mod Replication
 pub mod Ties

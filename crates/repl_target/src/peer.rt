@@ -72,7 +72,7 @@ impl<F: WriteFilter> Peer<F> {
     ghost use Rattle.repl_target.specs.Writing.{after_load, after_edit};
     ghost use Rattle.repl_target.specs.Sessions.{GivesUnlessMemory, session_answer, begin_answer, after_begin, append_answer, after_append, record_answer, after_record, conclude_answer, after_conclude};
     ghost use Rattle.repl_target.specs.Settling.{SettleGives};
-    ghost use Rattle.repl_target.specs.Table.{entry_value};
+    ghost use Rattle.repl_target.specs.SessionCalls.{entry_value};
     ghost use Rattle.repl_target.specs.Law.{Lawful};
     ghost use Rattle.repl_target.specs.Trusted.{IsTrusted};
 

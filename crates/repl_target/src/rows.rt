@@ -8,7 +8,7 @@ ghost use Rattle.couch_base.specs.Lists.{EachOnce};
 ghost use Rattle.repl_target.specs.Covered.{first_unknown};
 ghost use Rattle.repl_target.specs.LedgerIndex.{is_ledgered};
 ghost use Rattle.repl_target.specs.Settling.{seq_in};
-ghost use Rattle.repl_target.specs.SettleParts.{known_of, IsRowOf};
+ghost use Rattle.repl_target.specs.SettlingParts.{known_of, IsRowOf};
 
 use crate::ledger_index::LedgerIndex;
 use couch_base::{Database, Row, Wanted};

@@ -6,8 +6,8 @@ ghost use Rattle.repl_target.specs.Logs.{log_of};
 ghost use Rattle.repl_target.specs.Peer.{PeerValue, session_in};
 ghost use Rattle.repl_target.specs.Sessions.{GivesUnlessMemory, new_session, append_in, with_window, recorded_at, conclude_in};
 ghost use Rattle.repl_target.specs.Settling.{SettleGives};
-ghost use Rattle.repl_target.specs.SettleParts.{with_parts};
-ghost use Rattle.repl_target.specs.Table.{in_ledgers, with_changed, answer_in, begin_in, recorded_by};
+ghost use Rattle.repl_target.specs.SettlingParts.{with_parts};
+ghost use Rattle.repl_target.specs.SessionCalls.{in_ledgers, with_changed, answer_in, begin_in, recorded_by};
 
 use crate::fault::{Report, Settled, TargetFault};
 use crate::filter::WriteFilter;
@@ -42,7 +42,7 @@ impl Model for Sessions {
 
     ghost coded = { coded_list coded_session };
 
-    ghost use Rattle.repl_target.specs.Standing.{sessions_of, IsStored};
+    ghost use Rattle.repl_target.specs.StoredSessions.{sessions_of, IsStored};
 
     ghost view = { λ s. sessions_of s.entries.entries };
 

@@ -14,7 +14,7 @@ ghost use Rattle.repl_target.specs.Covered.{refusal_of, in_ledger};
 ghost use Rattle.repl_target.specs.declared.ledger_index.LedgerIndex.{LedgerIndex};
 ghost use Rattle.repl_target.specs.LedgerIndex.{is_ledgered};
 ghost use Rattle.repl_target.specs.Settling.{Halts, stops_in, has_row};
-ghost use Rattle.repl_target.specs.SettleParts.{PartsGive, Reached, Ends, Accepts, Rejects, Steps, Stuck, cause_at, Indexes, known_of, settling_at};
+ghost use Rattle.repl_target.specs.SettlingParts.{PartsGive, Reached, Ends, Accepts, Rejects, Steps, Stuck, cause_at, IndexesMore, known_of, settling_at};
 
 use crate::fault::{Cause, Reason, Settled, TargetFault};
 use crate::filter::{Verdict, WriteFilter};
@@ -49,8 +49,8 @@ pub(crate) fn settle<F: WriteFilter>(
         → in_ledger session.old.ledger i r ≡ true
         → in_ledger session.new.ledger i r ≡ true }
     ensures indexed { (base : LedgerIndex)
-        → Indexes base session.old.ledger ledgered.old
-        → Indexes base session.new.ledger ledgered.new }
+        → IndexesMore base session.old.ledger ledgered.old
+        → IndexesMore base session.new.ledger ledgered.new }
 {
     let checked = check(session, &parcel)?;
     let (_, mut docs, _) = parcel.into_parts();
@@ -103,8 +103,8 @@ fn settle_in_order<F: WriteFilter>(
     ensures front { session.new.front ≡ session.old.front }
     ensures windows { session.new.windows ≡ session.old.windows }
     ensures indexed { (base : LedgerIndex)
-        → Indexes base session.old.ledger ledgered.old
-        → Indexes base session.new.ledger ledgered.new }
+        → IndexesMore base session.old.ledger ledgered.old
+        → IndexesMore base session.new.ledger ledgered.new }
 {
     let Ok(()) = session.front.reserve() else {
         let Some(doc) = docs.first() else {
@@ -144,8 +144,8 @@ fn settle_documents<F: WriteFilter>(
     ensures front { session.new.front ≡ session.old.front }
     ensures windows { session.new.windows ≡ session.old.windows }
     ensures indexed { (base : LedgerIndex)
-        → Indexes base session.old.ledger ledgered.old
-        → Indexes base session.new.ledger ledgered.new }
+        → IndexesMore base session.old.ledger ledgered.old
+        → IndexesMore base session.new.ledger ledgered.new }
 {
     let mut row = 0;
     while let Some(doc) = docs.last() {
@@ -181,8 +181,8 @@ fn settle_last<F: WriteFilter>(
     ensures front { session.new.front ≡ session.old.front }
     ensures windows { session.new.windows ≡ session.old.windows }
     ensures indexed { (base : LedgerIndex)
-        → Indexes base session.old.ledger ledgered.old
-        → Indexes base session.new.ledger ledgered.new }
+        → IndexesMore base session.old.ledger ledgered.old
+        → IndexesMore base session.new.ledger ledgered.new }
 {
     let doc = docs.last().unwrap();
     let reason = decide(

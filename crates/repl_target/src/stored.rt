@@ -4,7 +4,7 @@ ghost use Rattle.std.specs.List.{find};
 ghost use Rattle.std.specs.List.Sorted.{IsPartitionPoint};
 ghost use Rattle.couch_base.specs.Database.{most};
 ghost use Rattle.repl_target.specs.Settling.{settle_at, window_in};
-ghost use Rattle.repl_target.specs.SettleParts.{Consecutive, IsWindowAt, Passes};
+ghost use Rattle.repl_target.specs.SettlingParts.{Consecutive, IsWindowAt, Passes};
 
 use crate::fault::TargetFault;
 use crate::rows::{all_have_rows, asked_count, leaf_count};

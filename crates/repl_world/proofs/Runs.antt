@@ -20,7 +20,7 @@ use Rattle.repl_target.specs.declared.fault.TargetFault.TheVariants as faults
 use Rattle.repl_target.proofs.Covering.{honest_is, audited_is, tied_none}
 use Rattle.repl_target.proofs.RefusedCalls.{append_refused}
 use Rattle.repl_target.proofs.Replicated.{settle_left, settle_gives}
-use Rattle.repl_target.proofs.Taken.{own_covered}
+use Rattle.repl_target.proofs.SettlingTakes.{own_covered}
 use Rattle.repl_world.specs.declared.fault.WorldFault.TheVariants.{SamePeer}
 use Rattle.repl_world.specs.declared.step.Step.{Step}
 use Rattle.repl_world.specs.Bags.{BagValue, empty_bag}

@@ -19,9 +19,9 @@ use Rattle.repl_target.specs.Calls.{Call, Load, Edit, after_call, EachStored, Is
 use Rattle.repl_target.specs.Calls as calls
 use Rattle.repl_target.specs.declared.fault.TargetFault.{TargetFault}
 use Rattle.repl_target.proofs.Members.{Among-push, at-append}
-use Rattle.repl_target.proofs.Laws.{load_later, edit_later, begin_later, append_later, record_later, conclude_later}
+use Rattle.repl_target.proofs.CallsKeepLaw.{load_later, edit_later, begin_later, append_later, record_later, conclude_later}
 use Rattle.repl_target.proofs.LogLaws.{put_entry_later}
-use Rattle.repl_target.proofs.SettleLaws.{after_settle_law, after_stop_law}
+use Rattle.repl_target.proofs.SettlingKeepsLaw.{after_settle_law, after_stop_law}
 use Rattle.repl_target.proofs.TiesLaws.{IsTiedWindow-page, IsTiedWindow-later}
 use Rattle.repl_target.proofs.MessageTies.{IsTiedAsked-revs_diff, IsTiedAsked-later, IsTiedParcel-open_revs}
 use Rattle.repl_target.proofs.CallLaws.{Brings, call_stores, tied_source}

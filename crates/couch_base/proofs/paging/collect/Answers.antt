@@ -1,6 +1,6 @@
 use Rattle.std.proofs.Common.{length, sym, subst, rules, inl, refl, arith}
 use Rattle.couch_base.specs.Lists.{Among}
-use Rattle.couch_base.specs.Table.{ArePlaces}
+use Rattle.couch_base.specs.Stored.{ArePlaces}
 use Rattle.couch_base.proofs.Naming.{places_filter}
 use Rattle.couch_base.proofs.Pages.{collected_next}
 use Rattle.couch_base.proofs.paging.collect.Goals as goal

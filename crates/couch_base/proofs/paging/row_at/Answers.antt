@@ -2,7 +2,7 @@ use Rattle.std.proofs.Common.{sym, ap, ◌∙◌}
 use Rattle.rev_tree.specs.Tree.{leaves}
 use Rattle.couch_base.specs.Database.{Id}
 use Rattle.couch_base.specs.Feed.{RowValue}
-use Rattle.couch_base.specs.Table.{found, tree_at}
+use Rattle.couch_base.specs.Stored.{found, tree_at}
 use Rattle.couch_base.proofs.Naming.{id_is_at}
 use Rattle.couch_base.proofs.paging.row_at.Goals as goal
 

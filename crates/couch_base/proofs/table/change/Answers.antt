@@ -7,7 +7,7 @@ use Rattle.indexmap.specs.IndexMap.{set_value_at}
 use Rattle.indexmap.proofs.CallerLemmas.{keys-with_value_at, index_map_len-with_value_at, updates-with_value_at}
 use Rattle.rev_tree.specs.Tree.{TreeValue, IsTree, merged}
 use Rattle.couch_base.specs.Database.{Id}
-use Rattle.couch_base.specs.Table.{found, Sets}
+use Rattle.couch_base.specs.Stored.{found, Sets}
 use Rattle.couch_base.specs.declared.kept.Kept.{Kept}
 use Rattle.couch_base.specs.ListLaws.{some_is}
 use Rattle.couch_base.proofs.Index.{remove_last}

@@ -1,6 +1,6 @@
 use Rattle.std.proofs.Common.{◌≡◌, None, sym, ap, ◌∙◌}
 use Rattle.rev_tree.specs.Tree.{merge_answer}
-use Rattle.couch_base.specs.Table.{found, tree_at}
+use Rattle.couch_base.specs.Stored.{found, tree_at}
 use Rattle.couch_base.proofs.Naming.{placed}
 use Rattle.couch_base.proofs.Putting.{new_changes}
 use Rattle.couch_base.proofs.table.look.Goals as goal

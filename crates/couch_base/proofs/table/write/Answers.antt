@@ -2,7 +2,7 @@ use Rattle.std.proofs.Common.{◌≡◌, ◌∙◌, Ok, Err, Some, sym, ap, subs
 use Rattle.std.specs.Prelude.{Result, IfSome, OnOk, slice_get}
 use Rattle.rev_tree.specs.Tree.{merge_answer}
 use Rattle.couch_base.specs.ListLaws.{some_is, none_some}
-use Rattle.couch_base.specs.Table.{found, tree_at}
+use Rattle.couch_base.specs.Stored.{found, tree_at}
 use Rattle.couch_base.specs.declared.kept.Kept.{Kept}
 use Rattle.couch_base.proofs.table.write.Goals as goal
 

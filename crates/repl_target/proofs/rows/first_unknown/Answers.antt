@@ -2,7 +2,7 @@ use Rattle.std.proofs.Common.{ap, sym, ◌∙◌}
 use Rattle.rev_core.specs.Rev.{RevId}
 use Rattle.repl_target.specs.Covered.{Leaf}
 use Rattle.std.specs.Option.{option_map}
-use Rattle.repl_target.specs.SettleParts.{known_of}
+use Rattle.repl_target.specs.SettlingParts.{known_of}
 use Rattle.repl_target.proofs.Listing.{unknown_here}
 use Rattle.repl_target.proofs.rows.first_unknown.Goals as goal
 

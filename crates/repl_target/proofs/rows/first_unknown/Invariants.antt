@@ -1,6 +1,6 @@
 use Rattle.std.proofs.Common.{◌≡◌, drop}
 use Rattle.repl_target.specs.Covered.{first_unknown}
-use Rattle.repl_target.specs.SettleParts.{known_of}
+use Rattle.repl_target.specs.SettlingParts.{known_of}
 use Rattle.repl_target.proofs.rows.first_unknown.Given as goal
 
 -- none of the rows so far has an unknown leaf

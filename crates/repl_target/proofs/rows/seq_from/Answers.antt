@@ -2,7 +2,7 @@ use Rattle.std.proofs.Common.{ap, ◌∙◌}
 use Rattle.std.proofs.lemmas.Option.{MatchOption-at_some, get_or_from_slice_get}
 use Rattle.couch_base.specs.Feed.{RowValue}
 use Rattle.repl_target.proofs.Listing.{seq_is}
-use Rattle.repl_target.specs.SettleParts.{IsRowOf}
+use Rattle.repl_target.specs.SettlingParts.{IsRowOf}
 use Rattle.repl_target.proofs.rows.seq_from.Goals as goal
 
 pub returns-clause-seq : goal.returns-clause-seq

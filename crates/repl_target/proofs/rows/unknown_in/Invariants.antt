@@ -1,6 +1,6 @@
 use Rattle.std.proofs.Common.{◌≡◌, not, drop}
 use Rattle.std.specs.List.{find}
-use Rattle.repl_target.specs.SettleParts.{known_of}
+use Rattle.repl_target.specs.SettlingParts.{known_of}
 use Rattle.repl_target.proofs.rows.unknown_in.Given as goal
 
 -- none of the leaves so far is unknown

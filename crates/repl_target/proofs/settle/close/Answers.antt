@@ -3,9 +3,9 @@ use Rattle.std.specs.Option.{option_map}
 use Rattle.couch_base.specs.Feed.{RowValue, WindowValue}
 use Rattle.range_front.specs.Front.{FrontValue, finished}
 use Rattle.repl_target.specs.Covered.{first_unknown}
-use Rattle.repl_target.specs.SettleParts.{known_of}
+use Rattle.repl_target.specs.SettlingParts.{known_of}
 use Rattle.repl_target.specs.Stored.{session_value}
-use Rattle.repl_target.proofs.Documents.{window_is}
+use Rattle.repl_target.proofs.SettlingDocuments.{window_is}
 use Rattle.repl_target.proofs.SessionLaws.{bounds_done}
 use Rattle.repl_target.proofs.settle.close.Goals as goal
 

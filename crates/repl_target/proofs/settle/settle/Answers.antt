@@ -9,10 +9,10 @@ use Rattle.repl_target.specs.Covered.{in_ledger}
 use Rattle.repl_target.specs.Peer.{RefusedValue, SessionValue}
 use Rattle.repl_target.specs.Law.{window_bounds}
 use Rattle.repl_target.specs.Settling.{Halts, has_row}
-use Rattle.repl_target.specs.SettleParts.{Indexes, Reached, settling_at, known_of}
-use Rattle.repl_target.proofs.Checks.{passed_by, room_of, can_finish}
-use Rattle.repl_target.proofs.Documents.{grown_by, reached_left}
-use Rattle.repl_target.proofs.Parcels.{gives_from, stopped, ended_err, ended_ok}
+use Rattle.repl_target.specs.SettlingParts.{IndexesMore, Reached, settling_at, known_of}
+use Rattle.repl_target.proofs.SettlingChecks.{passed_by, room_of, can_finish}
+use Rattle.repl_target.proofs.SettlingDocuments.{grown_by, reached_left}
+use Rattle.repl_target.proofs.SettlingParcels.{gives_from, stopped, ended_err, ended_ok}
 use Rattle.repl_target.proofs.settle.settle.Goals as goal
 
 pub settle_in_order-stop-requires-clause-rows : goal.settle_in_order-stop-requires-clause-rows
@@ -171,8 +171,8 @@ returns-clause-id g c =
 
 pub returns-in-Err-close-clause-indexed : goal.returns-in-Err-close-clause-indexed
 returns-in-Err-close-clause-indexed g c = λ base h.
-    subst (λ (l : List RefusedValue). Indexes base l c.settle_in_order-stop.new.ledgered) (sym c.close.ensures.ledger) (c.settle_in_order-stop.ensures.indexed base h)
+    subst (λ (l : List RefusedValue). IndexesMore base l c.settle_in_order-stop.new.ledgered) (sym c.close.ensures.ledger) (c.settle_in_order-stop.ensures.indexed base h)
 
 pub returns-clause-indexed : goal.returns-clause-indexed
 returns-clause-indexed g c = λ base h.
-    subst (λ (l : List RefusedValue). Indexes base l c.settle_in_order-stop.new.ledgered) (sym c.close.ensures.ledger) (c.settle_in_order-stop.ensures.indexed base h)
+    subst (λ (l : List RefusedValue). IndexesMore base l c.settle_in_order-stop.new.ledgered) (sym c.close.ensures.ledger) (c.settle_in_order-stop.ensures.indexed base h)

@@ -8,9 +8,9 @@ use Rattle.doc_json.specs.Document.{Document}
 use Rattle.couch_base.specs.Feed.{WindowValue, RowValue}
 use Rattle.repl_target.specs.Peer.{SessionValue}
 use Rattle.repl_target.specs.Settling.{Settling, has_row, seq_in}
-use Rattle.repl_target.specs.SettleParts.{Reached, settling_at}
+use Rattle.repl_target.specs.SettlingParts.{Reached, settling_at}
 use Rattle.repl_target.proofs.Listing.{all_at, all_before}
-use Rattle.repl_target.proofs.Documents.{window_is, last_at, last_is, reached_next}
+use Rattle.repl_target.proofs.SettlingDocuments.{window_is, last_at, last_is, reached_next}
 use Rattle.repl_target.proofs.settle.settle_documents.Goals as goal
 
 pub seq_from-found-requires-clause-there : goal.seq_from-found-requires-clause-there

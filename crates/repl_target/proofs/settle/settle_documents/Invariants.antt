@@ -4,7 +4,7 @@ use Rattle.couch_base.specs.Database.{most}
 use Rattle.couch_base.specs.Feed.{WindowValue}
 use Rattle.repl_target.specs.declared.ledger_index.LedgerIndex.{LedgerIndex}
 use Rattle.repl_target.specs.Settling.{has_row}
-use Rattle.repl_target.specs.SettleParts.{Reached, Indexes, settling_at}
+use Rattle.repl_target.specs.SettlingParts.{Reached, IndexesMore, settling_at}
 use Rattle.repl_target.proofs.settle.settle_documents.Given as goal
 
 -- the documents that were taken off are settled
@@ -18,7 +18,7 @@ invariant-loop-doc g l = record {
   less : length l.docs.items ≤ length l.fn.docs.items;
   front : l.session.front ≡ l.fn.session.front;
   windows : l.session.windows ≡ l.fn.session.windows;
-  indexed : (base : LedgerIndex) → Indexes base l.fn.session.ledger l.fn.ledgered → Indexes base l.session.ledger l.ledgered;
+  indexed : (base : LedgerIndex) → IndexesMore base l.fn.session.ledger l.fn.ledgered → IndexesMore base l.session.ledger l.ledgered;
 }
 
 abbrev pub decreases-loop-doc : goal.decreases-loop-doc

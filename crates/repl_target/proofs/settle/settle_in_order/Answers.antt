@@ -5,8 +5,8 @@ use Rattle.couch_base.specs.Feed.{WindowValue}
 use Rattle.repl_target.specs.Peer.{SessionValue}
 use Rattle.repl_target.specs.Stored.{session_value}
 use Rattle.repl_target.specs.Settling.{has_row}
-use Rattle.repl_target.specs.SettleParts.{settling_at, Indexes, Reached}
-use Rattle.repl_target.proofs.Documents.{reached_turned, halts_first, halts_from, all_turned, IfErr_then}
+use Rattle.repl_target.specs.SettlingParts.{settling_at, IndexesMore, Reached}
+use Rattle.repl_target.proofs.SettlingDocuments.{reached_turned, halts_first, halts_from, all_turned, IfErr_then}
 use Rattle.repl_target.proofs.settle.settle_in_order.Given.{Over}
 use Rattle.repl_target.proofs.settle.settle_in_order.Goals as goal
 
@@ -45,4 +45,4 @@ returns-in_default-clause-why g c = λ w is.
 
 pub returns-clause-indexed : goal.returns-clause-indexed
 returns-clause-indexed g c = λ base h.
-    c.settle_documents-settled.ensures.indexed base (subst (λ (s : SessionValue). Indexes base s.ledger c.args.ledgered.now) (sym c.session.view_is) h)
+    c.settle_documents-settled.ensures.indexed base (subst (λ (s : SessionValue). IndexesMore base s.ledger c.args.ledgered.now) (sym c.session.view_is) h)

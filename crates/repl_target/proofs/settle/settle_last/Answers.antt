@@ -2,9 +2,9 @@ use Rattle.std.proofs.Common.{◌≡◌, ◌++◌, ◌∷◌, ◌-◌, [], List,
 use Rattle.std.specs.Option.{option_copied, option_to_list}
 use Rattle.doc_json.specs.Document.{Document}
 use Rattle.repl_target.specs.Peer.{RefusedValue, SessionValue}
-use Rattle.repl_target.specs.SettleParts.{Accepts, Rejects, Indexes, entered}
+use Rattle.repl_target.specs.SettlingParts.{Accepts, Rejects, IndexesMore, entered}
 use Rattle.repl_target.specs.declared.fault.Reason.{Reason}
-use Rattle.repl_target.proofs.Documents.{indexes_from, last_is}
+use Rattle.repl_target.proofs.SettlingDocuments.{indexes_from, last_is}
 use Rattle.repl_target.proofs.settle.settle_last.Goals as goal
 
 pub returns-in-Some-clause-indexed : goal.returns-in-Some-clause-indexed
@@ -20,5 +20,5 @@ returns-in-Some-clause-indexed g c = λ base h.
     let grown : c.push.new.self.items ≡ s.ledger ++ record { doc = doc; reason = reason } ∷ [] =
     pushed ∙ (λ i. (c.decide.ensures.ledger ∙ ap (λ (x : SessionValue). x.ledger) c.session.view_is) i ++ record { doc = sym same i; reason = reason } ∷ []) in
     let decided = subst (λ (o : Option Reason). MatchOption o (Accepts doc c.args.origin c.args.db.now c.decide.new.db c.args.ledgered.now c.decide.new.ledgered) (λ _. Rejects doc c.args.db.now c.decide.new.db c.args.ledgered.now c.decide.new.ledgered)) c.in-Some.is c.in_ok-reason.ensures.decided in
-    subst (λ (l : List RefusedValue). Indexes base l c.decide.new.ledgered) (sym grown)
+    subst (λ (l : List RefusedValue). IndexesMore base l c.decide.new.ledgered) (sym grown)
     (indexes_from c.args.origin doc c.args.db.now c.decide.new.db c.args.ledgered.now c.decide.new.ledgered base (Some reason) s (entered doc (Some reason) s) decided refl h)

@@ -7,8 +7,8 @@ use Rattle.couch_base.specs.Messages.{AskedValue, WantedValue}
 use Rattle.range_front.specs.Front.{is_done}
 use Rattle.repl_target.specs.Settling.{settle_at, has_row, has_room, leaf_count, asked_count}
 use Rattle.repl_target.specs.Stored.{session_value}
-use Rattle.repl_target.specs.SettleParts.{Consecutive}
-use Rattle.repl_target.proofs.Checks.{consecutive, rows_tested, found, foreign, done_already, count_full, passes_all, cut_fits, uncut}
+use Rattle.repl_target.specs.SettlingParts.{Consecutive}
+use Rattle.repl_target.proofs.SettlingChecks.{consecutive, rows_tested, found, foreign, done_already, count_full, passes_all, cut_fits, uncut}
 use Rattle.repl_target.proofs.stored.check.Goals as goal
 
 pub find_window-requires : goal.find_window-requires

@@ -1,6 +1,6 @@
 use Rattle.std.proofs.Common.{◌≤◌, Ok, subst, sym, ap, ◌∙◌, arith}
 use Rattle.couch_base.specs.Database.{DatabaseValue}
-use Rattle.couch_base.specs.Table.{found, feed_of}
+use Rattle.couch_base.specs.Stored.{found, feed_of}
 use Rattle.couch_base.specs.Feed.{IsWindow, page, page_end}
 use Rattle.couch_base.specs.FeedLaws.{IsWindow-page}
 use Rattle.couch_base.proofs.Laws.{lawful}

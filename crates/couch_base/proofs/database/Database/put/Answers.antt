@@ -5,7 +5,7 @@ use Rattle.rev_core.specs.Ancestry.{IsAncestry}
 use Rattle.rev_tree.specs.Tree.{merged}
 use Rattle.couch_base.specs.Database.{DatabaseValue, tree_of, with_tree, most}
 use Rattle.couch_base.specs.Put.{PutGives, put_answer, is_changed, content_of}
-use Rattle.couch_base.specs.Table.{documents, found, feed_of}
+use Rattle.couch_base.specs.Stored.{documents, found, feed_of}
 use Rattle.couch_base.specs.DocumentTreeLaws.{merged_document}
 use Rattle.couch_base.proofs.Laws.{lawful}
 use Rattle.couch_base.proofs.Naming.{below_named}

@@ -1,6 +1,6 @@
 use Rattle.std.proofs.Common.{sym, ap, ◌∙◌}
 use Rattle.couch_base.specs.Database.{tree_in, DatabaseValue}
-use Rattle.couch_base.specs.Table.{found, feed_of}
+use Rattle.couch_base.specs.Stored.{found, feed_of}
 use Rattle.couch_base.proofs.Found.{none_in, found_in}
 use Rattle.couch_base.proofs.database.Database.tree.Goals as goal
 

@@ -1,6 +1,6 @@
 use Rattle.std.proofs.Common.{subst}
 use Rattle.couch_base.specs.Database.{LawfulDatabase}
-use Rattle.couch_base.specs.Table.{found, feed_of}
+use Rattle.couch_base.specs.Stored.{found, feed_of}
 use Rattle.couch_base.proofs.Laws.{lawful}
 use Rattle.couch_base.proofs.database.Database.update_seq.Goals as goal
 

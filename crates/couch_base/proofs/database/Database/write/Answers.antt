@@ -2,7 +2,7 @@ use Rattle.std.proofs.Common.{◌∙◌, ◌<◌, ◌+◌, subst, sym, ap, List,
 use Rattle.rev_tree.specs.Tree.{merged, merge_answer}
 use Rattle.couch_base.specs.Database.{DocumentValue, DatabaseValue, with_tree, tree_of, most}
 use Rattle.std.specs.Map.{keys_of}
-use Rattle.couch_base.specs.Table.{found, feed_of, IsKept}
+use Rattle.couch_base.specs.Stored.{found, feed_of, IsKept}
 use Rattle.couch_base.proofs.Found.{tree_of-documents}
 use Rattle.couch_base.proofs.Rising.{all_below}
 use Rattle.couch_base.proofs.Naming.{below_named}

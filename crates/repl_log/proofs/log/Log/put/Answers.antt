@@ -9,7 +9,7 @@ use Rattle.repl_log.specs.declared.fault.LogFault.TheVariants as faults
 use Rattle.repl_log.specs.Entry.{EntryValue, value_of}
 use Rattle.repl_log.specs.Log.{IsLog, with_entry, put_answer, ChangesOnly}
 use Rattle.repl_log.specs.LogLaws.{ChangesOnly-with_entry}
-use Rattle.repl_log.specs.Table.{at_session}
+use Rattle.repl_log.specs.Stored.{at_session}
 use Rattle.repl_log.proofs.Logging.{Entries, logged, Lawful, Lawful-known, Lawful-new, put_answer-older, put_answer-known, put_answer-new, with_entry-known, with_entry-new, not_held}
 use Rattle.repl_log.proofs.log.Log.put.Goals as goal
 

@@ -1,7 +1,7 @@
 use Rattle.std.proofs.Common.{subst}
 use Rattle.repl_target.specs.Peer.{PeerValue}
 use Rattle.repl_target.specs.Settling.{SettleGives}
-use Rattle.repl_target.proofs.SettleLaws.{settle_law}
+use Rattle.repl_target.proofs.SettlingKeepsLaw.{settle_law}
 use Rattle.repl_target.proofs.Originating.{settle_origins}
 use Rattle.repl_target.proofs.peer.Peer.settle.Goals as goal
 

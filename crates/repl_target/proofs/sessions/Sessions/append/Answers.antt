@@ -3,8 +3,8 @@ use Rattle.std.specs.Option.{option_copied_mut}
 use Rattle.std.proofs.lemmas.Result.{on_ok_weaker, on_err_weaker}
 use Rattle.repl_target.specs.Peer.{SessionValue}
 use Rattle.repl_target.specs.Sessions.{GivesUnlessMemory, append_in, with_window, found_answer}
-use Rattle.repl_target.specs.Standing.{sessions_of, IsStored}
-use Rattle.repl_target.proofs.Table.{appended_same, session_in-at, sessions_of-changed, sessions_of-same, Stored-same}
+use Rattle.repl_target.specs.StoredSessions.{sessions_of, IsStored}
+use Rattle.repl_target.proofs.SessionTable.{appended_same, session_in-at, sessions_of-changed, sessions_of-same, Stored-same}
 use Rattle.repl_target.proofs.sessions.Sessions.append.Goals as goal
 
 pub invariant_of-self-2 : goal.invariant_of-self-2

@@ -1,9 +1,9 @@
 use Rattle.std.proofs.Common.{◌∷◌, List, ap, ◌∙◌}
 use Rattle.indexmap.proofs.CallerLemmas.{insert_entry-new}
-use Rattle.repl_log.specs.Table.{at_session}
+use Rattle.repl_log.specs.Stored.{at_session}
 use Rattle.repl_target.specs.Peer.{SessionValue, holds}
-use Rattle.repl_target.specs.Standing.{sessions_of}
-use Rattle.repl_target.proofs.Table.{absent-not_held, begin_in-new, sessions_of-new, Stored-new}
+use Rattle.repl_target.specs.StoredSessions.{sessions_of}
+use Rattle.repl_target.proofs.SessionTable.{absent-not_held, begin_in-new, sessions_of-new, Stored-new}
 use Rattle.repl_target.proofs.sessions.Sessions.begin.Goals as goal
 
 pub invariant_of-self-2 : goal.invariant_of-self-2

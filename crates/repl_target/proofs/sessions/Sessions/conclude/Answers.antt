@@ -3,8 +3,8 @@ use Rattle.std.specs.Option.{option_copied_mut}
 use Rattle.range_front.specs.Front.{low_water}
 use Rattle.repl_target.specs.Peer.{SessionValue}
 use Rattle.repl_target.specs.Sessions.{recorded_at, conclude_in, found_answer}
-use Rattle.repl_target.specs.Standing.{sessions_of, IsStored}
-use Rattle.repl_target.proofs.Table.{IsSame, concluded_same, session_in-at, sessions_of-changed, sessions_of-absent, Stored-same}
+use Rattle.repl_target.specs.StoredSessions.{sessions_of, IsStored}
+use Rattle.repl_target.proofs.SessionTable.{IsSame, concluded_same, session_in-at, sessions_of-changed, sessions_of-absent, Stored-same}
 use Rattle.repl_target.proofs.sessions.Sessions.conclude.Goals as goal
 
 pub invariant_of-self-2 : goal.invariant_of-self-2

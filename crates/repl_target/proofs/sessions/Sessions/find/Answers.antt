@@ -1,5 +1,5 @@
 use Rattle.std.proofs.Common.{sym, ◌∙◌}
-use Rattle.repl_target.proofs.Table.{session_in-lookup}
+use Rattle.repl_target.proofs.SessionTable.{session_in-lookup}
 use Rattle.repl_target.proofs.sessions.Sessions.find.Goals as goal
 
 pub returns : goal.returns

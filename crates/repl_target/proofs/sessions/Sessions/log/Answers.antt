@@ -1,7 +1,7 @@
 use Rattle.std.proofs.Common.{◌∙◌, sym, ap, arith, take_all}
 use Rattle.repl_log.specs.Entry.{value_of}
 use Rattle.repl_target.specs.Peer.{SessionValue, same_rep}
-use Rattle.repl_target.specs.Standing.{sessions_of}
+use Rattle.repl_target.specs.StoredSessions.{sessions_of}
 use Rattle.repl_target.specs.Logs.{log_of}
 use Rattle.repl_target.proofs.Logging.{log_of-next, log_of-passed}
 use Rattle.repl_target.proofs.sessions.Sessions.log.Goals as goal

@@ -1,5 +1,5 @@
 use Rattle.std.proofs.Common.{◌≡◌, take}
-use Rattle.repl_target.specs.Standing.{sessions_of}
+use Rattle.repl_target.specs.StoredSessions.{sessions_of}
 use Rattle.repl_target.specs.Logs.{log_of}
 use Rattle.repl_target.proofs.sessions.Sessions.log.Given as goal
 

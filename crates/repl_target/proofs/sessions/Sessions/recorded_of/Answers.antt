@@ -1,9 +1,9 @@
 use Rattle.std.proofs.Common.{Ok, sym, ap, ◌∙◌}
 use Rattle.std.specs.Option.{option_copied}
 use Rattle.repl_target.specs.Peer.{SessionValue, same_rep}
-use Rattle.repl_target.specs.Standing.{sessions_of}
-use Rattle.repl_target.specs.Table.{recorded_by}
-use Rattle.repl_target.proofs.Table.{recorded_by-found, recorded_by-other, recorded_by-at}
+use Rattle.repl_target.specs.StoredSessions.{sessions_of}
+use Rattle.repl_target.specs.SessionCalls.{recorded_by}
+use Rattle.repl_target.proofs.SessionTable.{recorded_by-found, recorded_by-other, recorded_by-at}
 use Rattle.repl_target.proofs.sessions.Sessions.recorded_of.Goals as goal
 
 pub returns-then-eq : goal.returns-then-eq

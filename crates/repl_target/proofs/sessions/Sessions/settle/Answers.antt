@@ -4,11 +4,11 @@ use Rattle.rev_tree.specs.Tree.{has}
 use Rattle.couch_base.specs.Database.{tree_of}
 use Rattle.repl_target.specs.Peer.{PeerValue, SessionValue}
 use Rattle.repl_target.specs.Settling.{Settling, SettleGives}
-use Rattle.repl_target.specs.SettleParts.{known_of, settling_at, with_parts}
-use Rattle.repl_target.specs.Standing.{sessions_of, IsStored}
-use Rattle.repl_target.specs.Table.{in_ledgers}
-use Rattle.repl_target.proofs.Settles.{settle_gives, settle_absent}
-use Rattle.repl_target.proofs.Table.{session_in-at, with_session-same, sessions_of-set, Stored-more}
+use Rattle.repl_target.specs.SettlingParts.{known_of, settling_at, with_parts}
+use Rattle.repl_target.specs.StoredSessions.{sessions_of, IsStored}
+use Rattle.repl_target.specs.SessionCalls.{in_ledgers}
+use Rattle.repl_target.proofs.SettlingPeers.{settle_gives, settle_absent}
+use Rattle.repl_target.proofs.SessionTable.{session_in-at, with_session-same, sessions_of-set, Stored-more}
 use Rattle.repl_target.proofs.sessions.Sessions.settle.Goals as goal
 
 pub invariant_of-self-2 : goal.invariant_of-self-2

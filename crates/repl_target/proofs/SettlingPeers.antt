@@ -17,17 +17,17 @@ use Rattle.repl_target.specs.Peer.{PeerValue, SessionValue, is_of, session_in, w
 use Rattle.repl_target.specs.Covered.{in_ledger, covers, knows_row, covers_window, unknown_in, first_unknown, Leaf}
 use Rattle.repl_target.specs.Sessions.{found_answer}
 use Rattle.repl_target.specs.Settling.{Settling, has_row, has_room, settle_docs, settle_at, window_in, settle_check, with_settling, settling_of, with_done, after_all, SettlesAt, Settles, SettleGives}
-use Rattle.repl_target.specs.SettleParts.{with_mark, PartsSettled, PartsSettle, PartsGive}
-use Rattle.repl_target.specs.Table.{in_ledgers}
+use Rattle.repl_target.specs.SettlingParts.{with_mark, PartsSettled, PartsSettle, PartsGive}
+use Rattle.repl_target.specs.SessionCalls.{in_ledgers}
 use Rattle.repl_target.specs.LedgerIndex.{is_ledgered}
-use Rattle.repl_target.specs.Standing.{Indexes}
+use Rattle.repl_target.specs.StoredSessions.{Indexes}
 use Rattle.repl_target.specs.declared.ledger_index.LedgerIndex.{LedgerIndex}
 use Rattle.repl_target.proofs.Refusing.{or_held}
 use Rattle.repl_target.specs.declared.fault.Settled.{Settled}
 use Rattle.repl_target.specs.declared.fault.TargetFault.{TargetFault}
 use Rattle.repl_target.specs.declared.fault.TargetFault.TheVariants as faults
-use Rattle.repl_target.proofs.Keeping.{with_session_holds}
-use Rattle.repl_target.proofs.SettleLaws.{with_session-twice}
+use Rattle.repl_target.proofs.LaterPeers.{with_session_holds}
+use Rattle.repl_target.proofs.SettlingKeepsLaw.{with_session-twice}
 use Rattle.repl_target.proofs.Members.{Among-map, Among-mapped, any_member, any_from}
 
 -- ---- leaves

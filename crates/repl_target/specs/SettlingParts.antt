@@ -29,8 +29,8 @@ abbrev pub known_of : DatabaseValue → LedgerIndex → Id → RevId → Bool
 known_of db index id r = has (tree_of db.docs id) r || is_ledgered index id r
 
 -- an index has what an earlier one had, and the revisions of the documents of a ledger
-abbrev pub Indexes : LedgerIndex → List RefusedValue → LedgerIndex → Type 0
-Indexes old ledger new = (id : Id) (r : RevId) → is_ledgered new id r ≡ (is_ledgered old id r || in_ledger ledger id r)
+abbrev pub IndexesMore : LedgerIndex → List RefusedValue → LedgerIndex → Type 0
+IndexesMore old ledger new = (id : Id) (r : RevId) → is_ledgered new id r ≡ (is_ledgered old id r || in_ledger ledger id r)
 
 -- a place has a row of an id
 abbrev pub IsRowOf : List RowValue → Id → ℕ → Type 0

@@ -22,7 +22,7 @@ use Rattle.repl_target.specs.Peer.{SessionValue, RefusedValue}
 use Rattle.repl_target.specs.Covered.{refusal_of, in_ledger}
 use Rattle.repl_target.specs.LedgerIndex.{is_ledgered}
 use Rattle.repl_target.specs.Settling.{Settling, is_full, settle_as, settle_one, settle_docs, Halts, stops_as, stops_in, stops_at, settled_before, fed}
-use Rattle.repl_target.specs.SettleParts.{Accepts, Rejects, Steps, Stuck, Indexes, Reached, ReachedAll, cause_at, entered}
+use Rattle.repl_target.specs.SettlingParts.{Accepts, Rejects, Steps, Stuck, IndexesMore, Reached, ReachedAll, cause_at, entered}
 use Rattle.repl_target.specs.declared.fault.Cause.{Cause}
 use Rattle.repl_target.specs.declared.fault.Cause.TheVariants as causes
 use Rattle.repl_target.specs.declared.fault.Reason.{Reason}
@@ -50,7 +50,7 @@ steps_from refuses o d before after old new (Some reason) s t is a e =
 
 pub indexes_from : (o : Origin) (d : Document) (before after : DatabaseValue) (old new base : LedgerIndex) (reason : Option Reason) (s t : SessionValue)
     → MatchOption reason (Accepts d o before after old new) (λ _. Rejects d before after old new)
-    → t ≡ entered d reason s → Indexes base s.ledger old → Indexes base t.ledger new
+    → t ≡ entered d reason s → IndexesMore base s.ledger old → IndexesMore base t.ledger new
 indexes_from o d before after old new base None s t a e h id r =
     a.index id r ∙ h id r ∙ ap (λ (x : SessionValue). is_ledgered base id r || in_ledger x.ledger id r) (sym e)
 indexes_from o d before after old new base (Some reason) s t a e h id r =

@@ -12,19 +12,19 @@ use Rattle.couch_base.specs.Database.{Id}
 use Rattle.couch_base.specs.Feed.{WindowValue}
 use Rattle.range_front.specs.Front.{low_water}
 use Rattle.repl_log.specs.declared.replication.RepId.{RepId}
-use Rattle.repl_log.specs.Table.{at_session, IsKeyed}
-use Rattle.repl_log.specs.TableLaws.{find-chosen, find-lookup, any-lookup, newest_first-set, newest_first-push, IsKeyed-set, IsKeyed-push}
+use Rattle.repl_log.specs.Stored.{at_session, IsKeyed}
+use Rattle.repl_log.specs.StoredLaws.{find-chosen, find-lookup, any-lookup, newest_first-set, newest_first-push, IsKeyed-set, IsKeyed-push}
 use Rattle.repl_target.specs.Peer.{SessionValue, is_of, session_in, holds, with_session, same_rep}
 use Rattle.repl_target.specs.Covered.{in_ledger}
 use Rattle.repl_target.specs.Sessions.{base_in, base_answer, on_base, goal_answer, start_answer, append_in, with_window, recorded_at}
-use Rattle.repl_target.specs.SettleParts.{Indexes as IndexesMore}
-use Rattle.repl_target.specs.Standing.{sessions_of, Indexes, IsStored}
-use Rattle.repl_target.specs.Table.{in_ledgers, with_changed, changed, recorded_of, recorded_by, begin_in}
+use Rattle.repl_target.specs.SettlingParts.{IndexesMore}
+use Rattle.repl_target.specs.StoredSessions.{sessions_of, Indexes, IsStored}
+use Rattle.repl_target.specs.SessionCalls.{in_ledgers, with_changed, changed, recorded_of, recorded_by, begin_in}
 use Rattle.repl_target.specs.declared.fault.TargetFault.{TargetFault}
 use Rattle.repl_target.specs.declared.fault.TargetFault.TheVariants as faults
 use Rattle.repl_target.specs.declared.ledger_index.LedgerIndex.{LedgerIndex}
-use Rattle.repl_target.proofs.Keeping.{session_found}
-use Rattle.repl_target.proofs.Settles.{same_ledgers, index_after}
+use Rattle.repl_target.proofs.LaterPeers.{session_found}
+use Rattle.repl_target.proofs.SettlingPeers.{same_ledgers, index_after}
 
 abbrev pub Entries : Type 0
 Entries = List (SessionId × SessionValue)

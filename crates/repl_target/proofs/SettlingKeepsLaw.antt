@@ -36,7 +36,7 @@ use Rattle.repl_target.specs.Settling.{Settling, fed, with_refused, with_arrival
 use Rattle.repl_target.specs.Law.{LawfulSession, LawfulSessions}
 use Rattle.repl_target.specs.Later.{Keeps, IsLaterPeer}
 use Rattle.repl_target.proofs.Members.{Among-left, Among-push, all_member, found_member}
-use Rattle.repl_target.proofs.Keeping.{Keeps-same, Keeps-later, IsLaterPeer-same, IsLaterPeer-later, covers-later, session_found, with_session_holds, session_law}
+use Rattle.repl_target.proofs.LaterPeers.{Keeps-same, Keeps-later, IsLaterPeer-same, IsLaterPeer-later, covers-later, session_found, with_session_holds, session_law}
 use Rattle.repl_target.proofs.Windows.{windows-follow, window-above, one_window}
 
 -- ---- refusals

@@ -13,7 +13,7 @@ use Rattle.range_front.specs.Front.{FrontValue, FrontWindow, Span, spans_from, b
 use Rattle.range_front.specs.FrontLaws.{is_window-bounds, finish_answer-ok}
 use Rattle.repl_target.specs.Peer.{SessionValue}
 use Rattle.repl_target.specs.Settling.{settle_at, window_in, has_row, has_room, leaf_count, asked_count}
-use Rattle.repl_target.specs.SettleParts.{IsWindowAt, Consecutive, Passes}
+use Rattle.repl_target.specs.SettlingParts.{IsWindowAt, Consecutive, Passes}
 use Rattle.repl_target.specs.Law.{window_bounds}
 use Rattle.repl_target.specs.declared.fault.TargetFault.{TargetFault}
 use Rattle.repl_target.specs.declared.fault.TargetFault.TheVariants as faults

@@ -15,7 +15,7 @@ use Rattle.repl_target.specs.Law.{LawfulSessions}
 use Rattle.repl_target.specs.Origins.{HasOrigins}
 use Rattle.repl_target.specs.Trusted.{IsAccounted, IsTrusted}
 use Rattle.repl_target.proofs.Members.{any_member}
-use Rattle.repl_target.proofs.Honest.{honest_is, counts_are}
+use Rattle.repl_target.proofs.HonestSessions.{honest_is, counts_are}
 
 -- what a lawful peer covers is in a tree, or was rightly refused
 pub covered_accounted : (refuses : Document → Bool) (p : PeerValue) → LawfulSessions refuses p → (id : Id) (r : RevId) → covers p id r ≡ true → IsAccounted refuses p id r

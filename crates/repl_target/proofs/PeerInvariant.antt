@@ -17,9 +17,9 @@ use Rattle.repl_target.specs.Writing.{next_local, after_load, after_edit, load_e
 use Rattle.repl_target.specs.Sessions.{GivesUnlessMemory, on_session, on_found, new_session, begin_answer, begun, after_begin, append_in, with_window, after_append, recorded_at}
 use Rattle.repl_target.specs.Local.{with_load, with_edited, with_edit}
 use Rattle.repl_target.specs.Law.{Lawful}
-use Rattle.repl_target.specs.Table.{with_changed, changed}
+use Rattle.repl_target.specs.SessionCalls.{with_changed, changed}
 use Rattle.repl_target.specs.declared.fault.TargetFault.{TargetFault}
-use Rattle.repl_target.proofs.Laws.{new_law, load_law, edit_law, begin_law, append_law, record_law, conclude_law}
+use Rattle.repl_target.proofs.CallsKeepLaw.{new_law, load_law, edit_law, begin_law, append_law, record_law, conclude_law}
 use Rattle.repl_target.proofs.Originating.{new_origins, load_origins, edit_origins, begin_origins, append_origins, record_origins, conclude_origins}
 
 -- a change of one session changes the list of them

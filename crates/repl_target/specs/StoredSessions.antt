@@ -1,14 +1,14 @@
--- The table of a peer's sessions, and their index of refused revisions.
+-- Sessions as they are stored: the table of a peer, and its index of refused revisions.
 use Rattle.std.specs.Prelude.{◌≡◌, List}
 use Rattle.std.specs.List.{IsDistinct}
 use Rattle.std.specs.Map.{keys_of}
 use Rattle.rev_core.specs.Rev.{RevId}
 use Rattle.rev_tree.specs.declared.origin.SessionId.{SessionId}
 use Rattle.couch_base.specs.Database.{Id}
-use Rattle.repl_log.specs.Table.{at_session, newest_first, IsKeyed}
+use Rattle.repl_log.specs.Stored.{at_session, newest_first, IsKeyed}
 use Rattle.repl_target.specs.Peer.{SessionValue}
 use Rattle.repl_target.specs.LedgerIndex.{is_ledgered}
-use Rattle.repl_target.specs.Table.{in_ledgers}
+use Rattle.repl_target.specs.SessionCalls.{in_ledgers}
 use Rattle.repl_target.specs.declared.ledger_index.LedgerIndex.{LedgerIndex}
 
 -- the sessions of a table, newest first

@@ -9,13 +9,13 @@ use Rattle.couch_base.specs.Messages.{ParcelValue}
 use Rattle.range_front.specs.Front.{finished}
 use Rattle.repl_target.specs.Peer.{SessionValue}
 use Rattle.repl_target.specs.Settling.{Settling, Halts, settle_docs, leaf_count, asked_count, with_done}
-use Rattle.repl_target.specs.SettleParts.{Passes, Reached, ReachedAll, Ends, PartsSettled, PartsSettle, PartsGive}
+use Rattle.repl_target.specs.SettlingParts.{Passes, Reached, ReachedAll, Ends, PartsSettled, PartsSettle, PartsGive}
 use Rattle.repl_target.specs.declared.fault.Cause.{Cause}
 use Rattle.repl_target.specs.declared.fault.Cause.TheVariants as causes
 use Rattle.repl_target.specs.declared.fault.Settled.{Settled}
 use Rattle.repl_target.specs.declared.fault.TargetFault.{TargetFault}
 use Rattle.repl_target.specs.declared.fault.TargetFault.TheVariants as faults
-use Rattle.repl_target.proofs.Documents.{reached_all, halts_end, grows}
+use Rattle.repl_target.proofs.SettlingDocuments.{reached_all, halts_end, grows}
 
 pub refused_by : (refuses : Document → Bool) (known : Id → RevId → Bool) (before after : Settling) (parcel : ParcelValue) (r : Result (SessionValue × WindowValue) TargetFault) (fault : TargetFault)
     → r ≡ Err fault → after ≡ before → PartsSettle refuses known before parcel r (Err fault) after

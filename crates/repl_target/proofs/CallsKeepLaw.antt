@@ -25,7 +25,7 @@ use Rattle.repl_target.specs.Sessions.{on_found, on_session, start_answer, base_
 use Rattle.repl_target.specs.Law.{LawfulSession, LawfulSessions, session_numbers}
 use Rattle.repl_target.specs.Later.{Keeps, IsLaterPeer}
 use Rattle.repl_target.proofs.Members.{Among-left, Among-push, each_push, found_member, at-append}
-use Rattle.repl_target.proofs.Keeping.{Keeps-same, IsLaterPeer-same, lawful-later, session_found, session_law}
+use Rattle.repl_target.proofs.LaterPeers.{Keeps-same, IsLaterPeer-same, lawful-later, session_found, session_law}
 
 -- ---- a peer as it begins
 

@@ -10,7 +10,7 @@ use Rattle.std.proofs.lemmas.Grind.{reverse_onto}
 use Rattle.indexmap.proofs.ReorderLemmas.{map-reverse}
 use Rattle.indexmap.specs.IndexMap.{insert_entry}
 use Rattle.rev_tree.specs.declared.origin.SessionId.{SessionId}
-use Rattle.repl_log.specs.Table.{at_session, newest_first, IsKeyed}
+use Rattle.repl_log.specs.Stored.{at_session, newest_first, IsKeyed}
 
 -- no session comes twice
 abbrev pub EachOnce : {X : Type 0} → List (SessionId × X) → Type 0
