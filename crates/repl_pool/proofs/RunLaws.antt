@@ -108,7 +108,7 @@ shown_well board given now source target target' plan n (Err why) h w = tt
 
 -- ---- what it says
 
--- no worker was started
+-- no worker was started, for want of memory
 pub no_workers : {F : Type 0} (refuses : F → Document → Bool) (may_fill : Type 0) (may_stop : Place → Type 0) (plan : Plan) (start : ℕ) (source : PeerValue) (given : F × PeerValue) (counts : List ℕ) (source' after : PeerValue) (outcome : Result Report PoolFault)
     → Ends plan start (Some faults.Memory) false source given.1 source' after outcome → EndsRun refuses may_fill may_stop plan start source given counts source' after outcome
 no_workers refuses may_fill may_stop plan start source given counts source' after outcome e = record {
@@ -118,6 +118,19 @@ no_workers refuses may_fill may_stop plan start source given counts source' afte
   grown = grown-same (refuses given.0) source.db given.1;
   late = tt;
   read = λ none whole. absurd (false≢true whole);
+  ends = e;
+}
+
+-- nor was one needed, since there was nothing to read
+pub nothing_read : {F : Type 0} (refuses : F → Document → Bool) (may_fill : Type 0) (may_stop : Place → Type 0) (plan : Plan) (start : ℕ) (source : PeerValue) (given : F × PeerValue) (counts : List ℕ) (source' after : PeerValue) (outcome : Result Report PoolFault)
+    → read_in given.1.sessions plan.session ≡ 0 → counts ≡ [] → Ends plan start None true source given.1 source' after outcome → EndsRun refuses may_fill may_stop plan start source given counts source' after outcome
+nothing_read refuses may_fill may_stop plan start source given counts source' after outcome none empty e = record {
+  fault = None;
+  complete = true;
+  before = given.1;
+  grown = grown-same (refuses given.0) source.db given.1;
+  late = tt;
+  read = λ _ _. none ∙ ap sum (sym empty);
   ends = e;
 }
 

@@ -1,5 +1,5 @@
 //! A run of the pool.
-ghost use Rattle.std.specs.Prelude.{◌≡◌, ◌<◌, ◌≤◌, [], true, false, Some, None, IfOk, sum, vec_len, option_copied};
+ghost use Rattle.std.specs.Prelude.{◌≡◌, ◌<◌, ◌≤◌, [], true, Some, None, IfOk, is_none, sum, vec_len, option_copied};
 ghost use Rattle.std.specs.List.{All};
 ghost use Rattle.couch_base.specs.Database.{DatabaseValue};
 ghost use Rattle.repl_target.specs.Peer.{SessionValue, session_in};
@@ -41,29 +41,32 @@ pub struct Ran<F: WriteFilter> {
     pub outcome: Result<Report, PoolFault>,
 }
 
-/// The end of a run whose workers weren't started: memory ran out.
-fn out_of_memory<F: WriteFilter>(
+/// The end of a run whose workers weren't started: memory ran out, or where no fault is given, there was nothing to read.
+fn without_workers<F: WriteFilter>(
     alloc: Global,
     source: Peer<F>,
     target: Peer<F>,
     plan: &Plan,
     start: u64,
     seats: Vec<BoardSeat>,
+    fault: Option<PoolFault>,
 ) -> Ran<F>
     requires held { (s : SessionValue) × (session_in target.1.sessions plan.now.session ≡ Some s) }
+    ensures fetched { result.fetched.items ≡ [] }
     ensures seats { result.seats ≡ seats }
     ensures filter { result.source.0 ≡ source.0 }
     ensures source { result.source.1 ≡ record source.1 { outgoing = result.source.1.outgoing } }
     ensures grown { (db : DatabaseValue) → GrownPeer F.refuses db target result.target }
-    ensures ends { Ends plan.now start (Some PoolFault.Memory) false source.1 target.1 result.source.1 result.target.1
+    ensures ends { Ends plan.now start fault (is_none fault) source.1 target.1 result.source.1 result.target.1
         result.outcome }
 {
+    let complete = fault.is_none();
     let summed = Summed {
         target,
         fetched: Vec::new(alloc),
         seats,
-        fault: Some(PoolFault::Memory),
-        complete: false,
+        fault,
+        complete,
     };
     end(alloc, source, summed, plan, start)
 }
@@ -107,14 +110,18 @@ fn run_begun<
         (λ _. HaveShown (option_copied board.entry) (sum result.fetched.items) None seats.items result.seats.items) }
 {
     // These readings tell the proof that the source's database and the target are lawful.
-    let _update_seq = source.db().update_seq();
+    let update_seq = source.db().update_seq();
     let _uuid = target.db().uuid();
+    if start == update_seq {
+        return without_workers(alloc, source, target, plan, start, seats, None);
+    }
     let workers = plan.workers as usize;
+    let no_memory = Some(PoolFault::Memory);
     let Ok(counts) = Vec::with_capacity(alloc, workers) else {
-        return out_of_memory(alloc, source, target, plan, start, seats);
+        return without_workers(alloc, source, target, plan, start, seats, no_memory);
     };
     let Ok((lines, windows, parcels)) = Lines::<S>::open(alloc, 2 * workers) else {
-        return out_of_memory(alloc, source, target, plan, start, seats);
+        return without_workers(alloc, source, target, plan, start, seats, no_memory);
     };
     let (book, all) = blank.open::<L>();
     let desk = Mutex::new(Desk::<F, S, J, L>::open(target, plan.session, book));

@@ -2,23 +2,41 @@ use Rattle.std.proofs.Common.{◌∙◌, sym, ap, subst, sum, None, is_some, vec
 use Rattle.std.proofs.lemmas.Bool.{false≢true}
 use Rattle.repl_pool.specs.Boards.{MayFill, HaveShown}
 use Rattle.repl_pool.proofs.Boarding.{seats_seated}
-use Rattle.repl_pool.proofs.Showing.{back_is, shown_end}
+use Rattle.repl_pool.proofs.Showing.{back_is, shown_start, shown_end}
 use Rattle.couch_base.specs.Database.{LawfulDatabase}
 use Rattle.repl_pool.proofs.Ending.{grown_then, held_grown}
-use Rattle.repl_pool.proofs.RunLaws.{given_grown, no_workers, ends_free}
+use Rattle.repl_pool.proofs.RunLaws.{given_grown, no_workers, nothing_read, ends_free}
 use Rattle.repl_pool.proofs.running.run_begun.Goals as goal
 
+pub returns-then-start-update_seq-clause-grown : goal.returns-then-start-update_seq-clause-grown
+returns-then-start-update_seq-clause-grown g c = c.without_workers.ensures.grown c.args.source.1.db
+
+pub returns-then-start-update_seq-clause-ends : goal.returns-then-start-update_seq-clause-ends
+returns-then-start-update_seq-clause-ends g c =
+    nothing_read g.F.WriteFilter.refuses (MayFill (option_copied c.args.board)) (g.G.Gate.may_stop c.args.gate.now) _ _ _ c.args.target _ _ _ _ c.requires.none c.without_workers.ensures.fetched c.without_workers.ensures.ends
+
+pub returns-then-start-update_seq-clause-back : goal.returns-then-start-update_seq-clause-back
+returns-then-start-update_seq-clause-back g c =
+    back_is (option_copied c.args.board) c.args.seats.items _ (seats_seated (option_copied c.args.board) 0 c.args.plan.now.workers c.args.seats.items c.requires.seats) (ap vec_items (sym c.without_workers.ensures.seats))
+
+pub returns-then-start-update_seq-clause-shown : goal.returns-then-start-update_seq-clause-shown
+returns-then-start-update_seq-clause-shown g c =
+    let r = c.without_workers.result in
+    let shows = HaveShown (option_copied c.args.board) (sum r.fetched.items) None c.args.seats.items in
+    ends_free _ _ _ _ _ _ _ _ r.outcome (shows r.seats.items) c.without_workers.ensures.ends
+    (λ _ _. subst shows (ap vec_items (sym c.without_workers.ensures.seats)) (shown_start (option_copied c.args.board) (sum r.fetched.items) c.args.seats.items (ap sum c.without_workers.ensures.fetched)))
+
 pub returns-in_default-clause-grown : goal.returns-in_default-clause-grown
-returns-in_default-clause-grown g c = c.out_of_memory.ensures.grown c.args.source.1.db
+returns-in_default-clause-grown g c = c.without_workers-in_default.ensures.grown c.args.source.1.db
 
 pub returns-in_default-clause-ends : goal.returns-in_default-clause-ends
-returns-in_default-clause-ends g c = no_workers g.F.WriteFilter.refuses (MayFill (option_copied c.args.board)) (g.G.Gate.may_stop c.args.gate.now) _ _ _ c.args.target _ _ _ _ c.out_of_memory.ensures.ends
+returns-in_default-clause-ends g c = no_workers g.F.WriteFilter.refuses (MayFill (option_copied c.args.board)) (g.G.Gate.may_stop c.args.gate.now) _ _ _ c.args.target _ _ _ _ c.without_workers-in_default.ensures.ends
 
 pub returns-in_default-open-clause-grown : goal.returns-in_default-open-clause-grown
-returns-in_default-open-clause-grown g c = c.out_of_memory-in_default-open.ensures.grown c.args.source.1.db
+returns-in_default-open-clause-grown g c = c.without_workers-in_default-open.ensures.grown c.args.source.1.db
 
 pub returns-in_default-open-clause-ends : goal.returns-in_default-open-clause-ends
-returns-in_default-open-clause-ends g c = no_workers g.F.WriteFilter.refuses (MayFill (option_copied c.args.board)) (g.G.Gate.may_stop c.args.gate.now) _ _ _ c.args.target _ _ _ _ c.out_of_memory-in_default-open.ensures.ends
+returns-in_default-open-clause-ends g c = no_workers g.F.WriteFilter.refuses (MayFill (option_copied c.args.board)) (g.G.Gate.may_stop c.args.gate.now) _ _ _ c.args.target _ _ _ _ c.without_workers-in_default-open.ensures.ends
 
 pub returns-clause-grown : goal.returns-clause-grown
 returns-clause-grown g c =
@@ -56,21 +74,21 @@ end-requires g c =
 
 pub returns-in_default-clause-back : goal.returns-in_default-clause-back
 returns-in_default-clause-back g c =
-    back_is (option_copied c.args.board) c.args.seats.items _ (seats_seated (option_copied c.args.board) 0 c.args.plan.now.workers c.args.seats.items c.requires.seats) (ap vec_items (sym c.out_of_memory.ensures.seats))
+    back_is (option_copied c.args.board) c.args.seats.items _ (seats_seated (option_copied c.args.board) 0 c.args.plan.now.workers c.args.seats.items c.requires.seats) (ap vec_items (sym c.without_workers-in_default.ensures.seats))
 
 pub returns-in_default-clause-shown : goal.returns-in_default-clause-shown
 returns-in_default-clause-shown g c =
-    let r = c.out_of_memory.result in
-    ends_free _ _ _ _ _ _ _ _ r.outcome (HaveShown (option_copied c.args.board) (sum r.fetched.items) None c.args.seats.items r.seats.items) c.out_of_memory.ensures.ends (λ e _. absurd (false≢true (sym (ap is_some e))))
+    let r = c.without_workers-in_default.result in
+    ends_free _ _ _ _ _ _ _ _ r.outcome (HaveShown (option_copied c.args.board) (sum r.fetched.items) None c.args.seats.items r.seats.items) c.without_workers-in_default.ensures.ends (λ e _. absurd (false≢true (sym (ap is_some e))))
 
 pub returns-in_default-open-clause-back : goal.returns-in_default-open-clause-back
 returns-in_default-open-clause-back g c =
-    back_is (option_copied c.args.board) c.args.seats.items _ (seats_seated (option_copied c.args.board) 0 c.args.plan.now.workers c.args.seats.items c.requires.seats) (ap vec_items (sym c.out_of_memory-in_default-open.ensures.seats))
+    back_is (option_copied c.args.board) c.args.seats.items _ (seats_seated (option_copied c.args.board) 0 c.args.plan.now.workers c.args.seats.items c.requires.seats) (ap vec_items (sym c.without_workers-in_default-open.ensures.seats))
 
 pub returns-in_default-open-clause-shown : goal.returns-in_default-open-clause-shown
 returns-in_default-open-clause-shown g c =
-    let r = c.out_of_memory-in_default-open.result in
-    ends_free _ _ _ _ _ _ _ _ r.outcome (HaveShown (option_copied c.args.board) (sum r.fetched.items) None c.args.seats.items r.seats.items) c.out_of_memory-in_default-open.ensures.ends (λ e _. absurd (false≢true (sym (ap is_some e))))
+    let r = c.without_workers-in_default-open.result in
+    ends_free _ _ _ _ _ _ _ _ r.outcome (HaveShown (option_copied c.args.board) (sum r.fetched.items) None c.args.seats.items r.seats.items) c.without_workers-in_default-open.ensures.ends (λ e _. absurd (false≢true (sym (ap is_some e))))
 
 pub returns-clause-shown : goal.returns-clause-shown
 returns-clause-shown g c =
