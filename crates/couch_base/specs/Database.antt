@@ -29,10 +29,14 @@ pub record DatabaseValue : Type 0 where
   pub docs : List DocumentValue
 
 abbrev pub coded_document : Coded DocumentValue
-coded_document = code_by (Id × (ℕ × TreeValue)) (coded× (coded_list coded_ℕ) (coded× coded_ℕ coded_tree)) (λ d. (d.id, (d.seq, d.tree))) (λ p. record { id = p.0; seq = p.1.0; tree = p.1.1 }) (λ _. refl)
+coded_document =
+    code_by (Id × (ℕ × TreeValue)) (coded× (coded_list coded_ℕ) (coded× coded_ℕ coded_tree))
+    (λ d. (d.id, (d.seq, d.tree))) (λ p. record { id = p.0; seq = p.1.0; tree = p.1.1 }) (λ _. refl)
 
 abbrev pub coded_database : Coded DatabaseValue
-coded_database = code_by (ℕ × (ℕ × List DocumentValue)) (coded× coded_ℕ (coded× coded_ℕ (coded_list coded_document))) (λ d. (d.uuid, (d.update_seq, d.docs))) (λ p. record { uuid = p.0; update_seq = p.1.0; docs = p.1.1 }) (λ _. refl)
+coded_database =
+    code_by (ℕ × (ℕ × List DocumentValue)) (coded× coded_ℕ (coded× coded_ℕ (coded_list coded_document)))
+    (λ d. (d.uuid, (d.update_seq, d.docs))) (λ p. record { uuid = p.0; update_seq = p.1.0; docs = p.1.1 }) (λ _. refl)
 
 -- the greatest sequence
 abbrev pub most : ℕ
@@ -66,7 +70,10 @@ without ds id = filter (λ d. not (bytes_eq d.id id)) ds
 -- the database after a change of one document, which takes the next sequence
 abbrev pub with_tree : DatabaseValue → Id → TreeValue → DatabaseValue
 with_tree db id tree =
-    record db { update_seq = db.update_seq + 1; docs = without db.docs id ++ record { id = id; seq = db.update_seq + 1; tree = tree } ∷ [] }
+    record db {
+      update_seq = db.update_seq + 1;
+      docs = without db.docs id ++ record { id = id; seq = db.update_seq + 1; tree = tree } ∷ [];
+    }
 
 -- each content of a tree has a body
 abbrev pub HasBodies : TreeValue → Type 0

@@ -20,7 +20,8 @@ abbrev pub parent_answer : Option TreeValue → Option RevId → Result (Option 
 parent_answer None None = Ok None
 parent_answer None (Some parent) = Err faults.NoSuchDocument
 parent_answer (Some t) (Some parent) = if is_leaf t parent then Ok (Some parent) else Err faults.Conflict
-parent_answer (Some t) None = if list_all (is_deleted t) (leaves t) then Ok (first_of (leaves t)) else Err faults.Conflict
+parent_answer (Some t) None =
+    if list_all (is_deleted t) (leaves t) then Ok (first_of (leaves t)) else Err faults.Conflict
 
 -- the id of a new revision on the one before
 abbrev pub edit_id : Option RevId → Bool → List ℕ → Result RevId BaseFault
@@ -30,7 +31,8 @@ edit_id before deleted body = named faults.GenerationFull (edit_rev before delet
 abbrev pub edit_revs : Option RevId → Bool → List ℕ → Result (List RevId) BaseFault
 edit_revs before deleted body = edit_id before deleted body >>= λ rev. Ok (rev ∷ option_to_list before)
 
--- what an edit brings, unless it is refused before a sequence is looked for: the new revision, and the one that it stands on
+-- what an edit brings, unless it is refused before a sequence is looked for: the new revision, and the one that it
+-- stands on
 abbrev pub edited : DatabaseValue → Id → Option RevId → Bool → List ℕ → Result (RevId × Option RevId) BaseFault
 edited db id parent deleted body = do
   before ← parent_answer (tree_in db.docs id) parent
@@ -47,10 +49,12 @@ edit_answer db id parent deleted body = do
 
 -- the document that is put for it
 abbrev pub edit_document : Id → (RevId × Option RevId) → Bool → List ℕ → Document
-edit_document id e deleted body = record { id = id; ancestry = e.0 ∷ option_to_list e.1; deleted = deleted; body = body }
+edit_document id e deleted body =
+    record { id = id; ancestry = e.0 ∷ option_to_list e.1; deleted = deleted; body = body }
 
 -- the database after an edit is that after putting its document
-abbrev pub after_edited : DatabaseValue → Id → Bool → List ℕ → Origin → Result (RevId × Option RevId) BaseFault → DatabaseValue
+abbrev pub after_edited : DatabaseValue → Id → Bool → List ℕ → Origin → Result (RevId × Option RevId) BaseFault
+    → DatabaseValue
 after_edited db id deleted body o (Ok e) = after_put db (edit_document id e deleted body) o
 after_edited db id deleted body o (Err fault) = db
 

@@ -1,4 +1,5 @@
--- The changes feed and its pages: docs/PROFILE.md, "Changes feed"; CouchDB, "Replication Protocol", `_changes` with `style=all_docs`.
+-- The changes feed and its pages: docs/PROFILE.md, "Changes feed"; CouchDB, "Replication Protocol", `_changes` with
+-- `style=all_docs`.
 use Rattle.std.specs.Prelude.{ℕ, ◌<◌, ◌&&◌, ◌==◌, nat_lt, nat_le, List, [], ◌∷◌, map, filter, take, length, Result, Ok, Err, if◌then◌else◌}
 use Rattle.std.specs.List.{AllByRecursion}
 use Rattle.std.specs.Ordering.{eq_by_cmp}

@@ -56,11 +56,14 @@ body_at t r = option_map_or (λ (b : ContentValue). b.body) (get t.contents r) [
 
 -- a leaf with its whole known ancestry and its content
 abbrev pub leaf_document : Id → TreeValue → RevId → Document
-leaf_document id t leaf = record { id = id; ancestry = ancestors t leaf; deleted = is_deleted t leaf; body = body_at t leaf }
+leaf_document id t leaf =
+    record { id = id; ancestry = ancestors t leaf; deleted = is_deleted t leaf; body = body_at t leaf }
 
 -- the document at a revision, where a content stands at it
 abbrev pub document_in : Id → TreeValue → RevId → Option Document
-document_in id t r = option_map (λ (c : ContentValue). record { id = id; ancestry = ancestors t r; deleted = c.deleted; body = c.body }) (get t.contents r)
+document_in id t r =
+    option_map (λ (c : ContentValue). record { id = id; ancestry = ancestors t r; deleted = c.deleted; body = c.body })
+    (get t.contents r)
 
 -- the document of a database at a revision
 abbrev pub document_at : DatabaseValue → Id → RevId → Option Document

@@ -21,7 +21,8 @@ put_told (Ok merges.Changed) room next = if room then Ok (answers.Changed next) 
 
 -- what putting a document answers
 abbrev pub put_answer : DatabaseValue → Document → Result Put BaseFault
-put_answer db d = put_told (merge_answer (tree_of db.docs d.id) d.ancestry) (nat_lt db.update_seq most) (db.update_seq + 1)
+put_answer db d =
+    put_told (merge_answer (tree_of db.docs d.id) d.ancestry) (nat_lt db.update_seq most) (db.update_seq + 1)
 
 -- whether a put takes a sequence
 abbrev pub is_changed : Result Put BaseFault → Bool
@@ -40,4 +41,6 @@ content_of deleted body = record { deleted = deleted; body = body }
 
 -- the database after it: the document's tree is the merged one, exactly where that is a change
 abbrev pub after_put : DatabaseValue → Document → Origin → DatabaseValue
-after_put db d o = if is_changed (put_answer db d) then with_tree db d.id (merged (tree_of db.docs d.id) d.ancestry (content_of d.deleted d.body) o) else db
+after_put db d o =
+    if is_changed (put_answer db d) then with_tree db d.id
+    (merged (tree_of db.docs d.id) d.ancestry (content_of d.deleted d.body) o) else db

@@ -79,18 +79,21 @@ abbrev pub AllBelow : {X : Type 0} → ℕ → List (ℕ × X) → Type 0
 AllBelow {X} s index = (e : ℕ × X) → Among e index → e.0 < s
 
 -- a write of a tree at a new sequence: to a document that is there,
-pub record Moves (old new : List (Id × Kept)) (before after : List (ℕ × Id)) (id : Id) (tree : TreeValue) (s : ℕ) (was : Kept) : Type 0 where
+pub record Moves (old new : List (Id × Kept)) (before after : List (ℕ × Id)) (id : Id) (tree : TreeValue) (s : ℕ)
+    (was : Kept) : Type 0 where
   pub sets : Sets (found old) (found new) id (record { seq = s; tree = tree })
   pub index : after ≡ remove_entry (is_at (nat_cmp was.seq)) (before ++ (s, id) ∷ [])
   pub lawful : IsTree tree
 
 -- and to one that is new
-pub record Adds (old new : List (Id × Kept)) (before after : List (ℕ × Id)) (id : Id) (tree : TreeValue) (s : ℕ) : Type 0 where
+pub record Adds (old new : List (Id × Kept)) (before after : List (ℕ × Id)) (id : Id) (tree : TreeValue) (s : ℕ) : Type
+    0 where
   pub sets : Sets (found old) (found new) id (record { seq = s; tree = tree })
   pub index : after ≡ before ++ (s, id) ∷ []
   pub lawful : IsTree tree
 
 -- whichever it is, of the tree that is made from the one before
-pub record Writes (old new : List (Id × Kept)) (before after : List (ℕ × Id)) (id : Id) (made : TreeValue → TreeValue) (s : ℕ) : Type 0 where
+pub record Writes (old new : List (Id × Kept)) (before after : List (ℕ × Id)) (id : Id) (made : TreeValue → TreeValue)
+    (s : ℕ) : Type 0 where
   pub there : (was : Kept) → found old id ≡ Some was → Moves old new before after id (made was.tree) s was
   pub absent : found old id ≡ None → Adds old new before after id (made no_revisions) s

@@ -121,8 +121,8 @@ impl Database {
     /// Puts a document with its ancestry as they are given (`new_edits` false): the document's tree becomes the union.
     ///
     /// It takes the next sequence exactly where that changes the tree; else it answers `Same`. `Contradiction` where a
-    /// given child has another parent in the tree; else `SeqFull` where a change finds no sequence; else `Memory`, which
-    /// stands only where a sequence would be taken. A refusal changes nothing.
+    /// given child has another parent in the tree; else `SeqFull` where a change finds no sequence; else `Memory`,
+    /// which stands only where a sequence would be taken. A refusal changes nothing.
     pub fn put(&mut self, doc: &Doc, origin: Origin) -> Result<Put, BaseFault>
         ensures answer { PutGives result (put_answer self.old doc.now) }
         ensures ok { OnOk result (self.new ≡ after_put self.old doc.now origin) }
@@ -168,13 +168,13 @@ impl Database {
         told(merged, self.update_seq)
     }
 
-    /// Edits a document: adds a revision behind a leaf, the first one of a document that is not there, or one behind the
-    /// winner where all leaves are deleted. Answers the new revision's id.
+    /// Edits a document: adds a revision behind a leaf, the first one of a document that is not there, or one behind
+    /// the winner where all leaves are deleted. Answers the new revision's id.
     ///
-    /// `NoSuchDocument` where a parent is named and the document is not there; else `Conflict` where the parent is no leaf,
-    /// or where none is named and a leaf is not deleted; else `GenerationFull` where the parent has the greatest generation;
-    /// else `RevExists` where the new id is in the tree already; else `SeqFull` where no sequence is left. `Memory` may
-    /// stand in the place of the last two. A refusal changes nothing.
+    /// `NoSuchDocument` where a parent is named and the document is not there; else `Conflict` where the parent is no
+    /// leaf, or where none is named and a leaf is not deleted; else `GenerationFull` where the parent has the greatest
+    /// generation; else `RevExists` where the new id is in the tree already; else `SeqFull` where no sequence is left.
+    /// `Memory` may stand in the place of the last two. A refusal changes nothing.
     pub fn edit(
         &mut self,
         id: &DocId,
@@ -205,10 +205,11 @@ impl Database {
         Ok(rev)
     }
 
-    /// What `edit` refuses before it needs the new revision's id: `NoSuchDocument`, `Conflict` or `GenerationFull`. It takes no
-    /// memory.
+    /// What `edit` refuses before it needs the new revision's id: `NoSuchDocument`, `Conflict` or `GenerationFull`. It
+    /// takes no memory.
     pub fn check_edit(&self, id: &DocId, parent: Option<Rev>) -> Result<(), BaseFault>
-        ensures ok { OnOk result ((deleted : Bool) (body : List ℕ) → IsTrue (needs_id (edit_answer self.now id.now parent deleted body))) }
+        ensures ok { OnOk result
+            ((deleted : Bool) (body : List ℕ) → IsTrue (needs_id (edit_answer self.now id.now parent deleted body))) }
         ensures err { IfErr result
             (λ why. (deleted : Bool) (body : List ℕ) → edit_answer self.now id.now parent deleted body ≡ Err why) }
     {
@@ -272,8 +273,8 @@ impl Database {
         }
     }
 
-    /// Merges into a document, which may be new, what changes its tree, at the next sequence, and answers it. The only error
-    /// is `Memory`.
+    /// Merges into a document, which may be new, what changes its tree, at the next sequence, and answers it. The only
+    /// error is `Memory`.
     fn write(
         &mut self,
         id: &DocId,

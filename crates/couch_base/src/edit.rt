@@ -13,8 +13,8 @@ use rev_core::{Ancestry, Rev, RevFault, new_rev};
 use rev_tree::{Content, Tree};
 use std::alloc::Global;
 
-/// The revision of a document that an edit stands on: the leaf that is named, or, where none is named and all leaves are
-/// deleted, the winner. Else `Conflict`.
+/// The revision of a document that an edit stands on: the leaf that is named, or, where none is named and all leaves
+/// are deleted, the winner. Else `Conflict`.
 pub(crate) fn parent_in(tree: &Tree, parent: Option<Rev>) -> Result<Option<Rev>, BaseFault>
     ensures { result ≡ parent_answer (Some tree.now) parent }
 {

@@ -19,8 +19,8 @@ use std::alloc::Global;
 impl Database {
     ghost use Rattle.couch_base.specs.Messages.{revs_diff, open_revs, document_at};
 
-    /// What this database misses of another one's window: the leaves of the rows that are not in its trees, in the rows'
-    /// order. The only error is `Memory`.
+    /// What this database misses of another one's window: the leaves of the rows that are not in its trees, in the
+    /// rows' order. The only error is `Memory`.
     ///
     /// A revision that is known as an ancestor only is not missing.
     pub fn revs_diff(&self, alloc: Global, window: &Window) -> Result<Asked, BaseFault>
@@ -64,8 +64,8 @@ impl Database {
         Ok(Parcel::new(asked, docs, gone))
     }
 
-    /// The document at a revision, leaf or not: its whole known ancestry, and its content. `None` where the document is not
-    /// there, the revision is not in its tree, or no content stands at it. The only error is `Memory`.
+    /// The document at a revision, leaf or not: its whole known ancestry, and its content. `None` where the document is
+    /// not there, the revision is not in its tree, or no content stands at it. The only error is `Memory`.
     pub fn document(&self, alloc: Global, id: &DocId, rev: Rev) -> Result<Option<Doc>, BaseFault>
         ensures document { IfOk result (λ d. d ≡ document_at self.now id.now rev) }
         ensures err { IfErr result (λ e. e ≡ BaseFault.Memory) }

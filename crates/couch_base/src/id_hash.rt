@@ -1,7 +1,8 @@
 //! How the table of documents hashes ids.
 //!
-//! Ids come from strangers. With a fixed beginning anybody could choose twenty thousand of them that fall together, and each look-up
-//! would pass them all. So the hash of a database begins with its UUID, which who chose the ids didn't know.
+//! Ids come from strangers. With a fixed beginning anybody could choose twenty thousand of them that fall together, and
+//! each look-up would pass them all. So the hash of a database begins with its UUID, which who chose the ids didn't
+//! know.
 
 use std::hash::{BuildHasher, FoldHasher, Hasher};
 

@@ -15,4 +15,6 @@ is_design text = starts_with nat_eq text (codes "_design/") && nat_lt 8 (length 
 
 -- what reading a text as an id gives
 abbrev pub doc_id_read : List ℕ → Result (List ℕ) DocFault
-doc_id_read text = if length text == 0 then Err faults.NoId else (if is_special text && not (is_design text) then Err faults.ReservedId else Ok text)
+doc_id_read text =
+    if length text == 0 then Err faults.NoId
+    else (if is_special text && not (is_design text) then Err faults.ReservedId else Ok text)

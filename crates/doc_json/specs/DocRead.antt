@@ -1,4 +1,5 @@
--- What reading a value as a document gives: docs/PROFILE.md, "What `read_doc` accepts". The first refusal is the answer.
+-- What reading a value as a document gives: docs/PROFILE.md, "What `read_doc` accepts". The first refusal is the
+-- answer.
 use Rattle.std.specs.Prelude.{ℕ, Bool, false, List, codes, Option, Some, None, option_and_then, is_some, Result, Ok}
 use Rattle.serde_json.specs.Data.{Data}
 use Rattle.serde_json.specs.Find.{get, as_str, as_bool, as_object}

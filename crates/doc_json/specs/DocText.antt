@@ -36,7 +36,10 @@ rest_text body = if bytes_eq body (codes "{}") then codes "}" else 44 ∷ drop 1
 -- `_rev` and `_revisions`, each behind a comma
 unfoldable pub revs_text : List RevId → List ℕ
 revs_text revs =
-    codes ",\"_rev\":\"" ++ head_text revs ++ codes "\",\"_revisions\":{\"start\":" ++ start_text revs ++ codes ",\"ids\":[" ++ sig_texts revs ++ codes "]}"
+    codes ",\"_rev\":\"" ++ head_text revs ++ codes "\",\"_revisions\":{\"start\":" ++ start_text revs
+    ++ codes ",\"ids\":[" ++ sig_texts revs ++ codes "]}"
 
 unfoldable pub doc_text : Document → List ℕ
-doc_text d = codes "{\"_id\":" ++ compact_text (string d.id) ++ revs_text d.ancestry ++ deleted_text d.deleted ++ rest_text d.body
+doc_text d =
+    codes "{\"_id\":" ++ compact_text (string d.id) ++ revs_text d.ancestry ++ deleted_text d.deleted
+    ++ rest_text d.body

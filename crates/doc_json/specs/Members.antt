@@ -18,7 +18,8 @@ has_special (member name d ms) = is_special name || has_special ms
 -- the special members that a document may have
 abbrev pub special_names : List (List ℕ)
 special_names =
-    codes "_id" ∷ codes "_rev" ∷ codes "_revisions" ∷ codes "_deleted" ∷ codes "_conflicts" ∷ codes "_deleted_conflicts" ∷ codes "_revs_info" ∷ codes "_local_seq" ∷ []
+    codes "_id" ∷ codes "_rev" ∷ codes "_revisions" ∷ codes "_deleted" ∷ codes "_conflicts" ∷ codes "_deleted_conflicts"
+    ∷ codes "_revs_info" ∷ codes "_local_seq" ∷ []
 
 -- a special member that is none of them
 abbrev pub is_unknown : List ℕ → Bool

@@ -1,4 +1,5 @@
--- The members `_rev` and `_revisions`: docs/PROFILE.md, "What `read_doc` accepts" and "Ancestries"; CouchDB, "Replication Protocol".
+-- The members `_rev` and `_revisions`: docs/PROFILE.md, "What `read_doc` accepts" and "Ancestries"; CouchDB,
+-- "Replication Protocol".
 use Rattle.std.specs.Prelude.{ℕ, ◌^◌, Bool, true, false, List, [], ◌∷◌, nat_lt, codes, Option, Some, None, option_and_then, option_map, Result, Ok, Err, if◌then◌else◌}
 use Rattle.std.specs.Ordering.{eq_by_cmp}
 use Rattle.serde_json.specs.Data.{Data, Items, no_items, item}
@@ -35,7 +36,8 @@ sigs_of (item d ds) = option_and_then (λ sig. option_map (λ sigs. sig ∷ sigs
 abbrev pub numbered_from : Option ℕ → Option (List (List ℕ)) → Result (List RevId) DocFault
 numbered_from None sigs = Err faults.BadRevisions
 numbered_from (Some start) None = Err faults.BadRevisions
-numbered_from (Some start) (Some sigs) = if nat_lt start (2 ^ 32) then named faults.BadRevisions (ancestry_read start sigs) else Err faults.BadRevisions
+numbered_from (Some start) (Some sigs) =
+    if nat_lt start (2 ^ 32) then named faults.BadRevisions (ancestry_read start sigs) else Err faults.BadRevisions
 
 abbrev pub start_of : Data → Option ℕ
 start_of d = option_and_then as_u64 (option_and_then as_number (get (codes "start") d))

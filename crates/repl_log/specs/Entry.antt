@@ -23,7 +23,19 @@ pub record IsSound (e : EntryValue) : Type 0 where
 
 -- the numbers of an entry
 abbrev pub value_of : Entry → EntryValue
-value_of e = record { session = e.session; start = e.start; recorded = e.recorded; start_time = e.start_time; end_time = e.end_time; checked = e.checked; found = e.found; read = e.read; written = e.written; failures = e.failures }
+value_of e =
+    record {
+      session = e.session;
+      start = e.start;
+      recorded = e.recorded;
+      start_time = e.start_time;
+      end_time = e.end_time;
+      checked = e.checked;
+      found = e.found;
+      read = e.read;
+      written = e.written;
+      failures = e.failures;
+    }
 
 abbrev pub values_of : List Entry → List EntryValue
 values_of es = map value_of es

@@ -56,8 +56,8 @@ entry_with e session_id start_time end_time =
 abbrev pub entry_json : EntryValue → Data
 entry_json e = entry_with e (id_digits e.session.0) (time_text e.start_time) (time_text e.end_time)
 
--- a log, newest first, by its replication id's text, its history and the session and the recorded sequence of its newest
--- entry
+-- a log, newest first, by its replication id's text, its history and the session and the recorded sequence of its
+-- newest entry
 abbrev pub log_with : List ℕ → Items → List ℕ → ℕ → Data
 log_with name history session_id recorded =
     object (members
@@ -69,7 +69,8 @@ log_with name history session_id recorded =
     ∷ []))
 
 abbrev pub log_json : RepId → EntryValue → List EntryValue → Data
-log_json id newest log = log_with (rep_text id) (items_of (map entry_json log)) (id_digits newest.session.0) newest.recorded
+log_json id newest log =
+    log_with (rep_text id) (items_of (map entry_json log)) (id_digits newest.session.0) newest.recorded
 
 -- the text of a log, which is that of its object in compact form; a log without entries has none
 abbrev pub log_text : RepId → List EntryValue → Result (List ℕ) LogFault

@@ -29,7 +29,15 @@ day_of_month day = 1 + (day_of_year day - days_of_months (year_of day) (month_of
 unfoldable pub parts_of : ℕ → Parts
 parts_of seconds =
     let day = seconds / 86400 in
-    record { year = year_of day; mon = month_of day; day = day_of_month day; hour = seconds % 86400 / 3600; min = seconds % 3600 / 60; sec = seconds % 60; wday = weekday day }
+    record {
+      year = year_of day;
+      mon = month_of day;
+      day = day_of_month day;
+      hour = seconds % 86400 / 3600;
+      min = seconds % 3600 / 60;
+      sec = seconds % 60;
+      wday = weekday day;
+    }
 
 -- the text of a moment, which is seconds since 1970
 unfoldable pub time_text : ℕ → List ℕ

@@ -26,7 +26,8 @@ impl Model for Log {
 
     ghost view = { λ l. newest_first value_of l.entries.entries };
 
-    ghost invariant = { λ l. IsLog (newest_first value_of l.entries.entries) × IsKeyed (λ e. e.session) l.entries.entries };
+    ghost invariant = { λ l. IsLog (newest_first value_of l.entries.entries)
+        × IsKeyed (λ e. e.session) l.entries.entries };
 }
 
 impl Log {

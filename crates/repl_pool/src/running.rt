@@ -41,7 +41,8 @@ pub struct Ran<F: WriteFilter> {
     pub outcome: Result<Report, PoolFault>,
 }
 
-/// The end of a run whose workers weren't started: memory ran out, or where no fault is given, there was nothing to read.
+/// The end of a run whose workers weren't started: memory ran out, or where no fault is given, there was nothing to
+/// read.
 fn without_workers<F: WriteFilter>(
     alloc: Global,
     source: Peer<F>,

@@ -45,8 +45,12 @@ hole_of (Hole seq id rev) = Some (record { seq = seq; id = id; rev = rev })
 
 -- each leaf of the source's feed at or under a sequence is covered at the target
 abbrev pub CoversFeed : PeerValue → PeerValue → ℕ → Type 0
-CoversFeed source target n = (row : RowValue) → Among row (feed source.db 0 n) → (leaf : RevId) → Among leaf row.leaves → covers target row.id leaf ≡ true
+CoversFeed source target n =
+    (row : RowValue) → Among row (feed source.db 0 n) → (leaf : RevId) → Among leaf row.leaves
+    → covers target row.id leaf ≡ true
 
 -- each leaf up to the common checkpoint is covered
 abbrev pub IsAudited : PeerValue → PeerValue → Type 0
-IsAudited source target = (s : SessionId) (n : ℕ) → checkpoint_between source target (rep_between source target) ≡ Some (s, n) → CoversFeed source target n
+IsAudited source target =
+    (s : SessionId) (n : ℕ) → checkpoint_between source target (rep_between source target) ≡ Some (s, n)
+    → CoversFeed source target n

@@ -22,7 +22,8 @@ contradiction_of db d = first_contradiction (tree_of db.docs d.id).parents (edge
 -- why a document is refused: the filter is asked first
 abbrev pub refusal_of : (Document → Bool) → DatabaseValue → Document → Option Reason
 refusal_of refuses db d =
-    if refuses d then Some reasons.Filtered else option_map (λ c. reasons.Contradicting c.child c.known c.given) (contradiction_of db d)
+    if refuses d then Some reasons.Filtered
+    else option_map (λ c. reasons.Contradicting c.child c.known c.given) (contradiction_of db d)
 
 -- a document is rightly refused where the filter refuses it, or its ancestry contradicts its tree
 abbrev pub rightly_refused : (Document → Bool) → DatabaseValue → Document → Bool
@@ -45,7 +46,8 @@ abbrev pub covers_window : PeerValue → WindowValue → Bool
 covers_window p w = list_all (knows_row (covers p)) w.rows
 
 abbrev pub CoversWindow : PeerValue → WindowValue → Type 0
-CoversWindow p w = (row : RowValue) → Among row w.rows → (leaf : RevId) → Among leaf row.leaves → covers p row.id leaf ≡ true
+CoversWindow p w =
+    (row : RowValue) → Among row w.rows → (leaf : RevId) → Among leaf row.leaves → covers p row.id leaf ≡ true
 
 -- a leaf of a row
 pub record Leaf : Type 0 where
@@ -55,7 +57,9 @@ pub record Leaf : Type 0 where
 
 -- the first leaf of some rows that isn't known
 abbrev pub unknown_in : (Id → RevId → Bool) → RowValue → Option Leaf
-unknown_in known row = option_map (λ rev. record { seq = row.seq; id = row.id; rev = rev }) (find (λ rev. not (known row.id rev)) row.leaves)
+unknown_in known row =
+    option_map (λ rev. record { seq = row.seq; id = row.id; rev = rev })
+    (find (λ rev. not (known row.id rev)) row.leaves)
 
 abbrev pub first_unknown : (Id → RevId → Bool) → List RowValue → Option Leaf
 first_unknown known [] = None
@@ -68,4 +72,5 @@ first_uncovered p rows = first_unknown (covers p) rows
 -- every row of the stored windows at or under a sequence has its leaves covered
 abbrev pub Honest : PeerValue → SessionValue → ℕ → Type 0
 Honest p s n =
-    (w : WindowValue) → Among w s.windows → (row : RowValue) → Among row w.rows → row.seq ≤ n → (leaf : RevId) → Among leaf row.leaves → covers p row.id leaf ≡ true
+    (w : WindowValue) → Among w s.windows → (row : RowValue) → Among row w.rows → row.seq ≤ n → (leaf : RevId)
+    → Among leaf row.leaves → covers p row.id leaf ≡ true

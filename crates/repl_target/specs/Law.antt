@@ -37,7 +37,8 @@ pub record LawfulSession (refuses : Document → Bool) (p : PeerValue) (s : Sess
   -- each document of the ledger is rightly refused
   pub ledger : (x : RefusedValue) → Among x s.ledger → rightly_refused refuses p.db x.doc ≡ true
   -- each arrival stands in its document's tree
-  pub arrivals : (a : WrittenValue) → Among a s.arrivals → (r : RevId) → is_among r a.ancestry ≡ true → has (tree_of p.db.docs a.id) r ≡ true
+  pub arrivals : (a : WrittenValue) → Among a s.arrivals → (r : RevId) → is_among r a.ancestry ≡ true
+      → has (tree_of p.db.docs a.id) r ≡ true
   -- the counts add up
   pub written : s.written ≡ length s.arrivals
   pub failures : s.failures ≡ length s.ledger
@@ -46,7 +47,8 @@ pub record LawfulSession (refuses : Document → Bool) (p : PeerValue) (s : Sess
 -- a session starts at 0, or at most at what an earlier one of the same replication has recorded
 abbrev pub IsBased : List SessionValue → SessionValue → Type 0
 IsBased earlier s =
-    (s.base ≡ None) × (s.front.start ≡ 0) ⊎ (b : SessionValue) × Among b earlier × (s.base ≡ Some b.id) × (s.rep ≡ b.rep) × (s.front.start ≤ b.recorded)
+    (s.base ≡ None) × (s.front.start ≡ 0)
+    ⊎ (b : SessionValue) × Among b earlier × (s.base ≡ Some b.id) × (s.rep ≡ b.rep) × (s.front.start ≤ b.recorded)
 
 abbrev pub AllBased : List SessionValue → Type 0
 AllBased [] = Unit {0}

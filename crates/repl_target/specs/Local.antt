@@ -14,7 +14,8 @@ use Rattle.repl_target.specs.Peer.{WrittenValue, written_of}
 abbrev pub with_load : DatabaseValue → List WrittenValue → Document → List WrittenValue
 with_load db locals d = if is_changed (put_answer db d) then locals ++ written_of d ∷ [] else locals
 
-abbrev pub with_edited : DatabaseValue → List WrittenValue → Id → Bool → List ℕ → Result (RevId × Option RevId) BaseFault → List WrittenValue
+abbrev pub with_edited : DatabaseValue → List WrittenValue → Id → Bool → List ℕ
+    → Result (RevId × Option RevId) BaseFault → List WrittenValue
 with_edited db locals id deleted body (Ok e) = with_load db locals (edit_document id e deleted body)
 with_edited db locals id deleted body (Err fault) = locals
 

@@ -51,4 +51,5 @@ ComesFrom p id r (Feed session seq) = IsFed p id r session seq
 -- every revision of every tree has an origin
 abbrev pub HasOrigins : PeerValue → Type 0
 HasOrigins p =
-    (id : Id) (r : RevId) → has (tree_of p.db.docs id) r ≡ true → (o : Origin) × (get (tree_of p.db.docs id).origins r ≡ Some o) × ComesFrom p id r o
+    (id : Id) (r : RevId) → has (tree_of p.db.docs id) r ≡ true
+    → (o : Origin) × (get (tree_of p.db.docs id).origins r ≡ Some o) × ComesFrom p id r o

@@ -1,11 +1,11 @@
 -- Peers and their sessions: docs/PROFILE.md, "Sessions of a peer".
 --
--- A peer is a database with what replication must remember beside it. A target holds a session for each replication into it that
--- ever began: the windows of the source's changes feed that were stored for it, which of them are done, and of each document that
--- came whether it was taken (an arrival) or refused (a row of the ledger). So what a session may claim as carried can be held
--- against what stands there. A source holds a log for each replication out of it: what the target said, session by session, that
--- it had recorded. The common checkpoint of a later replication is read from both. Local writes are noted too, so that of each
--- revision of a tree it can be said where it came from.
+-- A peer is a database with what replication must remember beside it. A target holds a session for each replication
+-- into it that ever began: the windows of the source's changes feed that were stored for it, which of them are done,
+-- and of each document that came whether it was taken (an arrival) or refused (a row of the ledger). So what a session
+-- may claim as carried can be held against what stands there. A source holds a log for each replication out of it: what
+-- the target said, session by session, that it had recorded. The common checkpoint of a later replication is read from
+-- both. Local writes are noted too, so that of each revision of a tree it can be said where it came from.
 use Rattle.std.specs.Prelude.{ℕ, ◌==◌, Bool, ◌&&◌, nat_le, if◌then◌else◌, List, [], map, Option, Result, Ok, Err}
 use Rattle.std.specs.List.{find, list_any}
 use Rattle.rev_core.specs.Rev.{RevId}
@@ -30,9 +30,9 @@ pub record RefusedValue : Type 0 where
   pub doc : Document
   pub reason : Reason
 
--- an incoming session: what it began with; its windows, and which of them are done, from its start on; the documents that
--- were taken and those that were refused; the counts of leaves checked and found missing, and of documents read, written
--- and refused; and when it began and last recorded
+-- an incoming session: what it began with; its windows, and which of them are done, from its start on; the documents
+-- that were taken and those that were refused; the counts of leaves checked and found missing, and of documents read,
+-- written and refused; and when it began and last recorded
 pub record SessionValue : Type 0 where
   pub id : SessionId
   pub rep : RepId
@@ -68,7 +68,8 @@ new_peer uuid = new_peer_at uuid 0
 
 -- there is one with its filter at each sequence
 abbrev pub new_at_answer : {F : Type 0} → F → ℕ → ℕ → Result (F × PeerValue) BaseFault
-new_at_answer filter uuid seq = if nat_le seq most then Ok (filter, new_peer_at uuid seq) else Err base_faults.SeqTooLarge
+new_at_answer filter uuid seq =
+    if nat_le seq most then Ok (filter, new_peer_at uuid seq) else Err base_faults.SeqTooLarge
 
 abbrev pub written_of : Document → WrittenValue
 written_of d = record { id = d.id; ancestry = d.ancestry }

@@ -22,7 +22,9 @@ abbrev pub coded_session_id : Coded SessionId
 coded_session_id = code_by ℕ coded_ℕ (λ s. s.0) (λ n. record { 0 = n }) (λ _. refl)
 
 abbrev pub coded_rep : Coded RepId
-coded_rep = code_by (ℕ × ℕ) (coded× coded_ℕ coded_ℕ) (λ r. (r.source, r.target)) (λ p. record { source = p.0; target = p.1 }) (λ _. refl)
+coded_rep =
+    code_by (ℕ × ℕ) (coded× coded_ℕ coded_ℕ) (λ r. (r.source, r.target)) (λ p. record { source = p.0; target = p.1 })
+    (λ _. refl)
 
 abbrev pub coded_id : Coded Id
 coded_id = coded_list coded_ℕ
@@ -30,11 +32,16 @@ coded_id = coded_list coded_ℕ
 -- ---- documents and reasons
 
 abbrev pub coded_written : Coded WrittenValue
-coded_written = code_by (Id × List RevId) (coded× coded_id (coded_list coded_rev)) (λ w. (w.id, w.ancestry)) (λ p. record { id = p.0; ancestry = p.1 }) (λ _. refl)
+coded_written =
+    code_by (Id × List RevId) (coded× coded_id (coded_list coded_rev)) (λ w. (w.id, w.ancestry))
+    (λ p. record { id = p.0; ancestry = p.1 }) (λ _. refl)
 
 abbrev pub coded_doc : Coded Document
-coded_doc = code_by (Id × (List RevId × (Bool × List ℕ))) (coded× coded_id (coded× (coded_list coded_rev) (coded× coded_bool (coded_list coded_ℕ))))
-    (λ d. (d.id, (d.ancestry, (d.deleted, d.body)))) (λ p. record { id = p.0; ancestry = p.1.0; deleted = p.1.1.0; body = p.1.1.1 }) (λ _. refl)
+coded_doc =
+    code_by (Id × (List RevId × (Bool × List ℕ)))
+    (coded× coded_id (coded× (coded_list coded_rev) (coded× coded_bool (coded_list coded_ℕ))))
+    (λ d. (d.id, (d.ancestry, (d.deleted, d.body))))
+    (λ p. record { id = p.0; ancestry = p.1.0; deleted = p.1.1.0; body = p.1.1.1 }) (λ _. refl)
 
 -- a contradiction as its three revisions
 abbrev reason_parts : Reason → Unit {0} ⊎ (RevId × (RevId × RevId))
@@ -50,24 +57,36 @@ reason_back Filtered = refl
 reason_back (Contradicting child known given) = refl
 
 abbrev pub coded_reason : Coded Reason
-coded_reason = code_by (Unit {0} ⊎ (RevId × (RevId × RevId))) (coded⊎ coded_unit (coded× coded_rev (coded× coded_rev coded_rev))) reason_parts reason_from reason_back
+coded_reason =
+    code_by (Unit {0} ⊎ (RevId × (RevId × RevId))) (coded⊎ coded_unit (coded× coded_rev (coded× coded_rev coded_rev)))
+    reason_parts reason_from reason_back
 
 abbrev pub coded_refused : Coded RefusedValue
-coded_refused = code_by (Document × Reason) (coded× coded_doc coded_reason) (λ x. (x.doc, x.reason)) (λ p. record { doc = p.0; reason = p.1 }) (λ _. refl)
+coded_refused =
+    code_by (Document × Reason) (coded× coded_doc coded_reason) (λ x. (x.doc, x.reason))
+    (λ p. record { doc = p.0; reason = p.1 }) (λ _. refl)
 
 -- ---- windows and fronts
 
 abbrev pub coded_row : Coded RowValue
-coded_row = code_by (ℕ × (Id × List RevId)) (coded× coded_ℕ (coded× coded_id (coded_list coded_rev))) (λ r. (r.seq, (r.id, r.leaves))) (λ p. record { seq = p.0; id = p.1.0; leaves = p.1.1 }) (λ _. refl)
+coded_row =
+    code_by (ℕ × (Id × List RevId)) (coded× coded_ℕ (coded× coded_id (coded_list coded_rev)))
+    (λ r. (r.seq, (r.id, r.leaves))) (λ p. record { seq = p.0; id = p.1.0; leaves = p.1.1 }) (λ _. refl)
 
 abbrev pub coded_window : Coded WindowValue
-coded_window = code_by (ℕ × (ℕ × List RowValue)) (coded× coded_ℕ (coded× coded_ℕ (coded_list coded_row))) (λ w. (w.lo, (w.hi, w.rows))) (λ p. record { lo = p.0; hi = p.1.0; rows = p.1.1 }) (λ _. refl)
+coded_window =
+    code_by (ℕ × (ℕ × List RowValue)) (coded× coded_ℕ (coded× coded_ℕ (coded_list coded_row)))
+    (λ w. (w.lo, (w.hi, w.rows))) (λ p. record { lo = p.0; hi = p.1.0; rows = p.1.1 }) (λ _. refl)
 
 abbrev pub coded_front_window : Coded FrontWindow
-coded_front_window = code_by (ℕ × Bool) (coded× coded_ℕ coded_bool) (λ w. (w.hi, w.done)) (λ p. record { hi = p.0; done = p.1 }) (λ _. refl)
+coded_front_window =
+    code_by (ℕ × Bool) (coded× coded_ℕ coded_bool) (λ w. (w.hi, w.done)) (λ p. record { hi = p.0; done = p.1 })
+    (λ _. refl)
 
 abbrev pub coded_front : Coded FrontValue
-coded_front = code_by (ℕ × List FrontWindow) (coded× coded_ℕ (coded_list coded_front_window)) (λ f. (f.start, f.windows)) (λ p. record { start = p.0; windows = p.1 }) (λ _. refl)
+coded_front =
+    code_by (ℕ × List FrontWindow) (coded× coded_ℕ (coded_list coded_front_window)) (λ f. (f.start, f.windows))
+    (λ p. record { start = p.0; windows = p.1 }) (λ _. refl)
 
 -- ---- sessions and entries
 
@@ -93,7 +112,16 @@ coded_session = code_by (Begun × (Windows × (Brought × Counted)))
     (coded× (coded× coded_front (coded× (coded_list coded_window) coded_ℕ))
     (coded× (coded× (coded_list coded_written) (coded_list coded_refused))
     (coded× (coded× coded_ℕ (coded× coded_ℕ (coded× coded_ℕ (coded× coded_ℕ coded_ℕ)))) (coded× coded_ℕ coded_ℕ)))))
-    (λ s. ((s.id, (s.rep, (s.base, s.goal))), ((s.front, (s.windows, s.recorded)), ((s.arrivals, s.ledger), ((s.checked, (s.found, (s.read, (s.written, s.failures)))), (s.start_time, s.end_time))))))
+    (λ s. (
+      (s.id, (s.rep, (s.base, s.goal))),
+      (
+        (s.front, (s.windows, s.recorded)),
+        (
+          (s.arrivals, s.ledger),
+          ((s.checked, (s.found, (s.read, (s.written, s.failures)))), (s.start_time, s.end_time)),
+        ),
+      ),
+    ))
     (λ p. record {
       id = p.0.0;
       rep = p.0.1.0;
@@ -116,8 +144,16 @@ coded_session = code_by (Begun × (Windows × (Brought × Counted)))
 
 abbrev pub coded_entry : Coded EntryValue
 coded_entry = code_by (SessionId × ((ℕ × ℕ) × ((ℕ × ℕ) × (ℕ × (ℕ × (ℕ × (ℕ × ℕ)))))))
-    (coded× coded_session_id (coded× (coded× coded_ℕ coded_ℕ) (coded× (coded× coded_ℕ coded_ℕ) (coded× coded_ℕ (coded× coded_ℕ (coded× coded_ℕ (coded× coded_ℕ coded_ℕ)))))))
-    (λ e. (e.session, ((e.start, e.recorded), ((e.start_time, e.end_time), (e.checked, (e.found, (e.read, (e.written, e.failures))))))))
+    (coded× coded_session_id
+    (coded× (coded× coded_ℕ coded_ℕ)
+    (coded× (coded× coded_ℕ coded_ℕ) (coded× coded_ℕ (coded× coded_ℕ (coded× coded_ℕ (coded× coded_ℕ coded_ℕ)))))))
+    (λ e. (
+      e.session,
+      (
+        (e.start, e.recorded),
+        ((e.start_time, e.end_time), (e.checked, (e.found, (e.read, (e.written, e.failures))))),
+      ),
+    ))
     (λ p. record {
       session = p.0;
       start = p.1.0.0;
@@ -136,5 +172,8 @@ coded_entry = code_by (SessionId × ((ℕ × ℕ) × ((ℕ × ℕ) × (ℕ × (�
 
 abbrev pub coded_peer : Coded PeerValue
 coded_peer = code_by (DatabaseValue × (List WrittenValue × (List SessionValue × List (RepId × List EntryValue))))
-    (coded× coded_database (coded× (coded_list coded_written) (coded× (coded_list coded_session) (coded_list (coded× coded_rep (coded_list coded_entry))))))
-    (λ p. (p.db, (p.locals, (p.sessions, p.outgoing)))) (λ q. record { db = q.0; locals = q.1.0; sessions = q.1.1.0; outgoing = q.1.1.1 }) (λ _. refl)
+    (coded× coded_database
+    (coded× (coded_list coded_written)
+    (coded× (coded_list coded_session) (coded_list (coded× coded_rep (coded_list coded_entry))))))
+    (λ p. (p.db, (p.locals, (p.sessions, p.outgoing))))
+    (λ q. record { db = q.0; locals = q.1.0; sessions = q.1.1.0; outgoing = q.1.1.1 }) (λ _. refl)

@@ -32,7 +32,8 @@ is_batch n = nat_le 1 n && nat_le n 10000
 -- what is asked first: the batch, and that the two databases are not one
 abbrev pub plan_answer : PeerValue → PeerValue → Plan → Result (Unit {0}) TargetFault
 plan_answer source target plan =
-    if is_batch plan.batch then (if source.db.uuid == target.db.uuid then Err faults.SamePeer else Ok tt) else Err faults.BadBatch
+    if is_batch plan.batch then (if source.db.uuid == target.db.uuid then Err faults.SamePeer else Ok tt)
+    else Err faults.BadBatch
 
 -- a session begins where the two logs agree, on the session of that checkpoint, or at 0
 abbrev pub base_at : Option (SessionId × ℕ) → Option SessionId
@@ -52,10 +53,14 @@ start_between source target = start_at (checkpoint_of source target)
 
 -- its goal is the source's update sequence
 abbrev pub begins_answer : PeerValue → PeerValue → Plan → Result (Unit {0}) TargetFault
-begins_answer source target plan = begin_answer target plan.session (rep_between source target) (base_at (checkpoint_of source target)) (start_between source target) source.db.update_seq
+begins_answer source target plan =
+    begin_answer target plan.session (rep_between source target) (base_at (checkpoint_of source target))
+    (start_between source target) source.db.update_seq
 
 abbrev pub after_begins : PeerValue → PeerValue → Plan → PeerValue
-after_begins source target plan = after_begin target plan.session (rep_between source target) (base_at (checkpoint_of source target)) (start_between source target) source.db.update_seq plan.at
+after_begins source target plan =
+    after_begin target plan.session (rep_between source target) (base_at (checkpoint_of source target))
+    (start_between source target) source.db.update_seq plan.at
 
 -- ---- windows
 
@@ -73,25 +78,30 @@ abbrev pub parcel_for : DatabaseValue → PeerValue → WindowValue → ParcelVa
 parcel_for source p w = open_revs source (revs_diff p.db w)
 
 -- the session stores the window, and what the target missed of it is settled
-abbrev pub StoresAndSettles : (Document → Bool) → Plan → PeerValue → WindowValue → ParcelValue → Result Settled TargetFault → PeerValue → Type 0
+abbrev pub StoresAndSettles : (Document → Bool) → Plan → PeerValue → WindowValue → ParcelValue
+    → Result Settled TargetFault → PeerValue → Type 0
 StoresAndSettles refuses plan p w parcel result q =
-    (append_answer p plan.session w ≡ Ok tt) × SettleGives refuses (after_append p plan.session w) plan.session parcel result q
+    (append_answer p plan.session w ≡ Ok tt)
+    × SettleGives refuses (after_append p plan.session w) plan.session parcel result q
 
 -- the next window is read, stored and settled
-pub record Carries (refuses : Document → Bool) (source : DatabaseValue) (plan : Plan) (before after : Reading) : Type 0 where
-  pub due : before.since < source.update_seq
-  pub window : WindowValue
-  pub read : window ≡ next_window source plan before.since
-  pub settled : Settled
-  pub settles : StoresAndSettles refuses plan before.target window (parcel_for source before.target window) (Ok settled) after.target
-  pub reached : after.since ≡ window.hi
+pub record Carries (refuses : Document → Bool) (source : DatabaseValue) (plan : Plan) (before after : Reading) : Type 0
+  where
+    pub due : before.since < source.update_seq
+    pub window : WindowValue
+    pub read : window ≡ next_window source plan before.since
+    pub settled : Settled
+    pub settles : StoresAndSettles refuses plan before.target window (parcel_for source before.target window) (Ok settled)
+        after.target
+    pub reached : after.since ≡ window.hi
 
 -- or it is refused: it finds no memory, or the session doesn't store it, or settling is refused
 abbrev pub WindowRefused : (Document → Bool) → DatabaseValue → Plan → Reading → TargetFault → PeerValue → Type 0
 WindowRefused refuses source plan before why q =
     (why ≡ faults.Memory) × (q ≡ before.target)
     ⊎ (append_answer before.target plan.session (next_window source plan before.since) ≡ Err why) × (q ≡ before.target)
-    ⊎ StoresAndSettles refuses plan before.target (next_window source plan before.since) (parcel_for source before.target (next_window source plan before.since)) (Err why) q
+    ⊎ StoresAndSettles refuses plan before.target (next_window source plan before.since)
+    (parcel_for source before.target (next_window source plan before.since)) (Err why) q
 
 -- whether a plan lets another window be read after n
 abbrev pub has_left : Option ℕ → ℕ → Bool
@@ -105,16 +115,21 @@ is_due source plan n since = nat_lt since source.update_seq && has_left plan.sto
 -- n windows are read, one behind the other, each stored and settled before the next
 abbrev pub Reads : (Document → Bool) → DatabaseValue → Plan → ℕ → Reading → Reading → Type 0
 Reads refuses source plan zero from to = to ≡ from
-Reads refuses source plan (suc n) from to = (before : Reading) × Reads refuses source plan n from before × (is_due source plan n before.since ≡ true) × Carries refuses source plan before to
+Reads refuses source plan (suc n) from to =
+    (before : Reading) × Reads refuses source plan n from before × (is_due source plan n before.since ≡ true)
+    × Carries refuses source plan before to
 
 -- windows are read until none is due
 abbrev pub ReadsAll : (Document → Bool) → DatabaseValue → Plan → Reading → PeerValue → Type 0
-ReadsAll refuses source plan from target' = (n : ℕ) × (now : Reading) × Reads refuses source plan n from now × (is_due source plan n now.since ≡ false) × (target' ≡ now.target)
+ReadsAll refuses source plan from target' =
+    (n : ℕ) × (now : Reading) × Reads refuses source plan n from now × (is_due source plan n now.since ≡ false)
+    × (target' ≡ now.target)
 
 -- or until one is refused
 abbrev pub ReadsUntil : (Document → Bool) → DatabaseValue → Plan → Reading → TargetFault → PeerValue → Type 0
 ReadsUntil refuses source plan from why target' =
-    (n : ℕ) × (now : Reading) × Reads refuses source plan n from now × (is_due source plan n now.since ≡ true) × WindowRefused refuses source plan now why target'
+    (n : ℕ) × (now : Reading) × Reads refuses source plan n from now × (is_due source plan n now.since ≡ true)
+    × WindowRefused refuses source plan now why target'
 
 -- ---- the end
 
@@ -129,7 +144,8 @@ closed p plan = closed_as p plan (conclude_answer p plan.session)
 -- an entry is put into the log of a replication, where an older one is passed over, or finds no memory
 abbrev pub PutsOver : PeerValue → RepId → EntryValue → Result (Unit {0}) TargetFault → PeerValue → Type 0
 PutsOver source rep entry (Ok done) source' = source' ≡ after_put_entry source rep entry
-PutsOver source rep entry (Err why) source' = (why ≡ faults.Memory) × (source' ≡ source) × IsOk (put_entry_answer source rep entry)
+PutsOver source rep entry (Err why) source' =
+    (why ≡ faults.Memory) × (source' ≡ source) × IsOk (put_entry_answer source rep entry)
 
 -- the answer of recording both sides: that of concluding, unless the second finds no memory
 abbrev pub told_by : Result Report TargetFault → Result (Unit {0}) TargetFault → Result Report TargetFault
@@ -137,7 +153,8 @@ told_by concluded (Ok done) = concluded
 told_by concluded (Err why) = Err why
 
 -- both sides are recorded, the target first: then its session's entry is put at the source
-pub record Closes (source target : PeerValue) (plan : Plan) (result : Result Report TargetFault) (source' target' : PeerValue) : Type 0 where
+pub record Closes (source target : PeerValue) (plan : Plan) (result : Result Report TargetFault)
+    (source' target' : PeerValue) : Type 0 where
   pub at_target : target' ≡ closed target plan
   pub entry : EntryValue
   pub told : session_answer target' plan.session (λ s. Ok (entry_of s)) ≡ Ok entry
@@ -148,28 +165,38 @@ pub record Closes (source target : PeerValue) (plan : Plan) (result : Result Rep
 -- ---- a replication
 
 abbrev pub first_reading : PeerValue → PeerValue → Plan → Reading
-first_reading source target plan = record { since = start_between source target; target = after_begins source target plan }
+first_reading source target plan =
+    record { since = start_between source target; target = after_begins source target plan }
 
 -- What replicating by one thread answers, and the source and the target that it leaves.
-pub data Replicates (refuses : Document → Bool) (source target : PeerValue) (plan : Plan) : Result Report TargetFault → PeerValue → PeerValue → Type 0 where
+pub data Replicates (refuses : Document → Bool) (source target : PeerValue) (plan : Plan) : Result Report TargetFault
+    → PeerValue → PeerValue → Type 0 where
   -- the plan isn't one for these peers
-  not_planned : {why : TargetFault} → plan_answer source target plan ≡ Err why → Replicates refuses source target plan (Err why) source target
+  not_planned : {why : TargetFault} → plan_answer source target plan ≡ Err why
+      → Replicates refuses source target plan (Err why) source target
   -- the logs find no memory, or the session isn't begun
-  no_memory : plan_answer source target plan ≡ Ok tt → Replicates refuses source target plan (Err faults.Memory) source target
-  not_begun : {why : TargetFault} → plan_answer source target plan ≡ Ok tt → begins_answer source target plan ≡ Err why → Replicates refuses source target plan (Err why) source target
+  no_memory : plan_answer source target plan ≡ Ok tt
+      → Replicates refuses source target plan (Err faults.Memory) source target
+  not_begun : {why : TargetFault} → plan_answer source target plan ≡ Ok tt → begins_answer source target plan ≡ Err why
+      → Replicates refuses source target plan (Err why) source target
   -- after some windows the next is refused
-  cut : {why : TargetFault} {target' : PeerValue} → plan_answer source target plan ≡ Ok tt → begins_answer source target plan ≡ Ok tt
-      → ReadsUntil refuses source.db plan (first_reading source target plan) why target' → Replicates refuses source target plan (Err why) source target'
+  cut : {why : TargetFault} {target' : PeerValue} → plan_answer source target plan ≡ Ok tt
+      → begins_answer source target plan ≡ Ok tt
+      → ReadsUntil refuses source.db plan (first_reading source target plan) why target'
+      → Replicates refuses source target plan (Err why) source target'
   -- all windows are read
-  ended : {result : Result Report TargetFault} {source' target' : PeerValue} (read : PeerValue) → plan_answer source target plan ≡ Ok tt → begins_answer source target plan ≡ Ok tt
-      → ReadsAll refuses source.db plan (first_reading source target plan) read → Closes source read plan result source' target' → Replicates refuses source target plan result source' target'
+  ended : {result : Result Report TargetFault} {source' target' : PeerValue} (read : PeerValue)
+      → plan_answer source target plan ≡ Ok tt → begins_answer source target plan ≡ Ok tt
+      → ReadsAll refuses source.db plan (first_reading source target plan) read
+      → Closes source read plan result source' target' → Replicates refuses source target plan result source' target'
 
 -- ---- what it says
 
 -- each leaf of the source's feed above a sequence is covered at the target
 abbrev pub CoversFrom : PeerValue → PeerValue → ℕ → Type 0
 CoversFrom source target n =
-    (row : RowValue) → Among row (feed source.db n source.db.update_seq) → (leaf : RevId) → Among leaf row.leaves → covers target row.id leaf ≡ true
+    (row : RowValue) → Among row (feed source.db n source.db.update_seq) → (leaf : RevId) → Among leaf row.leaves
+    → covers target row.id leaf ≡ true
 
 -- the report is that of the plan's session, which began at the common checkpoint and is recorded at its goal
 pub record IsReported (source target target' : PeerValue) (plan : Plan) (report : Report) : Type 0 where
@@ -180,7 +207,8 @@ pub record IsReported (source target target' : PeerValue) (plan : Plan) (report 
   pub recorded : report.recorded ≡ source.db.update_seq
   pub counts : report.read ≡ report.written + report.failures
 
--- two trees have the same revisions with the same parents, and the same contents of their leaves; so they have one winner
+-- two trees have the same revisions with the same parents, and the same contents of their leaves; so they have one
+-- winner
 pub record SameRevisions (s t : TreeValue) : Type 0 where
   pub revs : (r : RevId) → has s r ≡ has t r
   pub edges : s.parents ≡ t.parents

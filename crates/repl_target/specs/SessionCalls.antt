@@ -22,12 +22,14 @@ abbrev pub with_changed : List SessionValue → SessionId → (SessionValue → 
 with_changed sessions id change = changed change sessions (session_in sessions id)
 
 -- an answer that a session gives
-abbrev pub answer_in : {A : Type 0} → List SessionValue → SessionId → (SessionValue → Result A TargetFault) → Result A TargetFault
+abbrev pub answer_in : {A : Type 0} → List SessionValue → SessionId → (SessionValue → Result A TargetFault)
+    → Result A TargetFault
 answer_in sessions id answer = found_answer answer (session_in sessions id)
 
 -- what beginning a session answers where memory is left
 abbrev pub begin_in : List SessionValue → SessionId → RepId → Option SessionId → ℕ → ℕ → Result (Unit {0}) TargetFault
-begin_in sessions id rep base start goal = if holds sessions id then Err faults.SessionExists else goal_answer start goal (base_answer sessions rep base start)
+begin_in sessions id rep base start goal =
+    if holds sessions id then Err faults.SessionExists else goal_answer start goal (base_answer sessions rep base start)
 
 -- what a base has recorded, 0 where there is none
 abbrev pub recorded_of : Option SessionValue → Result ℕ TargetFault

@@ -24,11 +24,13 @@ abbrev pub on_session : PeerValue → SessionId → (SessionValue → SessionVal
 on_session p id change = on_found p change (session_in p.sessions id)
 
 -- an answer that a session gives
-abbrev pub found_answer : {A : Type 0} → (SessionValue → Result A TargetFault) → Option SessionValue → Result A TargetFault
+abbrev pub found_answer : {A : Type 0} → (SessionValue → Result A TargetFault) → Option SessionValue
+    → Result A TargetFault
 found_answer answer None = Err faults.NoSuchSession
 found_answer answer (Some s) = answer s
 
-abbrev pub session_answer : {A : Type 0} → PeerValue → SessionId → (SessionValue → Result A TargetFault) → Result A TargetFault
+abbrev pub session_answer : {A : Type 0} → PeerValue → SessionId → (SessionValue → Result A TargetFault)
+    → Result A TargetFault
 session_answer p id answer = found_answer answer (session_in p.sessions id)
 
 -- ---- beginning
@@ -57,7 +59,8 @@ goal_answer start goal (Ok done) = if nat_lt goal start then Err faults.GoalBelo
 -- what beginning a session answers where memory is left
 abbrev pub begin_answer : PeerValue → SessionId → RepId → Option SessionId → ℕ → ℕ → Result (Unit {0}) TargetFault
 begin_answer p id rep base start goal =
-    if holds p.sessions id then Err faults.SessionExists else goal_answer start goal (base_answer p.sessions rep base start)
+    if holds p.sessions id then Err faults.SessionExists
+    else goal_answer start goal (base_answer p.sessions rep base start)
 
 -- a session as it begins: nothing is stored, and its start is recorded
 abbrev pub new_session : SessionId → RepId → Option SessionId → ℕ → ℕ → ℕ → SessionValue
@@ -86,14 +89,16 @@ begun p s (Ok done) = record p { sessions = s ∷ p.sessions }
 begun p s (Err fault) = p
 
 abbrev pub after_begin : PeerValue → SessionId → RepId → Option SessionId → ℕ → ℕ → ℕ → PeerValue
-after_begin p id rep base start goal at = begun p (new_session id rep base start goal at) (begin_answer p id rep base start goal)
+after_begin p id rep base start goal at =
+    begun p (new_session id rep base start goal at) (begin_answer p id rep base start goal)
 
 -- ---- appending
 
 -- a window begins where the stored ones end, and ends at or under the goal
 abbrev pub append_in : WindowValue → SessionValue → Result (Unit {0}) TargetFault
 append_in w s =
-    if w.lo == end_of s.front then (if nat_lt s.goal w.hi then Err faults.PastGoal else Ok tt) else Err (faults.Gap (end_of s.front))
+    if w.lo == end_of s.front then (if nat_lt s.goal w.hi then Err faults.PastGoal else Ok tt)
+    else Err (faults.Gap (end_of s.front))
 
 abbrev pub append_answer : PeerValue → SessionId → WindowValue → Result (Unit {0}) TargetFault
 append_answer p id w = session_answer p id (append_in w)
@@ -134,7 +139,8 @@ report_of s = record {
 -- a session is concluded where all is done up to its goal
 abbrev pub conclude_in : SessionValue → Result Report TargetFault
 conclude_in s =
-    if low_water s.front == s.goal then Ok (report_of (record s { recorded = low_water s.front })) else Err (faults.Unfinished (low_water s.front))
+    if low_water s.front == s.goal then Ok (report_of (record s { recorded = low_water s.front }))
+    else Err (faults.Unfinished (low_water s.front))
 
 abbrev pub conclude_answer : PeerValue → SessionId → Result Report TargetFault
 conclude_answer p id = session_answer p id conclude_in

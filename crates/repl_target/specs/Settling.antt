@@ -43,7 +43,11 @@ fed w id d = Feed id (seq_in w.rows d.id)
 -- a document goes into the ledger, and counts as read and as a failure
 abbrev pub with_refused : Document → Reason → SessionValue → SessionValue
 with_refused d reason s =
-    record s { ledger = s.ledger ++ record { doc = d; reason = reason } ∷ []; read = s.read + 1; failures = s.failures + 1 }
+    record s {
+      ledger = s.ledger ++ record { doc = d; reason = reason } ∷ [];
+      read = s.read + 1;
+      failures = s.failures + 1;
+    }
 
 -- a document arrives, and counts as read and as written, also where it was there already
 abbrev pub with_arrival : Document → SessionValue → SessionValue
@@ -58,7 +62,8 @@ is_full answer = false
 abbrev pub settle_as : WindowValue → Settling → Document → Option Reason → Settling
 settle_as w z d (Some reason) = record z { session = with_refused d reason z.session }
 settle_as w z d None =
-    if is_full (put_answer z.db d) then z else record { db = after_put z.db d (fed w z.session.id d); session = with_arrival d z.session }
+    if is_full (put_answer z.db d) then z
+    else record { db = after_put z.db d (fed w z.session.id d); session = with_arrival d z.session }
 
 abbrev pub settle_one : (Document → Bool) → WindowValue → Settling → Document → Settling
 settle_one refuses w z d = settle_as w z d (refusal_of refuses z.db d)
@@ -82,7 +87,8 @@ stops_at refuses z d = stops_in refuses z.db d
 -- how many documents are settled before the first that finds no sequence
 abbrev pub settled_before : (Document → Bool) → WindowValue → Settling → List Document → ℕ
 settled_before refuses w z [] = 0
-settled_before refuses w z (d ∷ docs) = if stops_at refuses z d then 0 else settled_before refuses w (settle_one refuses w z d) docs + 1
+settled_before refuses w z (d ∷ docs) =
+    if stops_at refuses z d then 0 else settled_before refuses w (settle_one refuses w z d) docs + 1
 
 -- ---- the parcel's window
 
@@ -98,7 +104,8 @@ has_row w d = list_any (λ row. bytes_eq row.id d.id) w.rows
 -- whether the counts of the session stay in their range
 abbrev pub has_room : SessionValue → WindowValue → ParcelValue → Bool
 has_room s w parcel =
-    nat_le (s.read + length parcel.docs) most && (nat_le (s.checked + leaf_count w) most && nat_le (s.found + asked_count parcel.asked) most)
+    nat_le (s.read + length parcel.docs) most
+    && (nat_le (s.checked + leaf_count w) most && nat_le (s.found + asked_count parcel.asked) most)
 
 -- the stored window of the parcel's bounds
 abbrev pub window_in : SessionValue → ℕ → ℕ → Option WindowValue
@@ -133,17 +140,25 @@ after_documents refuses p s w docs = with_settling p (settle_docs refuses w (set
 -- the window is done, and its leaves and the asked are counted
 abbrev pub with_done : WindowValue → ParcelValue → SessionValue → SessionValue
 with_done w parcel s =
-    record s { front = finished s.front w.lo w.hi; checked = s.checked + leaf_count w; found = s.found + asked_count parcel.asked }
+    record s {
+      front = finished s.front w.lo w.hi;
+      checked = s.checked + leaf_count w;
+      found = s.found + asked_count parcel.asked;
+    }
 
 -- after all documents: the window is marked where each leaf of its rows is covered
 abbrev pub marked : PeerValue → SessionValue → WindowValue → ParcelValue → PeerValue
-marked q s w parcel = if covers_window q w then record q { sessions = with_session q.sessions (with_done w parcel s) } else q
+marked q s w parcel =
+    if covers_window q w then record q { sessions = with_session q.sessions (with_done w parcel s) } else q
 
 abbrev pub after_all : (Document → Bool) → PeerValue → SessionValue → WindowValue → ParcelValue → PeerValue
-after_all refuses p s w parcel = marked (after_documents refuses p s w parcel.docs) (settle_docs refuses w (settling_of p s) parcel.docs).session w parcel
+after_all refuses p s w parcel =
+    marked (after_documents refuses p s w parcel.docs) (settle_docs refuses w (settling_of p s) parcel.docs).session w
+    parcel
 
 -- after the first n documents of a parcel; after all and the mark, where none is left
-abbrev pub after_front : (Document → Bool) → PeerValue → ParcelValue → ℕ → Result (SessionValue × WindowValue) TargetFault → PeerValue
+abbrev pub after_front : (Document → Bool) → PeerValue → ParcelValue → ℕ
+    → Result (SessionValue × WindowValue) TargetFault → PeerValue
 after_front refuses p parcel n (Err fault) = p
 after_front refuses p parcel n (Ok at) = after_documents refuses p at.0 at.1 (take n parcel.docs)
 
@@ -152,11 +167,13 @@ abbrev pub after_stop : (Document → Bool) → PeerValue → SessionId → Parc
 after_stop refuses p id parcel n = after_front refuses p parcel n (settle_check p id parcel)
 
 -- where no memory is wanting: all documents and the mark, or those before the first that finds no sequence
-abbrev pub settled_at : (Document → Bool) → PeerValue → ParcelValue → Result (SessionValue × WindowValue) TargetFault → PeerValue
+abbrev pub settled_at : (Document → Bool) → PeerValue → ParcelValue → Result (SessionValue × WindowValue) TargetFault
+    → PeerValue
 settled_at refuses p parcel (Err fault) = p
 settled_at refuses p parcel (Ok at) =
     let n = settled_before refuses at.1 (settling_of p at.0) parcel.docs in
-    if n == length parcel.docs then after_all refuses p at.0 at.1 parcel else after_documents refuses p at.0 at.1 (take n parcel.docs)
+    if n == length parcel.docs then after_all refuses p at.0 at.1 parcel
+    else after_documents refuses p at.0 at.1 (take n parcel.docs)
 
 abbrev pub after_settle : (Document → Bool) → PeerValue → SessionId → ParcelValue → PeerValue
 after_settle refuses p id parcel = settled_at refuses p parcel (settle_check p id parcel)
@@ -164,7 +181,8 @@ after_settle refuses p id parcel = settled_at refuses p parcel (settle_check p i
 -- ---- answers
 
 -- the documents of a parcel are settled up to the one before the n-th, and the others are left
-pub record Stops (refuses : Document → Bool) (p q : PeerValue) (parcel : ParcelValue) (s : SessionValue) (w : WindowValue) (n : ℕ) (others : List Document) : Type 0 where
+pub record Stops (refuses : Document → Bool) (p q : PeerValue) (parcel : ParcelValue) (s : SessionValue)
+    (w : WindowValue) (n : ℕ) (others : List Document) : Type 0 where
   pub within : n ≤ settled_before refuses w (settling_of p s) parcel.docs
   pub rest : others ≡ drop n parcel.docs
   pub peer : q ≡ after_documents refuses p s w (take n parcel.docs)
@@ -176,7 +194,8 @@ Halts refuses w z docs n causes.SeqFull = (n ≡ settled_before refuses w z docs
 Halts refuses w z docs n causes.Memory = n < length docs → n < settled_before refuses w z docs
 
 -- all documents of a parcel are settled
-pub record SettlesAll (refuses : Document → Bool) (p q : PeerValue) (parcel : ParcelValue) (s : SessionValue) (w : WindowValue) : Type 0 where
+pub record SettlesAll (refuses : Document → Bool) (p q : PeerValue) (parcel : ParcelValue) (s : SessionValue)
+    (w : WindowValue) : Type 0 where
   pub all : settled_before refuses w (settling_of p s) parcel.docs ≡ length parcel.docs
   pub peer : q ≡ after_all refuses p s w parcel
 
@@ -186,9 +205,11 @@ pub record Counts (z s : SessionValue) (settled : Settled) : Type 0 where
   pub failures : z.failures ≡ s.failures + settled.failures
 
 -- what settling answers after its check, and the peer that it leaves
-abbrev pub SettlesAt : (Document → Bool) → PeerValue → ParcelValue → SessionValue → WindowValue → Result Settled TargetFault → PeerValue → Type 0
+abbrev pub SettlesAt : (Document → Bool) → PeerValue → ParcelValue → SessionValue → WindowValue
+    → Result Settled TargetFault → PeerValue → Type 0
 SettlesAt refuses p parcel s w (Ok settled) q =
-    SettlesAll refuses p q parcel s w × (first_uncovered (after_documents refuses p s w parcel.docs) w.rows ≡ None) × Counts (settle_docs refuses w (settling_of p s) parcel.docs).session s settled
+    SettlesAll refuses p q parcel s w × (first_uncovered (after_documents refuses p s w parcel.docs) w.rows ≡ None)
+    × Counts (settle_docs refuses w (settling_of p s) parcel.docs).session s settled
 SettlesAt refuses p parcel s w (Err (faults.Uncovered seq id rev)) q =
     SettlesAll refuses p q parcel s w × (first_uncovered q w.rows ≡ Some (record { seq = seq; id = id; rev = rev }))
 SettlesAt refuses p parcel s w (Err (faults.Stopped n rest cause)) q =
@@ -196,9 +217,11 @@ SettlesAt refuses p parcel s w (Err (faults.Stopped n rest cause)) q =
 SettlesAt refuses p parcel s w (Err fault) q = ⊥
 
 -- what settling answers, and the peer that it leaves
-abbrev pub Settles : (Document → Bool) → PeerValue → ParcelValue → Result (SessionValue × WindowValue) TargetFault → Result Settled TargetFault → PeerValue → Type 0
+abbrev pub Settles : (Document → Bool) → PeerValue → ParcelValue → Result (SessionValue × WindowValue) TargetFault
+    → Result Settled TargetFault → PeerValue → Type 0
 Settles refuses p parcel (Ok at) result q = SettlesAt refuses p parcel at.0 at.1 result q
 Settles refuses p parcel (Err fault) result q = (result ≡ Err fault) × (q ≡ p)
 
-abbrev pub SettleGives : (Document → Bool) → PeerValue → SessionId → ParcelValue → Result Settled TargetFault → PeerValue → Type 0
+abbrev pub SettleGives : (Document → Bool) → PeerValue → SessionId → ParcelValue → Result Settled TargetFault
+    → PeerValue → Type 0
 SettleGives refuses p id parcel result q = Settles refuses p parcel (settle_check p id parcel) result q

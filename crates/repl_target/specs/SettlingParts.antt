@@ -30,7 +30,8 @@ known_of db index id r = has (tree_of db.docs id) r || is_ledgered index id r
 
 -- an index has what an earlier one had, and the revisions of the documents of a ledger
 abbrev pub IndexesMore : LedgerIndex → List RefusedValue → LedgerIndex → Type 0
-IndexesMore old ledger new = (id : Id) (r : RevId) → is_ledgered new id r ≡ (is_ledgered old id r || in_ledger ledger id r)
+IndexesMore old ledger new =
+    (id : Id) (r : RevId) → is_ledgered new id r ≡ (is_ledgered old id r || in_ledger ledger id r)
 
 -- a place has a row of an id
 abbrev pub IsRowOf : List RowValue → Id → ℕ → Type 0
@@ -58,7 +59,8 @@ pub record Accepts (d : Document) (o : Origin) (before after : DatabaseValue) (o
 -- a document that is refused: the database stays, and its revisions are refused
 pub record Rejects (d : Document) (before after : DatabaseValue) (old new : LedgerIndex) : Type 0 where
   pub db : after ≡ before
-  pub index : (id : Id) (r : RevId) → is_ledgered new id r ≡ (is_ledgered old id r || (bytes_eq d.id id && is_among r d.ancestry))
+  pub index : (id : Id) (r : RevId)
+      → is_ledgered new id r ≡ (is_ledgered old id r || (bytes_eq d.id id && is_among r d.ancestry))
 
 -- the session with it
 abbrev pub entered : Document → Option Reason → SessionValue → SessionValue
@@ -78,22 +80,25 @@ abbrev pub cause_at : Bool → Cause
 cause_at full = if full then causes.SeqFull else causes.Memory
 
 -- the last of some documents stops
-pub record Stuck (refuses : Document → Bool) (all : List Document) (before : DatabaseValue) (cause : Cause) : Type 0 where
-  pub others : List Document
-  pub last : Document
-  pub split : all ≡ others ++ last ∷ []
-  pub why : cause ≡ cause_at (stops_in refuses before last)
+pub record Stuck (refuses : Document → Bool) (all : List Document) (before : DatabaseValue) (cause : Cause) : Type 0
+  where
+    pub others : List Document
+    pub last : Document
+    pub split : all ≡ others ++ last ∷ []
+    pub why : cause ≡ cause_at (stops_in refuses before last)
 
 -- ---- the documents of a parcel
 
 -- the first n of some documents are settled, and the others are left
-pub record Reached (refuses : Document → Bool) (w : WindowValue) (before : Settling) (docs : List Document) (n : ℕ) (others : List Document) (after : Settling) : Type 0 where
+pub record Reached (refuses : Document → Bool) (w : WindowValue) (before : Settling) (docs : List Document) (n : ℕ)
+    (others : List Document) (after : Settling) : Type 0 where
   pub within : n ≤ settled_before refuses w before docs
   pub rest : others ≡ drop n docs
   pub settling : after ≡ settle_docs refuses w before (take n docs)
 
 -- all of them are
-pub record ReachedAll (refuses : Document → Bool) (w : WindowValue) (before : Settling) (docs : List Document) (after : Settling) : Type 0 where
+pub record ReachedAll (refuses : Document → Bool) (w : WindowValue) (before : Settling) (docs : List Document)
+    (after : Settling) : Type 0 where
   pub all : settled_before refuses w before docs ≡ length docs
   pub settling : after ≡ settle_docs refuses w before docs
 
@@ -101,7 +106,8 @@ pub record ReachedAll (refuses : Document → Bool) (w : WindowValue) (before : 
 abbrev pub with_mark : WindowValue → ParcelValue → Settling → Settling
 with_mark w parcel z = record z { session = with_done w parcel z.session }
 
-pub record Closes (refuses : Document → Bool) (known : Id → RevId → Bool) (w : WindowValue) (before : Settling) (parcel : ParcelValue) (settled : Settled) (after : Settling) : Type 0 where
+pub record Closes (refuses : Document → Bool) (known : Id → RevId → Bool) (w : WindowValue) (before : Settling)
+    (parcel : ParcelValue) (settled : Settled) (after : Settling) : Type 0 where
   pub all : settled_before refuses w before parcel.docs ≡ length parcel.docs
   pub settling : after ≡ with_mark w parcel (settle_docs refuses w before parcel.docs)
   pub covered : first_unknown known w.rows ≡ None
@@ -118,30 +124,39 @@ pub record Passes (s : SessionValue) (parcel : ParcelValue) (place leaves asked 
   pub asked_count : asked ≡ asked_count parcel.asked
 
 -- what the end of settling answers: the window is marked where each leaf of its rows is known
-abbrev pub Ends : (Id → RevId → Bool) → WindowValue → SessionValue → ℕ → ℕ → ℕ → Result (Unit {0}) TargetFault → SessionValue → Type 0
+abbrev pub Ends : (Id → RevId → Bool) → WindowValue → SessionValue → ℕ → ℕ → ℕ → Result (Unit {0}) TargetFault
+    → SessionValue → Type 0
 Ends known w s leaves asked n (Ok done) t =
-    (first_unknown known w.rows ≡ None) × (t ≡ record s { front = finished s.front w.lo w.hi; checked = s.checked + leaves; found = s.found + asked })
-Ends known w s leaves asked n (Err (faults.Uncovered seq id rev)) t = (first_unknown known w.rows ≡ Some (record { seq = seq; id = id; rev = rev })) × (t ≡ s)
+    (first_unknown known w.rows ≡ None)
+    × (t ≡ record s { front = finished s.front w.lo w.hi; checked = s.checked + leaves; found = s.found + asked })
+Ends known w s leaves asked n (Err (faults.Uncovered seq id rev)) t =
+    (first_unknown known w.rows ≡ Some (record { seq = seq; id = id; rev = rev })) × (t ≡ s)
 Ends known w s leaves asked n (Err (faults.Stopped m rest causes.Memory)) t = (m ≡ n) × (rest.items ≡ []) × (t ≡ s)
 Ends known w s leaves asked n (Err fault) t = ⊥
 
 -- what settling answers after its check, and what it leaves
-abbrev pub PartsSettled : (Document → Bool) → (Id → RevId → Bool) → WindowValue → Settling → ParcelValue → Result Settled TargetFault → Settling → Type 0
+abbrev pub PartsSettled : (Document → Bool) → (Id → RevId → Bool) → WindowValue → Settling → ParcelValue
+    → Result Settled TargetFault → Settling → Type 0
 PartsSettled refuses known w before parcel (Ok settled) after = Closes refuses known w before parcel settled after
 PartsSettled refuses known w before parcel (Err (faults.Uncovered seq id rev)) after =
-    ReachedAll refuses w before parcel.docs after × (first_unknown known w.rows ≡ Some (record { seq = seq; id = id; rev = rev }))
+    ReachedAll refuses w before parcel.docs after
+    × (first_unknown known w.rows ≡ Some (record { seq = seq; id = id; rev = rev }))
 PartsSettled refuses known w before parcel (Err (faults.Stopped n rest cause)) after =
     Reached refuses w before parcel.docs n rest.items after × Halts refuses w before parcel.docs n cause
 PartsSettled refuses known w before parcel (Err fault) after = ⊥
 
 -- what settling answers, and what it leaves
-abbrev pub PartsSettle : (Document → Bool) → (Id → RevId → Bool) → Settling → ParcelValue → Result (SessionValue × WindowValue) TargetFault → Result Settled TargetFault → Settling → Type 0
-PartsSettle refuses known before parcel (Ok at) result after = PartsSettled refuses known at.1 before parcel result after
+abbrev pub PartsSettle : (Document → Bool) → (Id → RevId → Bool) → Settling → ParcelValue
+    → Result (SessionValue × WindowValue) TargetFault → Result Settled TargetFault → Settling → Type 0
+PartsSettle refuses known before parcel (Ok at) result after =
+    PartsSettled refuses known at.1 before parcel result after
 PartsSettle refuses known before parcel (Err fault) result after = (result ≡ Err fault) × (after ≡ before)
 
-abbrev pub PartsGive : (Document → Bool) → (Id → RevId → Bool) → Settling → ParcelValue → Result Settled TargetFault → Settling → Type 0
+abbrev pub PartsGive : (Document → Bool) → (Id → RevId → Bool) → Settling → ParcelValue → Result Settled TargetFault
+    → Settling → Type 0
 PartsGive refuses known before parcel result after =
-    PartsSettle refuses known before parcel (settle_at before.session parcel (window_in before.session parcel.asked.lo parcel.asked.hi)) result after
+    PartsSettle refuses known before parcel
+    (settle_at before.session parcel (window_in before.session parcel.asked.lo parcel.asked.hi)) result after
 
 -- ---- the table of sessions
 

@@ -1,5 +1,5 @@
--- Windows, asked lists and parcels that agree with the databases that they come from: docs/PROFILE.md, "Tied windows and
--- messages".
+-- Windows, asked lists and parcels that agree with the databases that they come from: docs/PROFILE.md, "Tied windows
+-- and messages".
 use Rattle.std.specs.Prelude.{◌≡◌, ◌<◌, ◌≤◌, true, false, List, []}
 use Rattle.rev_core.specs.Rev.{RevId}
 use Rattle.rev_tree.specs.Tree.{has}

@@ -28,6 +28,8 @@ IsAccounted refuses p id r = (has (tree_of p.db.docs id) r ≡ true) ⊎ IsRight
 -- every leaf that a session's stored rows name at or under what it has recorded stands or was rightly refused; every
 -- revision comes from a stored row's change or a local write; documents read are documents written and those refused
 pub record IsTrusted (refuses : Document → Bool) (p : PeerValue) : Type 0 where
-  pub recorded : (s : SessionValue) → Among s p.sessions → (w : WindowValue) → Among w s.windows → (row : RowValue) → Among row w.rows → row.seq ≤ s.recorded → (leaf : RevId) → Among leaf row.leaves → IsAccounted refuses p row.id leaf
+  pub recorded : (s : SessionValue) → Among s p.sessions → (w : WindowValue) → Among w s.windows → (row : RowValue)
+      → Among row w.rows → row.seq ≤ s.recorded → (leaf : RevId) → Among leaf row.leaves
+      → IsAccounted refuses p row.id leaf
   pub origins : HasOrigins p
   pub counts : (s : SessionValue) → Among s p.sessions → s.read ≡ s.written + s.failures

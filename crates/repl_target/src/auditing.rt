@@ -20,8 +20,8 @@ const PAGE: u64 = 1000;
 /// Whether the target covers all that the two logs of the replication say is done: each leaf of the source's feed at or
 /// under the common checkpoint.
 ///
-/// Where the windows that the target stores of this replication are tied to the source's database, it is `Clean`. It reads
-/// the source's feed in pages. The only error is `Memory`.
+/// Where the windows that the target stores of this replication are tied to the source's database, it is `Clean`. It
+/// reads the source's feed in pages. The only error is `Memory`.
 pub fn audit<F: WriteFilter, G: WriteFilter>(
     alloc: Global,
     source: &Peer<F>,
@@ -53,7 +53,8 @@ pub fn hole_above<F: WriteFilter, G: WriteFilter>(
     target: &Peer<G>,
     since: u64,
 ) -> Result<Audit, TargetFault>
-    ensures answer { IfOk result (λ a. hole_of a ≡ first_uncovered target.now.1 (feed source.now.1.db since source.now.1.db.update_seq)) }
+    ensures answer { IfOk result
+        (λ a. hole_of a ≡ first_uncovered target.now.1 (feed source.now.1.db since source.now.1.db.update_seq)) }
     ensures err { IfErr result (λ e. e ≡ TargetFault.Memory) }
 {
     hole_within(alloc, source, target, since, source.db().update_seq())

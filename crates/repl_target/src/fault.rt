@@ -74,8 +74,8 @@ pub enum TargetFault {
         rest: Vec<Doc>,
         cause: Cause,
     },
-    /// All documents are settled, and this leaf of the window's rows, the first such one, isn't covered. The window isn't
-    /// done.
+    /// All documents are settled, and this leaf of the window's rows, the first such one, isn't covered. The window
+    /// isn't done.
     #[error("a leaf of the window is not covered")]
     Uncovered {
         seq: u64,

@@ -22,8 +22,8 @@ pub trait WriteFilter {
         ensures { result ≡ (if refuses self.now doc.now then Verdict.Refuse else Verdict.Accept) };
 }
 
-/// Refuses the documents whose ids begin with the prefix `deny`; an empty prefix refuses every document, and none refuses
-/// no document.
+/// Refuses the documents whose ids begin with the prefix `deny`; an empty prefix refuses every document, and none
+/// refuses no document.
 #[derive(Drop)]
 pub struct Rules {
     pub deny: Option<String>,

@@ -17,8 +17,8 @@ use std::alloc::AllocError;
 
 /// Puts a document of the user's own.
 ///
-/// What the local write needs is made first, so that a refusal changes nothing. Where that finds no memory, the answer is what a
-/// put refuses, or `Same`, which need none.
+/// What the local write needs is made first, so that a refusal changes nothing. Where that finds no memory, the answer
+/// is what a put refuses, or `Same`, which need none.
 pub(crate) fn load(
     db: &mut Database,
     locals: &mut Vec<Written>,
@@ -76,8 +76,8 @@ fn prepare_id(locals: &mut Vec<Written>, id: &DocId) -> Result<DocId, AllocError
 
 /// Edits a document.
 ///
-/// What the local write needs is made first, so that a refusal changes nothing. Where that finds no memory, the answer is what an
-/// edit refuses without any.
+/// What the local write needs is made first, so that a refusal changes nothing. Where that finds no memory, the answer
+/// is what an edit refuses without any.
 pub(crate) fn edit(
     db: &mut Database,
     locals: &mut Vec<Written>,

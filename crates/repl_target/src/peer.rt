@@ -104,8 +104,9 @@ impl<F: WriteFilter> Peer<F> {
     /// The database.
     ///
     /// The peer is lawful, and honest: of each session, all rows of its windows at or under its recorded sequence are
-    /// covered. So it may be trusted: each leaf of these rows stands in its document's tree or was rightly refused, each
-    /// revision comes from a local write or a stored row, and documents read are documents written and those refused.
+    /// covered. So it may be trusted: each leaf of these rows stands in its document's tree or was rightly refused,
+    /// each revision comes from a local write or a stored row, and documents read are documents written and those
+    /// refused.
     pub fn db(&self) -> &Database
         ensures value { result.now ≡ self.now.1.db }
         ensures law { Lawful (F.refuses self.now.0) self.now.1 }
@@ -124,10 +125,11 @@ impl<F: WriteFilter> Peer<F> {
 
     // ---- local writes
 
-    /// Puts a document of the user's own with its ancestry as they are given. Where that changes the database, it is the
-    /// next local write.
+    /// Puts a document of the user's own with its ancestry as they are given. Where that changes the database, it is
+    /// the next local write.
     ///
-    /// The refusals are those of `Database::put`, and `Memory` stands only where that may answer it. A refusal changes nothing.
+    /// The refusals are those of `Database::put`, and `Memory` stands only where that may answer it. A refusal changes
+    /// nothing.
     pub fn load(&mut self, doc: &Doc) -> Result<Put, BaseFault>
         ensures answer { PutGives result (put_answer self.old.1.db doc.now) }
         ensures filter { self.new.0 ≡ self.old.0 }
@@ -140,7 +142,8 @@ impl<F: WriteFilter> Peer<F> {
 
     /// Edits a document, as the next local write, and answers the new revision's id.
     ///
-    /// The refusals are those of `Database::edit`, and `Memory` stands only where that may answer it. A refusal changes nothing.
+    /// The refusals are those of `Database::edit`, and `Memory` stands only where that may answer it. A refusal changes
+    /// nothing.
     pub fn edit(
         &mut self,
         id: &DocId,
@@ -207,9 +210,9 @@ impl<F: WriteFilter> Peer<F> {
 
     /// Begins a session, which is the newest: it reads a source's feed from `start` up to `goal`.
     ///
-    /// `SessionExists` where the peer holds the id; else `NoSuchBase` where the base is no session of the same replication;
-    /// else `StartAboveBase` where the start is above what it has recorded, or above 0 where there is no base; else
-    /// `GoalBelowStart`; else `Memory`. A refusal changes nothing.
+    /// `SessionExists` where the peer holds the id; else `NoSuchBase` where the base is no session of the same
+    /// replication; else `StartAboveBase` where the start is above what it has recorded, or above 0 where there is no
+    /// base; else `GoalBelowStart`; else `Memory`. A refusal changes nothing.
     pub fn begin(
         &mut self,
         id: SessionId,
@@ -230,8 +233,8 @@ impl<F: WriteFilter> Peer<F> {
 
     /// Stores the next window of a session.
     ///
-    /// `NoSuchSession` where the peer doesn't hold it; else `Gap` where the window doesn't begin where the stored ones end;
-    /// else `PastGoal` where it ends above the goal; else `Memory`. A refusal changes nothing.
+    /// `NoSuchSession` where the peer doesn't hold it; else `Gap` where the window doesn't begin where the stored ones
+    /// end; else `PastGoal` where it ends above the goal; else `Memory`. A refusal changes nothing.
     pub fn append(&mut self, id: SessionId, window: Window) -> Result<(), TargetFault>
         ensures answer { GivesUnlessMemory result (append_answer self.old.1 id window) }
         ensures filter { self.new.0 ≡ self.old.0 }
@@ -250,10 +253,10 @@ impl<F: WriteFilter> Peer<F> {
     /// parcel's bounds, or a document has no row in that; else `AlreadyDone` where the window is done; else `CountFull`
     /// where a count of the session would pass 9,007,199,254,740,991. These change nothing.
     ///
-    /// Else each document in order is refused by the filter or as a contradiction, and goes into the session's ledger, or
-    /// is put, and counts as written also where it was there already. `Stopped` where a document that is put finds no
-    /// sequence, or, where the next one does or none is left, memory is refused: the first `settled` documents are settled
-    /// then, and `rest` are the others.
+    /// Else each document in order is refused by the filter or as a contradiction, and goes into the session's ledger,
+    /// or is put, and counts as written also where it was there already. `Stopped` where a document that is put finds
+    /// no sequence, or, where the next one does or none is left, memory is refused: the first `settled` documents are
+    /// settled then, and `rest` are the others.
     /// Else `Uncovered` where a leaf of the window's rows isn't covered: the first such one; all documents are settled
     /// then. Else the window is done, and the answer is how many of the documents were written, and how many refused.
     pub fn settle(&mut self, id: SessionId, parcel: Parcel) -> Result<Settled, TargetFault>
@@ -278,8 +281,8 @@ impl<F: WriteFilter> Peer<F> {
 
     /// Records and reports a session that has done all up to its goal.
     ///
-    /// `NoSuchSession` where the peer doesn't hold it; else `Unfinished` where all is done only up to a sequence below the
-    /// goal, which changes nothing. It takes no memory.
+    /// `NoSuchSession` where the peer doesn't hold it; else `Unfinished` where all is done only up to a sequence below
+    /// the goal, which changes nothing. It takes no memory.
     pub fn conclude(&mut self, id: SessionId, at: Moment) -> Result<Report, TargetFault>
         ensures answer { result ≡ conclude_answer self.old.1 id }
         ensures filter { self.new.0 ≡ self.old.0 }
@@ -306,7 +309,8 @@ impl<F: WriteFilter + Drop> Peer<F> {
     ghost use Rattle.repl_target.specs.Peer.{new_at_answer};
     ghost use Rattle.repl_target.specs.Law.{Lawful};
 
-    /// A peer with a database of no documents whose update sequence is `seq`, so that its first change takes the next one.
+    /// A peer with a database of no documents whose update sequence is `seq`, so that its first change takes the next
+    /// one.
     ///
     /// `SeqTooLarge` where `seq` is above 9,007,199,254,740,991. It takes no memory.
     pub fn new_at(alloc: Global, uuid: u128, filter: F, seq: u64) -> Result<Peer<F>, BaseFault>

@@ -45,7 +45,8 @@ impl<F: WriteFilter> Peer<F> {
 
     /// The front of a session's windows, where the peer holds it: which of them are done.
     pub fn front(&self, id: SessionId) -> Option<&Front>
-        ensures { option_map (λ f. f.front) (option_copied result) ≡ option_map (λ s. s.front) (session_in self.now.1.sessions id) }
+        ensures { option_map (λ f. f.front) (option_copied result)
+            ≡ option_map (λ s. s.front) (session_in self.now.1.sessions id) }
     {
         match self.sessions.find(id) {
             Some(session) => Some(&session.front),
@@ -63,7 +64,8 @@ impl<F: WriteFilter> Peer<F> {
         }
     }
 
-    /// The documents that were refused to a session, where the peer holds it, each with why, in the order in which they came.
+    /// The documents that were refused to a session, where the peer holds it, each with why, in the order in which they
+    /// came.
     pub fn ledger(&self, id: SessionId) -> Option<&[Refused]>
         ensures { option_copied result ≡ option_map (λ s. s.ledger) (session_in self.now.1.sessions id) }
     {

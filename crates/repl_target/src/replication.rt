@@ -35,38 +35,41 @@ pub struct Plan {
     pub at: Moment,
 }
 
-/// Replicates the source's documents into the target, by one thread: from the common checkpoint of the two logs up to the
-/// source's update sequence, in windows, each settled before the next is read. Then the session is recorded, first at the
-/// target, then in the source's log.
+/// Replicates the source's documents into the target, by one thread: from the common checkpoint of the two logs up to
+/// the source's update sequence, in windows, each settled before the next is read. Then the session is recorded, first
+/// at the target, then in the source's log.
 ///
-/// `BadBatch` where the batch isn't 1 to 10,000; else `SamePeer` where the two databases have one UUID; else what a step
-/// refuses: after it the steps before it stand, with what that refusal leaves. `Unfinished` where as many windows as the
-/// plan allows are read, and they end below the goal: then both sides are recorded. An entry that is older than the one in
-/// the source's log is passed over.
+/// `BadBatch` where the batch isn't 1 to 10,000; else `SamePeer` where the two databases have one UUID; else what a
+/// step refuses: after it the steps before it stand, with what that refusal leaves. `Unfinished` where as many windows
+/// as the plan allows are read, and they end below the goal: then both sides are recorded. An entry that is older than
+/// the one in the source's log is passed over.
 ///
-/// At `Ok` each leaf of the source's feed above the start is covered at the target, and the report is the session's. Where
-/// the target was empty and nothing failed, each document has the revisions, the parents and the contents of leaves that it
-/// has at the source. The source's database is unchanged, whatever the answer.
+/// At `Ok` each leaf of the source's feed above the start is covered at the target, and the report is the session's.
+/// Where the target was empty and nothing failed, each document has the revisions, the parents and the contents of
+/// leaves that it has at the source. The source's database is unchanged, whatever the answer.
 ///
-/// Where the windows that the target stores of this replication are tied to the source's database (docs/PROFILE.md, "Tied
-/// windows and messages"), they are so afterwards, whatever the answer; and at `Ok` each leaf of the source's whole feed is
-/// covered then, those at or under the start too.
+/// Where the windows that the target stores of this replication are tied to the source's database (docs/PROFILE.md,
+/// "Tied windows and messages"), they are so afterwards, whatever the answer; and at `Ok` each leaf of the source's
+/// whole feed is covered then, those at or under the start too.
 pub fn replicate_alone<F: WriteFilter, G: WriteFilter>(
     alloc: Global,
     source: &mut Peer<F>,
     target: &mut Peer<G>,
     plan: &Plan,
 ) -> Result<Report, TargetFault>
-    ensures replicates { Replicates (G.refuses target.old.0) source.old.1 target.old.1 plan.now result source.new.1 target.new.1 }
+    ensures replicates { Replicates (G.refuses target.old.0) source.old.1 target.old.1 plan.now result source.new.1
+        target.new.1 }
     ensures filters { (source.new.0 ≡ source.old.0) × (target.new.0 ≡ target.old.0) }
     ensures source { source.new.1 ≡ record source.old.1 { outgoing = source.new.1.outgoing } }
     ensures source_law { Lawful (F.refuses source.new.0) source.new.1 }
     ensures target_law { Lawful (G.refuses target.new.0) target.new.1 }
     ensures covered { OnOk result (CoversFrom source.old.1 target.new.1 (start_between source.old.1 target.old.1)) }
     ensures report { IfOk result (λ report. IsReported source.old.1 target.old.1 target.new.1 plan.now report) }
-    ensures copied { IfOk result (λ report. IsEmpty target.old.1 → report.failures ≡ 0 → SameDocuments source.old.1.db target.new.1.db) }
+    ensures copied { IfOk result
+        (λ report. IsEmpty target.old.1 → report.failures ≡ 0 → SameDocuments source.old.1.db target.new.1.db) }
     ensures tied { IsTiedPair source.old.1 target.old.1 → IsTiedPair source.new.1 target.new.1 }
-    ensures whole { OnOk result (IsTiedPair source.old.1 target.old.1 → CoversFeed source.old.1 target.new.1 source.old.1.db.update_seq) }
+    ensures whole { OnOk result
+        (IsTiedPair source.old.1 target.old.1 → CoversFeed source.old.1 target.new.1 source.old.1.db.update_seq) }
 {
     // The readings tell the proof the laws of both peers, before and after.
     let _seq = source.db().update_seq();
@@ -84,12 +87,14 @@ fn carry_all<F: WriteFilter, G: WriteFilter>(
     target: &mut Peer<G>,
     plan: &Plan,
 ) -> Result<Report, TargetFault>
-    ensures replicates { Replicates (G.refuses target.old.0) source.old.1 target.old.1 plan.now result source.new.1 target.new.1 }
+    ensures replicates { Replicates (G.refuses target.old.0) source.old.1 target.old.1 plan.now result source.new.1
+        target.new.1 }
     ensures filters { (source.new.0 ≡ source.old.0) × (target.new.0 ≡ target.old.0) }
     ensures source { source.new.1 ≡ record source.old.1 { outgoing = source.new.1.outgoing } }
     ensures covered { OnOk result (CoversFrom source.old.1 target.new.1 (start_between source.old.1 target.old.1)) }
     ensures report { IfOk result (λ report. IsReported source.old.1 target.old.1 target.new.1 plan.now report) }
-    ensures copied { IfOk result (λ report. IsEmpty target.old.1 → report.failures ≡ 0 → SameDocuments source.old.1.db target.new.1.db) }
+    ensures copied { IfOk result
+        (λ report. IsEmpty target.old.1 → report.failures ≡ 0 → SameDocuments source.old.1.db target.new.1.db) }
 {
     // The readings tell the proof that both peers are lawful.
     let (_source, _target) = (source.db(), target.db());
@@ -99,8 +104,8 @@ fn carry_all<F: WriteFilter, G: WriteFilter>(
     close(source, target, plan)
 }
 
-/// Whether a plan can be begun: `BadBatch` where the batch isn't 1 to 10,000; else `SamePeer` where the two databases have
-/// one UUID.
+/// Whether a plan can be begun: `BadBatch` where the batch isn't 1 to 10,000; else `SamePeer` where the two databases
+/// have one UUID.
 pub fn check_plan<F: WriteFilter, G: WriteFilter>(
     source: &Peer<F>,
     target: &Peer<G>,
@@ -117,8 +122,8 @@ pub fn check_plan<F: WriteFilter, G: WriteFilter>(
     Ok(())
 }
 
-/// Begins the session of a plan where the two logs agree, and answers its start: at their common checkpoint, based on that
-/// session, or at 0 without one. Its goal is the source's update sequence.
+/// Begins the session of a plan where the two logs agree, and answers its start: at their common checkpoint, based on
+/// that session, or at 0 without one. Its goal is the source's update sequence.
 ///
 /// `Memory` where a log finds none, else what `Peer::begin` refuses. A refusal changes nothing.
 pub fn begin_plan<F: WriteFilter, G: WriteFilter>(
@@ -129,9 +134,12 @@ pub fn begin_plan<F: WriteFilter, G: WriteFilter>(
 ) -> Result<u64, TargetFault>
     ensures filter { target.new.0 ≡ target.old.0 }
     ensures start { IfOk result (λ start. start ≡ start_between source.now.1 target.old.1) }
-    ensures ok { OnOk result ((begins_answer source.now.1 target.old.1 plan.now ≡ Ok tt) × (target.new.1 ≡ after_begins source.now.1 target.old.1 plan.now)) }
+    ensures ok { OnOk result
+        ((begins_answer source.now.1 target.old.1 plan.now ≡ Ok tt)
+        × (target.new.1 ≡ after_begins source.now.1 target.old.1 plan.now)) }
     ensures err { OnErr result (target.new.1 ≡ target.old.1) }
-    ensures refused { IfErr result (λ why. (why ≡ faults.Memory) ⊎ (begins_answer source.now.1 target.old.1 plan.now ≡ Err why)) }
+    ensures refused { IfErr result
+        (λ why. (why ≡ faults.Memory) ⊎ (begins_answer source.now.1 target.old.1 plan.now ≡ Err why)) }
     ensures target_law { Lawful (G.refuses target.new.0) target.new.1 }
     ensures source_law { LawfulDatabase source.now.1.db }
 {
@@ -160,8 +168,12 @@ fn read_windows<F: WriteFilter, G: WriteFilter>(
 ) -> Result<(), TargetFault>
     requires { is_batch plan.now.batch ≡ true }
     ensures filter { target.new.0 ≡ target.old.0 }
-    ensures ok { OnOk result (ReadsAll (G.refuses target.old.0) source.now.1.db plan.now (record { since = start; target = target.old.1 }) target.new.1) }
-    ensures err { IfErr result (λ why. ReadsUntil (G.refuses target.old.0) source.now.1.db plan.now (record { since = start; target = target.old.1 }) why target.new.1) }
+    ensures ok { OnOk result
+        (ReadsAll (G.refuses target.old.0) source.now.1.db plan.now (record { since = start; target = target.old.1 })
+        target.new.1) }
+    ensures err { IfErr result
+        (λ why. ReadsUntil (G.refuses target.old.0) source.now.1.db plan.now
+        (record { since = start; target = target.old.1 }) why target.new.1) }
     ensures law { Lawful (G.refuses target.new.0) target.new.1 }
 {
     let goal = source.db().update_seq();
@@ -198,8 +210,12 @@ fn carry_window<F: WriteFilter, G: WriteFilter>(
     requires due { since < source.now.1.db.update_seq }
     ensures filter { target.new.0 ≡ target.old.0 }
     ensures moves { IfOk result (λ hi. since < hi) }
-    ensures ok { IfOk result (λ hi. Carries (G.refuses target.old.0) source.now.1.db plan.now (record { since = since; target = target.old.1 }) (record { since = hi; target = target.new.1 })) }
-    ensures err { IfErr result (λ why. WindowRefused (G.refuses target.old.0) source.now.1.db plan.now (record { since = since; target = target.old.1 }) why target.new.1) }
+    ensures ok { IfOk result
+        (λ hi. Carries (G.refuses target.old.0) source.now.1.db plan.now
+        (record { since = since; target = target.old.1 }) (record { since = hi; target = target.new.1 })) }
+    ensures err { IfErr result
+        (λ why. WindowRefused (G.refuses target.old.0) source.now.1.db plan.now
+        (record { since = since; target = target.old.1 }) why target.new.1) }
     ensures law { Lawful (G.refuses target.new.0) target.new.1 }
 {
     // The reading tells the proof that the target is lawful.
@@ -268,7 +284,8 @@ pub fn record_at_source<F: WriteFilter, G: WriteFilter>(
     requires held { (s : SessionValue) × (session_in target.now.1.sessions plan.now.session ≡ Some s) }
     ensures filter { source.new.0 ≡ source.old.0 }
     ensures law { Lawful (F.refuses source.new.0) source.new.1 }
-    ensures told { (entry : EntryValue) × (session_answer target.now.1 plan.now.session (λ s. Ok (entry_of s)) ≡ Ok entry)
+    ensures told { (entry : EntryValue)
+        × (session_answer target.now.1 plan.now.session (λ s. Ok (entry_of s)) ≡ Ok entry)
         × PutsOver source.old.1 (rep_between source.old.1 target.now.1) entry result source.new.1 }
 {
     let rep = RepId {

@@ -101,7 +101,8 @@ fn has_in(tree: Option<&Tree>, rev: Rev) -> bool
 
 /// Whether a revision is in a document's tree or refused.
 fn is_known(tree: Option<&Tree>, ledgered: &LedgerIndex, id: &DocId, rev: Rev) -> bool
-    ensures { result ≡ (has (unwrap_or (option_copied tree.entry) no_revisions) rev || is_ledgered ledgered.now id.now rev) }
+    ensures { result
+        ≡ (has (unwrap_or (option_copied tree.entry) no_revisions) rev || is_ledgered ledgered.now id.now rev) }
 {
     has_in(tree, rev) || ledgered.has(id, rev)
 }

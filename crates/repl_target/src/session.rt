@@ -88,8 +88,8 @@ impl Session {
 
     /// Stores the next window of the feed.
     ///
-    /// `Gap` where it doesn't begin where the stored ones end; else `PastGoal` where it ends above the goal; else `Memory`.
-    /// A refusal changes nothing.
+    /// `Gap` where it doesn't begin where the stored ones end; else `PastGoal` where it ends above the goal; else
+    /// `Memory`. A refusal changes nothing.
     pub(crate) fn append(&mut self, window: Window) -> Result<(), TargetFault>
         ensures answer { GivesUnlessMemory result (append_in window self.old) }
         ensures ok { OnOk result (self.new ≡ with_window window self.old (append_in window self.old)) }

@@ -118,8 +118,8 @@ impl Sessions {
 
     /// Begins a session, which is the newest.
     ///
-    /// `SessionExists` where the id is there; else `NoSuchBase` where the base is no session of the same replication; else
-    /// `StartAboveBase` where the start is above what it has recorded, or above 0 where there is no base; else
+    /// `SessionExists` where the id is there; else `NoSuchBase` where the base is no session of the same replication;
+    /// else `StartAboveBase` where the start is above what it has recorded, or above 0 where there is no base; else
     /// `GoalBelowStart`; else `Memory`. A refusal changes nothing.
     pub(crate) fn begin(
         &mut self,

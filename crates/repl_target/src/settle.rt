@@ -30,11 +30,11 @@ use rev_tree::Origin;
 
 /// Settles a parcel: its documents in order, then the mark of its window.
 ///
-/// `ForeignParcel` where the session stores no such window, or a document has no row in it; else `AlreadyDone` where the
-/// window is done; else `CountFull` where a count has no room. These change nothing. Else `Stopped` where a document finds
-/// no sequence or memory is refused: the first documents are settled then. Else `Uncovered` where a leaf of the window's
-/// rows is neither in its document's tree nor refused: all documents are settled then. The window is marked only where all
-/// is well.
+/// `ForeignParcel` where the session stores no such window, or a document has no row in it; else `AlreadyDone` where
+/// the window is done; else `CountFull` where a count has no room. These change nothing. Else `Stopped` where a
+/// document finds no sequence or memory is refused: the first documents are settled then. Else `Uncovered` where a leaf
+/// of the window's rows is neither in its document's tree nor refused: all documents are settled then. The window is
+/// marked only where all is well.
 pub(crate) fn settle<F: WriteFilter>(
     filter: &F,
     db: &mut Database,
@@ -301,7 +301,8 @@ fn cause_of<F: WriteFilter>(filter: &F, db: &Database, doc: &Doc) -> Cause
     }
 }
 
-/// Marks the window at a place as done where each leaf of its rows is known, and counts its leaves and what was asked for.
+/// Marks the window at a place as done where each leaf of its rows is known, and counts its leaves and what was asked
+/// for.
 ///
 /// `settled` documents are settled, and none is left: `docs` is empty.
 fn close(

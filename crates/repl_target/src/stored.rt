@@ -14,8 +14,8 @@ use couch_base::{Parcel, Window};
 /// The greatest count: 2^53 - 1.
 const MOST: u64 = 9_007_199_254_740_991;
 
-/// The place of a parcel's window among the stored ones, how many leaves its rows name, and how many revisions the parcel
-/// asked for.
+/// The place of a parcel's window among the stored ones, how many leaves its rows name, and how many revisions the
+/// parcel asked for.
 #[derive(Clone, Copy)]
 pub(crate) struct Checked {
     pub(crate) place: usize,

@@ -44,4 +44,6 @@ numbered start (sig ∷ sigs) = record { generation = start; sig = sig } ∷ num
 
 -- what the newest generation and the signatures give
 abbrev pub ancestry_read : ℕ → List (List ℕ) → Result (List RevId) RevFault
-ancestry_read start sigs = if length sigs == 0 then Err faults.NoIds else (if nat_lt start (length sigs) then Err faults.StartTooSmall else Ok (numbered start sigs))
+ancestry_read start sigs =
+    if length sigs == 0 then Err faults.NoIds
+    else (if nat_lt start (length sigs) then Err faults.StartTooSmall else Ok (numbered start sigs))

@@ -32,4 +32,6 @@ edit_sig parent deleted body = encode_lower (md5 (edit_text parent deleted body)
 
 -- the id of an edit, unless the parent's generation is the greatest
 abbrev pub edit_rev : Option RevId → Bool → List ℕ → Result RevId RevFault
-edit_rev parent deleted body = if nat_lt (next_generation parent) (2 ^ 32) then Ok (record { generation = next_generation parent; sig = edit_sig parent deleted body }) else Err faults.GenerationFull
+edit_rev parent deleted body =
+    if nat_lt (next_generation parent) (2 ^ 32) then Ok
+    (record { generation = next_generation parent; sig = edit_sig parent deleted body }) else Err faults.GenerationFull

@@ -13,7 +13,9 @@ use Rattle.std.proofs.lemmas.Bool.{and_parts, eqb-true, eq-eqb}
 use Rattle.rev_core.specs.Rev.{RevId, rev_cmp}
 
 pub rev_cmp_total : IsTotalOrder rev_cmp
-rev_cmp_total = then_total (on_total (λ (r : RevId). r.generation) nat_cmp_total) (on_total (λ (r : RevId). r.sig) nat_list_cmp_total)
+rev_cmp_total =
+    then_total (on_total (λ (r : RevId). r.generation) nat_cmp_total)
+    (on_total (λ (r : RevId). r.sig) nat_list_cmp_total)
 
 both_equal : (o p : Ordering) → ordering_then o p ≡ Equal → (o ≡ Equal) × (p ≡ Equal)
 both_equal Less p e = absurd (subst (λ r. T (is_eq r)) (sym e) tt)
@@ -46,13 +48,16 @@ same_tests false true f g = g refl
 same_tests false false f g = refl
 
 -- what `==` computes is that test
-pub rev_eq_is : (a b : RevId) → (nat_eq a.generation b.generation && pointwise nat_eq a.sig b.sig) ≡ eq_by_cmp rev_cmp a b
+pub rev_eq_is : (a b : RevId)
+    → (nat_eq a.generation b.generation && pointwise nat_eq a.sig b.sig) ≡ eq_by_cmp rev_cmp a b
 rev_eq_is a b = same_tests _ _
     (λ e. let parts = and_parts _ _ e in
-    subst (λ r. eq_by_cmp rev_cmp a r ≡ true) (same_parts a b (eqb-true _ _ parts.0) ((bytes_decides a.sig b.sig).0 parts.1)) (rev_tie_self a))
+    subst (λ r. eq_by_cmp rev_cmp a r ≡ true)
+    (same_parts a b (eqb-true _ _ parts.0) ((bytes_decides a.sig b.sig).0 parts.1)) (rev_tie_self a))
     (λ e. let s = rev_tie_is a b e in
     subst (λ r. (nat_eq a.generation r.generation && pointwise nat_eq a.sig r.sig) ≡ true) s
-    (ap (λ t. t && pointwise nat_eq a.sig a.sig) (eq-eqb a.generation a.generation refl) ∙ (bytes_decides a.sig a.sig).1 refl))
+    (ap (λ t. t && pointwise nat_eq a.sig a.sig) (eq-eqb a.generation a.generation refl)
+    ∙ (bytes_decides a.sig a.sig).1 refl))
 
 -- what a revision hands a hasher: its generation, then its signature
 abbrev pub hashed : RevId → List (List ℕ)
@@ -64,4 +69,6 @@ hashed_alike a b e = ap hashed (rev_tie_is a b e)
 
 -- as a pair
 abbrev pub coded_rev : Coded RevId
-coded_rev = code_by (ℕ × List ℕ) (coded× coded_ℕ (coded_list coded_ℕ)) (λ r. (r.generation, r.sig)) (λ p. record { generation = p.0; sig = p.1 }) (λ _. refl)
+coded_rev =
+    code_by (ℕ × List ℕ) (coded× coded_ℕ (coded_list coded_ℕ)) (λ r. (r.generation, r.sig))
+    (λ p. record { generation = p.0; sig = p.1 }) (λ _. refl)

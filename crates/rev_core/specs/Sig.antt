@@ -6,7 +6,9 @@ use Rattle.rev_core.specs.declared.fault.RevFault.TheVariants as faults
 
 -- an ASCII letter, a digit, `-`, `_` or `.`
 abbrev pub is_sig_byte : ℕ → Bool
-is_sig_byte b = nat_le 97 b && nat_le b 122 || nat_le 65 b && nat_le b 90 || nat_le 48 b && nat_le b 57 || b == 45 || b == 95 || b == 46
+is_sig_byte b =
+    nat_le 97 b && nat_le b 122 || nat_le 65 b && nat_le b 90 || nat_le 48 b && nat_le b 57 || b == 45 || b == 95
+    || b == 46
 
 -- 1 to 64 such bytes
 abbrev pub is_sig : List ℕ → Bool

@@ -51,8 +51,8 @@ impl Rev {
 
     /// The revision that a text spells, which is cut at its first dash.
     ///
-    /// `BadGeneration` where there is no dash, or no generation before it; else `BadSig` where no signature is behind it.
-    /// Only the revision's own text spells it.
+    /// `BadGeneration` where there is no dash, or no generation before it; else `BadSig` where no signature is behind
+    /// it. Only the revision's own text spells it.
     pub fn parse(text: &[u8]) -> Result<Rev, RevFault>
         ensures read { result ≡ rev_read text.now }
         ensures own_text { IfOk result (λ r. rev_text r ≡ text.now) }

@@ -108,7 +108,8 @@ pub(crate) fn put(
     requires linked { IsLinked nodes.old.items }
     requires some { 0 < length revs.now }
     requires room { HasRoom (vec_len nodes.old) (vec_capacity nodes.old) (length revs.now) }
-    requires room_in_index { HasIndexRoom (vec_len nodes.old + length revs.now) (length places.old.entries + places.old.spare) }
+    requires room_in_index { HasIndexRoom (vec_len nodes.old + length revs.now)
+        (length places.old.entries + places.old.spare) }
     ensures index { places.new.entries ≡ index_for (revs_in nodes.new.items) }
     ensures linked { IsLinked nodes.new.items }
     ensures tree { tree_of nodes.new.items ≡ merged (tree_of nodes.old.items) revs.now content origin }
@@ -147,7 +148,8 @@ fn add(
         → slice_get (revs_in nodes.new.items) i ≡ Some r }
     ensures len { vec_len nodes.new ≤ vec_len nodes.old + 1 }
     ensures capacity { vec_capacity nodes.new ≡ vec_capacity nodes.old }
-    ensures capacity_of_index { length places.old.entries + places.old.spare ≤ length places.new.entries + places.new.spare }
+    ensures capacity_of_index { length places.old.entries + places.old.spare ≤ length places.new.entries +
+        places.new.spare }
 {
     if let Some(place) = place_near(nodes, places, near, rev) {
         return place;

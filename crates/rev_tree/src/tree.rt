@@ -261,8 +261,8 @@ impl Tree {
     /// What a merge of the ancestry would do. It takes no memory.
     ///
     /// The contradiction is the first given child, newest first, whose known parent is another than the given one. Else
-    /// `Same` where all revisions, their edges and a content of the head are in the tree, so that a merge changes nothing;
-    /// else `Changed`.
+    /// `Same` where all revisions, their edges and a content of the head are in the tree, so that a merge changes
+    /// nothing; else `Changed`.
     pub fn merge_answer(&self, ancestry: &Ancestry) -> Result<Merged, Contradiction>
         ensures answer { result ≡ merge_answer self.now ancestry.now }
         ensures tree { IsTree self.now }
@@ -279,8 +279,8 @@ impl Tree {
         }
     }
 
-    /// Merges an ancestry, the content of its head and the origin of what is new: the tree becomes the union. What is known
-    /// stays as it is.
+    /// Merges an ancestry, the content of its head and the origin of what is new: the tree becomes the union. What is
+    /// known stays as it is.
     ///
     /// It answers what `merge_answer` does, or `Memory` where the tree would change. A refusal changes nothing.
     pub fn merge(
@@ -291,7 +291,8 @@ impl Tree {
     ) -> Result<Merged, TreeFault>
         ensures answer { MergeGives result (merge_answer self.old ancestry.now) }
         ensures ok { OnOk result (self.new ≡ merged self.old ancestry.now content origin) }
-        ensures same { IfOk result (λ m. (m ≡ Merged.Same → self.new ≡ self.old) × (self.new ≡ self.old → m ≡ Merged.Same)) }
+        ensures same { IfOk result
+            (λ m. (m ≡ Merged.Same → self.new ≡ self.old) × (self.new ≡ self.old → m ≡ Merged.Same)) }
         ensures err { OnErr result (self.new ≡ self.old) }
         ensures tree { IsTree self.new }
     {

@@ -1,6 +1,7 @@
 //! The texts in which tests tell what calls answer, revisions of texts, and the plainest entry of a log.
 //!
-//! Tests of several crates stand on it. It has no contracts: what it tells is compared with texts that are written by hand.
+//! Tests of several crates stand on it. It has no contracts: what it tells is compared with texts that are written by
+//! hand.
 #![tactic(auto)]
 
 mod entries;
