@@ -8,9 +8,10 @@ ghost use Rattle.repl_target.specs.Calls.{IsTiedPair};
 
 use crate::fault::{Audit, TargetFault};
 use crate::filter::WriteFilter;
+use crate::logs::rep_between;
 use crate::peer::Peer;
 use couch_base::Row;
-use repl_log::{RepId, common};
+use repl_log::common;
 use rev_core::Rev;
 use std::alloc::Global;
 
@@ -32,10 +33,7 @@ pub fn audit<F: WriteFilter, G: WriteFilter>(
     ensures tied { IfOk result (λ a. IsTiedPair source.now.1 target.now.1 → a ≡ Audit.Clean) }
     ensures err { IfErr result (λ e. e ≡ TargetFault.Memory) }
 {
-    let rep = RepId {
-        source: source.db().uuid(),
-        target: target.db().uuid(),
-    };
+    let rep = rep_between(source, target);
     let outgoing = source.source_log(alloc, &rep)?;
     let incoming = target.target_log(alloc, &rep)?;
     match common(&outgoing, &incoming) {

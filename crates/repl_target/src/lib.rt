@@ -23,6 +23,7 @@ mod written;
 pub use auditing::{audit, hole_above};
 pub use fault::{Audit, Cause, Reason, Report, Settled, TargetFault};
 pub use filter::{Rules, Verdict, WriteFilter};
+pub use logs::rep_between;
 pub use peer::Peer;
 pub use refused::Refused;
 pub use replication::{Plan, begin_plan, check_plan, has_left, record_at_source, replicate_alone};

@@ -1,6 +1,8 @@
 //! The logs of a peer: those of the sessions that were replicated into it, and those of the replications from it.
 ghost use Rattle.std.specs.Prelude.{◌≡◌, OnOk, OnErr, IfOk, IfErr};
 ghost use Rattle.repl_log.specs.Entry.{value_of};
+ghost use Rattle.repl_target.specs.Audit.{rep_between};
+ghost use Rattle.repl_target.specs.Law.{Lawful};
 ghost use Rattle.repl_target.specs.Sessions.{GivesUnlessMemory};
 ghost use Rattle.repl_target.specs.Logs.{log_in, logs_with, put_answer_in, refused_by_log};
 
@@ -14,9 +16,20 @@ use std::alloc::Global;
 /// The outgoing logs by replication.
 pub(crate) type Logs = IndexMap<RepId, Log>;
 
+/// The id of the replication from one peer into another: their databases' UUIDs. Both peers are lawful.
+pub fn rep_between<F: WriteFilter, G: WriteFilter>(source: &Peer<F>, target: &Peer<G>) -> RepId
+    ensures id { result ≡ rep_between source.now.1 target.now.1 }
+    ensures source_law { Lawful (F.refuses source.now.0) source.now.1 }
+    ensures target_law { Lawful (G.refuses target.now.0) target.now.1 }
+{
+    RepId {
+        source: source.db().uuid(),
+        target: target.db().uuid(),
+    }
+}
+
 impl<F: WriteFilter> Peer<F> {
     ghost use Rattle.repl_target.specs.Logs.{target_log, source_log, put_entry_answer, after_put_entry};
-    ghost use Rattle.repl_target.specs.Law.{Lawful};
 
     /// The log of a replication into this peer: what its sessions say, newest first. The only error is `Memory`.
     pub fn target_log(&self, alloc: Global, rep: &RepId) -> Result<Log, TargetFault>

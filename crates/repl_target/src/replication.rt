@@ -12,8 +12,9 @@ ghost use Rattle.repl_target.specs.declared.fault.TargetFault.TheVariants as fau
 
 use crate::fault::{Report, TargetFault};
 use crate::filter::WriteFilter;
+use crate::logs::rep_between;
 use crate::peer::Peer;
-use repl_log::{Moment, RepId, common};
+use repl_log::{Moment, common};
 use rev_tree::SessionId;
 use std::alloc::Global;
 
@@ -144,10 +145,7 @@ pub fn begin_plan<F: WriteFilter, G: WriteFilter>(
     ensures source_law { LawfulDatabase source.now.1.db }
 {
     let goal = source.db().update_seq();
-    let rep = RepId {
-        source: source.db().uuid(),
-        target: target.db().uuid(),
-    };
+    let rep = rep_between(source, target);
     let outgoing = source.source_log(alloc, &rep)?;
     let incoming = target.target_log(alloc, &rep)?;
     let (base, start) = match common(&outgoing, &incoming) {
@@ -288,10 +286,7 @@ pub fn record_at_source<F: WriteFilter, G: WriteFilter>(
         × (session_answer target.now.1 plan.now.session (λ s. Ok (entry_of s)) ≡ Ok entry)
         × PutsOver source.old.1 (rep_between source.old.1 target.now.1) entry result source.new.1 }
 {
-    let rep = RepId {
-        source: source.db().uuid(),
-        target: target.db().uuid(),
-    };
+    let rep = rep_between(source, target);
     let Ok(entry) = target.entry(plan.session) else {
         unreachable!()
     };

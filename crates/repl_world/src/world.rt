@@ -8,8 +8,8 @@ use crate::fault::WorldFault;
 use crate::step::Step;
 use couch_base::BaseFault;
 use doc_json::{Body, Doc, DocId};
-use repl_log::{Moment, RepId};
-use repl_target::{Cause, Peer, Settled, TargetFault, WriteFilter};
+use repl_log::Moment;
+use repl_target::{Cause, Peer, Settled, TargetFault, WriteFilter, rep_between};
 use rev_core::Rev;
 use rev_tree::SessionId;
 use std::alloc::{AllocError, Global};
@@ -270,10 +270,7 @@ impl<F: WriteFilter> World<F> {
         ensures ok { OnOk result (self.new.1 ≡ begins self.old.1 session base start goal at) }
         ensures err { OnErr result (self.new.1 ≡ self.old.1) }
     {
-        let rep = RepId {
-            source: self.source.db().uuid(),
-            target: self.target.db().uuid(),
-        };
+        let rep = rep_between(&self.source, &self.target);
         match self.target.begin(session, rep, base, start, goal, at) {
             Ok(()) => Ok(()),
             Err(TargetFault::Memory) => Err(AllocError),
@@ -386,10 +383,7 @@ impl<F: WriteFilter> World<F> {
         let Some(entry) = self.bag.entry(place) else {
             return Ok(());
         };
-        let rep = RepId {
-            source: self.source.db().uuid(),
-            target: self.target.db().uuid(),
-        };
+        let rep = rep_between(&self.source, &self.target);
         match self.source.put_entry(&rep, entry) {
             Err(TargetFault::Memory) => Err(AllocError),
             _ => Ok(()),

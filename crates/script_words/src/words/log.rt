@@ -10,7 +10,7 @@ ghost use Rattle.script_words.specs.words.Log.{Logs, log_asked, log_held, log_in
 
 use crate::members::{has_only_members, name_member, text_member};
 use repl_log::{RepId, write_log};
-use repl_target::{Peer, Rules};
+use repl_target::{Peer, Rules, rep_between};
 use script_databases::{Databases, Refusal};
 use serde_json::Value;
 use std::alloc::{AllocError, Global};
@@ -74,7 +74,7 @@ pub fn serve(
     let Some(target) = databases.find(ask.target) else {
         return Err(Refusal::NoDatabase);
     };
-    let rep = rep_of(source, target);
+    let rep = rep_between(source, target);
     let Ok(log) = log_held(alloc, source, target, ask.side, &rep) else {
         return Err(Refusal::Memory);
     };
@@ -85,16 +85,6 @@ pub fn serve(
     match print(answer, text.as_slice()) {
         Ok(()) => Ok(()),
         Err(_) => Err(Refusal::Memory),
-    }
-}
-
-/// The replication from one database into another.
-fn rep_of(source: &Peer<Rules>, target: &Peer<Rules>) -> RepId
-    ensures { result ≡ rep_between source.now.1 target.now.1 }
-{
-    RepId {
-        source: source.db().uuid(),
-        target: target.db().uuid(),
     }
 }
 
