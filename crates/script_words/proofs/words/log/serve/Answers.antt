@@ -32,7 +32,7 @@ pub returns-in-Err : goal.returns-in-Err
 returns-in-Err c =
     let s = c.in-Some.source.now.1 in
     let t = c.in-Some-find.target.now.1 in
-    let same = ap (λ (r : RepId). log_text r c.in-Ok.log) c.rep_between-rep.ensures ∙ ap (log_text (rep_between s t)) c.in-Ok.ensures in
+    let same = ap (λ (r : RepId). log_text r c.in-Ok.log) c.rep_between-rep.ensures.id ∙ ap (log_text (rep_between s t)) c.in-Ok.ensures in
     rw c.of_log.ensures
     (unless_memory (told_as log_refusal (log_text c.rep_between-rep.result c.in-Ok.log)) (log_refused c.in-Err.fault (log_text c.rep_between-rep.result c.in-Ok.log) c.in-Err.ensures.answer) refl
     (λ e. reads (Err (log_refusal c.in-Err.fault)) (passes _ (is_found why.NoDatabase (sym c.in-Some.ensures)) ∙ passes _ (is_found why.NoDatabase (sym c.in-Some-find.ensures)) ∙ stops _ (ap (told_as log_refusal) (sym same) ∙ e))))
@@ -41,7 +41,7 @@ pub returns-in-Ok-print : goal.returns-in-Ok-print
 returns-in-Ok-print c =
     let s = c.in-Some.source.now.1 in
     let t = c.in-Some-find.target.now.1 in
-    let same = ap (λ (r : RepId). log_text r c.in-Ok.log) c.rep_between-rep.ensures ∙ ap (log_text (rep_between s t)) c.in-Ok.ensures in
+    let same = ap (λ (r : RepId). log_text r c.in-Ok.log) c.rep_between-rep.ensures.id ∙ ap (log_text (rep_between s t)) c.in-Ok.ensures in
     let text = printed c.in-Ok-print.ensures c.requires (ap ended c.as_slice.ensures.value) in
     in_full (reads (Ok c.print.new.answer.items)
     (passes _ (is_found why.NoDatabase (sym c.in-Some.ensures)) ∙ passes _ (is_found why.NoDatabase (sym c.in-Some-find.ensures)) ∙ passes _ (ap (told_as log_refusal) (sym same ∙ sym c.in-Ok-write_log.ensures.answer)) ∙ ap Ok (sym text)))
