@@ -20,4 +20,4 @@ returns-in-Some-clause-tied g c =
     let q = c.args.target.now.1 in
     let told : IfOk c.hole_within.result (λ a. hole_of a ≡ audit_answer p q) = search rules in
     IfOk-weaker c.hole_within.result (λ a. hole_of a ≡ audit_answer p q) (λ a. IsTiedPair p q → a ≡ Clean)
-    (λ a h tied. clean_from a (h ∙ tied_none (g.G.WriteFilter.refuses c.args.target.now.0) p q c.rep_between.ensures.target_law.sessions tied)) told
+    (λ a h tied. clean_from a (h ∙ tied_none (g.G.WriteFilter.refuses c.args.target.now.0) p q c.rep_between-rep.ensures.target_law.sessions tied)) told
