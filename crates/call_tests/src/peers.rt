@@ -16,8 +16,8 @@ use test_texts::{bare_entry, rev, rev_text, shown};
 
 /// How a session begins: its replication, its base, its start and its goal.
 #[derive(Clone, Copy)]
-pub(crate) struct Beginning {
-    pub(crate) rep: RepId,
+pub(crate) struct Beginning<'a> {
+    pub(crate) rep: &'a RepId,
     pub(crate) base: Option<SessionId>,
     pub(crate) start: u64,
     pub(crate) goal: u64,
@@ -51,7 +51,7 @@ pub(crate) enum Call<'a> {
     /// Fetches an asked list from a peer. That becomes the next parcel.
     Fetch(usize, usize),
     /// Begins a session at a moment.
-    Begin(usize, SessionId, Beginning, u64),
+    Begin(usize, SessionId, Beginning<'a>, u64),
     /// Appends a copy of a window to a session.
     Append(usize, SessionId, usize),
     /// Settles a copy of a parcel in a session.
@@ -63,15 +63,15 @@ pub(crate) enum Call<'a> {
     /// Reads the entry of a session.
     Entry(usize, SessionId),
     /// Reads the log of a replication into a peer.
-    TargetLog(usize, RepId),
+    TargetLog(usize, &'a RepId),
     /// Reads the log of a replication from a peer.
-    SourceLog(usize, RepId),
+    SourceLog(usize, &'a RepId),
     /// Puts into the log of a replication from a peer the entry of a session that recorded up to a sequence.
-    PutEntry(usize, RepId, SessionId, u64),
+    PutEntry(usize, &'a RepId, SessionId, u64),
     /// Puts into the log of a replication from a peer the entry that another peer, the target, has of a session.
-    PutEntryOf(usize, RepId, usize, SessionId),
+    PutEntryOf(usize, &'a RepId, usize, SessionId),
     /// Compares the logs of a replication at its source and its target.
-    Common(usize, usize, RepId),
+    Common(usize, usize, &'a RepId),
     /// Audits a target, the second one, against a source.
     Audit(usize, usize),
     /// Asks whether a plan between two peers can be begun, with windows of some rows at most.
@@ -200,11 +200,11 @@ impl Bench {
             Call::Sizes(at) => large::sizes(alloc, self.peers.get(at)?),
             Call::Entry(at, session) => entry(alloc, self.peers.get(at)?, session),
             Call::TargetLog(at, rep) => {
-                let log = self.peers.get(at)?.target_log(alloc, &rep).ok()?;
+                let log = self.peers.get(at)?.target_log(alloc, rep).ok()?;
                 log_text(alloc, &log)
             }
             Call::SourceLog(at, rep) => {
-                let log = self.peers.get(at)?.source_log(alloc, &rep).ok()?;
+                let log = self.peers.get(at)?.source_log(alloc, rep).ok()?;
                 log_text(alloc, &log)
             }
             _ => None,
@@ -283,7 +283,7 @@ impl Bench {
     fn put_of(
         &mut self,
         at: usize,
-        rep: RepId,
+        rep: &RepId,
         target: usize,
         session: SessionId,
     ) -> Option<String> {
@@ -292,9 +292,9 @@ impl Bench {
     }
 
     /// Compares two logs.
-    fn common(&self, source: usize, target: usize, rep: RepId) -> Option<String> {
-        let outgoing = self.peers.get(source)?.source_log(self.alloc, &rep).ok()?;
-        let incoming = self.peers.get(target)?.target_log(self.alloc, &rep).ok()?;
+    fn common(&self, source: usize, target: usize, rep: &RepId) -> Option<String> {
+        let outgoing = self.peers.get(source)?.source_log(self.alloc, rep).ok()?;
+        let incoming = self.peers.get(target)?.target_log(self.alloc, rep).ok()?;
         match common(&outgoing, &incoming) {
             Some((session, recorded)) => {
                 format!(in self.alloc; "{} at {recorded}", session.0).ok()
@@ -378,7 +378,7 @@ fn begin(
     alloc: Global,
     peer: &mut Peer<Rules>,
     session: SessionId,
-    how: Beginning,
+    how: Beginning<'_>,
     moment: u64,
 ) -> Option<String> {
     let at = Moment::new(moment).ok()?;
@@ -420,7 +420,7 @@ fn conclude(
 fn put_entry(
     alloc: Global,
     peer: &mut Peer<Rules>,
-    rep: RepId,
+    rep: &RepId,
     session: SessionId,
     recorded: u64,
 ) -> Option<String> {
@@ -429,8 +429,8 @@ fn put_entry(
 }
 
 /// Puts an entry.
-fn put(alloc: Global, peer: &mut Peer<Rules>, rep: RepId, entry: Entry) -> Option<String> {
-    match peer.put_entry(&rep, entry) {
+fn put(alloc: Global, peer: &mut Peer<Rules>, rep: &RepId, entry: Entry) -> Option<String> {
+    match peer.put_entry(rep, entry) {
         Ok(()) => "put".to_string(alloc).ok(),
         Err(fault) => fault_text(alloc, fault),
     }

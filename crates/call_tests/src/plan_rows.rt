@@ -64,7 +64,7 @@ static FIRST_SESSION: Rows = &[
     ),
     (Call::BeginPlan(S1, 11), "SessionExists"),
     (Call::RecordAtSource(S1), "recorded"),
-    (Call::SourceLog(SOURCE, REP), "1 at 0;"),
+    (Call::SourceLog(SOURCE, &REP), "1 at 0;"),
     (Call::Page(SOURCE, 0, 1), "0 to 1: 1 d 1-a;"),
     (Call::Append(TARGET, S1, FIRST), "appended"),
     (Call::Diff(TARGET, FIRST), "0 to 1: d 1-a;"),
@@ -72,7 +72,7 @@ static FIRST_SESSION: Rows = &[
     (Call::Settle(TARGET, S1, FIRST), "written 1 failed 0"),
     (Call::Record(TARGET, S1, 12), "1"),
     (Call::RecordAtSource(S1), "recorded"),
-    (Call::SourceLog(SOURCE, REP), "1 at 1;"),
+    (Call::SourceLog(SOURCE, &REP), "1 at 1;"),
 ];
 
 #[test]
@@ -98,7 +98,7 @@ fn a_plan_begins_where_the_logs_agree(rt: HostRuntime) {
             "session 2 from 1 to 2 checked 1 found 1 read 1 written 1 failed 0",
         ),
         (Call::RecordAtSource(S2), "recorded"),
-        (Call::SourceLog(SOURCE, REP), "2 at 2;1 at 1;"),
+        (Call::SourceLog(SOURCE, &REP), "2 at 2;1 at 1;"),
     ];
     expect(&rt, rt.alloc(), &[THREE, FIRST_SESSION, ROWS]);
 }
@@ -106,10 +106,10 @@ fn a_plan_begins_where_the_logs_agree(rt: HostRuntime) {
 #[test]
 fn an_older_entry_is_passed_over(rt: HostRuntime) {
     static ROWS: Rows = &[
-        (Call::PutEntry(SOURCE, REP, S1, 9), "put"),
-        (Call::SourceLog(SOURCE, REP), "1 at 9;"),
+        (Call::PutEntry(SOURCE, &REP, S1, 9), "put"),
+        (Call::SourceLog(SOURCE, &REP), "1 at 9;"),
         (Call::RecordAtSource(S1), "recorded"),
-        (Call::SourceLog(SOURCE, REP), "1 at 9;"),
+        (Call::SourceLog(SOURCE, &REP), "1 at 9;"),
         // The lesser of the two sequences is where the next one begins.
         (Call::BeginPlan(S2, 13), "1"),
     ];
@@ -140,11 +140,12 @@ fn a_walk_above_a_sequence(rt: HostRuntime) {
 #[test]
 fn what_was_rightly_refused_is_no_hole(rt: HostRuntime) {
     use crate::peers::Beginning;
+    const REP_INTO_REFUSING: RepId = RepId {
+        source: 1,
+        target: 3,
+    };
     const INTO_REFUSING: Beginning = Beginning {
-        rep: RepId {
-            source: 1,
-            target: 3,
-        },
+        rep: &REP_INTO_REFUSING,
         base: None,
         start: 0,
         goal: 1,

@@ -202,7 +202,7 @@ fn fetched_is_counted_where_a_run_stops(rt: HostRuntime) {
             Call::Entry(B, S1),
             "session 1 from 0 to 0 checked 0 found 0 read 0 written 0 failed 0, 0 to 0",
         ),
-        (Call::SourceLog(A, REP), "1 at 0;"),
+        (Call::SourceLog(A, &REP), "1 at 0;"),
         (Call::Audit(A, B), "clean"),
     ];
     let gate = StopsOnce::new(2, 0);
@@ -230,7 +230,7 @@ static SIX: Rows = &[
 
 /// What stands once all is carried.
 static ALL: Rows = &[
-    (Call::Common(A, B, REP), "6"),
+    (Call::Common(A, B, &REP), "6"),
     (Call::Audit(A, B), "clean"),
     (Call::Tree(B, "d0"), "1-a of 1"),
     (Call::Tree(B, "d1"), "1-a of 1"),
@@ -265,7 +265,7 @@ fn stop<R: Abort + Threads + Wait + Sync>(
 /// Asserts that a further run begins at what both logs agree about, and ends at the goal.
 fn go_on<R: Abort + Threads + Wait + Sync>(rt: &R, alloc: Global, bench: &mut Bench) {
     let from = bench
-        .answer(rt, &Call::Common(A, B, REP))
+        .answer(rt, &Call::Common(A, B, &REP))
         .expect(rt, "two logs");
     let answer = bench
         .answer(rt, &Call::Run(A, B, AGAIN))

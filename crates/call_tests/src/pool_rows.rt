@@ -79,12 +79,12 @@ fn document_copied_and_nothing_new(rt: HostRuntime) {
             "session 1 from 0 to 1 checked 1 found 1 read 1 written 1 failed 0, fetched 1",
         ),
         (Call::Tree(B, "d"), "3-c of 3"),
-        (Call::SourceLog(A, REP), "1 at 1;"),
+        (Call::SourceLog(A, &REP), "1 at 1;"),
         (
             Call::Run(A, B, SECOND),
             "session 2 from 1 to 1 checked 0 found 0 read 0 written 0 failed 0, fetched 0",
         ),
-        (Call::SourceLog(A, REP), "2 at 1;1 at 1;"),
+        (Call::SourceLog(A, &REP), "2 at 1;1 at 1;"),
         (Call::Tree(B, "d"), "3-c of 3"),
         (Call::Audit(A, B), "clean"),
     ];
@@ -103,7 +103,7 @@ fn conflict_replicated(rt: HostRuntime) {
             "session 1 from 0 to 2 checked 2 found 2 read 2 written 2 failed 0, fetched 2",
         ),
         (Call::Tree(B, "d"), "2-b,2-a of 3"),
-        (Call::SourceLog(A, REP), "1 at 2;"),
+        (Call::SourceLog(A, &REP), "1 at 2;"),
     ];
     run_all(&rt, rt.alloc(), ROWS);
 }
@@ -185,7 +185,7 @@ fn resume_after_stop(rt: HostRuntime) {
             Call::Run(A, B, STOPPED),
             "Unfinished { low_water: 2 }, fetched 2",
         ),
-        (Call::SourceLog(A, REP), "1 at 2;"),
+        (Call::SourceLog(A, &REP), "1 at 2;"),
         (
             Call::Run(A, B, RESUMED),
             "session 2 from 2 to 5 checked 3 found 3 read 3 written 3 failed 0, fetched 3",
@@ -264,7 +264,7 @@ fn replications_refused(rt: HostRuntime) {
         (Call::Run(A, B, CROWDED), "TooManyWorkers, fetched 0"),
         (Call::Run(A, ANOTHER_A, SECOND), "SamePeer, fetched 0"),
         (Call::Tree(ANOTHER_A, "d"), "no document"),
-        (Call::SourceLog(A, REP), "1 at 1;"),
+        (Call::SourceLog(A, &REP), "1 at 1;"),
     ];
     run_all(&rt, rt.alloc(), ROWS);
 }
@@ -320,7 +320,7 @@ fn three_hundred_windows(rt: HostRuntime) {
             Call::Run(A, B, SINGLE),
             "session 1 from 0 to 300 checked 300 found 300 read 300 written 300 failed 0, fetched 300",
         ),
-        (Call::SourceLog(A, REP), "1 at 300;"),
+        (Call::SourceLog(A, &REP), "1 at 300;"),
         (Call::Audit(A, B), "clean"),
     ];
     Bench::new(rt.alloc(), 1).run(&rt, ALONE);

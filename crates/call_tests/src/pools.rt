@@ -47,9 +47,9 @@ pub(crate) enum Call<'a> {
     /// Reads the entry of a session.
     Entry(usize, SessionId),
     /// Reads the log of a replication from a peer.
-    SourceLog(usize, RepId),
+    SourceLog(usize, &'a RepId),
     /// Compares the logs of a replication at its source and its target.
-    Common(usize, usize, RepId),
+    Common(usize, usize, &'a RepId),
     /// Audits a target, the second one, against a source.
     Audit(usize, usize),
 }
@@ -304,8 +304,8 @@ fn fill(alloc: Global, peer: &mut Peer<Rules>, documents: u64) -> Option<String>
 }
 
 /// The source's log of a replication.
-fn source_log(alloc: Global, peer: &Peer<Rules>, rep: RepId) -> Option<String> {
-    let log = peer.source_log(alloc, &rep).ok()?;
+fn source_log(alloc: Global, peer: &Peer<Rules>, rep: &RepId) -> Option<String> {
+    let log = peer.source_log(alloc, rep).ok()?;
     log_text(alloc, &log)
 }
 
@@ -314,10 +314,10 @@ fn common_text(
     alloc: Global,
     source: &Peer<Rules>,
     target: &Peer<Rules>,
-    rep: RepId,
+    rep: &RepId,
 ) -> Option<String> {
-    let outgoing = source.source_log(alloc, &rep).ok()?;
-    let incoming = target.target_log(alloc, &rep).ok()?;
+    let outgoing = source.source_log(alloc, rep).ok()?;
+    let incoming = target.target_log(alloc, rep).ok()?;
     match common(&outgoing, &incoming) {
         Some((_, recorded)) => shown(alloc, &recorded),
         None => "0".to_string(alloc).ok(),

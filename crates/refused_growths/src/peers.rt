@@ -112,12 +112,12 @@ fn opened(alloc: Global, peer: &Peer<Rules>, asked: &Asked) -> Option<Parcel> {
 }
 
 fn begin(peer: &mut Peer<Rules>, goal: u64, at: Moment) -> Option<()> {
-    match peer.begin(SESSION, REP, None, 0, goal, at) {
+    match peer.begin(SESSION, &REP, None, 0, goal, at) {
         Err(TargetFault::Memory) => {
             if peer.entry(SESSION).is_ok() {
                 return None;
             }
-            peer.begin(SESSION, REP, None, 0, goal, at).ok()
+            peer.begin(SESSION, &REP, None, 0, goal, at).ok()
         }
         answer => answer.ok(),
     }

@@ -93,7 +93,10 @@ fn put(logs: &mut Logs, rep: &RepId, entry: Entry) -> Result<(), TargetFault>
             let Ok(()) = log.put(entry) else {
                 return Err(TargetFault::Memory);
             };
-            match logs.insert(*rep, log) {
+            let Ok(rep) = rep.copy(alloc) else {
+                return Err(TargetFault::Memory);
+            };
+            match logs.insert(rep, log) {
                 Ok(_) => Ok(()),
                 Err(_) => Err(TargetFault::Memory),
             }

@@ -216,15 +216,15 @@ impl<F: WriteFilter> Peer<F> {
     pub fn begin(
         &mut self,
         id: SessionId,
-        rep: RepId,
+        rep: &RepId,
         base: Option<SessionId>,
         start: u64,
         goal: u64,
         at: Moment,
     ) -> Result<(), TargetFault>
-        ensures answer { GivesUnlessMemory result (begin_answer self.old.1 id rep base start goal) }
+        ensures answer { GivesUnlessMemory result (begin_answer self.old.1 id rep.now base start goal) }
         ensures filter { self.new.0 ≡ self.old.0 }
-        ensures ok { OnOk result (self.new.1 ≡ after_begin self.old.1 id rep base start goal at) }
+        ensures ok { OnOk result (self.new.1 ≡ after_begin self.old.1 id rep.now base start goal at) }
         ensures err { OnErr result (self.new.1 ≡ self.old.1) }
         ensures law { Lawful (F.refuses self.new.0) self.new.1 }
     {

@@ -152,7 +152,7 @@ pub fn begin_plan<F: WriteFilter, G: WriteFilter>(
         Some((session, recorded)) => (Some(session), recorded),
         None => (None, 0),
     };
-    target.begin(plan.session, rep, base, start, goal, plan.at)?;
+    target.begin(plan.session, &rep, base, start, goal, plan.at)?;
     Ok(start)
 }
 

@@ -124,18 +124,22 @@ impl Sessions {
     pub(crate) fn begin(
         &mut self,
         id: SessionId,
-        rep: RepId,
+        rep: &RepId,
         base: Option<SessionId>,
         start: u64,
         goal: u64,
         at: Moment,
     ) -> Result<(), TargetFault>
-        ensures answer { GivesUnlessMemory result (begin_in self.old id rep base start goal) }
-        ensures ok { OnOk result (self.new ≡ new_session id rep base start goal at ∷ self.old) }
+        ensures answer { GivesUnlessMemory result (begin_in self.old id rep.now base start goal) }
+        ensures ok { OnOk result (self.new ≡ new_session id rep.now base start goal at ∷ self.old) }
         ensures err { OnErr result (self.new ≡ self.old) }
     {
-        self.check_new(id, &rep, base, start, goal)?;
-        let session = Session::new(*self.entries.allocator(), id, rep, base, start, goal, at);
+        self.check_new(id, rep, base, start, goal)?;
+        let alloc = *self.entries.allocator();
+        let Ok(rep) = rep.copy(alloc) else {
+            return Err(TargetFault::Memory);
+        };
+        let session = Session::new(alloc, id, rep, base, start, goal, at);
         let Ok(_) = self.entries.insert(id, session) else {
             return Err(TargetFault::Memory);
         };

@@ -271,7 +271,7 @@ impl<F: WriteFilter> World<F> {
         ensures err { OnErr result (self.new.1 ≡ self.old.1) }
     {
         let rep = rep_between(&self.source, &self.target);
-        match self.target.begin(session, rep, base, start, goal, at) {
+        match self.target.begin(session, &rep, base, start, goal, at) {
             Ok(()) => Ok(()),
             Err(TargetFault::Memory) => Err(AllocError),
             Err(_) => Ok(()),

@@ -6,17 +6,26 @@
 //! rows.
 #![tactic(auto)]
 
+// Revisions and trees.
 #[cfg(test)]
-mod boards;
+mod revisions;
+#[cfg(test)]
+mod trees;
+
+// Documents.
 #[cfg(test)]
 mod documents;
+
+// Fronts and logs.
 #[cfg(test)]
 mod fronts;
 #[cfg(test)]
 mod logs;
+
+// The progress board.
 #[cfg(test)]
-mod revisions;
+mod boards;
+
+// Texts of answers.
 #[cfg(test)]
 mod texts;
-#[cfg(test)]
-mod trees;

@@ -21,10 +21,10 @@ enum Call<'a> {
     Has(usize, &'a [(u128, u64)]),
     /// Compares the logs of a source and a target.
     Common(usize, usize),
-    /// Writes a replication id.
-    Name(RepId),
+    /// Writes a copy of a replication id.
+    Name(&'a RepId),
     /// Writes the log of a replication.
-    Write(RepId, usize),
+    Write(&'a RepId, usize),
     /// Makes a moment, and reads its seconds.
     Moment(u64),
 }
@@ -77,8 +77,11 @@ impl Bench {
                 let found = common(self.logs.get(source)?, self.logs.get(target)?);
                 shown(alloc, &found)
             }
-            Call::Name(id) => String::from_utf8(rep_id(alloc, &id).ok()?).ok(),
-            Call::Write(id, at) => written(alloc, &id, self.logs.get(at)?),
+            Call::Name(id) => {
+                let copy = id.copy(alloc).ok()?;
+                String::from_utf8(rep_id(alloc, &copy).ok()?).ok()
+            }
+            Call::Write(id, at) => written(alloc, id, self.logs.get(at)?),
             Call::Moment(seconds) => moment_text(alloc, seconds),
         }
     }
@@ -195,13 +198,13 @@ const LOG_TEXT: &str =
 
 static TEXT_ROWS: Rows = &[
     (
-        Call::Name(REP),
+        Call::Name(&REP),
         "11111111111141118111111111111111-22222222222242228222222222222222",
     ),
     (Call::Make, "made"),
-    (Call::Write(REP, 0), "EmptyLog"),
+    (Call::Write(&REP, 0), "EmptyLog"),
     (Call::PutOne(0, 1_381_384_598), "Ok(())"),
-    (Call::Write(REP, 0), LOG_TEXT),
+    (Call::Write(&REP, 0), LOG_TEXT),
 ];
 
 #[test]

@@ -43,6 +43,11 @@ returns-in_default-clause-answer c =
     let there = sym c.get_mut.ensures.value ∙ ap option_copied_mut c.in-None.is in
     ap is_ok (put_answer_in-new c.args.rep.now (value_of c.args.entry) c.args.logs.now.entries there)
 
+pub returns-in_default-copy-clause-answer : goal.returns-in_default-copy-clause-answer
+returns-in_default-copy-clause-answer c =
+    let there = sym c.get_mut.ensures.value ∙ ap option_copied_mut c.in-None.is in
+    ap is_ok (put_answer_in-new c.args.rep.now (value_of c.args.entry) c.args.logs.now.entries there)
+
 pub returns-in-Ok-insert-clause-answer : goal.returns-in-Ok-insert-clause-answer
 returns-in-Ok-insert-clause-answer c =
     let there = sym c.get_mut.ensures.value ∙ ap option_copied_mut c.in-None.is in
@@ -55,6 +60,7 @@ returns-in-Ok-insert-clause-ok c =
     let rep = c.args.rep.now in
     let log = c.in-Ok-put.ensures.ok ∙ ap (λ g. with_entry g (value_of c.args.entry)) c.new-log.ensures.value in
     c.in-Ok-insert.ensures.entries
+    ∙ ap (λ r. insert_entry same_rep c.get_mut.follows.lender-at-none.entries r c.put-in-None.new.self) c.in-Ok-copy.ensures.copied
     ∙ ap (λ m. insert_entry same_rep m.entries rep c.put-in-None.new.self) c.get_mut.follows.holds-at-none
     ∙ insert_entry-new same_rep logs rep c.put-in-None.new.self there
     ∙ ap (λ g. logs.entries ++ (rep, g) ∷ []) log
