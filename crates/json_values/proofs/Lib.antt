@@ -1,0 +1,5 @@
+pub mod NumberReads
+pub mod Conversions
+pub mod FirstTokens
+pub mod ValueReads
+pub mod WholeReads

@@ -1,0 +1,36 @@
+use Rattle.std.proofs.Common.{◌≡◌, ℕ, ◌+◌, ◌*◌, ◌≤◌, length}
+use Rattle.json.specs.Json.{items, members, value, parse_map}
+use Rattle.serde_json.specs.Data.{no_members}
+use Rattle.serde_json.specs.Read.{converted, of_items, of_members}
+use Rattle.serde_json.specs.View.{members_view}
+use Rattle.json_values.proofs.ValueReads.{items_onto}
+use Rattle.json_values.proofs.values.+read.Given as goal
+
+abbrev pub decreases-read_value : goal.decreases-read_value
+decreases-read_value l = 2 * l.depth
+
+abbrev pub decreases-read_items : goal.decreases-read_items
+decreases-read_items l = 2 * l.depth + 1
+
+abbrev pub decreases-read_members : goal.decreases-read_members
+decreases-read_members l = 2 * l.depth + 1
+
+-- the items so far stand before what the rest of the list is read as
+abbrev pub invariant-read_items-items : goal.invariant-read_items-items
+invariant-read_items-items l =
+    (turns : ℕ) × (length l.reader ≤ turns) × (length l.reader ≤ length l.initial.reader)
+    × (converted of_items (items (value l.depth) (length l.initial.reader) l.initial.reader)
+    ≡ parse_map (items_onto l.found.items) (converted of_items (items (value l.depth) turns l.reader)))
+
+abbrev pub decreases-read_items-items : goal.decreases-read_items-items
+decreases-read_items-items l = length l.reader
+
+-- the members that are left go into those so far
+abbrev pub invariant-read_members-members : goal.invariant-read_members-members
+invariant-read_members-members l =
+    (turns : ℕ) × (length l.reader ≤ turns) × (length l.reader ≤ length l.initial.reader)
+    × (converted (λ ms. of_members ms no_members) (members (value l.depth) (length l.initial.reader) l.initial.reader)
+    ≡ converted (λ ms. of_members ms (members_view l.found.entries)) (members (value l.depth) turns l.reader))
+
+abbrev pub decreases-read_members-members : goal.decreases-read_members-members
+decreases-read_members-members l = length l.reader

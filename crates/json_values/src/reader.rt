@@ -1,0 +1,63 @@
+//! The reader, and what it keeps from read to read.
+ghost use Rattle.std.specs.Prelude.{◌≡◌, ◌≤◌, ◌<◌, length, Some, None, IfOk, IsUtf8};
+ghost use Rattle.serde_json.specs.Data.{depth};
+ghost use Rattle.serde_json.specs.Read.{max_depth, read as read_text};
+ghost use Rattle.serde_json.specs.View.{view};
+
+use crate::fault::ReadFault;
+use crate::values;
+use json::{Reader, Scratch};
+use serde_json::Value;
+use std::alloc::Global;
+
+/// The deepest nesting that is read.
+const MAX_DEPTH: usize = 127;
+
+/// Reads one JSON value after another, and keeps the room that this takes: what is kept grows to the length of the
+/// longest text. No read depends on an earlier one, nor on how that ended.
+#[derive(Drop)]
+pub struct ValueReader {
+    scratch: Scratch,
+}
+
+impl ValueReader {
+    /// A reader that has kept nothing yet.
+    pub fn new(alloc: Global) -> ValueReader {
+        ValueReader {
+            scratch: Scratch::new(alloc),
+        }
+    }
+
+    /// The JSON value that bytes are; of a key's members the last one stays.
+    ///
+    /// `NotJson` where they are no UTF-8, are not one JSON text, nest deeper than 127, or hold a number too large for
+    /// a float. `Memory` may come in the place of any answer, but for no bytes.
+    pub fn read(&mut self, alloc: Global, bytes: &[u8]) -> Result<Value, ReadFault>
+        ensures ok { IfOk result (λ value. IsUtf8 bytes.now × (read_text bytes.now ≡ Some (view value))) }
+        ensures nests { IfOk result (λ value. depth (view value) ≤ max_depth) }
+        ensures refused { result ≡ Err ReadFault.NotJson → IsUtf8 bytes.now → read_text bytes.now ≡ None }
+        ensures memory { result ≡ Err ReadFault.Memory → 0 < length bytes.now }
+    {
+        let Ok(text) = simdutf8::basic::from_utf8(bytes) else {
+            return Err(ReadFault::NotJson);
+        };
+        read_whole(alloc, text, &mut self.scratch)
+    }
+}
+
+/// The value that a text is, with nothing behind it.
+fn read_whole(alloc: Global, text: &str, scratch: &mut Scratch) -> Result<Value, ReadFault>
+    ensures ok { IfOk result (λ value. read_text text.now ≡ Some (view value)) }
+    ensures nests { IfOk result (λ value. depth (view value) ≤ max_depth) }
+    ensures refused { result ≡ Err ReadFault.NotJson → read_text text.now ≡ None }
+    ensures memory { result ≡ Err ReadFault.Memory → 0 < length text.now }
+{
+    let Ok(mut reader) = Reader::new(text, scratch) else {
+        return Err(ReadFault::Memory);
+    };
+    let value = values::read_value(alloc, &mut reader, MAX_DEPTH)?;
+    if reader.next().is_some() {
+        return Err(ReadFault::NotJson);
+    }
+    Ok(value)
+}
