@@ -19,35 +19,35 @@ use Rattle.rev_tree.specs.Content.{ContentValue}
 use Rattle.std.specs.Option.{option_map_or}
 use Rattle.rev_tree.specs.LeafLaws.{leaf_cmp_total, leaf_cmp_exact, leaf_tie, any_agree, any_filter}
 use Rattle.rev_tree.specs.Nodes.{revs_in, tree_of, Distinct, IsLinked}
-use Rattle.rev_tree.specs.declared.nodes.Node.{Node}
+use Rattle.rev_tree.specs.Node.{NodeValue}
 use Rattle.rev_tree.proofs.Places.{is_some-node_of, node_at, read_at}
 use Rattle.rev_tree.proofs.Lookups.{leaf_is, content_is}
 use Rattle.rev_tree.proofs.Views.{has-tree_of}
 
-pub revs_more : (nodes : List Node) (i : ℕ) (n : Node) → i < length nodes → n ≡ get_or nodes i n → revs_in (take (i + 1) nodes) ≡ revs_in (take i nodes) ++ n.rev ∷ []
+pub revs_more : (nodes : List NodeValue) (i : ℕ) (n : NodeValue) → i < length nodes → n ≡ get_or nodes i n → revs_in (take (i + 1) nodes) ≡ revs_in (take i nodes) ++ n.rev ∷ []
 revs_more nodes i n low is =
     ap revs_in (take_more nodes i n low ∙ ap (λ x. take i nodes ++ x ∷ []) (sym is))
-    ∙ map-append (λ (x : Node). x.rev) (take i nodes) (n ∷ [])
+    ∙ map-append (λ (x : NodeValue). x.rev) (take i nodes) (n ∷ [])
 
 -- the mark of a node tells whether its revision is a leaf
-pub leaf_item : (nodes items : List Node) (t : TreeValue) → IsLinked nodes → tree_of nodes ≡ t → items ≡ nodes → (i : ℕ) (n : Node) → i < length items → n ≡ get_or items i n → is_leaf t n.rev ≡ not n.has_child
+pub leaf_item : (nodes items : List NodeValue) (t : TreeValue) → IsLinked nodes → tree_of nodes ≡ t → items ≡ nodes → (i : ℕ) (n : NodeValue) → i < length items → n ≡ get_or items i n → is_leaf t n.rev ≡ not n.has_child
 leaf_item nodes items t linked view same i n low is =
     leaf_is nodes t n.rev (Some n) linked view
     (node_at nodes linked.once i n (read_at nodes i n (subst (λ l. i < length l) same low) (subst (λ l. n ≡ get_or l i n) same is)))
 
 -- and its content whether it deletes
-pub deleted_item : (nodes items : List Node) (t : TreeValue) → IsLinked nodes → tree_of nodes ≡ t → items ≡ nodes → (i : ℕ) (n : Node) → i < length items → n ≡ get_or items i n → is_deleted t n.rev ≡ option_map_or (λ (b : ContentValue). b.deleted) n.content false
+pub deleted_item : (nodes items : List NodeValue) (t : TreeValue) → IsLinked nodes → tree_of nodes ≡ t → items ≡ nodes → (i : ℕ) (n : NodeValue) → i < length items → n ≡ get_or items i n → is_deleted t n.rev ≡ option_map_or (λ (b : ContentValue). b.deleted) n.content false
 deleted_item nodes items t linked view same i n low is =
     ap (λ o. option_map_or (λ (b : ContentValue). b.deleted) o false)
     (content_is nodes t n.rev (Some n) linked view
     (node_at nodes linked.once i n (read_at nodes i n (subst (λ l. i < length l) same low) (subst (λ l. n ≡ get_or l i n) same is))))
 
 -- the leaves so far, with one node more
-pub leaves_pushed : (t : TreeValue) (nodes : List Node) (i : ℕ) (n : Node) → i < length nodes → n ≡ get_or nodes i n → filter (is_leaf t) (revs_in (take (i + 1) nodes)) ≡ filter (is_leaf t) (revs_in (take i nodes)) ++ cond (is_leaf t n.rev) (n.rev ∷ []) []
+pub leaves_pushed : (t : TreeValue) (nodes : List NodeValue) (i : ℕ) (n : NodeValue) → i < length nodes → n ≡ get_or nodes i n → filter (is_leaf t) (revs_in (take (i + 1) nodes)) ≡ filter (is_leaf t) (revs_in (take i nodes)) ++ cond (is_leaf t n.rev) (n.rev ∷ []) []
 leaves_pushed t nodes i n low is = ap (filter (is_leaf t)) (revs_more nodes i n low is) ∙ filter-append (is_leaf t) (revs_in (take i nodes)) (n.rev ∷ [])
 
 -- one revision more: a leaf is placed, another is passed over
-pub leaves_more : (t : TreeValue) (nodes : List Node) (i : ℕ) (n : Node) → i < length nodes → n ≡ get_or nodes i n
+pub leaves_more : (t : TreeValue) (nodes : List NodeValue) (i : ℕ) (n : NodeValue) → i < length nodes → n ≡ get_or nodes i n
     → in_order (leaf_cmp t) (filter (is_leaf t) (revs_in (take (i + 1) nodes)))
     ≡ cond (is_leaf t n.rev) (placed (leaf_cmp t) n.rev (in_order (leaf_cmp t) (filter (is_leaf t) (revs_in (take i nodes))))) (in_order (leaf_cmp t) (filter (is_leaf t) (revs_in (take i nodes))))
 leaves_more t nodes i n low is =
@@ -59,7 +59,7 @@ leaves_more t nodes i n low is =
     ]
 
 -- the nodes have all leaves among them
-pub leaves_of_nodes : (nodes : List Node) (t : TreeValue) → IsLinked nodes → tree_of nodes ≡ t → in_order (leaf_cmp t) (filter (is_leaf t) (revs_in nodes)) ≡ leaves t
+pub leaves_of_nodes : (nodes : List NodeValue) (t : TreeValue) → IsLinked nodes → tree_of nodes ≡ t → in_order (leaf_cmp t) (filter (is_leaf t) (revs_in nodes)) ≡ leaves t
 leaves_of_nodes nodes t linked view =
     same_in_order (leaf_cmp_total t) (leaf_cmp_exact t) (filter (is_leaf t) (revs_in nodes)) (filter (is_leaf t) (keys t.origins)) (λ q.
     any_agree (eq_by_cmp (leaf_cmp t) q) (eq_by_cmp rev_cmp q) (leaf_tie t q) (filter (is_leaf t) (revs_in nodes))
@@ -84,10 +84,10 @@ count_once t (r ∷ revs) once =
       | false ↦ count_once t revs once.1
     ]
 
-pub length-leaves : (nodes : List Node) (t : TreeValue) → IsLinked nodes → tree_of nodes ≡ t → length (leaves t) ≡ length (filter (is_leaf t) (revs_in nodes))
+pub length-leaves : (nodes : List NodeValue) (t : TreeValue) → IsLinked nodes → tree_of nodes ≡ t → length (leaves t) ≡ length (filter (is_leaf t) (revs_in nodes))
 length-leaves nodes t linked view = ap length (sym (leaves_of_nodes nodes t linked view)) ∙ count_once t (revs_in nodes) linked.once
 
-pub count_more : (t : TreeValue) (nodes : List Node) (i : ℕ) (n : Node) → i < length nodes → n ≡ get_or nodes i n → length (filter (is_leaf t) (revs_in (take (i + 1) nodes))) ≡ length (filter (is_leaf t) (revs_in (take i nodes))) + cond (is_leaf t n.rev) 1 0
+pub count_more : (t : TreeValue) (nodes : List NodeValue) (i : ℕ) (n : NodeValue) → i < length nodes → n ≡ get_or nodes i n → length (filter (is_leaf t) (revs_in (take (i + 1) nodes))) ≡ length (filter (is_leaf t) (revs_in (take i nodes))) + cond (is_leaf t n.rev) 1 0
 count_more t nodes i n low is =
     let before = filter (is_leaf t) (revs_in (take i nodes)) in
     ap length (leaves_pushed t nodes i n low is)

@@ -14,7 +14,7 @@ use Rattle.rev_tree.specs.TreeLaws.{get-joined, get-joined_known, some_or, or_ca
 use Rattle.rev_tree.specs.LeafLaws.{same_tests}
 use Rattle.rev_tree.specs.Steps.{with_rev, with_edge, with_content}
 use Rattle.rev_tree.specs.Nodes.{revs_in, rev_at, node_of, Distinct, entries_of, parent_in, tree_of, IsNode, IsLinked}
-use Rattle.rev_tree.specs.declared.nodes.Node.{Node}
+use Rattle.rev_tree.specs.Node.{NodeValue}
 use Rattle.rev_tree.specs.declared.origin.Origin.{Origin}
 use Rattle.rev_tree.proofs.Places.{some_is, is_some-node_of, node_rev, node_at, among_at, rev_at_place, node_of-push, revs_in-push, distinct_push}
 use Rattle.rev_tree.proofs.Setting.{revs_in-set, node_of-set}
@@ -22,11 +22,11 @@ use Rattle.rev_tree.proofs.Views.{part, get-origins, get-parents, get-contents, 
 
 -- ---- a node is changed: what a part of it becomes
 
-cond_part : {X : Type 0} (f : Node → Option X) (b : Bool) (m : Node) (o : Option Node) → part f (cond b (Some m) o) ≡ cond b (f m) (part f o)
+cond_part : {X : Type 0} (f : NodeValue → Option X) (b : Bool) (m : NodeValue) (o : Option NodeValue) → part f (cond b (Some m) o) ≡ cond b (f m) (part f o)
 cond_part f true m o = refl
 cond_part f false m o = refl
 
-module _ {X : Type 0} (f : Node → Option X) (nodes : List Node) (d : Distinct (revs_in nodes)) (k : ℕ) (n m : Node) (at : slice_get nodes k ≡ Some n) (same : m.rev ≡ n.rev) where
+module _ {X : Type 0} (f : NodeValue → Option X) (nodes : List NodeValue) (d : Distinct (revs_in nodes)) (k : ℕ) (n m : NodeValue) (at : slice_get nodes k ≡ Some n) (same : m.rev ≡ n.rev) where
   still_distinct : Distinct (revs_in (set nodes k m))
   still_distinct = subst Distinct (sym (revs_in-set nodes k n m at same)) d
 
@@ -58,22 +58,22 @@ module _ {X : Type 0} (f : Node → Option X) (nodes : List Node) (d : Distinct 
 
 -- ---- what holds of each node, with the marks told by a test
 
-pub record IsMarked (nodes : List Node) (mark : RevId → Bool) : Type 0 where
+pub record IsMarked (nodes : List NodeValue) (mark : RevId → Bool) : Type 0 where
   pub once : Distinct (revs_in nodes)
-  pub within : (q : RevId) (n : Node) → node_of nodes q ≡ Some n → IfSome n.parent (λ i. i < length nodes)
-  pub child : (q : RevId) (n : Node) → node_of nodes q ≡ Some n → n.has_child ≡ mark n.rev
+  pub within : (q : RevId) (n : NodeValue) → node_of nodes q ≡ Some n → IfSome n.parent (λ i. i < length nodes)
+  pub child : (q : RevId) (n : NodeValue) → node_of nodes q ≡ Some n → n.has_child ≡ mark n.rev
 
-pub marked_from_linked : (nodes : List Node) → IsLinked nodes → IsMarked nodes (is_parent (tree_of nodes))
+pub marked_from_linked : (nodes : List NodeValue) → IsLinked nodes → IsMarked nodes (is_parent (tree_of nodes))
 marked_from_linked nodes h = record { once = h.once; within = λ q n e. (h.each q n e).parent; child = λ q n e. (h.each q n e).child }
 
-pub linked_from_marked : (nodes : List Node) (mark : RevId → Bool) → ((q : RevId) → mark q ≡ is_parent (tree_of nodes) q) → IsMarked nodes mark → IsLinked nodes
+pub linked_from_marked : (nodes : List NodeValue) (mark : RevId → Bool) → ((q : RevId) → mark q ≡ is_parent (tree_of nodes) q) → IsMarked nodes mark → IsLinked nodes
 linked_from_marked nodes mark is h = record { once = h.once; each = λ q n e. record { parent = h.within q n e; child = h.child q n e ∙ is n.rev } }
 
-set_cases : (b : Bool) (m : Node) (o : Option Node) (x : Node) → cond b (Some m) o ≡ Some x → (x ≡ m) ⊎ ((b ≡ false) × (o ≡ Some x))
+set_cases : (b : Bool) (m : NodeValue) (o : Option NodeValue) (x : NodeValue) → cond b (Some m) o ≡ Some x → (x ≡ m) ⊎ ((b ≡ false) × (o ≡ Some x))
 set_cases true m o x h = inl (sym (some_is m x h))
 set_cases false m o x h = inr (refl, h)
 
-pub marked_set : (nodes : List Node) (mark after : RevId → Bool) (k : ℕ) (n m : Node) → IsMarked nodes mark → slice_get nodes k ≡ Some n → m.rev ≡ n.rev
+pub marked_set : (nodes : List NodeValue) (mark after : RevId → Bool) (k : ℕ) (n m : NodeValue) → IsMarked nodes mark → slice_get nodes k ≡ Some n → m.rev ≡ n.rev
     → IfSome m.parent (λ i. i < length nodes) → m.has_child ≡ after m.rev
     → ((q : RevId) → eq_by_cmp rev_cmp q n.rev ≡ false → mark q ≡ after q) → IsMarked (set nodes k m) after
 marked_set nodes mark after k n m h at same low told others = record {
@@ -81,22 +81,22 @@ marked_set nodes mark after k n m h at same low told others = record {
   within = λ q x e.
       let long : length (set nodes k m) ≡ length nodes = length-set nodes k m in
       elim (set_cases (eq_by_cmp rev_cmp q n.rev) m (node_of nodes q) x (sym (node_of-set nodes h.once k n m at same q) ∙ e)) [
-        | inl is ↦ subst (λ (y : Node). IfSome y.parent (λ i. i < length (set nodes k m))) (sym is) (subst (λ l. IfSome m.parent (λ i. i < l)) (sym long) low)
+        | inl is ↦ subst (λ (y : NodeValue). IfSome y.parent (λ i. i < length (set nodes k m))) (sym is) (subst (λ l. IfSome m.parent (λ i. i < l)) (sym long) low)
         | inr old ↦ subst (λ l. IfSome x.parent (λ i. i < l)) (sym long) (h.within q x old.1)
       ];
   child = λ q x e.
       elim (set_cases (eq_by_cmp rev_cmp q n.rev) m (node_of nodes q) x (sym (node_of-set nodes h.once k n m at same q) ∙ e)) [
-        | inl is ↦ ap (λ (y : Node). y.has_child) is ∙ told ∙ ap (λ (y : Node). after y.rev) (sym is)
+        | inl is ↦ ap (λ (y : NodeValue). y.has_child) is ∙ told ∙ ap (λ (y : NodeValue). after y.rev) (sym is)
         | inr old ↦ h.child q x old.1 ∙ others x.rev (ap (λ r. eq_by_cmp rev_cmp r n.rev) (node_rev nodes q x old.1) ∙ old.0)
       ];
 }
 
 -- ---- the content of a node
 
-abbrev pub with_body : Node → ContentValue → Node
+abbrev pub with_body : NodeValue → ContentValue → NodeValue
 with_body n b = record { rev = n.rev; parent = n.parent; content = Some b; origin = n.origin; has_child = n.has_child }
 
-module _ (nodes : List Node) (k : ℕ) (n : Node) (linked : IsLinked nodes) (at : slice_get nodes k ≡ Some n) where
+module _ (nodes : List NodeValue) (k : ℕ) (n : NodeValue) (linked : IsLinked nodes) (at : slice_get nodes k ≡ Some n) where
   same_node : node_of nodes n.rev ≡ Some n
   same_node = node_at nodes linked.once k n at
 
@@ -114,8 +114,8 @@ module _ (nodes : List Node) (k : ℕ) (n : Node) (linked : IsLinked nodes) (at 
 
     pub tree_given : n.content ≡ None → (r : RevId) → slice_get (revs_in nodes) k ≡ Some r → tree_of (set nodes k (with_body n b)) ≡ with_content (tree_of nodes) r b
     tree_given none r is =
-        let os = part_kept (λ (x : Node). Some x.origin) nodes linked.once k n (with_body n b) at refl refl in
-        let cs = part_filled (λ (x : Node). x.content) nodes linked.once k n (with_body n b) at refl b none refl ∙ ap (λ q. joined (tree_of nodes).contents ((q, b) ∷ [])) (rev_is r is) in
+        let os = part_kept (λ (x : NodeValue). Some x.origin) nodes linked.once k n (with_body n b) at refl refl in
+        let cs = part_filled (λ (x : NodeValue). x.content) nodes linked.once k n (with_body n b) at refl b none refl ∙ ap (λ q. joined (tree_of nodes).contents ((q, b) ∷ [])) (rev_is r is) in
         λ i. record { origins = os i; parents = given_parents i; contents = cs i }
 
     pub linked_given : IsLinked (set nodes k (with_body n b))
@@ -130,16 +130,16 @@ module _ (nodes : List Node) (k : ℕ) (n : Node) (linked : IsLinked nodes) (at 
   -- a node that has one keeps it
   pub tree_has : (b : ContentValue) → is_some n.content ≡ true → (r : RevId) → slice_get (revs_in nodes) k ≡ Some r → tree_of nodes ≡ with_content (tree_of nodes) r b
   tree_has b some r is =
-      let there = ap is_some (get-contents nodes linked.once r ∙ ap (λ q. part (λ (x : Node). x.content) (node_of nodes q)) (sym (rev_is r is)) ∙ ap (part (λ (x : Node). x.content)) same_node) ∙ some in
+      let there = ap is_some (get-contents nodes linked.once r ∙ ap (λ q. part (λ (x : NodeValue). x.content) (node_of nodes q)) (sym (rev_is r is)) ∙ ap (part (λ (x : NodeValue). x.content)) same_node) ∙ some in
       let cs = same_joined (tree_of nodes).contents ((r, b) ∷ []) (ap (λ t. t && true) there) in
       λ i. record { origins = (tree_of nodes).origins; parents = (tree_of nodes).parents; contents = sym cs i }
 
 -- ---- an edge
 
-abbrev pub with_parent : Node → ℕ → Node
+abbrev pub with_parent : NodeValue → ℕ → NodeValue
 with_parent n j = record { rev = n.rev; parent = Some j; content = n.content; origin = n.origin; has_child = n.has_child }
 
-abbrev pub with_mark : Node → Node
+abbrev pub with_mark : NodeValue → NodeValue
 with_mark n = record { rev = n.rev; parent = n.parent; content = n.content; origin = n.origin; has_child = true }
 
 -- whose parent a new edge names
@@ -176,11 +176,11 @@ within_known revs (Some i) h low = there revs i low
     there (r ∷ revs) zero h = refl
     there (r ∷ revs) (suc i) h = there revs i (omega arith)
 
-pub length-revs_in : (nodes : List Node) → length (revs_in nodes) ≡ length nodes
-length-revs_in nodes = length-map nodes (λ (n : Node). n.rev)
+pub length-revs_in : (nodes : List NodeValue) → length (revs_in nodes) ≡ length nodes
+length-revs_in nodes = length-map nodes (λ (n : NodeValue). n.rev)
 
 -- the child n at its place k names the place j, and then the node m that is at j is marked
-module _ (nodes : List Node) (k j : ℕ) (n m : Node) (linked : IsLinked nodes) (at : slice_get nodes k ≡ Some n) (low : j < length nodes) (none : n.parent ≡ None)
+module _ (nodes : List NodeValue) (k j : ℕ) (n m : NodeValue) (linked : IsLinked nodes) (at : slice_get nodes k ≡ Some n) (low : j < length nodes) (none : n.parent ≡ None)
     (there : slice_get (set nodes k (with_parent n j)) j ≡ Some m) where
   once_named : Distinct (revs_in (set nodes k (with_parent n j)))
   once_named = subst Distinct (sym (revs_in-set nodes k n (with_parent n j) at refl)) linked.once
@@ -189,13 +189,13 @@ module _ (nodes : List Node) (k j : ℕ) (n m : Node) (linked : IsLinked nodes) 
   revs_linked = revs_in-set (set nodes k (with_parent n j)) j m (with_mark m) there refl ∙ revs_in-set nodes k n (with_parent n j) at refl
 
   -- a part that is not touched
-  kept_twice : {X : Type 0} (f : Node → Option X) → f (with_parent n j) ≡ f n → f (with_mark m) ≡ f m → from_entries {R = rev_cmp} (entries_of f (set (set nodes k (with_parent n j)) j (with_mark m))) ≡ from_entries (entries_of f nodes)
+  kept_twice : {X : Type 0} (f : NodeValue → Option X) → f (with_parent n j) ≡ f n → f (with_mark m) ≡ f m → from_entries {R = rev_cmp} (entries_of f (set (set nodes k (with_parent n j)) j (with_mark m))) ≡ from_entries (entries_of f nodes)
   kept_twice f e g = part_kept f (set nodes k (with_parent n j)) once_named j m (with_mark m) there refl g ∙ part_kept f nodes linked.once k n (with_parent n j) at refl e
 
   pub tree_linked : (c p : RevId) → slice_get (revs_in nodes) k ≡ Some c → slice_get (revs_in nodes) j ≡ Some p → tree_of (set (set nodes k (with_parent n j)) j (with_mark m)) ≡ with_edge (tree_of nodes) c p
   tree_linked c p is_child is_new =
-      let os = kept_twice (λ (x : Node). Some x.origin) refl refl in
-      let cs = kept_twice (λ (x : Node). x.content) refl refl in
+      let os = kept_twice (λ (x : NodeValue). Some x.origin) refl refl in
+      let cs = kept_twice (λ (x : NodeValue). x.content) refl refl in
       let ps =
       ap (λ revs. from_entries {R = rev_cmp} (entries_of (parent_in revs) (set (set nodes k (with_parent n j)) j (with_mark m)))) revs_linked
       ∙ part_kept (parent_in (revs_in nodes)) (set nodes k (with_parent n j)) once_named j m (with_mark m) there refl refl
@@ -222,8 +222,25 @@ module _ (nodes : List Node) (k j : ℕ) (n m : Node) (linked : IsLinked nodes) 
       ∙ ap (λ u. is_parent u q) (sym (tree_linked n.rev m.rev (rev_at_place nodes k n at) (ap (λ revs. slice_get revs j) (sym (revs_in-set nodes k n (with_parent n j) at refl)) ∙ rev_at_place (set nodes k (with_parent n j)) j m there))))
       second
 
+-- what an edge from the node at one place to that at another makes of the nodes
+pub record IsEdged (nodes after : List NodeValue) (k j : ℕ) : Type 0 where
+  pub revs : revs_in after ≡ revs_in nodes
+  pub linked : IsLinked after
+  pub tree : (c p : RevId) → slice_get (revs_in nodes) k ≡ Some c → slice_get (revs_in nodes) j ≡ Some p → tree_of after ≡ with_edge (tree_of nodes) c p
+
+pub edged : (nodes : List NodeValue) (k j : ℕ) (n m child parent : NodeValue) → IsLinked nodes → slice_get nodes k ≡ Some n → j < length nodes → n.parent ≡ None
+    → child ≡ with_parent n j → slice_get (set nodes k child) j ≡ Some m → parent ≡ with_mark m → IsEdged nodes (set (set nodes k child) j parent) k j
+edged nodes k j n m child parent linked at low none is_child there is_parent =
+    let named = subst (λ x. slice_get (set nodes k x) j ≡ Some m) is_child there in
+    subst (λ x. IsEdged nodes (set (set nodes k x) j parent) k j) (sym is_child)
+    (subst (λ x. IsEdged nodes (set (set nodes k (with_parent n j)) j x) k j) (sym is_parent) (record {
+      revs = revs_linked nodes k j n m linked at low none named;
+      linked = linked_linked nodes k j n m linked at low none named;
+      tree = tree_linked nodes k j n m linked at low none named;
+    }))
+
 -- a child that has a parent keeps it
-pub tree_named : (nodes : List Node) (k : ℕ) (n : Node) → IsLinked nodes → slice_get nodes k ≡ Some n → is_some n.parent ≡ true → (c p : RevId) → slice_get (revs_in nodes) k ≡ Some c → tree_of nodes ≡ with_edge (tree_of nodes) c p
+pub tree_named : (nodes : List NodeValue) (k : ℕ) (n : NodeValue) → IsLinked nodes → slice_get nodes k ≡ Some n → is_some n.parent ≡ true → (c p : RevId) → slice_get (revs_in nodes) k ≡ Some c → tree_of nodes ≡ with_edge (tree_of nodes) c p
 tree_named nodes k n linked at some c p is =
     let own = linked.each n.rev n (same_node nodes k n linked at) in
     let there =
@@ -234,7 +251,7 @@ tree_named nodes k n linked at some c p is =
 
 -- ---- a new node at the end
 
-abbrev pub new_node : RevId → Origin → Node
+abbrev pub new_node : RevId → Origin → NodeValue
 new_node r o = record { rev = r; parent = None; content = None; origin = o; has_child = false }
 
 get_left : (revs : List RevId) (r : RevId) (i : ℕ) → i < length revs → slice_get (revs ++ r ∷ []) i ≡ slice_get revs i
@@ -246,7 +263,7 @@ rev_at_push : (revs : List RevId) (r : RevId) (o : Option ℕ) → IfSome o (λ 
 rev_at_push revs r None h = refl
 rev_at_push revs r (Some i) h = get_left revs r i h
 
-parent_among : (revs : List RevId) (o : Option Node) (r : RevId) → part (parent_in revs) o ≡ Some r → is_among r revs ≡ true
+parent_among : (revs : List RevId) (o : Option NodeValue) (r : RevId) → part (parent_in revs) o ≡ Some r → is_among r revs ≡ true
 parent_among revs None r h = absurd (false≢true (ap is_some h))
 parent_among revs (Some n) r h = by n.parent h
   where
@@ -255,7 +272,7 @@ parent_among revs (Some n) r h = by n.parent h
     by (Some i) h = among_at revs i r h
 
 -- a revision that has no node is nobody's parent
-nobodys : (nodes : List Node) → Distinct (revs_in nodes) → (r : RevId) → node_of nodes r ≡ None → is_parent (tree_of nodes) r ≡ false
+nobodys : (nodes : List NodeValue) → Distinct (revs_in nodes) → (r : RevId) → node_of nodes r ≡ None → is_parent (tree_of nodes) r ≡ false
 nobodys nodes d r none =
     elim (is_parent (tree_of nodes) r) as (λ b. is_parent (tree_of nodes) r ≡ b → b ≡ false) [
       | true ↦ λ h.
@@ -264,21 +281,21 @@ nobodys nodes d r none =
       | false ↦ λ _. refl
     ] refl
 
-module _ (nodes : List Node) (r : RevId) (o : Origin) (linked : IsLinked nodes) (new : node_of nodes r ≡ None) where
+module _ (nodes : List NodeValue) (r : RevId) (o : Origin) (linked : IsLinked nodes) (new : node_of nodes r ≡ None) where
   once_added : Distinct (revs_in (nodes ++ new_node r o ∷ []))
   once_added = subst Distinct (sym (revs_in-push nodes (new_node r o))) (distinct_push (revs_in nodes) r linked.once (sym (is_some-node_of nodes r) ∙ ap is_some new))
 
-  added_origin : (x : Option Node) (b : Bool) → part (λ n. Some n.origin) (option_or x (cond b (Some (new_node r o)) None)) ≡ option_or (part (λ n. Some n.origin) x) (cond b (Some o) None)
+  added_origin : (x : Option NodeValue) (b : Bool) → part (λ n. Some n.origin) (option_or x (cond b (Some (new_node r o)) None)) ≡ option_or (part (λ n. Some n.origin) x) (cond b (Some o) None)
   added_origin None true = refl
   added_origin None false = refl
   added_origin (Some x) b = refl
 
-  added_content : (x : Option Node) (b : Bool) → part (λ n. n.content) (option_or x (cond b (Some (new_node r o)) None)) ≡ part (λ n. n.content) x
+  added_content : (x : Option NodeValue) (b : Bool) → part (λ n. n.content) (option_or x (cond b (Some (new_node r o)) None)) ≡ part (λ n. n.content) x
   added_content None true = refl
   added_content None false = refl
   added_content (Some x) b = refl
 
-  added_parent : (x : Option Node) (b : Bool) → ((n : Node) → x ≡ Some n → IfSome n.parent (λ i. i < length nodes)) → part (parent_in (revs_in nodes ++ r ∷ [])) (option_or x (cond b (Some (new_node r o)) None)) ≡ part (parent_in (revs_in nodes)) x
+  added_parent : (x : Option NodeValue) (b : Bool) → ((n : NodeValue) → x ≡ Some n → IfSome n.parent (λ i. i < length nodes)) → part (parent_in (revs_in nodes ++ r ∷ [])) (option_or x (cond b (Some (new_node r o)) None)) ≡ part (parent_in (revs_in nodes)) x
   added_parent None true h = refl
   added_parent None false h = refl
   added_parent (Some x) b h = rev_at_push (revs_in nodes) r x.parent (subst (λ l. IfSome x.parent (λ i. i < l)) (sym (length-revs_in nodes)) (h x refl))
@@ -303,7 +320,7 @@ module _ (nodes : List Node) (r : RevId) (o : Origin) (linked : IsLinked nodes) 
   same_marks : (q : RevId) → is_parent (tree_of nodes) q ≡ is_parent (tree_of (nodes ++ new_node r o ∷ [])) q
   same_marks q = λ i. is_parent (record { origins = (tree_of nodes).origins; parents = sym parents_added i; contents = (tree_of nodes).contents }) q
 
-  the_new : (b : Bool) (n : Node) → cond b (Some (new_node r o)) None ≡ Some n → n ≡ new_node r o
+  the_new : (b : Bool) (n : NodeValue) → cond b (Some (new_node r o)) None ≡ Some n → n ≡ new_node r o
   the_new true n h = sym (some_is (new_node r o) n h)
   the_new false n h = absurd (false≢true (ap is_some h))
 
@@ -321,7 +338,7 @@ module _ (nodes : List Node) (r : RevId) (o : Origin) (linked : IsLinked nodes) 
   }
 
 -- a revision that is there
-pub tree_known : (nodes : List Node) (r : RevId) (o : Origin) (n : Node) → IsLinked nodes → node_of nodes r ≡ Some n → tree_of nodes ≡ with_rev (tree_of nodes) r o
+pub tree_known : (nodes : List NodeValue) (r : RevId) (o : Origin) (n : NodeValue) → IsLinked nodes → node_of nodes r ≡ Some n → tree_of nodes ≡ with_rev (tree_of nodes) r o
 tree_known nodes r o n linked is =
-    let os = same_joined (tree_of nodes).origins ((r, o) ∷ []) (ap (λ t. t && true) (ap is_some (get-origins nodes linked.once r ∙ ap (part (λ (x : Node). Some x.origin)) is))) in
+    let os = same_joined (tree_of nodes).origins ((r, o) ∷ []) (ap (λ t. t && true) (ap is_some (get-origins nodes linked.once r ∙ ap (part (λ (x : NodeValue). Some x.origin)) is))) in
     λ i. record { origins = sym os i; parents = (tree_of nodes).parents; contents = (tree_of nodes).contents }

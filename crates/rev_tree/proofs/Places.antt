@@ -13,21 +13,21 @@ use Rattle.rev_core.specs.RevOrder.{rev_cmp_total, rev_tie_is, rev_tie_self}
 use Rattle.rev_core.specs.Ancestry.{is_among}
 use Rattle.rev_tree.specs.TreeLaws.{find-joined}
 use Rattle.rev_tree.specs.Nodes.{revs_in, node_of, place_of, places_from, Distinct}
-use Rattle.rev_tree.specs.declared.nodes.Node.{Node}
+use Rattle.rev_tree.specs.Node.{NodeValue}
 
 pub some_is : {X : Type 0} (x y : X) → Some x ≡ Some y → x ≡ y
 some_is x y e = ap (λ o. option_map_or (λ v. v) o x) e
 
 -- the place, counted from i, is that of the revision's node
-pub record IsFound (nodes : List Node) (q : RevId) (i j : ℕ) : Type 0 where
+pub record IsFound (nodes : List NodeValue) (q : RevId) (i j : ℕ) : Type 0 where
   pub place : ℕ
-  pub node : Node
+  pub node : NodeValue
   pub is : j ≡ i + place
   pub at : slice_get nodes place ≡ Some node
   pub found : node_of nodes q ≡ Some node
   pub rev : node.rev ≡ q
 
-pub place_found : (nodes : List Node) (q : RevId) (i j : ℕ) → find rev_cmp q (places_from i (revs_in nodes)) ≡ Some j → IsFound nodes q i j
+pub place_found : (nodes : List NodeValue) (q : RevId) (i j : ℕ) → find rev_cmp q (places_from i (revs_in nodes)) ≡ Some j → IsFound nodes q i j
 place_found [] q i j h = absurd (false≢true (ap is_some h))
 place_found (n ∷ nodes) q i j h =
     elim (eq_by_cmp rev_cmp q n.rev) as (λ b. eq_by_cmp rev_cmp q n.rev ≡ b → cond b (Some i) (find rev_cmp q (places_from (i + 1) (revs_in nodes))) ≡ Some j → IsFound (n ∷ nodes) q i j) [
@@ -54,7 +54,7 @@ place_found (n ∷ nodes) q i j h =
     ] refl h
 
 -- and no place where there is no node
-pub place_none : (nodes : List Node) (q : RevId) (i : ℕ) → is_some (find rev_cmp q (places_from i (revs_in nodes))) ≡ is_some (node_of nodes q)
+pub place_none : (nodes : List NodeValue) (q : RevId) (i : ℕ) → is_some (find rev_cmp q (places_from i (revs_in nodes))) ≡ is_some (node_of nodes q)
 place_none [] q i = refl
 place_none (n ∷ nodes) q i =
     elim (eq_by_cmp rev_cmp q n.rev) as (λ b. is_some (cond b (Some i) (find rev_cmp q (places_from (i + 1) (revs_in nodes)))) ≡ is_some (cond b (Some n) (node_of nodes q))) [
@@ -67,7 +67,7 @@ none_of None h = refl
 none_of (Some x) h = absurd (false≢true (sym h))
 
 -- a node is found just where the revision is among those of the nodes
-pub is_some-node_of : (nodes : List Node) (q : RevId) → is_some (node_of nodes q) ≡ is_among q (revs_in nodes)
+pub is_some-node_of : (nodes : List NodeValue) (q : RevId) → is_some (node_of nodes q) ≡ is_among q (revs_in nodes)
 is_some-node_of [] q = refl
 is_some-node_of (n ∷ nodes) q =
     elim (eq_by_cmp rev_cmp q n.rev) as (λ b. is_some (cond b (Some n) (node_of nodes q)) ≡ (b || is_among q (revs_in nodes))) [
@@ -76,16 +76,16 @@ is_some-node_of (n ∷ nodes) q =
     ]
 
 -- the node of a revision has it
-pub node_rev : (nodes : List Node) (q : RevId) (n : Node) → node_of nodes q ≡ Some n → n.rev ≡ q
+pub node_rev : (nodes : List NodeValue) (q : RevId) (n : NodeValue) → node_of nodes q ≡ Some n → n.rev ≡ q
 node_rev [] q n h = absurd (false≢true (ap is_some h))
 node_rev (m ∷ nodes) q n h =
     elim (eq_by_cmp rev_cmp q m.rev) as (λ b. eq_by_cmp rev_cmp q m.rev ≡ b → cond b (Some m) (node_of nodes q) ≡ Some n → n.rev ≡ q) [
-      | true ↦ λ tie k. ap (λ (x : Node). x.rev) (sym (some_is m n k)) ∙ sym (rev_tie_is q m.rev tie)
+      | true ↦ λ tie k. ap (λ (x : NodeValue). x.rev) (sym (some_is m n k)) ∙ sym (rev_tie_is q m.rev tie)
       | false ↦ λ _ k. node_rev nodes q n k
     ] refl h
 
-pub rev_at_place : (nodes : List Node) (k : ℕ) (n : Node) → slice_get nodes k ≡ Some n → slice_get (revs_in nodes) k ≡ Some n.rev
-rev_at_place nodes k n h = slice_get-map (λ (m : Node). m.rev) nodes k ∙ ap (option_map (λ (m : Node). m.rev)) h
+pub rev_at_place : (nodes : List NodeValue) (k : ℕ) (n : NodeValue) → slice_get nodes k ≡ Some n → slice_get (revs_in nodes) k ≡ Some n.rev
+rev_at_place nodes k n h = slice_get-map (λ (m : NodeValue). m.rev) nodes k ∙ ap (option_map (λ (m : NodeValue). m.rev)) h
 
 pub among_at : (revs : List RevId) (k : ℕ) (r : RevId) → slice_get revs k ≡ Some r → is_among r revs ≡ true
 among_at [] k r h = absurd (false≢true (ap is_some h))
@@ -101,11 +101,11 @@ apart_from x revs r none h =
     ] refl
 
 -- the node at a place is that of its revision
-pub node_at : (nodes : List Node) → Distinct (revs_in nodes) → (k : ℕ) (n : Node) → slice_get nodes k ≡ Some n → node_of nodes n.rev ≡ Some n
+pub node_at : (nodes : List NodeValue) → Distinct (revs_in nodes) → (k : ℕ) (n : NodeValue) → slice_get nodes k ≡ Some n → node_of nodes n.rev ≡ Some n
 node_at [] d k n h = absurd (false≢true (ap is_some h))
 node_at (m ∷ nodes) d zero n h =
     let same = some_is m n h in
-    ap (λ (x : Node). cond (eq_by_cmp rev_cmp n.rev x.rev) (Some x) (node_of nodes n.rev)) same
+    ap (λ (x : NodeValue). cond (eq_by_cmp rev_cmp n.rev x.rev) (Some x) (node_of nodes n.rev)) same
     ∙ ap (λ b. cond b (Some n) (node_of nodes n.rev)) (rev_tie_self n.rev)
 node_at (m ∷ nodes) d (suc k) n h =
     ap (λ b. cond b (Some m) (node_of nodes n.rev)) (apart_from m.rev (revs_in nodes) n.rev d.0 (among_at (revs_in nodes) k n.rev (rev_at_place nodes k n h)))
@@ -113,11 +113,11 @@ node_at (m ∷ nodes) d (suc k) n h =
 
 -- ---- one node more
 
-pub node_of-push : (nodes : List Node) (n : Node) (q : RevId) → node_of (nodes ++ n ∷ []) q ≡ option_or (node_of nodes q) (cond (eq_by_cmp rev_cmp q n.rev) (Some n) None)
-node_of-push nodes n q = ap (find rev_cmp q) (map-append (λ (m : Node). (m.rev, m)) nodes (n ∷ [])) ∙ find-joined q (map (λ (m : Node). (m.rev, m)) nodes) ((n.rev, n) ∷ [])
+pub node_of-push : (nodes : List NodeValue) (n : NodeValue) (q : RevId) → node_of (nodes ++ n ∷ []) q ≡ option_or (node_of nodes q) (cond (eq_by_cmp rev_cmp q n.rev) (Some n) None)
+node_of-push nodes n q = ap (find rev_cmp q) (map-append (λ (m : NodeValue). (m.rev, m)) nodes (n ∷ [])) ∙ find-joined q (map (λ (m : NodeValue). (m.rev, m)) nodes) ((n.rev, n) ∷ [])
 
-pub revs_in-push : (nodes : List Node) (n : Node) → revs_in (nodes ++ n ∷ []) ≡ revs_in nodes ++ n.rev ∷ []
-revs_in-push nodes n = map-append (λ (m : Node). m.rev) nodes (n ∷ [])
+pub revs_in-push : (nodes : List NodeValue) (n : NodeValue) → revs_in (nodes ++ n ∷ []) ≡ revs_in nodes ++ n.rev ∷ []
+revs_in-push nodes n = map-append (λ (m : NodeValue). m.rev) nodes (n ∷ [])
 
 pub two_false : (a b : Bool) → (a || b) ≡ false → (a ≡ false) × (b ≡ false)
 two_false true b h = absurd (false≢true (sym h))
@@ -157,14 +157,14 @@ slice_get-last (y ∷ xs) x = slice_get-last xs x
 
 -- ---- places from the beginning
 
-pub record IsNodeOf (nodes : List Node) (q : RevId) (i : ℕ) : Type 0 where
-  pub node : Node
+pub record IsNodeOf (nodes : List NodeValue) (q : RevId) (i : ℕ) : Type 0 where
+  pub node : NodeValue
   pub at : slice_get nodes i ≡ Some node
   pub found : node_of nodes q ≡ Some node
   pub rev : node.rev ≡ q
   pub within : i < length nodes
 
-pub place_known : (nodes : List Node) (q : RevId) (i : ℕ) → place_of nodes q ≡ Some i → IsNodeOf nodes q i
+pub place_known : (nodes : List NodeValue) (q : RevId) (i : ℕ) → place_of nodes q ≡ Some i → IsNodeOf nodes q i
 place_known nodes q i h =
     let f = place_found nodes q 0 i h in
     let same : f.place ≡ i = omega (arith, f.is) in
@@ -176,19 +176,19 @@ place_known nodes q i h =
       within = omega (arith, f.is, slice_get_within nodes f.place f.node f.at);
     }
 
-pub place_unknown : (nodes : List Node) (q : RevId) → place_of nodes q ≡ None → node_of nodes q ≡ None
+pub place_unknown : (nodes : List NodeValue) (q : RevId) → place_of nodes q ≡ None → node_of nodes q ≡ None
 place_unknown nodes q h = none_of _ (sym (place_none nodes q 0) ∙ ap is_some h)
 
-pub place_within : (nodes : List Node) (q : RevId) (o : Option ℕ) → o ≡ place_of nodes q → IfSome o (λ i. i < length nodes)
+pub place_within : (nodes : List NodeValue) (q : RevId) (o : Option ℕ) → o ≡ place_of nodes q → IfSome o (λ i. i < length nodes)
 place_within nodes q None is = tt
 place_within nodes q (Some i) is = (place_known nodes q i (sym is)).within
 
 -- the place at which a revision stands
-placed_at : (nodes : List Node) → Distinct (revs_in nodes) → (i k : ℕ) (n : Node) → slice_get nodes k ≡ Some n → find rev_cmp n.rev (places_from i (revs_in nodes)) ≡ Some (i + k)
+placed_at : (nodes : List NodeValue) → Distinct (revs_in nodes) → (i k : ℕ) (n : NodeValue) → slice_get nodes k ≡ Some n → find rev_cmp n.rev (places_from i (revs_in nodes)) ≡ Some (i + k)
 placed_at [] d i k n h = absurd (false≢true (ap is_some h))
 placed_at (m ∷ nodes) d i zero n h =
     let here : i ≡ i + 0 = omega arith in
-    ap (λ (x : Node). cond (eq_by_cmp rev_cmp n.rev x.rev) (Some i) (find rev_cmp n.rev (places_from (i + 1) (revs_in nodes)))) (some_is m n h)
+    ap (λ (x : NodeValue). cond (eq_by_cmp rev_cmp n.rev x.rev) (Some i) (find rev_cmp n.rev (places_from (i + 1) (revs_in nodes)))) (some_is m n h)
     ∙ ap (λ b. cond b (Some i) (find rev_cmp n.rev (places_from (i + 1) (revs_in nodes)))) (rev_tie_self n.rev)
     ∙ ap Some here
 placed_at (m ∷ nodes) d i (suc k) n h =
@@ -196,7 +196,7 @@ placed_at (m ∷ nodes) d i (suc k) n h =
     ap (λ b. cond b (Some i) (find rev_cmp n.rev (places_from (i + 1) (revs_in nodes)))) (apart_from m.rev (revs_in nodes) n.rev d.0 (among_at (revs_in nodes) k n.rev (rev_at_place nodes k n h)))
     ∙ placed_at nodes d.1 (i + 1) k n h ∙ ap Some later
 
-pub place_at : (nodes : List Node) → Distinct (revs_in nodes) → (k : ℕ) (n : Node) (q : RevId) → slice_get nodes k ≡ Some n → eq_by_cmp rev_cmp q n.rev ≡ true → place_of nodes q ≡ Some k
+pub place_at : (nodes : List NodeValue) → Distinct (revs_in nodes) → (k : ℕ) (n : NodeValue) (q : RevId) → slice_get nodes k ≡ Some n → eq_by_cmp rev_cmp q n.rev ≡ true → place_of nodes q ≡ Some k
 place_at nodes d k n q h tie =
     let here : 0 + k ≡ k = omega arith in
     ap (place_of nodes) (rev_tie_is q n.rev tie) ∙ placed_at nodes d 0 k n h ∙ ap Some here

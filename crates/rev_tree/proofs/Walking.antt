@@ -7,17 +7,17 @@ use Rattle.rev_tree.specs.Tree.{TreeValue, IsTree, has, ancestors}
 use Rattle.rev_tree.specs.LeafLaws.{ancestors_step, ancestors_last}
 use Rattle.rev_tree.specs.Nodes.{revs_in, rev_at, place_of, tree_of, IsLinked}
 use Rattle.rev_tree.specs.Walks.{ancestors_at}
-use Rattle.rev_tree.specs.declared.nodes.Node.{Node}
+use Rattle.rev_tree.specs.Node.{NodeValue}
 use Rattle.rev_tree.proofs.Places.{node_at, rev_at_place, place_known}
 use Rattle.rev_tree.proofs.Linking.{length-revs_in}
 use Rattle.rev_tree.proofs.Lookups.{has_is, parent_is}
 
 -- the generation at a place
-abbrev pub generation_at : List Node → ℕ → ℕ
+abbrev pub generation_at : List NodeValue → ℕ → ℕ
 generation_at nodes i = option_map_or (λ (r : RevId). r.generation) (slice_get (revs_in nodes) i) 0
 
 -- from a node to its parent at p
-pub record IsStep (nodes : List Node) (i p : ℕ) (n : Node) : Type 0 where
+pub record IsStep (nodes : List NodeValue) (i p : ℕ) (n : NodeValue) : Type 0 where
   pub within : p < length nodes
   pub falls : generation_at nodes p < generation_at nodes i
   pub walk : ancestors_at nodes i ≡ n.rev ∷ ancestors_at nodes p
@@ -27,7 +27,7 @@ there [] i h = absurd (omega arith)
 there (x ∷ xs) zero h = (x, refl)
 there (x ∷ xs) (suc i) h = there xs i (omega arith)
 
-module _ (nodes : List Node) (linked : IsLinked nodes) (i : ℕ) (n : Node) (at : slice_get nodes i ≡ Some n) where
+module _ (nodes : List NodeValue) (linked : IsLinked nodes) (i : ℕ) (n : NodeValue) (at : slice_get nodes i ≡ Some n) where
   pub ancestors_here : ancestors_at nodes i ≡ ancestors (tree_of nodes) n.rev
   ancestors_here = ap (λ o. option_map_or (ancestors (tree_of nodes)) o []) (rev_at_place nodes i n at)
 
@@ -54,12 +54,12 @@ module _ (nodes : List Node) (linked : IsLinked nodes) (i : ℕ) (n : Node) (at 
   last is = ancestors_here ∙ ancestors_last (tree_of nodes) n.rev (known_parent ∙ ap (rev_at (revs_in nodes)) is)
 
 -- what the place of a revision gives
-pub record IsPlaceOf (nodes : List Node) (t : TreeValue) (q : RevId) (i : ℕ) : Type 0 where
+pub record IsPlaceOf (nodes : List NodeValue) (t : TreeValue) (q : RevId) (i : ℕ) : Type 0 where
   pub within : i < length nodes
   pub known : has t q ≡ true
   pub walk : ancestors_at nodes i ≡ ancestors t q
 
-pub place_is : (nodes : List Node) (t : TreeValue) (q : RevId) (i : ℕ) → IsLinked nodes → tree_of nodes ≡ t → place_of nodes q ≡ Some i → IsPlaceOf nodes t q i
+pub place_is : (nodes : List NodeValue) (t : TreeValue) (q : RevId) (i : ℕ) → IsLinked nodes → tree_of nodes ≡ t → place_of nodes q ≡ Some i → IsPlaceOf nodes t q i
 place_is nodes t q i linked view found =
     let f = place_known nodes q i found in
     record {

@@ -4,11 +4,11 @@ use Rattle.std.specs.FinMap as finmap
 use Rattle.rev_core.specs.Rev.{RevId, rev_cmp}
 use Rattle.rev_core.specs.Ancestry.{is_among}
 use Rattle.rev_tree.specs.Tree.{TreeValue, IsTree, is_parent}
-use Rattle.rev_tree.specs.declared.nodes.Node.{Node}
+use Rattle.rev_tree.specs.Node.{NodeValue}
 use Rattle.rev_tree.specs.declared.nodes.TheConstants.{MOST_WALKED}
 
 -- the revisions, by place
-abbrev pub revs_in : List Node → List RevId
+abbrev pub revs_in : List NodeValue → List RevId
 revs_in nodes = map (λ n. n.rev) nodes
 
 -- no revision comes twice
@@ -27,11 +27,11 @@ abbrev pub index_for : List RevId → List (RevId × ℕ)
 index_for revs = if nat_lt MOST_WALKED (length revs) then places_from 0 revs else []
 
 -- the place of a revision
-abbrev pub place_of : List Node → RevId → Option ℕ
+abbrev pub place_of : List NodeValue → RevId → Option ℕ
 place_of nodes r = finmap.find rev_cmp r (places_from 0 (revs_in nodes))
 
 -- the node of a revision
-abbrev pub node_of : List Node → RevId → Option Node
+abbrev pub node_of : List NodeValue → RevId → Option NodeValue
 node_of nodes r = finmap.find rev_cmp r (map (λ n. (n.rev, n)) nodes)
 
 -- the revision at a place, where one is named
@@ -40,7 +40,7 @@ rev_at revs None = None
 rev_at revs (Some i) = slice_get revs i
 
 -- the parent that a node names
-abbrev pub parent_in : List RevId → Node → Option RevId
+abbrev pub parent_in : List RevId → NodeValue → Option RevId
 parent_in revs n = rev_at revs n.parent
 
 -- one entry where there is a value
@@ -49,12 +49,12 @@ entry_of r None = []
 entry_of r (Some x) = (r, x) ∷ []
 
 -- what the nodes have, each at its revision
-abbrev pub entries_of : {X : Type 0} → (Node → Option X) → List Node → List (RevId × X)
+abbrev pub entries_of : {X : Type 0} → (NodeValue → Option X) → List NodeValue → List (RevId × X)
 entries_of f [] = []
 entries_of f (n ∷ nodes) = entry_of n.rev (f n) ++ entries_of f nodes
 
 -- the value of the nodes
-abbrev pub tree_of : List Node → TreeValue
+abbrev pub tree_of : List NodeValue → TreeValue
 tree_of nodes = record {
   origins = finmap.from_entries (entries_of (λ n. Some n.origin) nodes);
   parents = finmap.from_entries (entries_of (parent_in (revs_in nodes)) nodes);
@@ -62,17 +62,17 @@ tree_of nodes = record {
 }
 
 -- the place of the parent is one of the list's, and the mark tells whether the node is somebody's parent
-pub record IsNode (nodes : List Node) (n : Node) : Type 0 where
+pub record IsNode (nodes : List NodeValue) (n : NodeValue) : Type 0 where
   pub parent : IfSome n.parent (λ i. i < length nodes)
   pub child : n.has_child ≡ is_parent (tree_of nodes) n.rev
 
 -- what holds of the nodes, also while an ancestry is being put among them
-pub record IsLinked (nodes : List Node) : Type 0 where
+pub record IsLinked (nodes : List NodeValue) : Type 0 where
   pub once : Distinct (revs_in nodes)
-  pub each : (r : RevId) (n : Node) → node_of nodes r ≡ Some n → IsNode nodes n
+  pub each : (r : RevId) (n : NodeValue) → node_of nodes r ≡ Some n → IsNode nodes n
 
 -- what holds of the nodes and the index of a tree
-pub record IsIndexed (nodes : List Node) (entries : List (RevId × ℕ)) : Type 0 where
+pub record IsIndexed (nodes : List NodeValue) (entries : List (RevId × ℕ)) : Type 0 where
   pub index : entries ≡ index_for (revs_in nodes)
   pub linked : IsLinked nodes
   pub tree : IsTree (tree_of nodes)

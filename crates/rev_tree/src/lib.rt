@@ -6,6 +6,7 @@
 mod content;
 mod fault;
 mod merging;
+mod node;
 mod nodes;
 mod origin;
 mod place_index;

@@ -11,7 +11,8 @@ ghost use Rattle.rev_tree.specs.Nodes.{IsLinked, index_for, place_of, rev_at, re
 
 use crate::content::Content;
 use crate::fault::Contradiction;
-use crate::nodes::{MOST_WALKED, Node, index_rest, node_at, place_in, reserve_index};
+use crate::node::Node;
+use crate::nodes::{MOST_WALKED, index_rest, node_at, place_in, reserve_index};
 use crate::origin::Origin;
 use crate::place_index::Places;
 use rev_core::Rev;
@@ -39,7 +40,7 @@ pub(crate) fn knows_edges(
         let given = revs[i];
         match parent_at(nodes, place) {
             Some(parent) => {
-                let known = node_at(nodes, parent).rev;
+                let known = node_at(nodes, parent).rev();
                 if known != given {
                     let child = revs[i - 1];
                     return Err(Contradiction {
@@ -68,7 +69,7 @@ fn parent_at(nodes: &[Node], place: Option<usize>) -> Option<usize>
         → place ≡ place_of nodes.now r
         → rev_at (revs_in nodes.now) result ≡ get (tree_of nodes.now).parents r }
 {
-    node_at(nodes, place?).parent
+    node_at(nodes, place?).parent()
 }
 
 /// Makes room for the revisions of an ancestry, known ones too, and for no more where all together are few.
@@ -117,7 +118,7 @@ pub(crate) fn put(
     let mut child = add(nodes, places, None, revs[0], origin);
     give(nodes, child, content);
     for i in 1..revs.len() {
-        let near = nodes[child].parent;
+        let near = nodes[child].parent();
         let parent = add(nodes, places, near, revs[i], origin);
         link(nodes, child, parent);
         child = parent;
@@ -155,13 +156,7 @@ fn add(
         return place;
     }
     let place = nodes.as_slice().len();
-    nodes.push_reserved(Node {
-        rev,
-        parent: None,
-        content: None,
-        origin,
-        has_child: false,
-    });
+    nodes.push_reserved(Node::new(rev, origin));
     index_rest(nodes, places);
     place
 }
@@ -174,7 +169,7 @@ fn place_near(nodes: &[Node], places: &Places, near: Option<usize>, rev: Rev) ->
     ensures { result ≡ place_of nodes.now rev }
 {
     if let Some(place) = near {
-        if rev == node_at(nodes, place).rev {
+        if rev == node_at(nodes, place).rev() {
             return Some(place);
         }
     }
@@ -193,8 +188,8 @@ fn give(nodes: &mut Vec<Node>, place: usize, content: Content)
     ensures len { vec_len nodes.new ≡ vec_len nodes.old }
     ensures capacity { vec_capacity nodes.new ≡ vec_capacity nodes.old }
 {
-    if nodes[place].content.is_none() {
-        nodes[place].content = Some(content);
+    if nodes[place].content().is_none() {
+        nodes[place].give(content);
     }
 }
 
@@ -212,8 +207,8 @@ fn link(nodes: &mut Vec<Node>, child: usize, parent: usize)
     ensures len { vec_len nodes.new ≡ vec_len nodes.old }
     ensures capacity { vec_capacity nodes.new ≡ vec_capacity nodes.old }
 {
-    if nodes[child].parent.is_none() {
-        nodes[child].parent = Some(parent);
-        nodes[parent].has_child = true;
+    if nodes[child].parent().is_none() {
+        nodes[child].name_parent(parent);
+        nodes[parent].mark();
     }
 }

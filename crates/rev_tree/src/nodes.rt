@@ -4,26 +4,14 @@ ghost use Rattle.std.specs.Option.{option_copied};
 ghost use Rattle.rev_tree.specs.Room.{HasIndexRoom};
 ghost use Rattle.rev_tree.specs.declared.nodes.TheConstants.{MOST_WALKED};
 
-use crate::content::Content;
 use crate::fault::TreeFault;
-use crate::origin::Origin;
+use crate::node::Node;
 use crate::place_index::Places;
 use rev_core::Rev;
 use std::alloc::{AllocError, Global};
 
 /// The most nodes that are walked for a revision. From one more on an index has their places.
 pub(crate) const MOST_WALKED: usize = 8;
-
-/// A revision, the place of its parent where one is known, what stands at it where that is known, where it came
-/// from, and whether it is the parent of another node.
-#[derive(Drop)]
-pub(crate) struct Node {
-    pub(crate) rev: Rev,
-    pub(crate) parent: Option<usize>,
-    pub(crate) content: Option<Content>,
-    pub(crate) origin: Origin,
-    pub(crate) has_child: bool,
-}
 
 ghost use Rattle.rev_tree.specs.Nodes.{Distinct, index_for, node_of, place_of, places_from, revs_in};
 
@@ -60,7 +48,7 @@ fn walked_to(nodes: &[Node], rev: Rev) -> Option<usize>
     ensures { result ≡ place_of nodes.now rev }
 {
     for i in 0..nodes.len() {
-        if rev == nodes[i].rev {
+        if rev == nodes[i].rev() {
             return Some(i);
         }
     }
@@ -81,7 +69,7 @@ pub(crate) fn index_rest(nodes: &[Node], places: &mut Places)
         return;
     }
     for i in places.len()..nodes.len() {
-        places.insert(nodes[i].rev, i);
+        places.insert(nodes[i].rev(), i);
     }
 }
 
@@ -124,28 +112,10 @@ pub(crate) fn copy_nodes(alloc: Global, nodes: &[Node]) -> Result<Vec<Node>, Tre
         return Err(TreeFault::Memory);
     };
     for node in nodes {
-        let copy = copy_node(node)?;
+        let copy = node.copy()?;
         let Ok(()) = copies.push(copy) else {
             return Err(TreeFault::Memory);
         };
     }
     Ok(copies)
-}
-
-/// The same node. The only error is `Memory`.
-fn copy_node(node: &Node) -> Result<Node, TreeFault>
-    ensures copied { IfOk result (λ n. n ≡ node.now) }
-    ensures err { IfErr result (λ e. e ≡ TreeFault.Memory) }
-{
-    let content = match &node.content {
-        Some(content) => Some(content.copy()?),
-        None => None,
-    };
-    Ok(Node {
-        rev: node.rev,
-        parent: node.parent,
-        content,
-        origin: node.origin,
-        has_child: node.has_child,
-    })
 }

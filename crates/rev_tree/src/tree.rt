@@ -5,7 +5,8 @@ ghost use Rattle.std.specs.Option.{option_map_or};
 use crate::content::Content;
 use crate::fault::{Contradiction, Merged, TreeFault};
 use crate::merging::{knows_edges, make_room, put};
-use crate::nodes::{Node, copy_nodes, index_of, node_at, node_in, place_in};
+use crate::node::Node;
+use crate::nodes::{copy_nodes, index_of, node_at, node_in, place_in};
 use crate::origin::Origin;
 use crate::place_index::Places;
 use crate::walks::{those_above, walk};
@@ -67,8 +68,8 @@ impl Tree {
         ensures { result ≡ get self.now.parents rev }
     {
         let node = node_in(&self.nodes, &self.places, rev)?;
-        let parent = node.parent?;
-        Some(node_at(&self.nodes, parent).rev)
+        let parent = node.parent()?;
+        Some(node_at(&self.nodes, parent).rev())
     }
 
     /// What stands at a revision, where it is known.
@@ -76,7 +77,7 @@ impl Tree {
         ensures { option_copied result ≡ get self.now.contents rev }
     {
         let node = node_in(&self.nodes, &self.places, rev)?;
-        node.content.as_ref()
+        node.content()
     }
 
     /// Where a revision came from.
@@ -84,7 +85,7 @@ impl Tree {
         ensures { result ≡ get self.now.origins rev }
     {
         let node = node_in(&self.nodes, &self.places, rev)?;
-        Some(node.origin)
+        Some(node.origin())
     }
 
     /// Whether a revision is a leaf.
@@ -94,7 +95,7 @@ impl Tree {
         let Some(node) = node_in(&self.nodes, &self.places, rev) else {
             return false;
         };
-        !node.has_child
+        !node.has_child()
     }
 
     /// Whether a revision has a content that deletes.
@@ -126,8 +127,8 @@ impl Tree {
     {
         let mut best: Option<Rev> = None;
         for node in &self.nodes {
-            if !node.has_child {
-                best = Some(self.better(best, node.rev));
+            if !node.has_child() {
+                best = Some(self.better(best, node.rev()));
             }
         }
         best
@@ -164,8 +165,8 @@ impl Tree {
             return Err(TreeFault::Memory);
         };
         for node in &self.nodes {
-            if !node.has_child {
-                let Ok(()) = found.push((is_deleted(node), node.rev)) else {
+            if !node.has_child() {
+                let Ok(()) = found.push((is_deleted(node), node.rev())) else {
                     return Err(TreeFault::Memory);
                 };
             }
@@ -180,7 +181,7 @@ impl Tree {
     {
         let mut count = 0;
         for node in &self.nodes {
-            if !node.has_child {
+            if !node.has_child() {
                 count += 1;
             }
         }
@@ -341,7 +342,7 @@ impl Tree {
 fn is_deleted(node: &Node) -> bool
     ensures { result ≡ option_map_or (λ b. b.deleted) node.now.content false }
 {
-    match &node.content {
+    match node.content() {
         Some(content) => content.deleted(),
         None => false,
     }

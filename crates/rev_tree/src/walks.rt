@@ -7,7 +7,8 @@ ghost use Rattle.rev_tree.specs.Nodes.{IsLinked, index_for, revs_in, tree_of};
 ghost use Rattle.rev_tree.specs.Walks.{ancestors_at, is_above_at, is_above_one, IsTold};
 
 use crate::fault::TreeFault;
-use crate::nodes::{Node, node_at, place_in};
+use crate::node::Node;
+use crate::nodes::{node_at, place_in};
 use crate::place_index::Places;
 use rev_core::Rev;
 use std::alloc::Global;
@@ -23,17 +24,17 @@ pub(crate) fn walk(alloc: Global, nodes: &[Node], start: usize) -> Result<Vec<Re
     // There are at most so many ancestors as nodes, and at most so many as the generation says.
     let most = nodes
         .len()
-        .min(node_at(nodes, start).rev.generation() as usize);
+        .min(node_at(nodes, start).rev().generation() as usize);
     let Ok(mut revs) = Vec::with_capacity(alloc, most) else {
         return Err(TreeFault::Memory);
     };
     let mut at = start;
     'walk: loop {
         let node = node_at(nodes, at);
-        let Ok(()) = revs.push(node.rev) else {
+        let Ok(()) = revs.push(node.rev()) else {
             return Err(TreeFault::Memory);
         };
-        match node.parent {
+        match node.parent() {
             Some(parent) => at = parent,
             None => break 'walk,
         }
@@ -135,7 +136,7 @@ fn first_told(nodes: &[Node], told: &[Option<bool>], start: usize) -> bool
         if let Some(answer) = told[at] {
             return answer;
         }
-        match node_at(nodes, at).parent {
+        match node_at(nodes, at).parent() {
             Some(parent) => at = parent,
             None => break 'walk,
         }
@@ -161,7 +162,7 @@ fn tell(nodes: &[Node], told: &mut Vec<Option<bool>>, start: usize, answer: bool
             break 'walk;
         }
         told[at] = Some(answer);
-        match node_at(nodes, at).parent {
+        match node_at(nodes, at).parent() {
             Some(parent) => at = parent,
             None => break 'walk,
         }

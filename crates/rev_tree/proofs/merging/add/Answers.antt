@@ -20,20 +20,23 @@ returns-in-Some-clause-tree c =
 pub returns-clause-linked : goal.returns-clause-linked
 returns-clause-linked c =
     let items = c.args.nodes.now.items in
-    subst IsLinked (sym c.push_reserved.ensures.items)
+    let pushed = c.push_reserved.ensures.items ∙ ap (λ n. items ++ n ∷ []) c.new.ensures in
+    subst IsLinked (sym pushed)
     (linked_added items c.args.rev c.args.origin c.requires.linked (place_unknown items c.args.rev (ap (λ l. place_of l c.args.rev) (sym c.deref.ensures.value) ∙ sym c.place_near.ensures ∙ c.in_default.is)))
 
 pub returns-clause-tree : goal.returns-clause-tree
 returns-clause-tree c =
     let items = c.args.nodes.now.items in
-    ap tree_of c.push_reserved.ensures.items
+    let pushed = c.push_reserved.ensures.items ∙ ap (λ n. items ++ n ∷ []) c.new.ensures in
+    ap tree_of pushed
     ∙ tree_added items c.args.rev c.args.origin c.requires.linked (place_unknown items c.args.rev (ap (λ l. place_of l c.args.rev) (sym c.deref.ensures.value) ∙ sym c.place_near.ensures ∙ c.in_default.is))
 
 pub returns-clause-at : goal.returns-clause-at
 returns-clause-at c =
     let items = c.args.nodes.now.items in
+    let pushed = c.push_reserved.ensures.items ∙ ap (λ n. items ++ n ∷ []) c.new.ensures in
     let n = new_node c.args.rev c.args.origin in
-    ap (λ l. slice_get (revs_in l) (length c.as_slice-place.result.now)) c.push_reserved.ensures.items
+    ap (λ l. slice_get (revs_in l) (length c.as_slice-place.result.now)) pushed
     ∙ ap (λ l. slice_get l (length c.as_slice-place.result.now)) (revs_in-push items n)
     ∙ ap (slice_get (revs_in items ++ c.args.rev ∷ [])) (ap length c.as_slice-place.ensures.value ∙ sym (length-revs_in items))
     ∙ slice_get-last (revs_in items) c.args.rev
@@ -41,20 +44,23 @@ returns-clause-at c =
 pub returns-clause-kept : goal.returns-clause-kept
 returns-clause-kept c i r h =
     let items = c.args.nodes.now.items in
-    ap (λ l. slice_get (revs_in l) i) c.push_reserved.ensures.items
+    let pushed = c.push_reserved.ensures.items ∙ ap (λ n. items ++ n ∷ []) c.new.ensures in
+    ap (λ l. slice_get (revs_in l) i) pushed
     ∙ ap (λ l. slice_get l i) (revs_in-push items (new_node c.args.rev c.args.origin))
     ∙ slice_get-push (revs_in items) c.args.rev i r h
 
 pub index_rest-requires-clause-once : goal.index_rest-requires-clause-once
 index_rest-requires-clause-once c =
     let items = c.args.nodes.now.items in
-    subst (λ l. Distinct (revs_in l)) (sym (c.deref-2.ensures.value ∙ c.push_reserved.ensures.items))
+    let pushed = c.push_reserved.ensures.items ∙ ap (λ n. items ++ n ∷ []) c.new.ensures in
+    subst (λ l. Distinct (revs_in l)) (sym (c.deref-2.ensures.value ∙ pushed))
     (linked_added items c.args.rev c.args.origin c.requires.linked (place_unknown items c.args.rev (ap (λ l. place_of l c.args.rev) (sym c.deref.ensures.value) ∙ sym c.place_near.ensures ∙ c.in_default.is))).once
 
 pub index_rest-requires-clause-begun : goal.index_rest-requires-clause-begun
 index_rest-requires-clause-begun c =
     let items = c.args.nodes.now.items in
+    let pushed = c.push_reserved.ensures.items ∙ ap (λ n. items ++ n ∷ []) c.new.ensures in
     let index = c.args.places.now.entries in
     index_begun (revs_in items) c.args.rev index c.requires.index
     ∙ ap (λ l. places_from 0 (take (length index) l)) (sym (revs_in-push items (new_node c.args.rev c.args.origin)))
-    ∙ ap (λ l. places_from 0 (take (length index) (revs_in l))) (sym (c.deref-2.ensures.value ∙ c.push_reserved.ensures.items))
+    ∙ ap (λ l. places_from 0 (take (length index) (revs_in l))) (sym (c.deref-2.ensures.value ∙ pushed))

@@ -34,10 +34,10 @@ returns-then-ne-clause-contradiction c =
     let a = c.index-revs-i-then-ne.result in
     let is = c.index-revs-i-then-ne.is in
     let known = c.parent_at.ensures.parent a (c.loop-i.invariant.place a (read_at revs (i - 1) a low is)) in
-    let told = sym known ∙ ap (rev_at (revs_in nodes)) c.in-Some.is ∙ rev_at_place nodes c.in-Some.parent c.node_at.result.now c.node_at.ensures in
+    let told = sym known ∙ ap (rev_at (revs_in nodes)) c.in-Some.is ∙ rev_at_place nodes c.in-Some.parent c.node_at.result.now c.node_at.ensures ∙ ap Some (sym c.rev-known.ensures) in
     c.loop-i.invariant.none
     ∙ contradiction_here m revs i a c.index-revs-i.result _ one c.loop-i-test.true is c.index-revs-i.is
-    (told_contradiction a c.index-revs-i.result (get m a) c.node_at.result.now.rev told (not_is _ _ c.ne.ensures ∙ ap not c.if-ne.true))
+    (told_contradiction a c.index-revs-i.result (get m a) c.rev-known.result told (not_is _ _ c.ne.ensures ∙ ap not c.if-ne.true))
 
 pub loop-i-preserved : goal.loop-i-preserved
 loop-i-preserved c =
@@ -57,7 +57,7 @@ loop-i-preserved c =
       | in-Some+else-ne w ↦
           let n = w.node_at.result.now in
           let told = sym known ∙ ap (rev_at (revs_in nodes)) w.in-Some.is ∙ rev_at_place nodes w.in-Some.parent n w.node_at.ensures in
-          let same = not_is _ _ w.ne.ensures ∙ ap not w.if-ne.false in
+          let same = ap (λ q. eq_by_cmp rev_cmp q b) (sym w.rev-known.ensures) ∙ not_is _ _ w.ne.ensures ∙ ap not w.if-ne.false in
           record {
             edges = ap (λ x. x && list_all (has_edge t) (edges_of (drop (i + 1 - 1) revs))) w.all-is ∙ edges_known t revs i a n.rev c.loop-i.all one c.loop-i-test.true is told ∙ c.loop-i.invariant.edges;
             none = c.loop-i.invariant.none ∙ no_contradiction_at t.parents revs i a b one c.loop-i-test.true is c.index-revs-i.is (told_none a b (get t.parents a) n.rev told same);

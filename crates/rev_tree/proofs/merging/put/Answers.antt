@@ -1,4 +1,4 @@
-use Rattle.std.proofs.Common.{◌≡◌, ◌+◌, ◌-◌, ◌<◌, ◌≤◌, length, get_or, slice_get, sym, ap, ◌∙◌, arith}
+use Rattle.std.proofs.Common.{◌≡◌, ◌+◌, ◌-◌, ◌<◌, ◌≤◌, length, get_or, slice_get, IfSome, sym, ap, ◌∙◌, subst, arith}
 use Rattle.std.proofs.lemmas.List.{get_or_default}
 use Rattle.std.proofs.lemmas.Option.{slice_get_within, slice_get-get_or}
 use Rattle.rev_tree.specs.Nodes.{revs_in, index_for, tree_of}
@@ -33,7 +33,7 @@ add-parent-requires-clause-near c =
     let a = get_or revs (c.loop-i.i - 1) c.index-revs-i.result in
     let within = slice_get_within (revs_in nodes) c.loop-i.child a (c.loop-i.invariant.child ∙ slice_get-get_or revs (c.loop-i.i - 1) c.index-revs-i.result low) in
     let at = read_at nodes c.loop-i.child n (omega (arith, length-revs_in nodes, within)) c.index.ensures in
-    (c.loop-i.invariant.linked.each n.rev n (node_at nodes c.loop-i.invariant.linked.once c.loop-i.child n at)).parent
+    subst (λ o. IfSome o (λ i. i < length nodes)) (sym c.parent-near.ensures) (c.loop-i.invariant.linked.each n.rev n (node_at nodes c.loop-i.invariant.linked.once c.loop-i.child n at)).parent
 
 pub link-requires-clause-parent_within : goal.link-requires-clause-parent_within
 link-requires-clause-parent_within c =

@@ -3,7 +3,6 @@ use Rattle.std.proofs.lemmas.List.{length-append}
 use Rattle.std.specs.FinMap.{find}
 use Rattle.rev_core.specs.Rev.{rev_cmp}
 use Rattle.rev_tree.specs.Nodes.{revs_in, places_from}
-use Rattle.rev_tree.specs.declared.nodes.Node.{Node}
 use Rattle.rev_tree.proofs.Indexing.{filled_start, index_none, index_more}
 use Rattle.rev_tree.proofs.nodes.index_rest.Goals as goal
 
@@ -27,7 +26,7 @@ loop-i-preserved c =
     record {
       places =
           c.insert.ensures.entries
-          ∙ ap (λ (m : Node). c.loop-i.places.entries ++ (m.rev, i) ∷ []) (sym c.index-nodes-i.is)
+          ∙ ap (λ r. c.loop-i.places.entries ++ (r, i) ∷ []) c.rev.ensures
           ∙ ap (λ es. es ++ (n.rev, i) ∷ []) c.loop-i.invariant.places ∙ index_more nodes i n c.loop-i-test.true c.index-nodes-i.is;
       len = omega (arith, longer, c.loop-i.invariant.len);
       room = omega (arith, longer, c.loop-i.invariant.room, c.insert.ensures.spare);
@@ -38,5 +37,5 @@ pub insert-requires-clause-new : goal.insert-requires-clause-new
 insert-requires-clause-new c =
     let nodes = c.args.nodes.now in
     let n = c.index-nodes-i.result in
-    ap (λ (m : Node). find rev_cmp m.rev c.loop-i.places.entries) (sym c.index-nodes-i.is)
+    ap (λ r. find rev_cmp r c.loop-i.places.entries) c.rev.ensures
     ∙ ap (find rev_cmp n.rev) c.loop-i.invariant.places ∙ index_none nodes c.loop-i.i n c.requires.once c.loop-i-test.true c.index-nodes-i.is

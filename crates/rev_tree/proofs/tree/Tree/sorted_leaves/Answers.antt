@@ -9,7 +9,7 @@ use Rattle.rev_tree.specs.Nodes.{revs_in}
 use Rattle.rev_tree.proofs.Leaves.{leaf_item, deleted_item, leaves_pushed, leaves_of_nodes, count_once}
 use Rattle.rev_tree.proofs.Sorting.{told_deleted, pair_cmp, pair_cmp_total, pairs_in_order}
 use Rattle.rev_tree.proofs.tree.Tree.sorted_leaves.Goals as goal
-use Rattle.rev_tree.proofs.tree.Tree.sorted_leaves.Goals.{then-not-node+in-Ok-push, else-not-node}
+use Rattle.rev_tree.proofs.tree.Tree.sorted_leaves.Goals.{then-not-has_child+in-Ok-push, else-not-has_child}
 
 pub loop-node-preserved : goal.loop-node-preserved
 loop-node-preserved c =
@@ -21,15 +21,16 @@ loop-node-preserved c =
     let leaf = leaf_item c.self.inside.nodes.items items t c.self.invariant.linked c.self.view_is c.deref-node-items.ensures.value i n c.loop-node-test.true c.node-item.is in
     let deletes = deleted_item c.self.inside.nodes.items items t c.self.invariant.linked c.self.view_is c.deref-node-items.ensures.value i n c.loop-node-test.true c.node-item.is in
     let more = leaves_pushed t items i n c.loop-node-test.true c.node-item.is in
-    elim c.if-not-node.branch [
-      | then-not-node+in-Ok-push w ↦
-          ap (λ v. v.items) w.found-is ∙ w.in-Ok-push.ensures.items ∙ ap (λ l. l ++ (w.is_deleted.result, n.rev) ∷ []) c.loop-node.invariant
+    elim c.if-not-has_child.branch [
+      | then-not-has_child+in-Ok-push w ↦
+          ap (λ v. v.items) w.found-is ∙ w.in-Ok-push.ensures.items ∙ ap (λ r. c.loop-node.found.items ++ (w.is_deleted.result, r) ∷ []) w.rev.ensures
+          ∙ ap (λ l. l ++ (w.is_deleted.result, n.rev) ∷ []) c.loop-node.invariant
           ∙ ap (λ b. map (told_deleted t) before ++ (b, n.rev) ∷ []) (w.is_deleted.ensures ∙ sym deletes)
           ∙ sym (map-append (told_deleted t) before (n.rev ∷ []))
-          ∙ ap (map (told_deleted t)) (sym (more ∙ ap (λ b. before ++ cond b (n.rev ∷ []) []) (leaf ∙ ap not w.if-not-node.true)))
-      | else-not-node w ↦
+          ∙ ap (map (told_deleted t)) (sym (more ∙ ap (λ b. before ++ cond b (n.rev ∷ []) []) (leaf ∙ ap not (sym c.has_child.ensures ∙ w.if-not-has_child.true))))
+      | else-not-has_child w ↦
           ap (λ v. v.items) w.found-is ∙ c.loop-node.invariant
-          ∙ ap (map (told_deleted t)) (sym (more ∙ ap (λ b. before ++ cond b (n.rev ∷ []) []) (leaf ∙ ap not w.if-not-node.false) ∙ append-nil before))
+          ∙ ap (map (told_deleted t)) (sym (more ∙ ap (λ b. before ++ cond b (n.rev ∷ []) []) (leaf ∙ ap not (sym c.has_child.ensures ∙ w.if-not-has_child.false)) ∙ append-nil before))
     ]
 
 pub returns-clause-leaves : goal.returns-clause-leaves

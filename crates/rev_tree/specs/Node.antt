@@ -1,0 +1,25 @@
+-- A node of a tree, and what its parts say.
+use Rattle.std.specs.Prelude.{ℕ, zero, suc, Bool, true, false, ◌+◌, ◌*◌, ◌^◌, Option, Some, None}
+use Rattle.rev_core.specs.Rev.{RevId}
+use Rattle.rev_tree.specs.Content.{ContentValue}
+use Rattle.rev_tree.specs.declared.origin.Origin.{Origin}
+use Rattle.rev_tree.specs.declared.origin.Origin.TheVariants.{Local, Feed}
+
+-- a revision, the place of its parent and what stands at it where they are known, where it came from, and whether it
+-- is the parent of another node
+pub record NodeValue : Type 0 where
+  pub rev : RevId
+  pub parent : Option ℕ
+  pub content : Option ContentValue
+  pub origin : Origin
+  pub has_child : Bool
+
+-- a place or none, counted from 1
+abbrev pub parent_of : ℕ → Option ℕ
+parent_of zero = None
+parent_of (suc place) = Some place
+
+-- a local write, or a session's feed: the two halves of the session's number
+abbrev pub origin_of : Bool → ℕ → ℕ → ℕ → Origin
+origin_of false high low number = Local number
+origin_of true high low number = Feed (record { 0 = high * 2 ^ 64 + low }) number

@@ -1,0 +1,166 @@
+//! A node of a tree: a revision with what the tree knows of it.
+ghost use Rattle.std.specs.Prelude.{◌≡◌, ◌+◌, ◌<◌, ◌^◌, Some, None, IfOk, IfErr, true, false};
+ghost use Rattle.std.specs.Option.{option_copied};
+
+use crate::content::Content;
+use crate::fault::TreeFault;
+use crate::origin::{Origin, SessionId};
+use rev_core::Rev;
+use std::marker::Model;
+
+/// Half of the numbers of sessions, and one more.
+const HALF: u128 = 1 << 64;
+
+/// A revision, the place of its parent where one is known, what stands at it where that is known, where it came
+/// from, and whether it is the parent of another node.
+///
+/// There may be very many, so they are kept small. The parent's place is counted from 1, and 0 where none is known: an
+/// `Option` takes a word more. A session's number is kept in halves: a `u128` stands at multiples of 16 bytes.
+#[derive(Drop)]
+pub(crate) struct Node {
+    rev: Rev,
+    parent: usize,
+    content: Option<Content>,
+    session_high: u64,
+    session_low: u64,
+    number: u64,
+    is_fed: bool,
+    has_child: bool,
+}
+
+impl Model for Node {
+    ghost use Rattle.rev_tree.specs.Node.{NodeValue, parent_of, origin_of};
+
+    ghost Value = { NodeValue };
+
+    ghost view = { λ n. record {
+      rev = n.rev;
+      parent = parent_of n.parent;
+      content = n.content;
+      origin = origin_of n.is_fed n.session_high n.session_low n.number;
+      has_child = n.has_child;
+    } };
+}
+
+impl Node {
+    /// The node of a revision of which the origin alone is known.
+    pub(crate) fn new(rev: Rev, origin: Origin) -> Node
+        ensures { result ≡ record { rev = rev; parent = None; content = None; origin = origin; has_child = false } }
+    {
+        let (is_fed, session, number) = match origin {
+            Origin::Local(number) => (false, 0, number),
+            Origin::Feed(session, number) => (true, session.0, number),
+        };
+        Node {
+            rev,
+            parent: 0,
+            content: None,
+            session_high: (session / HALF) as u64,
+            session_low: (session % HALF) as u64,
+            number,
+            is_fed,
+            has_child: false,
+        }
+    }
+
+    /// The revision.
+    pub(crate) fn rev(&self) -> Rev
+        ensures { result ≡ self.now.rev }
+    {
+        self.rev
+    }
+
+    /// The place of its parent, where one is known.
+    pub(crate) fn parent(&self) -> Option<usize>
+        ensures { result ≡ self.now.parent }
+    {
+        self.parent.checked_sub(1)
+    }
+
+    /// What stands at it, where that is known.
+    pub(crate) fn content(&self) -> Option<&Content>
+        ensures { option_copied result ≡ self.now.content }
+    {
+        self.content.as_ref()
+    }
+
+    /// Where it came from.
+    pub(crate) fn origin(&self) -> Origin
+        ensures { result ≡ self.now.origin }
+    {
+        if self.is_fed {
+            let session = self.session_high as u128 * HALF + self.session_low as u128;
+            Origin::Feed(SessionId(session), self.number)
+        } else {
+            Origin::Local(self.number)
+        }
+    }
+
+    /// Whether it is the parent of another node.
+    pub(crate) fn has_child(&self) -> bool
+        ensures { result ≡ self.now.has_child }
+    {
+        self.has_child
+    }
+
+    /// Tells what stands at it.
+    pub(crate) fn give(&mut self, content: Content)
+        ensures { self.new ≡ record {
+          rev = self.old.rev;
+          parent = self.old.parent;
+          content = Some content;
+          origin = self.old.origin;
+          has_child = self.old.has_child;
+        } }
+    {
+        self.content = Some(content);
+    }
+
+    /// Names its parent, by its place.
+    pub(crate) fn name_parent(&mut self, place: usize)
+        requires { place + 1 < 2 ^ 64 }
+        ensures { self.new ≡ record {
+          rev = self.old.rev;
+          parent = Some place;
+          content = self.old.content;
+          origin = self.old.origin;
+          has_child = self.old.has_child;
+        } }
+    {
+        self.parent = place + 1;
+    }
+
+    /// Marks it as the parent of another node.
+    pub(crate) fn mark(&mut self)
+        ensures { self.new ≡ record {
+          rev = self.old.rev;
+          parent = self.old.parent;
+          content = self.old.content;
+          origin = self.old.origin;
+          has_child = true;
+        } }
+    {
+        self.has_child = true;
+    }
+
+    /// The same node. The only error is `Memory`.
+    pub(crate) fn copy(&self) -> Result<Node, TreeFault>
+        ensures copied { IfOk result (λ n. n ≡ self.now) }
+        ensures err { IfErr result (λ e. e ≡ TreeFault.Memory) }
+    {
+        let content = match &self.content {
+            Some(content) => Some(content.copy()?),
+            None => None,
+        };
+        Ok(Node {
+            rev: self.rev,
+            parent: self.parent,
+            content,
+            session_high: self.session_high,
+            session_low: self.session_low,
+            number: self.number,
+            is_fed: self.is_fed,
+            has_child: self.has_child,
+        })
+    }
+}
