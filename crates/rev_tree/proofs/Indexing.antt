@@ -1,42 +1,151 @@
--- The index of the nodes: walked while they are few, and filled from there on.
-use Rattle.std.proofs.Common.{◌≡◌, ℕ, zero, suc, ◌+◌, ◌<◌, ◌≤◌, ◌||◌, List, [], ◌∷◌, ◌++◌, length, take, drop, get_or, slice_get, Some, None, true, false, cond, is_some, sym, ap, ◌∙◌, refl, arith, length-take}
-use Rattle.std.proofs.lemmas.Bool.{false≢true, lt-ltb}
-use Rattle.std.proofs.lemmas.List.{drop_more, drop_all, take-map}
+-- The index of the nodes: walked while they are few, and noted by marks from there on.
+use Rattle.std.proofs.Common.{◌≡◌, ℕ, suc, ◌+◌, ◌<◌, ◌≤◌, ◌||◌, List, [], ◌∷◌, ◌++◌, length, take, drop, get_or, Option, Some, None, Bool, true, false, cond, is_some, inl, inr, sym, ap, ◌∙◌, subst, refl, arith, length-append, length-take}
+use Rattle.std.proofs.lemmas.Bool.{false≢true, lt-ltb, ltb-true, eq-eqb}
+use Rattle.std.proofs.lemmas.List.{drop_more, drop_all}
 use Rattle.std.proofs.Math.Dec.{ltb}
-use Rattle.std.proofs.Math.Seq.{take-append_seam}
+use Rattle.std.specs.Prelude.{nat_eq}
 use Rattle.std.specs.Ordering.{eq_by_cmp}
+use Rattle.std.specs.Option.{option_or}
 use Rattle.std.specs.FinMap.{find}
+use Rattle.std.specs.Map.{lookup}
 use Rattle.rev_core.specs.Rev.{RevId, rev_cmp}
+use Rattle.rev_core.specs.RevOrder.{rev_tie_is}
 use Rattle.rev_core.specs.Ancestry.{is_among}
-use Rattle.rev_tree.specs.Nodes.{revs_in, index_for, places_from, Distinct}
+use Rattle.rev_tree.specs.TreeLaws.{some_or}
+use Rattle.rev_tree.specs.Index.{index_for, mark_of, noted, noted_from}
+use Rattle.rev_tree.specs.Nodes.{revs_in, places_from}
 use Rattle.rev_tree.specs.Node.{NodeValue}
 use Rattle.rev_tree.specs.declared.nodes.TheConstants.{MOST_WALKED}
-use Rattle.rev_tree.proofs.Places.{is_some-node_of, read_at, apart_from, among_at, rev_at_place, none_of, place_none, places_push}
+use Rattle.rev_tree.proofs.Places.{some_is}
 use Rattle.rev_tree.proofs.Linking.{length-revs_in}
 use Rattle.rev_tree.proofs.Leaves.{revs_more}
 
-pub index_many : (revs : List RevId) → MOST_WALKED < length revs → index_for revs ≡ places_from 0 revs
-index_many revs many = ap (λ b. cond b (places_from 0 revs) []) (lt-ltb MOST_WALKED (length revs) many)
+pub index_many : (revs : List RevId) → MOST_WALKED < length revs → index_for revs ≡ noted_from [] 0 revs
+index_many revs many = ap (λ b. cond b (noted_from [] 0 revs) []) (lt-ltb MOST_WALKED (length revs) many)
 
-length-places_from : (i : ℕ) (revs : List RevId) → length (places_from i revs) ≡ length revs
-length-places_from i [] = refl
-length-places_from i (r ∷ revs) = ap suc (length-places_from (i + 1) revs)
+pub index_few : (revs : List RevId) → length revs ≤ MOST_WALKED → index_for revs ≡ []
+index_few revs few =
+    elim (ltb MOST_WALKED (length revs)) as (λ b. ltb MOST_WALKED (length revs) ≡ b → cond b (noted_from [] 0 revs) [] ≡ []) [
+      | true ↦ λ many. absurd (omega (arith, few, ltb-true MOST_WALKED (length revs) many))
+      | false ↦ λ _. refl
+    ] refl
+
+-- ---- one mark more
+
+lookup_push : (t : ℕ → Bool) (es : List (ℕ × ℕ)) (m i : ℕ) → lookup t (es ++ (m, i) ∷ []) ≡ option_or (lookup t es) (cond (t m) (Some i) None)
+lookup_push t [] m i = refl
+lookup_push t (e ∷ es) m i =
+    elim (t e.0) as (λ b. cond b (Some e.1) (lookup t (es ++ (m, i) ∷ [])) ≡ option_or (cond b (Some e.1) (lookup t es)) (cond (t m) (Some i) None)) [
+      | true ↦ refl
+      | false ↦ lookup_push t es m i
+    ]
+
+length_noted : (es : List (ℕ × ℕ)) (m i : ℕ) → length (noted es m i) ≤ length es + 1
+length_noted es m i =
+    elim (is_some (lookup (nat_eq m) es)) as (λ b. length (cond b es (es ++ (m, i) ∷ [])) ≤ length es + 1) [
+      | true ↦ omega arith
+      | false ↦ omega (arith, length-append es ((m, i) ∷ []))
+    ]
+
+some_first : (a b : Option ℕ) → is_some a ≡ true → is_some (option_or a b) ≡ true
+some_first None b h = absurd (false≢true h)
+some_first (Some x) b h = refl
+
+some_last : (a : Option ℕ) (i : ℕ) → is_some (option_or a (Some i)) ≡ true
+some_last None i = refl
+some_last (Some x) i = refl
+
+-- what has a place keeps one
+noted_kept : (q : ℕ) (es : List (ℕ × ℕ)) (m i : ℕ) → is_some (lookup (nat_eq q) es) ≡ true → is_some (lookup (nat_eq q) (noted es m i)) ≡ true
+noted_kept q es m i h =
+    elim (is_some (lookup (nat_eq m) es)) as (λ b. is_some (lookup (nat_eq q) (cond b es (es ++ (m, i) ∷ []))) ≡ true) [
+      | true ↦ h
+      | false ↦ ap is_some (lookup_push (nat_eq q) es m i) ∙ some_first (lookup (nat_eq q) es) _ h
+    ]
+
+-- and the mark has one
+noted_there : (es : List (ℕ × ℕ)) (m i : ℕ) → is_some (lookup (nat_eq m) (noted es m i)) ≡ true
+noted_there es m i =
+    elim (is_some (lookup (nat_eq m) es)) as (λ b. is_some (lookup (nat_eq m) es) ≡ b → is_some (lookup (nat_eq m) (cond b es (es ++ (m, i) ∷ []))) ≡ true) [
+      | true ↦ λ h. h
+      | false ↦ λ _.
+          ap is_some (lookup_push (nat_eq m) es m i)
+          ∙ ap (λ b. is_some (option_or (lookup (nat_eq m) es) (cond b (Some i) None))) (eq-eqb m m refl)
+          ∙ some_last (lookup (nat_eq m) es) i
+    ] refl
+
+-- each place is below a bound
+abbrev Below : List (ℕ × ℕ) → ℕ → Type 0
+Below es n = (q p : ℕ) → lookup (nat_eq q) es ≡ Some p → p < n
+
+noted_below : (es : List (ℕ × ℕ)) (m i : ℕ) → Below es i → Below (noted es m i) (i + 1)
+noted_below es m i low q p is =
+    elim (is_some (lookup (nat_eq m) es)) as (λ b. lookup (nat_eq q) (cond b es (es ++ (m, i) ∷ [])) ≡ Some p → p < i + 1) [
+      | true ↦ λ e. omega (arith, low q p e)
+      | false ↦ λ e. elim (some_or (lookup (nat_eq q) es) _ p (sym (lookup_push (nat_eq q) es m i) ∙ e)) [
+        | inl old ↦ omega (arith, low q p old)
+        | inr new ↦ only (nat_eq q m) new.1
+      ]
+    ] is
+  where
+    only : (b : Bool) → cond b (Some i) None ≡ Some p → p < i + 1
+    only true h = omega (arith, some_is i p h)
+    only false h = absurd (false≢true (ap is_some h))
+
+-- ---- the marks of revisions
+
+length_noted_from : (es : List (ℕ × ℕ)) (i : ℕ) (revs : List RevId) → length (noted_from es i revs) ≤ length es + length revs
+length_noted_from es i [] = omega arith
+length_noted_from es i (r ∷ revs) =
+    omega (arith, length_noted es (mark_of r) i, length_noted_from (noted es (mark_of r) i) (i + 1) revs)
 
 -- there are no more places than nodes
-pub index_short : (revs : List RevId) (index : List (RevId × ℕ)) → index ≡ index_for revs → length index ≤ length revs
+pub length_marks : (revs : List RevId) → length (noted_from [] 0 revs) ≤ length revs
+length_marks revs = omega (arith, length_noted_from [] 0 revs)
+
+pub index_short : (revs : List RevId) (index : List (ℕ × ℕ)) → index ≡ index_for revs → length index ≤ length revs
 index_short revs index is =
-    elim (ltb MOST_WALKED (length revs)) as (λ b. index ≡ cond b (places_from 0 revs) [] → length index ≤ length revs) [
-      | true ↦ λ e. omega (arith, ap length e, length-places_from 0 revs)
+    elim (ltb MOST_WALKED (length revs)) as (λ b. index ≡ cond b (noted_from [] 0 revs) [] → length index ≤ length revs) [
+      | true ↦ λ e. omega (arith, ap length e, length_marks revs)
       | false ↦ λ e. omega (arith, ap length e)
     ] is
 
--- where a revision goes last, the index lacks at most its place
-pub index_begun : (revs : List RevId) (r : RevId) (index : List (RevId × ℕ)) → index ≡ index_for revs → index ≡ places_from 0 (take (length index) (revs ++ r ∷ []))
-index_begun revs r index is =
-    elim (ltb MOST_WALKED (length revs)) as (λ b. index ≡ cond b (places_from 0 revs) [] → index ≡ places_from 0 (take (length index) (revs ++ r ∷ []))) [
-      | true ↦ λ e. e ∙ ap (places_from 0) (sym (ap (λ n. take n (revs ++ r ∷ [])) (ap length e ∙ length-places_from 0 revs) ∙ take-append_seam revs (r ∷ [])))
-      | false ↦ λ e. e ∙ ap (λ n. places_from 0 (take n (revs ++ r ∷ []))) (sym (ap length e))
-    ] is
+all_kept : (q : ℕ) (es : List (ℕ × ℕ)) (i : ℕ) (revs : List RevId) → is_some (lookup (nat_eq q) es) ≡ true → is_some (lookup (nat_eq q) (noted_from es i revs)) ≡ true
+all_kept q es i [] h = h
+all_kept q es i (r ∷ revs) h = all_kept q (noted es (mark_of r) i) (i + 1) revs (noted_kept q es (mark_of r) i h)
+
+-- a revision whose mark has no place is none of them
+pub unmarked : (es : List (ℕ × ℕ)) (i : ℕ) (revs : List RevId) (q : RevId) → is_some (lookup (nat_eq (mark_of q)) (noted_from es i revs)) ≡ false → is_among q revs ≡ false
+unmarked es i [] q h = refl
+unmarked es i (r ∷ revs) q h =
+    elim (eq_by_cmp rev_cmp q r) as (λ b. eq_by_cmp rev_cmp q r ≡ b → (b || is_among q revs) ≡ false) [
+      | true ↦ λ tie.
+          let there = subst (λ x. is_some (lookup (nat_eq (mark_of x)) (noted es (mark_of r) i)) ≡ true) (sym (rev_tie_is q r tie)) (noted_there es (mark_of r) i) in
+          absurd (false≢true (sym h ∙ all_kept (mark_of q) (noted es (mark_of r) i) (i + 1) revs there))
+      | false ↦ λ _. unmarked (noted es (mark_of r) i) (i + 1) revs q h
+    ] refl
+
+all_below : (es : List (ℕ × ℕ)) (i : ℕ) (revs : List RevId) → Below es i → Below (noted_from es i revs) (i + length revs)
+all_below es i [] low q p is = omega (arith, low q p is)
+all_below es i (r ∷ revs) low q p is =
+    omega (arith, all_below (noted es (mark_of r) i) (i + 1) revs (noted_below es (mark_of r) i low) q p is)
+
+-- and a place is that of a node
+pub marks_within : (revs : List RevId) (q p : ℕ) → lookup (nat_eq q) (noted_from [] 0 revs) ≡ Some p → p < length revs
+marks_within revs q p is = omega (arith, all_below [] 0 revs (λ q p h. absurd (false≢true (ap is_some h))) q p is)
+
+noted_push : (es : List (ℕ × ℕ)) (i : ℕ) (revs : List RevId) (r : RevId) → noted_from es i (revs ++ r ∷ []) ≡ noted (noted_from es i revs) (mark_of r) (i + length revs)
+noted_push es i [] r = let e : i ≡ i + 0 = omega arith in ap (noted es (mark_of r)) e
+noted_push es i (x ∷ revs) r =
+    let e : i + 1 + length revs ≡ i + suc (length revs) = omega arith in
+    noted_push (noted es (mark_of x) i) (i + 1) revs r ∙ ap (noted (noted_from (noted es (mark_of x) i) (i + 1) revs) (mark_of r)) e
+
+pub marks_more : (nodes : List NodeValue) (i : ℕ) (n : NodeValue) → i < length nodes → n ≡ get_or nodes i n → noted (noted_from [] 0 (revs_in (take i nodes))) (mark_of n.rev) i ≡ noted_from [] 0 (revs_in (take (i + 1) nodes))
+marks_more nodes i n low is =
+    let long : i ≡ 0 + length (revs_in (take i nodes)) = omega (arith, length-revs_in (take i nodes), length-take i nodes) in
+    ap (noted (noted_from [] 0 (revs_in (take i nodes))) (mark_of n.rev)) long
+    ∙ sym (noted_push [] 0 (revs_in (take i nodes)) n.rev)
+    ∙ ap (noted_from [] 0) (sym (revs_more nodes i n low is))
 
 -- ---- the walk for a revision
 
@@ -52,26 +161,3 @@ walk_later nodes i d q low other =
 
 pub walk_end : (nodes : List NodeValue) (i : ℕ) (q : RevId) → length nodes ≤ i → find rev_cmp q (places_from i (revs_in (drop i nodes))) ≡ None
 walk_end nodes i q high = ap (λ l. find rev_cmp q (places_from i (revs_in l))) (drop_all i nodes high)
-
--- ---- the places filled in
-
-pub filled_start : (nodes : List NodeValue) (index : List (RevId × ℕ)) → index ≡ places_from 0 (take (length index) (revs_in nodes)) → index ≡ places_from 0 (revs_in (take (length index) nodes))
-filled_start nodes index begun = begun ∙ ap (places_from 0) (take-map (λ (n : NodeValue). n.rev) (length index) nodes)
-
-not_before : (nodes : List NodeValue) → Distinct (revs_in nodes) → (i : ℕ) (n : NodeValue) → slice_get nodes i ≡ Some n → is_among n.rev (revs_in (take i nodes)) ≡ false
-not_before [] d i n h = absurd (false≢true (ap is_some h))
-not_before (m ∷ nodes) d zero n h = refl
-not_before (m ∷ nodes) d (suc i) n h =
-    ap (λ b. b || is_among n.rev (revs_in (take i nodes))) (apart_from m.rev (revs_in nodes) n.rev d.0 (among_at (revs_in nodes) i n.rev (rev_at_place nodes i n h)))
-    ∙ not_before nodes d.1 i n h
-
-pub index_none : (nodes : List NodeValue) (i : ℕ) (n : NodeValue) → Distinct (revs_in nodes) → i < length nodes → n ≡ get_or nodes i n → find rev_cmp n.rev (places_from 0 (revs_in (take i nodes))) ≡ None
-index_none nodes i n d low is =
-    none_of _ (place_none (take i nodes) n.rev 0 ∙ is_some-node_of (take i nodes) n.rev ∙ not_before nodes d i n (read_at nodes i n low is))
-
-pub index_more : (nodes : List NodeValue) (i : ℕ) (n : NodeValue) → i < length nodes → n ≡ get_or nodes i n → places_from 0 (revs_in (take i nodes)) ++ (n.rev, i) ∷ [] ≡ places_from 0 (revs_in (take (i + 1) nodes))
-index_more nodes i n low is =
-    let long : i ≡ 0 + length (revs_in (take i nodes)) = omega (arith, length-revs_in (take i nodes), length-take i nodes) in
-    ap (λ k. places_from 0 (revs_in (take i nodes)) ++ (n.rev, k) ∷ []) long
-    ∙ sym (places_push (revs_in (take i nodes)) n.rev 0)
-    ∙ ap (places_from 0) (sym (revs_more nodes i n low is))

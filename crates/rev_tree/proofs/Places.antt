@@ -7,7 +7,6 @@ use Rattle.std.specs.Ordering.{eq_by_cmp}
 use Rattle.std.specs.Option.{option_map_or, option_map, option_or}
 use Rattle.std.specs.Cmp.{eq_by_cmp_equiv}
 use Rattle.std.specs.FinMap.{find}
-use Rattle.std.specs.Map.{lookup}
 use Rattle.rev_core.specs.Rev.{RevId, rev_cmp}
 use Rattle.rev_core.specs.RevOrder.{rev_cmp_total, rev_tie_is, rev_tie_self}
 use Rattle.rev_core.specs.Ancestry.{is_among}
@@ -139,12 +138,6 @@ distinct_push (x ∷ revs) r d none =
     let parts = two_false (eq_by_cmp rev_cmp r x) (is_among r revs) none in
     (among_push revs r x ∙ both_false _ _ d.0 ((eq_by_cmp_equiv rev_cmp_total).symm x r ∙ parts.0), distinct_push revs r d.1 parts.1)
 
-pub places_push : (revs : List RevId) (r : RevId) (i : ℕ) → places_from i (revs ++ r ∷ []) ≡ places_from i revs ++ (r, i + length revs) ∷ []
-places_push [] r i = let e : i ≡ i + 0 = omega arith in ap (λ k. (r, k) ∷ []) e
-places_push (x ∷ revs) r i =
-    let e : i + 1 + length revs ≡ i + suc (length revs) = omega arith in
-    ap (λ l. (x, i) ∷ l) (places_push revs r (i + 1) ∙ ap (λ k. places_from (i + 1) revs ++ (r, k) ∷ []) e)
-
 -- a place stays
 pub slice_get-push : {X : Type 0} (xs : List X) (x : X) (k : ℕ) (y : X) → slice_get xs k ≡ Some y → slice_get (xs ++ x ∷ []) k ≡ Some y
 slice_get-push [] x k y h = absurd (false≢true (ap is_some h))
@@ -207,8 +200,3 @@ read_at xs k x low is = slice_get_read xs (length xs) k x refl low is
 
 pub read_alike : {X : Type 0} (xs : List X) (k : ℕ) (x y : X) → k < length xs → x ≡ get_or xs k x → y ≡ get_or xs k y → x ≡ y
 read_alike xs k x y low is also = some_is x y (sym (read_at xs k x low is) ∙ read_at xs k y low also)
-
--- a look-up by the test of equality
-pub lookup_find : {X : Type 0} (q : RevId) (es : List (RevId × X)) → lookup (eq_by_cmp rev_cmp q) es ≡ find rev_cmp q es
-lookup_find q [] = refl
-lookup_find {X} q (e ∷ es) = ap (λ (o : Option X). cond (eq_by_cmp rev_cmp q e.0) (Some e.1) o) (lookup_find q es)

@@ -1,11 +1,11 @@
 -- A tree as it is kept: nodes that name their parents by place, and an index of the places.
-use Rattle.std.specs.Prelude.{◌≡◌, ℕ, ◌+◌, ◌<◌, false, List, [], ◌∷◌, ◌++◌, map, length, nat_lt, if◌then◌else◌, Option, Some, None, slice_get, IfSome}
+use Rattle.std.specs.Prelude.{◌≡◌, ℕ, ◌+◌, ◌<◌, false, List, [], ◌∷◌, ◌++◌, map, length, Option, Some, None, slice_get, IfSome}
 use Rattle.std.specs.FinMap as finmap
 use Rattle.rev_core.specs.Rev.{RevId, rev_cmp}
 use Rattle.rev_core.specs.Ancestry.{is_among}
 use Rattle.rev_tree.specs.Tree.{TreeValue, IsTree, is_parent}
 use Rattle.rev_tree.specs.Node.{NodeValue}
-use Rattle.rev_tree.specs.declared.nodes.TheConstants.{MOST_WALKED}
+use Rattle.rev_tree.specs.Index.{index_for}
 
 -- the revisions, by place
 abbrev pub revs_in : List NodeValue → List RevId
@@ -20,11 +20,6 @@ Distinct (r ∷ revs) = (is_among r revs ≡ false) × Distinct revs
 abbrev pub places_from : ℕ → List RevId → List (RevId × ℕ)
 places_from i [] = []
 places_from i (r ∷ revs) = (r, i) ∷ places_from (i + 1) revs
-
--- the index of the nodes that have these revisions: empty while they are few enough to be walked, and from there on
--- each revision with its place
-abbrev pub index_for : List RevId → List (RevId × ℕ)
-index_for revs = if nat_lt MOST_WALKED (length revs) then places_from 0 revs else []
 
 -- the place of a revision
 abbrev pub place_of : List NodeValue → RevId → Option ℕ
@@ -72,7 +67,7 @@ pub record IsLinked (nodes : List NodeValue) : Type 0 where
   pub each : (r : RevId) (n : NodeValue) → node_of nodes r ≡ Some n → IsNode nodes n
 
 -- what holds of the nodes and the index of a tree
-pub record IsIndexed (nodes : List NodeValue) (entries : List (RevId × ℕ)) : Type 0 where
+pub record IsIndexed (nodes : List NodeValue) (entries : List (ℕ × ℕ)) : Type 0 where
   pub index : entries ≡ index_for (revs_in nodes)
   pub linked : IsLinked nodes
   pub tree : IsTree (tree_of nodes)

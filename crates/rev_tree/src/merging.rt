@@ -7,7 +7,8 @@ ghost use Rattle.rev_core.specs.Ancestry.{edges_of};
 ghost use Rattle.rev_tree.specs.Room.{HasRoom, HasIndexRoom};
 ghost use Rattle.rev_tree.specs.Tree.{merged, has_edge, first_contradiction};
 ghost use Rattle.rev_tree.specs.Steps.{with_rev, with_edge, with_content};
-ghost use Rattle.rev_tree.specs.Nodes.{IsLinked, index_for, place_of, rev_at, revs_in, tree_of};
+ghost use Rattle.rev_tree.specs.Index.{index_for};
+ghost use Rattle.rev_tree.specs.Nodes.{IsLinked, place_of, rev_at, revs_in, tree_of};
 
 use crate::content::Content;
 use crate::fault::Contradiction;
@@ -157,7 +158,7 @@ fn add(
     }
     let place = nodes.as_slice().len();
     nodes.push_reserved(Node::new(rev, origin));
-    index_rest(nodes, places);
+    index_rest(nodes, places, place);
     place
 }
 

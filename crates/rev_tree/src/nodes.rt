@@ -9,11 +9,13 @@ use crate::node::Node;
 use crate::place_index::Places;
 use rev_core::Rev;
 use std::alloc::{AllocError, Global};
+use std::hash::{FoldHasher, Hash, Hasher};
 
 /// The most nodes that are walked for a revision. From one more on an index has their places.
 pub(crate) const MOST_WALKED: usize = 8;
 
-ghost use Rattle.rev_tree.specs.Nodes.{Distinct, index_for, node_of, place_of, places_from, revs_in};
+ghost use Rattle.rev_tree.specs.Index.{index_for, mark_of, noted_from};
+ghost use Rattle.rev_tree.specs.Nodes.{IsLinked, node_of, place_of, revs_in};
 
 /// The node at a place.
 pub(crate) fn node_at(nodes: &[Node], place: usize) -> &Node
@@ -25,7 +27,8 @@ pub(crate) fn node_at(nodes: &[Node], place: usize) -> &Node
 
 /// The node of a revision.
 pub(crate) fn node_in<'a>(nodes: &'a [Node], places: &Places, rev: Rev) -> Option<&'a Node>
-    requires { places.now.entries ≡ index_for (revs_in nodes.now) }
+    requires index { places.now.entries ≡ index_for (revs_in nodes.now) }
+    requires linked { IsLinked nodes.now }
     ensures { option_copied result ≡ node_of nodes.now rev }
 {
     let place = place_in(nodes, places, rev)?;
@@ -34,13 +37,27 @@ pub(crate) fn node_in<'a>(nodes: &'a [Node], places: &Places, rev: Rev) -> Optio
 
 /// The place of a revision.
 pub(crate) fn place_in(nodes: &[Node], places: &Places, rev: Rev) -> Option<usize>
-    requires { places.now.entries ≡ index_for (revs_in nodes.now) }
+    requires index { places.now.entries ≡ index_for (revs_in nodes.now) }
+    requires linked { IsLinked nodes.now }
     ensures { result ≡ place_of nodes.now rev }
 {
-    if nodes.len() <= MOST_WALKED {
-        return walked_to(nodes, rev);
+    if nodes.len() > MOST_WALKED {
+        let place = places.get(mark_of(rev))?;
+        if rev == node_at(nodes, place).rev() {
+            return Some(place);
+        }
+        // Another revision has the same mark.
     }
-    places.get(rev)
+    walked_to(nodes, rev)
+}
+
+/// A number of 64 bits, which two revisions hardly ever share.
+fn mark_of(rev: Rev) -> u64
+    ensures { result ≡ mark_of rev }
+{
+    let mut hasher = FoldHasher::default();
+    rev.hash(&mut hasher);
+    hasher.finish()
 }
 
 /// The place of a revision, for which the nodes are walked.
@@ -55,12 +72,10 @@ fn walked_to(nodes: &[Node], rev: Rev) -> Option<usize>
     None
 }
 
-/// Puts the places of the last nodes, which the index lacks, into it, unless the nodes are few enough to be walked.
-/// There is room for them.
-pub(crate) fn index_rest(nodes: &[Node], places: &mut Places)
-    requires once { Distinct (revs_in nodes.now) }
-    requires few { length nodes.now ≤ MOST_WALKED → places.old.entries ≡ [] }
-    requires begun { places.old.entries ≡ places_from 0 (take (length places.old.entries) (revs_in nodes.now)) }
+/// Makes the index of the first nodes, so many, that of all of them. There is room for it.
+pub(crate) fn index_rest(nodes: &[Node], places: &mut Places, known: usize)
+    requires known { known ≤ length nodes.now }
+    requires begun { places.old.entries ≡ index_for (revs_in (take known nodes.now)) }
     requires room { HasIndexRoom (length nodes.now) (length places.old.entries + places.old.spare) }
     ensures index { places.new.entries ≡ index_for (revs_in nodes.now) }
     ensures room { length places.old.entries + places.old.spare ≤ length places.new.entries + places.new.spare }
@@ -68,8 +83,23 @@ pub(crate) fn index_rest(nodes: &[Node], places: &mut Places)
     if nodes.len() <= MOST_WALKED {
         return;
     }
-    for i in places.len()..nodes.len() {
-        places.insert(nodes[i].rev(), i);
+    if known <= MOST_WALKED {
+        index_from(nodes, places, 0);
+    } else {
+        index_from(nodes, places, known);
+    }
+}
+
+/// Puts the places of the nodes from one on into the index, which has those before. There is room for them.
+fn index_from(nodes: &[Node], places: &mut Places, first: usize)
+    requires first { first ≤ length nodes.now }
+    requires begun { places.old.entries ≡ noted_from [] 0 (revs_in (take first nodes.now)) }
+    requires room { length nodes.now ≤ length places.old.entries + places.old.spare }
+    ensures index { places.new.entries ≡ noted_from [] 0 (revs_in nodes.now) }
+    ensures room { length places.old.entries + places.old.spare ≤ length places.new.entries + places.new.spare }
+{
+    for i in first..nodes.len() {
+        places.note(mark_of(nodes[i].rev()), i);
     }
 }
 
@@ -91,7 +121,6 @@ pub(crate) fn reserve_index(
 
 /// The index of the nodes. The only error is `Memory`.
 pub(crate) fn index_of(alloc: Global, nodes: &[Node]) -> Result<Places, TreeFault>
-    requires { Distinct (revs_in nodes.now) }
     ensures index { IfOk result (λ m. m.entries ≡ index_for (revs_in nodes.now)) }
     ensures err { IfErr result (λ e. e ≡ TreeFault.Memory) }
 {
@@ -99,7 +128,7 @@ pub(crate) fn index_of(alloc: Global, nodes: &[Node]) -> Result<Places, TreeFaul
     let Ok(()) = reserve_index(alloc, &mut places, nodes.len()) else {
         return Err(TreeFault::Memory);
     };
-    index_rest(nodes, &mut places);
+    index_rest(nodes, &mut places, 0);
     Ok(places)
 }
 

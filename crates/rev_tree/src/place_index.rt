@@ -1,17 +1,20 @@
 //! The index of the places of a tree's nodes.
-ghost use Rattle.std.specs.Prelude.{◌≡◌, ◌+◌, ◌<◌, ◌≤◌, ◌∷◌, ◌++◌, [], length, None, OnOk};
-ghost use Rattle.std.specs.FinMap.{find};
-ghost use Rattle.rev_core.specs.Rev.{rev_cmp};
+ghost use Rattle.std.specs.Prelude.{◌≡◌, ◌+◌, ◌<◌, ◌≤◌, ◌∷◌, ◌++◌, [], length, nat_eq, None, OnOk};
+ghost use Rattle.std.specs.Map.{lookup};
+ghost use Rattle.rev_tree.specs.Index.{noted};
 
 use indexmap::IndexMap;
-use rev_core::Rev;
 use std::alloc::{AllocError, Global};
 use std::marker::Model;
 
-/// Revisions with their places. A tree whose nodes are walked has none of them: they take memory from the first one on.
+/// Places by the marks of their revisions, which take less room than the revisions themselves. Where revisions share a
+/// mark, the first has its place here, and the others are walked for. That happens only where somebody looked for
+/// such revisions on purpose.
+///
+/// A tree whose nodes are walked has none of them: they take memory from the first one on.
 #[derive(Drop)]
 pub(crate) struct Places {
-    index: Option<Box<IndexMap<Rev, usize>>>,
+    index: Option<Box<IndexMap<u64, usize>>>,
 }
 
 impl Model for Places {
@@ -46,27 +49,38 @@ impl Places {
         }
     }
 
-    /// The place of a revision.
-    pub(crate) fn get(&self, rev: Rev) -> Option<usize>
-        ensures { result ≡ find rev_cmp rev self.now.entries }
+    /// The place of a mark.
+    pub(crate) fn get(&self, mark: u64) -> Option<usize>
+        ensures { result ≡ lookup (nat_eq mark) self.now.entries }
     {
         match &self.index {
-            Some(index) => index.get(&rev).copied(),
+            Some(index) => index.get(&mark).copied(),
             None => None,
         }
     }
 
-    /// Puts in a revision with its place. There is room for it.
-    pub(crate) fn insert(&mut self, rev: Rev, place: usize)
+    /// Puts in a mark with its place, unless it has one. There is room for it.
+    pub(crate) fn note(&mut self, mark: u64, place: usize)
+        requires { 0 < self.old.spare }
+        ensures entries { self.new.entries ≡ noted self.old.entries mark place }
+        ensures room { length self.old.entries + self.old.spare ≤ length self.new.entries + self.new.spare }
+    {
+        if self.get(mark).is_none() {
+            self.insert(mark, place);
+        }
+    }
+
+    /// Puts in a mark, which is new, with its place. There is room for it.
+    fn insert(&mut self, mark: u64, place: usize)
         requires room { 0 < self.old.spare }
-        requires new { find rev_cmp rev self.old.entries ≡ None }
-        ensures entries { self.new.entries ≡ self.old.entries ++ (rev, place) ∷ [] }
+        requires new { lookup (nat_eq mark) self.old.entries ≡ None }
+        ensures entries { self.new.entries ≡ self.old.entries ++ (mark, place) ∷ [] }
         ensures spare { self.old.spare ≤ self.new.spare + 1 }
     {
         let Some(mut index) = self.index.take() else {
             unreachable!()
         };
-        let Ok(_) = index.insert(rev, place) else {
+        let Ok(_) = index.insert(mark, place) else {
             unreachable!()
         };
         self.index = Some(index);

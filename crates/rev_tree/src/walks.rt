@@ -3,7 +3,8 @@ ghost use Rattle.std.specs.Prelude.{◌≡◌, ◌<◌, List, IfOk, IfErr, true,
 ghost use Rattle.rev_core.specs.Rev.{RevId};
 ghost use Rattle.rev_core.specs.Ancestry.{is_among};
 ghost use Rattle.rev_tree.specs.Tree.{IsTree, has};
-ghost use Rattle.rev_tree.specs.Nodes.{IsLinked, index_for, revs_in, tree_of};
+ghost use Rattle.rev_tree.specs.Index.{index_for};
+ghost use Rattle.rev_tree.specs.Nodes.{IsLinked, revs_in, tree_of};
 ghost use Rattle.rev_tree.specs.Walks.{ancestors_at, is_above_at, is_above_one, IsTold};
 
 use crate::fault::TreeFault;

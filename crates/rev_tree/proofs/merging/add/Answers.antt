@@ -1,8 +1,9 @@
 use Rattle.std.proofs.Common.{◌++◌, ◌∷◌, [], length, take, slice_get, Some, sym, ap, ◌∙◌, subst}
-use Rattle.rev_tree.specs.Nodes.{Distinct, IsLinked, place_of, places_from, revs_in, tree_of}
+use Rattle.std.proofs.Math.Seq.{take-append_seam}
+use Rattle.rev_tree.specs.Index.{index_for}
+use Rattle.rev_tree.specs.Nodes.{IsLinked, place_of, revs_in, tree_of}
 use Rattle.rev_tree.proofs.Places.{place_known, place_unknown, rev_at_place, revs_in-push, slice_get-push, slice_get-last}
 use Rattle.rev_tree.proofs.Linking.{new_node, tree_known, tree_added, linked_added, length-revs_in}
-use Rattle.rev_tree.proofs.Indexing.{index_begun}
 use Rattle.rev_tree.proofs.merging.add.Goals as goal
 
 pub returns-in-Some-clause-at : goal.returns-in-Some-clause-at
@@ -49,18 +50,10 @@ returns-clause-kept c i r h =
     ∙ ap (λ l. slice_get l i) (revs_in-push items (new_node c.args.rev c.args.origin))
     ∙ slice_get-push (revs_in items) c.args.rev i r h
 
-pub index_rest-requires-clause-once : goal.index_rest-requires-clause-once
-index_rest-requires-clause-once c =
-    let items = c.args.nodes.now.items in
-    let pushed = c.push_reserved.ensures.items ∙ ap (λ n. items ++ n ∷ []) c.new.ensures in
-    subst (λ l. Distinct (revs_in l)) (sym (c.deref-2.ensures.value ∙ pushed))
-    (linked_added items c.args.rev c.args.origin c.requires.linked (place_unknown items c.args.rev (ap (λ l. place_of l c.args.rev) (sym c.deref.ensures.value) ∙ sym c.place_near.ensures ∙ c.in_default.is))).once
-
 pub index_rest-requires-clause-begun : goal.index_rest-requires-clause-begun
 index_rest-requires-clause-begun c =
     let items = c.args.nodes.now.items in
+    let n = new_node c.args.rev c.args.origin in
     let pushed = c.push_reserved.ensures.items ∙ ap (λ n. items ++ n ∷ []) c.new.ensures in
-    let index = c.args.places.now.entries in
-    index_begun (revs_in items) c.args.rev index c.requires.index
-    ∙ ap (λ l. places_from 0 (take (length index) l)) (sym (revs_in-push items (new_node c.args.rev c.args.origin)))
-    ∙ ap (λ l. places_from 0 (take (length index) (revs_in l))) (sym (c.deref-2.ensures.value ∙ pushed))
+    let first = ap (take (length c.as_slice-place.result.now)) (c.deref-2.ensures.value ∙ pushed) ∙ ap (λ l. take (length l) (items ++ n ∷ [])) c.as_slice-place.ensures.value ∙ take-append_seam items (n ∷ []) in
+    c.requires.index ∙ ap (λ l. index_for (revs_in l)) (sym first)

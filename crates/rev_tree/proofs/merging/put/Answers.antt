@@ -1,7 +1,8 @@
 use Rattle.std.proofs.Common.{◌≡◌, ◌+◌, ◌-◌, ◌<◌, ◌≤◌, length, get_or, slice_get, IfSome, sym, ap, ◌∙◌, subst, arith}
 use Rattle.std.proofs.lemmas.List.{get_or_default}
 use Rattle.std.proofs.lemmas.Option.{slice_get_within, slice_get-get_or}
-use Rattle.rev_tree.specs.Nodes.{revs_in, index_for, tree_of}
+use Rattle.rev_tree.specs.Index.{index_for}
+use Rattle.rev_tree.specs.Nodes.{revs_in, tree_of}
 use Rattle.rev_tree.specs.Steps.{with_edge, with_content}
 use Rattle.rev_tree.proofs.Places.{node_at, read_at}
 use Rattle.rev_tree.proofs.Linking.{length-revs_in}

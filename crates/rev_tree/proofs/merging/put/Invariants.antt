@@ -1,7 +1,8 @@
 use Rattle.std.proofs.Common.{◌≡◌, ◌+◌, ◌-◌, ◌≤◌, length, slice_get, vec_len, vec_capacity}
 use Rattle.rev_tree.specs.Room.{HasIndexRoom}
 use Rattle.rev_tree.specs.Tree.{merged}
-use Rattle.rev_tree.specs.Nodes.{IsLinked, revs_in, tree_of, index_for}
+use Rattle.rev_tree.specs.Index.{index_for}
+use Rattle.rev_tree.specs.Nodes.{IsLinked, revs_in, tree_of}
 use Rattle.rev_tree.proofs.Putting.{with_rest}
 use Rattle.rev_tree.proofs.merging.put.Given as goal
 

@@ -1,12 +1,31 @@
-use Rattle.std.proofs.Common.{ap, ◌∙◌, arith}
-use Rattle.std.specs.FinMap.{find}
+use Rattle.std.proofs.Common.{[], is_some, sym, ap, ◌∙◌, arith}
+use Rattle.std.specs.Prelude.{nat_eq}
+use Rattle.std.specs.Ordering.{eq_by_cmp}
+use Rattle.std.specs.Map.{lookup}
 use Rattle.rev_core.specs.Rev.{rev_cmp}
+use Rattle.rev_tree.specs.Index.{noted_from}
 use Rattle.rev_tree.specs.Nodes.{revs_in}
+use Rattle.rev_tree.proofs.Places.{none_of, is_some-node_of, place_none, place_at}
 use Rattle.rev_tree.proofs.Linking.{length-revs_in}
-use Rattle.rev_tree.proofs.Indexing.{index_many}
+use Rattle.rev_tree.proofs.Indexing.{index_many, unmarked, marks_within}
 use Rattle.rev_tree.proofs.nodes.place_in.Goals as goal
 
-pub returns : goal.returns
-returns c =
-    let nodes = c.args.nodes.now in
-    c.get.ensures ∙ ap (find rev_cmp c.args.rev) (c.requires ∙ index_many (revs_in nodes) (omega (arith, c.if-nodes-le-MOST_WALKED.false, length-revs_in nodes)))
+pub returns-in_err-place : goal.returns-in_err-place
+returns-in_err-place c =
+    let revs = revs_in c.args.nodes.now in
+    let index = c.requires.index ∙ index_many revs (omega (arith, c.if-nodes-gt-MOST_WALKED.true, length-revs_in c.args.nodes.now)) in
+    let none = sym (ap (λ m. lookup (nat_eq m) (noted_from [] 0 revs)) c.mark_of.ensures) ∙ ap (lookup (nat_eq c.mark_of.result)) (sym index) ∙ sym c.get.ensures ∙ c.in_err-place.was in
+    c.from_residual.ensures
+    ∙ sym (none_of _ (place_none c.args.nodes.now c.args.rev 0 ∙ is_some-node_of c.args.nodes.now c.args.rev ∙ unmarked [] 0 revs c.args.rev (ap is_some none)))
+
+pub node_at-requires : goal.node_at-requires
+node_at-requires c =
+    let revs = revs_in c.args.nodes.now in
+    let index = c.requires.index ∙ index_many revs (omega (arith, c.if-nodes-gt-MOST_WALKED.true, length-revs_in c.args.nodes.now)) in
+    let low = marks_within revs c.mark_of.result c.in_ok-place.place (ap (lookup (nat_eq c.mark_of.result)) (sym index) ∙ sym c.get.ensures ∙ c.in_ok-place.was) in
+    omega (arith, low, length-revs_in c.args.nodes.now)
+
+pub returns-then-eq : goal.returns-then-eq
+returns-then-eq c =
+    sym (place_at c.args.nodes.now c.requires.linked.once c.in_ok-place.place c.node_at.result.now c.args.rev c.node_at.ensures
+    (ap (eq_by_cmp rev_cmp c.args.rev) (sym c.rev.ensures) ∙ sym c.eq.ensures ∙ c.if-eq.true))

@@ -1,9 +1,8 @@
 use Rattle.std.proofs.Common.{◌≡◌, ◌++◌, ◌∷◌, [], ap, ◌∙◌}
-use Rattle.std.specs.FinMap.{find}
+use Rattle.std.specs.Prelude.{nat_eq}
+use Rattle.std.specs.Map.{lookup}
 use Rattle.std.specs.Option.{option_map_or}
-use Rattle.rev_core.specs.Rev.{rev_cmp}
 use Rattle.indexmap.proofs.CallerLemmas.{insert_entry-new}
-use Rattle.rev_tree.proofs.Places.{lookup_find}
 use Rattle.rev_tree.proofs.place_index.Places.insert.Goals as goal
 
 pub returns-clause-entries : goal.returns-clause-entries
@@ -11,5 +10,5 @@ returns-clause-entries c =
     let same : c.deref_mut.result.now.entries ≡ c.args.self.now.entries =
     (λ i. (c.deref_mut.ensures.value i).entries) ∙ (λ i. option_map_or (λ b. b.value.entries) (c.in-Some.ensures.value i) []) ∙ (λ i. (c.self.view_is i).entries) in
     c.in-Ok.ensures.entries
-    ∙ insert_entry-new _ c.deref_mut.result.now c.args.rev c.args.place (lookup_find c.args.rev c.deref_mut.result.now.entries ∙ ap (find rev_cmp c.args.rev) same ∙ c.requires.new)
-    ∙ ap (λ es. es ++ (c.args.rev, c.args.place) ∷ []) same
+    ∙ insert_entry-new _ c.deref_mut.result.now c.args.mark c.args.place (ap (lookup (nat_eq c.args.mark)) same ∙ c.requires.new)
+    ∙ ap (λ es. es ++ (c.args.mark, c.args.place) ∷ []) same

@@ -1,6 +1,7 @@
 use Rattle.std.proofs.Common.{sym, ap, ◌∙◌, subst}
 use Rattle.rev_tree.specs.Tree.{IsTree}
-use Rattle.rev_tree.specs.Nodes.{IsLinked, index_for, revs_in, tree_of}
+use Rattle.rev_tree.specs.Index.{index_for}
+use Rattle.rev_tree.specs.Nodes.{IsLinked, revs_in, tree_of}
 use Rattle.rev_tree.proofs.tree.Tree.copy.Goals as goal
 
 pub invariant_of-result : goal.invariant_of-result

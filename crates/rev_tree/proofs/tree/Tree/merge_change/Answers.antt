@@ -1,7 +1,8 @@
 use Rattle.std.proofs.Common.{◌≡◌, length, sym, ap, ◌∙◌, subst, ◌<◌, arith}
 use Rattle.rev_tree.specs.Tree.{IsTree, merged}
 use Rattle.rev_tree.specs.TreeLaws.{IsTree-merged}
-use Rattle.rev_tree.specs.Nodes.{IsLinked, index_for, revs_in, tree_of}
+use Rattle.rev_tree.specs.Index.{index_for}
+use Rattle.rev_tree.specs.Nodes.{IsLinked, revs_in, tree_of}
 use Rattle.rev_tree.proofs.Linking.{length-revs_in}
 use Rattle.rev_tree.proofs.Indexing.{index_short}
 use Rattle.rev_tree.proofs.Answering.{none_from_answer}

@@ -1,0 +1,12 @@
+use Rattle.std.proofs.Common.{◌≡◌, ◌+◌, ◌≤◌, [], length, take}
+use Rattle.rev_tree.specs.Index.{noted_from}
+use Rattle.rev_tree.specs.Nodes.{revs_in}
+use Rattle.rev_tree.proofs.nodes.index_from.Given as goal
+
+-- the marks so far, and room for the others
+abbrev pub invariant-loop-i : goal.invariant-loop-i
+invariant-loop-i l = record {
+  marks : l.places.entries ≡ noted_from [] 0 (revs_in (take l.i l.nodes));
+  len : length l.places.entries ≤ l.i;
+  room : length l.fn.places.entries + l.fn.places.spare ≤ length l.places.entries + l.places.spare;
+}

@@ -1,0 +1,26 @@
+-- The index of the places of a tree's nodes, by marks of their revisions.
+use Rattle.std.specs.Prelude.{ℕ, ◌+◌, List, [], ◌∷◌, ◌++◌, is_some, length, nat_eq, nat_lt, if◌then◌else◌}
+use Rattle.std.specs.List.{fold}
+use Rattle.std.specs.Map.{lookup}
+use Rattle.std.specs.Hash.FoldHasher as hasher
+use Rattle.rev_core.specs.Rev.{RevId}
+use Rattle.rev_core.specs.RevOrder.{hashed}
+use Rattle.rev_tree.specs.declared.nodes.TheConstants.{MOST_WALKED}
+
+-- a number of 64 bits, which two revisions hardly ever share
+abbrev pub mark_of : RevId → ℕ
+mark_of r = hasher.finish (fold hasher.write hasher.initial (hashed r))
+
+-- a mark with its place, unless it has one
+abbrev pub noted : List (ℕ × ℕ) → ℕ → ℕ → List (ℕ × ℕ)
+noted entries mark place =
+    if is_some (lookup (nat_eq mark) entries) then entries else entries ++ (mark, place) ∷ []
+
+-- the marks of revisions from a place on, with the first place of each
+abbrev pub noted_from : List (ℕ × ℕ) → ℕ → List RevId → List (ℕ × ℕ)
+noted_from entries i [] = entries
+noted_from entries i (r ∷ revs) = noted_from (noted entries (mark_of r) i) (i + 1) revs
+
+-- the index of the nodes that have these revisions: empty while they are few enough to be walked
+abbrev pub index_for : List RevId → List (ℕ × ℕ)
+index_for revs = if nat_lt MOST_WALKED (length revs) then noted_from [] 0 revs else []
