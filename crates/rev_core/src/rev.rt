@@ -40,7 +40,7 @@ impl Rev {
     ghost use Rattle.rev_core.specs.Text.{rev_read, rev_text};
 
     /// The revision of a generation and a signature.
-    pub(crate) fn new(generation: u32, sig: Sig) -> Rev
+    pub fn new(generation: u32, sig: Sig) -> Rev
         requires { 1 ≤ generation }
         ensures parts { result ≡ record { generation = generation; sig = sig } }
         ensures is_rev { IsRev result }

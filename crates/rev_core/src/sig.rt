@@ -160,6 +160,11 @@ fn padded(text: &[u8]) -> [u8; 64]
     ensures { result ≡ padded text.now }
 {
     let mut bytes = [0; 64];
-    bytes[..text.len()].copy_from_slice(text);
+    if text.len() == 32 {
+        // Most signatures are the digits of a digest: a copy of known length needs no call.
+        bytes[..32].copy_from_slice(text);
+    } else {
+        bytes[..text.len()].copy_from_slice(text);
+    }
     bytes
 }
