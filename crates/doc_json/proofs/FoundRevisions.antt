@@ -1,6 +1,5 @@
 -- The members `_rev` and `_revisions`, before anything of them is copied.
 use Rattle.std.proofs.Common.{◌≡◌, ℕ, ◌^◌, ◌<◌, ◌≤◌, List, [], ◌∷◌, length, Bool, true, false, cond, nat_eq, nat_lt, nat_le, Option, Some, None, is_some, option_map, option_and_then, Result, Ok, Err, is_ok, codes, slice_get, inl, inr, refl, sym, ap, ◌∙◌, arith}
-use Rattle.std.specs.Prelude.{IsOk}
 use Rattle.std.specs.Ordering.{eq_by_cmp}
 use Rattle.std.proofs.lemmas.Bool.{lt-ltb, le-ltb, le-leb, lt-leb, ne_eqb, cases_lt, false≢true}
 use Rattle.serde_json.specs.Data.{Data}
@@ -12,19 +11,19 @@ use Rattle.rev_core.specs.Ancestry.{numbered, ancestry_read}
 use Rattle.rev_core.specs.declared.fault.RevFault.{RevFault}
 use Rattle.rev_core.specs.declared.fault.RevFault.TheVariants as rev_faults
 use Rattle.rev_core.specs.Checks.{named, ◌>>=◌}
-use Rattle.doc_json.specs.Revisions.{sig_of, sigs_of, numbered_from, is_head, agrees, matched, rev_member, with_revisions, revs_read}
+use Rattle.doc_json.specs.Revisions.{sig_of, sigs_of, numbered_from, is_head, rev_member, with_revisions, revs_read}
 use Rattle.doc_json.specs.declared.fault.DocFault.{DocFault}
 use Rattle.doc_json.specs.declared.fault.DocFault.TheVariants as faults
 
 -- ---- signatures of a list
 
-both : (o : Option (List ℕ)) (p : Option (List (List ℕ))) (sigs : List (List ℕ)) → option_and_then (λ sig. option_map (λ more. sig ∷ more) p) o ≡ Some sigs
+pub both : (o : Option (List ℕ)) (p : Option (List (List ℕ))) (sigs : List (List ℕ)) → option_and_then (λ sig. option_map (λ more. sig ∷ more) p) o ≡ Some sigs
     → (sig : List ℕ) × (more : List (List ℕ)) × (o ≡ Some sig) × (p ≡ Some more) × (sigs ≡ sig ∷ more)
 both None p sigs e = absurd (cc)
 both (Some sig) None sigs e = absurd (cc)
 both (Some sig) (Some more) sigs e = (sig, more, refl, refl, cc)
 
-none_left : (sigs : List (List ℕ)) → Some [] ≡ Some sigs → sigs ≡ []
+pub none_left : (sigs : List (List ℕ)) → Some [] ≡ Some sigs → sigs ≡ []
 none_left sigs e = cc
 
 pub sigs_count : (vs : List Value) (sigs : List (List ℕ)) → sigs_of (items_view vs) ≡ Some sigs → length sigs ≡ length vs
@@ -79,14 +78,6 @@ head_none r s [] e = refl
 head_none r s (first ∷ sigs) e = absurd (cc)
 
 -- ---- what a good document has
-
-left_as_it_is : (b : Bool) (revs : List RevId) → IsOk (cond b (Ok revs) (Err faults.RevMismatch)) → cond b (Ok revs) (Err faults.RevMismatch) ≡ Ok revs
-left_as_it_is true revs h = refl
-left_as_it_is false revs h = absurd (false≢true h)
-
-pub beside_is : (rev : Option RevId) (r : Result (List RevId) DocFault) → IsOk (r >>= matched rev) → IsOk r × ((r >>= matched rev) ≡ r)
-beside_is rev (Ok revs) h = (refl, left_as_it_is (agrees rev revs) revs h)
-beside_is rev (Err e) h = absurd (false≢true h)
 
 pub revs_by : (d : Data) (rev : Option RevId) → rev_member (get (codes "_rev") d) ≡ Ok rev → revs_read d ≡ with_revisions (get (codes "_revisions") d) rev
 unfolding revs_read

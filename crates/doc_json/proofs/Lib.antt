@@ -9,4 +9,5 @@ pub mod SigBytes
 pub mod DocData
 pub mod Ancestries
 pub mod FoundRevisions
+pub mod NumberedRevisions
 pub mod ReadBack

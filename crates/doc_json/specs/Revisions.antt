@@ -67,6 +67,10 @@ abbrev pub alone : Option RevId → Result (List RevId) DocFault
 alone None = Err faults.NoRev
 alone (Some r) = Ok (r ∷ [])
 
+-- a start and signatures, beside what `_rev` gave
+abbrev pub numbered_beside : Option RevId → Option ℕ → Option (List (List ℕ)) → Result (List RevId) DocFault
+numbered_beside rev start sigs = numbered_from start sigs >>= matched rev
+
 -- a value of `_revisions`, beside what `_rev` gave
 abbrev pub revisions_beside : Option RevId → Data → Result (List RevId) DocFault
 revisions_beside rev d = revisions_read d >>= matched rev

@@ -47,16 +47,17 @@ pub fn read_doc(alloc: Global, value: &Value) -> Result<Doc, DocFault>
         Ok(rev) => rev,
         Err(fault) => return Err(fault),
     };
-    if let Err(fault) = revisions::check_revisions(found.revisions, &rev) {
-        return Err(fault);
-    }
+    let ancestry = match revisions::read_revisions(alloc, found.revisions, rev) {
+        Ok(ancestry) => ancestry,
+        Err(fault) => return Err(fault),
+    };
     if members::plain_members_have_fraction(members) {
         return Err(DocFault::Fraction);
     }
-    let Ok(id) = DocId::of_checked(alloc, id) else {
+    let Some(ancestry) = ancestry else {
         return Err(DocFault::Memory);
     };
-    let Ok(ancestry) = revisions::build_revs(alloc, found.revisions, rev) else {
+    let Ok(id) = DocId::of_checked(alloc, id) else {
         return Err(DocFault::Memory);
     };
     let Ok(body) = body::plain_body(alloc, members) else {

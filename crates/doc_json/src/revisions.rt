@@ -1,17 +1,18 @@
 //! The members `_rev` and `_revisions`.
-ghost use Rattle.std.specs.Prelude.{◌≡◌, [], ◌∷◌, List, Some, Ok, Err, IsSome, IsOk, IfOk, IfErr, OnOk};
-ghost use Rattle.std.specs.Prelude.{codes, is_some, is_ok, option_map, option_and_then, slice_get};
+ghost use Rattle.std.specs.Prelude.{◌≡◌, ◌≤◌, [], ◌∷◌, List, Some, Ok, Err, IfSome, IfNone, IsOk, IfOk, IfErr, OnOk};
+ghost use Rattle.std.specs.Prelude.{codes, length, is_some, is_ok, option_map, option_and_then, slice_get};
 ghost use Rattle.std.specs.Ordering.{eq_by_cmp};
 ghost use Rattle.serde_json.specs.View.{view, items_view};
 ghost use Rattle.serde_json.specs.Find.{get, as_array, as_str};
 ghost use Rattle.rev_core.specs.Rev.{RevId, rev_cmp};
-ghost use Rattle.doc_json.specs.Revisions.{rev_member, with_revisions, revisions_beside, agrees};
-ghost use Rattle.doc_json.specs.Revisions.{revisions_read, start_of, numbered_from, sigs_of, sig_of};
+ghost use Rattle.rev_core.specs.Ancestry.{numbered};
+ghost use Rattle.doc_json.specs.Revisions.{rev_member, with_revisions, revisions_beside, matched, agrees};
+ghost use Rattle.doc_json.specs.Revisions.{numbered_beside, start_of, numbered_from, sigs_of, sig_of};
 
 use crate::fault::DocFault;
 use rev_core::{Ancestry, Rev, Sig};
 use serde_json::Value;
-use std::alloc::Global;
+use std::alloc::{AllocError, Global};
 
 /// The revision id of a member `_rev`, where it is there.
 pub(crate) fn read_rev(member: Option<&Value>) -> Result<Option<Rev>, DocFault>
@@ -29,25 +30,47 @@ pub(crate) fn read_rev(member: Option<&Value>) -> Result<Option<Rev>, DocFault>
     }
 }
 
-/// Why a member `_revisions` gives no ancestry beside what `_rev` gave.
-pub(crate) fn check_revisions(member: Option<&Value>, rev: &Option<Rev>) -> Result<(), DocFault>
-    ensures ok { OnOk result
-        (IsOk (with_revisions (option_map (λ v. view v.now) member.entry) rev.now)) }
+/// The ancestry that a member `_revisions` gives beside what `_rev` gave. None where memory for it was refused.
+pub(crate) fn read_revisions(
+    alloc: Global,
+    member: Option<&Value>,
+    rev: Option<Rev>,
+) -> Result<Option<Ancestry>, DocFault>
+    ensures ok { OnOk result (IsOk (with_revisions (option_map (λ v. view v.now) member.entry) rev)) }
+    ensures built { IfOk result (λ o. IfSome o
+        (λ a. with_revisions (option_map (λ v. view v.now) member.entry) rev ≡ Ok a)) }
     ensures err { IfErr result
-        (λ e. with_revisions (option_map (λ v. view v.now) member.entry) rev.now ≡ Err e) }
+        (λ e. with_revisions (option_map (λ v. view v.now) member.entry) rev ≡ Err e) }
 {
     match member {
-        Some(value) => check_numbered(value, *rev),
-        None => match *rev {
-            Some(_) => Ok(()),
+        Some(value) => read_numbered(alloc, value, rev),
+        None => match rev {
+            Some(rev) => Ok(alone(alloc, rev)),
             None => Err(DocFault::NoRev),
         },
     }
 }
 
-/// Why a value of `_revisions` gives no ancestry beside what `_rev` gave.
-fn check_numbered(value: &Value, rev: Option<Rev>) -> Result<(), DocFault>
+/// The ancestry of a lone revision id. None where memory for it was refused.
+fn alone(alloc: Global, rev: Rev) -> Option<Ancestry>
+    ensures { IfSome result (λ a. a ≡ rev ∷ []) }
+{
+    let _generation = rev.generation();
+    let Ok(mut revs) = Vec::with_capacity(alloc, 1) else {
+        return None;
+    };
+    revs.push_reserved(rev);
+    Some(Ancestry::from_revs(revs))
+}
+
+/// The ancestry that a value of `_revisions` gives beside what `_rev` gave. None where memory for it was refused.
+fn read_numbered(
+    alloc: Global,
+    value: &Value,
+    rev: Option<Rev>,
+) -> Result<Option<Ancestry>, DocFault>
     ensures ok { OnOk result (IsOk (revisions_beside rev (view value.now))) }
+    ensures built { IfOk result (λ o. IfSome o (λ a. revisions_beside rev (view value.now) ≡ Ok a)) }
     ensures err { IfErr result (λ e. revisions_beside rev (view value.now) ≡ Err e) }
 {
     let Some(start) = start_of(value) else {
@@ -56,6 +79,77 @@ fn check_numbered(value: &Value, rev: Option<Rev>) -> Result<(), DocFault>
     let Some(ids) = ids_of(value) else {
         return Err(DocFault::BadRevisions);
     };
+    match numbered_from(alloc, start, ids) {
+        Ok(Some(ancestry)) => matched(ancestry, rev),
+        Ok(None) => Err(DocFault::BadRevisions),
+        // What is refused does not rest on memory.
+        Err(_) => match check_numbered(start, ids, rev) {
+            Ok(()) => Ok(None),
+            Err(fault) => Err(fault),
+        },
+    }
+}
+
+/// The ancestry, where a revision that is there is its newest.
+fn matched(ancestry: Ancestry, rev: Option<Rev>) -> Result<Option<Ancestry>, DocFault>
+    ensures ok { IfOk result (λ o. (o ≡ Some ancestry) × (matched rev ancestry ≡ Ok ancestry)) }
+    ensures err { IfErr result (λ e. matched rev ancestry ≡ Err e) }
+{
+    if let Some(rev) = rev {
+        let is_newest = rev == ancestry.head();
+        if !is_newest {
+            return Err(DocFault::RevMismatch);
+        }
+    }
+    Ok(Some(ancestry))
+}
+
+/// The ancestry of a start and a list of signatures, where they give one.
+fn numbered_from(
+    alloc: Global,
+    start: u64,
+    ids: &Vec<Value>,
+) -> Result<Option<Ancestry>, AllocError>
+    ensures some { IfOk result (λ o. IfSome o
+        (λ a. numbered_from (Some start) (sigs_of (items_view ids.now.items)) ≡ Ok a)) }
+    ensures none { IfOk result (λ o. IfNone o
+        (numbered_from (Some start) (sigs_of (items_view ids.now.items)) ≡ Err DocFault.BadRevisions)) }
+{
+    let count = ids.len() as u64;
+    if start > 4_294_967_295 || count < 1 || count > start {
+        return Ok(None);
+    }
+    match numbered(alloc, start as u32, ids)? {
+        Some(revs) => Ok(Some(Ancestry::from_revs(revs))),
+        None => Ok(None),
+    }
+}
+
+/// The revisions of a list of signatures, from a generation downwards.
+fn numbered(alloc: Global, start: u32, ids: &Vec<Value>) -> Result<Option<Vec<Rev>>, AllocError>
+    requires { length ids.now.items ≤ start }
+    ensures { IfOk result (λ o. option_map (λ revs. revs.items) o
+        ≡ option_map (numbered start) (sigs_of (items_view ids.now.items))) }
+{
+    let mut revs = Vec::with_capacity(alloc, ids.len())?;
+    let mut generation = start;
+    for item in ids {
+        let Some(sig) = sig_of(item) else {
+            return Ok(None);
+        };
+        revs.push_reserved(Rev::new(generation, sig));
+        generation -= 1;
+    }
+    Ok(Some(revs))
+}
+
+/// Why a start and a list give no ancestry beside what `_rev` gave.
+fn check_numbered(start: u64, ids: &Vec<Value>, rev: Option<Rev>) -> Result<(), DocFault>
+    ensures ok { OnOk result
+        (IsOk (numbered_beside rev (Some start) (sigs_of (items_view ids.now.items)))) }
+    ensures err { IfErr result
+        (λ e. numbered_beside rev (Some start) (sigs_of (items_view ids.now.items)) ≡ Err e) }
+{
     if !are_ids(start, ids) {
         return Err(DocFault::BadRevisions);
     }
@@ -137,72 +231,6 @@ fn is_revision(rev: Rev, generation: u64, sig: Sig) -> bool
 {
     let same_sig = rev.sig() == sig;
     u64::from(rev.generation()) == generation && same_sig
-}
-
-/// The ancestry that a member `_revisions` gives beside what `_rev` gave. The only error is `Memory`.
-pub(crate) fn build_revs(
-    alloc: Global,
-    member: Option<&Value>,
-    rev: Option<Rev>,
-) -> Result<Ancestry, DocFault>
-    requires { IsOk (with_revisions (option_map (λ v. view v.now) member) rev) }
-    ensures built { IfOk result (λ a. with_revisions (option_map (λ v. view v.now) member.entry) rev ≡ Ok a) }
-    ensures err { IfErr result (λ e. e ≡ DocFault.Memory) }
-{
-    match member {
-        Some(value) => build_numbered(alloc, value),
-        None => build_alone(alloc, rev.unwrap()),
-    }
-}
-
-/// The ancestry of a lone revision id.
-fn build_alone(alloc: Global, rev: Rev) -> Result<Ancestry, DocFault>
-    ensures built { IfOk result (λ a. a ≡ rev ∷ []) }
-    ensures err { IfErr result (λ e. e ≡ DocFault.Memory) }
-{
-    let _generation = rev.generation();
-    let Ok(mut revs) = Vec::with_capacity(alloc, 1) else {
-        return Err(DocFault::Memory);
-    };
-    match revs.push(rev) {
-        Ok(()) => Ok(Ancestry::from_revs(revs)),
-        Err(_) => Err(DocFault::Memory),
-    }
-}
-
-/// The ancestry of a value of `_revisions`.
-fn build_numbered(alloc: Global, value: &Value) -> Result<Ancestry, DocFault>
-    requires { IsOk (revisions_read (view value.now)) }
-    ensures built { IfOk result (λ a. revisions_read (view value.now) ≡ Ok a) }
-    ensures err { IfErr result (λ e. e ≡ DocFault.Memory) }
-{
-    let start = start_of(value).unwrap();
-    let ids = ids_of(value).unwrap();
-    let Ok(sigs) = read_sigs(alloc, ids) else {
-        return Err(DocFault::Memory);
-    };
-    match Ancestry::from_parts(alloc, start as u32, &sigs) {
-        Ok(ancestry) => Ok(ancestry),
-        Err(_) => Err(DocFault::Memory),
-    }
-}
-
-/// The signatures of a list of texts.
-fn read_sigs(alloc: Global, items: &Vec<Value>) -> Result<Vec<Sig>, DocFault>
-    requires { IsSome (sigs_of (items_view items.now.items)) }
-    ensures sigs { IfOk result (λ v. sigs_of (items_view items.now.items) ≡ Some v.items) }
-    ensures err { IfErr result (λ e. e ≡ DocFault.Memory) }
-{
-    let Ok(mut sigs) = Vec::with_capacity(alloc, items.len()) else {
-        return Err(DocFault::Memory);
-    };
-    for item in items {
-        let sig = sig_of(item).unwrap();
-        let Ok(()) = sigs.push(sig) else {
-            return Err(DocFault::Memory);
-        };
-    }
-    Ok(sigs)
 }
 
 /// The signature that a value is.

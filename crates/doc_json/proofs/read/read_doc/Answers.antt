@@ -1,5 +1,5 @@
 use Rattle.std.proofs.Common.{◌≡◌, List, Result, Ok, ℕ, codes, is_some, option_map, inl, inr, refl, sym, ap, ◌∙◌, subst}
-use Rattle.std.specs.Prelude.{IsOk}
+use Rattle.std.specs.Prelude.{IsOk, IfSome}
 use Rattle.serde_json.specs.Find.{get}
 use Rattle.serde_json.specs.View.{view, members_view}
 use Rattle.rev_core.specs.Rev.{RevId}
@@ -11,7 +11,7 @@ use Rattle.doc_json.specs.declared.fault.DocFault.{DocFault}
 use Rattle.doc_json.proofs.DocReads.{is_some-option_map, ok_value, found_at, no_object, bad_id, attached, unknown, bad_flag, bad_revs, fraction, accepted}
 use Rattle.doc_json.proofs.FoundRevisions.{revs_by, revs_refused}
 use Rattle.doc_json.proofs.read.read_doc.Goals as goal
-use Rattle.doc_json.proofs.read.read_doc.Goals.{After-is_some, After-read_flag, After-read_rev, After-check_revisions, Else-plain_members_have_fraction}
+use Rattle.doc_json.proofs.read.read_doc.Goals.{After-is_some, After-read_flag, After-read_rev, After-read_revisions, Else-plain_members_have_fraction}
 
 -- the id
 named : (c : After-is_some) → id_member (view c.args.value.now) ≡ Ok c.in-Ok.id.now
@@ -32,9 +32,9 @@ given : (c : After-read_rev) → rev_member (get (codes "_rev") (view c.args.val
 given c = ap rev_member (found_at (codes "_rev") _ _ _ (sym c.in-Some.ensures) c.special_members-found.ensures.rev) ∙ sym c.read_rev.ensures
 
 -- what `_revisions` gives beside it
-beside : (c : After-check_revisions) → revs_read (view c.args.value.now) ≡ with_revisions (option_map (λ v. view v.now) c.special_members-found.result.revisions) c.in-Ok-read_rev.rev
+beside : (c : After-read_revisions) → revs_read (view c.args.value.now) ≡ with_revisions (option_map (λ v. view v.now) c.special_members-found.result.revisions) c.in-Ok-read_rev.rev
 beside c =
-    revs_by (view c.args.value.now) c.in-Ok-read_rev.rev (given (goal.at.After-check_revisions c).After-read_rev ∙ c.in-Ok-read_rev.is)
+    revs_by (view c.args.value.now) c.in-Ok-read_rev.rev (given (goal.at.After-read_revisions c).After-read_rev ∙ c.in-Ok-read_rev.is)
     ∙ ap (λ m. with_revisions m c.in-Ok-read_rev.rev) (found_at (codes "_revisions") _ _ _ (sym c.in-Some.ensures) c.special_members-found.ensures.revisions)
 
 pub returns-in_default : goal.returns-in_default
@@ -69,20 +69,20 @@ returns-in-Err-read_rev c =
     inl (bad_revs _ _ (sym c.in-Some.ensures) _ (named e) (there e ∙ c.if-is_some.false) (sym c.special_members-found.ensures.unknown ∙ c.if-found.false) _
     (flag f ∙ c.in-Ok-read_flag.is) _ (revs_refused _ _ (given g ∙ c.in-Err-read_rev.is)))
 
-pub returns-in-Err-check_revisions : goal.returns-in-Err-check_revisions
-returns-in-Err-check_revisions c =
-    let e = (goal.at.returns-in-Err-check_revisions c).After-is_some in
-    let f = (goal.at.returns-in-Err-check_revisions c).After-read_flag in
-    let g = (goal.at.returns-in-Err-check_revisions c).After-check_revisions in
+pub returns-in-Err-read_revisions : goal.returns-in-Err-read_revisions
+returns-in-Err-read_revisions c =
+    let e = (goal.at.returns-in-Err-read_revisions c).After-is_some in
+    let f = (goal.at.returns-in-Err-read_revisions c).After-read_flag in
+    let g = (goal.at.returns-in-Err-read_revisions c).After-read_revisions in
     inl (bad_revs _ _ (sym c.in-Some.ensures) _ (named e) (there e ∙ c.if-is_some.false) (sym c.special_members-found.ensures.unknown ∙ c.if-found.false) _
-    (flag f ∙ c.in-Ok-read_flag.is) _ (beside g ∙ c.in-Err-check_revisions.ensures.err))
+    (flag f ∙ c.in-Ok-read_flag.is) _ (beside g ∙ c.in-Err-read_revisions.ensures.err))
 
 pub returns-then-plain_members_have_fraction : goal.returns-then-plain_members_have_fraction
 returns-then-plain_members_have_fraction c =
     let e = (goal.at.returns-then-plain_members_have_fraction c).After-is_some in
     let f = (goal.at.returns-then-plain_members_have_fraction c).After-read_flag in
-    let g = (goal.at.returns-then-plain_members_have_fraction c).After-check_revisions in
-    let revs = ok_value _ c.in_default-check_revisions.ensures.ok in
+    let g = (goal.at.returns-then-plain_members_have_fraction c).After-read_revisions in
+    let revs = ok_value _ c.in-Ok-read_revisions.ensures.ok in
     inl (fraction _ _ (sym c.in-Some.ensures) _ (named e) (there e ∙ c.if-is_some.false) (sym c.special_members-found.ensures.unknown ∙ c.if-found.false) _
     (flag f ∙ c.in-Ok-read_flag.is) revs.0 (beside g ∙ revs.1) (sym c.plain_members_have_fraction.ensures ∙ c.if-plain_members_have_fraction.true))
 
@@ -92,27 +92,28 @@ passed : (c : Else-plain_members_have_fraction) (revs : List RevId) → with_rev
 passed c revs read =
     let e = (goal.at.Else-plain_members_have_fraction c).After-is_some in
     let f = (goal.at.Else-plain_members_have_fraction c).After-read_flag in
-    let g = (goal.at.Else-plain_members_have_fraction c).After-check_revisions in
+    let g = (goal.at.Else-plain_members_have_fraction c).After-read_revisions in
     accepted _ _ (sym c.in-Some.ensures) _ (named e) (there e ∙ c.if-is_some.false) (sym c.special_members-found.ensures.unknown ∙ c.if-found.false) _
     (flag f ∙ c.in-Ok-read_flag.is) revs (beside g ∙ read) (sym c.plain_members_have_fraction.ensures ∙ c.if-plain_members_have_fraction.false)
 
 pub returns-in_default-of_checked : goal.returns-in_default-of_checked
 returns-in_default-of_checked c =
-    let revs = ok_value _ c.in_default-check_revisions.ensures.ok in
+    let revs = ok_value _ c.in-Ok-read_revisions.ensures.ok in
     inr (refl, subst IsOk (sym (passed (goal.at.returns-in_default-of_checked c).Else-plain_members_have_fraction revs.0 revs.1)) refl)
 
-pub returns-in_default-build_revs : goal.returns-in_default-build_revs
-returns-in_default-build_revs c =
-    let revs = ok_value _ c.in_default-check_revisions.ensures.ok in
-    inr (refl, subst IsOk (sym (passed (goal.at.returns-in_default-build_revs c).Else-plain_members_have_fraction revs.0 revs.1)) refl)
+pub returns-in_default-ancestry : goal.returns-in_default-ancestry
+returns-in_default-ancestry c =
+    let revs = ok_value _ c.in-Ok-read_revisions.ensures.ok in
+    inr (refl, subst IsOk (sym (passed (goal.at.returns-in_default-ancestry c).Else-plain_members_have_fraction revs.0 revs.1)) refl)
 
 pub returns-in_default-plain_body : goal.returns-in_default-plain_body
 returns-in_default-plain_body c =
-    let revs = ok_value _ c.in_default-check_revisions.ensures.ok in
+    let revs = ok_value _ c.in-Ok-read_revisions.ensures.ok in
     inr (refl, subst IsOk (sym (passed (goal.at.returns-in_default-plain_body c).Else-plain_members_have_fraction revs.0 revs.1)) refl)
 
 pub returns : goal.returns
 returns c =
     let of : List ℕ → List RevId → List ℕ → Result Document DocFault = λ id revs body. Ok (record { id = id; ancestry = revs; deleted = c.in-Ok-read_flag.deleted; body = body }) in
-    passed (goal.at.returns c).Else-plain_members_have_fraction _ c.in-Ok-build_revs.ensures.built
-    ∙ (λ i. of (sym c.in-Ok-of_checked.ensures.id i) c.in-Ok-build_revs.ancestry (sym c.in-Ok-plain_body.ensures.body i)) ∙ ap Ok (sym c.new.ensures.parts)
+    let reads : List RevId → Type 0 = λ revs. with_revisions (option_map (λ v. view v.now) c.special_members-found.result.revisions) c.in-Ok-read_rev.rev ≡ Ok revs in
+    passed (goal.at.returns c).Else-plain_members_have_fraction _ (subst (λ o. IfSome o reads) c.in-Some-ancestry.is c.in-Ok-read_revisions.ensures.built)
+    ∙ (λ i. of (sym c.in-Ok-of_checked.ensures.id i) c.in-Some-ancestry.ancestry (sym c.in-Ok-plain_body.ensures.body i)) ∙ ap Ok (sym c.new.ensures.parts)

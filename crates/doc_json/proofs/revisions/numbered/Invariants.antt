@@ -1,11 +1,15 @@
-use Rattle.std.proofs.Common.{◌≡◌, ◌++◌, drop, option_map}
-use Rattle.std.specs.Prelude.{IsSome}
+use Rattle.std.proofs.Common.{◌≡◌, ◌+◌, ◌≤◌, ◌++◌, drop, length, option_map}
+use Rattle.std.specs.Vec.{vec_len, vec_capacity}
 use Rattle.serde_json.specs.View.{items_view}
+use Rattle.rev_core.specs.Ancestry.{numbered}
 use Rattle.doc_json.specs.Revisions.{sigs_of}
-use Rattle.doc_json.proofs.revisions.read_sigs.Given as goal
+use Rattle.doc_json.proofs.revisions.numbered.Given as goal
 
 -- the rest of the list gives what all of it gives
 abbrev pub invariant-loop-item : goal.invariant-loop-item
-invariant-loop-item l =
-    (option_map (λ rest. l.sigs.items ++ rest) (sigs_of (items_view (drop l.item-index l.item-items))) ≡ sigs_of (items_view l.item-items))
-    × IsSome (sigs_of (items_view (drop l.item-index l.item-items)))
+invariant-loop-item l = record {
+  revs : option_map (λ rest. l.revs.items ++ numbered l.generation rest) (sigs_of (items_view (drop l.item-index l.item-items))) ≡ option_map (numbered l.start) (sigs_of (items_view l.item-items));
+  count : l.generation + l.item-index ≡ l.start;
+  within : length l.item-items ≤ l.start;
+  room : vec_len l.revs + length (drop l.item-index l.item-items) ≤ vec_capacity l.revs;
+}
