@@ -11,25 +11,21 @@ ghost use Rattle.script_databases.specs.declared.refusal.Refusal.TheVariants.{Ba
 ghost use Rattle.script_words.specs.Script.{IsObject, IsNoObject};
 ghost use Rattle.script_words.specs.Members.{as_uuid, as_whole, has_only, is_name, is_name_byte, name_at, optional, text_at};
 
+use json_values::{ReadFault, ValueReader};
 use script_databases::Refusal;
-use serde_json::{Category, Map, Value};
+use serde_json::{Map, Value};
 use std::alloc::Global;
 use uuid::Uuid;
 
 /// The JSON object that a line is. `BadLine` where it is none; want of memory may come in the place of any answer.
-pub fn read_object(alloc: Global, line: &[u8]) -> Result<Value, Refusal>
+pub fn read_object(values: &mut ValueReader, alloc: Global, line: &[u8]) -> Result<Value, Refusal>
     ensures ok { IfOk result (λ value. (ms : Members) × IsObject line.now ms × (view value ≡ object ms)) }
     ensures err { IfErr result (λ why. (why ≡ Memory) ⊎ ((why ≡ BadLine) × IsNoObject line.now)) }
 {
-    let value = match Value::from_slice(alloc, line) {
+    let value = match values.read(alloc, line) {
         Ok(value) => value,
-        Err(error) => {
-            return Err(if let Category::Memory = error.classify() {
-                Refusal::Memory
-            } else {
-                Refusal::BadLine
-            });
-        }
+        Err(ReadFault::NotJson) => return Err(Refusal::BadLine),
+        Err(ReadFault::Memory) => return Err(Refusal::Memory),
     };
     if !value.is_object() {
         return Err(Refusal::BadLine);

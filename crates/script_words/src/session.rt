@@ -12,6 +12,7 @@ ghost use Rattle.script_databases.specs.Stored.{program_of};
 
 use crate::members::read_object;
 use crate::words;
+use json_values::ValueReader;
 use script_databases::{Databases, Refusal, Settings};
 use script_engine::{ScriptFault, ScriptRead, ScriptWrite, Serve, run_lines};
 use std::alloc::Global;
@@ -20,11 +21,12 @@ use std::mem;
 use std::sync::Wait;
 use std::thread::Threads;
 
-/// The databases that a script's lines are served by, and what they run on.
+/// The databases that a script's lines are served by, what they run on, and what reads the lines' values.
 #[derive(Drop)]
 struct Session<'a, H> {
     rt: &'a H,
     alloc: Global,
+    values: ValueReader,
     databases: Databases,
 }
 
@@ -46,7 +48,14 @@ impl<'a, H: Threads + Wait + Sync> Serve for Session<'a, H> {
     ghost answers = { LinesAnswer };
 
     fn serve(&mut self, line: &[u8], answer: &mut Vec<u8>) -> Result<(), &'static str> {
-        match serve_line(self.rt, self.alloc, &mut self.databases, line, answer) {
+        match serve_line(
+            self.rt,
+            self.alloc,
+            &mut self.values,
+            &mut self.databases,
+            line,
+            answer,
+        ) {
             Ok(()) => {}
             Err(refusal) => return Err(refusal.name()),
         }
@@ -58,6 +67,7 @@ impl<'a, H: Threads + Wait + Sync> Serve for Session<'a, H> {
 fn serve_line<H: Threads + Wait + Sync>(
     rt: &H,
     alloc: Global,
+    values: &mut ValueReader,
     databases: &mut Databases,
     line: &[u8],
     answer: &mut Vec<u8>,
@@ -65,7 +75,7 @@ fn serve_line<H: Threads + Wait + Sync>(
     requires { answer.old.items ≡ [] }
     ensures { MayTell LinesAnswer databases.old line.now (told_by result answer.new.items) databases.new }
 {
-    let value = match read_object(alloc, line) {
+    let value = match read_object(values, alloc, line) {
         Ok(value) => value,
         Err(refusal) => return Err(refusal),
     };
@@ -166,12 +176,14 @@ fn run_on<H: Threads + Wait + Sync, R: ScriptRead, W: ScriptWrite>(
     let mut session = Session {
         rt,
         alloc,
+        values: ValueReader::new(alloc),
         databases,
     };
     let ended = run_lines(alloc, &mut session, reader, writer);
     let Session {
         rt: _,
         alloc: _,
+        values: _,
         databases,
     } = session;
     (ended, databases)
