@@ -8,7 +8,7 @@ use crate::origin::{Origin, SessionId};
 use rev_core::Rev;
 use std::marker::Model;
 
-/// Half of the numbers of sessions, and one more.
+/// How many numbers of 64 bits there are: each half of a session's number is one of them.
 const HALF: u128 = 1 << 64;
 
 /// A revision, the place of its parent where one is known, what stands at it where that is known, where it came
