@@ -57,18 +57,6 @@ pub(crate) fn members_have_fraction(members: &Map<String, Value>) -> bool
     false
 }
 
-/// Whether a member without a leading `_` does.
-pub(crate) fn plain_members_have_fraction(members: &Map<String, Value>) -> bool
-    ensures { result ≡ members_have_float (plain_members (members_view members.now.entries)) }
-{
-    for (name, member) in members.iter() {
-        if !is_special(name.as_str()) && has_fraction(member) {
-            return true;
-        }
-    }
-    false
-}
-
 /// Whether there is a member with a leading `_`.
 pub(crate) fn has_special(members: &Map<String, Value>) -> bool
     ensures { result ≡ has_special (members_view members.now.entries) }
@@ -81,19 +69,21 @@ pub(crate) fn has_special(members: &Map<String, Value>) -> bool
     false
 }
 
-/// The members of a document with a leading `_`, each where it is there, and whether there is one that no document has.
+/// The members of a document with a leading `_`, each where it is there, whether there is one that no document has, and
+/// whether a member without a leading `_` is, or holds at any depth, a number that is neither an i64 nor a u64.
 #[derive(Clone, Copy)]
-pub(crate) struct SpecialMembers<'a> {
+pub(crate) struct FoundMembers<'a> {
     pub(crate) id: Option<&'a Value>,
     pub(crate) attachments: Option<&'a Value>,
     pub(crate) deleted: Option<&'a Value>,
     pub(crate) rev: Option<&'a Value>,
     pub(crate) revisions: Option<&'a Value>,
     pub(crate) has_unknown: bool,
+    pub(crate) has_fraction: bool,
 }
 
-/// Finds the members with a leading `_`, in one walk over all members.
-pub(crate) fn special_members(members: &Map<String, Value>) -> SpecialMembers<'_>
+/// Finds the members with a leading `_`, and looks at the others, in one walk over all members.
+pub(crate) fn find_members(members: &Map<String, Value>) -> FoundMembers<'_>
     ensures id { option_map (λ v. view v.now) result.id
         ≡ get_member (codes "_id") (members_view members.now.entries) }
     ensures attachments { option_map (λ v. view v.now) result.attachments
@@ -105,9 +95,12 @@ pub(crate) fn special_members(members: &Map<String, Value>) -> SpecialMembers<'_
     ensures revisions { option_map (λ v. view v.now) result.revisions
         ≡ get_member (codes "_revisions") (members_view members.now.entries) }
     ensures unknown { result.has_unknown ≡ has_unknown (members_view members.now.entries) }
+    ensures fraction { result.has_fraction
+        ≡ members_have_float (plain_members (members_view members.now.entries)) }
 {
     let (mut id, mut attachments, mut deleted) = (None, None, None);
-    let (mut rev, mut revisions, mut has_unknown) = (None, None, false);
+    let (mut rev, mut revisions) = (None, None);
+    let (mut has_unknown, mut is_inexact) = (false, false);
     for (name, member) in members.iter() {
         let name = name.as_str();
         if is_special(name) {
@@ -117,15 +110,18 @@ pub(crate) fn special_members(members: &Map<String, Value>) -> SpecialMembers<'_
             rev = kept(rev, name, "_rev", member);
             revisions = kept(revisions, name, "_revisions", member);
             has_unknown = has_unknown || is_unknown(name);
+        } else {
+            is_inexact = is_inexact || has_fraction(member);
         }
     }
-    SpecialMembers {
+    FoundMembers {
         id,
         attachments,
         deleted,
         rev,
         revisions,
         has_unknown,
+        has_fraction: is_inexact,
     }
 }
 

@@ -28,7 +28,7 @@ pub fn read_doc(alloc: Global, value: &Value) -> Result<Doc, DocFault>
     let Some(members) = value.as_object() else {
         return Err(DocFault::NotObject);
     };
-    let found = members::special_members(members);
+    let found = members::find_members(members);
     let id = match read_id(found.id) {
         Ok(id) => id,
         Err(fault) => return Err(fault),
@@ -51,7 +51,7 @@ pub fn read_doc(alloc: Global, value: &Value) -> Result<Doc, DocFault>
         Ok(ancestry) => ancestry,
         Err(fault) => return Err(fault),
     };
-    if members::plain_members_have_fraction(members) {
+    if found.has_fraction {
         return Err(DocFault::Fraction);
     }
     let Some(ancestry) = ancestry else {

@@ -2,8 +2,9 @@ use Rattle.std.proofs.Common.{◌≡◌, ◌||◌, codes, option_map}
 use Rattle.std.specs.Option.{option_or}
 use Rattle.serde_json.specs.Find.{get_member}
 use Rattle.serde_json.specs.View.{view, members_view}
-use Rattle.doc_json.specs.Members.{has_unknown}
-use Rattle.doc_json.proofs.members.special_members.Given as goal
+use Rattle.serde_json.specs.Written.{members_have_float}
+use Rattle.doc_json.specs.Members.{has_unknown, plain_members}
+use Rattle.doc_json.proofs.members.find_members.Given as goal
 
 -- what was found, and else what is found in the members that are left
 abbrev pub invariant-loop-name : goal.invariant-loop-name
@@ -17,4 +18,5 @@ invariant-loop-name l =
       rev : option_or (option_map (λ v. view v.now) l.rev) (get_member (codes "_rev") left) ≡ get_member (codes "_rev") all;
       revisions : option_or (option_map (λ v. view v.now) l.revisions) (get_member (codes "_revisions") left) ≡ get_member (codes "_revisions") all;
       unknown : (l.has_unknown || has_unknown left) ≡ has_unknown all;
+      fraction : (l.is_inexact || members_have_float (plain_members left)) ≡ members_have_float (plain_members all);
     }
