@@ -129,10 +129,10 @@ fn written(alloc: Global, value: &Value) -> Result<ArcSlice<u8>, DocFault>
     ensures written { IfOk result (λ v. IsWritten (arc_slice_items v) (view value.now)) }
     ensures err { IfErr result (λ e. e ≡ DocFault.Memory) }
 {
-    let Ok(mut text) = value.to_vec(alloc) else {
+    let Ok(text) = value.to_vec(alloc) else {
         return Err(DocFault::Memory);
     };
-    text.shrink_to_fit();
+    let text = compact::trimmed(text);
     match ArcSlice::from_vec(text) {
         Ok(text) => Ok(text),
         Err(_) => Err(DocFault::Memory),

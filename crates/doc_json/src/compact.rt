@@ -13,7 +13,7 @@ use json::Writer;
 use serde_json::{Map, Number, Value};
 use std::alloc::{AllocError, Global};
 
-/// The compact text of the object of the members without a leading `_`, in a buffer of its length.
+/// The compact text of the object of the members without a leading `_`, in a buffer with fewer than 32 bytes to spare.
 pub(crate) fn plain_text(alloc: Global, members: &Map<String, Value>) -> Result<Vec<u8>, AllocError>
     requires { members_have_float (plain_members (members_view members.now.entries)) ≡ false }
     ensures { IfOk result
@@ -22,9 +22,18 @@ pub(crate) fn plain_text(alloc: Global, members: &Map<String, Value>) -> Result<
     let mut out = Writer::new(Vec::with_capacity(alloc, 128)?);
     out.begin_object()?;
     write_plain(members, &mut out)?;
-    let mut text = out.into_inner();
-    text.shrink_to_fit();
-    Ok(text)
+    Ok(trimmed(out.into_inner()))
+}
+
+/// The text, in a buffer with fewer than 32 bytes to spare: so few would not come free as a block of their own.
+pub(crate) fn trimmed(text: Vec<u8>) -> Vec<u8>
+    ensures { result.items ≡ text.items }
+{
+    let mut text = text;
+    if text.capacity().saturating_sub(text.len()) >= 32 {
+        text.shrink_to_fit();
+    }
+    text
 }
 
 /// Writes the members without a leading `_`, and the end of their object.

@@ -19,5 +19,5 @@ returns c =
     let opened : c.begin_object.new.self.tokens ≡ begin_object ∷ [] = search rules in
     let whole : WritesValue (object ms) [] ts =
     (json.object w.0, w.1 ∙ ap (λ front. front ++ tree.members_tokens w.0) opened, ap (option_map object) w.2, omega (arith, w.3), ap json.object w.4) in
-    let text : c.shrink_to_fit.new.self.items ≡ print ts = search rules in
-    is_written (object ms) ts _ whole text (ap tokens text ∙ c.into_inner-text.ensures.reads_back) c.requires
+    let text : c.trimmed.result.items ≡ print ts = search rules in
+    is_written (object ms) ts _ whole text (ap tokens text ∙ c.into_inner.ensures.reads_back) c.requires
