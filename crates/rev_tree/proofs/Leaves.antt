@@ -1,5 +1,5 @@
 -- The leaves among the nodes, counted, put in order and sorted.
-use Rattle.std.proofs.Common.{◌≡◌, ℕ, zero, suc, ◌+◌, ◌<◌, ◌≤◌, ◌&&◌, ◌||◌, ◌++◌, ◌∷◌, [], List, Bool, true, false, cond, not, length, take, get_or, filter, sym, ap, ◌∙◌, subst, Some, refl, arith, add-one}
+use Rattle.std.proofs.Common.{◌≡◌, ℕ, zero, suc, ◌+◌, ◌<◌, ◌≤◌, ◌&&◌, ◌||◌, ◌++◌, ◌∷◌, [], List, Bool, true, false, cond, not, length, take, drop, get_or, filter, sym, ap, ◌∙◌, subst, Option, Some, None, is_some, refl, arith, add-one}
 use Rattle.std.proofs.lemmas.Bool.{false≢true}
 use Rattle.std.specs.List.{list_any}
 use Rattle.std.specs.List.Sorted.{IsSortedBy, IsPermutation}
@@ -10,13 +10,13 @@ use Rattle.std.specs.Ordering.{eq_by_cmp, is_lt, is_eq, ordering_reverse}
 use Rattle.std.specs.Cmp.{IsTotalOrder}
 use Rattle.std.specs.FinMap.{keys, contains_key-keys, IsAntisymmetric}
 use Rattle.std.specs.FinMap.Entries.{by_order}
-use Rattle.std.proofs.lemmas.List.{take_more, map-append, append-nil, length-append}
+use Rattle.std.proofs.lemmas.List.{take_more, take-append-drop, map-append, append-nil, length-append}
 use Rattle.std.proofs.lemmas.List.Elements.{filter-append}
 use Rattle.rev_core.specs.Rev.{RevId, rev_cmp}
-use Rattle.rev_tree.specs.InOrder.{in_order, placed, same_in_order, in_order-push, in_order-cons, in_order-nil, length-placed}
+use Rattle.rev_tree.specs.InOrder.{in_order, placed, only_of, same_in_order, in_order-push, in_order-cons, in_order-nil, length-placed}
 use Rattle.rev_tree.specs.Tree.{TreeValue, is_leaf, is_deleted, leaf_cmp, leaves}
 use Rattle.rev_tree.specs.Content.{ContentValue}
-use Rattle.std.specs.Option.{option_map_or}
+use Rattle.std.specs.Option.{option_map_or, option_to_list}
 use Rattle.rev_tree.specs.LeafLaws.{leaf_cmp_total, leaf_cmp_exact, leaf_tie, any_agree, any_filter}
 use Rattle.rev_tree.specs.Nodes.{revs_in, tree_of, Distinct, IsLinked}
 use Rattle.rev_tree.specs.Node.{NodeValue}
@@ -93,6 +93,54 @@ count_more t nodes i n low is =
     ap length (leaves_pushed t nodes i n low is)
     ∙ length-append before (cond (is_leaf t n.rev) (n.rev ∷ []) [])
     ∙ ap (λ k. length before + k) (elim (is_leaf t n.rev) as (λ b. length (cond b (n.rev ∷ []) []) ≡ cond b 1 0) [ true ↦ refl | false ↦ refl ])
+
+-- ---- one alone
+
+pub none_there : (found : Option RevId) → is_some found ≡ false → found ≡ None
+none_there None e = refl
+none_there (Some r) e = absurd (false≢true (sym e))
+
+two_are_not_one : (xs : List RevId) → 1 < length xs → None ≡ only_of xs
+two_are_not_one [] two = absurd (omega (arith, two))
+two_are_not_one (x ∷ []) two = absurd (omega (arith, two))
+two_are_not_one (x ∷ (y ∷ xs)) two = refl
+
+-- a beginning of the nodes has no more leaves than all
+as_many : (t : TreeValue) (nodes : List NodeValue) (k : ℕ) → length (filter (is_leaf t) (revs_in (take k nodes))) ≤ length (filter (is_leaf t) (revs_in nodes))
+as_many t nodes k =
+    let first = revs_in (take k nodes) in
+    let rest = revs_in (drop k nodes) in
+    let e : length (filter (is_leaf t) (revs_in nodes)) ≡ length (filter (is_leaf t) first) + length (filter (is_leaf t) rest) =
+    ap (λ l. length (filter (is_leaf t) (revs_in l))) (sym (take-append-drop k nodes))
+    ∙ ap (λ l. length (filter (is_leaf t) l)) (map-append (λ (x : NodeValue). x.rev) (take k nodes) (drop k nodes))
+    ∙ ap length (filter-append (is_leaf t) first rest)
+    ∙ length-append (filter (is_leaf t) first) (filter (is_leaf t) rest) in
+    omega (arith, e)
+
+-- a leaf behind another: none is alone
+pub second_leaf : (nodes : List NodeValue) (t : TreeValue) → IsLinked nodes → tree_of nodes ≡ t → (i : ℕ) (n : NodeValue) (found : Option RevId) → i < length nodes → n ≡ get_or nodes i n → filter (is_leaf t) (revs_in (take i nodes)) ≡ option_to_list found → is_some found ≡ true → is_leaf t n.rev ≡ true → None ≡ only_of (leaves t)
+second_leaf nodes t linked view i n found low is before some leaf =
+    let more = count_more t nodes i n low is ∙ ap (λ b. length (filter (is_leaf t) (revs_in (take i nodes))) + cond b 1 0) leaf in
+    let one = ap length before ∙ one_of found some in
+    let all = as_many t nodes (i + 1) in
+    let same = length-leaves nodes t linked view in
+    two_are_not_one (leaves t) (omega (arith, more, one, all, same))
+  where
+    one_of : (o : Option RevId) → is_some o ≡ true → length (option_to_list o) ≡ 1
+    one_of None e = absurd (false≢true e)
+    one_of (Some r) e = refl
+
+-- the leaves of all nodes, where there is one at most
+pub lone_leaf : (nodes : List NodeValue) (t : TreeValue) → IsLinked nodes → tree_of nodes ≡ t → (found : Option RevId) → filter (is_leaf t) (revs_in nodes) ≡ option_to_list found → found ≡ only_of (leaves t)
+lone_leaf nodes t linked view found e = sym (ap only_of (sym (leaves_of_nodes nodes t linked view) ∙ ap (in_order (leaf_cmp t)) e ∙ ordered found) ∙ only found)
+  where
+    ordered : (o : Option RevId) → in_order (leaf_cmp t) (option_to_list o) ≡ option_to_list o
+    ordered None = in_order-nil (leaf_cmp t)
+    ordered (Some r) = in_order-cons (leaf_cmp_total t) r [] ∙ ap (placed (leaf_cmp t) r) (in_order-nil (leaf_cmp t))
+
+    only : (o : Option RevId) → only_of (option_to_list o) ≡ o
+    only None = refl
+    only (Some r) = refl
 
 -- ---- a sorted list
 

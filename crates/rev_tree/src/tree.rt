@@ -149,11 +149,16 @@ impl Tree {
     fn only_leaf(&self) -> Option<Rev>
         ensures { result ≡ only_of (leaves self.now) }
     {
-        if self.leaf_count() == 1 {
-            self.winner()
-        } else {
-            None
+        let mut found = None;
+        for node in &self.nodes {
+            if !node.has_child() {
+                if found.is_some() {
+                    return None;
+                }
+                found = Some(node.rev());
+            }
         }
+        found
     }
 
     /// The leaves, winner first, of which there may be several.

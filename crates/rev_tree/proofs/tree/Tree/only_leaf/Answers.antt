@@ -1,0 +1,49 @@
+use Rattle.std.proofs.Common.{◌≡◌, ◌<◌, ◌++◌, ◌∷◌, [], cond, not, length, take, get_or, filter, sym, ap, ◌∙◌, subst}
+use Rattle.std.specs.Option.{option_to_list}
+use Rattle.std.proofs.lemmas.List.{take_all, append-nil}
+use Rattle.rev_tree.specs.Tree.{is_leaf}
+use Rattle.rev_tree.specs.Nodes.{revs_in}
+use Rattle.rev_tree.proofs.Leaves.{leaf_item, leaves_pushed, none_there, second_leaf, lone_leaf}
+use Rattle.rev_tree.proofs.tree.Tree.only_leaf.Goals as goal
+use Rattle.rev_tree.proofs.tree.Tree.only_leaf.Goals.{then-not-has_child+else-is_some, else-not-has_child}
+
+pub returns-then-is_some : goal.returns-then-is_some
+returns-then-is_some c =
+    let t = c.args.self.now in
+    let nodes = c.self.inside.nodes.items in
+    let items = c.deref-node-items.result.now in
+    let i = c.loop-node.node-index in
+    let n = c.node-item.result in
+    let same = c.deref-node-items.ensures.value in
+    let leaf = leaf_item nodes items t c.self.invariant.linked c.self.view_is same i n c.loop-node-test.true c.node-item.is in
+    second_leaf nodes t c.self.invariant.linked c.self.view_is i n c.loop-node.found
+    (subst (λ l. i < length l) same c.loop-node-test.true)
+    (subst (λ l. n ≡ get_or l i n) same c.node-item.is)
+    (subst (λ l. filter (is_leaf t) (revs_in (take i l)) ≡ option_to_list c.loop-node.found) same c.loop-node.invariant)
+    (sym c.is_some.ensures ∙ c.if-is_some.true)
+    (leaf ∙ ap not (sym c.has_child.ensures ∙ c.if-not-has_child.true))
+
+pub loop-node-preserved : goal.loop-node-preserved
+loop-node-preserved c =
+    let t = c.args.self.now in
+    let items = c.deref-node-items.result.now in
+    let i = c.loop-node.node-index in
+    let n = c.node-item.result in
+    let before = filter (is_leaf t) (revs_in (take i items)) in
+    let leaf = leaf_item c.self.inside.nodes.items items t c.self.invariant.linked c.self.view_is c.deref-node-items.ensures.value i n c.loop-node-test.true c.node-item.is in
+    let more = leaves_pushed t items i n c.loop-node-test.true c.node-item.is in
+    elim c.if-not-has_child.branch [
+      | then-not-has_child+else-is_some w ↦
+          more ∙ ap (λ b. before ++ cond b (n.rev ∷ []) []) (leaf ∙ ap not (sym c.has_child.ensures ∙ w.if-not-has_child.true))
+          ∙ ap (λ l. l ++ n.rev ∷ []) (c.loop-node.invariant ∙ ap option_to_list (none_there c.loop-node.found (sym w.is_some.ensures ∙ w.if-is_some.false)))
+          ∙ ap (λ r. r ∷ []) (sym w.rev.ensures) ∙ ap option_to_list (sym w.found-is)
+      | else-not-has_child w ↦
+          more ∙ ap (λ b. before ++ cond b (n.rev ∷ []) []) (leaf ∙ ap not (sym c.has_child.ensures ∙ w.if-not-has_child.false)) ∙ append-nil before
+          ∙ c.loop-node.invariant ∙ ap option_to_list (sym w.found-is)
+    ]
+
+pub returns : goal.returns
+returns c =
+    let t = c.args.self.now in
+    lone_leaf c.self.inside.nodes.items t c.self.invariant.linked c.self.view_is c.loop-node.found
+    (sym (ap (λ l. filter (is_leaf t) (revs_in l)) (take_all _ _ c.loop-node-test.false ∙ c.deref-node-items.ensures.value)) ∙ c.loop-node.invariant)
