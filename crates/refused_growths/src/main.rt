@@ -11,6 +11,7 @@ mod pools;
 mod replications;
 mod revisions;
 mod trees;
+mod values;
 mod worlds;
 
 use anyhow::Result;
@@ -20,6 +21,7 @@ fn main(rt: HostRuntime) -> Result<()> {
     trees::run(&rt, rt.alloc())?;
     fronts::run(&rt, rt.alloc())?;
     logs::run(&rt, rt.alloc())?;
+    values::run(&rt, rt.alloc())?;
     documents::run(&rt, rt.alloc())?;
     databases::run(&rt, rt.alloc())?;
     peers::run(&rt, rt.alloc())?;
