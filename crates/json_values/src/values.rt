@@ -13,6 +13,7 @@ use std::alloc::Global;
 
 /// The value that the next tokens are, of at most this nesting.
 #[cycle(read)]
+#[inline(always)]
 pub(crate) fn read_value(
     alloc: Global,
     reader: &mut Reader<'_>,
@@ -56,6 +57,7 @@ pub(crate) fn read_value(
 
 /// The items up to the end of a list.
 #[cycle(read)]
+#[inline(never)]
 fn read_items(alloc: Global, reader: &mut Reader<'_>, depth: usize) -> Result<Vec<Value>, ReadFault>
     ensures ok { IfOk result
         (λ found. converted of_items (items (value depth) (length reader.old) reader.old)
@@ -76,6 +78,7 @@ fn read_items(alloc: Global, reader: &mut Reader<'_>, depth: usize) -> Result<Ve
 
 /// The members up to the end of an object.
 #[cycle(read)]
+#[inline(never)]
 fn read_members(
     alloc: Global,
     reader: &mut Reader<'_>,
