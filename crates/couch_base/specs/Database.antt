@@ -16,6 +16,9 @@ use Rattle.couch_base.specs.declared.fault.BaseFault.TheVariants as faults
 abbrev pub Id : Type 0
 Id = List ℕ
 
+abbrev pub coded_id : Coded Id
+coded_id = coded_list coded_ℕ
+
 -- a document as it stands: the sequence of its latest change, and its tree
 pub record DocumentValue : Type 0 where
   pub id : Id
@@ -30,7 +33,7 @@ pub record DatabaseValue : Type 0 where
 
 abbrev pub coded_document : Coded DocumentValue
 coded_document =
-    code_by (Id × (ℕ × TreeValue)) (coded× (coded_list coded_ℕ) (coded× coded_ℕ coded_tree))
+    code_by (Id × (ℕ × TreeValue)) (coded× coded_id (coded× coded_ℕ coded_tree))
     (λ d. (d.id, (d.seq, d.tree))) (λ p. record { id = p.0; seq = p.1.0; tree = p.1.1 }) (λ _. refl)
 
 abbrev pub coded_database : Coded DatabaseValue

@@ -1,13 +1,15 @@
 -- The changes feed and its pages: docs/PROFILE.md, "Changes feed"; CouchDB, "Replication Protocol", `_changes` with
 -- `style=all_docs`.
-use Rattle.std.specs.Prelude.{ℕ, ◌<◌, ◌&&◌, ◌==◌, nat_lt, nat_le, List, [], ◌∷◌, map, filter, take, length, Result, Ok, Err, if◌then◌else◌}
+use Rattle.std.specs.Prelude.{ℕ, ◌<◌, ◌&&◌, ◌==◌, nat_lt, nat_le, List, [], ◌∷◌, map, filter, take, length, Result, Ok, Err, if◌then◌else◌, refl}
+use Rattle.std.specs.Coded.{Coded, code_by, coded×, coded_ℕ, coded_list}
 use Rattle.std.specs.List.{AllByRecursion}
 use Rattle.std.specs.Ordering.{eq_by_cmp}
 use Rattle.std.specs.Str.{bytes_eq}
 use Rattle.rev_core.specs.Rev.{RevId, rev_cmp}
+use Rattle.rev_core.specs.RevOrder.{coded_rev}
 use Rattle.rev_tree.specs.Tree.{leaves}
 use Rattle.couch_base.specs.Lists.{Rises, EachOnce}
-use Rattle.couch_base.specs.Database.{Id, DocumentValue, DatabaseValue}
+use Rattle.couch_base.specs.Database.{Id, DocumentValue, DatabaseValue, coded_id}
 use Rattle.couch_base.specs.declared.fault.BaseFault.{BaseFault}
 use Rattle.couch_base.specs.declared.fault.BaseFault.TheVariants as faults
 
@@ -22,6 +24,16 @@ pub record WindowValue : Type 0 where
   pub lo : ℕ
   pub hi : ℕ
   pub rows : List RowValue
+
+abbrev pub coded_row : Coded RowValue
+coded_row =
+    code_by (ℕ × (Id × List RevId)) (coded× coded_ℕ (coded× coded_id (coded_list coded_rev)))
+    (λ r. (r.seq, (r.id, r.leaves))) (λ p. record { seq = p.0; id = p.1.0; leaves = p.1.1 }) (λ _. refl)
+
+abbrev pub coded_window : Coded WindowValue
+coded_window =
+    code_by (ℕ × (ℕ × List RowValue)) (coded× coded_ℕ (coded× coded_ℕ (coded_list coded_row)))
+    (λ w. (w.lo, (w.hi, w.rows))) (λ p. record { lo = p.0; hi = p.1.0; rows = p.1.1 }) (λ _. refl)
 
 abbrev pub row_of : DocumentValue → RowValue
 row_of d = record { seq = d.seq; id = d.id; leaves = leaves d.tree }

@@ -1,18 +1,20 @@
 -- Asking for missing revisions, and fetching them: docs/PROFILE.md, "Missing revisions" and "Fetching"; CouchDB,
 -- "Replication Protocol", `_revs_diff`, and a fetch with `latest`.
-use Rattle.std.specs.Prelude.{◌≡◌, ℕ, ◌<◌, Bool, true, false, ◌&&◌, ◌||◌, List, [], ◌∷◌, ◌++◌, map, length, Option}
+use Rattle.std.specs.Prelude.{◌≡◌, ℕ, ◌<◌, Bool, true, false, ◌&&◌, ◌||◌, List, [], ◌∷◌, ◌++◌, map, length, Option, refl}
+use Rattle.std.specs.Coded.{Coded, code_by, coded×, coded_ℕ, coded_list}
 use Rattle.std.specs.List.{list_any, list_all, AllByRecursion}
 use Rattle.std.specs.Option.{option_map, option_map_or}
 use Rattle.std.specs.Ordering.{eq_by_cmp}
 use Rattle.std.specs.Str.{bytes_eq}
 use Rattle.std.specs.FinMap.{get}
 use Rattle.rev_core.specs.Rev.{RevId, rev_cmp}
+use Rattle.rev_core.specs.RevOrder.{coded_rev}
 use Rattle.rev_core.specs.Ancestry.{is_among}
 use Rattle.rev_tree.specs.Content.{ContentValue}
 use Rattle.rev_tree.specs.Tree.{TreeValue, ancestors, is_deleted, leaves_above, missing}
-use Rattle.doc_json.specs.Document.{Document}
+use Rattle.doc_json.specs.Document.{Document, coded_doc}
 use Rattle.couch_base.specs.Lists.{EachOnce}
-use Rattle.couch_base.specs.Database.{Id, DocumentValue, DatabaseValue, tree_of}
+use Rattle.couch_base.specs.Database.{Id, DocumentValue, DatabaseValue, coded_id, tree_of}
 use Rattle.couch_base.specs.Feed.{RowValue, WindowValue}
 
 -- what is asked of one document
@@ -31,6 +33,22 @@ pub record ParcelValue : Type 0 where
   pub asked : AskedValue
   pub docs : List Document
   pub gone : List (Id × RevId)
+
+abbrev pub coded_wanted : Coded WantedValue
+coded_wanted =
+    code_by (Id × List RevId) (coded× coded_id (coded_list coded_rev)) (λ w. (w.id, w.revs))
+    (λ p. record { id = p.0; revs = p.1 }) (λ _. refl)
+
+abbrev pub coded_asked : Coded AskedValue
+coded_asked =
+    code_by (ℕ × (ℕ × List WantedValue)) (coded× coded_ℕ (coded× coded_ℕ (coded_list coded_wanted)))
+    (λ a. (a.lo, (a.hi, a.docs))) (λ p. record { lo = p.0; hi = p.1.0; docs = p.1.1 }) (λ _. refl)
+
+abbrev pub coded_parcel : Coded ParcelValue
+coded_parcel =
+    code_by (AskedValue × (List Document × List (Id × RevId)))
+    (coded× coded_asked (coded× (coded_list coded_doc) (coded_list (coded× coded_id coded_rev))))
+    (λ p. (p.asked, (p.docs, p.gone))) (λ p. record { asked = p.0; docs = p.1.0; gone = p.1.1 }) (λ _. refl)
 
 -- ---- asking
 

@@ -1,4 +1,6 @@
 //! Documents.
+ghost use Rattle.doc_json.specs.Document.{Document, IsDocument};
+
 use crate::body::Body;
 use crate::doc_id::DocId;
 use crate::fault::DocFault;
@@ -16,8 +18,6 @@ pub struct Doc {
 }
 
 impl Model for Doc {
-    ghost use Rattle.doc_json.specs.Document.{Document, IsDocument};
-
     ghost Value = { Document };
 
     ghost view = { λ d. record {
@@ -37,7 +37,6 @@ impl Model for Doc {
 
 impl Doc {
     ghost use Rattle.std.specs.Prelude.{◌≡◌, IfOk, IfErr};
-    ghost use Rattle.doc_json.specs.Document.{Document, IsDocument};
 
     /// The document of these parts.
     pub fn new(id: DocId, ancestry: Ancestry, deleted: bool, body: Body) -> Doc

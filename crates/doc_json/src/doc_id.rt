@@ -1,12 +1,10 @@
 //! The ids of documents.
-ghost use Rattle.std.specs.Prelude.{◌≡◌, ◌∷◌, [], Ok, Err, IfErr, OnOk, nat_eq};
+ghost use Rattle.std.specs.Prelude.{◌≡◌, ◌∷◌, [], Ok, Err, IfErr, OnOk, nat_eq, refl};
 ghost use Rattle.std.specs.Ordering.{nat_cmp, as_partial_cmp};
 ghost use Rattle.std.specs.Cmp;
-ghost use Rattle.std.specs.Cmp.{partial_order_from_own_ties};
-ghost use Rattle.std.specs.Cmp.Rules.{comparing, hashing};
-ghost use Rattle.std.specs.Cmp.Lexicographic.{pointwise, slice_cmp};
+ghost use Rattle.std.specs.Cmp.Rules.{hashing};
+ghost use Rattle.std.specs.Cmp.Lexicographic.{pointwise, slice_cmp, nat_list_eq_equiv, nat_list_cmp_total, texts_po, texts_ties};
 ghost use Rattle.std.proofs.Common.{rules};
-ghost use Rattle.std.proofs.lemmas.Cmp.{nat_list_eq_equiv};
 ghost use Rattle.doc_json.specs.DocId.{doc_id_read, is_special, is_design};
 
 use crate::fault::DocFault;
@@ -137,7 +135,7 @@ impl Eq for DocId {
 impl PartialOrd for DocId {
     ghost partial_cmp = { as_partial_cmp (slice_cmp nat_cmp) };
 
-    ghost laws = { partial_order_from_own_ties (Prim.search (comparing, rules)) (Prim.search (comparing, rules)) };
+    ghost laws = { texts_po };
 
     fn partial_cmp(&self, other: &DocId) -> Option<Ordering> {
         Some(self.cmp(other))
@@ -147,11 +145,11 @@ impl PartialOrd for DocId {
 impl Ord for DocId {
     ghost cmp = { slice_cmp nat_cmp };
 
-    ghost total = { Prim.search (comparing, rules) };
+    ghost total = { nat_list_cmp_total };
 
-    ghost matches_partial_cmp = { Prim.search (comparing, rules) };
+    ghost matches_partial_cmp = { λ _ _. refl };
 
-    ghost matches_eq = { Prim.search (comparing, rules) };
+    ghost matches_eq = { texts_ties };
 
     fn cmp(&self, other: &DocId) -> Ordering {
         self.text().cmp(other.text())

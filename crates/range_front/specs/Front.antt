@@ -1,5 +1,6 @@
 -- Fronts of windows and their low water: docs/PROFILE.md, "Windows and low water".
-use Rattle.std.specs.Prelude.{◌≡◌, ℕ, ◌<◌, ◌^◌, ◌+◌, Bool, false, true, ◌&&◌, ◌==◌, nat_le, if◌then◌else◌, List, [], ◌∷◌, ◌++◌, Result, Ok, Err, map, take_while}
+use Rattle.std.specs.Prelude.{◌≡◌, ℕ, ◌<◌, ◌^◌, ◌+◌, Bool, false, true, ◌&&◌, ◌==◌, nat_le, if◌then◌else◌, List, [], ◌∷◌, ◌++◌, Result, Ok, Err, map, take_while, refl}
+use Rattle.std.specs.Coded.{Coded, code_by, coded×, coded_ℕ, coded_bool, coded_list}
 use Rattle.std.specs.List.{list_any, list_all}
 use Rattle.range_front.specs.declared.fault.FrontFault.{FrontFault}
 use Rattle.range_front.specs.declared.fault.FrontFault.TheVariants as faults
@@ -13,6 +14,16 @@ pub record FrontWindow : Type 0 where
 pub record FrontValue : Type 0 where
   pub start : ℕ
   pub windows : List FrontWindow
+
+abbrev pub coded_front_window : Coded FrontWindow
+coded_front_window =
+    code_by (ℕ × Bool) (coded× coded_ℕ coded_bool) (λ w. (w.hi, w.done)) (λ p. record { hi = p.0; done = p.1 })
+    (λ _. refl)
+
+abbrev pub coded_front : Coded FrontValue
+coded_front =
+    code_by (ℕ × List FrontWindow) (coded× coded_ℕ (coded_list coded_front_window)) (λ f. (f.start, f.windows))
+    (λ p. record { start = p.0; windows = p.1 }) (λ _. refl)
 
 -- what callers see of a front: beside it, for how many calls of `finish` room is sure to be there
 pub record FrontWithRoom : Type 0 where

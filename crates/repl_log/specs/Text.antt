@@ -1,5 +1,6 @@
 -- Texts of replication ids and logs: docs/PROFILE.md, "Replication ids and logs".
-use Rattle.std.specs.Prelude.{ℕ, ◌<◌, ◌^◌, List, [], ◌∷◌, ◌++◌, map, codes, Result, Ok, Err}
+use Rattle.std.specs.Prelude.{ℕ, ◌<◌, ◌^◌, List, [], ◌∷◌, ◌++◌, map, codes, Result, Ok, Err, refl}
+use Rattle.std.specs.Coded.{Coded, code_by, coded×, coded_ℕ}
 use Rattle.std.specs.Int.{w128, to_be_bytes}
 use Rattle.hex.specs.Hex.{encode_lower}
 use Rattle.serde_json.specs.Data.{Data, number, unsigned, string, array, object, Items, Members, no_members, member}
@@ -21,6 +22,11 @@ id_digits n = encode_lower (to_be_bytes w128 n)
 pub record IsRepId (id : RepId) : Type 0 where
   pub source : id.source < 2 ^ 128
   pub target : id.target < 2 ^ 128
+
+abbrev pub coded_rep : Coded RepId
+coded_rep =
+    code_by (ℕ × ℕ) (coded× coded_ℕ coded_ℕ) (λ r. (r.source, r.target)) (λ p. record { source = p.0; target = p.1 })
+    (λ _. refl)
 
 -- the source's digits, a dash, and the target's
 abbrev pub rep_text : RepId → List ℕ

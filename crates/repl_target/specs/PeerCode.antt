@@ -1,33 +1,22 @@
 -- How peers are stored as data, by which a proof tells two of them apart.
-use Rattle.std.specs.Prelude.{◌≡◌, ◌⊎◌, ℕ, Bool, List, Option, refl}
-use Rattle.std.specs.Coded.{Coded, code_by, coded×, coded⊎, coded_ℕ, coded_bool, coded_list, coded_option}
+use Rattle.std.specs.Prelude.{◌≡◌, ◌⊎◌, ℕ, List, Option, refl}
+use Rattle.std.specs.Coded.{Coded, code_by, coded×, coded⊎, coded_ℕ, coded_list, coded_option}
 use mathlib.Core.Logic.{inl, inr}
 use base.Stored.{coded_unit}
 use Rattle.rev_core.specs.Rev.{RevId}
 use Rattle.rev_core.specs.RevOrder.{coded_rev}
 use Rattle.rev_tree.specs.declared.origin.SessionId.{SessionId}
-use Rattle.doc_json.specs.Document.{Document}
-use Rattle.couch_base.specs.Database.{Id, DatabaseValue, coded_database}
-use Rattle.couch_base.specs.Feed.{RowValue, WindowValue}
-use Rattle.range_front.specs.Front.{FrontWindow, FrontValue}
+use Rattle.rev_tree.specs.Tree.{coded_session_id}
+use Rattle.doc_json.specs.Document.{Document, coded_doc}
+use Rattle.couch_base.specs.Database.{Id, DatabaseValue, coded_id, coded_database}
+use Rattle.couch_base.specs.Feed.{WindowValue, coded_window}
+use Rattle.range_front.specs.Front.{FrontValue, coded_front}
 use Rattle.repl_log.specs.declared.replication.RepId.{RepId}
-use Rattle.repl_log.specs.Entry.{EntryValue}
+use Rattle.repl_log.specs.Entry.{EntryValue, coded_entry}
+use Rattle.repl_log.specs.Text.{coded_rep}
 use Rattle.repl_target.specs.Peer.{PeerValue, SessionValue, WrittenValue, RefusedValue}
 use Rattle.repl_target.specs.declared.fault.Reason.{Reason}
 use Rattle.repl_target.specs.declared.fault.Reason.TheVariants.{Filtered, Contradicting}
-
--- ---- ids
-
-abbrev pub coded_session_id : Coded SessionId
-coded_session_id = code_by ℕ coded_ℕ (λ s. s.0) (λ n. record { 0 = n }) (λ _. refl)
-
-abbrev pub coded_rep : Coded RepId
-coded_rep =
-    code_by (ℕ × ℕ) (coded× coded_ℕ coded_ℕ) (λ r. (r.source, r.target)) (λ p. record { source = p.0; target = p.1 })
-    (λ _. refl)
-
-abbrev pub coded_id : Coded Id
-coded_id = coded_list coded_ℕ
 
 -- ---- documents and reasons
 
@@ -35,13 +24,6 @@ abbrev pub coded_written : Coded WrittenValue
 coded_written =
     code_by (Id × List RevId) (coded× coded_id (coded_list coded_rev)) (λ w. (w.id, w.ancestry))
     (λ p. record { id = p.0; ancestry = p.1 }) (λ _. refl)
-
-abbrev pub coded_doc : Coded Document
-coded_doc =
-    code_by (Id × (List RevId × (Bool × List ℕ)))
-    (coded× coded_id (coded× (coded_list coded_rev) (coded× coded_bool (coded_list coded_ℕ))))
-    (λ d. (d.id, (d.ancestry, (d.deleted, d.body))))
-    (λ p. record { id = p.0; ancestry = p.1.0; deleted = p.1.1.0; body = p.1.1.1 }) (λ _. refl)
 
 -- a contradiction as its three revisions
 abbrev reason_parts : Reason → Unit {0} ⊎ (RevId × (RevId × RevId))
@@ -66,29 +48,7 @@ coded_refused =
     code_by (Document × Reason) (coded× coded_doc coded_reason) (λ x. (x.doc, x.reason))
     (λ p. record { doc = p.0; reason = p.1 }) (λ _. refl)
 
--- ---- windows and fronts
-
-abbrev pub coded_row : Coded RowValue
-coded_row =
-    code_by (ℕ × (Id × List RevId)) (coded× coded_ℕ (coded× coded_id (coded_list coded_rev)))
-    (λ r. (r.seq, (r.id, r.leaves))) (λ p. record { seq = p.0; id = p.1.0; leaves = p.1.1 }) (λ _. refl)
-
-abbrev pub coded_window : Coded WindowValue
-coded_window =
-    code_by (ℕ × (ℕ × List RowValue)) (coded× coded_ℕ (coded× coded_ℕ (coded_list coded_row)))
-    (λ w. (w.lo, (w.hi, w.rows))) (λ p. record { lo = p.0; hi = p.1.0; rows = p.1.1 }) (λ _. refl)
-
-abbrev pub coded_front_window : Coded FrontWindow
-coded_front_window =
-    code_by (ℕ × Bool) (coded× coded_ℕ coded_bool) (λ w. (w.hi, w.done)) (λ p. record { hi = p.0; done = p.1 })
-    (λ _. refl)
-
-abbrev pub coded_front : Coded FrontValue
-coded_front =
-    code_by (ℕ × List FrontWindow) (coded× coded_ℕ (coded_list coded_front_window)) (λ f. (f.start, f.windows))
-    (λ p. record { start = p.0; windows = p.1 }) (λ _. refl)
-
--- ---- sessions and entries
+-- ---- sessions
 
 -- what a session began with
 abbrev Begun : Type 0
@@ -139,32 +99,6 @@ coded_session = code_by (Begun × (Windows × (Brought × Counted)))
       failures = p.1.1.1.0.1.1.1.1;
       start_time = p.1.1.1.1.0;
       end_time = p.1.1.1.1.1;
-    })
-    (λ _. refl)
-
-abbrev pub coded_entry : Coded EntryValue
-coded_entry = code_by (SessionId × ((ℕ × ℕ) × ((ℕ × ℕ) × (ℕ × (ℕ × (ℕ × (ℕ × ℕ)))))))
-    (coded× coded_session_id
-    (coded× (coded× coded_ℕ coded_ℕ)
-    (coded× (coded× coded_ℕ coded_ℕ) (coded× coded_ℕ (coded× coded_ℕ (coded× coded_ℕ (coded× coded_ℕ coded_ℕ)))))))
-    (λ e. (
-      e.session,
-      (
-        (e.start, e.recorded),
-        ((e.start_time, e.end_time), (e.checked, (e.found, (e.read, (e.written, e.failures))))),
-      ),
-    ))
-    (λ p. record {
-      session = p.0;
-      start = p.1.0.0;
-      recorded = p.1.0.1;
-      start_time = p.1.1.0.0;
-      end_time = p.1.1.0.1;
-      checked = p.1.1.1.0;
-      found = p.1.1.1.1.0;
-      read = p.1.1.1.1.1.0;
-      written = p.1.1.1.1.1.1.0;
-      failures = p.1.1.1.1.1.1.1;
     })
     (λ _. refl)
 
