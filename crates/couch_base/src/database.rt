@@ -6,7 +6,7 @@ ghost use Rattle.couch_base.specs.Database.{most};
 ghost use Rattle.couch_base.specs.Put.{put_told, PutGives};
 
 use crate::edit::{content_of, edit_ancestry, next_is_full, parent_in};
-use crate::fault::{BaseFault, Put};
+use crate::fault::{BaseFault, Listed, Put, Revised};
 use crate::id_hash::IdHash;
 use crate::paging::{collect, page_end};
 use crate::table::{Index, Table, find, look, write};
@@ -182,7 +182,7 @@ impl Database {
         deleted: bool,
         body: &Body,
         origin: Origin,
-    ) -> Result<Rev, BaseFault>
+    ) -> Revised
         ensures answer { EditGives result (edit_answer self.old id.now parent deleted body.now) }
         ensures ok { OnOk result (self.new ≡ after_edit self.old id.now parent deleted body.now origin) }
         ensures seq { OnOk result (self.new.update_seq ≡ self.old.update_seq + 1) }
@@ -225,13 +225,7 @@ impl Database {
     /// It ends at its last row where there are `limit` rows, else at the goal. `BadLimit` where the limit is 0; else
     /// `BadRange` where the goal is not above `since`; else `GoalAhead` where it is above the update sequence; else
     /// `Memory`.
-    pub fn page(
-        &self,
-        alloc: Global,
-        since: u64,
-        goal: u64,
-        limit: u64,
-    ) -> Result<Window, BaseFault>
+    pub fn page(&self, alloc: Global, since: u64, goal: u64, limit: u64) -> Listed
         ensures { GivesUnlessMemory result (page_answer self.now since goal limit) }
     {
         if limit == 0 {

@@ -1,7 +1,14 @@
 //! What a put answers, and what the calls of this crate refuse.
 
+use crate::window::Window;
 use rev_core::Rev;
 use thiserror::Error;
+
+/// What an edit answers: the new revision's id, or why it is refused.
+pub type Revised = Result<Rev, BaseFault>;
+
+/// What is answered where a page of the changes feed is asked for: its window, or why it is refused.
+pub type Listed = Result<Window, BaseFault>;
 
 /// What a put did.
 #[derive(Clone, Copy, Debug, PartialEq, Eq)]

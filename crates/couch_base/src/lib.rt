@@ -19,7 +19,7 @@ mod window;
 
 pub use asked::{Asked, Wanted};
 pub use database::Database;
-pub use fault::{BaseFault, Put};
+pub use fault::{BaseFault, Listed, Put, Revised};
 pub use parcel::Parcel;
 pub use row::Row;
 pub use window::Window;

@@ -6,9 +6,6 @@ use crate::fault::BoardFault;
 use crate::seat::BoardSeat;
 use crate::steps::{BoardTable, add_to_read, add_to_settled, look_at_read, look_at_settled};
 
-/// The greatest count, 2^53 - 1.
-const MOST: u64 = 9_007_199_254_740_991;
-
 /// A board of counts that threads share: for each worker, the documents that it has read and those that it has settled.
 #[derive(Drop)]
 pub struct Board {
@@ -19,6 +16,9 @@ pub struct Board {
     ghost some: { 0 < workers },
     ghost few: { workers ≤ 64 },
 }
+
+/// The greatest count, 2^53 - 1.
+const MOST: u64 = 9_007_199_254_740_991;
 
 /// The board of a table.
 pub(crate) fn board_of(table: BoardTable, workers: usize) -> Board

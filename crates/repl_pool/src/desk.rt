@@ -1,8 +1,11 @@
 //! What lies under the lock: the target, and a book of what its session has read.
 ghost use Rattle.std.specs.Prelude.{◌≡◌, ℕ, ◌+◌, ◌<◌, ◌≤◌, length, Some, IfSome, IfOk, IfErr, OnOk, OnErr};
+ghost use Rattle.std.specs.Coded.{coded×};
 ghost use Rattle.rev_tree.specs.declared.origin.SessionId.{SessionId};
 ghost use Rattle.repl_pool.specs.Grown.{DeskKeeps};
 ghost use Rattle.couch_base.specs.Messages.{revs_diff};
+ghost use Rattle.repl_target.specs.Peer.{PeerValue};
+ghost use Rattle.repl_target.specs.PeerCode.{coded_peer};
 ghost use Rattle.repl_target.specs.ReadCounts.{read_in, taken};
 ghost use Rattle.repl_target.specs.Sessions.{GivesUnlessMemory, append_answer, after_append, record_answer, after_record};
 ghost use Rattle.repl_target.specs.Settling.{SettleGives};
@@ -29,15 +32,9 @@ pub struct Desk<F: WriteFilter, S: Origin, J: Given<F>, L: Ledger> {
 }
 
 impl<F: WriteFilter, S: Origin, J: Given<F>, L: Ledger> Model for Desk<F, S, J, L> {
-    ghost use Rattle.std.specs.Coded.{coded×};
-    ghost use Rattle.repl_target.specs.Peer.{PeerValue};
-    ghost use Rattle.repl_target.specs.PeerCode.{coded_peer};
-
     ghost Value = { F × PeerValue };
 
     ghost coded = { coded× F.code coded_peer };
-
-    ghost use Rattle.repl_pool.specs.Grown.{DeskKeeps};
 
     ghost view = { λ d. d.target };
 

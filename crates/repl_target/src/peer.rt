@@ -8,7 +8,7 @@ use crate::filter::WriteFilter;
 use crate::local;
 use crate::sessions::Sessions;
 use crate::written::Written;
-use couch_base::{Asked, BaseFault, Database, Parcel, Put, Window};
+use couch_base::{Asked, BaseFault, Database, Listed, Parcel, Put, Revised, Window};
 use doc_json::{Body, Doc, DocId};
 use indexmap::IndexMap;
 use repl_log::{Entry, Log, Moment, RepId};
@@ -144,13 +144,7 @@ impl<F: WriteFilter> Peer<F> {
     ///
     /// The refusals are those of `Database::edit`, and `Memory` stands only where that may answer it. A refusal changes
     /// nothing.
-    pub fn edit(
-        &mut self,
-        id: &DocId,
-        parent: Option<Rev>,
-        deleted: bool,
-        body: &Body,
-    ) -> Result<Rev, BaseFault>
+    pub fn edit(&mut self, id: &DocId, parent: Option<Rev>, deleted: bool, body: &Body) -> Revised
         ensures answer { EditGives result (edit_answer self.old.1.db id.now parent deleted body.now) }
         ensures filter { self.new.0 ≡ self.old.0 }
         ensures ok { OnOk result (self.new.1 ≡ after_edit self.old.1 id.now parent deleted body.now) }
@@ -163,13 +157,7 @@ impl<F: WriteFilter> Peer<F> {
     // ---- the database's messages
 
     /// The page of the database's changes feed above `since`, towards `goal`: `Database::page`.
-    pub fn page(
-        &self,
-        alloc: Global,
-        since: u64,
-        goal: u64,
-        limit: u64,
-    ) -> Result<Window, BaseFault>
+    pub fn page(&self, alloc: Global, since: u64, goal: u64, limit: u64) -> Listed
         ensures { BaseUnlessMemory result (page_answer self.now.1.db since goal limit) }
     {
         self.db.page(alloc, since, goal, limit)

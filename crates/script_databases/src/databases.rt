@@ -5,6 +5,8 @@ ghost use Rattle.std.specs.Option.{option_copied};
 ghost use Rattle.repl_target.specs.Peer.{PeerValue};
 ghost use Rattle.repl_target.specs.Replication.{plan_answer};
 ghost use Rattle.repl_pool.specs.Faults.{early_answer};
+ghost use Rattle.script_databases.specs.Databases.{State, coded_state};
+ghost use Rattle.script_databases.specs.Stored.{IsIndex, AllDeny, beside_of, program_of, state_of};
 
 use crate::carrying::{Watched, replicate_alone_at, replicate_at, replicate_watched_at};
 use crate::made_ids::MadeIds;
@@ -44,13 +46,9 @@ pub struct Databases {
 }
 
 impl Model for Databases {
-    ghost use Rattle.script_databases.specs.Databases.{State, coded_state};
-
     ghost Value = { State };
 
     ghost coded = { coded_state };
-
-    ghost use Rattle.script_databases.specs.Stored.{IsIndex, AllDeny, beside_of, program_of, state_of};
 
     ghost view = { λ a. state_of (beside_of a.settings a.drawn) a.by_name.entries };
 
