@@ -1,5 +1,0 @@
-use Rattle.progress_board.specs.Seats.{CameWith}
-use Rattle.call_tests.proofs.pool_boards.sees_no_fall.Given as goal
-
-abbrev pub invariant-loop : goal.invariant-loop
-invariant-loop l = CameWith l.board l.viewer

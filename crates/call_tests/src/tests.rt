@@ -1,0 +1,36 @@
+//! Tests of databases and peers, each a table of calls with the texts that they must answer.
+//!
+//! A bench holds the databases or peers and what was read and fetched from them. It makes a call by its name, so a
+//! proof sees each kind of call once, and a test is data: it needs no proof of its own that is worth the name.
+
+// Calls on databases.
+mod database_rows;
+mod databases;
+
+// Calls on peers.
+mod peer_rows;
+mod peers;
+
+// The parts of a replication that each way to replicate shares.
+mod plan_rows;
+mod plans;
+
+// Large values.
+mod large;
+mod large_rows;
+
+// Replications by the pool.
+mod pool_rows;
+mod pools;
+
+// What watches a run of the pool, and what stops it.
+mod pool_boards;
+mod pool_gates;
+
+// Worlds.
+mod world_rows;
+mod worlds;
+
+// Texts of answers.
+mod records;
+mod texts;

@@ -1,0 +1,288 @@
+//! Databases with what is read and fetched from them, and the calls on these by name.
+use crate::tests::texts::{
+    asked_text, base_fault_text, body, doc, doc_text, expect_answer, node_text, parcel_text,
+    tree_text, window_text,
+};
+use couch_base::{Asked, BaseFault, Database, Parcel, Put, Window};
+use doc_json::DocId;
+use rev_core::Rev;
+use rev_tree::Origin;
+use std::alloc::Global;
+use std::process::Abort;
+use test_texts::{rev, rev_text, shown};
+
+/// A call on a database, which is named by its place, as windows, asked lists and parcels are.
+#[derive(Clone, Copy)]
+pub(crate) enum Call<'a> {
+    /// Makes the next database: its uuid, and its sequence.
+    DatabaseAt(u128, u64),
+    /// Puts a document.
+    Put(usize, &'a str),
+    /// Edits a document: its id, the parent (an empty text for none), whether it is deleted, the body, and the number
+    /// of the local write.
+    Edit(usize, &'a str, &'a str, bool, &'a str, u64),
+    /// Reads the uuid and the update sequence.
+    Numbers(usize),
+    /// Reads the tree of a document.
+    Tree(usize, &'a str),
+    /// Reads a revision of a document.
+    Node(usize, &'a str, &'a str),
+    /// Reads the document at a revision.
+    Document(usize, &'a str, &'a str),
+    /// Reads a page above a sequence, towards a goal, of some rows at most. It becomes the next window.
+    Page(usize, u64, u64, u64),
+    /// Copies a window, which becomes the next window.
+    CopyWindow(usize),
+    /// Copies the first row of a window, and reads its sequence.
+    CopyRow(usize),
+    /// Asks a database for what it misses of a window. That becomes the next asked list.
+    Diff(usize, usize),
+    /// Copies an asked list, which becomes the next asked list.
+    CopyAsked(usize),
+    /// Copies what is asked of the first document of an asked list, and reads its id.
+    CopyWanted(usize),
+    /// Fetches an asked list from a database. That becomes the next parcel.
+    Fetch(usize, usize),
+    /// Copies a parcel, which becomes the next parcel.
+    CopyParcel(usize),
+    /// Reads a parcel, and what was asked for it.
+    Parcel(usize),
+}
+
+/// Calls, each with the text that it must answer.
+pub(crate) type Rows = &'static [(Call<'static>, &'static str)];
+
+/// Databases, and what was read and fetched from them.
+#[derive(Drop)]
+pub(crate) struct Bench {
+    alloc: Global,
+    databases: Vec<Database>,
+    windows: Vec<Window>,
+    asked: Vec<Asked>,
+    pub(crate) parcels: Vec<Parcel>,
+}
+
+impl Bench {
+    /// Databases of no documents, with these uuids.
+    pub(crate) fn new(rt: &impl Abort, alloc: Global, uuids: &[u128]) -> Bench {
+        let mut databases = Vec::new(alloc);
+        for uuid in uuids {
+            let Ok(()) = databases.push(Database::new(alloc, *uuid)) else {
+                rt.panic(format_args!("no memory"))
+            };
+        }
+        Bench {
+            alloc,
+            databases,
+            windows: Vec::new(alloc),
+            asked: Vec::new(alloc),
+            parcels: Vec::new(alloc),
+        }
+    }
+
+    /// Makes the calls in order, and asserts what each answers.
+    pub(crate) fn run(&mut self, rt: &impl Abort, calls: &[(Call, &str)]) {
+        for (i, (call, wanted)) in calls.iter().enumerate() {
+            expect_answer(rt, i, self.answer(call), wanted);
+        }
+    }
+
+    /// Makes a call, and gives the text of its answer.
+    fn answer(&mut self, call: &Call) -> Option<String> {
+        let alloc = self.alloc;
+        match *call {
+            Call::DatabaseAt(uuid, seq) => self.make_at(uuid, seq),
+            Call::Put(at, text) => put(alloc, self.databases.get_mut(at)?, text),
+            Call::Edit(at, id, parent, deleted, text, number) => {
+                let db = self.databases.get_mut(at)?;
+                edit(alloc, db, id, parent, deleted, text, number)
+            }
+            Call::Numbers(at) => {
+                let db = self.databases.get(at)?;
+                format!(in alloc; "{} at {}", db.uuid(), db.update_seq()).ok()
+            }
+            Call::Tree(at, id) => tree(alloc, self.databases.get(at)?, id),
+            Call::Node(at, id, rev) => node(alloc, self.databases.get(at)?, id, rev),
+            Call::Document(at, id, rev) => document(alloc, self.databases.get(at)?, id, rev),
+            Call::Page(at, since, goal, limit) => self.page(at, since, goal, limit),
+            Call::Diff(at, window) => self.diff(at, window),
+            Call::Fetch(at, asked) => self.fetch(at, asked),
+            Call::Parcel(at) => {
+                let parcel = self.parcels.get(at)?;
+                asked_text(alloc, parcel.asked())
+            }
+            copy => self.copied(&copy),
+        }
+    }
+
+    /// Makes the next database, at a sequence.
+    fn make_at(&mut self, uuid: u128, seq: u64) -> Option<String> {
+        match Database::new_at(self.alloc, uuid, seq) {
+            Ok(db) => {
+                self.databases.push(db).ok()?;
+                "made".to_string(self.alloc).ok()
+            }
+            Err(fault) => base_fault_text(self.alloc, fault),
+        }
+    }
+
+    /// Makes a copy, and gives the text of it.
+    fn copied(&mut self, call: &Call) -> Option<String> {
+        match *call {
+            Call::CopyWindow(at) => self.copy_window(at),
+            Call::CopyRow(at) => {
+                let row = self.windows.get(at)?.rows().first()?;
+                shown(self.alloc, &row.copy(self.alloc).ok()?.seq())
+            }
+            Call::CopyAsked(at) => self.copy_asked(at),
+            Call::CopyWanted(at) => {
+                let wanted = self.asked.get(at)?.docs().first()?;
+                let copy = wanted.copy(self.alloc).ok()?;
+                copy.id().text().to_string(self.alloc).ok()
+            }
+            Call::CopyParcel(at) => self.copy_parcel(at),
+            _ => None,
+        }
+    }
+
+    /// Reads a page, which becomes the next window.
+    fn page(&mut self, at: usize, since: u64, goal: u64, limit: u64) -> Option<String> {
+        let db = self.databases.get(at)?;
+        match db.page(self.alloc, since, goal, limit) {
+            Ok(window) => self.keep_window(window),
+            Err(fault) => base_fault_text(self.alloc, fault),
+        }
+    }
+
+    /// Copies a window.
+    fn copy_window(&mut self, at: usize) -> Option<String> {
+        let copy = self.windows.get(at)?.copy(self.alloc).ok()?;
+        self.keep_window(copy)
+    }
+
+    /// Keeps a window, and gives its text.
+    fn keep_window(&mut self, window: Window) -> Option<String> {
+        let text = window_text(self.alloc, &window);
+        self.windows.push(window).ok()?;
+        text
+    }
+
+    /// Asks a database for what it misses of a window.
+    fn diff(&mut self, at: usize, window: usize) -> Option<String> {
+        let db = self.databases.get(at)?;
+        let asked = db.revs_diff(self.alloc, self.windows.get(window)?).ok()?;
+        self.keep_asked(asked)
+    }
+
+    /// Copies an asked list.
+    fn copy_asked(&mut self, at: usize) -> Option<String> {
+        let copy = self.asked.get(at)?.copy(self.alloc).ok()?;
+        self.keep_asked(copy)
+    }
+
+    /// Keeps an asked list, and gives its text.
+    fn keep_asked(&mut self, asked: Asked) -> Option<String> {
+        let text = asked_text(self.alloc, &asked);
+        self.asked.push(asked).ok()?;
+        text
+    }
+
+    /// Fetches an asked list.
+    fn fetch(&mut self, at: usize, asked: usize) -> Option<String> {
+        let db = self.databases.get(at)?;
+        let parcel = db.open_revs(self.alloc, self.asked.get(asked)?).ok()?;
+        self.keep_parcel(parcel)
+    }
+
+    /// Copies a parcel.
+    fn copy_parcel(&mut self, at: usize) -> Option<String> {
+        let copy = self.parcels.get(at)?.copy(self.alloc).ok()?;
+        self.keep_parcel(copy)
+    }
+
+    /// Keeps a parcel, and gives its text.
+    fn keep_parcel(&mut self, parcel: Parcel) -> Option<String> {
+        let text = parcel_text(self.alloc, &parcel);
+        self.parcels.push(parcel).ok()?;
+        text
+    }
+}
+
+/// Makes lists of calls on a bench of their own, with databases of these uuids, and asserts what each answers.
+pub(crate) fn expect(rt: &impl Abort, alloc: Global, uuids: &[u128], lists: &[Rows]) {
+    let mut bench = Bench::new(rt, alloc, uuids);
+    for calls in lists {
+        bench.run(rt, calls);
+    }
+}
+
+/// The text of what a put answers.
+pub(crate) fn put_text(alloc: Global, answer: Result<Put, BaseFault>) -> Option<String> {
+    match answer {
+        Ok(put) => shown(alloc, &put),
+        Err(fault) => base_fault_text(alloc, fault),
+    }
+}
+
+/// The text of what an edit answers.
+pub(crate) fn edit_text(alloc: Global, answer: Result<Rev, BaseFault>) -> Option<String> {
+    match answer {
+        Ok(rev) => rev_text(alloc, rev),
+        Err(fault) => base_fault_text(alloc, fault),
+    }
+}
+
+/// The parent that a text names, none where it is empty; nothing where it is no revision.
+pub(crate) fn parent_of(text: &str) -> Option<Option<Rev>> {
+    if text.is_empty() {
+        return Some(None);
+    }
+    Some(Some(rev(text)?))
+}
+
+/// Puts a document.
+fn put(alloc: Global, db: &mut Database, text: &str) -> Option<String> {
+    let doc = doc(alloc, text)?;
+    put_text(alloc, db.put(&doc, Origin::Local(0)))
+}
+
+/// Edits a document.
+fn edit(
+    alloc: Global,
+    db: &mut Database,
+    id: &str,
+    parent: &str,
+    deleted: bool,
+    text: &str,
+    number: u64,
+) -> Option<String> {
+    let id = DocId::parse(alloc, id).ok()?;
+    let parent = parent_of(parent)?;
+    let body = body(alloc, text)?;
+    let answer = db.edit(&id, parent, deleted, &body, Origin::Local(number));
+    edit_text(alloc, answer)
+}
+
+/// Reads the tree of a document.
+pub(crate) fn tree(alloc: Global, db: &Database, id: &str) -> Option<String> {
+    let id = DocId::parse(alloc, id).ok()?;
+    match db.tree(&id) {
+        Some(tree) => tree_text(alloc, tree),
+        None => "no document".to_string(alloc).ok(),
+    }
+}
+
+/// Reads a revision of a document.
+pub(crate) fn node(alloc: Global, db: &Database, id: &str, text: &str) -> Option<String> {
+    let id = DocId::parse(alloc, id).ok()?;
+    node_text(alloc, db.tree(&id)?, rev(text)?)
+}
+
+/// Reads the document at a revision.
+fn document(alloc: Global, db: &Database, id: &str, text: &str) -> Option<String> {
+    let id = DocId::parse(alloc, id).ok()?;
+    match db.document(alloc, &id, rev(text)?).ok()? {
+        Some(doc) => doc_text(alloc, &doc),
+        None => "no content".to_string(alloc).ok(),
+    }
+}

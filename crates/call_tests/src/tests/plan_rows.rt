@@ -1,0 +1,165 @@
+//! The rows of plans: what is refused, where a session begins, its entry at the source, and the walk above a sequence.
+use crate::tests::peers::{Call, Rows, expect};
+use repl_log::RepId;
+use rev_tree::SessionId;
+
+/// The peers: the source, the target, and one that refuses d.
+const SOURCE: usize = 0;
+
+const TARGET: usize = 1;
+
+const REFUSING: usize = 2;
+
+/// The first thing that was read or fetched, and the second.
+const FIRST: usize = 0;
+
+const SECOND: usize = 1;
+
+/// The sessions.
+const S1: SessionId = SessionId(1);
+
+const S2: SessionId = SessionId(2);
+
+/// The replication from the source into the target, and that into the peer that refuses d.
+const REP: RepId = RepId {
+    source: 1,
+    target: 2,
+};
+
+/// A source of d at 1-a and e at 1-b, and two peers without documents.
+static THREE: Rows = &[
+    (Call::Peer(1, None), "made"),
+    (Call::Peer(2, None), "made"),
+    (Call::Peer(3, Some("d")), "made"),
+    (
+        Call::Load(SOURCE, r#"{"_id":"d","_rev":"1-a"}"#),
+        "Changed { seq: 1 }",
+    ),
+    (
+        Call::Load(SOURCE, r#"{"_id":"e","_rev":"1-b"}"#),
+        "Changed { seq: 2 }",
+    ),
+];
+
+#[test]
+fn plans_refused(rt: HostRuntime) {
+    static ROWS: Rows = &[
+        (Call::CheckPlan(SOURCE, TARGET, 0), "BadBatch"),
+        (Call::CheckPlan(SOURCE, TARGET, 10_001), "BadBatch"),
+        (Call::CheckPlan(SOURCE, TARGET, 1), "can begin"),
+        (Call::CheckPlan(SOURCE, TARGET, 10_000), "can begin"),
+        // The batch is looked at first.
+        (Call::CheckPlan(SOURCE, SOURCE, 0), "BadBatch"),
+        (Call::CheckPlan(SOURCE, SOURCE, 500), "SamePeer"),
+    ];
+    expect(&rt, rt.alloc(), &[THREE, ROWS]);
+}
+
+/// The first session of the target begins, carries the feed up to 1, and is recorded at both sides.
+static FIRST_SESSION: Rows = &[
+    (Call::BeginPlan(S1, 10), "0"),
+    (
+        Call::Entry(TARGET, S1),
+        "session 1 from 0 to 0 checked 0 found 0 read 0 written 0 failed 0, 10 to 10",
+    ),
+    (Call::BeginPlan(S1, 11), "SessionExists"),
+    (Call::RecordAtSource(S1), "recorded"),
+    (Call::SourceLog(SOURCE, &REP), "1 at 0;"),
+    (Call::Page(SOURCE, 0, 1), "0 to 1: 1 d 1-a;"),
+    (Call::Append(TARGET, S1, FIRST), "appended"),
+    (Call::Diff(TARGET, FIRST), "0 to 1: d 1-a;"),
+    (Call::Fetch(SOURCE, FIRST), "0 to 1: d 1-a live {};"),
+    (Call::Settle(TARGET, S1, FIRST), "written 1 failed 0"),
+    (Call::Record(TARGET, S1, 12), "1"),
+    (Call::RecordAtSource(S1), "recorded"),
+    (Call::SourceLog(SOURCE, &REP), "1 at 1;"),
+];
+
+#[test]
+fn a_plan_begins_where_the_logs_agree(rt: HostRuntime) {
+    static ROWS: Rows = &[
+        (Call::BeginPlan(S2, 13), "1"),
+        (
+            Call::Entry(TARGET, S2),
+            "session 2 from 1 to 1 checked 0 found 0 read 0 written 0 failed 0, 13 to 13",
+        ),
+        // Its goal is the source's update sequence.
+        (
+            Call::Conclude(TARGET, S2, 14),
+            "Unfinished { low_water: 1 }",
+        ),
+        (Call::Page(SOURCE, 1, 2), "1 to 2: 2 e 1-b;"),
+        (Call::Append(TARGET, S2, SECOND), "appended"),
+        (Call::Diff(TARGET, SECOND), "1 to 2: e 1-b;"),
+        (Call::Fetch(SOURCE, SECOND), "1 to 2: e 1-b live {};"),
+        (Call::Settle(TARGET, S2, SECOND), "written 1 failed 0"),
+        (
+            Call::Conclude(TARGET, S2, 14),
+            "session 2 from 1 to 2 checked 1 found 1 read 1 written 1 failed 0",
+        ),
+        (Call::RecordAtSource(S2), "recorded"),
+        (Call::SourceLog(SOURCE, &REP), "2 at 2;1 at 1;"),
+    ];
+    expect(&rt, rt.alloc(), &[THREE, FIRST_SESSION, ROWS]);
+}
+
+#[test]
+fn an_older_entry_is_passed_over(rt: HostRuntime) {
+    static ROWS: Rows = &[
+        (Call::PutEntry(SOURCE, &REP, S1, 9), "put"),
+        (Call::SourceLog(SOURCE, &REP), "1 at 9;"),
+        (Call::RecordAtSource(S1), "recorded"),
+        (Call::SourceLog(SOURCE, &REP), "1 at 9;"),
+        // The lesser of the two sequences is where the next one begins.
+        (Call::BeginPlan(S2, 13), "1"),
+    ];
+    expect(&rt, rt.alloc(), &[THREE, FIRST_SESSION, ROWS]);
+}
+
+#[test]
+fn a_walk_above_a_sequence(rt: HostRuntime) {
+    static BEFORE: Rows = &[
+        (Call::HoleAbove(SOURCE, TARGET, 0), "hole 1 d 1-a"),
+        (Call::HoleAbove(SOURCE, TARGET, 1), "hole 2 e 1-b"),
+        (Call::HoleAbove(SOURCE, TARGET, 2), "clean"),
+        // There is nothing above the update sequence.
+        (Call::HoleAbove(SOURCE, TARGET, 9), "clean"),
+        (Call::HoleAbove(SOURCE, SOURCE, 0), "clean"),
+    ];
+    static AFTER: Rows = &[
+        (Call::HoleAbove(SOURCE, TARGET, 0), "hole 2 e 1-b"),
+        (
+            Call::Load(TARGET, r#"{"_id":"e","_rev":"1-b"}"#),
+            "Changed { seq: 2 }",
+        ),
+        (Call::HoleAbove(SOURCE, TARGET, 0), "clean"),
+    ];
+    expect(&rt, rt.alloc(), &[THREE, BEFORE, FIRST_SESSION, AFTER]);
+}
+
+#[test]
+fn what_was_rightly_refused_is_no_hole(rt: HostRuntime) {
+    use crate::tests::peers::Beginning;
+    const REP_INTO_REFUSING: RepId = RepId {
+        source: 1,
+        target: 3,
+    };
+    const INTO_REFUSING: Beginning = Beginning {
+        rep: &REP_INTO_REFUSING,
+        base: None,
+        start: 0,
+        goal: 1,
+    };
+    static ROWS: Rows = &[
+        (Call::HoleAbove(SOURCE, REFUSING, 0), "hole 1 d 1-a"),
+        (Call::Begin(REFUSING, S1, INTO_REFUSING, 10), "begun"),
+        (Call::Page(SOURCE, 0, 1), "0 to 1: 1 d 1-a;"),
+        (Call::Append(REFUSING, S1, FIRST), "appended"),
+        (Call::Diff(REFUSING, FIRST), "0 to 1: d 1-a;"),
+        (Call::Fetch(SOURCE, FIRST), "0 to 1: d 1-a live {};"),
+        (Call::Settle(REFUSING, S1, FIRST), "written 0 failed 1"),
+        (Call::Tree(REFUSING, "d"), "no document"),
+        (Call::HoleAbove(SOURCE, REFUSING, 0), "hole 2 e 1-b"),
+    ];
+    expect(&rt, rt.alloc(), &[THREE, ROWS]);
+}

@@ -1,0 +1,63 @@
+//! The parts of a replication that every way to replicate shares, as calls on the peers of a bench.
+use crate::tests::records::fault_text;
+use repl_log::Moment;
+use repl_target::{Peer, Plan, Rules, begin_plan, check_plan, record_at_source};
+use rev_tree::SessionId;
+use std::alloc::Global;
+use test_texts::shown;
+
+/// The plan of a session with windows of some rows at most, at a moment.
+pub(crate) fn plan(session: SessionId, batch: u64, moment: u64) -> Option<Plan> {
+    Some(Plan {
+        session,
+        workers: 1,
+        batch,
+        stop_after: None,
+        at: Moment::new(moment).ok()?,
+    })
+}
+
+/// Asks whether a plan can be begun.
+pub(crate) fn check(
+    alloc: Global,
+    source: &Peer<Rules>,
+    target: &Peer<Rules>,
+    batch: u64,
+) -> Option<String> {
+    match check_plan(source, target, &plan(SessionId(1), batch, 0)?) {
+        Ok(()) => "can begin".to_string(alloc).ok(),
+        Err(fault) => fault_text(alloc, fault),
+    }
+}
+
+/// Begins the session of a plan at the second peer, from the first.
+pub(crate) fn begin(
+    alloc: Global,
+    peers: &mut Vec<Peer<Rules>>,
+    session: SessionId,
+    moment: u64,
+) -> Option<String> {
+    let plan = plan(session, 500, moment)?;
+    let (source, others) = peers.split_first_mut()?;
+    match begin_plan(alloc, source, others.first_mut()?, &plan) {
+        Ok(start) => shown(alloc, &start),
+        Err(fault) => fault_text(alloc, fault),
+    }
+}
+
+/// Puts the entry of a session of the second peer into the log of the first.
+pub(crate) fn record(
+    alloc: Global,
+    peers: &mut Vec<Peer<Rules>>,
+    session: SessionId,
+) -> Option<String> {
+    let plan = plan(session, 500, 0)?;
+    let (source, others) = peers.split_first_mut()?;
+    let target = others.first()?;
+    // The call asks for a session that the target holds.
+    let _windows = target.windows(plan.session)?;
+    match record_at_source(source, target, &plan) {
+        Ok(()) => "recorded".to_string(alloc).ok(),
+        Err(fault) => fault_text(alloc, fault),
+    }
+}

@@ -1,0 +1,305 @@
+//! Runs of the pool that show their progress on a board, which others read meanwhile.
+ghost use Rattle.std.specs.Prelude.{◌≡◌, ◌≤◌, IfSome, IfOk, vec_len};
+ghost use Rattle.std.specs.List.{All};
+ghost use Rattle.progress_board.specs.Seats.{AreNew, CameWith};
+ghost use Rattle.repl_pool.specs.Boards.{WorksAt};
+
+use crate::tests::pools::{Bench, Call, How, Rows};
+use crate::tests::texts::expect_answer;
+use progress_board::{Board, BoardSeat};
+use repl_pool::{Gate, Open, Place, Turn};
+use rev_tree::SessionId;
+use std::alloc::Global;
+use std::process::Abort;
+use std::sync::Wait;
+use std::sync::atomic::{AtomicBool, Ordering};
+use std::thread;
+use std::thread::{Threads, yield_now};
+
+/// The source and the target.
+const A: usize = 0;
+
+const B: usize = 1;
+
+/// A run in windows of two rows.
+const TWO_ROWS: How = How {
+    session: SessionId(1),
+    workers: None,
+    batch: 2,
+    stop_after: None,
+};
+
+/// For how many turns one waits for another.
+const TURNS: u32 = 1_000_000;
+
+/// A source of two documents of one revision each, and an empty target.
+static TWO: Rows = &[
+    (Call::Peer(1, None), "made"),
+    (Call::Peer(2, None), "made"),
+    (Call::Fill(A, 2), "Changed { seq: 2 }"),
+];
+
+/// The same of forty documents.
+static FORTY: Rows = &[
+    (Call::Peer(1, None), "made"),
+    (Call::Peer(2, None), "made"),
+    (Call::Fill(A, 40), "Changed { seq: 40 }"),
+];
+
+const WELL_TWO: &str =
+    "session 1 from 0 to 2 checked 2 found 2 read 2 written 2 failed 0, fetched 2";
+
+const WELL_FORTY: &str =
+    "session 1 from 0 to 40 checked 40 found 40 read 40 written 40 failed 0, fetched 40";
+
+/// The seats of four viewers.
+type Viewers = (BoardSeat, BoardSeat, BoardSeat, BoardSeat);
+
+/// Waits until it is told, for so many turns at most, and says whether it was.
+fn wait_for(told: &AtomicBool) -> bool {
+    for _ in 0..TURNS {
+        if told.load(Ordering::SeqCst) {
+            return true;
+        }
+        yield_now();
+    }
+    false
+}
+
+/// Holds the first window's writer, once it has settled, until the board was read.
+#[derive(Drop)]
+struct HoldsSettled {
+    held: AtomicBool,
+    seen: AtomicBool,
+    ran_out: AtomicBool,
+}
+
+impl HoldsSettled {
+    /// Nothing was told yet.
+    fn new() -> HoldsSettled {
+        HoldsSettled {
+            held: AtomicBool::new(false),
+            seen: AtomicBool::new(false),
+            ran_out: AtomicBool::new(false),
+        }
+    }
+}
+
+impl Gate for HoldsSettled {
+    ghost may_stop = { λ _ _. ⊥ };
+
+    fn at<R: Wait>(&self, _rt: &R, place: Place) -> Turn {
+        if let Place::Settled(0) = place {
+            self.held.store(true, Ordering::SeqCst);
+            if !wait_for(&self.seen) {
+                self.ran_out.store(true, Ordering::SeqCst);
+            }
+        }
+        Turn::Go
+    }
+}
+
+/// Reads the board once the gate holds the writer, and tells the gate.
+fn read_while_held(board: &Board, gate: &HoldsSettled, viewer: BoardSeat) -> (u64, u64)
+    requires { CameWith board.now viewer }
+{
+    let mut viewer = viewer;
+    let _held = wait_for(&gate.held);
+    let seen = board.read(&mut viewer);
+    gate.seen.store(true, Ordering::SeqCst);
+    seen
+}
+
+/// A run on a board beside a viewer who reads while the gate holds a writer: how it ended, and what was read.
+fn run_held<R: Abort + Threads + Wait + Sync>(
+    rt: &R,
+    bench: &mut Bench,
+    gate: &HoldsSettled,
+    board: &Board,
+    seats: Vec<BoardSeat>,
+    viewer: BoardSeat,
+) -> (Option<String>, Option<(u64, u64)>)
+    requires seats { All (WorksAt board.now) seats.items }
+    requires viewer { CameWith board.now viewer }
+{
+    thread::scope(
+        thread::scope_env(),
+        rt,
+        |scope| -> (Option<String>, Option<(u64, u64)>)
+            requires seats { All (WorksAt board.now) seats.items }
+            requires viewer { CameWith board.now viewer }
+        {
+            let reader = scope.spawn(
+                move || -> (u64, u64)
+                    requires { CameWith board.now viewer }
+                { read_while_held(board, gate, viewer) },
+            );
+            let answer = bench.replicate_on(rt, gate, board, seats, TWO_ROWS);
+            match reader {
+                Ok(reader) => (answer, Some(reader.join(rt))),
+                Err(_) => (answer, None),
+            }
+        },
+    )
+}
+
+/// A board for so many workers, their seats, and the seat of one viewer.
+fn board_for(alloc: Global, workers: usize) -> Option<(Board, Vec<BoardSeat>, BoardSeat)>
+    ensures { IfSome result (λ r. All (WorksAt r.0) r.1.items × CameWith r.0 r.2) }
+{
+    let Ok((board, mut seats)) = Board::new(alloc, workers, 1) else {
+        return None;
+    };
+    match seats.pop() {
+        Some(viewer) => Some((board, seats, viewer)),
+        None => None,
+    }
+}
+
+/// How often a viewer reads the board beside a run.
+const READS: u32 = 2_000;
+
+/// Takes the last seat of a new board.
+fn take_seat(board: &Board, seats: &mut Vec<BoardSeat>) -> Option<BoardSeat>
+    requires { AreNew board.now seats.old.items }
+    ensures rest { AreNew board.now seats.new.items }
+    ensures seat { IfSome result (CameWith board.now) }
+{
+    seats.pop()
+}
+
+/// A board for so many workers and four viewers, with the workers' seats and the viewers'.
+fn board_for_four(alloc: Global, workers: usize) -> Option<(Board, Vec<BoardSeat>, Viewers)>
+    ensures { IfSome result (λ r. All (WorksAt r.0) r.1.items
+        × CameWith r.0 r.2.0 × CameWith r.0 r.2.1 × CameWith r.0 r.2.2 × CameWith r.0 r.2.3) }
+{
+    let Ok((board, mut seats)) = Board::new(alloc, workers, 4) else {
+        return None;
+    };
+    let d = take_seat(&board, &mut seats)?;
+    let c = take_seat(&board, &mut seats)?;
+    let b = take_seat(&board, &mut seats)?;
+    let a = take_seat(&board, &mut seats)?;
+    if seats.len() > workers {
+        return None;
+    }
+    Some((board, seats, (a, b, c, d)))
+}
+
+/// Reads the board again and again, and says whether no number fell, and none settled was above what was read.
+fn sees_no_fall(board: &Board, viewer: BoardSeat) -> bool
+    requires { CameWith board.now viewer }
+{
+    let mut viewer = viewer;
+    let mut last = (0, 0);
+    for _ in 0..READS {
+        let now = board.read(&mut viewer);
+        if now.0 < last.0 || now.1 < last.1 || now.1 < now.0 {
+            return false;
+        }
+        last = now;
+        yield_now();
+    }
+    true
+}
+
+/// A run on a board beside four viewers that read in loops: how it ended, and for how many of them no number fell.
+fn run_watched<R: Abort + Threads + Wait + Sync>(
+    rt: &R,
+    bench: &mut Bench,
+    board: &Board,
+    seats: Vec<BoardSeat>,
+    viewers: Viewers,
+) -> (Option<String>, u32)
+    requires seats { All (WorksAt board.now) seats.items }
+    requires viewers { CameWith board.now viewers.0 × CameWith board.now viewers.1 × CameWith board.now viewers.2
+        × CameWith board.now viewers.3 }
+{
+    let (a, b, c, d) = viewers;
+    thread::scope(
+        thread::scope_env(),
+        rt,
+        |scope| -> (Option<String>, u32)
+            requires seats { All (WorksAt board.now) seats.items }
+            requires viewers { CameWith board.now a × CameWith board.now b × CameWith board.now c
+                × CameWith board.now d }
+        {
+            let first = scope.spawn(
+                move || -> bool
+                    requires { CameWith board.now a }
+                { sees_no_fall(board, a) },
+            );
+            let second = scope.spawn(
+                move || -> bool
+                    requires { CameWith board.now b }
+                { sees_no_fall(board, b) },
+            );
+            let third = scope.spawn(
+                move || -> bool
+                    requires { CameWith board.now c }
+                { sees_no_fall(board, c) },
+            );
+            let fourth = scope.spawn(
+                move || -> bool
+                    requires { CameWith board.now d }
+                { sees_no_fall(board, d) },
+            );
+            let answer = bench.replicate_on(rt, &Open, board, seats, TWO_ROWS);
+            let mut well = 0;
+            if let Ok(viewer) = first {
+                well += u32::from(viewer.join(rt));
+            }
+            if let Ok(viewer) = second {
+                well += u32::from(viewer.join(rt));
+            }
+            if let Ok(viewer) = third {
+                well += u32::from(viewer.join(rt));
+            }
+            if let Ok(viewer) = fourth {
+                well += u32::from(viewer.join(rt));
+            }
+            (answer, well)
+        },
+    )
+}
+
+#[test]
+fn progress_shown(rt: HostRuntime) {
+    let Some((board, seats, viewer)) = board_for(rt.alloc(), 1) else {
+        rt.panic(format_args!("no board"))
+    };
+    let mut viewer = viewer;
+    let mut bench = Bench::new(rt.alloc(), 1);
+    bench.run(&rt, TWO);
+    let answer = bench.replicate_on(&rt, &Open, &board, seats, TWO_ROWS);
+    expect_answer(&rt, 3, answer, WELL_TWO);
+    assert_eq!(rt; board.read(&mut viewer), (2, 2));
+}
+
+// A board that is raised only at the end of a run would show nothing then.
+#[test]
+fn progress_seen_beside_a_held_writer(rt: HostRuntime) {
+    let Some((board, seats, viewer)) = board_for(rt.alloc(), 2) else {
+        rt.panic(format_args!("no board"))
+    };
+    let gate = HoldsSettled::new();
+    let mut bench = Bench::new(rt.alloc(), 2);
+    bench.run(&rt, FORTY);
+    let (answer, seen) = run_held(&rt, &mut bench, &gate, &board, seats, viewer);
+    expect_answer(&rt, 3, answer, WELL_FORTY);
+    assert!(rt; !gate.ran_out.load(Ordering::SeqCst), "out of turns");
+    let (settled, read) = seen.expect(&rt, "a reader");
+    assert!(rt; settled >= 2 && read >= settled, "{settled} of {read}");
+}
+
+#[test]
+fn progress_never_falls(rt: HostRuntime) {
+    let Some((board, seats, viewers)) = board_for_four(rt.alloc(), 8) else {
+        rt.panic(format_args!("no board"))
+    };
+    let mut bench = Bench::new(rt.alloc(), 8);
+    bench.run(&rt, FORTY);
+    let (answer, well) = run_watched(&rt, &mut bench, &board, seats, viewers);
+    expect_answer(&rt, 3, answer, WELL_FORTY);
+    assert_eq!(rt; well, 4);
+}

@@ -1,0 +1,294 @@
+//! Runs of the pool whose gate stops or holds a worker.
+use crate::tests::pools::{Bench, Call, How, Rows};
+use crate::tests::texts::expect_answer;
+use repl_log::RepId;
+use repl_pool::{Gate, Place, Turn};
+use rev_tree::SessionId;
+use std::alloc::Global;
+use std::process::Abort;
+use std::sync::Wait;
+use std::sync::atomic::{AtomicBool, AtomicU64, Ordering};
+use std::thread::{Threads, yield_now};
+
+/// The source and the target.
+const A: usize = 0;
+
+const B: usize = 1;
+
+/// The replication from the one into the other.
+const REP: RepId = RepId {
+    source: 1,
+    target: 2,
+};
+
+const S1: SessionId = SessionId(1);
+
+/// A run in windows of two rows.
+const TWO_ROWS: How = How {
+    session: S1,
+    workers: None,
+    batch: 2,
+    stop_after: None,
+};
+
+/// A further run.
+const AGAIN: How = How {
+    session: SessionId(2),
+    ..TWO_ROWS
+};
+
+/// For how many turns a gate holds a worker.
+const TURNS: u32 = 1_000_000;
+
+/// A source of four documents of one revision each, and an empty target.
+static FOUR: Rows = &[
+    (Call::Peer(1, None), "made"),
+    (Call::Peer(2, None), "made"),
+    (Call::Fill(A, 4), "Changed { seq: 4 }"),
+];
+
+/// How a run of it ends well.
+const WELL: &str = "session 1 from 0 to 4 checked 4 found 4 read 4 written 4 failed 0, fetched 4";
+
+/// Waits until it is told, for so many turns at most.
+fn hold(told: &AtomicBool, ran_out: &AtomicBool) {
+    for _ in 0..TURNS {
+        if told.load(Ordering::SeqCst) {
+            return;
+        }
+        yield_now();
+    }
+    ran_out.store(true, Ordering::SeqCst);
+}
+
+/// Holds the first window's fetcher until the second window is recorded, and notes what both recordings answer.
+#[derive(Drop)]
+struct HoldsFetched {
+    second: AtomicBool,
+    at_second: AtomicU64,
+    at_first: AtomicU64,
+    ran_out: AtomicBool,
+}
+
+impl HoldsFetched {
+    /// Nothing was told yet.
+    fn new() -> HoldsFetched {
+        HoldsFetched {
+            second: AtomicBool::new(false),
+            at_second: AtomicU64::new(u64::MAX),
+            at_first: AtomicU64::new(u64::MAX),
+            ran_out: AtomicBool::new(false),
+        }
+    }
+}
+
+impl Gate for HoldsFetched {
+    ghost may_stop = { λ _ _. ⊥ };
+
+    fn at<R: Wait>(&self, _rt: &R, place: Place) -> Turn {
+        match place {
+            Place::Fetched(0) => hold(&self.second, &self.ran_out),
+            Place::Recorded(1, recorded) => {
+                self.at_second.store(recorded, Ordering::SeqCst);
+                self.second.store(true, Ordering::SeqCst);
+            }
+            Place::Recorded(0, recorded) => self.at_first.store(recorded, Ordering::SeqCst),
+            _ => {}
+        }
+        Turn::Go
+    }
+}
+
+/// Holds the first window's writer until the second window is fetched.
+#[derive(Drop)]
+struct HoldsSettled {
+    fetched: AtomicBool,
+    ran_out: AtomicBool,
+}
+
+impl HoldsSettled {
+    /// Nothing was told yet.
+    fn new() -> HoldsSettled {
+        HoldsSettled {
+            fetched: AtomicBool::new(false),
+            ran_out: AtomicBool::new(false),
+        }
+    }
+}
+
+impl Gate for HoldsSettled {
+    ghost may_stop = { λ _ _. ⊥ };
+
+    fn at<R: Wait>(&self, _rt: &R, place: Place) -> Turn {
+        match place {
+            Place::Fetched(1) => self.fetched.store(true, Ordering::SeqCst),
+            Place::Settled(0) => hold(&self.fetched, &self.ran_out),
+            _ => {}
+        }
+        Turn::Go
+    }
+}
+
+/// Stops once, at a kind of place of a window: took, asked, fetched, settled or recorded, by their numbers from 0.
+#[derive(Drop)]
+struct StopsOnce {
+    kind: u64,
+    window: u64,
+    stopped: AtomicBool,
+}
+
+impl StopsOnce {
+    /// It has not stopped yet.
+    fn new(kind: u64, window: u64) -> StopsOnce {
+        StopsOnce {
+            kind,
+            window,
+            stopped: AtomicBool::new(false),
+        }
+    }
+}
+
+/// The kind of a place, and its window.
+fn kind_of(place: Place) -> (u64, u64) {
+    match place {
+        Place::Took(window) => (0, window),
+        Place::Asked(window) => (1, window),
+        Place::Fetched(window) => (2, window),
+        Place::Settled(window) => (3, window),
+        Place::Recorded(window, _) => (4, window),
+    }
+}
+
+impl Gate for StopsOnce {
+    ghost may_stop = { λ _ _. Unit {0} };
+
+    fn at<R: Wait>(&self, _rt: &R, place: Place) -> Turn {
+        if kind_of(place) == (self.kind, self.window)
+            && !self.stopped.swap(true, Ordering::SeqCst)
+        {
+            Turn::Stop
+        } else {
+            Turn::Go
+        }
+    }
+}
+
+#[test]
+fn windows_done_out_of_order(rt: HostRuntime) {
+    let gate = HoldsFetched::new();
+    let mut bench = Bench::new(rt.alloc(), 2);
+    bench.run(&rt, FOUR);
+    expect_answer(&rt, 3, bench.replicate(&rt, &gate, A, B, TWO_ROWS), WELL);
+    assert!(rt; !gate.ran_out.load(Ordering::SeqCst), "out of turns");
+    assert_eq!(rt; gate.at_second.load(Ordering::SeqCst), 0);
+    assert_eq!(rt; gate.at_first.load(Ordering::SeqCst), 4);
+}
+
+#[test]
+fn fetching_goes_on_beside_a_held_writer(rt: HostRuntime) {
+    let gate = HoldsSettled::new();
+    let mut bench = Bench::new(rt.alloc(), 1);
+    bench.run(&rt, FOUR);
+    expect_answer(&rt, 3, bench.replicate(&rt, &gate, A, B, TWO_ROWS), WELL);
+    assert!(rt; !gate.ran_out.load(Ordering::SeqCst), "out of turns");
+}
+
+// A count of what was fetched that is copied from the report would be 0.
+#[test]
+fn fetched_is_counted_where_a_run_stops(rt: HostRuntime) {
+    const HALTED: &str = "Halted(Fetched(0)), fetched 2";
+    static THEN: Rows = &[
+        (
+            Call::Entry(B, S1),
+            "session 1 from 0 to 0 checked 0 found 0 read 0 written 0 failed 0, 0 to 0",
+        ),
+        (Call::SourceLog(A, &REP), "1 at 0;"),
+        (Call::Audit(A, B), "clean"),
+    ];
+    let gate = StopsOnce::new(2, 0);
+    let mut bench = Bench::new(rt.alloc(), 1);
+    bench.run(&rt, FOUR);
+    expect_answer(&rt, 3, bench.replicate(&rt, &gate, A, B, TWO_ROWS), HALTED);
+    bench.run(&rt, THEN);
+}
+
+/// The beginning of what is told of a stop at a kind of place.
+static STOPPED: [&str; 5] = [
+    "Halted(Took(",
+    "Halted(Asked(",
+    "Halted(Fetched(",
+    "Halted(Settled(",
+    "Halted(Recorded(",
+];
+
+/// A source of six documents of one revision each, and an empty target.
+static SIX: Rows = &[
+    (Call::Peer(1, None), "made"),
+    (Call::Peer(2, None), "made"),
+    (Call::Fill(A, 6), "Changed { seq: 6 }"),
+];
+
+/// What stands once all is carried.
+static ALL: Rows = &[
+    (Call::Common(A, B, &REP), "6"),
+    (Call::Audit(A, B), "clean"),
+    (Call::Tree(B, "d0"), "1-a of 1"),
+    (Call::Tree(B, "d1"), "1-a of 1"),
+    (Call::Tree(B, "d2"), "1-a of 1"),
+    (Call::Tree(B, "d3"), "1-a of 1"),
+    (Call::Tree(B, "d4"), "1-a of 1"),
+    (Call::Tree(B, "d5"), "1-a of 1"),
+];
+
+static CLEAN: Rows = &[(Call::Audit(A, B), "clean")];
+
+/// Asserts that a run stops at a kind of place of a window.
+fn stop<R: Abort + Threads + Wait + Sync>(
+    rt: &R,
+    alloc: Global,
+    bench: &mut Bench,
+    kind: u64,
+    window: u64,
+) {
+    let gate = StopsOnce::new(kind, window);
+    let answer = bench
+        .replicate(rt, &gate, A, B, TWO_ROWS)
+        .expect(rt, "a run");
+    let name = STOPPED[kind as usize % 5];
+    let wanted = format!(in alloc; "{name}{window}").expect(rt, "memory");
+    assert!(rt;
+        answer.starts_with(wanted.as_str()),
+        "{answer} at {kind} of {window}"
+    );
+}
+
+/// Asserts that a further run begins at what both logs agree about, and ends at the goal.
+fn go_on<R: Abort + Threads + Wait + Sync>(rt: &R, alloc: Global, bench: &mut Bench) {
+    let from = bench
+        .answer(rt, &Call::Common(A, B, &REP))
+        .expect(rt, "two logs");
+    let answer = bench
+        .answer(rt, &Call::Run(A, B, AGAIN))
+        .expect(rt, "a run");
+    let wanted = format!(in alloc; "session 2 from {from} to 6 ").expect(rt, "memory");
+    assert!(rt; answer.starts_with(wanted.as_str()), "{answer} from {from}");
+}
+
+/// A run that stops, and a further one that carries the rest.
+fn stop_and_go_on<R: Abort + Threads + Wait + Sync>(rt: &R, alloc: Global, kind: u64, window: u64) {
+    let mut bench = Bench::new(alloc, 2);
+    bench.run(rt, SIX);
+    stop(rt, alloc, &mut bench, kind, window);
+    bench.run(rt, CLEAN);
+    go_on(rt, alloc, &mut bench);
+    bench.run(rt, ALL);
+}
+
+#[test]
+fn a_stop_at_each_place(rt: HostRuntime) {
+    for kind in 0..5u64 {
+        for window in 0..3u64 {
+            stop_and_go_on(&rt, rt.alloc(), kind, window);
+        }
+    }
+}

@@ -1,0 +1,325 @@
+//! Peers that are replicated by the pool, and the calls on these by name.
+ghost use Rattle.std.specs.Prelude.{◌≡◌, vec_len};
+ghost use Rattle.std.specs.List.{All};
+ghost use Rattle.repl_pool.specs.Boards.{WorksAt};
+
+use crate::tests::databases::{put_text, tree};
+use crate::tests::peers::{found_text, rules};
+use crate::tests::records::{entry_text, fault_text, log_text, report_text};
+use crate::tests::texts::{doc, expect_answer};
+use progress_board::{Board, BoardSeat};
+use repl_log::{Moment, RepId, common};
+use repl_pool::{Gate, Open, PoolFault, Ran, run, run_on};
+use repl_target::{Peer, Plan, Report, Rules, audit, replicate_alone};
+use rev_tree::SessionId;
+use std::alloc::Global;
+use std::mem;
+use std::process::Abort;
+use std::sync::Wait;
+use std::thread::Threads;
+use test_texts::{rev_text, shown};
+
+/// How a run is planned.
+#[derive(Clone, Copy)]
+pub(crate) struct How {
+    pub(crate) session: SessionId,
+    /// How many workers there are; none for the bench's own number.
+    pub(crate) workers: Option<u64>,
+    pub(crate) batch: u64,
+    pub(crate) stop_after: Option<u64>,
+}
+
+/// A call on peers, which are named by their places.
+#[derive(Clone, Copy)]
+pub(crate) enum Call<'a> {
+    /// Makes the next peer: its uuid, and the prefix that its filter refuses.
+    Peer(u128, Option<&'a str>),
+    /// Loads a document.
+    Load(usize, &'a str),
+    /// Loads the documents d0, d1 and so on, so many.
+    Fill(usize, u64),
+    /// Replicates one peer into another by the pool.
+    Run(usize, usize, How),
+    /// Replicates the first peer into the second by one thread.
+    Alone(How),
+    /// Reads the tree of a document.
+    Tree(usize, &'a str),
+    /// Reads the entry of a session.
+    Entry(usize, SessionId),
+    /// Reads the log of a replication from a peer.
+    SourceLog(usize, &'a RepId),
+    /// Compares the logs of a replication at its source and its target.
+    Common(usize, usize, &'a RepId),
+    /// Audits a target, the second one, against a source.
+    Audit(usize, usize),
+}
+
+/// Calls, each with the text that it must answer.
+pub(crate) type Rows = &'static [(Call<'static>, &'static str)];
+
+/// Peers, and how many workers a run has.
+#[derive(Drop)]
+pub(crate) struct Bench {
+    alloc: Global,
+    workers: u64,
+    peers: Vec<Peer<Rules>>,
+}
+
+impl Bench {
+    /// No peers.
+    pub(crate) fn new(alloc: Global, workers: u64) -> Bench {
+        Bench {
+            alloc,
+            workers,
+            peers: Vec::new(alloc),
+        }
+    }
+
+    /// Makes the calls in order, and asserts what each answers.
+    pub(crate) fn run<R: Abort + Threads + Wait + Sync>(&mut self, rt: &R, calls: &[(Call, &str)]) {
+        for (i, (call, wanted)) in calls.iter().enumerate() {
+            expect_answer(rt, i, self.answer(rt, call), wanted);
+        }
+    }
+
+    /// Makes a call, and gives the text of its answer.
+    pub(crate) fn answer<R: Abort + Threads + Wait + Sync>(
+        &mut self,
+        rt: &R,
+        call: &Call,
+    ) -> Option<String> {
+        match *call {
+            Call::Run(source, target, how) => self.replicate(rt, &Open, source, target, how),
+            other => self.answer_alone(&other),
+        }
+    }
+
+    /// Makes a call that starts no thread.
+    fn answer_alone(&mut self, call: &Call) -> Option<String> {
+        let alloc = self.alloc;
+        match *call {
+            Call::Peer(uuid, deny) => self.make(uuid, deny),
+            Call::Load(at, text) => load(alloc, self.peers.get_mut(at)?, text),
+            Call::Fill(at, documents) => fill(alloc, self.peers.get_mut(at)?, documents),
+            Call::Alone(how) => self.alone(how),
+            other => self.reading(&other),
+        }
+    }
+
+    /// Makes a call that changes nothing.
+    fn reading(&self, call: &Call) -> Option<String> {
+        let alloc = self.alloc;
+        match *call {
+            Call::Tree(at, id) => tree(alloc, self.peers.get(at)?.db(), id),
+            Call::Entry(at, session) => entry_text(alloc, self.peers.get(at)?.entry(session).ok()?),
+            Call::SourceLog(at, rep) => source_log(alloc, self.peers.get(at)?, rep),
+            Call::Common(source, target, rep) => {
+                common_text(alloc, self.peers.get(source)?, self.peers.get(target)?, rep)
+            }
+            Call::Audit(source, target) => {
+                let found = audit(alloc, self.peers.get(source)?, self.peers.get(target)?);
+                found_text(alloc, found)
+            }
+            _ => None,
+        }
+    }
+
+    /// Makes the next peer.
+    fn make(&mut self, uuid: u128, deny: Option<&str>) -> Option<String> {
+        let peer = Peer::new(self.alloc, uuid, rules(self.alloc, deny)?);
+        self.peers.push(peer).ok()?;
+        "made".to_string(self.alloc).ok()
+    }
+
+    /// How a run is planned.
+    fn plan(&self, how: How) -> Option<Plan> {
+        let at = Moment::new(0).ok()?;
+        Some(Plan {
+            session: how.session,
+            workers: how.workers.unwrap_or(self.workers),
+            batch: how.batch,
+            stop_after: how.stop_after,
+            at,
+        })
+    }
+
+    /// Takes a peer from its place.
+    fn taken(&mut self, rt: &impl Abort, at: usize) -> Peer<Rules> {
+        let empty = Peer::new(self.alloc, 0, Rules { deny: None });
+        mem::replace(self.peers.get_mut(at).expect(rt, "a peer"), empty)
+    }
+
+    /// Puts a peer into a place.
+    fn give(&mut self, rt: &impl Abort, at: usize, peer: Peer<Rules>) {
+        *self.peers.get_mut(at).expect(rt, "a place") = peer;
+    }
+
+    /// Replicates one peer into another with a gate, and tells how that ended and the sum of what was fetched.
+    pub(crate) fn replicate<G: Gate + Sync, R: Abort + Threads + Wait + Sync>(
+        &mut self,
+        rt: &R,
+        gate: &G,
+        source: usize,
+        target: usize,
+        how: How,
+    ) -> Option<String> {
+        let plan = self.plan(how)?;
+        let from = self.taken(rt, source);
+        let into = self.taken(rt, target);
+        let ran = ran(rt, self.alloc, from, into, &plan, gate);
+        self.take_back(rt, source, target, ran)
+    }
+
+    /// The same on a board, where there is a seat for each worker.
+    pub(crate) fn replicate_on<G: Gate + Sync, R: Abort + Threads + Wait + Sync>(
+        &mut self,
+        rt: &R,
+        gate: &G,
+        board: &Board,
+        seats: Vec<BoardSeat>,
+        how: How,
+    ) -> Option<String>
+        requires { All (WorksAt board.now) seats.items }
+    {
+        let plan = self.plan(how)?;
+        if seats.len() as u64 != plan.workers {
+            return None;
+        }
+        let from = self.taken(rt, 0);
+        let into = self.taken(rt, 1);
+        let ran = ran_on(rt, self.alloc, from, into, &plan, gate, board, seats);
+        self.take_back(rt, 0, 1, ran)
+    }
+
+    /// Takes both peers back to their places, and tells how a run ended.
+    fn take_back(
+        &mut self,
+        rt: &impl Abort,
+        source: usize,
+        target: usize,
+        ran: Ran<Rules>,
+    ) -> Option<String> {
+        let Ran {
+            source: from,
+            target: into,
+            fetched,
+            seats: _,
+            outcome,
+        } = ran;
+        self.give(rt, source, from);
+        self.give(rt, target, into);
+        ended_text(self.alloc, outcome, &fetched)
+    }
+
+    /// Replicates the first peer into the second by one thread.
+    fn alone(&mut self, how: How) -> Option<String> {
+        let plan = self.plan(how)?;
+        let (source, others) = self.peers.split_first_mut()?;
+        match replicate_alone(self.alloc, source, others.first_mut()?, &plan) {
+            Ok(report) => report_text(self.alloc, report),
+            Err(fault) => fault_text(self.alloc, fault),
+        }
+    }
+}
+
+/// Runs the pool. Nothing else lives beside the peers: each value adds to its proof.
+fn ran<G: Gate + Sync, R: Threads + Wait + Sync>(
+    rt: &R,
+    alloc: Global,
+    source: Peer<Rules>,
+    target: Peer<Rules>,
+    plan: &Plan,
+    gate: &G,
+) -> Ran<Rules> {
+    run(rt, alloc, source, target, plan, gate)
+}
+
+/// Runs the pool on a board.
+fn ran_on<G: Gate + Sync, R: Threads + Wait + Sync>(
+    rt: &R,
+    alloc: Global,
+    source: Peer<Rules>,
+    target: Peer<Rules>,
+    plan: &Plan,
+    gate: &G,
+    board: &Board,
+    seats: Vec<BoardSeat>,
+) -> Ran<Rules>
+    requires { (vec_len seats ≡ plan.now.workers) × All (WorksAt board.now) seats.items }
+{
+    run_on(rt, alloc, source, target, plan, gate, board, seats)
+}
+
+/// How a run ended, and the sum of what was fetched.
+fn ended_text(
+    alloc: Global,
+    outcome: Result<Report, PoolFault>,
+    fetched: &[u64],
+) -> Option<String> {
+    let text = outcome_text(alloc, outcome)?;
+    format!(in alloc; "{text}, fetched {}", sum_of(fetched)).ok()
+}
+
+/// The sum of some counts.
+fn sum_of(counts: &[u64]) -> u64 {
+    let mut sum = 0u64;
+    for count in counts {
+        sum = sum.saturating_add(*count);
+    }
+    sum
+}
+
+/// How a run ended.
+fn outcome_text(alloc: Global, outcome: Result<Report, PoolFault>) -> Option<String> {
+    match outcome {
+        Ok(report) => report_text(alloc, report),
+        Err(PoolFault::Refused(fault)) => fault_text(alloc, fault),
+        Err(PoolFault::Hole { seq, id, rev }) => {
+            let rev = rev_text(alloc, rev)?;
+            format!(in alloc; "Hole {seq} {} {rev}", id.text()).ok()
+        }
+        Err(plain) => shown(alloc, &plain),
+    }
+}
+
+/// Loads a document.
+fn load(alloc: Global, peer: &mut Peer<Rules>, text: &str) -> Option<String> {
+    let doc = doc(alloc, text)?;
+    put_text(alloc, peer.load(&doc))
+}
+
+/// Loads the document of a number.
+fn load_number(alloc: Global, peer: &mut Peer<Rules>, number: u64) -> Option<String> {
+    let text = format!(in alloc; "{{\"_id\":\"d{number}\",\"_rev\":\"1-a\"}}").ok()?;
+    load(alloc, peer, text.as_str())
+}
+
+/// Loads so many documents of one revision each, and tells what the last load answers.
+fn fill(alloc: Global, peer: &mut Peer<Rules>, documents: u64) -> Option<String> {
+    let mut text = String::new(alloc);
+    for number in 0..documents {
+        text = load_number(alloc, peer, number)?;
+    }
+    Some(text)
+}
+
+/// The source's log of a replication.
+fn source_log(alloc: Global, peer: &Peer<Rules>, rep: &RepId) -> Option<String> {
+    let log = peer.source_log(alloc, rep).ok()?;
+    log_text(alloc, &log)
+}
+
+/// What both logs of a replication agree about.
+fn common_text(
+    alloc: Global,
+    source: &Peer<Rules>,
+    target: &Peer<Rules>,
+    rep: &RepId,
+) -> Option<String> {
+    let outgoing = source.source_log(alloc, rep).ok()?;
+    let incoming = target.target_log(alloc, rep).ok()?;
+    match common(&outgoing, &incoming) {
+        Some((_, recorded)) => shown(alloc, &recorded),
+        None => "0".to_string(alloc).ok(),
+    }
+}

@@ -1,0 +1,229 @@
+//! Worlds: steps by their names, and what they leave.
+use crate::tests::databases::tree;
+use crate::tests::records::{entry_text, fault_text, log_text};
+use crate::tests::texts::{body, doc, expect_answer};
+use doc_json::DocId;
+use repl_log::{Moment, RepId, common};
+use repl_target::{Audit, Peer, Rules, audit};
+use repl_world::{Step, World, WorldFault};
+use rev_tree::SessionId;
+use std::alloc::Global;
+use std::process::Abort;
+use test_texts::rev;
+
+/// The replication of a world's peers, which have the uuids 1 and 2.
+const REP: RepId = RepId {
+    source: 1,
+    target: 2,
+};
+
+/// A step, with its documents as texts. All moments are 0.
+#[derive(Clone, Copy)]
+pub(crate) enum Act<'a> {
+    /// Edits a document at the source: its id, the parent and the body.
+    EditSource(&'a str, &'a str, &'a str),
+    /// The same at the target.
+    EditTarget(&'a str, &'a str, &'a str),
+    LoadSource(&'a str),
+    ThirdParty(&'a str),
+    /// Begins a session without a base: its start and its goal.
+    Begin(SessionId, u64, u64),
+    /// Begins a session on another one: its start and its goal.
+    BeginOn(SessionId, SessionId, u64, u64),
+    Page(u64, u64, u64),
+    Append(SessionId, usize),
+    Diff(usize),
+    Fetch(usize),
+    Settle(SessionId, usize),
+    Record(SessionId),
+    Conclude(SessionId),
+    PutEntry(usize),
+    Crash,
+}
+
+/// What is asked of a world, which a number names: 1 for the source, 2 for the target.
+#[derive(Clone, Copy)]
+pub(crate) enum Question<'a> {
+    /// The common checkpoint of the two logs.
+    Common,
+    /// The entry of a session.
+    Entry(SessionId),
+    /// The log of the replication at a side.
+    Log(u128),
+    /// The tree of a document at a side.
+    Tree(u128, &'a str),
+    /// The numbers of windows, asked lists, parcels and entries.
+    Sizes,
+    /// What an audit finds.
+    Audit,
+}
+
+/// Steps, in their order.
+pub(crate) type Acts = &'static [Act<'static>];
+
+/// Questions, each with the text that it must be answered.
+pub(crate) type Told = &'static [(Question<'static>, &'static str)];
+
+/// A moment of 0 seconds.
+fn at_0() -> Option<Moment> {
+    Moment::new(0).ok()
+}
+
+/// The step of an act.
+fn step(alloc: Global, act: Act) -> Option<Step> {
+    match act {
+        Act::EditSource(id, parent, text) => Some(Step::EditSource {
+            id: DocId::parse(alloc, id).ok()?,
+            parent: rev(parent),
+            deleted: false,
+            body: body(alloc, text)?,
+        }),
+        Act::EditTarget(id, parent, text) => Some(Step::EditTarget {
+            id: DocId::parse(alloc, id).ok()?,
+            parent: rev(parent),
+            deleted: false,
+            body: body(alloc, text)?,
+        }),
+        Act::LoadSource(text) => Some(Step::LoadSource(doc(alloc, text)?)),
+        Act::ThirdParty(text) => Some(Step::ThirdParty(doc(alloc, text)?)),
+        other => plain_step(other),
+    }
+}
+
+/// The step of an act without a document.
+fn plain_step(act: Act) -> Option<Step> {
+    let at = at_0()?;
+    match act {
+        Act::Begin(session, start, goal) => Some(Step::Begin {
+            session,
+            base: None,
+            start,
+            goal,
+            at,
+        }),
+        Act::BeginOn(session, base, start, goal) => Some(Step::Begin {
+            session,
+            base: Some(base),
+            start,
+            goal,
+            at,
+        }),
+        Act::Page(since, goal, limit) => Some(Step::Page { since, goal, limit }),
+        Act::Append(session, window) => Some(Step::Append { session, window }),
+        Act::Diff(window) => Some(Step::Diff { window }),
+        Act::Fetch(asked) => Some(Step::Fetch { asked }),
+        Act::Settle(session, parcel) => Some(Step::Settle { session, parcel }),
+        Act::Record(session) => Some(Step::Record { session, at }),
+        Act::Conclude(session) => Some(Step::Conclude { session, at }),
+        Act::PutEntry(entry) => Some(Step::PutEntry { entry }),
+        _ => Some(Step::Crash),
+    }
+}
+
+/// The steps of acts.
+fn steps(alloc: Global, acts: &[Act]) -> Option<Vec<Step>> {
+    let mut all = Vec::new(alloc);
+    for act in acts {
+        let step = step(alloc, *act)?;
+        all.push(step).ok()?;
+    }
+    Some(all)
+}
+
+/// Takes the steps of acts.
+fn take(alloc: Global, world: &mut World<Rules>, acts: &[Act]) -> Option<()> {
+    let steps = steps(alloc, acts)?;
+    world.run(alloc, &steps).ok()
+}
+
+/// The common checkpoint of a world's logs.
+fn common_text(alloc: Global, world: &World<Rules>) -> Option<String> {
+    let outgoing = world.source().source_log(alloc, &REP).ok()?;
+    let incoming = world.target().target_log(alloc, &REP).ok()?;
+    match common(&outgoing, &incoming) {
+        Some((session, recorded)) => format!(in alloc; "{} at {recorded}", session.0).ok(),
+        None => "none".to_string(alloc).ok(),
+    }
+}
+
+/// The log of the replication at a side.
+fn side_log(alloc: Global, world: &World<Rules>, side: u128) -> Option<String> {
+    let log = if side == 1 {
+        world.source().source_log(alloc, &REP).ok()?
+    } else {
+        world.target().target_log(alloc, &REP).ok()?
+    };
+    log_text(alloc, &log)
+}
+
+/// What an audit finds.
+fn audit_text(alloc: Global, world: &World<Rules>) -> Option<String> {
+    match audit(alloc, world.source(), world.target()) {
+        Ok(Audit::Clean) => "clean".to_string(alloc).ok(),
+        Ok(Audit::Hole { seq, .. }) => format!(in alloc; "hole {seq}").ok(),
+        Err(fault) => fault_text(alloc, fault),
+    }
+}
+
+/// The side of a world.
+fn side(world: &World<Rules>, number: u128) -> &Peer<Rules> {
+    if number == 1 {
+        world.source()
+    } else {
+        world.target()
+    }
+}
+
+/// What a question is answered.
+fn answer(alloc: Global, world: &World<Rules>, question: Question) -> Option<String> {
+    match question {
+        Question::Common => common_text(alloc, world),
+        Question::Entry(session) => match world.target().entry(session) {
+            Ok(entry) => entry_text(alloc, entry),
+            Err(fault) => fault_text(alloc, fault),
+        },
+        Question::Log(number) => side_log(alloc, world, number),
+        Question::Tree(number, id) => tree(alloc, side(world, number).db(), id),
+        Question::Sizes => {
+            let (windows, asked, parcels, entries) = world.bag_sizes();
+            format!(in alloc; "{windows} {asked} {parcels} {entries}").ok()
+        }
+        Question::Audit => audit_text(alloc, world),
+    }
+}
+
+/// Takes steps in a world, and asserts what its questions are answered.
+fn tell(rt: &impl Abort, alloc: Global, world: &mut World<Rules>, lists: &[Acts], told: Told) {
+    for acts in lists {
+        if take(alloc, world, acts).is_none() {
+            rt.panic(format_args!("the steps can't be taken"));
+        }
+    }
+    for (i, (question, wanted)) in told.iter().enumerate() {
+        expect_answer(rt, i, answer(alloc, world, *question), wanted);
+    }
+}
+
+/// A peer that refuses nothing.
+fn peer(alloc: Global, uuid: u128) -> Peer<Rules> {
+    Peer::new(alloc, uuid, Rules { deny: None })
+}
+
+/// A world of two empty peers.
+fn world(rt: &impl Abort, alloc: Global) -> World<Rules> {
+    let (source, target) = (peer(alloc, 1), peer(alloc, 2));
+    World::new(alloc, source, target).expect(rt, "two peers")
+}
+
+/// Takes lists of steps in a world of two empty peers, and asserts what its questions are answered.
+pub(crate) fn expect(rt: &impl Abort, alloc: Global, lists: &[Acts], told: Told) {
+    let mut world = world(rt, alloc);
+    tell(rt, alloc, &mut world, lists, told);
+}
+
+/// Asserts that two peers of one uuid make no world.
+pub(crate) fn refuse_one(rt: &impl Abort, alloc: Global) {
+    let (source, target) = (peer(alloc, 1), peer(alloc, 1));
+    let fault = World::new(alloc, source, target).err();
+    assert_eq!(rt; fault, Some(WorldFault::SamePeer));
+}

@@ -1,0 +1,28 @@
+//! Generated tests over several crates: each compares a crate with a reference of its own, written from the definitions
+//! by other means.
+
+// Trees, and their reference.
+mod merges;
+mod reference;
+
+// Trees in their two forms.
+mod forms;
+mod plain;
+
+// Fronts.
+mod fronts;
+
+// Databases: pages, and what is asked and fetched.
+mod exchanges;
+mod feeds;
+
+// Replicated pairs, and their plain model.
+mod pairs;
+mod plain_sides;
+
+// A peer beside its plain side.
+mod sides;
+
+// Worlds, and their plain model.
+mod plain_worlds;
+mod worlds;

@@ -1,0 +1,216 @@
+//! What one database asks for another one's feed, and what is fetched for it, compared with the reference.
+use crate::tests::feeds::{number_of, put};
+use crate::tests::merges::{are, rev};
+use crate::tests::plain_sides::{IDS, PlainSide, next_above};
+use crate::tests::reference::{PLACES, Reference, bit};
+use couch_base::{Asked, Database, Parcel, Wanted};
+use doc_json::Doc;
+use rand_chacha::ChaCha8Rng;
+use rand_core::SeedableRng;
+use rev_core::Rev;
+use std::alloc::Global;
+use std::process::Abort;
+
+/// A database and its reference.
+#[derive(Drop)]
+struct Side {
+    db: Database,
+    plain: PlainSide,
+}
+
+impl Side {
+    /// A database of no documents.
+    fn new(alloc: Global, uuid: u128) -> Side {
+        Side {
+            db: Database::new(alloc, uuid),
+            plain: PlainSide::new(),
+        }
+    }
+
+    /// Puts documents by chance.
+    fn grow(&mut self, rt: &impl Abort, alloc: Global, rng: &mut ChaCha8Rng, puts: usize) {
+        for _ in 0..puts {
+            put(rt, alloc, rng, &mut self.db, &mut self.plain);
+        }
+    }
+}
+
+/// The place of a revision.
+pub(crate) fn place_of(rt: &impl Abort, wanted: Rev) -> usize {
+    for place in 0..PLACES {
+        if rev(rt, place) == wanted {
+            return place;
+        }
+    }
+    PLACES
+}
+
+/// The bits of some revisions.
+fn mask_of(rt: &impl Abort, revs: &[Rev]) -> u32 {
+    let mut mask = 0;
+    for one in revs {
+        mask |= bit(place_of(rt, *one));
+    }
+    mask
+}
+
+/// Asserts that what is asked of a document are those leaves of a tree that another one has not, winner first.
+fn asks_of(
+    rt: &impl Abort,
+    alloc: Global,
+    wanted: &Wanted,
+    number: usize,
+    tree: &Reference,
+    held: &Reference,
+) {
+    assert_eq!(rt; number_of(rt, wanted.id().text()), number);
+    let leaves = tree.leaves(alloc).expect(rt, "memory");
+    let missing = held.missing(rt, alloc, &leaves);
+    assert!(rt; are(rt, wanted.revs(), &missing));
+}
+
+/// Asserts that what is asked is what the target has not, in the order of the source's feed.
+fn asks(rt: &impl Abort, alloc: Global, source: &PlainSide, target: &PlainSide, asked: &Asked) {
+    let mut seq = 0u64;
+    let mut at = 0usize;
+    for _ in 0..IDS {
+        let Some((number, next)) = next_above(&source.documents, seq, source.update_seq) else {
+            break;
+        };
+        seq = next;
+        let (tree, held) = (source.tree(number), target.tree(number));
+        if tree.leaf_mask() & !held.revisions() != 0 {
+            let wanted = asked.docs().get(at).expect(rt, "a document that is asked");
+            asks_of(rt, alloc, wanted, number, &tree, &held);
+            at = at.saturating_add(1);
+        }
+    }
+    assert_eq!(rt; asked.docs().len(), at);
+}
+
+/// Asserts that a fetched document is a leaf of a tree.
+fn is_leaf(
+    rt: &impl Abort,
+    alloc: Global,
+    doc: &Doc,
+    number: usize,
+    tree: &Reference,
+    leaf: usize,
+) {
+    assert_eq!(rt; number_of(rt, doc.id().text()), number);
+    let walk = tree.ancestry(alloc, leaf).expect(rt, "memory");
+    assert!(rt; are(rt, doc.ancestry().revs(), &walk));
+    assert!(rt; tree.content(leaf) == Some((doc.deleted(), 0)));
+}
+
+/// Asserts that the documents from a place on are the leaves of a tree above some revisions. Gives the place behind
+/// them.
+fn brings_leaves(
+    rt: &impl Abort,
+    alloc: Global,
+    parcel: &Parcel,
+    from: usize,
+    number: usize,
+    tree: &Reference,
+    revs: u32,
+) -> usize {
+    let mut at = from;
+    for leaf in &tree.leaves_above(rt, alloc, revs) {
+        let doc = parcel.docs().get(at).expect(rt, "a document too few");
+        is_leaf(rt, alloc, doc, number, tree, *leaf);
+        at = at.saturating_add(1);
+    }
+    at
+}
+
+/// Asserts that the gone revisions from a place on are those that a tree has not. Gives the place behind them.
+fn loses(
+    rt: &impl Abort,
+    parcel: &Parcel,
+    from: usize,
+    number: usize,
+    tree: &Reference,
+    revs: &[Rev],
+) -> usize {
+    let mut at = from;
+    for one in revs {
+        if !tree.has(place_of(rt, *one)) {
+            let (id, lost) = parcel.gone().get(at).expect(rt, "a gone revision too few");
+            assert_eq!(rt; number_of(rt, id.text()), number);
+            assert!(rt; *lost == *one);
+            at = at.saturating_add(1);
+        }
+    }
+    at
+}
+
+/// Asserts that a parcel is what the trees say of what was asked. Gives how many documents it has.
+fn brings(
+    rt: &impl Abort,
+    alloc: Global,
+    plain: &PlainSide,
+    asked: &Asked,
+    parcel: &Parcel,
+) -> usize {
+    let mut docs = 0usize;
+    let mut gone = 0usize;
+    for wanted in asked.docs() {
+        let number = number_of(rt, wanted.id().text());
+        let tree = plain.tree(number);
+        let revs = mask_of(rt, wanted.revs());
+        docs = brings_leaves(rt, alloc, parcel, docs, number, &tree, revs);
+        gone = loses(rt, parcel, gone, number, &tree, wanted.revs());
+    }
+    assert_eq!(rt; parcel.docs().len(), docs);
+    assert_eq!(rt; parcel.gone().len(), gone);
+    docs
+}
+
+/// Asserts that what a side answers to what is asked is what its trees say. Gives how many documents that are.
+fn answers(rt: &impl Abort, alloc: Global, side: &Side, asked: &Asked) -> usize {
+    let parcel = side.db.open_revs(alloc, asked).expect(rt, "memory");
+    brings(rt, alloc, &side.plain, asked, &parcel)
+}
+
+/// What the target asks for the source's whole feed.
+fn asked(rt: &impl Abort, alloc: Global, source: &Side, target: &Side) -> Asked {
+    let goal = source.plain.update_seq;
+    let window = source.db.page(alloc, 0, goal, 100).expect(rt, "a page");
+    target.db.revs_diff(alloc, &window).expect(rt, "memory")
+}
+
+/// Grows both sides, and asserts what is asked and answered. Gives how many documents the source brings.
+fn exchange(
+    rt: &impl Abort,
+    alloc: Global,
+    rng: &mut ChaCha8Rng,
+    source: &mut Side,
+    target: &mut Side,
+) -> usize {
+    source.grow(rt, alloc, rng, 20);
+    target.grow(rt, alloc, rng, 10);
+    let asked = asked(rt, alloc, source, target);
+    asks(rt, alloc, &source.plain, &target.plain, &asked);
+    // The source may have moved on by the time of the fetch, and another database may lack what is asked.
+    source.grow(rt, alloc, rng, 10);
+    let docs = answers(rt, alloc, source, &asked);
+    let _others = answers(rt, alloc, target, &asked);
+    docs
+}
+
+/// The exchange of a source with a target. Nothing else lives beside a side: each value adds to its proof.
+fn with_target(rt: &impl Abort, alloc: Global, seed: u64, source: &mut Side) -> usize {
+    let mut rng = ChaCha8Rng::seed_from_u64(seed);
+    let mut target = Side::new(alloc, 2);
+    exchange(rt, alloc, &mut rng, source, &mut target)
+}
+
+#[test]
+fn a_hundred_exchanges_agree(rt: HostRuntime) {
+    let mut docs = 0usize;
+    for seed in 0..100u64 {
+        let mut source = Side::new(rt.alloc(), 1);
+        docs = docs.saturating_add(with_target(&rt, rt.alloc(), seed, &mut source));
+    }
+    assert!(rt; 300 < docs, "{docs} documents");
+}

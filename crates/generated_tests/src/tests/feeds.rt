@@ -1,0 +1,182 @@
+//! Puts and pages by chance, compared with a reference that filters and sorts all documents.
+use crate::tests::merges::{ancestry, are, below, places};
+use crate::tests::plain_sides::{IDS, PlainSide, next_above};
+use crate::tests::reference::{Answer, Reference};
+use couch_base::{BaseFault, Database, Put, Row, Window};
+use doc_json::{Body, Doc, DocId, read_body};
+use rand_chacha::ChaCha8Rng;
+use rand_core::SeedableRng;
+use rev_tree::Origin;
+use serde_json::Value;
+use std::alloc::Global;
+use std::process::Abort;
+
+/// The id of a number.
+pub(crate) fn id(rt: &impl Abort, alloc: Global, number: usize) -> DocId {
+    let number = number % IDS;
+    let text = format!(in alloc; "d{number}").expect(rt, "memory");
+    DocId::parse(alloc, text.as_str()).expect(rt, "an id")
+}
+
+/// The number of the document of an id, which is `d` and a digit.
+pub(crate) fn number_of(rt: &impl Abort, text: &str) -> usize {
+    match text.as_bytes() {
+        [b'd', digit] if *digit >= b'0' => (*digit - b'0') as usize % IDS,
+        _ => rt.panic(format_args!("another id")),
+    }
+}
+
+/// The body `{}`.
+pub(crate) fn body(rt: &impl Abort, alloc: Global) -> Body {
+    let value = Value::from_slice(alloc, b"{}").expect(rt, "a value");
+    read_body(alloc, &value).expect(rt, "a body")
+}
+
+/// A document by its id's number and the places of its ancestry, with the body `{}`.
+pub(crate) fn document(
+    rt: &impl Abort,
+    alloc: Global,
+    number: usize,
+    walk: &[usize],
+    deleted: bool,
+) -> Doc {
+    let ancestry = ancestry(rt, alloc, walk);
+    Doc::new(id(rt, alloc, number), ancestry, deleted, body(rt, alloc))
+}
+
+/// A document by chance, and what merging it gives, which is done in the plain side.
+pub(crate) fn document_by_chance(
+    rt: &impl Abort,
+    alloc: Global,
+    rng: &mut ChaCha8Rng,
+    plain: &mut PlainSide,
+    documents: usize,
+) -> (Doc, Answer) {
+    let number = below(rng, 5) % documents.max(1);
+    let walk = places(rng, alloc).expect(rt, "memory");
+    let deleted = below(rng, 3) == 0;
+    let answer = plain.merge(number, &walk, deleted);
+    (document(rt, alloc, number, &walk, deleted), answer)
+}
+
+/// Whether a put answers what is wanted, with the update sequence that then stands.
+pub(crate) fn is_answer(answer: Result<Put, BaseFault>, wanted: Answer, update_seq: u64) -> bool {
+    match answer {
+        Ok(Put::Changed { seq }) => wanted == Answer::Changed && seq == update_seq,
+        Ok(Put::Same) => wanted == Answer::Same,
+        Err(BaseFault::Contradiction { .. }) => {
+            wanted != Answer::Changed && wanted != Answer::Same
+        }
+        Err(_) => false,
+    }
+}
+
+/// Puts a document by chance into both.
+pub(crate) fn put(
+    rt: &impl Abort,
+    alloc: Global,
+    rng: &mut ChaCha8Rng,
+    db: &mut Database,
+    plain: &mut PlainSide,
+) {
+    let (doc, wanted) = document_by_chance(rt, alloc, rng, plain, IDS);
+    let answer = db.put(&doc, Origin::Local(0));
+    assert!(rt; is_answer(answer, wanted, plain.update_seq), "a put");
+}
+
+/// Asserts that a row has an id and the leaves of a tree.
+fn row_has(rt: &impl Abort, alloc: Global, row: &Row, number: usize, tree: &Reference) {
+    assert_eq!(rt; number_of(rt, row.id().text()), number);
+    let leaves = tree.leaves(alloc).expect(rt, "memory");
+    assert!(rt; are(rt, row.leaves(), &leaves));
+}
+
+/// Asserts that a row is that of the document next above a sequence. Gives its own.
+fn row_is(
+    rt: &impl Abort,
+    alloc: Global,
+    row: &Row,
+    plain: &PlainSide,
+    after: u64,
+    goal: u64,
+) -> u64 {
+    let Some((number, seq)) = next_above(&plain.documents, after, goal) else {
+        rt.panic(format_args!("a row too many"))
+    };
+    assert_eq!(rt; row.seq(), seq);
+    row_has(rt, alloc, row, number, &plain.tree(number));
+    seq
+}
+
+/// Asserts that the window has the first rows above `since`, and ends where it should.
+fn window_is(
+    rt: &impl Abort,
+    alloc: Global,
+    window: &Window,
+    plain: &PlainSide,
+    since: u64,
+    goal: u64,
+    limit: u64,
+) {
+    let mut at = since;
+    let mut rows = 0u64;
+    for row in window.rows() {
+        at = row_is(rt, alloc, row, plain, at, goal);
+        rows = rows.saturating_add(1);
+    }
+    let is_last = next_above(&plain.documents, at, goal).is_none();
+    assert!(rt; rows <= limit && (rows == limit || is_last));
+    assert_eq!(rt; window.lo(), since);
+    assert_eq!(rt; window.hi(), if rows == limit { at } else { goal });
+}
+
+/// Asks for a page by chance.
+fn page(rt: &impl Abort, alloc: Global, rng: &mut ChaCha8Rng, db: &Database, plain: &PlainSide) {
+    let since = below(rng, 30) as u64;
+    let goal = below(rng, 40) as u64;
+    let limit = below(rng, 4) as u64;
+    match db.page(alloc, since, goal, limit) {
+        Ok(window) => window_is(rt, alloc, &window, plain, since, goal, limit),
+        Err(fault) => page_refused(rt, fault, plain, since, goal, limit),
+    }
+}
+
+/// Asserts that a page is rightly refused.
+fn page_refused(
+    rt: &impl Abort,
+    fault: BaseFault,
+    plain: &PlainSide,
+    since: u64,
+    goal: u64,
+    limit: u64,
+) {
+    let seq = plain.update_seq;
+    let rightly = match fault {
+        BaseFault::BadLimit => limit == 0,
+        BaseFault::BadRange => limit != 0 && goal <= since,
+        BaseFault::GoalAhead { update_seq } => {
+            limit != 0 && since < goal && seq < goal && update_seq == seq
+        }
+        _ => false,
+    };
+    assert!(rt; rightly, "a page is refused");
+}
+
+/// Forty puts, and a page after each.
+fn grow(rt: &impl Abort, alloc: Global, rng: &mut ChaCha8Rng, db: &mut Database) {
+    let mut plain = PlainSide::new();
+    for _ in 0..40 {
+        put(rt, alloc, rng, db, &mut plain);
+        assert_eq!(rt; db.update_seq(), plain.update_seq);
+        page(rt, alloc, rng, db, &plain);
+    }
+}
+
+#[test]
+fn a_hundred_databases_agree(rt: HostRuntime) {
+    for seed in 0..100u64 {
+        let mut rng = ChaCha8Rng::seed_from_u64(seed);
+        let mut db = Database::new(rt.alloc(), 1);
+        grow(&rt, rt.alloc(), &mut rng, &mut db);
+    }
+}

@@ -1,0 +1,177 @@
+//! Both forms of a tree after merges by chance: each call answers in the one as it does in the other.
+
+use crate::tests::merges::{ancestry, below, content, places, rev};
+use crate::tests::plain::{PlainAnswer, PlainTree};
+use crate::tests::reference::PLACES;
+use rand_chacha::ChaCha8Rng;
+use rand_core::SeedableRng;
+use rev_core::{Ancestry, Rev};
+use rev_tree::{Merged, Origin, SessionId, Tree, TreeFault};
+use std::alloc::Global;
+use std::process::Abort;
+
+/// The answer of a merge as the plain form gives it.
+fn plain_answer(rt: &impl Abort, answer: Result<Merged, TreeFault>) -> PlainAnswer {
+    let fault = match answer {
+        Ok(merged) => return Ok(merged),
+        Err(fault) => fault,
+    };
+    match fault {
+        TreeFault::Contradiction {
+            child,
+            known,
+            given,
+        } => Err((child, known, given)),
+        _ => rt.panic(format_args!("neither an answer nor a contradiction")),
+    }
+}
+
+/// Asserts that a revision has the content of the plain form.
+fn agree_on_content(rt: &impl Abort, tree: &Tree, plain: &PlainTree, one: Rev) {
+    match (tree.content(one), plain.content(one)) {
+        (Some(content), Some((deleted, byte))) => {
+            assert!(rt; content.deleted() == deleted && content.body() == [byte].as_slice());
+        }
+        (None, None) => {}
+        _ => rt.panic(format_args!("a content in one form alone")),
+    }
+}
+
+/// Asserts that revisions are those of the plain form.
+fn are_same(rt: &impl Abort, answer: Result<Vec<Rev>, TreeFault>, wanted: &[Rev]) {
+    let revs = answer.expect(rt, "revisions");
+    assert!(rt; revs.as_slice() == wanted);
+}
+
+/// Asserts that a revision has the ancestry of the plain form.
+fn agree_on_walk(rt: &impl Abort, alloc: Global, tree: &Tree, plain: &PlainTree, one: Rev) {
+    match tree.ancestry(alloc, one) {
+        Ok(walk) => is_walk(rt, alloc, plain, one, walk.revs()),
+        Err(_) => assert!(rt; plain.origin(one).is_none()),
+    }
+}
+
+/// Asserts that revisions are the ancestry of one in the plain form.
+fn is_walk(rt: &impl Abort, alloc: Global, plain: &PlainTree, one: Rev, walk: &[Rev]) {
+    let wanted = plain.ancestry(alloc, one).expect(rt, "memory");
+    assert!(rt; plain.origin(one).is_some() && walk == wanted.as_slice());
+}
+
+/// Asserts that a tree answers as the plain form does about a revision.
+fn agree_on_rev(rt: &impl Abort, alloc: Global, tree: &Tree, plain: &PlainTree, one: Rev) {
+    assert_eq!(rt; tree.has(one), plain.origin(one).is_some());
+    assert_eq!(rt; tree.origin(one), plain.origin(one));
+    assert_eq!(rt; tree.is_leaf(one), plain.is_leaf(one));
+    assert!(rt; tree.parent_of(one) == plain.parent_of(one));
+    agree_on_content(rt, tree, plain, one);
+    agree_on_walk(rt, alloc, tree, plain, one);
+}
+
+/// Asserts that a tree has leaves.
+fn agree_on_leaves(rt: &impl Abort, alloc: Global, tree: &Tree, leaves: &[Rev]) {
+    are_same(rt, tree.leaves(alloc), leaves);
+    assert_eq!(rt; tree.leaf_count(), leaves.len());
+    assert!(rt; tree.winner() == leaves.first().copied());
+}
+
+/// Asserts that a tree has the leaves of the plain form above some revisions.
+fn agree_on_above(
+    rt: &impl Abort,
+    alloc: Global,
+    tree: &Tree,
+    plain: &PlainTree,
+    leaves: &[Rev],
+    asked: &[Rev],
+) {
+    let above = plain.above(alloc, leaves, asked).expect(rt, "memory");
+    are_same(rt, tree.leaves_above(alloc, asked), &above);
+}
+
+/// Asserts that a tree misses of some revisions what the plain form does.
+fn agree_on_missing(rt: &impl Abort, alloc: Global, tree: &Tree, plain: &PlainTree, asked: &[Rev]) {
+    let missing = plain.missing(alloc, asked).expect(rt, "memory");
+    are_same(rt, tree.missing(alloc, asked), &missing);
+}
+
+/// Asserts that a tree answers as the plain form does, asked of the revisions too.
+fn agree(rt: &impl Abort, alloc: Global, tree: &Tree, plain: &PlainTree, asked: &[Rev]) {
+    let leaves = plain.leaves(alloc).expect(rt, "memory");
+    agree_on_leaves(rt, alloc, tree, &leaves);
+    assert_eq!(rt; tree.rev_count(), plain.rev_count());
+    agree_on_above(rt, alloc, tree, plain, &leaves, asked);
+    agree_on_missing(rt, alloc, tree, plain, asked);
+    for one in asked {
+        agree_on_rev(rt, alloc, tree, plain, *one);
+    }
+}
+
+/// Where the revisions of a round come from.
+fn origin_of(rng: &mut ChaCha8Rng, round: u64) -> Origin {
+    if below(rng, 2) == 0 {
+        Origin::Local(round)
+    } else {
+        Origin::Feed(SessionId(7), round)
+    }
+}
+
+/// An ancestry by chance.
+fn ancestry_by_chance(rt: &impl Abort, alloc: Global, rng: &mut ChaCha8Rng) -> Ancestry {
+    let places = places(rng, alloc).expect(rt, "memory");
+    ancestry(rt, alloc, &places)
+}
+
+/// One merge into both forms.
+fn merge(
+    rt: &impl Abort,
+    alloc: Global,
+    rng: &mut ChaCha8Rng,
+    tree: &mut Tree,
+    plain: &mut PlainTree,
+    round: u64,
+) {
+    let given = ancestry_by_chance(rt, alloc, rng);
+    let (deleted, byte) = (below(rng, 3) == 0, (round % 251) as u8);
+    let origin = origin_of(rng, round);
+    let answer = tree.merge(&given, content(rt, alloc, deleted, byte), origin);
+    let wanted = plain.merge(alloc, &given, (deleted, byte), origin);
+    assert!(rt; wanted.ok() == Some(plain_answer(rt, answer)));
+    agree(rt, alloc, tree, plain, given.revs());
+}
+
+/// One merge into both forms, and readings of other revisions.
+fn merge_and_read(
+    rt: &impl Abort,
+    alloc: Global,
+    rng: &mut ChaCha8Rng,
+    tree: &mut Tree,
+    plain: &mut PlainTree,
+    round: u64,
+) {
+    merge(rt, alloc, rng, tree, plain, round);
+    if below(rng, 2) == 0 {
+        *tree = tree.copy(alloc).expect(rt, "memory");
+    }
+    let asked = ancestry_by_chance(rt, alloc, rng);
+    agree(rt, alloc, tree, plain, asked.revs());
+}
+
+/// Fifty merges from one seed into both forms. Each is followed by readings of what was given and of other revisions,
+/// half of them of a copy, and the last by readings of every revision.
+fn merges_alike(rt: &impl Abort, alloc: Global, seed: u64, tree: &mut Tree) {
+    let mut rng = ChaCha8Rng::seed_from_u64(seed);
+    let mut plain = PlainTree::new(alloc);
+    for round in 0..50u64 {
+        merge_and_read(rt, alloc, &mut rng, tree, &mut plain, round);
+    }
+    for place in 0..PLACES {
+        agree_on_rev(rt, alloc, tree, &plain, rev(rt, place));
+    }
+}
+
+#[test]
+fn two_forms_agree(rt: HostRuntime) {
+    for seed in 0..200u64 {
+        let mut tree = Tree::new(rt.alloc());
+        merges_alike(&rt, rt.alloc(), seed, &mut tree);
+    }
+}

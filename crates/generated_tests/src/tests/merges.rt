@@ -1,0 +1,286 @@
+//! Merges by chance, compared after each with the reference: every reading of the tree, and every answer.
+ghost use Rattle.std.specs.Prelude.{◌≤◌};
+
+use crate::tests::reference::{Answer, PLACES, Reference, mask_of};
+use rand_chacha::ChaCha8Rng;
+use rand_core::{Rng, SeedableRng};
+use rev_core::{Ancestry, Rev, Sig};
+use rev_tree::{Content, Merged, Origin, Tree, TreeFault};
+use std::alloc::{AllocError, Global};
+use std::process::Abort;
+use std::sync::ArcSlice;
+
+/// The signature at a place.
+fn sig(rt: &impl Abort, place: usize) -> Sig {
+    match Sig::parse(&[b'a' + (place % 3) as u8]) {
+        Ok(sig) => sig,
+        Err(_) => rt.panic(format_args!("a signature")),
+    }
+}
+
+/// The revision at a place.
+pub(crate) fn rev(rt: &impl Abort, place: usize) -> Rev {
+    let text = [
+        b'1' + (place % PLACES / 3) as u8,
+        b'-',
+        b'a' + (place % 3) as u8,
+    ];
+    match Rev::parse(&text) {
+        Ok(rev) => rev,
+        Err(_) => rt.panic(format_args!("a revision")),
+    }
+}
+
+/// Whether the revisions are those at the places.
+pub(crate) fn are(rt: &impl Abort, revs: &[Rev], places: &[usize]) -> bool {
+    let mut are = revs.len() == places.len();
+    for (one, place) in revs.iter().zip(places) {
+        are = are && *one == rev(rt, *place);
+    }
+    are
+}
+
+/// A number below a bound, or 0.
+pub(crate) fn below(rng: &mut ChaCha8Rng, bound: u32) -> usize
+    ensures { result ≤ bound }
+{
+    if bound == 0 {
+        0
+    } else {
+        (rng.next_u32() % bound) as usize
+    }
+}
+
+/// The places of an ancestry by chance, newest first.
+pub(crate) fn places(rng: &mut ChaCha8Rng, alloc: Global) -> Result<Vec<usize>, AllocError> {
+    let start = below(rng, 6);
+    let length = below(rng, 6);
+    let mut places = Vec::new(alloc);
+    for back in 0..6usize {
+        if back <= start && back <= length {
+            places.push((start - back) * 3 + below(rng, 3))?;
+        }
+    }
+    Ok(places)
+}
+
+/// The ancestry at the places.
+pub(crate) fn ancestry(rt: &impl Abort, alloc: Global, places: &[usize]) -> Ancestry {
+    let mut sigs = Vec::new(alloc);
+    for place in places {
+        sigs.push(sig(rt, *place)).expect(rt, "memory");
+    }
+    let start = places.first().map_or(0, |place| *place % PLACES / 3 + 1);
+    Ancestry::from_parts(alloc, start as u32, &sigs).expect(rt, "an ancestry")
+}
+
+/// Asserts that a revision has the content that the reference has.
+fn agree_on_content(rt: &impl Abort, tree: &Tree, reference: &Reference, one: Rev, place: usize) {
+    match (tree.content(one), reference.content(place)) {
+        (Some(content), Some((deleted, body))) => {
+            assert!(rt; content.deleted() == deleted && content.body() == [body].as_slice());
+        }
+        (None, None) => {}
+        _ => rt.panic(format_args!("a content on one side alone")),
+    }
+}
+
+/// Asserts that revisions are those at the places.
+fn assert_are(rt: &impl Abort, answer: Result<Vec<Rev>, TreeFault>, places: &[usize]) {
+    let revs = answer.expect(rt, "revisions");
+    assert!(rt; are(rt, &revs, places));
+}
+
+/// Asserts that a revision has the ancestry that the reference has.
+fn agree_on_walk(
+    rt: &impl Abort,
+    alloc: Global,
+    tree: &Tree,
+    reference: &Reference,
+    one: Rev,
+    place: usize,
+) {
+    match tree.ancestry(alloc, one) {
+        Ok(walk) => is_walk(rt, alloc, reference, place, walk.revs()),
+        Err(_) => assert!(rt; !reference.has(place)),
+    }
+}
+
+/// Asserts that revisions are the ancestry of one that the reference has.
+fn is_walk(rt: &impl Abort, alloc: Global, reference: &Reference, place: usize, walk: &[Rev]) {
+    let places = reference.ancestry(alloc, place).expect(rt, "memory");
+    assert!(rt; reference.has(place) && are(rt, walk, &places));
+}
+
+/// Asserts that every reading of a revision is that of the reference.
+fn agree_at(rt: &impl Abort, alloc: Global, tree: &Tree, reference: &Reference, place: usize) {
+    let one = rev(rt, place);
+    assert_eq!(rt; tree.has(one), reference.has(place));
+    assert_eq!(rt; tree.is_leaf(one), reference.is_leaf(place));
+    assert_eq!(rt;
+        tree.origin(one),
+        reference.origin(place).map(|n| Origin::Local(n))
+    );
+    agree_on_content(rt, tree, reference, one, place);
+    agree_on_walk(rt, alloc, tree, reference, one, place);
+}
+
+/// Asserts that the leaves, and the winner, are those at the places.
+fn agree_on_leaves(rt: &impl Abort, alloc: Global, tree: &Tree, places: &[usize]) {
+    assert_are(rt, tree.leaves(alloc), places);
+    assert_eq!(rt; tree.leaf_count(), places.len());
+    match places.first() {
+        Some(place) => assert!(rt; tree.winner() == Some(rev(rt, *place))),
+        None => assert!(rt; tree.winner().is_none()),
+    }
+}
+
+/// Asserts that every reading of the tree is that of the reference.
+fn agree(rt: &impl Abort, alloc: Global, tree: &Tree, reference: &Reference) {
+    let leaves = reference.leaves(alloc).expect(rt, "memory");
+    agree_on_leaves(rt, alloc, tree, &leaves);
+    assert_eq!(rt; tree.rev_count(), reference.count());
+    for place in 0..PLACES {
+        agree_at(rt, alloc, tree, reference, place);
+    }
+}
+
+/// The revisions at some places.
+fn revs(rt: &impl Abort, alloc: Global, places: &[usize]) -> Vec<Rev> {
+    let mut revs = Vec::new(alloc);
+    for place in places {
+        revs.push(rev(rt, *place)).expect(rt, "memory");
+    }
+    revs
+}
+
+/// Asserts that what is missing of some revisions is what the reference says.
+fn agree_on_missing(
+    rt: &impl Abort,
+    alloc: Global,
+    tree: &Tree,
+    reference: &Reference,
+    asked: &[usize],
+) {
+    let revs = revs(rt, alloc, asked);
+    let missing = reference.missing(rt, alloc, asked);
+    assert_are(rt, tree.missing(alloc, &revs), &missing);
+}
+
+/// Asserts that what stands above some revisions is what the reference says.
+fn agree_on_above(
+    rt: &impl Abort,
+    alloc: Global,
+    tree: &Tree,
+    reference: &Reference,
+    asked: &[usize],
+) {
+    let revs = revs(rt, alloc, asked);
+    let above = reference.leaves_above(rt, alloc, mask_of(asked));
+    assert_are(rt, tree.leaves_above(alloc, &revs), &above);
+}
+
+/// Asserts that what stands above some revisions by chance, and what is missing of them, is what the reference says.
+fn agree_on_asked(
+    rt: &impl Abort,
+    alloc: Global,
+    rng: &mut ChaCha8Rng,
+    tree: &Tree,
+    reference: &Reference,
+) {
+    let asked = places(rng, alloc).expect(rt, "memory");
+    agree_on_missing(rt, alloc, tree, reference, &asked);
+    agree_on_above(rt, alloc, tree, reference, &asked);
+}
+
+/// Asserts that the answer is that of the reference.
+fn answers(rt: &impl Abort, answer: Result<Merged, TreeFault>, wanted: Answer) {
+    match answer {
+        Ok(Merged::Changed) => assert_eq!(rt; wanted, Answer::Changed),
+        Ok(Merged::Same) => assert_eq!(rt; wanted, Answer::Same),
+        Err(fault) => refused(rt, fault, wanted),
+    }
+}
+
+/// The child, the known and the given parent of a contradiction.
+fn contradiction(fault: TreeFault) -> Option<(Rev, Rev, Rev)> {
+    match fault {
+        TreeFault::Contradiction {
+            child,
+            known,
+            given,
+        } => Some((child, known, given)),
+        _ => None,
+    }
+}
+
+/// Asserts that the refusal is that of the reference.
+fn refused(rt: &impl Abort, fault: TreeFault, wanted: Answer) {
+    let Some((child, known, given)) = contradiction(fault) else {
+        rt.panic(format_args!("no contradiction"))
+    };
+    let places = match wanted {
+        Answer::Contradiction {
+            child,
+            known,
+            given,
+        } => [child, known, given],
+        _ => rt.panic(format_args!("refused, where {wanted:?} was wanted")),
+    };
+    assert!(rt; are(rt, &[child, known, given], &places));
+}
+
+/// A content with a body of one byte.
+pub(crate) fn content(rt: &impl Abort, alloc: Global, deleted: bool, byte: u8) -> Content {
+    let body = ArcSlice::from_slice(alloc, &[byte]).expect(rt, "memory");
+    Content::new(deleted, body)
+}
+
+/// One merge into both. Says whether it was refused.
+fn merge(
+    rt: &impl Abort,
+    alloc: Global,
+    rng: &mut ChaCha8Rng,
+    tree: &mut Tree,
+    reference: &mut Reference,
+    round: u64,
+) -> bool {
+    let given = places(rng, alloc).expect(rt, "memory");
+    let deleted = below(rng, 3) == 0;
+    let byte = (below(rng, 10) % 256) as u8;
+    let ancestry = ancestry(rt, alloc, &given);
+    let answer = tree.merge(
+        &ancestry,
+        content(rt, alloc, deleted, byte),
+        Origin::Local(round),
+    );
+    let is_refused = answer.is_err();
+    answers(rt, answer, reference.merge(&given, (deleted, byte), round));
+    is_refused
+}
+
+/// Fifty merges from one seed. Gives how many of them were refused.
+fn merges(rt: &impl Abort, alloc: Global, seed: u64, tree: &mut Tree) -> usize {
+    let mut rng = ChaCha8Rng::seed_from_u64(seed);
+    let mut reference = Reference::new();
+    let mut refusals = 0usize;
+    for round in 0..50u64 {
+        if merge(rt, alloc, &mut rng, tree, &mut reference, round) {
+            refusals = refusals.saturating_add(1);
+        }
+        agree(rt, alloc, tree, &reference);
+        agree_on_asked(rt, alloc, &mut rng, tree, &reference);
+    }
+    refusals
+}
+
+#[test]
+fn two_hundred_seeds_agree(rt: HostRuntime) {
+    let mut refusals = 0usize;
+    for seed in 0..200u64 {
+        let mut tree = Tree::new(rt.alloc());
+        refusals = refusals.saturating_add(merges(&rt, rt.alloc(), seed, &mut tree));
+    }
+    // Both kinds of answer are met often enough to tell something.
+    assert!(rt; 1_000 < refusals && refusals < 9_000, "{refusals} refusals");
+}

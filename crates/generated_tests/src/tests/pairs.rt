@@ -1,0 +1,275 @@
+//! Replications of random pairs, by one thread and by the pool, each compared with the plain model: both sides' trees,
+//! what is covered, the report, and the session's ledger.
+use crate::tests::feeds::{document_by_chance, is_answer};
+use crate::tests::merges::below;
+use crate::tests::plain_sides::{Carried, IDS, PlainSide, carry};
+use crate::tests::sides::{agrees, has_ledger};
+use rand_chacha::ChaCha8Rng;
+use rand_core::SeedableRng;
+use repl_log::Moment;
+use repl_pool::{Open, Ran, run};
+use repl_target::{Peer, Plan, Report, Rules, replicate_alone};
+use rev_tree::SessionId;
+use std::alloc::Global;
+use std::mem;
+use std::process::Abort;
+use std::sync::Wait;
+use std::thread::Threads;
+
+/// How many choices there are of the document that is refused; some are no document's.
+const CHOICES: u32 = 8;
+
+/// The places of the sources, behind the target.
+const SOURCE: usize = 0;
+
+const OTHER: usize = 1;
+
+/// What is done with the sides.
+#[derive(Clone, Copy)]
+enum Call {
+    /// Loads so many documents by chance into the target.
+    GrowTarget(usize),
+    /// The same into a source.
+    Grow(usize, usize),
+    /// Replicates a source into the target.
+    Replicate(usize),
+}
+
+/// Another source goes into a target with documents of its own, then the source, and the source once more after it has
+/// grown.
+static CALLS: &[Call] = &[
+    Call::Grow(OTHER, 10),
+    Call::GrowTarget(5),
+    Call::Grow(SOURCE, 20),
+    Call::Replicate(OTHER),
+    Call::Replicate(SOURCE),
+    Call::Grow(SOURCE, 6),
+    Call::Replicate(SOURCE),
+];
+
+/// A peer, its plain side, and up to which sequence it was replicated into the target.
+#[derive(Drop)]
+struct Side {
+    peer: Peer<Rules>,
+    plain: PlainSide,
+    carried: u64,
+}
+
+impl Side {
+    /// No documents. Those whose ids begin with a prefix are refused.
+    fn new(alloc: Global, uuid: u128, deny: Option<String>) -> Side {
+        Side {
+            peer: Peer::new(alloc, uuid, Rules { deny }),
+            plain: PlainSide::new(),
+            carried: 0,
+        }
+    }
+
+    /// Loads a document by chance into both, and asserts that both answer the same.
+    fn load(&mut self, rt: &impl Abort, alloc: Global, rng: &mut ChaCha8Rng) {
+        let (doc, wanted) = document_by_chance(rt, alloc, rng, &mut self.plain, IDS);
+        let answer = self.peer.load(&doc);
+        assert!(rt; is_answer(answer, wanted, self.plain.update_seq), "a load");
+    }
+}
+
+/// A target, the sources, and what chance has picked.
+#[derive(Drop)]
+struct Bench {
+    alloc: Global,
+    rng: ChaCha8Rng,
+    /// How many workers replicate; none for one thread alone.
+    workers: u64,
+    deny: Option<usize>,
+    sessions: u128,
+    sides: Vec<Side>,
+}
+
+impl Bench {
+    /// A target that refuses a document by chance, a source and another one, of no documents.
+    fn new(rt: &impl Abort, alloc: Global, seed: u64, workers: u64) -> Bench {
+        let mut rng = ChaCha8Rng::seed_from_u64(seed);
+        let number = below(&mut rng, CHOICES);
+        let deny = if number < IDS { Some(number) } else { None };
+        let mut bench = Bench {
+            alloc,
+            rng,
+            workers,
+            deny,
+            sessions: 0,
+            sides: Vec::new(alloc),
+        };
+        bench.make(rt, 2, prefix(rt, alloc, deny));
+        bench.make(rt, 1, None);
+        bench.make(rt, 3, None);
+        bench
+    }
+
+    /// Makes the next side.
+    fn make(&mut self, rt: &impl Abort, uuid: u128, deny: Option<String>) {
+        let side = Side::new(self.alloc, uuid, deny);
+        self.sides.push(side).expect(rt, "memory");
+    }
+
+    /// Makes a call.
+    fn call<R: Abort + Threads + Wait + Sync>(&mut self, rt: &R, call: Call) {
+        match call {
+            Call::GrowTarget(loads) => self.grow(rt, 0, loads),
+            Call::Grow(source, loads) => self.grow(rt, source.saturating_add(1), loads),
+            Call::Replicate(source) => self.replicate(rt, source),
+        }
+    }
+
+    /// Loads documents by chance into the side of a place.
+    fn grow(&mut self, rt: &impl Abort, at: usize, loads: usize) {
+        let side = self.sides.get_mut(at).expect(rt, "a side");
+        for _ in 0..loads {
+            side.load(rt, self.alloc, &mut self.rng);
+        }
+    }
+
+    /// Replicates a source into the target, by a session of its own.
+    fn replicate<R: Abort + Threads + Wait + Sync>(&mut self, rt: &R, source: usize) {
+        self.sessions = self.sessions.saturating_add(1);
+        let plan = plan(rt, &mut self.rng, self.workers, self.sessions);
+        let (target, sources) = self.sides.split_first_mut().expect(rt, "a target");
+        let source = sources.get_mut(source).expect(rt, "a source");
+        replicate(rt, self.alloc, source, target, self.deny, &plan);
+    }
+}
+
+/// The prefix that refuses the document of a number.
+pub(crate) fn prefix(rt: &impl Abort, alloc: Global, deny: Option<usize>) -> Option<String> {
+    match deny {
+        Some(number) => Some(format!(in alloc; "d{number}").expect(rt, "memory")),
+        None => None,
+    }
+}
+
+/// A plan with windows of 1 to 4 rows by chance.
+fn plan(rt: &impl Abort, rng: &mut ChaCha8Rng, workers: u64, session: u128) -> Plan {
+    Plan {
+        session: SessionId(session),
+        workers,
+        batch: below(rng, 4) as u64 + 1,
+        stop_after: None,
+        at: Moment::new(10).expect(rt, "a moment"),
+    }
+}
+
+/// A peer that is taken from its place for a run of the pool.
+fn taken(alloc: Global, place: &mut Peer<Rules>) -> Peer<Rules> {
+    mem::replace(place, Peer::new(alloc, 0, Rules { deny: None }))
+}
+
+/// Takes both peers of a run back to their places, and gives its report.
+fn taken_back(
+    ran: Ran<Rules>,
+    source: &mut Peer<Rules>,
+    target: &mut Peer<Rules>,
+) -> Option<Report> {
+    let Ran {
+        source: from,
+        target: into,
+        fetched: _,
+        seats: _,
+        outcome,
+    } = ran;
+    *source = from;
+    *target = into;
+    outcome.ok()
+}
+
+/// Replicates one peer into another: by one thread where the plan has no workers, else by the pool.
+fn carry_peers<R: Threads + Wait + Sync>(
+    rt: &R,
+    alloc: Global,
+    source: &mut Peer<Rules>,
+    target: &mut Peer<Rules>,
+    plan: &Plan,
+) -> Option<Report> {
+    if plan.workers == 0 {
+        return replicate_alone(alloc, source, target, plan).ok();
+    }
+    let (from, into) = (taken(alloc, source), taken(alloc, target));
+    let ran = run(rt, alloc, from, into, plan, &Open);
+    taken_back(ran, source, target)
+}
+
+/// Replicates both, and asserts that the reports, the ledgers and the sides agree.
+fn replicate<R: Abort + Threads + Wait + Sync>(
+    rt: &R,
+    alloc: Global,
+    source: &mut Side,
+    target: &mut Side,
+    deny: Option<usize>,
+    plan: &Plan,
+) {
+    let report = carry_peers(rt, alloc, &mut source.peer, &mut target.peer, plan);
+    compare(rt, alloc, source, target, deny, plan.session, report);
+    assert!(rt;
+        agrees(rt, alloc, &source.peer, &source.plain, IDS),
+        "the source"
+    );
+    assert!(rt;
+        agrees(rt, alloc, &target.peer, &target.plain, IDS),
+        "the target"
+    );
+    source.carried = source.plain.update_seq;
+}
+
+/// Replicates the plain sides, and asserts that the report and the session's ledger are what that gives.
+fn compare(
+    rt: &impl Abort,
+    alloc: Global,
+    source: &Side,
+    target: &mut Side,
+    deny: Option<usize>,
+    session: SessionId,
+    report: Option<Report>,
+) {
+    let since = source.carried;
+    let mut carried = carry(rt, alloc, &source.plain, &mut target.plain, since, deny);
+    assert_eq!(rt;
+        report,
+        Some(wanted(&source.plain, since, session, &carried))
+    );
+    let same = has_ledger(rt, alloc, &target.peer, session, &mut carried.ledger);
+    assert!(rt; same, "the ledger");
+}
+
+/// The report of what was carried above a sequence.
+fn wanted(source: &PlainSide, since: u64, session: SessionId, carried: &Carried) -> Report {
+    Report {
+        session,
+        start: since,
+        recorded: source.update_seq,
+        checked: carried.checked,
+        found: carried.found,
+        read: carried.found,
+        written: carried.written,
+        failures: carried.ledger.len() as u64,
+    }
+}
+
+/// The calls of a seed, with so many workers.
+fn of_seed<R: Abort + Threads + Wait + Sync>(rt: &R, alloc: Global, seed: u64, workers: u64) {
+    let mut bench = Bench::new(rt, alloc, seed, workers);
+    for call in CALLS {
+        bench.call(rt, *call);
+    }
+}
+
+#[test]
+fn thirty_pairs_agree(rt: HostRuntime) {
+    for seed in 0..30u64 {
+        of_seed(&rt, rt.alloc(), seed, 0);
+    }
+}
+
+#[test]
+fn thirty_pairs_agree_by_the_pool(rt: HostRuntime) {
+    for seed in 0..30u64 {
+        of_seed(&rt, rt.alloc(), seed, 1 + seed % 4);
+    }
+}

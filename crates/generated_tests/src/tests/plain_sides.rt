@@ -1,0 +1,193 @@
+//! A database and what its sessions refused, as plain data: trees are bit masks.
+use crate::tests::reference::{Answer, PLACES, Reference, mask_of};
+use std::alloc::Global;
+use std::process::Abort;
+
+/// How many documents there can be, with the ids d0 to d4.
+pub(crate) const IDS: usize = 5;
+
+/// The sequence of each document's latest change, and its tree.
+pub(crate) type Documents = [Option<(u64, Reference)>; IDS];
+
+/// The number of the document that stands next above a sequence, and at or under a goal.
+pub(crate) fn next_above(documents: &Documents, seq: u64, goal: u64) -> Option<(usize, u64)> {
+    let mut best: Option<(usize, u64)> = None;
+    for number in 0..IDS {
+        if let Some((at, _)) = documents[number] {
+            let nearer = match best {
+                Some((_, least)) => at < least,
+                None => true,
+            };
+            if seq < at && at <= goal && nearer {
+                best = Some((number, at));
+            }
+        }
+    }
+    best
+}
+
+/// Of each document a bit for each revision that is meant.
+pub(crate) type Masks = [u32; IDS];
+
+/// A row of a ledger: the document, its head, and the child, its known and its given parent of a contradiction;
+/// `PLACES` for each of these three where the filter refuses it.
+pub(crate) type Row = [usize; 5];
+
+/// The tree of each document with the sequence of its latest change, and the revisions of what was refused.
+#[derive(Clone, Copy)]
+pub(crate) struct PlainSide {
+    pub(crate) documents: Documents,
+    pub(crate) update_seq: u64,
+    refused: Masks,
+}
+
+impl PlainSide {
+    /// No documents.
+    pub(crate) fn new() -> PlainSide {
+        PlainSide {
+            documents: [None; IDS],
+            update_seq: 0,
+            refused: [0; IDS],
+        }
+    }
+
+    /// The tree of a document.
+    pub(crate) fn tree(&self, number: usize) -> Reference {
+        match self.documents[number % IDS] {
+            Some((_, tree)) => tree,
+            None => Reference::new(),
+        }
+    }
+
+    /// Merges an ancestry, newest first, into a document, and says what that gives.
+    pub(crate) fn merge(&mut self, number: usize, walk: &[usize], deleted: bool) -> Answer {
+        let mut tree = self.tree(number);
+        let answer = tree.merge(walk, (deleted, 0), 0);
+        if answer == Answer::Changed {
+            self.update_seq = self.update_seq.saturating_add(1);
+            self.documents[number % IDS] = Some((self.update_seq, tree));
+        }
+        answer
+    }
+
+    /// Merges a fetched document, or refuses it and gives its row of the ledger.
+    pub(crate) fn take(
+        &mut self,
+        number: usize,
+        walk: &[usize],
+        deleted: bool,
+        denied: bool,
+    ) -> Option<Row> {
+        let head = walk.first().copied().unwrap_or(PLACES);
+        let mut row = [number, head, PLACES, PLACES, PLACES];
+        if !denied {
+            match self.merge(number, walk, deleted) {
+                Answer::Contradiction {
+                    child,
+                    known,
+                    given,
+                } => row = [number, head, child, known, given],
+                _ => return None,
+            }
+        }
+        self.refused[number % IDS] |= mask_of(walk);
+        Some(row)
+    }
+
+    /// The revisions of a document that are in its tree or were refused.
+    pub(crate) fn covered(&self, number: usize) -> u32 {
+        self.tree(number).revisions() | self.refused[number % IDS]
+    }
+}
+
+/// What a replication has read, and the rows of its ledger.
+#[derive(Drop)]
+pub(crate) struct Carried {
+    pub(crate) checked: u64,
+    pub(crate) found: u64,
+    pub(crate) written: u64,
+    pub(crate) ledger: Vec<Row>,
+}
+
+impl Carried {
+    /// Nothing.
+    fn new(alloc: Global) -> Carried {
+        Carried {
+            checked: 0,
+            found: 0,
+            written: 0,
+            ledger: Vec::new(alloc),
+        }
+    }
+
+    /// Counts a fetched document, of which a row is told where it was refused.
+    fn count(&mut self, rt: &impl Abort, row: Option<Row>) {
+        self.found = self.found.saturating_add(1);
+        match row {
+            Some(row) => self.ledger.push(row).expect(rt, "memory"),
+            None => self.written = self.written.saturating_add(1),
+        }
+    }
+}
+
+/// Carries a source's feed above a sequence into a target. Documents of a number are refused.
+pub(crate) fn carry(
+    rt: &impl Abort,
+    alloc: Global,
+    source: &PlainSide,
+    target: &mut PlainSide,
+    since: u64,
+    deny: Option<usize>,
+) -> Carried {
+    let mut carried = Carried::new(alloc);
+    let mut seq = since;
+    for _ in 0..IDS {
+        let Some((number, next)) = next_above(&source.documents, seq, source.update_seq) else {
+            break;
+        };
+        seq = next;
+        let denied = deny == Some(number);
+        carry_document(rt, alloc, source, target, number, denied, &mut carried);
+    }
+    carried
+}
+
+/// Carries the leaves of a document that the target has not.
+fn carry_document(
+    rt: &impl Abort,
+    alloc: Global,
+    source: &PlainSide,
+    target: &mut PlainSide,
+    number: usize,
+    denied: bool,
+    carried: &mut Carried,
+) {
+    let held = target.tree(number);
+    let tree = source.tree(number);
+    let leaves = tree.leaves(alloc).expect(rt, "memory");
+    for leaf in &leaves {
+        carried.checked = carried.checked.saturating_add(1);
+        if !held.has(*leaf) {
+            let row = take_leaf(rt, alloc, target, number, &tree, *leaf, denied);
+            carried.count(rt, row);
+        }
+    }
+}
+
+/// Merges a leaf of a source's tree with its ancestry, or refuses it and gives its row of the ledger.
+pub(crate) fn take_leaf(
+    rt: &impl Abort,
+    alloc: Global,
+    target: &mut PlainSide,
+    number: usize,
+    tree: &Reference,
+    leaf: usize,
+    denied: bool,
+) -> Option<Row> {
+    let walk = tree.ancestry(alloc, leaf).expect(rt, "memory");
+    let deleted = match tree.content(leaf) {
+        Some((deleted, _)) => deleted,
+        None => rt.panic(format_args!("a leaf without content")),
+    };
+    target.take(number, &walk, deleted, denied)
+}

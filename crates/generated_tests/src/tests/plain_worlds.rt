@@ -1,0 +1,488 @@
+//! A plain model of a world, written from docs/PROFILE.md, "Worlds", "Sessions of a peer" and "Settling": trees are bit
+//! masks, a feed is a scan over all documents, and what was sent and stored stands in tables of plain rows.
+use crate::tests::plain_sides::{IDS, Masks, PlainSide, Row, next_above, take_leaf};
+use crate::tests::reference::mask_of;
+use std::alloc::Global;
+use std::process::Abort;
+
+/// The document that is edited and never loaded. Its revision of the generation g stands at the place 3 (g - 1).
+pub(crate) const EDITED: usize = 4;
+
+/// A window, or what is asked for one: its bounds, and the leaves of its rows.
+#[derive(Clone, Copy)]
+pub(crate) struct Rows {
+    lo: u64,
+    hi: u64,
+    leaves: Masks,
+}
+
+/// What was fetched: what was asked, and the source as it was then.
+#[derive(Clone, Copy)]
+struct Fetched {
+    asked: Rows,
+    source: PlainSide,
+}
+
+/// What a log tells of a session.
+#[derive(Clone, Copy, Debug, PartialEq, Eq)]
+pub(crate) struct Done {
+    pub(crate) session: u128,
+    pub(crate) start: u64,
+    pub(crate) recorded: u64,
+    pub(crate) start_time: u64,
+    pub(crate) end_time: u64,
+    pub(crate) checked: u64,
+    pub(crate) found: u64,
+    pub(crate) written: u64,
+    pub(crate) failures: u64,
+}
+
+/// A session of the target.
+#[derive(Clone, Copy)]
+struct Session {
+    done: Done,
+    goal: u64,
+}
+
+/// A window that a session stores.
+#[derive(Clone, Copy)]
+struct Stored {
+    session: u128,
+    rows: Rows,
+    is_done: bool,
+}
+
+/// The sessions of a target, their windows, and the rows of their ledgers, each the oldest first.
+#[derive(Drop)]
+pub(crate) struct Sessions {
+    begun: Vec<Session>,
+    windows: Vec<Stored>,
+    ledger: Vec<(u128, Row)>,
+}
+
+/// How many bits some masks have.
+fn count(masks: &Masks) -> u64 {
+    let mut all = 0u64;
+    for mask in masks {
+        all = all.saturating_add(mask.count_ones() as u64);
+    }
+    all
+}
+
+/// The rows of a feed above a sequence, at or under a goal.
+fn page(side: &PlainSide, since: u64, goal: u64, limit: u64) -> Rows {
+    let mut leaves = [0; IDS];
+    let mut hi = since;
+    for _ in 0..limit {
+        let Some((number, seq)) = next_above(&side.documents, hi, goal) else {
+            hi = goal;
+            break;
+        };
+        leaves[number % IDS] = side.tree(number).leaf_mask();
+        hi = seq;
+    }
+    Rows {
+        lo: since,
+        hi,
+        leaves,
+    }
+}
+
+/// What a side misses of some rows.
+fn missing(side: &PlainSide, rows: &Rows) -> Rows {
+    let mut leaves = [0; IDS];
+    for number in 0..IDS {
+        leaves[number] = rows.leaves[number] & !side.tree(number).revisions();
+    }
+    Rows { leaves, ..*rows }
+}
+
+/// Whether a side covers each leaf of some rows.
+fn covers(side: &PlainSide, rows: &Rows) -> bool {
+    let mut covers = true;
+    for number in 0..IDS {
+        covers = covers && rows.leaves[number] & !side.covered(number) == 0;
+    }
+    covers
+}
+
+/// Whether each document that is asked for stands in some rows.
+fn are_of(asked: &Rows, rows: &Rows) -> bool {
+    let mut are = true;
+    for number in 0..IDS {
+        are = are && (asked.leaves[number] == 0 || rows.leaves[number] != 0);
+    }
+    are
+}
+
+impl Sessions {
+    /// No sessions.
+    fn new(alloc: Global) -> Sessions {
+        Sessions {
+            begun: Vec::new(alloc),
+            windows: Vec::new(alloc),
+            ledger: Vec::new(alloc),
+        }
+    }
+
+    /// The place of a session.
+    fn place(&self, session: u128) -> Option<usize> {
+        self.begun
+            .iter()
+            .position(|held| held.done.session == session)
+    }
+
+    /// A session.
+    fn get(&self, session: u128) -> Option<Session> {
+        self.begun.get(self.place(session)?).copied()
+    }
+
+    /// Where the windows of a session end.
+    fn end(&self, session: Session) -> u64 {
+        let mut end = session.done.start;
+        for window in &self.windows {
+            if window.session == session.done.session {
+                end = window.rows.hi;
+            }
+        }
+        end
+    }
+
+    /// Where the first windows of a session that are all done end.
+    fn low_water(&self, session: Session) -> u64 {
+        let mut low = session.done.start;
+        for window in &self.windows {
+            if window.session == session.done.session && window.rows.lo == low && window.is_done {
+                low = window.rows.hi;
+            }
+        }
+        low
+    }
+
+    /// Begins a session, where it may.
+    fn begin(
+        &mut self,
+        rt: &impl Abort,
+        session: u128,
+        base: Option<u128>,
+        start: u64,
+        goal: u64,
+        time: u64,
+    ) {
+        let most = match base {
+            Some(base) => self.get(base).map(|base| base.done.recorded),
+            None => Some(0),
+        };
+        let may = match most {
+            Some(most) => start <= most && start <= goal && self.get(session).is_none(),
+            None => false,
+        };
+        if may {
+            let done = Done {
+                session,
+                start,
+                recorded: start,
+                start_time: time,
+                end_time: time,
+                checked: 0,
+                found: 0,
+                written: 0,
+                failures: 0,
+            };
+            self.begun.push(Session { done, goal }).expect(rt, "memory");
+        }
+    }
+
+    /// Stores a window, where it is the next.
+    fn append(&mut self, rt: &impl Abort, session: u128, rows: Rows) {
+        let Some(held) = self.get(session) else {
+            return;
+        };
+        if rows.lo == self.end(held) && rows.hi <= held.goal {
+            let window = Stored {
+                session,
+                rows,
+                is_done: false,
+            };
+            self.windows.push(window).expect(rt, "memory");
+        }
+    }
+
+    /// The place of the window for which something was asked, where it is stored, is not done, and has each document.
+    fn window_for(&self, session: u128, asked: &Rows) -> Option<usize> {
+        self.windows.iter().position(|window| {
+            window.session == session
+                && window.rows.lo == asked.lo
+                && window.rows.hi == asked.hi
+                && !window.is_done
+                && are_of(asked, &window.rows)
+        })
+    }
+
+    /// Counts a document of a session, of which a row is told where it was refused.
+    fn count(&mut self, rt: &impl Abort, session: u128, row: Option<Row>) {
+        let place = self.place(session).unwrap_or(0);
+        let held = self.begun.get_mut(place).expect(rt, "a session");
+        match row {
+            Some(row) => {
+                held.done.failures = held.done.failures.saturating_add(1);
+                self.ledger.push((session, row)).expect(rt, "memory");
+            }
+            None => held.done.written = held.done.written.saturating_add(1),
+        }
+    }
+
+    /// Marks the window of a place as done, and counts what was looked at and asked.
+    fn mark(&mut self, rt: &impl Abort, session: u128, window: usize, asked: &Rows) {
+        let stored = self.windows.get_mut(window).expect(rt, "a window");
+        stored.is_done = true;
+        let checked = count(&stored.rows.leaves);
+        let place = self.place(session).unwrap_or(0);
+        let held = self.begun.get_mut(place).expect(rt, "a session");
+        held.done.checked = held.done.checked.saturating_add(checked);
+        held.done.found = held.done.found.saturating_add(count(&asked.leaves));
+    }
+
+    /// Records a session; where it is to be concluded, only at its goal. Gives what a log then tells of it.
+    fn record(&mut self, session: u128, concludes: bool, time: u64) -> Option<Done> {
+        let low = self.low_water(self.get(session)?);
+        let place = self.place(session)?;
+        let held = self.begun.get_mut(place)?;
+        if concludes && low != held.goal {
+            return None;
+        }
+        held.done.recorded = low;
+        held.done.end_time = time;
+        Some(held.done)
+    }
+}
+
+/// Two sides, the target's sessions, the source's log, and the messages. Each list has the oldest first.
+#[derive(Drop)]
+pub(crate) struct PlainWorld {
+    pub(crate) source: PlainSide,
+    pub(crate) target: PlainSide,
+    /// The document that the target refuses.
+    pub(crate) deny: Option<usize>,
+    sessions: Sessions,
+    pub(crate) log: Vec<Done>,
+    windows: Vec<Rows>,
+    asked: Vec<Rows>,
+    parcels: Vec<Fetched>,
+    entries: Vec<Done>,
+}
+
+impl PlainWorld {
+    /// No documents; the target refuses none.
+    pub(crate) fn new(alloc: Global) -> PlainWorld {
+        PlainWorld {
+            source: PlainSide::new(),
+            target: PlainSide::new(),
+            deny: None,
+            sessions: Sessions::new(alloc),
+            log: Vec::new(alloc),
+            windows: Vec::new(alloc),
+            asked: Vec::new(alloc),
+            parcels: Vec::new(alloc),
+            entries: Vec::new(alloc),
+        }
+    }
+
+    /// How many windows, asked lists, parcels and entries there are.
+    pub(crate) fn sizes(&self) -> (usize, usize, usize, usize) {
+        (
+            self.windows.len(),
+            self.asked.len(),
+            self.parcels.len(),
+            self.entries.len(),
+        )
+    }
+
+    /// One of the two sides.
+    pub(crate) fn side(&mut self, is_source: bool) -> &mut PlainSide {
+        if is_source {
+            &mut self.source
+        } else {
+            &mut self.target
+        }
+    }
+
+    /// What a session has recorded, 0 where it is not there.
+    pub(crate) fn recorded(&self, session: u128) -> u64 {
+        self.sessions
+            .get(session)
+            .map_or(0, |held| held.done.recorded)
+    }
+
+    /// Whether a session has recorded its goal.
+    pub(crate) fn is_whole(&self, session: u128) -> bool {
+        self.sessions
+            .get(session)
+            .map_or(false, |held| held.done.recorded == held.goal)
+    }
+
+    /// Where the windows of a session end, 0 where it is not there.
+    pub(crate) fn end(&self, session: u128) -> u64 {
+        match self.sessions.get(session) {
+            Some(held) => self.sessions.end(held),
+            None => 0,
+        }
+    }
+
+    /// What a log tells of the sessions.
+    pub(crate) fn told(&self, rt: &impl Abort, alloc: Global) -> Vec<Done> {
+        let mut all = Vec::new(alloc);
+        for session in &self.sessions.begun {
+            all.push(session.done).expect(rt, "memory");
+        }
+        all
+    }
+
+    /// The rows of a session's ledger.
+    pub(crate) fn ledger(&self, rt: &impl Abort, alloc: Global, session: u128) -> Vec<Row> {
+        let mut rows = Vec::new(alloc);
+        for (of, row) in &self.sessions.ledger {
+            if *of == session {
+                rows.push(*row).expect(rt, "memory");
+            }
+        }
+        rows
+    }
+
+    // ---- steps
+
+    /// Edits the document that is edited, behind its one leaf, or anew where there is none.
+    pub(crate) fn edit(&mut self, at_source: bool, parent: Option<usize>) {
+        let side = self.side(at_source);
+        let leaves = side.tree(EDITED).leaf_mask();
+        match parent {
+            Some(parent) if leaves == mask_of(&[parent]) => {
+                side.merge(EDITED, &[parent.saturating_add(3), parent], false);
+            }
+            None if leaves == 0 => {
+                side.merge(EDITED, &[0], false);
+            }
+            _ => {}
+        }
+    }
+
+    /// Begins a session, where it may.
+    pub(crate) fn begin(
+        &mut self,
+        rt: &impl Abort,
+        session: u128,
+        base: Option<u128>,
+        start: u64,
+        goal: u64,
+        time: u64,
+    ) {
+        self.sessions.begin(rt, session, base, start, goal, time);
+    }
+
+    /// Reads a page of the source, where there is one.
+    pub(crate) fn page(&mut self, rt: &impl Abort, since: u64, goal: u64, limit: u64) {
+        if limit != 0 && since < goal && goal <= self.source.update_seq {
+            let rows = page(&self.source, since, goal, limit);
+            self.windows.push(rows).expect(rt, "memory");
+        }
+    }
+
+    /// Stores a window for a session.
+    pub(crate) fn append(&mut self, rt: &impl Abort, session: u128, window: usize) {
+        if let Some(rows) = self.windows.get(window) {
+            self.sessions.append(rt, session, *rows);
+        }
+    }
+
+    /// Asks for what the target misses of a window.
+    pub(crate) fn diff(&mut self, rt: &impl Abort, window: usize) {
+        if let Some(rows) = self.windows.get(window) {
+            let asked = missing(&self.target, rows);
+            self.asked.push(asked).expect(rt, "memory");
+        }
+    }
+
+    /// Fetches what is asked.
+    pub(crate) fn fetch(&mut self, rt: &impl Abort, asked: usize) {
+        if let Some(asked) = self.asked.get(asked) {
+            let fetched = Fetched {
+                asked: *asked,
+                source: self.source,
+            };
+            self.parcels.push(fetched).expect(rt, "memory");
+        }
+    }
+
+    /// Settles a parcel for a session, where that stores its window.
+    pub(crate) fn settle(&mut self, rt: &impl Abort, alloc: Global, session: u128, parcel: usize) {
+        let Some(fetched) = self.parcels.get(parcel).copied() else {
+            return;
+        };
+        let Some(window) = self.sessions.window_for(session, &fetched.asked) else {
+            return;
+        };
+        for number in 0..IDS {
+            self.settle_document(rt, alloc, session, &fetched, number);
+        }
+        let rows = self
+            .sessions
+            .windows
+            .get(window)
+            .expect(rt, "a window")
+            .rows;
+        if covers(&self.target, &rows) {
+            self.sessions.mark(rt, session, window, &fetched.asked);
+        }
+    }
+
+    /// Settles the leaves of a document that are at or above those that are asked.
+    fn settle_document(
+        &mut self,
+        rt: &impl Abort,
+        alloc: Global,
+        session: u128,
+        fetched: &Fetched,
+        number: usize,
+    ) {
+        let tree = fetched.source.tree(number);
+        let denied = self.deny == Some(number);
+        for leaf in &tree.leaves_above(rt, alloc, fetched.asked.leaves[number % IDS]) {
+            let row = take_leaf(rt, alloc, &mut self.target, number, &tree, *leaf, denied);
+            self.sessions.count(rt, session, row);
+        }
+    }
+
+    /// Records a session, or concludes it, and tells of it.
+    pub(crate) fn record(&mut self, rt: &impl Abort, session: u128, concludes: bool, time: u64) {
+        if let Some(done) = self.sessions.record(session, concludes, time) {
+            self.entries.push(done).expect(rt, "memory");
+        }
+    }
+
+    /// Puts an entry into the source's log, where none of its session has recorded more.
+    pub(crate) fn put_entry(&mut self, rt: &impl Abort, entry: usize) {
+        let Some(entry) = self.entries.get(entry).copied() else {
+            return;
+        };
+        let Some(place) = self
+            .log
+            .iter()
+            .position(|held| held.session == entry.session)
+        else {
+            self.log.push(entry).expect(rt, "memory");
+            return;
+        };
+        let held = self.log.get_mut(place).expect(rt, "an entry");
+        if held.recorded <= entry.recorded {
+            *held = entry;
+        }
+    }
+
+    /// Loses all messages.
+    pub(crate) fn crash(&mut self) {
+        self.windows.clear();
+        self.asked.clear();
+        self.parcels.clear();
+        self.entries.clear();
+    }
+}

@@ -1,0 +1,111 @@
+//! A peer compared with its plain side: the trees, what is covered, and what was refused.
+use crate::tests::exchanges::place_of;
+use crate::tests::feeds::{id, number_of};
+use crate::tests::merges::{are, rev};
+use crate::tests::plain_sides::{PlainSide, Row};
+use crate::tests::reference::{PLACES, Reference, bit};
+use repl_target::{Peer, Reason, Refused, Rules};
+use rev_tree::{SessionId, Tree};
+use std::alloc::Global;
+use std::process::Abort;
+
+/// Whether a peer holds the first documents, by their numbers, as its plain side does, and covers the same revisions of
+/// them.
+pub(crate) fn agrees(
+    rt: &impl Abort,
+    alloc: Global,
+    peer: &Peer<Rules>,
+    plain: &PlainSide,
+    documents: usize,
+) -> bool {
+    let mut agrees = peer.db().update_seq() == plain.update_seq;
+    for number in 0..documents {
+        agrees = agrees && agrees_on(rt, alloc, peer, plain, number);
+    }
+    agrees
+}
+
+/// Whether a peer has the plain tree of a document, and covers the same revisions of it.
+fn agrees_on(
+    rt: &impl Abort,
+    alloc: Global,
+    peer: &Peer<Rules>,
+    plain: &PlainSide,
+    number: usize,
+) -> bool {
+    let id = id(rt, alloc, number);
+    let wanted = plain.tree(number);
+    let same = match peer.db().tree(&id) {
+        Some(tree) => is_tree(rt, alloc, tree, &wanted),
+        None => wanted.count() == 0,
+    };
+    let mut covers = true;
+    for place in 0..PLACES {
+        let covered = plain.covered(number) & bit(place) != 0;
+        covers = covers && peer.covered(&id, rev(rt, place)) == covered;
+    }
+    same && covers
+}
+
+/// Whether a tree has the revisions of a plain one, its leaves with their ancestries, and their contents.
+fn is_tree(rt: &impl Abort, alloc: Global, tree: &Tree, wanted: &Reference) -> bool {
+    let places = wanted.leaves(alloc).expect(rt, "memory");
+    let leaves = tree.leaves(alloc).expect(rt, "memory");
+    let mut same = tree.rev_count() == wanted.count() && are(rt, &leaves, &places);
+    for place in &places {
+        same = same && is_leaf(rt, alloc, tree, wanted, *place);
+    }
+    same
+}
+
+/// Whether a leaf has the ancestry and the content of a plain one.
+fn is_leaf(rt: &impl Abort, alloc: Global, tree: &Tree, wanted: &Reference, place: usize) -> bool {
+    let one = rev(rt, place);
+    let walk = tree.ancestry(alloc, one).expect(rt, "a revision");
+    let places = wanted.ancestry(alloc, place).expect(rt, "memory");
+    let deleted = wanted.content(place).map(|content| content.0);
+    let same = match tree.content(one) {
+        Some(content) => Some(content.deleted()) == deleted && content.body() == b"{}".as_slice(),
+        None => false,
+    };
+    same && are(rt, walk.revs(), &places)
+}
+
+/// Whether the ledger of a session has the rows that are wanted, in whatever order.
+pub(crate) fn has_ledger(
+    rt: &impl Abort,
+    alloc: Global,
+    peer: &Peer<Rules>,
+    session: SessionId,
+    wanted: &mut Vec<Row>,
+) -> bool {
+    let ledger = peer.ledger(session).expect(rt, "a session");
+    let mut rows = Vec::new(alloc);
+    for refused in ledger {
+        rows.push(row(rt, refused)).expect(rt, "memory");
+    }
+    rows.sort_unstable();
+    wanted.sort_unstable();
+    rows.as_slice() == wanted.as_slice()
+}
+
+/// A row of a peer's ledger.
+fn row(rt: &impl Abort, refused: &Refused) -> Row {
+    let doc = refused.doc();
+    let number = number_of(rt, doc.id().text());
+    let head = place_of(rt, doc.ancestry().head());
+    match refused.reason() {
+        Reason::Filtered => [number, head, PLACES, PLACES, PLACES],
+        Reason::Contradicting {
+            child,
+            known,
+            given,
+        } => [
+            number,
+            head,
+            place_of(rt, child),
+            place_of(rt, known),
+            place_of(rt, given),
+        ],
+    }
+}

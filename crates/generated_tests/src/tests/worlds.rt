@@ -1,0 +1,460 @@
+//! Lists of steps by chance, taken by a world and by its plain model, and compared: both peers, the logs and the bag.
+use crate::tests::feeds::{body, document_by_chance, id};
+use crate::tests::merges::below;
+use crate::tests::pairs::prefix;
+use crate::tests::plain_sides::PlainSide;
+use crate::tests::plain_worlds::{Done, EDITED, PlainWorld};
+use crate::tests::sides::{agrees, has_ledger};
+use couch_base::Database;
+use rand_chacha::ChaCha8Rng;
+use rand_core::SeedableRng;
+use repl_log::{Entry, Log, Moment, RepId};
+use repl_target::{Audit, Peer, Rules, audit};
+use repl_world::{Step, World};
+use rev_core::{Rev, new_rev};
+use rev_tree::SessionId;
+use std::alloc::Global;
+use std::process::Abort;
+
+/// The replication of the world's peers.
+const REP: RepId = RepId {
+    source: 1,
+    target: 2,
+};
+
+/// How many steps a list has.
+const STEPS: usize = 40;
+
+/// How many of these load a document first.
+const LOADS: usize = 4;
+
+/// Deals out steps by chance. Each is taken by the model, and stands in the list.
+#[derive(Drop)]
+struct Dealer {
+    alloc: Global,
+    rng: ChaCha8Rng,
+    /// The revisions of a document that is edited again and again, the oldest first.
+    chain: Vec<Rev>,
+    model: PlainWorld,
+    /// The number of the step that is dealt, and of the turn of the replication.
+    number: usize,
+    turn: usize,
+}
+
+/// A moment.
+fn moment(rt: &impl Abort, seconds: usize) -> Moment {
+    Moment::new(seconds as u64).expect(rt, "a moment")
+}
+
+impl Dealer {
+    /// Nothing is dealt yet.
+    fn new(alloc: Global, seed: u64) -> Dealer {
+        Dealer {
+            alloc,
+            rng: ChaCha8Rng::seed_from_u64(seed),
+            chain: Vec::new(alloc),
+            model: PlainWorld::new(alloc),
+            number: 0,
+            turn: 0,
+        }
+    }
+
+    /// Picks a document that the target refuses, or none.
+    fn pick(&mut self) {
+        let number = below(&mut self.rng, 8);
+        if number < EDITED {
+            self.model.deny = Some(number);
+        }
+    }
+
+    /// A place of the bag: mostly the last one, sometimes one outside.
+    fn place(&mut self, length: usize) -> usize {
+        if below(&mut self.rng, 6) == 0 {
+            below(&mut self.rng, 5)
+        } else {
+            length.saturating_sub(1)
+        }
+    }
+
+    /// The session that is to be carried on: the second where the first has recorded its goal.
+    fn session(&mut self) -> u128 {
+        if below(&mut self.rng, 8) == 0 {
+            below(&mut self.rng, 4) as u128
+        } else if self.model.is_whole(1) {
+            2
+        } else {
+            1
+        }
+    }
+
+    /// Nothing, and one now and then.
+    fn off(&mut self) -> u64 {
+        if below(&mut self.rng, 8) == 0 { 1 } else { 0 }
+    }
+
+    /// A document is loaded.
+    fn load(&mut self, rt: &impl Abort, at_source: bool) -> Step {
+        let side = self.model.side(at_source);
+        let (doc, _answer) = document_by_chance(rt, self.alloc, &mut self.rng, side, EDITED);
+        if at_source {
+            Step::LoadSource(doc)
+        } else {
+            Step::ThirdParty(doc)
+        }
+    }
+
+    /// The place of a parent for an edit: mostly the leaf's, and none where there is no revision.
+    fn parent(&mut self, at_source: bool) -> Option<usize> {
+        let held = self.model.side(at_source).tree(EDITED).count();
+        let generation = if below(&mut self.rng, 4) == 0 {
+            below(&mut self.rng, 5)
+        } else {
+            held
+        };
+        if generation == 0 || 5 < generation {
+            None
+        } else {
+            Some((generation - 1) * 3)
+        }
+    }
+
+    /// A document is edited.
+    fn edit(&mut self, rt: &impl Abort, at_source: bool) -> Step {
+        let place = self.parent(at_source);
+        self.model.edit(at_source, place);
+        let parent = match place {
+            Some(place) => self.chain.get(place / 3).copied(),
+            None => None,
+        };
+        let deleted = false;
+        let (id, body) = (id(rt, self.alloc, EDITED), body(rt, self.alloc));
+        if at_source {
+            Step::EditSource {
+                id,
+                parent,
+                deleted,
+                body,
+            }
+        } else {
+            Step::EditTarget {
+                id,
+                parent,
+                deleted,
+                body,
+            }
+        }
+    }
+
+    /// A session begins: the second on the first.
+    fn begin(&mut self, rt: &impl Abort) -> Step {
+        let session = self.session();
+        let base = if session == 2 { Some(1) } else { None };
+        let start = base.map_or(0, |base| self.model.recorded(base));
+        let off = self.off();
+        let start = start.saturating_add(off);
+        let goal = self.model.source.update_seq;
+        self.model
+            .begin(rt, session, base, start, goal, self.number as u64);
+        Step::Begin {
+            session: SessionId(session),
+            base: base.map(|base| SessionId(base)),
+            start,
+            goal,
+            at: moment(rt, self.number),
+        }
+    }
+
+    /// A page is read, mostly the next one of a session.
+    fn page(&mut self, rt: &impl Abort) -> Step {
+        let since = if below(&mut self.rng, 4) == 0 {
+            below(&mut self.rng, 5) as u64
+        } else {
+            let session = self.session();
+            self.model.end(session)
+        };
+        let off = self.off();
+        let goal = self.model.source.update_seq.saturating_add(off);
+        let limit = below(&mut self.rng, 3) as u64 % 3 + 1;
+        self.model.page(rt, since, goal, limit);
+        Step::Page { since, goal, limit }
+    }
+
+    /// A window is stored.
+    fn append(&mut self, rt: &impl Abort) -> Step {
+        let session = self.session();
+        let sizes = self.model.sizes();
+        let window = self.place(sizes.0);
+        self.model.append(rt, session, window);
+        Step::Append {
+            session: SessionId(session),
+            window,
+        }
+    }
+
+    /// A window is compared with the target.
+    fn diff(&mut self, rt: &impl Abort) -> Step {
+        let sizes = self.model.sizes();
+        let window = self.place(sizes.0);
+        self.model.diff(rt, window);
+        Step::Diff { window }
+    }
+
+    /// What is asked is fetched.
+    fn fetch(&mut self, rt: &impl Abort) -> Step {
+        let sizes = self.model.sizes();
+        let asked = self.place(sizes.1);
+        self.model.fetch(rt, asked);
+        Step::Fetch { asked }
+    }
+
+    /// A parcel is settled.
+    fn settle(&mut self, rt: &impl Abort) -> Step {
+        let session = self.session();
+        let sizes = self.model.sizes();
+        let parcel = self.place(sizes.2);
+        self.model.settle(rt, self.alloc, session, parcel);
+        Step::Settle {
+            session: SessionId(session),
+            parcel,
+        }
+    }
+
+    /// A session is recorded, or concluded.
+    fn record(&mut self, rt: &impl Abort, concludes: bool) -> Step {
+        let session = self.session();
+        self.model
+            .record(rt, session, concludes, self.number as u64);
+        let at = moment(rt, self.number);
+        let session = SessionId(session);
+        if concludes {
+            Step::Conclude { session, at }
+        } else {
+            Step::Record { session, at }
+        }
+    }
+
+    /// An entry is put into the source's log.
+    fn put_entry(&mut self, rt: &impl Abort) -> Step {
+        let sizes = self.model.sizes();
+        let entry = self.place(sizes.3);
+        self.model.put_entry(rt, entry);
+        Step::PutEntry { entry }
+    }
+
+    /// All messages are lost.
+    fn crash(&mut self) -> Step {
+        self.model.crash();
+        Step::Crash
+    }
+
+    /// The step of a replication whose turn it is.
+    fn carry_on(&mut self, rt: &impl Abort, turn: usize) -> Step {
+        match turn % 8 {
+            0 => self.begin(rt),
+            1 => self.page(rt),
+            2 => self.append(rt),
+            3 => self.diff(rt),
+            4 => self.fetch(rt),
+            5 => self.settle(rt),
+            6 => self.record(rt, false),
+            _ => self.put_entry(rt),
+        }
+    }
+
+    /// A step out of turn, by the number of its kind.
+    fn odd(&mut self, rt: &impl Abort, kind: usize) -> Step {
+        match kind {
+            0 | 1 => self.load(rt, true),
+            2 => self.load(rt, false),
+            3 => self.edit(rt, true),
+            4 => self.edit(rt, false),
+            5 => self.record(rt, true),
+            6 if below(&mut self.rng, 4) == 0 => self.crash(),
+            _ => {
+                let turn = below(&mut self.rng, 8);
+                self.carry_on(rt, turn)
+            }
+        }
+    }
+
+    /// The next step.
+    fn next(&mut self, rt: &impl Abort) -> Step {
+        self.number = self.number.saturating_add(1);
+        let kind = below(&mut self.rng, 24);
+        if self.number <= LOADS {
+            return self.load(rt, true);
+        }
+        if kind < 9 {
+            return self.odd(rt, kind);
+        }
+        let turn = self.turn;
+        self.turn = turn.saturating_add(1);
+        self.carry_on(rt, turn)
+    }
+}
+
+/// Makes the revisions of a document that is edited again and again: names that the model does not look into.
+fn make_chain(rt: &impl Abort, alloc: Global, chain: &mut Vec<Rev>) {
+    for _ in 0..6u64 {
+        let parent = chain.last().copied();
+        let rev = new_rev(alloc, parent, false, b"{}").expect(rt, "a revision");
+        chain.push(rev).expect(rt, "memory");
+    }
+}
+
+/// Deals a list of steps.
+fn deal(rt: &impl Abort, alloc: Global, dealer: &mut Dealer) -> Vec<Step> {
+    let mut steps = Vec::new(alloc);
+    for _ in 0..STEPS {
+        steps.push(dealer.next(rt)).expect(rt, "memory");
+    }
+    steps
+}
+
+// ---- comparing
+
+/// Whether a database has as much of the chain as its model, and nothing else of that document.
+fn has_chain(rt: &impl Abort, alloc: Global, db: &Database, held: usize, chain: &[Rev]) -> bool {
+    match db.tree(&id(rt, alloc, EDITED)) {
+        Some(tree) => {
+            let leaf = chain.get(held.saturating_sub(1)).copied();
+            tree.rev_count() == held && tree.leaf_count() == 1 && tree.winner() == leaf
+        }
+        None => held == 0,
+    }
+}
+
+/// What a log's entry tells, plainly.
+fn done_of(entry: &Entry) -> Done {
+    Done {
+        session: entry.session.0,
+        start: entry.start,
+        recorded: entry.recorded,
+        start_time: entry.start_time.seconds(),
+        end_time: entry.end_time.seconds(),
+        checked: entry.checked,
+        found: entry.found,
+        written: entry.written,
+        failures: entry.failures,
+    }
+}
+
+/// Whether a log, newest first, tells what is wanted, oldest first.
+fn is_log(log: &Log, wanted: &[Done]) -> bool {
+    let mut same = log.len() == wanted.len();
+    for (place, done) in wanted.iter().rev().enumerate() {
+        same = same && log.get(place).map(|entry| done_of(&entry)) == Some(*done);
+    }
+    same
+}
+
+/// Asserts that a peer has what is wanted of the documents.
+fn compare_documents(
+    rt: &impl Abort,
+    alloc: Global,
+    peer: &Peer<Rules>,
+    wanted: &PlainSide,
+    chain: &[Rev],
+) {
+    assert!(rt; agrees(rt, alloc, peer, wanted, EDITED), "the documents");
+    let held = wanted.tree(EDITED).count();
+    assert!(rt; has_chain(rt, alloc, peer.db(), held, chain), "the edits");
+}
+
+/// Asserts that a log, newest first, tells what is wanted, oldest first.
+fn compare_log(rt: &impl Abort, log: Option<Log>, wanted: &[Done]) {
+    let log = log.expect(rt, "a log");
+    assert!(rt; is_log(&log, wanted), "a log");
+}
+
+/// Asserts that what the target tells of its sessions is that of the model.
+fn compare_sessions(rt: &impl Abort, alloc: Global, target: &Peer<Rules>, model: &PlainWorld) {
+    let told = model.told(rt, alloc);
+    compare_log(rt, target.target_log(alloc, &REP).ok(), &told);
+    for done in &told {
+        compare_ledger(rt, alloc, target, model, done.session);
+    }
+}
+
+/// Asserts that a session's ledger is that of the model.
+fn compare_ledger(
+    rt: &impl Abort,
+    alloc: Global,
+    target: &Peer<Rules>,
+    model: &PlainWorld,
+    session: u128,
+) {
+    let mut wanted = model.ledger(rt, alloc, session);
+    let has = has_ledger(rt, alloc, target, SessionId(session), &mut wanted);
+    assert!(rt; has, "a ledger");
+}
+
+/// Asserts that an audit finds nothing.
+fn is_clean(rt: &impl Abort, alloc: Global, source: &Peer<Rules>, target: &Peer<Rules>) {
+    match audit(alloc, source, target) {
+        Ok(Audit::Clean) => {}
+        _ => rt.panic(format_args!("an audit finds a hole")),
+    }
+}
+
+/// Asserts that two peers are those of the model.
+fn compare_peers(
+    rt: &impl Abort,
+    alloc: Global,
+    source: &Peer<Rules>,
+    target: &Peer<Rules>,
+    dealer: &Dealer,
+) {
+    let model = &dealer.model;
+    compare_documents(rt, alloc, source, &model.source, &dealer.chain);
+    compare_documents(rt, alloc, target, &model.target, &dealer.chain);
+    compare_log(rt, source.source_log(alloc, &REP).ok(), &model.log);
+    compare_sessions(rt, alloc, target, model);
+    is_clean(rt, alloc, source, target);
+}
+
+/// A peer that refuses a prefix.
+fn peer(alloc: Global, uuid: u128, deny: Option<String>) -> Peer<Rules> {
+    Peer::new(alloc, uuid, Rules { deny })
+}
+
+/// A world of two peers without documents.
+fn world(rt: &impl Abort, alloc: Global, deny: Option<String>) -> World<Rules> {
+    let (source, target) = (peer(alloc, 1, None), peer(alloc, 2, deny));
+    World::new(alloc, source, target).expect(rt, "two peers")
+}
+
+/// Takes a list, and asserts that the world is then its model.
+fn take(rt: &impl Abort, alloc: Global, world: &mut World<Rules>, steps: &[Step], dealer: &Dealer) {
+    world.run(alloc, steps).expect(rt, "memory");
+    assert_eq!(rt; world.bag_sizes(), dealer.model.sizes());
+    compare_peers(rt, alloc, world.source(), world.target(), dealer);
+}
+
+/// Deals a list, takes it in a world, and gives up to which sequence both logs agree at most.
+fn taken(rt: &impl Abort, alloc: Global, dealer: &mut Dealer, world: &mut World<Rules>) -> u64 {
+    let steps = deal(rt, alloc, dealer);
+    take(rt, alloc, world, &steps, dealer);
+    dealer.model.log.last().map_or(0, |done| done.recorded)
+}
+
+/// The list of a seed.
+fn of_seed(rt: &impl Abort, alloc: Global, seed: u64) -> u64 {
+    let mut dealer = Dealer::new(alloc, seed);
+    dealer.pick();
+    make_chain(rt, alloc, &mut dealer.chain);
+    let mut world = world(rt, alloc, prefix(rt, alloc, dealer.model.deny));
+    taken(rt, alloc, &mut dealer, &mut world)
+}
+
+#[test]
+fn lists_of_steps_by_chance_agree(rt: HostRuntime) {
+    let mut recorded = 0u64;
+    for seed in 0..200u64 {
+        recorded = recorded.saturating_add(of_seed(&rt, rt.alloc(), seed));
+    }
+    assert!(rt;
+        200 < recorded,
+        "{recorded} sequences are recorded at both sides"
+    );
+}

@@ -1,0 +1,223 @@
+//! The worked rows of logs as calls with the texts of their answers, and each public call once with ample memory.
+use crate::tests::texts::expect_answer;
+use repl_log::{Entry, Log, Moment, RepId, common, rep_id, write_log};
+use rev_tree::SessionId;
+use std::alloc::Global;
+use std::process::Abort;
+use test_texts::{bare_entry, shown};
+
+/// A call on logs, which are named by their places.
+#[derive(Clone, Copy)]
+enum Call<'a> {
+    /// Makes the next log, which is empty.
+    Make,
+    /// Copies a log, which becomes the next log.
+    Copy(usize),
+    /// Puts the entry of a session that recorded up to a sequence and read nothing.
+    Put(usize, u128, u64),
+    /// Puts the entry of the session 1 that read one document at a moment.
+    PutOne(usize, u64),
+    /// Asks whether a log has just the entries of sessions that recorded up to sequences, newest first.
+    Has(usize, &'a [(u128, u64)]),
+    /// Compares the logs of a source and a target.
+    Common(usize, usize),
+    /// Writes a copy of a replication id.
+    Name(&'a RepId),
+    /// Writes the log of a replication.
+    Write(&'a RepId, usize),
+    /// Makes a moment, and reads its seconds.
+    Moment(u64),
+}
+
+/// Calls, each with the text that it must answer.
+type Rows = &'static [(Call<'static>, &'static str)];
+
+/// Logs.
+#[derive(Drop)]
+struct Bench {
+    alloc: Global,
+    logs: Vec<Log>,
+}
+
+impl Bench {
+    /// No logs.
+    fn new(alloc: Global) -> Bench {
+        Bench {
+            alloc,
+            logs: Vec::new(alloc),
+        }
+    }
+
+    /// Makes the calls in order, and asserts what each answers.
+    fn run(&mut self, rt: &impl Abort, calls: &[(Call, &str)]) {
+        for (i, (call, wanted)) in calls.iter().enumerate() {
+            expect_answer(rt, i, self.answer(call), wanted);
+        }
+    }
+
+    /// Makes a call, and gives the text of its answer.
+    fn answer(&mut self, call: &Call) -> Option<String> {
+        let alloc = self.alloc;
+        match *call {
+            Call::Make => self.keep(Log::new(alloc)),
+            Call::Copy(at) => {
+                let copy = self.logs.get(at)?.copy(alloc).ok()?;
+                self.keep(copy)
+            }
+            Call::Put(at, session, recorded) => {
+                let put = entry(session, recorded)?;
+                shown(alloc, &self.logs.get_mut(at)?.put(put))
+            }
+            Call::PutOne(at, moment) => {
+                let put = one_document(moment)?;
+                shown(alloc, &self.logs.get_mut(at)?.put(put))
+            }
+            Call::Has(at, sessions) => has(alloc, self.logs.get(at)?, sessions),
+            Call::Common(source, target) => {
+                let found = common(self.logs.get(source)?, self.logs.get(target)?);
+                shown(alloc, &found)
+            }
+            Call::Name(id) => {
+                let copy = id.copy(alloc).ok()?;
+                String::from_utf8(rep_id(alloc, &copy).ok()?).ok()
+            }
+            Call::Write(id, at) => written(alloc, id, self.logs.get(at)?),
+            Call::Moment(seconds) => moment_text(alloc, seconds),
+        }
+    }
+
+    /// Keeps a log.
+    fn keep(&mut self, log: Log) -> Option<String> {
+        self.logs.push(log).ok()?;
+        "made".to_string(self.alloc).ok()
+    }
+}
+
+/// An entry of a session that recorded up to a sequence and read nothing.
+fn entry(session: u128, recorded: u64) -> Option<Entry> {
+    let at = Moment::new(0).ok()?;
+    Some(bare_entry(SessionId(session), recorded, at))
+}
+
+/// The entry of the session 1 that read one document, and recorded 1, at a moment.
+fn one_document(moment: u64) -> Option<Entry> {
+    let at = Moment::new(moment).ok()?;
+    Some(Entry {
+        session: SessionId(1),
+        start: 0,
+        recorded: 1,
+        start_time: at,
+        end_time: at,
+        checked: 1,
+        found: 1,
+        read: 1,
+        written: 1,
+        failures: 0,
+    })
+}
+
+/// Whether a log has just the entries of sessions, newest first.
+fn has(alloc: Global, log: &Log, sessions: &[(u128, u64)]) -> Option<String> {
+    let mut same = log.len() == sessions.len();
+    for (i, &(session, recorded)) in sessions.iter().enumerate() {
+        let wanted = entry(session, recorded)?;
+        same = same && log.get(i) == Some(wanted);
+    }
+    shown(alloc, &same)
+}
+
+/// What writing a log answers.
+fn written(alloc: Global, id: &RepId, log: &Log) -> Option<String> {
+    match write_log(alloc, id, log) {
+        Ok(text) => String::from_utf8(text).ok(),
+        Err(fault) => shown(alloc, &fault),
+    }
+}
+
+/// The seconds of a moment, or why it is none.
+fn moment_text(alloc: Global, seconds: u64) -> Option<String> {
+    match Moment::new(seconds) {
+        Ok(moment) => shown(alloc, &moment.seconds()),
+        Err(fault) => shown(alloc, &fault),
+    }
+}
+
+/// Sessions A, B and C are numbered 10, 11 and 12. The logs are those of the source, the target and an empty one.
+static COMMON_ROWS: Rows = &[
+    (Call::Make, "made"),
+    (Call::Put(0, 10, 9), "Ok(())"),
+    (Call::Put(0, 11, 4), "Ok(())"),
+    (Call::Make, "made"),
+    (Call::Put(1, 10, 9), "Ok(())"),
+    (Call::Put(1, 11, 5), "Ok(())"),
+    (Call::Put(1, 12, 12), "Ok(())"),
+    (Call::Make, "made"),
+    (Call::Common(0, 1), "Some((SessionId(11), 4))"),
+    (Call::Common(2, 1), "None"),
+    (Call::Put(0, 11, 3), "Err(Older { stored: 4 })"),
+    (Call::Common(0, 1), "Some((SessionId(11), 4))"),
+];
+
+#[test]
+fn common_session(rt: HostRuntime) {
+    Bench::new(rt.alloc()).run(&rt, COMMON_ROWS);
+}
+
+/// A session that is there is replaced in its place.
+static REPLACED_ROWS: Rows = &[
+    (Call::Make, "made"),
+    (Call::Put(0, 10, 9), "Ok(())"),
+    (Call::Put(0, 11, 4), "Ok(())"),
+    (Call::Has(0, &[(11, 4), (10, 9)]), "true"),
+    (Call::Put(0, 10, 20), "Ok(())"),
+    (Call::Copy(0), "made"),
+    (Call::Has(0, &[(11, 4), (10, 20)]), "true"),
+    (Call::Has(1, &[(11, 4), (10, 20)]), "true"),
+];
+
+#[test]
+fn session_replaced(rt: HostRuntime) {
+    Bench::new(rt.alloc()).run(&rt, REPLACED_ROWS);
+}
+
+/// The replication of the row `log_text`.
+const REP: RepId = RepId {
+    source: 0x1111_1111_1111_4111_8111_1111_1111_1111,
+    target: 0x2222_2222_2222_4222_8222_2222_2222_2222,
+};
+
+/// The text of the log of the row `log_text`.
+const LOG_TEXT: &str =
+    "{\"_id\":\"_local/11111111111141118111111111111111-22222222222242228222222222222222\",\
+    \"history\":[{\"doc_write_failures\":0,\"docs_read\":1,\"docs_written\":1,\"end_last_seq\":1,\
+    \"end_time\":\"Thu, 10 Oct 2013 05:56:38 GMT\",\
+    \"missing_checked\":1,\"missing_found\":1,\"recorded_seq\":1,\
+    \"session_id\":\"00000000000000000000000000000001\",\"start_last_seq\":0,\
+    \"start_time\":\"Thu, 10 Oct 2013 05:56:38 GMT\"}],\
+    \"replication_id_version\":3,\"session_id\":\"00000000000000000000000000000001\",\"source_last_seq\":1}";
+
+static TEXT_ROWS: Rows = &[
+    (
+        Call::Name(&REP),
+        "11111111111141118111111111111111-22222222222242228222222222222222",
+    ),
+    (Call::Make, "made"),
+    (Call::Write(&REP, 0), "EmptyLog"),
+    (Call::PutOne(0, 1_381_384_598), "Ok(())"),
+    (Call::Write(&REP, 0), LOG_TEXT),
+];
+
+#[test]
+fn log_text(rt: HostRuntime) {
+    Bench::new(rt.alloc()).run(&rt, TEXT_ROWS);
+}
+
+static MOMENT_ROWS: Rows = &[
+    (Call::Moment(253_402_300_799), "253402300799"),
+    (Call::Moment(253_402_300_800), "BadMoment"),
+];
+
+#[test]
+fn moments(rt: HostRuntime) {
+    Bench::new(rt.alloc()).run(&rt, MOMENT_ROWS);
+}

@@ -1,0 +1,274 @@
+//! The worked rows of revisions as calls with the texts of their answers, and each call once with ample memory.
+use crate::tests::texts::{ancestry, expect_answer, sigs};
+use md5::{Digest, Md5};
+use rev_core::{Ancestry, Rev, new_rev};
+use std::alloc::Global;
+use std::process::Abort;
+use test_texts::{rev, rev_text, revs_text, shown};
+
+/// A call on texts of revisions.
+#[derive(Clone, Copy)]
+enum Call<'a> {
+    /// Reads a revision: its generation and its signature.
+    Parse(&'a str),
+    /// Reads a revision, and writes it.
+    Write(&'a str),
+    /// Compares two revisions.
+    Compare(&'a str, &'a str),
+    /// Makes an ancestry of the newest generation and the signatures.
+    Ancestry(u32, &'a [&'a str]),
+    /// Makes an ancestry, and reads the revisions and the head of a copy.
+    Copy(Parts<'a>),
+    /// Asks whether the copy of an ancestry contains a revision.
+    Contains(Parts<'a>, &'a str),
+    /// Reads the parent of a revision in the copy of an ancestry.
+    Parent(Parts<'a>, &'a str),
+    /// The hexadecimal digits of the digest of a text.
+    Digest(&'a str),
+    /// The text of hexadecimal digits.
+    Decode(&'a str),
+    /// Makes the id of an edit: the parent (an empty text for none), whether it deletes, and the body.
+    Edit(&'a str, bool, &'a str),
+}
+
+/// Calls, each with the text that it must answer.
+type Rows = &'static [(Call<'static>, &'static str)];
+
+/// The newest generation of an ancestry, and its signatures.
+#[derive(Clone, Copy)]
+struct Parts<'a> {
+    start: u32,
+    sigs: &'a [&'a str],
+}
+
+/// 3-c, 2-b, 1-a.
+const THREE: Parts<'static> = Parts {
+    start: 3,
+    sigs: &["c", "b", "a"],
+};
+
+/// Makes the calls in order, and asserts what each answers.
+fn run(rt: &impl Abort, alloc: Global, calls: &[(Call, &str)]) {
+    for (i, (call, wanted)) in calls.iter().enumerate() {
+        expect_answer(rt, i, answer(alloc, call), wanted);
+    }
+}
+
+/// Makes a call, and gives the text of its answer.
+fn answer(alloc: Global, call: &Call) -> Option<String> {
+    match *call {
+        Call::Parse(text) => parsed(alloc, text),
+        Call::Write(text) => rev_text(alloc, rev(text)?),
+        Call::Compare(first, second) => compared(alloc, rev(first)?, rev(second)?),
+        Call::Ancestry(start, texts) => made(alloc, start, texts),
+        Call::Copy(parts) => copy_text(alloc, &copied(alloc, parts)?),
+        Call::Contains(parts, text) => { shown(alloc, &copied(alloc, parts)?.contains(rev(text)?)) }
+        Call::Parent(parts, text) => parent_text(alloc, &copied(alloc, parts)?, rev(text)?),
+        Call::Digest(text) => hex::encode(alloc, Md5::digest(text.as_bytes()).as_slice()).ok(),
+        Call::Decode(text) => String::from_utf8(hex::decode(alloc, text).ok()?).ok(),
+        Call::Edit(parent, deleted, body) => edited(alloc, parent, deleted, body),
+    }
+}
+
+/// What reading a text as a revision answers.
+fn parsed(alloc: Global, text: &str) -> Option<String> {
+    match Rev::parse(text.as_bytes()) {
+        Ok(rev) => {
+            let sig = rev.sig();
+            let sig = std::str::from_utf8(sig.bytes()).ok()?;
+            format!(in alloc; "{} {sig}", rev.generation()).ok()
+        }
+        Err(fault) => shown(alloc, &fault),
+    }
+}
+
+/// Whether the first revision is less, and whether the two are equal.
+fn compared(alloc: Global, first: Rev, second: Rev) -> Option<String> {
+    let (less, equal) = (first < second, first == second);
+    format!(in alloc; "less {less}, equal {equal}").ok()
+}
+
+/// What making an ancestry answers.
+fn made(alloc: Global, start: u32, texts: &[&str]) -> Option<String> {
+    let sigs = sigs(alloc, texts)?;
+    match Ancestry::from_parts(alloc, start, &sigs) {
+        Ok(ancestry) => revs_text(alloc, ancestry.revs()),
+        Err(fault) => shown(alloc, &fault),
+    }
+}
+
+/// The copy of an ancestry.
+fn copied(alloc: Global, parts: Parts) -> Option<Ancestry> {
+    ancestry(alloc, parts.start, parts.sigs)?.copy(alloc).ok()
+}
+
+/// The head and the revisions of an ancestry.
+fn copy_text(alloc: Global, copy: &Ancestry) -> Option<String> {
+    let head = rev_text(alloc, copy.head())?;
+    let revs = revs_text(alloc, copy.revs())?;
+    format!(in alloc; "{head} of {revs}").ok()
+}
+
+/// The parent of a revision in an ancestry.
+fn parent_text(alloc: Global, ancestry: &Ancestry, rev: Rev) -> Option<String> {
+    match ancestry.parent_of(rev) {
+        Some(parent) => rev_text(alloc, parent),
+        None => "no parent".to_string(alloc).ok(),
+    }
+}
+
+/// What making the id of an edit answers.
+fn edited(alloc: Global, parent: &str, deleted: bool, body: &str) -> Option<String> {
+    let parent = if parent.is_empty() {
+        None
+    } else {
+        Some(rev(parent)?)
+    };
+    match new_rev(alloc, parent, deleted, body.as_bytes()) {
+        Ok(rev) => rev_text(alloc, rev),
+        Err(fault) => shown(alloc, &fault),
+    }
+}
+
+const LONGEST: &str = "1-aaaaaaaaaaaaaaaaaaaaaaaaaaaaaaaaaaaaaaaaaaaaaaaaaaaaaaaaaaaaaaaa";
+
+const LONGEST_ANSWER: &str = "1 aaaaaaaaaaaaaaaaaaaaaaaaaaaaaaaaaaaaaaaaaaaaaaaaaaaaaaaaaaaaaaaa";
+
+const TOO_LONG: &str = "1-aaaaaaaaaaaaaaaaaaaaaaaaaaaaaaaaaaaaaaaaaaaaaaaaaaaaaaaaaaaaaaaaa";
+
+static PARSING_ROWS: Rows = &[
+    (Call::Parse("1-a-b"), "1 a-b"),
+    (Call::Parse("01-a"), "BadGeneration"),
+    (Call::Parse("0-a"), "BadGeneration"),
+    (Call::Parse("4294967296-a"), "BadGeneration"),
+    (Call::Parse("1"), "BadGeneration"),
+    (Call::Parse(""), "BadGeneration"),
+    (Call::Parse("1-"), "BadSig"),
+    (Call::Parse("1-a/b"), "BadSig"),
+    (Call::Parse(TOO_LONG), "BadSig"),
+    (Call::Parse(LONGEST), LONGEST_ANSWER),
+    (Call::Parse("4294967295-z"), "4294967295 z"),
+];
+
+#[test]
+fn revision_parsing(rt: HostRuntime) {
+    assert_eq!(rt; LONGEST.len(), 2 + 64);
+    assert_eq!(rt; TOO_LONG.len(), 2 + 65);
+    run(&rt, rt.alloc(), PARSING_ROWS);
+}
+
+const HEXADECIMAL: &str = "10-0123456789abcdef0123456789abcdef";
+
+static WRITING_ROWS: Rows = &[
+    (Call::Write("1-a-b"), "1-a-b"),
+    (Call::Write("4294967295-A_z.0"), "4294967295-A_z.0"),
+    (Call::Write(HEXADECIMAL), HEXADECIMAL),
+];
+
+#[test]
+fn writes_what_it_parsed(rt: HostRuntime) {
+    run(&rt, rt.alloc(), WRITING_ROWS);
+}
+
+const LESS: &str = "less true, equal false";
+
+const EQUAL: &str = "less false, equal true";
+
+static ORDER_ROWS: Rows = &[
+    (Call::Compare("1-b", "2-B"), LESS),
+    (Call::Compare("2-B", "2-a"), LESS),
+    (Call::Compare("2-a", "2-aa"), LESS),
+    (Call::Compare("2-aa", "10-a"), LESS),
+    (Call::Compare("1-b", "1-b"), EQUAL),
+    (Call::Compare("2-B", "2-B"), EQUAL),
+    (Call::Compare("2-a", "2-a"), EQUAL),
+    (Call::Compare("2-aa", "2-aa"), EQUAL),
+    (Call::Compare("10-a", "10-a"), EQUAL),
+];
+
+#[test]
+fn orders_by_generation_and_then_by_signature(rt: HostRuntime) {
+    run(&rt, rt.alloc(), ORDER_ROWS);
+}
+
+static ANCESTRY_ROWS: Rows = &[
+    (Call::Ancestry(3, &["c", "b", "a"]), "3-c,2-b,1-a"),
+    (Call::Copy(THREE), "3-c of 3-c,2-b,1-a"),
+    (Call::Contains(THREE, "1-a"), "true"),
+    (Call::Contains(THREE, "3-a"), "false"),
+    (Call::Parent(THREE, "3-c"), "2-b"),
+    (Call::Parent(THREE, "2-b"), "1-a"),
+    (Call::Parent(THREE, "1-a"), "no parent"),
+];
+
+#[test]
+fn makes_and_copies_an_ancestry(rt: HostRuntime) {
+    run(&rt, rt.alloc(), ANCESTRY_ROWS);
+}
+
+static REFUSED_ROWS: Rows = &[
+    (Call::Ancestry(3, &[]), "NoIds"),
+    (Call::Ancestry(0, &[]), "NoIds"),
+    (Call::Ancestry(1, &["b", "a"]), "StartTooSmall"),
+    (Call::Ancestry(0, &["b", "a"]), "StartTooSmall"),
+];
+
+#[test]
+fn refuses_parts_that_make_no_ancestry(rt: HostRuntime) {
+    run(&rt, rt.alloc(), REFUSED_ROWS);
+}
+
+static DIGEST_ROWS: Rows = &[
+    (Call::Digest(""), "d41d8cd98f00b204e9800998ecf8427e"),
+    (Call::Digest("a"), "0cc175b9c0f1b6a831c399e269772661"),
+    (Call::Digest("abc"), "900150983cd24fb0d6963f7d28e17f72"),
+    (
+        Call::Digest("message digest"),
+        "f96b697d7cb7938d525a2f31aaf161d0",
+    ),
+];
+
+#[test]
+fn digests_of_the_standard(rt: HostRuntime) {
+    run(&rt, rt.alloc(), DIGEST_ROWS);
+}
+
+const LIVE: &str = r#"{"n":1}"#;
+
+const STATED: &str = "1-a\nlive\n{\"n\":1}";
+
+/// The signatures are MD5 of the parent, the kind and the body, with a line feed between each.
+static EDIT_ROWS: Rows = &[
+    (Call::Decode("312d610a6c6976650a7b226e223a317d"), STATED),
+    (Call::Digest(STATED), "c96964c5f2e1e7ba6a7331423f490bd6"),
+    (
+        Call::Edit("1-a", false, LIVE),
+        "2-c96964c5f2e1e7ba6a7331423f490bd6",
+    ),
+    (
+        Call::Edit("1-a", true, "{}"),
+        "2-c529cc259c1f74b71d33b9bc42900d24",
+    ),
+    (
+        Call::Edit("", false, "{}"),
+        "1-a7b2c897c2eeb544e2e818194f53a9e3",
+    ),
+];
+
+#[test]
+fn ids_of_local_edits(rt: HostRuntime) {
+    run(&rt, rt.alloc(), EDIT_ROWS);
+}
+
+/// The signature was worked out by md5sum.
+const GREATEST: &str = "4294967295-62296738d45faefb3c4ca58de75db3a8";
+
+static GREATEST_ROWS: Rows = &[
+    (Call::Edit("4294967295-z", false, "{}"), "GenerationFull"),
+    (Call::Edit("4294967294-z", false, "{}"), GREATEST),
+];
+
+#[test]
+fn no_generation_after_the_greatest(rt: HostRuntime) {
+    run(&rt, rt.alloc(), GREATEST_ROWS);
+}

@@ -1,0 +1,145 @@
+//! Texts that one reader reads as JSON values, one after another, with what the values are written as.
+use crate::tests::texts::expect_answer;
+use json_values::ValueReader;
+use std::alloc::Global;
+use std::process::Abort;
+use test_texts::shown;
+
+/// What is read.
+#[derive(Clone, Copy)]
+enum Call<'a> {
+    /// Bytes.
+    Read(&'a [u8]),
+    /// A list in a list, so many deep.
+    Nested(usize),
+}
+
+/// What is read, each with the compact text of its value or the refusal.
+type Rows = &'static [(Call<'static>, &'static str)];
+
+/// Reads all with one reader, and asserts what each is.
+fn run(rt: &impl Abort, alloc: Global, calls: &[(Call, &str)]) {
+    let mut reader = ValueReader::new(alloc);
+    for (i, (call, wanted)) in calls.iter().enumerate() {
+        expect_answer(rt, i, answer(alloc, &mut reader, call), wanted);
+    }
+}
+
+/// What a call answers.
+fn answer(alloc: Global, reader: &mut ValueReader, call: &Call) -> Option<String> {
+    match *call {
+        Call::Read(bytes) => written(alloc, reader, bytes),
+        Call::Nested(depth) => {
+            let text = nested(alloc, depth)?;
+            let answer = written(alloc, reader, text.as_bytes())?;
+            if answer == text {
+                return "as it was given".to_string(alloc).ok();
+            }
+            Some(answer)
+        }
+    }
+}
+
+/// The compact text of the value that bytes are, or why they are none.
+fn written(alloc: Global, reader: &mut ValueReader, bytes: &[u8]) -> Option<String> {
+    match reader.read(alloc, bytes) {
+        Ok(value) => value.to_string(alloc).ok(),
+        Err(fault) => shown(alloc, &fault),
+    }
+}
+
+/// Lists in one another, so many deep.
+fn nested(alloc: Global, depth: usize) -> Option<String> {
+    let mut text = String::new(alloc);
+    for _ in 0..depth {
+        text.push_str("[").ok()?;
+    }
+    for _ in 0..depth {
+        text.push_str("]").ok()?;
+    }
+    Some(text)
+}
+
+/// Short texts behind long ones: what is kept of a text is seen in none that follows.
+static VALUES: Rows = &[
+    (Call::Read(b"null"), "null"),
+    (Call::Read(b" [ true , false ] "), "[true,false]"),
+    (
+        Call::Read(br#"{"b":[1,"x",null,{}],"a":{"c":[]}}"#),
+        r#"{"a":{"c":[]},"b":[1,"x",null,{}]}"#,
+    ),
+    (
+        Call::Read(br#"{"a":1,"b":2,"a":{"c":3},"b":[]}"#),
+        r#"{"a":{"c":3},"b":[]}"#,
+    ),
+    (
+        Call::Read(br#""\u00e9\t\"\\\/\ud83d\ude00 and so on, so that what is kept has to grow""#),
+        "\"\u{e9}\\t\\\"\\\\/\u{1f600} and so on, so that what is kept has to grow\"",
+    ),
+    (Call::Read(br#""\u0061""#), r#""a""#),
+    (Call::Read(br#"{"\u0062":"\n"}"#), r#"{"b":"\n"}"#),
+    (Call::Read(b"\"\xc3\xa9\""), "\"\u{e9}\""),
+    (Call::Nested(127), "as it was given"),
+    (Call::Read(b"{}"), "{}"),
+];
+
+/// Whole numbers of 64 bits stay what they are; others are the nearest float.
+static NUMBERS: Rows = &[
+    (Call::Read(b"0"), "0"),
+    (Call::Read(b"18446744073709551615"), "18446744073709551615"),
+    (
+        Call::Read(b"18446744073709551616"),
+        "1.8446744073709552e+19",
+    ),
+    (Call::Read(b"-1"), "-1"),
+    (Call::Read(b"-9223372036854775808"), "-9223372036854775808"),
+    (
+        Call::Read(b"-9223372036854775809"),
+        "-9.223372036854776e+18",
+    ),
+    (Call::Read(b"-0"), "-0.0"),
+    (Call::Read(b"1.50"), "1.5"),
+    (Call::Read(b"2e3"), "2000.0"),
+    (Call::Read(b"1e400"), "NotJson"),
+    (Call::Read(b"-1e400"), "NotJson"),
+    (Call::Read(b"01"), "NotJson"),
+    (Call::Read(b"+1"), "NotJson"),
+    (Call::Read(b"-"), "NotJson"),
+    (Call::Read(b"1."), "NotJson"),
+];
+
+/// What is no value, with one behind it that is.
+static REFUSED: Rows = &[
+    (Call::Read(b""), "NotJson"),
+    (Call::Read(b" \n"), "NotJson"),
+    (Call::Read(b"{} {}"), "NotJson"),
+    (Call::Read(b"1,"), "NotJson"),
+    (Call::Read(b"[1,]"), "NotJson"),
+    (Call::Read(br#"{"a":1,}"#), "NotJson"),
+    (Call::Read(br#"{"a"}"#), "NotJson"),
+    (Call::Read(br#"{"a":}"#), "NotJson"),
+    (Call::Read(br#"{1:2}"#), "NotJson"),
+    (Call::Read(b"[1}"), "NotJson"),
+    (Call::Read(br#"{"a":1]"#), "NotJson"),
+    (Call::Read(b"nul"), "NotJson"),
+    (Call::Read(b"\"a"), "NotJson"),
+    (Call::Read(br#""\ud83d""#), "NotJson"),
+    (Call::Read(b"\"\xff\""), "NotJson"),
+    (Call::Nested(128), "NotJson"),
+    (Call::Read(b"[]"), "[]"),
+];
+
+#[test]
+fn values_read(rt: HostRuntime) {
+    run(&rt, rt.alloc(), VALUES);
+}
+
+#[test]
+fn numbers_read(rt: HostRuntime) {
+    run(&rt, rt.alloc(), NUMBERS);
+}
+
+#[test]
+fn no_values(rt: HostRuntime) {
+    run(&rt, rt.alloc(), REFUSED);
+}
