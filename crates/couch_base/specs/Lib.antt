@@ -7,6 +7,7 @@ pub mod Stored
 pub mod FeedLaws
 pub mod Edit
 pub mod ListLaws
+pub mod MemberLaws
 pub mod DocumentTreeLaws
 pub mod DatabaseLaws
 pub mod WriteLaws

@@ -16,7 +16,7 @@ use Rattle.repl_target.specs.Law.{LawfulSessions}
 use Rattle.repl_target.specs.Sessions.{goal_answer, base_answer, new_session, begun}
 use Rattle.repl_target.specs.Audit.{rep_between}
 use Rattle.repl_target.specs.Replication.{start_between, base_at, checkpoint_of, begins_answer, after_begins, CoversFrom}
-use Rattle.repl_target.proofs.Members.{any_from}
+use Rattle.couch_base.specs.MemberLaws.{any_from}
 use Rattle.repl_target.specs.Ties.{IsTiedWindow}
 use Rattle.repl_target.specs.Calls.{IsGrown, EachStored}
 use Rattle.repl_target.proofs.TiesLaws.{feed_member}

@@ -25,7 +25,7 @@ use Rattle.repl_target.specs.Settling.{Settling, settle_as, settle_one, settle_d
 use Rattle.repl_target.specs.Law.{LawfulSessions}
 use Rattle.repl_target.specs.Later.{IsLaterPeer}
 use Rattle.repl_target.specs.Audit.{rep_between}
-use Rattle.repl_target.proofs.Members.{Among-map, Among-push}
+use Rattle.couch_base.specs.MemberLaws.{Among-map, Among-push}
 use Rattle.repl_target.proofs.LaterPeers.{IsLaterPeer-same, IsLaterPeer-later, session_found}
 use Rattle.repl_target.proofs.CallsKeepLaw.{load_law, load_later, edit_law, edit_later, begin_law, begin_later, append_law, append_later, record_law, record_later, conclude_law, conclude_later}
 use Rattle.repl_target.proofs.SettlingKeepsLaw.{settle_told, after_settle_law, after_stop_law}

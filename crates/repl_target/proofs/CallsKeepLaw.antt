@@ -24,7 +24,7 @@ use Rattle.repl_target.specs.Writing.{next_local, after_load, load_edited, after
 use Rattle.repl_target.specs.Sessions.{on_found, on_session, start_answer, base_in, on_base, base_answer, goal_answer, begin_answer, new_session, begun, after_begin, append_in, with_window, after_append, recorded_at, after_record, after_conclude}
 use Rattle.repl_target.specs.Law.{LawfulSession, LawfulSessions, session_numbers}
 use Rattle.repl_target.specs.Later.{Keeps, IsLaterPeer}
-use Rattle.repl_target.proofs.Members.{Among-left, Among-push, each_push, found_member, at-append}
+use Rattle.couch_base.specs.MemberLaws.{Among-left, Among-push, each_push, found_member, at-append}
 use Rattle.repl_target.proofs.LaterPeers.{Keeps-same, IsLaterPeer-same, lawful-later, session_found, session_law}
 
 -- ---- a peer as it begins

@@ -39,7 +39,7 @@ use Rattle.repl_target.specs.declared.fault.Report.{Report}
 use Rattle.repl_target.specs.declared.fault.Settled.{Settled}
 use Rattle.repl_target.specs.declared.fault.TargetFault.{TargetFault}
 use Rattle.repl_target.specs.declared.replication.Plan.{Plan}
-use Rattle.repl_target.proofs.Members.{Among-map, Among-mapped, any_member}
+use Rattle.couch_base.specs.MemberLaws.{Among-map, Among-mapped, any_member}
 use Rattle.repl_target.proofs.LaterPeers.{one_session, session_found}
 use Rattle.repl_target.proofs.SettlingKeepsLaw.{settle_told}
 use Rattle.repl_target.proofs.Parts.{IsPart, nothing_is_part, given, part_merged, whole_part}

@@ -22,7 +22,7 @@ use Rattle.repl_target.specs.Audit.{rep_between, hole_at, hole_of, audit_answer,
 use Rattle.repl_target.specs.Replication.{start_at, checkpoint_of, start_between}
 use Rattle.repl_target.specs.declared.fault.Audit.{Audit}
 use Rattle.repl_target.specs.declared.fault.Audit.TheVariants.{Clean, Hole}
-use Rattle.repl_target.proofs.Members.{Among-map, found_member}
+use Rattle.couch_base.specs.MemberLaws.{Among-map, found_member}
 use Rattle.repl_target.proofs.CallsKeepLaw.{same_rep-is}
 use Rattle.repl_target.proofs.Windows.{window-stored}
 use Rattle.repl_target.specs.Ties.{IsTiedWindow}

@@ -8,7 +8,7 @@ use Rattle.range_front.specs.FrontLaws.{reached, is_window-is_done}
 use Rattle.repl_target.specs.Peer.{PeerValue, SessionValue}
 use Rattle.repl_target.specs.Covered.{Honest}
 use Rattle.repl_target.specs.Law.{LawfulSession, LawfulSessions}
-use Rattle.repl_target.proofs.Members.{Among-mapped, each_member}
+use Rattle.couch_base.specs.MemberLaws.{Among-mapped, each_member}
 use Rattle.repl_target.proofs.Windows.{windows-follow, window-above, window-stored, one_window}
 
 -- numbers that rise lie between their bounds

@@ -15,7 +15,7 @@ use Rattle.repl_target.specs.Peer.{PeerValue, SessionValue, WrittenValue, Refuse
 use Rattle.repl_target.specs.Covered.{in_ledger, covers, rightly_refused}
 use Rattle.repl_target.specs.Law.{LawfulSession, AllBased, LawfulSessions, session_numbers}
 use Rattle.repl_target.specs.Later.{Keeps, IsLaterPeer}
-use Rattle.repl_target.proofs.Members.{Among-map, Among-mapped, any_member, any_from, each_member, found_member}
+use Rattle.couch_base.specs.MemberLaws.{Among-map, Among-mapped, any_member, any_from, each_member, found_member}
 
 -- ---- later sessions and later peers
 

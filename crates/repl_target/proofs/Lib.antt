@@ -7,7 +7,6 @@ pub mod SettlingDocuments
 pub mod SettlingChecks
 pub mod SessionLaws
 pub mod SettlingParcels
-pub mod Members
 pub mod LaterPeers
 pub mod CallsKeepLaw
 pub mod Windows

@@ -12,7 +12,7 @@ use Rattle.couch_base.specs.Database.{Id, DocumentValue, DatabaseValue, tree_of}
 use Rattle.couch_base.specs.Feed.{RowValue, WindowValue}
 use Rattle.couch_base.specs.Messages.{WantedValue, AskedValue, ParcelValue, want_first, wanted, revs_diff, open_revs, gone_of, brings, is_rev_of, is_answered, IsParcel}
 use Rattle.couch_base.specs.WriteLaws.{IsLater}
-use Rattle.repl_target.proofs.Members.{any_member, all_member}
+use Rattle.couch_base.specs.MemberLaws.{any_member, all_member}
 use Rattle.repl_target.specs.Ties.{IsTiedWindow, Asks, Names, IsTiedAsked, IsTiedParcel}
 use Rattle.repl_target.proofs.TiesLaws.{Among-filter, Among-filtered}
 

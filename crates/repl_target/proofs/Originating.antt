@@ -35,7 +35,7 @@ use Rattle.repl_target.specs.Settling.{Settling, seq_in, fed, with_arrival, is_f
 use Rattle.repl_target.specs.Law.{LawfulSessions}
 use Rattle.repl_target.specs.Later.{IsLaterPeer}
 use Rattle.repl_target.specs.Origins.{ComesFrom, HasOrigins}
-use Rattle.repl_target.proofs.Members.{Among-last, at-end}
+use Rattle.couch_base.specs.MemberLaws.{Among-last, at-end}
 use Rattle.repl_target.proofs.LaterPeers.{with_session_holds}
 use Rattle.repl_target.proofs.CallsKeepLaw.{load_later, begin_later, append_later, record_later, conclude_later}
 use Rattle.repl_target.proofs.SettlingKeepsLaw.{document_settles, documents_settle, with_settling-twice, mark_law, Ends, settle_ends, after_settle_ends, after_stop_ends}

@@ -23,7 +23,7 @@ use Rattle.repl_target.specs.declared.fault.Settled.{Settled}
 use Rattle.repl_target.specs.declared.fault.TargetFault.{TargetFault}
 use Rattle.repl_target.specs.declared.fault.TargetFault.TheVariants as faults
 use Rattle.repl_target.specs.declared.replication.Plan.{Plan}
-use Rattle.repl_target.proofs.Members.{Among-left, Among-last, each_member}
+use Rattle.couch_base.specs.MemberLaws.{Among-left, Among-last, each_member}
 use Rattle.repl_target.proofs.LaterPeers.{one_session, session_found, with_session_holds}
 use Rattle.repl_target.proofs.CallsKeepLaw.{append_law, conclude_law}
 use Rattle.repl_target.proofs.SettlingKeepsLaw.{settle_told, documents_settle, settle_law}

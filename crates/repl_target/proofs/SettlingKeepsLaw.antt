@@ -35,7 +35,7 @@ use Rattle.repl_target.specs.Sessions.{found_answer}
 use Rattle.repl_target.specs.Settling.{Settling, fed, with_refused, with_arrival, is_full, settle_as, settle_one, settle_docs, settled_before, has_row, has_room, window_in, settle_at, settle_check, with_settling, settling_of, after_documents, with_done, marked, after_all, after_front, after_stop, settled_at, after_settle, SettlesAt, Settles, SettleGives}
 use Rattle.repl_target.specs.Law.{LawfulSession, LawfulSessions}
 use Rattle.repl_target.specs.Later.{Keeps, IsLaterPeer}
-use Rattle.repl_target.proofs.Members.{Among-left, Among-push, all_member, found_member}
+use Rattle.couch_base.specs.MemberLaws.{Among-left, Among-push, all_member, found_member}
 use Rattle.repl_target.proofs.LaterPeers.{Keeps-same, Keeps-later, IsLaterPeer-same, IsLaterPeer-later, covers-later, session_found, with_session_holds, session_law}
 use Rattle.repl_target.proofs.Windows.{windows-follow, window-above, one_window}
 

@@ -28,7 +28,7 @@ use Rattle.repl_target.specs.declared.fault.TargetFault.{TargetFault}
 use Rattle.repl_target.specs.declared.fault.TargetFault.TheVariants as faults
 use Rattle.repl_target.proofs.LaterPeers.{with_session_holds}
 use Rattle.repl_target.proofs.SettlingKeepsLaw.{with_session-twice}
-use Rattle.repl_target.proofs.Members.{Among-map, Among-mapped, any_member, any_from}
+use Rattle.couch_base.specs.MemberLaws.{Among-map, Among-mapped, any_member, any_from}
 
 -- ---- leaves
 

@@ -26,7 +26,7 @@ use Rattle.repl_target.specs.Covered.{refusal_of, in_ledger, covers, unknown_in,
 use Rattle.repl_target.specs.Sessions.{found_answer}
 use Rattle.repl_target.specs.Settling.{Settling, settle_as, settle_one, settle_docs, stops_as, stops_at, settled_before, is_full, has_row, has_room, window_in, settle_at, settle_check, settling_of, with_settling, after_documents, after_all, Settles, SettleGives}
 use Rattle.repl_target.specs.Law.{LawfulSessions}
-use Rattle.repl_target.proofs.Members.{Among-left, Among-last, any_from}
+use Rattle.couch_base.specs.MemberLaws.{Among-left, Among-last, any_from}
 use Rattle.repl_target.proofs.LaterPeers.{covers-later, one_session}
 use Rattle.repl_target.proofs.SettlingKeepsLaw.{SettlesLawfully, documents_settle, settle_told, mark_law}
 use Rattle.repl_target.proofs.Windows.{windows-follow, window-above, one_window}

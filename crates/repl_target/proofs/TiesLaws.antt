@@ -14,7 +14,7 @@ use Rattle.couch_base.specs.Lists.{Among, EachOnce}
 use Rattle.couch_base.specs.Database.{Id, DocumentValue, DatabaseValue, LawfulDatabase, tree_in, tree_of}
 use Rattle.couch_base.specs.Feed.{RowValue, WindowValue, row_of, feed, last_seq, page}
 use Rattle.couch_base.specs.WriteLaws.{IsLater}
-use Rattle.repl_target.proofs.Members.{Among-map, Among-mapped, Among-left}
+use Rattle.couch_base.specs.MemberLaws.{Among-map, Among-mapped, Among-left}
 use Rattle.couch_base.specs.FeedLaws.{feed-page}
 use Rattle.repl_target.specs.Ties.{IsTiedWindow}
 

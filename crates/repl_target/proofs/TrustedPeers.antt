@@ -14,7 +14,7 @@ use Rattle.repl_target.specs.Covered.{in_ledger, covers}
 use Rattle.repl_target.specs.Law.{LawfulSessions}
 use Rattle.repl_target.specs.Origins.{HasOrigins}
 use Rattle.repl_target.specs.Trusted.{IsAccounted, IsTrusted}
-use Rattle.repl_target.proofs.Members.{any_member}
+use Rattle.couch_base.specs.MemberLaws.{any_member}
 use Rattle.repl_target.proofs.HonestSessions.{honest_is, counts_are}
 
 -- what a lawful peer covers is in a tree, or was rightly refused

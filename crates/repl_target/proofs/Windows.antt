@@ -7,7 +7,7 @@ use Rattle.range_front.specs.Front.{FrontValue, FrontWindow, Rises, IsFront, bou
 use Rattle.range_front.specs.WindowLaws.{bounds_from}
 use Rattle.range_front.specs.FrontLaws.{is_window-bounds}
 use Rattle.repl_target.specs.Law.{window_bounds}
-use Rattle.repl_target.proofs.Members.{Among-map, any_member}
+use Rattle.couch_base.specs.MemberLaws.{Among-map, any_member}
 
 -- each window begins where the one before it ends, the first at lo, and ends above that
 abbrev pub Follows : ℕ → List WindowValue → Type 0

@@ -3,7 +3,7 @@ use Rattle.std.proofs.Common.{◌≡◌, ℕ, List, [], ◌∷◌, ◌++◌, sym
 use Rattle.couch_base.specs.Lists.{Among}
 use Rattle.couch_base.specs.Feed.{WindowValue, IsWindow}
 use Rattle.couch_base.specs.Messages.{AskedValue, ParcelValue, IsAsked, IsParcel}
-use Rattle.repl_target.proofs.Members.{Among-push}
+use Rattle.couch_base.specs.MemberLaws.{Among-push}
 use Rattle.repl_world.specs.Bags.{AreSound}
 
 -- what holds of each still does with one more of which it holds

@@ -18,7 +18,7 @@ use Rattle.repl_target.specs.Ties.{IsTiedWindow}
 use Rattle.repl_target.specs.Calls.{Call, Load, Edit, after_call, EachStored, IsTiedPair}
 use Rattle.repl_target.specs.Calls as calls
 use Rattle.repl_target.specs.declared.fault.TargetFault.{TargetFault}
-use Rattle.repl_target.proofs.Members.{Among-push, at-append}
+use Rattle.couch_base.specs.MemberLaws.{Among-push, at-append}
 use Rattle.repl_target.proofs.CallsKeepLaw.{load_later, edit_later, begin_later, append_later, record_later, conclude_later}
 use Rattle.repl_target.proofs.LogLaws.{put_entry_later}
 use Rattle.repl_target.proofs.SettlingKeepsLaw.{after_settle_law, after_stop_law}
