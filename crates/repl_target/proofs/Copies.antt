@@ -42,7 +42,7 @@ use Rattle.repl_target.specs.declared.replication.Plan.{Plan}
 use Rattle.couch_base.specs.MemberLaws.{Among-map, Among-mapped, any_member}
 use Rattle.repl_target.proofs.LaterPeers.{one_session, session_found}
 use Rattle.repl_target.proofs.SettlingKeepsLaw.{settle_told}
-use Rattle.repl_target.proofs.Parts.{IsPart, nothing_is_part, given, part_merged, whole_part}
+use Rattle.rev_tree.specs.PartLaws.{IsPart, nothing_is_part, given, part_merged, whole_part}
 use Rattle.repl_target.proofs.HonestSessions.{rises_member}
 use Rattle.repl_target.proofs.Reading.{Started, less-is, concluded, all-covered, all-reported, all-lawful}
 

@@ -21,7 +21,6 @@ pub mod PeerInvariant
 pub mod Edits
 pub mod SettlingPeers
 pub mod Reading
-pub mod Parts
 pub mod Copies
 pub mod TiesLaws
 pub mod MessageTies

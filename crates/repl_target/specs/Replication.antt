@@ -1,8 +1,7 @@
 -- Replication by one thread: docs/PROFILE.md, "Replication by one thread"; CouchDB, "Replication Protocol".
 use Rattle.std.specs.Prelude.{◌≡◌, ◌⊎◌, ℕ, zero, suc, ◌+◌, ◌==◌, ◌<◌, Bool, true, false, ◌&&◌, nat_lt, nat_le, if◌then◌else◌, [], Option, Some, None, Result, Ok, Err, IsOk}
-use Rattle.std.specs.FinMap.{get}
 use Rattle.rev_core.specs.Rev.{RevId}
-use Rattle.rev_tree.specs.Tree.{TreeValue, has, is_leaf}
+use Rattle.rev_tree.specs.Tree.{SameRevisions}
 use Rattle.rev_tree.specs.declared.origin.SessionId.{SessionId}
 use Rattle.doc_json.specs.Document.{Document}
 use Rattle.couch_base.specs.Database.{Id, DatabaseValue, tree_of}
@@ -206,13 +205,6 @@ pub record IsReported (source target target' : PeerValue) (plan : Plan) (report 
   pub start : report.start ≡ start_between source target
   pub recorded : report.recorded ≡ source.db.update_seq
   pub counts : report.read ≡ report.written + report.failures
-
--- two trees have the same revisions with the same parents, and the same contents of their leaves; so they have one
--- winner
-pub record SameRevisions (s t : TreeValue) : Type 0 where
-  pub revs : (r : RevId) → has s r ≡ has t r
-  pub edges : s.parents ≡ t.parents
-  pub contents : (leaf : RevId) → is_leaf s leaf ≡ true → get s.contents leaf ≡ get t.contents leaf
 
 -- a peer without documents and sessions
 abbrev pub IsEmpty : PeerValue → Type 0

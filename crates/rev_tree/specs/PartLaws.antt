@@ -8,14 +8,10 @@ use Rattle.rev_core.specs.Rev.{RevId, rev_cmp}
 use Rattle.rev_core.specs.RevOrder.{rev_cmp_total, rev_cmp_exact, rev_tie_is, rev_tie_self}
 use Rattle.rev_core.specs.Ancestry.{edges_of, is_among}
 use Rattle.rev_tree.specs.Content.{ContentValue}
-use Rattle.rev_tree.specs.Tree.{TreeValue, IsTree, has, is_leaf, is_deleted, walk, ancestors, at_head, merged, no_revisions}
+use Rattle.rev_tree.specs.Tree.{TreeValue, IsTree, has, is_leaf, is_deleted, walk, ancestors, at_head, merged, no_revisions, SameRevisions}
 use Rattle.rev_tree.specs.TreeLaws.{some_or, or_cases, get-joined, has-merged, has-merged_known, has-merged_given, parent_from_child, edge_found, head_or_parent}
 use Rattle.rev_tree.specs.LeafLaws.{same_tests, has_walked, leaf_above, IsAncestry-ancestors}
 use Rattle.rev_tree.specs.declared.origin.Origin.{Origin}
-use Rattle.couch_base.specs.ListLaws.{none_some}
-use Rattle.couch_base.specs.Messages.{body_at}
-use Rattle.couch_base.specs.Put.{content_of}
-use Rattle.repl_target.specs.Replication.{SameRevisions}
 
 -- ---- options
 
@@ -93,8 +89,8 @@ pub nothing_is_part : (s : TreeValue) → IsPart s no_revisions
 nothing_is_part s = record {
   within = λ r h. absurd (none r h);
   parents = λ r h. absurd (none r h);
-  child = λ c p h. absurd (none_some p (sym (get-empty rev_cmp c) ∙ h));
-  parent = λ c p h. absurd (none_some p (sym (get-empty rev_cmp c) ∙ h));
+  child = λ c p h. absurd (false≢true (ap is_some (sym (get-empty rev_cmp c) ∙ h)));
+  parent = λ c p h. absurd (false≢true (ap is_some (sym (get-empty rev_cmp c) ∙ h)));
   content = λ r h. absurd (false≢true (sym (ap is_some (get-empty rev_cmp r)) ∙ h));
   leaves = λ r h. absurd (none r h);
 }
@@ -104,10 +100,16 @@ nothing_is_part s = record {
 
 -- the content of a leaf, as it is handed over
 abbrev pub given : TreeValue → RevId → ContentValue
-given s leaf = content_of (is_deleted s leaf) (body_at s leaf)
+given s leaf = record {
+  deleted = is_deleted s leaf;
+  body = option_map_or (λ (x : ContentValue). x.body) (get s.contents leaf) [];
+}
 
 given_is : (s : TreeValue) (leaf : RevId) (b : ContentValue) → get s.contents leaf ≡ Some b → given s leaf ≡ b
-given_is s leaf b h = λ i. content_of (option_map_or (λ (x : ContentValue). x.deleted) (h i) false) (option_map_or (λ (x : ContentValue). x.body) (h i) [])
+given_is s leaf b h = λ i. record {
+  deleted = option_map_or (λ (x : ContentValue). x.deleted) (h i) false;
+  body = option_map_or (λ (x : ContentValue). x.body) (h i) [];
+}
 
 -- a leaf with its ancestors keeps a part a part
 module _ (s t : TreeValue) (tree : IsTree s) (part : IsPart s t) (leaf : RevId) (is : is_leaf s leaf ≡ true) (o : Origin) where
