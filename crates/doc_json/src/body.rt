@@ -62,10 +62,10 @@ impl Body {
         ensures body { IsBody self.now }
         ensures err { IfErr result (λ e. e ≡ DocFault.Memory) }
     {
-        match self.text.clone() {
-            Ok(text) => Ok(text),
-            Err(_) => Err(DocFault::Memory),
-        }
+        let Ok(text) = self.text.clone() else {
+            return Err(DocFault::Memory);
+        };
+        Ok(text)
     }
 
     /// The same body, which shares its text with this one. The only error is `Memory`.
@@ -73,8 +73,9 @@ impl Body {
         ensures copied { IfOk result (λ b. b ≡ self.now) }
         ensures err { IfErr result (λ e. e ≡ DocFault.Memory) }
     {
-        let text = self.share()?;
-        Ok(Body { text })
+        Ok(Body {
+            text: self.share()?,
+        })
     }
 }
 

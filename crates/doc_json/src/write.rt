@@ -102,10 +102,11 @@ fn push_sigs(out: &mut Vec<u8>, revs: &[Rev]) -> Result<(), AllocError>
     ensures { OnOk result (out.new.items ≡ out.old.items ++ sig_texts revs.now) }
 {
     for i in 0..revs.len() {
+        let rev = revs[i];
         if i > 0 {
             out.push(b',')?;
         }
-        push_sig(out, revs[i])?;
+        push_sig(out, rev)?;
     }
     Ok(())
 }

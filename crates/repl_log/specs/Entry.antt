@@ -18,8 +18,27 @@ pub record EntryValue : Type 0 where
   pub written : ℕ
   pub failures : ℕ
 
+-- its session, its sequences, its moments, and its counts
+abbrev EntryParts : Type 0
+EntryParts = SessionId × ((ℕ × ℕ) × ((ℕ × ℕ) × (ℕ × (ℕ × (ℕ × (ℕ × ℕ))))))
+
+abbrev entry_of : EntryParts → EntryValue
+entry_of (session, ((start, recorded), ((start_time, end_time), (checked, (found, (read, (written, failures))))))) =
+    record {
+      session = session;
+      start = start;
+      recorded = recorded;
+      start_time = start_time;
+      end_time = end_time;
+      checked = checked;
+      found = found;
+      read = read;
+      written = written;
+      failures = failures;
+    }
+
 abbrev pub coded_entry : Coded EntryValue
-coded_entry = code_by (SessionId × ((ℕ × ℕ) × ((ℕ × ℕ) × (ℕ × (ℕ × (ℕ × (ℕ × ℕ)))))))
+coded_entry = code_by EntryParts
     (coded× coded_session_id
     (coded× (coded× coded_ℕ coded_ℕ)
     (coded× (coded× coded_ℕ coded_ℕ) (coded× coded_ℕ (coded× coded_ℕ (coded× coded_ℕ (coded× coded_ℕ coded_ℕ)))))))
@@ -30,19 +49,7 @@ coded_entry = code_by (SessionId × ((ℕ × ℕ) × ((ℕ × ℕ) × (ℕ × (�
         ((e.start_time, e.end_time), (e.checked, (e.found, (e.read, (e.written, e.failures))))),
       ),
     ))
-    (λ p. record {
-      session = p.0;
-      start = p.1.0.0;
-      recorded = p.1.0.1;
-      start_time = p.1.1.0.0;
-      end_time = p.1.1.0.1;
-      checked = p.1.1.1.0;
-      found = p.1.1.1.1.0;
-      read = p.1.1.1.1.1.0;
-      written = p.1.1.1.1.1.1.0;
-      failures = p.1.1.1.1.1.1.1;
-    })
-    (λ _. refl)
+    entry_of (λ _. refl)
 
 -- an entry is sound: each document that was read was written or refused, and nothing below the start is recorded
 pub record IsSound (e : EntryValue) : Type 0 where

@@ -101,18 +101,18 @@ fn content_text(alloc: Global, tree: &Tree, rev: Rev) -> Option<String> {
 /// Why a call on a database is refused.
 pub(crate) fn base_fault_text(alloc: Global, fault: BaseFault) -> Option<String> {
     match fault {
+        BaseFault::RevExists { rev } => named_text(alloc, "RevExists", &[rev]),
         BaseFault::Contradiction {
             child,
             known,
             given,
-        } => {
-            let revs = revs_text(alloc, &[child, known, given])?;
-            format!(in alloc; "Contradiction {revs}").ok()
-        }
-        BaseFault::RevExists { rev } => {
-            let rev = rev_text(alloc, rev)?;
-            format!(in alloc; "RevExists {rev}").ok()
-        }
+        } => named_text(alloc, "Contradiction", &[child, known, given]),
         plain => shown(alloc, &plain),
     }
+}
+
+/// A name, and the revisions behind it.
+fn named_text(alloc: Global, name: &str, revs: &[Rev]) -> Option<String> {
+    let revs = revs_text(alloc, revs)?;
+    format!(in alloc; "{name} {revs}").ok()
 }

@@ -29,8 +29,8 @@ pub(crate) struct Done {
     pub(crate) session: u128,
     pub(crate) start: u64,
     pub(crate) recorded: u64,
-    pub(crate) start_time: u64,
-    pub(crate) end_time: u64,
+    /// When it began and when it last recorded, in seconds since 1970.
+    pub(crate) moments: (u64, u64),
     pub(crate) checked: u64,
     pub(crate) found: u64,
     pub(crate) written: u64,
@@ -182,8 +182,7 @@ impl Sessions {
                 session,
                 start,
                 recorded: start,
-                start_time: time,
-                end_time: time,
+                moments: (time, time),
                 checked: 0,
                 found: 0,
                 written: 0,
@@ -252,7 +251,7 @@ impl Sessions {
             return None;
         }
         held.done.recorded = low;
-        held.done.end_time = time;
+        held.done.moments.1 = time;
         Some(held.done)
     }
 }

@@ -36,6 +36,8 @@ pub struct Replicate<'a> {
 pub struct Options {
     /// The number of the UUID that is the new session's id.
     pub session: Option<u128>,
+    /// Whether it is to have one thread.
+    pub alone: bool,
     /// How many workers fetch, and how many write.
     pub workers: Option<u64>,
     /// How many rows a window has at most.
@@ -44,8 +46,6 @@ pub struct Options {
     pub at: Option<u64>,
     /// After how many windows it stops.
     pub stop_after: Option<u64>,
-    /// Whether it is to have one thread.
-    pub alone: bool,
     /// Whether it is to tell how far it came, of those that it has several threads for.
     pub progress: bool,
 }
