@@ -199,8 +199,10 @@ pub fn join_writers<S: Origin, L: Ledger, G: Gate, R: Threads>(
     requires parcels { IsSeatAt (sends_on lines.now.to_writers) parcels.old × (0 < (view parcels.old).parts)
         × ((view parcels.old).got ≡ []) }
     requires all { all.old.amount ≡ 0 }
-    requires seats { AreSeated (option_copied board) (seats.old.items ++ held (λ h. h.promise.seat.value) handles.items) }
-    requires room { length (seats.old.items ++ held (λ h. h.promise.seat.value) handles.items) ≤ vec_capacity seats.old }
+    requires seats { AreSeated (option_copied board)
+        (seats.old.items ++ held (λ h. h.promise.seat.value) handles.items) }
+    requires room { length (seats.old.items ++ held (λ h. h.promise.seat.value) handles.items)
+        ≤ vec_capacity seats.old }
     ensures seat { IsSeatAt (sends_on lines.now.to_writers) parcels.new }
     ensures parcels { ((view parcels.new).parts ≡ (view parcels.old).parts + vec_len handles.entry)
         × ((view parcels.new).sent ≡ (view parcels.old).sent) }

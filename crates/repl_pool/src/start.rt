@@ -58,7 +58,8 @@ fn hire_fetcher<
     requires parcels { IsSeatAt (sends_on lines.now.to_writers) parcels.old × (1 < (view parcels.old).parts) }
     ensures window_seat { IsSeatAt (sends_on lines.now.to_fetchers) windows.new }
     ensures windows { view windows.new
-        ≡ seen ((view windows.old).parts - 1) (view windows.old).reads (view windows.old).count (view windows.old).taken }
+        ≡ seen ((view windows.old).parts - 1) (view windows.old).reads (view windows.old).count
+        (view windows.old).taken }
     ensures parcel_seat { IsSeatAt (sends_on lines.now.to_writers) parcels.new }
     ensures parcels { view parcels.new
         ≡ hand ((view parcels.old).parts - 1) (view parcels.old).sent (view parcels.old).got }

@@ -106,7 +106,8 @@ impl<S: Origin, L: Ledger> Writer<S, L> {
         requires seat { IsSeated (option_copied board) self.old.seat }
         ensures same { self.new.parcels ≡ self.old.parcels }
         ensures knows { WriterKnows [] self.new }
-        ensures halted { IfSome self.new.stopped (AllowsOn (MayFill (option_copied board.entry)) (G.may_stop gate.now)) }
+        ensures halted { IfSome self.new.stopped
+            (AllowsOn (MayFill (option_copied board.entry)) (G.may_stop gate.now)) }
         ensures seat { IsSeated (option_copied board.entry) self.new.seat }
         ensures shows { (given : Option BoardSeat) → WriterShows (option_copied board.entry) given self.old
             → WriterShows (option_copied board.entry) given self.new }
@@ -149,7 +150,8 @@ impl<S: Origin, L: Ledger> Writer<S, L> {
         requires board_seat { IsSeated (option_copied board) self.old.seat }
         ensures seat { IsSeatAt (receives_on parcels.now) self.new.parcels }
         ensures knows { WriterKnows [] self.new }
-        ensures halted { IfSome self.new.stopped (AllowsOn (MayFill (option_copied board.entry)) (G.may_stop gate.now)) }
+        ensures halted { IfSome self.new.stopped
+            (AllowsOn (MayFill (option_copied board.entry)) (G.may_stop gate.now)) }
         ensures board_seat { IsSeated (option_copied board.entry) self.new.seat }
         ensures shows { (given : Option BoardSeat) → WriterShows (option_copied board.entry) given self.old
             → WriterShows (option_copied board.entry) given self.new }

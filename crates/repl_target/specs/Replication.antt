@@ -90,8 +90,8 @@ pub record Carries (refuses : Document → Bool) (source : DatabaseValue) (plan 
     pub window : WindowValue
     pub read : window ≡ next_window source plan before.since
     pub settled : Settled
-    pub settles : StoresAndSettles refuses plan before.target window (parcel_for source before.target window) (Ok settled)
-        after.target
+    pub settles : StoresAndSettles refuses plan before.target window (parcel_for source before.target window)
+        (Ok settled) after.target
     pub reached : after.since ≡ window.hi
 
 -- or it is refused: it finds no memory, or the session doesn't store it, or settling is refused

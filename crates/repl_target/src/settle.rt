@@ -233,7 +233,8 @@ fn decide<F: WriteFilter>(
     ensures arrivals { arrivals.new.items ≡ arrivals.old.items }
     ensures ledger { ledger.new.items ≡ ledger.old.items }
     ensures db { OnErr result (db.new ≡ db.old) }
-    ensures index { OnErr result ((id : Id) (r : RevId) → is_ledgered ledgered.new id r ≡ is_ledgered ledgered.old id r) }
+    ensures index { OnErr result
+        ((id : Id) (r : RevId) → is_ledgered ledgered.new id r ≡ is_ledgered ledgered.old id r) }
     ensures why { IfErr result (λ cause. cause ≡ cause_at (stops_in (F.refuses filter.now) db.old doc.now)) }
 {
     if filter.verdict(doc) == Verdict::Refuse {
@@ -276,7 +277,8 @@ fn note_ledgered(
         → is_ledgered ledgered.new id r
         ≡ (is_ledgered ledgered.old id r || (bytes_eq doc.now.id id && is_among r doc.now.ancestry))) }
     ensures ledger { ledger.new.items ≡ ledger.old.items }
-    ensures index { OnErr result ((id : Id) (r : RevId) → is_ledgered ledgered.new id r ≡ is_ledgered ledgered.old id r) }
+    ensures index { OnErr result
+        ((id : Id) (r : RevId) → is_ledgered ledgered.new id r ≡ is_ledgered ledgered.old id r) }
     ensures memory { IfErr result (λ cause. cause ≡ Cause.Memory) }
 {
     let Ok(()) = ledger.reserve(1) else {

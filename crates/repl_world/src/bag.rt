@@ -149,7 +149,8 @@ impl Bag {
     ) -> Result<(), AllocError>
         ensures filter { peer.new.0 ≡ peer.old.0 }
         ensures peer { OnOk result (peer.new.1 ≡ after_record peer.old.1 session at) }
-        ensures bag { OnOk result (self.new ≡ told self.old (session_answer peer.new.1 session (λ s. Ok (entry_of s)))) }
+        ensures bag { OnOk result
+            (self.new ≡ told self.old (session_answer peer.new.1 session (λ s. Ok (entry_of s)))) }
         ensures err { OnErr result ((peer.new ≡ peer.old) × (self.new ≡ self.old)) }
     {
         // The room comes first: recording can't be taken back.

@@ -343,9 +343,11 @@ impl<F: WriteFilter> World<F> {
     fn settle(&mut self, alloc: Global, session: SessionId, place: usize) -> Result<(), AllocError>
         ensures filters { self.new.0 ≡ self.old.0 }
         ensures ok { OnOk result
-            (self.new.1 ≡ settles (F.refuses self.old.0.1) self.old.1 session (slice_get self.old.1.bag.parcels place)) }
+            (self.new.1
+            ≡ settles (F.refuses self.old.0.1) self.old.1 session (slice_get self.old.1.bag.parcels place)) }
         ensures err { OnErr result
-            (IsStopped (F.refuses self.old.0.1) self.old.1 session (slice_get self.old.1.bag.parcels place) self.new.1) }
+            (IsStopped (F.refuses self.old.0.1) self.old.1 session (slice_get self.old.1.bag.parcels place)
+            self.new.1) }
     {
         let Some(held) = self.bag.parcel(place) else {
             return Ok(());

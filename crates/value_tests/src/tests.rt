@@ -1,6 +1,6 @@
 //! Tests of revisions, trees, JSON values, documents, fronts, logs and boards, each a table of calls with the texts
-//! that they must answer: the worked rows, and that each call succeeds where memory suffices. They stand above the crates
-//! that they test, since a crate with tests is proved twice.
+//! that they must answer: the worked rows, and that each call succeeds where memory suffices. They stand above the
+//! crates that they test, since a crate with tests is proved twice.
 //!
 //! A call is made by its name, so a proof sees each kind of call once. The tables are statics, so it sees none of their
 //! rows.

@@ -47,7 +47,8 @@ pub fn serve(
     answer: &mut Vec<u8>,
 ) -> Result<(), Refusal>
     requires { answer.old.items ≡ [] }
-    ensures { MayTell ListsChanges databases.now (changes_asked ask.now) (told_by result answer.new.items) databases.now }
+    ensures { MayTell ListsChanges databases.now (changes_asked ask.now) (told_by result answer.new.items)
+        databases.now }
 {
     let Some(peer) = databases.find(ask.db) else {
         return Err(Refusal::NoDatabase);

@@ -124,7 +124,8 @@ pub fn serve<H: Threads + Wait + Sync>(
     answer: &mut Vec<u8>,
 ) -> Result<(), Refusal>
     requires { answer.old.items ≡ [] }
-    ensures { MayTell Replicates databases.old (replicate_asked ask.now) (told_by result answer.new.items) databases.new }
+    ensures { MayTell Replicates databases.old (replicate_asked ask.now) (told_by result answer.new.items)
+        databases.new }
 {
     if !databases.has(ask.source) {
         return Err(Refusal::NoDatabase);
