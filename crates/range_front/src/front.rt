@@ -11,7 +11,6 @@ use std::marker::Model;
 ///
 /// Windows are appended in order and finished in any order. The low water says up to where all are done. Above it the
 /// done windows are kept as ranges, of which none touches another or the low water.
-#[derive(Drop)]
 pub struct Front {
     start: u64,
     /// The windows' upper bounds, rising.
@@ -20,6 +19,18 @@ pub struct Front {
     mark: u64,
     /// The done windows above the low water, neighbours as one range, rising.
     ranges: Vec<DoneRange>,
+}
+
+// By hand, so that it is proved once: docs/DECISIONS.md, "Letting values go".
+impl Drop for Front {
+    fn drop(self) {
+        let Front {
+            start: _,
+            ends: _,
+            mark: _,
+            ranges: _,
+        } = self;
+    }
 }
 
 impl Model for Front {

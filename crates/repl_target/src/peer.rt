@@ -21,13 +21,25 @@ use std::marker::Model;
 /// logs of those that were replicated from it.
 ///
 /// Its law (docs/PROFILE.md, "The peer's law") holds after every call, whatever the calls and their order.
-#[derive(Drop)]
 pub struct Peer<F: WriteFilter> {
     filter: F,
     pub(crate) db: Database,
     pub(crate) locals: Vec<Written>,
     pub(crate) sessions: Sessions,
     pub(crate) outgoing: IndexMap<RepId, Log>,
+}
+
+// By hand, so that it is proved once: docs/DECISIONS.md, "Letting values go".
+impl<F: WriteFilter + Drop> Drop for Peer<F> {
+    fn drop(self) {
+        let Peer {
+            filter: _,
+            db: _,
+            locals: _,
+            sessions: _,
+            outgoing: _,
+        } = self;
+    }
 }
 
 impl<F: WriteFilter> Model for Peer<F> {
