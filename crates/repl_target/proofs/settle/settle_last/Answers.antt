@@ -22,3 +22,6 @@ returns-in-Some-clause-indexed g c = λ base h.
     let decided = subst (λ (o : Option Reason). MatchOption o (Accepts doc c.args.origin c.args.db.now c.decide.new.db c.args.ledgered.now c.decide.new.ledgered) (λ _. Rejects doc c.args.db.now c.decide.new.db c.args.ledgered.now c.decide.new.ledgered)) c.in-Some.is c.in_ok-reason.ensures.decided in
     subst (λ (l : List RefusedValue). IndexesMore base l c.decide.new.ledgered) (sym grown)
     (indexes_from c.args.origin doc c.args.db.now c.decide.new.db c.args.ledgered.now c.decide.new.ledgered base (Some reason) s (entered doc (Some reason) s) decided refl h)
+
+pub returns-in-Some-clause-read : goal.returns-in-Some-clause-read
+returns-in-Some-clause-read g c = search rules

@@ -17,3 +17,6 @@ settle-requires g c =
     let s : GotOne (view c.args.self.now.parcels) (c.in-Ok-Full.number, length c.in-Ok-Full.fetched.docs) (view c.recv_as.new.pass) =
     got_one _ _ (c.in-Ok-Full.number, length c.in-Ok-Full.fetched.docs) k.0 (rw c.in-Ok-Full.field-0-is at c.in-Ok-Full.ensures.rule) in
     record { seat = c.requires.board_seat; knows = ((s.0, k.1, λ _. (omega (arith, s.1, (k.2 none).0), omega (arith, s.2, (k.2 none).1))), none) }
+
+pub returns-else-is_none-clause-knows : goal.returns-else-is_none-clause-knows
+returns-else-is_none-clause-knows g c = search rules

@@ -1,4 +1,4 @@
-use Rattle.std.proofs.Common.{◌≤◌, sym, ◌∙◌, subst}
+use Rattle.std.proofs.Common.{◌≤◌, sym, ◌∙◌, subst, rules}
 use Rattle.range_front.specs.Front.{FrontValue}
 use Rattle.repl_target.proofs.SessionLaws.{bounds_grown}
 use Rattle.repl_target.proofs.session.Session.append.Goals as goal
@@ -13,3 +13,6 @@ invariant_of-self-2 c =
       start = subst (λ (g : FrontValue). g.start ≤ c.self.inside.recorded) (sym c.in-Ok-append.ensures.ok) c.self.invariant.start;
       read = c.self.invariant.read;
     }
+
+pub returns-then-hi-self-clause-answer : goal.returns-then-hi-self-clause-answer
+returns-then-hi-self-clause-answer c = search rules

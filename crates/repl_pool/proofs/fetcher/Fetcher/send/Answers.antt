@@ -1,0 +1,5 @@
+use Rattle.std.proofs.Common.{rules}
+use Rattle.repl_pool.proofs.fetcher.Fetcher.send.Goals as goal
+
+pub hand_over-requires-clause-counted : goal.hand_over-requires-clause-counted
+hand_over-requires-clause-counted g c = search rules
