@@ -14,6 +14,7 @@ use crate::messages::{Fetched, Paged};
 use crate::parcels::{Carried, ParcelPass, ParcelSender, Sends};
 use crate::picks::{Given, Origin};
 use crate::windows::{Takes, Ticket, WindowPass, WindowReceiver};
+use couch_base::Asked;
 use repl_target::{Peer, WriteFilter};
 use std::alloc::Global;
 use std::sync::ledger::Ledger;
@@ -58,12 +59,25 @@ fn bring<F: WriteFilter, S: Origin, J: Given<F>, L: Ledger, G: Gate, R: Wait>(
     ensures { IfErr result (Allows (G.may_stop gate.now)) }
 {
     pass(rt, gate, Place::Took(number))?;
-    let Ok(asked) = desk.lock(rt).diff(alloc, page) else {
-        return Err(Halt::Memory);
-    };
+    let asked = ask(rt, alloc, desk, page)?;
     pass(rt, gate, Place::Asked(number))?;
     match Fetched::<S>::fetch(alloc, source, &asked) {
         Ok(fetched) => Ok(fetched),
+        Err(_) => Err(Halt::Memory),
+    }
+}
+
+/// Asks what the target misses of a page, and lets the lock go.
+fn ask<F: WriteFilter, S: Origin, J: Given<F>, L: Ledger, R: Wait>(
+    rt: &R,
+    alloc: Global,
+    desk: &Mutex<Desk<F, S, J, L>>,
+    page: &Paged<S>,
+) -> Result<Asked, Halt>
+    ensures { IfErr result (λ halt. halt ≡ Halt.Memory) }
+{
+    match desk.lock(rt).diff(alloc, page) {
+        Ok(asked) => Ok(asked),
         Err(_) => Err(Halt::Memory),
     }
 }

@@ -2,6 +2,7 @@
 ghost use Rattle.std.specs.Prelude.{◌≡◌, ℕ, ◌+◌, ◌<◌, [], true, IfOk, IfErr, IfSome, OnOk, OnErr, MatchBool};
 ghost use Rattle.crossbeam_channel.specs.Claims.{view, IsSeatAt};
 ghost use Rattle.crossbeam_channel.specs.Ends.{sends_on};
+ghost use Rattle.repl_target.specs.declared.fault.TargetFault.{TargetFault};
 ghost use Rattle.repl_target.specs.Replication.{is_batch};
 ghost use Rattle.repl_pool.specs.Windows.{seen};
 ghost use Rattle.repl_pool.specs.Faults.{Allows};
@@ -37,6 +38,20 @@ fn send_window<S: Origin, R: Wait>(
         .is_ok()
 }
 
+/// Stores a page at the target, and lets the lock go.
+fn store<F: WriteFilter, S: Origin, J: Given<F>, L: Ledger, R: Wait>(
+    rt: &R,
+    desk: &Mutex<Desk<F, S, J, L>>,
+    page: Paged<S>,
+) -> Result<(), Halt>
+    ensures { IfErr result (λ halt. (fault : TargetFault) × (halt ≡ Halt.Refused fault)) }
+{
+    match desk.lock(rt).append(page) {
+        Ok(()) => Ok(()),
+        Err(fault) => Err(Halt::Refused(fault)),
+    }
+}
+
 /// Reads the window above a sequence, stores it at the target and sends it. The answer is where it ends.
 fn read_window<F: WriteFilter, S: Origin, J: Given<F>, L: Ledger, R: Wait>(
     rt: &R,
@@ -68,9 +83,7 @@ fn read_window<F: WriteFilter, S: Origin, J: Given<F>, L: Ledger, R: Wait>(
         return Err(Halt::Memory);
     };
     let hi = page.window().hi();
-    if let Err(fault) = desk.lock(rt).append(stored) {
-        return Err(Halt::Refused(fault));
-    }
+    store(rt, desk, stored)?;
     if send_window(rt, lines, windows, number, page) {
         Ok(hi)
     } else {

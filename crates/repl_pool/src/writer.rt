@@ -84,8 +84,20 @@ fn write<F: WriteFilter, S: Origin, J: Given<F>, L: Ledger, G: Gate, R: Wait>(
     show_read(board, seat, fetched.documents())?;
     settle(rt, desk, board, share, seat, fetched)?;
     pass(rt, gate, Place::Settled(number))?;
+    let recorded = record(rt, desk, at)?;
+    pass(rt, gate, Place::Recorded(number, recorded))
+}
+
+/// Records, and lets the lock go: what the session has recorded.
+fn record<F: WriteFilter, S: Origin, J: Given<F>, L: Ledger, R: Wait>(
+    rt: &R,
+    desk: &Mutex<Desk<F, S, J, L>>,
+    at: Moment,
+) -> Result<u64, Halt>
+    ensures { IfErr result (λ halt. (fault : TargetFault) × (halt ≡ Halt.Refused fault)) }
+{
     match desk.lock(rt).record(at) {
-        Ok(recorded) => pass(rt, gate, Place::Recorded(number, recorded)),
+        Ok(recorded) => Ok(recorded),
         Err(fault) => Err(Halt::Refused(fault)),
     }
 }
