@@ -129,6 +129,40 @@ impl Gate for HoldsSettled {
     }
 }
 
+/// Holds the writer that is the first to have recorded until another has recorded too.
+#[derive(Drop)]
+struct HoldsRecorded {
+    first: AtomicBool,
+    second: AtomicBool,
+    ran_out: AtomicBool,
+}
+
+impl HoldsRecorded {
+    /// Nothing was recorded yet.
+    fn new() -> HoldsRecorded {
+        HoldsRecorded {
+            first: AtomicBool::new(false),
+            second: AtomicBool::new(false),
+            ran_out: AtomicBool::new(false),
+        }
+    }
+}
+
+impl Gate for HoldsRecorded {
+    ghost may_stop = { λ _ _. ⊥ };
+
+    fn at<R: Wait>(&self, _rt: &R, place: Place) -> Turn {
+        if let Place::Recorded(_, _) = place {
+            if self.first.swap(true, Ordering::SeqCst) {
+                self.second.store(true, Ordering::SeqCst);
+            } else {
+                hold(&self.second, &self.ran_out);
+            }
+        }
+        Turn::Go
+    }
+}
+
 /// Stops once, at a kind of place of a window: took, asked, fetched, settled or recorded, by their numbers from 0.
 #[derive(Drop)]
 struct StopsOnce {
@@ -188,6 +222,16 @@ fn windows_done_out_of_order(rt: HostRuntime) {
 fn fetching_goes_on_beside_a_held_writer(rt: HostRuntime) {
     let gate = HoldsSettled::new();
     let mut bench = Bench::new(rt.alloc(), 1);
+    bench.run(&rt, FOUR);
+    expect_answer(&rt, 3, bench.replicate(&rt, &gate, A, B, TWO_ROWS), WELL);
+    assert!(rt; !gate.ran_out.load(Ordering::SeqCst), "out of turns");
+}
+
+// With the lock held at the gate, no other writer could settle and record.
+#[test]
+fn settling_goes_on_beside_a_writer_held_at_recorded(rt: HostRuntime) {
+    let gate = HoldsRecorded::new();
+    let mut bench = Bench::new(rt.alloc(), 2);
     bench.run(&rt, FOUR);
     expect_answer(&rt, 3, bench.replicate(&rt, &gate, A, B, TWO_ROWS), WELL);
     assert!(rt; !gate.ran_out.load(Ordering::SeqCst), "out of turns");
