@@ -1,5 +1,5 @@
 //! Members of JSON objects, with and without a leading `_`.
-ghost use Rattle.std.specs.Prelude.{◌≡◌, codes, option_map};
+ghost use Rattle.std.specs.Prelude.{◌≡◌, ◌||◌, codes, option_map};
 ghost use Rattle.std.specs.Option.{option_or};
 ghost use Rattle.serde_json.specs.Data.{no_members, member as one_member};
 ghost use Rattle.serde_json.specs.Find.{get_member};
@@ -98,30 +98,54 @@ pub(crate) fn find_members(members: &Map<String, Value>) -> FoundMembers<'_>
     ensures fraction { result.has_fraction
         ≡ members_have_float (plain_members (members_view members.now.entries)) }
 {
-    let (mut id, mut attachments, mut deleted) = (None, None, None);
-    let (mut rev, mut revisions) = (None, None);
-    let (mut has_unknown, mut is_inexact) = (false, false);
+    let mut found = FoundMembers {
+        id: None,
+        attachments: None,
+        deleted: None,
+        rev: None,
+        revisions: None,
+        has_unknown: false,
+        has_fraction: false,
+    };
     for (name, member) in members.iter() {
         let name = name.as_str();
         if is_special(name) {
-            id = kept(id, name, "_id", member);
-            attachments = kept(attachments, name, "_attachments", member);
-            deleted = kept(deleted, name, "_deleted", member);
-            rev = kept(rev, name, "_rev", member);
-            revisions = kept(revisions, name, "_revisions", member);
-            has_unknown = has_unknown || is_unknown(name);
+            found = with_special(found, name, member);
         } else {
-            is_inexact = is_inexact || has_fraction(member);
+            found.has_fraction = found.has_fraction || has_fraction(member);
         }
     }
+    found
+}
+
+/// What is found with one more member with a leading `_`.
+fn with_special<'a>(found: FoundMembers<'a>, name: &str, member: &'a Value) -> FoundMembers<'a>
+    ensures id { option_map (λ v. view v.now) result.id
+        ≡ option_or (option_map (λ v. view v.now) found.entry.id)
+        (get_member (codes "_id") (one_member name.now (view member.now) no_members)) }
+    ensures attachments { option_map (λ v. view v.now) result.attachments
+        ≡ option_or (option_map (λ v. view v.now) found.entry.attachments)
+        (get_member (codes "_attachments") (one_member name.now (view member.now) no_members)) }
+    ensures deleted { option_map (λ v. view v.now) result.deleted
+        ≡ option_or (option_map (λ v. view v.now) found.entry.deleted)
+        (get_member (codes "_deleted") (one_member name.now (view member.now) no_members)) }
+    ensures rev { option_map (λ v. view v.now) result.rev
+        ≡ option_or (option_map (λ v. view v.now) found.entry.rev)
+        (get_member (codes "_rev") (one_member name.now (view member.now) no_members)) }
+    ensures revisions { option_map (λ v. view v.now) result.revisions
+        ≡ option_or (option_map (λ v. view v.now) found.entry.revisions)
+        (get_member (codes "_revisions") (one_member name.now (view member.now) no_members)) }
+    ensures unknown { result.has_unknown ≡ (found.entry.has_unknown || is_unknown name.now) }
+    ensures fraction { result.has_fraction ≡ found.entry.has_fraction }
+{
     FoundMembers {
-        id,
-        attachments,
-        deleted,
-        rev,
-        revisions,
-        has_unknown,
-        has_fraction: is_inexact,
+        id: kept(found.id, name, "_id", member),
+        attachments: kept(found.attachments, name, "_attachments", member),
+        deleted: kept(found.deleted, name, "_deleted", member),
+        rev: kept(found.rev, name, "_rev", member),
+        revisions: kept(found.revisions, name, "_revisions", member),
+        has_unknown: found.has_unknown || is_unknown(name),
+        has_fraction: found.has_fraction,
     }
 }
 

@@ -72,7 +72,10 @@ fn read_id(member: Option<&Value>) -> Result<&str, DocFault>
     ensures read { IfOk result (λ text. doc_id_read text.now ≡ Ok text.now) }
     ensures err { IfErr result (λ e. id_of (option_map (λ v. view v.now) member.entry) ≡ Err e) }
 {
-    let Some(text) = member.and_then(Value::as_str) else {
+    let Some(value) = member else {
+        return Err(DocFault::NoId);
+    };
+    let Some(text) = value.as_str() else {
         return Err(DocFault::NoId);
     };
     match check_id(text) {

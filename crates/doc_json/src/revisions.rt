@@ -163,7 +163,7 @@ fn check_numbered(start: u64, ids: &Vec<Value>, rev: Option<Rev>) -> Result<(), 
 fn start_of(value: &Value) -> Option<u64>
     ensures { result ≡ start_of (view value.now) }
 {
-    value.get("start").and_then(Value::as_u64)
+    value.get("start")?.as_u64()
 }
 
 /// The list of a member `ids`.
@@ -171,7 +171,7 @@ fn ids_of(value: &Value) -> Option<&Vec<Value>>
     ensures { option_map (λ v. items_view v.now.items) result
         ≡ option_and_then as_array (get (codes "ids") (view value.now)) }
 {
-    value.get("ids").and_then(Value::as_array)
+    value.get("ids")?.as_array()
 }
 
 /// Whether a start is a generation, and a list is one of signatures, at least one and at most as many as the

@@ -1,4 +1,4 @@
-use Rattle.std.proofs.Common.{◌≡◌, ◌||◌, true, codes, sym, ap, ◌∙◌}
+use Rattle.std.proofs.Common.{◌≡◌, ◌||◌, Bool, true, false, codes, refl, sym, ap, ◌∙◌}
 use Rattle.std.proofs.lemmas.Bool.{cond-true}
 use Rattle.serde_json.specs.Data.{member}
 use Rattle.serde_json.specs.View.{view, members_view}
@@ -17,31 +17,23 @@ seen c = ap members_view c.in-Some.ensures.steps ∙ ap (λ n. member n (view c.
 passed : (c : After-is_special) → is_special c.as_str-name.result.now ≡ true → plain_members (members_view c.next.new.self) ≡ plain_members (members_view c.loop-name.name-iterator)
 passed c special = sym (ap plain_members (seen c) ∙ cond-true _ _ _ special)
 
-pub loop-name-preserved-then-has_unknown : goal.loop-name-preserved-then-has_unknown
-loop-name-preserved-then-has_unknown c =
-    let l = c.loop-name in
-    let s = seen (goal.at.loop-name-preserved-then-has_unknown c).After-is_special in
-    record {
-      id = more (codes "_id") _ _ _ _ _ _ _ s c.kept-id.ensures l.invariant.id;
-      attachments = more (codes "_attachments") _ _ _ _ _ _ _ s c.kept-attachments.ensures l.invariant.attachments;
-      deleted = more (codes "_deleted") _ _ _ _ _ _ _ s c.kept-deleted.ensures l.invariant.deleted;
-      rev = more (codes "_rev") _ _ _ _ _ _ _ s c.kept-rev.ensures l.invariant.rev;
-      revisions = more (codes "_revisions") _ _ _ _ _ _ _ s c.kept-revisions.ensures l.invariant.revisions;
-      unknown = ap (λ b. b || has_unknown (members_view c.next.new.self)) c.if-has_unknown.true ∙ ap (λ b. b || has_unknown (members_view l.name-iterator)) (sym c.if-has_unknown.true) ∙ l.invariant.unknown;
-      fraction = ap (λ ms. l.is_inexact || members_have_float ms) (passed (goal.at.loop-name-preserved-then-has_unknown c).After-is_special (sym c.is_special.ensures ∙ c.if-is_special.true)) ∙ l.invariant.fraction;
-    }
+or_assoc : (a b c : Bool) → ((a || b) || c) ≡ (a || (b || c))
+or_assoc true b c = refl
+or_assoc false b c = refl
 
-pub loop-name-preserved-else-has_unknown : goal.loop-name-preserved-else-has_unknown
-loop-name-preserved-else-has_unknown c =
+pub loop-name-preserved-then-is_special : goal.loop-name-preserved-then-is_special
+loop-name-preserved-then-is_special c =
     let l = c.loop-name in
-    let s = seen (goal.at.loop-name-preserved-else-has_unknown c).After-is_special in
+    let e = c.with_special-found.ensures in
+    let rest = members_view c.next.new.self in
+    let s = seen (goal.at.loop-name-preserved-then-is_special c).After-is_special in
     record {
-      id = more (codes "_id") _ _ _ _ _ _ _ s c.kept-id.ensures l.invariant.id;
-      attachments = more (codes "_attachments") _ _ _ _ _ _ _ s c.kept-attachments.ensures l.invariant.attachments;
-      deleted = more (codes "_deleted") _ _ _ _ _ _ _ s c.kept-deleted.ensures l.invariant.deleted;
-      rev = more (codes "_rev") _ _ _ _ _ _ _ s c.kept-rev.ensures l.invariant.rev;
-      revisions = more (codes "_revisions") _ _ _ _ _ _ _ s c.kept-revisions.ensures l.invariant.revisions;
-      unknown = ap (λ b. b || has_unknown (members_view c.next.new.self)) c.is_unknown-has_unknown.ensures ∙ ap has_unknown (sym s)
-          ∙ ap (λ b. b || has_unknown (members_view l.name-iterator)) (sym c.if-has_unknown.false) ∙ l.invariant.unknown;
-      fraction = ap (λ ms. l.is_inexact || members_have_float ms) (passed (goal.at.loop-name-preserved-else-has_unknown c).After-is_special (sym c.is_special.ensures ∙ c.if-is_special.true)) ∙ l.invariant.fraction;
+      id = more (codes "_id") _ _ _ _ _ _ _ s e.id l.invariant.id;
+      attachments = more (codes "_attachments") _ _ _ _ _ _ _ s e.attachments l.invariant.attachments;
+      deleted = more (codes "_deleted") _ _ _ _ _ _ _ s e.deleted l.invariant.deleted;
+      rev = more (codes "_rev") _ _ _ _ _ _ _ s e.rev l.invariant.rev;
+      revisions = more (codes "_revisions") _ _ _ _ _ _ _ s e.revisions l.invariant.revisions;
+      unknown = ap (λ b. b || has_unknown rest) e.unknown ∙ or_assoc l.found.has_unknown _ (has_unknown rest) ∙ ap (λ ms. l.found.has_unknown || has_unknown ms) (sym s) ∙ l.invariant.unknown;
+      fraction = ap (λ b. b || members_have_float (plain_members rest)) e.fraction
+          ∙ ap (λ ms. l.found.has_fraction || members_have_float ms) (passed (goal.at.loop-name-preserved-then-is_special c).After-is_special (sym c.is_special.ensures ∙ c.if-is_special.true)) ∙ l.invariant.fraction;
     }

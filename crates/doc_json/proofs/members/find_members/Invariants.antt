@@ -12,11 +12,11 @@ invariant-loop-name l =
     let all = members_view l.members.entries in
     let left = members_view l.name-iterator in
     record {
-      id : option_or (option_map (λ v. view v.now) l.id) (get_member (codes "_id") left) ≡ get_member (codes "_id") all;
-      attachments : option_or (option_map (λ v. view v.now) l.attachments) (get_member (codes "_attachments") left) ≡ get_member (codes "_attachments") all;
-      deleted : option_or (option_map (λ v. view v.now) l.deleted) (get_member (codes "_deleted") left) ≡ get_member (codes "_deleted") all;
-      rev : option_or (option_map (λ v. view v.now) l.rev) (get_member (codes "_rev") left) ≡ get_member (codes "_rev") all;
-      revisions : option_or (option_map (λ v. view v.now) l.revisions) (get_member (codes "_revisions") left) ≡ get_member (codes "_revisions") all;
-      unknown : (l.has_unknown || has_unknown left) ≡ has_unknown all;
-      fraction : (l.is_inexact || members_have_float (plain_members left)) ≡ members_have_float (plain_members all);
+      id : option_or (option_map (λ v. view v.now) l.found.id) (get_member (codes "_id") left) ≡ get_member (codes "_id") all;
+      attachments : option_or (option_map (λ v. view v.now) l.found.attachments) (get_member (codes "_attachments") left) ≡ get_member (codes "_attachments") all;
+      deleted : option_or (option_map (λ v. view v.now) l.found.deleted) (get_member (codes "_deleted") left) ≡ get_member (codes "_deleted") all;
+      rev : option_or (option_map (λ v. view v.now) l.found.rev) (get_member (codes "_rev") left) ≡ get_member (codes "_rev") all;
+      revisions : option_or (option_map (λ v. view v.now) l.found.revisions) (get_member (codes "_revisions") left) ≡ get_member (codes "_revisions") all;
+      unknown : (l.found.has_unknown || has_unknown left) ≡ has_unknown all;
+      fraction : (l.found.has_fraction || members_have_float (plain_members left)) ≡ members_have_float (plain_members all);
     }
