@@ -10,3 +10,4 @@ mod Putting
 mod Deleted
 pub mod Editing
 mod Exchanging
+mod Copied
