@@ -12,15 +12,17 @@ fn board_read(rt: HostRuntime) {
     else {
         rt.panic(format_args!("no seats"))
     };
-    assert_eq!(rt; board.add_read(&mut first, 3), Ok(()));
-    assert_eq!(rt; board.add_settled(&mut first, 2), Ok(()));
-    assert_eq!(rt; board.read(&mut first), (2, 3));
-    assert_eq!(rt; board.read(&mut viewer), (2, 3));
-    assert_eq!(rt;
+    let added = [
+        board.add_read(&mut first, 3),
         board.add_settled(&mut first, 2),
-        Err(BoardFault::AheadOfRead)
-    );
-    assert_eq!(rt; board.add_read(&mut viewer, 1), Err(BoardFault::NotWorker));
+    ];
+    let seen = [board.read(&mut first), board.read(&mut viewer)];
+    let refused = [
+        board.add_settled(&mut first, 2),
+        board.add_read(&mut viewer, 1),
+    ];
+    assert!(rt; added == [Ok(()), Ok(())] && seen == [(2, 3), (2, 3)]);
+    assert!(rt; refused == [Err(BoardFault::AheadOfRead), Err(BoardFault::NotWorker)]);
 }
 
 #[test]
@@ -31,13 +33,19 @@ fn full_board(rt: HostRuntime) {
     let (Some(mut viewer), Some(mut worker)) = (seats.pop(), seats.pop()) else {
         rt.panic(format_args!("no seats"))
     };
-    assert_eq!(rt; board.add_read(&mut worker, 9_007_199_254_740_991), Ok(()));
-    assert_eq!(rt; board.add_read(&mut worker, 1), Err(BoardFault::BoardFull));
-    assert_eq!(rt;
+    let answers = [
+        board.add_read(&mut worker, 9_007_199_254_740_991),
+        board.add_read(&mut worker, 1),
         board.add_settled(&mut viewer, 0),
-        Err(BoardFault::NotWorker)
-    );
-    assert_eq!(rt; board.read(&mut viewer), (0, 9_007_199_254_740_991));
+    ];
+    let seen = board.read(&mut viewer);
+    let wanted = [
+        Ok(()),
+        Err(BoardFault::BoardFull),
+        Err(BoardFault::NotWorker),
+    ];
+    assert!(rt; answers == wanted);
+    assert_eq!(rt; seen, (0, 9_007_199_254_740_991));
 }
 
 /// Workers and viewers, and how many seats the board then has.

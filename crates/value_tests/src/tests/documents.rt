@@ -1,6 +1,7 @@
 //! The worked rows of documents as calls with the texts of their answers, and each call once with ample memory.
 use crate::tests::texts::{ancestry, expect_answer};
 use doc_json::{Body, Doc, DocFault, DocId, read_body, read_doc, write_doc};
+use rev_core::Ancestry;
 use serde_json::Value;
 use std::alloc::Global;
 use std::collections::HashSet;
@@ -74,15 +75,9 @@ fn run(rt: &impl Abort, alloc: Global, calls: &[(Call, &str)]) {
 fn answer(alloc: Global, call: &Call) -> Option<String> {
     match *call {
         Call::Read(text) => read_text(alloc, text),
-        Call::ReadWritten(text) => {
-            let written = written(alloc, &doc(alloc, text)?)?;
-            read_text(alloc, written.as_str())
-        }
+        Call::ReadWritten(text) => read_again(alloc, text),
         Call::Body(text) => body_text(alloc, text),
-        Call::CopyBody(text) => {
-            let copy = body(alloc, text)?.copy().ok()?;
-            shared_text(alloc, &copy)
-        }
+        Call::CopyBody(text) => copied_text(alloc, &body(alloc, text)?),
         Call::Write(parts) => written(alloc, &made(alloc, parts)?),
         Call::CopyParts(parts) => copy_text(alloc, &made(alloc, parts)?),
         id => id_answer(alloc, &id),
@@ -93,12 +88,9 @@ fn answer(alloc: Global, call: &Call) -> Option<String> {
 fn id_answer(alloc: Global, call: &Call) -> Option<String> {
     match *call {
         Call::Id(text) => id_text(alloc, text),
-        Call::Compare(first, second) => compared(alloc, &id(alloc, first)?, &id(alloc, second)?),
-        Call::CompareCopy(text) => {
-            let id = id(alloc, text)?;
-            compared(alloc, &id, &id.copy(alloc).ok()?)
-        }
-        Call::Contains(first, second) => contains(alloc, &id(alloc, first)?, &id(alloc, second)?),
+        Call::Compare(first, second) => compared_with(alloc, &id(alloc, first)?, second),
+        Call::CompareCopy(text) => compared_copy(alloc, &id(alloc, text)?),
+        Call::Contains(first, second) => contains(alloc, first, &id(alloc, second)?),
         _ => None,
     }
 }
@@ -116,6 +108,18 @@ fn id_text(alloc: Global, text: &str) -> Option<String> {
     }
 }
 
+/// Compares an id with that of a text.
+fn compared_with(alloc: Global, first: &DocId, second: &str) -> Option<String> {
+    let second = id(alloc, second)?;
+    compared(alloc, first, &second)
+}
+
+/// Compares an id with a copy of it.
+fn compared_copy(alloc: Global, id: &DocId) -> Option<String> {
+    let copy = id.copy(alloc).ok()?;
+    compared(alloc, id, &copy)
+}
+
 /// Whether the first id is less, and whether the two are equal.
 fn compared(alloc: Global, first: &DocId, second: &DocId) -> Option<String> {
     let (less, equal) = (first < second, first == second);
@@ -123,10 +127,17 @@ fn compared(alloc: Global, first: &DocId, second: &DocId) -> Option<String> {
 }
 
 /// Whether a set of a copy of the first id has the second.
-fn contains(alloc: Global, first: &DocId, second: &DocId) -> Option<String> {
-    let mut ids = HashSet::new(alloc);
-    ids.insert(first.copy(alloc).ok()?).ok()?;
+fn contains(alloc: Global, first: &str, second: &DocId) -> Option<String> {
+    let ids = set_of(alloc, &id(alloc, first)?)?;
     shown(alloc, &ids.contains(second))
+}
+
+/// A set of a copy of an id.
+fn set_of(alloc: Global, id: &DocId) -> Option<HashSet<DocId>> {
+    let copy = id.copy(alloc).ok()?;
+    let mut ids = HashSet::new(alloc);
+    ids.insert(copy).ok()?;
+    Some(ids)
 }
 
 /// The document of a text that is one.
@@ -158,6 +169,12 @@ fn read_text(alloc: Global, text: &str) -> Option<String> {
     }
 }
 
+/// What reading what is written of a document answers.
+fn read_again(alloc: Global, text: &str) -> Option<String> {
+    let text = written(alloc, &doc(alloc, text)?)?;
+    read_text(alloc, text.as_str())
+}
+
 /// What reading a text as a body answers.
 fn body_text(alloc: Global, text: &str) -> Option<String> {
     let value = Value::from_str(alloc, text).ok()?;
@@ -165,6 +182,12 @@ fn body_text(alloc: Global, text: &str) -> Option<String> {
         Ok(body) => shared_text(alloc, &body),
         Err(fault) => shown(alloc, &fault),
     }
+}
+
+/// The text that a copy of a body shares.
+fn copied_text(alloc: Global, body: &Body) -> Option<String> {
+    let copy = body.copy().ok()?;
+    shared_text(alloc, &copy)
 }
 
 /// The text that a body shares.
@@ -184,23 +207,27 @@ fn written(alloc: Global, doc: &Doc) -> Option<String> {
 
 /// A document: its id, its ancestry, whether it is deleted, and its body.
 fn doc_text(alloc: Global, doc: &Doc) -> Option<String> {
-    let revs = revs_text(alloc, doc.ancestry().revs())?;
-    let id = doc.id().text();
-    parts_text(alloc, id, revs.as_str(), doc.deleted(), doc.body().text())
+    parts_text(alloc, doc.id(), doc.ancestry(), doc.deleted(), doc.body())
 }
 
 /// The same of the parts of a copy.
 fn copy_text(alloc: Global, doc: &Doc) -> Option<String> {
     let (id, ancestry, deleted, body) = doc.copy(alloc).ok()?.into_parts();
-    let revs = revs_text(alloc, ancestry.revs())?;
-    parts_text(alloc, id.text(), revs.as_str(), deleted, body.text())
+    parts_text(alloc, &id, &ancestry, deleted, &body)
 }
 
 /// An id, revisions, whether a document is deleted, and a body.
-fn parts_text(alloc: Global, id: &str, revs: &str, deleted: bool, body: &[u8]) -> Option<String> {
-    let body = std::str::from_utf8(body).ok()?;
+fn parts_text(
+    alloc: Global,
+    id: &DocId,
+    ancestry: &Ancestry,
+    deleted: bool,
+    body: &Body,
+) -> Option<String> {
+    let body = std::str::from_utf8(body.text()).ok()?;
     let kind = if deleted { "deleted" } else { "live" };
-    format!(in alloc; "{id} {revs} {kind} {body}").ok()
+    let revs = revs_text(alloc, ancestry.revs())?;
+    format!(in alloc; "{} {revs} {kind} {body}", id.text()).ok()
 }
 
 const LIVE_TEXT: &str =

@@ -57,32 +57,24 @@ impl Bench {
 
     /// Makes a call, and gives the text of its answer.
     fn answer(&mut self, call: &Call) -> Option<String> {
-        let alloc = self.alloc;
         match *call {
-            Call::Make => self.keep(Log::new(alloc)),
-            Call::Copy(at) => {
-                let copy = self.logs.get(at)?.copy(alloc).ok()?;
-                self.keep(copy)
-            }
-            Call::Put(at, session, recorded) => {
-                let put = entry(session, recorded)?;
-                shown(alloc, &self.logs.get_mut(at)?.put(put))
-            }
-            Call::PutOne(at, moment) => {
-                let put = one_document(moment)?;
-                shown(alloc, &self.logs.get_mut(at)?.put(put))
-            }
-            Call::Has(at, sessions) => has(alloc, self.logs.get(at)?, sessions),
-            Call::Common(source, target) => {
-                let found = common(self.logs.get(source)?, self.logs.get(target)?);
-                shown(alloc, &found)
-            }
-            Call::Name(id) => {
-                let copy = id.copy(alloc).ok()?;
-                String::from_utf8(rep_id(alloc, &copy).ok()?).ok()
-            }
-            Call::Write(id, at) => written(alloc, id, self.logs.get(at)?),
-            Call::Moment(seconds) => moment_text(alloc, seconds),
+            Call::Make => self.keep(Log::new(self.alloc)),
+            Call::Copy(at) => self.keep_copy(at),
+            Call::Put(at, session, recorded) => self.put(at, entry(session, recorded)?),
+            Call::PutOne(at, moment) => self.put(at, one_document(moment)?),
+            reading => self.reading(&reading),
+        }
+    }
+
+    /// Makes a call that changes nothing.
+    fn reading(&self, call: &Call) -> Option<String> {
+        match *call {
+            Call::Has(at, sessions) => has(self.alloc, self.logs.get(at)?, sessions),
+            Call::Common(source, target) => self.common(source, target),
+            Call::Name(id) => named(self.alloc, id),
+            Call::Write(id, at) => written(self.alloc, id, self.logs.get(at)?),
+            Call::Moment(seconds) => moment_text(self.alloc, seconds),
+            _ => None,
         }
     }
 
@@ -90,6 +82,24 @@ impl Bench {
     fn keep(&mut self, log: Log) -> Option<String> {
         self.logs.push(log).ok()?;
         "made".to_string(self.alloc).ok()
+    }
+
+    /// Keeps a copy of a log.
+    fn keep_copy(&mut self, at: usize) -> Option<String> {
+        let copy = self.logs.get(at)?.copy(self.alloc).ok()?;
+        self.keep(copy)
+    }
+
+    /// Puts an entry into a log.
+    fn put(&mut self, at: usize, entry: Entry) -> Option<String> {
+        let answer = self.logs.get_mut(at)?.put(entry);
+        shown(self.alloc, &answer)
+    }
+
+    /// Compares two logs.
+    fn common(&self, source: usize, target: usize) -> Option<String> {
+        let found = common(self.logs.get(source)?, self.logs.get(target)?);
+        shown(self.alloc, &found)
     }
 }
 
@@ -124,6 +134,13 @@ fn has(alloc: Global, log: &Log, sessions: &[(u128, u64)]) -> Option<String> {
         same = same && log.get(i) == Some(wanted);
     }
     shown(alloc, &same)
+}
+
+/// The name of a copy of a replication id.
+fn named(alloc: Global, id: &RepId) -> Option<String> {
+    let copy = id.copy(alloc).ok()?;
+    let name = rep_id(alloc, &copy).ok()?;
+    String::from_utf8(name).ok()
 }
 
 /// What writing a log answers.

@@ -61,13 +61,25 @@ fn answer(alloc: Global, call: &Call) -> Option<String> {
         Call::Write(text) => rev_text(alloc, rev(text)?),
         Call::Compare(first, second) => compared(alloc, rev(first)?, rev(second)?),
         Call::Ancestry(start, texts) => made(alloc, start, texts),
-        Call::Copy(parts) => copy_text(alloc, &copied(alloc, parts)?),
-        Call::Contains(parts, text) => { shown(alloc, &copied(alloc, parts)?.contains(rev(text)?)) }
-        Call::Parent(parts, text) => parent_text(alloc, &copied(alloc, parts)?, rev(text)?),
-        Call::Digest(text) => hex::encode(alloc, Md5::digest(text.as_bytes()).as_slice()).ok(),
-        Call::Decode(text) => String::from_utf8(hex::decode(alloc, text).ok()?).ok(),
+        Call::Copy(parts) => copy_text(alloc, parts),
+        Call::Contains(parts, text) => contains_text(alloc, parts, rev(text)?),
+        Call::Parent(parts, text) => parent_text(alloc, parts, rev(text)?),
+        Call::Digest(text) => digest_text(alloc, text),
+        Call::Decode(text) => decoded(alloc, text),
         Call::Edit(parent, deleted, body) => edited(alloc, parent, deleted, body),
     }
+}
+
+/// The hexadecimal digits of the digest of a text.
+fn digest_text(alloc: Global, text: &str) -> Option<String> {
+    let digest = Md5::digest(text.as_bytes());
+    hex::encode(alloc, digest.as_slice()).ok()
+}
+
+/// The text of hexadecimal digits.
+fn decoded(alloc: Global, digits: &str) -> Option<String> {
+    let bytes = hex::decode(alloc, digits).ok()?;
+    String::from_utf8(bytes).ok()
 }
 
 /// What reading a text as a revision answers.
@@ -102,16 +114,29 @@ fn copied(alloc: Global, parts: Parts) -> Option<Ancestry> {
     ancestry(alloc, parts.start, parts.sigs)?.copy(alloc).ok()
 }
 
+/// The head and the revisions of the copy of an ancestry.
+fn copy_text(alloc: Global, parts: Parts) -> Option<String> {
+    let copy = copied(alloc, parts)?;
+    head_text(alloc, &copy)
+}
+
 /// The head and the revisions of an ancestry.
-fn copy_text(alloc: Global, copy: &Ancestry) -> Option<String> {
+fn head_text(alloc: Global, copy: &Ancestry) -> Option<String> {
     let head = rev_text(alloc, copy.head())?;
     let revs = revs_text(alloc, copy.revs())?;
     format!(in alloc; "{head} of {revs}").ok()
 }
 
-/// The parent of a revision in an ancestry.
-fn parent_text(alloc: Global, ancestry: &Ancestry, rev: Rev) -> Option<String> {
-    match ancestry.parent_of(rev) {
+/// Whether the copy of an ancestry contains a revision.
+fn contains_text(alloc: Global, parts: Parts, rev: Rev) -> Option<String> {
+    let copy = copied(alloc, parts)?;
+    shown(alloc, &copy.contains(rev))
+}
+
+/// The parent of a revision in the copy of an ancestry.
+fn parent_text(alloc: Global, parts: Parts, rev: Rev) -> Option<String> {
+    let copy = copied(alloc, parts)?;
+    match copy.parent_of(rev) {
         Some(parent) => rev_text(alloc, parent),
         None => "no parent".to_string(alloc).ok(),
     }

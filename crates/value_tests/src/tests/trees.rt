@@ -1,6 +1,6 @@
 //! The worked rows of trees as calls with the texts of their answers, and each call once with ample memory.
 use crate::tests::texts::{ancestry, expect_answer, revs};
-use rev_core::Rev;
+use rev_core::{Ancestry, Rev};
 use rev_tree::{Content, Merged, Origin, SessionId, Tree, TreeFault};
 use std::alloc::Global;
 use std::process::Abort;
@@ -75,24 +75,44 @@ impl Bench {
 
     /// Makes a call, and gives the text of its answer.
     fn answer(&mut self, call: &Call) -> Option<String> {
-        let alloc = self.alloc;
         match *call {
-            Call::Merge(start, ids, deleted) => {
-                let content = Content::new(deleted, ArcSlice::from_slice(alloc, b"").ok()?);
-                merge(alloc, &mut self.tree, start, ids, content, Origin::Local(0))
-            }
+            Call::Merge(start, ids, deleted) => self.merge_empty(start, ids, deleted),
             Call::MergeCopy(start, ids, deleted, body, origin) => {
-                let content = copied_content(alloc, deleted, body)?;
-                merge(alloc, &mut self.tree, start, ids, content, origin)
+                let given = ancestry(self.alloc, start, ids)?;
+                self.merge_copied(&given, deleted, body, origin)
             }
-            Call::CopyContent(deleted, body) => {
-                let content = copied_content(alloc, deleted, body)?;
-                content_text(alloc, &content)
-            }
+            Call::CopyContent(deleted, body) => copied_text(self.alloc, deleted, body),
             Call::Change(start, ids) => self.change(start, ids),
             Call::Copy => self.copy_tree(),
-            Call::WholeCopy => whole(alloc, self.copy.as_ref()?),
-            reading => read(alloc, &self.tree, &reading),
+            Call::WholeCopy => whole(self.alloc, self.copy.as_ref()?),
+            reading => read(self.alloc, &self.tree, &reading),
+        }
+    }
+
+    /// Merges an ancestry with an empty body.
+    fn merge_empty(&mut self, start: u32, ids: &[&str], deleted: bool) -> Option<String> {
+        let given = ancestry(self.alloc, start, ids)?;
+        let content = empty_content(self.alloc, deleted)?;
+        self.merge(&given, content, Origin::Local(0))
+    }
+
+    /// Merges an ancestry with a copy of a content.
+    fn merge_copied(
+        &mut self,
+        given: &Ancestry,
+        deleted: bool,
+        body: &str,
+        origin: Origin,
+    ) -> Option<String> {
+        let content = copied_content(self.alloc, deleted, body)?;
+        self.merge(given, content, origin)
+    }
+
+    /// Merges an ancestry.
+    fn merge(&mut self, given: &Ancestry, content: Content, origin: Origin) -> Option<String> {
+        match self.tree.merge(given, content, origin) {
+            Ok(merged) => shown(self.alloc, &merged),
+            Err(fault) => fault_text(self.alloc, fault),
         }
     }
 
@@ -102,7 +122,7 @@ impl Bench {
         let Ok(Merged::Changed) = self.tree.merge_answer(&given) else {
             return None;
         };
-        let content = Content::new(false, ArcSlice::from_slice(self.alloc, b"").ok()?);
+        let content = empty_content(self.alloc, false)?;
         self.tree
             .merge_change(&given, content, Origin::Local(0))
             .ok()?;
@@ -128,16 +148,28 @@ fn read(alloc: Global, tree: &Tree, call: &Call) -> Option<String> {
         Call::Origin(text) => shown(alloc, &tree.origin(rev(text)?)),
         Call::Content(text) => content_text(alloc, tree.content(rev(text)?)?),
         Call::Ancestry(text) => walk(alloc, tree, text),
-        Call::LeavesAbove(texts) => {
-            let asked = revs(alloc, texts)?;
-            revs_text(alloc, &tree.leaves_above(alloc, &asked).ok()?)
-        }
-        Call::Missing(texts) => {
-            let asked = revs(alloc, texts)?;
-            revs_text(alloc, &tree.missing(alloc, &asked).ok()?)
-        }
+        Call::LeavesAbove(texts) => leaves_above(alloc, tree, &revs(alloc, texts)?),
+        Call::Missing(texts) => missing(alloc, tree, &revs(alloc, texts)?),
         _ => None,
     }
+}
+
+/// The leaves at or above some revisions.
+fn leaves_above(alloc: Global, tree: &Tree, asked: &[Rev]) -> Option<String> {
+    let found = tree.leaves_above(alloc, asked).ok()?;
+    revs_text(alloc, &found)
+}
+
+/// Which of some revisions are not there.
+fn missing(alloc: Global, tree: &Tree, asked: &[Rev]) -> Option<String> {
+    let found = tree.missing(alloc, asked).ok()?;
+    revs_text(alloc, &found)
+}
+
+/// A content with an empty body.
+fn empty_content(alloc: Global, deleted: bool) -> Option<Content> {
+    let body = ArcSlice::from_slice(alloc, b"").ok()?;
+    Some(Content::new(deleted, body))
 }
 
 /// A copy of a content.
@@ -146,20 +178,10 @@ fn copied_content(alloc: Global, deleted: bool, body: &str) -> Option<Content> {
     Content::new(deleted, body).copy().ok()
 }
 
-/// Merges an ancestry.
-fn merge(
-    alloc: Global,
-    tree: &mut Tree,
-    start: u32,
-    ids: &[&str],
-    content: Content,
-    origin: Origin,
-) -> Option<String> {
-    let given = ancestry(alloc, start, ids)?;
-    match tree.merge(&given, content, origin) {
-        Ok(merged) => shown(alloc, &merged),
-        Err(fault) => fault_text(alloc, fault),
-    }
+/// The text of a copy of a content.
+fn copied_text(alloc: Global, deleted: bool, body: &str) -> Option<String> {
+    let content = copied_content(alloc, deleted, body)?;
+    content_text(alloc, &content)
 }
 
 /// What merging an ancestry would do.
@@ -191,19 +213,29 @@ fn fault_text(alloc: Global, fault: TreeFault) -> Option<String> {
 
 /// The winner, how many leaves and revisions there are, and the leaves in their order, each with its ancestry.
 fn whole(alloc: Global, tree: &Tree) -> Option<String> {
-    let winner = rev_text(alloc, tree.winner()?)?;
-    let (leaves, revs) = (tree.leaf_count(), tree.rev_count());
-    let mut all = format!(in alloc; "winner {winner}, {leaves} of {revs}:").ok()?;
-    for leaf in &tree.leaves(alloc).ok()? {
-        let text = leaf_text(alloc, tree, *leaf)?;
-        all.push_str(text.as_str()).ok()?;
+    let leaves = tree.leaves(alloc).ok()?;
+    let mut all = winner_text(alloc, tree)?;
+    for leaf in &leaves {
+        push_leaf(alloc, tree, *leaf, &mut all)?;
     }
     Some(all)
 }
 
+/// The winner, and how many leaves and revisions there are.
+fn winner_text(alloc: Global, tree: &Tree) -> Option<String> {
+    let winner = rev_text(alloc, tree.winner()?)?;
+    let (leaves, revs) = (tree.leaf_count(), tree.rev_count());
+    format!(in alloc; "winner {winner}, {leaves} of {revs}:").ok()
+}
+
+/// Appends a leaf and its ancestry.
+fn push_leaf(alloc: Global, tree: &Tree, leaf: Rev, all: &mut String) -> Option<()> {
+    let text = leaf_text(alloc, leaf, &tree.ancestry(alloc, leaf).ok()?)?;
+    all.push_str(text.as_str()).ok()
+}
+
 /// A leaf and its ancestry.
-fn leaf_text(alloc: Global, tree: &Tree, leaf: Rev) -> Option<String> {
-    let known = tree.ancestry(alloc, leaf).ok()?;
+fn leaf_text(alloc: Global, leaf: Rev, known: &Ancestry) -> Option<String> {
     let known = revs_text(alloc, known.revs())?;
     let leaf = rev_text(alloc, leaf)?;
     format!(in alloc; " {leaf} by {known};").ok()
