@@ -1,7 +1,7 @@
 //! Databases with what is read and fetched from them, and the calls on these by name.
 use crate::tests::texts::{
-    asked_text, base_fault_text, body, doc, doc_text, expect_answer, node_text, parcel_text,
-    tree_text, window_text,
+    asked_text, base_fault_text, body, doc, doc_text, expect_answer, node_text, numbers_text,
+    parcel_text, tree_text, window_text,
 };
 use couch_base::{Asked, BaseFault, Database, Parcel, Put, Window};
 use doc_json::DocId;
@@ -97,20 +97,14 @@ impl Bench {
                 let db = self.databases.get_mut(at)?;
                 edit(alloc, db, id, parent, deleted, text, number)
             }
-            Call::Numbers(at) => {
-                let db = self.databases.get(at)?;
-                format!(in alloc; "{} at {}", db.uuid(), db.update_seq()).ok()
-            }
+            Call::Numbers(at) => numbers_text(alloc, self.databases.get(at)?),
             Call::Tree(at, id) => tree(alloc, self.databases.get(at)?, id),
             Call::Node(at, id, rev) => node(alloc, self.databases.get(at)?, id, rev),
             Call::Document(at, id, rev) => document(alloc, self.databases.get(at)?, id, rev),
             Call::Page(at, since, goal, limit) => self.page(at, since, goal, limit),
             Call::Diff(at, window) => self.diff(at, window),
             Call::Fetch(at, asked) => self.fetch(at, asked),
-            Call::Parcel(at) => {
-                let parcel = self.parcels.get(at)?;
-                asked_text(alloc, parcel.asked())
-            }
+            Call::Parcel(at) => asked_text(alloc, self.parcels.get(at)?.asked()),
             copy => self.copied(&copy),
         }
     }
@@ -118,10 +112,7 @@ impl Bench {
     /// Makes the next database, at a sequence.
     fn make_at(&mut self, uuid: u128, seq: u64) -> Option<String> {
         match Database::new_at(self.alloc, uuid, seq) {
-            Ok(db) => {
-                self.databases.push(db).ok()?;
-                "made".to_string(self.alloc).ok()
-            }
+            Ok(db) => made_text(self.alloc, self.databases.push(db).ok()),
             Err(fault) => base_fault_text(self.alloc, fault),
         }
     }
@@ -130,16 +121,9 @@ impl Bench {
     fn copied(&mut self, call: &Call) -> Option<String> {
         match *call {
             Call::CopyWindow(at) => self.copy_window(at),
-            Call::CopyRow(at) => {
-                let row = self.windows.get(at)?.rows().first()?;
-                shown(self.alloc, &row.copy(self.alloc).ok()?.seq())
-            }
+            Call::CopyRow(at) => copied_row(self.alloc, self.windows.get(at)?),
             Call::CopyAsked(at) => self.copy_asked(at),
-            Call::CopyWanted(at) => {
-                let wanted = self.asked.get(at)?.docs().first()?;
-                let copy = wanted.copy(self.alloc).ok()?;
-                copy.id().text().to_string(self.alloc).ok()
-            }
+            Call::CopyWanted(at) => copied_wanted(self.alloc, self.asked.get(at)?),
             Call::CopyParcel(at) => self.copy_parcel(at),
             _ => None,
         }
@@ -149,7 +133,7 @@ impl Bench {
     fn page(&mut self, at: usize, since: u64, goal: u64, limit: u64) -> Option<String> {
         let db = self.databases.get(at)?;
         match db.page(self.alloc, since, goal, limit) {
-            Ok(window) => self.keep_window(window),
+            Ok(window) => keep_window(self.alloc, &mut self.windows, window),
             Err(fault) => base_fault_text(self.alloc, fault),
         }
     }
@@ -157,55 +141,78 @@ impl Bench {
     /// Copies a window.
     fn copy_window(&mut self, at: usize) -> Option<String> {
         let copy = self.windows.get(at)?.copy(self.alloc).ok()?;
-        self.keep_window(copy)
-    }
-
-    /// Keeps a window, and gives its text.
-    fn keep_window(&mut self, window: Window) -> Option<String> {
-        let text = window_text(self.alloc, &window);
-        self.windows.push(window).ok()?;
-        text
+        keep_window(self.alloc, &mut self.windows, copy)
     }
 
     /// Asks a database for what it misses of a window.
     fn diff(&mut self, at: usize, window: usize) -> Option<String> {
         let db = self.databases.get(at)?;
         let asked = db.revs_diff(self.alloc, self.windows.get(window)?).ok()?;
-        self.keep_asked(asked)
+        keep_asked(self.alloc, &mut self.asked, asked)
     }
 
     /// Copies an asked list.
     fn copy_asked(&mut self, at: usize) -> Option<String> {
         let copy = self.asked.get(at)?.copy(self.alloc).ok()?;
-        self.keep_asked(copy)
-    }
-
-    /// Keeps an asked list, and gives its text.
-    fn keep_asked(&mut self, asked: Asked) -> Option<String> {
-        let text = asked_text(self.alloc, &asked);
-        self.asked.push(asked).ok()?;
-        text
+        keep_asked(self.alloc, &mut self.asked, copy)
     }
 
     /// Fetches an asked list.
     fn fetch(&mut self, at: usize, asked: usize) -> Option<String> {
         let db = self.databases.get(at)?;
         let parcel = db.open_revs(self.alloc, self.asked.get(asked)?).ok()?;
-        self.keep_parcel(parcel)
+        keep_parcel(self.alloc, &mut self.parcels, parcel)
     }
 
     /// Copies a parcel.
     fn copy_parcel(&mut self, at: usize) -> Option<String> {
         let copy = self.parcels.get(at)?.copy(self.alloc).ok()?;
-        self.keep_parcel(copy)
+        keep_parcel(self.alloc, &mut self.parcels, copy)
     }
+}
 
-    /// Keeps a parcel, and gives its text.
-    fn keep_parcel(&mut self, parcel: Parcel) -> Option<String> {
-        let text = parcel_text(self.alloc, &parcel);
-        self.parcels.push(parcel).ok()?;
-        text
-    }
+/// That something new was made and kept.
+pub(crate) fn made_text(alloc: Global, kept: Option<()>) -> Option<String> {
+    kept?;
+    "made".to_string(alloc).ok()
+}
+
+/// Keeps a window, and gives its text.
+pub(crate) fn keep_window(
+    alloc: Global,
+    windows: &mut Vec<Window>,
+    window: Window,
+) -> Option<String> {
+    windows.push(window).ok()?;
+    window_text(alloc, windows.last()?)
+}
+
+/// Keeps an asked list, and gives its text.
+pub(crate) fn keep_asked(alloc: Global, lists: &mut Vec<Asked>, asked: Asked) -> Option<String> {
+    lists.push(asked).ok()?;
+    asked_text(alloc, lists.last()?)
+}
+
+/// Keeps a parcel, and gives its text.
+pub(crate) fn keep_parcel(
+    alloc: Global,
+    parcels: &mut Vec<Parcel>,
+    parcel: Parcel,
+) -> Option<String> {
+    parcels.push(parcel).ok()?;
+    parcel_text(alloc, parcels.last()?)
+}
+
+/// Copies the first row of a window, and reads its sequence.
+fn copied_row(alloc: Global, window: &Window) -> Option<String> {
+    let copy = window.rows().first()?.copy(alloc).ok()?;
+    shown(alloc, &copy.seq())
+}
+
+/// Copies what is asked of the first document of a list, and reads its id.
+fn copied_wanted(alloc: Global, asked: &Asked) -> Option<String> {
+    let copy = asked.docs().first()?.copy(alloc).ok()?;
+    copy.id().text().to_string(alloc).ok()
 }
 
 /// Makes lists of calls on a bench of their own, with databases of these uuids, and asserts what each answers.

@@ -1,5 +1,5 @@
 //! Rows of large values, each with ample memory: none of these calls gives up.
-use crate::tests::peers::{Call, Rows, expect};
+use crate::tests::peers::{Call, Lists, Rows, expect};
 use rev_tree::SessionId;
 
 /// The peers.
@@ -10,11 +10,11 @@ const TARGET: usize = 1;
 const S1: SessionId = SessionId(1);
 
 /// Two peers without documents.
-static TWO: Rows = &[(Call::Peer(1, None), "made"), (Call::Peer(2, None), "made")];
+const TWO: Rows = &[(Call::Peer(1, None), "made"), (Call::Peer(2, None), "made")];
 
 #[test]
 fn an_ancestry_of_1_001_revisions(rt: HostRuntime) {
-    static ROWS: Rows = &[
+    const ROWS: Rows = &[
         (Call::LoadLong(SOURCE, 1_001), "Changed { seq: 1 }"),
         (
             Call::Replicate(S1, 10_000),
@@ -25,12 +25,13 @@ fn an_ancestry_of_1_001_revisions(rt: HostRuntime) {
             "1001-0 of 1 leaves and 1001 revs, walk 1001, body 2",
         ),
     ];
-    expect(&rt, rt.alloc(), &[TWO, ROWS]);
+    static LISTS: Lists = &[TWO, ROWS];
+    expect(&rt, rt.alloc(), LISTS);
 }
 
 #[test]
 fn a_tree_of_1_001_leaves(rt: HostRuntime) {
-    static ROWS: Rows = &[
+    const ROWS: Rows = &[
         (Call::LoadWide(SOURCE, 1_001), "Changed { seq: 1001 }"),
         (
             Call::Replicate(S1, 10_000),
@@ -42,12 +43,13 @@ fn a_tree_of_1_001_leaves(rt: HostRuntime) {
             "1-999 of 1001 leaves and 1001 revs, walk 1, body 2",
         ),
     ];
-    expect(&rt, rt.alloc(), &[TWO, ROWS]);
+    static LISTS: Lists = &[TWO, ROWS];
+    expect(&rt, rt.alloc(), LISTS);
 }
 
 #[test]
 fn a_body_of_100_kb(rt: HostRuntime) {
-    static ROWS: Rows = &[
+    const ROWS: Rows = &[
         // The signature is MD5 of a line end, the kind, a line end and the body, by another program.
         (
             Call::EditLarge(SOURCE, 100_000),
@@ -62,12 +64,13 @@ fn a_body_of_100_kb(rt: HostRuntime) {
             "1-e92068c18fcfcf8724b9bb33e1f43cca of 1 leaves and 1 revs, walk 1, body 100008",
         ),
     ];
-    expect(&rt, rt.alloc(), &[TWO, ROWS]);
+    static LISTS: Lists = &[TWO, ROWS];
+    expect(&rt, rt.alloc(), LISTS);
 }
 
 #[test]
 fn a_goal_at_the_last_sequence(rt: HostRuntime) {
-    static ROWS: Rows = &[
+    const ROWS: Rows = &[
         (Call::PeerAt(1, None, 9_007_199_254_740_988), "made"),
         (Call::Peer(2, None), "made"),
         (
@@ -89,5 +92,6 @@ fn a_goal_at_the_last_sequence(rt: HostRuntime) {
         (Call::Tree(TARGET, "c"), "1-a of 1"),
         (Call::Audit(SOURCE, TARGET), "clean"),
     ];
-    expect(&rt, rt.alloc(), &[ROWS]);
+    static LISTS: Lists = &[ROWS];
+    expect(&rt, rt.alloc(), LISTS);
 }

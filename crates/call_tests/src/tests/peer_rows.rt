@@ -1,5 +1,5 @@
 //! The rows of peers: local writes, sessions, each refusal, logs and audits. Each call with ample memory.
-use crate::tests::peers::{Beginning, Call, Rows, expect};
+use crate::tests::peers::{Beginning, Call, Lists, Rows, expect};
 use repl_log::RepId;
 use rev_tree::SessionId;
 
@@ -67,7 +67,7 @@ const FROM_ONE: Beginning = Beginning {
 };
 
 /// A source of d at 1-a, an empty target, and another peer.
-static THREE: Rows = &[
+const THREE: Rows = &[
     (Call::Peer(1, None), "made"),
     (Call::Peer(2, None), "made"),
     (Call::Peer(3, None), "made"),
@@ -75,7 +75,7 @@ static THREE: Rows = &[
 ];
 
 /// The first session of the target stores the source's feed and asks for its document.
-static ASKED: Rows = &[
+const ASKED: Rows = &[
     (Call::Begin(TARGET, S1, TO_ONE, 10), "begun"),
     (Call::Page(SOURCE, 0, 1), "0 to 1: 1 d 1-a;"),
     (Call::Append(TARGET, S1, FIRST), "appended"),
@@ -83,7 +83,7 @@ static ASKED: Rows = &[
 ];
 
 /// The source edits d, and the asked revision is answered by its descendant.
-static MOVED: Rows = &[
+const MOVED: Rows = &[
     (Call::Edit(SOURCE, "d", "1-a", false, "{}"), NEXT),
     (Call::Numbers(SOURCE), "1 at 2"),
     (
@@ -93,7 +93,7 @@ static MOVED: Rows = &[
 ];
 
 /// The second session of the target stores the rest of the source's feed.
-static SECOND_SESSION: Rows = &[
+const SECOND_SESSION: Rows = &[
     (Call::Begin(TARGET, S2, FROM_ONE, 12), "begun"),
     (
         Call::Page(SOURCE, 1, 2),
@@ -104,13 +104,13 @@ static SECOND_SESSION: Rows = &[
 
 #[test]
 fn fetch_brings_descendant(rt: HostRuntime) {
-    static ROWS: Rows = &[
+    const ROWS: Rows = &[
         (Call::Settle(TARGET, S1, FIRST), "written 1 failed 0"),
         (Call::Covered(TARGET, "d", "1-a"), "true"),
         (Call::Record(TARGET, S1, 11), "1"),
     ];
     // The next session has nothing to ask for.
-    static THEN: Rows = &[
+    const THEN: Rows = &[
         (Call::Diff(TARGET, SECOND), "1 to 2:"),
         (Call::Fetch(SOURCE, SECOND), "1 to 2:"),
         (Call::Settle(TARGET, S2, SECOND), "written 0 failed 0"),
@@ -119,27 +119,24 @@ fn fetch_brings_descendant(rt: HostRuntime) {
             "session 2 from 1 to 1 checked 1 found 0 read 0 written 0 failed 0, 12 to 12",
         ),
     ];
-    expect(
-        &rt,
-        rt.alloc(),
-        &[THREE, ASKED, MOVED, ROWS, SECOND_SESSION, THEN],
-    );
+    static LISTS: Lists = &[THREE, ASKED, MOVED, ROWS, SECOND_SESSION, THEN];
+    expect(&rt, rt.alloc(), LISTS);
 }
 
 #[test]
 fn a_refused_descendant_covers(rt: HostRuntime) {
-    static ROWS: Rows = &[
+    const ROWS: Rows = &[
         (Call::Peer(1, None), "made"),
         (Call::Peer(2, Some("d")), "made"),
         (Call::Load(SOURCE, D), "Changed { seq: 1 }"),
     ];
-    static THEN: Rows = &[
+    const THEN: Rows = &[
         (Call::Settle(TARGET, S1, FIRST), "written 0 failed 1"),
         (Call::Covered(TARGET, "d", "1-a"), "true"),
         (Call::Record(TARGET, S1, 11), "1"),
     ];
     // The document is not in the tree, so it is asked for and refused once more.
-    static LAST: Rows = &[
+    const LAST: Rows = &[
         (
             Call::Diff(TARGET, SECOND),
             "1 to 2: d 2-1c600d37126a8e6d3c67d6f7a6a5c299;",
@@ -154,11 +151,8 @@ fn a_refused_descendant_covers(rt: HostRuntime) {
             "session 2 from 1 to 1 checked 1 found 1 read 1 written 0 failed 1, 12 to 12",
         ),
     ];
-    expect(
-        &rt,
-        rt.alloc(),
-        &[ROWS, ASKED, MOVED, THEN, SECOND_SESSION, LAST],
-    );
+    static LISTS: Lists = &[ROWS, ASKED, MOVED, THEN, SECOND_SESSION, LAST];
+    expect(&rt, rt.alloc(), LISTS);
 }
 
 /// A sequence that leaves room for one change.
@@ -167,7 +161,7 @@ const LAST_BUT_ONE: u64 = 9_007_199_254_740_990;
 #[test]
 fn sequences_run_out(rt: HostRuntime) {
     const FETCHED: &str = "0 to 2: d 1-a live {}; e 1-a live {};";
-    static ROWS: Rows = &[
+    const ROWS: Rows = &[
         (Call::Peer(1, None), "made"),
         (Call::PeerAt(2, None, LAST_BUT_ONE + 2), "SeqTooLarge"),
         (Call::PeerAt(2, None, LAST_BUT_ONE), "made"),
@@ -190,7 +184,7 @@ fn sequences_run_out(rt: HostRuntime) {
     const STOPPED: &str = "Stopped 1, rest e, SeqFull";
     const TWICE: &str =
         "session 1 from 0 to 0 checked 0 found 0 read 2 written 2 failed 0, 10 to 11";
-    static THEN: Rows = &[
+    const THEN: Rows = &[
         (Call::Settle(TARGET, S1, FIRST), STOPPED),
         (Call::Numbers(TARGET), "2 at 9007199254740991"),
         (Call::Record(TARGET, S1, 11), "0"),
@@ -206,7 +200,8 @@ fn sequences_run_out(rt: HostRuntime) {
         (Call::Settle(OTHER, S1, FIRST), "written 1 failed 1"),
         (Call::Record(OTHER, S1, 11), "2"),
     ];
-    expect(&rt, rt.alloc(), &[ROWS, THEN]);
+    static LISTS: Lists = &[ROWS, THEN];
+    expect(&rt, rt.alloc(), LISTS);
 }
 
 #[test]
@@ -214,7 +209,7 @@ fn session_refusals(rt: HostRuntime) {
     const FETCHED: &str = "0 to 2: a 1-a live {}; b 1-a live {};";
     const ENTRY: &str =
         "session 1 from 0 to 0 checked 2 found 2 read 2 written 2 failed 0, 10 to 10";
-    static ROWS: Rows = &[
+    const ROWS: Rows = &[
         (Call::Peer(1, None), "made"),
         (Call::Peer(2, None), "made"),
         (
@@ -251,12 +246,13 @@ fn session_refusals(rt: HostRuntime) {
         ),
         (Call::Entry(TARGET, S1), ENTRY),
     ];
-    expect(&rt, rt.alloc(), &[ROWS]);
+    static LISTS: Lists = &[ROWS];
+    expect(&rt, rt.alloc(), LISTS);
 }
 
 #[test]
 fn uncovered_window(rt: HostRuntime) {
-    static ROWS: Rows = &[
+    const ROWS: Rows = &[
         (Call::Fetch(OTHER, FIRST), "0 to 1: gone d 1-a;"),
         (Call::Settle(TARGET, S1, FIRST), "Uncovered 1 d 1-a"),
         (Call::Record(TARGET, S1, 11), "0"),
@@ -264,14 +260,15 @@ fn uncovered_window(rt: HostRuntime) {
         (Call::Settle(TARGET, S1, SECOND), "written 1 failed 0"),
         (Call::Record(TARGET, S1, 12), "1"),
     ];
-    expect(&rt, rt.alloc(), &[THREE, ASKED, ROWS]);
+    static LISTS: Lists = &[THREE, ASKED, ROWS];
+    expect(&rt, rt.alloc(), LISTS);
 }
 
 #[test]
 fn a_session_from_beginning_to_end(rt: HostRuntime) {
     const GIVEN: &str = r#"{"_id":"d","_revisions":{"start":3,"ids":["d","c","x"]}}"#;
     const KNOWN: &str = r#"{"_id":"d","_revisions":{"start":2,"ids":["c","b"]}}"#;
-    static ROWS: Rows = &[
+    const ROWS: Rows = &[
         (Call::Peer(1, None), "made"),
         (Call::Peer(2, Some("secret")), "made"),
         (
@@ -302,7 +299,7 @@ fn a_session_from_beginning_to_end(rt: HostRuntime) {
             "0 to 3: x1 1-a live {}; secret 1-a live {}; d 3-d,2-c,1-x live {};",
         ),
     ];
-    static THEN: Rows = &[
+    const THEN: Rows = &[
         // One is filtered, and the ancestry of d contradicts its tree: 2-c has the parent 1-b there.
         (Call::Settle(TARGET, S1, FIRST), "written 1 failed 2"),
         (Call::Covered(TARGET, "secret", "1-a"), "true"),
@@ -325,14 +322,15 @@ fn a_session_from_beginning_to_end(rt: HostRuntime) {
         (Call::Tree(TARGET, "d"), "2-c of 2"),
         (Call::Node(TARGET, "d", "2-c"), "1-b, Local(0), live {}"),
     ];
-    expect(&rt, rt.alloc(), &[ROWS, THEN]);
+    static LISTS: Lists = &[ROWS, THEN];
+    expect(&rt, rt.alloc(), LISTS);
 }
 
 #[test]
 fn local_writes_are_numbered(rt: HostRuntime) {
     const SECOND_WRITE: &str =
         r#"{"_id":"d","_revisions":{"start":3,"ids":["c","1c600d37126a8e6d3c67d6f7a6a5c299","x"]}}"#;
-    static ROWS: Rows = &[
+    const ROWS: Rows = &[
         // The filter is not asked.
         (Call::Peer(1, Some("d")), "made"),
         (
@@ -355,12 +353,13 @@ fn local_writes_are_numbered(rt: HostRuntime) {
         (Call::Numbers(SOURCE), "1 at 2"),
         (Call::Page(SOURCE, 0, 3), "GoalAhead { update_seq: 2 }"),
     ];
-    expect(&rt, rt.alloc(), &[ROWS]);
+    static LISTS: Lists = &[ROWS];
+    expect(&rt, rt.alloc(), LISTS);
 }
 
 #[test]
 fn an_empty_prefix_refuses_every_document(rt: HostRuntime) {
-    static ROWS: Rows = &[
+    const ROWS: Rows = &[
         (Call::Peer(1, Some("")), "made"),
         (Call::Verdict(0, D), "Refuse"),
         (Call::Peer(2, Some("d")), "made"),
@@ -370,7 +369,8 @@ fn an_empty_prefix_refuses_every_document(rt: HostRuntime) {
         (Call::Peer(4, None), "made"),
         (Call::Verdict(3, D), "Accept"),
     ];
-    expect(&rt, rt.alloc(), &[ROWS]);
+    static LISTS: Lists = &[ROWS];
+    expect(&rt, rt.alloc(), LISTS);
 }
 
 #[test]
@@ -399,7 +399,7 @@ fn beginnings_are_refused_by_name(rt: HostRuntime) {
         start: 1,
         goal: 4,
     };
-    static ROWS: Rows = &[
+    const ROWS: Rows = &[
         (
             Call::Begin(TARGET, S1, ABOVE, 10),
             "StartAboveBase { recorded: 0 }",
@@ -458,12 +458,13 @@ fn beginnings_are_refused_by_name(rt: HostRuntime) {
         ),
         (Call::Append(TARGET, S2, FIRST), "Gap { expected: 1 }"),
     ];
-    expect(&rt, rt.alloc(), &[THREE, ROWS]);
+    static LISTS: Lists = &[THREE, ROWS];
+    expect(&rt, rt.alloc(), LISTS);
 }
 
 #[test]
 fn a_session_that_is_not_there_is_refused(rt: HostRuntime) {
-    static ROWS: Rows = &[
+    const ROWS: Rows = &[
         (Call::Page(SOURCE, 0, 1), "0 to 1: 1 d 1-a;"),
         (Call::Diff(TARGET, FIRST), "0 to 1: d 1-a;"),
         (Call::Fetch(SOURCE, FIRST), "0 to 1: d 1-a live {};"),
@@ -483,13 +484,14 @@ fn a_session_that_is_not_there_is_refused(rt: HostRuntime) {
             "session 1 from 0 to 0 checked 0 found 0 read 0 written 0 failed 0",
         ),
     ];
-    expect(&rt, rt.alloc(), &[THREE, ROWS]);
+    static LISTS: Lists = &[THREE, ROWS];
+    expect(&rt, rt.alloc(), LISTS);
 }
 
 #[test]
 fn a_foreign_document_is_refused(rt: HostRuntime) {
     const E: &str = r#"{"_id":"e","_rev":"1-a"}"#;
-    static ROWS: Rows = &[
+    const ROWS: Rows = &[
         // The other source's window has the same bounds, and its document no row in the stored one.
         (Call::Load(OTHER, E), "Changed { seq: 1 }"),
         (Call::Page(OTHER, 0, 1), "0 to 1: 1 e 1-a;"),
@@ -502,13 +504,14 @@ fn a_foreign_document_is_refused(rt: HostRuntime) {
         ),
         (Call::Numbers(TARGET), "2 at 0"),
     ];
-    expect(&rt, rt.alloc(), &[THREE, ASKED, ROWS]);
+    static LISTS: Lists = &[THREE, ASKED, ROWS];
+    expect(&rt, rt.alloc(), LISTS);
 }
 
 // With the one above, the hostile parcels: of another source, and fetched before a third party wrote.
 #[test]
 fn a_parcel_of_another_leaf_leaves_its_window_uncovered(rt: HostRuntime) {
-    static ROWS: Rows = &[
+    const ROWS: Rows = &[
         (
             Call::Load(OTHER, r#"{"_id":"d","_rev":"1-b"}"#),
             "Changed { seq: 1 }",
@@ -524,12 +527,13 @@ fn a_parcel_of_another_leaf_leaves_its_window_uncovered(rt: HostRuntime) {
         ),
         (Call::Record(TARGET, S1, 11), "0"),
     ];
-    expect(&rt, rt.alloc(), &[THREE, ASKED, ROWS]);
+    static LISTS: Lists = &[THREE, ASKED, ROWS];
+    expect(&rt, rt.alloc(), LISTS);
 }
 
 #[test]
 fn a_parcel_of_what_a_third_party_wrote_counts(rt: HostRuntime) {
-    static ROWS: Rows = &[
+    const ROWS: Rows = &[
         (Call::Fetch(SOURCE, FIRST), "0 to 1: d 1-a live {};"),
         (Call::Load(TARGET, D), "Changed { seq: 1 }"),
         (Call::Settle(TARGET, S1, FIRST), "written 1 failed 0"),
@@ -537,11 +541,12 @@ fn a_parcel_of_what_a_third_party_wrote_counts(rt: HostRuntime) {
         (Call::Numbers(TARGET), "2 at 1"),
         (Call::Record(TARGET, S1, 11), "1"),
     ];
-    expect(&rt, rt.alloc(), &[THREE, ASKED, ROWS]);
+    static LISTS: Lists = &[THREE, ASKED, ROWS];
+    expect(&rt, rt.alloc(), LISTS);
 }
 
 /// A source at the sequence 12 of one document, which changed each time, and an empty target.
-static TWELVE: Rows = &[
+const TWELVE: Rows = &[
     (Call::Peer(1, None), "made"),
     (Call::Peer(2, None), "made"),
     (
@@ -595,7 +600,7 @@ static TWELVE: Rows = &[
 ];
 
 /// Sessions at the target that recorded 9 and 5. The feed has no row below 12.
-static RECORDED: Rows = &[
+const RECORDED: Rows = &[
     (Call::Begin(TARGET, S1, TO_NINE, 10), "begun"),
     (Call::Page(SOURCE, 0, 9), "0 to 9:"),
     (Call::Append(TARGET, S1, FIRST), "appended"),
@@ -618,7 +623,7 @@ static RECORDED: Rows = &[
 
 #[test]
 fn common_session(rt: HostRuntime) {
-    static ROWS: Rows = &[
+    const ROWS: Rows = &[
         // The third session, which the source doesn't know.
         (
             Call::Begin(TARGET, S3, Beginning { goal: 12, ..TO_ONE }, 10),
@@ -644,7 +649,7 @@ fn common_session(rt: HostRuntime) {
         ),
         (Call::TargetLog(TARGET, &REP), "3 at 12;2 at 5;1 at 9;"),
     ];
-    static THEN: Rows = &[
+    const THEN: Rows = &[
         (Call::PutEntry(SOURCE, &REP, S1, 9), "put"),
         (Call::PutEntry(SOURCE, &REP, S2, 4), "put"),
         (Call::SourceLog(SOURCE, &REP), "2 at 4;1 at 9;"),
@@ -660,13 +665,14 @@ fn common_session(rt: HostRuntime) {
         (Call::SourceLog(SOURCE, &REP), "2 at 5;1 at 10;"),
         (Call::Common(SOURCE, TARGET, &REP), "2 at 5"),
     ];
-    expect(&rt, rt.alloc(), &[TWELVE, RECORDED, ROWS, THEN]);
+    static LISTS: Lists = &[TWELVE, RECORDED, ROWS, THEN];
+    expect(&rt, rt.alloc(), LISTS);
 }
 
 #[test]
 fn an_audit_is_clean(rt: HostRuntime) {
     const E: &str = r#"{"_id":"e","_rev":"1-a"}"#;
-    static ROWS: Rows = &[
+    const ROWS: Rows = &[
         (Call::Fetch(SOURCE, FIRST), "0 to 1: d 1-a live {};"),
         (Call::Settle(TARGET, S1, FIRST), "written 1 failed 0"),
         (
@@ -682,13 +688,14 @@ fn an_audit_is_clean(rt: HostRuntime) {
         (Call::Load(SOURCE, E), "Changed { seq: 2 }"),
         (Call::Audit(SOURCE, TARGET), "clean"),
     ];
-    expect(&rt, rt.alloc(), &[THREE, ASKED, ROWS]);
+    static LISTS: Lists = &[THREE, ASKED, ROWS];
+    expect(&rt, rt.alloc(), LISTS);
 }
 
 #[test]
 fn an_audit_finds_a_hole(rt: HostRuntime) {
     const E: &str = r#"{"_id":"e","_rev":"1-a"}"#;
-    static ROWS: Rows = &[
+    const ROWS: Rows = &[
         // The session is fed by another source than its replication names.
         (Call::Load(OTHER, E), "Changed { seq: 1 }"),
         (Call::Begin(TARGET, S1, TO_ONE, 10), "begun"),
@@ -702,5 +709,6 @@ fn an_audit_finds_a_hole(rt: HostRuntime) {
         (Call::PutEntryOf(SOURCE, &REP, TARGET, S1), "put"),
         (Call::Audit(SOURCE, TARGET), "hole 1 d 1-a"),
     ];
-    expect(&rt, rt.alloc(), &[THREE, ROWS]);
+    static LISTS: Lists = &[THREE, ROWS];
+    expect(&rt, rt.alloc(), LISTS);
 }

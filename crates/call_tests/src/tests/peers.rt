@@ -1,18 +1,20 @@
 //! Peers with what is read and fetched from them, and the calls on these by name.
-use crate::tests::databases::{edit_text, node, parent_of, put_text, tree};
-use crate::tests::records::{entry_text, fault_text, log_text, report_text, settled_text};
-use crate::tests::texts::{
-    asked_text, base_fault_text, body, doc, expect_answer, parcel_text, window_text,
+use crate::tests::databases::{
+    edit_text, keep_asked, keep_parcel, keep_window, made_text, node, parent_of, put_text, tree,
 };
+use crate::tests::records::{
+    common_text, entry_text, fault_text, log_text, report_text, settled_text,
+};
+use crate::tests::texts::{base_fault_text, body, doc, expect_answer, numbers_text, place_text};
 use crate::tests::{large, plans};
 use couch_base::{Asked, Parcel, Window};
 use doc_json::DocId;
-use repl_log::{Entry, Moment, RepId, common};
+use repl_log::{Entry, Moment, RepId};
 use repl_target::{Audit, Peer, Rules, TargetFault, WriteFilter, audit, hole_above};
 use rev_tree::SessionId;
 use std::alloc::Global;
 use std::process::Abort;
-use test_texts::{bare_entry, rev, rev_text, shown};
+use test_texts::{bare_entry, rev, shown};
 
 /// How a session begins: its replication, its base, its start and its goal.
 #[derive(Clone, Copy)]
@@ -97,25 +99,39 @@ pub(crate) enum Call<'a> {
 /// Calls, each with the text that it must answer.
 pub(crate) type Rows = &'static [(Call<'static>, &'static str)];
 
-/// Peers, and what was read and fetched from them.
+/// Lists of calls that are made one after another.
+///
+/// A test has its lists as one static: a proof goes through each list that a test names.
+pub(crate) type Lists = &'static [Rows];
+
+/// What was read and fetched from peers.
 #[derive(Drop)]
-struct Bench {
-    alloc: Global,
-    peers: Vec<Peer<Rules>>,
+struct Held {
     windows: Vec<Window>,
     asked: Vec<Asked>,
     parcels: Vec<Parcel>,
 }
 
+/// Peers, and what was read and fetched from them.
+#[derive(Drop)]
+struct Bench {
+    alloc: Global,
+    peers: Vec<Peer<Rules>>,
+    held: Held,
+}
+
 impl Bench {
     /// No peers.
     fn new(alloc: Global) -> Bench {
-        Bench {
-            alloc,
-            peers: Vec::new(alloc),
+        let held = Held {
             windows: Vec::new(alloc),
             asked: Vec::new(alloc),
             parcels: Vec::new(alloc),
+        };
+        Bench {
+            alloc,
+            peers: Vec::new(alloc),
+            held,
         }
     }
 
@@ -129,197 +145,269 @@ impl Bench {
     /// Makes a call, and gives the text of its answer.
     fn answer(&mut self, call: &Call) -> Option<String> {
         match *call {
-            Call::Peer(uuid, deny) => self.make(uuid, deny),
-            Call::PeerAt(uuid, deny, seq) => self.make_at(uuid, deny, seq),
-            Call::Page(at, since, goal) => self.page(at, since, goal),
-            Call::Diff(at, window) => self.diff(at, window),
-            Call::Fetch(at, asked) => self.fetch(at, asked),
-            Call::Append(at, session, window) => self.append(at, session, window),
-            Call::Settle(at, session, parcel) => self.settle(at, session, parcel),
-            Call::PutEntryOf(at, rep, target, session) => self.put_of(at, rep, target, session),
-            Call::Common(source, target, rep) => self.common(source, target, rep),
-            Call::Audit(source, target) => self.audit(source, target),
-            Call::CheckPlan(source, target, batch) => self.check_plan(source, target, batch),
-            Call::BeginPlan(session, moment) => {
-                plans::begin(self.alloc, &mut self.peers, session, moment)
-            }
-            Call::RecordAtSource(session) => plans::record(self.alloc, &mut self.peers, session),
-            Call::HoleAbove(source, target, since) => self.hole_above(source, target, since),
-            Call::Replicate(session, batch) => {
-                large::replicate(self.alloc, &mut self.peers, session, batch)
-            }
-            other => self.answer_of_one(&other),
+            Call::Peer(uuid, deny) => make(self.alloc, &mut self.peers, uuid, deny),
+            Call::PeerAt(uuid, deny, seq) => make_at(self.alloc, &mut self.peers, uuid, deny, seq),
+            other => self.answer_of(place_of(&other), &other),
         }
     }
 
-    /// Makes a call on one peer that reads or writes nothing else.
-    fn answer_of_one(&mut self, call: &Call) -> Option<String> {
-        let alloc = self.alloc;
-        match *call {
-            Call::Load(at, text) => load(alloc, self.peers.get_mut(at)?, text),
-            Call::Edit(at, id, parent, deleted, text) => {
-                edit(alloc, self.peers.get_mut(at)?, id, parent, deleted, text)
-            }
-            Call::Begin(at, session, how, moment) => {
-                begin(alloc, self.peers.get_mut(at)?, session, how, moment)
-            }
-            Call::Record(at, session, moment) => {
-                record(alloc, self.peers.get_mut(at)?, session, moment)
-            }
-            Call::Conclude(at, session, moment) => {
-                conclude(alloc, self.peers.get_mut(at)?, session, moment)
-            }
-            Call::PutEntry(at, rep, session, recorded) => {
-                put_entry(alloc, self.peers.get_mut(at)?, rep, session, recorded)
-            }
-            Call::LoadLong(at, length) => {
-                large::load_long(alloc, self.peers.get_mut(at)?, length)
-            }
-            Call::LoadWide(at, leaves) => {
-                large::load_wide(alloc, self.peers.get_mut(at)?, leaves)
-            }
-            Call::EditLarge(at, letters) => {
-                large::edit_large(alloc, self.peers.get_mut(at)?, letters)
-            }
-            reading => self.reading(&reading),
+    /// Makes a call on the peer of a place, or on two peers.
+    fn answer_of(&mut self, place: Option<usize>, call: &Call) -> Option<String> {
+        match place {
+            Some(at) => of_one(self.alloc, self.peers.get_mut(at)?, &mut self.held, call),
+            None => of_two(self.alloc, &mut self.peers, call),
         }
     }
+}
 
-    /// Makes a call that changes nothing.
-    fn reading(&self, call: &Call) -> Option<String> {
-        let alloc = self.alloc;
-        match *call {
-            Call::Numbers(at) => {
-                let db = self.peers.get(at)?.db();
-                format!(in alloc; "{} at {}", db.uuid(), db.update_seq()).ok()
-            }
-            Call::Tree(at, id) => tree(alloc, self.peers.get(at)?.db(), id),
-            Call::Node(at, id, rev) => node(alloc, self.peers.get(at)?.db(), id, rev),
-            Call::Verdict(at, text) => verdict(alloc, self.peers.get(at)?, text),
-            Call::Covered(at, id, rev) => covered(alloc, self.peers.get(at)?, id, rev),
-            Call::Sizes(at) => large::sizes(alloc, self.peers.get(at)?),
-            Call::Entry(at, session) => entry(alloc, self.peers.get(at)?, session),
-            Call::TargetLog(at, rep) => {
-                let log = self.peers.get(at)?.target_log(alloc, rep).ok()?;
-                log_text(alloc, &log)
-            }
-            Call::SourceLog(at, rep) => {
-                let log = self.peers.get(at)?.source_log(alloc, rep).ok()?;
-                log_text(alloc, &log)
-            }
-            _ => None,
+/// The place of the peer that a call is on, where it is on one alone.
+fn place_of(call: &Call) -> Option<usize> {
+    match *call {
+        Call::Load(at, _)
+        | Call::Edit(at, _, _, _, _)
+        | Call::Numbers(at)
+        | Call::Tree(at, _)
+        | Call::Node(at, _, _)
+        | Call::Verdict(at, _)
+        | Call::Covered(at, _, _)
+        | Call::Page(at, _, _)
+        | Call::Diff(at, _)
+        | Call::Fetch(at, _)
+        | Call::Begin(at, _, _, _)
+        | Call::Append(at, _, _)
+        | Call::Settle(at, _, _)
+        | Call::Record(at, _, _)
+        | Call::Conclude(at, _, _)
+        | Call::Entry(at, _)
+        | Call::TargetLog(at, _)
+        | Call::SourceLog(at, _)
+        | Call::PutEntry(at, _, _, _)
+        | Call::LoadLong(at, _)
+        | Call::LoadWide(at, _)
+        | Call::EditLarge(at, _)
+        | Call::Sizes(at) => Some(at),
+        _ => None,
+    }
+}
+
+/// Makes a call on one peer.
+fn of_one(alloc: Global, peer: &mut Peer<Rules>, held: &mut Held, call: &Call) -> Option<String> {
+    match *call {
+        Call::Page(_, since, goal) => page(alloc, peer, &mut held.windows, since, goal),
+        Call::Diff(_, window) => diff(alloc, peer, held, window),
+        Call::Fetch(_, asked) => fetch(alloc, peer, held, asked),
+        Call::Append(_, session, window) => {
+            append(alloc, peer, session, held.windows.get(window)?)
         }
-    }
-
-    /// Makes the next peer.
-    fn make(&mut self, uuid: u128, deny: Option<&str>) -> Option<String> {
-        let filter = rules(self.alloc, deny)?;
-        self.peers.push(Peer::new(self.alloc, uuid, filter)).ok()?;
-        "made".to_string(self.alloc).ok()
-    }
-
-    /// Makes the next peer, with a database at a sequence.
-    fn make_at(&mut self, uuid: u128, deny: Option<&str>, seq: u64) -> Option<String> {
-        let filter = rules(self.alloc, deny)?;
-        match Peer::new_at(self.alloc, uuid, filter, seq) {
-            Ok(peer) => {
-                self.peers.push(peer).ok()?;
-                "made".to_string(self.alloc).ok()
-            }
-            Err(fault) => base_fault_text(self.alloc, fault),
+        Call::Settle(_, session, parcel) => {
+            settle(alloc, peer, session, held.parcels.get(parcel)?)
         }
+        other => of_one_alone(alloc, peer, &other),
     }
+}
 
-    /// Reads a page, which becomes the next window.
-    fn page(&mut self, at: usize, since: u64, goal: u64) -> Option<String> {
-        let peer = self.peers.get(at)?;
-        match peer.page(self.alloc, since, goal, 500) {
-            Ok(window) => {
-                let text = window_text(self.alloc, &window);
-                self.windows.push(window).ok()?;
-                text
-            }
-            Err(fault) => base_fault_text(self.alloc, fault),
+/// Makes a call on one peer that reads or writes nothing else.
+fn of_one_alone(alloc: Global, peer: &mut Peer<Rules>, call: &Call) -> Option<String> {
+    match *call {
+        Call::Load(_, text) => load(alloc, peer, text),
+        Call::Edit(_, id, parent, deleted, text) => edit(alloc, peer, id, parent, deleted, text),
+        Call::Begin(_, session, how, moment) => begin(alloc, peer, session, how, moment),
+        Call::Record(_, session, moment) => record(alloc, peer, session, moment),
+        Call::Conclude(_, session, moment) => conclude(alloc, peer, session, moment),
+        Call::PutEntry(_, rep, session, recorded) => {
+            put_entry(alloc, peer, rep, session, recorded)
         }
+        Call::LoadLong(_, length) => large::load_long(alloc, peer, length),
+        Call::LoadWide(_, leaves) => large::load_wide(alloc, peer, leaves),
+        Call::EditLarge(_, letters) => large::edit_large(alloc, peer, letters),
+        reading => read(alloc, peer, &reading),
     }
+}
 
-    /// Asks a peer for what it misses of a window.
-    fn diff(&mut self, at: usize, window: usize) -> Option<String> {
-        let peer = self.peers.get(at)?;
-        let asked = peer.revs_diff(self.alloc, self.windows.get(window)?).ok()?;
-        let text = asked_text(self.alloc, &asked);
-        self.asked.push(asked).ok()?;
-        text
+/// Makes a call on one peer that changes nothing.
+fn read(alloc: Global, peer: &Peer<Rules>, call: &Call) -> Option<String> {
+    match *call {
+        Call::Numbers(_) => numbers_text(alloc, peer.db()),
+        Call::Tree(_, id) => tree(alloc, peer.db(), id),
+        Call::Node(_, id, rev) => node(alloc, peer.db(), id, rev),
+        Call::Verdict(_, text) => verdict(alloc, peer, text),
+        Call::Covered(_, id, rev) => covered(alloc, peer, id, rev),
+        Call::Sizes(_) => large::sizes(alloc, peer),
+        Call::Entry(_, session) => entry(alloc, peer, session),
+        Call::TargetLog(_, rep) => target_log(alloc, peer, rep),
+        Call::SourceLog(_, rep) => source_log(alloc, peer, rep),
+        _ => None,
     }
+}
 
-    /// Fetches an asked list.
-    fn fetch(&mut self, at: usize, asked: usize) -> Option<String> {
-        let peer = self.peers.get(at)?;
-        let parcel = peer.open_revs(self.alloc, self.asked.get(asked)?).ok()?;
-        let text = parcel_text(self.alloc, &parcel);
-        self.parcels.push(parcel).ok()?;
-        text
-    }
-
-    /// Appends a copy of a window.
-    fn append(&mut self, at: usize, session: SessionId, window: usize) -> Option<String> {
-        let copy = self.windows.get(window)?.copy(self.alloc).ok()?;
-        match self.peers.get_mut(at)?.append(session, copy) {
-            Ok(()) => "appended".to_string(self.alloc).ok(),
-            Err(fault) => fault_text(self.alloc, fault),
+/// Makes a call on two peers.
+fn of_two(alloc: Global, peers: &mut Vec<Peer<Rules>>, call: &Call) -> Option<String> {
+    match *call {
+        Call::PutEntryOf(at, rep, target, session) => {
+            put_of(alloc, peers, at, rep, target, session)
         }
-    }
-
-    /// Settles a copy of a parcel.
-    fn settle(&mut self, at: usize, session: SessionId, parcel: usize) -> Option<String> {
-        let copy = self.parcels.get(parcel)?.copy(self.alloc).ok()?;
-        match self.peers.get_mut(at)?.settle(session, copy) {
-            Ok(settled) => settled_text(self.alloc, settled),
-            Err(fault) => fault_text(self.alloc, fault),
+        Call::Common(source, target, _)
+        | Call::Audit(source, target)
+        | Call::CheckPlan(source, target, _)
+        | Call::HoleAbove(source, target, _) => {
+            compare(alloc, peers.get(source)?, peers.get(target)?, call)
         }
+        _ => of_first_two(alloc, peers, call),
     }
+}
 
-    /// Puts an entry of a target at its source.
-    fn put_of(
-        &mut self,
-        at: usize,
-        rep: &RepId,
-        target: usize,
-        session: SessionId,
-    ) -> Option<String> {
-        let entry = self.peers.get(target)?.entry(session).ok()?;
-        put(self.alloc, self.peers.get_mut(at)?, rep, entry)
-    }
-
-    /// Compares two logs.
-    fn common(&self, source: usize, target: usize, rep: &RepId) -> Option<String> {
-        let outgoing = self.peers.get(source)?.source_log(self.alloc, rep).ok()?;
-        let incoming = self.peers.get(target)?.target_log(self.alloc, rep).ok()?;
-        match common(&outgoing, &incoming) {
-            Some((session, recorded)) => {
-                format!(in self.alloc; "{} at {recorded}", session.0).ok()
-            }
-            None => "none".to_string(self.alloc).ok(),
+/// Makes a call on a source and a target that changes nothing.
+fn compare(
+    alloc: Global,
+    source: &Peer<Rules>,
+    target: &Peer<Rules>,
+    call: &Call,
+) -> Option<String> {
+    match *call {
+        Call::Common(_, _, rep) => agreed(alloc, source, target, rep),
+        Call::Audit(_, _) => found_text(alloc, audit(alloc, source, target)),
+        Call::CheckPlan(_, _, batch) => plans::check(alloc, source, target, batch),
+        Call::HoleAbove(_, _, since) => {
+            found_text(alloc, hole_above(alloc, source, target, since))
         }
+        _ => None,
     }
+}
 
-    /// Audits a target.
-    fn audit(&self, source: usize, target: usize) -> Option<String> {
-        let found = audit(self.alloc, self.peers.get(source)?, self.peers.get(target)?);
-        found_text(self.alloc, found)
+/// Makes a call on the first peer, as the source, and the second one.
+fn of_first_two(alloc: Global, peers: &mut Vec<Peer<Rules>>, call: &Call) -> Option<String> {
+    let (source, others) = peers.split_first_mut()?;
+    let target = others.first_mut()?;
+    match *call {
+        Call::BeginPlan(session, moment) => plans::begin(alloc, source, target, session, moment),
+        Call::RecordAtSource(session) => plans::record(alloc, source, target, session),
+        Call::Replicate(session, batch) => large::replicate(alloc, source, target, session, batch),
+        _ => None,
     }
+}
 
-    /// Asks whether a plan can be begun.
-    fn check_plan(&self, source: usize, target: usize, batch: u64) -> Option<String> {
-        let (source, target) = (self.peers.get(source)?, self.peers.get(target)?);
-        plans::check(self.alloc, source, target, batch)
-    }
+/// Makes the next peer.
+pub(crate) fn make(
+    alloc: Global,
+    peers: &mut Vec<Peer<Rules>>,
+    uuid: u128,
+    deny: Option<&str>,
+) -> Option<String> {
+    let peer = Peer::new(alloc, uuid, rules(alloc, deny)?);
+    made_text(alloc, peers.push(peer).ok())
+}
 
-    /// Asks for the first hole above a sequence.
-    fn hole_above(&self, source: usize, target: usize, since: u64) -> Option<String> {
-        let (source, target) = (self.peers.get(source)?, self.peers.get(target)?);
-        found_text(self.alloc, hole_above(self.alloc, source, target, since))
+/// Makes the next peer, with a database at a sequence.
+fn make_at(
+    alloc: Global,
+    peers: &mut Vec<Peer<Rules>>,
+    uuid: u128,
+    deny: Option<&str>,
+    seq: u64,
+) -> Option<String> {
+    match Peer::new_at(alloc, uuid, rules(alloc, deny)?, seq) {
+        Ok(peer) => made_text(alloc, peers.push(peer).ok()),
+        Err(fault) => base_fault_text(alloc, fault),
     }
+}
+
+/// Reads a page, which becomes the next window.
+fn page(
+    alloc: Global,
+    peer: &Peer<Rules>,
+    windows: &mut Vec<Window>,
+    since: u64,
+    goal: u64,
+) -> Option<String> {
+    match peer.page(alloc, since, goal, 500) {
+        Ok(window) => keep_window(alloc, windows, window),
+        Err(fault) => base_fault_text(alloc, fault),
+    }
+}
+
+/// Asks a peer for what it misses of a window.
+fn diff(alloc: Global, peer: &Peer<Rules>, held: &mut Held, window: usize) -> Option<String> {
+    let asked = missed(alloc, peer, held.windows.get(window)?)?;
+    keep_asked(alloc, &mut held.asked, asked)
+}
+
+/// What a peer misses of a window.
+fn missed(alloc: Global, peer: &Peer<Rules>, window: &Window) -> Option<Asked> {
+    peer.revs_diff(alloc, window).ok()
+}
+
+/// Fetches an asked list.
+fn fetch(alloc: Global, peer: &Peer<Rules>, held: &mut Held, asked: usize) -> Option<String> {
+    let parcel = fetched(alloc, peer, held.asked.get(asked)?)?;
+    keep_parcel(alloc, &mut held.parcels, parcel)
+}
+
+/// What a peer answers to an asked list.
+fn fetched(alloc: Global, peer: &Peer<Rules>, asked: &Asked) -> Option<Parcel> {
+    peer.open_revs(alloc, asked).ok()
+}
+
+/// Appends a copy of a window.
+fn append(
+    alloc: Global,
+    peer: &mut Peer<Rules>,
+    session: SessionId,
+    window: &Window,
+) -> Option<String> {
+    match peer.append(session, window.copy(alloc).ok()?) {
+        Ok(()) => "appended".to_string(alloc).ok(),
+        Err(fault) => fault_text(alloc, fault),
+    }
+}
+
+/// Settles a copy of a parcel.
+fn settle(
+    alloc: Global,
+    peer: &mut Peer<Rules>,
+    session: SessionId,
+    parcel: &Parcel,
+) -> Option<String> {
+    match peer.settle(session, parcel.copy(alloc).ok()?) {
+        Ok(settled) => settled_text(alloc, settled),
+        Err(fault) => fault_text(alloc, fault),
+    }
+}
+
+/// Puts an entry of a target at its source.
+fn put_of(
+    alloc: Global,
+    peers: &mut Vec<Peer<Rules>>,
+    at: usize,
+    rep: &RepId,
+    target: usize,
+    session: SessionId,
+) -> Option<String> {
+    let entry = peers.get(target)?.entry(session).ok()?;
+    put(alloc, peers.get_mut(at)?, rep, entry)
+}
+
+/// Compares the logs of a replication at its source and its target.
+pub(crate) fn agreed(
+    alloc: Global,
+    source: &Peer<Rules>,
+    target: &Peer<Rules>,
+    rep: &RepId,
+) -> Option<String> {
+    let outgoing = source.source_log(alloc, rep).ok()?;
+    let incoming = target.target_log(alloc, rep).ok()?;
+    common_text(alloc, &outgoing, &incoming)
+}
+
+/// Reads the log of a replication into a peer.
+pub(crate) fn target_log(alloc: Global, peer: &Peer<Rules>, rep: &RepId) -> Option<String> {
+    let log = peer.target_log(alloc, rep).ok()?;
+    log_text(alloc, &log)
+}
+
+/// Reads the log of a replication from a peer.
+pub(crate) fn source_log(alloc: Global, peer: &Peer<Rules>, rep: &RepId) -> Option<String> {
+    let log = peer.source_log(alloc, rep).ok()?;
+    log_text(alloc, &log)
 }
 
 /// Makes lists of calls on a bench of their own, and asserts what each answers.
@@ -331,7 +419,7 @@ pub(crate) fn expect(rt: &impl Abort, alloc: Global, lists: &[Rows]) {
 }
 
 /// The filter that refuses a prefix.
-pub(crate) fn rules(alloc: Global, deny: Option<&str>) -> Option<Rules> {
+fn rules(alloc: Global, deny: Option<&str>) -> Option<Rules> {
     match deny {
         Some(prefix) => Some(Rules {
             deny: Some(prefix.to_string(alloc).ok()?),
@@ -344,16 +432,13 @@ pub(crate) fn rules(alloc: Global, deny: Option<&str>) -> Option<Rules> {
 pub(crate) fn found_text(alloc: Global, found: Result<Audit, TargetFault>) -> Option<String> {
     match found {
         Ok(Audit::Clean) => "clean".to_string(alloc).ok(),
-        Ok(Audit::Hole { seq, id, rev }) => {
-            let rev = rev_text(alloc, rev)?;
-            format!(in alloc; "hole {seq} {} {rev}", id.text()).ok()
-        }
+        Ok(Audit::Hole { seq, id, rev }) => place_text(alloc, "hole", seq, &id, rev),
         Err(fault) => fault_text(alloc, fault),
     }
 }
 
 /// Loads a document.
-fn load(alloc: Global, peer: &mut Peer<Rules>, text: &str) -> Option<String> {
+pub(crate) fn load(alloc: Global, peer: &mut Peer<Rules>, text: &str) -> Option<String> {
     let doc = doc(alloc, text)?;
     put_text(alloc, peer.load(&doc))
 }
@@ -437,7 +522,7 @@ fn put(alloc: Global, peer: &mut Peer<Rules>, rep: &RepId, entry: Entry) -> Opti
 }
 
 /// Reads the entry of a session.
-fn entry(alloc: Global, peer: &Peer<Rules>, session: SessionId) -> Option<String> {
+pub(crate) fn entry(alloc: Global, peer: &Peer<Rules>, session: SessionId) -> Option<String> {
     match peer.entry(session) {
         Ok(entry) => entry_text(alloc, entry),
         Err(fault) => fault_text(alloc, fault),

@@ -1,5 +1,5 @@
 //! The rows of plans: what is refused, where a session begins, its entry at the source, and the walk above a sequence.
-use crate::tests::peers::{Call, Rows, expect};
+use crate::tests::peers::{Call, Lists, Rows, expect};
 use repl_log::RepId;
 use rev_tree::SessionId;
 
@@ -27,7 +27,7 @@ const REP: RepId = RepId {
 };
 
 /// A source of d at 1-a and e at 1-b, and two peers without documents.
-static THREE: Rows = &[
+const THREE: Rows = &[
     (Call::Peer(1, None), "made"),
     (Call::Peer(2, None), "made"),
     (Call::Peer(3, Some("d")), "made"),
@@ -43,7 +43,7 @@ static THREE: Rows = &[
 
 #[test]
 fn plans_refused(rt: HostRuntime) {
-    static ROWS: Rows = &[
+    const ROWS: Rows = &[
         (Call::CheckPlan(SOURCE, TARGET, 0), "BadBatch"),
         (Call::CheckPlan(SOURCE, TARGET, 10_001), "BadBatch"),
         (Call::CheckPlan(SOURCE, TARGET, 1), "can begin"),
@@ -52,11 +52,12 @@ fn plans_refused(rt: HostRuntime) {
         (Call::CheckPlan(SOURCE, SOURCE, 0), "BadBatch"),
         (Call::CheckPlan(SOURCE, SOURCE, 500), "SamePeer"),
     ];
-    expect(&rt, rt.alloc(), &[THREE, ROWS]);
+    static LISTS: Lists = &[THREE, ROWS];
+    expect(&rt, rt.alloc(), LISTS);
 }
 
 /// The first session of the target begins, carries the feed up to 1, and is recorded at both sides.
-static FIRST_SESSION: Rows = &[
+const FIRST_SESSION: Rows = &[
     (Call::BeginPlan(S1, 10), "0"),
     (
         Call::Entry(TARGET, S1),
@@ -77,7 +78,7 @@ static FIRST_SESSION: Rows = &[
 
 #[test]
 fn a_plan_begins_where_the_logs_agree(rt: HostRuntime) {
-    static ROWS: Rows = &[
+    const ROWS: Rows = &[
         (Call::BeginPlan(S2, 13), "1"),
         (
             Call::Entry(TARGET, S2),
@@ -100,12 +101,13 @@ fn a_plan_begins_where_the_logs_agree(rt: HostRuntime) {
         (Call::RecordAtSource(S2), "recorded"),
         (Call::SourceLog(SOURCE, &REP), "2 at 2;1 at 1;"),
     ];
-    expect(&rt, rt.alloc(), &[THREE, FIRST_SESSION, ROWS]);
+    static LISTS: Lists = &[THREE, FIRST_SESSION, ROWS];
+    expect(&rt, rt.alloc(), LISTS);
 }
 
 #[test]
 fn an_older_entry_is_passed_over(rt: HostRuntime) {
-    static ROWS: Rows = &[
+    const ROWS: Rows = &[
         (Call::PutEntry(SOURCE, &REP, S1, 9), "put"),
         (Call::SourceLog(SOURCE, &REP), "1 at 9;"),
         (Call::RecordAtSource(S1), "recorded"),
@@ -113,12 +115,13 @@ fn an_older_entry_is_passed_over(rt: HostRuntime) {
         // The lesser of the two sequences is where the next one begins.
         (Call::BeginPlan(S2, 13), "1"),
     ];
-    expect(&rt, rt.alloc(), &[THREE, FIRST_SESSION, ROWS]);
+    static LISTS: Lists = &[THREE, FIRST_SESSION, ROWS];
+    expect(&rt, rt.alloc(), LISTS);
 }
 
 #[test]
 fn a_walk_above_a_sequence(rt: HostRuntime) {
-    static BEFORE: Rows = &[
+    const BEFORE: Rows = &[
         (Call::HoleAbove(SOURCE, TARGET, 0), "hole 1 d 1-a"),
         (Call::HoleAbove(SOURCE, TARGET, 1), "hole 2 e 1-b"),
         (Call::HoleAbove(SOURCE, TARGET, 2), "clean"),
@@ -126,7 +129,7 @@ fn a_walk_above_a_sequence(rt: HostRuntime) {
         (Call::HoleAbove(SOURCE, TARGET, 9), "clean"),
         (Call::HoleAbove(SOURCE, SOURCE, 0), "clean"),
     ];
-    static AFTER: Rows = &[
+    const AFTER: Rows = &[
         (Call::HoleAbove(SOURCE, TARGET, 0), "hole 2 e 1-b"),
         (
             Call::Load(TARGET, r#"{"_id":"e","_rev":"1-b"}"#),
@@ -134,7 +137,8 @@ fn a_walk_above_a_sequence(rt: HostRuntime) {
         ),
         (Call::HoleAbove(SOURCE, TARGET, 0), "clean"),
     ];
-    expect(&rt, rt.alloc(), &[THREE, BEFORE, FIRST_SESSION, AFTER]);
+    static LISTS: Lists = &[THREE, BEFORE, FIRST_SESSION, AFTER];
+    expect(&rt, rt.alloc(), LISTS);
 }
 
 #[test]
@@ -150,7 +154,7 @@ fn what_was_rightly_refused_is_no_hole(rt: HostRuntime) {
         start: 0,
         goal: 1,
     };
-    static ROWS: Rows = &[
+    const ROWS: Rows = &[
         (Call::HoleAbove(SOURCE, REFUSING, 0), "hole 1 d 1-a"),
         (Call::Begin(REFUSING, S1, INTO_REFUSING, 10), "begun"),
         (Call::Page(SOURCE, 0, 1), "0 to 1: 1 d 1-a;"),
@@ -161,5 +165,6 @@ fn what_was_rightly_refused_is_no_hole(rt: HostRuntime) {
         (Call::Tree(REFUSING, "d"), "no document"),
         (Call::HoleAbove(SOURCE, REFUSING, 0), "hole 2 e 1-b"),
     ];
-    expect(&rt, rt.alloc(), &[THREE, ROWS]);
+    static LISTS: Lists = &[THREE, ROWS];
+    expect(&rt, rt.alloc(), LISTS);
 }

@@ -30,30 +30,28 @@ pub(crate) fn check(
     }
 }
 
-/// Begins the session of a plan at the second peer, from the first.
+/// Begins the session of a plan at a target.
 pub(crate) fn begin(
     alloc: Global,
-    peers: &mut Vec<Peer<Rules>>,
+    source: &Peer<Rules>,
+    target: &mut Peer<Rules>,
     session: SessionId,
     moment: u64,
 ) -> Option<String> {
-    let plan = plan(session, 500, moment)?;
-    let (source, others) = peers.split_first_mut()?;
-    match begin_plan(alloc, source, others.first_mut()?, &plan) {
+    match begin_plan(alloc, source, target, &plan(session, 500, moment)?) {
         Ok(start) => shown(alloc, &start),
         Err(fault) => fault_text(alloc, fault),
     }
 }
 
-/// Puts the entry of a session of the second peer into the log of the first.
+/// Puts the entry of a session of a target into the log of its source.
 pub(crate) fn record(
     alloc: Global,
-    peers: &mut Vec<Peer<Rules>>,
+    source: &mut Peer<Rules>,
+    target: &Peer<Rules>,
     session: SessionId,
 ) -> Option<String> {
     let plan = plan(session, 500, 0)?;
-    let (source, others) = peers.split_first_mut()?;
-    let target = others.first()?;
     // The call asks for a session that the target holds.
     let _windows = target.windows(plan.session)?;
     match record_at_source(source, target, &plan) {

@@ -3,10 +3,10 @@ ghost use Rattle.std.specs.Prelude.{◌≡◌, vec_len};
 ghost use Rattle.std.specs.List.{All};
 ghost use Rattle.repl_pool.specs.Boards.{WorksAt};
 
-use crate::tests::databases::{put_text, tree};
-use crate::tests::peers::{found_text, rules};
-use crate::tests::records::{entry_text, fault_text, log_text, report_text};
-use crate::tests::texts::{doc, expect_answer};
+use crate::tests::databases::tree;
+use crate::tests::peers::{entry, found_text, load, make, source_log};
+use crate::tests::records::{fault_text, report_text};
+use crate::tests::texts::{expect_answer, place_text};
 use progress_board::{Board, BoardSeat};
 use repl_log::{Moment, RepId, common};
 use repl_pool::{Gate, Open, PoolFault, Ran, run, run_on};
@@ -17,7 +17,7 @@ use std::mem;
 use std::process::Abort;
 use std::sync::Wait;
 use std::thread::Threads;
-use test_texts::{rev_text, shown};
+use test_texts::shown;
 
 /// How a run is planned.
 #[derive(Clone, Copy)]
@@ -96,39 +96,20 @@ impl Bench {
 
     /// Makes a call that starts no thread.
     fn answer_alone(&mut self, call: &Call) -> Option<String> {
-        let alloc = self.alloc;
         match *call {
-            Call::Peer(uuid, deny) => self.make(uuid, deny),
-            Call::Load(at, text) => load(alloc, self.peers.get_mut(at)?, text),
-            Call::Fill(at, documents) => fill(alloc, self.peers.get_mut(at)?, documents),
+            Call::Peer(uuid, deny) => make(self.alloc, &mut self.peers, uuid, deny),
             Call::Alone(how) => self.alone(how),
-            other => self.reading(&other),
-        }
-    }
-
-    /// Makes a call that changes nothing.
-    fn reading(&self, call: &Call) -> Option<String> {
-        let alloc = self.alloc;
-        match *call {
-            Call::Tree(at, id) => tree(alloc, self.peers.get(at)?.db(), id),
-            Call::Entry(at, session) => entry_text(alloc, self.peers.get(at)?.entry(session).ok()?),
-            Call::SourceLog(at, rep) => source_log(alloc, self.peers.get(at)?, rep),
-            Call::Common(source, target, rep) => {
-                common_text(alloc, self.peers.get(source)?, self.peers.get(target)?, rep)
+            Call::Common(source, target, _) | Call::Audit(source, target) => {
+                let (source, target) = (self.peers.get(source)?, self.peers.get(target)?);
+                compare(self.alloc, source, target, call)
             }
-            Call::Audit(source, target) => {
-                let found = audit(alloc, self.peers.get(source)?, self.peers.get(target)?);
-                found_text(alloc, found)
-            }
-            _ => None,
+            Call::Load(at, _)
+            | Call::Fill(at, _)
+            | Call::Tree(at, _)
+            | Call::Entry(at, _)
+            | Call::SourceLog(at, _) => of_one(self.alloc, self.peers.get_mut(at)?, call),
+            Call::Run(_, _, _) => None,
         }
-    }
-
-    /// Makes the next peer.
-    fn make(&mut self, uuid: u128, deny: Option<&str>) -> Option<String> {
-        let peer = Peer::new(self.alloc, uuid, rules(self.alloc, deny)?);
-        self.peers.push(peer).ok()?;
-        "made".to_string(self.alloc).ok()
     }
 
     /// How a run is planned.
@@ -215,10 +196,46 @@ impl Bench {
     fn alone(&mut self, how: How) -> Option<String> {
         let plan = self.plan(how)?;
         let (source, others) = self.peers.split_first_mut()?;
-        match replicate_alone(self.alloc, source, others.first_mut()?, &plan) {
-            Ok(report) => report_text(self.alloc, report),
-            Err(fault) => fault_text(self.alloc, fault),
-        }
+        carried(self.alloc, source, others.first_mut()?, &plan)
+    }
+}
+
+/// Makes a call on one peer.
+fn of_one(alloc: Global, peer: &mut Peer<Rules>, call: &Call) -> Option<String> {
+    match *call {
+        Call::Load(_, text) => load(alloc, peer, text),
+        Call::Fill(_, documents) => fill(alloc, peer, documents),
+        Call::Tree(_, id) => tree(alloc, peer.db(), id),
+        Call::Entry(_, session) => entry(alloc, peer, session),
+        Call::SourceLog(_, rep) => source_log(alloc, peer, rep),
+        _ => None,
+    }
+}
+
+/// Makes a call on a source and a target that changes nothing.
+fn compare(
+    alloc: Global,
+    source: &Peer<Rules>,
+    target: &Peer<Rules>,
+    call: &Call,
+) -> Option<String> {
+    match *call {
+        Call::Common(_, _, rep) => agreed(alloc, source, target, rep),
+        Call::Audit(_, _) => found_text(alloc, audit(alloc, source, target)),
+        _ => None,
+    }
+}
+
+/// Replicates a peer into another one by one thread.
+fn carried(
+    alloc: Global,
+    source: &mut Peer<Rules>,
+    target: &mut Peer<Rules>,
+    plan: &Plan,
+) -> Option<String> {
+    match replicate_alone(alloc, source, target, plan) {
+        Ok(report) => report_text(alloc, report),
+        Err(fault) => fault_text(alloc, fault),
     }
 }
 
@@ -274,18 +291,9 @@ fn outcome_text(alloc: Global, outcome: Result<Report, PoolFault>) -> Option<Str
     match outcome {
         Ok(report) => report_text(alloc, report),
         Err(PoolFault::Refused(fault)) => fault_text(alloc, fault),
-        Err(PoolFault::Hole { seq, id, rev }) => {
-            let rev = rev_text(alloc, rev)?;
-            format!(in alloc; "Hole {seq} {} {rev}", id.text()).ok()
-        }
+        Err(PoolFault::Hole { seq, id, rev }) => place_text(alloc, "Hole", seq, &id, rev),
         Err(plain) => shown(alloc, &plain),
     }
-}
-
-/// Loads a document.
-fn load(alloc: Global, peer: &mut Peer<Rules>, text: &str) -> Option<String> {
-    let doc = doc(alloc, text)?;
-    put_text(alloc, peer.load(&doc))
 }
 
 /// Loads the document of a number.
@@ -303,14 +311,8 @@ fn fill(alloc: Global, peer: &mut Peer<Rules>, documents: u64) -> Option<String>
     Some(text)
 }
 
-/// The source's log of a replication.
-fn source_log(alloc: Global, peer: &Peer<Rules>, rep: &RepId) -> Option<String> {
-    let log = peer.source_log(alloc, rep).ok()?;
-    log_text(alloc, &log)
-}
-
 /// What both logs of a replication agree about.
-fn common_text(
+fn agreed(
     alloc: Global,
     source: &Peer<Rules>,
     target: &Peer<Rules>,
@@ -318,7 +320,12 @@ fn common_text(
 ) -> Option<String> {
     let outgoing = source.source_log(alloc, rep).ok()?;
     let incoming = target.target_log(alloc, rep).ok()?;
-    match common(&outgoing, &incoming) {
+    recorded_text(alloc, common(&outgoing, &incoming))
+}
+
+/// What a session that both logs have has recorded, 0 where there is none.
+fn recorded_text(alloc: Global, found: Option<(SessionId, u64)>) -> Option<String> {
+    match found {
         Some((_, recorded)) => shown(alloc, &recorded),
         None => "0".to_string(alloc).ok(),
     }

@@ -1,9 +1,10 @@
 //! Texts of what sessions say and refuse.
+use crate::tests::texts::{append, place_text};
 use doc_json::Doc;
-use repl_log::{Entry, Log};
-use repl_target::{Report, Settled, TargetFault};
+use repl_log::{Entry, Log, common};
+use repl_target::{Cause, Report, Settled, TargetFault};
 use std::alloc::Global;
-use test_texts::{rev_text, shown};
+use test_texts::shown;
 
 /// How many documents were written, and how many refused.
 pub(crate) fn settled_text(alloc: Global, settled: Settled) -> Option<String> {
@@ -13,21 +14,27 @@ pub(crate) fn settled_text(alloc: Global, settled: Settled) -> Option<String> {
 
 /// A report, as the program prints it.
 pub(crate) fn report_text(alloc: Global, report: Report) -> Option<String> {
-    let session = report.session.0;
-    let bounds = format!(in alloc;
-        "session {session} from {} to {}",
-        report.start, report.recorded
-    );
-    let read = format!(in alloc;
-        "checked {} found {} read {}",
-        report.checked, report.found, report.read
-    );
-    let (bounds, read) = (bounds.ok()?, read.ok()?);
-    format!(in alloc;
-        "{bounds} {read} written {} failed {}",
-        report.written, report.failures
-    )
-    .ok()
+    let mut all = bounds_text(alloc, report)?;
+    append(&mut all, read_text(alloc, report))?;
+    append(&mut all, written_text(alloc, report))?;
+    Some(all)
+}
+
+/// The session of a report, and its bounds.
+fn bounds_text(alloc: Global, report: Report) -> Option<String> {
+    let (session, start) = (report.session.0, report.start);
+    format!(in alloc; "session {session} from {start} to {}", report.recorded).ok()
+}
+
+/// What a report tells of reading.
+fn read_text(alloc: Global, report: Report) -> Option<String> {
+    let (checked, found) = (report.checked, report.found);
+    format!(in alloc; " checked {checked} found {found} read {}", report.read).ok()
+}
+
+/// What a report tells of writing.
+fn written_text(alloc: Global, report: Report) -> Option<String> {
+    format!(in alloc; " written {} failed {}", report.written, report.failures).ok()
 }
 
 /// An entry: the report that it gives, and its moments.
@@ -51,30 +58,41 @@ pub(crate) fn entry_text(alloc: Global, entry: Entry) -> Option<String> {
 pub(crate) fn log_text(alloc: Global, log: &Log) -> Option<String> {
     let mut all = String::new(alloc);
     for i in 0..log.len() {
-        let entry = log.get(i)?;
-        let text = format!(in alloc; "{} at {};", entry.session.0, entry.recorded).ok()?;
-        all.push_str(text.as_str()).ok()?;
+        append(&mut all, recorded_text(alloc, log.get(i)?))?;
     }
     Some(all)
+}
+
+/// The session of an entry and what it has recorded.
+fn recorded_text(alloc: Global, entry: Entry) -> Option<String> {
+    format!(in alloc; "{} at {};", entry.session.0, entry.recorded).ok()
+}
+
+/// What the logs of a source and a target agree about.
+pub(crate) fn common_text(alloc: Global, outgoing: &Log, incoming: &Log) -> Option<String> {
+    match common(outgoing, incoming) {
+        Some((session, recorded)) => format!(in alloc; "{} at {recorded}", session.0).ok(),
+        None => "none".to_string(alloc).ok(),
+    }
 }
 
 /// Why a call on a session is refused.
 pub(crate) fn fault_text(alloc: Global, fault: TargetFault) -> Option<String> {
     match fault {
-        TargetFault::Uncovered { seq, id, rev } => {
-            let rev = rev_text(alloc, rev)?;
-            format!(in alloc; "Uncovered {seq} {} {rev}", id.text()).ok()
-        }
+        TargetFault::Uncovered { seq, id, rev } => place_text(alloc, "Uncovered", seq, &id, rev),
         TargetFault::Stopped {
             settled,
             rest,
             cause,
-        } => {
-            let rest = ids_text(alloc, &rest)?;
-            format!(in alloc; "Stopped {settled}, rest{rest}, {cause:?}").ok()
-        }
+        } => stopped_text(alloc, settled, &rest, cause),
         plain => shown(alloc, &plain),
     }
+}
+
+/// Where a parcel was settled only in part: how many documents are settled, the others, and why.
+fn stopped_text(alloc: Global, settled: u64, rest: &[Doc], cause: Cause) -> Option<String> {
+    let rest = ids_text(alloc, rest)?;
+    format!(in alloc; "Stopped {settled}, rest{rest}, {cause:?}").ok()
 }
 
 /// The ids of documents.

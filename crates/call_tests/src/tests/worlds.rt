@@ -1,9 +1,10 @@
 //! Worlds: steps by their names, and what they leave.
 use crate::tests::databases::tree;
-use crate::tests::records::{entry_text, fault_text, log_text};
+use crate::tests::peers::{agreed, entry, source_log, target_log};
+use crate::tests::records::fault_text;
 use crate::tests::texts::{body, doc, expect_answer};
-use doc_json::DocId;
-use repl_log::{Moment, RepId, common};
+use doc_json::{Body, DocId};
+use repl_log::{Moment, RepId};
 use repl_target::{Audit, Peer, Rules, audit};
 use repl_world::{Step, World, WorldFault};
 use rev_tree::SessionId;
@@ -72,22 +73,32 @@ fn at_0() -> Option<Moment> {
 /// The step of an act.
 fn step(alloc: Global, act: Act) -> Option<Step> {
     match act {
-        Act::EditSource(id, parent, text) => Some(Step::EditSource {
-            id: DocId::parse(alloc, id).ok()?,
-            parent: rev(parent),
-            deleted: false,
-            body: body(alloc, text)?,
-        }),
-        Act::EditTarget(id, parent, text) => Some(Step::EditTarget {
-            id: DocId::parse(alloc, id).ok()?,
-            parent: rev(parent),
-            deleted: false,
-            body: body(alloc, text)?,
-        }),
+        Act::EditSource(id, parent, text) => edit_source(alloc, id, parent, body(alloc, text)?),
+        Act::EditTarget(id, parent, text) => edit_target(alloc, id, parent, body(alloc, text)?),
         Act::LoadSource(text) => Some(Step::LoadSource(doc(alloc, text)?)),
         Act::ThirdParty(text) => Some(Step::ThirdParty(doc(alloc, text)?)),
         other => plain_step(other),
     }
+}
+
+/// The edit of a document at the source.
+fn edit_source(alloc: Global, id: &str, parent: &str, body: Body) -> Option<Step> {
+    Some(Step::EditSource {
+        id: DocId::parse(alloc, id).ok()?,
+        parent: rev(parent),
+        deleted: false,
+        body,
+    })
+}
+
+/// The same at the target.
+fn edit_target(alloc: Global, id: &str, parent: &str, body: Body) -> Option<Step> {
+    Some(Step::EditTarget {
+        id: DocId::parse(alloc, id).ok()?,
+        parent: rev(parent),
+        deleted: false,
+        body,
+    })
 }
 
 /// The step of an act without a document.
@@ -124,10 +135,14 @@ fn plain_step(act: Act) -> Option<Step> {
 fn steps(alloc: Global, acts: &[Act]) -> Option<Vec<Step>> {
     let mut all = Vec::new(alloc);
     for act in acts {
-        let step = step(alloc, *act)?;
-        all.push(step).ok()?;
+        push_step(&mut all, step(alloc, *act))?;
     }
     Some(all)
+}
+
+/// Appends a step that could be made.
+fn push_step(all: &mut Vec<Step>, step: Option<Step>) -> Option<()> {
+    all.push(step?).ok()
 }
 
 /// Takes the steps of acts.
@@ -136,24 +151,13 @@ fn take(alloc: Global, world: &mut World<Rules>, acts: &[Act]) -> Option<()> {
     world.run(alloc, &steps).ok()
 }
 
-/// The common checkpoint of a world's logs.
-fn common_text(alloc: Global, world: &World<Rules>) -> Option<String> {
-    let outgoing = world.source().source_log(alloc, &REP).ok()?;
-    let incoming = world.target().target_log(alloc, &REP).ok()?;
-    match common(&outgoing, &incoming) {
-        Some((session, recorded)) => format!(in alloc; "{} at {recorded}", session.0).ok(),
-        None => "none".to_string(alloc).ok(),
-    }
-}
-
 /// The log of the replication at a side.
 fn side_log(alloc: Global, world: &World<Rules>, side: u128) -> Option<String> {
-    let log = if side == 1 {
-        world.source().source_log(alloc, &REP).ok()?
+    if side == 1 {
+        source_log(alloc, world.source(), &REP)
     } else {
-        world.target().target_log(alloc, &REP).ok()?
-    };
-    log_text(alloc, &log)
+        target_log(alloc, world.target(), &REP)
+    }
 }
 
 /// What an audit finds.
@@ -174,20 +178,20 @@ fn side(world: &World<Rules>, number: u128) -> &Peer<Rules> {
     }
 }
 
+/// The numbers of windows, asked lists, parcels and entries.
+fn sizes_text(alloc: Global, sizes: (usize, usize, usize, usize)) -> Option<String> {
+    let (windows, asked, parcels, entries) = sizes;
+    format!(in alloc; "{windows} {asked} {parcels} {entries}").ok()
+}
+
 /// What a question is answered.
 fn answer(alloc: Global, world: &World<Rules>, question: Question) -> Option<String> {
     match question {
-        Question::Common => common_text(alloc, world),
-        Question::Entry(session) => match world.target().entry(session) {
-            Ok(entry) => entry_text(alloc, entry),
-            Err(fault) => fault_text(alloc, fault),
-        },
+        Question::Common => agreed(alloc, world.source(), world.target(), &REP),
+        Question::Entry(session) => entry(alloc, world.target(), session),
         Question::Log(number) => side_log(alloc, world, number),
         Question::Tree(number, id) => tree(alloc, side(world, number).db(), id),
-        Question::Sizes => {
-            let (windows, asked, parcels, entries) = world.bag_sizes();
-            format!(in alloc; "{windows} {asked} {parcels} {entries}").ok()
-        }
+        Question::Sizes => sizes_text(alloc, world.bag_sizes()),
         Question::Audit => audit_text(alloc, world),
     }
 }
