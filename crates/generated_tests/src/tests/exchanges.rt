@@ -63,10 +63,10 @@ fn asks_of(
     tree: &Reference,
     held: &Reference,
 ) {
-    assert_eq!(rt; number_of(rt, wanted.id().text()), number);
+    let same = number_of(rt, wanted.id().text()) == number;
     let leaves = tree.leaves(alloc).expect(rt, "memory");
     let missing = held.missing(rt, alloc, &leaves);
-    assert!(rt; are(rt, wanted.revs(), &missing));
+    assert!(rt; same && are(rt, wanted.revs(), &missing), "what is asked");
 }
 
 /// Asserts that what is asked is what the target has not, in the order of the source's feed.
@@ -85,7 +85,7 @@ fn asks(rt: &impl Abort, alloc: Global, source: &PlainSide, target: &PlainSide, 
             at = at.saturating_add(1);
         }
     }
-    assert_eq!(rt; asked.docs().len(), at);
+    assert!(rt; asked.docs().len() == at, "the documents that are asked");
 }
 
 /// Asserts that a fetched document is a leaf of a tree.
@@ -97,9 +97,9 @@ fn is_leaf(
     tree: &Reference,
     leaf: usize,
 ) {
-    assert_eq!(rt; number_of(rt, doc.id().text()), number);
+    let same = number_of(rt, doc.id().text()) == number;
     let walk = tree.ancestry(alloc, leaf).expect(rt, "memory");
-    assert!(rt; are(rt, doc.ancestry().revs(), &walk));
+    assert!(rt; same && are(rt, doc.ancestry().revs(), &walk), "a leaf");
     assert!(rt; tree.content(leaf) == Some((doc.deleted(), 0)));
 }
 
@@ -136,8 +136,10 @@ fn loses(
     for one in revs {
         if !tree.has(place_of(rt, *one)) {
             let (id, lost) = parcel.gone().get(at).expect(rt, "a gone revision too few");
-            assert_eq!(rt; number_of(rt, id.text()), number);
-            assert!(rt; *lost == *one);
+            assert!(rt;
+                number_of(rt, id.text()) == number && *lost == *one,
+                "a gone one"
+            );
             at = at.saturating_add(1);
         }
     }
@@ -161,8 +163,10 @@ fn brings(
         docs = brings_leaves(rt, alloc, parcel, docs, number, &tree, revs);
         gone = loses(rt, parcel, gone, number, &tree, wanted.revs());
     }
-    assert_eq!(rt; parcel.docs().len(), docs);
-    assert_eq!(rt; parcel.gone().len(), gone);
+    assert!(rt;
+        parcel.docs().len() == docs && parcel.gone().len() == gone,
+        "a parcel"
+    );
     docs
 }
 

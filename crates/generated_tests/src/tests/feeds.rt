@@ -86,9 +86,9 @@ pub(crate) fn put(
 
 /// Asserts that a row has an id and the leaves of a tree.
 fn row_has(rt: &impl Abort, alloc: Global, row: &Row, number: usize, tree: &Reference) {
-    assert_eq!(rt; number_of(rt, row.id().text()), number);
     let leaves = tree.leaves(alloc).expect(rt, "memory");
-    assert!(rt; are(rt, row.leaves(), &leaves));
+    let same = number_of(rt, row.id().text()) == number;
+    assert!(rt; same && are(rt, row.leaves(), &leaves), "a row");
 }
 
 /// Asserts that a row is that of the document next above a sequence. Gives its own.
@@ -103,7 +103,7 @@ fn row_is(
     let Some((number, seq)) = next_above(&plain.documents, after, goal) else {
         rt.panic(format_args!("a row too many"))
     };
-    assert_eq!(rt; row.seq(), seq);
+    assert!(rt; row.seq() == seq, "the sequence of a row");
     row_has(rt, alloc, row, number, &plain.tree(number));
     seq
 }
@@ -126,8 +126,8 @@ fn window_is(
     }
     let is_last = next_above(&plain.documents, at, goal).is_none();
     assert!(rt; rows <= limit && (rows == limit || is_last));
-    assert_eq!(rt; window.lo(), since);
-    assert_eq!(rt; window.hi(), if rows == limit { at } else { goal });
+    let hi = if rows == limit { at } else { goal };
+    assert!(rt; window.lo() == since && window.hi() == hi, "the bounds");
 }
 
 /// Asks for a page by chance.
@@ -167,7 +167,7 @@ fn grow(rt: &impl Abort, alloc: Global, rng: &mut ChaCha8Rng, db: &mut Database)
     let mut plain = PlainSide::new();
     for _ in 0..40 {
         put(rt, alloc, rng, db, &mut plain);
-        assert_eq!(rt; db.update_seq(), plain.update_seq);
+        assert!(rt; db.update_seq() == plain.update_seq, "a sequence");
         page(rt, alloc, rng, db, &plain);
     }
 }

@@ -57,11 +57,16 @@ fn is_walk(rt: &impl Abort, alloc: Global, plain: &PlainTree, one: Rev, walk: &[
     assert!(rt; plain.origin(one).is_some() && walk == wanted.as_slice());
 }
 
+/// Whether a tree has a revision, as a leaf or not, and its origin, as the plain form does.
+fn has_as(tree: &Tree, plain: &PlainTree, one: Rev) -> bool {
+    let origin = plain.origin(one);
+    let stands = tree.has(one) == origin.is_some();
+    stands && tree.origin(one) == origin && tree.is_leaf(one) == plain.is_leaf(one)
+}
+
 /// Asserts that a tree answers as the plain form does about a revision.
 fn agree_on_rev(rt: &impl Abort, alloc: Global, tree: &Tree, plain: &PlainTree, one: Rev) {
-    assert_eq!(rt; tree.has(one), plain.origin(one).is_some());
-    assert_eq!(rt; tree.origin(one), plain.origin(one));
-    assert_eq!(rt; tree.is_leaf(one), plain.is_leaf(one));
+    assert!(rt; has_as(tree, plain, one), "a revision");
     assert!(rt; tree.parent_of(one) == plain.parent_of(one));
     agree_on_content(rt, tree, plain, one);
     agree_on_walk(rt, alloc, tree, plain, one);
@@ -70,7 +75,7 @@ fn agree_on_rev(rt: &impl Abort, alloc: Global, tree: &Tree, plain: &PlainTree, 
 /// Asserts that a tree has leaves.
 fn agree_on_leaves(rt: &impl Abort, alloc: Global, tree: &Tree, leaves: &[Rev]) {
     are_same(rt, tree.leaves(alloc), leaves);
-    assert_eq!(rt; tree.leaf_count(), leaves.len());
+    assert!(rt; tree.leaf_count() == leaves.len(), "the leaves");
     assert!(rt; tree.winner() == leaves.first().copied());
 }
 
@@ -97,7 +102,7 @@ fn agree_on_missing(rt: &impl Abort, alloc: Global, tree: &Tree, plain: &PlainTr
 fn agree(rt: &impl Abort, alloc: Global, tree: &Tree, plain: &PlainTree, asked: &[Rev]) {
     let leaves = plain.leaves(alloc).expect(rt, "memory");
     agree_on_leaves(rt, alloc, tree, &leaves);
-    assert_eq!(rt; tree.rev_count(), plain.rev_count());
+    assert!(rt; tree.rev_count() == plain.rev_count(), "the revisions");
     agree_on_above(rt, alloc, tree, plain, &leaves, asked);
     agree_on_missing(rt, alloc, tree, plain, asked);
     for one in asked {

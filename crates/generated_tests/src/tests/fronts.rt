@@ -51,12 +51,17 @@ fn finish_one(rt: &impl Abort, front: &mut Front, lo: u64, is_done: bool) {
         Ok(())
     };
     let hi = lo.saturating_add(10);
-    assert_eq!(rt; front.is_done(lo, hi), is_done);
+    let was_done = front.is_done(lo, hi);
     front.reserve().expect(rt, "memory");
-    assert_eq!(rt; front.finish(lo, hi), wanted);
-    assert!(rt; front.is_done(lo, hi));
-    let beyond = lo.saturating_add(20);
-    assert_eq!(rt; front.finish(lo, beyond), Err(FrontFault::NoSuchWindow));
+    let answer = front.finish(lo, hi);
+    assert!(rt; was_done == is_done && answer == wanted && front.is_done(lo, hi));
+    let beyond = front.finish(lo, lo.saturating_add(20));
+    assert!(rt; beyond == Err(FrontFault::NoSuchWindow), "no such window");
+}
+
+/// Whether a front has the low water and the runs of some marks.
+fn is_marked(front: &Front, start: u64, marks: &[bool; WINDOWS]) -> bool {
+    front.low_water() == low_water(start, marks) && front.range_count() == range_count(marks)
 }
 
 /// Forty tries to finish a window by chance: each is taken the first time, and refused after it.
@@ -68,10 +73,12 @@ fn finishes(rt: &impl Abort, front: &mut Front, seed: u64) {
         let i = (rng.next_u32() % WINDOWS as u32) as usize;
         finish_one(rt, front, start + 10 * i as u64, marks[i]);
         marks[i] = true;
-        assert_eq!(rt; front.low_water(), low_water(start, &marks));
-        assert_eq!(rt; front.range_count(), range_count(&marks));
+        assert!(rt;
+            is_marked(front, start, &marks),
+            "the low water, or the runs"
+        );
     }
-    assert_eq!(rt; front.end(), start + 10 * WINDOWS as u64);
+    assert!(rt; front.end() == start + 10 * WINDOWS as u64, "the end");
 }
 
 #[test]
@@ -117,7 +124,7 @@ fn seventy_thousand_windows(rt: HostRuntime) {
     let mut front = Front::new(rt.alloc(), 0);
     many(&rt, &mut front, 70_000);
     finish_odd(&rt, &mut front, 35_000);
-    assert_eq!(rt; (front.range_count(), front.low_water()), (35_000, 0));
+    assert!(rt; front.range_count() == 35_000 && front.low_water() == 0);
     finish_even(&rt, &mut front, 35_000);
-    assert_eq!(rt; (front.range_count(), front.low_water()), (0, 140_000));
+    assert!(rt; front.range_count() == 0 && front.low_water() == 140_000);
 }

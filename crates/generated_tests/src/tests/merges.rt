@@ -112,15 +112,21 @@ fn is_walk(rt: &impl Abort, alloc: Global, reference: &Reference, place: usize, 
     assert!(rt; reference.has(place) && are(rt, walk, &places));
 }
 
+/// Whether a tree has a revision, as a leaf or not, and its origin, as the reference does.
+fn has_as(tree: &Tree, reference: &Reference, one: Rev, place: usize) -> bool {
+    let stands = tree.has(one) == reference.has(place);
+    let is_leaf = tree.is_leaf(one) == reference.is_leaf(place);
+    let origin = match reference.origin(place) {
+        Some(number) => Some(Origin::Local(number)),
+        None => None,
+    };
+    stands && is_leaf && tree.origin(one) == origin
+}
+
 /// Asserts that every reading of a revision is that of the reference.
 fn agree_at(rt: &impl Abort, alloc: Global, tree: &Tree, reference: &Reference, place: usize) {
     let one = rev(rt, place);
-    assert_eq!(rt; tree.has(one), reference.has(place));
-    assert_eq!(rt; tree.is_leaf(one), reference.is_leaf(place));
-    assert_eq!(rt;
-        tree.origin(one),
-        reference.origin(place).map(|n| Origin::Local(n))
-    );
+    assert!(rt; has_as(tree, reference, one, place), "a revision");
     agree_on_content(rt, tree, reference, one, place);
     agree_on_walk(rt, alloc, tree, reference, one, place);
 }
@@ -128,7 +134,7 @@ fn agree_at(rt: &impl Abort, alloc: Global, tree: &Tree, reference: &Reference, 
 /// Asserts that the leaves, and the winner, are those at the places.
 fn agree_on_leaves(rt: &impl Abort, alloc: Global, tree: &Tree, places: &[usize]) {
     assert_are(rt, tree.leaves(alloc), places);
-    assert_eq!(rt; tree.leaf_count(), places.len());
+    assert!(rt; tree.leaf_count() == places.len(), "the leaves");
     match places.first() {
         Some(place) => assert!(rt; tree.winner() == Some(rev(rt, *place))),
         None => assert!(rt; tree.winner().is_none()),
@@ -139,7 +145,7 @@ fn agree_on_leaves(rt: &impl Abort, alloc: Global, tree: &Tree, places: &[usize]
 fn agree(rt: &impl Abort, alloc: Global, tree: &Tree, reference: &Reference) {
     let leaves = reference.leaves(alloc).expect(rt, "memory");
     agree_on_leaves(rt, alloc, tree, &leaves);
-    assert_eq!(rt; tree.rev_count(), reference.count());
+    assert!(rt; tree.rev_count() == reference.count(), "the revisions");
     for place in 0..PLACES {
         agree_at(rt, alloc, tree, reference, place);
     }
@@ -196,8 +202,8 @@ fn agree_on_asked(
 /// Asserts that the answer is that of the reference.
 fn answers(rt: &impl Abort, answer: Result<Merged, TreeFault>, wanted: Answer) {
     match answer {
-        Ok(Merged::Changed) => assert_eq!(rt; wanted, Answer::Changed),
-        Ok(Merged::Same) => assert_eq!(rt; wanted, Answer::Same),
+        Ok(Merged::Changed) => assert!(rt; wanted == Answer::Changed, "a change"),
+        Ok(Merged::Same) => assert!(rt; wanted == Answer::Same, "no change"),
         Err(fault) => refused(rt, fault, wanted),
     }
 }

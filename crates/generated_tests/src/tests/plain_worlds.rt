@@ -231,11 +231,21 @@ impl Sessions {
         }
     }
 
-    /// Marks the window of a place as done, and counts what was looked at and asked.
-    fn mark(&mut self, rt: &impl Abort, session: u128, window: usize, asked: &Rows) {
+    /// Whether a side covers the window of a place.
+    fn is_covered(&self, rt: &impl Abort, window: usize, side: &PlainSide) -> bool {
+        covers(side, &self.windows.get(window).expect(rt, "a window").rows)
+    }
+
+    /// Marks the window of a place as done, and counts its leaves.
+    fn finish(&mut self, rt: &impl Abort, window: usize) -> u64 {
         let stored = self.windows.get_mut(window).expect(rt, "a window");
         stored.is_done = true;
-        let checked = count(&stored.rows.leaves);
+        count(&stored.rows.leaves)
+    }
+
+    /// Marks the window of a place as done, and counts what was looked at and asked.
+    fn mark(&mut self, rt: &impl Abort, session: u128, window: usize, asked: &Rows) {
+        let checked = self.finish(rt, window);
         let place = self.place(session).unwrap_or(0);
         let held = self.begun.get_mut(place).expect(rt, "a session");
         held.done.checked = held.done.checked.saturating_add(checked);
@@ -253,6 +263,71 @@ impl Sessions {
         held.done.recorded = low;
         held.done.moments.1 = time;
         Some(held.done)
+    }
+}
+
+/// Settles what was fetched for a session of a target, where that stores its window.
+fn settle(
+    rt: &impl Abort,
+    alloc: Global,
+    target: &mut PlainSide,
+    sessions: &mut Sessions,
+    deny: Option<usize>,
+    session: u128,
+    fetched: &Fetched,
+) {
+    let Some(window) = sessions.window_for(session, &fetched.asked) else {
+        return;
+    };
+    for number in 0..IDS {
+        let denied = deny == Some(number);
+        settle_document(
+            rt, alloc, target, sessions, session, fetched, number, denied,
+        );
+    }
+    if sessions.is_covered(rt, window, target) {
+        sessions.mark(rt, session, window, &fetched.asked);
+    }
+}
+
+/// Settles the leaves of a document that are at or above those that are asked.
+fn settle_document(
+    rt: &impl Abort,
+    alloc: Global,
+    target: &mut PlainSide,
+    sessions: &mut Sessions,
+    session: u128,
+    fetched: &Fetched,
+    number: usize,
+    denied: bool,
+) {
+    let tree = fetched.source.tree(number);
+    let leaves = tree.leaves_above(rt, alloc, fetched.asked.leaves[number % IDS]);
+    for leaf in &leaves {
+        let row = take_leaf(rt, alloc, target, number, &tree, *leaf, denied);
+        sessions.count(rt, session, row);
+    }
+}
+
+/// The place of a session in a log.
+fn place_in(log: &[Done], session: u128) -> Option<usize> {
+    for (place, held) in log.iter().enumerate() {
+        if held.session == session {
+            return Some(place);
+        }
+    }
+    None
+}
+
+/// Puts what is told of a session into a log, where none of that session has recorded more.
+fn put_done(rt: &impl Abort, log: &mut Vec<Done>, done: Done) {
+    let Some(place) = place_in(log, done.session) else {
+        log.push(done).expect(rt, "memory");
+        return;
+    };
+    let held = log.get_mut(place).expect(rt, "an entry");
+    if held.recorded <= done.recorded {
+        *held = done;
     }
 }
 
@@ -414,40 +489,9 @@ impl PlainWorld {
 
     /// Settles a parcel for a session, where that stores its window.
     pub(crate) fn settle(&mut self, rt: &impl Abort, alloc: Global, session: u128, parcel: usize) {
-        let Some(fetched) = self.parcels.get(parcel).copied() else {
-            return;
-        };
-        let Some(window) = self.sessions.window_for(session, &fetched.asked) else {
-            return;
-        };
-        for number in 0..IDS {
-            self.settle_document(rt, alloc, session, &fetched, number);
-        }
-        let rows = self
-            .sessions
-            .windows
-            .get(window)
-            .expect(rt, "a window")
-            .rows;
-        if covers(&self.target, &rows) {
-            self.sessions.mark(rt, session, window, &fetched.asked);
-        }
-    }
-
-    /// Settles the leaves of a document that are at or above those that are asked.
-    fn settle_document(
-        &mut self,
-        rt: &impl Abort,
-        alloc: Global,
-        session: u128,
-        fetched: &Fetched,
-        number: usize,
-    ) {
-        let tree = fetched.source.tree(number);
-        let denied = self.deny == Some(number);
-        for leaf in &tree.leaves_above(rt, alloc, fetched.asked.leaves[number % IDS]) {
-            let row = take_leaf(rt, alloc, &mut self.target, number, &tree, *leaf, denied);
-            self.sessions.count(rt, session, row);
+        if let Some(fetched) = self.parcels.get(parcel) {
+            let (target, sessions) = (&mut self.target, &mut self.sessions);
+            settle(rt, alloc, target, sessions, self.deny, session, fetched);
         }
     }
 
@@ -460,20 +504,8 @@ impl PlainWorld {
 
     /// Puts an entry into the source's log, where none of its session has recorded more.
     pub(crate) fn put_entry(&mut self, rt: &impl Abort, entry: usize) {
-        let Some(entry) = self.entries.get(entry).copied() else {
-            return;
-        };
-        let Some(place) = self
-            .log
-            .iter()
-            .position(|held| held.session == entry.session)
-        else {
-            self.log.push(entry).expect(rt, "memory");
-            return;
-        };
-        let held = self.log.get_mut(place).expect(rt, "an entry");
-        if held.recorded <= entry.recorded {
-            *held = entry;
+        if let Some(entry) = self.entries.get(entry) {
+            put_done(rt, &mut self.log, *entry);
         }
     }
 

@@ -5,6 +5,7 @@ use crate::tests::merges::{are, rev};
 use crate::tests::plain_sides::{PlainSide, Row};
 use crate::tests::reference::{PLACES, Reference, bit};
 use repl_target::{Peer, Reason, Refused, Rules};
+use rev_core::Rev;
 use rev_tree::{SessionId, Tree};
 use std::alloc::Global;
 use std::process::Abort;
@@ -63,12 +64,17 @@ fn is_leaf(rt: &impl Abort, alloc: Global, tree: &Tree, wanted: &Reference, plac
     let one = rev(rt, place);
     let walk = tree.ancestry(alloc, one).expect(rt, "a revision");
     let places = wanted.ancestry(alloc, place).expect(rt, "memory");
-    let deleted = wanted.content(place).map(|content| content.0);
-    let same = match tree.content(one) {
-        Some(content) => Some(content.deleted()) == deleted && content.body() == b"{}".as_slice(),
-        None => false,
-    };
-    same && are(rt, walk.revs(), &places)
+    has_content(tree, one, wanted.content(place)) && are(rt, walk.revs(), &places)
+}
+
+/// Whether a revision has a content with the flag of a plain one and the body `{}`.
+fn has_content(tree: &Tree, one: Rev, wanted: Option<(bool, u8)>) -> bool {
+    match (tree.content(one), wanted) {
+        (Some(content), Some((deleted, _))) => {
+            content.deleted() == deleted && content.body() == b"{}".as_slice()
+        }
+        _ => false,
+    }
 }
 
 /// Whether the ledger of a session has the rows that are wanted, in whatever order.

@@ -426,7 +426,7 @@ fn world(rt: &impl Abort, alloc: Global, deny: Option<String>) -> World<Rules> {
 /// Takes a list, and asserts that the world is then its model.
 fn take(rt: &impl Abort, alloc: Global, world: &mut World<Rules>, steps: &[Step], dealer: &Dealer) {
     world.run(alloc, steps).expect(rt, "memory");
-    assert_eq!(rt; world.bag_sizes(), dealer.model.sizes());
+    assert!(rt; world.bag_sizes() == dealer.model.sizes(), "the bag");
     compare_peers(rt, alloc, world.source(), world.target(), dealer);
 }
 
