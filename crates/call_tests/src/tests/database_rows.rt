@@ -343,12 +343,12 @@ fn a_parcel_moves_into_a_thread_and_back(rt: HostRuntime) -> Result<(), Fail> {
         (Call::CopyParcel(FIRST), FETCHED),
     ];
     bench.run(&rt, ROWS);
-    let Some(parcel) = bench.parcels.pop() else {
+    let Some(parcel) = bench.held.parcels.pop() else {
         rt.panic(format_args!("a parcel"))
     };
     let child = thread::spawn(&rt, move || parcel)?;
     let parcel = child.join(&rt);
-    bench.parcels.push(parcel)?;
+    bench.held.parcels.push(parcel)?;
     static THEN: Rows = &[
         (Call::Parcel(SECOND), "0 to 2: d 2-b,2-a;"),
         (Call::CopyParcel(SECOND), FETCHED),

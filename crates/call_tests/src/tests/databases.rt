@@ -4,7 +4,7 @@ use crate::tests::texts::{
     parcel_text, tree_text, window_text,
 };
 use couch_base::{Asked, BaseFault, Database, Parcel, Put, Window};
-use doc_json::DocId;
+use doc_json::{Doc, DocId};
 use rev_core::Rev;
 use rev_tree::Origin;
 use std::alloc::Global;
@@ -52,14 +52,44 @@ pub(crate) enum Call<'a> {
 /// Calls, each with the text that it must answer.
 pub(crate) type Rows = &'static [(Call<'static>, &'static str)];
 
+/// What was read and fetched.
+#[derive(Drop)]
+pub(crate) struct Held {
+    pub(crate) windows: Vec<Window>,
+    pub(crate) asked: Vec<Asked>,
+    pub(crate) parcels: Vec<Parcel>,
+}
+
+impl Held {
+    /// Nothing.
+    pub(crate) fn new(alloc: Global) -> Held {
+        Held {
+            windows: Vec::new(alloc),
+            asked: Vec::new(alloc),
+            parcels: Vec::new(alloc),
+        }
+    }
+
+    /// Makes a copy, and gives the text of it; or reads a parcel.
+    fn answer(&mut self, alloc: Global, call: &Call) -> Option<String> {
+        match *call {
+            Call::CopyWindow(at) => copy_window(alloc, &mut self.windows, at),
+            Call::CopyRow(at) => copied_row(alloc, self.windows.get(at)?),
+            Call::CopyAsked(at) => copy_asked(alloc, &mut self.asked, at),
+            Call::CopyWanted(at) => copied_wanted(alloc, self.asked.get(at)?),
+            Call::CopyParcel(at) => copy_parcel(alloc, &mut self.parcels, at),
+            Call::Parcel(at) => asked_text(alloc, self.parcels.get(at)?.asked()),
+            _ => None,
+        }
+    }
+}
+
 /// Databases, and what was read and fetched from them.
 #[derive(Drop)]
 pub(crate) struct Bench {
     alloc: Global,
     databases: Vec<Database>,
-    windows: Vec<Window>,
-    asked: Vec<Asked>,
-    pub(crate) parcels: Vec<Parcel>,
+    pub(crate) held: Held,
 }
 
 impl Bench {
@@ -74,9 +104,7 @@ impl Bench {
         Bench {
             alloc,
             databases,
-            windows: Vec::new(alloc),
-            asked: Vec::new(alloc),
-            parcels: Vec::new(alloc),
+            held: Held::new(alloc),
         }
     }
 
@@ -89,86 +117,130 @@ impl Bench {
 
     /// Makes a call, and gives the text of its answer.
     fn answer(&mut self, call: &Call) -> Option<String> {
-        let alloc = self.alloc;
         match *call {
-            Call::DatabaseAt(uuid, seq) => self.make_at(uuid, seq),
-            Call::Put(at, text) => put(alloc, self.databases.get_mut(at)?, text),
-            Call::Edit(at, id, parent, deleted, text, number) => {
-                let db = self.databases.get_mut(at)?;
-                edit(alloc, db, id, parent, deleted, text, number)
-            }
-            Call::Numbers(at) => numbers_text(alloc, self.databases.get(at)?),
-            Call::Tree(at, id) => tree(alloc, self.databases.get(at)?, id),
-            Call::Node(at, id, rev) => node(alloc, self.databases.get(at)?, id, rev),
-            Call::Document(at, id, rev) => document(alloc, self.databases.get(at)?, id, rev),
-            Call::Page(at, since, goal, limit) => self.page(at, since, goal, limit),
-            Call::Diff(at, window) => self.diff(at, window),
-            Call::Fetch(at, asked) => self.fetch(at, asked),
-            Call::Parcel(at) => asked_text(alloc, self.parcels.get(at)?.asked()),
-            copy => self.copied(&copy),
+            Call::DatabaseAt(uuid, seq) => make_at(self.alloc, &mut self.databases, uuid, seq),
+            other => self.answer_of(place_of(&other), &other),
         }
     }
 
-    /// Makes the next database, at a sequence.
-    fn make_at(&mut self, uuid: u128, seq: u64) -> Option<String> {
-        match Database::new_at(self.alloc, uuid, seq) {
-            Ok(db) => made_text(self.alloc, self.databases.push(db).ok()),
-            Err(fault) => base_fault_text(self.alloc, fault),
+    /// Makes a call on the database of a place, or on what was read and fetched.
+    fn answer_of(&mut self, place: Option<usize>, call: &Call) -> Option<String> {
+        match place {
+            Some(at) => of_one(
+                self.alloc,
+                self.databases.get_mut(at)?,
+                &mut self.held,
+                call,
+            ),
+            None => self.held.answer(self.alloc, call),
         }
     }
+}
 
-    /// Makes a copy, and gives the text of it.
-    fn copied(&mut self, call: &Call) -> Option<String> {
-        match *call {
-            Call::CopyWindow(at) => self.copy_window(at),
-            Call::CopyRow(at) => copied_row(self.alloc, self.windows.get(at)?),
-            Call::CopyAsked(at) => self.copy_asked(at),
-            Call::CopyWanted(at) => copied_wanted(self.alloc, self.asked.get(at)?),
-            Call::CopyParcel(at) => self.copy_parcel(at),
-            _ => None,
+/// The place of the database that a call is on.
+fn place_of(call: &Call) -> Option<usize> {
+    match *call {
+        Call::Put(at, _)
+        | Call::Edit(at, _, _, _, _, _)
+        | Call::Numbers(at)
+        | Call::Tree(at, _)
+        | Call::Node(at, _, _)
+        | Call::Document(at, _, _)
+        | Call::Page(at, _, _, _)
+        | Call::Diff(at, _)
+        | Call::Fetch(at, _) => Some(at),
+        _ => None,
+    }
+}
+
+/// Makes a call on one database.
+fn of_one(alloc: Global, db: &mut Database, held: &mut Held, call: &Call) -> Option<String> {
+    match *call {
+        Call::Put(_, text) => put(alloc, db, text),
+        Call::Edit(_, id, parent, deleted, text, number) => {
+            edit(alloc, db, id, parent, deleted, text, number)
         }
-    }
-
-    /// Reads a page, which becomes the next window.
-    fn page(&mut self, at: usize, since: u64, goal: u64, limit: u64) -> Option<String> {
-        let db = self.databases.get(at)?;
-        match db.page(self.alloc, since, goal, limit) {
-            Ok(window) => keep_window(self.alloc, &mut self.windows, window),
-            Err(fault) => base_fault_text(self.alloc, fault),
+        Call::Page(_, since, goal, limit) => {
+            page(alloc, db, &mut held.windows, since, goal, limit)
         }
+        Call::Diff(_, window) => diff(alloc, db, held, window),
+        Call::Fetch(_, asked) => fetch(alloc, db, held, asked),
+        reading => read(alloc, db, &reading),
     }
+}
 
-    /// Copies a window.
-    fn copy_window(&mut self, at: usize) -> Option<String> {
-        let copy = self.windows.get(at)?.copy(self.alloc).ok()?;
-        keep_window(self.alloc, &mut self.windows, copy)
+/// Makes a call on one database that changes nothing.
+fn read(alloc: Global, db: &Database, call: &Call) -> Option<String> {
+    match *call {
+        Call::Numbers(_) => numbers_text(alloc, db),
+        Call::Tree(_, id) => tree(alloc, db, id),
+        Call::Node(_, id, rev) => node(alloc, db, id, rev),
+        Call::Document(_, id, text) => document(alloc, db, id, rev(text)?),
+        _ => None,
     }
+}
 
-    /// Asks a database for what it misses of a window.
-    fn diff(&mut self, at: usize, window: usize) -> Option<String> {
-        let db = self.databases.get(at)?;
-        let asked = db.revs_diff(self.alloc, self.windows.get(window)?).ok()?;
-        keep_asked(self.alloc, &mut self.asked, asked)
+/// Makes the next database, at a sequence.
+fn make_at(alloc: Global, databases: &mut Vec<Database>, uuid: u128, seq: u64) -> Option<String> {
+    match Database::new_at(alloc, uuid, seq) {
+        Ok(db) => made_text(alloc, databases.push(db).ok()),
+        Err(fault) => base_fault_text(alloc, fault),
     }
+}
 
-    /// Copies an asked list.
-    fn copy_asked(&mut self, at: usize) -> Option<String> {
-        let copy = self.asked.get(at)?.copy(self.alloc).ok()?;
-        keep_asked(self.alloc, &mut self.asked, copy)
+/// Reads a page, which becomes the next window.
+fn page(
+    alloc: Global,
+    db: &Database,
+    windows: &mut Vec<Window>,
+    since: u64,
+    goal: u64,
+    limit: u64,
+) -> Option<String> {
+    match db.page(alloc, since, goal, limit) {
+        Ok(window) => keep_window(alloc, windows, window),
+        Err(fault) => base_fault_text(alloc, fault),
     }
+}
 
-    /// Fetches an asked list.
-    fn fetch(&mut self, at: usize, asked: usize) -> Option<String> {
-        let db = self.databases.get(at)?;
-        let parcel = db.open_revs(self.alloc, self.asked.get(asked)?).ok()?;
-        keep_parcel(self.alloc, &mut self.parcels, parcel)
-    }
+/// Copies a window.
+fn copy_window(alloc: Global, windows: &mut Vec<Window>, at: usize) -> Option<String> {
+    let copy = windows.get(at)?.copy(alloc).ok()?;
+    keep_window(alloc, windows, copy)
+}
 
-    /// Copies a parcel.
-    fn copy_parcel(&mut self, at: usize) -> Option<String> {
-        let copy = self.parcels.get(at)?.copy(self.alloc).ok()?;
-        keep_parcel(self.alloc, &mut self.parcels, copy)
-    }
+/// Asks a database for what it misses of a window.
+fn diff(alloc: Global, db: &Database, held: &mut Held, window: usize) -> Option<String> {
+    let asked = missed(alloc, db, held.windows.get(window)?)?;
+    keep_asked(alloc, &mut held.asked, asked)
+}
+
+/// What a database misses of a window.
+fn missed(alloc: Global, db: &Database, window: &Window) -> Option<Asked> {
+    db.revs_diff(alloc, window).ok()
+}
+
+/// Copies an asked list.
+fn copy_asked(alloc: Global, lists: &mut Vec<Asked>, at: usize) -> Option<String> {
+    let copy = lists.get(at)?.copy(alloc).ok()?;
+    keep_asked(alloc, lists, copy)
+}
+
+/// Fetches an asked list.
+fn fetch(alloc: Global, db: &Database, held: &mut Held, asked: usize) -> Option<String> {
+    let parcel = fetched(alloc, db, held.asked.get(asked)?)?;
+    keep_parcel(alloc, &mut held.parcels, parcel)
+}
+
+/// What a database answers to an asked list.
+fn fetched(alloc: Global, db: &Database, asked: &Asked) -> Option<Parcel> {
+    db.open_revs(alloc, asked).ok()
+}
+
+/// Copies a parcel.
+fn copy_parcel(alloc: Global, parcels: &mut Vec<Parcel>, at: usize) -> Option<String> {
+    let copy = parcels.get(at)?.copy(alloc).ok()?;
+    keep_parcel(alloc, parcels, copy)
 }
 
 /// That something new was made and kept.
@@ -286,9 +358,15 @@ pub(crate) fn node(alloc: Global, db: &Database, id: &str, text: &str) -> Option
 }
 
 /// Reads the document at a revision.
-fn document(alloc: Global, db: &Database, id: &str, text: &str) -> Option<String> {
+fn document(alloc: Global, db: &Database, id: &str, rev: Rev) -> Option<String> {
     let id = DocId::parse(alloc, id).ok()?;
-    match db.document(alloc, &id, rev(text)?).ok()? {
+    let found = db.document(alloc, &id, rev).ok()?;
+    content_text(alloc, found)
+}
+
+/// A document, where there is one.
+fn content_text(alloc: Global, found: Option<Doc>) -> Option<String> {
+    match found {
         Some(doc) => doc_text(alloc, &doc),
         None => "no content".to_string(alloc).ok(),
     }

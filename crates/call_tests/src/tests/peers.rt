@@ -1,6 +1,7 @@
 //! Peers with what is read and fetched from them, and the calls on these by name.
 use crate::tests::databases::{
-    edit_text, keep_asked, keep_parcel, keep_window, made_text, node, parent_of, put_text, tree,
+    Held, edit_text, keep_asked, keep_parcel, keep_window, made_text, node, parent_of, put_text,
+    tree,
 };
 use crate::tests::records::{
     common_text, entry_text, fault_text, log_text, report_text, settled_text,
@@ -104,14 +105,6 @@ pub(crate) type Rows = &'static [(Call<'static>, &'static str)];
 /// A test has its lists as one static: a proof goes through each list that a test names.
 pub(crate) type Lists = &'static [Rows];
 
-/// What was read and fetched from peers.
-#[derive(Drop)]
-struct Held {
-    windows: Vec<Window>,
-    asked: Vec<Asked>,
-    parcels: Vec<Parcel>,
-}
-
 /// Peers, and what was read and fetched from them.
 #[derive(Drop)]
 struct Bench {
@@ -123,15 +116,10 @@ struct Bench {
 impl Bench {
     /// No peers.
     fn new(alloc: Global) -> Bench {
-        let held = Held {
-            windows: Vec::new(alloc),
-            asked: Vec::new(alloc),
-            parcels: Vec::new(alloc),
-        };
         Bench {
             alloc,
             peers: Vec::new(alloc),
-            held,
+            held: Held::new(alloc),
         }
     }
 
