@@ -48,13 +48,6 @@ impl Bench {
         }
     }
 
-    /// Makes the calls in order, and asserts what each answers.
-    fn run(&mut self, rt: &impl Abort, calls: &[(Call, &str)]) {
-        for (i, (call, wanted)) in calls.iter().enumerate() {
-            expect_answer(rt, i, self.answer(call), wanted);
-        }
-    }
-
     /// Makes a call, and gives the text of its answer.
     fn answer(&mut self, call: &Call) -> Option<String> {
         match *call {
@@ -63,6 +56,13 @@ impl Bench {
             Call::Put(at, session, recorded) => self.put(at, entry(session, recorded)?),
             Call::PutOne(at, moment) => self.put(at, one_document(moment)?),
             reading => self.reading(&reading),
+        }
+    }
+
+    /// Makes the calls in order, and asserts what each answers.
+    fn run(&mut self, rt: &impl Abort, calls: &[(Call, &str)]) {
+        for (i, (call, wanted)) in calls.iter().enumerate() {
+            expect_answer(rt, i, self.answer(call), wanted);
         }
     }
 

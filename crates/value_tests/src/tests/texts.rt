@@ -6,13 +6,13 @@ use test_texts::rev;
 
 /// Asserts that the call of a number could be made, and what it answered.
 pub(crate) fn expect_answer(rt: &impl Abort, number: usize, answer: Option<String>, wanted: &str) {
-    match answer {
-        Some(text) => assert!(rt;
-            text.as_str() == wanted,
-            "call {number}: {text}, not {wanted}"
-        ),
-        None => rt.panic(format_args!("call {number} can't be made")),
-    }
+    let Some(text) = answer else {
+        rt.panic(format_args!("call {number} can't be made"))
+    };
+    assert!(rt;
+        text.as_str() == wanted,
+        "call {number}: {text}, not {wanted}"
+    );
 }
 
 /// The revisions of texts that are some.
