@@ -3,49 +3,59 @@ use progress_board::{Board, BoardFault};
 use std::alloc::Global;
 use std::process::Abort;
 
+/// What a board answers to an addition.
+type Added = Result<(), BoardFault>;
+
+/// What a board of two workers and a viewer answers to the first worker and to the viewer.
+fn two_workers(alloc: Global) -> Option<([Added; 4], [(u64, u64); 2])> {
+    let Ok((board, mut seats)) = Board::new(alloc, 2, 1) else {
+        return None;
+    };
+    let mut viewer = seats.pop()?;
+    let _second = seats.pop()?;
+    let mut first = seats.pop()?;
+    let read = board.add_read(&mut first, 3);
+    let settled = board.add_settled(&mut first, 2);
+    let seen = [board.read(&mut first), board.read(&mut viewer)];
+    let ahead = board.add_settled(&mut first, 2);
+    let viewed = board.add_read(&mut viewer, 1);
+    Some(([read, settled, ahead, viewed], seen))
+}
+
 #[test]
 fn board_read(rt: HostRuntime) {
-    let Ok((board, mut seats)) = Board::new(rt.alloc(), 2, 1) else {
-        rt.panic(format_args!("no board"))
-    };
-    let (Some(mut viewer), Some(_), Some(mut first)) = (seats.pop(), seats.pop(), seats.pop())
-    else {
-        rt.panic(format_args!("no seats"))
-    };
-    let added = [
-        board.add_read(&mut first, 3),
-        board.add_settled(&mut first, 2),
+    let (added, seen) = two_workers(rt.alloc()).expect(&rt, "a board with seats");
+    let wanted = [
+        Ok(()),
+        Ok(()),
+        Err(BoardFault::AheadOfRead),
+        Err(BoardFault::NotWorker),
     ];
-    let seen = [board.read(&mut first), board.read(&mut viewer)];
-    let refused = [
-        board.add_settled(&mut first, 2),
-        board.add_read(&mut viewer, 1),
-    ];
-    assert!(rt; added == [Ok(()), Ok(())] && seen == [(2, 3), (2, 3)]);
-    assert!(rt; refused == [Err(BoardFault::AheadOfRead), Err(BoardFault::NotWorker)]);
+    assert!(rt; added == wanted && seen == [(2, 3), (2, 3)]);
+}
+
+/// What a board of a worker and a viewer answers where the worker has read all that can be counted.
+fn all_read(alloc: Global) -> Option<([Added; 3], (u64, u64))> {
+    let Ok((board, mut seats)) = Board::new(alloc, 1, 1) else {
+        return None;
+    };
+    let mut viewer = seats.pop()?;
+    let mut worker = seats.pop()?;
+    let most = board.add_read(&mut worker, 9_007_199_254_740_991);
+    let more = board.add_read(&mut worker, 1);
+    let viewed = board.add_settled(&mut viewer, 0);
+    Some(([most, more, viewed], board.read(&mut viewer)))
 }
 
 #[test]
 fn full_board(rt: HostRuntime) {
-    let Ok((board, mut seats)) = Board::new(rt.alloc(), 1, 1) else {
-        rt.panic(format_args!("no board"))
-    };
-    let (Some(mut viewer), Some(mut worker)) = (seats.pop(), seats.pop()) else {
-        rt.panic(format_args!("no seats"))
-    };
-    let answers = [
-        board.add_read(&mut worker, 9_007_199_254_740_991),
-        board.add_read(&mut worker, 1),
-        board.add_settled(&mut viewer, 0),
-    ];
-    let seen = board.read(&mut viewer);
+    let (added, seen) = all_read(rt.alloc()).expect(&rt, "a board with seats");
     let wanted = [
         Ok(()),
         Err(BoardFault::BoardFull),
         Err(BoardFault::NotWorker),
     ];
-    assert!(rt; answers == wanted);
-    assert_eq!(rt; seen, (0, 9_007_199_254_740_991));
+    assert!(rt; added == wanted && seen == (0, 9_007_199_254_740_991));
 }
 
 /// Workers and viewers, and how many seats the board then has.
