@@ -129,20 +129,21 @@ impl Gate for HoldsSettled {
     }
 }
 
-/// Holds the writer that is the first to have recorded until another has recorded too.
+/// Holds the fetcher that took the second window until the first one is recorded, and its writer there until the second
+/// one is asked for.
 #[derive(Drop)]
 struct HoldsRecorded {
-    first: AtomicBool,
-    second: AtomicBool,
+    recorded: AtomicBool,
+    asked: AtomicBool,
     ran_out: AtomicBool,
 }
 
 impl HoldsRecorded {
-    /// Nothing was recorded yet.
+    /// Nothing was told yet.
     fn new() -> HoldsRecorded {
         HoldsRecorded {
-            first: AtomicBool::new(false),
-            second: AtomicBool::new(false),
+            recorded: AtomicBool::new(false),
+            asked: AtomicBool::new(false),
             ran_out: AtomicBool::new(false),
         }
     }
@@ -152,12 +153,14 @@ impl Gate for HoldsRecorded {
     ghost may_stop = { λ _ _. ⊥ };
 
     fn at<R: Wait>(&self, _rt: &R, place: Place) -> Turn {
-        if let Place::Recorded(_, _) = place {
-            if self.first.swap(true, Ordering::SeqCst) {
-                self.second.store(true, Ordering::SeqCst);
-            } else {
-                hold(&self.second, &self.ran_out);
+        match place {
+            Place::Took(1) => hold(&self.recorded, &self.ran_out),
+            Place::Asked(1) => self.asked.store(true, Ordering::SeqCst),
+            Place::Recorded(0, _) => {
+                self.recorded.store(true, Ordering::SeqCst);
+                hold(&self.asked, &self.ran_out);
             }
+            _ => {}
         }
         Turn::Go
     }
@@ -227,11 +230,11 @@ fn fetching_goes_on_beside_a_held_writer(rt: HostRuntime) {
     assert!(rt; !gate.ran_out.load(Ordering::SeqCst), "out of turns");
 }
 
-// With the lock held at the gate, no other writer could settle and record.
+// A window is asked for under the lock, which so is free while a writer is held behind its recording.
 #[test]
-fn settling_goes_on_beside_a_writer_held_at_recorded(rt: HostRuntime) {
+fn asking_goes_on_beside_a_writer_held_at_recorded(rt: HostRuntime) {
     let gate = HoldsRecorded::new();
-    let mut bench = Bench::new(rt.alloc(), 2);
+    let mut bench = Bench::new(rt.alloc(), 1);
     bench.run(&rt, FOUR);
     expect_answer(&rt, 3, bench.replicate(&rt, &gate, A, B, TWO_ROWS), WELL);
     assert!(rt; !gate.ran_out.load(Ordering::SeqCst), "out of turns");
