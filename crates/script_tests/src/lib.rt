@@ -1,4 +1,4 @@
-//! Tests of scripts.
+//! Tests of the engine of scripts.
 #![tactic(auto)]
 
 #[cfg(test)]

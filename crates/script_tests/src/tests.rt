@@ -1,18 +1,8 @@
-//! Tests of scripts: the worked rows and the tours as tables of scripts with what they print, broken lines, devices
-//! that fail, large and hostile lines, and the engine by itself.
+//! Tests of the engine that runs a script's lines, over a server of other words than the program's: what each line is answered,
+//! when answers go out, and devices that give and take little, and fail at one of their calls.
 
-// Scripts over memory and over devices that fail.
-mod scripts;
-
-// The engine by itself.
+// What lines are answered, and when their answers go out.
 mod engine;
 
-// Large scripts and hostile lines.
-mod large;
-
-// Replications, by one thread and by the pool.
-mod pools;
-mod replications;
-
-// The tours.
-mod tours;
+// Devices that fail.
+mod devices;

@@ -1,0 +1,148 @@
+//! Devices that give and take little, and fail at one of their calls.
+
+use crate::tests::engine::{ANSWERS, LINES, Lengths};
+use script_engine::{OverRead, OverWrite, ScriptFault, ScriptRead, ScriptWrite, run_lines};
+use std::io;
+use std::io::ErrorKind;
+use std::test::Fail;
+
+/// A reader that gives a few bytes a call, and fails at one of its calls.
+#[derive(Drop)]
+pub(crate) struct NarrowReader<'a> {
+    pub(crate) bytes: &'a [u8],
+    pub(crate) calls_left: u64,
+    pub(crate) failures: u64,
+    pub(crate) reads: u64,
+}
+
+impl ScriptRead for NarrowReader<'_> {
+    ghost failures = { λ s. s.failures };
+
+    ghost reads = { λ s. s.reads };
+
+    fn read(&mut self, buffer: &mut [u8]) -> io::Result<usize> {
+        self.reads = self.reads.saturating_add(1);
+        if self.calls_left == 0 || self.failures == u64::MAX {
+            self.failures = self.failures.saturating_add(1);
+            return Err(io::Error::from(ErrorKind::Other));
+        }
+        self.calls_left -= 1;
+        let count = self.bytes.len().min(buffer.len()).min(16);
+        for i in 0..count {
+            buffer[i] = self.bytes[i];
+        }
+        self.bytes = &self.bytes[count..];
+        Ok(count)
+    }
+}
+
+/// Lines of 16 bytes with their line ends, as many as a call gives.
+const SIXTEEN: &str = "a line of these\na line of these\na line of these\n";
+
+/// Lines, how many reads of them succeed, and what is answered then: each line that was read to its end, before the next read.
+static READS: &[(&str, u64, &str)] = &[
+    (SIXTEEN, 0, ""),
+    (SIXTEEN, 1, "0\n"),
+    (SIXTEEN, 2, "0\n15\n"),
+    (SIXTEEN, 3, "0\n15\n15\n"),
+    (LINES, 0, ""),
+    (LINES, 1, "0\n3\n"),
+    (LINES, 2, "0\n3\n"),
+    (LINES, 3, "0\n3\n"),
+    (LINES, 4, "0\n3\nrefused 5 Long\n"),
+];
+
+#[test]
+fn stops_at_a_failed_read(rt: HostRuntime) -> Result<(), Fail> {
+    for (lines, calls_left, answers) in READS {
+        let mut server = Lengths { before: 0 };
+        let mut reader = NarrowReader {
+            bytes: lines.as_bytes(),
+            calls_left: *calls_left,
+            failures: 0,
+            reads: 0,
+        };
+        let mut writer = OverWrite::new(Vec::new(rt.alloc()));
+        let ended = run_lines(rt.alloc(), &mut server, &mut reader, &mut writer);
+        let faulted = matches!(ended, Err(ScriptFault::Read));
+        assert!(rt; faulted && reader.failures == 1, "at {calls_left}");
+        let written = writer.into_inner();
+        assert_eq!(rt; written.as_slice(), answers.as_bytes(), "at {calls_left}");
+    }
+    Ok(())
+}
+
+/// A writer that takes one byte a call, and fails at one of its calls.
+#[derive(Drop)]
+struct NarrowWriter {
+    written: Vec<u8>,
+    calls_left: u64,
+    failures: u64,
+}
+
+impl ScriptWrite for NarrowWriter {
+    ghost failures = { λ s. s.failures };
+
+    fn write(&mut self, bytes: &[u8]) -> io::Result<usize> {
+        let fails = self.calls_left == 0 || self.failures == u64::MAX;
+        if !fails && !bytes.is_empty() && self.written.push(bytes[0]).is_ok() {
+            self.calls_left -= 1;
+            return Ok(1);
+        }
+        if self.failures < u64::MAX {
+            self.failures += 1;
+        }
+        Err(io::Error::from(ErrorKind::Other))
+    }
+}
+
+/// At each write in turn: what went out is a beginning of the answers, as long as the writes before.
+#[test]
+fn stops_at_a_failed_write(rt: HostRuntime) -> Result<(), Fail> {
+    let writes = ANSWERS.len() as u64;
+    for calls_left in 0..=writes {
+        let mut server = Lengths { before: 0 };
+        let mut reader = OverRead::new(LINES.as_bytes());
+        let mut writer = NarrowWriter {
+            written: Vec::new(rt.alloc()),
+            calls_left,
+            failures: 0,
+        };
+        let ended = run_lines(rt.alloc(), &mut server, &mut reader, &mut writer);
+        let faulted = matches!(ended, Err(ScriptFault::Write));
+        assert_eq!(rt; faulted, calls_left < writes, "at {calls_left}");
+        assert_eq!(rt; writer.failures, if faulted { 1 } else { 0 });
+        assert_eq!(rt; writer.written.len() as u64, calls_left);
+        assert!(rt; ANSWERS.as_bytes().starts_with(writer.written.as_slice()));
+    }
+    Ok(())
+}
+
+/// Over a reader that gives 16 bytes a call: 1,500 lines, then one of 40,000 bytes.
+#[test]
+fn four_thousand_reads(rt: HostRuntime) -> Result<(), Fail> {
+    let (mut input, mut wanted) = (Vec::new(rt.alloc()), Vec::from_slice(rt.alloc(), b"0\n")?);
+    for _ in 0..1_500 {
+        input.extend_from_slice(b"a line of these\n")?;
+    }
+    for _ in 0..40_000 {
+        input.push(b'x')?;
+    }
+    for _ in 1..1_500 {
+        wanted.extend_from_slice(b"15\n")?;
+    }
+    wanted.extend_from_slice(b"refused 1501 Long\n")?;
+    let mut server = Lengths { before: 0 };
+    let mut reader = NarrowReader {
+        bytes: &input,
+        calls_left: u64::MAX,
+        failures: 0,
+        reads: 0,
+    };
+    let mut writer = OverWrite::new(Vec::new(rt.alloc()));
+    assert!(rt; !run_lines(rt.alloc(), &mut server, &mut reader, &mut writer)?);
+    let reads = reader.reads;
+    assert!(rt; reads >= 4_000, "{reads}");
+    assert_eq!(rt; writer.into_inner().as_slice(), wanted.as_slice());
+    Ok(())
+}
