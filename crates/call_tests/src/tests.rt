@@ -20,7 +20,6 @@ mod large;
 mod large_rows;
 
 // Replications by the pool.
-mod pool_rows;
 mod pools;
 
 // What watches a run of the pool, and what stops it.

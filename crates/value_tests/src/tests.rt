@@ -1,16 +1,14 @@
-//! Tests of revisions, trees, JSON values, documents, fronts, logs and boards, each a table of calls with the texts
-//! that they must answer: the worked rows, and that each call succeeds where memory suffices. They stand above the
-//! crates that they test, since a crate with tests is proved twice.
+//! Tests of revisions, JSON values, fronts, logs and boards, each a table of calls with the texts that they must answer:
+//! the worked rows, and that each call succeeds where memory suffices. They stand above the crates that they test, since a
+//! crate with tests is proved twice. Trees and documents are tested by the scripts of the program, and by crates above.
 //!
 //! A call is made by its name, so a proof sees each kind of call once. The tables are statics, so it sees none of their
 //! rows.
 
-// Revisions and trees.
+// Revisions.
 mod revisions;
-mod trees;
 
-// JSON values and documents.
-mod documents;
+// JSON values.
 mod values;
 
 // Fronts and logs.

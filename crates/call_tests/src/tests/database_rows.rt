@@ -1,8 +1,5 @@
 //! The rows of databases: pages, puts, edits, and what is asked and fetched. Each call with ample memory.
 use crate::tests::databases::{Bench, Call, Rows, expect};
-use std::process::Abort;
-use std::test::Fail;
-use std::thread;
 
 /// The first database of a bench, which is the source of what is fetched.
 const A: usize = 0;
@@ -10,10 +7,8 @@ const A: usize = 0;
 /// The second database, which asks for what it misses.
 const B: usize = 1;
 
-/// The first thing that was read or fetched, and the second.
+/// The first thing that was read or fetched.
 const FIRST: usize = 0;
-
-const SECOND: usize = 1;
 
 /// Three documents at the sequences 1, 2 and 5.
 static THREE: Rows = &[
@@ -88,32 +83,10 @@ fn a_changed_document_moves_in_the_feed(rt: HostRuntime) {
             Call::Page(A, 1, 6, 10),
             "1 to 6: 2 b 1-b; 5 c 1-e,1-d,1-c; 6 a 2-x;",
         ),
-        (
-            Call::CopyWindow(FIRST),
-            "1 to 6: 2 b 1-b; 5 c 1-e,1-d,1-c; 6 a 2-x;",
-        ),
-        (Call::CopyRow(SECOND), "2"),
         // Nothing changed between 2 and 4.
         (Call::Page(A, 2, 4, 1), "2 to 4:"),
     ];
     expect(&rt, rt.alloc(), &[7], &[THREE, ROWS]);
-}
-
-/// A value that may be moved between threads.
-fn moved<T: Send>(value: T) -> T {
-    value
-}
-
-/// A value that threads may read at once.
-fn shared<T: Sync>(value: &T) -> &T {
-    value
-}
-
-#[test]
-fn threads_may_have_all_of_it(rt: HostRuntime) {
-    let mut bench = moved(Bench::new(&rt, rt.alloc(), &[7]));
-    bench.run(&rt, THREE);
-    let _bench = shared(&bench);
 }
 
 #[test]
@@ -275,13 +248,10 @@ fn at_the_last_sequences(rt: HostRuntime) {
 
 #[test]
 fn fetch_both_leaves(rt: HostRuntime) {
-    static ROWS: Rows = &[
-        (Call::CopyWanted(FIRST), "d"),
-        (
-            Call::Fetch(A, FIRST),
-            r#"0 to 2: d 2-b,1-r live {}; d 2-a,1-r live {"n":1};"#,
-        ),
-    ];
+    static ROWS: Rows = &[(
+        Call::Fetch(A, FIRST),
+        r#"0 to 2: d 2-b,1-r live {}; d 2-a,1-r live {"n":1};"#,
+    )];
     expect(&rt, rt.alloc(), &[1, 2], &[BOTH, BOTH_ASKED, ROWS]);
 }
 
@@ -329,32 +299,6 @@ fn known_ancestor_not_asked(rt: HostRuntime) {
         (Call::Diff(B, FIRST), "0 to 2: d 2-a;"),
     ];
     expect(&rt, rt.alloc(), &[1, 2], &[BOTH, ROWS]);
-}
-
-#[test]
-fn a_parcel_moves_into_a_thread_and_back(rt: HostRuntime) -> Result<(), Fail> {
-    const FETCHED: &str = r#"0 to 2: d 2-b,1-r live {}; d 2-a,1-r live {"n":1};"#;
-    let mut bench = Bench::new(&rt, rt.alloc(), &[1, 2]);
-    bench.run(&rt, BOTH);
-    bench.run(&rt, BOTH_ASKED);
-    static ROWS: Rows = &[
-        (Call::CopyAsked(FIRST), "0 to 2: d 2-b,2-a;"),
-        (Call::Fetch(A, SECOND), FETCHED),
-        (Call::CopyParcel(FIRST), FETCHED),
-    ];
-    bench.run(&rt, ROWS);
-    let Some(parcel) = bench.held.parcels.pop() else {
-        rt.panic(format_args!("a parcel"))
-    };
-    let child = thread::spawn(&rt, move || parcel)?;
-    let parcel = child.join(&rt);
-    bench.held.parcels.push(parcel)?;
-    static THEN: Rows = &[
-        (Call::Parcel(SECOND), "0 to 2: d 2-b,2-a;"),
-        (Call::CopyParcel(SECOND), FETCHED),
-    ];
-    bench.run(&rt, THEN);
-    Ok(())
 }
 
 #[test]

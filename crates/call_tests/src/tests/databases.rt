@@ -31,22 +31,10 @@ pub(crate) enum Call<'a> {
     Document(usize, &'a str, &'a str),
     /// Reads a page above a sequence, towards a goal, of some rows at most. It becomes the next window.
     Page(usize, u64, u64, u64),
-    /// Copies a window, which becomes the next window.
-    CopyWindow(usize),
-    /// Copies the first row of a window, and reads its sequence.
-    CopyRow(usize),
     /// Asks a database for what it misses of a window. That becomes the next asked list.
     Diff(usize, usize),
-    /// Copies an asked list, which becomes the next asked list.
-    CopyAsked(usize),
-    /// Copies what is asked of the first document of an asked list, and reads its id.
-    CopyWanted(usize),
     /// Fetches an asked list from a database. That becomes the next parcel.
     Fetch(usize, usize),
-    /// Copies a parcel, which becomes the next parcel.
-    CopyParcel(usize),
-    /// Reads a parcel, and what was asked for it.
-    Parcel(usize),
 }
 
 /// Calls, each with the text that it must answer.
@@ -69,19 +57,6 @@ impl Held {
             parcels: Vec::new(alloc),
         }
     }
-
-    /// Makes a copy, and gives the text of it; or reads a parcel.
-    fn answer(&mut self, alloc: Global, call: &Call) -> Option<String> {
-        match *call {
-            Call::CopyWindow(at) => copy_window(alloc, &mut self.windows, at),
-            Call::CopyRow(at) => copied_row(alloc, self.windows.get(at)?),
-            Call::CopyAsked(at) => copy_asked(alloc, &mut self.asked, at),
-            Call::CopyWanted(at) => copied_wanted(alloc, self.asked.get(at)?),
-            Call::CopyParcel(at) => copy_parcel(alloc, &mut self.parcels, at),
-            Call::Parcel(at) => asked_text(alloc, self.parcels.get(at)?.asked()),
-            _ => None,
-        }
-    }
 }
 
 /// Databases, and what was read and fetched from them.
@@ -89,7 +64,7 @@ impl Held {
 pub(crate) struct Bench {
     alloc: Global,
     databases: Vec<Database>,
-    pub(crate) held: Held,
+    held: Held,
 }
 
 impl Bench {
@@ -123,17 +98,14 @@ impl Bench {
         }
     }
 
-    /// Makes a call on the database of a place, or on what was read and fetched.
+    /// Makes a call on the database of a place.
     fn answer_of(&mut self, place: Option<usize>, call: &Call) -> Option<String> {
-        match place {
-            Some(at) => of_one(
-                self.alloc,
-                self.databases.get_mut(at)?,
-                &mut self.held,
-                call,
-            ),
-            None => self.held.answer(self.alloc, call),
-        }
+        of_one(
+            self.alloc,
+            self.databases.get_mut(place?)?,
+            &mut self.held,
+            call,
+        )
     }
 }
 
@@ -203,12 +175,6 @@ fn page(
     }
 }
 
-/// Copies a window.
-fn copy_window(alloc: Global, windows: &mut Vec<Window>, at: usize) -> Option<String> {
-    let copy = windows.get(at)?.copy(alloc).ok()?;
-    keep_window(alloc, windows, copy)
-}
-
 /// Asks a database for what it misses of a window.
 fn diff(alloc: Global, db: &Database, held: &mut Held, window: usize) -> Option<String> {
     let asked = missed(alloc, db, held.windows.get(window)?)?;
@@ -220,12 +186,6 @@ fn missed(alloc: Global, db: &Database, window: &Window) -> Option<Asked> {
     db.revs_diff(alloc, window).ok()
 }
 
-/// Copies an asked list.
-fn copy_asked(alloc: Global, lists: &mut Vec<Asked>, at: usize) -> Option<String> {
-    let copy = lists.get(at)?.copy(alloc).ok()?;
-    keep_asked(alloc, lists, copy)
-}
-
 /// Fetches an asked list.
 fn fetch(alloc: Global, db: &Database, held: &mut Held, asked: usize) -> Option<String> {
     let parcel = fetched(alloc, db, held.asked.get(asked)?)?;
@@ -235,12 +195,6 @@ fn fetch(alloc: Global, db: &Database, held: &mut Held, asked: usize) -> Option<
 /// What a database answers to an asked list.
 fn fetched(alloc: Global, db: &Database, asked: &Asked) -> Option<Parcel> {
     db.open_revs(alloc, asked).ok()
-}
-
-/// Copies a parcel.
-fn copy_parcel(alloc: Global, parcels: &mut Vec<Parcel>, at: usize) -> Option<String> {
-    let copy = parcels.get(at)?.copy(alloc).ok()?;
-    keep_parcel(alloc, parcels, copy)
 }
 
 /// That something new was made and kept.
@@ -273,18 +227,6 @@ pub(crate) fn keep_parcel(
 ) -> Option<String> {
     parcels.push(parcel).ok()?;
     parcel_text(alloc, parcels.last()?)
-}
-
-/// Copies the first row of a window, and reads its sequence.
-fn copied_row(alloc: Global, window: &Window) -> Option<String> {
-    let copy = window.rows().first()?.copy(alloc).ok()?;
-    shown(alloc, &copy.seq())
-}
-
-/// Copies what is asked of the first document of a list, and reads its id.
-fn copied_wanted(alloc: Global, asked: &Asked) -> Option<String> {
-    let copy = asked.docs().first()?.copy(alloc).ok()?;
-    copy.id().text().to_string(alloc).ok()
 }
 
 /// Makes lists of calls on a bench of their own, with databases of these uuids, and asserts what each answers.

@@ -10,7 +10,7 @@ use crate::tests::texts::{expect_answer, place_text};
 use progress_board::{Board, BoardSeat};
 use repl_log::{Moment, RepId, common};
 use repl_pool::{Gate, Open, PoolFault, Ran, run, run_on};
-use repl_target::{Peer, Plan, Report, Rules, audit, replicate_alone};
+use repl_target::{Peer, Plan, Report, Rules, audit};
 use rev_tree::SessionId;
 use std::alloc::Global;
 use std::mem;
@@ -34,14 +34,10 @@ pub(crate) struct How {
 pub(crate) enum Call<'a> {
     /// Makes the next peer: its uuid, and the prefix that its filter refuses.
     Peer(u128, Option<&'a str>),
-    /// Loads a document.
-    Load(usize, &'a str),
     /// Loads the documents d0, d1 and so on, so many.
     Fill(usize, u64),
     /// Replicates one peer into another by the pool.
     Run(usize, usize, How),
-    /// Replicates the first peer into the second by one thread.
-    Alone(How),
     /// Reads the tree of a document.
     Tree(usize, &'a str),
     /// Reads the entry of a session.
@@ -98,16 +94,12 @@ impl Bench {
     fn answer_alone(&mut self, call: &Call) -> Option<String> {
         match *call {
             Call::Peer(uuid, deny) => make(self.alloc, &mut self.peers, uuid, deny),
-            Call::Alone(how) => self.alone(how),
             Call::Common(source, target, _) | Call::Audit(source, target) => {
                 let (source, target) = (self.peers.get(source)?, self.peers.get(target)?);
                 compare(self.alloc, source, target, call)
             }
-            Call::Load(at, _)
-            | Call::Fill(at, _)
-            | Call::Tree(at, _)
-            | Call::Entry(at, _)
-            | Call::SourceLog(at, _) => of_one(self.alloc, self.peers.get_mut(at)?, call),
+            Call::Fill(at, _) | Call::Tree(at, _) | Call::Entry(at, _) | Call::SourceLog(at, _) =>
+                of_one(self.alloc, self.peers.get_mut(at)?, call),
             Call::Run(_, _, _) => None,
         }
     }
@@ -191,19 +183,11 @@ impl Bench {
         self.give(rt, target, into);
         ended_text(self.alloc, outcome, &fetched)
     }
-
-    /// Replicates the first peer into the second by one thread.
-    fn alone(&mut self, how: How) -> Option<String> {
-        let plan = self.plan(how)?;
-        let (source, others) = self.peers.split_first_mut()?;
-        carried(self.alloc, source, others.first_mut()?, &plan)
-    }
 }
 
 /// Makes a call on one peer.
 fn of_one(alloc: Global, peer: &mut Peer<Rules>, call: &Call) -> Option<String> {
     match *call {
-        Call::Load(_, text) => load(alloc, peer, text),
         Call::Fill(_, documents) => fill(alloc, peer, documents),
         Call::Tree(_, id) => tree(alloc, peer.db(), id),
         Call::Entry(_, session) => entry(alloc, peer, session),
@@ -223,19 +207,6 @@ fn compare(
         Call::Common(_, _, rep) => agreed(alloc, source, target, rep),
         Call::Audit(_, _) => found_text(alloc, audit(alloc, source, target)),
         _ => None,
-    }
-}
-
-/// Replicates a peer into another one by one thread.
-fn carried(
-    alloc: Global,
-    source: &mut Peer<Rules>,
-    target: &mut Peer<Rules>,
-    plan: &Plan,
-) -> Option<String> {
-    match replicate_alone(alloc, source, target, plan) {
-        Ok(report) => report_text(alloc, report),
-        Err(fault) => fault_text(alloc, fault),
     }
 }
 

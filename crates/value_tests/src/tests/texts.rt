@@ -1,8 +1,7 @@
-//! Revisions, signatures and ancestries of texts, the texts of what calls answer, and the wanted answers.
-use rev_core::{Ancestry, Rev, Sig};
+//! Signatures and ancestries of texts, and the wanted answers.
+use rev_core::{Ancestry, Sig};
 use std::alloc::Global;
 use std::process::Abort;
-use test_texts::rev;
 
 /// Asserts that the call of a number could be made, and what it answered.
 pub(crate) fn expect_answer(rt: &impl Abort, number: usize, answer: Option<String>, wanted: &str) {
@@ -13,15 +12,6 @@ pub(crate) fn expect_answer(rt: &impl Abort, number: usize, answer: Option<Strin
         text.as_str() == wanted,
         "call {number}: {text}, not {wanted}"
     );
-}
-
-/// The revisions of texts that are some.
-pub(crate) fn revs(alloc: Global, texts: &[&str]) -> Option<Vec<Rev>> {
-    let mut all = Vec::new(alloc);
-    for text in texts {
-        all.push(rev(text)?).ok()?;
-    }
-    Some(all)
 }
 
 /// The signatures of texts that are some.
