@@ -9,160 +9,111 @@ use repl_log::LogFault;
 use repl_pool::PoolFault;
 use repl_target::TargetFault;
 use rev_core::RevFault;
-use thiserror::Error;
+use std::error::Error;
+use std::fmt;
 
 /// Why a line is refused, or that memory ran out, by their names (docs/PROFILE.md, "Order of checks").
-#[derive(Clone, Copy, Debug, PartialEq, Eq, Error)]
+#[derive(Clone, Copy, Debug, PartialEq, Eq)]
 pub enum Refusal {
     /// A window is done already, which no line brings.
-    #[error("the window is done already")]
     AlreadyDone,
     /// A document has attachments.
-    #[error("a document with attachments")]
     Attachments,
     /// A batch is not 1 to 10,000.
-    #[error("a batch has 1 to 10000 documents")]
     BadBatch,
     /// The object is no command: a word, a member or its kind is wrong.
-    #[error("the object is no command")]
     BadCommand,
     /// A revision id has no generation.
-    #[error("a revision id without a generation")]
     BadGeneration,
     /// A page of no rows is asked for, which no line does.
-    #[error("a page has at least one row")]
     BadLimit,
     /// The line is no JSON object.
-    #[error("the line is no JSON object")]
     BadLine,
     /// A moment lies after the year 9999.
-    #[error("a moment after the year 9999")]
     BadMoment,
     /// The goal of a page is not above its start, which no line asks.
-    #[error("the goal is not above the start")]
     BadRange,
     /// A document's `_revisions` is no ancestry.
-    #[error("'_revisions' that is no ancestry")]
     BadRevisions,
     /// A revision id has no signature.
-    #[error("a revision id without a signature")]
     BadSig,
     /// A word of the board that shows progress would pass its limit.
-    #[error("a word of the board is full")]
     BoardFull,
     /// An edit's parent is no leaf, or it names none and a leaf is live.
-    #[error("the edit's parent is not a leaf, or a live leaf is passed over")]
     Conflict,
     /// A given revision has another parent in the document's tree.
-    #[error("a revision has another parent in the tree")]
     Contradiction,
     /// A count of the session would pass its limit.
-    #[error("a count of the session is full")]
     CountFull,
     /// A UUID is given for a database that is there.
-    #[error("the database is there already")]
     DatabaseExists,
     /// A log without entries is asked for.
-    #[error("no replication has begun")]
     EmptyLog,
     /// Documents are of no window of the session.
-    #[error("documents of no window of the session")]
     ForeignParcel,
     /// A number is neither an i64 nor a u64.
-    #[error("a number that is no 64-bit integer")]
     Fraction,
     /// A window does not follow the ones before, which no line brings.
-    #[error("a gap before the window")]
     Gap,
     /// An edit's parent has the greatest generation.
-    #[error("no generation after 4294967295")]
     GenerationFull,
     /// The goal of a page is above the update sequence, which no line asks.
-    #[error("the goal is above the update sequence")]
     GoalAhead,
     /// A session has its goal below its start.
-    #[error("the goal is below the start")]
     GoalBelowStart,
     /// A worker was stopped, which no line's replication is.
-    #[error("a worker was stopped")]
     Halted,
     /// A leaf of the source isn't covered, which no replication ends with.
-    #[error("a leaf of the source is not covered")]
     Hole,
     /// An allocation was refused.
-    #[error("out of memory")]
     Memory,
     /// No database has the name.
-    #[error("no database has this name")]
     NoDatabase,
     /// A document's id is absent, no text, or empty.
-    #[error("no document id")]
     NoId,
     /// A document has no revision id.
-    #[error("no revision id")]
     NoRev,
     /// A session begins behind none of its replication, which no line asks.
-    #[error("no such base session")]
     NoSuchBase,
     /// The database has no document of the id.
-    #[error("the database has no such document")]
     NoSuchDocument,
     /// The document has no such revision, or it has no content.
-    #[error("the document has no such revision")]
     NoSuchRevision,
     /// The target has no such session, which no line asks for.
-    #[error("no such session")]
     NoSuchSession,
     /// A pool without workers.
-    #[error("a pool has 1 to 64 workers")]
     NoWorkers,
     /// A document or a body is no object.
-    #[error("not an object")]
     NotObject,
     /// A log's entry has a greater recorded sequence, which no line is refused for.
-    #[error("older than the log's entry")]
     Older,
     /// A window ends above the goal, which no line brings.
-    #[error("the window ends above the goal")]
     PastGoal,
     /// A document's id begins with `_` and is no id of a design document.
-    #[error("a reserved document id")]
     ReservedId,
     /// The revision of an edit is there already.
-    #[error("the edit is there already")]
     RevExists,
     /// A document's `_rev` is not the newest of its `_revisions`.
-    #[error("'_rev' that is not the newest of '_revisions'")]
     RevMismatch,
     /// Source and target are one database.
-    #[error("the source and the target are one database")]
     SamePeer,
     /// The update sequence is the greatest one.
-    #[error("no sequence after 9007199254740991")]
     SeqFull,
     /// A database is asked for at a sequence above the greatest one, which no line does.
-    #[error("an update sequence above 9007199254740991")]
     SeqTooLarge,
     /// The target holds the session.
-    #[error("the session is there already")]
     SessionExists,
     /// A special member is not known, or `_deleted` is no flag.
-    #[error("a special member that is not known, or '_deleted' that is no flag")]
     SpecialMember,
     /// A session begins above what is recorded, which no line asks.
-    #[error("the start is above what is recorded")]
     StartAboveBase,
     /// A window was settled in part: memory or a sequence was wanting.
-    #[error("a window was settled in part")]
     Stopped,
     /// A pool of more than 64 workers.
-    #[error("a pool has 1 to 64 workers")]
     TooManyWorkers,
     /// A leaf of a window is not covered by what was fetched.
-    #[error("a leaf of the window is not covered")]
     Uncovered,
     /// Another database has the UUID.
-    #[error("another database has this UUID")]
     UuidTaken,
 }
 
@@ -222,6 +173,63 @@ impl Refusal {
             Refusal::TooManyWorkers => "TooManyWorkers",
             Refusal::Uncovered => "Uncovered",
             Refusal::UuidTaken => "UuidTaken",
+        }
+    }
+
+    /// A text for who reads it.
+    fn text(&self) -> &'static str {
+        match self {
+            Refusal::AlreadyDone => "the window is done already",
+            Refusal::Attachments => "a document with attachments",
+            Refusal::BadBatch => "a batch has 1 to 10000 documents",
+            Refusal::BadCommand => "the object is no command",
+            Refusal::BadGeneration => "a revision id without a generation",
+            Refusal::BadLimit => "a page has at least one row",
+            Refusal::BadLine => "the line is no JSON object",
+            Refusal::BadMoment => "a moment after the year 9999",
+            Refusal::BadRange => "the goal is not above the start",
+            Refusal::BadRevisions => "'_revisions' that is no ancestry",
+            Refusal::BadSig => "a revision id without a signature",
+            Refusal::BoardFull => "a word of the board is full",
+            Refusal::Conflict => "the edit's parent is not a leaf, or a live leaf is passed over",
+            Refusal::Contradiction => "a revision has another parent in the tree",
+            Refusal::CountFull => "a count of the session is full",
+            Refusal::DatabaseExists => "the database is there already",
+            Refusal::EmptyLog => "no replication has begun",
+            Refusal::ForeignParcel => "documents of no window of the session",
+            Refusal::Fraction => "a number that is no 64-bit integer",
+            Refusal::Gap => "a gap before the window",
+            Refusal::GenerationFull => "no generation after 4294967295",
+            Refusal::GoalAhead => "the goal is above the update sequence",
+            Refusal::GoalBelowStart => "the goal is below the start",
+            Refusal::Halted => "a worker was stopped",
+            Refusal::Hole => "a leaf of the source is not covered",
+            Refusal::Memory => "out of memory",
+            Refusal::NoDatabase => "no database has this name",
+            Refusal::NoId => "no document id",
+            Refusal::NoRev => "no revision id",
+            Refusal::NoSuchBase => "no such base session",
+            Refusal::NoSuchDocument => "the database has no such document",
+            Refusal::NoSuchRevision => "the document has no such revision",
+            Refusal::NoSuchSession => "no such session",
+            Refusal::NoWorkers => "a pool has 1 to 64 workers",
+            Refusal::NotObject => "not an object",
+            Refusal::Older => "older than the log's entry",
+            Refusal::PastGoal => "the window ends above the goal",
+            Refusal::ReservedId => "a reserved document id",
+            Refusal::RevExists => "the edit is there already",
+            Refusal::RevMismatch => "'_rev' that is not the newest of '_revisions'",
+            Refusal::SamePeer => "the source and the target are one database",
+            Refusal::SeqFull => "no sequence after 9007199254740991",
+            Refusal::SeqTooLarge => "an update sequence above 9007199254740991",
+            Refusal::SessionExists => "the session is there already",
+            Refusal::SpecialMember =>
+                "a special member that is not known, or '_deleted' that is no flag",
+            Refusal::StartAboveBase => "the start is above what is recorded",
+            Refusal::Stopped => "a window was settled in part",
+            Refusal::TooManyWorkers => "a pool has 1 to 64 workers",
+            Refusal::Uncovered => "a leaf of the window is not covered",
+            Refusal::UuidTaken => "another database has this UUID",
         }
     }
 
@@ -333,3 +341,12 @@ impl Refusal {
         }
     }
 }
+
+impl fmt::Display for Refusal {
+    /// Writes the text.
+    fn fmt<W: fmt::Write>(&self, f: &mut fmt::Formatter<W>) -> fmt::Result {
+        f.write_str(self.text())
+    }
+}
+
+impl Error for Refusal {}
