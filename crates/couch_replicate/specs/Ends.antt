@@ -1,10 +1,11 @@
 -- How the words of a command line end, over any reader and writer: docs/PROFILE.md, "Options" and "Answers".
 use Rattle.std.specs.Prelude.{◌≡◌, ℕ, List, Bool, Option, Result, Ok, Err}
-use Rattle.std.specs.Io.KnownBytes.{Appends}
+use Rattle.std.specs.Io.KnownBytes.{Appends, Consumes}
 use Rattle.script_engine.specs.Device.{Gives}
-use Rattle.script_engine.specs.Script.{IsAnswered}
-use Rattle.script_engine.specs.Faults.{IsToldUntil}
+use Rattle.script_engine.specs.Script.{AnswersEnded, IsAnswered}
+use Rattle.script_engine.specs.Faults.{IsSent, IsToldUntil}
 use Rattle.script_engine.specs.declared.fault.ScriptFault.{ScriptFault}
+use Rattle.script_engine.specs.declared.fault.ScriptFault.TheVariants.{Read}
 use Rattle.script_databases.specs.Databases.{Program, State, no_databases}
 use Rattle.script_databases.specs.Stored.{program_of}
 use Rattle.script_databases.specs.declared.settings.Settings.{Settings}
@@ -14,18 +15,23 @@ use Rattle.couch_replicate.specs.declared.run.Ended.{Ended}
 use Rattle.couch_replicate.specs.declared.run.Ended.TheVariants.{NotRun, Ran}
 
 -- What a script was answered, of a program that is set so: all of it, or a beginning, which a fault of a read or of
--- memory cuts between two answers. First what the reader has left, then what
--- the writer holds, before and after.
-abbrev pub Answered : Program → Option (List ℕ) → Option (List ℕ) → Option (List ℕ) → Result Bool ScriptFault → Type 0
-Answered program left held held' (Ok clean) =
+-- memory cuts between two answers; where a read failed, the answers to all lines that were read in before. First what
+-- the reader has left, before and after, then what the writer was given, before and after.
+abbrev pub Answered : Program → Option (List ℕ) → Option (List ℕ) → Option (List ℕ) → Option (List ℕ)
+    → Result Bool ScriptFault → Type 0
+Answered program left left' held held' (Ok clean) =
     (input : List ℕ) × (text : List ℕ) × (state : State) × Gives left input × Appends held held' text
     × IsAnswered LinesAnswer (no_databases program) input clean text state
-Answered program left held held' (Err fault) =
-    (input : List ℕ) × (text : List ℕ) × Gives left input × Appends held held' text
-    × IsToldUntil fault LinesAnswer (no_databases program) input text
+Answered program left left' held held' (Err fault) =
+    ((input : List ℕ) × (text : List ℕ) × Gives left input × Appends held held' text
+    × IsToldUntil fault LinesAnswer (no_databases program) input text)
+    × (fault ≡ Read → (taken : List ℕ) × (text : List ℕ) × (state : State) × Consumes left left' taken
+    × Appends held held' text × AnswersEnded LinesAnswer (no_databases program) taken text state)
 
--- words that give no settings: nothing is read or written; else a script is run with the settings that they give
-abbrev pub Ends : List (List ℕ) → Option (List ℕ) → Option (List ℕ) → Option (List ℕ) → Option (List ℕ) → Ended → Type 0
-Ends words left left' held held' (NotRun why) = Refuses words why × (left' ≡ left) × (held' ≡ held)
-Ends words left left' held held' (Ran ended) =
-    (s : Settings) × Says words s × Answered (program_of s) left held held' ended
+-- Words that give no settings: nothing is read or written. Else a script is run with the settings that they give, and
+-- what the writer was given has been passed on, unless a write failed.
+abbrev pub Ends : List (List ℕ) → Option (List ℕ) → Option (List ℕ) → Option (List ℕ) → Option (List ℕ) → Option (List ℕ)
+    → Ended → Type 0
+Ends words left left' held held' sent (NotRun why) = Refuses words why × (left' ≡ left) × (held' ≡ held)
+Ends words left left' held held' sent (Ran ended) =
+    (s : Settings) × Says words s × Answered (program_of s) left left' held held' ended × IsSent ended held' sent

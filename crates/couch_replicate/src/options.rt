@@ -15,7 +15,7 @@ const ABOUT: &str =
 /// What a script is, for `--help`.
 const SCRIPT_HELP: &str =
     "Each line of standard input is a JSON object, and is answered on standard output.
-`db` is a name of 1 to 32 letters, digits, `-` or `_`.
+`db` and `name` are names of 1 to 32 letters, digits, `-` or `_`.
 
   {\"do\":\"load\",\"db\":\"a\"}
       makes the database `a`, where it is not there;
@@ -37,15 +37,23 @@ const SCRIPT_HELP: &str =
       carries to `b` what it misses of `a`, from where their logs agree; \"session\" gives the
       session's UUID, else one is made; \"workers\", \"batch\" and \"at\" stand in the place of
       the options; \"stop_after\":1 stops after one window, \"alone\":true has one thread,
-      \"progress\":true tells before the answer how much was settled of what was read
+      \"progress\":true tells before the answer how much was settled of what was read;
+      \"doc_ids\":[\"d\",\"e\"] carries these documents alone, from where the logs of this
+      list agree
   {\"do\":\"log\",\"source\":\"a\",\"target\":\"b\",\"side\":\"source\"}
-      prints what a side, `source` or `target`, keeps of the replications from `a` to `b`
+      prints what a side, `source` or `target`, keeps of the replications from `a` to `b`;
+      with \"doc_ids\" of those of these documents
   {\"do\":\"audit\",\"source\":\"a\",\"target\":\"b\"}
       tells whether `b` has, or has refused, all that both logs say was carried: `clean`, or
-      the first revision that is missing
+      the first revision that is missing; with \"doc_ids\" of these documents
+  {\"do\":\"backup\",\"db\":\"a\",\"name\":\"k\"}
+      keeps a copy of `a` under the name `k`; nothing may have been replicated into `a`
+  {\"do\":\"restore\",\"db\":\"a\",\"name\":\"k\"}
+      puts `a` back to its copy `k`, with the logs of that time; the copy is kept
 
 Blank lines are passed over. A line that is refused is answered with `refused LINE NAME`,
 and changes nothing; but what a replication has carried before it was refused stays.
+docs/PROFILE.md, \"Names of refusals\", has a sentence for each NAME.
 
 Exit status: 0; 1 where a line was refused; 2 for a bad command line; 3 where reading,
 writing or memory failed.";

@@ -1,7 +1,7 @@
 //! The program: its words, its standard input and output, and its exit status.
 ghost use Rattle.std.specs.Prelude.{◌≡◌, ◌≤◌};
 ghost use Rattle.clap.specs.Words.{kind_of};
-ghost use Rattle.couch_replicate.specs.Status.{ended_status, kind_status, status_of, unflushed};
+ghost use Rattle.couch_replicate.specs.Status.{ended_status, kind_status, status_of};
 
 use crate::options::NoSettings;
 use crate::run::{Ended, run_words};
@@ -9,16 +9,13 @@ use clap::Error;
 use clap::error::ErrorKind;
 use script_engine::{OverRead, OverWrite, ScriptFault};
 use std::env::Env;
-use std::io::{BufWriter, Eprint, Input, Print, Write};
+use std::io::{Eprint, Input, Print};
 use std::sync::Wait;
 use std::thread::Threads;
 use std::{env, io};
 
 /// The exit status for words that are no command line.
 const BAD_COMMAND_LINE: u8 = 2;
-
-/// How many bytes of answers are written at a time.
-const BUFFER: usize = 65536;
 
 /// Runs the program, and gives its exit status: 0; 1 where a line was refused; 2 for a bad command line; 3 where
 /// reading, writing or memory failed.
@@ -46,32 +43,16 @@ fn words_of<H: AllocGlobal + Env>(rt: &H) -> io::Result<Vec<String>> {
     Ok(words)
 }
 
-/// Runs the words over standard input and output. Answers go out once the buffer is full, and at the end.
+/// Runs the words over standard input and output.
 fn run_standard<H: AllocGlobal + Input + Print + Threads + Wait + Sync>(
     rt: &H,
     words: &[String],
 ) -> Ended {
-    let Ok(buffered) = BufWriter::with_capacity(rt.alloc(), BUFFER, io::writer(rt)) else {
+    let Ok(mut writer) = OverWrite::new(rt.alloc(), io::writer(rt)) else {
         return Ended::NotRun(NoSettings::Memory);
     };
     let mut reader = OverRead::new(rt.reader());
-    let mut writer = OverWrite::new(buffered);
-    let ended = run_words(rt, words, &mut reader, &mut writer);
-    match writer.into_inner().flush() {
-        Ok(()) => ended,
-        Err(_) => unflushed(ended),
-    }
-}
-
-/// How a run ended whose last answers could not be written. A fault before stands.
-fn unflushed(ended: Ended) -> Ended
-    ensures { result ≡ unflushed ended }
-{
-    match ended {
-        Ended::Ran(Ok(_)) => Ended::Ran(Err(ScriptFault::Write)),
-        Ended::Ran(Err(fault)) => Ended::Ran(Err(fault)),
-        Ended::NotRun(why) => Ended::NotRun(why),
-    }
+    run_words(rt, words, &mut reader, &mut writer)
 }
 
 /// Tells on standard error how a run ended, where it isn't well, and gives the exit status.

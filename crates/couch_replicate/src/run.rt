@@ -27,7 +27,7 @@ pub fn run_words<'a, H: AllocGlobal + Threads + Wait + Sync, R: ScriptRead, W: S
     writer: &mut W,
 ) -> Ended
     ensures { Ends (map string_bytes words.entry.now) (R.left reader.old) (R.left reader.new)
-        (W.held writer.old) (W.held writer.new) result }
+        (W.held writer.old) (W.held writer.new) (W.sent writer.new) result }
 {
     let settings = match read_words(rt.alloc(), words) {
         Ok(settings) => settings,

@@ -11,3 +11,7 @@ pub mod Ancestries
 pub mod FoundRevisions
 pub mod NumberedRevisions
 pub mod ReadBack
+pub mod Choosing
+pub mod ChosenTexts
+pub mod ChosenBytes
+pub mod Marking

@@ -7,3 +7,6 @@ pub mod Revisions
 pub mod DocRead
 pub mod DocText
 pub mod IdText
+pub mod Marks
+pub mod Chosen
+pub mod ChosenLaws

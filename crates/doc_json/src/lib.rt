@@ -5,16 +5,19 @@
 #![tactic(auto)]
 
 mod body;
+mod chosen;
 mod compact;
 mod doc;
 mod doc_id;
 mod fault;
+mod marks;
 mod members;
 mod read;
 mod revisions;
 mod write;
 
 pub use body::{Body, read_body};
+pub use chosen::{Chosen, is_chosen};
 pub use doc::Doc;
 pub use doc_id::DocId;
 pub use fault::DocFault;

@@ -1,11 +1,13 @@
 -- Texts of replication ids and logs: docs/PROFILE.md, "Replication ids and logs".
-use Rattle.std.specs.Prelude.{ℕ, ◌<◌, ◌^◌, List, [], ◌∷◌, ◌++◌, map, codes, Result, Ok, Err, refl}
-use Rattle.std.specs.Coded.{Coded, code_by, coded×, coded_ℕ}
+use Rattle.std.specs.Prelude.{ℕ, ◌<◌, ◌^◌, List, [], ◌∷◌, ◌++◌, map, codes, Some, None, Result, Ok, Err, refl}
+use Rattle.std.specs.Coded.{Coded, code_by, coded×, coded_ℕ, coded_list, coded_option}
 use Rattle.std.specs.Int.{w128, to_be_bytes}
+use Rattle.std.specs.List.{AllByRecursion}
 use Rattle.hex.specs.Hex.{encode_lower}
 use Rattle.serde_json.specs.Data.{Data, number, unsigned, string, array, object, Items, Members, no_members, member}
 use Rattle.serde_json.specs.View.{items_of}
 use Rattle.serde_json.specs.Written.{compact_text}
+use Rattle.doc_json.specs.Chosen.{Choice, IsText, ids_text}
 use Rattle.repl_log.specs.declared.fault.LogFault.{LogFault}
 use Rattle.repl_log.specs.declared.fault.LogFault.TheVariants as faults
 use Rattle.repl_log.specs.declared.replication.RepId.{RepId}
@@ -18,19 +20,34 @@ id_digits n = encode_lower (to_be_bytes w128 n)
 
 -- ---- replication ids
 
--- both numbers are those of a UUID
+-- what is told of a choice: a dash, and the lower case hexadecimal digits of its ids as a JSON list
+abbrev pub choice_digits : Choice → List ℕ
+choice_digits None = []
+choice_digits (Some ids) = 45 ∷ encode_lower (ids_text ids)
+
+-- the ids of a choice are texts
+abbrev pub HasTexts : Choice → Type 0
+HasTexts None = Unit {0}
+HasTexts (Some ids) = AllByRecursion IsText ids
+
+-- both numbers are those of a UUID, and the chosen ids are texts
 pub record IsRepId (id : RepId) : Type 0 where
   pub source : id.source < 2 ^ 128
   pub target : id.target < 2 ^ 128
+  pub chosen : HasTexts id.chosen
+
+abbrev pub coded_choice : Coded Choice
+coded_choice = coded_option (coded_list (coded_list coded_ℕ))
 
 abbrev pub coded_rep : Coded RepId
 coded_rep =
-    code_by (ℕ × ℕ) (coded× coded_ℕ coded_ℕ) (λ r. (r.source, r.target)) (λ p. record { source = p.0; target = p.1 })
+    code_by (ℕ × (ℕ × Choice)) (coded× coded_ℕ (coded× coded_ℕ coded_choice))
+    (λ r. (r.source, (r.target, r.chosen))) (λ p. record { source = p.0; target = p.1.0; chosen = p.1.1 })
     (λ _. refl)
 
--- the source's digits, a dash, and the target's
+-- the source's digits, a dash, the target's, and what is told of the choice
 abbrev pub rep_text : RepId → List ℕ
-rep_text id = id_digits id.source ++ 45 ∷ id_digits id.target
+rep_text id = id_digits id.source ++ 45 ∷ (id_digits id.target ++ choice_digits id.chosen)
 
 -- ---- logs
 

@@ -105,7 +105,7 @@ impl Log {
     }
 
     /// The recorded sequence of a session, where the log holds it.
-    pub(crate) fn recorded_of(&self, session: SessionId) -> Option<u64>
+    pub fn recorded_of(&self, session: SessionId) -> Option<u64>
         ensures { result ≡ recorded_of self.now session }
     {
         // No id comes twice: the reading tells the proof.

@@ -1,11 +1,11 @@
 -- The end of a run.
-use Rattle.std.proofs.Common.{◌≡◌, ℕ, ◌<◌, ◌^◌, ◌==◌, Bool, cond, Option, Some, None, Result, Ok, Err, is_ok, refl, sym, ap, ◌∙◌, subst, arith}
+use Rattle.std.proofs.Common.{◌≡◌, ℕ, ◌==◌, Bool, cond, Option, Some, None, Result, Ok, Err, is_ok, refl, sym, ap, ◌∙◌, subst, arith}
 use Rattle.std.proofs.lemmas.Bool.{cond_both, cond-true, eqb-true, eq-eqb, false≢true}
 use Rattle.rev_tree.specs.declared.origin.SessionId.{SessionId}
 use Rattle.doc_json.specs.Document.{Document}
 use Rattle.couch_base.specs.ListLaws.{some_is}
+use Rattle.doc_json.specs.Chosen.{Choice}
 use Rattle.couch_base.specs.Database.{DatabaseValue, LawfulDatabase}
-use Rattle.couch_base.specs.WriteLaws.{IsLater-same, IsLater}
 use Rattle.range_front.specs.Front.{low_water}
 use Rattle.repl_target.specs.declared.fault.Report.{Report}
 use Rattle.repl_target.specs.declared.fault.TargetFault.{TargetFault}
@@ -16,12 +16,11 @@ use Rattle.repl_target.specs.Law.{LawfulSessions}
 use Rattle.std.specs.List.{find}
 use Rattle.repl_target.specs.Sessions.{new_session, begun as begun_by, found_answer, on_found, recorded_at, after_record, report_of, conclude_in, conclude_answer, after_conclude}
 use Rattle.repl_target.specs.Audit.{rep_between}
-use Rattle.repl_target.specs.Replication.{start_between, base_at, checkpoint_of, begins_answer, after_begins}
+use Rattle.repl_target.specs.Replication.{begins_answer, after_begins, beginning_between}
 use Rattle.repl_target.proofs.LaterPeers.{session_found}
 use Rattle.repl_target.proofs.Reading.{found-is}
-use Rattle.repl_target.specs.Calls.{Begin, Record, Conclude, IsGrown, IsTiedPair, after_calls}
-use Rattle.repl_target.specs.Later.{IsLaterPeer}
-use Rattle.repl_target.proofs.CallLaws.{calls_law, tied_grown, tied_source}
+use Rattle.repl_target.specs.Calls.{Record, Conclude, IsGrown, after_calls}
+use Rattle.repl_target.proofs.CallLaws.{calls_law}
 use Rattle.repl_target.proofs.Replicated.{grown-same, grown-later, grown-one}
 use Rattle.repl_target.proofs.Begun.{later_session, later_covers}
 use Rattle.repl_pool.specs.Grown.{GrownPeer}
@@ -29,22 +28,18 @@ use Rattle.repl_pool.specs.Runs.{EndsWell}
 use Rattle.repl_target.specs.ReadCounts.{read_of, read_in}
 use Rattle.repl_target.proofs.ReadCounts.{swap_some}
 
-module _ {F : Type 0} (refuses : F → Document → Bool) (db : DatabaseValue) where
-  pub grown_same : (p : F × PeerValue) → GrownPeer refuses db p p
-  grown_same p = (refl, grown-same (refuses p.0) db p.1)
+module _ {F : Type 0} (refuses : F → Document → Bool) (db : DatabaseValue) (chosen : Choice) (run : SessionId) where
+  pub grown_same : (p : F × PeerValue) → GrownPeer refuses db chosen run p p
+  grown_same p = (refl, grown-same (refuses p.0) db chosen run p.1)
 
-  pub grown_record : (p q : F × PeerValue) (id : SessionId) (at : ℕ) → q.0 ≡ p.0 → q.1 ≡ after_record p.1 id at → GrownPeer refuses db p q
-  grown_record p q id at same is = (same, grown-one (refuses p.0) db p.1 q.1 (Record id at) tt is)
+  pub grown_record : (p q : F × PeerValue) (id : SessionId) (at : ℕ) → q.0 ≡ p.0 → q.1 ≡ after_record p.1 id at → GrownPeer refuses db chosen run p q
+  grown_record p q id at same is = (same, grown-one (refuses p.0) db chosen run p.1 q.1 (Record id at) tt is)
 
-  pub grown_conclude : (p q : F × PeerValue) (id : SessionId) (at : ℕ) → q.0 ≡ p.0 → q.1 ≡ after_conclude p.1 id at → GrownPeer refuses db p q
-  grown_conclude p q id at same is = (same, grown-one (refuses p.0) db p.1 q.1 (Conclude id at) tt is)
+  pub grown_conclude : (p q : F × PeerValue) (id : SessionId) (at : ℕ) → q.0 ≡ p.0 → q.1 ≡ after_conclude p.1 id at → GrownPeer refuses db chosen run p q
+  grown_conclude p q id at same is = (same, grown-one (refuses p.0) db chosen run p.1 q.1 (Conclude id at) tt is)
 
-  pub grown_begins : (source : PeerValue) (p q : F × PeerValue) (plan : Plan) → source.db ≡ db → start_between source p.1 < 2 ^ 64 → q.0 ≡ p.0 → q.1 ≡ after_begins source p.1 plan → GrownPeer refuses db p q
-  grown_begins source p q plan of small same is =
-      (same, grown-one (refuses p.0) db p.1 q.1 (Begin plan.session (rep_between source p.1) (base_at (checkpoint_of source p.1)) (start_between source p.1) source.db.update_seq plan.at) small is)
-
-  pub grown_then : (p q r : F × PeerValue) → GrownPeer refuses db p q → GrownPeer refuses db q r → GrownPeer refuses db p r
-  grown_then p q r a b = (b.0 ∙ a.0, grown-later (refuses p.0) db p.1 q.1 r.1 a.1 (subst (λ f. IsGrown (refuses f) db q.1 r.1) a.0 b.1))
+  pub grown_then : (p q r : F × PeerValue) → GrownPeer refuses db chosen run p q → GrownPeer refuses db chosen run q r → GrownPeer refuses db chosen run p r
+  grown_then p q r a b = (b.0 ∙ a.0, grown-later (refuses p.0) db chosen run p.1 q.1 r.1 a.1 (subst (λ f. IsGrown (refuses f) db chosen run q.1 r.1) a.0 b.1))
 
 -- ---- a session that concluded
 
@@ -81,12 +76,12 @@ closes_in p id at report now answer after = go (session_in p.sessions id) refl a
 
 -- what a run that concluded says
 pub ends_well : (refuses : Document → Bool) (source target : PeerValue) (plan : Plan) (p now : PeerValue) (report : Report) (n : ℕ) → LawfulDatabase source.db → LawfulSessions refuses (after_begins source target plan) → begins_answer source target plan ≡ Ok tt
-    → IsGrown refuses source.db (after_begins source target plan) p → read_in p.sessions plan.session ≡ n → conclude_answer p plan.session ≡ Ok report → now ≡ after_conclude p plan.session plan.at → EndsWell source target now plan n report
+    → IsGrown refuses source.db plan.chosen plan.session (after_begins source target plan) p → read_in p.sessions plan.session ≡ n → conclude_answer p plan.session ≡ Ok report → now ≡ after_conclude p plan.session plan.at → EndsWell source target now plan n report
 ends_well refuses source target plan p now report n law l ok grown reads answer after =
     let begun = after_begins source target plan in
-    let whole = grown-later refuses source.db begun p now grown (grown-one refuses source.db p now (Conclude plan.session plan.at) tt after) in
+    let whole = grown-later refuses source.db plan.chosen plan.session begun p now grown (grown-one refuses source.db plan.chosen plan.session p now (Conclude plan.session plan.at) tt after) in
     let t = later_session refuses source target plan now law l ok whole in
-    let l' : LawfulSessions refuses now = subst (LawfulSessions refuses) (sym whole.2) (calls_law refuses source.db whole.0 begun law whole.1 l).0 in
+    let l' : LawfulSessions refuses now = subst (LawfulSessions refuses) (sym whole.2) (calls_law refuses source.db plan.chosen plan.session whole.0 begun law whole.1 l).0 in
     let c = closes_in p plan.session plan.at report now answer after in
     let found = found-is now.sessions plan.session t.session l'.distinct t.held t.id in
     let same : t.session ≡ recorded_at plan.at c.session = some_is t.session (recorded_at plan.at c.session) (sym found ∙ c.held) in
@@ -115,20 +110,11 @@ ends_well refuses source target plan p now report n law l ok grown reads answer 
 
 -- ---- any run
 
--- what a target held stays
-pub peer_later : {F : Type 0} (refuses : F → Document → Bool) (source : PeerValue) (given now : F × PeerValue) → LawfulDatabase source.db → LawfulSessions (refuses given.0) given.1 → GrownPeer refuses source.db given now → IsLaterPeer given.1 now.1
-peer_later refuses source given now law l h = subst (IsLaterPeer given.1) (sym h.1.2) (calls_law (refuses given.0) source.db h.1.0 given.1 law h.1.1 l).1
-
--- a tied pair stays tied
-pub peers_tied : {F : Type 0} (refuses : F → Document → Bool) (source : PeerValue) (given : F × PeerValue) (source' : PeerValue) (now : F × PeerValue) → LawfulDatabase source.db → LawfulSessions (refuses given.0) given.1 → GrownPeer refuses source.db given now → source'.db ≡ source.db → IsTiedPair source given.1 → IsTiedPair source' now.1
-peers_tied refuses source given source' now law l h same tied =
-    tied_source source source' now.1 (subst (λ db. IsLater source.db db) (sym same) (IsLater-same source.db)) (tied_grown (refuses given.0) source given.1 now.1 law l h.1 tied)
-
 -- the run's session stays held
-pub held_grown : {F : Type 0} (refuses : F → Document → Bool) (db : DatabaseValue) (given now : F × PeerValue) (id : SessionId) → LawfulDatabase db → LawfulSessions (refuses given.0) given.1 → GrownPeer refuses db given now
+pub held_grown : {F : Type 0} (refuses : F → Document → Bool) (db : DatabaseValue) (chosen : Choice) (given now : F × PeerValue) (id : SessionId) → LawfulDatabase db → LawfulSessions (refuses given.0) given.1 → GrownPeer refuses db chosen id given now
     → (s : SessionValue) × (session_in given.1.sessions id ≡ Some s) → (t : SessionValue) × (session_in now.1.sessions id ≡ Some t)
-held_grown refuses db given now id law l h held =
-    let calls = calls_law (refuses given.0) db h.1.0 given.1 law h.1.1 l in
+held_grown refuses db chosen given now id law l h held =
+    let calls = calls_law (refuses given.0) db chosen id h.1.0 given.1 law h.1.1 l in
     let found = session_found given.1.sessions id held.0 held.1 in
     let k = calls.1.sessions held.0 found.0 in
     let there = found-is (after_calls (refuses given.0) given.1 h.1.0).sessions held.0.id k.0 calls.0.distinct k.1 k.2.id in
@@ -137,7 +123,7 @@ held_grown refuses db given now id law l h held =
 -- a session that began is held
 pub begun_held : (source target : PeerValue) (plan : Plan) (begun : PeerValue) → begins_answer source target plan ≡ Ok tt → begun ≡ after_begins source target plan → (s : SessionValue) × (session_in begun.sessions plan.session ≡ Some s)
 begun_held source target plan begun ok is =
-    let new = new_session plan.session (rep_between source target) (base_at (checkpoint_of source target)) (start_between source target) source.db.update_seq plan.at in (
+    let new = new_session plan.session (beginning_between source target plan.chosen) plan.at in (
       new,
       ap (λ (q : PeerValue). session_in q.sessions plan.session) (is ∙ ap (begun_by target new) ok) ∙ cond-true (is_of plan.session new) (Some new) (session_in target.sessions plan.session) (eq-eqb plan.session.0 plan.session.0 refl),
     )

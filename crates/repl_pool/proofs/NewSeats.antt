@@ -1,8 +1,9 @@
 -- The seats of a new board, for who runs the pool on it.
-use Rattle.std.proofs.Common.{◌≡◌, ◌+◌, ◌≤◌, ◌++◌, List, length, slice_index_or, All, ap, ◌∙◌, subst, arith, length-append}
+use Rattle.std.proofs.Common.{◌≡◌, ◌+◌, ◌≤◌, ◌++◌, List, [], ◌∷◌, length, slice_index_or, All, ap, ◌∙◌, subst, arith, length-append}
+use Rattle.std.proofs.Math.Seq.{get_or-append_seam}
 use Rattle.std.proofs.lemmas.Bool.{lt-ltb}
 use Rattle.std.proofs.lemmas.List.{get_or_append_left}
-use Rattle.progress_board.specs.Seats.{CameWith, AreNew}
+use Rattle.progress_board.specs.Seats.{CameWith, AreNew, IsNew}
 use Rattle.progress_board.specs.declared.board.Board.{Board}
 use Rattle.progress_board.specs.declared.seat.BoardSeat.{BoardSeat}
 use Rattle.repl_pool.specs.Boards.{WorksAt}
@@ -18,3 +19,17 @@ new_workers b seats rest last new e few i d lt =
     let l : length seats ≡ length rest + length last = ap (length {A = BoardSeat}) e ∙ length-append rest last in
     let at = new i d (omega (arith, l, lt)) in
     subst (WorksAt b) s (at.came, at.works ∙ lt-ltb i b.workers (omega (arith, lt, few)))
+
+-- ---- seats that are taken from the end
+
+-- those that are left are as the board was made with them
+pub new_left : (b : Board) (seats rest last : List BoardSeat) → AreNew b seats → seats ≡ rest ++ last → AreNew b rest
+new_left b seats rest last new e i d lt =
+    let l : length seats ≡ length rest + length last = ap (length {A = BoardSeat}) e ∙ length-append rest last in
+    subst (IsNew b i) (ap (λ (xs : List BoardSeat). slice_index_or xs i d) e ∙ get_or_append_left rest last d i lt) (new i d (omega (arith, l, lt)))
+
+-- the one that was taken too
+pub new_taken : (b : Board) (seats rest : List BoardSeat) (taken : BoardSeat) → AreNew b seats → seats ≡ rest ++ taken ∷ [] → IsNew b (length rest) taken
+new_taken b seats rest taken new e =
+    let l : length seats ≡ length rest + 1 = ap (length {A = BoardSeat}) e ∙ length-append rest (taken ∷ []) in
+    subst (IsNew b (length rest)) (ap (λ (xs : List BoardSeat). slice_index_or xs (length rest) taken) e ∙ get_or-append_seam rest taken [] taken) (new (length rest) taken (omega (arith, l)))

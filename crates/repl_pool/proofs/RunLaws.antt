@@ -4,21 +4,21 @@ use Rattle.std.proofs.lemmas.Bool.{cond_both, false≢true}
 use Rattle.std.proofs.lemmas.Bool.Decides.{nat_tests}
 use Rattle.rev_tree.specs.declared.origin.SessionId.{SessionId}
 use Rattle.doc_json.specs.Document.{Document}
+use Rattle.doc_json.specs.Chosen.{Choice}
 use Rattle.couch_base.specs.Database.{DatabaseValue, LawfulDatabase}
-use Rattle.couch_base.specs.Feed.{feed}
+use Rattle.couch_base.specs.Feed.{chosen_feed}
 use Rattle.repl_target.specs.declared.fault.Report.{Report}
 use Rattle.repl_target.specs.declared.fault.TargetFault.{TargetFault}
 use Rattle.repl_target.specs.declared.replication.Plan.{Plan}
-use Rattle.repl_target.specs.Calls.{IsGrown}
+use Rattle.repl_target.specs.Calls.{IsGrown, IsLeft}
 use Rattle.repl_target.specs.Covered.{Leaf, covers, first_uncovered}
 use Rattle.repl_target.specs.Peer.{PeerValue}
 use Rattle.repl_target.specs.Law.{LawfulSessions}
 use Rattle.repl_target.specs.ReadCounts.{read_in}
 use Rattle.repl_target.specs.Sessions.{record_answer}
 use Rattle.repl_target.specs.Replication.{is_batch, start_between, begins_answer, after_begins}
-use Rattle.repl_target.proofs.Covering.{start_small}
 use Rattle.repl_target.proofs.LaterPeers.{IsLaterPeer-same}
-use Rattle.repl_target.proofs.Replicated.{grown-same}
+use Rattle.repl_target.proofs.Replicated.{grown-same, left_law, both_tied, puts_over}
 use Rattle.repl_target.proofs.SettlingTakes.{all_known}
 use Rattle.repl_pool.specs.Grown.{GrownPeer, DeskKeeps}
 use Rattle.repl_pool.specs.Runs.{IsConcluded, unfinished_at, IsRecorded, stopped, fewer, refused, PutsEntry, Walks, clean, hole, no_memory, Ends, concluded, recorded, EndsRun, EndsWell, EarlyOrLate, RunsOn}
@@ -30,14 +30,14 @@ use Rattle.repl_pool.specs.declared.gate.Place.{Place}
 use Rattle.repl_pool.specs.declared.fault.PoolFault.{PoolFault}
 use Rattle.repl_pool.specs.declared.fault.PoolFault.TheVariants as faults
 use Rattle.repl_pool.proofs.Growing.{from_given}
-use Rattle.repl_pool.proofs.Ending.{ends_well, grown_same, grown_then, grown_begins, peer_later, peers_tied}
+use Rattle.repl_pool.proofs.Ending.{ends_well}
 
 -- ---- what was given
 
-module _ {F : Type 0} (refuses : F → Document → Bool) (db source : DatabaseValue) (origin : source ≡ db) (given : F × PeerValue) (run : SessionId) (o : Option ((F × PeerValue) × SessionId)) (is : o ≡ Some (given, run)) where
-  pub given_grown : (session : SessionId) (total : ℕ) (t : F × PeerValue) → DeskKeeps refuses source o session total t → GrownPeer refuses db given t × (read_in t.1.sessions run ≡ total)
+module _ {F : Type 0} (refuses : F → Document → Bool) (db source : DatabaseValue) (origin : source ≡ db) (choice chosen : Choice) (choosing : chosen ≡ choice) (given : F × PeerValue) (run : SessionId) (o : Option ((F × PeerValue) × SessionId)) (is : o ≡ Some (given, run)) where
+  pub given_grown : (session : SessionId) (total : ℕ) (t : F × PeerValue) → DeskKeeps refuses source chosen o session total t → GrownPeer refuses db choice run given t × (read_in t.1.sessions run ≡ total)
   given_grown session total t h =
-      from_given refuses db given run session total t (subst (λ s. DeskKeeps refuses s (Some (given, run)) session total t) origin (subst (λ x. DeskKeeps refuses source x session total t) is h))
+      from_given refuses db choice given run session total t (subst (λ c. DeskKeeps refuses db c (Some (given, run)) session total t) choosing (subst (λ s. DeskKeeps refuses s chosen (Some (given, run)) session total t) origin (subst (λ x. DeskKeeps refuses source chosen x session total t) is h)))
 
 -- ---- how a run ends
 
@@ -51,19 +51,19 @@ recorded_late B P plan fault complete before after why late (stopped e same) = s
 recorded_late B P plan fault complete before after why late (fewer none less same) = unfinished_late B P (record_answer before plan.session)
 recorded_late B P plan fault complete before after why late (refused none whole answer same) = tt
 
-module _ {F : Type 0} (refuses : F → Document → Bool) (may_fill : Type 0) (may_stop : Place → Type 0) (source target : PeerValue) (begun : F × PeerValue) (plan : Plan) (start : ℕ) (counts : List ℕ) (source' now : PeerValue) (law : LawfulDatabase source.db) (l : LawfulSessions (refuses begun.0) begun.1) (ok : begins_answer source target plan ≡ Ok tt) (is : begun.1 ≡ after_begins source target plan) (first : start ≡ start_between source target) where
+module _ {F : Type 0} (refuses : F → Document → Bool) (may_fill : Type 0) (may_stop : Place → Type 0) (source target : PeerValue) (begun : F × PeerValue) (plan : Plan) (start : ℕ) (counts : List ℕ) (source' now : PeerValue) (law : LawfulDatabase source.db) (l : LawfulSessions (refuses begun.0) begun.1) (ok : begins_answer source target plan ≡ Ok tt) (is : begun.1 ≡ after_begins source target plan) (first : start ≡ start_between source target plan.chosen) where
   -- what a session says that concluded
-  concluded_well : (fault : Option PoolFault) (complete : Bool) (before : PeerValue) (report : Report) → IsGrown (refuses begun.0) source.db begun.1 before → (fault ≡ None → complete ≡ true → read_in before.sessions plan.session ≡ sum counts)
+  concluded_well : (fault : Option PoolFault) (complete : Bool) (before : PeerValue) (report : Report) → IsGrown (refuses begun.0) source.db plan.chosen plan.session begun.1 before → (fault ≡ None → complete ≡ true → read_in before.sessions plan.session ≡ sum counts)
       → IsConcluded plan fault complete before now report → EndsWell source target now plan (sum counts) report
   concluded_well fault complete before report grown read c =
       ends_well (refuses begun.0) source target plan before now report (sum counts) law (subst (LawfulSessions (refuses begun.0)) is l) ok
-      (subst (λ p. IsGrown (refuses begun.0) source.db p before) is grown) (read c.free c.whole) c.answer c.peer
+      (subst (λ p. IsGrown (refuses begun.0) source.db plan.chosen plan.session p before) is grown) (read c.free c.whole) c.answer c.peer
 
   -- so the walk finds nothing
-  no_hole : (report : Report) → EndsWell source target now plan (sum counts) report → (leaf : Leaf) → first_uncovered now (feed source.db start source.db.update_seq) ≡ Some leaf → ⊥
+  no_hole : (report : Report) → EndsWell source target now plan (sum counts) report → (leaf : Leaf) → first_uncovered now (chosen_feed plan.chosen source.db start source.db.update_seq) ≡ Some leaf → ⊥
   no_hole report w leaf some =
-      let none : first_uncovered now (feed source.db start source.db.update_seq) ≡ None =
-      ap (λ n. first_uncovered now (feed source.db n source.db.update_seq)) first ∙ all_known (covers now) (feed source.db (start_between source target) source.db.update_seq) w.covered in
+      let none : first_uncovered now (chosen_feed plan.chosen source.db start source.db.update_seq) ≡ None =
+      ap (λ n. first_uncovered now (chosen_feed plan.chosen source.db n source.db.update_seq)) first ∙ all_known (covers now) (chosen_feed plan.chosen source.db (start_between source target plan.chosen) source.db.update_seq) w.covered in
       false≢true (ap is_some (sym none ∙ some))
 
   walk_well : (report : Report) (outcome : Result Report PoolFault) → Walks source now plan start report source' outcome → EndsWell source target now plan (sum counts) report → IfOk outcome (EndsWell source target now plan (sum counts))
@@ -115,7 +115,7 @@ no_workers refuses may_fill may_stop plan start source given counts source' afte
   fault = Some faults.Memory;
   complete = false;
   before = given.1;
-  grown = grown-same (refuses given.0) source.db given.1;
+  grown = grown-same (refuses given.0) source.db plan.chosen plan.session given.1;
   late = tt;
   read = λ none whole. absurd (false≢true whole);
   ends = e;
@@ -128,7 +128,7 @@ nothing_read refuses may_fill may_stop plan start source given counts source' af
   fault = None;
   complete = true;
   before = given.1;
-  grown = grown-same (refuses given.0) source.db given.1;
+  grown = grown-same (refuses given.0) source.db plan.chosen plan.session given.1;
   late = tt;
   read = λ _ _. none ∙ ap sum (sym empty);
   ends = e;
@@ -141,9 +141,9 @@ module _ {F : Type 0} (refuses : F → Document → Bool) (may_fill : Type 0) (m
     early = subst (λ r. EarlyOrLate may_fill may_stop r source target source target fetched (Err why)) (sym early) (refl, refl, refl, none);
     filter = refl;
     log = refl;
-    grown = grown_same refuses source.1.db target;
+    grown = (refl, inl refl);
     later = IsLaterPeer-same target.1;
-    tied = λ tied. tied;
+    tied = λ _ _ tied. tied;
     put = inl (refl, refl, refl);
     well = tt;
   }
@@ -158,28 +158,30 @@ module _ {F : Type 0} (refuses : F → Document → Bool) (may_fill : Type 0) (m
         early = subst (λ r. EarlyOrLate may_fill may_stop r source target source target fetched (Err (faults.Refused why))) (sym early) tt;
         filter = refl;
         log = refl;
-        grown = grown_same refuses source.1.db target;
+        grown = (refl, inl refl);
         later = IsLaterPeer-same target.1;
-        tied = λ tied. tied;
+        tied = λ _ _ tied. tied;
         put = inl (refl, refl, refl);
         well = tt;
       })
 
   -- the workers were to be started
   pub runs_begun : (begun : F × PeerValue) (start : ℕ) (counts : List ℕ) (source' target' : F × PeerValue) (outcome : Result Report PoolFault) → early_answer source.1 target.1 plan ≡ Ok tt
-      → LawfulDatabase source.1.db → LawfulSessions (refuses target.0) target.1 → LawfulSessions (refuses begun.0) begun.1 → begins_answer source.1 target.1 plan ≡ Ok tt → begun.0 ≡ target.0 → begun.1 ≡ after_begins source.1 target.1 plan → start ≡ start_between source.1 target.1
-      → source'.0 ≡ source.0 → source'.1 ≡ record source.1 { outgoing = source'.1.outgoing } → GrownPeer refuses source.1.db begun target' → EndsRun refuses may_fill may_stop plan start source.1 begun counts source'.1 target'.1 outcome
+      → LawfulDatabase source.1.db → LawfulSessions (refuses target.0) target.1 → LawfulSessions (refuses begun.0) begun.1 → begins_answer source.1 target.1 plan ≡ Ok tt → begun.0 ≡ target.0 → begun.1 ≡ after_begins source.1 target.1 plan → start ≡ start_between source.1 target.1 plan.chosen
+      → source'.0 ≡ source.0 → source'.1 ≡ record source.1 { outgoing = source'.1.outgoing } → GrownPeer refuses source.1.db plan.chosen plan.session begun target' → EndsRun refuses may_fill may_stop plan start source.1 begun counts source'.1 target'.1 outcome
       → RunsOn refuses may_fill may_stop plan source target source' target' counts outcome
   runs_begun begun start counts source' target' outcome early law lawful lawful_begun ok same is first filter log more e =
-      let grown = grown_then refuses source.1.db target begun target' (grown_begins refuses source.1.db source.1 target begun plan refl (start_small (refuses target.0) source.1 target.1 lawful) same is) more in
+      let since : IsGrown (refuses target.0) source.1.db plan.chosen plan.session (after_begins source.1 target.1 plan) target'.1 =
+      subst (λ f. IsGrown (refuses f) source.1.db plan.chosen plan.session (after_begins source.1 target.1 plan) target'.1) same (subst (λ p. IsGrown (refuses begun.0) source.1.db plan.chosen plan.session p target'.1) is more.1) in
+      let left : IsLeft (refuses target.0) source.1 target.1 plan target'.1 = inr (ok, since) in
       let late = run_late refuses may_fill may_stop source.1 target.1 begun plan start counts source'.1 target'.1 law lawful_begun ok is first outcome e in
       record {
         early = subst (λ r. EarlyOrLate may_fill may_stop r source target source' target' counts outcome) (sym early) late.0;
         filter = filter;
         log = log;
-        grown = grown;
-        later = peer_later refuses source.1 target target' law lawful grown;
-        tied = peers_tied refuses source.1 target source'.1 target' law lawful grown (ap (λ (q : PeerValue). q.db) log);
+        grown = (more.0 ∙ same, left);
+        later = (left_law (refuses target.0) source.1 target.1 plan target'.1 law lawful left).1;
+        tied = both_tied (refuses target.0) source.1 target.1 plan source'.1 target'.1 law lawful left (puts_over source.1 target'.1 plan late.1.entry late.1.put source'.1 late.1.told late.1.puts) (ap (λ (q : PeerValue). q.db) log);
         put = inr late.1;
         well = run_well refuses may_fill may_stop source.1 target.1 begun plan start counts source'.1 target'.1 law lawful_begun ok is first outcome e;
       }

@@ -1,7 +1,7 @@
 -- What a run shows on a board: docs/PROFILE.md, "The pool".
 use Rattle.std.specs.Prelude.{◌≡◌, ◌+◌, ◌≤◌, ℕ, true, List, [], ◌∷◌, ◌++◌, Option, None, Some, Result, Ok, Err, length, option_to_list}
 use Rattle.std.specs.List.{All}
-use Rattle.progress_board.specs.Seats.{CameWith}
+use Rattle.progress_board.specs.Seats.{CameWith, seen_read, seen_settled}
 use Rattle.progress_board.specs.declared.board.Board.{Board}
 use Rattle.progress_board.specs.declared.seat.BoardSeat.{BoardSeat}
 use Rattle.repl_pool.specs.Sums.{total}
@@ -10,6 +10,10 @@ use Rattle.repl_pool.specs.declared.fault.Halt.{Halt}
 -- the seat is one of a worker of this board
 abbrev pub WorksAt : Board → BoardSeat → Type 0
 WorksAt b s = CameWith b s × (s.works ≡ true)
+
+-- nothing was read or settled by the seat, and it has seen nothing
+abbrev pub HasNothing : BoardSeat → Type 0
+HasNothing s = (s.read ≡ 0) × (s.settled ≡ 0) × (seen_read s ≡ 0) × (seen_settled s ≡ 0)
 
 -- the same worker's seat, whose words haven't fallen
 abbrev pub IsRisen : Board → BoardSeat → BoardSeat → Type 0

@@ -2,10 +2,12 @@
 use Rattle.std.specs.Prelude.{◌≡◌, ℕ, Bool, Option, Some}
 use Rattle.rev_tree.specs.declared.origin.SessionId.{SessionId}
 use Rattle.doc_json.specs.Document.{Document}
+use Rattle.doc_json.specs.Chosen.{Choice}
 use Rattle.couch_base.specs.Database.{DatabaseValue}
 use Rattle.couch_base.specs.Messages.{ParcelValue, open_revs}
 use Rattle.repl_target.specs.Peer.{PeerValue}
-use Rattle.repl_target.specs.Calls.{IsGrown}
+use Rattle.repl_target.specs.Calls.{IsGrown, IsLeft}
+use Rattle.repl_target.specs.declared.replication.Plan.{Plan}
 use Rattle.repl_target.specs.ReadCounts.{read_in}
 
 -- what the source answers to what was asked
@@ -13,13 +15,19 @@ abbrev pub IsAnswerOf : DatabaseValue → ParcelValue → Type 0
 IsAnswerOf source p = p ≡ open_revs source p.asked
 
 module _ {F : Type 0} (refuses : F → Document → Bool) where
-  -- the filter is the given one, and the peer is the given one after calls whose messages are what the source answers
-  abbrev pub GrownPeer : DatabaseValue → F × PeerValue → F × PeerValue → Type 0
-  GrownPeer source given now = (now.0 ≡ given.0) × IsGrown (refuses given.0) source given.1 now.1
+  -- the filter is the given one, and the peer is the given one after calls of a run whose messages are what the source
+  -- answers
+  abbrev pub GrownPeer : DatabaseValue → Choice → SessionId → F × PeerValue → F × PeerValue → Type 0
+  GrownPeer source chosen run given now = (now.0 ≡ given.0) × IsGrown (refuses given.0) source chosen run given.1 now.1
+
+  -- the filter is the given one; the peer is as it was given, or the plan's session has begun, and it has grown since
+  abbrev pub LeftPeer : PeerValue → F × PeerValue → Plan → F × PeerValue → Type 0
+  LeftPeer source given plan now = (now.0 ≡ given.0) × IsLeft (refuses given.0) source given.1 plan now.1
 
   -- it is known which peer was given, and which session is the run's: the peer has grown from it, and the session has
   -- read so much
-  abbrev pub DeskKeeps : DatabaseValue → Option ((F × PeerValue) × SessionId) → SessionId → ℕ → F × PeerValue → Type 0
-  DeskKeeps source given session total now =
-      (g : F × PeerValue) × (given ≡ Some (g, session)) × GrownPeer source g now
+  abbrev pub DeskKeeps : DatabaseValue → Choice → Option ((F × PeerValue) × SessionId) → SessionId → ℕ → F × PeerValue
+      → Type 0
+  DeskKeeps source chosen given session total now =
+      (g : F × PeerValue) × (given ≡ Some (g, session)) × GrownPeer source chosen session g now
       × (read_in now.1.sessions session ≡ total)

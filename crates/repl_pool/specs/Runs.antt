@@ -2,11 +2,14 @@
 use Rattle.std.specs.Prelude.{◌≡◌, ◌⊎◌, ℕ, Bool, true, false, List, [], Option, Some, None, Result, Ok, Err, IfOk, IfErr, IfSome, IsErr, sum}
 use Rattle.rev_core.specs.Rev.{RevId}
 use Rattle.doc_json.specs.Document.{Document}
+use Rattle.doc_json.specs.Chosen.{Choice}
 use Rattle.couch_base.specs.Database.{Id}
-use Rattle.couch_base.specs.Feed.{feed}
+use Rattle.couch_base.specs.Feed.{chosen_feed}
 use Rattle.repl_log.specs.Entry.{EntryValue}
 use Rattle.repl_target.specs.Audit.{rep_between}
-use Rattle.repl_target.specs.Calls.{IsGrown, IsTiedPair}
+use Rattle.repl_target.specs.Backups.{BackupValue}
+use Rattle.repl_target.specs.TiedPeers.{IsTiedWith}
+use Rattle.repl_target.specs.Calls.{IsGrown}
 use Rattle.repl_target.specs.Covered.{first_uncovered}
 use Rattle.repl_target.specs.Later.{IsLaterPeer}
 use Rattle.repl_target.specs.Peer.{PeerValue, entry_of}
@@ -18,7 +21,7 @@ use Rattle.repl_target.specs.declared.fault.TargetFault.{TargetFault}
 use Rattle.repl_target.specs.declared.fault.TargetFault.TheVariants as refusals
 use Rattle.repl_target.specs.declared.replication.Plan.{Plan}
 use Rattle.repl_pool.specs.Faults.{early_answer, IsLateOn}
-use Rattle.repl_pool.specs.Grown.{GrownPeer}
+use Rattle.repl_pool.specs.Grown.{LeftPeer}
 use Rattle.repl_pool.specs.declared.gate.Place.{Place}
 use Rattle.repl_pool.specs.declared.fault.PoolFault.{PoolFault}
 use Rattle.repl_pool.specs.declared.fault.PoolFault.TheVariants as faults
@@ -60,17 +63,17 @@ pub record PutsEntry (source target source' : PeerValue) (plan : Plan) (outcome 
     pub entry : EntryValue
     pub told : session_answer target plan.session (λ s. Ok (entry_of s)) ≡ Ok entry
     pub put : Result (Unit {0}) TargetFault
-    pub puts : PutsOver source (rep_between source target) entry put source'
+    pub puts : PutsOver source (rep_between source target plan.chosen) entry put source'
     pub done : IfOk outcome (λ _. put ≡ Ok tt)
 
 -- what a walk above the start finds, where the session was concluded: nothing, and the entry is put; or a leaf that
 -- isn't covered, and nothing is put; or no memory
 pub data Walks (source target : PeerValue) (plan : Plan) (start : ℕ) (report : Report) (source' : PeerValue) : Result
     Report PoolFault → Type 0 where
-  clean : first_uncovered target (feed source.db start source.db.update_seq) ≡ None
+  clean : first_uncovered target (chosen_feed plan.chosen source.db start source.db.update_seq) ≡ None
       → PutsEntry source target source' plan (Ok report) → Walks source target plan start report source' (Ok report)
   hole : {seq : ℕ} {id : Id} {rev : RevId}
-      → first_uncovered target (feed source.db start source.db.update_seq)
+      → first_uncovered target (chosen_feed plan.chosen source.db start source.db.update_seq)
       ≡ Some (record { seq = seq; id = id; rev = rev })
       → source' ≡ source → Walks source target plan start report source' (Err (faults.Hole seq id rev))
   no_memory : PutsEntry source target source' plan (Err faults.Memory)
@@ -95,7 +98,7 @@ pub record EndsRun {F : Type 0} (refuses : F → Document → Bool) (may_fill : 
   pub fault : Option PoolFault
   pub complete : Bool
   pub before : PeerValue
-  pub grown : IsGrown (refuses given.0) source.db given.1 before
+  pub grown : IsGrown (refuses given.0) source.db plan.chosen plan.session given.1 before
   pub late : IfSome fault (IsLateOn may_fill may_stop)
   pub read : fault ≡ None → complete ≡ true → read_in before.sessions plan.session ≡ sum counts
   pub ends : Ends plan start fault complete source before source' after outcome
@@ -117,11 +120,11 @@ LeavesOrPuts plan source target source' target' outcome =
     (source' ≡ source) × (target' ≡ target) × IsErr outcome ⊎ PutsEntry source.1 target'.1 source'.1 plan outcome
 
 -- what a run that is Ok says: the report is that of the plan's session, which began at the common checkpoint and is
--- recorded at its goal; all of the source's feed above the start is covered; and the fetchers' counts add up to the
+-- recorded at its goal; all of the source's chosen feed above the start is covered; and the fetchers' counts add up to the
 -- documents read
 pub record EndsWell (source target target' : PeerValue) (plan : Plan) (n : ℕ) (report : Report) : Type 0 where
   pub reported : IsReported source target target' plan report
-  pub covered : CoversFrom source target' (start_between source target)
+  pub covered : CoversFrom source target' plan.chosen (start_between source target plan.chosen)
   pub sum : n ≡ report.read
 
 -- What running the pool answers, and the two peers that it gives back; a board may be found full where there is one.
@@ -135,11 +138,13 @@ pub record RunsOn {F : Type 0} (refuses : F → Document → Bool) (may_fill : T
   -- the source is the given one but for its log
   pub filter : source'.0 ≡ source.0
   pub log : source'.1 ≡ record source.1 { outgoing = source'.1.outgoing }
-  -- the target is the given one after calls whose messages are what the source answers
-  pub grown : GrownPeer refuses source.1.db target target'
-  -- so it keeps all that it held, and a tied pair stays tied
+  -- the target is as it was given, or the session has begun, and it has grown by calls whose messages are what the source
+  -- answers
+  pub grown : LeftPeer refuses source.1 target plan target'
+  -- so it keeps all that it held, and tied peers stay tied, with each copy of the source, whichever choice is looked at
   pub later : IsLaterPeer target.1 target'.1
-  pub tied : IsTiedPair source.1 target.1 → IsTiedPair source'.1 target'.1
+  pub tied : (chosen : Choice) (backups : List BackupValue) → IsTiedWith backups source.1 target.1 chosen
+      → IsTiedWith backups source'.1 target'.1 chosen
   -- the entry is put at the source
   pub put : LeavesOrPuts plan source target source' target' outcome
   -- what stands at Ok

@@ -2,6 +2,7 @@
 ghost use Rattle.std.specs.Prelude.{◌≡◌, Some, Ok, IfOk, IfErr, OnOk};
 ghost use Rattle.couch_base.specs.Database.{DatabaseValue};
 ghost use Rattle.repl_target.specs.Peer.{SessionValue, session_in};
+ghost use Rattle.doc_json.specs.Chosen.{Choice};
 ghost use Rattle.repl_pool.specs.Grown.{GrownPeer};
 ghost use Rattle.repl_target.specs.Sessions.{record_answer, after_record};
 ghost use Rattle.repl_pool.specs.Runs.{IsConcluded, unfinished_at, IsRecorded, UnlessMemory, PutsEntry, Walks, Ends};
@@ -18,7 +19,7 @@ use std::alloc::Global;
 fn record<F: WriteFilter>(target: &mut Peer<F>, plan: &Plan) -> PoolFault
     ensures told { result ≡ unfinished_at (record_answer target.old.1 plan.now.session) }
     ensures peer { target.new.1 ≡ after_record target.old.1 plan.now.session plan.now.at }
-    ensures grown { (db : DatabaseValue) → GrownPeer F.refuses db target.old target.new }
+    ensures grown { (db : DatabaseValue) (c : Choice) → GrownPeer F.refuses db c plan.now.session target.old target.new }
 {
     match target.record(plan.session, plan.at) {
         Ok(low_water) => PoolFault::Refused(TargetFault::Unfinished { low_water }),
@@ -34,7 +35,7 @@ fn close_target<F: WriteFilter>(
     fault: Option<PoolFault>,
     complete: bool,
 ) -> Result<Report, PoolFault>
-    ensures grown { (db : DatabaseValue) → GrownPeer F.refuses db target.old target.new }
+    ensures grown { (db : DatabaseValue) (c : Choice) → GrownPeer F.refuses db c plan.now.session target.old target.new }
     ensures ok { IfOk result (IsConcluded plan.now fault complete target.old.1 target.new.1) }
     ensures err { IfErr result (IsRecorded plan.now fault complete target.old.1 target.new.1) }
 {
@@ -105,7 +106,7 @@ fn walk_and_put<F: WriteFilter>(
     ensures source { source.new.1 ≡ record source.old.1 { outgoing = source.new.1.outgoing } }
     ensures walks { Walks source.old.1 target.now.1 plan.now start report source.new.1 result }
 {
-    match hole_above(alloc, source, target, start) {
+    match hole_above(alloc, source, target, start, plan.chosen.as_ref()) {
         Ok(Audit::Hole { seq, id, rev }) => Err(PoolFault::Hole { seq, id, rev }),
         Ok(Audit::Clean) => put_entry(source, target, plan, Ok(report)),
         Err(_) => put_entry(source, target, plan, Err(PoolFault::Memory)),
@@ -125,7 +126,7 @@ fn close<F: WriteFilter>(
     requires held { (s : SessionValue) × (session_in target.old.1.sessions plan.now.session ≡ Some s) }
     ensures filter { source.new.0 ≡ source.old.0 }
     ensures source { source.new.1 ≡ record source.old.1 { outgoing = source.new.1.outgoing } }
-    ensures grown { (db : DatabaseValue) → GrownPeer F.refuses db target.old target.new }
+    ensures grown { (db : DatabaseValue) (c : Choice) → GrownPeer F.refuses db c plan.now.session target.old target.new }
     ensures ends { Ends plan.now start fault complete source.old.1 target.old.1 source.new.1 target.new.1 result }
 {
     // These readings tell the proof that the source's database and the target are lawful.
@@ -150,7 +151,7 @@ pub fn end<F: WriteFilter>(
     ensures seats { result.seats ≡ summed.seats }
     ensures filter { result.source.0 ≡ source.0 }
     ensures source { result.source.1 ≡ record source.1 { outgoing = result.source.1.outgoing } }
-    ensures grown { (db : DatabaseValue) → GrownPeer F.refuses db summed.target result.target }
+    ensures grown { (db : DatabaseValue) (c : Choice) → GrownPeer F.refuses db c plan.now.session summed.target result.target }
     ensures ends { Ends plan.now start summed.fault summed.complete source.1 summed.target.1 result.source.1
         result.target.1 result.outcome }
 {

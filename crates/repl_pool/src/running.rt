@@ -5,6 +5,7 @@ ghost use Rattle.couch_base.specs.Database.{DatabaseValue};
 ghost use Rattle.repl_target.specs.Peer.{SessionValue, session_in};
 ghost use Rattle.repl_target.specs.ReadCounts.{read_in};
 ghost use Rattle.repl_target.specs.Replication.{is_batch};
+ghost use Rattle.doc_json.specs.Chosen.{Choice};
 ghost use Rattle.repl_pool.specs.Grown.{GrownPeer};
 ghost use Rattle.repl_pool.specs.Boards.{WorksAt, AreRisen, HaveRisenBy, MayFill, AreSeats, AreBack, HaveShown};
 ghost use Rattle.repl_pool.specs.Runs.{Ends, EndsRun, RunsOn, Runs};
@@ -57,7 +58,7 @@ fn without_workers<F: WriteFilter>(
     ensures seats { result.seats ≡ seats }
     ensures filter { result.source.0 ≡ source.0 }
     ensures source { result.source.1 ≡ record source.1 { outgoing = result.source.1.outgoing } }
-    ensures grown { (db : DatabaseValue) → GrownPeer F.refuses db target result.target }
+    ensures grown { (db : DatabaseValue) (c : Choice) → GrownPeer F.refuses db c plan.now.session target result.target }
     ensures ends { Ends plan.now start fault (is_none fault) source.1 target.1 result.source.1 result.target.1
         result.outcome }
 {
@@ -98,12 +99,13 @@ fn run_begun<
     requires batch { is_batch plan.now.batch ≡ true }
     requires seats { AreSeats (option_copied board) 0 plan.now.workers seats.items }
     requires source { S.source ≡ source.1.db }
+    requires chosen { S.chosen ≡ plan.now.chosen }
     requires given { J.given ≡ Some (target, plan.now.session) }
     requires none { read_in target.1.sessions plan.now.session ≡ 0 }
     requires held { (s : SessionValue) × (session_in target.1.sessions plan.now.session ≡ Some s) }
     ensures filter { result.source.0 ≡ source.0 }
     ensures source { result.source.1 ≡ record source.1 { outgoing = result.source.1.outgoing } }
-    ensures grown { GrownPeer F.refuses source.1.db target result.target }
+    ensures grown { GrownPeer F.refuses source.1.db plan.now.chosen plan.now.session target result.target }
     ensures ends { EndsRun F.refuses (MayFill (option_copied board.entry)) (G.may_stop gate.now) plan.now start source.1
         target result.fetched.items result.source.1 result.target.1 result.outcome }
     ensures back { AreBack (option_copied board.entry) seats.items result.seats.items }
@@ -166,7 +168,7 @@ fn run_with<F: WriteFilter + Send + Sync, G: Gate + Sync, R: Threads + Wait + Sy
         };
     }
     let mut begun = target;
-    match begin_plan(alloc, &source, &mut begun, plan) {
+    match begin_plan(&source, &mut begun, plan) {
         Ok(start) => run_begun::<F, Brand, Brand, Brand, G, R>(
             rt,
             alloc,

@@ -15,11 +15,11 @@ use Rattle.repl_target.specs.Covered.{covers}
 use Rattle.repl_target.specs.Law.{LawfulSessions}
 use Rattle.repl_target.specs.Sessions.{goal_answer, base_answer, new_session, begun}
 use Rattle.repl_target.specs.Audit.{rep_between}
-use Rattle.repl_target.specs.Replication.{start_between, base_at, checkpoint_of, begins_answer, after_begins, CoversFrom}
+use Rattle.repl_target.specs.Replication.{start_between, base_at, checkpoint_of, begins_answer, after_begins, CoversFrom, beginning_between}
 use Rattle.couch_base.specs.MemberLaws.{any_from}
 use Rattle.repl_target.specs.Ties.{IsTiedWindow}
 use Rattle.repl_target.specs.Calls.{IsGrown, EachStored}
-use Rattle.repl_target.proofs.TiesLaws.{feed_member}
+use Rattle.repl_target.proofs.TiesLaws.{chosen_member}
 use Rattle.repl_target.proofs.CallLaws.{calls_law, calls_store}
 use Rattle.repl_target.proofs.Covering.{windows_cover}
 
@@ -28,31 +28,32 @@ pub record Later (source target : PeerValue) (plan : Plan) (now : PeerValue) : T
   pub session : SessionValue
   pub held : Among session now.sessions
   pub id : session.id ≡ plan.session
-  pub rep : session.rep ≡ rep_between source target
-  pub start : session.front.start ≡ start_between source target
+  pub rep : session.rep ≡ rep_between source target plan.chosen
+  pub start : session.front.start ≡ start_between source target plan.chosen
   pub goal : session.goal ≡ source.db.update_seq
-  pub tied : (w : WindowValue) → Among w session.windows → IsTiedWindow source.db w
+  pub tied : (w : WindowValue) → Among w session.windows → IsTiedWindow source.db plan.chosen w
 
-fresh_of : (source target : PeerValue) (plan : Plan) → begins_answer source target plan ≡ Ok tt → holds target.sessions plan.session ≡ false
+-- no session of the target has the id of one that begins
+pub fresh_of : (source target : PeerValue) (plan : Plan) → begins_answer source target plan ≡ Ok tt → holds target.sessions plan.session ≡ false
 fresh_of source target plan h =
-    let answer = goal_answer (start_between source target) source.db.update_seq (base_answer target.sessions (rep_between source target) (base_at (checkpoint_of source target)) (start_between source target)) in
+    let answer = goal_answer (start_between source target plan.chosen) source.db.update_seq (base_answer target.sessions (rep_between source target plan.chosen) (base_at (checkpoint_of source target plan.chosen)) (start_between source target plan.chosen)) in
     cond_both (holds target.sessions plan.session) (Err faults.SessionExists) answer (λ (r : Result (Unit {0}) TargetFault). r ≡ Ok tt → holds target.sessions plan.session ≡ false)
     (λ _ k. absurd (false≢true (ap is_ok k))) (λ e _. e) h
 
-pub later_session : (refuses : Document → Bool) (source target : PeerValue) (plan : Plan) (now : PeerValue) → LawfulDatabase source.db → LawfulSessions refuses (after_begins source target plan) → begins_answer source target plan ≡ Ok tt → IsGrown refuses source.db (after_begins source target plan) now → Later source target plan now
+pub later_session : (refuses : Document → Bool) (source target : PeerValue) (plan : Plan) (now : PeerValue) → LawfulDatabase source.db → LawfulSessions refuses (after_begins source target plan) → begins_answer source target plan ≡ Ok tt → IsGrown refuses source.db plan.chosen plan.session (after_begins source target plan) now → Later source target plan now
 later_session refuses source target plan now law l ok grown =
     let p = after_begins source target plan in
-    let new = new_session plan.session (rep_between source target) (base_at (checkpoint_of source target)) (start_between source target) source.db.update_seq plan.at in
+    let new = new_session plan.session (beginning_between source target plan.chosen) plan.at in
     let is : p ≡ record target { sessions = new ∷ target.sessions } = ap (begun target new) ok in
     let there : Among new p.sessions = subst (λ (q : PeerValue). Among new q.sessions) (sym is) (inl refl) in
-    let k = (calls_law refuses source.db grown.0 p law grown.1 l).1.sessions new there in
+    let k = (calls_law refuses source.db plan.chosen plan.session grown.0 p law grown.1 l).1.sessions new there in
     let own : SessionId → RepId → Type 0 = λ id rep. id ≡ plan.session in
-    let none : EachStored own (IsTiedWindow source.db) (new ∷ target.sessions) =
+    let none : EachStored own (IsTiedWindow source.db plan.chosen) (new ∷ target.sessions) =
     λ s m q w n. elim m [
       | inl e ↦ absurd (subst (Among w) (ap (λ (x : SessionValue). x.windows) e) n)
       | inr o ↦ absurd (both_ways _ (fresh_of source target plan ok) (any_from (is_of plan.session) s target.sessions o (eq-eqb s.id.0 plan.session.0 (ap (λ (i : SessionId). i.0) q))))
     ] in
-    let stored = calls_store own refuses source.db grown.0 p law grown.1 (subst (λ (q : PeerValue). EachStored own (IsTiedWindow source.db) q.sessions) (sym is) none) in
+    let stored = calls_store own refuses source.db plan.chosen plan.session grown.0 p law grown.1 (subst (λ (q : PeerValue). EachStored own (IsTiedWindow source.db plan.chosen) q.sessions) (sym is) none) in
     let held : Among k.0 now.sessions = subst (λ (q : PeerValue). Among k.0 q.sessions) (sym grown.2) k.1 in
     record {
       session = k.0;
@@ -65,8 +66,8 @@ later_session refuses source target plan now law l ok grown =
     }
 
 -- where it is recorded at the goal, all of the source's feed above its start is covered
-pub later_covers : (refuses : Document → Bool) (source target : PeerValue) (plan : Plan) (now : PeerValue) → LawfulSessions refuses now → (t : Later source target plan now) → source.db.update_seq ≤ t.session.recorded → CoversFrom source now (start_between source target)
+pub later_covers : (refuses : Document → Bool) (source target : PeerValue) (plan : Plan) (now : PeerValue) → LawfulSessions refuses now → (t : Later source target plan now) → source.db.update_seq ≤ t.session.recorded → CoversFrom source now plan.chosen (start_between source target plan.chosen)
 later_covers refuses source target plan now l t reached row m leaf k =
-    let d = feed_member source.db (start_between source target) source.db.update_seq row m in
-    let all = windows_cover refuses source.db now t.session (l.sessions t.session t.held) t.tied d.0 d.1 (omega (arith, t.start, d.3)) (omega (arith, d.4, reached)) in
+    let d = chosen_member plan.chosen source.db (start_between source target plan.chosen) source.db.update_seq row m in
+    let all = windows_cover refuses source.db plan.chosen now t.session (l.sessions t.session t.held) t.tied d.0 d.1 d.5 (omega (arith, t.start, d.3)) (omega (arith, d.4, reached)) in
     ap (λ (x : RowValue). covers now x.id leaf) d.2 ∙ all leaf (subst (λ (x : RowValue). Among leaf x.leaves) d.2 k)

@@ -1,12 +1,16 @@
 -- What loading, editing, beginning, appending, recording and concluding keep: the peer's law, and all that covers.
 use Rattle.std.proofs.Common.{◌≡◌, ◌⊎◌, ℕ, ◌<◌, ◌≤◌, ◌^◌, ◌==◌, List, [], ◌∷◌, ◌++◌, Bool, true, false, cond, ◌&&◌, Option, Some, None, Result, Ok, Err, refl, sym, ap, ◌∙◌, subst, inl, inr, arith, eqb, nat_lt, is_ok}
+use Rattle.std.specs.Prelude.{nat_eq}
+use Rattle.std.specs.Option.{option_eq}
+use Rattle.std.specs.Cmp.Lexicographic.{pointwise, pointwise_decides, bytes_decides}
 use Rattle.std.specs.List.{slice_get, IsDistinct, AllByRecursion}
-use Rattle.std.proofs.lemmas.Bool.{and_parts, cond_both, eqb-true, eqb-false, ltb-false, or_parts, false≢true, ne_eqb}
+use Rattle.std.proofs.lemmas.Bool.{and_parts, and_from, cond_both, eq-eqb, eqb-true, eqb-false, ltb-false, or_parts, false≢true, ne_eqb}
 use Rattle.std.proofs.lemmas.List.{map_push}
 use Rattle.std.proofs.lemmas.Map.Keys.{IsDistinct-cons}
 use Rattle.rev_core.specs.Rev.{RevId}
 use Rattle.rev_tree.specs.declared.origin.SessionId.{SessionId}
 use Rattle.doc_json.specs.Document.{Document}
+use Rattle.doc_json.specs.Chosen.{Choice}
 use Rattle.couch_base.specs.Lists.{Among}
 use Rattle.couch_base.specs.Database.{Id}
 use Rattle.couch_base.specs.Feed.{WindowValue, IsWindow}
@@ -21,9 +25,10 @@ use Rattle.repl_target.specs.declared.fault.TargetFault.{TargetFault}
 use Rattle.repl_target.specs.declared.fault.TargetFault.TheVariants as faults
 use Rattle.repl_target.specs.Peer.{PeerValue, SessionValue, WrittenValue, new_peer_at, written_of, is_of, session_in, holds, same_rep}
 use Rattle.repl_target.specs.Writing.{next_local, after_load, load_edited, after_edit}
-use Rattle.repl_target.specs.Sessions.{on_found, on_session, start_answer, base_in, on_base, base_answer, goal_answer, begin_answer, new_session, begun, after_begin, append_in, with_window, after_append, recorded_at, after_record, after_conclude}
+use Rattle.repl_target.specs.Sessions.{on_found, on_session, start_answer, base_in, on_base, base_answer, goal_answer, begin_answer, new_session, begun, after_begin, next_in, append_in, with_window, after_append, recorded_at, after_record, after_conclude}
 use Rattle.repl_target.specs.Law.{LawfulSession, LawfulSessions, session_numbers}
 use Rattle.repl_target.specs.Later.{Keeps, IsLaterPeer}
+use Rattle.repl_target.specs.declared.beginning.Beginning.{Beginning}
 use Rattle.couch_base.specs.MemberLaws.{Among-left, Among-push, each_push, found_member, at-append}
 use Rattle.repl_target.proofs.LaterPeers.{Keeps-same, IsLaterPeer-same, lawful-later, session_found, session_law}
 
@@ -65,12 +70,31 @@ edit_later p id parent deleted body = go (edited p.db id parent deleted body)
 
 -- ---- beginning
 
+-- the test of two choices tells them apart
+abbrev pub same_test : Choice → Choice → Bool
+same_test a b = option_eq (pointwise (pointwise nat_eq)) a b
+
+pub same_choice : (a b : Choice) → same_test a b ≡ true → a ≡ b
+same_choice None None e = refl
+same_choice None (Some ys) e = absurd (false≢true e)
+same_choice (Some xs) None e = absurd (false≢true e)
+same_choice (Some xs) (Some ys) e = ap Some ((pointwise_decides bytes_decides xs ys).0 e)
+
+same_choice-self : (c : Choice) → same_test c c ≡ true
+same_choice-self None = refl
+same_choice-self (Some ids) = (pointwise_decides bytes_decides ids ids).1 refl
+
+pub same_rep-self : (a : RepId) → same_rep a a ≡ true
+same_rep-self a = and_from _ _ (eq-eqb a.source a.source refl) (and_from _ _ (eq-eqb a.target a.target refl) (same_choice-self a.chosen))
+
 pub same_rep-is : (a b : RepId) → same_rep a b ≡ true → a ≡ b
 same_rep-is a b e =
     let k = and_parts _ _ e in
+    let m = and_parts _ _ k.1 in
     let source : a.source ≡ b.source = eqb-true _ _ k.0 in
-    let target : a.target ≡ b.target = eqb-true _ _ k.1 in
-    λ i. record { source = source i; target = target i }
+    let target : a.target ≡ b.target = eqb-true _ _ m.0 in
+    let chosen : a.chosen ≡ b.chosen = same_choice a.chosen b.chosen m.1 in
+    λ i. record { source = source i; target = target i; chosen = chosen i }
 
 session_id-is : (a b : SessionId) → a.0 ≡ b.0 → a ≡ b
 session_id-is a b e = λ i. record { 0 = e i }
@@ -101,16 +125,16 @@ goal_within start goal (Ok x) done h =
     (cond_both (nat_lt goal start) (Err faults.GoalBelowStart) (Ok tt) (λ (r : Result (Unit {0}) TargetFault). r ≡ Ok done → start ≤ goal) (λ _ k. absurd (err_ok _ done k)) (λ e _. ltb-false goal start e) h, refl)
 
 -- what beginning a session has asked
-record Begins (p : PeerValue) (id : SessionId) (rep : RepId) (base : Option SessionId) (start goal : ℕ) (done : Unit {0}) : Type 0 where
+record Begins (p : PeerValue) (id : SessionId) (b : Beginning) (done : Unit {0}) : Type 0 where
   fresh : holds p.sessions id ≡ false
-  within : start ≤ goal
-  based : base_answer p.sessions rep base start ≡ Ok done
+  within : b.start ≤ b.goal
+  based : base_answer p.sessions b.rep b.base b.start ≡ Ok done
 
-begins : (p : PeerValue) (id : SessionId) (rep : RepId) (base : Option SessionId) (start goal : ℕ) (done : Unit {0}) → begin_answer p id rep base start goal ≡ Ok done → Begins p id rep base start goal done
-begins p id rep base start goal done h =
-    cond_both (holds p.sessions id) (Err faults.SessionExists) (goal_answer start goal (base_answer p.sessions rep base start)) (λ (r : Result (Unit {0}) TargetFault). r ≡ Ok done → Begins p id rep base start goal done)
+begins : (p : PeerValue) (id : SessionId) (b : Beginning) (done : Unit {0}) → begin_answer p id b ≡ Ok done → Begins p id b done
+begins p id b done h =
+    cond_both (holds p.sessions id) (Err faults.SessionExists) (goal_answer b.start b.goal (base_answer p.sessions b.rep b.base b.start)) (λ (r : Result (Unit {0}) TargetFault). r ≡ Ok done → Begins p id b done)
     (λ _ k. absurd (err_ok _ done k))
-    (λ e k. let w = goal_within start goal (base_answer p.sessions rep base start) done k in record { fresh = e; within = w.0; based = w.1 })
+    (λ e k. let w = goal_within b.start b.goal (base_answer p.sessions b.rep b.base b.start) done k in record { fresh = e; within = w.0; based = w.1 })
     h
 
 -- a number that no session has
@@ -124,12 +148,12 @@ begun_later : (p : PeerValue) (s : SessionValue) (r : Result (Unit {0}) TargetFa
 begun_later p s (Ok done) = record { db = IsLater-same p.db; locals = λ n x e. e; sessions = λ x m. (x, inr m, Keeps-same x) }
 begun_later p s (Err fault) = IsLaterPeer-same p
 
-pub begin_later : (p : PeerValue) (id : SessionId) (rep : RepId) (base : Option SessionId) (start goal at : ℕ) → IsLaterPeer p (after_begin p id rep base start goal at)
-begin_later p id rep base start goal at = begun_later p (new_session id rep base start goal at) (begin_answer p id rep base start goal)
+pub begin_later : (p : PeerValue) (id : SessionId) (b : Beginning) (at : ℕ) → IsLaterPeer p (after_begin p id b at)
+begin_later p id b at = begun_later p (new_session id b at) (begin_answer p id b)
 
-new_lawful : (refuses : Document → Bool) (p : PeerValue) (id : SessionId) (rep : RepId) (base : Option SessionId) (start goal at : ℕ) → start < 2 ^ 64 → start ≤ goal → LawfulSession refuses p (new_session id rep base start goal at)
-new_lawful refuses p id rep base start goal at small within = record {
-  front = IsFront-no_windows start small;
+new_lawful : (refuses : Document → Bool) (p : PeerValue) (id : SessionId) (b : Beginning) (at : ℕ) → b.start < 2 ^ 64 → b.start ≤ b.goal → LawfulSession refuses p (new_session id b at)
+new_lawful refuses p id b at small within = record {
+  front = IsFront-no_windows b.start small;
   bounds = refl;
   within = within;
   windows = tt;
@@ -143,22 +167,22 @@ new_lawful refuses p id rep base start goal at small within = record {
   read = refl;
 }
 
-pub begin_law : (refuses : Document → Bool) (p : PeerValue) (id : SessionId) (rep : RepId) (base : Option SessionId) (start goal at : ℕ) → start < 2 ^ 64 → LawfulSessions refuses p → LawfulSessions refuses (after_begin p id rep base start goal at)
-begin_law refuses p id rep base start goal at small l = go (begin_answer p id rep base start goal) refl
+pub begin_law : (refuses : Document → Bool) (p : PeerValue) (id : SessionId) (b : Beginning) (at : ℕ) → b.start < 2 ^ 64 → LawfulSessions refuses p → LawfulSessions refuses (after_begin p id b at)
+begin_law refuses p id b at small l = go (begin_answer p id b) refl
   where
-    go : (r : Result (Unit {0}) TargetFault) → begin_answer p id rep base start goal ≡ r → LawfulSessions refuses (begun p (new_session id rep base start goal at) r)
+    go : (r : Result (Unit {0}) TargetFault) → begin_answer p id b ≡ r → LawfulSessions refuses (begun p (new_session id b at) r)
     go (Err fault) e = l
     go (Ok done) e =
-        let new = new_session id rep base start goal at in
+        let new = new_session id b at in
         let q : PeerValue = record p { sessions = new ∷ p.sessions } in
-        let b = begins p id rep base start goal done e in
+        let k = begins p id b done e in
         record {
           sessions = λ s m. elim m [
-            | inl i ↦ subst (LawfulSession refuses q) (sym i) (new_lawful refuses q id rep base start goal at small b.within)
+            | inl i ↦ subst (LawfulSession refuses q) (sym i) (new_lawful refuses q id b at small k.within)
             | inr n ↦ lawful-later refuses p q s (begun_later p new (Ok done)) (l.sessions s n)
           ];
-          based = (is_based p.sessions rep base start done b.based, l.based);
-          distinct = IsDistinct-cons eqb id.0 (session_numbers p.sessions) (fresh_number p.sessions id b.fresh) l.distinct;
+          based = (is_based p.sessions b.rep b.base b.start done k.based, l.based);
+          distinct = IsDistinct-cons eqb id.0 (session_numbers p.sessions) (fresh_number p.sessions id k.fresh) l.distinct;
         }
 
 -- ---- a change of a session that the peer holds
@@ -201,14 +225,21 @@ appended_lawful refuses q w s window small at within l =
     }
 
 appended_keeps : (w : WindowValue) (s : SessionValue) (r : Result (Unit {0}) TargetFault) → Keeps s (with_window w s r)
-appended_keeps w s (Ok done) = record { id = refl; rep = refl; base = refl; goal = refl; start = refl; recorded = omega arith; windows = λ v m. Among-left v s.windows (w ∷ []) m; arrivals = λ a m. m; ledger = λ x m. m }
+appended_keeps w s (Ok done) = record { id = refl; rep = refl; life = refl; base = refl; goal = refl; start = refl; recorded = omega arith; windows = λ v m. Among-left v s.windows (w ∷ []) m; arrivals = λ a m. m; ledger = λ x m. m }
 appended_keeps w s (Err fault) = Keeps-same s
 
 -- where a window is taken
-takes : (w : WindowValue) (s : SessionValue) (done : Unit {0}) → append_in w s ≡ Ok done → (w.lo ≡ end_of s.front) × (w.hi ≤ s.goal)
-takes w s done h =
+next_takes : (w : WindowValue) (s : SessionValue) (done : Unit {0}) → next_in w s ≡ Ok done → (w.lo ≡ end_of s.front) × (w.hi ≤ s.goal)
+next_takes w s done h =
     cond_both (w.lo == end_of s.front) (cond (nat_lt s.goal w.hi) (Err faults.PastGoal) (Ok tt)) (Err (faults.Gap (end_of s.front))) (λ (r : Result (Unit {0}) TargetFault). r ≡ Ok done → (w.lo ≡ end_of s.front) × (w.hi ≤ s.goal))
     (λ e k. (eqb-true _ _ e, cond_both (nat_lt s.goal w.hi) (Err faults.PastGoal) (Ok tt) (λ (r : Result (Unit {0}) TargetFault). r ≡ Ok done → w.hi ≤ s.goal) (λ _ j. absurd (err_ok _ done j)) (λ f _. ltb-false s.goal w.hi f) k))
+    (λ _ k. absurd (err_ok _ done k))
+    h
+
+pub takes : (w : WindowValue) (s : SessionValue) (done : Unit {0}) → append_in w s ≡ Ok done → (w.lo ≡ end_of s.front) × (w.hi ≤ s.goal) × (w.life ≡ s.life)
+takes w s done h =
+    cond_both (w.life == s.life) (next_in w s) (Err (faults.OtherLife s.life)) (λ (r : Result (Unit {0}) TargetFault). r ≡ Ok done → (w.lo ≡ end_of s.front) × (w.hi ≤ s.goal) × (w.life ≡ s.life))
+    (λ e k. let t = next_takes w s done k in (t.0, t.1, eqb-true _ _ e))
     (λ _ k. absurd (err_ok _ done k))
     h
 
@@ -229,7 +260,7 @@ append_later refuses p id w window small l = (append_both refuses p id w window 
 -- ---- recording and concluding
 
 recorded_keeps : (refuses : Document → Bool) (q : PeerValue) (at : ℕ) (s : SessionValue) → LawfulSession refuses q s → Keeps s (recorded_at at s)
-recorded_keeps refuses q at s l = record { id = refl; rep = refl; base = refl; goal = refl; start = refl; recorded = l.recorded; windows = λ w m. m; arrivals = λ a m. m; ledger = λ x m. m }
+recorded_keeps refuses q at s l = record { id = refl; rep = refl; life = refl; base = refl; goal = refl; start = refl; recorded = l.recorded; windows = λ w m. m; arrivals = λ a m. m; ledger = λ x m. m }
 
 recorded_lawful : (refuses : Document → Bool) (q : PeerValue) (at : ℕ) (s : SessionValue) → LawfulSession refuses q s → LawfulSession refuses q (recorded_at at s)
 recorded_lawful refuses q at s l = record {

@@ -15,6 +15,7 @@ use Rattle.rev_tree.specs.LeafLaws.{is_among-leaves}
 use Rattle.rev_tree.specs.declared.origin.Origin.{Origin}
 use Rattle.rev_tree.specs.declared.origin.SessionId.{SessionId}
 use Rattle.doc_json.specs.Document.{Document}
+use Rattle.doc_json.specs.Chosen.{Choice, is_chosen}
 use Rattle.couch_base.specs.Lists.{Among}
 use Rattle.couch_base.specs.ListLaws.{none_some, some_is}
 use Rattle.range_front.specs.Front.{low_water}
@@ -22,7 +23,7 @@ use Rattle.couch_base.specs.Database.{Id, DocumentValue, DatabaseValue, LawfulDa
 use Rattle.couch_base.specs.DatabaseLaws.{IsDocumentTree-tree_in}
 use Rattle.couch_base.specs.DocumentTreeLaws.{IsTree-no_revisions}
 use Rattle.couch_base.specs.WriteLaws.{tree_in-with_tree}
-use Rattle.couch_base.specs.Feed.{WindowValue, row_of, feed}
+use Rattle.couch_base.specs.Feed.{RowValue, WindowValue, row_of, feed, chosen_feed}
 use Rattle.couch_base.specs.Messages.{WantedValue, ParcelValue, leaf_document, opened, fetched}
 use Rattle.couch_base.specs.Put.{put_answer, is_changed, after_put}
 use Rattle.repl_target.specs.Peer.{PeerValue, SessionValue, is_of, session_in, with_session}
@@ -33,7 +34,7 @@ use Rattle.repl_target.specs.Logs.{log_of, source_log}
 use Rattle.repl_log.specs.Log.{common}
 use Rattle.repl_target.specs.Sessions.{on_found, on_session, new_session, begun, append_in, with_window, after_append, recorded_at, conclude_answer}
 use Rattle.repl_target.specs.Settling.{Settling, fed, with_arrival, is_full, settle_as, settle_one, settle_docs, settle_check, settling_of, with_settling, with_done, Settles, SettleGives}
-use Rattle.repl_target.specs.Replication.{Reading, parcel_for, Carries, Reads, ReadsAll, start_at, start_between, after_begins, closed_as, Closes, CoversFrom, IsReported, IsEmpty, SameDocuments}
+use Rattle.repl_target.specs.Replication.{Reading, parcel_for, Carries, Reads, ReadsAll, start_at, start_between, after_begins, closed_as, Closes, CoversFrom, IsReported, IsEmpty, SameDocuments, beginning_between}
 use Rattle.repl_target.specs.declared.fault.Reason.{Reason}
 use Rattle.repl_target.specs.declared.fault.Report.{Report}
 use Rattle.repl_target.specs.declared.fault.Settled.{Settled}
@@ -204,12 +205,12 @@ reads_copying refuses source plan (suc n) from now law r c = carries_copying ref
 
 module _ (source target : PeerValue) (plan : Plan) (empty : IsEmpty target) where
   -- the session begins at 0
-  starts_at_0 : start_between source target ≡ 0
-  starts_at_0 = ap (λ ss. start_at (common (source_log source (rep_between source target)) (log_of ss (rep_between source target)))) empty.1
+  starts_at_0 : start_between source target plan.chosen ≡ 0
+  starts_at_0 = ap (λ ss. start_at (common (source_log source (rep_between source target plan.chosen)) (log_of ss (rep_between source target plan.chosen)))) empty.1
 
   begun_copying : (from : Reading) → Started source target plan from → Copying source.db plan.session from.target
   begun_copying from s =
-      let new = new_session plan.session _ _ (start_between source target) source.db.update_seq plan.at in
+      let new = new_session plan.session (beginning_between source target plan.chosen) plan.at in
       let is : after_begins source target plan ≡ record target { sessions = new ∷ target.sessions } = ap (begun target new) s.begun in
       subst (λ (x : Reading). Copying source.db plan.session x.target) (sym s.is) (subst (Copying source.db plan.session) (sym is) (record {
         part = λ id. subst (λ ds. IsPart (tree_of source.db.docs id) (tree_of ds id)) (sym empty.0) (nothing_is_part (tree_of source.db.docs id));
@@ -226,10 +227,12 @@ document_there (d ∷ ds) id t h =
     (λ _ k. let later = document_there ds id t k in (later.0, inr later.1, later.2, later.3)) h
 
 -- the row of a document that is there
-row_there : (db : DatabaseValue) (d : DocumentValue) → LawfulDatabase db → Among d db.docs → Among (row_of d) (feed db 0 db.update_seq)
-row_there db d law m =
+row_there : (db : DatabaseValue) (c : Choice) (d : DocumentValue) → LawfulDatabase db → Among d db.docs → is_chosen c d.id ≡ true → Among (row_of d) (chosen_feed c db 0 db.update_seq)
+row_there db c d law m chosen =
     let within = rises_member 0 (map (λ (x : DocumentValue). x.seq) db.docs) db.update_seq d.seq law.rising (Among-mapped (λ (x : DocumentValue). x.seq) d db.docs m) in
-    Among-mapped row_of d (filter (λ x. nat_lt 0 x.seq && nat_le x.seq db.update_seq) db.docs) (Among-chosen (λ x. nat_lt 0 x.seq && nat_le x.seq db.update_seq) db.docs d m (and_from _ _ (less-is 0 d.seq within.0) (within-is d.seq db.update_seq within.1)))
+    Among-chosen (λ (r : RowValue). is_chosen c r.id) (feed db 0 db.update_seq) (row_of d)
+    (Among-mapped row_of d (filter (λ x. nat_lt 0 x.seq && nat_le x.seq db.update_seq) db.docs) (Among-chosen (λ x. nat_lt 0 x.seq && nat_le x.seq db.update_seq) db.docs d m (and_from _ _ (less-is 0 d.seq within.0) (within-is d.seq db.update_seq within.1))))
+    chosen
   where
     within-is : (a b : ℕ) → a ≤ b → nat_le a b ≡ true
     within-is a b h = grind (arith, h)
@@ -250,7 +253,7 @@ covered_there refuses p id s law only held none doc r h =
 
 copied : (refuses : Document → Bool) (source target : PeerValue) (plan : Plan) (from : Reading) (read : PeerValue) (report : Report) (source' target' : PeerValue)
     → Started source target plan from → LawfulDatabase source.db → LawfulSessions refuses from.target → ReadsAll refuses source.db plan from read → Closes source read plan (Ok report) source' target'
-    → IsEmpty target → report.failures ≡ 0 → SameDocuments source.db target'.db
+    → IsEmpty target → report.failures ≡ 0 → SameDocuments plan.chosen source.db target'.db
 copied refuses source target plan from read report source' target' s law lawful reads closes empty none = same
   where
     reported : IsReported source target target' plan report
@@ -259,8 +262,8 @@ copied refuses source target plan from read report source' target' s law lawful 
     lawful' : LawfulSessions refuses target'
     lawful' = all-lawful refuses source target plan from read (Ok report) source' target' s law lawful reads closes
 
-    all_covered : CoversFrom source target' 0
-    all_covered = subst (CoversFrom source target') (starts_at_0 source target plan empty) (all-covered refuses source target plan from read (Ok report) source' target' s law lawful reads closes)
+    all_covered : CoversFrom source target' plan.chosen 0
+    all_covered = subst (CoversFrom source target' plan.chosen) (starts_at_0 source target plan empty) (all-covered refuses source target plan from read (Ok report) source' target' s law lawful reads closes)
 
     copying : Copying source.db plan.session target'
     copying =
@@ -271,23 +274,23 @@ copied refuses source target plan from read report source' target' s law lawful 
         conclude_id : (x : SessionValue) → (cond (low_water x.front == x.goal) (recorded_at plan.at x) x).id ≡ x.id
         conclude_id x = cond_both (low_water x.front == x.goal) (recorded_at plan.at x) x (λ y. y.id ≡ x.id) (λ _. refl) (λ _. refl)
 
-    leaf_there : (id : Id) (leaf : RevId) → is_leaf (tree_of source.db.docs id) leaf ≡ true → has (tree_of target'.db.docs id) leaf ≡ true
-    leaf_there id leaf top = go (tree_in source.db.docs id) refl top
+    leaf_there : (id : Id) → is_chosen plan.chosen id ≡ true → (leaf : RevId) → is_leaf (tree_of source.db.docs id) leaf ≡ true → has (tree_of target'.db.docs id) leaf ≡ true
+    leaf_there id chosen leaf top = go (tree_in source.db.docs id) refl top
       where
         go : (o : Option TreeValue) → tree_in source.db.docs id ≡ o → is_leaf (unwrap_or o no_revisions) leaf ≡ true → has (tree_of target'.db.docs id) leaf ≡ true
         go None e h = absurd (false≢true (sym (ap is_some (get-empty rev_cmp leaf)) ∙ (and_parts _ _ h).0))
         go (Some t) e h =
             let d = document_there source.db.docs id t e in
             let among : Among leaf (leaves d.0.tree) = among_from leaf (leaves d.0.tree) (is_among-leaves d.0.tree leaf ∙ ap (λ x. is_leaf x leaf) d.3 ∙ h) in
-            let covered = all_covered (row_of d.0) (row_there source.db d.0 law d.1) leaf among in
+            let covered = all_covered (row_of d.0) (row_there source.db plan.chosen d.0 law d.1 (ap (is_chosen plan.chosen) d.2 ∙ chosen)) leaf among in
             covered_there refuses target' plan.session reported.session lawful' copying.only reported.held (sym (ap (λ (x : Report). x.failures) reported.is) ∙ none) id leaf
             (ap (λ i. covers target' i leaf) (sym d.2) ∙ covered)
 
-    same : SameDocuments source.db target'.db
-    same id = whole_part (tree_of source.db.docs id) (tree_of target'.db.docs id) (tree_lawful source.db law id) (copying.part id) (leaf_there id)
+    same : SameDocuments plan.chosen source.db target'.db
+    same id chosen = whole_part (tree_of source.db.docs id) (tree_of target'.db.docs id) (tree_lawful source.db law id) (copying.part id) (leaf_there id chosen)
 
 pub all-copied : (refuses : Document → Bool) (source target : PeerValue) (plan : Plan) (from : Reading) (read : PeerValue) (result : Result Report TargetFault) (source' target' : PeerValue)
     → Started source target plan from → LawfulDatabase source.db → LawfulSessions refuses from.target → ReadsAll refuses source.db plan from read → Closes source read plan result source' target'
-    → IfOk result (λ report. IsEmpty target → report.failures ≡ 0 → SameDocuments source.db target'.db)
+    → IfOk result (λ report. IsEmpty target → report.failures ≡ 0 → SameDocuments plan.chosen source.db target'.db)
 all-copied refuses source target plan from read (Err why) source' target' s law lawful reads closes = tt
 all-copied refuses source target plan from read (Ok report) source' target' s law lawful reads closes = copied refuses source target plan from read report source' target' s law lawful reads closes

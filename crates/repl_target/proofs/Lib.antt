@@ -1,5 +1,7 @@
 pub mod Filtering
 pub mod SessionTable
+pub mod RepIndexing
+pub mod SessionIndex
 pub mod Refusing
 pub mod Listing
 pub mod Searching
@@ -22,10 +24,13 @@ pub mod Edits
 pub mod SettlingPeers
 pub mod Reading
 pub mod Copies
+pub mod Copying
+pub mod Restored
 pub mod TiesLaws
 pub mod MessageTies
 pub mod CallLaws
 pub mod Covering
+pub mod TiedLaws
 pub mod Replicated
 pub mod SettlingTakes
 pub mod RefusedCalls

@@ -23,7 +23,6 @@ use Rattle.couch_base.specs.Messages.{ParcelValue}
 use Rattle.couch_base.specs.Put.{put_answer, is_changed, after_put, content_of}
 use Rattle.couch_base.specs.WriteLaws.{tree_in-with_tree}
 use Rattle.couch_base.specs.declared.fault.BaseFault.{BaseFault}
-use Rattle.repl_log.specs.declared.replication.RepId.{RepId}
 use Rattle.repl_target.specs.declared.fault.Reason.{Reason}
 use Rattle.repl_target.specs.declared.fault.Settled.{Settled}
 use Rattle.repl_target.specs.declared.fault.TargetFault.{TargetFault}
@@ -35,6 +34,7 @@ use Rattle.repl_target.specs.Settling.{Settling, seq_in, fed, with_arrival, is_f
 use Rattle.repl_target.specs.Law.{LawfulSessions}
 use Rattle.repl_target.specs.Later.{IsLaterPeer}
 use Rattle.repl_target.specs.Origins.{ComesFrom, HasOrigins}
+use Rattle.repl_target.specs.declared.beginning.Beginning.{Beginning}
 use Rattle.couch_base.specs.MemberLaws.{Among-last, at-end}
 use Rattle.repl_target.proofs.LaterPeers.{with_session_holds}
 use Rattle.repl_target.proofs.CallsKeepLaw.{load_later, begin_later, append_later, record_later, conclude_later}
@@ -154,9 +154,9 @@ found_database : (p : PeerValue) (change : SessionValue → SessionValue) (o : O
 found_database p change None = refl
 found_database p change (Some s) = refl
 
-pub begin_origins : (p : PeerValue) (id : SessionId) (rep : RepId) (base : Option SessionId) (start goal at : ℕ) → HasOrigins p → HasOrigins (after_begin p id rep base start goal at)
-begin_origins p id rep base start goal at h =
-    same_origins p (after_begin p id rep base start goal at) (begin_later p id rep base start goal at) (begun_database p (new_session id rep base start goal at) (begin_answer p id rep base start goal)) h
+pub begin_origins : (p : PeerValue) (id : SessionId) (b : Beginning) (at : ℕ) → HasOrigins p → HasOrigins (after_begin p id b at)
+begin_origins p id b at h =
+    same_origins p (after_begin p id b at) (begin_later p id b at) (begun_database p (new_session id b at) (begin_answer p id b)) h
 
 pub append_origins : (refuses : Document → Bool) (p : PeerValue) (id : SessionId) (w : WindowValue) → IsWindow w → w.hi < 2 ^ 64 → LawfulSessions refuses p → HasOrigins p → HasOrigins (after_append p id w)
 append_origins refuses p id w window small l h = same_origins p (after_append p id w) (append_later refuses p id w window small l) (found_database p _ (session_in p.sessions id)) h

@@ -11,7 +11,6 @@ use Rattle.couch_base.specs.Feed.{WindowValue, IsWindow}
 use Rattle.couch_base.specs.declared.fault.BaseFault.{BaseFault}
 use Rattle.couch_base.specs.declared.fault.Put.{Put}
 use Rattle.range_front.specs.Front.{low_water}
-use Rattle.repl_log.specs.declared.replication.RepId.{RepId}
 use Rattle.repl_target.specs.Peer.{PeerValue, SessionValue, WrittenValue, new_peer_at, session_in}
 use Rattle.repl_target.specs.Writing.{next_local, after_load, after_edit, load_edited}
 use Rattle.repl_target.specs.Sessions.{GivesUnlessMemory, on_session, on_found, new_session, begin_answer, begun, after_begin, append_in, with_window, after_append, recorded_at}
@@ -19,6 +18,7 @@ use Rattle.repl_target.specs.Local.{with_load, with_edited, with_edit}
 use Rattle.repl_target.specs.Law.{Lawful}
 use Rattle.repl_target.specs.SessionCalls.{with_changed, changed}
 use Rattle.repl_target.specs.declared.fault.TargetFault.{TargetFault}
+use Rattle.repl_target.specs.declared.beginning.Beginning.{Beginning}
 use Rattle.repl_target.proofs.CallsKeepLaw.{new_law, load_law, edit_law, begin_law, append_law, record_law, conclude_law}
 use Rattle.repl_target.proofs.Originating.{new_origins, load_origins, edit_origins, begin_origins, append_origins, record_origins, conclude_origins}
 
@@ -72,19 +72,19 @@ module _ (refuses : Document → Bool) (p : PeerValue) (lawful : Lawful refuses 
       (both_err r (λ x y i. record p { db = x i; locals = y i }) c e)
       (record { sessions = edit_law refuses p id parent deleted body lawful.sessions; origins = edit_origins p id parent deleted body lawful.origins })
 
-  begun_peer : (id : SessionId) (rep : RepId) (base : Option SessionId) (start goal at : ℕ) (r : Result (Unit {0}) TargetFault) (sessions : List SessionValue)
-      → GivesUnlessMemory r (begin_answer p id rep base start goal) → OnOk r (sessions ≡ new_session id rep base start goal at ∷ p.sessions) → OnOk r (record p { sessions = sessions } ≡ after_begin p id rep base start goal at)
-  begun_peer id rep base start goal at (Ok done) sessions told made =
-      ap (λ s. record p { sessions = s }) made ∙ ap (begun p (new_session id rep base start goal at)) told
-  begun_peer id rep base start goal at (Err fault) sessions told made = tt
+  begun_peer : (id : SessionId) (b : Beginning) (at : ℕ) (r : Result (Unit {0}) TargetFault) (sessions : List SessionValue)
+      → GivesUnlessMemory r (begin_answer p id b) → OnOk r (sessions ≡ new_session id b at ∷ p.sessions) → OnOk r (record p { sessions = sessions } ≡ after_begin p id b at)
+  begun_peer id b at (Ok done) sessions told made =
+      ap (λ s. record p { sessions = s }) made ∙ ap (begun p (new_session id b at)) told
+  begun_peer id b at (Err fault) sessions told made = tt
 
-  pub Lawful-begun : (id : SessionId) (rep : RepId) (base : Option SessionId) (start goal at : ℕ) → start < 2 ^ 64 → (r : Result (Unit {0}) TargetFault) (sessions : List SessionValue)
-      → GivesUnlessMemory r (begin_answer p id rep base start goal) → OnOk r (sessions ≡ new_session id rep base start goal at ∷ p.sessions) → OnErr r (sessions ≡ p.sessions) → Lawful refuses (record p { sessions = sessions })
-  Lawful-begun id rep base start goal at fits r sessions told made kept =
-      either_way r (after_begin p id rep base start goal at) (record p { sessions = sessions })
-      (begun_peer id rep base start goal at r sessions told made)
+  pub Lawful-begun : (id : SessionId) (b : Beginning) (at : ℕ) → b.start < 2 ^ 64 → (r : Result (Unit {0}) TargetFault) (sessions : List SessionValue)
+      → GivesUnlessMemory r (begin_answer p id b) → OnOk r (sessions ≡ new_session id b at ∷ p.sessions) → OnErr r (sessions ≡ p.sessions) → Lawful refuses (record p { sessions = sessions })
+  Lawful-begun id b at fits r sessions told made kept =
+      either_way r (after_begin p id b at) (record p { sessions = sessions })
+      (begun_peer id b at r sessions told made)
       (on_err_weaker r (λ x. ap (λ s. record p { sessions = s }) x) kept)
-      (record { sessions = begin_law refuses p id rep base start goal at fits lawful.sessions; origins = begin_origins p id rep base start goal at lawful.origins })
+      (record { sessions = begin_law refuses p id b at fits lawful.sessions; origins = begin_origins p id b at lawful.origins })
 
   pub Lawful-appended : (id : SessionId) (w : WindowValue) → IsWindow w → w.hi < 2 ^ 64 → (r : Result (Unit {0}) TargetFault) (sessions : List SessionValue)
       → OnOk r (sessions ≡ with_changed p.sessions id (λ s. with_window w s (append_in w s))) → OnErr r (sessions ≡ p.sessions) → Lawful refuses (record p { sessions = sessions })

@@ -16,8 +16,7 @@ use Rattle.repl_target.specs.Peer.{PeerValue, SessionValue, is_of, session_in, w
 use Rattle.repl_target.specs.Covered.{covers_window}
 use Rattle.repl_target.specs.Sessions.{found_answer, on_found, on_session, append_in, with_window, after_append, recorded_at, after_record, after_conclude, new_session, begun}
 use Rattle.repl_target.specs.Settling.{settle_docs, settled_before, has_row, has_room, window_in, settle_at, settle_check, settling_of, with_settling, with_done, after_documents, after_all, SettlesAt, Settles, SettleGives}
-use Rattle.repl_target.specs.Replication.{start_between, base_at, checkpoint_of, begins_answer, after_begins}
-use Rattle.repl_target.specs.Audit.{rep_between}
+use Rattle.repl_target.specs.Replication.{begins_answer, after_begins, beginning_between}
 use Rattle.repl_target.specs.Law.{LawfulSessions}
 use Rattle.repl_target.proofs.LaterPeers.{session_found}
 use Rattle.repl_target.proofs.Reading.{found-is}
@@ -85,7 +84,7 @@ conclude_reads p id at =
 -- a session that began has read nothing
 pub begun_reads : (source target : PeerValue) (plan : Plan) → begins_answer source target plan ≡ Ok tt → read_in (after_begins source target plan).sessions plan.session ≡ 0
 begun_reads source target plan ok =
-    let new = new_session plan.session (rep_between source target) (base_at (checkpoint_of source target)) (start_between source target) source.db.update_seq plan.at in
+    let new = new_session plan.session (beginning_between source target plan.chosen) plan.at in
     ap (λ (q : PeerValue). read_in q.sessions plan.session) (ap (begun target new) ok) ∙ ap read_of (cond-true (is_of plan.session new) (Some new) (session_in target.sessions plan.session) (eq-eqb plan.session.0 plan.session.0 refl))
 
 -- ---- settling

@@ -4,10 +4,11 @@ use Rattle.std.specs.List.{find, IsDistinct, AllByRecursion}
 use Rattle.std.proofs.lemmas.Bool.{and_parts, cond_both, cond-true, eqb-true, eq-eqb, leb-true, false≢true}
 use Rattle.rev_tree.specs.declared.origin.SessionId.{SessionId}
 use Rattle.doc_json.specs.Document.{Document}
+use Rattle.doc_json.specs.Chosen.{Choice, is_chosen}
 use Rattle.couch_base.specs.Lists.{Among}
 use Rattle.couch_base.specs.ListLaws.{none_some}
 use Rattle.couch_base.specs.Database.{DocumentValue, DatabaseValue, LawfulDatabase}
-use Rattle.couch_base.specs.Feed.{RowValue, WindowValue, row_of, feed, last_seq, page, IsWindow}
+use Rattle.couch_base.specs.Feed.{RowValue, WindowValue, row_of, feed, chosen_rows, chosen_feed, last_seq, page, IsWindow}
 use Rattle.couch_base.specs.FeedLaws.{IsWindow-page}
 use Rattle.couch_base.specs.Messages.{ParcelValue}
 use Rattle.range_front.specs.Front.{low_water, end_of}
@@ -17,7 +18,7 @@ use Rattle.repl_target.specs.Covered.{covers_window}
 use Rattle.repl_target.specs.Law.{LawfulSessions, session_numbers}
 use Rattle.repl_target.specs.Sessions.{found_answer, on_found, on_session, new_session, begun, append_in, append_answer, with_window, after_append, recorded_at, report_of, conclude_in, conclude_answer, after_conclude}
 use Rattle.repl_target.specs.Settling.{settling_of, with_settling, settle_docs, settle_check, with_done, after_all, Settles, SettleGives}
-use Rattle.repl_target.specs.Replication.{Reading, is_batch, plan_answer, parcel_for, Carries, Reads, start_between, begins_answer, after_begins, first_reading, closed_as, closed, told_by, Closes, is_due, CoversFrom, IsReported, ReadsAll, ReadsUntil, Replicates, not_planned, no_memory, not_begun, cut, ended}
+use Rattle.repl_target.specs.Replication.{Reading, is_batch, plan_answer, parcel_for, Carries, Reads, start_between, begins_answer, after_begins, first_reading, closed_as, closed, told_by, Closes, is_due, CoversFrom, IsReported, ReadsAll, ReadsUntil, Replicates, not_planned, no_memory, not_begun, cut, ended, beginning_between}
 use Rattle.repl_target.specs.declared.fault.Report.{Report}
 use Rattle.repl_target.specs.declared.fault.Settled.{Settled}
 use Rattle.repl_target.specs.declared.fault.TargetFault.{TargetFault}
@@ -58,6 +59,14 @@ found-is sessions id s distinct held same = go (session_in sessions id) refl
 
 -- ---- the feed's bounds
 
+-- the chosen rows are of the rows
+among_chosen : (c : Choice) (x : RowValue) (rows : List RowValue) → Among x (chosen_rows c rows) → Among x rows
+among_chosen c x [] m = m
+among_chosen c x (y ∷ rows) m =
+    cond_both (is_chosen c y.id) (y ∷ chosen_rows c rows) (chosen_rows c rows) (λ l. Among x l → Among x (y ∷ rows))
+    (λ _ k. elim k [ inl here ↦ inl here | inr there ↦ inr (among_chosen c x rows there) ])
+    (λ _ k. inr (among_chosen c x rows k)) m
+
 rows_below : (a c : ℕ) (ds : List DocumentValue) → AllByRecursion (λ (r : RowValue). r.seq ≤ c) (map row_of (filter (λ d. nat_lt a d.seq && nat_le d.seq c) ds))
 rows_below a c [] = tt
 rows_below a c (d ∷ ds) =
@@ -71,8 +80,8 @@ last_below a c (suc n) [] h all = h
 last_below a c (suc n) (r ∷ rows) h all = last_below r.seq c n rows all.0 all.1
 
 -- a page ends at or under its goal
-page_within : (db : DatabaseValue) (since goal limit : ℕ) → since ≤ goal → (page db since goal limit).hi ≤ goal
-page_within db since goal limit h =
+page_within : (db : DatabaseValue) (since goal limit : ℕ) (c : Choice) → since ≤ goal → (page db since goal limit c).hi ≤ goal
+page_within db since goal limit c h =
     let rows = take limit (feed db since goal) in
     cond_both (length rows == limit) (last_seq since rows) goal (λ end. end ≤ goal) (λ _. last_below since goal limit (feed db since goal) h (rows_below since goal db.docs)) (λ _. omega arith)
 
@@ -139,12 +148,12 @@ pub record Underway (refuses : Document → Bool) (source : DatabaseValue) (plan
   pub goal : session.goal ≡ source.update_seq
   pub begins : session.front.start ≡ start
   pub end : end_of session.front ≡ now.since
-  pub rows : (row : RowValue) → Among row (feed source start source.update_seq) → ((w : WindowValue) × Among w session.windows × Among row w.rows) ⊎ Among row (feed source now.since source.update_seq)
+  pub rows : (row : RowValue) → Among row (chosen_feed plan.chosen source start source.update_seq) → ((w : WindowValue) × Among w session.windows × Among row w.rows) ⊎ Among row (chosen_feed plan.chosen source now.since source.update_seq)
 
 -- the session as it begins
-pub begun_underway : (refuses : Document → Bool) (source target : PeerValue) (plan : Plan) → begins_answer source target plan ≡ Ok tt → LawfulSessions refuses (after_begins source target plan) → Underway refuses source.db plan (start_between source target) (first_reading source target plan)
+pub begun_underway : (refuses : Document → Bool) (source target : PeerValue) (plan : Plan) → begins_answer source target plan ≡ Ok tt → LawfulSessions refuses (after_begins source target plan) → Underway refuses source.db plan (start_between source target plan.chosen) (first_reading source target plan)
 begun_underway refuses source target plan ok l =
-    let new = new_session plan.session _ _ (start_between source target) source.db.update_seq plan.at in
+    let new = new_session plan.session (beginning_between source target plan.chosen) plan.at in
     let is : after_begins source target plan ≡ record target { sessions = new ∷ target.sessions } = ap (begun target new) ok in
     record {
       law = l;
@@ -172,8 +181,8 @@ module _ (refuses : Document → Bool) (source : DatabaseValue) (plan : Plan) (s
       let w = c.window in
       let p = before.target in
       let parcel = parcel_for source p w in
-      let window : IsWindow w = subst IsWindow (sym c.read) (IsWindow-page source before.since source.update_seq plan.batch law c.due (leb-true 1 plan.batch (and_parts _ _ batch).0)) in
-      let small : w.hi < 2 ^ 64 = omega (arith, page_within source before.since source.update_seq plan.batch (omega (arith, c.due)), ap (λ (v : WindowValue). v.hi) c.read, law.within) in
+      let window : IsWindow w = subst IsWindow (sym c.read) (IsWindow-page source before.since source.update_seq plan.batch plan.chosen law c.due (leb-true 1 plan.batch (and_parts _ _ batch).0)) in
+      let small : w.hi < 2 ^ 64 = omega (arith, page_within source before.since source.update_seq plan.batch plan.chosen (omega (arith, c.due)), ap (λ (v : WindowValue). v.hi) c.read, law.within) in
       let is = stored p w s (found-is p.sessions plan.session s u.law.distinct u.held u.id) c.settles.0 in
       let grown = with_window w s (Ok tt) in
       let lawful = append_law refuses p plan.session w window small u.law in
@@ -190,10 +199,10 @@ module _ (refuses : Document → Bool) (source : DatabaseValue) (plan : Plan) (s
         rows = λ row m. elim (u.rows row m) [
           | inl old ↦ inl (old.0, subst (Among old.0) (sym t.2.windows) (Among-left old.0 s.windows (w ∷ []) old.1), old.2)
           | inr further ↦
-              let split = Among-split row _ _ (subst (Among row) (feed-page source before.since source.update_seq plan.batch law) further) in
+              let split = Among-split row _ _ (subst (Among row) (feed-page source before.since source.update_seq plan.batch plan.chosen law) further) in
               elim split [
                 | inl here ↦ inl (w, subst (Among w) (sym t.2.windows) (Among-last w s.windows), subst (λ (v : WindowValue). Among row v.rows) (sym c.read) here)
-                | inr later ↦ inr (subst (λ n. Among row (feed source n source.update_seq)) (ap (λ (v : WindowValue). v.hi) (sym c.read) ∙ sym c.reached) later)
+                | inr later ↦ inr (subst (λ n. Among row (chosen_feed plan.chosen source n source.update_seq)) (ap (λ (v : WindowValue). v.hi) (sym c.read) ∙ sym c.reached) later)
               ]
         ];
       }
@@ -251,25 +260,25 @@ module _ (refuses : Document → Bool) (source target : PeerValue) (plan : Plan)
       }
 
   -- so all that was to be read is covered
-  pub closes_covered : (report : Report) (source' target' : PeerValue) → Closes source now.target plan (Ok report) source' target' → CoversFrom source target' start
+  pub closes_covered : (report : Report) (source' target' : PeerValue) → Closes source now.target plan (Ok report) source' target' → CoversFrom source target' plan.chosen start
   closes_covered report source' target' c row m leaf k =
       let r = recorded report source' target' c in
       let s = u.session in
-      let under : row.seq ≤ source.db.update_seq = each_member (λ (x : RowValue). x.seq ≤ source.db.update_seq) row _ (rows_below start source.db.update_seq source.db.docs) m in
+      let under : row.seq ≤ source.db.update_seq = each_member (λ (x : RowValue). x.seq ≤ source.db.update_seq) row _ (rows_below start source.db.update_seq source.db.docs) (among_chosen plan.chosen row (feed source.db start source.db.update_seq) m) in
       elim (u.rows row m) [
         | inl old ↦
             honest_is refuses target' r.law r.session r.held old.0 (subst (λ (x : SessionValue). Among old.0 x.windows) (sym r.is) old.1) row old.2
             (omega (arith, under, u.goal, r.concluded.reached, ap (λ (x : SessionValue). x.recorded) r.is)) leaf k
         | inr further ↦
             let end : source.db.update_seq ≤ now.since = omega (arith, u.goal, r.concluded.reached, low_water-le-end_of s.front (u.law.sessions s u.held).front, u.end) in
-            absurd (subst (Among row) (feed-none source.db now.since source.db.update_seq end) further)
+            absurd (subst (Among row) (feed-none source.db now.since source.db.update_seq plan.chosen end) further)
       ]
 
   pub closes_lawful : (report : Report) (source' target' : PeerValue) → Closes source now.target plan (Ok report) source' target' → LawfulSessions refuses target'
   closes_lawful report source' target' c = (recorded report source' target' c).law
 
   -- and the report is the session's
-  pub closes_reported : start ≡ start_between source target → (report : Report) (source' target' : PeerValue) → Closes source now.target plan (Ok report) source' target' → IsReported source target target' plan report
+  pub closes_reported : start ≡ start_between source target plan.chosen → (report : Report) (source' target' : PeerValue) → Closes source now.target plan (Ok report) source' target' → IsReported source target target' plan report
   closes_reported from report source' target' c =
       let r = recorded report source' target' c in
       let s = u.session in
@@ -368,16 +377,16 @@ planned_batch source target plan h =
 module _ (refuses : Document → Bool) (source target : PeerValue) (plan : Plan) (from : Reading) (read : PeerValue) where
   record AllRead : Type 0 where
     now : Reading
-    underway : Underway refuses source.db plan (start_between source target) now
+    underway : Underway refuses source.db plan (start_between source target plan.chosen) now
     is : read ≡ now.target
 
   all_read : Started source target plan from → LawfulDatabase source.db → LawfulSessions refuses from.target → ReadsAll refuses source.db plan from read → AllRead
   all_read s law lawful reads =
       let first = begun_underway refuses source target plan s.begun (subst (λ (f : Reading). LawfulSessions refuses f.target) s.is lawful) in
-      let start = subst (Underway refuses source.db plan (start_between source target)) (sym s.is) first in
+      let start = subst (Underway refuses source.db plan (start_between source target plan.chosen)) (sym s.is) first in
       record {
         now = reads.1;
-        underway = reads_on refuses source.db plan (start_between source target) law (planned_batch source target plan s.planned) reads.0 from reads.1 reads.2 start;
+        underway = reads_on refuses source.db plan (start_between source target plan.chosen) law (planned_batch source target plan s.planned) reads.0 from reads.1 reads.2 start;
         is = reads.4;
       }
 
@@ -385,25 +394,25 @@ module _ (refuses : Document → Bool) (source target : PeerValue) (plan : Plan)
       → (t : SessionValue) × (session_in read.sessions plan.session ≡ Some t)
   all-found s law lawful reads =
       let a = all_read s law lawful reads in
-      subst (λ (q : PeerValue). (t : SessionValue) × (session_in q.sessions plan.session ≡ Some t)) (sym a.is) (underway-found refuses source.db plan (start_between source target) a.now a.underway)
+      subst (λ (q : PeerValue). (t : SessionValue) × (session_in q.sessions plan.session ≡ Some t)) (sym a.is) (underway-found refuses source.db plan (start_between source target plan.chosen) a.now a.underway)
 
   pub all-covered : (result : Result Report TargetFault) (source' target' : PeerValue) → Started source target plan from → LawfulDatabase source.db → LawfulSessions refuses from.target → ReadsAll refuses source.db plan from read
-      → Closes source read plan result source' target' → OnOk result (CoversFrom source target' (start_between source target))
+      → Closes source read plan result source' target' → OnOk result (CoversFrom source target' plan.chosen (start_between source target plan.chosen))
   all-covered (Err why) source' target' s law lawful reads closes = tt
   all-covered (Ok report) source' target' s law lawful reads closes =
       let a = all_read s law lawful reads in
-      closes_covered refuses source target plan (start_between source target) a.now a.underway report source' target' (subst (λ q. Closes source q plan (Ok report) source' target') a.is closes)
+      closes_covered refuses source target plan (start_between source target plan.chosen) a.now a.underway report source' target' (subst (λ q. Closes source q plan (Ok report) source' target') a.is closes)
 
   pub all-reported : (result : Result Report TargetFault) (source' target' : PeerValue) → Started source target plan from → LawfulDatabase source.db → LawfulSessions refuses from.target → ReadsAll refuses source.db plan from read
       → Closes source read plan result source' target' → IfOk result (λ report. IsReported source target target' plan report)
   all-reported (Err why) source' target' s law lawful reads closes = tt
   all-reported (Ok report) source' target' s law lawful reads closes =
       let a = all_read s law lawful reads in
-      closes_reported refuses source target plan (start_between source target) a.now a.underway refl report source' target' (subst (λ q. Closes source q plan (Ok report) source' target') a.is closes)
+      closes_reported refuses source target plan (start_between source target plan.chosen) a.now a.underway refl report source' target' (subst (λ q. Closes source q plan (Ok report) source' target') a.is closes)
 
   pub all-lawful : (result : Result Report TargetFault) (source' target' : PeerValue) → Started source target plan from → LawfulDatabase source.db → LawfulSessions refuses from.target → ReadsAll refuses source.db plan from read
       → Closes source read plan result source' target' → OnOk result (LawfulSessions refuses target')
   all-lawful (Err why) source' target' s law lawful reads closes = tt
   all-lawful (Ok report) source' target' s law lawful reads closes =
       let a = all_read s law lawful reads in
-      closes_lawful refuses source target plan (start_between source target) a.now a.underway report source' target' (subst (λ q. Closes source q plan (Ok report) source' target') a.is closes)
+      closes_lawful refuses source target plan (start_between source target plan.chosen) a.now a.underway report source' target' (subst (λ q. Closes source q plan (Ok report) source' target') a.is closes)

@@ -24,6 +24,7 @@ use Rattle.repl_target.specs.Sessions.{on_found, found_answer, begin_answer, new
 use Rattle.repl_target.specs.Logs.{put_by, put_entry_answer, after_put_entry}
 use Rattle.repl_target.specs.Law.{LawfulSessions}
 use Rattle.repl_target.specs.declared.fault.TargetFault.{TargetFault}
+use Rattle.repl_target.specs.declared.beginning.Beginning.{Beginning}
 use Rattle.repl_target.proofs.LaterPeers.{one_session, session_found}
 
 map-same : {X : Type 0} (f : X → X) (xs : List X) → ((x : X) → Among x xs → f x ≡ x) → map f xs ≡ xs
@@ -49,8 +50,8 @@ append_refused refuses p id w why l h = go (session_in p.sessions id) refl h
         let held = (session_found p.sessions id s e).0 in
         ap (λ t. record p { sessions = with_session p.sessions t }) (stays s (append_in w s) k) ∙ ap (λ ss. record p { sessions = ss }) (with_session-same refuses p s l held)
 
-pub begin_refused : (p : PeerValue) (id : SessionId) (rep : RepId) (base : Option SessionId) (start goal at : ℕ) (why : TargetFault) → begin_answer p id rep base start goal ≡ Err why → after_begin p id rep base start goal at ≡ p
-begin_refused p id rep base start goal at why h = ap (begun p (new_session id rep base start goal at)) h
+pub begin_refused : (p : PeerValue) (id : SessionId) (b : Beginning) (at : ℕ) (why : TargetFault) → begin_answer p id b ≡ Err why → after_begin p id b at ≡ p
+begin_refused p id b at why h = ap (begun p (new_session id b at)) h
 
 pub put_entry_refused : (p : PeerValue) (rep : RepId) (e : EntryValue) (why : TargetFault) → put_entry_answer p rep e ≡ Err why → after_put_entry p rep e ≡ p
 put_entry_refused p rep e why h = ap (put_by p rep e) h

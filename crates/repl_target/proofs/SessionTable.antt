@@ -23,6 +23,7 @@ use Rattle.repl_target.specs.SessionCalls.{in_ledgers, with_changed, changed, re
 use Rattle.repl_target.specs.declared.fault.TargetFault.{TargetFault}
 use Rattle.repl_target.specs.declared.fault.TargetFault.TheVariants as faults
 use Rattle.repl_target.specs.declared.ledger_index.LedgerIndex.{LedgerIndex}
+use Rattle.repl_target.specs.declared.beginning.Beginning.{Beginning}
 use Rattle.repl_target.proofs.LaterPeers.{session_found}
 use Rattle.repl_target.proofs.SettlingPeers.{same_ledgers, index_after}
 
@@ -32,7 +33,7 @@ Entries = List (SessionId × SessionValue)
 abbrev itself : SessionValue → SessionValue
 itself s = s
 
-abbrev id_of : SessionValue → SessionId
+abbrev pub id_of : SessionValue → SessionId
 id_of s = s.id
 
 same_id : (a b : SessionId) → a.0 ≡ b.0 → a ≡ b
@@ -51,23 +52,24 @@ absent_at : {A : Type 0} (o : Option A) → is_some o ≡ false → o ≡ None
 absent_at None none = refl
 absent_at (Some x) none = cc
 
--- a session with another's id and ledger
+-- a session with another's id, replication and ledger
 pub record IsSame (s t : SessionValue) : Type 0 where
   pub id : t.id ≡ s.id
+  pub rep : t.rep ≡ s.rep
   pub ledger : t.ledger ≡ s.ledger
 
 window_same : (w : WindowValue) (s : SessionValue) (answer : Result (Unit {0}) TargetFault) → IsSame s (with_window w s answer)
-window_same w s (Ok done) = record { id = refl; ledger = refl }
-window_same w s (Err fault) = record { id = refl; ledger = refl }
+window_same w s (Ok done) = record { id = refl; rep = refl; ledger = refl }
+window_same w s (Err fault) = record { id = refl; rep = refl; ledger = refl }
 
 pub appended_same : (w : WindowValue) (s t : SessionValue) (r : Result (Unit {0}) TargetFault) → OnOk r (t ≡ with_window w s (append_in w s)) → OnErr r (t ≡ s) → IsSame s t
 appended_same w s t (Ok done) made kept = subst (IsSame s) (sym made) (window_same w s (append_in w s))
-appended_same w s t (Err fault) made kept = subst (IsSame s) (sym kept) (record { id = refl; ledger = refl })
+appended_same w s t (Err fault) made kept = subst (IsSame s) (sym kept) (record { id = refl; rep = refl; ledger = refl })
 
 pub concluded_same : (at : ℕ) (s t : SessionValue) → t ≡ (if low_water s.front == s.goal then recorded_at at s else s) → IsSame s t
 concluded_same at s t made =
     subst (IsSame s) (sym made)
-    (elim (low_water s.front == s.goal) as (λ b. IsSame s (cond b (recorded_at at s) s)) [ true ↦ record { id = refl; ledger = refl } | false ↦ record { id = refl; ledger = refl } ])
+    (elim (low_water s.front == s.goal) as (λ b. IsSame s (cond b (recorded_at at s) s)) [ true ↦ record { id = refl; rep = refl; ledger = refl } | false ↦ record { id = refl; rep = refl; ledger = refl } ])
 
 module _ (ledgered : LedgerIndex) (es : Entries) (stored : IsStored ledgered es) (id : SessionId) where
   -- ---- look-ups
@@ -178,53 +180,53 @@ started-base : (sessions : List SessionValue) (rep : RepId) (base : Option Sessi
 started-base sessions rep None start = refl
 started-base sessions rep (Some base) start = started-on_base start (base_in sessions rep base)
 
-begin_in-started : (sessions : List SessionValue) (id : SessionId) (rep : RepId) (base : Option SessionId) (start goal : ℕ) (r : Result ℕ TargetFault) → holds sessions id ≡ false → r ≡ recorded_by sessions rep base
-    → begin_in sessions id rep base start goal ≡ goal_answer start goal (started start r)
-begin_in-started sessions id rep base start goal r new is =
-    ap (λ b. cond b (Err faults.SessionExists) (goal_answer start goal (base_answer sessions rep base start))) new
-    ∙ ap (goal_answer start goal) (started-base sessions rep base start)
-    ∙ ap (λ x. goal_answer start goal (started start x)) (sym is)
+begin_in-started : (sessions : List SessionValue) (id : SessionId) (b : Beginning) (r : Result ℕ TargetFault) → holds sessions id ≡ false → r ≡ recorded_by sessions b.rep b.base
+    → begin_in sessions id b ≡ goal_answer b.start b.goal (started b.start r)
+begin_in-started sessions id b r new is =
+    ap (λ c. cond c (Err faults.SessionExists) (goal_answer b.start b.goal (base_answer sessions b.rep b.base b.start))) new
+    ∙ ap (goal_answer b.start b.goal) (started-base sessions b.rep b.base b.start)
+    ∙ ap (λ x. goal_answer b.start b.goal (started b.start x)) (sym is)
 
-pub begin_in-exists : (sessions : List SessionValue) (id : SessionId) (rep : RepId) (base : Option SessionId) (start goal : ℕ) → holds sessions id ≡ true → Err faults.SessionExists ≡ begin_in sessions id rep base start goal
-begin_in-exists sessions id rep base start goal there =
-    ap (λ b. cond b (Err faults.SessionExists) (goal_answer start goal (base_answer sessions rep base start))) (sym there)
+pub begin_in-exists : (sessions : List SessionValue) (id : SessionId) (b : Beginning) → holds sessions id ≡ true → Err faults.SessionExists ≡ begin_in sessions id b
+begin_in-exists sessions id b there =
+    ap (λ c. cond c (Err faults.SessionExists) (goal_answer b.start b.goal (base_answer sessions b.rep b.base b.start))) (sym there)
 
-pub begin_in-no_base : (sessions : List SessionValue) (id : SessionId) (rep : RepId) (base : Option SessionId) (start goal : ℕ) (fault : TargetFault) → holds sessions id ≡ false → Err fault ≡ recorded_by sessions rep base
-    → Err fault ≡ begin_in sessions id rep base start goal
-begin_in-no_base sessions id rep base start goal fault new is = sym (begin_in-started sessions id rep base start goal (Err fault) new is)
+pub begin_in-no_base : (sessions : List SessionValue) (id : SessionId) (b : Beginning) (fault : TargetFault) → holds sessions id ≡ false → Err fault ≡ recorded_by sessions b.rep b.base
+    → Err fault ≡ begin_in sessions id b
+begin_in-no_base sessions id b fault new is = sym (begin_in-started sessions id b (Err fault) new is)
 
-pub begin_in-above : (sessions : List SessionValue) (id : SessionId) (rep : RepId) (base : Option SessionId) (start goal recorded : ℕ) → holds sessions id ≡ false → Ok recorded ≡ recorded_by sessions rep base → recorded < start
-    → Err (faults.StartAboveBase recorded) ≡ begin_in sessions id rep base start goal
-begin_in-above sessions id rep base start goal recorded new is above =
-    let told : nat_lt recorded start ≡ true = lt-ltb recorded start above in
+pub begin_in-above : (sessions : List SessionValue) (id : SessionId) (b : Beginning) (recorded : ℕ) → holds sessions id ≡ false → Ok recorded ≡ recorded_by sessions b.rep b.base → recorded < b.start
+    → Err (faults.StartAboveBase recorded) ≡ begin_in sessions id b
+begin_in-above sessions id b recorded new is above =
+    let told : nat_lt recorded b.start ≡ true = lt-ltb recorded b.start above in
     sym
-    (begin_in-started sessions id rep base start goal (Ok recorded) new is
-    ∙ ap (λ b. goal_answer start goal (cond b (Err (faults.StartAboveBase recorded)) (Ok tt))) told)
+    (begin_in-started sessions id b (Ok recorded) new is
+    ∙ ap (λ c. goal_answer b.start b.goal (cond c (Err (faults.StartAboveBase recorded)) (Ok tt))) told)
 
 reaches : (start goal recorded : ℕ) → start ≤ recorded → goal_answer start goal (started start (Ok recorded)) ≡ cond (nat_lt goal start) (Err faults.GoalBelowStart) (Ok tt)
 reaches start goal recorded within =
     ap (λ b. goal_answer start goal (cond b (Err (faults.StartAboveBase recorded)) (Ok tt))) (le-ltb recorded start within)
 
-pub begin_in-below : (sessions : List SessionValue) (id : SessionId) (rep : RepId) (base : Option SessionId) (start goal recorded : ℕ) → holds sessions id ≡ false → Ok recorded ≡ recorded_by sessions rep base → start ≤ recorded → goal < start
-    → Err faults.GoalBelowStart ≡ begin_in sessions id rep base start goal
-begin_in-below sessions id rep base start goal recorded new is within below =
+pub begin_in-below : (sessions : List SessionValue) (id : SessionId) (b : Beginning) (recorded : ℕ) → holds sessions id ≡ false → Ok recorded ≡ recorded_by sessions b.rep b.base → b.start ≤ recorded → b.goal < b.start
+    → Err faults.GoalBelowStart ≡ begin_in sessions id b
+begin_in-below sessions id b recorded new is within below =
     sym
-    (begin_in-started sessions id rep base start goal (Ok recorded) new is
-    ∙ reaches start goal recorded within
-    ∙ ap (λ b. cond b (Err faults.GoalBelowStart) (Ok tt)) (lt-ltb goal start below))
+    (begin_in-started sessions id b (Ok recorded) new is
+    ∙ reaches b.start b.goal recorded within
+    ∙ ap (λ c. cond c (Err faults.GoalBelowStart) (Ok tt)) (lt-ltb b.goal b.start below))
 
-pub begin_in-ok : (sessions : List SessionValue) (id : SessionId) (rep : RepId) (base : Option SessionId) (start goal recorded : ℕ) → holds sessions id ≡ false → Ok recorded ≡ recorded_by sessions rep base → start ≤ recorded → start ≤ goal
-    → Ok tt ≡ begin_in sessions id rep base start goal
-begin_in-ok sessions id rep base start goal recorded new is within above =
+pub begin_in-ok : (sessions : List SessionValue) (id : SessionId) (b : Beginning) (recorded : ℕ) → holds sessions id ≡ false → Ok recorded ≡ recorded_by sessions b.rep b.base → b.start ≤ recorded → b.start ≤ b.goal
+    → Ok tt ≡ begin_in sessions id b
+begin_in-ok sessions id b recorded new is within above =
     sym
-    (begin_in-started sessions id rep base start goal (Ok recorded) new is
-    ∙ reaches start goal recorded within
-    ∙ ap (λ b. cond b (Err faults.GoalBelowStart) (Ok tt)) (le-ltb goal start above))
+    (begin_in-started sessions id b (Ok recorded) new is
+    ∙ reaches b.start b.goal recorded within
+    ∙ ap (λ c. cond c (Err faults.GoalBelowStart) (Ok tt)) (le-ltb b.goal b.start above))
 
 -- only a new session begins
 new_at : (b : Bool) (r : Result (Unit {0}) TargetFault) → Ok tt ≡ cond b (Err faults.SessionExists) r → b ≡ false
 new_at true r told = cc
 new_at false r told = refl
 
-pub begin_in-new : (sessions : List SessionValue) (id : SessionId) (rep : RepId) (base : Option SessionId) (start goal : ℕ) → Ok tt ≡ begin_in sessions id rep base start goal → holds sessions id ≡ false
-begin_in-new sessions id rep base start goal told = new_at (holds sessions id) _ told
+pub begin_in-new : (sessions : List SessionValue) (id : SessionId) (b : Beginning) → Ok tt ≡ begin_in sessions id b → holds sessions id ≡ false
+begin_in-new sessions id b told = new_at (holds sessions id) _ told

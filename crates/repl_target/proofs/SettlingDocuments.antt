@@ -166,6 +166,7 @@ last_at read docs d same at = subst (λ (l : List Document). slice_get l (length
 -- the counts of leaves stay, and those of documents grow
 pub record Grows (s t : SessionValue) : Type 0 where
   pub id : t.id ≡ s.id
+  pub rep : t.rep ≡ s.rep
   pub checked : t.checked ≡ s.checked
   pub found : t.found ≡ s.found
   pub written : s.written ≤ t.written
@@ -175,6 +176,7 @@ pub record Grows (s t : SessionValue) : Type 0 where
 grows_later : (a b c : SessionValue) → Grows a b → Grows b c → Grows a c
 grows_later a b c h k = record {
   id = k.id ∙ h.id;
+  rep = k.rep ∙ h.rep;
   checked = k.checked ∙ h.checked;
   found = k.found ∙ h.found;
   written = omega (arith, h.written, k.written);
@@ -186,6 +188,7 @@ grows_as : (w : WindowValue) (z : Settling) (d : Document) (o : Option Reason) �
 grows_as w z d (Some reason) =
     record {
       id = refl;
+      rep = refl;
       checked = refl;
       found = refl;
       written = omega arith;
@@ -194,11 +197,11 @@ grows_as w z d (Some reason) =
     }
 grows_as w z d None =
     cond_both (is_full (put_answer z.db d)) z (record { db = after_put z.db d (fed w z.session.id d); session = entered d None z.session }) (λ (y : Settling). Grows z.session y.session)
-    (λ _. record { id = refl; checked = refl; found = refl; written = omega arith; failures = omega arith; ledger = λ id r there. there })
-    (λ _. record { id = refl; checked = refl; found = refl; written = omega arith; failures = omega arith; ledger = λ id r there. there })
+    (λ _. record { id = refl; rep = refl; checked = refl; found = refl; written = omega arith; failures = omega arith; ledger = λ id r there. there })
+    (λ _. record { id = refl; rep = refl; checked = refl; found = refl; written = omega arith; failures = omega arith; ledger = λ id r there. there })
 
 pub grows : (refuses : Document → Bool) (w : WindowValue) (z : Settling) (ds : List Document) → Grows z.session (settle_docs refuses w z ds).session
-grows refuses w z [] = record { id = refl; checked = refl; found = refl; written = omega arith; failures = omega arith; ledger = λ id r there. there }
+grows refuses w z [] = record { id = refl; rep = refl; checked = refl; found = refl; written = omega arith; failures = omega arith; ledger = λ id r there. there }
 grows refuses w z (d ∷ ds) =
     grows_later z.session (settle_one refuses w z d).session (settle_docs refuses w z (d ∷ ds)).session (grows_as w z d (refusal_of refuses z.db d)) (grows refuses w (settle_one refuses w z d) ds)
 

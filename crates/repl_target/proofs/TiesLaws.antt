@@ -10,9 +10,10 @@ use Rattle.rev_core.specs.RevOrder.{rev_tie_is, rev_tie_self}
 use Rattle.rev_core.specs.Ancestry.{is_among}
 use Rattle.rev_tree.specs.Tree.{has, leaves, is_leaf, no_revisions}
 use Rattle.rev_tree.specs.LeafLaws.{is_among-leaves}
+use Rattle.doc_json.specs.Chosen.{Choice, is_chosen}
 use Rattle.couch_base.specs.Lists.{Among, EachOnce}
 use Rattle.couch_base.specs.Database.{Id, DocumentValue, DatabaseValue, LawfulDatabase, tree_in, tree_of}
-use Rattle.couch_base.specs.Feed.{RowValue, WindowValue, row_of, feed, last_seq, page}
+use Rattle.couch_base.specs.Feed.{RowValue, WindowValue, row_of, feed, chosen_feed, last_seq, page}
 use Rattle.couch_base.specs.WriteLaws.{IsLater}
 use Rattle.couch_base.specs.MemberLaws.{Among-map, Among-mapped, Among-left}
 use Rattle.couch_base.specs.FeedLaws.{feed-page}
@@ -82,6 +83,16 @@ most-is a b h = grind (arith, h)
 pub in_feed : (db : DatabaseValue) (a b : ℕ) (d : DocumentValue) → Among d db.docs → a < d.seq → d.seq ≤ b → Among (row_of d) (feed db a b)
 in_feed db a b d m lo hi = Among-mapped row_of d _ (Among-filtered (λ (d : DocumentValue). nat_lt a d.seq && nat_le d.seq b) d db.docs m (and_from _ _ (less-is a d.seq lo) (most-is d.seq b hi)))
 
+-- a row of the chosen feed is that of a chosen document
+pub chosen_member : (c : Choice) (db : DatabaseValue) (a b : ℕ) (r : RowValue) → Among r (chosen_feed c db a b) → (d : DocumentValue) × Among d db.docs × (r ≡ row_of d) × (a < d.seq) × (d.seq ≤ b) × (is_chosen c d.id ≡ true)
+chosen_member c db a b r m =
+    let k = Among-filter (λ (r : RowValue). is_chosen c r.id) r (feed db a b) m in
+    let f = feed_member db a b r k.0 in
+    (f.0, f.1, f.2, f.3, f.4, ap (λ (x : RowValue). is_chosen c x.id) (sym f.2) ∙ k.1)
+
+pub in_chosen : (c : Choice) (db : DatabaseValue) (a b : ℕ) (d : DocumentValue) → Among d db.docs → is_chosen c d.id ≡ true → a < d.seq → d.seq ≤ b → Among (row_of d) (chosen_feed c db a b)
+in_chosen c db a b d m chosen lo hi = Among-filtered (λ (r : RowValue). is_chosen c r.id) (row_of d) (feed db a b) (in_feed db a b d m lo hi) chosen
+
 -- ---- pages
 
 rows_below : (a c : ℕ) (ds : List DocumentValue) → AllByRecursion (λ (r : RowValue). r.seq ≤ c) (map row_of (filter (λ d. nat_lt a d.seq && nat_le d.seq c) ds))
@@ -96,8 +107,8 @@ last_below a c zero rows h all = h
 last_below a c (suc n) [] h all = h
 last_below a c (suc n) (r ∷ rows) h all = last_below r.seq c n rows all.0 all.1
 
-pub page_within : (db : DatabaseValue) (since goal limit : ℕ) → since ≤ goal → (page db since goal limit).hi ≤ goal
-page_within db since goal limit h =
+pub page_within : (db : DatabaseValue) (since goal limit : ℕ) (c : Choice) → since ≤ goal → (page db since goal limit c).hi ≤ goal
+page_within db since goal limit c h =
     let rows = take limit (feed db since goal) in
     cond_both (length rows == limit) (last_seq since rows) goal (λ end. end ≤ goal) (λ _. last_below since goal limit (feed db since goal) h (rows_below since goal db.docs)) (λ _. omega arith)
 
@@ -110,28 +121,29 @@ leaf_stands db a b law r m l k =
     ap (λ (x : RowValue). has (tree_of db.docs x.id) l) f.2 ∙ ap (λ t. has t l) (tree_of-member db.docs d law.distinct f.1) ∙ (and_parts _ _ leaf).0
 
 -- a page is tied
-pub IsTiedWindow-page : (db : DatabaseValue) (since goal limit : ℕ) → LawfulDatabase db → since ≤ goal → goal ≤ db.update_seq → IsTiedWindow db (page db since goal limit)
-IsTiedWindow-page db since goal limit law order reach =
-    let w = page db since goal limit in
-    let below = page_within db since goal limit order in
-    let split = feed-page db since goal limit law in
+pub IsTiedWindow-page : (db : DatabaseValue) (since goal limit : ℕ) (c : Choice) → LawfulDatabase db → since ≤ goal → goal ≤ db.update_seq → IsTiedWindow db c (page db since goal limit c)
+IsTiedWindow-page db since goal limit c law order reach =
+    let w = page db since goal limit c in
+    let below = page_within db since goal limit c order in
+    let split = feed-page db since goal limit c law in
     record {
       reached = omega (arith, below, reach);
-      rows = λ d m lo hi. elim (Among-split (row_of d) w.rows (feed db w.hi goal) (subst (Among (row_of d)) split (in_feed db since goal d m lo (omega (arith, hi, below))))) [
+      rows = λ d m chosen lo hi. elim (Among-split (row_of d) w.rows (chosen_feed c db w.hi goal) (subst (Among (row_of d)) split (in_chosen c db since goal d m chosen lo (omega (arith, hi, below))))) [
         | inl here ↦ here
         | inr further ↦
-            let f = feed_member db w.hi goal (row_of d) further in
+            let f = chosen_member c db w.hi goal (row_of d) further in
             let same : d.seq ≡ f.0.seq = ap (λ (x : RowValue). x.seq) f.2 in
             absurd (omega (arith, f.3, hi, same))
       ];
-      leaves = λ r m l k. leaf_stands db since goal law r (subst (Among r) (sym split) (Among-left r w.rows (feed db w.hi goal) m)) l k;
+      leaves = λ r m l k.
+          leaf_stands db since goal law r (Among-filter (λ (r : RowValue). is_chosen c r.id) r (feed db since goal) (subst (Among r) (sym split) (Among-left r w.rows (chosen_feed c db w.hi goal) m))).0 l k;
     }
 
 -- and stays so
-pub IsTiedWindow-later : (a b : DatabaseValue) (w : WindowValue) → IsLater a b → IsTiedWindow a w → IsTiedWindow b w
-IsTiedWindow-later a b w later h =
+pub IsTiedWindow-later : (a b : DatabaseValue) (c : Choice) (w : WindowValue) → IsLater a b → IsTiedWindow a c w → IsTiedWindow b c w
+IsTiedWindow-later a b c w later h =
     record {
       reached = omega (arith, later.seq, h.reached);
-      rows = λ d m lo hi. h.rows d (later.kept d m (omega (arith, hi, h.reached))) lo hi;
+      rows = λ d m chosen lo hi. h.rows d (later.kept d m (omega (arith, hi, h.reached))) chosen lo hi;
       leaves = λ r m l k. later.has r.id l (h.leaves r m l k);
     }

@@ -1,9 +1,10 @@
 -- Calls on a target in any order, and what they leave: docs/PROFILE.md, "Sessions of a peer" and "Tied windows and
 -- messages".
-use Rattle.std.specs.Prelude.{◌≡◌, ℕ, ◌<◌, ◌≤◌, ◌^◌, Bool, List, [], ◌∷◌, Option}
+use Rattle.std.specs.Prelude.{◌≡◌, ◌⊎◌, ℕ, ◌<◌, ◌≤◌, Bool, List, [], ◌∷◌, Option, Ok}
 use Rattle.rev_core.specs.Rev.{RevId}
 use Rattle.rev_tree.specs.declared.origin.SessionId.{SessionId}
 use Rattle.doc_json.specs.Document.{Document}
+use Rattle.doc_json.specs.Chosen.{Choice}
 use Rattle.couch_base.specs.Lists.{Among}
 use Rattle.couch_base.specs.Database.{Id, DatabaseValue}
 use Rattle.couch_base.specs.Feed.{WindowValue, page}
@@ -13,14 +14,15 @@ use Rattle.repl_target.specs.Peer.{PeerValue, SessionValue}
 use Rattle.repl_target.specs.Writing.{after_load, after_edit}
 use Rattle.repl_target.specs.Sessions.{after_begin, after_append, after_record, after_conclude}
 use Rattle.repl_target.specs.Settling.{after_settle, after_stop}
-use Rattle.repl_target.specs.Audit.{rep_between}
-use Rattle.repl_target.specs.Ties.{IsTiedWindow}
+use Rattle.repl_target.specs.Replication.{begins_answer, after_begins}
+use Rattle.repl_target.specs.declared.beginning.Beginning.{Beginning}
+use Rattle.repl_target.specs.declared.replication.Plan.{Plan}
 
 -- a call on a target. `Stop` is a settling that found no memory after so many documents
 pub data Call : Type 0 where
   Load : (doc : Document) → Call
   Edit : (id : Id) (parent : Option RevId) (deleted : Bool) (body : List ℕ) → Call
-  Begin : (session : SessionId) (rep : RepId) (base : Option SessionId) (start goal at : ℕ) → Call
+  Begin : (session : SessionId) (beginning : Beginning) (at : ℕ) → Call
   Append : (session : SessionId) (window : WindowValue) → Call
   Settle : (session : SessionId) (parcel : ParcelValue) → Call
   Stop : (session : SessionId) (parcel : ParcelValue) (settled : ℕ) → Call
@@ -31,7 +33,7 @@ pub data Call : Type 0 where
 abbrev pub after_call : (Document → Bool) → PeerValue → Call → PeerValue
 after_call refuses p (Load doc) = after_load p doc
 after_call refuses p (Edit id parent deleted body) = after_edit p id parent deleted body
-after_call refuses p (Begin session rep base start goal at) = after_begin p session rep base start goal at
+after_call refuses p (Begin session beginning at) = after_begin p session beginning at
 after_call refuses p (Append session window) = after_append p session window
 after_call refuses p (Settle session parcel) = after_settle refuses p session parcel
 after_call refuses p (Stop session parcel settled) = after_stop refuses p session parcel settled
@@ -43,39 +45,43 @@ abbrev pub after_calls : (Document → Bool) → PeerValue → List Call → Pee
 after_calls refuses p [] = p
 after_calls refuses p (c ∷ calls) = after_calls refuses (after_call refuses p c) calls
 
--- a page of a database
-pub record IsPageOf (db : DatabaseValue) (w : WindowValue) : Type 0 where
+-- a page of a database under a choice
+pub record IsPageOf (db : DatabaseValue) (chosen : Choice) (w : WindowValue) : Type 0 where
   pub since : ℕ
   pub goal : ℕ
   pub limit : ℕ
   pub some : 0 < limit
   pub above : since < goal
   pub within : goal ≤ db.update_seq
-  pub is : w ≡ page db since goal limit
+  pub is : w ≡ page db since goal limit chosen
 
--- the messages of a call are what a source answers
-abbrev pub IsFrom : DatabaseValue → Call → Type 0
-IsFrom source (Append session window) = IsPageOf source window
-IsFrom source (Settle session parcel) = parcel ≡ open_revs source parcel.asked
-IsFrom source (Stop session parcel settled) = parcel ≡ open_revs source parcel.asked
-IsFrom source (Begin session rep base start goal at) = start < 2 ^ 64
-IsFrom source call = Unit {0}
+-- the messages of a call are what a source answers under a choice; only the run's session stores windows, and no
+-- session begins
+abbrev pub IsFrom : DatabaseValue → Choice → SessionId → Call → Type 0
+IsFrom source chosen run (Append session window) = (session ≡ run) × IsPageOf source chosen window
+IsFrom source chosen run (Settle session parcel) = parcel ≡ open_revs source parcel.asked
+IsFrom source chosen run (Stop session parcel settled) = parcel ≡ open_revs source parcel.asked
+IsFrom source chosen run (Begin session beginning at) = ⊥
+IsFrom source chosen run call = Unit {0}
 
-abbrev pub AllFrom : DatabaseValue → List Call → Type 0
-AllFrom source [] = Unit {0}
-AllFrom source (c ∷ calls) = IsFrom source c × AllFrom source calls
+abbrev pub AllFrom : DatabaseValue → Choice → SessionId → List Call → Type 0
+AllFrom source chosen run [] = Unit {0}
+AllFrom source chosen run (c ∷ calls) = IsFrom source chosen run c × AllFrom source chosen run calls
 
--- a target is a given one after some calls, whose messages are what a source answers
-abbrev pub IsGrown : (Document → Bool) → DatabaseValue → PeerValue → PeerValue → Type 0
-IsGrown refuses source given now =
-    (calls : List Call) × AllFrom source calls × (now ≡ after_calls refuses given calls)
+-- a target is a given one after some calls of a run, whose messages are what a source answers
+abbrev pub IsGrown : (Document → Bool) → DatabaseValue → Choice → SessionId → PeerValue → PeerValue → Type 0
+IsGrown refuses source chosen run given now =
+    (calls : List Call) × AllFrom source chosen run calls × (now ≡ after_calls refuses given calls)
+
+-- what a replication leaves of a target: it is as it was given; or the plan's session has begun at the common checkpoint,
+-- and the target has grown since
+abbrev pub IsLeft : (Document → Bool) → PeerValue → PeerValue → Plan → PeerValue → Type 0
+IsLeft refuses source given plan now =
+    (now ≡ given)
+    ⊎ (begins_answer source given plan ≡ Ok tt)
+    × IsGrown refuses source.db plan.chosen plan.session (after_begins source given plan) now
 
 -- each window of the sessions that are looked at is so
 abbrev pub EachStored : (SessionId → RepId → Type 0) → (WindowValue → Type 0) → List SessionValue → Type 0
 EachStored Q P sessions =
     (s : SessionValue) → Among s sessions → Q s.id s.rep → (w : WindowValue) → Among w s.windows → P w
-
--- the windows that the target stores of the replication from the source are tied to the source's database
-abbrev pub IsTiedPair : PeerValue → PeerValue → Type 0
-IsTiedPair source target =
-    EachStored (λ id rep. rep ≡ rep_between source target) (IsTiedWindow source.db) target.sessions

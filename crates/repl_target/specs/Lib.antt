@@ -13,6 +13,7 @@ pub mod Origins
 pub mod Trusted
 pub mod SessionCalls
 pub mod LedgerIndex
+pub mod RepIndex
 pub mod Logs
 pub mod Audit
 pub mod SettlingParts
@@ -20,6 +21,8 @@ pub mod StoredSessions
 pub mod Local
 pub mod Replication
 pub mod Ties
+pub mod Backups
+pub mod TiedPeers
 pub mod Calls
 pub mod Tied
 pub mod ReadCounts

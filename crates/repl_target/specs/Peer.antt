@@ -6,7 +6,9 @@
 -- may claim as carried can be held against what stands there. A source holds a log for each replication out of it: what
 -- the target said, session by session, that it had recorded. The common checkpoint of a later replication is read from
 -- both. Local writes are noted too, so that of each revision of a tree it can be said where it came from.
-use Rattle.std.specs.Prelude.{ℕ, ◌==◌, Bool, ◌&&◌, nat_le, if◌then◌else◌, List, [], map, Option, Result, Ok, Err}
+use Rattle.std.specs.Prelude.{ℕ, ◌==◌, Bool, ◌&&◌, nat_le, nat_eq, if◌then◌else◌, List, [], map, Option, Result, Ok, Err}
+use Rattle.std.specs.Option.{option_eq}
+use Rattle.std.specs.Cmp.Lexicographic.{pointwise}
 use Rattle.std.specs.List.{find, list_any}
 use Rattle.rev_core.specs.Rev.{RevId}
 use Rattle.rev_tree.specs.declared.origin.SessionId.{SessionId}
@@ -30,12 +32,13 @@ pub record RefusedValue : Type 0 where
   pub doc : Document
   pub reason : Reason
 
--- an incoming session: what it began with; its windows, and which of them are done, from its start on; the documents
--- that were taken and those that were refused; the counts of leaves checked and found missing, and of documents read,
--- written and refused; and when it began and last recorded
+-- an incoming session: what it began with, the life of the source among it; its windows, and which of them are done,
+-- from its start on; the documents that were taken and those that were refused; the counts of leaves checked and found
+-- missing, and of documents read, written and refused; and when it began and last recorded
 pub record SessionValue : Type 0 where
   pub id : SessionId
   pub rep : RepId
+  pub life : ℕ
   pub base : Option SessionId
   pub goal : ℕ
   pub front : FrontValue
@@ -91,12 +94,14 @@ abbrev pub with_session : List SessionValue → SessionValue → List SessionVal
 with_session sessions t = map (λ s. if is_of t.id s then t else s) sessions
 
 abbrev pub same_rep : RepId → RepId → Bool
-same_rep a b = (a.source == b.source) && (a.target == b.target)
+same_rep a b =
+    (a.source == b.source) && ((a.target == b.target) && option_eq (pointwise (pointwise nat_eq)) a.chosen b.chosen)
 
 -- what a log says of a session
 abbrev pub entry_of : SessionValue → EntryValue
 entry_of s = record {
   session = s.id;
+  life = s.life;
   start = s.front.start;
   recorded = s.recorded;
   start_time = s.start_time;

@@ -1,11 +1,12 @@
 -- Replication by one thread: docs/PROFILE.md, "Replication by one thread"; CouchDB, "Replication Protocol".
-use Rattle.std.specs.Prelude.{◌≡◌, ◌⊎◌, ℕ, zero, suc, ◌+◌, ◌==◌, ◌<◌, Bool, true, false, ◌&&◌, nat_lt, nat_le, if◌then◌else◌, [], Option, Some, None, Result, Ok, Err, IsOk}
+use Rattle.std.specs.Prelude.{◌≡◌, ◌⊎◌, ℕ, zero, suc, ◌+◌, ◌==◌, ◌<◌, Bool, true, false, ◌&&◌, nat_lt, nat_le, if◌then◌else◌, [], Option, Some, None, Result, Ok, Err}
 use Rattle.rev_core.specs.Rev.{RevId}
 use Rattle.rev_tree.specs.Tree.{SameRevisions}
 use Rattle.rev_tree.specs.declared.origin.SessionId.{SessionId}
 use Rattle.doc_json.specs.Document.{Document}
+use Rattle.doc_json.specs.Chosen.{Choice, is_chosen}
 use Rattle.couch_base.specs.Database.{Id, DatabaseValue, tree_of}
-use Rattle.couch_base.specs.Feed.{RowValue, WindowValue, feed, page}
+use Rattle.couch_base.specs.Feed.{RowValue, WindowValue, chosen_feed, page}
 use Rattle.couch_base.specs.Lists.{Among}
 use Rattle.couch_base.specs.Messages.{ParcelValue, revs_diff, open_revs}
 use Rattle.repl_log.specs.declared.replication.RepId.{RepId}
@@ -14,8 +15,9 @@ use Rattle.repl_target.specs.Peer.{PeerValue, SessionValue, session_in, entry_of
 use Rattle.repl_target.specs.Covered.{covers}
 use Rattle.repl_target.specs.Sessions.{report_of, session_answer, begin_answer, after_begin, append_answer, after_append, after_record, conclude_answer, after_conclude}
 use Rattle.repl_target.specs.Settling.{SettleGives}
-use Rattle.repl_target.specs.Logs.{put_entry_answer, after_put_entry}
+use Rattle.repl_target.specs.Logs.{after_put_entry}
 use Rattle.repl_target.specs.Audit.{rep_between, checkpoint_between}
+use Rattle.repl_target.specs.declared.beginning.Beginning.{Beginning}
 use Rattle.repl_target.specs.declared.fault.Report.{Report}
 use Rattle.repl_target.specs.declared.fault.Settled.{Settled}
 use Rattle.repl_target.specs.declared.fault.TargetFault.{TargetFault}
@@ -44,22 +46,27 @@ start_at None = 0
 start_at (Some checkpoint) = checkpoint.1
 
 -- the common checkpoint of a replication from one peer into the other
-abbrev pub checkpoint_of : PeerValue → PeerValue → Option (SessionId × ℕ)
-checkpoint_of source target = checkpoint_between source target (rep_between source target)
+abbrev pub checkpoint_of : PeerValue → PeerValue → Choice → Option (SessionId × ℕ)
+checkpoint_of source target chosen = checkpoint_between source target (rep_between source target chosen)
 
-abbrev pub start_between : PeerValue → PeerValue → ℕ
-start_between source target = start_at (checkpoint_of source target)
+abbrev pub start_between : PeerValue → PeerValue → Choice → ℕ
+start_between source target chosen = start_at (checkpoint_of source target chosen)
 
--- its goal is the source's update sequence
+-- it is of the source's life, and its goal is the source's update sequence
+abbrev pub beginning_between : PeerValue → PeerValue → Choice → Beginning
+beginning_between source target chosen = record {
+  rep = rep_between source target chosen;
+  life = source.db.life;
+  base = base_at (checkpoint_of source target chosen);
+  start = start_between source target chosen;
+  goal = source.db.update_seq;
+}
+
 abbrev pub begins_answer : PeerValue → PeerValue → Plan → Result (Unit {0}) TargetFault
-begins_answer source target plan =
-    begin_answer target plan.session (rep_between source target) (base_at (checkpoint_of source target))
-    (start_between source target) source.db.update_seq
+begins_answer source target plan = begin_answer target plan.session (beginning_between source target plan.chosen)
 
 abbrev pub after_begins : PeerValue → PeerValue → Plan → PeerValue
-after_begins source target plan =
-    after_begin target plan.session (rep_between source target) (base_at (checkpoint_of source target))
-    (start_between source target) source.db.update_seq plan.at
+after_begins source target plan = after_begin target plan.session (beginning_between source target plan.chosen) plan.at
 
 -- ---- windows
 
@@ -68,9 +75,9 @@ pub record Reading : Type 0 where
   pub since : ℕ
   pub target : PeerValue
 
--- the next window of the source's feed
+-- the next window of the source's feed, which has the rows of chosen documents
 abbrev pub next_window : DatabaseValue → Plan → ℕ → WindowValue
-next_window source plan since = page source since source.update_seq plan.batch
+next_window source plan since = page source since source.update_seq plan.batch plan.chosen
 
 -- what a target misses of a window, as the source has it
 abbrev pub parcel_for : DatabaseValue → PeerValue → WindowValue → ParcelValue
@@ -144,7 +151,7 @@ closed p plan = closed_as p plan (conclude_answer p plan.session)
 abbrev pub PutsOver : PeerValue → RepId → EntryValue → Result (Unit {0}) TargetFault → PeerValue → Type 0
 PutsOver source rep entry (Ok done) source' = source' ≡ after_put_entry source rep entry
 PutsOver source rep entry (Err why) source' =
-    (why ≡ faults.Memory) × (source' ≡ source) × IsOk (put_entry_answer source rep entry)
+    (why ≡ faults.Memory) × (source' ≡ source)
 
 -- the answer of recording both sides: that of concluding, unless the second finds no memory
 abbrev pub told_by : Result Report TargetFault → Result (Unit {0}) TargetFault → Result Report TargetFault
@@ -158,14 +165,14 @@ pub record Closes (source target : PeerValue) (plan : Plan) (result : Result Rep
   pub entry : EntryValue
   pub told : session_answer target' plan.session (λ s. Ok (entry_of s)) ≡ Ok entry
   pub put : Result (Unit {0}) TargetFault
-  pub at_source : PutsOver source (rep_between source target') entry put source'
+  pub at_source : PutsOver source (rep_between source target' plan.chosen) entry put source'
   pub answer : result ≡ told_by (conclude_answer target plan.session) put
 
 -- ---- a replication
 
 abbrev pub first_reading : PeerValue → PeerValue → Plan → Reading
 first_reading source target plan =
-    record { since = start_between source target; target = after_begins source target plan }
+    record { since = start_between source target plan.chosen; target = after_begins source target plan }
 
 -- What replicating by one thread answers, and the source and the target that it leaves.
 pub data Replicates (refuses : Document → Bool) (source target : PeerValue) (plan : Plan) : Result Report TargetFault
@@ -191,10 +198,10 @@ pub data Replicates (refuses : Document → Bool) (source target : PeerValue) (p
 
 -- ---- what it says
 
--- each leaf of the source's feed above a sequence is covered at the target
-abbrev pub CoversFrom : PeerValue → PeerValue → ℕ → Type 0
-CoversFrom source target n =
-    (row : RowValue) → Among row (feed source.db n source.db.update_seq) → (leaf : RevId) → Among leaf row.leaves
+-- each leaf of the source's chosen feed above a sequence is covered at the target
+abbrev pub CoversFrom : PeerValue → PeerValue → Choice → ℕ → Type 0
+CoversFrom source target chosen n =
+    (row : RowValue) → Among row (chosen_feed chosen source.db n source.db.update_seq) → (leaf : RevId) → Among leaf row.leaves
     → covers target row.id leaf ≡ true
 
 -- the report is that of the plan's session, which began at the common checkpoint and is recorded at its goal
@@ -202,7 +209,7 @@ pub record IsReported (source target target' : PeerValue) (plan : Plan) (report 
   pub session : SessionValue
   pub held : session_in target'.sessions plan.session ≡ Some session
   pub is : report ≡ report_of session
-  pub start : report.start ≡ start_between source target
+  pub start : report.start ≡ start_between source target plan.chosen
   pub recorded : report.recorded ≡ source.db.update_seq
   pub counts : report.read ≡ report.written + report.failures
 
@@ -210,6 +217,7 @@ pub record IsReported (source target target' : PeerValue) (plan : Plan) (report 
 abbrev pub IsEmpty : PeerValue → Type 0
 IsEmpty p = (p.db.docs ≡ []) × (p.sessions ≡ [])
 
--- each document of one database is in the other as it is there
-abbrev pub SameDocuments : DatabaseValue → DatabaseValue → Type 0
-SameDocuments a b = (id : Id) → SameRevisions (tree_of a.docs id) (tree_of b.docs id)
+-- each chosen document of one database is in the other as it is there
+abbrev pub SameDocuments : Choice → DatabaseValue → DatabaseValue → Type 0
+SameDocuments chosen a b =
+    (id : Id) → is_chosen chosen id ≡ true → SameRevisions (tree_of a.docs id) (tree_of b.docs id)

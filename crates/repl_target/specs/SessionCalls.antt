@@ -10,6 +10,7 @@ use Rattle.couch_base.specs.Database.{Id}
 use Rattle.repl_target.specs.Peer.{SessionValue, session_in, holds, with_session}
 use Rattle.repl_target.specs.Covered.{in_ledger}
 use Rattle.repl_target.specs.Sessions.{found_answer, base_in, base_answer, goal_answer}
+use Rattle.repl_target.specs.declared.beginning.Beginning.{Beginning}
 use Rattle.repl_target.specs.declared.fault.TargetFault.{TargetFault}
 use Rattle.repl_target.specs.declared.fault.TargetFault.TheVariants as faults
 
@@ -27,9 +28,10 @@ abbrev pub answer_in : {A : Type 0} → List SessionValue → SessionId → (Ses
 answer_in sessions id answer = found_answer answer (session_in sessions id)
 
 -- what beginning a session answers where memory is left
-abbrev pub begin_in : List SessionValue → SessionId → RepId → Option SessionId → ℕ → ℕ → Result (Unit {0}) TargetFault
-begin_in sessions id rep base start goal =
-    if holds sessions id then Err faults.SessionExists else goal_answer start goal (base_answer sessions rep base start)
+abbrev pub begin_in : List SessionValue → SessionId → Beginning → Result (Unit {0}) TargetFault
+begin_in sessions id b =
+    if holds sessions id then Err faults.SessionExists
+    else goal_answer b.start b.goal (base_answer sessions b.rep b.base b.start)
 
 -- what a base has recorded, 0 where there is none
 abbrev pub recorded_of : Option SessionValue → Result ℕ TargetFault

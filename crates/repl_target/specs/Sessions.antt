@@ -6,6 +6,7 @@ use Rattle.couch_base.specs.Feed.{WindowValue}
 use Rattle.range_front.specs.Front.{no_windows, end_of, low_water, appended}
 use Rattle.repl_log.specs.declared.replication.RepId.{RepId}
 use Rattle.repl_target.specs.Peer.{PeerValue, SessionValue, session_in, holds, with_session, is_of, same_rep}
+use Rattle.repl_target.specs.declared.beginning.Beginning.{Beginning}
 use Rattle.repl_target.specs.declared.fault.Report.{Report}
 use Rattle.repl_target.specs.declared.fault.TargetFault.{TargetFault}
 use Rattle.repl_target.specs.declared.fault.TargetFault.TheVariants as faults
@@ -57,21 +58,22 @@ goal_answer start goal (Err fault) = Err fault
 goal_answer start goal (Ok done) = if nat_lt goal start then Err faults.GoalBelowStart else Ok tt
 
 -- what beginning a session answers where memory is left
-abbrev pub begin_answer : PeerValue → SessionId → RepId → Option SessionId → ℕ → ℕ → Result (Unit {0}) TargetFault
-begin_answer p id rep base start goal =
+abbrev pub begin_answer : PeerValue → SessionId → Beginning → Result (Unit {0}) TargetFault
+begin_answer p id b =
     if holds p.sessions id then Err faults.SessionExists
-    else goal_answer start goal (base_answer p.sessions rep base start)
+    else goal_answer b.start b.goal (base_answer p.sessions b.rep b.base b.start)
 
 -- a session as it begins: nothing is stored, and its start is recorded
-abbrev pub new_session : SessionId → RepId → Option SessionId → ℕ → ℕ → ℕ → SessionValue
-new_session id rep base start goal at = record {
+abbrev pub new_session : SessionId → Beginning → ℕ → SessionValue
+new_session id b at = record {
   id = id;
-  rep = rep;
-  base = base;
-  goal = goal;
-  front = no_windows start;
+  rep = b.rep;
+  life = b.life;
+  base = b.base;
+  goal = b.goal;
+  front = no_windows b.start;
   windows = [];
-  recorded = start;
+  recorded = b.start;
   arrivals = [];
   ledger = [];
   checked = 0;
@@ -88,17 +90,20 @@ abbrev pub begun : PeerValue → SessionValue → Result (Unit {0}) TargetFault 
 begun p s (Ok done) = record p { sessions = s ∷ p.sessions }
 begun p s (Err fault) = p
 
-abbrev pub after_begin : PeerValue → SessionId → RepId → Option SessionId → ℕ → ℕ → ℕ → PeerValue
-after_begin p id rep base start goal at =
-    begun p (new_session id rep base start goal at) (begin_answer p id rep base start goal)
+abbrev pub after_begin : PeerValue → SessionId → Beginning → ℕ → PeerValue
+after_begin p id b at = begun p (new_session id b at) (begin_answer p id b)
 
 -- ---- appending
 
 -- a window begins where the stored ones end, and ends at or under the goal
-abbrev pub append_in : WindowValue → SessionValue → Result (Unit {0}) TargetFault
-append_in w s =
+abbrev pub next_in : WindowValue → SessionValue → Result (Unit {0}) TargetFault
+next_in w s =
     if w.lo == end_of s.front then (if nat_lt s.goal w.hi then Err faults.PastGoal else Ok tt)
     else Err (faults.Gap (end_of s.front))
+
+-- and is of the session's life
+abbrev pub append_in : WindowValue → SessionValue → Result (Unit {0}) TargetFault
+append_in w s = if w.life == s.life then next_in w s else Err (faults.OtherLife s.life)
 
 abbrev pub append_answer : PeerValue → SessionId → WindowValue → Result (Unit {0}) TargetFault
 append_answer p id w = session_answer p id (append_in w)

@@ -1,14 +1,18 @@
--- Sessions as they are stored: the table of a peer, and its index of refused revisions.
-use Rattle.std.specs.Prelude.{◌≡◌, List}
+-- Sessions as they are stored: the table of a peer, its index of refused revisions, and that of replications.
+use Rattle.std.specs.Prelude.{◌≡◌, List, map, reverse}
 use Rattle.std.specs.List.{IsDistinct}
 use Rattle.std.specs.Map.{keys_of}
 use Rattle.rev_core.specs.Rev.{RevId}
 use Rattle.rev_tree.specs.declared.origin.SessionId.{SessionId}
 use Rattle.couch_base.specs.Database.{Id}
+use Rattle.repl_log.specs.declared.replication.RepId.{RepId}
 use Rattle.repl_log.specs.Stored.{at_session, newest_first, IsKeyed}
 use Rattle.repl_target.specs.Peer.{SessionValue}
 use Rattle.repl_target.specs.LedgerIndex.{is_ledgered}
 use Rattle.repl_target.specs.SessionCalls.{in_ledgers}
+use Rattle.repl_target.specs.Logs.{log_of}
+use Rattle.repl_target.specs.RepIndex.{listed}
+use Rattle.repl_target.specs.declared.rep_index.RepIndex.{RepIndex}
 use Rattle.repl_target.specs.declared.ledger_index.LedgerIndex.{LedgerIndex}
 
 -- the sessions of a table, newest first
@@ -24,3 +28,11 @@ pub record IsStored (ledgered : LedgerIndex) (es : List (SessionId × SessionVal
   pub once : IsDistinct at_session (keys_of es)
   pub keyed : IsKeyed (λ s. s.id) es
   pub index : Indexes ledgered (sessions_of es)
+
+-- the sessions of a replication, newest first
+abbrev pub ids_of : List SessionValue → RepId → List SessionId
+ids_of sessions rep = map (λ e. e.session) (log_of sessions rep)
+
+-- the index has the sessions of each replication, and no others
+abbrev pub AreListed : RepIndex → List SessionValue → Type 0
+AreListed by_rep sessions = (rep : RepId) → listed by_rep rep ≡ reverse (ids_of sessions rep)

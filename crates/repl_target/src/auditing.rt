@@ -2,24 +2,25 @@
 ghost use Rattle.std.specs.Prelude.{◌≡◌, not, IfOk, IfErr};
 ghost use Rattle.std.specs.List.{find};
 ghost use Rattle.repl_target.specs.Covered.{covers, first_uncovered};
-ghost use Rattle.couch_base.specs.Feed.{feed};
+ghost use Rattle.std.specs.Option.{option_copied};
+ghost use Rattle.couch_base.specs.Feed.{chosen_feed};
 ghost use Rattle.repl_target.specs.Audit.{audit_answer, hole_of, IsAudited};
-ghost use Rattle.repl_target.specs.Calls.{IsTiedPair};
+ghost use Rattle.repl_target.specs.TiedPeers.{IsTiedPair};
 
 use crate::fault::{Audit, TargetFault};
 use crate::filter::WriteFilter;
-use crate::logs::rep_between;
+use crate::logs::{checkpoint, rep_between};
 use crate::peer::Peer;
 use couch_base::Row;
-use repl_log::common;
+use doc_json::Chosen;
 use rev_core::Rev;
 use std::alloc::Global;
 
 /// How many rows of the source's feed are read at once.
 const PAGE: u64 = 1000;
 
-/// Whether the target covers all that the two logs of the replication say is done: each leaf of the source's feed at or
-/// under the common checkpoint.
+/// Whether the target covers all that the two logs of the replication of the chosen documents say is done: each leaf of
+/// the source's chosen feed at or under the common checkpoint.
 ///
 /// Where the windows that the target stores of this replication are tied to the source's database, it is `Clean`. It
 /// reads the source's feed in pages. The only error is `Memory`.
@@ -27,22 +28,24 @@ pub fn audit<F: WriteFilter, G: WriteFilter>(
     alloc: Global,
     source: &Peer<F>,
     target: &Peer<G>,
+    chosen: Option<&Chosen>,
 ) -> Result<Audit, TargetFault>
-    ensures answer { IfOk result (λ a. hole_of a ≡ audit_answer source.now.1 target.now.1) }
-    ensures clean { IfOk result (λ a. a ≡ Audit.Clean → IsAudited source.now.1 target.now.1) }
-    ensures tied { IfOk result (λ a. IsTiedPair source.now.1 target.now.1 → a ≡ Audit.Clean) }
+    ensures answer { IfOk result
+        (λ a. hole_of a ≡ audit_answer source.now.1 target.now.1 (option_copied chosen.entry)) }
+    ensures clean { IfOk result
+        (λ a. a ≡ Audit.Clean → IsAudited source.now.1 target.now.1 (option_copied chosen.entry)) }
+    ensures tied { IfOk result
+        (λ a. IsTiedPair source.now.1 target.now.1 (option_copied chosen.entry) → a ≡ Audit.Clean) }
     ensures err { IfErr result (λ e. e ≡ TargetFault.Memory) }
 {
-    let rep = rep_between(source, target);
-    let outgoing = source.source_log(alloc, &rep)?;
-    let incoming = target.target_log(alloc, &rep)?;
-    match common(&outgoing, &incoming) {
-        Some((_, recorded)) => hole_within(alloc, source, target, 0, recorded),
+    let rep = rep_between(source, target, chosen)?;
+    match checkpoint(source, target, &rep) {
+        Some((_, recorded)) => hole_within(alloc, source, target, 0, recorded, chosen),
         None => Ok(Audit::Clean),
     }
 }
 
-/// Whether the target covers each leaf of the source's feed above a sequence, else the first that it doesn't.
+/// Whether the target covers each leaf of the source's chosen feed above a sequence, else the first that it doesn't.
 ///
 /// It reads the feed in pages. The only error is `Memory`.
 pub fn hole_above<F: WriteFilter, G: WriteFilter>(
@@ -50,29 +53,40 @@ pub fn hole_above<F: WriteFilter, G: WriteFilter>(
     source: &Peer<F>,
     target: &Peer<G>,
     since: u64,
+    chosen: Option<&Chosen>,
 ) -> Result<Audit, TargetFault>
     ensures answer { IfOk result
-        (λ a. hole_of a ≡ first_uncovered target.now.1 (feed source.now.1.db since source.now.1.db.update_seq)) }
+        (λ a. hole_of a ≡ first_uncovered target.now.1
+        (chosen_feed (option_copied chosen.entry) source.now.1.db since source.now.1.db.update_seq)) }
     ensures err { IfErr result (λ e. e ≡ TargetFault.Memory) }
 {
-    hole_within(alloc, source, target, since, source.db().update_seq())
+    hole_within(
+        alloc,
+        source,
+        target,
+        since,
+        source.db().update_seq(),
+        chosen,
+    )
 }
 
-/// Whether the target covers each leaf of the source's feed above a sequence, and at or under another.
+/// Whether the target covers each leaf of the source's chosen feed above a sequence, and at or under another.
 fn hole_within<F: WriteFilter, G: WriteFilter>(
     alloc: Global,
     source: &Peer<F>,
     target: &Peer<G>,
     above: u64,
     upto: u64,
+    chosen: Option<&Chosen>,
 ) -> Result<Audit, TargetFault>
-    ensures answer { IfOk result (λ a. hole_of a ≡ first_uncovered target.now.1 (feed source.now.1.db above upto)) }
+    ensures answer { IfOk result (λ a. hole_of a
+        ≡ first_uncovered target.now.1 (chosen_feed (option_copied chosen.entry) source.now.1.db above upto)) }
     ensures err { IfErr result (λ e. e ≡ TargetFault.Memory) }
 {
     let goal = upto.min(source.db().update_seq());
     let mut since = above;
     while since < goal {
-        let Ok(page) = source.page(alloc, since, goal, PAGE) else {
+        let Ok(page) = source.page(alloc, since, goal, PAGE, chosen) else {
             return Err(TargetFault::Memory);
         };
         let found = first_hole(alloc, target, page.rows())?;

@@ -4,6 +4,8 @@
 #![tactic(auto)]
 
 mod auditing;
+mod backup;
+mod beginning;
 mod fault;
 mod filter;
 mod ledger_index;
@@ -12,6 +14,7 @@ mod logs;
 mod peer;
 mod readers;
 mod refused;
+mod rep_index;
 mod replication;
 mod rows;
 mod session;
@@ -21,9 +24,11 @@ mod stored;
 mod written;
 
 pub use auditing::{audit, hole_above};
+pub use backup::Backup;
+pub use beginning::Beginning;
 pub use fault::{Audit, Cause, Reason, Report, Settled, TargetFault};
 pub use filter::{Rules, Verdict, WriteFilter};
-pub use logs::rep_between;
+pub use logs::{checkpoint, rep_between};
 pub use peer::Peer;
 pub use refused::Refused;
 pub use replication::{Plan, begin_plan, check_plan, has_left, record_at_source, replicate_alone};

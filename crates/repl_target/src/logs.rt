@@ -1,7 +1,8 @@
 //! The logs of a peer: those of the sessions that were replicated into it, and those of the replications from it.
 ghost use Rattle.std.specs.Prelude.{◌≡◌, OnOk, OnErr, IfOk, IfErr};
+ghost use Rattle.std.specs.Option.{option_copied};
 ghost use Rattle.repl_log.specs.Entry.{value_of};
-ghost use Rattle.repl_target.specs.Audit.{rep_between};
+ghost use Rattle.repl_target.specs.Audit.{checkpoint_between, rep_between};
 ghost use Rattle.repl_target.specs.Law.{Lawful};
 ghost use Rattle.repl_target.specs.Sessions.{GivesUnlessMemory};
 ghost use Rattle.repl_target.specs.Logs.{log_in, logs_with, put_answer_in, refused_by_log};
@@ -9,22 +10,48 @@ ghost use Rattle.repl_target.specs.Logs.{log_in, logs_with, put_answer_in, refus
 use crate::fault::TargetFault;
 use crate::filter::WriteFilter;
 use crate::peer::Peer;
+use doc_json::Chosen;
 use indexmap::IndexMap;
 use repl_log::{Entry, Log, LogFault, RepId};
+use rev_tree::SessionId;
 use std::alloc::Global;
 
 /// The outgoing logs by replication.
 pub(crate) type Logs = IndexMap<RepId, Log>;
 
-/// The id of the replication from one peer into another: their databases' UUIDs. Both peers are lawful.
-pub fn rep_between<F: WriteFilter, G: WriteFilter>(source: &Peer<F>, target: &Peer<G>) -> RepId
-    ensures id { result ≡ rep_between source.now.1 target.now.1 }
+/// The id of the replication from one peer into another: their databases' UUIDs, and the choice, which is shared. Both
+/// peers are lawful. The only error is `Memory`.
+pub fn rep_between<F: WriteFilter, G: WriteFilter>(
+    source: &Peer<F>,
+    target: &Peer<G>,
+    chosen: Option<&Chosen>,
+) -> Result<RepId, TargetFault>
+    ensures id { IfOk result (λ id. id ≡ rep_between source.now.1 target.now.1 (option_copied chosen.entry)) }
+    ensures err { IfErr result (λ e. e ≡ TargetFault.Memory) }
     ensures source_law { Lawful (F.refuses source.now.0) source.now.1 }
     ensures target_law { Lawful (G.refuses target.now.0) target.now.1 }
 {
-    RepId {
-        source: source.db().uuid(),
-        target: target.db().uuid(),
+    match RepId::new(source.db().uuid(), target.db().uuid(), chosen) {
+        Ok(rep) => Ok(rep),
+        Err(_) => Err(TargetFault::Memory),
+    }
+}
+
+/// The common checkpoint of a replication: the newest session of the target's log that the source's log also holds, with
+/// the lesser of its two recorded sequences (docs/PROFILE.md, "Common checkpoint"). None where the logs share no session.
+///
+/// It looks at the target's sessions of this replication, the newest first, and at none behind the one that it finds. It
+/// takes no memory.
+pub fn checkpoint<F: WriteFilter, G: WriteFilter>(
+    source: &Peer<F>,
+    target: &Peer<G>,
+    rep: &RepId,
+) -> Option<(SessionId, u64)>
+    ensures { result ≡ checkpoint_between source.now.1 target.now.1 rep.now }
+{
+    match source.outgoing.get(rep) {
+        Some(log) => target.sessions.shared_with(rep, log),
+        None => None,
     }
 }
 
@@ -49,8 +76,8 @@ impl<F: WriteFilter> Peer<F> {
 
     /// Puts an entry into the log of a replication from this peer, which begins with it where there is none.
     ///
-    /// `Older` exactly where the log's entry of the session has a greater recorded sequence; else `Memory`. A refusal
-    /// changes nothing.
+    /// `OtherLife` exactly where the entry is of another life than the database; else `Older` exactly where the log's
+    /// entry of the session has a greater recorded sequence; else `Memory`. A refusal changes nothing.
     pub fn put_entry(&mut self, rep: &RepId, entry: Entry) -> Result<(), TargetFault>
         ensures answer { GivesUnlessMemory result (put_entry_answer self.old.1 rep.now (value_of entry)) }
         ensures filter { self.new.0 ≡ self.old.0 }
@@ -58,6 +85,10 @@ impl<F: WriteFilter> Peer<F> {
         ensures err { OnErr result (self.new.1 ≡ self.old.1) }
         ensures law { Lawful (F.refuses self.new.0) self.new.1 }
     {
+        let now = self.db.life();
+        if entry.life != now {
+            return Err(TargetFault::OtherLife { now });
+        }
         put(&mut self.outgoing, rep, entry)
     }
 }
@@ -112,4 +143,36 @@ fn refused_by_log(fault: LogFault) -> TargetFault
         LogFault::Older { stored } => TargetFault::Older { stored },
         _ => TargetFault::Memory,
     }
+}
+
+/// A log with its replication. The only error is `Memory`.
+fn copy_log(alloc: Global, rep: &RepId, log: &Log) -> Result<(RepId, Log), TargetFault>
+    ensures copied { IfOk result (λ e. (e.0 ≡ rep.now) × (e.1 ≡ log.now)) }
+    ensures err { IfErr result (λ e. e ≡ TargetFault.Memory) }
+{
+    let Ok(rep) = rep.copy(alloc) else {
+        return Err(TargetFault::Memory);
+    };
+    match log.copy(alloc) {
+        Ok(log) => Ok((rep, log)),
+        Err(_) => Err(TargetFault::Memory),
+    }
+}
+
+/// The same logs, each at its place. The only error is `Memory`.
+pub(crate) fn copy_logs(alloc: Global, logs: &Logs) -> Result<Logs, TargetFault>
+    ensures copied { IfOk result (λ m. m.entries ≡ logs.now.entries) }
+    ensures err { IfErr result (λ e. e ≡ TargetFault.Memory) }
+{
+    let mut copy: Logs = IndexMap::new(alloc);
+    for place in 0..logs.len() {
+        let Some((rep, log)) = logs.get_index(place) else {
+            unreachable!()
+        };
+        let (rep, log) = copy_log(alloc, rep, log)?;
+        let Ok(_) = copy.insert(rep, log) else {
+            return Err(TargetFault::Memory);
+        };
+    }
+    Ok(copy)
 }

@@ -1,15 +1,17 @@
 //! Peers.
 ghost use Rattle.std.specs.Prelude.{◌≡◌, Ok, OnOk, OnErr, IfOk, IfErr};
+ghost use Rattle.std.specs.Option.{option_copied};
 ghost use Rattle.rev_tree.specs.Tree.{has};
 ghost use Rattle.couch_base.specs.Database.{tree_of};
 
+use crate::beginning::Beginning;
 use crate::fault::{Report, Settled, TargetFault};
 use crate::filter::WriteFilter;
 use crate::local;
 use crate::sessions::Sessions;
 use crate::written::Written;
 use couch_base::{Asked, BaseFault, Database, Listed, Parcel, Put, Revised, Window};
-use doc_json::{Body, Doc, DocId};
+use doc_json::{Body, Chosen, Doc, DocId};
 use indexmap::IndexMap;
 use repl_log::{Entry, Log, Moment, RepId};
 use rev_core::Rev;
@@ -169,10 +171,18 @@ impl<F: WriteFilter> Peer<F> {
     // ---- the database's messages
 
     /// The page of the database's changes feed above `since`, towards `goal`: `Database::page`.
-    pub fn page(&self, alloc: Global, since: u64, goal: u64, limit: u64) -> Listed
-        ensures { BaseUnlessMemory result (page_answer self.now.1.db since goal limit) }
+    pub fn page(
+        &self,
+        alloc: Global,
+        since: u64,
+        goal: u64,
+        limit: u64,
+        chosen: Option<&Chosen>,
+    ) -> Listed
+        ensures { BaseUnlessMemory result
+            (page_answer self.now.1.db since goal limit (option_copied chosen.entry)) }
     {
-        self.db.page(alloc, since, goal, limit)
+        self.db.page(alloc, since, goal, limit, chosen)
     }
 
     /// What the database misses of another one's window: `Database::revs_diff`. The only error is `Memory`.
@@ -208,7 +218,7 @@ impl<F: WriteFilter> Peer<F> {
 
     // ---- sessions
 
-    /// Begins a session, which is the newest: it reads a source's feed from `start` up to `goal`.
+    /// Begins a session, which is the newest.
     ///
     /// `SessionExists` where the peer holds the id; else `NoSuchBase` where the base is no session of the same
     /// replication; else `StartAboveBase` where the start is above what it has recorded, or above 0 where there is no
@@ -216,25 +226,23 @@ impl<F: WriteFilter> Peer<F> {
     pub fn begin(
         &mut self,
         id: SessionId,
-        rep: &RepId,
-        base: Option<SessionId>,
-        start: u64,
-        goal: u64,
+        beginning: Beginning,
         at: Moment,
     ) -> Result<(), TargetFault>
-        ensures answer { GivesUnlessMemory result (begin_answer self.old.1 id rep.now base start goal) }
+        ensures answer { GivesUnlessMemory result (begin_answer self.old.1 id beginning) }
         ensures filter { self.new.0 ≡ self.old.0 }
-        ensures ok { OnOk result (self.new.1 ≡ after_begin self.old.1 id rep.now base start goal at) }
+        ensures ok { OnOk result (self.new.1 ≡ after_begin self.old.1 id beginning at) }
         ensures err { OnErr result (self.new.1 ≡ self.old.1) }
         ensures law { Lawful (F.refuses self.new.0) self.new.1 }
     {
-        self.sessions.begin(id, rep, base, start, goal, at)
+        self.sessions.begin(id, beginning, at)
     }
 
     /// Stores the next window of a session.
     ///
-    /// `NoSuchSession` where the peer doesn't hold it; else `Gap` where the window doesn't begin where the stored ones
-    /// end; else `PastGoal` where it ends above the goal; else `Memory`. A refusal changes nothing.
+    /// `NoSuchSession` where the peer doesn't hold it; else `OtherLife` where the window is of another life than the
+    /// session; else `Gap` where the window doesn't begin where the stored ones end; else `PastGoal` where it ends above
+    /// the goal; else `Memory`. A refusal changes nothing.
     pub fn append(&mut self, id: SessionId, window: Window) -> Result<(), TargetFault>
         ensures answer { GivesUnlessMemory result (append_answer self.old.1 id window) }
         ensures filter { self.new.0 ≡ self.old.0 }

@@ -1,20 +1,24 @@
 //! Replication by one thread.
-ghost use Rattle.std.specs.Prelude.{◌≡◌, ◌⊎◌, ℕ, ◌<◌, true, false, Some, Ok, Err, IfOk, IfErr, OnOk, OnErr};
+ghost use Rattle.std.specs.Prelude.{◌≡◌, ◌⊎◌, ℕ, ◌<◌, true, false, List, Some, Ok, Err, IfOk, IfErr, OnOk, OnErr};
+ghost use Rattle.doc_json.specs.Chosen.{Choice};
 ghost use Rattle.couch_base.specs.Database.{LawfulDatabase};
 ghost use Rattle.repl_log.specs.Entry.{EntryValue};
 ghost use Rattle.repl_target.specs.Audit.{rep_between, CoversFeed};
-ghost use Rattle.repl_target.specs.Calls.{IsTiedPair};
+ghost use Rattle.repl_target.specs.Backups.{BackupValue};
+ghost use Rattle.repl_target.specs.TiedPeers.{IsTiedPair, IsTiedWith};
 ghost use Rattle.repl_target.specs.Peer.{SessionValue, session_in, entry_of};
 ghost use Rattle.repl_target.specs.Sessions.{session_answer, conclude_answer};
 ghost use Rattle.repl_target.specs.Replication.{Reading, is_batch, plan_answer, start_between, begins_answer, after_begins, Carries, WindowRefused, has_left, ReadsAll, ReadsUntil, closed, PutsOver, Closes, Replicates, CoversFrom, IsReported, IsEmpty, SameDocuments};
 ghost use Rattle.repl_target.specs.Law.{Lawful};
 ghost use Rattle.repl_target.specs.declared.fault.TargetFault.TheVariants as faults;
 
+use crate::beginning::Beginning;
 use crate::fault::{Report, TargetFault};
 use crate::filter::WriteFilter;
-use crate::logs::rep_between;
+use crate::logs::{checkpoint, rep_between};
 use crate::peer::Peer;
-use repl_log::{Moment, common};
+use doc_json::Chosen;
+use repl_log::Moment;
 use rev_tree::SessionId;
 use std::alloc::Global;
 
@@ -22,7 +26,7 @@ use std::alloc::Global;
 const MOST_ROWS: u64 = 10_000;
 
 /// What a replication is asked to do.
-#[derive(Clone, Copy, Debug)]
+#[derive(Debug, Drop)]
 pub struct Plan {
     /// The new session's id.
     pub session: SessionId,
@@ -34,6 +38,32 @@ pub struct Plan {
     pub stop_after: Option<u64>,
     /// When it takes place.
     pub at: Moment,
+    /// Which documents are replicated; all, where none are chosen.
+    pub chosen: Option<Chosen>,
+}
+
+impl Plan {
+    /// The same plan, which shares the choice. The only error is `Memory`.
+    pub fn copy(&self) -> Result<Plan, TargetFault>
+        ensures copied { IfOk result (λ plan. plan ≡ self.now) }
+        ensures err { IfErr result (λ why. why ≡ TargetFault.Memory) }
+    {
+        let chosen = match &self.chosen {
+            Some(chosen) => match chosen.copy() {
+                Ok(chosen) => Some(chosen),
+                Err(_) => return Err(TargetFault::Memory),
+            },
+            None => None,
+        };
+        Ok(Plan {
+            session: self.session,
+            workers: self.workers,
+            batch: self.batch,
+            stop_after: self.stop_after,
+            at: self.at,
+            chosen,
+        })
+    }
 }
 
 /// Replicates the source's documents into the target, by one thread: from the common checkpoint of the two logs up to
@@ -45,13 +75,14 @@ pub struct Plan {
 /// as the plan allows are read, and they end below the goal: then both sides are recorded. An entry that is older than
 /// the one in the source's log is passed over.
 ///
-/// At `Ok` each leaf of the source's feed above the start is covered at the target, and the report is the session's.
-/// Where the target was empty and nothing failed, each document has the revisions, the parents and the contents of
-/// leaves that it has at the source. The source's database is unchanged, whatever the answer.
+/// At `Ok` each leaf of the source's chosen feed above the start is covered at the target, and the report is the
+/// session's. Where the target was empty and nothing failed, each chosen document has the revisions, the parents and
+/// the contents of leaves that it has at the source. The source's database is unchanged, whatever the answer.
 ///
 /// Where the windows that the target stores of this replication are tied to the source's database (docs/PROFILE.md,
-/// "Tied windows and messages"), they are so afterwards, whatever the answer; and at `Ok` each leaf of the source's
-/// whole feed is covered then, those at or under the start too.
+/// "Tied peers"), they are so afterwards, whatever the answer, and so are those of the replications of other choices
+/// between the two; at `Ok` each leaf of the source's whole chosen feed is covered then, those at or under the start
+/// too.
 pub fn replicate_alone<F: WriteFilter, G: WriteFilter>(
     alloc: Global,
     source: &mut Peer<F>,
@@ -64,13 +95,16 @@ pub fn replicate_alone<F: WriteFilter, G: WriteFilter>(
     ensures source { source.new.1 ≡ record source.old.1 { outgoing = source.new.1.outgoing } }
     ensures source_law { Lawful (F.refuses source.new.0) source.new.1 }
     ensures target_law { Lawful (G.refuses target.new.0) target.new.1 }
-    ensures covered { OnOk result (CoversFrom source.old.1 target.new.1 (start_between source.old.1 target.old.1)) }
+    ensures covered { OnOk result (CoversFrom source.old.1 target.new.1 plan.now.chosen
+        (start_between source.old.1 target.old.1 plan.now.chosen)) }
     ensures report { IfOk result (λ report. IsReported source.old.1 target.old.1 target.new.1 plan.now report) }
     ensures copied { IfOk result
-        (λ report. IsEmpty target.old.1 → report.failures ≡ 0 → SameDocuments source.old.1.db target.new.1.db) }
-    ensures tied { IsTiedPair source.old.1 target.old.1 → IsTiedPair source.new.1 target.new.1 }
+        (λ report. IsEmpty target.old.1 → report.failures ≡ 0 → SameDocuments plan.now.chosen source.old.1.db target.new.1.db) }
+    ensures tied { (chosen : Choice) (backups : List BackupValue)
+        → IsTiedWith backups source.old.1 target.old.1 chosen → IsTiedWith backups source.new.1 target.new.1 chosen }
     ensures whole { OnOk result
-        (IsTiedPair source.old.1 target.old.1 → CoversFeed source.old.1 target.new.1 source.old.1.db.update_seq) }
+        (IsTiedPair source.old.1 target.old.1 plan.now.chosen
+        → CoversFeed source.old.1 target.new.1 plan.now.chosen source.old.1.db.update_seq) }
 {
     // The readings tell the proof the laws of both peers, before and after.
     let _seq = source.db().update_seq();
@@ -92,15 +126,16 @@ fn carry_all<F: WriteFilter, G: WriteFilter>(
         target.new.1 }
     ensures filters { (source.new.0 ≡ source.old.0) × (target.new.0 ≡ target.old.0) }
     ensures source { source.new.1 ≡ record source.old.1 { outgoing = source.new.1.outgoing } }
-    ensures covered { OnOk result (CoversFrom source.old.1 target.new.1 (start_between source.old.1 target.old.1)) }
+    ensures covered { OnOk result (CoversFrom source.old.1 target.new.1 plan.now.chosen
+        (start_between source.old.1 target.old.1 plan.now.chosen)) }
     ensures report { IfOk result (λ report. IsReported source.old.1 target.old.1 target.new.1 plan.now report) }
     ensures copied { IfOk result
-        (λ report. IsEmpty target.old.1 → report.failures ≡ 0 → SameDocuments source.old.1.db target.new.1.db) }
+        (λ report. IsEmpty target.old.1 → report.failures ≡ 0 → SameDocuments plan.now.chosen source.old.1.db target.new.1.db) }
 {
     // The readings tell the proof that both peers are lawful.
     let (_source, _target) = (source.db(), target.db());
     check_plan(source, target, plan)?;
-    let start = begin_plan(alloc, source, target, plan)?;
+    let start = begin_plan(source, target, plan)?;
     read_windows(alloc, source, target, plan, start)?;
     close(source, target, plan)
 }
@@ -126,15 +161,14 @@ pub fn check_plan<F: WriteFilter, G: WriteFilter>(
 /// Begins the session of a plan where the two logs agree, and answers its start: at their common checkpoint, based on
 /// that session, or at 0 without one. Its goal is the source's update sequence.
 ///
-/// `Memory` where a log finds none, else what `Peer::begin` refuses. A refusal changes nothing.
+/// `Memory`, else what `Peer::begin` refuses. A refusal changes nothing.
 pub fn begin_plan<F: WriteFilter, G: WriteFilter>(
-    alloc: Global,
     source: &Peer<F>,
     target: &mut Peer<G>,
     plan: &Plan,
 ) -> Result<u64, TargetFault>
     ensures filter { target.new.0 ≡ target.old.0 }
-    ensures start { IfOk result (λ start. start ≡ start_between source.now.1 target.old.1) }
+    ensures start { IfOk result (λ start. start ≡ start_between source.now.1 target.old.1 plan.now.chosen) }
     ensures ok { OnOk result
         ((begins_answer source.now.1 target.old.1 plan.now ≡ Ok tt)
         × (target.new.1 ≡ after_begins source.now.1 target.old.1 plan.now)) }
@@ -144,15 +178,21 @@ pub fn begin_plan<F: WriteFilter, G: WriteFilter>(
     ensures target_law { Lawful (G.refuses target.new.0) target.new.1 }
     ensures source_law { LawfulDatabase source.now.1.db }
 {
+    let life = source.db().life();
     let goal = source.db().update_seq();
-    let rep = rep_between(source, target);
-    let outgoing = source.source_log(alloc, &rep)?;
-    let incoming = target.target_log(alloc, &rep)?;
-    let (base, start) = match common(&outgoing, &incoming) {
+    let rep = rep_between(source, target, plan.chosen.as_ref())?;
+    let (base, start) = match checkpoint(source, target, &rep) {
         Some((session, recorded)) => (Some(session), recorded),
         None => (None, 0),
     };
-    target.begin(plan.session, &rep, base, start, goal, plan.at)?;
+    let beginning = Beginning {
+        rep,
+        life,
+        base,
+        start,
+        goal,
+    };
+    target.begin(plan.session, beginning, plan.at)?;
     Ok(start)
 }
 
@@ -219,7 +259,7 @@ fn carry_window<F: WriteFilter, G: WriteFilter>(
     // The reading tells the proof that the target is lawful.
     let _target = target.db();
     let goal = source.db().update_seq();
-    let Ok(window) = source.page(alloc, since, goal, plan.batch) else {
+    let Ok(window) = source.page(alloc, since, goal, plan.batch, plan.chosen.as_ref()) else {
         return Err(TargetFault::Memory);
     };
     let Ok(asked) = target.revs_diff(alloc, &window) else {
@@ -284,11 +324,13 @@ pub fn record_at_source<F: WriteFilter, G: WriteFilter>(
     ensures law { Lawful (F.refuses source.new.0) source.new.1 }
     ensures told { (entry : EntryValue)
         × (session_answer target.now.1 plan.now.session (λ s. Ok (entry_of s)) ≡ Ok entry)
-        × PutsOver source.old.1 (rep_between source.old.1 target.now.1) entry result source.new.1 }
+        × PutsOver source.old.1 (rep_between source.old.1 target.now.1 plan.now.chosen) entry result source.new.1 }
 {
-    let rep = rep_between(source, target);
     let Ok(entry) = target.entry(plan.session) else {
         unreachable!()
+    };
+    let Ok(rep) = rep_between(source, target, plan.chosen.as_ref()) else {
+        return Err(TargetFault::Memory);
     };
     match source.put_entry(&rep, entry) {
         Err(TargetFault::Memory) => Err(TargetFault::Memory),

@@ -6,6 +6,7 @@ ghost use Rattle.repl_log.specs.Entry.{value_of};
 ghost use Rattle.repl_target.specs.Peer.{entry_of};
 ghost use Rattle.repl_target.specs.Sessions.{GivesUnlessMemory, new_session, append_in, with_window, recorded_at, report_of, conclude_in};
 
+use crate::beginning::Beginning;
 use crate::fault::{Report, TargetFault};
 use crate::refused::Refused;
 use crate::written::Written;
@@ -21,6 +22,7 @@ use std::marker::Model;
 pub(crate) struct Session {
     pub(crate) id: SessionId,
     pub(crate) rep: RepId,
+    pub(crate) life: u64,
     pub(crate) base: Option<SessionId>,
     pub(crate) goal: u64,
     pub(crate) front: Front,
@@ -55,20 +57,20 @@ impl Model for Session {
 
 impl Session {
     /// A session as it begins. It grows by `alloc`.
-    pub(crate) fn new(
-        alloc: Global,
-        id: SessionId,
-        rep: RepId,
-        base: Option<SessionId>,
-        start: u64,
-        goal: u64,
-        at: Moment,
-    ) -> Session
-        ensures { result ≡ new_session id rep base start goal at }
+    pub(crate) fn new(alloc: Global, id: SessionId, beginning: Beginning, at: Moment) -> Session
+        ensures { result ≡ new_session id beginning at }
     {
+        let Beginning {
+            rep,
+            life,
+            base,
+            start,
+            goal,
+        } = beginning;
         Session {
             id,
             rep,
+            life,
             base,
             goal,
             front: Front::new(alloc, start),
@@ -88,13 +90,16 @@ impl Session {
 
     /// Stores the next window of the feed.
     ///
-    /// `Gap` where it doesn't begin where the stored ones end; else `PastGoal` where it ends above the goal; else
-    /// `Memory`. A refusal changes nothing.
+    /// `OtherLife` where it is of another life than the session; else `Gap` where it doesn't begin where the stored ones
+    /// end; else `PastGoal` where it ends above the goal; else `Memory`. A refusal changes nothing.
     pub(crate) fn append(&mut self, window: Window) -> Result<(), TargetFault>
         ensures answer { GivesUnlessMemory result (append_in window self.old) }
         ensures ok { OnOk result (self.new ≡ with_window window self.old (append_in window self.old)) }
         ensures err { OnErr result (self.new ≡ self.old) }
     {
+        if window.life() != self.life {
+            return Err(TargetFault::OtherLife { now: self.life });
+        }
         let expected = self.front.end();
         let hi = window.hi();
         if window.lo() != expected {
@@ -162,6 +167,7 @@ impl Session {
     {
         Entry {
             session: self.id,
+            life: self.life,
             start: self.front.start(),
             recorded: self.recorded,
             start_time: self.start_time,

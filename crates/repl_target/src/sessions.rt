@@ -2,6 +2,7 @@
 ghost use Rattle.std.specs.Prelude.{◌≡◌, [], ◌∷◌, ◌==◌, Ok, length, slice_get, OnOk, OnErr, IfOk, IfErr, if◌then◌else◌};
 ghost use Rattle.std.specs.Option.{option_copied, option_map};
 ghost use Rattle.range_front.specs.Front.{low_water};
+ghost use Rattle.repl_log.specs.Log.{common};
 ghost use Rattle.repl_target.specs.Logs.{log_of};
 ghost use Rattle.repl_target.specs.Peer.{PeerValue, session_in};
 ghost use Rattle.repl_target.specs.Sessions.{GivesUnlessMemory, new_session, append_in, with_window, recorded_at, conclude_in};
@@ -9,9 +10,11 @@ ghost use Rattle.repl_target.specs.Settling.{SettleGives};
 ghost use Rattle.repl_target.specs.SettlingParts.{with_parts};
 ghost use Rattle.repl_target.specs.SessionCalls.{in_ledgers, with_changed, answer_in, begin_in, recorded_by};
 
+use crate::beginning::Beginning;
 use crate::fault::{Report, Settled, TargetFault};
 use crate::filter::WriteFilter;
 use crate::ledger_index::LedgerIndex;
+use crate::rep_index::RepIndex;
 use crate::session::Session;
 use crate::settle::settle;
 use couch_base::{Database, Parcel, Window};
@@ -23,13 +26,15 @@ use rev_tree::SessionId;
 use std::alloc::Global;
 use std::marker::Model;
 
-/// The sessions that were replicated into a peer, newest first, each id once, with the index of what they refused.
+/// The sessions that were replicated into a peer, newest first, each id once, with the index of what they refused and that
+/// of their replications.
 ///
 /// They are kept the oldest first, under their ids: what a call does with one session doesn't look at the others.
 #[derive(Drop)]
 pub(crate) struct Sessions {
     entries: IndexMap<SessionId, Session>,
     ledgered: LedgerIndex,
+    by_rep: RepIndex,
 }
 
 impl Model for Sessions {
@@ -42,11 +47,11 @@ impl Model for Sessions {
 
     ghost coded = { coded_list coded_session };
 
-    ghost use Rattle.repl_target.specs.StoredSessions.{sessions_of, IsStored};
+    ghost use Rattle.repl_target.specs.StoredSessions.{sessions_of, AreListed, IsStored};
 
     ghost view = { λ s. sessions_of s.entries.entries };
 
-    ghost invariant = { λ s. IsStored s.ledgered s.entries.entries };
+    ghost invariant = { λ s. IsStored s.ledgered s.entries.entries × AreListed s.by_rep (sessions_of s.entries.entries) };
 }
 
 impl Sessions {
@@ -57,6 +62,7 @@ impl Sessions {
         Sessions {
             entries: IndexMap::new(alloc),
             ledgered: LedgerIndex::new(alloc),
+            by_rep: RepIndex::new(alloc),
         }
     }
 
@@ -114,6 +120,26 @@ impl Sessions {
         Ok(log)
     }
 
+    /// The newest session of a replication that the source's log also holds, with the lesser of its two recorded
+    /// sequences. It looks at no other replication's sessions, and at none behind the one that it finds.
+    pub(crate) fn shared_with(&self, rep: &RepId, source: &Log) -> Option<(SessionId, u64)>
+        ensures { result ≡ common source.now (log_of self.now rep.now) }
+    {
+        let ids = self.by_rep.of(rep);
+        let mut left = ids.len();
+        while left > 0 {
+            left -= 1;
+            let id = ids[left];
+            if let Some(recorded) = source.recorded_of(id) {
+                let Some(session) = self.entries.get(&id) else {
+                    unreachable!()
+                };
+                return Some((id, recorded.min(session.recorded)));
+            }
+        }
+        None
+    }
+
     // ---- changes
 
     /// Begins a session, which is the newest.
@@ -124,43 +150,37 @@ impl Sessions {
     pub(crate) fn begin(
         &mut self,
         id: SessionId,
-        rep: &RepId,
-        base: Option<SessionId>,
-        start: u64,
-        goal: u64,
+        beginning: Beginning,
         at: Moment,
     ) -> Result<(), TargetFault>
-        ensures answer { GivesUnlessMemory result (begin_in self.old id rep.now base start goal) }
-        ensures ok { OnOk result (self.new ≡ new_session id rep.now base start goal at ∷ self.old) }
+        ensures answer { GivesUnlessMemory result (begin_in self.old id beginning) }
+        ensures ok { OnOk result (self.new ≡ new_session id beginning at ∷ self.old) }
         ensures err { OnErr result (self.new ≡ self.old) }
     {
-        self.check_new(id, rep, base, start, goal)?;
+        self.check_new(id, &beginning)?;
         let alloc = *self.entries.allocator();
-        let Ok(rep) = rep.copy(alloc) else {
+        let Ok(()) = self.entries.reserve(1) else {
             return Err(TargetFault::Memory);
         };
-        let session = Session::new(alloc, id, rep, base, start, goal, at);
-        let Ok(_) = self.entries.insert(id, session) else {
+        let Ok(()) = self.by_rep.add(&beginning.rep, id) else {
             return Err(TargetFault::Memory);
+        };
+        let session = Session::new(alloc, id, beginning, at);
+        let Ok(_) = self.entries.insert(id, session) else {
+            unreachable!()
         };
         Ok(())
     }
 
     /// Whether a session may begin.
-    fn check_new(
-        &self,
-        id: SessionId,
-        rep: &RepId,
-        base: Option<SessionId>,
-        start: u64,
-        goal: u64,
-    ) -> Result<(), TargetFault>
-        ensures { result ≡ begin_in self.now id rep.now base start goal }
+    fn check_new(&self, id: SessionId, beginning: &Beginning) -> Result<(), TargetFault>
+        ensures { result ≡ begin_in self.now id beginning.now }
     {
+        let (start, goal) = (beginning.start, beginning.goal);
         if self.entries.contains_key(&id) {
             return Err(TargetFault::SessionExists);
         }
-        let recorded = self.recorded_of(rep, base)?;
+        let recorded = self.recorded_of(&beginning.rep, beginning.base)?;
         if start > recorded {
             return Err(TargetFault::StartAboveBase { recorded });
         }

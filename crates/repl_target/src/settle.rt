@@ -45,6 +45,7 @@ pub(crate) fn settle<F: WriteFilter>(
     ensures gives { PartsGive (F.refuses filter.now) (known_of db.new ledgered.new)
         (settling_at db.old session.old) parcel result (settling_at db.new session.new) }
     ensures id { session.new.id ≡ session.old.id }
+    ensures rep { session.new.rep ≡ session.old.rep }
     ensures ledger { (i : Id) (r : RevId)
         → in_ledger session.old.ledger i r ≡ true
         → in_ledger session.new.ledger i r ≡ true }
@@ -322,6 +323,7 @@ fn close(
     requires checked { session.old.checked + checked.leaves ≤ most }
     requires found { session.old.found + checked.asked ≤ most }
     ensures id { session.new.id ≡ session.old.id }
+    ensures rep { session.new.rep ≡ session.old.rep }
     ensures ledger { session.new.ledger ≡ session.old.ledger }
     ensures written { session.new.written ≡ session.old.written }
     ensures failures { session.new.failures ≡ session.old.failures }

@@ -5,10 +5,12 @@ use Rattle.std.proofs.lemmas.Bool.{cond-true, eq-eqb}
 use Rattle.std.proofs.lemmas.Option.{slice_get-get_or}
 use Rattle.rev_tree.specs.declared.origin.SessionId.{SessionId}
 use Rattle.doc_json.specs.Document.{Document}
+use Rattle.couch_base.specs.Lists.{Among}
 use Rattle.couch_base.specs.ListLaws.{some_is}
 use Rattle.couch_base.specs.Feed.{WindowValue}
 use Rattle.couch_base.specs.Messages.{ParcelValue}
 use Rattle.repl_target.specs.Peer.{PeerValue}
+use Rattle.repl_target.specs.Backups.{BackupValue}
 use Rattle.repl_target.specs.Sessions.{GivesUnlessMemory, append_answer, after_append}
 use Rattle.repl_target.specs.Law.{LawfulSessions}
 use Rattle.repl_target.specs.Settling.{SettleGives}
@@ -23,21 +25,35 @@ use Rattle.repl_target.proofs.Replicated.{settle_left, settle_gives}
 use Rattle.repl_target.proofs.SettlingTakes.{own_covered}
 use Rattle.repl_world.specs.declared.fault.WorldFault.TheVariants.{SamePeer}
 use Rattle.repl_world.specs.declared.step.Step.{Step}
+use Rattle.doc_json.specs.Chosen.{Choice}
 use Rattle.repl_world.specs.Bags.{BagValue, empty_bag}
 use Rattle.repl_world.specs.Worlds.{WorldValue, new_world, new_answer, appends, settles, stops, happens, run, IsStopped, CutShort, StoppedIn}
-use Rattle.repl_world.specs.Tied.{IsWorld, Tied, HoldsNone, IsTrustworthy}
+use Rattle.repl_world.specs.Tied.{IsWorld, Tied, HoldNone, IsTrustworthy}
 use Rattle.repl_world.proofs.Steps.{happens_tied, cut_tied}
 
 -- ---- new worlds
 
-pub new_refused : {F : Type 0} (source target : F × PeerValue) → source.1.db.uuid ≡ target.1.db.uuid → Err SamePeer ≡ new_answer source target
-new_refused source target same = sym (cond-true (source.1.db.uuid == target.1.db.uuid) (Err SamePeer) (Ok ((source.0, target.0), new_world source.1 target.1)) (eq-eqb _ _ same))
+pub new_refused : {F : Type 0} (source target : F × PeerValue) (chosen : Choice) → source.1.db.uuid ≡ target.1.db.uuid → Err SamePeer ≡ new_answer source target chosen
+new_refused source target chosen same = sym (cond-true (source.1.db.uuid == target.1.db.uuid) (Err SamePeer) (Ok ((source.0, target.0), new_world source.1 target.1 chosen)) (eq-eqb _ _ same))
 
--- where the target holds no session of the replication, there is nothing that isn't tied
-pub new_tied : (source target : PeerValue) (bag : BagValue) → bag ≡ empty_bag → HoldsNone source target → Tied (record { source = source; target = target; bag = bag })
-new_tied source target bag is none =
-    subst (λ (b : BagValue). Tied (record { source = source; target = target; bag = b })) (sym is)
-    (record { stored = λ s m e w n. absurd (none s m e); windows = λ x m. absurd m; asked = λ a m. absurd m; parcels = λ p m. absurd m })
+-- where the target holds no session of the replication, and the source no entry, there is nothing that isn't tied
+pub new_tied : (source target : PeerValue) (chosen : Choice) (bag : BagValue) (backups : List BackupValue) → bag ≡ empty_bag → backups ≡ [] → HoldNone source target chosen → Tied (record { source = source; target = target; chosen = chosen; bag = bag; backups = backups })
+new_tied source target chosen bag backups is empty none =
+    subst (λ (b : BagValue). Tied (record { source = source; target = target; chosen = chosen; bag = b; backups = backups })) (sym is)
+    (subst (λ (bs : List BackupValue). Tied (record { source = source; target = target; chosen = chosen; bag = empty_bag; backups = bs })) (sym empty)
+    (record {
+      peers = record {
+        pair = record { sessions = λ s m e. absurd (none.sessions s m e); log = λ e m. absurd (subst (Among e) none.log m) };
+        copies = λ b m. absurd m;
+      };
+      window_lives = λ x m. absurd m;
+      log_lives = λ g m. absurd m;
+      windows = λ x m. absurd m;
+      asked = λ a m. absurd m;
+      parcels = λ p m. absurd m;
+      logs = λ g m. absurd m;
+      entries = λ e m. absurd m;
+    }))
 
 -- ---- steps that were taken
 
@@ -123,11 +139,12 @@ pub trustworthy : (refuses : Document → Bool) (w : WorldValue) → IsWorld ref
 trustworthy refuses w l h =
     record {
       tied = h;
-      honest = honest_is refuses w.source w.target l.target.sessions h.stored;
-      common = audited_is refuses w.source w.target l.target.sessions h.stored;
-      clean = tied_none refuses w.source w.target l.target.sessions h.stored;
-      covered = λ p m s n x k own result q gives.
+      honest = honest_is refuses w.source w.target w.chosen l.target.sessions h.peers.pair;
+      common = audited_is refuses w.source w.target w.chosen l.target.sessions h.peers.pair;
+      clean = tied_none refuses w.source w.target w.chosen l.target.sessions h.peers.pair;
+      covered = λ p m s n x k own life result q gives.
           (let t = h.parcels p m in
           let same : x ≡ t.window = some_is x t.window (sym own ∙ t.own) in
-          own_covered refuses w.target s x p.1 l.target.sessions n k (subst (λ v. IsTiedParcel w.target.db v p.1) (sym same) t.tied) (l.bag.parcels_are p m) result q gives);
+          let tied = t.tied (ap (λ (y : WindowValue). y.life) (sym same) ∙ life) in
+          own_covered refuses w.target s x p.1 l.target.sessions n k (subst (λ v. IsTiedParcel w.target.db v p.1) (sym same) tied) (l.bag.parcels_are p m) result q gives);
     }

@@ -1,22 +1,25 @@
 -- Worlds whose messages and stored windows are the source's own: docs/PROFILE.md, "Worlds" and "Tied windows and
 -- messages".
-use Rattle.std.specs.Prelude.{◌≡◌, ℕ, Bool, false, Some, None, Result, slice_get}
+use Rattle.std.specs.Prelude.{◌≡◌, ℕ, ◌≤◌, List, [], Bool, false, Some, None, Result, slice_get}
 use Rattle.doc_json.specs.Document.{Document}
+use Rattle.doc_json.specs.Chosen.{Choice}
 use Rattle.couch_base.specs.Lists.{Among}
 use Rattle.couch_base.specs.Database.{LawfulDatabase}
 use Rattle.couch_base.specs.Feed.{WindowValue}
 use Rattle.couch_base.specs.Messages.{AskedValue, ParcelValue}
+use Rattle.repl_log.specs.Entry.{EntryValue}
 use Rattle.repl_target.specs.Peer.{PeerValue, SessionValue}
 use Rattle.repl_target.specs.Settling.{SettleGives}
 use Rattle.repl_target.specs.Law.{Lawful}
 use Rattle.repl_target.specs.Audit.{rep_between, audit_answer, IsAudited}
 use Rattle.repl_target.specs.Ties.{IsTiedWindow, IsTiedAsked, IsTiedParcel}
-use Rattle.repl_target.specs.Calls.{IsTiedPair}
+use Rattle.repl_target.specs.TiedPeers.{AreTiedEntries, IsTiedWith, IsSentEntry}
+use Rattle.repl_target.specs.Logs.{source_log}
 use Rattle.repl_target.specs.Tied.{LogsAreHonest, is_uncovered}
 use Rattle.repl_target.specs.declared.fault.Settled.{Settled}
 use Rattle.repl_target.specs.declared.fault.TargetFault.{TargetFault}
 use Rattle.repl_world.specs.Bags.{IsBag}
-use Rattle.repl_world.specs.Worlds.{WorldValue}
+use Rattle.repl_world.specs.Worlds.{WorldValue, rep_of}
 
 -- what the parts of a world keep by their types
 pub record IsWorld (refuses : Document → Bool) (w : WorldValue) : Type 0 where
@@ -26,35 +29,47 @@ pub record IsWorld (refuses : Document → Bool) (w : WorldValue) : Type 0 where
 
 -- ---- tied worlds
 
--- an asked list, or a parcel, agrees with its own window, which stands at that place
+-- an asked list, or a parcel, agrees with its own window, which stands at that place, where that is of the source's life
 pub record OwnAsked (w : WorldValue) (place : ℕ) (a : AskedValue) : Type 0 where
   pub window : WindowValue
   pub own : slice_get w.bag.windows place ≡ Some window
-  pub tied : IsTiedAsked w.target.db window a
+  pub tied : window.life ≡ w.source.db.life → IsTiedAsked w.target.db window a
 
 pub record OwnParcel (w : WorldValue) (place : ℕ) (p : ParcelValue) : Type 0 where
   pub window : WindowValue
   pub own : slice_get w.bag.windows place ≡ Some window
-  pub tied : IsTiedParcel w.target.db window p
+  pub tied : window.life ≡ w.source.db.life → IsTiedParcel w.target.db window p
 
 pub record Tied (w : WorldValue) : Type 0 where
-  pub stored : IsTiedPair w.source w.target
-  pub windows : (x : WindowValue) → Among x w.bag.windows → IsTiedWindow w.source.db x
+  -- the two peers, with each copy of the source
+  pub peers : IsTiedWith w.backups w.source w.target w.chosen
+  -- no window or log of the bag is of a later life than the source's database
+  pub window_lives : (x : WindowValue) → Among x w.bag.windows → x.life ≤ w.source.db.life
+  pub log_lives : (g : ℕ × List EntryValue) → Among g w.bag.logs → g.0 ≤ w.source.db.life
+  -- those of its life, with their asked lists and parcels, agree with the database as it is now
+  pub windows : (x : WindowValue) → Among x w.bag.windows → x.life ≡ w.source.db.life
+      → IsTiedWindow w.source.db w.chosen x
   pub asked : (a : ℕ × AskedValue) → Among a w.bag.asked → OwnAsked w a.0 a.1
   pub parcels : (p : ℕ × ParcelValue) → Among p w.bag.parcels → OwnParcel w p.0 p.1
+  pub logs : (g : ℕ × List EntryValue) → Among g w.bag.logs → g.0 ≡ w.source.db.life
+      → AreTiedEntries w.source.db w.target (rep_of w) g.1
+  -- each entry of the bag is what a session of the target said
+  pub entries : (e : EntryValue) → Among e w.bag.entries → IsSentEntry w.target e
 
--- the target holds no session of the replication
-abbrev pub HoldsNone : PeerValue → PeerValue → Type 0
-HoldsNone source target = (s : SessionValue) → Among s target.sessions → s.rep ≡ rep_between source target → ⊥
+-- the target holds no session of the replication, and the source no entry of one; they may hold some of other choices
+pub record HoldNone (source target : PeerValue) (chosen : Choice) : Type 0 where
+  pub sessions : (s : SessionValue) → Among s target.sessions → s.rep ≡ rep_between source target chosen → ⊥
+  pub log : source_log source (rep_between source target chosen) ≡ []
 
 -- ---- what they may be trusted for
 
--- no settling of a parcel of the bag tells a leaf that isn't covered, where the session stores the parcel's own window
+-- no settling of a parcel of the bag tells a leaf that isn't covered, where the session stores the parcel's own window,
+-- and that is of the source's life
 abbrev pub NeverUncovered : (Document → Bool) → WorldValue → Type 0
 NeverUncovered refuses w =
     (p : ℕ × ParcelValue) → Among p w.bag.parcels
     → (s : SessionValue) → Among s w.target.sessions
-    → (x : WindowValue) → Among x s.windows → slice_get w.bag.windows p.0 ≡ Some x
+    → (x : WindowValue) → Among x s.windows → slice_get w.bag.windows p.0 ≡ Some x → x.life ≡ w.source.db.life
     → (result : Result Settled TargetFault) (now : PeerValue) → SettleGives refuses w.target s.id p.1 result now
     → is_uncovered result ≡ false
 
@@ -62,7 +77,7 @@ NeverUncovered refuses w =
 -- and no settling of a parcel for its own window does
 pub record IsTrustworthy (refuses : Document → Bool) (w : WorldValue) : Type 0 where
   pub tied : Tied w
-  pub honest : LogsAreHonest w.source w.target
-  pub common : IsAudited w.source w.target
-  pub clean : audit_answer w.source w.target ≡ None
+  pub honest : LogsAreHonest w.source w.target w.chosen
+  pub common : IsAudited w.source w.target w.chosen
+  pub clean : audit_answer w.source w.target w.chosen ≡ None
   pub covered : NeverUncovered refuses w

@@ -4,43 +4,63 @@
 -- and what was recorded at the end. Between two databases such messages may be late, come twice, come in another order,
 -- or never. A world is both peers with every message that was ever sent and not lost, and a step is one call on a peer,
 -- with any message of the bag: a message stays in it when it is used, so it can come again, and a step needn't follow
--- the one before it. A crash loses all messages, and nothing else. What holds after every list of steps holds however
--- the two databases talk, and whoever else writes to them meanwhile.
-use Rattle.std.specs.Prelude.{◌≡◌, ◌⊎◌, ℕ, ◌==◌, List, [], ◌∷◌, Bool, if◌then◌else◌, Option, Some, None, Result, Ok, Err, take, slice_get}
+-- the one before it. Copies of the source stand beside the bag. One of them may be put back at any moment, and the
+-- source's database then begins another life. A crash loses all messages, and nothing else. What holds after every list
+-- of steps holds however the two databases talk, and whoever else writes to them meanwhile.
+use Rattle.std.specs.Prelude.{◌≡◌, ◌⊎◌, ℕ, ◌==◌, List, [], ◌∷◌, ◌++◌, Bool, if◌then◌else◌, Option, Some, None, Result, Ok, Err, take, slice_get}
 use Rattle.rev_tree.specs.declared.origin.SessionId.{SessionId}
 use Rattle.doc_json.specs.Document.{Document}
+use Rattle.doc_json.specs.Chosen.{Choice}
 use Rattle.couch_base.specs.Feed.{WindowValue, page_answer}
 use Rattle.couch_base.specs.Messages.{AskedValue, ParcelValue, revs_diff, open_revs}
 use Rattle.couch_base.specs.declared.fault.BaseFault.{BaseFault}
+use Rattle.repl_log.specs.declared.replication.RepId.{RepId}
 use Rattle.repl_log.specs.Entry.{EntryValue}
 use Rattle.repl_target.specs.Peer.{PeerValue, SessionValue, entry_of}
 use Rattle.repl_target.specs.Writing.{after_load, after_edit}
 use Rattle.repl_target.specs.Sessions.{session_answer, after_begin, after_append, after_record, after_conclude, conclude_answer}
 use Rattle.repl_target.specs.Settling.{after_settle, after_stop}
-use Rattle.repl_target.specs.Logs.{after_put_entry}
+use Rattle.repl_target.specs.Logs.{source_log, target_log, after_put_entry}
+use Rattle.repl_target.specs.Replication.{base_at, start_at}
+use Rattle.repl_target.specs.Backups.{BackupValue, backup_answer, after_restore}
+use Rattle.repl_log.specs.Log.{common}
 use Rattle.repl_target.specs.Audit.{rep_between}
+use Rattle.repl_target.specs.declared.beginning.Beginning.{Beginning}
 use Rattle.repl_target.specs.declared.fault.TargetFault.{TargetFault}
 use Rattle.repl_world.specs.declared.fault.WorldFault.{WorldFault}
 use Rattle.repl_world.specs.declared.fault.WorldFault.TheVariants.{SamePeer}
 use Rattle.repl_world.specs.declared.step.Step.{Step}
-use Rattle.repl_world.specs.declared.step.Step.TheVariants.{EditSource, EditTarget, LoadSource, ThirdParty, Begin, Page, Append, Diff, Fetch, Settle, Record, Conclude, PutEntry, Crash}
-use Rattle.repl_world.specs.Bags.{BagValue, empty_bag, with_window, with_asked, with_parcel, told, told_where}
+use Rattle.repl_world.specs.declared.step.Step.TheVariants.{EditSource, EditTarget, LoadSource, ThirdParty, ReadLog, Begin, Page, Append, Diff, Fetch, Settle, Record, Conclude, PutEntry, Backup, Restore, Crash}
+use Rattle.repl_world.specs.Bags.{BagValue, empty_bag, with_window, with_asked, with_parcel, with_log, told, told_where}
 
+-- the choice is that of the replication from the source to the target
 pub record WorldValue : Type 0 where
   pub source : PeerValue
   pub target : PeerValue
+  pub chosen : Choice
   pub bag : BagValue
+  pub backups : List BackupValue
 
 -- ---- a new world
 
-abbrev pub new_world : PeerValue → PeerValue → WorldValue
-new_world source target = record { source = source; target = target; bag = empty_bag }
+abbrev pub new_world : PeerValue → PeerValue → Choice → WorldValue
+new_world source target chosen = record {
+  source = source;
+  target = target;
+  chosen = chosen;
+  bag = empty_bag;
+  backups = [];
+}
 
 -- a database is not replicated into itself
-abbrev pub new_answer : {F : Type 0} → F × PeerValue → F × PeerValue → Result ((F × F) × WorldValue) WorldFault
-new_answer source target =
+abbrev pub new_answer : {F : Type 0} → F × PeerValue → F × PeerValue → Choice → Result ((F × F) × WorldValue) WorldFault
+new_answer source target chosen =
     if source.1.db.uuid == target.1.db.uuid then Err SamePeer
-    else Ok ((source.0, target.0), new_world source.1 target.1)
+    else Ok ((source.0, target.0), new_world source.1 target.1 chosen)
+
+-- the replication from the source to the target
+abbrev pub rep_of : WorldValue → RepId
+rep_of w = rep_between w.source w.target w.chosen
 
 -- ---- what each step leaves; a place that isn't in the bag changes nothing
 
@@ -87,22 +107,53 @@ concludes w session at =
 
 abbrev pub puts : WorldValue → Option EntryValue → WorldValue
 puts w None = w
-puts w (Some e) = record w { source = after_put_entry w.source (rep_between w.source w.target) e }
+puts w (Some e) = record w { source = after_put_entry w.source (rep_of w) e }
 
 abbrev pub crashed : WorldValue → WorldValue
 crashed w = record w { bag = empty_bag }
 
-abbrev pub begins : WorldValue → SessionId → Option SessionId → ℕ → ℕ → ℕ → WorldValue
-begins w session base start goal at =
-    record w { target = after_begin w.target session (rep_between w.source w.target) base start goal at }
+-- the source's log of the replication, as it is now, with the life in which it is read
+abbrev pub log_of_source : WorldValue → ℕ × List EntryValue
+log_of_source w = (w.source.db.life, source_log w.source (rep_of w))
+
+abbrev pub reads_log : WorldValue → WorldValue
+reads_log w = record w { bag = with_log w.bag (log_of_source w) }
+
+-- where a log that was read and the target's agree
+abbrev pub agreed : WorldValue → List EntryValue → Option (SessionId × ℕ)
+agreed w log = common log (target_log w.target (rep_of w))
+
+-- a session begins there, in the life of that log
+abbrev pub beginning_in : WorldValue → ℕ → ℕ × List EntryValue → Beginning
+beginning_in w goal log = record {
+  rep = rep_of w;
+  life = log.0;
+  base = base_at (agreed w log.1);
+  start = start_at (agreed w log.1);
+  goal = goal;
+}
+
+abbrev pub begins : WorldValue → SessionId → ℕ → ℕ → Option (ℕ × List EntryValue) → WorldValue
+begins w session goal at None = w
+begins w session goal at (Some log) = record w { target = after_begin w.target session (beginning_in w goal log) at }
+
+-- a copy of the source goes to the others, where the source may be copied
+abbrev pub backs_up : WorldValue → Result BackupValue TargetFault → WorldValue
+backs_up w (Ok b) = record w { backups = w.backups ++ b ∷ [] }
+backs_up w (Err fault) = w
+
+abbrev pub restores : WorldValue → Option BackupValue → WorldValue
+restores w None = w
+restores w (Some b) = record w { source = after_restore w.source b }
 
 abbrev pub happens : (Document → Bool) → WorldValue → Step → WorldValue
 happens refuses w (EditSource id parent deleted body) = record w { source = after_edit w.source id parent deleted body }
 happens refuses w (EditTarget id parent deleted body) = record w { target = after_edit w.target id parent deleted body }
 happens refuses w (LoadSource doc) = record w { source = after_load w.source doc }
 happens refuses w (ThirdParty doc) = record w { target = after_load w.target doc }
-happens refuses w (Begin session base start goal at) = begins w session base start goal at
-happens refuses w (Page since goal limit) = paged w (page_answer w.source.db since goal limit)
+happens refuses w ReadLog = reads_log w
+happens refuses w (Begin session log goal at) = begins w session goal at (slice_get w.bag.logs log)
+happens refuses w (Page since goal limit) = paged w (page_answer w.source.db since goal limit w.chosen)
 happens refuses w (Append session window) = appends w session (slice_get w.bag.windows window)
 happens refuses w (Diff window) = differs w window (slice_get w.bag.windows window)
 happens refuses w (Fetch asked) = fetches w (slice_get w.bag.asked asked)
@@ -110,6 +161,8 @@ happens refuses w (Settle session parcel) = settles refuses w session (slice_get
 happens refuses w (Record session at) = records w session at
 happens refuses w (Conclude session at) = concludes w session at
 happens refuses w (PutEntry entry) = puts w (slice_get w.bag.entries entry)
+happens refuses w Backup = backs_up w (backup_answer w.source)
+happens refuses w (Restore backup) = restores w (slice_get w.backups backup)
 happens refuses w Crash = crashed w
 
 -- after some steps, in their order

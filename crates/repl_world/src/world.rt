@@ -7,20 +7,22 @@ use crate::bag::Bag;
 use crate::fault::WorldFault;
 use crate::step::Step;
 use couch_base::BaseFault;
-use doc_json::{Body, Doc, DocId};
-use repl_log::Moment;
-use repl_target::{Cause, Peer, Settled, TargetFault, WriteFilter, rep_between};
+use doc_json::{Body, Chosen, Doc, DocId};
+use repl_log::{Moment, common};
+use repl_target::{Backup, Beginning, Cause, Peer, Settled, TargetFault, WriteFilter, rep_between};
 use rev_core::Rev;
 use rev_tree::SessionId;
 use std::alloc::{AllocError, Global};
 use std::marker::Model;
 
-/// A source, a target, and a bag of windows, asked lists, parcels and entries.
+/// A source, a target, a bag of windows, asked lists, parcels, entries and logs, and copies of the source.
 #[derive(Drop)]
 pub struct World<F: WriteFilter> {
     source: Peer<F>,
     target: Peer<F>,
+    chosen: Option<Chosen>,
     bag: Bag,
+    backups: Vec<Backup>,
 }
 
 impl<F: WriteFilter> Model for World<F> {
@@ -34,21 +36,33 @@ impl<F: WriteFilter> Model for World<F> {
 
     ghost view = { λ w. (
       (w.source.0, w.target.0),
-      record { source = w.source.1; target = w.target.1; bag = w.bag },
+      record {
+        source = w.source.1;
+        target = w.target.1;
+        chosen = w.chosen;
+        bag = w.bag;
+        backups = w.backups.items;
+      },
     ) };
 }
 
 impl<F: WriteFilter + Drop> World<F> {
     ghost use Rattle.repl_world.specs.Worlds.{new_answer};
-    ghost use Rattle.repl_world.specs.Tied.{IsWorld, Tied, HoldsNone};
+    ghost use Rattle.repl_world.specs.Tied.{IsWorld, Tied, HoldNone};
 
-    /// A world of two peers, with an empty bag. It grows by `alloc`.
+    /// A world of two peers, with an empty bag. It grows by `alloc`. Its replication is that of the chosen documents, or
+    /// of all where none are chosen.
     ///
     /// `SamePeer` where the two databases have one UUID. A world whose target holds no session of the replication from
-    /// the source is tied.
-    pub fn new(alloc: Global, source: Peer<F>, target: Peer<F>) -> Result<World<F>, WorldFault>
-        ensures answer { result ≡ new_answer source target }
-        ensures tied { IfOk result (λ w. HoldsNone source.1 target.1 → Tied w.1) }
+    /// the source, and whose source holds no entry of it, is tied.
+    pub fn new(
+        alloc: Global,
+        source: Peer<F>,
+        target: Peer<F>,
+        chosen: Option<Chosen>,
+    ) -> Result<World<F>, WorldFault>
+        ensures answer { result ≡ new_answer source target chosen }
+        ensures tied { IfOk result (λ w. HoldNone source.1 target.1 chosen → Tied w.1) }
         ensures world { IfOk result (λ w. IsWorld (F.refuses w.0.1) w.1) }
     {
         // Readings of the source tell the proof that its database is lawful.
@@ -60,7 +74,9 @@ impl<F: WriteFilter + Drop> World<F> {
         Ok(World {
             source,
             target,
+            chosen,
             bag,
+            backups: Vec::new(alloc),
         })
     }
 }
@@ -69,7 +85,8 @@ impl<F: WriteFilter> World<F> {
     ghost use Rattle.std.specs.Prelude.{length, slice_get};
     ghost use Rattle.couch_base.specs.Feed.{page_answer};
     ghost use Rattle.repl_target.specs.Writing.{after_load, after_edit};
-    ghost use Rattle.repl_world.specs.Worlds.{paged, appends, differs, fetches, settles, stops, records, concludes, puts, begins, happens, run, IsStopped, CutShort, StoppedIn};
+    ghost use Rattle.repl_target.specs.Backups.{backup_answer};
+    ghost use Rattle.repl_world.specs.Worlds.{paged, appends, differs, fetches, settles, stops, records, concludes, puts, reads_log, begins, backs_up, restores, happens, run, IsStopped, CutShort, StoppedIn};
     ghost use Rattle.repl_world.specs.Tied.{IsWorld, Tied, IsTrustworthy};
 
     /// The source.
@@ -86,14 +103,15 @@ impl<F: WriteFilter> World<F> {
         &self.target
     }
 
-    /// How many windows, asked lists, parcels and entries the bag holds.
-    pub fn bag_sizes(&self) -> (usize, usize, usize, usize)
+    /// How many windows, asked lists, parcels, entries and logs the bag holds.
+    pub fn bag_sizes(&self) -> (usize, usize, usize, usize, usize)
         ensures sizes { result
             ≡ (
               length self.now.1.bag.windows,
               length self.now.1.bag.asked,
               length self.now.1.bag.parcels,
               length self.now.1.bag.entries,
+              length self.now.1.bag.logs,
             ) }
         ensures world { IsWorld (F.refuses self.now.0.1) self.now.1 }
     {
@@ -169,13 +187,13 @@ impl<F: WriteFilter> World<F> {
             } => self.edit_target(id, *parent, *deleted, body),
             Step::LoadSource(doc) => self.load_source(doc),
             Step::ThirdParty(doc) => self.load_target(doc),
+            Step::ReadLog => self.read_log(alloc),
             Step::Begin {
                 session,
-                base,
-                start,
+                log,
                 goal,
                 at,
-            } => self.begin(*session, *base, *start, *goal, *at),
+            } => self.begin(alloc, *session, *log, *goal, *at),
             Step::Page { since, goal, limit } => self.page(alloc, *since, *goal, *limit),
             Step::Append { session, window } => self.append(alloc, *session, *window),
             Step::Diff { window } => self.diff(alloc, *window),
@@ -184,6 +202,8 @@ impl<F: WriteFilter> World<F> {
             Step::Record { session, at } => self.record(*session, *at),
             Step::Conclude { session, at } => self.conclude(*session, *at),
             Step::PutEntry { entry } => self.put_entry(*entry),
+            Step::Backup => self.back_up(alloc),
+            Step::Restore { backup } => self.restore(*backup),
             Step::Crash => {
                 self.bag.clear();
                 Ok(())
@@ -257,21 +277,57 @@ impl<F: WriteFilter> World<F> {
         }
     }
 
-    /// A session of the replication begins at the target.
+    /// The source's log of the replication goes into the bag.
+    fn read_log(&mut self, alloc: Global) -> Result<(), AllocError>
+        ensures filters { self.new.0 ≡ self.old.0 }
+        ensures ok { OnOk result (self.new.1 ≡ reads_log self.old.1) }
+        ensures err { OnErr result (self.new.1 ≡ self.old.1) }
+    {
+        let Ok(rep) = rep_between(&self.source, &self.target, self.chosen.as_ref()) else {
+            return Err(AllocError);
+        };
+        let life = self.source.db().life();
+        let Ok(log) = self.source.source_log(alloc, &rep) else {
+            return Err(AllocError);
+        };
+        self.bag.put_log(life, log)
+    }
+
+    /// A session of the replication begins at the target, where a log of the bag and the target's agree.
     fn begin(
         &mut self,
+        alloc: Global,
         session: SessionId,
-        base: Option<SessionId>,
-        start: u64,
+        place: usize,
         goal: u64,
         at: Moment,
     ) -> Result<(), AllocError>
         ensures filters { self.new.0 ≡ self.old.0 }
-        ensures ok { OnOk result (self.new.1 ≡ begins self.old.1 session base start goal at) }
+        ensures ok { OnOk result (self.new.1 ≡ begins self.old.1 session goal at (slice_get self.old.1.bag.logs place)) }
         ensures err { OnErr result (self.new.1 ≡ self.old.1) }
     {
-        let rep = rep_between(&self.source, &self.target);
-        match self.target.begin(session, &rep, base, start, goal, at) {
+        let Some((life, log)) = self.bag.log(place) else {
+            return Ok(());
+        };
+        let life = *life;
+        let Ok(rep) = rep_between(&self.source, &self.target, self.chosen.as_ref()) else {
+            return Err(AllocError);
+        };
+        let Ok(incoming) = self.target.target_log(alloc, &rep) else {
+            return Err(AllocError);
+        };
+        let (base, start) = match common(log, &incoming) {
+            Some((session, recorded)) => (Some(session), recorded),
+            None => (None, 0),
+        };
+        let beginning = Beginning {
+            rep,
+            life,
+            base,
+            start,
+            goal,
+        };
+        match self.target.begin(session, beginning, at) {
             Ok(()) => Ok(()),
             Err(TargetFault::Memory) => Err(AllocError),
             Err(_) => Ok(()),
@@ -281,10 +337,13 @@ impl<F: WriteFilter> World<F> {
     /// A page of the source's feed goes into the bag.
     fn page(&mut self, alloc: Global, since: u64, goal: u64, limit: u64) -> Result<(), AllocError>
         ensures filters { self.new.0 ≡ self.old.0 }
-        ensures ok { OnOk result (self.new.1 ≡ paged self.old.1 (page_answer self.old.1.source.db since goal limit)) }
+        ensures ok { OnOk result (self.new.1 ≡ paged self.old.1 (page_answer self.old.1.source.db since goal limit self.old.1.chosen)) }
         ensures err { OnErr result (self.new.1 ≡ self.old.1) }
     {
-        match self.source.page(alloc, since, goal, limit) {
+        match self
+            .source
+            .page(alloc, since, goal, limit, self.chosen.as_ref())
+        {
             Ok(window) => self.bag.put_window(window),
             Err(BaseFault::Memory) => Err(AllocError),
             Err(_) => Ok(()),
@@ -376,6 +435,37 @@ impl<F: WriteFilter> World<F> {
         self.bag.conclude(&mut self.target, session, at)
     }
 
+    /// A copy of the source goes to the others.
+    fn back_up(&mut self, alloc: Global) -> Result<(), AllocError>
+        ensures filters { self.new.0 ≡ self.old.0 }
+        ensures ok { OnOk result (self.new.1 ≡ backs_up self.old.1 (backup_answer self.old.1.source)) }
+        ensures err { OnErr result (self.new.1 ≡ self.old.1) }
+    {
+        match self.source.backup(alloc) {
+            Ok(backup) => {
+                self.backups.push(backup)?;
+                Ok(())
+            }
+            Err(TargetFault::Memory) => Err(AllocError),
+            Err(_) => Ok(()),
+        }
+    }
+
+    /// A copy of the source is put back.
+    fn restore(&mut self, place: usize) -> Result<(), AllocError>
+        ensures filters { self.new.0 ≡ self.old.0 }
+        ensures ok { OnOk result (self.new.1 ≡ restores self.old.1 (slice_get self.old.1.backups place)) }
+        ensures err { OnErr result (self.new.1 ≡ self.old.1) }
+    {
+        let Some(backup) = self.backups.get(place) else {
+            return Ok(());
+        };
+        match self.source.restore(backup) {
+            Err(TargetFault::Memory) => Err(AllocError),
+            _ => Ok(()),
+        }
+    }
+
     /// An entry of the bag is put into the source's log.
     fn put_entry(&mut self, place: usize) -> Result<(), AllocError>
         ensures filters { self.new.0 ≡ self.old.0 }
@@ -385,7 +475,9 @@ impl<F: WriteFilter> World<F> {
         let Some(entry) = self.bag.entry(place) else {
             return Ok(());
         };
-        let rep = rep_between(&self.source, &self.target);
+        let Ok(rep) = rep_between(&self.source, &self.target, self.chosen.as_ref()) else {
+            return Err(AllocError);
+        };
         match self.source.put_entry(&rep, entry) {
             Err(TargetFault::Memory) => Err(AllocError),
             _ => Ok(()),

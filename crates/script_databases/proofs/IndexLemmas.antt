@@ -36,11 +36,11 @@ found_at g es s q e = sym (get-by_text (λ p. p.1) es q) ∙ ap (λ t. peer_at t
 
 -- a table with one written
 pub state_with : (g : Beside) (old new : Entries) (name : List ℕ) (u : PeerValue) → peers_of new ≡ insert (peers_of old) name u → state_of g new ≡ with_peer (state_of g old) name u
-state_with g old new name u e = ap (λ m. let s : State = record { program = g.program; drawn = g.drawn; peers = m } in s) e
+state_with g old new name u e = ap (λ m. let s : State = record { program = g.program; drawn = g.drawn; backups = g.backups; peers = m } in s) e
 
 pub same_state : {A : Type 0} (g : Beside) (r : Result A Refusal) (old new : Entries) → OnErr r (peers_of new ≡ peers_of old) → OnErr r (state_of g new ≡ state_of g old)
 same_state g (Ok x) old new e = tt
-same_state g (Err why) old new e = ap (λ m. let s : State = record { program = g.program; drawn = g.drawn; peers = m } in s) e
+same_state g (Err why) old new e = ap (λ m. let s : State = record { program = g.program; drawn = g.drawn; backups = g.backups; peers = m } in s) e
 
 -- ---- no databases
 

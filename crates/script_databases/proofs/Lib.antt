@@ -3,3 +3,4 @@ pub mod NamedLemmas
 pub mod IndexLemmas
 pub mod UuidLemmas
 pub mod CarryingLemmas
+pub mod BackupLemmas

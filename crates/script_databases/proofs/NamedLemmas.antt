@@ -17,30 +17,12 @@ use Rattle.script_databases.proofs.TableLemmas.{insert-same}
 
 -- what a database refuses is told by its name
 pub put_refused : (fault : BaseFault) (expected : Result Put BaseFault) → PutGives (Err fault) expected → (told_as base_refusal expected ≡ Err (base_refusal fault)) ⊎ (base_refusal fault ≡ why.Memory)
-put_refused (base.Contradiction child known given) expected h = inl (ap (told_as base_refusal) (sym h))
-put_refused base.SeqFull expected h = inl (ap (told_as base_refusal) (sym h))
-put_refused base.SeqTooLarge expected h = inl (ap (told_as base_refusal) (sym h))
-put_refused base.BadLimit expected h = inl (ap (told_as base_refusal) (sym h))
-put_refused base.BadRange expected h = inl (ap (told_as base_refusal) (sym h))
-put_refused (base.GoalAhead seq) expected h = inl (ap (told_as base_refusal) (sym h))
-put_refused base.NoSuchDocument expected h = inl (ap (told_as base_refusal) (sym h))
-put_refused base.Conflict expected h = inl (ap (told_as base_refusal) (sym h))
-put_refused base.GenerationFull expected h = inl (ap (told_as base_refusal) (sym h))
-put_refused (base.RevExists r) expected h = inl (ap (told_as base_refusal) (sym h))
 put_refused base.Memory expected h = inr refl
+put_refused fault expected h = inl (ap (told_as base_refusal) (sym h))
 
 pub edit_refused : (after : PeerValue) (fault : BaseFault) (expected : Result RevId BaseFault) → EditGives (Err fault) expected → (edited_as after expected ≡ Err (base_refusal fault)) ⊎ (base_refusal fault ≡ why.Memory)
-edit_refused after (base.Contradiction child known given) expected h = inl (ap (edited_as after) (sym h))
-edit_refused after base.SeqFull expected h = inl (ap (edited_as after) (sym h))
-edit_refused after base.SeqTooLarge expected h = inl (ap (edited_as after) (sym h))
-edit_refused after base.BadLimit expected h = inl (ap (edited_as after) (sym h))
-edit_refused after base.BadRange expected h = inl (ap (edited_as after) (sym h))
-edit_refused after (base.GoalAhead seq) expected h = inl (ap (edited_as after) (sym h))
-edit_refused after base.NoSuchDocument expected h = inl (ap (edited_as after) (sym h))
-edit_refused after base.Conflict expected h = inl (ap (edited_as after) (sym h))
-edit_refused after base.GenerationFull expected h = inl (ap (edited_as after) (sym h))
-edit_refused after (base.RevExists r) expected h = inl (ap (edited_as after) (sym h))
 edit_refused after base.Memory expected h = inr refl
+edit_refused after fault expected h = inl (ap (edited_as after) (sym h))
 
 -- one that is there was changed
 pub changed_there : (g : Beside) (old new : Entries) (name : List ℕ) (f : PeerValue → PeerValue) (l u : PeerValue) → get (peers_of old) name ≡ Some l → peers_of new ≡ insert (peers_of old) name u → u ≡ f l → state_of g new ≡ changed_at (state_of g old) name f

@@ -1,5 +1,7 @@
 -- The databases of a script: docs/PROFILE.md, "Command lines".
-use Rattle.std.specs.Prelude.{◌≡◌, ℕ, Bool, List, Option, Some, None, Result, Ok, Err, refl}
+use Rattle.std.specs.Prelude.{◌≡◌, ℕ, Bool, ◌&&◌, List, [], ◌∷◌, ◌++◌, Option, Some, None, option_map, Result, Ok, Err, refl}
+use Rattle.std.specs.List.{find}
+use Rattle.std.specs.Str.{bytes_eq}
 use Rattle.std.specs.declared.cmp.Ordering.{Ordering}
 use Rattle.std.specs.Ordering.{nat_cmp}
 use Rattle.std.specs.Cmp.Lexicographic.{slice_cmp}
@@ -13,11 +15,13 @@ use Rattle.couch_base.specs.Edit.{edit_answer}
 use Rattle.couch_base.specs.declared.fault.Put.{Put}
 use Rattle.couch_base.specs.declared.fault.BaseFault.{BaseFault}
 use Rattle.repl_target.specs.Peer.{PeerValue}
-use Rattle.repl_target.specs.PeerCode.{coded_peer}
+use Rattle.repl_target.specs.Backups.{BackupValue, backup_answer, restore_answer, restored, after_restore}
+use Rattle.repl_target.specs.PeerCode.{coded_peer, coded_backup}
 use Rattle.repl_target.specs.Writing.{after_load, after_edit}
 use Rattle.script_databases.specs.MadeIds.{made_id, next_place}
-use Rattle.script_databases.specs.Refusals.{told_as, base_refusal}
+use Rattle.script_databases.specs.Refusals.{told_as, base_refusal, target_refusal}
 use Rattle.script_databases.specs.declared.databases.Edited.{Edited}
+use Rattle.script_databases.specs.declared.databases.PutBack.{PutBack}
 use Rattle.script_databases.specs.declared.refusal.Refusal.{Refusal}
 use Rattle.script_databases.specs.declared.refusal.Refusal.TheVariants as why
 
@@ -34,32 +38,48 @@ pub record Program : Type 0 where
   pub workers : ℕ
   pub batch : ℕ
 
--- what the program is set to, which no line changes, how many ids were made (until the stream begins again), and the
--- peers by name
+-- a copy of a database, with the database's name and its own
+pub record NamedBackupValue : Type 0 where
+  pub db : List ℕ
+  pub name : List ℕ
+  pub backup : BackupValue
+
+abbrev pub coded_named_backup : Coded NamedBackupValue
+coded_named_backup =
+    code_by (List ℕ × (List ℕ × BackupValue))
+    (coded× (coded_list coded_ℕ) (coded× (coded_list coded_ℕ) coded_backup)) (λ k. (k.db, (k.name, k.backup)))
+    (λ p. record { db = p.0; name = p.1.0; backup = p.1.1 }) (λ _. refl)
+
+-- what the program is set to, which no line changes, how many ids were made (until the stream begins again), the copies
+-- that lines made, and the peers by name
 pub record State : Type 0 where
   pub program : Program
   pub drawn : ℕ
+  pub backups : List NamedBackupValue
   pub peers : FinMap text_cmp PeerValue
 
 abbrev pub coded_state : Coded State
-coded_state = code_by (Option (List ℕ) × (ℕ × (ℕ × (ℕ × (ℕ × (ℕ × FinMap text_cmp PeerValue))))))
+coded_state = code_by (Option (List ℕ) × (ℕ × (ℕ × (ℕ × (ℕ × (ℕ × (List NamedBackupValue × FinMap text_cmp PeerValue)))))))
     (coded× (coded_option (coded_list coded_ℕ))
     (coded× coded_ℕ
     (coded× coded_ℕ
-    (coded× coded_ℕ (coded× coded_ℕ (coded× coded_ℕ (finmap.code (coded_list coded_ℕ) coded_peer)))))))
+    (coded× coded_ℕ
+    (coded× coded_ℕ
+    (coded× coded_ℕ (coded× (coded_list coded_named_backup) (finmap.code (coded_list coded_ℕ) coded_peer))))))))
     (λ s. (
       s.program.deny,
-      (s.program.seed, (s.program.at, (s.program.workers, (s.program.batch, (s.drawn, s.peers))))),
+      (s.program.seed, (s.program.at, (s.program.workers, (s.program.batch, (s.drawn, (s.backups, s.peers)))))),
     ))
     (λ p. record {
       program = record { deny = p.0; seed = p.1.0; at = p.1.1.0; workers = p.1.1.1.0; batch = p.1.1.1.1.0 };
       drawn = p.1.1.1.1.1.0;
-      peers = p.1.1.1.1.1.1;
+      backups = p.1.1.1.1.1.1.0;
+      peers = p.1.1.1.1.1.1.1;
     })
     (λ _. refl)
 
 abbrev pub no_databases : Program → State
-no_databases program = record { program = program; drawn = 0; peers = finmap.empty }
+no_databases program = record { program = program; drawn = 0; backups = []; peers = finmap.empty }
 
 -- the number of the next made id, and the state behind it
 abbrev pub next_made : State → ℕ
@@ -111,3 +131,56 @@ edited_answer (Some l) id parent deleted body =
 
 abbrev pub edited_at : State → List ℕ → List ℕ → Option RevId → Bool → List ℕ → State
 edited_at s name id parent deleted body = changed_at s name (λ l. after_edit l id parent deleted body)
+
+-- ---- a copy of one of them, kept under a name: docs/PROFILE.md, "Backup and restore"
+
+abbrev pub is_named : List ℕ → List ℕ → NamedBackupValue → Bool
+is_named db name k = bytes_eq k.db db && bytes_eq k.name name
+
+-- the copy of a database under a name, where there is one
+abbrev pub backup_among : List NamedBackupValue → List ℕ → List ℕ → Option BackupValue
+backup_among backups db name = option_map (λ k. k.backup) (find (is_named db name) backups)
+
+abbrev pub backup_at : State → List ℕ → List ℕ → Option BackupValue
+backup_at s db name = backup_among s.backups db name
+
+-- one more, behind the others
+abbrev pub with_backup : State → List ℕ → List ℕ → BackupValue → State
+with_backup s db name b = record s { backups = s.backups ++ record { db = db; name = name; backup = b } ∷ [] }
+
+-- the copy that is made, of a database that is there under a name that is free
+abbrev pub backed_of : Option PeerValue → Option BackupValue → Result BackupValue Refusal
+backed_of None o = Err why.NoDatabase
+backed_of (Some p) (Some b) = Err why.BackupExists
+backed_of (Some p) None = told_as target_refusal (backup_answer p)
+
+abbrev pub backed_answer : State → List ℕ → List ℕ → Result BackupValue Refusal
+backed_answer s db name = backed_of (peer_at s db) (backup_at s db name)
+
+-- of it the update sequence is told
+abbrev pub backed_told : Result BackupValue Refusal → Result ℕ Refusal
+backed_told (Ok b) = Ok b.db.update_seq
+backed_told (Err refusal) = Err refusal
+
+abbrev pub backed_by : State → List ℕ → List ℕ → Result BackupValue Refusal → State
+backed_by s db name (Ok b) = with_backup s db name b
+backed_by s db name (Err refusal) = s
+
+abbrev pub backed_at : State → List ℕ → List ℕ → State
+backed_at s db name = backed_by s db name (backed_answer s db name)
+
+-- ---- one of them put back to a copy
+
+-- the update sequence and the life of the peer that it leaves are told
+abbrev pub put_back_of : PeerValue → Result (Unit {0}) Refusal → Result PutBack Refusal
+put_back_of p (Ok done) = Ok (record { seq = p.db.update_seq; life = p.db.life })
+put_back_of p (Err refusal) = Err refusal
+
+abbrev pub put_back_answer : Option PeerValue → Option BackupValue → Result PutBack Refusal
+put_back_answer None o = Err why.NoDatabase
+put_back_answer (Some p) None = Err why.NoBackup
+put_back_answer (Some p) (Some b) = put_back_of (restored p b) (told_as target_refusal (restore_answer p b))
+
+abbrev pub put_back_by : State → List ℕ → Option BackupValue → State
+put_back_by s db None = s
+put_back_by s db (Some b) = changed_at s db (λ p. after_restore p b)

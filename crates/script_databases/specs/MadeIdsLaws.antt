@@ -1,6 +1,6 @@
 -- Made ids come from one stream, one after another.
 use Rattle.std.proofs.Common.{◌≡◌, ℕ, ◌+◌, ◌*◌, ◌%◌, ◌^◌, ap, arith}
-use Rattle.rand_core.specs.Steps.{stream_of, fill_via_u32, word_bytes, state_after}
+use Rattle.rand_core.specs.Steps.{stream_of, word_bytes}
 use Rattle.rand_core.specs.Stream.{fill_bytes}
 use Rattle.script_databases.specs.MadeIds.{of_number, at_id, stream, next_id, next_place}
 

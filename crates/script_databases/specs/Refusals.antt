@@ -32,6 +32,8 @@ doc_refusal doc.NoRev = why.NoRev
 doc_refusal doc.BadRevisions = why.BadRevisions
 doc_refusal doc.RevMismatch = why.RevMismatch
 doc_refusal doc.Fraction = why.Fraction
+doc_refusal doc.NoneChosen = why.NoneChosen
+doc_refusal doc.TooManyChosen = why.TooManyChosen
 doc_refusal doc.Memory = why.Memory
 
 abbrev pub rev_refusal : RevFault → Refusal
@@ -61,25 +63,34 @@ log_refusal (log.Older stored) = why.Older
 log_refusal log.EmptyLog = why.EmptyLog
 log_refusal log.Memory = why.Memory
 
+-- why a call of a peer is refused
+abbrev pub target_refusal : TargetFault → Refusal
+target_refusal target.SessionExists = why.SessionExists
+target_refusal target.NoSuchBase = why.NoSuchBase
+target_refusal (target.StartAboveBase recorded) = why.StartAboveBase
+target_refusal target.GoalBelowStart = why.GoalBelowStart
+target_refusal target.NoSuchSession = why.NoSuchSession
+target_refusal (target.OtherLife now) = why.OtherLife
+target_refusal (target.Gap expected) = why.Gap
+target_refusal target.PastGoal = why.PastGoal
+target_refusal target.ForeignParcel = why.ForeignParcel
+target_refusal target.AlreadyDone = why.AlreadyDone
+target_refusal target.CountFull = why.CountFull
+target_refusal (target.Stopped settled rest cause) = why.Stopped
+target_refusal (target.Uncovered seq id rev) = why.Uncovered
+target_refusal (target.Unfinished low_water) = why.Unfinished
+target_refusal (target.Older stored) = why.Older
+target_refusal target.IsTarget = why.IsTarget
+target_refusal target.ForeignBackup = why.ForeignBackup
+target_refusal target.LifeFull = why.LifeFull
+target_refusal target.BadBatch = why.BadBatch
+target_refusal target.SamePeer = why.SamePeer
+target_refusal target.Memory = why.Memory
+
 -- how far a replication came that its plan stopped, or why it is refused
 abbrev pub stop_of : TargetFault → Result ℕ Refusal
-stop_of target.SessionExists = Err why.SessionExists
-stop_of target.NoSuchBase = Err why.NoSuchBase
-stop_of (target.StartAboveBase recorded) = Err why.StartAboveBase
-stop_of target.GoalBelowStart = Err why.GoalBelowStart
-stop_of target.NoSuchSession = Err why.NoSuchSession
-stop_of (target.Gap expected) = Err why.Gap
-stop_of target.PastGoal = Err why.PastGoal
-stop_of target.ForeignParcel = Err why.ForeignParcel
-stop_of target.AlreadyDone = Err why.AlreadyDone
-stop_of target.CountFull = Err why.CountFull
-stop_of (target.Stopped settled rest cause) = Err why.Stopped
-stop_of (target.Uncovered seq id rev) = Err why.Uncovered
 stop_of (target.Unfinished low_water) = Ok low_water
-stop_of (target.Older stored) = Err why.Older
-stop_of target.BadBatch = Err why.BadBatch
-stop_of target.SamePeer = Err why.SamePeer
-stop_of target.Memory = Err why.Memory
+stop_of fault = Err (target_refusal fault)
 
 -- how far a run of the pool came that its plan stopped, or why it is refused
 abbrev pub run_stop_of : PoolFault → Result ℕ Refusal
@@ -129,6 +140,8 @@ name_of why.SeqTooLarge = codes "SeqTooLarge"
 name_of why.BadLimit = codes "BadLimit"
 name_of why.BadRange = codes "BadRange"
 name_of why.GoalAhead = codes "GoalAhead"
+name_of why.NoneChosen = codes "NoneChosen"
+name_of why.TooManyChosen = codes "TooManyChosen"
 name_of why.BadMoment = codes "BadMoment"
 name_of why.EmptyLog = codes "EmptyLog"
 name_of why.Older = codes "Older"
@@ -144,6 +157,7 @@ name_of why.AlreadyDone = codes "AlreadyDone"
 name_of why.CountFull = codes "CountFull"
 name_of why.Stopped = codes "Stopped"
 name_of why.Uncovered = codes "Uncovered"
+name_of why.Unfinished = codes "Unfinished"
 name_of why.BadBatch = codes "BadBatch"
 name_of why.SamePeer = codes "SamePeer"
 name_of why.NoWorkers = codes "NoWorkers"
@@ -151,4 +165,10 @@ name_of why.TooManyWorkers = codes "TooManyWorkers"
 name_of why.Halted = codes "Halted"
 name_of why.Hole = codes "Hole"
 name_of why.BoardFull = codes "BoardFull"
+name_of why.OtherLife = codes "OtherLife"
+name_of why.IsTarget = codes "IsTarget"
+name_of why.ForeignBackup = codes "ForeignBackup"
+name_of why.LifeFull = codes "LifeFull"
+name_of why.BackupExists = codes "BackupExists"
+name_of why.NoBackup = codes "NoBackup"
 name_of why.Memory = codes "Memory"

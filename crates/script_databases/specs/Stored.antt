@@ -6,7 +6,7 @@ use Rattle.std.specs.FinMap.{FinMap}
 use Rattle.std.specs.List.{list_any}
 use Rattle.repl_target.specs.Peer.{PeerValue}
 use Rattle.repl_target.specs.declared.filter.Rules.{Rules}
-use Rattle.script_databases.specs.Databases.{Program, State, IsTaken, text_cmp}
+use Rattle.script_databases.specs.Databases.{Program, State, NamedBackupValue, IsTaken, text_cmp}
 use Rattle.script_databases.specs.declared.settings.Settings.{Settings}
 
 -- the entries of a table by the bytes of their names, each as its value
@@ -25,9 +25,11 @@ peers_of entries = by_text (λ p. p.1) entries
 pub record Beside : Type 0 where
   pub program : Program
   pub drawn : ℕ
+  pub backups : List NamedBackupValue
 
 abbrev pub state_of : Beside → Entries → State
-state_of beside entries = record { program = beside.program; drawn = beside.drawn; peers = peers_of entries }
+state_of beside entries =
+    record { program = beside.program; drawn = beside.drawn; backups = beside.backups; peers = peers_of entries }
 
 -- the beginning of the ids that a filter refuses
 abbrev pub deny_of : Rules → Option (List ℕ)
@@ -54,8 +56,8 @@ abbrev pub program_of : Settings → Program
 program_of s =
     record { deny = option_map string_bytes s.deny; seed = s.seed; at = s.at; workers = s.workers; batch = s.batch }
 
-abbrev pub beside_of : Settings → ℕ → Beside
-beside_of s drawn = record { program = program_of s; drawn = drawn }
+abbrev pub beside_of : Settings → ℕ → List NamedBackupValue → Beside
+beside_of s drawn backups = record { program = program_of s; drawn = drawn; backups = backups }
 
 -- the list holds the numbers of the databases' UUIDs, and no others
 pub record IsIndex (s : State) (uuids : List ℕ) : Type 0 where

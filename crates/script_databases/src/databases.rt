@@ -8,9 +8,10 @@ ghost use Rattle.repl_pool.specs.Faults.{early_answer};
 ghost use Rattle.script_databases.specs.Databases.{State, coded_state};
 ghost use Rattle.script_databases.specs.Stored.{IsIndex, AllDeny, beside_of, program_of, state_of};
 
+use crate::backups::{NamedBackup, find_backup};
 use crate::carrying::{Watched, replicate_alone_at, replicate_at, replicate_watched_at};
 use crate::made_ids::MadeIds;
-use crate::named::{add_at, edit_at, load_at};
+use crate::named::{add_at, edit_at, load_at, put_back_at};
 use crate::refusal::Refusal;
 use crate::settings::Settings;
 use couch_base::Put;
@@ -31,6 +32,13 @@ pub struct Edited {
     pub seq: u64,
 }
 
+/// What a database has after it was put back: its update sequence, and its life.
+#[derive(Clone, Copy, Debug, PartialEq, Eq)]
+pub struct PutBack {
+    pub seq: u64,
+    pub life: u64,
+}
+
 /// The peers by their names.
 pub type Names = IndexMap<String, Peer<Rules>>;
 
@@ -42,6 +50,8 @@ pub struct Databases {
     uuids: IndexSet<u128>,
     /// How many ids were made.
     drawn: u128,
+    /// Copies of databases, the oldest first.
+    backups: Vec<NamedBackup>,
 }
 
 // By hand, so that it is proved once: docs/DECISIONS.md, "Letting values go".
@@ -52,6 +62,7 @@ impl Drop for Databases {
             by_name: _,
             uuids: _,
             drawn: _,
+            backups: _,
         } = self;
     }
 }
@@ -61,14 +72,14 @@ impl Model for Databases {
 
     ghost coded = { coded_state };
 
-    ghost view = { λ a. state_of (beside_of a.settings a.drawn) a.by_name.entries };
+    ghost view = { λ a. state_of (beside_of a.settings a.drawn a.backups.items) a.by_name.entries };
 
-    ghost invariant = { λ a. IsIndex (state_of (beside_of a.settings a.drawn) a.by_name.entries) a.uuids.keys
+    ghost invariant = { λ a. IsIndex (state_of (beside_of a.settings a.drawn a.backups.items) a.by_name.entries) a.uuids.keys
         × AllDeny (program_of a.settings).deny a.by_name.entries };
 }
 
 impl Databases {
-    ghost use Rattle.script_databases.specs.Databases.{IsTaken, drawn_one, edited_answer, edited_at, load_answer, loaded_at, next_made, no_databases, peer_at, with_peer};
+    ghost use Rattle.script_databases.specs.Databases.{IsTaken, backed_answer, backed_at, backed_told, backup_at, put_back_answer, put_back_by, drawn_one, edited_answer, edited_at, load_answer, loaded_at, next_made, no_databases, peer_at, with_peer};
     ghost use Rattle.script_databases.specs.Stored.{deny_of, program_of};
     ghost use Rattle.repl_target.specs.Peer.{new_peer};
     ghost use Rattle.script_databases.specs.Refusals.{GivesOrMemory};
@@ -84,6 +95,7 @@ impl Databases {
             by_name: IndexMap::new(alloc),
             uuids: IndexSet::new(alloc),
             drawn: 0,
+            backups: Vec::new(alloc),
         })
     }
 
@@ -175,6 +187,50 @@ impl Databases {
         ensures err { OnErr result (self.new ≡ self.old) }
     {
         edit_at(&mut self.by_name, name, id, parent, deleted, body)
+    }
+
+    /// Keeps a copy of the database `db` under a name of its own, and answers the copy's update sequence (docs/PROFILE.md,
+    /// "Backup and restore").
+    ///
+    /// `NoDatabase` where none is there; else `BackupExists` where that database has a copy of the name; else `IsTarget`
+    /// where something was replicated into it.
+    pub fn back_up(&mut self, alloc: Global, db: &str, name: &str) -> Result<u64, Refusal>
+        ensures answer { GivesOrMemory result (backed_told (backed_answer self.old db.now name.now)) }
+        ensures ok { OnOk result (self.new ≡ backed_at self.old db.now name.now) }
+        ensures err { OnErr result (self.new ≡ self.old) }
+    {
+        let Some(peer) = self.by_name.get(db) else {
+            return Err(Refusal::NoDatabase);
+        };
+        if find_backup(&self.backups, db, name).is_some() {
+            return Err(Refusal::BackupExists);
+        }
+        let backup = match peer.backup(alloc) {
+            Ok(backup) => backup,
+            Err(fault) => return Err(Refusal::of_target(fault)),
+        };
+        let seq = backup.db().update_seq();
+        let Ok(copy) = NamedBackup::new(alloc, db, name, backup) else {
+            return Err(Refusal::Memory);
+        };
+        let Ok(()) = self.backups.push(copy) else {
+            return Err(Refusal::Memory);
+        };
+        Ok(seq)
+    }
+
+    /// Puts the database `db` back to its copy of a name, which is kept, and answers the update sequence and the life that
+    /// it then has (docs/PROFILE.md, "Backup and restore").
+    ///
+    /// `NoDatabase` where none is there; else `NoBackup` where that database has no copy of the name; else `IsTarget` where
+    /// something was replicated into it, and `LifeFull` where no life is left.
+    pub fn put_back(&mut self, db: &str, name: &str) -> Result<PutBack, Refusal>
+        ensures answer { GivesOrMemory result
+            (put_back_answer (peer_at self.old db.now) (backup_at self.old db.now name.now)) }
+        ensures ok { OnOk result (self.new ≡ put_back_by self.old db.now (backup_at self.old db.now name.now)) }
+        ensures err { OnErr result (self.new ≡ self.old) }
+    {
+        put_back_at(&mut self.by_name, &self.backups, db, name)
     }
 
     /// Replicates from the database of one name into that of another by the pool. Both are there. It waits.

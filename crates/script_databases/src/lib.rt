@@ -3,6 +3,7 @@
 //! Each call answers a value or why the line is refused (`Refusal`). What lines are is not known here.
 #![tactic(auto)]
 
+mod backups;
 mod carrying;
 mod databases;
 mod made_ids;
@@ -11,7 +12,7 @@ mod refusal;
 mod settings;
 
 pub use carrying::Watched;
-pub use databases::{Databases, Edited};
+pub use databases::{Databases, Edited, PutBack};
 pub use made_ids::MadeIds;
 pub use refusal::Refusal;
 pub use settings::Settings;

@@ -2,11 +2,12 @@
 ghost use Rattle.std.specs.Prelude.{◌≡◌, true, OnErr, OnOk, ℕ, nat_eq, if◌then◌else◌};
 ghost use Rattle.std.specs.List.{list_any};
 ghost use Rattle.std.specs.FinMap.{get, insert};
-ghost use Rattle.script_databases.specs.Databases.{edited_answer, edited_at, load_answer, loaded_at};
+ghost use Rattle.script_databases.specs.Databases.{edited_answer, edited_at, load_answer, loaded_at, backup_among, put_back_answer, put_back_by};
 ghost use Rattle.script_databases.specs.Refusals.{GivesOrMemory};
 ghost use Rattle.script_databases.specs.Stored.{Beside, deny_of, denied_of, peers_of, state_of};
 
-use crate::databases::{Edited, Names};
+use crate::backups::{NamedBackup, find_backup};
+use crate::databases::{Edited, Names, PutBack};
 use crate::refusal::Refusal;
 use couch_base::Put;
 use doc_json::{Body, Doc, DocId};
@@ -79,6 +80,36 @@ pub fn edit_at(
                 seq: peer.db().update_seq(),
             }),
             Err(fault) => Err(Refusal::of_base(fault)),
+        },
+        None => Err(Refusal::NoDatabase),
+    }
+}
+
+/// Puts the database `db` back to its copy of a name.
+pub fn put_back_at(
+    names: &mut Names,
+    backups: &[NamedBackup],
+    db: &str,
+    name: &str,
+) -> Result<PutBack, Refusal>
+    ensures answer { GivesOrMemory result
+        (put_back_answer (get (peers_of names.old.entries) db.now) (backup_among backups.now db.now name.now)) }
+    ensures ok { (g : Beside) → OnOk result
+        (state_of g names.new.entries
+        ≡ put_back_by (state_of g names.old.entries) db.now (backup_among backups.now db.now name.now)) }
+    ensures err { OnErr result (peers_of names.new.entries ≡ peers_of names.old.entries) }
+    ensures filters { denied_of names.new.entries ≡ denied_of names.old.entries }
+{
+    match names.get_mut(db) {
+        Some(peer) => match find_backup(backups, db, name) {
+            Some(backup) => match peer.restore(backup) {
+                Ok(()) => Ok(PutBack {
+                    seq: peer.db().update_seq(),
+                    life: peer.db().life(),
+                }),
+                Err(fault) => Err(Refusal::of_target(fault)),
+            },
+            None => Err(Refusal::NoBackup),
         },
         None => Err(Refusal::NoDatabase),
     }

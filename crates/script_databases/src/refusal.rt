@@ -1,7 +1,7 @@
 //! Why a line is refused.
 ghost use Rattle.std.specs.Prelude.{◌≡◌};
 ghost use Rattle.script_databases.specs.Refusals.{name_of};
-ghost use Rattle.script_databases.specs.Refusals.{base_refusal, doc_refusal, log_refusal, rev_refusal, run_stop_of, stop_of};
+ghost use Rattle.script_databases.specs.Refusals.{base_refusal, doc_refusal, log_refusal, rev_refusal, run_stop_of, stop_of, target_refusal};
 
 use couch_base::BaseFault;
 use doc_json::DocFault;
@@ -9,10 +9,8 @@ use repl_log::LogFault;
 use repl_pool::PoolFault;
 use repl_target::TargetFault;
 use rev_core::RevFault;
-use std::error::Error;
-use std::fmt;
 
-/// Why a line is refused, or that memory ran out, by their names (docs/PROFILE.md, "Order of checks").
+/// Why a line is refused, or that memory ran out (docs/PROFILE.md, "Order of checks"). `name` gives the name of each.
 #[derive(Clone, Copy, Debug, PartialEq, Eq)]
 pub enum Refusal {
     /// A window is done already, which no line brings.
@@ -37,6 +35,8 @@ pub enum Refusal {
     BadRevisions,
     /// A revision id has no signature.
     BadSig,
+    /// A copy of the database has the name.
+    BackupExists,
     /// A word of the board that shows progress would pass its limit.
     BoardFull,
     /// An edit's parent is no leaf, or it names none and a leaf is live.
@@ -49,6 +49,8 @@ pub enum Refusal {
     DatabaseExists,
     /// A log without entries is asked for.
     EmptyLog,
+    /// A copy is of another database, which no line puts back.
+    ForeignBackup,
     /// Documents are of no window of the session.
     ForeignParcel,
     /// A number is neither an i64 nor a u64.
@@ -65,12 +67,20 @@ pub enum Refusal {
     Halted,
     /// A leaf of the source isn't covered, which no replication ends with.
     Hole,
+    /// Something was replicated into the database.
+    IsTarget,
+    /// No life is left.
+    LifeFull,
     /// An allocation was refused.
     Memory,
+    /// No copy of the database has the name.
+    NoBackup,
     /// No database has the name.
     NoDatabase,
     /// A document's id is absent, no text, or empty.
     NoId,
+    /// A list of chosen documents is empty.
+    NoneChosen,
     /// A document has no revision id.
     NoRev,
     /// A session begins behind none of its replication, which no line asks.
@@ -87,6 +97,8 @@ pub enum Refusal {
     NotObject,
     /// A log's entry has a greater recorded sequence, which no line is refused for.
     Older,
+    /// A window or an entry is of another life, which no line brings.
+    OtherLife,
     /// A window ends above the goal, which no line brings.
     PastGoal,
     /// A document's id begins with `_` and is no id of a design document.
@@ -109,10 +121,14 @@ pub enum Refusal {
     StartAboveBase,
     /// A window was settled in part: memory or a sequence was wanting.
     Stopped,
+    /// More than 1,000 documents are chosen.
+    TooManyChosen,
     /// A pool of more than 64 workers.
     TooManyWorkers,
     /// A leaf of a window is not covered by what was fetched.
     Uncovered,
+    /// A session isn't at its goal, which no line is refused for.
+    Unfinished,
     /// Another database has the UUID.
     UuidTaken,
 }
@@ -134,12 +150,14 @@ impl Refusal {
             Refusal::BadRange => "BadRange",
             Refusal::BadRevisions => "BadRevisions",
             Refusal::BadSig => "BadSig",
+            Refusal::BackupExists => "BackupExists",
             Refusal::BoardFull => "BoardFull",
             Refusal::Conflict => "Conflict",
             Refusal::Contradiction => "Contradiction",
             Refusal::CountFull => "CountFull",
             Refusal::DatabaseExists => "DatabaseExists",
             Refusal::EmptyLog => "EmptyLog",
+            Refusal::ForeignBackup => "ForeignBackup",
             Refusal::ForeignParcel => "ForeignParcel",
             Refusal::Fraction => "Fraction",
             Refusal::Gap => "Gap",
@@ -148,9 +166,13 @@ impl Refusal {
             Refusal::GoalBelowStart => "GoalBelowStart",
             Refusal::Halted => "Halted",
             Refusal::Hole => "Hole",
+            Refusal::IsTarget => "IsTarget",
+            Refusal::LifeFull => "LifeFull",
             Refusal::Memory => "Memory",
+            Refusal::NoBackup => "NoBackup",
             Refusal::NoDatabase => "NoDatabase",
             Refusal::NoId => "NoId",
+            Refusal::NoneChosen => "NoneChosen",
             Refusal::NoRev => "NoRev",
             Refusal::NoSuchBase => "NoSuchBase",
             Refusal::NoSuchDocument => "NoSuchDocument",
@@ -159,6 +181,7 @@ impl Refusal {
             Refusal::NoWorkers => "NoWorkers",
             Refusal::NotObject => "NotObject",
             Refusal::Older => "Older",
+            Refusal::OtherLife => "OtherLife",
             Refusal::PastGoal => "PastGoal",
             Refusal::ReservedId => "ReservedId",
             Refusal::RevExists => "RevExists",
@@ -170,66 +193,11 @@ impl Refusal {
             Refusal::SpecialMember => "SpecialMember",
             Refusal::StartAboveBase => "StartAboveBase",
             Refusal::Stopped => "Stopped",
+            Refusal::TooManyChosen => "TooManyChosen",
             Refusal::TooManyWorkers => "TooManyWorkers",
             Refusal::Uncovered => "Uncovered",
+            Refusal::Unfinished => "Unfinished",
             Refusal::UuidTaken => "UuidTaken",
-        }
-    }
-
-    /// A text for who reads it.
-    fn text(&self) -> &'static str {
-        match self {
-            Refusal::AlreadyDone => "the window is done already",
-            Refusal::Attachments => "a document with attachments",
-            Refusal::BadBatch => "a batch has 1 to 10000 documents",
-            Refusal::BadCommand => "the object is no command",
-            Refusal::BadGeneration => "a revision id without a generation",
-            Refusal::BadLimit => "a page has at least one row",
-            Refusal::BadLine => "the line is no JSON object",
-            Refusal::BadMoment => "a moment after the year 9999",
-            Refusal::BadRange => "the goal is not above the start",
-            Refusal::BadRevisions => "'_revisions' that is no ancestry",
-            Refusal::BadSig => "a revision id without a signature",
-            Refusal::BoardFull => "a word of the board is full",
-            Refusal::Conflict => "the edit's parent is not a leaf, or a live leaf is passed over",
-            Refusal::Contradiction => "a revision has another parent in the tree",
-            Refusal::CountFull => "a count of the session is full",
-            Refusal::DatabaseExists => "the database is there already",
-            Refusal::EmptyLog => "no replication has begun",
-            Refusal::ForeignParcel => "documents of no window of the session",
-            Refusal::Fraction => "a number that is no 64-bit integer",
-            Refusal::Gap => "a gap before the window",
-            Refusal::GenerationFull => "no generation after 4294967295",
-            Refusal::GoalAhead => "the goal is above the update sequence",
-            Refusal::GoalBelowStart => "the goal is below the start",
-            Refusal::Halted => "a worker was stopped",
-            Refusal::Hole => "a leaf of the source is not covered",
-            Refusal::Memory => "out of memory",
-            Refusal::NoDatabase => "no database has this name",
-            Refusal::NoId => "no document id",
-            Refusal::NoRev => "no revision id",
-            Refusal::NoSuchBase => "no such base session",
-            Refusal::NoSuchDocument => "the database has no such document",
-            Refusal::NoSuchRevision => "the document has no such revision",
-            Refusal::NoSuchSession => "no such session",
-            Refusal::NoWorkers => "a pool has 1 to 64 workers",
-            Refusal::NotObject => "not an object",
-            Refusal::Older => "older than the log's entry",
-            Refusal::PastGoal => "the window ends above the goal",
-            Refusal::ReservedId => "a reserved document id",
-            Refusal::RevExists => "the edit is there already",
-            Refusal::RevMismatch => "'_rev' that is not the newest of '_revisions'",
-            Refusal::SamePeer => "the source and the target are one database",
-            Refusal::SeqFull => "no sequence after 9007199254740991",
-            Refusal::SeqTooLarge => "an update sequence above 9007199254740991",
-            Refusal::SessionExists => "the session is there already",
-            Refusal::SpecialMember =>
-                "a special member that is not known, or '_deleted' that is no flag",
-            Refusal::StartAboveBase => "the start is above what is recorded",
-            Refusal::Stopped => "a window was settled in part",
-            Refusal::TooManyWorkers => "a pool has 1 to 64 workers",
-            Refusal::Uncovered => "a leaf of the window is not covered",
-            Refusal::UuidTaken => "another database has this UUID",
         }
     }
 
@@ -247,6 +215,8 @@ impl Refusal {
             DocFault::BadRevisions => Refusal::BadRevisions,
             DocFault::RevMismatch => Refusal::RevMismatch,
             DocFault::Fraction => Refusal::Fraction,
+            DocFault::NoneChosen => Refusal::NoneChosen,
+            DocFault::TooManyChosen => Refusal::TooManyChosen,
             DocFault::Memory => Refusal::Memory,
         }
     }
@@ -298,28 +268,42 @@ impl Refusal {
         }
     }
 
+    /// The refusal of a line whose call a peer refused.
+    pub fn of_target(fault: TargetFault) -> Refusal
+        ensures { result ≡ target_refusal fault }
+    {
+        match fault {
+            TargetFault::SessionExists => Refusal::SessionExists,
+            TargetFault::NoSuchBase => Refusal::NoSuchBase,
+            TargetFault::StartAboveBase { .. } => Refusal::StartAboveBase,
+            TargetFault::GoalBelowStart => Refusal::GoalBelowStart,
+            TargetFault::NoSuchSession => Refusal::NoSuchSession,
+            TargetFault::OtherLife { .. } => Refusal::OtherLife,
+            TargetFault::Gap { .. } => Refusal::Gap,
+            TargetFault::PastGoal => Refusal::PastGoal,
+            TargetFault::ForeignParcel => Refusal::ForeignParcel,
+            TargetFault::AlreadyDone => Refusal::AlreadyDone,
+            TargetFault::CountFull => Refusal::CountFull,
+            TargetFault::Stopped { .. } => Refusal::Stopped,
+            TargetFault::Uncovered { .. } => Refusal::Uncovered,
+            TargetFault::Unfinished { .. } => Refusal::Unfinished,
+            TargetFault::Older { .. } => Refusal::Older,
+            TargetFault::IsTarget => Refusal::IsTarget,
+            TargetFault::ForeignBackup => Refusal::ForeignBackup,
+            TargetFault::LifeFull => Refusal::LifeFull,
+            TargetFault::BadBatch => Refusal::BadBatch,
+            TargetFault::SamePeer => Refusal::SamePeer,
+            TargetFault::Memory => Refusal::Memory,
+        }
+    }
+
     /// How far a replication came that its plan stopped, or the refusal of a line whose replication is refused.
     pub fn stop_of(fault: TargetFault) -> Result<u64, Refusal>
         ensures { result ≡ stop_of fault }
     {
         match fault {
-            TargetFault::SessionExists => Err(Refusal::SessionExists),
-            TargetFault::NoSuchBase => Err(Refusal::NoSuchBase),
-            TargetFault::StartAboveBase { .. } => Err(Refusal::StartAboveBase),
-            TargetFault::GoalBelowStart => Err(Refusal::GoalBelowStart),
-            TargetFault::NoSuchSession => Err(Refusal::NoSuchSession),
-            TargetFault::Gap { .. } => Err(Refusal::Gap),
-            TargetFault::PastGoal => Err(Refusal::PastGoal),
-            TargetFault::ForeignParcel => Err(Refusal::ForeignParcel),
-            TargetFault::AlreadyDone => Err(Refusal::AlreadyDone),
-            TargetFault::CountFull => Err(Refusal::CountFull),
-            TargetFault::Stopped { .. } => Err(Refusal::Stopped),
-            TargetFault::Uncovered { .. } => Err(Refusal::Uncovered),
             TargetFault::Unfinished { low_water } => Ok(low_water),
-            TargetFault::Older { .. } => Err(Refusal::Older),
-            TargetFault::BadBatch => Err(Refusal::BadBatch),
-            TargetFault::SamePeer => Err(Refusal::SamePeer),
-            TargetFault::Memory => Err(Refusal::Memory),
+            fault => Err(Refusal::of_target(fault)),
         }
     }
 
@@ -341,12 +325,3 @@ impl Refusal {
         }
     }
 }
-
-impl fmt::Display for Refusal {
-    /// Writes the text.
-    fn fmt<W: fmt::Write>(&self, f: &mut fmt::Formatter<W>) -> fmt::Result {
-        f.write_str(self.text())
-    }
-}
-
-impl Error for Refusal {}

@@ -1,17 +1,17 @@
 -- A script as far as it was read.
-use Rattle.std.proofs.Common.{◌≡◌, ℕ, ◌+◌, ◌*◌, ◌<◌, ◌≤◌, List, [], ◌++◌, length, take, Bool, true, refl, sym, ap, subst, ◌∙◌, arith, append_assoc, append-nil, length-append, Option, Some, None}
+use Rattle.std.proofs.Common.{inl, inr, ◌≡◌, ℕ, ◌+◌, ◌*◌, ◌<◌, ◌≤◌, List, [], ◌++◌, length, take, Bool, true, false, refl, sym, ap, subst, ◌∙◌, arith, append_assoc, append-nil, length-append, Option, Some, None}
 use Rattle.std.specs.Prelude.{unwrap_or, min}
 use Rattle.std.specs.Io.KnownBytes.{Consumes, Appends, Keeps, IsAtEnd}
 use Rattle.script_engine.specs.Device.{FailsOnce, Gives, counted, full}
-use Rattle.script_engine.specs.Faults.{FeedsUntil, IsOfWriter, IsFaultOf, IsToldUntil}
+use Rattle.script_engine.specs.Faults.{FeedsUntil, IsOfWriter, IsFaultOf, IsToldUntil, LeavesAs, max_reads}
 use Rattle.script_engine.specs.declared.fault.ScriptFault.{ScriptFault}
 use Rattle.script_engine.specs.declared.fault.ScriptFault.TheVariants.{Read, Write, Memory}
-use Rattle.script_engine.specs.Lines.{lines_of}
+use Rattle.script_engine.specs.Lines.{has_line_end, lines_of}
 use Rattle.script_engine.specs.Serving.{Answering}
-use Rattle.script_engine.specs.Script.{IsAnswered, IsAnsweredSoFar, AnswersFirst}
-use Rattle.script_engine.specs.Served.{Place, start, Served, Begins, Fed, Feeds, FeedsInPart, Finishes, FinishesInPart}
-use Rattle.script_engine.proofs.DeviceLemmas.{Appends-joined, Appends-none}
-use Rattle.script_engine.proofs.ServedLemmas.{Served-none, Served-joined, Begins-none, Begins-joined, Begins-more, is_answered, is_answered_so_far}
+use Rattle.script_engine.specs.Script.{AnswersEnded, IsAnswered, IsAnsweredSoFar, AnswersFirst}
+use Rattle.script_engine.specs.Served.{Place, start, Served, Begins, Feeds, Finishes, FinishesInPart}
+use Rattle.script_engine.proofs.DeviceLemmas.{Appends-joined, Appends-kept, Appends-none}
+use Rattle.script_engine.proofs.ServedLemmas.{Served-none, Served-joined, Begins-joined, Begins-more, is_answered, is_answered_so_far}
 
 -- these bytes were read in so many turns, and served, and their answers written
 pub record Ran {S : Type 0} (f : Answering S (List ℕ)) (g : S) (p : Place S) (left left' held held' : Option (List ℕ)) (turns : ℕ) : Type 0 where
@@ -78,6 +78,23 @@ Ran-more {turns = turns} q left'' held'' bytes r c some most (t, s, w) = record 
 pub Ran-number : {S : Type 0} {f : Answering S (List ℕ)} {g : S} {p : Place S} {left left' held held' : Option (List ℕ)} {turns : ℕ} → Ran f g p left left' held held' turns → turns < 4294967295 → p.number + 65536 < 18446744073709551616
 Ran-number r h = omega (arith, r.served.number_is, r.served.few, r.few)
 
+-- what the writer holds is kept
+pub Ran-kept : {S : Type 0} {f : Answering S (List ℕ)} {g : S} {p : Place S} {left left' held held' : Option (List ℕ)} {turns : ℕ} (held'' : Option (List ℕ)) → Ran f g p left left' held held' turns → Keeps held' held'' → Ran f g p left left' held held'' turns
+Ran-kept {held = held} {held'} held'' r k = record {
+  input = r.input;
+  text = r.text;
+  served = r.served;
+  taken = r.taken;
+  written = Appends-kept held held' held'' r.text r.written k;
+  few = r.few;
+}
+
+-- all lines that were read in are answered
+pub Ran-ended : {S : Type 0} {f : Answering S (List ℕ)} {g : S} {p : Place S} {left left' held held' : Option (List ℕ)} {turns : ℕ} (left'' : Option (List ℕ)) → Ran f g p left left' held held' turns → Keeps left' left'' → has_line_end p.begun ≡ false →
+    (taken : List ℕ) × (text : List ℕ) × Consumes left left'' taken × Appends held held' text × AnswersEnded f g taken text p.state
+Ran-ended {p = p} {left} {left'} left'' r k e =
+    (r.input, r.text, Consumes-kept left left' left'' r.input r.taken k, r.written, (r.served.lines, p.begun, r.served.told, r.served.cut, e, r.served.run, r.served.text_is))
+
 -- ---- faults
 
 -- what is written answers a whole input that begins so
@@ -116,6 +133,25 @@ SoFar-stopped {left = left} {left'} left'' r k = record {
   answered = answers_whole (unwrap_or left'' []) (r.input ++ unwrap_or left'' []) refl r.served;
 }
 
+so_far : {S : Type 0} (f : Answering S (List ℕ)) (g : S) (input text : List ℕ) (fault : ScriptFault) → IsToldUntil fault f g input text → IsAnsweredSoFar f g input text
+so_far f g input text Read h = h.0
+so_far f g input text Write h = h
+so_far f g input text Memory h = h.0
+
+-- a write failed besides
+SoFar-write : {S : Type 0} {fault : ScriptFault} {f : Answering S (List ℕ)} {g : S} {left held held' : Option (List ℕ)} → SoFar fault f g left held held' → SoFar Write f g left held held'
+SoFar-write {fault = fault} {f} {g} s = record {
+  input = s.input;
+  text = s.text;
+  gives = s.gives;
+  written = s.written;
+  answered = so_far f g s.input s.text fault s.answered;
+}
+
+-- it stopped there since the answers could not be passed on
+pub SoFar-unsent : {S : Type 0} {f : Answering S (List ℕ)} {g : S} {p : Place S} {left left' held held' : Option (List ℕ)} {turns : ℕ} (left'' : Option (List ℕ)) → Ran f g p left left' held held' turns → Keeps left' left'' → SoFar Write f g left held held'
+SoFar-unsent left'' r k = SoFar-write (SoFar-stopped left'' r k)
+
 -- it stopped in a chunk
 pub SoFar-fed : {S : Type 0} {f : Answering S (List ℕ)} {g : S} {p : Place S} {left left' held held' : Option (List ℕ)} {turns : ℕ} (fault : ScriptFault) (left'' held'' : Option (List ℕ)) (bytes : List ℕ) → Ran f g p left left' held held' turns → Consumes left' left'' bytes → FeedsUntil fault f p bytes held' held'' → SoFar fault f g left held held''
 SoFar-fed Read left'' held'' bytes r c x = absurd x
@@ -134,6 +170,28 @@ SoFar-fed {left = left} {left'} Memory left'' held'' bytes r c (new, rest, fed) 
   answered = answers_whole (rest ++ unwrap_or left'' []) _ (sym (append_assoc (r.input ++ fed.front) rest (unwrap_or left'' [])) ∙ ap (λ z. z ++ unwrap_or left'' []) (append_assoc r.input fed.front rest ∙ ap (λ z. r.input ++ z) (sym fed.bytes_are))) (Served-joined r.served fed.feeds.1);
 }
 
+-- what the writer holds is kept
+pub SoFar-kept : {S : Type 0} {fault : ScriptFault} {f : Answering S (List ℕ)} {g : S} {left held held' : Option (List ℕ)} (held'' : Option (List ℕ)) → SoFar fault f g left held held' → Keeps held' held'' → SoFar fault f g left held held''
+SoFar-kept {held = held} {held'} held'' s k = record {
+  input = s.input;
+  text = s.text;
+  gives = s.gives;
+  written = Appends-kept held held' held'' s.text s.written k;
+  answered = s.answered;
+}
+
+-- what was written is passed on, and that may fail
+pub SoFar-left : {S : Type 0} {f : Answering S (List ℕ)} {g : S} {left held held' : Option (List ℕ)} (fault stands : ScriptFault) (w w' : ℕ) → SoFar fault f g left held held' → LeavesAs fault stands w w' → SoFar stands f g left held held'
+SoFar-left {f = f} {g} {left} {held} {held'} Read stands w w' s (inl h) = subst (λ e. SoFar e f g left held held') (sym h.0) s
+SoFar-left {f = f} {g} {left} {held} {held'} Read stands w w' s (inr h) = subst (λ e. SoFar e f g left held held') (sym h.0) (SoFar-write s)
+SoFar-left {f = f} {g} {left} {held} {held'} Write stands w w' s h = subst (λ e. SoFar e f g left held held') (sym h.0) s
+SoFar-left {f = f} {g} {left} {held} {held'} Memory stands w w' s (inl h) = subst (λ e. SoFar e f g left held held') (sym h.0) s
+SoFar-left {f = f} {g} {left} {held} {held'} Memory stands w w' s (inr h) = subst (λ e. SoFar e f g left held held') (sym h.0) (SoFar-write s)
+
+-- nothing was read, and what was written before is passed on
+pub SoFar-not_begun : {S : Type 0} {f : Answering S (List ℕ)} {g : S} (left held held' : Option (List ℕ)) (stands : ScriptFault) {w w' : ℕ} → Keeps held held' → LeavesAs Memory stands w w' → SoFar stands f g left held held'
+SoFar-not_begun left held held' stands {w} {w'} k l = SoFar-left Memory stands w w' (SoFar-kept held' (SoFar-none left held) k) l
+
 -- ---- the end
 
 same_lines : {S : Type 0} {f : Answering S (List ℕ)} {g : S} {p : Place S} {xs t : List ℕ} (bytes : List ℕ) → Served f (start g) xs p t → lines_of (p.begun ++ bytes) ≡ lines_of p.begun → lines_of (xs ++ bytes) ≡ lines_of xs
@@ -148,6 +206,13 @@ SoFar-finished {left = left} {left'} held'' r e (bytes, l, (t, b, w)) = record {
   written = Appends-joined _ _ _ r.text t r.written w;
   answered = is_answered_so_far r.input (Begins-joined r.served b) (same_lines bytes r.served l);
 }
+
+-- it stopped where the answers to all lines were to be passed on
+pub FinishesInPart-whole : {S : Type 0} {f : Answering S (List ℕ)} {p q : Place S} (held held' held'' : Option (List ℕ)) → Finishes f p q held held' → Keeps held' held'' → FinishesInPart f p held held''
+FinishesInPart-whole held held' held'' (bytes, l, n, (t, s, w)) k = (bytes, l, (t, begins s, Appends-kept held held' held'' t w k))
+
+pub Finishes-kept : {S : Type 0} {f : Answering S (List ℕ)} {p q : Place S} (held held' held'' : Option (List ℕ)) → Finishes f p q held held' → Keeps held' held'' → Finishes f p q held held''
+Finishes-kept held held' held'' (bytes, l, n, (t, s, w)) k = (bytes, l, n, (t, s, Appends-kept held held' held'' t w k))
 
 -- it came to its end
 pub Ran-finished : {S : Type 0} {f : Answering S (List ℕ)} {g : S} {p : Place S} {left left' held held' : Option (List ℕ)} {turns : ℕ} (q : Place S) (held'' : Option (List ℕ)) → Ran f g p left left' held held' turns → IsAtEnd left' → Finishes f p q held' held'' →
@@ -168,13 +233,45 @@ Ran-end {left = left} {left'} left'' buffer n z r c = record {
 
 -- ---- which device failed
 
+IsRead : ScriptFault → Type 0
+IsRead Read = Unit {0}
+IsRead Write = ⊥
+IsRead Memory = ⊥
+
+pub write_not_read : Write ≡ Read → ⊥
+unfolding IsRead
+write_not_read e = subst IsRead (sym e) tt
+
+pub memory_not_read : Memory ≡ Read → ⊥
+unfolding IsRead
+memory_not_read e = subst IsRead (sym e) tt
+
 pub IsOfWriter-write : (fault : ScriptFault) (w w' : ℕ) → fault ≡ Write → FailsOnce w w' → IsOfWriter fault w w'
 IsOfWriter-write fault w w' e h = subst (λ f. IsOfWriter f w w') (sym e) h
 
-pub IsFaultOf-writer : (fault : ScriptFault) (k k' r r' w w' w'' : ℕ) → r' ≡ r → w' ≡ w → IsOfWriter fault w' w'' → IsFaultOf fault k k' r r' w w''
-IsFaultOf-writer Read k k' r r' w w' w'' e f h = absurd h
-IsFaultOf-writer Write k k' r r' w w' w'' e f h = (e, h ∙ ap (λ n. min (n + 1) full) f)
-IsFaultOf-writer Memory k k' r r' w w' w'' e f h = (e, h ∙ f)
+pub IsFaultOf-writer : (fault : ScriptFault) (k k' r r' w w1 w2 : ℕ) → r' ≡ r → w1 ≡ w → IsOfWriter fault w1 w2 → IsFaultOf fault k k' r r' w w2
+IsFaultOf-writer Read k k' r r' w w1 w2 e f h = absurd h
+IsFaultOf-writer Write k k' r r' w w1 w2 e f h = (e, h ∙ ap (λ n. min (n + 1) full) f)
+IsFaultOf-writer Memory k k' r r' w w1 w2 e f h = (e, h ∙ f)
+
+-- a fault of the writer or of memory, behind which what was written is passed on
+pub IsFaultOf-left : (fault stands : ScriptFault) (k k' r r' w w1 w2 w3 : ℕ) → r' ≡ r → w1 ≡ w → IsOfWriter fault w1 w2 → LeavesAs fault stands w2 w3 → IsFaultOf stands k k' r r' w w3
+IsFaultOf-left Read stands k k' r r' w w1 w2 w3 e f h l = absurd h
+IsFaultOf-left Write stands k k' r r' w w1 w2 w3 e f h l = subst (λ s. IsFaultOf s k k' r r' w w3) (sym l.0) (e, l.1 ∙ h ∙ ap (λ n. min (n + 1) full) f)
+IsFaultOf-left Memory stands k k' r r' w w1 w2 w3 e f h (inl l) = subst (λ s. IsFaultOf s k k' r r' w w3) (sym l.0) (e, l.1 ∙ h ∙ f)
+IsFaultOf-left Memory stands k k' r r' w w1 w2 w3 e f h (inr l) = subst (λ s. IsFaultOf s k k' r r' w w3) (sym l.0) (e, l.1 ∙ ap (λ n. min (n + 1) full) (h ∙ f))
+
+-- there were as many reads as there may be, and what was written is passed on
+pub IsFaultOf-last : (stands : ScriptFault) (k k' r r' w w1 w2 : ℕ) → counted k' 0 ≡ counted k max_reads → r' ≡ r → w1 ≡ w → LeavesAs Read stands w1 w2 → IsFaultOf stands k k' r r' w w2
+IsFaultOf-last stands k k' r r' w w1 w2 n e f (inl l) = subst (λ s. IsFaultOf s k k' r r' w w2) (sym l.0) (inr (n, e), l.1 ∙ f)
+IsFaultOf-last stands k k' r r' w w1 w2 n e f (inr l) = subst (λ s. IsFaultOf s k k' r r' w w2) (sym l.0) (e, l.1 ∙ ap (λ n. min (n + 1) full) f)
+
+-- a script that stopped in bytes that it took in did not stop at a read
+pub not_read : (fault stands : ScriptFault) (w1 w2 w3 : ℕ) → IsOfWriter fault w1 w2 → LeavesAs fault stands w2 w3 → stands ≡ Read → ⊥
+not_read Read stands w1 w2 w3 h l e = absurd h
+not_read Write stands w1 w2 w3 h l e = write_not_read (sym l.0 ∙ e)
+not_read Memory stands w1 w2 w3 h (inl l) e = memory_not_read (sym l.0 ∙ e)
+not_read Memory stands w1 w2 w3 h (inr l) e = write_not_read (sym l.0 ∙ e)
 
 pub Keeps-same : (a : Option (List ℕ)) → Keeps a a
 Keeps-same None = tt

@@ -1,4 +1,5 @@
 pub mod MembersLemmas
+pub mod GivenLemmas
 pub mod TextLemmas
 pub mod TellingLemmas
 pub mod SessionLemmas

@@ -1,9 +1,11 @@
 -- What a line's texts and values give, and why they give nothing: docs/PROFILE.md, "Order of checks".
-use Rattle.std.specs.Prelude.{ℕ, List, Option, Some, None, unwrap_or, Result, Ok, Err}
+use Rattle.std.specs.Prelude.{ℕ, List, [], ◌∷◌, Option, Some, None, unwrap_or, Result, Ok, Err}
 use Rattle.serde_json.specs.Data.{Data, object, no_members}
 use Rattle.rev_core.specs.Rev.{RevId}
 use Rattle.rev_core.specs.Text.{rev_read}
+use Rattle.rev_core.specs.Checks.{◌>>=◌}
 use Rattle.doc_json.specs.Body.{body_read}
+use Rattle.doc_json.specs.Chosen.{Choice, chosen_answer}
 use Rattle.doc_json.specs.DocId.{doc_id_read}
 use Rattle.doc_json.specs.DocRead.{doc_read}
 use Rattle.doc_json.specs.Document.{Document}
@@ -17,6 +19,25 @@ id_given text = told_as doc_refusal (doc_id_read text)
 abbrev pub some_of : {A : Type 0} → Result A Refusal → Result (Option A) Refusal
 some_of (Ok x) = Ok (Some x)
 some_of (Err refusal) = Err refusal
+
+-- the ids that texts spell, in their order: the first that spells none is refused
+abbrev pub ids_given : List (List ℕ) → Result (List (List ℕ)) Refusal
+ids_given [] = Ok []
+ids_given (text ∷ texts) = do
+  id ← id_given text
+  ids ← ids_given texts
+  Ok (id ∷ ids)
+
+-- the choice of some ids
+abbrev pub chosen_given : List (List ℕ) → Result Choice Refusal
+chosen_given ids = some_of (told_as doc_refusal (chosen_answer ids))
+
+-- the choice that a list of texts makes, where there is one; without one all documents are chosen
+abbrev pub choice_given : Option (List (List ℕ)) → Result Choice Refusal
+choice_given None = Ok None
+choice_given (Some texts) = do
+  ids ← ids_given texts
+  chosen_given ids
 
 -- the revision that a text spells, where there is one
 abbrev pub rev_given : Option (List ℕ) → Result (Option RevId) Refusal

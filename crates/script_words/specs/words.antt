@@ -17,6 +17,8 @@ use Rattle.script_words.specs.words.Changes.{ChangesAsk, changes_asked, changes_
 use Rattle.script_words.specs.words.Log.{LogAsk, log_asked, log_in, Logs}
 use Rattle.script_words.specs.words.Audit.{AuditAsk, audit_asked, audit_in, Audits}
 use Rattle.script_words.specs.words.Replicate.{ReplicateAsk, replicate_asked, replicate_in, Replicates}
+use Rattle.script_words.specs.words.Backup.{BackupAsk, backup_asked, backup_in, BacksUp}
+use Rattle.script_words.specs.words.Restore.{RestoreAsk, restore_asked, restore_in, Restores}
 use Rattle.script_words.specs.declared.words.Word.{Word}
 use Rattle.script_words.specs.declared.words.Word.TheVariants as word
 pub mod Load
@@ -27,6 +29,8 @@ pub mod Changes
 pub mod Log
 pub mod Audit
 pub mod Replicate
+pub mod Backup
+pub mod Restore
 
 -- what a line asks: a word, with what it names
 pub data Asked : Type 0 where
@@ -38,6 +42,8 @@ pub data Asked : Type 0 where
   log : LogAsk → Asked
   audit : AuditAsk → Asked
   replicate : ReplicateAsk → Asked
+  backup : BackupAsk → Asked
+  restore : RestoreAsk → Asked
 
 abbrev pub asked_of : Word → Asked
 asked_of (word.Load ask) = load (load_asked ask)
@@ -48,6 +54,8 @@ asked_of (word.Changes ask) = changes (changes_asked ask)
 asked_of (word.Log ask) = log (log_asked ask)
 asked_of (word.Audit ask) = audit (audit_asked ask)
 asked_of (word.Replicate ask) = replicate (replicate_asked ask)
+asked_of (word.Backup ask) = backup (backup_asked ask)
+asked_of (word.Restore ask) = restore (restore_asked ask)
 
 -- what an object asks by a word
 abbrev pub asked_by : List ℕ → Data → Result Asked Refusal
@@ -60,7 +68,9 @@ asked_by name d =
     else (if bytes_eq name (codes "log") then seen_as log (log_in d)
     else (if bytes_eq name (codes "audit") then seen_as audit (audit_in d)
     else (if bytes_eq name (codes "replicate") then seen_as replicate (replicate_in d)
-    else Err why.BadCommand)))))))
+    else (if bytes_eq name (codes "backup") then seen_as backup (backup_in d)
+    else (if bytes_eq name (codes "restore") then seen_as restore (restore_in d)
+    else Err why.BadCommand)))))))))
 
 -- by its member `do`
 abbrev pub asked_in : Data → Result Asked Refusal
@@ -78,3 +88,5 @@ Answers old (changes ask) told new = ListsChanges old ask told new
 Answers old (log ask) told new = Logs old ask told new
 Answers old (audit ask) told new = Audits old ask told new
 Answers old (replicate ask) told new = Replicates old ask told new
+Answers old (backup ask) told new = BacksUp old ask told new
+Answers old (restore ask) told new = Restores old ask told new

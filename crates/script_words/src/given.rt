@@ -1,11 +1,13 @@
 //! What a line gives: ids, revisions, bodies and documents, each read where its turn among the checks has come.
 ghost use Rattle.std.specs.Prelude.{◌≡◌, option_map};
 ghost use Rattle.std.specs.Option.{option_copied};
-ghost use Rattle.serde_json.specs.View.{view};
+ghost use Rattle.serde_json.specs.View.{view, items_view};
 ghost use Rattle.script_databases.specs.Refusals.{GivesOrMemory};
-ghost use Rattle.script_words.specs.Given.{body_given, body_given_or_empty, document_given, id_given, rev_given};
+ghost use Rattle.script_words.specs.Given.{body_given, body_given_or_empty, choice_given, chosen_given, document_given, id_given, ids_given, rev_given};
+ghost use Rattle.script_words.specs.Checks.{seen_as};
+ghost use Rattle.script_words.specs.Members.{texts_of};
 
-use doc_json::{Body, Doc, DocId, read_body, read_doc};
+use doc_json::{Body, Chosen, Doc, DocId, read_body, read_doc};
 use rev_core::Rev;
 use script_databases::Refusal;
 use serde_json::{Map, Value};
@@ -18,6 +20,50 @@ pub fn read_id(alloc: Global, text: &str) -> Result<DocId, Refusal>
     match DocId::parse(alloc, text) {
         Ok(id) => Ok(id),
         Err(fault) => Err(Refusal::of_doc(fault)),
+    }
+}
+
+/// The ids that texts spell, the items of a list, in their order.
+fn read_ids(alloc: Global, texts: &Vec<Value>) -> Result<Vec<DocId>, Refusal>
+    ensures { GivesOrMemory (seen_as (λ ids. ids.items) result) (ids_given (texts_of (items_view texts.now.items))) }
+{
+    let mut ids = Vec::new(alloc);
+    for item in texts {
+        let Some(text) = item.as_str() else {
+            continue;
+        };
+        let id = match read_id(alloc, text) {
+            Ok(id) => id,
+            Err(refusal) => return Err(refusal),
+        };
+        let Ok(()) = ids.push(id) else {
+            return Err(Refusal::Memory);
+        };
+    }
+    Ok(ids)
+}
+
+/// The choice of some ids.
+fn choose(ids: Vec<DocId>) -> Result<Option<Chosen>, Refusal>
+    ensures { GivesOrMemory result (chosen_given ids.items) }
+{
+    match Chosen::new(ids) {
+        Ok(chosen) => Ok(Some(chosen)),
+        Err(fault) => Err(Refusal::of_doc(fault)),
+    }
+}
+
+/// The choice that a line's ids make, none where it gives no list of them: `NoId`, `ReservedId` in the order of the ids,
+/// then `NoneChosen`, `TooManyChosen`.
+pub fn read_choice(alloc: Global, ids: Option<&Vec<Value>>) -> Result<Option<Chosen>, Refusal>
+    ensures { GivesOrMemory result (choice_given (option_map (λ v. texts_of (items_view v.now.items)) ids.entry)) }
+{
+    let Some(texts) = ids else {
+        return Ok(None);
+    };
+    match read_ids(alloc, texts) {
+        Ok(ids) => choose(ids),
+        Err(refusal) => Err(refusal),
     }
 }
 

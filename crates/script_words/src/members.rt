@@ -6,10 +6,10 @@ ghost use Rattle.std.specs.Str.{bytes_eq};
 ghost use Rattle.serde_json.specs.Find.{as_bool, as_str};
 ghost use Rattle.std.specs.Option.{option_copied};
 ghost use Rattle.serde_json.specs.Data.{Members, object};
-ghost use Rattle.serde_json.specs.View.{view};
+ghost use Rattle.serde_json.specs.View.{view, items_view};
 ghost use Rattle.script_databases.specs.declared.refusal.Refusal.TheVariants.{BadLine, Memory};
 ghost use Rattle.script_words.specs.Script.{IsObject, IsNoObject};
-ghost use Rattle.script_words.specs.Members.{as_uuid, as_whole, has_only, is_name, is_name_byte, name_at, optional, text_at};
+ghost use Rattle.script_words.specs.Members.{are_texts, as_texts, as_uuid, as_whole, has_only, is_name, is_name_byte, name_at, optional, text_at, texts_of};
 
 use json_values::{ReadFault, ValueReader};
 use script_databases::Refusal;
@@ -74,6 +74,35 @@ pub fn optional_text<'a>(value: &'a Value, key: &str) -> Option<Option<&'a str>>
         Some(text) => Some(Some(text)),
         None => None,
     }
+}
+
+/// A list of texts that may be left out.
+pub fn optional_texts<'a>(value: &'a Value, key: &str) -> Option<Option<&'a Vec<Value>>>
+    ensures { option_map (option_map (λ v. texts_of (items_view v.now.items))) result
+        ≡ optional as_texts key.now (view value.now) }
+{
+    let Some(member) = value.get(key) else {
+        return Some(None);
+    };
+    let Some(items) = member.as_array() else {
+        return None;
+    };
+    if !are_texts(items) {
+        return None;
+    }
+    Some(Some(items))
+}
+
+/// Whether each item is a text.
+fn are_texts(items: &Vec<Value>) -> bool
+    ensures { result ≡ are_texts (items_view items.now.items) }
+{
+    for item in items {
+        if !item.is_string() {
+            return false;
+        }
+    }
+    true
 }
 
 /// A whole number from 0 to 2^64 - 1 that may be left out.

@@ -1,9 +1,10 @@
 //! A script of commands on databases in memory.
 ghost use Rattle.std.specs.Prelude.{◌≡◌, ℕ, List, [], IfOk, IfErr, OnOk};
-ghost use Rattle.std.specs.Io.KnownBytes.{Appends, IsAtEnd};
+ghost use Rattle.std.specs.Io.KnownBytes.{Appends, Consumes, IsAtEnd};
 ghost use Rattle.script_engine.specs.Device.{Gives};
-ghost use Rattle.script_engine.specs.Script.{IsAnswered};
-ghost use Rattle.script_engine.specs.Faults.{IsFaultOf, IsToldUntil};
+ghost use Rattle.script_engine.specs.Script.{AnswersEnded, IsAnswered};
+ghost use Rattle.script_engine.specs.Faults.{IsFaultOf, IsSent, IsToldUntil};
+ghost use Rattle.script_engine.specs.declared.fault.ScriptFault.TheVariants.{Read};
 ghost use Rattle.script_databases.specs.Databases.{State, no_databases};
 ghost use Rattle.script_engine.specs.Serving.{MayTell};
 ghost use Rattle.script_words.specs.Script.{LinesAnswer};
@@ -14,7 +15,7 @@ use crate::members::read_object;
 use crate::words;
 use json_values::ValueReader;
 use script_databases::{Databases, Refusal, Settings};
-use script_engine::{ScriptFault, ScriptRead, ScriptWrite, Serve, run_lines};
+use script_engine::{ScriptFault, ScriptRead, ScriptWrite, Serve, leave, run_lines};
 use std::alloc::Global;
 use std::marker::Model;
 use std::mem;
@@ -86,7 +87,8 @@ fn serve_line<H: Threads + Wait + Sync>(
 }
 
 /// Runs a script: reads lines to the reader's end, each of which is one command, and writes the answers in their
-/// order (docs/PROFILE.md, "Command lines" and "Answers"). `true` where no line was refused.
+/// order (docs/PROFILE.md, "Command lines" and "Answers"). `true` where no line was refused. Before each read it passes
+/// on the answers to all lines that were read in.
 ///
 /// Where memory is wanting within a line, the line is answered as refused and the script goes on. `Read` and `Write`
 /// come only where that device failed in this call, but that `Read` also comes in the place of a further read after
@@ -114,9 +116,15 @@ pub fn run_script<H: AllocGlobal + Threads + Wait + Sync, R: ScriptRead, W: Scri
         × IsToldUntil fault LinesAnswer (no_databases (program_of settings.now)) input text
         × IsFaultOf fault (R.reads reader.old) (R.reads reader.new) (R.failures reader.old) (R.failures reader.new)
         (W.failures writer.old) (W.failures writer.new)) }
+    // Where a read fails, all lines that were read in before are answered, and wherever no write failed, their answers
+    // have been passed on. So it is at each read, since each of them may fail.
+    ensures read { IfErr result (λ fault. fault ≡ Read → (taken : List ℕ) × (text : List ℕ) × (state : State)
+        × Consumes (R.left reader.old) (R.left reader.new) taken × Appends (W.held writer.old) (W.held writer.new) text
+        × AnswersEnded LinesAnswer (no_databases (program_of settings.now)) taken text state) }
+    ensures sent { IsSent result (W.held writer.new) (W.sent writer.new) }
 {
     let Ok(databases) = Databases::new(rt.alloc(), settings) else {
-        return Err(ScriptFault::Memory);
+        return Err(leave(writer, ScriptFault::Memory));
     };
     let (ended, _databases) = run_on(rt, rt.alloc(), databases, reader, writer);
     ended
@@ -145,9 +153,15 @@ pub fn run_last_script<H: AllocGlobal + Threads + Wait + Sync, R: ScriptRead, W:
         × IsToldUntil fault LinesAnswer (no_databases (program_of settings.now)) input text
         × IsFaultOf fault (R.reads reader.old) (R.reads reader.new) (R.failures reader.old) (R.failures reader.new)
         (W.failures writer.old) (W.failures writer.new)) }
+    // Where a read fails, all lines that were read in before are answered, and wherever no write failed, their answers
+    // have been passed on. So it is at each read, since each of them may fail.
+    ensures read { IfErr result (λ fault. fault ≡ Read → (taken : List ℕ) × (text : List ℕ) × (state : State)
+        × Consumes (R.left reader.old) (R.left reader.new) taken × Appends (W.held writer.old) (W.held writer.new) text
+        × AnswersEnded LinesAnswer (no_databases (program_of settings.now)) taken text state) }
+    ensures sent { IsSent result (W.held writer.new) (W.sent writer.new) }
 {
     let Ok(databases) = Databases::new(rt.alloc(), settings) else {
-        return Err(ScriptFault::Memory);
+        return Err(leave(writer, ScriptFault::Memory));
     };
     let (ended, databases) = run_on(rt, rt.alloc(), databases, reader, writer);
     mem::forget(databases);
@@ -172,6 +186,10 @@ fn run_on<H: Threads + Wait + Sync, R: ScriptRead, W: ScriptWrite>(
         × Appends (W.held writer.old) (W.held writer.new) text × IsToldUntil fault LinesAnswer databases input text
         × IsFaultOf fault (R.reads reader.old) (R.reads reader.new) (R.failures reader.old) (R.failures reader.new)
         (W.failures writer.old) (W.failures writer.new)) }
+    ensures read { IfErr result.0 (λ fault. fault ≡ Read → (taken : List ℕ) × (text : List ℕ)
+        × Consumes (R.left reader.old) (R.left reader.new) taken × Appends (W.held writer.old) (W.held writer.new) text
+        × AnswersEnded LinesAnswer databases taken text result.1) }
+    ensures sent { IsSent result.0 (W.held writer.new) (W.sent writer.new) }
 {
     let mut session = Session {
         rt,

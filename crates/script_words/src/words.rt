@@ -8,12 +8,14 @@ ghost use Rattle.script_words.specs.Telling.{told_by};
 ghost use Rattle.script_words.specs.words.{Answers, asked_in, asked_of};
 
 mod audit;
+mod backup;
 mod changes;
 mod doc;
 mod edit;
 mod load;
 mod log;
 mod replicate;
+mod restore;
 mod show;
 
 use crate::members::text_member;
@@ -34,6 +36,8 @@ pub enum Word<'a> {
     Log(log::Log<'a>),
     Audit(audit::Audit<'a>),
     Replicate(replicate::Replicate<'a>),
+    Backup(backup::Backup<'a>),
+    Restore(restore::Restore<'a>),
 }
 
 /// What an object asks, by its word: all required members, each of its kind, and no others.
@@ -49,6 +53,8 @@ pub fn read(value: &Value) -> Option<Word<'_>>
         Some("log") => log::read(value).map(Word::Log),
         Some("audit") => audit::read(value).map(Word::Audit),
         Some("replicate") => replicate::read(value).map(Word::Replicate),
+        Some("backup") => backup::read(value).map(Word::Backup),
+        Some("restore") => restore::read(value).map(Word::Restore),
         _ => None,
     }
 }
@@ -73,5 +79,7 @@ pub fn serve<H: Threads + Wait + Sync>(
         Word::Log(ask) => log::serve(alloc, databases, ask, answer),
         Word::Audit(ask) => audit::serve(alloc, databases, ask, answer),
         Word::Replicate(ask) => replicate::serve(rt, alloc, databases, ask, answer),
+        Word::Backup(ask) => backup::serve(alloc, databases, ask, answer),
+        Word::Restore(ask) => restore::serve(databases, ask, answer),
     }
 }

@@ -1,6 +1,7 @@
 -- `audit`: docs/PROFILE.md, "Command lines" and "Answers".
-use Rattle.std.specs.Prelude.{ℕ, List, [], ◌∷◌, ◌++◌, codes, decimal, Option, Some, None, Result, Ok}
+use Rattle.std.specs.Prelude.{ℕ, List, [], ◌∷◌, ◌++◌, codes, decimal, Option, Some, None, Result, Ok, option_map}
 use Rattle.serde_json.specs.Data.{Data}
+use Rattle.serde_json.specs.View.{items_view}
 use Rattle.rev_core.specs.Text.{rev_text}
 use Rattle.repl_target.specs.Covered.{Leaf}
 use Rattle.repl_target.specs.Audit.{audit_answer}
@@ -9,26 +10,34 @@ use Rattle.script_databases.specs.Databases.{State}
 use Rattle.script_databases.specs.declared.refusal.Refusal.{Refusal}
 use Rattle.rev_core.specs.Checks.{◌>>=◌}
 use Rattle.script_words.specs.Checks.{needed}
-use Rattle.script_words.specs.Members.{name_at, if_only}
+use Rattle.script_words.specs.Given.{choice_given}
+use Rattle.script_words.specs.Members.{as_texts, name_at, optional, texts_of, if_only}
 use Rattle.script_words.specs.Telling.{database_of, Reads}
 use Rattle.script_words.specs.Texts.{ended, quoted}
 use Rattle.script_words.specs.declared.words.audit.Audit.{Audit}
 
 -- ---- what it asks
 
--- whether the target covers what the two logs say is done
+-- whether the target covers what the two logs of a replication say is done, of some documents or of all
 pub record AuditAsk : Type 0 where
   pub source : List ℕ
   pub target : List ℕ
+  pub doc_ids : Option (List (List ℕ))
 
 abbrev pub audit_asked : Audit → AuditAsk
-audit_asked ask = record { source = ask.source.now; target = ask.target.now }
+audit_asked ask = record {
+  source = ask.source.now;
+  target = ask.target.now;
+  doc_ids = option_map (λ v. texts_of (items_view v.now.items)) ask.doc_ids;
+}
 
 abbrev pub audit_in : Data → Result AuditAsk Refusal
 audit_in d = do
   source ← needed (name_at (codes "source") d)
   target ← needed (name_at (codes "target") d)
-  needed (if_only (codes "do" ∷ codes "source" ∷ codes "target" ∷ []) d (record { source = source; target = target }))
+  doc_ids ← needed (optional as_texts (codes "doc_ids") d)
+  needed (if_only (codes "do" ∷ codes "source" ∷ codes "target" ∷ codes "doc_ids" ∷ []) d
+      (record { source = source; target = target; doc_ids = doc_ids }))
 
 -- ---- what it prints
 
@@ -47,7 +56,8 @@ abbrev pub audit_told : State → AuditAsk → Result (List ℕ) Refusal
 audit_told s ask = do
   source ← database_of s ask.source
   target ← database_of s ask.target
-  Ok (audit_text (audit_answer source target))
+  chosen ← choice_given ask.doc_ids
+  Ok (audit_text (audit_answer source target chosen))
 
 abbrev pub Audits : Answering State AuditAsk
 Audits old ask told new = Reads (audit_told old ask) old told new

@@ -1,7 +1,9 @@
 -- `log`: docs/PROFILE.md, "Command lines" and "Answers".
-use Rattle.std.specs.Prelude.{ℕ, List, [], ◌∷◌, codes, if◌then◌else◌, Option, Some, None, Result, Ok, option_and_then}
+use Rattle.std.specs.Prelude.{ℕ, List, [], ◌∷◌, codes, if◌then◌else◌, Option, Some, None, Result, Ok, option_and_then, option_map}
 use Rattle.std.specs.Str.{bytes_eq}
 use Rattle.serde_json.specs.Data.{Data}
+use Rattle.serde_json.specs.View.{items_view}
+use Rattle.doc_json.specs.Chosen.{Choice}
 use Rattle.repl_log.specs.Entry.{EntryValue}
 use Rattle.repl_log.specs.Text.{log_text}
 use Rattle.repl_target.specs.Peer.{PeerValue}
@@ -13,7 +15,8 @@ use Rattle.script_databases.specs.Refusals.{told_as, log_refusal}
 use Rattle.script_databases.specs.declared.refusal.Refusal.{Refusal}
 use Rattle.rev_core.specs.Checks.{◌>>=◌}
 use Rattle.script_words.specs.Checks.{needed}
-use Rattle.script_words.specs.Members.{name_at, text_at, if_only}
+use Rattle.script_words.specs.Given.{choice_given}
+use Rattle.script_words.specs.Members.{as_texts, name_at, optional, text_at, texts_of, if_only}
 use Rattle.script_words.specs.Telling.{database_of, Reads}
 use Rattle.script_words.specs.Texts.{ended}
 use Rattle.script_words.specs.declared.words.log.Log.{Log}
@@ -22,14 +25,20 @@ use Rattle.script_words.specs.declared.words.log.Side.TheVariants.{Source, Targe
 
 -- ---- what it asks
 
--- the log of the replication from one database into another, as one of its sides holds it
+-- the log of the replication from one database into another, of some documents or of all, as one of its sides holds it
 pub record LogAsk : Type 0 where
   pub source : List ℕ
   pub target : List ℕ
   pub side : Side
+  pub doc_ids : Option (List (List ℕ))
 
 abbrev pub log_asked : Log → LogAsk
-log_asked ask = record { source = ask.source.now; target = ask.target.now; side = ask.side }
+log_asked ask = record {
+  source = ask.source.now;
+  target = ask.target.now;
+  side = ask.side;
+  doc_ids = option_map (λ v. texts_of (items_view v.now.items)) ask.doc_ids;
+}
 
 abbrev pub side_of : List ℕ → Option Side
 side_of text =
@@ -44,21 +53,23 @@ log_in d = do
   source ← needed (name_at (codes "source") d)
   target ← needed (name_at (codes "target") d)
   side ← needed (side_at d)
-  needed (if_only (codes "do" ∷ codes "source" ∷ codes "target" ∷ codes "side" ∷ []) d
-      (record { source = source; target = target; side = side }))
+  doc_ids ← needed (optional as_texts (codes "doc_ids") d)
+  needed (if_only (codes "do" ∷ codes "source" ∷ codes "target" ∷ codes "side" ∷ codes "doc_ids" ∷ []) d
+      (record { source = source; target = target; side = side; doc_ids = doc_ids }))
 
 -- ---- what it does
 
 -- the log that a side holds of the replication of the two
-abbrev pub log_held : Side → PeerValue → PeerValue → List EntryValue
-log_held Source source target = source_log source (rep_between source target)
-log_held Target source target = target_log target (rep_between source target)
+abbrev pub log_held : Side → PeerValue → PeerValue → Choice → List EntryValue
+log_held Source source target chosen = source_log source (rep_between source target chosen)
+log_held Target source target chosen = target_log target (rep_between source target chosen)
 
 abbrev pub log_told : State → LogAsk → Result (List ℕ) Refusal
 log_told s ask = do
   source ← database_of s ask.source
   target ← database_of s ask.target
-  text ← told_as log_refusal (log_text (rep_between source target) (log_held ask.side source target))
+  chosen ← choice_given ask.doc_ids
+  text ← told_as log_refusal (log_text (rep_between source target chosen) (log_held ask.side source target chosen))
   Ok (ended text)
 
 abbrev pub Logs : Answering State LogAsk

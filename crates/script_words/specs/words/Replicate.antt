@@ -1,8 +1,10 @@
 -- `replicate`: docs/PROFILE.md, "Command lines", "Order of checks" and "Answers".
-use Rattle.std.specs.Prelude.{◌≡◌, ◌⊎◌, ◌<◌, ◌≤◌, ℕ, Bool, true, false, not, ◌&&◌, nat_le, List, [], ◌∷◌, ◌++◌, codes, decimal, Option, Some, None, unwrap_or, Result, Ok, Err}
+use Rattle.std.specs.Prelude.{◌≡◌, ◌⊎◌, ◌<◌, ◌≤◌, ℕ, Bool, true, false, not, ◌&&◌, nat_le, List, [], ◌∷◌, ◌++◌, codes, decimal, Option, Some, None, unwrap_or, option_map, Result, Ok, Err}
 use Rattle.std.specs.Str.{bytes_eq}
 use Rattle.serde_json.specs.Data.{Data}
 use Rattle.serde_json.specs.Find.{as_bool}
+use Rattle.serde_json.specs.View.{items_view}
+use Rattle.doc_json.specs.Chosen.{Choice}
 use Rattle.rev_tree.specs.declared.origin.SessionId.{SessionId}
 use Rattle.repl_log.specs.Text.{id_digits}
 use Rattle.repl_pool.specs.declared.fault.PoolFault.{PoolFault}
@@ -13,13 +15,14 @@ use Rattle.repl_target.specs.declared.replication.Plan.{Plan}
 use Rattle.script_engine.specs.Serving.{Told, Answering}
 use Rattle.script_databases.specs.Carrying.{CarriedAlone, CarriedByPool, WatchedIntoAnother}
 use Rattle.script_databases.specs.Databases.{Program, State, drawn_one, next_made}
-use Rattle.script_databases.specs.Refusals.{run_stop_of, stop_of}
+use Rattle.script_databases.specs.Refusals.{GivesOrMemory, run_stop_of, stop_of}
 use Rattle.script_databases.specs.declared.carrying.Watched.{Watched}
 use Rattle.script_databases.specs.declared.refusal.Refusal.{Refusal}
 use Rattle.script_databases.specs.declared.refusal.Refusal.TheVariants as why
 use Rattle.rev_core.specs.Checks.{◌>>=◌}
 use Rattle.script_words.specs.Checks.{needed}
-use Rattle.script_words.specs.Members.{name_at, optional, if_only, as_uuid, as_whole}
+use Rattle.script_words.specs.Given.{choice_given}
+use Rattle.script_words.specs.Members.{as_texts, as_uuid, as_whole, name_at, optional, texts_of, if_only}
 use Rattle.script_words.specs.Telling.{database_of, told_of, Refuses}
 use Rattle.script_words.specs.Texts.{ended}
 use Rattle.script_words.specs.declared.words.replicate.Ending.{Ending}
@@ -29,14 +32,20 @@ use Rattle.script_words.specs.declared.words.replicate.Replicate.{Replicate}
 
 -- ---- what it asks
 
--- the replication from one database into another
+-- the replication from one database into another, of some documents or of all
 pub record ReplicateAsk : Type 0 where
   pub source : List ℕ
   pub target : List ℕ
+  pub doc_ids : Option (List (List ℕ))
   pub options : Options
 
 abbrev pub replicate_asked : Replicate → ReplicateAsk
-replicate_asked ask = record { source = ask.source.now; target = ask.target.now; options = ask.options }
+replicate_asked ask = record {
+  source = ask.source.now;
+  target = ask.target.now;
+  doc_ids = option_map (λ v. texts_of (items_view v.now.items)) ask.doc_ids;
+  options = ask.options;
+}
 
 -- what is left out is None, and `alone` and `progress` are false then
 abbrev pub options_in : Data → Result Options Refusal
@@ -60,15 +69,21 @@ options_in d = do
 
 abbrev pub replicate_keys : List (List ℕ)
 replicate_keys =
-    codes "do" ∷ codes "source" ∷ codes "target" ∷ codes "session" ∷ codes "workers" ∷ codes "batch" ∷ codes "at"
-    ∷ codes "stop_after" ∷ codes "alone" ∷ codes "progress" ∷ []
+    codes "do" ∷ codes "source" ∷ codes "target" ∷ codes "doc_ids" ∷ codes "session" ∷ codes "workers" ∷ codes "batch"
+    ∷ codes "at" ∷ codes "stop_after" ∷ codes "alone" ∷ codes "progress" ∷ []
 
 abbrev pub replicate_in : Data → Result ReplicateAsk Refusal
 replicate_in d = do
   source ← needed (name_at (codes "source") d)
   target ← needed (name_at (codes "target") d)
+  doc_ids ← needed (optional as_texts (codes "doc_ids") d)
   options ← options_in d
-  needed (if_only replicate_keys d (record { source = source; target = target; options = options }))
+  needed (if_only replicate_keys d (record {
+    source = source;
+    target = target;
+    doc_ids = doc_ids;
+    options = options;
+  }))
 
 -- ---- what it prints
 
@@ -125,18 +140,19 @@ abbrev pub with_session : State → Options → State
 with_session s options = with_drawn s options.session
 
 -- what a line leaves out is the program's
-abbrev pub plan_with : Program → Options → ℕ → Plan
-plan_with program options session = record {
+abbrev pub plan_with : Program → Options → ℕ → Choice → Plan
+plan_with program options session chosen = record {
   session = record { 0 = session };
   workers = unwrap_or options.workers program.workers;
   batch = unwrap_or options.batch program.batch;
   stop_after = options.stop_after;
   at = moment_of program options;
+  chosen = chosen;
 }
 
 -- the plan of a line
-abbrev pub plan_of : State → Options → Plan
-plan_of s options = plan_with s.program options (session_of s options)
+abbrev pub plan_of : State → Options → Choice → Plan
+plan_of s options chosen = plan_with s.program options (session_of s options) chosen
 
 -- ---- what it does
 
@@ -183,14 +199,22 @@ replicated_text session ended = do
   ending ← ended
   Ok (ending_line session ending)
 
--- of two databases that are there
-abbrev pub ReplicatesBoth : State → ReplicateAsk → PeerValue × PeerValue → Told → State → Type 0
-ReplicatesBoth old ask both told new =
+-- of the chosen documents of two databases that are there, where the choice isn't refused
+abbrev pub ReplicatesChosen : State → ReplicateAsk → PeerValue × PeerValue → Result Choice Refusal → Told → State
+    → Type 0
+ReplicatesChosen old ask both (Ok chosen) told new =
     (last_second < moment_of old.program ask.options) × Refuses why.BadMoment (with_session old ask.options) told new
     ⊎ (moment_of old.program ask.options ≤ last_second) × (ending : Result Ending Refusal)
-    × EndsBy ask.options.alone (is_watched ask (plan_of old ask.options)) (with_session old ask.options) ask.source
-    ask.target both.0 both.1 (plan_of old ask.options) ending new
-    × (told ≡ told_of (replicated_text (plan_of old ask.options).session ending))
+    × EndsBy ask.options.alone (is_watched ask (plan_of old ask.options chosen)) (with_session old ask.options)
+    ask.source ask.target both.0 both.1 (plan_of old ask.options chosen) ending new
+    × (told ≡ told_of (replicated_text (plan_of old ask.options chosen).session ending))
+ReplicatesChosen old ask both (Err refusal) told new = Refuses refusal (with_session old ask.options) told new
+
+-- the session's id is drawn before the choice is made, which may find no memory
+abbrev pub ReplicatesBoth : State → ReplicateAsk → PeerValue × PeerValue → Told → State → Type 0
+ReplicatesBoth old ask both told new =
+    (chosen : Result Choice Refusal) × GivesOrMemory chosen (choice_given ask.doc_ids)
+    × ReplicatesChosen old ask both chosen told new
 
 abbrev pub ReplicatesFound : State → ReplicateAsk → Result (PeerValue × PeerValue) Refusal → Told → State → Type 0
 ReplicatesFound old ask (Ok both) told new = ReplicatesBoth old ask both told new

@@ -7,7 +7,8 @@ ghost use Rattle.script_words.specs.Checks.{needed};
 ghost use Rattle.script_words.specs.Telling.{told_by};
 ghost use Rattle.script_words.specs.words.Audit.{Audits, audit_asked, audit_in, audit_text, hole_line};
 
-use crate::members::{has_only_members, name_member};
+use crate::given::read_choice;
+use crate::members::{has_only_members, name_member, optional_texts};
 use crate::texts::{push_json, push_number, push_rev};
 use repl_target::{Audit as Found, audit};
 use rev_core::Rev;
@@ -20,6 +21,8 @@ use std::alloc::{AllocError, Global};
 pub struct Audit<'a> {
     pub source: &'a str,
     pub target: &'a str,
+    /// The ids of the documents that are replicated, which are texts; all documents are where none are named.
+    pub doc_ids: Option<&'a Vec<Value>>,
 }
 
 /// What an object asks by `audit`.
@@ -28,10 +31,15 @@ pub fn read(value: &Value) -> Option<Audit<'_>>
 {
     let source = name_member(value, "source")?;
     let target = name_member(value, "target")?;
-    if !has_only_members(value, &["do", "source", "target"]) {
+    let doc_ids = optional_texts(value, "doc_ids")?;
+    if !has_only_members(value, &["do", "source", "target", "doc_ids"]) {
         return None;
     }
-    Some(Audit { source, target })
+    Some(Audit {
+        source,
+        target,
+        doc_ids,
+    })
 }
 
 /// Serves `audit`.
@@ -50,7 +58,11 @@ pub fn serve(
     let Some(target) = databases.find(ask.target) else {
         return Err(Refusal::NoDatabase);
     };
-    let Ok(found) = audit(alloc, source, target) else {
+    let chosen = match read_choice(alloc, ask.doc_ids) {
+        Ok(chosen) => chosen,
+        Err(refusal) => return Err(refusal),
+    };
+    let Ok(found) = audit(alloc, source, target, chosen.as_ref()) else {
         return Err(Refusal::Memory);
     };
     match print(alloc, answer, found) {

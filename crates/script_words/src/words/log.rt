@@ -8,7 +8,8 @@ ghost use Rattle.script_words.specs.Telling.{told_by};
 ghost use Rattle.script_words.specs.Texts.{ended};
 ghost use Rattle.script_words.specs.words.Log.{Logs, log_asked, log_held, log_in, side_at};
 
-use crate::members::{has_only_members, name_member, text_member};
+use crate::given::read_choice;
+use crate::members::{has_only_members, name_member, optional_texts, text_member};
 use repl_log::{RepId, write_log};
 use repl_target::{Peer, Rules, rep_between};
 use script_databases::{Databases, Refusal};
@@ -21,6 +22,8 @@ pub struct Log<'a> {
     pub source: &'a str,
     pub target: &'a str,
     pub side: Side,
+    /// The ids of the documents that are replicated, which are texts; all documents are where none are named.
+    pub doc_ids: Option<&'a Vec<Value>>,
 }
 
 /// A side of a replication.
@@ -37,13 +40,15 @@ pub fn read(value: &Value) -> Option<Log<'_>>
     let source = name_member(value, "source")?;
     let target = name_member(value, "target")?;
     let side = side_member(value)?;
-    if !has_only_members(value, &["do", "source", "target", "side"]) {
+    let doc_ids = optional_texts(value, "doc_ids")?;
+    if !has_only_members(value, &["do", "source", "target", "side", "doc_ids"]) {
         return None;
     }
     Some(Log {
         source,
         target,
         side,
+        doc_ids,
     })
 }
 
@@ -74,7 +79,13 @@ pub fn serve(
     let Some(target) = databases.find(ask.target) else {
         return Err(Refusal::NoDatabase);
     };
-    let rep = rep_between(source, target);
+    let chosen = match read_choice(alloc, ask.doc_ids) {
+        Ok(chosen) => chosen,
+        Err(refusal) => return Err(refusal),
+    };
+    let Ok(rep) = rep_between(source, target, chosen.as_ref()) else {
+        return Err(Refusal::Memory);
+    };
     let Ok(log) = log_held(alloc, source, target, ask.side, &rep) else {
         return Err(Refusal::Memory);
     };
@@ -96,8 +107,8 @@ fn log_held(
     side: Side,
     rep: &RepId,
 ) -> Result<repl_log::Log, AllocError>
-    requires { rep.now ≡ rep_between source.now.1 target.now.1 }
-    ensures { IfOk result (λ log. log ≡ log_held side source.now.1 target.now.1) }
+    requires { rep.now ≡ rep_between source.now.1 target.now.1 rep.now.chosen }
+    ensures { IfOk result (λ log. log ≡ log_held side source.now.1 target.now.1 rep.now.chosen) }
 {
     match side {
         Side::Source => match source.source_log(alloc, rep) {

@@ -8,10 +8,14 @@ ghost use Rattle.script_databases.specs.Carrying.{CarriesFrom};
 ghost use Rattle.script_databases.specs.declared.refusal.Refusal.TheVariants.{BadMoment};
 ghost use Rattle.script_words.specs.Checks.{needed};
 ghost use Rattle.script_words.specs.Telling.{told_by};
-ghost use Rattle.script_words.specs.words.Replicate.{Replicates, EndsBy, checked_part, documents_part, ending_line, ending_of, ending_of_run, ending_of_watched, is_watched, last_second, moment_of, options_in, plan_of, progress_line, replicate_asked, replicate_in, report_line, session_part, stopped_line, with_session};
+ghost use Rattle.script_words.specs.words.Replicate.{Replicates, EndsBy, checked_part, documents_part, ending_line, ending_of, ending_of_run, ending_of_watched, is_watched, last_second, moment_of, options_in, plan_with, progress_line, replicate_asked, replicate_in, report_line, session_of, session_part, stopped_line, with_session};
 
-use crate::members::{has_only_members, name_member, optional_flag, optional_uuid, optional_whole};
+use crate::given::read_choice;
+use crate::members::{
+    has_only_members, name_member, optional_flag, optional_texts, optional_uuid, optional_whole,
+};
 use crate::texts::push_number;
+use doc_json::Chosen;
 use repl_log::Moment;
 use repl_pool::PoolFault;
 use repl_target::{Plan, Report, TargetFault};
@@ -27,10 +31,12 @@ use std::thread::Threads;
 pub struct Replicate<'a> {
     pub source: &'a str,
     pub target: &'a str,
+    /// The ids of the documents that are replicated, which are texts; all documents are where none are named.
+    pub doc_ids: Option<&'a Vec<Value>>,
     pub options: Options,
 }
 
-/// What a line says of a replication besides its two sides: what it leaves out is none, and `alone` and `progress` are
+/// What a line says of a replication besides its two sides and its documents: what it leaves out is none, and `alone` and `progress` are
 /// false then.
 #[derive(Clone, Copy, Debug, PartialEq, Eq)]
 pub struct Options {
@@ -67,6 +73,7 @@ pub fn read(value: &Value) -> Option<Replicate<'_>>
 {
     let source = name_member(value, "source")?;
     let target = name_member(value, "target")?;
+    let doc_ids = optional_texts(value, "doc_ids")?;
     let options = options_of(value)?;
     if !has_only_members(
         value,
@@ -74,6 +81,7 @@ pub fn read(value: &Value) -> Option<Replicate<'_>>
             "do",
             "source",
             "target",
+            "doc_ids",
             "session",
             "workers",
             "batch",
@@ -88,11 +96,12 @@ pub fn read(value: &Value) -> Option<Replicate<'_>>
     Some(Replicate {
         source,
         target,
+        doc_ids,
         options,
     })
 }
 
-/// What an object says of a replication besides its two sides.
+/// What an object says of a replication besides its two sides and its documents.
 fn options_of(value: &Value) -> Option<Options>
     ensures { needed result ≡ options_in (view value.now) }
 {
@@ -114,8 +123,8 @@ fn options_of(value: &Value) -> Option<Options>
     })
 }
 
-/// Serves `replicate`. An id is made for a session that has none, once both databases are found. It waits, where the
-/// line does not ask for one thread.
+/// Serves `replicate`. An id is made for a session that has none, once both databases are found, and before the line's
+/// ids are looked at. It waits, where the line does not ask for one thread.
 pub fn serve<H: Threads + Wait + Sync>(
     rt: &H,
     alloc: Global,
@@ -133,7 +142,12 @@ pub fn serve<H: Threads + Wait + Sync>(
     if !databases.has(ask.target) {
         return Err(Refusal::NoDatabase);
     }
-    let plan = match plan_asked(databases, &ask.options) {
+    let session = session_asked(databases, &ask.options);
+    let chosen = match read_choice(alloc, ask.doc_ids) {
+        Ok(chosen) => chosen,
+        Err(refusal) => return Err(refusal),
+    };
+    let plan = match plan_asked(databases, &ask.options, session, chosen) {
         Ok(plan) => plan,
         Err(refusal) => return Err(refusal),
     };
@@ -147,21 +161,32 @@ pub fn serve<H: Threads + Wait + Sync>(
     }
 }
 
-/// The plan that a line asks for: what it leaves out is the program's, and an id is drawn where it names no session.
-///
-/// `BadMoment` where the moment lies after the year 9999.
-fn plan_asked(databases: &mut Databases, options: &Options) -> Result<Plan, Refusal>
+/// The id of the session that a line asks for, which is drawn where it names none.
+fn session_asked(databases: &mut Databases, options: &Options) -> u128
     ensures state { databases.new ≡ with_session databases.old options.now }
-    ensures ok { IfOk result
-        (λ plan. (moment_of databases.old.program options.now ≤ last_second)
-        × (plan ≡ plan_of databases.old options.now)) }
-    ensures err { IfErr result
-        (λ why. (why ≡ BadMoment) × (last_second < moment_of databases.old.program options.now)) }
+    ensures session { result ≡ session_of databases.old options.now }
 {
-    let session = match options.session {
+    match options.session {
         Some(session) => session,
         None => databases.draw(),
-    };
+    }
+}
+
+/// The plan that a line asks for: what it leaves out is the program's.
+///
+/// `BadMoment` where the moment lies after the year 9999.
+fn plan_asked(
+    databases: &Databases,
+    options: &Options,
+    session: u128,
+    chosen: Option<Chosen>,
+) -> Result<Plan, Refusal>
+    ensures ok { IfOk result
+        (λ plan. (moment_of databases.now.program options.now ≤ last_second)
+        × (plan ≡ plan_with databases.now.program options.now session chosen)) }
+    ensures err { IfErr result
+        (λ why. (why ≡ BadMoment) × (last_second < moment_of databases.now.program options.now)) }
+{
     let settings = databases.settings();
     let Ok(at) = Moment::new(options.at.unwrap_or(settings.at)) else {
         return Err(Refusal::BadMoment);
@@ -172,6 +197,7 @@ fn plan_asked(databases: &mut Databases, options: &Options) -> Result<Plan, Refu
         batch: options.batch.unwrap_or(settings.batch),
         stop_after: options.stop_after,
         at,
+        chosen,
     })
 }
 

@@ -9,7 +9,7 @@ use Rattle.repl_pool.proofs.RunLaws.{given_grown, no_workers, nothing_read, ends
 use Rattle.repl_pool.proofs.running.run_begun.Goals as goal
 
 pub returns-then-start-update_seq-clause-grown : goal.returns-then-start-update_seq-clause-grown
-returns-then-start-update_seq-clause-grown g c = c.without_workers.ensures.grown c.args.source.1.db
+returns-then-start-update_seq-clause-grown g c = c.without_workers.ensures.grown c.args.source.1.db c.args.plan.now.chosen
 
 pub returns-then-start-update_seq-clause-ends : goal.returns-then-start-update_seq-clause-ends
 returns-then-start-update_seq-clause-ends g c =
@@ -27,13 +27,13 @@ returns-then-start-update_seq-clause-shown g c =
     (λ _ _. subst shows (ap vec_items (sym c.without_workers.ensures.seats)) (shown_start (option_copied c.args.board) (sum r.fetched.items) c.args.seats.items (ap sum c.without_workers.ensures.fetched)))
 
 pub returns-in_default-clause-grown : goal.returns-in_default-clause-grown
-returns-in_default-clause-grown g c = c.without_workers-in_default.ensures.grown c.args.source.1.db
+returns-in_default-clause-grown g c = c.without_workers-in_default.ensures.grown c.args.source.1.db c.args.plan.now.chosen
 
 pub returns-in_default-clause-ends : goal.returns-in_default-clause-ends
 returns-in_default-clause-ends g c = no_workers g.F.WriteFilter.refuses (MayFill (option_copied c.args.board)) (g.G.Gate.may_stop c.args.gate.now) _ _ _ c.args.target _ _ _ _ c.without_workers-in_default.ensures.ends
 
 pub returns-in_default-open-clause-grown : goal.returns-in_default-open-clause-grown
-returns-in_default-open-clause-grown g c = c.without_workers-in_default-open.ensures.grown c.args.source.1.db
+returns-in_default-open-clause-grown g c = c.without_workers-in_default-open.ensures.grown c.args.source.1.db c.args.plan.now.chosen
 
 pub returns-in_default-open-clause-ends : goal.returns-in_default-open-clause-ends
 returns-in_default-open-clause-ends g c = no_workers g.F.WriteFilter.refuses (MayFill (option_copied c.args.board)) (g.G.Gate.may_stop c.args.gate.now) _ _ _ c.args.target _ _ _ _ c.without_workers-in_default-open.ensures.ends
@@ -41,9 +41,9 @@ returns-in_default-open-clause-ends g c = no_workers g.F.WriteFilter.refuses (Ma
 pub returns-clause-grown : goal.returns-clause-grown
 returns-clause-grown g c =
     let d = c.collect-summed.ensures.desk in
-    grown_then g.F.WriteFilter.refuses c.args.source.1.db c.args.target c.collect-summed.result.target c.end.result.target
-    (given_grown g.F.WriteFilter.refuses c.args.source.1.db g.S.Origin.source c.requires.source c.args.target c.args.plan.now.session g.J.Given.given c.requires.given d.0 d.1 c.collect-summed.result.target d.2).0
-    (c.end.ensures.grown c.args.source.1.db)
+    grown_then g.F.WriteFilter.refuses c.args.source.1.db c.args.plan.now.chosen c.args.plan.now.session c.args.target c.collect-summed.result.target c.end.result.target
+    (given_grown g.F.WriteFilter.refuses c.args.source.1.db g.S.Origin.source c.requires.source c.args.plan.now.chosen g.S.Origin.chosen c.requires.chosen c.args.target c.args.plan.now.session g.J.Given.given c.requires.given d.0 d.1 c.collect-summed.result.target d.2).0
+    (c.end.ensures.grown c.args.source.1.db c.args.plan.now.chosen)
 
 pub returns-clause-ends : goal.returns-clause-ends
 returns-clause-ends g c =
@@ -53,12 +53,12 @@ returns-clause-ends g c =
       fault = t.fault;
       complete = t.complete;
       before = t.target.1;
-      grown = (given_grown g.F.WriteFilter.refuses c.args.source.1.db g.S.Origin.source c.requires.source c.args.target c.args.plan.now.session g.J.Given.given c.requires.given d.0 d.1 t.target d.2).0.1;
+      grown = (given_grown g.F.WriteFilter.refuses c.args.source.1.db g.S.Origin.source c.requires.source c.args.plan.now.chosen g.S.Origin.chosen c.requires.chosen c.args.target c.args.plan.now.session g.J.Given.given c.requires.given d.0 d.1 t.target d.2).0.1;
       late = c.collect-summed.ensures.halted;
       read =
           λ none whole.
           let k = c.collect-summed.ensures.sum none whole in
-          (given_grown g.F.WriteFilter.refuses c.args.source.1.db g.S.Origin.source c.requires.source c.args.target c.args.plan.now.session g.J.Given.given c.requires.given k.0 (sum t.fetched.items) t.target k.1).1
+          (given_grown g.F.WriteFilter.refuses c.args.source.1.db g.S.Origin.source c.requires.source c.args.plan.now.chosen g.S.Origin.chosen c.requires.chosen c.args.target c.args.plan.now.session g.J.Given.given c.requires.given k.0 (sum t.fetched.items) t.target k.1).1
           ∙ ap sum (sym (ap vec_items c.end.ensures.fetched));
       ends = c.end.ensures.ends;
     }
@@ -68,8 +68,8 @@ end-requires g c =
     let d = c.collect-summed.ensures.desk in
     record {
       held =
-          held_grown g.F.WriteFilter.refuses c.args.source.1.db c.args.target c.collect-summed.result.target c.args.plan.now.session (subst LawfulDatabase c.db.ensures.value c.update_seq-update_seq.ensures.law) c.db-2.ensures.law.sessions
-          (given_grown g.F.WriteFilter.refuses c.args.source.1.db g.S.Origin.source c.requires.source c.args.target c.args.plan.now.session g.J.Given.given c.requires.given d.0 d.1 c.collect-summed.result.target d.2).0 c.requires.held;
+          held_grown g.F.WriteFilter.refuses c.args.source.1.db c.args.plan.now.chosen c.args.target c.collect-summed.result.target c.args.plan.now.session (subst LawfulDatabase c.db.ensures.value c.update_seq-update_seq.ensures.law) c.db-2.ensures.law.sessions
+          (given_grown g.F.WriteFilter.refuses c.args.source.1.db g.S.Origin.source c.requires.source c.args.plan.now.chosen g.S.Origin.chosen c.requires.chosen c.args.target c.args.plan.now.session g.J.Given.given c.requires.given d.0 d.1 c.collect-summed.result.target d.2).0 c.requires.held;
     }
 
 pub returns-in_default-clause-back : goal.returns-in_default-clause-back

@@ -47,3 +47,8 @@ returns-in-Err-begin_plan-clause-runs g c =
 
 pub returns-in-Err-begin_plan-clause-back : goal.returns-in-Err-begin_plan-clause-back
 returns-in-Err-begin_plan-clause-back g c = back_same (option_copied c.args.board) _ (seats_seated (option_copied c.args.board) 0 c.args.plan.now.workers _ c.requires.seats)
+
+pub run_begun-requires-clause-batch : goal.run_begun-requires-clause-batch
+run_begun-requires-clause-batch g c κs within =
+    let p : Passes c.args.plan.now = passes c.args.source.1 c.args.target.1 c.args.plan.now (sym c.check_run.ensures ∙ c.in_default.is) in
+    p.batch

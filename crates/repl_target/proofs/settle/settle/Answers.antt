@@ -176,3 +176,21 @@ returns-in-Err-close-clause-indexed g c = λ base h.
 pub returns-clause-indexed : goal.returns-clause-indexed
 returns-clause-indexed g c = λ base h.
     subst (λ (l : List RefusedValue). IndexesMore base l c.settle_in_order-stop.new.ledgered) (sym c.close.ensures.ledger) (c.settle_in_order-stop.ensures.indexed base h)
+
+pub returns-in-Err-clause-rep : goal.returns-in-Err-clause-rep
+returns-in-Err-clause-rep g c =
+    let p = c.in_ok-checked.ensures.ok in
+    let before = settling_at c.args.db.now c.args.session.now in
+    (grown_by _ _ before _ _ _ _ (c.settle_in_order-stop.ensures.reached p.window p.at)).rep
+
+pub returns-in-Err-close-clause-rep : goal.returns-in-Err-close-clause-rep
+returns-in-Err-close-clause-rep g c =
+    let p = c.in_ok-checked.ensures.ok in
+    let before = settling_at c.args.db.now c.args.session.now in
+    c.close.ensures.rep ∙ (grown_by _ _ before _ _ _ _ (c.settle_in_order-stop.ensures.reached p.window p.at)).rep
+
+pub returns-clause-rep : goal.returns-clause-rep
+returns-clause-rep g c =
+    let p = c.in_ok-checked.ensures.ok in
+    let before = settling_at c.args.db.now c.args.session.now in
+    c.close.ensures.rep ∙ (grown_by _ _ before _ _ _ _ (c.settle_in_order-stop.ensures.reached p.window p.at)).rep

@@ -37,7 +37,7 @@ returns-clause-carried c = λ b all.
         ns.1,
         nt.1,
         subst (λ f. Replicates f given.0.1 given.1.1 plan result ns.1 nt.1) (refuses_is b.program.deny es c.args.target.now given.1.0 all there'.1) c.replicate_alone-outcome.ensures.replicates,
-        ap (λ m. let s : State = record { program = b.program; drawn = b.drawn; peers = m } in s)
+        ap (λ m. let s : State = record { program = b.program; drawn = b.drawn; backups = b.backups; peers = m } in s)
             (written_over (peers_of es) _ _ c.args.source.now c.args.target.now left.0.1 left.1.1 ns.1 nt.1 left.2 c.put_back.ensures.peers),
       ),
     )

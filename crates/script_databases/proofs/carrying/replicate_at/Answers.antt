@@ -35,7 +35,7 @@ returns-clause-carried g c = λ b all.
         ran.target.1,
         ran.fetched.items,
         run_denied ⊥ Nowhere c.args.plan.now b.program.deny given.0 given.1 ran.source ran.target ran.fetched.items ran.outcome (refuses_is b.program.deny es c.args.target.now given.1.0 all there'.1) c.run-sender.ensures.runs,
-        ap (λ m. let s : State = record { program = b.program; drawn = b.drawn; peers = m } in s)
+        ap (λ m. let s : State = record { program = b.program; drawn = b.drawn; backups = b.backups; peers = m } in s)
             (written_over (peers_of es) _ _ c.args.source.now c.args.target.now left.0.1 left.1.1 ran.source.1 ran.target.1 left.2 c.put_back.ensures.peers),
       ),
     )

@@ -48,7 +48,7 @@ returns-in-Ok-outcome-clause-carried g c = λ b all.
         subst (λ (o : Result Report PoolFault). RunsOn deny_refuses (Unit {0}) Nowhere c.args.plan.now (b.program.deny, given.0.1) (b.program.deny, given.1.1) (b.program.deny, ran.source.1) (b.program.deny, ran.target.1) ran.fetched.items o)
             (c.in-Ok-outcome.is ∙ ap (λ (r : Report). Ok r) (sym c.with_reading.ensures.1))
             (run_denied (Unit {0}) Nowhere c.args.plan.now b.program.deny given.0 given.1 ran.source ran.target ran.fetched.items ran.outcome (refuses_is b.program.deny es c.args.target.now given.1.0 all there'.1) c.run_on-sender.ensures.runs),
-        ap (λ m. let s : State = record { program = b.program; drawn = b.drawn; peers = m } in s)
+        ap (λ m. let s : State = record { program = b.program; drawn = b.drawn; backups = b.backups; peers = m } in s)
             (written_over (peers_of es) _ _ c.args.source.now c.args.target.now left.0.1 left.1.1 ran.source.1 ran.target.1 left.2 c.put_back.ensures.peers),
       ),
     )
@@ -73,7 +73,7 @@ returns-clause-carried g c = λ b all.
         subst (λ (o : Result Report PoolFault). RunsOn deny_refuses (Unit {0}) Nowhere c.args.plan.now (b.program.deny, given.0.1) (b.program.deny, given.1.1) (b.program.deny, ran.source.1) (b.program.deny, ran.target.1) ran.fetched.items o)
             c.in-Err.is
             (run_denied (Unit {0}) Nowhere c.args.plan.now b.program.deny given.0 given.1 ran.source ran.target ran.fetched.items ran.outcome (refuses_is b.program.deny es c.args.target.now given.1.0 all there'.1) c.run_on-sender.ensures.runs),
-        ap (λ m. let s : State = record { program = b.program; drawn = b.drawn; peers = m } in s)
+        ap (λ m. let s : State = record { program = b.program; drawn = b.drawn; backups = b.backups; peers = m } in s)
             (written_over (peers_of es) _ _ c.args.source.now c.args.target.now left.0.1 left.1.1 ran.source.1 ran.target.1 left.2 c.put_back.ensures.peers),
       ),
     )

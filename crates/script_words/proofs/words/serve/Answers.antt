@@ -33,3 +33,9 @@ returns-in-Audit g c = as_word _ _ c.in-Audit.is (λ t a. a) c.serve-in-Audit.en
 
 pub returns-in-Replicate : goal.returns-in-Replicate
 returns-in-Replicate g c = as_word _ _ c.in-Replicate.is (λ t a. a) c.serve-in-Replicate.ensures
+
+pub returns-in-Backup : goal.returns-in-Backup
+returns-in-Backup g c = as_word _ _ c.in-Backup.is (λ t a. a) c.serve-in-Backup.ensures
+
+pub returns-in-Restore : goal.returns-in-Restore
+returns-in-Restore g c = as_word _ _ c.in-Restore.is (λ t a. a) c.serve-in-Restore.ensures

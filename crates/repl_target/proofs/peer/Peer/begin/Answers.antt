@@ -4,10 +4,10 @@ use Rattle.repl_target.proofs.peer.Peer.begin.Goals as goal
 
 pub invariant_of-self : goal.invariant_of-self
 invariant_of-self g c =
-    let fits : c.args.start < 2 ^ 64 = omega arith in
-    Lawful-begun _ _ c.self.invariant c.args.id c.args.rep.now c.args.base c.args.start c.args.goal c.args.at fits c.begin.result _ c.begin.ensures.answer c.begin.ensures.ok c.begin.ensures.err
+    let fits : c.args.beginning.start < 2 ^ 64 = omega arith in
+    Lawful-begun _ _ c.self.invariant c.args.id c.args.beginning c.args.at fits c.begin.result _ c.begin.ensures.answer c.begin.ensures.ok c.begin.ensures.err
 
 pub returns-clause-law : goal.returns-clause-law
 returns-clause-law g c =
-    let fits : c.args.start < 2 ^ 64 = omega arith in
-    Lawful-begun _ _ c.self.invariant c.args.id c.args.rep.now c.args.base c.args.start c.args.goal c.args.at fits c.begin.result _ c.begin.ensures.answer c.begin.ensures.ok c.begin.ensures.err
+    let fits : c.args.beginning.start < 2 ^ 64 = omega arith in
+    Lawful-begun _ _ c.self.invariant c.args.id c.args.beginning c.args.at fits c.begin.result _ c.begin.ensures.answer c.begin.ensures.ok c.begin.ensures.err

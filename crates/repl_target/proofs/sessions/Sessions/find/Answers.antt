@@ -3,4 +3,4 @@ use Rattle.repl_target.proofs.SessionTable.{session_in-lookup}
 use Rattle.repl_target.proofs.sessions.Sessions.find.Goals as goal
 
 pub returns : goal.returns
-returns c = rw (← c.self.view_is) (c.get.ensures.value ∙ sym (session_in-lookup c.self.inside.ledgered c.self.inside.entries.entries c.self.invariant c.args.id))
+returns c = rw (← c.self.view_is) (c.get.ensures.value ∙ sym (session_in-lookup c.self.inside.ledgered c.self.inside.entries.entries c.self.invariant.0 c.args.id))

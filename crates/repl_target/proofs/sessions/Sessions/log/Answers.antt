@@ -16,7 +16,7 @@ loop-i-preserved c =
     elim c.if-eq.branch [
       | then-eq+in-Ok w ↦
           w.log-is
-          ∙ log_of-next rep es c.loop-i.i _ c.loop-i.log w.put.new.self (value_of w.entry.result) c.self.invariant.keyed c.self.invariant.once there (of ∙ w.if-eq.true) c.loop-i.invariant w.entry.ensures w.in-Ok.ensures.ok
+          ∙ log_of-next rep es c.loop-i.i _ c.loop-i.log w.put.new.self (value_of w.entry.result) c.self.invariant.0.keyed c.self.invariant.0.once there (of ∙ w.if-eq.true) c.loop-i.invariant w.entry.ensures w.in-Ok.ensures.ok
       | else-eq w ↦ w.log-is ∙ log_of-passed rep es c.loop-i.i _ c.loop-i.log there (of ∙ w.if-eq.false) c.loop-i.invariant
     ]
 

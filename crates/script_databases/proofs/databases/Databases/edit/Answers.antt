@@ -8,12 +8,12 @@ use Rattle.script_databases.proofs.databases.Databases.edit.Goals as goal
 
 pub invariant_of-self : goal.invariant_of-self
 invariant_of-self c =
-    let g = beside_of c.self.inside.settings c.self.inside.drawn in
+    let g = beside_of c.self.inside.settings c.self.inside.drawn c.self.inside.backups.items in
     let old = c.self.inside.by_name.entries in
     let new = c.edit_at.new.names.entries in
     (index_kept c.edit_at.result (state_of g old) (state_of g new) c.args.name.now (λ l. after_edit l c.args.id.now c.args.parent c.args.deleted c.args.body.now) c.self.inside.uuids.keys (edit_keeps c.args.id.now c.args.parent c.args.deleted c.args.body.now) c.self.invariant.0 (c.edit_at.ensures.ok g) (same_state g c.edit_at.result old new c.edit_at.ensures.err), deny_kept g.program.deny old new c.self.invariant.1 c.edit_at.ensures.filters)
 
 pub returns-clause-ok : goal.returns-clause-ok
 returns-clause-ok c =
-    let g = beside_of c.self.inside.settings c.self.inside.drawn in
+    let g = beside_of c.self.inside.settings c.self.inside.drawn c.self.inside.backups.items in
     subst (λ (s : State). OnOk c.edit_at.result (state_of g c.edit_at.new.names.entries ≡ edited_at s c.args.name.now c.args.id.now c.args.parent c.args.deleted c.args.body.now)) c.self.view_is (c.edit_at.ensures.ok g)

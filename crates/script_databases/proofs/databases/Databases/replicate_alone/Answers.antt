@@ -9,7 +9,7 @@ use Rattle.script_databases.proofs.databases.Databases.replicate_alone.Goals as 
 
 pub invariant_of-self : goal.invariant_of-self
 invariant_of-self c =
-    let g = beside_of c.self.inside.settings c.self.inside.drawn in
+    let g = beside_of c.self.inside.settings c.self.inside.drawn c.self.inside.backups.items in
     let old = c.self.inside.by_name.entries in
     let new = c.replicate_alone_at.new.names.entries in
     let done = c.replicate_alone_at.ensures.carried g c.self.invariant.1 in
@@ -23,7 +23,7 @@ invariant_of-self c =
 
 pub returns : goal.returns
 returns c =
-    let g = beside_of c.self.inside.settings c.self.inside.drawn in
+    let g = beside_of c.self.inside.settings c.self.inside.drawn c.self.inside.backups.items in
     let done = c.replicate_alone_at.ensures.carried g c.self.invariant.1 in
     subst (λ (st : State). CarriesFrom CarriedAlone st c.args.source.now c.args.target.now c.args.plan.now c.replicate_alone_at.result (state_of g c.replicate_alone_at.new.names.entries)) c.self.view_is
     (done.0, done.1, done.2, done.3, inr (differ c.args.source.now c.args.target.now c.if-eq.ensures, done.4))

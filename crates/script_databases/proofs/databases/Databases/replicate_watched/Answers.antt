@@ -8,7 +8,7 @@ use Rattle.script_databases.proofs.databases.Databases.replicate_watched.Goals a
 
 pub invariant_of-self : goal.invariant_of-self
 invariant_of-self t c =
-    let g = beside_of c.self.inside.settings c.self.inside.drawn in
+    let g = beside_of c.self.inside.settings c.self.inside.drawn c.self.inside.backups.items in
     let old = c.self.inside.by_name.entries in
     let new = c.replicate_watched_at.new.names.entries in
     let done = c.replicate_watched_at.ensures.carried g c.self.invariant.1 in (
@@ -18,6 +18,6 @@ invariant_of-self t c =
 
 pub returns : goal.returns
 returns t c =
-    let g = beside_of c.self.inside.settings c.self.inside.drawn in
+    let g = beside_of c.self.inside.settings c.self.inside.drawn c.self.inside.backups.items in
     let done = c.replicate_watched_at.ensures.carried g c.self.invariant.1 in
     subst (λ (st : State). CarriesFrom WatchedIntoAnother st c.args.source.now c.args.target.now c.args.plan.now c.replicate_watched_at.result (state_of g c.replicate_watched_at.new.names.entries)) c.self.view_is done

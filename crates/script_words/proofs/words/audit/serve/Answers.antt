@@ -1,8 +1,9 @@
-use Rattle.std.proofs.Common.{Ok, Err, sym, ap, ◌∙◌}
+use Rattle.std.proofs.Common.{Ok, Err, refl, sym, ap, ◌∙◌}
 use Rattle.script_engine.specs.Serving.{in_full, gave_up}
 use Rattle.script_databases.specs.declared.refusal.Refusal.TheVariants as why
+use Rattle.repl_target.specs.Audit.{audit_answer}
 use Rattle.script_words.specs.words.Audit.{audit_text}
-use Rattle.script_words.proofs.TellingLemmas.{passes, stops, is_found, is_missing, reads, printed}
+use Rattle.script_words.proofs.TellingLemmas.{passes, stops, is_found, is_missing, reads, printed, unless_memory}
 use Rattle.script_words.proofs.words.audit.serve.Goals as goal
 
 pub returns-in_default : goal.returns-in_default
@@ -11,13 +12,19 @@ returns-in_default c = in_full (reads (Err why.NoDatabase) (stops _ (is_missing 
 pub returns-in_default-find : goal.returns-in_default-find
 returns-in_default-find c = in_full (reads (Err why.NoDatabase) (passes _ (is_found why.NoDatabase (sym c.in-Some.ensures)) ∙ stops _ (is_missing why.NoDatabase (sym c.in_default-find.ensures))))
 
+pub returns-in-Err : goal.returns-in-Err
+returns-in-Err c = unless_memory _ c.in-Err.ensures refl (λ e. reads (Err c.in-Err.refusal) (passes _ (is_found why.NoDatabase (sym c.in-Some.ensures)) ∙ passes _ (is_found why.NoDatabase (sym c.in-Some-find.ensures)) ∙ stops _ e))
+
 pub returns-in_default-audit : goal.returns-in_default-audit
 returns-in_default-audit c = gave_up
 
 pub returns-in-Ok-print : goal.returns-in-Ok-print
 returns-in-Ok-print c =
-    let text = printed c.in-Ok-print.ensures c.requires (ap audit_text c.in-Ok.ensures.answer) in
-    in_full (reads (Ok c.print.new.answer.items) (passes _ (is_found why.NoDatabase (sym c.in-Some.ensures)) ∙ passes _ (is_found why.NoDatabase (sym c.in-Some-find.ensures)) ∙ ap Ok (sym text)))
+    let s = c.in-Some.source.now.1 in
+    let t = c.in-Some-find.target.now.1 in
+    let answer = c.in-Ok-audit.ensures.answer ∙ ap (audit_answer s t) c.as_ref.ensures.value in
+    let text = printed c.in-Ok-print.ensures c.requires (ap audit_text answer) in
+    in_full (reads (Ok c.print.new.answer.items) (passes _ (is_found why.NoDatabase (sym c.in-Some.ensures)) ∙ passes _ (is_found why.NoDatabase (sym c.in-Some-find.ensures)) ∙ passes _ c.in-Ok.ensures ∙ ap Ok (sym text)))
 
-pub returns-in-Err : goal.returns-in-Err
-returns-in-Err c = gave_up
+pub returns : goal.returns
+returns c = gave_up

@@ -1,14 +1,19 @@
 use Rattle.std.proofs.Common.{◌≡◌, ◌⊎◌, inl, inr, ℕ, List, Result, Ok, Err, refl, sym, ap, ◌∙◌}
+use Rattle.doc_json.specs.Chosen.{Choice}
 use Rattle.repl_log.specs.Answers.{GivesUnlessMemory}
 use Rattle.repl_log.specs.Text.{log_text}
 use Rattle.repl_log.specs.declared.fault.LogFault.{LogFault}
 use Rattle.repl_log.specs.declared.fault.LogFault.TheVariants as faults
 use Rattle.repl_log.specs.declared.replication.RepId.{RepId}
+use Rattle.repl_log.specs.Entry.{EntryValue}
+use Rattle.repl_target.specs.Peer.{PeerValue}
 use Rattle.repl_target.specs.Audit.{rep_between}
 use Rattle.script_engine.specs.Serving.{in_full, gave_up}
 use Rattle.script_databases.specs.Refusals.{told_as, log_refusal}
 use Rattle.script_databases.specs.declared.refusal.Refusal.TheVariants as why
 use Rattle.script_words.specs.Texts.{ended}
+use Rattle.script_words.specs.words.Log.{log_held}
+use Rattle.script_words.specs.declared.words.log.Side.{Side}
 use Rattle.script_words.proofs.TellingLemmas.{passes, stops, is_found, is_missing, reads, printed, unless_memory}
 use Rattle.script_words.proofs.words.log.serve.Goals as goal
 
@@ -17,6 +22,18 @@ returns-in_default c = in_full (reads (Err why.NoDatabase) (stops _ (is_missing 
 
 pub returns-in_default-find : goal.returns-in_default-find
 returns-in_default-find c = in_full (reads (Err why.NoDatabase) (passes _ (is_found why.NoDatabase (sym c.in-Some.ensures)) ∙ stops _ (is_missing why.NoDatabase (sym c.in_default-find.ensures))))
+
+pub returns-in-Err : goal.returns-in-Err
+returns-in-Err c = unless_memory _ c.in-Err.ensures refl (λ e. reads (Err c.in-Err.refusal) (passes _ (is_found why.NoDatabase (sym c.in-Some.ensures)) ∙ passes _ (is_found why.NoDatabase (sym c.in-Some-find.ensures)) ∙ stops _ e))
+
+pub returns-in_default-rep_between : goal.returns-in_default-rep_between
+returns-in_default-rep_between c = gave_up
+
+pub log_held-requires : goal.log_held-requires
+log_held-requires c =
+    let s = c.in-Some.source.now.1 in
+    let t = c.in-Some-find.target.now.1 in
+    c.in-Ok-rep_between.ensures.id ∙ ap (λ (r : RepId). rep_between s t r.chosen) (sym c.in-Ok-rep_between.ensures.id)
 
 pub returns-in_default-log_held : goal.returns-in_default-log_held
 returns-in_default-log_held c = gave_up
@@ -28,23 +45,31 @@ log_refused (faults.Older stored) expected h = inl (ap (told_as log_refusal) (sy
 log_refused faults.EmptyLog expected h = inl (ap (told_as log_refusal) (sym h))
 log_refused faults.Memory expected h = inr refl
 
-pub returns-in-Err : goal.returns-in-Err
-returns-in-Err c =
+-- the text of the log that is held, of the replication of the choice
+same_text : (side : Side) (s t : PeerValue) (rep : RepId) (chosen : Choice) (log : List EntryValue) → rep ≡ rep_between s t chosen → log ≡ log_held side s t rep.chosen → log_text rep log ≡ log_text (rep_between s t chosen) (log_held side s t chosen)
+same_text side s t rep chosen log is held = ap (log_text rep) (held ∙ ap (λ (r : RepId). log_held side s t r.chosen) is) ∙ ap (λ (r : RepId). log_text r (log_held side s t chosen)) is
+
+pub returns-in-Err-write_log : goal.returns-in-Err-write_log
+returns-in-Err-write_log c =
     let s = c.in-Some.source.now.1 in
     let t = c.in-Some-find.target.now.1 in
-    let same = ap (λ (r : RepId). log_text r c.in-Ok.log) c.rep_between-rep.ensures.id ∙ ap (log_text (rep_between s t)) c.in-Ok.ensures in
+    let id = c.in-Ok-rep_between.ensures.id ∙ ap (rep_between s t) c.as_ref.ensures.value in
+    let same = same_text c.args.ask.now.side s t c.in-Ok-rep_between.rep c.in-Ok.chosen c.in-Ok-log_held.log id c.in-Ok-log_held.ensures in
     rw c.of_log.ensures
-    (unless_memory (told_as log_refusal (log_text c.rep_between-rep.result c.in-Ok.log)) (log_refused c.in-Err.fault (log_text c.rep_between-rep.result c.in-Ok.log) c.in-Err.ensures.answer) refl
-    (λ e. reads (Err (log_refusal c.in-Err.fault)) (passes _ (is_found why.NoDatabase (sym c.in-Some.ensures)) ∙ passes _ (is_found why.NoDatabase (sym c.in-Some-find.ensures)) ∙ stops _ (ap (told_as log_refusal) (sym same) ∙ e))))
+    (unless_memory (told_as log_refusal (log_text c.in-Ok-rep_between.rep c.in-Ok-log_held.log)) (log_refused c.in-Err-write_log.fault (log_text c.in-Ok-rep_between.rep c.in-Ok-log_held.log) c.in-Err-write_log.ensures.answer) refl
+    (λ e. reads (Err (log_refusal c.in-Err-write_log.fault))
+    (passes _ (is_found why.NoDatabase (sym c.in-Some.ensures)) ∙ passes _ (is_found why.NoDatabase (sym c.in-Some-find.ensures)) ∙ passes _ c.in-Ok.ensures ∙ stops _ (ap (told_as log_refusal) (sym same) ∙ e))))
 
 pub returns-in-Ok-print : goal.returns-in-Ok-print
 returns-in-Ok-print c =
     let s = c.in-Some.source.now.1 in
     let t = c.in-Some-find.target.now.1 in
-    let same = ap (λ (r : RepId). log_text r c.in-Ok.log) c.rep_between-rep.ensures.id ∙ ap (log_text (rep_between s t)) c.in-Ok.ensures in
+    let id = c.in-Ok-rep_between.ensures.id ∙ ap (rep_between s t) c.as_ref.ensures.value in
+    let same = same_text c.args.ask.now.side s t c.in-Ok-rep_between.rep c.in-Ok.chosen c.in-Ok-log_held.log id c.in-Ok-log_held.ensures in
     let text = printed c.in-Ok-print.ensures c.requires (ap ended c.as_slice.ensures.value) in
     in_full (reads (Ok c.print.new.answer.items)
-    (passes _ (is_found why.NoDatabase (sym c.in-Some.ensures)) ∙ passes _ (is_found why.NoDatabase (sym c.in-Some-find.ensures)) ∙ passes _ (ap (told_as log_refusal) (sym same ∙ sym c.in-Ok-write_log.ensures.answer)) ∙ ap Ok (sym text)))
+    (passes _ (is_found why.NoDatabase (sym c.in-Some.ensures)) ∙ passes _ (is_found why.NoDatabase (sym c.in-Some-find.ensures)) ∙ passes _ c.in-Ok.ensures
+    ∙ passes _ (ap (told_as log_refusal) (sym same ∙ sym c.in-Ok-write_log.ensures.answer)) ∙ ap Ok (sym text)))
 
 pub returns : goal.returns
 returns c = gave_up

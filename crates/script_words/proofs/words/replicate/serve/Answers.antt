@@ -1,10 +1,10 @@
-use Rattle.std.proofs.Common.{Ok, Err, refl, sym, ap, subst, inl, ◌∙◌}
+use Rattle.std.proofs.Common.{Ok, Err, refl, sym, ap, subst, ◌∙◌}
 use Rattle.script_engine.specs.Serving.{MayTell, in_full, served_only}
 use Rattle.script_databases.specs.Refusals.{name_of}
 use Rattle.script_databases.specs.declared.refusal.Refusal.TheVariants as why
 use Rattle.script_words.specs.Telling.{told_of}
 use Rattle.script_words.specs.words.Replicate.{Replicates, replicate_asked, ending_line}
-use Rattle.script_words.proofs.ReplicateLemmas.{replicates, replicated, are_both}
+use Rattle.script_words.proofs.ReplicateLemmas.{replicates, replicated, unchosen, too_late}
 use Rattle.script_words.proofs.TellingLemmas.{passes, stops, is_found, is_missing, is_there, is_absent, printed}
 use Rattle.script_words.proofs.words.replicate.serve.Goals as goal
 
@@ -22,28 +22,38 @@ returns-then-not-has-2 g c =
 pub returns-in-Err : goal.returns-in-Err
 returns-in-Err g c =
     let old = c.args.databases.now in
+    let s = is_there old c.args.ask.now.source.now (sym c.has.ensures ∙ c.if-not-has.false) in
+    let t = is_there old c.args.ask.now.target.now (sym c.has-2.ensures ∙ c.if-not-has-2.false) in
+    in_full (unchosen old c.session_asked-session.new.databases (replicate_asked c.args.ask.now) s.0 t.0 c.in-Err.refusal s.1 t.1 c.in-Err.ensures c.session_asked-session.ensures.state)
+
+pub returns-in-Err-plan_asked : goal.returns-in-Err-plan_asked
+returns-in-Err-plan_asked g c =
+    let old = c.args.databases.now in
     let ask = replicate_asked c.args.ask.now in
     let s = is_there old c.args.ask.now.source.now (sym c.has.ensures ∙ c.if-not-has.false) in
     let t = is_there old c.args.ask.now.target.now (sym c.has-2.ensures ∙ c.if-not-has-2.false) in
-    let new = c.plan_asked.new.databases in
-    subst (λ r. MayTell Replicates old ask (Err (name_of r)) new) (sym c.in-Err.ensures.err.0)
-    (in_full (replicates old new ask _ (Ok (s.0, t.0)) (are_both old ask s.0 t.0 s.1 t.1) (inl (c.in-Err.ensures.err.1, (refl, c.in-Err.ensures.state)))))
+    let new = c.session_asked-session.new.databases in
+    subst (λ r. MayTell Replicates old ask (Err (name_of r)) new) (sym c.in-Err-plan_asked.ensures.err.0)
+    (in_full (too_late old new ask s.0 t.0 c.in-Ok.chosen new.program s.1 t.1 c.in-Ok.ensures c.session_asked-session.ensures.state refl c.in-Err-plan_asked.ensures.err.1))
 
 pub returns-in-Err-carry : goal.returns-in-Err-carry
 returns-in-Err-carry g c =
     let ask = replicate_asked c.args.ask.now in
-    in_full (replicated c.args.databases.now c.plan_asked.new.databases _ ask c.in-Ok.plan c.carry.result _ c.in-Ok.ensures.state c.in-Ok.ensures.ok.0 c.in-Ok.ensures.ok.1 c.carry.ensures
+    let p = c.in-Ok-plan_asked in
+    in_full (replicated c.args.databases.now c.session_asked-session.new.databases _ ask c.session_asked-session.result c.in-Ok.chosen p.plan c.carry.result _ c.session_asked-session.ensures.state c.session_asked-session.ensures.session c.in-Ok.ensures p.ensures.ok.0 p.ensures.ok.1 c.carry.ensures
     (sym (ap told_of (stops _ c.in-Err-carry.is))))
 
 pub returns-in-Ok-print : goal.returns-in-Ok-print
 returns-in-Ok-print g c =
     let ask = replicate_asked c.args.ask.now in
-    in_full (replicated c.args.databases.now c.plan_asked.new.databases _ ask c.in-Ok.plan c.carry.result _ c.in-Ok.ensures.state c.in-Ok.ensures.ok.0 c.in-Ok.ensures.ok.1 c.carry.ensures
+    let p = c.in-Ok-plan_asked in
+    in_full (replicated c.args.databases.now c.session_asked-session.new.databases _ ask c.session_asked-session.result c.in-Ok.chosen p.plan c.carry.result _ c.session_asked-session.ensures.state c.session_asked-session.ensures.session c.in-Ok.ensures p.ensures.ok.0 p.ensures.ok.1 c.carry.ensures
     (ap Ok (printed c.in-Ok-print.ensures c.requires refl) ∙ sym (ap told_of (passes _ c.in-Ok-carry.is))))
 
-pub returns-in-Err-print : goal.returns-in-Err-print
-returns-in-Err-print g c =
+pub returns : goal.returns
+returns g c =
     let ask = replicate_asked c.args.ask.now in
-    served_only (ending_line c.in-Ok.plan.session c.in-Ok-carry.ending)
-    (replicated c.args.databases.now c.plan_asked.new.databases _ ask c.in-Ok.plan c.carry.result _ c.in-Ok.ensures.state c.in-Ok.ensures.ok.0 c.in-Ok.ensures.ok.1 c.carry.ensures
+    let p = c.in-Ok-plan_asked in
+    served_only (ending_line p.plan.session c.in-Ok-carry.ending)
+    (replicated c.args.databases.now c.session_asked-session.new.databases _ ask c.session_asked-session.result c.in-Ok.chosen p.plan c.carry.result _ c.session_asked-session.ensures.state c.session_asked-session.ensures.session c.in-Ok.ensures p.ensures.ok.0 p.ensures.ok.1 c.carry.ensures
     (sym (ap told_of (passes _ c.in-Ok-carry.is))))

@@ -1,0 +1,43 @@
+-- What marks tell of ids.
+use Rattle.std.proofs.Common.{◌≡◌, ◌≢◌, ℕ, ◌<◌, ◌==◌, Bool, true, false, ◌||◌, List, [], ◌∷◌, ◌++◌, length, get_or, set, refl, sym, ap, ◌∙◌, subst}
+use Rattle.std.proofs.lemmas.Bool.{false≢true, eqb-true, eqb-false}
+use Rattle.std.proofs.lemmas.List.{get_or-set_same, get_or-set_other, length-set}
+use Rattle.std.specs.List.{list_any, AllByRecursion}
+use Rattle.std.specs.Str.{bytes_eq}
+use Rattle.std.specs.Cmp.Lexicographic.{bytes_decides}
+use Rattle.doc_json.specs.Marks.{AreMarks, is_marked, place_of}
+use Rattle.doc_json.proofs.ChosenBytes.{each_more}
+
+-- a mark stays where another is made
+stays : (marks : List Bool) (n : ℕ) (id : List ℕ) → n < length marks → is_marked marks id ≡ true → is_marked (set marks n true) id ≡ true
+stays marks n id within h = go (n == place_of id) refl
+  where
+    go : (b : Bool) → (n == place_of id) ≡ b → is_marked (set marks n true) id ≡ true
+    go true e = subst (λ k. get_or (set marks n true) k false ≡ true) (eqb-true _ _ e) (get_or-set_same marks n true false within)
+    go false e = get_or-set_other marks n (place_of id) true false (λ same. eqb-false _ _ e (sym same)) ∙ h
+
+all_stay : (marks : List Bool) (n : ℕ) (ids : List (List ℕ)) → n < length marks → AllByRecursion (λ id. is_marked marks id ≡ true) ids → AllByRecursion (λ id. is_marked (set marks n true) id ≡ true) ids
+all_stay marks n [] within h = tt
+all_stay marks n (id ∷ ids) within h = (stays marks n id within h.0, all_stay marks n ids within h.1)
+
+-- one id more is marked
+pub marked_more : (marks : List Bool) (ids : List (List ℕ)) (id : List ℕ) (n : ℕ) → n ≡ place_of id → n < 8192 → AreMarks marks ids → AreMarks (set marks n true) (ids ++ id ∷ [])
+marked_more marks ids id n is small m =
+    let within : n < length marks = subst (λ k. n < k) (sym m.places) small in
+    let own : is_marked (set marks n true) id ≡ true = subst (λ k. get_or (set marks n true) k false ≡ true) is (get_or-set_same marks n true false within) in
+    record {
+      places = length-set marks n true ∙ m.places;
+      each = each_more (λ x. is_marked (set marks n true) x ≡ true) ids id (all_stay marks n ids within m.each) own;
+    }
+
+-- an id whose place isn't marked is none of them
+unmarked : (marks : List Bool) (ids : List (List ℕ)) (q : List ℕ) → AllByRecursion (λ id. is_marked marks id ≡ true) ids → is_marked marks q ≡ false → list_any (bytes_eq q) ids ≡ false
+unmarked marks [] q all none = refl
+unmarked marks (id ∷ ids) q all none = go (unmarked marks ids q all.1 none) (bytes_eq q id) refl
+  where
+    go : list_any (bytes_eq q) ids ≡ false → (b : Bool) → bytes_eq q id ≡ b → list_any (bytes_eq q) (id ∷ ids) ≡ false
+    go rest true e = absurd (false≢true (sym none ∙ ap (is_marked marks) ((bytes_decides q id).0 e) ∙ all.0))
+    go rest false e = ap (λ b. b || list_any (bytes_eq q) ids) e ∙ rest
+
+pub not_among : (marks : List Bool) (ids : List (List ℕ)) (q : List ℕ) → AreMarks marks ids → is_marked marks q ≡ false → list_any (bytes_eq q) ids ≡ false
+not_among marks ids q m none = unmarked marks ids q m.each none

@@ -1,0 +1,12 @@
+use Rattle.std.proofs.Common.{◌++◌, ◌∷◌, [], take, sym, ap, ◌∙◌, subst}
+use Rattle.std.proofs.lemmas.List.{take_more}
+use Rattle.doc_json.specs.Marks.{AreMarks}
+use Rattle.doc_json.proofs.Marking.{marked_more}
+use Rattle.doc_json.proofs.marks.mark.Goals as goal
+
+pub loop-id-preserved : goal.loop-id-preserved
+loop-id-preserved c =
+    let ids = c.args.ids.now in
+    let i = c.loop-id.id-index in
+    subst (AreMarks _) (sym (take_more ids i c.id-item.result c.loop-id-test.true ∙ ap (λ x. take i ids ++ x ∷ []) (sym c.id-item.is)))
+    (marked_more c.loop-id.marks.items (take i ids) c.id-item.result c.place_of-place.result c.place_of-place.ensures.place c.place_of-place.ensures.within c.loop-id.invariant)

@@ -1,0 +1,15 @@
+-- The seats that are left are as the board was made with them, and those that were taken came with it and have nothing.
+use Rattle.std.proofs.Common.{◌≡◌, ◌+◌, ◌≤◌, All, vec_len, vec_capacity, vec_items}
+use Rattle.progress_board.specs.Seats.{AreNew, CameWith}
+use Rattle.repl_pool.specs.Boards.{HasNothing}
+use Rattle.repl_pool.proofs.seats.board_with_seats.Given as goal
+
+abbrev pub invariant-loop-i : goal.invariant-loop-i
+invariant-loop-i l = record {
+  new : AreNew l.board (vec_items l.seats);
+  left : vec_len l.seats + l._i ≡ l.workers + l.viewers;
+  taken : vec_len l.apart ≡ l._i;
+  room : l.viewers ≤ vec_capacity l.apart;
+  came : All (CameWith l.board) (vec_items l.apart);
+  nothing : All HasNothing (vec_items l.apart);
+}

@@ -1,0 +1,46 @@
+//! A board for a run and for those who watch it.
+ghost use Rattle.std.specs.Prelude.{◌≡◌, true, IfOk, IfErr, vec_len};
+ghost use Rattle.std.specs.List.{All};
+ghost use Rattle.progress_board.specs.Seats.{CameWith, are_seats, new_fault};
+ghost use Rattle.repl_pool.specs.Boards.{HasNothing, WorksAt};
+
+use progress_board::{Board, BoardFault, BoardSeat};
+use std::alloc::Global;
+
+/// A board on which nothing is read yet, the seats of its workers, which `run_on` takes, and those of its viewers, each
+/// of whom may `read` beside the run.
+#[derive(Drop)]
+pub struct Seats {
+    /// The board.
+    pub board: Board,
+    /// The seats of its workers, in the order of their numbers.
+    pub workers: Vec<BoardSeat>,
+    /// The seats of its viewers.
+    pub viewers: Vec<BoardSeat>,
+}
+
+/// A board for so many workers and viewers, with the seats of the ones and the others apart.
+///
+/// `BadSeats` where the workers or the viewers are not 1 to 64, else `Memory`.
+pub fn board_with_seats(alloc: Global, workers: usize, viewers: usize) -> Result<Seats, BoardFault>
+    ensures ok { IfOk result (λ s. (are_seats workers viewers ≡ true) × (s.board.workers ≡ workers)
+        × (vec_len s.workers ≡ workers) × All (WorksAt s.board) s.workers.items × All HasNothing s.workers.items
+        × (vec_len s.viewers ≡ viewers) × All (CameWith s.board) s.viewers.items × All HasNothing s.viewers.items) }
+    ensures err { IfErr result (λ e. e ≡ new_fault workers viewers) }
+{
+    let (board, mut seats) = Board::new(alloc, workers, viewers)?;
+    let Ok(mut apart) = Vec::with_capacity(alloc, viewers) else {
+        return Err(BoardFault::Memory);
+    };
+    for _i in 0..viewers {
+        let Some(seat) = seats.pop() else {
+            unreachable!()
+        };
+        apart.push_reserved(seat);
+    }
+    Ok(Seats {
+        board,
+        workers: seats,
+        viewers: apart,
+    })
+}

@@ -1,0 +1,98 @@
+-- Copies under names.
+use Rattle.std.proofs.Common.{◌≡◌, ◌⊎◌, inl, inr, ℕ, zero, suc, ◌+◌, ◌<◌, Bool, true, false, cond, List, [], ◌∷◌, ◌++◌, take, get_or, length, slice_get, Option, Some, None, is_some, Result, Ok, Err, OnOk, OnErr, Bor, nat_lt, ◌==◌, refl, sym, ap, ◌∙◌, subst}
+use Rattle.std.specs.List.{find}
+use Rattle.std.specs.FinMap as finmap
+use Rattle.std.proofs.lemmas.Bool.{cond_both, eqb-true}
+use Rattle.std.proofs.lemmas.List.{take_more}
+use Rattle.std.proofs.lemmas.Option.{slice_get-get_or}
+use Rattle.couch_base.specs.ListLaws.{some_is, none_some}
+use Rattle.repl_target.specs.Peer.{PeerValue}
+use Rattle.repl_target.specs.Sessions.{GivesUnlessMemory}
+use Rattle.couch_base.specs.Database.{most}
+use Rattle.repl_target.specs.Backups.{BackupValue, is_target, greater_life, restore_answer, restored_by, after_restore}
+use Rattle.repl_target.specs.declared.fault.TargetFault.{TargetFault}
+use Rattle.repl_target.specs.declared.fault.TargetFault.TheVariants as faults
+use Rattle.script_databases.specs.Databases.{State, peer_at, put_back_by, backed_of, backed_told}
+use Rattle.script_databases.specs.Stored.{IsIndex}
+use Rattle.script_databases.proofs.IndexLemmas.{index_kept}
+use Rattle.script_databases.specs.declared.refusal.Refusal.{Refusal}
+use Rattle.script_databases.specs.declared.refusal.Refusal.TheVariants as why
+use Rattle.std.specs.Option.{option_copied}
+
+-- ---- looking for one
+
+find_end : {X : Type 0} (p : X → Bool) (xs : List X) (x : X) → find p xs ≡ None → p x ≡ false → find p (xs ++ x ∷ []) ≡ None
+find_end p [] x none other = ap (λ b. cond b (Some x) None) other
+find_end p (y ∷ xs) x none other =
+    cond_both (p y) (Some y) (find p xs) (λ o. o ≡ None → cond (p y) (Some y) (find p (xs ++ x ∷ [])) ≡ None)
+    (λ _ e. absurd (none_some y (sym e)))
+    (λ apart e. ap (λ b. cond b (Some y) (find p (xs ++ x ∷ []))) apart ∙ find_end p xs x e other)
+    none
+
+-- not among one more
+pub find_more : {X : Type 0} (p : X → Bool) (xs : List X) (i : ℕ) (x : X) → i < length xs → x ≡ get_or xs i x → find p (take i xs) ≡ None → p x ≡ false → find p (take (i + 1) xs) ≡ None
+find_more p xs i x lt is none other =
+    ap (find p) (take_more xs i x lt ∙ ap (λ y. take i xs ++ y ∷ []) (sym is)) ∙ find_end p (take i xs) x none other
+
+find_at : {X : Type 0} (p : X → Bool) (xs : List X) (i : ℕ) (x : X) → slice_get xs i ≡ Some x → find p (take i xs) ≡ None → p x ≡ true → find p xs ≡ Some x
+find_at p [] i x at none passes = absurd (none_some x at)
+find_at p (y ∷ xs) zero x at none passes =
+    let same : y ≡ x = some_is y x at in
+    ap (λ b. cond b (Some y) (find p xs)) (ap p same ∙ passes) ∙ ap Some same
+find_at p (y ∷ xs) (suc i) x at none passes =
+    cond_both (p y) (Some y) (find p (take i xs)) (λ o. o ≡ None → cond (p y) (Some y) (find p xs) ≡ Some x)
+    (λ _ e. absurd (none_some y (sym e)))
+    (λ apart e. ap (λ b. cond b (Some y) (find p xs)) apart ∙ find_at p xs i x at e passes)
+    none
+
+-- the first at a place
+pub find_here : {X : Type 0} (p : X → Bool) (xs : List X) (i : ℕ) (x : X) → i < length xs → x ≡ get_or xs i x → find p (take i xs) ≡ None → p x ≡ true → find p xs ≡ Some x
+find_here p xs i x lt is none passes = find_at p xs i x (slice_get-get_or xs i x lt ∙ ap Some (sym is)) none passes
+
+-- ---- putting one back
+
+-- what the two calls refuse
+pub copy_refused : {A : Type 0} (fault : TargetFault) (expected : Result A TargetFault) → GivesUnlessMemory (Err fault) expected → (expected ≡ Err fault) ⊎ (fault ≡ faults.Memory)
+copy_refused faults.Memory expected h = inr refl
+copy_refused fault expected h = inl (sym h)
+
+-- a copy more changes no peer
+pub index_beside : (s t : State) (uuids : List ℕ) → t.peers ≡ s.peers → IsIndex s uuids → IsIndex t uuids
+index_beside s t uuids same h =
+    let at : (name : List ℕ) → peer_at t name ≡ peer_at s name = λ name. ap (λ m. finmap.get m name) same in
+    record {
+      noted = λ u e. (let k = h.noted u e in (k.0, k.1, at k.0 ∙ k.2, k.3));
+      taken = λ u k. h.taken u (k.0, k.1, sym (at k.0) ∙ k.2, k.3);
+    }
+
+-- what is put back has the same UUID
+pub restore_keeps : (b : BackupValue) (p : PeerValue) → (after_restore p b).db.uuid ≡ p.db.uuid
+restore_keeps b p = go (restore_answer p b) refl
+  where
+    go : (r : Result (Unit {0}) TargetFault) → restore_answer p b ≡ r → (restored_by p b r).db.uuid ≡ p.db.uuid
+    go (Err fault) k = refl
+    go (Ok done) k =
+        cond_both (is_target p.sessions) (Err faults.IsTarget) (cond (b.db.uuid == p.db.uuid) (cond (nat_lt (greater_life p b) most) (Ok tt) (Err faults.LifeFull)) (Err faults.ForeignBackup)) (λ (x : Result (Unit {0}) TargetFault). x ≡ Ok done → b.db.uuid ≡ p.db.uuid)
+        (λ _ j. cc)
+        (λ _ j. cond_both (b.db.uuid == p.db.uuid) (cond (nat_lt (greater_life p b) most) (Ok tt) (Err faults.LifeFull)) (Err faults.ForeignBackup) (λ (x : Result (Unit {0}) TargetFault). x ≡ Ok done → b.db.uuid ≡ p.db.uuid) (λ e _. eqb-true _ _ e) (λ _ i. cc) j)
+        k
+
+pub index_put_back : {A : Type 0} (r : Result A Refusal) (old new : State) (name : List ℕ) (o : Option BackupValue) (uuids : List ℕ) → IsIndex old uuids → OnOk r (new ≡ put_back_by old name o) → OnErr r (new ≡ old) → IsIndex new uuids
+index_put_back (Ok x) old new name None uuids h ok err = subst (λ s. IsIndex s uuids) (sym ok) h
+index_put_back (Ok x) old new name (Some b) uuids h ok err = index_kept {A = Unit {0}} (Ok tt) old new name (λ p. after_restore p b) uuids (restore_keeps b) h ok tt
+index_put_back (Err w) old new name o uuids h ok err = subst (λ s. IsIndex s uuids) (sym err) h
+
+-- ---- making one
+
+pub some_copied : {A : Type 0} (o : Option (Bor A)) → is_some o ≡ is_some (option_copied o)
+some_copied None = refl
+some_copied (Some x) = refl
+
+pub none_from : {A : Type 0} (o : Option A) → is_some o ≡ false → o ≡ None
+none_from None h = refl
+none_from (Some x) h = cc
+
+-- a name that is taken
+pub taken_refused : (p : PeerValue) (o : Option BackupValue) → is_some o ≡ true → backed_told (backed_of (Some p) o) ≡ Err why.BackupExists
+taken_refused p None h = cc
+taken_refused p (Some b) h = refl

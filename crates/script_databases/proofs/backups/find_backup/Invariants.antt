@@ -1,0 +1,8 @@
+use Rattle.std.proofs.Common.{◌≡◌, None, take}
+use Rattle.std.specs.List.{find}
+use Rattle.script_databases.specs.Databases.{is_named}
+use Rattle.script_databases.proofs.backups.find_backup.Given as goal
+
+-- none of the copies so far is it
+abbrev pub invariant-loop-copy : goal.invariant-loop-copy
+invariant-loop-copy l = find (is_named l.db l.name) (take l.copy-index l.backups) ≡ None

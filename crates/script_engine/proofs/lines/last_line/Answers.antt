@@ -1,0 +1,24 @@
+use Rattle.std.proofs.Common.{arith, ◌≡◌, ◌≢◌, [], ◌∷◌, ap, ◌∙◌, sym, refl, append-nil, length, List, ℕ}
+use Rattle.script_engine.specs.Lines.{lines_of}
+use Rattle.script_engine.proofs.DeviceLemmas.{Appends-none}
+use Rattle.script_engine.proofs.ServedLemmas.{Served-none, lines_of-ended}
+use Rattle.script_engine.proofs.lines.last_line.Goals as goal
+
+empty_list : (xs : List ℕ) → length xs ≡ 0 → xs ≡ []
+empty_list [] h = refl
+empty_list (x ∷ xs) h = absurd (omega arith)
+
+pub returns-then-begun-eq0-clause-ok : goal.returns-then-begun-eq0-clause-ok
+returns-then-begun-eq0-clause-ok g c =
+    let none = empty_list c.args.script.now.begun.items (sym c.args.script.now.begun.ok.0 ∙ sym c.len-begun.ensures ∙ c.if-begun-eq0.true) in
+    ([], ap lines_of (append-nil c.args.script.now.begun.items), none, ([], Served-none _, Appends-none _))
+
+pub returns-in-Err-clause-err : goal.returns-in-Err-clause-err
+returns-in-Err-clause-err g c =
+    let some : c.args.script.now.begun.items ≢ [] = λ e. c.if-begun-eq0.false (c.len-begun.ensures ∙ c.args.script.now.begun.ok.0 ∙ ap length e) in
+    (10 ∷ [], lines_of-ended c.args.script.now.begun.items c.requires.open some, c.in-Err.ensures.err)
+
+pub returns-in-Ok-clause-ok : goal.returns-in-Ok-clause-ok
+returns-in-Ok-clause-ok g c =
+    let some : c.args.script.now.begun.items ≢ [] = λ e. c.if-begun-eq0.false (c.len-begun.ensures ∙ c.args.script.now.begun.ok.0 ∙ ap length e) in
+    (10 ∷ [], lines_of-ended c.args.script.now.begun.items c.requires.open some, c.in-Ok.ensures.begun, c.in-Ok.ensures.ok)

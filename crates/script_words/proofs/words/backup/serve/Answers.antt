@@ -1,0 +1,36 @@
+use Rattle.std.proofs.Common.{◌≡◌, ℕ, List, Result, Ok, Err, refl, sym, ap, ◌∙◌}
+use Rattle.repl_target.specs.Backups.{BackupValue}
+use Rattle.script_engine.specs.Serving.{in_full, served_only}
+use Rattle.script_databases.specs.Databases.{State, backed_answer, backed_told, backed_by}
+use Rattle.script_databases.specs.declared.refusal.Refusal.{Refusal}
+use Rattle.script_words.specs.words.Backup.{BackupAsk, backup_asked, backup_done, backed_line}
+use Rattle.script_words.proofs.TellingLemmas.{passes, stops, does, does_nothing, both, printed, unless_memory}
+use Rattle.script_words.proofs.words.backup.serve.Goals as goal
+
+-- a copy that was kept
+kept : (old new : State) (ask : BackupAsk) (text : List ℕ) (seq : ℕ) (copy : Result BackupValue Refusal) → backed_answer old ask.db ask.name ≡ copy → backed_told copy ≡ Ok seq → new ≡ backed_by old ask.db ask.name copy → text ≡ backed_line ask.db ask.name seq → backup_done old ask ≡ Ok (text, new)
+kept old new ask text seq (Ok copy) is told left line =
+    let same : copy.db.update_seq ≡ seq = cc told in
+    passes _ is ∙ both (line ∙ ap (backed_line ask.db ask.name) (sym same)) left
+kept old new ask text seq (Err refusal) is told left line = cc told
+
+-- a copy that was refused
+refused : (old : State) (ask : BackupAsk) (refusal : Refusal) (copy : Result BackupValue Refusal) → backed_answer old ask.db ask.name ≡ copy → backed_told copy ≡ Err refusal → backup_done old ask ≡ Err refusal
+refused old ask refusal (Ok copy) is told = cc told
+refused old ask refusal (Err why) is told = stops _ is ∙ cc told
+
+pub returns-in-Err : goal.returns-in-Err
+returns-in-Err c =
+    unless_memory _ c.in-Err.ensures.answer c.in-Err.ensures.err
+    (λ e. does_nothing c.in-Err.refusal (refused c.args.databases.now (backup_asked c.args.ask.now) c.in-Err.refusal _ refl e) c.in-Err.ensures.err)
+
+pub returns-in-Ok-print : goal.returns-in-Ok-print
+returns-in-Ok-print c =
+    in_full (does c.args.databases.now c.print.new.answer.items
+    (kept c.args.databases.now _ (backup_asked c.args.ask.now) _ c.in-Ok.seq _ refl c.in-Ok.ensures.answer c.in-Ok.ensures.ok (printed c.in-Ok-print.ensures c.requires refl)))
+
+pub returns-in-Err-print : goal.returns-in-Err-print
+returns-in-Err-print c =
+    let line = backed_line c.args.ask.now.db.now c.args.ask.now.name.now c.in-Ok.seq in
+    served_only line (does c.args.databases.now line
+    (kept c.args.databases.now _ (backup_asked c.args.ask.now) line c.in-Ok.seq _ refl c.in-Ok.ensures.answer c.in-Ok.ensures.ok refl))
