@@ -1,0 +1,50 @@
+-- Bytes read one after another.
+use Rattle.std.proofs.Common.{◌≡◌, ℕ, ◌+◌, ◌<◌, List, [], ◌∷◌, ◌++◌, take, get_or, length, Bool, false, ◌||◌, refl, sym, ap, ◌∙◌, append_assoc, append-nil}
+use Rattle.std.proofs.lemmas.List.{take_more}
+use Rattle.couch_answers.specs.State.{State}
+use Rattle.couch_answers.specs.Steps.{step, is_refused}
+use Rattle.couch_answers.specs.Reading.{after, given, pieces, piece_of, is_piece, stops}
+use Rattle.couch_answers.specs.declared.place.Found.{Found}
+use Rattle.couch_answers.specs.declared.place.Found.TheVariants.{Nothing, Document, Id, Rev}
+
+pub after-append : (s : State) (xs ys : List ℕ) → after s (xs ++ ys) ≡ after (after s xs) ys
+after-append s [] ys = refl
+after-append s (x ∷ xs) ys = after-append (step s x) xs ys
+
+pub pieces-append : (s : State) (xs ys : List ℕ) → pieces s (xs ++ ys) ≡ pieces s xs ++ pieces (after s xs) ys
+pieces-append s [] ys = refl
+pieces-append s (x ∷ xs) ys =
+    ap (λ l. given (step s x) ++ l) (pieces-append (step s x) xs ys)
+    ∙ sym (append_assoc (given (step s x)) (pieces (step s x) xs) (pieces (after (step s x) xs) ys))
+
+-- one byte more
+pub after_more : (s : State) (bytes : List ℕ) (i : ℕ) → i < length bytes
+    → after s (take (i + 1) bytes) ≡ step (after s (take i bytes)) (get_or bytes i 0)
+after_more s bytes i h = ap (after s) (take_more bytes i 0 h) ∙ after-append s (take i bytes) (get_or bytes i 0 ∷ [])
+
+pub pieces_more : (s : State) (bytes : List ℕ) (i : ℕ) → i < length bytes
+    → pieces s (take (i + 1) bytes) ≡ pieces s (take i bytes) ++ given (step (after s (take i bytes)) (get_or bytes i 0))
+pieces_more s bytes i h =
+    ap (pieces s) (take_more bytes i 0 h) ∙ pieces-append s (take i bytes) (get_or bytes i 0 ∷ [])
+    ∙ ap (λ l. pieces s (take i bytes) ++ l) (append-nil (given (step (after s (take i bytes)) (get_or bytes i 0))))
+
+-- the same, from a reading that has come so far
+module _ (s m n : State) (bytes : List ℕ) (i : ℕ) where
+  pub after_taken : i < length bytes → m ≡ after s (take i bytes) → n ≡ step m (get_or bytes i 0) → n ≡ after s (take (i + 1) bytes)
+  after_taken h come one = one ∙ ap (λ z. step z (get_or bytes i 0)) come ∙ sym (after_more s bytes i h)
+
+  pub pieces_taken : i < length bytes → m ≡ after s (take i bytes) → n ≡ step m (get_or bytes i 0) → pieces s (take i bytes) ≡ []
+      → pieces s (take (i + 1) bytes) ≡ given n
+  pieces_taken h come one none =
+      pieces_more s bytes i h ∙ ap (λ l. l ++ given (step (after s (take i bytes)) (get_or bytes i 0))) none
+      ∙ ap given (sym (one ∙ ap (λ z. step z (get_or bytes i 0)) come))
+
+none_of : (f : Found) (text : List ℕ) (b : Bool) → (is_piece f || b) ≡ false → piece_of f text ≡ []
+none_of Nothing text b h = refl
+none_of Document text b h = absurd (cc)
+none_of Id text b h = absurd (cc)
+none_of Rev text b h = absurd (cc)
+
+-- a reading that goes on has nothing whole
+pub given_none : (s : State) → stops s ≡ false → given s ≡ []
+given_none s h = none_of s.found s.text (is_refused s.place) h

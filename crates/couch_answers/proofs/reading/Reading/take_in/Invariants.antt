@@ -1,0 +1,12 @@
+-- The bytes so far were taken, and nothing was made whole by them.
+use Rattle.std.proofs.Common.{◌≡◌, ◌⊎◌, [], take}
+use Rattle.couch_answers.specs.Stored.{state_of}
+use Rattle.couch_answers.specs.Reading.{after, given, pieces}
+use Rattle.couch_answers.proofs.reading.Reading.take_in.Given as goal
+
+abbrev pub invariant-loop-i : goal.invariant-loop-i
+invariant-loop-i l = record {
+  state : state_of l.self ≡ after (state_of l.fn.self) (take l.i l.bytes);
+  pieces : pieces (state_of l.fn.self) (take l.i l.bytes) ≡ [];
+  going : (l.i ≡ 0) ⊎ (given (state_of l.self) ≡ []);
+}

@@ -1,0 +1,11 @@
+pub mod State
+pub mod Names
+pub mod Changes
+pub mod Steps
+pub mod Reading
+pub mod Grammar
+pub mod LineGrammar
+pub mod ChangeGrammar
+pub mod Words
+pub mod Runs
+pub mod Stored

@@ -1,0 +1,248 @@
+//! Answers read from a reader, and what they hold written to a writer.
+ghost use Rattle.std.specs.Prelude.{◌≡◌, ◌<◌, ◌≤◌, ℕ, List, length, Some, IfOk, OnOk, IfErr};
+ghost use Rattle.std.specs.Io.KnownBytes.{Appends, IsAtEnd};
+ghost use Rattle.script_engine.specs.Faults.{IsOfWriter};
+ghost use Rattle.couch_answers.specs.Stored.{state_of, words_of_wording};
+ghost use Rattle.couch_answers.specs.State.{start};
+ghost use Rattle.couch_answers.specs.Reading.{Piece, given, last_end, pieces};
+ghost use Rattle.couch_answers.specs.Grammar.{IsAnswered};
+ghost use Rattle.couch_answers.specs.LineGrammar.{IsScript};
+ghost use Rattle.couch_answers.specs.ChangeGrammar.{IsChangeScript};
+ghost use Rattle.couch_answers.specs.Words.{texts, words_behind};
+ghost use Rattle.couch_answers.specs.Runs.{Fed, Begins, Ends, Finishes, Answered, Stopped, CountsOf, CountsOfWriter, ReadsAnswers, ended_of};
+
+use crate::place::{Refusal, Wanted};
+use crate::reading::Reading;
+use crate::wording::Wording;
+use script_engine::{ScriptFault, ScriptRead, ScriptWrite, write_all};
+use std::alloc::Global;
+use thiserror::Error;
+
+/// Why answers were not read to their end.
+#[derive(Debug, Drop, Error)]
+pub enum AnswerFault {
+    /// They are none. The place is the number of bytes that were read, with the one that is at fault.
+    #[error("refused: {why} at byte {at}")]
+    Refused { why: Refusal, at: u64 },
+    /// A device failed, or memory was wanting.
+    #[error("{fault}")]
+    Device { fault: ScriptFault },
+}
+
+/// How many reads there are at most.
+const MAX_READS: u32 = 4294967295;
+
+/// How many bytes a read takes at most.
+const CHUNK: usize = 65536;
+
+/// Writes what the last byte made whole.
+fn tell<W: ScriptWrite>(
+    reading: &Reading,
+    wording: &mut Wording,
+    writer: &mut W,
+) -> Result<(), ScriptFault>
+    ensures written { OnOk result (Appends (W.held writer.old) (W.held writer.new)
+        (texts (words_of_wording wording.old) (given (state_of reading.now)))) }
+    ensures words { OnOk result (words_of_wording wording.new
+        ≡ words_behind (words_of_wording wording.old) (given (state_of reading.now))) }
+    ensures counted { OnOk result (W.failures writer.new ≡ W.failures writer.old) }
+    ensures err { IfErr result (λ fault. Begins fault (words_of_wording wording.old) (given (state_of reading.now))
+        (W.held writer.old) (W.held writer.new)) }
+    ensures fault { IfErr result (λ fault. IsOfWriter fault (W.failures writer.old) (W.failures writer.new)) }
+{
+    match wording.put(reading.found(), reading.text()) {
+        Ok(()) => {}
+        Err(_) => return Err(ScriptFault::Memory),
+    }
+    match write_all(writer, wording.text()) {
+        Ok(()) => Ok(()),
+        Err(fault) => Err(fault),
+    }
+}
+
+/// Reads bytes, and writes what they hold.
+fn feed<W: ScriptWrite>(
+    reading: &mut Reading,
+    wording: &mut Wording,
+    writer: &mut W,
+    bytes: &[u8],
+) -> Result<(), ScriptFault>
+    ensures ok { OnOk result
+        (Fed (state_of reading.old) (words_of_wording wording.old) bytes.now (state_of reading.new)
+        (words_of_wording wording.new) (W.held writer.old) (W.held writer.new)) }
+    ensures counted { OnOk result (W.failures writer.new ≡ W.failures writer.old) }
+    ensures err { IfErr result (λ fault. Begins fault (words_of_wording wording.old)
+        (pieces (state_of reading.old) bytes.now) (W.held writer.old) (W.held writer.new)) }
+    ensures fault { IfErr result (λ fault. IsOfWriter fault (W.failures writer.old) (W.failures writer.new)) }
+{
+    let mut rest = bytes;
+    while !rest.is_empty() {
+        let count = match reading.take_in(rest) {
+            Ok(count) => count,
+            Err(_) => return Err(ScriptFault::Memory),
+        };
+        match tell(reading, wording, writer) {
+            Ok(()) => {}
+            Err(fault) => return Err(fault),
+        }
+        rest = &rest[count..];
+    }
+    Ok(())
+}
+
+/// What reading comes to at its end.
+fn ended(reading: &Reading) -> Result<u64, AnswerFault>
+    ensures { result ≡ ended_of (state_of reading.now) }
+{
+    match reading.end() {
+        Ok(()) => Ok(reading.passed()),
+        Err(why) => Err(AnswerFault::Refused {
+            why,
+            at: reading.taken(),
+        }),
+    }
+}
+
+/// Ends a last line that has no line end.
+fn feed_rest<W: ScriptWrite>(
+    reading: &mut Reading,
+    wording: &mut Wording,
+    writer: &mut W,
+) -> Result<(), ScriptFault>
+    ensures ok { OnOk result (Fed (state_of reading.old) (words_of_wording wording.old) (last_end (state_of reading.old))
+        (state_of reading.new) (words_of_wording wording.new) (W.held writer.old) (W.held writer.new)) }
+    ensures counted { OnOk result (W.failures writer.new ≡ W.failures writer.old) }
+    ensures err { IfErr result (λ fault. Begins fault (words_of_wording wording.old)
+        (pieces (state_of reading.old) (last_end (state_of reading.old))) (W.held writer.old) (W.held writer.new)) }
+    ensures fault { IfErr result (λ fault. IsOfWriter fault (W.failures writer.old) (W.failures writer.new)) }
+{
+    if !reading.has_rest() {
+        return Ok(());
+    }
+    feed(reading, wording, writer, b"\n")
+}
+
+/// Writes the last text, where what was read is whole answers and nothing else.
+fn end<W: ScriptWrite>(
+    reading: &Reading,
+    wording: &Wording,
+    writer: &mut W,
+) -> Result<u64, AnswerFault>
+    ensures ends { Ends (state_of reading.now) (words_of_wording wording.now) (W.held writer.old) (W.held writer.new)
+        result }
+    ensures counts { CountsOfWriter result (W.failures writer.old) (W.failures writer.new) }
+{
+    match ended(reading) {
+        Ok(passed) => match write_all(writer, wording.last()) {
+            Ok(()) => Ok(passed),
+            Err(fault) => Err(AnswerFault::Device { fault }),
+        },
+        Err(fault) => Err(fault),
+    }
+}
+
+/// Does what is done where nothing follows.
+fn finish<W: ScriptWrite>(
+    reading: &mut Reading,
+    wording: &mut Wording,
+    writer: &mut W,
+) -> Result<u64, AnswerFault>
+    ensures finishes { Finishes (state_of reading.old) (words_of_wording wording.old) (W.held writer.old)
+        (W.held writer.new) result }
+    ensures counts { CountsOfWriter result (W.failures writer.old) (W.failures writer.new) }
+{
+    match feed_rest(reading, wording, writer) {
+        Ok(()) => end(reading, wording, writer),
+        Err(fault) => Err(AnswerFault::Device { fault }),
+    }
+}
+
+/// Reads chunk after chunk, and writes what they hold.
+fn run_chunks<R: ScriptRead, W: ScriptWrite>(
+    mut reading: Reading,
+    wording: &mut Wording,
+    reader: &mut R,
+    writer: &mut W,
+    chunk: &mut [u8],
+) -> Result<u64, AnswerFault>
+    requires begins { state_of reading ≡ start reading.wanted }
+    requires room { 0 < length chunk.old }
+    ensures ok { IfOk result (λ passed. Answered reading.wanted (words_of_wording wording.old) (R.left reader.old)
+        (W.held writer.old) (W.held writer.new) passed) }
+    ensures end { OnOk result (IsAtEnd (R.left reader.new)) }
+    ensures counted { OnOk result ((R.failures reader.new ≡ R.failures reader.old)
+        × (W.failures writer.new ≡ W.failures writer.old)) }
+    ensures fault { IfErr result (λ fault. Stopped reading.wanted (words_of_wording wording.old) (R.left reader.old)
+        (W.held writer.old) (W.held writer.new) fault) }
+    ensures counts { IfErr result (λ fault. CountsOf fault (R.reads reader.old) (R.reads reader.new)
+        (R.failures reader.old) (R.failures reader.new) (W.failures writer.old) (W.failures writer.new)) }
+{
+    for turn in 0..MAX_READS {
+        let count = match reader.read(chunk) {
+            Ok(count) => count,
+            Err(_) => return Err(AnswerFault::Device {
+                fault: ScriptFault::Read,
+            }),
+        };
+        if count == 0 {
+            return finish(&mut reading, wording, writer);
+        }
+        match feed(&mut reading, wording, writer, &chunk[..count]) {
+            Ok(()) => {}
+            Err(fault) => return Err(AnswerFault::Device { fault }),
+        }
+        if reading.is_refused() {
+            return ended(&reading);
+        }
+    }
+    Err(AnswerFault::Device {
+        fault: ScriptFault::Read,
+    })
+}
+
+/// Reads answers to the reader's end, and writes what they hold, each text as soon as it is whole. Gives how many
+/// documents were passed over.
+///
+/// `Refused` where what is read is no answer: then what stands before the byte at fault is written. `Read` and `Write`
+/// come only where that device failed in this call, but that `Read` also comes in the place of a further read after
+/// 4,294,967,295 reads, each of at most 65,536 bytes.
+pub fn run_answers<R: ScriptRead, W: ScriptWrite>(
+    alloc: Global,
+    wanted: Wanted,
+    wording: &mut Wording,
+    reader: &mut R,
+    writer: &mut W,
+) -> Result<u64, AnswerFault>
+    // What answers of CouchDB's forms hold is written, and they are never refused.
+    ensures forms { (text : List ℕ) → (held : List Piece) → wanted ≡ Wanted.Documents → R.left reader.old ≡ Some text
+        → IsAnswered text held → ReadsAnswers (words_of_wording wording.old) held (W.held writer.old)
+        (W.held writer.new) result }
+
+    // So it is with the documents among a script's answers, and with its changes.
+    ensures script { (text : List ℕ) → (held : List Piece) → wanted ≡ Wanted.Lines → R.left reader.old ≡ Some text
+        → IsScript text held → ReadsAnswers (words_of_wording wording.old) held (W.held writer.old)
+        (W.held writer.new) result }
+
+    ensures changes { (text : List ℕ) → (held : List Piece) → wanted ≡ Wanted.Changes → R.left reader.old ≡ Some text
+        → IsChangeScript text held → ReadsAnswers (words_of_wording wording.old) held (W.held writer.old)
+        (W.held writer.new) result }
+
+    // Whatever is read.
+    ensures ok { IfOk result (λ passed. Answered wanted (words_of_wording wording.old) (R.left reader.old)
+        (W.held writer.old) (W.held writer.new) passed) }
+    ensures end { OnOk result (IsAtEnd (R.left reader.new)) }
+    ensures counted { OnOk result ((R.failures reader.new ≡ R.failures reader.old)
+        × (W.failures writer.new ≡ W.failures writer.old)) }
+    ensures fault { IfErr result (λ fault. Stopped wanted (words_of_wording wording.old) (R.left reader.old)
+        (W.held writer.old) (W.held writer.new) fault) }
+    ensures counts { IfErr result (λ fault. CountsOf fault (R.reads reader.old) (R.reads reader.new)
+        (R.failures reader.old) (R.failures reader.new) (W.failures writer.old) (W.failures writer.new)) }
+{
+    let Ok(mut chunk) = vec![in alloc; 0u8; CHUNK] else {
+        return Err(AnswerFault::Device {
+            fault: ScriptFault::Memory,
+        });
+    };
+    let reading = Reading::new(alloc, wanted);
+    run_chunks(reading, wording, reader, writer, chunk.as_mut_slice())
+}

@@ -1,0 +1,40 @@
+-- The exit status of the program: docs/PROFILE.md, "Options of `couch_lines`".
+use Rattle.std.specs.Prelude.{ℕ, ◌==◌, cond, Result, Ok, Err}
+use Rattle.clap.specs.Words.{kind_of}
+use Rattle.clap.specs.declared.error.kind.ErrorKind.{ErrorKind}
+use Rattle.clap.specs.declared.error.kind.ErrorKind.TheVariants.{DisplayHelp, DisplayVersion, OutOfMemory}
+use Rattle.script_engine.specs.declared.fault.ScriptFault.TheVariants as faults
+use Rattle.couch_answers.specs.declared.run.AnswerFault.{AnswerFault}
+use Rattle.couch_answers.specs.declared.run.AnswerFault.TheVariants.{Device}
+use Rattle.couch_lines.specs.declared.options.NoTask.{NoTask}
+use Rattle.couch_lines.specs.declared.options.NoTask.TheVariants.{Words, Unknown, Memory}
+use Rattle.couch_lines.specs.declared.run.Ended.{Ended}
+use Rattle.couch_lines.specs.declared.run.Ended.TheVariants.{NotRun, Ran}
+
+-- of what was done: whether something was passed over
+abbrev pub status_of : Result ℕ AnswerFault → ℕ
+status_of (Ok passed) = cond (passed == 0) 0 1
+status_of (Err fault) = 3
+
+-- of a command line that `clap` refuses so: help is no mistake
+abbrev pub kind_status : ErrorKind → ℕ
+kind_status OutOfMemory = 3
+kind_status DisplayHelp = 0
+kind_status DisplayVersion = 0
+kind_status kind = 2
+
+-- of words that ask for nothing
+abbrev pub words_status : NoTask → ℕ
+words_status (Words error) = kind_status (kind_of error)
+words_status Unknown = 2
+words_status Memory = 3
+
+abbrev pub ended_status : Ended → ℕ
+ended_status (NotRun why) = words_status why
+ended_status (Ran ended) = status_of ended
+
+-- a run whose last texts could not be written; a fault before stands
+abbrev pub unflushed : Ended → Ended
+unflushed (NotRun why) = NotRun why
+unflushed (Ran (Ok passed)) = Ran (Err (Device faults.Write))
+unflushed (Ran (Err fault)) = Ran (Err fault)

@@ -1,0 +1,130 @@
+//! A replication by threads that is watched: a shop of a thousand orders and its copy as two peers, four fetchers and four
+//! writers, and a viewer who reads beside them how far they are. What the viewer sees goes to standard error.
+#![tactic(auto)]
+ghost use Rattle.std.specs.Prelude.{◌≡◌, vec_len};
+ghost use Rattle.std.specs.List.{All};
+ghost use Rattle.progress_board.specs.Seats.{CameWith};
+ghost use Rattle.repl_pool.specs.Boards.{WorksAt};
+
+use anyhow::{Result, bail};
+use doc_json::{DocId, read_body};
+use repl_log::Moment;
+use repl_pool::{Board, BoardSeat, Open, Ran, Seats, board_with_seats, run_on};
+use repl_target::{Peer, Plan, Rules};
+use rev_tree::SessionId;
+use serde_json::Value;
+use std::alloc::Global;
+use std::io::Eprint;
+use std::sync::Wait;
+use std::sync::atomic::{AtomicBool, Ordering};
+use std::thread;
+use std::thread::{Threads, yield_now};
+
+/// How many orders the shop has.
+const ORDERS: u64 = 1_000;
+
+/// How many threads fetch, and how many write.
+const WORKERS: usize = 4;
+
+/// How often the viewer looks at most.
+const LOOKS: u64 = 10_000_000;
+
+fn main(rt: HostRuntime) -> Result<()> {
+    let mut shop = Peer::new(rt.alloc(), 1, Rules { deny: None });
+    let copy = Peer::new(rt.alloc(), 2, Rules { deny: None });
+    write_orders(rt.alloc(), &mut shop)?;
+    let Seats {
+        board,
+        workers,
+        mut viewers,
+    } = board_with_seats(rt.alloc(), WORKERS, 1)?;
+    let Some(viewer) = viewers.pop() else {
+        bail!("a board without viewers");
+    };
+    let plan = Plan {
+        session: SessionId(1),
+        workers: WORKERS as u64,
+        batch: 10,
+        stop_after: None,
+        at: Moment::new(1_700_000_000)?,
+        chosen: None,
+    };
+    let (ran, seen) = run_watched(&rt, rt.alloc(), shop, copy, &plan, &board, workers, viewer);
+    let report = ran.outcome?;
+    let (written, recorded) = (report.written, report.recorded);
+    println!(rt; "{written} documents written, up to sequence {recorded}")?;
+    if let Some((settled, read)) = seen {
+        println!(rt; "the viewer saw {settled} of {read} at the end")?;
+    }
+    Ok(())
+}
+
+/// Writes the orders, each a document of its own.
+fn write_orders(alloc: Global, shop: &mut Peer<Rules>) -> Result<()> {
+    let value = Value::from_slice(alloc, br#"{"bread":1}"#)?;
+    let body = read_body(alloc, &value)?;
+    for number in 0..ORDERS {
+        let id = DocId::parse(alloc, format!(in alloc; "order-{number}")?.as_str())?;
+        shop.edit(&id, None, false, &body)?;
+    }
+    Ok(())
+}
+
+/// Runs the pool with a viewer beside it: what the run gives back, and what the viewer saw last.
+fn run_watched<R: Threads + Wait + Eprint + Sync>(
+    rt: &R,
+    alloc: Global,
+    shop: Peer<Rules>,
+    copy: Peer<Rules>,
+    plan: &Plan,
+    board: &Board,
+    workers: Vec<BoardSeat>,
+    viewer: BoardSeat,
+) -> (Ran<Rules>, Option<(u64, u64)>)
+    requires workers { (vec_len workers ≡ plan.now.workers) × All (WorksAt board.now) workers.items }
+    requires viewer { CameWith board.now viewer }
+{
+    let ended = AtomicBool::new(false);
+    thread::scope(
+        thread::scope_env(),
+        rt,
+        |scope| -> (Ran<Rules>, Option<(u64, u64)>)
+            requires workers { (vec_len workers ≡ plan.now.workers) × All (WorksAt board.now) workers.items }
+            requires viewer { CameWith board.now viewer }
+        {
+            let watcher = scope.spawn(
+                || -> (u64, u64)
+                    requires { CameWith board.now viewer }
+                { watch(rt, board, &ended, viewer) },
+            );
+            let ran = run_on(rt, alloc, shop, copy, plan, &Open, board, workers);
+            ended.store(true, Ordering::SeqCst);
+            match watcher {
+                Ok(watcher) => (ran, Some(watcher.join(rt))),
+                Err(_) => (ran, None),
+            }
+        },
+    )
+}
+
+/// Reads the board until the run has ended, and tells each time that it is further. The last reading is behind the end.
+fn watch<R: Eprint>(rt: &R, board: &Board, ended: &AtomicBool, viewer: BoardSeat) -> (u64, u64)
+    requires { CameWith board.now viewer }
+{
+    let mut viewer = viewer;
+    let mut told = (0, 0);
+    for _ in 0..LOOKS {
+        let last = ended.load(Ordering::SeqCst);
+        let seen = board.read(&mut viewer);
+        if seen != told {
+            let (settled, read) = seen;
+            let _ = eprintln!(rt; "{settled} of {read}");
+            told = seen;
+        }
+        if last {
+            break;
+        }
+        yield_now();
+    }
+    told
+}
