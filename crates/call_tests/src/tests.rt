@@ -11,6 +11,14 @@ mod databases;
 mod peer_rows;
 mod peers;
 
+// Copies of peers.
+mod backup_rows;
+mod backups;
+
+// Choices of documents, and what is replicated under them.
+mod choice_rows;
+mod choices;
+
 // The parts of a replication that each way to replicate shares.
 mod plan_rows;
 mod plans;

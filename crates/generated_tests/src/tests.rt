@@ -16,6 +16,9 @@ mod fronts;
 mod exchanges;
 mod feeds;
 
+// Choices of documents by chance.
+mod choices;
+
 // Replicated pairs, and their plain model.
 mod pairs;
 mod plain_sides;

@@ -1,4 +1,4 @@
-//! `Database::put`, `edit`, `page`, `revs_diff` and `open_revs`, and the copies of their messages. A refused growth
+//! `Database::put`, `edit`, `page`, `revs_diff`, `open_revs` and `copy_in`, and the copies of their messages. A refused growth
 //! leaves a database as it was.
 use anyhow::{Result, bail};
 use couch_base::{Asked, BaseFault, Database, Parcel, Put, Window};
@@ -103,8 +103,8 @@ fn edit(
 }
 
 fn page(alloc: Global, db: &Database, since: u64, limit: u64) -> Result<Window> {
-    match db.page(alloc, since, db.update_seq(), limit) {
-        Err(BaseFault::Memory) => Ok(db.page(alloc, since, db.update_seq(), limit)?),
+    match db.page(alloc, since, db.update_seq(), limit, None) {
+        Err(BaseFault::Memory) => Ok(db.page(alloc, since, db.update_seq(), limit, None)?),
         answer => Ok(answer?),
     }
 }
@@ -206,11 +206,25 @@ fn exchanged(alloc: Global, db: &Database, empty: &Database) -> Result<Counts> {
     counted(alloc, db, empty, &window)
 }
 
-/// Grows a database, and exchanges it with another one.
+/// The same documents in the next life.
+fn db_copied(alloc: Global, db: &Database) -> Result<Database> {
+    match db.copy_in(alloc, 1) {
+        Err(BaseFault::Memory) => Ok(db.copy_in(alloc, 1)?),
+        answer => Ok(answer?),
+    }
+}
+
+/// Exchanges a copy of a database with another one.
+fn copy_exchanged(alloc: Global, db: &Database, empty: &Database) -> Result<(u64, Counts)> {
+    let copy = db_copied(alloc, db)?;
+    let counts = exchanged(alloc, &copy, empty)?;
+    Ok((copy.update_seq(), counts))
+}
+
+/// Grows a database, and exchanges its copy with another one.
 fn session(alloc: Global, db: &mut Database, empty: &Database) -> Result<(u64, Counts)> {
     grow(alloc, db)?;
-    let counts = exchanged(alloc, db, empty)?;
-    Ok((db.update_seq(), counts))
+    copy_exchanged(alloc, db, empty)
 }
 
 /// The session of two databases. Few values live beside a database: each adds to its proof at every step.

@@ -56,6 +56,7 @@ pub(crate) fn run(rt: &impl Print, alloc: Global) -> Result<()> {
     let id = RepId {
         source: 1,
         target: 2,
+        chosen: None,
     };
     if named(alloc, &id)?.len() != 32 + 1 + 32 {
         bail!("another id");

@@ -2,6 +2,8 @@
 //! the same, whichever allocation fails. `.ci/refused-growths` refuses each of them in turn.
 #![tactic(auto)]
 
+mod backups;
+mod choices;
 mod databases;
 mod documents;
 mod fronts;
@@ -25,7 +27,9 @@ fn main(rt: HostRuntime) -> Result<()> {
     documents::run(&rt, rt.alloc())?;
     databases::run(&rt, rt.alloc())?;
     peers::run(&rt, rt.alloc())?;
+    backups::run(&rt, rt.alloc())?;
     replications::run(&rt, rt.alloc())?;
+    choices::run(&rt, rt.alloc())?;
     worlds::run(&rt, rt.alloc())?;
     pools::run(&rt, rt.alloc())?;
     Ok(())

@@ -3,7 +3,7 @@ use anyhow::{Result, bail};
 use couch_base::{Asked, BaseFault, Parcel, Put, Window};
 use doc_json::{Body, Doc, DocFault, DocId, read_body, read_doc};
 use repl_log::{Moment, RepId};
-use repl_target::{Cause, Peer, Report, Rules, Settled, TargetFault};
+use repl_target::{Beginning, Cause, Peer, Report, Rules, Settled, TargetFault};
 use rev_core::Rev;
 use rev_tree::SessionId;
 use serde_json::Value;
@@ -16,6 +16,7 @@ const SESSION: SessionId = SessionId(1);
 const REP: RepId = RepId {
     source: 1,
     target: 2,
+    chosen: None,
 };
 
 fn value(alloc: Global, text: &str) -> Option<Value> {
@@ -84,8 +85,8 @@ fn edit(alloc: Global, peer: &mut Peer<Rules>, id: &str, parent: &Option<Rev>) -
 
 fn page(alloc: Global, peer: &Peer<Rules>) -> Option<Window> {
     let goal = peer.db().update_seq();
-    match peer.page(alloc, 0, goal, 10) {
-        Err(BaseFault::Memory) => peer.page(alloc, 0, goal, 10).ok(),
+    match peer.page(alloc, 0, goal, 10, None) {
+        Err(BaseFault::Memory) => peer.page(alloc, 0, goal, 10, None).ok(),
         answer => answer.ok(),
     }
 }
@@ -111,13 +112,24 @@ fn opened(alloc: Global, peer: &Peer<Rules>, asked: &Asked) -> Option<Parcel> {
     }
 }
 
+/// From 0 to a goal, in life 0 of the source.
+fn beginning(goal: u64) -> Beginning {
+    Beginning {
+        rep: REP,
+        life: 0,
+        base: None,
+        start: 0,
+        goal,
+    }
+}
+
 fn begin(peer: &mut Peer<Rules>, goal: u64, at: Moment) -> Option<()> {
-    match peer.begin(SESSION, &REP, None, 0, goal, at) {
+    match peer.begin(SESSION, beginning(goal), at) {
         Err(TargetFault::Memory) => {
             if peer.entry(SESSION).is_ok() {
                 return None;
             }
-            peer.begin(SESSION, &REP, None, 0, goal, at).ok()
+            peer.begin(SESSION, beginning(goal), at).ok()
         }
         answer => answer.ok(),
     }

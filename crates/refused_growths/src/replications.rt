@@ -14,6 +14,7 @@ pub(crate) fn plan(session: u128, at: Moment) -> Plan {
         batch: 1,
         stop_after: None,
         at,
+        chosen: None,
     }
 }
 
@@ -28,9 +29,9 @@ pub(crate) fn is_memory(fault: TargetFault) -> bool {
 
 /// Whether an audit finds nothing; once more where memory was refused.
 pub(crate) fn is_clean(alloc: Global, source: &Peer<Rules>, target: &Peer<Rules>) -> bool {
-    let found = match audit(alloc, source, target).ok() {
+    let found = match audit(alloc, source, target, None).ok() {
         Some(found) => Some(found),
-        None => audit(alloc, source, target).ok(),
+        None => audit(alloc, source, target, None).ok(),
     };
     match found {
         Some(found) => is_nothing(found),
@@ -39,7 +40,7 @@ pub(crate) fn is_clean(alloc: Global, source: &Peer<Rules>, target: &Peer<Rules>
 }
 
 /// Whether an audit found no hole.
-fn is_nothing(found: Audit) -> bool {
+pub(crate) fn is_nothing(found: Audit) -> bool {
     match found {
         Audit::Clean => true,
         Audit::Hole { .. } => false,

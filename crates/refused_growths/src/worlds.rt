@@ -15,41 +15,47 @@ const SESSION: SessionId = SessionId(1);
 /// What is seen of a session: how many windows it stores, up to where these are done, and what it has recorded.
 type Session = (usize, u64, u64);
 
-/// What is seen of a world: the update sequences of its peers, the session where it has begun, and the sizes of the
-/// bag.
+/// What is seen of a world: the life of the source, the update sequences of its peers, the session where it has begun,
+/// and the sizes of the bag.
 #[derive(Clone, Copy, PartialEq, Eq)]
 struct Seen {
+    life: u64,
     source: u64,
     target: u64,
     session: Option<Session>,
-    sizes: (usize, usize, usize, usize),
+    sizes: (usize, usize, usize, usize, usize),
 }
 
 /// What is seen before each step that may be the first of those left, with its place. A settling that was cut short
-/// stands at its own place.
+/// stands at its own place. Neither the source's log nor its copies are seen: what was put or copied is put and copied
+/// once more.
 static BEFORE: &[(
     u64,
     u64,
+    u64,
     Option<Session>,
-    (usize, usize, usize, usize),
+    (usize, usize, usize, usize, usize),
     usize,
 )] = &[
-    (0, 0, None, (0, 0, 0, 0), 0),
-    (1, 0, None, (0, 0, 0, 0), 1),
-    (2, 0, None, (0, 0, 0, 0), 2),
-    (3, 0, None, (0, 0, 0, 0), 3),
-    (3, 1, None, (0, 0, 0, 0), 4),
-    (3, 2, None, (0, 0, 0, 0), 5),
-    (3, 2, Some((0, 0, 0)), (0, 0, 0, 0), 6),
-    (3, 2, Some((0, 0, 0)), (1, 0, 0, 0), 7),
-    (3, 2, Some((1, 0, 0)), (1, 0, 0, 0), 8),
-    (3, 2, Some((1, 0, 0)), (1, 1, 0, 0), 9),
-    (3, 2, Some((1, 0, 0)), (1, 1, 1, 0), 10),
-    (3, 3, Some((1, 0, 0)), (1, 1, 1, 0), 10),
-    (3, 4, Some((1, 0, 0)), (1, 1, 1, 0), 10),
-    (3, 4, Some((1, 3, 0)), (1, 1, 1, 0), 11),
-    (3, 4, Some((1, 3, 3)), (1, 1, 1, 1), 12),
-    (3, 4, Some((1, 3, 3)), (1, 1, 1, 2), 13),
+    (0, 0, 0, None, (0, 0, 0, 0, 0), 0),
+    (0, 1, 0, None, (0, 0, 0, 0, 0), 1),
+    (0, 2, 0, None, (0, 0, 0, 0, 0), 2),
+    (0, 3, 0, None, (0, 0, 0, 0, 0), 3),
+    (0, 3, 1, None, (0, 0, 0, 0, 0), 4),
+    (0, 3, 2, None, (0, 0, 0, 0, 0), 5),
+    (0, 3, 2, None, (0, 0, 0, 0, 1), 6),
+    (0, 3, 2, Some((0, 0, 0)), (0, 0, 0, 0, 1), 7),
+    (0, 3, 2, Some((0, 0, 0)), (1, 0, 0, 0, 1), 8),
+    (0, 3, 2, Some((1, 0, 0)), (1, 0, 0, 0, 1), 9),
+    (0, 3, 2, Some((1, 0, 0)), (1, 1, 0, 0, 1), 10),
+    (0, 3, 2, Some((1, 0, 0)), (1, 1, 1, 0, 1), 11),
+    (0, 3, 3, Some((1, 0, 0)), (1, 1, 1, 0, 1), 11),
+    (0, 3, 4, Some((1, 0, 0)), (1, 1, 1, 0, 1), 11),
+    (0, 3, 4, Some((1, 3, 0)), (1, 1, 1, 0, 1), 12),
+    (0, 3, 4, Some((1, 3, 3)), (1, 1, 1, 1, 1), 13),
+    (0, 3, 4, Some((1, 3, 3)), (1, 1, 1, 2, 1), 14),
+    (0, 4, 4, Some((1, 3, 3)), (1, 1, 1, 2, 1), 17),
+    (1, 3, 4, Some((1, 3, 3)), (1, 1, 1, 2, 1), 18),
 ];
 
 /// An edit of a document at 1-a: its id, its parent and its body.
@@ -96,26 +102,35 @@ fn step(at: Moment, place: usize) -> Step {
     let (window, asked, parcel, entry) = (0, 0, 0, 1);
     let session = SESSION;
     match place {
-        0 => Step::Begin {
+        0 => Step::ReadLog,
+        1 => Step::Begin {
             session,
-            base: None,
-            start: 0,
+            log: 0,
             goal: 3,
             at,
         },
-        1 => Step::Page {
+        2 => Step::Page {
             since: 0,
             goal: 3,
             limit: 10,
         },
-        2 => Step::Append { session, window },
-        3 => Step::Diff { window },
-        4 => Step::Fetch { asked },
-        5 => Step::Settle { session, parcel },
-        6 => Step::Record { session, at },
-        7 => Step::Conclude { session, at },
+        3 => Step::Append { session, window },
+        4 => Step::Diff { window },
+        5 => Step::Fetch { asked },
+        6 => Step::Settle { session, parcel },
+        7 => Step::Record { session, at },
+        8 => Step::Conclude { session, at },
         _ => Step::PutEntry { entry },
     }
+}
+
+/// The steps that copy the source, go on with it, and put it back.
+fn restoring(alloc: Global, steps: &mut Vec<Step>) -> Option<()> {
+    steps.push(Step::Backup).ok()?;
+    let g = doc(alloc, r#"{"_id":"g","_rev":"1-a"}"#)?;
+    steps.push(Step::LoadSource(g)).ok()?;
+    steps.push(Step::Restore { backup: 0 }).ok()?;
+    steps.push(Step::ReadLog).ok()
 }
 
 /// All the steps; nothing where memory is refused.
@@ -123,9 +138,10 @@ fn steps(alloc: Global) -> Option<Vec<Step>> {
     let at = Moment::new(10).ok()?;
     let mut steps = Vec::new(alloc);
     writes(alloc, &mut steps)?;
-    for place in 0..9usize {
+    for place in 0..10usize {
         steps.push(step(at, place)).ok()?;
     }
+    restoring(alloc, &mut steps)?;
     Some(steps)
 }
 
@@ -139,6 +155,7 @@ fn session(target: &Peer<Rules>) -> Option<Session> {
 /// What is seen of a world.
 fn look(world: &World<Rules>) -> Seen {
     Seen {
+        life: world.source().db().life(),
         source: world.source().db().update_seq(),
         target: world.target().db().update_seq(),
         session: session(world.target()),
@@ -148,8 +165,9 @@ fn look(world: &World<Rules>) -> Seen {
 
 /// The place of the first step that is left, where the world is one of those that the steps go through.
 fn left(seen: Seen) -> Option<usize> {
-    for (source, target, session, sizes, place) in BEFORE {
+    for (life, source, target, session, sizes, place) in BEFORE {
         let before = Seen {
+            life: *life,
             source: *source,
             target: *target,
             session: *session,
@@ -173,9 +191,9 @@ fn take(alloc: Global, world: &mut World<Rules>, steps: &[Step]) -> Option<()> {
 
 /// Whether an audit finds nothing; once more where memory was refused.
 fn is_clean(alloc: Global, world: &World<Rules>) -> bool {
-    let found = match audit(alloc, world.source(), world.target()).ok() {
+    let found = match audit(alloc, world.source(), world.target(), None).ok() {
         Some(found) => Some(found),
-        None => audit(alloc, world.source(), world.target()).ok(),
+        None => audit(alloc, world.source(), world.target(), None).ok(),
     };
     match found {
         Some(Audit::Clean) => true,
@@ -199,7 +217,7 @@ fn ended(alloc: Global, world: &mut World<Rules>) -> Option<(u64, Seen, bool)> {
 fn of_two(alloc: Global) -> Option<(u64, Seen, bool)> {
     let source = Peer::new(alloc, 1, Rules { deny: None });
     let target = Peer::new(alloc, 2, Rules { deny: None });
-    let mut world = World::new(alloc, source, target).ok()?;
+    let mut world = World::new(alloc, source, target, None).ok()?;
     ended(alloc, &mut world)
 }
 
@@ -207,10 +225,10 @@ pub(crate) fn run(rt: &impl Print, alloc: Global) -> Result<()> {
     let Some((recorded, seen, clean)) = of_two(alloc) else {
         bail!("worlds: another answer");
     };
-    let (windows, asked, parcels, entries) = seen.sizes;
+    let (windows, asked, parcels, entries, logs) = seen.sizes;
     println!(rt;
-        "worlds as wanted: recorded {recorded}, sequence {}, bag {windows} {asked} {parcels} {entries}, clean {clean}",
-        seen.target
+        "worlds as wanted: recorded {recorded}, sequence {}, bag {windows} {asked} {parcels} {entries} {logs}, life {}, clean {clean}",
+        seen.target, seen.life
     )?;
     Ok(())
 }

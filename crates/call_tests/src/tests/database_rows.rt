@@ -331,3 +331,44 @@ fn pages_of_few_documents_with_high_sequences(rt: HostRuntime) {
     ];
     expect(&rt, rt.alloc(), &[], &[ROWS]);
 }
+
+#[test]
+fn copies_of_a_database(rt: HostRuntime) {
+    /// The last life.
+    const LAST: u64 = 9_007_199_254_740_991;
+    // The second database is the same, and the third one is it in another life.
+    const SAME: usize = 1;
+    const OTHER: usize = 2;
+    const LATEST: usize = 3;
+    const WHOLE: &str = "0 to 5: 1 a 1-a; 2 b 1-b; 5 c 1-e,1-d,1-c;";
+    static ROWS: Rows = &[
+        (Call::Life(A), "0"),
+        (Call::Copy(A, None), "made"),
+        (Call::Copy(A, Some(9)), "made"),
+        (Call::Life(SAME), "0"),
+        (Call::Numbers(SAME), "7 at 5"),
+        (Call::Page(SAME, 0, 5, 10), WHOLE),
+        (Call::Life(OTHER), "9"),
+        (Call::Numbers(OTHER), "7 at 5"),
+        (Call::Page(OTHER, 0, 5, 10), WHOLE),
+        (Call::WindowLife(0), "0"),
+        (Call::WindowLife(1), "9"),
+        (Call::Document(OTHER, "c", "1-d"), " c 1-d live {};"),
+        // What is written into a copy stands in no other one; the life stays.
+        (
+            Call::Put(OTHER, r#"{"_id":"a","_rev":"1-b"}"#),
+            "Changed { seq: 6 }",
+        ),
+        (Call::Tree(OTHER, "a"), "1-b,1-a of 2"),
+        (Call::Life(OTHER), "9"),
+        (Call::Tree(A, "a"), "1-a of 1"),
+        (Call::Tree(SAME, "a"), "1-a of 1"),
+        // A copy of a copy is of its life.
+        (Call::Copy(OTHER, None), "made"),
+        (Call::Life(LATEST), "9"),
+        (Call::Numbers(LATEST), "7 at 6"),
+        (Call::Copy(LATEST, Some(LAST)), "made"),
+        (Call::Life(4), "9007199254740991"),
+    ];
+    expect(&rt, rt.alloc(), &[7], &[THREE, ROWS]);
+}

@@ -21,8 +21,14 @@ pub(crate) enum Call<'a> {
     /// Edits a document: its id, the parent (an empty text for none), whether it is deleted, the body, and the number
     /// of the local write.
     Edit(usize, &'a str, &'a str, bool, &'a str, u64),
+    /// Makes the next database as a copy of one, in a life where one is told.
+    Copy(usize, Option<u64>),
     /// Reads the uuid and the update sequence.
     Numbers(usize),
+    /// Reads the life.
+    Life(usize),
+    /// Reads the life of a window.
+    WindowLife(usize),
     /// Reads the tree of a document.
     Tree(usize, &'a str),
     /// Reads a revision of a document.
@@ -94,6 +100,8 @@ impl Bench {
     fn answer(&mut self, call: &Call) -> Option<String> {
         match *call {
             Call::DatabaseAt(uuid, seq) => make_at(self.alloc, &mut self.databases, uuid, seq),
+            Call::Copy(at, life) => copy(self.alloc, &mut self.databases, at, life),
+            Call::WindowLife(window) => shown(self.alloc, &self.held.windows.get(window)?.life()),
             other => self.answer_of(place_of(&other), &other),
         }
     }
@@ -115,6 +123,7 @@ fn place_of(call: &Call) -> Option<usize> {
         Call::Put(at, _)
         | Call::Edit(at, _, _, _, _, _)
         | Call::Numbers(at)
+        | Call::Life(at)
         | Call::Tree(at, _)
         | Call::Node(at, _, _)
         | Call::Document(at, _, _)
@@ -145,6 +154,7 @@ fn of_one(alloc: Global, db: &mut Database, held: &mut Held, call: &Call) -> Opt
 fn read(alloc: Global, db: &Database, call: &Call) -> Option<String> {
     match *call {
         Call::Numbers(_) => numbers_text(alloc, db),
+        Call::Life(_) => shown(alloc, &db.life()),
         Call::Tree(_, id) => tree(alloc, db, id),
         Call::Node(_, id, rev) => node(alloc, db, id, rev),
         Call::Document(_, id, text) => document(alloc, db, id, rev(text)?),
@@ -160,6 +170,29 @@ fn make_at(alloc: Global, databases: &mut Vec<Database>, uuid: u128, seq: u64) -
     }
 }
 
+/// The last life: 2^53 - 1.
+const LAST_LIFE: u64 = 9_007_199_254_740_991;
+
+/// Makes the next database as a copy of one, in a life where one is told.
+fn copy(
+    alloc: Global,
+    databases: &mut Vec<Database>,
+    at: usize,
+    life: Option<u64>,
+) -> Option<String> {
+    let copy = copied(alloc, databases.get(at)?, life)?;
+    made_text(alloc, databases.push(copy).ok())
+}
+
+/// A copy of a database, in a life where one is told.
+fn copied(alloc: Global, db: &Database, life: Option<u64>) -> Option<Database> {
+    match life {
+        Some(life) if life <= LAST_LIFE => db.copy_in(alloc, life).ok(),
+        Some(_) => None,
+        None => db.copy(alloc).ok(),
+    }
+}
+
 /// Reads a page, which becomes the next window.
 fn page(
     alloc: Global,
@@ -169,7 +202,7 @@ fn page(
     goal: u64,
     limit: u64,
 ) -> Option<String> {
-    match db.page(alloc, since, goal, limit) {
+    match db.page(alloc, since, goal, limit, None) {
         Ok(window) => keep_window(alloc, windows, window),
         Err(fault) => base_fault_text(alloc, fault),
     }

@@ -1,6 +1,5 @@
 //! The rows of peers: local writes, sessions, each refusal, logs and audits. Each call with ample memory.
-use crate::tests::peers::{Beginning, Call, Lists, Rows, expect};
-use repl_log::RepId;
+use crate::tests::peers::{Beginning, Call, Lists, Rep, Rows, expect};
 use rev_tree::SessionId;
 
 /// The peers of most rows: the source, the target, and another one.
@@ -25,13 +24,13 @@ const S2: SessionId = SessionId(2);
 const S3: SessionId = SessionId(3);
 
 /// The replication from the peer of the uuid 1 to that of the uuid 2.
-const REP: RepId = RepId {
+const REP: Rep = Rep {
     source: 1,
     target: 2,
 };
 
 /// Another replication to the same peer.
-const OTHER_REP: RepId = RepId {
+const OTHER_REP: Rep = Rep {
     source: 3,
     target: 2,
 };
@@ -44,7 +43,7 @@ const NEXT: &str = "2-1c600d37126a8e6d3c67d6f7a6a5c299";
 
 /// A session of `REP` on no other one, from 0 to 1.
 const TO_ONE: Beginning = Beginning {
-    rep: &REP,
+    rep: REP,
     base: None,
     start: 0,
     goal: 1,
@@ -52,7 +51,7 @@ const TO_ONE: Beginning = Beginning {
 
 /// The same, to 9.
 const TO_NINE: Beginning = Beginning {
-    rep: &REP,
+    rep: REP,
     base: None,
     start: 0,
     goal: 9,
@@ -60,7 +59,7 @@ const TO_NINE: Beginning = Beginning {
 
 /// A session of `REP` on the first one, from 1 to 2.
 const FROM_ONE: Beginning = Beginning {
-    rep: &REP,
+    rep: REP,
     base: Some(S1),
     start: 1,
     goal: 2,
@@ -376,25 +375,25 @@ fn an_empty_prefix_refuses_every_document(rt: HostRuntime) {
 #[test]
 fn beginnings_are_refused_by_name(rt: HostRuntime) {
     const OF_OTHER: Beginning = Beginning {
-        rep: &OTHER_REP,
+        rep: OTHER_REP,
         base: Some(S2),
         start: 9,
         goal: 4,
     };
     const ON_OTHER: Beginning = Beginning {
-        rep: &OTHER_REP,
+        rep: OTHER_REP,
         base: Some(S1),
         start: 0,
         goal: 4,
     };
     const ON_ITSELF: Beginning = Beginning {
-        rep: &REP,
+        rep: REP,
         base: Some(S2),
         start: 0,
         goal: 4,
     };
     const ABOVE: Beginning = Beginning {
-        rep: &REP,
+        rep: REP,
         base: None,
         start: 1,
         goal: 4,
@@ -613,12 +612,12 @@ const RECORDED: Rows = &[
     (Call::Diff(TARGET, SECOND), "0 to 5:"),
     (Call::Fetch(SOURCE, SECOND), "0 to 5:"),
     (Call::Settle(TARGET, S2, SECOND), "written 0 failed 0"),
-    (Call::TargetLog(TARGET, &REP), "2 at 0;1 at 0;"),
+    (Call::TargetLog(TARGET, REP), "2 at 0;1 at 0;"),
     (Call::Record(TARGET, S1, 11), "9"),
     (Call::Record(TARGET, S2, 11), "5"),
-    (Call::TargetLog(TARGET, &REP), "2 at 5;1 at 9;"),
-    (Call::TargetLog(TARGET, &OTHER_REP), ""),
-    (Call::Common(SOURCE, TARGET, &REP), "none"),
+    (Call::TargetLog(TARGET, REP), "2 at 5;1 at 9;"),
+    (Call::TargetLog(TARGET, OTHER_REP), ""),
+    (Call::Common(SOURCE, TARGET, REP), "none"),
 ];
 
 #[test]
@@ -647,23 +646,23 @@ fn common_session(rt: HostRuntime) {
             Call::Conclude(TARGET, S3, 11),
             "session 3 from 0 to 12 checked 12 found 12 read 12 written 12 failed 0",
         ),
-        (Call::TargetLog(TARGET, &REP), "3 at 12;2 at 5;1 at 9;"),
+        (Call::TargetLog(TARGET, REP), "3 at 12;2 at 5;1 at 9;"),
     ];
     const THEN: Rows = &[
-        (Call::PutEntry(SOURCE, &REP, S1, 9), "put"),
-        (Call::PutEntry(SOURCE, &REP, S2, 4), "put"),
-        (Call::SourceLog(SOURCE, &REP), "2 at 4;1 at 9;"),
-        (Call::SourceLog(SOURCE, &OTHER_REP), ""),
-        (Call::Common(SOURCE, TARGET, &REP), "2 at 4"),
-        (Call::PutEntry(SOURCE, &REP, S2, 3), "Older { stored: 4 }"),
-        (Call::SourceLog(SOURCE, &REP), "2 at 4;1 at 9;"),
+        (Call::PutEntry(SOURCE, REP, S1, 9), "put"),
+        (Call::PutEntry(SOURCE, REP, S2, 4), "put"),
+        (Call::SourceLog(SOURCE, REP), "2 at 4;1 at 9;"),
+        (Call::SourceLog(SOURCE, OTHER_REP), ""),
+        (Call::Common(SOURCE, TARGET, REP), "2 at 4"),
+        (Call::PutEntry(SOURCE, REP, S2, 3), "Older { stored: 4 }"),
+        (Call::SourceLog(SOURCE, REP), "2 at 4;1 at 9;"),
         // A session that is there is replaced in its place, also at the same sequence.
-        (Call::PutEntry(SOURCE, &REP, S1, 9), "put"),
-        (Call::PutEntry(SOURCE, &REP, S1, 10), "put"),
-        (Call::SourceLog(SOURCE, &REP), "2 at 4;1 at 10;"),
-        (Call::PutEntryOf(SOURCE, &REP, TARGET, S2), "put"),
-        (Call::SourceLog(SOURCE, &REP), "2 at 5;1 at 10;"),
-        (Call::Common(SOURCE, TARGET, &REP), "2 at 5"),
+        (Call::PutEntry(SOURCE, REP, S1, 9), "put"),
+        (Call::PutEntry(SOURCE, REP, S1, 10), "put"),
+        (Call::SourceLog(SOURCE, REP), "2 at 4;1 at 10;"),
+        (Call::PutEntryOf(SOURCE, REP, TARGET, S2), "put"),
+        (Call::SourceLog(SOURCE, REP), "2 at 5;1 at 10;"),
+        (Call::Common(SOURCE, TARGET, REP), "2 at 5"),
     ];
     static LISTS: Lists = &[TWELVE, RECORDED, ROWS, THEN];
     expect(&rt, rt.alloc(), LISTS);
@@ -681,8 +680,8 @@ fn an_audit_is_clean(rt: HostRuntime) {
         ),
         // There is no common session, and then there is one.
         (Call::Audit(SOURCE, TARGET), "clean"),
-        (Call::PutEntryOf(SOURCE, &REP, TARGET, S1), "put"),
-        (Call::Common(SOURCE, TARGET, &REP), "1 at 1"),
+        (Call::PutEntryOf(SOURCE, REP, TARGET, S1), "put"),
+        (Call::Common(SOURCE, TARGET, REP), "1 at 1"),
         (Call::Audit(SOURCE, TARGET), "clean"),
         // What comes above its sequence is not looked at.
         (Call::Load(SOURCE, E), "Changed { seq: 2 }"),
@@ -706,7 +705,7 @@ fn an_audit_finds_a_hole(rt: HostRuntime) {
         (Call::Settle(TARGET, S1, FIRST), "written 1 failed 0"),
         (Call::Record(TARGET, S1, 11), "1"),
         (Call::Audit(SOURCE, TARGET), "clean"),
-        (Call::PutEntryOf(SOURCE, &REP, TARGET, S1), "put"),
+        (Call::PutEntryOf(SOURCE, REP, TARGET, S1), "put"),
         (Call::Audit(SOURCE, TARGET), "hole 1 d 1-a"),
     ];
     static LISTS: Lists = &[THREE, ROWS];

@@ -7,20 +7,38 @@ use crate::tests::records::{
     common_text, entry_text, fault_text, log_text, report_text, settled_text,
 };
 use crate::tests::texts::{base_fault_text, body, doc, expect_answer, numbers_text, place_text};
-use crate::tests::{large, plans};
+use crate::tests::{backups, large, plans};
 use couch_base::{Asked, Parcel, Window};
 use doc_json::DocId;
 use repl_log::{Entry, Moment, RepId};
-use repl_target::{Audit, Peer, Rules, TargetFault, WriteFilter, audit, hole_above};
+use repl_target::{Audit, Backup, Peer, Rules, TargetFault, WriteFilter, audit, hole_above};
 use rev_tree::SessionId;
 use std::alloc::Global;
 use std::process::Abort;
 use test_texts::{bare_entry, rev, shown};
 
+/// The replication of all documents between two databases, by their uuids.
+#[derive(Clone, Copy)]
+pub(crate) struct Rep {
+    pub(crate) source: u128,
+    pub(crate) target: u128,
+}
+
+impl Rep {
+    /// Its id.
+    pub(crate) fn id(self) -> RepId {
+        RepId {
+            source: self.source,
+            target: self.target,
+            chosen: None,
+        }
+    }
+}
+
 /// How a session begins: its replication, its base, its start and its goal.
 #[derive(Clone, Copy)]
-pub(crate) struct Beginning<'a> {
-    pub(crate) rep: &'a RepId,
+pub(crate) struct Beginning {
+    pub(crate) rep: Rep,
     pub(crate) base: Option<SessionId>,
     pub(crate) start: u64,
     pub(crate) goal: u64,
@@ -39,6 +57,8 @@ pub(crate) enum Call<'a> {
     Edit(usize, &'a str, &'a str, bool, &'a str),
     /// Reads the uuid and the update sequence.
     Numbers(usize),
+    /// Reads the life of the database.
+    Life(usize),
     /// Reads the tree of a document.
     Tree(usize, &'a str),
     /// Reads a revision of a document.
@@ -54,7 +74,7 @@ pub(crate) enum Call<'a> {
     /// Fetches an asked list from a peer. That becomes the next parcel.
     Fetch(usize, usize),
     /// Begins a session at a moment.
-    Begin(usize, SessionId, Beginning<'a>, u64),
+    Begin(usize, SessionId, Beginning, u64),
     /// Appends a copy of a window to a session.
     Append(usize, SessionId, usize),
     /// Settles a copy of a parcel in a session.
@@ -66,15 +86,19 @@ pub(crate) enum Call<'a> {
     /// Reads the entry of a session.
     Entry(usize, SessionId),
     /// Reads the log of a replication into a peer.
-    TargetLog(usize, &'a RepId),
+    TargetLog(usize, Rep),
     /// Reads the log of a replication from a peer.
-    SourceLog(usize, &'a RepId),
+    SourceLog(usize, Rep),
     /// Puts into the log of a replication from a peer the entry of a session that recorded up to a sequence.
-    PutEntry(usize, &'a RepId, SessionId, u64),
+    PutEntry(usize, Rep, SessionId, u64),
     /// Puts into the log of a replication from a peer the entry that another peer, the target, has of a session.
-    PutEntryOf(usize, &'a RepId, usize, SessionId),
+    PutEntryOf(usize, Rep, usize, SessionId),
+    /// Copies a peer. That becomes the next copy, of which the database's uuid and update sequence are told.
+    Backup(usize),
+    /// Puts a peer back to a copy.
+    Restore(usize, usize),
     /// Compares the logs of a replication at its source and its target.
-    Common(usize, usize, &'a RepId),
+    Common(usize, usize, Rep),
     /// Audits a target, the second one, against a source.
     Audit(usize, usize),
     /// Asks whether a plan between two peers can be begun, with windows of some rows at most.
@@ -105,11 +129,12 @@ pub(crate) type Rows = &'static [(Call<'static>, &'static str)];
 /// A test has its lists as one static: a proof goes through each list that a test names.
 pub(crate) type Lists = &'static [Rows];
 
-/// Peers, and what was read and fetched from them.
+/// Peers, their copies, and what was read and fetched from them.
 #[derive(Drop)]
 struct Bench {
     alloc: Global,
     peers: Vec<Peer<Rules>>,
+    backups: Vec<Backup>,
     held: Held,
 }
 
@@ -119,6 +144,7 @@ impl Bench {
         Bench {
             alloc,
             peers: Vec::new(alloc),
+            backups: Vec::new(alloc),
             held: Held::new(alloc),
         }
     }
@@ -135,6 +161,14 @@ impl Bench {
         match *call {
             Call::Peer(uuid, deny) => make(self.alloc, &mut self.peers, uuid, deny),
             Call::PeerAt(uuid, deny, seq) => make_at(self.alloc, &mut self.peers, uuid, deny, seq),
+            Call::Backup(at) => {
+                backups::back_up(self.alloc, self.peers.get(at)?, &mut self.backups)
+            }
+            Call::Restore(at, backup) => backups::restore(
+                self.alloc,
+                self.peers.get_mut(at)?,
+                self.backups.get(backup)?,
+            ),
             other => self.answer_of(place_of(&other), &other),
         }
     }
@@ -154,6 +188,7 @@ fn place_of(call: &Call) -> Option<usize> {
         Call::Load(at, _)
         | Call::Edit(at, _, _, _, _)
         | Call::Numbers(at)
+        | Call::Life(at)
         | Call::Tree(at, _)
         | Call::Node(at, _, _)
         | Call::Verdict(at, _)
@@ -203,7 +238,7 @@ fn of_one_alone(alloc: Global, peer: &mut Peer<Rules>, call: &Call) -> Option<St
         Call::Record(_, session, moment) => record(alloc, peer, session, moment),
         Call::Conclude(_, session, moment) => conclude(alloc, peer, session, moment),
         Call::PutEntry(_, rep, session, recorded) => {
-            put_entry(alloc, peer, rep, session, recorded)
+            put_entry(alloc, peer, &rep.id(), session, recorded)
         }
         Call::LoadLong(_, length) => large::load_long(alloc, peer, length),
         Call::LoadWide(_, leaves) => large::load_wide(alloc, peer, leaves),
@@ -216,14 +251,15 @@ fn of_one_alone(alloc: Global, peer: &mut Peer<Rules>, call: &Call) -> Option<St
 fn read(alloc: Global, peer: &Peer<Rules>, call: &Call) -> Option<String> {
     match *call {
         Call::Numbers(_) => numbers_text(alloc, peer.db()),
+        Call::Life(_) => shown(alloc, &peer.db().life()),
         Call::Tree(_, id) => tree(alloc, peer.db(), id),
         Call::Node(_, id, rev) => node(alloc, peer.db(), id, rev),
         Call::Verdict(_, text) => verdict(alloc, peer, text),
         Call::Covered(_, id, rev) => covered(alloc, peer, id, rev),
         Call::Sizes(_) => large::sizes(alloc, peer),
         Call::Entry(_, session) => entry(alloc, peer, session),
-        Call::TargetLog(_, rep) => target_log(alloc, peer, rep),
-        Call::SourceLog(_, rep) => source_log(alloc, peer, rep),
+        Call::TargetLog(_, rep) => target_log(alloc, peer, &rep.id()),
+        Call::SourceLog(_, rep) => source_log(alloc, peer, &rep.id()),
         _ => None,
     }
 }
@@ -232,7 +268,7 @@ fn read(alloc: Global, peer: &Peer<Rules>, call: &Call) -> Option<String> {
 fn of_two(alloc: Global, peers: &mut Vec<Peer<Rules>>, call: &Call) -> Option<String> {
     match *call {
         Call::PutEntryOf(at, rep, target, session) => {
-            put_of(alloc, peers, at, rep, target, session)
+            put_of(alloc, peers, at, &rep.id(), target, session)
         }
         Call::Common(source, target, _)
         | Call::Audit(source, target)
@@ -252,11 +288,11 @@ fn compare(
     call: &Call,
 ) -> Option<String> {
     match *call {
-        Call::Common(_, _, rep) => agreed(alloc, source, target, rep),
-        Call::Audit(_, _) => found_text(alloc, audit(alloc, source, target)),
+        Call::Common(_, _, rep) => agreed(alloc, source, target, &rep.id()),
+        Call::Audit(_, _) => found_text(alloc, audit(alloc, source, target, None)),
         Call::CheckPlan(_, _, batch) => plans::check(alloc, source, target, batch),
         Call::HoleAbove(_, _, since) => {
-            found_text(alloc, hole_above(alloc, source, target, since))
+            found_text(alloc, hole_above(alloc, source, target, since, None))
         }
         _ => None,
     }
@@ -307,7 +343,7 @@ fn page(
     since: u64,
     goal: u64,
 ) -> Option<String> {
-    match peer.page(alloc, since, goal, 500) {
+    match peer.page(alloc, since, goal, 500, None) {
         Ok(window) => keep_window(alloc, windows, window),
         Err(fault) => base_fault_text(alloc, fault),
     }
@@ -451,11 +487,18 @@ fn begin(
     alloc: Global,
     peer: &mut Peer<Rules>,
     session: SessionId,
-    how: Beginning<'_>,
+    how: Beginning,
     moment: u64,
 ) -> Option<String> {
     let at = Moment::new(moment).ok()?;
-    match peer.begin(session, how.rep, how.base, how.start, how.goal, at) {
+    let beginning = repl_target::Beginning {
+        rep: how.rep.id(),
+        life: 0,
+        base: how.base,
+        start: how.start,
+        goal: how.goal,
+    };
+    match peer.begin(session, beginning, at) {
         Ok(()) => "begun".to_string(alloc).ok(),
         Err(fault) => fault_text(alloc, fault),
     }

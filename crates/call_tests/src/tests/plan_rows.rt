@@ -1,6 +1,5 @@
 //! The rows of plans: what is refused, where a session begins, its entry at the source, and the walk above a sequence.
-use crate::tests::peers::{Call, Lists, Rows, expect};
-use repl_log::RepId;
+use crate::tests::peers::{Call, Lists, Rep, Rows, expect};
 use rev_tree::SessionId;
 
 /// The peers: the source, the target, and one that refuses d.
@@ -21,7 +20,7 @@ const S1: SessionId = SessionId(1);
 const S2: SessionId = SessionId(2);
 
 /// The replication from the source into the target, and that into the peer that refuses d.
-const REP: RepId = RepId {
+const REP: Rep = Rep {
     source: 1,
     target: 2,
 };
@@ -65,7 +64,7 @@ const FIRST_SESSION: Rows = &[
     ),
     (Call::BeginPlan(S1, 11), "SessionExists"),
     (Call::RecordAtSource(S1), "recorded"),
-    (Call::SourceLog(SOURCE, &REP), "1 at 0;"),
+    (Call::SourceLog(SOURCE, REP), "1 at 0;"),
     (Call::Page(SOURCE, 0, 1), "0 to 1: 1 d 1-a;"),
     (Call::Append(TARGET, S1, FIRST), "appended"),
     (Call::Diff(TARGET, FIRST), "0 to 1: d 1-a;"),
@@ -73,7 +72,7 @@ const FIRST_SESSION: Rows = &[
     (Call::Settle(TARGET, S1, FIRST), "written 1 failed 0"),
     (Call::Record(TARGET, S1, 12), "1"),
     (Call::RecordAtSource(S1), "recorded"),
-    (Call::SourceLog(SOURCE, &REP), "1 at 1;"),
+    (Call::SourceLog(SOURCE, REP), "1 at 1;"),
 ];
 
 #[test]
@@ -99,7 +98,7 @@ fn a_plan_begins_where_the_logs_agree(rt: HostRuntime) {
             "session 2 from 1 to 2 checked 1 found 1 read 1 written 1 failed 0",
         ),
         (Call::RecordAtSource(S2), "recorded"),
-        (Call::SourceLog(SOURCE, &REP), "2 at 2;1 at 1;"),
+        (Call::SourceLog(SOURCE, REP), "2 at 2;1 at 1;"),
     ];
     static LISTS: Lists = &[THREE, FIRST_SESSION, ROWS];
     expect(&rt, rt.alloc(), LISTS);
@@ -108,10 +107,10 @@ fn a_plan_begins_where_the_logs_agree(rt: HostRuntime) {
 #[test]
 fn an_older_entry_is_passed_over(rt: HostRuntime) {
     const ROWS: Rows = &[
-        (Call::PutEntry(SOURCE, &REP, S1, 9), "put"),
-        (Call::SourceLog(SOURCE, &REP), "1 at 9;"),
+        (Call::PutEntry(SOURCE, REP, S1, 9), "put"),
+        (Call::SourceLog(SOURCE, REP), "1 at 9;"),
         (Call::RecordAtSource(S1), "recorded"),
-        (Call::SourceLog(SOURCE, &REP), "1 at 9;"),
+        (Call::SourceLog(SOURCE, REP), "1 at 9;"),
         // The lesser of the two sequences is where the next one begins.
         (Call::BeginPlan(S2, 13), "1"),
     ];
@@ -144,12 +143,12 @@ fn a_walk_above_a_sequence(rt: HostRuntime) {
 #[test]
 fn what_was_rightly_refused_is_no_hole(rt: HostRuntime) {
     use crate::tests::peers::Beginning;
-    const REP_INTO_REFUSING: RepId = RepId {
+    const REP_INTO_REFUSING: Rep = Rep {
         source: 1,
         target: 3,
     };
     const INTO_REFUSING: Beginning = Beginning {
-        rep: &REP_INTO_REFUSING,
+        rep: REP_INTO_REFUSING,
         base: None,
         start: 0,
         goal: 1,

@@ -14,6 +14,7 @@ pub(crate) fn plan(session: SessionId, batch: u64, moment: u64) -> Option<Plan> 
         batch,
         stop_after: None,
         at: Moment::new(moment).ok()?,
+        chosen: None,
     })
 }
 
@@ -38,7 +39,7 @@ pub(crate) fn begin(
     session: SessionId,
     moment: u64,
 ) -> Option<String> {
-    match begin_plan(alloc, source, target, &plan(session, 500, moment)?) {
+    match begin_plan(source, target, &plan(session, 500, moment)?) {
         Ok(start) => shown(alloc, &start),
         Err(fault) => fault_text(alloc, fault),
     }

@@ -1,7 +1,7 @@
 //! Runs of the pool whose gate stops or holds a worker.
+use crate::tests::peers::Rep;
 use crate::tests::pools::{Bench, Call, How, Rows};
 use crate::tests::texts::expect_answer;
-use repl_log::RepId;
 use repl_pool::{Gate, Place, Turn};
 use rev_tree::SessionId;
 use std::alloc::Global;
@@ -16,7 +16,7 @@ const A: usize = 0;
 const B: usize = 1;
 
 /// The replication from the one into the other.
-const REP: RepId = RepId {
+const REP: Rep = Rep {
     source: 1,
     target: 2,
 };
@@ -249,7 +249,7 @@ fn fetched_is_counted_where_a_run_stops(rt: HostRuntime) {
             Call::Entry(B, S1),
             "session 1 from 0 to 0 checked 0 found 0 read 0 written 0 failed 0, 0 to 0",
         ),
-        (Call::SourceLog(A, &REP), "1 at 0;"),
+        (Call::SourceLog(A, REP), "1 at 0;"),
         (Call::Audit(A, B), "clean"),
     ];
     let gate = StopsOnce::new(2, 0);
@@ -277,7 +277,7 @@ static SIX: Rows = &[
 
 /// What stands once all is carried.
 static ALL: Rows = &[
-    (Call::Common(A, B, &REP), "6"),
+    (Call::Common(A, B, REP), "6"),
     (Call::Audit(A, B), "clean"),
     (Call::Tree(B, "d0"), "1-a of 1"),
     (Call::Tree(B, "d1"), "1-a of 1"),
@@ -312,7 +312,7 @@ fn stop<R: Abort + Threads + Wait + Sync>(
 /// Asserts that a further run begins at what both logs agree about, and ends at the goal.
 fn go_on<R: Abort + Threads + Wait + Sync>(rt: &R, alloc: Global, bench: &mut Bench) {
     let from = bench
-        .answer(rt, &Call::Common(A, B, &REP))
+        .answer(rt, &Call::Common(A, B, REP))
         .expect(rt, "two logs");
     let answer = bench
         .answer(rt, &Call::Run(A, B, AGAIN))

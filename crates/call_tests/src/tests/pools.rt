@@ -4,7 +4,7 @@ ghost use Rattle.std.specs.List.{All};
 ghost use Rattle.repl_pool.specs.Boards.{WorksAt};
 
 use crate::tests::databases::tree;
-use crate::tests::peers::{entry, found_text, load, make, source_log};
+use crate::tests::peers::{Rep, entry, found_text, load, make, source_log};
 use crate::tests::records::{fault_text, report_text};
 use crate::tests::texts::{expect_answer, place_text};
 use progress_board::{Board, BoardSeat};
@@ -43,9 +43,9 @@ pub(crate) enum Call<'a> {
     /// Reads the entry of a session.
     Entry(usize, SessionId),
     /// Reads the log of a replication from a peer.
-    SourceLog(usize, &'a RepId),
+    SourceLog(usize, Rep),
     /// Compares the logs of a replication at its source and its target.
-    Common(usize, usize, &'a RepId),
+    Common(usize, usize, Rep),
     /// Audits a target, the second one, against a source.
     Audit(usize, usize),
 }
@@ -113,6 +113,7 @@ impl Bench {
             batch: how.batch,
             stop_after: how.stop_after,
             at,
+            chosen: None,
         })
     }
 
@@ -191,7 +192,7 @@ fn of_one(alloc: Global, peer: &mut Peer<Rules>, call: &Call) -> Option<String> 
         Call::Fill(_, documents) => fill(alloc, peer, documents),
         Call::Tree(_, id) => tree(alloc, peer.db(), id),
         Call::Entry(_, session) => entry(alloc, peer, session),
-        Call::SourceLog(_, rep) => source_log(alloc, peer, rep),
+        Call::SourceLog(_, rep) => source_log(alloc, peer, &rep.id()),
         _ => None,
     }
 }
@@ -204,8 +205,8 @@ fn compare(
     call: &Call,
 ) -> Option<String> {
     match *call {
-        Call::Common(_, _, rep) => agreed(alloc, source, target, rep),
-        Call::Audit(_, _) => found_text(alloc, audit(alloc, source, target)),
+        Call::Common(_, _, rep) => agreed(alloc, source, target, &rep.id()),
+        Call::Audit(_, _) => found_text(alloc, audit(alloc, source, target, None)),
         _ => None,
     }
 }

@@ -16,6 +16,7 @@ use test_texts::rev;
 const REP: RepId = RepId {
     source: 1,
     target: 2,
+    chosen: None,
 };
 
 /// A step, with its documents as texts. All moments are 0.
@@ -27,10 +28,9 @@ pub(crate) enum Act<'a> {
     EditTarget(&'a str, &'a str, &'a str),
     LoadSource(&'a str),
     ThirdParty(&'a str),
-    /// Begins a session without a base: its start and its goal.
-    Begin(SessionId, u64, u64),
-    /// Begins a session on another one: its start and its goal.
-    BeginOn(SessionId, SessionId, u64, u64),
+    ReadLog,
+    /// Begins a session from a log of the bag: the log's place and the goal.
+    Begin(SessionId, usize, u64),
     Page(u64, u64, u64),
     Append(SessionId, usize),
     Diff(usize),
@@ -39,6 +39,8 @@ pub(crate) enum Act<'a> {
     Record(SessionId),
     Conclude(SessionId),
     PutEntry(usize),
+    Backup,
+    Restore(usize),
     Crash,
 }
 
@@ -53,8 +55,10 @@ pub(crate) enum Question<'a> {
     Log(u128),
     /// The tree of a document at a side.
     Tree(u128, &'a str),
-    /// The numbers of windows, asked lists, parcels and entries.
+    /// The numbers of windows, asked lists, parcels, entries and logs.
     Sizes,
+    /// The life of the source's database.
+    Life,
     /// What an audit finds.
     Audit,
 }
@@ -105,17 +109,10 @@ fn edit_target(alloc: Global, id: &str, parent: &str, body: Body) -> Option<Step
 fn plain_step(act: Act) -> Option<Step> {
     let at = at_0()?;
     match act {
-        Act::Begin(session, start, goal) => Some(Step::Begin {
+        Act::ReadLog => Some(Step::ReadLog),
+        Act::Begin(session, log, goal) => Some(Step::Begin {
             session,
-            base: None,
-            start,
-            goal,
-            at,
-        }),
-        Act::BeginOn(session, base, start, goal) => Some(Step::Begin {
-            session,
-            base: Some(base),
-            start,
+            log,
             goal,
             at,
         }),
@@ -127,6 +124,8 @@ fn plain_step(act: Act) -> Option<Step> {
         Act::Record(session) => Some(Step::Record { session, at }),
         Act::Conclude(session) => Some(Step::Conclude { session, at }),
         Act::PutEntry(entry) => Some(Step::PutEntry { entry }),
+        Act::Backup => Some(Step::Backup),
+        Act::Restore(backup) => Some(Step::Restore { backup }),
         _ => Some(Step::Crash),
     }
 }
@@ -162,7 +161,7 @@ fn side_log(alloc: Global, world: &World<Rules>, side: u128) -> Option<String> {
 
 /// What an audit finds.
 fn audit_text(alloc: Global, world: &World<Rules>) -> Option<String> {
-    match audit(alloc, world.source(), world.target()) {
+    match audit(alloc, world.source(), world.target(), None) {
         Ok(Audit::Clean) => "clean".to_string(alloc).ok(),
         Ok(Audit::Hole { seq, .. }) => format!(in alloc; "hole {seq}").ok(),
         Err(fault) => fault_text(alloc, fault),
@@ -178,10 +177,16 @@ fn side(world: &World<Rules>, number: u128) -> &Peer<Rules> {
     }
 }
 
-/// The numbers of windows, asked lists, parcels and entries.
-fn sizes_text(alloc: Global, sizes: (usize, usize, usize, usize)) -> Option<String> {
-    let (windows, asked, parcels, entries) = sizes;
-    format!(in alloc; "{windows} {asked} {parcels} {entries}").ok()
+/// The numbers of windows, asked lists, parcels, entries and logs.
+fn sizes_text(alloc: Global, sizes: (usize, usize, usize, usize, usize)) -> Option<String> {
+    let (windows, asked, parcels, entries, logs) = sizes;
+    format!(in alloc; "{windows} {asked} {parcels} {entries} {logs}").ok()
+}
+
+/// The life of the source's database.
+fn life_text(alloc: Global, world: &World<Rules>) -> Option<String> {
+    let life = world.source().db().life();
+    format!(in alloc; "{life}").ok()
 }
 
 /// What a question is answered.
@@ -192,6 +197,7 @@ fn answer(alloc: Global, world: &World<Rules>, question: Question) -> Option<Str
         Question::Log(number) => side_log(alloc, world, number),
         Question::Tree(number, id) => tree(alloc, side(world, number).db(), id),
         Question::Sizes => sizes_text(alloc, world.bag_sizes()),
+        Question::Life => life_text(alloc, world),
         Question::Audit => audit_text(alloc, world),
     }
 }
@@ -216,7 +222,7 @@ fn peer(alloc: Global, uuid: u128) -> Peer<Rules> {
 /// A world of two empty peers.
 fn world(rt: &impl Abort, alloc: Global) -> World<Rules> {
     let (source, target) = (peer(alloc, 1), peer(alloc, 2));
-    World::new(alloc, source, target).expect(rt, "two peers")
+    World::new(alloc, source, target, None).expect(rt, "two peers")
 }
 
 /// Takes lists of steps in a world of two empty peers, and asserts what its questions are answered.
@@ -228,6 +234,6 @@ pub(crate) fn expect(rt: &impl Abort, alloc: Global, lists: &[Acts], told: Told)
 /// Asserts that two peers of one uuid make no world.
 pub(crate) fn refuse_one(rt: &impl Abort, alloc: Global) {
     let (source, target) = (peer(alloc, 1), peer(alloc, 1));
-    let fault = World::new(alloc, source, target).err();
+    let fault = World::new(alloc, source, target, None).err();
     assert_eq!(rt; fault, Some(WorldFault::SamePeer));
 }

@@ -179,7 +179,10 @@ fn answers(rt: &impl Abort, alloc: Global, side: &Side, asked: &Asked) -> usize 
 /// What the target asks for the source's whole feed.
 fn asked(rt: &impl Abort, alloc: Global, source: &Side, target: &Side) -> Asked {
     let goal = source.plain.update_seq;
-    let window = source.db.page(alloc, 0, goal, 100).expect(rt, "a page");
+    let window = source
+        .db
+        .page(alloc, 0, goal, 100, None)
+        .expect(rt, "a page");
     target.db.revs_diff(alloc, &window).expect(rt, "memory")
 }
 

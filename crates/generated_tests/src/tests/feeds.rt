@@ -135,7 +135,7 @@ fn page(rt: &impl Abort, alloc: Global, rng: &mut ChaCha8Rng, db: &Database, pla
     let since = below(rng, 30) as u64;
     let goal = below(rng, 40) as u64;
     let limit = below(rng, 4) as u64;
-    match db.page(alloc, since, goal, limit) {
+    match db.page(alloc, since, goal, limit, None) {
         Ok(window) => window_is(rt, alloc, &window, plain, since, goal, limit),
         Err(fault) => page_refused(rt, fault, plain, since, goal, limit),
     }

@@ -1,9 +1,11 @@
-//! Replications of random pairs, by one thread and by the pool, each compared with the plain model: both sides' trees,
-//! what is covered, the report, and the session's ledger.
+//! Replications of random pairs, by one thread and by the pool, of all documents and of two choices by chance, each
+//! compared with the plain model: both sides' trees, what is covered, the report, and the session's ledger.
+use crate::tests::choices::{chosen, some};
 use crate::tests::feeds::{document_by_chance, is_answer};
 use crate::tests::merges::below;
-use crate::tests::plain_sides::{Carried, IDS, PlainSide, carry};
+use crate::tests::plain_sides::{ALL, Carried, IDS, Picked, PlainSide, carry};
 use crate::tests::sides::{agrees, has_ledger};
+use doc_json::Chosen;
 use rand_chacha::ChaCha8Rng;
 use rand_core::SeedableRng;
 use repl_log::Moment;
@@ -19,6 +21,13 @@ use std::thread::Threads;
 /// How many choices there are of the document that is refused; some are no document's.
 const CHOICES: u32 = 8;
 
+/// The places of what is replicated: all documents, and the two choices.
+const WHOLE: usize = 0;
+
+const FIRST: usize = 1;
+
+const SECOND: usize = 2;
+
 /// The places of the sources, behind the target.
 const SOURCE: usize = 0;
 
@@ -31,28 +40,31 @@ enum Call {
     GrowTarget(usize),
     /// The same into a source.
     Grow(usize, usize),
-    /// Replicates a source into the target.
-    Replicate(usize),
+    /// Replicates a source into the target: all documents, or those of a choice.
+    Replicate(usize, usize),
 }
 
-/// Another source goes into a target with documents of its own, then the source, and the source once more after it has
-/// grown.
+/// Another source goes into a target with documents of its own, then the source, by one choice and whole, and after it
+/// has grown by both choices and whole once more.
 static CALLS: &[Call] = &[
     Call::Grow(OTHER, 10),
     Call::GrowTarget(5),
     Call::Grow(SOURCE, 20),
-    Call::Replicate(OTHER),
-    Call::Replicate(SOURCE),
+    Call::Replicate(OTHER, WHOLE),
+    Call::Replicate(SOURCE, FIRST),
+    Call::Replicate(SOURCE, WHOLE),
     Call::Grow(SOURCE, 6),
-    Call::Replicate(SOURCE),
+    Call::Replicate(SOURCE, FIRST),
+    Call::Replicate(SOURCE, SECOND),
+    Call::Replicate(SOURCE, WHOLE),
 ];
 
-/// A peer, its plain side, and up to which sequence it was replicated into the target.
+/// A peer, its plain side, and up to which sequence it was replicated into the target: whole, and by each choice.
 #[derive(Drop)]
 struct Side {
     peer: Peer<Rules>,
     plain: PlainSide,
-    carried: u64,
+    carried: [u64; 3],
 }
 
 impl Side {
@@ -61,7 +73,7 @@ impl Side {
         Side {
             peer: Peer::new(alloc, uuid, Rules { deny }),
             plain: PlainSide::new(),
-            carried: 0,
+            carried: [0; 3],
         }
     }
 
@@ -81,6 +93,8 @@ struct Bench {
     /// How many workers replicate; none for one thread alone.
     workers: u64,
     deny: Option<usize>,
+    /// All documents, and two choices.
+    picked: [Picked; 3],
     sessions: u128,
     sides: Vec<Side>,
 }
@@ -91,11 +105,15 @@ impl Bench {
         let mut rng = ChaCha8Rng::seed_from_u64(seed);
         let number = below(&mut rng, CHOICES);
         let deny = if number < IDS { Some(number) } else { None };
+        let first = some(&mut rng);
+        // The other choice has another number of the same 31.
+        let second = first % 31 + 1;
         let mut bench = Bench {
             alloc,
             rng,
             workers,
             deny,
+            picked: [ALL, first, second],
             sessions: 0,
             sides: Vec::new(alloc),
         };
@@ -116,7 +134,7 @@ impl Bench {
         match call {
             Call::GrowTarget(loads) => self.grow(rt, 0, loads),
             Call::Grow(source, loads) => self.grow(rt, source.saturating_add(1), loads),
-            Call::Replicate(source) => self.replicate(rt, source),
+            Call::Replicate(source, choice) => self.replicate(rt, source, choice),
         }
     }
 
@@ -128,14 +146,34 @@ impl Bench {
         }
     }
 
-    /// Replicates a source into the target, by a session of its own.
-    fn replicate<R: Abort + Threads + Wait + Sync>(&mut self, rt: &R, source: usize) {
+    /// Replicates a source into the target, all of it or a choice, by a session of its own.
+    fn replicate<R: Abort + Threads + Wait + Sync>(
+        &mut self,
+        rt: &R,
+        source: usize,
+        choice: usize,
+    ) {
         self.sessions = self.sessions.saturating_add(1);
-        let plan = plan(rt, &mut self.rng, self.workers, self.sessions);
+        let picked = self.picked[choice % 3];
+        let chosen = chosen(rt, self.alloc, picked);
+        let plan = plan(rt, &mut self.rng, self.workers, self.sessions, chosen);
         let (target, sources) = self.sides.split_first_mut().expect(rt, "a target");
         let source = sources.get_mut(source).expect(rt, "a source");
-        replicate(rt, self.alloc, source, target, self.deny, &plan);
+        let how = How {
+            choice,
+            picked,
+            deny: self.deny,
+        };
+        replicate(rt, self.alloc, source, target, how, &plan);
     }
+}
+
+/// What is replicated, and which document is refused.
+#[derive(Clone, Copy)]
+struct How {
+    choice: usize,
+    picked: Picked,
+    deny: Option<usize>,
 }
 
 /// The prefix that refuses the document of a number.
@@ -146,14 +184,21 @@ pub(crate) fn prefix(rt: &impl Abort, alloc: Global, deny: Option<usize>) -> Opt
     }
 }
 
-/// A plan with windows of 1 to 4 rows by chance.
-fn plan(rt: &impl Abort, rng: &mut ChaCha8Rng, workers: u64, session: u128) -> Plan {
+/// A plan with windows that scan 1 to 4 rows by chance.
+fn plan(
+    rt: &impl Abort,
+    rng: &mut ChaCha8Rng,
+    workers: u64,
+    session: u128,
+    chosen: Option<Chosen>,
+) -> Plan {
     Plan {
         session: SessionId(session),
         workers,
         batch: below(rng, 4) as u64 + 1,
         stop_after: None,
         at: Moment::new(10).expect(rt, "a moment"),
+        chosen,
     }
 }
 
@@ -202,11 +247,11 @@ fn replicate<R: Abort + Threads + Wait + Sync>(
     alloc: Global,
     source: &mut Side,
     target: &mut Side,
-    deny: Option<usize>,
+    how: How,
     plan: &Plan,
 ) {
     let report = carry_peers(rt, alloc, &mut source.peer, &mut target.peer, plan);
-    compare(rt, alloc, source, target, deny, plan.session, report);
+    compare(rt, alloc, source, target, how, plan.session, report);
     assert!(rt;
         agrees(rt, alloc, &source.peer, &source.plain, IDS),
         "the source"
@@ -215,7 +260,7 @@ fn replicate<R: Abort + Threads + Wait + Sync>(
         agrees(rt, alloc, &target.peer, &target.plain, IDS),
         "the target"
     );
-    source.carried = source.plain.update_seq;
+    source.carried[how.choice % 3] = source.plain.update_seq;
 }
 
 /// Replicates the plain sides, and asserts that the report and the session's ledger are what that gives.
@@ -224,12 +269,13 @@ fn compare(
     alloc: Global,
     source: &Side,
     target: &mut Side,
-    deny: Option<usize>,
+    how: How,
     session: SessionId,
     report: Option<Report>,
 ) {
-    let since = source.carried;
-    let mut carried = carry(rt, alloc, &source.plain, &mut target.plain, since, deny);
+    let since = source.carried[how.choice % 3];
+    let (from, into) = (&source.plain, &mut target.plain);
+    let mut carried = carry(rt, alloc, from, into, since, how.picked, how.deny);
     assert_eq!(rt;
         report,
         Some(wanted(&source.plain, since, session, &carried))

@@ -9,6 +9,17 @@ pub(crate) const IDS: usize = 5;
 /// The sequence of each document's latest change, and its tree.
 pub(crate) type Documents = [Option<(u64, Reference)>; IDS];
 
+/// A bit for each document that is chosen, of all where none are.
+pub(crate) type Picked = u32;
+
+/// All documents.
+pub(crate) const ALL: Picked = 0xffff_ffff;
+
+/// Whether a document is chosen.
+pub(crate) fn is_picked(picked: Picked, number: usize) -> bool {
+    picked & (1 << (number % IDS)) != 0
+}
+
 /// The number of the document that stands next above a sequence, and at or under a goal.
 pub(crate) fn next_above(documents: &Documents, seq: u64, goal: u64) -> Option<(usize, u64)> {
     let mut best: Option<(usize, u64)> = None;
@@ -130,13 +141,14 @@ impl Carried {
     }
 }
 
-/// Carries a source's feed above a sequence into a target. Documents of a number are refused.
+/// Carries the chosen documents of a source's feed above a sequence into a target. Documents of a number are refused.
 pub(crate) fn carry(
     rt: &impl Abort,
     alloc: Global,
     source: &PlainSide,
     target: &mut PlainSide,
     since: u64,
+    picked: Picked,
     deny: Option<usize>,
 ) -> Carried {
     let mut carried = Carried::new(alloc);
@@ -146,8 +158,10 @@ pub(crate) fn carry(
             break;
         };
         seq = next;
-        let denied = deny == Some(number);
-        carry_document(rt, alloc, source, target, number, denied, &mut carried);
+        if is_picked(picked, number) {
+            let denied = deny == Some(number);
+            carry_document(rt, alloc, source, target, number, denied, &mut carried);
+        }
     }
     carried
 }

@@ -1,6 +1,9 @@
-//! A plain model of a world, written from docs/PROFILE.md, "Worlds", "Sessions of a peer" and "Settling": trees are bit
-//! masks, a feed is a scan over all documents, and what was sent and stored stands in tables of plain rows.
-use crate::tests::plain_sides::{IDS, Masks, PlainSide, Row, next_above, take_leaf};
+//! A plain model of a world, written from docs/PROFILE.md, "Worlds", "Sessions of a peer", "Settling" and "Backup and
+//! restore": trees are bit masks, a feed is a scan over all documents, and what was sent and stored stands in tables of
+//! plain rows.
+use crate::tests::plain_sides::{
+    ALL, IDS, Masks, Picked, PlainSide, Row, is_picked, next_above, take_leaf,
+};
 use crate::tests::reference::mask_of;
 use std::alloc::Global;
 use std::process::Abort;
@@ -8,9 +11,10 @@ use std::process::Abort;
 /// The document that is edited and never loaded. Its revision of the generation g stands at the place 3 (g - 1).
 pub(crate) const EDITED: usize = 4;
 
-/// A window, or what is asked for one: its bounds, and the leaves of its rows.
+/// A window, or what is asked for one: the life of its source, its bounds, and the leaves of its rows.
 #[derive(Clone, Copy)]
 pub(crate) struct Rows {
+    life: u64,
     lo: u64,
     hi: u64,
     leaves: Masks,
@@ -27,6 +31,7 @@ struct Fetched {
 #[derive(Clone, Copy, Debug, PartialEq, Eq)]
 pub(crate) struct Done {
     pub(crate) session: u128,
+    pub(crate) life: u64,
     pub(crate) start: u64,
     pub(crate) recorded: u64,
     /// When it began and when it last recorded, in seconds since 1970.
@@ -35,6 +40,71 @@ pub(crate) struct Done {
     pub(crate) found: u64,
     pub(crate) written: u64,
     pub(crate) failures: u64,
+}
+
+/// The log of the replication at its source, the oldest first, with the life of the source's database.
+#[derive(Drop)]
+pub(crate) struct SourceLog {
+    pub(crate) life: u64,
+    pub(crate) entries: Vec<Done>,
+}
+
+impl SourceLog {
+    /// The same log.
+    fn copy(&self, rt: &impl Abort, alloc: Global) -> SourceLog {
+        SourceLog {
+            life: self.life,
+            entries: Vec::from_slice(alloc, &self.entries).expect(rt, "memory"),
+        }
+    }
+}
+
+/// A copy of the source.
+#[derive(Drop)]
+struct Copied {
+    side: PlainSide,
+    log: SourceLog,
+}
+
+/// How often a list of steps came to what a restore leaves behind.
+#[derive(Clone, Copy, Debug)]
+pub(crate) struct Met {
+    /// A copy was put back while windows, entries or logs were under way.
+    pub(crate) restores: u64,
+    /// A session began in a life that had ended.
+    pub(crate) begins: u64,
+    /// A window was of another life than the session that was to store it.
+    pub(crate) windows: u64,
+    /// An entry was of another life than the source.
+    pub(crate) entries: u64,
+}
+
+impl Met {
+    /// Nothing.
+    pub(crate) fn new() -> Met {
+        Met {
+            restores: 0,
+            begins: 0,
+            windows: 0,
+            entries: 0,
+        }
+    }
+
+    /// Adds what another list came to.
+    pub(crate) fn add(&mut self, other: &Met) {
+        self.restores = self.restores.saturating_add(other.restores);
+        self.begins = self.begins.saturating_add(other.begins);
+        self.windows = self.windows.saturating_add(other.windows);
+        self.entries = self.entries.saturating_add(other.entries);
+    }
+
+    /// The least of these counts.
+    pub(crate) fn least(&self) -> u64 {
+        self.restores
+            .min(self.begins)
+            .min(self.windows)
+            .min(self.entries)
+    }
 }
 
 /// A session of the target.
@@ -69,8 +139,8 @@ fn count(masks: &Masks) -> u64 {
     all
 }
 
-/// The rows of a feed above a sequence, at or under a goal.
-fn page(side: &PlainSide, since: u64, goal: u64, limit: u64) -> Rows {
+/// The chosen ones of the rows of a feed above a sequence, at or under a goal, in a life.
+fn page(side: &PlainSide, life: u64, since: u64, goal: u64, limit: u64, picked: Picked) -> Rows {
     let mut leaves = [0; IDS];
     let mut hi = since;
     for _ in 0..limit {
@@ -78,10 +148,13 @@ fn page(side: &PlainSide, since: u64, goal: u64, limit: u64) -> Rows {
             hi = goal;
             break;
         };
-        leaves[number % IDS] = side.tree(number).leaf_mask();
+        if is_picked(picked, number) {
+            leaves[number % IDS] = side.tree(number).leaf_mask();
+        }
         hi = seq;
     }
     Rows {
+        life,
         lo: since,
         hi,
         leaves,
@@ -125,6 +198,17 @@ impl Sessions {
         }
     }
 
+    /// The least number above 0 that no session has.
+    fn next(&self) -> u128 {
+        let mut next = 1u128;
+        for _ in &self.begun {
+            if self.get(next).is_some() {
+                next = next.saturating_add(1);
+            }
+        }
+        next
+    }
+
     /// The place of a session.
     fn place(&self, session: u128) -> Option<usize> {
         self.begun
@@ -159,27 +243,25 @@ impl Sessions {
         low
     }
 
-    /// Begins a session, where it may.
-    fn begin(
-        &mut self,
-        rt: &impl Abort,
-        session: u128,
-        base: Option<u128>,
-        start: u64,
-        goal: u64,
-        time: u64,
-    ) {
-        let most = match base {
-            Some(base) => self.get(base).map(|base| base.done.recorded),
-            None => Some(0),
-        };
-        let may = match most {
-            Some(most) => start <= most && start <= goal && self.get(session).is_none(),
-            None => false,
-        };
-        if may {
+    /// Where a log of the source and the sessions agree: at what both have recorded of the newest session that is in
+    /// both, and at 0 without one.
+    fn agreed(&self, entries: &[Done]) -> u64 {
+        for held in self.begun.iter().rev() {
+            if let Some(place) = place_in(entries, held.done.session) {
+                let told = entries.get(place).map_or(0, |done| done.recorded);
+                return told.min(held.done.recorded);
+            }
+        }
+        0
+    }
+
+    /// Begins a session where a log of the source and the sessions agree, in the life of that log, where it may.
+    fn begin(&mut self, rt: &impl Abort, session: u128, log: &SourceLog, goal: u64, time: u64) {
+        let start = self.agreed(&log.entries);
+        if start <= goal && self.get(session).is_none() {
             let done = Done {
                 session,
+                life: log.life,
                 start,
                 recorded: start,
                 moments: (time, time),
@@ -192,12 +274,12 @@ impl Sessions {
         }
     }
 
-    /// Stores a window, where it is the next.
+    /// Stores a window, where it is of the session's life and the next.
     fn append(&mut self, rt: &impl Abort, session: u128, rows: Rows) {
         let Some(held) = self.get(session) else {
             return;
         };
-        if rows.lo == self.end(held) && rows.hi <= held.goal {
+        if rows.life == held.done.life && rows.lo == self.end(held) && rows.hi <= held.goal {
             let window = Stored {
                 session,
                 rows,
@@ -331,45 +413,64 @@ fn put_done(rt: &impl Abort, log: &mut Vec<Done>, done: Done) {
     }
 }
 
-/// Two sides, the target's sessions, the source's log, and the messages. Each list has the oldest first.
+/// Two sides, the target's sessions, the source's log, the messages, and copies of the source. Each list has the oldest
+/// first.
 #[derive(Drop)]
 pub(crate) struct PlainWorld {
     pub(crate) source: PlainSide,
     pub(crate) target: PlainSide,
     /// The document that the target refuses.
     pub(crate) deny: Option<usize>,
+    /// The documents that are replicated.
+    pub(crate) picked: Picked,
     sessions: Sessions,
-    pub(crate) log: Vec<Done>,
+    pub(crate) log: SourceLog,
     windows: Vec<Rows>,
     asked: Vec<Rows>,
     parcels: Vec<Fetched>,
     entries: Vec<Done>,
+    logs: Vec<SourceLog>,
+    copies: Vec<Copied>,
+    pub(crate) met: Met,
 }
 
 impl PlainWorld {
-    /// No documents; the target refuses none.
+    /// No documents; the target refuses none, and all are replicated.
     pub(crate) fn new(alloc: Global) -> PlainWorld {
         PlainWorld {
             source: PlainSide::new(),
             target: PlainSide::new(),
             deny: None,
+            picked: ALL,
             sessions: Sessions::new(alloc),
-            log: Vec::new(alloc),
+            log: SourceLog {
+                life: 0,
+                entries: Vec::new(alloc),
+            },
             windows: Vec::new(alloc),
             asked: Vec::new(alloc),
             parcels: Vec::new(alloc),
             entries: Vec::new(alloc),
+            logs: Vec::new(alloc),
+            copies: Vec::new(alloc),
+            met: Met::new(),
         }
     }
 
-    /// How many windows, asked lists, parcels and entries there are.
-    pub(crate) fn sizes(&self) -> (usize, usize, usize, usize) {
+    /// How many windows, asked lists, parcels, entries and logs there are.
+    pub(crate) fn sizes(&self) -> (usize, usize, usize, usize, usize) {
         (
             self.windows.len(),
             self.asked.len(),
             self.parcels.len(),
             self.entries.len(),
+            self.logs.len(),
         )
+    }
+
+    /// How many copies of the source there are.
+    pub(crate) fn copies(&self) -> usize {
+        self.copies.len()
     }
 
     /// One of the two sides.
@@ -381,18 +482,15 @@ impl PlainWorld {
         }
     }
 
-    /// What a session has recorded, 0 where it is not there.
-    pub(crate) fn recorded(&self, session: u128) -> u64 {
-        self.sessions
-            .get(session)
-            .map_or(0, |held| held.done.recorded)
-    }
-
-    /// Whether a session has recorded its goal.
-    pub(crate) fn is_whole(&self, session: u128) -> bool {
-        self.sessions
-            .get(session)
-            .map_or(false, |held| held.done.recorded == held.goal)
+    /// The session that is to be carried on: the newest, where it has not recorded its goal and is of the source's life,
+    /// or of any; else the next.
+    pub(crate) fn carried(&self, any_life: bool) -> u128 {
+        match self.sessions.begun.last() {
+            Some(held)
+                if held.done.recorded != held.goal
+                    && (any_life || held.done.life == self.log.life) => { held.done.session }
+            _ => self.sessions.next(),
+        }
     }
 
     /// Where the windows of a session end, 0 where it is not there.
@@ -440,23 +538,35 @@ impl PlainWorld {
         }
     }
 
-    /// Begins a session, where it may.
+    /// Reads the source's log.
+    pub(crate) fn read_log(&mut self, rt: &impl Abort, alloc: Global) {
+        let log = self.log.copy(rt, alloc);
+        self.logs.push(log).expect(rt, "memory");
+    }
+
+    /// Begins a session from a log that was read, where it may.
     pub(crate) fn begin(
         &mut self,
         rt: &impl Abort,
         session: u128,
-        base: Option<u128>,
-        start: u64,
+        log: usize,
         goal: u64,
         time: u64,
     ) {
-        self.sessions.begin(rt, session, base, start, goal, time);
+        if let Some(log) = self.logs.get(log) {
+            let before = self.sessions.begun.len();
+            self.sessions.begin(rt, session, log, goal, time);
+            if before < self.sessions.begun.len() && log.life != self.log.life {
+                self.met.begins = self.met.begins.saturating_add(1);
+            }
+        }
     }
 
     /// Reads a page of the source, where there is one.
     pub(crate) fn page(&mut self, rt: &impl Abort, since: u64, goal: u64, limit: u64) {
         if limit != 0 && since < goal && goal <= self.source.update_seq {
-            let rows = page(&self.source, since, goal, limit);
+            let life = self.log.life;
+            let rows = page(&self.source, life, since, goal, limit, self.picked);
             self.windows.push(rows).expect(rt, "memory");
         }
     }
@@ -465,6 +575,10 @@ impl PlainWorld {
     pub(crate) fn append(&mut self, rt: &impl Abort, session: u128, window: usize) {
         if let Some(rows) = self.windows.get(window) {
             self.sessions.append(rt, session, *rows);
+            let life = self.sessions.get(session).map(|held| held.done.life);
+            if life.is_some() && life != Some(rows.life) {
+                self.met.windows = self.met.windows.saturating_add(1);
+            }
         }
     }
 
@@ -502,18 +616,45 @@ impl PlainWorld {
         }
     }
 
-    /// Puts an entry into the source's log, where none of its session has recorded more.
+    /// Puts an entry into the source's log, where it is of the source's life and none of its session has recorded more.
     pub(crate) fn put_entry(&mut self, rt: &impl Abort, entry: usize) {
         if let Some(entry) = self.entries.get(entry) {
-            put_done(rt, &mut self.log, *entry);
+            if entry.life == self.log.life {
+                put_done(rt, &mut self.log.entries, *entry);
+            } else {
+                self.met.entries = self.met.entries.saturating_add(1);
+            }
         }
     }
 
-    /// Loses all messages.
+    /// Copies the source.
+    pub(crate) fn back_up(&mut self, rt: &impl Abort, alloc: Global) {
+        let copied = Copied {
+            side: self.source,
+            log: self.log.copy(rt, alloc),
+        };
+        self.copies.push(copied).expect(rt, "memory");
+    }
+
+    /// Puts the source back to a copy, in a life above both.
+    pub(crate) fn restore(&mut self, rt: &impl Abort, alloc: Global, copy: usize) {
+        if let Some(copied) = self.copies.get(copy) {
+            if self.windows.len() > 0 || self.entries.len() > 0 || self.logs.len() > 0 {
+                self.met.restores = self.met.restores.saturating_add(1);
+            }
+            let life = self.log.life.max(copied.log.life).saturating_add(1);
+            self.source = copied.side;
+            self.log = copied.log.copy(rt, alloc);
+            self.log.life = life;
+        }
+    }
+
+    /// Loses all messages; the copies stay.
     pub(crate) fn crash(&mut self) {
         self.windows.clear();
         self.asked.clear();
         self.parcels.clear();
         self.entries.clear();
+        self.logs.clear();
     }
 }

@@ -1,11 +1,13 @@
 //! Lists of steps by chance, taken by a world and by its plain model, and compared: both peers, the logs and the bag.
+use crate::tests::choices::{all_or_some, chosen};
 use crate::tests::feeds::{body, document_by_chance, id};
 use crate::tests::merges::below;
 use crate::tests::pairs::prefix;
 use crate::tests::plain_sides::PlainSide;
-use crate::tests::plain_worlds::{Done, EDITED, PlainWorld};
+use crate::tests::plain_worlds::{Done, EDITED, Met, PlainWorld};
 use crate::tests::sides::{agrees, has_ledger};
 use couch_base::Database;
+use doc_json::Chosen;
 use rand_chacha::ChaCha8Rng;
 use rand_core::SeedableRng;
 use repl_log::{Entry, Log, Moment, RepId};
@@ -16,14 +18,8 @@ use rev_tree::SessionId;
 use std::alloc::Global;
 use std::process::Abort;
 
-/// The replication of the world's peers.
-const REP: RepId = RepId {
-    source: 1,
-    target: 2,
-};
-
 /// How many steps a list has.
-const STEPS: usize = 40;
+const STEPS: usize = 80;
 
 /// How many of these load a document first.
 const LOADS: usize = 4;
@@ -59,12 +55,13 @@ impl Dealer {
         }
     }
 
-    /// Picks a document that the target refuses, or none.
+    /// Picks a document that the target refuses, or none, and the documents that are replicated.
     fn pick(&mut self) {
         let number = below(&mut self.rng, 8);
         if number < EDITED {
             self.model.deny = Some(number);
         }
+        self.model.picked = all_or_some(&mut self.rng);
     }
 
     /// A place of the bag: mostly the last one, sometimes one outside.
@@ -76,14 +73,13 @@ impl Dealer {
         }
     }
 
-    /// The session that is to be carried on: the second where the first has recorded its goal.
+    /// The session that is to be carried on, sometimes another one.
     fn session(&mut self) -> u128 {
         if below(&mut self.rng, 8) == 0 {
             below(&mut self.rng, 4) as u128
-        } else if self.model.is_whole(1) {
-            2
         } else {
-            1
+            let any_life = below(&mut self.rng, 3) == 0;
+            self.model.carried(any_life)
         }
     }
 
@@ -145,20 +141,22 @@ impl Dealer {
         }
     }
 
-    /// A session begins: the second on the first.
+    /// The source's log is read.
+    fn read_log(&mut self, rt: &impl Abort) -> Step {
+        self.model.read_log(rt, self.alloc);
+        Step::ReadLog
+    }
+
+    /// A session begins from a log that was read.
     fn begin(&mut self, rt: &impl Abort) -> Step {
         let session = self.session();
-        let base = if session == 2 { Some(1) } else { None };
-        let start = base.map_or(0, |base| self.model.recorded(base));
-        let off = self.off();
-        let start = start.saturating_add(off);
+        let sizes = self.model.sizes();
+        let log = self.place(sizes.4);
         let goal = self.model.source.update_seq;
-        self.model
-            .begin(rt, session, base, start, goal, self.number as u64);
+        self.model.begin(rt, session, log, goal, self.number as u64);
         Step::Begin {
             session: SessionId(session),
-            base: base.map(|base| SessionId(base)),
-            start,
+            log,
             goal,
             at: moment(rt, self.number),
         }
@@ -241,6 +239,20 @@ impl Dealer {
         Step::PutEntry { entry }
     }
 
+    /// The source is copied.
+    fn back_up(&mut self, rt: &impl Abort) -> Step {
+        self.model.back_up(rt, self.alloc);
+        Step::Backup
+    }
+
+    /// The source is put back to a copy.
+    fn restore(&mut self, rt: &impl Abort) -> Step {
+        let copies = self.model.copies();
+        let backup = self.place(copies);
+        self.model.restore(rt, self.alloc, backup);
+        Step::Restore { backup }
+    }
+
     /// All messages are lost.
     fn crash(&mut self) -> Step {
         self.model.crash();
@@ -249,14 +261,15 @@ impl Dealer {
 
     /// The step of a replication whose turn it is.
     fn carry_on(&mut self, rt: &impl Abort, turn: usize) -> Step {
-        match turn % 8 {
-            0 => self.begin(rt),
-            1 => self.page(rt),
-            2 => self.append(rt),
-            3 => self.diff(rt),
-            4 => self.fetch(rt),
-            5 => self.settle(rt),
-            6 => self.record(rt, false),
+        match turn % 9 {
+            0 => self.read_log(rt),
+            1 => self.begin(rt),
+            2 => self.page(rt),
+            3 => self.append(rt),
+            4 => self.diff(rt),
+            5 => self.fetch(rt),
+            6 => self.settle(rt),
+            7 => self.record(rt, false),
             _ => self.put_entry(rt),
         }
     }
@@ -270,8 +283,10 @@ impl Dealer {
             4 => self.edit(rt, false),
             5 => self.record(rt, true),
             6 if below(&mut self.rng, 4) == 0 => self.crash(),
+            7 => self.back_up(rt),
+            8 => self.restore(rt),
             _ => {
-                let turn = below(&mut self.rng, 8);
+                let turn = below(&mut self.rng, 9);
                 self.carry_on(rt, turn)
             }
         }
@@ -280,11 +295,11 @@ impl Dealer {
     /// The next step.
     fn next(&mut self, rt: &impl Abort) -> Step {
         self.number = self.number.saturating_add(1);
-        let kind = below(&mut self.rng, 24);
+        let kind = below(&mut self.rng, 26);
         if self.number <= LOADS {
             return self.load(rt, true);
         }
-        if kind < 9 {
+        if kind < 11 {
             return self.odd(rt, kind);
         }
         let turn = self.turn;
@@ -328,6 +343,7 @@ fn has_chain(rt: &impl Abort, alloc: Global, db: &Database, held: usize, chain: 
 fn done_of(entry: &Entry) -> Done {
     Done {
         session: entry.session.0,
+        life: entry.life,
         start: entry.start,
         recorded: entry.recorded,
         moments: (entry.start_time.seconds(), entry.end_time.seconds()),
@@ -367,9 +383,15 @@ fn compare_log(rt: &impl Abort, log: Option<Log>, wanted: &[Done]) {
 }
 
 /// Asserts that what the target tells of its sessions is that of the model.
-fn compare_sessions(rt: &impl Abort, alloc: Global, target: &Peer<Rules>, model: &PlainWorld) {
+fn compare_sessions(
+    rt: &impl Abort,
+    alloc: Global,
+    target: &Peer<Rules>,
+    rep: &RepId,
+    model: &PlainWorld,
+) {
     let told = model.told(rt, alloc);
-    compare_log(rt, target.target_log(alloc, &REP).ok(), &told);
+    compare_log(rt, target.target_log(alloc, rep).ok(), &told);
     for done in &told {
         compare_ledger(rt, alloc, target, model, done.session);
     }
@@ -388,9 +410,15 @@ fn compare_ledger(
     assert!(rt; has, "a ledger");
 }
 
-/// Asserts that an audit finds nothing.
-fn is_clean(rt: &impl Abort, alloc: Global, source: &Peer<Rules>, target: &Peer<Rules>) {
-    match audit(alloc, source, target) {
+/// Asserts that an audit of the documents that are replicated finds nothing.
+fn is_clean(
+    rt: &impl Abort,
+    alloc: Global,
+    source: &Peer<Rules>,
+    target: &Peer<Rules>,
+    chosen: Option<&Chosen>,
+) {
+    match audit(alloc, source, target, chosen) {
         Ok(Audit::Clean) => {}
         _ => rt.panic(format_args!("an audit finds a hole")),
     }
@@ -405,11 +433,17 @@ fn compare_peers(
     dealer: &Dealer,
 ) {
     let model = &dealer.model;
+    let chosen = chosen(rt, alloc, model.picked);
+    let rep = RepId::new(1, 2, chosen.as_ref()).expect(rt, "memory");
     compare_documents(rt, alloc, source, &model.source, &dealer.chain);
     compare_documents(rt, alloc, target, &model.target, &dealer.chain);
-    compare_log(rt, source.source_log(alloc, &REP).ok(), &model.log);
-    compare_sessions(rt, alloc, target, model);
-    is_clean(rt, alloc, source, target);
+    compare_log(rt, source.source_log(alloc, &rep).ok(), &model.log.entries);
+    assert!(rt; source.db().life() == model.log.life, "the life");
+    // Each change of the source is a local write.
+    let writes = source.locals().len() as u64;
+    assert!(rt; writes == model.source.update_seq, "the local writes");
+    compare_sessions(rt, alloc, target, &rep, model);
+    is_clean(rt, alloc, source, target, chosen.as_ref());
 }
 
 /// A peer that refuses a prefix.
@@ -417,10 +451,15 @@ fn peer(alloc: Global, uuid: u128, deny: Option<String>) -> Peer<Rules> {
     Peer::new(alloc, uuid, Rules { deny })
 }
 
-/// A world of two peers without documents.
-fn world(rt: &impl Abort, alloc: Global, deny: Option<String>) -> World<Rules> {
+/// A world of two peers without documents, whose replication is of some documents or of all.
+fn world(
+    rt: &impl Abort,
+    alloc: Global,
+    deny: Option<String>,
+    chosen: Option<Chosen>,
+) -> World<Rules> {
     let (source, target) = (peer(alloc, 1, None), peer(alloc, 2, deny));
-    World::new(alloc, source, target).expect(rt, "two peers")
+    World::new(alloc, source, target, chosen).expect(rt, "two peers")
 }
 
 /// Takes a list, and asserts that the world is then its model.
@@ -434,26 +473,36 @@ fn take(rt: &impl Abort, alloc: Global, world: &mut World<Rules>, steps: &[Step]
 fn taken(rt: &impl Abort, alloc: Global, dealer: &mut Dealer, world: &mut World<Rules>) -> u64 {
     let steps = deal(rt, alloc, dealer);
     take(rt, alloc, world, &steps, dealer);
-    dealer.model.log.last().map_or(0, |done| done.recorded)
+    dealer
+        .model
+        .log
+        .entries
+        .last()
+        .map_or(0, |done| done.recorded)
 }
 
 /// The list of a seed.
-fn of_seed(rt: &impl Abort, alloc: Global, seed: u64) -> u64 {
+fn of_seed(rt: &impl Abort, alloc: Global, seed: u64, met: &mut Met) -> u64 {
     let mut dealer = Dealer::new(alloc, seed);
     dealer.pick();
     make_chain(rt, alloc, &mut dealer.chain);
-    let mut world = world(rt, alloc, prefix(rt, alloc, dealer.model.deny));
-    taken(rt, alloc, &mut dealer, &mut world)
+    let choice = chosen(rt, alloc, dealer.model.picked);
+    let mut world = world(rt, alloc, prefix(rt, alloc, dealer.model.deny), choice);
+    let recorded = taken(rt, alloc, &mut dealer, &mut world);
+    met.add(&dealer.model.met);
+    recorded
 }
 
 #[test]
 fn lists_of_steps_by_chance_agree(rt: HostRuntime) {
     let mut recorded = 0u64;
+    let mut met = Met::new();
     for seed in 0..200u64 {
-        recorded = recorded.saturating_add(of_seed(&rt, rt.alloc(), seed));
+        recorded = recorded.saturating_add(of_seed(&rt, rt.alloc(), seed, &mut met));
     }
     assert!(rt;
         200 < recorded,
         "{recorded} sequences are recorded at both sides"
     );
+    assert!(rt; 48 < met.least(), "{met:?}");
 }

@@ -62,7 +62,7 @@ fn stops_at_a_failed_read(rt: HostRuntime) -> Result<(), Fail> {
             failures: 0,
             reads: 0,
         };
-        let mut writer = OverWrite::new(Vec::new(rt.alloc()));
+        let mut writer = OverWrite::new(rt.alloc(), Vec::new(rt.alloc()))?;
         let ended = run_lines(rt.alloc(), &mut server, &mut reader, &mut writer);
         let faulted = matches!(ended, Err(ScriptFault::Read));
         assert!(rt; faulted && reader.failures == 1, "at {calls_left}");
@@ -94,6 +94,13 @@ impl ScriptWrite for NarrowWriter {
         }
         Err(io::Error::from(ErrorKind::Other))
     }
+
+    fn flush(&mut self) -> io::Result<()> {
+        if self.failures == u64::MAX {
+            return Err(io::Error::from(ErrorKind::Other));
+        }
+        Ok(())
+    }
 }
 
 /// At each write in turn: what went out is a beginning of the answers, as long as the writes before.
@@ -114,6 +121,75 @@ fn stops_at_a_failed_write(rt: HostRuntime) -> Result<(), Fail> {
         assert_eq!(rt; writer.failures, if faulted { 1 } else { 0 });
         assert_eq!(rt; writer.written.len() as u64, calls_left);
         assert!(rt; ANSWERS.as_bytes().starts_with(writer.written.as_slice()));
+    }
+    Ok(())
+}
+
+/// A writer that gathers all that it is given, and fails at one of its flushes.
+#[derive(Drop)]
+struct GatheringWriter {
+    given: Vec<u8>,
+    sent: Vec<u8>,
+    flushes_left: u64,
+    failures: u64,
+}
+
+impl ScriptWrite for GatheringWriter {
+    ghost failures = { λ s. s.failures };
+
+    fn write(&mut self, bytes: &[u8]) -> io::Result<usize> {
+        let fails = self.failures == u64::MAX || bytes.is_empty();
+        if !fails && self.given.extend_from_slice(bytes).is_ok() {
+            return Ok(bytes.len());
+        }
+        self.failures = self.failures.saturating_add(1);
+        Err(io::Error::from(ErrorKind::Other))
+    }
+
+    fn flush(&mut self) -> io::Result<()> {
+        if self.flushes_left == 0 || self.failures == u64::MAX {
+            self.failures = self.failures.saturating_add(1);
+            return Err(io::Error::from(ErrorKind::Other));
+        }
+        self.flushes_left -= 1;
+        if self.sent.extend_from_slice(self.given.as_slice()).is_err() {
+            self.failures = self.failures.saturating_add(1);
+            return Err(io::Error::from(ErrorKind::Other));
+        }
+        self.given.clear();
+        Ok(())
+    }
+}
+
+/// How many flushes succeed, and what has gone out then: one is before the first read, one before the read that finds the end,
+/// and one behind the last line, which has no line end.
+static FLUSHES: &[(u64, &str)] = &[
+    (0, ""),
+    (1, ""),
+    (2, "0\n3\nrefused 5 Long\n"),
+    (3, ANSWERS),
+];
+
+#[test]
+fn answers_go_out_before_each_read(rt: HostRuntime) -> Result<(), Fail> {
+    for (flushes_left, sent) in FLUSHES {
+        let mut server = Lengths { before: 0 };
+        let mut reader = OverRead::new(LINES.as_bytes());
+        let mut writer = GatheringWriter {
+            given: Vec::new(rt.alloc()),
+            sent: Vec::new(rt.alloc()),
+            flushes_left: *flushes_left,
+            failures: 0,
+        };
+        let ended = run_lines(rt.alloc(), &mut server, &mut reader, &mut writer);
+        let faulted = matches!(ended, Err(ScriptFault::Write));
+        assert_eq!(rt; faulted, *flushes_left < 3, "at {flushes_left}");
+        assert_eq!(rt; writer.failures, if faulted { 1 } else { 0 });
+        assert_eq!(rt;
+            writer.sent.as_slice(),
+            sent.as_bytes(),
+            "at {flushes_left}"
+        );
     }
     Ok(())
 }
@@ -139,7 +215,7 @@ fn four_thousand_reads(rt: HostRuntime) -> Result<(), Fail> {
         failures: 0,
         reads: 0,
     };
-    let mut writer = OverWrite::new(Vec::new(rt.alloc()));
+    let mut writer = OverWrite::new(rt.alloc(), Vec::new(rt.alloc()))?;
     assert!(rt; !run_lines(rt.alloc(), &mut server, &mut reader, &mut writer)?);
     let reads = reader.reads;
     assert!(rt; reads >= 4_000, "{reads}");

@@ -49,7 +49,7 @@ pub(crate) const ANSWERS: &str = "0\n3\nrefused 5 Long\n5\n";
 fn serves_other_words(rt: HostRuntime) -> Result<(), Fail> {
     let mut server = Lengths { before: 0 };
     let mut reader = OverRead::new(LINES.as_bytes());
-    let mut writer = OverWrite::new(Vec::new(rt.alloc()));
+    let mut writer = OverWrite::new(rt.alloc(), Vec::new(rt.alloc()))?;
     let clean = run_lines(rt.alloc(), &mut server, &mut reader, &mut writer)?;
     assert!(rt; !clean);
     assert_eq!(rt; writer.into_inner().as_slice(), ANSWERS.as_bytes());

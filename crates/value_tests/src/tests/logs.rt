@@ -21,10 +21,10 @@ enum Call<'a> {
     Has(usize, &'a [(u128, u64)]),
     /// Compares the logs of a source and a target.
     Common(usize, usize),
-    /// Writes a copy of a replication id.
-    Name(&'a RepId),
-    /// Writes the log of a replication.
-    Write(&'a RepId, usize),
+    /// Writes a copy of the replication id of the row `log_text`.
+    Name,
+    /// Writes a log of that replication.
+    Write(usize),
     /// Makes a moment, and reads its seconds.
     Moment(u64),
 }
@@ -71,8 +71,8 @@ impl Bench {
         match *call {
             Call::Has(at, sessions) => has(self.alloc, self.logs.get(at)?, sessions),
             Call::Common(source, target) => self.common(source, target),
-            Call::Name(id) => named(self.alloc, id),
-            Call::Write(id, at) => written(self.alloc, id, self.logs.get(at)?),
+            Call::Name => named(self.alloc, &replication()),
+            Call::Write(at) => written(self.alloc, &replication(), self.logs.get(at)?),
             Call::Moment(seconds) => moment_text(self.alloc, seconds),
             _ => None,
         }
@@ -114,6 +114,7 @@ fn one_document(moment: u64) -> Option<Entry> {
     let at = Moment::new(moment).ok()?;
     Some(Entry {
         session: SessionId(1),
+        life: 0,
         start: 0,
         recorded: 1,
         start_time: at,
@@ -198,10 +199,13 @@ fn session_replaced(rt: HostRuntime) {
 }
 
 /// The replication of the row `log_text`.
-const REP: RepId = RepId {
-    source: 0x1111_1111_1111_4111_8111_1111_1111_1111,
-    target: 0x2222_2222_2222_4222_8222_2222_2222_2222,
-};
+fn replication() -> RepId {
+    RepId {
+        source: 0x1111_1111_1111_4111_8111_1111_1111_1111,
+        target: 0x2222_2222_2222_4222_8222_2222_2222_2222,
+        chosen: None,
+    }
+}
 
 /// The text of the log of the row `log_text`.
 const LOG_TEXT: &str =
@@ -215,13 +219,13 @@ const LOG_TEXT: &str =
 
 static TEXT_ROWS: Rows = &[
     (
-        Call::Name(&REP),
+        Call::Name,
         "11111111111141118111111111111111-22222222222242228222222222222222",
     ),
     (Call::Make, "made"),
-    (Call::Write(&REP, 0), "EmptyLog"),
+    (Call::Write(0), "EmptyLog"),
     (Call::PutOne(0, 1_381_384_598), "Ok(())"),
-    (Call::Write(&REP, 0), LOG_TEXT),
+    (Call::Write(0), LOG_TEXT),
 ];
 
 #[test]

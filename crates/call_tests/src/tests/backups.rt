@@ -1,0 +1,31 @@
+//! Copies of peers, and putting them back, as calls on the peers of a bench.
+use crate::tests::records::fault_text;
+use crate::tests::texts::numbers_text;
+use repl_target::{Backup, Peer, Rules};
+use std::alloc::Global;
+
+/// Copies a peer.
+pub(crate) fn back_up(
+    alloc: Global,
+    peer: &Peer<Rules>,
+    backups: &mut Vec<Backup>,
+) -> Option<String> {
+    match peer.backup(alloc) {
+        Ok(backup) => keep(alloc, backups, backup),
+        Err(fault) => fault_text(alloc, fault),
+    }
+}
+
+/// Keeps a copy, and gives the uuid and the update sequence of its database.
+fn keep(alloc: Global, backups: &mut Vec<Backup>, backup: Backup) -> Option<String> {
+    backups.push(backup).ok()?;
+    numbers_text(alloc, backups.last()?.db())
+}
+
+/// Puts a peer back to a copy.
+pub(crate) fn restore(alloc: Global, peer: &mut Peer<Rules>, backup: &Backup) -> Option<String> {
+    match peer.restore(backup) {
+        Ok(()) => "restored".to_string(alloc).ok(),
+        Err(fault) => fault_text(alloc, fault),
+    }
+}

@@ -1,0 +1,341 @@
+//! Choices of documents, two peers that are replicated under them, and the calls on these by name.
+use crate::tests::peers::{agreed, found_text, load, source_log, target_log};
+use crate::tests::plans::plan;
+use crate::tests::records::{fault_text, report_text};
+use crate::tests::texts::{append, base_fault_text, expect_answer, window_text};
+use couch_base::Window;
+use doc_json::{Chosen, DocId, is_chosen};
+use repl_log::{RepId, rep_id};
+use repl_target::{Peer, Plan, Rules, audit, begin_plan, hole_above, rep_between, replicate_alone};
+use rev_tree::SessionId;
+use std::alloc::Global;
+use std::process::Abort;
+use test_texts::shown;
+
+/// The place of a choice; none for all documents.
+pub(crate) type Under = Option<usize>;
+
+/// A call on the source, the target, or the choices, which are named by their places.
+#[derive(Clone, Copy)]
+pub(crate) enum Call<'a> {
+    /// Loads a document into the source.
+    Load(&'a str),
+    /// Loads a document into the target.
+    LoadTarget(&'a str),
+    /// Chooses documents. That becomes the next choice.
+    Choose(&'a [&'a str]),
+    /// Chooses the documents of the numbers from 1 to some, and the first of them once more. That becomes the next
+    /// choice.
+    ChooseMany(u32),
+    /// Copies a choice. That becomes the next one.
+    Copy(usize),
+    /// Asks whether two choices are equal.
+    Equal(usize, usize),
+    /// Asks whether a document is chosen.
+    Has(Under, &'a str),
+    /// Reads the text of the id of the replication from the source into the target.
+    Text(Under),
+    /// Reads a page of the source: above a sequence, towards a goal, of so many rows that are scanned.
+    Page(u64, u64, u64, Under),
+    /// Replicates the source into the target by one thread: a session, and how many rows a window scans.
+    Replicate(SessionId, u64, Under),
+    /// Begins a session at the target.
+    Begin(SessionId, Under),
+    /// Appends to a session at the target a page of the source above a sequence, towards a goal.
+    Append(SessionId, u64, u64, Under),
+    /// Audits the target.
+    Audit(Under),
+    /// Asks for the first hole of the target above a sequence of the source.
+    HoleAbove(u64, Under),
+    /// Compares the logs of the replication.
+    Common(Under),
+    /// Reads the log of the replication at the source.
+    SourceLog(Under),
+    /// Reads the log of the replication at the target.
+    TargetLog(Under),
+}
+
+/// Calls, each with the text that it must answer.
+pub(crate) type Rows = &'static [(Call<'static>, &'static str)];
+
+/// A source, a target, and choices.
+#[derive(Drop)]
+struct Bench {
+    alloc: Global,
+    source: Peer<Rules>,
+    target: Peer<Rules>,
+    choices: Vec<Chosen>,
+}
+
+impl Bench {
+    /// Peers of no documents, with the uuids 1 and 2.
+    fn new(alloc: Global) -> Bench {
+        Bench {
+            alloc,
+            source: Peer::new(alloc, 1, Rules { deny: None }),
+            target: Peer::new(alloc, 2, Rules { deny: None }),
+            choices: Vec::new(alloc),
+        }
+    }
+
+    /// Makes the calls in order, and asserts what each answers.
+    fn run(&mut self, rt: &impl Abort, calls: &[(Call, &str)]) {
+        for (i, (call, wanted)) in calls.iter().enumerate() {
+            expect_answer(rt, i, self.answer(call), wanted);
+        }
+    }
+
+    /// Makes a call, and gives the text of its answer.
+    fn answer(&mut self, call: &Call) -> Option<String> {
+        match *call {
+            Call::Load(text) => load(self.alloc, &mut self.source, text),
+            Call::LoadTarget(text) => load(self.alloc, &mut self.target, text),
+            Call::Choose(names) => choose(self.alloc, &mut self.choices, names),
+            Call::ChooseMany(count) => choose_many(self.alloc, &mut self.choices, count),
+            Call::Copy(at) => copy(self.alloc, &mut self.choices, at),
+            other => self.answer_under(&other),
+        }
+    }
+
+    /// Makes a call that makes no choice.
+    fn answer_under(&mut self, call: &Call) -> Option<String> {
+        let (source, target) = (&mut self.source, &mut self.target);
+        match *call {
+            Call::Equal(one, other) => equal(self.alloc, &self.choices, one, other),
+            Call::Has(under, id) => has(self.alloc, chosen(&self.choices, under)?, id),
+            Call::Replicate(session, batch, under) => {
+                let chosen = chosen(&self.choices, under)?;
+                replicate(self.alloc, source, target, session, batch, chosen)
+            }
+            Call::Begin(session, under) => {
+                let chosen = chosen(&self.choices, under)?;
+                begin(self.alloc, source, target, session, chosen)
+            }
+            Call::Append(session, since, goal, under) => {
+                let window = page_of(
+                    self.alloc,
+                    source,
+                    since,
+                    goal,
+                    chosen(&self.choices, under)?,
+                )?;
+                store(self.alloc, target, session, window)
+            }
+            other => read(self.alloc, source, target, &self.choices, &other),
+        }
+    }
+}
+
+/// Makes a call that changes nothing.
+fn read(
+    alloc: Global,
+    source: &Peer<Rules>,
+    target: &Peer<Rules>,
+    choices: &[Chosen],
+    call: &Call,
+) -> Option<String> {
+    match *call {
+        Call::Page(since, goal, limit, under) => {
+            page(alloc, source, since, goal, limit, chosen(choices, under)?)
+        }
+        Call::Audit(under) => {
+            let chosen = chosen(choices, under)?;
+            found_text(alloc, audit(alloc, source, target, chosen))
+        }
+        Call::HoleAbove(since, under) => {
+            let chosen = chosen(choices, under)?;
+            found_text(alloc, hole_above(alloc, source, target, since, chosen))
+        }
+        Call::Text(under) | Call::Common(under) | Call::SourceLog(under) | Call::TargetLog(under) =>
+            {
+                let rep = rep_between(source, target, chosen(choices, under)?).ok()?;
+                of_replication(alloc, source, target, &rep, call)
+            }
+        _ => None,
+    }
+}
+
+/// Makes a call on the replication of an id.
+fn of_replication(
+    alloc: Global,
+    source: &Peer<Rules>,
+    target: &Peer<Rules>,
+    rep: &RepId,
+    call: &Call,
+) -> Option<String> {
+    match *call {
+        Call::Text(_) => String::from_utf8(rep_id(alloc, rep).ok()?).ok(),
+        Call::Common(_) => agreed(alloc, source, target, rep),
+        Call::SourceLog(_) => source_log(alloc, source, rep),
+        Call::TargetLog(_) => target_log(alloc, target, rep),
+        _ => None,
+    }
+}
+
+/// The choice of a place, none for all documents.
+fn chosen(choices: &[Chosen], under: Under) -> Option<Option<&Chosen>> {
+    match under {
+        Some(at) => Some(Some(choices.get(at)?)),
+        None => Some(None),
+    }
+}
+
+/// Makes the choice of some ids, and tells how many it has, and the ids where these are few.
+fn choose_ids(alloc: Global, choices: &mut Vec<Chosen>, ids: Vec<DocId>) -> Option<String> {
+    match Chosen::new(ids) {
+        Ok(chosen) => keep(alloc, choices, chosen),
+        Err(fault) => shown(alloc, &fault),
+    }
+}
+
+/// Keeps a choice, and tells how many ids it has, and the ids where these are few.
+fn keep(alloc: Global, choices: &mut Vec<Chosen>, chosen: Chosen) -> Option<String> {
+    let text = ids_text(alloc, chosen.ids());
+    choices.push(chosen).ok()?;
+    text
+}
+
+/// How many ids there are, and the ids where these are few.
+fn ids_text(alloc: Global, ids: &[DocId]) -> Option<String> {
+    let mut all = shown(alloc, &ids.len())?;
+    if ids.len() < 10 {
+        for id in ids {
+            append(&mut all, id_text(alloc, id))?;
+        }
+    }
+    Some(all)
+}
+
+/// A blank and an id.
+fn id_text(alloc: Global, id: &DocId) -> Option<String> {
+    format!(in alloc; " {}", id.text()).ok()
+}
+
+/// Chooses documents.
+fn choose(alloc: Global, choices: &mut Vec<Chosen>, names: &[&str]) -> Option<String> {
+    let mut ids = Vec::new(alloc);
+    for name in names {
+        ids.push(DocId::parse(alloc, name).ok()?).ok()?;
+    }
+    choose_ids(alloc, choices, ids)
+}
+
+/// The id of a number.
+fn number_id(alloc: Global, number: u32) -> Option<DocId> {
+    let text = number.to_string(alloc).ok()?;
+    DocId::parse(alloc, text.as_str()).ok()
+}
+
+/// Chooses the documents of the numbers from 1 to some, and the first of them once more.
+fn choose_many(alloc: Global, choices: &mut Vec<Chosen>, count: u32) -> Option<String> {
+    let mut ids = Vec::new(alloc);
+    for number in 0..count {
+        ids.push(number_id(alloc, number.saturating_add(1))?).ok()?;
+    }
+    ids.push(number_id(alloc, 1)?).ok()?;
+    choose_ids(alloc, choices, ids)
+}
+
+/// Copies a choice.
+fn copy(alloc: Global, choices: &mut Vec<Chosen>, at: usize) -> Option<String> {
+    let chosen = choices.get(at)?.copy().ok()?;
+    keep(alloc, choices, chosen)
+}
+
+/// Whether two choices are equal.
+fn equal(alloc: Global, choices: &[Chosen], one: usize, other: usize) -> Option<String> {
+    let same = choices.get(one)? == choices.get(other)?;
+    shown(alloc, &same)
+}
+
+/// Whether a document is chosen.
+fn has(alloc: Global, chosen: Option<&Chosen>, id: &str) -> Option<String> {
+    let id = DocId::parse(alloc, id).ok()?;
+    shown(alloc, &is_chosen(chosen, &id))
+}
+
+/// Reads a page.
+fn page(
+    alloc: Global,
+    source: &Peer<Rules>,
+    since: u64,
+    goal: u64,
+    limit: u64,
+    chosen: Option<&Chosen>,
+) -> Option<String> {
+    match source.page(alloc, since, goal, limit, chosen) {
+        Ok(window) => window_text(alloc, &window),
+        Err(fault) => base_fault_text(alloc, fault),
+    }
+}
+
+/// A page of 500 rows that are scanned.
+fn page_of(
+    alloc: Global,
+    source: &Peer<Rules>,
+    since: u64,
+    goal: u64,
+    chosen: Option<&Chosen>,
+) -> Option<Window> {
+    source.page(alloc, since, goal, 500, chosen).ok()
+}
+
+/// Appends a window to a session.
+fn store(
+    alloc: Global,
+    target: &mut Peer<Rules>,
+    session: SessionId,
+    window: Window,
+) -> Option<String> {
+    match target.append(session, window) {
+        Ok(()) => "appended".to_string(alloc).ok(),
+        Err(fault) => fault_text(alloc, fault),
+    }
+}
+
+/// The plan of a session under a choice, as a copy of it has it.
+fn plan_under(session: SessionId, batch: u64, chosen: Option<&Chosen>) -> Option<Plan> {
+    let mut plan = plan(session, batch, 0)?;
+    plan.chosen = match chosen {
+        Some(chosen) => Some(chosen.copy().ok()?),
+        None => None,
+    };
+    plan.copy().ok()
+}
+
+/// Replicates the source into the target.
+fn replicate(
+    alloc: Global,
+    source: &mut Peer<Rules>,
+    target: &mut Peer<Rules>,
+    session: SessionId,
+    batch: u64,
+    chosen: Option<&Chosen>,
+) -> Option<String> {
+    match replicate_alone(alloc, source, target, &plan_under(session, batch, chosen)?) {
+        Ok(report) => report_text(alloc, report),
+        Err(fault) => fault_text(alloc, fault),
+    }
+}
+
+/// Begins a session.
+fn begin(
+    alloc: Global,
+    source: &Peer<Rules>,
+    target: &mut Peer<Rules>,
+    session: SessionId,
+    chosen: Option<&Chosen>,
+) -> Option<String> {
+    match begin_plan(source, target, &plan_under(session, 500, chosen)?) {
+        Ok(start) => shown(alloc, &start),
+        Err(fault) => fault_text(alloc, fault),
+    }
+}
+
+/// Makes lists of calls on a bench of their own, and asserts what each answers.
+pub(crate) fn expect(rt: &impl Abort, alloc: Global, lists: &[Rows]) {
+    let mut bench = Bench::new(alloc);
+    for calls in lists {
+        bench.run(rt, calls);
+    }
+}

@@ -1,0 +1,34 @@
+//! Choices of documents by chance.
+use crate::tests::feeds::id;
+use crate::tests::merges::below;
+use crate::tests::plain_sides::{ALL, IDS, Picked, is_picked};
+use doc_json::Chosen;
+use rand_chacha::ChaCha8Rng;
+use std::alloc::Global;
+use std::process::Abort;
+
+/// Some of the documents, at least one.
+pub(crate) fn some(rng: &mut ChaCha8Rng) -> Picked {
+    below(rng, 31) as Picked + 1
+}
+
+/// All documents, or some of them.
+pub(crate) fn all_or_some(rng: &mut ChaCha8Rng) -> Picked {
+    if below(rng, 2) == 0 { ALL } else { some(rng) }
+}
+
+/// The choice of documents by their numbers, none where all are meant. They are named from the last one on, and the
+/// first that is named once more.
+pub(crate) fn chosen(rt: &impl Abort, alloc: Global, picked: Picked) -> Option<Chosen> {
+    if picked == ALL {
+        return None;
+    }
+    let mut ids = Vec::new(alloc);
+    for place in 0..2 * IDS {
+        let number = IDS - 1 - place % IDS;
+        if is_picked(picked, number) && (place < IDS || ids.len() == 1) {
+            ids.push(id(rt, alloc, number)).expect(rt, "memory");
+        }
+    }
+    Some(Chosen::new(ids).expect(rt, "a choice"))
+}

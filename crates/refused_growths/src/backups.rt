@@ -1,0 +1,114 @@
+//! `Peer::backup` and `restore`. A refused growth leaves a peer as it was.
+use crate::peers::load;
+use anyhow::{Result, bail};
+use repl_log::{Moment, RepId};
+use repl_target::{Backup, Peer, Rules, TargetFault};
+use rev_tree::SessionId;
+use std::alloc::Global;
+use test_texts::bare_entry;
+
+/// The replication from the peer.
+const REP: RepId = RepId {
+    source: 1,
+    target: 2,
+    chosen: None,
+};
+
+/// What is seen of a peer: the life and the update sequence of its database, how many local writes it has, and how many
+/// entries the log of the replication.
+type Seen = (u64, u64, usize, usize);
+
+/// How many entries the log of the replication has.
+fn entries(alloc: Global, peer: &Peer<Rules>) -> Option<usize> {
+    match peer.source_log(alloc, &REP) {
+        Err(TargetFault::Memory) => Some(peer.source_log(alloc, &REP).ok()?.len()),
+        answer => Some(answer.ok()?.len()),
+    }
+}
+
+fn look(alloc: Global, peer: &Peer<Rules>) -> Option<Seen> {
+    let entries = entries(alloc, peer)?;
+    let db = peer.db();
+    Some((db.life(), db.update_seq(), peer.locals().len(), entries))
+}
+
+/// Puts the entry of a session.
+fn put_entry(peer: &mut Peer<Rules>, session: u128, at: Moment) -> Option<()> {
+    let session = SessionId(session);
+    match peer.put_entry(&REP, bare_entry(session, 0, at)) {
+        Err(TargetFault::Memory) => peer.put_entry(&REP, bare_entry(session, 0, at)).ok(),
+        answer => answer.ok(),
+    }
+}
+
+fn backup(alloc: Global, peer: &Peer<Rules>) -> Option<Backup> {
+    match peer.backup(alloc) {
+        Err(TargetFault::Memory) => peer.backup(alloc).ok(),
+        answer => answer.ok(),
+    }
+}
+
+fn restore(alloc: Global, peer: &mut Peer<Rules>, backup: &Backup) -> Option<()> {
+    let before = look(alloc, peer)?;
+    match peer.restore(backup) {
+        Err(TargetFault::Memory) => {
+            if look(alloc, peer)? != before {
+                return None;
+            }
+            peer.restore(backup).ok()
+        }
+        answer => answer.ok(),
+    }
+}
+
+/// Loads two documents, and puts two entries.
+fn fill(alloc: Global, peer: &mut Peer<Rules>) -> Option<()> {
+    load(
+        alloc,
+        peer,
+        r#"{"_id":"d","_revisions":{"start":2,"ids":["b","a"]},"n":1}"#,
+    )?;
+    load(alloc, peer, r#"{"_id":"e","_rev":"1-a"}"#)?;
+    let at = Moment::new(10).ok()?;
+    put_entry(peer, 1, at)?;
+    put_entry(peer, 2, at)
+}
+
+/// Changes what was copied, and more.
+fn go_on(alloc: Global, peer: &mut Peer<Rules>) -> Option<()> {
+    load(
+        alloc,
+        peer,
+        r#"{"_id":"e","_revisions":{"start":2,"ids":["b","a"]}}"#,
+    )?;
+    load(alloc, peer, r#"{"_id":"f","_rev":"1-a"}"#)?;
+    put_entry(peer, 3, Moment::new(11).ok()?)
+}
+
+/// Copies a peer, goes on with it, and puts it back. Tells how it was before that, and how it is then.
+fn put_back(alloc: Global, peer: &mut Peer<Rules>) -> Option<(Seen, Seen)> {
+    fill(alloc, peer)?;
+    let copy = backup(alloc, peer)?;
+    go_on(alloc, peer)?;
+    let before = look(alloc, peer)?;
+    restore(alloc, peer, &copy)?;
+    Some((before, look(alloc, peer)?))
+}
+
+/// The same of a peer without documents.
+fn of_one(alloc: Global) -> Option<(Seen, Seen)> {
+    let mut peer = Peer::new(alloc, 1, Rules { deny: None });
+    put_back(alloc, &mut peer)
+}
+
+pub(crate) fn run(rt: &impl Print, alloc: Global) -> Result<()> {
+    let Some((before, after)) = of_one(alloc) else {
+        bail!("backups: another answer");
+    };
+    let (life, sequence, writes, entries) = after;
+    println!(rt;
+        "backups as wanted: sequence {} and then {sequence}, writes {writes}, entries {entries}, life {life}",
+        before.1
+    )?;
+    Ok(())
+}

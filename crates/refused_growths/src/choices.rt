@@ -1,0 +1,174 @@
+//! Choices of documents, and what is replicated under them: a refused growth leaves everything as it was.
+use crate::peers::load;
+use crate::replications::{is_memory, is_nothing, plan};
+use anyhow::{Result, bail};
+use couch_base::{BaseFault, Window};
+use doc_json::{Chosen, DocFault, DocId};
+use repl_log::{LogFault, Moment, RepId, rep_id};
+use repl_target::{Peer, Report, Rules, TargetFault, audit, hole_above, replicate_alone};
+use std::alloc::Global;
+
+/// The id of a text.
+fn id(alloc: Global, text: &str) -> Option<DocId> {
+    match DocId::parse(alloc, text) {
+        Err(DocFault::Memory) => DocId::parse(alloc, text).ok(),
+        answer => answer.ok(),
+    }
+}
+
+/// Two ids, one of them twice.
+fn ids(alloc: Global) -> Option<Vec<DocId>> {
+    let mut ids = Vec::new(alloc);
+    for text in ["f", "d", "f"] {
+        let id = id(alloc, text)?;
+        if ids.reserve(1).is_err() {
+            ids.reserve(1).ok()?;
+        }
+        ids.push(id).ok()?;
+    }
+    Some(ids)
+}
+
+/// The choice of these ids, and once more where memory was refused.
+fn choose(alloc: Global) -> Option<Chosen> {
+    match Chosen::new(ids(alloc)?) {
+        Err(DocFault::Memory) => Chosen::new(ids(alloc)?).ok(),
+        answer => answer.ok(),
+    }
+}
+
+/// The length of the text of a replication's id under a choice.
+fn named(alloc: Global, chosen: &Chosen) -> Option<usize> {
+    let rep = RepId::new(1, 2, Some(chosen)).ok()?.copy(alloc).ok()?;
+    match rep_id(alloc, &rep) {
+        Err(LogFault::Memory) => Some(rep_id(alloc, &rep).ok()?.len()),
+        answer => Some(answer.ok()?.len()),
+    }
+}
+
+/// The page of a source under a choice.
+fn page(alloc: Global, source: &Peer<Rules>, chosen: &Chosen) -> Option<Window> {
+    let goal = source.db().update_seq();
+    match source.page(alloc, 0, goal, 10, Some(chosen)) {
+        Err(BaseFault::Memory) => source.page(alloc, 0, goal, 10, Some(chosen)).ok(),
+        answer => answer.ok(),
+    }
+}
+
+/// Whether an audit of the chosen documents finds nothing.
+fn is_clean(
+    alloc: Global,
+    source: &Peer<Rules>,
+    target: &Peer<Rules>,
+    chosen: &Chosen,
+) -> Option<bool> {
+    let found = match audit(alloc, source, target, Some(chosen)) {
+        Err(TargetFault::Memory) => audit(alloc, source, target, Some(chosen)).ok(),
+        answer => answer.ok(),
+    };
+    Some(is_nothing(found?))
+}
+
+/// Whether the target covers all of the source's chosen documents, and not all of its documents.
+fn has_them_alone(
+    alloc: Global,
+    source: &Peer<Rules>,
+    target: &Peer<Rules>,
+    chosen: &Chosen,
+) -> Option<bool> {
+    let some = match hole_above(alloc, source, target, 0, Some(chosen)) {
+        Err(TargetFault::Memory) => hole_above(alloc, source, target, 0, Some(chosen)).ok(),
+        answer => answer.ok(),
+    };
+    let all = match hole_above(alloc, source, target, 0, None) {
+        Err(TargetFault::Memory) => hole_above(alloc, source, target, 0, None).ok(),
+        answer => answer.ok(),
+    };
+    Some(is_nothing(some?) && !is_nothing(all?))
+}
+
+/// Replicates the chosen documents by a session.
+fn carry(
+    alloc: Global,
+    source: &mut Peer<Rules>,
+    target: &mut Peer<Rules>,
+    session: u128,
+    chosen: &Chosen,
+) -> Option<Result<Report, bool>> {
+    let mut plan = plan(session, Moment::new(10).ok()?);
+    plan.chosen = Some(chosen.copy().ok()?);
+    match replicate_alone(alloc, source, target, &plan.copy().ok()?) {
+        Ok(report) => Some(Ok(report)),
+        Err(fault) => Some(Err(is_memory(fault))),
+    }
+}
+
+/// Replicates the chosen documents, and once more by another session where memory was refused.
+fn replicate(
+    alloc: Global,
+    source: &mut Peer<Rules>,
+    target: &mut Peer<Rules>,
+    chosen: &Chosen,
+) -> Option<Report> {
+    match carry(alloc, source, target, 1, chosen)? {
+        Ok(report) => Some(report),
+        Err(is_memory) => {
+            if is_memory && is_clean(alloc, source, target, chosen)? {
+                return carry(alloc, source, target, 2, chosen)?.ok();
+            }
+            None
+        }
+    }
+}
+
+/// Loads three documents, of which two are chosen.
+fn fill(alloc: Global, source: &mut Peer<Rules>) -> Option<()> {
+    load(alloc, source, r#"{"_id":"d","_rev":"1-a"}"#)?;
+    load(alloc, source, r#"{"_id":"e","_rev":"1-a"}"#)?;
+    load(alloc, source, r#"{"_id":"f","_rev":"1-a"}"#)?;
+    Some(())
+}
+
+/// What is seen: the length of the replication's id, how many rows the page has, what was recorded, the target's
+/// sequence, and whether the target has the chosen documents alone.
+type Seen = (usize, usize, u64, u64, bool);
+
+/// What is seen of two peers after a replication of chosen documents.
+fn ended(alloc: Global, source: &mut Peer<Rules>, target: &mut Peer<Rules>) -> Option<Seen> {
+    fill(alloc, source)?;
+    let chosen = choose(alloc)?;
+    let named = named(alloc, &chosen)?;
+    let rows = page(alloc, source, &chosen)?.rows().len();
+    let report = replicate(alloc, source, target, &chosen)?;
+    let clean = is_clean(alloc, source, target, &chosen)?;
+    let alone = clean && has_them_alone(alloc, source, target, &chosen)?;
+    Some((
+        named,
+        rows,
+        report.recorded,
+        target.db().update_seq(),
+        alone,
+    ))
+}
+
+/// The replication into a target. Nothing else lives beside a peer: each value adds to its proof.
+fn into_target(alloc: Global, source: &mut Peer<Rules>) -> Option<Seen> {
+    let mut target = Peer::new(alloc, 2, Rules { deny: None });
+    ended(alloc, source, &mut target)
+}
+
+/// The replication of a source and a target.
+fn between(alloc: Global) -> Option<Seen> {
+    let mut source = Peer::new(alloc, 1, Rules { deny: None });
+    into_target(alloc, &mut source)
+}
+
+pub(crate) fn run(rt: &impl Print, alloc: Global) -> Result<()> {
+    let Some((named, rows, recorded, sequence, alone)) = between(alloc) else {
+        bail!("choices: another answer");
+    };
+    println!(rt;
+        "choices as wanted: id {named}, rows {rows}, recorded {recorded}, sequence {sequence}, alone {alone}"
+    )?;
+    Ok(())
+}
