@@ -23,6 +23,9 @@ mod choices;
 mod pairs;
 mod plain_sides;
 
+// Pairs that are replicated both ways.
+mod syncs;
+
 // A peer beside its plain side.
 mod sides;
 

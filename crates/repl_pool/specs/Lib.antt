@@ -8,3 +8,4 @@ pub mod Grown
 pub mod Workers
 pub mod Gathered
 pub mod Runs
+pub mod Sync

@@ -29,7 +29,7 @@ use Rattle.couch_base.specs.Put.{put_answer, is_changed, after_put}
 use Rattle.repl_target.specs.Peer.{PeerValue, SessionValue, is_of, session_in, with_session}
 use Rattle.repl_target.specs.Covered.{refusal_of, in_ledger, covers, covers_window}
 use Rattle.repl_target.specs.Law.{LawfulSessions}
-use Rattle.repl_target.specs.Audit.{rep_between}
+use Rattle.repl_target.specs.Audit.{rep_between, CoversFeedOf}
 use Rattle.repl_target.specs.Logs.{log_of, source_log}
 use Rattle.repl_log.specs.Log.{common}
 use Rattle.repl_target.specs.Sessions.{on_found, on_session, new_session, begun, append_in, with_window, after_append, recorded_at, conclude_answer}
@@ -41,6 +41,8 @@ use Rattle.repl_target.specs.declared.fault.Settled.{Settled}
 use Rattle.repl_target.specs.declared.fault.TargetFault.{TargetFault}
 use Rattle.repl_target.specs.declared.replication.Plan.{Plan}
 use Rattle.couch_base.specs.MemberLaws.{Among-map, Among-mapped, any_member}
+use Rattle.repl_target.proofs.Fetched.{tree_lawful, IsLeafOf, fetched_leaves, docs-settled}
+use Rattle.repl_target.proofs.TiesLaws.{in_chosen, tree_of-member, among_from}
 use Rattle.repl_target.proofs.LaterPeers.{one_session, session_found}
 use Rattle.repl_target.proofs.SettlingKeepsLaw.{settle_told}
 use Rattle.rev_tree.specs.PartLaws.{IsPart, nothing_is_part, given, part_merged, whole_part}
@@ -52,20 +54,6 @@ use Rattle.repl_target.proofs.Reading.{Started, less-is, concluded, all-covered,
 -- each tree of a database is a part of the source's
 abbrev pub IsPartOf : DatabaseValue → DatabaseValue → Type 0
 IsPartOf source db = (id : Id) → IsPart (tree_of source.docs id) (tree_of db.docs id)
-
-tree_lawful : (db : DatabaseValue) → LawfulDatabase db → (id : Id) → IsTree (tree_of db.docs id)
-tree_lawful db law id = go (tree_in db.docs id) refl
-  where
-    go : (o : Option TreeValue) → tree_in db.docs id ≡ o → IsTree (unwrap_or o no_revisions)
-    go None e = IsTree-no_revisions
-    go (Some t) e = (IsDocumentTree-tree_in db law id t e).tree
-
--- a document as the source hands it over: a leaf with all of its ancestors and its content
-pub record IsLeafOf (source : DatabaseValue) (d : Document) : Type 0 where
-  pub id : Id
-  pub leaf : RevId
-  pub top : is_leaf (tree_of source.docs id) leaf ≡ true
-  pub is : d ≡ leaf_document id (tree_of source.docs id) leaf
 
 -- the tree of a document with such a leaf
 abbrev grown : DatabaseValue → DatabaseValue → Id → RevId → Origin → TreeValue
@@ -88,19 +76,6 @@ put_part source db d o law from part =
 
 -- ---- documents in order
 
-settle_part : (refuses : Document → Bool) (source : DatabaseValue) (w : WindowValue) (z : Settling) (d : Document) → LawfulDatabase source → IsLeafOf source d → IsPartOf source z.db → IsPartOf source (settle_one refuses w z d).db
-settle_part refuses source w z d law from part = go (refusal_of refuses z.db d)
-  where
-    go : (o : Option Reason) → IsPartOf source (settle_as w z d o).db
-    go (Some reason) = part
-    go None =
-        cond_both (is_full (put_answer z.db d)) z (record { db = after_put z.db d (fed w z.session.id d); session = with_arrival d z.session }) (λ (y : Settling). IsPartOf source y.db)
-        (λ _. part) (λ _. put_part source z.db d (fed w z.session.id d) law from part)
-
-settle_docs_part : (refuses : Document → Bool) (source : DatabaseValue) (w : WindowValue) (z : Settling) (docs : List Document) → LawfulDatabase source → AllByRecursion (IsLeafOf source) docs → IsPartOf source z.db → IsPartOf source (settle_docs refuses w z docs).db
-settle_docs_part refuses source w z [] law from part = part
-settle_docs_part refuses source w z (d ∷ docs) law from part = settle_docs_part refuses source w (settle_one refuses w z d) docs law from.1 (settle_part refuses source w z d law from.0 part)
-
 settle_as_id : (w : WindowValue) (z : Settling) (d : Document) (o : Option Reason) → (settle_as w z d o).session.id ≡ z.session.id
 settle_as_id w z d (Some reason) = refl
 settle_as_id w z d None =
@@ -109,47 +84,6 @@ settle_as_id w z d None =
 settle_docs_id : (refuses : Document → Bool) (w : WindowValue) (z : Settling) (docs : List Document) → (settle_docs refuses w z docs).session.id ≡ z.session.id
 settle_docs_id refuses w z [] = refl
 settle_docs_id refuses w z (d ∷ docs) = settle_docs_id refuses w (settle_one refuses w z d) docs ∙ settle_as_id w z d (refusal_of refuses z.db d)
-
--- ---- what is fetched
-
-Among-filter : {X : Type 0} (p : X → Bool) (xs : List X) (x : X) → Among x (filter p xs) → Among x xs
-Among-filter p [] x m = m
-Among-filter p (y ∷ xs) x m =
-    cond_both (p y) (y ∷ filter p xs) (filter p xs) (λ l. Among x l → Among x (y ∷ xs))
-    (λ _ k. elim k [ inl here ↦ inl here | inr there ↦ inr (Among-filter p xs x there) ])
-    (λ _ k. inr (Among-filter p xs x k)) m
-
-Among-chosen : {X : Type 0} (p : X → Bool) (xs : List X) (x : X) → Among x xs → p x ≡ true → Among x (filter p xs)
-Among-chosen p [] x m h = m
-Among-chosen p (y ∷ xs) x m h =
-    cond_both (p y) (y ∷ filter p xs) (filter p xs) (λ l. Among x l)
-    (λ _. elim m [ inl here ↦ inl here | inr there ↦ inr (Among-chosen p xs x there h) ])
-    (λ no. elim m [ inl here ↦ absurd (false≢true (sym no ∙ ap p (sym here) ∙ h)) | inr there ↦ Among-chosen p xs x there h ])
-
-among_test : (r : RevId) (xs : List RevId) → Among r xs → is_among r xs ≡ true
-among_test r [] m = absurd m
-among_test r (x ∷ xs) (inl here) = ap (λ b. b || is_among r xs) (ap (eq_by_cmp rev_cmp r) (sym here) ∙ rev_tie_self r)
-among_test r (x ∷ xs) (inr there) = or_right _ _ (among_test r xs there)
-
-among_from : (r : RevId) (xs : List RevId) → is_among r xs ≡ true → Among r xs
-among_from r [] h = absurd (false≢true h)
-among_from r (x ∷ xs) h = elim (or_cases _ _ h) [ inl tie ↦ inl (rev_tie_is r x tie) | inr later ↦ inr (among_from r xs later) ]
-
-tops : (source : DatabaseValue) (id : Id) (xs : List RevId) → ((x : RevId) → Among x xs → is_leaf (tree_of source.docs id) x ≡ true) → AllByRecursion (IsLeafOf source) (map (leaf_document id (tree_of source.docs id)) xs)
-tops source id [] h = tt
-tops source id (x ∷ xs) h = (record { id = id; leaf = x; top = h x (inl refl); is = refl }, tops source id xs (λ y m. h y (inr m)))
-
-all_joined : {X : Type 0} (P : X → Type 0) (xs ys : List X) → AllByRecursion P xs → AllByRecursion P ys → AllByRecursion P (xs ++ ys)
-all_joined P [] ys h k = k
-all_joined P (x ∷ xs) ys h k = (h.0, all_joined P xs ys h.1 k)
-
-fetched_leaves : (source : DatabaseValue) (ws : List WantedValue) → AllByRecursion (IsLeafOf source) (fetched source.docs ws)
-fetched_leaves source [] = tt
-fetched_leaves source (w ∷ ws) =
-    let t = tree_of source.docs w.id in
-    all_joined (IsLeafOf source) (opened w.id t w.revs) (fetched source.docs ws)
-    (tops source w.id (leaves_above t w.revs) (λ x m. sym (is_among-leaves t x) ∙ among_test x (leaves t) (Among-filter (λ leaf. list_any (λ r. is_among r (ancestors t leaf)) w.revs) (leaves t) x m)))
-    (fetched_leaves source ws)
 
 -- ---- the steps of a replication
 
@@ -185,7 +119,7 @@ settles_copying refuses source session p id parcel settled q law from gives c = 
         let z = settle_docs refuses at.1 (settling_of p at.0) parcel.docs in
         let mid = with_settling p z in
         let own : z.session.id ≡ session = settle_docs_id refuses at.1 (settling_of p at.0) parcel.docs ∙ c.only at.0 told.held in
-        let part : IsPartOf source z.db = settle_docs_part refuses source at.1 (settling_of p at.0) parcel.docs law from c.part in
+        let part : IsPartOf source z.db = docs-settled source (IsPartOf source) (λ db d o from. put_part source db d o law from) refuses at.1 (settling_of p at.0) parcel.docs from c.part in
         let only : (y : SessionValue) → Among y mid.sessions → y.id ≡ session = only_with p.sessions z.session session c.only own in
         let done = with_done at.1 parcel z.session in
         subst (Copying source session) (sym h.0.peer)
@@ -226,16 +160,18 @@ document_there (d ∷ ds) id t h =
     (λ same k. (d, inl refl, (bytes_eq-Decides d.id id).0 same, some_is d.tree t k))
     (λ _ k. let later = document_there ds id t k in (later.0, inr later.1, later.2, later.3)) h
 
--- the row of a document that is there
-row_there : (db : DatabaseValue) (c : Choice) (d : DocumentValue) → LawfulDatabase db → Among d db.docs → is_chosen c d.id ≡ true → Among (row_of d) (chosen_feed c db 0 db.update_seq)
-row_there db c d law m chosen =
-    let within = rises_member 0 (map (λ (x : DocumentValue). x.seq) db.docs) db.update_seq d.seq law.rising (Among-mapped (λ (x : DocumentValue). x.seq) d db.docs m) in
-    Among-chosen (λ (r : RowValue). is_chosen c r.id) (feed db 0 db.update_seq) (row_of d)
-    (Among-mapped row_of d (filter (λ x. nat_lt 0 x.seq && nat_le x.seq db.update_seq) db.docs) (Among-chosen (λ x. nat_lt 0 x.seq && nat_le x.seq db.update_seq) db.docs d m (and_from _ _ (less-is 0 d.seq within.0) (within-is d.seq db.update_seq within.1))))
-    chosen
+-- each leaf of a chosen document is covered, where the feed is
+pub leaf_covered : (c : Choice) (source : DatabaseValue) (p : PeerValue) → LawfulDatabase source → CoversFeedOf c source p source.update_seq → (id : Id) → is_chosen c id ≡ true → (leaf : RevId) → is_leaf (tree_of source.docs id) leaf ≡ true → covers p id leaf ≡ true
+leaf_covered c source p law feed id chosen leaf top = go (tree_in source.docs id) refl top
   where
-    within-is : (a b : ℕ) → a ≤ b → nat_le a b ≡ true
-    within-is a b h = grind (arith, h)
+    go : (o : Option TreeValue) → tree_in source.docs id ≡ o → is_leaf (unwrap_or o no_revisions) leaf ≡ true → covers p id leaf ≡ true
+    go None e h = absurd (false≢true (sym (ap is_some (get-empty rev_cmp leaf)) ∙ (and_parts _ _ h).0))
+    go (Some t) e h =
+        let d = document_there source.docs id t e in
+        let within = rises_member 0 (map (λ (x : DocumentValue). x.seq) source.docs) source.update_seq d.0.seq law.rising (Among-mapped (λ (x : DocumentValue). x.seq) d.0 source.docs d.1) in
+        let row = in_chosen c source 0 source.update_seq d.0 d.1 (ap (is_chosen c) d.2 ∙ chosen) within.0 within.1 in
+        let among : Among leaf (leaves d.0.tree) = among_from leaf (leaves d.0.tree) (is_among-leaves d.0.tree leaf ∙ ap (λ x. is_leaf x leaf) d.3 ∙ h) in
+        ap (λ i. covers p i leaf) (sym d.2) ∙ feed (row_of d.0) row leaf among
 
 -- a leaf that is covered, where nothing is in a ledger
 covered_there : (refuses : Document → Bool) (p : PeerValue) (id : SessionId) (s : SessionValue) → LawfulSessions refuses p → ((x : SessionValue) → Among x p.sessions → x.id ≡ id) → session_in p.sessions id ≡ Some s → s.failures ≡ 0
@@ -275,16 +211,9 @@ copied refuses source target plan from read report source' target' s law lawful 
         conclude_id x = cond_both (low_water x.front == x.goal) (recorded_at plan.at x) x (λ y. y.id ≡ x.id) (λ _. refl) (λ _. refl)
 
     leaf_there : (id : Id) → is_chosen plan.chosen id ≡ true → (leaf : RevId) → is_leaf (tree_of source.db.docs id) leaf ≡ true → has (tree_of target'.db.docs id) leaf ≡ true
-    leaf_there id chosen leaf top = go (tree_in source.db.docs id) refl top
-      where
-        go : (o : Option TreeValue) → tree_in source.db.docs id ≡ o → is_leaf (unwrap_or o no_revisions) leaf ≡ true → has (tree_of target'.db.docs id) leaf ≡ true
-        go None e h = absurd (false≢true (sym (ap is_some (get-empty rev_cmp leaf)) ∙ (and_parts _ _ h).0))
-        go (Some t) e h =
-            let d = document_there source.db.docs id t e in
-            let among : Among leaf (leaves d.0.tree) = among_from leaf (leaves d.0.tree) (is_among-leaves d.0.tree leaf ∙ ap (λ x. is_leaf x leaf) d.3 ∙ h) in
-            let covered = all_covered (row_of d.0) (row_there source.db plan.chosen d.0 law d.1 (ap (is_chosen plan.chosen) d.2 ∙ chosen)) leaf among in
-            covered_there refuses target' plan.session reported.session lawful' copying.only reported.held (sym (ap (λ (x : Report). x.failures) reported.is) ∙ none) id leaf
-            (ap (λ i. covers target' i leaf) (sym d.2) ∙ covered)
+    leaf_there id chosen leaf top =
+        covered_there refuses target' plan.session reported.session lawful' copying.only reported.held (sym (ap (λ (x : Report). x.failures) reported.is) ∙ none) id leaf
+        (leaf_covered plan.chosen source.db target' law all_covered id chosen leaf top)
 
     same : SameDocuments plan.chosen source.db target'.db
     same id chosen = whole_part (tree_of source.db.docs id) (tree_of target'.db.docs id) (tree_lawful source.db law id) (copying.part id) (leaf_there id chosen)

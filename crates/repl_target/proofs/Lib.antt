@@ -23,6 +23,7 @@ pub mod PeerInvariant
 pub mod Edits
 pub mod SettlingPeers
 pub mod Reading
+pub mod Fetched
 pub mod Copies
 pub mod Copying
 pub mod Restored
@@ -32,6 +33,7 @@ pub mod CallLaws
 pub mod Covering
 pub mod TiedLaws
 pub mod Replicated
+pub mod BothWays
 pub mod SettlingTakes
 pub mod RefusedCalls
 pub mod Begun

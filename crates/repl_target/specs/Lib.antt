@@ -24,5 +24,6 @@ pub mod Ties
 pub mod Backups
 pub mod TiedPeers
 pub mod Calls
+pub mod Sync
 pub mod Tied
 pub mod ReadCounts

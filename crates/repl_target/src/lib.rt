@@ -21,6 +21,7 @@ mod session;
 mod sessions;
 mod settle;
 mod stored;
+mod sync;
 mod written;
 
 pub use auditing::{audit, hole_above};
@@ -32,4 +33,5 @@ pub use logs::{checkpoint, rep_between};
 pub use peer::Peer;
 pub use refused::Refused;
 pub use replication::{Plan, begin_plan, check_plan, has_left, record_at_source, replicate_alone};
+pub use sync::{SyncFault, Synced, sync_alone};
 pub use written::Written;

@@ -28,25 +28,25 @@ or_known None y h = absurd (false≢true h)
 or_known (Some x) y h = refl
 
 -- what isn't some is none
-none_is : {X : Type 0} (o : Option X) → ((x : X) → o ≡ Some x → ⊥) → o ≡ None
+pub none_is : {X : Type 0} (o : Option X) → ((x : X) → o ≡ Some x → ⊥) → o ≡ None
 none_is None h = refl
 none_is (Some x) h = absurd (h x refl)
 
-some_told : {X : Type 0} (o : Option X) → is_some o ≡ true → (x : X) × (o ≡ Some x)
+pub some_told : {X : Type 0} (o : Option X) → is_some o ≡ true → (x : X) × (o ≡ Some x)
 some_told None h = absurd (false≢true h)
 some_told (Some x) h = (x, refl)
 
-told_some : {X : Type 0} (o : Option X) (x : X) → o ≡ Some x → is_some o ≡ true
+pub told_some : {X : Type 0} (o : Option X) (x : X) → o ≡ Some x → is_some o ≡ true
 told_some o x h = ap is_some h
 
 -- ---- the edges of a walk
 
-walk_begins : (m : FinMap rev_cmp RevId) (n : ℕ) (p : RevId) → (rest : List RevId) × (walk m n p ≡ p ∷ rest)
+pub walk_begins : (m : FinMap rev_cmp RevId) (n : ℕ) (p : RevId) → (rest : List RevId) × (walk m n p ≡ p ∷ rest)
 walk_begins m zero p = ([], refl)
 walk_begins m (suc n) p = (option_map_or (walk m n) (get m p) [], refl)
 
 -- each member of a walk has in its edges the parent that it has in the tree
-edges_walked : (s : TreeValue) → IsTree s → (n : ℕ) (x c : RevId) → has s x ≡ true → x.generation ≤ n → is_among c (walk s.parents n x) ≡ true → find rev_cmp c (edges_of (walk s.parents n x)) ≡ get s.parents c
+pub edges_walked : (s : TreeValue) → IsTree s → (n : ℕ) (x c : RevId) → has s x ≡ true → x.generation ≤ n → is_among c (walk s.parents n x) ≡ true → find rev_cmp c (edges_of (walk s.parents n x)) ≡ get s.parents c
 edges_walked s tree zero x c known low h = let low' = (tree.revs x known).low in absurd (omega arith)
 edges_walked s tree (suc n) x c known low h = go (λ p there under among. edges_walked s tree n p c there under among) (get s.parents x) refl
   where
@@ -105,11 +105,21 @@ given s leaf = record {
   body = option_map_or (λ (x : ContentValue). x.body) (get s.contents leaf) [];
 }
 
-given_is : (s : TreeValue) (leaf : RevId) (b : ContentValue) → get s.contents leaf ≡ Some b → given s leaf ≡ b
+pub given_is : (s : TreeValue) (leaf : RevId) (b : ContentValue) → get s.contents leaf ≡ Some b → given s leaf ≡ b
 given_is s leaf b h = λ i. record {
   deleted = option_map_or (λ (x : ContentValue). x.deleted) (h i) false;
   body = option_map_or (λ (x : ContentValue). x.body) (h i) [];
 }
+
+-- the head of a leaf's ancestry is the leaf, with its content
+pub at_leaf : (s : TreeValue) (leaf q : RevId) → is_some (find rev_cmp q (at_head (ancestors s leaf) (given s leaf))) ≡ true → (q ≡ leaf) × (find rev_cmp q (at_head (ancestors s leaf) (given s leaf)) ≡ Some (given s leaf))
+at_leaf s leaf q h =
+    let begins = walk_begins s.parents leaf.generation leaf in
+    let at : find rev_cmp q (at_head (ancestors s leaf) (given s leaf)) ≡ cond (eq_by_cmp rev_cmp q leaf) (Some (given s leaf)) None = ap (λ w. find rev_cmp q (at_head w (given s leaf))) begins.1 in
+    (elim (eq_by_cmp rev_cmp q leaf) as (λ b. eq_by_cmp rev_cmp q leaf ≡ b → find rev_cmp q (at_head (ancestors s leaf) (given s leaf)) ≡ cond b (Some (given s leaf)) None → (q ≡ leaf) × (find rev_cmp q (at_head (ancestors s leaf) (given s leaf)) ≡ Some (given s leaf))) [
+      | true ↦ λ tie e. (rev_tie_is q leaf tie, e)
+      | false ↦ λ _ e. absurd (false≢true (sym (ap is_some e) ∙ h))
+    ] refl at)
 
 -- a leaf with its ancestors keeps a part a part
 module _ (s t : TreeValue) (tree : IsTree s) (part : IsPart s t) (leaf : RevId) (is : is_leaf s leaf ≡ true) (o : Origin) where
@@ -160,23 +170,13 @@ module _ (s t : TreeValue) (tree : IsTree s) (part : IsPart s t) (leaf : RevId) 
             (has-merged_given t revs (given s leaf) o c edge.child, has-merged_given t revs (given s leaf) o p edge.parent)
       ]
 
-  -- the head of what is brought is the leaf
-  at_leaf : (q : RevId) → is_some (find rev_cmp q (at_head revs (given s leaf))) ≡ true → (q ≡ leaf) × (find rev_cmp q (at_head revs (given s leaf)) ≡ Some (given s leaf))
-  at_leaf q h =
-      let begins = walk_begins s.parents leaf.generation leaf in
-      let at : find rev_cmp q (at_head revs (given s leaf)) ≡ cond (eq_by_cmp rev_cmp q leaf) (Some (given s leaf)) None = ap (λ w. find rev_cmp q (at_head w (given s leaf))) begins.1 in
-      (elim (eq_by_cmp rev_cmp q leaf) as (λ b. eq_by_cmp rev_cmp q leaf ≡ b → find rev_cmp q (at_head revs (given s leaf)) ≡ cond b (Some (given s leaf)) None → (q ≡ leaf) × (find rev_cmp q (at_head revs (given s leaf)) ≡ Some (given s leaf))) [
-        | true ↦ λ tie e. (rev_tie_is q leaf tie, e)
-        | false ↦ λ _ e. absurd (false≢true (sym (ap is_some e) ∙ h))
-      ] refl at)
-
   grown_content : (q : RevId) → is_some (get grown.contents q) ≡ true → has grown q ≡ true
   grown_content q h =
       let b = some_told (get grown.contents q) h in
       elim (some_or (get t.contents q) (find rev_cmp q (at_head revs (given s leaf))) b.0 (sym (content_at q) ∙ b.1)) [
         | inl old ↦ has-merged_known t revs (given s leaf) o q (part.content q (told_some _ b.0 old))
         | inr new ↦
-            let same = (at_leaf q (told_some _ b.0 new.1)).0 in
+            let same = (at_leaf s leaf q (told_some _ b.0 new.1)).0 in
             has-merged_given t revs (given s leaf) o q (ap (λ x. is_among x revs) same ∙ own)
       ]
     where
@@ -200,7 +200,7 @@ module _ (s t : TreeValue) (tree : IsTree s) (part : IsPart s t) (leaf : RevId) 
                   let up : get s.parents below.0 ≡ Some q = sym (edges_walked s tree leaf.generation leaf below.0 known (omega arith) edge.child) ∙ below.1 in
                   absurd (false≢true (sym (ap not (parent_from_child s q below.0 up)) ∙ (and_parts _ _ top).1))
             ] in
-            let at = at_leaf q head in
+            let at = at_leaf s leaf q head in
             content_at q ∙ ap (λ x. option_or x (find rev_cmp q (at_head revs (given s leaf)))) none ∙ at.1
             ∙ ap Some (given_is s leaf b.0 (ap (get s.contents) (sym at.0) ∙ b.1)) ∙ sym b.1
       ]

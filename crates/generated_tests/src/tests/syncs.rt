@@ -1,0 +1,153 @@
+//! Pairs that diverge by chance and are replicated both ways, by one thread and by the pool: then both sides hold the
+//! same documents, and a second time carries nothing.
+use crate::tests::feeds::id;
+use crate::tests::merges::below;
+use crate::tests::plain_sides::IDS;
+use doc_json::{Body, read_body};
+use rand_chacha::ChaCha8Rng;
+use rand_core::SeedableRng;
+use repl_log::Moment;
+use repl_pool::{Open, SyncRan, sync};
+use repl_target::{Peer, Plan, Rules, Synced, sync_alone};
+use rev_core::Rev;
+use rev_tree::{SessionId, Tree};
+use serde_json::Value;
+use std::alloc::Global;
+use std::process::Abort;
+use std::sync::Wait;
+use std::thread::Threads;
+
+/// How often both sides go on by themselves and then meet.
+const MEETINGS: usize = 3;
+
+/// A body by chance, of few, so that both sides make the same change now and then.
+fn body(rt: &impl Abort, alloc: Global, rng: &mut ChaCha8Rng) -> Body {
+    let text = format!(in alloc; "{{\"n\":{}}}", below(rng, 3)).expect(rt, "memory");
+    let value = Value::from_slice(alloc, text.as_bytes()).expect(rt, "a value");
+    read_body(alloc, &value).expect(rt, "a body")
+}
+
+/// A leaf of a tree by chance; none, where there is no tree.
+fn leaf(rt: &impl Abort, alloc: Global, rng: &mut ChaCha8Rng, tree: Option<&Tree>) -> Option<Rev> {
+    let leaves = tree?.leaves(alloc).expect(rt, "memory");
+    let place = below(rng, leaves.len().max(1) as u32);
+    leaves.get(place).copied()
+}
+
+/// Edits of documents by chance: each makes one, or changes or deletes a leaf of it.
+fn edit(rt: &impl Abort, alloc: Global, rng: &mut ChaCha8Rng, peer: &mut Peer<Rules>, edits: usize) {
+    for _ in 0..edits {
+        let id = id(rt, alloc, below(rng, IDS as u32));
+        let parent = leaf(rt, alloc, rng, peer.db().tree(&id));
+        let deleted = parent.is_some() && below(rng, 5) == 0;
+        let body = body(rt, alloc, rng);
+        let _revised = peer.edit(&id, parent, deleted, &body);
+    }
+}
+
+/// Whether two trees have the same revisions in number, the same leaves, winner first, and of each leaf the same
+/// ancestry and content.
+fn are_same(rt: &impl Abort, alloc: Global, one: &Tree, other: &Tree) -> bool {
+    let leaves = one.leaves(alloc).expect(rt, "memory");
+    let mut same = one.rev_count() == other.rev_count()
+        && leaves.as_slice() == other.leaves(alloc).expect(rt, "memory").as_slice();
+    for leaf in &leaves {
+        same = same && is_same_leaf(rt, alloc, one, other, *leaf);
+    }
+    same
+}
+
+/// Whether a leaf of both has the same ancestry and content.
+fn is_same_leaf(rt: &impl Abort, alloc: Global, one: &Tree, other: &Tree, leaf: Rev) -> bool {
+    let (ours, theirs) = match (one.ancestry(alloc, leaf), other.ancestry(alloc, leaf)) {
+        (Ok(ours), Ok(theirs)) => (ours, theirs),
+        _ => return false,
+    };
+    match (one.content(leaf), other.content(leaf)) {
+        (Some(ours_is), Some(theirs_is)) => {
+            ours.revs() == theirs.revs()
+                && ours_is.deleted() == theirs_is.deleted()
+                && ours_is.body() == theirs_is.body()
+        }
+        _ => false,
+    }
+}
+
+/// Asserts that two peers hold the same documents.
+fn assert_same(rt: &impl Abort, alloc: Global, a: &Peer<Rules>, b: &Peer<Rules>) {
+    for number in 0..IDS {
+        let id = id(rt, alloc, number);
+        let same = match (a.db().tree(&id), b.db().tree(&id)) {
+            (Some(one), Some(other)) => are_same(rt, alloc, one, other),
+            (None, None) => true,
+            _ => false,
+        };
+        assert!(rt; same, "a document is the same on both sides");
+    }
+}
+
+/// A plan of the next session, with windows that scan 1 to 4 rows by chance.
+fn plan(rt: &impl Abort, rng: &mut ChaCha8Rng, workers: u64, sessions: &mut u128) -> Plan {
+    *sessions = sessions.saturating_add(1);
+    Plan {
+        session: SessionId(*sessions),
+        workers,
+        batch: below(rng, 4) as u64 + 1,
+        stop_after: None,
+        at: Moment::new(10).expect(rt, "a moment"),
+        chosen: None,
+    }
+}
+
+/// Replicates both ways: by one thread where there are no workers, else by the pool.
+fn meet<R: Abort + Threads + Wait + Sync>(
+    rt: &R,
+    alloc: Global,
+    a: Peer<Rules>,
+    b: Peer<Rules>,
+    there: &Plan,
+    back: &Plan,
+) -> (Peer<Rules>, Peer<Rules>, Synced) {
+    if there.workers == 0 {
+        let (mut a, mut b) = (a, b);
+        let synced = sync_alone(alloc, &mut a, &mut b, there, back).expect(rt, "nothing refused");
+        return (a, b, synced);
+    }
+    let SyncRan { a, b, outcome } = sync(rt, alloc, a, b, there, back, &Open);
+    (a, b, outcome.expect(rt, "nothing refused"))
+}
+
+/// Two peers that go on by themselves, meet, and meet once more, some times.
+fn of_seed<R: Abort + Threads + Wait + Sync>(rt: &R, alloc: Global, seed: u64, workers: u64) {
+    let mut rng = ChaCha8Rng::seed_from_u64(seed);
+    let mut sessions = 0;
+    let mut a = Peer::new(alloc, 1, Rules { deny: None });
+    let mut b = Peer::new(alloc, 2, Rules { deny: None });
+    for _ in 0..MEETINGS {
+        edit(rt, alloc, &mut rng, &mut a, 12);
+        edit(rt, alloc, &mut rng, &mut b, 8);
+        for again in 0..2u64 {
+            let there = plan(rt, &mut rng, workers, &mut sessions);
+            let back = plan(rt, &mut rng, workers, &mut sessions);
+            let (one, other, synced) = meet(rt, alloc, a, b, &there, &back);
+            assert_same(rt, alloc, &one, &other);
+            let carried = synced.there.read.saturating_add(synced.back.read);
+            assert!(rt; again == 0 || carried == 0, "nothing is left to carry");
+            (a, b) = (one, other);
+        }
+    }
+}
+
+#[test]
+fn thirty_pairs_meet(rt: HostRuntime) {
+    for seed in 0..30u64 {
+        of_seed(&rt, rt.alloc(), seed, 0);
+    }
+}
+
+#[test]
+fn thirty_pairs_meet_by_the_pool(rt: HostRuntime) {
+    for seed in 0..30u64 {
+        of_seed(&rt, rt.alloc(), seed, 1 + seed % 4);
+    }
+}

@@ -1,0 +1,28 @@
+-- Replication both ways by the pool: docs/PROFILE.md, "Both ways"; PouchDB, `sync`.
+use Rattle.std.specs.Prelude.{ℕ, Bool, List, Result, Ok, Err}
+use Rattle.doc_json.specs.Document.{Document}
+use Rattle.repl_target.specs.Peer.{PeerValue}
+use Rattle.repl_target.specs.declared.fault.Report.{Report}
+use Rattle.repl_target.specs.declared.replication.Plan.{Plan}
+use Rattle.repl_target.specs.declared.sync.Synced.{Synced}
+use Rattle.repl_pool.specs.Runs.{Runs}
+use Rattle.repl_pool.specs.declared.gate.Place.{Place}
+use Rattle.repl_pool.specs.declared.fault.PoolFault.{PoolFault}
+use Rattle.repl_pool.specs.declared.sync.SyncFault.{SyncFault}
+use Rattle.repl_pool.specs.declared.sync.SyncFault.TheVariants as faults
+
+-- What running a into b and then b into a gives back, and how that ended: one run each way, the second where the first
+-- was refused nothing.
+pub data SyncRuns {F : Type 0} (refuses : F → Document → Bool) (may_stop : Place → Type 0) (there back : Plan)
+    (a b : F × PeerValue) : F × PeerValue → F × PeerValue → Result Synced SyncFault → Type 0 where
+  refused_there : {why : PoolFault} {a' b' : F × PeerValue} {fetched : List ℕ}
+      → Runs refuses may_stop there a b a' b' fetched (Err why)
+      → SyncRuns refuses may_stop there back a b a' b' (Err (faults.There why))
+  refused_back : {report : Report} {why : PoolFault} {a' b' a'' b'' : F × PeerValue} {fetched fetched' : List ℕ}
+      → Runs refuses may_stop there a b a' b' fetched (Ok report)
+      → Runs refuses may_stop back b' a' b'' a'' fetched' (Err why)
+      → SyncRuns refuses may_stop there back a b a'' b'' (Err (faults.Back why))
+  both : {reports : Synced} {a' b' a'' b'' : F × PeerValue} {fetched fetched' : List ℕ}
+      → Runs refuses may_stop there a b a' b' fetched (Ok reports.there)
+      → Runs refuses may_stop back b' a' b'' a'' fetched' (Ok reports.back)
+      → SyncRuns refuses may_stop there back a b a'' b'' (Ok reports)

@@ -1,0 +1,29 @@
+-- Trees of one document in two databases: docs/PROFILE.md, "Both ways"; CouchDB, "Replication and conflict model".
+use Rattle.std.specs.Prelude.{◌≡◌, ◌⊎◌, true, None, Some}
+use Rattle.std.specs.FinMap.{get}
+use Rattle.rev_core.specs.Rev.{RevId}
+use Rattle.rev_tree.specs.Content.{ContentValue}
+use Rattle.rev_tree.specs.Tree.{TreeValue, has}
+
+-- two trees give no revision two parents, and none two contents
+pub record Agree (s t : TreeValue) : Type 0 where
+  pub parents : (c p q : RevId) → get s.parents c ≡ Some p → get t.parents c ≡ Some q → p ≡ q
+  pub contents : (r : RevId) (b d : ContentValue) → get s.contents r ≡ Some b → get t.contents r ≡ Some d → b ≡ d
+
+-- no history is cut off: a revision without a parent is a first one
+abbrev pub IsWhole : TreeValue → Type 0
+IsWhole t = (r : RevId) → has t r ≡ true → get t.parents r ≡ None → r.generation ≡ 1
+
+-- a revision is a root: in the tree, without a parent
+abbrev pub IsRoot : TreeValue → RevId → Type 0
+IsRoot t r = (has t r ≡ true) × (get t.parents r ≡ None)
+
+-- a tree has grown from an older one by what another has: it keeps the edges, and whatever is in it comes from one of the
+-- two, a root from a root
+pub record IsGrownBy (old other t : TreeValue) : Type 0 where
+  pub kept : (c p : RevId) → get old.parents c ≡ Some p → get t.parents c ≡ Some p
+  pub revs : (r : RevId) → has t r ≡ true → (has old r ≡ true) ⊎ (has other r ≡ true)
+  pub parents : (c p : RevId) → get t.parents c ≡ Some p → (get old.parents c ≡ Some p) ⊎ (get other.parents c ≡ Some p)
+  pub contents : (r : RevId) (b : ContentValue) → get t.contents r ≡ Some b
+      → (get old.contents r ≡ Some b) ⊎ (get other.contents r ≡ Some b)
+  pub roots : (r : RevId) → IsRoot t r → IsRoot old r ⊎ IsRoot other r

@@ -1,0 +1,172 @@
+-- Two trees that know each other's leaves, agree and are whole are the same; and how trees come to know each other's leaves.
+use Rattle.std.proofs.Common.{◌≡◌, ◌⊎◌, ℕ, zero, suc, ◌≤◌, true, false, not, ◌||◌, List, [], ◌∷◌, Option, Some, None, is_some, refl, sym, ap, ◌∙◌, inl, inr, arith}
+use Rattle.std.specs.Option.{option_map_or, option_or}
+use Rattle.std.specs.Ordering.{eq_by_cmp}
+use Rattle.std.specs.FinMap.{FinMap, get, find, same_map}
+use Rattle.std.proofs.lemmas.Bool.{and_parts, false≢true, cases_Bool}
+use Rattle.rev_core.specs.Rev.{RevId, rev_cmp}
+use Rattle.rev_core.specs.RevOrder.{rev_cmp_total, rev_cmp_exact, rev_tie_is}
+use Rattle.rev_core.specs.Ancestry.{edges_of, is_among}
+use Rattle.rev_tree.specs.Content.{ContentValue}
+use Rattle.rev_tree.specs.Tree.{TreeValue, IsTree, has, is_parent, is_leaf, walk, ancestors, at_head, merged, SameRevisions}
+use Rattle.rev_tree.specs.Agreement.{Agree, IsWhole, IsRoot, IsGrownBy}
+use Rattle.rev_tree.specs.TreeLaws.{some_or, or_cases, and_both, both_none, child_of_parent, parent_from_child, get-joined, get-joined_known, has-merged, edge_found}
+use Rattle.rev_tree.specs.LeafLaws.{same_tests, leaf_above, has_walked, IsAncestry-ancestors}
+use Rattle.rev_tree.specs.PartLaws.{none_is, some_told, told_some, edges_walked, given, given_is, at_leaf}
+use Rattle.rev_tree.specs.declared.origin.Origin.{Origin}
+
+-- ---- growing
+
+pub IsGrownBy-same : (t other : TreeValue) → IsGrownBy t other t
+IsGrownBy-same t other = record { kept = λ c p h. h; revs = λ r h. inl h; parents = λ c p h. inl h; contents = λ r b h. inl h; roots = λ r h. inl h }
+
+-- a leaf of the other tree with its ancestors
+module _ (old other t : TreeValue) (tree : IsTree other) (grown : IsGrownBy old other t) (leaf : RevId) (is : is_leaf other leaf ≡ true) (o : Origin) where
+  abbrev revs : List RevId
+  revs = ancestors other leaf
+
+  abbrev after : TreeValue
+  after = merged t revs (given other leaf) o
+
+  known : has other leaf ≡ true
+  known = (and_parts _ _ is).0
+
+  -- the edges that are brought are the other tree's
+  edge_at : (q : RevId) → is_among q revs ≡ true → find rev_cmp q (edges_of revs) ≡ get other.parents q
+  edge_at q among = edges_walked other tree leaf.generation leaf q known (omega arith) among
+
+  root_there : (r : RevId) → has t r ≡ true ⊎ (is_among r revs ≡ true) → (get t.parents r ≡ None) × (find rev_cmp r (edges_of revs) ≡ None) → IsRoot old r ⊎ IsRoot other r
+  root_there r (inl there) none = grown.roots r (there, none.0)
+  root_there r (inr among) none = inr (has_walked other tree leaf.generation leaf r known among, sym (edge_at r among) ∙ none.1)
+
+  pub IsGrownBy-merged : IsGrownBy old other (merged t (ancestors other leaf) (given other leaf) o)
+  IsGrownBy-merged = record {
+    kept = λ c p h. get-joined_known t.parents (edges_of revs) c p (grown.kept c p h);
+    revs = λ r h. elim (or_cases _ _ (sym (has-merged t revs (given other leaf) o r) ∙ h)) [
+      | inl there ↦ grown.revs r there
+      | inr among ↦ inr (has_walked other tree leaf.generation leaf r known among)
+    ];
+    parents = λ c p h. elim (some_or (get t.parents c) (find rev_cmp c (edges_of revs)) p (sym (get-joined t.parents (edges_of revs) c) ∙ h)) [
+      | inl there ↦ grown.parents c p there
+      | inr new ↦ inr (sym (edge_at c (edge_found revs c p (IsAncestry-ancestors other tree leaf known).falls new.1).child) ∙ new.1)
+    ];
+    contents = λ r b h. elim (some_or (get t.contents r) (find rev_cmp r (at_head revs (given other leaf))) b (sym (get-joined t.contents (at_head revs (given other leaf)) r) ∙ h)) [
+      | inl there ↦ grown.contents r b there
+      | inr new ↦
+          let at = at_leaf other leaf r (told_some _ b new.1) in
+          let own = some_told (get other.contents leaf) (tree.leaf leaf is) in
+          inr (ap (get other.contents) at.0 ∙ own.1 ∙ ap Some (sym (given_is other leaf own.0 own.1)) ∙ sym at.1 ∙ new.1)
+    ];
+    roots = λ r h. root_there r (or_cases _ _ (sym (has-merged t revs (given other leaf) o r) ∙ h.0)) (both_none _ _ (sym (get-joined t.parents (edges_of revs) r) ∙ h.1));
+  }
+
+-- ---- both ways
+
+one_parent : {X : Type 0} (o : Option X) (x y : X) → o ≡ Some x → o ≡ Some y → x ≡ y
+one_parent {X = X} o x y h k = ap (λ (v : Option X). option_map_or (λ w. w) v x) (sym h ∙ k)
+
+-- a leaf that is the older tree's already was a leaf there
+leaf_kept : (old other t : TreeValue) → IsGrownBy old other t → (l : RevId) → is_leaf t l ≡ true → has old l ≡ true → is_leaf old l ≡ true
+leaf_kept old other t grown l top there =
+    elim (cases_Bool (is_parent old l)) [
+      | inl up ↦
+          let c = child_of_parent old l up in
+          absurd (false≢true (sym (ap not (parent_from_child t l c.0 (grown.kept c.0 l c.1))) ∙ (and_parts _ _ top).1))
+      | inr none ↦ and_both there (ap not none)
+    ]
+
+-- s grew into t by what u has, which knows the leaves of s: so it knows those of t
+pub leaves_known : (old other t : TreeValue) → IsGrownBy old other t → ((l : RevId) → is_leaf old l ≡ true → has other l ≡ true) → (l : RevId) → is_leaf t l ≡ true → has other l ≡ true
+leaves_known old other t grown all l top =
+    elim (grown.revs l (and_parts _ _ top).0) [
+      | inl there ↦ all l (leaf_kept old other t grown l top there)
+      | inr there ↦ there
+    ]
+
+-- b grew by what a has, then a by what b has then
+module _ (a b b' a' : TreeValue) (there : IsGrownBy b a b') (back : IsGrownBy a b' a') where
+  pub Agree-grown : Agree a b → Agree a' b'
+  Agree-grown agree = record {
+    parents = λ c p q h k. elim (back.parents c p h) [
+      | inl own ↦ elim (there.parents c q k) [
+        | inl other ↦ agree.parents c p q own other
+        | inr same ↦ one_parent (get a.parents c) p q own same
+      ]
+      | inr brought ↦ one_parent (get b'.parents c) p q brought k
+    ];
+    contents = λ r x y h k. elim (back.contents r x h) [
+      | inl own ↦ elim (there.contents r y k) [
+        | inl other ↦ agree.contents r x y own other
+        | inr same ↦ one_parent (get a.contents r) x y own same
+      ]
+      | inr brought ↦ one_parent (get b'.contents r) x y brought k
+    ];
+  }
+
+  pub IsWhole-there : IsWhole a → IsWhole b → IsWhole b'
+  IsWhole-there ours theirs r h none = elim (there.roots r (h, none)) [ inl own ↦ theirs r own.0 own.1 | inr brought ↦ ours r brought.0 brought.1 ]
+
+  pub IsWhole-back : IsWhole a → IsWhole b → IsWhole a'
+  IsWhole-back ours theirs r h none = elim (back.roots r (h, none)) [ inl own ↦ ours r own.0 own.1 | inr brought ↦ IsWhole-there ours theirs r brought.0 brought.1 ]
+
+-- ---- the same
+
+-- what agrees with a whole tree has, above what that tree knows, the very parents
+module _ (s t : TreeValue) (ours : IsTree s) (theirs : IsTree t) (agree : Agree s t) (whole : IsWhole t) where
+  same_parent : (c p : RevId) → has t c ≡ true → get s.parents c ≡ Some p → get t.parents c ≡ Some p
+  same_parent c p there e = go (get t.parents c) refl
+    where
+      go : (o : Option RevId) → get t.parents c ≡ o → get t.parents c ≡ Some p
+      go None f =
+          let first = whole c there f in
+          let falls = ours.falls c p e in
+          let low = (ours.revs p (ours.parent c p e)).low in
+          absurd (omega (arith, first, falls, low))
+      go (Some q) f = f ∙ ap Some (sym (agree.parents c p q e f))
+
+  walked : (n : ℕ) (x r : RevId) → has t x ≡ true → is_among r (walk s.parents n x) ≡ true → has t r ≡ true
+  walked zero x r there h = elim (or_cases _ _ h) [ inl tie ↦ ap (has t) (rev_tie_is r x tie) ∙ there | inr nothing ↦ absurd (false≢true nothing) ]
+  walked (suc n) x r there h =
+      elim (or_cases _ _ h) [
+        | inl tie ↦ ap (has t) (rev_tie_is r x tie) ∙ there
+        | inr later ↦ elim (get s.parents x) as (λ o. get s.parents x ≡ o → is_among r (option_map_or (walk s.parents n) o []) ≡ true → has t r ≡ true) [
+          | None ↦ λ _ nothing. absurd (false≢true nothing)
+          | Some p ↦ λ e more. walked n p r (theirs.parent x p (same_parent x p there e)) more
+        ] refl later
+      ]
+
+  pub all_known : ((l : RevId) → is_leaf s l ≡ true → has t l ≡ true) → (r : RevId) → has s r ≡ true → has t r ≡ true
+  all_known leaves r h = let up = leaf_above s ours r h in walked up.0.generation up.0 r (leaves up.0 up.1.leaf) up.1.above
+
+  pub edges_known : ((l : RevId) → is_leaf s l ≡ true → has t l ≡ true) → (c p : RevId) → get s.parents c ≡ Some p → get t.parents c ≡ Some p
+  edges_known leaves c p e = same_parent c p (all_known leaves c (ours.child c p e)) e
+
+turned : (s t : TreeValue) → Agree s t → Agree t s
+turned s t agree = record { parents = λ c p q h k. sym (agree.parents c q p k h); contents = λ r b d h k. sym (agree.contents r d b k h) }
+
+-- two trees that agree, that are whole, and that know each other's leaves have the same revisions, edges and contents
+pub same_by_leaves : (s t : TreeValue) → IsTree s → IsTree t → Agree s t → IsWhole s → IsWhole t → ((l : RevId) → is_leaf s l ≡ true → has t l ≡ true) → ((l : RevId) → is_leaf t l ≡ true → has s l ≡ true) → SameRevisions s t
+same_by_leaves s t ours theirs agree whole_s whole_t there back = record {
+  revs = λ r. same_tests _ _ (all_known s t ours theirs agree whole_t there r) (all_known t s theirs ours (turned s t agree) whole_s back r);
+  edges = same;
+  contents = λ leaf is.
+      let b = some_told (get s.contents leaf) (ours.leaf leaf is) in
+      let d = some_told (get t.contents leaf) (theirs.leaf leaf (and_both (there leaf is) (ap not (nobody leaf is)))) in
+      b.1 ∙ ap Some (agree.contents leaf b.0 d.0 b.1 d.1) ∙ sym d.1;
+}
+  where
+    same : s.parents ≡ t.parents
+    same = same_map rev_cmp_total rev_cmp_exact _ _ (λ q. go q (get s.parents q) refl)
+      where
+        go : (q : RevId) (o : Option RevId) → get s.parents q ≡ o → get s.parents q ≡ get t.parents q
+        go q (Some p) e = e ∙ sym (edges_known s t ours theirs agree whole_t there q p e)
+        go q None e = e ∙ sym (none_is (get t.parents q) (λ p f. false≢true (ap is_some (sym e ∙ edges_known t s theirs ours (turned s t agree) whole_s back q p f))))
+
+    nobody : (leaf : RevId) → is_leaf s leaf ≡ true → is_parent t leaf ≡ false
+    nobody leaf is =
+        elim (cases_Bool (is_parent t leaf)) [
+          | inl up ↦
+              let c = child_of_parent t leaf up in
+              absurd (false≢true (sym (ap not (parent_from_child s leaf c.0 (ap (λ m. get m c.0) same ∙ c.1))) ∙ (and_parts _ _ is).1))
+          | inr none ↦ none
+        ]
