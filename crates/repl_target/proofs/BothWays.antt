@@ -31,8 +31,9 @@ use Rattle.repl_target.specs.TiedPeers.{IsTiedPair, AreTiedBackups, IsTiedWith}
 use Rattle.repl_target.specs.Sessions.{on_found, new_session, begun}
 use Rattle.repl_target.specs.Settling.{settle_docs, settling_of, with_done, after_documents, after_settle, after_stop}
 use Rattle.repl_target.specs.Calls.{Call, Load, Edit, Begin, Append, Settle, Stop, Record, Conclude, after_call, after_calls, IsFrom, AllFrom, IsGrown, IsLeft}
-use Rattle.repl_target.specs.Replication.{beginning_between, begins_answer, after_begins}
+use Rattle.repl_target.specs.Replication.{beginning_between, begins_answer, after_begins, Replicates}
 use Rattle.repl_target.specs.Sync.{KnowsLeaves, HasRefusedNone, Meets, MeetBoth}
+use Rattle.repl_target.specs.declared.fault.Report.{Report}
 use Rattle.repl_target.specs.declared.fault.TargetFault.{TargetFault}
 use Rattle.repl_target.specs.declared.replication.Plan.{Plan}
 use Rattle.repl_target.proofs.SettlingKeepsLaw.{Ends, after_settle_ends, after_stop_ends}
@@ -40,7 +41,7 @@ use Rattle.repl_target.proofs.LogLaws.{logs_later}
 use Rattle.repl_target.proofs.Fetched.{tree_lawful, IsLeafOf, calls-keep}
 use Rattle.repl_target.proofs.Copies.{leaf_covered}
 use Rattle.repl_target.proofs.TiedLaws.{session-later, entry-later, backups-later, backups-source, tied_source}
-use Rattle.repl_target.proofs.Replicated.{left_law}
+use Rattle.repl_target.proofs.Replicated.{replicates_left, left_law}
 
 -- ---- a target's documents come from what it was, and from the source
 
@@ -131,6 +132,11 @@ pub record Leaves (refuses : Document → Bool) (source target : PeerValue) (pla
   pub log : source' ≡ record source { outgoing = source'.outgoing }
   pub left : IsLeft refuses source target plan target'
   pub tied : (chosen : Choice) (backups : List BackupValue) → IsTiedWith backups source target chosen → IsTiedWith backups source' target' chosen
+
+-- by one thread
+pub replicates_leaves : (refuses : Document → Bool) (source target : PeerValue) (plan : Plan) (result : Result Report TargetFault) (source' target' : PeerValue) → Replicates refuses source target plan result source' target'
+    → source' ≡ record source { outgoing = source'.outgoing } → ((chosen : Choice) (backups : List BackupValue) → IsTiedWith backups source target chosen → IsTiedWith backups source' target' chosen) → Leaves refuses source target plan source' target'
+replicates_leaves refuses source target plan result source' target' h log tied = record { log = log; left = replicates_left refuses source target plan result source' target' h; tied = tied }
 
 -- a target with another log of its own is tied as it was
 tied_target : (source target new : PeerValue) (c : Choice) → new ≡ record target { outgoing = new.outgoing } → IsTiedPair source target c → IsTiedPair source new c

@@ -108,8 +108,8 @@ module _ (source : DatabaseValue) (P : DatabaseValue → Type 0) (puts : (db : D
   call-keeps refuses chosen run p (Edit id parent deleted body) from h = absurd from
   call-keeps refuses chosen run p (Begin session beginning at) from h = absurd from
   call-keeps refuses chosen run p (Append session window) from h = found-same p _ (session_in p.sessions session) h
-  call-keeps refuses chosen run p (Settle session parcel) from h = parcel-settled refuses p session parcel (after_settle refuses p session parcel) (handed parcel from) (after_settle_ends refuses p session parcel) h
-  call-keeps refuses chosen run p (Stop session parcel settled) from h = parcel-settled refuses p session parcel (after_stop refuses p session parcel settled) (handed parcel from) (after_stop_ends refuses p session parcel settled) h
+  call-keeps refuses chosen run p (Settle session parcel) from h = parcel-settled refuses p session parcel (after_settle refuses p session parcel) (handed parcel from.1) (after_settle_ends refuses p session parcel) h
+  call-keeps refuses chosen run p (Stop session parcel settled) from h = parcel-settled refuses p session parcel (after_stop refuses p session parcel settled) (handed parcel from.1) (after_stop_ends refuses p session parcel settled) h
   call-keeps refuses chosen run p (Record session at) from h = found-same p _ (session_in p.sessions session) h
   call-keeps refuses chosen run p (Conclude session at) from h = found-same p _ (session_in p.sessions session) h
 
