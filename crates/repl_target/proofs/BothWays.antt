@@ -5,9 +5,9 @@ use Rattle.std.specs.Str.{bytes_eq}
 use Rattle.std.proofs.lemmas.Bool.{cond_both, false≢true, or_cases}
 use Rattle.std.proofs.lemmas.Slice.Eq.{bytes_eq-Decides}
 use Rattle.rev_core.specs.Rev.{RevId}
-use Rattle.rev_tree.specs.Tree.{TreeValue, IsTree, has, is_leaf, ancestors, merged, no_revisions, SameRevisions}
+use Rattle.rev_tree.specs.Tree.{TreeValue, IsTree, has, is_leaf, ancestors, merged, no_revisions}
 use Rattle.rev_tree.specs.Agreement.{Agree, IsWhole, IsGrownBy}
-use Rattle.rev_tree.specs.AgreementLaws.{IsGrownBy-same, IsGrownBy-merged, leaves_known, Agree-grown, IsWhole-there, IsWhole-back, same_by_leaves}
+use Rattle.rev_tree.specs.AgreementLaws.{IsGrownBy-same, IsGrownBy-merged, leaves_known, Agree-grown, IsWhole-there, IsWhole-back, same_by_leaves, same_leaves}
 use Rattle.rev_tree.specs.PartLaws.{given}
 use Rattle.rev_tree.specs.declared.origin.Origin.{Origin}
 use Rattle.rev_tree.specs.declared.origin.SessionId.{SessionId}
@@ -31,7 +31,7 @@ use Rattle.repl_target.specs.TiedPeers.{IsTiedPair, AreTiedBackups, IsTiedWith}
 use Rattle.repl_target.specs.Sessions.{on_found, new_session, begun}
 use Rattle.repl_target.specs.Settling.{settle_docs, settling_of, with_done, after_documents, after_settle, after_stop}
 use Rattle.repl_target.specs.Calls.{Call, Load, Edit, Begin, Append, Settle, Stop, Record, Conclude, after_call, after_calls, IsFrom, AllFrom, IsGrown, IsLeft}
-use Rattle.repl_target.specs.Replication.{beginning_between, begins_answer, after_begins, Replicates}
+use Rattle.repl_target.specs.Replication.{SameDocument, beginning_between, begins_answer, after_begins, Replicates}
 use Rattle.repl_target.specs.Sync.{KnowsLeaves, HasRefusedNone, Meets, MeetBoth}
 use Rattle.repl_target.specs.declared.fault.Report.{Report}
 use Rattle.repl_target.specs.declared.fault.TargetFault.{TargetFault}
@@ -201,11 +201,13 @@ module _ (refuses_a refuses_b : Document → Bool) (a b a' b' a'' b'' : PeerValu
   both_meet tied_there tied_back none_a none_b id chosen_there chosen_back = record {
     there = λ leaf top. ap (λ (db : DatabaseValue). has (tree_of db.docs id) leaf) same_b ∙ knows_there leaf top;
     back = λ leaf top. knows_back leaf (ap (λ (db : DatabaseValue). is_leaf (tree_of db.docs id) leaf) (sym same_b) ∙ top);
-    same = λ agree whole_a whole_b. subst (λ (db : DatabaseValue). SameRevisions (tree a'' id) (tree_of db.docs id)) (sym same_b)
-        (same_by_leaves (tree a'' id) (tree b' id) (tree_lawful a''.db law_a'' id) (tree_lawful b'.db law_b' id)
+    same = λ agree whole_a whole_b.
+        let is =
+        same_by_leaves (tree a'' id) (tree b' id) (tree_lawful a''.db law_a'' id) (tree_lawful b'.db law_b' id)
         (Agree-grown (tree a id) (tree b id) (tree b' id) (tree a'' id) (grown_there id) (grown_back id) agree)
         (IsWhole-back (tree a id) (tree b id) (tree b' id) (tree a'' id) (grown_there id) (grown_back id) whole_a whole_b)
-        (IsWhole-there (tree a id) (tree b id) (tree b' id) (tree a'' id) (grown_there id) (grown_back id) whole_a whole_b) knows_there knows_back);
+        (IsWhole-there (tree a id) (tree b id) (tree b' id) (tree a'' id) (grown_there id) (grown_back id) whole_a whole_b) knows_there knows_back in
+        subst (λ (db : DatabaseValue). SameDocument a''.db db id) (sym same_b) (is, same_leaves (tree a'' id) (tree b' id) is);
   }
     where
       none_b' : HasRefusedNone b'

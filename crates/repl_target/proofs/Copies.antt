@@ -45,6 +45,7 @@ use Rattle.repl_target.proofs.Fetched.{tree_lawful, IsLeafOf, fetched_leaves, do
 use Rattle.repl_target.proofs.TiesLaws.{in_chosen, tree_of-member, among_from}
 use Rattle.repl_target.proofs.LaterPeers.{one_session, session_found}
 use Rattle.repl_target.proofs.SettlingKeepsLaw.{settle_told}
+use Rattle.rev_tree.specs.AgreementLaws.{same_leaves}
 use Rattle.rev_tree.specs.PartLaws.{IsPart, nothing_is_part, given, part_merged, whole_part}
 use Rattle.repl_target.proofs.HonestSessions.{rises_member}
 use Rattle.repl_target.proofs.Reading.{Started, less-is, concluded, all-covered, all-reported, all-lawful}
@@ -216,7 +217,9 @@ copied refuses source target plan from read report source' target' s law lawful 
         (leaf_covered plan.chosen source.db target' law all_covered id chosen leaf top)
 
     same : SameDocuments plan.chosen source.db target'.db
-    same id chosen = whole_part (tree_of source.db.docs id) (tree_of target'.db.docs id) (tree_lawful source.db law id) (copying.part id) (leaf_there id chosen)
+    same id chosen =
+        let is = whole_part (tree_of source.db.docs id) (tree_of target'.db.docs id) (tree_lawful source.db law id) (copying.part id) (leaf_there id chosen) in
+        (is, same_leaves (tree_of source.db.docs id) (tree_of target'.db.docs id) is)
 
 pub all-copied : (refuses : Document → Bool) (source target : PeerValue) (plan : Plan) (from : Reading) (read : PeerValue) (result : Result Report TargetFault) (source' target' : PeerValue)
     → Started source target plan from → LawfulDatabase source.db → LawfulSessions refuses from.target → ReadsAll refuses source.db plan from read → Closes source read plan result source' target'

@@ -1,7 +1,7 @@
 -- Replication by one thread: docs/PROFILE.md, "Replication by one thread"; CouchDB, "Replication Protocol".
 use Rattle.std.specs.Prelude.{◌≡◌, ◌⊎◌, ℕ, zero, suc, ◌+◌, ◌==◌, ◌<◌, Bool, true, false, ◌&&◌, nat_lt, nat_le, if◌then◌else◌, [], Option, Some, None, Result, Ok, Err}
 use Rattle.rev_core.specs.Rev.{RevId}
-use Rattle.rev_tree.specs.Tree.{SameRevisions}
+use Rattle.rev_tree.specs.Tree.{leaves, SameRevisions}
 use Rattle.rev_tree.specs.declared.origin.SessionId.{SessionId}
 use Rattle.doc_json.specs.Document.{Document}
 use Rattle.doc_json.specs.Chosen.{Choice, is_chosen}
@@ -222,7 +222,12 @@ pub record IsReported (source target target' : PeerValue) (plan : Plan) (report 
 abbrev pub IsEmpty : PeerValue → Type 0
 IsEmpty p = (p.db.docs ≡ []) × (p.sessions ≡ [])
 
+-- a document has the same revisions, parents and contents of leaves in two databases; so it has the same leaves there,
+-- the winner first
+abbrev pub SameDocument : DatabaseValue → DatabaseValue → Id → Type 0
+SameDocument a b id =
+    SameRevisions (tree_of a.docs id) (tree_of b.docs id) × (leaves (tree_of a.docs id) ≡ leaves (tree_of b.docs id))
+
 -- each chosen document of one database is in the other as it is there
 abbrev pub SameDocuments : Choice → DatabaseValue → DatabaseValue → Type 0
-SameDocuments chosen a b =
-    (id : Id) → is_chosen chosen id ≡ true → SameRevisions (tree_of a.docs id) (tree_of b.docs id)
+SameDocuments chosen a b = (id : Id) → is_chosen chosen id ≡ true → SameDocument a b id

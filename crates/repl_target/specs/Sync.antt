@@ -1,14 +1,14 @@
 -- Replication both ways: docs/PROFILE.md, "Both ways"; PouchDB, `sync`.
 use Rattle.std.specs.Prelude.{◌≡◌, Bool, true, List, [], Result, Ok, Err}
 use Rattle.rev_core.specs.Rev.{RevId}
-use Rattle.rev_tree.specs.Tree.{has, is_leaf, SameRevisions}
+use Rattle.rev_tree.specs.Tree.{has, is_leaf}
 use Rattle.rev_tree.specs.Agreement.{Agree, IsWhole}
 use Rattle.doc_json.specs.Document.{Document}
 use Rattle.doc_json.specs.Chosen.{is_chosen}
 use Rattle.couch_base.specs.Lists.{Among}
 use Rattle.couch_base.specs.Database.{Id, DatabaseValue, tree_of}
 use Rattle.repl_target.specs.Peer.{PeerValue, SessionValue}
-use Rattle.repl_target.specs.Replication.{Replicates}
+use Rattle.repl_target.specs.Replication.{SameDocument, Replicates}
 use Rattle.repl_target.specs.TiedPeers.{IsTiedPair}
 use Rattle.repl_target.specs.declared.sync.SyncFault.{SyncFault}
 use Rattle.repl_target.specs.declared.sync.SyncFault.TheVariants as faults
@@ -42,12 +42,12 @@ abbrev pub HasRefusedNone : PeerValue → Type 0
 HasRefusedNone p = (s : SessionValue) → Among s p.sessions → s.ledger ≡ []
 
 -- what both ways leave of a document: each side knows the other's leaves. Where the trees before agreed and no history
--- was cut off, both sides have the same revisions, edges and contents of leaves, and so the same winner
+-- was cut off, both sides have the same document
 pub record Meets (a b a' b' : DatabaseValue) (id : Id) : Type 0 where
   pub there : KnowsLeaves b' a' id
   pub back : KnowsLeaves a' b' id
   pub same : Agree (tree_of a.docs id) (tree_of b.docs id) → IsWhole (tree_of a.docs id) → IsWhole (tree_of b.docs id)
-      → SameRevisions (tree_of a'.docs id) (tree_of b'.docs id)
+      → SameDocument a' b' id
 
 -- each document that is chosen both ways, from peers that are tied each way, where neither side has refused a document
 abbrev pub MeetBoth : PeerValue → PeerValue → PeerValue → PeerValue → Plan → Plan → Type 0

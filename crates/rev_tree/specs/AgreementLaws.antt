@@ -1,17 +1,22 @@
 -- Two trees that know each other's leaves, agree and are whole are the same; and how trees come to know each other's leaves.
-use Rattle.std.proofs.Common.{◌≡◌, ◌⊎◌, ℕ, zero, suc, ◌≤◌, true, false, not, ◌||◌, List, [], ◌∷◌, Option, Some, None, is_some, refl, sym, ap, ◌∙◌, inl, inr, arith}
+use Rattle.std.proofs.Common.{◌≡◌, ◌⊎◌, ℕ, zero, suc, ◌≤◌, true, false, not, ◌&&◌, ◌||◌, List, [], ◌∷◌, filter, Option, Some, None, is_some, refl, sym, ap, ◌∙◌, inl, inr, arith}
+use Rattle.std.specs.List.{list_any}
 use Rattle.std.specs.Option.{option_map_or, option_or}
-use Rattle.std.specs.Ordering.{eq_by_cmp}
-use Rattle.std.specs.FinMap.{FinMap, get, find, same_map}
-use Rattle.std.proofs.lemmas.Bool.{and_parts, false≢true, cases_Bool}
+use Rattle.std.specs.declared.cmp.Ordering.{Ordering}
+use Rattle.std.specs.Ordering.{eq_by_cmp, ordering_then, bool_cmp}
+use Rattle.std.specs.Cmp.{IsTotalOrder, eq_by_cmp_equiv}
+use Rattle.std.specs.FinMap.{FinMap, get, find, keys, same_map}
+use Rattle.std.specs.FinMap.Entries.{by_order}
+use Rattle.std.proofs.lemmas.Bool.{and_parts, or_right, false≢true, cases_Bool}
 use Rattle.rev_core.specs.Rev.{RevId, rev_cmp}
 use Rattle.rev_core.specs.RevOrder.{rev_cmp_total, rev_cmp_exact, rev_tie_is}
 use Rattle.rev_core.specs.Ancestry.{edges_of, is_among}
 use Rattle.rev_tree.specs.Content.{ContentValue}
-use Rattle.rev_tree.specs.Tree.{TreeValue, IsTree, has, is_parent, is_leaf, walk, ancestors, at_head, merged, SameRevisions}
+use Rattle.rev_tree.specs.InOrder.{in_order, placed, in_order-nil, in_order-cons, any-in_order, same_in_order}
+use Rattle.rev_tree.specs.Tree.{TreeValue, IsTree, has, is_parent, is_leaf, is_deleted, leaf_cmp, leaves, walk, ancestors, at_head, merged, SameRevisions}
 use Rattle.rev_tree.specs.Agreement.{Agree, IsWhole, IsRoot, IsGrownBy}
 use Rattle.rev_tree.specs.TreeLaws.{some_or, or_cases, and_both, both_none, child_of_parent, parent_from_child, get-joined, get-joined_known, has-merged, edge_found}
-use Rattle.rev_tree.specs.LeafLaws.{same_tests, leaf_above, has_walked, IsAncestry-ancestors}
+use Rattle.rev_tree.specs.LeafLaws.{leaf_cmp_total, leaf_cmp_exact, leaf_tie, any_agree, is_among-leaves, same_tests, leaf_above, has_walked, IsAncestry-ancestors}
 use Rattle.rev_tree.specs.PartLaws.{none_is, some_told, told_some, edges_walked, given, given_is, at_leaf}
 use Rattle.rev_tree.specs.declared.origin.Origin.{Origin}
 
@@ -170,3 +175,39 @@ same_by_leaves s t ours theirs agree whole_s whole_t there back = record {
               absurd (false≢true (sym (ap not (parent_from_child s leaf c.0 (ap (λ m. get m c.0) same ∙ c.1))) ∙ (and_parts _ _ is).1))
           | inr none ↦ none
         ]
+
+-- ---- the leaves of trees that are the same
+
+-- an element is placed alike by two orders that agree on what is there
+same_placed : {K : Type 0} (R S : K → K → Ordering) → IsTotalOrder R → (k : K) (ys : List K) → ((y : K) → list_any (eq_by_cmp R y) ys ≡ true → R k y ≡ S k y) → placed R k ys ≡ placed S k ys
+same_placed R S total k [] h = refl
+same_placed R S total k (y ∷ ys) h =
+    λ i. by_order (h y (ap (λ b. b || list_any (eq_by_cmp R y) ys) ((eq_by_cmp_equiv total).refl y)) i) (k ∷ (y ∷ ys)) (y ∷ ys)
+    (y ∷ same_placed R S total k ys (λ x m. h x (or_right _ _ m)) i)
+
+same_order : {K : Type 0} (R S : K → K → Ordering) → IsTotalOrder R → IsTotalOrder S → (xs : List K) → ((a b : K) → list_any (eq_by_cmp R a) xs ≡ true → list_any (eq_by_cmp R b) xs ≡ true → R a b ≡ S a b) → in_order R xs ≡ in_order S xs
+same_order R S r s [] h = in_order-nil R ∙ sym (in_order-nil S)
+same_order R S r s (k ∷ xs) h =
+    in_order-cons r k xs
+    ∙ same_placed R S r k (in_order R xs) (λ y m. h k y (ap (λ b. b || list_any (eq_by_cmp R k) xs) ((eq_by_cmp_equiv r).refl k)) (or_right _ _ (sym (any-in_order r xs y) ∙ m)))
+    ∙ ap (placed S k) (same_order R S r s xs (λ a b m n. h a b (or_right _ _ m) (or_right _ _ n))) ∙ sym (in_order-cons s k xs)
+
+-- who ties, in the order of another tree's leaves, with one of a tree's is a leaf there
+any_leaf : (u t : TreeValue) (r : RevId) → list_any (eq_by_cmp (leaf_cmp u) r) (filter (is_leaf t) (keys t.origins)) ≡ is_leaf t r
+any_leaf u t r =
+    let all = filter (is_leaf t) (keys t.origins) in
+    any_agree (eq_by_cmp (leaf_cmp u) r) (eq_by_cmp (leaf_cmp t) r) (λ x. leaf_tie u r x ∙ sym (leaf_tie t r x)) all
+    ∙ sym (any-in_order (leaf_cmp_total t) all r) ∙ any_agree (eq_by_cmp (leaf_cmp t) r) (eq_by_cmp rev_cmp r) (λ x. leaf_tie t r x) (leaves t) ∙ is_among-leaves t r
+
+-- they have the same leaves in the same order, so the same winner
+pub same_leaves : (s t : TreeValue) → SameRevisions s t → leaves s ≡ leaves t
+same_leaves s t same =
+    same_order (leaf_cmp s) (leaf_cmp t) (leaf_cmp_total s) (leaf_cmp_total t) (filter (is_leaf s) (keys s.origins))
+    (λ a b m n. λ i. ordering_then (bool_cmp (deleted a (sym (any_leaf s s a) ∙ m) i) (deleted b (sym (any_leaf s s b) ∙ n) i)) (rev_cmp b a))
+    ∙ same_in_order (leaf_cmp_total t) (leaf_cmp_exact t) (filter (is_leaf s) (keys s.origins)) (filter (is_leaf t) (keys t.origins)) (λ q. any_leaf t s q ∙ leaf_same q ∙ sym (any_leaf t t q))
+  where
+    leaf_same : (r : RevId) → is_leaf s r ≡ is_leaf t r
+    leaf_same r = λ i. same.revs r i && not (list_any (λ c. option_map_or (eq_by_cmp rev_cmp r) (get (same.edges i) c) false) (keys (same.edges i)))
+
+    deleted : (r : RevId) → is_leaf s r ≡ true → is_deleted s r ≡ is_deleted t r
+    deleted r is = ap (λ (o : Option ContentValue). option_map_or (λ (b : ContentValue). b.deleted) o false) (same.contents r is)
