@@ -12,7 +12,3 @@ use Rattle.repl_pool.specs.Boards.{WorksAt}
 pub taken_came : (b : Board) (seats rest : List BoardSeat) (taken : Option BoardSeat) → AreNew b seats → seats ≡ rest ++ option_to_list taken → IfSome taken (CameWith b)
 taken_came b seats rest None new e = tt
 taken_came b seats rest (Some s) new e = (new_taken b seats rest s new e).came
-
--- the first are workers'
-pub first_work : (b : Board) (seats : List BoardSeat) → AreNew b seats → length seats ≤ b.workers → All (WorksAt b) seats
-first_work b seats new few = new_workers b seats seats [] new (sym (append-nil seats)) few

@@ -144,10 +144,6 @@ module _ (name : Name) (d : ℕ) where
       (then (list_opens name d n u (below n h)) (joined (value_text (n + 1) before m x inside (inl (nonempty u 91 [])))
       (then (list_closes name d n (before ++ x)) (value_text n ((before ++ x) ++ 93 ∷ []) rest w c (inl (nonempty (before ++ x) 93 []))))))
 
-  -- a value behind its colon
-  whole_value : (s t u : List ℕ) → Spaces s → IsValue t u → Leads (Within (Value name) d 0 []) (s ++ t) (Within (Value name) d 0 u) []
-  whole_value s t u blanks v = joined (lead_spaces name d s blanks) (value_text 0 [] t u v.closed (inr v.first))
-
 -- ---- lists and objects
 
 pub pieces_to : {P Q : State → Type 0} {t : List ℕ} {ps qs : List Piece} → ps ≡ qs → Leads P t Q ps → Leads P t Q qs

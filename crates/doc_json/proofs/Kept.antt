@@ -12,11 +12,6 @@ use Rattle.std.proofs.lemmas.Bool.{false≢true, true≢false}
 use Rattle.serde_json.specs.Data.{Data, Members, no_members, member}
 use Rattle.serde_json.specs.Find.{get_member}
 
--- what was found stays
-pub found_stays : {X : Type 0} (o p : Option X) → true ≡ is_some o → o ≡ option_or o p
-found_stays None p e = absurd (false≢true (sym e))
-found_stays (Some x) p e = refl
-
 pub none_yet : {X : Type 0} (o p : Option X) → false ≡ is_some o → option_or o p ≡ p
 none_yet None p e = refl
 none_yet (Some x) p e = absurd (true≢false (sym e))

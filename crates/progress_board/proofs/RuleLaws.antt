@@ -418,45 +418,6 @@ pub record Loaded (v w : SeatView) : Type 0 where
   pub settle_size : length w.settles ≡ length v.settles
   pub same : (w.works ≡ v.works) × (w.number ≡ v.number)
 
-loaded_read : (v : SeatView) (i n : ℕ) → i < length v.reads → ((j : ℕ) → get_or v.settles j 0 ≤ get_or v.reads j 0) → get_or v.reads i 0 ≤ n → (v.works ≡ true → v.number ≡ i → n ≡ get_or v.reads i 0)
-    → Loaded v (seat_view v.deals v.works v.number (set v.reads i n) v.settles)
-loaded_read v i n lt ordered up mine = record {
-  ordered = λ j. at_write v.reads i n j (λ x. get_or v.settles j 0 ≤ x) lt (λ e. let o = ordered j in let s : get_or v.reads j 0 ≡ get_or v.reads i 0 = ap (λ z. get_or v.reads z 0) e in omega arith) (λ ne. ordered j);
-  own_read = λ w. at_write v.reads i n v.number (λ x. x ≡ get_or v.reads v.number 0) lt (λ e. mine w e ∙ ap (λ z. get_or v.reads z 0) (sym e)) (λ ne. refl);
-  own_settled = λ w. refl;
-  reads_up = λ j. at_write v.reads i n j (λ x. get_or v.reads j 0 ≤ x) lt (λ e. let s : get_or v.reads j 0 ≡ get_or v.reads i 0 = ap (λ z. get_or v.reads z 0) e in omega arith) (λ ne. omega arith);
-  settles_up = λ j. omega arith;
-  read_size = length-set v.reads i n;
-  settle_size = refl;
-  same = (refl, refl);
-}
-
-loaded_settled : (v : SeatView) (i n : ℕ) → i < length v.reads → i < length v.settles → ((j : ℕ) → get_or v.settles j 0 ≤ get_or v.reads j 0) → get_or v.settles i 0 ≤ n → (v.works ≡ true → v.number ≡ i → n ≡ get_or v.settles i 0)
-    → Loaded v (seat_view v.deals v.works v.number (set v.reads i (max (get_or v.reads i 0) n)) (set v.settles i n))
-loaded_settled v i n lt lt' ordered up mine =
-    let m = max (get_or v.reads i 0) n in
-    let rs : List ℕ = set v.reads i m in
-    record {
-      ordered = λ j.
-          at_write v.settles i n j (λ x. x ≤ get_or rs j 0) lt' (λ e. let s : get_or rs j 0 ≡ m = ap (λ z. get_or rs z 0) e ∙ get_or-set_same v.reads i m 0 lt in omega arith)
-          (λ ne. let s : get_or rs j 0 ≡ get_or v.reads j 0 = get_or-set_other v.reads i j m 0 ne in let o = ordered j in omega arith);
-      own_read = λ w.
-          at_write v.reads i m v.number (λ x. x ≡ get_or v.reads v.number 0) lt
-          (λ e. let a = mine w e in let o = ordered i in let s : get_or v.reads v.number 0 ≡ get_or v.reads i 0 = ap (λ z. get_or v.reads z 0) e in omega arith) (λ ne. refl);
-      own_settled = λ w. at_write v.settles i n v.number (λ x. x ≡ get_or v.settles v.number 0) lt' (λ e. mine w e ∙ ap (λ z. get_or v.settles z 0) (sym e)) (λ ne. refl);
-      reads_up = λ j. at_write v.reads i m j (λ x. get_or v.reads j 0 ≤ x) lt (λ e. let s : get_or v.reads j 0 ≡ get_or v.reads i 0 = ap (λ z. get_or v.reads z 0) e in omega arith) (λ ne. omega arith);
-      settles_up = λ j. at_write v.settles i n j (λ x. get_or v.settles j 0 ≤ x) lt' (λ e. let s : get_or v.settles j 0 ≡ get_or v.settles i 0 = ap (λ z. get_or v.settles z 0) e in omega arith) (λ ne. omega arith);
-      read_size = length-set v.reads i m;
-      settle_size = length-set v.settles i n;
-      same = (refl, refl);
-    }
-
-pub saw_read : (v w : SeatView) (i n : ℕ) → i < length v.reads → ((j : ℕ) → get_or v.settles j 0 ≤ get_or v.reads j 0) → SeesRead v i n w → Loaded v w
-saw_read v w i n lt ordered h = subst (λ (y : SeatView). Loaded v y) (sym h.0) (loaded_read v i n lt ordered h.1 h.3)
-
-pub saw_settled : (v w : SeatView) (i n : ℕ) → i < length v.reads → i < length v.settles → ((j : ℕ) → get_or v.settles j 0 ≤ get_or v.reads j 0) → SeesSettled v i n w → Loaded v w
-saw_settled v w i n lt lt' ordered h = subst (λ (y : SeatView). Loaded v y) (sym h.0) (loaded_settled v i n lt lt' ordered h.1 h.3)
-
 -- of two lists of one length, the greater at each place has the greater sum
 pub sum_le : (xs ys : List ℕ) → length xs ≡ length ys → ((j : ℕ) → get_or xs j 0 ≤ get_or ys j 0) → sum xs ≤ sum ys
 sum_le [] ys e h = omega arith
@@ -497,9 +458,3 @@ kept_new k words size none =
       below = λ a b u y at at' du wy. absurd (idle y (only b y at').1 wy);
       one = λ a b u y at at' du dy. (only a u at).0 ∙ sym (only b y at').0;
     }
-
-pub zeros_take : (n m j : ℕ) → ◌≡◌ {A = ℕ} (get_or (take n (replicate m 0)) j 0) 0
-zeros_take zero m j = refl
-zeros_take (suc n) zero j = refl
-zeros_take (suc n) (suc m) zero = refl
-zeros_take (suc n) (suc m) (suc j) = zeros_take n m j

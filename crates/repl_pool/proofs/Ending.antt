@@ -29,9 +29,6 @@ use Rattle.repl_target.specs.ReadCounts.{read_of, read_in}
 use Rattle.repl_target.proofs.ReadCounts.{swap_some}
 
 module _ {F : Type 0} (refuses : F → Document → Bool) (db : DatabaseValue) (chosen : Choice) (run : SessionId) where
-  pub grown_same : (p : F × PeerValue) → GrownPeer refuses db chosen run p p
-  grown_same p = (refl, grown-same (refuses p.0) db chosen run p.1)
-
   pub grown_record : (p q : F × PeerValue) (id : SessionId) (at : ℕ) → q.0 ≡ p.0 → q.1 ≡ after_record p.1 id at → GrownPeer refuses db chosen run p q
   grown_record p q id at same is = (same, grown-one (refuses p.0) db chosen run p.1 q.1 (Record id at) tt is)
 

@@ -33,14 +33,6 @@ sent_one v w p is e =
       ap names sent ∙ map-append (λ (x : ℕ × ℕ). x.0) v.sent one,
     )
 
--- what is known of a pass with one part and no receipts once it told the end
-pub told_end : (v w : Hand) → v ≡ hand 1 v.sent [] → w ≡ hand v.parts (v.sent ++ []) v.got → (w ≡ hand 1 w.sent []) × (w.sent ≡ v.sent)
-told_end v w is e =
-    let parts : w.parts ≡ 1 = ap (λ (y : Hand). y.parts) e ∙ ap (λ (y : Hand). y.parts) is in
-    let got : w.got ≡ [] = ap (λ (y : Hand). y.got) e ∙ ap (λ (y : Hand). y.got) is in
-    let sent : w.sent ≡ v.sent = ap (λ (y : Hand). y.sent) e ∙ append-nil (v.sent) in
-    ((λ i. hand (parts i) w.sent (got i)), sent)
-
 abbrev pub GotOne : Hand → ℕ × ℕ → Hand → Type 0
 GotOne v p w = (w ≡ hand 1 [] w.got) × (length w.got ≡ length v.got + 1) × (amounts w.got ≡ amounts v.got + p.1)
 
@@ -56,13 +48,6 @@ got_one v w p is e =
       omega (arith, length-append v.got one),
       omega (arith, amounts-append v.got one),
     )
-
-pub got_end : (v w : Hand) → v ≡ hand 1 [] v.got → w ≡ hand v.parts v.sent (v.got ++ []) → (w ≡ hand 1 [] w.got) × (w.got ≡ v.got)
-got_end v w is e =
-    let parts : w.parts ≡ 1 = ap (λ (y : Hand). y.parts) e ∙ ap (λ (y : Hand). y.parts) is in
-    let sent : w.sent ≡ [] = ap (λ (y : Hand). y.sent) e ∙ ap (λ (y : Hand). y.sent) is in
-    let got : w.got ≡ v.got = ap (λ (y : Hand). y.got) e ∙ append-nil (v.got) in
-    ((λ i. hand (parts i) (sent i) w.got), got)
 
 -- what a pass has once it took another in
 abbrev pub Gathers : Hand → Hand → Hand → Type 0

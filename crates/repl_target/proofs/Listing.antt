@@ -22,43 +22,15 @@ next_of xs i x h is = drop_more xs i x h ∙ ap (λ y. y ∷ drop (i + 1) xs) (s
 pub taken_of : {X : Type 0} (xs : List X) (i : ℕ) (x : X) → i < length xs → x ≡ get_or xs i x → take (i + 1) xs ≡ take i xs ++ x ∷ []
 taken_of xs i x h is = take_more xs i x h ∙ ap (λ y. take i xs ++ y ∷ []) (sym is)
 
--- ---- a search
-
-pub find_here : {X : Type 0} (test : X → Bool) (xs : List X) (i : ℕ) (x : X) → i < length xs → x ≡ get_or xs i x → test x ≡ true → find test (drop i xs) ≡ Some x
-find_here test xs i x h is so = ap (find test) (next_of xs i x h is) ∙ cond-true (test x) (Some x) (find test (drop (i + 1) xs)) so
-
-pub find_later : {X : Type 0} (test : X → Bool) (xs : List X) (i : ℕ) (x : X) → i < length xs → x ≡ get_or xs i x → test x ≡ false → find test (drop i xs) ≡ find test (drop (i + 1) xs)
-find_later test xs i x h is so = ap (find test) (next_of xs i x h is) ∙ cond-false (test x) (Some x) (find test (drop (i + 1) xs)) so
-
 -- ---- a test of all
 
 pub all_later : {X : Type 0} (test : X → Bool) (xs : List X) (i : ℕ) (x : X) → i < length xs → x ≡ get_or xs i x → test x ≡ true → list_all test (drop i xs) ≡ list_all test (drop (i + 1) xs)
 all_later test xs i x h is so = ap (list_all test) (next_of xs i x h is) ∙ ap (λ b. b && list_all test (drop (i + 1) xs)) so
 
-pub not_all : {X : Type 0} (test : X → Bool) (xs : List X) (i : ℕ) (x : X) → i < length xs → x ≡ get_or xs i x → test x ≡ false → list_all test (drop i xs) ≡ false
-not_all test xs i x h is so = ap (list_all test) (next_of xs i x h is) ∙ ap (λ b. b && list_all test (drop (i + 1) xs)) so
-
--- ---- a test of some
-
-pub none_taken : {X : Type 0} (test : X → Bool) (xs : List X) (i : ℕ) (x : X) → i < length xs → x ≡ get_or xs i x → test x ≡ false → list_any test (take i xs) ≡ false → list_any test (take (i + 1) xs) ≡ false
-none_taken test xs i x h is so before =
-    ap (list_any test) (taken_of xs i x h is) ∙ list_any-append test (take i xs) (x ∷ []) ∙ ap (λ b. b || (test x || false)) before ∙ ap (λ b. b || false) so
-
--- ---- counts
-
-pub sum_next : {X : Type 0} (f : X → ℕ) (xs : List X) (i most count : ℕ) (x : X) → i < length xs → x ≡ get_or xs i x → count ≡ min (sum_by f (take i xs)) most → min (count + f x) most ≡ min (sum_by f (take (i + 1) xs)) most
-sum_next f xs i most count x h is so =
-    let more : sum_by f (take (i + 1) xs) ≡ sum_by f (take i xs) + f x = ap (sum_by f) (taken_of xs i x h is) ∙ sum_by_push f (take i xs) x in
-    omega (arith, so, more)
-
 -- ---- leaves
 
 pub unknown_here : (known : Id → RevId → Bool) (rows : List RowValue) (i : ℕ) (row : RowValue) (u : Leaf) → i < length rows → row ≡ get_or rows i row → unknown_in known row ≡ Some u → first_unknown known (drop i rows) ≡ Some u
 unknown_here known rows i row u h is so =
-    ap (first_unknown known) (next_of rows i row h is) ∙ ap (λ o. option_or o (first_unknown known (drop (i + 1) rows))) so
-
-pub unknown_later : (known : Id → RevId → Bool) (rows : List RowValue) (i : ℕ) (row : RowValue) → i < length rows → row ≡ get_or rows i row → unknown_in known row ≡ None → first_unknown known (drop i rows) ≡ first_unknown known (drop (i + 1) rows)
-unknown_later known rows i row h is so =
     ap (first_unknown known) (next_of rows i row h is) ∙ ap (λ o. option_or o (first_unknown known (drop (i + 1) rows))) so
 
 -- ---- places

@@ -37,19 +37,5 @@ put_later : (p : PeerValue) (rep : RepId) (e : EntryValue) (r : Result (Unit {0}
 put_later p rep e (Ok done) = logs_later p _
 put_later p rep e (Err fault) = IsLaterPeer-same p
 
-put_law : (refuses : Document → Bool) (p : PeerValue) (rep : RepId) (e : EntryValue) (r : Result (Unit {0}) TargetFault) → LawfulSessions refuses p → LawfulSessions refuses (put_by p rep e r)
-put_law refuses p rep e (Ok done) l = logs_law refuses p _ l
-put_law refuses p rep e (Err fault) l = l
-
-put_origins : (p : PeerValue) (rep : RepId) (e : EntryValue) (r : Result (Unit {0}) TargetFault) → HasOrigins p → HasOrigins (put_by p rep e r)
-put_origins p rep e (Ok done) h = logs_origins p _ h
-put_origins p rep e (Err fault) h = h
-
 pub put_entry_later : (p : PeerValue) (rep : RepId) (e : EntryValue) → IsLaterPeer p (after_put_entry p rep e)
 put_entry_later p rep e = put_later p rep e (put_entry_answer p rep e)
-
-pub put_entry_law : (refuses : Document → Bool) (p : PeerValue) (rep : RepId) (e : EntryValue) → LawfulSessions refuses p → LawfulSessions refuses (after_put_entry p rep e)
-put_entry_law refuses p rep e l = put_law refuses p rep e (put_entry_answer p rep e) l
-
-pub put_entry_origins : (p : PeerValue) (rep : RepId) (e : EntryValue) → HasOrigins p → HasOrigins (after_put_entry p rep e)
-put_entry_origins p rep e h = put_origins p rep e (put_entry_answer p rep e) h

@@ -245,9 +245,3 @@ ends_origins refuses p id parcel q (inr e) l h =
 
 pub settle_origins : (refuses : Document → Bool) (p : PeerValue) (id : SessionId) (parcel : ParcelValue) (result : Result Settled TargetFault) (q : PeerValue) → SettleGives refuses p id parcel result q → LawfulSessions refuses p → HasOrigins p → HasOrigins q
 settle_origins refuses p id parcel result q gives l h = ends_origins refuses p id parcel q (settle_ends refuses p id parcel result q gives) l h
-
-pub after_settle_origins : (refuses : Document → Bool) (p : PeerValue) (id : SessionId) (parcel : ParcelValue) → LawfulSessions refuses p → HasOrigins p → HasOrigins (after_settle refuses p id parcel)
-after_settle_origins refuses p id parcel l h = ends_origins refuses p id parcel (after_settle refuses p id parcel) (after_settle_ends refuses p id parcel) l h
-
-pub after_stop_origins : (refuses : Document → Bool) (p : PeerValue) (id : SessionId) (parcel : ParcelValue) (n : ℕ) → LawfulSessions refuses p → HasOrigins p → HasOrigins (after_stop refuses p id parcel n)
-after_stop_origins refuses p id parcel n l h = ends_origins refuses p id parcel (after_stop refuses p id parcel n) (after_stop_ends refuses p id parcel n) l h

@@ -76,11 +76,6 @@ append_reads p id w = changed_reads p id (λ s. with_window w s (append_in w s))
 pub record_reads : (p : PeerValue) (id : SessionId) (at : ℕ) → read_in (after_record p id at).sessions id ≡ read_in p.sessions id
 record_reads p id at = changed_reads p id (recorded_at at) (λ s. (refl, refl))
 
-pub conclude_reads : (p : PeerValue) (id : SessionId) (at : ℕ) → read_in (after_conclude p id at).sessions id ≡ read_in p.sessions id
-conclude_reads p id at =
-    changed_reads p id (λ s. if low_water s.front == s.goal then recorded_at at s else s)
-    (λ s. cond_both (low_water s.front == s.goal) (recorded_at at s) s (λ (t : SessionValue). (t.id ≡ s.id) × (t.read ≡ s.read)) (λ _. (refl, refl)) (λ _. (refl, refl)))
-
 -- a session that began has read nothing
 pub begun_reads : (source target : PeerValue) (plan : Plan) → begins_answer source target plan ≡ Ok tt → read_in (after_begins source target plan).sessions plan.session ≡ 0
 begun_reads source target plan ok =

@@ -50,12 +50,6 @@ append_refused refuses p id w why l h = go (session_in p.sessions id) refl h
         let held = (session_found p.sessions id s e).0 in
         ap (λ t. record p { sessions = with_session p.sessions t }) (stays s (append_in w s) k) ∙ ap (λ ss. record p { sessions = ss }) (with_session-same refuses p s l held)
 
-pub begin_refused : (p : PeerValue) (id : SessionId) (b : Beginning) (at : ℕ) (why : TargetFault) → begin_answer p id b ≡ Err why → after_begin p id b at ≡ p
-begin_refused p id b at why h = ap (begun p (new_session id b at)) h
-
-pub put_entry_refused : (p : PeerValue) (rep : RepId) (e : EntryValue) (why : TargetFault) → put_entry_answer p rep e ≡ Err why → after_put_entry p rep e ≡ p
-put_entry_refused p rep e why h = ap (put_by p rep e) h
-
 -- ---- local writes
 
 unchanged : (p : PeerValue) (d : Document) → is_changed (put_answer p.db d) ≡ false → after_load p d ≡ p
@@ -64,12 +58,6 @@ unchanged p d h =
       db = cond (h i) (with_tree p.db d.id (merged (tree_of p.db.docs d.id) d.ancestry (content_of d.deleted d.body) (next_local p))) p.db;
       locals = cond (h i) (p.locals ++ written_of d ∷ []) p.locals;
     }
-
-err_unchanged : (r : Result Put BaseFault) (why : BaseFault) → r ≡ Err why → is_changed r ≡ false
-err_unchanged r why e = ap is_changed e
-
-pub load_refused : (p : PeerValue) (d : Document) (why : BaseFault) → put_answer p.db d ≡ Err why → after_load p d ≡ p
-load_refused p d why h = unchanged p d (err_unchanged (put_answer p.db d) why h)
 
 no_room : (c : Option Contradiction) (same : Bool) (n : ℕ) → is_changed (put_told (answer_of c same) false n) ≡ false
 no_room (Some c) same n = refl

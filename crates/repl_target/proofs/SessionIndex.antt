@@ -166,10 +166,6 @@ shared-here source log i recorded x so_far is held = so_far ∙ turned source lo
 pub shared-behind : (source log : List EntryValue) (i : ℕ) (x : EntryValue) → common source log ≡ common source (drop i log) → slice_get log i ≡ Some x → recorded_of source x.session ≡ None → common source log ≡ common source (drop (i + 1) log)
 shared-behind source log i x so_far is none = so_far ∙ turned source log i x is ∙ common-passed source (drop (i + 1) log) x none
 
--- none is
-pub shared-none : (source log : List EntryValue) (i : ℕ) → length log ≤ i → common source log ≡ common source (drop i log) → common source log ≡ None
-shared-none source log i all so_far = so_far ∙ ap (λ (rest : List EntryValue). common source rest) (drop_all i log all)
-
 -- the session that is read next, from the end of those of its replication, is that of the entry that is looked at
 pub next-at : (by_rep : RepIndex) (sessions : List SessionValue) (rep : RepId) (left : ℕ) (d : SessionId) → AreListed by_rep sessions → 0 < left → left ≤ length (listed by_rep rep)
     → (x : EntryValue) × (slice_get (log_of sessions rep) (length (listed by_rep rep) - left) ≡ Some x) × (x.session ≡ get_or (listed by_rep rep) (left - 1) d)

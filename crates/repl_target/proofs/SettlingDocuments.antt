@@ -30,24 +30,6 @@ use Rattle.repl_target.specs.declared.ledger_index.LedgerIndex.{LedgerIndex}
 
 -- ---- one document
 
-pub steps_from : (refuses : Document → Bool) (o : Origin) (d : Document) (before after : DatabaseValue) (old new : LedgerIndex) (reason : Option Reason) (s t : SessionValue)
-    → reason ≡ refusal_of refuses before d → MatchOption reason (Accepts d o before after old new) (λ _. Rejects d before after old new)
-    → t ≡ entered d reason s → Steps refuses o d (record { db = before; session = s }) (record { db = after; session = t })
-steps_from refuses o d before after old new None s t is a e =
-    let z : Settling = record { db = before; session = s } in
-    record {
-      goes = ap (stops_as before d) (sym is) ∙ a.room;
-      step = λ w from. let got : settle_one refuses w z d ≡ record { db = after_put before d (fed w s.id d); session = entered d None s } =
-          ap (settle_as w z d) (sym is) ∙ cond-false (is_full (put_answer before d)) z (record { db = after_put before d (fed w s.id d); session = entered d None s }) a.room in
-          (λ i. let r : Settling = record { db = (a.db ∙ ap (after_put before d) from) i; session = e i } in r) ∙ sym got;
-    }
-steps_from refuses o d before after old new (Some reason) s t is a e =
-    let z : Settling = record { db = before; session = s } in
-    record {
-      goes = ap (stops_as before d) (sym is);
-      step = λ w from. (λ i. let r : Settling = record { db = a.db i; session = e i } in r) ∙ ap (settle_as w z d) is;
-    }
-
 pub indexes_from : (o : Origin) (d : Document) (before after : DatabaseValue) (old new base : LedgerIndex) (reason : Option Reason) (s t : SessionValue)
     → MatchOption reason (Accepts d o before after old new) (λ _. Rejects d before after old new)
     → t ≡ entered d reason s → IndexesMore base s.ledger old → IndexesMore base t.ledger new

@@ -35,7 +35,3 @@ trusted_is refuses p l origins = record {
   origins = origins;
   counts = λ s m. counts_are refuses p l s m;
 }
-
--- what a log says of a session is sound
-pub entry_sound : (refuses : Document → Bool) (p : PeerValue) → LawfulSessions refuses p → (s : SessionValue) → Among s p.sessions → IsSound (entry_of s)
-entry_sound refuses p l s m = let law = l.sessions s m in record { accounted = law.read; from_start = law.start }

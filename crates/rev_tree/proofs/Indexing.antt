@@ -23,13 +23,6 @@ use Rattle.rev_tree.proofs.Leaves.{revs_more}
 pub index_many : (revs : List RevId) → MOST_WALKED < length revs → index_for revs ≡ noted_from [] 0 revs
 index_many revs many = ap (λ b. cond b (noted_from [] 0 revs) []) (lt-ltb MOST_WALKED (length revs) many)
 
-pub index_few : (revs : List RevId) → length revs ≤ MOST_WALKED → index_for revs ≡ []
-index_few revs few =
-    elim (ltb MOST_WALKED (length revs)) as (λ b. ltb MOST_WALKED (length revs) ≡ b → cond b (noted_from [] 0 revs) [] ≡ []) [
-      | true ↦ λ many. absurd (omega (arith, few, ltb-true MOST_WALKED (length revs) many))
-      | false ↦ λ _. refl
-    ] refl
-
 -- ---- one mark more
 
 lookup_push : (t : ℕ → Bool) (es : List (ℕ × ℕ)) (m i : ℕ) → lookup t (es ++ (m, i) ∷ []) ≡ option_or (lookup t es) (cond (t m) (Some i) None)

@@ -56,15 +56,6 @@ pub copy_refused : {A : Type 0} (fault : TargetFault) (expected : Result A Targe
 copy_refused faults.Memory expected h = inr refl
 copy_refused fault expected h = inl (sym h)
 
--- a copy more changes no peer
-pub index_beside : (s t : State) (uuids : List ℕ) → t.peers ≡ s.peers → IsIndex s uuids → IsIndex t uuids
-index_beside s t uuids same h =
-    let at : (name : List ℕ) → peer_at t name ≡ peer_at s name = λ name. ap (λ m. finmap.get m name) same in
-    record {
-      noted = λ u e. (let k = h.noted u e in (k.0, k.1, at k.0 ∙ k.2, k.3));
-      taken = λ u k. h.taken u (k.0, k.1, sym (at k.0) ∙ k.2, k.3);
-    }
-
 -- what is put back has the same UUID
 pub restore_keeps : (b : BackupValue) (p : PeerValue) → (after_restore p b).db.uuid ≡ p.db.uuid
 restore_keeps b p = go (restore_answer p b) refl

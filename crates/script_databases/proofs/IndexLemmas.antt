@@ -26,10 +26,6 @@ use Rattle.script_databases.proofs.TableLemmas.{text_cmp-IsAntisymmetric, is_equ
 
 -- ---- looking up
 
-same_option : {A : Type 0} (o : Option A) → option_map (λ x. x) o ≡ o
-same_option None = refl
-same_option (Some x) = refl
-
 -- what a table has at a name is what the state has there
 pub found_at : (g : Beside) (es : Entries) (s : State) (q : List ℕ) → state_of g es ≡ s → option_map (λ p. p.1) (lookup (is_text q) es) ≡ peer_at s q
 found_at g es s q e = sym (get-by_text (λ p. p.1) es q) ∙ ap (λ t. peer_at t q) e

@@ -72,9 +72,6 @@ by_text-updated {X} {V} value old new k x h = same_map nat_list_cmp_total text_c
 pub get-by_text-there : {X V : Type 0} (value : X → V) (es : List (String Global × X)) (q : List ℕ) (x : X) → lookup (is_text q) es ≡ Some x → get (by_text value es) q ≡ Some (value x)
 get-by_text-there value es q x h = get-by_text value es q ∙ ap (option_map value) h
 
-pub get-by_text-absent : {X V : Type 0} (value : X → V) (es : List (String Global × X)) (q : List ℕ) → lookup (is_text q) es ≡ None → get (by_text value es) q ≡ None
-get-by_text-absent value es q h = get-by_text value es q ∙ ap (option_map value) h
-
 pub contains_key-by_text : {X V : Type 0} (value : X → V) (es : List (String Global × X)) (q : List ℕ) → contains_key (by_text value es) q ≡ is_some (lookup (is_text q) es)
 contains_key-by_text {X} value es q = ap is_some (get-by_text value es q) ∙ both (lookup (is_text q) es)
   where

@@ -281,13 +281,6 @@ Keeps-same (Some a) = refl
 pub place_equal : {S : Type 0} (s : S) (b : List ℕ) → b ≡ [] → (record { state = s; begun = b; number = 1; clean = true }) ≡ start s
 place_equal s b e = λ i. record { state = s; begun = e i; number = 1; clean = true }
 
--- a script over memory
-pub over_memory : {S : Type 0} (f : Answering S (List ℕ)) (s : S) (l h h' : Option (List ℕ)) (bytes written input text : List ℕ) (clean : Bool) (new : S) → l ≡ Some bytes → h ≡ Some [] → Some written ≡ h' → Gives l input → Appends h h' text → IsAnswered f s input clean text new → IsAnswered f s bytes clean written new
-over_memory f s l h h' bytes written input text clean new el eh ew gives appends answered =
-    let taken : bytes ≡ input = subst (λ o. Gives o input) el gives in
-    let put : written ≡ text = subst (λ o. Appends o (Some written) text) eh (subst (λ o. Appends h o text) (sym ew) appends) in
-    subst (λ w. IsAnswered f s bytes clean w new) (sym put) (subst (λ b. IsAnswered f s b clean text new) (sym taken) answered)
-
 -- ---- counts
 
 pub one_more : (a b n : ℕ) → counted b 0 ≡ counted a n → counted (counted b 1) 0 ≡ counted a (n + 1)

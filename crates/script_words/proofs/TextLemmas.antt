@@ -37,19 +37,6 @@ texts-first old revs i rev z h e =
     ∙ ap (λ n. old ++ texts_of_revs (take n revs ++ rev ∷ [])) (sym none)
     ∙ ap (λ rs. old ++ texts_of_revs rs) (sym (take_more revs i rev h ∙ ap (λ r. take i revs ++ r ∷ []) (sym e)))
 
--- the line of one more
-pub lines-more : {X : Type 0} (f : X → List ℕ) (head : List ℕ) (revs : List X) (i : ℕ) (rev : X) → i < length revs → rev ≡ get_or revs i rev → (head ++ flat_map f (take i revs)) ++ f rev ≡ head ++ flat_map f (take (i + 1) revs)
-lines-more f head revs i rev h e =
-    flat_map_more f head (take i revs) rev
-    ∙ ap (λ rs. head ++ flat_map f rs) (sym (take_more revs i rev h ∙ ap (λ r. take i revs ++ r ∷ []) (sym e)))
-
--- all of them
-pub lines-all : {X : Type 0} (f : X → List ℕ) (head : List ℕ) (revs all : List X) (i : ℕ) → length revs ≤ i → revs ≡ all → head ++ flat_map f (take i revs) ≡ head ++ flat_map f all
-lines-all {X} f head revs all i h e = ap (λ rs. head ++ flat_map f rs) (past revs i h ∙ e)
-  where
-    past : (rs : List X) (n : ℕ) → length rs ≤ n → take n rs ≡ rs
-    past rs n l = grind (arith, Rattle.std.proofs.lemmas.Grind.common_steps)
-
 -- the rows of a page, and those behind it
 pub texts_step : {X : Type 0} (f : X → List ℕ) (text next all : List ℕ) (rows rest whole : List X) → rows ++ rest ≡ whole → text ++ flat_map f whole ≡ all → next ≡ text ++ flat_map f rows → next ++ flat_map f rest ≡ all
 texts_step f text next all rows rest whole e h n =

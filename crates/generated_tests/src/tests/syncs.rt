@@ -35,7 +35,13 @@ fn leaf(rt: &impl Abort, alloc: Global, rng: &mut ChaCha8Rng, tree: Option<&Tree
 }
 
 /// Edits of documents by chance: each makes one, or changes or deletes a leaf of it.
-fn edit(rt: &impl Abort, alloc: Global, rng: &mut ChaCha8Rng, peer: &mut Peer<Rules>, edits: usize) {
+fn edit(
+    rt: &impl Abort,
+    alloc: Global,
+    rng: &mut ChaCha8Rng,
+    peer: &mut Peer<Rules>,
+    edits: usize,
+) {
     for _ in 0..edits {
         let id = id(rt, alloc, below(rng, IDS as u32));
         let parent = leaf(rt, alloc, rng, peer.db().tree(&id));
