@@ -1,6 +1,7 @@
 //! A replication by threads that is watched: a shop of a thousand orders and its copy as two peers, four fetchers and four
 //! writers, and a viewer who reads beside them how far they are. What the viewer sees goes to standard error.
 #![tactic(auto)]
+
 ghost use Rattle.std.specs.Prelude.{◌≡◌, vec_len};
 ghost use Rattle.std.specs.List.{All};
 ghost use Rattle.progress_board.specs.Seats.{CameWith};
