@@ -1,6 +1,7 @@
 //! Texts that one reader reads as JSON values, one after another, with what the values are written as.
 use crate::tests::texts::expect_answer;
-use json_values::ValueReader;
+use json_values::{LineValue, ValueReader};
+use serde_json::{Map, Value};
 use std::alloc::Global;
 use std::process::Abort;
 use test_texts::shown;
@@ -42,10 +43,43 @@ fn answer(alloc: Global, reader: &mut ValueReader, call: &Call) -> Option<String
 
 /// The compact text of the value that bytes are, or why they are none.
 fn written(alloc: Global, reader: &mut ValueReader, bytes: &[u8]) -> Option<String> {
-    match reader.read(alloc, bytes) {
-        Ok(value) => value.to_string(alloc).ok(),
+    match reader.read_line(alloc, bytes) {
+        Ok(value) => owned(alloc, &value)?.to_string(alloc).ok(),
         Err(fault) => shown(alloc, &fault),
     }
+}
+
+/// The same value with texts of its own.
+#[cycle(owned)]
+fn owned(alloc: Global, value: &LineValue<'_>) -> Option<Value> {
+    match value {
+        LineValue::Null => Some(Value::Null),
+        LineValue::Bool(b) => Some(Value::Bool(*b)),
+        LineValue::Number(number) => Some(Value::Number(*number)),
+        LineValue::String(text) => Value::try_from_str(alloc, *text).ok(),
+        LineValue::Array(items) => owned_items(alloc, items),
+        LineValue::Object(members) => owned_members(alloc, members),
+    }
+}
+
+/// The list of the same items.
+#[cycle(owned)]
+fn owned_items(alloc: Global, items: &Vec<LineValue<'_>>) -> Option<Value> {
+    let mut list = Vec::new(alloc);
+    for item in items {
+        serde_json::push(&mut list, owned(alloc, item)?).ok()?;
+    }
+    Some(Value::Array(list))
+}
+
+/// The object of the same members.
+#[cycle(owned)]
+fn owned_members(alloc: Global, members: &Vec<(&str, LineValue<'_>)>) -> Option<Value> {
+    let mut object = Map::new(alloc);
+    for member in members {
+        serde_json::put(&mut object, alloc, member.0, owned(alloc, &member.1)?).ok()?;
+    }
+    Some(Value::Object(object))
 }
 
 /// Lists in one another, so many deep.
