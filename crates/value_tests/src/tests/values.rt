@@ -13,6 +13,8 @@ enum Call<'a> {
     Read(&'a [u8]),
     /// A list in a list, so many deep.
     Nested(usize),
+    /// An object of so many names in falling order, each twice, of which the second has its number.
+    Falling(usize),
 }
 
 /// What is read, each with the compact text of its value or the refusal.
@@ -35,6 +37,13 @@ fn answer(alloc: Global, reader: &mut ValueReader, call: &Call) -> Option<String
             let answer = written(alloc, reader, text.as_bytes())?;
             if answer == text {
                 return "as it was given".to_string(alloc).ok();
+            }
+            Some(answer)
+        }
+        Call::Falling(count) => {
+            let answer = written(alloc, reader, falling(alloc, count)?.as_bytes())?;
+            if answer == rising(alloc, count)? {
+                return "each once, in rising order".to_string(alloc).ok();
             }
             Some(answer)
         }
@@ -94,6 +103,35 @@ fn nested(alloc: Global, depth: usize) -> Option<String> {
     Some(text)
 }
 
+/// An object of so many names in falling order, each twice.
+fn falling(alloc: Global, count: usize) -> Option<String> {
+    let mut text = "{".to_string(alloc).ok()?;
+    for i in 0..count {
+        let number = count - i;
+        text.push_str(&format!(in alloc; "\"{number:05}\":null,").ok()?)
+            .ok()?;
+    }
+    for i in 0..count {
+        let number = count - i;
+        let comma = if number == 1 { "}" } else { "," };
+        text.push_str(&format!(in alloc; "\"{number:05}\":{number}{comma}").ok()?)
+            .ok()?;
+    }
+    Some(text)
+}
+
+/// The same object with each name once, in rising order.
+fn rising(alloc: Global, count: usize) -> Option<String> {
+    let mut text = "{".to_string(alloc).ok()?;
+    for i in 0..count {
+        let number = i + 1;
+        let comma = if number == count { "}" } else { "," };
+        text.push_str(&format!(in alloc; "\"{number:05}\":{number}{comma}").ok()?)
+            .ok()?;
+    }
+    Some(text)
+}
+
 /// Short texts behind long ones: what is kept of a text is seen in none that follows.
 static VALUES: Rows = &[
     (Call::Read(b"null"), "null"),
@@ -114,6 +152,8 @@ static VALUES: Rows = &[
     (Call::Read(br#"{"\u0062":"\n"}"#), r#"{"b":"\n"}"#),
     (Call::Read(b"\"\xc3\xa9\""), "\"\u{e9}\""),
     (Call::Nested(127), "as it was given"),
+    (Call::Falling(64), "each once, in rising order"),
+    (Call::Falling(1000), "each once, in rising order"),
     (Call::Read(b"{}"), "{}"),
 ];
 
