@@ -15,3 +15,6 @@ pub mod Choosing
 pub mod ChosenTexts
 pub mod ChosenBytes
 pub mod Marking
+pub mod LineFoundRevisions
+pub mod LineNumberedRevisions
+pub mod LineOrders

@@ -107,7 +107,7 @@ fn write_members(members: &Map<String, Value>, out: &mut Writer) -> Result<(), A
 }
 
 /// Writes an integer.
-fn write_number(n: &Number, out: &mut Writer) -> Result<(), AllocError>
+pub(crate) fn write_number(n: &Number, out: &mut Writer) -> Result<(), AllocError>
     requires { is_float (number_view n.now) ≡ false }
     ensures ok { OnOk result (WritesValue (number (number_view n.now)) out.old.tokens out.new.tokens) }
     ensures before { out.new.before ≡ out.old.before }

@@ -166,7 +166,7 @@ fn kept<'a>(
 }
 
 /// Whether a name begins with `_` and is none of those that a document may have.
-fn is_unknown(name: &str) -> bool
+pub(crate) fn is_unknown(name: &str) -> bool
     ensures { result ≡ is_unknown name.now }
 {
     if !is_special(name) {

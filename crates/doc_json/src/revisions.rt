@@ -52,7 +52,7 @@ pub(crate) fn read_revisions(
 }
 
 /// The ancestry of a lone revision id. None where memory for it was refused.
-fn alone(alloc: Global, rev: Rev) -> Option<Ancestry>
+pub(crate) fn alone(alloc: Global, rev: Rev) -> Option<Ancestry>
     ensures { IfSome result (λ a. a ≡ rev ∷ []) }
 {
     let _generation = rev.generation();
@@ -91,7 +91,7 @@ fn read_numbered(
 }
 
 /// The ancestry, where a revision that is there is its newest.
-fn matched(ancestry: Ancestry, rev: Option<Rev>) -> Result<Option<Ancestry>, DocFault>
+pub(crate) fn matched(ancestry: Ancestry, rev: Option<Rev>) -> Result<Option<Ancestry>, DocFault>
     ensures ok { IfOk result (λ o. (o ≡ Some ancestry) × (matched rev ancestry ≡ Ok ancestry)) }
     ensures err { IfErr result (λ e. matched rev ancestry ≡ Err e) }
 {
@@ -226,7 +226,7 @@ fn first_sig(items: &Vec<Value>) -> Option<Sig>
 }
 
 /// Whether a revision is that of a generation and a signature.
-fn is_revision(rev: Rev, generation: u64, sig: Sig) -> bool
+pub(crate) fn is_revision(rev: Rev, generation: u64, sig: Sig) -> bool
     ensures { result ≡ eq_by_cmp rev_cmp rev (record { generation = generation; sig = sig }) }
 {
     let same_sig = rev.sig() == sig;

@@ -3,3 +3,7 @@ pub mod Conversions
 pub mod FirstTokens
 pub mod ValueReads
 pub mod WholeReads
+pub mod LineMembers
+pub mod LineReads
+pub mod PutEntries
+pub mod OrderedReads

@@ -6,8 +6,6 @@ use Rattle.json.specs.Json.{Parse, parse_map, after_end_array, read_key, items_s
 use Rattle.json.proofs.Grammar.{items_end, items_more, members_end, members_no_key, members_more}
 use Rattle.serde_json.specs.Data.{Data, Items, no_items, item, Members, put}
 use Rattle.serde_json.specs.Read.{of_json, of_items, of_members, converted}
-use Rattle.serde_json.specs.View.{view, items_view}
-use Rattle.serde_json.specs.declared.value.Value.{Value}
 use Rattle.json_values.proofs.Conversions.{converted-parse_map, converted-option_map, converted-same, converted-none, behind, refused_value}
 
 -- ---- a value that was refused
@@ -39,23 +37,6 @@ module _ (p : Parse json.Json) where
 
   pub items-none : (turns : ℕ) (ts rest : List Token) → length ts ≤ turns → after_end_array ts ≡ Some rest → converted of_items (items p turns ts) ≡ Some (no_items, rest)
   items-none turns ts rest enough e = ap (converted of_items) (items_end p turns ts rest enough e)
-
--- the data of values, and then more
-abbrev pub items_onto : List Value → Items → Items
-items_onto [] more = more
-items_onto (v ∷ vs) more = item (view v) (items_onto vs more)
-
-pub items_onto-no_items : (vs : List Value) → items_onto vs no_items ≡ items_view vs
-items_onto-no_items [] = refl
-items_onto-no_items (v ∷ vs) = ap (item (view v)) (items_onto-no_items vs)
-
-items_onto-item : (vs : List Value) (v : Value) (more : Items) → items_onto vs (item (view v) more) ≡ items_onto (vs ++ v ∷ []) more
-items_onto-item [] v more = refl
-items_onto-item (w ∷ vs) v more = ap (item (view w)) (items_onto-item vs v more)
-
-pub parse_map-items_onto : (vs : List Value) (v : Value) (o : Option (Items × List Token)) → parse_map (items_onto vs) (parse_map (item (view v)) o) ≡ parse_map (items_onto (vs ++ v ∷ [])) o
-parse_map-items_onto vs v None = refl
-parse_map-items_onto vs v (Some p) = ap (λ ds. Some (ds, p.1)) (items_onto-item vs v p.0)
 
 -- ---- objects
 

@@ -2,12 +2,13 @@
 ghost use Rattle.std.specs.Prelude.{◌≡◌, ◌≤◌, ◌<◌, length, Some, None, IfOk, IsUtf8};
 ghost use Rattle.serde_json.specs.Data.{depth};
 ghost use Rattle.serde_json.specs.Read.{max_depth, read as read_text};
-ghost use Rattle.serde_json.specs.View.{view};
+ghost use Rattle.json_values.specs.LineView.{line_view};
+ghost use Rattle.json_values.specs.LineOrder.{IsOrdered};
 
 use crate::fault::ReadFault;
+use crate::line::LineValue;
 use crate::values;
 use json::{Reader, Scratch};
-use serde_json::Value;
 use std::alloc::Global;
 
 /// The deepest nesting that is read.
@@ -28,13 +29,19 @@ impl ValueReader {
         }
     }
 
-    /// The JSON value that bytes are; of a key's members the last one stays.
+    /// The JSON value that bytes are; of a key's members the last one stays. Its texts stand in the bytes, or in the
+    /// reader where they were escaped.
     ///
     /// `NotJson` where they are no UTF-8, are not one JSON text, nest deeper than 127, or hold a number too large for
     /// a float. `Memory` may come in the place of any answer, but for no bytes.
-    pub fn read(&mut self, alloc: Global, bytes: &[u8]) -> Result<Value, ReadFault>
-        ensures ok { IfOk result (λ value. IsUtf8 bytes.now × (read_text bytes.now ≡ Some (view value))) }
-        ensures nests { IfOk result (λ value. depth (view value) ≤ max_depth) }
+    pub fn read_line<'a>(
+        &'a mut self,
+        alloc: Global,
+        bytes: &'a [u8],
+    ) -> Result<LineValue<'a>, ReadFault>
+        ensures ok { IfOk result (λ value. IsUtf8 bytes.now × (read_text bytes.now ≡ Some (line_view value))) }
+        ensures nests { IfOk result (λ value. depth (line_view value) ≤ max_depth) }
+        ensures ordered { IfOk result (λ value. IsOrdered (line_view value)) }
         ensures refused { result ≡ Err ReadFault.NotJson → IsUtf8 bytes.now → read_text bytes.now ≡ None }
         ensures memory { result ≡ Err ReadFault.Memory → 0 < length bytes.now }
     {
@@ -45,10 +52,15 @@ impl ValueReader {
     }
 }
 
-/// The value that a text is, with nothing behind it.
-fn read_whole(alloc: Global, text: &str, scratch: &mut Scratch) -> Result<Value, ReadFault>
-    ensures ok { IfOk result (λ value. read_text text.now ≡ Some (view value)) }
-    ensures nests { IfOk result (λ value. depth (view value) ≤ max_depth) }
+/// The value that a text is, with nothing behind it, whose texts stand in it or in the scratch.
+fn read_whole<'a>(
+    alloc: Global,
+    text: &'a str,
+    scratch: &'a mut Scratch,
+) -> Result<LineValue<'a>, ReadFault>
+    ensures ok { IfOk result (λ value. read_text text.now ≡ Some (line_view value)) }
+    ensures nests { IfOk result (λ value. depth (line_view value) ≤ max_depth) }
+    ensures ordered { IfOk result (λ value. IsOrdered (line_view value)) }
     ensures refused { result ≡ Err ReadFault.NotJson → read_text text.now ≡ None }
     ensures memory { result ≡ Err ReadFault.Memory → 0 < length text.now }
 {

@@ -76,11 +76,7 @@ impl PartialEq for Sig {
     ghost laws = { Cmp.partial_equiv_from_equiv nat_list_eq_equiv };
 
     fn eq(&self, other: &Sig) -> bool {
-        // Zeros stand behind each text, so whole arrays are compared, of known length.
-        if self.len != other.len {
-            return false;
-        }
-        self.bytes == other.bytes
+        self.bytes() == other.bytes()
     }
 }
 

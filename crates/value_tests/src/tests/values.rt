@@ -1,6 +1,7 @@
 //! Texts that one reader reads as JSON values, one after another, with what the values are written as.
 use crate::tests::texts::expect_answer;
-use json_values::ValueReader;
+use json_values::{LineValue, ValueReader};
+use serde_json::{Map, Value};
 use std::alloc::Global;
 use std::process::Abort;
 use test_texts::shown;
@@ -12,6 +13,8 @@ enum Call<'a> {
     Read(&'a [u8]),
     /// A list in a list, so many deep.
     Nested(usize),
+    /// An object of so many names in falling order, each twice, of which the second has its number.
+    Falling(usize),
 }
 
 /// What is read, each with the compact text of its value or the refusal.
@@ -37,15 +40,55 @@ fn answer(alloc: Global, reader: &mut ValueReader, call: &Call) -> Option<String
             }
             Some(answer)
         }
+        Call::Falling(count) => {
+            let answer = written(alloc, reader, falling(alloc, count)?.as_bytes())?;
+            if answer == rising(alloc, count)? {
+                return "each once, in rising order".to_string(alloc).ok();
+            }
+            Some(answer)
+        }
     }
 }
 
 /// The compact text of the value that bytes are, or why they are none.
 fn written(alloc: Global, reader: &mut ValueReader, bytes: &[u8]) -> Option<String> {
-    match reader.read(alloc, bytes) {
-        Ok(value) => value.to_string(alloc).ok(),
+    match reader.read_line(alloc, bytes) {
+        Ok(value) => owned(alloc, &value)?.to_string(alloc).ok(),
         Err(fault) => shown(alloc, &fault),
     }
+}
+
+/// The same value with texts of its own.
+#[cycle(owned)]
+fn owned(alloc: Global, value: &LineValue<'_>) -> Option<Value> {
+    match value {
+        LineValue::Null => Some(Value::Null),
+        LineValue::Bool(b) => Some(Value::Bool(*b)),
+        LineValue::Number(number) => Some(Value::Number(*number)),
+        LineValue::String(text) => Value::try_from_str(alloc, *text).ok(),
+        LineValue::Array(items) => owned_items(alloc, items),
+        LineValue::Object(members) => owned_members(alloc, members),
+    }
+}
+
+/// The list of the same items.
+#[cycle(owned)]
+fn owned_items(alloc: Global, items: &Vec<LineValue<'_>>) -> Option<Value> {
+    let mut list = Vec::new(alloc);
+    for item in items {
+        serde_json::push(&mut list, owned(alloc, item)?).ok()?;
+    }
+    Some(Value::Array(list))
+}
+
+/// The object of the same members.
+#[cycle(owned)]
+fn owned_members(alloc: Global, members: &Vec<(&str, LineValue<'_>)>) -> Option<Value> {
+    let mut object = Map::new(alloc);
+    for member in members {
+        serde_json::put(&mut object, alloc, member.0, owned(alloc, &member.1)?).ok()?;
+    }
+    Some(Value::Object(object))
 }
 
 /// Lists in one another, so many deep.
@@ -56,6 +99,35 @@ fn nested(alloc: Global, depth: usize) -> Option<String> {
     }
     for _ in 0..depth {
         text.push_str("]").ok()?;
+    }
+    Some(text)
+}
+
+/// An object of so many names in falling order, each twice.
+fn falling(alloc: Global, count: usize) -> Option<String> {
+    let mut text = "{".to_string(alloc).ok()?;
+    for i in 0..count {
+        let number = count - i;
+        text.push_str(&format!(in alloc; "\"{number:05}\":null,").ok()?)
+            .ok()?;
+    }
+    for i in 0..count {
+        let number = count - i;
+        let comma = if number == 1 { "}" } else { "," };
+        text.push_str(&format!(in alloc; "\"{number:05}\":{number}{comma}").ok()?)
+            .ok()?;
+    }
+    Some(text)
+}
+
+/// The same object with each name once, in rising order.
+fn rising(alloc: Global, count: usize) -> Option<String> {
+    let mut text = "{".to_string(alloc).ok()?;
+    for i in 0..count {
+        let number = i + 1;
+        let comma = if number == count { "}" } else { "," };
+        text.push_str(&format!(in alloc; "\"{number:05}\":{number}{comma}").ok()?)
+            .ok()?;
     }
     Some(text)
 }
@@ -80,6 +152,8 @@ static VALUES: Rows = &[
     (Call::Read(br#"{"\u0062":"\n"}"#), r#"{"b":"\n"}"#),
     (Call::Read(b"\"\xc3\xa9\""), "\"\u{e9}\""),
     (Call::Nested(127), "as it was given"),
+    (Call::Falling(64), "each once, in rising order"),
+    (Call::Falling(1000), "each once, in rising order"),
     (Call::Read(b"{}"), "{}"),
 ];
 

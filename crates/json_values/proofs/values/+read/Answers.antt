@@ -1,14 +1,18 @@
-use Rattle.std.proofs.Common.{◌≡◌, ◌-◌, ◌<◌, [], ◌∷◌, length, Some, None, sym, ap, ◌∙◌, arith, rules}
+use Rattle.std.proofs.Common.{List, ◌≡◌, ◌-◌, ◌<◌, [], ◌∷◌, length, Some, None, sym, ap, subst, ◌∙◌, arith, rules}
 use Rattle.json.specs.Token.{Token}
 use Rattle.json.specs.Json.{parse_map, after_end_array, read_key, items, members, value}
 use Rattle.json.specs.Reads.{token_of}
 use Rattle.json.proofs.Grammar.{value_is, read_key-shorter}
 use Rattle.serde_json.specs.Data.{null, boolean, number, string, array, object}
 use Rattle.serde_json.specs.Read.{of_json, of_items, of_members, converted, number_of}
-use Rattle.serde_json.specs.View.{view, number_view, members_view}
-use Rattle.serde_json.specs.declared.value.Value.{Number, Bool, Null, the_lemmas}
-use Rattle.serde_json.proofs.Views.{view-Array, view-Object}
-use Rattle.json_values.proofs.ValueReads.{items_onto, items_onto-no_items, items-one, items-refused, items-none, members-one, members-refused, members-no_key, members-none, parse_map-items_onto}
+use Rattle.serde_json.specs.View.{number_view}
+use Rattle.json_values.specs.LineView.{line_view, line_items, line_members}
+use Rattle.json_values.specs.declared.line.LineValue.{LineValue, String, Number, Bool, Null, the_lemmas}
+use Rattle.json_values.specs.Entries.{IsRising}
+use Rattle.json_values.specs.Members.{entries_of}
+use Rattle.json_values.proofs.PutEntries.{rising_none, rising_put}
+use Rattle.json_values.proofs.ValueReads.{items-one, items-refused, items-none, members-one, members-refused, members-no_key, members-none}
+use Rattle.json_values.proofs.LineReads.{Named, members-put, view-Array, view-Object, items_onto, items_onto-no_items, parse_map-items_onto}
 use Rattle.json_values.proofs.FirstTokens.{read-nothing, read-string, read-number, read-boolean, read-null, read-array, read-object, read-deep_array, read-deep_object}
 use Rattle.json_values.proofs.values.+read.Goals as goal
 
@@ -41,18 +45,18 @@ read_value-returns-in_err-read_members-in-BeginObject-clause-refused t c refused
     let is = first ∙ ap (λ k. token_of k ∷ c.next.new.self) c.in-BeginObject.is in
     ap (λ ts. converted of_json (value c.args.depth ts)) is ∙ read-object c.args.depth c.next.new.self (omega arith) ∙ ap (parse_map object) (c.read_members.ensures.refused (grind arith))
 
-pub read_value-returns-in-Ok-clause-ok : goal.read_value-returns-in-Ok-clause-ok
-read_value-returns-in-Ok-clause-ok t c =
+pub read_value-returns-in-String-clause-ok : goal.read_value-returns-in-String-clause-ok
+read_value-returns-in-String-clause-ok t c =
     let first : c.args.reader.now ≡ token_of c.in-Some.token ∷ c.next.new.self = grind arith in
     let is : c.args.reader.now ≡ Token.string c.in-String.text.now ∷ c.next.new.self = grind (arith, first) in
-    let seen : view c.in-Ok.value ≡ string c.in-String.text.now = search rules in
+    let seen : line_view (String c.in-String.text) ≡ string c.in-String.text.now = search (rules, the_lemmas) in
     ap (λ ts. converted of_json (value c.args.depth ts)) is ∙ read-string c.args.depth c.next.new.self c.in-String.text.now ∙ ap (λ d. Some (d, c.next.new.self)) (sym seen)
 
 pub read_value-returns-in-Some-read_number-clause-ok : goal.read_value-returns-in-Some-read_number-clause-ok
 read_value-returns-in-Some-read_number-clause-ok t c =
     let first : c.args.reader.now ≡ token_of c.in-Some.token ∷ c.next.new.self = grind arith in
     let is : c.args.reader.now ≡ Token.number c.in-Number.text.now ∷ c.next.new.self = grind (arith, first) in
-    let seen : view (Number c.in-Some-read_number.number) ≡ number (number_view c.in-Some-read_number.number) = search (rules, the_lemmas) in
+    let seen : line_view (Number c.in-Some-read_number.number) ≡ number (number_view c.in-Some-read_number.number) = search (rules, the_lemmas) in
     let counted : number_of c.in-Number.text.now ≡ Some (number_view c.in-Some-read_number.number) = sym c.in-Some-read_number.ensures in
     ap (λ ts. converted of_json (value c.args.depth ts)) is ∙ read-number c.args.depth c.next.new.self c.in-Number.text.now ∙ rw (counted, seen)
 
@@ -67,14 +71,14 @@ pub read_value-returns-in-Bool-clause-ok : goal.read_value-returns-in-Bool-claus
 read_value-returns-in-Bool-clause-ok t c =
     let first : c.args.reader.now ≡ token_of c.in-Some.token ∷ c.next.new.self = grind arith in
     let is : c.args.reader.now ≡ Token.boolean c.in-Bool.b ∷ c.next.new.self = grind (arith, first) in
-    let seen : view (Bool c.in-Bool.b) ≡ boolean c.in-Bool.b = search (rules, the_lemmas) in
+    let seen : line_view (Bool c.in-Bool.b) ≡ boolean c.in-Bool.b = search (rules, the_lemmas) in
     ap (λ ts. converted of_json (value c.args.depth ts)) is ∙ read-boolean c.args.depth c.next.new.self c.in-Bool.b ∙ ap (λ d. Some (d, c.next.new.self)) (sym seen)
 
 pub read_value-returns-in-Null-clause-ok : goal.read_value-returns-in-Null-clause-ok
 read_value-returns-in-Null-clause-ok t c =
     let first : c.args.reader.now ≡ token_of c.in-Some.token ∷ c.next.new.self = grind arith in
     let is : c.args.reader.now ≡ Token.null ∷ c.next.new.self = grind (arith, first) in
-    let seen : view Null ≡ null = search (rules, the_lemmas) in
+    let seen : line_view Null ≡ null = search (rules, the_lemmas) in
     ap (λ ts. converted of_json (value c.args.depth ts)) is ∙ read-null c.args.depth c.next.new.self ∙ ap (λ d. Some (d, c.next.new.self)) (sym seen)
 
 pub read_value-returns-in-EndObject-clause-refused : goal.read_value-returns-in-EndObject-clause-refused
@@ -114,12 +118,12 @@ read_items-items-preserved t c =
     let v = c.in_ok-item.item in
     let left = c.read_value.new.reader in
     let less : length left < length l.reader = rw (← going.1) c.in_ok-item.ensures.shorter in
-    let one = items-one (value c.args.depth) turns l.reader left (view v) (omega (arith, l.invariant.1)) going.0 (rw (← going.1) c.in_ok-item.ensures.ok) in (
+    let one = items-one (value c.args.depth) turns l.reader left (line_view v) (omega (arith, l.invariant.1)) going.0 (rw (← going.1) c.in_ok-item.ensures.ok) in (
       turns - 1,
       omega (arith, l.invariant.1),
       omega (arith, l.invariant.2),
       l.invariant.3 ∙ ap (parse_map (items_onto l.found.items)) one ∙ parse_map-items_onto l.found.items v _
-          ∙ ap (λ vs. parse_map (items_onto vs) (converted of_items (items (value c.args.depth) (turns - 1) left))) (sym c.in-Ok.ensures.ok),
+          ∙ ap (λ vs. parse_map (items_onto vs) (converted of_items (items (value c.args.depth) (turns - 1) left))) (sym c.in-Ok.ensures.items),
     )
 
 pub read_items-returns-clause-ok : goal.read_items-returns-clause-ok
@@ -129,23 +133,35 @@ read_items-returns-clause-ok t c =
     l.invariant.3 ∙ ap (parse_map (items_onto l.found.items)) (items-none (value c.args.depth) l.invariant.0 l.reader left l.invariant.1 (grind arith))
     ∙ ap (λ ds. Some (ds, left)) (items_onto-no_items l.found.items)
 
+pub read_members-members-init : goal.read_members-members-init
+read_members-members-init t c =
+    let none = sym c.new-found.ensures in (
+      length c.args.reader.now,
+      omega arith,
+      omega arith,
+      ap (λ (es : List Named). converted (λ ms. of_members ms (line_members es)) (members (value c.args.depth) (length c.args.reader.now) c.args.reader.now)) none,
+      subst (λ (es : List Named). IsRising es) none (rising_none LineValue),
+    )
+
 pub read_members-returns-in_default-clause-refused : goal.read_members-returns-in_default-clause-refused
 read_members-returns-in_default-clause-refused t c refused =
     let l = c.members in
     let none : read_key l.reader ≡ None = grind arith in
-    l.invariant.3 ∙ members-no_key (value c.args.depth) (members_view l.found.entries) l.invariant.0 l.reader none
+    l.invariant.3 ∙ members-no_key (value c.args.depth) (line_members (entries_of l.found)) l.invariant.0 l.reader none
 
-pub read_members-returns-in_default-next-clause-ok : goal.read_members-returns-in_default-next-clause-ok
-read_members-returns-in_default-next-clause-ok t c =
+pub read_members-returns-in-Ok-into_vec-clause-ok : goal.read_members-returns-in-Ok-into_vec-clause-ok
+read_members-returns-in-Ok-into_vec-clause-ok t c =
     let l = c.members in
-    l.invariant.3 ∙ members-none (value c.args.depth) (members_view l.found.entries) l.invariant.0 l.reader c.next_key.new.self l.invariant.1 (grind arith)
+    let left = c.next_key.new.self in
+    l.invariant.3 ∙ members-none (value c.args.depth) (line_members (entries_of l.found)) l.invariant.0 l.reader left l.invariant.1 (grind arith)
+    ∙ ap (λ (es : List Named). Some (line_members es, left)) (sym c.in-Ok-into_vec.ensures)
 
 pub read_members-returns-in_err-member-clause-refused : goal.read_members-returns-in_err-member-clause-refused
 read_members-returns-in_err-member-clause-refused t c refused =
     let l = c.members in
     let k = c.in-Some.name.now in
     let named : read_key l.reader ≡ Some (Some k, c.next_key.new.self) = grind arith in
-    l.invariant.3 ∙ members-refused (value c.args.depth) (members_view l.found.entries) l.invariant.0 k l.reader c.next_key.new.self named (c.read_value.ensures.refused (grind arith))
+    l.invariant.3 ∙ members-refused (value c.args.depth) (line_members (entries_of l.found)) l.invariant.0 k l.reader c.next_key.new.self named (c.read_value.ensures.refused (grind arith))
 
 pub read_members-members-preserved : goal.read_members-members-preserved
 read_members-members-preserved t c =
@@ -158,9 +174,10 @@ read_members-members-preserved t c =
     let left = c.read_value.new.reader in
     let less = read_key-shorter l.reader (Some k) after named in
     let lesser = c.in_ok-member.ensures.shorter in
-    let one = members-one (value c.args.depth) (members_view l.found.entries) turns k l.reader after left (view v) (omega (arith, l.invariant.1)) named c.in_ok-member.ensures.ok in (
+    let one = members-one (value c.args.depth) (line_members (entries_of l.found)) turns k l.reader after left (line_view v) (omega (arith, l.invariant.1)) named c.in_ok-member.ensures.ok in (
       turns - 1,
       omega (arith, l.invariant.1),
       omega (arith, l.invariant.2),
-      l.invariant.3 ∙ one ∙ ap (λ found. converted (λ ms. of_members ms found) (members (value c.args.depth) (turns - 1) left)) (sym c.in-Ok-put.ensures.ok),
+      l.invariant.3 ∙ one ∙ ap (λ found. converted (λ ms. of_members ms found) (members (value c.args.depth) (turns - 1) left)) (sym (ap (λ (es : List Named). line_members es) c.in-Ok-put.ensures ∙ members-put c.in-Some.name v (entries_of l.found))),
+      subst (λ (es : List Named). IsRising es) (sym c.in-Ok-put.ensures) (rising_put c.in-Some.name v (entries_of l.found) l.invariant.4),
     )

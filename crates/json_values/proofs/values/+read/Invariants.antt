@@ -2,8 +2,10 @@ use Rattle.std.proofs.Common.{◌≡◌, ℕ, ◌+◌, ◌*◌, ◌≤◌, lengt
 use Rattle.json.specs.Json.{items, members, value, parse_map}
 use Rattle.serde_json.specs.Data.{no_members}
 use Rattle.serde_json.specs.Read.{converted, of_items, of_members}
-use Rattle.serde_json.specs.View.{members_view}
-use Rattle.json_values.proofs.ValueReads.{items_onto}
+use Rattle.json_values.specs.LineView.{line_members}
+use Rattle.json_values.specs.Entries.{IsRising}
+use Rattle.json_values.specs.Members.{entries_of}
+use Rattle.json_values.proofs.LineReads.{items_onto}
 use Rattle.json_values.proofs.values.+read.Given as goal
 
 abbrev pub decreases-read_value : goal.decreases-read_value
@@ -30,7 +32,7 @@ abbrev pub invariant-read_members-members : goal.invariant-read_members-members
 invariant-read_members-members l =
     (turns : ℕ) × (length l.reader ≤ turns) × (length l.reader ≤ length l.initial.reader)
     × (converted (λ ms. of_members ms no_members) (members (value l.depth) (length l.initial.reader) l.initial.reader)
-    ≡ converted (λ ms. of_members ms (members_view l.found.entries)) (members (value l.depth) turns l.reader))
+    ≡ converted (λ ms. of_members ms (line_members (entries_of l.found))) (members (value l.depth) turns l.reader)) × IsRising (entries_of l.found)
 
 abbrev pub decreases-read_members-members : goal.decreases-read_members-members
 decreases-read_members-members l = length l.reader

@@ -1,0 +1,48 @@
+use Rattle.std.proofs.Common.{◌≡◌, ◌+◌, ◌||◌, ◌∷◌, ℕ, List, Bor, Bool, true, false, if◌then◌else◌, codes, drop, refl, sym, ap, ◌∙◌, arith}
+use Rattle.std.proofs.lemmas.List.{drop_more}
+use Rattle.serde_json.specs.Data.{Data, Members, no_members, member}
+use Rattle.serde_json.specs.Written.{has_float, members_have_float}
+use Rattle.json_values.specs.LineView.{line_view, line_members}
+use Rattle.json_values.specs.declared.line.LineValue.{LineValue}
+use Rattle.doc_json.specs.DocId.{is_special}
+use Rattle.doc_json.specs.Members.{has_unknown, is_unknown, plain_members}
+use Rattle.doc_json.proofs.Kept.{more}
+use Rattle.doc_json.proofs.line_members.find_members.Goals as goal
+
+or_assoc : (a b c : Bool) → ((a || b) || c) ≡ (a || (b || c))
+or_assoc true b c = refl
+or_assoc false b c = refl
+
+or_false : (a : Bool) → (a || false) ≡ a
+or_false true = refl
+or_false false = refl
+
+-- a float is among the plain members of one and more where it is in the first or in the others
+parted : (k : List ℕ) (d : Data) (ms : Members) → members_have_float (plain_members (member k d ms)) ≡ (members_have_float (plain_members (member k d no_members)) || members_have_float (plain_members ms))
+parted k d ms = by (is_special k)
+  where
+    by : (b : Bool) → members_have_float (if b then plain_members ms else member k d (plain_members ms)) ≡ (members_have_float (if b then no_members else member k d no_members) || members_have_float (plain_members ms))
+    by true = refl
+    by false = ap (λ x. x || members_have_float (plain_members ms)) (sym (or_false (has_float d)))
+
+pub loop-entry-preserved : goal.loop-entry-preserved
+loop-entry-preserved c =
+    let l = c.loop-entry in
+    let e = c.looked-found.ensures in
+    let xs = c.deref-entry-items.result.now in
+    let x = c.entry-item.result in
+    let left = drop (l.entry-index + 1) xs in
+    let rest = line_members left in
+    let here : drop l.entry-index xs ≡ x ∷ left = drop_more xs l.entry-index x (omega arith) ∙ ap (λ y. y ∷ drop (l.entry-index + 1) xs) (sym c.entry-item.is) in
+    let s : line_members (drop l.entry-index xs) ≡ member x.0.now (line_view x.1) rest = ap (λ (ys : List (Bor (List ℕ) × LineValue)). line_members ys) here in
+    let one = members_have_float (plain_members (member x.0.now (line_view x.1) no_members)) in
+    record {
+      id = more (codes "_id") _ _ _ _ _ _ _ s e.id l.invariant.id;
+      attachments = more (codes "_attachments") _ _ _ _ _ _ _ s e.attachments l.invariant.attachments;
+      deleted = more (codes "_deleted") _ _ _ _ _ _ _ s e.deleted l.invariant.deleted;
+      rev = more (codes "_rev") _ _ _ _ _ _ _ s e.rev l.invariant.rev;
+      revisions = more (codes "_revisions") _ _ _ _ _ _ _ s e.revisions l.invariant.revisions;
+      unknown = ap (λ b. b || has_unknown rest) e.unknown ∙ or_assoc l.found.has_unknown _ (has_unknown rest) ∙ ap (λ ms. l.found.has_unknown || has_unknown ms) (sym s) ∙ l.invariant.unknown;
+      fraction = ap (λ b. b || members_have_float (plain_members rest)) e.fraction ∙ or_assoc l.found.has_fraction one _
+          ∙ ap (λ b. l.found.has_fraction || b) (sym (ap (λ ms. members_have_float (plain_members ms)) s ∙ parted x.0.now (line_view x.1) rest)) ∙ l.invariant.fraction;
+    }

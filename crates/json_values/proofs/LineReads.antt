@@ -1,0 +1,50 @@
+-- Values of a line: level by level, lists that grow at their end, and members that are put in.
+use Rattle.std.proofs.Common.{◌≡◌, ℕ, zero, suc, ◌+◌, ◌<◌, ◌≤◌, List, [], ◌∷◌, ◌++◌, length, take, drop, get_or, set, Bool, true, false, Option, Some, None, Ordering, Less, Equal, Greater, nat_cmp, Vec, Bor, Global, refl, sym, ap, ◌∙◌, arith, rules}
+use Rattle.std.specs.Ordering.{match_ordering}
+use Rattle.std.specs.Cmp.Lexicographic.{slice_cmp}
+use Rattle.json.specs.Token.{Token}
+use Rattle.json.specs.Json.{parse_map}
+use Rattle.serde_json.specs.Data.{Data, array, object, Items, no_items, item, Members, no_members, member, put}
+use Rattle.json_values.specs.LineView.{line_view, line_items, line_members}
+use Rattle.json_values.specs.Entries.{Entry, put_entry}
+use Rattle.json_values.specs.declared.line.LineValue.{LineValue, Array, Object, the_lemmas}
+
+abbrev pub Named : Type 0
+Named = Entry LineValue
+
+pub view-Array : (v : Vec LineValue Global) → line_view (Array v) ≡ array (line_items v.items)
+view-Array v = search (rules, the_lemmas)
+
+pub view-Object : (v : Vec Named Global) → line_view (Object v) ≡ object (line_members v.items)
+view-Object v = search (rules, the_lemmas)
+
+-- the data of values, and then more
+abbrev pub items_onto : List LineValue → Items → Items
+items_onto [] more = more
+items_onto (v ∷ vs) more = item (line_view v) (items_onto vs more)
+
+pub items_onto-no_items : (vs : List LineValue) → items_onto vs no_items ≡ line_items vs
+items_onto-no_items [] = refl
+items_onto-no_items (v ∷ vs) = ap (item (line_view v)) (items_onto-no_items vs)
+
+items_onto-item : (vs : List LineValue) (v : LineValue) (more : Items) → items_onto vs (item (line_view v) more) ≡ items_onto (vs ++ v ∷ []) more
+items_onto-item [] v more = refl
+items_onto-item (w ∷ vs) v more = ap (item (line_view w)) (items_onto-item vs v more)
+
+pub parse_map-items_onto : (vs : List LineValue) (v : LineValue) (o : Option (Items × List Token)) → parse_map (items_onto vs) (parse_map (item (line_view v)) o) ≡ parse_map (items_onto (vs ++ v ∷ [])) o
+parse_map-items_onto vs v None = refl
+parse_map-items_onto vs v (Some p) = ap (λ ds. Some (ds, p.1)) (items_onto-item vs v p.0)
+
+-- ---- members
+
+-- a member that is put in, and its data
+pub members-put : (name : Bor (List ℕ)) (v : LineValue) (es : List Named) → line_members (put_entry name v es) ≡ put name.now (line_view v) (line_members es)
+members-put name v [] = refl
+members-put name v (e ∷ es) = by (slice_cmp nat_cmp name.now e.0.now) (members-put name v es)
+  where
+    by : (o : Ordering) → line_members (put_entry name v es) ≡ put name.now (line_view v) (line_members es)
+        → line_members (match_ordering o ((name, v) ∷ e ∷ es) ((e.0, v) ∷ es) (e ∷ put_entry name v es))
+        ≡ match_ordering o (member name.now (line_view v) (member e.0.now (line_view e.1) (line_members es))) (member e.0.now (line_view v) (line_members es)) (member e.0.now (line_view e.1) (put name.now (line_view v) (line_members es)))
+    by Less more = refl
+    by Equal more = refl
+    by Greater more = ap (member e.0.now (line_view e.1)) more

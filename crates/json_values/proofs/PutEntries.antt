@@ -1,0 +1,81 @@
+-- A member that is put among others.
+use Rattle.std.proofs.Common.{◌≡◌, ℕ, ◌+◌, ◌<◌, length, take, drop, List, [], ◌∷◌, ◌++◌, Ordering, Less, Equal, Greater, nat_cmp, Bor, refl, sym, ap, subst, ◌∙◌, append_assoc}
+use Rattle.std.specs.Ordering.{match_ordering, ordering_reverse}
+use Rattle.std.specs.Cmp.Lexicographic.{slice_cmp}
+use Rattle.std.specs.List.{AllByRecursion, slice_set}
+use Rattle.std.specs.List.Sorted.{IsStrictlySortedBy}
+use Rattle.std.proofs.lemmas.Cmp.{nat_list_cmp_total}
+use Rattle.std.proofs.lemmas.List.{take-set, drop-set, take-append-drop}
+use Rattle.json_values.specs.Entries.{Entry, names_of, IsRising, put_entry}
+
+abbrev Behind : List ℕ → List (List ℕ) → Type 0
+Behind k ks = AllByRecursion (λ y. slice_cmp nat_cmp k y ≡ Less) ks
+
+further : (k l : List ℕ) (ks : List (List ℕ)) → slice_cmp nat_cmp k l ≡ Less → Behind l ks → Behind k ks
+further k l [] less all = tt
+further k l (y ∷ ks) less all = (nat_list_cmp_total.trans k l y less all.0, further k l ks less all.1)
+
+turned : (k l : List ℕ) → slice_cmp nat_cmp k l ≡ Less → slice_cmp nat_cmp l k ≡ Greater
+turned k l less = nat_list_cmp_total.antisymm l k ∙ ap ordering_reverse less
+
+-- a list with another element at a place
+pub set_between : {X : Type 0} (xs : List X) (i : ℕ) (y : X) → i < length xs → take i xs ++ y ∷ drop (i + 1) xs ≡ slice_set xs i y
+set_between xs i y within =
+    ap (λ ys. ys ++ y ∷ drop (i + 1) xs) (sym (take-set xs i y)) ∙ ap (λ ys. take i (slice_set xs i y) ++ ys) (sym (drop-set xs i y within)) ∙ take-append-drop i (slice_set xs i y)
+
+pub rising_none : (T : Type 0) → IsRising {T = T} []
+unfolding IsStrictlySortedBy
+rising_none T = tt
+
+module _ {T : Type 0} (name : Bor (List ℕ)) (v : T) where
+  behind_put : (l : List ℕ) (es : List (Entry T)) → slice_cmp nat_cmp l name.now ≡ Less → Behind l (names_of es) → Behind l (names_of (put_entry name v es))
+  behind_put l [] less all = (less, tt)
+  behind_put l (e ∷ es) less all = by (slice_cmp nat_cmp name.now e.0.now) (behind_put l es less all.1)
+    where
+      by : (o : Ordering) → Behind l (names_of (put_entry name v es)) → Behind l (names_of (match_ordering o ((name, v) ∷ e ∷ es) ((e.0, v) ∷ es) (e ∷ put_entry name v es)))
+      by Less more = (less, all)
+      by Equal more = all
+      by Greater more = (all.0, more)
+
+  pub rising_put : (es : List (Entry T)) → IsRising es → IsRising (put_entry name v es)
+  unfolding IsStrictlySortedBy
+  rising_put [] r = (tt, tt)
+  rising_put (e ∷ es) r = by (slice_cmp nat_cmp name.now e.0.now) refl (rising_put es r.1)
+    where
+      by : (o : Ordering) → slice_cmp nat_cmp name.now e.0.now ≡ o → IsRising (put_entry name v es) → IsRising (match_ordering o ((name, v) ∷ e ∷ es) ((e.0, v) ∷ es) (e ∷ put_entry name v es))
+      by Less is more = ((is, further name.now e.0.now (names_of es) is r.0), r)
+      by Equal is more = r
+      by Greater is more = (behind_put e.0.now es (nat_list_cmp_total.antisymm e.0.now name.now ∙ ap ordering_reverse is) r.0, more)
+
+  pub put_before : (e : Entry T) (es : List (Entry T)) → slice_cmp nat_cmp name.now e.0.now ≡ Less → put_entry name v (e ∷ es) ≡ (name, v) ∷ e ∷ es
+  put_before e es is = ap (λ o. match_ordering o ((name, v) ∷ e ∷ es) ((e.0, v) ∷ es) (e ∷ put_entry name v es)) is
+
+  pub put_over : (e : Entry T) (es : List (Entry T)) → slice_cmp nat_cmp name.now e.0.now ≡ Equal → put_entry name v (e ∷ es) ≡ (e.0, v) ∷ es
+  put_over e es is = ap (λ o. match_ordering o ((name, v) ∷ e ∷ es) ((e.0, v) ∷ es) (e ∷ put_entry name v es)) is
+
+  pub put_after : (e : Entry T) (es : List (Entry T)) → slice_cmp nat_cmp name.now e.0.now ≡ Greater → put_entry name v (e ∷ es) ≡ e ∷ put_entry name v es
+  put_after e es is = ap (λ o. match_ordering o ((name, v) ∷ e ∷ es) ((e.0, v) ∷ es) (e ∷ put_entry name v es)) is
+
+  -- a member that comes behind those before it goes to the end
+  pub put_behind : (es more : List (Entry T)) → IsRising (es ++ (name, v) ∷ more) → put_entry name v es ≡ es ++ (name, v) ∷ []
+  unfolding IsStrictlySortedBy
+  put_behind [] more r = refl
+  put_behind (e ∷ es) more r = put_after e es (turned e.0.now name.now (before e.0.now es r.0)) ∙ ap (λ xs. e ∷ xs) (put_behind es more r.1)
+    where
+      before : (k : List ℕ) (xs : List (Entry T)) → Behind k (names_of (xs ++ (name, v) ∷ more)) → slice_cmp nat_cmp k name.now ≡ Less
+      before k [] all = all.0
+      before k (x ∷ xs) all = before k xs all.1
+
+  -- so does one that comes behind the last
+  pub put_last : (es : List (Entry T)) (last : Entry T) → IsRising (es ++ last ∷ []) → slice_cmp nat_cmp name.now last.0.now ≡ Greater → put_entry name v (es ++ last ∷ []) ≡ (es ++ last ∷ []) ++ (name, v) ∷ []
+  unfolding IsStrictlySortedBy
+  put_last [] last r is = put_after last [] is
+  put_last (e ∷ es) last r is =
+      let below : slice_cmp nat_cmp e.0.now last.0.now ≡ Less = at_end e.0.now es r.0 in
+      let under : slice_cmp nat_cmp last.0.now name.now ≡ Less = nat_list_cmp_total.antisymm last.0.now name.now ∙ ap ordering_reverse is in
+      let less = nat_list_cmp_total.trans e.0.now last.0.now name.now below under in
+      put_after e (es ++ last ∷ []) (turned e.0.now name.now less) ∙ ap (λ xs. e ∷ xs) (put_last es last r.1 is)
+    where
+      at_end : (k : List ℕ) (xs : List (Entry T)) → Behind k (names_of (xs ++ last ∷ [])) → slice_cmp nat_cmp k last.0.now ≡ Less
+      at_end k [] all = all.0
+      at_end k (x ∷ xs) all = at_end k xs all.1

@@ -1,0 +1,15 @@
+use Rattle.std.proofs.Common.{◌≡◌, ◌∷◌, ◌++◌, [], List, refl, sym, ap, subst, ◌∙◌, append_assoc}
+use Rattle.std.specs.Vec.Iter.{into_iter_items}
+use Rattle.json_values.specs.Entries.{Entry, IsRising}
+use Rattle.json_values.proofs.PutEntries.{put_behind}
+use Rattle.json_values.proofs.members.map_of.Goals as goal
+
+pub loop-name-preserved : goal.loop-name-preserved
+loop-name-preserved g c =
+    let es = c.loop-name.map.entries in
+    let more = into_iter_items c.next.new.self in
+    let name = c.in-Some.name in
+    let value = c.in-Some.value in
+    let all : es ++ (name, value) ∷ more ≡ c.args.entries.items = ap (λ (ys : List (Entry g.row.T.Denot)). es ++ ys) (sym c.in-Some.ensures.steps.0) ∙ c.loop-name.invariant in
+    let rising = subst (λ (ys : List (Entry g.row.T.Denot)). IsRising ys) (sym all) c.requires in
+    ap (λ (ys : List (Entry g.row.T.Denot)). ys ++ more) (c.in-Ok.ensures ∙ put_behind name value es more rising) ∙ append_assoc es ((name, value) ∷ []) more ∙ all

@@ -1,0 +1,7 @@
+use Rattle.std.proofs.Common.{◌≡◌, ◌++◌}
+use Rattle.std.specs.Vec.Iter.{into_iter_items}
+use Rattle.json_values.proofs.members.map_of.Given as goal
+
+-- the members so far, and those that are left, are all in their order
+abbrev pub invariant-loop-name : goal.invariant-loop-name
+invariant-loop-name g l = l.map.entries ++ into_iter_items l.name-iterator ≡ l.fn.entries.items

@@ -1,0 +1,33 @@
+-- Members as they are read, each a name and a value, in the order of their names.
+use Rattle.std.specs.Prelude.{◌≡◌, ℕ, List, [], ◌∷◌, ◌++◌, map, take, drop, Some, slice_get, slice_set}
+use Rattle.std.specs.Borrow.{Bor}
+use Rattle.std.specs.BTreeMap.{insert_entry}
+use Rattle.std.specs.Ordering.{nat_cmp}
+use Rattle.std.specs.Cmp.Lexicographic.{slice_cmp}
+use Rattle.std.specs.List.Sorted.{IsStrictlySortedBy}
+
+abbrev pub Entry : Type 0 → Type 0
+Entry T = Bor (List ℕ) × T
+
+abbrev pub names_of : {T : Type 0} → List (Entry T) → List (List ℕ)
+names_of es = map (λ e. e.0.now) es
+
+-- each name comes before those behind it
+abbrev pub IsRising : {T : Type 0} → List (Entry T) → Type 0
+IsRising es = IsStrictlySortedBy (slice_cmp nat_cmp) (names_of es)
+
+-- the members with one more: one of its name keeps its place and takes the value
+abbrev pub put_entry : {T : Type 0} → Bor (List ℕ) → T → List (Entry T) → List (Entry T)
+put_entry k v es = insert_entry (λ a b. slice_cmp nat_cmp a.now b.now) es k v
+
+-- a member of that name stands at that place
+abbrev pub IsPlaceOf : {T : Type 0} → List ℕ → List (Entry T) → ℕ → Type 0
+IsPlaceOf {T} k es i = (name : Bor (List ℕ)) → name.now ≡ k → (v : T) → (e : Entry T) → slice_get es i ≡ Some e → put_entry name v es ≡ slice_set es i (e.0, v)
+
+-- a member of that name is to be put in at that place
+abbrev pub IsGapFor : {T : Type 0} → List ℕ → List (Entry T) → ℕ → Type 0
+IsGapFor {T} k es i = (name : Bor (List ℕ)) → name.now ≡ k → (v : T) → put_entry name v es ≡ take i es ++ (name, v) ∷ drop i es
+
+-- a member of that name is to be put in behind all others
+abbrev pub ComesLast : {T : Type 0} → List ℕ → List (Entry T) → Type 0
+ComesLast {T} k es = (name : Bor (List ℕ)) → name.now ≡ k → (v : T) → put_entry name v es ≡ es ++ (name, v) ∷ []

@@ -1,0 +1,4 @@
+pub mod LineView
+pub mod Entries
+pub mod LineOrder
+pub mod Members

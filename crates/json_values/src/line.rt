@@ -1,0 +1,103 @@
+//! JSON values whose texts stand where they were read.
+ghost use Rattle.std.specs.Prelude.{◌≡◌, option_map, is_some, option_and_then};
+ghost use Rattle.serde_json.specs.Find.{get, get_member, as_object, as_array, as_str, as_bool, as_number, as_u64};
+ghost use Rattle.json_values.specs.LineView.{line_view, line_items, line_members};
+
+use serde_json::Number;
+
+/// A JSON value whose texts stand in the line that it was read from, or beside it where they were escaped. Members
+/// stand in byte order of their names, each name once.
+#[derive(Drop)]
+pub enum LineValue<'a> {
+    Null,
+    Bool(bool),
+    Number(Number),
+    String(&'a str),
+    Array(Vec<LineValue<'a>>),
+    Object(Vec<(&'a str, LineValue<'a>)>),
+}
+
+impl<'a> LineValue<'a> {
+    /// The member of a name, where this is an object.
+    pub fn get(&self, name: &str) -> Option<&LineValue<'a>>
+        ensures { option_map (λ v. line_view v.now) result ≡ get name.now (line_view self.now) }
+    {
+        match self {
+            LineValue::Object(members) => find(members, name),
+            _ => None,
+        }
+    }
+
+    /// The members, where this is an object.
+    pub fn as_object(&self) -> Option<&Vec<(&'a str, LineValue<'a>)>>
+        ensures { option_map (λ m. line_members m.now.items) result ≡ as_object (line_view self.now) }
+    {
+        if let LineValue::Object(members) = self {
+            Some(members)
+        } else {
+            None
+        }
+    }
+
+    /// Whether this is an object.
+    pub fn is_object(&self) -> bool
+        ensures { result ≡ is_some (as_object (line_view self.now)) }
+    {
+        self.as_object().is_some()
+    }
+
+    /// The items, where this is a list.
+    pub fn as_array(&self) -> Option<&Vec<LineValue<'a>>>
+        ensures { option_map (λ v. line_items v.now.items) result ≡ as_array (line_view self.now) }
+    {
+        if let LineValue::Array(items) = self {
+            Some(items)
+        } else {
+            None
+        }
+    }
+
+    /// The text, where this is one.
+    pub fn as_str(&self) -> Option<&'a str>
+        ensures { option_map (λ s. s.now) result ≡ as_str (line_view self.now) }
+    {
+        if let LineValue::String(text) = self {
+            Some(*text)
+        } else {
+            None
+        }
+    }
+
+    /// The truth value, where this is one.
+    pub fn as_bool(&self) -> Option<bool>
+        ensures { result ≡ as_bool (line_view self.now) }
+    {
+        if let LineValue::Bool(b) = self {
+            Some(*b)
+        } else {
+            None
+        }
+    }
+
+    /// The number, where this is one from 0 to 2^64 - 1.
+    pub fn as_u64(&self) -> Option<u64>
+        ensures { result ≡ option_and_then as_u64 (as_number (line_view self.now)) }
+    {
+        match self {
+            LineValue::Number(number) => number.as_u64(),
+            _ => None,
+        }
+    }
+}
+
+/// The member of a name.
+fn find<'v, 'a>(members: &'v Vec<(&'a str, LineValue<'a>)>, name: &str) -> Option<&'v LineValue<'a>>
+    ensures { option_map (λ v. line_view v.now) result ≡ get_member name.now (line_members members.now.items) }
+{
+    for member in members {
+        if name == member.0 {
+            return Some(&member.1);
+        }
+    }
+    None
+}
