@@ -1,4 +1,4 @@
--- Marks of ids, by which most ids that aren't chosen are told apart: docs/DECISIONS.md, "`doc_json`".
+-- Marks of ids, by which most ids that aren't chosen are told apart: crates/doc_json/README.md, "Why it is so".
 use Rattle.std.specs.Prelude.{◌≡◌, ℕ, ◌+◌, ◌-◌, ◌*◌, ◌%◌, Bool, true, false, List, [], ◌∷◌, length, drop, get_or}
 use Rattle.std.specs.List.{AllByRecursion}
 

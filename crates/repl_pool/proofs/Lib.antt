@@ -12,3 +12,4 @@ pub mod LowWater
 pub mod Showing
 pub mod NewSeats
 pub mod RunLaws
+pub mod Syncing

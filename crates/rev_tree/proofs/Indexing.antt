@@ -1,6 +1,6 @@
 -- The index of the nodes: walked while they are few, and noted by marks from there on.
 use Rattle.std.proofs.Common.{◌≡◌, ℕ, suc, ◌+◌, ◌<◌, ◌≤◌, ◌||◌, List, [], ◌∷◌, ◌++◌, length, take, drop, get_or, Option, Some, None, Bool, true, false, cond, is_some, inl, inr, sym, ap, ◌∙◌, subst, refl, arith, length-append, length-take}
-use Rattle.std.proofs.lemmas.Bool.{false≢true, lt-ltb, ltb-true, eq-eqb}
+use Rattle.std.proofs.lemmas.Bool.{false≢true, lt-ltb, eq-eqb}
 use Rattle.std.proofs.lemmas.List.{drop_more, drop_all}
 use Rattle.std.proofs.Math.Dec.{ltb}
 use Rattle.std.specs.Prelude.{nat_eq}
