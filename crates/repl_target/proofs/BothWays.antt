@@ -1,38 +1,34 @@
 -- Two replications, one each way: both databases end with the same documents.
-use Rattle.std.proofs.Common.{◌≡◌, ◌⊎◌, true, false, cond, ◌||◌, List, [], ◌∷◌, Option, Some, None, unwrap_or, Bool, Result, Ok, Err, OnOk, take, refl, sym, ap, ◌∙◌, subst, inl, inr}
-use Rattle.std.specs.List.{list_any}
+use Rattle.std.proofs.Common.{◌≡◌, true, List, [], ◌∷◌, Option, Some, None, unwrap_or, Bool, Result, Ok, Err, refl, sym, ap, ◌∙◌, subst, inl, inr}
 use Rattle.std.specs.Str.{bytes_eq}
 use Rattle.std.proofs.lemmas.Bool.{cond_both, false≢true, or_cases}
 use Rattle.std.proofs.lemmas.Slice.Eq.{bytes_eq-Decides}
 use Rattle.rev_core.specs.Rev.{RevId}
-use Rattle.rev_tree.specs.Tree.{TreeValue, IsTree, has, is_leaf, ancestors, merged, no_revisions}
-use Rattle.rev_tree.specs.Agreement.{Agree, IsWhole, IsGrownBy}
+use Rattle.rev_tree.specs.Tree.{TreeValue, has, is_leaf, ancestors, merged, no_revisions}
+use Rattle.rev_tree.specs.Agreement.{IsGrownBy}
 use Rattle.rev_tree.specs.AgreementLaws.{IsGrownBy-same, IsGrownBy-merged, leaves_known, Agree-grown, IsWhole-there, IsWhole-back, same_by_leaves, same_leaves}
 use Rattle.rev_tree.specs.PartLaws.{given}
 use Rattle.rev_tree.specs.declared.origin.Origin.{Origin}
 use Rattle.rev_tree.specs.declared.origin.SessionId.{SessionId}
 use Rattle.doc_json.specs.Document.{Document}
-use Rattle.doc_json.specs.Chosen.{Choice, is_chosen}
+use Rattle.doc_json.specs.Chosen.{Choice}
 use Rattle.couch_base.specs.Lists.{Among}
 use Rattle.couch_base.specs.MemberLaws.{any_member}
 use Rattle.couch_base.specs.Database.{Id, DatabaseValue, LawfulDatabase, tree_in, tree_of, with_tree}
-use Rattle.couch_base.specs.WriteLaws.{IsLater, tree_in-with_tree}
+use Rattle.couch_base.specs.WriteLaws.{tree_in-with_tree}
 use Rattle.couch_base.specs.Messages.{ParcelValue, leaf_document}
 use Rattle.couch_base.specs.Put.{put_answer, is_changed, after_put}
-use Rattle.repl_log.specs.declared.replication.RepId.{RepId}
-use Rattle.repl_log.specs.Entry.{EntryValue}
 use Rattle.repl_target.specs.Peer.{PeerValue, SessionValue, session_in, with_session}
 use Rattle.repl_target.specs.Covered.{in_ledger, covers, covers_window}
 use Rattle.repl_target.specs.Law.{LawfulSessions}
-use Rattle.repl_target.specs.Later.{IsLaterPeer}
 use Rattle.repl_target.specs.Audit.{rep_between, CoversFeed}
 use Rattle.repl_target.specs.Backups.{BackupValue}
 use Rattle.repl_target.specs.TiedPeers.{IsTiedPair, AreTiedBackups, IsTiedWith}
 use Rattle.repl_target.specs.Sessions.{on_found, new_session, begun}
 use Rattle.repl_target.specs.Settling.{settle_docs, settling_of, with_done, after_documents, after_settle, after_stop}
-use Rattle.repl_target.specs.Calls.{Call, Load, Edit, Begin, Append, Settle, Stop, Record, Conclude, after_call, after_calls, IsFrom, AllFrom, IsGrown, IsLeft}
+use Rattle.repl_target.specs.Calls.{Call, Load, Edit, Begin, Append, Settle, Stop, Record, Conclude, after_call, after_calls, IsFrom, AllFrom, IsLeft}
 use Rattle.repl_target.specs.Replication.{SameDocument, beginning_between, begins_answer, after_begins, Replicates}
-use Rattle.repl_target.specs.Sync.{KnowsLeaves, HasRefusedNone, Meets, MeetBoth}
+use Rattle.repl_target.specs.Sync.{HasRefusedNone, MeetBoth}
 use Rattle.repl_target.specs.declared.fault.Report.{Report}
 use Rattle.repl_target.specs.declared.fault.TargetFault.{TargetFault}
 use Rattle.repl_target.specs.declared.replication.Plan.{Plan}

@@ -1,16 +1,13 @@
 -- Replicated into a peer that was empty, without a failure, each document is as it is at the source.
-use Rattle.std.proofs.Common.{◌≡◌, ℕ, zero, suc, ◌≤◌, nat_lt, nat_le, Bool, true, false, cond, ◌&&◌, ◌||◌, List, [], ◌∷◌, ◌++◌, map, filter, Option, Some, None, is_some, unwrap_or, ◌==◌, Result, Ok, Err, is_ok, IfOk, refl, sym, ap, ◌∙◌, subst, inl, inr, arith}
-use Rattle.std.specs.List.{AllByRecursion, list_any}
+use Rattle.std.proofs.Common.{◌≡◌, ℕ, zero, suc, Bool, true, false, cond, List, [], ◌∷◌, map, Option, Some, None, is_some, unwrap_or, ◌==◌, Result, Ok, Err, is_ok, IfOk, refl, sym, ap, ◌∙◌, subst, inl, inr}
+use Rattle.std.specs.List.{AllByRecursion}
 use Rattle.std.specs.Str.{bytes_eq}
-use Rattle.std.proofs.lemmas.Bool.{and_parts, and_from, cond_both, false≢true, or_cases, or_right}
+use Rattle.std.proofs.lemmas.Bool.{and_parts, cond_both, false≢true, or_cases}
 use Rattle.std.proofs.lemmas.List.{nil_from_length}
 use Rattle.std.proofs.lemmas.Slice.Eq.{bytes_eq-Decides}
 use Rattle.rev_core.specs.Rev.{RevId, rev_cmp}
-use Rattle.std.specs.Ordering.{eq_by_cmp}
 use Rattle.std.specs.FinMap.{get-empty}
-use Rattle.rev_core.specs.RevOrder.{rev_tie_is, rev_tie_self}
-use Rattle.rev_core.specs.Ancestry.{is_among}
-use Rattle.rev_tree.specs.Tree.{TreeValue, IsTree, has, is_leaf, leaves, leaves_above, ancestors, merged, no_revisions}
+use Rattle.rev_tree.specs.Tree.{TreeValue, has, is_leaf, leaves, ancestors, merged, no_revisions}
 use Rattle.rev_tree.specs.LeafLaws.{is_among-leaves}
 use Rattle.rev_tree.specs.declared.origin.Origin.{Origin}
 use Rattle.rev_tree.specs.declared.origin.SessionId.{SessionId}
@@ -20,11 +17,9 @@ use Rattle.couch_base.specs.Lists.{Among}
 use Rattle.couch_base.specs.ListLaws.{none_some, some_is}
 use Rattle.range_front.specs.Front.{low_water}
 use Rattle.couch_base.specs.Database.{Id, DocumentValue, DatabaseValue, LawfulDatabase, tree_in, tree_of, with_tree}
-use Rattle.couch_base.specs.DatabaseLaws.{IsDocumentTree-tree_in}
-use Rattle.couch_base.specs.DocumentTreeLaws.{IsTree-no_revisions}
 use Rattle.couch_base.specs.WriteLaws.{tree_in-with_tree}
-use Rattle.couch_base.specs.Feed.{RowValue, WindowValue, row_of, feed, chosen_feed}
-use Rattle.couch_base.specs.Messages.{WantedValue, ParcelValue, leaf_document, opened, fetched}
+use Rattle.couch_base.specs.Feed.{WindowValue, row_of, feed}
+use Rattle.couch_base.specs.Messages.{ParcelValue, leaf_document}
 use Rattle.couch_base.specs.Put.{put_answer, is_changed, after_put}
 use Rattle.repl_target.specs.Peer.{PeerValue, SessionValue, is_of, session_in, with_session}
 use Rattle.repl_target.specs.Covered.{refusal_of, in_ledger, covers, covers_window}
@@ -42,13 +37,13 @@ use Rattle.repl_target.specs.declared.fault.TargetFault.{TargetFault}
 use Rattle.repl_target.specs.declared.replication.Plan.{Plan}
 use Rattle.couch_base.specs.MemberLaws.{Among-map, Among-mapped, any_member}
 use Rattle.repl_target.proofs.Fetched.{tree_lawful, IsLeafOf, fetched_leaves, docs-settled}
-use Rattle.repl_target.proofs.TiesLaws.{in_chosen, tree_of-member, among_from}
+use Rattle.repl_target.proofs.TiesLaws.{in_chosen, among_from}
 use Rattle.repl_target.proofs.LaterPeers.{one_session, session_found}
 use Rattle.repl_target.proofs.SettlingKeepsLaw.{settle_told}
 use Rattle.rev_tree.specs.AgreementLaws.{same_leaves}
 use Rattle.rev_tree.specs.PartLaws.{IsPart, nothing_is_part, given, part_merged, whole_part}
 use Rattle.repl_target.proofs.HonestSessions.{rises_member}
-use Rattle.repl_target.proofs.Reading.{Started, less-is, concluded, all-covered, all-reported, all-lawful}
+use Rattle.repl_target.proofs.Reading.{Started, concluded, all-covered, all-reported, all-lawful}
 
 -- ---- databases
 

@@ -1,5 +1,5 @@
 -- Documents as a source hands them over, and what settling them keeps.
-use Rattle.std.proofs.Common.{◌≡◌, ℕ, zero, suc, ◌≤◌, Bool, true, false, cond, ◌||◌, List, [], ◌∷◌, ◌++◌, map, filter, take, Option, Some, None, unwrap_or, refl, sym, ap, ◌∙◌, subst, inl, inr}
+use Rattle.std.proofs.Common.{◌≡◌, ℕ, zero, suc, Bool, true, List, [], ◌∷◌, ◌++◌, map, take, Option, Some, None, unwrap_or, refl, sym, ◌∙◌, subst, inl, inr}
 use Rattle.std.specs.List.{AllByRecursion, list_any}
 use Rattle.std.proofs.lemmas.Bool.{cond_both}
 use Rattle.rev_core.specs.Rev.{RevId}
@@ -19,8 +19,8 @@ use Rattle.couch_base.specs.Messages.{WantedValue, ParcelValue, leaf_document, o
 use Rattle.couch_base.specs.Put.{put_answer, after_put}
 use Rattle.repl_target.specs.Peer.{PeerValue, SessionValue, session_in, with_session}
 use Rattle.repl_target.specs.Covered.{refusal_of, covers_window}
-use Rattle.repl_target.specs.Sessions.{on_found, on_session}
-use Rattle.repl_target.specs.Settling.{Settling, fed, with_arrival, is_full, settle_as, settle_one, settle_docs, settling_of, with_settling, with_done, after_documents, after_settle, after_stop}
+use Rattle.repl_target.specs.Sessions.{on_found}
+use Rattle.repl_target.specs.Settling.{Settling, fed, with_arrival, is_full, settle_as, settle_one, settle_docs, settling_of, with_done, after_documents, after_settle, after_stop}
 use Rattle.repl_target.specs.Calls.{Call, Load, Edit, Begin, Append, Settle, Stop, Record, Conclude, after_call, after_calls, IsFrom, AllFrom}
 use Rattle.repl_target.specs.declared.fault.Reason.{Reason}
 use Rattle.repl_target.proofs.SettlingKeepsLaw.{Ends, after_settle_ends, after_stop_ends}

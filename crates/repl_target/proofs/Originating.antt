@@ -30,7 +30,7 @@ use Rattle.repl_target.specs.Peer.{PeerValue, SessionValue, new_peer_at, written
 use Rattle.repl_target.specs.Covered.{covers_window, refusal_of}
 use Rattle.repl_target.specs.Writing.{next_local, after_load, load_edited, after_edit}
 use Rattle.repl_target.specs.Sessions.{on_found, begin_answer, new_session, begun, after_begin, after_append, after_record, after_conclude}
-use Rattle.repl_target.specs.Settling.{Settling, seq_in, fed, with_arrival, is_full, settle_as, settle_one, settle_docs, has_row, with_settling, settling_of, after_documents, with_done, marked, after_all, after_stop, after_settle, SettleGives}
+use Rattle.repl_target.specs.Settling.{Settling, seq_in, fed, with_arrival, is_full, settle_as, settle_one, settle_docs, has_row, with_settling, settling_of, after_documents, with_done, marked, after_all, SettleGives}
 use Rattle.repl_target.specs.Law.{LawfulSessions}
 use Rattle.repl_target.specs.Later.{IsLaterPeer}
 use Rattle.repl_target.specs.Origins.{ComesFrom, HasOrigins}
@@ -38,7 +38,7 @@ use Rattle.repl_target.specs.declared.beginning.Beginning.{Beginning}
 use Rattle.couch_base.specs.MemberLaws.{Among-last, at-end}
 use Rattle.repl_target.proofs.LaterPeers.{with_session_holds}
 use Rattle.repl_target.proofs.CallsKeepLaw.{load_later, begin_later, append_later, record_later, conclude_later}
-use Rattle.repl_target.proofs.SettlingKeepsLaw.{document_settles, documents_settle, with_settling-twice, mark_law, Ends, settle_ends, after_settle_ends, after_stop_ends}
+use Rattle.repl_target.proofs.SettlingKeepsLaw.{document_settles, documents_settle, with_settling-twice, mark_law, Ends, settle_ends}
 
 -- ---- origins that stand say what is so
 

@@ -1,5 +1,5 @@
 -- How many documents a session has read, after each call.
-use Rattle.std.proofs.Common.{◌≡◌, ℕ, ◌+◌, ◌≤◌, ◌==◌, Bool, true, false, cond, if◌then◌else◌, List, [], ◌∷◌, Option, Some, None, Result, Ok, Err, is_ok, take, length, refl, sym, ap, ◌∙◌, arith}
+use Rattle.std.proofs.Common.{◌≡◌, ℕ, ◌+◌, ◌≤◌, ◌==◌, Bool, true, false, cond, List, [], ◌∷◌, Option, Some, None, Result, Ok, Err, is_ok, take, length, refl, sym, ap, ◌∙◌, arith}
 use Rattle.std.specs.List.{find, list_all}
 use Rattle.std.proofs.lemmas.Bool.{cond_both, cond-true, cond-false, eq-eqb, false≢true}
 use Rattle.std.proofs.Math.Seq.{take-length}
@@ -7,14 +7,14 @@ use Rattle.rev_tree.specs.declared.origin.SessionId.{SessionId}
 use Rattle.doc_json.specs.Document.{Document}
 use Rattle.couch_base.specs.Feed.{WindowValue}
 use Rattle.couch_base.specs.Messages.{ParcelValue}
-use Rattle.range_front.specs.Front.{is_done, low_water}
+use Rattle.range_front.specs.Front.{is_done}
 use Rattle.repl_target.specs.declared.fault.Settled.{Settled}
 use Rattle.repl_target.specs.declared.fault.TargetFault.{TargetFault}
 use Rattle.repl_target.specs.declared.fault.TargetFault.TheVariants as faults
 use Rattle.repl_target.specs.declared.replication.Plan.{Plan}
 use Rattle.repl_target.specs.Peer.{PeerValue, SessionValue, is_of, session_in, with_session}
 use Rattle.repl_target.specs.Covered.{covers_window}
-use Rattle.repl_target.specs.Sessions.{found_answer, on_found, on_session, append_in, with_window, after_append, recorded_at, after_record, after_conclude, new_session, begun}
+use Rattle.repl_target.specs.Sessions.{found_answer, on_found, on_session, append_in, with_window, after_append, recorded_at, after_record, new_session, begun}
 use Rattle.repl_target.specs.Settling.{settle_docs, settled_before, has_row, has_room, window_in, settle_at, settle_check, settling_of, with_settling, with_done, after_documents, after_all, SettlesAt, Settles, SettleGives}
 use Rattle.repl_target.specs.Replication.{begins_answer, after_begins, beginning_between}
 use Rattle.repl_target.specs.Law.{LawfulSessions}

@@ -13,18 +13,13 @@ use Rattle.couch_base.specs.Put.{put_told, put_answer, is_changed, content_of}
 use Rattle.rev_tree.specs.Tree.{merged, first_contradiction, is_same, answer_of}
 use Rattle.rev_core.specs.Ancestry.{edges_of}
 use Rattle.couch_base.specs.Edit.{edited, edit_answer, edit_document}
-use Rattle.couch_base.specs.declared.fault.Put.{Put}
 use Rattle.couch_base.specs.declared.fault.BaseFault.{BaseFault}
 use Rattle.couch_base.specs.declared.fault.BaseFault.TheVariants as base_faults
-use Rattle.repl_log.specs.declared.replication.RepId.{RepId}
-use Rattle.repl_log.specs.Entry.{EntryValue}
 use Rattle.repl_target.specs.Peer.{PeerValue, SessionValue, written_of, is_of, session_in, with_session}
 use Rattle.repl_target.specs.Writing.{next_local, after_load, load_edited, after_edit}
-use Rattle.repl_target.specs.Sessions.{on_found, found_answer, begin_answer, new_session, begun, after_begin, append_in, append_answer, with_window, after_append}
-use Rattle.repl_target.specs.Logs.{put_by, put_entry_answer, after_put_entry}
+use Rattle.repl_target.specs.Sessions.{on_found, found_answer, append_in, append_answer, with_window, after_append}
 use Rattle.repl_target.specs.Law.{LawfulSessions}
 use Rattle.repl_target.specs.declared.fault.TargetFault.{TargetFault}
-use Rattle.repl_target.specs.declared.beginning.Beginning.{Beginning}
 use Rattle.repl_target.proofs.LaterPeers.{one_session, session_found}
 
 map-same : {X : Type 0} (f : X → X) (xs : List X) → ((x : X) → Among x xs → f x ≡ x) → map f xs ≡ xs

@@ -21,8 +21,8 @@ use Rattle.couch_base.specs.Put.{put_answer, after_put}
 use Rattle.repl_target.specs.Peer.{SessionValue, RefusedValue}
 use Rattle.repl_target.specs.Covered.{refusal_of, in_ledger}
 use Rattle.repl_target.specs.LedgerIndex.{is_ledgered}
-use Rattle.repl_target.specs.Settling.{Settling, is_full, settle_as, settle_one, settle_docs, Halts, stops_as, stops_in, stops_at, settled_before, fed}
-use Rattle.repl_target.specs.SettlingParts.{Accepts, Rejects, Steps, Stuck, IndexesMore, Reached, ReachedAll, cause_at, entered}
+use Rattle.repl_target.specs.Settling.{Settling, is_full, settle_as, settle_one, settle_docs, Halts, stops_in, stops_at, settled_before, fed}
+use Rattle.repl_target.specs.SettlingParts.{Accepts, Rejects, Stuck, IndexesMore, Reached, ReachedAll, cause_at, entered}
 use Rattle.repl_target.specs.declared.fault.Cause.{Cause}
 use Rattle.repl_target.specs.declared.fault.Cause.TheVariants as causes
 use Rattle.repl_target.specs.declared.fault.Reason.{Reason}

@@ -6,10 +6,8 @@ use Rattle.std.proofs.lemmas.Slice.Eq.{bytes_eq-Decides}
 use Rattle.rev_core.specs.Rev.{RevId}
 use Rattle.rev_core.specs.Ancestry.{is_among}
 use Rattle.doc_json.specs.Document.{Document}
-use Rattle.couch_base.specs.Lists.{Among}
 use Rattle.couch_base.specs.Database.{Id}
-use Rattle.repl_log.specs.Entry.{IsSound}
-use Rattle.repl_target.specs.Peer.{PeerValue, SessionValue, RefusedValue, entry_of}
+use Rattle.repl_target.specs.Peer.{PeerValue, SessionValue, RefusedValue}
 use Rattle.repl_target.specs.Covered.{in_ledger, covers}
 use Rattle.repl_target.specs.Law.{LawfulSessions}
 use Rattle.repl_target.specs.Origins.{HasOrigins}

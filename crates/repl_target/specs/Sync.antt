@@ -1,5 +1,5 @@
 -- Replication both ways: docs/PROFILE.md, "Both ways"; PouchDB, `sync`.
-use Rattle.std.specs.Prelude.{◌≡◌, Bool, true, List, [], Result, Ok, Err}
+use Rattle.std.specs.Prelude.{◌≡◌, Bool, true, [], Result, Ok, Err}
 use Rattle.rev_core.specs.Rev.{RevId}
 use Rattle.rev_tree.specs.Tree.{has, is_leaf}
 use Rattle.rev_tree.specs.Agreement.{Agree, IsWhole}

@@ -1,10 +1,8 @@
-use Rattle.std.proofs.Common.{◌≡◌, Ok, Err, subst}
+use Rattle.std.proofs.Common.{Ok, Err, subst}
 use Rattle.couch_base.specs.Database.{LawfulDatabase}
-use Rattle.repl_target.specs.Peer.{PeerValue}
-use Rattle.repl_target.specs.Law.{LawfulSessions}
 use Rattle.repl_target.specs.Replication.{Replicates}
 use Rattle.repl_target.specs.Sync.{refused_there, refused_back, both}
-use Rattle.repl_target.proofs.BothWays.{Leaves, replicates_leaves, turned_tied, both_meet}
+use Rattle.repl_target.proofs.BothWays.{replicates_leaves, turned_tied, both_meet}
 use Rattle.repl_target.proofs.sync.sync_alone.Goals as goal
 
 pub returns-in-Err-clause-replicates : goal.returns-in-Err-clause-replicates
