@@ -1,8 +1,8 @@
 -- The ids that a list of texts gives, one after the other.
 use Rattle.std.proofs.Common.{◌≡◌, ◌⊎◌, inl, inr, ℕ, List, [], ◌∷◌, ◌++◌, Option, Some, None, Result, Ok, Err, refl, sym, ap, ◌∙◌, append-nil, append_assoc}
 use Rattle.serde_json.specs.Find.{as_str}
-use Rattle.serde_json.specs.View.{view, items_view}
-use Rattle.serde_json.specs.declared.value.Value.{Value}
+use Rattle.json_values.specs.LineView.{line_view, line_items}
+use Rattle.json_values.specs.declared.line.LineValue.{LineValue}
 use Rattle.rev_core.specs.Checks.{◌>>=◌}
 use Rattle.script_databases.specs.Refusals.{GivesOrMemory}
 use Rattle.script_databases.specs.declared.refusal.Refusal.{Refusal}
@@ -28,17 +28,17 @@ joined-all (Ok more) = refl
 joined-all (Err refusal) = refl
 
 -- the id that an item gives, before those of the rest
-pub item_given : (v : Value) (text id : List ℕ) (vs : List Value) → as_str (view v) ≡ Some text → id_given text ≡ Ok id → ids_given (texts_of (items_view (v ∷ vs))) ≡ (ids_given (texts_of (items_view vs)) >>= (λ more. Ok (id ∷ more)))
+pub item_given : (v : LineValue) (text id : List ℕ) (vs : List LineValue) → as_str (line_view v) ≡ Some text → id_given text ≡ Ok id → ids_given (texts_of (line_items (v ∷ vs))) ≡ (ids_given (texts_of (line_items vs)) >>= (λ more. Ok (id ∷ more)))
 item_given v text id vs e is =
-    let rest = texts_of (items_view vs) in
+    let rest = texts_of (line_items vs) in
     ap (λ o. ids_given (with_text o rest)) e ∙ ap (λ (r : Result (List ℕ) Refusal). r >>= (λ (i : List ℕ). ids_given rest >>= (λ more. Ok (i ∷ more)))) is
 
 -- an item that gives none refuses the list
-pub item_refused : (v : Value) (text : List ℕ) (why : Refusal) (vs : List Value) → as_str (view v) ≡ Some text → id_given text ≡ Err why → ids_given (texts_of (items_view (v ∷ vs))) ≡ Err why
+pub item_refused : (v : LineValue) (text : List ℕ) (why : Refusal) (vs : List LineValue) → as_str (line_view v) ≡ Some text → id_given text ≡ Err why → ids_given (texts_of (line_items (v ∷ vs))) ≡ Err why
 item_refused v text why vs e is =
-    let rest = texts_of (items_view vs) in
+    let rest = texts_of (line_items vs) in
     ap (λ o. ids_given (with_text o rest)) e ∙ ap (λ (r : Result (List ℕ) Refusal). r >>= (λ (i : List ℕ). ids_given rest >>= (λ more. Ok (i ∷ more)))) is
 
 -- an item that is no text is passed over
-pub item_passed : (v : Value) (vs : List Value) → as_str (view v) ≡ None → ids_given (texts_of (items_view (v ∷ vs))) ≡ ids_given (texts_of (items_view vs))
-item_passed v vs e = ap (λ o. ids_given (with_text o (texts_of (items_view vs)))) e
+pub item_passed : (v : LineValue) (vs : List LineValue) → as_str (line_view v) ≡ None → ids_given (texts_of (line_items (v ∷ vs))) ≡ ids_given (texts_of (line_items vs))
+item_passed v vs e = ap (λ o. ids_given (with_text o (texts_of (line_items vs)))) e

@@ -5,3 +5,4 @@ pub mod TellingLemmas
 pub mod SessionLemmas
 pub mod LoadLemmas
 pub mod ReplicateLemmas
+pub mod OrderLemmas

@@ -1,16 +1,17 @@
 //! What a line gives: ids, revisions, bodies and documents, each read where its turn among the checks has come.
-ghost use Rattle.std.specs.Prelude.{◌≡◌, option_map};
+ghost use Rattle.std.specs.Prelude.{◌≡◌, IfSome, option_map};
+ghost use Rattle.json_values.specs.LineOrder.{IsOrdered};
 ghost use Rattle.std.specs.Option.{option_copied};
-ghost use Rattle.serde_json.specs.View.{view, items_view};
+ghost use Rattle.json_values.specs.LineView.{line_view, line_items};
 ghost use Rattle.script_databases.specs.Refusals.{GivesOrMemory};
 ghost use Rattle.script_words.specs.Given.{body_given, body_given_or_empty, choice_given, chosen_given, document_given, id_given, ids_given, rev_given};
 ghost use Rattle.script_words.specs.Checks.{seen_as};
 ghost use Rattle.script_words.specs.Members.{texts_of};
 
-use doc_json::{Body, Chosen, Doc, DocId, read_body, read_doc};
+use doc_json::{Body, Chosen, Doc, DocId, read_line_body, read_line_doc};
+use json_values::LineValue;
 use rev_core::Rev;
 use script_databases::Refusal;
-use serde_json::{Map, Value};
 use std::alloc::Global;
 
 /// The document's id that a text spells.
@@ -24,8 +25,8 @@ pub fn read_id(alloc: Global, text: &str) -> Result<DocId, Refusal>
 }
 
 /// The ids that texts spell, the items of a list, in their order.
-fn read_ids(alloc: Global, texts: &Vec<Value>) -> Result<Vec<DocId>, Refusal>
-    ensures { GivesOrMemory (seen_as (λ ids. ids.items) result) (ids_given (texts_of (items_view texts.now.items))) }
+fn read_ids(alloc: Global, texts: &Vec<LineValue<'_>>) -> Result<Vec<DocId>, Refusal>
+    ensures { GivesOrMemory (seen_as (λ ids. ids.items) result) (ids_given (texts_of (line_items texts.now.items))) }
 {
     let mut ids = Vec::new(alloc);
     for item in texts {
@@ -55,8 +56,11 @@ fn choose(ids: Vec<DocId>) -> Result<Option<Chosen>, Refusal>
 
 /// The choice that a line's ids make, none where it gives no list of them: `NoId`, `ReservedId` in the order of the ids,
 /// then `NoneChosen`, `TooManyChosen`.
-pub fn read_choice(alloc: Global, ids: Option<&Vec<Value>>) -> Result<Option<Chosen>, Refusal>
-    ensures { GivesOrMemory result (choice_given (option_map (λ v. texts_of (items_view v.now.items)) ids.entry)) }
+pub fn read_choice(
+    alloc: Global,
+    ids: Option<&Vec<LineValue<'_>>>,
+) -> Result<Option<Chosen>, Refusal>
+    ensures { GivesOrMemory result (choice_given (option_map (λ v. texts_of (line_items v.now.items)) ids.entry)) }
 {
     let Some(texts) = ids else {
         return Ok(None);
@@ -81,33 +85,36 @@ pub fn read_rev(text: Option<&str>) -> Result<Option<Rev>, Refusal>
 }
 
 /// The body that a value is.
-fn read_content(alloc: Global, value: &Value) -> Result<Body, Refusal>
-    ensures { GivesOrMemory result (body_given (view value.now)) }
+fn read_content(alloc: Global, value: &LineValue<'_>) -> Result<Body, Refusal>
+    requires { IsOrdered (line_view value.now) }
+    ensures { GivesOrMemory result (body_given (line_view value.now)) }
 {
-    match read_body(alloc, value) {
+    match read_line_body(alloc, value) {
         Ok(body) => Ok(body),
         Err(fault) => Err(Refusal::of_doc(fault)),
     }
 }
 
 /// The body that a line gives, an object without members where it gives none.
-pub fn read_content_or_empty(alloc: Global, body: Option<&Value>) -> Result<Body, Refusal>
-    ensures { GivesOrMemory result (body_given_or_empty (option_map (λ v. view v.now) body.entry)) }
+pub fn read_content_or_empty(alloc: Global, body: Option<&LineValue<'_>>) -> Result<Body, Refusal>
+    requires { IfSome body (λ v. IsOrdered (line_view v.now)) }
+    ensures { GivesOrMemory result (body_given_or_empty (option_map (λ v. line_view v.now) body.entry)) }
 {
     match body {
         Some(value) => read_content(alloc, value),
-        None => read_content(alloc, &Value::Object(Map::new(alloc))),
+        None => read_content(alloc, &LineValue::Object(Vec::new(alloc))),
     }
 }
 
 /// The document that a line gives, where it gives one.
-pub fn read_document(alloc: Global, doc: Option<&Value>) -> Result<Option<Doc>, Refusal>
-    ensures { GivesOrMemory result (document_given (option_map (λ v. view v.now) doc.entry)) }
+pub fn read_document(alloc: Global, doc: Option<&LineValue<'_>>) -> Result<Option<Doc>, Refusal>
+    requires { IfSome doc (λ v. IsOrdered (line_view v.now)) }
+    ensures { GivesOrMemory result (document_given (option_map (λ v. line_view v.now) doc.entry)) }
 {
     let Some(value) = doc else {
         return Ok(None);
     };
-    match read_doc(alloc, value) {
+    match read_line_doc(alloc, value) {
         Ok(doc) => Ok(Some(doc)),
         Err(fault) => Err(Refusal::of_doc(fault)),
     }

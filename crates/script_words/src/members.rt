@@ -1,28 +1,32 @@
 //! The object that a line is, and its members, each of its kind.
 ghost use Rattle.std.specs.Prelude.{◌≡◌, ◌⊎◌, IfOk, IfErr, map, option_map, string_bytes};
-ghost use Rattle.std.specs.BTreeMap.{keys};
 ghost use Rattle.std.specs.List.{list_all, list_any};
 ghost use Rattle.std.specs.Str.{bytes_eq};
 ghost use Rattle.serde_json.specs.Find.{as_bool, as_str};
 ghost use Rattle.std.specs.Option.{option_copied};
 ghost use Rattle.serde_json.specs.Data.{Members, object};
-ghost use Rattle.serde_json.specs.View.{view, items_view};
+ghost use Rattle.json_values.specs.LineView.{line_view, line_items};
 ghost use Rattle.script_databases.specs.declared.refusal.Refusal.TheVariants.{BadLine, Memory};
 ghost use Rattle.script_words.specs.Script.{IsObject, IsNoObject};
+ghost use Rattle.json_values.specs.LineOrder.{IsOrdered};
 ghost use Rattle.script_words.specs.Members.{are_texts, as_texts, as_uuid, as_whole, has_only, is_name, is_name_byte, name_at, optional, text_at, texts_of};
 
-use json_values::{ReadFault, ValueReader};
+use json_values::{LineValue, ReadFault, ValueReader};
 use script_databases::Refusal;
-use serde_json::{Map, Value};
 use std::alloc::Global;
 use uuid::Uuid;
 
 /// The JSON object that a line is. `BadLine` where it is none; want of memory may come in the place of any answer.
-pub fn read_object(values: &mut ValueReader, alloc: Global, line: &[u8]) -> Result<Value, Refusal>
-    ensures ok { IfOk result (λ value. (ms : Members) × IsObject line.now ms × (view value ≡ object ms)) }
+pub fn read_object<'a>(
+    values: &'a mut ValueReader,
+    alloc: Global,
+    line: &'a [u8],
+) -> Result<LineValue<'a>, Refusal>
+    ensures ok { IfOk result (λ value. (ms : Members) × IsObject line.now ms × (line_view value ≡ object ms)) }
+    ensures ordered { IfOk result (λ value. IsOrdered (line_view value)) }
     ensures err { IfErr result (λ why. (why ≡ Memory) ⊎ ((why ≡ BadLine) × IsNoObject line.now)) }
 {
-    let value = match values.read(alloc, line) {
+    let value = match values.read_line(alloc, line) {
         Ok(value) => value,
         Err(ReadFault::NotJson) => return Err(Refusal::BadLine),
         Err(ReadFault::Memory) => return Err(Refusal::Memory),
@@ -34,15 +38,18 @@ pub fn read_object(values: &mut ValueReader, alloc: Global, line: &[u8]) -> Resu
 }
 
 /// A text that has to be there.
-pub fn text_member<'a>(value: &'a Value, key: &str) -> Option<&'a str>
-    ensures { option_map (λ s. s.now) result ≡ text_at key.now (view value.now) }
+pub fn text_member<'v>(value: &'v LineValue<'_>, key: &str) -> Option<&'v str>
+    ensures { option_map (λ s. s.now) result ≡ text_at key.now (line_view value.now) }
 {
-    value.get(key).and_then(Value::as_str)
+    match value.get(key) {
+        Some(member) => member.as_str(),
+        None => None,
+    }
 }
 
 /// The name of a database, which has to be there: 1 to 32 ASCII letters, digits, `-` or `_`.
-pub fn name_member<'a>(value: &'a Value, key: &str) -> Option<&'a str>
-    ensures { option_map (λ s. s.now) result ≡ name_at key.now (view value.now) }
+pub fn name_member<'v>(value: &'v LineValue<'_>, key: &str) -> Option<&'v str>
+    ensures { option_map (λ s. s.now) result ≡ name_at key.now (line_view value.now) }
 {
     match text_member(value, key) {
         Some(text) if is_name(text) => Some(text),
@@ -51,8 +58,8 @@ pub fn name_member<'a>(value: &'a Value, key: &str) -> Option<&'a str>
 }
 
 /// A flag that may be left out: none inside where it is, and none at all where it is of another kind.
-pub fn optional_flag(value: &Value, key: &str) -> Option<Option<bool>>
-    ensures { result ≡ optional as_bool key.now (view value.now) }
+pub fn optional_flag(value: &LineValue<'_>, key: &str) -> Option<Option<bool>>
+    ensures { result ≡ optional as_bool key.now (line_view value.now) }
 {
     let Some(member) = value.get(key) else {
         return Some(None);
@@ -64,8 +71,8 @@ pub fn optional_flag(value: &Value, key: &str) -> Option<Option<bool>>
 }
 
 /// A text that may be left out.
-pub fn optional_text<'a>(value: &'a Value, key: &str) -> Option<Option<&'a str>>
-    ensures { option_map option_copied result ≡ optional as_str key.now (view value.now) }
+pub fn optional_text<'v>(value: &'v LineValue<'_>, key: &str) -> Option<Option<&'v str>>
+    ensures { option_map option_copied result ≡ optional as_str key.now (line_view value.now) }
 {
     let Some(member) = value.get(key) else {
         return Some(None);
@@ -77,9 +84,12 @@ pub fn optional_text<'a>(value: &'a Value, key: &str) -> Option<Option<&'a str>>
 }
 
 /// A list of texts that may be left out.
-pub fn optional_texts<'a>(value: &'a Value, key: &str) -> Option<Option<&'a Vec<Value>>>
-    ensures { option_map (option_map (λ v. texts_of (items_view v.now.items))) result
-        ≡ optional as_texts key.now (view value.now) }
+pub fn optional_texts<'v, 'a>(
+    value: &'v LineValue<'a>,
+    key: &str,
+) -> Option<Option<&'v Vec<LineValue<'a>>>>
+    ensures { option_map (option_map (λ v. texts_of (line_items v.now.items))) result
+        ≡ optional as_texts key.now (line_view value.now) }
 {
     let Some(member) = value.get(key) else {
         return Some(None);
@@ -94,11 +104,11 @@ pub fn optional_texts<'a>(value: &'a Value, key: &str) -> Option<Option<&'a Vec<
 }
 
 /// Whether each item is a text.
-fn are_texts(items: &Vec<Value>) -> bool
-    ensures { result ≡ are_texts (items_view items.now.items) }
+fn are_texts(items: &Vec<LineValue<'_>>) -> bool
+    ensures { result ≡ are_texts (line_items items.now.items) }
 {
     for item in items {
-        if !item.is_string() {
+        if item.as_str().is_none() {
             return false;
         }
     }
@@ -106,8 +116,8 @@ fn are_texts(items: &Vec<Value>) -> bool
 }
 
 /// A whole number from 0 to 2^64 - 1 that may be left out.
-pub fn optional_whole(value: &Value, key: &str) -> Option<Option<u64>>
-    ensures { result ≡ optional as_whole key.now (view value.now) }
+pub fn optional_whole(value: &LineValue<'_>, key: &str) -> Option<Option<u64>>
+    ensures { result ≡ optional as_whole key.now (line_view value.now) }
 {
     let Some(member) = value.get(key) else {
         return Some(None);
@@ -119,8 +129,8 @@ pub fn optional_whole(value: &Value, key: &str) -> Option<Option<u64>>
 }
 
 /// The number of a UUID that may be left out.
-pub fn optional_uuid(value: &Value, key: &str) -> Option<Option<u128>>
-    ensures { result ≡ optional as_uuid key.now (view value.now) }
+pub fn optional_uuid(value: &LineValue<'_>, key: &str) -> Option<Option<u128>>
+    ensures { result ≡ optional as_uuid key.now (line_view value.now) }
 {
     let Some(member) = value.get(key) else {
         return Some(None);
@@ -132,8 +142,8 @@ pub fn optional_uuid(value: &Value, key: &str) -> Option<Option<u128>>
 }
 
 /// The number of the UUID that a value spells.
-fn as_uuid(value: &Value) -> Option<u128>
-    ensures { result ≡ as_uuid (view value.now) }
+fn as_uuid(value: &LineValue<'_>) -> Option<u128>
+    ensures { result ≡ as_uuid (line_view value.now) }
 {
     let Some(text) = value.as_str() else {
         return None;
@@ -145,8 +155,8 @@ fn as_uuid(value: &Value) -> Option<u128>
 }
 
 /// Whether a value is an object with no other members than these.
-pub fn has_only_members(value: &Value, keys: &[&str]) -> bool
-    ensures { result ≡ has_only (map (λ x. x.now) keys.now) (view value.now) }
+pub fn has_only_members(value: &LineValue<'_>, keys: &[&str]) -> bool
+    ensures { result ≡ has_only (map (λ x. x.now) keys.now) (line_view value.now) }
 {
     match value.as_object() {
         Some(members) => are_all_among(members, keys),
@@ -154,11 +164,15 @@ pub fn has_only_members(value: &Value, keys: &[&str]) -> bool
     }
 }
 
-fn are_all_among(members: &Map<String, Value>, allowed: &[&str]) -> bool
-    ensures { result
-        ≡ list_all (λ key. list_any (λ k. bytes_eq (string_bytes key) k.now) allowed.now) (keys members.now) }
+fn are_all_among(members: &Vec<(&str, LineValue<'_>)>, allowed: &[&str]) -> bool
+    ensures { result ≡ list_all (λ m. list_any (λ k. bytes_eq m.0.now k.now) allowed.now) members.now.items }
 {
-    members.keys().all(|key| is_one_of(key.as_str(), allowed))
+    for member in members {
+        if !is_one_of(member.0, allowed) {
+            return false;
+        }
+    }
+    true
 }
 
 fn is_one_of(key: &str, keys: &[&str]) -> bool

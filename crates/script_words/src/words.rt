@@ -1,7 +1,9 @@
 //! The words of a script, each in a room of its own: what it asks, what it does, and what it prints (docs/PROFILE.md,
 //! "Command lines", "Order of checks" and "Answers").
-ghost use Rattle.std.specs.Prelude.{◌≡◌, [], option_map};
-ghost use Rattle.serde_json.specs.View.{view};
+ghost use Rattle.std.specs.Prelude.{◌≡◌, [], option_map, IfSome};
+ghost use Rattle.json_values.specs.LineView.{line_view};
+ghost use Rattle.json_values.specs.LineOrder.{IsOrdered};
+ghost use Rattle.script_words.specs.Ordered.{HasOrder};
 ghost use Rattle.script_engine.specs.Serving.{MayTell};
 ghost use Rattle.script_words.specs.Checks.{needed};
 ghost use Rattle.script_words.specs.Telling.{told_by};
@@ -19,42 +21,74 @@ mod restore;
 mod show;
 
 use crate::members::text_member;
+use json_values::LineValue;
 use script_databases::{Databases, Refusal};
-use serde_json::Value;
 use std::alloc::Global;
 use std::sync::Wait;
 use std::thread::Threads;
 
 /// What a line asks.
 #[derive(Drop)]
-pub enum Word<'a> {
-    Load(load::Load<'a>),
-    Edit(edit::Edit<'a>),
-    Show(show::Show<'a>),
-    Doc(doc::Doc<'a>),
-    Changes(changes::Changes<'a>),
-    Log(log::Log<'a>),
-    Audit(audit::Audit<'a>),
-    Replicate(replicate::Replicate<'a>),
-    Backup(backup::Backup<'a>),
-    Restore(restore::Restore<'a>),
+pub enum Word<'v, 'a> {
+    Load(load::Load<'v, 'a>),
+    Edit(edit::Edit<'v, 'a>),
+    Show(show::Show<'v>),
+    Doc(doc::Doc<'v>),
+    Changes(changes::Changes<'v>),
+    Log(log::Log<'v, 'a>),
+    Audit(audit::Audit<'v, 'a>),
+    Replicate(replicate::Replicate<'v, 'a>),
+    Backup(backup::Backup<'v>),
+    Restore(restore::Restore<'v>),
 }
 
 /// What an object asks, by its word: all required members, each of its kind, and no others.
-pub fn read(value: &Value) -> Option<Word<'_>>
-    ensures { needed (option_map asked_of result) ≡ asked_in (view value.now) }
+pub fn read<'v, 'a>(value: &'v LineValue<'a>) -> Option<Word<'v, 'a>>
+    requires { IsOrdered (line_view value.now) }
+    ensures asked { needed (option_map asked_of result) ≡ asked_in (line_view value.now) }
+    ensures ordered { IfSome result HasOrder }
 {
     match text_member(value, "do") {
-        Some("load") => load::read(value).map(Word::Load),
-        Some("edit") => edit::read(value).map(Word::Edit),
-        Some("show") => show::read(value).map(Word::Show),
-        Some("doc") => doc::read(value).map(Word::Doc),
-        Some("changes") => changes::read(value).map(Word::Changes),
-        Some("log") => log::read(value).map(Word::Log),
-        Some("audit") => audit::read(value).map(Word::Audit),
-        Some("replicate") => replicate::read(value).map(Word::Replicate),
-        Some("backup") => backup::read(value).map(Word::Backup),
-        Some("restore") => restore::read(value).map(Word::Restore),
+        Some("load") => match load::read(value) {
+            Some(ask) => Some(Word::Load(ask)),
+            None => None,
+        },
+        Some("edit") => match edit::read(value) {
+            Some(ask) => Some(Word::Edit(ask)),
+            None => None,
+        },
+        Some("show") => match show::read(value) {
+            Some(ask) => Some(Word::Show(ask)),
+            None => None,
+        },
+        Some("doc") => match doc::read(value) {
+            Some(ask) => Some(Word::Doc(ask)),
+            None => None,
+        },
+        Some("changes") => match changes::read(value) {
+            Some(ask) => Some(Word::Changes(ask)),
+            None => None,
+        },
+        Some("log") => match log::read(value) {
+            Some(ask) => Some(Word::Log(ask)),
+            None => None,
+        },
+        Some("audit") => match audit::read(value) {
+            Some(ask) => Some(Word::Audit(ask)),
+            None => None,
+        },
+        Some("replicate") => match replicate::read(value) {
+            Some(ask) => Some(Word::Replicate(ask)),
+            None => None,
+        },
+        Some("backup") => match backup::read(value) {
+            Some(ask) => Some(Word::Backup(ask)),
+            None => None,
+        },
+        Some("restore") => match restore::read(value) {
+            Some(ask) => Some(Word::Restore(ask)),
+            None => None,
+        },
         _ => None,
     }
 }
@@ -64,10 +98,11 @@ pub fn serve<H: Threads + Wait + Sync>(
     rt: &H,
     alloc: Global,
     databases: &mut Databases,
-    word: &Word<'_>,
+    word: &Word<'_, '_>,
     answer: &mut Vec<u8>,
 ) -> Result<(), Refusal>
-    requires { answer.old.items ≡ [] }
+    requires empty { answer.old.items ≡ [] }
+    requires ordered { HasOrder word.now }
     ensures { MayTell Answers databases.old (asked_of word.now) (told_by result answer.new.items) databases.new }
 {
     match word {

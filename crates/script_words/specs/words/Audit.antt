@@ -1,7 +1,7 @@
 -- `audit`: docs/PROFILE.md, "Command lines" and "Answers".
 use Rattle.std.specs.Prelude.{ℕ, List, [], ◌∷◌, ◌++◌, codes, decimal, Option, Some, None, Result, Ok, option_map}
 use Rattle.serde_json.specs.Data.{Data}
-use Rattle.serde_json.specs.View.{items_view}
+use Rattle.json_values.specs.LineView.{line_items}
 use Rattle.rev_core.specs.Text.{rev_text}
 use Rattle.repl_target.specs.Covered.{Leaf}
 use Rattle.repl_target.specs.Audit.{audit_answer}
@@ -28,7 +28,7 @@ abbrev pub audit_asked : Audit → AuditAsk
 audit_asked ask = record {
   source = ask.source.now;
   target = ask.target.now;
-  doc_ids = option_map (λ v. texts_of (items_view v.now.items)) ask.doc_ids;
+  doc_ids = option_map (λ v. texts_of (line_items v.now.items)) ask.doc_ids;
 }
 
 abbrev pub audit_in : Data → Result AuditAsk Refusal

@@ -3,7 +3,7 @@ use Rattle.std.specs.Prelude.{ℕ, Bool, false, List, [], ◌∷◌, ◌++◌, c
 use Rattle.std.specs.Option.{option_copied}
 use Rattle.serde_json.specs.Data.{Data}
 use Rattle.serde_json.specs.Find.{get, as_bool, as_str}
-use Rattle.serde_json.specs.View.{view}
+use Rattle.json_values.specs.LineView.{line_view}
 use Rattle.rev_core.specs.Text.{rev_text}
 use Rattle.repl_target.specs.Writing.{after_edit}
 use Rattle.script_engine.specs.Serving.{Answering}
@@ -35,7 +35,7 @@ edit_asked ask =
       id = ask.id.now;
       parent = option_copied ask.parent;
       deleted = ask.deleted;
-      body = option_map (λ v. view v.now) ask.body;
+      body = option_map (λ v. line_view v.now) ask.body;
     }
 
 abbrev pub edit_in : Data → Result EditAsk Refusal

@@ -2,7 +2,7 @@
 use Rattle.std.specs.Prelude.{◌⊎◌, ℕ, List, [], ◌∷◌, ◌++◌, codes, decimal, Option, Some, None, option_map, Result, Ok, Err}
 use Rattle.serde_json.specs.Data.{Data}
 use Rattle.serde_json.specs.Find.{get}
-use Rattle.serde_json.specs.View.{view}
+use Rattle.json_values.specs.LineView.{line_view}
 use Rattle.rev_core.specs.Ancestry.{head_of}
 use Rattle.doc_json.specs.Document.{Document}
 use Rattle.couch_base.specs.Put.{put_answer}
@@ -32,7 +32,7 @@ pub record LoadAsk : Type 0 where
   pub doc : Option Data
 
 abbrev pub load_asked : Load → LoadAsk
-load_asked ask = record { db = ask.db.now; uuid = ask.uuid; doc = option_map (λ v. view v.now) ask.doc }
+load_asked ask = record { db = ask.db.now; uuid = ask.uuid; doc = option_map (λ v. line_view v.now) ask.doc }
 
 -- `doc` may be any value
 abbrev pub load_in : Data → Result LoadAsk Refusal

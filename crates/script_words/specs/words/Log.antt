@@ -2,7 +2,7 @@
 use Rattle.std.specs.Prelude.{ℕ, List, [], ◌∷◌, codes, if◌then◌else◌, Option, Some, None, Result, Ok, option_and_then, option_map}
 use Rattle.std.specs.Str.{bytes_eq}
 use Rattle.serde_json.specs.Data.{Data}
-use Rattle.serde_json.specs.View.{items_view}
+use Rattle.json_values.specs.LineView.{line_items}
 use Rattle.doc_json.specs.Chosen.{Choice}
 use Rattle.repl_log.specs.Entry.{EntryValue}
 use Rattle.repl_log.specs.Text.{log_text}
@@ -37,7 +37,7 @@ log_asked ask = record {
   source = ask.source.now;
   target = ask.target.now;
   side = ask.side;
-  doc_ids = option_map (λ v. texts_of (items_view v.now.items)) ask.doc_ids;
+  doc_ids = option_map (λ v. texts_of (line_items v.now.items)) ask.doc_ids;
 }
 
 abbrev pub side_of : List ℕ → Option Side

@@ -3,7 +3,7 @@ use Rattle.std.specs.Prelude.{◌≡◌, ◌⊎◌, ◌<◌, ◌≤◌, ℕ, Boo
 use Rattle.std.specs.Str.{bytes_eq}
 use Rattle.serde_json.specs.Data.{Data}
 use Rattle.serde_json.specs.Find.{as_bool}
-use Rattle.serde_json.specs.View.{items_view}
+use Rattle.json_values.specs.LineView.{line_items}
 use Rattle.doc_json.specs.Chosen.{Choice}
 use Rattle.rev_tree.specs.declared.origin.SessionId.{SessionId}
 use Rattle.repl_log.specs.Text.{id_digits}
@@ -43,7 +43,7 @@ abbrev pub replicate_asked : Replicate → ReplicateAsk
 replicate_asked ask = record {
   source = ask.source.now;
   target = ask.target.now;
-  doc_ids = option_map (λ v. texts_of (items_view v.now.items)) ask.doc_ids;
+  doc_ids = option_map (λ v. texts_of (line_items v.now.items)) ask.doc_ids;
   options = ask.options;
 }
 

@@ -1,6 +1,6 @@
 //! `audit`: whether the target covers what the two logs say is done.
 ghost use Rattle.std.specs.Prelude.{◌≡◌, ◌++◌, [], OnOk, option_map};
-ghost use Rattle.serde_json.specs.View.{view};
+ghost use Rattle.json_values.specs.LineView.{line_view};
 ghost use Rattle.repl_target.specs.Audit.{hole_of};
 ghost use Rattle.script_engine.specs.Serving.{MayTell};
 ghost use Rattle.script_words.specs.Checks.{needed};
@@ -10,24 +10,24 @@ ghost use Rattle.script_words.specs.words.Audit.{Audits, audit_asked, audit_in, 
 use crate::given::read_choice;
 use crate::members::{has_only_members, name_member, optional_texts};
 use crate::texts::{push_json, push_number, push_rev};
+use json_values::LineValue;
 use repl_target::{Audit as Found, audit};
 use rev_core::Rev;
 use script_databases::{Databases, Refusal};
-use serde_json::Value;
 use std::alloc::{AllocError, Global};
 
 /// What an `audit` line asks.
 #[derive(Drop)]
-pub struct Audit<'a> {
-    pub source: &'a str,
-    pub target: &'a str,
+pub struct Audit<'v, 'a> {
+    pub source: &'v str,
+    pub target: &'v str,
     /// The ids of the documents that are replicated, which are texts; all documents are where none are named.
-    pub doc_ids: Option<&'a Vec<Value>>,
+    pub doc_ids: Option<&'v Vec<LineValue<'a>>>,
 }
 
 /// What an object asks by `audit`.
-pub fn read(value: &Value) -> Option<Audit<'_>>
-    ensures { needed (option_map audit_asked result) ≡ audit_in (view value.now) }
+pub fn read<'v, 'a>(value: &'v LineValue<'a>) -> Option<Audit<'v, 'a>>
+    ensures { needed (option_map audit_asked result) ≡ audit_in (line_view value.now) }
 {
     let source = name_member(value, "source")?;
     let target = name_member(value, "target")?;
@@ -46,7 +46,7 @@ pub fn read(value: &Value) -> Option<Audit<'_>>
 pub fn serve(
     alloc: Global,
     databases: &Databases,
-    ask: &Audit<'_>,
+    ask: &Audit<'_, '_>,
     answer: &mut Vec<u8>,
 ) -> Result<(), Refusal>
     requires { answer.old.items ≡ [] }

@@ -1,6 +1,6 @@
 //! `backup`: a copy of a database, kept under a name of its own.
 ghost use Rattle.std.specs.Prelude.{◌≡◌, ◌++◌, [], OnOk, option_map};
-ghost use Rattle.serde_json.specs.View.{view};
+ghost use Rattle.json_values.specs.LineView.{line_view};
 ghost use Rattle.script_engine.specs.Serving.{MayTell};
 ghost use Rattle.script_words.specs.Checks.{needed};
 ghost use Rattle.script_words.specs.Telling.{told_by};
@@ -8,8 +8,8 @@ ghost use Rattle.script_words.specs.words.Backup.{BacksUp, backed_line, backup_a
 
 use crate::members::{has_only_members, name_member};
 use crate::texts::push_number;
+use json_values::LineValue;
 use script_databases::{Databases, Refusal};
-use serde_json::Value;
 use std::alloc::{AllocError, Global};
 
 /// What a `backup` line asks.
@@ -21,8 +21,8 @@ pub struct Backup<'a> {
 }
 
 /// What an object asks by `backup`.
-pub fn read(value: &Value) -> Option<Backup<'_>>
-    ensures { needed (option_map backup_asked result) ≡ backup_in (view value.now) }
+pub fn read<'v>(value: &'v LineValue<'_>) -> Option<Backup<'v>>
+    ensures { needed (option_map backup_asked result) ≡ backup_in (line_view value.now) }
 {
     let db = name_member(value, "db")?;
     let name = name_member(value, "name")?;

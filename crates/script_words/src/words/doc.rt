@@ -1,6 +1,6 @@
 //! `doc`: a document at a revision, with its known ancestry.
 ghost use Rattle.std.specs.Prelude.{◌≡◌, ◌++◌, [], OnOk, option_map};
-ghost use Rattle.serde_json.specs.View.{view};
+ghost use Rattle.json_values.specs.LineView.{line_view};
 ghost use Rattle.doc_json.specs.DocText.{doc_text};
 ghost use Rattle.script_engine.specs.Serving.{MayTell};
 ghost use Rattle.script_words.specs.Checks.{needed};
@@ -11,10 +11,10 @@ ghost use Rattle.script_words.specs.words.Doc.{PrintsDocument, chosen, doc_asked
 use crate::given::{read_id, read_rev};
 use crate::members::{has_only_members, name_member, optional_text, text_member};
 use doc_json::write_doc;
+use json_values::LineValue;
 use rev_core::Rev;
 use rev_tree::Tree;
 use script_databases::{Databases, Refusal};
-use serde_json::Value;
 use std::alloc::{AllocError, Global};
 
 /// What a `doc` line asks.
@@ -27,8 +27,8 @@ pub struct Doc<'a> {
 }
 
 /// What an object asks by `doc`.
-pub fn read(value: &Value) -> Option<Doc<'_>>
-    ensures { needed (option_map doc_asked result) ≡ doc_in (view value.now) }
+pub fn read<'v>(value: &'v LineValue<'_>) -> Option<Doc<'v>>
+    ensures { needed (option_map doc_asked result) ≡ doc_in (line_view value.now) }
 {
     let db = name_member(value, "db")?;
     let id = text_member(value, "id")?;

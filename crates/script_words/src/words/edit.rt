@@ -1,6 +1,7 @@
 //! `edit`: a new revision of a document, behind a leaf.
-ghost use Rattle.std.specs.Prelude.{◌≡◌, ◌++◌, [], OnOk, option_map};
-ghost use Rattle.serde_json.specs.View.{view};
+ghost use Rattle.std.specs.Prelude.{◌≡◌, ◌++◌, [], OnOk, option_map, IfSome};
+ghost use Rattle.json_values.specs.LineView.{line_view};
+ghost use Rattle.json_values.specs.LineOrder.{IsOrdered};
 ghost use Rattle.script_engine.specs.Serving.{MayTell};
 ghost use Rattle.script_words.specs.Checks.{needed};
 ghost use Rattle.script_words.specs.Telling.{told_by};
@@ -9,24 +10,26 @@ ghost use Rattle.script_words.specs.words.Edit.{Edits, edit_asked, edit_in, edit
 use crate::given::{read_content_or_empty, read_id, read_rev};
 use crate::members::{has_only_members, name_member, optional_flag, optional_text, text_member};
 use crate::texts::{push_json, push_number, push_rev};
+use json_values::LineValue;
 use script_databases::{Databases, Edited, Refusal};
-use serde_json::Value;
 use std::alloc::{AllocError, Global};
 
 /// What an `edit` line asks.
 #[derive(Drop)]
-pub struct Edit<'a> {
-    pub db: &'a str,
-    pub id: &'a str,
+pub struct Edit<'v, 'a> {
+    pub db: &'v str,
+    pub id: &'v str,
     /// The revision behind which the new one goes.
-    pub parent: Option<&'a str>,
+    pub parent: Option<&'v str>,
     pub deleted: bool,
-    pub body: Option<&'a Value>,
+    pub body: Option<&'v LineValue<'a>>,
 }
 
 /// What an object asks by `edit`.
-pub fn read(value: &Value) -> Option<Edit<'_>>
-    ensures { needed (option_map edit_asked result) ≡ edit_in (view value.now) }
+pub fn read<'v, 'a>(value: &'v LineValue<'a>) -> Option<Edit<'v, 'a>>
+    requires { IsOrdered (line_view value.now) }
+    ensures asked { needed (option_map edit_asked result) ≡ edit_in (line_view value.now) }
+    ensures ordered { IfSome result (λ ask. IfSome ask.body (λ v. IsOrdered (line_view v.now))) }
 {
     let db = name_member(value, "db")?;
     let id = text_member(value, "id")?;
@@ -50,10 +53,11 @@ pub fn read(value: &Value) -> Option<Edit<'_>>
 pub fn serve(
     alloc: Global,
     databases: &mut Databases,
-    ask: &Edit<'_>,
+    ask: &Edit<'_, '_>,
     answer: &mut Vec<u8>,
 ) -> Result<(), Refusal>
-    requires { answer.old.items ≡ [] }
+    requires empty { answer.old.items ≡ [] }
+    requires ordered { IfSome ask.now.body (λ v. IsOrdered (line_view v.now)) }
     ensures { MayTell Edits databases.old (edit_asked ask.now) (told_by result answer.new.items) databases.new }
 {
     if !databases.has(ask.db) {

@@ -1,7 +1,8 @@
 //! `load`: a database is made, or a document is put into one.
-ghost use Rattle.std.specs.Prelude.{◌≡◌, ◌++◌, [], true, None, Some, OnOk, option_map};
+ghost use Rattle.std.specs.Prelude.{◌≡◌, ◌++◌, [], true, None, Some, OnOk, option_map, IfSome};
 ghost use Rattle.std.specs.FinMap.{contains_key};
-ghost use Rattle.serde_json.specs.View.{view};
+ghost use Rattle.json_values.specs.LineView.{line_view};
+ghost use Rattle.json_values.specs.LineOrder.{IsOrdered};
 ghost use Rattle.script_engine.specs.Serving.{MayTell};
 ghost use Rattle.script_databases.specs.Databases.{peer_at};
 ghost use Rattle.script_words.specs.Checks.{needed};
@@ -13,22 +14,24 @@ use crate::members::{has_only_members, name_member, optional_uuid};
 use crate::texts::{push_json, push_number, push_rev};
 use couch_base::Put;
 use doc_json::Doc;
+use json_values::LineValue;
 use script_databases::{Databases, Refusal};
-use serde_json::Value;
 use std::alloc::{AllocError, Global};
 
 /// What a `load` line asks.
 #[derive(Drop)]
-pub struct Load<'a> {
-    pub db: &'a str,
+pub struct Load<'v, 'a> {
+    pub db: &'v str,
     /// The number of the UUID of a database that is made.
     pub uuid: Option<u128>,
-    pub doc: Option<&'a Value>,
+    pub doc: Option<&'v LineValue<'a>>,
 }
 
 /// What an object asks by `load`.
-pub fn read(value: &Value) -> Option<Load<'_>>
-    ensures { needed (option_map load_asked result) ≡ load_in (view value.now) }
+pub fn read<'v, 'a>(value: &'v LineValue<'a>) -> Option<Load<'v, 'a>>
+    requires { IsOrdered (line_view value.now) }
+    ensures asked { needed (option_map load_asked result) ≡ load_in (line_view value.now) }
+    ensures ordered { IfSome result (λ ask. IfSome ask.doc (λ v. IsOrdered (line_view v.now))) }
 {
     let db = name_member(value, "db")?;
     let uuid = optional_uuid(value, "uuid")?;
@@ -43,10 +46,11 @@ pub fn read(value: &Value) -> Option<Load<'_>>
 pub fn serve(
     alloc: Global,
     databases: &mut Databases,
-    ask: &Load<'_>,
+    ask: &Load<'_, '_>,
     answer: &mut Vec<u8>,
 ) -> Result<(), Refusal>
-    requires { answer.old.items ≡ [] }
+    requires empty { answer.old.items ≡ [] }
+    requires ordered { IfSome ask.now.doc (λ v. IsOrdered (line_view v.now)) }
     ensures { MayTell Loads databases.old (load_asked ask.now) (told_by result answer.new.items) databases.new }
 {
     if databases.has(ask.db) {
@@ -66,13 +70,14 @@ fn load_there(
     alloc: Global,
     databases: &mut Databases,
     db: &str,
-    doc: Option<&Value>,
+    doc: Option<&LineValue<'_>>,
     answer: &mut Vec<u8>,
 ) -> Result<(), Refusal>
+    requires ordered { IfSome doc (λ v. IsOrdered (line_view v.now)) }
     requires empty { answer.old.items ≡ [] }
     requires there { contains_key databases.old.peers db.now ≡ true }
     ensures { MayTell Loads databases.old
-        (record { db = db.now; uuid = None; doc = option_map (λ v. view v.now) doc.entry })
+        (record { db = db.now; uuid = None; doc = option_map (λ v. line_view v.now) doc.entry })
         (told_by result answer.new.items) databases.new }
 {
     let given = match read_document(alloc, doc) {
@@ -101,13 +106,14 @@ fn load_given(
     databases: &mut Databases,
     db: &str,
     uuid: u128,
-    doc: Option<&Value>,
+    doc: Option<&LineValue<'_>>,
     answer: &mut Vec<u8>,
 ) -> Result<(), Refusal>
+    requires ordered { IfSome doc (λ v. IsOrdered (line_view v.now)) }
     requires empty { answer.old.items ≡ [] }
     requires absent { peer_at databases.old db.now ≡ None }
     ensures { MayTell Loads databases.old
-        (record { db = db.now; uuid = Some uuid; doc = option_map (λ v. view v.now) doc.entry })
+        (record { db = db.now; uuid = Some uuid; doc = option_map (λ v. line_view v.now) doc.entry })
         (told_by result answer.new.items) databases.new }
 {
     if databases.is_taken(uuid) {
@@ -125,13 +131,14 @@ fn load_made(
     alloc: Global,
     databases: &mut Databases,
     db: &str,
-    doc: Option<&Value>,
+    doc: Option<&LineValue<'_>>,
     answer: &mut Vec<u8>,
 ) -> Result<(), Refusal>
+    requires ordered { IfSome doc (λ v. IsOrdered (line_view v.now)) }
     requires empty { answer.old.items ≡ [] }
     requires absent { peer_at databases.old db.now ≡ None }
     ensures { MayTell Loads databases.old
-        (record { db = db.now; uuid = None; doc = option_map (λ v. view v.now) doc.entry })
+        (record { db = db.now; uuid = None; doc = option_map (λ v. line_view v.now) doc.entry })
         (told_by result answer.new.items) databases.new }
 {
     let given = match read_document(alloc, doc) {

@@ -1,6 +1,6 @@
 //! `log`: the log of a replication, as one of its sides holds it.
 ghost use Rattle.std.specs.Prelude.{◌≡◌, ◌++◌, [], OnOk, IfOk, option_map};
-ghost use Rattle.serde_json.specs.View.{view};
+ghost use Rattle.json_values.specs.LineView.{line_view};
 ghost use Rattle.repl_target.specs.Audit.{rep_between};
 ghost use Rattle.script_engine.specs.Serving.{MayTell};
 ghost use Rattle.script_words.specs.Checks.{needed};
@@ -10,20 +10,20 @@ ghost use Rattle.script_words.specs.words.Log.{Logs, log_asked, log_held, log_in
 
 use crate::given::read_choice;
 use crate::members::{has_only_members, name_member, optional_texts, text_member};
+use json_values::LineValue;
 use repl_log::{RepId, write_log};
 use repl_target::{Peer, Rules, rep_between};
 use script_databases::{Databases, Refusal};
-use serde_json::Value;
 use std::alloc::{AllocError, Global};
 
 /// What a `log` line asks.
 #[derive(Drop)]
-pub struct Log<'a> {
-    pub source: &'a str,
-    pub target: &'a str,
+pub struct Log<'v, 'a> {
+    pub source: &'v str,
+    pub target: &'v str,
     pub side: Side,
     /// The ids of the documents that are replicated, which are texts; all documents are where none are named.
-    pub doc_ids: Option<&'a Vec<Value>>,
+    pub doc_ids: Option<&'v Vec<LineValue<'a>>>,
 }
 
 /// A side of a replication.
@@ -34,8 +34,8 @@ pub enum Side {
 }
 
 /// What an object asks by `log`.
-pub fn read(value: &Value) -> Option<Log<'_>>
-    ensures { needed (option_map log_asked result) ≡ log_in (view value.now) }
+pub fn read<'v, 'a>(value: &'v LineValue<'a>) -> Option<Log<'v, 'a>>
+    ensures { needed (option_map log_asked result) ≡ log_in (line_view value.now) }
 {
     let source = name_member(value, "source")?;
     let target = name_member(value, "target")?;
@@ -53,8 +53,8 @@ pub fn read(value: &Value) -> Option<Log<'_>>
 }
 
 /// The side of a replication, which has to be there.
-fn side_member(value: &Value) -> Option<Side>
-    ensures { result ≡ side_at (view value.now) }
+fn side_member(value: &LineValue<'_>) -> Option<Side>
+    ensures { result ≡ side_at (line_view value.now) }
 {
     match text_member(value, "side") {
         Some("source") => Some(Side::Source),
@@ -67,7 +67,7 @@ fn side_member(value: &Value) -> Option<Side>
 pub fn serve(
     alloc: Global,
     databases: &Databases,
-    ask: &Log<'_>,
+    ask: &Log<'_, '_>,
     answer: &mut Vec<u8>,
 ) -> Result<(), Refusal>
     requires { answer.old.items ≡ [] }

@@ -1,7 +1,7 @@
 //! `replicate`: a replication from one database into another.
 ghost use Rattle.std.specs.Prelude.{◌≡◌, ◌<◌, ◌≤◌, ◌++◌, [], true, OnOk, IfOk, IfErr, option_map, string_bytes};
 ghost use Rattle.std.specs.FinMap.{contains_key};
-ghost use Rattle.serde_json.specs.View.{view};
+ghost use Rattle.json_values.specs.LineView.{line_view};
 ghost use Rattle.repl_log.specs.Text.{id_digits};
 ghost use Rattle.script_engine.specs.Serving.{MayTell};
 ghost use Rattle.script_databases.specs.Carrying.{CarriesFrom};
@@ -16,23 +16,23 @@ use crate::members::{
 };
 use crate::texts::push_number;
 use doc_json::Chosen;
+use json_values::LineValue;
 use repl_log::Moment;
 use repl_pool::PoolFault;
 use repl_target::{Plan, Report, TargetFault};
 use rev_tree::SessionId;
 use script_databases::{Databases, Refusal, Watched};
-use serde_json::Value;
 use std::alloc::{AllocError, Global};
 use std::sync::Wait;
 use std::thread::Threads;
 
 /// What a `replicate` line asks.
 #[derive(Drop)]
-pub struct Replicate<'a> {
-    pub source: &'a str,
-    pub target: &'a str,
+pub struct Replicate<'v, 'a> {
+    pub source: &'v str,
+    pub target: &'v str,
     /// The ids of the documents that are replicated, which are texts; all documents are where none are named.
-    pub doc_ids: Option<&'a Vec<Value>>,
+    pub doc_ids: Option<&'v Vec<LineValue<'a>>>,
     pub options: Options,
 }
 
@@ -68,8 +68,8 @@ enum Ending {
 }
 
 /// What an object asks by `replicate`.
-pub fn read(value: &Value) -> Option<Replicate<'_>>
-    ensures { needed (option_map replicate_asked result) ≡ replicate_in (view value.now) }
+pub fn read<'v, 'a>(value: &'v LineValue<'a>) -> Option<Replicate<'v, 'a>>
+    ensures { needed (option_map replicate_asked result) ≡ replicate_in (line_view value.now) }
 {
     let source = name_member(value, "source")?;
     let target = name_member(value, "target")?;
@@ -102,8 +102,8 @@ pub fn read(value: &Value) -> Option<Replicate<'_>>
 }
 
 /// What an object says of a replication besides its two sides and its documents.
-fn options_of(value: &Value) -> Option<Options>
-    ensures { needed result ≡ options_in (view value.now) }
+fn options_of(value: &LineValue<'_>) -> Option<Options>
+    ensures { needed result ≡ options_in (line_view value.now) }
 {
     let session = optional_uuid(value, "session")?;
     let workers = optional_whole(value, "workers")?;
@@ -129,7 +129,7 @@ pub fn serve<H: Threads + Wait + Sync>(
     rt: &H,
     alloc: Global,
     databases: &mut Databases,
-    ask: &Replicate<'_>,
+    ask: &Replicate<'_, '_>,
     answer: &mut Vec<u8>,
 ) -> Result<(), Refusal>
     requires { answer.old.items ≡ [] }
@@ -207,7 +207,7 @@ fn carry<H: Threads + Wait + Sync>(
     rt: &H,
     alloc: Global,
     databases: &mut Databases,
-    ask: &Replicate<'_>,
+    ask: &Replicate<'_, '_>,
     plan: &Plan,
 ) -> Result<Ending, Refusal>
     requires source { contains_key databases.old.peers ask.now.source.now ≡ true }
@@ -227,7 +227,7 @@ fn carry<H: Threads + Wait + Sync>(
 
 /// Whether a line asks for progress that a board can show: between two databases, by as many workers as a pool may
 /// have.
-fn is_watched(ask: &Replicate<'_>, plan: &Plan) -> bool
+fn is_watched(ask: &Replicate<'_, '_>, plan: &Plan) -> bool
     ensures { result ≡ is_watched (replicate_asked ask.now) plan.now }
 {
     ask.options.progress && ask.source != ask.target && plan.workers >= 1 && plan.workers <= 64

@@ -1,6 +1,6 @@
 //! `restore`: a database put back to a copy of it.
 ghost use Rattle.std.specs.Prelude.{◌≡◌, ◌++◌, [], OnOk, option_map};
-ghost use Rattle.serde_json.specs.View.{view};
+ghost use Rattle.json_values.specs.LineView.{line_view};
 ghost use Rattle.script_engine.specs.Serving.{MayTell};
 ghost use Rattle.script_words.specs.Checks.{needed};
 ghost use Rattle.script_words.specs.Telling.{told_by};
@@ -8,8 +8,8 @@ ghost use Rattle.script_words.specs.words.Restore.{Restores, left_part, restore_
 
 use crate::members::{has_only_members, name_member};
 use crate::texts::push_number;
+use json_values::LineValue;
 use script_databases::{Databases, PutBack, Refusal};
-use serde_json::Value;
 use std::alloc::AllocError;
 
 /// What a `restore` line asks.
@@ -21,8 +21,8 @@ pub struct Restore<'a> {
 }
 
 /// What an object asks by `restore`.
-pub fn read(value: &Value) -> Option<Restore<'_>>
-    ensures { needed (option_map restore_asked result) ≡ restore_in (view value.now) }
+pub fn read<'v>(value: &'v LineValue<'_>) -> Option<Restore<'v>>
+    ensures { needed (option_map restore_asked result) ≡ restore_in (line_view value.now) }
 {
     let db = name_member(value, "db")?;
     let name = name_member(value, "name")?;

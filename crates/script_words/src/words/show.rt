@@ -1,7 +1,7 @@
 //! `show`: a document's leaves, the winner first, each with its known ancestry.
 ghost use Rattle.std.specs.Prelude.{◌≡◌, ◌++◌, [], OnOk, option_map};
 ghost use Rattle.std.specs.List.{flat_map};
-ghost use Rattle.serde_json.specs.View.{view};
+ghost use Rattle.json_values.specs.LineView.{line_view};
 ghost use Rattle.rev_tree.specs.InOrder.{first_of};
 ghost use Rattle.rev_tree.specs.Tree.{is_deleted, leaves};
 ghost use Rattle.script_engine.specs.Serving.{MayTell};
@@ -13,10 +13,10 @@ ghost use Rattle.script_words.specs.words.Show.{Shows, head_line, leaf_line, sho
 use crate::given::read_id;
 use crate::members::{has_only_members, name_member, text_member};
 use crate::texts::{push_count, push_json, push_rev, push_revs};
+use json_values::LineValue;
 use rev_core::Rev;
 use rev_tree::Tree;
 use script_databases::{Databases, Refusal};
-use serde_json::Value;
 use std::alloc::{AllocError, Global};
 
 /// What a `show` line asks.
@@ -27,8 +27,8 @@ pub struct Show<'a> {
 }
 
 /// What an object asks by `show`.
-pub fn read(value: &Value) -> Option<Show<'_>>
-    ensures { needed (option_map show_asked result) ≡ show_in (view value.now) }
+pub fn read<'v>(value: &'v LineValue<'_>) -> Option<Show<'v>>
+    ensures { needed (option_map show_asked result) ≡ show_in (line_view value.now) }
 {
     let db = name_member(value, "db")?;
     let id = text_member(value, "id")?;

@@ -1,5 +1,5 @@
 use Rattle.std.proofs.Common.{◌≡◌, drop}
-use Rattle.serde_json.specs.View.{items_view}
+use Rattle.json_values.specs.LineView.{line_items}
 use Rattle.script_words.specs.Given.{ids_given}
 use Rattle.script_words.specs.Members.{texts_of}
 use Rattle.script_words.proofs.GivenLemmas.{joined}
@@ -7,4 +7,4 @@ use Rattle.script_words.proofs.given.read_ids.Given as goal
 
 -- the ids so far, and those of the rest, are those of all
 abbrev pub invariant-loop-item : goal.invariant-loop-item
-invariant-loop-item l = joined l.ids.items (ids_given (texts_of (items_view (drop l.item-index l.item-items)))) ≡ ids_given (texts_of (items_view l.item-items))
+invariant-loop-item l = joined l.ids.items (ids_given (texts_of (line_items (drop l.item-index l.item-items)))) ≡ ids_given (texts_of (line_items l.item-items))

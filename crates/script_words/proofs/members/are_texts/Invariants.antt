@@ -1,8 +1,8 @@
 use Rattle.std.proofs.Common.{◌≡◌, drop}
-use Rattle.serde_json.specs.View.{items_view}
+use Rattle.json_values.specs.LineView.{line_items}
 use Rattle.script_words.specs.Members.{are_texts}
 use Rattle.script_words.proofs.members.are_texts.Given as goal
 
 -- each item so far is one
 abbrev pub invariant-loop-item : goal.invariant-loop-item
-invariant-loop-item l = are_texts (items_view (drop l.item-index l.item-items)) ≡ are_texts (items_view l.item-items)
+invariant-loop-item l = are_texts (line_items (drop l.item-index l.item-items)) ≡ are_texts (line_items l.item-items)

@@ -20,9 +20,9 @@ returns-in-Err g c = line_refused c.args.databases.now c.args.line.now c.in-Err.
 pub returns-in_default : goal.returns-in_default
 returns-in_default g c =
     let o = c.in-Ok.ensures.ok in
-    in_full (Err why.BadCommand, inl (o.0, o.1, c.in_default.ensures ∙ ap asked_in o.2), (refl, refl))
+    in_full (Err why.BadCommand, inl (o.0, o.1, c.in_default.ensures.asked ∙ ap asked_in o.2), (refl, refl))
 
 pub returns : goal.returns
 returns g c =
     let o = c.in-Ok.ensures.ok in
-    may_tell (λ t a. (Ok (asked_of c.in-Some.word), inl (o.0, o.1, c.in-Some.ensures ∙ ap asked_in o.2), a)) c.serve.ensures
+    may_tell (λ t a. (Ok (asked_of c.in-Some.word), inl (o.0, o.1, c.in-Some.ensures.asked ∙ ap asked_in o.2), a)) c.serve.ensures

@@ -42,7 +42,7 @@ returns-in-Ok-print c =
     let body = c.in-Ok-read_content_or_empty.body in
     let edited = c.in-Ok-edit.edited in
     let deleted = c.args.ask.now.deleted in
-    let text = printed c.in-Ok-print.ensures c.requires (ap (λ (id : List ℕ). edited_line c.args.ask.now.db.now id edited) c.text.ensures.text) in
+    let text = printed c.in-Ok-print.ensures c.requires.empty (ap (λ (id : List ℕ). edited_line c.args.ask.now.db.now id edited) c.text.ensures.text) in
     let state = changed_is c.args.databases.now _ c.args.ask.now.db.now (λ x. after_edit x id parent deleted body) l.0 l.1 c.in-Ok-edit.ensures.ok in
     in_full (does c.args.databases.now c.print.new.answer.items
     (passes _ (is_found why.NoDatabase l.1) ∙ passes _ c.in-Ok.ensures ∙ passes _ (sym c.in-Ok-read_rev.ensures) ∙ passes _ c.in-Ok-read_content_or_empty.ensures
