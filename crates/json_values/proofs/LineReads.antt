@@ -1,10 +1,10 @@
 -- Values of a line: level by level, lists that grow at their end, and members that are put in.
-use Rattle.std.proofs.Common.{◌≡◌, ℕ, zero, suc, ◌+◌, ◌<◌, ◌≤◌, List, [], ◌∷◌, ◌++◌, length, take, drop, get_or, set, Bool, true, false, Option, Some, None, Ordering, Less, Equal, Greater, nat_cmp, Vec, Bor, Global, refl, sym, ap, ◌∙◌, arith, rules}
+use Rattle.std.proofs.Common.{◌≡◌, ℕ, List, [], ◌∷◌, ◌++◌, Option, Some, None, Ordering, Less, Equal, Greater, nat_cmp, Vec, Bor, Global, refl, ap, rules}
 use Rattle.std.specs.Ordering.{match_ordering}
 use Rattle.std.specs.Cmp.Lexicographic.{slice_cmp}
 use Rattle.json.specs.Token.{Token}
 use Rattle.json.specs.Json.{parse_map}
-use Rattle.serde_json.specs.Data.{Data, array, object, Items, no_items, item, Members, no_members, member, put}
+use Rattle.serde_json.specs.Data.{array, object, Items, no_items, item, member, put}
 use Rattle.json_values.specs.LineView.{line_view, line_items, line_members}
 use Rattle.json_values.specs.Entries.{Entry, put_entry}
 use Rattle.json_values.specs.declared.line.LineValue.{LineValue, Array, Object, the_lemmas}

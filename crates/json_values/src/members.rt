@@ -29,7 +29,6 @@ impl<'a, T: Drop> Members<'a, T> {
     }
 
     /// Puts a member among those that are there. One of its name keeps its place and takes the value.
-    #[inline(always)]
     pub(crate) fn put(&mut self, alloc: Global, name: &'a str, value: T) -> Result<(), AllocError>
         requires { IsRising (entries_of self.old) }
         ensures { OnOk result (entries_of self.new ≡ put_entry name.entry value (entries_of self.old)) }
@@ -42,7 +41,6 @@ impl<'a, T: Drop> Members<'a, T> {
     }
 
     /// Goes over to a map, where there are many members and one of this name does not come last.
-    #[inline(always)]
     fn make_room(&mut self, alloc: Global, name: &str) -> Result<(), AllocError>
         requires { IsRising (entries_of self.old) }
         ensures { OnOk result (entries_of self.new ≡ entries_of self.old) }
@@ -68,8 +66,6 @@ impl<'a, T: Drop> Members<'a, T> {
 }
 
 /// The map of members that stand in order.
-#[cold]
-#[inline(never)]
 fn map_of<'a, T: Drop>(
     alloc: Global,
     entries: Vec<(&'a str, T)>,
@@ -87,7 +83,6 @@ fn map_of<'a, T: Drop>(
 }
 
 /// Puts a member into a map.
-#[inline(never)]
 fn put_mapped<'a, T: Drop>(
     map: &mut BTreeMap<&'a str, T>,
     name: &'a str,

@@ -1,4 +1,4 @@
-use Rattle.std.proofs.Common.{◌≡◌, ℕ, List, Bor, ◌+◌, [], ◌∷◌, drop, length, sym, ap, ◌∙◌, arith, rules, refl}
+use Rattle.std.proofs.Common.{◌≡◌, ℕ, List, Bor, ◌+◌, [], ◌∷◌, drop, sym, ap, ◌∙◌, arith, refl}
 use Rattle.std.proofs.lemmas.List.{drop_more, drop_all}
 use Rattle.serde_json.specs.Find.{get_member}
 use Rattle.json_values.specs.declared.line.LineValue.{LineValue}

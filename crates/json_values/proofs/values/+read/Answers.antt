@@ -6,7 +6,7 @@ use Rattle.json.proofs.Grammar.{value_is, read_key-shorter}
 use Rattle.serde_json.specs.Data.{null, boolean, number, string, array, object}
 use Rattle.serde_json.specs.Read.{of_json, of_items, of_members, converted, number_of}
 use Rattle.serde_json.specs.View.{number_view}
-use Rattle.json_values.specs.LineView.{line_view, line_items, line_members}
+use Rattle.json_values.specs.LineView.{line_view, line_members}
 use Rattle.json_values.specs.declared.line.LineValue.{LineValue, String, Number, Bool, Null, the_lemmas}
 use Rattle.json_values.specs.Entries.{IsRising}
 use Rattle.json_values.specs.Members.{entries_of}
