@@ -8,8 +8,8 @@ use Rattle.repl_target.specs.declared.sync.Synced.{Synced}
 use Rattle.repl_pool.specs.Runs.{Runs}
 use Rattle.repl_pool.specs.declared.gate.Place.{Place}
 use Rattle.repl_pool.specs.declared.fault.PoolFault.{PoolFault}
-use Rattle.repl_pool.specs.declared.sync.SyncFault.{SyncFault}
-use Rattle.repl_pool.specs.declared.sync.SyncFault.TheVariants as faults
+use Rattle.repl_pool.specs.declared.both_ways.SyncFault.{SyncFault}
+use Rattle.repl_pool.specs.declared.both_ways.SyncFault.TheVariants as faults
 
 -- What running a into b and then b into a gives back, and how that ended: one run each way, the second where the first
 -- was refused nothing.

@@ -4,6 +4,7 @@
 #![tactic(auto)]
 
 mod begin;
+mod both_ways;
 mod crew;
 mod desk;
 mod end;
@@ -21,15 +22,14 @@ mod running;
 mod seats;
 mod show;
 mod start;
-mod sync;
 mod threads;
 mod totals;
 mod windows;
 mod writer;
 
+pub use both_ways::{SyncFault, SyncRan, sync};
 pub use fault::PoolFault;
 pub use gate::{Gate, Open, Place, Turn};
 pub use progress_board::{Board, BoardFault, BoardSeat};
 pub use running::{Ran, run, run_on};
 pub use seats::{Seats, board_with_seats};
-pub use sync::{SyncFault, SyncRan, sync};
