@@ -1,5 +1,5 @@
 -- The members of a line's object, one after another, in order.
-use Rattle.std.proofs.Common.{◌≡◌, ℕ, ◌||◌, true≢false, List, [], ◌∷◌, ◌++◌, Bool, true, false, Less, Greater, nat_cmp, Bor, refl, sym, ap, ◌∙◌, if◌then◌else◌}
+use Rattle.std.proofs.Common.{◌≡◌, ℕ, ◌||◌, true≢false, List, [], ◌∷◌, ◌++◌, Bool, true, false, Less, Greater, nat_cmp, refl, ap, ◌∙◌, if◌then◌else◌}
 use Rattle.std.proofs.lemmas.Cmp.{nat_list_cmp_total}
 use Rattle.std.specs.Cmp.Lexicographic.{slice_cmp}
 use Rattle.std.specs.Ordering.{ordering_reverse, match_ordering}

@@ -1,10 +1,9 @@
 //! The members `_rev` and `_revisions` of a line's document.
-ghost use Rattle.std.specs.Prelude.{◌≡◌, ◌≤◌, [], ◌∷◌, List, Some, Ok, Err, IfSome, IfNone, IsOk, IfOk, IfErr, OnOk};
+ghost use Rattle.std.specs.Prelude.{◌≡◌, ◌≤◌, List, Some, Ok, Err, IfSome, IfNone, IsOk, IfOk, IfErr, OnOk};
 ghost use Rattle.std.specs.Prelude.{codes, length, is_some, is_ok, option_map, option_and_then, slice_get};
-ghost use Rattle.std.specs.Ordering.{eq_by_cmp};
 ghost use Rattle.json_values.specs.LineView.{line_view, line_items};
 ghost use Rattle.serde_json.specs.Find.{get, as_array, as_str};
-ghost use Rattle.rev_core.specs.Rev.{RevId, rev_cmp};
+ghost use Rattle.rev_core.specs.Rev.{RevId};
 ghost use Rattle.rev_core.specs.Ancestry.{numbered};
 ghost use Rattle.doc_json.specs.Revisions.{rev_member, with_revisions, revisions_beside, matched, agrees};
 ghost use Rattle.doc_json.specs.Revisions.{numbered_beside, start_of, numbered_from, sigs_of, sig_of};

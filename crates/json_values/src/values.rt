@@ -1,7 +1,7 @@
 //! From tokens to a value whose texts stand where they were read.
-ghost use Rattle.std.specs.Prelude.{◌≡◌, ◌<◌, ◌≤◌, ◌+◌, ◌++◌, length, take, drop, true, if◌then◌else◌, Some, None, IfOk, IfErr, OnOk, Bool};
+ghost use Rattle.std.specs.Prelude.{◌≡◌, ◌<◌, length, Some, None, IfOk, OnOk};
 ghost use Rattle.json.specs.Json.{value, items, members};
-ghost use Rattle.serde_json.specs.Data.{Data, member, no_members, put};
+ghost use Rattle.serde_json.specs.Data.{no_members};
 ghost use Rattle.serde_json.specs.Read.{converted, of_json, of_items, of_members};
 ghost use Rattle.json_values.specs.LineView.{line_view, line_items, line_members};
 

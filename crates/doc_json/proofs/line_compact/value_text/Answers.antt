@@ -1,6 +1,5 @@
-use Rattle.std.proofs.Common.{◌≡◌, List, [], ◌++◌, ap, subst, ◌∙◌, rules}
+use Rattle.std.proofs.Common.{◌≡◌, List, [], ap, subst, ◌∙◌, rules}
 use Rattle.json.specs.Token.{Token}
-use Rattle.json.specs.Tree as tree
 use Rattle.json.specs.Lex.{tokens}
 use Rattle.json.specs.Print.{print}
 use Rattle.serde_json.specs.Written.{WritesValue}

@@ -1,4 +1,4 @@
-use Rattle.std.proofs.Common.{◌≡◌, ◌≤◌, List, ◌++◌, take, drop, false, Some}
+use Rattle.std.proofs.Common.{◌≡◌, ◌≤◌, ◌++◌, take, drop, false, Some}
 use Rattle.json.specs.Json as json
 use Rattle.json.specs.Tree as tree
 use Rattle.serde_json.specs.Data.{members_depth}

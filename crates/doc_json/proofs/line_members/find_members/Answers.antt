@@ -5,7 +5,7 @@ use Rattle.serde_json.specs.Written.{has_float, members_have_float}
 use Rattle.json_values.specs.LineView.{line_view, line_members}
 use Rattle.json_values.specs.declared.line.LineValue.{LineValue}
 use Rattle.doc_json.specs.DocId.{is_special}
-use Rattle.doc_json.specs.Members.{has_unknown, is_unknown, plain_members}
+use Rattle.doc_json.specs.Members.{has_unknown, plain_members}
 use Rattle.doc_json.proofs.Kept.{more}
 use Rattle.doc_json.proofs.line_members.find_members.Goals as goal
 

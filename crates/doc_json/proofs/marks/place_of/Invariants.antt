@@ -1,4 +1,4 @@
-use Rattle.std.proofs.Common.{◌≡◌, ◌-◌, ◌<◌, drop, length}
+use Rattle.std.proofs.Common.{◌≡◌, ◌<◌, drop}
 use Rattle.doc_json.specs.Marks.{place_of, place_from}
 use Rattle.doc_json.proofs.marks.place_of.Given as goal
 
