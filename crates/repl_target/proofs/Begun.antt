@@ -29,6 +29,8 @@ pub record Later (source target : PeerValue) (plan : Plan) (now : PeerValue) : T
   pub held : Among session now.sessions
   pub id : session.id ≡ plan.session
   pub rep : session.rep ≡ rep_between source target plan.chosen
+  pub life : session.life ≡ source.db.life
+  pub base : session.base ≡ base_at (checkpoint_of source target plan.chosen)
   pub start : session.front.start ≡ start_between source target plan.chosen
   pub goal : session.goal ≡ source.db.update_seq
   pub tied : (w : WindowValue) → Among w session.windows → IsTiedWindow source.db plan.chosen w
@@ -60,6 +62,8 @@ later_session refuses source target plan now law l ok grown =
       held = held;
       id = k.2.id;
       rep = k.2.rep;
+      life = k.2.life;
+      base = k.2.base;
       start = k.2.start;
       goal = k.2.goal;
       tied = λ w n. stored k.0 k.1 k.2.id w n;

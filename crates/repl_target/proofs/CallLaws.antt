@@ -26,7 +26,7 @@ use Rattle.repl_target.specs.Law.{LawfulSessions}
 use Rattle.repl_target.specs.Later.{IsLaterPeer}
 use Rattle.couch_base.specs.MemberLaws.{Among-map, Among-push}
 use Rattle.repl_target.proofs.LaterPeers.{IsLaterPeer-same, IsLaterPeer-later, session_found}
-use Rattle.repl_target.proofs.CallsKeepLaw.{load_law, load_later, edit_law, edit_later, takes, append_law, append_later, record_law, record_later, conclude_law, conclude_later}
+use Rattle.repl_target.proofs.CallsKeepLaw.{takes, append_law, append_later, record_law, record_later, conclude_law, conclude_later}
 use Rattle.repl_target.proofs.SettlingKeepsLaw.{settle_told, after_settle_law, after_stop_law}
 use Rattle.repl_target.specs.Ties.{IsTiedWindow}
 use Rattle.repl_target.specs.Calls.{Call, Load, Edit, Begin, Append, Settle, Stop, Record, Conclude, after_call, after_calls, IsPageOf, IsFrom, AllFrom, EachStored}
@@ -47,8 +47,8 @@ page_window db c w law p =
 
 -- what a call leaves of a lawful peer
 pub call_law : (refuses : Document → Bool) (source : DatabaseValue) (chosen : Choice) (run : SessionId) (p : PeerValue) (c : Call) → LawfulDatabase source → IsFrom source chosen run c → LawfulSessions refuses p → LawfulSessions refuses (after_call refuses p c) × IsLaterPeer p (after_call refuses p c)
-call_law refuses source chosen run p (Load doc) law from l = (load_law refuses p doc l, load_later p doc)
-call_law refuses source chosen run p (Edit id parent deleted body) law from l = (edit_law refuses p id parent deleted body l, edit_later p id parent deleted body)
+call_law refuses source chosen run p (Load doc) law from l = absurd from
+call_law refuses source chosen run p (Edit id parent deleted body) law from l = absurd from
 call_law refuses source chosen run p (Begin session beginning at) law from l = absurd from
 call_law refuses source chosen run p (Append session window) law from l =
     let w = page_window source chosen window law from.1 in
@@ -184,8 +184,8 @@ stores-more Q P w s is h = λ q v n. elim (Among-push v s.windows w n) [ inl old
 -- a call whose messages are the source's brings tied windows
 from_stores : (Q : SessionId → RepId → Type 0) (source : DatabaseValue) (chosen : Choice) (run : SessionId) (p : PeerValue) (c : Call) → LawfulDatabase source → IsFrom source chosen run c
     → Brings (Stores Q (IsTiedWindow source chosen)) (stores-stays Q (IsTiedWindow source chosen)) p c
-from_stores Q source chosen run p (Load doc) law from = tt
-from_stores Q source chosen run p (Edit id parent deleted body) law from = tt
+from_stores Q source chosen run p (Load doc) law from = absurd from
+from_stores Q source chosen run p (Edit id parent deleted body) law from = absurd from
 from_stores Q source chosen run p (Begin session beginning at) law from = absurd from
 from_stores Q source chosen run p (Append session window) law from =
     λ s _ _ _ h. stores-more Q (IsTiedWindow source chosen) window s (page_window source chosen window law from.1).2 h
@@ -211,8 +211,8 @@ run-stays : (run : SessionId) (chosen : Choice) (s t : SessionValue) → Stays s
 run-stays run chosen s t k h = λ own. ap (λ (r : RepId). r.chosen) k.rep ∙ h (sym k.id ∙ own)
 
 from_runs : (source : DatabaseValue) (chosen : Choice) (run : SessionId) (p : PeerValue) (c : Call) → IsFrom source chosen run c → Brings (IsRunOf run chosen) (run-stays run chosen) p c
-from_runs source chosen run p (Load doc) from = tt
-from_runs source chosen run p (Edit id parent deleted body) from = tt
+from_runs source chosen run p (Load doc) from = absurd from
+from_runs source chosen run p (Edit id parent deleted body) from = absurd from
 from_runs source chosen run p (Begin session beginning at) from = absurd from
 from_runs source chosen run p (Append session window) from = λ s _ _ _ h. h
 from_runs source chosen run p (Settle session parcel) from = tt

@@ -19,6 +19,7 @@ use Rattle.repl_target.specs.Law.{LawfulSessions, session_numbers}
 use Rattle.repl_target.specs.Sessions.{found_answer, on_found, on_session, new_session, begun, append_in, append_answer, with_window, after_append, recorded_at, report_of, conclude_in, conclude_answer, after_conclude}
 use Rattle.repl_target.specs.Settling.{settling_of, with_settling, settle_docs, settle_check, with_done, after_all, Settles, SettleGives}
 use Rattle.repl_target.specs.Replication.{Reading, is_batch, plan_answer, parcel_for, Carries, Reads, start_between, begins_answer, after_begins, first_reading, closed_as, closed, told_by, Closes, is_due, CoversFrom, IsReported, ReadsAll, ReadsUntil, Replicates, not_planned, no_memory, not_begun, cut, ended, beginning_between}
+use Rattle.repl_target.specs.declared.beginning.Beginning.{Beginning}
 use Rattle.repl_target.specs.declared.fault.Report.{Report}
 use Rattle.repl_target.specs.declared.fault.Settled.{Settled}
 use Rattle.repl_target.specs.declared.fault.TargetFault.{TargetFault}
@@ -90,6 +91,9 @@ page_within db since goal limit c h =
 -- a session as it is later: with the windows that it had, and no others
 record GoesOn (s t : SessionValue) : Type 0 where
   id : t.id ≡ s.id
+  rep : t.rep ≡ s.rep
+  life : t.life ≡ s.life
+  base : t.base ≡ s.base
   goal : t.goal ≡ s.goal
   start : t.front.start ≡ s.front.start
   end : end_of t.front ≡ end_of s.front
@@ -118,6 +122,9 @@ settled_session refuses p id parcel settled q s l held same gives = go (settle_c
           with_session_holds (with_settling p z).sessions z.session done d.held refl,
           record {
             id = d.keeps.id ∙ ap (λ (x : SessionValue). x.id) own;
+            rep = d.keeps.rep ∙ ap (λ (x : SessionValue). x.rep) own;
+            life = d.keeps.life ∙ ap (λ (x : SessionValue). x.life) own;
+            base = d.keeps.base ∙ ap (λ (x : SessionValue). x.base) own;
             goal = d.keeps.goal ∙ ap (λ (x : SessionValue). x.goal) own;
             start = d.keeps.start ∙ ap (λ (x : SessionValue). x.front.start) own;
             end = end_of-finished z.session.front at.1.lo at.1.hi ∙ ap end_of d.front ∙ ap (λ (x : SessionValue). end_of x.front) own;
@@ -129,6 +136,9 @@ settled_session refuses p id parcel settled q s l held same gives = go (settle_c
           d.held,
           record {
             id = d.keeps.id ∙ ap (λ (x : SessionValue). x.id) own;
+            rep = d.keeps.rep ∙ ap (λ (x : SessionValue). x.rep) own;
+            life = d.keeps.life ∙ ap (λ (x : SessionValue). x.life) own;
+            base = d.keeps.base ∙ ap (λ (x : SessionValue). x.base) own;
             goal = d.keeps.goal ∙ ap (λ (x : SessionValue). x.goal) own;
             start = d.keeps.start ∙ ap (λ (x : SessionValue). x.front.start) own;
             end = ap end_of d.front ∙ ap (λ (x : SessionValue). end_of x.front) own;
@@ -139,19 +149,23 @@ settled_session refuses p id parcel settled q s l held same gives = go (settle_c
 
 -- ---- how far it is
 
--- the target is lawful, and its session stores each row of the source's feed from its start up to where it is read
-pub record Underway (refuses : Document → Bool) (source : DatabaseValue) (plan : Plan) (start : ℕ) (now : Reading) : Type 0 where
+-- the target is lawful, and its session, which keeps what it began with, stores each row of the source's feed from its
+-- start up to where it is read
+pub record Underway (refuses : Document → Bool) (source : DatabaseValue) (plan : Plan) (b : Beginning) (now : Reading) : Type 0 where
   pub law : LawfulSessions refuses now.target
   pub session : SessionValue
   pub held : Among session now.target.sessions
   pub id : session.id ≡ plan.session
+  pub rep : session.rep ≡ b.rep
+  pub life : session.life ≡ b.life
+  pub base : session.base ≡ b.base
   pub goal : session.goal ≡ source.update_seq
-  pub begins : session.front.start ≡ start
+  pub begins : session.front.start ≡ b.start
   pub end : end_of session.front ≡ now.since
-  pub rows : (row : RowValue) → Among row (chosen_feed plan.chosen source start source.update_seq) → ((w : WindowValue) × Among w session.windows × Among row w.rows) ⊎ Among row (chosen_feed plan.chosen source now.since source.update_seq)
+  pub rows : (row : RowValue) → Among row (chosen_feed plan.chosen source b.start source.update_seq) → ((w : WindowValue) × Among w session.windows × Among row w.rows) ⊎ Among row (chosen_feed plan.chosen source now.since source.update_seq)
 
 -- the session as it begins
-pub begun_underway : (refuses : Document → Bool) (source target : PeerValue) (plan : Plan) → begins_answer source target plan ≡ Ok tt → LawfulSessions refuses (after_begins source target plan) → Underway refuses source.db plan (start_between source target plan.chosen) (first_reading source target plan)
+pub begun_underway : (refuses : Document → Bool) (source target : PeerValue) (plan : Plan) → begins_answer source target plan ≡ Ok tt → LawfulSessions refuses (after_begins source target plan) → Underway refuses source.db plan (beginning_between source target plan.chosen) (first_reading source target plan)
 begun_underway refuses source target plan ok l =
     let new = new_session plan.session (beginning_between source target plan.chosen) plan.at in
     let is : after_begins source target plan ≡ record target { sessions = new ∷ target.sessions } = ap (begun target new) ok in
@@ -160,13 +174,16 @@ begun_underway refuses source target plan ok l =
       session = new;
       held = subst (λ (q : PeerValue). Among new q.sessions) (sym is) (inl refl);
       id = refl;
+      rep = refl;
+      life = refl;
+      base = refl;
       goal = refl;
       begins = refl;
       end = refl;
       rows = λ row m. inr m;
     }
 
-module _ (refuses : Document → Bool) (source : DatabaseValue) (plan : Plan) (start : ℕ) (law : LawfulDatabase source) (batch : is_batch plan.batch ≡ true) where
+module _ (refuses : Document → Bool) (source : DatabaseValue) (plan : Plan) (b : Beginning) (law : LawfulDatabase source) (batch : is_batch plan.batch ≡ true) where
   -- the session with a further window
   stored : (p : PeerValue) (w : WindowValue) (s : SessionValue) → session_in p.sessions plan.session ≡ Some s → append_answer p plan.session w ≡ Ok tt
       → after_append p plan.session w ≡ record p { sessions = with_session p.sessions (with_window w s (Ok tt)) }
@@ -175,7 +192,7 @@ module _ (refuses : Document → Bool) (source : DatabaseValue) (plan : Plan) (s
       ap (on_found p (λ (x : SessionValue). with_window w x (append_in w x))) is ∙ (λ i. record p { sessions = with_session p.sessions (with_window w s (told i)) })
 
   -- one window more
-  pub carried : (before after : Reading) → Carries refuses source plan before after → Underway refuses source plan start before → Underway refuses source plan start after
+  pub carried : (before after : Reading) → Carries refuses source plan before after → Underway refuses source plan b before → Underway refuses source plan b after
   carried before after c u =
       let s = u.session in
       let w = c.window in
@@ -193,6 +210,9 @@ module _ (refuses : Document → Bool) (source : DatabaseValue) (plan : Plan) (s
         session = t.0;
         held = t.1;
         id = t.2.id ∙ u.id;
+        rep = t.2.rep ∙ u.rep;
+        life = t.2.life ∙ u.life;
+        base = t.2.base ∙ u.base;
         goal = t.2.goal ∙ u.goal;
         begins = t.2.start ∙ u.begins;
         end = t.2.end ∙ end_of-appended s.front w.hi ∙ sym c.reached;
@@ -207,8 +227,8 @@ module _ (refuses : Document → Bool) (source : DatabaseValue) (plan : Plan) (s
         ];
       }
 
-  pub reads_on : (n : ℕ) (from now : Reading) → Reads refuses source plan n from now → Underway refuses source plan start from → Underway refuses source plan start now
-  reads_on zero from now is u = subst (Underway refuses source plan start) (sym is) u
+  pub reads_on : (n : ℕ) (from now : Reading) → Reads refuses source plan n from now → Underway refuses source plan b from → Underway refuses source plan b now
+  reads_on zero from now is u = subst (Underway refuses source plan b) (sym is) u
   reads_on (suc n) from now r u = carried r.0 now r.3 (reads_on n from r.0 r.1 u)
 
 -- ---- the end
@@ -231,7 +251,7 @@ pub concluded : (answer : Result Report TargetFault) (put : Result (Unit {0}) Ta
 concluded answer (Ok done) report h = h
 concluded answer (Err why) report h = absurd (false≢true (ap is_ok h))
 
-module _ (refuses : Document → Bool) (source target : PeerValue) (plan : Plan) (start : ℕ) (now : Reading) (u : Underway refuses source.db plan start now) where
+module _ (refuses : Document → Bool) (source target : PeerValue) (plan : Plan) (b : Beginning) (now : Reading) (u : Underway refuses source.db plan b now) where
   -- the session is recorded at its goal
   record Recorded (report : Report) (target' : PeerValue) : Type 0 where
     session : SessionValue
@@ -260,11 +280,11 @@ module _ (refuses : Document → Bool) (source target : PeerValue) (plan : Plan)
       }
 
   -- so all that was to be read is covered
-  pub closes_covered : (report : Report) (source' target' : PeerValue) → Closes source now.target plan (Ok report) source' target' → CoversFrom source target' plan.chosen start
+  pub closes_covered : (report : Report) (source' target' : PeerValue) → Closes source now.target plan (Ok report) source' target' → CoversFrom source target' plan.chosen b.start
   closes_covered report source' target' c row m leaf k =
       let r = recorded report source' target' c in
       let s = u.session in
-      let under : row.seq ≤ source.db.update_seq = each_member (λ (x : RowValue). x.seq ≤ source.db.update_seq) row _ (rows_below start source.db.update_seq source.db.docs) (among_chosen plan.chosen row (feed source.db start source.db.update_seq) m) in
+      let under : row.seq ≤ source.db.update_seq = each_member (λ (x : RowValue). x.seq ≤ source.db.update_seq) row _ (rows_below b.start source.db.update_seq source.db.docs) (among_chosen plan.chosen row (feed source.db b.start source.db.update_seq) m) in
       elim (u.rows row m) [
         | inl old ↦
             honest_is refuses target' r.law r.session r.held old.0 (subst (λ (x : SessionValue). Among old.0 x.windows) (sym r.is) old.1) row old.2
@@ -278,7 +298,7 @@ module _ (refuses : Document → Bool) (source target : PeerValue) (plan : Plan)
   closes_lawful report source' target' c = (recorded report source' target' c).law
 
   -- and the report is the session's
-  pub closes_reported : start ≡ start_between source target plan.chosen → (report : Report) (source' target' : PeerValue) → Closes source now.target plan (Ok report) source' target' → IsReported source target target' plan report
+  pub closes_reported : b ≡ beginning_between source target plan.chosen → (report : Report) (source' target' : PeerValue) → Closes source now.target plan (Ok report) source' target' → IsReported source target target' plan report
   closes_reported from report source' target' c =
       let r = recorded report source' target' c in
       let s = u.session in
@@ -287,7 +307,11 @@ module _ (refuses : Document → Bool) (source target : PeerValue) (plan : Plan)
         session = r.session;
         held = found-is target'.sessions plan.session r.session r.law.distinct r.held (ap (λ (x : SessionValue). x.id) r.is ∙ u.id);
         is = told;
-        start = ap (λ (x : Report). x.start) r.concluded.is ∙ u.begins ∙ from;
+        rep = ap (λ (x : SessionValue). x.rep) r.is ∙ u.rep ∙ ap (λ (x : Beginning). x.rep) from;
+        life = ap (λ (x : SessionValue). x.life) r.is ∙ u.life ∙ ap (λ (x : Beginning). x.life) from;
+        base = ap (λ (x : SessionValue). x.base) r.is ∙ u.base ∙ ap (λ (x : Beginning). x.base) from;
+        goal = ap (λ (x : SessionValue). x.goal) r.is ∙ u.goal;
+        start = ap (λ (x : Report). x.start) r.concluded.is ∙ u.begins ∙ ap (λ (x : Beginning). x.start) from;
         recorded = ap (λ (x : Report). x.recorded) r.concluded.is ∙ r.concluded.reached ∙ u.goal;
         counts = ap (λ (x : Report). x.read) told ∙ (r.law.sessions r.session r.held).read ∙ ap (λ (x : Report). x.written + x.failures) (sym told);
       }
@@ -302,8 +326,8 @@ held-found sessions id s held number = go (session_in sessions id) refl
     go None e = absurd (not_missed (is_of id) sessions s held (eq-eqb s.id.0 id.0 number) e)
     go (Some t) e = (t, refl)
 
-pub underway-found : (refuses : Document → Bool) (source : DatabaseValue) (plan : Plan) (start : ℕ) (now : Reading) → Underway refuses source plan start now → (t : SessionValue) × (session_in now.target.sessions plan.session ≡ Some t)
-underway-found refuses source plan start now u = held-found now.target.sessions plan.session u.session u.held (ap (λ (i : SessionId). i.0) u.id)
+pub underway-found : (refuses : Document → Bool) (source : DatabaseValue) (plan : Plan) (b : Beginning) (now : Reading) → Underway refuses source plan b now → (t : SessionValue) × (session_in now.target.sessions plan.session ≡ Some t)
+underway-found refuses source plan b now u = held-found now.target.sessions plan.session u.session u.held (ap (λ (i : SessionId). i.0) u.id)
 
 -- a change of a session leaves it to be found
 changed-found : (p : PeerValue) (id : SessionId) (change : SessionValue → SessionValue) → ((x : SessionValue) → (change x).id ≡ x.id) → (s : SessionValue) → session_in p.sessions id ≡ Some s
@@ -377,16 +401,16 @@ planned_batch source target plan h =
 module _ (refuses : Document → Bool) (source target : PeerValue) (plan : Plan) (from : Reading) (read : PeerValue) where
   record AllRead : Type 0 where
     now : Reading
-    underway : Underway refuses source.db plan (start_between source target plan.chosen) now
+    underway : Underway refuses source.db plan (beginning_between source target plan.chosen) now
     is : read ≡ now.target
 
   all_read : Started source target plan from → LawfulDatabase source.db → LawfulSessions refuses from.target → ReadsAll refuses source.db plan from read → AllRead
   all_read s law lawful reads =
       let first = begun_underway refuses source target plan s.begun (subst (λ (f : Reading). LawfulSessions refuses f.target) s.is lawful) in
-      let start = subst (Underway refuses source.db plan (start_between source target plan.chosen)) (sym s.is) first in
+      let start = subst (Underway refuses source.db plan (beginning_between source target plan.chosen)) (sym s.is) first in
       record {
         now = reads.1;
-        underway = reads_on refuses source.db plan (start_between source target plan.chosen) law (planned_batch source target plan s.planned) reads.0 from reads.1 reads.2 start;
+        underway = reads_on refuses source.db plan (beginning_between source target plan.chosen) law (planned_batch source target plan s.planned) reads.0 from reads.1 reads.2 start;
         is = reads.4;
       }
 
@@ -394,25 +418,25 @@ module _ (refuses : Document → Bool) (source target : PeerValue) (plan : Plan)
       → (t : SessionValue) × (session_in read.sessions plan.session ≡ Some t)
   all-found s law lawful reads =
       let a = all_read s law lawful reads in
-      subst (λ (q : PeerValue). (t : SessionValue) × (session_in q.sessions plan.session ≡ Some t)) (sym a.is) (underway-found refuses source.db plan (start_between source target plan.chosen) a.now a.underway)
+      subst (λ (q : PeerValue). (t : SessionValue) × (session_in q.sessions plan.session ≡ Some t)) (sym a.is) (underway-found refuses source.db plan (beginning_between source target plan.chosen) a.now a.underway)
 
   pub all-covered : (result : Result Report TargetFault) (source' target' : PeerValue) → Started source target plan from → LawfulDatabase source.db → LawfulSessions refuses from.target → ReadsAll refuses source.db plan from read
       → Closes source read plan result source' target' → OnOk result (CoversFrom source target' plan.chosen (start_between source target plan.chosen))
   all-covered (Err why) source' target' s law lawful reads closes = tt
   all-covered (Ok report) source' target' s law lawful reads closes =
       let a = all_read s law lawful reads in
-      closes_covered refuses source target plan (start_between source target plan.chosen) a.now a.underway report source' target' (subst (λ q. Closes source q plan (Ok report) source' target') a.is closes)
+      closes_covered refuses source target plan (beginning_between source target plan.chosen) a.now a.underway report source' target' (subst (λ q. Closes source q plan (Ok report) source' target') a.is closes)
 
   pub all-reported : (result : Result Report TargetFault) (source' target' : PeerValue) → Started source target plan from → LawfulDatabase source.db → LawfulSessions refuses from.target → ReadsAll refuses source.db plan from read
       → Closes source read plan result source' target' → IfOk result (λ report. IsReported source target target' plan report)
   all-reported (Err why) source' target' s law lawful reads closes = tt
   all-reported (Ok report) source' target' s law lawful reads closes =
       let a = all_read s law lawful reads in
-      closes_reported refuses source target plan (start_between source target plan.chosen) a.now a.underway refl report source' target' (subst (λ q. Closes source q plan (Ok report) source' target') a.is closes)
+      closes_reported refuses source target plan (beginning_between source target plan.chosen) a.now a.underway refl report source' target' (subst (λ q. Closes source q plan (Ok report) source' target') a.is closes)
 
   pub all-lawful : (result : Result Report TargetFault) (source' target' : PeerValue) → Started source target plan from → LawfulDatabase source.db → LawfulSessions refuses from.target → ReadsAll refuses source.db plan from read
       → Closes source read plan result source' target' → OnOk result (LawfulSessions refuses target')
   all-lawful (Err why) source' target' s law lawful reads closes = tt
   all-lawful (Ok report) source' target' s law lawful reads closes =
       let a = all_read s law lawful reads in
-      closes_lawful refuses source target plan (start_between source target plan.chosen) a.now a.underway report source' target' (subst (λ q. Closes source q plan (Ok report) source' target') a.is closes)
+      closes_lawful refuses source target plan (beginning_between source target plan.chosen) a.now a.underway report source' target' (subst (λ q. Closes source q plan (Ok report) source' target') a.is closes)

@@ -1,5 +1,5 @@
 -- A replication by one thread is calls on the target whose messages are what the source answers.
-use Rattle.std.proofs.Common.{◌≡◌, ℕ, zero, suc, ◌⊎◌, ◌==◌, Bool, true, cond, List, [], ◌∷◌, ◌++◌, Option, Some, None, Result, Ok, Err, is_ok, IfOk, OnOk, take, length, refl, sym, ap, ◌∙◌, subst, inl, inr, arith}
+use Rattle.std.proofs.Common.{◌≡◌, ℕ, zero, suc, ◌⊎◌, ◌==◌, ◌≤◌, Bool, true, cond, List, [], ◌∷◌, ◌++◌, Option, Some, None, Result, Ok, Err, is_ok, IfOk, OnOk, take, length, refl, sym, ap, ◌∙◌, subst, inl, inr, arith}
 use Rattle.std.proofs.lemmas.Bool.{and_parts, cond_both, cond-true, cond-false, both_ways, eq-eqb, ne_eqb, leb-true, ltb-true, false≢true}
 use Rattle.rev_tree.specs.declared.origin.SessionId.{SessionId}
 use Rattle.doc_json.specs.Document.{Document}
@@ -18,11 +18,10 @@ use Rattle.repl_target.specs.Peer.{PeerValue, SessionValue, is_of, entry_of}
 use Rattle.repl_target.specs.Law.{LawfulSessions}
 use Rattle.repl_target.specs.Sessions.{new_session, begun, after_append, conclude_answer, session_answer}
 use Rattle.repl_target.specs.Settling.{settle_check, settling_of, settled_before, after_all, after_documents, after_front, after_stop, settled_at, after_settle, SettlesAt, Settles, SettleGives}
-use Rattle.repl_target.specs.Audit.{rep_between, CoversFeed}
+use Rattle.repl_target.specs.Audit.{rep_between, audit_answer, CoversFeed}
 use Rattle.repl_target.specs.Replication.{Reading, is_batch, plan_answer, beginning_between, begins_answer, after_begins, next_window, parcel_for, Carries, WindowRefused, Reads, ReadsAll, ReadsUntil, is_due, first_reading, closed, closed_as, PutsOver, Replicates, not_planned, no_memory, not_begun, cut, ended, IsReported}
-use Rattle.repl_target.proofs.Reading.{found-is}
 use Rattle.repl_target.proofs.Begun.{fresh_of}
-use Rattle.couch_base.specs.ListLaws.{some_is}
+use Rattle.couch_base.specs.ListLaws.{some_is, none_some}
 use Rattle.couch_base.specs.MemberLaws.{any_from}
 use Rattle.repl_target.specs.Calls.{Call, Append, Settle, Stop, Record, Conclude, after_call, after_calls, IsPageOf, IsFrom, AllFrom, IsGrown, IsLeft}
 use Rattle.repl_target.specs.Backups.{BackupValue}
@@ -30,11 +29,12 @@ use Rattle.repl_target.specs.TiedPeers.{IsTiedPair, IsTiedWith, IsSentEntry}
 use Rattle.repl_target.specs.Later.{IsLaterPeer}
 use Rattle.repl_target.specs.Logs.{after_put_entry}
 use Rattle.repl_log.specs.Entry.{EntryValue}
-use Rattle.repl_target.proofs.LaterPeers.{IsLaterPeer-same, IsLaterPeer-later}
+use Rattle.repl_target.proofs.LaterPeers.{IsLaterPeer-same, IsLaterPeer-later, session_found}
+use Rattle.repl_target.proofs.SettlingDocuments.{before-le}
 use Rattle.repl_target.proofs.CallsKeepLaw.{begin_law, begin_later}
 use Rattle.repl_target.specs.Tied.{stopped_at}
 use Rattle.repl_target.proofs.CallLaws.{calls_law, IsRunOf}
-use Rattle.repl_target.proofs.Covering.{session_reached, start_small}
+use Rattle.repl_target.proofs.Covering.{session_reached, start_small, tied_none}
 use Rattle.repl_target.proofs.TiedLaws.{backups-later, backups-source, tied_grown, tied_begun, puts_tied, sent_entry}
 
 -- ---- a settling is one of two calls
@@ -101,14 +101,37 @@ grown-later refuses source chosen run p q r h k =
 pub grown-one : (refuses : Document → Bool) (source : DatabaseValue) (chosen : Choice) (run : SessionId) (p q : PeerValue) (c : Call) → IsFrom source chosen run c → q ≡ after_call refuses p c → IsGrown refuses source chosen run p q
 grown-one refuses source chosen run p q c from is = (c ∷ [], (from, tt), is)
 
--- a settling of what the source answers
-pub settled_grown : (refuses : Document → Bool) (source : DatabaseValue) (chosen : Choice) (run : SessionId) (p q : PeerValue) (id : SessionId) (parcel : ParcelValue) (result : Result Settled TargetFault) → parcel ≡ open_revs source parcel.asked → SettleGives refuses p id parcel result q
-    → IsGrown refuses source chosen run p q
-settled_grown refuses source chosen run p q id parcel result from gives = go (stopped_at result) (settle_gives refuses p id parcel result q gives)
+-- a settling that found no memory stopped within the parcel, or changed nothing
+pub settle_stops : (refuses : Document → Bool) (p : PeerValue) (id : SessionId) (parcel : ParcelValue) (result : Result Settled TargetFault) (q : PeerValue) → SettleGives refuses p id parcel result q → (n : ℕ) → stopped_at result ≡ Some n
+    → (q ≡ p) ⊎ (n ≤ length parcel.docs) × (q ≡ after_stop refuses p id parcel n)
+settle_stops refuses p id parcel result q gives n is = go (settle_check p id parcel) gives
   where
-    go : (o : Option ℕ) → q ≡ settle_left refuses p id parcel o → IsGrown refuses source chosen run p q
-    go None is = grown-one refuses source chosen run p q (Settle id parcel) from is
-    go (Some n) is = grown-one refuses source chosen run p q (Stop id parcel n) from is
+    stops : q ≡ after_stop refuses p id parcel n
+    stops = subst (λ o. q ≡ settle_left refuses p id parcel o) is (settle_gives refuses p id parcel result q gives)
+
+    within : (s : SessionValue) (w : WindowValue) (r : Result Settled TargetFault) → SettlesAt refuses p parcel s w r q → stopped_at r ≡ Some n → n ≤ length parcel.docs
+    within s w (Ok settled) h e = absurd (none_some n e)
+    within s w (Err (faults.Uncovered seq uncovered rev)) h e = absurd (none_some n e)
+    within s w (Err (faults.Stopped m rest causes.Memory)) h e = omega (arith, h.0.within, before-le refuses w (settling_of p s) parcel.docs, some_is m n e)
+    within s w (Err (faults.Stopped m rest causes.SeqFull)) h e = absurd (none_some n e)
+    within s w (Err fault) h e = absurd h
+
+    go : (r : Result (SessionValue × WindowValue) TargetFault) → Settles refuses p parcel r result q → (q ≡ p) ⊎ (n ≤ length parcel.docs) × (q ≡ after_stop refuses p id parcel n)
+    go (Err fault) h = inl h.1
+    go (Ok at) h = inr (within at.0 at.1 result h is, stops)
+
+-- a settling of what the source answers, for the run's session
+pub settled_grown : (refuses : Document → Bool) (source : DatabaseValue) (chosen : Choice) (run : SessionId) (p q : PeerValue) (parcel : ParcelValue) (result : Result Settled TargetFault) → parcel ≡ open_revs source parcel.asked → SettleGives refuses p run parcel result q
+    → IsGrown refuses source chosen run p q
+settled_grown refuses source chosen run p q parcel result from gives = go (stopped_at result) refl
+  where
+    go : (o : Option ℕ) → stopped_at result ≡ o → IsGrown refuses source chosen run p q
+    go None is = grown-one refuses source chosen run p q (Settle run parcel) (refl, from) (subst (λ o. q ≡ settle_left refuses p run parcel o) is (settle_gives refuses p run parcel result q gives))
+    go (Some n) is =
+        elim (settle_stops refuses p run parcel result q gives n is) [
+          | inl same ↦ subst (IsGrown refuses source chosen run p) (sym same) (grown-same refuses source chosen run p)
+          | inr stops ↦ grown-one refuses source chosen run p q (Stop run parcel n) (refl, from, stops.0) stops.1
+        ]
 
 -- ---- windows
 
@@ -133,7 +156,7 @@ module _ (refuses : Document → Bool) (source : DatabaseValue) (plan : Plan) (b
       let p = before.target in
       let settles = subst (λ v. SettleGives refuses (after_append p plan.session v) plan.session (parcel_for source p v) (Ok c.settled) after.target) c.read c.settles.1 in
       grown-later refuses source plan.chosen plan.session p (after_append p plan.session w) after.target (appended_grown p before.since n due)
-      (settled_grown refuses source plan.chosen plan.session (after_append p plan.session w) after.target plan.session (parcel_for source p w) (Ok c.settled) refl settles)
+      (settled_grown refuses source plan.chosen plan.session (after_append p plan.session w) after.target (parcel_for source p w) (Ok c.settled) refl settles)
 
   reads_grown : (n : ℕ) (from to : Reading) → Reads refuses source plan n from to → IsGrown refuses source plan.chosen plan.session from.target to.target
   reads_grown zero from to is = subst (λ (x : Reading). IsGrown refuses source plan.chosen plan.session from.target x.target) (sym is) (grown-same refuses source plan.chosen plan.session from.target)
@@ -149,7 +172,7 @@ module _ (refuses : Document → Bool) (source : DatabaseValue) (plan : Plan) (b
         | inr other ↦ elim other [
           | inl unstored ↦ subst (IsGrown refuses source plan.chosen plan.session p) (sym unstored.1) (grown-same refuses source plan.chosen plan.session p)
           | inr settles ↦ grown-later refuses source plan.chosen plan.session p (after_append p plan.session w) q (appended_grown p now.since n due)
-              (settled_grown refuses source plan.chosen plan.session (after_append p plan.session w) q plan.session (parcel_for source p w) (Err why) refl settles.1)
+              (settled_grown refuses source plan.chosen plan.session (after_append p plan.session w) q (parcel_for source p w) (Err why) refl settles.1)
         ]
       ]
 
@@ -164,8 +187,8 @@ module _ (refuses : Document → Bool) (source : DatabaseValue) (plan : Plan) (b
   closed_grown p q is = subst (IsGrown refuses source plan.chosen plan.session p) (sym is) (go (conclude_answer p plan.session))
     where
       go : (r : Result Report TargetFault) → IsGrown refuses source plan.chosen plan.session p (closed_as p plan r)
-      go (Ok report) = grown-one refuses source plan.chosen plan.session p _ (Conclude plan.session plan.at) tt refl
-      go (Err fault) = (Conclude plan.session plan.at ∷ Record plan.session plan.at ∷ [], (tt, (tt, tt)), refl)
+      go (Ok report) = grown-one refuses source plan.chosen plan.session p _ (Conclude plan.session plan.at) refl refl
+      go (Err fault) = (Conclude plan.session plan.at ∷ Record plan.session plan.at ∷ [], (refl, (refl, tt)), refl)
 
 -- ---- a replication
 
@@ -260,24 +283,19 @@ replicates_tied refuses source target plan result source' target' law l h same =
 
 -- ---- at its end
 
--- the session that a replication began is there
-record Began (source target target' : PeerValue) (plan : Plan) : Type 0 where
-  session : SessionValue
-  held : Among session target'.sessions
-  id : session.id ≡ plan.session
-  rep : session.rep ≡ rep_between source target plan.chosen
-  life : session.life ≡ source.db.life
+-- all of the source's feed is covered where the session is reported, what is under the start too
+pub reported_whole : (refuses : Document → Bool) (source target : PeerValue) (plan : Plan) (target' : PeerValue) (report : Report) → LawfulDatabase source.db → LawfulSessions refuses target → LawfulSessions refuses target'
+    → begins_answer source target plan ≡ Ok tt → IsGrown refuses source.db plan.chosen plan.session (after_begins source target plan) target' → IsTiedPair source target plan.chosen → IsReported source target target' plan report → CoversFeed source target' plan.chosen source.db.update_seq
+reported_whole refuses source target plan target' report law l l' begun grown tied reported =
+    let s = reported.session in
+    let left : IsLeft refuses source target plan target' = inr (begun, grown) in
+    let held : Among s target'.sessions = (session_found target'.sessions plan.session s reported.held).0 in
+    let after = (left_law refuses source target plan target' law l left).1 in
+    let rep : s.rep ≡ rep_between source target' plan.chosen = reported.rep ∙ (λ i. record { source = source.db.uuid; target = sym after.db.uuid i; chosen = plan.chosen }) in
+    let recorded : s.recorded ≡ source.db.update_seq = sym (ap (λ (r : Report). r.recorded) reported.is) ∙ reported.recorded in
+    let pair = left_tied refuses source target plan target' plan.chosen law l left tied in
+    (session_reached refuses plan.chosen source.db target' l' s held (pair.sessions s held rep) reported.life source.db.update_seq (omega (arith, recorded))).covered
 
-began : (refuses : Document → Bool) (source target target' : PeerValue) (plan : Plan) → LawfulDatabase source.db → LawfulSessions refuses target → begins_answer source target plan ≡ Ok tt → IsGrown refuses source.db plan.chosen plan.session (after_begins source target plan) target' → Began source target target' plan
-began refuses source target target' plan law l ok grown =
-    let p = after_begins source target plan in
-    let new = new_session plan.session (beginning_between source target plan.chosen) plan.at in
-    let is : p ≡ record target { sessions = new ∷ target.sessions } = ap (begun target new) ok in
-    let there : Among new p.sessions = subst (λ (q : PeerValue). Among new q.sessions) (sym is) (inl refl) in
-    let k = (calls_law refuses source.db plan.chosen plan.session grown.0 p law grown.1 (begun_law refuses source target plan l).0).1.sessions new there in
-    record { session = k.0; held = subst (λ (q : PeerValue). Among k.0 q.sessions) (sym grown.2) k.1; id = k.2.id; rep = k.2.rep; life = k.2.life }
-
--- all of the source's feed is covered then, what is under the start too
 pub replicates_whole : (refuses : Document → Bool) (source target : PeerValue) (plan : Plan) (result : Result Report TargetFault) (source' target' : PeerValue) → LawfulDatabase source.db → LawfulSessions refuses target → LawfulSessions refuses target'
     → Replicates refuses source target plan result source' target' → IsTiedPair source target plan.chosen → IfOk result (λ report. IsReported source target target' plan report → CoversFeed source target' plan.chosen source.db.update_seq)
 replicates_whole refuses source target plan result source' target' law l l' (not_planned h) tied = tt
@@ -286,18 +304,14 @@ replicates_whole refuses source target plan result source' target' law l l' (not
 replicates_whole refuses source target plan result source' target' law l l' (cut planned begun reads) tied = tt
 replicates_whole refuses source target plan (Err why) source' target' law l l' (ended read planned begun reads closes) tied = tt
 replicates_whole refuses source target plan (Ok report) source' target' law l l' (ended read planned begun reads closes) tied =
-    λ reported.
     let batch = planned_batch source target plan planned in
-    let p = after_begins source target plan in
-    let later = grown-later refuses source.db plan.chosen plan.session p read target' (all_grown refuses source.db plan batch (first_reading source target plan) read reads) (closed_grown refuses source.db plan batch read target' closes.at_target) in
-    let b = began refuses source target target' plan law l begun later in
-    let found = found-is target'.sessions plan.session b.session l'.distinct b.held b.id in
-    let same : reported.session ≡ b.session = some_is reported.session b.session (sym reported.held ∙ found) in
-    let after = (left_law refuses source target plan target' law l (inr (begun, later))).1 in
-    let rep : b.session.rep ≡ rep_between source target' plan.chosen = b.rep ∙ (λ i. record { source = source.db.uuid; target = sym after.db.uuid i; chosen = plan.chosen }) in
-    let recorded : b.session.recorded ≡ source.db.update_seq = ap (λ (s : SessionValue). s.recorded) (sym same) ∙ sym (ap (λ (r : Report). r.recorded) reported.is) ∙ reported.recorded in
-    let pair = left_tied refuses source target plan target' plan.chosen law l (inr (begun, later)) tied in
-    (session_reached refuses plan.chosen source.db target' l' b.session b.held (pair.sessions b.session b.held rep) b.life source.db.update_seq (omega (arith, recorded))).covered
+    let grown = grown-later refuses source.db plan.chosen plan.session (after_begins source target plan) read target' (all_grown refuses source.db plan batch (first_reading source target plan) read reads) (closed_grown refuses source.db plan batch read target' closes.at_target) in
+    reported_whole refuses source target plan target' report law l l' begun grown tied
+
+-- so an audit of what comes back is clean, whichever choice is looked at
+pub tied_clean : (refuses : Document → Bool) (source target source' target' : PeerValue) → LawfulSessions refuses target' → ((chosen : Choice) (backups : List BackupValue) → IsTiedWith backups source target chosen → IsTiedWith backups source' target' chosen)
+    → (chosen : Choice) → IsTiedPair source target chosen → audit_answer source' target' chosen ≡ None
+tied_clean refuses source target source' target' l' tied chosen h = tied_none refuses source' target' chosen l' (tied chosen [] (record { pair = h; copies = λ b m. absurd m })).pair
 
 -- what is told at Ok, and what follows from it where two peers are tied
 pub both_told : (result : Result Report TargetFault) (told : Report → Type 0) (tied whole : Type 0) → IfOk result told → (tied → IfOk result (λ report. told report → whole)) → OnOk result (tied → whole)

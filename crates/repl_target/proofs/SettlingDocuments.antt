@@ -78,7 +78,7 @@ settle_end : (refuses : Document → Bool) (w : WindowValue) (z : Settling) (ds 
 settle_end refuses w z [] d = refl
 settle_end refuses w z (x ∷ ds) d = settle_end refuses w (settle_one refuses w z x) ds d
 
-before-le : (refuses : Document → Bool) (w : WindowValue) (z : Settling) (ds : List Document) → settled_before refuses w z ds ≤ length ds
+pub before-le : (refuses : Document → Bool) (w : WindowValue) (z : Settling) (ds : List Document) → settled_before refuses w z ds ≤ length ds
 before-le refuses w z [] = omega arith
 before-le refuses w z (d ∷ ds) =
     let rest : settled_before refuses w (settle_one refuses w z d) ds ≤ length ds = before-le refuses w (settle_one refuses w z d) ds in

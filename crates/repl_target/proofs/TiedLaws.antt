@@ -109,8 +109,8 @@ tied_call refuses source target chosen c brings later h =
 -- and whichever other choice is looked at, these aren't of it
 from_tied : (source target : PeerValue) (chosen : Choice) (run : SessionId) (other : Choice) (c : Call) → LawfulDatabase source.db → ((s : SessionValue) → Among s target.sessions → IsRunOf run chosen s) → IsFrom source.db chosen run c
     → Brings (TiedAt source.db target (rep_between source target other)) (tied-stays source.db target (rep_between source target other)) target c
-from_tied source target chosen run other (Load doc) law runs from = tt
-from_tied source target chosen run other (Edit id parent deleted body) law runs from = tt
+from_tied source target chosen run other (Load doc) law runs from = absurd from
+from_tied source target chosen run other (Edit id parent deleted body) law runs from = absurd from
 from_tied source target chosen run other (Begin session beginning at) law runs from = absurd from
 from_tied source target chosen run other (Append session window) law runs from =
     λ s m own _ h.

@@ -1,6 +1,6 @@
 -- Calls on a target in any order, and what they leave: docs/PROFILE.md, "Sessions of a peer" and "Tied windows and
 -- messages".
-use Rattle.std.specs.Prelude.{◌≡◌, ◌⊎◌, ℕ, ◌<◌, ◌≤◌, Bool, List, [], ◌∷◌, Option, Ok}
+use Rattle.std.specs.Prelude.{◌≡◌, ◌⊎◌, ℕ, ◌<◌, ◌≤◌, Bool, List, [], ◌∷◌, length, Option, Ok}
 use Rattle.rev_core.specs.Rev.{RevId}
 use Rattle.rev_tree.specs.declared.origin.SessionId.{SessionId}
 use Rattle.doc_json.specs.Document.{Document}
@@ -55,20 +55,22 @@ pub record IsPageOf (db : DatabaseValue) (chosen : Choice) (w : WindowValue) : T
   pub within : goal ≤ db.update_seq
   pub is : w ≡ page db since goal limit chosen
 
--- the messages of a call are what a source answers under a choice; only the run's session stores windows, and no
--- session begins
+-- a call of a run: it is one on the run's session, which begins no session and writes nothing of its own; its messages
+-- are what a source answers under a choice, and a settling that stops has settled no more than the parcel has
 abbrev pub IsFrom : DatabaseValue → Choice → SessionId → Call → Type 0
 IsFrom source chosen run (Append session window) = (session ≡ run) × IsPageOf source chosen window
-IsFrom source chosen run (Settle session parcel) = parcel ≡ open_revs source parcel.asked
-IsFrom source chosen run (Stop session parcel settled) = parcel ≡ open_revs source parcel.asked
-IsFrom source chosen run (Begin session beginning at) = ⊥
-IsFrom source chosen run call = Unit {0}
+IsFrom source chosen run (Settle session parcel) = (session ≡ run) × (parcel ≡ open_revs source parcel.asked)
+IsFrom source chosen run (Stop session parcel settled) =
+    (session ≡ run) × (parcel ≡ open_revs source parcel.asked) × (settled ≤ length parcel.docs)
+IsFrom source chosen run (Record session at) = session ≡ run
+IsFrom source chosen run (Conclude session at) = session ≡ run
+IsFrom source chosen run call = ⊥
 
 abbrev pub AllFrom : DatabaseValue → Choice → SessionId → List Call → Type 0
 AllFrom source chosen run [] = Unit {0}
 AllFrom source chosen run (c ∷ calls) = IsFrom source chosen run c × AllFrom source chosen run calls
 
--- a target is a given one after some calls of a run, whose messages are what a source answers
+-- a target is a given one after some calls of a run
 abbrev pub IsGrown : (Document → Bool) → DatabaseValue → Choice → SessionId → PeerValue → PeerValue → Type 0
 IsGrown refuses source chosen run given now =
     (calls : List Call) × AllFrom source chosen run calls × (now ≡ after_calls refuses given calls)

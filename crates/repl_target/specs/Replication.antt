@@ -204,11 +204,16 @@ CoversFrom source target chosen n =
     (row : RowValue) → Among row (chosen_feed chosen source.db n source.db.update_seq) → (leaf : RevId) → Among leaf row.leaves
     → covers target row.id leaf ≡ true
 
--- the report is that of the plan's session, which began at the common checkpoint and is recorded at its goal
+-- the report is that of the plan's session: of this replication, of the source's life, based on the session of the common
+-- checkpoint, begun there, and recorded at its goal, which is the source's update sequence
 pub record IsReported (source target target' : PeerValue) (plan : Plan) (report : Report) : Type 0 where
   pub session : SessionValue
   pub held : session_in target'.sessions plan.session ≡ Some session
   pub is : report ≡ report_of session
+  pub rep : session.rep ≡ rep_between source target plan.chosen
+  pub life : session.life ≡ source.db.life
+  pub base : session.base ≡ base_at (checkpoint_of source target plan.chosen)
+  pub goal : session.goal ≡ source.db.update_seq
   pub start : report.start ≡ start_between source target plan.chosen
   pub recorded : report.recorded ≡ source.db.update_seq
   pub counts : report.read ≡ report.written + report.failures

@@ -1,9 +1,9 @@
 //! Replication by one thread.
-ghost use Rattle.std.specs.Prelude.{◌≡◌, ◌⊎◌, ℕ, ◌<◌, true, false, List, Some, Ok, Err, IfOk, IfErr, OnOk, OnErr};
+ghost use Rattle.std.specs.Prelude.{◌≡◌, ◌⊎◌, ℕ, ◌<◌, true, false, List, Some, None, Ok, Err, IfOk, IfErr, OnOk, OnErr};
 ghost use Rattle.doc_json.specs.Chosen.{Choice};
 ghost use Rattle.couch_base.specs.Database.{LawfulDatabase};
 ghost use Rattle.repl_log.specs.Entry.{EntryValue};
-ghost use Rattle.repl_target.specs.Audit.{rep_between, CoversFeed};
+ghost use Rattle.repl_target.specs.Audit.{rep_between, audit_answer, CoversFeed};
 ghost use Rattle.repl_target.specs.Backups.{BackupValue};
 ghost use Rattle.repl_target.specs.TiedPeers.{IsTiedPair, IsTiedWith};
 ghost use Rattle.repl_target.specs.Peer.{SessionValue, session_in, entry_of};
@@ -81,8 +81,8 @@ impl Plan {
 ///
 /// Where the windows that the target stores of this replication are tied to the source's database (docs/PROFILE.md,
 /// "Tied peers"), they are so afterwards, whatever the answer, and so are those of the replications of other choices
-/// between the two; at `Ok` each leaf of the source's whole chosen feed is covered then, those at or under the start
-/// too.
+/// between the two, and an audit is clean; at `Ok` each leaf of the source's whole chosen feed is covered then, those at
+/// or under the start too.
 pub fn replicate_alone<F: WriteFilter, G: WriteFilter>(
     alloc: Global,
     source: &mut Peer<F>,
@@ -105,6 +105,8 @@ pub fn replicate_alone<F: WriteFilter, G: WriteFilter>(
     ensures whole { OnOk result
         (IsTiedPair source.old.1 target.old.1 plan.now.chosen
         → CoversFeed source.old.1 target.new.1 plan.now.chosen source.old.1.db.update_seq) }
+    ensures clean { (chosen : Choice) → IsTiedPair source.old.1 target.old.1 chosen
+        → audit_answer source.new.1 target.new.1 chosen ≡ None }
 {
     // The readings tell the proof the laws of both peers, before and after.
     let _seq = source.db().update_seq();
