@@ -32,11 +32,11 @@ module _ {F : Type 0} (refuses : F → Document → Bool) (db : DatabaseValue) (
   pub grown_same : (p : F × PeerValue) → GrownPeer refuses db chosen run p p
   grown_same p = (refl, grown-same (refuses p.0) db chosen run p.1)
 
-  pub grown_record : (p q : F × PeerValue) (id : SessionId) (at : ℕ) → q.0 ≡ p.0 → q.1 ≡ after_record p.1 id at → GrownPeer refuses db chosen run p q
-  grown_record p q id at same is = (same, grown-one (refuses p.0) db chosen run p.1 q.1 (Record id at) tt is)
+  pub grown_record : (p q : F × PeerValue) (at : ℕ) → q.0 ≡ p.0 → q.1 ≡ after_record p.1 run at → GrownPeer refuses db chosen run p q
+  grown_record p q at same is = (same, grown-one (refuses p.0) db chosen run p.1 q.1 (Record run at) refl is)
 
-  pub grown_conclude : (p q : F × PeerValue) (id : SessionId) (at : ℕ) → q.0 ≡ p.0 → q.1 ≡ after_conclude p.1 id at → GrownPeer refuses db chosen run p q
-  grown_conclude p q id at same is = (same, grown-one (refuses p.0) db chosen run p.1 q.1 (Conclude id at) tt is)
+  pub grown_conclude : (p q : F × PeerValue) (at : ℕ) → q.0 ≡ p.0 → q.1 ≡ after_conclude p.1 run at → GrownPeer refuses db chosen run p q
+  grown_conclude p q at same is = (same, grown-one (refuses p.0) db chosen run p.1 q.1 (Conclude run at) refl is)
 
   pub grown_then : (p q r : F × PeerValue) → GrownPeer refuses db chosen run p q → GrownPeer refuses db chosen run q r → GrownPeer refuses db chosen run p r
   grown_then p q r a b = (b.0 ∙ a.0, grown-later (refuses p.0) db chosen run p.1 q.1 r.1 a.1 (subst (λ f. IsGrown (refuses f) db chosen run q.1 r.1) a.0 b.1))
@@ -79,7 +79,7 @@ pub ends_well : (refuses : Document → Bool) (source target : PeerValue) (plan 
     → IsGrown refuses source.db plan.chosen plan.session (after_begins source target plan) p → read_in p.sessions plan.session ≡ n → conclude_answer p plan.session ≡ Ok report → now ≡ after_conclude p plan.session plan.at → EndsWell source target now plan n report
 ends_well refuses source target plan p now report n law l ok grown reads answer after =
     let begun = after_begins source target plan in
-    let whole = grown-later refuses source.db plan.chosen plan.session begun p now grown (grown-one refuses source.db plan.chosen plan.session p now (Conclude plan.session plan.at) tt after) in
+    let whole = grown-later refuses source.db plan.chosen plan.session begun p now grown (grown-one refuses source.db plan.chosen plan.session p now (Conclude plan.session plan.at) refl after) in
     let t = later_session refuses source target plan now law l ok whole in
     let l' : LawfulSessions refuses now = subst (LawfulSessions refuses) (sym whole.2) (calls_law refuses source.db plan.chosen plan.session whole.0 begun law whole.1 l).0 in
     let c = closes_in p plan.session plan.at report now answer after in
@@ -97,6 +97,10 @@ ends_well refuses source target plan p now report n law l ok grown reads answer 
         session = t.session;
         held = found;
         is = is;
+        rep = t.rep;
+        life = t.life;
+        base = t.base;
+        goal = t.goal;
         start = ap (λ (r : Report). r.start) is ∙ t.start;
         recorded = ap (λ (r : Report). r.recorded) is ∙ recorded;
         counts =

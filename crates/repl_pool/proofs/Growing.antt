@@ -1,6 +1,5 @@
 -- The desk keeps what it keeps, by each call.
-use Rattle.std.proofs.Common.{◌≡◌, ℕ, ◌+◌, ◌≤◌, Bool, List, [], ◌∷◌, Option, Some, Result, Ok, Err, OnOk, OnErr, length, refl, sym, ap, ◌∙◌, subst, arith}
-use Rattle.std.proofs.lemmas.Bool.{cond_both}
+use Rattle.std.proofs.Common.{◌≡◌, ℕ, ◌+◌, ◌≤◌, Bool, Option, Some, Result, Ok, Err, OnOk, OnErr, length, refl, sym, ap, ◌∙◌, subst, arith}
 use Rattle.std.proofs.lemmas.Option.{same_Some}
 use Rattle.rev_tree.specs.declared.origin.SessionId.{SessionId}
 use Rattle.doc_json.specs.Document.{Document}
@@ -13,12 +12,13 @@ use Rattle.repl_target.specs.declared.fault.TargetFault.{TargetFault}
 use Rattle.repl_target.specs.declared.fault.TargetFault.TheVariants as refusals
 use Rattle.repl_target.specs.Peer.{PeerValue, SessionValue}
 use Rattle.repl_target.specs.Law.{LawfulSessions}
-use Rattle.repl_target.specs.Settling.{Settling, settled_before, settle_one, stops_at, settle_check, SettlesAt, Settles, SettleGives}
+use Rattle.repl_target.specs.Settling.{settle_check, SettlesAt, Settles, SettleGives}
 use Rattle.repl_target.specs.Calls.{Call, IsFrom, IsGrown, after_call}
 use Rattle.repl_target.proofs.Replicated.{grown-same, grown-later, grown-one, settled_grown}
 use Rattle.repl_pool.specs.Grown.{IsAnswerOf, GrownPeer, DeskKeeps}
 use Rattle.repl_target.specs.ReadCounts.{read_in, taken}
 use Rattle.repl_target.proofs.ReadCounts.{settle_reads}
+use Rattle.repl_target.proofs.SettlingDocuments.{before-le}
 
 module _ {F : Type 0} (refuses : F → Document → Bool) (source : DatabaseValue) (chosen : Choice) where
   pub starts : (given : F × PeerValue) (session : SessionId) → read_in given.1.sessions session ≡ 0 → DeskKeeps refuses source chosen (Some (given, session)) session 0 given
@@ -55,7 +55,7 @@ module _ {F : Type 0} (refuses : F → Document → Bool) (source : DatabaseValu
       let reads = settle_reads (refuses now.0) now.1 session law parcel result next.1 gives in
       let was = h.3 in
       let total_is : read_in next.1.sessions session ≡ more = omega (arith, reads, was, is) in
-      (g, h.1, (same ∙ grown.0, grown-later (refuses g.0) source chosen session g.1 now.1 next.1 grown.1 (settled_grown (refuses g.0) source chosen session now.1 next.1 session parcel result from gives2)), total_is)
+      (g, h.1, (same ∙ grown.0, grown-later (refuses g.0) source chosen session g.1 now.1 next.1 grown.1 (settled_grown (refuses g.0) source chosen session now.1 next.1 parcel result from gives2)), total_is)
 
   -- where it is known which was given
   pub from_given : (given : F × PeerValue) (run : SessionId) (session : SessionId) (total : ℕ) (now : F × PeerValue) → DeskKeeps refuses source chosen (Some (given, run)) session total now → GrownPeer refuses source chosen run given now × (read_in now.1.sessions run ≡ total)
@@ -65,19 +65,11 @@ module _ {F : Type 0} (refuses : F → Document → Bool) (source : DatabaseValu
 
 -- ---- no more documents are taken than a parcel has
 
-before_most : (refuses : Document → Bool) (w : WindowValue) (z : Settling) (docs : List Document) → settled_before refuses w z docs ≤ length docs
-before_most refuses w z [] = omega arith
-before_most refuses w z (d ∷ docs) =
-    let rest : settled_before refuses w (settle_one refuses w z d) docs ≤ length docs = before_most refuses w (settle_one refuses w z d) docs in
-    cond_both (stops_at refuses z d) 0 (settled_before refuses w (settle_one refuses w z d) docs + 1) (λ n. n ≤ length (d ∷ docs))
-    (λ _. omega arith)
-    (λ _. omega (arith, rest))
-
 module _ (refuses : Document → Bool) (p : PeerValue) (id : SessionId) (parcel : ParcelValue) (q : PeerValue) where
   at_most : (s : SessionValue) (w : WindowValue) (result : Result Settled TargetFault) → SettlesAt refuses p parcel s w result q → taken result (length parcel.docs) ≤ length parcel.docs
   at_most s w (Ok settled) h = omega arith
   at_most s w (Err (refusals.Uncovered seq uncovered rev)) h = omega arith
-  at_most s w (Err (refusals.Stopped n rest cause)) h = omega (arith, h.0.within, before_most refuses w (record { db = p.db; session = s }) parcel.docs)
+  at_most s w (Err (refusals.Stopped n rest cause)) h = omega (arith, h.0.within, before-le refuses w (record { db = p.db; session = s }) parcel.docs)
   at_most s w (Err fault) h = absurd h
 
   pub taken_most : (result : Result Settled TargetFault) → LawfulSessions refuses p → SettleGives refuses p id parcel result q → taken result (length parcel.docs) ≤ length parcel.docs

@@ -1,24 +1,25 @@
--- A run halts only where the gate allows it.
+-- A run halts only where the gate allows it, or where a worker's call is refused.
 use Rattle.std.proofs.Common.{◌≡◌, ◌⊎◌, ⊎_elim, Option, None, Some, IfSome, sym, subst, inl, inr}
-use Rattle.repl_pool.specs.Faults.{AllowsOn, Allows, fault_of, IsOneFault, IsLateOn}
+use Rattle.repl_pool.specs.Faults.{AllowsOn, Allows, IsHaltOn, fault_of, IsOneFault, IsLateOn}
 use Rattle.repl_pool.specs.Gathered.{IsOneOf}
 use Rattle.repl_pool.specs.declared.gate.Place.{Place}
 use Rattle.repl_pool.specs.declared.fault.Halt.{Halt}
 use Rattle.repl_pool.specs.declared.fault.Halt.TheVariants as halts
 use Rattle.repl_pool.specs.declared.fault.PoolFault.{PoolFault}
+use Rattle.repl_pool.specs.declared.fault.PoolFault.TheVariants as faults
 
-allowed_late : (B : Type 0) (P : Place → Type 0) (h : Halt) → AllowsOn B P h → IsLateOn B P (fault_of h)
-allowed_late B P (halts.Stopped place) a = a
-allowed_late B P (halts.Refused fault) a = tt
-allowed_late B P halts.CountFull a = tt
-allowed_late B P halts.BoardFull a = a
-allowed_late B P halts.Memory a = tt
-allowed_late B P halts.Lost a = tt
+allowed_halt : (B : Type 0) (P : Place → Type 0) (h : Halt) → AllowsOn B P h → IsHaltOn B P (fault_of h)
+allowed_halt B P (halts.Stopped place) a = a
+allowed_halt B P (halts.Refused fault) a = a
+allowed_halt B P halts.CountFull a = tt
+allowed_halt B P halts.BoardFull a = a
+allowed_halt B P halts.Memory a = tt
+allowed_halt B P halts.Lost a = tt
 
 -- what may halt without a board may halt beside one
 allowed_on : (B : Type 0) (P : Place → Type 0) (h : Halt) → Allows P h → AllowsOn B P h
 allowed_on B P (halts.Stopped place) a = a
-allowed_on B P (halts.Refused fault) a = tt
+allowed_on B P (halts.Refused fault) a = a
 allowed_on B P halts.CountFull a = tt
 allowed_on B P halts.BoardFull a = absurd a
 allowed_on B P halts.Memory a = tt
@@ -28,10 +29,10 @@ some_on : (B : Type 0) (P : Place → Type 0) (o : Option Halt) → IfSome o (Al
 some_on B P None a = tt
 some_on B P (Some h) a = allowed_on B P h a
 
-pub merged_late : (B : Type 0) (P : Place → Type 0) (o : Option PoolFault) (a b c : Option Halt) → IfSome o (IsOneFault a b c) → IfSome a (Allows P) → IfSome b (Allows P) → IfSome c (AllowsOn B P) → IfSome o (IsLateOn B P)
-merged_late B P None a b c told ia ib ic = tt
-merged_late B P (Some fault) a b c told ia ib ic =
-    subst (IsLateOn B P) (sym told.1) (allowed_late B P told.0
+pub merged_halt : (B : Type 0) (P : Place → Type 0) (o : Option PoolFault) (a b c : Option Halt) → IfSome o (IsOneFault a b c) → IfSome a (Allows P) → IfSome b (Allows P) → IfSome c (AllowsOn B P) → IfSome o (IsHaltOn B P)
+merged_halt B P None a b c told ia ib ic = tt
+merged_halt B P (Some fault) a b c told ia ib ic =
+    subst (IsHaltOn B P) (sym told.1) (allowed_halt B P told.0
     (elim told.2 [
       | inl e ↦ subst (λ (x : Option Halt). IfSome x (AllowsOn B P)) e (some_on B P a ia)
       | inr r ↦ elim r [
@@ -39,6 +40,11 @@ merged_late B P (Some fault) a b c told ia ib ic =
         | inr e ↦ subst (λ (x : Option Halt). IfSome x (AllowsOn B P)) e ic
       ]
     ]))
+
+-- such a fault is none of an early refusal
+pub halt_late : (B : Type 0) (P : Place → Type 0) (fault : PoolFault) → IsHaltOn B P fault → IsLateOn B P fault
+halt_late B P (faults.Refused why) h = tt
+halt_late B P fault h = h
 
 -- what holds of two halts holds of the one that is told
 pub one_of : (P : Halt → Type 0) (o a b : Option Halt) → P halts.CountFull → IfSome o (IsOneOf a b) → IfSome a P → IfSome b P → IfSome o P

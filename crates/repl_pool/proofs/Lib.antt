@@ -6,7 +6,9 @@ pub mod Steps
 pub mod Boarding
 pub mod Ending
 pub mod Halting
+pub mod Refusals
 pub mod Closing
+pub mod LowWater
 pub mod Showing
 pub mod NewSeats
 pub mod RunLaws

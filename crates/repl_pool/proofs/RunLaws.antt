@@ -1,5 +1,5 @@
 -- What a run says, from what came out of the lock.
-use Rattle.std.proofs.Common.{◌≡◌, ℕ, ◌<◌, ◌≤◌, ◌==◌, Bool, true, false, cond, nat_lt, List, [], Option, Some, None, Result, Ok, Err, is_ok, is_some, IfOk, IfErr, IfSome, sum, refl, sym, ap, ◌∙◌, subst, inl, inr, arith}
+use Rattle.std.proofs.Common.{◌≡◌, ◌⊎◌, ℕ, ◌<◌, ◌≤◌, ◌==◌, Bool, true, false, cond, nat_lt, List, [], Option, Some, None, Result, Ok, Err, is_ok, is_some, IfOk, IfErr, IfSome, sum, refl, sym, ap, ◌∙◌, subst, inl, inr, arith}
 use Rattle.std.proofs.lemmas.Bool.{cond_both, false≢true}
 use Rattle.std.proofs.lemmas.Bool.Decides.{nat_tests}
 use Rattle.rev_tree.specs.declared.origin.SessionId.{SessionId}
@@ -9,8 +9,11 @@ use Rattle.couch_base.specs.Database.{DatabaseValue, LawfulDatabase}
 use Rattle.couch_base.specs.Feed.{chosen_feed}
 use Rattle.repl_target.specs.declared.fault.Report.{Report}
 use Rattle.repl_target.specs.declared.fault.TargetFault.{TargetFault}
+use Rattle.repl_target.specs.declared.fault.TargetFault.TheVariants as refusals
 use Rattle.repl_target.specs.declared.replication.Plan.{Plan}
 use Rattle.repl_target.specs.Calls.{IsGrown, IsLeft}
+use Rattle.repl_target.specs.Audit.{CoversFeed}
+use Rattle.repl_target.specs.TiedPeers.{IsTiedPair}
 use Rattle.repl_target.specs.Covered.{Leaf, covers, first_uncovered}
 use Rattle.repl_target.specs.Peer.{PeerValue}
 use Rattle.repl_target.specs.Law.{LawfulSessions}
@@ -18,11 +21,12 @@ use Rattle.repl_target.specs.ReadCounts.{read_in}
 use Rattle.repl_target.specs.Sessions.{record_answer}
 use Rattle.repl_target.specs.Replication.{is_batch, start_between, begins_answer, after_begins}
 use Rattle.repl_target.proofs.LaterPeers.{IsLaterPeer-same}
-use Rattle.repl_target.proofs.Replicated.{grown-same, left_law, both_tied, puts_over}
+use Rattle.repl_target.proofs.Covering.{tied_none}
+use Rattle.repl_target.proofs.Replicated.{grown-same, left_law, both_tied, puts_over, reported_whole, tied_clean}
 use Rattle.repl_target.proofs.SettlingTakes.{all_known}
 use Rattle.repl_pool.specs.Grown.{GrownPeer, DeskKeeps}
-use Rattle.repl_pool.specs.Runs.{IsConcluded, unfinished_at, IsRecorded, stopped, fewer, refused, PutsEntry, Walks, clean, hole, no_memory, Ends, concluded, recorded, EndsRun, EndsWell, EarlyOrLate, RunsOn}
-use Rattle.repl_pool.specs.Faults.{early_answer, IsLateOn}
+use Rattle.repl_pool.specs.Runs.{IsConcluded, unfinished_at, IsRecorded, stopped, fewer, refused, PutsEntry, Walks, clean, hole, no_memory, Ends, concluded, recorded, EndsRun, EndsWell, EarlyOrLate, TellsLowWater, RunsOn}
+use Rattle.repl_pool.specs.Faults.{early_answer, IsLateOn, IsHaltOn}
 use Rattle.progress_board.specs.declared.board.Board.{Board}
 use Rattle.progress_board.specs.declared.seat.BoardSeat.{BoardSeat}
 use Rattle.repl_pool.specs.Boards.{HaveShown}
@@ -31,6 +35,8 @@ use Rattle.repl_pool.specs.declared.fault.PoolFault.{PoolFault}
 use Rattle.repl_pool.specs.declared.fault.PoolFault.TheVariants as faults
 use Rattle.repl_pool.proofs.Growing.{from_given}
 use Rattle.repl_pool.proofs.Ending.{ends_well}
+use Rattle.repl_pool.proofs.Halting.{halt_late}
+use Rattle.repl_pool.proofs.LowWater.{recorded_tells}
 
 -- ---- what was given
 
@@ -46,8 +52,8 @@ unfinished_late B P (Ok n) = tt
 unfinished_late B P (Err why) = tt
 
 -- where the session is recorded, a halt is told where the gate allows it
-recorded_late : (B : Type 0) (P : Place → Type 0) (plan : Plan) (fault : Option PoolFault) (complete : Bool) (before after : PeerValue) (why : PoolFault) → IfSome fault (IsLateOn B P) → IsRecorded plan fault complete before after why → IsLateOn B P why
-recorded_late B P plan fault complete before after why late (stopped e same) = subst (λ (x : Option PoolFault). IfSome x (IsLateOn B P)) e late
+recorded_late : (B : Type 0) (P : Place → Type 0) (plan : Plan) (fault : Option PoolFault) (complete : Bool) (before after : PeerValue) (why : PoolFault) → IfSome fault (IsHaltOn B P) → IsRecorded plan fault complete before after why → IsLateOn B P why
+recorded_late B P plan fault complete before after why late (stopped e same) = halt_late B P why (subst (λ (x : Option PoolFault). IfSome x (IsHaltOn B P)) e late)
 recorded_late B P plan fault complete before after why late (fewer none less same) = unfinished_late B P (record_answer before plan.session)
 recorded_late B P plan fault complete before after why late (refused none whole answer same) = tt
 
@@ -90,6 +96,19 @@ module _ {F : Type 0} (refuses : F → Document → Bool) (may_fill : Type 0) (m
       go o (concluded c w) = walk_late _ o w (concluded_well e.fault e.complete e.before _ e.grown e.read c)
       go o (recorded r put) = (recorded_late may_fill may_stop plan e.fault e.complete e.before now _ e.late r, put)
 
+  -- an unfinished run tells what is recorded
+  walk_tells : (report : Report) (outcome : Result Report PoolFault) → Walks source now plan start report source' outcome → IfErr outcome (TellsLowWater now plan.session)
+  walk_tells report outcome (clean none put) = tt
+  walk_tells report outcome (hole found same) = tt
+  walk_tells report outcome (no_memory put) = tt
+
+  pub run_tells : (outcome : Result Report PoolFault) → EndsRun refuses may_fill may_stop plan start source begun counts source' now outcome → IfErr outcome (TellsLowWater now plan.session)
+  run_tells outcome e = go outcome e.ends
+    where
+      go : (o : Result Report PoolFault) → Ends plan start e.fault e.complete source e.before source' now o → IfErr o (TellsLowWater now plan.session)
+      go o (concluded c w) = walk_tells _ o w
+      go o (recorded r put) = recorded_tells may_fill may_stop plan e.fault e.complete e.before now _ e.late r
+
 ok_of : {A E : Type 0} (r : Result A E) (X : Type 0) → X → IfOk r (λ _. X)
 ok_of (Ok a) X x = x
 ok_of (Err e) X x = tt
@@ -105,6 +124,13 @@ pub shown_well : (board : Option Board) (given now : List BoardSeat) (source tar
     → IfOk outcome (λ _. HaveShown board n None given now) → IfOk outcome (EndsWell source target target' plan n) → IfOk outcome (λ report. HaveShown board report.read None given now)
 shown_well board given now source target target' plan n (Ok report) h w = subst (λ m. HaveShown board m None given now) w.sum h
 shown_well board given now source target target' plan n (Err why) h w = tt
+
+-- all of the source's chosen feed is covered, where the two were tied
+whole_of : (refuses : Document → Bool) (source target target' : PeerValue) (plan : Plan) (n : ℕ) → LawfulDatabase source.db → LawfulSessions refuses target → LawfulSessions refuses target' → begins_answer source target plan ≡ Ok tt
+    → IsGrown refuses source.db plan.chosen plan.session (after_begins source target plan) target' → (outcome : Result Report PoolFault) → IfOk outcome (EndsWell source target target' plan n)
+    → IfOk outcome (λ _. IsTiedPair source target plan.chosen → CoversFeed source target' plan.chosen source.db.update_seq)
+whole_of refuses source target target' plan n law l l' ok grown (Ok report) w = λ tied. reported_whole refuses source target plan target' report law l l' ok grown tied w.reported
+whole_of refuses source target target' plan n law l l' ok grown (Err why) w = tt
 
 -- ---- what it says
 
@@ -136,22 +162,24 @@ nothing_read refuses may_fill may_stop plan start source given counts source' af
 
 module _ {F : Type 0} (refuses : F → Document → Bool) (may_fill : Type 0) (may_stop : Place → Type 0) (plan : Plan) (source target : F × PeerValue) where
   -- refused early
-  pub runs_early : (fetched : List ℕ) (why : PoolFault) → early_answer source.1 target.1 plan ≡ Err why → fetched ≡ [] → RunsOn refuses may_fill may_stop plan source target source target fetched (Err why)
-  runs_early fetched why early none = record {
+  pub runs_early : (fetched : List ℕ) (why : PoolFault) → LawfulSessions (refuses target.0) target.1 → early_answer source.1 target.1 plan ≡ Err why → fetched ≡ [] → RunsOn refuses may_fill may_stop plan source target source target fetched (Err why)
+  runs_early fetched why lawful early none = record {
     early = subst (λ r. EarlyOrLate may_fill may_stop r source target source target fetched (Err why)) (sym early) (refl, refl, refl, none);
     filter = refl;
     log = refl;
     grown = (refl, inl refl);
     later = IsLaterPeer-same target.1;
     tied = λ _ _ tied. tied;
-    put = inl (refl, refl, refl);
+    audited = λ chosen. tied_none (refuses target.0) source.1 target.1 chosen lawful;
+    put = inl (refl, refl, record { fault = why; told = refl; due = inl early });
     well = tt;
+    whole = tt;
   }
 
   -- the session isn't begun
-  pub runs_refused : (fetched : List ℕ) (why : TargetFault) (target' : F × PeerValue) → early_answer source.1 target.1 plan ≡ Ok tt → target'.0 ≡ target.0 → target'.1 ≡ target.1
+  pub runs_refused : (fetched : List ℕ) (why : TargetFault) (target' : F × PeerValue) → LawfulSessions (refuses target.0) target.1 → early_answer source.1 target.1 plan ≡ Ok tt → (why ≡ refusals.Memory) ⊎ (begins_answer source.1 target.1 plan ≡ Err why) → target'.0 ≡ target.0 → target'.1 ≡ target.1
       → RunsOn refuses may_fill may_stop plan source target source target' fetched (Err (faults.Refused why))
-  runs_refused fetched why target' early filter peer =
+  runs_refused fetched why target' lawful early due filter peer =
       let same : target' ≡ target = λ i. (filter i, peer i) in
       subst (λ t. RunsOn refuses may_fill may_stop plan source target source t fetched (Err (faults.Refused why))) (sym same)
       (record {
@@ -161,8 +189,18 @@ module _ {F : Type 0} (refuses : F → Document → Bool) (may_fill : Type 0) (m
         grown = (refl, inl refl);
         later = IsLaterPeer-same target.1;
         tied = λ _ _ tied. tied;
-        put = inl (refl, refl, refl);
+        audited = λ chosen. tied_none (refuses target.0) source.1 target.1 chosen lawful;
+        put = inl (
+          refl,
+          refl,
+          record {
+            fault = faults.Refused why;
+            told = refl;
+            due = inr (elim due [ inl none ↦ inl (ap faults.Refused none) | inr begins ↦ inr (why, begins, refl) ]);
+          },
+        );
         well = tt;
+        whole = tt;
       })
 
   -- the workers were to be started
@@ -174,16 +212,26 @@ module _ {F : Type 0} (refuses : F → Document → Bool) (may_fill : Type 0) (m
       let since : IsGrown (refuses target.0) source.1.db plan.chosen plan.session (after_begins source.1 target.1 plan) target'.1 =
       subst (λ f. IsGrown (refuses f) source.1.db plan.chosen plan.session (after_begins source.1 target.1 plan) target'.1) same (subst (λ p. IsGrown (refuses begun.0) source.1.db plan.chosen plan.session p target'.1) is more.1) in
       let left : IsLeft (refuses target.0) source.1 target.1 plan target'.1 = inr (ok, since) in
+      let l' : LawfulSessions (refuses target.0) target'.1 = (left_law (refuses target.0) source.1 target.1 plan target'.1 law lawful left).0 in
       let late = run_late refuses may_fill may_stop source.1 target.1 begun plan start counts source'.1 target'.1 law lawful_begun ok is first outcome e in
+      let same_db = ap (λ (q : PeerValue). q.db) log in
+      let tied = both_tied (refuses target.0) source.1 target.1 plan source'.1 target'.1 law lawful left (puts_over source.1 target'.1 plan late.1.entry late.1.put source'.1 late.1.told late.1.puts) same_db in
+      let well = run_well refuses may_fill may_stop source.1 target.1 begun plan start counts source'.1 target'.1 law lawful_begun ok is first outcome e in
       record {
         early = subst (λ r. EarlyOrLate may_fill may_stop r source target source' target' counts outcome) (sym early) late.0;
         filter = filter;
         log = log;
         grown = (more.0 ∙ same, left);
         later = (left_law (refuses target.0) source.1 target.1 plan target'.1 law lawful left).1;
-        tied = both_tied (refuses target.0) source.1 target.1 plan source'.1 target'.1 law lawful left (puts_over source.1 target'.1 plan late.1.entry late.1.put source'.1 late.1.told late.1.puts) (ap (λ (q : PeerValue). q.db) log);
-        put = inr late.1;
-        well = run_well refuses may_fill may_stop source.1 target.1 begun plan start counts source'.1 target'.1 law lawful_begun ok is first outcome e;
+        tied = tied;
+        audited = tied_clean (refuses target.0) source.1 target.1 source'.1 target'.1 l' tied;
+        put = inr (record {
+          begun = ok;
+          put = late.1;
+          unfinished = run_tells refuses may_fill may_stop source.1 target.1 begun plan start counts source'.1 target'.1 law lawful_begun ok is first outcome e;
+        });
+        well = well;
+        whole = whole_of (refuses target.0) source.1 target.1 target'.1 plan (sum counts) law lawful l' ok since outcome well;
       }
 
 -- ---- a plan that isn't refused early

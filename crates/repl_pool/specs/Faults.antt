@@ -2,6 +2,8 @@
 use Rattle.std.specs.Prelude.{◌≡◌, ◌⊎◌, ◌==◌, nat_lt, if◌then◌else◌, Option, Some, Result, Ok, Err}
 use Rattle.repl_target.specs.Peer.{PeerValue}
 use Rattle.repl_target.specs.Replication.{is_batch}
+use Rattle.repl_target.specs.declared.fault.TargetFault.{TargetFault}
+use Rattle.repl_target.specs.declared.fault.TargetFault.TheVariants as refusals
 use Rattle.repl_target.specs.declared.replication.Plan.{Plan}
 use Rattle.repl_pool.specs.declared.gate.Place.{Place}
 use Rattle.repl_pool.specs.declared.fault.Halt.{Halt}
@@ -29,11 +31,17 @@ IsLateOn may_fill may_stop (faults.Halted place) = may_stop place
 IsLateOn may_fill may_stop faults.BoardFull = may_fill
 IsLateOn may_fill may_stop fault = Unit {0}
 
--- of a run without a board
-abbrev pub IsLate : (Place → Type 0) → PoolFault → Type 0
-IsLate may_stop fault = IsLateOn ⊥ may_stop fault
-
 -- ---- from the halts of workers
+
+-- what a worker's call on the target may be refused for: that a session is unfinished is told at the end alone
+abbrev pub IsStepFault : TargetFault → Type 0
+IsStepFault (refusals.Unfinished low_water) = ⊥
+IsStepFault fault = Unit {0}
+
+-- a fault that a halt is told as
+abbrev pub IsHaltOn : Type 0 → (Place → Type 0) → PoolFault → Type 0
+IsHaltOn may_fill may_stop (faults.Refused fault) = IsStepFault fault
+IsHaltOn may_fill may_stop fault = IsLateOn may_fill may_stop fault
 
 -- how a run tells a halt
 abbrev pub fault_of : Halt → PoolFault
@@ -44,9 +52,10 @@ fault_of halts.BoardFull = faults.BoardFull
 fault_of halts.Memory = faults.Memory
 fault_of halts.Lost = faults.Memory
 
--- a halt that stands where the gate allows one, or a full board where one may be found
+-- a halt that stands where the gate allows one, a full board where one may be found, and a refusal of a worker's call
 abbrev pub AllowsOn : Type 0 → (Place → Type 0) → Halt → Type 0
 AllowsOn may_fill may_stop (halts.Stopped place) = may_stop place
+AllowsOn may_fill may_stop (halts.Refused fault) = IsStepFault fault
 AllowsOn may_fill may_stop halts.BoardFull = may_fill
 AllowsOn may_fill may_stop halt = Unit {0}
 

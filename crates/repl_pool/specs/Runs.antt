@@ -1,26 +1,28 @@
 -- A run of the pool: docs/PROFILE.md, "The pool".
-use Rattle.std.specs.Prelude.{◌≡◌, ◌⊎◌, ℕ, Bool, true, false, List, [], Option, Some, None, Result, Ok, Err, IfOk, IfErr, IfSome, IsErr, sum}
+use Rattle.std.specs.Prelude.{◌≡◌, ◌⊎◌, ℕ, Bool, true, false, List, [], Option, Some, None, Result, Ok, Err, IfOk, IfErr, IfSome, sum}
 use Rattle.rev_core.specs.Rev.{RevId}
 use Rattle.doc_json.specs.Document.{Document}
 use Rattle.doc_json.specs.Chosen.{Choice}
 use Rattle.couch_base.specs.Database.{Id}
 use Rattle.couch_base.specs.Feed.{chosen_feed}
 use Rattle.repl_log.specs.Entry.{EntryValue}
-use Rattle.repl_target.specs.Audit.{rep_between}
+use Rattle.range_front.specs.Front.{low_water}
+use Rattle.rev_tree.specs.declared.origin.SessionId.{SessionId}
+use Rattle.repl_target.specs.Audit.{rep_between, audit_answer, CoversFeed}
 use Rattle.repl_target.specs.Backups.{BackupValue}
-use Rattle.repl_target.specs.TiedPeers.{IsTiedWith}
+use Rattle.repl_target.specs.TiedPeers.{IsTiedPair, IsTiedWith}
 use Rattle.repl_target.specs.Calls.{IsGrown}
 use Rattle.repl_target.specs.Covered.{first_uncovered}
 use Rattle.repl_target.specs.Later.{IsLaterPeer}
-use Rattle.repl_target.specs.Peer.{PeerValue, entry_of}
+use Rattle.repl_target.specs.Peer.{PeerValue, SessionValue, session_in, entry_of}
 use Rattle.repl_target.specs.ReadCounts.{read_in}
-use Rattle.repl_target.specs.Replication.{PutsOver, closed, start_between, CoversFrom, IsReported}
+use Rattle.repl_target.specs.Replication.{PutsOver, closed, start_between, begins_answer, CoversFrom, IsReported}
 use Rattle.repl_target.specs.Sessions.{session_answer, record_answer, after_record, conclude_answer, after_conclude}
 use Rattle.repl_target.specs.declared.fault.Report.{Report}
 use Rattle.repl_target.specs.declared.fault.TargetFault.{TargetFault}
 use Rattle.repl_target.specs.declared.fault.TargetFault.TheVariants as refusals
 use Rattle.repl_target.specs.declared.replication.Plan.{Plan}
-use Rattle.repl_pool.specs.Faults.{early_answer, IsLateOn}
+use Rattle.repl_pool.specs.Faults.{early_answer, IsLateOn, IsHaltOn}
 use Rattle.repl_pool.specs.Grown.{LeftPeer}
 use Rattle.repl_pool.specs.declared.gate.Place.{Place}
 use Rattle.repl_pool.specs.declared.fault.PoolFault.{PoolFault}
@@ -91,7 +93,8 @@ pub data Ends (plan : Plan) (start : ℕ) (fault : Option PoolFault) (complete :
       → Ends plan start fault complete source before source' after (Err why)
 
 -- with what is known of the workers: the target had grown from the given one, each halt stands where the gate allows
--- it, and where nothing was stopped and all was got, the session had read what the fetchers fetched
+-- it, or is what a worker's call was refused for, and where nothing was stopped and all was got, the session had read
+-- what the fetchers fetched
 pub record EndsRun {F : Type 0} (refuses : F → Document → Bool) (may_fill : Type 0) (may_stop : Place → Type 0)
     (plan : Plan) (start : ℕ) (source : PeerValue) (given : F × PeerValue) (counts : List ℕ) (source' after : PeerValue)
     (outcome : Result Report PoolFault) : Type 0 where
@@ -99,7 +102,7 @@ pub record EndsRun {F : Type 0} (refuses : F → Document → Bool) (may_fill : 
   pub complete : Bool
   pub before : PeerValue
   pub grown : IsGrown (refuses given.0) source.db plan.chosen plan.session given.1 before
-  pub late : IfSome fault (IsLateOn may_fill may_stop)
+  pub late : IfSome fault (IsHaltOn may_fill may_stop)
   pub read : fault ≡ None → complete ≡ true → read_in before.sessions plan.session ≡ sum counts
   pub ends : Ends plan start fault complete source before source' after outcome
 
@@ -113,11 +116,38 @@ EarlyOrLate may_fill may_stop (Err why) source target source' target' fetched ou
 EarlyOrLate may_fill may_stop (Ok done) source target source' target' fetched outcome =
     IfErr outcome (IsLateOn may_fill may_stop)
 
+-- why a session isn't begun: an early refusal is due; or memory is wanting; or it is what beginning refuses
+abbrev pub IsUnbegunFor : PeerValue → PeerValue → Plan → PoolFault → Type 0
+IsUnbegunFor source target plan fault =
+    (early_answer source target plan ≡ Err fault)
+    ⊎ (fault ≡ faults.Refused refusals.Memory)
+    ⊎ (why : TargetFault) × (begins_answer source target plan ≡ Err why) × (fault ≡ faults.Refused why)
+
+-- that is told then
+pub record IsUnbegun (source target : PeerValue) (plan : Plan) (outcome : Result Report PoolFault) : Type 0 where
+  pub fault : PoolFault
+  pub told : outcome ≡ Err fault
+  pub due : IsUnbegunFor source target plan fault
+
+-- an unfinished run tells the low water of its session, which is what is recorded
+abbrev pub TellsLowWater : PeerValue → SessionId → PoolFault → Type 0
+TellsLowWater target run (faults.Refused (refusals.Unfinished n)) =
+    (s : SessionValue) × (session_in target.sessions run ≡ Some s) × (n ≡ low_water s.front) × (n ≡ s.recorded)
+TellsLowWater target run fault = Unit {0}
+
+-- the session has begun, and its entry is put at the source
+pub record IsBegun (source target source' target' : PeerValue) (plan : Plan) (outcome : Result Report PoolFault) : Type 0
+  where
+    pub begun : begins_answer source target plan ≡ Ok tt
+    pub put : PutsEntry source target' source' plan outcome
+    pub unfinished : IfErr outcome (TellsLowWater target' plan.session)
+
 -- where the session isn't begun, both peers are the given ones; else its entry is put at the source
 abbrev pub LeavesOrPuts : {F : Type 0} → Plan → F × PeerValue → F × PeerValue → F × PeerValue → F × PeerValue
     → Result Report PoolFault → Type 0
 LeavesOrPuts plan source target source' target' outcome =
-    (source' ≡ source) × (target' ≡ target) × IsErr outcome ⊎ PutsEntry source.1 target'.1 source'.1 plan outcome
+    (source' ≡ source) × (target' ≡ target) × IsUnbegun source.1 target.1 plan outcome
+    ⊎ IsBegun source.1 target.1 source'.1 target'.1 plan outcome
 
 -- what a run that is Ok says: the report is that of the plan's session, which began at the common checkpoint and is
 -- recorded at its goal; all of the source's chosen feed above the start is covered; and the fetchers' counts add up to the
@@ -145,10 +175,17 @@ pub record RunsOn {F : Type 0} (refuses : F → Document → Bool) (may_fill : T
   pub later : IsLaterPeer target.1 target'.1
   pub tied : (chosen : Choice) (backups : List BackupValue) → IsTiedWith backups source.1 target.1 chosen
       → IsTiedWith backups source'.1 target'.1 chosen
-  -- the entry is put at the source
+  -- so an audit of what comes back is clean, where the pair was tied
+  pub audited : (chosen : Choice) → IsTiedPair source.1 target.1 chosen
+      → audit_answer source'.1 target'.1 chosen ≡ None
+  -- both are as they were given, and why is told, or the entry is put at the source
   pub put : LeavesOrPuts plan source target source' target' outcome
   -- what stands at Ok
   pub well : IfOk outcome (EndsWell source.1 target.1 target'.1 plan (sum fetched))
+  -- and where the pair was tied, all of the source's chosen feed is covered then, what is at or under the start too
+  pub whole : IfOk outcome
+      (λ _. IsTiedPair source.1 target.1 plan.chosen
+      → CoversFeed source.1 target'.1 plan.chosen source.1.db.update_seq)
 
 -- without a board
 abbrev pub Runs : {F : Type 0} → (F → Document → Bool) → (Place → Type 0) → Plan → F × PeerValue → F × PeerValue

@@ -7,7 +7,7 @@ ghost use Rattle.progress_board.specs.declared.seat.BoardSeat.{BoardSeat};
 ghost use Rattle.repl_target.specs.declared.fault.TargetFault.{TargetFault};
 ghost use Rattle.repl_pool.specs.Boards.{MayFill, IsSeated, HasRoom, HasSettled, HasWritten, halt_in};
 ghost use Rattle.repl_pool.specs.Workers.{WriterKnows, WriterShows};
-ghost use Rattle.repl_pool.specs.Faults.{AllowsOn};
+ghost use Rattle.repl_pool.specs.Faults.{AllowsOn, IsStepFault};
 
 use crate::desk::{Desk, taken_of};
 use crate::fault::Halt;
@@ -48,7 +48,7 @@ fn settle<F: WriteFilter, S: Origin, J: Given<F>, L: Ledger, R: Wait>(
     requires room { HasRoom (option_copied board) (length fetched.docs) seat.old }
     ensures parts { share.new.parts ≡ share.old.parts }
     ensures ok { OnOk result (share.new.amount ≡ share.old.amount + length fetched.docs) }
-    ensures err { IfErr result (λ halt. (fault : TargetFault) × (halt ≡ Halt.Refused fault)) }
+    ensures err { IfErr result (λ halt. (fault : TargetFault) × (halt ≡ Halt.Refused fault) × IsStepFault fault) }
     ensures shows { HasSettled (option_copied board.entry) share.old.amount share.new.amount seat.old seat.new }
 {
     let documents = fetched.documents();
@@ -94,7 +94,7 @@ fn record<F: WriteFilter, S: Origin, J: Given<F>, L: Ledger, R: Wait>(
     desk: &Mutex<Desk<F, S, J, L>>,
     at: Moment,
 ) -> Result<u64, Halt>
-    ensures { IfErr result (λ halt. (fault : TargetFault) × (halt ≡ Halt.Refused fault)) }
+    ensures { IfErr result (λ halt. (fault : TargetFault) × (halt ≡ Halt.Refused fault) × IsStepFault fault) }
 {
     match desk.lock(rt).record(at) {
         Ok(recorded) => Ok(recorded),

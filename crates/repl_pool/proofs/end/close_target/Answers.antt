@@ -7,12 +7,12 @@ use Rattle.repl_pool.proofs.Ending.{grown_conclude, grown_then}
 use Rattle.repl_pool.proofs.end.close_target.Goals as goal
 
 pub returns-in-Ok-clause-grown : goal.returns-in-Ok-clause-grown
-returns-in-Ok-clause-grown g c db chosen = grown_conclude g.F.WriteFilter.refuses db chosen c.args.plan.now.session c.args.target.now c.conclude.new.self c.args.plan.now.session c.args.plan.now.at c.conclude.ensures.filter c.conclude.ensures.peer
+returns-in-Ok-clause-grown g c db chosen = grown_conclude g.F.WriteFilter.refuses db chosen c.args.plan.now.session c.args.target.now c.conclude.new.self c.args.plan.now.at c.conclude.ensures.filter c.conclude.ensures.peer
 
 pub returns-in-Err-clause-grown : goal.returns-in-Err-clause-grown
 returns-in-Err-clause-grown g c db chosen =
     grown_then g.F.WriteFilter.refuses db chosen c.args.plan.now.session c.args.target.now c.conclude.new.self c.record-in-Err.new.target
-    (grown_conclude g.F.WriteFilter.refuses db chosen c.args.plan.now.session c.args.target.now c.conclude.new.self c.args.plan.now.session c.args.plan.now.at c.conclude.ensures.filter c.conclude.ensures.peer) (c.record-in-Err.ensures.grown db chosen)
+    (grown_conclude g.F.WriteFilter.refuses db chosen c.args.plan.now.session c.args.target.now c.conclude.new.self c.args.plan.now.at c.conclude.ensures.filter c.conclude.ensures.peer) (c.record-in-Err.ensures.grown db chosen)
 
 pub returns-in-Some-clause-err : goal.returns-in-Some-clause-err
 returns-in-Some-clause-err g c = stopped c.in-Some.is c.record.ensures.peer

@@ -35,7 +35,7 @@ returns-in-Ok-clause-shown g c =
 
 pub returns-in-Err-clause-runs : goal.returns-in-Err-clause-runs
 returns-in-Err-clause-runs g c =
-    runs_early g.F.WriteFilter.refuses (MayFill (option_copied c.args.board)) (g.G.Gate.may_stop c.args.gate.now) c.args.plan.now c.args.source c.args.target _ _ (sym c.check_run.ensures ∙ c.in-Err.is) (search rules)
+    runs_early g.F.WriteFilter.refuses (MayFill (option_copied c.args.board)) (g.G.Gate.may_stop c.args.gate.now) c.args.plan.now c.args.source c.args.target _ _ c.db-2.ensures.law.sessions (sym c.check_run.ensures ∙ c.in-Err.is) (search rules)
 
 pub returns-in-Err-clause-back : goal.returns-in-Err-clause-back
 returns-in-Err-clause-back g c = back_same (option_copied c.args.board) _ (seats_seated (option_copied c.args.board) 0 c.args.plan.now.workers _ c.requires.seats)
@@ -43,7 +43,7 @@ returns-in-Err-clause-back g c = back_same (option_copied c.args.board) _ (seats
 pub returns-in-Err-begin_plan-clause-runs : goal.returns-in-Err-begin_plan-clause-runs
 returns-in-Err-begin_plan-clause-runs g c =
     let early : early_answer c.args.source.1 c.args.target.1 c.args.plan.now ≡ Ok tt = sym c.check_run.ensures ∙ c.in_default.is in
-    runs_refused g.F.WriteFilter.refuses (MayFill (option_copied c.args.board)) (g.G.Gate.may_stop c.args.gate.now) c.args.plan.now c.args.source c.args.target _ _ c.begin_plan.new.target early c.in-Err-begin_plan.ensures.filter c.in-Err-begin_plan.ensures.err
+    runs_refused g.F.WriteFilter.refuses (MayFill (option_copied c.args.board)) (g.G.Gate.may_stop c.args.gate.now) c.args.plan.now c.args.source c.args.target _ _ c.begin_plan.new.target c.db-2.ensures.law.sessions early c.in-Err-begin_plan.ensures.refused c.in-Err-begin_plan.ensures.filter c.in-Err-begin_plan.ensures.err
 
 pub returns-in-Err-begin_plan-clause-back : goal.returns-in-Err-begin_plan-clause-back
 returns-in-Err-begin_plan-clause-back g c = back_same (option_copied c.args.board) _ (seats_seated (option_copied c.args.board) 0 c.args.plan.now.workers _ c.requires.seats)

@@ -2,9 +2,13 @@ use Rattle.std.proofs.Common.{refl, subst, sym}
 use Rattle.repl_target.specs.Calls.{Append, IsPageOf}
 use Rattle.repl_pool.proofs.Growing.{tries}
 use Rattle.repl_target.proofs.ReadCounts.{append_reads}
+use Rattle.repl_pool.proofs.Refusals.{append_step}
 use Rattle.repl_pool.proofs.desk.Desk.append.Goals as goal
 
 pub invariant_of-self : goal.invariant_of-self
 invariant_of-self g c =
     tries g.F.WriteFilter.refuses g.S.Origin.source g.S.Origin.chosen g.J.Given.given c.self.inside.session c.self.inside.book.total c.self.inside.target c.append.new.self (Append c.self.inside.session c.into_window-window.result) c.append.result c.self.invariant c.append.ensures.filter
     (refl, subst (IsPageOf g.S.Origin.source g.S.Origin.chosen) (sym c.into_window-window.ensures.value) c.into_window-window.ensures.page) (append_reads c.self.inside.target.1 c.self.inside.session c.into_window-window.result) c.append.ensures.ok c.append.ensures.err
+
+pub returns-clause-step : goal.returns-clause-step
+returns-clause-step g c = append_step c.self.inside.target.1 c.self.inside.session c.into_window-window.result c.append.result c.append.ensures.answer

@@ -1,0 +1,77 @@
+-- What a worker's call on the target may be refused for.
+use Rattle.std.proofs.Common.{◌==◌, nat_lt, Bool, cond, Option, None, Some, Result, Ok, Err, IfErr, sym, subst}
+use Rattle.std.proofs.lemmas.Bool.{cond_both}
+use Rattle.std.specs.List.{list_all}
+use Rattle.rev_tree.specs.declared.origin.SessionId.{SessionId}
+use Rattle.doc_json.specs.Document.{Document}
+use Rattle.couch_base.specs.Feed.{WindowValue}
+use Rattle.couch_base.specs.Messages.{ParcelValue}
+use Rattle.range_front.specs.Front.{end_of, low_water, is_done}
+use Rattle.repl_target.specs.Peer.{PeerValue, SessionValue, session_in}
+use Rattle.repl_target.specs.Sessions.{GivesUnlessMemory, found_answer, next_in, append_in, append_answer, record_answer}
+use Rattle.repl_target.specs.Settling.{has_row, has_room, window_in, settle_at, settle_check, SettlesAt, Settles, SettleGives}
+use Rattle.repl_target.specs.declared.fault.Settled.{Settled}
+use Rattle.repl_target.specs.declared.fault.TargetFault.{TargetFault}
+use Rattle.repl_target.specs.declared.fault.TargetFault.TheVariants as refusals
+use Rattle.repl_pool.specs.Faults.{IsStepFault}
+
+-- ---- storing a window
+
+abbrev IsStep : {A : Type 0} → Result A TargetFault → Type 0
+IsStep r = IfErr r IsStepFault
+
+window_step : (w : WindowValue) (s : SessionValue) → IsStep (append_in w s)
+window_step w s =
+    cond_both (w.life == s.life) (next_in w s) (Err (refusals.OtherLife s.life)) IsStep
+    (λ _. cond_both (w.lo == end_of s.front) (cond (nat_lt s.goal w.hi) (Err refusals.PastGoal) (Ok tt)) (Err (refusals.Gap (end_of s.front))) IsStep
+    (λ _. cond_both (nat_lt s.goal w.hi) (Err refusals.PastGoal) (Ok tt) IsStep (λ _. tt) (λ _. tt))
+    (λ _. tt))
+    (λ _. tt)
+
+pub append_step : (p : PeerValue) (id : SessionId) (w : WindowValue) (r : Result (Unit {0}) TargetFault) → GivesUnlessMemory r (append_answer p id w) → IfErr r IsStepFault
+append_step p id w r h = told r (append_answer p id w) (answers (session_in p.sessions id)) h
+  where
+    answers : (o : Option SessionValue) → IsStep (found_answer (append_in w) o)
+    answers None = tt
+    answers (Some s) = window_step w s
+
+    told : (r e : Result (Unit {0}) TargetFault) → IsStep e → GivesUnlessMemory r e → IsStep r
+    told (Ok done) e k h = tt
+    told (Err refusals.Memory) e k h = tt
+    told (Err why) e k h = subst IsStep (sym h) k
+
+-- ---- recording
+
+pub record_step : (p : PeerValue) (id : SessionId) → IfErr (record_answer p id) IsStepFault
+record_step p id = go (session_in p.sessions id)
+  where
+    go : (o : Option SessionValue) → IsStep (found_answer (λ (s : SessionValue). Ok (low_water s.front)) o)
+    go None = tt
+    go (Some s) = tt
+
+-- ---- settling
+
+check_step : (s : SessionValue) (parcel : ParcelValue) (o : Option WindowValue) → IsStep (settle_at s parcel o)
+check_step s parcel None = tt
+check_step s parcel (Some w) =
+    let room : Result (SessionValue × WindowValue) TargetFault = cond (has_room s w parcel) (Ok (s, w)) (Err refusals.CountFull) in
+    cond_both (list_all (has_row w) parcel.docs) (cond (is_done s.front w.lo w.hi) (Err refusals.AlreadyDone) room) (Err refusals.ForeignParcel) IsStep
+    (λ _. cond_both (is_done s.front w.lo w.hi) (Err refusals.AlreadyDone) room IsStep (λ _. tt) (λ _. cond_both (has_room s w parcel) (Ok (s, w)) (Err refusals.CountFull) IsStep (λ _. tt) (λ _. tt)))
+    (λ _. tt)
+
+pub settle_step : (refuses : Document → Bool) (p : PeerValue) (id : SessionId) (parcel : ParcelValue) (result : Result Settled TargetFault) (q : PeerValue) → SettleGives refuses p id parcel result q → IfErr result IsStepFault
+settle_step refuses p id parcel result q gives = go (settle_check p id parcel) (checks (session_in p.sessions id)) gives
+  where
+    checks : (o : Option SessionValue) → IsStep (found_answer (λ (s : SessionValue). settle_at s parcel (window_in s parcel.asked.lo parcel.asked.hi)) o)
+    checks None = tt
+    checks (Some s) = check_step s parcel (window_in s parcel.asked.lo parcel.asked.hi)
+
+    at_window : (s : SessionValue) (w : WindowValue) (r : Result Settled TargetFault) → SettlesAt refuses p parcel s w r q → IsStep r
+    at_window s w (Ok settled) h = tt
+    at_window s w (Err (refusals.Uncovered seq uncovered rev)) h = tt
+    at_window s w (Err (refusals.Stopped n rest cause)) h = tt
+    at_window s w (Err fault) h = absurd h
+
+    go : (r : Result (SessionValue × WindowValue) TargetFault) → IsStep r → Settles refuses p parcel r result q → IsStep result
+    go (Err fault) k h = subst IsStep (sym h.0) k
+    go (Ok at) k h = at_window at.0 at.1 result h
