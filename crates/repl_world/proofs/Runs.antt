@@ -1,5 +1,5 @@
 -- Runs of steps, and what a tied world may be trusted for.
-use Rattle.std.proofs.Common.{◌≡◌, ℕ, suc, ◌+◌, ◌<◌, ◌≤◌, ◌==◌, List, [], ◌∷◌, ◌++◌, Bool, Option, Some, None, Result, Ok, Err, OnOk, OnErr, take, get_or, length, slice_get, take_all, refl, sym, ap, ◌∙◌, subst, inr, arith}
+use Rattle.std.proofs.Common.{◌≡◌, ℕ, suc, ◌+◌, ◌<◌, ◌≤◌, ◌==◌, List, [], ◌∷◌, ◌++◌, Bool, Option, Some, None, Result, Ok, Err, OnOk, OnErr, IfSome, take, get_or, length, slice_get, take_all, refl, sym, ap, ◌∙◌, subst, inl, inr, arith}
 use Rattle.std.proofs.Math.Seq.{take-suc}
 use Rattle.std.proofs.lemmas.Bool.{cond-true, eq-eqb}
 use Rattle.std.proofs.lemmas.Option.{slice_get-get_or}
@@ -21,7 +21,7 @@ use Rattle.repl_target.specs.declared.fault.TargetFault.{TargetFault}
 use Rattle.repl_target.specs.declared.fault.TargetFault.TheVariants as faults
 use Rattle.repl_target.proofs.Covering.{honest_is, audited_is, tied_none}
 use Rattle.repl_target.proofs.RefusedCalls.{append_refused}
-use Rattle.repl_target.proofs.Replicated.{settle_left, settle_gives}
+use Rattle.repl_target.proofs.Replicated.{settle_left, settle_gives, settle_stops}
 use Rattle.repl_target.proofs.SettlingTakes.{own_covered}
 use Rattle.repl_world.specs.declared.fault.WorldFault.TheVariants.{SamePeer}
 use Rattle.repl_world.specs.declared.step.Step.{Step}
@@ -105,7 +105,15 @@ module _ (refuses : Document → Bool) (w : WorldValue) (session : SessionId) (p
 
   pub settled_err : {E : Type 0} (r : Result (Unit {0}) E) → OnErr r ((n : ℕ) × (stopped_at result ≡ Some n)) → OnErr r (IsStopped refuses w session (slice_get w.bag.parcels place) (record w { target = q }))
   settled_err (Ok done) h = tt
-  settled_err (Err e) h = inr (h.0, ap (λ t. record w { target = t }) (left (Some h.0) h.1) ∙ sym (ap (stops refuses w session h.0) there))
+  settled_err (Err e) h =
+      elim (settle_stops refuses w.target session parcel result q gives h.0 h.1) [
+        | inl kept ↦ inl (ap (λ t. record w { target = t }) kept)
+        | inr stops_at ↦ inr (
+          h.0,
+          subst (λ (o : Option (ℕ × ParcelValue)). IfSome o (λ (p : ℕ × ParcelValue). h.0 ≤ length p.1.docs)) (sym there) (subst (λ (x : ParcelValue). h.0 ≤ length x.docs) same stops_at.0),
+          ap (λ t. record w { target = t }) (left (Some h.0) h.1) ∙ sym (ap (stops refuses w session h.0) there),
+        )
+      ]
 
 -- ---- storing
 

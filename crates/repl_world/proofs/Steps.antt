@@ -378,7 +378,7 @@ cut_tied refuses w (Fetch asked) now l is h = subst Tied (sym is) h
 cut_tied refuses w (Settle session parcel) now l is h =
     elim is [
       | inl same ↦ subst Tied (sym same) h
-      | inr stopped ↦ subst Tied (sym stopped.1) (stop_step refuses w session stopped.0 (slice_get w.bag.parcels parcel) l h)
+      | inr stopped ↦ subst Tied (sym stopped.2) (stop_step refuses w session stopped.0 (slice_get w.bag.parcels parcel) l h)
     ]
 cut_tied refuses w (Record session at) now l is h = subst Tied (sym is) h
 cut_tied refuses w (Conclude session at) now l is h = subst Tied (sym is) h

@@ -7,7 +7,7 @@
 -- the one before it. Copies of the source stand beside the bag. One of them may be put back at any moment, and the
 -- source's database then begins another life. A crash loses all messages, and nothing else. What holds after every list
 -- of steps holds however the two databases talk, and whoever else writes to them meanwhile.
-use Rattle.std.specs.Prelude.{◌≡◌, ◌⊎◌, ℕ, ◌==◌, List, [], ◌∷◌, ◌++◌, Bool, if◌then◌else◌, Option, Some, None, Result, Ok, Err, take, slice_get}
+use Rattle.std.specs.Prelude.{◌≡◌, ◌⊎◌, ℕ, ◌==◌, ◌≤◌, List, [], ◌∷◌, ◌++◌, length, Bool, if◌then◌else◌, Option, Some, None, IfSome, Result, Ok, Err, take, slice_get}
 use Rattle.rev_tree.specs.declared.origin.SessionId.{SessionId}
 use Rattle.doc_json.specs.Document.{Document}
 use Rattle.doc_json.specs.Chosen.{Choice}
@@ -172,9 +172,13 @@ run refuses w (step ∷ steps) = run refuses (happens refuses w step) steps
 
 -- ---- where memory was wanting
 
--- what a step leaves that found no memory: a settling is cut short after some documents, and any other changes nothing
+-- what a step leaves that found no memory: a settling is cut short after some of the parcel's documents, and any other
+-- changes nothing
 abbrev pub IsStopped : (Document → Bool) → WorldValue → SessionId → Option (ℕ × ParcelValue) → WorldValue → Type 0
-IsStopped refuses w session parcel now = (now ≡ w) ⊎ (n : ℕ) × (now ≡ stops refuses w session n parcel)
+IsStopped refuses w session parcel now =
+    (now ≡ w)
+    ⊎ (n : ℕ) × IfSome parcel (λ (p : ℕ × ParcelValue). n ≤ length p.1.docs)
+    × (now ≡ stops refuses w session n parcel)
 
 abbrev pub CutShort : (Document → Bool) → WorldValue → Step → WorldValue → Type 0
 CutShort refuses w (Settle session parcel) now = IsStopped refuses w session (slice_get w.bag.parcels parcel) now
