@@ -4,7 +4,7 @@ ghost use Rattle.couch_replicate.specs.Ends.{Ends};
 
 use crate::options::{NoSettings, read_words};
 use script_engine::{ScriptFault, ScriptRead, ScriptWrite};
-use script_words::run_last_script;
+use script_words::run_script;
 use std::sync::Wait;
 use std::thread::Threads;
 
@@ -33,6 +33,6 @@ pub fn run_words<'a, H: AllocGlobal + Threads + Wait + Sync, R: ScriptRead, W: S
         Ok(settings) => settings,
         Err(why) => return Ended::NotRun(why),
     };
-    let ended = run_last_script(rt, reader, writer, &settings);
+    let ended = run_script(rt, reader, writer, &settings);
     Ended::Ran(ended)
 }

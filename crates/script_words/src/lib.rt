@@ -11,4 +11,4 @@ mod session;
 mod texts;
 mod words;
 
-pub use session::{run_last_script, run_script};
+pub use session::run_script;

@@ -94,45 +94,11 @@ fn serve_line<H: Threads + Wait + Sync>(
 /// come only where that device failed in this call, but that `Read` also comes in the place of a further read after
 /// 4,294,967,295 reads, each of at most 65,536 bytes. `Memory` comes only while a line is read in.
 ///
+/// The databases of the script are left in memory, since to let go of each document takes long: a program ends behind
+/// it.
+///
 /// It waits for the threads of a `replicate` line. That it ends is not proved.
 pub fn run_script<H: AllocGlobal + Threads + Wait + Sync, R: ScriptRead, W: ScriptWrite>(
-    rt: &H,
-    reader: &mut R,
-    writer: &mut W,
-    settings: &Settings,
-) -> Result<bool, ScriptFault>
-    // What is written is the answers to the lines of what was read, to its end.
-    ensures answers { IfOk result
-        (λ clean. (input : List ℕ) × (text : List ℕ) × (state : State) × Gives (R.left reader.old) input
-        × Appends (W.held writer.old) (W.held writer.new) text
-        × IsAnswered LinesAnswer (no_databases (program_of settings.now)) input clean text state) }
-    ensures end { OnOk result (IsAtEnd (R.left reader.new)) }
-    ensures counted { OnOk result ((R.failures reader.new ≡ R.failures reader.old)
-        × (W.failures writer.new ≡ W.failures writer.old)) }
-    // After a fault it is a beginning of such answers, and the device that is named has failed. `Memory` comes only
-    // while a line is read in: the lines before it are answered whole.
-    ensures fault { IfErr result (λ fault. (input : List ℕ) × (text : List ℕ) × Gives (R.left reader.old) input
-        × Appends (W.held writer.old) (W.held writer.new) text
-        × IsToldUntil fault LinesAnswer (no_databases (program_of settings.now)) input text
-        × IsFaultOf fault (R.reads reader.old) (R.reads reader.new) (R.failures reader.old) (R.failures reader.new)
-        (W.failures writer.old) (W.failures writer.new)) }
-    // Where a read fails, all lines that were read in before are answered, and wherever no write failed, their answers
-    // have been passed on. So it is at each read, since each of them may fail.
-    ensures read { IfErr result (λ fault. fault ≡ Read → (taken : List ℕ) × (text : List ℕ) × (state : State)
-        × Consumes (R.left reader.old) (R.left reader.new) taken × Appends (W.held writer.old) (W.held writer.new) text
-        × AnswersEnded LinesAnswer (no_databases (program_of settings.now)) taken text state) }
-    ensures sent { IsSent result (W.held writer.new) (W.sent writer.new) }
-{
-    let Ok(databases) = Databases::new(rt.alloc(), settings) else {
-        return Err(leave(writer, ScriptFault::Memory));
-    };
-    let (ended, _databases) = run_on(rt, rt.alloc(), databases, reader, writer);
-    ended
-}
-
-/// Runs a script as `run_script` does, and leaves its databases in memory: for a program that ends behind it, since to
-/// let go of each document takes long.
-pub fn run_last_script<H: AllocGlobal + Threads + Wait + Sync, R: ScriptRead, W: ScriptWrite>(
     rt: &H,
     reader: &mut R,
     writer: &mut W,

@@ -21,4 +21,4 @@ answered g l l' h h' k k' r r' w w' (Err fault) a (input, text, gives, written, 
 
 pub returns : goal.returns
 returns g c =
-    (c.in-Ok.settings, c.in-Ok.ensures.ok, answered _ _ _ _ _ _ _ _ _ _ _ c.run_last_script-ended.result c.run_last_script-ended.ensures.answers c.run_last_script-ended.ensures.fault c.run_last_script-ended.ensures.read, c.run_last_script-ended.ensures.sent)
+    (c.in-Ok.settings, c.in-Ok.ensures.ok, answered _ _ _ _ _ _ _ _ _ _ _ c.run_script-ended.result c.run_script-ended.ensures.answers c.run_script-ended.ensures.fault c.run_script-ended.ensures.read, c.run_script-ended.ensures.sent)
