@@ -2,7 +2,7 @@ use Rattle.std.proofs.Common.{refl}
 use Rattle.script_engine.specs.declared.fault.ScriptFault.TheVariants.{Memory}
 use Rattle.script_engine.proofs.RunLemmas.{IsFaultOf-left, SoFar-not_begun, not_read}
 use Rattle.script_words.proofs.SessionLemmas.{some_end, some_state, same_start}
-use Rattle.script_words.proofs.session.run_last_script.Goals as goal
+use Rattle.script_words.proofs.session.run_script.Goals as goal
 
 pub returns-in_default-clause-fault : goal.returns-in_default-clause-fault
 returns-in_default-clause-fault g c =
