@@ -1,9 +1,62 @@
-use Rattle.std.proofs.Common.{◌≡◌, sym, subst}
+use Rattle.std.proofs.Common.{◌≡◌, Ok, Err, subst}
 use Rattle.couch_base.specs.Database.{LawfulDatabase}
 use Rattle.repl_target.proofs.BothWays.{turned_tied, both_meet}
+use Rattle.repl_pool.specs.Runs.{Runs}
 use Rattle.repl_pool.specs.Sync.{refused_there, refused_back, both}
 use Rattle.repl_pool.proofs.Syncing.{run_leaves}
 use Rattle.repl_pool.proofs.both_ways.sync.Goals as goal
 
 pub returns-in-Err-clause-runs : goal.returns-in-Err-clause-runs
-returns-in-Err-clause-runs g c = refused_there c.run.ensures.runs
+returns-in-Err-clause-runs g c =
+    refused_there (subst (λ o. Runs g.F.WriteFilter.refuses (g.G.Gate.may_stop c.args.gate.now) c.args.there.now c.args.a c.args.b c.run-a.result.source c.run-a.result.target c.run-a.result.fetched.items o) c.in-Err.is c.run-a.ensures.runs)
+
+pub returns-in-Err-clause-tied_back : goal.returns-in-Err-clause-tied_back
+returns-in-Err-clause-tied_back g c =
+    turned_tied (g.F.WriteFilter.refuses c.args.b.0) c.args.a.1 c.args.b.1 c.args.there.now c.run-a.result.source.1 c.run-a.result.target.1 (subst LawfulDatabase c.db.ensures.value c.update_seq-seq.ensures.law) c.db-2.ensures.law.sessions
+    (run_leaves _ _ _ _ _ _ _ _ _ c.run-a.ensures.runs)
+
+pub returns-in-Ok-outcome-clause-runs : goal.returns-in-Ok-outcome-clause-runs
+returns-in-Ok-outcome-clause-runs g c =
+    both {reports = record { there = c.in-Ok.report; back = c.in-Ok-outcome.report }}
+    (subst (λ o. Runs g.F.WriteFilter.refuses (g.G.Gate.may_stop c.args.gate.now) c.args.there.now c.args.a c.args.b c.run-a.result.source c.run-a.result.target c.run-a.result.fetched.items o) c.in-Ok.is c.run-a.ensures.runs)
+    (subst (λ o. Runs g.F.WriteFilter.refuses (g.G.Gate.may_stop c.args.gate.now) c.args.back.now c.run-a.result.target c.run-a.result.source c.run-b.result.source c.run-b.result.target c.run-b.result.fetched.items o) c.in-Ok-outcome.is c.run-b.ensures.runs)
+
+pub returns-in-Ok-outcome-clause-tied_there : goal.returns-in-Ok-outcome-clause-tied_there
+returns-in-Ok-outcome-clause-tied_there g c =
+    λ chosen backups h.
+    turned_tied (g.F.WriteFilter.refuses c.run-a.result.source.0) c.run-a.result.target.1 c.run-a.result.source.1 c.args.back.now c.run-b.result.source.1 c.run-b.result.target.1 (subst LawfulDatabase c.db-3.ensures.value c.update_seq-seq_between.ensures.law) c.db-4.ensures.law.sessions
+    (run_leaves _ _ _ _ _ _ _ _ _ c.run-b.ensures.runs) chosen backups (c.run-a.ensures.runs.tied chosen backups h)
+
+pub returns-in-Ok-outcome-clause-tied_back : goal.returns-in-Ok-outcome-clause-tied_back
+returns-in-Ok-outcome-clause-tied_back g c =
+    λ chosen backups h.
+    c.run-b.ensures.runs.tied chosen backups
+    (turned_tied (g.F.WriteFilter.refuses c.args.b.0) c.args.a.1 c.args.b.1 c.args.there.now c.run-a.result.source.1 c.run-a.result.target.1 (subst LawfulDatabase c.db.ensures.value c.update_seq-seq.ensures.law) c.db-2.ensures.law.sessions
+    (run_leaves _ _ _ _ _ _ _ _ _ c.run-a.ensures.runs) chosen backups h)
+
+pub returns-in-Ok-outcome-clause-meet : goal.returns-in-Ok-outcome-clause-meet
+returns-in-Ok-outcome-clause-meet g c =
+    let first = subst (λ o. Runs g.F.WriteFilter.refuses (g.G.Gate.may_stop c.args.gate.now) c.args.there.now c.args.a c.args.b c.run-a.result.source c.run-a.result.target c.run-a.result.fetched.items o) c.in-Ok.is c.run-a.ensures.runs in
+    let second = subst (λ o. Runs g.F.WriteFilter.refuses (g.G.Gate.may_stop c.args.gate.now) c.args.back.now c.run-a.result.target c.run-a.result.source c.run-b.result.source c.run-b.result.target c.run-b.result.fetched.items o) c.in-Ok-outcome.is c.run-b.ensures.runs in
+    both_meet (g.F.WriteFilter.refuses c.run-a.result.source.0) (g.F.WriteFilter.refuses c.args.b.0) c.args.a.1 c.args.b.1 c.run-a.result.source.1 c.run-a.result.target.1 c.run-b.result.target.1 c.run-b.result.source.1 c.args.there.now c.args.back.now
+    (subst LawfulDatabase c.db.ensures.value c.update_seq-seq.ensures.law) (subst LawfulDatabase c.db-3.ensures.value c.update_seq-seq_between.ensures.law) (subst LawfulDatabase c.db-5.ensures.value c.update_seq-seq_after.ensures.law) c.db-2.ensures.law.sessions
+    (run_leaves _ _ _ _ _ _ _ _ _ c.run-a.ensures.runs) (run_leaves _ _ _ _ _ _ _ _ _ c.run-b.ensures.runs) first.whole second.whole
+
+pub returns-in-Err-outcome-clause-runs : goal.returns-in-Err-outcome-clause-runs
+returns-in-Err-outcome-clause-runs g c =
+    refused_back
+    (subst (λ o. Runs g.F.WriteFilter.refuses (g.G.Gate.may_stop c.args.gate.now) c.args.there.now c.args.a c.args.b c.run-a.result.source c.run-a.result.target c.run-a.result.fetched.items o) c.in-Ok.is c.run-a.ensures.runs)
+    (subst (λ o. Runs g.F.WriteFilter.refuses (g.G.Gate.may_stop c.args.gate.now) c.args.back.now c.run-a.result.target c.run-a.result.source c.run-b.result.source c.run-b.result.target c.run-b.result.fetched.items o) c.in-Err-outcome.is c.run-b.ensures.runs)
+
+pub returns-in-Err-outcome-clause-tied_there : goal.returns-in-Err-outcome-clause-tied_there
+returns-in-Err-outcome-clause-tied_there g c =
+    λ chosen backups h.
+    turned_tied (g.F.WriteFilter.refuses c.run-a.result.source.0) c.run-a.result.target.1 c.run-a.result.source.1 c.args.back.now c.run-b.result.source.1 c.run-b.result.target.1 (subst LawfulDatabase c.db-3.ensures.value c.update_seq-seq_between.ensures.law) c.db-4.ensures.law.sessions
+    (run_leaves _ _ _ _ _ _ _ _ _ c.run-b.ensures.runs) chosen backups (c.run-a.ensures.runs.tied chosen backups h)
+
+pub returns-in-Err-outcome-clause-tied_back : goal.returns-in-Err-outcome-clause-tied_back
+returns-in-Err-outcome-clause-tied_back g c =
+    λ chosen backups h.
+    c.run-b.ensures.runs.tied chosen backups
+    (turned_tied (g.F.WriteFilter.refuses c.args.b.0) c.args.a.1 c.args.b.1 c.args.there.now c.run-a.result.source.1 c.run-a.result.target.1 (subst LawfulDatabase c.db.ensures.value c.update_seq-seq.ensures.law) c.db-2.ensures.law.sessions
+    (run_leaves _ _ _ _ _ _ _ _ _ c.run-a.ensures.runs) chosen backups h)
