@@ -30,7 +30,7 @@ fn body(rt: &impl Abort, alloc: Global, rng: &mut ChaCha8Rng) -> Body {
 /// A leaf of a tree by chance; none, where there is no tree.
 fn leaf(rt: &impl Abort, alloc: Global, rng: &mut ChaCha8Rng, tree: Option<&Tree>) -> Option<Rev> {
     let leaves = tree?.leaves(alloc).expect(rt, "memory");
-    let place = below(rng, leaves.len().max(1) as u32);
+    let place = below(rng, 60) % leaves.len().max(1);
     leaves.get(place).copied()
 }
 
