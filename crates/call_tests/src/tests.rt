@@ -37,6 +37,9 @@ mod pool_boards;
 mod pool_gates;
 mod pool_orders;
 
+// Values that go into a thread and come back.
+mod crossings;
+
 // Worlds.
 mod world_rows;
 mod worlds;
