@@ -36,6 +36,7 @@ mod pools;
 mod pool_boards;
 mod pool_gates;
 mod pool_orders;
+mod pool_schedules;
 
 // Values that go into a thread and come back.
 mod crossings;
