@@ -28,11 +28,18 @@ mod large;
 mod large_rows;
 
 // Replications by the pool.
+mod carried;
+mod pool_rows;
 mod pools;
 
-// What watches a run of the pool, and what stops it.
+// What watches a run of the pool, what holds its workers, and what stops it.
 mod pool_boards;
 mod pool_gates;
+mod pool_orders;
+mod pool_schedules;
+
+// Values that go into a thread and come back.
+mod crossings;
 
 // Worlds.
 mod world_rows;

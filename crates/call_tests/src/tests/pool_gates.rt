@@ -1,5 +1,6 @@
 //! Runs of the pool whose gate stops or holds a worker.
 use crate::tests::peers::Rep;
+use crate::tests::pool_rows::{CARRIED, DOCUMENTS, OPEN_PEERS};
 use crate::tests::pools::{Bench, Call, How, Rows};
 use crate::tests::texts::expect_answer;
 use repl_pool::{Gate, Place, Turn};
@@ -99,73 +100,6 @@ impl Gate for HoldsFetched {
     }
 }
 
-/// Holds the first window's writer until the second window is fetched.
-#[derive(Drop)]
-struct HoldsSettled {
-    fetched: AtomicBool,
-    ran_out: AtomicBool,
-}
-
-impl HoldsSettled {
-    /// Nothing was told yet.
-    fn new() -> HoldsSettled {
-        HoldsSettled {
-            fetched: AtomicBool::new(false),
-            ran_out: AtomicBool::new(false),
-        }
-    }
-}
-
-impl Gate for HoldsSettled {
-    ghost may_stop = { λ _ _. ⊥ };
-
-    fn at<R: Wait>(&self, _rt: &R, place: Place) -> Turn {
-        match place {
-            Place::Fetched(1) => self.fetched.store(true, Ordering::SeqCst),
-            Place::Settled(0) => hold(&self.fetched, &self.ran_out),
-            _ => {}
-        }
-        Turn::Go
-    }
-}
-
-/// Holds the fetcher that took the second window until the first one is recorded, and its writer there until the second
-/// one is asked for.
-#[derive(Drop)]
-struct HoldsRecorded {
-    recorded: AtomicBool,
-    asked: AtomicBool,
-    ran_out: AtomicBool,
-}
-
-impl HoldsRecorded {
-    /// Nothing was told yet.
-    fn new() -> HoldsRecorded {
-        HoldsRecorded {
-            recorded: AtomicBool::new(false),
-            asked: AtomicBool::new(false),
-            ran_out: AtomicBool::new(false),
-        }
-    }
-}
-
-impl Gate for HoldsRecorded {
-    ghost may_stop = { λ _ _. ⊥ };
-
-    fn at<R: Wait>(&self, _rt: &R, place: Place) -> Turn {
-        match place {
-            Place::Took(1) => hold(&self.recorded, &self.ran_out),
-            Place::Asked(1) => self.asked.store(true, Ordering::SeqCst),
-            Place::Recorded(0, _) => {
-                self.recorded.store(true, Ordering::SeqCst);
-                hold(&self.asked, &self.ran_out);
-            }
-            _ => {}
-        }
-        Turn::Go
-    }
-}
-
 /// Stops once, at a kind of place of a window: took, asked, fetched, settled or recorded, by their numbers from 0.
 #[derive(Drop)]
 struct StopsOnce {
@@ -186,7 +120,7 @@ impl StopsOnce {
 }
 
 /// The kind of a place, and its window.
-fn kind_of(place: Place) -> (u64, u64) {
+pub(crate) fn kind_of(place: Place) -> (u64, u64) {
     match place {
         Place::Took(window) => (0, window),
         Place::Asked(window) => (1, window),
@@ -221,25 +155,6 @@ fn windows_done_out_of_order(rt: HostRuntime) {
     assert_eq!(rt; gate.at_first.load(Ordering::SeqCst), 4);
 }
 
-#[test]
-fn fetching_goes_on_beside_a_held_writer(rt: HostRuntime) {
-    let gate = HoldsSettled::new();
-    let mut bench = Bench::new(rt.alloc(), 1);
-    bench.run(&rt, FOUR);
-    expect_answer(&rt, 3, bench.replicate(&rt, &gate, A, B, TWO_ROWS), WELL);
-    assert!(rt; !gate.ran_out.load(Ordering::SeqCst), "out of turns");
-}
-
-// A window is asked for under the lock, which so is free while a writer is held behind its recording.
-#[test]
-fn asking_goes_on_beside_a_writer_held_at_recorded(rt: HostRuntime) {
-    let gate = HoldsRecorded::new();
-    let mut bench = Bench::new(rt.alloc(), 1);
-    bench.run(&rt, FOUR);
-    expect_answer(&rt, 3, bench.replicate(&rt, &gate, A, B, TWO_ROWS), WELL);
-    assert!(rt; !gate.ran_out.load(Ordering::SeqCst), "out of turns");
-}
-
 // A count of what was fetched that is copied from the report would be 0.
 #[test]
 fn fetched_is_counted_where_a_run_stops(rt: HostRuntime) {
@@ -268,38 +183,21 @@ static STOPPED: [&str; 5] = [
     "Halted(Recorded(",
 ];
 
-/// A source of six documents of one revision each, and an empty target.
-static SIX: Rows = &[
-    (Call::Peer(1, None), "made"),
-    (Call::Peer(2, None), "made"),
-    (Call::Fill(A, 6), "Changed { seq: 6 }"),
-];
-
-/// What stands once all is carried.
-static ALL: Rows = &[
-    (Call::Common(A, B, REP), "6"),
-    (Call::Audit(A, B), "clean"),
-    (Call::Tree(B, "d0"), "1-a of 1"),
-    (Call::Tree(B, "d1"), "1-a of 1"),
-    (Call::Tree(B, "d2"), "1-a of 1"),
-    (Call::Tree(B, "d3"), "1-a of 1"),
-    (Call::Tree(B, "d4"), "1-a of 1"),
-    (Call::Tree(B, "d5"), "1-a of 1"),
-];
-
 static CLEAN: Rows = &[(Call::Audit(A, B), "clean")];
 
-/// Asserts that a run stops at a kind of place of a window.
-fn stop<R: Abort + Threads + Wait + Sync>(
+static AT_GOAL: Rows = &[(Call::Common(A, B, REP), "11")];
+
+/// Asserts that a run stops at a kind of place of a window, where the gate stops it, and that an audit is clean then.
+pub(crate) fn expect_stop<G: Gate + Sync, R: Abort + Threads + Wait + Sync>(
     rt: &R,
     alloc: Global,
     bench: &mut Bench,
+    gate: &G,
     kind: u64,
     window: u64,
 ) {
-    let gate = StopsOnce::new(kind, window);
     let answer = bench
-        .replicate(rt, &gate, A, B, TWO_ROWS)
+        .replicate(rt, gate, A, B, TWO_ROWS)
         .expect(rt, "a run");
     let name = STOPPED[kind as usize % 5];
     let wanted = format!(in alloc; "{name}{window}").expect(rt, "memory");
@@ -307,28 +205,31 @@ fn stop<R: Abort + Threads + Wait + Sync>(
         answer.starts_with(wanted.as_str()),
         "{answer} at {kind} of {window}"
     );
+    bench.run(rt, CLEAN);
 }
 
-/// Asserts that a further run begins at what both logs agree about, and ends at the goal.
-fn go_on<R: Abort + Threads + Wait + Sync>(rt: &R, alloc: Global, bench: &mut Bench) {
+/// Asserts that a further run begins at what both logs agree about, and ends at the goal, as both logs then say.
+pub(crate) fn go_on<R: Abort + Threads + Wait + Sync>(rt: &R, alloc: Global, bench: &mut Bench) {
     let from = bench
         .answer(rt, &Call::Common(A, B, REP))
         .expect(rt, "two logs");
     let answer = bench
         .answer(rt, &Call::Run(A, B, AGAIN))
         .expect(rt, "a run");
-    let wanted = format!(in alloc; "session 2 from {from} to 6 ").expect(rt, "memory");
+    let wanted = format!(in alloc; "session 2 from {from} to 11 ").expect(rt, "memory");
     assert!(rt; answer.starts_with(wanted.as_str()), "{answer} from {from}");
+    bench.run(rt, AT_GOAL);
 }
 
 /// A run that stops, and a further one that carries the rest.
 fn stop_and_go_on<R: Abort + Threads + Wait + Sync>(rt: &R, alloc: Global, kind: u64, window: u64) {
+    let gate = StopsOnce::new(kind, window);
     let mut bench = Bench::new(alloc, 2);
-    bench.run(rt, SIX);
-    stop(rt, alloc, &mut bench, kind, window);
-    bench.run(rt, CLEAN);
+    bench.run(rt, OPEN_PEERS);
+    bench.run(rt, DOCUMENTS);
+    expect_stop(rt, alloc, &mut bench, &gate, kind, window);
     go_on(rt, alloc, &mut bench);
-    bench.run(rt, ALL);
+    bench.run(rt, CARRIED);
 }
 
 #[test]

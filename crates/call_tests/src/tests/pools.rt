@@ -3,8 +3,9 @@ ghost use Rattle.std.specs.Prelude.{◌≡◌, vec_len};
 ghost use Rattle.std.specs.List.{All};
 ghost use Rattle.repl_pool.specs.Boards.{WorksAt};
 
+use crate::tests::carried::{leaves, refused};
 use crate::tests::databases::tree;
-use crate::tests::peers::{Rep, entry, found_text, load, make, source_log};
+use crate::tests::peers::{Rep, entry, found_text, load, make, source_log, target_log};
 use crate::tests::records::{fault_text, report_text};
 use crate::tests::texts::{expect_answer, place_text};
 use progress_board::{Board, BoardSeat};
@@ -36,14 +37,22 @@ pub(crate) enum Call<'a> {
     Peer(u128, Option<&'a str>),
     /// Loads the documents d0, d1 and so on, so many.
     Fill(usize, u64),
+    /// Loads a document.
+    Load(usize, &'a str),
     /// Replicates one peer into another by the pool.
     Run(usize, usize, How),
     /// Reads the tree of a document.
     Tree(usize, &'a str),
     /// Reads the entry of a session.
     Entry(usize, SessionId),
+    /// Reads the documents at the leaves of a document, winner first.
+    Leaves(usize, &'a str),
+    /// Reads which leaves of a document were refused to a session, and why.
+    Refused(usize, SessionId, &'a str),
     /// Reads the log of a replication from a peer.
     SourceLog(usize, Rep),
+    /// Reads the log of a replication into a peer.
+    TargetLog(usize, Rep),
     /// Compares the logs of a replication at its source and its target.
     Common(usize, usize, Rep),
     /// Audits a target, the second one, against a source.
@@ -59,6 +68,7 @@ pub(crate) struct Bench {
     alloc: Global,
     workers: u64,
     peers: Vec<Peer<Rules>>,
+    fetchers: usize,
 }
 
 impl Bench {
@@ -68,7 +78,13 @@ impl Bench {
             alloc,
             workers,
             peers: Vec::new(alloc),
+            fetchers: 0,
         }
+    }
+
+    /// How many fetchers the last run has counted documents for.
+    pub(crate) fn fetchers(&self) -> usize {
+        self.fetchers
     }
 
     /// Makes the calls in order, and asserts what each answers.
@@ -98,8 +114,14 @@ impl Bench {
                 let (source, target) = (self.peers.get(source)?, self.peers.get(target)?);
                 compare(self.alloc, source, target, call)
             }
-            Call::Fill(at, _) | Call::Tree(at, _) | Call::Entry(at, _) | Call::SourceLog(at, _) =>
-                of_one(self.alloc, self.peers.get_mut(at)?, call),
+            Call::Fill(at, _)
+            | Call::Load(at, _)
+            | Call::Tree(at, _)
+            | Call::Entry(at, _)
+            | Call::Leaves(at, _)
+            | Call::Refused(at, _, _)
+            | Call::SourceLog(at, _)
+            | Call::TargetLog(at, _) => of_one(self.alloc, self.peers.get_mut(at)?, call),
             Call::Run(_, _, _) => None,
         }
     }
@@ -182,6 +204,7 @@ impl Bench {
         } = ran;
         self.give(rt, source, from);
         self.give(rt, target, into);
+        self.fetchers = fetched.len();
         ended_text(self.alloc, outcome, &fetched)
     }
 }
@@ -190,9 +213,20 @@ impl Bench {
 fn of_one(alloc: Global, peer: &mut Peer<Rules>, call: &Call) -> Option<String> {
     match *call {
         Call::Fill(_, documents) => fill(alloc, peer, documents),
+        Call::Load(_, text) => load(alloc, peer, text),
+        reading => read(alloc, peer, &reading),
+    }
+}
+
+/// Makes a call on one peer that changes nothing.
+fn read(alloc: Global, peer: &Peer<Rules>, call: &Call) -> Option<String> {
+    match *call {
         Call::Tree(_, id) => tree(alloc, peer.db(), id),
         Call::Entry(_, session) => entry(alloc, peer, session),
+        Call::Leaves(_, id) => leaves(alloc, peer.db(), id),
+        Call::Refused(_, session, id) => refused(alloc, peer, session, id),
         Call::SourceLog(_, rep) => source_log(alloc, peer, &rep.id()),
+        Call::TargetLog(_, rep) => target_log(alloc, peer, &rep.id()),
         _ => None,
     }
 }

@@ -1,0 +1,219 @@
+//! Runs of the pool whose gate counts, or holds a worker at its place until another has come to a further one.
+use crate::tests::pool_gates::kind_of;
+use crate::tests::pools::{Bench, Call, How, Rows};
+use crate::tests::texts::expect_answer;
+use repl_pool::{Gate, Place, Turn};
+use rev_tree::SessionId;
+use std::alloc::Global;
+use std::process::Abort;
+use std::sync::Wait;
+use std::sync::atomic::{AtomicBool, AtomicU64, Ordering};
+use std::thread::{Threads, yield_now};
+
+/// The source and the target.
+const A: usize = 0;
+
+const B: usize = 1;
+
+/// A run in windows of so many rows.
+const fn in_windows_of(batch: u64) -> How {
+    How {
+        session: SessionId(1),
+        workers: None,
+        batch,
+        stop_after: None,
+    }
+}
+
+/// Of each window, at how many places the gate was asked, one after another; and how often it was asked out of turn.
+#[derive(Drop)]
+struct Counts {
+    places: Vec<AtomicU64>,
+    strays: AtomicU64,
+}
+
+impl Counts {
+    /// So many windows, of which none was asked for.
+    fn new(rt: &impl Abort, alloc: Global, windows: usize) -> Counts {
+        let mut places = Vec::new(alloc);
+        for _ in 0..windows {
+            places.push(AtomicU64::new(0)).expect(rt, "memory");
+        }
+        Counts {
+            places,
+            strays: AtomicU64::new(0),
+        }
+    }
+
+    /// How many windows have gone through all five places.
+    fn gone_through(&self) -> usize {
+        let mut windows = 0usize;
+        for places in &self.places {
+            if places.load(Ordering::SeqCst) == 5 {
+                windows = windows.saturating_add(1);
+            }
+        }
+        windows
+    }
+}
+
+impl Gate for Counts {
+    ghost may_stop = { λ _ _. ⊥ };
+
+    fn at<R: Wait>(&self, _rt: &R, place: Place) -> Turn {
+        let (kind, window) = kind_of(place);
+        let in_turn = match self.places.get(window as usize) {
+            Some(places) => places.fetch_add(1, Ordering::SeqCst) == kind,
+            None => false,
+        };
+        if !in_turn {
+            let _ = self.strays.fetch_add(1, Ordering::SeqCst);
+        }
+        Turn::Go
+    }
+}
+
+// A window's count is at a kind of place only where the gate was asked at each one before, once.
+#[test]
+fn each_place_once_and_in_order(rt: HostRuntime) {
+    const WELL: &str =
+        "session 1 from 0 to 300 checked 300 found 300 read 300 written 300 failed 0, fetched 300";
+    static MANY: Rows = &[
+        (Call::Peer(1, None), "made"),
+        (Call::Peer(2, None), "made"),
+        (Call::Fill(A, 300), "Changed { seq: 300 }"),
+    ];
+    let gate = Counts::new(&rt, rt.alloc(), 30);
+    let mut bench = Bench::new(rt.alloc(), 4);
+    bench.run(&rt, MANY);
+    expect_answer(
+        &rt,
+        3,
+        bench.replicate(&rt, &gate, A, B, in_windows_of(10)),
+        WELL,
+    );
+    assert_eq!(rt; gate.strays.load(Ordering::SeqCst), 0);
+    assert_eq!(rt; gate.gone_through(), 30);
+    assert_eq!(rt; bench.fetchers(), 4);
+}
+
+/// A kind of place, by its number from 0, of a window.
+type Spot = (u64, u64);
+
+/// At the first spot a worker waits until the second one is come to.
+type Holds = &'static [(Spot, Spot)];
+
+/// The number that stands for a spot: a bit of its own, of the first twelve windows.
+pub(crate) fn bit_of(spot: Spot) -> u64 {
+    let place = spot.0 % 5 + 5 * (spot.1 % 12);
+    1 << place
+}
+
+/// For how many turns a worker is held at most.
+const TURNS: u32 = 1_000_000;
+
+/// Holds workers as a table says, each until its spot is come to.
+#[derive(Drop)]
+struct Orders {
+    holds: Holds,
+    come_to: AtomicU64,
+    ran_out: AtomicBool,
+}
+
+impl Orders {
+    /// No worker has come.
+    fn new(holds: Holds) -> Orders {
+        Orders {
+            holds,
+            come_to: AtomicU64::new(0),
+            ran_out: AtomicBool::new(false),
+        }
+    }
+
+    /// Waits until a spot is come to.
+    fn wait_for(&self, spot: Spot) {
+        let wanted = bit_of(spot);
+        for _ in 0..TURNS {
+            if self.come_to.load(Ordering::SeqCst) & wanted != 0 {
+                return;
+            }
+            yield_now();
+        }
+        self.ran_out.store(true, Ordering::SeqCst);
+    }
+}
+
+impl Gate for Orders {
+    ghost may_stop = { λ _ _. ⊥ };
+
+    fn at<R: Wait>(&self, _rt: &R, place: Place) -> Turn {
+        let here = kind_of(place);
+        let _ = self.come_to.fetch_add(bit_of(here), Ordering::SeqCst);
+        for (at, until) in self.holds {
+            if *at == here {
+                self.wait_for(*until);
+            }
+        }
+        Turn::Go
+    }
+}
+
+/// A run of eight documents in windows of two rows by one fetcher and one writer, whom the table holds.
+fn run_held<R: Abort + Threads + Wait + Sync>(rt: &R, alloc: Global, holds: Holds) {
+    const WELL: &str =
+        "session 1 from 0 to 8 checked 8 found 8 read 8 written 8 failed 0, fetched 8";
+    static EIGHT: Rows = &[
+        (Call::Peer(1, None), "made"),
+        (Call::Peer(2, None), "made"),
+        (Call::Fill(A, 8), "Changed { seq: 8 }"),
+    ];
+    let gate = Orders::new(holds);
+    let mut bench = Bench::new(alloc, 1);
+    bench.run(rt, EIGHT);
+    expect_answer(
+        rt,
+        3,
+        bench.replicate(rt, &gate, A, B, in_windows_of(2)),
+        WELL,
+    );
+    assert!(rt; !gate.ran_out.load(Ordering::SeqCst), "out of turns");
+}
+
+/// The kinds of places.
+const TOOK: u64 = 0;
+
+const ASKED: u64 = 1;
+
+const FETCHED: u64 = 2;
+
+const SETTLED: u64 = 3;
+
+const RECORDED: u64 = 4;
+
+// To ask, to settle and to record each take the lock, which so is free where the other worker is held meanwhile.
+#[test]
+fn no_lock_is_held_at_any_place(rt: HostRuntime) {
+    static HOLDS: Holds = &[
+        // The second window is asked for beside a writer at `Settled`.
+        ((TOOK, 1), (SETTLED, 0)),
+        ((SETTLED, 0), (ASKED, 1)),
+        // The first one is recorded beside a fetcher at `Asked`.
+        ((ASKED, 1), (RECORDED, 0)),
+        // The second one is settled beside a fetcher at `Took`: its writer is held before, until that has come.
+        ((RECORDED, 0), (TOOK, 2)),
+        ((TOOK, 2), (SETTLED, 1)),
+        // The same one is recorded beside a fetcher at `Fetched`.
+        ((SETTLED, 1), (FETCHED, 2)),
+        ((FETCHED, 2), (RECORDED, 1)),
+        // The last one is asked for beside a writer at `Recorded`.
+        ((RECORDED, 1), (ASKED, 3)),
+    ];
+    run_held(&rt, rt.alloc(), HOLDS);
+}
+
+// No worker waits for another where none needs the other's work.
+#[test]
+fn fetching_goes_on_beside_a_held_writer(rt: HostRuntime) {
+    static HOLDS: Holds = &[((SETTLED, 0), (FETCHED, 2))];
+    run_held(&rt, rt.alloc(), HOLDS);
+}
