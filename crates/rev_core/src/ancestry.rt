@@ -1,10 +1,10 @@
 //! Ancestries.
-ghost use Rattle.std.specs.Prelude.{◌≡◌, Some, IfOk, IfErr};
+ghost use Rattle.std.specs.Prelude.{◌≡◌, Some, IfOk};
 
 use crate::fault::RevFault;
 use crate::rev::Rev;
 use crate::sig::Sig;
-use std::alloc::Global;
+use std::alloc::{AllocError, Global};
 use std::marker::Model;
 
 /// A revision and its known ancestors, newest first: at least one revision, generations falling by one.
@@ -46,14 +46,10 @@ impl Ancestry {
         if ids.len() > start as usize {
             return Err(RevFault::StartTooSmall);
         }
-        let Ok(mut revs) = Vec::with_capacity(alloc, ids.len()) else {
-            return Err(RevFault::Memory);
-        };
+        let mut revs = Vec::with_capacity(alloc, ids.len())?;
         let mut generation = start;
         for id in ids {
-            let Ok(()) = revs.push(Rev::new(generation, *id)) else {
-                return Err(RevFault::Memory);
-            };
+            revs.push(Rev::new(generation, *id))?;
             generation -= 1;
         }
         Ok(Ancestry { revs })
@@ -101,15 +97,12 @@ impl Ancestry {
         None
     }
 
-    /// An ancestry of the same revisions. The only error is `Memory`.
-    pub fn copy(&self, alloc: Global) -> Result<Ancestry, RevFault>
+    /// An ancestry of the same revisions.
+    pub fn copy(&self, alloc: Global) -> Result<Ancestry, AllocError>
         ensures copied { IfOk result (λ a. a ≡ self.now) }
-        ensures err { IfErr result (λ e. e ≡ RevFault.Memory) }
         ensures ancestry { IsAncestry self.now }
     {
-        match Vec::from_slice(alloc, &self.revs) {
-            Ok(revs) => Ok(Ancestry { revs }),
-            Err(_) => Err(RevFault::Memory),
-        }
+        let revs = Vec::from_slice(alloc, &self.revs)?;
+        Ok(Ancestry { revs })
     }
 }

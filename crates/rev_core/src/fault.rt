@@ -1,5 +1,9 @@
 //! What the calls of this crate refuse.
 
+ghost use Rattle.std.specs.Prelude.{◌≡◌};
+ghost use Rattle.rev_core.specs.declared.fault.RevFault.TheVariants.{Memory};
+
+use std::alloc::{AllocError, AllocFailed};
 use thiserror::Error;
 
 /// Why a text or a list is refused, or that memory ran out.
@@ -23,4 +27,20 @@ pub enum RevFault {
     /// An allocation was refused.
     #[error("out of memory")]
     Memory,
+}
+
+impl From<AllocError> for RevFault {
+    ghost from_gives = { λ _ fault. fault ≡ Memory };
+
+    fn from(_refused: AllocError) -> RevFault {
+        RevFault::Memory
+    }
+}
+
+impl<T: Drop> From<AllocFailed<T>> for RevFault {
+    ghost from_gives = { λ _ fault. fault ≡ Memory };
+
+    fn from(_refused: AllocFailed<T>) -> RevFault {
+        RevFault::Memory
+    }
 }

@@ -1,5 +1,5 @@
 //! The ids of local edits.
-ghost use Rattle.std.specs.Prelude.{◌≡◌, IfOk, IfErr};
+ghost use Rattle.std.specs.Prelude.{◌≡◌, IfOk};
 ghost use Rattle.hex.specs.Hex.{encode_lower};
 ghost use Rattle.rev_core.specs.Rev.{IsRev};
 ghost use Rattle.rev_core.specs.Answers.{GivesUnlessMemory};
@@ -9,7 +9,7 @@ use crate::fault::RevFault;
 use crate::rev::Rev;
 use crate::sig::Sig;
 use md5::{Digest, Md5};
-use std::alloc::Global;
+use std::alloc::{AllocError, Global};
 
 /// The id that a local edit gives its document: the generation after the parent's, and a signature that
 /// names the parent, whether the edit deletes, and the body's compact text.
@@ -31,16 +31,18 @@ pub fn new_rev(
     if generation == u32::MAX {
         return Err(RevFault::GenerationFull);
     }
-    match edit_sig(alloc, parent, deleted, body) {
-        Ok(sig) => Ok(Rev::new(generation + 1, sig)),
-        Err(fault) => Err(fault),
-    }
+    let sig = edit_sig(alloc, parent, deleted, body)?;
+    Ok(Rev::new(generation + 1, sig))
 }
 
 /// The digits of the digest of the parent's text, the kind of the edit and the body, a line feed between each.
-fn edit_sig(alloc: Global, parent: Option<Rev>, deleted: bool, body: &[u8]) -> Result<Sig, RevFault>
-    ensures sig { IfOk result (λ s. s ≡ edit_sig parent deleted body.now) }
-    ensures err { IfErr result (λ e. e ≡ RevFault.Memory) }
+fn edit_sig(
+    alloc: Global,
+    parent: Option<Rev>,
+    deleted: bool,
+    body: &[u8],
+) -> Result<Sig, AllocError>
+    ensures { IfOk result (λ s. s ≡ edit_sig parent deleted body.now) }
 {
     let before = parent_text(alloc, parent)?;
     let mut hasher = Md5::new();
@@ -53,9 +55,8 @@ fn edit_sig(alloc: Global, parent: Option<Rev>, deleted: bool, body: &[u8]) -> R
 }
 
 /// The parent's text, or nothing.
-fn parent_text(alloc: Global, parent: Option<Rev>) -> Result<Vec<u8>, RevFault>
-    ensures text { IfOk result (λ v. v.items ≡ parent_text parent) }
-    ensures err { IfErr result (λ e. e ≡ RevFault.Memory) }
+fn parent_text(alloc: Global, parent: Option<Rev>) -> Result<Vec<u8>, AllocError>
+    ensures { IfOk result (λ v. v.items ≡ parent_text parent) }
 {
     match parent {
         Some(rev) => rev.write(alloc),

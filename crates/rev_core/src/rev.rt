@@ -1,5 +1,5 @@
 //! Revision ids.
-ghost use Rattle.std.specs.Prelude.{◌≡◌, ◌≤◌, Ok, IfSome, IfOk, IfErr, position, refl};
+ghost use Rattle.std.specs.Prelude.{◌≡◌, ◌≤◌, Ok, IfSome, IfOk, position, refl};
 ghost use Rattle.std.specs.Ordering.{eq_by_cmp, as_partial_cmp};
 ghost use Rattle.std.specs.Cmp;
 ghost use Rattle.std.specs.Cmp.{eq_by_cmp_equiv};
@@ -9,7 +9,7 @@ ghost use Rattle.rev_core.specs.Text.{generation_read, is_dash};
 
 use crate::fault::RevFault;
 use crate::sig::Sig;
-use std::alloc::Global;
+use std::alloc::{AllocError, Global};
 use std::cmp::Ordering;
 use std::hash::{Hash, Hasher};
 use std::marker::Model;
@@ -69,20 +69,14 @@ impl Rev {
         }
     }
 
-    /// The text of the revision, which parses back to it. The only error is `Memory`.
-    pub fn write(&self, alloc: Global) -> Result<Vec<u8>, RevFault>
+    /// The text of the revision, which parses back to it.
+    pub fn write(&self, alloc: Global) -> Result<Vec<u8>, AllocError>
         ensures text { IfOk result (λ v. v.items ≡ rev_text self.now) }
         ensures parses_back { rev_read (rev_text self.now) ≡ Ok self.now }
-        ensures err { IfErr result (λ e. e ≡ RevFault.Memory) }
     {
         let generation = self.generation();
-        let Ok(text) = format!(in alloc; "{generation}-") else {
-            return Err(RevFault::Memory);
-        };
-        let mut bytes = text.into_bytes();
-        let Ok(()) = bytes.extend_from_slice(self.sig.bytes()) else {
-            return Err(RevFault::Memory);
-        };
+        let mut bytes = format!(in alloc; "{generation}-")?.into_bytes();
+        bytes.extend_from_slice(self.sig.bytes())?;
         Ok(bytes)
     }
 
@@ -99,6 +93,13 @@ impl Rev {
         ensures { result ≡ self.now.sig }
     {
         self.sig
+    }
+
+    /// The text of the signature.
+    pub fn sig_bytes(&self) -> &[u8]
+        ensures { result.now ≡ self.now.sig }
+    {
+        self.sig.bytes()
     }
 }
 

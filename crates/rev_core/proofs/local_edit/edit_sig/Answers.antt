@@ -5,14 +5,14 @@ use Rattle.rev_core.specs.NewRev.{edit_sig, parent_text}
 use Rattle.rev_core.proofs.local_edit.edit_sig.Goals as goal
 
 -- the pieces, one after another
-pub returns-clause-sig : goal.returns-clause-sig
+pub returns : goal.returns
 unfolding edit_sig
-returns-clause-sig c =
+returns c =
     let before = c.as_slice.result.now in
     let kind = c.kind_text.result.now in
     let body = c.args.body.now in
     let held = c.update-5.ensures _ (c.update-4.ensures _ (c.update-3.ensures _ (c.update-2.ensures _ (c.update.ensures _ c.new-hasher.ensures)))) in
     let joined : (((([] ++ before) ++ 10 ∷ []) ++ kind) ++ 10 ∷ []) ++ body ≡ before ++ 10 ∷ (kind ++ 10 ∷ body) = simp append_assoc in
-    let first : before ≡ parent_text c.args.parent = c.as_slice.ensures.value ∙ c.in_ok-before.ensures.text in
+    let first : before ≡ parent_text c.args.parent = c.as_slice.ensures.value ∙ c.in_ok-before.ensures in
     c.digits.ensures ∙ ap encode_lower (c.finalize.ensures _ held)
     ∙ ap (λ t. encode_lower (md5 t)) (joined ∙ ap (λ t. t ++ 10 ∷ (kind ++ 10 ∷ body)) first ∙ ap (λ t. parent_text c.args.parent ++ 10 ∷ (t ++ 10 ∷ body)) c.kind_text.ensures)
