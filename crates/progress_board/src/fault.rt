@@ -1,5 +1,8 @@
 //! What the calls of this crate refuse.
+ghost use Rattle.std.specs.Prelude.{◌≡◌};
+ghost use Rattle.progress_board.specs.declared.fault.BoardFault.TheVariants.{Memory};
 
+use std::alloc::AllocError;
 use thiserror::Error;
 
 /// Why a board isn't made, or an addition is refused.
@@ -20,4 +23,12 @@ pub enum BoardFault {
     /// An allocation was refused.
     #[error("out of memory")]
     Memory,
+}
+
+impl From<AllocError> for BoardFault {
+    ghost from_gives = { λ _ e. e ≡ Memory };
+
+    fn from(_refused: AllocError) -> BoardFault {
+        BoardFault::Memory
+    }
 }

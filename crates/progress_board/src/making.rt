@@ -28,12 +28,8 @@ impl Board {
         if workers == 0 || workers > 64 || viewers == 0 || viewers > 64 {
             return Err(BoardFault::BadSeats);
         }
-        let Ok(mut seats) = Vec::with_capacity(alloc, workers + viewers) else {
-            return Err(BoardFault::Memory);
-        };
-        let Ok((table, mut dealer)) = lay(alloc, workers) else {
-            return Err(BoardFault::Memory);
-        };
+        let mut seats = Vec::with_capacity(alloc, workers + viewers)?;
+        let (table, mut dealer) = lay(alloc, workers)?;
         add_workers(&table, &mut dealer, workers, &mut seats);
         add_viewers(&table, &mut dealer, workers, viewers, &mut seats);
         Ok((board_of(table, workers), seats))

@@ -1,10 +1,10 @@
 //! Fronts.
-ghost use Rattle.std.specs.Prelude.{◌≡◌, ◌<◌, ◌≤◌, OnOk, OnErr, IsOkUnless};
+ghost use Rattle.std.specs.Prelude.{◌≡◌, ◌<◌, ◌≤◌, OnOk, OnErr};
 
 use crate::ends::is_window;
 use crate::fault::FrontFault;
 use crate::ranges::{DoneRange, is_covered, join};
-use std::alloc::Global;
+use std::alloc::{AllocError, Global};
 use std::marker::Model;
 
 /// Windows `(lo, hi]` of sequences, one behind the other from a start, each done or not.
@@ -101,25 +101,19 @@ impl Front {
         if hi <= end {
             return Err(FrontFault::NotRising { end });
         }
-        let Ok(()) = self.ends.push(hi) else {
-            return Err(FrontFault::Memory);
-        };
+        self.ends.push(hi)?;
         Ok(())
     }
 
     /// Makes room, so that the next `finish` doesn't answer `Memory`, also where windows are appended before it.
     ///
-    /// The only error is `Memory`. The windows stay as they are, whatever it answers.
-    pub fn reserve(&mut self) -> Result<(), FrontFault>
+    /// The windows stay as they are, whatever it answers.
+    pub fn reserve(&mut self) -> Result<(), AllocError>
         ensures room { OnOk result (0 < self.new.room) }
-        ensures memory { IsOkUnless result FrontFault.Memory }
         ensures kept { self.new.front ≡ self.old.front }
         ensures front { IsFront self.new.front }
     {
-        let Ok(()) = self.ranges.reserve(1) else {
-            return Err(FrontFault::Memory);
-        };
-        Ok(())
+        self.ranges.reserve(1)
     }
 
     /// Marks the window `(lo, hi]` as done.
@@ -139,9 +133,7 @@ impl Front {
         if is_covered(self.mark, &self.ranges, hi) {
             return Err(FrontFault::AlreadyDone);
         }
-        let Ok(()) = join(&mut self.mark, &mut self.ranges, lo, hi) else {
-            return Err(FrontFault::Memory);
-        };
+        join(&mut self.mark, &mut self.ranges, lo, hi)?;
         Ok(())
     }
 

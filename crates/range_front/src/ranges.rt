@@ -1,10 +1,10 @@
 //! The low water and the ranges above it.
-ghost use Rattle.std.specs.Prelude.{◌≡◌, ℕ, ◌<◌, ◌≤◌, ◌++◌, length, take, drop, OnErr, IsOk, IsOkUnless};
+ghost use Rattle.std.specs.Prelude.{◌≡◌, ℕ, ◌<◌, ◌≤◌, ◌++◌, length, take, drop, OnErr, IsOk};
 ghost use Rattle.std.specs.List.Sorted.{IsPartitionPoint};
 ghost use Rattle.std.specs.Vec.{vec_len, vec_capacity};
 ghost use Rattle.range_front.specs.Ranges.{Apart, covers, absorbed, joined};
 
-use crate::fault::FrontFault;
+use std::alloc::AllocError;
 
 /// Neighbouring windows that are done: all of `(lo, hi]`.
 #[derive(Clone, Copy)]
@@ -53,15 +53,14 @@ fn absorb(ranges: &mut Vec<DoneRange>, place: usize, hi: u64) -> u64
 
 /// Marks `(lo, hi]`, which lies outside the ranges and above the low water: what it touches becomes one with it.
 ///
-/// The only error is `Memory`, which changes nothing.
+/// An error changes nothing.
 pub(crate) fn join(
     mark: &mut u64,
     ranges: &mut Vec<DoneRange>,
     lo: u64,
     hi: u64,
-) -> Result<(), FrontFault>
+) -> Result<(), AllocError>
     requires { Apart mark.old ranges.old.items }
-    ensures memory { IsOkUnless result FrontFault.Memory }
     ensures room { vec_len ranges.old < vec_capacity ranges.old → IsOk result }
     ensures mark { IsOk result → mark.new ≡ (joined mark.old ranges.old.items lo hi).0 }
     ensures ranges { IsOk result → ranges.new.items ≡ (joined mark.old ranges.old.items lo hi).1 }
@@ -78,11 +77,7 @@ pub(crate) fn join(
             ranges[place].hi = reach;
         }
         Some(next) if next.lo == hi => ranges[place].lo = lo,
-        _ => {
-            let Ok(()) = ranges.insert(place, DoneRange { lo, hi }) else {
-                return Err(FrontFault::Memory);
-            };
-        }
+        _ => ranges.insert(place, DoneRange { lo, hi })?,
     }
     Ok(())
 }
