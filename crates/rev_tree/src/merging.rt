@@ -92,9 +92,7 @@ pub(crate) fn make_room(
     } else {
         nodes.reserve(revs.len())
     };
-    if reserved.is_err() {
-        return Err(AllocError);
-    }
+    reserved?;
     reserve_index(*nodes.allocator(), places, all)
 }
 

@@ -1,11 +1,11 @@
 //! A node of a tree: a revision with what the tree knows of it.
-ghost use Rattle.std.specs.Prelude.{◌≡◌, ◌+◌, ◌<◌, ◌^◌, Some, None, IfOk, IfErr, true, false};
+ghost use Rattle.std.specs.Prelude.{◌≡◌, ◌+◌, ◌<◌, ◌^◌, Some, None, IfOk, true, false};
 ghost use Rattle.std.specs.Option.{option_copied};
 
 use crate::content::Content;
-use crate::fault::TreeFault;
 use crate::origin::{Origin, SessionId};
 use rev_core::Rev;
+use std::alloc::AllocError;
 use std::marker::Model;
 
 /// How many numbers of 64 bits there are: each half of a session's number is one of them.
@@ -143,10 +143,9 @@ impl Node {
         self.has_child = true;
     }
 
-    /// The same node. The only error is `Memory`.
-    pub(crate) fn copy(&self) -> Result<Node, TreeFault>
-        ensures copied { IfOk result (λ n. n ≡ self.now) }
-        ensures err { IfErr result (λ e. e ≡ TreeFault.Memory) }
+    /// The same node.
+    pub(crate) fn copy(&self) -> Result<Node, AllocError>
+        ensures { IfOk result (λ n. n ≡ self.now) }
     {
         let content = match &self.content {
             Some(content) => Some(content.copy()?),

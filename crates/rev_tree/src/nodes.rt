@@ -1,10 +1,9 @@
 //! The nodes of a tree, and the place of each revision among them.
-ghost use Rattle.std.specs.Prelude.{◌≡◌, ◌+◌, ◌<◌, ◌≤◌, [], Some, IfOk, IfErr, OnOk, slice_get, length, take};
+ghost use Rattle.std.specs.Prelude.{◌≡◌, ◌+◌, ◌<◌, ◌≤◌, [], Some, IfOk, OnOk, slice_get, length, take};
 ghost use Rattle.std.specs.Option.{option_copied};
 ghost use Rattle.rev_tree.specs.Room.{HasIndexRoom};
 ghost use Rattle.rev_tree.specs.declared.nodes.TheConstants.{MOST_WALKED};
 
-use crate::fault::TreeFault;
 use crate::node::Node;
 use crate::place_index::Places;
 use rev_core::Rev;
@@ -119,32 +118,23 @@ pub(crate) fn reserve_index(
     places.reserve(alloc, nodes - places.len())
 }
 
-/// The index of the nodes. The only error is `Memory`.
-pub(crate) fn index_of(alloc: Global, nodes: &[Node]) -> Result<Places, TreeFault>
-    ensures index { IfOk result (λ m. m.entries ≡ index_for (revs_in nodes.now)) }
-    ensures err { IfErr result (λ e. e ≡ TreeFault.Memory) }
+/// The index of the nodes.
+pub(crate) fn index_of(alloc: Global, nodes: &[Node]) -> Result<Places, AllocError>
+    ensures { IfOk result (λ m. m.entries ≡ index_for (revs_in nodes.now)) }
 {
     let mut places = Places::new();
-    let Ok(()) = reserve_index(alloc, &mut places, nodes.len()) else {
-        return Err(TreeFault::Memory);
-    };
+    reserve_index(alloc, &mut places, nodes.len())?;
     index_rest(nodes, &mut places, 0);
     Ok(places)
 }
 
-/// The same nodes. The only error is `Memory`.
-pub(crate) fn copy_nodes(alloc: Global, nodes: &[Node]) -> Result<Vec<Node>, TreeFault>
-    ensures copied { IfOk result (λ v. v.items ≡ nodes.now) }
-    ensures err { IfErr result (λ e. e ≡ TreeFault.Memory) }
+/// The same nodes.
+pub(crate) fn copy_nodes(alloc: Global, nodes: &[Node]) -> Result<Vec<Node>, AllocError>
+    ensures { IfOk result (λ v. v.items ≡ nodes.now) }
 {
-    let Ok(mut copies) = Vec::with_capacity(alloc, nodes.len()) else {
-        return Err(TreeFault::Memory);
-    };
+    let mut copies = Vec::with_capacity(alloc, nodes.len())?;
     for node in nodes {
-        let copy = node.copy()?;
-        let Ok(()) = copies.push(copy) else {
-            return Err(TreeFault::Memory);
-        };
+        copies.push(node.copy()?)?;
     }
     Ok(copies)
 }

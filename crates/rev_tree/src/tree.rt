@@ -1,5 +1,5 @@
 //! Trees.
-ghost use Rattle.std.specs.Prelude.{◌≡◌, ◌∷◌, [], Ok, OnOk, OnErr, IfOk, IfErr, length, map, false};
+ghost use Rattle.std.specs.Prelude.{◌≡◌, ◌∷◌, [], Ok, OnOk, OnErr, IfOk, length, map, false};
 ghost use Rattle.std.specs.Option.{option_map_or};
 
 use crate::content::Content;
@@ -124,9 +124,7 @@ impl Tree {
         let Some(place) = place_in(&self.nodes, &self.places, rev) else {
             return Err(TreeFault::NoSuchRevision);
         };
-        let Ok(revs) = walk(alloc, &self.nodes, place) else {
-            return Err(TreeFault::Memory);
-        };
+        let revs = walk(alloc, &self.nodes, place)?;
         Ok(Ancestry::from_revs(revs))
     }
 
@@ -144,9 +142,8 @@ impl Tree {
     }
 
     /// The leaves, winner first.
-    pub fn leaves(&self, alloc: Global) -> Result<Vec<Rev>, TreeFault>
-        ensures leaves { IfOk result (λ v. v.items ≡ leaves self.now) }
-        ensures err { IfErr result (λ e. e ≡ TreeFault.Memory) }
+    pub fn leaves(&self, alloc: Global) -> Result<Vec<Rev>, AllocError>
+        ensures { IfOk result (λ v. v.items ≡ leaves self.now) }
     {
         match self.only_leaf() {
             Some(leaf) => alone(alloc, leaf),
@@ -171,18 +168,13 @@ impl Tree {
     }
 
     /// The leaves, winner first, of which there may be several.
-    fn sorted_leaves(&self, alloc: Global) -> Result<Vec<Rev>, TreeFault>
-        ensures leaves { IfOk result (λ v. v.items ≡ leaves self.now) }
-        ensures err { IfErr result (λ e. e ≡ TreeFault.Memory) }
+    fn sorted_leaves(&self, alloc: Global) -> Result<Vec<Rev>, AllocError>
+        ensures { IfOk result (λ v. v.items ≡ leaves self.now) }
     {
-        let Ok(mut found) = Vec::with_capacity(alloc, self.leaf_count()) else {
-            return Err(TreeFault::Memory);
-        };
+        let mut found = Vec::with_capacity(alloc, self.leaf_count())?;
         for node in &self.nodes {
             if !node.has_child() {
-                let Ok(()) = found.push((is_deleted(node), node.rev())) else {
-                    return Err(TreeFault::Memory);
-                };
+                found.push((is_deleted(node), node.rev()))?;
             }
         }
         found.sort_unstable_by(|a, b| a.0.cmp(&b.0).then(b.1.cmp(&a.1)));
@@ -210,9 +202,8 @@ impl Tree {
     }
 
     /// The leaves at or above one of the revisions, winner first.
-    pub fn leaves_above(&self, alloc: Global, revs: &[Rev]) -> Result<Vec<Rev>, TreeFault>
-        ensures leaves { IfOk result (λ v. v.items ≡ leaves_above self.now revs.now) }
-        ensures err { IfErr result (λ e. e ≡ TreeFault.Memory) }
+    pub fn leaves_above(&self, alloc: Global, revs: &[Rev]) -> Result<Vec<Rev>, AllocError>
+        ensures { IfOk result (λ v. v.items ≡ leaves_above self.now revs.now) }
     {
         if let Some(leaf) = self.only_leaf() {
             if revs.contains(&leaf) {
@@ -224,16 +215,13 @@ impl Tree {
     }
 
     /// Those that are not in the tree, in their order.
-    pub fn missing(&self, alloc: Global, revs: &[Rev]) -> Result<Vec<Rev>, TreeFault>
-        ensures missing { IfOk result (λ v. v.items ≡ missing self.now revs.now) }
-        ensures err { IfErr result (λ e. e ≡ TreeFault.Memory) }
+    pub fn missing(&self, alloc: Global, revs: &[Rev]) -> Result<Vec<Rev>, AllocError>
+        ensures { IfOk result (λ v. v.items ≡ missing self.now revs.now) }
     {
         let mut missing = Vec::new(alloc);
         for rev in revs {
             if !self.has(*rev) {
-                let Ok(()) = missing.push(*rev) else {
-                    return Err(TreeFault::Memory);
-                };
+                missing.push(*rev)?;
             }
         }
         Ok(missing)
@@ -262,10 +250,9 @@ impl Tree {
         self.is_deleted(a).cmp(&self.is_deleted(b)).then(b.cmp(&a))
     }
 
-    /// The same tree. The only error is `Memory`.
-    pub fn copy(&self, alloc: Global) -> Result<Tree, TreeFault>
+    /// The same tree.
+    pub fn copy(&self, alloc: Global) -> Result<Tree, AllocError>
         ensures copied { IfOk result (λ t. t ≡ self.now) }
-        ensures err { IfErr result (λ e. e ≡ TreeFault.Memory) }
         ensures tree { IsTree self.now }
     {
         let nodes = copy_nodes(alloc, &self.nodes)?;
@@ -327,10 +314,8 @@ impl Tree {
                 });
             }
         }
-        match self.merge_change(ancestry, content, origin) {
-            Ok(()) => Ok(Merged::Changed),
-            Err(_) => Err(TreeFault::Memory),
-        }
+        self.merge_change(ancestry, content, origin)?;
+        Ok(Merged::Changed)
     }
 
     /// Merges an ancestry of which `merge_answer` says that the tree changes, without asking again.
@@ -362,32 +347,22 @@ fn is_deleted(node: &Node) -> bool
     }
 }
 
-/// The list of a revision. The only error is `Memory`.
-fn alone(alloc: Global, rev: Rev) -> Result<Vec<Rev>, TreeFault>
-    ensures revs { IfOk result (λ v. v.items ≡ rev ∷ []) }
-    ensures err { IfErr result (λ e. e ≡ TreeFault.Memory) }
+/// The list of a revision.
+fn alone(alloc: Global, rev: Rev) -> Result<Vec<Rev>, AllocError>
+    ensures { IfOk result (λ v. v.items ≡ rev ∷ []) }
 {
-    let Ok(mut revs) = Vec::with_capacity(alloc, 1) else {
-        return Err(TreeFault::Memory);
-    };
-    match revs.push(rev) {
-        Ok(()) => Ok(revs),
-        Err(_) => Err(TreeFault::Memory),
-    }
+    let mut revs = Vec::with_capacity(alloc, 1)?;
+    revs.push(rev)?;
+    Ok(revs)
 }
 
-/// The revisions of pairs. The only error is `Memory`.
-fn revs_of(alloc: Global, pairs: &[(bool, Rev)]) -> Result<Vec<Rev>, TreeFault>
-    ensures revs { IfOk result (λ v. v.items ≡ map (λ p. p.1) pairs.now) }
-    ensures err { IfErr result (λ e. e ≡ TreeFault.Memory) }
+/// The revisions of pairs.
+fn revs_of(alloc: Global, pairs: &[(bool, Rev)]) -> Result<Vec<Rev>, AllocError>
+    ensures { IfOk result (λ v. v.items ≡ map (λ p. p.1) pairs.now) }
 {
-    let Ok(mut revs) = Vec::with_capacity(alloc, pairs.len()) else {
-        return Err(TreeFault::Memory);
-    };
+    let mut revs = Vec::with_capacity(alloc, pairs.len())?;
     for pair in pairs {
-        let Ok(()) = revs.push(pair.1) else {
-            return Err(TreeFault::Memory);
-        };
+        revs.push(pair.1)?;
     }
     Ok(revs)
 }

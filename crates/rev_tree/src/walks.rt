@@ -1,5 +1,5 @@
 //! Walks from a node to its ancestors, by their places.
-ghost use Rattle.std.specs.Prelude.{◌≡◌, ◌<◌, List, IfOk, IfErr, true, filter, length};
+ghost use Rattle.std.specs.Prelude.{◌≡◌, ◌<◌, List, IfOk, true, filter, length};
 ghost use Rattle.rev_core.specs.Rev.{RevId};
 ghost use Rattle.rev_core.specs.Ancestry.{is_among};
 ghost use Rattle.rev_tree.specs.Tree.{IsTree, has};
@@ -7,34 +7,28 @@ ghost use Rattle.rev_tree.specs.Index.{index_for};
 ghost use Rattle.rev_tree.specs.Nodes.{IsLinked, revs_in, tree_of};
 ghost use Rattle.rev_tree.specs.Walks.{ancestors_at, is_above_at, is_above_one, IsTold};
 
-use crate::fault::TreeFault;
 use crate::node::Node;
 use crate::nodes::{node_at, place_in};
 use crate::place_index::Places;
 use rev_core::Rev;
-use std::alloc::Global;
+use std::alloc::{AllocError, Global};
 
-/// The revision at a place and its known ancestors. The only error is `Memory`.
-pub(crate) fn walk(alloc: Global, nodes: &[Node], start: usize) -> Result<Vec<Rev>, TreeFault>
+/// The revision at a place and its known ancestors.
+pub(crate) fn walk(alloc: Global, nodes: &[Node], start: usize) -> Result<Vec<Rev>, AllocError>
     requires within { start < length nodes.now }
     requires linked { IsLinked nodes.now }
     requires tree { IsTree (tree_of nodes.now) }
-    ensures walked { IfOk result (λ v. v.items ≡ ancestors_at nodes.now start) }
-    ensures err { IfErr result (λ e. e ≡ TreeFault.Memory) }
+    ensures { IfOk result (λ v. v.items ≡ ancestors_at nodes.now start) }
 {
     // There are at most so many ancestors as nodes, and at most so many as the generation says.
     let most = nodes
         .len()
         .min(node_at(nodes, start).rev().generation() as usize);
-    let Ok(mut revs) = Vec::with_capacity(alloc, most) else {
-        return Err(TreeFault::Memory);
-    };
+    let mut revs = Vec::with_capacity(alloc, most)?;
     let mut at = start;
     'walk: loop {
         let node = node_at(nodes, at);
-        let Ok(()) = revs.push(node.rev()) else {
-            return Err(TreeFault::Memory);
-        };
+        revs.push(node.rev())?;
         match node.parent() {
             Some(parent) => at = parent,
             None => break 'walk,
@@ -53,28 +47,23 @@ pub(crate) fn those_above(
     places: &Places,
     leaves: &[Rev],
     revs: &[Rev],
-) -> Result<Vec<Rev>, TreeFault>
+) -> Result<Vec<Rev>, AllocError>
     requires index { places.now.entries ≡ index_for (revs_in nodes.now) }
     requires linked { IsLinked nodes.now }
     requires tree { IsTree (tree_of nodes.now) }
     requires known { (r : RevId)
         → is_among r leaves.now ≡ true
         → has (tree_of nodes.now) r ≡ true }
-    ensures above { IfOk result (λ v. v.items ≡ filter (is_above_one (tree_of nodes.now) revs.now) leaves.now) }
-    ensures err { IfErr result (λ e. e ≡ TreeFault.Memory) }
+    ensures { IfOk result (λ v. v.items ≡ filter (is_above_one (tree_of nodes.now) revs.now) leaves.now) }
 {
     let mut told = asked(alloc, nodes, places, revs)?;
-    let Ok(mut above) = Vec::with_capacity(alloc, leaves.len()) else {
-        return Err(TreeFault::Memory);
-    };
+    let mut above = Vec::with_capacity(alloc, leaves.len())?;
     for leaf in leaves {
         let Some(place) = place_in(nodes, places, *leaf) else {
             unreachable!()
         };
         if is_above(nodes, &mut told, place) {
-            let Ok(()) = above.push(*leaf) else {
-                return Err(TreeFault::Memory);
-            };
+            above.push(*leaf)?;
         }
     }
     Ok(above)
@@ -86,15 +75,12 @@ fn asked(
     nodes: &[Node],
     places: &Places,
     revs: &[Rev],
-) -> Result<Vec<Option<bool>>, TreeFault>
+) -> Result<Vec<Option<bool>>, AllocError>
     requires index { places.now.entries ≡ index_for (revs_in nodes.now) }
     requires linked { IsLinked nodes.now }
-    ensures told { IfOk result (λ v. IsTold nodes.now revs.now v.items) }
-    ensures err { IfErr result (λ e. e ≡ TreeFault.Memory) }
+    ensures { IfOk result (λ v. IsTold nodes.now revs.now v.items) }
 {
-    let Ok(mut told) = vec![in alloc; None; nodes.len()] else {
-        return Err(TreeFault::Memory);
-    };
+    let mut told = vec![in alloc; None; nodes.len()]?;
     for rev in revs {
         if let Some(place) = place_in(nodes, places, *rev) {
             told[place] = Some(true);

@@ -4,7 +4,7 @@ use Rattle.rev_tree.proofs.Places.{place_known, place_unknown}
 use Rattle.rev_tree.proofs.Members.{item_among}
 use Rattle.rev_tree.proofs.Asking.{IsAsked, asked_at, asked_nowhere, told_from_asked}
 use Rattle.rev_tree.proofs.walks.asked.Goals as goal
-use Rattle.rev_tree.proofs.walks.asked.Goals.{in-Some, in_default-place_in}
+use Rattle.rev_tree.proofs.walks.asked.Goals.{in-Some, in_default}
 
 pub index_mut-requires : goal.index_mut-requires
 index_mut-requires c =
@@ -23,12 +23,12 @@ loop-rev-preserved c =
       | in-Some w ↦
           let f = place_known nodes r w.in-Some.place (sym c.place_in.ensures ∙ w.in-Some.is) in
           asked_at nodes revs (take i revs) (take (i + 1) revs) c.loop-rev.told.items c.match-place_in.told.items w.in-Some.place f.node r c.requires.linked c.loop-rev.invariant f.at f.rev given more (ap (λ v. v.items) w.told-is)
-      | in_default-place_in w ↦
+      | in_default w ↦
           asked_nowhere nodes revs (take i revs) (take (i + 1) revs) c.loop-rev.told.items c.match-place_in.told.items r c.loop-rev.invariant
-          (place_unknown nodes r (sym c.place_in.ensures ∙ w.in_default-place_in.is)) more (ap (λ v. v.items) w.told-is)
+          (place_unknown nodes r (sym c.place_in.ensures ∙ w.in_default.is)) more (ap (λ v. v.items) w.told-is)
     ]
 
-pub returns-clause-told : goal.returns-clause-told
-returns-clause-told c =
+pub returns : goal.returns
+returns c =
     told_from_asked c.args.nodes.now c.args.revs.now c.loop-rev.told.items
     (subst (λ l. IsAsked c.args.nodes.now c.args.revs.now l c.loop-rev.told.items) (take_all _ _ c.loop-rev-test.false) c.loop-rev.invariant)

@@ -9,14 +9,14 @@ use Rattle.rev_tree.proofs.Lookups.{has_is}
 use Rattle.rev_tree.proofs.Members.{item_among, kept_pass, kept_fail}
 use Rattle.rev_tree.proofs.Walking.{place_is}
 use Rattle.rev_tree.proofs.walks.those_above.Goals as goal
-use Rattle.rev_tree.proofs.walks.those_above.Goals.{then-is_above+in-Ok-push, else-is_above}
+use Rattle.rev_tree.proofs.walks.those_above.Goals.{then-is_above+in_ok-push, else-is_above}
 
 pub unreachable-requires : goal.unreachable-requires
 unreachable-requires c =
     let nodes = c.args.nodes.now in
     let leaf = c.leaf-item.result in
     let known = c.requires.known leaf (item_among c.args.leaves.now c.loop-leaf.leaf-index leaf c.loop-leaf-test.true c.leaf-item.is) in
-    let none = place_unknown nodes leaf (sym c.place_in.ensures ∙ c.in_default-place_in.is) in
+    let none = place_unknown nodes leaf (sym c.place_in.ensures ∙ c.in_default.is) in
     false≢true (sym (has_is nodes (tree_of nodes) leaf None c.requires.linked refl none) ∙ known)
 
 pub is_above-requires-clause-within : goal.is_above-requires-clause-within
@@ -34,7 +34,7 @@ loop-leaf-preserved c =
     let is = c.is_above.ensures.above revs c.loop-leaf.invariant.told ∙ ap (λ l. list_any (λ r. is_among r l) revs) at.walk in
     record {
       above = elim c.if-is_above.branch [
-        | then-is_above+in-Ok-push w ↦ ap (λ v. v.items) w.above-is ∙ w.in-Ok-push.ensures.items ∙ ap (λ l. l ++ leaf ∷ []) c.loop-leaf.invariant.above
+        | then-is_above+in_ok-push w ↦ ap (λ v. v.items) w.above-is ∙ w.in_ok-push.ensures.items ∙ ap (λ l. l ++ leaf ∷ []) c.loop-leaf.invariant.above
             ∙ sym (kept_pass (is_above_one t revs) leaves i leaf c.is_above.result c.loop-leaf-test.true c.leaf-item.is is w.if-is_above.true)
         | else-is_above w ↦ ap (λ v. v.items) w.above-is ∙ c.loop-leaf.invariant.above
             ∙ sym (kept_fail (is_above_one t revs) leaves i leaf c.is_above.result c.loop-leaf-test.true c.leaf-item.is is w.if-is_above.false)

@@ -1,5 +1,6 @@
 use Rattle.std.proofs.Common.{◌<◌, length, Ok, sym, ap, ◌∙◌, subst}
 use Rattle.std.proofs.lemmas.Bool.{cond-true, cond-false}
+use Rattle.std.proofs.lemmas.Result.{err_from_is_err_and}
 use Rattle.rev_core.specs.Ancestry.{IsAncestry}
 use Rattle.rev_tree.specs.Tree.{IsTree}
 use Rattle.rev_tree.specs.LeafLaws.{IsAncestry-ancestors}
@@ -20,18 +21,19 @@ walk-requires-clause-within c =
     let at = place_is c.self.inside.nodes.items c.args.self.now c.args.rev c.in-Some.place c.self.invariant.linked c.self.view_is (ap (λ l. place_of l c.args.rev) (sym c.deref.ensures.value) ∙ sym c.place_in.ensures ∙ c.in-Some.is) in
     subst (λ l. c.in-Some.place < length l) (sym c.deref-2.ensures.value) at.within
 
-pub returns-in_default-walk : goal.returns-in_default-walk
-returns-in_default-walk c =
+pub returns-in_err-revs : goal.returns-in_err-revs
+returns-in_err-revs c =
     let at = place_is c.self.inside.nodes.items c.args.self.now c.args.rev c.in-Some.place c.self.invariant.linked c.self.view_is (ap (λ l. place_of l c.args.rev) (sym c.deref.ensures.value) ∙ sym c.place_in.ensures ∙ c.in-Some.is) in
-    ok_known _ _ _ at.known
+    let told = err_from_is_err_and c.from_residual.result c.from_residual.ensures.1 in
+    rw (told.1, told.2) (ok_known _ _ _ at.known)
 
 pub from_revs-requires : goal.from_revs-requires
 from_revs-requires c =
     let at = place_is c.self.inside.nodes.items c.args.self.now c.args.rev c.in-Some.place c.self.invariant.linked c.self.view_is (ap (λ l. place_of l c.args.rev) (sym c.deref.ensures.value) ∙ sym c.place_in.ensures ∙ c.in-Some.is) in
-    subst IsAncestry (sym (c.in-Ok.ensures.walked ∙ ap (λ l. ancestors_at l c.in-Some.place) c.deref-2.ensures.value ∙ at.walk))
+    subst IsAncestry (sym (c.in_ok-revs.ensures ∙ ap (λ l. ancestors_at l c.in-Some.place) c.deref-2.ensures.value ∙ at.walk))
     (IsAncestry-ancestors c.args.self.now (subst IsTree c.self.view_is c.self.invariant.tree) c.args.rev at.known)
 
 pub returns : goal.returns
 returns c =
     let at = place_is c.self.inside.nodes.items c.args.self.now c.args.rev c.in-Some.place c.self.invariant.linked c.self.view_is (ap (λ l. place_of l c.args.rev) (sym c.deref.ensures.value) ∙ sym c.place_in.ensures ∙ c.in-Some.is) in
-    ap Ok (c.from_revs.ensures ∙ c.in-Ok.ensures.walked ∙ ap (λ l. ancestors_at l c.in-Some.place) c.deref-2.ensures.value ∙ at.walk) ∙ sym (cond-true _ _ _ at.known)
+    ap Ok (c.from_revs.ensures ∙ c.in_ok-revs.ensures ∙ ap (λ l. ancestors_at l c.in-Some.place) c.deref-2.ensures.value ∙ at.walk) ∙ sym (cond-true _ _ _ at.known)

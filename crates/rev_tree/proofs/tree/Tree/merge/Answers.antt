@@ -10,11 +10,11 @@ returns-in-Ok-Same-clause-ok c =
     let revs = c.args.ancestry.now in
     sym (merged-same t revs c.args.content c.args.origin (same_from_answer t revs (sym c.merge_answer.ensures.answer ∙ c.in-Ok-Same.is ∙ ap Ok c.in-Ok-Same.field-0-is)))
 
-pub returns-in-Ok-clause-same : goal.returns-in-Ok-clause-same
-returns-in-Ok-clause-same c =
+pub returns-clause-same : goal.returns-clause-same
+returns-clause-same c =
     let t = c.args.self.now in
     let revs = c.args.ancestry.now in
     let changes = sym c.merge_answer.ensures.answer ∙ c.in-Ok-Changed.is ∙ ap Ok c.in-Ok-Changed.field-0-is in
     let apart = changed_from_answer t revs c.args.content c.args.origin changes in
-    let is = sym c.in-Ok.ensures.ok in
+    let is = sym c.in_ok-merge_change.ensures.ok in
     (λ told. absurd (false≢true (ap is_told_same (ap Ok told))), λ stays. absurd (apart (is ∙ stays)))

@@ -9,7 +9,7 @@ use Rattle.rev_tree.specs.Nodes.{revs_in}
 use Rattle.rev_tree.proofs.Leaves.{leaf_item, deleted_item, leaves_pushed, leaves_of_nodes, count_once}
 use Rattle.rev_tree.proofs.Sorting.{told_deleted, pair_cmp, pair_cmp_total, pairs_in_order}
 use Rattle.rev_tree.proofs.tree.Tree.sorted_leaves.Goals as goal
-use Rattle.rev_tree.proofs.tree.Tree.sorted_leaves.Goals.{then-not-has_child+in-Ok-push, else-not-has_child}
+use Rattle.rev_tree.proofs.tree.Tree.sorted_leaves.Goals.{then-not-has_child+in_ok-push, else-not-has_child}
 
 pub loop-node-preserved : goal.loop-node-preserved
 loop-node-preserved c =
@@ -22,8 +22,8 @@ loop-node-preserved c =
     let deletes = deleted_item c.self.inside.nodes.items items t c.self.invariant.linked c.self.view_is c.deref-node-items.ensures.value i n c.loop-node-test.true c.node-item.is in
     let more = leaves_pushed t items i n c.loop-node-test.true c.node-item.is in
     elim c.if-not-has_child.branch [
-      | then-not-has_child+in-Ok-push w ↦
-          ap (λ v. v.items) w.found-is ∙ w.in-Ok-push.ensures.items ∙ ap (λ r. c.loop-node.found.items ++ (w.is_deleted.result, r) ∷ []) w.rev.ensures
+      | then-not-has_child+in_ok-push w ↦
+          ap (λ v. v.items) w.found-is ∙ w.in_ok-push.ensures.items ∙ ap (λ r. c.loop-node.found.items ++ (w.is_deleted.result, r) ∷ []) w.rev.ensures
           ∙ ap (λ l. l ++ (w.is_deleted.result, n.rev) ∷ []) c.loop-node.invariant
           ∙ ap (λ b. map (told_deleted t) before ++ (b, n.rev) ∷ []) (w.is_deleted.ensures ∙ sym deletes)
           ∙ sym (map-append (told_deleted t) before (n.rev ∷ []))
@@ -33,8 +33,8 @@ loop-node-preserved c =
           ∙ ap (map (told_deleted t)) (sym (more ∙ ap (λ b. before ++ cond b (n.rev ∷ []) []) (leaf ∙ ap not (sym c.has_child.ensures ∙ w.if-not-has_child.false)) ∙ append-nil before))
     ]
 
-pub returns-clause-leaves : goal.returns-clause-leaves
-returns-clause-leaves c =
+pub returns : goal.returns
+returns c =
     let t = c.args.self.now in
     let nodes = c.self.inside.nodes.items in
     let revs = filter (is_leaf t) (revs_in nodes) in
@@ -44,4 +44,4 @@ returns-clause-leaves c =
     (subst (λ l. IsPermutation l c.sort_unstable_by.new.self.items) found c.sort_unstable_by.ensures.permutation)
     (c.sort_unstable_by.ensures.sorted (λ x y. is_lt (pair_cmp x y)) (ranks_by pair_cmp_total (λ x. x)) (always_returns_same _ _ _ (λ a r q k. search rules)))
     ∙ leaves_of_nodes nodes t c.self.invariant.linked c.self.view_is in
-    subst (λ l. IfOk c.revs_of.result (λ v. v.items ≡ l)) (ap (map (λ p. p.1)) c.deref.ensures.value ∙ sorted) c.revs_of.ensures.revs
+    subst (λ l. IfOk c.revs_of.result (λ v. v.items ≡ l)) (ap (map (λ p. p.1)) c.deref.ensures.value ∙ sorted) c.revs_of.ensures
