@@ -9,13 +9,15 @@ ghost use Rattle.couch_answers.specs.Grammar.{IsAnswered};
 ghost use Rattle.couch_answers.specs.LineGrammar.{IsScript};
 ghost use Rattle.couch_answers.specs.ChangeGrammar.{IsChangeScript};
 ghost use Rattle.couch_answers.specs.Words.{texts, words_behind};
+ghost use Rattle.script_engine.specs.declared.fault.ScriptFault.TheVariants.{Memory};
+ghost use Rattle.couch_answers.specs.declared.run.AnswerFault.TheVariants.{Device};
 ghost use Rattle.couch_answers.specs.Runs.{Fed, Begins, Ends, Finishes, Answered, Stopped, CountsOf, CountsOfWriter, ReadsAnswers, ended_of};
 
 use crate::place::{Refusal, Wanted};
 use crate::reading::Reading;
 use crate::wording::Wording;
 use script_engine::{ScriptFault, ScriptRead, ScriptWrite, write_all};
-use std::alloc::Global;
+use std::alloc::{AllocError, Global};
 use thiserror::Error;
 
 /// Why answers were not read to their end.
@@ -27,6 +29,24 @@ pub enum AnswerFault {
     /// A device failed, or memory was wanting.
     #[error("{fault}")]
     Device { fault: ScriptFault },
+}
+
+impl From<ScriptFault> for AnswerFault {
+    ghost from_gives = { λ fault e. e ≡ Device fault };
+
+    fn from(fault: ScriptFault) -> AnswerFault {
+        AnswerFault::Device { fault }
+    }
+}
+
+impl From<AllocError> for AnswerFault {
+    ghost from_gives = { λ _ e. e ≡ Device Memory };
+
+    fn from(refused: AllocError) -> AnswerFault {
+        AnswerFault::Device {
+            fault: ScriptFault::from(refused),
+        }
+    }
 }
 
 /// How many reads there are at most.
@@ -50,10 +70,7 @@ fn tell<W: ScriptWrite>(
         (W.held writer.old) (W.held writer.new)) }
     ensures fault { IfErr result (λ fault. IsOfWriter fault (W.failures writer.old) (W.failures writer.new)) }
 {
-    match wording.put(reading.found(), reading.text()) {
-        Ok(()) => {}
-        Err(_) => return Err(ScriptFault::Memory),
-    }
+    wording.put(reading.found(), reading.text())?;
     match write_all(writer, wording.text()) {
         Ok(()) => Ok(()),
         Err(fault) => Err(fault),
@@ -77,10 +94,7 @@ fn feed<W: ScriptWrite>(
 {
     let mut rest = bytes;
     while !rest.is_empty() {
-        let count = match reading.take_in(rest) {
-            Ok(count) => count,
-            Err(_) => return Err(ScriptFault::Memory),
-        };
+        let count = reading.take_in(rest)?;
         match tell(reading, wording, writer) {
             Ok(()) => {}
             Err(fault) => return Err(fault),
@@ -238,11 +252,7 @@ pub fn run_answers<R: ScriptRead, W: ScriptWrite>(
     ensures counts { IfErr result (λ fault. CountsOf fault (R.reads reader.old) (R.reads reader.new)
         (R.failures reader.old) (R.failures reader.new) (W.failures writer.old) (W.failures writer.new)) }
 {
-    let Ok(mut chunk) = vec![in alloc; 0u8; CHUNK] else {
-        return Err(AnswerFault::Device {
-            fault: ScriptFault::Memory,
-        });
-    };
+    let mut chunk = vec![in alloc; 0u8; CHUNK]?;
     let reading = Reading::new(alloc, wanted);
     run_chunks(reading, wording, reader, writer, chunk.as_mut_slice())
 }

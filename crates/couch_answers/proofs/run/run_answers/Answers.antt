@@ -1,4 +1,5 @@
 use Rattle.std.proofs.Common.{ap, subst, ◌∙◌, IfOk, IfErr}
+use Rattle.std.proofs.lemmas.Result.{err_from_is_err_and}
 use Rattle.script_engine.specs.declared.fault.ScriptFault.TheVariants.{Memory}
 use Rattle.couch_answers.specs.State.{State}
 use Rattle.couch_answers.specs.Stored.{words_of_wording}
@@ -7,8 +8,10 @@ use Rattle.couch_answers.proofs.Runs.{Stopped-none}
 use Rattle.couch_answers.proofs.Forms.{reads_answers, reads_changes, reads_script}
 use Rattle.couch_answers.proofs.run.run_answers.Goals as goal
 
-pub returns-in_default-clause-fault : goal.returns-in_default-clause-fault
-returns-in_default-clause-fault g c = Stopped-none c.args.wanted (words_of_wording c.args.wording.now) (g.R.ScriptRead.left c.args.reader.now) (g.W.ScriptWrite.held c.args.writer.now) Memory
+pub returns-in_err-chunk-clause-fault : goal.returns-in_err-chunk-clause-fault
+returns-in_err-chunk-clause-fault g c =
+    let p = err_from_is_err_and c.from_residual.result c.from_residual.ensures.1 in
+    rw (p.1, p.2) (Stopped-none c.args.wanted (words_of_wording c.args.wording.now) (g.R.ScriptRead.left c.args.reader.now) (g.W.ScriptWrite.held c.args.writer.now) Memory)
 
 pub returns-clause-fault : goal.returns-clause-fault
 returns-clause-fault g c =
