@@ -1,6 +1,7 @@
 //! The command line: what its words ask for, or why they ask for nothing.
 ghost use Rattle.std.specs.Prelude.{◌≡◌, IfOk, IfErr, map, string_bytes, option_map, codes, Some, true, false};
 ghost use Rattle.clap.specs.Words.{HasKind, app_of, fault_of, found_of, first_value, kind_of, rule_of};
+ghost use Rattle.couch_lines.specs.declared.options.NoTask.TheVariants.{Memory};
 ghost use Rattle.couch_lines.specs.Tasks.{Asks, AskNothing, Says, Refuses, task_word, further_word, help_option, program_app, command_line};
 
 use crate::tasks::{Task, task_of};
@@ -45,15 +46,20 @@ pub enum NoTask {
     Memory,
 }
 
+impl From<AllocError> for NoTask {
+    ghost from_gives = { λ _ e. e ≡ Memory };
+
+    fn from(_refused: AllocError) -> NoTask {
+        NoTask::Memory
+    }
+}
+
 /// What the words of a command line ask for, the program's name first.
 pub fn read_words<'a>(alloc: Global, words: &'a [String]) -> Result<Task, NoTask>
     ensures ok { IfOk result (λ task. Says (map string_bytes words.entry.now) task) }
     ensures err { IfErr result (λ why. Refuses (map string_bytes words.entry.now) why) }
 {
-    let command = match command(alloc) {
-        Ok(command) => command,
-        Err(_) => return Err(NoTask::Memory),
-    };
+    let command = command(alloc)?;
     let matches = match command.try_get_matches_from(words) {
         Ok(matches) => matches,
         Err(error) => return Err(NoTask::Words(error)),

@@ -23,12 +23,7 @@ pub fn run_program<H: AllocGlobal + Env + Input + Print + Eprint>(rt: &H) -> u8
 {
     match words_of(rt) {
         Ok(words) => tell(rt, &run_standard(rt, words.as_slice())),
-        Err(error) if error.kind() == io::ErrorKind::OutOfMemory => tell_end(
-            rt,
-            &Err(AnswerFault::Device {
-                fault: ScriptFault::Memory,
-            }),
-        ),
+        Err(error) if error.kind() == io::ErrorKind::OutOfMemory => tell_end(rt, &no_memory()),
         Err(error) => {
             let _ = eprintln!(rt; "error: {error}");
             BAD_COMMAND_LINE
@@ -78,12 +73,7 @@ fn tell<H: Print + Eprint>(rt: &H, ended: &Ended) -> u8
             let _ = eprintln!(rt; "error: no such task; couch_lines --help tells them");
             BAD_COMMAND_LINE
         }
-        Ended::NotRun(NoTask::Memory) => tell_end(
-            rt,
-            &Err(AnswerFault::Device {
-                fault: ScriptFault::Memory,
-            }),
-        ),
+        Ended::NotRun(NoTask::Memory) => tell_end(rt, &no_memory()),
         Ended::Ran(ended) => tell_end(rt, ended),
     }
 }
@@ -93,12 +83,7 @@ fn tell_words<H: Print + Eprint>(rt: &H, error: &Error) -> u8
     ensures { result ≡ kind_status (kind_of error.now) }
 {
     if error.kind() == ErrorKind::OutOfMemory {
-        return tell_end(
-            rt,
-            &Err(AnswerFault::Device {
-                fault: ScriptFault::Memory,
-            }),
-        );
+        return tell_end(rt, &no_memory());
     }
     let _ = error.print(rt);
     if error.use_stderr() {
@@ -106,6 +91,15 @@ fn tell_words<H: Print + Eprint>(rt: &H, error: &Error) -> u8
     } else {
         0
     }
+}
+
+/// How a run ended for which memory was wanting before it began.
+fn no_memory() -> Result<u64, AnswerFault>
+    ensures { status_of result ≡ 3 }
+{
+    Err(AnswerFault::Device {
+        fault: ScriptFault::Memory,
+    })
 }
 
 /// Tells what was passed over, or why what was asked for was not done to its end, and gives the exit status.

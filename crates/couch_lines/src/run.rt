@@ -6,7 +6,7 @@ ghost use Rattle.couch_lines.specs.Ends.{Ends, IsDone, Makes, wanted_of, words_o
 use crate::options::{NoTask, read_words};
 use crate::tasks::Task;
 use couch_answers::{AnswerFault, Wanted, Wording, run_answers};
-use script_engine::{ScriptFault, ScriptRead, ScriptWrite};
+use script_engine::{ScriptRead, ScriptWrite};
 use std::alloc::{AllocError, Global};
 
 /// How a run ended.
@@ -69,11 +69,6 @@ fn run_task<R: ScriptRead, W: ScriptWrite>(
     ensures done { IsDone task.now (R.left reader.old) (W.held writer.old) (W.held writer.new) result }
     ensures makes { Makes task.now (R.left reader.old) (W.held writer.old) (W.held writer.new) result }
 {
-    let mut wording = match wording_of(alloc, task) {
-        Ok(wording) => wording,
-        Err(_) => return Err(AnswerFault::Device {
-            fault: ScriptFault::Memory,
-        }),
-    };
+    let mut wording = wording_of(alloc, task)?;
     run_answers(alloc, wanted_of(task), &mut wording, reader, writer)
 }

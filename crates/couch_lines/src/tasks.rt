@@ -102,10 +102,8 @@ fn name_of(alloc: Global, word: Option<&str>) -> Result<String, NoTask>
     if !is_name(word) {
         return Err(NoTask::Unknown);
     }
-    match String::from_str(alloc, word) {
-        Ok(db) => Ok(db),
-        Err(_) => Err(NoTask::Memory),
-    }
+    let db = String::from_str(alloc, word)?;
+    Ok(db)
 }
 
 /// How many documents a body holds, where the word says so or there is none.

@@ -23,22 +23,22 @@ nothing_said words word further Memory f g h = tt
 
 pub returns-in-Ok-task_said-clause-ok : goal.returns-in-Ok-task_said-clause-ok
 returns-in-Ok-task_said-clause-ok c =
-    let m = c.in-Ok-try_get_matches_from.matches in
-    let simple : is_simple (app_of c.in-Ok.command) ≡ true = ap is_simple c.in-Ok.ensures ∙ line_simple in
-    let rows : rows_of (found_of m) ≡ matches_of command_line (map string_bytes c.args.words.now) = (c.in-Ok-try_get_matches_from.ensures.matches simple).0 ∙ ap (λ a. matches_of a (map string_bytes c.args.words.now)) c.in-Ok.ensures in
+    let m = c.in-Ok.matches in
+    let simple : is_simple (app_of c.in_ok-command.command) ≡ true = ap is_simple c.in_ok-command.ensures ∙ line_simple in
+    let rows : rows_of (found_of m) ≡ matches_of command_line (map string_bytes c.args.words.now) = (c.in-Ok.ensures.matches simple).0 ∙ ap (λ a. matches_of a (map string_bytes c.args.words.now)) c.in_ok-command.ensures in
     let word = first_value-rows (found_of m) (codes "task") ∙ ap (first_of (codes "task")) rows in
     let further = first_value-rows (found_of m) (codes "of") ∙ ap (first_of (codes "of")) rows in
     subst (λ o. Asks o (first_of (codes "of") (matches_of command_line (map string_bytes c.args.words.now))) c.in-Ok-task_said.task) word
     (subst (λ o. Asks (first_value (found_of m) (codes "task")) o c.in-Ok-task_said.task) further c.in-Ok-task_said.ensures.ok)
 
-pub returns-in-Err-try_get_matches_from-clause-err : goal.returns-in-Err-try_get_matches_from-clause-err
-returns-in-Err-try_get_matches_from-clause-err c =
-    let free : is_simple_and_free (app_of c.in-Ok.command) ≡ true = ap is_simple_and_free c.in-Ok.ensures ∙ line_free in
-    subst (λ a. HasKind (fault_of a (map string_bytes c.args.words.now)) c.in-Err-try_get_matches_from.error) c.in-Ok.ensures (c.in-Err-try_get_matches_from.ensures.kinds free)
+pub returns-in-Err-clause-err : goal.returns-in-Err-clause-err
+returns-in-Err-clause-err c =
+    let free : is_simple_and_free (app_of c.in_ok-command.command) ≡ true = ap is_simple_and_free c.in_ok-command.ensures ∙ line_free in
+    subst (λ a. HasKind (fault_of a (map string_bytes c.args.words.now)) c.in-Err.error) c.in_ok-command.ensures (c.in-Err.ensures.kinds free)
 
 pub returns-clause-err : goal.returns-clause-err
 returns-clause-err c =
-    let m = c.in-Ok-try_get_matches_from.matches in
-    let simple : is_simple (app_of c.in-Ok.command) ≡ true = ap is_simple c.in-Ok.ensures ∙ line_simple in
-    let rows : rows_of (found_of m) ≡ matches_of command_line (map string_bytes c.args.words.now) = (c.in-Ok-try_get_matches_from.ensures.matches simple).0 ∙ ap (λ a. matches_of a (map string_bytes c.args.words.now)) c.in-Ok.ensures in
+    let m = c.in-Ok.matches in
+    let simple : is_simple (app_of c.in_ok-command.command) ≡ true = ap is_simple c.in_ok-command.ensures ∙ line_simple in
+    let rows : rows_of (found_of m) ≡ matches_of command_line (map string_bytes c.args.words.now) = (c.in-Ok.ensures.matches simple).0 ∙ ap (λ a. matches_of a (map string_bytes c.args.words.now)) c.in_ok-command.ensures in
     nothing_said (map string_bytes c.args.words.now) _ _ c.in-Err-task_said.why (first_value-rows (found_of m) (codes "task") ∙ ap (first_of (codes "task")) rows) (first_value-rows (found_of m) (codes "of") ∙ ap (first_of (codes "of")) rows) c.in-Err-task_said.ensures.err
