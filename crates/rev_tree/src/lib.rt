@@ -10,10 +10,12 @@ mod node;
 mod nodes;
 mod origin;
 mod place_index;
+mod revs;
 mod tree;
 mod walks;
 
 pub use content::Content;
 pub use fault::{Contradiction, Merged, TreeFault};
 pub use origin::{Origin, SessionId};
+pub use revs::Revs;
 pub use tree::Tree;

@@ -168,7 +168,7 @@ fn place_near(nodes: &[Node], places: &Places, near: Option<usize>, rev: Rev) ->
     ensures { result ≡ place_of nodes.now rev }
 {
     if let Some(place) = near {
-        if rev == node_at(nodes, place).rev() {
+        if node_at(nodes, place).is_of(&rev) {
             return Some(place);
         }
     }

@@ -1,6 +1,8 @@
 //! A node of a tree: a revision with what the tree knows of it.
 ghost use Rattle.std.specs.Prelude.{◌≡◌, ◌+◌, ◌<◌, ◌^◌, Some, None, IfOk, true, false};
 ghost use Rattle.std.specs.Option.{option_copied};
+ghost use Rattle.std.specs.Ordering.{eq_by_cmp};
+ghost use Rattle.rev_core.specs.Rev.{rev_cmp};
 
 use crate::content::Content;
 use crate::origin::{Origin, SessionId};
@@ -68,6 +70,13 @@ impl Node {
         ensures { result ≡ self.now.rev }
     {
         self.rev
+    }
+
+    /// Whether it is the node of a revision.
+    pub(crate) fn is_of(&self, rev: &Rev) -> bool
+        ensures { result ≡ eq_by_cmp rev_cmp rev.now self.now.rev }
+    {
+        *rev == self.rev
     }
 
     /// The place of its parent, where one is known.

@@ -42,7 +42,7 @@ pub(crate) fn place_in(nodes: &[Node], places: &Places, rev: Rev) -> Option<usiz
 {
     if nodes.len() > MOST_WALKED {
         let place = places.get(mark_of(rev))?;
-        if rev == node_at(nodes, place).rev() {
+        if node_at(nodes, place).is_of(&rev) {
             return Some(place);
         }
         // Another revision has the same mark.
@@ -64,7 +64,7 @@ fn walked_to(nodes: &[Node], rev: Rev) -> Option<usize>
     ensures { result ≡ place_of nodes.now rev }
 {
     for i in 0..nodes.len() {
-        if rev == nodes[i].rev() {
+        if nodes[i].is_of(&rev) {
             return Some(i);
         }
     }

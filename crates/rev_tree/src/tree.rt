@@ -9,6 +9,7 @@ use crate::node::Node;
 use crate::nodes::{copy_nodes, index_of, node_at, node_in, place_in};
 use crate::origin::Origin;
 use crate::place_index::Places;
+use crate::revs::Revs;
 use crate::walks::{those_above, walk};
 use rev_core::{Ancestry, Rev};
 use std::alloc::{AllocError, Global};
@@ -141,13 +142,13 @@ impl Tree {
         best
     }
 
-    /// The leaves, winner first.
-    pub fn leaves(&self, alloc: Global) -> Result<Vec<Rev>, AllocError>
-        ensures { IfOk result (λ v. v.items ≡ leaves self.now) }
+    /// The leaves, winner first. One alone takes no memory.
+    pub fn leaves(&self, alloc: Global) -> Result<Revs, AllocError>
+        ensures { IfOk result (λ out. out ≡ leaves self.now) }
     {
         match self.only_leaf() {
-            Some(leaf) => alone(alloc, leaf),
-            None => self.sorted_leaves(alloc),
+            Some(leaf) => Ok(Revs::one(leaf)),
+            None => Ok(Revs::from(self.sorted_leaves(alloc)?)),
         }
     }
 
@@ -202,20 +203,36 @@ impl Tree {
     }
 
     /// The leaves at or above one of the revisions, winner first.
-    pub fn leaves_above(&self, alloc: Global, revs: &[Rev]) -> Result<Vec<Rev>, AllocError>
-        ensures { IfOk result (λ v. v.items ≡ leaves_above self.now revs.now) }
+    ///
+    /// The only leaf, where it is itself one of them, takes no memory.
+    pub fn leaves_above(&self, alloc: Global, revs: &[Rev]) -> Result<Revs, AllocError>
+        ensures { IfOk result (λ out. out ≡ leaves_above self.now revs.now) }
     {
         if let Some(leaf) = self.only_leaf() {
             if revs.contains(&leaf) {
-                return alone(alloc, leaf);
+                return Ok(Revs::one(leaf));
             }
         }
         let leaves = self.leaves(alloc)?;
-        those_above(alloc, &self.nodes, &self.places, &leaves, revs)
+        Ok(Revs::from(those_above(alloc, &self.nodes, &self.places, &leaves, revs)?))
     }
 
-    /// Those that are not in the tree, in their order.
-    pub fn missing(&self, alloc: Global, revs: &[Rev]) -> Result<Vec<Rev>, AllocError>
+    /// Those that are not in the tree, in their order. Of one revision alone it takes no memory.
+    pub fn missing(&self, alloc: Global, revs: &[Rev]) -> Result<Revs, AllocError>
+        ensures { IfOk result (λ out. out ≡ missing self.now revs.now) }
+    {
+        if revs.len() != 1 {
+            return Ok(Revs::from(self.missing_listed(alloc, revs)?));
+        }
+        if self.has(revs[0]) {
+            Ok(Revs::none(alloc))
+        } else {
+            Ok(Revs::one(revs[0]))
+        }
+    }
+
+    /// Those that are not in the tree, in their order, of which there may be several.
+    fn missing_listed(&self, alloc: Global, revs: &[Rev]) -> Result<Vec<Rev>, AllocError>
         ensures { IfOk result (λ v. v.items ≡ missing self.now revs.now) }
     {
         let mut missing = Vec::new(alloc);
@@ -345,15 +362,6 @@ fn is_deleted(node: &Node) -> bool
         Some(content) => content.deleted(),
         None => false,
     }
-}
-
-/// The list of a revision.
-fn alone(alloc: Global, rev: Rev) -> Result<Vec<Rev>, AllocError>
-    ensures { IfOk result (λ v. v.items ≡ rev ∷ []) }
-{
-    let mut revs = Vec::with_capacity(alloc, 1)?;
-    revs.push(rev)?;
-    Ok(revs)
 }
 
 /// The revisions of pairs.

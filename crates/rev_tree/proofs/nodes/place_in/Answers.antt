@@ -1,8 +1,6 @@
 use Rattle.std.proofs.Common.{[], is_some, sym, ap, ◌∙◌, arith}
 use Rattle.std.specs.Prelude.{nat_eq}
-use Rattle.std.specs.Ordering.{eq_by_cmp}
 use Rattle.std.specs.Map.{lookup}
-use Rattle.rev_core.specs.Rev.{rev_cmp}
 use Rattle.rev_tree.specs.Index.{noted_from}
 use Rattle.rev_tree.specs.Nodes.{revs_in}
 use Rattle.rev_tree.proofs.Places.{none_of, is_some-node_of, place_none, place_at}
@@ -25,7 +23,7 @@ node_at-requires c =
     let low = marks_within revs c.mark_of.result c.in_ok-place.place (ap (lookup (nat_eq c.mark_of.result)) (sym index) ∙ sym c.get.ensures ∙ c.in_ok-place.was) in
     omega (arith, low, length-revs_in c.args.nodes.now)
 
-pub returns-then-eq : goal.returns-then-eq
-returns-then-eq c =
+pub returns-then-is_of : goal.returns-then-is_of
+returns-then-is_of c =
     sym (place_at c.args.nodes.now c.requires.linked.once c.in_ok-place.place c.node_at.result.now c.args.rev c.node_at.ensures
-    (ap (eq_by_cmp rev_cmp c.args.rev) (sym c.rev.ensures) ∙ sym c.eq.ensures ∙ c.if-eq.true))
+    (sym c.is_of.ensures ∙ c.if-is_of.true))

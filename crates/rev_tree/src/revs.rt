@@ -1,0 +1,106 @@
+//! Lists of revisions.
+ghost use Rattle.std.specs.Prelude.{◌≡◌, ◌∷◌, [], IfOk};
+
+use rev_core::Rev;
+use std::alloc::{AllocError, Global};
+use std::convert::From;
+use std::marker::Model;
+use std::ops::DerefSlice;
+use std::slice;
+
+/// Revisions in an order. One alone stands in the value itself, so that its list takes no memory.
+///
+/// Most documents have one leaf, and one revision is asked of most.
+#[derive(Debug)]
+pub struct Revs {
+    kept: Kept,
+}
+
+// By hand, so that it is proved once: docs/DECISIONS.md, "Letting values go".
+impl Drop for Revs {
+    fn drop(self) {
+        let Revs { kept: _ } = self;
+    }
+}
+
+/// Where the revisions stand.
+#[derive(Debug, Drop)]
+enum Kept {
+    One(Rev),
+    Many(Vec<Rev>),
+}
+
+impl Model for Revs {
+    ghost use Rattle.std.specs.Prelude.{List};
+    ghost use Rattle.rev_core.specs.Rev.{RevId};
+    ghost use Rattle.rev_tree.specs.Kept.{kept_revs};
+
+    ghost Value = { List RevId };
+
+    ghost view = { λ r. kept_revs r.kept };
+}
+
+impl Revs {
+    /// The list of none.
+    pub fn none(alloc: Global) -> Revs
+        ensures { result ≡ [] }
+    {
+        Revs::from(Vec::new(alloc))
+    }
+
+    /// The list of one revision.
+    pub fn one(rev: Rev) -> Revs
+        ensures { result ≡ rev ∷ [] }
+    {
+        Revs {
+            kept: Kept::One(rev),
+        }
+    }
+
+    /// A list of the same revisions.
+    pub fn from_slice(alloc: Global, revs: &[Rev]) -> Result<Revs, AllocError>
+        ensures { IfOk result (λ r. r ≡ revs.now) }
+    {
+        if revs.len() == 1 {
+            return Ok(Revs::one(revs[0]));
+        }
+        Ok(Revs::from(Vec::from_slice(alloc, revs)?))
+    }
+
+    /// The revisions.
+    pub fn as_slice(&self) -> &[Rev]
+        ensures { result.now ≡ self.now }
+    {
+        match &self.kept {
+            Kept::One(rev) => slice::from_ref(rev),
+            Kept::Many(revs) => revs,
+        }
+    }
+
+    /// A list of the same revisions.
+    pub fn copy(&self, alloc: Global) -> Result<Revs, AllocError>
+        ensures { IfOk result (λ r. r ≡ self.now) }
+    {
+        Revs::from_slice(alloc, self.as_slice())
+    }
+}
+
+impl From<Vec<Rev>> for Revs {
+    ghost from_gives = { λ listed revs. revs ≡ listed.items };
+
+    fn from(listed: Vec<Rev>) -> Revs {
+        Revs {
+            kept: Kept::Many(listed),
+        }
+    }
+}
+
+impl DerefSlice for Revs {
+    type Elem = Rev;
+
+    ghost deref_gives = { λ revs slice. slice ≡ revs };
+
+    fn deref(&self) -> &[Rev] {
+        self.as_slice()
+    }
+}
