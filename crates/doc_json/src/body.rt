@@ -1,5 +1,5 @@
 //! The bodies of documents.
-ghost use Rattle.std.specs.Prelude.{◌≡◌, false, IfOk, IfErr};
+ghost use Rattle.std.specs.Prelude.{◌≡◌, false, IfOk};
 ghost use Rattle.std.specs.Arc.{arc_slice_items};
 ghost use Rattle.serde_json.specs.Data.{object};
 ghost use Rattle.serde_json.specs.View.{view, members_view};
@@ -43,7 +43,7 @@ impl Model for Body {
 }
 
 impl Body {
-    ghost use Rattle.std.specs.Prelude.{◌≡◌, IfOk, IfErr};
+    ghost use Rattle.std.specs.Prelude.{◌≡◌, IfOk};
     ghost use Rattle.std.specs.Arc.{arc_slice_items};
     ghost use Rattle.doc_json.specs.Body.{IsBody};
 
@@ -63,22 +63,17 @@ impl Body {
         self.text.as_slice()
     }
 
-    /// The text, shared. The only error is `Memory`.
-    pub fn share(&self) -> Result<ArcSlice<u8>, DocFault>
+    /// The text, shared.
+    pub fn share(&self) -> Result<ArcSlice<u8>, AllocError>
         ensures shared { IfOk result (λ text. arc_slice_items text ≡ self.now) }
         ensures body { IsBody self.now }
-        ensures err { IfErr result (λ e. e ≡ DocFault.Memory) }
     {
-        let Ok(text) = self.text.clone() else {
-            return Err(DocFault::Memory);
-        };
-        Ok(text)
+        self.text.clone()
     }
 
-    /// The same body, which shares its text with this one. The only error is `Memory`.
-    pub fn copy(&self) -> Result<Body, DocFault>
+    /// The same body, which shares its text with this one.
+    pub fn copy(&self) -> Result<Body, AllocError>
         ensures copied { IfOk result (λ b. b ≡ self.now) }
-        ensures err { IfErr result (λ e. e ≡ DocFault.Memory) }
     {
         Ok(Body {
             text: self.share()?,
@@ -103,22 +98,20 @@ pub fn read_body(alloc: Global, value: &Value) -> Result<Body, DocFault>
     if members::members_have_fraction(members) {
         return Err(DocFault::Fraction);
     }
-    match written(alloc, value) {
-        Ok(text) => Ok(Body::from_text(text)),
-        Err(_) => Err(DocFault::Memory),
-    }
+    let text = match written(alloc, value) {
+        Ok(text) => text,
+        Err(refused) => return Err(DocFault::from(refused)),
+    };
+    Ok(Body::from_text(text))
 }
 
-/// The body of an object's members without a leading `_`. The only error is `Memory`.
-pub(crate) fn plain_body(alloc: Global, members: &Map<String, Value>) -> Result<Body, DocFault>
+/// The body of an object's members without a leading `_`.
+pub(crate) fn plain_body(alloc: Global, members: &Map<String, Value>) -> Result<Body, AllocError>
     requires { members_have_float (plain_members (members_view members.now.entries)) ≡ false }
     ensures body { IfOk result (λ b. b ≡ body_text (members_view members.now.entries)) }
-    ensures err { IfErr result (λ e. e ≡ DocFault.Memory) }
 {
-    match plain_written(alloc, members) {
-        Ok(text) => Ok(Body::from_text(text)),
-        Err(_) => Err(DocFault::Memory),
-    }
+    let text = plain_written(alloc, members)?;
+    Ok(Body::from_text(text))
 }
 
 /// The compact text of an object's members without a leading `_`, to be shared.
@@ -131,18 +124,11 @@ fn plain_written(alloc: Global, members: &Map<String, Value>) -> Result<ArcSlice
     ArcSlice::from_vec(text)
 }
 
-/// The compact text of a value, to be shared. The only error is `Memory`.
-fn written(alloc: Global, value: &Value) -> Result<ArcSlice<u8>, DocFault>
+/// The compact text of a value, to be shared.
+fn written(alloc: Global, value: &Value) -> Result<ArcSlice<u8>, AllocError>
     requires { has_float (view value.now) ≡ false }
-    ensures written { IfOk result (λ v. IsWritten (arc_slice_items v) (view value.now)) }
-    ensures err { IfErr result (λ e. e ≡ DocFault.Memory) }
+    ensures { IfOk result (λ v. IsWritten (arc_slice_items v) (view value.now)) }
 {
-    let Ok(text) = value.to_vec(alloc) else {
-        return Err(DocFault::Memory);
-    };
-    let text = compact::trimmed(text);
-    match ArcSlice::from_vec(text) {
-        Ok(text) => Ok(text),
-        Err(_) => Err(DocFault::Memory),
-    }
+    let text = compact::trimmed(value.to_vec(alloc)?);
+    ArcSlice::from_vec(text)
 }

@@ -14,6 +14,7 @@ ghost use Rattle.doc_json.specs.ChosenLaws.{id_alike, choices_po};
 use crate::doc_id::DocId;
 use crate::fault::DocFault;
 use crate::marks::{is_marked, mark};
+use std::alloc::AllocError;
 use std::cmp::Ordering;
 use std::fmt::{Debug, Error, Formatter, Write};
 use std::hash::{Hash, Hasher};
@@ -56,7 +57,7 @@ impl Model for Chosen {
 }
 
 impl Chosen {
-    ghost use Rattle.std.specs.Prelude.{◌≡◌, Some, IfOk, IfErr};
+    ghost use Rattle.std.specs.Prelude.{◌≡◌, Some, IfOk};
     ghost use Rattle.doc_json.specs.Answers.{GivesUnlessMemory};
     ghost use Rattle.doc_json.specs.Chosen.{chosen_answer, is_chosen, IsChoice};
 
@@ -77,10 +78,8 @@ impl Chosen {
         }
         are_texts(&ids);
         let marks = mark(*ids.allocator(), &ids)?;
-        match ArcSlice::from_vec(ids) {
-            Ok(ids) => Ok(Chosen { ids, marks }),
-            Err(_) => Err(DocFault::Memory),
-        }
+        let ids = ArcSlice::from_vec(ids)?;
+        Ok(Chosen { ids, marks })
     }
 
     /// The ids, in byte order.
@@ -98,18 +97,14 @@ impl Chosen {
         is_marked(self.marks.as_slice(), id) && self.ids().binary_search(id).is_ok()
     }
 
-    /// The same choice, which shares its ids with this one. The only error is `Memory`.
-    pub fn copy(&self) -> Result<Chosen, DocFault>
+    /// The same choice, which shares its ids with this one.
+    pub fn copy(&self) -> Result<Chosen, AllocError>
         ensures copied { IfOk result (λ c. c ≡ self.now) }
-        ensures err { IfErr result (λ e. e ≡ DocFault.Memory) }
     {
-        let Ok(ids) = self.ids.clone() else {
-            return Err(DocFault::Memory);
-        };
-        match self.marks.clone() {
-            Ok(marks) => Ok(Chosen { ids, marks }),
-            Err(_) => Err(DocFault::Memory),
-        }
+        Ok(Chosen {
+            ids: self.ids.clone()?,
+            marks: self.marks.clone()?,
+        })
     }
 }
 

@@ -3,9 +3,8 @@ ghost use Rattle.doc_json.specs.Document.{Document, IsDocument};
 
 use crate::body::Body;
 use crate::doc_id::DocId;
-use crate::fault::DocFault;
 use rev_core::Ancestry;
-use std::alloc::Global;
+use std::alloc::{AllocError, Global};
 use std::marker::Model;
 
 /// A document: its id, its ancestry, whether it is deleted, and its body.
@@ -36,7 +35,7 @@ impl Model for Doc {
 }
 
 impl Doc {
-    ghost use Rattle.std.specs.Prelude.{◌≡◌, IfOk, IfErr};
+    ghost use Rattle.std.specs.Prelude.{◌≡◌, IfOk};
 
     /// The document of these parts.
     pub fn new(id: DocId, ancestry: Ancestry, deleted: bool, body: Body) -> Doc
@@ -100,20 +99,13 @@ impl Doc {
         (self.id, self.ancestry, self.deleted, self.body)
     }
 
-    /// The same document. The only error is `Memory`.
-    pub fn copy(&self, alloc: Global) -> Result<Doc, DocFault>
+    /// The same document.
+    pub fn copy(&self, alloc: Global) -> Result<Doc, AllocError>
         ensures copied { IfOk result (λ d. d ≡ self.now) }
-        ensures err { IfErr result (λ e. e ≡ DocFault.Memory) }
     {
-        let Ok(id) = self.id.copy(alloc) else {
-            return Err(DocFault::Memory);
-        };
-        let Ok(ancestry) = self.ancestry.copy(alloc) else {
-            return Err(DocFault::Memory);
-        };
-        let Ok(body) = self.body.copy() else {
-            return Err(DocFault::Memory);
-        };
+        let id = self.id.copy(alloc)?;
+        let ancestry = self.ancestry.copy(alloc)?;
+        let body = self.body.copy()?;
         Ok(Doc::new(id, ancestry, self.deleted, body))
     }
 }

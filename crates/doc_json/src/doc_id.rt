@@ -9,7 +9,7 @@ ghost use Rattle.doc_json.specs.DocId.{doc_id_read, is_special, is_design};
 
 use crate::fault::DocFault;
 use arrayvec::ArrayString;
-use std::alloc::Global;
+use std::alloc::{AllocError, Global};
 use std::cmp::Ordering;
 use std::hash::{Hash, Hasher};
 use std::marker::Model;
@@ -22,21 +22,17 @@ enum IdText {
 }
 
 impl IdText {
-    ghost use Rattle.std.specs.Prelude.{◌≡◌, IfOk, IfErr};
+    ghost use Rattle.std.specs.Prelude.{◌≡◌, IfOk};
     ghost use Rattle.doc_json.specs.IdText.{text_of};
 
-    /// The text, kept. The only error is `Memory`.
-    fn keep(alloc: Global, text: &str) -> Result<IdText, DocFault>
+    /// The text, kept.
+    fn keep(alloc: Global, text: &str) -> Result<IdText, AllocError>
         ensures kept { IfOk result (λ t. text_of t ≡ text.now) }
-        ensures err { IfErr result (λ e. e ≡ DocFault.Memory) }
     {
         if let Ok(near) = ArrayString::from(text) {
             return Ok(IdText::Near(near));
         }
-        match String::from_str(alloc, text) {
-            Ok(far) => Ok(IdText::Far(far)),
-            Err(_) => Err(DocFault::Memory),
-        }
+        Ok(IdText::Far(String::from_str(alloc, text)?))
     }
 
     /// The text.
@@ -80,7 +76,7 @@ impl Model for DocId {
 }
 
 impl DocId {
-    ghost use Rattle.std.specs.Prelude.{◌≡◌, Ok, IfOk, IfErr};
+    ghost use Rattle.std.specs.Prelude.{◌≡◌, Ok, IfOk};
     ghost use Rattle.doc_json.specs.Answers.{GivesUnlessMemory};
     ghost use Rattle.doc_json.specs.DocId.{doc_id_read};
 
@@ -91,17 +87,14 @@ impl DocId {
     pub fn parse(alloc: Global, text: &str) -> Result<DocId, DocFault>
         ensures { GivesUnlessMemory result (doc_id_read text.now) }
     {
-        match check_id(text) {
-            Ok(()) => DocId::of_checked(alloc, text),
-            Err(fault) => Err(fault),
-        }
+        check_id(text)?;
+        Ok(DocId::of_checked(alloc, text)?)
     }
 
-    /// The id of a text that is one. The only error is `Memory`.
-    pub(crate) fn of_checked(alloc: Global, text: &str) -> Result<DocId, DocFault>
+    /// The id of a text that is one.
+    pub(crate) fn of_checked(alloc: Global, text: &str) -> Result<DocId, AllocError>
         requires { doc_id_read text.now ≡ Ok text.now }
         ensures id { IfOk result (λ a. a ≡ text.now) }
-        ensures err { IfErr result (λ e. e ≡ DocFault.Memory) }
     {
         let text = IdText::keep(alloc, text)?;
         Ok(DocId { text })
@@ -115,10 +108,9 @@ impl DocId {
         self.text.as_str()
     }
 
-    /// The same id. The only error is `Memory`.
-    pub fn copy(&self, alloc: Global) -> Result<DocId, DocFault>
+    /// The same id.
+    pub fn copy(&self, alloc: Global) -> Result<DocId, AllocError>
         ensures copied { IfOk result (λ a. a ≡ self.now) }
-        ensures err { IfErr result (λ e. e ≡ DocFault.Memory) }
     {
         let text = IdText::keep(alloc, self.text())?;
         Ok(DocId { text })

@@ -34,26 +34,24 @@ pub fn read_line_body(alloc: Global, value: &LineValue<'_>) -> Result<Body, DocF
     if line_members::members_have_fraction(members) {
         return Err(DocFault::Fraction);
     }
-    match written(alloc, value) {
-        Ok(text) => Ok(Body::from_text(text)),
-        Err(_) => Err(DocFault::Memory),
-    }
+    let text = match written(alloc, value) {
+        Ok(text) => text,
+        Err(refused) => return Err(DocFault::from(refused)),
+    };
+    Ok(Body::from_text(text))
 }
 
-/// The body of an object's members without a leading `_`. The only error is `Memory`.
+/// The body of an object's members without a leading `_`.
 pub(crate) fn plain_body(
     alloc: Global,
     members: &Vec<(&str, LineValue<'_>)>,
-) -> Result<Body, DocFault>
+) -> Result<Body, AllocError>
     requires exact { members_have_float (plain_members (line_members members.now.items)) ≡ false }
     requires order { IsInOrderOfNames (line_members members.now.items) }
     ensures body { IfOk result (λ b. b ≡ body_text (line_members members.now.items)) }
-    ensures err { IfErr result (λ e. e ≡ DocFault.Memory) }
 {
-    match plain_written(alloc, members) {
-        Ok(text) => Ok(Body::from_text(text)),
-        Err(_) => Err(DocFault::Memory),
-    }
+    let text = plain_written(alloc, members)?;
+    Ok(Body::from_text(text))
 }
 
 /// The compact text of an object's members without a leading `_`, to be shared.
@@ -70,18 +68,12 @@ fn plain_written(
     ArcSlice::from_vec(text)
 }
 
-/// The compact text of a value, to be shared. The only error is `Memory`.
-fn written(alloc: Global, value: &LineValue<'_>) -> Result<ArcSlice<u8>, DocFault>
+/// The compact text of a value, to be shared.
+fn written(alloc: Global, value: &LineValue<'_>) -> Result<ArcSlice<u8>, AllocError>
     requires exact { has_float (line_view value.now) ≡ false }
     requires order { IsOrdered (line_view value.now) }
-    ensures written { IfOk result (λ v. IsWritten (arc_slice_items v) (line_view value.now)) }
-    ensures err { IfErr result (λ e. e ≡ DocFault.Memory) }
+    ensures { IfOk result (λ v. IsWritten (arc_slice_items v) (line_view value.now)) }
 {
-    let Ok(text) = line_compact::value_text(alloc, value) else {
-        return Err(DocFault::Memory);
-    };
-    match ArcSlice::from_vec(text) {
-        Ok(text) => Ok(text),
-        Err(_) => Err(DocFault::Memory),
-    }
+    let text = line_compact::value_text(alloc, value)?;
+    ArcSlice::from_vec(text)
 }

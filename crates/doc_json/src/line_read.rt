@@ -47,14 +47,17 @@ pub fn read_line_doc(alloc: Global, value: &LineValue<'_>) -> Result<Doc, DocFau
     if found.has_fraction {
         return Err(DocFault::Fraction);
     }
-    let Some(ancestry) = ancestry else {
-        return Err(DocFault::Memory);
+    let ancestry = match ancestry {
+        Ok(ancestry) => ancestry,
+        Err(refused) => return Err(DocFault::from(refused)),
     };
-    let Ok(id) = DocId::of_checked(alloc, id) else {
-        return Err(DocFault::Memory);
+    let id = match DocId::of_checked(alloc, id) {
+        Ok(id) => id,
+        Err(refused) => return Err(DocFault::from(refused)),
     };
-    let Ok(body) = line_body::plain_body(alloc, members) else {
-        return Err(DocFault::Memory);
+    let body = match line_body::plain_body(alloc, members) {
+        Ok(body) => body,
+        Err(refused) => return Err(DocFault::from(refused)),
     };
     Ok(Doc::new(id, ancestry, deleted, body))
 }

@@ -30,14 +30,14 @@ pub(crate) fn read_rev(member: Option<&LineValue<'_>>) -> Result<Option<Rev>, Do
     }
 }
 
-/// The ancestry that a member `_revisions` gives beside what `_rev` gave. None where memory for it was refused.
+/// The ancestry that a member `_revisions` gives beside what `_rev` gave, or that memory for it was refused.
 pub(crate) fn read_revisions(
     alloc: Global,
     member: Option<&LineValue<'_>>,
     rev: Option<Rev>,
-) -> Result<Option<Ancestry>, DocFault>
+) -> Result<Result<Ancestry, AllocError>, DocFault>
     ensures ok { OnOk result (IsOk (with_revisions (option_map (λ v. line_view v.now) member.entry) rev)) }
-    ensures built { IfOk result (λ o. IfSome o
+    ensures built { IfOk result (λ r. IfOk r
         (λ a. with_revisions (option_map (λ v. line_view v.now) member.entry) rev ≡ Ok a)) }
     ensures err { IfErr result
         (λ e. with_revisions (option_map (λ v. line_view v.now) member.entry) rev ≡ Err e) }
@@ -51,14 +51,14 @@ pub(crate) fn read_revisions(
     }
 }
 
-/// The ancestry that a value of `_revisions` gives beside what `_rev` gave. None where memory for it was refused.
+/// The ancestry that a value of `_revisions` gives beside what `_rev` gave, or that memory for it was refused.
 fn read_numbered(
     alloc: Global,
     value: &LineValue<'_>,
     rev: Option<Rev>,
-) -> Result<Option<Ancestry>, DocFault>
+) -> Result<Result<Ancestry, AllocError>, DocFault>
     ensures ok { OnOk result (IsOk (revisions_beside rev (line_view value.now))) }
-    ensures built { IfOk result (λ o. IfSome o (λ a. revisions_beside rev (line_view value.now) ≡ Ok a)) }
+    ensures built { IfOk result (λ r. IfOk r (λ a. revisions_beside rev (line_view value.now) ≡ Ok a)) }
     ensures err { IfErr result (λ e. revisions_beside rev (line_view value.now) ≡ Err e) }
 {
     let Some(start) = start_of(value) else {
@@ -71,8 +71,8 @@ fn read_numbered(
         Ok(Some(ancestry)) => matched(ancestry, rev),
         Ok(None) => Err(DocFault::BadRevisions),
         // What is refused does not rest on memory.
-        Err(_) => match check_numbered(start, ids, rev) {
-            Ok(()) => Ok(None),
+        Err(refused) => match check_numbered(start, ids, rev) {
+            Ok(()) => Ok(Err(refused)),
             Err(fault) => Err(fault),
         },
     }

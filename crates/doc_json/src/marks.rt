@@ -1,11 +1,10 @@
 //! Marks of ids: where a few ids are looked for among many, most others are told apart by one look.
-ghost use Rattle.std.specs.Prelude.{◌≡◌, ◌<◌, ◌-◌, true, IfOk, IfErr, length, drop};
+ghost use Rattle.std.specs.Prelude.{◌≡◌, ◌<◌, ◌-◌, true, IfOk, length, drop};
 ghost use Rattle.std.specs.Arc.{arc_slice_items};
 ghost use Rattle.doc_json.specs.Marks.{AreMarks, is_marked, place_of};
 
 use crate::doc_id::DocId;
-use crate::fault::DocFault;
-use std::alloc::Global;
+use std::alloc::{AllocError, Global};
 use std::sync::ArcSlice;
 
 /// How many places there are for marks.
@@ -31,21 +30,15 @@ fn place_of(id: &DocId) -> usize
 }
 
 /// Marks the place of each id.
-pub(crate) fn mark(alloc: Global, ids: &[DocId]) -> Result<ArcSlice<bool>, DocFault>
+pub(crate) fn mark(alloc: Global, ids: &[DocId]) -> Result<ArcSlice<bool>, AllocError>
     ensures marks { IfOk result (λ marks. AreMarks (arc_slice_items marks) ids.now) }
-    ensures err { IfErr result (λ e. e ≡ DocFault.Memory) }
 {
-    let Ok(mut marks) = Vec::from_elem(alloc, false, PLACES) else {
-        return Err(DocFault::Memory);
-    };
+    let mut marks = Vec::from_elem(alloc, false, PLACES)?;
     for id in ids {
         let place = place_of(id);
         marks[place] = true;
     }
-    match ArcSlice::from_vec(marks) {
-        Ok(marks) => Ok(marks),
-        Err(_) => Err(DocFault::Memory),
-    }
+    Ok(ArcSlice::from_vec(marks)?)
 }
 
 /// Whether the place of an id is marked.

@@ -30,14 +30,14 @@ pub(crate) fn read_rev(member: Option<&Value>) -> Result<Option<Rev>, DocFault>
     }
 }
 
-/// The ancestry that a member `_revisions` gives beside what `_rev` gave. None where memory for it was refused.
+/// The ancestry that a member `_revisions` gives beside what `_rev` gave, or that memory for it was refused.
 pub(crate) fn read_revisions(
     alloc: Global,
     member: Option<&Value>,
     rev: Option<Rev>,
-) -> Result<Option<Ancestry>, DocFault>
+) -> Result<Result<Ancestry, AllocError>, DocFault>
     ensures ok { OnOk result (IsOk (with_revisions (option_map (λ v. view v.now) member.entry) rev)) }
-    ensures built { IfOk result (λ o. IfSome o
+    ensures built { IfOk result (λ r. IfOk r
         (λ a. with_revisions (option_map (λ v. view v.now) member.entry) rev ≡ Ok a)) }
     ensures err { IfErr result
         (λ e. with_revisions (option_map (λ v. view v.now) member.entry) rev ≡ Err e) }
@@ -51,26 +51,24 @@ pub(crate) fn read_revisions(
     }
 }
 
-/// The ancestry of a lone revision id. None where memory for it was refused.
-pub(crate) fn alone(alloc: Global, rev: Rev) -> Option<Ancestry>
-    ensures { IfSome result (λ a. a ≡ rev ∷ []) }
+/// The ancestry of a lone revision id.
+pub(crate) fn alone(alloc: Global, rev: Rev) -> Result<Ancestry, AllocError>
+    ensures { IfOk result (λ a. a ≡ rev ∷ []) }
 {
     let _generation = rev.generation();
-    let Ok(mut revs) = Vec::with_capacity(alloc, 1) else {
-        return None;
-    };
+    let mut revs = Vec::with_capacity(alloc, 1)?;
     revs.push_reserved(rev);
-    Some(Ancestry::from_revs(revs))
+    Ok(Ancestry::from_revs(revs))
 }
 
-/// The ancestry that a value of `_revisions` gives beside what `_rev` gave. None where memory for it was refused.
+/// The ancestry that a value of `_revisions` gives beside what `_rev` gave, or that memory for it was refused.
 fn read_numbered(
     alloc: Global,
     value: &Value,
     rev: Option<Rev>,
-) -> Result<Option<Ancestry>, DocFault>
+) -> Result<Result<Ancestry, AllocError>, DocFault>
     ensures ok { OnOk result (IsOk (revisions_beside rev (view value.now))) }
-    ensures built { IfOk result (λ o. IfSome o (λ a. revisions_beside rev (view value.now) ≡ Ok a)) }
+    ensures built { IfOk result (λ r. IfOk r (λ a. revisions_beside rev (view value.now) ≡ Ok a)) }
     ensures err { IfErr result (λ e. revisions_beside rev (view value.now) ≡ Err e) }
 {
     let Some(start) = start_of(value) else {
@@ -83,16 +81,19 @@ fn read_numbered(
         Ok(Some(ancestry)) => matched(ancestry, rev),
         Ok(None) => Err(DocFault::BadRevisions),
         // What is refused does not rest on memory.
-        Err(_) => match check_numbered(start, ids, rev) {
-            Ok(()) => Ok(None),
+        Err(refused) => match check_numbered(start, ids, rev) {
+            Ok(()) => Ok(Err(refused)),
             Err(fault) => Err(fault),
         },
     }
 }
 
 /// The ancestry, where a revision that is there is its newest.
-pub(crate) fn matched(ancestry: Ancestry, rev: Option<Rev>) -> Result<Option<Ancestry>, DocFault>
-    ensures ok { IfOk result (λ o. (o ≡ Some ancestry) × (matched rev ancestry ≡ Ok ancestry)) }
+pub(crate) fn matched(
+    ancestry: Ancestry,
+    rev: Option<Rev>,
+) -> Result<Result<Ancestry, AllocError>, DocFault>
+    ensures ok { IfOk result (λ r. (r ≡ Ok ancestry) × (matched rev ancestry ≡ Ok ancestry)) }
     ensures err { IfErr result (λ e. matched rev ancestry ≡ Err e) }
 {
     if let Some(rev) = rev {
@@ -101,7 +102,7 @@ pub(crate) fn matched(ancestry: Ancestry, rev: Option<Rev>) -> Result<Option<Anc
             return Err(DocFault::RevMismatch);
         }
     }
-    Ok(Some(ancestry))
+    Ok(Ok(ancestry))
 }
 
 /// The ancestry of a start and a list of signatures, where they give one.

@@ -1,5 +1,5 @@
 //! Writing documents.
-ghost use Rattle.std.specs.Prelude.{◌≡◌, ◌++◌, Ok, Some, OnOk, IfOk, IfErr, decimal};
+ghost use Rattle.std.specs.Prelude.{◌≡◌, ◌++◌, Ok, Some, OnOk, IfOk, decimal};
 ghost use Rattle.serde_json.specs.Data.{Data, string};
 ghost use Rattle.serde_json.specs.Read.{read};
 ghost use Rattle.serde_json.specs.Written.{compact_text};
@@ -8,26 +8,21 @@ ghost use Rattle.doc_json.specs.DocText.{doc_text, revs_text, head_text, start_t
 ghost use Rattle.doc_json.specs.DocText.{sig_texts, deleted_text, rest_text};
 
 use crate::doc::Doc;
-use crate::fault::DocFault;
 use itoa::Buffer;
 use json::Writer;
 use rev_core::{Ancestry, Rev};
 use std::alloc::{AllocError, Global};
 
 /// The text of a document, in compact form with its members in the order `_id`, `_rev`, `_revisions`,
-/// `_deleted` where it is deleted, and those of the body. The only error is `Memory`.
+/// `_deleted` where it is deleted, and those of the body.
 ///
 /// Where `serde_json` reads the text, `read_doc` gives the document back.
-pub fn write_doc(alloc: Global, doc: &Doc) -> Result<Vec<u8>, DocFault>
+pub fn write_doc(alloc: Global, doc: &Doc) -> Result<Vec<u8>, AllocError>
     ensures text { IfOk result (λ v. v.items ≡ doc_text doc.now) }
     ensures reads_back { (d : Data) → read (doc_text doc.now) ≡ Some d → doc_read d ≡ Ok doc.now }
-    ensures err { IfErr result (λ e. e ≡ DocFault.Memory) }
 {
     let _deleted = doc.deleted();
-    match written(alloc, doc) {
-        Ok(text) => Ok(text),
-        Err(_) => Err(DocFault::Memory),
-    }
+    written(alloc, doc)
 }
 
 /// The text of a document, in one buffer.

@@ -17,14 +17,14 @@ returns-then-members_have_fraction c =
 pub from_text-requires : goal.from_text-requires
 from_text-requires c =
     is_body (arc_slice_items c.in-Ok.text) _ _ (is_object _ _ (sym c.in-Some.ensures)) (sym c.has_special.ensures ∙ c.if-has_special.false)
-    (sym c.members_have_fraction.ensures ∙ c.if-members_have_fraction.false) c.in-Ok.ensures.written
+    (sym c.members_have_fraction.ensures ∙ c.if-members_have_fraction.false) c.in-Ok.ensures
 
-pub returns-in-Ok : goal.returns-in-Ok
-returns-in-Ok c =
+pub returns : goal.returns
+returns c =
     body_ok _ _ (sym c.in-Some.ensures) (sym c.has_special.ensures ∙ c.if-has_special.false) (sym c.members_have_fraction.ensures ∙ c.if-members_have_fraction.false)
-    ∙ ap Ok (sym c.in-Ok.ensures.written.compact ∙ sym c.from_text.ensures)
+    ∙ ap Ok (sym c.in-Ok.ensures.compact ∙ sym c.from_text.ensures)
 
 pub returns-in-Err : goal.returns-in-Err
 returns-in-Err c =
     let ok = body_ok _ _ (sym c.in-Some.ensures) (sym c.has_special.ensures ∙ c.if-has_special.false) (sym c.members_have_fraction.ensures ∙ c.if-members_have_fraction.false) in
-    inr (refl, subst IsOk (sym ok) refl)
+    inr (c.from.ensures, subst IsOk (sym ok) refl)

@@ -1,5 +1,5 @@
 use Rattle.std.proofs.Common.{◌≡◌, List, Result, Ok, ℕ, codes, is_some, option_map, inl, inr, refl, sym, ap, ◌∙◌, subst}
-use Rattle.std.specs.Prelude.{IsOk, IfSome}
+use Rattle.std.specs.Prelude.{IsOk, IfOk}
 use Rattle.serde_json.specs.Find.{get}
 use Rattle.serde_json.specs.View.{view, members_view}
 use Rattle.rev_core.specs.Rev.{RevId}
@@ -96,24 +96,24 @@ passed c revs read =
     accepted _ _ (sym c.in-Some.ensures) _ (named e) (there e ∙ c.if-is_some.false) (sym c.find_members-found.ensures.unknown ∙ c.if-found.false) _
     (flag f ∙ c.in-Ok-read_flag.is) revs (beside g ∙ read) (sym c.find_members-found.ensures.fraction ∙ c.if-found-2.false)
 
-pub returns-in_default-of_checked : goal.returns-in_default-of_checked
-returns-in_default-of_checked c =
+pub returns-in-Err-of_checked : goal.returns-in-Err-of_checked
+returns-in-Err-of_checked c =
     let revs = ok_value _ c.in-Ok-read_revisions.ensures.ok in
-    inr (refl, subst IsOk (sym (passed (goal.at.returns-in_default-of_checked c).Else-found-2 revs.0 revs.1)) refl)
+    inr (c.from-in-Err-of_checked.ensures, subst IsOk (sym (passed (goal.at.returns-in-Err-of_checked c).Else-found-2 revs.0 revs.1)) refl)
 
-pub returns-in_default-ancestry : goal.returns-in_default-ancestry
-returns-in_default-ancestry c =
+pub returns-in-Err-ancestry : goal.returns-in-Err-ancestry
+returns-in-Err-ancestry c =
     let revs = ok_value _ c.in-Ok-read_revisions.ensures.ok in
-    inr (refl, subst IsOk (sym (passed (goal.at.returns-in_default-ancestry c).Else-found-2 revs.0 revs.1)) refl)
+    inr (c.from.ensures, subst IsOk (sym (passed (goal.at.returns-in-Err-ancestry c).Else-found-2 revs.0 revs.1)) refl)
 
-pub returns-in_default-plain_body : goal.returns-in_default-plain_body
-returns-in_default-plain_body c =
+pub returns-in-Err-plain_body : goal.returns-in-Err-plain_body
+returns-in-Err-plain_body c =
     let revs = ok_value _ c.in-Ok-read_revisions.ensures.ok in
-    inr (refl, subst IsOk (sym (passed (goal.at.returns-in_default-plain_body c).Else-found-2 revs.0 revs.1)) refl)
+    inr (c.from-in-Err-plain_body.ensures, subst IsOk (sym (passed (goal.at.returns-in-Err-plain_body c).Else-found-2 revs.0 revs.1)) refl)
 
 pub returns : goal.returns
 returns c =
     let of : List ℕ → List RevId → List ℕ → Result Document DocFault = λ id revs body. Ok (record { id = id; ancestry = revs; deleted = c.in-Ok-read_flag.deleted; body = body }) in
     let reads : List RevId → Type 0 = λ revs. with_revisions (option_map (λ v. view v.now) c.find_members-found.result.revisions) c.in-Ok-read_rev.rev ≡ Ok revs in
-    passed (goal.at.returns c).Else-found-2 _ (subst (λ o. IfSome o reads) c.in-Some-ancestry.is c.in-Ok-read_revisions.ensures.built)
-    ∙ (λ i. of (sym c.in-Ok-of_checked.ensures.id i) c.in-Some-ancestry.ancestry (sym c.in-Ok-plain_body.ensures.body i)) ∙ ap Ok (sym c.new.ensures.parts)
+    passed (goal.at.returns c).Else-found-2 _ (subst (λ r. IfOk r reads) c.in-Ok-ancestry.is c.in-Ok-read_revisions.ensures.built)
+    ∙ (λ i. of (sym c.in-Ok-of_checked.ensures.id i) c.in-Ok-ancestry.ancestry (sym c.in-Ok-plain_body.ensures.body i)) ∙ ap Ok (sym c.new.ensures.parts)
