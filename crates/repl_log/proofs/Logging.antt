@@ -3,6 +3,8 @@ use Rattle.std.proofs.Common.{◌≡◌, ◌<◌, ◌≤◌, nat_lt, false, List
 use Rattle.std.specs.Option.{option_map}
 use Rattle.std.specs.Map.{lookup, set_value}
 use Rattle.std.proofs.lemmas.Bool.{cond-true, cond-false, le-ltb, lt-ltb}
+use Rattle.indexmap.specs.IndexMap.{IndexMap, insert_entry}
+use Rattle.indexmap.proofs.CallerLemmas.{insert_entry-new}
 use Rattle.rev_tree.specs.declared.origin.SessionId.{SessionId}
 use Rattle.repl_log.specs.declared.entry.Entry.{Entry}
 use Rattle.repl_log.specs.declared.fault.LogFault.TheVariants as faults
@@ -10,7 +12,7 @@ use Rattle.repl_log.specs.Entry.{EntryValue, IsSound, value_of}
 use Rattle.repl_log.specs.Log.{IsLog, holds, entry_for, replaced, recorded_of, with_entry, put_beside, put_answer}
 use Rattle.repl_log.specs.LogLaws.{IsLog-with_entry}
 use Rattle.repl_log.specs.Stored.{at_session, newest_first, IsKeyed}
-use Rattle.repl_log.specs.StoredLaws.{EachOnce, find-lookup, any-lookup, newest_first-set, newest_first-push, IsKeyed-set, IsKeyed-push}
+use Rattle.repl_log.specs.StoredLaws.{EachOnce, insert_entry-present, find-lookup, any-lookup, newest_first-set, newest_first-push, IsKeyed-set, IsKeyed-push}
 
 abbrev pub Entries : Type 0
 Entries = List (SessionId × Entry)
@@ -84,3 +86,16 @@ Lawful-new es e law once is = (
   subst IsLog (sym (with_entry-new es e law.1 once is)) (IsLog-with_entry (logged es) (value_of e) law.0 (IsSound-value_of e)),
   IsKeyed-push value_of session_of e.session e es law.1 refl,
 )
+
+-- ---- what `set` leaves, be the session there or new
+
+module _ {S : Type 0} (m : IndexMap SessionId Entry S) (e : Entry) (law : Lawful m.entries) (once : EachOnce m.entries) where
+  abbrev IsEntered : Entries → Type 0
+  IsEntered es = Lawful es × (logged es ≡ with_entry (logged m.entries) (value_of e))
+
+  by_found : (o : Option Entry) → lookup (at_session e.session) m.entries ≡ o → IsEntered (insert_entry at_session m.entries e.session e)
+  by_found None is = subst IsEntered (sym (insert_entry-new at_session m e.session e is)) (Lawful-new m.entries e law once is, with_entry-new m.entries e law.1 once is)
+  by_found (Some x) is = subst IsEntered (sym (insert_entry-present e.session m.entries e x is)) (Lawful-known m.entries e x law once is, with_entry-known m.entries e x law.1 once is)
+
+  pub entered : IsEntered (insert_entry at_session m.entries e.session e)
+  entered = by_found (lookup (at_session e.session) m.entries) refl

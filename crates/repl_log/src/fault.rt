@@ -1,5 +1,9 @@
 //! What the calls of this crate refuse.
 
+ghost use Rattle.std.specs.Prelude.{◌≡◌};
+ghost use Rattle.repl_log.specs.declared.fault.LogFault.TheVariants.{Memory};
+
+use std::alloc::{AllocError, AllocFailed};
 use thiserror::Error;
 
 /// Why a moment, an entry or a log is refused, or that memory ran out.
@@ -17,4 +21,20 @@ pub enum LogFault {
     /// An allocation was refused.
     #[error("out of memory")]
     Memory,
+}
+
+impl From<AllocError> for LogFault {
+    ghost from_gives = { λ _ fault. fault ≡ Memory };
+
+    fn from(_refused: AllocError) -> LogFault {
+        LogFault::Memory
+    }
+}
+
+impl<T: Drop> From<AllocFailed<T>> for LogFault {
+    ghost from_gives = { λ _ fault. fault ≡ Memory };
+
+    fn from(_refused: AllocFailed<T>) -> LogFault {
+        LogFault::Memory
+    }
 }

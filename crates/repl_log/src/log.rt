@@ -3,7 +3,7 @@ use crate::entry::Entry;
 use crate::fault::LogFault;
 use indexmap::IndexMap;
 use rev_tree::SessionId;
-use std::alloc::Global;
+use std::alloc::{AllocError, Global};
 use std::marker::Model;
 
 /// The sessions of one replication, newest first, each once.
@@ -37,7 +37,7 @@ impl Model for Log {
 }
 
 impl Log {
-    ghost use Rattle.std.specs.Prelude.{◌≡◌, [], length, OnOk, OnErr, IfOk, IfErr, IsTrue, slice_get};
+    ghost use Rattle.std.specs.Prelude.{◌≡◌, [], length, OnOk, OnErr, IfOk, IsTrue, slice_get};
     ghost use Rattle.std.specs.Option.{option_map};
     ghost use Rattle.repl_log.specs.Answers.{GivesUnlessMemory};
     ghost use Rattle.repl_log.specs.Entry.{value_of};
@@ -76,12 +76,24 @@ impl Log {
                 Ok(())
             }
             None => {
-                let Ok(_) = self.entries.insert(entry.session, entry) else {
-                    return Err(LogFault::Memory);
-                };
+                self.entries.insert(entry.session, entry)?;
                 Ok(())
             }
         }
+    }
+
+    /// Puts an entry into the log as `put` does, whatever the stored entry of its session has recorded.
+    ///
+    /// A refusal changes nothing.
+    pub fn set(&mut self, entry: Entry) -> Result<(), AllocError>
+        ensures ok { OnOk result (self.new ≡ with_entry self.old (value_of entry)) }
+        ensures err { OnErr result (self.new ≡ self.old) }
+        ensures log { IsLog self.new }
+    {
+        // No id comes twice: the reading tells the proof.
+        let _len = self.entries.len();
+        self.entries.insert(entry.session, entry)?;
+        Ok(())
     }
 
     /// How many sessions it holds.
@@ -114,15 +126,12 @@ impl Log {
         Some(entry.recorded)
     }
 
-    /// A log of the same entries. The only error is `Memory`.
-    pub fn copy(&self, alloc: Global) -> Result<Log, LogFault>
+    /// A log of the same entries.
+    pub fn copy(&self, alloc: Global) -> Result<Log, AllocError>
         ensures copied { IfOk result (λ l. l ≡ self.now) }
-        ensures err { IfErr result (λ e. e ≡ LogFault.Memory) }
         ensures log { IsLog self.now }
     {
-        match self.entries.clone() {
-            Ok(entries) => Ok(Log { entries }),
-            Err(_) => Err(LogFault::Memory),
-        }
+        let entries = self.entries.clone()?;
+        Ok(Log { entries })
     }
 }

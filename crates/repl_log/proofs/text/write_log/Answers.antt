@@ -4,8 +4,8 @@ use Rattle.repl_log.proofs.text.write_log.Goals as goal
 pub returns-in_default-clause-times : goal.returns-in_default-clause-times
 returns-in_default-clause-times c = time_text-date
 
-pub returns-in-Ok-clause-times : goal.returns-in-Ok-clause-times
-returns-in-Ok-clause-times c = time_text-date
+pub returns-clause-times : goal.returns-clause-times
+returns-clause-times c = time_text-date
 
-pub returns-in-Err-clause-times : goal.returns-in-Err-clause-times
-returns-in-Err-clause-times c = time_text-date
+pub returns-in_err-text-clause-times : goal.returns-in_err-text-clause-times
+returns-in_err-text-clause-times c = time_text-date

@@ -2,6 +2,7 @@ use Rattle.std.proofs.Common.{◌≡◌, ◌∷◌, ◌++◌, [], Ok, Err, List,
 use Rattle.std.specs.Option.{option_copied_mut}
 use Rattle.std.specs.Map.{set_value}
 use Rattle.std.proofs.lemmas.Bool.{false≢true}
+use Rattle.std.proofs.lemmas.Result.{err_from_is_err_and}
 use Rattle.std.proofs.lemmas.Map.Steps.{set_value_same}
 use Rattle.indexmap.specs.IndexMap.{insert_entry}
 use Rattle.indexmap.proofs.CallerLemmas.{insert_entry-new}
@@ -81,35 +82,36 @@ returns-else-stored-entry-clause-log c = (kept c).0
 
 -- ---- a new session
 
-pub returns-in_default-clause-answer : goal.returns-in_default-clause-answer
-returns-in_default-clause-answer c =
+pub returns-in_err-insert-in-None-clause-answer : goal.returns-in_err-insert-in-None-clause-answer
+returns-in_err-insert-in-None-clause-answer c =
     let is = sym c.get_mut.ensures.value ∙ ap option_copied_mut c.in-None.is in
-    rw (← c.self.view_is) (ap is_ok (sym (put_answer-new c.self.inside.entries.entries c.args.entry c.self.invariant.1 c.get_mut.ensures.unique is)))
+    let refused = err_from_is_err_and c.from_residual.result c.from_residual.ensures.1 in
+    rw (refused.1, refused.2, ← c.self.view_is) (ap is_ok (sym (put_answer-new c.self.inside.entries.entries c.args.entry c.self.invariant.1 c.get_mut.ensures.unique is)))
 
-pub returns-in_default-clause-known : goal.returns-in_default-clause-known
-returns-in_default-clause-known c =
+pub returns-in_err-insert-in-None-clause-known : goal.returns-in_err-insert-in-None-clause-known
+returns-in_err-insert-in-None-clause-known c =
     let is = sym c.get_mut.ensures.value ∙ ap option_copied_mut c.in-None.is in
     let fresh = not_held c.self.inside.entries.entries c.args.entry c.self.invariant.1 c.get_mut.ensures.unique is in
     λ held. absurd (false≢true (sym (rw (← c.self.view_is) fresh) ∙ held))
 
-pushed : (c : goal.In-Ok) → c.insert.new.self.entries ≡ c.self.inside.entries.entries ++ (c.args.entry.session, c.args.entry) ∷ []
+pushed : (c : goal.In_ok-insert-in-None) → c.insert.new.self.entries ≡ c.self.inside.entries.entries ++ (c.args.entry.session, c.args.entry) ∷ []
 pushed c =
     let is = sym c.get_mut.ensures.value ∙ ap option_copied_mut c.in-None.is in
-    c.in-Ok.ensures.entries
+    c.in_ok-insert-in-None.ensures.entries
     ∙ ap (λ m. insert_entry at_session m.entries c.args.entry.session c.args.entry) c.get_mut.follows.holds-at-none
     ∙ insert_entry-new at_session c.self.inside.entries c.args.entry.session c.args.entry is
 
-new : (c : goal.In-Ok) → Ok tt ≡ put_answer c.args.self.now (value_of c.args.entry)
+new : (c : goal.In_ok-insert-in-None) → Ok tt ≡ put_answer c.args.self.now (value_of c.args.entry)
 new c =
     let is = sym c.get_mut.ensures.value ∙ ap option_copied_mut c.in-None.is in
     rw (← c.self.view_is) (put_answer-new c.self.inside.entries.entries c.args.entry c.self.invariant.1 c.get_mut.ensures.unique is)
 
-kept_new : (c : goal.In-Ok) → Lawful c.insert.new.self.entries
+kept_new : (c : goal.In_ok-insert-in-None) → Lawful c.insert.new.self.entries
 kept_new c =
     let is = sym c.get_mut.ensures.value ∙ ap option_copied_mut c.in-None.is in
     subst Lawful (sym (pushed c)) (Lawful-new c.self.inside.entries.entries c.args.entry c.self.invariant c.get_mut.ensures.unique is)
 
-fronted : (c : goal.In-Ok) → logged c.insert.new.self.entries ≡ with_entry (logged c.self.inside.entries.entries) (value_of c.args.entry)
+fronted : (c : goal.In_ok-insert-in-None) → logged c.insert.new.self.entries ≡ with_entry (logged c.self.inside.entries.entries) (value_of c.args.entry)
 fronted c =
     let is = sym c.get_mut.ensures.value ∙ ap option_copied_mut c.in-None.is in
     ap logged (pushed c) ∙ with_entry-new c.self.inside.entries.entries c.args.entry c.self.invariant.1 c.get_mut.ensures.unique is
@@ -117,18 +119,18 @@ fronted c =
 pub invariant_of-self-in-None : goal.invariant_of-self-in-None
 invariant_of-self-in-None c = kept_new c
 
-pub returns-in-Ok-clause-answer : goal.returns-in-Ok-clause-answer
-returns-in-Ok-clause-answer c = new c
+pub returns-in_ok-insert-in-None-clause-answer : goal.returns-in_ok-insert-in-None-clause-answer
+returns-in_ok-insert-in-None-clause-answer c = new c
 
-pub returns-in-Ok-clause-known : goal.returns-in-Ok-clause-known
-returns-in-Ok-clause-known c = λ held. new c
+pub returns-in_ok-insert-in-None-clause-known : goal.returns-in_ok-insert-in-None-clause-known
+returns-in_ok-insert-in-None-clause-known c = λ held. new c
 
-pub returns-in-Ok-clause-ok : goal.returns-in-Ok-clause-ok
-returns-in-Ok-clause-ok c = rw (← c.self.view_is) (fronted c)
+pub returns-in_ok-insert-in-None-clause-ok : goal.returns-in_ok-insert-in-None-clause-ok
+returns-in_ok-insert-in-None-clause-ok c = rw (← c.self.view_is) (fronted c)
 
-pub returns-in-Ok-clause-changes : goal.returns-in-Ok-clause-changes
-returns-in-Ok-clause-changes c =
+pub returns-in_ok-insert-in-None-clause-changes : goal.returns-in_ok-insert-in-None-clause-changes
+returns-in_ok-insert-in-None-clause-changes c =
     rw (← c.self.view_is) (subst (λ (log : List EntryValue). ChangesOnly (logged c.self.inside.entries.entries) log (value_of c.args.entry)) (sym (fronted c)) (ChangesOnly-with_entry (logged c.self.inside.entries.entries) (value_of c.args.entry)))
 
-pub returns-in-Ok-clause-log : goal.returns-in-Ok-clause-log
-returns-in-Ok-clause-log c = (kept_new c).0
+pub returns-in_ok-insert-in-None-clause-log : goal.returns-in_ok-insert-in-None-clause-log
+returns-in_ok-insert-in-None-clause-log c = (kept_new c).0
