@@ -7,3 +7,11 @@ pub mod LineMembers
 pub mod LineReads
 pub mod PutEntries
 pub mod OrderedReads
+pub mod Lanes
+pub mod Runs
+pub mod Content
+pub mod Passing
+pub mod NumberStarts
+pub mod Steps
+pub mod Wording
+pub mod Punctuation

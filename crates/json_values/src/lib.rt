@@ -2,11 +2,16 @@
 #![tactic(auto)]
 
 mod fault;
+mod lexer;
 mod line;
 mod members;
 mod numbers;
 mod reader;
+mod run;
+mod tokens;
+mod unescape;
 mod values;
+mod word;
 
 pub use fault::ReadFault;
 pub use line::LineValue;

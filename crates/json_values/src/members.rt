@@ -75,9 +75,7 @@ fn map_of<'a, T: Drop>(
 {
     let mut map = BTreeMap::new(alloc);
     for (name, value) in entries {
-        let Ok(()) = put_mapped(&mut map, name, value) else {
-            return Err(AllocError);
-        };
+        put_mapped(&mut map, name, value)?;
     }
     Ok(map)
 }
@@ -90,10 +88,8 @@ fn put_mapped<'a, T: Drop>(
 ) -> Result<(), AllocError>
     ensures { OnOk result (map.new.entries ≡ put_entry name.entry value map.old.entries) }
 {
-    match map.insert(name, value) {
-        Ok(_) => Ok(()),
-        Err(_) => Err(AllocError),
-    }
+    map.insert(name, value)?;
+    Ok(())
 }
 
 /// Puts a member into a list.
@@ -106,20 +102,18 @@ fn put_listed<'a, T: Drop>(
     ensures { OnOk result (entries.new.items ≡ put_entry name.entry value entries.old.items) }
 {
     if comes_last(entries, name) {
-        return match entries.push((name, value)) {
-            Ok(()) => Ok(()),
-            Err(_) => Err(AllocError),
-        };
+        entries.push((name, value))?;
+        return Ok(());
     }
     match place_of(entries, name) {
         Ok(place) => {
             entries[place].1 = value;
             Ok(())
         }
-        Err(place) => match entries.insert(place, (name, value)) {
-            Ok(()) => Ok(()),
-            Err(_) => Err(AllocError),
-        },
+        Err(place) => {
+            entries.insert(place, (name, value))?;
+            Ok(())
+        }
     }
 }
 

@@ -1,5 +1,5 @@
 //! The reader, and what it keeps from read to read.
-ghost use Rattle.std.specs.Prelude.{◌≡◌, ◌≤◌, ◌<◌, length, Some, None, IfOk, IsUtf8};
+ghost use Rattle.std.specs.Prelude.{◌≡◌, ◌≤◌, ◌<◌, length, Some, None, IfOk, OnOk, OnErr, IsUtf8};
 ghost use Rattle.serde_json.specs.Data.{depth};
 ghost use Rattle.serde_json.specs.Read.{max_depth, read as read_text};
 ghost use Rattle.json_values.specs.LineView.{line_view};
@@ -7,9 +7,9 @@ ghost use Rattle.json_values.specs.LineOrder.{IsOrdered};
 
 use crate::fault::ReadFault;
 use crate::line::LineValue;
+use crate::tokens::Tokens;
 use crate::values;
-use json::{Reader, Scratch};
-use std::alloc::Global;
+use std::alloc::{AllocError, Global};
 
 /// The deepest nesting that is read.
 const MAX_DEPTH: usize = 127;
@@ -18,14 +18,15 @@ const MAX_DEPTH: usize = 127;
 /// longest text. No read depends on an earlier one, nor on how that ended.
 #[derive(Drop)]
 pub struct ValueReader {
-    scratch: Scratch,
+    /// Where texts go that were escaped.
+    room: Vec<u8>,
 }
 
 impl ValueReader {
     /// A reader that has kept nothing yet.
     pub fn new(alloc: Global) -> ValueReader {
         ValueReader {
-            scratch: Scratch::new(alloc),
+            room: Vec::new(alloc),
         }
     }
 
@@ -45,28 +46,39 @@ impl ValueReader {
         ensures refused { result ≡ Err ReadFault.NotJson → IsUtf8 bytes.now → read_text bytes.now ≡ None }
         ensures memory { result ≡ Err ReadFault.Memory → 0 < length bytes.now }
     {
-        let Ok(text) = simdutf8::basic::from_utf8(bytes) else {
+        let Ok(text) = std::str::from_utf8(bytes) else {
             return Err(ReadFault::NotJson);
         };
-        read_whole(alloc, text, &mut self.scratch)
+        make_room(&mut self.room, text.len())?;
+        read_whole(alloc, text, self.room.as_mut_slice())
     }
 }
 
-/// The value that a text is, with nothing behind it, whose texts stand in it or in the scratch.
+/// Makes room for that many bytes.
+fn make_room(room: &mut Vec<u8>, len: usize) -> Result<(), AllocError>
+    ensures ok { OnOk result (len ≤ length room.new.items) }
+    ensures full { OnErr result (length room.old.items < len) }
+{
+    if room.len() < len {
+        room.resize(len, 0)?;
+    }
+    Ok(())
+}
+
+/// The value that a text is, with nothing behind it, whose texts stand in it or in the room.
 fn read_whole<'a>(
     alloc: Global,
     text: &'a str,
-    scratch: &'a mut Scratch,
+    room: &'a mut [u8],
 ) -> Result<LineValue<'a>, ReadFault>
+    requires { length text.now ≤ length room.old }
     ensures ok { IfOk result (λ value. read_text text.now ≡ Some (line_view value)) }
     ensures nests { IfOk result (λ value. depth (line_view value) ≤ max_depth) }
     ensures ordered { IfOk result (λ value. IsOrdered (line_view value)) }
     ensures refused { result ≡ Err ReadFault.NotJson → read_text text.now ≡ None }
     ensures memory { result ≡ Err ReadFault.Memory → 0 < length text.now }
 {
-    let Ok(mut reader) = Reader::new(text, scratch) else {
-        return Err(ReadFault::Memory);
-    };
+    let mut reader = Tokens::new(text, room);
     let value = values::read_value(alloc, &mut reader, MAX_DEPTH)?;
     if reader.next().is_some() {
         return Err(ReadFault::NotJson);

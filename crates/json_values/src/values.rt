@@ -9,7 +9,8 @@ use crate::fault::ReadFault;
 use crate::line::LineValue;
 use crate::members::Members;
 use crate::numbers::read_number;
-use json::{Reader, Token};
+use crate::tokens::Tokens;
+use json::Token;
 use std::alloc::Global;
 
 /// The value that the next tokens are, of at most this nesting.
@@ -17,7 +18,7 @@ use std::alloc::Global;
 #[inline(always)]
 pub(crate) fn read_value<'a>(
     alloc: Global,
-    reader: &mut Reader<'a>,
+    reader: &mut Tokens<'a>,
     depth: usize,
 ) -> Result<LineValue<'a>, ReadFault>
     ensures ok { IfOk result
@@ -58,7 +59,7 @@ pub(crate) fn read_value<'a>(
 #[inline(never)]
 fn read_items<'a>(
     alloc: Global,
-    reader: &mut Reader<'a>,
+    reader: &mut Tokens<'a>,
     depth: usize,
 ) -> Result<Vec<LineValue<'a>>, ReadFault>
     ensures ok { IfOk result
@@ -71,9 +72,7 @@ fn read_items<'a>(
     let mut found = Vec::new(alloc);
     'items: while !reader.take_end_array() {
         let item = read_value(alloc, reader, depth)?;
-        let Ok(()) = found.push(item) else {
-            return Err(ReadFault::Memory);
-        };
+        found.push(item)?;
     }
     Ok(found)
 }
@@ -83,7 +82,7 @@ fn read_items<'a>(
 #[inline(never)]
 fn read_members<'a>(
     alloc: Global,
-    reader: &mut Reader<'a>,
+    reader: &mut Tokens<'a>,
     depth: usize,
 ) -> Result<Vec<(&'a str, LineValue<'a>)>, ReadFault>
     ensures ok { IfOk result
@@ -100,14 +99,9 @@ fn read_members<'a>(
             return Err(ReadFault::NotJson);
         };
         let Some(name) = next else {
-            return match found.into_vec(alloc) {
-                Ok(members) => Ok(members),
-                Err(_) => Err(ReadFault::Memory),
-            };
+            return Ok(found.into_vec(alloc)?);
         };
         let member = read_value(alloc, reader, depth)?;
-        let Ok(()) = found.put(alloc, name, member) else {
-            return Err(ReadFault::Memory);
-        };
+        found.put(alloc, name, member)?;
     }
 }

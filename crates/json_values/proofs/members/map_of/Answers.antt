@@ -12,4 +12,4 @@ loop-name-preserved g c =
     let value = c.in-Some.value in
     let all : es ++ (name, value) ∷ more ≡ c.args.entries.items = ap (λ (ys : List (Entry g.row.T.Denot)). es ++ ys) (sym c.in-Some.ensures.steps.0) ∙ c.loop-name.invariant in
     let rising = subst (λ (ys : List (Entry g.row.T.Denot)). IsRising ys) (sym all) c.requires in
-    ap (λ (ys : List (Entry g.row.T.Denot)). ys ++ more) (c.in-Ok.ensures ∙ put_behind name value es more rising) ∙ append_assoc es ((name, value) ∷ []) more ∙ all
+    ap (λ (ys : List (Entry g.row.T.Denot)). ys ++ more) (c.in_ok-put_mapped.ensures ∙ put_behind name value es more rising) ∙ append_assoc es ((name, value) ∷ []) more ∙ all

@@ -123,7 +123,7 @@ read_items-items-preserved t c =
       omega (arith, l.invariant.1),
       omega (arith, l.invariant.2),
       l.invariant.3 ∙ ap (parse_map (items_onto l.found.items)) one ∙ parse_map-items_onto l.found.items v _
-          ∙ ap (λ vs. parse_map (items_onto vs) (converted of_items (items (value c.args.depth) (turns - 1) left))) (sym c.in-Ok.ensures.items),
+          ∙ ap (λ vs. parse_map (items_onto vs) (converted of_items (items (value c.args.depth) (turns - 1) left))) (sym c.in_ok-push.ensures.items),
     )
 
 pub read_items-returns-clause-ok : goal.read_items-returns-clause-ok
@@ -149,12 +149,12 @@ read_members-returns-in_default-clause-refused t c refused =
     let none : read_key l.reader ≡ None = grind arith in
     l.invariant.3 ∙ members-no_key (value c.args.depth) (line_members (entries_of l.found)) l.invariant.0 l.reader none
 
-pub read_members-returns-in-Ok-into_vec-clause-ok : goal.read_members-returns-in-Ok-into_vec-clause-ok
-read_members-returns-in-Ok-into_vec-clause-ok t c =
+pub read_members-returns-in_default-next-clause-ok : goal.read_members-returns-in_default-next-clause-ok
+read_members-returns-in_default-next-clause-ok t c =
     let l = c.members in
     let left = c.next_key.new.self in
     l.invariant.3 ∙ members-none (value c.args.depth) (line_members (entries_of l.found)) l.invariant.0 l.reader left l.invariant.1 (grind arith)
-    ∙ ap (λ (es : List Named). Some (line_members es, left)) (sym c.in-Ok-into_vec.ensures)
+    ∙ ap (λ (es : List Named). Some (line_members es, left)) (sym c.in_ok-into_vec.ensures)
 
 pub read_members-returns-in_err-member-clause-refused : goal.read_members-returns-in_err-member-clause-refused
 read_members-returns-in_err-member-clause-refused t c refused =
@@ -178,6 +178,6 @@ read_members-members-preserved t c =
       turns - 1,
       omega (arith, l.invariant.1),
       omega (arith, l.invariant.2),
-      l.invariant.3 ∙ one ∙ ap (λ found. converted (λ ms. of_members ms found) (members (value c.args.depth) (turns - 1) left)) (sym (ap (λ (es : List Named). line_members es) c.in-Ok-put.ensures ∙ members-put c.in-Some.name v (entries_of l.found))),
-      subst (λ (es : List Named). IsRising es) (sym c.in-Ok-put.ensures) (rising_put c.in-Some.name v (entries_of l.found) l.invariant.4),
+      l.invariant.3 ∙ one ∙ ap (λ found. converted (λ ms. of_members ms found) (members (value c.args.depth) (turns - 1) left)) (sym (ap (λ (es : List Named). line_members es) c.in_ok-put.ensures ∙ members-put c.in-Some.name v (entries_of l.found))),
+      subst (λ (es : List Named). IsRising es) (sym c.in_ok-put.ensures) (rising_put c.in-Some.name v (entries_of l.found) l.invariant.4),
     )

@@ -1,0 +1,45 @@
+use Rattle.std.proofs.Common.{◌≡◌, ◌∷◌, refl, sym, ap, ◌∙◌, subst, arith, rules}
+use Rattle.json.specs.Token as spec
+use Rattle.json.specs.Word.{head}
+use Rattle.json.specs.Lex.{token, class, other, fresh, after_value, may_begin, punctuate}
+use Rattle.json.specs.Reads.{token_of}
+use Rattle.json_values.proofs.Steps.{lex_first}
+use Rattle.json_values.proofs.Punctuation.{rest, at_operator, allowed, IsWord, IsWord-word, good_word, bad_word, stray}
+use Rattle.json_values.proofs.tokens.begin.Goals as goal
+
+pub skip-requires : goal.skip-requires
+skip-requires c = ap class (c.requires.first.0 ∙ c.in-123.is)
+
+pub skip-requires-in-91 : goal.skip-requires-in-91
+skip-requires-in-91 c = ap class (c.requires.first.0 ∙ c.in-91.is)
+
+pub returns-in-123-clause-value : goal.returns-in-123-clause-value
+unfolding punctuate
+returns-in-123-clause-value c p may =
+    let t = c.args.lexer.now in
+    ap (punctuate p) (at_operator 123 t refl (c.requires.first.0 ∙ c.in-123.is)) ∙ allowed (may_begin p) spec.begin_object (λ n. punctuate n (rest t)) fresh may ∙ ap (λ ls. spec.begin_object ∷ punctuate fresh ls) (sym c.skip.ensures)
+
+pub returns-in-91-clause-value : goal.returns-in-91-clause-value
+unfolding punctuate
+returns-in-91-clause-value c p may =
+    let t = c.args.lexer.now in
+    ap (punctuate p) (at_operator 91 t refl (c.requires.first.0 ∙ c.in-91.is)) ∙ allowed (may_begin p) spec.begin_array (λ n. punctuate n (rest t)) fresh may ∙ ap (λ ls. spec.begin_array ∷ punctuate fresh ls) (sym c.skip-in-91.ensures)
+
+pub returns-in-44-clause-value : goal.returns-in-44-clause-value
+returns-in-44-clause-value c p may = stray p c.args.lexer.now may (grind arith)
+
+pub returns-in-Some-clause-value : goal.returns-in-Some-clause-value
+returns-in-Some-clause-value c p may =
+    let t = c.args.lexer.now in
+    let k = token_of c.in-Some.token in
+    let kind : class (head t) ≡ other = search rules in
+    let first = lex_first other t kind refl ∙ ap (λ w. token w ∷ rest t) c.in-Some.ensures.value in
+    ap (punctuate p) first ∙ good_word p k (rest t) (subst IsWord c.in-Some.ensures.value (IsWord-word t)) c.in-Some.ensures.good may
+    ∙ ap (λ ts. k ∷ ts) (ap (punctuate after_value) (sym c.in-Some.ensures.after) ∙ sym c.after_value.ensures.same)
+
+pub returns-in-None-clause-value : goal.returns-in-None-clause-value
+returns-in-None-clause-value c p may =
+    let t = c.args.lexer.now in
+    let kind : class (head t) ≡ other = search rules in
+    let first = lex_first other t kind refl ∙ ap (λ w. token w ∷ rest t) c.in-None.ensures.value in
+    ap (punctuate p) first ∙ bad_word p spec.bad (rest t) refl

@@ -1,0 +1,16 @@
+-- What is left of a text from its next lexeme on.
+use Rattle.std.specs.Prelude.{◌≡◌, ℕ, ◌+◌, ◌≤◌, List, length, drop, get_or, true}
+use Rattle.std.specs.Str.{IsUtf8}
+use Rattle.json.specs.Lex.{class}
+use Rattle.json.specs.Align.{is_blank}
+use Rattle.json_values.specs.declared.lexer.Lexer.TheInside.{Inside}
+
+abbrev pub lexer_view : Inside → List ℕ
+lexer_view a = drop a.at a.text.now
+
+pub record IsLexer (a : Inside) : Type 0 where
+  pub utf8 : IsUtf8 a.text.now
+  pub within : a.at ≤ length a.text.now
+  -- no blank stands there
+  pub solid : is_blank (class (get_or a.text.now a.at 32)) ≡ true → a.at ≡ length a.text.now
+  pub room : length a.text.now ≤ length a.room.now + a.at

@@ -1,0 +1,116 @@
+//! Lexemes of a text, read one after another.
+ghost use Rattle.std.specs.Prelude.{◌≡◌, ◌≤◌, [], length, drop, true, Some, None, MatchOption, IfSome};
+ghost use Rattle.json.specs.Text.{content, plain};
+ghost use Rattle.json.specs.Word.{head, word};
+ghost use Rattle.json.specs.Token.{bad};
+ghost use Rattle.json.specs.Lex.{class, operator, other, between, lex};
+ghost use Rattle.json.specs.Align.{is_good, is_blank};
+ghost use Rattle.json.specs.Reads.{token_of};
+
+use crate::run::{after_blanks, byte_at, plain_end};
+use crate::unescape::unescape;
+use crate::word::word;
+use json::Token;
+use std::marker::Model;
+
+/// A text, and how far it is read. A clause sees the text from the next lexeme on.
+#[derive(Drop)]
+pub(crate) struct Lexer<'a> {
+    text: &'a str,
+    /// Where the next lexeme begins.
+    at: usize,
+    /// Where texts go that were escaped. It is as long as the text that is left.
+    room: &'a mut [u8],
+}
+
+impl<'a> Model for Lexer<'a> {
+    ghost use Rattle.std.specs.Prelude.{ℕ, List};
+
+    ghost Value = { List ℕ };
+
+    ghost use Rattle.json_values.specs.Lexer.{lexer_view, IsLexer};
+
+    ghost view = { lexer_view };
+
+    ghost invariant = { IsLexer };
+}
+
+impl<'a> Lexer<'a> {
+    /// The lexemes of a text.
+    #[inline(always)]
+    pub(crate) fn new(text: &'a str, room: &'a mut [u8]) -> Lexer<'a>
+        requires { length text.now ≤ length room.old }
+        ensures { lex between result ≡ lex between text.now }
+    {
+        let at = after_blanks(text.as_bytes(), 0);
+        Lexer { text, at, room }
+    }
+
+    /// The first byte of the next lexeme, or a space at the end.
+    #[inline(always)]
+    pub(crate) fn peek(&self) -> u8
+        ensures value { result ≡ head self.now }
+        ensures end { is_blank (class result) ≡ true → self.now ≡ [] }
+    {
+        byte_at(self.text.as_bytes(), self.at)
+    }
+
+    /// Passes over a bracket, a brace, a comma or a colon.
+    #[inline(always)]
+    pub(crate) fn skip(&mut self)
+        requires { class (head self.old) ≡ operator }
+        ensures { lex between self.new ≡ drop 1 (lex between self.old) }
+    {
+        self.at = after_blanks(self.text.as_bytes(), self.at + 1);
+    }
+
+    /// The number or the literal that comes next.
+    #[inline(always)]
+    pub(crate) fn word(&mut self) -> Option<Token<'a>>
+        requires { class (head self.old) ≡ other }
+        ensures value { MatchOption result (word self.old ≡ bad) (λ t. word self.old ≡ token_of t) }
+        ensures good { IfSome result (λ t. is_good (token_of t) ≡ true) }
+        ensures after { IfSome result (λ _. lex between self.new ≡ drop 1 (lex between self.old)) }
+    {
+        let (token, end) = word(self.text, self.at)?;
+        self.at = after_blanks(self.text.as_bytes(), end);
+        Some(token)
+    }
+
+    /// The content of the string that comes next.
+    #[inline(always)]
+    pub(crate) fn string(&mut self) -> Option<&'a str>
+        requires { head self.old ≡ 34 }
+        ensures value { MatchOption result (content plain (drop 1 self.old) ≡ None)
+            (λ s. content plain (drop 1 self.old) ≡ Some s.now) }
+        ensures after { IfSome result (λ _. lex between self.new ≡ drop 1 (lex between self.old)) }
+    {
+        let text = self.text;
+        let start = self.at + 1;
+        let stop = plain_end(text.as_bytes(), start);
+        if byte_at(text.as_bytes(), stop) != b'"' {
+            return self.escaped_string();
+        }
+        self.at = after_blanks(text.as_bytes(), stop + 1);
+        Some(&text[start..stop])
+    }
+
+    /// The content of a string that has escapes.
+    #[inline(never)]
+    fn escaped_string(&mut self) -> Option<&'a str>
+        requires { head self.old ≡ 34 }
+        ensures value { MatchOption result (content plain (drop 1 self.old) ≡ None)
+            (λ s. content plain (drop 1 self.old) ≡ Some s.now) }
+        ensures after { IfSome result (λ _. lex between self.new ≡ drop 1 (lex between self.old)) }
+    {
+        let room = std::mem::take(&mut self.room);
+        let Some((len, end)) = unescape(self.text, self.at + 1, room) else {
+            self.room = room;
+            return None;
+        };
+        let (front, back) = room.split_at_mut(len);
+        self.room = back;
+        self.at = after_blanks(self.text.as_bytes(), end);
+        Some(unsafe { std::str::from_utf8_unchecked(front) })
+    }
+}

@@ -1,0 +1,99 @@
+//! Passing over blanks, over digits, and over the plain text of a string.
+ghost use Rattle.std.specs.Prelude.{◌≡◌, ◌+◌, ◌≤◌, length, drop, get_or, true};
+ghost use Rattle.std.specs.Prelude.{map};
+ghost use Rattle.std.specs.List.{prefix_len};
+ghost use Rattle.std.specs.Char.{is_ascii_digit};
+ghost use Rattle.std.specs.Simd.Lanes.{mask_l};
+ghost use Rattle.json.specs.Word.{head};
+ghost use Rattle.json.specs.Lex.{class, between, lex};
+ghost use Rattle.json.specs.Align.{is_blank};
+ghost use Rattle.json.specs.Run.{is_stop, is_plain};
+
+use std::simd::prelude::*;
+
+/// The byte at a place, or a space past the end.
+#[inline(always)]
+pub(crate) fn byte_at(text: &[u8], i: usize) -> u8
+    ensures value { result ≡ get_or text.now i 32 }
+    ensures head { result ≡ head (drop i text.now) }
+{
+    if i < text.len() { text[i] } else { b' ' }
+}
+
+/// Whether a byte is a blank.
+#[inline(always)]
+pub(crate) fn is_space(c: u8) -> bool
+    ensures { result ≡ is_blank (class c) }
+{
+    (c == b' ') | (c == b'\t') | (c == b'\n') | (c == b'\r')
+}
+
+/// The first place from a place on where no blank stands.
+#[inline(always)]
+pub(crate) fn after_blanks(text: &[u8], from: usize) -> usize
+    requires { from ≤ length text.now }
+    ensures lexed { lex between (drop result text.now) ≡ lex between (drop from text.now) }
+    ensures bounds { (from ≤ result) × (result ≤ length text.now) }
+    ensures solid { is_blank (class (get_or text.now result 32)) ≡ true → result ≡ length text.now }
+{
+    let mut i = from;
+    while i < text.len() && is_space(text[i]) {
+        i += 1;
+    }
+    i
+}
+
+/// Which of sixteen bytes end the plain text of a string.
+#[inline(always)]
+fn stops(v: u8x16) -> u64
+    ensures { result ≡ mask_l (map is_stop v) }
+{
+    (v.simd_eq(u8x16::splat(b'"'))
+        | v.simd_eq(u8x16::splat(b'\\'))
+        | v.simd_lt(u8x16::splat(0x20))).to_bitmask()
+}
+
+/// The first quotation mark, backslash or control byte from a place on, or the length, byte by byte.
+#[inline(always)]
+fn plain_end_slowly(text: &[u8], from: usize) -> usize
+    requires { from ≤ length text.now }
+    ensures { result ≡ from + prefix_len is_plain (drop from text.now) }
+{
+    let mut i = from;
+    while i < text.len() && text[i] != b'"' && text[i] != b'\\' && text[i] >= 0x20 {
+        i += 1;
+    }
+    i
+}
+
+/// The first quotation mark, backslash or control byte from a place on, or the length.
+#[inline(always)]
+pub(crate) fn plain_end(text: &[u8], from: usize) -> usize
+    requires { from ≤ length text.now }
+    ensures value { result ≡ from + prefix_len is_plain (drop from text.now) }
+    ensures bound { result ≤ length text.now }
+{
+    let mut i = from;
+    while text.len() - i >= 16 {
+        let found = stops(u8x16::from_slice(&text[i..]));
+        if found != 0 {
+            return i + found.trailing_zeros() as usize;
+        }
+        i += 16;
+    }
+    plain_end_slowly(text, i)
+}
+
+/// The first byte from a place on that is no digit, or the length.
+#[inline(always)]
+pub(crate) fn digits_end(text: &[u8], from: usize) -> usize
+    requires { from ≤ length text.now }
+    ensures value { result ≡ from + prefix_len is_ascii_digit (drop from text.now) }
+    ensures bound { result ≤ length text.now }
+{
+    let mut i = from;
+    while i < text.len() && text[i].is_ascii_digit() {
+        i += 1;
+    }
+    i
+}

@@ -1,0 +1,232 @@
+//! The tokens of a text: its lexemes, with the commas and colons between them checked.
+ghost use Rattle.std.specs.Prelude.{◌≡◌, ◌≢◌, ◌≤◌, ◌⊎◌, [], ◌∷◌, length, false, Some, None, MatchOption, MatchResult, option_map};
+ghost use Rattle.std.specs.Bool.{MatchBool};
+ghost use Rattle.json.specs.Word.{head};
+ghost use Rattle.json.specs.Lex.{class, between, lex, after_value, punctuate, tokens};
+ghost use Rattle.json.specs.Align.{is_blank};
+ghost use Rattle.json.specs.Json.{after_end_array, read_key};
+ghost use Rattle.json.specs.Reads.{token_of, Yields};
+ghost use Rattle.json_values.specs.Place.{tokens_at, closes_at, begins_at, refused_at, Begins, Closes, NotBeforeComma};
+
+use crate::lexer::Lexer;
+use crate::run::is_space;
+use json::{Invalid, Token};
+use std::marker::Model;
+
+/// Where a text is read on.
+#[derive(Clone, Copy, Drop)]
+pub(crate) enum Place {
+    AfterComma,
+    Fresh,
+    AfterValue,
+    Failed,
+}
+
+impl Place {
+    /// Whether a list or an object may end here.
+    #[inline(always)]
+    fn may_close(self) -> bool
+        ensures { result ≡ closes_at self }
+    {
+        matches!(self, Place::Fresh | Place::AfterValue)
+    }
+
+    /// Whether a value or a name may begin here.
+    #[inline(always)]
+    fn may_begin(self) -> bool
+        ensures { result ≡ begins_at self }
+    {
+        matches!(self, Place::Fresh | Place::AfterComma)
+    }
+}
+
+/// The tokens of a text. A clause sees those that are still to come.
+#[derive(Drop)]
+pub(crate) struct Tokens<'a> {
+    lexer: Lexer<'a>,
+    place: Place,
+}
+
+impl<'a> Model for Tokens<'a> {
+    ghost use Rattle.std.specs.Prelude.{List};
+    ghost use Rattle.json.specs.Token.{Token as SpecToken, tokens_code};
+
+    ghost Value = { List SpecToken };
+
+    ghost coded = { tokens_code };
+
+    ghost use Rattle.json_values.specs.Place.{tokens_at, NotBeforeComma};
+
+    ghost view = { λ a. tokens_at a.place a.lexer };
+
+    ghost invariant = { λ a. NotBeforeComma a.place a.lexer };
+}
+
+/// Passes over the comma that may follow a value.
+#[inline(always)]
+fn after_value(lexer: &mut Lexer<'_>) -> Place
+    ensures same { tokens_at result lexer.new ≡ punctuate after_value (lex between lexer.old) }
+    ensures passed { NotBeforeComma result lexer.new }
+{
+    if lexer.peek() == b',' {
+        lexer.skip();
+        Place::AfterComma
+    } else {
+        Place::AfterValue
+    }
+}
+
+/// The string or the name that comes next.
+#[inline(always)]
+fn string<'a>(lexer: &mut Lexer<'a>) -> (Token<'a>, Place)
+    requires { head lexer.old ≡ 34 }
+    ensures value { Begins lexer.old (token_of result.0) result.1 lexer.new }
+    ensures passed { NotBeforeComma result.1 lexer.new }
+{
+    let Some(text) = lexer.string() else {
+        return (Token::Bad, Place::Failed);
+    };
+    if lexer.peek() == b':' {
+        lexer.skip();
+        (Token::Key(text), Place::Fresh)
+    } else {
+        (Token::String(text), after_value(lexer))
+    }
+}
+
+/// The token that begins with a byte, where a value or a name may begin.
+#[inline(always)]
+fn begin<'a>(lexer: &mut Lexer<'a>, c: u8) -> (Token<'a>, Place)
+    requires first { (head lexer.old ≡ c) × (is_blank (class c) ≡ false) }
+    requires opening { (c ≢ 125) × (c ≢ 93) }
+    ensures value { Begins lexer.old (token_of result.0) result.1 lexer.new }
+    ensures passed { NotBeforeComma result.1 lexer.new }
+{
+    match c {
+        b'"' => string(lexer),
+        b'{' => {
+            lexer.skip();
+            (Token::BeginObject, Place::Fresh)
+        }
+        b'[' => {
+            lexer.skip();
+            (Token::BeginArray, Place::Fresh)
+        }
+        b',' | b':' | b'\\' => (Token::Bad, Place::Failed),
+        _ => match lexer.word() {
+            Some(token) => (token, after_value(lexer)),
+            None => (Token::Bad, Place::Failed),
+        },
+    }
+}
+
+/// The end of a list or of an object.
+#[inline(always)]
+fn close<'a>(lexer: &mut Lexer<'a>, c: u8) -> (Token<'a>, Place)
+    requires { (head lexer.old ≡ c) × ((c ≡ 125) ⊎ (c ≡ 93)) }
+    ensures value { Closes lexer.old (token_of result.0) result.1 lexer.new }
+    ensures passed { NotBeforeComma result.1 lexer.new }
+{
+    lexer.skip();
+    let place = after_value(lexer);
+    if c == b'}' {
+        (Token::EndObject, place)
+    } else {
+        (Token::EndArray, place)
+    }
+}
+
+/// The one bad token, and none after it.
+#[cold]
+fn refuse<'a>(place: Place) -> (Option<Token<'a>>, Place)
+    ensures { Yields (refused_at place) result.0 [] × (result.1 ≡ Place.Failed) }
+{
+    if let Place::Failed = place {
+        (None, Place::Failed)
+    } else {
+        (Some(Token::Bad), Place::Failed)
+    }
+}
+
+/// The next token, and where the text is read on behind it.
+#[inline(always)]
+fn read<'a>(lexer: &mut Lexer<'a>, place: Place) -> (Option<Token<'a>>, Place)
+    requires { NotBeforeComma place lexer.old }
+    ensures value { Yields (tokens_at place lexer.old) result.0 (tokens_at result.1 lexer.new) }
+    ensures passed { NotBeforeComma result.1 lexer.new }
+{
+    let c = lexer.peek();
+    if (c == b'}') | (c == b']') {
+        if !place.may_close() {
+            return refuse(place);
+        }
+        let (token, next) = close(lexer, c);
+        return (Some(token), next);
+    }
+    if is_space(c) {
+        return if place.may_close() {
+            (None, place)
+        } else {
+            refuse(place)
+        };
+    }
+    if !place.may_begin() {
+        return refuse(place);
+    }
+    let (token, next) = begin(lexer, c);
+    (Some(token), next)
+}
+
+impl<'a> Tokens<'a> {
+    /// The tokens of a text. Strings with escapes are written to the room, and all others stand in the text.
+    #[inline(always)]
+    pub(crate) fn new(text: &'a str, room: &'a mut [u8]) -> Tokens<'a>
+        requires { length text.now ≤ length room.old }
+        ensures { result ≡ tokens text.now }
+    {
+        Tokens {
+            lexer: Lexer::new(text, room),
+            place: Place::Fresh,
+        }
+    }
+
+    /// The next token.
+    #[inline(always)]
+    pub(crate) fn next(&mut self) -> Option<Token<'a>>
+        ensures { MatchOption result ((self.old ≡ []) × (self.new ≡ []))
+            (λ t. self.old ≡ token_of t ∷ self.new) }
+    {
+        let (token, place) = read(&mut self.lexer, self.place);
+        self.place = place;
+        token
+    }
+
+    /// The name of a member, or none at the brace that ends an object.
+    #[inline(always)]
+    pub(crate) fn next_key(&mut self) -> Result<Option<&'a str>, Invalid>
+        ensures { MatchResult result
+            (λ k. read_key self.old ≡ Some (option_map (λ s. s.now) k, self.new))
+            (λ _. read_key self.old ≡ None) }
+    {
+        let token = self.next().ok_or(Invalid)?;
+        match token {
+            Token::Key(key) => Ok(Some(key)),
+            Token::EndObject => Ok(None),
+            _ => Err(Invalid),
+        }
+    }
+
+    /// Takes the bracket that ends a list, if it is next.
+    #[inline(always)]
+    pub(crate) fn take_end_array(&mut self) -> bool
+        ensures { MatchBool result (after_end_array self.old ≡ Some self.new)
+            ((after_end_array self.old ≡ None) × (self.new ≡ self.old)) }
+    {
+        if (self.lexer.peek() != b']') | !self.place.may_close() {
+            return false;
+        }
+        self.lexer.skip();
+        self.place = after_value(&mut self.lexer);
+        true
+    }
+}

@@ -1,0 +1,156 @@
+//! Numbers and the three literals.
+ghost use Rattle.std.specs.Prelude.{◌≡◌, ◌<◌, ◌≤◌, ◌||◌, length, drop};
+ghost use Rattle.json.specs.Word.{is_operator, is_space, after_digits, after_minus, after_sign, number_before, literal, after_whole, after_fraction, after_exponent, after_number, word};
+ghost use Rattle.json.specs.Run.{EndsAt};
+ghost use Rattle.json.specs.Reads.{token_of};
+ghost use Rattle.json_values.specs.Words.{IsLiteral, WordAt};
+
+use crate::run::{byte_at, digits_end};
+use json::Token;
+
+/// Whether a byte ends a word.
+#[inline(always)]
+fn is_delimiter(c: u8) -> bool
+    ensures { result ≡ (is_operator c || is_space c) }
+{
+    let operator = (c == b'{')
+        | (c == b'}')
+        | (c == b'[')
+        | (c == b']')
+        | (c == b':')
+        | (c == b',');
+    let space = (c == b' ') | (c == b'\t') | (c == b'\n') | (c == b'\r');
+    operator | space
+}
+
+/// Where digits end, of which there is at least one.
+#[inline(always)]
+fn digits(text: &[u8], i: usize) -> Option<usize>
+    requires { i ≤ length text.now }
+    ensures { EndsAt text.now i result (after_digits (drop i text.now)) }
+{
+    let end = digits_end(text, i);
+    if end == i { None } else { Some(end) }
+}
+
+/// Where the whole part of a number ends.
+#[inline(always)]
+fn whole(text: &[u8], i: usize) -> Option<usize>
+    requires { i ≤ length text.now }
+    ensures { EndsAt text.now i result (after_whole (drop i text.now)) }
+{
+    if byte_at(text, i) == b'0' {
+        Some(i + 1)
+    } else {
+        digits(text, i)
+    }
+}
+
+/// Where the fraction ends, if there is one.
+#[inline(always)]
+fn fraction(text: &[u8], i: usize) -> Option<usize>
+    requires { i ≤ length text.now }
+    ensures { EndsAt text.now i result (after_fraction (drop i text.now)) }
+{
+    if byte_at(text, i) == b'.' {
+        digits(text, i + 1)
+    } else {
+        Some(i)
+    }
+}
+
+/// Where a sign ends, if there is one.
+#[inline(always)]
+fn sign_end(text: &[u8], i: usize) -> usize
+    requires { i ≤ length text.now }
+    ensures value { drop result text.now ≡ after_sign (drop i text.now) }
+    ensures bounds { (i ≤ result) × (result ≤ length text.now) }
+{
+    let c = byte_at(text, i);
+    if (c == b'-') | (c == b'+') { i + 1 } else { i }
+}
+
+/// Where a minus ends, if there is one.
+#[inline(always)]
+fn minus_end(text: &[u8], i: usize) -> usize
+    requires { i ≤ length text.now }
+    ensures value { drop result text.now ≡ after_minus (drop i text.now) }
+    ensures bounds { (i ≤ result) × (result ≤ length text.now) }
+{
+    if byte_at(text, i) == b'-' { i + 1 } else { i }
+}
+
+/// Where the exponent ends, if there is one.
+#[inline(always)]
+fn exponent(text: &[u8], i: usize) -> Option<usize>
+    requires { i ≤ length text.now }
+    ensures { EndsAt text.now i result (after_exponent (drop i text.now)) }
+{
+    let c = byte_at(text, i);
+    if !((c == b'e') | (c == b'E')) {
+        return Some(i);
+    }
+    digits(text, sign_end(text, i + 1))
+}
+
+/// Where a number ends.
+#[inline(always)]
+fn number_end(text: &[u8], from: usize) -> Option<usize>
+    requires { from ≤ length text.now }
+    ensures { EndsAt text.now from result (after_number (drop from text.now)) }
+{
+    let point = whole(text, minus_end(text, from))?;
+    let power = fraction(text, point)?;
+    exponent(text, power)
+}
+
+/// The number at a place, and where it ends.
+#[inline(always)]
+fn number<'a>(text: &'a str, from: usize) -> Option<(Token<'a>, usize)>
+    requires { from < length text.now }
+    ensures { WordAt text.now from result
+        (number_before (drop from text.now) (after_number (drop from text.now))) }
+{
+    let bytes = text.as_bytes();
+    let end = number_end(bytes, from)?;
+    if is_delimiter(byte_at(bytes, end)) {
+        Some((Token::Number(&text[from..end]), end))
+    } else {
+        None
+    }
+}
+
+/// The literal of a name at a place, and where it ends.
+#[inline(always)]
+fn literal<'a>(
+    text: &[u8],
+    from: usize,
+    name: &[u8],
+    token: Token<'a>,
+) -> Option<(Token<'a>, usize)>
+    requires within { from < length text.now }
+    requires named { IsLiteral name.now (token_of token) }
+    ensures { WordAt text.now from result (literal name.now (token_of token.entry) (drop from text.now)) }
+{
+    let rest = &text[from..];
+    if rest.starts_with(name) && is_delimiter(byte_at(rest, name.len())) {
+        Some((token, from + name.len()))
+    } else {
+        None
+    }
+}
+
+/// The number or the literal at a place, and where it ends.
+#[inline(always)]
+pub(crate) fn word<'a>(text: &'a str, from: usize) -> Option<(Token<'a>, usize)>
+    requires { from < length text.now }
+    ensures { WordAt text.now from result (word (drop from text.now)) }
+{
+    let bytes = text.as_bytes();
+    match byte_at(bytes, from) {
+        b't' => literal(bytes, from, b"true", Token::Bool(true)),
+        b'f' => literal(bytes, from, b"false", Token::Bool(false)),
+        b'n' => literal(bytes, from, b"null", Token::Null),
+        _ => number(text, from),
+    }
+}
