@@ -12,6 +12,7 @@ use itoa::Buffer;
 use json::Writer;
 use rev_core::{Ancestry, Rev};
 use std::alloc::{AllocError, Global};
+use std::mem;
 
 /// The text of a document, in compact form with its members in the order `_id`, `_rev`, `_revisions`,
 /// `_deleted` where it is deleted, and those of the body.
@@ -21,34 +22,44 @@ pub fn write_doc(alloc: Global, doc: &Doc) -> Result<Vec<u8>, AllocError>
     ensures text { IfOk result (λ v. v.items ≡ doc_text doc.now) }
     ensures reads_back { (d : Data) → read (doc_text doc.now) ≡ Some d → doc_read d ≡ Ok doc.now }
 {
-    let _deleted = doc.deleted();
-    written(alloc, doc)
+    let mut out = Vec::new(alloc);
+    push_doc(&mut out, doc)?;
+    Ok(out)
 }
 
-/// The text of a document, in one buffer.
-fn written(alloc: Global, doc: &Doc) -> Result<Vec<u8>, AllocError>
-    ensures { IfOk result (λ v. v.items ≡ doc_text doc.now) }
+/// Writes the text of a document behind what a buffer holds. Where memory is refused, what the buffer held is lost.
+pub fn push_doc(out: &mut Vec<u8>, doc: &Doc) -> Result<(), AllocError>
+    ensures text { OnOk result (out.new.items ≡ out.old.items ++ doc_text doc.now) }
+    ensures reads_back { (d : Data) → read (doc_text doc.now) ≡ Some d → doc_read d ≡ Ok doc.now }
+{
+    let _deleted = doc.deleted();
+    push_parts(out, doc)
+}
+
+/// The parts of a document's text, for all of which there is mostly room from the start.
+fn push_parts(out: &mut Vec<u8>, doc: &Doc) -> Result<(), AllocError>
+    ensures { OnOk result (out.new.items ≡ out.old.items ++ doc_text doc.now) }
 {
     let body = doc.body().text();
     // A signature mostly has 32 bytes, and stands in quotation marks behind a comma.
     let sigs = doc.ancestry().revs().len().saturating_mul(36);
-    let room = body.len().saturating_add(sigs).saturating_add(256);
-    let mut head = Vec::with_capacity(alloc, room)?;
-    head.extend_from_slice(b"{\"_id\":")?;
-    let mut out = with_json(head, doc.id().text())?;
-    push_revs(&mut out, doc.ancestry())?;
+    out.reserve(body.len().saturating_add(sigs).saturating_add(256))?;
+    out.extend_from_slice(b"{\"_id\":")?;
+    push_json(out, doc.id().text())?;
+    push_revs(out, doc.ancestry())?;
     out.extend_from_slice(deleted_text(doc.deleted()))?;
-    push_rest(&mut out, body)?;
-    Ok(out)
+    push_rest(out, body)
 }
 
-/// A text as JSON, behind what the buffer holds.
-fn with_json(out: Vec<u8>, text: &str) -> Result<Vec<u8>, AllocError>
-    ensures { IfOk result (λ v. v.items ≡ out.items ++ compact_text (string text.now)) }
+/// A text as JSON. The buffer is lent to the writer, which takes it whole.
+fn push_json(out: &mut Vec<u8>, text: &str) -> Result<(), AllocError>
+    ensures { OnOk result (out.new.items ≡ out.old.items ++ compact_text (string text.now)) }
 {
-    let mut writer = Writer::new(out);
+    let none = Vec::new(*out.allocator());
+    let mut writer = Writer::new(mem::replace(out, none));
     writer.string(text)?;
-    Ok(writer.into_inner())
+    *out = writer.into_inner();
+    Ok(())
 }
 
 /// `_rev` and `_revisions`, each behind a comma.
@@ -72,7 +83,7 @@ fn push_head(out: &mut Vec<u8>, ancestry: &Ancestry) -> Result<(), AllocError>
     let head = ancestry.head();
     push_number(out, head.generation())?;
     out.push(b'-')?;
-    out.extend_from_slice(head.sig().bytes())?;
+    out.extend_from_slice(head.sig_bytes())?;
     Ok(())
 }
 
@@ -97,21 +108,20 @@ fn push_sigs(out: &mut Vec<u8>, revs: &[Rev]) -> Result<(), AllocError>
     ensures { OnOk result (out.new.items ≡ out.old.items ++ sig_texts revs.now) }
 {
     for i in 0..revs.len() {
-        let rev = revs[i];
         if i > 0 {
             out.push(b',')?;
         }
-        push_sig(out, rev)?;
+        push_sig(out, &revs[i])?;
     }
     Ok(())
 }
 
 /// A signature in quotation marks.
-fn push_sig(out: &mut Vec<u8>, rev: Rev) -> Result<(), AllocError>
-    ensures { OnOk result (out.new.items ≡ out.old.items ++ sig_text rev) }
+fn push_sig(out: &mut Vec<u8>, rev: &Rev) -> Result<(), AllocError>
+    ensures { OnOk result (out.new.items ≡ out.old.items ++ sig_text rev.now) }
 {
     out.push(b'"')?;
-    out.extend_from_slice(rev.sig().bytes())?;
+    out.extend_from_slice(rev.sig_bytes())?;
     out.push(b'"')?;
     Ok(())
 }
