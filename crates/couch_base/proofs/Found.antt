@@ -40,7 +40,7 @@ none_in g (e ∷ es) id held gone =
     (λ same. absurd (none_some e.0 (sym (ap seq_of (ap g (id_is e.1 id same) ∙ gone)) ∙ held e (inl refl))))
     (λ _. none_in g es id (λ x m. held x (inr m)) gone)
 
-not_first : (b : Bool) (x y : Id) (o : Option Id) → cond b (Some x) o ≡ Some y → bytes_eq x y ≡ false → o ≡ Some y
+pub not_first : (b : Bool) (x y : Id) (o : Option Id) → cond b (Some x) o ≡ Some y → bytes_eq x y ≡ false → o ≡ Some y
 not_first true x y o h apart = absurd (both_ways (bytes_eq x y) apart (ap (bytes_eq x) (sym (some_is x y h)) ∙ id_same x))
 not_first false x y o h apart = h
 

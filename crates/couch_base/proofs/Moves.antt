@@ -1,19 +1,16 @@
 -- What a write does to the documents.
-use Rattle.std.proofs.Common.{◌≡◌, ℕ, ◌<◌, ◌≤◌, List, [], ◌∷◌, ◌++◌, Option, Some, None, cond, subst, sym, ap, ◌∙◌, refl, arith, inl, inr}
+use Rattle.std.proofs.Common.{◌≡◌, ℕ, ◌<◌, ◌≤◌, List, [], ◌∷◌, ◌++◌, Option, Some, None, true, cond, subst, sym, ap, ◌∙◌, refl, inl, inr}
 use Rattle.std.specs.Prelude.{not}
-use Rattle.std.proofs.lemmas.Bool.{cond_both, both_ways, cases_Bool}
-use Rattle.std.specs.Ordering.{nat_cmp}
-use Rattle.std.specs.BTreeMap.{is_at}
-use Rattle.std.specs.Map.{remove_entry}
+use Rattle.std.proofs.lemmas.Bool.{both_ways, cases_Bool, false≢true}
 use Rattle.std.specs.Str.{bytes_eq}
 use Rattle.couch_base.specs.Lists.{Among}
 use Rattle.couch_base.specs.Database.{Id, DocumentValue, IsDocumentTree, without, most}
-use Rattle.couch_base.specs.Stored.{at_seq, seq_of, tree_at, document, documents, IsTable, Sets}
+use Rattle.couch_base.specs.Stored.{at_seq, feed_without, seq_of, tree_at, document, documents, IsTable, Sets}
 use Rattle.couch_base.specs.declared.kept.Kept.{Kept}
 use Rattle.couch_base.specs.ListLaws.{some_is, none_some}
-use Rattle.couch_base.proofs.Found.{id_is, id_same, seq_is, seq_same, not_true}
-use Rattle.couch_base.proofs.Rising.{Rising, member_over, all_below, rising_append, rising_remove, among_append, among_remove, apart_remove}
-use Rattle.couch_base.proofs.Index.{at_append, at_new, at_remove, at_upto, remove_append}
+use Rattle.couch_base.proofs.Found.{id_is, id_same, not_true}
+use Rattle.couch_base.proofs.Rising.{Rising, all_below, rising_append, rising_filter, among_append, among_filter}
+use Rattle.couch_base.proofs.Index.{at_append, at_new, at_without}
 
 -- ---- documents
 
@@ -34,18 +31,17 @@ pub others : (g h : Id → Option Kept) (id : Id) (k : Kept) → Sets g h id k �
 others g h id k sets [] apart = refl
 others g h id k sets (e ∷ es) apart = passed g h id k sets e es es (apart e (inl refl)) (others g h id k sets es (λ x m. apart x (inr m)))
 
-pub removed_documents : (g h : Id → Option Kept) (id : Id) (k : Kept) → Sets g h id k → (s lo : ℕ) (index : List (ℕ × Id)) (hi : ℕ) → Rising lo index hi → ((e : ℕ × Id) → Among e index → e.0 ≡ s → e.1 ≡ id) → ((e : ℕ × Id) → Among e index → e.1 ≡ id → e.0 ≡ s) → documents h (remove_entry (is_at (nat_cmp s)) index) ≡ without (documents g index) id
-removed_documents g h id k sets s lo [] hi r to back = refl
-removed_documents g h id k sets s lo (e ∷ es) hi r to back =
-    cond_both (is_at (nat_cmp s) e.0) es (e ∷ remove_entry (is_at (nat_cmp s)) es) (λ l. documents h l ≡ without (documents g (e ∷ es)) id)
-    (λ hit.
-    let now : s ≡ e.0 = seq_is s e.0 hit in
-    others g h id k sets es (λ x m j. let a : e.0 < x.0 = member_over e.0 es hi x r.1 m in let b : x.0 ≡ s = back x (inr m) j in omega (arith, a, b, now))
-    ∙ sym (ap (λ b. cond (not b) (document g e ∷ without (documents g es) id) (without (documents g es) id)) (ap (λ (i : Id). bytes_eq e.1 i) (sym (to e (inl refl) (sym now))) ∙ id_same e.1)))
-    (λ miss.
-    passed g h id k sets e (remove_entry (is_at (nat_cmp s)) es) es
-    (λ j. both_ways (is_at (nat_cmp s) e.0) miss (ap (is_at (nat_cmp s)) (back e (inl refl) j) ∙ seq_same s))
-    (removed_documents g h id k sets s e.0 es hi r.1 (λ x m. to x (inr m)) (λ x m. back x (inr m))))
+pub without_documents : (g h : Id → Option Kept) (id : Id) (k : Kept) → Sets g h id k → (index : List (ℕ × Id)) → documents h (feed_without id index) ≡ without (documents g index) id
+without_documents g h id k sets [] = refl
+without_documents g h id k sets (e ∷ es) =
+    elim (cases_Bool (bytes_eq e.1 id)) [
+      | inl hit ↦ rw hit (without_documents g h id k sets es)
+      | inr miss ↦
+          rw miss
+          (ap (λ (o : Option Kept). let x : DocumentValue = record { id = e.1; seq = e.0; tree = tree_at o } in x ∷ documents h (feed_without id es))
+          (same_at g h id k sets e.1 (λ j. both_ways (bytes_eq e.1 id) miss (ap (bytes_eq e.1) (sym j) ∙ id_same e.1)))
+          ∙ ap (λ l. document g e ∷ l) (without_documents g h id k sets es))
+    ]
 
 pub documents_append : (h : Id → Option Kept) (index : List (ℕ × Id)) (x : ℕ × Id) → documents h (index ++ x ∷ []) ≡ documents h index ++ document h x ∷ []
 documents_append h [] x = refl
@@ -59,14 +55,6 @@ some_of (Some k) s h = (k, refl, some_is k.seq s h)
 
 pub kept_at : (g : Id → Option Kept) (index : List (ℕ × Id)) (hi : ℕ) → IsTable g index hi → (e : ℕ × Id) → Among e index → (k : Kept) × (g e.1 ≡ Some k) × (k.seq ≡ e.0)
 kept_at g index hi t e m = some_of (g e.1) e.0 (t.held e m)
-
-pub seq_id : (g : Id → Option Kept) (index : List (ℕ × Id)) (hi : ℕ) → IsTable g index hi → (id : Id) (k : Kept) → g id ≡ Some k → (e : ℕ × Id) → Among e index → e.0 ≡ k.seq → e.1 ≡ id
-seq_id g index hi t id k is e m same =
-    let w = kept_at g index hi t e m in
-    some_is e.1 id (sym (t.indexed e.1 w.0 w.1) ∙ ap (λ s. at_seq s index) (w.2 ∙ same) ∙ t.indexed id k is)
-
-pub id_seq : (g : Id → Option Kept) (index : List (ℕ × Id)) (hi : ℕ) → IsTable g index hi → (id : Id) (k : Kept) → g id ≡ Some k → (e : ℕ × Id) → Among e index → e.1 ≡ id → e.0 ≡ k.seq
-id_seq g index hi t id k is e m same = some_is e.0 k.seq (sym (t.held e m) ∙ ap seq_of (ap g same ∙ is))
 
 pub nowhere : (g : Id → Option Kept) (index : List (ℕ × Id)) (hi : ℕ) → IsTable g index hi → (id : Id) → g id ≡ None → (e : ℕ × Id) → Among e index → e.1 ≡ id → ⊥
 nowhere g index hi t id gone e m same = none_some e.0 (sym (ap seq_of (ap g same ∙ gone)) ∙ t.held e m)
@@ -113,38 +101,42 @@ added_kept g h index hi t id gone k sets lawful above within = record {
 
 -- ---- a document that is there
 
-pub changed_documents : (g h : Id → Option Kept) (index : List (ℕ × Id)) (hi : ℕ) → IsTable g index hi → (id : Id) (c : Kept) → g id ≡ Some c → (k : Kept) → Sets g h id k → (s : ℕ)
-    → documents h (remove_entry (is_at (nat_cmp c.seq)) (index ++ (s, id) ∷ [])) ≡ without (documents g index) id ++ record { id = id; seq = s; tree = k.tree } ∷ []
-changed_documents g h index hi t id c was k sets s =
-    ap (documents h) (remove_append c.seq index (s, id) id (t.indexed id c was))
-    ∙ documents_append h (remove_entry (is_at (nat_cmp c.seq)) index) (s, id)
-    ∙ ap (λ l. l ++ document h (s, id) ∷ []) (removed_documents g h id k sets c.seq 0 index hi t.rising (seq_id g index hi t id c was) (id_seq g index hi t id c was))
+-- what isn't left out is another one
+kept_apart : (a b : Id) → not (bytes_eq a b) ≡ true → a ≡ b → ⊥
+kept_apart a b kept same = false≢true (sym (ap not (ap (bytes_eq a) (sym same) ∙ id_same a)) ∙ kept)
+
+pub changed_documents : (g h : Id → Option Kept) (index : List (ℕ × Id)) (id : Id) (k : Kept) → Sets g h id k → (s : ℕ)
+    → documents h (feed_without id index ++ (s, id) ∷ []) ≡ without (documents g index) id ++ record { id = id; seq = s; tree = k.tree } ∷ []
+changed_documents g h index id k sets s =
+    documents_append h (feed_without id index) (s, id)
+    ∙ ap (λ l. l ++ document h (s, id) ∷ []) (without_documents g h id k sets index)
     ∙ ap (λ (o : Option Kept). let x : DocumentValue = record { id = id; seq = s; tree = tree_at o } in without (documents g index) id ++ x ∷ []) (here_at g h id k sets)
 
-pub changed_kept : (g h : Id → Option Kept) (index : List (ℕ × Id)) (hi : ℕ) → IsTable g index hi → (id : Id) (c : Kept) → g id ≡ Some c → (k : Kept) → Sets g h id k → IsDocumentTree k.tree → hi < k.seq → k.seq ≤ most
-    → IsTable h (remove_entry (is_at (nat_cmp c.seq)) (index ++ (k.seq, id) ∷ [])) k.seq
-changed_kept g h index hi t id c was k sets lawful above within =
-    let longer = rising_append 0 index hi k.seq id t.rising above in
-    let under : c.seq ≤ hi = at_upto c.seq 0 index hi id t.rising (t.indexed id c was) in
+pub changed_kept : (g h : Id → Option Kept) (index : List (ℕ × Id)) (hi : ℕ) → IsTable g index hi → (id : Id) (k : Kept) → Sets g h id k → IsDocumentTree k.tree → hi < k.seq → k.seq ≤ most
+    → IsTable h (feed_without id index ++ (k.seq, id) ∷ []) k.seq
+changed_kept g h index hi t id k sets lawful above within =
+    let others = feed_without id index in
+    let rising : Rising 0 others hi = rising_filter _ 0 index hi t.rising in
     record {
-      rising = rising_remove (is_at (nat_cmp c.seq)) 0 (index ++ (k.seq, id) ∷ []) k.seq longer;
+      rising = rising_append 0 others hi k.seq id rising above;
       within = within;
-      held = λ e m. elim (among_append e (k.seq, id) index (among_remove (is_at (nat_cmp c.seq)) (index ++ (k.seq, id) ∷ []) e m)) [
-        | inl n ↦ ap seq_of (same_at g h id k sets e.1 (λ j. apart_remove c.seq 0 (index ++ (k.seq, id) ∷ []) k.seq e longer m (id_seq g index hi t id c was e n j))) ∙ t.held e n
+      held = λ e m. elim (among_append e (k.seq, id) others m) [
+        | inl n ↦
+            let there = among_filter _ index e n in
+            ap seq_of (same_at g h id k sets e.1 (λ j. kept_apart e.1 id there.1 j)) ∙ t.held e there.0
         | inr same ↦ held_new h id k k.seq (here_at g h id k sets) refl e same
       ];
       indexed = λ q x is. elim (cases_Bool (bytes_eq id q)) [
         | inl hit ↦
             let same = id_is id q hit in
             let here : k ≡ x = some_is k x (sym (here_at g h id k sets) ∙ ap h same ∙ is) in
-            ap (λ (y : Kept). at_seq y.seq (remove_entry (is_at (nat_cmp c.seq)) (index ++ (k.seq, id) ∷ []))) (sym here)
-            ∙ at_remove k.seq c.seq (index ++ (k.seq, id) ∷ []) id (λ j. omega (arith, j, under, above)) (at_new k.seq index id (all_below index hi k.seq t.rising above))
+            ap (λ (y : Kept). at_seq y.seq (others ++ (k.seq, id) ∷ [])) (sym here)
+            ∙ at_new k.seq others id (all_below others hi k.seq rising above)
             ∙ ap (λ i. Some i) same
         | inr apart ↦
-            let at = t.indexed q x (sym (sets q ∙ ap (λ b. cond b (Some k) (g q)) apart) ∙ is) in
-            at_remove x.seq c.seq (index ++ (k.seq, id) ∷ []) q
-            (λ j. both_ways (bytes_eq id q) apart (ap (bytes_eq id) (some_is q id (sym at ∙ ap (λ s. at_seq s index) j ∙ t.indexed id c was)) ∙ id_same id))
-            (at_append x.seq index (k.seq, id) q at)
+            at_append x.seq others (k.seq, id) q
+            (at_without x.seq id index q (λ j. both_ways (bytes_eq id q) apart (ap (bytes_eq id) j ∙ id_same id))
+            (t.indexed q x (sym (sets q ∙ ap (λ b. cond b (Some k) (g q)) apart) ∙ is)))
       ];
       trees = set_trees g h index hi t id k sets lawful;
     }

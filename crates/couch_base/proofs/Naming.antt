@@ -1,27 +1,27 @@
 -- The index with ids in the place of places.
-use Rattle.std.proofs.Common.{◌≡◌, ℕ, zero, suc, ◌+◌, ◌<◌, List, [], ◌∷◌, ◌++◌, Bool, true, false, Some, None, length, cond, sym, ap, subst, ◌∙◌, refl, arith, inl, inr}
-use Rattle.std.specs.Prelude.{slice_get, unwrap_or, position}
-use Rattle.std.specs.List.{filter}
+use Rattle.std.proofs.Common.{◌≡◌, ℕ, zero, suc, ◌<◌, ◌≤◌, List, [], ◌∷◌, ◌++◌, Bool, true, false, Some, None, length, cond, sym, ap, subst, ◌∙◌, refl, arith, inl, inr}
+use Rattle.std.specs.Prelude.{◌==◌, nat_lt, not, slice_get, unwrap_or, position, get_or}
+use Rattle.std.specs.List.{IsDistinct}
 use Rattle.std.specs.Option.{option_map}
-use Rattle.std.specs.Ordering.{nat_cmp}
-use Rattle.std.specs.BTreeMap.{is_at}
-use Rattle.std.specs.Map.{keys_of, remove_entry}
+use Rattle.std.specs.Map.{keys_of}
 use Rattle.std.specs.Str.{bytes_eq}
-use Rattle.std.proofs.lemmas.Bool.{cond_both}
-use Rattle.std.proofs.lemmas.List.{get_or_append_left, length-append}
+use Rattle.std.proofs.lemmas.Bool.{cond_both, cases_Bool, both_ways}
+use Rattle.std.proofs.lemmas.List.{get_or_append_left}
+use Rattle.std.proofs.lemmas.List.Elements.{filter-append}
 use Rattle.std.proofs.lemmas.List.Quantifiers.{position-Some}
 use Rattle.std.proofs.lemmas.Map.Entries.{length-keys_of}
-use Rattle.std.proofs.lemmas.Option.{slice_get-map, unwrap_or-slice_get, get_or_from_slice_get}
+use Rattle.std.proofs.lemmas.Map.Keys.{apart_from_distinct}
+use Rattle.std.proofs.lemmas.Option.{slice_get-map, slice_get_within, unwrap_or-slice_get, get_or_from_slice_get}
 use Rattle.indexmap.specs.IndexMap.{insert_entry, set_value_at}
 use Rattle.indexmap.proofs.MapLemmas.{absent_from_lookup, insert_entry-absent}
 use Rattle.rev_tree.proofs.Places.{slice_get-last}
 use Rattle.couch_base.specs.Lists.{Among}
 use Rattle.couch_base.specs.ListLaws.{some_is, none_some}
 use Rattle.couch_base.specs.Database.{Id}
-use Rattle.couch_base.specs.Stored.{found, id_at, named, feed_of, ArePlaces, IsPlace, AllBelow}
+use Rattle.couch_base.specs.Stored.{found, id_at, is_live, live, swept, named, feed_of, feed_without, ArePlaces, AreRows, AllBelow, IsPlace}
 use Rattle.couch_base.specs.declared.kept.Kept.{Kept}
-use Rattle.couch_base.proofs.Found.{id_is}
-use Rattle.couch_base.proofs.Rising.{among_append}
+use Rattle.couch_base.proofs.Found.{id_is, id_same, not_true}
+use Rattle.couch_base.proofs.Rows.{live_at, dead_at, live_same, live_more, get_set, get_set_apart, feed_swept, places_filter}
 
 -- ---- ids at places
 
@@ -43,54 +43,10 @@ pub named_append : (ids : List Id) (index : List (ℕ × ℕ)) (s i : ℕ) → n
 named_append ids [] s i = refl
 named_append ids (e ∷ es) s i = ap (λ l. (e.0, id_at ids e.1) ∷ l) (named_append ids es s i)
 
-pub named_remove : (t : ℕ → Bool) (ids : List Id) (index : List (ℕ × ℕ)) → named ids (remove_entry t index) ≡ remove_entry t (named ids index)
-named_remove t ids [] = refl
-named_remove t ids (e ∷ es) =
-    elim (t e.0) as (λ b. named ids (cond b es (e ∷ remove_entry t es)) ≡ cond b (named ids es) ((e.0, id_at ids e.1) ∷ remove_entry t (named ids es))) [
-      | true ↦ refl
-      | false ↦ ap (λ l. (e.0, id_at ids e.1) ∷ l) (named_remove t ids es)
-    ]
-
 pub named_more : (ids : List Id) (id : Id) (index : List (ℕ × ℕ)) → ArePlaces (length ids) index → named (ids ++ id ∷ []) index ≡ named ids index
 named_more ids id [] within = refl
 named_more ids id (e ∷ es) within =
     (λ j. (e.0, id_stays ids id e.1 (within e (inl refl)) j) ∷ named_more ids id es (λ x m. within x (inr m)) j)
-
-among_named : (ids : List Id) (index : List (ℕ × ℕ)) (e : ℕ × ℕ) → Among e index → Among (e.0, id_at ids e.1) (named ids index)
-among_named ids [] e m = m
-among_named ids (x ∷ xs) e (inl same) = inl (ap (λ (p : ℕ × ℕ). (p.0, id_at ids p.1)) same)
-among_named ids (x ∷ xs) e (inr m) = inr (among_named ids xs e m)
-
-pub below_named : (s : ℕ) (ids : List Id) (index : List (ℕ × ℕ)) → AllBelow s (named ids index) → AllBelow s index
-below_named s ids index below e m = below (e.0, id_at ids e.1) (among_named ids index e m)
-
--- ---- places
-
-pub places_append : (n : ℕ) (index : List (ℕ × ℕ)) (s i : ℕ) → ArePlaces n index → i < n → ArePlaces n (index ++ (s, i) ∷ [])
-places_append n index s i places within e m = elim (among_append e (s, i) index m) [
-  | inl k ↦ places e k
-  | inr same ↦ subst (λ (p : ℕ × ℕ). p.1 < n) (sym same) within
-]
-
-among_removed : (t : ℕ → Bool) (index : List (ℕ × ℕ)) (x : ℕ × ℕ) → Among x (remove_entry t index) → Among x index
-among_removed t [] x m = m
-among_removed t (e ∷ es) x m =
-    cond_both (t e.0) es (e ∷ remove_entry t es) (λ l. Among x l → Among x (e ∷ es))
-    (λ _ k. inr k)
-    (λ _ k. elim k [ inl s ↦ inl s | inr n ↦ inr (among_removed t es x n) ]) m
-
-pub places_remove : (n : ℕ) (t : ℕ → Bool) (index : List (ℕ × ℕ)) → ArePlaces n index → ArePlaces n (remove_entry t index)
-places_remove n t index places e m = places e (among_removed t index e m)
-
-among_filtered : (p : ℕ × ℕ → Bool) (index : List (ℕ × ℕ)) (x : ℕ × ℕ) → Among x (filter p index) → Among x index
-among_filtered p [] x m = m
-among_filtered p (e ∷ es) x m =
-    cond_both (p e) (e ∷ filter p es) (filter p es) (λ l. Among x l → Among x (e ∷ es))
-    (λ _ k. elim k [ inl s ↦ inl s | inr n ↦ inr (among_filtered p es x n) ])
-    (λ _ k. inr (among_filtered p es x k)) m
-
-pub places_filter : (n : ℕ) (p : ℕ × ℕ → Bool) (index : List (ℕ × ℕ)) → ArePlaces n index → ArePlaces n (filter p index)
-places_filter n p index places e m = places e (among_filtered p index e m)
 
 -- ---- look-ups
 
@@ -113,44 +69,94 @@ set_same [] i id k is = refl
 set_same (e ∷ es) zero id k is = ap (λ (p : Id × Kept). (e.0, p.1) ∷ es) (sym (some_is e (id, k) is))
 set_same (e ∷ es) (suc i) id k is = ap (λ l. e ∷ l) (set_same es i id k is)
 
--- a write to the document at a place moves it to the end
-pub moved_feed : (docs new : List (Id × Kept)) (before middle after : List (ℕ × ℕ)) (s place seq : ℕ) (id : Id) (was : Kept)
-    → keys_of new ≡ keys_of docs → middle ≡ before ++ (s, place) ∷ [] → after ≡ remove_entry (is_at (nat_cmp seq)) middle → seq ≡ was.seq → slice_get docs place ≡ Some (id, was)
-    → feed_of new after ≡ remove_entry (is_at (nat_cmp was.seq)) (feed_of docs before ++ (s, id) ∷ [])
-moved_feed docs new before middle after s place seq id was keys longer shorter same at =
-    ap (λ ids. named ids after) keys
-    ∙ ap (named (keys_of docs)) (shorter ∙ ap (remove_entry (is_at (nat_cmp seq))) longer)
-    ∙ named_remove (is_at (nat_cmp seq)) (keys_of docs) (before ++ (s, place) ∷ [])
-    ∙ ap (remove_entry (is_at (nat_cmp seq))) (named_append (keys_of docs) before s place ∙ ap (λ (q : Id). named (keys_of docs) before ++ (s, q) ∷ []) (id_is_at docs place id was at))
-    ∙ ap (λ n. remove_entry (is_at (nat_cmp n)) (feed_of docs before ++ (s, id) ∷ [])) same
-
-pub moved_places : (n m : ℕ) (before middle after : List (ℕ × ℕ)) (s place seq : ℕ) → m ≡ n → middle ≡ before ++ (s, place) ∷ [] → after ≡ remove_entry (is_at (nat_cmp seq)) middle → ArePlaces n before → place < n → ArePlaces m after
-moved_places n m before middle after s place seq sizes longer shorter places within =
-    subst (λ k. ArePlaces k after) (sym sizes)
-    (subst (ArePlaces n) (sym (shorter ∙ ap (remove_entry (is_at (nat_cmp seq))) longer))
-    (places_remove n (is_at (nat_cmp seq)) (before ++ (s, place) ∷ []) (places_append n before s place places within)))
-
 keys_append : (docs : List (Id × Kept)) (id : Id) (k : Kept) → keys_of (docs ++ (id, k) ∷ []) ≡ keys_of docs ++ id ∷ []
 keys_append [] id k = refl
 keys_append (e ∷ es) id k = ap (λ l. e.0 ∷ l) (keys_append es id k)
 
--- a document that is new stands behind the others, in the table and in the index
-pub added_feed : (docs new : List (Id × Kept)) (before after : List (ℕ × ℕ)) (s : ℕ) (id : Id) (k : Kept)
-    → new ≡ docs ++ (id, k) ∷ [] → after ≡ before ++ (s, length docs) ∷ [] → ArePlaces (length docs) before
-    → feed_of new after ≡ feed_of docs before ++ (s, id) ∷ []
-added_feed docs new before after s id k grown longer places =
+-- no two places have one id
+apart_at : (docs : List (Id × Kept)) (place i : ℕ) (id : Id) (was : Kept) → IsDistinct bytes_eq (keys_of docs) → slice_get docs place ≡ Some (id, was) → i < length docs → (place ≡ i → ⊥) → bytes_eq (id_at (keys_of docs) i) id ≡ false
+apart_at docs place i id was once at within apart =
     let ids = keys_of docs in
     let size : length ids ≡ length docs = length-keys_of docs in
-    ap (λ l. named l after) (ap keys_of grown ∙ keys_append docs id k)
-    ∙ ap (named (ids ++ id ∷ [])) (longer ∙ ap (λ n. before ++ (s, n) ∷ []) (sym size))
-    ∙ named_append (ids ++ id ∷ []) before s (length ids)
-    ∙ (λ j. named_more ids id before (subst (λ n. ArePlaces n before) (sym size) places) j ++ (s, id_last ids id j) ∷ [])
+    let here : get_or ids place [] ≡ id = sym (unwrap_or-slice_get ids place []) ∙ id_is_at docs place id was at in
+    let there : get_or ids i [] ≡ id_at ids i = sym (unwrap_or-slice_get ids i []) in
+    let low : place < length docs = slice_get_within docs place (id, was) at in
+    elim (cases_Bool (nat_lt place i)) [
+      | inl before ↦
+          let less : place < i = grind (arith, before) in
+          let differ : bytes_eq (get_or ids place []) (get_or ids i []) ≡ false = apart_from_distinct bytes_eq ids place i [] once less (omega (arith, within, size)) in
+          let turned : bytes_eq id (id_at ids i) ≡ false = (λ j. bytes_eq (sym here j) (sym there j)) ∙ differ in
+          not_true _ (λ same. both_ways _ turned (ap (bytes_eq id) (id_is (id_at ids i) id same) ∙ id_same id))
+      | inr behind ↦
+          let less : i < place = (let high : i ≤ place = grind (arith, behind) in omega (arith, high, apart)) in
+          (λ j. bytes_eq (sym there j) (sym here j)) ∙ apart_from_distinct bytes_eq ids i place [] once less (omega (arith, low, size))
+    ]
 
-pub added_places : (docs new : List (Id × Kept)) (before after : List (ℕ × ℕ)) (s : ℕ) (e : Id × Kept) → new ≡ docs ++ e ∷ [] → after ≡ before ++ (s, length docs) ∷ [] → ArePlaces (length docs) before → ArePlaces (length new) after
-added_places docs new before after s e grown longer places =
-    let size : length new ≡ length docs + 1 = ap length grown ∙ length-append docs (e ∷ []) in
-    subst (ArePlaces (length new)) (sym longer)
-    (places_append (length new) before s (length docs) (λ x m. let a : x.1 < length docs = places x m in omega (arith, a, size)) (omega (arith, size)))
+kept_row : (id : Id) (ids : List Id) (e : ℕ × ℕ) (xs ys : List (ℕ × ℕ)) (t : Bool) → bytes_eq (id_at ids e.1) id ≡ false → named ids xs ≡ feed_without id (named ids ys) → named ids (cond t (e ∷ xs) xs) ≡ feed_without id (named ids (cond t (e ∷ ys) ys))
+kept_row id ids e xs ys true differ rest =
+    ap (λ l. (e.0, id_at ids e.1) ∷ l) rest
+    ∙ sym (ap (λ b. cond (not b) ((e.0, id_at ids e.1) ∷ feed_without id (named ids ys)) (feed_without id (named ids ys))) differ)
+kept_row id ids e xs ys false differ rest = rest
+
+live_push : (docs : List (Id × Kept)) (rows : List (ℕ × ℕ)) (s i : ℕ) → is_live docs (s, i) ≡ true → live docs (rows ++ (s, i) ∷ []) ≡ live docs rows ++ (s, i) ∷ []
+live_push docs rows s i alive =
+    filter-append (is_live docs) rows ((s, i) ∷ []) ∙ ap (λ b. live docs rows ++ cond b ((s, i) ∷ []) []) alive
+
+-- where the document at a place gets a later sequence than all rows have, its rows are live no more, and the others stay
+moved_rows : (docs new : List (Id × Kept)) (place s : ℕ) (id : Id) (was k : Kept) → IsDistinct bytes_eq (keys_of docs) → slice_get docs place ≡ Some (id, was) → slice_get new place ≡ Some (id, k) → k.seq ≡ s
+    → ((i : ℕ) → (place ≡ i → ⊥) → slice_get new i ≡ slice_get docs i) → (rows : List (ℕ × ℕ)) → AllBelow s rows → ArePlaces (length docs) rows
+    → named (keys_of docs) (live new rows) ≡ feed_without id (named (keys_of docs) (live docs rows))
+moved_rows docs new place s id was k once at now latest others [] below places = refl
+moved_rows docs new place s id was k once at now latest others (e ∷ rows) below places =
+    let ids = keys_of docs in
+    let rest = moved_rows docs new place s id was k once at now latest others rows (λ x m. below x (inr m)) (λ x m. places x (inr m)) in
+    elim (cases_Bool (place == e.1)) [
+      | inl hit ↦
+          let same : place ≡ e.1 = grind (arith, hit) in
+          let early : e.0 < s = below e (inl refl) in
+          let dead : is_live new e ≡ false = dead_at new e.0 e.1 id k (subst (λ i. slice_get new i ≡ Some (id, k)) same now) (omega (arith, early, latest)) in
+          let its : id_at ids e.1 ≡ id = subst (λ i. id_at ids i ≡ id) same (id_is_at docs place id was at) in
+          ap (λ b. named ids (cond b (e ∷ live new rows) (live new rows))) dead
+          ∙ rest
+          ∙ sym (cond_both (is_live docs e) (e ∷ live docs rows) (live docs rows) (λ l. feed_without id (named ids l) ≡ feed_without id (named ids (live docs rows)))
+          (λ _. ap (λ b. cond (not b) ((e.0, id_at ids e.1) ∷ feed_without id (named ids (live docs rows))) (feed_without id (named ids (live docs rows)))) (ap (λ (q : Id). bytes_eq q id) its ∙ id_same id))
+          (λ _. refl))
+      | inr miss ↦
+          let apart : place ≡ e.1 → ⊥ = λ same. both_ways _ miss (grind (arith, same)) in
+          let differ : bytes_eq (id_at ids e.1) id ≡ false = apart_at docs place e.1 id was once at (places e (inl refl)) apart in
+          ap (λ b. named ids (cond b (e ∷ live new rows) (live new rows))) (live_same docs new e (others e.1 apart))
+          ∙ kept_row id ids e (live new rows) (live docs rows) (is_live docs e) differ rest
+    ]
+
+-- a write to the document at a place moves it to the end of the feed
+pub moved_feed : (docs new : List (Id × Kept)) (before middle after : List (ℕ × ℕ)) (s place : ℕ) (id : Id) (was k : Kept)
+    → IsDistinct bytes_eq (keys_of docs) → slice_get docs place ≡ Some (id, was) → new ≡ set_value_at docs place k → keys_of new ≡ keys_of docs → k.seq ≡ s
+    → middle ≡ before ++ (s, place) ∷ [] → after ≡ swept new middle → AreRows (length docs) s before
+    → feed_of new after ≡ feed_without id (feed_of docs before) ++ (s, id) ∷ []
+moved_feed docs new before middle after s place id was k once at written keys latest longer left rows =
+    let ids = keys_of docs in
+    let now : slice_get new place ≡ Some (id, k) = ap (λ (d : List (Id × Kept)). slice_get d place) written ∙ get_set docs place id was k at in
+    ap (feed_of new) left
+    ∙ feed_swept new middle
+    ∙ ap (feed_of new) longer
+    ∙ ap (λ l. named l (live new (before ++ (s, place) ∷ []))) keys
+    ∙ ap (named ids) (live_push new before s place (live_at new s place id k now latest))
+    ∙ named_append ids (live new before) s place
+    ∙ (λ j. moved_rows docs new place s id was k once at now latest (λ i apart. ap (λ (d : List (Id × Kept)). slice_get d i) written ∙ get_set_apart docs place i k apart) before rows.below rows.places j ++ (s, id_is_at docs place id was at j) ∷ [])
+
+-- a document that is new stands behind the others, in the table and in the index
+pub added_feed : (docs new : List (Id × Kept)) (before after : List (ℕ × ℕ)) (s : ℕ) (id : Id) (k : Kept)
+    → new ≡ docs ++ (id, k) ∷ [] → k.seq ≡ s → after ≡ before ++ (s, length docs) ∷ [] → ArePlaces (length docs) before
+    → feed_of new after ≡ feed_of docs before ++ (s, id) ∷ []
+added_feed docs new before after s id k grown latest longer places =
+    let ids = keys_of docs in
+    let size : length ids ≡ length docs = length-keys_of docs in
+    let all = docs ++ (id, k) ∷ [] in
+    (λ j. feed_of (grown j) (longer j))
+    ∙ ap (λ l. named l (live all (before ++ (s, length docs) ∷ []))) (keys_append docs id k)
+    ∙ ap (named (ids ++ id ∷ [])) (live_push all before s (length docs) (live_at all s (length docs) id k (slice_get-last docs (id, k)) latest) ∙ (λ j. live_more docs (id, k) before places j ++ (s, sym size j) ∷ []))
+    ∙ named_append (ids ++ id ∷ []) (live docs before) s (length ids)
+    ∙ (λ j. named_more ids id (live docs before) (subst (λ n. ArePlaces n (live docs before)) (sym size) (places_filter (length docs) (is_live docs) before places)) j ++ (s, id_last ids id j) ∷ [])
 
 -- an id that the table hasn't goes last
 pub inserted : (docs : List (Id × Kept)) (id : Id) (k : Kept) → found docs id ≡ None → insert_entry bytes_eq docs id k ≡ docs ++ (id, k) ∷ []

@@ -1,13 +1,10 @@
 -- Rising sequences of an index.
-use Rattle.std.proofs.Common.{◌≡◌, ◌⊎◌, ℕ, ◌<◌, ◌≤◌, List, [], ◌∷◌, ◌++◌, Bool, map, sym, ap, ◌∙◌, arith, inl, inr}
-use Rattle.std.proofs.lemmas.Bool.{cond_both, both_ways}
-use Rattle.std.specs.Ordering.{nat_cmp}
-use Rattle.std.specs.BTreeMap.{is_at}
-use Rattle.std.specs.Map.{remove_entry}
+use Rattle.std.proofs.Common.{◌≡◌, ◌⊎◌, ℕ, ◌<◌, ◌≤◌, List, [], ◌∷◌, ◌++◌, Bool, true, map, ap, ◌∙◌, arith, inl, inr}
+use Rattle.std.specs.Prelude.{filter}
+use Rattle.std.proofs.lemmas.Bool.{cond_both}
 use Rattle.couch_base.specs.Lists.{Among, Rises}
 use Rattle.couch_base.specs.Database.{Id}
 use Rattle.couch_base.specs.Stored.{AllBelow}
-use Rattle.couch_base.proofs.Found.{seq_is, seq_same}
 
 -- the sequences of an index rise
 abbrev pub Rising : ℕ → List (ℕ × Id) → ℕ → Type 0
@@ -41,12 +38,12 @@ pub rises_lower : (lo k : ℕ) (ns : List ℕ) (hi : ℕ) → lo < k → Rises k
 rises_lower lo k [] hi l r = let a : k ≤ hi = r in omega (arith, l, a)
 rises_lower lo k (n ∷ ns) hi l r = let a : k < n = r.0 in (omega (arith, l, a), r.1)
 
-pub rising_remove : (t : ℕ → Bool) (lo : ℕ) (index : List (ℕ × Id)) (hi : ℕ) → Rising lo index hi → Rising lo (remove_entry t index) hi
-rising_remove t lo [] hi r = r
-rising_remove t lo (e ∷ es) hi r =
-    cond_both (t e.0) es (e ∷ remove_entry t es) (λ l. Rising lo l hi)
-    (λ _. rises_lower lo e.0 (map (λ e. e.0) es) hi r.0 r.1)
-    (λ _. (r.0, rising_remove t e.0 es hi r.1))
+pub rising_filter : (p : ℕ × Id → Bool) (lo : ℕ) (index : List (ℕ × Id)) (hi : ℕ) → Rising lo index hi → Rising lo (filter p index) hi
+rising_filter p lo [] hi r = r
+rising_filter p lo (e ∷ es) hi r =
+    cond_both (p e) (e ∷ filter p es) (filter p es) (λ l. Rising lo l hi)
+    (λ _. (r.0, rising_filter p e.0 es hi r.1))
+    (λ _. rises_lower lo e.0 (map (λ e. e.0) (filter p es)) hi r.0 (rising_filter p e.0 es hi r.1))
 
 -- ---- members
 
@@ -56,20 +53,10 @@ among_append x y [] (inr m) = absurd m
 among_append x y (z ∷ xs) (inl s) = inl (inl s)
 among_append x y (z ∷ xs) (inr m) = elim (among_append x y xs m) [ inl k ↦ inl (inr k) | inr s ↦ inr s ]
 
-pub among_remove : (t : ℕ → Bool) (index : List (ℕ × Id)) (x : ℕ × Id) → Among x (remove_entry t index) → Among x index
-among_remove t [] x m = m
-among_remove t (e ∷ es) x m =
-    cond_both (t e.0) es (e ∷ remove_entry t es) (λ l. Among x l → Among x (e ∷ es))
-    (λ _ k. inr k)
-    (λ _ k. elim k [ inl s ↦ inl s | inr n ↦ inr (among_remove t es x n) ]) m
-
--- what is taken out is gone
-pub apart_remove : (s lo : ℕ) (index : List (ℕ × Id)) (hi : ℕ) (x : ℕ × Id) → Rising lo index hi → Among x (remove_entry (is_at (nat_cmp s)) index) → x.0 ≡ s → ⊥
-apart_remove s lo [] hi x r m same = m
-apart_remove s lo (e ∷ es) hi x r m same =
-    cond_both (is_at (nat_cmp s) e.0) es (e ∷ remove_entry (is_at (nat_cmp s)) es) (λ l. Among x l → ⊥)
-    (λ hit k. let a : s ≡ e.0 = seq_is s e.0 hit in let b : e.0 < x.0 = member_over e.0 es hi x r.1 k in omega (arith, a, b, same))
-    (λ miss k. elim k [
-      | inl at ↦ both_ways (is_at (nat_cmp s) e.0) miss (ap (is_at (nat_cmp s)) (sym (ap (λ (p : ℕ × Id). p.0) at) ∙ same) ∙ seq_same s)
-      | inr n ↦ apart_remove s e.0 es hi x r.1 n same
-    ]) m
+-- what passes a test
+pub among_filter : {X : Type 0} (p : X → Bool) (xs : List X) (x : X) → Among x (filter p xs) → (Among x xs) × (p x ≡ true)
+among_filter p [] x m = absurd m
+among_filter p (y ∷ ys) x m =
+    cond_both (p y) (y ∷ filter p ys) (filter p ys) (λ l. Among x l → (Among x (y ∷ ys)) × (p x ≡ true))
+    (λ hit k. elim k [ inl same ↦ (inl same, ap p same ∙ hit) | inr n ↦ let w = among_filter p ys x n in (inr w.0, w.1) ])
+    (λ _ k. let w = among_filter p ys x k in (inr w.0, w.1)) m

@@ -1,9 +1,10 @@
--- A database as it is kept: a table of documents by id, and an index of their places by sequence.
-use Rattle.std.specs.Prelude.{◌≡◌, ℕ, ◌<◌, ◌≤◌, List, [], ◌∷◌, ◌++◌, cond, map, length, slice_get, unwrap_or, Option, Some, None, IfSome}
+-- A database as it is kept: a table of documents by id, and an index of their places by sequence. Each change puts a row
+-- at the end of the index. A row is live while its document has no later change; the live rows are the feed.
+use Rattle.std.specs.Prelude.{◌≡◌, ℕ, ◌+◌, ◌/◌, ◌<◌, ◌≤◌, ◌==◌, nat_lt, nat_le, Bool, false, not, List, [], ◌∷◌, ◌++◌, cond, if◌then◌else◌, map, filter, length, slice_get, unwrap_or, Option, Some, None, IfSome}
 use Rattle.std.specs.Option.{option_map, option_map_or}
 use Rattle.std.specs.Ordering.{nat_cmp}
 use Rattle.std.specs.BTreeMap.{is_at}
-use Rattle.std.specs.Map.{keys_of, lookup, remove_entry}
+use Rattle.std.specs.Map.{keys_of, lookup}
 use Rattle.std.specs.Str.{bytes_eq}
 use Rattle.rev_tree.specs.Tree.{TreeValue, IsTree, no_revisions}
 use Rattle.couch_base.specs.Lists.{Among, Rises}
@@ -19,9 +20,28 @@ id_at ids i = unwrap_or (slice_get ids i) []
 abbrev pub named : List Id → List (ℕ × ℕ) → List (ℕ × Id)
 named ids index = map (λ e. (e.0, id_at ids e.1)) index
 
--- the same, of a table's ids
+-- whether the document at a row's place has its latest change at the row's sequence
+abbrev pub is_live : List (Id × Kept) → ℕ × ℕ → Bool
+is_live docs e = option_map_or (λ (d : Id × Kept). d.1.seq == e.0) (slice_get docs e.1) false
+
+abbrev pub live : List (Id × Kept) → List (ℕ × ℕ) → List (ℕ × ℕ)
+live docs rows = filter (is_live docs) rows
+
+-- the live rows, with a table's ids
 abbrev pub feed_of : List (Id × Kept) → List (ℕ × ℕ) → List (ℕ × Id)
-feed_of docs index = named (keys_of docs) index
+feed_of docs rows = named (keys_of docs) (live docs rows)
+
+-- the rows above a sequence
+abbrev pub above : ℕ → List (ℕ × ℕ) → List (ℕ × ℕ)
+above a rows = filter (λ e. nat_lt a e.0) rows
+
+-- the live rows at or under a sequence
+abbrev pub live_upto : List (Id × Kept) → ℕ → List (ℕ × ℕ) → List (ℕ × ℕ)
+live_upto docs b rows = filter (λ e. nat_le e.0 b) (live docs rows)
+
+-- the rows that a change leaves: all of them, or, where they are more than twice the documents, the live ones
+abbrev pub swept : List (Id × Kept) → List (ℕ × ℕ) → List (ℕ × ℕ)
+swept docs rows = if nat_lt (length docs) (length rows / 2) then live docs rows else rows
 
 -- each place of the index is one of so many
 abbrev pub ArePlaces : ℕ → List (ℕ × ℕ) → Type 0
@@ -60,10 +80,25 @@ pub record IsTable (g : Id → Option Kept) (index : List (ℕ × Id)) (hi : ℕ
   pub indexed : (id : Id) (k : Kept) → g id ≡ Some k → at_seq k.seq index ≡ Some id
   pub trees : (id : Id) (k : Kept) → g id ≡ Some k → IsDocumentTree k.tree
 
+-- each sequence of the index is below s
+abbrev pub AllBelow : {X : Type 0} → ℕ → List (ℕ × X) → Type 0
+AllBelow {X} s index = (e : ℕ × X) → Among e index → e.0 < s
+
+-- the sequences of rows rise
+abbrev pub InOrder : List (ℕ × ℕ) → Type 0
+InOrder [] = Unit {0}
+InOrder (e ∷ rows) = ((x : ℕ × ℕ) → Among x rows → e.0 < x.0) × InOrder rows
+
+-- the rows of an index: each has one of n places, and their sequences rise and are below s
+pub record AreRows (n s : ℕ) (rows : List (ℕ × ℕ)) : Type 0 where
+  pub places : ArePlaces n rows
+  pub below : AllBelow s rows
+  pub order : InOrder rows
+
 -- what holds of a table and the index of its places
 pub record IsKept (docs : List (Id × Kept)) (index : List (ℕ × ℕ)) (hi : ℕ) : Type 0 where
   pub table : IsTable (found docs) (feed_of docs index) hi
-  pub places : ArePlaces (length docs) index
+  pub rows : AreRows (length docs) (hi + 1) index
 
 -- the place of an id's document, where it is there
 pub record IsPlace (docs : List (Id × Kept)) (id : Id) (place : Option ℕ) : Type 0 where
@@ -74,15 +109,15 @@ pub record IsPlace (docs : List (Id × Kept)) (id : Id) (place : Option ℕ) : T
 abbrev pub Sets : (Id → Option Kept) → (Id → Option Kept) → Id → Kept → Type 0
 Sets g h id k = (q : Id) → h q ≡ cond (bytes_eq id q) (Some k) (g q)
 
--- each sequence of the index is below s
-abbrev pub AllBelow : {X : Type 0} → ℕ → List (ℕ × X) → Type 0
-AllBelow {X} s index = (e : ℕ × X) → Among e index → e.0 < s
+-- the feed without a document
+abbrev pub feed_without : Id → List (ℕ × Id) → List (ℕ × Id)
+feed_without id index = filter (λ e. not (bytes_eq e.1 id)) index
 
 -- a write of a tree at a new sequence: to a document that is there,
 pub record Moves (old new : List (Id × Kept)) (before after : List (ℕ × Id)) (id : Id) (tree : TreeValue) (s : ℕ)
     (was : Kept) : Type 0 where
   pub sets : Sets (found old) (found new) id (record { seq = s; tree = tree })
-  pub index : after ≡ remove_entry (is_at (nat_cmp was.seq)) (before ++ (s, id) ∷ [])
+  pub index : after ≡ feed_without id before ++ (s, id) ∷ []
   pub lawful : IsTree tree
 
 -- and to one that is new

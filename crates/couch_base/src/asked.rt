@@ -4,13 +4,14 @@ ghost use Rattle.std.specs.Prelude.{◌≡◌, IfOk, IfErr};
 use crate::fault::BaseFault;
 use doc_json::DocId;
 use rev_core::Rev;
+use rev_tree::Revs;
 use std::alloc::Global;
 use std::marker::Model;
 
 /// Revisions that are asked of one document: at least one, none twice.
 pub struct Wanted {
     id: DocId,
-    revs: Vec<Rev>,
+    revs: Revs,
 }
 
 // By hand, so that it is proved once: docs/DECISIONS.md, "Letting values go".
@@ -25,15 +26,15 @@ impl Model for Wanted {
 
     ghost Value = { WantedValue };
 
-    ghost view = { λ w. record { id = w.id; revs = w.revs.items } };
+    ghost view = { λ w. record { id = w.id; revs = w.revs } };
 }
 
 impl Wanted {
     ghost use Rattle.couch_base.specs.Messages.{WantedValue};
 
     /// What is asked, of these parts.
-    pub(crate) fn new(id: DocId, revs: Vec<Rev>) -> Wanted
-        ensures { result ≡ record { id = id; revs = revs.items } }
+    pub(crate) fn new(id: DocId, revs: Revs) -> Wanted
+        ensures { result ≡ record { id = id; revs = revs } }
     {
         Wanted { id, revs }
     }
@@ -49,7 +50,7 @@ impl Wanted {
     pub fn revs(&self) -> &[Rev]
         ensures { result.now ≡ self.now.revs }
     {
-        &self.revs
+        self.revs.as_slice()
     }
 
     /// The same again. The only error is `Memory`.
@@ -60,7 +61,7 @@ impl Wanted {
         let Ok(id) = self.id.copy(alloc) else {
             return Err(BaseFault::Memory);
         };
-        match Vec::from_slice(alloc, &self.revs) {
+        match self.revs.copy(alloc) {
             Ok(revs) => Ok(Wanted { id, revs }),
             Err(_) => Err(BaseFault::Memory),
         }

@@ -13,7 +13,7 @@ use crate::row::Row;
 use crate::window::Window;
 use doc_json::{Body, Doc, DocId};
 use rev_core::Rev;
-use rev_tree::Tree;
+use rev_tree::{Revs, Tree};
 use std::alloc::Global;
 
 impl Database {
@@ -126,12 +126,12 @@ impl Database {
     }
 
     /// The revisions that are not in the tree of a document.
-    fn missing(&self, alloc: Global, id: &DocId, revs: &[Rev]) -> Result<Vec<Rev>, BaseFault>
-        ensures missing { IfOk result (λ v. v.items ≡ missing (tree_of self.now.docs id.now) revs.now) }
+    fn missing(&self, alloc: Global, id: &DocId, revs: &[Rev]) -> Result<Revs, BaseFault>
+        ensures missing { IfOk result (λ r. r ≡ missing (tree_of self.now.docs id.now) revs.now) }
         ensures err { IfErr result (λ e. e ≡ BaseFault.Memory) }
     {
         let Some(tree) = self.tree(id) else {
-            return match Vec::from_slice(alloc, revs) {
+            return match Revs::from_slice(alloc, revs) {
                 Ok(missing) => Ok(missing),
                 Err(_) => Err(BaseFault::Memory),
             };

@@ -4,6 +4,7 @@ ghost use Rattle.std.specs.Prelude.{◌≡◌, IfOk, IfErr};
 use crate::fault::BaseFault;
 use doc_json::DocId;
 use rev_core::Rev;
+use rev_tree::Revs;
 use std::alloc::Global;
 use std::marker::Model;
 
@@ -11,7 +12,7 @@ use std::marker::Model;
 pub struct Row {
     seq: u64,
     id: DocId,
-    leaves: Vec<Rev>,
+    leaves: Revs,
 }
 
 // By hand, so that it is proved once: docs/DECISIONS.md, "Letting values go".
@@ -30,15 +31,15 @@ impl Model for Row {
 
     ghost Value = { RowValue };
 
-    ghost view = { λ r. record { seq = r.seq; id = r.id; leaves = r.leaves.items } };
+    ghost view = { λ r. record { seq = r.seq; id = r.id; leaves = r.leaves } };
 }
 
 impl Row {
     ghost use Rattle.couch_base.specs.Feed.{RowValue};
 
     /// The row of these parts.
-    pub(crate) fn new(seq: u64, id: DocId, leaves: Vec<Rev>) -> Row
-        ensures { result ≡ record { seq = seq; id = id; leaves = leaves.items } }
+    pub(crate) fn new(seq: u64, id: DocId, leaves: Revs) -> Row
+        ensures { result ≡ record { seq = seq; id = id; leaves = leaves } }
     {
         Row { seq, id, leaves }
     }
@@ -61,7 +62,7 @@ impl Row {
     pub fn leaves(&self) -> &[Rev]
         ensures { result.now ≡ self.now.leaves }
     {
-        &self.leaves
+        self.leaves.as_slice()
     }
 
     /// The same row. The only error is `Memory`.
@@ -72,7 +73,7 @@ impl Row {
         let Ok(id) = self.id.copy(alloc) else {
             return Err(BaseFault::Memory);
         };
-        match Vec::from_slice(alloc, &self.leaves) {
+        match self.leaves.copy(alloc) {
             Ok(leaves) => Ok(Row {
                 seq: self.seq,
                 id,

@@ -10,7 +10,7 @@ pub returns-in-Ok-leaves-clause-row : goal.returns-in-Ok-leaves-clause-row
 returns-in-Ok-leaves-clause-row c =
     let docs = c.args.docs.now.entries in
     let here = id_is_at docs c.args.place c.in-Some.id.now c.in-Some.kept.now (sym c.in-Some.ensures.entry) in
-    let all = c.in-Ok-leaves.ensures.leaves ∙ ap (λ o. leaves (tree_at o)) (sym c.in-Some.ensures.value) in
+    let all = c.in-Ok-leaves.ensures ∙ ap (λ o. leaves (tree_at o)) (sym c.in-Some.ensures.value) in
     c.new.ensures
     ∙ (λ i. let r : RowValue = record { seq = c.args.seq; id = c.in-Ok.ensures.copied i; leaves = all i } in r)
     ∙ ap (λ (q : Id). let r : RowValue = record { seq = c.args.seq; id = q; leaves = leaves (tree_at (found docs q)) } in r) (sym here)

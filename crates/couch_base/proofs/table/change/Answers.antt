@@ -1,17 +1,16 @@
-use Rattle.std.proofs.Common.{◌≡◌, ◌∙◌, length, sym, ap, subst}
-use Rattle.std.specs.Map.{remove_entry}
-use Rattle.std.specs.BTreeMap.{is_at}
-use Rattle.std.specs.Ordering.{nat_cmp}
+use Rattle.std.proofs.Common.{◌≡◌, ℕ, List, ◌+◌, ◌-◌, ◌<◌, ◌++◌, ◌∷◌, [], ◌∙◌, length, take, refl, sym, ap, subst, arith}
+use Rattle.std.proofs.Math.Seq.{take-append_seam}
+use Rattle.std.proofs.lemmas.List.{length-append}
 use Rattle.std.proofs.lemmas.Cmp.{nat_list_eq_equiv}
 use Rattle.indexmap.specs.IndexMap.{set_value_at}
 use Rattle.indexmap.proofs.CallerLemmas.{keys-with_value_at, index_map_len-with_value_at, updates-with_value_at}
 use Rattle.rev_tree.specs.Tree.{TreeValue, IsTree, merged}
 use Rattle.couch_base.specs.Database.{Id}
-use Rattle.couch_base.specs.Stored.{found, Sets}
+use Rattle.couch_base.specs.Stored.{found, Sets, AreRows}
 use Rattle.couch_base.specs.declared.kept.Kept.{Kept}
 use Rattle.couch_base.specs.ListLaws.{some_is}
-use Rattle.couch_base.proofs.Index.{remove_last}
-use Rattle.couch_base.proofs.Naming.{set_same, moved_feed, moved_places}
+use Rattle.couch_base.proofs.Naming.{set_same, moved_feed}
+use Rattle.couch_base.proofs.Rows.{rows_push, rows_swept}
 use Rattle.couch_base.proofs.table.change.Goals as goal
 
 pub merge_change-requires : goal.merge_change-requires
@@ -25,7 +24,15 @@ returns-in-Err-clause-docs c =
 
 pub returns-in-Err-clause-index : goal.returns-in-Err-clause-index
 returns-in-Err-clause-index c =
-    c.remove-in-Err.ensures.entries ∙ ap (remove_entry (is_at (nat_cmp c.args.next))) c.in_ok-note.ensures.ok ∙ remove_last c.args.next c.args.index.now.entries c.args.place c.requires.index
+    let rows : List (ℕ × ℕ) = c.args.index.now.items in
+    let row : List (ℕ × ℕ) = (c.args.next, c.args.place) ∷ [] in
+    let more : c.note.new.index.items ≡ rows ++ row = c.in_ok-note.ensures.ok in
+    let long : c.note.new.index.len ≡ length c.note.new.index.items = c.note.new.index.ok.0 in
+    let size : length c.note.new.index.items ≡ length rows + 1 = ap length more ∙ length-append rows row in
+    let same : c.note.new.index.len - 1 ≡ length rows = omega (arith, long, size) in
+    c.pop-row.ensures.rest
+    ∙ (λ j. take (same j) (more j))
+    ∙ take-append_seam rows row
 
 pub returns-in-Ok-clause-ok : goal.returns-in-Ok-clause-ok
 returns-in-Ok-clause-ok c = λ id was is.
@@ -37,14 +44,17 @@ returns-in-Ok-clause-ok c = λ id was is.
     record {
       sets = subst (λ (t : TreeValue). Sets (found docs.entries) (found (set_value_at docs.entries c.args.place new)) id (record { seq = c.args.next; tree = t })) made
           (updates-with_value_at docs c.args.place new nat_list_eq_equiv c.pair_mut-kept.ensures.unique id was is).0;
-      index = moved_feed docs.entries (set_value_at docs.entries c.args.place new) c.args.index.now.entries c.note.new.index.entries c.remove.new.self.entries c.args.next c.args.place kept.seq id was
-          (keys-with_value_at docs c.args.place new) c.in_ok-note.ensures.ok c.remove.ensures.entries (ap (λ (k : Kept). k.seq) here) is;
+      index = moved_feed docs.entries (set_value_at docs.entries c.args.place new) c.args.index.now.items c.note.new.index.items c.sweep.new.index.items c.args.next c.args.place id was new
+          c.pair_mut-kept.ensures.unique is refl (keys-with_value_at docs c.args.place new) refl c.in_ok-note.ensures.ok c.sweep.ensures c.requires.rows;
       lawful = subst IsTree made c.in-Ok.ensures.tree;
     }
 
-pub returns-in-Ok-clause-places : goal.returns-in-Ok-clause-places
-returns-in-Ok-clause-places c =
+pub returns-in-Ok-clause-rows : goal.returns-in-Ok-clause-rows
+returns-in-Ok-clause-rows c =
     let docs = c.args.docs.now in
     let new : Kept = record { seq = c.args.next; tree = c.merge_change.new.self } in
-    moved_places (length docs.entries) (length (set_value_at docs.entries c.args.place new)) c.args.index.now.entries c.note.new.index.entries c.remove.new.self.entries c.args.next c.args.place c.pair_mut-kept.result.1.now.seq
-    (index_map_len-with_value_at docs c.args.place new) c.in_ok-note.ensures.ok c.remove.ensures.entries c.requires.places c.requires.within
+    let size : length (set_value_at docs.entries c.args.place new) ≡ length docs.entries = index_map_len-with_value_at docs c.args.place new in
+    let within : c.args.place < length docs.entries = c.requires.within in
+    let all = rows_push (length docs.entries) (length (set_value_at docs.entries c.args.place new)) c.args.next c.args.place c.args.index.now.items c.requires.rows (omega (arith, size)) (omega (arith, size, within)) in
+    subst (AreRows (length (set_value_at docs.entries c.args.place new)) (c.args.next + 1)) (sym c.sweep.ensures)
+    (rows_swept (set_value_at docs.entries c.args.place new) (length (set_value_at docs.entries c.args.place new)) (c.args.next + 1) c.note.new.index.items (subst (AreRows (length (set_value_at docs.entries c.args.place new)) (c.args.next + 1)) (sym c.in_ok-note.ensures.ok) all))

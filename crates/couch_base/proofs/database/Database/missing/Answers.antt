@@ -9,4 +9,4 @@ pub returns-in-Ok-clause-missing : goal.returns-in-Ok-clause-missing
 returns-in-Ok-clause-missing c =
     let revs = c.args.revs.now in
     let gone = sym c.tree.ensures.value ∙ ap option_copied c.in_default.is in
-    c.in-Ok.ensures.items ∙ sym (missing-no_revisions revs) ∙ sym (ap (λ o. missing (unwrap_or o no_revisions) revs) gone)
+    c.in-Ok.ensures ∙ sym (missing-no_revisions revs) ∙ sym (ap (λ o. missing (unwrap_or o no_revisions) revs) gone)

@@ -19,4 +19,4 @@ returns-in_default-clause-ok c =
 pub add_documents-requires-clause-leaves : goal.add_documents-requires-clause-leaves
 add_documents-requires-clause-leaves c =
     let t = c.in-Some.tree.now in
-    ap (list_all (is_leaf t)) (c.deref.ensures.value ∙ c.in-Ok.ensures.leaves) ∙ all_leaves t c.revs.result.now
+    ap (list_all (is_leaf t)) (c.deref.ensures ∙ c.in-Ok.ensures) ∙ all_leaves t c.revs.result.now

@@ -1,0 +1,23 @@
+use Rattle.std.proofs.Common.{◌≡◌, ℕ, List, ◌-◌, ◌≤◌, length, take, drop, of_calls, rules, sym, ap, ◌∙◌, subst, arith, length-drop}
+use Rattle.std.specs.Prelude.{nat_le, true, false}
+use Rattle.std.specs.List.Sorted.{IsPartitionPoint}
+use Rattle.std.proofs.lemmas.Fn.{always_returns_same}
+use Rattle.std.proofs.lemmas.List.{take_all}
+use Rattle.std.proofs.lemmas.List.Sorted.{IsPartitionedBy-leb}
+use Rattle.couch_base.specs.Stored.{above, InOrder}
+use Rattle.couch_base.proofs.Rows.{order_by, above_from}
+use Rattle.couch_base.proofs.paging.rows_above.Goals as goal
+
+pub returns : goal.returns
+returns c =
+    let since = c.args.since in
+    let start = c.partition_point-start.result in
+    let rows : List (ℕ × ℕ) = c.deref.result.now in
+    let order : InOrder rows = subst InOrder (sym c.deref.ensures.value) c.requires in
+    let point : IsPartitionPoint (λ e. nat_le e.0 since ≡ true) (λ e. nat_le e.0 since ≡ false) rows start = c.partition_point-start.ensures.partitioned (λ e. nat_le e.0 since) (always_returns_same _ _ _ (λ a r f k. search (rules, of_calls))) (IsPartitionedBy-leb (λ e. e.0) rows since (order_by rows order)) in
+    let all : List (ℕ × ℕ) = c.deref-2.result.now in
+    let size : length (drop start all) ≡ length all - start = length-drop start all in
+    take_all (length all - start) (drop start all) (omega (arith, size))
+    ∙ ap (drop start) (c.deref-2.ensures.value ∙ sym c.deref.ensures.value)
+    ∙ above_from since rows start point
+    ∙ ap (above since) c.deref.ensures.value
