@@ -36,17 +36,17 @@ pub(crate) fn knows_edges(
         (λ c. first_contradiction (tree_of nodes.now).parents (edges_of revs.now) ≡ Some c) }
 {
     let mut all = true;
-    let mut place = place_in(nodes, places, revs[0]);
+    let mut place = place_in(nodes, places, &revs[0]);
     for i in 1..revs.len() {
         let given = revs[i];
         match parent_at(nodes, place) {
             Some(parent) => {
                 let known = node_at(nodes, parent).rev();
-                if known != given {
+                if *known != given {
                     let child = revs[i - 1];
                     return Err(Contradiction {
                         child,
-                        known,
+                        known: *known,
                         given,
                     });
                 }
@@ -54,7 +54,7 @@ pub(crate) fn knows_edges(
             }
             None => {
                 all = false;
-                place = place_in(nodes, places, given);
+                place = place_in(nodes, places, &given);
             }
         }
     }
@@ -151,7 +151,7 @@ fn add(
     ensures capacity_of_index { length places.old.entries + places.old.spare ≤ length places.new.entries +
         places.new.spare }
 {
-    if let Some(place) = place_near(nodes, places, near, rev) {
+    if let Some(place) = place_near(nodes, places, near, &rev) {
         return place;
     }
     let place = nodes.as_slice().len();
@@ -161,14 +161,14 @@ fn add(
 }
 
 /// The place of a revision, which is looked for at one place first.
-fn place_near(nodes: &[Node], places: &Places, near: Option<usize>, rev: Rev) -> Option<usize>
+fn place_near(nodes: &[Node], places: &Places, near: Option<usize>, rev: &Rev) -> Option<usize>
     requires index { places.now.entries ≡ index_for (revs_in nodes.now) }
     requires linked { IsLinked nodes.now }
     requires near { IfSome near (λ i. i < length nodes.now) }
-    ensures { result ≡ place_of nodes.now rev }
+    ensures { result ≡ place_of nodes.now rev.now }
 {
     if let Some(place) = near {
-        if node_at(nodes, place).is_of(&rev) {
+        if node_at(nodes, place).is_of(rev) {
             return Some(place);
         }
     }

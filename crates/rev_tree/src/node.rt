@@ -66,10 +66,10 @@ impl Node {
     }
 
     /// The revision.
-    pub(crate) fn rev(&self) -> Rev
-        ensures { result ≡ self.now.rev }
+    pub(crate) fn rev(&self) -> &Rev
+        ensures { result.now ≡ self.now.rev }
     {
-        self.rev
+        &self.rev
     }
 
     /// Whether it is the node of a revision.

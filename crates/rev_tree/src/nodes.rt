@@ -25,24 +25,24 @@ pub(crate) fn node_at(nodes: &[Node], place: usize) -> &Node
 }
 
 /// The node of a revision.
-pub(crate) fn node_in<'a>(nodes: &'a [Node], places: &Places, rev: Rev) -> Option<&'a Node>
+pub(crate) fn node_in<'a>(nodes: &'a [Node], places: &Places, rev: &Rev) -> Option<&'a Node>
     requires index { places.now.entries ≡ index_for (revs_in nodes.now) }
     requires linked { IsLinked nodes.now }
-    ensures { option_copied result ≡ node_of nodes.now rev }
+    ensures { option_copied result ≡ node_of nodes.now rev.now }
 {
     let place = place_in(nodes, places, rev)?;
     Some(node_at(nodes, place))
 }
 
 /// The place of a revision.
-pub(crate) fn place_in(nodes: &[Node], places: &Places, rev: Rev) -> Option<usize>
+pub(crate) fn place_in(nodes: &[Node], places: &Places, rev: &Rev) -> Option<usize>
     requires index { places.now.entries ≡ index_for (revs_in nodes.now) }
     requires linked { IsLinked nodes.now }
-    ensures { result ≡ place_of nodes.now rev }
+    ensures { result ≡ place_of nodes.now rev.now }
 {
     if nodes.len() > MOST_WALKED {
         let place = places.get(mark_of(rev))?;
-        if node_at(nodes, place).is_of(&rev) {
+        if node_at(nodes, place).is_of(rev) {
             return Some(place);
         }
         // Another revision has the same mark.
@@ -51,8 +51,8 @@ pub(crate) fn place_in(nodes: &[Node], places: &Places, rev: Rev) -> Option<usiz
 }
 
 /// A number of 64 bits, which two revisions hardly ever share.
-fn mark_of(rev: Rev) -> u64
-    ensures { result ≡ mark_of rev }
+fn mark_of(rev: &Rev) -> u64
+    ensures { result ≡ mark_of rev.now }
 {
     let mut hasher = FoldHasher::default();
     rev.hash(&mut hasher);
@@ -60,11 +60,11 @@ fn mark_of(rev: Rev) -> u64
 }
 
 /// The place of a revision, for which the nodes are walked.
-fn walked_to(nodes: &[Node], rev: Rev) -> Option<usize>
-    ensures { result ≡ place_of nodes.now rev }
+fn walked_to(nodes: &[Node], rev: &Rev) -> Option<usize>
+    ensures { result ≡ place_of nodes.now rev.now }
 {
     for i in 0..nodes.len() {
-        if nodes[i].is_of(&rev) {
+        if nodes[i].is_of(rev) {
             return Some(i);
         }
     }

@@ -70,23 +70,23 @@ impl Tree {
         ensures found { result ≡ has self.now rev }
         ensures tree { IsTree self.now }
     {
-        node_in(&self.nodes, &self.places, rev).is_some()
+        node_in(&self.nodes, &self.places, &rev).is_some()
     }
 
     /// The parent of a revision, where one is known.
     pub fn parent_of(&self, rev: Rev) -> Option<Rev>
         ensures { result ≡ get self.now.parents rev }
     {
-        let node = node_in(&self.nodes, &self.places, rev)?;
+        let node = node_in(&self.nodes, &self.places, &rev)?;
         let parent = node.parent()?;
-        Some(node_at(&self.nodes, parent).rev())
+        Some(*node_at(&self.nodes, parent).rev())
     }
 
     /// What stands at a revision, where it is known.
     pub fn content(&self, rev: Rev) -> Option<&Content>
         ensures { option_copied result ≡ get self.now.contents rev }
     {
-        let node = node_in(&self.nodes, &self.places, rev)?;
+        let node = node_in(&self.nodes, &self.places, &rev)?;
         node.content()
     }
 
@@ -94,7 +94,7 @@ impl Tree {
     pub fn origin(&self, rev: Rev) -> Option<Origin>
         ensures { result ≡ get self.now.origins rev }
     {
-        let node = node_in(&self.nodes, &self.places, rev)?;
+        let node = node_in(&self.nodes, &self.places, &rev)?;
         Some(node.origin())
     }
 
@@ -102,7 +102,7 @@ impl Tree {
     pub fn is_leaf(&self, rev: Rev) -> bool
         ensures { result ≡ is_leaf self.now rev }
     {
-        let Some(node) = node_in(&self.nodes, &self.places, rev) else {
+        let Some(node) = node_in(&self.nodes, &self.places, &rev) else {
             return false;
         };
         !node.has_child()
@@ -122,7 +122,7 @@ impl Tree {
     pub fn ancestry(&self, alloc: Global, rev: Rev) -> Result<Ancestry, TreeFault>
         ensures { GivesUnlessMemory result (ancestry_answer self.now rev) }
     {
-        let Some(place) = place_in(&self.nodes, &self.places, rev) else {
+        let Some(place) = place_in(&self.nodes, &self.places, &rev) else {
             return Err(TreeFault::NoSuchRevision);
         };
         let revs = walk(alloc, &self.nodes, place)?;
@@ -136,7 +136,7 @@ impl Tree {
         let mut best: Option<Rev> = None;
         for node in &self.nodes {
             if !node.has_child() {
-                best = Some(self.better(best, node.rev()));
+                best = Some(self.better(best, *node.rev()));
             }
         }
         best
@@ -162,7 +162,7 @@ impl Tree {
                 if found.is_some() {
                     return None;
                 }
-                found = Some(node.rev());
+                found = Some(*node.rev());
             }
         }
         found
@@ -175,7 +175,7 @@ impl Tree {
         let mut found = Vec::with_capacity(alloc, self.leaf_count())?;
         for node in &self.nodes {
             if !node.has_child() {
-                found.push((is_deleted(node), node.rev()))?;
+                found.push((is_deleted(node), *node.rev()))?;
             }
         }
         found.sort_unstable_by(|a, b| a.0.cmp(&b.0).then(b.1.cmp(&a.1)));

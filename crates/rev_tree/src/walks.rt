@@ -28,7 +28,7 @@ pub(crate) fn walk(alloc: Global, nodes: &[Node], start: usize) -> Result<Vec<Re
     let mut at = start;
     'walk: loop {
         let node = node_at(nodes, at);
-        revs.push(node.rev())?;
+        revs.push(*node.rev())?;
         match node.parent() {
             Some(parent) => at = parent,
             None => break 'walk,
@@ -59,7 +59,7 @@ pub(crate) fn those_above(
     let mut told = asked(alloc, nodes, places, revs)?;
     let mut above = Vec::with_capacity(alloc, leaves.len())?;
     for leaf in leaves {
-        let Some(place) = place_in(nodes, places, *leaf) else {
+        let Some(place) = place_in(nodes, places, leaf) else {
             unreachable!()
         };
         if is_above(nodes, &mut told, place) {
@@ -82,7 +82,7 @@ fn asked(
 {
     let mut told = vec![in alloc; None; nodes.len()]?;
     for rev in revs {
-        if let Some(place) = place_in(nodes, places, *rev) {
+        if let Some(place) = place_in(nodes, places, rev) {
             told[place] = Some(true);
         }
     }

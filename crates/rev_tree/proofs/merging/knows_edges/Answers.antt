@@ -37,7 +37,7 @@ returns-then-ne-clause-contradiction c =
     let told = sym known ∙ ap (rev_at (revs_in nodes)) c.in-Some.is ∙ rev_at_place nodes c.in-Some.parent c.node_at.result.now c.node_at.ensures ∙ ap Some (sym c.rev-known.ensures) in
     c.loop-i.invariant.none
     ∙ contradiction_here m revs i a c.index-revs-i.result _ one c.loop-i-test.true is c.index-revs-i.is
-    (told_contradiction a c.index-revs-i.result (get m a) c.rev-known.result told (not_is _ _ c.ne.ensures ∙ ap not c.if-ne.true))
+    (told_contradiction a c.index-revs-i.result (get m a) c.rev-known.result.now told (not_is _ _ c.ne.ensures ∙ ap not c.if-ne.true))
 
 pub loop-i-preserved : goal.loop-i-preserved
 loop-i-preserved c =

@@ -4,12 +4,12 @@ use Rattle.rev_tree.proofs.Places.{place_known, place_unknown}
 use Rattle.rev_tree.proofs.nodes.node_in.Goals as goal
 
 pub node_at-requires : goal.node_at-requires
-node_at-requires c = (place_known c.args.nodes.now c.args.rev c.in_ok-place.place (sym c.place_in.ensures ∙ c.in_ok-place.was)).within
+node_at-requires c = (place_known c.args.nodes.now c.args.rev.now c.in_ok-place.place (sym c.place_in.ensures ∙ c.in_ok-place.was)).within
 
 pub returns : goal.returns
 returns c =
-    let f = place_known c.args.nodes.now c.args.rev c.in_ok-place.place (sym c.place_in.ensures ∙ c.in_ok-place.was) in
+    let f = place_known c.args.nodes.now c.args.rev.now c.in_ok-place.place (sym c.place_in.ensures ∙ c.in_ok-place.was) in
     sym c.node_at.ensures ∙ f.at ∙ sym f.found
 
 pub returns-in_err-place : goal.returns-in_err-place
-returns-in_err-place c = ap option_copied c.from_residual.ensures ∙ sym (place_unknown c.args.nodes.now c.args.rev (sym c.place_in.ensures ∙ c.in_err-place.was))
+returns-in_err-place c = ap option_copied c.from_residual.ensures ∙ sym (place_unknown c.args.nodes.now c.args.rev.now (sym c.place_in.ensures ∙ c.in_err-place.was))

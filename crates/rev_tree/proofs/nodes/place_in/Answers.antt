@@ -14,7 +14,7 @@ returns-in_err-place c =
     let index = c.requires.index ∙ index_many revs (omega (arith, c.if-nodes-gt-MOST_WALKED.true, length-revs_in c.args.nodes.now)) in
     let none = sym (ap (λ m. lookup (nat_eq m) (noted_from [] 0 revs)) c.mark_of.ensures) ∙ ap (lookup (nat_eq c.mark_of.result)) (sym index) ∙ sym c.get.ensures ∙ c.in_err-place.was in
     c.from_residual.ensures
-    ∙ sym (none_of _ (place_none c.args.nodes.now c.args.rev 0 ∙ is_some-node_of c.args.nodes.now c.args.rev ∙ unmarked [] 0 revs c.args.rev (ap is_some none)))
+    ∙ sym (none_of _ (place_none c.args.nodes.now c.args.rev.now 0 ∙ is_some-node_of c.args.nodes.now c.args.rev.now ∙ unmarked [] 0 revs c.args.rev.now (ap is_some none)))
 
 pub node_at-requires : goal.node_at-requires
 node_at-requires c =
@@ -25,5 +25,5 @@ node_at-requires c =
 
 pub returns-then-is_of : goal.returns-then-is_of
 returns-then-is_of c =
-    sym (place_at c.args.nodes.now c.requires.linked.once c.in_ok-place.place c.node_at.result.now c.args.rev c.node_at.ensures
+    sym (place_at c.args.nodes.now c.requires.linked.once c.in_ok-place.place c.node_at.result.now c.args.rev.now c.node_at.ensures
     (sym c.is_of.ensures ∙ c.if-is_of.true))
