@@ -17,4 +17,6 @@ pub mod ChosenBytes
 pub mod Marking
 pub mod LineFoundRevisions
 pub mod LineNumberedRevisions
-pub mod LineOrders
+pub mod Outlines
+pub mod Integers
+pub mod Pushes

@@ -10,3 +10,4 @@ pub mod IdText
 pub mod Marks
 pub mod Chosen
 pub mod ChosenLaws
+pub mod Numbers

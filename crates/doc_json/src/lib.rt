@@ -19,6 +19,7 @@ mod marks;
 mod members;
 mod read;
 mod revisions;
+mod text;
 mod write;
 
 pub use body::{Body, read_body};

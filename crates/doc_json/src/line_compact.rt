@@ -1,16 +1,19 @@
-//! The compact text of the members of a line's object, written from where they stand.
-ghost use Rattle.std.specs.Prelude.{◌≡◌, false, OnOk, IfOk};
+//! The compact text of the members of a line's object, pushed from where they stand.
+ghost use Rattle.std.specs.Prelude.{◌≡◌, ◌++◌, ◌∷◌, true, false, OnOk, IfOk};
+ghost use Rattle.json.specs.Print.{quoted};
 ghost use Rattle.serde_json.specs.Data.{object};
 ghost use Rattle.json_values.specs.LineView.{line_view, line_items, line_members};
-ghost use Rattle.json_values.specs.LineOrder.{IsOrdered, AreOrdered, IsInOrderOfNames};
+ghost use Rattle.json_values.specs.LineOrder.{IsOrdered, IsInOrderOfNames};
 ghost use Rattle.serde_json.specs.Written.{has_float, items_have_float, members_have_float};
-ghost use Rattle.serde_json.specs.Written.{WritesValue, WritesItems, WritesMembers};
+ghost use Rattle.serde_json.specs.Written.{comma_if, compact_text, items_text, members_text};
+ghost use Rattle.doc_json.specs.DocId.{is_special};
 ghost use Rattle.doc_json.specs.Members.{plain_members};
+ghost use Rattle.doc_json.specs.Numbers.{AllReadBack, ItemsReadBack, MembersReadBack};
 ghost use Rattle.doc_json.specs.Body.{IsWritten};
 
-use crate::compact::{trimmed, write_number};
+use crate::compact::trimmed;
 use crate::doc_id::is_special;
-use json::Writer;
+use crate::text::{push_comma, push_integer, push_name, push_text};
 use json_values::LineValue;
 use std::alloc::{AllocError, Global};
 
@@ -24,10 +27,9 @@ pub(crate) fn plain_text(
     ensures { IfOk result
         (λ v. IsWritten v.items (object (plain_members (line_members members.now.items)))) }
 {
-    let mut out = Writer::new(Vec::with_capacity(alloc, 128)?);
-    out.begin_object()?;
-    write_plain(members, &mut out)?;
-    Ok(trimmed(out.into_inner()))
+    let mut out = Vec::with_capacity(alloc, 128)?;
+    push_plain(members, &mut out)?;
+    Ok(trimmed(out))
 }
 
 /// The compact text of a value, in a buffer with fewer than 32 bytes to spare.
@@ -36,81 +38,105 @@ pub(crate) fn value_text(alloc: Global, value: &LineValue<'_>) -> Result<Vec<u8>
     requires order { IsOrdered (line_view value.now) }
     ensures { IfOk result (λ v. IsWritten v.items (line_view value.now)) }
 {
-    let mut out = Writer::new(Vec::with_capacity(alloc, 128)?);
-    write_value(value, &mut out)?;
-    Ok(trimmed(out.into_inner()))
+    let mut out = Vec::with_capacity(alloc, 128)?;
+    push_value(value, &mut out)?;
+    Ok(trimmed(out))
 }
 
-/// Writes the members without a leading `_`, and the end of their object.
-fn write_plain(members: &Vec<(&str, LineValue<'_>)>, out: &mut Writer) -> Result<(), AllocError>
-    requires exact { members_have_float (plain_members (line_members members.now.items)) ≡ false }
-    requires order { IsInOrderOfNames (line_members members.now.items) }
-    ensures ok { OnOk result (WritesMembers (plain_members (line_members members.now.items))
-        out.old.tokens out.new.tokens) }
-    ensures before { out.new.before ≡ out.old.before }
+/// The object of the members without a leading `_`.
+fn push_plain(members: &Vec<(&str, LineValue<'_>)>, out: &mut Vec<u8>) -> Result<(), AllocError>
+    requires { members_have_float (plain_members (line_members members.now.items)) ≡ false }
+    ensures text { OnOk result (out.new.items
+        ≡ out.old.items ++ 123 ∷ members_text false (plain_members (line_members members.now.items))) }
+    ensures numbers { OnOk result (MembersReadBack (plain_members (line_members members.now.items))) }
 {
+    out.push(b'{')?;
+    let mut later = false;
     for entry in members {
-        if !is_special(entry.0) {
-            out.key(entry.0)?;
-            write_value(&entry.1, out)?;
-        }
+        later = push_unless_special(entry.0, &entry.1, later, out)?;
     }
-    out.end_object()
+    out.push(b'}')?;
+    Ok(())
 }
 
-/// Writes a value.
-#[cycle(write)]
+/// A member, unless its name begins with `_`. Answers whether something stands before what comes next.
+fn push_unless_special(
+    name: &str,
+    member: &LineValue<'_>,
+    later: bool,
+    out: &mut Vec<u8>,
+) -> Result<bool, AllocError>
+    requires { is_special name.now ≡ false → has_float (line_view member.now) ≡ false }
+    ensures special { IfOk result (λ now. is_special name.now ≡ true
+        → (now ≡ later) × (out.new.items ≡ out.old.items)) }
+    ensures plain { IfOk result (λ now. is_special name.now ≡ false
+        → (now ≡ true) × (out.new.items
+        ≡ out.old.items ++ (comma_if later ++ (quoted name.now ++ 58 ∷ compact_text (line_view member.now))))) }
+    ensures numbers { IfOk result (λ now. is_special name.now ≡ false → AllReadBack (line_view member.now)) }
+{
+    if is_special(name) {
+        return Ok(later);
+    }
+    push_name(out, later, name)?;
+    push_value(member, out)?;
+    Ok(true)
+}
+
+/// A value.
+#[cycle(push)]
 #[inline(always)]
-fn write_value(value: &LineValue<'_>, out: &mut Writer) -> Result<(), AllocError>
-    requires exact { has_float (line_view value.now) ≡ false }
-    requires order { IsOrdered (line_view value.now) }
-    ensures ok { OnOk result (WritesValue (line_view value.now) out.old.tokens out.new.tokens) }
-    ensures before { out.new.before ≡ out.old.before }
+fn push_value(value: &LineValue<'_>, out: &mut Vec<u8>) -> Result<(), AllocError>
+    requires { has_float (line_view value.now) ≡ false }
+    ensures text { OnOk result (out.new.items ≡ out.old.items ++ compact_text (line_view value.now)) }
+    ensures numbers { OnOk result (AllReadBack (line_view value.now)) }
 {
     match value {
-        LineValue::Null => out.null(),
-        LineValue::Bool(b) => out.boolean(*b),
-        LineValue::Number(n) => write_number(n, out),
-        LineValue::String(text) => out.string(*text),
-        LineValue::Array(items) => {
-            out.begin_array()?;
-            write_items(items, out)
-        }
-        LineValue::Object(members) => {
-            out.begin_object()?;
-            write_members(members, out)
-        }
+        LineValue::Null => out.extend_from_slice(b"null"),
+        LineValue::Bool(true) => out.extend_from_slice(b"true"),
+        LineValue::Bool(false) => out.extend_from_slice(b"false"),
+        LineValue::Number(n) => push_integer(out, n),
+        LineValue::String(text) => push_text(out, *text),
+        LineValue::Array(items) => push_items(items, out),
+        LineValue::Object(members) => push_members(members, out),
     }
 }
 
-/// Writes the items of a list, and its end.
-#[cycle(write)]
+/// The items of a list, between brackets.
+#[cycle(push)]
 #[inline(never)]
-fn write_items(items: &Vec<LineValue<'_>>, out: &mut Writer) -> Result<(), AllocError>
-    requires exact { items_have_float (line_items items.now.items) ≡ false }
-    requires order { AreOrdered (line_items items.now.items) }
-    ensures ok { OnOk result (WritesItems (line_items items.now.items) out.old.tokens out.new.tokens) }
-    ensures before { out.new.before ≡ out.old.before }
+fn push_items(items: &Vec<LineValue<'_>>, out: &mut Vec<u8>) -> Result<(), AllocError>
+    requires { items_have_float (line_items items.now.items) ≡ false }
+    ensures text { OnOk result (out.new.items
+        ≡ out.old.items ++ 91 ∷ items_text false (line_items items.now.items)) }
+    ensures numbers { OnOk result (ItemsReadBack (line_items items.now.items)) }
 {
+    out.push(b'[')?;
+    let mut later = false;
     for item in items {
-        write_value(item, out)?;
+        push_comma(out, later)?;
+        push_value(item, out)?;
+        later = true;
     }
-    out.end_array()
+    out.push(b']')?;
+    Ok(())
 }
 
-/// Writes the members of an object, and its end.
-#[cycle(write)]
+/// The members of an object, between braces.
+#[cycle(push)]
 #[inline(never)]
-fn write_members(members: &Vec<(&str, LineValue<'_>)>, out: &mut Writer) -> Result<(), AllocError>
-    requires exact { members_have_float (line_members members.now.items) ≡ false }
-    requires order { IsInOrderOfNames (line_members members.now.items) }
-    ensures ok { OnOk result
-        (WritesMembers (line_members members.now.items) out.old.tokens out.new.tokens) }
-    ensures before { out.new.before ≡ out.old.before }
+fn push_members(members: &Vec<(&str, LineValue<'_>)>, out: &mut Vec<u8>) -> Result<(), AllocError>
+    requires { members_have_float (line_members members.now.items) ≡ false }
+    ensures text { OnOk result (out.new.items
+        ≡ out.old.items ++ 123 ∷ members_text false (line_members members.now.items)) }
+    ensures numbers { OnOk result (MembersReadBack (line_members members.now.items)) }
 {
+    out.push(b'{')?;
+    let mut later = false;
     for entry in members {
-        out.key(entry.0)?;
-        write_value(&entry.1, out)?;
+        push_name(out, later, entry.0)?;
+        push_value(&entry.1, out)?;
+        later = true;
     }
-    out.end_object()
+    out.push(b'}')?;
+    Ok(())
 }

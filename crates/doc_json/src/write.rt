@@ -1,18 +1,16 @@
 //! Writing documents.
 ghost use Rattle.std.specs.Prelude.{◌≡◌, ◌++◌, Ok, Some, OnOk, IfOk, decimal};
-ghost use Rattle.serde_json.specs.Data.{Data, string};
+ghost use Rattle.serde_json.specs.Data.{Data};
 ghost use Rattle.serde_json.specs.Read.{read};
-ghost use Rattle.serde_json.specs.Written.{compact_text};
 ghost use Rattle.doc_json.specs.DocRead.{doc_read};
 ghost use Rattle.doc_json.specs.DocText.{doc_text, revs_text, head_text, start_text, sig_text};
 ghost use Rattle.doc_json.specs.DocText.{sig_texts, deleted_text, rest_text};
 
 use crate::doc::Doc;
+use crate::text::push_text;
 use itoa::Buffer;
-use json::Writer;
 use rev_core::{Ancestry, Rev};
 use std::alloc::{AllocError, Global};
-use std::mem;
 
 /// The text of a document, in compact form with its members in the order `_id`, `_rev`, `_revisions`,
 /// `_deleted` where it is deleted, and those of the body.
@@ -27,7 +25,7 @@ pub fn write_doc(alloc: Global, doc: &Doc) -> Result<Vec<u8>, AllocError>
     Ok(out)
 }
 
-/// Writes the text of a document behind what a buffer holds. Where memory is refused, what the buffer held is lost.
+/// Writes the text of a document behind what a buffer holds. Where memory is refused, a part of it may stand there.
 pub fn push_doc(out: &mut Vec<u8>, doc: &Doc) -> Result<(), AllocError>
     ensures text { OnOk result (out.new.items ≡ out.old.items ++ doc_text doc.now) }
     ensures reads_back { (d : Data) → read (doc_text doc.now) ≡ Some d → doc_read d ≡ Ok doc.now }
@@ -45,21 +43,10 @@ fn push_parts(out: &mut Vec<u8>, doc: &Doc) -> Result<(), AllocError>
     let sigs = doc.ancestry().revs().len().saturating_mul(36);
     out.reserve(body.len().saturating_add(sigs).saturating_add(256))?;
     out.extend_from_slice(b"{\"_id\":")?;
-    push_json(out, doc.id().text())?;
+    push_text(out, doc.id().text())?;
     push_revs(out, doc.ancestry())?;
     out.extend_from_slice(deleted_text(doc.deleted()))?;
     push_rest(out, body)
-}
-
-/// A text as JSON. The buffer is lent to the writer, which takes it whole.
-fn push_json(out: &mut Vec<u8>, text: &str) -> Result<(), AllocError>
-    ensures { OnOk result (out.new.items ≡ out.old.items ++ compact_text (string text.now)) }
-{
-    let none = Vec::new(*out.allocator());
-    let mut writer = Writer::new(mem::replace(out, none));
-    writer.string(text)?;
-    *out = writer.into_inner();
-    Ok(())
 }
 
 /// `_rev` and `_revisions`, each behind a comma.

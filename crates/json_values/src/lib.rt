@@ -16,3 +16,4 @@ mod word;
 pub use fault::ReadFault;
 pub use line::LineValue;
 pub use reader::ValueReader;
+pub use run::plain_end;

@@ -68,7 +68,7 @@ fn plain_end_slowly(text: &[u8], from: usize) -> usize
 
 /// The first quotation mark, backslash or control byte from a place on, or the length.
 #[inline(always)]
-pub(crate) fn plain_end(text: &[u8], from: usize) -> usize
+pub fn plain_end(text: &[u8], from: usize) -> usize
     requires { from ≤ length text.now }
     ensures value { result ≡ from + prefix_len is_plain (drop from text.now) }
     ensures bound { result ≤ length text.now }

@@ -1,23 +1,15 @@
-use Rattle.std.proofs.Common.{◌≡◌, ℕ, ℤ, pos, negsuc, true, Some, None, int_lt, SFits, w64, to_z-of_z, [], ◌∷◌, ◌++◌, option_map, decimal, sym, ap, ◌∙◌, arith}
+use Rattle.std.proofs.Common.{◌≡◌, true, Some, SFits, w64, to_z-of_z, [], ◌∷◌, ◌++◌, option_map, decimal, sym, ap, ◌∙◌, arith}
 use Rattle.std.specs.Fmt.{signed_decimal}
 use Rattle.std.proofs.lemmas.Result.{on_ok_weaker}
 use Rattle.json.specs.Json as json
 use Rattle.json.specs.Token as Token
-use Rattle.serde_json.specs.Data.{Num, unsigned, negative, float, number}
-use Rattle.serde_json.specs.Find.{as_u64, as_i64}
-use Rattle.serde_json.specs.Number.{is_valid, num_of}
-use Rattle.serde_json.specs.Read.{number_of}
+use Rattle.serde_json.specs.Data.{number}
+use Rattle.serde_json.specs.Number.{is_valid}
 use Rattle.serde_json.specs.Written.{outline}
-use Rattle.serde_json.specs.declared.number.N.{N}
-use Rattle.serde_json.specs.declared.number.N.TheVariants.{PosInt, NegInt, Float}
-use Rattle.serde_json.proofs.Numbers.{number_of-decimal, number_of-negative}
+use Rattle.serde_json.proofs.Numbers.{number_of-decimal}
 use Rattle.serde_json.proofs.Texts.{unless_float-number_of}
+use Rattle.doc_json.proofs.Integers.{is_unsigned, is_below_zero, below_zero}
 use Rattle.doc_json.proofs.compact.write_number.Goals as goal
-
-is_unsigned : (x : Num) (n : ℕ) → as_u64 x ≡ Some n → x ≡ unsigned n
-is_unsigned (unsigned m) n e = cc
-is_unsigned (negative z) n e = cc
-is_unsigned (float x) n e = cc
 
 pub returns-in-Some-clause-ok : goal.returns-in-Some-clause-ok
 returns-in-Some-clause-ok c =
@@ -30,16 +22,6 @@ returns-in-Some-clause-ok c =
       omega arith,
       ap json.number (unless_float-number_of _ _ read) ∙ ap (λ x. outline (number x)) (sym is),
     )) c.u64.ensures.ok
-
--- a number that is neither unsigned nor a float is below zero
-is_below_zero : (x : N) (z : ℤ) → is_valid x ≡ true → as_i64 (num_of x) ≡ Some z → as_u64 (num_of x) ≡ None → (num_of x ≡ negative z) × (int_lt z (pos 0) ≡ true)
-is_below_zero (PosInt n) z valid e none = cc
-is_below_zero (NegInt y) z valid e none = (cc, cc)
-is_below_zero (Float x) z valid e none = cc
-
-below_zero : (z : ℤ) → int_lt z (pos 0) ≡ true → SFits w64 z → number_of (signed_decimal z) ≡ Some (negative z)
-below_zero (pos n) e fits = absurd (grind arith)
-below_zero (negsuc n) e fits = number_of-negative n (grind arith)
 
 pub returns-in-None-clause-ok : goal.returns-in-None-clause-ok
 returns-in-None-clause-ok c =

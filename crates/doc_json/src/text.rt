@@ -1,0 +1,119 @@
+//! Texts and integers, pushed as JSON behind what a buffer holds.
+ghost use Rattle.std.specs.Prelude.{◌≡◌, ◌<◌, ◌≤◌, ◌++◌, [], ◌∷◌, false, take, OnOk};
+ghost use Rattle.std.specs.Char.{digit_char};
+ghost use Rattle.json.specs.Print.{escape_letter, escape_byte, quoted};
+ghost use Rattle.serde_json.specs.Find.{is_float};
+ghost use Rattle.serde_json.specs.View.{number_view};
+ghost use Rattle.serde_json.specs.Written.{comma_if, number_text};
+ghost use Rattle.doc_json.specs.Numbers.{ReadsBack};
+
+use itoa::Buffer;
+use json_values::plain_end;
+use serde_json::Number;
+use std::alloc::AllocError;
+
+/// A comma, where something stands before.
+#[inline(always)]
+pub(crate) fn push_comma(out: &mut Vec<u8>, later: bool) -> Result<(), AllocError>
+    ensures { OnOk result (out.new.items ≡ out.old.items ++ comma_if later) }
+{
+    if later {
+        out.push(b',')?;
+    }
+    Ok(())
+}
+
+/// The name of a member with its colon, behind a comma where something stands before.
+#[inline(always)]
+pub(crate) fn push_name(out: &mut Vec<u8>, later: bool, name: &str) -> Result<(), AllocError>
+    ensures { OnOk result (out.new.items ≡ out.old.items ++ (comma_if later ++ (quoted name.now ++ 58 ∷ []))) }
+{
+    push_comma(out, later)?;
+    push_text(out, name)?;
+    out.push(b':')?;
+    Ok(())
+}
+
+/// A text in quotation marks: what stands for itself as a whole, and each other byte as its escape.
+pub(crate) fn push_text(out: &mut Vec<u8>, text: &str) -> Result<(), AllocError>
+    ensures { OnOk result (out.new.items ≡ out.old.items ++ quoted text.now) }
+{
+    let bytes = text.as_bytes();
+    out.push(b'"')?;
+    let mut at = 0;
+    loop {
+        let stop = plain_end(bytes, at);
+        out.extend_from_slice(&bytes[at..stop])?;
+        if stop == bytes.len() {
+            out.push(b'"')?;
+            return Ok(());
+        }
+        push_escape(out, bytes[stop])?;
+        at = stop + 1;
+    }
+}
+
+/// The escape of a byte.
+#[inline(never)]
+fn push_escape(out: &mut Vec<u8>, byte: u8) -> Result<(), AllocError>
+    ensures { OnOk result (out.new.items ≡ out.old.items ++ escape_byte byte) }
+{
+    let (escape, len) = escape_of(byte);
+    out.extend_from_slice(&escape[..len])
+}
+
+/// The escape of a byte, and how long it is.
+fn escape_of(byte: u8) -> ([u8; 6], usize)
+    ensures value { take result.1 result.0 ≡ escape_byte byte }
+    ensures bound { result.1 ≤ 6 }
+{
+    let letter = letter(byte);
+    if letter > 0 {
+        return ([b'\\', letter, 0, 0, 0, 0], 2);
+    }
+    if byte < 0x20 {
+        return ([b'\\', b'u', b'0', b'0', hex(byte / 16), hex(byte % 16)], 6);
+    }
+    ([byte, 0, 0, 0, 0, 0], 1)
+}
+
+/// The letter of a byte's short escape, or 0 where it has none.
+fn letter(byte: u8) -> u8
+    ensures { result ≡ escape_letter byte }
+{
+    match byte {
+        b'"' | b'\\' => byte,
+        8 => b'b',
+        12 => b'f',
+        b'\n' => b'n',
+        b'\r' => b'r',
+        b'\t' => b't',
+        _ => 0,
+    }
+}
+
+/// A hex digit.
+fn hex(digit: u8) -> u8
+    requires { digit < 16 }
+    ensures { result ≡ digit_char digit }
+{
+    if digit < 10 {
+        b'0' + digit
+    } else {
+        b'a' - 10 + digit
+    }
+}
+
+/// An integer in decimal.
+#[inline(never)]
+pub(crate) fn push_integer(out: &mut Vec<u8>, n: &Number) -> Result<(), AllocError>
+    requires { is_float (number_view n.now) ≡ false }
+    ensures text { OnOk result (out.new.items ≡ out.old.items ++ number_text (number_view n.now)) }
+    ensures numbers { ReadsBack (number_view n.now) }
+{
+    let mut buffer = Buffer::new();
+    match n.as_u64() {
+        Some(n) => out.extend_from_slice(buffer.format(n).as_bytes()),
+        None => out.extend_from_slice(buffer.format(n.as_i64().unwrap()).as_bytes()),
+    }
+}
