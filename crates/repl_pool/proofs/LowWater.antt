@@ -7,11 +7,11 @@ use Rattle.repl_target.specs.declared.fault.Report.{Report}
 use Rattle.repl_target.specs.declared.fault.TargetFault.{TargetFault}
 use Rattle.repl_target.specs.declared.fault.TargetFault.TheVariants as refusals
 use Rattle.repl_target.specs.declared.replication.Plan.{Plan}
-use Rattle.repl_target.specs.Peer.{PeerValue, SessionValue, session_in, with_session}
-use Rattle.repl_target.specs.Replication.{closed, closed_as}
-use Rattle.repl_target.specs.Sessions.{found_answer, on_found, recorded_at, record_answer, after_record, report_of, conclude_in, conclude_answer, after_conclude}
-use Rattle.repl_target.proofs.LaterPeers.{session_found}
-use Rattle.repl_target.proofs.ReadCounts.{swap_some}
+use Rattle.repl_target.specs.peer.Peer.{PeerValue, SessionValue, session_in, with_session}
+use Rattle.repl_target.specs.replication.Replication.{closed, closed_as}
+use Rattle.repl_target.specs.session.Sessions.{found_answer, on_found, recorded_at, record_answer, after_record, report_of, conclude_in, conclude_answer, after_conclude}
+use Rattle.repl_target.proofs.lemmas.peer.LaterPeers.{session_found}
+use Rattle.repl_target.proofs.lemmas.session.ReadCounts.{swap_some}
 use Rattle.repl_pool.specs.Faults.{IsHaltOn}
 use Rattle.repl_pool.specs.Runs.{unfinished_at, IsRecorded, stopped, fewer, refused, TellsLowWater}
 use Rattle.repl_pool.specs.declared.gate.Place.{Place}

@@ -1,7 +1,7 @@
 -- Why a run of the pool doesn't end well: docs/PROFILE.md, "The pool".
 use Rattle.std.specs.Prelude.{◌≡◌, ◌⊎◌, ◌==◌, nat_lt, if◌then◌else◌, Option, Some, Result, Ok, Err}
-use Rattle.repl_target.specs.Peer.{PeerValue}
-use Rattle.repl_target.specs.Replication.{is_batch}
+use Rattle.repl_target.specs.peer.Peer.{PeerValue}
+use Rattle.repl_target.specs.replication.Replication.{is_batch}
 use Rattle.repl_target.specs.declared.fault.TargetFault.{TargetFault}
 use Rattle.repl_target.specs.declared.fault.TargetFault.TheVariants as refusals
 use Rattle.repl_target.specs.declared.replication.Plan.{Plan}

@@ -2,9 +2,9 @@
 ghost use Rattle.std.specs.Prelude.{◌≡◌, ◌<◌, ◌≤◌, [], true, Some, None, IfOk, is_none, sum, vec_len, option_copied};
 ghost use Rattle.std.specs.List.{All};
 ghost use Rattle.couch_base.specs.Database.{DatabaseValue};
-ghost use Rattle.repl_target.specs.Peer.{SessionValue, session_in};
-ghost use Rattle.repl_target.specs.ReadCounts.{read_in};
-ghost use Rattle.repl_target.specs.Replication.{is_batch};
+ghost use Rattle.repl_target.specs.peer.Peer.{SessionValue, session_in};
+ghost use Rattle.repl_target.specs.session.ReadCounts.{read_in};
+ghost use Rattle.repl_target.specs.replication.Replication.{is_batch};
 ghost use Rattle.doc_json.specs.Chosen.{Choice};
 ghost use Rattle.repl_pool.specs.Grown.{GrownPeer};
 ghost use Rattle.repl_pool.specs.Boards.{WorksAt, AreRisen, HaveRisenBy, MayFill, AreSeats, AreBack, HaveShown};

@@ -2,14 +2,16 @@
 ghost use Rattle.std.specs.Prelude.{◌≡◌, OnOk, OnErr, IfOk, IfErr};
 ghost use Rattle.std.specs.Option.{option_copied};
 ghost use Rattle.repl_log.specs.Entry.{value_of};
-ghost use Rattle.repl_target.specs.Audit.{checkpoint_between, rep_between};
-ghost use Rattle.repl_target.specs.Law.{Lawful};
-ghost use Rattle.repl_target.specs.Sessions.{GivesUnlessMemory};
-ghost use Rattle.repl_target.specs.Logs.{log_in, logs_with, put_answer_in, refused_by_log};
+ghost use Rattle.repl_target.specs.logs.Audit.{checkpoint_between, rep_between};
+ghost use Rattle.repl_target.specs.peer.Law.{Lawful};
+ghost use Rattle.repl_target.specs.session.Sessions.{GivesUnlessMemory};
+ghost use Rattle.repl_target.specs.logs.Logs.{log_in, logs_with, put_answer_in, refused_by_log};
+
+pub(crate) mod auditing;
 
 use crate::fault::TargetFault;
-use crate::filter::WriteFilter;
 use crate::peer::Peer;
+use crate::peer::filter::WriteFilter;
 use doc_json::Chosen;
 use indexmap::IndexMap;
 use repl_log::{Entry, Log, LogFault, RepId};
@@ -56,7 +58,7 @@ pub fn checkpoint<F: WriteFilter, G: WriteFilter>(
 }
 
 impl<F: WriteFilter> Peer<F> {
-    ghost use Rattle.repl_target.specs.Logs.{target_log, source_log, put_entry_answer, after_put_entry};
+    ghost use Rattle.repl_target.specs.logs.Logs.{target_log, source_log, put_entry_answer, after_put_entry};
 
     /// The log of a replication into this peer: what its sessions say, newest first. The only error is `Memory`.
     pub fn target_log(&self, alloc: Global, rep: &RepId) -> Result<Log, TargetFault>

@@ -4,12 +4,17 @@ ghost use Rattle.std.specs.Option.{option_copied};
 ghost use Rattle.rev_tree.specs.Tree.{has};
 ghost use Rattle.couch_base.specs.Database.{tree_of};
 
-use crate::beginning::Beginning;
+pub(crate) mod backup;
+pub(crate) mod filter;
+mod local;
+mod readers;
+pub(crate) mod written;
+
 use crate::fault::{Report, Settled, TargetFault};
-use crate::filter::WriteFilter;
-use crate::local;
-use crate::sessions::Sessions;
-use crate::written::Written;
+use crate::peer::filter::WriteFilter;
+use crate::peer::written::Written;
+use crate::session::beginning::Beginning;
+use crate::session::sessions::Sessions;
 use couch_base::{Asked, BaseFault, Database, Listed, Parcel, Put, Revised, Window};
 use doc_json::{Body, Chosen, Doc, DocId};
 use indexmap::IndexMap;
@@ -46,14 +51,14 @@ impl<F: WriteFilter + Drop> Drop for Peer<F> {
 
 impl<F: WriteFilter> Model for Peer<F> {
     ghost use Rattle.std.specs.Coded.{coded×};
-    ghost use Rattle.repl_target.specs.Peer.{PeerValue};
-    ghost use Rattle.repl_target.specs.PeerCode.{coded_peer};
+    ghost use Rattle.repl_target.specs.peer.Peer.{PeerValue};
+    ghost use Rattle.repl_target.specs.peer.PeerCode.{coded_peer};
 
     ghost Value = { F × PeerValue };
 
     ghost coded = { coded× F.code coded_peer };
 
-    ghost use Rattle.repl_target.specs.Law.{Lawful};
+    ghost use Rattle.repl_target.specs.peer.Law.{Lawful};
 
     ghost view = { λ p. (
       p.filter,
@@ -81,14 +86,14 @@ impl<F: WriteFilter> Peer<F> {
     ghost use Rattle.couch_base.specs.Edit.{edit_answer, EditGives};
     ghost use Rattle.couch_base.specs.Feed.{page_answer};
     ghost use Rattle.couch_base.specs.Messages.{revs_diff, open_revs};
-    ghost use Rattle.repl_target.specs.Peer.{SessionValue, new_peer, new_peer_at, entry_of};
-    ghost use Rattle.repl_target.specs.Covered.{covers, Honest};
-    ghost use Rattle.repl_target.specs.Writing.{after_load, after_edit};
-    ghost use Rattle.repl_target.specs.Sessions.{GivesUnlessMemory, session_answer, begin_answer, after_begin, append_answer, after_append, record_answer, after_record, conclude_answer, after_conclude};
-    ghost use Rattle.repl_target.specs.Settling.{SettleGives};
-    ghost use Rattle.repl_target.specs.SessionCalls.{entry_value};
-    ghost use Rattle.repl_target.specs.Law.{Lawful};
-    ghost use Rattle.repl_target.specs.Trusted.{IsTrusted};
+    ghost use Rattle.repl_target.specs.peer.Peer.{SessionValue, new_peer, new_peer_at, entry_of};
+    ghost use Rattle.repl_target.specs.peer.Covered.{covers, Honest};
+    ghost use Rattle.repl_target.specs.peer.Writing.{after_load, after_edit};
+    ghost use Rattle.repl_target.specs.session.Sessions.{GivesUnlessMemory, session_answer, begin_answer, after_begin, append_answer, after_append, record_answer, after_record, conclude_answer, after_conclude};
+    ghost use Rattle.repl_target.specs.session.Settling.{SettleGives};
+    ghost use Rattle.repl_target.specs.session.SessionCalls.{entry_value};
+    ghost use Rattle.repl_target.specs.peer.Law.{Lawful};
+    ghost use Rattle.repl_target.specs.peer.Trusted.{IsTrusted};
 
     /// A peer with a database of no documents. It grows by `alloc`.
     ///
@@ -314,8 +319,8 @@ impl<F: WriteFilter> Peer<F> {
 }
 
 impl<F: WriteFilter + Drop> Peer<F> {
-    ghost use Rattle.repl_target.specs.Peer.{new_at_answer};
-    ghost use Rattle.repl_target.specs.Law.{Lawful};
+    ghost use Rattle.repl_target.specs.peer.Peer.{new_at_answer};
+    ghost use Rattle.repl_target.specs.peer.Law.{Lawful};
 
     /// A peer with a database of no documents whose update sequence is `seq`, so that its first change takes the next
     /// one.

@@ -3,13 +3,22 @@
 ghost use Rattle.std.specs.Prelude.{◌≡◌, ◌==◌, OnOk, OnErr, if◌then◌else◌};
 ghost use Rattle.range_front.specs.Front.{low_water};
 ghost use Rattle.repl_log.specs.Entry.{value_of};
-ghost use Rattle.repl_target.specs.Peer.{entry_of};
-ghost use Rattle.repl_target.specs.Sessions.{GivesUnlessMemory, new_session, append_in, with_window, recorded_at, report_of, conclude_in};
+ghost use Rattle.repl_target.specs.peer.Peer.{entry_of};
+ghost use Rattle.repl_target.specs.session.Sessions.{GivesUnlessMemory, new_session, append_in, with_window, recorded_at, report_of, conclude_in};
 
-use crate::beginning::Beginning;
+pub(crate) mod beginning;
+mod ledger_index;
+pub(crate) mod refused;
+mod rep_index;
+mod rows;
+pub(crate) mod sessions;
+mod settle;
+mod stored;
+
 use crate::fault::{Report, TargetFault};
-use crate::refused::Refused;
-use crate::written::Written;
+use crate::peer::written::Written;
+use crate::session::beginning::Beginning;
+use crate::session::refused::Refused;
 use couch_base::Window;
 use range_front::Front;
 use repl_log::{Entry, Moment, RepId};
@@ -40,15 +49,15 @@ pub(crate) struct Session {
 }
 
 impl Model for Session {
-    ghost use Rattle.repl_target.specs.Peer.{SessionValue};
-    ghost use Rattle.repl_target.specs.PeerCode.{coded_session};
+    ghost use Rattle.repl_target.specs.peer.Peer.{SessionValue};
+    ghost use Rattle.repl_target.specs.peer.PeerCode.{coded_session};
 
     ghost Value = { SessionValue };
 
     ghost coded = { coded_session };
 
-    ghost use Rattle.repl_target.specs.Law.{IsSession};
-    ghost use Rattle.repl_target.specs.Stored.{session_value};
+    ghost use Rattle.repl_target.specs.peer.Law.{IsSession};
+    ghost use Rattle.repl_target.specs.session.Stored.{session_value};
 
     ghost view = { session_value };
 

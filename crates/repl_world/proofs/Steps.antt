@@ -14,28 +14,28 @@ use Rattle.couch_base.specs.Messages.{AskedValue, ParcelValue, revs_diff, open_r
 use Rattle.couch_base.specs.WriteLaws.{IsLater}
 use Rattle.couch_base.specs.declared.fault.BaseFault.{BaseFault}
 use Rattle.repl_log.specs.Entry.{EntryValue}
-use Rattle.repl_target.specs.Peer.{PeerValue, SessionValue}
-use Rattle.repl_target.specs.Sessions.{after_record, after_conclude, conclude_answer}
-use Rattle.repl_target.specs.Later.{IsLaterPeer}
-use Rattle.repl_target.specs.Ties.{IsTiedWindow}
-use Rattle.repl_target.specs.Audit.{rep_between}
-use Rattle.repl_target.specs.Calls.{Call, Load, Edit, after_call}
-use Rattle.repl_target.specs.TiedPeers.{AreTiedEntries, IsTiedPair, IsSentEntry}
-use Rattle.repl_target.specs.Backups.{BackupValue, copy_of, is_target, backup_answer, greater_life, restore_answer, restored, restored_by}
-use Rattle.repl_target.specs.Logs.{log_in}
-use Rattle.repl_target.specs.Writing.{after_edit, load_edited}
+use Rattle.repl_target.specs.peer.Peer.{PeerValue, SessionValue}
+use Rattle.repl_target.specs.session.Sessions.{after_record, after_conclude, conclude_answer}
+use Rattle.repl_target.specs.peer.Later.{IsLaterPeer}
+use Rattle.repl_target.specs.ties.Ties.{IsTiedWindow}
+use Rattle.repl_target.specs.logs.Audit.{rep_between}
+use Rattle.repl_target.specs.replication.Calls.{Call, Load, Edit, after_call}
+use Rattle.repl_target.specs.ties.TiedPeers.{AreTiedEntries, IsTiedPair, IsSentEntry}
+use Rattle.repl_target.specs.peer.Backups.{BackupValue, copy_of, is_target, backup_answer, greater_life, restore_answer, restored, restored_by}
+use Rattle.repl_target.specs.logs.Logs.{log_in}
+use Rattle.repl_target.specs.peer.Writing.{after_edit, load_edited}
 use Rattle.repl_target.specs.declared.fault.TargetFault.TheVariants as faults
-use Rattle.repl_target.specs.Calls as calls
+use Rattle.repl_target.specs.replication.Calls as calls
 use Rattle.repl_target.specs.declared.fault.TargetFault.{TargetFault}
 use Rattle.couch_base.specs.MemberLaws.{Among-push, at-append}
-use Rattle.repl_target.proofs.CallsKeepLaw.{load_later, edit_later, begin_later, append_later, record_later, conclude_later}
-use Rattle.repl_target.proofs.LogLaws.{put_entry_later}
-use Rattle.repl_target.proofs.SettlingKeepsLaw.{after_settle_law, after_stop_law}
-use Rattle.repl_target.proofs.TiesLaws.{IsTiedWindow-page, IsTiedWindow-later}
-use Rattle.repl_target.proofs.MessageTies.{IsTiedAsked-revs_diff, IsTiedAsked-later, IsTiedParcel-open_revs}
-use Rattle.repl_target.proofs.CallLaws.{Brings}
-use Rattle.repl_target.proofs.Covering.{common_reached}
-use Rattle.repl_target.proofs.TiedLaws.{entry-later, entry-source, entry-life, sent-later, sent_entry, backups-later, backups-source, TiedAt, tied-stays, tied-more, tied-new, tied_call, tied_source, puts_tied}
+use Rattle.repl_target.proofs.lemmas.peer.CallsKeepLaw.{load_later, edit_later, begin_later, append_later, record_later, conclude_later}
+use Rattle.repl_target.proofs.lemmas.logs.PutChangesLogsAlone.{put_entry_later}
+use Rattle.repl_target.proofs.lemmas.session.SettlingKeepsLaw.{after_settle_law, after_stop_law}
+use Rattle.repl_target.proofs.lemmas.ties.TiedPages.{IsTiedWindow-page, IsTiedWindow-later}
+use Rattle.repl_target.proofs.lemmas.ties.TiedMessages.{IsTiedAsked-revs_diff, IsTiedAsked-later, IsTiedParcel-open_revs}
+use Rattle.repl_target.proofs.lemmas.replication.CallLaws.{Brings}
+use Rattle.repl_target.proofs.lemmas.ties.TiedPeersCover.{common_reached}
+use Rattle.repl_target.proofs.lemmas.ties.TiedPeersStay.{entry-later, entry-source, entry-life, sent-later, sent_entry, backups-later, backups-source, TiedAt, tied-stays, tied-more, tied-new, tied_call, tied_source, puts_tied}
 use Rattle.repl_world.specs.Bags.{with_window, told, told_where}
 use Rattle.repl_world.specs.Worlds.{WorldValue, rep_of, paged, appends, differs, fetches, settles, stops, entry_in, puts, crashed, log_of_source, reads_log, beginning_in, begins, backs_up, restores, happens, CutShort}
 use Rattle.repl_world.specs.Tied.{IsWorld, OwnAsked, OwnParcel, Tied}

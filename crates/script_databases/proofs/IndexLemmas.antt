@@ -16,9 +16,9 @@ use Rattle.couch_base.specs.Put.{after_put, put_answer, is_changed}
 use Rattle.couch_base.specs.Edit.{edited, edit_document}
 use Rattle.couch_base.specs.ListLaws.{some_is, none_some}
 use Rattle.couch_base.specs.declared.fault.BaseFault.{BaseFault}
-use Rattle.repl_target.specs.Peer.{PeerValue}
-use Rattle.repl_target.specs.Writing.{after_edit, after_load, load_edited, next_local}
-use Rattle.repl_target.specs.declared.filter.Rules.{Rules}
+use Rattle.repl_target.specs.peer.Peer.{PeerValue}
+use Rattle.repl_target.specs.peer.Writing.{after_edit, after_load, load_edited, next_local}
+use Rattle.repl_target.specs.declared.peer.filter.Rules.{Rules}
 use Rattle.script_databases.specs.Databases.{State, peer_at, with_peer, IsTaken, text_cmp, changed_at, with_changed}
 use Rattle.script_databases.specs.declared.refusal.Refusal.{Refusal}
 use Rattle.script_databases.specs.Stored.{Beside, Entries, peers_of, state_of, IsIndex, AllDeny, deny_of, denied_of}

@@ -8,8 +8,8 @@ use Rattle.repl_pool.specs.Runs.{Runs, RunsOn}
 use Rattle.repl_pool.specs.declared.fault.PoolFault.{PoolFault}
 use Rattle.repl_pool.specs.declared.fault.PoolFault.TheVariants as faults
 use Rattle.repl_pool.specs.declared.gate.Place.{Place}
-use Rattle.repl_target.specs.Peer.{PeerValue}
-use Rattle.repl_target.specs.Replication.{plan_answer, Replicates}
+use Rattle.repl_target.specs.peer.Peer.{PeerValue}
+use Rattle.repl_target.specs.replication.Replication.{plan_answer, Replicates}
 use Rattle.repl_target.specs.declared.fault.Report.{Report}
 use Rattle.repl_target.specs.declared.fault.TargetFault.{TargetFault}
 use Rattle.repl_target.specs.declared.replication.Plan.{Plan}

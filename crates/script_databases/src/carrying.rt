@@ -3,7 +3,7 @@ ghost use Rattle.std.specs.Prelude.{◌≡◌, ◌≢◌, ◌≤◌, true, Some}
 ghost use Rattle.std.specs.FinMap.{contains_key, get, insert};
 ghost use Rattle.script_databases.specs.Carrying.{AloneIntoAnother, ByPoolIntoAnother, WatchedIntoAnother};
 ghost use Rattle.progress_board.specs.Seats.{CameWith};
-ghost use Rattle.repl_target.specs.Peer.{PeerValue};
+ghost use Rattle.repl_target.specs.peer.Peer.{PeerValue};
 ghost use Rattle.script_databases.specs.Stored.{Beside, deny_of, denied_of, peers_of, state_of, AllDeny, IsEmptied};
 
 use crate::databases::Names;

@@ -2,8 +2,8 @@
 ghost use Rattle.std.specs.Prelude.{◌≡◌, ◌≢◌, ◌≤◌, false, true, None, Some, Err, IfOk, OnErr, OnOk, option_map};
 ghost use Rattle.std.specs.FinMap.{contains_key};
 ghost use Rattle.std.specs.Option.{option_copied};
-ghost use Rattle.repl_target.specs.Peer.{PeerValue};
-ghost use Rattle.repl_target.specs.Replication.{plan_answer};
+ghost use Rattle.repl_target.specs.peer.Peer.{PeerValue};
+ghost use Rattle.repl_target.specs.replication.Replication.{plan_answer};
 ghost use Rattle.repl_pool.specs.Faults.{early_answer};
 ghost use Rattle.script_databases.specs.Databases.{State, coded_state};
 ghost use Rattle.script_databases.specs.Stored.{IsIndex, AllDeny, beside_of, program_of, state_of};
@@ -81,7 +81,7 @@ impl Model for Databases {
 impl Databases {
     ghost use Rattle.script_databases.specs.Databases.{IsTaken, backed_answer, backed_at, backed_told, backup_at, put_back_answer, put_back_by, drawn_one, edited_answer, edited_at, load_answer, loaded_at, next_made, no_databases, peer_at, with_peer};
     ghost use Rattle.script_databases.specs.Stored.{deny_of, program_of};
-    ghost use Rattle.repl_target.specs.Peer.{new_peer};
+    ghost use Rattle.repl_target.specs.peer.Peer.{new_peer};
     ghost use Rattle.script_databases.specs.Refusals.{GivesOrMemory};
     ghost use Rattle.script_databases.specs.Carrying.{CarriedAlone, CarriedByPool, CarriesFrom, WatchedIntoAnother};
 

@@ -1,7 +1,7 @@
 -- What loads are told, by their parts.
 use Rattle.std.proofs.Common.{◌≡◌, inl, inr, ℕ, Option, None, Result, Ok, refl, sym, subst}
 use Rattle.doc_json.specs.Document.{Document}
-use Rattle.repl_target.specs.Peer.{PeerValue}
+use Rattle.repl_target.specs.peer.Peer.{PeerValue}
 use Rattle.script_engine.specs.Serving.{Told, MayTell, in_full, gave_up, served_only}
 use Rattle.script_databases.specs.Databases.{State, peer_at, IsTaken, drawn_one, next_made}
 use Rattle.script_databases.specs.declared.refusal.Refusal.{Refusal}

@@ -1,6 +1,6 @@
 use Rattle.std.proofs.Common.{◌≡◌, Ok, Err, subst}
 use Rattle.couch_base.specs.Database.{LawfulDatabase}
-use Rattle.repl_target.proofs.BothWays.{turned_tied, both_meet}
+use Rattle.repl_target.proofs.lemmas.replication.BothWays.{turned_tied, both_meet}
 use Rattle.repl_pool.specs.Runs.{Runs}
 use Rattle.repl_pool.specs.Sync.{refused_there, refused_back, both}
 use Rattle.repl_pool.proofs.Syncing.{run_leaves}

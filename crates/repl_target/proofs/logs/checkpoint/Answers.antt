@@ -2,8 +2,8 @@ use Rattle.std.proofs.Common.{◌≡◌, List, [], ◌∷◌, None, refl, sym, a
 use Rattle.std.specs.Option.{option_copied}
 use Rattle.repl_log.specs.Entry.{EntryValue}
 use Rattle.repl_log.specs.Log.{common}
-use Rattle.repl_target.specs.Logs.{log_of}
-use Rattle.repl_target.proofs.Logging.{log_in-found, log_in-absent}
+use Rattle.repl_target.specs.logs.Logs.{log_of}
+use Rattle.repl_target.proofs.lemmas.logs.LogTables.{log_in-found, log_in-absent}
 use Rattle.repl_target.proofs.logs.checkpoint.Goals as goal
 
 -- no session is shared with a log that holds none

@@ -1,6 +1,6 @@
 use Rattle.std.proofs.Common.{sym, ap, ◌∙◌}
 use Rattle.std.specs.Option.{option_copied}
-use Rattle.repl_target.proofs.Logging.{log_in-found, log_in-absent}
+use Rattle.repl_target.proofs.lemmas.logs.LogTables.{log_in-found, log_in-absent}
 use Rattle.repl_target.proofs.logs.copy_of.Goals as goal
 
 pub returns-in-Ok-clause-log : goal.returns-in-Ok-clause-log

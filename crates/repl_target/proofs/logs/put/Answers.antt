@@ -5,10 +5,10 @@ use Rattle.indexmap.proofs.CallerLemmas.{insert_entry-new}
 use Rattle.indexmap.specs.IndexMap.{insert_entry}
 use Rattle.repl_log.specs.Entry.{value_of}
 use Rattle.repl_log.specs.Log.{with_entry}
-use Rattle.repl_target.specs.Peer.{same_rep}
-use Rattle.repl_target.specs.Sessions.{GivesUnlessMemory}
-use Rattle.repl_target.specs.Logs.{put_answer_in}
-use Rattle.repl_target.proofs.Logging.{put_answer_in-found, put_answer_in-new, logs_with-set, logs_with-new}
+use Rattle.repl_target.specs.peer.Peer.{same_rep}
+use Rattle.repl_target.specs.session.Sessions.{GivesUnlessMemory}
+use Rattle.repl_target.specs.logs.Logs.{put_answer_in}
+use Rattle.repl_target.proofs.lemmas.logs.LogTables.{put_answer_in-found, put_answer_in-new, logs_with-set, logs_with-new}
 use Rattle.std.proofs.lemmas.Map.Steps.{set_value_same}
 use Rattle.repl_target.proofs.logs.put.Goals as goal
 

@@ -1,6 +1,6 @@
 use Rattle.std.proofs.Common.{◌≡◌, Some, sym, subst}
-use Rattle.repl_target.specs.Peer.{PeerValue, SessionValue, session_in}
-use Rattle.repl_target.proofs.Reading.{closed-found}
+use Rattle.repl_target.specs.peer.Peer.{PeerValue, SessionValue, session_in}
+use Rattle.repl_target.proofs.lemmas.replication.SourceFeedStored.{closed-found}
 use Rattle.repl_target.proofs.replication.close.Goals as goal
 
 pub record_at_source-requires : goal.record_at_source-requires

@@ -1,7 +1,7 @@
 use Rattle.std.proofs.Common.{◌<◌, sym, ◌∙◌, subst, arith}
 use Rattle.std.proofs.lemmas.Bool.{and_from}
-use Rattle.repl_target.specs.Replication.{Reading, Carries}
-use Rattle.repl_target.proofs.Reading.{less-is, reads_more}
+use Rattle.repl_target.specs.replication.Replication.{Reading, Carries}
+use Rattle.repl_target.proofs.lemmas.replication.SourceFeedStored.{less-is, reads_more}
 use Rattle.repl_target.proofs.replication.read_windows.Goals as goal
 
 pub loop-since-smaller : goal.loop-since-smaller

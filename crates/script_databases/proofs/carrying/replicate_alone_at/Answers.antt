@@ -1,6 +1,6 @@
 use Rattle.std.proofs.Common.{ap, ◌∙◌, subst}
 use Rattle.std.specs.FinMap.{contains_key}
-use Rattle.repl_target.specs.Replication.{Replicates}
+use Rattle.repl_target.specs.replication.Replication.{Replicates}
 use Rattle.script_databases.specs.Databases.{State}
 use Rattle.script_databases.specs.Stored.{deny_of, denied_of, peers_of}
 use Rattle.script_databases.proofs.CarryingLemmas.{denied_back, refuses_is, still_there, written_over}

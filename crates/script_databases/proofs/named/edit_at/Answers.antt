@@ -1,7 +1,7 @@
 use Rattle.std.proofs.Common.{Ok, inl, sym, ap, ◌∙◌, rules, refl, Result}
-use Rattle.repl_target.specs.Peer.{PeerValue}
+use Rattle.repl_target.specs.peer.Peer.{PeerValue}
 use Rattle.script_databases.specs.Databases.{edited_answer, edited_as}
-use Rattle.repl_target.specs.Writing.{after_edit}
+use Rattle.repl_target.specs.peer.Writing.{after_edit}
 use Rattle.script_databases.specs.Stored.{denied_of, deny_of, peers_of}
 use Rattle.script_databases.specs.declared.databases.Edited.{Edited}
 use Rattle.script_databases.specs.declared.refusal.Refusal.{Refusal}

@@ -1,5 +1,5 @@
 use Rattle.std.proofs.Common.{inl, sym, ap, ◌∙◌, rules, refl}
-use Rattle.repl_target.specs.Writing.{after_load}
+use Rattle.repl_target.specs.peer.Writing.{after_load}
 use Rattle.script_databases.specs.Databases.{load_answer}
 use Rattle.script_databases.specs.Refusals.{base_refusal, told_as}
 use Rattle.script_databases.specs.Stored.{denied_of, deny_of, peers_of}

@@ -1,8 +1,8 @@
 use Rattle.std.proofs.Common.{◌≡◌, inl, inr, Ok, Err, sym, ap, ◌∙◌, rules, refl}
 use Rattle.std.specs.Option.{option_copied}
 use Rattle.couch_base.specs.Database.{DatabaseValue}
-use Rattle.repl_target.specs.Peer.{PeerValue}
-use Rattle.repl_target.specs.Backups.{restored, restored_by, after_restore, restore_answer}
+use Rattle.repl_target.specs.peer.Peer.{PeerValue}
+use Rattle.repl_target.specs.peer.Backups.{restored, restored_by, after_restore, restore_answer}
 use Rattle.script_databases.specs.Databases.{backup_among, put_back_of, put_back_answer, put_back_by}
 use Rattle.script_databases.specs.Refusals.{target_refusal, told_as}
 use Rattle.script_databases.specs.Stored.{denied_of, deny_of, peers_of, state_of}

@@ -1,5 +1,5 @@
 use Rattle.std.proofs.Common.{◌<◌, ◌^◌, arith}
-use Rattle.repl_target.proofs.PeerInvariant.{Lawful-begun}
+use Rattle.repl_target.proofs.lemmas.peer.PeerInvariant.{Lawful-begun}
 use Rattle.repl_target.proofs.peer.Peer.begin.Goals as goal
 
 pub invariant_of-self : goal.invariant_of-self

@@ -1,5 +1,5 @@
-use Rattle.repl_target.proofs.HonestSessions.{honest_is}
-use Rattle.repl_target.proofs.TrustedPeers.{trusted_is}
+use Rattle.repl_target.proofs.lemmas.peer.HonestSessions.{honest_is}
+use Rattle.repl_target.proofs.lemmas.peer.TrustedPeers.{trusted_is}
 use Rattle.repl_target.proofs.peer.Peer.db.Goals as goal
 
 pub returns-clause-honest : goal.returns-clause-honest

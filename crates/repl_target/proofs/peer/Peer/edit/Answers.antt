@@ -1,4 +1,4 @@
-use Rattle.repl_target.proofs.PeerInvariant.{Lawful-edited}
+use Rattle.repl_target.proofs.lemmas.peer.PeerInvariant.{Lawful-edited}
 use Rattle.repl_target.proofs.peer.Peer.edit.Goals as goal
 
 pub invariant_of-self : goal.invariant_of-self

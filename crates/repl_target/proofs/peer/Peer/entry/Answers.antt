@@ -1,7 +1,7 @@
 use Rattle.std.proofs.Common.{Ok, sym, ap, ◌∙◌}
 use Rattle.std.specs.Option.{option_copied}
-use Rattle.repl_target.specs.Peer.{SessionValue, entry_of}
-use Rattle.repl_target.specs.Sessions.{found_answer}
+use Rattle.repl_target.specs.peer.Peer.{SessionValue, entry_of}
+use Rattle.repl_target.specs.session.Sessions.{found_answer}
 use Rattle.repl_target.proofs.peer.Peer.entry.Goals as goal
 
 pub returns-in-Some : goal.returns-in-Some

@@ -1,4 +1,4 @@
-use Rattle.repl_target.proofs.LogLaws.{Lawful-logs}
+use Rattle.repl_target.proofs.lemmas.logs.PutChangesLogsAlone.{Lawful-logs}
 use Rattle.repl_target.proofs.peer.Peer.put_entry.Goals as goal
 
 pub invariant_of-self : goal.invariant_of-self

@@ -1,4 +1,4 @@
-use Rattle.repl_target.proofs.PeerInvariant.{Lawful-recorded}
+use Rattle.repl_target.proofs.lemmas.peer.PeerInvariant.{Lawful-recorded}
 use Rattle.repl_target.proofs.peer.Peer.record.Goals as goal
 
 pub invariant_of-self : goal.invariant_of-self

@@ -1,8 +1,8 @@
 use Rattle.std.proofs.Common.{subst}
-use Rattle.repl_target.specs.Peer.{PeerValue}
-use Rattle.repl_target.specs.Settling.{SettleGives}
-use Rattle.repl_target.proofs.SettlingKeepsLaw.{settle_law}
-use Rattle.repl_target.proofs.Originating.{settle_origins}
+use Rattle.repl_target.specs.peer.Peer.{PeerValue}
+use Rattle.repl_target.specs.session.Settling.{SettleGives}
+use Rattle.repl_target.proofs.lemmas.session.SettlingKeepsLaw.{settle_law}
+use Rattle.repl_target.proofs.lemmas.peer.CallsKeepOrigins.{settle_origins}
 use Rattle.repl_target.proofs.peer.Peer.settle.Goals as goal
 
 pub invariant_of-self : goal.invariant_of-self

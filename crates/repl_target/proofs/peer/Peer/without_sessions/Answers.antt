@@ -1,6 +1,6 @@
 use Rattle.std.proofs.Common.{◌≡◌}
-use Rattle.repl_target.specs.Peer.{new_peer_at}
-use Rattle.repl_target.proofs.PeerInvariant.{Lawful-new}
+use Rattle.repl_target.specs.peer.Peer.{new_peer_at}
+use Rattle.repl_target.proofs.lemmas.peer.PeerInvariant.{Lawful-new}
 use Rattle.repl_target.proofs.peer.Peer.without_sessions.Goals as goal
 
 pub invariant_of-result : goal.invariant_of-result

@@ -1,6 +1,6 @@
 use Rattle.std.proofs.Common.{◌≤◌, sym, ◌∙◌, subst, rules}
 use Rattle.range_front.specs.Front.{FrontValue}
-use Rattle.repl_target.proofs.SessionLaws.{bounds_grown}
+use Rattle.repl_target.proofs.lemmas.session.SessionLaws.{bounds_grown}
 use Rattle.repl_target.proofs.session.Session.append.Goals as goal
 
 pub invariant_of-self-2 : goal.invariant_of-self-2

@@ -1,8 +1,8 @@
 use Rattle.std.proofs.Common.{◌≡◌, ◌==◌, true, cond, Ok, Err, sym, ap, ◌∙◌}
 use Rattle.std.proofs.lemmas.Bool.{eq-eqb}
 use Rattle.range_front.specs.Front.{low_water}
-use Rattle.repl_target.specs.Peer.{SessionValue}
-use Rattle.repl_target.specs.Sessions.{report_of, recorded_at}
+use Rattle.repl_target.specs.peer.Peer.{SessionValue}
+use Rattle.repl_target.specs.session.Sessions.{report_of, recorded_at}
 use Rattle.repl_target.specs.declared.fault.TargetFault.TheVariants as faults
 use Rattle.repl_target.proofs.session.Session.conclude.Goals as goal
 

@@ -1,4 +1,4 @@
-use Rattle.repl_target.proofs.SessionLaws.{start_recorded}
+use Rattle.repl_target.proofs.lemmas.session.SessionLaws.{start_recorded}
 use Rattle.repl_target.proofs.session.Session.record.Goals as goal
 
 pub invariant_of-self : goal.invariant_of-self

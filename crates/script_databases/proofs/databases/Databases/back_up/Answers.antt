@@ -2,9 +2,9 @@ use Rattle.std.proofs.Common.{◌≡◌, inl, inr, Bor, List, [], ◌∷◌, ◌
 use Rattle.std.specs.Prelude.{option_map}
 use Rattle.std.specs.Option.{option_copied}
 use Rattle.couch_base.specs.Database.{DatabaseValue}
-use Rattle.repl_target.specs.Peer.{PeerValue}
-use Rattle.repl_target.specs.Backups.{backup_answer}
-use Rattle.repl_target.specs.declared.filter.Rules.{Rules}
+use Rattle.repl_target.specs.peer.Peer.{PeerValue}
+use Rattle.repl_target.specs.peer.Backups.{backup_answer}
+use Rattle.repl_target.specs.declared.peer.filter.Rules.{Rules}
 use Rattle.script_databases.specs.Databases.{State, NamedBackupValue, peer_at, backup_among, backup_at, with_backup, backed_of, backed_answer, backed_told, backed_by}
 use Rattle.script_databases.specs.Refusals.{told_as, target_refusal}
 use Rattle.script_databases.specs.Stored.{beside_of, state_of}

@@ -1,7 +1,7 @@
 use Rattle.std.proofs.Common.{◌≡◌, subst}
 use Rattle.std.specs.Prelude.{OnOk}
 use Rattle.script_databases.specs.Databases.{State, edited_at}
-use Rattle.repl_target.specs.Writing.{after_edit}
+use Rattle.repl_target.specs.peer.Writing.{after_edit}
 use Rattle.script_databases.specs.Stored.{beside_of, state_of}
 use Rattle.script_databases.proofs.IndexLemmas.{index_kept, deny_kept, same_state, edit_keeps}
 use Rattle.script_databases.proofs.databases.Databases.edit.Goals as goal

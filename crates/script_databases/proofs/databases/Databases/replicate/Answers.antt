@@ -1,5 +1,5 @@
 use Rattle.std.proofs.Common.{subst, inr, ap}
-use Rattle.repl_target.specs.Peer.{PeerValue}
+use Rattle.repl_target.specs.peer.Peer.{PeerValue}
 use Rattle.script_databases.specs.Carrying.{CarriedByPool, CarriesFrom}
 use Rattle.script_databases.specs.Databases.{State}
 use Rattle.script_databases.specs.Stored.{beside_of, state_of}

@@ -1,5 +1,5 @@
 use Rattle.std.proofs.Common.{Ok, Err, Some, None, refl, sym, ap, ◌∙◌}
-use Rattle.repl_target.specs.Writing.{after_load}
+use Rattle.repl_target.specs.peer.Writing.{after_load}
 use Rattle.script_engine.specs.Serving.{in_full, served_only}
 use Rattle.script_databases.specs.Databases.{load_answer}
 use Rattle.script_words.specs.words.Load.{there_line, put_line}

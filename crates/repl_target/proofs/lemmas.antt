@@ -1,0 +1,6 @@
+-- The lemmas, by rooms as the code has them.
+pub mod peer
+pub mod session
+pub mod logs
+pub mod ties
+pub mod replication

@@ -1,0 +1,4 @@
+-- Lemmas of logs and audits.
+pub mod LogTables
+pub mod PutChangesLogsAlone
+pub mod FirstUnknownLeaf

@@ -1,0 +1,12 @@
+-- Lemmas of peers and their law.
+pub mod RulesTested
+pub mod LaterPeers
+pub mod CallsKeepLaw
+pub mod HonestSessions
+pub mod CallsKeepOrigins
+pub mod TrustedPeers
+pub mod PeerInvariant
+pub mod AcceptedEdits
+pub mod CopiedInTurn
+pub mod RestoredPeers
+pub mod RefusedCalls

@@ -1,0 +1,8 @@
+-- Lemmas of replications.
+pub mod SourceFeedStored
+pub mod FetchedDocuments
+pub mod EmptyTargetCopied
+pub mod CallLaws
+pub mod ReplicationAsCalls
+pub mod BothWays
+pub mod BegunSessions

@@ -1,0 +1,5 @@
+-- Lemmas of what is tied.
+pub mod TiedPages
+pub mod TiedMessages
+pub mod TiedPeersCover
+pub mod TiedPeersStay

@@ -1,0 +1,76 @@
+use Rattle.std.proofs.Common.{Ok, Err, subst}
+use Rattle.couch_base.specs.Database.{LawfulDatabase}
+use Rattle.repl_target.specs.replication.Replication.{Replicates}
+use Rattle.repl_target.specs.replication.Sync.{refused_there, refused_back, both}
+use Rattle.repl_target.proofs.lemmas.replication.BothWays.{replicates_leaves, turned_tied, both_meet}
+use Rattle.repl_target.proofs.replication.sync.sync_alone.Goals as goal
+
+pub returns-in-Err-clause-replicates : goal.returns-in-Err-clause-replicates
+returns-in-Err-clause-replicates g c = refused_there c.in-Err.ensures.replicates
+
+pub returns-in-Err-clause-tied_back : goal.returns-in-Err-clause-tied_back
+returns-in-Err-clause-tied_back g c =
+    let e = c.replicate_alone.ensures in
+    let refuses = g.G.WriteFilter.refuses c.args.b.now.0 in
+    turned_tied refuses c.args.a.now.1 c.args.b.now.1 c.args.there.now c.replicate_alone.new.source.1 c.replicate_alone.new.target.1 (subst LawfulDatabase c.db.ensures.value c.update_seq-seq.ensures.law) c.db-2.ensures.law.sessions
+    (replicates_leaves refuses c.args.a.now.1 c.args.b.now.1 c.args.there.now _ _ _ e.replicates e.source e.tied)
+
+pub returns-in-Err-replicate_alone-clause-replicates : goal.returns-in-Err-replicate_alone-clause-replicates
+returns-in-Err-replicate_alone-clause-replicates g c =
+    refused_back c.in-Ok.ensures.replicates
+    (subst (λ f. Replicates (g.F.WriteFilter.refuses f) c.replicate_alone.new.target.1 c.replicate_alone.new.source.1 c.args.back.now (Err c.in-Err-replicate_alone.fault) c.replicate_alone-2.new.source.1 c.replicate_alone-2.new.target.1) c.replicate_alone.ensures.filters.0 c.in-Err-replicate_alone.ensures.replicates)
+
+pub returns-in-Err-replicate_alone-clause-tied_there : goal.returns-in-Err-replicate_alone-clause-tied_there
+returns-in-Err-replicate_alone-clause-tied_there g c =
+    λ chosen backups h.
+    let e = c.replicate_alone-2.ensures in
+    let refuses = g.F.WriteFilter.refuses c.replicate_alone.new.source.0 in
+    turned_tied refuses c.replicate_alone.new.target.1 c.replicate_alone.new.source.1 c.args.back.now c.replicate_alone-2.new.source.1 c.replicate_alone-2.new.target.1 (subst LawfulDatabase c.db-3.ensures.value c.update_seq-seq_between.ensures.law) c.db-4.ensures.law.sessions
+    (replicates_leaves refuses c.replicate_alone.new.target.1 c.replicate_alone.new.source.1 c.args.back.now _ _ _ e.replicates e.source e.tied) chosen backups (c.replicate_alone.ensures.tied chosen backups h)
+
+pub returns-in-Err-replicate_alone-clause-tied_back : goal.returns-in-Err-replicate_alone-clause-tied_back
+returns-in-Err-replicate_alone-clause-tied_back g c =
+    λ chosen backups h.
+    let e = c.replicate_alone.ensures in
+    let refuses = g.G.WriteFilter.refuses c.args.b.now.0 in
+    c.replicate_alone-2.ensures.tied chosen backups
+    (turned_tied refuses c.args.a.now.1 c.args.b.now.1 c.args.there.now c.replicate_alone.new.source.1 c.replicate_alone.new.target.1 (subst LawfulDatabase c.db.ensures.value c.update_seq-seq.ensures.law) c.db-2.ensures.law.sessions
+    (replicates_leaves refuses c.args.a.now.1 c.args.b.now.1 c.args.there.now _ _ _ e.replicates e.source e.tied) chosen backups h)
+
+pub returns-clause-replicates : goal.returns-clause-replicates
+returns-clause-replicates g c =
+    both c.in-Ok.ensures.replicates
+    (subst (λ f. Replicates (g.F.WriteFilter.refuses f) c.replicate_alone.new.target.1 c.replicate_alone.new.source.1 c.args.back.now (Ok c.in-Ok-replicate_alone.report) c.replicate_alone-2.new.source.1 c.replicate_alone-2.new.target.1) c.replicate_alone.ensures.filters.0 c.in-Ok-replicate_alone.ensures.replicates)
+
+pub returns-clause-tied_there : goal.returns-clause-tied_there
+returns-clause-tied_there g c =
+    λ chosen backups h.
+    let e = c.replicate_alone-2.ensures in
+    let refuses = g.F.WriteFilter.refuses c.replicate_alone.new.source.0 in
+    turned_tied refuses c.replicate_alone.new.target.1 c.replicate_alone.new.source.1 c.args.back.now c.replicate_alone-2.new.source.1 c.replicate_alone-2.new.target.1 (subst LawfulDatabase c.db-3.ensures.value c.update_seq-seq_between.ensures.law) c.db-4.ensures.law.sessions
+    (replicates_leaves refuses c.replicate_alone.new.target.1 c.replicate_alone.new.source.1 c.args.back.now _ _ _ e.replicates e.source e.tied) chosen backups (c.replicate_alone.ensures.tied chosen backups h)
+
+pub returns-clause-tied_back : goal.returns-clause-tied_back
+returns-clause-tied_back g c =
+    λ chosen backups h.
+    let e = c.replicate_alone.ensures in
+    let refuses = g.G.WriteFilter.refuses c.args.b.now.0 in
+    c.replicate_alone-2.ensures.tied chosen backups
+    (turned_tied refuses c.args.a.now.1 c.args.b.now.1 c.args.there.now c.replicate_alone.new.source.1 c.replicate_alone.new.target.1 (subst LawfulDatabase c.db.ensures.value c.update_seq-seq.ensures.law) c.db-2.ensures.law.sessions
+    (replicates_leaves refuses c.args.a.now.1 c.args.b.now.1 c.args.there.now _ _ _ e.replicates e.source e.tied) chosen backups h)
+
+pub returns-clause-meet : goal.returns-clause-meet
+returns-clause-meet g c =
+    let first = c.replicate_alone.ensures in
+    let second = c.replicate_alone-2.ensures in
+    let refuses_a = g.F.WriteFilter.refuses c.replicate_alone.new.source.0 in
+    let refuses_b = g.G.WriteFilter.refuses c.args.b.now.0 in
+    let a = c.args.a.now.1 in
+    let b = c.args.b.now.1 in
+    let a' = c.replicate_alone.new.source.1 in
+    let b' = c.replicate_alone.new.target.1 in
+    let b'' = c.replicate_alone-2.new.source.1 in
+    let a'' = c.replicate_alone-2.new.target.1 in
+    both_meet refuses_a refuses_b a b a' b' a'' b'' c.args.there.now c.args.back.now (subst LawfulDatabase c.db.ensures.value c.update_seq-seq.ensures.law)
+    (subst LawfulDatabase c.db-3.ensures.value c.update_seq-seq_between.ensures.law) (subst LawfulDatabase c.db-5.ensures.value c.update_seq-seq_after.ensures.law) c.db-2.ensures.law.sessions
+    (replicates_leaves refuses_b a b c.args.there.now _ _ _ first.replicates first.source first.tied) (replicates_leaves refuses_a b' a' c.args.back.now _ _ _ second.replicates second.source second.tied) c.in-Ok.ensures.whole c.in-Ok-replicate_alone.ensures.whole

@@ -1,0 +1,13 @@
+-- Peers, their law and what is written into them.
+pub mod Peer
+pub mod Covered
+pub mod Writing
+pub mod Law
+pub mod Rules
+pub mod Lineage
+pub mod Later
+pub mod PeerCode
+pub mod Origins
+pub mod Trusted
+pub mod Local
+pub mod Backups

@@ -1,0 +1,4 @@
+-- Replications, one way and both ways.
+pub mod Replication
+pub mod Calls
+pub mod Sync

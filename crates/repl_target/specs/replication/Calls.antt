@@ -1,0 +1,89 @@
+-- Calls on a target in any order, and what they leave: docs/PROFILE.md, "Sessions of a peer" and "Tied windows and
+-- messages".
+use Rattle.std.specs.Prelude.{◌≡◌, ◌⊎◌, ℕ, ◌<◌, ◌≤◌, Bool, List, [], ◌∷◌, length, Option, Ok}
+use Rattle.rev_core.specs.Rev.{RevId}
+use Rattle.rev_tree.specs.declared.origin.SessionId.{SessionId}
+use Rattle.doc_json.specs.Document.{Document}
+use Rattle.doc_json.specs.Chosen.{Choice}
+use Rattle.couch_base.specs.Lists.{Among}
+use Rattle.couch_base.specs.Database.{Id, DatabaseValue}
+use Rattle.couch_base.specs.Feed.{WindowValue, page}
+use Rattle.couch_base.specs.Messages.{ParcelValue, open_revs}
+use Rattle.repl_log.specs.declared.replication.RepId.{RepId}
+use Rattle.repl_target.specs.peer.Peer.{PeerValue, SessionValue}
+use Rattle.repl_target.specs.peer.Writing.{after_load, after_edit}
+use Rattle.repl_target.specs.session.Sessions.{after_begin, after_append, after_record, after_conclude}
+use Rattle.repl_target.specs.session.Settling.{after_settle, after_stop}
+use Rattle.repl_target.specs.replication.Replication.{begins_answer, after_begins}
+use Rattle.repl_target.specs.declared.session.beginning.Beginning.{Beginning}
+use Rattle.repl_target.specs.declared.replication.Plan.{Plan}
+
+-- a call on a target. `Stop` is a settling that found no memory after so many documents
+pub data Call : Type 0 where
+  Load : (doc : Document) → Call
+  Edit : (id : Id) (parent : Option RevId) (deleted : Bool) (body : List ℕ) → Call
+  Begin : (session : SessionId) (beginning : Beginning) (at : ℕ) → Call
+  Append : (session : SessionId) (window : WindowValue) → Call
+  Settle : (session : SessionId) (parcel : ParcelValue) → Call
+  Stop : (session : SessionId) (parcel : ParcelValue) (settled : ℕ) → Call
+  Record : (session : SessionId) (at : ℕ) → Call
+  Conclude : (session : SessionId) (at : ℕ) → Call
+
+-- the target after it, also where it is refused
+abbrev pub after_call : (Document → Bool) → PeerValue → Call → PeerValue
+after_call refuses p (Load doc) = after_load p doc
+after_call refuses p (Edit id parent deleted body) = after_edit p id parent deleted body
+after_call refuses p (Begin session beginning at) = after_begin p session beginning at
+after_call refuses p (Append session window) = after_append p session window
+after_call refuses p (Settle session parcel) = after_settle refuses p session parcel
+after_call refuses p (Stop session parcel settled) = after_stop refuses p session parcel settled
+after_call refuses p (Record session at) = after_record p session at
+after_call refuses p (Conclude session at) = after_conclude p session at
+
+-- after some calls, in their order
+abbrev pub after_calls : (Document → Bool) → PeerValue → List Call → PeerValue
+after_calls refuses p [] = p
+after_calls refuses p (c ∷ calls) = after_calls refuses (after_call refuses p c) calls
+
+-- a page of a database under a choice
+pub record IsPageOf (db : DatabaseValue) (chosen : Choice) (w : WindowValue) : Type 0 where
+  pub since : ℕ
+  pub goal : ℕ
+  pub limit : ℕ
+  pub some : 0 < limit
+  pub above : since < goal
+  pub within : goal ≤ db.update_seq
+  pub is : w ≡ page db since goal limit chosen
+
+-- a call of a run: it is one on the run's session, which begins no session and writes nothing of its own; its messages
+-- are what a source answers under a choice, and a settling that stops has settled no more than the parcel has
+abbrev pub IsFrom : DatabaseValue → Choice → SessionId → Call → Type 0
+IsFrom source chosen run (Append session window) = (session ≡ run) × IsPageOf source chosen window
+IsFrom source chosen run (Settle session parcel) = (session ≡ run) × (parcel ≡ open_revs source parcel.asked)
+IsFrom source chosen run (Stop session parcel settled) =
+    (session ≡ run) × (parcel ≡ open_revs source parcel.asked) × (settled ≤ length parcel.docs)
+IsFrom source chosen run (Record session at) = session ≡ run
+IsFrom source chosen run (Conclude session at) = session ≡ run
+IsFrom source chosen run call = ⊥
+
+abbrev pub AllFrom : DatabaseValue → Choice → SessionId → List Call → Type 0
+AllFrom source chosen run [] = Unit {0}
+AllFrom source chosen run (c ∷ calls) = IsFrom source chosen run c × AllFrom source chosen run calls
+
+-- a target is a given one after some calls of a run
+abbrev pub IsGrown : (Document → Bool) → DatabaseValue → Choice → SessionId → PeerValue → PeerValue → Type 0
+IsGrown refuses source chosen run given now =
+    (calls : List Call) × AllFrom source chosen run calls × (now ≡ after_calls refuses given calls)
+
+-- what a replication leaves of a target: it is as it was given; or the plan's session has begun at the common checkpoint,
+-- and the target has grown since
+abbrev pub IsLeft : (Document → Bool) → PeerValue → PeerValue → Plan → PeerValue → Type 0
+IsLeft refuses source given plan now =
+    (now ≡ given)
+    ⊎ (begins_answer source given plan ≡ Ok tt)
+    × IsGrown refuses source.db plan.chosen plan.session (after_begins source given plan) now
+
+-- each window of the sessions that are looked at is so
+abbrev pub EachStored : (SessionId → RepId → Type 0) → (WindowValue → Type 0) → List SessionValue → Type 0
+EachStored Q P sessions =
+    (s : SessionValue) → Among s sessions → Q s.id s.rep → (w : WindowValue) → Among w s.windows → P w

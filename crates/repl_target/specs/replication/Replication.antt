@@ -1,0 +1,233 @@
+-- Replication by one thread: docs/PROFILE.md, "Replication by one thread"; CouchDB, "Replication Protocol".
+use Rattle.std.specs.Prelude.{◌≡◌, ◌⊎◌, ℕ, zero, suc, ◌+◌, ◌==◌, ◌<◌, Bool, true, false, ◌&&◌, nat_lt, nat_le, if◌then◌else◌, [], Option, Some, None, Result, Ok, Err}
+use Rattle.rev_core.specs.Rev.{RevId}
+use Rattle.rev_tree.specs.Tree.{leaves, SameRevisions}
+use Rattle.rev_tree.specs.declared.origin.SessionId.{SessionId}
+use Rattle.doc_json.specs.Document.{Document}
+use Rattle.doc_json.specs.Chosen.{Choice, is_chosen}
+use Rattle.couch_base.specs.Database.{Id, DatabaseValue, tree_of}
+use Rattle.couch_base.specs.Feed.{RowValue, WindowValue, chosen_feed, page}
+use Rattle.couch_base.specs.Lists.{Among}
+use Rattle.couch_base.specs.Messages.{ParcelValue, revs_diff, open_revs}
+use Rattle.repl_log.specs.declared.replication.RepId.{RepId}
+use Rattle.repl_log.specs.Entry.{EntryValue}
+use Rattle.repl_target.specs.peer.Peer.{PeerValue, SessionValue, session_in, entry_of}
+use Rattle.repl_target.specs.peer.Covered.{covers}
+use Rattle.repl_target.specs.session.Sessions.{report_of, session_answer, begin_answer, after_begin, append_answer, after_append, after_record, conclude_answer, after_conclude}
+use Rattle.repl_target.specs.session.Settling.{SettleGives}
+use Rattle.repl_target.specs.logs.Logs.{after_put_entry}
+use Rattle.repl_target.specs.logs.Audit.{rep_between, checkpoint_between}
+use Rattle.repl_target.specs.declared.session.beginning.Beginning.{Beginning}
+use Rattle.repl_target.specs.declared.fault.Report.{Report}
+use Rattle.repl_target.specs.declared.fault.Settled.{Settled}
+use Rattle.repl_target.specs.declared.fault.TargetFault.{TargetFault}
+use Rattle.repl_target.specs.declared.fault.TargetFault.TheVariants as faults
+use Rattle.repl_target.specs.declared.replication.Plan.{Plan}
+
+-- ---- before a session begins
+
+-- a window has 1 to 10,000 rows
+abbrev pub is_batch : ℕ → Bool
+is_batch n = nat_le 1 n && nat_le n 10000
+
+-- what is asked first: the batch, and that the two databases are not one
+abbrev pub plan_answer : PeerValue → PeerValue → Plan → Result (Unit {0}) TargetFault
+plan_answer source target plan =
+    if is_batch plan.batch then (if source.db.uuid == target.db.uuid then Err faults.SamePeer else Ok tt)
+    else Err faults.BadBatch
+
+-- a session begins where the two logs agree, on the session of that checkpoint, or at 0
+abbrev pub base_at : Option (SessionId × ℕ) → Option SessionId
+base_at None = None
+base_at (Some checkpoint) = Some checkpoint.0
+
+abbrev pub start_at : Option (SessionId × ℕ) → ℕ
+start_at None = 0
+start_at (Some checkpoint) = checkpoint.1
+
+-- the common checkpoint of a replication from one peer into the other
+abbrev pub checkpoint_of : PeerValue → PeerValue → Choice → Option (SessionId × ℕ)
+checkpoint_of source target chosen = checkpoint_between source target (rep_between source target chosen)
+
+abbrev pub start_between : PeerValue → PeerValue → Choice → ℕ
+start_between source target chosen = start_at (checkpoint_of source target chosen)
+
+-- it is of the source's life, and its goal is the source's update sequence
+abbrev pub beginning_between : PeerValue → PeerValue → Choice → Beginning
+beginning_between source target chosen = record {
+  rep = rep_between source target chosen;
+  life = source.db.life;
+  base = base_at (checkpoint_of source target chosen);
+  start = start_between source target chosen;
+  goal = source.db.update_seq;
+}
+
+abbrev pub begins_answer : PeerValue → PeerValue → Plan → Result (Unit {0}) TargetFault
+begins_answer source target plan = begin_answer target plan.session (beginning_between source target plan.chosen)
+
+abbrev pub after_begins : PeerValue → PeerValue → Plan → PeerValue
+after_begins source target plan = after_begin target plan.session (beginning_between source target plan.chosen) plan.at
+
+-- ---- windows
+
+-- how far the source's feed is read, and the target then
+pub record Reading : Type 0 where
+  pub since : ℕ
+  pub target : PeerValue
+
+-- the next window of the source's feed, which has the rows of chosen documents
+abbrev pub next_window : DatabaseValue → Plan → ℕ → WindowValue
+next_window source plan since = page source since source.update_seq plan.batch plan.chosen
+
+-- what a target misses of a window, as the source has it
+abbrev pub parcel_for : DatabaseValue → PeerValue → WindowValue → ParcelValue
+parcel_for source p w = open_revs source (revs_diff p.db w)
+
+-- the session stores the window, and what the target missed of it is settled
+abbrev pub StoresAndSettles : (Document → Bool) → Plan → PeerValue → WindowValue → ParcelValue
+    → Result Settled TargetFault → PeerValue → Type 0
+StoresAndSettles refuses plan p w parcel result q =
+    (append_answer p plan.session w ≡ Ok tt)
+    × SettleGives refuses (after_append p plan.session w) plan.session parcel result q
+
+-- the next window is read, stored and settled
+pub record Carries (refuses : Document → Bool) (source : DatabaseValue) (plan : Plan) (before after : Reading) : Type 0
+  where
+    pub due : before.since < source.update_seq
+    pub window : WindowValue
+    pub read : window ≡ next_window source plan before.since
+    pub settled : Settled
+    pub settles : StoresAndSettles refuses plan before.target window (parcel_for source before.target window)
+        (Ok settled) after.target
+    pub reached : after.since ≡ window.hi
+
+-- or it is refused: it finds no memory, or the session doesn't store it, or settling is refused
+abbrev pub WindowRefused : (Document → Bool) → DatabaseValue → Plan → Reading → TargetFault → PeerValue → Type 0
+WindowRefused refuses source plan before why q =
+    (why ≡ faults.Memory) × (q ≡ before.target)
+    ⊎ (append_answer before.target plan.session (next_window source plan before.since) ≡ Err why) × (q ≡ before.target)
+    ⊎ StoresAndSettles refuses plan before.target (next_window source plan before.since)
+    (parcel_for source before.target (next_window source plan before.since)) (Err why) q
+
+-- whether a plan lets another window be read after n
+abbrev pub has_left : Option ℕ → ℕ → Bool
+has_left None n = true
+has_left (Some stop_after) n = nat_lt n stop_after
+
+-- whether another window is due
+abbrev pub is_due : DatabaseValue → Plan → ℕ → ℕ → Bool
+is_due source plan n since = nat_lt since source.update_seq && has_left plan.stop_after n
+
+-- n windows are read, one behind the other, each stored and settled before the next
+abbrev pub Reads : (Document → Bool) → DatabaseValue → Plan → ℕ → Reading → Reading → Type 0
+Reads refuses source plan zero from to = to ≡ from
+Reads refuses source plan (suc n) from to =
+    (before : Reading) × Reads refuses source plan n from before × (is_due source plan n before.since ≡ true)
+    × Carries refuses source plan before to
+
+-- windows are read until none is due
+abbrev pub ReadsAll : (Document → Bool) → DatabaseValue → Plan → Reading → PeerValue → Type 0
+ReadsAll refuses source plan from target' =
+    (n : ℕ) × (now : Reading) × Reads refuses source plan n from now × (is_due source plan n now.since ≡ false)
+    × (target' ≡ now.target)
+
+-- or until one is refused
+abbrev pub ReadsUntil : (Document → Bool) → DatabaseValue → Plan → Reading → TargetFault → PeerValue → Type 0
+ReadsUntil refuses source plan from why target' =
+    (n : ℕ) × (now : Reading) × Reads refuses source plan n from now × (is_due source plan n now.since ≡ true)
+    × WindowRefused refuses source plan now why target'
+
+-- ---- the end
+
+-- the session is concluded where all is done up to its goal, and recorded where it isn't
+abbrev pub closed_as : PeerValue → Plan → Result Report TargetFault → PeerValue
+closed_as p plan (Ok report) = after_conclude p plan.session plan.at
+closed_as p plan (Err fault) = after_record (after_conclude p plan.session plan.at) plan.session plan.at
+
+abbrev pub closed : PeerValue → Plan → PeerValue
+closed p plan = closed_as p plan (conclude_answer p plan.session)
+
+-- an entry is put into the log of a replication, where an older one is passed over, or finds no memory
+abbrev pub PutsOver : PeerValue → RepId → EntryValue → Result (Unit {0}) TargetFault → PeerValue → Type 0
+PutsOver source rep entry (Ok done) source' = source' ≡ after_put_entry source rep entry
+PutsOver source rep entry (Err why) source' =
+    (why ≡ faults.Memory) × (source' ≡ source)
+
+-- the answer of recording both sides: that of concluding, unless the second finds no memory
+abbrev pub told_by : Result Report TargetFault → Result (Unit {0}) TargetFault → Result Report TargetFault
+told_by concluded (Ok done) = concluded
+told_by concluded (Err why) = Err why
+
+-- both sides are recorded, the target first: then its session's entry is put at the source
+pub record Closes (source target : PeerValue) (plan : Plan) (result : Result Report TargetFault)
+    (source' target' : PeerValue) : Type 0 where
+  pub at_target : target' ≡ closed target plan
+  pub entry : EntryValue
+  pub told : session_answer target' plan.session (λ s. Ok (entry_of s)) ≡ Ok entry
+  pub put : Result (Unit {0}) TargetFault
+  pub at_source : PutsOver source (rep_between source target' plan.chosen) entry put source'
+  pub answer : result ≡ told_by (conclude_answer target plan.session) put
+
+-- ---- a replication
+
+abbrev pub first_reading : PeerValue → PeerValue → Plan → Reading
+first_reading source target plan =
+    record { since = start_between source target plan.chosen; target = after_begins source target plan }
+
+-- What replicating by one thread answers, and the source and the target that it leaves.
+pub data Replicates (refuses : Document → Bool) (source target : PeerValue) (plan : Plan) : Result Report TargetFault
+    → PeerValue → PeerValue → Type 0 where
+  -- the plan isn't one for these peers
+  not_planned : {why : TargetFault} → plan_answer source target plan ≡ Err why
+      → Replicates refuses source target plan (Err why) source target
+  -- the logs find no memory, or the session isn't begun
+  no_memory : plan_answer source target plan ≡ Ok tt
+      → Replicates refuses source target plan (Err faults.Memory) source target
+  not_begun : {why : TargetFault} → plan_answer source target plan ≡ Ok tt → begins_answer source target plan ≡ Err why
+      → Replicates refuses source target plan (Err why) source target
+  -- after some windows the next is refused
+  cut : {why : TargetFault} {target' : PeerValue} → plan_answer source target plan ≡ Ok tt
+      → begins_answer source target plan ≡ Ok tt
+      → ReadsUntil refuses source.db plan (first_reading source target plan) why target'
+      → Replicates refuses source target plan (Err why) source target'
+  -- all windows are read
+  ended : {result : Result Report TargetFault} {source' target' : PeerValue} (read : PeerValue)
+      → plan_answer source target plan ≡ Ok tt → begins_answer source target plan ≡ Ok tt
+      → ReadsAll refuses source.db plan (first_reading source target plan) read
+      → Closes source read plan result source' target' → Replicates refuses source target plan result source' target'
+
+-- ---- what it says
+
+-- each leaf of the source's chosen feed above a sequence is covered at the target
+abbrev pub CoversFrom : PeerValue → PeerValue → Choice → ℕ → Type 0
+CoversFrom source target chosen n =
+    (row : RowValue) → Among row (chosen_feed chosen source.db n source.db.update_seq) → (leaf : RevId) → Among leaf row.leaves
+    → covers target row.id leaf ≡ true
+
+-- the report is that of the plan's session: of this replication, of the source's life, based on the session of the common
+-- checkpoint, begun there, and recorded at its goal, which is the source's update sequence
+pub record IsReported (source target target' : PeerValue) (plan : Plan) (report : Report) : Type 0 where
+  pub session : SessionValue
+  pub held : session_in target'.sessions plan.session ≡ Some session
+  pub is : report ≡ report_of session
+  pub rep : session.rep ≡ rep_between source target plan.chosen
+  pub life : session.life ≡ source.db.life
+  pub base : session.base ≡ base_at (checkpoint_of source target plan.chosen)
+  pub goal : session.goal ≡ source.db.update_seq
+  pub start : report.start ≡ start_between source target plan.chosen
+  pub recorded : report.recorded ≡ source.db.update_seq
+  pub counts : report.read ≡ report.written + report.failures
+
+-- a peer without documents and sessions
+abbrev pub IsEmpty : PeerValue → Type 0
+IsEmpty p = (p.db.docs ≡ []) × (p.sessions ≡ [])
+
+-- a document has the same revisions, parents and contents of leaves in two databases; so it has the same leaves there,
+-- the winner first
+abbrev pub SameDocument : DatabaseValue → DatabaseValue → Id → Type 0
+SameDocument a b id =
+    SameRevisions (tree_of a.docs id) (tree_of b.docs id) × (leaves (tree_of a.docs id) ≡ leaves (tree_of b.docs id))
+
+-- each chosen document of one database is in the other as it is there
+abbrev pub SameDocuments : Choice → DatabaseValue → DatabaseValue → Type 0
+SameDocuments chosen a b = (id : Id) → is_chosen chosen id ≡ true → SameDocument a b id

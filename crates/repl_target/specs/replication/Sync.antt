@@ -1,0 +1,56 @@
+-- Replication both ways: docs/PROFILE.md, "Both ways"; PouchDB, `sync`.
+use Rattle.std.specs.Prelude.{◌≡◌, Bool, true, [], Result, Ok, Err}
+use Rattle.rev_core.specs.Rev.{RevId}
+use Rattle.rev_tree.specs.Tree.{has, is_leaf}
+use Rattle.rev_tree.specs.Agreement.{Agree, IsWhole}
+use Rattle.doc_json.specs.Document.{Document}
+use Rattle.doc_json.specs.Chosen.{is_chosen}
+use Rattle.couch_base.specs.Lists.{Among}
+use Rattle.couch_base.specs.Database.{Id, DatabaseValue, tree_of}
+use Rattle.repl_target.specs.peer.Peer.{PeerValue, SessionValue}
+use Rattle.repl_target.specs.replication.Replication.{SameDocument, Replicates}
+use Rattle.repl_target.specs.ties.TiedPeers.{IsTiedPair}
+use Rattle.repl_target.specs.declared.replication.sync.SyncFault.{SyncFault}
+use Rattle.repl_target.specs.declared.replication.sync.SyncFault.TheVariants as faults
+use Rattle.repl_target.specs.declared.replication.sync.Synced.{Synced}
+use Rattle.repl_target.specs.declared.fault.Report.{Report}
+use Rattle.repl_target.specs.declared.fault.TargetFault.{TargetFault}
+use Rattle.repl_target.specs.declared.replication.Plan.{Plan}
+
+-- What replicating a into b and then b into a answers, and the two peers that it leaves: one replication each way, the
+-- second where the first was refused nothing.
+pub data Syncs (refuses_a refuses_b : Document → Bool) (a b : PeerValue) (there back : Plan) : Result Synced
+    SyncFault → PeerValue → PeerValue → Type 0 where
+  refused_there : {why : TargetFault} {a' b' : PeerValue} → Replicates refuses_b a b there (Err why) a' b'
+      → Syncs refuses_a refuses_b a b there back (Err (faults.There why)) a' b'
+  refused_back : {report : Report} {why : TargetFault} {a' b' a'' b'' : PeerValue}
+      → Replicates refuses_b a b there (Ok report) a' b' → Replicates refuses_a b' a' back (Err why) b'' a''
+      → Syncs refuses_a refuses_b a b there back (Err (faults.Back why)) a'' b''
+  both : {reports : Synced} {a' b' a'' b'' : PeerValue} → Replicates refuses_b a b there (Ok reports.there) a' b'
+      → Replicates refuses_a b' a' back (Ok reports.back) b'' a''
+      → Syncs refuses_a refuses_b a b there back (Ok reports) a'' b''
+
+-- ---- what it says
+
+-- each leaf that one database has of a document is a revision of the other's
+abbrev pub KnowsLeaves : DatabaseValue → DatabaseValue → Id → Type 0
+KnowsLeaves knower db id =
+    (leaf : RevId) → is_leaf (tree_of db.docs id) leaf ≡ true → has (tree_of knower.docs id) leaf ≡ true
+
+-- no session of a peer has refused a document
+abbrev pub HasRefusedNone : PeerValue → Type 0
+HasRefusedNone p = (s : SessionValue) → Among s p.sessions → s.ledger ≡ []
+
+-- what both ways leave of a document: each side knows the other's leaves. Where the trees before agreed and no history
+-- was cut off, both sides have the same document
+pub record Meets (a b a' b' : DatabaseValue) (id : Id) : Type 0 where
+  pub there : KnowsLeaves b' a' id
+  pub back : KnowsLeaves a' b' id
+  pub same : Agree (tree_of a.docs id) (tree_of b.docs id) → IsWhole (tree_of a.docs id) → IsWhole (tree_of b.docs id)
+      → SameDocument a' b' id
+
+-- each document that is chosen both ways, from peers that are tied each way, where neither side has refused a document
+abbrev pub MeetBoth : PeerValue → PeerValue → PeerValue → PeerValue → Plan → Plan → Type 0
+MeetBoth a b a' b' there back =
+    IsTiedPair a b there.chosen → IsTiedPair b a back.chosen → HasRefusedNone a' → HasRefusedNone b'
+    → (id : Id) → is_chosen there.chosen id ≡ true → is_chosen back.chosen id ≡ true → Meets a.db b.db a'.db b'.db id

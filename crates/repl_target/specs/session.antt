@@ -1,0 +1,10 @@
+-- The sessions of a peer, and settling.
+pub mod Sessions
+pub mod Settling
+pub mod Stored
+pub mod SessionCalls
+pub mod LedgerIndex
+pub mod RepIndex
+pub mod SettlingParts
+pub mod StoredSessions
+pub mod ReadCounts

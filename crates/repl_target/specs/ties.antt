@@ -1,0 +1,4 @@
+-- What it means that windows, messages and peers are tied.
+pub mod Ties
+pub mod TiedPeers
+pub mod Tied
