@@ -13,7 +13,7 @@ use Rattle.repl_target.specs.declared.fault.TargetFault.TheVariants as refusals
 use Rattle.repl_target.specs.declared.replication.Plan.{Plan}
 use Rattle.repl_target.specs.replication.Calls.{IsGrown, IsLeft}
 use Rattle.repl_target.specs.logs.Audit.{CoversFeed}
-use Rattle.repl_target.specs.ties.TiedPeers.{IsTiedPair}
+use Rattle.repl_target.specs.ties.Ties.{IsTiedPair}
 use Rattle.repl_target.specs.peer.Covered.{Leaf, covers, first_uncovered}
 use Rattle.repl_target.specs.peer.Peer.{PeerValue}
 use Rattle.repl_target.specs.peer.Law.{LawfulSessions}

@@ -10,7 +10,7 @@ use Rattle.range_front.specs.Front.{low_water}
 use Rattle.rev_tree.specs.declared.origin.SessionId.{SessionId}
 use Rattle.repl_target.specs.logs.Audit.{rep_between, audit_answer, CoversFeed}
 use Rattle.repl_target.specs.peer.Backups.{BackupValue}
-use Rattle.repl_target.specs.ties.TiedPeers.{IsTiedPair, IsTiedWith}
+use Rattle.repl_target.specs.ties.Ties.{IsTiedPair, IsTiedWith}
 use Rattle.repl_target.specs.replication.Calls.{IsGrown}
 use Rattle.repl_target.specs.peer.Covered.{first_uncovered}
 use Rattle.repl_target.specs.peer.Later.{IsLaterPeer}

@@ -2,7 +2,7 @@
 ghost use Rattle.std.specs.Prelude.{List, OnOk};
 ghost use Rattle.doc_json.specs.Chosen.{Choice};
 ghost use Rattle.repl_target.specs.peer.Backups.{BackupValue};
-ghost use Rattle.repl_target.specs.ties.TiedPeers.{IsTiedWith};
+ghost use Rattle.repl_target.specs.ties.Ties.{IsTiedWith};
 ghost use Rattle.repl_target.specs.replication.Sync.{MeetBoth};
 ghost use Rattle.repl_pool.specs.Sync.{SyncRuns};
 

@@ -1,4 +1,2 @@
 -- What it means that windows, messages and peers are tied.
 pub mod Ties
-pub mod TiedPeers
-pub mod Tied

@@ -5,7 +5,7 @@ ghost use Rattle.couch_base.specs.Database.{LawfulDatabase};
 ghost use Rattle.repl_log.specs.Entry.{EntryValue};
 ghost use Rattle.repl_target.specs.logs.Audit.{rep_between, audit_answer, CoversFeed};
 ghost use Rattle.repl_target.specs.peer.Backups.{BackupValue};
-ghost use Rattle.repl_target.specs.ties.TiedPeers.{IsTiedPair, IsTiedWith};
+ghost use Rattle.repl_target.specs.ties.Ties.{IsTiedPair, IsTiedWith};
 ghost use Rattle.repl_target.specs.peer.Peer.{SessionValue, session_in, entry_of};
 ghost use Rattle.repl_target.specs.session.Sessions.{session_answer, conclude_answer};
 ghost use Rattle.repl_target.specs.replication.Replication.{Reading, is_batch, plan_answer, start_between, begins_answer, after_begins, Carries, WindowRefused, has_left, ReadsAll, ReadsUntil, closed, PutsOver, Closes, Replicates, CoversFrom, IsReported, IsEmpty, SameDocuments};

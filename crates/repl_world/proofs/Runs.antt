@@ -13,9 +13,8 @@ use Rattle.repl_target.specs.peer.Peer.{PeerValue}
 use Rattle.repl_target.specs.peer.Backups.{BackupValue}
 use Rattle.repl_target.specs.session.Sessions.{GivesUnlessMemory, append_answer, after_append}
 use Rattle.repl_target.specs.peer.Law.{LawfulSessions}
-use Rattle.repl_target.specs.session.Settling.{SettleGives}
+use Rattle.repl_target.specs.session.Settling.{SettleGives, stopped_at}
 use Rattle.repl_target.specs.ties.Ties.{IsTiedParcel}
-use Rattle.repl_target.specs.ties.Tied.{stopped_at}
 use Rattle.repl_target.specs.declared.fault.Settled.{Settled}
 use Rattle.repl_target.specs.declared.fault.TargetFault.{TargetFault}
 use Rattle.repl_target.specs.declared.fault.TargetFault.TheVariants as faults

@@ -17,10 +17,9 @@ use Rattle.repl_log.specs.Entry.{EntryValue}
 use Rattle.repl_target.specs.peer.Peer.{PeerValue, SessionValue}
 use Rattle.repl_target.specs.session.Sessions.{after_record, after_conclude, conclude_answer}
 use Rattle.repl_target.specs.peer.Later.{IsLaterPeer}
-use Rattle.repl_target.specs.ties.Ties.{IsTiedWindow}
+use Rattle.repl_target.specs.ties.Ties.{IsTiedWindow, AreTiedEntries, IsTiedPair, IsSentEntry}
 use Rattle.repl_target.specs.logs.Audit.{rep_between}
 use Rattle.repl_target.specs.replication.Calls.{Call, Load, Edit, after_call}
-use Rattle.repl_target.specs.ties.TiedPeers.{AreTiedEntries, IsTiedPair, IsSentEntry}
 use Rattle.repl_target.specs.peer.Backups.{BackupValue, copy_of, is_target, backup_answer, greater_life, restore_answer, restored, restored_by}
 use Rattle.repl_target.specs.logs.Logs.{log_in}
 use Rattle.repl_target.specs.peer.Writing.{after_edit, load_edited}

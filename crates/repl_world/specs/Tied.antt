@@ -9,13 +9,11 @@ use Rattle.couch_base.specs.Feed.{WindowValue}
 use Rattle.couch_base.specs.Messages.{AskedValue, ParcelValue}
 use Rattle.repl_log.specs.Entry.{EntryValue}
 use Rattle.repl_target.specs.peer.Peer.{PeerValue, SessionValue}
-use Rattle.repl_target.specs.session.Settling.{SettleGives}
+use Rattle.repl_target.specs.session.Settling.{SettleGives, is_uncovered}
 use Rattle.repl_target.specs.peer.Law.{Lawful}
 use Rattle.repl_target.specs.logs.Audit.{rep_between, audit_answer, IsAudited}
-use Rattle.repl_target.specs.ties.Ties.{IsTiedWindow, IsTiedAsked, IsTiedParcel}
-use Rattle.repl_target.specs.ties.TiedPeers.{AreTiedEntries, IsTiedWith, IsSentEntry}
+use Rattle.repl_target.specs.ties.Ties.{IsTiedWindow, IsTiedAsked, IsTiedParcel, AreTiedEntries, IsTiedWith, IsSentEntry, LogsAreHonest}
 use Rattle.repl_target.specs.logs.Logs.{source_log}
-use Rattle.repl_target.specs.ties.Tied.{LogsAreHonest, is_uncovered}
 use Rattle.repl_target.specs.declared.fault.Settled.{Settled}
 use Rattle.repl_target.specs.declared.fault.TargetFault.{TargetFault}
 use Rattle.repl_world.specs.Bags.{IsBag}

@@ -1,6 +1,6 @@
 //! Worlds.
 ghost use Rattle.std.specs.Prelude.{◌≡◌, ℕ, Some, None, Err, IfOk, OnOk, OnErr};
-ghost use Rattle.repl_target.specs.ties.Tied.{stopped_at};
+ghost use Rattle.repl_target.specs.session.Settling.{stopped_at};
 ghost use Rattle.repl_target.specs.declared.fault.TargetFault.TheVariants as faults;
 
 use crate::bag::Bag;

@@ -9,7 +9,7 @@ use Rattle.couch_base.specs.Lists.{Among}
 use Rattle.couch_base.specs.Database.{Id, DatabaseValue, tree_of}
 use Rattle.repl_target.specs.peer.Peer.{PeerValue, SessionValue}
 use Rattle.repl_target.specs.replication.Replication.{SameDocument, Replicates}
-use Rattle.repl_target.specs.ties.TiedPeers.{IsTiedPair}
+use Rattle.repl_target.specs.ties.Ties.{IsTiedPair}
 use Rattle.repl_target.specs.declared.replication.sync.SyncFault.{SyncFault}
 use Rattle.repl_target.specs.declared.replication.sync.SyncFault.TheVariants as faults
 use Rattle.repl_target.specs.declared.replication.sync.Synced.{Synced}

@@ -225,3 +225,15 @@ Settles refuses p parcel (Err fault) result q = (result ≡ Err fault) × (q ≡
 abbrev pub SettleGives : (Document → Bool) → PeerValue → SessionId → ParcelValue → Result Settled TargetFault
     → PeerValue → Type 0
 SettleGives refuses p id parcel result q = Settles refuses p parcel (settle_check p id parcel) result q
+
+-- ---- what an answer tells
+
+-- after how many documents a settling found no memory
+abbrev pub stopped_at : Result Settled TargetFault → Option ℕ
+stopped_at (Err (faults.Stopped n rest causes.Memory)) = Some n
+stopped_at result = None
+
+-- a settling that told a leaf that isn't covered
+abbrev pub is_uncovered : Result Settled TargetFault → Bool
+is_uncovered (Err (faults.Uncovered seq id rev)) = true
+is_uncovered result = false

@@ -5,7 +5,7 @@ ghost use Rattle.repl_target.specs.peer.Covered.{covers, first_uncovered};
 ghost use Rattle.std.specs.Option.{option_copied};
 ghost use Rattle.couch_base.specs.Feed.{chosen_feed};
 ghost use Rattle.repl_target.specs.logs.Audit.{audit_answer, hole_of, IsAudited};
-ghost use Rattle.repl_target.specs.ties.TiedPeers.{IsTiedPair};
+ghost use Rattle.repl_target.specs.ties.Ties.{IsTiedPair};
 
 use crate::fault::{Audit, TargetFault};
 use crate::logs::{checkpoint, rep_between};

@@ -23,7 +23,7 @@ use Rattle.repl_target.specs.peer.Covered.{in_ledger, covers, covers_window}
 use Rattle.repl_target.specs.peer.Law.{LawfulSessions}
 use Rattle.repl_target.specs.logs.Audit.{rep_between, CoversFeed}
 use Rattle.repl_target.specs.peer.Backups.{BackupValue}
-use Rattle.repl_target.specs.ties.TiedPeers.{IsTiedPair, AreTiedBackups, IsTiedWith}
+use Rattle.repl_target.specs.ties.Ties.{IsTiedPair, AreTiedBackups, IsTiedWith}
 use Rattle.repl_target.specs.session.Sessions.{on_found, new_session, begun}
 use Rattle.repl_target.specs.session.Settling.{settle_docs, settling_of, with_done, after_documents, after_settle, after_stop}
 use Rattle.repl_target.specs.replication.Calls.{Call, Load, Edit, Begin, Append, Settle, Stop, Record, Conclude, after_call, after_calls, IsFrom, AllFrom, IsLeft}

@@ -24,14 +24,13 @@ use Rattle.repl_target.specs.declared.fault.TargetFault.TheVariants as faults
 use Rattle.repl_target.specs.peer.Peer.{PeerValue, SessionValue, RefusedValue, written_of, session_in, with_session}
 use Rattle.repl_target.specs.peer.Covered.{refusal_of, in_ledger, covers, unknown_in, first_unknown}
 use Rattle.repl_target.specs.session.Sessions.{found_answer}
-use Rattle.repl_target.specs.session.Settling.{Settling, settle_as, settle_one, settle_docs, stops_as, stops_at, settled_before, is_full, has_row, has_room, window_in, settle_at, settle_check, settling_of, with_settling, after_documents, after_all, Settles, SettleGives}
+use Rattle.repl_target.specs.session.Settling.{Settling, settle_as, settle_one, settle_docs, stops_as, stops_at, settled_before, is_full, has_row, has_room, window_in, settle_at, settle_check, settling_of, with_settling, after_documents, after_all, Settles, SettleGives, is_uncovered}
 use Rattle.repl_target.specs.peer.Law.{LawfulSessions}
 use Rattle.couch_base.specs.MemberLaws.{Among-left, Among-last, any_from}
 use Rattle.repl_target.proofs.lemmas.peer.LaterPeers.{covers-later, one_session}
 use Rattle.repl_target.proofs.lemmas.session.SettlingKeepsLaw.{SettlesLawfully, documents_settle, settle_told, mark_law}
 use Rattle.repl_target.proofs.lemmas.session.WindowsFollow.{windows-follow, window-above, one_window}
 use Rattle.repl_target.specs.ties.Ties.{IsTiedParcel}
-use Rattle.repl_target.specs.ties.Tied.{is_uncovered}
 use Rattle.repl_target.proofs.lemmas.ties.TiedMessages.{brought}
 
 -- ---- each document is taken

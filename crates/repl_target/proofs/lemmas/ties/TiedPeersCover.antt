@@ -26,9 +26,7 @@ use Rattle.repl_target.specs.declared.fault.Audit.TheVariants.{Clean, Hole}
 use Rattle.couch_base.specs.MemberLaws.{Among-map, found_member}
 use Rattle.repl_target.proofs.lemmas.peer.CallsKeepLaw.{same_rep-is}
 use Rattle.repl_target.proofs.lemmas.session.WindowsFollow.{window-stored}
-use Rattle.repl_target.specs.ties.Ties.{IsTiedWindow}
-use Rattle.repl_target.specs.ties.TiedPeers.{IsReached, IsTiedSession, IsTiedEntry, AreTiedEntries, IsTiedPair}
-use Rattle.repl_target.specs.ties.Tied.{LogsAreHonest}
+use Rattle.repl_target.specs.ties.Ties.{IsTiedWindow, IsReached, IsTiedSession, IsTiedEntry, AreTiedEntries, IsTiedPair, LogsAreHonest}
 use Rattle.repl_target.proofs.lemmas.ties.TiedPages.{Among-filter, chosen_member, in_chosen}
 use Rattle.repl_target.proofs.lemmas.peer.LaterPeers.{one_session}
 use Rattle.repl_target.proofs.lemmas.session.SettlingTakes.{all_known}

@@ -19,8 +19,7 @@ use Rattle.repl_target.specs.logs.Audit.{rep_between}
 use Rattle.repl_target.specs.peer.Backups.{BackupValue}
 use Rattle.repl_target.specs.logs.Logs.{log_in, source_log, logs_with, put_by, put_answer_in, put_entry_answer, after_put_entry}
 use Rattle.repl_target.specs.session.Sessions.{new_session, with_window, session_answer, found_answer}
-use Rattle.repl_target.specs.ties.Ties.{IsTiedWindow}
-use Rattle.repl_target.specs.ties.TiedPeers.{IsReached, IsTiedSession, IsTiedEntry, AreTiedEntries, IsTiedPair, AreTiedBackups, IsSentEntry}
+use Rattle.repl_target.specs.ties.Ties.{IsTiedWindow, IsReached, IsTiedSession, IsTiedEntry, AreTiedEntries, IsTiedPair, AreTiedBackups, IsSentEntry}
 use Rattle.repl_target.specs.replication.Calls.{Call, Load, Edit, Begin, Append, Settle, Stop, Record, Conclude, after_call, after_calls, IsFrom, AllFrom, IsGrown}
 use Rattle.repl_target.specs.declared.fault.TargetFault.{TargetFault}
 use Rattle.repl_target.specs.declared.fault.TargetFault.TheVariants as faults

@@ -2,7 +2,7 @@ use Rattle.std.proofs.Common.{◌≡◌, IfOk, rules, sym, ap, ◌∙◌}
 use Rattle.std.proofs.lemmas.Result.{IfOk-weaker}
 use Rattle.std.specs.Option.{option_copied}
 use Rattle.repl_target.specs.logs.Audit.{hole_of, audit_answer, IsAudited}
-use Rattle.repl_target.specs.ties.TiedPeers.{IsTiedPair}
+use Rattle.repl_target.specs.ties.Ties.{IsTiedPair}
 use Rattle.repl_target.specs.declared.fault.Audit.TheVariants.{Clean}
 use Rattle.repl_target.proofs.lemmas.logs.FirstUnknownLeaf.{clean_is}
 use Rattle.repl_target.proofs.lemmas.ties.TiedPeersCover.{clean_from, tied_none}
