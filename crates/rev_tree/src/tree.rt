@@ -1,5 +1,5 @@
 //! Trees.
-ghost use Rattle.std.specs.Prelude.{◌≡◌, ◌∷◌, [], Ok, OnOk, OnErr, IfOk, length, map, false};
+ghost use Rattle.std.specs.Prelude.{◌≡◌, ◌∷◌, [], Ok, OnOk, OnErr, IfOk, length, map, true, false};
 ghost use Rattle.std.specs.Option.{option_map_or};
 
 use crate::content::Content;
@@ -52,7 +52,7 @@ impl Model for Tree {
 impl Tree {
     ghost use Rattle.std.specs.FinMap.{get, len};
     ghost use Rattle.std.specs.Option.{option_copied};
-    ghost use Rattle.rev_tree.specs.Tree.{IsTree, no_revisions, has, is_leaf, merged, merge_answer, ancestry_answer, leaves, leaf_cmp, is_deleted, missing, leaves_above, GivesUnlessMemory, MergeGives};
+    ghost use Rattle.rev_tree.specs.Tree.{IsTree, no_revisions, has, is_leaf, merged, merge_answer, ancestors, ancestry_answer, leaves, leaf_cmp, is_deleted, missing, leaves_above, GivesUnlessMemory, MergeGives};
     ghost use Rattle.rev_tree.specs.InOrder.{first_of, only_of, better};
 
     /// The tree of no revisions.
@@ -122,8 +122,19 @@ impl Tree {
     pub fn ancestry(&self, alloc: Global, rev: Rev) -> Result<Ancestry, TreeFault>
         ensures { GivesUnlessMemory result (ancestry_answer self.now rev) }
     {
-        let Some(place) = place_in(&self.nodes, &self.places, &rev) else {
+        if !self.has(rev) {
             return Err(TreeFault::NoSuchRevision);
+        }
+        Ok(self.known_ancestry(alloc, rev)?)
+    }
+
+    /// A revision of the tree and its known ancestors.
+    pub fn known_ancestry(&self, alloc: Global, rev: Rev) -> Result<Ancestry, AllocError>
+        requires { has self.now rev ≡ true }
+        ensures { IfOk result (λ a. a ≡ ancestors self.now rev) }
+    {
+        let Some(place) = place_in(&self.nodes, &self.places, &rev) else {
+            unreachable!()
         };
         let revs = walk(alloc, &self.nodes, place)?;
         Ok(Ancestry::from_revs(revs))

@@ -1,39 +1,16 @@
-use Rattle.std.proofs.Common.{◌<◌, length, Ok, sym, ap, ◌∙◌, subst}
+use Rattle.std.proofs.Common.{Ok, sym, ap, ◌∙◌}
 use Rattle.std.proofs.lemmas.Bool.{cond-true, cond-false}
 use Rattle.std.proofs.lemmas.Result.{err_from_is_err_and}
-use Rattle.rev_core.specs.Ancestry.{IsAncestry}
-use Rattle.rev_tree.specs.Tree.{IsTree}
-use Rattle.rev_tree.specs.LeafLaws.{IsAncestry-ancestors}
-use Rattle.rev_tree.specs.Nodes.{place_of}
-use Rattle.rev_tree.specs.Walks.{ancestors_at}
-use Rattle.rev_tree.proofs.Places.{place_unknown}
-use Rattle.rev_tree.proofs.Lookups.{has_is, ok_known}
-use Rattle.rev_tree.proofs.Walking.{place_is}
+use Rattle.rev_tree.proofs.Lookups.{ok_known}
 use Rattle.rev_tree.proofs.tree.Tree.ancestry.Goals as goal
 
-pub returns-in_default : goal.returns-in_default
-returns-in_default c =
-    let items = c.self.inside.nodes.items in
-    sym (cond-false _ _ _ (has_is items c.args.self.now c.args.rev _ c.self.invariant.linked c.self.view_is (place_unknown items c.args.rev (ap (λ l. place_of l c.args.rev) (sym c.deref.ensures.value) ∙ sym c.place_in.ensures ∙ c.in_default.is))))
+pub returns-then-not-has : goal.returns-then-not-has
+returns-then-not-has c = sym (cond-false _ _ _ (sym c.has.ensures.found ∙ c.if-not-has.true))
 
-pub walk-requires-clause-within : goal.walk-requires-clause-within
-walk-requires-clause-within c =
-    let at = place_is c.self.inside.nodes.items c.args.self.now c.args.rev c.in-Some.place c.self.invariant.linked c.self.view_is (ap (λ l. place_of l c.args.rev) (sym c.deref.ensures.value) ∙ sym c.place_in.ensures ∙ c.in-Some.is) in
-    subst (λ l. c.in-Some.place < length l) (sym c.deref-2.ensures.value) at.within
-
-pub returns-in_err-revs : goal.returns-in_err-revs
-returns-in_err-revs c =
-    let at = place_is c.self.inside.nodes.items c.args.self.now c.args.rev c.in-Some.place c.self.invariant.linked c.self.view_is (ap (λ l. place_of l c.args.rev) (sym c.deref.ensures.value) ∙ sym c.place_in.ensures ∙ c.in-Some.is) in
+pub returns-in_err-known_ancestry : goal.returns-in_err-known_ancestry
+returns-in_err-known_ancestry c =
     let told = err_from_is_err_and c.from_residual.result c.from_residual.ensures.1 in
-    rw (told.1, told.2) (ok_known _ _ _ at.known)
-
-pub from_revs-requires : goal.from_revs-requires
-from_revs-requires c =
-    let at = place_is c.self.inside.nodes.items c.args.self.now c.args.rev c.in-Some.place c.self.invariant.linked c.self.view_is (ap (λ l. place_of l c.args.rev) (sym c.deref.ensures.value) ∙ sym c.place_in.ensures ∙ c.in-Some.is) in
-    subst IsAncestry (sym (c.in_ok-revs.ensures ∙ ap (λ l. ancestors_at l c.in-Some.place) c.deref-2.ensures.value ∙ at.walk))
-    (IsAncestry-ancestors c.args.self.now (subst IsTree c.self.view_is c.self.invariant.tree) c.args.rev at.known)
+    rw (told.1, told.2) (ok_known _ _ _ (sym c.has.ensures.found ∙ c.if-not-has.false))
 
 pub returns : goal.returns
-returns c =
-    let at = place_is c.self.inside.nodes.items c.args.self.now c.args.rev c.in-Some.place c.self.invariant.linked c.self.view_is (ap (λ l. place_of l c.args.rev) (sym c.deref.ensures.value) ∙ sym c.place_in.ensures ∙ c.in-Some.is) in
-    ap Ok (c.from_revs.ensures ∙ c.in_ok-revs.ensures ∙ ap (λ l. ancestors_at l c.in-Some.place) c.deref-2.ensures.value ∙ at.walk) ∙ sym (cond-true _ _ _ at.known)
+returns c = ap Ok c.in_ok-known_ancestry.ensures ∙ sym (cond-true _ _ _ (sym c.has.ensures.found ∙ c.if-not-has.false))
