@@ -1,11 +1,10 @@
 //! What is asked for a window of the feed.
-ghost use Rattle.std.specs.Prelude.{◌≡◌, IfOk, IfErr};
+ghost use Rattle.std.specs.Prelude.{◌≡◌, IfOk};
 
-use crate::fault::BaseFault;
 use doc_json::DocId;
 use rev_core::Rev;
 use rev_tree::Revs;
-use std::alloc::Global;
+use std::alloc::{AllocError, Global};
 use std::marker::Model;
 
 /// Revisions that are asked of one document: at least one, none twice.
@@ -53,18 +52,13 @@ impl Wanted {
         self.revs.as_slice()
     }
 
-    /// The same again. The only error is `Memory`.
-    pub fn copy(&self, alloc: Global) -> Result<Wanted, BaseFault>
+    /// The same again.
+    pub fn copy(&self, alloc: Global) -> Result<Wanted, AllocError>
         ensures copied { IfOk result (λ w. w ≡ self.now) }
-        ensures err { IfErr result (λ e. e ≡ BaseFault.Memory) }
     {
-        let Ok(id) = self.id.copy(alloc) else {
-            return Err(BaseFault::Memory);
-        };
-        match self.revs.copy(alloc) {
-            Ok(revs) => Ok(Wanted { id, revs }),
-            Err(_) => Err(BaseFault::Memory),
-        }
+        let id = self.id.copy(alloc)?;
+        let revs = self.revs.copy(alloc)?;
+        Ok(Wanted { id, revs })
     }
 }
 
@@ -133,10 +127,9 @@ impl Asked {
         &self.docs
     }
 
-    /// The same again. The only error is `Memory`.
-    pub fn copy(&self, alloc: Global) -> Result<Asked, BaseFault>
+    /// The same again.
+    pub fn copy(&self, alloc: Global) -> Result<Asked, AllocError>
         ensures copied { IfOk result (λ a. a ≡ self.now) }
-        ensures err { IfErr result (λ e. e ≡ BaseFault.Memory) }
         ensures asked { IsAsked self.now }
     {
         let docs = copied(alloc, &self.docs)?;
@@ -149,18 +142,13 @@ impl Asked {
 }
 
 /// The same list.
-fn copied(alloc: Global, docs: &[Wanted]) -> Result<Vec<Wanted>, BaseFault>
+fn copied(alloc: Global, docs: &[Wanted]) -> Result<Vec<Wanted>, AllocError>
     ensures copied { IfOk result (λ v. v.items ≡ docs.now) }
-    ensures err { IfErr result (λ e. e ≡ BaseFault.Memory) }
 {
-    let Ok(mut copy) = Vec::with_capacity(alloc, docs.len()) else {
-        return Err(BaseFault::Memory);
-    };
+    let mut copy = Vec::with_capacity(alloc, docs.len())?;
     for wanted in docs {
         let again = wanted.copy(alloc)?;
-        let Ok(()) = copy.push(again) else {
-            return Err(BaseFault::Memory);
-        };
+        copy.push(again)?;
     }
     Ok(copy)
 }

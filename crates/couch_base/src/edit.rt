@@ -1,5 +1,5 @@
 //! What a local edit stands on, and what it brings.
-ghost use Rattle.std.specs.Prelude.{◌≡◌, ◌^◌, ◌∷◌, Some, not, nat_lt, IfOk, IfErr};
+ghost use Rattle.std.specs.Prelude.{◌≡◌, ◌^◌, ◌∷◌, Some, not, nat_lt, IfOk};
 ghost use Rattle.std.specs.Option.{option_to_list};
 ghost use Rattle.rev_core.specs.NewRev.{next_generation};
 ghost use Rattle.doc_json.specs.Body.{IsBody};
@@ -9,9 +9,9 @@ ghost use Rattle.couch_base.specs.Put.{content_of};
 
 use crate::fault::BaseFault;
 use doc_json::Body;
-use rev_core::{Ancestry, Rev, RevFault, new_rev};
+use rev_core::{Ancestry, Rev, new_rev};
 use rev_tree::{Content, Tree};
-use std::alloc::Global;
+use std::alloc::{AllocError, Global};
 
 /// The revision of a document that an edit stands on: the leaf that is named, or, where none is named and all leaves
 /// are deleted, the winner. Else `Conflict`.
@@ -69,11 +69,11 @@ pub(crate) fn edit_ancestry(
     match before {
         None => {
             let rev = edit_rev(alloc, None, deleted, body)?;
-            ancestry_of(alloc, rev, None)
+            Ok(ancestry_of(alloc, rev, None)?)
         }
         Some(parent) => {
             let rev = edit_rev(alloc, Some(parent), deleted, body)?;
-            ancestry_of(alloc, rev, Some(parent))
+            Ok(ancestry_of(alloc, rev, Some(parent))?)
         }
     }
 }
@@ -87,45 +87,31 @@ fn edit_rev(
 ) -> Result<Rev, BaseFault>
     ensures { GivesUnlessMemory result (edit_id parent deleted body.now) }
 {
-    match new_rev(alloc, parent, deleted, body.text()) {
-        Ok(rev) => Ok(rev),
-        Err(RevFault::Memory) => Err(BaseFault::Memory),
-        Err(_) => Err(BaseFault::GenerationFull),
-    }
+    Ok(new_rev(alloc, parent, deleted, body.text())?)
 }
 
-/// The ancestry of a revision and the one that it stands on. The only error is `Memory`.
-fn ancestry_of(alloc: Global, rev: Rev, parent: Option<Rev>) -> Result<Ancestry, BaseFault>
+/// The ancestry of a revision and the one that it stands on.
+fn ancestry_of(alloc: Global, rev: Rev, parent: Option<Rev>) -> Result<Ancestry, AllocError>
     requires { rev.generation ≡ next_generation parent }
     ensures ancestry { IfOk result (λ a. a ≡ rev ∷ option_to_list parent) }
-    ensures err { IfErr result (λ e. e ≡ BaseFault.Memory) }
 {
-    let Ok(mut revs) = Vec::with_capacity(alloc, 2) else {
-        return Err(BaseFault::Memory);
-    };
+    let mut revs = Vec::with_capacity(alloc, 2)?;
     // Readings of generations tell the proof that these are revisions.
     let _generation = rev.generation();
-    let Ok(()) = revs.push(rev) else {
-        return Err(BaseFault::Memory);
-    };
+    revs.push(rev)?;
     let Some(parent) = parent else {
         return Ok(Ancestry::from_revs(revs));
     };
     let _generation = parent.generation();
-    let Ok(()) = revs.push(parent) else {
-        return Err(BaseFault::Memory);
-    };
+    revs.push(parent)?;
     Ok(Ancestry::from_revs(revs))
 }
 
-/// The content that a document brings, which shares its text. The only error is `Memory`.
-pub(crate) fn content_of(deleted: bool, body: &Body) -> Result<Content, BaseFault>
+/// The content that a document brings, which shares its text.
+pub(crate) fn content_of(deleted: bool, body: &Body) -> Result<Content, AllocError>
     ensures content { IfOk result (λ c. c ≡ content_of deleted body.now) }
     ensures body { IfOk result (λ c. IsBody c.body) }
-    ensures err { IfErr result (λ e. e ≡ BaseFault.Memory) }
 {
-    match body.share() {
-        Ok(text) => Ok(Content::new(deleted, text)),
-        Err(_) => Err(BaseFault::Memory),
-    }
+    let text = body.share()?;
+    Ok(Content::new(deleted, text))
 }

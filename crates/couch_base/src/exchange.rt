@@ -1,5 +1,5 @@
 //! Asking for missing revisions, and fetching them; and the document at a revision.
-ghost use Rattle.std.specs.Prelude.{◌≡◌, ◌++◌, [], true, map, OnOk, IfOk, IfErr};
+ghost use Rattle.std.specs.Prelude.{◌≡◌, ◌++◌, [], true, map, OnOk, IfOk};
 ghost use Rattle.std.specs.List.{list_all};
 ghost use Rattle.rev_tree.specs.Tree.{is_leaf, missing};
 ghost use Rattle.couch_base.specs.Database.{IsDocumentTree, tree_of};
@@ -7,25 +7,23 @@ ghost use Rattle.couch_base.specs.Messages.{document_in, leaf_document, opened, 
 
 use crate::asked::{Asked, Wanted};
 use crate::database::Database;
-use crate::fault::BaseFault;
 use crate::parcel::Parcel;
 use crate::row::Row;
 use crate::window::Window;
 use doc_json::{Body, Doc, DocId};
 use rev_core::Rev;
 use rev_tree::{Revs, Tree};
-use std::alloc::Global;
+use std::alloc::{AllocError, Global};
 
 impl Database {
     ghost use Rattle.couch_base.specs.Messages.{revs_diff, open_revs, document_at};
 
     /// What this database misses of another one's window: the leaves of the rows that are not in its trees, in the
-    /// rows' order. The only error is `Memory`.
+    /// rows' order.
     ///
     /// A revision that is known as an ancestor only is not missing.
-    pub fn revs_diff(&self, alloc: Global, window: &Window) -> Result<Asked, BaseFault>
+    pub fn revs_diff(&self, alloc: Global, window: &Window) -> Result<Asked, AllocError>
         ensures asked { IfOk result (λ a. a ≡ revs_diff self.now window.now) }
-        ensures err { IfErr result (λ e. e ≡ BaseFault.Memory) }
     {
         let mut docs = Vec::new(alloc);
         for row in window.rows() {
@@ -35,27 +33,23 @@ impl Database {
     }
 
     /// What this database has of the asked revisions: of each document the leaves at or above them, each with its whole
-    /// known ancestry and its content; and the asked revisions that are gone. The only error is `Memory`.
+    /// known ancestry and its content; and the asked revisions that are gone.
     ///
     /// Documents stand in the order of the asked ones, their leaves with the winner first.
-    pub fn open_revs(&self, alloc: Global, asked: &Asked) -> Result<Parcel, BaseFault>
+    pub fn open_revs(&self, alloc: Global, asked: &Asked) -> Result<Parcel, AllocError>
         ensures parcel { IfOk result (λ p. p ≡ open_revs self.now asked.now) }
-        ensures err { IfErr result (λ e. e ≡ BaseFault.Memory) }
     {
         let again = asked.copy(alloc)?;
         self.open_asked(alloc, again)
     }
 
     /// The same as `open_revs`, for an asked list that goes into the parcel.
-    pub fn open_asked(&self, alloc: Global, asked: Asked) -> Result<Parcel, BaseFault>
+    pub fn open_asked(&self, alloc: Global, asked: Asked) -> Result<Parcel, AllocError>
         ensures parcel { IfOk result (λ p. p ≡ open_revs self.now asked) }
-        ensures err { IfErr result (λ e. e ≡ BaseFault.Memory) }
     {
         // The reading tells the proof that the database is lawful.
         let _seq = self.update_seq();
-        let Ok(mut docs) = Vec::with_capacity(alloc, asked.docs().len()) else {
-            return Err(BaseFault::Memory);
-        };
+        let mut docs = Vec::with_capacity(alloc, asked.docs().len())?;
         let mut gone = Vec::new(alloc);
         for wanted in asked.docs() {
             self.open(alloc, wanted, &mut docs)?;
@@ -65,10 +59,9 @@ impl Database {
     }
 
     /// The document at a revision, leaf or not: its whole known ancestry, and its content. `None` where the document is
-    /// not there, the revision is not in its tree, or no content stands at it. The only error is `Memory`.
-    pub fn document(&self, alloc: Global, id: &DocId, rev: Rev) -> Result<Option<Doc>, BaseFault>
+    /// not there, the revision is not in its tree, or no content stands at it.
+    pub fn document(&self, alloc: Global, id: &DocId, rev: Rev) -> Result<Option<Doc>, AllocError>
         ensures document { IfOk result (λ d. d ≡ document_at self.now id.now rev) }
-        ensures err { IfErr result (λ e. e ≡ BaseFault.Memory) }
     {
         match self.tree(id) {
             Some(tree) => document_in(alloc, id, tree, rev),
@@ -77,36 +70,28 @@ impl Database {
     }
 
     /// Adds what is missing of a row.
-    fn want(&self, alloc: Global, row: &Row, docs: &mut Vec<Wanted>) -> Result<(), BaseFault>
+    fn want(&self, alloc: Global, row: &Row, docs: &mut Vec<Wanted>) -> Result<(), AllocError>
         ensures ok { OnOk result (docs.new.items ≡ docs.old.items
             ++ want_first row.now.id (missing (tree_of self.now.docs row.now.id) row.now.leaves) []) }
-        ensures err { IfErr result (λ e. e ≡ BaseFault.Memory) }
     {
         let revs = self.missing(alloc, row.id(), row.leaves())?;
         if revs.is_empty() {
             return Ok(());
         }
-        let Ok(id) = row.id().copy(alloc) else {
-            return Err(BaseFault::Memory);
-        };
-        let Ok(()) = docs.push(Wanted::new(id, revs)) else {
-            return Err(BaseFault::Memory);
-        };
+        let id = row.id().copy(alloc)?;
+        docs.push(Wanted::new(id, revs))?;
         Ok(())
     }
 
     /// Adds the documents of the leaves at or above the wanted revisions.
-    fn open(&self, alloc: Global, wanted: &Wanted, docs: &mut Vec<Doc>) -> Result<(), BaseFault>
+    fn open(&self, alloc: Global, wanted: &Wanted, docs: &mut Vec<Doc>) -> Result<(), AllocError>
         ensures ok { OnOk result (docs.new.items ≡ docs.old.items
             ++ opened wanted.now.id (tree_of self.now.docs wanted.now.id) wanted.now.revs) }
-        ensures err { IfErr result (λ e. e ≡ BaseFault.Memory) }
     {
         let Some(tree) = self.tree(wanted.id()) else {
             return Ok(());
         };
-        let Ok(leaves) = tree.leaves_above(alloc, wanted.revs()) else {
-            return Err(BaseFault::Memory);
-        };
+        let leaves = tree.leaves_above(alloc, wanted.revs())?;
         add_documents(alloc, wanted.id(), tree, &leaves, docs)
     }
 
@@ -116,30 +101,22 @@ impl Database {
         alloc: Global,
         wanted: &Wanted,
         gone: &mut Vec<(DocId, Rev)>,
-    ) -> Result<(), BaseFault>
+    ) -> Result<(), AllocError>
         ensures ok { OnOk result (gone.new.items ≡ gone.old.items
             ++ map (λ r. (wanted.now.id, r)) (missing (tree_of self.now.docs wanted.now.id) wanted.now.revs)) }
-        ensures err { IfErr result (λ e. e ≡ BaseFault.Memory) }
     {
         let revs = self.missing(alloc, wanted.id(), wanted.revs())?;
         add_revs(alloc, wanted.id(), &revs, gone)
     }
 
     /// The revisions that are not in the tree of a document.
-    fn missing(&self, alloc: Global, id: &DocId, revs: &[Rev]) -> Result<Revs, BaseFault>
+    fn missing(&self, alloc: Global, id: &DocId, revs: &[Rev]) -> Result<Revs, AllocError>
         ensures missing { IfOk result (λ r. r ≡ missing (tree_of self.now.docs id.now) revs.now) }
-        ensures err { IfErr result (λ e. e ≡ BaseFault.Memory) }
     {
         let Some(tree) = self.tree(id) else {
-            return match Revs::from_slice(alloc, revs) {
-                Ok(missing) => Ok(missing),
-                Err(_) => Err(BaseFault::Memory),
-            };
+            return Revs::from_slice(alloc, revs);
         };
-        match tree.missing(alloc, revs) {
-            Ok(missing) => Ok(missing),
-            Err(_) => Err(BaseFault::Memory),
-        }
+        tree.missing(alloc, revs)
     }
 }
 
@@ -150,51 +127,40 @@ fn add_documents(
     tree: &Tree,
     leaves: &[Rev],
     docs: &mut Vec<Doc>,
-) -> Result<(), BaseFault>
+) -> Result<(), AllocError>
     requires document { IsDocumentTree tree.now }
     requires leaves { list_all (is_leaf tree.now) leaves.now ≡ true }
     ensures ok { OnOk result
         (docs.new.items ≡ docs.old.items ++ map (leaf_document id.now tree.now) leaves.now) }
-    ensures err { IfErr result (λ e. e ≡ BaseFault.Memory) }
 {
     for leaf in leaves {
         let doc = leaf_document(alloc, id, tree, *leaf)?;
-        let Ok(()) = docs.push(doc) else {
-            return Err(BaseFault::Memory);
-        };
+        docs.push(doc)?;
     }
     Ok(())
 }
 
 /// The document of a leaf, at which a content always stands.
-fn leaf_document(alloc: Global, id: &DocId, tree: &Tree, leaf: Rev) -> Result<Doc, BaseFault>
+fn leaf_document(alloc: Global, id: &DocId, tree: &Tree, leaf: Rev) -> Result<Doc, AllocError>
     requires document { IsDocumentTree tree.now }
     requires leaf { is_leaf tree.now leaf ≡ true }
     ensures document { IfOk result (λ d. d ≡ leaf_document id.now tree.now leaf) }
-    ensures err { IfErr result (λ e. e ≡ BaseFault.Memory) }
 {
     let found = document_in(alloc, id, tree, leaf)?;
     Ok(found.unwrap())
 }
 
 /// The document at a revision, where a content stands at it.
-fn document_in(alloc: Global, id: &DocId, tree: &Tree, rev: Rev) -> Result<Option<Doc>, BaseFault>
+fn document_in(alloc: Global, id: &DocId, tree: &Tree, rev: Rev) -> Result<Option<Doc>, AllocError>
     requires document { IsDocumentTree tree.now }
     ensures document { IfOk result (λ d. d ≡ document_in id.now tree.now rev) }
-    ensures err { IfErr result (λ e. e ≡ BaseFault.Memory) }
 {
     let Some(content) = tree.content(rev) else {
         return Ok(None);
     };
-    let Ok(text) = content.share() else {
-        return Err(BaseFault::Memory);
-    };
-    let Ok(id) = id.copy(alloc) else {
-        return Err(BaseFault::Memory);
-    };
-    let Ok(ancestry) = tree.ancestry(alloc, rev) else {
-        return Err(BaseFault::Memory);
-    };
+    let text = content.share()?;
+    let id = id.copy(alloc)?;
+    let ancestry = tree.known_ancestry(alloc, rev)?;
     let body = Body::from_text(text);
     Ok(Some(Doc::new(id, ancestry, content.deleted(), body)))
 }
@@ -205,17 +171,12 @@ fn add_revs(
     id: &DocId,
     revs: &[Rev],
     gone: &mut Vec<(DocId, Rev)>,
-) -> Result<(), BaseFault>
+) -> Result<(), AllocError>
     ensures ok { OnOk result (gone.new.items ≡ gone.old.items ++ map (λ r. (id.now, r)) revs.now) }
-    ensures err { IfErr result (λ e. e ≡ BaseFault.Memory) }
 {
     for rev in revs {
-        let Ok(again) = id.copy(alloc) else {
-            return Err(BaseFault::Memory);
-        };
-        let Ok(()) = gone.push((again, *rev)) else {
-            return Err(BaseFault::Memory);
-        };
+        let again = id.copy(alloc)?;
+        gone.push((again, *rev))?;
     }
     Ok(())
 }

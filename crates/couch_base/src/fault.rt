@@ -1,7 +1,11 @@
 //! What a put answers, and what the calls of this crate refuse.
+ghost use Rattle.std.specs.Prelude.{◌≡◌};
+ghost use Rattle.couch_base.specs.declared.fault.BaseFault.TheVariants.{Memory};
+ghost use Rattle.couch_base.specs.Answers.{edit_refusal};
 
 use crate::window::Window;
-use rev_core::Rev;
+use rev_core::{Rev, RevFault};
+use std::alloc::AllocError;
 use thiserror::Error;
 
 /// What an edit answers: the new revision's id, or why it is refused.
@@ -55,4 +59,23 @@ pub enum BaseFault {
     /// An allocation was refused.
     #[error("out of memory")]
     Memory,
+}
+
+impl From<AllocError> for BaseFault {
+    ghost from_gives = { λ _ fault. fault ≡ Memory };
+
+    fn from(_refused: AllocError) -> BaseFault {
+        BaseFault::Memory
+    }
+}
+
+impl From<RevFault> for BaseFault {
+    ghost from_gives = { λ refused fault. fault ≡ edit_refusal refused };
+
+    fn from(refused: RevFault) -> BaseFault {
+        match refused {
+            RevFault::Memory => BaseFault::Memory,
+            _ => BaseFault::GenerationFull,
+        }
+    }
 }

@@ -1,11 +1,10 @@
 //! What is fetched.
-ghost use Rattle.std.specs.Prelude.{◌≡◌, IfOk, IfErr};
+ghost use Rattle.std.specs.Prelude.{◌≡◌, IfOk};
 
 use crate::asked::Asked;
-use crate::fault::BaseFault;
 use doc_json::{Doc, DocId};
 use rev_core::Rev;
-use std::alloc::Global;
+use std::alloc::{AllocError, Global};
 use std::marker::Model;
 
 /// What is fetched for the asked of a window `(lo, hi]`: the asked, documents, and the asked revisions that are gone.
@@ -101,10 +100,9 @@ impl Parcel {
         (asked, docs, gone)
     }
 
-    /// The same parcel. The only error is `Memory`.
-    pub fn copy(&self, alloc: Global) -> Result<Parcel, BaseFault>
+    /// The same parcel.
+    pub fn copy(&self, alloc: Global) -> Result<Parcel, AllocError>
         ensures copied { IfOk result (λ p. p ≡ self.now) }
-        ensures err { IfErr result (λ e. e ≡ BaseFault.Memory) }
         ensures parcel { IsParcel self.now }
     {
         let asked = self.asked.copy(alloc)?;
@@ -115,39 +113,25 @@ impl Parcel {
 }
 
 /// The same documents.
-fn docs_copied(alloc: Global, docs: &[Doc]) -> Result<Vec<Doc>, BaseFault>
+fn docs_copied(alloc: Global, docs: &[Doc]) -> Result<Vec<Doc>, AllocError>
     ensures copied { IfOk result (λ v. v.items ≡ docs.now) }
-    ensures err { IfErr result (λ e. e ≡ BaseFault.Memory) }
 {
-    let Ok(mut copy) = Vec::with_capacity(alloc, docs.len()) else {
-        return Err(BaseFault::Memory);
-    };
+    let mut copy = Vec::with_capacity(alloc, docs.len())?;
     for doc in docs {
-        let Ok(again) = doc.copy(alloc) else {
-            return Err(BaseFault::Memory);
-        };
-        let Ok(()) = copy.push(again) else {
-            return Err(BaseFault::Memory);
-        };
+        let again = doc.copy(alloc)?;
+        copy.push(again)?;
     }
     Ok(copy)
 }
 
 /// The same revisions.
-fn gone_copied(alloc: Global, gone: &[(DocId, Rev)]) -> Result<Vec<(DocId, Rev)>, BaseFault>
+fn gone_copied(alloc: Global, gone: &[(DocId, Rev)]) -> Result<Vec<(DocId, Rev)>, AllocError>
     ensures copied { IfOk result (λ v. v.items ≡ gone.now) }
-    ensures err { IfErr result (λ e. e ≡ BaseFault.Memory) }
 {
-    let Ok(mut copy) = Vec::with_capacity(alloc, gone.len()) else {
-        return Err(BaseFault::Memory);
-    };
+    let mut copy = Vec::with_capacity(alloc, gone.len())?;
     for (id, rev) in gone {
-        let Ok(again) = id.copy(alloc) else {
-            return Err(BaseFault::Memory);
-        };
-        let Ok(()) = copy.push((again, *rev)) else {
-            return Err(BaseFault::Memory);
-        };
+        let again = id.copy(alloc)?;
+        copy.push((again, *rev))?;
     }
     Ok(copy)
 }

@@ -1,11 +1,10 @@
 //! Rows of the changes feed.
-ghost use Rattle.std.specs.Prelude.{◌≡◌, IfOk, IfErr};
+ghost use Rattle.std.specs.Prelude.{◌≡◌, IfOk};
 
-use crate::fault::BaseFault;
 use doc_json::DocId;
 use rev_core::Rev;
 use rev_tree::Revs;
-use std::alloc::Global;
+use std::alloc::{AllocError, Global};
 use std::marker::Model;
 
 /// A document in the changes feed: the sequence of its latest change, its id, and all its leaves, winner first.
@@ -65,21 +64,16 @@ impl Row {
         self.leaves.as_slice()
     }
 
-    /// The same row. The only error is `Memory`.
-    pub fn copy(&self, alloc: Global) -> Result<Row, BaseFault>
+    /// The same row.
+    pub fn copy(&self, alloc: Global) -> Result<Row, AllocError>
         ensures copied { IfOk result (λ r. r ≡ self.now) }
-        ensures err { IfErr result (λ e. e ≡ BaseFault.Memory) }
     {
-        let Ok(id) = self.id.copy(alloc) else {
-            return Err(BaseFault::Memory);
-        };
-        match self.leaves.copy(alloc) {
-            Ok(leaves) => Ok(Row {
-                seq: self.seq,
-                id,
-                leaves,
-            }),
-            Err(_) => Err(BaseFault::Memory),
-        }
+        let id = self.id.copy(alloc)?;
+        let leaves = self.leaves.copy(alloc)?;
+        Ok(Row {
+            seq: self.seq,
+            id,
+            leaves,
+        })
     }
 }

@@ -11,16 +11,16 @@ use Rattle.couch_base.proofs.Rows.{rows_push}
 use Rattle.couch_base.proofs.table.add.Goals as goal
 
 -- the table after it
-grown : (c : goal.Joined-branch-5) → c.insert.new.self.entries ≡ c.args.docs.now.entries ++ (c.args.id.now, record { seq = c.args.next; tree = c.merge_change.new.self }) ∷ []
+grown : (c : goal.Joined-branch-6) → c.insert.new.self.entries ≡ c.args.docs.now.entries ++ (c.args.id.now, record { seq = c.args.next; tree = c.merge_change.new.self }) ∷ []
 grown c =
     let kept : Kept = record { seq = c.args.next; tree = c.merge_change.new.self } in
     c.in_ok-insert.ensures.entries
-    ∙ ap (λ es. insert_entry bytes_eq es c.in-Ok.key kept) c.in_ok-reserve.ensures.entries
-    ∙ ap (λ (k : Id). insert_entry bytes_eq c.args.docs.now.entries k kept) c.in-Ok.ensures.copied
+    ∙ ap (λ es. insert_entry bytes_eq es c.in_ok-key.key kept) c.in_ok-reserve.ensures.entries
+    ∙ ap (λ (k : Id). insert_entry bytes_eq c.args.docs.now.entries k kept) c.in_ok-key.ensures.copied
     ∙ inserted c.args.docs.now.entries c.args.id.now kept c.requires.absent
 
 -- and the index
-longer : (c : goal.Joined-branch-5) → c.note.new.index.items ≡ c.args.index.now.items ++ (c.args.next, length c.args.docs.now.entries) ∷ []
+longer : (c : goal.Joined-branch-6) → c.note.new.index.items ≡ c.args.index.now.items ++ (c.args.next, length c.args.docs.now.entries) ∷ []
 longer c = c.in_ok-note.ensures.ok ∙ ap (λ n. c.args.index.now.items ++ (c.args.next, n) ∷ []) (c.len.ensures.len ∙ ap (λ es. length es) c.in_ok-reserve.ensures.entries)
 
 pub returns-clause-ok : goal.returns-clause-ok
