@@ -3,7 +3,7 @@ use anyhow::{Result, bail};
 use doc_json::{Doc, DocFault, DocId, read_body, read_doc, write_doc};
 use rev_core::{RevFault, new_rev};
 use serde_json::Value;
-use std::alloc::Global;
+use std::alloc::{AllocError, Global};
 
 /// The text of a document.
 const TEXT: &[u8] =
@@ -24,16 +24,16 @@ fn read(alloc: Global, value: &Value) -> Result<Doc, DocFault> {
     }
 }
 
-fn copied(alloc: Global, doc: &Doc) -> Result<Doc, DocFault> {
+fn copied(alloc: Global, doc: &Doc) -> Result<Doc, AllocError> {
     match doc.copy(alloc) {
-        Err(DocFault::Memory) => doc.copy(alloc),
+        Err(AllocError) => doc.copy(alloc),
         answer => answer,
     }
 }
 
-fn written(alloc: Global, doc: &Doc) -> Result<Vec<u8>, DocFault> {
+fn written(alloc: Global, doc: &Doc) -> Result<Vec<u8>, AllocError> {
     match write_doc(alloc, doc) {
-        Err(DocFault::Memory) => write_doc(alloc, doc),
+        Err(AllocError) => write_doc(alloc, doc),
         answer => answer,
     }
 }

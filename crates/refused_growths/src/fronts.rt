@@ -1,7 +1,7 @@
 //! `Front::append`, `reserve` and `finish`.
 use anyhow::{Result, bail};
 use range_front::{Front, FrontFault};
-use std::alloc::Global;
+use std::alloc::{AllocError, Global};
 
 /// Appends, and once more where memory was refused.
 fn appended(front: &mut Front, hi: u64) -> Result<(), FrontFault> {
@@ -12,9 +12,9 @@ fn appended(front: &mut Front, hi: u64) -> Result<(), FrontFault> {
 }
 
 /// Reserves, and once more where memory was refused.
-fn reserved(front: &mut Front) -> Result<(), FrontFault> {
+fn reserved(front: &mut Front) -> Result<(), AllocError> {
     match front.reserve() {
-        Err(FrontFault::Memory) => front.reserve(),
+        Err(AllocError) => front.reserve(),
         answer => answer,
     }
 }

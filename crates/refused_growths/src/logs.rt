@@ -2,7 +2,7 @@
 use anyhow::{Result, bail};
 use repl_log::{Entry, Log, LogFault, Moment, RepId, rep_id, write_log};
 use rev_tree::SessionId;
-use std::alloc::Global;
+use std::alloc::{AllocError, Global};
 use test_texts::bare_entry;
 
 /// The entry of a session that recorded up to the sequence of its own number and read nothing.
@@ -24,16 +24,16 @@ fn put(log: &mut Log, recorded: u64) -> Result<bool, LogFault> {
     }
 }
 
-fn copied(alloc: Global, log: &Log) -> Result<Log, LogFault> {
+fn copied(alloc: Global, log: &Log) -> Result<Log, AllocError> {
     match log.copy(alloc) {
-        Err(LogFault::Memory) => log.copy(alloc),
+        Err(AllocError) => log.copy(alloc),
         answer => answer,
     }
 }
 
-fn named(alloc: Global, id: &RepId) -> Result<Vec<u8>, LogFault> {
+fn named(alloc: Global, id: &RepId) -> Result<Vec<u8>, AllocError> {
     match rep_id(alloc, id) {
-        Err(LogFault::Memory) => rep_id(alloc, id),
+        Err(AllocError) => rep_id(alloc, id),
         answer => answer,
     }
 }

@@ -1,7 +1,7 @@
 //! `Rev::write`, `Ancestry::from_parts` and `Ancestry::copy`.
 use anyhow::{Result, bail};
 use rev_core::{Ancestry, Rev, RevFault, Sig};
-use std::alloc::Global;
+use std::alloc::{AllocError, Global};
 
 /// The signatures c, b and a.
 fn sigs() -> Result<[Sig; 3], RevFault> {
@@ -17,16 +17,16 @@ pub(crate) fn three(alloc: Global) -> Result<Ancestry, RevFault> {
     }
 }
 
-fn copied(alloc: Global, ancestry: &Ancestry) -> Result<Ancestry, RevFault> {
+fn copied(alloc: Global, ancestry: &Ancestry) -> Result<Ancestry, AllocError> {
     match ancestry.copy(alloc) {
-        Err(RevFault::Memory) => ancestry.copy(alloc),
+        Err(AllocError) => ancestry.copy(alloc),
         answer => answer,
     }
 }
 
-fn written(alloc: Global, rev: Rev) -> Result<Vec<u8>, RevFault> {
+fn written(alloc: Global, rev: Rev) -> Result<Vec<u8>, AllocError> {
     match rev.write(alloc) {
-        Err(RevFault::Memory) => rev.write(alloc),
+        Err(AllocError) => rev.write(alloc),
         answer => answer,
     }
 }

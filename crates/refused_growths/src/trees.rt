@@ -2,15 +2,15 @@
 use crate::revisions;
 use anyhow::{Result, bail};
 use rev_core::{Ancestry, Rev, Sig};
-use rev_tree::{Content, Merged, Origin, Tree, TreeFault};
-use std::alloc::Global;
+use rev_tree::{Content, Merged, Origin, Revs, Tree, TreeFault};
+use std::alloc::{AllocError, Global};
 use std::sync::ArcSlice;
 
 /// A live content of a body.
-fn content(alloc: Global, body: &[u8]) -> Result<Content, TreeFault> {
-    let first = ArcSlice::from_slice(alloc, body);
-    let Ok(text) = first.or_else(|_| ArcSlice::from_slice(alloc, body)) else {
-        return Err(TreeFault::Memory);
+fn content(alloc: Global, body: &[u8]) -> Result<Content, AllocError> {
+    let text = match ArcSlice::from_slice(alloc, body) {
+        Err(AllocError) => ArcSlice::from_slice(alloc, body)?,
+        answer => answer?,
     };
     Ok(Content::new(false, text))
 }
@@ -38,9 +38,9 @@ fn merged(
     }
 }
 
-fn leaves(alloc: Global, tree: &Tree) -> Result<Vec<Rev>, TreeFault> {
+fn leaves(alloc: Global, tree: &Tree) -> Result<Revs, AllocError> {
     match tree.leaves(alloc) {
-        Err(TreeFault::Memory) => tree.leaves(alloc),
+        Err(AllocError) => tree.leaves(alloc),
         answer => answer,
     }
 }
@@ -52,16 +52,16 @@ fn ancestry(alloc: Global, tree: &Tree, rev: Rev) -> Result<Ancestry, TreeFault>
     }
 }
 
-fn leaves_above(alloc: Global, tree: &Tree, revs: &[Rev]) -> Result<Vec<Rev>, TreeFault> {
+fn leaves_above(alloc: Global, tree: &Tree, revs: &[Rev]) -> Result<Revs, AllocError> {
     match tree.leaves_above(alloc, revs) {
-        Err(TreeFault::Memory) => tree.leaves_above(alloc, revs),
+        Err(AllocError) => tree.leaves_above(alloc, revs),
         answer => answer,
     }
 }
 
-fn missing(alloc: Global, tree: &Tree, revs: &[Rev]) -> Result<Vec<Rev>, TreeFault> {
+fn missing(alloc: Global, tree: &Tree, revs: &[Rev]) -> Result<Revs, AllocError> {
     match tree.missing(alloc, revs) {
-        Err(TreeFault::Memory) => tree.missing(alloc, revs),
+        Err(AllocError) => tree.missing(alloc, revs),
         answer => answer,
     }
 }
@@ -102,9 +102,9 @@ fn grown(alloc: Global) -> Result<Tree> {
     Ok(tree)
 }
 
-fn copied(alloc: Global, tree: &Tree) -> Result<Tree, TreeFault> {
+fn copied(alloc: Global, tree: &Tree) -> Result<Tree, AllocError> {
     match tree.copy(alloc) {
-        Err(TreeFault::Memory) => tree.copy(alloc),
+        Err(AllocError) => tree.copy(alloc),
         answer => answer,
     }
 }
@@ -112,11 +112,11 @@ fn copied(alloc: Global, tree: &Tree) -> Result<Tree, TreeFault> {
 pub(crate) fn run(rt: &impl Print, alloc: Global) -> Result<()> {
     let tree = copied(alloc, &grown(alloc)?)?;
     let leaves = leaves(alloc, &tree)?;
-    for leaf in &leaves {
+    for leaf in leaves.as_slice() {
         let walk = ancestry(alloc, &tree, *leaf)?;
         let above = leaves_above(alloc, &tree, walk.revs())?;
         if above.as_slice() != [*leaf].as_slice()
-            || !missing(alloc, &tree, walk.revs())?.is_empty()
+            || !missing(alloc, &tree, walk.revs())?.as_slice().is_empty()
         {
             bail!("another reading");
         }

@@ -15,7 +15,7 @@ pub(crate) fn leaves(alloc: Global, db: &Database, id: &str) -> Option<String> {
         return "no document".to_string(alloc).ok();
     };
     let leaves = tree.leaves(alloc).ok()?;
-    all_at(alloc, db, &id, &leaves)
+    all_at(alloc, db, &id, leaves.as_slice())
 }
 
 /// The documents at some revisions of a document.

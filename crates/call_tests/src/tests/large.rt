@@ -82,7 +82,7 @@ pub(crate) fn sizes(alloc: Global, peer: &Peer<Rules>) -> Option<String> {
 /// How many leaves a tree lists.
 fn leaf_count(alloc: Global, tree: &Tree) -> Option<usize> {
     let leaves = tree.leaves(alloc).ok()?;
-    Some(leaves.len())
+    Some(leaves.as_slice().len())
 }
 
 /// How many revisions the ancestry of a revision has.

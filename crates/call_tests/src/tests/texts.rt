@@ -105,7 +105,7 @@ pub(crate) fn doc_text(alloc: Global, doc: &Doc) -> Option<String> {
 /// The leaves of a tree, winner first, and how many revisions it has.
 pub(crate) fn tree_text(alloc: Global, tree: &Tree) -> Option<String> {
     let leaves = tree.leaves(alloc).ok()?;
-    let text = revs_text(alloc, &leaves)?;
+    let text = revs_text(alloc, leaves.as_slice())?;
     format!(in alloc; "{text} of {}", tree.rev_count()).ok()
 }
 

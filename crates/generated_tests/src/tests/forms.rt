@@ -6,8 +6,8 @@ use crate::tests::reference::PLACES;
 use rand_chacha::ChaCha8Rng;
 use rand_core::SeedableRng;
 use rev_core::{Ancestry, Rev};
-use rev_tree::{Merged, Origin, SessionId, Tree, TreeFault};
-use std::alloc::Global;
+use rev_tree::{Merged, Origin, Revs, SessionId, Tree, TreeFault};
+use std::alloc::{AllocError, Global};
 use std::process::Abort;
 
 /// The answer of a merge as the plain form gives it.
@@ -38,7 +38,7 @@ fn agree_on_content(rt: &impl Abort, tree: &Tree, plain: &PlainTree, one: Rev) {
 }
 
 /// Asserts that revisions are those of the plain form.
-fn are_same(rt: &impl Abort, answer: Result<Vec<Rev>, TreeFault>, wanted: &[Rev]) {
+fn are_same(rt: &impl Abort, answer: Result<Revs, AllocError>, wanted: &[Rev]) {
     let revs = answer.expect(rt, "revisions");
     assert!(rt; revs.as_slice() == wanted);
 }

@@ -5,7 +5,7 @@ use crate::tests::reference::{Answer, PLACES, Reference, mask_of};
 use rand_chacha::ChaCha8Rng;
 use rand_core::{Rng, SeedableRng};
 use rev_core::{Ancestry, Rev, Sig};
-use rev_tree::{Content, Merged, Origin, Tree, TreeFault};
+use rev_tree::{Content, Merged, Origin, Revs, Tree, TreeFault};
 use std::alloc::{AllocError, Global};
 use std::process::Abort;
 use std::sync::ArcSlice;
@@ -86,9 +86,9 @@ fn agree_on_content(rt: &impl Abort, tree: &Tree, reference: &Reference, one: Re
 }
 
 /// Asserts that revisions are those at the places.
-fn assert_are(rt: &impl Abort, answer: Result<Vec<Rev>, TreeFault>, places: &[usize]) {
+fn assert_are(rt: &impl Abort, answer: Result<Revs, AllocError>, places: &[usize]) {
     let revs = answer.expect(rt, "revisions");
-    assert!(rt; are(rt, &revs, places));
+    assert!(rt; are(rt, revs.as_slice(), places));
 }
 
 /// Asserts that a revision has the ancestry that the reference has.

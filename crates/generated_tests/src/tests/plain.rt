@@ -180,10 +180,7 @@ impl PlainTree {
         if self.content(ancestry.head()).is_none() {
             self.contents.push((ancestry.head(), content.0, content.1))?;
         }
-        let Ok(given) = ancestry.copy(alloc) else {
-            return Err(AllocError);
-        };
-        self.ancestries.push(given)?;
+        self.ancestries.push(ancestry.copy(alloc)?)?;
         Ok(Ok(Merged::Changed))
     }
 }

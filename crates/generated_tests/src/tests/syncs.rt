@@ -30,6 +30,7 @@ fn body(rt: &impl Abort, alloc: Global, rng: &mut ChaCha8Rng) -> Body {
 /// A leaf of a tree by chance; none, where there is no tree.
 fn leaf(rt: &impl Abort, alloc: Global, rng: &mut ChaCha8Rng, tree: Option<&Tree>) -> Option<Rev> {
     let leaves = tree?.leaves(alloc).expect(rt, "memory");
+    let leaves = leaves.as_slice();
     let place = below(rng, 60) % leaves.len().max(1);
     leaves.get(place).copied()
 }
@@ -57,7 +58,7 @@ fn are_same(rt: &impl Abort, alloc: Global, one: &Tree, other: &Tree) -> bool {
     let leaves = one.leaves(alloc).expect(rt, "memory");
     let mut same = one.rev_count() == other.rev_count()
         && leaves.as_slice() == other.leaves(alloc).expect(rt, "memory").as_slice();
-    for leaf in &leaves {
+    for leaf in leaves.as_slice() {
         same = same && is_same_leaf(rt, alloc, one, other, *leaf);
     }
     same
