@@ -6,7 +6,7 @@ use doc_json::{Body, Doc, DocFault, DocId, read_body, read_doc};
 use rev_core::Rev;
 use rev_tree::Origin;
 use serde_json::Value;
-use std::alloc::Global;
+use std::alloc::{AllocError, Global};
 
 fn value(alloc: Global, text: &str) -> Result<Value> {
     match Value::from_str(alloc, text) {
@@ -111,29 +111,29 @@ fn page(alloc: Global, db: &Database, since: u64, limit: u64) -> Result<Window> 
 
 fn window_copied(alloc: Global, window: &Window) -> Result<Window> {
     match window.copy(alloc) {
-        Err(BaseFault::Memory) => Ok(window.copy(alloc)?),
+        Err(AllocError) => Ok(window.copy(alloc)?),
         answer => Ok(answer?),
     }
 }
 
 fn asked(alloc: Global, db: &Database, window: &Window) -> Result<Asked> {
     let asked = match db.revs_diff(alloc, window) {
-        Err(BaseFault::Memory) => db.revs_diff(alloc, window)?,
+        Err(AllocError) => db.revs_diff(alloc, window)?,
         answer => answer?,
     };
     match asked.copy(alloc) {
-        Err(BaseFault::Memory) => Ok(asked.copy(alloc)?),
+        Err(AllocError) => Ok(asked.copy(alloc)?),
         answer => Ok(answer?),
     }
 }
 
 fn opened(alloc: Global, db: &Database, asked: &Asked) -> Result<Parcel> {
     let parcel = match db.open_revs(alloc, asked) {
-        Err(BaseFault::Memory) => db.open_revs(alloc, asked)?,
+        Err(AllocError) => db.open_revs(alloc, asked)?,
         answer => answer?,
     };
     match parcel.copy(alloc) {
-        Err(BaseFault::Memory) => Ok(parcel.copy(alloc)?),
+        Err(AllocError) => Ok(parcel.copy(alloc)?),
         answer => Ok(answer?),
     }
 }
@@ -209,7 +209,7 @@ fn exchanged(alloc: Global, db: &Database, empty: &Database) -> Result<Counts> {
 /// The same documents in the next life.
 fn db_copied(alloc: Global, db: &Database) -> Result<Database> {
     match db.copy_in(alloc, 1) {
-        Err(BaseFault::Memory) => Ok(db.copy_in(alloc, 1)?),
+        Err(AllocError) => Ok(db.copy_in(alloc, 1)?),
         answer => Ok(answer?),
     }
 }

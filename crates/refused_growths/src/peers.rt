@@ -7,7 +7,7 @@ use repl_target::{Beginning, Cause, Peer, Report, Rules, Settled, TargetFault};
 use rev_core::Rev;
 use rev_tree::SessionId;
 use serde_json::Value;
-use std::alloc::Global;
+use std::alloc::{AllocError, Global};
 
 /// The one session.
 const SESSION: SessionId = SessionId(1);
@@ -93,21 +93,21 @@ fn page(alloc: Global, peer: &Peer<Rules>) -> Option<Window> {
 
 fn copied(alloc: Global, window: &Window) -> Option<Window> {
     match window.copy(alloc) {
-        Err(BaseFault::Memory) => window.copy(alloc).ok(),
+        Err(AllocError) => window.copy(alloc).ok(),
         answer => answer.ok(),
     }
 }
 
 fn asked(alloc: Global, peer: &Peer<Rules>, window: &Window) -> Option<Asked> {
     match peer.revs_diff(alloc, window) {
-        Err(BaseFault::Memory) => peer.revs_diff(alloc, window).ok(),
+        Err(AllocError) => peer.revs_diff(alloc, window).ok(),
         answer => answer.ok(),
     }
 }
 
 fn opened(alloc: Global, peer: &Peer<Rules>, asked: &Asked) -> Option<Parcel> {
     match peer.open_revs(alloc, asked) {
-        Err(BaseFault::Memory) => peer.open_revs(alloc, asked).ok(),
+        Err(AllocError) => peer.open_revs(alloc, asked).ok(),
         answer => answer.ok(),
     }
 }
