@@ -61,7 +61,7 @@ fn bring<F: WriteFilter, S: Origin, J: Given<F>, L: Ledger, G: Gate, R: Wait>(
     pass(rt, gate, Place::Took(number))?;
     let asked = ask(rt, alloc, desk, page)?;
     pass(rt, gate, Place::Asked(number))?;
-    match Fetched::<S>::fetch(alloc, source, &asked) {
+    match Fetched::<S>::fetch(alloc, source, asked) {
         Ok(fetched) => Ok(fetched),
         Err(_) => Err(Halt::Memory),
     }
