@@ -30,10 +30,9 @@ pub fn push_rev(text: &mut Vec<u8>, rev: Rev) -> Result<(), AllocError>
     ensures { OnOk result (text.new.items ≡ text.old.items ++ rev_text rev) }
 {
     let mut digits = Buffer::new();
-    let sig = rev.sig();
     text.extend_from_slice(digits.format(rev.generation()).as_bytes())?;
     text.extend_from_slice(b"-")?;
-    text.extend_from_slice(sig.bytes())
+    text.extend_from_slice(rev.sig_bytes())
 }
 
 /// Adds the texts of revisions, joined by commas.

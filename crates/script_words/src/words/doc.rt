@@ -10,7 +10,7 @@ ghost use Rattle.script_words.specs.words.Doc.{PrintsDocument, chosen, doc_asked
 
 use crate::given::{read_id, read_rev};
 use crate::members::{has_only_members, name_member, optional_text, text_member};
-use doc_json::write_doc;
+use doc_json::push_doc;
 use json_values::LineValue;
 use rev_core::Rev;
 use rev_tree::Tree;
@@ -72,7 +72,7 @@ pub fn serve(
     let Some(document) = found else {
         return Err(Refusal::NoSuchRevision);
     };
-    match print(alloc, answer, &document) {
+    match print(answer, &document) {
         Ok(()) => Ok(()),
         Err(_) => Err(Refusal::Memory),
     }
@@ -89,12 +89,9 @@ fn chosen(tree: &Tree, named: Option<Rev>) -> Option<Rev>
 }
 
 /// Prints a document.
-fn print(alloc: Global, answer: &mut Vec<u8>, document: &doc_json::Doc) -> Result<(), AllocError>
+fn print(answer: &mut Vec<u8>, document: &doc_json::Doc) -> Result<(), AllocError>
     ensures { OnOk result (answer.new.items ≡ answer.old.items ++ ended (doc_text document.now)) }
 {
-    let Ok(text) = write_doc(alloc, document) else {
-        return Err(AllocError);
-    };
-    answer.extend_from_slice(text.as_slice())?;
+    push_doc(answer, document)?;
     answer.extend_from_slice(b"\n")
 }
