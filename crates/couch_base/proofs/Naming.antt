@@ -15,7 +15,6 @@ use Rattle.std.proofs.lemmas.Option.{slice_get-map, slice_get_within, unwrap_or-
 use Rattle.indexmap.specs.IndexMap.{insert_entry, set_value_at}
 use Rattle.indexmap.proofs.MapLemmas.{absent_from_lookup, insert_entry-absent}
 use Rattle.rev_tree.proofs.Places.{slice_get-last}
-use Rattle.couch_base.specs.Lists.{Among}
 use Rattle.couch_base.specs.ListLaws.{some_is, none_some}
 use Rattle.couch_base.specs.Database.{Id}
 use Rattle.couch_base.specs.Stored.{found, id_at, is_live, live, swept, named, feed_of, feed_without, ArePlaces, AreRows, AllBelow, IsPlace}

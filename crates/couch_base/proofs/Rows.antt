@@ -1,17 +1,20 @@
 -- The rows of an index: what a change leaves of them, and which ones are live.
-use Rattle.std.proofs.Common.{◌≡◌, ℕ, zero, suc, ◌+◌, ◌<◌, ◌≤◌, List, [], ◌∷◌, ◌++◌, Bool, true, false, Some, length, map, drop, cond, sym, ap, subst, ◌∙◌, refl, arith, inl, inr}
+use Rattle.std.proofs.Common.{◌≡◌, ℕ, zero, suc, ◌+◌, ◌*◌, ◌<◌, ◌≤◌, List, [], ◌∷◌, ◌++◌, Bool, true, false, Option, Some, None, eqb, length, map, drop, cond, sym, ap, subst, ◌∙◌, refl, arith, inl, inr}
 use Rattle.std.specs.Prelude.{◌==◌, ◌/◌, nat_lt, nat_le, filter, slice_get, get_or}
-use Rattle.std.specs.List.{AllWithin}
+use Rattle.std.specs.List.{AllWithin, AllByRecursion, IsDistinct, list_any}
 use Rattle.std.specs.List.Sorted.{IsNonDecreasingBy, IsPartitionPoint}
 use Rattle.std.specs.Map.{keys_of}
 use Rattle.std.specs.Option.{option_map_or}
-use Rattle.std.proofs.lemmas.Bool.{cond_both}
+use Rattle.std.proofs.lemmas.Bool.{cond_both, cases_Bool, eqb-true, false≢true}
+use Rattle.std.proofs.lemmas.List.{length-append, length-map}
+use Rattle.std.proofs.lemmas.Map.Steps.{length-le_from_distinct_below}
 use Rattle.indexmap.specs.IndexMap.{set_value_at}
 use Rattle.couch_base.specs.Lists.{Among}
 use Rattle.couch_base.specs.ListLaws.{some_is, none_some}
 use Rattle.couch_base.specs.Database.{Id}
-use Rattle.couch_base.specs.Stored.{is_live, live, live_upto, above, swept, named, feed_of, ArePlaces, AllBelow, InOrder, AreRows}
+use Rattle.couch_base.specs.Stored.{is_live, live, live_upto, above, swept, named, feed_of, ArePlaces, AllBelow, InOrder, AreFew, AreRows}
 use Rattle.couch_base.specs.declared.kept.Kept.{Kept}
+use Rattle.couch_base.proofs.Found.{not_true}
 use Rattle.couch_base.proofs.Rising.{among_append, among_filter}
 
 -- ---- rows that are put at the end, and rows that are left out
@@ -81,6 +84,65 @@ places_live_above docs n a b rows places = places_filter n _ (live docs (above a
 
 pub order_above : (a : ℕ) (rows : List (ℕ × ℕ)) → InOrder rows → InOrder (above a rows)
 order_above a rows o = order_filter _ rows o
+
+-- ---- how many rows there are
+
+-- the sequence of a place's document
+one_seq : (o : Option (Id × Kept)) (s t : ℕ) → option_map_or (λ (d : Id × Kept). d.1.seq == s) o false ≡ true → option_map_or (λ (d : Id × Kept). d.1.seq == t) o false ≡ true → s ≡ t
+one_seq None s t h k = absurd (false≢true h)
+one_seq (Some d) s t h k = let a : d.1.seq ≡ s = eqb-true d.1.seq s h in let b : d.1.seq ≡ t = eqb-true d.1.seq t k in omega (arith, a, b)
+
+-- of two rows of one place at most one is live
+live_apart : (docs : List (Id × Kept)) (e x : ℕ × ℕ) → e.0 < x.0 → is_live docs e ≡ true → is_live docs x ≡ true → (e.1 == x.1) ≡ false
+live_apart docs e x later here there =
+    not_true (e.1 == x.1) (λ same.
+    let at : e.1 ≡ x.1 = eqb-true e.1 x.1 same in
+    let s : e.0 ≡ x.0 = one_seq (slice_get docs e.1) e.0 x.0 here (ap (λ i. option_map_or (λ (d : Id × Kept). d.1.seq == x.0) (slice_get docs i) false) at ∙ there) in
+    omega (arith, s, later))
+
+places_apart : (docs : List (Id × Kept)) (e : ℕ × ℕ) (rows : List (ℕ × ℕ)) → ((x : ℕ × ℕ) → Among x rows → e.0 < x.0) → is_live docs e ≡ true → AllByRecursion (λ i. (e.1 == i) ≡ false) (map (λ (x : ℕ × ℕ). x.1) (live docs rows))
+places_apart docs e [] later here = tt
+places_apart docs e (x ∷ rows) later here =
+    let rest = places_apart docs e rows (λ y m. later y (inr m)) here in
+    cond_both (is_live docs x) (x ∷ live docs rows) (live docs rows) (λ l. AllByRecursion (λ i. (e.1 == i) ≡ false) (map (λ (y : ℕ × ℕ). y.1) l))
+    (λ there. (live_apart docs e x (later x (inl refl)) here there, rest))
+    (λ _. rest)
+
+places_once : (docs : List (Id × Kept)) (rows : List (ℕ × ℕ)) → InOrder rows → IsDistinct eqb (map (λ (x : ℕ × ℕ). x.1) (live docs rows))
+unfolding IsDistinct
+places_once docs [] o = tt
+places_once docs (e ∷ rows) o =
+    cond_both (is_live docs e) (e ∷ live docs rows) (live docs rows) (λ l. IsDistinct eqb (map (λ (y : ℕ × ℕ). y.1) l))
+    (λ here. (places_apart docs e rows o.0 here, places_once docs rows o.1))
+    (λ _. places_once docs rows o.1)
+
+place_within : (n : ℕ) (rows : List (ℕ × ℕ)) → ArePlaces n rows → (q : ℕ) → list_any (eqb q) (map (λ (x : ℕ × ℕ). x.1) rows) ≡ true → q < n
+place_within n [] places q h = absurd (false≢true h)
+place_within n (e ∷ rows) places q h =
+    elim (cases_Bool (eqb q e.1)) [
+      | inl hit ↦ let a : q ≡ e.1 = eqb-true q e.1 hit in let b : e.1 < n = places e (inl refl) in omega (arith, a, b)
+      | inr miss ↦ place_within n rows (λ x m. places x (inr m)) q (rw miss at h)
+    ]
+
+-- no more rows are live than there are documents
+few_live : (docs : List (Id × Kept)) (s : ℕ) (rows : List (ℕ × ℕ)) → AreRows (length docs) s rows → length (live docs rows) ≤ length docs
+few_live docs s rows r =
+    let places = map (λ (x : ℕ × ℕ). x.1) (live docs rows) in
+    let size : length places ≡ length (live docs rows) = length-map (live docs rows) (λ (x : ℕ × ℕ). x.1) in
+    let most : length places ≤ length docs = length-le_from_distinct_below places (length docs) (places_once docs rows r.order) (place_within (length docs) (live docs rows) (places_filter (length docs) (is_live docs) rows r.places)) in
+    omega (arith, size, most)
+
+pub few_swept : (docs : List (Id × Kept)) (s : ℕ) (rows : List (ℕ × ℕ)) → AreRows (length docs) s rows → AreFew (length docs) (swept docs rows)
+few_swept docs s rows r =
+    cond_both (nat_lt (length docs) (length rows / 2)) (live docs rows) rows (AreFew (length docs))
+    (λ _. let some : length (live docs rows) ≤ length docs = few_live docs s rows r in omega (arith, some))
+    (λ enough. let half : length rows / 2 ≤ length docs = grind (arith, enough) in omega (arith, half))
+
+pub few_push : (n m s i : ℕ) (rows : List (ℕ × ℕ)) → AreFew n rows → m ≡ n + 1 → AreFew m (rows ++ (s, i) ∷ [])
+few_push n m s i rows few more =
+    let size : length (rows ++ (s, i) ∷ []) ≡ length rows + 1 = length-append rows ((s, i) ∷ []) in
+    let before : length rows ≤ 2 * n + 1 = few in
+    omega (arith, size, before, more)
 
 -- ---- live rows of a table that is written
 

@@ -1,6 +1,6 @@
 -- A database as it is kept: a table of documents by id, and an index of their places by sequence. Each change puts a row
 -- at the end of the index. A row is live while its document has no later change; the live rows are the feed.
-use Rattle.std.specs.Prelude.{◌≡◌, ℕ, ◌+◌, ◌/◌, ◌<◌, ◌≤◌, ◌==◌, nat_lt, nat_le, Bool, false, not, List, [], ◌∷◌, ◌++◌, cond, if◌then◌else◌, map, filter, length, slice_get, unwrap_or, Option, Some, None, IfSome}
+use Rattle.std.specs.Prelude.{◌≡◌, ℕ, ◌+◌, ◌*◌, ◌/◌, ◌<◌, ◌≤◌, ◌==◌, nat_lt, nat_le, Bool, false, not, List, [], ◌∷◌, ◌++◌, cond, if◌then◌else◌, map, filter, length, slice_get, unwrap_or, Option, Some, None, IfSome}
 use Rattle.std.specs.Option.{option_map, option_map_or}
 use Rattle.std.specs.Ordering.{nat_cmp}
 use Rattle.std.specs.BTreeMap.{is_at}
@@ -95,10 +95,15 @@ pub record AreRows (n s : ℕ) (rows : List (ℕ × ℕ)) : Type 0 where
   pub below : AllBelow s rows
   pub order : InOrder rows
 
--- what holds of a table and the index of its places
+-- rows are at most twice so many, and one more
+abbrev pub AreFew : ℕ → List (ℕ × ℕ) → Type 0
+AreFew n rows = length rows ≤ 2 * n + 1
+
+-- what holds of a table and the index of its places: sweeping keeps the rows few
 pub record IsKept (docs : List (Id × Kept)) (index : List (ℕ × ℕ)) (hi : ℕ) : Type 0 where
   pub table : IsTable (found docs) (feed_of docs index) hi
   pub rows : AreRows (length docs) (hi + 1) index
+  pub few : AreFew (length docs) index
 
 -- the place of an id's document, where it is there
 pub record IsPlace (docs : List (Id × Kept)) (id : Id) (place : Option ℕ) : Type 0 where

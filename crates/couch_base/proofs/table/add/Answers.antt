@@ -5,9 +5,9 @@ use Rattle.indexmap.specs.IndexMap.{insert_entry}
 use Rattle.rev_tree.specs.Tree.{IsTree, merged}
 use Rattle.couch_base.specs.Database.{Id}
 use Rattle.couch_base.specs.declared.kept.Kept.{Kept}
-use Rattle.couch_base.specs.Stored.{AreRows}
+use Rattle.couch_base.specs.Stored.{AreFew, AreRows}
 use Rattle.couch_base.proofs.Naming.{added_feed, inserted}
-use Rattle.couch_base.proofs.Rows.{rows_push}
+use Rattle.couch_base.proofs.Rows.{few_push, rows_push}
 use Rattle.couch_base.proofs.table.add.Goals as goal
 
 -- the table after it
@@ -38,3 +38,9 @@ returns-clause-rows c =
     let size : length c.insert.new.self.entries ≡ length docs + 1 = ap length (grown c) ∙ length-append docs (_ ∷ []) in
     subst (AreRows (length c.insert.new.self.entries) (c.args.next + 1)) (sym (longer c))
     (rows_push (length docs) (length c.insert.new.self.entries) c.args.next (length docs) c.args.index.now.items c.requires.rows (omega (arith, size)) (omega (arith, size)))
+
+pub returns-clause-few : goal.returns-clause-few
+returns-clause-few c =
+    let docs = c.args.docs.now.entries in
+    let size : length c.insert.new.self.entries ≡ length docs + 1 = ap length (grown c) ∙ length-append docs (_ ∷ []) in
+    subst (AreFew (length c.insert.new.self.entries)) (sym (longer c)) (few_push (length docs) (length c.insert.new.self.entries) c.args.next (length docs) c.args.index.now.items c.requires.few size)

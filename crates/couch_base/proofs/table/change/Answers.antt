@@ -6,11 +6,11 @@ use Rattle.indexmap.specs.IndexMap.{set_value_at}
 use Rattle.indexmap.proofs.CallerLemmas.{keys-with_value_at, index_map_len-with_value_at, updates-with_value_at}
 use Rattle.rev_tree.specs.Tree.{TreeValue, IsTree, merged}
 use Rattle.couch_base.specs.Database.{Id}
-use Rattle.couch_base.specs.Stored.{found, Sets, AreRows}
+use Rattle.couch_base.specs.Stored.{found, Sets, AreFew, AreRows}
 use Rattle.couch_base.specs.declared.kept.Kept.{Kept}
 use Rattle.couch_base.specs.ListLaws.{some_is}
 use Rattle.couch_base.proofs.Naming.{set_same, moved_feed}
-use Rattle.couch_base.proofs.Rows.{rows_push, rows_swept}
+use Rattle.couch_base.proofs.Rows.{few_swept, rows_push, rows_swept}
 use Rattle.couch_base.proofs.table.change.Goals as goal
 
 pub merge_change-requires : goal.merge_change-requires
@@ -49,12 +49,22 @@ returns-in-Ok-clause-ok c = λ id was is.
       lawful = subst IsTree made c.in-Ok.ensures.tree;
     }
 
-pub returns-in-Ok-clause-rows : goal.returns-in-Ok-clause-rows
-returns-in-Ok-clause-rows c =
+-- the rows before they are swept
+rows_after : (c : goal.After-sweep) → AreRows (length (set_value_at c.args.docs.now.entries c.args.place (record { seq = c.args.next; tree = c.merge_change.new.self }))) (c.args.next + 1) c.note.new.index.items
+rows_after c =
     let docs = c.args.docs.now in
     let new : Kept = record { seq = c.args.next; tree = c.merge_change.new.self } in
     let size : length (set_value_at docs.entries c.args.place new) ≡ length docs.entries = index_map_len-with_value_at docs c.args.place new in
     let within : c.args.place < length docs.entries = c.requires.within in
-    let all = rows_push (length docs.entries) (length (set_value_at docs.entries c.args.place new)) c.args.next c.args.place c.args.index.now.items c.requires.rows (omega (arith, size)) (omega (arith, size, within)) in
-    subst (AreRows (length (set_value_at docs.entries c.args.place new)) (c.args.next + 1)) (sym c.sweep.ensures)
-    (rows_swept (set_value_at docs.entries c.args.place new) (length (set_value_at docs.entries c.args.place new)) (c.args.next + 1) c.note.new.index.items (subst (AreRows (length (set_value_at docs.entries c.args.place new)) (c.args.next + 1)) (sym c.in_ok-note.ensures.ok) all))
+    subst (AreRows (length (set_value_at docs.entries c.args.place new)) (c.args.next + 1)) (sym c.in_ok-note.ensures.ok)
+    (rows_push (length docs.entries) (length (set_value_at docs.entries c.args.place new)) c.args.next c.args.place c.args.index.now.items c.requires.rows (omega (arith, size)) (omega (arith, size, within)))
+
+pub returns-in-Ok-clause-rows : goal.returns-in-Ok-clause-rows
+returns-in-Ok-clause-rows c =
+    let new = set_value_at c.args.docs.now.entries c.args.place (record { seq = c.args.next; tree = c.merge_change.new.self }) in
+    subst (AreRows (length new) (c.args.next + 1)) (sym c.sweep.ensures) (rows_swept new (length new) (c.args.next + 1) c.note.new.index.items (rows_after c))
+
+pub returns-in-Ok-clause-few : goal.returns-in-Ok-clause-few
+returns-in-Ok-clause-few c =
+    let new = set_value_at c.args.docs.now.entries c.args.place (record { seq = c.args.next; tree = c.merge_change.new.self }) in
+    subst (AreFew (length new)) (sym c.sweep.ensures) (few_swept new (c.args.next + 1) c.note.new.index.items (rows_after c))
