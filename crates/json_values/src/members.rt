@@ -1,5 +1,7 @@
 //! The members of an object as they are read, in byte order of their names.
 ghost use Rattle.std.specs.Prelude.{◌≡◌, ◌<◌, ◌≤◌, [], length, true, OnOk, IfOk, IfErr};
+ghost use Rattle.std.specs.Ordering.{nat_cmp};
+ghost use Rattle.std.specs.Cmp.Lexicographic.{slice_cmp};
 ghost use Rattle.json_values.specs.Entries.{ComesLast, IsRising, IsPlaceOf, IsGapFor, put_entry};
 ghost use Rattle.json_values.specs.Members.{entries_of};
 
@@ -117,6 +119,22 @@ fn put_listed<'a, T: Drop>(
     }
 }
 
+/// The order of two names, by their bytes. Mostly the first ones tell.
+#[inline(always)]
+fn order_of(a: &str, b: &str) -> Ordering
+    ensures { result ≡ slice_cmp nat_cmp a.now b.now }
+{
+    let (x, y) = (a.as_bytes(), b.as_bytes());
+    if x.is_empty() || y.is_empty() || x[0] == y[0] {
+        return a.cmp(&b);
+    }
+    if x[0] < y[0] {
+        Ordering::Less
+    } else {
+        Ordering::Greater
+    }
+}
+
 /// Whether a member of a name goes behind all others.
 fn comes_last<T>(entries: &[(&str, T)], name: &str) -> bool
     requires { IsRising entries.now }
@@ -125,7 +143,7 @@ fn comes_last<T>(entries: &[(&str, T)], name: &str) -> bool
     if entries.is_empty() {
         return true;
     }
-    match name.cmp(entries[entries.len() - 1].0) {
+    match order_of(name, entries[entries.len() - 1].0) {
         Ordering::Greater => true,
         _ => false,
     }
@@ -137,7 +155,7 @@ fn place_of<T>(entries: &[(&str, T)], name: &str) -> Result<usize, usize>
     ensures absent { IfErr result (λ i. i ≤ length entries.now × IsGapFor name.now entries.now i) }
 {
     for i in 0..entries.len() {
-        match name.cmp(entries[i].0) {
+        match order_of(name, entries[i].0) {
             Ordering::Less => return Err(i),
             Ordering::Equal => return Ok(i),
             Ordering::Greater => {}

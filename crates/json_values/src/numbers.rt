@@ -1,11 +1,15 @@
 //! Numbers.
-ghost use Rattle.std.specs.Prelude.{◌≡◌, ◌==◌, ◌<◌, true, false, length, slice_index, option_map, IsTrue};
-ghost use Rattle.fast_float.specs.Text.{minus};
+ghost use Rattle.std.specs.Prelude.{◌≡◌, ◌==◌, ◌<◌, true, false, length, slice_index, option_map, IsTrue, IfSome};
+ghost use Rattle.std.specs.Str.Parse.{AllDigits, digits_value};
+ghost use Rattle.fast_float.specs.Text.{minus, scan};
 ghost use Rattle.serde_json.specs.Read.{number_of, number_from, float_of};
 ghost use Rattle.serde_json.specs.View.{number_view};
 
 use fast_float::Numeral;
 use serde_json::Number;
+
+/// The most that one more digit is taken behind.
+const FULL: u64 = 1_000_000_000_000_000_000;
 
 /// The number that a token writes, where it is in range.
 pub(crate) fn read_number(text: &str) -> Option<Number>
@@ -13,10 +17,52 @@ pub(crate) fn read_number(text: &str) -> Option<Number>
 {
     let bytes = text.as_bytes();
     if has_minus(bytes) {
-        below_zero(&Numeral::scan(&bytes[1..]))
+        read_below_zero(&bytes[1..])
     } else {
-        from_zero(&Numeral::scan(bytes))
+        read_from_zero(bytes)
     }
+}
+
+/// The number that a token without a sign writes. Mostly it is a few digits, which are summed as they are passed.
+#[inline(always)]
+fn read_from_zero(bytes: &[u8]) -> Option<Number>
+    ensures { option_map number_view result ≡ number_from false (scan bytes.now) }
+{
+    match few_digits(bytes) {
+        Some(n) => Some(Number::from(n)),
+        None => from_zero(&Numeral::scan(bytes)),
+    }
+}
+
+/// The number that a token behind a minus sign writes.
+#[inline(always)]
+fn read_below_zero(bytes: &[u8]) -> Option<Number>
+    ensures { option_map number_view result ≡ number_from true (scan bytes.now) }
+{
+    match few_digits(bytes) {
+        Some(n) if 0 < n && n < FULL => Some(Number::from(-(n as i64))),
+        _ => below_zero(&Numeral::scan(bytes)),
+    }
+}
+
+/// The number that digits write, where they are nothing else and not too many.
+#[inline(always)]
+fn few_digits(bytes: &[u8]) -> Option<u64>
+    ensures some { IfSome result (λ n. 0 < length bytes.now) }
+    ensures digits { IfSome result (λ n. AllDigits 10 bytes.now) }
+    ensures value { IfSome result (λ n. digits_value 10 bytes.now ≡ n) }
+{
+    if bytes.is_empty() {
+        return None;
+    }
+    let mut n: u64 = 0;
+    for byte in bytes {
+        if n > FULL || !byte.is_ascii_digit() {
+            return None;
+        }
+        n = n * 10 + u64::from(*byte - b'0');
+    }
+    Some(n)
 }
 
 /// Whether a minus sign comes first.
@@ -28,6 +74,7 @@ fn has_minus(bytes: &[u8]) -> bool
 }
 
 /// The number of a numeral without a sign.
+#[inline(never)]
 fn from_zero(numeral: &Numeral<'_>) -> Option<Number>
     ensures { option_map number_view result ≡ number_from false numeral.now }
 {
@@ -38,6 +85,7 @@ fn from_zero(numeral: &Numeral<'_>) -> Option<Number>
 }
 
 /// The number of a numeral behind a minus sign.
+#[inline(never)]
 fn below_zero(numeral: &Numeral<'_>) -> Option<Number>
     ensures { option_map number_view result ≡ number_from true numeral.now }
 {

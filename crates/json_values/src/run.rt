@@ -45,12 +45,32 @@ pub(crate) fn after_blanks(text: &[u8], from: usize) -> usize
 
 /// Which of sixteen bytes end the plain text of a string.
 #[inline(always)]
-fn stops(v: u8x16) -> u64
+fn stops_16(v: u8x16) -> u64
     ensures { result ≡ mask_l (map is_stop v) }
 {
     (v.simd_eq(u8x16::splat(b'"'))
         | v.simd_eq(u8x16::splat(b'\\'))
         | v.simd_lt(u8x16::splat(0x20))).to_bitmask()
+}
+
+/// Which of eight bytes do.
+#[inline(always)]
+fn stops_8(v: u8x8) -> u64
+    ensures { result ≡ mask_l (map is_stop v) }
+{
+    (v.simd_eq(u8x8::splat(b'"'))
+        | v.simd_eq(u8x8::splat(b'\\'))
+        | v.simd_lt(u8x8::splat(0x20))).to_bitmask()
+}
+
+/// Which of four bytes do.
+#[inline(always)]
+fn stops_4(v: u8x4) -> u64
+    ensures { result ≡ mask_l (map is_stop v) }
+{
+    (v.simd_eq(u8x4::splat(b'"'))
+        | v.simd_eq(u8x4::splat(b'\\'))
+        | v.simd_lt(u8x4::splat(0x20))).to_bitmask()
 }
 
 /// The first quotation mark, backslash or control byte from a place on, or the length, byte by byte.
@@ -66,6 +86,38 @@ fn plain_end_slowly(text: &[u8], from: usize) -> usize
     i
 }
 
+/// The same of the last bytes, fewer than eight.
+#[inline(always)]
+fn plain_end_4(text: &[u8], from: usize) -> usize
+    requires { from ≤ length text.now }
+    ensures { result ≡ from + prefix_len is_plain (drop from text.now) }
+{
+    if text.len() - from < 4 {
+        return plain_end_slowly(text, from);
+    }
+    let found = stops_4(u8x4::from_slice(&text[from..]));
+    if found != 0 {
+        return from + found.trailing_zeros() as usize;
+    }
+    plain_end_slowly(text, from + 4)
+}
+
+/// The same of the last bytes, fewer than sixteen.
+#[inline(never)]
+fn plain_end_8(text: &[u8], from: usize) -> usize
+    requires { from ≤ length text.now }
+    ensures { result ≡ from + prefix_len is_plain (drop from text.now) }
+{
+    if text.len() - from < 8 {
+        return plain_end_4(text, from);
+    }
+    let found = stops_8(u8x8::from_slice(&text[from..]));
+    if found != 0 {
+        return from + found.trailing_zeros() as usize;
+    }
+    plain_end_4(text, from + 8)
+}
+
 /// The first quotation mark, backslash or control byte from a place on, or the length.
 #[inline(always)]
 pub fn plain_end(text: &[u8], from: usize) -> usize
@@ -75,13 +127,13 @@ pub fn plain_end(text: &[u8], from: usize) -> usize
 {
     let mut i = from;
     while text.len() - i >= 16 {
-        let found = stops(u8x16::from_slice(&text[i..]));
+        let found = stops_16(u8x16::from_slice(&text[i..]));
         if found != 0 {
             return i + found.trailing_zeros() as usize;
         }
         i += 16;
     }
-    plain_end_slowly(text, i)
+    plain_end_8(text, i)
 }
 
 /// The first byte from a place on that is no digit, or the length.

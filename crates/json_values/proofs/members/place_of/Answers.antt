@@ -18,7 +18,7 @@ returns-in-Less g c =
       absent = (
         omega arith,
         λ name same v.
-            let before : slice_cmp nat_cmp name.now e.0.now ≡ Less = ap (λ k. slice_cmp nat_cmp k e.0.now) same ∙ ap (λ y. slice_cmp nat_cmp c.args.name.now y.0.now) c.index-entries-i.is ∙ sym c.cmp.ensures ∙ c.in-Less.is in
+            let before : slice_cmp nat_cmp name.now e.0.now ≡ Less = ap (λ k. slice_cmp nat_cmp k e.0.now) same ∙ ap (λ y. slice_cmp nat_cmp c.args.name.now y.0.now) c.index-entries-i.is ∙ sym c.order_of.ensures ∙ c.in-Less.is in
             c.loop-i.invariant name same v ∙ ap (λ xs. take i es ++ xs) (ap (put_entry name v) here ∙ put_before name v e (drop (i + 1) es) before ∙ ap (λ ys. (name, v) ∷ ys) (sym here)),
       );
     }
@@ -34,7 +34,7 @@ returns-in-Equal g c =
         omega arith,
         λ name same v at is.
             let same_entry : e ≡ at = c.index-entries-i.is ∙ get_or_from_slice_get es i at e is in
-            let tied : slice_cmp nat_cmp name.now e.0.now ≡ Equal = ap (λ k. slice_cmp nat_cmp k e.0.now) same ∙ ap (λ y. slice_cmp nat_cmp c.args.name.now y.0.now) c.index-entries-i.is ∙ sym c.cmp.ensures ∙ c.in-Equal.is in
+            let tied : slice_cmp nat_cmp name.now e.0.now ≡ Equal = ap (λ k. slice_cmp nat_cmp k e.0.now) same ∙ ap (λ y. slice_cmp nat_cmp c.args.name.now y.0.now) c.index-entries-i.is ∙ sym c.order_of.ensures ∙ c.in-Equal.is in
             c.loop-i.invariant name same v ∙ ap (λ xs. take i es ++ xs) (ap (put_entry name v) here ∙ put_over name v e (drop (i + 1) es) tied) ∙ set_between es i (e.0, v) (omega arith) ∙ ap (λ y. slice_set es i (y.0, v)) same_entry,
       );
       absent = tt;
@@ -47,7 +47,7 @@ loop-i-preserved g c name same v =
     let e = c.index-entries-i.result in
     let here : drop i es ≡ e ∷ drop (i + 1) es = drop_more es i e (omega arith) ∙ ap (λ y. y ∷ drop (i + 1) es) (sym c.index-entries-i.is) in
     let front : take i es ++ e ∷ [] ≡ take (i + 1) es = sym (take_more es i e (omega arith) ∙ ap (λ y. take i es ++ y ∷ []) (sym c.index-entries-i.is)) in
-    let later : slice_cmp nat_cmp name.now e.0.now ≡ Greater = ap (λ k. slice_cmp nat_cmp k e.0.now) same ∙ ap (λ y. slice_cmp nat_cmp c.args.name.now y.0.now) c.index-entries-i.is ∙ sym c.cmp.ensures ∙ c.in-Greater.is in
+    let later : slice_cmp nat_cmp name.now e.0.now ≡ Greater = ap (λ k. slice_cmp nat_cmp k e.0.now) same ∙ ap (λ y. slice_cmp nat_cmp c.args.name.now y.0.now) c.index-entries-i.is ∙ sym c.order_of.ensures ∙ c.in-Greater.is in
     c.loop-i.invariant name same v ∙ ap (λ xs. take i es ++ xs) (ap (put_entry name v) here ∙ put_after name v e (drop (i + 1) es) later)
     ∙ sym (append_assoc (take i es) (e ∷ []) (put_entry name v (drop (i + 1) es))) ∙ ap (λ xs. xs ++ put_entry name v (drop (i + 1) es)) front
 
