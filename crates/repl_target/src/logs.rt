@@ -1,11 +1,11 @@
 //! The logs of a peer: those of the sessions that were replicated into it, and those of the replications from it.
-ghost use Rattle.std.specs.Prelude.{◌≡◌, OnOk, OnErr, IfOk, IfErr};
+ghost use Rattle.std.specs.Prelude.{◌≡◌, OnOk, OnErr, IfOk};
 ghost use Rattle.std.specs.Option.{option_copied};
 ghost use Rattle.repl_log.specs.Entry.{value_of};
 ghost use Rattle.repl_target.specs.logs.Audit.{checkpoint_between, rep_between};
 ghost use Rattle.repl_target.specs.peer.Law.{Lawful};
 ghost use Rattle.repl_target.specs.session.Sessions.{GivesUnlessMemory};
-ghost use Rattle.repl_target.specs.logs.Logs.{log_in, logs_with, put_answer_in, refused_by_log};
+ghost use Rattle.repl_target.specs.logs.Logs.{log_in, logs_with, put_answer_in};
 
 pub(crate) mod auditing;
 
@@ -14,29 +14,25 @@ use crate::peer::Peer;
 use crate::peer::filter::WriteFilter;
 use doc_json::Chosen;
 use indexmap::IndexMap;
-use repl_log::{Entry, Log, LogFault, RepId};
+use repl_log::{Entry, Log, RepId};
 use rev_tree::SessionId;
-use std::alloc::Global;
+use std::alloc::{AllocError, Global};
 
 /// The outgoing logs by replication.
 pub(crate) type Logs = IndexMap<RepId, Log>;
 
 /// The id of the replication from one peer into another: their databases' UUIDs, and the choice, which is shared. Both
-/// peers are lawful. The only error is `Memory`.
+/// peers are lawful.
 pub fn rep_between<F: WriteFilter, G: WriteFilter>(
     source: &Peer<F>,
     target: &Peer<G>,
     chosen: Option<&Chosen>,
-) -> Result<RepId, TargetFault>
+) -> Result<RepId, AllocError>
     ensures id { IfOk result (λ id. id ≡ rep_between source.now.1 target.now.1 (option_copied chosen.entry)) }
-    ensures err { IfErr result (λ e. e ≡ TargetFault.Memory) }
     ensures source_law { Lawful (F.refuses source.now.0) source.now.1 }
     ensures target_law { Lawful (G.refuses target.now.0) target.now.1 }
 {
-    match RepId::new(source.db().uuid(), target.db().uuid(), chosen) {
-        Ok(rep) => Ok(rep),
-        Err(_) => Err(TargetFault::Memory),
-    }
+    RepId::new(source.db().uuid(), target.db().uuid(), chosen)
 }
 
 /// The common checkpoint of a replication: the newest session of the target's log that the source's log also holds, with
@@ -60,18 +56,16 @@ pub fn checkpoint<F: WriteFilter, G: WriteFilter>(
 impl<F: WriteFilter> Peer<F> {
     ghost use Rattle.repl_target.specs.logs.Logs.{target_log, source_log, put_entry_answer, after_put_entry};
 
-    /// The log of a replication into this peer: what its sessions say, newest first. The only error is `Memory`.
-    pub fn target_log(&self, alloc: Global, rep: &RepId) -> Result<Log, TargetFault>
+    /// The log of a replication into this peer: what its sessions say, newest first.
+    pub fn target_log(&self, alloc: Global, rep: &RepId) -> Result<Log, AllocError>
         ensures log { IfOk result (λ l. l ≡ target_log self.now.1 rep.now) }
-        ensures err { IfErr result (λ e. e ≡ TargetFault.Memory) }
     {
         self.sessions.log(alloc, rep)
     }
 
-    /// The log of a replication from this peer, an empty one where there is none. The only error is `Memory`.
-    pub fn source_log(&self, alloc: Global, rep: &RepId) -> Result<Log, TargetFault>
+    /// The log of a replication from this peer, an empty one where there is none.
+    pub fn source_log(&self, alloc: Global, rep: &RepId) -> Result<Log, AllocError>
         ensures log { IfOk result (λ l. l ≡ source_log self.now.1 rep.now) }
-        ensures err { IfErr result (λ e. e ≡ TargetFault.Memory) }
     {
         copy_of(&self.outgoing, alloc, rep)
     }
@@ -96,15 +90,11 @@ impl<F: WriteFilter> Peer<F> {
 }
 
 /// The log of a replication, an empty one where there is none.
-fn copy_of(logs: &Logs, alloc: Global, rep: &RepId) -> Result<Log, TargetFault>
+fn copy_of(logs: &Logs, alloc: Global, rep: &RepId) -> Result<Log, AllocError>
     ensures log { IfOk result (λ l. l ≡ log_in logs.now.entries rep.now) }
-    ensures err { IfErr result (λ e. e ≡ TargetFault.Memory) }
 {
     match logs.get(rep) {
-        Some(log) => match log.copy(alloc) {
-            Ok(copy) => Ok(copy),
-            Err(_) => Err(TargetFault::Memory),
-        },
+        Some(log) => log.copy(alloc),
         None => Ok(Log::new(alloc)),
     }
 }
@@ -117,54 +107,32 @@ fn put(logs: &mut Logs, rep: &RepId, entry: Entry) -> Result<(), TargetFault>
 {
     let alloc = *logs.allocator();
     match logs.get_mut(rep) {
-        Some(log) => match log.put(entry) {
-            Ok(()) => Ok(()),
-            Err(fault) => Err(refused_by_log(fault)),
-        },
+        Some(log) => {
+            log.put(entry)?;
+            Ok(())
+        }
         None => {
             let mut log = Log::new(alloc);
-            let Ok(()) = log.put(entry) else {
-                return Err(TargetFault::Memory);
-            };
-            let Ok(rep) = rep.copy(alloc) else {
-                return Err(TargetFault::Memory);
-            };
-            match logs.insert(rep, log) {
-                Ok(_) => Ok(()),
-                Err(_) => Err(TargetFault::Memory),
-            }
+            log.set(entry)?;
+            let rep = rep.copy(alloc)?;
+            logs.insert(rep, log)?;
+            Ok(())
         }
     }
 }
 
-/// What a log refuses, as the peer refuses it.
-fn refused_by_log(fault: LogFault) -> TargetFault
-    ensures { result ≡ refused_by_log fault }
-{
-    match fault {
-        LogFault::Older { stored } => TargetFault::Older { stored },
-        _ => TargetFault::Memory,
-    }
-}
-
-/// A log with its replication. The only error is `Memory`.
-fn copy_log(alloc: Global, rep: &RepId, log: &Log) -> Result<(RepId, Log), TargetFault>
+/// A log with its replication.
+fn copy_log(alloc: Global, rep: &RepId, log: &Log) -> Result<(RepId, Log), AllocError>
     ensures copied { IfOk result (λ e. (e.0 ≡ rep.now) × (e.1 ≡ log.now)) }
-    ensures err { IfErr result (λ e. e ≡ TargetFault.Memory) }
 {
-    let Ok(rep) = rep.copy(alloc) else {
-        return Err(TargetFault::Memory);
-    };
-    match log.copy(alloc) {
-        Ok(log) => Ok((rep, log)),
-        Err(_) => Err(TargetFault::Memory),
-    }
+    let rep = rep.copy(alloc)?;
+    let log = log.copy(alloc)?;
+    Ok((rep, log))
 }
 
-/// The same logs, each at its place. The only error is `Memory`.
-pub(crate) fn copy_logs(alloc: Global, logs: &Logs) -> Result<Logs, TargetFault>
+/// The same logs, each at its place.
+pub(crate) fn copy_logs(alloc: Global, logs: &Logs) -> Result<Logs, AllocError>
     ensures copied { IfOk result (λ m. m.entries ≡ logs.now.entries) }
-    ensures err { IfErr result (λ e. e ≡ TargetFault.Memory) }
 {
     let mut copy: Logs = IndexMap::new(alloc);
     for place in 0..logs.len() {
@@ -172,9 +140,7 @@ pub(crate) fn copy_logs(alloc: Global, logs: &Logs) -> Result<Logs, TargetFault>
             unreachable!()
         };
         let (rep, log) = copy_log(alloc, rep, log)?;
-        let Ok(_) = copy.insert(rep, log) else {
-            return Err(TargetFault::Memory);
-        };
+        copy.insert(rep, log)?;
     }
     Ok(copy)
 }

@@ -1,5 +1,5 @@
 //! Peers.
-ghost use Rattle.std.specs.Prelude.{◌≡◌, Ok, OnOk, OnErr, IfOk, IfErr};
+ghost use Rattle.std.specs.Prelude.{◌≡◌, ◌<◌, ◌≤◌, Ok, OnOk, OnErr, IfOk};
 ghost use Rattle.std.specs.Option.{option_copied};
 ghost use Rattle.rev_tree.specs.Tree.{has};
 ghost use Rattle.couch_base.specs.Database.{tree_of};
@@ -21,7 +21,7 @@ use indexmap::IndexMap;
 use repl_log::{Entry, Log, Moment, RepId};
 use rev_core::Rev;
 use rev_tree::SessionId;
-use std::alloc::Global;
+use std::alloc::{AllocError, Global};
 use std::marker::Model;
 
 /// What stands behind a target's lock: a database, its local writes, the sessions that were replicated into it, and the
@@ -84,7 +84,7 @@ impl<F: WriteFilter> Peer<F> {
     ghost use Rattle.couch_base.specs.Answers.{GivesUnlessMemory as BaseUnlessMemory};
     ghost use Rattle.couch_base.specs.Put.{put_answer, PutGives};
     ghost use Rattle.couch_base.specs.Edit.{edit_answer, EditGives};
-    ghost use Rattle.couch_base.specs.Feed.{page_answer};
+    ghost use Rattle.couch_base.specs.Feed.{page, page_answer};
     ghost use Rattle.couch_base.specs.Messages.{revs_diff, open_revs};
     ghost use Rattle.repl_target.specs.peer.Peer.{SessionValue, new_peer, new_peer_at, entry_of};
     ghost use Rattle.repl_target.specs.peer.Covered.{covers, Honest};
@@ -190,26 +190,40 @@ impl<F: WriteFilter> Peer<F> {
         self.db.page(alloc, since, goal, limit, chosen)
     }
 
-    /// What the database misses of another one's window: `Database::revs_diff`. The only error is `Memory`.
-    pub fn revs_diff(&self, alloc: Global, window: &Window) -> Result<Asked, BaseFault>
+    /// The same page, where it is known that there is one: `Database::page_due`.
+    pub fn page_due(
+        &self,
+        alloc: Global,
+        since: u64,
+        goal: u64,
+        limit: u64,
+        chosen: Option<&Chosen>,
+    ) -> Result<Window, AllocError>
+        requires limit { 0 < limit }
+        requires range { since < goal }
+        requires goal { goal ≤ self.now.1.db.update_seq }
+        ensures { IfOk result (λ w. w ≡ page self.now.1.db since goal limit (option_copied chosen.entry)) }
+    {
+        self.db.page_due(alloc, since, goal, limit, chosen)
+    }
+
+    /// What the database misses of another one's window: `Database::revs_diff`.
+    pub fn revs_diff(&self, alloc: Global, window: &Window) -> Result<Asked, AllocError>
         ensures asked { IfOk result (λ a. a ≡ revs_diff self.now.1.db window.now) }
-        ensures err { IfErr result (λ e. e ≡ BaseFault.Memory) }
     {
         self.db.revs_diff(alloc, window)
     }
 
-    /// What the database has of the asked revisions: `Database::open_revs`. The only error is `Memory`.
-    pub fn open_revs(&self, alloc: Global, asked: &Asked) -> Result<Parcel, BaseFault>
+    /// What the database has of the asked revisions: `Database::open_revs`.
+    pub fn open_revs(&self, alloc: Global, asked: &Asked) -> Result<Parcel, AllocError>
         ensures parcel { IfOk result (λ p. p ≡ open_revs self.now.1.db asked.now) }
-        ensures err { IfErr result (λ e. e ≡ BaseFault.Memory) }
     {
         self.db.open_revs(alloc, asked)
     }
 
     /// The same as `open_revs`, for an asked list that goes into the parcel.
-    pub fn open_asked(&self, alloc: Global, asked: Asked) -> Result<Parcel, BaseFault>
+    pub fn open_asked(&self, alloc: Global, asked: Asked) -> Result<Parcel, AllocError>
         ensures parcel { IfOk result (λ p. p ≡ open_revs self.now.1.db asked) }
-        ensures err { IfErr result (λ e. e ≡ BaseFault.Memory) }
     {
         self.db.open_asked(alloc, asked)
     }

@@ -22,7 +22,7 @@ use crate::session::beginning::Beginning;
 use doc_json::Chosen;
 use repl_log::Moment;
 use rev_tree::SessionId;
-use std::alloc::Global;
+use std::alloc::{AllocError, Global};
 
 /// The most rows of a window.
 const MOST_ROWS: u64 = 10_000;
@@ -45,16 +45,12 @@ pub struct Plan {
 }
 
 impl Plan {
-    /// The same plan, which shares the choice. The only error is `Memory`.
-    pub fn copy(&self) -> Result<Plan, TargetFault>
+    /// The same plan, which shares the choice.
+    pub fn copy(&self) -> Result<Plan, AllocError>
         ensures copied { IfOk result (λ plan. plan ≡ self.now) }
-        ensures err { IfErr result (λ why. why ≡ TargetFault.Memory) }
     {
         let chosen = match &self.chosen {
-            Some(chosen) => match chosen.copy() {
-                Ok(chosen) => Some(chosen),
-                Err(_) => return Err(TargetFault::Memory),
-            },
+            Some(chosen) => Some(chosen.copy()?),
             None => None,
         };
         Ok(Plan {
@@ -263,15 +259,9 @@ fn carry_window<F: WriteFilter, G: WriteFilter>(
     // The reading tells the proof that the target is lawful.
     let _target = target.db();
     let goal = source.db().update_seq();
-    let Ok(window) = source.page(alloc, since, goal, plan.batch, plan.chosen.as_ref()) else {
-        return Err(TargetFault::Memory);
-    };
-    let Ok(asked) = target.revs_diff(alloc, &window) else {
-        return Err(TargetFault::Memory);
-    };
-    let Ok(parcel) = source.open_asked(alloc, asked) else {
-        return Err(TargetFault::Memory);
-    };
+    let window = source.page_due(alloc, since, goal, plan.batch, plan.chosen.as_ref())?;
+    let asked = target.revs_diff(alloc, &window)?;
+    let parcel = source.open_asked(alloc, asked)?;
     let hi = window.hi();
     target.append(plan.session, window)?;
     target.settle(plan.session, parcel)?;
@@ -333,11 +323,9 @@ pub fn record_at_source<F: WriteFilter, G: WriteFilter>(
     let Ok(entry) = target.entry(plan.session) else {
         unreachable!()
     };
-    let Ok(rep) = rep_between(source, target, plan.chosen.as_ref()) else {
-        return Err(TargetFault::Memory);
-    };
+    let rep = rep_between(source, target, plan.chosen.as_ref())?;
     match source.put_entry(&rep, entry) {
-        Err(TargetFault::Memory) => Err(TargetFault::Memory),
+        Err(fault @ TargetFault::Memory) => Err(fault),
         _ => Ok(()),
     }
 }

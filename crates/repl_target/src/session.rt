@@ -117,15 +117,9 @@ impl Session {
         if hi > self.goal {
             return Err(TargetFault::PastGoal);
         }
-        let Ok(()) = self.windows.reserve(1) else {
-            return Err(TargetFault::Memory);
-        };
-        let Ok(()) = self.front.append(hi) else {
-            return Err(TargetFault::Memory);
-        };
-        let Ok(()) = self.windows.push(window) else {
-            return Err(TargetFault::Memory);
-        };
+        self.windows.reserve(1)?;
+        self.front.append(hi)?;
+        self.windows.push(window).unwrap();
         Ok(())
     }
 

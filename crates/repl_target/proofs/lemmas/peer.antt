@@ -6,7 +6,6 @@ pub mod HonestSessions
 pub mod CallsKeepOrigins
 pub mod TrustedPeers
 pub mod PeerInvariant
-pub mod AcceptedEdits
 pub mod CopiedInTurn
 pub mod RestoredPeers
 pub mod RefusedCalls

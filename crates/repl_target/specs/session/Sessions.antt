@@ -4,6 +4,8 @@ use Rattle.std.specs.List.{find}
 use Rattle.rev_tree.specs.declared.origin.SessionId.{SessionId}
 use Rattle.couch_base.specs.Feed.{WindowValue}
 use Rattle.range_front.specs.Front.{no_windows, end_of, low_water, appended}
+use Rattle.range_front.specs.declared.fault.FrontFault.{FrontFault}
+use Rattle.range_front.specs.declared.fault.FrontFault.TheVariants as front_faults
 use Rattle.repl_log.specs.declared.replication.RepId.{RepId}
 use Rattle.repl_target.specs.peer.Peer.{PeerValue, SessionValue, session_in, holds, with_session, is_of, same_rep}
 use Rattle.repl_target.specs.declared.session.beginning.Beginning.{Beginning}
@@ -15,6 +17,13 @@ use Rattle.repl_target.specs.declared.fault.TargetFault.TheVariants as faults
 abbrev pub GivesUnlessMemory : {A : Type 0} → Result A TargetFault → Result A TargetFault → Type 0
 GivesUnlessMemory (Err faults.Memory) expected = IsOk expected
 GivesUnlessMemory result expected = result ≡ expected
+
+-- what a session's front refuses, as the session refuses it
+abbrev pub refused_by_front : FrontFault → TargetFault
+refused_by_front (front_faults.NotRising end) = faults.Gap end
+refused_by_front front_faults.NoSuchWindow = faults.ForeignParcel
+refused_by_front front_faults.AlreadyDone = faults.AlreadyDone
+refused_by_front front_faults.Memory = faults.Memory
 
 -- a change of one session, where the peer holds it
 abbrev pub on_found : PeerValue → (SessionValue → SessionValue) → Option SessionValue → PeerValue

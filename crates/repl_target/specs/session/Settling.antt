@@ -84,6 +84,11 @@ stops_in refuses db d = stops_as db d (refusal_of refuses db d)
 abbrev pub stops_at : (Document → Bool) → Settling → Document → Bool
 stops_at refuses z d = stops_in refuses z.db d
 
+-- why a document that the database refuses, and that is no contradiction, stops
+abbrev pub cause_by_database : BaseFault → Cause
+cause_by_database base_faults.SeqFull = causes.SeqFull
+cause_by_database fault = causes.Memory
+
 -- how many documents are settled before the first that finds no sequence
 abbrev pub settled_before : (Document → Bool) → WindowValue → Settling → List Document → ℕ
 settled_before refuses w z [] = 0

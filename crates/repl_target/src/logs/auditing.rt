@@ -1,5 +1,5 @@
 //! The audit of a replication.
-ghost use Rattle.std.specs.Prelude.{◌≡◌, not, IfOk, IfErr};
+ghost use Rattle.std.specs.Prelude.{◌≡◌, not, IfOk};
 ghost use Rattle.std.specs.List.{find};
 ghost use Rattle.repl_target.specs.peer.Covered.{covers, first_uncovered};
 ghost use Rattle.std.specs.Option.{option_copied};
@@ -7,14 +7,14 @@ ghost use Rattle.couch_base.specs.Feed.{chosen_feed};
 ghost use Rattle.repl_target.specs.logs.Audit.{audit_answer, hole_of, IsAudited};
 ghost use Rattle.repl_target.specs.ties.Ties.{IsTiedPair};
 
-use crate::fault::{Audit, TargetFault};
+use crate::fault::Audit;
 use crate::logs::{checkpoint, rep_between};
 use crate::peer::Peer;
 use crate::peer::filter::WriteFilter;
 use couch_base::Row;
 use doc_json::Chosen;
 use rev_core::Rev;
-use std::alloc::Global;
+use std::alloc::{AllocError, Global};
 
 /// How many rows of the source's feed are read at once.
 const PAGE: u64 = 1000;
@@ -23,20 +23,19 @@ const PAGE: u64 = 1000;
 /// the source's chosen feed at or under the common checkpoint.
 ///
 /// Where the windows that the target stores of this replication are tied to the source's database, it is `Clean`. It
-/// reads the source's feed in pages. The only error is `Memory`.
+/// reads the source's feed in pages.
 pub fn audit<F: WriteFilter, G: WriteFilter>(
     alloc: Global,
     source: &Peer<F>,
     target: &Peer<G>,
     chosen: Option<&Chosen>,
-) -> Result<Audit, TargetFault>
+) -> Result<Audit, AllocError>
     ensures answer { IfOk result
         (λ a. hole_of a ≡ audit_answer source.now.1 target.now.1 (option_copied chosen.entry)) }
     ensures clean { IfOk result
         (λ a. a ≡ Audit.Clean → IsAudited source.now.1 target.now.1 (option_copied chosen.entry)) }
     ensures tied { IfOk result
         (λ a. IsTiedPair source.now.1 target.now.1 (option_copied chosen.entry) → a ≡ Audit.Clean) }
-    ensures err { IfErr result (λ e. e ≡ TargetFault.Memory) }
 {
     let rep = rep_between(source, target, chosen)?;
     match checkpoint(source, target, &rep) {
@@ -47,18 +46,17 @@ pub fn audit<F: WriteFilter, G: WriteFilter>(
 
 /// Whether the target covers each leaf of the source's chosen feed above a sequence, else the first that it doesn't.
 ///
-/// It reads the feed in pages. The only error is `Memory`.
+/// It reads the feed in pages.
 pub fn hole_above<F: WriteFilter, G: WriteFilter>(
     alloc: Global,
     source: &Peer<F>,
     target: &Peer<G>,
     since: u64,
     chosen: Option<&Chosen>,
-) -> Result<Audit, TargetFault>
+) -> Result<Audit, AllocError>
     ensures answer { IfOk result
         (λ a. hole_of a ≡ first_uncovered target.now.1
         (chosen_feed (option_copied chosen.entry) source.now.1.db since source.now.1.db.update_seq)) }
-    ensures err { IfErr result (λ e. e ≡ TargetFault.Memory) }
 {
     hole_within(
         alloc,
@@ -78,17 +76,14 @@ fn hole_within<F: WriteFilter, G: WriteFilter>(
     above: u64,
     upto: u64,
     chosen: Option<&Chosen>,
-) -> Result<Audit, TargetFault>
+) -> Result<Audit, AllocError>
     ensures answer { IfOk result (λ a. hole_of a
         ≡ first_uncovered target.now.1 (chosen_feed (option_copied chosen.entry) source.now.1.db above upto)) }
-    ensures err { IfErr result (λ e. e ≡ TargetFault.Memory) }
 {
     let goal = upto.min(source.db().update_seq());
     let mut since = above;
     while since < goal {
-        let Ok(page) = source.page(alloc, since, goal, PAGE, chosen) else {
-            return Err(TargetFault::Memory);
-        };
+        let page = source.page_due(alloc, since, goal, PAGE, chosen)?;
         let found = first_hole(alloc, target, page.rows())?;
         if let Audit::Hole { seq, id, rev } = found {
             return Ok(Audit::Hole { seq, id, rev });
@@ -103,20 +98,17 @@ fn first_hole<G: WriteFilter>(
     alloc: Global,
     target: &Peer<G>,
     rows: &[Row],
-) -> Result<Audit, TargetFault>
+) -> Result<Audit, AllocError>
     ensures answer { IfOk result (λ a. hole_of a ≡ first_uncovered target.now.1 rows.now) }
-    ensures err { IfErr result (λ e. e ≡ TargetFault.Memory) }
 {
     for row in rows {
         if let Some(rev) = hole_in(target, row) {
-            return match row.id().copy(alloc) {
-                Ok(id) => Ok(Audit::Hole {
-                    seq: row.seq(),
-                    id,
-                    rev,
-                }),
-                Err(_) => Err(TargetFault::Memory),
-            };
+            let id = row.id().copy(alloc)?;
+            return Ok(Audit::Hole {
+                seq: row.seq(),
+                id,
+                rev,
+            });
         }
     }
     Ok(Audit::Clean)

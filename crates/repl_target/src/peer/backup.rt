@@ -76,9 +76,7 @@ impl<F: WriteFilter> Peer<F> {
         if self.sessions.len() > 0 {
             return Err(TargetFault::IsTarget);
         }
-        let Ok(db) = self.db.copy(alloc) else {
-            return Err(TargetFault::Memory);
-        };
+        let db = self.db.copy(alloc)?;
         let locals = copy_writes(alloc, &self.locals)?;
         let outgoing = copy_logs(alloc, &self.outgoing)?;
         Ok(Backup {
@@ -105,9 +103,7 @@ impl<F: WriteFilter> Peer<F> {
         let _copy = backup.db();
         let _db = self.db();
         let alloc = *self.outgoing.allocator();
-        let Ok(db) = backup.db.copy_in(alloc, life) else {
-            return Err(TargetFault::Memory);
-        };
+        let db = backup.db.copy_in(alloc, life)?;
         let locals = copy_writes(alloc, &backup.locals)?;
         let outgoing = copy_logs(alloc, &backup.outgoing)?;
         self.db = db;

@@ -30,18 +30,19 @@ pub(crate) fn load(
     ensures db_kept { OnErr result (db.new ≡ db.old) }
     ensures locals_kept { OnErr result (locals.new.items ≡ locals.old.items) }
 {
-    let Ok(written) = prepare(locals, doc) else {
-        return match db.put_answer(doc) {
-            Ok(Put::Changed { .. }) => Err(BaseFault::Memory),
-            answer => answer,
-        };
+    let written = match prepare(locals, doc) {
+        Ok(written) => written,
+        Err(refused) => {
+            return match db.put_answer(doc) {
+                Ok(Put::Changed { .. }) => Err(BaseFault::from(refused)),
+                answer => answer,
+            };
+        }
     };
     let origin = Origin::Local(locals.len() as u64);
     match db.put(doc, origin) {
         Ok(Put::Changed { seq }) => {
-            let Ok(()) = locals.push(written) else {
-                return Err(BaseFault::Memory);
-            };
+            locals.push(written).unwrap();
             Ok(Put::Changed { seq })
         }
         answer => answer,
@@ -55,10 +56,8 @@ fn prepare(locals: &mut Vec<Written>, doc: &Doc) -> Result<Written, AllocError>
     ensures locals { locals.new.items ≡ locals.old.items }
 {
     let id = prepare_id(locals, doc.id())?;
-    match doc.ancestry().copy(*locals.allocator()) {
-        Ok(ancestry) => Ok(Written::whole(id, ancestry)),
-        Err(_) => Err(AllocError),
-    }
+    let ancestry = doc.ancestry().copy(*locals.allocator())?;
+    Ok(Written::whole(id, ancestry))
 }
 
 /// The id of a document that a local write names, and a place for it.
@@ -68,10 +67,7 @@ fn prepare_id(locals: &mut Vec<Written>, id: &DocId) -> Result<DocId, AllocError
     ensures locals { locals.new.items ≡ locals.old.items }
 {
     locals.reserve(1)?;
-    match id.copy(*locals.allocator()) {
-        Ok(again) => Ok(again),
-        Err(_) => Err(AllocError),
-    }
+    id.copy(*locals.allocator())
 }
 
 /// Edits a document.
@@ -96,20 +92,21 @@ pub(crate) fn edit(
 {
     // The reading tells the proof that the database is lawful.
     let _seq = db.update_seq();
-    let Ok(again) = prepare_id(locals, id) else {
-        db.check_edit(id, parent)?;
-        return Err(BaseFault::Memory);
-    };
     let before = match parent {
         Some(parent) => Some(parent),
         None => winner(db, id),
     };
+    let again = match prepare_id(locals, id) {
+        Ok(again) => again,
+        Err(refused) => {
+            db.check_edit(id, parent)?;
+            return Err(BaseFault::from(refused));
+        }
+    };
     let origin = Origin::Local(locals.len() as u64);
     match db.edit(id, parent, deleted, body, origin) {
         Ok(rev) => {
-            let Ok(()) = locals.push(Written::edit(again, rev, before)) else {
-                return Err(BaseFault::Memory);
-            };
+            locals.push(Written::edit(again, rev, before)).unwrap();
             Ok(rev)
         }
         Err(fault) => Err(fault),

@@ -1,11 +1,10 @@
 //! Revisions that were written.
-ghost use Rattle.std.specs.Prelude.{◌≡◌, ◌∷◌, [], slice_get, IfOk, IfErr};
+ghost use Rattle.std.specs.Prelude.{◌≡◌, ◌∷◌, [], slice_get, IfOk};
 ghost use Rattle.std.specs.Option.{option_to_list};
 
-use crate::fault::TargetFault;
 use doc_json::DocId;
 use rev_core::{Ancestry, Rev};
-use std::alloc::Global;
+use std::alloc::{AllocError, Global};
 use std::marker::Model;
 
 /// The revisions of a write: a whole ancestry, or what an edit brings.
@@ -55,19 +54,13 @@ impl Written {
         }
     }
 
-    /// The same write. The only error is `Memory`.
-    pub(crate) fn copy(&self, alloc: Global) -> Result<Written, TargetFault>
+    /// The same write.
+    pub(crate) fn copy(&self, alloc: Global) -> Result<Written, AllocError>
         ensures copied { IfOk result (λ w. w ≡ self.now) }
-        ensures err { IfErr result (λ e. e ≡ TargetFault.Memory) }
     {
-        let Ok(id) = self.id.copy(alloc) else {
-            return Err(TargetFault::Memory);
-        };
+        let id = self.id.copy(alloc)?;
         match &self.lineage {
-            Lineage::Whole(ancestry) => match ancestry.copy(alloc) {
-                Ok(ancestry) => Ok(Written::whole(id, ancestry)),
-                Err(_) => Err(TargetFault::Memory),
-            },
+            Lineage::Whole(ancestry) => Ok(Written::whole(id, ancestry.copy(alloc)?)),
             Lineage::Edit { rev, parent } => Ok(Written::edit(id, *rev, *parent)),
         }
     }
@@ -94,19 +87,14 @@ impl Written {
     }
 }
 
-/// The same writes. The only error is `Memory`.
-pub(crate) fn copy_writes(alloc: Global, writes: &[Written]) -> Result<Vec<Written>, TargetFault>
+/// The same writes.
+pub(crate) fn copy_writes(alloc: Global, writes: &[Written]) -> Result<Vec<Written>, AllocError>
     ensures copied { IfOk result (λ v. v.items ≡ writes.now) }
-    ensures err { IfErr result (λ e. e ≡ TargetFault.Memory) }
 {
-    let Ok(mut copy) = Vec::with_capacity(alloc, writes.len()) else {
-        return Err(TargetFault::Memory);
-    };
+    let mut copy = Vec::with_capacity(alloc, writes.len())?;
     for written in writes {
         let again = written.copy(alloc)?;
-        let Ok(()) = copy.push(again) else {
-            return Err(TargetFault::Memory);
-        };
+        copy.push(again)?;
     }
     Ok(copy)
 }

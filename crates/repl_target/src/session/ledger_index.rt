@@ -50,9 +50,7 @@ impl LedgerIndex {
         match self.docs.get_mut(doc.id()) {
             Some(known) => add_revs(known, doc.ancestry().revs()),
             None => {
-                let Ok(id) = doc.id().copy(alloc) else {
-                    return Err(AllocError);
-                };
+                let id = doc.id().copy(alloc)?;
                 let mut revs = IndexSet::new(alloc);
                 add_revs(&mut revs, doc.ancestry().revs())?;
                 self.docs.insert(id, revs)?;

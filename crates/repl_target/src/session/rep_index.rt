@@ -49,9 +49,7 @@ impl RepIndex {
                 Ok(())
             }
             None => {
-                let Ok(rep) = rep.copy(alloc) else {
-                    return Err(AllocError);
-                };
+                let rep = rep.copy(alloc)?;
                 let mut ids = Vec::new(alloc);
                 ids.push(id)?;
                 self.ids.insert(rep, ids)?;

@@ -1,5 +1,5 @@
 //! The incoming sessions of a peer.
-ghost use Rattle.std.specs.Prelude.{◌≡◌, [], ◌∷◌, ◌==◌, Ok, length, slice_get, OnOk, OnErr, IfOk, IfErr, if◌then◌else◌};
+ghost use Rattle.std.specs.Prelude.{◌≡◌, [], ◌∷◌, ◌==◌, Ok, length, slice_get, OnOk, OnErr, IfOk, if◌then◌else◌};
 ghost use Rattle.std.specs.Option.{option_copied, option_map};
 ghost use Rattle.range_front.specs.Front.{low_water};
 ghost use Rattle.repl_log.specs.Log.{common};
@@ -23,7 +23,7 @@ use indexmap::IndexMap;
 use repl_log::{Log, Moment, RepId};
 use rev_core::Rev;
 use rev_tree::SessionId;
-use std::alloc::Global;
+use std::alloc::{AllocError, Global};
 use std::marker::Model;
 
 /// The sessions that were replicated into a peer, newest first, each id once, with the index of what they refused and that
@@ -101,10 +101,9 @@ impl Sessions {
         self.ledgered.has(id, rev)
     }
 
-    /// What the sessions of a replication say, newest first. The only error is `Memory`.
-    pub(crate) fn log(&self, alloc: Global, rep: &RepId) -> Result<Log, TargetFault>
+    /// What the sessions of a replication say, newest first.
+    pub(crate) fn log(&self, alloc: Global, rep: &RepId) -> Result<Log, AllocError>
         ensures log { IfOk result (λ l. l ≡ log_of self.now rep.now) }
-        ensures err { IfErr result (λ e. e ≡ TargetFault.Memory) }
     {
         let mut log = Log::new(alloc);
         for i in 0..self.entries.len() {
@@ -112,9 +111,7 @@ impl Sessions {
                 unreachable!()
             };
             if session.rep == *rep {
-                let Ok(()) = log.put(session.entry()) else {
-                    return Err(TargetFault::Memory);
-                };
+                log.set(session.entry())?;
             }
         }
         Ok(log)
@@ -159,12 +156,8 @@ impl Sessions {
     {
         self.check_new(id, &beginning)?;
         let alloc = *self.entries.allocator();
-        let Ok(()) = self.entries.reserve(1) else {
-            return Err(TargetFault::Memory);
-        };
-        let Ok(()) = self.by_rep.add(&beginning.rep, id) else {
-            return Err(TargetFault::Memory);
-        };
+        self.entries.reserve(1)?;
+        self.by_rep.add(&beginning.rep, id)?;
         let session = Session::new(alloc, id, beginning, at);
         let Ok(_) = self.entries.insert(id, session) else {
             unreachable!()

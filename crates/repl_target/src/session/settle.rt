@@ -27,6 +27,7 @@ use crate::session::stored::{Checked, check};
 use couch_base::{BaseFault, Database, Parcel};
 use doc_json::Doc;
 use rev_tree::Origin;
+use std::alloc::AllocError;
 
 /// Settles a parcel: its documents in order, then the mark of its window.
 ///
@@ -107,12 +108,12 @@ fn settle_in_order<F: WriteFilter>(
         → IndexesMore base session.old.ledger ledgered.old
         → IndexesMore base session.new.ledger ledgered.new }
 {
-    let Ok(()) = session.front.reserve() else {
+    if let Err(refused) = session.front.reserve() {
         let Some(doc) = docs.first() else {
-            return Err(Cause::Memory);
+            return Err(Cause::from(refused));
         };
-        return Err(cause_of(filter, db, doc));
-    };
+        return Err(cause_of(filter, db, doc, refused));
+    }
     docs.reverse();
     let settled = settle_documents(filter, db, ledgered, session, place, docs);
     docs.reverse();
@@ -242,9 +243,9 @@ fn decide<F: WriteFilter>(
         note_ledgered(ledgered, ledger, doc)?;
         return Ok(Some(Reason::Filtered));
     }
-    let Ok(()) = arrivals.reserve(1) else {
-        return Err(cause_of(filter, db, doc));
-    };
+    if let Err(refused) = arrivals.reserve(1) {
+        return Err(cause_of(filter, db, doc, refused));
+    }
     match db.put(doc, origin) {
         Ok(_) => Ok(None),
         Err(fault) => match fault {
@@ -260,8 +261,7 @@ fn decide<F: WriteFilter>(
                     given,
                 }))
             }
-            BaseFault::SeqFull => Err(Cause::SeqFull),
-            _ => Err(Cause::Memory),
+            other => Err(Cause::from(other)),
         },
     }
 }
@@ -271,7 +271,7 @@ fn note_ledgered(
     ledgered: &mut LedgerIndex,
     ledger: &mut Vec<Refused>,
     doc: &Doc,
-) -> Result<(), Cause>
+) -> Result<(), AllocError>
     ensures place { OnOk result (vec_len ledger.new < vec_capacity ledger.new) }
     ensures noted { OnOk result
         ((id : Id) (r : RevId)
@@ -280,26 +280,20 @@ fn note_ledgered(
     ensures ledger { ledger.new.items ≡ ledger.old.items }
     ensures index { OnErr result
         ((id : Id) (r : RevId) → is_ledgered ledgered.new id r ≡ is_ledgered ledgered.old id r) }
-    ensures memory { IfErr result (λ cause. cause ≡ Cause.Memory) }
 {
-    let Ok(()) = ledger.reserve(1) else {
-        return Err(Cause::Memory);
-    };
-    match ledgered.add(doc) {
-        Ok(()) => Ok(()),
-        Err(_) => Err(Cause::Memory),
-    }
+    ledger.reserve(1)?;
+    ledgered.add(doc)
 }
 
 /// Why a document for which memory is refused stops: it may find no sequence either. It takes no memory.
-fn cause_of<F: WriteFilter>(filter: &F, db: &Database, doc: &Doc) -> Cause
+fn cause_of<F: WriteFilter>(filter: &F, db: &Database, doc: &Doc, refused: AllocError) -> Cause
     ensures { result ≡ cause_at (stops_in (F.refuses filter.now) db.now doc.now) }
 {
     match filter.verdict(doc) {
-        Verdict::Refuse => Cause::Memory,
+        Verdict::Refuse => Cause::from(refused),
         Verdict::Accept => match db.put_answer(doc) {
             Err(BaseFault::SeqFull) => Cause::SeqFull,
-            _ => Cause::Memory,
+            _ => Cause::from(refused),
         },
     }
 }
@@ -334,12 +328,15 @@ fn close(
     let window = &session.windows[checked.place];
     let (lo, hi) = (window.lo(), window.hi());
     if let Some((row, rev)) = first_unknown(db, ledgered, window.rows()) {
-        let Ok(id) = row.id().copy(*session.windows.allocator()) else {
-            return Err(TargetFault::Stopped {
-                settled,
-                rest: docs,
-                cause: Cause::Memory,
-            });
+        let id = match row.id().copy(*session.windows.allocator()) {
+            Ok(id) => id,
+            Err(refused) => {
+                return Err(TargetFault::Stopped {
+                    settled,
+                    rest: docs,
+                    cause: Cause::from(refused),
+                });
+            }
         };
         return Err(TargetFault::Uncovered {
             seq: row.seq(),
@@ -348,13 +345,13 @@ fn close(
         });
     }
     // The room for the mark was made before the documents: `settle_in_order`.
-    let Ok(()) = session.front.finish(lo, hi) else {
+    if let Err(fault) = session.front.finish(lo, hi) {
         return Err(TargetFault::Stopped {
             settled,
             rest: docs,
-            cause: Cause::Memory,
+            cause: Cause::from(fault),
         });
-    };
+    }
     session.checked += checked.leaves;
     session.found += checked.asked;
     Ok(())

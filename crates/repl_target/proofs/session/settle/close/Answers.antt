@@ -12,8 +12,8 @@ use Rattle.repl_target.proofs.session.settle.close.Goals as goal
 pub invariant_of-session-2 : goal.invariant_of-session-2
 invariant_of-session-2 c = record {
   front = c.finish.ensures.front;
-  bounds = bounds_done c.session.inside.front.front c.finish.new.self.front c.session.inside.windows.items c.lo-lo.result c.hi-hi.result c.session.invariant.bounds c.in-Ok-finish.ensures.ok;
-  start = subst (λ (g : FrontValue). g.start ≤ c.session.inside.recorded) (sym c.in-Ok-finish.ensures.ok) c.session.invariant.start;
+  bounds = bounds_done c.session.inside.front.front c.finish.new.self.front c.session.inside.windows.items c.lo-lo.result c.hi-hi.result c.session.invariant.bounds c.in_default-finish.ensures.ok;
+  start = subst (λ (g : FrontValue). g.start ≤ c.session.inside.recorded) (sym c.in_default-finish.ensures.ok) c.session.invariant.start;
   read = c.session.invariant.read;
 }
 
@@ -26,7 +26,7 @@ returns-clause-ends c =
     let rows = c.rows.ensures.value ∙ ap (λ (v : WindowValue). v.rows) same in
     let lo = c.lo-lo.ensures.value ∙ ap (λ (v : WindowValue). v.lo) same in
     let hi = c.hi-hi.ensures.value ∙ ap (λ (v : WindowValue). v.hi) same in
-    let front = c.in-Ok-finish.ensures.ok ∙ (λ i. finished c.session.inside.front.front (lo i) (hi i)) in (
+    let front = c.in_default-finish.ensures.ok ∙ (λ i. finished c.session.inside.front.front (lo i) (hi i)) in (
       ap (λ (l : List RowValue). first_unknown (known_of c.args.db.now c.args.ledgered.now) l) (sym rows) ∙ sym c.first_unknown.ensures ∙ ap (option_map _) c.in_default.is,
       λ i. record (session_value c.session.inside) { front = front i; checked = c.session.inside.checked + c.args.checked.leaves; found = c.session.inside.found + c.args.checked.asked },
     ))

@@ -19,7 +19,7 @@ reached : (g : Over) (c : goal.After-reverse-2 g) (w : WindowValue) → slice_ge
     → Reached (g.F.WriteFilter.refuses c.args.filter.now) w (settling_at c.args.db.now c.args.session.now) c.args.docs.now.items (length c.args.docs.now.items - length c.reverse-2.new.self.items) c.reverse-2.new.self.items (settling_at c.settle_documents-settled.new.db c.settle_documents-settled.new.session)
 reached g c w is =
     let kept : record (session_value c.session.inside) { front = c.reserve.new.self.front } ≡ c.args.session.now =
-    (λ i. record (session_value c.session.inside) { front = c.in-Ok.ensures.kept i }) ∙ c.session.view_is in
+    (λ i. record (session_value c.session.inside) { front = c.reserve.ensures.kept i }) ∙ c.session.view_is in
     let same : settling_at c.args.db.now (record (session_value c.session.inside) { front = c.reserve.new.self.front }) ≡ settling_at c.args.db.now c.args.session.now =
     λ i. record { db = c.args.db.now; session = kept i } in
     reached_turned (g.F.WriteFilter.refuses c.args.filter.now) w _ _ _ c.args.docs.now.items c.reverse.new.self.items c.settle_documents-settled.new.docs.items c.reverse-2.new.self.items same c.reverse.ensures.items c.reverse-2.ensures.items (c.settle_documents-settled.ensures.reached w (subst (λ (s : SessionValue). slice_get s.windows c.args.place ≡ Some w) (sym c.session.view_is) is))
@@ -38,8 +38,8 @@ returns-clause-why g c =
     (λ cause h w is. halts_from (g.F.WriteFilter.refuses c.args.filter.now) w _ _ c.args.docs.now.items c.settle_documents-settled.new.docs.items c.reverse-2.new.self.items _ cause (reached g c w is) c.reverse-2.ensures.items h)
     c.settle_documents-settled.ensures.why
 
-pub returns-in_default-clause-why : goal.returns-in_default-clause-why
-returns-in_default-clause-why g c = λ w is.
+pub returns-in-Err-clause-why : goal.returns-in-Err-clause-why
+returns-in-Err-clause-why g c = λ w is.
     halts_first (g.F.WriteFilter.refuses c.args.filter.now) w (settling_at c.args.db.now c.args.session.now) c.args.docs.now.items _ c.in-Some.doc.now c.cause_of.result (omega arith)
     (c.in-Some.ensures.value ∙ ap (λ (l : List Document). slice_get l 0) c.deref.ensures.value) c.cause_of.ensures
 

@@ -20,5 +20,5 @@ returns-in_ok-insert-in-None-clause-ok c =
     added_new old new revs c.args.doc.now.id c.args.doc.now.ancestry absent
     (λ r. c.in_ok-add_revs-in-None.ensures.ok r ∙ ap (λ l. is_among r l || is_among r c.revs-in-None.result.now) c.new-revs.ensures.empty ∙ ap (is_among r) (c.revs-in-None.ensures.all ∙ c.ancestry-in-None.ensures.part))
     (λ q. c.in_ok-insert-in-None.ensures.updates.0 q
-    ∙ ap (λ es. cond (bytes_eq c.in-Ok.id q) (Some revs) (lookup (bytes_eq q) es)) (ap entries_of c.get_mut.follows.holds-at-none)
-    ∙ ap (λ (i : Id). cond (bytes_eq i q) (Some revs) (old q)) (c.in-Ok.ensures.copied ∙ c.id-in-None.ensures.part))
+    ∙ ap (λ es. cond (bytes_eq c.in_ok-id-in-None.id q) (Some revs) (lookup (bytes_eq q) es)) (ap entries_of c.get_mut.follows.holds-at-none)
+    ∙ ap (λ (i : Id). cond (bytes_eq i q) (Some revs) (old q)) (c.in_ok-id-in-None.ensures.copied ∙ c.id-in-None.ensures.part))

@@ -32,6 +32,6 @@ returns-in_ok-insert-in-None-clause-ok c = λ asked.
     let es = c.args.self.now.ids.entries in
     let is : lookup (same_rep c.args.rep.now) es ≡ None = sym c.get_mut.ensures.value ∙ ap option_copied_mut c.in-None.is in
     ap (λ o. option_map_or (λ ids. ids.items) o []) (c.in_ok-insert-in-None.ensures.updates.0 asked)
-    ∙ ap (λ m. option_map_or (λ ids. ids.items) (cond (same_rep c.in-Ok.rep asked) (Some c.push-in-None.new.self) (lookup (same_rep asked) m)) []) (ap entries_of c.get_mut.follows.holds-at-none)
-    ∙ ap (λ (r : RepId). option_map_or (λ ids. ids.items) (cond (same_rep r asked) (Some c.push-in-None.new.self) (lookup (same_rep asked) es)) []) c.in-Ok.ensures.copied
+    ∙ ap (λ m. option_map_or (λ ids. ids.items) (cond (same_rep c.in_ok-rep-in-None.rep asked) (Some c.push-in-None.new.self) (lookup (same_rep asked) m)) []) (ap entries_of c.get_mut.follows.holds-at-none)
+    ∙ ap (λ (r : RepId). option_map_or (λ ids. ids.items) (cond (same_rep r asked) (Some c.push-in-None.new.self) (lookup (same_rep asked) es)) []) c.in_ok-rep-in-None.ensures.copied
     ∙ added_new (λ ids. ids.items) es c.args.rep.now asked c.push-in-None.new.self c.args.id is (c.in_ok-push-in-None.ensures.items ∙ ap (λ l. l ++ c.args.id ∷ []) c.new-ids.ensures.items)

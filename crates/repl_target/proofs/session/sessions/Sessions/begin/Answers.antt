@@ -14,9 +14,9 @@ use Rattle.repl_target.proofs.session.sessions.Sessions.begin.Goals as goal
 pub invariant_of-self : goal.invariant_of-self
 invariant_of-self c = subst (λ es. IsStored c.self.inside.ledgered es × AreListed c.self.inside.by_rep (sessions_of es)) (sym c.reserve.ensures.entries) c.self.invariant
 
-pub invariant_of-self-in_default-add : goal.invariant_of-self-in_default-add
-invariant_of-self-in_default-add c =
-    let same = AreListed-same c.self.inside.by_rep c.add.new.self (sessions_of c.self.inside.entries.entries) c.self.invariant.1 c.in_default-add.ensures.err in
+pub invariant_of-self-in_err-add : goal.invariant_of-self-in_err-add
+invariant_of-self-in_err-add c =
+    let same = AreListed-same c.self.inside.by_rep c.add.new.self (sessions_of c.self.inside.entries.entries) c.self.invariant.1 c.in_err-add.ensures.err in
     subst (λ es. IsStored c.self.inside.ledgered es × AreListed c.add.new.self (sessions_of es)) (sym c.reserve.ensures.entries) (c.self.invariant.0, same)
 
 pub invariant_of-self-2 : goal.invariant_of-self-2
@@ -24,7 +24,7 @@ invariant_of-self-2 c =
     let es = c.self.inside.entries.entries in
     let none = ap (λ (l : List SessionValue). holds l c.args.id) c.self.view_is ∙ begin_in-new c.args.self.now c.args.id c.args.beginning c.in_ok-check_new.ensures in
     let absent = absent-not_held c.self.inside.ledgered es c.self.invariant.0 c.args.id none in
-    let entered = c.in-Ok-insert.ensures.entries ∙ ap (λ l. insert_entry at_session l c.args.id c.new-session.result) c.reserve.ensures.entries ∙ insert_entry-new at_session c.self.inside.entries c.args.id c.new-session.result absent in
+    let entered = c.in-Ok.ensures.entries ∙ ap (λ l. insert_entry at_session l c.args.id c.new-session.result) c.reserve.ensures.entries ∙ insert_entry-new at_session c.self.inside.entries c.args.id c.new-session.result absent in
     let id = ap (λ (s : SessionValue). s.id) c.new-session.ensures in
     let rep = ap (λ (s : SessionValue). s.rep) c.new-session.ensures in
     let ledger = ap (λ (s : SessionValue). s.ledger) c.new-session.ensures in
@@ -33,7 +33,7 @@ invariant_of-self-2 c =
       subst (AreListed c.add.new.self) (sym all)
           (AreListed-new c.self.inside.by_rep c.add.new.self c.new-session.result (sessions_of es) c.self.invariant.1
           (λ asked.
-          c.in-Ok-add.ensures.ok asked
+          c.in_ok-add.ensures.ok asked
           ∙ ap₂ (λ (r : RepId) (j : SessionId). cond (same_rep r asked) (listed c.self.inside.by_rep asked ++ j ∷ []) (listed c.self.inside.by_rep asked)) (sym rep) (sym id))),
     )
 
@@ -42,7 +42,7 @@ returns-clause-ok c =
     let es = c.self.inside.entries.entries in
     let none = ap (λ (l : List SessionValue). holds l c.args.id) c.self.view_is ∙ begin_in-new c.args.self.now c.args.id c.args.beginning c.in_ok-check_new.ensures in
     let absent = absent-not_held c.self.inside.ledgered es c.self.invariant.0 c.args.id none in
-    let entered = c.in-Ok-insert.ensures.entries ∙ ap (λ l. insert_entry at_session l c.args.id c.new-session.result) c.reserve.ensures.entries ∙ insert_entry-new at_session c.self.inside.entries c.args.id c.new-session.result absent in
+    let entered = c.in-Ok.ensures.entries ∙ ap (λ l. insert_entry at_session l c.args.id c.new-session.result) c.reserve.ensures.entries ∙ insert_entry-new at_session c.self.inside.entries c.args.id c.new-session.result absent in
     rw (← c.self.view_is)
     (ap sessions_of entered
     ∙ sessions_of-new c.self.inside.ledgered es c.self.invariant.0 c.args.id c.new-session.result
