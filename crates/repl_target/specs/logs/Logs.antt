@@ -36,7 +36,8 @@ logs_with (l ∷ logs) rep e = if same_rep rep l.0 then (l.0, with_entry l.1 e) 
 -- what a log refuses, as the peer refuses it
 abbrev pub refused_by_log : LogFault → TargetFault
 refused_by_log (log_faults.Older stored) = faults.Older stored
-refused_by_log fault = faults.Memory
+refused_by_log log_faults.Memory = faults.Memory
+refused_by_log fault = faults.Older 0
 
 abbrev pub as_log_answers : Result (Unit {0}) LogFault → Result (Unit {0}) TargetFault
 as_log_answers (Ok done) = Ok done

@@ -14,6 +14,8 @@ use Rattle.couch_base.specs.declared.fault.Put.{Put}
 use Rattle.couch_base.specs.declared.fault.BaseFault.{BaseFault}
 use Rattle.couch_base.specs.declared.fault.BaseFault.TheVariants as base_faults
 use Rattle.range_front.specs.Front.{is_done, finished}
+use Rattle.range_front.specs.declared.fault.FrontFault.{FrontFault}
+use Rattle.range_front.specs.declared.fault.FrontFault.TheVariants as front_faults
 use Rattle.repl_target.specs.peer.Peer.{PeerValue, SessionValue, written_of, with_session}
 use Rattle.repl_target.specs.peer.Covered.{refusal_of, covers_window, first_uncovered}
 use Rattle.repl_target.specs.session.Sessions.{session_answer}
@@ -86,8 +88,13 @@ stops_at refuses z d = stops_in refuses z.db d
 
 -- why a document that the database refuses, and that is no contradiction, stops
 abbrev pub cause_by_database : BaseFault → Cause
-cause_by_database base_faults.SeqFull = causes.SeqFull
-cause_by_database fault = causes.Memory
+cause_by_database base_faults.Memory = causes.Memory
+cause_by_database fault = causes.SeqFull
+
+-- why the mark of a window, which is checked, stops
+abbrev pub cause_by_front : FrontFault → Cause
+cause_by_front front_faults.Memory = causes.Memory
+cause_by_front fault = causes.SeqFull
 
 -- how many documents are settled before the first that finds no sequence
 abbrev pub settled_before : (Document → Bool) → WindowValue → Settling → List Document → ℕ
