@@ -4,7 +4,7 @@ use anyhow::{Result, bail};
 use repl_log::{Moment, RepId};
 use repl_target::{Backup, Peer, Rules, TargetFault};
 use rev_tree::SessionId;
-use std::alloc::Global;
+use std::alloc::{AllocError, Global};
 use test_texts::bare_entry;
 
 /// The replication from the peer.
@@ -21,7 +21,7 @@ type Seen = (u64, u64, usize, usize);
 /// How many entries the log of the replication has.
 fn entries(alloc: Global, peer: &Peer<Rules>) -> Option<usize> {
     match peer.source_log(alloc, &REP) {
-        Err(TargetFault::Memory) => Some(peer.source_log(alloc, &REP).ok()?.len()),
+        Err(AllocError) => Some(peer.source_log(alloc, &REP).ok()?.len()),
         answer => Some(answer.ok()?.len()),
     }
 }

@@ -4,9 +4,9 @@ use crate::replications::{is_memory, is_nothing, plan};
 use anyhow::{Result, bail};
 use couch_base::{BaseFault, Window};
 use doc_json::{Chosen, DocFault, DocId};
-use repl_log::{LogFault, Moment, RepId, rep_id};
-use repl_target::{Peer, Report, Rules, TargetFault, audit, hole_above, replicate_alone};
-use std::alloc::Global;
+use repl_log::{Moment, RepId, rep_id};
+use repl_target::{Peer, Report, Rules, audit, hole_above, replicate_alone};
+use std::alloc::{AllocError, Global};
 
 /// The id of a text.
 fn id(alloc: Global, text: &str) -> Option<DocId> {
@@ -41,7 +41,7 @@ fn choose(alloc: Global) -> Option<Chosen> {
 fn named(alloc: Global, chosen: &Chosen) -> Option<usize> {
     let rep = RepId::new(1, 2, Some(chosen)).ok()?.copy(alloc).ok()?;
     match rep_id(alloc, &rep) {
-        Err(LogFault::Memory) => Some(rep_id(alloc, &rep).ok()?.len()),
+        Err(AllocError) => Some(rep_id(alloc, &rep).ok()?.len()),
         answer => Some(answer.ok()?.len()),
     }
 }
@@ -63,7 +63,7 @@ fn is_clean(
     chosen: &Chosen,
 ) -> Option<bool> {
     let found = match audit(alloc, source, target, Some(chosen)) {
-        Err(TargetFault::Memory) => audit(alloc, source, target, Some(chosen)).ok(),
+        Err(AllocError) => audit(alloc, source, target, Some(chosen)).ok(),
         answer => answer.ok(),
     };
     Some(is_nothing(found?))
@@ -77,11 +77,11 @@ fn has_them_alone(
     chosen: &Chosen,
 ) -> Option<bool> {
     let some = match hole_above(alloc, source, target, 0, Some(chosen)) {
-        Err(TargetFault::Memory) => hole_above(alloc, source, target, 0, Some(chosen)).ok(),
+        Err(AllocError) => hole_above(alloc, source, target, 0, Some(chosen)).ok(),
         answer => answer.ok(),
     };
     let all = match hole_above(alloc, source, target, 0, None) {
-        Err(TargetFault::Memory) => hole_above(alloc, source, target, 0, None).ok(),
+        Err(AllocError) => hole_above(alloc, source, target, 0, None).ok(),
         answer => answer.ok(),
     };
     Some(is_nothing(some?) && !is_nothing(all?))

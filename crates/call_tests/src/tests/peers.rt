@@ -11,9 +11,9 @@ use crate::tests::{backups, large, plans};
 use couch_base::{Asked, Parcel, Window};
 use doc_json::DocId;
 use repl_log::{Entry, Moment, RepId};
-use repl_target::{Audit, Backup, Peer, Rules, TargetFault, WriteFilter, audit, hole_above};
+use repl_target::{Audit, Backup, Peer, Rules, WriteFilter, audit, hole_above};
 use rev_tree::SessionId;
-use std::alloc::Global;
+use std::alloc::{AllocError, Global};
 use std::process::Abort;
 use test_texts::{bare_entry, rev, shown};
 
@@ -452,12 +452,12 @@ fn rules(alloc: Global, deny: Option<&str>) -> Option<Rules> {
     }
 }
 
-/// What an audit finds.
-pub(crate) fn found_text(alloc: Global, found: Result<Audit, TargetFault>) -> Option<String> {
+/// What an audit finds, where memory is left.
+pub(crate) fn found_text(alloc: Global, found: Result<Audit, AllocError>) -> Option<String> {
     match found {
         Ok(Audit::Clean) => "clean".to_string(alloc).ok(),
         Ok(Audit::Hole { seq, id, rev }) => place_text(alloc, "hole", seq, &id, rev),
-        Err(fault) => fault_text(alloc, fault),
+        Err(AllocError) => None,
     }
 }
 
