@@ -1,5 +1,6 @@
 //! Worlds.
 ghost use Rattle.std.specs.Prelude.{◌≡◌, ℕ, Some, None, Err, IfOk, OnOk, OnErr};
+ghost use Rattle.couch_base.specs.declared.fault.BaseFault.TheVariants as base_faults;
 ghost use Rattle.repl_target.specs.session.Settling.{stopped_at};
 ghost use Rattle.repl_target.specs.declared.fault.TargetFault.TheVariants as faults;
 
@@ -226,8 +227,7 @@ impl<F: WriteFilter> World<F> {
     {
         match self.source.edit(id, parent, deleted, body) {
             Ok(_) => Ok(()),
-            Err(BaseFault::Memory) => Err(AllocError),
-            Err(_) => Ok(()),
+            Err(fault) => passed(fault),
         }
     }
 
@@ -246,8 +246,7 @@ impl<F: WriteFilter> World<F> {
     {
         match self.target.edit(id, parent, deleted, body) {
             Ok(_) => Ok(()),
-            Err(BaseFault::Memory) => Err(AllocError),
-            Err(_) => Ok(()),
+            Err(fault) => passed(fault),
         }
     }
 
@@ -259,8 +258,7 @@ impl<F: WriteFilter> World<F> {
     {
         match self.source.load(doc) {
             Ok(_) => Ok(()),
-            Err(BaseFault::Memory) => Err(AllocError),
-            Err(_) => Ok(()),
+            Err(fault) => passed(fault),
         }
     }
 
@@ -272,8 +270,7 @@ impl<F: WriteFilter> World<F> {
     {
         match self.target.load(doc) {
             Ok(_) => Ok(()),
-            Err(BaseFault::Memory) => Err(AllocError),
-            Err(_) => Ok(()),
+            Err(fault) => passed(fault),
         }
     }
 
@@ -283,13 +280,9 @@ impl<F: WriteFilter> World<F> {
         ensures ok { OnOk result (self.new.1 ≡ reads_log self.old.1) }
         ensures err { OnErr result (self.new.1 ≡ self.old.1) }
     {
-        let Ok(rep) = rep_between(&self.source, &self.target, self.chosen.as_ref()) else {
-            return Err(AllocError);
-        };
+        let rep = rep_between(&self.source, &self.target, self.chosen.as_ref())?;
         let life = self.source.db().life();
-        let Ok(log) = self.source.source_log(alloc, &rep) else {
-            return Err(AllocError);
-        };
+        let log = self.source.source_log(alloc, &rep)?;
         self.bag.put_log(life, log)
     }
 
@@ -310,12 +303,8 @@ impl<F: WriteFilter> World<F> {
             return Ok(());
         };
         let life = *life;
-        let Ok(rep) = rep_between(&self.source, &self.target, self.chosen.as_ref()) else {
-            return Err(AllocError);
-        };
-        let Ok(incoming) = self.target.target_log(alloc, &rep) else {
-            return Err(AllocError);
-        };
+        let rep = rep_between(&self.source, &self.target, self.chosen.as_ref())?;
+        let incoming = self.target.target_log(alloc, &rep)?;
         let (base, start) = match common(log, &incoming) {
             Some((session, recorded)) => (Some(session), recorded),
             None => (None, 0),
@@ -327,11 +316,7 @@ impl<F: WriteFilter> World<F> {
             start,
             goal,
         };
-        match self.target.begin(session, beginning, at) {
-            Ok(()) => Ok(()),
-            Err(TargetFault::Memory) => Err(AllocError),
-            Err(_) => Ok(()),
-        }
+        unless_memory(self.target.begin(session, beginning, at))
     }
 
     /// A page of the source's feed goes into the bag.
@@ -345,8 +330,7 @@ impl<F: WriteFilter> World<F> {
             .page(alloc, since, goal, limit, self.chosen.as_ref())
         {
             Ok(window) => self.bag.put_window(window),
-            Err(BaseFault::Memory) => Err(AllocError),
-            Err(_) => Ok(()),
+            Err(fault) => passed(fault),
         }
     }
 
@@ -359,9 +343,7 @@ impl<F: WriteFilter> World<F> {
         let Some(window) = self.bag.window(place) else {
             return Ok(());
         };
-        let Ok(window) = window.copy(alloc) else {
-            return Err(AllocError);
-        };
+        let window = window.copy(alloc)?;
         // The reading tells the proof that no session's id comes twice.
         let _uuid = self.target.db().uuid();
         unless_memory(self.target.append(session, window))
@@ -376,9 +358,7 @@ impl<F: WriteFilter> World<F> {
         let Some(window) = self.bag.window(place) else {
             return Ok(());
         };
-        let Ok(asked) = self.target.revs_diff(alloc, window) else {
-            return Err(AllocError);
-        };
+        let asked = self.target.revs_diff(alloc, window)?;
         self.bag.put_asked(place, asked)
     }
 
@@ -392,9 +372,7 @@ impl<F: WriteFilter> World<F> {
             return Ok(());
         };
         let window = *window;
-        let Ok(parcel) = self.source.open_revs(alloc, asked) else {
-            return Err(AllocError);
-        };
+        let parcel = self.source.open_revs(alloc, asked)?;
         self.bag.put_parcel(window, parcel)
     }
 
@@ -411,9 +389,7 @@ impl<F: WriteFilter> World<F> {
         let Some(held) = self.bag.parcel(place) else {
             return Ok(());
         };
-        let Ok(parcel) = held.1.copy(alloc) else {
-            return Err(AllocError);
-        };
+        let parcel = held.1.copy(alloc)?;
         found_memory(self.target.settle(session, parcel))
     }
 
@@ -446,8 +422,7 @@ impl<F: WriteFilter> World<F> {
                 self.backups.push(backup)?;
                 Ok(())
             }
-            Err(TargetFault::Memory) => Err(AllocError),
-            Err(_) => Ok(()),
+            Err(fault) => unless_memory(Err(fault)),
         }
     }
 
@@ -460,10 +435,7 @@ impl<F: WriteFilter> World<F> {
         let Some(backup) = self.backups.get(place) else {
             return Ok(());
         };
-        match self.source.restore(backup) {
-            Err(TargetFault::Memory) => Err(AllocError),
-            _ => Ok(()),
-        }
+        unless_memory(self.source.restore(backup))
     }
 
     /// An entry of the bag is put into the source's log.
@@ -475,13 +447,19 @@ impl<F: WriteFilter> World<F> {
         let Some(entry) = self.bag.entry(place) else {
             return Ok(());
         };
-        let Ok(rep) = rep_between(&self.source, &self.target, self.chosen.as_ref()) else {
-            return Err(AllocError);
-        };
-        match self.source.put_entry(&rep, entry) {
-            Err(TargetFault::Memory) => Err(AllocError),
-            _ => Ok(()),
-        }
+        let rep = rep_between(&self.source, &self.target, self.chosen.as_ref())?;
+        unless_memory(self.source.put_entry(&rep, entry))
+    }
+}
+
+/// What a database's refusal is to a run, which goes on unless memory was refused.
+fn passed(fault: BaseFault) -> Result<(), AllocError>
+    ensures ok { OnOk result (fault ≡ base_faults.Memory → ⊥) }
+    ensures err { OnErr result (fault ≡ base_faults.Memory) }
+{
+    match fault {
+        BaseFault::Memory => Err(AllocError),
+        _ => Ok(()),
     }
 }
 

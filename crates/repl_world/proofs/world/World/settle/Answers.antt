@@ -9,11 +9,11 @@ returns-clause-ok g c =
     let w : WorldValue = record { source = c.self.inside.source.1; target = c.self.inside.target.1; chosen = c.self.inside.chosen; bag = c.self.inside.bag; backups = c.self.inside.backups.items } in
     let there : slice_get w.bag.parcels c.args.place ≡ Some c.in-Some.held.now = sym c.parcel.ensures ∙ ap option_copied c.in-Some.is in
     subst (λ v. OnOk c.found_memory.result (record w { target = c.settle.new.self.1 } ≡ settles (g.F.WriteFilter.refuses v.0.1) v.1 c.args.session (slice_get v.1.bag.parcels c.args.place))) c.self.view_is
-    (settled_ok (g.F.WriteFilter.refuses c.self.inside.target.0) w c.args.session c.args.place c.in-Some.held.now there c.in-Ok.parcel c.in-Ok.ensures.copied c.settle.result c.settle.new.self.1 c.settle.ensures.settles c.found_memory.result c.found_memory.ensures.ok)
+    (settled_ok (g.F.WriteFilter.refuses c.self.inside.target.0) w c.args.session c.args.place c.in-Some.held.now there c.in_ok-parcel.parcel c.in_ok-parcel.ensures.copied c.settle.result c.settle.new.self.1 c.settle.ensures.settles c.found_memory.result c.found_memory.ensures.ok)
 
 pub returns-clause-err : goal.returns-clause-err
 returns-clause-err g c =
     let w : WorldValue = record { source = c.self.inside.source.1; target = c.self.inside.target.1; chosen = c.self.inside.chosen; bag = c.self.inside.bag; backups = c.self.inside.backups.items } in
     let there : slice_get w.bag.parcels c.args.place ≡ Some c.in-Some.held.now = sym c.parcel.ensures ∙ ap option_copied c.in-Some.is in
     subst (λ v. OnErr c.found_memory.result (IsStopped (g.F.WriteFilter.refuses v.0.1) v.1 c.args.session (slice_get v.1.bag.parcels c.args.place) (record w { target = c.settle.new.self.1 }))) c.self.view_is
-    (settled_err (g.F.WriteFilter.refuses c.self.inside.target.0) w c.args.session c.args.place c.in-Some.held.now there c.in-Ok.parcel c.in-Ok.ensures.copied c.settle.result c.settle.new.self.1 c.settle.ensures.settles c.found_memory.result c.found_memory.ensures.err)
+    (settled_err (g.F.WriteFilter.refuses c.self.inside.target.0) w c.args.session c.args.place c.in-Some.held.now there c.in_ok-parcel.parcel c.in_ok-parcel.ensures.copied c.settle.result c.settle.new.self.1 c.settle.ensures.settles c.found_memory.result c.found_memory.ensures.err)
