@@ -158,14 +158,14 @@ impl Tree {
         ensures { IfOk result (λ out. out ≡ leaves self.now) }
     {
         match self.only_leaf() {
-            Some(leaf) => Ok(Revs::one(leaf)),
+            Some(leaf) => Ok(Revs::one(*leaf)),
             None => Ok(Revs::from(self.sorted_leaves(alloc)?)),
         }
     }
 
     /// The leaf, where there is one alone.
-    fn only_leaf(&self) -> Option<Rev>
-        ensures { result ≡ only_of (leaves self.now) }
+    fn only_leaf(&self) -> Option<&Rev>
+        ensures { option_copied result ≡ only_of (leaves self.now) }
     {
         let mut found = None;
         for node in &self.nodes {
@@ -173,7 +173,7 @@ impl Tree {
                 if found.is_some() {
                     return None;
                 }
-                found = Some(*node.rev());
+                found = Some(node.rev());
             }
         }
         found
@@ -220,8 +220,8 @@ impl Tree {
         ensures { IfOk result (λ out. out ≡ leaves_above self.now revs.now) }
     {
         if let Some(leaf) = self.only_leaf() {
-            if revs.contains(&leaf) {
-                return Ok(Revs::one(leaf));
+            if revs.contains(leaf) {
+                return Ok(Revs::one(*leaf));
             }
         }
         let leaves = self.leaves(alloc)?;

@@ -1,11 +1,17 @@
-use Rattle.std.proofs.Common.{◌≡◌, ◌<◌, ◌++◌, ◌∷◌, [], cond, not, length, take, get_or, filter, sym, ap, ◌∙◌, subst}
-use Rattle.std.specs.Option.{option_to_list}
+use Rattle.std.proofs.Common.{◌≡◌, ◌<◌, ◌++◌, ◌∷◌, [], Option, Some, None, is_some, refl, cond, not, length, take, get_or, filter, sym, ap, ◌∙◌, subst}
+use Rattle.std.specs.Option.{option_copied, option_to_list}
+use Rattle.std.specs.Borrow.{Bor}
 use Rattle.std.proofs.lemmas.List.{take_all, append-nil}
+use Rattle.rev_core.specs.Rev.{RevId}
 use Rattle.rev_tree.specs.Tree.{is_leaf}
 use Rattle.rev_tree.specs.Nodes.{revs_in}
 use Rattle.rev_tree.proofs.Leaves.{leaf_item, leaves_pushed, none_there, second_leaf, lone_leaf}
 use Rattle.rev_tree.proofs.tree.Tree.only_leaf.Goals as goal
 use Rattle.rev_tree.proofs.tree.Tree.only_leaf.Goals.{then-not-has_child+else-is_some, else-not-has_child}
+
+is_some-copied : (o : Option (Bor RevId)) → is_some (option_copied o) ≡ is_some o
+is_some-copied None = refl
+is_some-copied (Some r) = refl
 
 pub returns-then-is_some : goal.returns-then-is_some
 returns-then-is_some c =
@@ -16,11 +22,11 @@ returns-then-is_some c =
     let n = c.node-item.result in
     let same = c.deref-node-items.ensures.value in
     let leaf = leaf_item nodes items t c.self.invariant.linked c.self.view_is same i n c.loop-node-test.true c.node-item.is in
-    second_leaf nodes t c.self.invariant.linked c.self.view_is i n c.loop-node.found
+    second_leaf nodes t c.self.invariant.linked c.self.view_is i n (option_copied c.loop-node.found)
     (subst (λ l. i < length l) same c.loop-node-test.true)
     (subst (λ l. n ≡ get_or l i n) same c.node-item.is)
-    (subst (λ l. filter (is_leaf t) (revs_in (take i l)) ≡ option_to_list c.loop-node.found) same c.loop-node.invariant)
-    (sym c.is_some.ensures ∙ c.if-is_some.true)
+    (subst (λ l. filter (is_leaf t) (revs_in (take i l)) ≡ option_to_list (option_copied c.loop-node.found)) same c.loop-node.invariant)
+    (is_some-copied c.loop-node.found ∙ sym c.is_some.ensures ∙ c.if-is_some.true)
     (leaf ∙ ap not (sym c.has_child.ensures ∙ c.if-not-has_child.true))
 
 pub loop-node-preserved : goal.loop-node-preserved
@@ -35,15 +41,15 @@ loop-node-preserved c =
     elim c.if-not-has_child.branch [
       | then-not-has_child+else-is_some w ↦
           more ∙ ap (λ b. before ++ cond b (n.rev ∷ []) []) (leaf ∙ ap not (sym c.has_child.ensures ∙ w.if-not-has_child.true))
-          ∙ ap (λ l. l ++ n.rev ∷ []) (c.loop-node.invariant ∙ ap option_to_list (none_there c.loop-node.found (sym w.is_some.ensures ∙ w.if-is_some.false)))
-          ∙ ap (λ r. r ∷ []) (sym w.rev.ensures) ∙ ap option_to_list (sym w.found-is)
+          ∙ ap (λ l. l ++ n.rev ∷ []) (c.loop-node.invariant ∙ ap option_to_list (none_there (option_copied c.loop-node.found) (is_some-copied c.loop-node.found ∙ sym w.is_some.ensures ∙ w.if-is_some.false)))
+          ∙ ap (λ r. r ∷ []) (sym w.rev.ensures) ∙ ap (λ o. option_to_list (option_copied o)) (sym w.found-is)
       | else-not-has_child w ↦
           more ∙ ap (λ b. before ++ cond b (n.rev ∷ []) []) (leaf ∙ ap not (sym c.has_child.ensures ∙ w.if-not-has_child.false)) ∙ append-nil before
-          ∙ c.loop-node.invariant ∙ ap option_to_list (sym w.found-is)
+          ∙ c.loop-node.invariant ∙ ap (λ o. option_to_list (option_copied o)) (sym w.found-is)
     ]
 
 pub returns : goal.returns
 returns c =
     let t = c.args.self.now in
-    lone_leaf c.self.inside.nodes.items t c.self.invariant.linked c.self.view_is c.loop-node.found
+    lone_leaf c.self.inside.nodes.items t c.self.invariant.linked c.self.view_is (option_copied c.loop-node.found)
     (sym (ap (λ l. filter (is_leaf t) (revs_in l)) (take_all _ _ c.loop-node-test.false ∙ c.deref-node-items.ensures.value)) ∙ c.loop-node.invariant)

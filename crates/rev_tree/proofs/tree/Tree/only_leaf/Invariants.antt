@@ -1,9 +1,9 @@
 use Rattle.std.proofs.Common.{◌≡◌, take, filter}
-use Rattle.std.specs.Option.{option_to_list}
+use Rattle.std.specs.Option.{option_copied, option_to_list}
 use Rattle.rev_tree.specs.Tree.{is_leaf}
 use Rattle.rev_tree.specs.Nodes.{revs_in}
 use Rattle.rev_tree.proofs.tree.Tree.only_leaf.Given as goal
 
 -- the leaves so far, of which there is one at most
 abbrev pub invariant-loop-node : goal.invariant-loop-node
-invariant-loop-node l = filter (is_leaf l.self) (revs_in (take l.node-index l.node-items)) ≡ option_to_list l.found
+invariant-loop-node l = filter (is_leaf l.self) (revs_in (take l.node-index l.node-items)) ≡ option_to_list (option_copied l.found)
