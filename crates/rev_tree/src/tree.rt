@@ -186,10 +186,10 @@ impl Tree {
         let mut found = Vec::with_capacity(alloc, self.leaf_count())?;
         for node in &self.nodes {
             if !node.has_child() {
-                found.push((is_deleted(node), *node.rev()))?;
+                found.push((is_deleted(node), node.rev()))?;
             }
         }
-        found.sort_unstable_by(|a, b| a.0.cmp(&b.0).then(b.1.cmp(&a.1)));
+        found.sort_unstable_by(|a, b| a.0.cmp(&b.0).then(b.1.cmp(a.1)));
         revs_of(alloc, &found)
     }
 
@@ -376,12 +376,12 @@ fn is_deleted(node: &Node) -> bool
 }
 
 /// The revisions of pairs.
-fn revs_of(alloc: Global, pairs: &[(bool, Rev)]) -> Result<Vec<Rev>, AllocError>
-    ensures { IfOk result (λ v. v.items ≡ map (λ p. p.1) pairs.now) }
+fn revs_of(alloc: Global, pairs: &[(bool, &Rev)]) -> Result<Vec<Rev>, AllocError>
+    ensures { IfOk result (λ v. v.items ≡ map (λ p. p.1.now) pairs.now) }
 {
     let mut revs = Vec::with_capacity(alloc, pairs.len())?;
     for pair in pairs {
-        revs.push(pair.1)?;
+        revs.push(*pair.1)?;
     }
     Ok(revs)
 }
