@@ -25,7 +25,7 @@ impl Database {
     pub fn revs_diff(&self, alloc: Global, window: &Window) -> Result<Asked, AllocError>
         ensures asked { IfOk result (λ a. a ≡ revs_diff self.now window.now) }
     {
-        let mut docs = Vec::new(alloc);
+        let mut docs = Vec::with_capacity(alloc, window.rows().len())?;
         for row in window.rows() {
             self.want(alloc, row, &mut docs)?;
         }
