@@ -135,14 +135,14 @@ whole_of refuses source target target' plan n law l l' ok grown (Err why) w = tt
 -- ---- what it says
 
 -- no worker was started, for want of memory
-pub no_workers : {F : Type 0} (refuses : F → Document → Bool) (may_fill : Type 0) (may_stop : Place → Type 0) (plan : Plan) (start : ℕ) (source : PeerValue) (given : F × PeerValue) (counts : List ℕ) (source' after : PeerValue) (outcome : Result Report PoolFault)
-    → Ends plan start (Some faults.Memory) false source given.1 source' after outcome → EndsRun refuses may_fill may_stop plan start source given counts source' after outcome
-no_workers refuses may_fill may_stop plan start source given counts source' after outcome e = record {
-  fault = Some faults.Memory;
+pub no_workers : {F : Type 0} (refuses : F → Document → Bool) (may_fill : Type 0) (may_stop : Place → Type 0) (plan : Plan) (start : ℕ) (source : PeerValue) (given : F × PeerValue) (counts : List ℕ) (source' after : PeerValue) (outcome : Result Report PoolFault) (fault : PoolFault) → fault ≡ faults.Memory
+    → Ends plan start (Some fault) false source given.1 source' after outcome → EndsRun refuses may_fill may_stop plan start source given counts source' after outcome
+no_workers refuses may_fill may_stop plan start source given counts source' after outcome fault is e = record {
+  fault = Some fault;
   complete = false;
   before = given.1;
   grown = grown-same (refuses given.0) source.db plan.chosen plan.session given.1;
-  late = tt;
+  late = subst (IsHaltOn may_fill may_stop) (sym is) tt;
   read = λ none whole. absurd (false≢true whole);
   ends = e;
 }

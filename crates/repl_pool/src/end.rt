@@ -60,12 +60,14 @@ fn both(
     outcome: Result<Report, PoolFault>,
     put: &Result<(), TargetFault>,
 ) -> Result<Report, PoolFault>
+    requires memory { IfErr put.now (λ e. e ≡ TargetFault.Memory) }
     ensures told { UnlessMemory outcome result }
     ensures put { OnOk result (put.now ≡ Ok tt) }
 {
     match (outcome, put) {
         (Ok(report), Ok(())) => Ok(report),
-        (Ok(_), Err(_)) => Err(PoolFault::Memory),
+        (Ok(_), Err(TargetFault::Memory)) => Err(PoolFault::Memory),
+        (Ok(_), Err(_)) => unreachable!(),
         (Err(fault), _) => Err(fault),
     }
 }
@@ -109,7 +111,7 @@ fn walk_and_put<F: WriteFilter>(
     match hole_above(alloc, source, target, start, plan.chosen.as_ref()) {
         Ok(Audit::Hole { seq, id, rev }) => Err(PoolFault::Hole { seq, id, rev }),
         Ok(Audit::Clean) => put_entry(source, target, plan, Ok(report)),
-        Err(_) => put_entry(source, target, plan, Err(PoolFault::Memory)),
+        Err(refused) => put_entry(source, target, plan, Err(PoolFault::from(refused))),
     }
 }
 

@@ -1,11 +1,14 @@
 //! Why a worker halts, and why a run doesn't end well.
 ghost use Rattle.std.specs.Prelude.{◌≡◌, None, IfSome};
 ghost use Rattle.repl_pool.specs.Faults.{fault_of, IsOneFault};
+ghost use Rattle.repl_pool.specs.declared.fault.Halt.TheVariants as halts;
+ghost use Rattle.repl_pool.specs.declared.fault.PoolFault.TheVariants as faults;
 
 use crate::gate::Place;
 use doc_json::DocId;
 use repl_target::TargetFault;
 use rev_core::Rev;
+use std::alloc::AllocError;
 use thiserror::Error;
 
 /// Why a worker, or the reading of the windows, takes no further step.
@@ -23,6 +26,14 @@ pub enum Halt {
     Memory,
     /// A channel was cut.
     Lost,
+}
+
+impl From<AllocError> for Halt {
+    ghost from_gives = { λ _ e. e ≡ halts.Memory };
+
+    fn from(_refused: AllocError) -> Halt {
+        Halt::Memory
+    }
 }
 
 /// Why a run of the pool doesn't end well.
@@ -62,17 +73,26 @@ pub enum PoolFault {
     Memory,
 }
 
-/// How a run tells a halt.
-fn told(halt: Halt) -> PoolFault
-    ensures { result ≡ fault_of halt }
-{
-    match halt {
-        Halt::Stopped(place) => PoolFault::Halted(place),
-        Halt::Refused(fault) => PoolFault::Refused(fault),
-        Halt::CountFull => PoolFault::CountFull,
-        Halt::BoardFull => PoolFault::BoardFull,
-        Halt::Memory => PoolFault::Memory,
-        Halt::Lost => PoolFault::Memory,
+impl From<AllocError> for PoolFault {
+    ghost from_gives = { λ _ e. e ≡ faults.Memory };
+
+    fn from(_refused: AllocError) -> PoolFault {
+        PoolFault::Memory
+    }
+}
+
+impl From<Halt> for PoolFault {
+    ghost from_gives = { λ halt e. e ≡ fault_of halt };
+
+    fn from(halt: Halt) -> PoolFault {
+        match halt {
+            Halt::Stopped(place) => PoolFault::Halted(place),
+            Halt::Refused(fault) => PoolFault::Refused(fault),
+            Halt::CountFull => PoolFault::CountFull,
+            Halt::BoardFull => PoolFault::BoardFull,
+            Halt::Memory => PoolFault::Memory,
+            Halt::Lost => PoolFault::Memory,
+        }
     }
 }
 
@@ -82,9 +102,9 @@ pub fn merge(read: Option<Halt>, fetched: Option<Halt>, written: Option<Halt>) -
     ensures some { IfSome result (IsOneFault read fetched written) }
 {
     match (read, fetched, written) {
-        (Some(halt), _, _) => Some(told(halt)),
-        (None, Some(halt), _) => Some(told(halt)),
-        (None, None, Some(halt)) => Some(told(halt)),
+        (Some(halt), _, _) => Some(PoolFault::from(halt)),
+        (None, Some(halt), _) => Some(PoolFault::from(halt)),
+        (None, None, Some(halt)) => Some(PoolFault::from(halt)),
         (None, None, None) => None,
     }
 }

@@ -16,7 +16,7 @@ use crate::picks::{Given, Origin};
 use crate::windows::{Takes, Ticket, WindowPass, WindowReceiver};
 use couch_base::Asked;
 use repl_target::{Peer, WriteFilter};
-use std::alloc::Global;
+use std::alloc::{AllocError, Global};
 use std::sync::ledger::Ledger;
 use std::sync::{Mutex, Wait};
 
@@ -61,10 +61,8 @@ fn bring<F: WriteFilter, S: Origin, J: Given<F>, L: Ledger, G: Gate, R: Wait>(
     pass(rt, gate, Place::Took(number))?;
     let asked = ask(rt, alloc, desk, page)?;
     pass(rt, gate, Place::Asked(number))?;
-    match Fetched::<S>::fetch(alloc, source, asked) {
-        Ok(fetched) => Ok(fetched),
-        Err(_) => Err(Halt::Memory),
-    }
+    let fetched = Fetched::<S>::fetch(alloc, source, asked)?;
+    Ok(fetched)
 }
 
 /// Asks what the target misses of a page, and lets the lock go.
@@ -73,13 +71,8 @@ fn ask<F: WriteFilter, S: Origin, J: Given<F>, L: Ledger, R: Wait>(
     alloc: Global,
     desk: &Mutex<Desk<F, S, J, L>>,
     page: &Paged<S>,
-) -> Result<Asked, Halt>
-    ensures { IfErr result (λ halt. halt ≡ Halt.Memory) }
-{
-    match desk.lock(rt).diff(alloc, page) {
-        Ok(asked) => Ok(asked),
-        Err(_) => Err(Halt::Memory),
-    }
+) -> Result<Asked, AllocError> {
+    desk.lock(rt).diff(alloc, page)
 }
 
 /// Sends a parcel, and says whether it did.

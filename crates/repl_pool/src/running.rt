@@ -119,12 +119,19 @@ fn run_begun<
         return without_workers(alloc, source, target, plan, start, seats, None);
     }
     let workers = plan.workers as usize;
-    let no_memory = Some(PoolFault::Memory);
-    let Ok(counts) = Vec::with_capacity(alloc, workers) else {
-        return without_workers(alloc, source, target, plan, start, seats, no_memory);
+    let counts = match Vec::with_capacity(alloc, workers) {
+        Ok(counts) => counts,
+        Err(refused) => {
+            let fault = Some(PoolFault::from(refused));
+            return without_workers(alloc, source, target, plan, start, seats, fault);
+        }
     };
-    let Ok((lines, windows, parcels)) = Lines::<S>::open(alloc, 2 * workers) else {
-        return without_workers(alloc, source, target, plan, start, seats, no_memory);
+    let (lines, windows, parcels) = match Lines::<S>::open(alloc, 2 * workers) {
+        Ok(opened) => opened,
+        Err(refused) => {
+            let fault = Some(PoolFault::from(refused));
+            return without_workers(alloc, source, target, plan, start, seats, fault);
+        }
     };
     let (book, all) = blank.open::<L>();
     let desk = Mutex::new(Desk::<F, S, J, L>::open(target, plan.session, book));

@@ -29,9 +29,7 @@ pub fn board_with_seats(alloc: Global, workers: usize, viewers: usize) -> Result
     ensures err { IfErr result (λ e. e ≡ new_fault workers viewers) }
 {
     let (board, mut seats) = Board::new(alloc, workers, viewers)?;
-    let Ok(mut apart) = Vec::with_capacity(alloc, viewers) else {
-        return Err(BoardFault::Memory);
-    };
+    let mut apart = Vec::with_capacity(alloc, viewers)?;
     for _i in 0..viewers {
         let Some(seat) = seats.pop() else {
             unreachable!()

@@ -26,17 +26,17 @@ returns-then-start-update_seq-clause-shown g c =
     ends_free _ _ _ _ _ _ _ _ r.outcome (shows r.seats.items) c.without_workers.ensures.ends
     (λ _ _. subst shows (ap vec_items (sym c.without_workers.ensures.seats)) (shown_start (option_copied c.args.board) (sum r.fetched.items) c.args.seats.items (ap sum c.without_workers.ensures.fetched)))
 
-pub returns-in_default-clause-grown : goal.returns-in_default-clause-grown
-returns-in_default-clause-grown g c = c.without_workers-in_default.ensures.grown c.args.source.1.db c.args.plan.now.chosen
+pub returns-in-Err-clause-grown : goal.returns-in-Err-clause-grown
+returns-in-Err-clause-grown g c = c.without_workers-in-Err.ensures.grown c.args.source.1.db c.args.plan.now.chosen
 
-pub returns-in_default-clause-ends : goal.returns-in_default-clause-ends
-returns-in_default-clause-ends g c = no_workers g.F.WriteFilter.refuses (MayFill (option_copied c.args.board)) (g.G.Gate.may_stop c.args.gate.now) _ _ _ c.args.target _ _ _ _ c.without_workers-in_default.ensures.ends
+pub returns-in-Err-clause-ends : goal.returns-in-Err-clause-ends
+returns-in-Err-clause-ends g c = no_workers g.F.WriteFilter.refuses (MayFill (option_copied c.args.board)) (g.G.Gate.may_stop c.args.gate.now) _ _ _ c.args.target _ _ _ _ c.from.result c.from.ensures c.without_workers-in-Err.ensures.ends
 
-pub returns-in_default-open-clause-grown : goal.returns-in_default-open-clause-grown
-returns-in_default-open-clause-grown g c = c.without_workers-in_default-open.ensures.grown c.args.source.1.db c.args.plan.now.chosen
+pub returns-in-Err-open-clause-grown : goal.returns-in-Err-open-clause-grown
+returns-in-Err-open-clause-grown g c = c.without_workers-in-Err-open.ensures.grown c.args.source.1.db c.args.plan.now.chosen
 
-pub returns-in_default-open-clause-ends : goal.returns-in_default-open-clause-ends
-returns-in_default-open-clause-ends g c = no_workers g.F.WriteFilter.refuses (MayFill (option_copied c.args.board)) (g.G.Gate.may_stop c.args.gate.now) _ _ _ c.args.target _ _ _ _ c.without_workers-in_default-open.ensures.ends
+pub returns-in-Err-open-clause-ends : goal.returns-in-Err-open-clause-ends
+returns-in-Err-open-clause-ends g c = no_workers g.F.WriteFilter.refuses (MayFill (option_copied c.args.board)) (g.G.Gate.may_stop c.args.gate.now) _ _ _ c.args.target _ _ _ _ c.from-in-Err-open.result c.from-in-Err-open.ensures c.without_workers-in-Err-open.ensures.ends
 
 pub returns-clause-grown : goal.returns-clause-grown
 returns-clause-grown g c =
@@ -72,23 +72,23 @@ end-requires g c =
           (given_grown g.F.WriteFilter.refuses c.args.source.1.db g.S.Origin.source c.requires.source c.args.plan.now.chosen g.S.Origin.chosen c.requires.chosen c.args.target c.args.plan.now.session g.J.Given.given c.requires.given d.0 d.1 c.collect-summed.result.target d.2).0 c.requires.held;
     }
 
-pub returns-in_default-clause-back : goal.returns-in_default-clause-back
-returns-in_default-clause-back g c =
-    back_is (option_copied c.args.board) c.args.seats.items _ (seats_seated (option_copied c.args.board) 0 c.args.plan.now.workers c.args.seats.items c.requires.seats) (ap vec_items (sym c.without_workers-in_default.ensures.seats))
+pub returns-in-Err-clause-back : goal.returns-in-Err-clause-back
+returns-in-Err-clause-back g c =
+    back_is (option_copied c.args.board) c.args.seats.items _ (seats_seated (option_copied c.args.board) 0 c.args.plan.now.workers c.args.seats.items c.requires.seats) (ap vec_items (sym c.without_workers-in-Err.ensures.seats))
 
-pub returns-in_default-clause-shown : goal.returns-in_default-clause-shown
-returns-in_default-clause-shown g c =
-    let r = c.without_workers-in_default.result in
-    ends_free _ _ _ _ _ _ _ _ r.outcome (HaveShown (option_copied c.args.board) (sum r.fetched.items) None c.args.seats.items r.seats.items) c.without_workers-in_default.ensures.ends (λ e _. absurd (false≢true (sym (ap is_some e))))
+pub returns-in-Err-clause-shown : goal.returns-in-Err-clause-shown
+returns-in-Err-clause-shown g c =
+    let r = c.without_workers-in-Err.result in
+    ends_free _ _ _ _ _ _ _ _ r.outcome (HaveShown (option_copied c.args.board) (sum r.fetched.items) None c.args.seats.items r.seats.items) c.without_workers-in-Err.ensures.ends (λ e _. absurd (false≢true (sym (ap is_some e))))
 
-pub returns-in_default-open-clause-back : goal.returns-in_default-open-clause-back
-returns-in_default-open-clause-back g c =
-    back_is (option_copied c.args.board) c.args.seats.items _ (seats_seated (option_copied c.args.board) 0 c.args.plan.now.workers c.args.seats.items c.requires.seats) (ap vec_items (sym c.without_workers-in_default-open.ensures.seats))
+pub returns-in-Err-open-clause-back : goal.returns-in-Err-open-clause-back
+returns-in-Err-open-clause-back g c =
+    back_is (option_copied c.args.board) c.args.seats.items _ (seats_seated (option_copied c.args.board) 0 c.args.plan.now.workers c.args.seats.items c.requires.seats) (ap vec_items (sym c.without_workers-in-Err-open.ensures.seats))
 
-pub returns-in_default-open-clause-shown : goal.returns-in_default-open-clause-shown
-returns-in_default-open-clause-shown g c =
-    let r = c.without_workers-in_default-open.result in
-    ends_free _ _ _ _ _ _ _ _ r.outcome (HaveShown (option_copied c.args.board) (sum r.fetched.items) None c.args.seats.items r.seats.items) c.without_workers-in_default-open.ensures.ends (λ e _. absurd (false≢true (sym (ap is_some e))))
+pub returns-in-Err-open-clause-shown : goal.returns-in-Err-open-clause-shown
+returns-in-Err-open-clause-shown g c =
+    let r = c.without_workers-in-Err-open.result in
+    ends_free _ _ _ _ _ _ _ _ r.outcome (HaveShown (option_copied c.args.board) (sum r.fetched.items) None c.args.seats.items r.seats.items) c.without_workers-in-Err-open.ensures.ends (λ e _. absurd (false≢true (sym (ap is_some e))))
 
 pub returns-clause-shown : goal.returns-clause-shown
 returns-clause-shown g c =
