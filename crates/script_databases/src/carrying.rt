@@ -7,7 +7,7 @@ ghost use Rattle.repl_target.specs.peer.Peer.{PeerValue};
 ghost use Rattle.script_databases.specs.Stored.{Beside, deny_of, denied_of, peers_of, state_of, AllDeny, IsEmptied};
 
 use crate::databases::Names;
-use progress_board::{Board, BoardSeat};
+use progress_board::{Board, BoardFault, BoardSeat};
 use repl_pool::{Open, PoolFault, Ran, run, run_on};
 use repl_target::{Peer, Plan, Report, Rules, TargetFault, replicate_alone};
 use std::alloc::Global;
@@ -154,8 +154,10 @@ pub fn replicate_watched_at<H: Threads + Wait + Sync>(
         (state_of g names.new.entries) }
     ensures filters { denied_of names.new.entries ≡ denied_of names.old.entries }
 {
-    let Ok((board, mut seats)) = Board::new(alloc, plan.workers as usize, 1) else {
-        return Err(PoolFault::Memory);
+    let (board, mut seats) = match Board::new(alloc, plan.workers as usize, 1) {
+        Ok(made) => made,
+        Err(BoardFault::Memory) => return Err(PoolFault::Memory),
+        Err(_) => unreachable!(),
     };
     let Some(mut viewer) = seats.pop() else {
         unreachable!()

@@ -207,15 +207,11 @@ impl Databases {
         }
         let backup = match peer.backup(alloc) {
             Ok(backup) => backup,
-            Err(fault) => return Err(Refusal::of_target(fault)),
+            Err(fault) => return Err(Refusal::from(fault)),
         };
         let seq = backup.db().update_seq();
-        let Ok(copy) = NamedBackup::new(alloc, db, name, backup) else {
-            return Err(Refusal::Memory);
-        };
-        let Ok(()) = self.backups.push(copy) else {
-            return Err(Refusal::Memory);
-        };
+        let copy = NamedBackup::new(alloc, db, name, backup)?;
+        self.backups.push(copy)?;
         Ok(seq)
     }
 

@@ -50,7 +50,7 @@ pub fn load_at(names: &mut Names, name: &str, doc: &Doc) -> Result<Put, Refusal>
     match names.get_mut(name) {
         Some(peer) => match peer.load(doc) {
             Ok(put) => Ok(put),
-            Err(fault) => Err(Refusal::of_base(fault)),
+            Err(fault) => Err(Refusal::from(fault)),
         },
         None => Err(Refusal::NoDatabase),
     }
@@ -79,7 +79,7 @@ pub fn edit_at(
                 rev,
                 seq: peer.db().update_seq(),
             }),
-            Err(fault) => Err(Refusal::of_base(fault)),
+            Err(fault) => Err(Refusal::from(fault)),
         },
         None => Err(Refusal::NoDatabase),
     }
@@ -107,7 +107,7 @@ pub fn put_back_at(
                     seq: peer.db().update_seq(),
                     life: peer.db().life(),
                 }),
-                Err(fault) => Err(Refusal::of_target(fault)),
+                Err(fault) => Err(Refusal::from(fault)),
             },
             None => Err(Refusal::NoBackup),
         },

@@ -1,5 +1,6 @@
 //! Why a line is refused.
 ghost use Rattle.std.specs.Prelude.{◌≡◌};
+ghost use Rattle.script_databases.specs.declared.refusal.Refusal.TheVariants.{Memory};
 ghost use Rattle.script_databases.specs.Refusals.{name_of};
 ghost use Rattle.script_databases.specs.Refusals.{base_refusal, doc_refusal, log_refusal, rev_refusal, run_stop_of, stop_of, target_refusal};
 
@@ -9,6 +10,7 @@ use repl_log::LogFault;
 use repl_pool::PoolFault;
 use repl_target::TargetFault;
 use rev_core::RevFault;
+use std::alloc::{AllocError, AllocFailed};
 
 /// Why a line is refused, or that memory ran out (docs/PROFILE.md, "Order of checks"). `name` gives the name of each.
 #[derive(Clone, Copy, Debug, PartialEq, Eq)]
@@ -201,10 +203,56 @@ impl Refusal {
         }
     }
 
-    /// The refusal of a line whose document, body or id is refused.
-    pub fn of_doc(fault: DocFault) -> Refusal
-        ensures { result ≡ doc_refusal fault }
+    /// How far a replication came that its plan stopped, or the refusal of a line whose replication is refused.
+    pub fn stop_of(fault: TargetFault) -> Result<u64, Refusal>
+        ensures { result ≡ stop_of fault }
     {
+        match fault {
+            TargetFault::Unfinished { low_water } => Ok(low_water),
+            fault => Err(Refusal::from(fault)),
+        }
+    }
+
+    /// How far a run of the pool came that its plan stopped, or the refusal of a line whose run is refused.
+    pub fn run_stop_of(fault: PoolFault) -> Result<u64, Refusal>
+        ensures { result ≡ run_stop_of fault }
+    {
+        match fault {
+            PoolFault::NoWorkers => Err(Refusal::NoWorkers),
+            PoolFault::TooManyWorkers => Err(Refusal::TooManyWorkers),
+            PoolFault::BadBatch => Err(Refusal::BadBatch),
+            PoolFault::SamePeer => Err(Refusal::SamePeer),
+            PoolFault::Refused(fault) => Refusal::stop_of(fault),
+            PoolFault::Halted(_) => Err(Refusal::Halted),
+            PoolFault::Hole { .. } => Err(Refusal::Hole),
+            PoolFault::CountFull => Err(Refusal::CountFull),
+            PoolFault::BoardFull => Err(Refusal::BoardFull),
+            PoolFault::Memory => Err(Refusal::Memory),
+        }
+    }
+}
+
+impl From<AllocError> for Refusal {
+    ghost from_gives = { λ _ e. e ≡ Memory };
+
+    fn from(_refused: AllocError) -> Refusal {
+        Refusal::Memory
+    }
+}
+
+impl<T: Drop> From<AllocFailed<T>> for Refusal {
+    ghost from_gives = { λ _ e. e ≡ Memory };
+
+    fn from(_refused: AllocFailed<T>) -> Refusal {
+        Refusal::Memory
+    }
+}
+
+/// The refusal of a line whose document, body or id is refused.
+impl From<DocFault> for Refusal {
+    ghost from_gives = { λ fault e. e ≡ doc_refusal fault };
+
+    fn from(fault: DocFault) -> Refusal {
         match fault {
             DocFault::NotObject => Refusal::NotObject,
             DocFault::NoId => Refusal::NoId,
@@ -220,13 +268,15 @@ impl Refusal {
             DocFault::Memory => Refusal::Memory,
         }
     }
+}
 
-    /// The refusal of a line whose revision id is refused.
-    ///
-    /// An ancestry's two refusals come from no text of a revision id.
-    pub fn of_rev(fault: RevFault) -> Refusal
-        ensures { result ≡ rev_refusal fault }
-    {
+/// The refusal of a line whose revision id is refused.
+///
+/// An ancestry's two refusals come from no text of a revision id.
+impl From<RevFault> for Refusal {
+    ghost from_gives = { λ fault e. e ≡ rev_refusal fault };
+
+    fn from(fault: RevFault) -> Refusal {
         match fault {
             RevFault::BadGeneration => Refusal::BadGeneration,
             RevFault::BadSig => Refusal::BadSig,
@@ -236,11 +286,13 @@ impl Refusal {
             RevFault::Memory => Refusal::Memory,
         }
     }
+}
 
-    /// The refusal of a line whose call a database refused.
-    pub fn of_base(fault: BaseFault) -> Refusal
-        ensures { result ≡ base_refusal fault }
-    {
+/// The refusal of a line whose call a database refused.
+impl From<BaseFault> for Refusal {
+    ghost from_gives = { λ fault e. e ≡ base_refusal fault };
+
+    fn from(fault: BaseFault) -> Refusal {
         match fault {
             BaseFault::Contradiction { .. } => Refusal::Contradiction,
             BaseFault::SeqFull => Refusal::SeqFull,
@@ -255,11 +307,13 @@ impl Refusal {
             BaseFault::Memory => Refusal::Memory,
         }
     }
+}
 
-    /// The refusal of a line whose log or moment is refused.
-    pub fn of_log(fault: LogFault) -> Refusal
-        ensures { result ≡ log_refusal fault }
-    {
+/// The refusal of a line whose log or moment is refused.
+impl From<LogFault> for Refusal {
+    ghost from_gives = { λ fault e. e ≡ log_refusal fault };
+
+    fn from(fault: LogFault) -> Refusal {
         match fault {
             LogFault::BadMoment => Refusal::BadMoment,
             LogFault::Older { .. } => Refusal::Older,
@@ -267,11 +321,13 @@ impl Refusal {
             LogFault::Memory => Refusal::Memory,
         }
     }
+}
 
-    /// The refusal of a line whose call a peer refused.
-    pub fn of_target(fault: TargetFault) -> Refusal
-        ensures { result ≡ target_refusal fault }
-    {
+/// The refusal of a line whose call a peer refused.
+impl From<TargetFault> for Refusal {
+    ghost from_gives = { λ fault e. e ≡ target_refusal fault };
+
+    fn from(fault: TargetFault) -> Refusal {
         match fault {
             TargetFault::SessionExists => Refusal::SessionExists,
             TargetFault::NoSuchBase => Refusal::NoSuchBase,
@@ -294,34 +350,6 @@ impl Refusal {
             TargetFault::BadBatch => Refusal::BadBatch,
             TargetFault::SamePeer => Refusal::SamePeer,
             TargetFault::Memory => Refusal::Memory,
-        }
-    }
-
-    /// How far a replication came that its plan stopped, or the refusal of a line whose replication is refused.
-    pub fn stop_of(fault: TargetFault) -> Result<u64, Refusal>
-        ensures { result ≡ stop_of fault }
-    {
-        match fault {
-            TargetFault::Unfinished { low_water } => Ok(low_water),
-            fault => Err(Refusal::of_target(fault)),
-        }
-    }
-
-    /// How far a run of the pool came that its plan stopped, or the refusal of a line whose run is refused.
-    pub fn run_stop_of(fault: PoolFault) -> Result<u64, Refusal>
-        ensures { result ≡ run_stop_of fault }
-    {
-        match fault {
-            PoolFault::NoWorkers => Err(Refusal::NoWorkers),
-            PoolFault::TooManyWorkers => Err(Refusal::TooManyWorkers),
-            PoolFault::BadBatch => Err(Refusal::BadBatch),
-            PoolFault::SamePeer => Err(Refusal::SamePeer),
-            PoolFault::Refused(fault) => Refusal::stop_of(fault),
-            PoolFault::Halted(_) => Err(Refusal::Halted),
-            PoolFault::Hole { .. } => Err(Refusal::Hole),
-            PoolFault::CountFull => Err(Refusal::CountFull),
-            PoolFault::BoardFull => Err(Refusal::BoardFull),
-            PoolFault::Memory => Err(Refusal::Memory),
         }
     }
 }

@@ -11,7 +11,7 @@ use Rattle.script_databases.proofs.CarryingLemmas.{denied_back, new_last, refuse
 use Rattle.script_databases.proofs.carrying.replicate_watched_at.Goals as goal
 
 pub run_on-sender-requires-clause-seats : goal.run_on-sender-requires-clause-seats
-run_on-sender-requires-clause-seats g c κs within = (omega (arith, c.in-Ok.ensures.ok.2, c.in-Some.ensures.len), new_workers c.in-Ok.board c.in-Ok.seats.items c.pop.new.self.items _ c.in-Ok.ensures.ok.3 c.in-Some.ensures.items (omega (arith, c.in-Ok.ensures.ok.1, c.in-Ok.ensures.ok.2, c.in-Some.ensures.len)))
+run_on-sender-requires-clause-seats g c κs within = (omega (arith, c.in-Ok.ensures.ok.2, c.in-Some.ensures.len), new_workers c.in-Ok.made.0 c.in-Ok.made.1.items c.pop.new.self.items _ c.in-Ok.ensures.ok.3 c.in-Some.ensures.items (omega (arith, c.in-Ok.ensures.ok.1, c.in-Ok.ensures.ok.2, c.in-Some.ensures.len)))
 
 pub put_back-requires-clause-source : goal.put_back-requires-clause-source
 put_back-requires-clause-source g c =
@@ -26,7 +26,7 @@ put_back-requires-clause-target g c =
     ap (λ n. contains_key n c.args.target.now) left.2 ∙ still_there _ c.args.target.now c.args.target.now left.1.1 (still_there m c.args.source.now c.args.target.now left.0.1 c.requires.target)
 
 pub with_reading-requires : goal.with_reading-requires
-with_reading-requires g c = record { came = new_last c.in-Ok.board c.in-Ok.seats.items c.pop.new.self.items c.in-Some.viewer c.in-Ok.ensures.ok.3 c.in-Some.ensures.items }
+with_reading-requires g c = record { came = new_last c.in-Ok.made.0 c.in-Ok.made.1.items c.pop.new.self.items c.in-Some.viewer c.in-Ok.ensures.ok.3 c.in-Some.ensures.items }
 
 pub returns-in-Ok-outcome-clause-carried : goal.returns-in-Ok-outcome-clause-carried
 returns-in-Ok-outcome-clause-carried g c = λ b all.
@@ -71,7 +71,7 @@ returns-clause-carried g c = λ b all.
         ran.target.1,
         ran.fetched.items,
         subst (λ (o : Result Report PoolFault). RunsOn deny_refuses (Unit {0}) Nowhere c.args.plan.now (b.program.deny, given.0.1) (b.program.deny, given.1.1) (b.program.deny, ran.source.1) (b.program.deny, ran.target.1) ran.fetched.items o)
-            c.in-Err.is
+            c.in-Err-outcome.is
             (run_denied (Unit {0}) Nowhere c.args.plan.now b.program.deny given.0 given.1 ran.source ran.target ran.fetched.items ran.outcome (refuses_is b.program.deny es c.args.target.now given.1.0 all there'.1) c.run_on-sender.ensures.runs),
         ap (λ m. let s : State = record { program = b.program; drawn = b.drawn; backups = b.backups; peers = m } in s)
             (written_over (peers_of es) _ _ c.args.source.now c.args.target.now left.0.1 left.1.1 ran.source.1 ran.target.1 left.2 c.put_back.ensures.peers),

@@ -22,7 +22,7 @@ returns-in-Ok-clause-ok c = λ g.
 pub returns-in-Err-clause-answer : goal.returns-in-Err-clause-answer
 returns-in-Err-clause-answer c =
     let there = found_there (λ p. p.1) c.args.names.now.entries c.args.name.now c.args.name.now c.in-Some.peer.now refl c.in-Some.ensures.value in
-    rw (there, c.of_base.ensures) (put_refused c.in-Err.fault _ c.in-Err.ensures.answer)
+    rw (there, c.from.ensures) (put_refused c.in-Err.fault _ c.in-Err.ensures.answer)
 
 pub returns-in-Err-clause-err : goal.returns-in-Err-clause-err
 returns-in-Err-clause-err c =

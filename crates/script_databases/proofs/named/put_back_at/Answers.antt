@@ -47,8 +47,8 @@ returns-in-Err-clause-answer c =
     let there = found_there (λ p. p.1) c.args.names.now.entries c.args.db.now c.args.db.now c.in-Some.peer.now refl c.in-Some.ensures.value in
     let kept = sym c.find_backup.ensures ∙ ap option_copied c.in-Some-find_backup.is in
     elim (copy_refused c.in-Err.fault (restore_answer p b) c.in-Err.ensures.answer) [
-      | inl e ↦ inl ((λ i. put_back_answer (there i) (kept i)) ∙ ap (λ r. put_back_of (restored p b) (told_as target_refusal r)) e ∙ ap (λ r. Err r) (sym c.of_target.ensures))
-      | inr m ↦ inr (c.of_target.ensures ∙ ap target_refusal m)
+      | inl e ↦ inl ((λ i. put_back_answer (there i) (kept i)) ∙ ap (λ r. put_back_of (restored p b) (told_as target_refusal r)) e ∙ ap (λ r. Err r) (sym c.from.ensures))
+      | inr m ↦ inr (c.from.ensures ∙ ap target_refusal m)
     ]
 
 pub returns-in-Err-clause-err : goal.returns-in-Err-clause-err

@@ -39,8 +39,8 @@ returns-in-Err-clause-answer c =
     let free : backup_at c.args.self.now c.args.db.now c.args.name.now ≡ None = kept ∙ none_from (option_copied c.find_backup.result) (sym (some_copied c.find_backup.result) ∙ sym c.is_some.ensures ∙ c.if-is_some.false) in
     let is : backed_answer c.args.self.now c.args.db.now c.args.name.now ≡ told_as target_refusal (backup_answer p) = (λ i. backed_of (there i) (free i)) in
     elim (copy_refused c.in-Err.fault (backup_answer p) c.in-Err.ensures) [
-      | inl e ↦ inl (ap backed_told is ∙ ap (λ r. backed_told (told_as target_refusal r)) e ∙ ap (λ r. Err r) (sym c.of_target.ensures))
-      | inr m ↦ inr (c.of_target.ensures ∙ ap target_refusal m)
+      | inl e ↦ inl (ap backed_told is ∙ ap (λ r. backed_told (told_as target_refusal r)) e ∙ ap (λ r. Err r) (sym c.from.ensures))
+      | inr m ↦ inr (c.from.ensures ∙ ap target_refusal m)
     ]
 
 pub returns-clause-answer : goal.returns-clause-answer
@@ -65,6 +65,6 @@ returns-clause-ok c =
     let free : backup_at c.args.self.now c.args.db.now c.args.name.now ≡ None = kept ∙ none_from (option_copied c.find_backup.result) (sym (some_copied c.find_backup.result) ∙ sym c.is_some.ensures ∙ c.if-is_some.false) in
     let is : backed_answer c.args.self.now c.args.db.now c.args.name.now ≡ told_as target_refusal (backup_answer p) = (λ i. backed_of (there i) (free i)) in
     let made = is ∙ ap (told_as target_refusal) (sym c.in-Ok.ensures) in
-    ap (λ (ks : List NamedBackupValue). state_of (beside_of c.self.inside.settings c.self.inside.drawn ks) c.self.inside.by_name.entries) (c.in-Ok-push.ensures.items ∙ ap (λ (k : NamedBackupValue). c.self.inside.backups.items ++ k ∷ []) c.in-Ok-new.ensures)
+    ap (λ (ks : List NamedBackupValue). state_of (beside_of c.self.inside.settings c.self.inside.drawn ks) c.self.inside.by_name.entries) (c.in_ok-push.ensures.items ∙ ap (λ (k : NamedBackupValue). c.self.inside.backups.items ++ k ∷ []) c.in_ok-copy.ensures)
     ∙ ap (λ (s : State). with_backup s c.args.db.now c.args.name.now c.in-Ok.backup) c.self.view_is
     ∙ sym (ap (backed_by c.args.self.now c.args.db.now c.args.name.now) made)
