@@ -1,5 +1,5 @@
 -- From checks that pass, or don't, to what a word is told.
-use Rattle.std.proofs.Common.{◌≡◌, ◌⊎◌, inl, inr, ℕ, true, false, List, [], ◌++◌, Option, Some, None, Result, Ok, Err, refl, sym, ap, subst, ◌∙◌, is_some}
+use Rattle.std.proofs.Common.{◌≡◌, ◌⊎◌, inl, inr, ℕ, true, false, List, [], ◌++◌, Option, Some, None, Result, Ok, Err, IsErrAnd, refl, sym, ap, subst, ◌∙◌, is_some}
 use Rattle.std.proofs.lemmas.Bool.{true≢false}
 use Rattle.std.specs.FinMap.{contains_key}
 use Rattle.rev_tree.specs.Tree.{TreeValue}
@@ -11,7 +11,7 @@ use Rattle.script_databases.specs.Refusals.{name_of}
 use Rattle.script_databases.specs.declared.refusal.Refusal.{Refusal}
 use Rattle.script_databases.specs.declared.refusal.Refusal.TheVariants as why
 use Rattle.rev_core.specs.Checks.{◌>>=◌, or_refused}
-use Rattle.script_words.specs.Telling.{told_of, Reads, Does}
+use Rattle.script_words.specs.Telling.{told_by, told_of, Reads, Does}
 
 -- ---- checks
 
@@ -58,6 +58,12 @@ pub unless_memory : {L A : Type 0} {answers : Answering State L} {old new : Stat
 unless_memory expected (inl e) s f = in_full (f e)
 unless_memory {answers = answers} {old = old} {new = new} {ask = ask} {refusal = refusal} expected (inr m) s f =
     subst (λ r. MayTell answers old ask (Err (name_of r)) new) (sym m) (subst (λ (x : State). MayTell answers old ask (Err (name_of why.Memory)) x) (sym s) gave_up)
+
+-- an allocation was refused, and that is told
+pub refused_memory : {L A : Type 0} {answers : Answering State L} {old new : State} {ask : L} (r : Result A Refusal) (text : List ℕ) → IsErrAnd r (λ refusal. refusal ≡ why.Memory) → MayTell answers old ask (Err (name_of why.Memory)) new →
+    MayTell answers old ask (told_by r text) new
+refused_memory (Ok done) text h told = absurd h
+refused_memory {answers = answers} {old = old} {new = new} {ask = ask} (Err refusal) text h told = subst (λ r. MayTell answers old ask (Err (name_of r)) new) (sym h) told
 
 -- what a part may be told, the whole may
 pub may_tell : {K L : Type 0} {part : Answering State K} {whole : Answering State L} {old new : State} {k : K} {l : L} {told : Told} → ((t : Told) → part old k t new → whole old l t new) → MayTell part old k told new → MayTell whole old l told new

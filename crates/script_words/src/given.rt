@@ -20,7 +20,7 @@ pub fn read_id(alloc: Global, text: &str) -> Result<DocId, Refusal>
 {
     match DocId::parse(alloc, text) {
         Ok(id) => Ok(id),
-        Err(fault) => Err(Refusal::of_doc(fault)),
+        Err(fault) => Err(Refusal::from(fault)),
     }
 }
 
@@ -37,9 +37,7 @@ fn read_ids(alloc: Global, texts: &Vec<LineValue<'_>>) -> Result<Vec<DocId>, Ref
             Ok(id) => id,
             Err(refusal) => return Err(refusal),
         };
-        let Ok(()) = ids.push(id) else {
-            return Err(Refusal::Memory);
-        };
+        ids.push(id)?;
     }
     Ok(ids)
 }
@@ -50,7 +48,7 @@ fn choose(ids: Vec<DocId>) -> Result<Option<Chosen>, Refusal>
 {
     match Chosen::new(ids) {
         Ok(chosen) => Ok(Some(chosen)),
-        Err(fault) => Err(Refusal::of_doc(fault)),
+        Err(fault) => Err(Refusal::from(fault)),
     }
 }
 
@@ -80,7 +78,7 @@ pub fn read_rev(text: Option<&str>) -> Result<Option<Rev>, Refusal>
     };
     match Rev::parse(text.as_bytes()) {
         Ok(rev) => Ok(Some(rev)),
-        Err(fault) => Err(Refusal::of_rev(fault)),
+        Err(fault) => Err(Refusal::from(fault)),
     }
 }
 
@@ -91,7 +89,7 @@ fn read_content(alloc: Global, value: &LineValue<'_>) -> Result<Body, Refusal>
 {
     match read_line_body(alloc, value) {
         Ok(body) => Ok(body),
-        Err(fault) => Err(Refusal::of_doc(fault)),
+        Err(fault) => Err(Refusal::from(fault)),
     }
 }
 
@@ -116,6 +114,6 @@ pub fn read_document(alloc: Global, doc: Option<&LineValue<'_>>) -> Result<Optio
     };
     match read_line_doc(alloc, value) {
         Ok(doc) => Ok(Some(doc)),
-        Err(fault) => Err(Refusal::of_doc(fault)),
+        Err(fault) => Err(Refusal::from(fault)),
     }
 }

@@ -126,8 +126,9 @@ pub fn run_script<H: AllocGlobal + Threads + Wait + Sync, R: ScriptRead, W: Scri
         × AnswersEnded LinesAnswer (no_databases (program_of settings.now)) taken text state) }
     ensures sent { IsSent result (W.held writer.new) (W.sent writer.new) }
 {
-    let Ok(databases) = Databases::new(rt.alloc(), settings) else {
-        return Err(leave(writer, ScriptFault::Memory));
+    let databases = match Databases::new(rt.alloc(), settings) {
+        Ok(databases) => databases,
+        Err(refused) => return Err(leave(writer, ScriptFault::from(refused))),
     };
     let (ended, databases) = run_on(rt, rt.alloc(), databases, reader, writer);
     mem::forget(databases);

@@ -62,13 +62,9 @@ pub fn serve(
         Ok(chosen) => chosen,
         Err(refusal) => return Err(refusal),
     };
-    let Ok(found) = audit(alloc, source, target, chosen.as_ref()) else {
-        return Err(Refusal::Memory);
-    };
-    match print(alloc, answer, found) {
-        Ok(()) => Ok(()),
-        Err(_) => Err(Refusal::Memory),
-    }
+    let found = audit(alloc, source, target, chosen.as_ref())?;
+    print(alloc, answer, found)?;
+    Ok(())
 }
 
 /// Prints what an audit found.

@@ -46,10 +46,8 @@ pub fn serve(
         Ok(seq) => seq,
         Err(refusal) => return Err(refusal),
     };
-    match print(answer, ask.db, ask.name, seq) {
-        Ok(()) => Ok(()),
-        Err(_) => Err(Refusal::Memory),
-    }
+    print(answer, ask.db, ask.name, seq)?;
+    Ok(())
 }
 
 /// Prints the two names, and the update sequence of the copy.

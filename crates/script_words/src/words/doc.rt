@@ -66,16 +66,12 @@ pub fn serve(
     let Some(rev) = chosen(tree, named) else {
         return Err(Refusal::NoSuchRevision);
     };
-    let Ok(found) = peer.db().document(alloc, &id, rev) else {
-        return Err(Refusal::Memory);
-    };
+    let found = peer.db().document(alloc, &id, rev)?;
     let Some(document) = found else {
         return Err(Refusal::NoSuchRevision);
     };
-    match print(answer, &document) {
-        Ok(()) => Ok(()),
-        Err(_) => Err(Refusal::Memory),
-    }
+    print(answer, &document)?;
+    Ok(())
 }
 
 /// The revision that is named, or the winner where none is.

@@ -79,10 +79,8 @@ pub fn serve(
         Ok(edited) => edited,
         Err(refusal) => return Err(refusal),
     };
-    match print(alloc, answer, ask.db, id.text(), edited) {
-        Ok(()) => Ok(()),
-        Err(_) => Err(Refusal::Memory),
-    }
+    print(alloc, answer, ask.db, id.text(), edited)?;
+    Ok(())
 }
 
 /// Prints the new revision, and the sequence of the change.

@@ -85,19 +85,15 @@ fn load_there(
         Err(refusal) => return Err(refusal),
     };
     let Some(document) = given else {
-        return match print_there(answer, db) {
-            Ok(()) => Ok(()),
-            Err(_) => Err(Refusal::Memory),
-        };
+        print_there(answer, db)?;
+        return Ok(());
     };
     let put = match databases.load(db, &document) {
         Ok(put) => put,
         Err(refusal) => return Err(refusal),
     };
-    match print_put(alloc, answer, db, &document, put) {
-        Ok(()) => Ok(()),
-        Err(_) => Err(Refusal::Memory),
-    }
+    print_put(alloc, answer, db, &document, put)?;
+    Ok(())
 }
 
 /// Makes a database with a UUID: that no other has it is looked at first.
@@ -185,16 +181,10 @@ fn make_empty(
     ensures { MayTell LoadsNew databases.old (record { db = db.now; uuid = uuid; doc = None })
         (told_by result answer.new.items) databases.new }
 {
-    let Ok(peer) = databases.make(alloc, uuid) else {
-        return Err(Refusal::Memory);
-    };
-    let Ok(()) = databases.add(alloc, db, peer) else {
-        return Err(Refusal::Memory);
-    };
-    match print_made(answer, db) {
-        Ok(()) => Ok(()),
-        Err(_) => Err(Refusal::Memory),
-    }
+    let peer = databases.make(alloc, uuid)?;
+    databases.add(alloc, db, peer)?;
+    print_made(answer, db)?;
+    Ok(())
 }
 
 /// Makes a database with a document.
@@ -211,20 +201,14 @@ fn make_with(
     ensures { MayTell LoadsNew databases.old (record { db = db.now; uuid = uuid; doc = Some document.now })
         (told_by result answer.new.items) databases.new }
 {
-    let Ok(mut peer) = databases.make(alloc, uuid) else {
-        return Err(Refusal::Memory);
-    };
+    let mut peer = databases.make(alloc, uuid)?;
     let put = match peer.load(document) {
         Ok(put) => put,
-        Err(fault) => return Err(Refusal::of_base(fault)),
+        Err(fault) => return Err(Refusal::from(fault)),
     };
-    let Ok(()) = databases.add(alloc, db, peer) else {
-        return Err(Refusal::Memory);
-    };
-    match print_put(alloc, answer, db, document, put) {
-        Ok(()) => Ok(()),
-        Err(_) => Err(Refusal::Memory),
-    }
+    databases.add(alloc, db, peer)?;
+    print_put(alloc, answer, db, document, put)?;
+    Ok(())
 }
 
 /// Prints that a database was made.

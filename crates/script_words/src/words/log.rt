@@ -83,20 +83,14 @@ pub fn serve(
         Ok(chosen) => chosen,
         Err(refusal) => return Err(refusal),
     };
-    let Ok(rep) = rep_between(source, target, chosen.as_ref()) else {
-        return Err(Refusal::Memory);
-    };
-    let Ok(log) = log_held(alloc, source, target, ask.side, &rep) else {
-        return Err(Refusal::Memory);
-    };
+    let rep = rep_between(source, target, chosen.as_ref())?;
+    let log = log_held(alloc, source, target, ask.side, &rep)?;
     let text = match write_log(alloc, &rep, &log) {
         Ok(text) => text,
-        Err(fault) => return Err(Refusal::of_log(fault)),
+        Err(fault) => return Err(Refusal::from(fault)),
     };
-    match print(answer, text.as_slice()) {
-        Ok(()) => Ok(()),
-        Err(_) => Err(Refusal::Memory),
-    }
+    print(answer, text.as_slice())?;
+    Ok(())
 }
 
 /// The log that a side holds of the replication of the two.
@@ -111,14 +105,8 @@ fn log_held(
     ensures { IfOk result (λ log. log ≡ log_held side source.now.1 target.now.1 rep.now.chosen) }
 {
     match side {
-        Side::Source => match source.source_log(alloc, rep) {
-            Ok(log) => Ok(log),
-            Err(_) => Err(AllocError),
-        },
-        Side::Target => match target.target_log(alloc, rep) {
-            Ok(log) => Ok(log),
-            Err(_) => Err(AllocError),
-        },
+        Side::Source => source.source_log(alloc, rep),
+        Side::Target => target.target_log(alloc, rep),
     }
 }
 

@@ -155,10 +155,8 @@ pub fn serve<H: Threads + Wait + Sync>(
         Ok(ending) => ending,
         Err(refusal) => return Err(refusal),
     };
-    match print(alloc, answer, plan.session, &ending) {
-        Ok(()) => Ok(()),
-        Err(_) => Err(Refusal::Memory),
-    }
+    print(alloc, answer, plan.session, &ending)?;
+    Ok(())
 }
 
 /// The id of the session that a line asks for, which is drawn where it names none.

@@ -45,10 +45,8 @@ pub fn serve(
         Ok(back) => back,
         Err(refusal) => return Err(refusal),
     };
-    match print(answer, ask.db, ask.name, back) {
-        Ok(()) => Ok(()),
-        Err(_) => Err(Refusal::Memory),
-    }
+    print(answer, ask.db, ask.name, back)?;
+    Ok(())
 }
 
 /// Prints the two names, and the database's update sequence and life.

@@ -1,9 +1,9 @@
 //! `show`: a document's leaves, the winner first, each with its known ancestry.
-ghost use Rattle.std.specs.Prelude.{◌≡◌, ◌++◌, [], OnOk, option_map};
-ghost use Rattle.std.specs.List.{flat_map};
+ghost use Rattle.std.specs.Prelude.{◌≡◌, ◌++◌, [], true, OnOk, option_map};
+ghost use Rattle.std.specs.List.{flat_map, list_all};
 ghost use Rattle.json_values.specs.LineView.{line_view};
 ghost use Rattle.rev_tree.specs.InOrder.{first_of};
-ghost use Rattle.rev_tree.specs.Tree.{is_deleted, leaves};
+ghost use Rattle.rev_tree.specs.Tree.{has, is_deleted, leaves};
 ghost use Rattle.script_engine.specs.Serving.{MayTell};
 ghost use Rattle.script_words.specs.Checks.{needed};
 ghost use Rattle.script_words.specs.Telling.{told_by};
@@ -58,19 +58,15 @@ pub fn serve(
     let Some(tree) = peer.db().tree(&id) else {
         return Err(Refusal::NoSuchDocument);
     };
-    match print(alloc, answer, id.text(), tree) {
-        Ok(()) => Ok(()),
-        Err(_) => Err(Refusal::Memory),
-    }
+    print(alloc, answer, id.text(), tree)?;
+    Ok(())
 }
 
 /// Prints a document's leaves.
 fn print(alloc: Global, answer: &mut Vec<u8>, id: &str, tree: &Tree) -> Result<(), AllocError>
     ensures { OnOk result (answer.new.items ≡ answer.old.items ++ show_text id.now tree.now) }
 {
-    let Ok(leaves) = tree.leaves(alloc) else {
-        return Err(AllocError);
-    };
+    let leaves = tree.leaves(alloc)?;
     push_head(alloc, answer, id, tree, leaves.as_slice())?;
     push_leaves(alloc, answer, tree, leaves.as_slice())
 }
@@ -107,13 +103,14 @@ fn push_winner(answer: &mut Vec<u8>, all: &[Rev]) -> Result<(), AllocError>
     }
 }
 
-/// Prints leaves, each on a line.
+/// Prints revisions of the tree, each on a line.
 fn push_leaves(
     alloc: Global,
     answer: &mut Vec<u8>,
     tree: &Tree,
     leaves: &[Rev],
 ) -> Result<(), AllocError>
+    requires { list_all (has tree.now) leaves.now ≡ true }
     ensures { OnOk result (answer.new.items ≡ answer.old.items ++ flat_map (leaf_line tree.now) leaves.now) }
 {
     for leaf in leaves {
@@ -122,13 +119,12 @@ fn push_leaves(
     Ok(())
 }
 
-/// Prints a leaf. It is in the tree, so only memory can be wanting.
+/// Prints a revision of the tree.
 fn push_leaf(alloc: Global, answer: &mut Vec<u8>, tree: &Tree, leaf: Rev) -> Result<(), AllocError>
+    requires { has tree.now leaf ≡ true }
     ensures { OnOk result (answer.new.items ≡ answer.old.items ++ leaf_line tree.now leaf) }
 {
-    let Ok(ancestry) = tree.ancestry(alloc, leaf) else {
-        return Err(AllocError);
-    };
+    let ancestry = tree.known_ancestry(alloc, leaf)?;
     answer.extend_from_slice(b"leaf ")?;
     push_rev(answer, leaf)?;
     if is_deleted(tree, leaf) {

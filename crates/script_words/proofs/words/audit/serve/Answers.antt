@@ -3,7 +3,7 @@ use Rattle.script_engine.specs.Serving.{in_full, gave_up}
 use Rattle.script_databases.specs.declared.refusal.Refusal.TheVariants as why
 use Rattle.repl_target.specs.logs.Audit.{audit_answer}
 use Rattle.script_words.specs.words.Audit.{audit_text}
-use Rattle.script_words.proofs.TellingLemmas.{passes, stops, is_found, is_missing, reads, printed, unless_memory}
+use Rattle.script_words.proofs.TellingLemmas.{passes, stops, is_found, is_missing, reads, printed, unless_memory, refused_memory}
 use Rattle.script_words.proofs.words.audit.serve.Goals as goal
 
 pub returns-in_default : goal.returns-in_default
@@ -15,16 +15,16 @@ returns-in_default-find c = in_full (reads (Err why.NoDatabase) (passes _ (is_fo
 pub returns-in-Err : goal.returns-in-Err
 returns-in-Err c = unless_memory _ c.in-Err.ensures refl (λ e. reads (Err c.in-Err.refusal) (passes _ (is_found why.NoDatabase (sym c.in-Some.ensures)) ∙ passes _ (is_found why.NoDatabase (sym c.in-Some-find.ensures)) ∙ stops _ e))
 
-pub returns-in_default-audit : goal.returns-in_default-audit
-returns-in_default-audit c = gave_up
-
-pub returns-in-Ok-print : goal.returns-in-Ok-print
-returns-in-Ok-print c =
-    let s = c.in-Some.source.now.1 in
-    let t = c.in-Some-find.target.now.1 in
-    let answer = c.in-Ok-audit.ensures.answer ∙ ap (audit_answer s t) c.as_ref.ensures.value in
-    let text = printed c.in-Ok-print.ensures c.requires (ap audit_text answer) in
-    in_full (reads (Ok c.print.new.answer.items) (passes _ (is_found why.NoDatabase (sym c.in-Some.ensures)) ∙ passes _ (is_found why.NoDatabase (sym c.in-Some-find.ensures)) ∙ passes _ c.in-Ok.ensures ∙ ap Ok (sym text)))
+pub returns-in_err-found : goal.returns-in_err-found
+returns-in_err-found c = refused_memory c.from_residual.result _ c.from_residual.ensures.1 gave_up
 
 pub returns : goal.returns
-returns c = gave_up
+returns c =
+    let s = c.in-Some.source.now.1 in
+    let t = c.in-Some-find.target.now.1 in
+    let answer = c.in_ok-found.ensures.answer ∙ ap (audit_answer s t) c.as_ref.ensures.value in
+    let text = printed c.in_ok-print.ensures c.requires (ap audit_text answer) in
+    in_full (reads (Ok c.print.new.answer.items) (passes _ (is_found why.NoDatabase (sym c.in-Some.ensures)) ∙ passes _ (is_found why.NoDatabase (sym c.in-Some-find.ensures)) ∙ passes _ c.in-Ok.ensures ∙ ap Ok (sym text)))
+
+pub returns-in_err-print : goal.returns-in_err-print
+returns-in_err-print c = refused_memory c.from_residual-in_err-print.result _ c.from_residual-in_err-print.ensures.1 gave_up

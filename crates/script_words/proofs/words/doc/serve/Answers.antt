@@ -6,7 +6,7 @@ use Rattle.couch_base.specs.Messages.{document_at}
 use Rattle.repl_target.specs.peer.Peer.{PeerValue}
 use Rattle.script_engine.specs.Serving.{in_full, gave_up}
 use Rattle.script_databases.specs.declared.refusal.Refusal.TheVariants as why
-use Rattle.script_words.proofs.TellingLemmas.{passes, stops, is_found, is_missing, reads, printed, unless_memory, tree_is}
+use Rattle.script_words.proofs.TellingLemmas.{passes, stops, is_found, is_missing, reads, printed, unless_memory, tree_is, refused_memory}
 use Rattle.script_words.proofs.words.doc.serve.Goals as goal
 
 pub returns-in_default : goal.returns-in_default
@@ -29,8 +29,8 @@ returns-in_default-chosen c =
     in_full (reads (Err why.NoSuchRevision)
     (passes _ (is_found why.NoDatabase (sym c.in-Some.ensures)) ∙ passes _ c.in-Ok.ensures ∙ passes _ (sym c.in-Ok-read_rev.ensures) ∙ passes _ (is_found why.NoSuchDocument some) ∙ stops _ (is_missing why.NoSuchRevision (sym c.in_default-chosen.ensures))))
 
-pub returns-in_default-document : goal.returns-in_default-document
-returns-in_default-document c = gave_up
+pub returns-in_err-found : goal.returns-in_err-found
+returns-in_err-found c = refused_memory c.from_residual.result _ c.from_residual.ensures.1 gave_up
 
 -- the document at the revision, where the database is the peer's
 at_peer : (base : DatabaseValue) (l : PeerValue) (id : List ℕ) (rev : RevId) (o : Option Document) → base ≡ l.db → o ≡ document_at base id rev → document_at l.db id rev ≡ o
@@ -39,19 +39,19 @@ at_peer base l id rev o e h = sym (h ∙ ap (λ (d : DatabaseValue). document_at
 pub returns-in_default-found : goal.returns-in_default-found
 returns-in_default-found c =
     let some = tree_is _ c.in-Some.peer.now.1 c.in-Ok.id _ c.db.ensures.value c.in-Some-tree.ensures.value in
-    let none = at_peer _ c.in-Some.peer.now.1 c.in-Ok.id c.in-Some-chosen.rev None c.db-2.ensures.value (sym c.in_default-found.is ∙ c.in-Ok-document.ensures.document) in
+    let none = at_peer _ c.in-Some.peer.now.1 c.in-Ok.id c.in-Some-chosen.rev None c.db-2.ensures.value (sym c.in_default-found.is ∙ c.in_ok-found.ensures.document) in
     in_full (reads (Err why.NoSuchRevision)
     (passes _ (is_found why.NoDatabase (sym c.in-Some.ensures)) ∙ passes _ c.in-Ok.ensures ∙ passes _ (sym c.in-Ok-read_rev.ensures) ∙ passes _ (is_found why.NoSuchDocument some) ∙ passes _ (is_found why.NoSuchRevision (sym c.in-Some-chosen.ensures))
     ∙ stops _ (is_missing why.NoSuchRevision none)))
 
-pub returns-in-Ok-print : goal.returns-in-Ok-print
-returns-in-Ok-print c =
+pub returns : goal.returns
+returns c =
     let some = tree_is _ c.in-Some.peer.now.1 c.in-Ok.id _ c.db.ensures.value c.in-Some-tree.ensures.value in
-    let document = at_peer _ c.in-Some.peer.now.1 c.in-Ok.id c.in-Some-chosen.rev (Some c.in-Some-found.document) c.db-2.ensures.value (sym c.in-Some-found.is ∙ c.in-Ok-document.ensures.document) in
-    let text = printed c.in-Ok-print.ensures c.requires refl in
+    let document = at_peer _ c.in-Some.peer.now.1 c.in-Ok.id c.in-Some-chosen.rev (Some c.in-Some-found.document) c.db-2.ensures.value (sym c.in-Some-found.is ∙ c.in_ok-found.ensures.document) in
+    let text = printed c.in_ok-print.ensures c.requires refl in
     in_full (reads (Ok c.print.new.answer.items)
     (passes _ (is_found why.NoDatabase (sym c.in-Some.ensures)) ∙ passes _ c.in-Ok.ensures ∙ passes _ (sym c.in-Ok-read_rev.ensures) ∙ passes _ (is_found why.NoSuchDocument some) ∙ passes _ (is_found why.NoSuchRevision (sym c.in-Some-chosen.ensures))
     ∙ passes _ (is_found why.NoSuchRevision document) ∙ ap Ok (sym text)))
 
-pub returns : goal.returns
-returns c = gave_up
+pub returns-in_err-print : goal.returns-in_err-print
+returns-in_err-print c = refused_memory c.from_residual-in_err-print.result _ c.from_residual-in_err-print.ensures.1 gave_up

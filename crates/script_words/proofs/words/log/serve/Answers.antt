@@ -14,7 +14,7 @@ use Rattle.script_databases.specs.declared.refusal.Refusal.TheVariants as why
 use Rattle.script_words.specs.Texts.{ended}
 use Rattle.script_words.specs.words.Log.{log_held}
 use Rattle.script_words.specs.declared.words.log.Side.{Side}
-use Rattle.script_words.proofs.TellingLemmas.{passes, stops, is_found, is_missing, reads, printed, unless_memory}
+use Rattle.script_words.proofs.TellingLemmas.{passes, stops, is_found, is_missing, reads, printed, unless_memory, refused_memory}
 use Rattle.script_words.proofs.words.log.serve.Goals as goal
 
 pub returns-in_default : goal.returns-in_default
@@ -26,17 +26,17 @@ returns-in_default-find c = in_full (reads (Err why.NoDatabase) (passes _ (is_fo
 pub returns-in-Err : goal.returns-in-Err
 returns-in-Err c = unless_memory _ c.in-Err.ensures refl (λ e. reads (Err c.in-Err.refusal) (passes _ (is_found why.NoDatabase (sym c.in-Some.ensures)) ∙ passes _ (is_found why.NoDatabase (sym c.in-Some-find.ensures)) ∙ stops _ e))
 
-pub returns-in_default-rep_between : goal.returns-in_default-rep_between
-returns-in_default-rep_between c = gave_up
+pub returns-in_err-rep : goal.returns-in_err-rep
+returns-in_err-rep c = refused_memory c.from_residual.result _ c.from_residual.ensures.1 gave_up
 
 pub log_held-requires : goal.log_held-requires
 log_held-requires c =
     let s = c.in-Some.source.now.1 in
     let t = c.in-Some-find.target.now.1 in
-    c.in-Ok-rep_between.ensures.id ∙ ap (λ (r : RepId). rep_between s t r.chosen) (sym c.in-Ok-rep_between.ensures.id)
+    c.in_ok-rep.ensures.id ∙ ap (λ (r : RepId). rep_between s t r.chosen) (sym c.in_ok-rep.ensures.id)
 
-pub returns-in_default-log_held : goal.returns-in_default-log_held
-returns-in_default-log_held c = gave_up
+pub returns-in_err-log : goal.returns-in_err-log
+returns-in_err-log c = refused_memory c.from_residual-in_err-log.result _ c.from_residual-in_err-log.ensures.1 gave_up
 
 -- a fault of the log's text
 log_refused : (fault : LogFault) (expected : Result (List ℕ) LogFault) → GivesUnlessMemory (Err fault) expected → (told_as log_refusal expected ≡ Err (log_refusal fault)) ⊎ (log_refusal fault ≡ why.Memory)
@@ -53,23 +53,23 @@ pub returns-in-Err-write_log : goal.returns-in-Err-write_log
 returns-in-Err-write_log c =
     let s = c.in-Some.source.now.1 in
     let t = c.in-Some-find.target.now.1 in
-    let id = c.in-Ok-rep_between.ensures.id ∙ ap (rep_between s t) c.as_ref.ensures.value in
-    let same = same_text c.args.ask.now.side s t c.in-Ok-rep_between.rep c.in-Ok.chosen c.in-Ok-log_held.log id c.in-Ok-log_held.ensures in
-    rw c.of_log.ensures
-    (unless_memory (told_as log_refusal (log_text c.in-Ok-rep_between.rep c.in-Ok-log_held.log)) (log_refused c.in-Err-write_log.fault (log_text c.in-Ok-rep_between.rep c.in-Ok-log_held.log) c.in-Err-write_log.ensures.answer) refl
+    let id = c.in_ok-rep.ensures.id ∙ ap (rep_between s t) c.as_ref.ensures.value in
+    let same = same_text c.args.ask.now.side s t c.in_ok-rep.rep c.in-Ok.chosen c.in_ok-log.log id c.in_ok-log.ensures in
+    rw c.from.ensures
+    (unless_memory (told_as log_refusal (log_text c.in_ok-rep.rep c.in_ok-log.log)) (log_refused c.in-Err-write_log.fault (log_text c.in_ok-rep.rep c.in_ok-log.log) c.in-Err-write_log.ensures.answer) refl
     (λ e. reads (Err (log_refusal c.in-Err-write_log.fault))
     (passes _ (is_found why.NoDatabase (sym c.in-Some.ensures)) ∙ passes _ (is_found why.NoDatabase (sym c.in-Some-find.ensures)) ∙ passes _ c.in-Ok.ensures ∙ stops _ (ap (told_as log_refusal) (sym same) ∙ e))))
 
-pub returns-in-Ok-print : goal.returns-in-Ok-print
-returns-in-Ok-print c =
+pub returns : goal.returns
+returns c =
     let s = c.in-Some.source.now.1 in
     let t = c.in-Some-find.target.now.1 in
-    let id = c.in-Ok-rep_between.ensures.id ∙ ap (rep_between s t) c.as_ref.ensures.value in
-    let same = same_text c.args.ask.now.side s t c.in-Ok-rep_between.rep c.in-Ok.chosen c.in-Ok-log_held.log id c.in-Ok-log_held.ensures in
-    let text = printed c.in-Ok-print.ensures c.requires (ap ended c.as_slice.ensures.value) in
+    let id = c.in_ok-rep.ensures.id ∙ ap (rep_between s t) c.as_ref.ensures.value in
+    let same = same_text c.args.ask.now.side s t c.in_ok-rep.rep c.in-Ok.chosen c.in_ok-log.log id c.in_ok-log.ensures in
+    let text = printed c.in_ok-print.ensures c.requires (ap ended c.as_slice.ensures.value) in
     in_full (reads (Ok c.print.new.answer.items)
     (passes _ (is_found why.NoDatabase (sym c.in-Some.ensures)) ∙ passes _ (is_found why.NoDatabase (sym c.in-Some-find.ensures)) ∙ passes _ c.in-Ok.ensures
     ∙ passes _ (ap (told_as log_refusal) (sym same ∙ sym c.in-Ok-write_log.ensures.answer)) ∙ ap Ok (sym text)))
 
-pub returns : goal.returns
-returns c = gave_up
+pub returns-in_err-print : goal.returns-in_err-print
+returns-in_err-print c = refused_memory c.from_residual-in_err-print.result _ c.from_residual-in_err-print.ensures.1 gave_up

@@ -5,7 +5,7 @@ use Rattle.script_databases.specs.declared.refusal.Refusal.TheVariants as why
 use Rattle.script_words.specs.Telling.{told_of}
 use Rattle.script_words.specs.words.Replicate.{Replicates, replicate_asked, ending_line}
 use Rattle.script_words.proofs.ReplicateLemmas.{replicates, replicated, unchosen, too_late}
-use Rattle.script_words.proofs.TellingLemmas.{passes, stops, is_found, is_missing, is_there, is_absent, printed}
+use Rattle.script_words.proofs.TellingLemmas.{passes, stops, is_found, is_missing, is_there, is_absent, printed, refused_memory}
 use Rattle.script_words.proofs.words.replicate.serve.Goals as goal
 
 pub returns-then-not-has : goal.returns-then-not-has
@@ -43,17 +43,17 @@ returns-in-Err-carry g c =
     in_full (replicated c.args.databases.now c.session_asked-session.new.databases _ ask c.session_asked-session.result c.in-Ok.chosen p.plan c.carry.result _ c.session_asked-session.ensures.state c.session_asked-session.ensures.session c.in-Ok.ensures p.ensures.ok.0 p.ensures.ok.1 c.carry.ensures
     (sym (ap told_of (stops _ c.in-Err-carry.is))))
 
-pub returns-in-Ok-print : goal.returns-in-Ok-print
-returns-in-Ok-print g c =
-    let ask = replicate_asked c.args.ask.now in
-    let p = c.in-Ok-plan_asked in
-    in_full (replicated c.args.databases.now c.session_asked-session.new.databases _ ask c.session_asked-session.result c.in-Ok.chosen p.plan c.carry.result _ c.session_asked-session.ensures.state c.session_asked-session.ensures.session c.in-Ok.ensures p.ensures.ok.0 p.ensures.ok.1 c.carry.ensures
-    (ap Ok (printed c.in-Ok-print.ensures c.requires refl) ∙ sym (ap told_of (passes _ c.in-Ok-carry.is))))
-
 pub returns : goal.returns
 returns g c =
     let ask = replicate_asked c.args.ask.now in
     let p = c.in-Ok-plan_asked in
-    served_only (ending_line p.plan.session c.in-Ok-carry.ending)
+    in_full (replicated c.args.databases.now c.session_asked-session.new.databases _ ask c.session_asked-session.result c.in-Ok.chosen p.plan c.carry.result _ c.session_asked-session.ensures.state c.session_asked-session.ensures.session c.in-Ok.ensures p.ensures.ok.0 p.ensures.ok.1 c.carry.ensures
+    (ap Ok (printed c.in_ok-print.ensures c.requires refl) ∙ sym (ap told_of (passes _ c.in-Ok-carry.is))))
+
+pub returns-in_err-print : goal.returns-in_err-print
+returns-in_err-print g c =
+    let ask = replicate_asked c.args.ask.now in
+    let p = c.in-Ok-plan_asked in
+    refused_memory c.from_residual.result _ c.from_residual.ensures.1 (served_only (ending_line p.plan.session c.in-Ok-carry.ending)
     (replicated c.args.databases.now c.session_asked-session.new.databases _ ask c.session_asked-session.result c.in-Ok.chosen p.plan c.carry.result _ c.session_asked-session.ensures.state c.session_asked-session.ensures.session c.in-Ok.ensures p.ensures.ok.0 p.ensures.ok.1 c.carry.ensures
-    (sym (ap told_of (passes _ c.in-Ok-carry.is))))
+    (sym (ap told_of (passes _ c.in-Ok-carry.is)))))

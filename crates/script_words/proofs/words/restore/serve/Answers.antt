@@ -1,17 +1,17 @@
 use Rattle.std.proofs.Common.{refl, ◌∙◌}
 use Rattle.script_engine.specs.Serving.{in_full, served_only}
 use Rattle.script_words.specs.words.Restore.{restored_line}
-use Rattle.script_words.proofs.TellingLemmas.{passes, stops, does, does_nothing, both, printed, unless_memory}
+use Rattle.script_words.proofs.TellingLemmas.{passes, stops, does, does_nothing, both, printed, unless_memory, refused_memory}
 use Rattle.script_words.proofs.words.restore.serve.Goals as goal
 
 pub returns-in-Err : goal.returns-in-Err
 returns-in-Err c = unless_memory _ c.in-Err.ensures.answer c.in-Err.ensures.err (λ e. does_nothing c.in-Err.refusal (stops _ e) c.in-Err.ensures.err)
 
-pub returns-in-Ok-print : goal.returns-in-Ok-print
-returns-in-Ok-print c =
-    in_full (does c.args.databases.now c.print.new.answer.items (passes _ c.in-Ok.ensures.answer ∙ both (printed c.in-Ok-print.ensures c.requires refl) c.in-Ok.ensures.ok))
+pub returns : goal.returns
+returns c =
+    in_full (does c.args.databases.now c.print.new.answer.items (passes _ c.in-Ok.ensures.answer ∙ both (printed c.in_ok-print.ensures c.requires refl) c.in-Ok.ensures.ok))
 
-pub returns-in-Err-print : goal.returns-in-Err-print
-returns-in-Err-print c =
+pub returns-in_err-print : goal.returns-in_err-print
+returns-in_err-print c =
     let line = restored_line c.args.ask.now.db.now c.args.ask.now.name.now c.in-Ok.back in
-    served_only line (does c.args.databases.now line (passes _ c.in-Ok.ensures.answer ∙ both refl c.in-Ok.ensures.ok))
+    refused_memory c.from_residual.result _ c.from_residual.ensures.1 (served_only line (does c.args.databases.now line (passes _ c.in-Ok.ensures.answer ∙ both refl c.in-Ok.ensures.ok)))
