@@ -1,7 +1,7 @@
 //! The command line: what its words set, or why they set nothing.
 ghost use Rattle.std.specs.Prelude.{◌≡◌, ℕ, IfOk, IfErr, map, string_bytes, codes, true, false};
 ghost use Rattle.clap.specs.Words.{HasKind, app_of, fault_of, found_of, first_value, kind_of, one_text, rule_of};
-ghost use Rattle.couch_replicate.specs.declared.options.NoSettings.TheVariants.{NoNumber};
+ghost use Rattle.couch_replicate.specs.declared.options.NoSettings.TheVariants.{NoNumber, Memory};
 ghost use Rattle.couch_replicate.specs.Options.{AreSettings, IsNumber, Refuses, Says, deny_option, help_option, number_option, options, program_app, SetNothing};
 
 use clap::{Arg, ArgAction, ArgMatches, Command, Error, value_parser};
@@ -69,15 +69,20 @@ pub enum NoSettings {
     Memory,
 }
 
+impl From<AllocError> for NoSettings {
+    ghost from_gives = { λ _ e. e ≡ Memory };
+
+    fn from(_refused: AllocError) -> NoSettings {
+        NoSettings::Memory
+    }
+}
+
 /// The settings that the words of a command line give, the program's name first.
 pub fn read_words<'a>(alloc: Global, words: &'a [String]) -> Result<Settings, NoSettings>
     ensures ok { IfOk result (λ s. Says (map string_bytes words.entry.now) s) }
     ensures err { IfErr result (λ why. Refuses (map string_bytes words.entry.now) why) }
 {
-    let command = match command(alloc) {
-        Ok(command) => command,
-        Err(_) => return Err(NoSettings::Memory),
-    };
+    let command = command(alloc)?;
     let matches = match command.try_get_matches_from(words) {
         Ok(matches) => matches,
         Err(error) => return Err(NoSettings::Words(error)),
@@ -95,10 +100,7 @@ fn settings_of(alloc: Global, matches: &ArgMatches<'_>) -> Result<Settings, NoSe
     ensures err { IfErr result (SetNothing (first_value (found_of matches.now)) (one_text (found_of matches.now))) }
 {
     let deny = match matches.get_str("deny") {
-        Some(prefix) => match String::from_str(alloc, prefix) {
-            Ok(deny) => Some(deny),
-            Err(_) => return Err(NoSettings::Memory),
-        },
+        Some(prefix) => Some(String::from_str(alloc, prefix)?),
         None => None,
     };
     let seed = match number_of(matches, "seed", 0) {

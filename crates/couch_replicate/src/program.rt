@@ -26,10 +26,7 @@ pub fn run_program<H: AllocGlobal + Env + Input + Print + Eprint + Threads + Wai
 {
     match words_of(rt) {
         Ok(words) => tell(rt, &run_standard(rt, words.as_slice())),
-        Err(error) if error.kind() == io::ErrorKind::OutOfMemory => tell_fault(
-            rt,
-            &Err(ScriptFault::Memory),
-        ),
+        Err(error) if error.kind() == io::ErrorKind::OutOfMemory => tell_fault(rt, &no_memory()),
         Err(error) => {
             let _ = eprintln!(rt; "error: {error}");
             BAD_COMMAND_LINE
@@ -62,7 +59,7 @@ fn tell<H: Print + Eprint>(rt: &H, ended: &Ended) -> u8
     match ended {
         Ended::NotRun(NoSettings::Words(error)) => tell_words(rt, error),
         Ended::NotRun(NoSettings::NoNumber) => BAD_COMMAND_LINE,
-        Ended::NotRun(NoSettings::Memory) => tell_fault(rt, &Err(ScriptFault::Memory)),
+        Ended::NotRun(NoSettings::Memory) => tell_fault(rt, &no_memory()),
         Ended::Ran(ended) => tell_fault(rt, ended),
     }
 }
@@ -72,7 +69,7 @@ fn tell_words<H: Print + Eprint>(rt: &H, error: &Error) -> u8
     ensures { result ≡ kind_status (kind_of error.now) }
 {
     if error.kind() == ErrorKind::OutOfMemory {
-        return tell_fault(rt, &Err(ScriptFault::Memory));
+        return tell_fault(rt, &no_memory());
     }
     let _ = error.print(rt);
     if error.use_stderr() {
@@ -80,6 +77,13 @@ fn tell_words<H: Print + Eprint>(rt: &H, error: &Error) -> u8
     } else {
         0
     }
+}
+
+/// How a run ended for which memory was wanting before it began.
+fn no_memory() -> Result<bool, ScriptFault>
+    ensures { status_of result ≡ 3 }
+{
+    Err(ScriptFault::Memory)
 }
 
 /// Tells a fault, and gives the exit status.

@@ -34,19 +34,19 @@ nothing_said words first one Memory f g h = tt
 
 pub returns-in-Ok-settings_of-clause-ok : goal.returns-in-Ok-settings_of-clause-ok
 returns-in-Ok-settings_of-clause-ok c =
-    let m = c.in-Ok-try_get_matches_from.matches in
-    let simple : is_simple (app_of c.in-Ok.command) ≡ true = ap is_simple c.in-Ok.ensures ∙ options_simple in
-    let rows : rows_of (found_of m) ≡ matches_of options (map string_bytes c.args.words.now) = (c.in-Ok-try_get_matches_from.ensures.matches simple).0 ∙ ap (λ a. matches_of a (map string_bytes c.args.words.now)) c.in-Ok.ensures in
+    let m = c.in-Ok.matches in
+    let simple : is_simple (app_of c.in_ok-command.command) ≡ true = ap is_simple c.in_ok-command.ensures ∙ options_simple in
+    let rows : rows_of (found_of m) ≡ matches_of options (map string_bytes c.args.words.now) = (c.in-Ok.ensures.matches simple).0 ∙ ap (λ a. matches_of a (map string_bytes c.args.words.now)) c.in_ok-command.ensures in
     by_rows (first_value (found_of m)) (one_text (found_of m)) _ _ c.in-Ok-settings_of.settings (λ id. first_value-rows (found_of m) id ∙ ap (first_of id) rows) (λ id. one_text-rows (found_of m) id ∙ ap (one_of id) rows) c.in-Ok-settings_of.ensures.ok
 
-pub returns-in-Err-try_get_matches_from-clause-err : goal.returns-in-Err-try_get_matches_from-clause-err
-returns-in-Err-try_get_matches_from-clause-err c =
-    let free : is_simple_and_free (app_of c.in-Ok.command) ≡ true = ap is_simple_and_free c.in-Ok.ensures ∙ options_free in
-    subst (λ a. HasKind (fault_of a (map string_bytes c.args.words.now)) c.in-Err-try_get_matches_from.error) c.in-Ok.ensures (c.in-Err-try_get_matches_from.ensures.kinds free)
+pub returns-in-Err-clause-err : goal.returns-in-Err-clause-err
+returns-in-Err-clause-err c =
+    let free : is_simple_and_free (app_of c.in_ok-command.command) ≡ true = ap is_simple_and_free c.in_ok-command.ensures ∙ options_free in
+    subst (λ a. HasKind (fault_of a (map string_bytes c.args.words.now)) c.in-Err.error) c.in_ok-command.ensures (c.in-Err.ensures.kinds free)
 
 pub returns-clause-err : goal.returns-clause-err
 returns-clause-err c =
-    let m = c.in-Ok-try_get_matches_from.matches in
-    let simple : is_simple (app_of c.in-Ok.command) ≡ true = ap is_simple c.in-Ok.ensures ∙ options_simple in
-    let rows : rows_of (found_of m) ≡ matches_of options (map string_bytes c.args.words.now) = (c.in-Ok-try_get_matches_from.ensures.matches simple).0 ∙ ap (λ a. matches_of a (map string_bytes c.args.words.now)) c.in-Ok.ensures in
+    let m = c.in-Ok.matches in
+    let simple : is_simple (app_of c.in_ok-command.command) ≡ true = ap is_simple c.in_ok-command.ensures ∙ options_simple in
+    let rows : rows_of (found_of m) ≡ matches_of options (map string_bytes c.args.words.now) = (c.in-Ok.ensures.matches simple).0 ∙ ap (λ a. matches_of a (map string_bytes c.args.words.now)) c.in_ok-command.ensures in
     nothing_said (map string_bytes c.args.words.now) (first_value (found_of m)) (one_text (found_of m)) c.in-Err-settings_of.why (λ id. first_value-rows (found_of m) id ∙ ap (first_of id) rows) (λ id. one_text-rows (found_of m) id ∙ ap (one_of id) rows) c.in-Err-settings_of.ensures.err
