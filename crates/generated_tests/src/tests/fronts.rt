@@ -125,6 +125,7 @@ fn seventy_thousand_windows(rt: HostRuntime) {
     many(&rt, &mut front, 70_000);
     finish_odd(&rt, &mut front, 35_000);
     assert!(rt; front.range_count() == 35_000 && front.low_water() == 0);
+    front.reserve().expect(&rt, "room for one range more");
     finish_even(&rt, &mut front, 35_000);
     assert!(rt; front.range_count() == 0 && front.low_water() == 140_000);
 }
