@@ -230,6 +230,28 @@ pub(crate) fn expect(rt: &impl Abort, alloc: Global, lists: &[Acts], told: Told)
     tell(rt, alloc, &mut world, lists, told);
 }
 
+/// Loads so many documents at the source: d0, d1 and so on, each at 1-a.
+fn load_many(alloc: Global, world: &mut World<Rules>, count: u64) -> Option<()> {
+    for number in 0..count {
+        let text = format!(in alloc; r#"{{"_id":"d{number}","_rev":"1-a"}}"#).ok()?;
+        take(alloc, world, &[Act::LoadSource(text.as_str())])?;
+    }
+    Some(())
+}
+
+/// Takes lists of steps in a world whose source holds so many documents, and asserts what its questions are answered.
+pub(crate) fn expect_of_many(
+    rt: &impl Abort,
+    alloc: Global,
+    count: u64,
+    lists: &[Acts],
+    told: Told,
+) {
+    let mut world = world(rt, alloc);
+    load_many(alloc, &mut world, count).expect(rt, "the documents");
+    tell(rt, alloc, &mut world, lists, told);
+}
+
 /// Asserts that two peers of one uuid make no world.
 pub(crate) fn refuse_one(rt: &impl Abort, alloc: Global) {
     let (source, target) = (peer(alloc, 1), peer(alloc, 1));
