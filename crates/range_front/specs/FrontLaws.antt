@@ -1,12 +1,11 @@
 -- Laws of fronts, for the crates above: docs/PROFILE.md, "Windows and low water".
-use Rattle.std.proofs.Common.{◌≡◌, ◌⊎◌, inl, inr, ℕ, ◌<◌, ◌≤◌, ◌^◌, Bool, true, false, ◌&&◌, ◌||◌, ◌==◌, [], ◌∷◌, ◌++◌, nat_le, map, cond, if◌then◌else◌, is_ok, Result, Ok, Err, IsOk, refl, sym, ap, ◌∙◌, arith}
-use Rattle.std.proofs.lemmas.Bool.{cond-true, cond-false, le-leb, lt-leb, leb-false, both_ways, eqb-true, eq-eqb, and_parts, and_from, or_cases, or_left, or_right}
+use Rattle.std.proofs.Common.{◌≡◌, ◌⊎◌, inl, inr, ℕ, ◌<◌, ◌≤◌, ◌^◌, true, false, ◌&&◌, ◌||◌, ◌==◌, [], ◌∷◌, ◌++◌, map, Ok, Err, sym, ap, ◌∙◌, arith}
+use Rattle.std.proofs.lemmas.Bool.{eqb-true, and_parts, or_cases}
 use Rattle.std.specs.List.{list_any}
 use Rattle.std.proofs.lemmas.List.{map_push}
-use Rattle.range_front.specs.declared.fault.FrontFault.{FrontFault}
 use Rattle.range_front.specs.declared.fault.FrontFault.TheVariants as faults
-use Rattle.range_front.specs.Front.{FrontValue, Span, spans, bounds, is_window, is_done, all_done, end_of, low_water, range_count, no_windows, appended, append_answer, finished, finished_from, finish_answer, IsConsecutive, IsFront}
-use Rattle.range_front.specs.WindowLaws.{low_in-is, spans-consecutive_from, window-within, window-bounds, done-window, done-all, from-le-end, from-le-low, low-le-end, low-is-end, done-under_low, done-at_low, reached-in, low-all_done, all_done-low, run_count-above, run_count-low, run_count-append, run_count-all_done, end-append, Rises-append, spans-append, low-append, done-append, window-append, finished-no_window, finished-done, end-finished, Rises-finished, bounds-finished_from, window-finished_from, done-finished_from, low-finished}
+use Rattle.range_front.specs.Front.{FrontValue, Span, spans, bounds, is_window, is_done, all_done, end_of, low_water, range_count, no_windows, appended, finished, finished_from, finish_answer, IsConsecutive, IsFront}
+use Rattle.range_front.specs.WindowLaws.{low_in-is, spans-consecutive_from, window-within, window-bounds, done-window, from-le-low, low-le-end, low-is-end, done-under_low, reached-in, low-all_done, all_done-low, run_count-above, run_count-low, end-append, Rises-append, spans-append, low-append, done-append, end-finished, Rises-finished, bounds-finished_from, done-finished_from, low-finished}
 
 -- ---- the law is kept
 
@@ -31,9 +30,6 @@ IsFront-finished f lo hi front =
 
 pub spans-consecutive : (f : FrontValue) → IsFront f → IsConsecutive f.start (spans f)
 spans-consecutive f front = spans-consecutive_from f.start f.windows front.rises
-
-pub start-le-end_of : (f : FrontValue) → IsFront f → f.start ≤ end_of f
-start-le-end_of f front = from-le-end f.start f.windows front.rises
 
 -- a window lies between the start and the end, and isn't empty
 pub is_window-within : (f : FrontValue) (lo hi : ℕ) → IsFront f → is_window f lo hi ≡ true → (f.start ≤ lo) × (lo < hi) × (hi ≤ end_of f)
@@ -62,10 +58,6 @@ low_water-is_end f = rw low_in-is (low-is-end f.start f.windows)
 pub is_done-under_low_water : (f : FrontValue) (lo hi : ℕ) → IsFront f → is_window f lo hi ≡ true → hi ≤ low_water f → is_done f lo hi ≡ true
 is_done-under_low_water f lo hi front window under = done-under_low f.start f.windows lo hi front.rises window (rw low_in-is at under)
 
--- a window that begins at the low water isn't done: no longer front is
-pub is_done-at_low_water : (f : FrontValue) (hi : ℕ) → IsFront f → is_done f (low_water f) hi ≡ false
-is_done-at_low_water f hi front = rw low_in-is (done-at_low f.start f.windows hi front.rises)
-
 -- a sequence above the start and at or under the low water lies in a window that is done
 pub reached : (f : FrontValue) (q : ℕ) → IsFront f → f.start < q → q ≤ low_water f → (lo : ℕ) × (hi : ℕ) × (lo < q) × (q ≤ hi) × (is_done f lo hi ≡ true)
 reached f q front above under = reached-in f.start f.windows q front.rises above (rw low_in-is at under)
@@ -77,18 +69,12 @@ low_water-all_done f all = low_in-is f.start f.windows ∙ low-all_done f.start 
 pub all_done-at_end : (f : FrontValue) → IsFront f → low_water f ≡ end_of f → all_done f ≡ true
 all_done-at_end f front all = all_done-low f.start f.windows front.rises (sym (low_in-is f.start f.windows) ∙ all)
 
-pub is_done-all_done : (f : FrontValue) (lo hi : ℕ) → all_done f ≡ true → is_window f lo hi ≡ true → is_done f lo hi ≡ true
-is_done-all_done f lo hi all window = done-all f.start f.windows lo hi all window
-
 -- ---- the ranges above the low water
 
 -- where there are none, the low water has reached each done window
 pub range_count-none : (f : FrontValue) (lo hi : ℕ) → IsFront f → range_count f ≡ 0 → is_done f lo hi ≡ true → hi ≤ low_water f
 range_count-none f lo hi front none done =
     rw low_in-is (run_count-low f.start f.windows lo hi front.rises (sym (run_count-above f.windows) ∙ none) done)
-
-pub range_count-all_done : (f : FrontValue) → all_done f ≡ true → range_count f ≡ 0
-range_count-all_done f all = run_count-above f.windows ∙ run_count-all_done f.windows all
 
 -- ---- a window appended
 
@@ -101,9 +87,6 @@ spans-appended f hi = spans-append f.start f.windows (record { hi = hi; done = f
 pub bounds-appended : (f : FrontValue) (hi : ℕ) → bounds (appended f hi) ≡ bounds f ++ (end_of f, hi) ∷ []
 bounds-appended f hi = ap (map (λ (s : Span). (s.lo, s.hi))) (spans-appended f hi) ∙ map_push (λ (s : Span). (s.lo, s.hi)) (spans f) (record { lo = end_of f; hi = hi; done = false })
 
-pub is_window-appended : (f : FrontValue) (hi a b : ℕ) → is_window (appended f hi) a b ≡ (is_window f a b || ((end_of f == a) && (hi == b)))
-is_window-appended f hi a b = window-append f.start f.windows hi a b
-
 pub is_done-appended : (f : FrontValue) (hi a b : ℕ) → is_done (appended f hi) a b ≡ is_done f a b
 is_done-appended f hi a b = done-append f.start f.windows hi a b
 
@@ -111,40 +94,17 @@ pub low_water-appended : (f : FrontValue) (hi : ℕ) → low_water (appended f h
 low_water-appended f hi =
     low_in-is f.start (f.windows ++ record { hi = hi; done = false } ∷ []) ∙ low-append f.start f.windows hi ∙ sym (low_in-is f.start f.windows)
 
-pub range_count-appended : (f : FrontValue) (hi : ℕ) → range_count (appended f hi) ≡ range_count f
-range_count-appended f hi =
-    run_count-above (f.windows ++ record { hi = hi; done = false } ∷ []) ∙ run_count-append true f.windows hi ∙ sym (run_count-above f.windows)
-
 -- ---- a window finished
 
 pub end_of-finished : (f : FrontValue) (lo hi : ℕ) → end_of (finished f lo hi) ≡ end_of f
 end_of-finished f lo hi = end-finished f.start f.windows lo hi
 
--- where `finish` is refused, nothing would change
-pub finished-no_such_window : (f : FrontValue) (lo hi : ℕ) → is_window f lo hi ≡ false → finished f lo hi ≡ f
-finished-no_such_window f lo hi none = ap (λ ws. record f { windows = ws }) (finished-no_window f.start f.windows lo hi none)
-
-pub finished-already_done : (f : FrontValue) (lo hi : ℕ) → IsFront f → is_done f lo hi ≡ true → finished f lo hi ≡ f
-finished-already_done f lo hi front done = ap (λ ws. record f { windows = ws }) (finished-done f.start f.windows lo hi front.rises done)
-
 pub bounds-finished : (f : FrontValue) (lo hi : ℕ) → bounds (finished f lo hi) ≡ bounds f
 bounds-finished f lo hi = bounds-finished_from f.start f.windows lo hi
-
-pub is_window-finished : (f : FrontValue) (lo hi a b : ℕ) → is_window (finished f lo hi) a b ≡ is_window f a b
-is_window-finished f lo hi a b = window-finished_from f.start f.windows lo hi a b
 
 -- done afterwards is what was done, and the finished window
 pub is_done-finished : (f : FrontValue) (lo hi a b : ℕ) → is_done (finished f lo hi) a b ≡ (is_done f a b || (is_window f lo hi && ((lo == a) && (hi == b))))
 is_done-finished f lo hi a b = done-finished_from f.start f.windows lo hi a b
-
-pub is_done-finished_kept : (f : FrontValue) (lo hi a b : ℕ) → is_done f a b ≡ true → is_done (finished f lo hi) a b ≡ true
-is_done-finished_kept f lo hi a b done =
-    is_done-finished f lo hi a b ∙ or_left (is_done f a b) (is_window f lo hi && ((lo == a) && (hi == b))) done
-
-pub is_done-finished_same : (f : FrontValue) (lo hi : ℕ) → is_window f lo hi ≡ true → is_done (finished f lo hi) lo hi ≡ true
-is_done-finished_same f lo hi window =
-    let same = and_from (lo == lo) (hi == hi) (eq-eqb lo lo refl) (eq-eqb hi hi refl) in
-    is_done-finished f lo hi lo hi ∙ or_right (is_done f lo hi) (is_window f lo hi && ((lo == lo) && (hi == hi))) (and_from (is_window f lo hi) ((lo == lo) && (hi == hi)) window same)
 
 -- what is done afterwards was done, or is the finished window
 pub is_done-finished_cases : (f : FrontValue) (lo hi a b : ℕ) → is_done (finished f lo hi) a b ≡ true → (is_done f a b ≡ true) ⊎ ((lo ≡ a) × (hi ≡ b))
@@ -162,12 +122,6 @@ low_water-finished f lo hi front =
 
 -- ---- what the answers say
 
-pub append_answer-not_rising : (f : FrontValue) (hi : ℕ) → hi ≤ end_of f → append_answer f hi ≡ Err (faults.NotRising (end_of f))
-append_answer-not_rising f hi below = cond-true (nat_le hi (end_of f)) (Err (faults.NotRising (end_of f))) (Ok tt) (le-leb hi (end_of f) below)
-
-pub append_answer-ok : (f : FrontValue) (hi : ℕ) → end_of f < hi → append_answer f hi ≡ Ok tt
-append_answer-ok f hi above = cond-false (nat_le hi (end_of f)) (Err (faults.NotRising (end_of f))) (Ok tt) (lt-leb hi (end_of f) above)
-
 pub finish_answer-no_window : (f : FrontValue) (lo hi : ℕ) → is_window f lo hi ≡ false → finish_answer f lo hi ≡ Err faults.NoSuchWindow
 finish_answer-no_window f lo hi none = rw none
 
@@ -176,38 +130,3 @@ finish_answer-done f lo hi done = rw (is_window-is_done f lo hi done, done)
 
 pub finish_answer-ok : (f : FrontValue) (lo hi : ℕ) → is_window f lo hi ≡ true → is_done f lo hi ≡ false → finish_answer f lo hi ≡ Ok tt
 finish_answer-ok f lo hi window open_yet = rw (window, open_yet)
-
--- each answer, with what it says of the front
-append_at : (f : FrontValue) (hi : ℕ) (b : Bool) → nat_le hi (end_of f) ≡ b → is_ok {T = Unit {0}} {E = FrontFault} (cond b (Err (faults.NotRising (end_of f))) (Ok tt)) ≡ true → end_of f < hi
-append_at f hi true e r = absurd (both_ways false refl r)
-append_at f hi false e r = leb-false hi (end_of f) e
-
-pub at_append_ok : (f : FrontValue) (hi : ℕ) → IsOk (append_answer f hi) → end_of f < hi
-at_append_ok f hi ok = append_at f hi (nat_le hi (end_of f)) refl ok
-
-abbrev finish_at : Bool → Bool → Result (Unit {0}) FrontFault
-finish_at window done = if window then (if done then Err faults.AlreadyDone else Ok tt) else Err faults.NoSuchWindow
-
-finish_at-ok : (w d : Bool) → IsOk (finish_at w d) → (w ≡ true) × (d ≡ false)
-finish_at-ok true true r = absurd (both_ways false refl r)
-finish_at-ok true false r = (refl, refl)
-finish_at-ok false d r = absurd (both_ways false refl r)
-
-finish_at-none : (w d : Bool) → finish_at w d ≡ Err faults.NoSuchWindow → w ≡ false
-finish_at-none true true r = cc
-finish_at-none true false r = cc
-finish_at-none false d r = refl
-
-finish_at-done : (w d : Bool) → finish_at w d ≡ Err faults.AlreadyDone → d ≡ true
-finish_at-done true true r = refl
-finish_at-done true false r = cc
-finish_at-done false d r = cc
-
-pub at_finish_ok : (f : FrontValue) (lo hi : ℕ) → IsOk (finish_answer f lo hi) → (is_window f lo hi ≡ true) × (is_done f lo hi ≡ false)
-at_finish_ok f lo hi ok = finish_at-ok (is_window f lo hi) (is_done f lo hi) ok
-
-pub at_no_such_window : (f : FrontValue) (lo hi : ℕ) → finish_answer f lo hi ≡ Err faults.NoSuchWindow → is_window f lo hi ≡ false
-at_no_such_window f lo hi e = finish_at-none (is_window f lo hi) (is_done f lo hi) e
-
-pub at_already_done : (f : FrontValue) (lo hi : ℕ) → finish_answer f lo hi ≡ Err faults.AlreadyDone → is_done f lo hi ≡ true
-at_already_done f lo hi e = finish_at-done (is_window f lo hi) (is_done f lo hi) e

@@ -1,7 +1,7 @@
 -- The laws of fronts by recursion over their windows; specs/FrontLaws.antt states them of a whole front.
 use Rattle.std.proofs.Common.{◌≡◌, ◌⊎◌, inl, inr, ℕ, ◌+◌, ◌<◌, ◌≤◌, Bool, true, false, cond, ◌&&◌, ◌||◌, eqb, List, [], ◌∷◌, ◌++◌, map, refl, sym, ap, ◌∙◌, arith}
 use Rattle.std.specs.List.{list_any, list_all, take_while}
-use Rattle.std.proofs.lemmas.Bool.{eqb-true, ne_eqb, eq-eqb, both_ways, and_parts, and_from, and_left, or_cases, or_left, or_right, or_from, or_parts, cond-false, cond_both, cases_lt, cond-true}
+use Rattle.std.proofs.lemmas.Bool.{eqb-true, eq-eqb, both_ways, and_parts, and_from, or_cases, or_left, or_right, or_from, cond_both, cases_lt, cond-true}
 use Rattle.std.proofs.lemmas.List.Sums.{take_while-cons}
 use Rattle.range_front.specs.Front.{FrontWindow, Span, spans_from, end_from, finished_from, above_low_water, run_count, IsConsecutive, Rises}
 
@@ -63,33 +63,12 @@ pub window-bounds : (from : ℕ) (ws : List FrontWindow) (lo hi : ℕ) → windo
 window-bounds from [] lo hi = refl
 window-bounds from (w ∷ ws) lo hi = ap (λ r. (eqb from lo && eqb w.hi hi) || r) (window-bounds w.hi ws lo hi)
 
-pub window-below : (from : ℕ) (ws : List FrontWindow) (lo hi : ℕ) → Rises from ws → lo < from → window_in from ws lo hi ≡ false
-window-below from [] lo hi h l = refl
-window-below from (w ∷ ws) lo hi h l =
-    let ne : eqb from lo ≡ false = ne_eqb from lo (λ e. omega arith) in
-    or_from _ _ (and_left _ _ ne) (window-below w.hi ws lo hi h.1 (omega (arith, h.0)))
-
-pub done-below : (from : ℕ) (ws : List FrontWindow) (lo hi : ℕ) → Rises from ws → lo < from → done_in from ws lo hi ≡ false
-done-below from [] lo hi h l = refl
-done-below from (w ∷ ws) lo hi h l =
-    let ne : eqb from lo ≡ false = ne_eqb from lo (λ e. omega arith) in
-    or_from _ _ (and_left _ _ ne) (done-below w.hi ws lo hi h.1 (omega (arith, h.0)))
-
 pub done-window : (from : ℕ) (ws : List FrontWindow) (lo hi : ℕ) → done_in from ws lo hi ≡ true → window_in from ws lo hi ≡ true
 done-window from [] lo hi e = e
 done-window from (w ∷ ws) lo hi e =
     elim (or_cases (eqb from lo && (eqb w.hi hi && w.done)) _ e) [
       | inl here ↦ let p = and_parts (eqb from lo) _ here in window_here (eqb from lo) (eqb w.hi hi) _ p.0 (and_parts (eqb w.hi hi) _ p.1).0
       | inr later ↦ or_right (eqb from lo && eqb w.hi hi) _ (done-window w.hi ws lo hi later)
-    ]
-
-pub done-all : (from : ℕ) (ws : List FrontWindow) (lo hi : ℕ) → list_all (λ (w : FrontWindow). w.done) ws ≡ true → window_in from ws lo hi ≡ true → done_in from ws lo hi ≡ true
-done-all from [] lo hi a e = e
-done-all from (w ∷ ws) lo hi a e =
-    let p = and_parts _ _ a in
-    elim (or_cases _ _ e) [
-      | inl here ↦ let q = and_parts (eqb from lo) _ here in done_here (eqb from lo) (eqb w.hi hi) w.done _ q.0 q.1 p.0
-      | inr later ↦ or_right (eqb from lo && (eqb w.hi hi && w.done)) _ (done-all w.hi ws lo hi p.1 later)
     ]
 
 -- ---- the low water
@@ -127,22 +106,6 @@ done-under_low from (w ∷ ws) lo hi h e l =
     ] in
     let not_reached : P false = λ d m. let p = window-within from (w ∷ ws) lo hi h e in absurd (omega (arith, p.0, p.1, m)) in
     elim w.done as P [ true ↦ reached | false ↦ not_reached ] refl l
-
--- the window that begins at the low water, if there is one, isn't done
-pub done-at_low : (from : ℕ) (ws : List FrontWindow) (hi : ℕ) → Rises from ws → done_in from ws (low_in from ws) hi ≡ false
-done-at_low from [] hi h = refl
-done-at_low from (w ∷ ws) hi h =
-    cond_both w.done (low_in w.hi ws) from (λ n. done_in from (w ∷ ws) n hi ≡ false)
-    (λ e.
-    let more : w.hi ≤ low_in w.hi ws = from-le-low w.hi ws h.1 in
-    let ne : eqb from (low_in w.hi ws) ≡ false = ne_eqb _ _ (λ q. omega (arith, h.0, more, q)) in
-    or_from _ _ (and_left _ _ ne) (done-at_low w.hi ws hi h.1))
-    (λ e. or_from _ _ (open_here (eqb from from) (eqb w.hi hi) w.done e) (done-below w.hi ws from hi h.1 h.0))
-  where
-    open_here : (x y d : Bool) → d ≡ false → (x && (y && d)) ≡ false
-    open_here true true d e = e
-    open_here true false d e = refl
-    open_here false y d e = refl
 
 -- what lies above the start and at or under the low water lies in a window that is done
 pub reached-in : (from : ℕ) (ws : List FrontWindow) (q : ℕ) → Rises from ws → from < q → q ≤ low_in from ws → (lo : ℕ) × (hi : ℕ) × (lo < q) × (q ≤ hi) × (done_in from ws lo hi ≡ true)
@@ -225,16 +188,6 @@ run_count-low from (w ∷ ws) lo hi h e d =
       | inr later ↦ absurd (run_count-none w.hi ws lo hi rest later)
     ])
 
-pub run_count-append : (before : Bool) (ws : List FrontWindow) (hi : ℕ) → run_count before (ws ++ record { hi = hi; done = false } ∷ []) ≡ run_count before ws
-run_count-append before [] hi = omega arith
-run_count-append before (w ∷ ws) hi = ap (λ n. cond w.done (cond before 0 1) 0 + n) (run_count-append w.done ws hi)
-
-pub run_count-all_done : (ws : List FrontWindow) → list_all (λ (w : FrontWindow). w.done) ws ≡ true → run_count true ws ≡ 0
-run_count-all_done [] e = refl
-run_count-all_done (w ∷ ws) e =
-    let p = and_parts w.done (list_all (λ (w : FrontWindow). w.done) ws) e in
-    omega (arith, run_count-done true w ws p.0, run_count-all_done ws p.1)
-
 -- ---- a window more
 
 pub end-append : (from : ℕ) (ws : List FrontWindow) (w : FrontWindow) → end_from from (ws ++ w ∷ []) ≡ w.hi
@@ -262,15 +215,6 @@ done-append from [] hi a b = or_from _ _ (never (eqb from a) (eqb hi b)) refl
     never false y = refl
 done-append from (w ∷ ws) hi a b = ap (λ r. (eqb from a && (eqb w.hi b && w.done)) || r) (done-append w.hi ws hi a b)
 
-pub window-append : (from : ℕ) (ws : List FrontWindow) (hi a b : ℕ) → window_in from (ws ++ record { hi = hi; done = false } ∷ []) a b ≡ (window_in from ws a b || (eqb (end_from from ws) a && eqb hi b))
-window-append from [] hi a b = alone (eqb from a && eqb hi b)
-  where
-    alone : (x : Bool) → (x || false) ≡ x
-    alone true = refl
-    alone false = refl
-window-append from (w ∷ ws) hi a b =
-    ap (λ r. (eqb from a && eqb w.hi b) || r) (window-append w.hi ws hi a b) ∙ or_assoc (eqb from a && eqb w.hi b) (window_in w.hi ws a b) (eqb (end_from w.hi ws) a && eqb hi b)
-
 -- ---- a window done
 
 -- the mark alone changes
@@ -293,39 +237,6 @@ bounds-finished_from from (w ∷ ws) lo hi =
     cond_both (eqb from lo && eqb w.hi hi) (record w { done = true }) w (λ v. bounds_from from (v ∷ finished_from w.hi ws lo hi) ≡ (from, w.hi) ∷ bounds_from w.hi ws)
     (λ e. ap (λ bs. (from, w.hi) ∷ bs) (bounds-finished_from w.hi ws lo hi))
     (λ e. ap (λ bs. (from, w.hi) ∷ bs) (bounds-finished_from w.hi ws lo hi))
-
-pub window-finished_from : (from : ℕ) (ws : List FrontWindow) (lo hi a b : ℕ) → window_in from (finished_from from ws lo hi) a b ≡ window_in from ws a b
-window-finished_from from [] lo hi a b = refl
-window-finished_from from (w ∷ ws) lo hi a b =
-    cond_both (eqb from lo && eqb w.hi hi) (record w { done = true }) w (λ v. window_in from (v ∷ finished_from w.hi ws lo hi) a b ≡ ((eqb from a && eqb w.hi b) || window_in w.hi ws a b))
-    (λ e. ap (λ r. (eqb from a && eqb w.hi b) || r) (window-finished_from w.hi ws lo hi a b))
-    (λ e. ap (λ r. (eqb from a && eqb w.hi b) || r) (window-finished_from w.hi ws lo hi a b))
-
--- where no window has the bounds, or the one that has them is done, nothing changes
-pub finished-no_window : (from : ℕ) (ws : List FrontWindow) (lo hi : ℕ) → window_in from ws lo hi ≡ false → finished_from from ws lo hi ≡ ws
-finished-no_window from [] lo hi e = refl
-finished-no_window from (w ∷ ws) lo hi e =
-    let p = or_parts (eqb from lo && eqb w.hi hi) (window_in w.hi ws lo hi) e in
-    ap (λ v. v ∷ finished_from w.hi ws lo hi) (cond-false (eqb from lo && eqb w.hi hi) (record w { done = true }) w p.0)
-    ∙ ap (λ vs. w ∷ vs) (finished-no_window w.hi ws lo hi p.1)
-
-pub finished-done : (from : ℕ) (ws : List FrontWindow) (lo hi : ℕ) → Rises from ws → done_in from ws lo hi ≡ true → finished_from from ws lo hi ≡ ws
-finished-done from [] lo hi h e = refl
-finished-done from (w ∷ ws) lo hi h e =
-    elim (or_cases (eqb from lo && (eqb w.hi hi && w.done)) (done_in w.hi ws lo hi) e) [
-      | inl here ↦
-          let p = and_parts (eqb from lo) _ here in
-          let q = and_parts (eqb w.hi hi) _ p.1 in
-          let first : from ≡ lo = eqb-true from lo p.0 in
-          let rest = window-below w.hi ws lo hi h.1 (omega (arith, h.0, first)) in
-          ap (λ v. v ∷ finished_from w.hi ws lo hi) (cond-true (eqb from lo && eqb w.hi hi) (record w { done = true }) w (and_from (eqb from lo) (eqb w.hi hi) p.0 q.0))
-          ∙ ap (λ b. record w { done = b } ∷ finished_from w.hi ws lo hi) (sym q.1) ∙ ap (λ vs. w ∷ vs) (finished-no_window w.hi ws lo hi rest)
-      | inr later ↦
-          let within = window-within w.hi ws lo hi h.1 (done-window w.hi ws lo hi later) in
-          let other = and_left (eqb from lo) (eqb w.hi hi) (ne_eqb from lo (λ e. omega (arith, h.0, within.0, e))) in
-          ap (λ v. v ∷ finished_from w.hi ws lo hi) (cond-false (eqb from lo && eqb w.hi hi) (record w { done = true }) w other)
-          ∙ ap (λ vs. w ∷ vs) (finished-done w.hi ws lo hi h.1 later)
-    ]
 
 -- a window is done after it exactly where it was done before, or is the one that is finished
 pub done-finished_from : (from : ℕ) (ws : List FrontWindow) (lo hi a b : ℕ) → done_in from (finished_from from ws lo hi) a b ≡ (done_in from ws a b || (window_in from ws lo hi && (eqb lo a && eqb hi b)))
