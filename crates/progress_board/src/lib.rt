@@ -14,4 +14,5 @@ mod steps;
 
 pub use board::Board;
 pub use fault::BoardFault;
+pub use making::MOST_WORKERS;
 pub use seat::BoardSeat;

@@ -11,6 +11,9 @@ use crate::steps::{BoardTable, Place, admit, hire};
 use atomic_table::Table;
 use std::alloc::{AllocError, Global};
 
+/// The most workers of a board, and the most viewers.
+pub const MOST_WORKERS: u64 = 64;
+
 impl Board {
     /// A board for so many workers, and its seats: one for each worker, then one for each viewer. Nothing is read yet.
     ///
@@ -25,7 +28,8 @@ impl Board {
             × (vec_len r.1 ≡ workers + viewers) × AreNew r.0 r.1.items) }
         ensures err { IfErr result (λ e. e ≡ new_fault workers viewers) }
     {
-        if workers == 0 || workers > 64 || viewers == 0 || viewers > 64 {
+        let most = MOST_WORKERS as usize;
+        if workers == 0 || workers > most || viewers == 0 || viewers > most {
             return Err(BoardFault::BadSeats);
         }
         let mut seats = Vec::with_capacity(alloc, workers + viewers)?;

@@ -3,10 +3,8 @@ ghost use Rattle.std.specs.Prelude.{◌≡◌};
 ghost use Rattle.repl_pool.specs.Faults.{early_answer};
 
 use crate::fault::PoolFault;
+use progress_board::MOST_WORKERS;
 use repl_target::{Peer, Plan, TargetFault, WriteFilter, check_plan};
-
-/// The most workers of each crew.
-const MOST_WORKERS: u64 = 64;
 
 /// Whether a run can be begun: `NoWorkers`, else `TooManyWorkers` above 64, else `BadBatch` where the batch isn't 1 to
 /// 10,000, else `SamePeer` where the two databases have one UUID.

@@ -30,6 +30,6 @@ mod writer;
 pub use both_ways::{SyncFault, SyncRan, sync};
 pub use fault::PoolFault;
 pub use gate::{Gate, Open, Place, Turn};
-pub use progress_board::{Board, BoardFault, BoardSeat};
+pub use progress_board::{Board, BoardFault, BoardSeat, MOST_WORKERS};
 pub use running::{Ran, run, run_on};
 pub use seats::{Seats, board_with_seats};
