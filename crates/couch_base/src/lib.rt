@@ -18,7 +18,7 @@ mod table;
 mod window;
 
 pub use asked::{Asked, Wanted};
-pub use database::Database;
+pub use database::{Database, MOST_SEQUENCE};
 pub use fault::{BaseFault, Listed, Put, Revised};
 pub use parcel::Parcel;
 pub use row::Row;

@@ -19,7 +19,7 @@ returns-clause-ok c =
     let db = c.args.self.now in
     let id = c.args.id.now in
     let absent = sym c.has.ensures ∙ c.if-has.false in
-    let room : db.update_seq < most = omega (arith, c.update_seq-update_seq.ensures.seq, c.if-update_seq-ge-MOST.false) in
+    let room : db.update_seq < most = omega (arith, c.update_seq-update_seq.ensures.seq, c.if-update_seq-ge-MOST_SEQUENCE.false) in
     let revs = c.in_ok-ancestry.ancestry in
     let e = edited_from db id c.args.parent c.args.deleted c.args.body.now c.in_ok-before.before revs c.head-rev.result c.in_ok-before.ensures c.in_ok-ancestry.ensures c.head-rev.ensures absent in
     c.in_ok-write.ensures.ok
