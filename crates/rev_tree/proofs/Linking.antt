@@ -13,10 +13,10 @@ use Rattle.rev_tree.specs.Tree.{TreeValue, joined, is_parent}
 use Rattle.rev_tree.specs.TreeLaws.{get-joined, get-joined_known, some_or, or_cases, same_joined, child_of_parent, parent_from_child}
 use Rattle.rev_tree.specs.LeafLaws.{same_tests}
 use Rattle.rev_tree.specs.Steps.{with_rev, with_edge, with_content}
-use Rattle.rev_tree.specs.Nodes.{revs_in, rev_at, node_of, Distinct, entries_of, parent_in, tree_of, IsNode, IsLinked}
+use Rattle.rev_tree.specs.Nodes.{revs_in, rev_at, node_of, Distinct, entries_of, parent_in, place_of, tree_of, IsNode, IsLinked}
 use Rattle.rev_tree.specs.Node.{NodeValue}
 use Rattle.rev_tree.specs.declared.origin.Origin.{Origin}
-use Rattle.rev_tree.proofs.Places.{some_is, is_some-node_of, node_rev, node_at, among_at, rev_at_place, node_of-push, revs_in-push, distinct_push}
+use Rattle.rev_tree.proofs.Places.{some_is, is_some-node_of, node_rev, node_at, among_at, rev_at_place, node_of-push, place_unknown, revs_in-push, distinct_push, slice_get-push}
 use Rattle.rev_tree.proofs.Setting.{revs_in-set, node_of-set}
 use Rattle.rev_tree.proofs.Views.{part, get-origins, get-parents, get-contents, joined_entries, same_entries}
 
@@ -133,6 +133,19 @@ module _ (nodes : List NodeValue) (k : ℕ) (n : NodeValue) (linked : IsLinked n
       let there = ap is_some (get-contents nodes linked.once r ∙ ap (λ q. part (λ (x : NodeValue). x.content) (node_of nodes q)) (sym (rev_is r is)) ∙ ap (part (λ (x : NodeValue). x.content)) same_node) ∙ some in
       let cs = same_joined (tree_of nodes).contents ((r, b) ∷ []) (ap (λ t. t && true) there) in
       λ i. record { origins = (tree_of nodes).origins; parents = (tree_of nodes).parents; contents = sym cs i }
+
+-- what a content given to the node at a place makes of the nodes
+pub record IsGiven (nodes after : List NodeValue) (k : ℕ) (b : ContentValue) : Type 0 where
+  pub revs : revs_in after ≡ revs_in nodes
+  pub linked : IsLinked after
+  pub tree : (r : RevId) → slice_get (revs_in nodes) k ≡ Some r → tree_of after ≡ with_content (tree_of nodes) r b
+
+pub given : (nodes : List NodeValue) (k : ℕ) (n m : NodeValue) (b : ContentValue) → IsLinked nodes → slice_get nodes k ≡ Some n → n.content ≡ None → m ≡ with_body n b → IsGiven nodes (set nodes k m) k b
+given nodes k n m b linked at none is = subst (λ x. IsGiven nodes (set nodes k x) k b) (sym is) (record {
+  revs = revs_given nodes k n linked at b;
+  linked = linked_given nodes k n linked at b;
+  tree = tree_given nodes k n linked at b none;
+})
 
 -- ---- an edge
 
@@ -336,6 +349,23 @@ module _ (nodes : List NodeValue) (r : RevId) (o : Origin) (linked : IsLinked no
       | inr two ↦ subst (IsNode (nodes ++ new_node r o ∷ [])) (sym (the_new (eq_by_cmp rev_cmp q r) n two.1)) (record { parent = tt; child = sym (nobodys nodes linked.once r new) ∙ same_marks r })
     ];
   }
+
+-- what a new revision makes of the nodes
+pub record IsAdded (nodes after : List NodeValue) (r : RevId) (o : Origin) : Type 0 where
+  pub revs : revs_in after ≡ revs_in nodes ++ r ∷ []
+  pub linked : IsLinked after
+  pub tree : tree_of after ≡ with_rev (tree_of nodes) r o
+  pub kept : (i : ℕ) (q : RevId) → slice_get (revs_in nodes) i ≡ Some q → slice_get (revs_in after) i ≡ Some q
+
+pub added : (nodes after : List NodeValue) (r : RevId) (o : Origin) → IsLinked nodes → place_of nodes r ≡ None → after ≡ nodes ++ new_node r o ∷ [] → IsAdded nodes after r o
+added nodes after r o linked new is =
+    let none = place_unknown nodes r new in
+    subst (λ l. IsAdded nodes l r o) (sym is) (record {
+      revs = revs_in-push nodes (new_node r o);
+      linked = linked_added nodes r o linked none;
+      tree = tree_added nodes r o linked none;
+      kept = λ i q h. ap (λ l. slice_get l i) (revs_in-push nodes (new_node r o)) ∙ slice_get-push (revs_in nodes) r i q h;
+    })
 
 -- a revision that is there
 pub tree_known : (nodes : List NodeValue) (r : RevId) (o : Origin) (n : NodeValue) → IsLinked nodes → node_of nodes r ≡ Some n → tree_of nodes ≡ with_rev (tree_of nodes) r o

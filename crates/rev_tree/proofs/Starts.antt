@@ -1,21 +1,20 @@
--- The nodes of the tree of no revisions.
+-- No nodes, and the tree of no revisions.
 use Rattle.std.proofs.Common.{[], sym, ap, ◌∙◌, is_some, refl}
 use Rattle.std.proofs.lemmas.Bool.{and_parts, false≢true}
 use Rattle.std.specs.FinMap.{get-empty}
 use Rattle.rev_core.specs.Rev.{rev_cmp}
-use Rattle.rev_tree.specs.Tree.{has, no_revisions}
+use Rattle.rev_tree.specs.Tree.{IsTree, has, no_revisions}
 use Rattle.rev_tree.specs.Nodes.{IsIndexed}
 
 pub IsIndexed-none : IsIndexed [] []
-IsIndexed-none = record {
-  index = refl;
-  linked = record { once = tt; each = λ r n h. absurd (false≢true (ap is_some h)) };
-  tree = record {
-    revs = λ r h. absurd (false≢true (sym (ap is_some (get-empty rev_cmp r)) ∙ h));
-    child = λ c p h. absurd (false≢true (sym (ap is_some (get-empty rev_cmp c)) ∙ ap is_some h));
-    parent = λ c p h. absurd (false≢true (sym (ap is_some (get-empty rev_cmp c)) ∙ ap is_some h));
-    falls = λ c p h. absurd (false≢true (sym (ap is_some (get-empty rev_cmp c)) ∙ ap is_some h));
-    content = λ r h. absurd (false≢true (sym (ap is_some (get-empty rev_cmp r)) ∙ h));
-    leaf = λ r h. absurd (false≢true (sym (ap is_some (get-empty rev_cmp r)) ∙ (and_parts (has no_revisions r) _ h).0));
-  };
+IsIndexed-none = record { index = refl; linked = record { once = tt; each = λ r n h. absurd (false≢true (ap is_some h)) } }
+
+pub IsTree-none : IsTree no_revisions
+IsTree-none = record {
+  revs = λ r h. absurd (false≢true (sym (ap is_some (get-empty rev_cmp r)) ∙ h));
+  child = λ c p h. absurd (false≢true (sym (ap is_some (get-empty rev_cmp c)) ∙ ap is_some h));
+  parent = λ c p h. absurd (false≢true (sym (ap is_some (get-empty rev_cmp c)) ∙ ap is_some h));
+  falls = λ c p h. absurd (false≢true (sym (ap is_some (get-empty rev_cmp c)) ∙ ap is_some h));
+  content = λ r h. absurd (false≢true (sym (ap is_some (get-empty rev_cmp r)) ∙ h));
+  leaf = λ r h. absurd (false≢true (sym (ap is_some (get-empty rev_cmp r)) ∙ (and_parts (has no_revisions r) _ h).0));
 }

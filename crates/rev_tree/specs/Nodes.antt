@@ -1,11 +1,12 @@
 -- A tree as it is kept: nodes that name their parents by place, and an index of the places.
-use Rattle.std.specs.Prelude.{◌≡◌, ℕ, ◌+◌, ◌<◌, false, List, [], ◌∷◌, ◌++◌, map, length, Option, Some, None, slice_get, IfSome}
+use Rattle.std.specs.Prelude.{◌≡◌, ℕ, ◌+◌, ◌<◌, ◌≤◌, false, List, [], ◌∷◌, ◌++◌, map, length, Option, Some, None, slice_get, IfSome}
 use Rattle.std.specs.FinMap as finmap
 use Rattle.rev_core.specs.Rev.{RevId, rev_cmp}
 use Rattle.rev_core.specs.Ancestry.{is_among}
-use Rattle.rev_tree.specs.Tree.{TreeValue, IsTree, is_parent}
+use Rattle.rev_tree.specs.Tree.{TreeValue, is_parent}
 use Rattle.rev_tree.specs.Node.{NodeValue}
 use Rattle.rev_tree.specs.Index.{index_for}
+use Rattle.rev_tree.specs.Room.{HasIndexRoom}
 
 -- the revisions, by place
 abbrev pub revs_in : List NodeValue → List RevId
@@ -61,13 +62,23 @@ pub record IsNode (nodes : List NodeValue) (n : NodeValue) : Type 0 where
   pub parent : IfSome n.parent (λ i. i < length nodes)
   pub child : n.has_child ≡ is_parent (tree_of nodes) n.rev
 
--- what holds of the nodes, also while an ancestry is being put among them
+-- what holds of the nodes
 pub record IsLinked (nodes : List NodeValue) : Type 0 where
   pub once : Distinct (revs_in nodes)
   pub each : (r : RevId) (n : NodeValue) → node_of nodes r ≡ Some n → IsNode nodes n
 
--- what holds of the nodes and the index of a tree
+-- what holds of the nodes and the index of their places
 pub record IsIndexed (nodes : List NodeValue) (entries : List (ℕ × ℕ)) : Type 0 where
   pub index : entries ≡ index_for (revs_in nodes)
   pub linked : IsLinked nodes
-  pub tree : IsTree (tree_of nodes)
+
+-- nodes, and how many they and their places may become with no memory more
+pub record NodesValue : Type 0 where
+  pub items : List NodeValue
+  pub capacity : ℕ
+  pub index_capacity : ℕ
+
+-- there is room for so many nodes more, and for their places where they are then too many to be walked
+pub record HasRoom (v : NodesValue) (more : ℕ) : Type 0 where
+  pub nodes : length v.items + more ≤ v.capacity
+  pub places : HasIndexRoom (length v.items + more) v.index_capacity

@@ -1,53 +1,170 @@
 //! The nodes of a tree, and the place of each revision among them.
-ghost use Rattle.std.specs.Prelude.{◌≡◌, ◌+◌, ◌<◌, ◌≤◌, [], Some, IfOk, OnOk, slice_get, length, take};
+ghost use Rattle.std.specs.Prelude.{◌≡◌, ℕ, ◌+◌, ◌<◌, ◌≤◌, ◌∷◌, ◌++◌, [], Some, None, IfOk, OnOk, slice_get, length, take, vec_capacity};
 ghost use Rattle.std.specs.Option.{option_copied};
+ghost use Rattle.rev_core.specs.Rev.{RevId};
 ghost use Rattle.rev_tree.specs.Room.{HasIndexRoom};
+ghost use Rattle.rev_tree.specs.Steps.{with_rev, with_edge, with_content};
 ghost use Rattle.rev_tree.specs.declared.nodes.TheConstants.{MOST_WALKED};
 
+use crate::content::Content;
 use crate::node::Node;
+use crate::origin::Origin;
 use crate::place_index::Places;
 use rev_core::Rev;
 use std::alloc::{AllocError, Global};
 use std::hash::{FoldHasher, Hash, Hasher};
+use std::marker::Model;
 
 /// The most nodes that are walked for a revision. From one more on an index has their places.
 pub(crate) const MOST_WALKED: usize = 8;
 
 ghost use Rattle.rev_tree.specs.Index.{index_for, mark_of, noted_from};
-ghost use Rattle.rev_tree.specs.Nodes.{IsLinked, node_of, place_of, revs_in};
+ghost use Rattle.rev_tree.specs.Nodes.{HasRoom, IsLinked, node_of, place_of, revs_in, tree_of};
 
-/// The node at a place.
-pub(crate) fn node_at(nodes: &[Node], place: usize) -> &Node
-    requires { place < length nodes.now }
-    ensures { slice_get nodes.now place ≡ Some result.now }
-{
-    &nodes[place]
+/// Nodes with the index of their places. A node is never removed, so places stay.
+///
+/// No revision has two nodes, each parent's place is one of the list's, and a node is marked where another names it as
+/// its parent.
+#[derive(Drop)]
+pub(crate) struct Nodes {
+    list: Vec<Node>,
+    places: Places,
 }
 
-/// The node of a revision.
-pub(crate) fn node_in<'a>(nodes: &'a [Node], places: &Places, rev: &Rev) -> Option<&'a Node>
-    requires index { places.now.entries ≡ index_for (revs_in nodes.now) }
-    requires linked { IsLinked nodes.now }
-    ensures { option_copied result ≡ node_of nodes.now rev.now }
-{
-    let place = place_in(nodes, places, rev)?;
-    Some(node_at(nodes, place))
+impl Model for Nodes {
+    ghost use Rattle.std.specs.Prelude.{◌+◌, length, vec_capacity};
+    ghost use Rattle.rev_tree.specs.Nodes.{NodesValue, IsIndexed};
+
+    ghost Value = { NodesValue };
+
+    ghost view = { λ n. record {
+      items = n.list.items;
+      capacity = vec_capacity n.list;
+      index_capacity = length n.places.entries + n.places.spare;
+    } };
+
+    ghost invariant = { λ n. IsIndexed n.list.items n.places.entries };
 }
 
-/// The place of a revision.
-pub(crate) fn place_in(nodes: &[Node], places: &Places, rev: &Rev) -> Option<usize>
-    requires index { places.now.entries ≡ index_for (revs_in nodes.now) }
-    requires linked { IsLinked nodes.now }
-    ensures { result ≡ place_of nodes.now rev.now }
-{
-    if nodes.len() > MOST_WALKED {
-        let place = places.get(mark_of(rev))?;
-        if node_at(nodes, place).is_of(rev) {
-            return Some(place);
+impl Nodes {
+    /// None yet.
+    pub(crate) fn new(alloc: Global) -> Nodes
+        ensures { result.items ≡ [] }
+    {
+        Nodes {
+            list: Vec::new(alloc),
+            places: Places::new(),
         }
-        // Another revision has the same mark.
     }
-    walked_to(nodes, rev)
+
+    /// The nodes in their places.
+    pub(crate) fn all(&self) -> &[Node]
+        ensures items { result.now ≡ self.now.items }
+        ensures linked { IsLinked self.now.items }
+    {
+        &self.list
+    }
+
+    /// The node at a place.
+    pub(crate) fn node_at(&self, place: usize) -> &Node
+        requires { place < length self.now.items }
+        ensures node { slice_get self.now.items place ≡ Some result.now }
+        ensures linked { IsLinked self.now.items }
+    {
+        &self.list[place]
+    }
+
+    /// The node of a revision.
+    pub(crate) fn node_in(&self, rev: &Rev) -> Option<&Node>
+        ensures node { option_copied result ≡ node_of self.now.items rev.now }
+        ensures linked { IsLinked self.now.items }
+    {
+        let place = self.place_in(rev)?;
+        Some(self.node_at(place))
+    }
+
+    /// The place of a revision.
+    pub(crate) fn place_in(&self, rev: &Rev) -> Option<usize>
+        ensures place { result ≡ place_of self.now.items rev.now }
+        ensures linked { IsLinked self.now.items }
+    {
+        if self.list.as_slice().len() > MOST_WALKED {
+            let place = self.places.get(mark_of(rev))?;
+            if self.list[place].is_of(rev) {
+                return Some(place);
+            }
+            // Another revision has the same mark.
+        }
+        walked_to(&self.list, rev)
+    }
+
+    /// Makes room for the revisions of an ancestry, known ones too, and for no more where all together are few.
+    pub(crate) fn make_room(&mut self, revs: &[Rev]) -> Result<(), AllocError>
+        ensures items { self.new.items ≡ self.old.items }
+        ensures room { OnOk result (HasRoom self.new (length revs.now)) }
+    {
+        let all = self.list.as_slice().len() + revs.len();
+        reserve_nodes(&mut self.list, revs)?;
+        reserve_index(*self.list.allocator(), &mut self.places, all)
+    }
+
+    /// Puts a revision, which is new, with its origin at the end, and gives its place. There is room for it.
+    pub(crate) fn push(&mut self, rev: Rev, origin: Origin) -> usize
+        requires new { place_of self.old.items rev ≡ None }
+        requires room { HasRoom self.old 1 }
+        ensures tree { tree_of self.new.items ≡ with_rev (tree_of self.old.items) rev origin }
+        ensures revs { revs_in self.new.items ≡ revs_in self.old.items ++ rev ∷ [] }
+        ensures at { slice_get (revs_in self.new.items) result ≡ Some rev }
+        ensures kept { (i : ℕ) (r : RevId)
+            → slice_get (revs_in self.old.items) i ≡ Some r
+            → slice_get (revs_in self.new.items) i ≡ Some r }
+        ensures room { (n : ℕ) → HasRoom self.old (n + 1) → HasRoom self.new n }
+    {
+        let place = self.list.as_slice().len();
+        self.list.push_reserved(Node::new(rev, origin));
+        index_rest(&self.list, &mut self.places, place);
+        place
+    }
+
+    /// Gives a node a content, unless it has one.
+    pub(crate) fn give(&mut self, place: usize, content: Content)
+        requires within { place < length self.old.items }
+        ensures tree { (r : RevId)
+            → slice_get (revs_in self.old.items) place ≡ Some r
+            → tree_of self.new.items ≡ with_content (tree_of self.old.items) r content }
+        ensures revs { revs_in self.new.items ≡ revs_in self.old.items }
+        ensures room { (n : ℕ) → HasRoom self.old n → HasRoom self.new n }
+    {
+        if self.list[place].content().is_none() {
+            self.list[place].give(content);
+        }
+    }
+
+    /// Names a node as the parent of another, unless that has one.
+    pub(crate) fn link(&mut self, child: usize, parent: usize)
+        requires child_within { child < length self.old.items }
+        requires parent_within { parent < length self.old.items }
+        ensures tree { (c p : RevId)
+            → slice_get (revs_in self.old.items) child ≡ Some c
+            → slice_get (revs_in self.old.items) parent ≡ Some p
+            → tree_of self.new.items ≡ with_edge (tree_of self.old.items) c p }
+        ensures revs { revs_in self.new.items ≡ revs_in self.old.items }
+        ensures room { (n : ℕ) → HasRoom self.old n → HasRoom self.new n }
+    {
+        if self.list[child].parent().is_none() {
+            self.list[child].name_parent(parent);
+            self.list[parent].mark();
+        }
+    }
+
+    /// The same nodes.
+    pub(crate) fn copy(&self, alloc: Global) -> Result<Nodes, AllocError>
+        ensures { IfOk result (λ n. n.items ≡ self.now.items) }
+    {
+        let list = copy_nodes(alloc, &self.list)?;
+        let places = index_of(alloc, &list)?;
+        Ok(Nodes { list, places })
+    }
 }
 
 /// A number of 64 bits, which two revisions hardly ever share.
@@ -72,7 +189,7 @@ fn walked_to(nodes: &[Node], rev: &Rev) -> Option<usize>
 }
 
 /// Makes the index of the first nodes, so many, that of all of them. There is room for it.
-pub(crate) fn index_rest(nodes: &[Node], places: &mut Places, known: usize)
+fn index_rest(nodes: &[Node], places: &mut Places, known: usize)
     requires known { known ≤ length nodes.now }
     requires begun { places.old.entries ≡ index_for (revs_in (take known nodes.now)) }
     requires room { HasIndexRoom (length nodes.now) (length places.old.entries + places.old.spare) }
@@ -102,12 +219,20 @@ fn index_from(nodes: &[Node], places: &mut Places, first: usize)
     }
 }
 
+/// Makes room in the list for the nodes of revisions, and for no more where all together are few.
+fn reserve_nodes(list: &mut Vec<Node>, revs: &[Rev]) -> Result<(), AllocError>
+    ensures items { list.new.items ≡ list.old.items }
+    ensures room { OnOk result (length list.new.items + length revs.now ≤ vec_capacity list.new) }
+{
+    if list.as_slice().len() + revs.len() <= MOST_WALKED {
+        list.reserve_exact(revs.len())
+    } else {
+        list.reserve(revs.len())
+    }
+}
+
 /// Makes room in the index for so many nodes, unless they are few enough to be walked.
-pub(crate) fn reserve_index(
-    alloc: Global,
-    places: &mut Places,
-    nodes: usize,
-) -> Result<(), AllocError>
+fn reserve_index(alloc: Global, places: &mut Places, nodes: usize) -> Result<(), AllocError>
     requires { length places.old.entries ≤ nodes }
     ensures index { places.new.entries ≡ places.old.entries }
     ensures room { OnOk result (HasIndexRoom nodes (length places.new.entries + places.new.spare)) }
@@ -119,7 +244,7 @@ pub(crate) fn reserve_index(
 }
 
 /// The index of the nodes.
-pub(crate) fn index_of(alloc: Global, nodes: &[Node]) -> Result<Places, AllocError>
+fn index_of(alloc: Global, nodes: &[Node]) -> Result<Places, AllocError>
     ensures { IfOk result (λ m. m.entries ≡ index_for (revs_in nodes.now)) }
 {
     let mut places = Places::new();
@@ -129,7 +254,7 @@ pub(crate) fn index_of(alloc: Global, nodes: &[Node]) -> Result<Places, AllocErr
 }
 
 /// The same nodes.
-pub(crate) fn copy_nodes(alloc: Global, nodes: &[Node]) -> Result<Vec<Node>, AllocError>
+fn copy_nodes(alloc: Global, nodes: &[Node]) -> Result<Vec<Node>, AllocError>
     ensures { IfOk result (λ v. v.items ≡ nodes.now) }
 {
     let mut copies = Vec::with_capacity(alloc, nodes.len())?;

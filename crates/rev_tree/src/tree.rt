@@ -4,13 +4,10 @@ ghost use Rattle.std.specs.Option.{option_map_or};
 
 use crate::content::Content;
 use crate::fault::{Contradiction, Merged, TreeFault};
-use crate::merging::{knows_edges, make_room, put};
 use crate::node::Node;
-use crate::nodes::{copy_nodes, index_of, node_at, node_in, place_in};
+use crate::nodes::Nodes;
 use crate::origin::Origin;
-use crate::place_index::Places;
 use crate::revs::Revs;
-use crate::walks::{those_above, walk};
 use rev_core::{Ancestry, Rev};
 use std::alloc::{AllocError, Global};
 use std::cmp::Ordering;
@@ -18,35 +15,30 @@ use std::marker::Model;
 
 /// A document's revisions with their parents, contents and origins.
 ///
-/// Each revision is a node, which names its parent by its place. A node is never removed, so places stay.
-/// The index of the places is empty while the nodes are few enough to be walked.
+/// Each revision is a node, which names its parent by its place.
 pub struct Tree {
-    nodes: Vec<Node>,
-    places: Places,
+    nodes: Nodes,
 }
 
 // By hand, so that it is proved once: docs/DECISIONS.md, "Letting values go".
 impl Drop for Tree {
     fn drop(self) {
-        let Tree {
-            nodes: _,
-            places: _,
-        } = self;
+        let Tree { nodes: _ } = self;
     }
 }
 
 impl Model for Tree {
-    ghost use Rattle.rev_tree.specs.Tree.{TreeValue, coded_tree};
+    ghost use Rattle.rev_tree.specs.Tree.{TreeValue, IsTree, coded_tree};
 
     ghost Value = { TreeValue };
 
     ghost coded = { coded_tree };
 
-    ghost use Rattle.rev_tree.specs.Nodes.{tree_of, IsIndexed};
+    ghost use Rattle.rev_tree.specs.Nodes.{tree_of};
 
     ghost view = { λ t. tree_of t.nodes.items };
 
-    ghost invariant = { λ t. IsIndexed t.nodes.items t.places.entries };
+    ghost invariant = { λ t. IsTree (tree_of t.nodes.items) };
 }
 
 impl Tree {
@@ -60,8 +52,7 @@ impl Tree {
         ensures { result ≡ no_revisions }
     {
         Tree {
-            nodes: Vec::new(alloc),
-            places: Places::new(),
+            nodes: Nodes::new(alloc),
         }
     }
 
@@ -70,23 +61,23 @@ impl Tree {
         ensures found { result ≡ has self.now rev }
         ensures tree { IsTree self.now }
     {
-        node_in(&self.nodes, &self.places, &rev).is_some()
+        self.nodes.node_in(&rev).is_some()
     }
 
     /// The parent of a revision, where one is known.
     pub fn parent_of(&self, rev: Rev) -> Option<Rev>
         ensures { result ≡ get self.now.parents rev }
     {
-        let node = node_in(&self.nodes, &self.places, &rev)?;
+        let node = self.nodes.node_in(&rev)?;
         let parent = node.parent()?;
-        Some(*node_at(&self.nodes, parent).rev())
+        Some(*self.nodes.node_at(parent).rev())
     }
 
     /// What stands at a revision, where it is known.
     pub fn content(&self, rev: Rev) -> Option<&Content>
         ensures { option_copied result ≡ get self.now.contents rev }
     {
-        let node = node_in(&self.nodes, &self.places, &rev)?;
+        let node = self.nodes.node_in(&rev)?;
         node.content()
     }
 
@@ -94,7 +85,7 @@ impl Tree {
     pub fn origin(&self, rev: Rev) -> Option<Origin>
         ensures { result ≡ get self.now.origins rev }
     {
-        let node = node_in(&self.nodes, &self.places, &rev)?;
+        let node = self.nodes.node_in(&rev)?;
         Some(node.origin())
     }
 
@@ -102,7 +93,7 @@ impl Tree {
     pub fn is_leaf(&self, rev: Rev) -> bool
         ensures { result ≡ is_leaf self.now rev }
     {
-        let Some(node) = node_in(&self.nodes, &self.places, &rev) else {
+        let Some(node) = self.nodes.node_in(&rev) else {
             return false;
         };
         !node.has_child()
@@ -133,10 +124,10 @@ impl Tree {
         requires { has self.now rev ≡ true }
         ensures { IfOk result (λ a. a ≡ ancestors self.now rev) }
     {
-        let Some(place) = place_in(&self.nodes, &self.places, &rev) else {
+        let Some(place) = self.nodes.place_in(&rev) else {
             unreachable!()
         };
-        let revs = walk(alloc, &self.nodes, place)?;
+        let revs = self.nodes.walk(alloc, place)?;
         Ok(Ancestry::from_revs(revs))
     }
 
@@ -145,7 +136,7 @@ impl Tree {
         ensures { result ≡ first_of (leaves self.now) }
     {
         let mut best: Option<Rev> = None;
-        for node in &self.nodes {
+        for node in self.nodes.all() {
             if !node.has_child() {
                 best = Some(self.better(best, *node.rev()));
             }
@@ -168,7 +159,7 @@ impl Tree {
         ensures { option_copied result ≡ only_of (leaves self.now) }
     {
         let mut found = None;
-        for node in &self.nodes {
+        for node in self.nodes.all() {
             if !node.has_child() {
                 if found.is_some() {
                     return None;
@@ -184,7 +175,7 @@ impl Tree {
         ensures { IfOk result (λ v. v.items ≡ leaves self.now) }
     {
         let mut found = Vec::with_capacity(alloc, self.leaf_count())?;
-        for node in &self.nodes {
+        for node in self.nodes.all() {
             if !node.has_child() {
                 found.push((is_deleted(node), node.rev()))?;
             }
@@ -198,7 +189,7 @@ impl Tree {
         ensures { result ≡ length (leaves self.now) }
     {
         let mut count = 0;
-        for node in &self.nodes {
+        for node in self.nodes.all() {
             if !node.has_child() {
                 count += 1;
             }
@@ -210,7 +201,7 @@ impl Tree {
     pub fn rev_count(&self) -> usize
         ensures { result ≡ len self.now.origins }
     {
-        self.nodes.as_slice().len()
+        self.nodes.all().len()
     }
 
     /// The leaves at or above one of the revisions, winner first.
@@ -225,7 +216,7 @@ impl Tree {
             }
         }
         let leaves = self.leaves(alloc)?;
-        Ok(Revs::from(those_above(alloc, &self.nodes, &self.places, &leaves, revs)?))
+        Ok(Revs::from(self.nodes.those_above(alloc, &leaves, revs)?))
     }
 
     /// Those that are not in the tree, in their order. Of one revision alone it takes no memory.
@@ -283,9 +274,8 @@ impl Tree {
         ensures copied { IfOk result (λ t. t ≡ self.now) }
         ensures tree { IsTree self.now }
     {
-        let nodes = copy_nodes(alloc, &self.nodes)?;
-        let places = index_of(alloc, &nodes)?;
-        Ok(Tree { nodes, places })
+        let nodes = self.nodes.copy(alloc)?;
+        Ok(Tree { nodes })
     }
 
     /// What a merge of the ancestry would do. It takes no memory.
@@ -297,7 +287,7 @@ impl Tree {
         ensures answer { result ≡ merge_answer self.now ancestry.now }
         ensures tree { IsTree self.now }
     {
-        match knows_edges(&self.nodes, &self.places, ancestry.revs()) {
+        match self.nodes.knows_edges(ancestry.revs()) {
             Ok(all) => {
                 if all && self.content(ancestry.head()).is_some() {
                     Ok(Merged::Same)
@@ -359,8 +349,8 @@ impl Tree {
         ensures tree { IsTree self.new }
     {
         let revs = ancestry.revs();
-        make_room(&mut self.nodes, &mut self.places, revs)?;
-        put(&mut self.nodes, &mut self.places, revs, content, origin);
+        self.nodes.make_room(revs)?;
+        self.nodes.put(revs, content, origin);
         Ok(())
     }
 }

@@ -1,11 +1,10 @@
 use Rattle.std.proofs.Common.{Some, None, not, sym, ap, ◌∙◌}
 use Rattle.std.specs.Option.{option_copied}
-use Rattle.rev_tree.specs.Nodes.{node_of}
 use Rattle.rev_tree.proofs.Lookups.{leaf_is}
 use Rattle.rev_tree.proofs.tree.Tree.is_leaf.Goals as goal
 
 pub returns : goal.returns
-returns c = ap not c.has_child.ensures ∙ sym (leaf_is c.self.inside.nodes.items c.args.self.now c.args.rev (Some c.in-Some.node.now) c.self.invariant.linked c.self.view_is (ap (λ l. node_of l c.args.rev) (sym c.deref.ensures.value) ∙ sym c.in-Some.ensures))
+returns c = ap not c.has_child.ensures ∙ sym (leaf_is c.self.inside.nodes.items c.args.self.now c.args.rev (Some c.in-Some.node.now) c.node_in.ensures.linked c.self.view_is (sym c.in-Some.ensures.node))
 
 pub returns-in_default : goal.returns-in_default
-returns-in_default c = sym (leaf_is c.self.inside.nodes.items c.args.self.now c.args.rev None c.self.invariant.linked c.self.view_is (ap (λ l. node_of l c.args.rev) (sym c.deref.ensures.value) ∙ sym c.node_in.ensures ∙ ap option_copied c.in_default.is))
+returns-in_default c = sym (leaf_is c.self.inside.nodes.items c.args.self.now c.args.rev None c.node_in.ensures.linked c.self.view_is (sym c.node_in.ensures.node ∙ ap option_copied c.in_default.is))

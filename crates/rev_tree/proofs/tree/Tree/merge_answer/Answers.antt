@@ -2,7 +2,6 @@ use Rattle.std.proofs.Common.{is_some, sym, ap, ◌∙◌, subst}
 use Rattle.std.specs.List.{list_all}
 use Rattle.rev_core.specs.Ancestry.{edges_of}
 use Rattle.rev_tree.specs.Tree.{IsTree, has_edge, first_contradiction, is_same, answer_of}
-use Rattle.rev_tree.specs.Nodes.{tree_of}
 use Rattle.rev_tree.proofs.Lookups.{is_some-copied}
 use Rattle.rev_tree.proofs.Answering.{answer_known, answer_missed}
 use Rattle.rev_tree.proofs.tree.Tree.merge_answer.Goals as goal
@@ -11,21 +10,19 @@ use Rattle.rev_tree.proofs.tree.Tree.merge_answer.Goals.{else-all-via-then-all+e
 pub returns-then-is_some-clause-answer : goal.returns-then-is_some-clause-answer
 returns-then-is_some-clause-answer c =
     let t = c.args.self.now in
-    let whole = ap tree_of c.deref.ensures.value ∙ c.self.view_is in
-    let none = (λ i. first_contradiction (sym whole i).parents (edges_of (sym c.revs.ensures.all i))) ∙ c.in-Ok.ensures.none in
-    let all = (λ i. list_all (has_edge (sym whole i)) (edges_of (sym c.revs.ensures.all i))) ∙ sym c.in-Ok.ensures.edges ∙ c.if-all.true in
-    sym (answer_known t (subst IsTree c.self.view_is c.self.invariant.tree) c.args.ancestry.now c.head.result _ c.head.ensures none all
+    let none = (λ i. first_contradiction (sym c.self.view_is i).parents (edges_of (sym c.revs.ensures.all i))) ∙ c.in-Ok.ensures.none in
+    let all = (λ i. list_all (has_edge (sym c.self.view_is i)) (edges_of (sym c.revs.ensures.all i))) ∙ sym c.in-Ok.ensures.edges ∙ c.if-all.true in
+    sym (answer_known t (subst IsTree c.self.view_is c.self.invariant) c.args.ancestry.now c.head.result _ c.head.ensures none all
     (ap is_some (sym c.content.ensures) ∙ sym (is_some-copied c.content.result) ∙ sym c.is_some.ensures ∙ c.if-is_some.true))
 
 pub returns-else-all-clause-answer : goal.returns-else-all-clause-answer
 returns-else-all-clause-answer c =
     let t = c.args.self.now in
-    let whole = ap tree_of c.deref.ensures.value ∙ c.self.view_is in
-    let none = (λ i. first_contradiction (sym whole i).parents (edges_of (sym c.revs.ensures.all i))) ∙ c.in-Ok.ensures.none in
-    let all = (λ i. list_all (has_edge (sym whole i)) (edges_of (sym c.revs.ensures.all i))) ∙ sym c.in-Ok.ensures.edges in
+    let none = (λ i. first_contradiction (sym c.self.view_is i).parents (edges_of (sym c.revs.ensures.all i))) ∙ c.in-Ok.ensures.none in
+    let all = (λ i. list_all (has_edge (sym c.self.view_is i)) (edges_of (sym c.revs.ensures.all i))) ∙ sym c.in-Ok.ensures.edges in
     elim c.else-all.branch [
       | else-all-via-then-all+else-is_some w ↦
-          sym (answer_known t (subst IsTree c.self.view_is c.self.invariant.tree) c.args.ancestry.now w.head.result _ w.head.ensures none (all ∙ w.if-all.true)
+          sym (answer_known t (subst IsTree c.self.view_is c.self.invariant) c.args.ancestry.now w.head.result _ w.head.ensures none (all ∙ w.if-all.true)
           (ap is_some (sym w.content.ensures) ∙ sym (is_some-copied w.content.result) ∙ sym w.is_some.ensures ∙ w.if-is_some.false))
       | else-all-via-else-all w ↦ sym (answer_missed t c.args.ancestry.now none (all ∙ w.if-all.false))
     ]
@@ -33,6 +30,5 @@ returns-else-all-clause-answer c =
 pub returns-in-Err-clause-answer : goal.returns-in-Err-clause-answer
 returns-in-Err-clause-answer c =
     let t = c.args.self.now in
-    let whole = ap tree_of c.deref.ensures.value ∙ c.self.view_is in
-    let told = (λ i. first_contradiction (sym whole i).parents (edges_of (sym c.revs.ensures.all i))) ∙ c.in-Err.ensures.contradiction in
+    let told = (λ i. first_contradiction (sym c.self.view_is i).parents (edges_of (sym c.revs.ensures.all i))) ∙ c.in-Err.ensures.contradiction in
     sym (ap (λ o. answer_of o (is_same t c.args.ancestry.now)) told)

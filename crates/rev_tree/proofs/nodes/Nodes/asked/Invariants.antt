@@ -1,0 +1,7 @@
+use Rattle.std.proofs.Common.{take}
+use Rattle.rev_tree.proofs.Asking.{IsAsked}
+use Rattle.rev_tree.proofs.nodes.Nodes.asked.Given as goal
+
+-- those asked so far are told
+abbrev pub invariant-loop-rev : goal.invariant-loop-rev
+invariant-loop-rev l = IsAsked l.self.items l.revs (take l.rev-index l.revs) l.told.items

@@ -1,0 +1,15 @@
+use Rattle.std.proofs.Common.{◌≡◌, ◌<◌, List, length}
+use Rattle.rev_core.specs.Rev.{RevId}
+use Rattle.rev_tree.specs.Walks.{is_above_at, IsTold}
+use Rattle.rev_tree.proofs.Walking.{generation_at}
+use Rattle.rev_tree.proofs.nodes.Nodes.first_told.Given as goal
+
+-- the answer here is that at the start
+abbrev pub invariant-walk : goal.invariant-walk
+invariant-walk l = record {
+  same : (revs : List RevId) → IsTold l.self.items revs l.told → is_above_at l.self.items revs l.at ≡ is_above_at l.self.items revs l.fn.start;
+  within : l.at < length l.self.items;
+}
+
+abbrev pub decreases-walk : goal.decreases-walk
+decreases-walk l = generation_at l.self.items l.at

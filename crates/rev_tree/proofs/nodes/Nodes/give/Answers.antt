@@ -1,0 +1,37 @@
+use Rattle.std.proofs.Common.{◌≡◌, ◌<◌, Some, is_some, not, set, length, slice_get, sym, ap, ◌∙◌, subst}
+use Rattle.rev_tree.specs.Index.{index_for}
+use Rattle.rev_tree.specs.Node.{NodeValue}
+use Rattle.rev_tree.specs.Nodes.{revs_in, tree_of}
+use Rattle.rev_tree.specs.Steps.{with_content}
+use Rattle.rev_tree.proofs.Places.{none_of, read_at, read_alike}
+use Rattle.rev_tree.proofs.Lookups.{is_some-copied}
+use Rattle.rev_tree.proofs.Linking.{IsGiven, given, tree_has}
+use Rattle.rev_tree.proofs.nodes.Nodes.give.Goals as goal
+use Rattle.rev_tree.proofs.nodes.Nodes.give.Goals.{After-give}
+
+gives : (c : After-give) → IsGiven c.self.inside.list.items (set c.self.inside.list.items c.args.place c.give.new.self) c.args.place c.args.content
+gives c =
+    let items = c.self.inside.list.items in
+    let n = c.index_mut.result.now in
+    let low : c.args.place < length items = subst (λ v. c.args.place < length v.items) (sym c.self.view_is) c.requires.within in
+    let same = read_alike items c.args.place n c.index.result.now low c.index_mut.ensures.value c.index.ensures in
+    let none = none_of n.content (ap (λ (x : NodeValue). is_some x.content) same ∙ ap is_some (sym c.content.ensures) ∙ sym (is_some-copied c.content.result) ∙ c.is_none.ensures ∙ ap not c.if-is_none.true) in
+    given items c.args.place n c.give.new.self c.args.content c.self.invariant.linked (read_at items c.args.place n low c.index_mut.ensures.value) none c.give.ensures
+
+pub invariant_of-self : goal.invariant_of-self
+invariant_of-self c = record { index = c.self.invariant.index ∙ ap index_for (sym (gives c.before).revs); linked = (gives c.before).linked }
+
+pub returns-then-is_none-clause-tree : goal.returns-then-is_none-clause-tree
+returns-then-is_none-clause-tree c r is = (gives c.before).tree r (ap (λ v. slice_get (revs_in v.items) c.args.place) c.self.view_is ∙ is) ∙ ap (λ v. with_content (tree_of v.items) r c.args.content) c.self.view_is
+
+pub returns-then-is_none-clause-revs : goal.returns-then-is_none-clause-revs
+returns-then-is_none-clause-revs c = (gives c.before).revs ∙ ap (λ v. revs_in v.items) c.self.view_is
+
+pub returns-else-is_none-clause-tree : goal.returns-else-is_none-clause-tree
+returns-else-is_none-clause-tree c r is =
+    let items = c.self.inside.list.items in
+    let n = c.index.result.now in
+    let low : c.args.place < length items = subst (λ v. c.args.place < length v.items) (sym c.self.view_is) c.requires.within in
+    let there = ap is_some (sym c.content.ensures) ∙ sym (is_some-copied c.content.result) ∙ c.is_none.ensures ∙ ap not c.if-is_none.false in
+    subst (λ v. slice_get (revs_in v.items) c.args.place ≡ Some r → tree_of v.items ≡ with_content (tree_of v.items) r c.args.content) c.self.view_is
+    (tree_has items c.args.place n c.self.invariant.linked (read_at items c.args.place n low c.index.ensures) c.args.content there r) is

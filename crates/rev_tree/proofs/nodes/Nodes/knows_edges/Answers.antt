@@ -1,0 +1,85 @@
+use Rattle.std.proofs.Common.{◌≡◌, ◌-◌, ◌<◌, ◌≤◌, ◌+◌, ◌&&◌, drop, get_or, length, slice_get, Some, not, sym, ap, ◌∙◌, arith}
+use Rattle.std.proofs.Math.Bool.{and-true}
+use Rattle.std.proofs.lemmas.List.{get_or_default}
+use Rattle.std.proofs.lemmas.Option.{slice_get-get_or}
+use Rattle.std.specs.List.{list_all}
+use Rattle.std.specs.FinMap.{get}
+use Rattle.std.specs.Ordering.{eq_by_cmp}
+use Rattle.rev_core.specs.Rev.{RevId, rev_cmp}
+use Rattle.rev_core.specs.RevOrder.{rev_tie_is, rev_tie_self}
+use Rattle.rev_core.specs.Ancestry.{edges_of}
+use Rattle.rev_core.specs.AncestryLaws.{edges_end}
+use Rattle.rev_tree.specs.Tree.{has_edge, first_contradiction, contradiction_at}
+use Rattle.rev_tree.specs.Nodes.{rev_at, revs_in, place_of, tree_of}
+use Rattle.rev_tree.proofs.Places.{place_at, place_within, read_at, rev_at_place, some_is}
+use Rattle.rev_tree.proofs.Edges.{edges_known, edges_missed, no_contradiction_at, contradiction_here, not_is, told_contradiction, told_none}
+use Rattle.rev_tree.proofs.nodes.Nodes.knows_edges.Goals as goal
+use Rattle.rev_tree.proofs.nodes.Nodes.knows_edges.Goals.{in-Some+else-ne, in-None}
+
+pub parent_at-requires : goal.parent_at-requires
+parent_at-requires c =
+    let revs = c.args.revs.now in
+    let low : c.loop-i.i - 1 < length revs = omega arith in
+    let a = get_or revs (c.loop-i.i - 1) c.index-revs-i.result in
+    record { within = place_within c.args.self.now.items a c.loop-i.place (c.loop-i.invariant.place a (slice_get-get_or revs (c.loop-i.i - 1) c.index-revs-i.result low)) }
+
+pub returns-then-ne-clause-contradiction : goal.returns-then-ne-clause-contradiction
+returns-then-ne-clause-contradiction c =
+    let nodes = c.args.self.now.items in
+    let m = (tree_of nodes).parents in
+    let revs = c.args.revs.now in
+    let i = c.loop-i.i in
+    let one : 1 ≤ i = omega arith in
+    let low : i - 1 < length revs = omega arith in
+    let a = c.index-revs-i-then-ne.result in
+    let is = c.index-revs-i-then-ne.is in
+    let known = c.parent_at.ensures.parent a (c.loop-i.invariant.place a (read_at revs (i - 1) a low is)) in
+    let told = sym known ∙ ap (rev_at (revs_in nodes)) c.in-Some.is ∙ rev_at_place nodes c.in-Some.parent c.node_at.result.now c.node_at.ensures.node ∙ ap Some (sym c.rev-known.ensures) in
+    c.loop-i.invariant.none
+    ∙ contradiction_here m revs i a c.index-revs-i.result _ one c.loop-i-test.true is c.index-revs-i.is
+    (told_contradiction a c.index-revs-i.result (get m a) c.rev-known.result.now told (not_is _ _ c.ne.ensures ∙ ap not c.if-ne.true))
+
+pub loop-i-preserved : goal.loop-i-preserved
+loop-i-preserved c =
+    let nodes = c.args.self.now.items in
+    let t = tree_of nodes in
+    let revs = c.args.revs.now in
+    let i = c.loop-i.i in
+    let b = c.index-revs-i.result in
+    let one : 1 ≤ i = omega arith in
+    let low : i - 1 < length revs = omega arith in
+    let next : i ≡ i + 1 - 1 = omega arith in
+    let a = get_or revs (i - 1) b in
+    let is = get_or_default revs (i - 1) b a low in
+    let known = c.parent_at.ensures.parent a (c.loop-i.invariant.place a (slice_get-get_or revs (i - 1) b low)) in
+    let given : (r : RevId) → slice_get revs (i + 1 - 1) ≡ Some r → b ≡ r = λ r at. some_is b r (sym (read_at revs i b c.loop-i-test.true c.index-revs-i.is) ∙ ap (slice_get revs) next ∙ at) in
+    elim c.match-parent_at.branch [
+      | in-Some+else-ne w ↦
+          let n = w.node_at.result.now in
+          let told = sym known ∙ ap (rev_at (revs_in nodes)) w.in-Some.is ∙ rev_at_place nodes w.in-Some.parent n w.node_at.ensures.node in
+          let same = ap (λ q. eq_by_cmp rev_cmp q b) (sym w.rev-known.ensures) ∙ not_is _ _ w.ne.ensures ∙ ap not w.if-ne.false in
+          record {
+            edges = ap (λ x. x && list_all (has_edge t) (edges_of (drop (i + 1 - 1) revs))) w.all-is ∙ edges_known t revs i a n.rev c.loop-i.all one c.loop-i-test.true is told ∙ c.loop-i.invariant.edges;
+            none = c.loop-i.invariant.none ∙ no_contradiction_at t.parents revs i a b one c.loop-i-test.true is c.index-revs-i.is (told_none a b (get t.parents a) n.rev told same);
+            place = λ r at.
+                w.place-is ∙ sym (place_at nodes c.place_in-place.ensures.linked.once w.in-Some.parent n r w.node_at.ensures.node
+                (ap (λ q. eq_by_cmp rev_cmp q n.rev) (sym (rev_tie_is n.rev b same ∙ given r at)) ∙ rev_tie_self n.rev));
+          }
+      | in-None w ↦
+          let told = sym known ∙ ap (rev_at (revs_in nodes)) w.in-None.is in
+          record {
+            edges = ap (λ x. x && list_all (has_edge t) (edges_of (drop (i + 1 - 1) revs))) w.all-is ∙ edges_missed t revs i a c.loop-i.all one c.loop-i-test.true is told ∙ c.loop-i.invariant.edges;
+            none = c.loop-i.invariant.none ∙ no_contradiction_at t.parents revs i a b one c.loop-i-test.true is c.index-revs-i.is (ap (contradiction_at a b) told);
+            place = λ r at. w.place-is ∙ w.place_in-place-in-None.ensures.place ∙ ap (place_of nodes) (given r at);
+          }
+    ]
+
+pub returns-clause-edges : goal.returns-clause-edges
+returns-clause-edges c =
+    let t = tree_of c.args.self.now.items in
+    sym (ap (λ es. c.loop-i.all && list_all (has_edge t) es) (edges_end c.args.revs.now (c.loop-i.i - 1) (omega arith)) ∙ and-true c.loop-i.all) ∙ c.loop-i.invariant.edges
+
+pub returns-clause-none : goal.returns-clause-none
+returns-clause-none c =
+    let m = (tree_of c.args.self.now.items).parents in
+    c.loop-i.invariant.none ∙ ap (first_contradiction m) (edges_end c.args.revs.now (c.loop-i.i - 1) (omega arith))

@@ -1,0 +1,15 @@
+use Rattle.std.proofs.Common.{◌≡◌, ◌-◌, ◌&&◌, drop, slice_get, Some}
+use Rattle.std.specs.List.{list_all}
+use Rattle.rev_core.specs.Rev.{RevId}
+use Rattle.rev_core.specs.Ancestry.{edges_of}
+use Rattle.rev_tree.specs.Tree.{has_edge, first_contradiction}
+use Rattle.rev_tree.specs.Nodes.{place_of, tree_of}
+use Rattle.rev_tree.proofs.nodes.Nodes.knows_edges.Given as goal
+
+-- what is left of the edges tells the rest; the place is that of the revision before
+abbrev pub invariant-loop-i : goal.invariant-loop-i
+invariant-loop-i l = record {
+  edges : (l.all && list_all (has_edge (tree_of l.self.items)) (edges_of (drop (l.i - 1) l.revs))) ≡ list_all (has_edge (tree_of l.self.items)) (edges_of l.revs);
+  none : first_contradiction (tree_of l.self.items).parents (edges_of l.revs) ≡ first_contradiction (tree_of l.self.items).parents (edges_of (drop (l.i - 1) l.revs));
+  place : (r : RevId) → slice_get l.revs (l.i - 1) ≡ Some r → l.place ≡ place_of l.self.items r;
+}

@@ -1,0 +1,43 @@
+use Rattle.std.proofs.Common.{◌≡◌, ◌<◌, Some, is_some, not, set, length, length-set, slice_get, sym, ap, ◌∙◌, subst, arith}
+use Rattle.rev_tree.specs.Index.{index_for}
+use Rattle.rev_tree.specs.Node.{NodeValue}
+use Rattle.rev_tree.specs.Nodes.{revs_in, tree_of}
+use Rattle.rev_tree.specs.Steps.{with_edge}
+use Rattle.rev_tree.proofs.Places.{none_of, read_at, read_alike}
+use Rattle.rev_tree.proofs.Linking.{IsEdged, edged, tree_named}
+use Rattle.rev_tree.proofs.nodes.Nodes.link.Goals as goal
+use Rattle.rev_tree.proofs.nodes.Nodes.link.Goals.{After-mark}
+
+links : (c : After-mark) → IsEdged c.self.inside.list.items (set (set c.self.inside.list.items c.args.child c.name_parent.new.self) c.args.parent c.mark.new.self) c.args.child c.args.parent
+links c =
+    let items = c.self.inside.list.items in
+    let n = c.index_mut.result.now in
+    let m = c.index_mut-then-is_none.result.now in
+    let low : c.args.child < length items = subst (λ v. c.args.child < length v.items) (sym c.self.view_is) c.requires.child_within in
+    let also : c.args.parent < length items = subst (λ v. c.args.parent < length v.items) (sym c.self.view_is) c.requires.parent_within in
+    let same = read_alike items c.args.child n c.index.result.now low c.index_mut.ensures.value c.index.ensures in
+    let none = none_of n.parent (ap (λ (x : NodeValue). is_some x.parent) same ∙ ap is_some (sym c.parent.ensures) ∙ c.is_none.ensures ∙ ap not c.if-is_none.true) in
+    edged items c.args.child c.args.parent n m c.name_parent.new.self c.mark.new.self c.self.invariant.linked
+    (read_at items c.args.child n low c.index_mut.ensures.value) also none c.name_parent.ensures
+    (read_at (set items c.args.child c.name_parent.new.self) c.args.parent m (omega (arith, also, length-set items c.args.child c.name_parent.new.self)) c.index_mut-then-is_none.ensures.value)
+    c.mark.ensures
+
+pub invariant_of-self : goal.invariant_of-self
+invariant_of-self c = record { index = c.self.invariant.index ∙ ap index_for (sym (links c.before).revs); linked = (links c.before).linked }
+
+pub returns-then-is_none-clause-tree : goal.returns-then-is_none-clause-tree
+returns-then-is_none-clause-tree c child parent is at =
+    (links c.before).tree child parent (ap (λ v. slice_get (revs_in v.items) c.args.child) c.self.view_is ∙ is) (ap (λ v. slice_get (revs_in v.items) c.args.parent) c.self.view_is ∙ at)
+    ∙ ap (λ v. with_edge (tree_of v.items) child parent) c.self.view_is
+
+pub returns-then-is_none-clause-revs : goal.returns-then-is_none-clause-revs
+returns-then-is_none-clause-revs c = (links c.before).revs ∙ ap (λ v. revs_in v.items) c.self.view_is
+
+pub returns-else-is_none-clause-tree : goal.returns-else-is_none-clause-tree
+returns-else-is_none-clause-tree c child parent is _ =
+    let items = c.self.inside.list.items in
+    let n = c.index.result.now in
+    let low : c.args.child < length items = subst (λ v. c.args.child < length v.items) (sym c.self.view_is) c.requires.child_within in
+    subst (λ v. slice_get (revs_in v.items) c.args.child ≡ Some child → tree_of v.items ≡ with_edge (tree_of v.items) child parent) c.self.view_is
+    (tree_named items c.args.child n c.self.invariant.linked (read_at items c.args.child n low c.index.ensures)
+    (ap is_some (sym c.parent.ensures) ∙ c.is_none.ensures ∙ ap not c.if-is_none.false) child parent) is

@@ -1,0 +1,5 @@
+use Rattle.rev_tree.proofs.Starts.{IsIndexed-none}
+use Rattle.rev_tree.proofs.nodes.Nodes.new.Goals as goal
+
+pub invariant_of-result : goal.invariant_of-result
+invariant_of-result c = rw (c.new.ensures.items, c.new-2.ensures) IsIndexed-none

@@ -1,0 +1,43 @@
+use Rattle.std.proofs.Common.{◌≡◌, ◌++◌, ◌∷◌, [], None, length, take, slice_get, sym, ap, ◌∙◌, subst}
+use Rattle.std.proofs.Math.Seq.{take-append_seam}
+use Rattle.rev_tree.specs.Index.{index_for}
+use Rattle.rev_tree.specs.Nodes.{place_of, revs_in, tree_of}
+use Rattle.rev_tree.specs.Steps.{with_rev}
+use Rattle.rev_tree.proofs.Places.{slice_get-last}
+use Rattle.rev_tree.proofs.Linking.{IsAdded, added, new_node, length-revs_in}
+use Rattle.rev_tree.proofs.nodes.Nodes.push.Goals as goal
+use Rattle.rev_tree.proofs.nodes.Nodes.push.Goals.{After-index_rest}
+
+adds : (c : After-index_rest) → IsAdded c.self.inside.list.items c.push_reserved.new.self.items c.args.rev c.args.origin
+adds c =
+    let items = c.self.inside.list.items in
+    added items c.push_reserved.new.self.items c.args.rev c.args.origin c.self.invariant.linked
+    (subst (λ v. place_of v.items c.args.rev ≡ None) (sym c.self.view_is) c.requires.new)
+    (c.push_reserved.ensures.items ∙ ap (λ n. items ++ n ∷ []) c.new.ensures)
+
+pub index_rest-requires-clause-begun : goal.index_rest-requires-clause-begun
+index_rest-requires-clause-begun c =
+    let items = c.self.inside.list.items in
+    let n = new_node c.args.rev c.args.origin in
+    let pushed = c.push_reserved.ensures.items ∙ ap (λ n. items ++ n ∷ []) c.new.ensures in
+    let first = ap (take (length c.as_slice-place.result.now)) (c.deref.ensures.value ∙ pushed) ∙ ap (λ l. take (length l) (items ++ n ∷ [])) c.as_slice-place.ensures.value ∙ take-append_seam items (n ∷ []) in
+    c.self.invariant.index ∙ ap (λ l. index_for (revs_in l)) (sym first)
+
+pub invariant_of-self : goal.invariant_of-self
+invariant_of-self c = record { index = c.index_rest.ensures.index ∙ ap (λ l. index_for (revs_in l)) c.deref.ensures.value; linked = (adds c).linked }
+
+pub returns-clause-tree : goal.returns-clause-tree
+returns-clause-tree c = (adds c).tree ∙ ap (λ v. with_rev (tree_of v.items) c.args.rev c.args.origin) c.self.view_is
+
+pub returns-clause-revs : goal.returns-clause-revs
+returns-clause-revs c = (adds c).revs ∙ ap (λ v. revs_in v.items ++ c.args.rev ∷ []) c.self.view_is
+
+pub returns-clause-at : goal.returns-clause-at
+returns-clause-at c =
+    let items = c.self.inside.list.items in
+    ap (λ l. slice_get l (length c.as_slice-place.result.now)) (adds c).revs
+    ∙ ap (slice_get (revs_in items ++ c.args.rev ∷ [])) (ap length c.as_slice-place.ensures.value ∙ sym (length-revs_in items))
+    ∙ slice_get-last (revs_in items) c.args.rev
+
+pub returns-clause-kept : goal.returns-clause-kept
+returns-clause-kept c i r h = (adds c).kept i r (ap (λ v. slice_get (revs_in v.items) i) c.self.view_is ∙ h)

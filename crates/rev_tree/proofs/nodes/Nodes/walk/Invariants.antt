@@ -1,0 +1,14 @@
+use Rattle.std.proofs.Common.{◌≡◌, ◌++◌, ◌<◌, length}
+use Rattle.rev_tree.specs.Walks.{ancestors_at}
+use Rattle.rev_tree.proofs.Walking.{generation_at}
+use Rattle.rev_tree.proofs.nodes.Nodes.walk.Given as goal
+
+-- the walk so far, and the rest of it
+abbrev pub invariant-walk : goal.invariant-walk
+invariant-walk l = record {
+  walked : l.revs.items ++ ancestors_at l.self.items l.at ≡ ancestors_at l.self.items l.fn.start;
+  within : l.at < length l.self.items;
+}
+
+abbrev pub decreases-walk : goal.decreases-walk
+decreases-walk l = generation_at l.self.items l.at
