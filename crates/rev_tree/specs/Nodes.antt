@@ -7,6 +7,8 @@ use Rattle.rev_tree.specs.Tree.{TreeValue, is_parent}
 use Rattle.rev_tree.specs.Node.{NodeValue}
 use Rattle.rev_tree.specs.Index.{index_for}
 use Rattle.rev_tree.specs.Room.{HasIndexRoom}
+use Rattle.rev_tree.specs.Steps.{with_rev}
+use Rattle.rev_tree.specs.declared.origin.Origin.{Origin}
 
 -- the revisions, by place
 abbrev pub revs_in : List NodeValue → List RevId
@@ -82,3 +84,10 @@ pub record NodesValue : Type 0 where
 pub record HasRoom (v : NodesValue) (more : ℕ) : Type 0 where
   pub nodes : length v.items + more ≤ v.capacity
   pub places : HasIndexRoom (length v.items + more) v.index_capacity
+
+-- what a revision makes of the nodes, among which it then stands at the place k: where it is new, room for one is gone
+pub record HasGained (old new : NodesValue) (r : RevId) (origin : Origin) (k : ℕ) : Type 0 where
+  pub tree : tree_of new.items ≡ with_rev (tree_of old.items) r origin
+  pub at : slice_get (revs_in new.items) k ≡ Some r
+  pub kept : (i : ℕ) (q : RevId) → slice_get (revs_in old.items) i ≡ Some q → slice_get (revs_in new.items) i ≡ Some q
+  pub room : (more : ℕ) → HasRoom old (more + 1) → HasRoom new more

@@ -1,12 +1,11 @@
 //! An ancestry beside the nodes of a tree, and put among them.
-ghost use Rattle.std.specs.Prelude.{◌≡◌, ℕ, ◌+◌, ◌<◌, [], Some, None, IfSome, IfOk, IfErr, OnOk, slice_get, length};
+ghost use Rattle.std.specs.Prelude.{◌≡◌, ◌<◌, [], Some, None, IfSome, IfOk, IfErr, OnOk, length};
 ghost use Rattle.std.specs.FinMap.{get};
 ghost use Rattle.std.specs.List.{list_all};
 ghost use Rattle.rev_core.specs.Rev.{RevId};
 ghost use Rattle.rev_core.specs.Ancestry.{IsAncestry, edges_of};
 ghost use Rattle.rev_tree.specs.Tree.{merged, has_edge, first_contradiction};
-ghost use Rattle.rev_tree.specs.Steps.{with_rev};
-ghost use Rattle.rev_tree.specs.Nodes.{HasRoom, IsLinked, place_of, rev_at, revs_in, tree_of};
+ghost use Rattle.rev_tree.specs.Nodes.{HasGained, HasRoom, IsLinked, place_of, rev_at, revs_in, tree_of};
 
 use crate::content::Content;
 use crate::fault::Contradiction;
@@ -116,12 +115,7 @@ impl Nodes {
     fn add(&mut self, near: Option<usize>, rev: Rev, origin: Origin) -> usize
         requires near { IfSome near (λ i. i < length self.old.items) }
         requires room { HasRoom self.old 1 }
-        ensures tree { tree_of self.new.items ≡ with_rev (tree_of self.old.items) rev origin }
-        ensures at { slice_get (revs_in self.new.items) result ≡ Some rev }
-        ensures kept { (i : ℕ) (r : RevId)
-            → slice_get (revs_in self.old.items) i ≡ Some r
-            → slice_get (revs_in self.new.items) i ≡ Some r }
-        ensures room { (n : ℕ) → HasRoom self.old (n + 1) → HasRoom self.new n }
+        ensures { HasGained self.old self.new rev origin result }
     {
         match self.place_near(near, &rev) {
             Some(place) => place,

@@ -3,7 +3,7 @@ ghost use Rattle.std.specs.Prelude.{◌≡◌, ℕ, ◌+◌, ◌<◌, ◌≤◌,
 ghost use Rattle.std.specs.Option.{option_copied};
 ghost use Rattle.rev_core.specs.Rev.{RevId};
 ghost use Rattle.rev_tree.specs.Room.{HasIndexRoom};
-ghost use Rattle.rev_tree.specs.Steps.{with_rev, with_edge, with_content};
+ghost use Rattle.rev_tree.specs.Steps.{with_edge, with_content};
 ghost use Rattle.rev_tree.specs.declared.nodes.TheConstants.{MOST_WALKED};
 
 use crate::content::Content;
@@ -19,7 +19,7 @@ use std::marker::Model;
 pub(crate) const MOST_WALKED: usize = 8;
 
 ghost use Rattle.rev_tree.specs.Index.{index_for, mark_of, noted_from};
-ghost use Rattle.rev_tree.specs.Nodes.{HasRoom, IsLinked, node_of, place_of, revs_in, tree_of};
+ghost use Rattle.rev_tree.specs.Nodes.{HasGained, HasRoom, IsLinked, node_of, place_of, revs_in, tree_of};
 
 /// Nodes with the index of their places. A node is never removed, so places stay.
 ///
@@ -112,13 +112,8 @@ impl Nodes {
     pub(crate) fn push(&mut self, rev: Rev, origin: Origin) -> usize
         requires new { place_of self.old.items rev ≡ None }
         requires room { HasRoom self.old 1 }
-        ensures tree { tree_of self.new.items ≡ with_rev (tree_of self.old.items) rev origin }
+        ensures gained { HasGained self.old self.new rev origin result }
         ensures revs { revs_in self.new.items ≡ revs_in self.old.items ++ rev ∷ [] }
-        ensures at { slice_get (revs_in self.new.items) result ≡ Some rev }
-        ensures kept { (i : ℕ) (r : RevId)
-            → slice_get (revs_in self.old.items) i ≡ Some r
-            → slice_get (revs_in self.new.items) i ≡ Some r }
-        ensures room { (n : ℕ) → HasRoom self.old (n + 1) → HasRoom self.new n }
     {
         let place = self.list.as_slice().len();
         self.list.push_reserved(Node::new(rev, origin));

@@ -1,4 +1,4 @@
-use Rattle.std.proofs.Common.{◌≡◌, ◌++◌, ◌∷◌, [], None, length, take, slice_get, sym, ap, ◌∙◌, subst}
+use Rattle.std.proofs.Common.{◌≡◌, ◌++◌, ◌∷◌, [], None, length, take, slice_get, sym, ap, ◌∙◌, subst, rules}
 use Rattle.std.proofs.Math.Seq.{take-append_seam}
 use Rattle.rev_tree.specs.Index.{index_for}
 use Rattle.rev_tree.specs.Nodes.{place_of, revs_in, tree_of}
@@ -26,18 +26,18 @@ index_rest-requires-clause-begun c =
 pub invariant_of-self : goal.invariant_of-self
 invariant_of-self c = record { index = c.index_rest.ensures.index ∙ ap (λ l. index_for (revs_in l)) c.deref.ensures.value; linked = (adds c).linked }
 
-pub returns-clause-tree : goal.returns-clause-tree
-returns-clause-tree c = (adds c).tree ∙ ap (λ v. with_rev (tree_of v.items) c.args.rev c.args.origin) c.self.view_is
+pub returns-clause-gained : goal.returns-clause-gained
+returns-clause-gained c =
+    let items = c.self.inside.list.items in
+    record {
+      tree = (adds c).tree ∙ ap (λ v. with_rev (tree_of v.items) c.args.rev c.args.origin) c.self.view_is;
+      at =
+          ap (λ l. slice_get l (length c.as_slice-place.result.now)) (adds c).revs
+          ∙ ap (slice_get (revs_in items ++ c.args.rev ∷ [])) (ap length c.as_slice-place.ensures.value ∙ sym (length-revs_in items))
+          ∙ slice_get-last (revs_in items) c.args.rev;
+      kept = λ i r h. (adds c).kept i r (ap (λ v. slice_get (revs_in v.items) i) c.self.view_is ∙ h);
+      room = λ n h. search rules;
+    }
 
 pub returns-clause-revs : goal.returns-clause-revs
 returns-clause-revs c = (adds c).revs ∙ ap (λ v. revs_in v.items ++ c.args.rev ∷ []) c.self.view_is
-
-pub returns-clause-at : goal.returns-clause-at
-returns-clause-at c =
-    let items = c.self.inside.list.items in
-    ap (λ l. slice_get l (length c.as_slice-place.result.now)) (adds c).revs
-    ∙ ap (slice_get (revs_in items ++ c.args.rev ∷ [])) (ap length c.as_slice-place.ensures.value ∙ sym (length-revs_in items))
-    ∙ slice_get-last (revs_in items) c.args.rev
-
-pub returns-clause-kept : goal.returns-clause-kept
-returns-clause-kept c i r h = (adds c).kept i r (ap (λ v. slice_get (revs_in v.items) i) c.self.view_is ∙ h)
