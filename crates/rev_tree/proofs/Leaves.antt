@@ -6,21 +6,21 @@ use Rattle.std.specs.List.Sorted.{IsSortedBy, IsPermutation}
 use Rattle.std.proofs.lemmas.List.Sorted.{list_any-IsPermutation, length_permutation}
 use Rattle.std.specs.declared.cmp.Ordering.{Ordering}
 use Rattle.std.specs.declared.cmp.Ordering.TheVariants.{Less, Equal, Greater}
-use Rattle.std.specs.Ordering.{eq_by_cmp, is_lt, is_eq, ordering_reverse}
+use Rattle.std.specs.Ordering.{eq_by_cmp, is_lt, is_eq, bool_cmp, ordering_reverse, ordering_then}
 use Rattle.std.specs.Cmp.{IsTotalOrder}
 use Rattle.std.specs.FinMap.{keys, contains_key-keys, IsAntisymmetric}
 use Rattle.std.specs.FinMap.Entries.{by_order}
-use Rattle.std.proofs.lemmas.List.{take_more, take-append-drop, map-append, append-nil, length-append}
+use Rattle.std.proofs.lemmas.List.{take_all, take_more, take-append-drop, map-append, append-nil, length-append}
 use Rattle.std.proofs.lemmas.List.Elements.{filter-append}
 use Rattle.rev_core.specs.Rev.{RevId, rev_cmp}
-use Rattle.rev_tree.specs.InOrder.{in_order, placed, only_of, same_in_order, in_order-push, in_order-cons, in_order-nil, length-placed}
+use Rattle.rev_tree.specs.InOrder.{in_order, placed, first_of, first_of-placed, better, only_of, same_in_order, in_order-push, in_order-cons, in_order-nil, length-placed}
 use Rattle.rev_tree.specs.Tree.{TreeValue, is_leaf, is_deleted, leaf_cmp, leaves}
 use Rattle.rev_tree.specs.Content.{ContentValue}
-use Rattle.std.specs.Option.{option_map_or, option_to_list}
+use Rattle.std.specs.Option.{option_map, option_map_or, option_to_list}
 use Rattle.rev_tree.specs.LeafLaws.{leaf_cmp_total, leaf_cmp_exact, leaf_tie, any_agree, any_filter}
-use Rattle.rev_tree.specs.Nodes.{revs_in, tree_of, Distinct, IsLinked}
+use Rattle.rev_tree.specs.Nodes.{revs_in, tree_of, deletes, goes_before, Distinct, IsLinked}
 use Rattle.rev_tree.specs.Node.{NodeValue}
-use Rattle.rev_tree.proofs.Places.{is_some-node_of, node_at, read_at}
+use Rattle.rev_tree.proofs.Places.{is_some-node_of, node_at, read_at, some_is}
 use Rattle.rev_tree.proofs.Lookups.{leaf_is, content_is}
 use Rattle.rev_tree.proofs.Views.{has-tree_of}
 
@@ -36,7 +36,7 @@ leaf_item nodes items t linked view same i n low is =
     (node_at nodes linked.once i n (read_at nodes i n (subst (λ l. i < length l) same low) (subst (λ l. n ≡ get_or l i n) same is)))
 
 -- and its content whether it deletes
-pub deleted_item : (nodes items : List NodeValue) (t : TreeValue) → IsLinked nodes → tree_of nodes ≡ t → items ≡ nodes → (i : ℕ) (n : NodeValue) → i < length items → n ≡ get_or items i n → is_deleted t n.rev ≡ option_map_or (λ (b : ContentValue). b.deleted) n.content false
+pub deleted_item : (nodes items : List NodeValue) (t : TreeValue) → IsLinked nodes → tree_of nodes ≡ t → items ≡ nodes → (i : ℕ) (n : NodeValue) → i < length items → n ≡ get_or items i n → is_deleted t n.rev ≡ deletes n
 deleted_item nodes items t linked view same i n low is =
     ap (λ o. option_map_or (λ (b : ContentValue). b.deleted) o false)
     (content_is nodes t n.rev (Some n) linked view
@@ -67,6 +67,43 @@ leaves_of_nodes nodes t linked view =
     ∙ ap (λ b. b && is_leaf t q) (sym (is_some-node_of nodes q) ∙ sym (has-tree_of nodes linked.once q) ∙ contains_key-keys (tree_of nodes).origins q ∙ ap (λ (u : TreeValue). list_any (eq_by_cmp rev_cmp q) (keys u.origins)) view)
     ∙ sym (any_filter (is_leaf t) q (keys t.origins))
     ∙ any_agree (eq_by_cmp rev_cmp q) (eq_by_cmp (leaf_cmp t) q) (λ x. sym (leaf_tie t q x)) (filter (is_leaf t) (keys t.origins)))
+
+-- ---- the first
+
+-- a node is that of the first, and tells whether it is deleted
+pub record IsBest (t : TreeValue) (ordered : List RevId) (best : Option NodeValue) : Type 0 where
+  pub first : option_map (λ (n : NodeValue). n.rev) best ≡ first_of ordered
+  pub told : (n : NodeValue) → best ≡ Some n → is_deleted t n.rev ≡ deletes n
+
+pub best_none : (t : TreeValue) → IsBest t (in_order (leaf_cmp t) []) None
+best_none t = record { first = ap first_of (sym (in_order-nil (leaf_cmp t))); told = λ n e. absurd (false≢true (ap is_some e)) }
+
+pub best_placed : (t : TreeValue) (xs : List RevId) (best : Option NodeValue) (n : NodeValue) → is_deleted t n.rev ≡ deletes n → IsBest t xs best → IsBest t (placed (leaf_cmp t) n.rev xs) (cond (goes_before n best) (Some n) best)
+best_placed t xs None n h best = record {
+  first = ap (λ o. Some (better (leaf_cmp t) o n.rev)) best.first ∙ sym (first_of-placed (leaf_cmp t) n.rev xs);
+  told = λ m e. subst (λ (x : NodeValue). is_deleted t x.rev ≡ deletes x) (some_is n m e) h;
+}
+best_placed t xs (Some a) n h best =
+    let same : goes_before n (Some a) ≡ is_lt (leaf_cmp t n.rev a.rev) = λ i. is_lt (ordering_then (bool_cmp (sym h i) (sym (best.told a refl) i)) (rev_cmp a.rev n.rev)) in
+    record {
+      first =
+          one (goes_before n (Some a)) ∙ ap (λ b. Some (cond b n.rev a.rev)) same ∙ ap (λ o. Some (better (leaf_cmp t) o n.rev)) best.first
+          ∙ sym (first_of-placed (leaf_cmp t) n.rev xs);
+      told = λ m e. of_one (goes_before n (Some a)) m e;
+    }
+  where
+    one : (b : Bool) → option_map (λ (x : NodeValue). x.rev) (cond b (Some n) (Some a)) ≡ Some (cond b n.rev a.rev)
+    one true = refl
+    one false = refl
+
+    of_one : (b : Bool) (m : NodeValue) → cond b (Some n) (Some a) ≡ Some m → is_deleted t m.rev ≡ deletes m
+    of_one true m e = subst (λ (x : NodeValue). is_deleted t x.rev ≡ deletes x) (some_is n m e) h
+    of_one false m e = best.told m e
+
+pub best_of_all : (nodes items : List NodeValue) (t : TreeValue) → IsLinked nodes → tree_of nodes ≡ t → items ≡ nodes → (k : ℕ) (best : Option NodeValue) → length items ≤ k
+    → IsBest t (in_order (leaf_cmp t) (filter (is_leaf t) (revs_in (take k items)))) best → option_map (λ (n : NodeValue). n.rev) best ≡ first_of (leaves t)
+best_of_all nodes items t linked view same k best all h =
+    h.first ∙ ap (λ l. first_of (in_order (leaf_cmp t) (filter (is_leaf t) (revs_in l)))) (take_all k items all ∙ same) ∙ ap first_of (leaves_of_nodes nodes t linked view)
 
 -- ---- how many
 

@@ -1,9 +1,12 @@
 -- A tree as it is kept: nodes that name their parents by place, and an index of the places.
-use Rattle.std.specs.Prelude.{◌≡◌, ℕ, ◌+◌, ◌<◌, ◌≤◌, false, List, [], ◌∷◌, ◌++◌, map, length, Option, Some, None, slice_get, IfSome}
+use Rattle.std.specs.Prelude.{◌≡◌, ℕ, ◌+◌, ◌<◌, ◌≤◌, Bool, true, false, List, [], ◌∷◌, ◌++◌, map, length, Option, Some, None, slice_get, IfSome}
 use Rattle.std.specs.FinMap as finmap
+use Rattle.std.specs.Option.{option_map_or}
+use Rattle.std.specs.Ordering.{is_lt, bool_cmp, ordering_then}
 use Rattle.rev_core.specs.Rev.{RevId, rev_cmp}
 use Rattle.rev_core.specs.Ancestry.{is_among}
 use Rattle.rev_tree.specs.Tree.{TreeValue, is_parent}
+use Rattle.rev_tree.specs.Content.{ContentValue}
 use Rattle.rev_tree.specs.Node.{NodeValue}
 use Rattle.rev_tree.specs.Index.{index_for}
 use Rattle.rev_tree.specs.Room.{HasIndexRoom}
@@ -68,6 +71,15 @@ pub record IsNode (nodes : List NodeValue) (n : NodeValue) : Type 0 where
 pub record IsLinked (nodes : List NodeValue) : Type 0 where
   pub once : Distinct (revs_in nodes)
   pub each : (r : RevId) (n : NodeValue) → node_of nodes r ≡ Some n → IsNode nodes n
+
+-- whether what stands at a node deletes
+abbrev pub deletes : NodeValue → Bool
+deletes n = option_map_or (λ (b : ContentValue). b.deleted) n.content false
+
+-- whether a leaf goes before another, where there is one, in the winner's order
+abbrev pub goes_before : NodeValue → Option NodeValue → Bool
+goes_before n None = true
+goes_before n (Some best) = is_lt (ordering_then (bool_cmp (deletes n) (deletes best)) (rev_cmp best.rev n.rev))
 
 -- what holds of the nodes and the index of their places
 pub record IsIndexed (nodes : List NodeValue) (entries : List (ℕ × ℕ)) : Type 0 where

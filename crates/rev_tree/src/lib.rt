@@ -18,4 +18,4 @@ pub use content::Content;
 pub use fault::{Contradiction, Merged, TreeFault};
 pub use origin::{Origin, SessionId};
 pub use revs::Revs;
-pub use tree::Tree;
+pub use tree::{Standing, Tree};

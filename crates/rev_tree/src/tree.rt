@@ -1,6 +1,7 @@
 //! Trees.
-ghost use Rattle.std.specs.Prelude.{◌≡◌, ◌∷◌, [], Ok, OnOk, OnErr, IfOk, length, map, true, false};
-ghost use Rattle.std.specs.Option.{option_map_or};
+ghost use Rattle.std.specs.Prelude.{◌≡◌, ◌∷◌, [], Ok, OnOk, OnErr, IfOk, MatchOption, length, map, true, false};
+ghost use Rattle.std.specs.Option.{option_copied};
+ghost use Rattle.rev_tree.specs.Nodes.{deletes, goes_before};
 
 use crate::content::Content;
 use crate::fault::{Contradiction, Merged, TreeFault};
@@ -12,6 +13,13 @@ use rev_core::{Ancestry, Rev};
 use std::alloc::{AllocError, Global};
 use std::cmp::Ordering;
 use std::marker::Model;
+
+/// What a tree has of one of its revisions: its ancestors, itself first, and what stands at it where that is known.
+#[derive(Drop)]
+pub struct Standing<'a> {
+    pub ancestry: Ancestry,
+    pub content: Option<&'a Content>,
+}
 
 /// A document's revisions with their parents, contents and origins.
 ///
@@ -43,9 +51,8 @@ impl Model for Tree {
 
 impl Tree {
     ghost use Rattle.std.specs.FinMap.{get, len};
-    ghost use Rattle.std.specs.Option.{option_copied};
-    ghost use Rattle.rev_tree.specs.Tree.{IsTree, no_revisions, has, is_leaf, merged, merge_answer, ancestors, ancestry_answer, leaves, leaf_cmp, is_deleted, missing, leaves_above, GivesUnlessMemory, MergeGives};
-    ghost use Rattle.rev_tree.specs.InOrder.{first_of, only_of, better};
+    ghost use Rattle.rev_tree.specs.Tree.{IsTree, no_revisions, has, is_leaf, merged, merge_answer, ancestors, ancestry_answer, leaves, is_deleted, missing, leaves_above, GivesUnlessMemory, MergeGives, IsStanding};
+    ghost use Rattle.rev_tree.specs.InOrder.{first_of, only_of};
 
     /// The tree of no revisions.
     pub fn new(alloc: Global) -> Tree
@@ -131,17 +138,38 @@ impl Tree {
         Ok(Ancestry::from_revs(revs))
     }
 
+    /// What the tree has of a revision, found with one look-up: its ancestors, and what stands at it where that is known.
+    /// `None` where it is not in the tree.
+    pub fn standing(&self, alloc: Global, rev: Rev) -> Result<Option<Standing<'_>>, AllocError>
+        ensures { IfOk result
+            (λ o. MatchOption o (has self.now rev ≡ false) (λ s. IsStanding self.now rev s.ancestry (option_copied s.content))) }
+    {
+        let Some(place) = self.nodes.place_in(&rev) else {
+            return Ok(None);
+        };
+        let revs = self.nodes.walk(alloc, place)?;
+        Ok(Some(Standing {
+            ancestry: Ancestry::from_revs(revs),
+            content: self.nodes.node_at(place).content(),
+        }))
+    }
+
     /// The winning leaf, where there is a revision.
     pub fn winner(&self) -> Option<Rev>
         ensures { result ≡ first_of (leaves self.now) }
     {
-        let mut best: Option<Rev> = None;
+        let mut best: Option<&Node> = None;
         for node in self.nodes.all() {
             if !node.has_child() {
-                best = Some(self.better(best, *node.rev()));
+                if goes_before(node, best) {
+                    best = Some(node);
+                }
             }
         }
-        best
+        match best {
+            Some(node) => Some(*node.rev()),
+            None => None,
+        }
     }
 
     /// The leaves, winner first. One alone takes no memory.
@@ -171,6 +199,7 @@ impl Tree {
     }
 
     /// The leaves, winner first, of which there may be several.
+    #[inline(never)]
     fn sorted_leaves(&self, alloc: Global) -> Result<Vec<Rev>, AllocError>
         ensures { IfOk result (λ v. v.items ≡ leaves self.now) }
     {
@@ -244,29 +273,6 @@ impl Tree {
             }
         }
         Ok(missing)
-    }
-
-    /// The one of two leaves that stands first.
-    fn better(&self, best: Option<Rev>, other: Rev) -> Rev
-        ensures { result ≡ better (leaf_cmp self.now) best other }
-    {
-        match best {
-            None => other,
-            Some(best) => {
-                if self.compare(other, best) == Ordering::Less {
-                    other
-                } else {
-                    best
-                }
-            }
-        }
-    }
-
-    /// The order of leaves: one that is not deleted first, then the greater generation, then the greater signature.
-    fn compare(&self, a: Rev, b: Rev) -> Ordering
-        ensures { result ≡ leaf_cmp self.now a b }
-    {
-        self.is_deleted(a).cmp(&self.is_deleted(b)).then(b.cmp(&a))
     }
 
     /// The same tree.
@@ -355,9 +361,25 @@ impl Tree {
     }
 }
 
+/// Whether a leaf goes before the best one so far, where there is one: one that is not deleted first, then the greater
+/// generation, then the greater signature.
+fn goes_before(leaf: &Node, best: Option<&Node>) -> bool
+    ensures { result ≡ goes_before leaf.now (option_copied best.entry) }
+{
+    match best {
+        Some(best) => {
+            let order = is_deleted(leaf)
+                .cmp(&is_deleted(best))
+                .then(best.rev().cmp(leaf.rev()));
+            order == Ordering::Less
+        }
+        None => true,
+    }
+}
+
 /// Whether a node has a content that deletes.
 fn is_deleted(node: &Node) -> bool
-    ensures { result ≡ option_map_or (λ b. b.deleted) node.now.content false }
+    ensures { result ≡ deletes node.now }
 {
     match node.content() {
         Some(content) => content.deleted(),
