@@ -21,7 +21,7 @@ pub fn check_run<F: WriteFilter>(
     if plan.workers > MOST_WORKERS {
         return Err(PoolFault::TooManyWorkers);
     }
-    match check_plan(source, target, plan) {
+    match check_plan(source.db().uuid(), target.db().uuid(), plan) {
         Ok(()) => Ok(()),
         Err(TargetFault::BadBatch) => Err(PoolFault::BadBatch),
         Err(_) => Err(PoolFault::SamePeer),

@@ -24,8 +24,8 @@ use repl_log::Moment;
 use rev_tree::SessionId;
 use std::alloc::{AllocError, Global};
 
-/// The most rows of a window.
-const MOST_ROWS: u64 = 10_000;
+/// The most rows that a window of a replication may have.
+pub const MOST_ROWS: u64 = 10_000;
 
 /// What a replication is asked to do.
 #[derive(Debug, Drop)]
@@ -134,25 +134,21 @@ fn carry_all<F: WriteFilter, G: WriteFilter>(
 {
     // The readings tell the proof that both peers are lawful.
     let (_source, _target) = (source.db(), target.db());
-    check_plan(source, target, plan)?;
+    check_plan(source.db().uuid(), target.db().uuid(), plan)?;
     let start = begin_plan(source, target, plan)?;
     read_windows(alloc, source, target, plan, start)?;
     close(source, target, plan)
 }
 
-/// Whether a plan can be begun: `BadBatch` where the batch isn't 1 to 10,000; else `SamePeer` where the two databases
-/// have one UUID.
-pub fn check_plan<F: WriteFilter, G: WriteFilter>(
-    source: &Peer<F>,
-    target: &Peer<G>,
-    plan: &Plan,
-) -> Result<(), TargetFault>
-    ensures { result ≡ plan_answer source.now.1 target.now.1 plan.now }
+/// Whether a plan can be begun between the databases of two UUIDs: `BadBatch` where the batch isn't 1 to 10,000; else
+/// `SamePeer` where the UUIDs are one.
+pub fn check_plan(source: u128, target: u128, plan: &Plan) -> Result<(), TargetFault>
+    ensures { result ≡ plan_answer source target plan.now }
 {
     if plan.batch < 1 || plan.batch > MOST_ROWS {
         return Err(TargetFault::BadBatch);
     }
-    if source.db().uuid() == target.db().uuid() {
+    if source == target {
         return Err(TargetFault::SamePeer);
     }
     Ok(())

@@ -75,7 +75,7 @@ IntoItself {E} old answer result new = (why : E) × (answer ≡ Err why) × (res
 abbrev pub CarriedAlone : State → List ℕ → List ℕ → PeerValue → PeerValue → Plan → Result Report TargetFault → State
     → Type 0
 CarriedAlone old source target s t plan result new =
-    (source ≡ target) × IntoItself old (plan_answer s s plan) result new
+    (source ≡ target) × IntoItself old (plan_answer s.db.uuid s.db.uuid plan) result new
     ⊎ (source ≢ target) × AloneIntoAnother old source target s t plan result new
 
 -- by the pool

@@ -295,7 +295,7 @@ impl Databases {
 
 /// What a replication of a peer into itself by one thread is refused for.
 fn refuses_itself(plan: &Plan) -> TargetFault
-    ensures { (p : PeerValue) → plan_answer p p plan.now ≡ Err result }
+    ensures { (p : PeerValue) → plan_answer p.db.uuid p.db.uuid plan.now ≡ Err result }
 {
     if plan.batch < 1 || plan.batch > 10_000 {
         TargetFault::BadBatch

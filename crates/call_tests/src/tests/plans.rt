@@ -25,6 +25,7 @@ pub(crate) fn check(
     target: &Peer<Rules>,
     batch: u64,
 ) -> Option<String> {
+    let (source, target) = (source.db().uuid(), target.db().uuid());
     match check_plan(source, target, &plan(SessionId(1), batch, 0)?) {
         Ok(()) => "can begin".to_string(alloc).ok(),
         Err(fault) => fault_text(alloc, fault),

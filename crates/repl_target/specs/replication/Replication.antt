@@ -30,10 +30,10 @@ use Rattle.repl_target.specs.declared.replication.Plan.{Plan}
 abbrev pub is_batch : ℕ → Bool
 is_batch n = nat_le 1 n && nat_le n 10000
 
--- what is asked first: the batch, and that the two databases are not one
-abbrev pub plan_answer : PeerValue → PeerValue → Plan → Result (Unit {0}) TargetFault
+-- what is asked first, between the databases of two UUIDs: the batch, and that they are not one
+abbrev pub plan_answer : ℕ → ℕ → Plan → Result (Unit {0}) TargetFault
 plan_answer source target plan =
-    if is_batch plan.batch then (if source.db.uuid == target.db.uuid then Err faults.SamePeer else Ok tt)
+    if is_batch plan.batch then (if source == target then Err faults.SamePeer else Ok tt)
     else Err faults.BadBatch
 
 -- a session begins where the two logs agree, on the session of that checkpoint, or at 0
@@ -178,21 +178,21 @@ first_reading source target plan =
 pub data Replicates (refuses : Document → Bool) (source target : PeerValue) (plan : Plan) : Result Report TargetFault
     → PeerValue → PeerValue → Type 0 where
   -- the plan isn't one for these peers
-  not_planned : {why : TargetFault} → plan_answer source target plan ≡ Err why
+  not_planned : {why : TargetFault} → plan_answer source.db.uuid target.db.uuid plan ≡ Err why
       → Replicates refuses source target plan (Err why) source target
   -- the logs find no memory, or the session isn't begun
-  no_memory : plan_answer source target plan ≡ Ok tt
+  no_memory : plan_answer source.db.uuid target.db.uuid plan ≡ Ok tt
       → Replicates refuses source target plan (Err faults.Memory) source target
-  not_begun : {why : TargetFault} → plan_answer source target plan ≡ Ok tt → begins_answer source target plan ≡ Err why
+  not_begun : {why : TargetFault} → plan_answer source.db.uuid target.db.uuid plan ≡ Ok tt → begins_answer source target plan ≡ Err why
       → Replicates refuses source target plan (Err why) source target
   -- after some windows the next is refused
-  cut : {why : TargetFault} {target' : PeerValue} → plan_answer source target plan ≡ Ok tt
+  cut : {why : TargetFault} {target' : PeerValue} → plan_answer source.db.uuid target.db.uuid plan ≡ Ok tt
       → begins_answer source target plan ≡ Ok tt
       → ReadsUntil refuses source.db plan (first_reading source target plan) why target'
       → Replicates refuses source target plan (Err why) source target'
   -- all windows are read
   ended : {result : Result Report TargetFault} {source' target' : PeerValue} (read : PeerValue)
-      → plan_answer source target plan ≡ Ok tt → begins_answer source target plan ≡ Ok tt
+      → plan_answer source.db.uuid target.db.uuid plan ≡ Ok tt → begins_answer source target plan ≡ Ok tt
       → ReadsAll refuses source.db plan (first_reading source target plan) read
       → Closes source read plan result source' target' → Replicates refuses source target plan result source' target'
 

@@ -191,7 +191,7 @@ module _ (refuses : Document → Bool) (source : DatabaseValue) (plan : Plan) (b
 
 -- ---- a replication
 
-planned_batch : (source target : PeerValue) (plan : Plan) → plan_answer source target plan ≡ Ok tt → is_batch plan.batch ≡ true
+planned_batch : (source target : PeerValue) (plan : Plan) → plan_answer source.db.uuid target.db.uuid plan ≡ Ok tt → is_batch plan.batch ≡ true
 planned_batch source target plan h =
     cond_both (is_batch plan.batch) (cond (source.db.uuid == target.db.uuid) (Err faults.SamePeer) (Ok tt)) (Err faults.BadBatch) (λ (r : Result (Unit {0}) TargetFault). r ≡ Ok tt → is_batch plan.batch ≡ true)
     (λ e _. e) (λ _ k. absurd (false≢true (ap is_ok k))) h

@@ -364,16 +364,16 @@ less-is a b h = grind (arith, h)
 
 -- the session has begun, and nothing is read
 pub record Started (source target : PeerValue) (plan : Plan) (from : Reading) : Type 0 where
-  pub planned : plan_answer source target plan ≡ Ok tt
+  pub planned : plan_answer source.db.uuid target.db.uuid plan ≡ Ok tt
   pub begun : begins_answer source target plan ≡ Ok tt
   pub is : from ≡ first_reading source target plan
 
 pub refused_plan : (refuses : Document → Bool) (source target : PeerValue) (plan : Plan) (result : Result Report TargetFault) (why : TargetFault)
-    → plan_answer source target plan ≡ Err why → result ≡ Err why → Replicates refuses source target plan result source target
+    → plan_answer source.db.uuid target.db.uuid plan ≡ Err why → result ≡ Err why → Replicates refuses source target plan result source target
 refused_plan refuses source target plan result why h e = subst (λ r. Replicates refuses source target plan r source target) (sym e) (not_planned h)
 
 pub refused_begin : (refuses : Document → Bool) (source target : PeerValue) (plan : Plan) (result : Result Report TargetFault) (why : TargetFault) (target' : PeerValue)
-    → plan_answer source target plan ≡ Ok tt → ((why ≡ faults.Memory) ⊎ (begins_answer source target plan ≡ Err why)) → target' ≡ target → result ≡ Err why → Replicates refuses source target plan result source target'
+    → plan_answer source.db.uuid target.db.uuid plan ≡ Ok tt → ((why ≡ faults.Memory) ⊎ (begins_answer source target plan ≡ Err why)) → target' ≡ target → result ≡ Err why → Replicates refuses source target plan result source target'
 refused_begin refuses source target plan result why target' planned refused same e =
     let at : Replicates refuses source target plan (Err why) source target =
     elim refused [
@@ -392,7 +392,7 @@ pub ended_all : (refuses : Document → Bool) (source target : PeerValue) (plan 
 ended_all refuses source target plan from read result source' target' s reads closes =
     ended read s.planned s.begun (subst (λ f. ReadsAll refuses source.db plan f read) s.is reads) closes
 
-planned_batch : (source target : PeerValue) (plan : Plan) → plan_answer source target plan ≡ Ok tt → is_batch plan.batch ≡ true
+planned_batch : (source target : PeerValue) (plan : Plan) → plan_answer source.db.uuid target.db.uuid plan ≡ Ok tt → is_batch plan.batch ≡ true
 planned_batch source target plan h =
     cond_both (is_batch plan.batch) (cond (source.db.uuid == target.db.uuid) (Err faults.SamePeer) (Ok tt)) (Err faults.BadBatch) (λ (r : Result (Unit {0}) TargetFault). r ≡ Ok tt → is_batch plan.batch ≡ true)
     (λ e _. e) (λ _ k. absurd (false≢true (ap is_ok k))) h
