@@ -1,8 +1,13 @@
 -- What a value is read as, by its first token.
-use Rattle.std.proofs.Common.{◌≡◌, ℕ, ◌-◌, ◌<◌, List, [], ◌∷◌, length, Bool, Some, None, option_map, ap, ◌∙◌}
+use Rattle.std.proofs.Common.{◌≡◌, ◌≢◌, ℕ, ◌-◌, ◌<◌, List, [], ◌∷◌, length, Bool, true, false, Bor, Some, None, option_map, refl, ap, ◌∙◌}
+use Rattle.std.proofs.lemmas.Bool.{true≢false, false≢true}
 use Rattle.json.specs.Token.{Token}
 use Rattle.json.specs.Json as json
-use Rattle.json.specs.Json.{parse_map, items, members, value}
+use Rattle.json.specs.Json.{parse_map, items, members, read_key, value}
+use Rattle.json.specs.Reads.{token_of}
+use Rattle.json.specs.declared.token.Token as reader
+use Rattle.json.specs.declared.token.Token.TheVariants.{BeginObject, EndObject, BeginArray, EndArray, Key, String, Number, Bool as Boolean, Null, Bad}
+use Rattle.json_values.specs.Place.{begins_key, of_string}
 use Rattle.json.proofs.Grammar.{value_is, value-begin_array, value-begin_object}
 use Rattle.serde_json.specs.Data.{null, boolean, number, string, array, object, no_members}
 use Rattle.serde_json.specs.Read.{of_json, of_items, of_members, converted, number_of}
@@ -41,3 +46,55 @@ read-deep_array depth rest none = ap (λ n. converted of_json (value n (Token.be
 pub read-deep_object : (depth : ℕ) (rest : List Token) → depth ≡ 0 → converted of_json (value depth (Token.begin_object ∷ rest)) ≡ None
 unfolding value
 read-deep_object depth rest none = ap (λ n. converted of_json (value n (Token.begin_object ∷ rest))) none
+
+-- ---- a string that is no name, and one that is no value
+
+pub not_a_key : (t : reader.Token) (rest : List Token) → ((s : Bor (List ℕ)) → t ≢ Key s) → begins_key (token_of t ∷ rest) ≡ false
+not_a_key BeginObject rest other = refl
+not_a_key EndObject rest other = refl
+not_a_key BeginArray rest other = refl
+not_a_key EndArray rest other = refl
+not_a_key (Key s) rest other = absurd (other s refl)
+not_a_key (String s) rest other = refl
+not_a_key (Number s) rest other = refl
+not_a_key (Boolean b) rest other = refl
+not_a_key Null rest other = refl
+not_a_key Bad rest other = refl
+
+pub keyless : (t : Token) (rest : List Token) → of_string t ≡ true → begins_key (t ∷ rest) ≡ false → read_key (t ∷ rest) ≡ None
+keyless Token.begin_object rest kind other = absurd (false≢true kind)
+keyless Token.end_object rest kind other = absurd (false≢true kind)
+keyless Token.begin_array rest kind other = absurd (false≢true kind)
+keyless Token.end_array rest kind other = absurd (false≢true kind)
+keyless (Token.key s) rest kind other = absurd (true≢false other)
+keyless (Token.string s) rest kind other = refl
+keyless (Token.number s) rest kind other = absurd (false≢true kind)
+keyless (Token.boolean b) rest kind other = absurd (false≢true kind)
+keyless Token.null rest kind other = absurd (false≢true kind)
+keyless Token.bad rest kind other = refl
+
+pub not_a_value : (t : reader.Token) (rest : List Token) → of_string (token_of t) ≡ true → ((s : Bor (List ℕ)) → t ≢ String s) → (depth : ℕ) → value depth (token_of t ∷ rest) ≡ None
+not_a_value BeginObject rest kind other depth = absurd (false≢true kind)
+not_a_value EndObject rest kind other depth = absurd (false≢true kind)
+not_a_value BeginArray rest kind other depth = absurd (false≢true kind)
+not_a_value EndArray rest kind other depth = absurd (false≢true kind)
+not_a_value (Key s) rest kind other depth = value_is depth (Token.key s.now ∷ rest)
+not_a_value (String s) rest kind other depth = absurd (other s refl)
+not_a_value (Number s) rest kind other depth = absurd (false≢true kind)
+not_a_value (Boolean b) rest kind other depth = absurd (false≢true kind)
+not_a_value Null rest kind other depth = absurd (false≢true kind)
+not_a_value Bad rest kind other depth = value_is depth (Token.bad ∷ rest)
+
+-- where neither a name nor an end comes, no member does
+pub neither : (ts : List Token) → begins_key ts ≡ false → ((rest : List Token) → read_key ts ≢ Some (None, rest)) → read_key ts ≡ None
+neither [] other going = refl
+neither (Token.begin_object ∷ ts) other going = refl
+neither (Token.end_object ∷ ts) other going = absurd (going ts refl)
+neither (Token.begin_array ∷ ts) other going = refl
+neither (Token.end_array ∷ ts) other going = refl
+neither (Token.key s ∷ ts) other going = absurd (true≢false other)
+neither (Token.string s ∷ ts) other going = refl
+neither (Token.number s ∷ ts) other going = refl
+neither (Token.boolean b ∷ ts) other going = refl
+neither (Token.null ∷ ts) other going = refl
+neither (Token.bad ∷ ts) other going = refl

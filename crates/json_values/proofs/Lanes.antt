@@ -1,5 +1,6 @@
 -- A mask that is computed lane by lane is held to a predicate at each of the 256 bytes.
-use Rattle.std.proofs.Common.{◌≡◌, ℕ, zero, suc, ◌%◌, ◌^◌, ◌<◌, ◌≤◌, ltb, Bool, true, false, not, ◌&&◌, cond, eqb, T, ◌⊎◌, inl, inr, List, [], ◌∷◌, map, length, refl, sym, ap, ap₂, ◌∙◌, subst, arith, w8, Fits, not-suc-le-zero}
+use Rattle.std.specs.Str.{IsAscii}
+use Rattle.std.proofs.Common.{leb, leb-false, ◌≡◌, ℕ, zero, suc, ◌%◌, ◌^◌, ◌<◌, ◌≤◌, ltb, Bool, true, false, not, ◌&&◌, cond, eqb, T, ◌⊎◌, inl, inr, List, [], ◌∷◌, map, length, refl, sym, ap, ap₂, ◌∙◌, subst, arith, w8, Fits, not-suc-le-zero}
 use Rattle.std.proofs.lemmas.Simd.{mask_l-mod}
 use Rattle.std.proofs.lemmas.Bool.{cases_order}
 use Rattle.std.proofs.lemmas.List.{length-map}
@@ -55,3 +56,20 @@ pub masked : (f : ℕ → ℕ) (p : ℕ → Bool) (v z : List ℕ) → length v 
     → mask_l (map (top 7) z) % 2 ^ 64 ≡ mask_l (map p v)
 masked f p v z short fits e all =
     ap (λ l. mask_l l % 2 ^ 64) (ap (map (top 7)) e ∙ each_byte f p all v fits) ∙ mask_l-mod (map p v) 64 (omega (arith, length-map v p))
+
+-- ---- bytes that are not ASCII
+
+abbrev pub at_least : ℕ → ℕ → ℕ
+at_least a b = cond (leb a b) 255 0
+
+abbrev pub is_high : ℕ → Bool
+is_high x = leb 128 x
+
+pub none_high : (xs : List ℕ) → mask_l (map is_high xs) ≡ 0 → IsAscii xs
+none_high [] e i = omega arith
+none_high (x ∷ xs) e zero = go (leb 128 x) refl (omega arith)
+  where
+    go : (t : Bool) → leb 128 x ≡ t → ◌≡◌ {A = ℕ} (cond t 1 0) 0 → x < 128
+    go true p q = absurd (omega arith)
+    go false p q = leb-false _ _ p
+none_high (x ∷ xs) e (suc i) = none_high xs (omega arith) i

@@ -6,8 +6,10 @@ pub mod WholeReads
 pub mod LineMembers
 pub mod LineReads
 pub mod PutEntries
+pub mod NameOrder
 pub mod OrderedReads
 pub mod Lanes
+pub mod AsciiText
 pub mod Runs
 pub mod Content
 pub mod Passing

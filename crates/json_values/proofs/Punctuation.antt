@@ -9,7 +9,7 @@ use Rattle.json.specs.Lex.{Lexeme, token, comma, colon, Class, quote, backslash,
 use Rattle.json.specs.Lex.{Place, fresh, after_value, after_comma, after_key, begins_colon, may_begin, may_close, if_allowed, place_token, punctuate}
 use Rattle.json.specs.Align.{is_good, is_blank}
 use Rattle.json.specs.Json.{after_end_array}
-use Rattle.json_values.specs.Place.{tokens_at, closes_at, begins_at, refused_at, NotBeforeComma}
+use Rattle.json_values.specs.Place.{tokens_at, closes_at, begins_at, begins_key, refused_at, NotBeforeComma}
 use Rattle.json_values.specs.declared.tokens.Place as reader
 use Rattle.json_values.specs.declared.tokens.Place.TheVariants.{Fresh, AfterValue, AfterComma, Failed}
 use Rattle.json_values.proofs.Steps.{lex_first, lex-nil}
@@ -263,3 +263,45 @@ refused_no_end Fresh = refl
 refused_no_end AfterValue = refl
 refused_no_end AfterComma = refl
 refused_no_end Failed = refl
+
+-- ---- where no name comes
+
+other_key : (b : Bool) (t : Token) (k : Place → List Token) (next : Place) → begins_key (t ∷ k next) ≡ false → begins_key (if_allowed b t k next) ≡ false
+other_key true t k next e = e
+other_key false t k next e = refl
+
+word_no_key : (p : Place) (w : Token) (b : Bool) (k : Place → List Token) → IsWord w → begins_key (place_token p w b k) ≡ false
+word_no_key p begin_object b k h = absurd h
+word_no_key p end_object b k h = absurd h
+word_no_key p begin_array b k h = absurd h
+word_no_key p end_array b k h = absurd h
+word_no_key p (key s) b k h = absurd h
+word_no_key p (string s) b k h = absurd h
+word_no_key p (number s) b k h = other_key (may_begin p) (number s) k after_value refl
+word_no_key p (boolean v) b k h = other_key (may_begin p) (boolean v) k after_value refl
+word_no_key p null b k h = other_key (may_begin p) null k after_value refl
+word_no_key p bad b k h = refl
+
+keyless : (p : Place) (t : List ℕ) → Ends t → head t ≢ 34 → begins_key (punctuate p []) ≡ false → (head t ≡ 44 → begins_key (punctuate p (comma ∷ rest t)) ≡ false)
+    → begins_key (punctuate p (colon ∷ rest t)) ≡ false → begins_key (punctuate p (lex between t)) ≡ false
+unfolding punctuate
+keyless p t ends other_byte none at_comma at_colon =
+    let k = λ (n : Place). punctuate n (rest t) in
+    first_cases t (λ ls. begins_key (punctuate p ls) ≡ false) (λ b. ap (λ ls. begins_key (punctuate p ls)) (ap (lex between) (ends b) ∙ lex-nil) ∙ none)
+    (λ o h. absurd (other_byte h)) (λ w h. word_no_key p w _ k h)
+    (six (λ x. head t ≡ x → begins_key (punctuate p (operator_lexeme x ∷ rest t)) ≡ false) (λ h. other_key (may_begin p) begin_object k fresh refl) (λ h. other_key (may_close p) end_object k after_value refl)
+    (λ h. other_key (may_begin p) begin_array k fresh refl) (λ h. other_key (may_close p) end_array k after_value refl) (λ h. at_colon) at_comma)
+
+pub no_key : (place : reader.Place) (t : List ℕ) → Ends t → NotBeforeComma place t → head t ≢ 34 → begins_key (tokens_at place t) ≡ false
+unfolding punctuate
+no_key Fresh t ends passed h = keyless fresh t ends h refl (λ e. refl) refl
+no_key AfterValue t ends passed h = keyless after_value t ends h refl (λ e. absurd (passed e)) refl
+no_key AfterComma t ends passed h = keyless after_comma t ends h refl (λ e. refl) refl
+no_key Failed t ends passed h = refl
+
+pub no_key_yet : (place : reader.Place) (t : List ℕ) → begins_at place ≡ false → head t ≡ 34 → begins_key (tokens_at place t) ≡ false
+unfolding punctuate
+no_key_yet Fresh t e h = absurd (true≢false e)
+no_key_yet AfterValue t e h = ap (λ ls. begins_key (punctuate after_value ls)) (at_string t _ h refl) ∙ ap begins_key (text_after_value _ _ _)
+no_key_yet AfterComma t e h = absurd (true≢false e)
+no_key_yet Failed t e h = refl

@@ -4,7 +4,7 @@ use Rattle.std.specs.Ordering.{match_ordering, ordering_reverse}
 use Rattle.std.specs.Cmp.Lexicographic.{slice_cmp}
 use Rattle.std.specs.List.{AllByRecursion, slice_set}
 use Rattle.std.specs.List.Sorted.{IsStrictlySortedBy}
-use Rattle.std.proofs.lemmas.Cmp.{nat_list_cmp_total}
+use Rattle.std.proofs.lemmas.Cmp.{nat_list_cmp_total, alike_right}
 use Rattle.std.proofs.lemmas.List.{take-set, drop-set, take-append-drop}
 use Rattle.json_values.specs.Entries.{Entry, names_of, IsRising, put_entry}
 
@@ -26,6 +26,16 @@ set_between xs i y within =
 pub rising_none : (T : Type 0) → IsRising {T = T} []
 unfolding IsStrictlySortedBy
 rising_none T = tt
+
+-- the first ones of members in order are in order
+pub rising_front : (T : Type 0) (es more : List (Entry T)) → IsRising (es ++ more) → IsRising es
+unfolding IsStrictlySortedBy
+rising_front T [] more r = tt
+rising_front T (e ∷ es) more r = (front es r.0, rising_front T es more r.1)
+  where
+    front : (xs : List (Entry T)) → Behind e.0.now (names_of (xs ++ more)) → Behind e.0.now (names_of xs)
+    front [] all = tt
+    front (x ∷ xs) all = (all.0, front xs all.1)
 
 module _ {T : Type 0} (name : Bor (List ℕ)) (v : T) where
   behind_put : (l : List ℕ) (es : List (Entry T)) → slice_cmp nat_cmp l name.now ≡ Less → Behind l (names_of es) → Behind l (names_of (put_entry name v es))
@@ -66,16 +76,36 @@ module _ {T : Type 0} (name : Bor (List ℕ)) (v : T) where
       before k [] all = all.0
       before k (x ∷ xs) all = before k xs all.1
 
+  at_end : (last : Entry T) (k : List ℕ) (xs : List (Entry T)) → Behind k (names_of (xs ++ last ∷ [])) → slice_cmp nat_cmp k last.0.now ≡ Less
+  at_end last k [] all = all.0
+  at_end last k (x ∷ xs) all = at_end last k xs all.1
+
+  -- what its name comes before stays behind it
+  pub put_front : (es : List (Entry T)) (e : Entry T) → slice_cmp nat_cmp name.now e.0.now ≡ Less → put_entry name v (es ++ e ∷ []) ≡ put_entry name v es ++ e ∷ []
+  put_front [] e is = put_before e [] is
+  put_front (x ∷ es) e is = by (slice_cmp nat_cmp name.now x.0.now) (put_front es e is)
+    where
+      by : (o : Ordering) → put_entry name v (es ++ e ∷ []) ≡ put_entry name v es ++ e ∷ []
+          → match_ordering o ((name, v) ∷ x ∷ (es ++ e ∷ [])) ((x.0, v) ∷ (es ++ e ∷ [])) (x ∷ put_entry name v (es ++ e ∷ []))
+          ≡ match_ordering o ((name, v) ∷ x ∷ es) ((x.0, v) ∷ es) (x ∷ put_entry name v es) ++ e ∷ []
+      by Less more = refl
+      by Equal more = refl
+      by Greater more = ap (λ xs. x ∷ xs) more
+
+  -- one of the last name takes its place
+  pub put_tied : (es : List (Entry T)) (last : Entry T) → IsRising (es ++ last ∷ []) → slice_cmp nat_cmp name.now last.0.now ≡ Equal → put_entry name v (es ++ last ∷ []) ≡ es ++ (last.0, v) ∷ []
+  unfolding IsStrictlySortedBy
+  put_tied [] last r is = put_over last [] is
+  put_tied (e ∷ es) last r is =
+      let less : slice_cmp nat_cmp e.0.now name.now ≡ Less = alike_right nat_list_cmp_total name.now last.0.now e.0.now is ∙ at_end last e.0.now es r.0 in
+      put_after e (es ++ last ∷ []) (turned e.0.now name.now less) ∙ ap (λ xs. e ∷ xs) (put_tied es last r.1 is)
+
   -- so does one that comes behind the last
   pub put_last : (es : List (Entry T)) (last : Entry T) → IsRising (es ++ last ∷ []) → slice_cmp nat_cmp name.now last.0.now ≡ Greater → put_entry name v (es ++ last ∷ []) ≡ (es ++ last ∷ []) ++ (name, v) ∷ []
   unfolding IsStrictlySortedBy
   put_last [] last r is = put_after last [] is
   put_last (e ∷ es) last r is =
-      let below : slice_cmp nat_cmp e.0.now last.0.now ≡ Less = at_end e.0.now es r.0 in
+      let below : slice_cmp nat_cmp e.0.now last.0.now ≡ Less = at_end last e.0.now es r.0 in
       let under : slice_cmp nat_cmp last.0.now name.now ≡ Less = nat_list_cmp_total.antisymm last.0.now name.now ∙ ap ordering_reverse is in
       let less = nat_list_cmp_total.trans e.0.now last.0.now name.now below under in
       put_after e (es ++ last ∷ []) (turned e.0.now name.now less) ∙ ap (λ xs. e ∷ xs) (put_last es last r.1 is)
-    where
-      at_end : (k : List ℕ) (xs : List (Entry T)) → Behind k (names_of (xs ++ last ∷ [])) → slice_cmp nat_cmp k last.0.now ≡ Less
-      at_end k [] all = all.0
-      at_end k (x ∷ xs) all = at_end k xs all.1

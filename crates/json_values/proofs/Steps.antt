@@ -1,12 +1,12 @@
 -- One lexeme at a time: what stands first, and what is left after it.
-use Rattle.std.proofs.Common.{◌≡◌, ℕ, ◌+◌, ◌<◌, true, false, List, [], ◌∷◌, length, drop, get_or, Some, add-zero, lt_of_not-le, refl, sym, ap, ◌∙◌, arith}
+use Rattle.std.proofs.Common.{◌≡◌, ℕ, ◌+◌, ◌<◌, false, List, [], ◌∷◌, length, drop, get_or, add-zero, lt_of_not-le, refl, sym, ap, ◌∙◌, arith}
 use Rattle.std.proofs.lemmas.List.{drop-drop, get_or-drop, get_or_default, get_or_past}
 use Rattle.std.proofs.lemmas.Bool.{true≢false}
 use Rattle.json.specs.Token.{bad}
 use Rattle.json.specs.Text.{content, plain}
 use Rattle.json.specs.Word.{head, word}
 use Rattle.json.specs.Lex.{Lexeme, token, Class, quote, backslash, operator, space, other, class, operator_lexeme, string_token, Mode, between, lex_byte, lex}
-use Rattle.json.specs.Align.{is_good, begins_well, is_blank}
+use Rattle.json.specs.Align.{is_blank}
 
 abbrev pub first_lexeme : Class → List ℕ → Lexeme
 first_lexeme quote t = token (string_token (content plain (drop 1 t)))
@@ -30,9 +30,6 @@ lex_first c (x ∷ xs) e h = first_is (class x) x xs (λ n. lex n xs) (ap is_bla
 pub lex-nil : lex between [] ≡ []
 unfolding lex
 lex-nil = refl
-
-pub good_string : (t s : List ℕ) → head t ≡ 34 → content plain (drop 1 t) ≡ Some s → begins_well (lex between t) ≡ true
-good_string t s e found = ap begins_well (lex_first quote t (ap class e) refl) ∙ ap (λ o. is_good (string_token o)) found
 
 pub record AtQuote (d : List ℕ) (p : ℕ) : Type 0 where
   pub within : p < length d

@@ -1,6 +1,7 @@
 -- The tokens from a place of a text on.
-use Rattle.std.specs.Prelude.{◌≡◌, ◌≢◌, ℕ, List, [], ◌∷◌, Bool, true, false, ⊤}
+use Rattle.std.specs.Prelude.{◌≡◌, ◌≢◌, ℕ, List, [], ◌∷◌, Bool, true, false, None, ⊤}
 use Rattle.json.specs.Token.{Token, bad}
+use Rattle.json.specs.Json.{value}
 use Rattle.json.specs.Word.{head}
 use Rattle.json.specs.Lex.{between, lex, fresh, after_value, after_comma, may_begin, may_close, punctuate}
 use Rattle.json.specs.Lex as spec
@@ -25,6 +26,37 @@ Begins old t place new = (p : spec.Place) → may_begin p ≡ true → punctuate
 
 abbrev pub Closes : List ℕ → Token → Place → List ℕ → Type 0
 Closes old t place new = (p : spec.Place) → may_close p ≡ true → punctuate p (lex between old) ≡ t ∷ tokens_at place new
+
+-- a name comes first
+abbrev pub begins_key : List Token → Bool
+begins_key [] = false
+begins_key (Token.begin_object ∷ ts) = false
+begins_key (Token.end_object ∷ ts) = false
+begins_key (Token.begin_array ∷ ts) = false
+begins_key (Token.end_array ∷ ts) = false
+begins_key (Token.key s ∷ ts) = true
+begins_key (Token.string s ∷ ts) = false
+begins_key (Token.number s ∷ ts) = false
+begins_key (Token.boolean b ∷ ts) = false
+begins_key (Token.null ∷ ts) = false
+begins_key (Token.bad ∷ ts) = false
+
+-- a string is read as one of these
+abbrev pub of_string : Token → Bool
+of_string Token.begin_object = false
+of_string Token.end_object = false
+of_string Token.begin_array = false
+of_string Token.end_array = false
+of_string (Token.key s) = true
+of_string (Token.string s) = true
+of_string (Token.number s) = false
+of_string (Token.boolean b) = false
+of_string Token.null = false
+of_string Token.bad = true
+
+-- no value comes next, of whatever nesting
+abbrev pub BeginsNoValue : List Token → Type 0
+BeginsNoValue ts = (depth : ℕ) → value depth ts ≡ None
 
 abbrev pub closes_at : Place → Bool
 closes_at Fresh = true

@@ -89,7 +89,10 @@ impl<'a> Lexer<'a> {
         let start = self.at + 1;
         let stop = plain_end(text.as_bytes(), start);
         if byte_at(text.as_bytes(), stop) != b'"' {
-            return self.escaped_string();
+            return match self.escaped_string() {
+                Some(content) => Some(content),
+                None => None,
+            };
         }
         self.at = after_blanks(text.as_bytes(), stop + 1);
         Some(&text[start..stop])

@@ -1,5 +1,5 @@
 //! The members of an object as they are read, in byte order of their names.
-ghost use Rattle.std.specs.Prelude.{◌≡◌, ◌<◌, ◌≤◌, [], length, true, OnOk, IfOk, IfErr};
+ghost use Rattle.std.specs.Prelude.{◌≡◌, ◌<◌, ◌≤◌, [], length, slice_index, true, OnOk, IfOk, IfErr};
 ghost use Rattle.std.specs.Ordering.{nat_cmp};
 ghost use Rattle.std.specs.Cmp.Lexicographic.{slice_cmp};
 ghost use Rattle.json_values.specs.Entries.{ComesLast, IsRising, IsPlaceOf, IsGapFor, put_entry};
@@ -31,27 +31,40 @@ impl<'a, T: Drop> Members<'a, T> {
     }
 
     /// Puts a member among those that are there. One of its name keeps its place and takes the value.
+    #[inline(always)]
     pub(crate) fn put(&mut self, alloc: Global, name: &'a str, value: T) -> Result<(), AllocError>
         requires { IsRising (entries_of self.old) }
         ensures { OnOk result (entries_of self.new ≡ put_entry name.entry value (entries_of self.old)) }
     {
-        self.make_room(alloc, name)?;
+        if self.is_full(name) {
+            self.go_over(alloc)?;
+        }
         match self {
             Members::Listed(entries) => put_listed(entries, name, value),
             Members::Mapped(map) => put_mapped(map, name, value),
         }
     }
 
-    /// Goes over to a map, where there are many members and one of this name does not come last.
-    fn make_room(&mut self, alloc: Global, name: &str) -> Result<(), AllocError>
+    /// Whether there are many members in a list, and one of this name does not come last.
+    #[inline(always)]
+    fn is_full(&self, name: &str) -> bool
+        requires { IsRising (entries_of self.now) }
+    {
+        match self {
+            Members::Listed(entries) => entries.len() >= FEW && !comes_last(entries, name),
+            Members::Mapped(_) => false,
+        }
+    }
+
+    /// Goes over to a map.
+    #[inline(never)]
+    fn go_over(&mut self, alloc: Global) -> Result<(), AllocError>
         requires { IsRising (entries_of self.old) }
         ensures { OnOk result (entries_of self.new ≡ entries_of self.old) }
     {
         if let Members::Listed(entries) = self {
-            if entries.len() >= FEW && !comes_last(entries, name) {
-                let entries = mem::replace(entries, Vec::new(alloc));
-                *self = Members::Mapped(map_of(alloc, entries)?);
-            }
+            let entries = mem::replace(entries, Vec::new(alloc));
+            *self = Members::Mapped(map_of(alloc, entries)?);
         }
         Ok(())
     }
@@ -83,6 +96,7 @@ fn map_of<'a, T: Drop>(
 }
 
 /// Puts a member into a map.
+#[inline(never)]
 fn put_mapped<'a, T: Drop>(
     map: &mut BTreeMap<&'a str, T>,
     name: &'a str,
@@ -94,7 +108,8 @@ fn put_mapped<'a, T: Drop>(
     Ok(())
 }
 
-/// Puts a member into a list.
+/// Puts a member into a list. Mostly it comes behind all others.
+#[inline(always)]
 fn put_listed<'a, T: Drop>(
     entries: &mut Vec<(&'a str, T)>,
     name: &'a str,
@@ -107,6 +122,19 @@ fn put_listed<'a, T: Drop>(
         entries.push((name, value))?;
         return Ok(());
     }
+    put_within(entries, name, value)
+}
+
+/// Puts a member into a list, wherever its name comes.
+#[inline(never)]
+fn put_within<'a, T: Drop>(
+    entries: &mut Vec<(&'a str, T)>,
+    name: &'a str,
+    value: T,
+) -> Result<(), AllocError>
+    requires { IsRising entries.old.items }
+    ensures { OnOk result (entries.new.items ≡ put_entry name.entry value entries.old.items) }
+{
     match place_of(entries, name) {
         Ok(place) => {
             entries[place].1 = value;
@@ -125,8 +153,11 @@ fn order_of(a: &str, b: &str) -> Ordering
     ensures { result ≡ slice_cmp nat_cmp a.now b.now }
 {
     let (x, y) = (a.as_bytes(), b.as_bytes());
-    if x.is_empty() || y.is_empty() || x[0] == y[0] {
+    if x.is_empty() || y.is_empty() {
         return a.cmp(&b);
+    }
+    if x[0] == y[0] {
+        return order_behind(a, b);
     }
     if x[0] < y[0] {
         Ordering::Less
@@ -135,7 +166,27 @@ fn order_of(a: &str, b: &str) -> Ordering
     }
 }
 
+/// The order of two names whose first bytes are the same. Mostly the second ones tell.
+#[inline(always)]
+fn order_behind(a: &str, b: &str) -> Ordering
+    requires { (0 < length a.now) × (0 < length b.now) × (slice_index a.now 0 ≡ slice_index b.now 0) }
+    ensures { result ≡ slice_cmp nat_cmp a.now b.now }
+{
+    let (x, y) = (a.as_bytes(), b.as_bytes());
+    if x.len() < 2 || y.len() < 2 {
+        return a.cmp(&b);
+    }
+    if x[1] < y[1] {
+        return Ordering::Less;
+    }
+    if y[1] < x[1] {
+        return Ordering::Greater;
+    }
+    a.cmp(&b)
+}
+
 /// Whether a member of a name goes behind all others.
+#[inline(always)]
 fn comes_last<T>(entries: &[(&str, T)], name: &str) -> bool
     requires { IsRising entries.now }
     ensures { result ≡ true → ComesLast name.now entries.now }
@@ -149,17 +200,20 @@ fn comes_last<T>(entries: &[(&str, T)], name: &str) -> bool
     }
 }
 
-/// The place of the member of a name, or where there is none, the place at which it is to be put in.
+/// The place of the member of a name, or where there is none, the place at which it is to be put in. The last members
+/// are looked at first: mostly names come nearly in order.
 fn place_of<T>(entries: &[(&str, T)], name: &str) -> Result<usize, usize>
+    requires { IsRising entries.now }
     ensures there { IfOk result (λ i. i < length entries.now × IsPlaceOf name.now entries.now i) }
     ensures absent { IfErr result (λ i. i ≤ length entries.now × IsGapFor name.now entries.now i) }
 {
-    for i in 0..entries.len() {
-        match order_of(name, entries[i].0) {
-            Ordering::Less => return Err(i),
-            Ordering::Equal => return Ok(i),
-            Ordering::Greater => {}
+    let mut end = entries.len();
+    while end > 0 {
+        match order_of(name, entries[end - 1].0) {
+            Ordering::Greater => return Err(end),
+            Ordering::Equal => return Ok(end - 1),
+            Ordering::Less => end -= 1,
         }
     }
-    Err(entries.len())
+    Err(0)
 }

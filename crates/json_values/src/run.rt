@@ -1,5 +1,5 @@
 //! Passing over blanks, over digits, and over the plain text of a string.
-ghost use Rattle.std.specs.Prelude.{◌≡◌, ◌+◌, ◌≤◌, length, drop, get_or, true};
+ghost use Rattle.std.specs.Prelude.{◌≡◌, ◌+◌, ◌<◌, ◌≤◌, length, drop, get_or, true};
 ghost use Rattle.std.specs.Prelude.{map};
 ghost use Rattle.std.specs.List.{prefix_len};
 ghost use Rattle.std.specs.Char.{is_ascii_digit};
@@ -86,7 +86,7 @@ fn plain_end_slowly(text: &[u8], from: usize) -> usize
     i
 }
 
-/// The same of the last bytes, fewer than eight.
+/// The same of fewer than eight bytes.
 #[inline(always)]
 fn plain_end_4(text: &[u8], from: usize) -> usize
     requires { from ≤ length text.now }
@@ -102,20 +102,54 @@ fn plain_end_4(text: &[u8], from: usize) -> usize
     plain_end_slowly(text, from + 4)
 }
 
-/// The same of the last bytes, fewer than sixteen.
-#[inline(never)]
-fn plain_end_8(text: &[u8], from: usize) -> usize
-    requires { from ≤ length text.now }
+/// The same of the last bytes of eight or more.
+#[inline(always)]
+fn plain_end_of_8(text: &[u8], from: usize) -> usize
+    requires { (8 ≤ length text.now) × (length text.now ≤ from + 8) × (from ≤ length text.now) }
     ensures { result ≡ from + prefix_len is_plain (drop from text.now) }
 {
-    if text.len() - from < 8 {
+    let start = text.len() - 8;
+    let found = stops_8(u8x8::from_slice(&text[start..])) >> (from - start);
+    if found != 0 {
+        return from + found.trailing_zeros() as usize;
+    }
+    text.len()
+}
+
+/// The same of fewer than sixteen bytes.
+#[inline(never)]
+fn plain_end_short(text: &[u8], from: usize) -> usize
+    requires { (from ≤ length text.now) × (length text.now < from + 16) }
+    ensures { result ≡ from + prefix_len is_plain (drop from text.now) }
+{
+    if text.len() < 8 {
         return plain_end_4(text, from);
+    }
+    if text.len() - from < 8 {
+        return plain_end_of_8(text, from);
     }
     let found = stops_8(u8x8::from_slice(&text[from..]));
     if found != 0 {
         return from + found.trailing_zeros() as usize;
     }
-    plain_end_4(text, from + 8)
+    plain_end_of_8(text, from + 8)
+}
+
+/// The same of the last bytes, fewer than sixteen.
+#[inline(always)]
+fn plain_end_last(text: &[u8], from: usize) -> usize
+    requires { (from ≤ length text.now) × (length text.now < from + 16) }
+    ensures { result ≡ from + prefix_len is_plain (drop from text.now) }
+{
+    if text.len() < 16 {
+        return plain_end_short(text, from);
+    }
+    let start = text.len() - 16;
+    let found = stops_16(u8x16::from_slice(&text[start..])) >> (from - start);
+    if found != 0 {
+        return from + found.trailing_zeros() as usize;
+    }
+    text.len()
 }
 
 /// The first quotation mark, backslash or control byte from a place on, or the length.
@@ -133,7 +167,7 @@ pub fn plain_end(text: &[u8], from: usize) -> usize
         }
         i += 16;
     }
-    plain_end_8(text, i)
+    plain_end_last(text, i)
 }
 
 /// The first byte from a place on that is no digit, or the length.

@@ -1,12 +1,13 @@
 //! The tokens of a text: its lexemes, with the commas and colons between them checked.
-ghost use Rattle.std.specs.Prelude.{◌≡◌, ◌≢◌, ◌≤◌, ◌⊎◌, [], ◌∷◌, length, false, Some, None, MatchOption, MatchResult, option_map};
+ghost use Rattle.std.specs.Prelude.{◌≡◌, ◌≢◌, ◌≤◌, ◌⊎◌, [], ◌∷◌, length, true, false, Some, None, MatchOption, MatchResult, option_map};
 ghost use Rattle.std.specs.Bool.{MatchBool};
 ghost use Rattle.json.specs.Word.{head};
 ghost use Rattle.json.specs.Lex.{class, between, lex, after_value, punctuate, tokens};
 ghost use Rattle.json.specs.Align.{is_blank};
 ghost use Rattle.json.specs.Json.{after_end_array, read_key};
 ghost use Rattle.json.specs.Reads.{token_of, Yields};
-ghost use Rattle.json_values.specs.Place.{tokens_at, closes_at, begins_at, refused_at, Begins, Closes, NotBeforeComma};
+ghost use Rattle.json.specs.Token as SpecToken;
+ghost use Rattle.json_values.specs.Place.{tokens_at, closes_at, begins_at, begins_key, of_string, refused_at, Begins, BeginsNoValue, Closes, NotBeforeComma};
 
 use crate::lexer::Lexer;
 use crate::run::is_space;
@@ -82,6 +83,7 @@ fn string<'a>(lexer: &mut Lexer<'a>) -> (Token<'a>, Place)
     requires { head lexer.old ≡ 34 }
     ensures value { Begins lexer.old (token_of result.0) result.1 lexer.new }
     ensures passed { NotBeforeComma result.1 lexer.new }
+    ensures kind { of_string (token_of result.0) ≡ true }
 {
     let Some(text) = lexer.string() else {
         return (Token::Bad, Place::Failed);
@@ -214,6 +216,43 @@ impl<'a> Tokens<'a> {
             Token::EndObject => Ok(None),
             _ => Err(Invalid),
         }
+    }
+
+    /// Takes the name of a member, where one comes next. Where none does, the next name or end stays what it was.
+    #[inline(always)]
+    pub(crate) fn take_key(&mut self) -> Option<&'a str>
+        ensures { MatchOption result
+            ((begins_key self.old ≡ false) × (read_key self.new ≡ read_key self.old))
+            (λ s. self.old ≡ SpecToken.key s.now ∷ self.new) }
+    {
+        if (self.lexer.peek() != b'"') | !self.place.may_begin() {
+            return None;
+        }
+        let (token, place) = string(&mut self.lexer);
+        if let Token::Key(name) = token {
+            self.place = place;
+            return Some(name);
+        }
+        self.place = Place::Failed;
+        None
+    }
+
+    /// Takes the text that comes next. None is taken where something else comes next. `Invalid` where no value does.
+    #[inline(always)]
+    pub(crate) fn take_text(&mut self) -> Result<Option<&'a str>, Invalid>
+        ensures { MatchResult result
+            (λ o. MatchOption o (self.new ≡ self.old) (λ s. self.old ≡ SpecToken.string s.now ∷ self.new))
+            (λ _. BeginsNoValue self.old) }
+    {
+        if (self.lexer.peek() != b'"') | !self.place.may_begin() {
+            return Ok(None);
+        }
+        let (token, place) = string(&mut self.lexer);
+        self.place = place;
+        if let Token::String(text) = token {
+            return Ok(Some(text));
+        }
+        Err(Invalid)
     }
 
     /// Takes the bracket that ends a list, if it is next.

@@ -1,9 +1,11 @@
 //! From tokens to a value whose texts stand where they were read.
-ghost use Rattle.std.specs.Prelude.{◌≡◌, ◌<◌, length, Some, None, IfOk, OnOk};
-ghost use Rattle.json.specs.Json.{value, items, members};
+ghost use Rattle.std.specs.Prelude.{◌≡◌, ◌≢◌, ◌<◌, List, length, Some, None, IfOk, OnOk};
+ghost use Rattle.json.specs.Token as SpecToken;
+ghost use Rattle.json.specs.Json.{value, items, members, read_key};
 ghost use Rattle.serde_json.specs.Data.{no_members};
 ghost use Rattle.serde_json.specs.Read.{converted, of_json, of_items, of_members};
 ghost use Rattle.json_values.specs.LineView.{line_view, line_items, line_members};
+ghost use Rattle.json_values.specs.Members.{entries_of};
 
 use crate::fault::ReadFault;
 use crate::line::LineValue;
@@ -13,10 +15,31 @@ use crate::tokens::Tokens;
 use json::Token;
 use std::alloc::Global;
 
-/// The value that the next tokens are, of at most this nesting.
+/// The value that the next tokens are, of at most this nesting. Mostly it is a text.
 #[cycle(read)]
 #[inline(always)]
 pub(crate) fn read_value<'a>(
+    alloc: Global,
+    reader: &mut Tokens<'a>,
+    depth: usize,
+) -> Result<LineValue<'a>, ReadFault>
+    ensures ok { IfOk result
+        (λ v. converted of_json (value depth reader.old) ≡ Some (line_view v, reader.new)) }
+    ensures shorter { OnOk result (length reader.new < length reader.old) }
+    ensures refused { result ≡ Err ReadFault.NotJson → converted of_json (value depth reader.old) ≡ None }
+    ensures memory { result ≡ Err ReadFault.Memory → 0 < length reader.old }
+{
+    match reader.take_text() {
+        Ok(Some(text)) => Ok(LineValue::String(text)),
+        Ok(None) => read_other(alloc, reader, depth),
+        Err(_) => Err(ReadFault::NotJson),
+    }
+}
+
+/// The same, where it may be no text.
+#[cycle(read)]
+#[inline(always)]
+fn read_other<'a>(
     alloc: Global,
     reader: &mut Tokens<'a>,
     depth: usize,
@@ -95,13 +118,28 @@ fn read_members<'a>(
 {
     let mut found = Members::new(alloc);
     'members: loop {
-        let Ok(next) = reader.next_key() else {
-            return Err(ReadFault::NotJson);
-        };
-        let Some(name) = next else {
-            return Ok(found.into_vec(alloc)?);
+        let Some(name) = reader.take_key() else {
+            let all = end_members(alloc, reader, found)?;
+            return Ok(all);
         };
         let member = read_value(alloc, reader, depth)?;
         found.put(alloc, name, member)?;
+    }
+}
+
+/// The members that were read, where the brace comes next that ends their object.
+#[inline(never)]
+fn end_members<'a>(
+    alloc: Global,
+    reader: &mut Tokens<'a>,
+    found: Members<'a, LineValue<'a>>,
+) -> Result<Vec<(&'a str, LineValue<'a>)>, ReadFault>
+    ensures ok { OnOk result (read_key reader.old ≡ Some (None, reader.new)) }
+    ensures found { IfOk result (λ v. v.items ≡ entries_of found.entry) }
+    ensures refused { result ≡ Err ReadFault.NotJson → (ts : List SpecToken.Token) → read_key reader.old ≢ Some (None, ts) }
+{
+    match reader.next_key() {
+        Ok(None) => Ok(found.into_vec(alloc)?),
+        _ => Err(ReadFault::NotJson),
     }
 }

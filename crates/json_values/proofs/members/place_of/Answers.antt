@@ -1,67 +1,92 @@
-use Rattle.std.proofs.Common.{◌≡◌, ◌+◌, [], ◌∷◌, ◌++◌, length, take, drop, Less, Equal, Greater, nat_cmp, sym, ap, ◌∙◌, arith, append_assoc}
+use Rattle.std.proofs.Common.{◌≡◌, ◌+◌, ◌-◌, List, [], ◌∷◌, ◌++◌, length, take, drop, Less, Equal, Greater, nat_cmp, sym, ap, subst, ◌∙◌, arith, append_assoc, append-nil}
 use Rattle.std.specs.Cmp.Lexicographic.{slice_cmp}
-use Rattle.std.proofs.lemmas.List.{drop_more, take_more, drop_all}
+use Rattle.std.proofs.lemmas.List.{drop_more, take_more, drop_all, take_all, take-append-drop}
 use Rattle.std.proofs.lemmas.Option.{get_or_from_slice_get}
 use Rattle.std.specs.List.{slice_set}
-use Rattle.json_values.specs.Entries.{put_entry}
-use Rattle.json_values.proofs.PutEntries.{put_before, put_over, put_after, set_between}
+use Rattle.json_values.specs.Entries.{Entry, IsRising, put_entry}
+use Rattle.json_values.proofs.PutEntries.{put_front, put_tied, put_last, rising_front, set_between}
 use Rattle.json_values.proofs.members.place_of.Goals as goal
 
-pub returns-in-Less : goal.returns-in-Less
-returns-in-Less g c =
-    let i = c.loop-i.i in
+pub loop-end-init : goal.loop-end-init
+loop-end-init g c =
     let es = c.args.entries.now in
-    let e = c.index-entries-i.result in
-    let here : drop i es ≡ e ∷ drop (i + 1) es = drop_more es i e (omega arith) ∙ ap (λ y. y ∷ drop (i + 1) es) (sym c.index-entries-i.is) in
+    let n = length es in
+    let all : take n es ≡ es = take_all n es (omega arith) in
+    let none : drop n es ≡ [] = drop_all n es (omega arith) in (
+      omega arith,
+      λ name same v. sym (append-nil (put_entry name v es)) ∙ ap (λ xs. put_entry name v xs ++ []) (sym all) ∙ ap (λ ys. put_entry name v (take n es) ++ ys) (sym none),
+    )
+
+pub returns-in-Greater : goal.returns-in-Greater
+returns-in-Greater g c =
+    let n = c.loop-end.end in
+    let k = n - 1 in
+    let es = c.args.entries.now in
+    let e = c.index-entries-end.result in
+    let on : k + 1 ≡ n = omega arith in
+    let front : take n es ≡ take k es ++ e ∷ [] = ap (λ i. take i es) (sym on) ∙ take_more es k e (omega arith) ∙ ap (λ y. take k es ++ y ∷ []) (sym c.index-entries-end.is) in
+    let split : es ≡ (take k es ++ e ∷ []) ++ drop n es = sym (take-append-drop n es) ∙ ap (λ xs. xs ++ drop n es) front in
+    let rising = rising_front g.row.T.Denot (take k es ++ e ∷ []) (drop n es) (subst (λ (ys : List (Entry g.row.T.Denot)). IsRising ys) split c.requires) in
     record {
       there = tt;
       absent = (
         omega arith,
         λ name same v.
-            let before : slice_cmp nat_cmp name.now e.0.now ≡ Less = ap (λ k. slice_cmp nat_cmp k e.0.now) same ∙ ap (λ y. slice_cmp nat_cmp c.args.name.now y.0.now) c.index-entries-i.is ∙ sym c.order_of.ensures ∙ c.in-Less.is in
-            c.loop-i.invariant name same v ∙ ap (λ xs. take i es ++ xs) (ap (put_entry name v) here ∙ put_before name v e (drop (i + 1) es) before ∙ ap (λ ys. (name, v) ∷ ys) (sym here)),
+            let later : slice_cmp nat_cmp name.now e.0.now ≡ Greater = ap (λ k. slice_cmp nat_cmp k e.0.now) same ∙ ap (λ y. slice_cmp nat_cmp c.args.name.now y.0.now) c.index-entries-end.is ∙ sym c.order_of.ensures ∙ c.in-Greater.is in
+            c.loop-end.invariant.1 name same v
+            ∙ ap (λ xs. xs ++ drop n es) (ap (put_entry name v) front ∙ put_last name v (take k es) e rising later ∙ ap (λ xs. xs ++ (name, v) ∷ []) (sym front))
+            ∙ append_assoc (take n es) ((name, v) ∷ []) (drop n es),
       );
     }
 
 pub returns-in-Equal : goal.returns-in-Equal
 returns-in-Equal g c =
-    let i = c.loop-i.i in
+    let n = c.loop-end.end in
+    let k = n - 1 in
     let es = c.args.entries.now in
-    let e = c.index-entries-i.result in
-    let here : drop i es ≡ e ∷ drop (i + 1) es = drop_more es i e (omega arith) ∙ ap (λ y. y ∷ drop (i + 1) es) (sym c.index-entries-i.is) in
+    let e = c.index-entries-end.result in
+    let on : k + 1 ≡ n = omega arith in
+    let front : take n es ≡ take k es ++ e ∷ [] = ap (λ i. take i es) (sym on) ∙ take_more es k e (omega arith) ∙ ap (λ y. take k es ++ y ∷ []) (sym c.index-entries-end.is) in
+    let split : es ≡ (take k es ++ e ∷ []) ++ drop n es = sym (take-append-drop n es) ∙ ap (λ xs. xs ++ drop n es) front in
+    let rising = rising_front g.row.T.Denot (take k es ++ e ∷ []) (drop n es) (subst (λ (ys : List (Entry g.row.T.Denot)). IsRising ys) split c.requires) in
     record {
       there = (
         omega arith,
         λ name same v at is.
-            let same_entry : e ≡ at = c.index-entries-i.is ∙ get_or_from_slice_get es i at e is in
-            let tied : slice_cmp nat_cmp name.now e.0.now ≡ Equal = ap (λ k. slice_cmp nat_cmp k e.0.now) same ∙ ap (λ y. slice_cmp nat_cmp c.args.name.now y.0.now) c.index-entries-i.is ∙ sym c.order_of.ensures ∙ c.in-Equal.is in
-            c.loop-i.invariant name same v ∙ ap (λ xs. take i es ++ xs) (ap (put_entry name v) here ∙ put_over name v e (drop (i + 1) es) tied) ∙ set_between es i (e.0, v) (omega arith) ∙ ap (λ y. slice_set es i (y.0, v)) same_entry,
+            let same_entry : e ≡ at = c.index-entries-end.is ∙ get_or_from_slice_get es k at e is in
+            let tied : slice_cmp nat_cmp name.now e.0.now ≡ Equal = ap (λ k. slice_cmp nat_cmp k e.0.now) same ∙ ap (λ y. slice_cmp nat_cmp c.args.name.now y.0.now) c.index-entries-end.is ∙ sym c.order_of.ensures ∙ c.in-Equal.is in
+            c.loop-end.invariant.1 name same v
+            ∙ ap (λ xs. xs ++ drop n es) (ap (put_entry name v) front ∙ put_tied name v (take k es) e rising tied)
+            ∙ append_assoc (take k es) ((e.0, v) ∷ []) (drop n es) ∙ ap (λ i. take k es ++ (e.0, v) ∷ drop i es) (sym on)
+            ∙ set_between es k (e.0, v) (omega arith) ∙ ap (λ y. slice_set es k (y.0, v)) same_entry,
       );
       absent = tt;
     }
 
-pub loop-i-preserved : goal.loop-i-preserved
-loop-i-preserved g c name same v =
-    let i = c.loop-i.i in
+pub loop-end-preserved : goal.loop-end-preserved
+loop-end-preserved g c =
+    let n = c.loop-end.end in
+    let k = n - 1 in
     let es = c.args.entries.now in
-    let e = c.index-entries-i.result in
-    let here : drop i es ≡ e ∷ drop (i + 1) es = drop_more es i e (omega arith) ∙ ap (λ y. y ∷ drop (i + 1) es) (sym c.index-entries-i.is) in
-    let front : take i es ++ e ∷ [] ≡ take (i + 1) es = sym (take_more es i e (omega arith) ∙ ap (λ y. take i es ++ y ∷ []) (sym c.index-entries-i.is)) in
-    let later : slice_cmp nat_cmp name.now e.0.now ≡ Greater = ap (λ k. slice_cmp nat_cmp k e.0.now) same ∙ ap (λ y. slice_cmp nat_cmp c.args.name.now y.0.now) c.index-entries-i.is ∙ sym c.order_of.ensures ∙ c.in-Greater.is in
-    c.loop-i.invariant name same v ∙ ap (λ xs. take i es ++ xs) (ap (put_entry name v) here ∙ put_after name v e (drop (i + 1) es) later)
-    ∙ sym (append_assoc (take i es) (e ∷ []) (put_entry name v (drop (i + 1) es))) ∙ ap (λ xs. xs ++ put_entry name v (drop (i + 1) es)) front
+    let e = c.index-entries-end.result in
+    let on : k + 1 ≡ n = omega arith in
+    let front : take n es ≡ take k es ++ e ∷ [] = ap (λ i. take i es) (sym on) ∙ take_more es k e (omega arith) ∙ ap (λ y. take k es ++ y ∷ []) (sym c.index-entries-end.is) in
+    let here : drop k es ≡ e ∷ drop n es = drop_more es k e (omega arith) ∙ ap (λ y. y ∷ drop (k + 1) es) (sym c.index-entries-end.is) ∙ ap (λ i. e ∷ drop i es) on in (
+      omega arith,
+      λ name same v.
+          let before : slice_cmp nat_cmp name.now e.0.now ≡ Less = ap (λ k. slice_cmp nat_cmp k e.0.now) same ∙ ap (λ y. slice_cmp nat_cmp c.args.name.now y.0.now) c.index-entries-end.is ∙ sym c.order_of.ensures ∙ c.in-Less.is in
+          c.loop-end.invariant.1 name same v ∙ ap (λ xs. xs ++ drop n es) (ap (put_entry name v) front ∙ put_front name v (take k es) e before)
+          ∙ append_assoc (put_entry name v (take k es)) (e ∷ []) (drop n es) ∙ ap (λ ys. put_entry name v (take k es) ++ ys) (sym here),
+    )
 
 pub returns : goal.returns
 returns g c =
-    let i = c.loop-i.i in
     let es = c.args.entries.now in
-    let done : drop i es ≡ [] = drop_all i es (omega arith) in
-    let at : i ≡ length es = omega arith in
-    let none : drop (length es) es ≡ [] = drop_all (length es) es (omega arith) in
+    let none : c.loop-end.end ≡ 0 = omega arith in
     record {
       there = tt;
       absent = (
         omega arith,
-        λ name same v. c.loop-i.invariant name same v ∙ ap (λ xs. take i es ++ put_entry name v xs) done ∙ ap (λ n. take n es ++ (name, v) ∷ []) at ∙ ap (λ ys. take (length es) es ++ (name, v) ∷ ys) (sym none),
+        λ name same v. c.loop-end.invariant.1 name same v ∙ ap (λ m. put_entry name v (take m es) ++ drop m es) none,
       );
     }

@@ -1,4 +1,4 @@
-use Rattle.std.proofs.Common.{List, ◌≡◌, ◌-◌, ◌<◌, [], ◌∷◌, length, Some, None, sym, ap, subst, ◌∙◌, arith, rules}
+use Rattle.std.proofs.Common.{List, false, ◌≡◌, ◌-◌, ◌<◌, [], ◌∷◌, length, Some, None, sym, ap, subst, ◌∙◌, arith, rules}
 use Rattle.json.specs.Token.{Token}
 use Rattle.json.specs.Json.{parse_map, after_end_array, read_key, items, members, value}
 use Rattle.json.specs.Reads.{token_of}
@@ -13,90 +13,99 @@ use Rattle.json_values.specs.Members.{entries_of}
 use Rattle.json_values.proofs.PutEntries.{rising_none, rising_put}
 use Rattle.json_values.proofs.ValueReads.{items-one, items-refused, items-none, members-one, members-refused, members-no_key, members-none}
 use Rattle.json_values.proofs.LineReads.{Named, members-put, view-Array, view-Object, items_onto, items_onto-no_items, parse_map-items_onto}
-use Rattle.json_values.proofs.FirstTokens.{read-nothing, read-string, read-number, read-boolean, read-null, read-array, read-object, read-deep_array, read-deep_object}
+use Rattle.json_values.specs.Place.{begins_key}
+use Rattle.json_values.proofs.FirstTokens.{neither, read-nothing, read-string, read-number, read-boolean, read-null, read-array, read-object, read-deep_array, read-deep_object}
 use Rattle.json_values.proofs.values.+read.Goals as goal
 
-pub read_value-returns-in_default-clause-refused : goal.read_value-returns-in_default-clause-refused
-read_value-returns-in_default-clause-refused t c refused =
+pub read_value-returns-in-Ok-Some-clause-ok : goal.read_value-returns-in-Ok-Some-clause-ok
+read_value-returns-in-Ok-Some-clause-ok t c =
+    let text = c.in-Ok-Some.text in
+    let left = c.take_text.new.self in
+    let is : c.args.reader.now ≡ Token.string text.now ∷ left = grind arith in
+    let seen : line_view (String text) ≡ string text.now = search (rules, the_lemmas) in
+    ap (λ ts. converted of_json (value c.args.depth ts)) is ∙ read-string c.args.depth left text.now ∙ ap (λ d. Some (d, left)) (sym seen)
+
+pub read_other-returns-in_default-clause-refused : goal.read_other-returns-in_default-clause-refused
+read_other-returns-in_default-clause-refused t c refused =
     let empty : c.args.reader.now ≡ [] = grind arith in
     ap (λ ts. converted of_json (value c.args.depth ts)) empty ∙ read-nothing c.args.depth []
 
-pub read_value-returns-then-depth-eq0-clause-refused : goal.read_value-returns-then-depth-eq0-clause-refused
-read_value-returns-then-depth-eq0-clause-refused t c refused =
+pub read_other-returns-then-depth-eq0-clause-refused : goal.read_other-returns-then-depth-eq0-clause-refused
+read_other-returns-then-depth-eq0-clause-refused t c refused =
     let first : c.args.reader.now ≡ token_of c.in-Some.token ∷ c.next.new.self = grind arith in
     let is = first ∙ ap (λ k. token_of k ∷ c.next.new.self) c.in-BeginArray.is in
     ap (λ ts. converted of_json (value c.args.depth ts)) is ∙ read-deep_array c.args.depth c.next.new.self (omega arith)
 
-pub read_value-returns-in_err-read_items-in-BeginArray-clause-refused : goal.read_value-returns-in_err-read_items-in-BeginArray-clause-refused
-read_value-returns-in_err-read_items-in-BeginArray-clause-refused t c refused =
+pub read_other-returns-in_err-read_items-in-BeginArray-clause-refused : goal.read_other-returns-in_err-read_items-in-BeginArray-clause-refused
+read_other-returns-in_err-read_items-in-BeginArray-clause-refused t c refused =
     let first : c.args.reader.now ≡ token_of c.in-Some.token ∷ c.next.new.self = grind arith in
     let is = first ∙ ap (λ k. token_of k ∷ c.next.new.self) c.in-BeginArray.is in
     ap (λ ts. converted of_json (value c.args.depth ts)) is ∙ read-array c.args.depth c.next.new.self (omega arith) ∙ ap (parse_map array) (c.read_items.ensures.refused (grind arith))
 
-pub read_value-returns-then-depth-eq0-2-clause-refused : goal.read_value-returns-then-depth-eq0-2-clause-refused
-read_value-returns-then-depth-eq0-2-clause-refused t c refused =
+pub read_other-returns-then-depth-eq0-2-clause-refused : goal.read_other-returns-then-depth-eq0-2-clause-refused
+read_other-returns-then-depth-eq0-2-clause-refused t c refused =
     let first : c.args.reader.now ≡ token_of c.in-Some.token ∷ c.next.new.self = grind arith in
     let is = first ∙ ap (λ k. token_of k ∷ c.next.new.self) c.in-BeginObject.is in
     ap (λ ts. converted of_json (value c.args.depth ts)) is ∙ read-deep_object c.args.depth c.next.new.self (omega arith)
 
-pub read_value-returns-in_err-read_members-in-BeginObject-clause-refused : goal.read_value-returns-in_err-read_members-in-BeginObject-clause-refused
-read_value-returns-in_err-read_members-in-BeginObject-clause-refused t c refused =
+pub read_other-returns-in_err-read_members-in-BeginObject-clause-refused : goal.read_other-returns-in_err-read_members-in-BeginObject-clause-refused
+read_other-returns-in_err-read_members-in-BeginObject-clause-refused t c refused =
     let first : c.args.reader.now ≡ token_of c.in-Some.token ∷ c.next.new.self = grind arith in
     let is = first ∙ ap (λ k. token_of k ∷ c.next.new.self) c.in-BeginObject.is in
     ap (λ ts. converted of_json (value c.args.depth ts)) is ∙ read-object c.args.depth c.next.new.self (omega arith) ∙ ap (parse_map object) (c.read_members.ensures.refused (grind arith))
 
-pub read_value-returns-in-String-clause-ok : goal.read_value-returns-in-String-clause-ok
-read_value-returns-in-String-clause-ok t c =
+pub read_other-returns-in-String-clause-ok : goal.read_other-returns-in-String-clause-ok
+read_other-returns-in-String-clause-ok t c =
     let first : c.args.reader.now ≡ token_of c.in-Some.token ∷ c.next.new.self = grind arith in
     let is : c.args.reader.now ≡ Token.string c.in-String.text.now ∷ c.next.new.self = grind (arith, first) in
     let seen : line_view (String c.in-String.text) ≡ string c.in-String.text.now = search (rules, the_lemmas) in
     ap (λ ts. converted of_json (value c.args.depth ts)) is ∙ read-string c.args.depth c.next.new.self c.in-String.text.now ∙ ap (λ d. Some (d, c.next.new.self)) (sym seen)
 
-pub read_value-returns-in-Some-read_number-clause-ok : goal.read_value-returns-in-Some-read_number-clause-ok
-read_value-returns-in-Some-read_number-clause-ok t c =
+pub read_other-returns-in-Some-read_number-clause-ok : goal.read_other-returns-in-Some-read_number-clause-ok
+read_other-returns-in-Some-read_number-clause-ok t c =
     let first : c.args.reader.now ≡ token_of c.in-Some.token ∷ c.next.new.self = grind arith in
     let is : c.args.reader.now ≡ Token.number c.in-Number.text.now ∷ c.next.new.self = grind (arith, first) in
     let seen : line_view (Number c.in-Some-read_number.number) ≡ number (number_view c.in-Some-read_number.number) = search (rules, the_lemmas) in
     let counted : number_of c.in-Number.text.now ≡ Some (number_view c.in-Some-read_number.number) = sym c.in-Some-read_number.ensures in
     ap (λ ts. converted of_json (value c.args.depth ts)) is ∙ read-number c.args.depth c.next.new.self c.in-Number.text.now ∙ rw (counted, seen)
 
-pub read_value-returns-in-None-clause-refused : goal.read_value-returns-in-None-clause-refused
-read_value-returns-in-None-clause-refused t c refused =
+pub read_other-returns-in-None-clause-refused : goal.read_other-returns-in-None-clause-refused
+read_other-returns-in-None-clause-refused t c refused =
     let first : c.args.reader.now ≡ token_of c.in-Some.token ∷ c.next.new.self = grind arith in
     let is : c.args.reader.now ≡ Token.number c.in-Number.text.now ∷ c.next.new.self = grind (arith, first) in
     let none : number_of c.in-Number.text.now ≡ None = sym c.in-None.ensures in
     ap (λ ts. converted of_json (value c.args.depth ts)) is ∙ read-number c.args.depth c.next.new.self c.in-Number.text.now ∙ rw none
 
-pub read_value-returns-in-Bool-clause-ok : goal.read_value-returns-in-Bool-clause-ok
-read_value-returns-in-Bool-clause-ok t c =
+pub read_other-returns-in-Bool-clause-ok : goal.read_other-returns-in-Bool-clause-ok
+read_other-returns-in-Bool-clause-ok t c =
     let first : c.args.reader.now ≡ token_of c.in-Some.token ∷ c.next.new.self = grind arith in
     let is : c.args.reader.now ≡ Token.boolean c.in-Bool.b ∷ c.next.new.self = grind (arith, first) in
     let seen : line_view (Bool c.in-Bool.b) ≡ boolean c.in-Bool.b = search (rules, the_lemmas) in
     ap (λ ts. converted of_json (value c.args.depth ts)) is ∙ read-boolean c.args.depth c.next.new.self c.in-Bool.b ∙ ap (λ d. Some (d, c.next.new.self)) (sym seen)
 
-pub read_value-returns-in-Null-clause-ok : goal.read_value-returns-in-Null-clause-ok
-read_value-returns-in-Null-clause-ok t c =
+pub read_other-returns-in-Null-clause-ok : goal.read_other-returns-in-Null-clause-ok
+read_other-returns-in-Null-clause-ok t c =
     let first : c.args.reader.now ≡ token_of c.in-Some.token ∷ c.next.new.self = grind arith in
     let is : c.args.reader.now ≡ Token.null ∷ c.next.new.self = grind (arith, first) in
     let seen : line_view Null ≡ null = search (rules, the_lemmas) in
     ap (λ ts. converted of_json (value c.args.depth ts)) is ∙ read-null c.args.depth c.next.new.self ∙ ap (λ d. Some (d, c.next.new.self)) (sym seen)
 
-pub read_value-returns-in-EndObject-clause-refused : goal.read_value-returns-in-EndObject-clause-refused
-read_value-returns-in-EndObject-clause-refused t c refused =
+pub read_other-returns-in-EndObject-clause-refused : goal.read_other-returns-in-EndObject-clause-refused
+read_other-returns-in-EndObject-clause-refused t c refused =
     let first : c.args.reader.now ≡ token_of c.in-Some.token ∷ c.next.new.self = grind arith in
     let none : value c.args.depth c.args.reader.now ≡ None = rw (value_is c.args.depth c.args.reader.now, first) (grind arith) in
     ap (converted of_json) none
 
-pub read_value-returns-in_ok-read_items-in-BeginArray-clause-ok : goal.read_value-returns-in_ok-read_items-in-BeginArray-clause-ok
-read_value-returns-in_ok-read_items-in-BeginArray-clause-ok t c =
+pub read_other-returns-in_ok-read_items-in-BeginArray-clause-ok : goal.read_other-returns-in_ok-read_items-in-BeginArray-clause-ok
+read_other-returns-in_ok-read_items-in-BeginArray-clause-ok t c =
     let first : c.args.reader.now ≡ token_of c.in-Some.token ∷ c.next.new.self = grind arith in
     let is = first ∙ ap (λ k. token_of k ∷ c.next.new.self) c.in-BeginArray.is in
     let found = c.in_ok-read_items-in-BeginArray in
     ap (λ ts. converted of_json (value c.args.depth ts)) is ∙ read-array c.args.depth c.next.new.self (omega arith) ∙ ap (parse_map array) found.ensures.ok
     ∙ ap (λ d. Some (d, c.read_items.new.reader)) (sym (view-Array found.field-0))
 
-pub read_value-returns-in_ok-read_members-in-BeginObject-clause-ok : goal.read_value-returns-in_ok-read_members-in-BeginObject-clause-ok
-read_value-returns-in_ok-read_members-in-BeginObject-clause-ok t c =
+pub read_other-returns-in_ok-read_members-in-BeginObject-clause-ok : goal.read_other-returns-in_ok-read_members-in-BeginObject-clause-ok
+read_other-returns-in_ok-read_members-in-BeginObject-clause-ok t c =
     let first : c.args.reader.now ≡ token_of c.in-Some.token ∷ c.next.new.self = grind arith in
     let is = first ∙ ap (λ k. token_of k ∷ c.next.new.self) c.in-BeginObject.is in
     let found = c.in_ok-read_members-in-BeginObject in
@@ -143,33 +152,36 @@ read_members-members-init t c =
       subst (λ (es : List Named). IsRising es) none (rising_none LineValue),
     )
 
-pub read_members-returns-in_default-clause-refused : goal.read_members-returns-in_default-clause-refused
-read_members-returns-in_default-clause-refused t c refused =
+pub read_members-returns-in_err-all-clause-refused : goal.read_members-returns-in_err-all-clause-refused
+read_members-returns-in_err-all-clause-refused t c refused =
     let l = c.members in
-    let none : read_key l.reader ≡ None = grind arith in
+    let kept : (begins_key l.reader ≡ false) × (read_key c.take_key.new.self ≡ read_key l.reader) = grind arith in
+    let none : read_key l.reader ≡ None = neither l.reader kept.0 (λ ts e. c.end_members.ensures.refused (grind arith) ts (kept.1 ∙ e)) in
     l.invariant.3 ∙ members-no_key (value c.args.depth) (line_members (entries_of l.found)) l.invariant.0 l.reader none
 
-pub read_members-returns-in_default-next-clause-ok : goal.read_members-returns-in_default-next-clause-ok
-read_members-returns-in_default-next-clause-ok t c =
+pub read_members-returns-in_default-clause-ok : goal.read_members-returns-in_default-clause-ok
+read_members-returns-in_default-clause-ok t c =
     let l = c.members in
-    let left = c.next_key.new.self in
-    l.invariant.3 ∙ members-none (value c.args.depth) (line_members (entries_of l.found)) l.invariant.0 l.reader left l.invariant.1 (grind arith)
-    ∙ ap (λ (es : List Named). Some (line_members es, left)) (sym c.in_ok-into_vec.ensures)
+    let left = c.end_members.new.reader in
+    let kept : (begins_key l.reader ≡ false) × (read_key c.take_key.new.self ≡ read_key l.reader) = grind arith in
+    l.invariant.3 ∙ members-none (value c.args.depth) (line_members (entries_of l.found)) l.invariant.0 l.reader left l.invariant.1 (sym kept.1 ∙ c.in_ok-all.ensures.ok)
+    ∙ ap (λ (es : List Named). Some (line_members es, left)) (sym c.in_ok-all.ensures.found)
 
 pub read_members-returns-in_err-member-clause-refused : goal.read_members-returns-in_err-member-clause-refused
 read_members-returns-in_err-member-clause-refused t c refused =
     let l = c.members in
     let k = c.in-Some.name.now in
-    let named : read_key l.reader ≡ Some (Some k, c.next_key.new.self) = grind arith in
-    l.invariant.3 ∙ members-refused (value c.args.depth) (line_members (entries_of l.found)) l.invariant.0 k l.reader c.next_key.new.self named (c.read_value.ensures.refused (grind arith))
+    let is : l.reader ≡ Token.key k ∷ c.take_key.new.self = grind arith in
+    l.invariant.3 ∙ members-refused (value c.args.depth) (line_members (entries_of l.found)) l.invariant.0 k l.reader c.take_key.new.self (ap read_key is) (c.read_value.ensures.refused (grind arith))
 
 pub read_members-members-preserved : goal.read_members-members-preserved
 read_members-members-preserved t c =
     let l = c.members in
     let turns = l.invariant.0 in
     let k = c.in-Some.name.now in
-    let after = c.next_key.new.self in
-    let named : read_key l.reader ≡ Some (Some k, after) = grind arith in
+    let after = c.take_key.new.self in
+    let is : l.reader ≡ Token.key k ∷ after = grind arith in
+    let named : read_key l.reader ≡ Some (Some k, after) = ap read_key is in
     let v = c.in_ok-member.member in
     let left = c.read_value.new.reader in
     let less = read_key-shorter l.reader (Some k) after named in

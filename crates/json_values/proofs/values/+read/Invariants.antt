@@ -9,13 +9,16 @@ use Rattle.json_values.proofs.LineReads.{items_onto}
 use Rattle.json_values.proofs.values.+read.Given as goal
 
 abbrev pub decreases-read_value : goal.decreases-read_value
-decreases-read_value l = 2 * l.depth
+decreases-read_value l = 3 * l.depth + 1
+
+abbrev pub decreases-read_other : goal.decreases-read_other
+decreases-read_other l = 3 * l.depth
 
 abbrev pub decreases-read_items : goal.decreases-read_items
-decreases-read_items l = 2 * l.depth + 1
+decreases-read_items l = 3 * l.depth + 2
 
 abbrev pub decreases-read_members : goal.decreases-read_members
-decreases-read_members l = 2 * l.depth + 1
+decreases-read_members l = 3 * l.depth + 2
 
 -- the items so far stand before what the rest of the list is read as
 abbrev pub invariant-read_items-items : goal.invariant-read_items-items
