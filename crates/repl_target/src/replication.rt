@@ -134,10 +134,21 @@ fn carry_all<F: WriteFilter, G: WriteFilter>(
 {
     // The readings tell the proof that both peers are lawful.
     let (_source, _target) = (source.db(), target.db());
-    check_plan(source.db().uuid(), target.db().uuid(), plan)?;
+    check_peers(source, target, plan)?;
     let start = begin_plan(source, target, plan)?;
     read_windows(alloc, source, target, plan, start)?;
     close(source, target, plan)
+}
+
+/// Whether a plan can be begun between two peers: `check_plan` of their databases.
+fn check_peers<F: WriteFilter, G: WriteFilter>(
+    source: &Peer<F>,
+    target: &Peer<G>,
+    plan: &Plan,
+) -> Result<(), TargetFault>
+    ensures { result ≡ plan_answer source.now.1.db.uuid target.now.1.db.uuid plan.now }
+{
+    check_plan(source.db().uuid(), target.db().uuid(), plan)
 }
 
 /// Whether a plan can be begun between the databases of two UUIDs: `BadBatch` where the batch isn't 1 to 10,000; else

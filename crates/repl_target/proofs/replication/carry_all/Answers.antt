@@ -5,15 +5,15 @@ use Rattle.repl_target.proofs.lemmas.replication.EmptyTargetCopied.{all-copied}
 use Rattle.repl_target.proofs.lemmas.replication.SourceFeedStored.{refused_plan, refused_begin, cut_short, ended_all, all-found, all-covered, all-reported}
 use Rattle.repl_target.proofs.replication.carry_all.Goals as goal
 
-pub returns-in_err-check_plan-clause-replicates : goal.returns-in_err-check_plan-clause-replicates
-returns-in_err-check_plan-clause-replicates g c =
+pub returns-in_err-check_peers-clause-replicates : goal.returns-in_err-check_peers-clause-replicates
+returns-in_err-check_peers-clause-replicates g c =
     let p = err_from_is_err_and c.from_residual.result c.from_residual.ensures.1 in
-    refused_plan _ _ _ _ _ _ (sym c.in_err-check_plan.ensures) (p.1 ∙ ap Err p.2)
+    refused_plan _ _ _ _ _ _ (sym c.in_err-check_peers.ensures) (p.1 ∙ ap Err p.2)
 
 pub returns-in_err-start-clause-replicates : goal.returns-in_err-start-clause-replicates
 returns-in_err-start-clause-replicates g c =
     let p = err_from_is_err_and c.from_residual-in_err-start.result c.from_residual-in_err-start.ensures.1 in
-    refused_begin _ _ _ _ _ _ _ (sym c.in_ok-check_plan.ensures) c.in_err-start.ensures.refused c.in_err-start.ensures.err (p.1 ∙ ap Err p.2)
+    refused_begin _ _ _ _ _ _ _ (sym c.in_ok-check_peers.ensures) c.in_err-start.ensures.refused c.in_err-start.ensures.err (p.1 ∙ ap Err p.2)
 
 pub returns-in_err-read_windows-clause-replicates : goal.returns-in_err-read_windows-clause-replicates
 returns-in_err-read_windows-clause-replicates g c =
@@ -21,7 +21,7 @@ returns-in_err-read_windows-clause-replicates g c =
     let from : Reading = record { since = c.in_ok-start.start; target = c.begin_plan.new.target.1 } in
     let begun = c.in_ok-start.ensures.ok in
     cut_short _ _ _ _ from _ _ _
-    (record { planned = sym c.in_ok-check_plan.ensures; begun = begun.0; is = λ i. record { since = c.in_ok-start.ensures.start i; target = begun.1 i } })
+    (record { planned = sym c.in_ok-check_peers.ensures; begun = begun.0; is = λ i. record { since = c.in_ok-start.ensures.start i; target = begun.1 i } })
     (subst (λ f. ReadsUntil (g.G.WriteFilter.refuses f) c.args.source.now.1.db c.args.plan.now from c.in_err-read_windows.field-0.0 c.read_windows.new.target.1) c.in_ok-start.ensures.filter c.in_err-read_windows.ensures.err)
     (p.1 ∙ ap Err p.2)
 
@@ -31,7 +31,7 @@ close-requires g c =
     let begun = c.in_ok-start.ensures.ok in
     record {
       held = all-found (g.G.WriteFilter.refuses c.begin_plan.new.target.0) c.args.source.now.1 c.args.target.now.1 c.args.plan.now from _
-          (record { planned = sym c.in_ok-check_plan.ensures; begun = begun.0; is = λ i. record { since = c.in_ok-start.ensures.start i; target = begun.1 i } })
+          (record { planned = sym c.in_ok-check_peers.ensures; begun = begun.0; is = λ i. record { since = c.in_ok-start.ensures.start i; target = begun.1 i } })
           c.in_ok-start.ensures.source_law c.in_ok-start.ensures.target_law.sessions c.in_ok-read_windows.ensures.ok;
     }
 
@@ -40,7 +40,7 @@ returns-clause-replicates g c =
     let from : Reading = record { since = c.in_ok-start.start; target = c.begin_plan.new.target.1 } in
     let begun = c.in_ok-start.ensures.ok in
     ended_all _ _ _ _ from _ _ _ _
-    (record { planned = sym c.in_ok-check_plan.ensures; begun = begun.0; is = λ i. record { since = c.in_ok-start.ensures.start i; target = begun.1 i } })
+    (record { planned = sym c.in_ok-check_peers.ensures; begun = begun.0; is = λ i. record { since = c.in_ok-start.ensures.start i; target = begun.1 i } })
     (subst (λ f. ReadsAll (g.G.WriteFilter.refuses f) c.args.source.now.1.db c.args.plan.now from c.read_windows.new.target.1) c.in_ok-start.ensures.filter c.in_ok-read_windows.ensures.ok)
     c.close.ensures.closes
 
@@ -49,7 +49,7 @@ returns-clause-covered g c =
     let from : Reading = record { since = c.in_ok-start.start; target = c.begin_plan.new.target.1 } in
     let begun = c.in_ok-start.ensures.ok in
     all-covered (g.G.WriteFilter.refuses c.begin_plan.new.target.0) c.args.source.now.1 c.args.target.now.1 c.args.plan.now from _ _ _ _
-    (record { planned = sym c.in_ok-check_plan.ensures; begun = begun.0; is = λ i. record { since = c.in_ok-start.ensures.start i; target = begun.1 i } })
+    (record { planned = sym c.in_ok-check_peers.ensures; begun = begun.0; is = λ i. record { since = c.in_ok-start.ensures.start i; target = begun.1 i } })
     c.in_ok-start.ensures.source_law c.in_ok-start.ensures.target_law.sessions c.in_ok-read_windows.ensures.ok c.close.ensures.closes
 
 pub returns-clause-report : goal.returns-clause-report
@@ -57,7 +57,7 @@ returns-clause-report g c =
     let from : Reading = record { since = c.in_ok-start.start; target = c.begin_plan.new.target.1 } in
     let begun = c.in_ok-start.ensures.ok in
     all-reported (g.G.WriteFilter.refuses c.begin_plan.new.target.0) c.args.source.now.1 c.args.target.now.1 c.args.plan.now from _ _ _ _
-    (record { planned = sym c.in_ok-check_plan.ensures; begun = begun.0; is = λ i. record { since = c.in_ok-start.ensures.start i; target = begun.1 i } })
+    (record { planned = sym c.in_ok-check_peers.ensures; begun = begun.0; is = λ i. record { since = c.in_ok-start.ensures.start i; target = begun.1 i } })
     c.in_ok-start.ensures.source_law c.in_ok-start.ensures.target_law.sessions c.in_ok-read_windows.ensures.ok c.close.ensures.closes
 
 pub returns-clause-copied : goal.returns-clause-copied
@@ -65,5 +65,5 @@ returns-clause-copied g c =
     let from : Reading = record { since = c.in_ok-start.start; target = c.begin_plan.new.target.1 } in
     let begun = c.in_ok-start.ensures.ok in
     all-copied (g.G.WriteFilter.refuses c.begin_plan.new.target.0) c.args.source.now.1 c.args.target.now.1 c.args.plan.now from _ _ _ _
-    (record { planned = sym c.in_ok-check_plan.ensures; begun = begun.0; is = λ i. record { since = c.in_ok-start.ensures.start i; target = begun.1 i } })
+    (record { planned = sym c.in_ok-check_peers.ensures; begun = begun.0; is = λ i. record { since = c.in_ok-start.ensures.start i; target = begun.1 i } })
     c.in_ok-start.ensures.source_law c.in_ok-start.ensures.target_law.sessions c.in_ok-read_windows.ensures.ok c.close.ensures.closes
