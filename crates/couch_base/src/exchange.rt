@@ -47,13 +47,11 @@ impl Database {
     pub fn open_asked(&self, alloc: Global, asked: Asked) -> Result<Parcel, AllocError>
         ensures parcel { IfOk result (λ p. p ≡ open_revs self.now asked) }
     {
-        // The reading tells the proof that the database is lawful.
-        let _seq = self.update_seq();
+        self.law();
         let mut docs = Vec::with_capacity(alloc, asked.docs().len())?;
         let mut gone = Vec::new(alloc);
         for wanted in asked.docs() {
-            self.open(alloc, wanted, &mut docs)?;
-            self.miss(alloc, wanted, &mut gone)?;
+            self.fetch(alloc, wanted, &mut docs, &mut gone)?;
         }
         Ok(Parcel::new(asked, docs, gone))
     }
@@ -83,30 +81,31 @@ impl Database {
         Ok(())
     }
 
-    /// Adds the documents of the leaves at or above the wanted revisions.
-    fn open(&self, alloc: Global, wanted: &Wanted, docs: &mut Vec<Doc>) -> Result<(), AllocError>
-        ensures ok { OnOk result (docs.new.items ≡ docs.old.items
-            ++ opened wanted.now.id (tree_of self.now.docs wanted.now.id) wanted.now.revs) }
-    {
-        let Some(tree) = self.tree(wanted.id()) else {
-            return Ok(());
-        };
-        let leaves = tree.leaves_above(alloc, wanted.revs())?;
-        add_documents(alloc, wanted.id(), tree, &leaves, docs)
-    }
-
-    /// Adds the wanted revisions that are not in the tree.
-    fn miss(
+    /// Adds the documents of the leaves at or above the wanted revisions, and the wanted revisions that are not in the
+    /// tree.
+    fn fetch(
         &self,
         alloc: Global,
         wanted: &Wanted,
+        docs: &mut Vec<Doc>,
         gone: &mut Vec<(DocId, Rev)>,
     ) -> Result<(), AllocError>
-        ensures ok { OnOk result (gone.new.items ≡ gone.old.items
+        ensures docs { OnOk result (docs.new.items ≡ docs.old.items
+            ++ opened wanted.now.id (tree_of self.now.docs wanted.now.id) wanted.now.revs) }
+        ensures gone { OnOk result (gone.new.items ≡ gone.old.items
             ++ map (λ r. (wanted.now.id, r)) (missing (tree_of self.now.docs wanted.now.id) wanted.now.revs)) }
     {
-        let revs = self.missing(alloc, wanted.id(), wanted.revs())?;
-        add_revs(alloc, wanted.id(), &revs, gone)
+        let id = wanted.id();
+        let asked = wanted.revs();
+        let Some(tree) = self.tree(id) else {
+            add_revs(alloc, id, asked, gone)?;
+            return Ok(());
+        };
+        let leaves = tree.leaves_above(alloc, asked)?;
+        add_documents(alloc, id, tree, &leaves, docs)?;
+        let unknown = tree.missing(alloc, asked)?;
+        add_revs(alloc, id, &unknown, gone)?;
+        Ok(())
     }
 
     /// The revisions that are not in the tree of a document.
@@ -155,14 +154,20 @@ fn document_in(alloc: Global, id: &DocId, tree: &Tree, rev: Rev) -> Result<Optio
     requires document { IsDocumentTree tree.now }
     ensures document { IfOk result (λ d. d ≡ document_in id.now tree.now rev) }
 {
-    let Some(content) = tree.content(rev) else {
+    let found = match tree.standing(alloc, rev) {
+        Ok(found) => found,
+        Err(refused) => return Err(refused),
+    };
+    let Some(standing) = found else {
+        return Ok(None);
+    };
+    let Some(content) = standing.content else {
         return Ok(None);
     };
     let text = content.share()?;
     let id = id.copy(alloc)?;
-    let ancestry = tree.known_ancestry(alloc, rev)?;
     let body = Body::from_text(text);
-    Ok(Some(Doc::new(id, ancestry, content.deleted(), body)))
+    Ok(Some(Doc::new(id, standing.ancestry, content.deleted(), body)))
 }
 
 /// Adds revisions of a document.

@@ -12,10 +12,10 @@ loop-wanted-preserved c =
     let w = c.wanted-item.result in
     record {
       docs =
-          ap (λ l. l ++ fetched ds (drop (i + 1) ws)) c.in_ok-open.ensures.ok
+          ap (λ l. l ++ fetched ds (drop (i + 1) ws)) c.in_ok-fetch.ensures.docs
           ∙ fetched_next ds c.loop-wanted.docs.items (fetched ds ws) ws i w c.loop-wanted-test.true c.wanted-item.is c.loop-wanted.invariant.docs;
       gone =
-          ap (λ l. l ++ gone_of ds (drop (i + 1) ws)) c.in_ok-miss.ensures.ok
+          ap (λ l. l ++ gone_of ds (drop (i + 1) ws)) c.in_ok-fetch.ensures.gone
           ∙ gone_next ds c.loop-wanted.gone.items (gone_of ds ws) ws i w c.loop-wanted-test.true c.wanted-item.is c.loop-wanted.invariant.gone;
     }
 
@@ -28,4 +28,4 @@ new-requires c =
     let gone = end_of (gone_of ds) refl c.loop-wanted.gone.items (gone_of ds ws.result.now) ws.result.now i (omega arith) c.loop-wanted.invariant.gone ∙ ap (gone_of ds) ws.ensures.value in
     let same : record { asked = c.args.asked; docs = c.loop-wanted.docs.items; gone = c.loop-wanted.gone.items } ≡ open_revs c.args.self.now c.args.asked =
     λ j. record { asked = c.args.asked; docs = docs j; gone = gone j } in
-    subst IsParcel (sym same) (IsParcel-open_revs c.args.self.now c.args.asked c.update_seq-seq.ensures.law c.docs-wanted-items.ensures.asked)
+    subst IsParcel (sym same) (IsParcel-open_revs c.args.self.now c.args.asked c.law.ensures c.docs-wanted-items.ensures.asked)

@@ -1,0 +1,30 @@
+use Rattle.std.proofs.Common.{◌++◌, map, sym, ap, ◌∙◌}
+use Rattle.std.specs.Prelude.{unwrap_or}
+use Rattle.std.specs.List.{list_all}
+use Rattle.std.specs.Option.{option_copied}
+use Rattle.std.proofs.lemmas.List.{append-nil}
+use Rattle.rev_tree.specs.Tree.{is_leaf, missing, no_revisions}
+use Rattle.couch_base.specs.Database.{tree_in}
+use Rattle.couch_base.specs.Messages.{opened}
+use Rattle.couch_base.proofs.Exchanging.{opened-no_revisions, missing-no_revisions, all_leaves}
+use Rattle.couch_base.proofs.database.Database.fetch.Goals as goal
+
+pub returns-in_default-clause-docs : goal.returns-in_default-clause-docs
+returns-in_default-clause-docs c =
+    let w = c.args.wanted.now in
+    let docs = c.args.docs.now.items in
+    let gone = ap (tree_in c.args.self.now.docs) (sym c.id-id.ensures) ∙ sym c.tree.ensures.value ∙ ap option_copied c.in_default.is in
+    sym (ap (λ l. docs ++ l) (ap (λ o. opened w.id (unwrap_or o no_revisions) w.revs) gone ∙ opened-no_revisions w.id w.revs) ∙ append-nil docs)
+
+pub returns-in_default-clause-gone : goal.returns-in_default-clause-gone
+returns-in_default-clause-gone c =
+    let w = c.args.wanted.now in
+    let gone = ap (tree_in c.args.self.now.docs) (sym c.id-id.ensures) ∙ sym c.tree.ensures.value ∙ ap option_copied c.in_default.is in
+    c.in_ok-add_revs.ensures.ok
+    ∙ (λ i. c.args.gone.now.items ++ map (λ r. (c.id-id.ensures i, r)) (c.revs-asked.ensures i))
+    ∙ ap (λ l. c.args.gone.now.items ++ map (λ r. (w.id, r)) l) (sym (ap (λ o. missing (unwrap_or o no_revisions) w.revs) gone ∙ missing-no_revisions w.revs))
+
+pub add_documents-requires-clause-leaves : goal.add_documents-requires-clause-leaves
+add_documents-requires-clause-leaves c =
+    let t = c.in-Some.tree.now in
+    ap (list_all (is_leaf t)) (c.deref.ensures ∙ c.in_ok-leaves.ensures) ∙ all_leaves t c.revs-asked.result.now
