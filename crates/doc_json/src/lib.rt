@@ -30,4 +30,5 @@ pub use fault::DocFault;
 pub use line_body::read_line_body;
 pub use line_read::read_line_doc;
 pub use read::read_doc;
+pub use text::push_text;
 pub use write::{push_doc, write_doc};

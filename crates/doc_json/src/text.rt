@@ -35,7 +35,7 @@ pub(crate) fn push_name(out: &mut Vec<u8>, later: bool, name: &str) -> Result<()
 }
 
 /// A text in quotation marks: what stands for itself as a whole, and each other byte as its escape.
-pub(crate) fn push_text(out: &mut Vec<u8>, text: &str) -> Result<(), AllocError>
+pub fn push_text(out: &mut Vec<u8>, text: &str) -> Result<(), AllocError>
     ensures { OnOk result (out.new.items ≡ out.old.items ++ quoted text.now) }
 {
     let bytes = text.as_bytes();
