@@ -243,14 +243,3 @@ past_goal docs b left e rows o is high =
       | inl same ↦ let a : x.0 ≡ e.0 = ap (λ (p : ℕ × ℕ). p.0) same in omega (arith, a, high)
       | inr n ↦ let a : e.0 < x.0 = order.0 x n in omega (arith, a, high)
     ])
-
-pub passed_over : (docs : List (Id × Kept)) (b : ℕ) (left : List (ℕ × ℕ)) (e : ℕ × ℕ) (rows : List (ℕ × ℕ)) → left ≡ e ∷ rows → is_live docs e ≡ false → live_upto docs b left ≡ live_upto docs b rows
-passed_over docs b left e rows is dead =
-    ap (live_upto docs b) is ∙ ap (λ t. filter (λ x. nat_le x.0 b) (cond t (e ∷ live docs rows) (live docs rows))) dead
-
-pub comes_next : (docs : List (Id × Kept)) (b : ℕ) (left : List (ℕ × ℕ)) (e : ℕ × ℕ) (rows : List (ℕ × ℕ)) → left ≡ e ∷ rows → is_live docs e ≡ true → e.0 ≤ b → live_upto docs b left ≡ e ∷ live_upto docs b rows
-comes_next docs b left e rows is alive low =
-    let hit : nat_le e.0 b ≡ true = grind (arith, low) in
-    ap (live_upto docs b) is
-    ∙ ap (λ t. filter (λ x. nat_le x.0 b) (cond t (e ∷ live docs rows) (live docs rows))) alive
-    ∙ ap (λ t. cond t (e ∷ live_upto docs b rows) (live_upto docs b rows)) hit

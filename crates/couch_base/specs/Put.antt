@@ -13,6 +13,12 @@ use Rattle.couch_base.specs.declared.fault.Put.TheVariants as answers
 use Rattle.couch_base.specs.declared.fault.BaseFault.{BaseFault}
 use Rattle.couch_base.specs.declared.fault.BaseFault.TheVariants as faults
 
+-- whether a merge changes a tree
+abbrev pub is_change : Result Merged Contradiction → Bool
+is_change (Ok merges.Changed) = true
+is_change (Ok merges.Same) = false
+is_change (Err c) = false
+
 -- a contradiction is refused; what changes nothing takes no sequence; a change takes the next one, where one is left
 abbrev pub put_told : Result Merged Contradiction → Bool → ℕ → Result Put BaseFault
 put_told (Err c) room next = Err (faults.Contradiction c.child c.known c.given)

@@ -1,0 +1,10 @@
+use Rattle.std.proofs.Common.{sym, ap, ◌∙◌}
+use Rattle.std.specs.Prelude.{unwrap_or}
+use Rattle.std.specs.Option.{option_copied}
+use Rattle.rev_tree.specs.Tree.{merge_answer, no_revisions}
+use Rattle.couch_base.proofs.Putting.{new_changes}
+use Rattle.couch_base.proofs.database.answer_in.Goals as goal
+
+pub returns-in-None : goal.returns-in-None
+returns-in-None c =
+    sym (ap (λ o. merge_answer (unwrap_or (option_copied o) no_revisions) c.args.ancestry.now) c.in-None.is ∙ new_changes c.args.ancestry.now c.revs-revs.ensures.ancestry)
