@@ -52,7 +52,7 @@ fn main(rt: HostRuntime) -> Result<()> {
     };
     let (ran, seen) = run_watched(&rt, rt.alloc(), shop, copy, &plan, &board, workers, viewer);
     let report = ran.outcome?;
-    let (written, recorded) = (report.written, report.recorded);
+    let (written, recorded) = (report.counts.written, report.recorded);
     println!(rt; "{written} documents written, up to sequence {recorded}")?;
     if let Some((settled, read)) = seen {
         println!(rt; "the viewer saw {settled} of {read} at the end")?;

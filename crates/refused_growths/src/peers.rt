@@ -157,7 +157,7 @@ fn stopped(fault: TargetFault) -> Option<(u64, usize)> {
 /// How many documents the session read, and how many leaves it checked.
 fn counted(peer: &Peer<Rules>) -> Option<(u64, u64)> {
     let entry = peer.entry(SESSION).ok()?;
-    Some((entry.read, entry.checked))
+    Some((entry.counts.read, entry.counts.checked))
 }
 
 /// Settles, and once more where memory was refused.
@@ -229,7 +229,7 @@ fn replicate(
 fn tell(rt: &impl Print, settled: Settled, report: Report, sequence: u64) -> Result<()> {
     println!(rt;
         "peers as wanted: written {}, failures {}, recorded {}, checked {}, sequence {sequence}",
-        settled.written, settled.failures, report.recorded, report.checked
+        settled.written, settled.failures, report.recorded, report.counts.checked
     )?;
     Ok(())
 }

@@ -1,4 +1,5 @@
 pub mod Answers
+pub mod Counts
 pub mod Entry
 pub mod Log
 pub mod LogLaws

@@ -63,13 +63,13 @@ whole n = number (unsigned n)
 abbrev pub entry_with : EntryValue → List ℕ → List ℕ → List ℕ → Data
 entry_with e session_id start_time end_time =
     object (members
-    ((codes "doc_write_failures", whole e.failures)
-    ∷ (codes "docs_read", whole e.read)
-    ∷ (codes "docs_written", whole e.written)
+    ((codes "doc_write_failures", whole e.counts.failures)
+    ∷ (codes "docs_read", whole e.counts.read)
+    ∷ (codes "docs_written", whole e.counts.written)
     ∷ (codes "end_last_seq", whole e.recorded)
     ∷ (codes "end_time", string end_time)
-    ∷ (codes "missing_checked", whole e.checked)
-    ∷ (codes "missing_found", whole e.found)
+    ∷ (codes "missing_checked", whole e.counts.checked)
+    ∷ (codes "missing_found", whole e.counts.found)
     ∷ (codes "recorded_seq", whole e.recorded)
     ∷ (codes "session_id", string session_id)
     ∷ (codes "start_last_seq", whole e.start)

@@ -4,6 +4,7 @@
 #![tactic(auto)]
 
 mod checkpoint;
+mod counts;
 mod entry;
 mod fault;
 mod log;
@@ -12,6 +13,7 @@ mod replication;
 mod text;
 
 pub use checkpoint::common;
+pub use counts::Counts;
 pub use entry::Entry;
 pub use fault::LogFault;
 pub use log::Log;

@@ -86,9 +86,9 @@ ends_well refuses source target plan p now report n law l ok grown reads answer 
     let recorded : t.session.recorded ≡ source.db.update_seq =
     ap (λ (s : SessionValue). s.recorded) same ∙ c.reached ∙ sym (ap (λ (s : SessionValue). s.goal) same) ∙ t.goal in
     let own = l'.sessions t.session t.held in
-    let read_is : report.read ≡ t.session.read = ap (λ (r : Report). r.read) is in
-    let was : read_in p.sessions plan.session ≡ c.session.read = ap read_of c.was in
-    let kept : t.session.read ≡ c.session.read = ap (λ (s : SessionValue). s.read) same in
+    let read_is : report.counts.read ≡ t.session.counts.read = ap (λ (r : Report). r.counts.read) is in
+    let was : read_in p.sessions plan.session ≡ c.session.counts.read = ap read_of c.was in
+    let kept : t.session.counts.read ≡ c.session.counts.read = ap (λ (s : SessionValue). s.counts.read) same in
     record {
       reported = record {
         session = t.session;
@@ -101,8 +101,8 @@ ends_well refuses source target plan p now report n law l ok grown reads answer 
         start = ap (λ (r : Report). r.start) is ∙ t.start;
         recorded = ap (λ (r : Report). r.recorded) is ∙ recorded;
         counts =
-            let w = ap (λ (r : Report). r.written) is in
-            let f = ap (λ (r : Report). r.failures) is in
+            let w = ap (λ (r : Report). r.counts.written) is in
+            let f = ap (λ (r : Report). r.counts.failures) is in
             omega (arith, read_is, w, f, own.read);
       };
       covered = later_covers refuses source target plan now l' t (omega (arith, recorded));

@@ -121,7 +121,7 @@ ends_free plan start fault complete source before source' after outcome X (recor
 
 -- and what was shown is what the report tells
 pub shown_well : (board : Option Board) (given now : List BoardSeat) (source target target' : PeerValue) (plan : Plan) (n : ℕ) (outcome : Result Report PoolFault)
-    → IfOk outcome (λ _. HaveShown board n None given now) → IfOk outcome (EndsWell source target target' plan n) → IfOk outcome (λ report. HaveShown board report.read None given now)
+    → IfOk outcome (λ _. HaveShown board n None given now) → IfOk outcome (EndsWell source target target' plan n) → IfOk outcome (λ report. HaveShown board report.counts.read None given now)
 shown_well board given now source target target' plan n (Ok report) h w = subst (λ m. HaveShown board m None given now) w.sum h
 shown_well board given now source target target' plan n (Err why) h w = tt
 

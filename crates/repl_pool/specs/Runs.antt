@@ -155,7 +155,7 @@ LeavesOrPuts plan source target source' target' outcome =
 pub record EndsWell (source target target' : PeerValue) (plan : Plan) (n : ℕ) (report : Report) : Type 0 where
   pub reported : IsReported source target target' plan report
   pub covered : CoversFrom source target' plan.chosen (start_between source target plan.chosen)
-  pub sum : n ≡ report.read
+  pub sum : n ≡ report.counts.read
 
 -- What running the pool answers, and the two peers that it gives back; a board may be found full where there is one.
 pub record RunsOn {F : Type 0} (refuses : F → Document → Bool) (may_fill : Type 0) (may_stop : Place → Type 0)

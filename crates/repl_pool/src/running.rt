@@ -160,7 +160,7 @@ fn run_with<F: WriteFilter + Send + Sync, G: Gate + Sync, R: Threads + Wait + Sy
         result.source result.target result.fetched.items result.outcome }
     ensures back { AreBack (option_copied board.entry) seats.items result.seats.items }
     ensures shown { IfOk result.outcome
-        (λ report. HaveShown (option_copied board.entry) report.read None seats.items result.seats.items) }
+        (λ report. HaveShown (option_copied board.entry) report.counts.read None seats.items result.seats.items) }
 {
     // These readings tell the proof that the source's database and the target are lawful.
     let _update_seq = source.db().update_seq();
@@ -264,7 +264,7 @@ pub fn run_on<F: WriteFilter + Send + Sync, G: Gate + Sync, R: Threads + Wait + 
     ensures runs { RunsOn F.refuses (Unit {0}) (G.may_stop gate.now) plan.now source target result.source result.target
         result.fetched.items result.outcome }
     ensures seats { AreRisen board.now seats.items result.seats.items }
-    ensures shown { IfOk result.outcome (λ report. HaveRisenBy report.read seats.items result.seats.items) }
+    ensures shown { IfOk result.outcome (λ report. HaveRisenBy report.counts.read seats.items result.seats.items) }
 {
     run_with(rt, alloc, source, target, plan, gate, Some(board), seats)
 }

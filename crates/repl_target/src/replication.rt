@@ -97,7 +97,7 @@ pub fn replicate_alone<F: WriteFilter, G: WriteFilter>(
         (start_between source.old.1 target.old.1 plan.now.chosen)) }
     ensures report { IfOk result (λ report. IsReported source.old.1 target.old.1 target.new.1 plan.now report) }
     ensures copied { IfOk result
-        (λ report. IsEmpty target.old.1 → report.failures ≡ 0 → SameDocuments plan.now.chosen source.old.1.db target.new.1.db) }
+        (λ report. IsEmpty target.old.1 → report.counts.failures ≡ 0 → SameDocuments plan.now.chosen source.old.1.db target.new.1.db) }
     ensures tied { (chosen : Choice) (backups : List BackupValue)
         → IsTiedWith backups source.old.1 target.old.1 chosen → IsTiedWith backups source.new.1 target.new.1 chosen }
     ensures whole { OnOk result
@@ -130,7 +130,7 @@ fn carry_all<F: WriteFilter, G: WriteFilter>(
         (start_between source.old.1 target.old.1 plan.now.chosen)) }
     ensures report { IfOk result (λ report. IsReported source.old.1 target.old.1 target.new.1 plan.now report) }
     ensures copied { IfOk result
-        (λ report. IsEmpty target.old.1 → report.failures ≡ 0 → SameDocuments plan.now.chosen source.old.1.db target.new.1.db) }
+        (λ report. IsEmpty target.old.1 → report.counts.failures ≡ 0 → SameDocuments plan.now.chosen source.old.1.db target.new.1.db) }
 {
     // The readings tell the proof that both peers are lawful.
     let (_source, _target) = (source.db(), target.db());

@@ -21,7 +21,7 @@ use crate::session::beginning::Beginning;
 use crate::session::refused::Refused;
 use couch_base::Window;
 use range_front::Front;
-use repl_log::{Entry, Moment, RepId};
+use repl_log::{Counts, Entry, Moment, RepId};
 use rev_tree::SessionId;
 use std::alloc::Global;
 use std::marker::Model;
@@ -39,11 +39,7 @@ pub(crate) struct Session {
     pub(crate) recorded: u64,
     pub(crate) arrivals: Vec<Written>,
     pub(crate) ledger: Vec<Refused>,
-    pub(crate) checked: u64,
-    pub(crate) found: u64,
-    pub(crate) read: u64,
-    pub(crate) written: u64,
-    pub(crate) failures: u64,
+    pub(crate) counts: Counts,
     pub(crate) start_time: Moment,
     pub(crate) end_time: Moment,
 }
@@ -87,11 +83,7 @@ impl Session {
             recorded: start,
             arrivals: Vec::new(alloc),
             ledger: Vec::new(alloc),
-            checked: 0,
-            found: 0,
-            read: 0,
-            written: 0,
-            failures: 0,
+            counts: Counts::none(),
             start_time: at,
             end_time: at,
         }
@@ -156,11 +148,7 @@ impl Session {
             session: self.id,
             start: self.front.start(),
             recorded: self.recorded,
-            checked: self.checked,
-            found: self.found,
-            read: self.read,
-            written: self.written,
-            failures: self.failures,
+            counts: self.counts,
         }
     }
 
@@ -175,11 +163,7 @@ impl Session {
             recorded: self.recorded,
             start_time: self.start_time,
             end_time: self.end_time,
-            checked: self.checked,
-            found: self.found,
-            read: self.read,
-            written: self.written,
-            failures: self.failures,
+            counts: self.counts,
         }
     }
 }

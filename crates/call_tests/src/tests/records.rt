@@ -28,13 +28,14 @@ fn bounds_text(alloc: Global, report: Report) -> Option<String> {
 
 /// What a report tells of reading.
 fn read_text(alloc: Global, report: Report) -> Option<String> {
-    let (checked, found) = (report.checked, report.found);
-    format!(in alloc; " checked {checked} found {found} read {}", report.read).ok()
+    let (checked, found) = (report.counts.checked, report.counts.found);
+    format!(in alloc; " checked {checked} found {found} read {}", report.counts.read).ok()
 }
 
 /// What a report tells of writing.
 fn written_text(alloc: Global, report: Report) -> Option<String> {
-    format!(in alloc; " written {} failed {}", report.written, report.failures).ok()
+    let (written, failures) = (report.counts.written, report.counts.failures);
+    format!(in alloc; " written {written} failed {failures}").ok()
 }
 
 /// An entry: the report that it gives, and its moments.
@@ -43,11 +44,7 @@ pub(crate) fn entry_text(alloc: Global, entry: Entry) -> Option<String> {
         session: entry.session,
         start: entry.start,
         recorded: entry.recorded,
-        checked: entry.checked,
-        found: entry.found,
-        read: entry.read,
-        written: entry.written,
-        failures: entry.failures,
+        counts: entry.counts,
     };
     let text = report_text(alloc, report)?;
     let (begun, ended) = (entry.start_time.seconds(), entry.end_time.seconds());

@@ -8,7 +8,7 @@ use crate::tests::sides::{agrees, has_ledger};
 use doc_json::Chosen;
 use rand_chacha::ChaCha8Rng;
 use rand_core::SeedableRng;
-use repl_log::Moment;
+use repl_log::{Counts, Moment};
 use repl_pool::{Open, Ran, run};
 use repl_target::{Peer, Plan, Report, Rules, replicate_alone};
 use rev_tree::SessionId;
@@ -290,11 +290,13 @@ fn wanted(source: &PlainSide, since: u64, session: SessionId, carried: &Carried)
         session,
         start: since,
         recorded: source.update_seq,
-        checked: carried.checked,
-        found: carried.found,
-        read: carried.found,
-        written: carried.written,
-        failures: carried.ledger.len() as u64,
+        counts: Counts {
+            checked: carried.checked,
+            found: carried.found,
+            read: carried.found,
+            written: carried.written,
+            failures: carried.ledger.len() as u64,
+        },
     }
 }
 

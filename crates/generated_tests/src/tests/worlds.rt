@@ -347,10 +347,10 @@ fn done_of(entry: &Entry) -> Done {
         start: entry.start,
         recorded: entry.recorded,
         moments: (entry.start_time.seconds(), entry.end_time.seconds()),
-        checked: entry.checked,
-        found: entry.found,
-        written: entry.written,
-        failures: entry.failures,
+        checked: entry.counts.checked,
+        found: entry.counts.found,
+        written: entry.counts.written,
+        failures: entry.counts.failures,
     }
 }
 

@@ -1,5 +1,5 @@
 -- What every peer keeps: docs/PROFILE.md, "The peer's law".
-use Rattle.std.specs.Prelude.{◌≡◌, ◌⊎◌, ℕ, ◌+◌, ◌≤◌, Bool, true, List, [], ◌∷◌, map, length, Some, None, nat_eq}
+use Rattle.std.specs.Prelude.{◌≡◌, ◌⊎◌, ℕ, ◌≤◌, Bool, true, List, [], ◌∷◌, map, length, Some, None, nat_eq}
 use Rattle.std.specs.List.{IsDistinct, AllByRecursion}
 use Rattle.rev_core.specs.Rev.{RevId}
 use Rattle.rev_core.specs.Ancestry.{is_among}
@@ -9,6 +9,7 @@ use Rattle.couch_base.specs.Lists.{Among}
 use Rattle.couch_base.specs.Database.{tree_of}
 use Rattle.couch_base.specs.Feed.{WindowValue, IsWindow}
 use Rattle.range_front.specs.Front.{IsFront, bounds, end_of, is_done, low_water}
+use Rattle.repl_log.specs.Counts.{AddUp}
 use Rattle.repl_target.specs.peer.Peer.{PeerValue, SessionValue, WrittenValue, RefusedValue}
 use Rattle.repl_target.specs.peer.Covered.{rightly_refused, CoversWindow}
 use Rattle.repl_target.specs.peer.Origins.{HasOrigins}
@@ -21,7 +22,7 @@ pub record IsSession (s : SessionValue) : Type 0 where
   pub front : IsFront s.front
   pub bounds : window_bounds s.windows ≡ bounds s.front
   pub start : s.front.start ≤ s.recorded
-  pub read : s.read ≡ s.written + s.failures
+  pub read : AddUp s.counts
 
 pub record LawfulSession (refuses : Document → Bool) (p : PeerValue) (s : SessionValue) : Type 0 where
   -- the windows are consecutive from the start, inside the goal, with rows rising; the done ones are of them
@@ -40,9 +41,9 @@ pub record LawfulSession (refuses : Document → Bool) (p : PeerValue) (s : Sess
   pub arrivals : (a : WrittenValue) → Among a s.arrivals → (r : RevId) → is_among r a.ancestry ≡ true
       → has (tree_of p.db.docs a.id) r ≡ true
   -- the counts add up
-  pub written : s.written ≡ length s.arrivals
-  pub failures : s.failures ≡ length s.ledger
-  pub read : s.read ≡ s.written + s.failures
+  pub written : s.counts.written ≡ length s.arrivals
+  pub failures : s.counts.failures ≡ length s.ledger
+  pub read : AddUp s.counts
 
 -- a session starts at 0, or at most at what an earlier one of the same replication has recorded
 abbrev pub IsBased : List SessionValue → SessionValue → Type 0

@@ -20,6 +20,7 @@ use Rattle.couch_base.specs.declared.fault.BaseFault.TheVariants as base_faults
 use Rattle.range_front.specs.Front.{FrontValue}
 use Rattle.repl_log.specs.declared.replication.RepId.{RepId}
 use Rattle.repl_log.specs.Entry.{EntryValue}
+use Rattle.repl_log.specs.declared.counts.Counts.{Counts}
 use Rattle.repl_target.specs.declared.fault.Reason.{Reason}
 
 -- revisions of a document that were written: those of a local write, or the ancestry of an arrival
@@ -46,11 +47,7 @@ pub record SessionValue : Type 0 where
   pub recorded : ℕ
   pub arrivals : List WrittenValue
   pub ledger : List RefusedValue
-  pub checked : ℕ
-  pub found : ℕ
-  pub read : ℕ
-  pub written : ℕ
-  pub failures : ℕ
+  pub counts : Counts
   pub start_time : ℕ
   pub end_time : ℕ
 
@@ -106,9 +103,5 @@ entry_of s = record {
   recorded = s.recorded;
   start_time = s.start_time;
   end_time = s.end_time;
-  checked = s.checked;
-  found = s.found;
-  read = s.read;
-  written = s.written;
-  failures = s.failures;
+  counts = s.counts;
 }

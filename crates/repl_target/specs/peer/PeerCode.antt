@@ -12,7 +12,9 @@ use Rattle.couch_base.specs.Database.{Id, DatabaseValue, coded_id, coded_databas
 use Rattle.couch_base.specs.Feed.{WindowValue, coded_window}
 use Rattle.range_front.specs.Front.{FrontValue, coded_front}
 use Rattle.repl_log.specs.declared.replication.RepId.{RepId}
+use Rattle.repl_log.specs.Counts.{coded_counts}
 use Rattle.repl_log.specs.Entry.{EntryValue, coded_entry}
+use Rattle.repl_log.specs.declared.counts.Counts.{Counts}
 use Rattle.repl_log.specs.Text.{coded_rep}
 use Rattle.repl_target.specs.peer.Peer.{PeerValue, SessionValue, WrittenValue, RefusedValue}
 use Rattle.repl_target.specs.peer.Backups.{BackupValue}
@@ -65,7 +67,7 @@ Brought = List WrittenValue × List RefusedValue
 
 -- its counts, and its two moments
 abbrev Counted : Type 0
-Counted = (ℕ × (ℕ × (ℕ × (ℕ × ℕ)))) × (ℕ × ℕ)
+Counted = Counts × (ℕ × ℕ)
 
 abbrev pub coded_session : Coded SessionValue
 coded_session = code_by (Begun × (Windows × (Brought × Counted)))
@@ -73,15 +75,12 @@ coded_session = code_by (Begun × (Windows × (Brought × Counted)))
     (coded× coded_session_id (coded× coded_rep (coded× coded_ℕ (coded× (coded_option coded_session_id) coded_ℕ))))
     (coded× (coded× coded_front (coded× (coded_list coded_window) coded_ℕ))
     (coded× (coded× (coded_list coded_written) (coded_list coded_refused))
-    (coded× (coded× coded_ℕ (coded× coded_ℕ (coded× coded_ℕ (coded× coded_ℕ coded_ℕ)))) (coded× coded_ℕ coded_ℕ)))))
+    (coded× coded_counts (coded× coded_ℕ coded_ℕ)))))
     (λ s. (
       (s.id, (s.rep, (s.life, (s.base, s.goal)))),
       (
         (s.front, (s.windows, s.recorded)),
-        (
-          (s.arrivals, s.ledger),
-          ((s.checked, (s.found, (s.read, (s.written, s.failures)))), (s.start_time, s.end_time)),
-        ),
+        ((s.arrivals, s.ledger), (s.counts, (s.start_time, s.end_time))),
       ),
     ))
     (λ p. record {
@@ -95,11 +94,7 @@ coded_session = code_by (Begun × (Windows × (Brought × Counted)))
       recorded = p.1.0.1.1;
       arrivals = p.1.1.0.0;
       ledger = p.1.1.0.1;
-      checked = p.1.1.1.0.0;
-      found = p.1.1.1.0.1.0;
-      read = p.1.1.1.0.1.1.0;
-      written = p.1.1.1.0.1.1.1.0;
-      failures = p.1.1.1.0.1.1.1.1;
+      counts = p.1.1.1.0;
       start_time = p.1.1.1.1.0;
       end_time = p.1.1.1.1.1;
     })

@@ -1,5 +1,5 @@
 -- What may be trusted of a peer: docs/PROFILE.md, "The peer's law".
-use Rattle.std.specs.Prelude.{◌≡◌, ◌⊎◌, ◌+◌, ◌≤◌, Bool, true}
+use Rattle.std.specs.Prelude.{◌≡◌, ◌⊎◌, ◌≤◌, Bool, true}
 use Rattle.rev_core.specs.Rev.{RevId}
 use Rattle.rev_core.specs.Ancestry.{is_among}
 use Rattle.rev_tree.specs.Tree.{has}
@@ -7,6 +7,7 @@ use Rattle.doc_json.specs.Document.{Document}
 use Rattle.couch_base.specs.Lists.{Among}
 use Rattle.couch_base.specs.Database.{Id, tree_of}
 use Rattle.couch_base.specs.Feed.{RowValue, WindowValue}
+use Rattle.repl_log.specs.Counts.{AddUp}
 use Rattle.repl_target.specs.peer.Peer.{PeerValue, SessionValue, RefusedValue}
 use Rattle.repl_target.specs.peer.Covered.{rightly_refused}
 use Rattle.repl_target.specs.peer.Origins.{HasOrigins}
@@ -32,4 +33,4 @@ pub record IsTrusted (refuses : Document → Bool) (p : PeerValue) : Type 0 wher
       → Among row w.rows → row.seq ≤ s.recorded → (leaf : RevId) → Among leaf row.leaves
       → IsAccounted refuses p row.id leaf
   pub origins : HasOrigins p
-  pub counts : (s : SessionValue) → Among s p.sessions → s.read ≡ s.written + s.failures
+  pub counts : (s : SessionValue) → Among s p.sessions → AddUp s.counts

@@ -1,5 +1,5 @@
 -- Replication by one thread: docs/PROFILE.md, "Replication by one thread"; CouchDB, "Replication Protocol".
-use Rattle.std.specs.Prelude.{◌≡◌, ◌⊎◌, ℕ, zero, suc, ◌+◌, ◌==◌, ◌<◌, Bool, true, false, ◌&&◌, nat_lt, nat_le, if◌then◌else◌, [], Option, Some, None, Result, Ok, Err}
+use Rattle.std.specs.Prelude.{◌≡◌, ◌⊎◌, ℕ, zero, suc, ◌==◌, ◌<◌, Bool, true, false, ◌&&◌, nat_lt, nat_le, if◌then◌else◌, [], Option, Some, None, Result, Ok, Err}
 use Rattle.rev_core.specs.Rev.{RevId}
 use Rattle.rev_tree.specs.Tree.{leaves, SameRevisions}
 use Rattle.rev_tree.specs.declared.origin.SessionId.{SessionId}
@@ -10,6 +10,7 @@ use Rattle.couch_base.specs.Feed.{RowValue, WindowValue, chosen_feed, page}
 use Rattle.couch_base.specs.Lists.{Among}
 use Rattle.couch_base.specs.Messages.{ParcelValue, revs_diff, open_revs}
 use Rattle.repl_log.specs.declared.replication.RepId.{RepId}
+use Rattle.repl_log.specs.Counts.{AddUp}
 use Rattle.repl_log.specs.Entry.{EntryValue}
 use Rattle.repl_target.specs.peer.Peer.{PeerValue, SessionValue, session_in, entry_of}
 use Rattle.repl_target.specs.peer.Covered.{covers}
@@ -216,7 +217,7 @@ pub record IsReported (source target target' : PeerValue) (plan : Plan) (report 
   pub goal : session.goal ≡ source.db.update_seq
   pub start : report.start ≡ start_between source target plan.chosen
   pub recorded : report.recorded ≡ source.db.update_seq
-  pub counts : report.read ≡ report.written + report.failures
+  pub counts : AddUp report.counts
 
 -- a peer without documents and sessions
 abbrev pub IsEmpty : PeerValue → Type 0

@@ -9,7 +9,7 @@ use Rattle.repl_target.specs.declared.fault.TargetFault.TheVariants as faults
 -- a session that isn't held has read none
 abbrev pub read_of : Option SessionValue → ℕ
 read_of None = 0
-read_of (Some s) = s.read
+read_of (Some s) = s.counts.read
 
 abbrev pub read_in : List SessionValue → SessionId → ℕ
 read_in sessions id = read_of (session_in sessions id)

@@ -6,6 +6,7 @@ use Rattle.couch_base.specs.Feed.{WindowValue}
 use Rattle.range_front.specs.Front.{no_windows, end_of, low_water, appended}
 use Rattle.range_front.specs.declared.fault.FrontFault.{FrontFault}
 use Rattle.range_front.specs.declared.fault.FrontFault.TheVariants as front_faults
+use Rattle.repl_log.specs.Counts.{no_counts}
 use Rattle.repl_log.specs.declared.replication.RepId.{RepId}
 use Rattle.repl_target.specs.peer.Peer.{PeerValue, SessionValue, session_in, holds, with_session, is_of, same_rep}
 use Rattle.repl_target.specs.declared.session.beginning.Beginning.{Beginning}
@@ -85,11 +86,7 @@ new_session id b at = record {
   recorded = b.start;
   arrivals = [];
   ledger = [];
-  checked = 0;
-  found = 0;
-  read = 0;
-  written = 0;
-  failures = 0;
+  counts = no_counts;
   start_time = at;
   end_time = at;
 }
@@ -143,11 +140,7 @@ report_of s = record {
   session = s.id;
   start = s.front.start;
   recorded = s.recorded;
-  checked = s.checked;
-  found = s.found;
-  read = s.read;
-  written = s.written;
-  failures = s.failures;
+  counts = s.counts;
 }
 
 -- a session is concluded where all is done up to its goal

@@ -16,6 +16,7 @@ use Rattle.couch_base.specs.declared.fault.BaseFault.TheVariants as base_faults
 use Rattle.range_front.specs.Front.{is_done, finished}
 use Rattle.range_front.specs.declared.fault.FrontFault.{FrontFault}
 use Rattle.range_front.specs.declared.fault.FrontFault.TheVariants as front_faults
+use Rattle.repl_log.specs.declared.counts.Counts.{Counts}
 use Rattle.repl_target.specs.peer.Peer.{PeerValue, SessionValue, written_of, with_session}
 use Rattle.repl_target.specs.peer.Covered.{refusal_of, covers_window, first_uncovered}
 use Rattle.repl_target.specs.session.Sessions.{session_answer}
@@ -47,13 +48,16 @@ abbrev pub with_refused : Document → Reason → SessionValue → SessionValue
 with_refused d reason s =
     record s {
       ledger = s.ledger ++ record { doc = d; reason = reason } ∷ [];
-      read = s.read + 1;
-      failures = s.failures + 1;
+      counts = record s.counts { read = s.counts.read + 1; failures = s.counts.failures + 1 };
     }
 
 -- a document arrives, and counts as read and as written, also where it was there already
 abbrev pub with_arrival : Document → SessionValue → SessionValue
-with_arrival d s = record s { arrivals = s.arrivals ++ written_of d ∷ []; read = s.read + 1; written = s.written + 1 }
+with_arrival d s =
+    record s {
+      arrivals = s.arrivals ++ written_of d ∷ [];
+      counts = record s.counts { read = s.counts.read + 1; written = s.counts.written + 1 };
+    }
 
 -- a change finds no sequence
 abbrev pub is_full : Result Put BaseFault → Bool
@@ -116,8 +120,8 @@ has_row w d = list_any (λ row. bytes_eq row.id d.id) w.rows
 -- whether the counts of the session stay in their range
 abbrev pub has_room : SessionValue → WindowValue → ParcelValue → Bool
 has_room s w parcel =
-    nat_le (s.read + length parcel.docs) most
-    && (nat_le (s.checked + leaf_count w) most && nat_le (s.found + asked_count parcel.asked) most)
+    nat_le (s.counts.read + length parcel.docs) most
+    && (nat_le (s.counts.checked + leaf_count w) most && nat_le (s.counts.found + asked_count parcel.asked) most)
 
 -- the stored window of the parcel's bounds
 abbrev pub window_in : SessionValue → ℕ → ℕ → Option WindowValue
@@ -149,13 +153,17 @@ settling_of p s = record { db = p.db; session = s }
 abbrev pub after_documents : (Document → Bool) → PeerValue → SessionValue → WindowValue → List Document → PeerValue
 after_documents refuses p s w docs = with_settling p (settle_docs refuses w (settling_of p s) docs)
 
+-- so many leaves more were checked, and so many of them missed
+abbrev pub with_checked : Counts → ℕ → ℕ → Counts
+with_checked counts leaves asked =
+    record counts { checked = counts.checked + leaves; found = counts.found + asked }
+
 -- the window is done, and its leaves and the asked are counted
 abbrev pub with_done : WindowValue → ParcelValue → SessionValue → SessionValue
 with_done w parcel s =
     record s {
       front = finished s.front w.lo w.hi;
-      checked = s.checked + leaf_count w;
-      found = s.found + asked_count parcel.asked;
+      counts = with_checked s.counts (leaf_count w) (asked_count parcel.asked);
     }
 
 -- after all documents: the window is marked where each leaf of its rows is covered
@@ -211,8 +219,8 @@ pub record SettlesAll (refuses : Document → Bool) (p q : PeerValue) (parcel : 
   pub all : settled_before refuses w (settling_of p s) parcel.docs ≡ length parcel.docs
   pub peer : q ≡ after_all refuses p s w parcel
 
--- a session has grown by these counts
-pub record Counts (z s : SessionValue) (settled : Settled) : Type 0 where
+-- counts have grown by what a settling answers
+pub record GrownBy (z s : Counts) (settled : Settled) : Type 0 where
   pub written : z.written ≡ s.written + settled.written
   pub failures : z.failures ≡ s.failures + settled.failures
 
@@ -221,7 +229,7 @@ abbrev pub SettlesAt : (Document → Bool) → PeerValue → ParcelValue → Ses
     → Result Settled TargetFault → PeerValue → Type 0
 SettlesAt refuses p parcel s w (Ok settled) q =
     SettlesAll refuses p q parcel s w × (first_uncovered (after_documents refuses p s w parcel.docs) w.rows ≡ None)
-    × Counts (settle_docs refuses w (settling_of p s) parcel.docs).session s settled
+    × GrownBy (settle_docs refuses w (settling_of p s) parcel.docs).session.counts s.counts settled
 SettlesAt refuses p parcel s w (Err (faults.Uncovered seq id rev)) q =
     SettlesAll refuses p q parcel s w × (first_uncovered q w.rows ≡ Some (record { seq = seq; id = id; rev = rev }))
 SettlesAt refuses p parcel s w (Err (faults.Stopped n rest cause)) q =

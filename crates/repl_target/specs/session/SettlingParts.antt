@@ -15,7 +15,7 @@ use Rattle.range_front.specs.Front.{finished}
 use Rattle.repl_target.specs.peer.Peer.{PeerValue, SessionValue, RefusedValue}
 use Rattle.repl_target.specs.peer.Covered.{in_ledger, first_unknown}
 use Rattle.repl_target.specs.session.LedgerIndex.{is_ledgered}
-use Rattle.repl_target.specs.session.Settling.{Settling, is_full, with_refused, with_arrival, fed, Halts, stops_in, stops_at, settle_one, leaf_count, asked_count, settle_docs, settled_before, settle_at, window_in, with_done, Counts}
+use Rattle.repl_target.specs.session.Settling.{Settling, is_full, with_refused, with_arrival, fed, Halts, stops_in, stops_at, settle_one, leaf_count, asked_count, settle_docs, settled_before, settle_at, window_in, with_done, with_checked, GrownBy}
 use Rattle.repl_target.specs.declared.fault.Cause.{Cause}
 use Rattle.repl_target.specs.declared.fault.Cause.TheVariants as causes
 use Rattle.repl_target.specs.declared.fault.Reason.{Reason}
@@ -111,7 +111,7 @@ pub record Closes (refuses : Document → Bool) (known : Id → RevId → Bool) 
   pub all : settled_before refuses w before parcel.docs ≡ length parcel.docs
   pub settling : after ≡ with_mark w parcel (settle_docs refuses w before parcel.docs)
   pub covered : first_unknown known w.rows ≡ None
-  pub counts : Counts (settle_docs refuses w before parcel.docs).session before.session settled
+  pub counts : GrownBy (settle_docs refuses w before parcel.docs).session.counts before.session.counts settled
 
 -- ---- the parcel
 
@@ -128,7 +128,7 @@ abbrev pub Ends : (Id → RevId → Bool) → WindowValue → SessionValue → �
     → SessionValue → Type 0
 Ends known w s leaves asked n (Ok done) t =
     (first_unknown known w.rows ≡ None)
-    × (t ≡ record s { front = finished s.front w.lo w.hi; checked = s.checked + leaves; found = s.found + asked })
+    × (t ≡ record s { front = finished s.front w.lo w.hi; counts = with_checked s.counts leaves asked })
 Ends known w s leaves asked n (Err (faults.Uncovered seq id rev)) t =
     (first_unknown known w.rows ≡ Some (record { seq = seq; id = id; rev = rev })) × (t ≡ s)
 Ends known w s leaves asked n (Err (faults.Stopped m rest causes.Memory)) t = (m ≡ n) × (rest.items ≡ []) × (t ≡ s)

@@ -15,11 +15,7 @@ session_value s = record {
   recorded = s.recorded;
   arrivals = s.arrivals.items;
   ledger = s.ledger.items;
-  checked = s.checked;
-  found = s.found;
-  read = s.read;
-  written = s.written;
-  failures = s.failures;
+  counts = s.counts;
   start_time = s.start_time;
   end_time = s.end_time;
 }

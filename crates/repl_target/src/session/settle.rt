@@ -56,7 +56,7 @@ pub(crate) fn settle<F: WriteFilter>(
 {
     let checked = check(session, &parcel)?;
     let (_, mut docs, _) = parcel.into_parts();
-    let (written, failures) = (session.written, session.failures);
+    let (written, failures) = (session.counts.written, session.counts.failures);
     let all = docs.len();
     let stop = settle_in_order(filter, db, ledgered, session, checked.place, &mut docs);
     let settled = (all - docs.len()) as u64;
@@ -71,8 +71,8 @@ pub(crate) fn settle<F: WriteFilter>(
         return Err(fault);
     }
     Ok(Settled {
-        written: session.written - written,
-        failures: session.failures - failures,
+        written: session.counts.written - written,
+        failures: session.counts.failures - failures,
     })
 }
 
@@ -90,7 +90,7 @@ fn settle_in_order<F: WriteFilter>(
     requires rows { (w : WindowValue)
         × (slice_get session.old.windows place ≡ Some w)
         × (list_all (has_row w) docs.old.items ≡ true) }
-    requires room { session.old.read + length docs.old.items ≤ most }
+    requires room { session.old.counts.read + length docs.old.items ≤ most }
     ensures reached { (w : WindowValue)
         → slice_get session.old.windows place ≡ Some w
         → Reached (F.refuses filter.now) w (settling_at db.old session.old) docs.old.items
@@ -134,7 +134,7 @@ fn settle_documents<F: WriteFilter>(
     requires rows { (w : WindowValue)
         × (slice_get session.old.windows place ≡ Some w)
         × (list_all (has_row w) docs.old.items ≡ true) }
-    requires room { session.old.read + length docs.old.items ≤ most }
+    requires room { session.old.counts.read + length docs.old.items ≤ most }
     ensures reached { (w : WindowValue)
         → slice_get session.old.windows place ≡ Some w
         → Reached (F.refuses filter.now) w (settling_at db.old session.old) (reverse docs.old.items)
@@ -170,7 +170,7 @@ fn settle_last<F: WriteFilter>(
     origin: Origin,
 ) -> Result<(), Cause>
     requires one { 0 < vec_len docs.old }
-    requires room { session.old.read < most }
+    requires room { session.old.counts.read < most }
     ensures settled { OnOk result
         ((d : Document)
         × (docs.old.items ≡ docs.new.items ++ d ∷ [])
@@ -179,7 +179,7 @@ fn settle_last<F: WriteFilter>(
     ensures db { OnErr result (db.new ≡ db.old) }
     ensures session { OnErr result (session.new ≡ session.old) }
     ensures why { IfErr result (Stuck (F.refuses filter.now) docs.old.items db.old) }
-    ensures read { OnOk result (session.new.read ≡ session.old.read + 1) }
+    ensures read { OnOk result (session.new.counts.read ≡ session.old.counts.read + 1) }
     ensures front { session.new.front ≡ session.old.front }
     ensures windows { session.new.windows ≡ session.old.windows }
     ensures indexed { (base : LedgerIndex)
@@ -197,17 +197,17 @@ fn settle_last<F: WriteFilter>(
         origin,
     )?;
     let doc = docs.pop().unwrap();
-    session.read += 1;
+    session.counts.read += 1;
     match reason {
         Some(reason) => {
             session.ledger.push(Refused::new(doc, reason)).unwrap();
-            session.failures += 1;
+            session.counts.failures += 1;
             Ok(())
         }
         None => {
             let (id, ancestry, _, _) = doc.into_parts();
             session.arrivals.push(Written::whole(id, ancestry)).unwrap();
-            session.written += 1;
+            session.counts.written += 1;
             Ok(())
         }
     }
@@ -314,13 +314,13 @@ fn close(
     requires stored { (w : WindowValue)
         × (slice_get session.old.windows checked.place ≡ Some w)
         × (finish_answer session.old.front w.lo w.hi ≡ Ok tt) }
-    requires checked { session.old.checked + checked.leaves ≤ most }
-    requires found { session.old.found + checked.asked ≤ most }
+    requires checked { session.old.counts.checked + checked.leaves ≤ most }
+    requires found { session.old.counts.found + checked.asked ≤ most }
     ensures id { session.new.id ≡ session.old.id }
     ensures rep { session.new.rep ≡ session.old.rep }
     ensures ledger { session.new.ledger ≡ session.old.ledger }
-    ensures written { session.new.written ≡ session.old.written }
-    ensures failures { session.new.failures ≡ session.old.failures }
+    ensures written { session.new.counts.written ≡ session.old.counts.written }
+    ensures failures { session.new.counts.failures ≡ session.old.counts.failures }
     ensures ends { (w : WindowValue)
         → slice_get session.old.windows checked.place ≡ Some w
         → Ends (known_of db.now ledgered.now) w session.old checked.leaves checked.asked settled result session.new }
@@ -352,7 +352,7 @@ fn close(
             cause: Cause::from(fault),
         });
     }
-    session.checked += checked.leaves;
-    session.found += checked.asked;
+    session.counts.checked += checked.leaves;
+    session.counts.found += checked.asked;
     Ok(())
 }

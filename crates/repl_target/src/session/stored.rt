@@ -79,10 +79,10 @@ fn place_from(windows: &[Window], lo: u64) -> usize
 /// Whether the counts of a session with some more stay in their range.
 fn has_room(session: &Session, read: u64, checked: u64, found: u64) -> bool
     ensures { result
-        ≡ (nat_le (session.now.read + read) most
-        && (nat_le (session.now.checked + checked) most && nat_le (session.now.found + found) most)) }
+        ≡ (nat_le (session.now.counts.read + read) most
+        && (nat_le (session.now.counts.checked + checked) most && nat_le (session.now.counts.found + found) most)) }
 {
-    fits(session.read, read) && fits(session.checked, checked) && fits(session.found, found)
+    fits(session.counts.read, read) && fits(session.counts.checked, checked) && fits(session.counts.found, found)
 }
 
 /// Whether a count with some more stays in its range.

@@ -94,12 +94,12 @@ session_part r =
 
 -- how many leaves it checked, and how many of them were missing
 abbrev pub checked_part : Report → List ℕ
-checked_part r = codes " checked " ++ decimal r.checked ++ codes " found " ++ decimal r.found
+checked_part r = codes " checked " ++ decimal r.counts.checked ++ codes " found " ++ decimal r.counts.found
 
 -- how many documents it read, wrote and failed to write
 abbrev pub documents_part : Report → List ℕ
 documents_part r =
-    codes " read " ++ decimal r.read ++ codes " written " ++ decimal r.written ++ codes " failed " ++ decimal r.failures
+    codes " read " ++ decimal r.counts.read ++ codes " written " ++ decimal r.counts.written ++ codes " failed " ++ decimal r.counts.failures
 
 -- what a session did
 abbrev pub report_line : Report → List ℕ

@@ -325,9 +325,9 @@ fn push_checked(answer: &mut Vec<u8>, report: &Report) -> Result<(), AllocError>
     ensures { OnOk result (answer.new.items ≡ answer.old.items ++ checked_part report.now) }
 {
     answer.extend_from_slice(b" checked ")?;
-    push_number(answer, report.checked)?;
+    push_number(answer, report.counts.checked)?;
     answer.extend_from_slice(b" found ")?;
-    push_number(answer, report.found)
+    push_number(answer, report.counts.found)
 }
 
 /// How many documents a session read, wrote and failed to write.
@@ -335,11 +335,11 @@ fn push_documents(answer: &mut Vec<u8>, report: &Report) -> Result<(), AllocErro
     ensures { OnOk result (answer.new.items ≡ answer.old.items ++ documents_part report.now) }
 {
     answer.extend_from_slice(b" read ")?;
-    push_number(answer, report.read)?;
+    push_number(answer, report.counts.read)?;
     answer.extend_from_slice(b" written ")?;
-    push_number(answer, report.written)?;
+    push_number(answer, report.counts.written)?;
     answer.extend_from_slice(b" failed ")?;
-    push_number(answer, report.failures)
+    push_number(answer, report.counts.failures)
 }
 
 /// Prints how far a session came that its plan stopped.

@@ -1,6 +1,6 @@
 //! The worked rows of logs as calls with the texts of their answers, and each public call once with ample memory.
 use crate::tests::texts::expect_answer;
-use repl_log::{Entry, Log, Moment, RepId, common, rep_id, write_log};
+use repl_log::{Counts, Entry, Log, Moment, RepId, common, rep_id, write_log};
 use rev_tree::SessionId;
 use std::alloc::Global;
 use std::process::Abort;
@@ -119,11 +119,13 @@ fn one_document(moment: u64) -> Option<Entry> {
         recorded: 1,
         start_time: at,
         end_time: at,
-        checked: 1,
-        found: 1,
-        read: 1,
-        written: 1,
-        failures: 0,
+        counts: Counts {
+            checked: 1,
+            found: 1,
+            read: 1,
+            written: 1,
+            failures: 0,
+        },
     })
 }
 

@@ -1,10 +1,11 @@
 -- What a lawful peer's sessions say of themselves is so.
-use Rattle.std.proofs.Common.{◌≡◌, ℕ, ◌+◌, ◌<◌, ◌≤◌, List, [], ◌∷◌, Bool, true, map, sym, ap, ◌∙◌, subst, inl, inr, arith}
+use Rattle.std.proofs.Common.{◌≡◌, ℕ, ◌<◌, ◌≤◌, List, [], ◌∷◌, Bool, true, map, sym, ap, ◌∙◌, subst, inl, inr, arith}
 use Rattle.doc_json.specs.Document.{Document}
 use Rattle.couch_base.specs.Lists.{Among, Rises}
 use Rattle.couch_base.specs.Feed.{RowValue, WindowValue, IsWindow}
 use Rattle.range_front.specs.Front.{is_done, low_water}
 use Rattle.range_front.specs.FrontLaws.{reached, is_window-is_done}
+use Rattle.repl_log.specs.Counts.{AddUp}
 use Rattle.repl_target.specs.peer.Peer.{PeerValue, SessionValue}
 use Rattle.repl_target.specs.peer.Covered.{Honest}
 use Rattle.repl_target.specs.peer.Law.{LawfulSession, LawfulSessions}
@@ -45,5 +46,5 @@ honest_is refuses p l s held w m row n under leaf k =
     law.done w m (reached_done refuses p s law w m row.seq within.0 within.1 (omega (arith, under, law.recorded))) row n leaf k
 
 -- each document that a session has read was written or refused
-pub counts_are : (refuses : Document → Bool) (p : PeerValue) → LawfulSessions refuses p → (s : SessionValue) → Among s p.sessions → s.read ≡ s.written + s.failures
+pub counts_are : (refuses : Document → Bool) (p : PeerValue) → LawfulSessions refuses p → (s : SessionValue) → Among s p.sessions → AddUp s.counts
 counts_are refuses p l s held = (l.sessions s held).read

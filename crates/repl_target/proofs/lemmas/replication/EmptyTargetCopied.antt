@@ -170,7 +170,7 @@ leaf_covered c source p law feed id chosen leaf top = go (tree_in source.docs id
         ap (λ i. covers p i leaf) (sym d.2) ∙ feed (row_of d.0) row leaf among
 
 -- a leaf that is covered, where nothing is in a ledger
-covered_there : (refuses : Document → Bool) (p : PeerValue) (id : SessionId) (s : SessionValue) → LawfulSessions refuses p → ((x : SessionValue) → Among x p.sessions → x.id ≡ id) → session_in p.sessions id ≡ Some s → s.failures ≡ 0
+covered_there : (refuses : Document → Bool) (p : PeerValue) (id : SessionId) (s : SessionValue) → LawfulSessions refuses p → ((x : SessionValue) → Among x p.sessions → x.id ≡ id) → session_in p.sessions id ≡ Some s → s.counts.failures ≡ 0
     → (doc : Id) (r : RevId) → covers p doc r ≡ true → has (tree_of p.db.docs doc) r ≡ true
 covered_there refuses p id s law only held none doc r h =
     elim (or_cases _ _ h) [
@@ -185,7 +185,7 @@ covered_there refuses p id s law only held none doc r h =
 
 copied : (refuses : Document → Bool) (source target : PeerValue) (plan : Plan) (from : Reading) (read : PeerValue) (report : Report) (source' target' : PeerValue)
     → Started source target plan from → LawfulDatabase source.db → LawfulSessions refuses from.target → ReadsAll refuses source.db plan from read → Closes source read plan (Ok report) source' target'
-    → IsEmpty target → report.failures ≡ 0 → SameDocuments plan.chosen source.db target'.db
+    → IsEmpty target → report.counts.failures ≡ 0 → SameDocuments plan.chosen source.db target'.db
 copied refuses source target plan from read report source' target' s law lawful reads closes empty none = same
   where
     reported : IsReported source target target' plan report
@@ -208,7 +208,7 @@ copied refuses source target plan from read report source' target' s law lawful 
 
     leaf_there : (id : Id) → is_chosen plan.chosen id ≡ true → (leaf : RevId) → is_leaf (tree_of source.db.docs id) leaf ≡ true → has (tree_of target'.db.docs id) leaf ≡ true
     leaf_there id chosen leaf top =
-        covered_there refuses target' plan.session reported.session lawful' copying.only reported.held (sym (ap (λ (x : Report). x.failures) reported.is) ∙ none) id leaf
+        covered_there refuses target' plan.session reported.session lawful' copying.only reported.held (sym (ap (λ (x : Report). x.counts.failures) reported.is) ∙ none) id leaf
         (leaf_covered plan.chosen source.db target' law all_covered id chosen leaf top)
 
     same : SameDocuments plan.chosen source.db target'.db
@@ -218,6 +218,6 @@ copied refuses source target plan from read report source' target' s law lawful 
 
 pub all-copied : (refuses : Document → Bool) (source target : PeerValue) (plan : Plan) (from : Reading) (read : PeerValue) (result : Result Report TargetFault) (source' target' : PeerValue)
     → Started source target plan from → LawfulDatabase source.db → LawfulSessions refuses from.target → ReadsAll refuses source.db plan from read → Closes source read plan result source' target'
-    → IfOk result (λ report. IsEmpty target → report.failures ≡ 0 → SameDocuments plan.chosen source.db target'.db)
+    → IfOk result (λ report. IsEmpty target → report.counts.failures ≡ 0 → SameDocuments plan.chosen source.db target'.db)
 all-copied refuses source target plan from read (Err why) source' target' s law lawful reads closes = tt
 all-copied refuses source target plan from read (Ok report) source' target' s law lawful reads closes = copied refuses source target plan from read report source' target' s law lawful reads closes

@@ -13,6 +13,7 @@ use Rattle.couch_base.specs.FeedLaws.{IsWindow-page}
 use Rattle.couch_base.specs.Messages.{ParcelValue}
 use Rattle.range_front.specs.Front.{low_water, end_of}
 use Rattle.range_front.specs.FrontLaws.{end_of-appended, end_of-finished, low_water-le-end_of}
+use Rattle.repl_log.specs.Counts.{AddUp}
 use Rattle.repl_target.specs.peer.Peer.{PeerValue, SessionValue, is_of, session_in, with_session}
 use Rattle.repl_target.specs.peer.Covered.{covers_window}
 use Rattle.repl_target.specs.peer.Law.{LawfulSessions, session_numbers}
@@ -313,7 +314,7 @@ module _ (refuses : Document → Bool) (source target : PeerValue) (plan : Plan)
         goal = ap (λ (x : SessionValue). x.goal) r.is ∙ u.goal;
         start = ap (λ (x : Report). x.start) r.concluded.is ∙ u.begins ∙ ap (λ (x : Beginning). x.start) from;
         recorded = ap (λ (x : Report). x.recorded) r.concluded.is ∙ r.concluded.reached ∙ u.goal;
-        counts = ap (λ (x : Report). x.read) told ∙ (r.law.sessions r.session r.held).read ∙ ap (λ (x : Report). x.written + x.failures) (sym told);
+        counts = subst AddUp (ap (λ (x : Report). x.counts) (sym told)) (r.law.sessions r.session r.held).read;
       }
 
 -- ---- what the code asks

@@ -54,7 +54,7 @@ unfolding swapped
 swap_some id s t xs e is = swap id t e xs ∙ ap (swapped t) is
 
 -- a change that leaves id and count
-changed_reads : (p : PeerValue) (id : SessionId) (change : SessionValue → SessionValue) → ((s : SessionValue) → ((change s).id ≡ s.id) × ((change s).read ≡ s.read)) → read_in (on_session p id change).sessions id ≡ read_in p.sessions id
+changed_reads : (p : PeerValue) (id : SessionId) (change : SessionValue → SessionValue) → ((s : SessionValue) → ((change s).id ≡ s.id) × ((change s).counts.read ≡ s.counts.read)) → read_in (on_session p id change).sessions id ≡ read_in p.sessions id
 changed_reads p id change keeps = go (session_in p.sessions id) refl
   where
     go : (o : Option SessionValue) → session_in p.sessions id ≡ o → read_in (on_found p change o).sessions id ≡ read_in p.sessions id
@@ -69,7 +69,7 @@ changed_reads p id change keeps = go (session_in p.sessions id) refl
 pub append_reads : (p : PeerValue) (id : SessionId) (w : WindowValue) → read_in (after_append p id w).sessions id ≡ read_in p.sessions id
 append_reads p id w = changed_reads p id (λ s. with_window w s (append_in w s)) (λ s. stays s (append_in w s))
   where
-    stays : (s : SessionValue) (r : Result (Unit {0}) TargetFault) → ((with_window w s r).id ≡ s.id) × ((with_window w s r).read ≡ s.read)
+    stays : (s : SessionValue) (r : Result (Unit {0}) TargetFault) → ((with_window w s r).id ≡ s.id) × ((with_window w s r).counts.read ≡ s.counts.read)
     stays s (Ok done) = (refl, refl)
     stays s (Err fault) = (refl, refl)
 
@@ -117,9 +117,9 @@ module _ (refuses : Document → Bool) (p : PeerValue) (id : SessionId) (l : Law
       let held = session_found p.sessions id s is in
       let z = settle_docs refuses w (settling_of p s) (take n docs) in
       let h = documents_settle refuses p s w (take n docs) held.0 l in
-      let now : read_in (with_settling p z).sessions id ≡ z.session.read = ap read_of (swap_some id s z.session p.sessions (ap (λ (i : SessionId). i.0) h.keeps.id ∙ held.1) is) in
+      let now : read_in (with_settling p z).sessions id ≡ z.session.counts.read = ap read_of (swap_some id s z.session p.sessions (ap (λ (i : SessionId). i.0) h.keeps.id ∙ held.1) is) in
       let read = read-docs refuses w n (settling_of p s) docs within in
-      let was : read_in p.sessions id ≡ s.read = ap read_of is in
+      let was : read_in p.sessions id ≡ s.counts.read = ap read_of is in
       let at : read_in q.sessions id ≡ read_in (with_settling p z).sessions id = ap (λ (x : PeerValue). read_in x.sessions id) e in
       omega (arith, now, read, was, at)
 
@@ -132,14 +132,14 @@ module _ (refuses : Document → Bool) (p : PeerValue) (id : SessionId) (l : Law
       let h = documents_settle refuses p s w parcel.docs held.0 l in
       let number : z.session.id.0 ≡ id.0 = ap (λ (i : SessionId). i.0) h.keeps.id ∙ held.1 in
       let there : session_in (with_settling p z).sessions id ≡ Some z.session = swap_some id s z.session p.sessions number is in
-      let read : z.session.read ≡ s.read + length parcel.docs =
-      ap (λ ds. (settle_docs refuses w (settling_of p s) ds).session.read) (sym (take-length parcel.docs)) ∙ read-docs refuses w (length parcel.docs) (settling_of p s) parcel.docs (omega (arith, all)) in
+      let read : z.session.counts.read ≡ s.counts.read + length parcel.docs =
+      ap (λ ds. (settle_docs refuses w (settling_of p s) ds).session.counts.read) (sym (take-length parcel.docs)) ∙ read-docs refuses w (length parcel.docs) (settling_of p s) parcel.docs (omega (arith, all)) in
       let done = with_done w parcel z.session in
-      let now : read_in (after_all refuses p s w parcel).sessions id ≡ z.session.read =
-      cond_both (covers_window (with_settling p z) w) (record (with_settling p z) { sessions = with_session (with_settling p z).sessions done }) (with_settling p z) (λ (x : PeerValue). read_in x.sessions id ≡ z.session.read)
+      let now : read_in (after_all refuses p s w parcel).sessions id ≡ z.session.counts.read =
+      cond_both (covers_window (with_settling p z) w) (record (with_settling p z) { sessions = with_session (with_settling p z).sessions done }) (with_settling p z) (λ (x : PeerValue). read_in x.sessions id ≡ z.session.counts.read)
       (λ _. ap read_of (swap_some id z.session done (with_settling p z).sessions number there))
       (λ _. ap read_of there) in
-      let was : read_in p.sessions id ≡ s.read = ap read_of is in
+      let was : read_in p.sessions id ≡ s.counts.read = ap read_of is in
       let at : read_in q.sessions id ≡ read_in (after_all refuses p s w parcel).sessions id = ap (λ (x : PeerValue). read_in x.sessions id) e in
       omega (arith, now, read, was, at)
 

@@ -149,9 +149,9 @@ passed_by s parcel place leaves asked p = passed s parcel (window_in s parcel.as
 
 -- the counts that have room
 pub record Room (s : SessionValue) (w : WindowValue) (parcel : ParcelValue) : Type 0 where
-  pub read : s.read + length parcel.docs ≤ most
-  pub checked : s.checked + leaf_count w ≤ most
-  pub found : s.found + asked_count parcel.asked ≤ most
+  pub read : s.counts.read + length parcel.docs ≤ most
+  pub checked : s.counts.checked + leaf_count w ≤ most
+  pub found : s.counts.found + asked_count parcel.asked ≤ most
 
 pub room_of : (s : SessionValue) (w : WindowValue) (parcel : ParcelValue) → has_room s w parcel ≡ true → Room s w parcel
 room_of s w parcel h =

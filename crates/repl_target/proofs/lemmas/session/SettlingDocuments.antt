@@ -149,10 +149,10 @@ last_at read docs d same at = subst (λ (l : List Document). slice_get l (length
 pub record Grows (s t : SessionValue) : Type 0 where
   pub id : t.id ≡ s.id
   pub rep : t.rep ≡ s.rep
-  pub checked : t.checked ≡ s.checked
-  pub found : t.found ≡ s.found
-  pub written : s.written ≤ t.written
-  pub failures : s.failures ≤ t.failures
+  pub checked : t.counts.checked ≡ s.counts.checked
+  pub found : t.counts.found ≡ s.counts.found
+  pub written : s.counts.written ≤ t.counts.written
+  pub failures : s.counts.failures ≤ t.counts.failures
   pub ledger : (id : Id) (r : RevId) → in_ledger s.ledger id r ≡ true → in_ledger t.ledger id r ≡ true
 
 grows_later : (a b c : SessionValue) → Grows a b → Grows b c → Grows a c

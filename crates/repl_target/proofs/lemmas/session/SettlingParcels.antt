@@ -8,7 +8,7 @@ use Rattle.couch_base.specs.Feed.{WindowValue}
 use Rattle.couch_base.specs.Messages.{ParcelValue}
 use Rattle.range_front.specs.Front.{finished}
 use Rattle.repl_target.specs.peer.Peer.{SessionValue}
-use Rattle.repl_target.specs.session.Settling.{Settling, Halts, settle_docs, leaf_count, asked_count, with_done}
+use Rattle.repl_target.specs.session.Settling.{Settling, Halts, settle_docs, leaf_count, asked_count, with_done, with_checked}
 use Rattle.repl_target.specs.session.SettlingParts.{Passes, Reached, ReachedAll, Ends, PartsSettled, PartsSettle, PartsGive}
 use Rattle.repl_target.specs.declared.fault.Cause.{Cause}
 use Rattle.repl_target.specs.declared.fault.Cause.TheVariants as causes
@@ -62,17 +62,17 @@ ended_err refuses known w before db mid t parcel n leaves asked faults.Memory h 
 
 pub ended_ok : (refuses : Document → Bool) (known : Id → RevId → Bool) (w : WindowValue) (before : Settling) (db : DatabaseValue) (mid t : SessionValue) (parcel : ParcelValue) (n leaves asked : ℕ) (settled : Settled) (tell : Unit {0})
     → Reached refuses w before parcel.docs n [] (record { db = db; session = mid }) → Ends known w mid leaves asked n (Ok tell) t
-    → leaves ≡ leaf_count w → asked ≡ asked_count parcel.asked → settled.written ≡ mid.written - before.session.written → settled.failures ≡ mid.failures - before.session.failures
+    → leaves ≡ leaf_count w → asked ≡ asked_count parcel.asked → settled.written ≡ mid.counts.written - before.session.counts.written → settled.failures ≡ mid.counts.failures - before.session.counts.failures
     → PartsSettled refuses known w before parcel (Ok settled) (record { db = db; session = t })
 ended_ok refuses known w before db mid t parcel n leaves asked settled tell h e leafs asks wrote failed =
     let all = reached_all refuses w before (record { db = db; session = mid }) parcel.docs n h in
     let z = settle_docs refuses w before parcel.docs in
     let here : mid ≡ z.session = ap (λ (x : Settling). x.session) all.settling in
     let grown = grows refuses w before parcel.docs in
-    let written : z.session.written ≡ mid.written = ap (λ (s : SessionValue). s.written) (sym here) in
-    let failures : z.session.failures ≡ mid.failures = ap (λ (s : SessionValue). s.failures) (sym here) in
+    let written : z.session.counts.written ≡ mid.counts.written = ap (λ (s : SessionValue). s.counts.written) (sym here) in
+    let failures : z.session.counts.failures ≡ mid.counts.failures = ap (λ (s : SessionValue). s.counts.failures) (sym here) in
     let done : t ≡ with_done w parcel z.session =
-    e.1 ∙ (λ i. let s : SessionValue = record (here i) { front = finished (here i).front w.lo w.hi; checked = (here i).checked + leafs i; found = (here i).found + asks i } in s) in
+    e.1 ∙ (λ i. let s : SessionValue = record (here i) { front = finished (here i).front w.lo w.hi; counts = with_checked (here i).counts (leafs i) (asks i) } in s) in
     record {
       all = all.all;
       settling = λ i. record { db = ap (λ (x : Settling). x.db) all.settling i; session = done i };

@@ -75,12 +75,12 @@ all_taken refuses w z (e ∷ docs) all d m =
 
 -- ---- each document counts
 
-read-one : (w : WindowValue) (z : Settling) (d : Document) (o : Option Reason) → stops_as z.db d o ≡ false → (settle_as w z d o).session.read ≡ z.session.read + 1
+read-one : (w : WindowValue) (z : Settling) (d : Document) (o : Option Reason) → stops_as z.db d o ≡ false → (settle_as w z d o).session.counts.read ≡ z.session.counts.read + 1
 read-one w z d (Some reason) go = refl
-read-one w z d None go = cond_both (is_full (put_answer z.db d)) z _ (λ (y : Settling). y.session.read ≡ z.session.read + 1) (λ full. absurd (both_ways _ go full)) (λ _. refl)
+read-one w z d None go = cond_both (is_full (put_answer z.db d)) z _ (λ (y : Settling). y.session.counts.read ≡ z.session.counts.read + 1) (λ full. absurd (both_ways _ go full)) (λ _. refl)
 
 -- the first n documents that are settled count as read
-pub read-docs : (refuses : Document → Bool) (w : WindowValue) (n : ℕ) (z : Settling) (docs : List Document) → n ≤ settled_before refuses w z docs → (settle_docs refuses w z (take n docs)).session.read ≡ z.session.read + n
+pub read-docs : (refuses : Document → Bool) (w : WindowValue) (n : ℕ) (z : Settling) (docs : List Document) → n ≤ settled_before refuses w z docs → (settle_docs refuses w z (take n docs)).session.counts.read ≡ z.session.counts.read + n
 read-docs refuses w zero z docs h = omega arith
 read-docs refuses w (suc n) z [] h = absurd (omega (arith, h))
 read-docs refuses w (suc n) z (d ∷ docs) h =

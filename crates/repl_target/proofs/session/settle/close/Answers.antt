@@ -3,6 +3,7 @@ use Rattle.std.specs.Option.{option_map}
 use Rattle.couch_base.specs.Feed.{RowValue, WindowValue}
 use Rattle.range_front.specs.Front.{FrontValue, finished}
 use Rattle.repl_target.specs.peer.Covered.{first_unknown}
+use Rattle.repl_target.specs.session.Settling.{with_checked}
 use Rattle.repl_target.specs.session.SettlingParts.{known_of}
 use Rattle.repl_target.specs.session.Stored.{session_value}
 use Rattle.repl_target.proofs.lemmas.session.SettlingDocuments.{window_is}
@@ -28,5 +29,5 @@ returns-clause-ends c =
     let hi = c.hi-hi.ensures.value ∙ ap (λ (v : WindowValue). v.hi) same in
     let front = c.in_default-finish.ensures.ok ∙ (λ i. finished c.session.inside.front.front (lo i) (hi i)) in (
       ap (λ (l : List RowValue). first_unknown (known_of c.args.db.now c.args.ledgered.now) l) (sym rows) ∙ sym c.first_unknown.ensures ∙ ap (option_map _) c.in_default.is,
-      λ i. record (session_value c.session.inside) { front = front i; checked = c.session.inside.checked + c.args.checked.leaves; found = c.session.inside.found + c.args.checked.asked },
+      λ i. record (session_value c.session.inside) { front = front i; counts = with_checked c.session.inside.counts c.args.checked.leaves c.args.checked.asked },
     ))

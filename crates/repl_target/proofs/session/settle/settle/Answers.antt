@@ -28,7 +28,7 @@ settle_in_order-stop-requires-clause-room g c =
     let p = c.in_ok-checked.ensures.ok in
     let q = passed_by c.args.session.now c.args.parcel _ _ _ p in
     let room = room_of c.args.session.now p.window c.args.parcel q.room in
-    subst (λ (l : List Document). c.args.session.now.read + length l ≤ most) docs room.read
+    subst (λ (l : List Document). c.args.session.now.counts.read + length l ≤ most) docs room.read
 
 pub returns-in-Err-clause-gives : goal.returns-in-Err-clause-gives
 returns-in-Err-clause-gives g c =
@@ -64,7 +64,7 @@ close-requires-clause-checked g c =
     let room = room_of c.args.session.now p.window c.args.parcel q.room in
     let before = settling_at c.args.db.now c.args.session.now in
     let reached = c.settle_in_order-stop.ensures.reached p.window p.at in
-    let same : c.settle_in_order-stop.new.session.checked ≡ c.args.session.now.checked = (grown_by _ _ before _ _ _ _ reached).checked in
+    let same : c.settle_in_order-stop.new.session.counts.checked ≡ c.args.session.now.counts.checked = (grown_by _ _ before _ _ _ _ reached).checked in
     omega (arith, room.checked, same, p.leaf_count)
 
 pub close-requires-clause-found : goal.close-requires-clause-found
@@ -74,7 +74,7 @@ close-requires-clause-found g c =
     let room = room_of c.args.session.now p.window c.args.parcel q.room in
     let before = settling_at c.args.db.now c.args.session.now in
     let reached = c.settle_in_order-stop.ensures.reached p.window p.at in
-    let same : c.settle_in_order-stop.new.session.found ≡ c.args.session.now.found = (grown_by _ _ before _ _ _ _ reached).found in
+    let same : c.settle_in_order-stop.new.session.counts.found ≡ c.args.session.now.counts.found = (grown_by _ _ before _ _ _ _ reached).found in
     omega (arith, room.found, same, p.asked_count)
 
 pub returns-in-Err-close-clause-gives : goal.returns-in-Err-close-clause-gives
@@ -99,8 +99,8 @@ overflow_sub-result g c =
     let p = c.in_ok-checked.ensures.ok in
     let before = settling_at c.args.db.now c.args.session.now in
     let grown = grown_by _ _ before _ _ _ _ (c.settle_in_order-stop.ensures.reached p.window p.at) in
-    let old : c.session.inside.written ≡ c.args.session.now.written = ap (λ (s : SessionValue). s.written) c.session.view_is in
-    let new : c.session-2.inside.written ≡ c.close.new.session.written = ap (λ (s : SessionValue). s.written) c.session-2.view_is in
+    let old : c.session.inside.counts.written ≡ c.args.session.now.counts.written = ap (λ (s : SessionValue). s.counts.written) c.session.view_is in
+    let new : c.session-2.inside.counts.written ≡ c.close.new.session.counts.written = ap (λ (s : SessionValue). s.counts.written) c.session-2.view_is in
     omega (arith, grown.written, c.close.ensures.written, old, new)
 
 pub overflow_sub-result-2 : goal.overflow_sub-result-2
@@ -108,8 +108,8 @@ overflow_sub-result-2 g c =
     let p = c.in_ok-checked.ensures.ok in
     let before = settling_at c.args.db.now c.args.session.now in
     let grown = grown_by _ _ before _ _ _ _ (c.settle_in_order-stop.ensures.reached p.window p.at) in
-    let old : c.session.inside.failures ≡ c.args.session.now.failures = ap (λ (s : SessionValue). s.failures) c.session.view_is in
-    let new : c.session-2.inside.failures ≡ c.close.new.session.failures = ap (λ (s : SessionValue). s.failures) c.session-2.view_is in
+    let old : c.session.inside.counts.failures ≡ c.args.session.now.counts.failures = ap (λ (s : SessionValue). s.counts.failures) c.session.view_is in
+    let new : c.session-2.inside.counts.failures ≡ c.close.new.session.counts.failures = ap (λ (s : SessionValue). s.counts.failures) c.session-2.view_is in
     omega (arith, grown.failures, c.close.ensures.failures, old, new)
 
 pub returns-clause-gives : goal.returns-clause-gives
@@ -128,8 +128,8 @@ returns-clause-gives g c =
     let still = subst (λ (l : List WindowValue). slice_get l c.in_ok-checked.checked.place ≡ Some p.window) (sym c.settle_in_order-stop.ensures.windows) p.at in
     gives_from refuses known before after c.args.parcel _ _ _ _ p
     (ended_ok refuses known p.window before mid.db mid.session after.session c.args.parcel (c.len-all.result - c.len.result) c.in_ok-checked.checked.leaves c.in_ok-checked.checked.asked _ _ reached (c.in_default-close.ensures.ends p.window still) p.leaf_count p.asked_count
-    (λ i. (ap (λ (s : SessionValue). s.written) c.session-2.view_is ∙ c.close.ensures.written) i - ap (λ (s : SessionValue). s.written) c.session.view_is i)
-    (λ i. (ap (λ (s : SessionValue). s.failures) c.session-2.view_is ∙ c.close.ensures.failures) i - ap (λ (s : SessionValue). s.failures) c.session.view_is i))
+    (λ i. (ap (λ (s : SessionValue). s.counts.written) c.session-2.view_is ∙ c.close.ensures.written) i - ap (λ (s : SessionValue). s.counts.written) c.session.view_is i)
+    (λ i. (ap (λ (s : SessionValue). s.counts.failures) c.session-2.view_is ∙ c.close.ensures.failures) i - ap (λ (s : SessionValue). s.counts.failures) c.session.view_is i))
 
 pub returns-in-Err-clause-ledger : goal.returns-in-Err-clause-ledger
 returns-in-Err-clause-ledger g c = λ i r there.

@@ -14,7 +14,7 @@ invariant-loop-doc g l = record {
       → Reached (g.F.WriteFilter.refuses l.filter) w (settling_at l.fn.db l.fn.session) (reverse l.fn.docs.items) (length l.fn.docs.items - length l.docs.items) (reverse l.docs.items) (settling_at l.db l.session);
   rows : (w : WindowValue) → slice_get l.fn.session.windows l.place ≡ Some w → list_all (has_row w) l.docs.items ≡ true;
   row : (w : WindowValue) → slice_get l.fn.session.windows l.place ≡ Some w → l.row ≤ length w.rows;
-  room : l.session.read + length l.docs.items ≤ most;
+  room : l.session.counts.read + length l.docs.items ≤ most;
   less : length l.docs.items ≤ length l.fn.docs.items;
   front : l.session.front ≡ l.fn.session.front;
   windows : l.session.windows ≡ l.fn.session.windows;

@@ -45,9 +45,9 @@ returns-then-not-has_room-clause-err c =
     let finished : is_done s.front w.lo w.hi ≡ false = (λ i. is_done s.front ((f.lo_is ∙ sym c.lo-lo.ensures.value) i) ((f.hi_is ∙ sym c.hi-hi.ensures.value) i)) ∙ sym c.is_done.ensures.value ∙ c.if-is_done.false in
     let leaves : c.leaf_count-leaves.result ≡ min (leaf_count w) (2 ^ 64 - 1) = c.leaf_count-leaves.ensures ∙ ap (λ (l : List RowValue). min (sum_by (λ (row : RowValue). length row.leaves) l) (2 ^ 64 - 1)) c.rows-rows.ensures.value in
     let asked : c.asked_count-asked.result ≡ min (asked_count parcel.asked) (2 ^ 64 - 1) = c.asked_count-asked.ensures ∙ ap (λ (l : List WantedValue). min (sum_by (λ (wanted : WantedValue). length wanted.revs) l) (2 ^ 64 - 1)) (c.docs-2.ensures.value ∙ ap (λ (a : AskedValue). a.docs) c.asked.ensures.value) in
-    let cut : (nat_le (s.read + length parcel.docs) most && (nat_le (s.checked + min (leaf_count w) (2 ^ 64 - 1)) most && nat_le (s.found + min (asked_count parcel.asked) (2 ^ 64 - 1)) most)) ≡ false =
-    (λ i. nat_le ((c.session.view_is i).read + length (sym c.docs-3.ensures.value i)) most && (nat_le ((c.session.view_is i).checked + sym leaves i) most && nat_le ((c.session.view_is i).found + sym asked i) most)) ∙ sym c.has_room.ensures ∙ c.if-not-has_room.true in
-    let room : has_room s w parcel ≡ false = (λ i. nat_le (s.read + length parcel.docs) most && (sym (cut_fits s.checked (leaf_count w)) i && sym (cut_fits s.found (asked_count parcel.asked)) i)) ∙ cut in
+    let cut : (nat_le (s.counts.read + length parcel.docs) most && (nat_le (s.counts.checked + min (leaf_count w) (2 ^ 64 - 1)) most && nat_le (s.counts.found + min (asked_count parcel.asked) (2 ^ 64 - 1)) most)) ≡ false =
+    (λ i. nat_le ((c.session.view_is i).counts.read + length (sym c.docs-3.ensures.value i)) most && (nat_le ((c.session.view_is i).counts.checked + sym leaves i) most && nat_le ((c.session.view_is i).counts.found + sym asked i) most)) ∙ sym c.has_room.ensures ∙ c.if-not-has_room.true in
+    let room : has_room s w parcel ≡ false = (λ i. nat_le (s.counts.read + length parcel.docs) most && (sym (cut_fits s.counts.checked (leaf_count w)) i && sym (cut_fits s.counts.found (asked_count parcel.asked)) i)) ∙ cut in
     rw (← c.session.view_is) (ap (settle_at s parcel) f.first ∙ count_full s parcel w rows finished room)
 
 pub returns-clause-ok : goal.returns-clause-ok
@@ -60,14 +60,14 @@ returns-clause-ok c =
     let finished : is_done s.front w.lo w.hi ≡ false = (λ i. is_done s.front ((f.lo_is ∙ sym c.lo-lo.ensures.value) i) ((f.hi_is ∙ sym c.hi-hi.ensures.value) i)) ∙ sym c.is_done.ensures.value ∙ c.if-is_done.false in
     let leaves : c.leaf_count-leaves.result ≡ min (leaf_count w) (2 ^ 64 - 1) = c.leaf_count-leaves.ensures ∙ ap (λ (l : List RowValue). min (sum_by (λ (row : RowValue). length row.leaves) l) (2 ^ 64 - 1)) c.rows-rows.ensures.value in
     let asked : c.asked_count-asked.result ≡ min (asked_count parcel.asked) (2 ^ 64 - 1) = c.asked_count-asked.ensures ∙ ap (λ (l : List WantedValue). min (sum_by (λ (wanted : WantedValue). length wanted.revs) l) (2 ^ 64 - 1)) (c.docs-2.ensures.value ∙ ap (λ (a : AskedValue). a.docs) c.asked.ensures.value) in
-    let cut : (nat_le (s.read + length parcel.docs) most && (nat_le (s.checked + min (leaf_count w) (2 ^ 64 - 1)) most && nat_le (s.found + min (asked_count parcel.asked) (2 ^ 64 - 1)) most)) ≡ true =
-    (λ i. nat_le ((c.session.view_is i).read + length (sym c.docs-3.ensures.value i)) most && (nat_le ((c.session.view_is i).checked + sym leaves i) most && nat_le ((c.session.view_is i).found + sym asked i) most)) ∙ sym c.has_room.ensures ∙ c.if-not-has_room.false in
-    let room : has_room s w parcel ≡ true = (λ i. nat_le (s.read + length parcel.docs) most && (sym (cut_fits s.checked (leaf_count w)) i && sym (cut_fits s.found (asked_count parcel.asked)) i)) ∙ cut in
+    let cut : (nat_le (s.counts.read + length parcel.docs) most && (nat_le (s.counts.checked + min (leaf_count w) (2 ^ 64 - 1)) most && nat_le (s.counts.found + min (asked_count parcel.asked) (2 ^ 64 - 1)) most)) ≡ true =
+    (λ i. nat_le ((c.session.view_is i).counts.read + length (sym c.docs-3.ensures.value i)) most && (nat_le ((c.session.view_is i).counts.checked + sym leaves i) most && nat_le ((c.session.view_is i).counts.found + sym asked i) most)) ∙ sym c.has_room.ensures ∙ c.if-not-has_room.false in
+    let room : has_room s w parcel ≡ true = (λ i. nat_le (s.counts.read + length parcel.docs) most && (sym (cut_fits s.counts.checked (leaf_count w)) i && sym (cut_fits s.counts.found (asked_count parcel.asked)) i)) ∙ cut in
     let parts = and_parts _ _ (and_parts _ _ cut).1 in
     rw (← c.session.view_is) (record {
       window = w;
       at = f.at;
       answer = ap (settle_at s parcel) f.first ∙ passes_all s parcel w rows finished room;
-      leaf_count = leaves ∙ uncut s.checked (leaf_count w) parts.0;
-      asked_count = asked ∙ uncut s.found (asked_count parcel.asked) parts.1;
+      leaf_count = leaves ∙ uncut s.counts.checked (leaf_count w) parts.0;
+      asked_count = asked ∙ uncut s.counts.found (asked_count parcel.asked) parts.1;
     })
