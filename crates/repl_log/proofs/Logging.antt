@@ -12,7 +12,7 @@ use Rattle.repl_log.specs.Entry.{EntryValue, IsSound, value_of}
 use Rattle.repl_log.specs.Log.{IsLog, holds, entry_for, replaced, recorded_of, with_entry, put_beside, put_answer}
 use Rattle.repl_log.specs.LogLaws.{IsLog-with_entry}
 use Rattle.repl_log.specs.Stored.{at_session, newest_first, IsKeyed}
-use Rattle.repl_log.specs.StoredLaws.{EachOnce, insert_entry-present, find-lookup, any-lookup, newest_first-set, newest_first-push, IsKeyed-set, IsKeyed-push}
+use Rattle.repl_log.specs.StoredLaws.{EachSessionOnce, insert_entry-present, find-lookup, any-lookup, newest_first-set, newest_first-push, IsKeyed-set, IsKeyed-push}
 
 abbrev pub Entries : Type 0
 Entries = List (SessionId × Entry)
@@ -30,18 +30,18 @@ session_of e = e.session
 IsSound-value_of : (e : Entry) → IsSound (value_of e)
 IsSound-value_of e = record { accounted = e.accounted; from_start = e.from_start }
 
-pub entry_for-lookup : (es : Entries) (s : SessionId) → Keyed es → EachOnce es → entry_for (logged es) s ≡ option_map value_of (lookup (at_session s) es)
+pub entry_for-lookup : (es : Entries) (s : SessionId) → Keyed es → EachSessionOnce es → entry_for (logged es) s ≡ option_map value_of (lookup (at_session s) es)
 entry_for-lookup es s keyed once = find-lookup value_of session_of s es keyed once
 
-holds-lookup : (es : Entries) (s : SessionId) → Keyed es → EachOnce es → holds (logged es) s ≡ is_some (lookup (at_session s) es)
+holds-lookup : (es : Entries) (s : SessionId) → Keyed es → EachSessionOnce es → holds (logged es) s ≡ is_some (lookup (at_session s) es)
 holds-lookup es s keyed once = any-lookup value_of session_of s es keyed once
 
-pub recorded_of-lookup : (es : Entries) (s : SessionId) → Keyed es → EachOnce es → (o : Option Entry) → lookup (at_session s) es ≡ o → recorded_of (logged es) s ≡ option_map (λ (e : EntryValue). e.recorded) (option_map value_of o)
+pub recorded_of-lookup : (es : Entries) (s : SessionId) → Keyed es → EachSessionOnce es → (o : Option Entry) → lookup (at_session s) es ≡ o → recorded_of (logged es) s ≡ option_map (λ (e : EntryValue). e.recorded) (option_map value_of o)
 recorded_of-lookup es s keyed once o is = ap (option_map (λ (e : EntryValue). e.recorded)) (entry_for-lookup es s keyed once ∙ ap (option_map value_of) is)
 
 -- ---- what `put` answers and leaves, at a session that is there
 
-module _ (es : Entries) (e x : Entry) (keyed : Keyed es) (once : EachOnce es) (is : lookup (at_session e.session) es ≡ Some x) where
+module _ (es : Entries) (e x : Entry) (keyed : Keyed es) (once : EachSessionOnce es) (is : lookup (at_session e.session) es ≡ Some x) where
   stored : entry_for (logged es) e.session ≡ Some (value_of x)
   stored = entry_for-lookup es e.session keyed once ∙ ap (option_map value_of) is
 
@@ -58,7 +58,7 @@ module _ (es : Entries) (e x : Entry) (keyed : Keyed es) (once : EachOnce es) (i
 
 -- ---- and at a new one
 
-module _ (es : Entries) (e : Entry) (keyed : Keyed es) (once : EachOnce es) (is : lookup (at_session e.session) es ≡ None) where
+module _ (es : Entries) (e : Entry) (keyed : Keyed es) (once : EachSessionOnce es) (is : lookup (at_session e.session) es ≡ None) where
   pub not_held : holds (logged es) e.session ≡ false
   not_held = holds-lookup es e.session keyed once ∙ ap is_some is
 
@@ -75,13 +75,13 @@ module _ (es : Entries) (e : Entry) (keyed : Keyed es) (once : EachOnce es) (is 
 abbrev pub Lawful : Entries → Type 0
 Lawful es = IsLog (logged es) × Keyed es
 
-pub Lawful-known : (es : Entries) (e x : Entry) → Lawful es → EachOnce es → lookup (at_session e.session) es ≡ Some x → Lawful (set_value (at_session e.session) es e)
+pub Lawful-known : (es : Entries) (e x : Entry) → Lawful es → EachSessionOnce es → lookup (at_session e.session) es ≡ Some x → Lawful (set_value (at_session e.session) es e)
 Lawful-known es e x law once is = (
   subst IsLog (sym (with_entry-known es e x law.1 once is)) (IsLog-with_entry (logged es) (value_of e) law.0 (IsSound-value_of e)),
   IsKeyed-set value_of session_of e.session e es law.1 refl,
 )
 
-pub Lawful-new : (es : Entries) (e : Entry) → Lawful es → EachOnce es → lookup (at_session e.session) es ≡ None → Lawful (es ++ (e.session, e) ∷ [])
+pub Lawful-new : (es : Entries) (e : Entry) → Lawful es → EachSessionOnce es → lookup (at_session e.session) es ≡ None → Lawful (es ++ (e.session, e) ∷ [])
 Lawful-new es e law once is = (
   subst IsLog (sym (with_entry-new es e law.1 once is)) (IsLog-with_entry (logged es) (value_of e) law.0 (IsSound-value_of e)),
   IsKeyed-push value_of session_of e.session e es law.1 refl,
@@ -89,7 +89,7 @@ Lawful-new es e law once is = (
 
 -- ---- what `set` leaves, be the session there or new
 
-module _ {S : Type 0} (m : IndexMap SessionId Entry S) (e : Entry) (law : Lawful m.entries) (once : EachOnce m.entries) where
+module _ {S : Type 0} (m : IndexMap SessionId Entry S) (e : Entry) (law : Lawful m.entries) (once : EachSessionOnce m.entries) where
   abbrev IsEntered : Entries → Type 0
   IsEntered es = Lawful es × (logged es ≡ with_entry (logged m.entries) (value_of e))
 

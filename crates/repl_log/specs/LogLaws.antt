@@ -1,9 +1,10 @@
 -- Laws of logs, for the crates above: docs/PROFILE.md, "Replication ids and logs" and "Common checkpoint".
-use Rattle.std.proofs.Common.{◌≡◌, ℕ, zero, suc, ◌<◌, ◌≤◌, length, get_or, true, false, ◌||◌, nat_eq, eqb, cond, if◌then◌else◌, min, List, [], ◌∷◌, Option, Some, None, is_some, option_and_then, refl, sym, ap, ◌∙◌, subst, arith}
-use Rattle.std.specs.List.{list_any, IsDistinct, AllByRecursion, Contains}
+use Rattle.std.proofs.Common.{◌≡◌, ℕ, ◌+◌, ◌≤◌, drop, slice_get, true, false, ◌||◌, nat_eq, eqb, cond, min, List, [], ◌∷◌, Option, Some, None, is_some, option_and_then, refl, sym, ap, ◌∙◌, subst, arith}
+use Rattle.std.specs.List.{list_any, IsDistinct, AllByRecursion}
 use Rattle.std.specs.Option.{option_map}
 use Rattle.std.proofs.lemmas.Bool.{cond-true, cond-false, eqb-true, eq-eqb, ne_eqb, eqb-false, or_parts, or_from, both_ways, false≢true}
-use Rattle.std.proofs.lemmas.Option.{same_Some}
+use Rattle.std.proofs.lemmas.List.{at_drop_more}
+use Rattle.std.proofs.lemmas.Option.{same_Some, slice_get_within, get_or_from_slice_get}
 use Rattle.rev_tree.specs.declared.origin.SessionId.{SessionId}
 use Rattle.repl_log.specs.Entry.{EntryValue, IsSound}
 use Rattle.repl_log.specs.Log.{is_of, holds, entry_for, recorded_of, replaced, with_entry, shared, lesser_of, checkpoint_at, common, session_numbers, IsLog, ChangesOnly, IsCommon, IsUnshared}
@@ -23,49 +24,6 @@ is_some-entry_for (x ∷ log) s =
       | true ↦ refl
       | false ↦ is_some-entry_for log s
     ]
-
-pub entry_for-none : (log : List EntryValue) (s : SessionId) → holds log s ≡ false → entry_for log s ≡ None
-entry_for-none [] s h = refl
-entry_for-none (x ∷ log) s h =
-    let parts = or_parts (is_of s x) (holds log s) h in
-    cond-false (is_of s x) (Some x) (entry_for log s) parts.0 ∙ entry_for-none log s parts.1
-
--- an entry that is found is the session's
-pub session-entry_for : (log : List EntryValue) (s : SessionId) (e : EntryValue) → entry_for log s ≡ Some e → e.session ≡ s
-session-entry_for [] s e h = cc h
-session-entry_for (x ∷ log) s e h =
-    elim (is_of s x) as (λ b. is_of s x ≡ b → cond b (Some x) (entry_for log s) ≡ Some e → e.session ≡ s) [
-      | true ↦ λ own found. ap (λ (y : EntryValue). y.session) (sym (same_Some x e found)) ∙ session-is_of x s own
-      | false ↦ λ other found. session-entry_for log s e found
-    ] refl h
-
--- ---- the entries of the log
-
-pub Contains-entry_for : (log : List EntryValue) (s : SessionId) (e : EntryValue) → entry_for log s ≡ Some e → Contains log e
-Contains-entry_for [] s e h = cc h
-Contains-entry_for (x ∷ log) s e h =
-    elim (is_of s x) as (λ b. cond b (Some x) (entry_for log s) ≡ Some e → Contains (x ∷ log) e) [
-      | true ↦ λ found. (0, omega arith, same_Some x e found)
-      | false ↦ λ found. let rest = Contains-entry_for log s e found in (suc rest.0, omega (arith, rest.1), rest.2)
-    ] h
-
-number_at : (P : ℕ → Type 0) (log : List EntryValue) (k : ℕ) (d : EntryValue) → AllByRecursion P (session_numbers log) → k < length log → P (get_or log k d).session.0
-number_at P [] k d all within = absurd (omega arith)
-number_at P (x ∷ log) zero d all within = all.0
-number_at P (x ∷ log) (suc k) d all within = number_at P log k d all.1 (omega arith)
-
-entry_for-at : (log : List EntryValue) (e : EntryValue) (k : ℕ) → IsDistinct nat_eq (session_numbers log) → k < length log → get_or log k e ≡ e → entry_for log e.session ≡ Some e
-unfolding IsDistinct
-entry_for-at [] e k distinct within is = absurd (omega arith)
-entry_for-at (x ∷ log) e zero distinct within is =
-    cond-true (is_of e.session x) (Some x) (entry_for log e.session) (eq-eqb x.session.0 e.session.0 (ap (λ (y : EntryValue). y.session.0) is)) ∙ ap Some is
-entry_for-at (x ∷ log) e (suc k) distinct within is =
-    let other : is_of e.session x ≡ false = ap (λ (y : EntryValue). is_of y.session x) (sym is) ∙ number_at (λ n. nat_eq x.session.0 n ≡ false) log k e distinct.0 (omega arith) in
-    cond-false (is_of e.session x) (Some x) (entry_for log e.session) other ∙ entry_for-at log e k distinct.1 (omega arith) is
-
--- each entry of a log is the one for its session
-pub entry_for-own : (log : List EntryValue) (e : EntryValue) → IsLog log → Contains log e → entry_for log e.session ≡ Some e
-entry_for-own log e law within = entry_for-at log e within.0 law.distinct within.1 within.2
 
 -- ---- what `put` leaves
 
@@ -106,15 +64,6 @@ ChangesOnly-with_entry log e s =
       | false ↦ λ fresh. refl
     ] refl
 
--- so the log holds that session and those that it held
-pub holds-with_entry : (log : List EntryValue) (e : EntryValue) (s : SessionId) → holds (with_entry log e) s ≡ (is_of s e || holds log s)
-holds-with_entry log e s =
-    sym (is_some-entry_for (with_entry log e) s) ∙ ap is_some (ChangesOnly-with_entry log e s)
-    ∙ elim (is_of s e) as (λ b. is_some (cond b (Some e) (entry_for log s)) ≡ (b || holds log s)) [
-      | true ↦ refl
-      | false ↦ is_some-entry_for log s
-    ]
-
 pub session_numbers-replaced : (log : List EntryValue) (e : EntryValue) → session_numbers (replaced log e) ≡ session_numbers log
 session_numbers-replaced [] e = refl
 session_numbers-replaced (x ∷ log) e =
@@ -122,14 +71,6 @@ session_numbers-replaced (x ∷ log) e =
       | true ↦ λ own. let same = eqb-true x.session.0 e.session.0 own in λ i. sym same i ∷ session_numbers-replaced log e i
       | false ↦ λ other. ap (λ ns. x.session.0 ∷ ns) (session_numbers-replaced log e)
     ] refl
-
--- sessions keep their order, and a new one comes first
-pub session_numbers-with_entry : (log : List EntryValue) (e : EntryValue) → session_numbers (with_entry log e) ≡ (if holds log e.session then session_numbers log else e.session.0 ∷ session_numbers log)
-session_numbers-with_entry log e =
-    elim (holds log e.session) as (λ b. session_numbers (cond b (replaced log e) (e ∷ log)) ≡ cond b (session_numbers log) (e.session.0 ∷ session_numbers log)) [
-      | true ↦ session_numbers-replaced log e
-      | false ↦ refl
-    ]
 
 -- ---- the law is kept
 
@@ -235,13 +176,30 @@ common-here source log t (Some s) recorded is h =
     ∙ ap (option_map (lesser_of t)) is
     ∙ ap (λ n. Some (t.session, min n t.recorded)) (same_Some s.recorded recorded h)
 
-pub common-shared : (source log : List EntryValue) (t : EntryValue) (recorded : ℕ) → recorded_of source t.session ≡ Some recorded → common source (t ∷ log) ≡ Some (t.session, min recorded t.recorded)
+common-shared : (source log : List EntryValue) (t : EntryValue) (recorded : ℕ) → recorded_of source t.session ≡ Some recorded → common source (t ∷ log) ≡ Some (t.session, min recorded t.recorded)
 common-shared source log t recorded h = common-here source log t (entry_for source t.session) recorded refl h
 
 none_recorded : (found : Option EntryValue) → option_map (λ (e : EntryValue). e.recorded) found ≡ None → is_some found ≡ false
 none_recorded None h = refl
 none_recorded (Some s) h = cc h
 
-pub common-passed : (source log : List EntryValue) (t : EntryValue) → recorded_of source t.session ≡ None → common source (t ∷ log) ≡ common source log
+common-passed : (source log : List EntryValue) (t : EntryValue) → recorded_of source t.session ≡ None → common source (t ∷ log) ≡ common source log
 common-passed source log t h =
     ap (option_and_then (checkpoint_at source)) (cond-false (holds source t.session) (Some t) (shared source log) (sym (is_some-entry_for source t.session) ∙ none_recorded (entry_for source t.session) h))
+
+-- ---- a walk along the target's log: what is left begins with the entry at the place
+
+turned : (source target : List EntryValue) (i : ℕ) (x : EntryValue) → slice_get target i ≡ Some x → common source (drop i target) ≡ common source (x ∷ drop (i + 1) target)
+turned source target i x is =
+    at_drop_more (λ (rest : List EntryValue). common source rest) target i x (slice_get_within target i x is)
+    ∙ ap (λ (y : EntryValue). common source (y ∷ drop (i + 1) target)) (get_or_from_slice_get target i x x is)
+
+-- its session is shared
+pub common-at : (source target : List EntryValue) (i recorded : ℕ) (x : EntryValue) → common source target ≡ common source (drop i target) → slice_get target i ≡ Some x → recorded_of source x.session ≡ Some recorded
+    → common source target ≡ Some (x.session, min recorded x.recorded)
+common-at source target i recorded x so_far is held = so_far ∙ turned source target i x is ∙ common-shared source (drop (i + 1) target) x recorded held
+
+-- or it stands behind
+pub common-behind : (source target : List EntryValue) (i : ℕ) (x : EntryValue) → common source target ≡ common source (drop i target) → slice_get target i ≡ Some x → recorded_of source x.session ≡ None
+    → common source target ≡ common source (drop (i + 1) target)
+common-behind source target i x so_far is none = so_far ∙ turned source target i x is ∙ common-passed source (drop (i + 1) target) x none

@@ -13,10 +13,10 @@ use Rattle.rev_tree.specs.declared.origin.SessionId.{SessionId}
 use Rattle.repl_log.specs.Stored.{at_session, newest_first, IsKeyed}
 
 -- no session comes twice
-abbrev pub EachOnce : {X : Type 0} → List (SessionId × X) → Type 0
-EachOnce es = IsDistinct at_session (keys_of es)
+abbrev pub EachSessionOnce : {X : Type 0} → List (SessionId × X) → Type 0
+EachSessionOnce es = IsDistinct at_session (keys_of es)
 
-same_id : (a b : SessionId) → a.0 ≡ b.0 → a ≡ b
+pub same_id : (a b : SessionId) → a.0 ≡ b.0 → a ≡ b
 same_id a b same = λ i. record { 0 = same i }
 
 or_none : {A : Type 0} (o : Option A) → option_or o None ≡ o
@@ -92,7 +92,7 @@ module _ {X V : Type 0} (value : X → V) (session : V → SessionId) where
         ap (λ b. option_or (chosen q (lookup (at_session s) es)) (cond b (Some (value e.1)) None)) (says (value e.1) ∙ ap (λ b. b && q (value e.1)) (named_past s e.0 e.1 keyed past))
         ∙ or_none (chosen q (lookup (at_session s) es))
 
-    pub find-chosen : (es : List (SessionId × X)) → IsKeyed own es → EachOnce es → find p (newest_first value es) ≡ chosen q (lookup (at_session s) es)
+    pub find-chosen : (es : List (SessionId × X)) → IsKeyed own es → EachSessionOnce es → find p (newest_first value es) ≡ chosen q (lookup (at_session s) es)
     unfolding IsDistinct
     find-chosen [] keyed once = refl
     find-chosen (e ∷ es) keyed once =
@@ -106,11 +106,11 @@ module _ {X V : Type 0} (value : X → V) (session : V → SessionId) where
   chosen-always (Some x) = refl
 
   -- the value of a session is what the table has there
-  pub find-lookup : (s : SessionId) (es : List (SessionId × X)) → IsKeyed own es → EachOnce es → find (named s) (newest_first value es) ≡ option_map value (lookup (at_session s) es)
+  pub find-lookup : (s : SessionId) (es : List (SessionId × X)) → IsKeyed own es → EachSessionOnce es → find (named s) (newest_first value es) ≡ option_map value (lookup (at_session s) es)
   find-lookup s es keyed once =
       find-chosen (λ _. true) (named s) s (λ v. always (named s v)) es keyed once ∙ chosen-always (lookup (at_session s) es)
 
-  pub any-lookup : (s : SessionId) (es : List (SessionId × X)) → IsKeyed own es → EachOnce es → list_any (named s) (newest_first value es) ≡ is_some (lookup (at_session s) es)
+  pub any-lookup : (s : SessionId) (es : List (SessionId × X)) → IsKeyed own es → EachSessionOnce es → list_any (named s) (newest_first value es) ≡ is_some (lookup (at_session s) es)
   any-lookup s es keyed once =
       any-find (named s) (newest_first value es) ∙ ap is_some (find-lookup s es keyed once) ∙ is_some-map value (lookup (at_session s) es)
 
@@ -133,13 +133,13 @@ module _ {X V : Type 0} (value : X → V) (session : V → SessionId) where
   put_step s x e es keyed apart rest false past =
       λ i. cond (sym (named_past s e.0 e.1 keyed.0 past) i) (value x) (value e.1) ∷ rest i
 
-  put_over-set : (s : SessionId) (x : X) (es : List (SessionId × X)) → IsKeyed own es → EachOnce es → map (λ e. value e.1) (set_value (at_session s) es x) ≡ map (put_over s x) (map (λ e. value e.1) es)
+  put_over-set : (s : SessionId) (x : X) (es : List (SessionId × X)) → IsKeyed own es → EachSessionOnce es → map (λ e. value e.1) (set_value (at_session s) es x) ≡ map (put_over s x) (map (λ e. value e.1) es)
   unfolding IsDistinct
   put_over-set s x [] keyed once = refl
   put_over-set s x (e ∷ es) keyed once = put_step s x e es keyed once.0 (put_over-set s x es keyed.1 once.1) (at_session s e.0) refl
 
   -- a write at a session puts the value in its place
-  pub newest_first-set : (s : SessionId) (x : X) (es : List (SessionId × X)) → IsKeyed own es → EachOnce es → newest_first value (set_value (at_session s) es x) ≡ map (put_over s x) (newest_first value es)
+  pub newest_first-set : (s : SessionId) (x : X) (es : List (SessionId × X)) → IsKeyed own es → EachSessionOnce es → newest_first value (set_value (at_session s) es x) ≡ map (put_over s x) (newest_first value es)
   newest_first-set s x es keyed once = ap reverse (put_over-set s x es keyed once) ∙ sym (map-reverse (put_over s x) (map (λ e. value e.1) es))
 
   -- ---- each value stays under its own session

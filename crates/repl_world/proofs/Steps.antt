@@ -1,9 +1,7 @@
 -- Each step keeps a world tied.
-use Rattle.std.proofs.Common.{◌≡◌, ℕ, zero, suc, ◌+◌, ◌<◌, ◌≤◌, ◌==◌, nat_lt, nat_le, List, [], ◌∷◌, Bool, true, false, cond, Option, Some, None, Result, Ok, Err, slice_get, refl, sym, ap, ◌∙◌, subst, inl, inr, arith}
+use Rattle.std.proofs.Common.{◌≡◌, ℕ, ◌+◌, ◌<◌, ◌≤◌, ◌==◌, nat_lt, nat_le, List, [], ◌∷◌, Bool, true, false, cond, Option, Some, None, Result, Ok, Err, slice_get, refl, sym, ap, ◌∙◌, subst, inl, inr, arith}
 use Rattle.rev_tree.specs.declared.origin.SessionId.{SessionId}
 use Rattle.doc_json.specs.Document.{Document}
-use Rattle.couch_base.specs.Lists.{Among}
-use Rattle.couch_base.specs.ListLaws.{some_is}
 use Rattle.couch_base.specs.Database.{Id, LawfulDatabase, most}
 use Rattle.couch_base.specs.Edit.{edited}
 use Rattle.rev_core.specs.Rev.{RevId}
@@ -27,6 +25,7 @@ use Rattle.repl_target.specs.declared.fault.TargetFault.TheVariants as faults
 use Rattle.repl_target.specs.replication.Calls as calls
 use Rattle.repl_target.specs.declared.fault.TargetFault.{TargetFault}
 use Rattle.couch_base.specs.MemberLaws.{Among-push, at-append}
+use Rattle.repl_target.proofs.lemmas.Members.{Among-at}
 use Rattle.repl_target.proofs.lemmas.peer.CallsKeepLaw.{load_later, edit_later, begin_later, append_later, record_later, conclude_later}
 use Rattle.repl_target.proofs.lemmas.logs.PutChangesLogsAlone.{put_entry_later}
 use Rattle.repl_target.proofs.lemmas.session.SettlingKeepsLaw.{after_settle_law, after_stop_law}
@@ -40,11 +39,6 @@ use Rattle.repl_world.specs.Worlds.{WorldValue, rep_of, paged, appends, differs,
 use Rattle.repl_world.specs.Tied.{IsWorld, OwnAsked, OwnParcel, Tied}
 use Rattle.repl_world.specs.declared.step.Step.{Step}
 use Rattle.repl_world.specs.declared.step.Step.TheVariants.{EditSource, EditTarget, LoadSource, ThirdParty, ReadLog, Begin, Page, Append, Diff, Fetch, Settle, Record, Conclude, PutEntry, Backup, Restore, Crash}
-
-pub Among-at : {X : Type 0} (xs : List X) (n : ℕ) (x : X) → slice_get xs n ≡ Some x → Among x xs
-Among-at [] n x e = cc
-Among-at (y ∷ xs) zero x e = inl (some_is x y (sym e))
-Among-at (y ∷ xs) (suc n) x e = inr (Among-at xs n x e)
 
 -- ---- a step at one peer
 

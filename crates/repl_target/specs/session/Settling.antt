@@ -201,7 +201,7 @@ after_settle refuses p id parcel = settled_at refuses p parcel (settle_check p i
 -- ---- answers
 
 -- the documents of a parcel are settled up to the one before the n-th, and the others are left
-pub record Stops (refuses : Document → Bool) (p q : PeerValue) (parcel : ParcelValue) (s : SessionValue)
+pub record SettlesFirst (refuses : Document → Bool) (p q : PeerValue) (parcel : ParcelValue) (s : SessionValue)
     (w : WindowValue) (n : ℕ) (others : List Document) : Type 0 where
   pub within : n ≤ settled_before refuses w (settling_of p s) parcel.docs
   pub rest : others ≡ drop n parcel.docs
@@ -233,7 +233,7 @@ SettlesAt refuses p parcel s w (Ok settled) q =
 SettlesAt refuses p parcel s w (Err (faults.Uncovered seq id rev)) q =
     SettlesAll refuses p q parcel s w × (first_uncovered q w.rows ≡ Some (record { seq = seq; id = id; rev = rev }))
 SettlesAt refuses p parcel s w (Err (faults.Stopped n rest cause)) q =
-    Stops refuses p q parcel s w n rest.items × Halts refuses w (settling_of p s) parcel.docs n cause
+    SettlesFirst refuses p q parcel s w n rest.items × Halts refuses w (settling_of p s) parcel.docs n cause
 SettlesAt refuses p parcel s w (Err fault) q = ⊥
 
 -- what settling answers, and the peer that it leaves

@@ -106,7 +106,7 @@ pub record ReachedAll (refuses : Document → Bool) (w : WindowValue) (before : 
 abbrev pub with_mark : WindowValue → ParcelValue → Settling → Settling
 with_mark w parcel z = record z { session = with_done w parcel z.session }
 
-pub record Closes (refuses : Document → Bool) (known : Id → RevId → Bool) (w : WindowValue) (before : Settling)
+pub record SettlesAndMarks (refuses : Document → Bool) (known : Id → RevId → Bool) (w : WindowValue) (before : Settling)
     (parcel : ParcelValue) (settled : Settled) (after : Settling) : Type 0 where
   pub all : settled_before refuses w before parcel.docs ≡ length parcel.docs
   pub settling : after ≡ with_mark w parcel (settle_docs refuses w before parcel.docs)
@@ -124,20 +124,20 @@ pub record Passes (s : SessionValue) (parcel : ParcelValue) (place leaves asked 
   pub asked_count : asked ≡ asked_count parcel.asked
 
 -- what the end of settling answers: the window is marked where each leaf of its rows is known
-abbrev pub Ends : (Id → RevId → Bool) → WindowValue → SessionValue → ℕ → ℕ → ℕ → Result (Unit {0}) TargetFault
+abbrev pub Marks : (Id → RevId → Bool) → WindowValue → SessionValue → ℕ → ℕ → ℕ → Result (Unit {0}) TargetFault
     → SessionValue → Type 0
-Ends known w s leaves asked n (Ok done) t =
+Marks known w s leaves asked n (Ok done) t =
     (first_unknown known w.rows ≡ None)
     × (t ≡ record s { front = finished s.front w.lo w.hi; counts = with_checked s.counts leaves asked })
-Ends known w s leaves asked n (Err (faults.Uncovered seq id rev)) t =
+Marks known w s leaves asked n (Err (faults.Uncovered seq id rev)) t =
     (first_unknown known w.rows ≡ Some (record { seq = seq; id = id; rev = rev })) × (t ≡ s)
-Ends known w s leaves asked n (Err (faults.Stopped m rest causes.Memory)) t = (m ≡ n) × (rest.items ≡ []) × (t ≡ s)
-Ends known w s leaves asked n (Err fault) t = ⊥
+Marks known w s leaves asked n (Err (faults.Stopped m rest causes.Memory)) t = (m ≡ n) × (rest.items ≡ []) × (t ≡ s)
+Marks known w s leaves asked n (Err fault) t = ⊥
 
 -- what settling answers after its check, and what it leaves
 abbrev pub PartsSettled : (Document → Bool) → (Id → RevId → Bool) → WindowValue → Settling → ParcelValue
     → Result Settled TargetFault → Settling → Type 0
-PartsSettled refuses known w before parcel (Ok settled) after = Closes refuses known w before parcel settled after
+PartsSettled refuses known w before parcel (Ok settled) after = SettlesAndMarks refuses known w before parcel settled after
 PartsSettled refuses known w before parcel (Err (faults.Uncovered seq id rev)) after =
     ReachedAll refuses w before parcel.docs after
     × (first_unknown known w.rows ≡ Some (record { seq = seq; id = id; rev = rev }))

@@ -24,7 +24,7 @@ abbrev pub Indexes : LedgerIndex → List SessionValue → Type 0
 Indexes ledgered sessions = (id : Id) (r : RevId) → is_ledgered ledgered id r ≡ in_ledgers sessions id r
 
 -- no id comes twice, each session stands under its own, and the index is that of their ledgers
-pub record IsStored (ledgered : LedgerIndex) (es : List (SessionId × SessionValue)) : Type 0 where
+pub record IsTableOf (ledgered : LedgerIndex) (es : List (SessionId × SessionValue)) : Type 0 where
   pub once : IsDistinct at_session (keys_of es)
   pub keyed : IsKeyed (λ s. s.id) es
   pub index : Indexes ledgered (sessions_of es)

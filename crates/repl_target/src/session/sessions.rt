@@ -16,7 +16,7 @@ use crate::session::Session;
 use crate::session::beginning::Beginning;
 use crate::session::ledger_index::LedgerIndex;
 use crate::session::rep_index::RepIndex;
-use crate::session::settle::settle;
+use crate::session::settle::settle_parcel;
 use couch_base::{Database, Parcel, Window};
 use doc_json::DocId;
 use indexmap::IndexMap;
@@ -47,11 +47,11 @@ impl Model for Sessions {
 
     ghost coded = { coded_list coded_session };
 
-    ghost use Rattle.repl_target.specs.session.StoredSessions.{sessions_of, AreListed, IsStored};
+    ghost use Rattle.repl_target.specs.session.StoredSessions.{sessions_of, AreListed, IsTableOf};
 
     ghost view = { λ s. sessions_of s.entries.entries };
 
-    ghost invariant = { λ s. IsStored s.ledgered s.entries.entries × AreListed s.by_rep (sessions_of s.entries.entries) };
+    ghost invariant = { λ s. IsTableOf s.ledgered s.entries.entries × AreListed s.by_rep (sessions_of s.entries.entries) };
 }
 
 impl Sessions {
@@ -215,8 +215,8 @@ impl Sessions {
         session.append(window)
     }
 
-    /// Settles a parcel of a session, as `settle` says. `NoSuchSession` comes before all else.
-    pub(crate) fn settle<F: WriteFilter>(
+    /// Settles a parcel of a session, as `settle_parcel` says. `NoSuchSession` comes before all else.
+    pub(crate) fn settle_session<F: WriteFilter>(
         &mut self,
         filter: &F,
         db: &mut Database,
@@ -230,7 +230,7 @@ impl Sessions {
         let Some(session) = self.entries.get_mut(&id) else {
             return Err(TargetFault::NoSuchSession);
         };
-        settle(filter, db, &mut self.ledgered, session, parcel)
+        settle_parcel(filter, db, &mut self.ledgered, session, parcel)
     }
 
     /// Records what a session has done without a gap.

@@ -14,7 +14,7 @@ ghost use Rattle.repl_target.specs.peer.Covered.{refusal_of, in_ledger};
 ghost use Rattle.repl_target.specs.declared.session.ledger_index.LedgerIndex.{LedgerIndex};
 ghost use Rattle.repl_target.specs.session.LedgerIndex.{is_ledgered};
 ghost use Rattle.repl_target.specs.session.Settling.{Halts, stops_in, has_row};
-ghost use Rattle.repl_target.specs.session.SettlingParts.{PartsGive, Reached, Ends, Accepts, Rejects, Steps, Stuck, cause_at, IndexesMore, known_of, settling_at};
+ghost use Rattle.repl_target.specs.session.SettlingParts.{PartsGive, Reached, Marks, Accepts, Rejects, Steps, Stuck, cause_at, IndexesMore, known_of, settling_at};
 
 use crate::fault::{Cause, Reason, Settled, TargetFault};
 use crate::peer::filter::{Verdict, WriteFilter};
@@ -36,7 +36,7 @@ use std::alloc::AllocError;
 /// document finds no sequence or memory is refused: the first documents are settled then. Else `Uncovered` where a leaf
 /// of the window's rows is neither in its document's tree nor refused: all documents are settled then. The window is
 /// marked only where all is well.
-pub(crate) fn settle<F: WriteFilter>(
+pub(crate) fn settle_parcel<F: WriteFilter>(
     filter: &F,
     db: &mut Database,
     ledgered: &mut LedgerIndex,
@@ -67,7 +67,7 @@ pub(crate) fn settle<F: WriteFilter>(
             cause,
         });
     }
-    if let Err(fault) = close(db, ledgered, session, checked, settled, docs) {
+    if let Err(fault) = mark_window(db, ledgered, session, checked, settled, docs) {
         return Err(fault);
     }
     Ok(Settled {
@@ -115,7 +115,7 @@ fn settle_in_order<F: WriteFilter>(
         return Err(cause_of(filter, db, doc, refused));
     }
     docs.reverse();
-    let settled = settle_documents(filter, db, ledgered, session, place, docs);
+    let settled = settle_from_end(filter, db, ledgered, session, place, docs);
     docs.reverse();
     settled
 }
@@ -123,7 +123,7 @@ fn settle_in_order<F: WriteFilter>(
 /// Settles documents, which stand in reverse, until one stops. Those that are left stay, in reverse.
 ///
 /// Each has a row in the window at the place.
-fn settle_documents<F: WriteFilter>(
+fn settle_from_end<F: WriteFilter>(
     filter: &F,
     db: &mut Database,
     ledgered: &mut LedgerIndex,
@@ -302,7 +302,7 @@ fn cause_of<F: WriteFilter>(filter: &F, db: &Database, doc: &Doc, refused: Alloc
 /// for.
 ///
 /// `settled` documents are settled, and none is left: `docs` is empty.
-fn close(
+fn mark_window(
     db: &Database,
     ledgered: &LedgerIndex,
     session: &mut Session,
@@ -323,7 +323,7 @@ fn close(
     ensures failures { session.new.counts.failures ≡ session.old.counts.failures }
     ensures ends { (w : WindowValue)
         → slice_get session.old.windows checked.place ≡ Some w
-        → Ends (known_of db.now ledgered.now) w session.old checked.leaves checked.asked settled result session.new }
+        → Marks (known_of db.now ledgered.now) w session.old checked.leaves checked.asked settled result session.new }
 {
     let window = &session.windows[checked.place];
     let (lo, hi) = (window.lo(), window.hi());

@@ -4,6 +4,7 @@ use Rattle.std.specs.List.{find}
 use Rattle.std.specs.Option.{option_or, option_map}
 use Rattle.std.proofs.lemmas.List.{drop_more}
 use Rattle.rev_core.specs.Rev.{RevId}
+use Rattle.rev_tree.specs.TreeLaws.{both_none}
 use Rattle.doc_json.specs.Chosen.{Choice}
 use Rattle.couch_base.specs.Lists.{Among}
 use Rattle.couch_base.specs.Database.{Id, DatabaseValue, LawfulDatabase}
@@ -51,10 +52,6 @@ none_found test (y ∷ ys) none x held = found_step (test y) y (find (λ x. not 
 mapped_none : {X Y : Type 0} (f : X → Y) (o : Option X) → option_map f o ≡ None → o ≡ None
 mapped_none f None is = refl
 mapped_none f (Some x) is = cc
-
-both_none : {X : Type 0} (o p : Option X) → option_or o p ≡ None → (o ≡ None) × (p ≡ None)
-both_none None p is = (refl, is)
-both_none (Some x) p is = cc
 
 pub none_unknown : (known : Id → RevId → Bool) (rows : List RowValue) → first_unknown known rows ≡ None → (row : RowValue) → Among row rows → (leaf : RevId) → Among leaf row.leaves → known row.id leaf ≡ true
 none_unknown known [] none row held leaf k = absurd held

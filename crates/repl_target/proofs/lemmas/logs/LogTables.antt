@@ -19,7 +19,7 @@ use Rattle.repl_target.specs.session.StoredSessions.{sessions_of}
 use Rattle.repl_target.specs.session.Sessions.{GivesUnlessMemory}
 use Rattle.repl_target.specs.logs.Logs.{log_of, log_in, logs_with, as_log_answers, put_answer_in}
 use Rattle.repl_log.specs.Stored.{at_session, IsKeyed}
-use Rattle.repl_log.specs.StoredLaws.{EachOnce, newest_first-push}
+use Rattle.repl_log.specs.StoredLaws.{EachSessionOnce, newest_first-push}
 
 -- ---- outgoing logs
 
@@ -112,7 +112,7 @@ key_at P (e ∷ es) zero x all is = subst (λ (y : SessionId × SessionValue). P
 key_at P (e ∷ es) (suc i) x all is = key_at P es i x all.1 is
 
 -- no earlier session has the number of a later one
-none_before : (es : Entries) (i : ℕ) (x : SessionId × SessionValue) → IsKeyed id_of es → EachOnce es → slice_get es i ≡ Some x → list_any (is_of x.0) (sessions_of (take i es)) ≡ false
+none_before : (es : Entries) (i : ℕ) (x : SessionId × SessionValue) → IsKeyed id_of es → EachSessionOnce es → slice_get es i ≡ Some x → list_any (is_of x.0) (sessions_of (take i es)) ≡ false
 unfolding IsDistinct
 none_before [] i x keyed once is = absurd (none_some x is)
 none_before (e ∷ es) zero x keyed once is = refl
@@ -141,7 +141,7 @@ sessions_of-next es i x is =
 
 -- a session of the replication comes first
 pub log_of-next : (rep : RepId) (es : Entries) (i : ℕ) (x : SessionId × SessionValue) (log new : List EntryValue) (e : EntryValue)
-    → IsKeyed id_of es → EachOnce es → slice_get es i ≡ Some x → same_rep x.1.rep rep ≡ true → log ≡ log_of (sessions_of (take i es)) rep → e ≡ entry_of (x.1) → new ≡ with_entry log e → new ≡ log_of (sessions_of (take (i + 1) es)) rep
+    → IsKeyed id_of es → EachSessionOnce es → slice_get es i ≡ Some x → same_rep x.1.rep rep ≡ true → log ≡ log_of (sessions_of (take i es)) rep → e ≡ entry_of (x.1) → new ≡ with_entry log e → new ≡ log_of (sessions_of (take (i + 1) es)) rep
 log_of-next rep es i x log new e keyed once is same so_far entry put =
     let ss = sessions_of (take i es) in
     let s = x.1 in

@@ -1,5 +1,5 @@
 -- What loading, editing, beginning, appending, recording and concluding keep: the peer's law, and all that covers.
-use Rattle.std.proofs.Common.{◌≡◌, ◌⊎◌, ℕ, ◌<◌, ◌≤◌, ◌^◌, ◌==◌, List, [], ◌∷◌, ◌++◌, Bool, true, false, cond, ◌&&◌, Option, Some, None, Result, Ok, Err, refl, sym, ap, ◌∙◌, subst, inl, inr, arith, eqb, nat_lt, is_ok}
+use Rattle.std.proofs.Common.{◌≡◌, ◌⊎◌, ℕ, ◌<◌, ◌≤◌, ◌^◌, ◌==◌, List, [], ◌∷◌, ◌++◌, Bool, true, false, cond, ◌&&◌, Option, Some, None, Result, Ok, Err, refl, sym, ap, ◌∙◌, subst, inl, inr, arith, eqb, nat_lt}
 use Rattle.std.specs.Prelude.{nat_eq}
 use Rattle.std.specs.Option.{option_eq}
 use Rattle.std.specs.Cmp.Lexicographic.{pointwise, pointwise_decides, bytes_decides}
@@ -29,6 +29,7 @@ use Rattle.repl_target.specs.session.Sessions.{on_found, on_session, start_answe
 use Rattle.repl_target.specs.peer.Law.{LawfulSession, LawfulSessions, session_numbers}
 use Rattle.repl_target.specs.peer.Later.{Keeps, IsLaterPeer}
 use Rattle.repl_target.specs.declared.session.beginning.Beginning.{Beginning}
+use Rattle.repl_log.specs.StoredLaws.{same_id}
 use Rattle.couch_base.specs.MemberLaws.{Among-left, Among-push, each_push, found_member, at-append}
 use Rattle.repl_target.proofs.lemmas.peer.LaterPeers.{Keeps-same, IsLaterPeer-same, lawful-later, session_found, session_law}
 
@@ -96,15 +97,9 @@ same_rep-is a b e =
     let chosen : a.chosen ≡ b.chosen = same_choice a.chosen b.chosen m.1 in
     λ i. record { source = source i; target = target i; chosen = chosen i }
 
-session_id-is : (a b : SessionId) → a.0 ≡ b.0 → a ≡ b
-session_id-is a b e = λ i. record { 0 = e i }
-
-err_ok : {A : Type 0} (fault : TargetFault) (x : A) → ◌≡◌ {A = Result A TargetFault} (Err fault) (Ok x) → ⊥
-err_ok fault x e = false≢true (ap is_ok e)
-
 starts_within : (start recorded : ℕ) (done : Unit {0}) → start_answer start recorded ≡ Ok done → start ≤ recorded
 starts_within start recorded done h =
-    cond_both (nat_lt recorded start) (Err (faults.StartAboveBase recorded)) (Ok tt) (λ (r : Result (Unit {0}) TargetFault). r ≡ Ok done → start ≤ recorded) (λ _ k. absurd (err_ok _ done k)) (λ e _. ltb-false recorded start e) h
+    cond_both (nat_lt recorded start) (Err (faults.StartAboveBase recorded)) (Ok tt) (λ (r : Result (Unit {0}) TargetFault). r ≡ Ok done → start ≤ recorded) (λ _ k. cc k) (λ e _. ltb-false recorded start e) h
 
 -- the base that is asked for is an earlier session of the same replication
 is_based : (sessions : List SessionValue) (rep : RepId) (base : Option SessionId) (start : ℕ) (done : Unit {0}) → base_answer sessions rep base start ≡ Ok done
@@ -113,16 +108,16 @@ is_based sessions rep None start done h = let least = starts_within start 0 done
 is_based sessions rep (Some base) start done h = inr (go (base_in sessions rep base) refl h)
   where
     go : (o : Option SessionValue) → base_in sessions rep base ≡ o → on_base start o ≡ Ok done → (b : SessionValue) × Among b sessions × (Some base ≡ Some b.id) × (rep ≡ b.rep) × (start ≤ b.recorded)
-    go None e h = absurd (err_ok faults.NoSuchBase done h)
+    go None e h = cc h
     go (Some b) e h =
         let found = found_member (λ (s : SessionValue). is_of base s && same_rep s.rep rep) sessions b e in
         let both = and_parts _ _ found.1 in
-        (b, found.0, ap Some (session_id-is base b.id (sym (eqb-true _ _ both.0))), sym (same_rep-is b.rep rep both.1), starts_within start b.recorded done h)
+        (b, found.0, ap Some (same_id base b.id (sym (eqb-true _ _ both.0))), sym (same_rep-is b.rep rep both.1), starts_within start b.recorded done h)
 
 goal_within : (start goal : ℕ) (answer : Result (Unit {0}) TargetFault) (done : Unit {0}) → goal_answer start goal answer ≡ Ok done → (start ≤ goal) × (answer ≡ Ok done)
-goal_within start goal (Err fault) done h = absurd (err_ok fault done h)
+goal_within start goal (Err fault) done h = cc h
 goal_within start goal (Ok x) done h =
-    (cond_both (nat_lt goal start) (Err faults.GoalBelowStart) (Ok tt) (λ (r : Result (Unit {0}) TargetFault). r ≡ Ok done → start ≤ goal) (λ _ k. absurd (err_ok _ done k)) (λ e _. ltb-false goal start e) h, refl)
+    (cond_both (nat_lt goal start) (Err faults.GoalBelowStart) (Ok tt) (λ (r : Result (Unit {0}) TargetFault). r ≡ Ok done → start ≤ goal) (λ _ k. cc k) (λ e _. ltb-false goal start e) h, refl)
 
 -- what beginning a session has asked
 record Begins (p : PeerValue) (id : SessionId) (b : Beginning) (done : Unit {0}) : Type 0 where
@@ -133,7 +128,7 @@ record Begins (p : PeerValue) (id : SessionId) (b : Beginning) (done : Unit {0})
 begins : (p : PeerValue) (id : SessionId) (b : Beginning) (done : Unit {0}) → begin_answer p id b ≡ Ok done → Begins p id b done
 begins p id b done h =
     cond_both (holds p.sessions id) (Err faults.SessionExists) (goal_answer b.start b.goal (base_answer p.sessions b.rep b.base b.start)) (λ (r : Result (Unit {0}) TargetFault). r ≡ Ok done → Begins p id b done)
-    (λ _ k. absurd (err_ok _ done k))
+    (λ _ k. cc k)
     (λ e k. let w = goal_within b.start b.goal (base_answer p.sessions b.rep b.base b.start) done k in record { fresh = e; within = w.0; based = w.1 })
     h
 
@@ -232,15 +227,15 @@ appended_keeps w s (Err fault) = Keeps-same s
 next_takes : (w : WindowValue) (s : SessionValue) (done : Unit {0}) → next_in w s ≡ Ok done → (w.lo ≡ end_of s.front) × (w.hi ≤ s.goal)
 next_takes w s done h =
     cond_both (w.lo == end_of s.front) (cond (nat_lt s.goal w.hi) (Err faults.PastGoal) (Ok tt)) (Err (faults.Gap (end_of s.front))) (λ (r : Result (Unit {0}) TargetFault). r ≡ Ok done → (w.lo ≡ end_of s.front) × (w.hi ≤ s.goal))
-    (λ e k. (eqb-true _ _ e, cond_both (nat_lt s.goal w.hi) (Err faults.PastGoal) (Ok tt) (λ (r : Result (Unit {0}) TargetFault). r ≡ Ok done → w.hi ≤ s.goal) (λ _ j. absurd (err_ok _ done j)) (λ f _. ltb-false s.goal w.hi f) k))
-    (λ _ k. absurd (err_ok _ done k))
+    (λ e k. (eqb-true _ _ e, cond_both (nat_lt s.goal w.hi) (Err faults.PastGoal) (Ok tt) (λ (r : Result (Unit {0}) TargetFault). r ≡ Ok done → w.hi ≤ s.goal) (λ _ j. cc j) (λ f _. ltb-false s.goal w.hi f) k))
+    (λ _ k. cc k)
     h
 
 pub takes : (w : WindowValue) (s : SessionValue) (done : Unit {0}) → append_in w s ≡ Ok done → (w.lo ≡ end_of s.front) × (w.hi ≤ s.goal) × (w.life ≡ s.life)
 takes w s done h =
     cond_both (w.life == s.life) (next_in w s) (Err (faults.OtherLife s.life)) (λ (r : Result (Unit {0}) TargetFault). r ≡ Ok done → (w.lo ≡ end_of s.front) × (w.hi ≤ s.goal) × (w.life ≡ s.life))
     (λ e k. let t = next_takes w s done k in (t.0, t.1, eqb-true _ _ e))
-    (λ _ k. absurd (err_ok _ done k))
+    (λ _ k. cc k)
     h
 
 append_both : (refuses : Document → Bool) (p : PeerValue) (id : SessionId) (w : WindowValue) → IsWindow w → w.hi < 2 ^ 64 → LawfulSessions refuses p → LawfulSessions refuses (after_append p id w) × IsLaterPeer p (after_append p id w)

@@ -38,7 +38,7 @@ use Rattle.repl_target.specs.declared.session.beginning.Beginning.{Beginning}
 use Rattle.couch_base.specs.MemberLaws.{Among-last, at-end}
 use Rattle.repl_target.proofs.lemmas.peer.LaterPeers.{with_session_holds}
 use Rattle.repl_target.proofs.lemmas.peer.CallsKeepLaw.{load_later, begin_later, append_later, record_later, conclude_later}
-use Rattle.repl_target.proofs.lemmas.session.SettlingKeepsLaw.{document_settles, documents_settle, with_settling-twice, mark_law, Ends, settle_ends}
+use Rattle.repl_target.proofs.lemmas.session.SettlingKeepsLaw.{document_settles, documents_settle, with_settling-twice, mark_law, LeavesAfter, settle_ends}
 
 -- ---- origins that stand say what is so
 
@@ -234,7 +234,7 @@ all_stand refuses p s w parcel m n rows l h =
     stands_same q (marked q z.session w parcel) (mark_law refuses q z.session w parcel k.held (k.keeps.windows w n) k.lawful).1 same (documents_stand refuses p s w parcel.docs m n rows l h)
 
 -- wherever settling ends, every revision has an origin
-pub ends_origins : (refuses : Document → Bool) (p : PeerValue) (id : SessionId) (parcel : ParcelValue) (q : PeerValue) → Ends refuses p id parcel q → LawfulSessions refuses p → HasOrigins p → HasOrigins q
+pub ends_origins : (refuses : Document → Bool) (p : PeerValue) (id : SessionId) (parcel : ParcelValue) (q : PeerValue) → LeavesAfter refuses p id parcel q → LawfulSessions refuses p → HasOrigins p → HasOrigins q
 ends_origins refuses p id parcel q (inl same) l h = subst HasOrigins (sym same) h
 ends_origins refuses p id parcel q (inr e) l h =
     let t = e.1 in

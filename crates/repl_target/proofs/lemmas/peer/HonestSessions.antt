@@ -9,14 +9,11 @@ use Rattle.repl_log.specs.Counts.{AddUp}
 use Rattle.repl_target.specs.peer.Peer.{PeerValue, SessionValue}
 use Rattle.repl_target.specs.peer.Covered.{Honest}
 use Rattle.repl_target.specs.peer.Law.{LawfulSession, LawfulSessions}
+use Rattle.couch_base.specs.FeedLaws.{rises_le}
 use Rattle.couch_base.specs.MemberLaws.{Among-mapped, each_member}
 use Rattle.repl_target.proofs.lemmas.session.WindowsFollow.{windows-follow, window-above, window-stored, one_window}
 
 -- numbers that rise lie between their bounds
-rises_le : (lo : ℕ) (ns : List ℕ) (hi : ℕ) → Rises lo ns hi → lo ≤ hi
-rises_le lo [] hi r = r
-rises_le lo (n ∷ ns) hi r = omega (arith, r.0, rises_le n ns hi r.1)
-
 pub rises_member : (lo : ℕ) (ns : List ℕ) (hi n : ℕ) → Rises lo ns hi → Among n ns → (lo < n) × (n ≤ hi)
 rises_member lo [] hi n r m = absurd m
 rises_member lo (k ∷ ns) hi n r (inl e) = (omega (arith, r.0, e), omega (arith, e, rises_le k ns hi r.1))

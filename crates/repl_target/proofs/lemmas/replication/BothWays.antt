@@ -32,7 +32,7 @@ use Rattle.repl_target.specs.replication.Sync.{HasRefusedNone, MeetBoth}
 use Rattle.repl_target.specs.declared.fault.Report.{Report}
 use Rattle.repl_target.specs.declared.fault.TargetFault.{TargetFault}
 use Rattle.repl_target.specs.declared.replication.Plan.{Plan}
-use Rattle.repl_target.proofs.lemmas.session.SettlingKeepsLaw.{Ends, after_settle_ends, after_stop_ends}
+use Rattle.repl_target.proofs.lemmas.session.SettlingKeepsLaw.{LeavesAfter, after_settle_ends, after_stop_ends}
 use Rattle.repl_target.proofs.lemmas.logs.PutChangesLogsAlone.{logs_later}
 use Rattle.repl_target.proofs.lemmas.replication.FetchedDocuments.{tree_lawful, IsLeafOf, calls-keep}
 use Rattle.repl_target.proofs.lemmas.replication.EmptyTargetCopied.{leaf_covered}
@@ -86,7 +86,7 @@ begun_log : (p : PeerValue) (s : SessionValue) (r : Result (Unit {0}) TargetFaul
 begun_log p s (Ok done) = refl
 begun_log p s (Err fault) = refl
 
-settled_log : (refuses : Document → Bool) (p : PeerValue) (id : SessionId) (parcel : ParcelValue) (q : PeerValue) → Ends refuses p id parcel q → q.outgoing ≡ p.outgoing
+settled_log : (refuses : Document → Bool) (p : PeerValue) (id : SessionId) (parcel : ParcelValue) (q : PeerValue) → LeavesAfter refuses p id parcel q → q.outgoing ≡ p.outgoing
 settled_log refuses p id parcel q (inl same) = ap (λ (x : PeerValue). x.outgoing) same
 settled_log refuses p id parcel q (inr e) =
     let s = e.0.0 in

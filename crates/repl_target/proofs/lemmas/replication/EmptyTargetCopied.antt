@@ -37,7 +37,8 @@ use Rattle.repl_target.specs.declared.fault.TargetFault.{TargetFault}
 use Rattle.repl_target.specs.declared.replication.Plan.{Plan}
 use Rattle.couch_base.specs.MemberLaws.{Among-map, Among-mapped, any_member}
 use Rattle.repl_target.proofs.lemmas.replication.FetchedDocuments.{tree_lawful, IsLeafOf, fetched_leaves, docs-settled}
-use Rattle.repl_target.proofs.lemmas.ties.TiedPages.{in_chosen, among_from}
+use Rattle.repl_target.proofs.lemmas.Members.{among_from}
+use Rattle.repl_target.proofs.lemmas.ties.TiedPages.{in_chosen}
 use Rattle.repl_target.proofs.lemmas.peer.LaterPeers.{one_session, session_found}
 use Rattle.repl_target.proofs.lemmas.session.SettlingKeepsLaw.{settle_told}
 use Rattle.rev_tree.specs.AgreementLaws.{same_leaves}

@@ -23,8 +23,8 @@ use Rattle.repl_target.specs.session.Sessions.{on_found}
 use Rattle.repl_target.specs.session.Settling.{Settling, fed, with_arrival, is_full, settle_as, settle_one, settle_docs, settling_of, with_done, after_documents, after_settle, after_stop}
 use Rattle.repl_target.specs.replication.Calls.{Call, Load, Edit, Begin, Append, Settle, Stop, Record, Conclude, after_call, after_calls, IsFrom, AllFrom}
 use Rattle.repl_target.specs.declared.fault.Reason.{Reason}
-use Rattle.repl_target.proofs.lemmas.session.SettlingKeepsLaw.{Ends, after_settle_ends, after_stop_ends}
-use Rattle.repl_target.proofs.lemmas.ties.TiedPages.{Among-filter, among_test}
+use Rattle.repl_target.proofs.lemmas.session.SettlingKeepsLaw.{LeavesAfter, after_settle_ends, after_stop_ends}
+use Rattle.repl_target.proofs.lemmas.Members.{Among-filter, among_test}
 
 pub tree_lawful : (db : DatabaseValue) → LawfulDatabase db → (id : Id) → IsTree (tree_of db.docs id)
 tree_lawful db law id = go (tree_in db.docs id) refl
@@ -80,7 +80,7 @@ module _ (source : DatabaseValue) (P : DatabaseValue → Type 0) (puts : (db : D
   some_of (suc n) [] from = tt
   some_of (suc n) (d ∷ docs) from = (from.0, some_of n docs from.1)
 
-  parcel-settled : (refuses : Document → Bool) (p : PeerValue) (id : SessionId) (parcel : ParcelValue) (q : PeerValue) → AllByRecursion (IsLeafOf source) parcel.docs → Ends refuses p id parcel q → P p.db → P q.db
+  parcel-settled : (refuses : Document → Bool) (p : PeerValue) (id : SessionId) (parcel : ParcelValue) (q : PeerValue) → AllByRecursion (IsLeafOf source) parcel.docs → LeavesAfter refuses p id parcel q → P p.db → P q.db
   parcel-settled refuses p id parcel q from (inl same) h = subst (λ (x : PeerValue). P x.db) (sym same) h
   parcel-settled refuses p id parcel q from (inr e) h =
       let s = e.0.0 in

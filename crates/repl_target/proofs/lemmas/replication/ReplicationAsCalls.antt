@@ -1,6 +1,6 @@
 -- A replication by one thread is calls on the target whose messages are what the source answers.
-use Rattle.std.proofs.Common.{◌≡◌, ℕ, zero, suc, ◌⊎◌, ◌==◌, ◌≤◌, Bool, true, cond, List, [], ◌∷◌, ◌++◌, Option, Some, None, Result, Ok, Err, is_ok, IfOk, OnOk, take, length, refl, sym, ap, ◌∙◌, subst, inl, inr, arith}
-use Rattle.std.proofs.lemmas.Bool.{and_parts, cond_both, cond-true, cond-false, both_ways, eq-eqb, ne_eqb, leb-true, ltb-true, false≢true}
+use Rattle.std.proofs.Common.{◌≡◌, ℕ, zero, suc, ◌⊎◌, ◌==◌, ◌≤◌, Bool, true, List, [], ◌∷◌, ◌++◌, Option, Some, None, Result, Ok, Err, IfOk, OnOk, take, length, refl, sym, ap, ◌∙◌, subst, inl, inr, arith}
+use Rattle.std.proofs.lemmas.Bool.{and_parts, cond-true, cond-false, both_ways, eq-eqb, ne_eqb, leb-true, ltb-true}
 use Rattle.rev_tree.specs.declared.origin.SessionId.{SessionId}
 use Rattle.doc_json.specs.Document.{Document}
 use Rattle.doc_json.specs.Chosen.{Choice}
@@ -19,7 +19,7 @@ use Rattle.repl_target.specs.peer.Law.{LawfulSessions}
 use Rattle.repl_target.specs.session.Sessions.{new_session, begun, after_append, conclude_answer, session_answer}
 use Rattle.repl_target.specs.session.Settling.{settle_check, settling_of, settled_before, after_all, after_documents, after_front, after_stop, settled_at, after_settle, SettlesAt, Settles, SettleGives, stopped_at}
 use Rattle.repl_target.specs.logs.Audit.{rep_between, audit_answer, CoversFeed}
-use Rattle.repl_target.specs.replication.Replication.{Reading, is_batch, plan_answer, beginning_between, begins_answer, after_begins, next_window, parcel_for, Carries, WindowRefused, Reads, ReadsAll, ReadsUntil, is_due, first_reading, closed, closed_as, PutsOver, Replicates, not_planned, no_memory, not_begun, cut, ended, IsReported}
+use Rattle.repl_target.specs.replication.Replication.{Reading, is_batch, beginning_between, begins_answer, after_begins, next_window, parcel_for, Carries, WindowRefused, Reads, ReadsAll, ReadsUntil, is_due, first_reading, closed, closed_as, PutsOver, Replicates, not_planned, no_memory, not_begun, cut, ended, IsReported}
 use Rattle.repl_target.proofs.lemmas.replication.BegunSessions.{fresh_of}
 use Rattle.couch_base.specs.ListLaws.{some_is, none_some}
 use Rattle.couch_base.specs.MemberLaws.{any_from}
@@ -32,6 +32,7 @@ use Rattle.repl_log.specs.Entry.{EntryValue}
 use Rattle.repl_target.proofs.lemmas.peer.LaterPeers.{IsLaterPeer-same, IsLaterPeer-later, session_found}
 use Rattle.repl_target.proofs.lemmas.session.SettlingDocuments.{before-le}
 use Rattle.repl_target.proofs.lemmas.peer.CallsKeepLaw.{begin_law, begin_later}
+use Rattle.repl_target.proofs.lemmas.replication.SourceFeedStored.{planned_batch}
 use Rattle.repl_target.proofs.lemmas.replication.CallLaws.{calls_law, IsRunOf}
 use Rattle.repl_target.proofs.lemmas.ties.TiedPeersCover.{session_reached, start_small, tied_none}
 use Rattle.repl_target.proofs.lemmas.ties.TiedPeersStay.{backups-later, backups-source, tied_grown, tied_begun, puts_tied, sent_entry}
@@ -190,11 +191,6 @@ module _ (refuses : Document → Bool) (source : DatabaseValue) (plan : Plan) (b
       go (Err fault) = (Conclude plan.session plan.at ∷ Record plan.session plan.at ∷ [], (refl, (refl, tt)), refl)
 
 -- ---- a replication
-
-planned_batch : (source target : PeerValue) (plan : Plan) → plan_answer source.db.uuid target.db.uuid plan ≡ Ok tt → is_batch plan.batch ≡ true
-planned_batch source target plan h =
-    cond_both (is_batch plan.batch) (cond (source.db.uuid == target.db.uuid) (Err faults.SamePeer) (Ok tt)) (Err faults.BadBatch) (λ (r : Result (Unit {0}) TargetFault). r ≡ Ok tt → is_batch plan.batch ≡ true)
-    (λ e _. e) (λ _ k. absurd (false≢true (ap is_ok k))) h
 
 -- what a replication by one thread leaves of its target
 pub replicates_left : (refuses : Document → Bool) (source target : PeerValue) (plan : Plan) (result : Result Report TargetFault) (source' target' : PeerValue) → Replicates refuses source target plan result source' target' → IsLeft refuses source target plan target'

@@ -1,14 +1,13 @@
 -- What a replication by one thread has read: its session stores the source's feed, and at the goal all of it is covered.
-use Rattle.std.proofs.Common.{◌≡◌, ◌⊎◌, ℕ, zero, suc, ◌+◌, ◌<◌, ◌≤◌, ◌^◌, nat_lt, nat_le, ◌==◌, Bool, true, cond, ◌&&◌, List, [], ◌∷◌, ◌++◌, map, filter, length, take, Option, Some, None, Result, Ok, Err, is_ok, OnOk, IfOk, refl, sym, ap, ◌∙◌, subst, inl, inr, arith, eqb}
-use Rattle.std.specs.List.{find, IsDistinct, AllByRecursion}
+use Rattle.std.proofs.Common.{◌≡◌, ◌⊎◌, ℕ, zero, suc, ◌+◌, ◌<◌, ◌≤◌, ◌^◌, ◌==◌, Bool, true, cond, List, [], ◌∷◌, Option, Some, None, Result, Ok, Err, is_ok, OnOk, IfOk, refl, sym, ap, ◌∙◌, subst, inl, inr, arith, eqb}
+use Rattle.std.specs.List.{find, IsDistinct}
 use Rattle.std.proofs.lemmas.Bool.{and_parts, cond_both, cond-true, eqb-true, eq-eqb, leb-true, false≢true}
 use Rattle.rev_tree.specs.declared.origin.SessionId.{SessionId}
 use Rattle.doc_json.specs.Document.{Document}
-use Rattle.doc_json.specs.Chosen.{Choice, is_chosen}
 use Rattle.couch_base.specs.Lists.{Among}
 use Rattle.couch_base.specs.ListLaws.{none_some}
-use Rattle.couch_base.specs.Database.{DocumentValue, DatabaseValue, LawfulDatabase}
-use Rattle.couch_base.specs.Feed.{RowValue, WindowValue, row_of, feed, chosen_rows, chosen_feed, last_seq, page, IsWindow}
+use Rattle.couch_base.specs.Database.{DatabaseValue, LawfulDatabase}
+use Rattle.couch_base.specs.Feed.{RowValue, WindowValue, feed, chosen_feed, IsWindow}
 use Rattle.couch_base.specs.FeedLaws.{IsWindow-page}
 use Rattle.couch_base.specs.Messages.{ParcelValue}
 use Rattle.range_front.specs.Front.{low_water, end_of}
@@ -26,7 +25,9 @@ use Rattle.repl_target.specs.declared.fault.Settled.{Settled}
 use Rattle.repl_target.specs.declared.fault.TargetFault.{TargetFault}
 use Rattle.repl_target.specs.declared.fault.TargetFault.TheVariants as faults
 use Rattle.repl_target.specs.declared.replication.Plan.{Plan}
-use Rattle.couch_base.specs.MemberLaws.{Among-left, Among-last, each_member}
+use Rattle.couch_base.specs.MemberLaws.{Among-left, Among-last}
+use Rattle.repl_target.proofs.lemmas.Members.{Among-split}
+use Rattle.repl_target.proofs.lemmas.ties.TiedPages.{chosen_member, page_within}
 use Rattle.repl_target.proofs.lemmas.peer.LaterPeers.{one_session, session_found, with_session_holds}
 use Rattle.repl_target.proofs.lemmas.peer.CallsKeepLaw.{append_law, conclude_law}
 use Rattle.repl_target.proofs.lemmas.session.SettlingKeepsLaw.{settle_told, documents_settle, settle_law}
@@ -34,11 +35,6 @@ use Rattle.repl_target.proofs.lemmas.peer.HonestSessions.{honest_is}
 use Rattle.couch_base.specs.FeedLaws.{feed-page, feed-none}
 
 -- ---- lists
-
-Among-split : {X : Type 0} (x : X) (xs ys : List X) → Among x (xs ++ ys) → Among x xs ⊎ Among x ys
-Among-split x [] ys m = inr m
-Among-split x (y ∷ xs) ys (inl here) = inl (inl here)
-Among-split x (y ∷ xs) ys (inr m) = elim (Among-split x xs ys m) [ inl left ↦ inl (inr left) | inr right ↦ inr right ]
 
 not_missed : {X : Type 0} (p : X → Bool) (xs : List X) (x : X) → Among x xs → p x ≡ true → find p xs ≡ None → ⊥
 not_missed p [] x m h none = absurd m
@@ -58,34 +54,6 @@ found-is sessions id s distinct held same = go (session_in sessions id) refl
     go : (o : Option SessionValue) → session_in sessions id ≡ o → o ≡ Some s
     go None e = absurd (not_missed (is_of id) sessions s held (eq-eqb s.id.0 id.0 number) e)
     go (Some t) e = let f = session_found sessions id t e in ap Some (one_session sessions t s distinct f.0 held (f.1 ∙ sym number))
-
--- ---- the feed's bounds
-
--- the chosen rows are of the rows
-among_chosen : (c : Choice) (x : RowValue) (rows : List RowValue) → Among x (chosen_rows c rows) → Among x rows
-among_chosen c x [] m = m
-among_chosen c x (y ∷ rows) m =
-    cond_both (is_chosen c y.id) (y ∷ chosen_rows c rows) (chosen_rows c rows) (λ l. Among x l → Among x (y ∷ rows))
-    (λ _ k. elim k [ inl here ↦ inl here | inr there ↦ inr (among_chosen c x rows there) ])
-    (λ _ k. inr (among_chosen c x rows k)) m
-
-rows_below : (a c : ℕ) (ds : List DocumentValue) → AllByRecursion (λ (r : RowValue). r.seq ≤ c) (map row_of (filter (λ d. nat_lt a d.seq && nat_le d.seq c) ds))
-rows_below a c [] = tt
-rows_below a c (d ∷ ds) =
-    cond_both (nat_lt a d.seq && nat_le d.seq c) (d ∷ filter (λ d. nat_lt a d.seq && nat_le d.seq c) ds) (filter (λ d. nat_lt a d.seq && nat_le d.seq c) ds) (λ l. AllByRecursion (λ (r : RowValue). r.seq ≤ c) (map row_of l))
-    (λ passes. (leb-true d.seq c (and_parts _ _ passes).1, rows_below a c ds))
-    (λ _. rows_below a c ds)
-
-last_below : (a c n : ℕ) (rows : List RowValue) → a ≤ c → AllByRecursion (λ (r : RowValue). r.seq ≤ c) rows → last_seq a (take n rows) ≤ c
-last_below a c zero rows h all = h
-last_below a c (suc n) [] h all = h
-last_below a c (suc n) (r ∷ rows) h all = last_below r.seq c n rows all.0 all.1
-
--- a page ends at or under its goal
-page_within : (db : DatabaseValue) (since goal limit : ℕ) (c : Choice) → since ≤ goal → (page db since goal limit c).hi ≤ goal
-page_within db since goal limit c h =
-    let rows = take limit (feed db since goal) in
-    cond_both (length rows == limit) (last_seq since rows) goal (λ end. end ≤ goal) (λ _. last_below since goal limit (feed db since goal) h (rows_below since goal db.docs)) (λ _. omega arith)
 
 -- ---- a session goes on
 
@@ -285,7 +253,8 @@ module _ (refuses : Document → Bool) (source target : PeerValue) (plan : Plan)
   closes_covered report source' target' c row m leaf k =
       let r = recorded report source' target' c in
       let s = u.session in
-      let under : row.seq ≤ source.db.update_seq = each_member (λ (x : RowValue). x.seq ≤ source.db.update_seq) row _ (rows_below b.start source.db.update_seq source.db.docs) (among_chosen plan.chosen row (feed source.db b.start source.db.update_seq) m) in
+      let f = chosen_member plan.chosen source.db b.start source.db.update_seq row m in
+      let under : row.seq ≤ source.db.update_seq = subst (λ (x : RowValue). x.seq ≤ source.db.update_seq) (sym f.2) f.4 in
       elim (u.rows row m) [
         | inl old ↦
             honest_is refuses target' r.law r.session r.held old.0 (subst (λ (x : SessionValue). Among old.0 x.windows) (sym r.is) old.1) row old.2
@@ -358,9 +327,6 @@ pub reads_more : (refuses : Document → Bool) (source : DatabaseValue) (plan : 
     → Reads refuses source plan n from before → is_due source plan n before.since ≡ true → Carries refuses source plan before to → Reads refuses source plan (n + 1) from to
 reads_more refuses source plan n from before to reads due carries = subst (λ m. Reads refuses source plan m from to) (one_more n) (before, reads, due, carries)
 
-pub less-is : (a b : ℕ) → a < b → nat_lt a b ≡ true
-less-is a b h = grind (arith, h)
-
 -- ---- a replication
 
 -- the session has begun, and nothing is read
@@ -393,7 +359,7 @@ pub ended_all : (refuses : Document → Bool) (source target : PeerValue) (plan 
 ended_all refuses source target plan from read result source' target' s reads closes =
     ended read s.planned s.begun (subst (λ f. ReadsAll refuses source.db plan f read) s.is reads) closes
 
-planned_batch : (source target : PeerValue) (plan : Plan) → plan_answer source.db.uuid target.db.uuid plan ≡ Ok tt → is_batch plan.batch ≡ true
+pub planned_batch : (source target : PeerValue) (plan : Plan) → plan_answer source.db.uuid target.db.uuid plan ≡ Ok tt → is_batch plan.batch ≡ true
 planned_batch source target plan h =
     cond_both (is_batch plan.batch) (cond (source.db.uuid == target.db.uuid) (Err faults.SamePeer) (Ok tt)) (Err faults.BadBatch) (λ (r : Result (Unit {0}) TargetFault). r ≡ Ok tt → is_batch plan.batch ≡ true)
     (λ e _. e) (λ _ k. absurd (false≢true (ap is_ok k))) h

@@ -1,6 +1,6 @@
 -- Rows, one after another.
 use Rattle.std.proofs.Common.{◌≡◌, ℕ, ◌+◌, ◌<◌, Bool, true, false, ◌&&◌, ◌||◌, List, [], ◌∷◌, ◌++◌, length, map, take, drop, get_or, Option, Some, None, slice_get, IfNone, sym, ap, ◌∙◌, zero, suc}
-use Rattle.std.proofs.lemmas.Bool.{cond-true, cond-false, or_right, and_parts}
+use Rattle.std.proofs.lemmas.Bool.{cond-true, cond-false, and_parts}
 use Rattle.std.proofs.lemmas.List.{drop_more, take_more, take-append-drop}
 use Rattle.std.proofs.lemmas.List.Folds.{list_any-append, list_all-append}
 use Rattle.std.specs.List.{list_any, list_all}
@@ -8,12 +8,9 @@ use Rattle.std.specs.Str.{bytes_eq}
 use Rattle.std.proofs.lemmas.Slice.Eq.{bytes_eq-Decides}
 use Rattle.couch_base.specs.Lists.{EachOnce}
 use Rattle.repl_target.specs.session.Settling.{seq_in}
-use Rattle.rev_core.specs.Rev.{RevId}
 use Rattle.couch_base.specs.Database.{Id}
 use Rattle.couch_base.specs.Feed.{RowValue}
-use Rattle.std.specs.Option.{option_or}
 use Rattle.couch_base.specs.ListLaws.{none_some, some_is, both_false}
-use Rattle.repl_target.specs.peer.Covered.{unknown_in, first_unknown, Leaf}
 
 pub next_of : {X : Type 0} (xs : List X) (i : ℕ) (x : X) → i < length xs → x ≡ get_or xs i x → drop i xs ≡ x ∷ drop (i + 1) xs
 next_of xs i x h is = drop_more xs i x h ∙ ap (λ y. y ∷ drop (i + 1) xs) (sym is)
@@ -26,32 +23,15 @@ taken_of xs i x h is = take_more xs i x h ∙ ap (λ y. take i xs ++ y ∷ []) (
 pub all_later : {X : Type 0} (test : X → Bool) (xs : List X) (i : ℕ) (x : X) → i < length xs → x ≡ get_or xs i x → test x ≡ true → list_all test (drop i xs) ≡ list_all test (drop (i + 1) xs)
 all_later test xs i x h is so = ap (list_all test) (next_of xs i x h is) ∙ ap (λ b. b && list_all test (drop (i + 1) xs)) so
 
--- ---- leaves
-
-pub unknown_here : (known : Id → RevId → Bool) (rows : List RowValue) (i : ℕ) (row : RowValue) (u : Leaf) → i < length rows → row ≡ get_or rows i row → unknown_in known row ≡ Some u → first_unknown known (drop i rows) ≡ Some u
-unknown_here known rows i row u h is so =
-    ap (first_unknown known) (next_of rows i row h is) ∙ ap (λ o. option_or o (first_unknown known (drop (i + 1) rows))) so
-
 -- ---- places
 
 pub none_both : {X : Type 0} (test : X → Bool) (xs : List X) (n : ℕ) → list_any test (take n xs) ≡ false → list_any test (drop n xs) ≡ false → list_any test xs ≡ false
 none_both test xs n front back =
     ap (list_any test) (sym (take-append-drop n xs)) ∙ list_any-append test (take n xs) (drop n xs) ∙ ap (λ b. b || list_any test (drop n xs)) front ∙ back
 
--- a place that passes
-pub found_any : {X : Type 0} (test : X → Bool) (xs : List X) (i : ℕ) (x : X) → slice_get xs i ≡ Some x → test x ≡ true → list_any test xs ≡ true
-found_any test [] i x h so = absurd (none_some x h)
-found_any test (y ∷ xs) zero x h so = ap (λ b. b || list_any test xs) (ap test (some_is y x h) ∙ so)
-found_any test (y ∷ xs) (suc i) x h so = or_right (test y) (list_any test xs) (found_any test xs i x h so)
-
 pub IfNone_then : {X : Type 0} {P Q : Type 0} (o : Option X) → (P → Q) → IfNone o P → IfNone o Q
 IfNone_then None f h = f h
 IfNone_then (Some x) f h = tt
-
-pub all_at : {X : Type 0} (test : X → Bool) (xs : List X) (i : ℕ) (x : X) → list_all test xs ≡ true → slice_get xs i ≡ Some x → test x ≡ true
-all_at test [] i x all at = absurd (none_some x at)
-all_at test (y ∷ xs) zero x all at = ap test (sym (some_is y x at)) ∙ (and_parts (test y) (list_all test xs) all).0
-all_at test (y ∷ xs) (suc i) x all at = all_at test xs i x (and_parts (test y) (list_all test xs) all).1 at
 
 pub all_before : {X : Type 0} (test : X → Bool) (all others : List X) (last : X) → all ≡ others ++ last ∷ [] → list_all test all ≡ true → list_all test others ≡ true
 all_before test all others last split h = (and_parts (list_all test others) (list_all test (last ∷ [])) (sym (list_all-append test others (last ∷ [])) ∙ sym (ap (list_all test) split) ∙ h)).0

@@ -1,11 +1,11 @@
 -- The index of the sessions by their replications.
-use Rattle.std.proofs.Common.{min, ◌≡◌, ℕ, zero, suc, ◌+◌, ◌-◌, ◌<◌, ◌≤◌, Bool, true, false, cond, List, [], ◌∷◌, ◌++◌, map, filter, reverse, length, drop, Option, Some, None, refl, sym, ap, ◌∙◌, subst, inl, inr, arith, get_or}
+use Rattle.std.proofs.Common.{◌≡◌, ℕ, ◌+◌, ◌-◌, ◌<◌, ◌≤◌, true, false, cond, List, [], ◌∷◌, ◌++◌, map, filter, reverse, length, Option, Some, None, refl, sym, ap, ◌∙◌, subst, inl, inr, arith, get_or}
 use Rattle.std.specs.List.{slice_get, AllByRecursion, IsDistinct}
 use Rattle.std.specs.Option.{option_map}
 use Rattle.std.specs.Map.{keys_of, lookup, set_value}
-use Rattle.std.proofs.lemmas.Bool.{cond_both, cond-true, cond-false, eq-eqb, eqb-false, ne_eqb}
+use Rattle.std.proofs.lemmas.Bool.{cond-true, cond-false, eq-eqb, eqb-false, ne_eqb}
 use Rattle.std.proofs.lemmas.Grind.{reverse_onto}
-use Rattle.std.proofs.lemmas.List.{at_drop_more, length-reverse, get_or-reverse}
+use Rattle.std.proofs.lemmas.List.{length-reverse, get_or-reverse}
 use Rattle.std.proofs.lemmas.Option.{slice_get_within, get_or_from_slice_get, slice_get-map, slice_get-get_or}
 use Rattle.rev_tree.specs.declared.origin.SessionId.{SessionId}
 use Rattle.couch_base.specs.Lists.{Among}
@@ -13,16 +13,15 @@ use Rattle.couch_base.specs.ListLaws.{none_some, some_is}
 use Rattle.couch_base.specs.MemberLaws.{Among-push}
 use Rattle.repl_log.specs.declared.replication.RepId.{RepId}
 use Rattle.repl_log.specs.Entry.{EntryValue}
-use Rattle.repl_log.specs.Log.{common, recorded_of}
-use Rattle.repl_log.specs.LogLaws.{common-shared, common-passed}
 use Rattle.repl_log.specs.Stored.{at_session, IsKeyed}
-use Rattle.repl_log.specs.StoredLaws.{EachOnce}
+use Rattle.repl_log.specs.StoredLaws.{EachSessionOnce}
 use Rattle.repl_target.specs.peer.Peer.{SessionValue, is_of, same_rep, entry_of, with_session}
 use Rattle.repl_target.specs.logs.Logs.{log_of}
 use Rattle.repl_target.specs.session.RepIndex.{listed}
-use Rattle.repl_target.specs.session.StoredSessions.{sessions_of, ids_of, AreListed, IsStored}
+use Rattle.repl_target.specs.session.StoredSessions.{sessions_of, ids_of, AreListed, IsTableOf}
 use Rattle.repl_target.specs.declared.session.rep_index.RepIndex.{RepIndex}
 use Rattle.repl_target.specs.declared.session.ledger_index.LedgerIndex.{LedgerIndex}
+use Rattle.repl_target.proofs.lemmas.Members.{Among-filter, Among-at}
 use Rattle.repl_target.proofs.lemmas.session.SessionTable.{Entries, id_of, with_session-same, sessions_of-set}
 
 -- ---- the index
@@ -81,18 +80,6 @@ AreListed-set by_rep es id s t law same of kept set rep =
 
 -- ---- the sessions of a replication, newest first
 
-among-at : {X : Type 0} (xs : List X) (k : ℕ) (x : X) → slice_get xs k ≡ Some x → Among x xs
-among-at [] k x is = absurd (none_some x is)
-among-at (y ∷ xs) zero x is = inl (sym (some_is y x is))
-among-at (y ∷ xs) (suc k) x is = inr (among-at xs k x is)
-
-among-filter : {X : Type 0} (p : X → Bool) (x : X) (xs : List X) → Among x (filter p xs) → Among x xs
-among-filter p x [] m = m
-among-filter p x (y ∷ xs) m =
-    cond_both (p y) (y ∷ filter p xs) (filter p xs) (λ l. Among x l → Among x (y ∷ xs))
-    (λ _ k. elim k [ inl here ↦ inl here | inr there ↦ inr (among-filter p x xs there) ])
-    (λ _ k. inr (among-filter p x xs k)) m
-
 mapped : {X Y : Type 0} (f : X → Y) (o : Option X) (y : Y) → option_map f o ≡ Some y → (x : X) × (o ≡ Some x) × (f x ≡ y)
 mapped f None y is = absurd (none_some y is)
 mapped f (Some x) y is = (x, refl, some_is (f x) y is)
@@ -108,7 +95,7 @@ other_key k (e ∷ es) s keyed none m =
     ]
 
 -- a session is found by its id
-pub held-lookup : (es : Entries) (s : SessionValue) → IsKeyed id_of es → EachOnce es → Among s (sessions_of es) → lookup (at_session s.id) es ≡ Some s
+pub held-lookup : (es : Entries) (s : SessionValue) → IsKeyed id_of es → EachSessionOnce es → Among s (sessions_of es) → lookup (at_session s.id) es ≡ Some s
 unfolding IsDistinct
 held-lookup [] s keyed once m = absurd m
 held-lookup (e ∷ es) s keyed once m =
@@ -125,11 +112,11 @@ pub record Stands (es : Entries) (x : EntryValue) : Type 0 where
   pub entry : entry_of session ≡ x
   pub found : lookup (at_session x.session) es ≡ Some session
 
-pub stands-at : (es : Entries) (rep : RepId) (k : ℕ) (x : EntryValue) → IsKeyed id_of es → EachOnce es → slice_get (log_of (sessions_of es) rep) k ≡ Some x → Stands es x
+pub stands-at : (es : Entries) (rep : RepId) (k : ℕ) (x : EntryValue) → IsKeyed id_of es → EachSessionOnce es → slice_get (log_of (sessions_of es) rep) k ≡ Some x → Stands es x
 stands-at es rep k x keyed once is =
     let of = filter (λ (s : SessionValue). same_rep s.rep rep) (sessions_of es) in
     let at = mapped entry_of (slice_get of k) x (sym (slice_get-map entry_of of k) ∙ is) in
-    let held = among-filter (λ (s : SessionValue). same_rep s.rep rep) at.0 (sessions_of es) (among-at of k at.0 at.1) in
+    let held = (Among-filter (λ (s : SessionValue). same_rep s.rep rep) at.0 (sessions_of es) (Among-at of k at.0 at.1)).0 in
     record {
       session = at.0;
       entry = at.2;
@@ -150,22 +137,6 @@ id-at by_rep sessions rep left id law is =
     let found = mapped (λ (e : EntryValue). e.session) (slice_get (log_of sessions rep) place) id (sym (slice_get-map (λ (e : EntryValue). e.session) (log_of sessions rep) place) ∙ at) in
     (found.0, ap (λ n. slice_get (log_of sessions rep) (n - 1 - left)) long ∙ found.1, found.2)
 
--- ---- the newest session that both logs hold
-
-turned : (source log : List EntryValue) (i : ℕ) (x : EntryValue) → slice_get log i ≡ Some x → common source (drop i log) ≡ common source (x ∷ drop (i + 1) log)
-turned source log i x is =
-    at_drop_more (λ (rest : List EntryValue). common source rest) log i x (slice_get_within log i x is)
-    ∙ ap (λ (y : EntryValue). common source (y ∷ drop (i + 1) log)) (get_or_from_slice_get log i x x is)
-
--- it is the one that was read
-pub shared-here : (source log : List EntryValue) (i recorded : ℕ) (x : EntryValue) → common source log ≡ common source (drop i log) → slice_get log i ≡ Some x → recorded_of source x.session ≡ Some recorded
-    → common source log ≡ Some (x.session, min recorded x.recorded)
-shared-here source log i recorded x so_far is held = so_far ∙ turned source log i x is ∙ common-shared source (drop (i + 1) log) x recorded held
-
--- it stands behind
-pub shared-behind : (source log : List EntryValue) (i : ℕ) (x : EntryValue) → common source log ≡ common source (drop i log) → slice_get log i ≡ Some x → recorded_of source x.session ≡ None → common source log ≡ common source (drop (i + 1) log)
-shared-behind source log i x so_far is none = so_far ∙ turned source log i x is ∙ common-passed source (drop (i + 1) log) x none
-
 -- the session that is read next, from the end of those of its replication, is that of the entry that is looked at
 pub next-at : (by_rep : RepIndex) (sessions : List SessionValue) (rep : RepId) (left : ℕ) (d : SessionId) → AreListed by_rep sessions → 0 < left → left ≤ length (listed by_rep rep)
     → (x : EntryValue) × (slice_get (log_of sessions rep) (length (listed by_rep rep) - left) ≡ Some x) × (x.session ≡ get_or (listed by_rep rep) (left - 1) d)
@@ -178,7 +149,7 @@ next-at by_rep sessions rep left d law some within =
 -- ---- a write at a session
 
 -- a session that keeps its id and its replication stands in the place of the one that it was
-pub listed-set : (ledgered : LedgerIndex) (by_rep : RepIndex) (es : Entries) (stored : IsStored ledgered es) (id : SessionId) (s t : SessionValue) → AreListed by_rep (sessions_of es)
+pub listed-set : (ledgered : LedgerIndex) (by_rep : RepIndex) (es : Entries) (stored : IsTableOf ledgered es) (id : SessionId) (s t : SessionValue) → AreListed by_rep (sessions_of es)
     → lookup (at_session id) es ≡ Some s → t.id ≡ s.id → t.rep ≡ s.rep → AreListed by_rep (sessions_of (set_value (at_session id) es t))
 listed-set ledgered by_rep es stored id s t law is same of =
     AreListed-set by_rep es id s t law same of (with_session-same ledgered es stored id s s is) (sessions_of-set ledgered es stored id s t is same)

@@ -13,12 +13,12 @@ use Rattle.couch_base.specs.Feed.{WindowValue}
 use Rattle.range_front.specs.Front.{low_water}
 use Rattle.repl_log.specs.declared.replication.RepId.{RepId}
 use Rattle.repl_log.specs.Stored.{at_session, IsKeyed}
-use Rattle.repl_log.specs.StoredLaws.{find-chosen, find-lookup, any-lookup, newest_first-set, newest_first-push, IsKeyed-set, IsKeyed-push}
+use Rattle.repl_log.specs.StoredLaws.{same_id, find-chosen, find-lookup, any-lookup, newest_first-set, newest_first-push, IsKeyed-set, IsKeyed-push}
 use Rattle.repl_target.specs.peer.Peer.{SessionValue, is_of, session_in, holds, with_session, same_rep}
 use Rattle.repl_target.specs.peer.Covered.{in_ledger}
 use Rattle.repl_target.specs.session.Sessions.{base_in, base_answer, on_base, goal_answer, start_answer, append_in, with_window, recorded_at}
 use Rattle.repl_target.specs.session.SettlingParts.{IndexesMore}
-use Rattle.repl_target.specs.session.StoredSessions.{sessions_of, Indexes, IsStored}
+use Rattle.repl_target.specs.session.StoredSessions.{sessions_of, Indexes, IsTableOf}
 use Rattle.repl_target.specs.session.SessionCalls.{in_ledgers, with_changed, changed, recorded_of, recorded_by, begin_in}
 use Rattle.repl_target.specs.declared.fault.TargetFault.{TargetFault}
 use Rattle.repl_target.specs.declared.fault.TargetFault.TheVariants as faults
@@ -35,9 +35,6 @@ itself s = s
 
 abbrev pub id_of : SessionValue → SessionId
 id_of s = s.id
-
-same_id : (a b : SessionId) → a.0 ≡ b.0 → a ≡ b
-same_id a b same = λ i. record { 0 = same i }
 
 mapped_itself : (o : Option SessionValue) → option_map itself o ≡ o
 mapped_itself None = refl
@@ -71,7 +68,7 @@ concluded_same at s t made =
     subst (IsSame s) (sym made)
     (elim (low_water s.front == s.goal) as (λ b. IsSame s (cond b (recorded_at at s) s)) [ true ↦ record { id = refl; rep = refl; ledger = refl } | false ↦ record { id = refl; rep = refl; ledger = refl } ])
 
-module _ (ledgered : LedgerIndex) (es : Entries) (stored : IsStored ledgered es) (id : SessionId) where
+module _ (ledgered : LedgerIndex) (es : Entries) (stored : IsTableOf ledgered es) (id : SessionId) where
   -- ---- look-ups
 
   -- the session of an id is what the table has there
@@ -108,7 +105,7 @@ module _ (ledgered : LedgerIndex) (es : Entries) (stored : IsStored ledgered es)
   pub sessions_of-new : (s : SessionValue) → sessions_of (es ++ (id, s) ∷ []) ≡ s ∷ sessions_of es
   sessions_of-new s = newest_first-push itself id_of id s es
 
-  pub Stored-new : (new : Entries) (s : SessionValue) → new ≡ es ++ (id, s) ∷ [] → IsDistinct at_session (keys_of new) → s.id ≡ id → s.ledger ≡ [] → IsStored ledgered new
+  pub Stored-new : (new : Entries) (s : SessionValue) → new ≡ es ++ (id, s) ∷ [] → IsDistinct at_session (keys_of new) → s.id ≡ id → s.ledger ≡ [] → IsTableOf ledgered new
   Stored-new new s is once own none = record {
     once = once;
     keyed = subst (IsKeyed id_of) (sym is) (IsKeyed-push itself id_of id s es stored.keyed own);
@@ -143,7 +140,7 @@ module _ (ledgered : LedgerIndex) (es : Entries) (stored : IsStored ledgered es)
     sessions_of-changed change same made =
         put_back t same ∙ ap (with_session (sessions_of es)) made ∙ ap (changed change (sessions_of es)) (sym found)
 
-    written : (new : LedgerIndex) → t.id ≡ s.id → Indexes new (with_session (sessions_of es) t) → IsStored new (set_value (at_session id) es t)
+    written : (new : LedgerIndex) → t.id ≡ s.id → Indexes new (with_session (sessions_of es) t) → IsTableOf new (set_value (at_session id) es t)
     written new same index = record {
       once = subst (IsDistinct at_session) (sym (keys-set_value (at_session id) es t)) stored.once;
       keyed = IsKeyed-set itself id_of id t es stored.keyed (same ∙ own);
@@ -151,15 +148,15 @@ module _ (ledgered : LedgerIndex) (es : Entries) (stored : IsStored ledgered es)
     }
 
     -- a write that keeps the ledger
-    pub Stored-same : (new : Entries) → new ≡ set_value (at_session id) es t → IsSame s t → IsStored ledgered new
+    pub Stored-same : (new : Entries) → new ≡ set_value (at_session id) es t → IsSame s t → IsTableOf ledgered new
     Stored-same new set same =
-        subst (IsStored ledgered) (sym set)
+        subst (IsTableOf ledgered) (sym set)
         (written ledgered same.id (λ doc r.
         stored.index doc r ∙ ap (λ ss. in_ledgers ss doc r) (sym with_session-same) ∙ sym (same_ledgers (sessions_of es) s t doc r same.id same.ledger)))
 
     -- a write that adds to the ledger
     pub Stored-more : (new : LedgerIndex) → t.id ≡ s.id → ((doc : Id) (r : RevId) → in_ledger s.ledger doc r ≡ true → in_ledger t.ledger doc r ≡ true)
-        → ((base : LedgerIndex) → IndexesMore base s.ledger ledgered → IndexesMore base t.ledger new) → IsStored new (set_value (at_session id) es t)
+        → ((base : LedgerIndex) → IndexesMore base s.ledger ledgered → IndexesMore base t.ledger new) → IsTableOf new (set_value (at_session id) es t)
     Stored-more new same more indexed =
         written new same (index_after (sessions_of es) ledgered new s t stored.index with_session-same (session_found (sessions_of es) id s found).0 same more (indexed ledgered))
 

@@ -1,12 +1,13 @@
 -- The check of a parcel against the stored windows.
-use Rattle.std.proofs.Common.{◌≡◌, ℕ, ◌+◌, ◌-◌, ◌<◌, ◌≤◌, ◌^◌, ◌==◌, Bool, true, false, cond, ◌&&◌, min, nat_le, List, [], ◌∷◌, inl, inr, length, get_or, Option, Some, None, Result, Ok, Err, if◌then◌else◌, is_ok, map, drop, zero, suc, slice_get, refl, sym, ap, ◌∙◌, subst, arith}
-use Rattle.std.proofs.lemmas.Bool.{and_parts, eqb-true, leb-true, le-leb, lt-leb, cases_lt, eq-eqb, and_from, or_left, or_right, false≢true}
-use Rattle.std.proofs.lemmas.Option.{get_or_from_slice_get, same_Some}
+use Rattle.std.proofs.Common.{◌≡◌, ℕ, ◌+◌, ◌-◌, ◌<◌, ◌≤◌, ◌^◌, ◌==◌, Bool, true, false, ◌&&◌, min, nat_le, List, [], ◌∷◌, inl, inr, length, get_or, Option, Some, None, Result, Ok, Err, if◌then◌else◌, map, drop, zero, suc, slice_get, refl, sym, ap, ◌∙◌, subst, arith}
+use Rattle.std.proofs.lemmas.Bool.{and_parts, eqb-true, leb-true, le-leb, lt-leb, cases_lt, eq-eqb, and_from, or_left, or_right}
+use Rattle.std.proofs.lemmas.Option.{get_or_from_slice_get}
 use Rattle.std.specs.List.{find, list_all, list_any}
 use Rattle.std.specs.Str.{bytes_eq}
 use Rattle.doc_json.specs.Document.{Document}
 use Rattle.couch_base.specs.Database.{most}
 use Rattle.couch_base.specs.Feed.{RowValue, WindowValue}
+use Rattle.couch_base.specs.MemberLaws.{found_member}
 use Rattle.couch_base.specs.ListLaws.{none_some, some_is}
 use Rattle.couch_base.specs.Messages.{ParcelValue}
 use Rattle.range_front.specs.Front.{FrontValue, FrontWindow, Span, spans_from, bounds, is_window, is_done, finish_answer, Rises, IsFront}
@@ -17,15 +18,6 @@ use Rattle.repl_target.specs.session.SettlingParts.{IsWindowAt, Consecutive, Pas
 use Rattle.repl_target.specs.peer.Law.{window_bounds}
 use Rattle.repl_target.specs.declared.fault.TargetFault.{TargetFault}
 use Rattle.repl_target.specs.declared.fault.TargetFault.TheVariants as faults
-
--- a search finds what passes
-pub found_passes : {X : Type 0} (test : X → Bool) (xs : List X) (x : X) → find test xs ≡ Some x → test x ≡ true
-found_passes test [] x h = absurd (none_some x h)
-found_passes test (y ∷ xs) x h =
-    elim (test y) as (λ b. test y ≡ b → cond b (Some y) (find test xs) ≡ Some x → test x ≡ true) [
-      | true ↦ λ e k. ap test (sym (same_Some y x k)) ∙ e
-      | false ↦ λ _ k. found_passes test xs x k
-    ] refl h
 
 -- the window that was found, as the session has it
 pub record Found (ws : List WindowValue) (lo hi place : ℕ) (w : WindowValue) : Type 0 where
@@ -39,7 +31,7 @@ found ws read lo hi low high place w same a b h is =
     let stored : IsWindowAt ws low high place =
     subst (λ (n : ℕ). IsWindowAt ws low n place) b (subst (λ (n : ℕ). IsWindowAt ws n hi place) a (subst (λ (l : List WindowValue). IsWindowAt l lo hi place) same h)) in
     let here : stored.window ≡ w = sym (is ∙ get_or_from_slice_get ws place stored.window w stored.at) in
-    let passes = found_passes (λ (w : WindowValue). (w.lo == low) && (w.hi == high)) ws stored.window stored.first in
+    let passes = (found_member (λ (w : WindowValue). (w.lo == low) && (w.hi == high)) ws stored.window stored.first).1 in
     let parts = and_parts _ _ passes in
     record {
       at = stored.at ∙ ap (λ x. Some x) here;
@@ -95,24 +87,18 @@ abbrev answered : Result (SessionValue × WindowValue) TargetFault → WindowVal
 answered (Ok at) w = at.1
 answered (Err fault) w = w
 
-err_ok : (fault : TargetFault) (at : SessionValue × WindowValue) → Err fault ≡ Ok at → ⊥
-err_ok fault at h = false≢true (ap is_ok h)
-
 tested : (s : SessionValue) (parcel : ParcelValue) (w v : WindowValue) (a b c : Bool) → list_all (has_row v) parcel.docs ≡ a → is_done s.front v.lo v.hi ≡ b → has_room s v parcel ≡ c
     → answer a b c s v ≡ Ok (s, w) → (v ≡ w) × Passed s parcel w
-tested s parcel w v false b c x y z h = absurd (err_ok _ _ h)
-tested s parcel w v true true c x y z h = absurd (err_ok _ _ h)
-tested s parcel w v true false false x y z h = absurd (err_ok _ _ h)
+tested s parcel w v false b c x y z h = cc h
+tested s parcel w v true true c x y z h = cc h
+tested s parcel w v true false false x y z h = cc h
 tested s parcel w v true false true x y z h =
     let same : v ≡ w = ap (λ r. answered r v) h in
     (same, subst (λ u. Passed s parcel u) same (record { rows = x; remains = y; room = z }))
 
-at_some : (s : SessionValue) (parcel : ParcelValue) (o : Option WindowValue) (w : WindowValue) → settle_at s parcel o ≡ Ok (s, w) → Passed s parcel w
-at_some s parcel None w h = absurd (err_ok _ _ h)
-at_some s parcel (Some v) w h = (tested s parcel w v _ _ _ refl refl refl h).1
-
 pub passed : (s : SessionValue) (parcel : ParcelValue) (o : Option WindowValue) (w : WindowValue) → settle_at s parcel o ≡ Ok (s, w) → Passed s parcel w
-passed s parcel o w h = at_some s parcel o w h
+passed s parcel None w h = cc h
+passed s parcel (Some v) w h = (tested s parcel w v _ _ _ refl refl refl h).1
 
 -- ---- stored windows and the front
 

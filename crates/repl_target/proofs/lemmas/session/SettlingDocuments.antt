@@ -16,6 +16,7 @@ use Rattle.rev_core.specs.Rev.{RevId}
 use Rattle.doc_json.specs.Document.{Document}
 use Rattle.couch_base.specs.Database.{Id, DatabaseValue}
 use Rattle.couch_base.specs.Feed.{WindowValue}
+use Rattle.couch_base.specs.MemberLaws.{at-end}
 use Rattle.couch_base.specs.ListLaws.{some_is, none_some, any_left}
 use Rattle.couch_base.specs.Put.{put_answer, after_put}
 use Rattle.repl_target.specs.peer.Peer.{SessionValue, RefusedValue}
@@ -44,15 +45,11 @@ indexes_from o d before after old new base (Some reason) s t a e h id r =
     ∙ ap (λ b. is_ledgered base id r || b) (sym more)
     ∙ ap (λ (x : SessionValue). is_ledgered base id r || in_ledger x.ledger id r) (sym e)
 
-get_end : {X : Type 0} (others : List X) (last : X) → slice_get (others ++ last ∷ []) (length others) ≡ Some last
-get_end [] last = refl
-get_end (y ∷ ys) last = get_end ys last
-
 pub last_is : {X : Type 0} (all others : List X) (last x : X) → all ≡ others ++ last ∷ [] → slice_get all (length all - 1) ≡ Some x → x ≡ last
 last_is all others last x split at =
     let count : length all ≡ length others + 1 = ap length split ∙ length-append others (last ∷ []) in
     let place : length all - 1 ≡ length others = omega (arith, count) in
-    some_is x last (sym (subst (λ k. slice_get all k ≡ Some x) place at) ∙ ap (λ l. slice_get l (length others)) split ∙ get_end others last)
+    some_is x last (sym (subst (λ k. slice_get all k ≡ Some x) place at) ∙ ap (λ l. slice_get l (length others)) split ∙ at-end others last)
 
 -- ---- documents in order
 

@@ -1,5 +1,5 @@
 -- What settling keeps, in full or as far as it came: the peer's law, and all that covers.
-use Rattle.std.proofs.Common.{◌≡◌, ◌⊎◌, ℕ, ◌+◌, ◌==◌, List, [], ◌∷◌, Bool, true, false, cond, ◌&&◌, ◌||◌, Option, Some, None, is_some, Result, Ok, Err, is_ok, take, length, refl, sym, ap, ◌∙◌, subst, inl, inr, arith, nat_lt, unwrap_or}
+use Rattle.std.proofs.Common.{◌≡◌, ◌⊎◌, ℕ, ◌+◌, ◌==◌, List, [], ◌∷◌, Bool, true, false, cond, ◌&&◌, ◌||◌, Option, Some, None, is_some, Result, Ok, Err, take, length, refl, sym, ap, ◌∙◌, subst, inl, inr, arith, nat_lt, unwrap_or}
 use Rattle.std.specs.List.{list_all}
 use Rattle.std.specs.Option.{option_map}
 use Rattle.std.specs.Str.{bytes_eq}
@@ -249,9 +249,6 @@ pub record Settleable (p : PeerValue) (id : SessionId) (parcel : ParcelValue) (a
   pub rows : list_all (has_row at.1) parcel.docs ≡ true
   pub undone : is_done at.0.front at.1.lo at.1.hi ≡ false
 
-err_ok : {A : Type 0} (fault : TargetFault) (x : A) → ◌≡◌ {A = Result A TargetFault} (Err fault) (Ok x) → ⊥
-err_ok fault x e = false≢true (ap is_ok e)
-
 ok_is : {A : Type 0} (x y : A) → ◌≡◌ {A = Result A TargetFault} (Ok x) (Ok y) → x ≡ y
 ok_is x y e = cc
 
@@ -259,27 +256,27 @@ pub settle_told : (p : PeerValue) (id : SessionId) (parcel : ParcelValue) (at : 
 settle_told p id parcel at h = in_peer (session_in p.sessions id) refl h
   where
     in_window : (s : SessionValue) → Among s p.sessions → s.id.0 ≡ id.0 → (o : Option WindowValue) → window_in s parcel.asked.lo parcel.asked.hi ≡ o → settle_at s parcel o ≡ Ok at → Settleable p id parcel at
-    in_window s m number None e h = absurd (err_ok faults.ForeignParcel at h)
+    in_window s m number None e h = cc h
     in_window s m number (Some w) e h =
         let found = found_member (λ (v : WindowValue). (v.lo == parcel.asked.lo) && (v.hi == parcel.asked.hi)) s.windows w e in
         let both = and_parts _ _ found.1 in
         let Asks : Result (SessionValue × WindowValue) TargetFault → Type 0 = λ r. r ≡ Ok at → Settleable p id parcel at in
         cond_both (list_all (has_row w) parcel.docs) (cond (is_done s.front w.lo w.hi) (Err faults.AlreadyDone) (cond (has_room s w parcel) (Ok (s, w)) (Err faults.CountFull))) (Err faults.ForeignParcel) Asks
-        (λ rows. cond_both (is_done s.front w.lo w.hi) (Err faults.AlreadyDone) (cond (has_room s w parcel) (Ok (s, w)) (Err faults.CountFull)) Asks (λ _ k. absurd (err_ok faults.AlreadyDone at k))
+        (λ rows. cond_both (is_done s.front w.lo w.hi) (Err faults.AlreadyDone) (cond (has_room s w parcel) (Ok (s, w)) (Err faults.CountFull)) Asks (λ _ k. cc k)
         (λ undone. cond_both (has_room s w parcel) (Ok (s, w)) (Err faults.CountFull) Asks
         (λ _ k. subst (Settleable p id parcel) (ok_is (s, w) at k) (record { held = m; number = number; stored = found.0; lo = eqb-true _ _ both.0; hi = eqb-true _ _ both.1; rows = rows; undone = undone }))
-        (λ _ k. absurd (err_ok faults.CountFull at k))))
-        (λ _ k. absurd (err_ok faults.ForeignParcel at k)) h
+        (λ _ k. cc k)))
+        (λ _ k. cc k) h
 
     in_peer : (o : Option SessionValue) → session_in p.sessions id ≡ o → found_answer (λ s. settle_at s parcel (window_in s parcel.asked.lo parcel.asked.hi)) o ≡ Ok at → Settleable p id parcel at
-    in_peer None e h = absurd (err_ok faults.NoSuchSession at h)
+    in_peer None e h = cc h
     in_peer (Some s) e h = let held = session_found p.sessions id s e in in_window s held.0 held.1 (window_in s parcel.asked.lo parcel.asked.hi) refl h
 
 -- ---- where settling ends
 
 -- settling leaves the peer as it is, or ends after all documents, or after the first n
-abbrev pub Ends : (Document → Bool) → PeerValue → SessionId → ParcelValue → PeerValue → Type 0
-Ends refuses p id parcel q =
+abbrev pub LeavesAfter : (Document → Bool) → PeerValue → SessionId → ParcelValue → PeerValue → Type 0
+LeavesAfter refuses p id parcel q =
     (q ≡ p) ⊎ ((at : SessionValue × WindowValue) × Settleable p id parcel at × ((q ≡ after_all refuses p at.0 at.1 parcel) ⊎ ((n : ℕ) × (q ≡ after_documents refuses p at.0 at.1 (take n parcel.docs)))))
 
 settles_at_ends : (refuses : Document → Bool) (p q : PeerValue) (parcel : ParcelValue) (s : SessionValue) (w : WindowValue) (result : Result Settled TargetFault) → SettlesAt refuses p parcel s w result q → (q ≡ after_all refuses p s w parcel) ⊎ ((n : ℕ) × (q ≡ after_documents refuses p s w (take n parcel.docs)))
@@ -288,18 +285,18 @@ settles_at_ends refuses p q parcel s w (Err (faults.Uncovered seq id rev)) h = i
 settles_at_ends refuses p q parcel s w (Err (faults.Stopped n rest cause)) h = inr (n, h.0.peer)
 settles_at_ends refuses p q parcel s w (Err fault) h = absurd h
 
-pub settle_ends : (refuses : Document → Bool) (p : PeerValue) (id : SessionId) (parcel : ParcelValue) (result : Result Settled TargetFault) (q : PeerValue) → SettleGives refuses p id parcel result q → Ends refuses p id parcel q
+pub settle_ends : (refuses : Document → Bool) (p : PeerValue) (id : SessionId) (parcel : ParcelValue) (result : Result Settled TargetFault) (q : PeerValue) → SettleGives refuses p id parcel result q → LeavesAfter refuses p id parcel q
 settle_ends refuses p id parcel result q gives = go (settle_check p id parcel) refl gives
   where
-    go : (r : Result (SessionValue × WindowValue) TargetFault) → settle_check p id parcel ≡ r → Settles refuses p parcel r result q → Ends refuses p id parcel q
+    go : (r : Result (SessionValue × WindowValue) TargetFault) → settle_check p id parcel ≡ r → Settles refuses p parcel r result q → LeavesAfter refuses p id parcel q
     go (Err fault) e h = inl h.1
     go (Ok at) e h = inr (at, settle_told p id parcel at e, settles_at_ends refuses p q parcel at.0 at.1 result h)
 
 -- settling that finds memory
-pub after_settle_ends : (refuses : Document → Bool) (p : PeerValue) (id : SessionId) (parcel : ParcelValue) → Ends refuses p id parcel (after_settle refuses p id parcel)
+pub after_settle_ends : (refuses : Document → Bool) (p : PeerValue) (id : SessionId) (parcel : ParcelValue) → LeavesAfter refuses p id parcel (after_settle refuses p id parcel)
 after_settle_ends refuses p id parcel = go (settle_check p id parcel) refl
   where
-    go : (r : Result (SessionValue × WindowValue) TargetFault) → settle_check p id parcel ≡ r → Ends refuses p id parcel (settled_at refuses p parcel r)
+    go : (r : Result (SessionValue × WindowValue) TargetFault) → settle_check p id parcel ≡ r → LeavesAfter refuses p id parcel (settled_at refuses p parcel r)
     go (Err fault) e = inl refl
     go (Ok at) e =
         let n = settled_before refuses at.1 (settling_of p at.0) parcel.docs in
@@ -308,17 +305,17 @@ after_settle_ends refuses p id parcel = go (settle_check p id parcel) refl
         inr (at, settle_told p id parcel at e, cond_both (n == length parcel.docs) all some (λ x. (x ≡ all) ⊎ ((k : ℕ) × (x ≡ after_documents refuses p at.0 at.1 (take k parcel.docs)))) (λ _. inl refl) (λ _. inr (n, refl)))
 
 -- settling that stops
-pub after_stop_ends : (refuses : Document → Bool) (p : PeerValue) (id : SessionId) (parcel : ParcelValue) (n : ℕ) → Ends refuses p id parcel (after_stop refuses p id parcel n)
+pub after_stop_ends : (refuses : Document → Bool) (p : PeerValue) (id : SessionId) (parcel : ParcelValue) (n : ℕ) → LeavesAfter refuses p id parcel (after_stop refuses p id parcel n)
 after_stop_ends refuses p id parcel n = go (settle_check p id parcel) refl
   where
-    go : (r : Result (SessionValue × WindowValue) TargetFault) → settle_check p id parcel ≡ r → Ends refuses p id parcel (after_front refuses p parcel n r)
+    go : (r : Result (SessionValue × WindowValue) TargetFault) → settle_check p id parcel ≡ r → LeavesAfter refuses p id parcel (after_front refuses p parcel n r)
     go (Err fault) e = inl refl
     go (Ok at) e = inr (at, settle_told p id parcel at e, inr (n, refl))
 
 -- ---- the peer
 
 -- wherever settling ends, the law is kept
-pub ends_law : (refuses : Document → Bool) (p : PeerValue) (id : SessionId) (parcel : ParcelValue) (q : PeerValue) → Ends refuses p id parcel q → LawfulSessions refuses p → LawfulSessions refuses q × IsLaterPeer p q
+pub ends_law : (refuses : Document → Bool) (p : PeerValue) (id : SessionId) (parcel : ParcelValue) (q : PeerValue) → LeavesAfter refuses p id parcel q → LawfulSessions refuses p → LawfulSessions refuses q × IsLaterPeer p q
 ends_law refuses p id parcel q (inl same) l = subst (λ x. LawfulSessions refuses x × IsLaterPeer p x) (sym same) (l, IsLaterPeer-same p)
 ends_law refuses p id parcel q (inr e) l =
     let t = e.1 in

@@ -9,7 +9,7 @@ use Rattle.couch_base.specs.Messages.{ParcelValue}
 use Rattle.range_front.specs.Front.{finished}
 use Rattle.repl_target.specs.peer.Peer.{SessionValue}
 use Rattle.repl_target.specs.session.Settling.{Settling, Halts, settle_docs, leaf_count, asked_count, with_done, with_checked}
-use Rattle.repl_target.specs.session.SettlingParts.{Passes, Reached, ReachedAll, Ends, PartsSettled, PartsSettle, PartsGive}
+use Rattle.repl_target.specs.session.SettlingParts.{Passes, Reached, ReachedAll, Marks, PartsSettled, PartsSettle, PartsGive}
 use Rattle.repl_target.specs.declared.fault.Cause.{Cause}
 use Rattle.repl_target.specs.declared.fault.Cause.TheVariants as causes
 use Rattle.repl_target.specs.declared.fault.Settled.{Settled}
@@ -29,7 +29,7 @@ stopped refuses known w before after parcel docs n rest cause same h why =
     (subst (λ (l : List Document). Reached refuses w before l n rest.items after) same h, subst (λ (l : List Document). Halts refuses w before l n cause) same why)
 
 pub ended_err : (refuses : Document → Bool) (known : Id → RevId → Bool) (w : WindowValue) (before : Settling) (db : DatabaseValue) (mid t : SessionValue) (parcel : ParcelValue) (n leaves asked : ℕ) (fault : TargetFault)
-    → Reached refuses w before parcel.docs n [] (record { db = db; session = mid }) → Ends known w mid leaves asked n (Err fault) t
+    → Reached refuses w before parcel.docs n [] (record { db = db; session = mid }) → Marks known w mid leaves asked n (Err fault) t
     → PartsSettled refuses known w before parcel (Err fault) (record { db = db; session = t })
 ended_err refuses known w before db mid t parcel n leaves asked (faults.Uncovered seq id rev) h e =
     (subst (λ (s : SessionValue). ReachedAll refuses w before parcel.docs (record { db = db; session = s })) (sym e.1) (reached_all refuses w before (record { db = db; session = mid }) parcel.docs n h), e.0)
@@ -61,7 +61,7 @@ ended_err refuses known w before db mid t parcel n leaves asked faults.SamePeer 
 ended_err refuses known w before db mid t parcel n leaves asked faults.Memory h e = absurd e
 
 pub ended_ok : (refuses : Document → Bool) (known : Id → RevId → Bool) (w : WindowValue) (before : Settling) (db : DatabaseValue) (mid t : SessionValue) (parcel : ParcelValue) (n leaves asked : ℕ) (settled : Settled) (tell : Unit {0})
-    → Reached refuses w before parcel.docs n [] (record { db = db; session = mid }) → Ends known w mid leaves asked n (Ok tell) t
+    → Reached refuses w before parcel.docs n [] (record { db = db; session = mid }) → Marks known w mid leaves asked n (Ok tell) t
     → leaves ≡ leaf_count w → asked ≡ asked_count parcel.asked → settled.written ≡ mid.counts.written - before.session.counts.written → settled.failures ≡ mid.counts.failures - before.session.counts.failures
     → PartsSettled refuses known w before parcel (Ok settled) (record { db = db; session = t })
 ended_ok refuses known w before db mid t parcel n leaves asked settled tell h e leafs asks wrote failed =

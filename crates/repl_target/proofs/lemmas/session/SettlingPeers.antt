@@ -7,6 +7,7 @@ use Rattle.rev_core.specs.Rev.{RevId}
 use Rattle.rev_tree.specs.Tree.{has}
 use Rattle.rev_tree.specs.declared.origin.SessionId.{SessionId}
 use Rattle.doc_json.specs.Document.{Document}
+use Rattle.rev_tree.specs.LeafLaws.{same_tests}
 use Rattle.couch_base.specs.Database.{Id, tree_of}
 use Rattle.couch_base.specs.Feed.{RowValue, WindowValue}
 use Rattle.couch_base.specs.Lists.{Among}
@@ -165,11 +166,6 @@ settle_gives refuses known p id s parcel result after is same agrees h =
     go (Err fault) e k = (k.0, ap (with_settling p) k.1 ∙ (λ i. record p { sessions = same i }))
 
 -- ---- the index
-
-same_tests : (x y : Bool) → (x ≡ true → y ≡ true) → (y ≡ true → x ≡ true) → x ≡ y
-same_tests true y f g = sym (f refl)
-same_tests false true f g = g refl
-same_tests false false f g = refl
 
 abbrev refused : Id → RevId → SessionValue → Bool
 refused id r x = in_ledger x.ledger id r

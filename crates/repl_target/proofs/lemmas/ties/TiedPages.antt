@@ -1,13 +1,10 @@
 -- A page is tied to its database, and what is tied stays so.
-use Rattle.std.proofs.Common.{◌≡◌, ◌⊎◌, ℕ, zero, suc, ◌<◌, ◌≤◌, nat_lt, nat_le, ◌==◌, Bool, true, false, ◌&&◌, List, [], ◌∷◌, ◌++◌, map, filter, length, take, Some, sym, ap, ◌∙◌, subst, inl, inr, arith, unwrap_or}
+use Rattle.std.proofs.Common.{◌≡◌, ℕ, zero, suc, ◌<◌, ◌≤◌, nat_lt, nat_le, ◌==◌, true, false, ◌&&◌, List, [], ◌∷◌, map, filter, length, take, Some, sym, ap, ◌∙◌, subst, inl, inr, arith, unwrap_or}
 use Rattle.std.specs.List.{list_any, AllByRecursion}
-use Rattle.std.specs.Ordering.{eq_by_cmp}
 use Rattle.std.specs.Str.{bytes_eq}
-use Rattle.std.proofs.lemmas.Bool.{and_parts, and_from, cond_both, cond-false, cond-true, both_ways, ltb-true, leb-true, or_parts, or_cases, or_left, or_right, false≢true}
+use Rattle.std.proofs.lemmas.Bool.{and_parts, and_from, cond_both, cond-false, cond-true, lt-ltb, ltb-true, le-leb, leb-true, or_parts}
 use Rattle.std.proofs.lemmas.Slice.Eq.{bytes_eq-Decides}
-use Rattle.rev_core.specs.Rev.{RevId, rev_cmp}
-use Rattle.rev_core.specs.RevOrder.{rev_tie_is, rev_tie_self}
-use Rattle.rev_core.specs.Ancestry.{is_among}
+use Rattle.rev_core.specs.Rev.{RevId}
 use Rattle.rev_tree.specs.Tree.{has, leaves, is_leaf, no_revisions}
 use Rattle.rev_tree.specs.LeafLaws.{is_among-leaves}
 use Rattle.doc_json.specs.Chosen.{Choice, is_chosen}
@@ -18,37 +15,7 @@ use Rattle.couch_base.specs.WriteLaws.{IsLater}
 use Rattle.couch_base.specs.MemberLaws.{Among-map, Among-mapped, Among-left}
 use Rattle.couch_base.specs.FeedLaws.{feed-page}
 use Rattle.repl_target.specs.ties.Ties.{IsTiedWindow}
-
--- ---- members
-
-pub Among-filter : {X : Type 0} (p : X → Bool) (x : X) (xs : List X) → Among x (filter p xs) → Among x xs × (p x ≡ true)
-Among-filter p x [] m = absurd m
-Among-filter p x (y ∷ xs) m =
-    cond_both (p y) (y ∷ filter p xs) (filter p xs) (λ l. Among x l → Among x (y ∷ xs) × (p x ≡ true))
-    (λ e k. elim k [ inl i ↦ (inl i, ap p i ∙ e) | inr n ↦ (let f = Among-filter p x xs n in (inr f.0, f.1)) ])
-    (λ _ k. (let f = Among-filter p x xs k in (inr f.0, f.1)))
-    m
-
-pub Among-filtered : {X : Type 0} (p : X → Bool) (x : X) (xs : List X) → Among x xs → p x ≡ true → Among x (filter p xs)
-Among-filtered p x [] m e = absurd m
-Among-filtered p x (y ∷ xs) m e =
-    cond_both (p y) (y ∷ filter p xs) (filter p xs) (λ l. Among x l)
-    (λ _. elim m [ inl i ↦ inl i | inr n ↦ inr (Among-filtered p x xs n e) ])
-    (λ no. elim m [ inl i ↦ absurd (both_ways _ no (ap p (sym i) ∙ e)) | inr n ↦ Among-filtered p x xs n e ])
-
-pub Among-split : {X : Type 0} (x : X) (xs ys : List X) → Among x (xs ++ ys) → Among x xs ⊎ Among x ys
-Among-split x [] ys m = inr m
-Among-split x (y ∷ xs) ys (inl here) = inl (inl here)
-Among-split x (y ∷ xs) ys (inr m) = elim (Among-split x xs ys m) [ inl left ↦ inl (inr left) | inr right ↦ inr right ]
-
-pub among_test : (r : RevId) (xs : List RevId) → Among r xs → is_among r xs ≡ true
-among_test r [] m = absurd m
-among_test r (x ∷ xs) (inl e) = or_left _ _ (subst (λ y. eq_by_cmp rev_cmp r y ≡ true) e (rev_tie_self r))
-among_test r (x ∷ xs) (inr m) = or_right _ _ (among_test r xs m)
-
-pub among_from : (r : RevId) (xs : List RevId) → is_among r xs ≡ true → Among r xs
-among_from r [] h = absurd (false≢true h)
-among_from r (x ∷ xs) h = elim (or_cases _ _ h) [ inl tie ↦ inl (rev_tie_is r x tie) | inr later ↦ inr (among_from r xs later) ]
+use Rattle.repl_target.proofs.lemmas.Members.{Among-filter, Among-filtered, Among-split, among_test}
 
 -- ---- documents
 
@@ -74,14 +41,8 @@ feed_member db a b r m =
     let t = and_parts _ _ f.1 in
     (k.0, f.0, k.2, ltb-true _ _ t.0, leb-true _ _ t.1)
 
-less-is : (a b : ℕ) → a < b → nat_lt a b ≡ true
-less-is a b h = grind (arith, h)
-
-most-is : (a b : ℕ) → a ≤ b → nat_le a b ≡ true
-most-is a b h = grind (arith, h)
-
 pub in_feed : (db : DatabaseValue) (a b : ℕ) (d : DocumentValue) → Among d db.docs → a < d.seq → d.seq ≤ b → Among (row_of d) (feed db a b)
-in_feed db a b d m lo hi = Among-mapped row_of d _ (Among-filtered (λ (d : DocumentValue). nat_lt a d.seq && nat_le d.seq b) d db.docs m (and_from _ _ (less-is a d.seq lo) (most-is d.seq b hi)))
+in_feed db a b d m lo hi = Among-mapped row_of d _ (Among-filtered (λ (d : DocumentValue). nat_lt a d.seq && nat_le d.seq b) d db.docs m (and_from _ _ (lt-ltb a d.seq lo) (le-leb d.seq b hi)))
 
 -- a row of the chosen feed is that of a chosen document
 pub chosen_member : (c : Choice) (db : DatabaseValue) (a b : ℕ) (r : RowValue) → Among r (chosen_feed c db a b) → (d : DocumentValue) × Among d db.docs × (r ≡ row_of d) × (a < d.seq) × (d.seq ≤ b) × (is_chosen c d.id ≡ true)

@@ -27,7 +27,8 @@ use Rattle.couch_base.specs.MemberLaws.{Among-map, found_member}
 use Rattle.repl_target.proofs.lemmas.peer.CallsKeepLaw.{same_rep-is}
 use Rattle.repl_target.proofs.lemmas.session.WindowsFollow.{window-stored}
 use Rattle.repl_target.specs.ties.Ties.{IsTiedWindow, IsReached, IsTiedSession, IsTiedEntry, AreTiedEntries, IsTiedPair, LogsAreHonest}
-use Rattle.repl_target.proofs.lemmas.ties.TiedPages.{Among-filter, chosen_member, in_chosen}
+use Rattle.repl_target.proofs.lemmas.Members.{Among-filter}
+use Rattle.repl_target.proofs.lemmas.ties.TiedPages.{chosen_member, in_chosen}
 use Rattle.repl_target.proofs.lemmas.peer.LaterPeers.{one_session}
 use Rattle.repl_target.proofs.lemmas.session.SettlingTakes.{all_known}
 

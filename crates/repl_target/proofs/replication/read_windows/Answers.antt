@@ -1,7 +1,7 @@
 use Rattle.std.proofs.Common.{◌<◌, sym, ◌∙◌, subst, arith}
-use Rattle.std.proofs.lemmas.Bool.{and_from}
+use Rattle.std.proofs.lemmas.Bool.{and_from, lt-ltb}
 use Rattle.repl_target.specs.replication.Replication.{Reading, Carries}
-use Rattle.repl_target.proofs.lemmas.replication.SourceFeedStored.{less-is, reads_more}
+use Rattle.repl_target.proofs.lemmas.replication.SourceFeedStored.{reads_more}
 use Rattle.repl_target.proofs.replication.read_windows.Goals as goal
 
 pub loop-since-smaller : goal.loop-since-smaller
@@ -15,6 +15,6 @@ loop-since-preserved g c =
     let before : Reading = record { since = c.loop-since.since; target = c.loop-since.target.1 } in
     let after : Reading = record { since = c.in_ok-since.since; target = c.carry_window.new.target.1 } in
     let less : c.loop-since.since < source.update_seq = omega (arith, c.loop-since-test.true, inv.3) in
-    let due = and_from _ _ (less-is c.loop-since.since source.update_seq less) (sym c.has_left.ensures ∙ c.if-has_left.true) in
+    let due = and_from _ _ (lt-ltb c.loop-since.since source.update_seq less) (sym c.has_left.ensures ∙ c.if-has_left.true) in
     let carries : Carries (g.G.WriteFilter.refuses c.args.target.now.0) source plan before after = subst (λ f. Carries (g.G.WriteFilter.refuses f) source plan before after) inv.1 c.in_ok-since.ensures.ok in
     (reads_more _ source plan c.loop-since.windows _ before after inv.0 due carries, c.in_ok-since.ensures.filter ∙ inv.1, omega (arith, inv.2, c.in_ok-since.ensures.moves), inv.3)

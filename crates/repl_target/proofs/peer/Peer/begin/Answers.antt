@@ -8,6 +8,4 @@ invariant_of-self g c =
     Lawful-begun _ _ c.self.invariant c.args.id c.args.beginning c.args.at fits c.begin.result _ c.begin.ensures.answer c.begin.ensures.ok c.begin.ensures.err
 
 pub returns-clause-law : goal.returns-clause-law
-returns-clause-law g c =
-    let fits : c.args.beginning.start < 2 ^ 64 = omega arith in
-    Lawful-begun _ _ c.self.invariant c.args.id c.args.beginning c.args.at fits c.begin.result _ c.begin.ensures.answer c.begin.ensures.ok c.begin.ensures.err
+returns-clause-law g c = invariant_of-self g c

@@ -5,4 +5,4 @@ pub invariant_of-self : goal.invariant_of-self
 invariant_of-self g c = Lawful-loaded _ _ c.self.invariant c.args.doc.now c.load.result _ _ c.load.ensures.db c.load.ensures.locals c.load.ensures.db_kept c.load.ensures.locals_kept
 
 pub returns-clause-law : goal.returns-clause-law
-returns-clause-law g c = Lawful-loaded _ _ c.self.invariant c.args.doc.now c.load.result _ _ c.load.ensures.db c.load.ensures.locals c.load.ensures.db_kept c.load.ensures.locals_kept
+returns-clause-law g c = invariant_of-self g c

@@ -5,4 +5,4 @@ pub invariant_of-self : goal.invariant_of-self
 invariant_of-self g c = Lawful-logs _ _ c.put.new.logs.entries c.self.invariant
 
 pub returns-clause-law : goal.returns-clause-law
-returns-clause-law g c = Lawful-logs _ _ c.put.new.logs.entries c.self.invariant
+returns-clause-law g c = invariant_of-self g c

@@ -5,4 +5,4 @@ pub invariant_of-self : goal.invariant_of-self
 invariant_of-self g c = Lawful-recorded _ _ c.self.invariant c.args.id c.args.at _ c.record.ensures.sessions
 
 pub returns-clause-law : goal.returns-clause-law
-returns-clause-law g c = Lawful-recorded _ _ c.self.invariant c.args.id c.args.at _ c.record.ensures.sessions
+returns-clause-law g c = invariant_of-self g c

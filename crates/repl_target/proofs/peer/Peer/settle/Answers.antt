@@ -9,20 +9,15 @@ pub invariant_of-self : goal.invariant_of-self
 invariant_of-self g c =
     let p : PeerValue = record { db = c.self.inside.db; locals = c.self.inside.locals.items; sessions = c.self.inside.sessions; outgoing = c.self.inside.outgoing.entries } in
     record {
-      sessions = settle_law (g.F.WriteFilter.refuses c.self.inside.filter) p c.args.id c.args.parcel c.settle.result _ (c.settle.ensures p) c.self.invariant.sessions;
-      origins = settle_origins (g.F.WriteFilter.refuses c.self.inside.filter) p c.args.id c.args.parcel c.settle.result _ (c.settle.ensures p) c.self.invariant.sessions c.self.invariant.origins;
+      sessions = settle_law (g.F.WriteFilter.refuses c.self.inside.filter) p c.args.id c.args.parcel c.settle_session.result _ (c.settle_session.ensures p) c.self.invariant.sessions;
+      origins = settle_origins (g.F.WriteFilter.refuses c.self.inside.filter) p c.args.id c.args.parcel c.settle_session.result _ (c.settle_session.ensures p) c.self.invariant.sessions c.self.invariant.origins;
     }
 
 pub returns-clause-settles : goal.returns-clause-settles
 returns-clause-settles g c =
     let p : PeerValue = record { db = c.self.inside.db; locals = c.self.inside.locals.items; sessions = c.self.inside.sessions; outgoing = c.self.inside.outgoing.entries } in
-    let q : PeerValue = record { db = c.settle.new.db; locals = c.self.inside.locals.items; sessions = c.settle.new.self; outgoing = c.self.inside.outgoing.entries } in
-    subst (λ v. SettleGives (g.F.WriteFilter.refuses v.0) v.1 c.args.id c.args.parcel c.settle.result q) c.self.view_is (c.settle.ensures p)
+    let q : PeerValue = record { db = c.settle_session.new.db; locals = c.self.inside.locals.items; sessions = c.settle_session.new.self; outgoing = c.self.inside.outgoing.entries } in
+    subst (λ v. SettleGives (g.F.WriteFilter.refuses v.0) v.1 c.args.id c.args.parcel c.settle_session.result q) c.self.view_is (c.settle_session.ensures p)
 
 pub returns-clause-law : goal.returns-clause-law
-returns-clause-law g c =
-    let p : PeerValue = record { db = c.self.inside.db; locals = c.self.inside.locals.items; sessions = c.self.inside.sessions; outgoing = c.self.inside.outgoing.entries } in
-    record {
-      sessions = settle_law (g.F.WriteFilter.refuses c.self.inside.filter) p c.args.id c.args.parcel c.settle.result _ (c.settle.ensures p) c.self.invariant.sessions;
-      origins = settle_origins (g.F.WriteFilter.refuses c.self.inside.filter) p c.args.id c.args.parcel c.settle.result _ (c.settle.ensures p) c.self.invariant.sessions c.self.invariant.origins;
-    }
+returns-clause-law g c = invariant_of-self g c

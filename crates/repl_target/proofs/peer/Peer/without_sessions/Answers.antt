@@ -14,11 +14,4 @@ invariant_of-result g c =
     Lawful-new _ c.args.db.uuid c.args.db.update_seq _ new
 
 pub returns-clause-law : goal.returns-clause-law
-returns-clause-law g c =
-    let new : record { db = c.args.db; locals = c.new.result.items; sessions = c.new-2.result; outgoing = c.new-3.result.entries } ≡ new_peer_at c.args.db.uuid c.args.db.update_seq = λ i. record {
-      db = c.requires i;
-      locals = c.new.ensures.items i;
-      sessions = c.new-2.ensures i;
-      outgoing = c.new-3.ensures.empty i;
-    } in
-    Lawful-new _ c.args.db.uuid c.args.db.update_seq _ new
+returns-clause-law g c = invariant_of-result g c

@@ -3,7 +3,9 @@ use Rattle.std.proofs.lemmas.Option.{slice_get_within}
 use Rattle.std.specs.List.{list_any}
 use Rattle.std.specs.Str.{bytes_eq}
 use Rattle.doc_json.specs.Document.{Document}
-use Rattle.repl_target.proofs.lemmas.session.RowsInTurn.{all_later, found_any}
+use Rattle.repl_target.proofs.lemmas.session.RowsInTurn.{all_later}
+use Rattle.repl_target.proofs.lemmas.Members.{Among-at}
+use Rattle.couch_base.specs.MemberLaws.{any_from}
 use Rattle.repl_target.proofs.session.rows.all_have_rows.Goals as goal
 
 pub loop-doc-preserved : goal.loop-doc-preserved
@@ -11,7 +13,7 @@ loop-doc-preserved c =
     let rows = c.args.rows.now in
     let here = c.in-Some.ensures.some in
     let found : list_any (λ row. bytes_eq row.id c.doc-item.result.id) rows ≡ true =
-    ap (λ i. list_any (λ row. bytes_eq row.id i) rows) (sym c.id.ensures.part) ∙ found_any (λ row. bytes_eq row.id c.id.result.now) rows c.in-Some.found here.0 here.1 here.2 in
+    ap (λ i. list_any (λ row. bytes_eq row.id i) rows) (sym c.id.ensures.part) ∙ any_from (λ row. bytes_eq row.id c.id.result.now) here.0 rows (Among-at rows c.in-Some.found here.0 here.1) here.2 in
     let within = slice_get_within rows c.in-Some.found here.0 here.1 in
     record {
       within = omega (arith, within);

@@ -3,7 +3,7 @@ use Rattle.rev_core.specs.Rev.{RevId}
 use Rattle.repl_target.specs.peer.Covered.{Leaf}
 use Rattle.std.specs.Option.{option_map}
 use Rattle.repl_target.specs.session.SettlingParts.{known_of}
-use Rattle.repl_target.proofs.lemmas.session.RowsInTurn.{unknown_here}
+use Rattle.repl_target.proofs.lemmas.logs.FirstUnknownLeaf.{unknown_here}
 use Rattle.repl_target.proofs.session.rows.first_unknown.Goals as goal
 
 pub returns-in-Some : goal.returns-in-Some

@@ -10,33 +10,33 @@ use Rattle.repl_target.proofs.lemmas.session.SettlingDocuments.{reached_turned, 
 use Rattle.repl_target.proofs.session.settle.settle_in_order.Given.{Over}
 use Rattle.repl_target.proofs.session.settle.settle_in_order.Goals as goal
 
-pub settle_documents-settled-requires-clause-rows : goal.settle_documents-settled-requires-clause-rows
-settle_documents-settled-requires-clause-rows g c =
+pub settle_from_end-settled-requires-clause-rows : goal.settle_from_end-settled-requires-clause-rows
+settle_from_end-settled-requires-clause-rows g c =
     let stored = c.requires.rows in
     (stored.0, subst (λ (s : SessionValue). slice_get s.windows c.args.place ≡ Some stored.0) (sym c.session.view_is) stored.1, all_turned (has_row stored.0) c.args.docs.now.items c.reverse.new.self.items c.reverse.ensures.items stored.2)
 
 reached : (g : Over) (c : goal.After-reverse-2 g) (w : WindowValue) → slice_get c.args.session.now.windows c.args.place ≡ Some w
-    → Reached (g.F.WriteFilter.refuses c.args.filter.now) w (settling_at c.args.db.now c.args.session.now) c.args.docs.now.items (length c.args.docs.now.items - length c.reverse-2.new.self.items) c.reverse-2.new.self.items (settling_at c.settle_documents-settled.new.db c.settle_documents-settled.new.session)
+    → Reached (g.F.WriteFilter.refuses c.args.filter.now) w (settling_at c.args.db.now c.args.session.now) c.args.docs.now.items (length c.args.docs.now.items - length c.reverse-2.new.self.items) c.reverse-2.new.self.items (settling_at c.settle_from_end-settled.new.db c.settle_from_end-settled.new.session)
 reached g c w is =
     let kept : record (session_value c.session.inside) { front = c.reserve.new.self.front } ≡ c.args.session.now =
     (λ i. record (session_value c.session.inside) { front = c.reserve.ensures.kept i }) ∙ c.session.view_is in
     let same : settling_at c.args.db.now (record (session_value c.session.inside) { front = c.reserve.new.self.front }) ≡ settling_at c.args.db.now c.args.session.now =
     λ i. record { db = c.args.db.now; session = kept i } in
-    reached_turned (g.F.WriteFilter.refuses c.args.filter.now) w _ _ _ c.args.docs.now.items c.reverse.new.self.items c.settle_documents-settled.new.docs.items c.reverse-2.new.self.items same c.reverse.ensures.items c.reverse-2.ensures.items (c.settle_documents-settled.ensures.reached w (subst (λ (s : SessionValue). slice_get s.windows c.args.place ≡ Some w) (sym c.session.view_is) is))
+    reached_turned (g.F.WriteFilter.refuses c.args.filter.now) w _ _ _ c.args.docs.now.items c.reverse.new.self.items c.settle_from_end-settled.new.docs.items c.reverse-2.new.self.items same c.reverse.ensures.items c.reverse-2.ensures.items (c.settle_from_end-settled.ensures.reached w (subst (λ (s : SessionValue). slice_get s.windows c.args.place ≡ Some w) (sym c.session.view_is) is))
 
 pub returns-clause-reached : goal.returns-clause-reached
 returns-clause-reached g c = λ w is. reached g c w is
 
 pub returns-clause-fewer : goal.returns-clause-fewer
 returns-clause-fewer g c =
-    let fewer = c.settle_documents-settled.ensures.fewer in
-    omega (arith, fewer, ap length c.reverse.ensures.items, ap length c.reverse-2.ensures.items, length-reverse c.args.docs.now.items, length-reverse c.settle_documents-settled.new.docs.items)
+    let fewer = c.settle_from_end-settled.ensures.fewer in
+    omega (arith, fewer, ap length c.reverse.ensures.items, ap length c.reverse-2.ensures.items, length-reverse c.args.docs.now.items, length-reverse c.settle_from_end-settled.new.docs.items)
 
 pub returns-clause-why : goal.returns-clause-why
 returns-clause-why g c =
-    IfErr_then c.settle_documents-settled.result
-    (λ cause h w is. halts_from (g.F.WriteFilter.refuses c.args.filter.now) w _ _ c.args.docs.now.items c.settle_documents-settled.new.docs.items c.reverse-2.new.self.items _ cause (reached g c w is) c.reverse-2.ensures.items h)
-    c.settle_documents-settled.ensures.why
+    IfErr_then c.settle_from_end-settled.result
+    (λ cause h w is. halts_from (g.F.WriteFilter.refuses c.args.filter.now) w _ _ c.args.docs.now.items c.settle_from_end-settled.new.docs.items c.reverse-2.new.self.items _ cause (reached g c w is) c.reverse-2.ensures.items h)
+    c.settle_from_end-settled.ensures.why
 
 pub returns-in-Err-clause-why : goal.returns-in-Err-clause-why
 returns-in-Err-clause-why g c = λ w is.
@@ -45,4 +45,4 @@ returns-in-Err-clause-why g c = λ w is.
 
 pub returns-clause-indexed : goal.returns-clause-indexed
 returns-clause-indexed g c = λ base h.
-    c.settle_documents-settled.ensures.indexed base (subst (λ (s : SessionValue). IndexesMore base s.ledger c.args.ledgered.now) (sym c.session.view_is) h)
+    c.settle_from_end-settled.ensures.indexed base (subst (λ (s : SessionValue). IndexesMore base s.ledger c.args.ledgered.now) (sym c.session.view_is) h)

@@ -3,7 +3,7 @@ use Rattle.std.specs.Option.{option_copied_mut}
 use Rattle.std.proofs.lemmas.Result.{on_ok_weaker, on_err_weaker}
 use Rattle.repl_target.specs.peer.Peer.{SessionValue}
 use Rattle.repl_target.specs.session.Sessions.{GivesUnlessMemory, append_in, with_window, found_answer}
-use Rattle.repl_target.specs.session.StoredSessions.{sessions_of, AreListed, IsStored}
+use Rattle.repl_target.specs.session.StoredSessions.{sessions_of, AreListed, IsTableOf}
 use Rattle.repl_target.proofs.lemmas.session.SessionTable.{appended_same, session_in-at, sessions_of-changed, sessions_of-same, Stored-same}
 use Rattle.repl_target.proofs.lemmas.session.SessionIndex.{listed-set}
 use Rattle.repl_target.proofs.session.sessions.Sessions.append.Goals as goal
@@ -48,7 +48,7 @@ returns-clause-err c =
     c.append.ensures.err)
 
 pub invariant_of-self : goal.invariant_of-self
-invariant_of-self c = subst (λ m. IsStored c.self.inside.ledgered m.entries × AreListed c.self.inside.by_rep (sessions_of m.entries)) (sym c.get_mut.follows.holds-at-none) c.self.invariant
+invariant_of-self c = subst (λ m. IsTableOf c.self.inside.ledgered m.entries × AreListed c.self.inside.by_rep (sessions_of m.entries)) (sym c.get_mut.follows.holds-at-none) c.self.invariant
 
 pub returns-in_default-clause-answer : goal.returns-in_default-clause-answer
 returns-in_default-clause-answer c =

@@ -6,18 +6,18 @@ use Rattle.repl_log.specs.declared.replication.RepId.{RepId}
 use Rattle.repl_log.specs.Stored.{at_session}
 use Rattle.repl_target.specs.peer.Peer.{SessionValue, holds, same_rep}
 use Rattle.repl_target.specs.session.RepIndex.{listed}
-use Rattle.repl_target.specs.session.StoredSessions.{sessions_of, AreListed, IsStored}
+use Rattle.repl_target.specs.session.StoredSessions.{sessions_of, AreListed, IsTableOf}
 use Rattle.repl_target.proofs.lemmas.session.SessionIndex.{AreListed-new, AreListed-same}
 use Rattle.repl_target.proofs.lemmas.session.SessionTable.{absent-not_held, begin_in-new, sessions_of-new, Stored-new}
 use Rattle.repl_target.proofs.session.sessions.Sessions.begin.Goals as goal
 
 pub invariant_of-self : goal.invariant_of-self
-invariant_of-self c = subst (λ es. IsStored c.self.inside.ledgered es × AreListed c.self.inside.by_rep (sessions_of es)) (sym c.reserve.ensures.entries) c.self.invariant
+invariant_of-self c = subst (λ es. IsTableOf c.self.inside.ledgered es × AreListed c.self.inside.by_rep (sessions_of es)) (sym c.reserve.ensures.entries) c.self.invariant
 
 pub invariant_of-self-in_err-add : goal.invariant_of-self-in_err-add
 invariant_of-self-in_err-add c =
     let same = AreListed-same c.self.inside.by_rep c.add.new.self (sessions_of c.self.inside.entries.entries) c.self.invariant.1 c.in_err-add.ensures.err in
-    subst (λ es. IsStored c.self.inside.ledgered es × AreListed c.add.new.self (sessions_of es)) (sym c.reserve.ensures.entries) (c.self.invariant.0, same)
+    subst (λ es. IsTableOf c.self.inside.ledgered es × AreListed c.add.new.self (sessions_of es)) (sym c.reserve.ensures.entries) (c.self.invariant.0, same)
 
 pub invariant_of-self-2 : goal.invariant_of-self-2
 invariant_of-self-2 c =

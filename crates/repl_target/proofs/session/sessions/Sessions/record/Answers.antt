@@ -3,7 +3,7 @@ use Rattle.std.specs.Option.{option_copied_mut}
 use Rattle.range_front.specs.Front.{low_water}
 use Rattle.repl_target.specs.peer.Peer.{SessionValue}
 use Rattle.repl_target.specs.session.Sessions.{recorded_at, found_answer}
-use Rattle.repl_target.specs.session.StoredSessions.{sessions_of, AreListed, IsStored}
+use Rattle.repl_target.specs.session.StoredSessions.{sessions_of, AreListed, IsTableOf}
 use Rattle.repl_target.proofs.lemmas.session.SessionTable.{IsSame, session_in-at, sessions_of-changed, sessions_of-absent, Stored-same}
 use Rattle.repl_target.proofs.lemmas.session.SessionIndex.{listed-set}
 use Rattle.repl_target.proofs.session.sessions.Sessions.record.Goals as goal
@@ -32,7 +32,7 @@ returns-clause-sessions c =
     ∙ sessions_of-changed c.self.inside.ledgered c.self.inside.entries.entries c.self.invariant.0 c.args.id c.in-Some.session.now c.record.new.self there (recorded_at c.args.at) same.id c.record.ensures.session)
 
 pub invariant_of-self : goal.invariant_of-self
-invariant_of-self c = subst (λ m. IsStored c.self.inside.ledgered m.entries × AreListed c.self.inside.by_rep (sessions_of m.entries)) (sym c.get_mut.follows.holds-at-none) c.self.invariant
+invariant_of-self c = subst (λ m. IsTableOf c.self.inside.ledgered m.entries × AreListed c.self.inside.by_rep (sessions_of m.entries)) (sym c.get_mut.follows.holds-at-none) c.self.invariant
 
 pub returns-in_default-clause-answer : goal.returns-in_default-clause-answer
 returns-in_default-clause-answer c =

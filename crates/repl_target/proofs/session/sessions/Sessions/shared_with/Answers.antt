@@ -3,6 +3,7 @@ use Rattle.std.specs.Map.{lookup}
 use Rattle.std.specs.Option.{option_copied}
 use Rattle.rev_tree.specs.declared.origin.SessionId.{SessionId}
 use Rattle.couch_base.specs.ListLaws.{none_some, some_is}
+use Rattle.repl_log.specs.LogLaws.{common-at, common-behind}
 use Rattle.repl_log.specs.Entry.{EntryValue}
 use Rattle.repl_log.specs.Log.{common, recorded_of}
 use Rattle.repl_log.specs.Stored.{at_session}
@@ -10,7 +11,7 @@ use Rattle.repl_target.specs.peer.Peer.{SessionValue}
 use Rattle.repl_target.specs.session.StoredSessions.{sessions_of}
 use Rattle.repl_target.specs.logs.Logs.{log_of}
 use Rattle.repl_target.specs.session.RepIndex.{listed}
-use Rattle.repl_target.proofs.lemmas.session.SessionIndex.{next-at, stands-at, shared-here, shared-behind}
+use Rattle.repl_target.proofs.lemmas.session.SessionIndex.{next-at, stands-at}
 use Rattle.repl_target.proofs.session.sessions.Sessions.shared_with.Goals as goal
 
 abbrev nobody : SessionId
@@ -33,7 +34,7 @@ returns-in-Some c =
     let x = next-at c.self.inside.by_rep (sessions_of es) c.args.rep.now c.loop-left.left nobody c.self.invariant.1 c.loop-left-test.true i.within in
     let same : x.0.session ≡ get_or c.of-ids.result.now (c.loop-left.left - 1) nobody = x.2 ∙ ap (λ (l : List SessionId). get_or l (c.loop-left.left - 1) nobody) (sym c.of-ids.ensures) in
     let held : recorded_of c.args.source.now x.0.session ≡ Some c.in-Some.recorded = ap (recorded_of c.args.source.now) same ∙ sym c.recorded_of.ensures ∙ c.in-Some.is in
-    let all = shared-here c.args.source.now (log_of (sessions_of es) c.args.rep.now) (length ids - c.loop-left.left) c.in-Some.recorded x.0 i.so_far x.1 held in
+    let all = common-at c.args.source.now (log_of (sessions_of es) c.args.rep.now) (length ids - c.loop-left.left) c.in-Some.recorded x.0 i.so_far x.1 held in
     let stands = stands-at es c.args.rep.now _ x.0 c.self.invariant.0.keyed c.self.invariant.0.once x.1 in
     let session : c.in-Some-get.session.now ≡ stands.session =
     some_is c.in-Some-get.session.now stands.session (sym (ap option_copied c.in-Some-get.is) ∙ c.get.ensures.value ∙ ap (λ (j : SessionId). lookup (at_session j) es) (sym same) ∙ stands.found) in
@@ -52,6 +53,6 @@ loop-left-preserved c =
     let none : recorded_of c.args.source.now x.0.session ≡ None = ap (recorded_of c.args.source.now) same ∙ sym c.recorded_of.ensures ∙ c.in_default.is in
     let next : length ids - c.loop-left.left + 1 ≡ length ids - (c.loop-left.left - 1) = omega (arith, c.loop-left-test.true, i.within) in
     record {
-      so_far = shared-behind c.args.source.now log (length ids - c.loop-left.left) x.0 i.so_far x.1 none ∙ ap (λ n. common c.args.source.now (drop n log)) next;
+      so_far = common-behind c.args.source.now log (length ids - c.loop-left.left) x.0 i.so_far x.1 none ∙ ap (λ n. common c.args.source.now (drop n log)) next;
       within = omega (arith, i.within);
     }

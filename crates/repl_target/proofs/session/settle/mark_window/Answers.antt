@@ -8,7 +8,7 @@ use Rattle.repl_target.specs.session.SettlingParts.{known_of}
 use Rattle.repl_target.specs.session.Stored.{session_value}
 use Rattle.repl_target.proofs.lemmas.session.SettlingDocuments.{window_is}
 use Rattle.repl_target.proofs.lemmas.session.SessionLaws.{bounds_done}
-use Rattle.repl_target.proofs.session.settle.close.Goals as goal
+use Rattle.repl_target.proofs.session.settle.mark_window.Goals as goal
 
 pub invariant_of-session-2 : goal.invariant_of-session-2
 invariant_of-session-2 c = record {

@@ -9,16 +9,18 @@ use Rattle.couch_base.specs.Feed.{WindowValue, RowValue}
 use Rattle.repl_target.specs.peer.Peer.{SessionValue}
 use Rattle.repl_target.specs.session.Settling.{Settling, has_row, seq_in}
 use Rattle.repl_target.specs.session.SettlingParts.{Reached, settling_at}
-use Rattle.repl_target.proofs.lemmas.session.RowsInTurn.{all_at, all_before}
+use Rattle.couch_base.specs.MemberLaws.{all_member}
+use Rattle.repl_target.proofs.lemmas.Members.{Among-at}
+use Rattle.repl_target.proofs.lemmas.session.RowsInTurn.{all_before}
 use Rattle.repl_target.proofs.lemmas.session.SettlingDocuments.{window_is, last_at, last_is, reached_next}
-use Rattle.repl_target.proofs.session.settle.settle_documents.Goals as goal
+use Rattle.repl_target.proofs.session.settle.settle_from_end.Goals as goal
 
 pub seq_from-found-requires-clause-there : goal.seq_from-found-requires-clause-there
 seq_from-found-requires-clause-there g c =
     let stored = c.requires.rows in
     let same = window_is c.args.session.now.windows c.session.inside.windows.items c.args.place stored.0 c.index.result.now (sym (ap (λ (s : SessionValue). s.windows) c.session.view_is ∙ c.loop-doc.invariant.windows)) stored.1 c.index.ensures in
     let at = last_at c.deref.result.now c.loop-doc.docs.items c.in-Some.doc.now c.deref.ensures.value (sym c.in-Some.ensures.value) in
-    let there : has_row stored.0 c.in-Some.doc.now ≡ true = all_at (has_row stored.0) c.loop-doc.docs.items _ c.in-Some.doc.now (c.loop-doc.invariant.rows stored.0 stored.1) at in
+    let there : has_row stored.0 c.in-Some.doc.now ≡ true = all_member (has_row stored.0) c.in-Some.doc.now c.loop-doc.docs.items (c.loop-doc.invariant.rows stored.0 stored.1) (Among-at c.loop-doc.docs.items _ c.in-Some.doc.now at) in
     subst (λ (rows : List RowValue). list_any (λ row. bytes_eq row.id c.id.result.now) rows ≡ true) (ap (λ (w : WindowValue). w.rows) (sym same) ∙ sym c.rows.ensures.value)
     (subst (λ (i : List ℕ). list_any (λ row. bytes_eq row.id i) stored.0.rows ≡ true) (sym c.id.ensures.part) there)
 

@@ -5,7 +5,7 @@ use Rattle.couch_base.specs.Feed.{WindowValue}
 use Rattle.repl_target.specs.declared.session.ledger_index.LedgerIndex.{LedgerIndex}
 use Rattle.repl_target.specs.session.Settling.{has_row}
 use Rattle.repl_target.specs.session.SettlingParts.{Reached, IndexesMore, settling_at}
-use Rattle.repl_target.proofs.session.settle.settle_documents.Given as goal
+use Rattle.repl_target.proofs.session.settle.settle_from_end.Given as goal
 
 -- the documents that were taken off are settled
 abbrev pub invariant-loop-doc : goal.invariant-loop-doc
