@@ -80,7 +80,7 @@ impl<F: WriteFilter> Model for Peer<F> {
 
 impl<F: WriteFilter> Peer<F> {
     ghost use Rattle.couch_base.specs.Lists.{Among};
-    ghost use Rattle.couch_base.specs.Database.{no_documents_at};
+    ghost use Rattle.couch_base.specs.Database.{LawfulDatabase, no_documents_at};
     ghost use Rattle.couch_base.specs.Answers.{GivesUnlessMemory as BaseUnlessMemory};
     ghost use Rattle.couch_base.specs.Put.{put_answer, PutGives};
     ghost use Rattle.couch_base.specs.Edit.{edit_answer, EditGives};
@@ -133,6 +133,14 @@ impl<F: WriteFilter> Peer<F> {
         ensures trusted { IsTrusted (F.refuses self.now.0) self.now.1 }
     {
         &self.db
+    }
+
+    /// The peer's law, and that of its database, for a proof that needs them. It does nothing.
+    pub fn law(&self)
+        ensures peer { Lawful (F.refuses self.now.0) self.now.1 }
+        ensures database { LawfulDatabase self.now.1.db }
+    {
+        let _seq = self.db.update_seq();
     }
 
     /// The write filter.

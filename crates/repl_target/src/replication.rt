@@ -106,12 +106,11 @@ pub fn replicate_alone<F: WriteFilter, G: WriteFilter>(
     ensures clean { (chosen : Choice) → IsTiedPair source.old.1 target.old.1 chosen
         → audit_answer source.new.1 target.new.1 chosen ≡ None }
 {
-    // The readings tell the proof the laws of both peers, before and after.
-    let _seq = source.db().update_seq();
-    let _uuid = target.db().uuid();
+    source.law();
+    target.law();
     let answer = carry_all(alloc, source, target, plan);
-    let _uuid_after = target.db().uuid();
-    let _seq_after = source.db().update_seq();
+    source.law();
+    target.law();
     answer
 }
 
@@ -132,8 +131,8 @@ fn carry_all<F: WriteFilter, G: WriteFilter>(
     ensures copied { IfOk result
         (λ report. IsEmpty target.old.1 → report.counts.failures ≡ 0 → SameDocuments plan.now.chosen source.old.1.db target.new.1.db) }
 {
-    // The readings tell the proof that both peers are lawful.
-    let (_source, _target) = (source.db(), target.db());
+    source.law();
+    target.law();
     check_peers(source, target, plan)?;
     let start = begin_plan(source, target, plan)?;
     read_windows(alloc, source, target, plan, start)?;
@@ -228,8 +227,7 @@ fn read_windows<F: WriteFilter, G: WriteFilter>(
         since = carry_window(alloc, source, target, plan, since)?;
         windows += 1;
     }
-    // The reading tells the proof that the target is lawful.
-    let _target = target.db();
+    target.law();
     Ok(())
 }
 
@@ -263,8 +261,7 @@ fn carry_window<F: WriteFilter, G: WriteFilter>(
         (record { since = since; target = target.old.1 }) why target.new.1) }
     ensures law { Lawful (G.refuses target.new.0) target.new.1 }
 {
-    // The reading tells the proof that the target is lawful.
-    let _target = target.db();
+    target.law();
     let goal = source.db().update_seq();
     let window = source.page_due(alloc, since, goal, plan.batch, plan.chosen.as_ref())?;
     let asked = target.revs_diff(alloc, &window)?;

@@ -66,8 +66,7 @@ impl<F: WriteFilter + Drop> World<F> {
         ensures tied { IfOk result (λ w. HoldNone source.1 target.1 chosen → Tied w.1) }
         ensures world { IfOk result (λ w. IsWorld (F.refuses w.0.1) w.1) }
     {
-        // Readings of the source tell the proof that its database is lawful.
-        let _seq = source.db().update_seq();
+        source.law();
         if source.db().uuid() == target.db().uuid() {
             return Err(WorldFault::SamePeer);
         }
@@ -116,10 +115,17 @@ impl<F: WriteFilter> World<F> {
             ) }
         ensures world { IsWorld (F.refuses self.now.0.1) self.now.1 }
     {
-        // Readings of the peers tell the proof their laws.
-        let _seq = self.source.db().update_seq();
-        let _uuid = self.target.db().uuid();
+        self.law();
         self.bag.sizes()
+    }
+
+    /// What holds of the parts of each world, for the proofs that stand on it.
+    fn law(&self)
+        ensures { IsWorld (F.refuses self.now.0.1) self.now.1 }
+    {
+        self.source.law();
+        self.target.law();
+        self.bag.law();
     }
 
     /// Takes steps in their order.
@@ -137,8 +143,7 @@ impl<F: WriteFilter> World<F> {
         ensures trust { Tied self.old.1 → IsTrustworthy (F.refuses self.new.0.1) self.new.1 }
     {
         let answer = self.take_all(alloc, steps);
-        // The reading tells the proof what the world's parts keep.
-        let _sizes = self.bag_sizes();
+        self.law();
         answer
     }
 
@@ -162,8 +167,7 @@ impl<F: WriteFilter> World<F> {
         ensures err { OnErr result (CutShort (F.refuses self.old.0.1) self.old.1 step.now self.new.1) }
         ensures tied { Tied self.old.1 → Tied self.new.1 }
     {
-        // The reading tells the proof what the world's parts keep.
-        let _sizes = self.bag_sizes();
+        self.law();
         self.do_step(alloc, step)
     }
 
@@ -344,8 +348,7 @@ impl<F: WriteFilter> World<F> {
             return Ok(());
         };
         let window = window.copy(alloc)?;
-        // The reading tells the proof that no session's id comes twice.
-        let _uuid = self.target.db().uuid();
+        self.target.law();
         unless_memory(self.target.append(session, window))
     }
 

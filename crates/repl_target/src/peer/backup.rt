@@ -99,9 +99,9 @@ impl<F: WriteFilter> Peer<F> {
         ensures law { Lawful (F.refuses self.new.0) self.new.1 }
     {
         let life = self.next_life(backup)?;
-        // The readings tell the proof that the copy is one, and that the peer is lawful.
+        // The reading tells the proof that the copy is one.
         let _copy = backup.db();
-        let _db = self.db();
+        self.law();
         let alloc = *self.outgoing.allocator();
         let db = backup.db.copy_in(alloc, life)?;
         let locals = copy_writes(alloc, &backup.locals)?;

@@ -60,18 +60,20 @@ pub fn sync_alone<F: WriteFilter, G: WriteFilter>(
         → IsTiedWith backups b.old.1 a.old.1 chosen → IsTiedWith backups b.new.1 a.new.1 chosen }
     ensures meet { OnOk result (MeetBoth a.old.1 b.old.1 a.new.1 b.new.1 there.now back.now) }
 {
-    // The readings tell the proof the laws of both peers.
-    let (_seq, _uuid) = (a.db().update_seq(), b.db().uuid());
+    a.law();
+    b.law();
     let first = match replicate_alone(alloc, a, b, there) {
         Ok(report) => report,
         Err(fault) => return Err(SyncFault::There(fault)),
     };
-    let (_seq_between, _uuid_between) = (b.db().update_seq(), a.db().uuid());
+    b.law();
+    a.law();
     let second = match replicate_alone(alloc, b, a, back) {
         Ok(report) => report,
         Err(fault) => return Err(SyncFault::Back(fault)),
     };
-    let (_seq_after, _uuid_after) = (a.db().update_seq(), b.db().uuid());
+    a.law();
+    b.law();
     Ok(Synced {
         there: first,
         back: second,

@@ -12,7 +12,7 @@ pub returns-in-Err-clause-tied_back : goal.returns-in-Err-clause-tied_back
 returns-in-Err-clause-tied_back g c =
     let e = c.replicate_alone.ensures in
     let refuses = g.G.WriteFilter.refuses c.args.b.now.0 in
-    turned_tied refuses c.args.a.now.1 c.args.b.now.1 c.args.there.now c.replicate_alone.new.source.1 c.replicate_alone.new.target.1 (subst LawfulDatabase c.db.ensures.value c.update_seq-seq.ensures.law) c.db-2.ensures.law.sessions
+    turned_tied refuses c.args.a.now.1 c.args.b.now.1 c.args.there.now c.replicate_alone.new.source.1 c.replicate_alone.new.target.1 c.law.ensures.database c.law-2.ensures.peer.sessions
     (replicates_leaves refuses c.args.a.now.1 c.args.b.now.1 c.args.there.now _ _ _ e.replicates e.source e.tied)
 
 pub returns-in-Err-replicate_alone-clause-replicates : goal.returns-in-Err-replicate_alone-clause-replicates
@@ -25,7 +25,7 @@ returns-in-Err-replicate_alone-clause-tied_there g c =
     λ chosen backups h.
     let e = c.replicate_alone-2.ensures in
     let refuses = g.F.WriteFilter.refuses c.replicate_alone.new.source.0 in
-    turned_tied refuses c.replicate_alone.new.target.1 c.replicate_alone.new.source.1 c.args.back.now c.replicate_alone-2.new.source.1 c.replicate_alone-2.new.target.1 (subst LawfulDatabase c.db-3.ensures.value c.update_seq-seq_between.ensures.law) c.db-4.ensures.law.sessions
+    turned_tied refuses c.replicate_alone.new.target.1 c.replicate_alone.new.source.1 c.args.back.now c.replicate_alone-2.new.source.1 c.replicate_alone-2.new.target.1 c.law-3.ensures.database c.law-4.ensures.peer.sessions
     (replicates_leaves refuses c.replicate_alone.new.target.1 c.replicate_alone.new.source.1 c.args.back.now _ _ _ e.replicates e.source e.tied) chosen backups (c.replicate_alone.ensures.tied chosen backups h)
 
 pub returns-in-Err-replicate_alone-clause-tied_back : goal.returns-in-Err-replicate_alone-clause-tied_back
@@ -34,7 +34,7 @@ returns-in-Err-replicate_alone-clause-tied_back g c =
     let e = c.replicate_alone.ensures in
     let refuses = g.G.WriteFilter.refuses c.args.b.now.0 in
     c.replicate_alone-2.ensures.tied chosen backups
-    (turned_tied refuses c.args.a.now.1 c.args.b.now.1 c.args.there.now c.replicate_alone.new.source.1 c.replicate_alone.new.target.1 (subst LawfulDatabase c.db.ensures.value c.update_seq-seq.ensures.law) c.db-2.ensures.law.sessions
+    (turned_tied refuses c.args.a.now.1 c.args.b.now.1 c.args.there.now c.replicate_alone.new.source.1 c.replicate_alone.new.target.1 c.law.ensures.database c.law-2.ensures.peer.sessions
     (replicates_leaves refuses c.args.a.now.1 c.args.b.now.1 c.args.there.now _ _ _ e.replicates e.source e.tied) chosen backups h)
 
 pub returns-clause-replicates : goal.returns-clause-replicates
@@ -47,7 +47,7 @@ returns-clause-tied_there g c =
     λ chosen backups h.
     let e = c.replicate_alone-2.ensures in
     let refuses = g.F.WriteFilter.refuses c.replicate_alone.new.source.0 in
-    turned_tied refuses c.replicate_alone.new.target.1 c.replicate_alone.new.source.1 c.args.back.now c.replicate_alone-2.new.source.1 c.replicate_alone-2.new.target.1 (subst LawfulDatabase c.db-3.ensures.value c.update_seq-seq_between.ensures.law) c.db-4.ensures.law.sessions
+    turned_tied refuses c.replicate_alone.new.target.1 c.replicate_alone.new.source.1 c.args.back.now c.replicate_alone-2.new.source.1 c.replicate_alone-2.new.target.1 c.law-3.ensures.database c.law-4.ensures.peer.sessions
     (replicates_leaves refuses c.replicate_alone.new.target.1 c.replicate_alone.new.source.1 c.args.back.now _ _ _ e.replicates e.source e.tied) chosen backups (c.replicate_alone.ensures.tied chosen backups h)
 
 pub returns-clause-tied_back : goal.returns-clause-tied_back
@@ -56,7 +56,7 @@ returns-clause-tied_back g c =
     let e = c.replicate_alone.ensures in
     let refuses = g.G.WriteFilter.refuses c.args.b.now.0 in
     c.replicate_alone-2.ensures.tied chosen backups
-    (turned_tied refuses c.args.a.now.1 c.args.b.now.1 c.args.there.now c.replicate_alone.new.source.1 c.replicate_alone.new.target.1 (subst LawfulDatabase c.db.ensures.value c.update_seq-seq.ensures.law) c.db-2.ensures.law.sessions
+    (turned_tied refuses c.args.a.now.1 c.args.b.now.1 c.args.there.now c.replicate_alone.new.source.1 c.replicate_alone.new.target.1 c.law.ensures.database c.law-2.ensures.peer.sessions
     (replicates_leaves refuses c.args.a.now.1 c.args.b.now.1 c.args.there.now _ _ _ e.replicates e.source e.tied) chosen backups h)
 
 pub returns-clause-meet : goal.returns-clause-meet
@@ -71,6 +71,6 @@ returns-clause-meet g c =
     let b' = c.replicate_alone.new.target.1 in
     let b'' = c.replicate_alone-2.new.source.1 in
     let a'' = c.replicate_alone-2.new.target.1 in
-    both_meet refuses_a refuses_b a b a' b' a'' b'' c.args.there.now c.args.back.now (subst LawfulDatabase c.db.ensures.value c.update_seq-seq.ensures.law)
-    (subst LawfulDatabase c.db-3.ensures.value c.update_seq-seq_between.ensures.law) (subst LawfulDatabase c.db-5.ensures.value c.update_seq-seq_after.ensures.law) c.db-2.ensures.law.sessions
+    both_meet refuses_a refuses_b a b a' b' a'' b'' c.args.there.now c.args.back.now c.law.ensures.database
+    c.law-3.ensures.database c.law-5.ensures.database c.law-2.ensures.peer.sessions
     (replicates_leaves refuses_b a b c.args.there.now _ _ _ first.replicates first.source first.tied) (replicates_leaves refuses_a b' a' c.args.back.now _ _ _ second.replicates second.source second.tied) c.in-Ok.ensures.whole c.in-Ok-replicate_alone.ensures.whole

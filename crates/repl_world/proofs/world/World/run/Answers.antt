@@ -2,4 +2,4 @@ use Rattle.repl_world.proofs.Runs.{trustworthy}
 use Rattle.repl_world.proofs.world.World.run.Goals as goal
 
 pub returns-clause-trust : goal.returns-clause-trust
-returns-clause-trust g c = λ h. trustworthy _ _ c.bag_sizes-sizes.ensures.world (c.take_all-answer.ensures.tied h)
+returns-clause-trust g c = λ h. trustworthy _ _ c.law.ensures (c.take_all-answer.ensures.tied h)
