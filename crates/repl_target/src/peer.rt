@@ -299,7 +299,8 @@ impl<F: WriteFilter> Peer<F> {
         ensures filter { self.new.0 ≡ self.old.0 }
         ensures law { Lawful (F.refuses self.new.0) self.new.1 }
     {
-        self.sessions.settle_session(&self.filter, &mut self.db, id, parcel)
+        self.sessions
+            .settle_session(&self.filter, &mut self.db, id, parcel)
     }
 
     /// Records what a session has done without a gap, and answers it: the source's sequence up to which all is done.

@@ -82,7 +82,9 @@ fn has_room(session: &Session, read: u64, checked: u64, found: u64) -> bool
         ≡ (nat_le (session.now.counts.read + read) most
         && (nat_le (session.now.counts.checked + checked) most && nat_le (session.now.counts.found + found) most)) }
 {
-    fits(session.counts.read, read) && fits(session.counts.checked, checked) && fits(session.counts.found, found)
+    fits(session.counts.read, read)
+        && fits(session.counts.checked, checked)
+        && fits(session.counts.found, found)
 }
 
 /// Whether a count with some more stays in its range.
