@@ -10,7 +10,7 @@ ghost use Rattle.repl_pool.specs.Boards.{WorksAt};
 use anyhow::{Result, bail};
 use doc_json::{DocId, read_body};
 use repl_log::Moment;
-use repl_pool::{Board, BoardSeat, Open, Ran, Seats, board_with_seats, run_on};
+use repl_pool::{Board, BoardSeat, Open, Progress, Ran, Seats, board_with_seats, run_on};
 use repl_target::{Peer, Plan, Rules};
 use rev_tree::SessionId;
 use serde_json::Value;
@@ -50,7 +50,11 @@ fn main(rt: HostRuntime) -> Result<()> {
         at: Moment::new(1_700_000_000)?,
         chosen: None,
     };
-    let (ran, seen) = run_watched(&rt, rt.alloc(), shop, copy, &plan, &board, workers, viewer);
+    let progress = Progress {
+        board: &board,
+        seats: workers,
+    };
+    let (ran, seen) = run_watched(&rt, rt.alloc(), shop, copy, &plan, progress, viewer);
     let report = ran.outcome?;
     let (written, recorded) = (report.counts.written, report.recorded);
     println!(rt; "{written} documents written, up to sequence {recorded}")?;
@@ -78,19 +82,21 @@ fn run_watched<R: Threads + Wait + Eprint + Sync>(
     shop: Peer<Rules>,
     copy: Peer<Rules>,
     plan: &Plan,
-    board: &Board,
-    workers: Vec<BoardSeat>,
+    progress: Progress<'_>,
     viewer: BoardSeat,
 ) -> (Ran<Rules>, Option<(u64, u64)>)
-    requires workers { (vec_len workers ≡ plan.now.workers) × All (WorksAt board.now) workers.items }
-    requires viewer { CameWith board.now viewer }
+    requires workers { (vec_len progress.seats ≡ plan.now.workers)
+        × All (WorksAt progress.board.now) progress.seats.items }
+    requires viewer { CameWith progress.board.now viewer }
 {
+    let board = progress.board;
     let ended = AtomicBool::new(false);
     thread::scope(
         thread::scope_env(),
         rt,
         |scope| -> (Ran<Rules>, Option<(u64, u64)>)
-            requires workers { (vec_len workers ≡ plan.now.workers) × All (WorksAt board.now) workers.items }
+            requires workers { (vec_len progress.seats ≡ plan.now.workers)
+                × All (WorksAt progress.board.now) progress.seats.items }
             requires viewer { CameWith board.now viewer }
         {
             let watcher = scope.spawn(
@@ -98,7 +104,7 @@ fn run_watched<R: Threads + Wait + Eprint + Sync>(
                     requires { CameWith board.now viewer }
                 { watch(rt, board, &ended, viewer) },
             );
-            let ran = run_on(rt, alloc, shop, copy, plan, &Open, board, workers);
+            let ran = run_on(rt, alloc, shop, copy, plan, &Open, progress);
             ended.store(true, Ordering::SeqCst);
             match watcher {
                 Ok(watcher) => (ran, Some(watcher.join(rt))),

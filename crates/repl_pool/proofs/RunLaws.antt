@@ -24,7 +24,7 @@ use Rattle.repl_target.proofs.lemmas.peer.LaterPeers.{IsLaterPeer-same}
 use Rattle.repl_target.proofs.lemmas.ties.TiedPeersCover.{tied_none}
 use Rattle.repl_target.proofs.lemmas.replication.ReplicationAsCalls.{grown-same, left_law, both_tied, puts_over, reported_whole, tied_clean}
 use Rattle.repl_target.proofs.lemmas.session.SettlingTakes.{all_known}
-use Rattle.repl_pool.specs.Grown.{GrownPeer, DeskKeeps}
+use Rattle.repl_pool.specs.Grown.{GrownPeer, TargetKeeps}
 use Rattle.repl_pool.specs.Runs.{IsConcluded, unfinished_at, IsRecorded, stopped, fewer, refused, PutsEntry, Walks, clean, hole, no_memory, Ends, concluded, recorded, EndsRun, EndsWell, EarlyOrLate, TellsLowWater, RunsOn}
 use Rattle.repl_pool.specs.Faults.{early_answer, IsLateOn, IsHaltOn}
 use Rattle.progress_board.specs.declared.board.Board.{Board}
@@ -41,9 +41,9 @@ use Rattle.repl_pool.proofs.LowWater.{recorded_tells}
 -- ---- what was given
 
 module _ {F : Type 0} (refuses : F → Document → Bool) (db source : DatabaseValue) (origin : source ≡ db) (choice chosen : Choice) (choosing : chosen ≡ choice) (given : F × PeerValue) (run : SessionId) (o : Option ((F × PeerValue) × SessionId)) (is : o ≡ Some (given, run)) where
-  pub given_grown : (session : SessionId) (total : ℕ) (t : F × PeerValue) → DeskKeeps refuses source chosen o session total t → GrownPeer refuses db choice run given t × (read_in t.1.sessions run ≡ total)
+  pub given_grown : (session : SessionId) (total : ℕ) (t : F × PeerValue) → TargetKeeps refuses source chosen o session total t → GrownPeer refuses db choice run given t × (read_in t.1.sessions run ≡ total)
   given_grown session total t h =
-      from_given refuses db choice given run session total t (subst (λ c. DeskKeeps refuses db c (Some (given, run)) session total t) choosing (subst (λ s. DeskKeeps refuses s chosen (Some (given, run)) session total t) origin (subst (λ x. DeskKeeps refuses source chosen x session total t) is h)))
+      from_given refuses db choice given run session total t (subst (λ c. TargetKeeps refuses db c (Some (given, run)) session total t) choosing (subst (λ s. TargetKeeps refuses s chosen (Some (given, run)) session total t) origin (subst (λ x. TargetKeeps refuses source chosen x session total t) is h)))
 
 -- ---- how a run ends
 

@@ -9,16 +9,16 @@ use Rattle.repl_pool.specs.declared.fault.Halt.{Halt}
 use Rattle.repl_pool.specs.declared.fault.Halt.TheVariants.{CountFull}
 use Rattle.repl_pool.specs.declared.gather.FetchedAll.{FetchedAll}
 use Rattle.repl_pool.specs.declared.gather.WrittenAll.{WrittenAll}
-use Rattle.repl_pool.specs.declared.parcels.Hand.{Hand}
-use Rattle.repl_pool.specs.declared.windows.Seen.{Seen}
+use Rattle.repl_pool.specs.declared.parcels.ParcelView.{ParcelView}
+use Rattle.repl_pool.specs.declared.windows.WindowView.{WindowView}
 
 -- where no fetcher was stopped, the counts are those of what was sent, which is what was taken
-abbrev pub FetchedKnows : Seen → Hand → FetchedAll → Type 0
+abbrev pub FetchedKnows : WindowView → ParcelView → FetchedAll → Type 0
 FetchedKnows w p t =
     t.stopped ≡ None → (sum t.counts.items ≡ amounts p.sent) × (t.sent ≡ length p.sent) × (w.taken ≡ names p.sent)
 
 -- where no writer was stopped, the counts are those of what was got
-abbrev pub WrittenKnows : Hand → ℕ → WrittenAll → Type 0
+abbrev pub WrittenKnows : ParcelView → ℕ → WrittenAll → Type 0
 WrittenKnows p amount t = t.stopped ≡ None → (amount ≡ amounts p.got) × (t.got ≡ length p.got)
 
 -- one of the two, or a full count

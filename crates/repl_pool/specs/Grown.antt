@@ -26,8 +26,8 @@ module _ {F : Type 0} (refuses : F → Document → Bool) where
 
   -- it is known which peer was given, and which session is the run's: the peer has grown from it, and the session has
   -- read so much
-  abbrev pub DeskKeeps : DatabaseValue → Choice → Option ((F × PeerValue) × SessionId) → SessionId → ℕ → F × PeerValue
+  abbrev pub TargetKeeps : DatabaseValue → Choice → Option ((F × PeerValue) × SessionId) → SessionId → ℕ → F × PeerValue
       → Type 0
-  DeskKeeps source chosen given session total now =
+  TargetKeeps source chosen given session total now =
       (g : F × PeerValue) × (given ≡ Some (g, session)) × GrownPeer source chosen session g now
       × (read_in now.1.sessions session ≡ total)

@@ -7,5 +7,6 @@ pub mod Boards
 pub mod Grown
 pub mod Workers
 pub mod Gathered
+pub mod Scopes
 pub mod Runs
 pub mod Sync

@@ -5,8 +5,8 @@ use Rattle.progress_board.specs.declared.board.Board.{Board}
 use Rattle.progress_board.specs.declared.seat.BoardSeat.{BoardSeat}
 use Rattle.repl_pool.specs.Boards.{AreBack, HaveShown}
 use Rattle.repl_pool.specs.Sums.{weigh}
-use Rattle.repl_pool.specs.Parcels.{hand}
-use Rattle.repl_pool.specs.Windows.{seen}
+use Rattle.repl_pool.specs.Parcels.{parcel_view}
+use Rattle.repl_pool.specs.Windows.{window_view}
 use Rattle.repl_pool.specs.declared.fetcher.Fetcher.{Fetcher}
 use Rattle.repl_pool.specs.declared.writer.Writer.{Writer}
 
@@ -22,8 +22,8 @@ names xs = map (λ (x : ℕ × ℕ). x.0) xs
 -- windows in hand
 abbrev pub FetcherKnows : {S : Type 0} → List ℕ → Fetcher S → Type 0
 FetcherKnows in_hand f =
-    (view f.windows ≡ seen 1 0 0 (view f.windows).taken)
-    × (view f.parcels ≡ hand 1 (view f.parcels).sent [])
+    (view f.windows ≡ window_view 1 0 0 (view f.windows).taken)
+    × (view f.parcels ≡ parcel_view 1 (view f.parcels).sent [])
     × (f.sent ≡ length (view f.parcels).sent)
     × (f.stopped ≡ None → (f.fetched ≡ amounts (view f.parcels).sent)
     × ((view f.windows).taken ≡ names (view f.parcels).sent ++ in_hand))
@@ -31,8 +31,8 @@ FetcherKnows in_hand f =
 -- what it knows between counting a parcel and sending it
 abbrev pub HasCounted : {S : Type 0} → ℕ × ℕ → Fetcher S → Type 0
 HasCounted x f =
-    (view f.windows ≡ seen 1 0 0 (view f.windows).taken)
-    × (view f.parcels ≡ hand 1 (view f.parcels).sent [])
+    (view f.windows ≡ window_view 1 0 0 (view f.windows).taken)
+    × (view f.parcels ≡ parcel_view 1 (view f.parcels).sent [])
     × (f.sent ≡ length (view f.parcels).sent)
     × (f.stopped ≡ None)
     × (f.fetched ≡ amounts (view f.parcels).sent + x.1)
@@ -42,7 +42,7 @@ HasCounted x f =
 -- in hand
 abbrev pub WriterKnows : {S L : Type 0} → List (ℕ × ℕ) → Writer S L → Type 0
 WriterKnows in_hand w =
-    (view w.parcels ≡ hand 1 [] (view w.parcels).got)
+    (view w.parcels ≡ parcel_view 1 [] (view w.parcels).got)
     × (w.share.parts ≡ 1)
     × (w.stopped ≡ None → (w.got + length in_hand ≡ length (view w.parcels).got)
     × (w.share.amount + amounts in_hand ≡ amounts (view w.parcels).got))

@@ -2,31 +2,28 @@
 ghost use Rattle.std.specs.Prelude.{◌≡◌, ◌+◌, ◌-◌, ◌^◌, ◌<◌, [], ◌∷◌, ◌++◌, length, IfSome, None, IfErr, MatchBool};
 ghost use Rattle.crossbeam_channel.specs.Claims.{view, IsSeatAt};
 ghost use Rattle.crossbeam_channel.specs.Ends.{sends_on, receives_on};
-ghost use Rattle.repl_pool.specs.Parcels.{hand};
-ghost use Rattle.repl_pool.specs.Windows.{seen};
+ghost use Rattle.repl_pool.specs.Parcels.{parcel_view};
+ghost use Rattle.repl_pool.specs.Windows.{window_view};
 ghost use Rattle.repl_pool.specs.Workers.{FetcherKnows, HasCounted};
 ghost use Rattle.repl_pool.specs.Faults.{Allows};
 
-use crate::desk::Desk;
+use crate::brands::{SourceBrand, TargetBrand};
+use crate::context::Context;
 use crate::fault::Halt;
 use crate::gate::{Gate, Place, Turn};
 use crate::messages::{Fetched, Paged};
-use crate::parcels::{Carried, ParcelPass, ParcelSender, Sends};
-use crate::picks::{Given, Origin};
-use crate::windows::{Takes, Ticket, WindowPass, WindowReceiver};
-use couch_base::Asked;
-use repl_target::{Peer, WriteFilter};
-use std::alloc::{AllocError, Global};
+use crate::parcels::{ParcelMessage, ParcelPass, ParcelSender, Sends};
+use crate::windows::{Takes, WindowMessage, WindowPass};
+use couch_base::{Asked, MOST_SEQUENCE};
+use repl_target::WriteFilter;
+use std::alloc::AllocError;
+use std::sync::Wait;
 use std::sync::ledger::Ledger;
-use std::sync::{Mutex, Wait};
-
-/// The greatest count.
-pub const MOST: u64 = 9_007_199_254_740_991;
 
 /// A fetcher: what it knows of both channels, its counts of the parcels that it sent and of the documents that it
 /// fetched, and why it was stopped.
 #[derive(Drop)]
-pub struct Fetcher<S: Origin> {
+pub struct Fetcher<S: SourceBrand> {
     pub windows: WindowPass<S>,
     pub parcels: ParcelPass<S>,
     pub sent: u64,
@@ -45,38 +42,8 @@ pub fn pass<G: Gate, R: Wait>(rt: &R, gate: &G, place: Place) -> Result<(), Halt
     }
 }
 
-/// What the source has of what the target misses of a page, unless the gate stops the fetcher or memory runs out.
-fn bring<F: WriteFilter, S: Origin, J: Given<F>, L: Ledger, G: Gate, R: Wait>(
-    rt: &R,
-    alloc: Global,
-    source: &Peer<F>,
-    desk: &Mutex<Desk<F, S, J, L>>,
-    gate: &G,
-    number: u64,
-    page: &Paged<S>,
-) -> Result<Fetched<S>, Halt>
-    requires source { S.source ≡ source.now.1.db }
-    ensures { IfErr result (Allows (G.may_stop gate.now)) }
-{
-    pass(rt, gate, Place::Took(number))?;
-    let asked = ask(rt, alloc, desk, page)?;
-    pass(rt, gate, Place::Asked(number))?;
-    let fetched = Fetched::<S>::fetch(alloc, source, asked)?;
-    Ok(fetched)
-}
-
-/// Asks what the target misses of a page, and lets the lock go.
-fn ask<F: WriteFilter, S: Origin, J: Given<F>, L: Ledger, R: Wait>(
-    rt: &R,
-    alloc: Global,
-    desk: &Mutex<Desk<F, S, J, L>>,
-    page: &Paged<S>,
-) -> Result<Asked, AllocError> {
-    desk.lock(rt).diff(alloc, page)
-}
-
 /// Sends a parcel, and says whether it did.
-fn put<S: Origin, R: Wait>(
+fn put<S: SourceBrand, R: Wait>(
     rt: &R,
     parcels: &ParcelSender<S>,
     pass: &mut ParcelPass<S>,
@@ -88,15 +55,16 @@ fn put<S: Origin, R: Wait>(
     ensures seat { IsSeatAt (sends_on parcels.now) pass.new }
     ensures rule { MatchBool result
         (view pass.new
-        ≡ hand (view pass.old).parts ((view pass.old).sent ++ (number, length fetched.docs) ∷ []) (view pass.old).got)
+        ≡ parcel_view (view pass.old).parts ((view pass.old).sent ++ (number, length fetched.docs) ∷ [])
+        (view pass.old).got)
         (view pass.new ≡ view pass.old) }
 {
     parcels
-        .send_as::<Sends, R>(rt, pass, Carried::Full { number, fetched })
+        .send_as::<Sends, R>(rt, pass, ParcelMessage::Parcel { number, fetched })
         .is_ok()
 }
 
-impl<S: Origin> Fetcher<S> {
+impl<S: SourceBrand> Fetcher<S> {
     /// Sends what was fetched and counted.
     fn hand_over<R: Wait>(
         &mut self,
@@ -119,9 +87,7 @@ impl<S: Origin> Fetcher<S> {
             self.stopped = Some(Halt::Lost);
         }
     }
-}
 
-impl<S: Origin> Fetcher<S> {
     /// Counts what was fetched, and sends it.
     fn send<G: Gate, R: Wait>(
         &mut self,
@@ -139,7 +105,10 @@ impl<S: Origin> Fetcher<S> {
         ensures halted { IfSome self.new.stopped (Allows (G.may_stop gate.now)) }
     {
         let documents = fetched.documents();
-        if self.fetched > MOST || documents > MOST - self.fetched || self.sent == u64::MAX {
+        if self.fetched > MOST_SEQUENCE
+            || documents > MOST_SEQUENCE - self.fetched
+            || self.sent == u64::MAX
+        {
             self.stopped = Some(Halt::CountFull);
             return;
         }
@@ -150,72 +119,7 @@ impl<S: Origin> Fetcher<S> {
         }
         self.hand_over(rt, parcels, number, fetched);
     }
-}
 
-impl<S: Origin> Fetcher<S> {
-    /// Fetches one window and sends its parcel.
-    fn fetch<F: WriteFilter, J: Given<F>, L: Ledger, G: Gate, R: Wait>(
-        &mut self,
-        rt: &R,
-        alloc: Global,
-        parcels: &ParcelSender<S>,
-        source: &Peer<F>,
-        desk: &Mutex<Desk<F, S, J, L>>,
-        gate: &G,
-        number: u64,
-        page: &Paged<S>,
-    )
-        requires source { S.source ≡ source.now.1.db }
-        requires seat { IsSeatAt (sends_on parcels.now) self.old.parcels }
-        requires knows { FetcherKnows (number ∷ []) self.old × (self.old.stopped ≡ None) }
-        ensures seat { IsSeatAt (sends_on parcels.now) self.new.parcels }
-        ensures windows { self.new.windows ≡ self.old.windows }
-        ensures knows { FetcherKnows [] self.new }
-        ensures halted { IfSome self.new.stopped (Allows (G.may_stop gate.now)) }
-    {
-        match bring(rt, alloc, source, desk, gate, number, page) {
-            Ok(fetched) => self.send(rt, parcels, gate, number, fetched),
-            Err(halt) => self.stopped = Some(halt),
-        }
-    }
-}
-
-impl<S: Origin> Fetcher<S> {
-    /// Takes one message. False at the end of the windows.
-    fn turn<F: WriteFilter, J: Given<F>, L: Ledger, G: Gate, R: Wait>(
-        &mut self,
-        rt: &R,
-        alloc: Global,
-        windows: &WindowReceiver<S>,
-        parcels: &ParcelSender<S>,
-        source: &Peer<F>,
-        desk: &Mutex<Desk<F, S, J, L>>,
-        gate: &G,
-    ) -> bool
-        requires source { S.source ≡ source.now.1.db }
-        requires window_seat { IsSeatAt (receives_on windows.now) self.old.windows }
-        requires parcel_seat { IsSeatAt (sends_on parcels.now) self.old.parcels }
-        requires knows { FetcherKnows [] self.old }
-        requires halted { IfSome self.old.stopped (Allows (G.may_stop gate.now)) }
-        ensures window_seat { IsSeatAt (receives_on windows.now) self.new.windows }
-        ensures parcel_seat { IsSeatAt (sends_on parcels.now) self.new.parcels }
-        ensures knows { FetcherKnows [] self.new }
-        ensures halted { IfSome self.new.stopped (Allows (G.may_stop gate.now)) }
-    {
-        match windows.recv_as::<Takes, R>(rt, &mut self.windows) {
-            Ok(Ticket::Window { number, page }) => {
-                if self.stopped.is_none() {
-                    self.fetch(rt, alloc, parcels, source, desk, gate, number, &page);
-                }
-                true
-            }
-            Ok(Ticket::End) => false,
-            Err(_) => false,
-        }
-    }
-}
-
-impl<S: Origin> Fetcher<S> {
     /// Tells one writer the end of the parcels.
     fn tell_end<R: Wait>(&mut self, rt: &R, parcels: &ParcelSender<S>)
         requires seat { IsSeatAt (sends_on parcels.now) self.old.parcels }
@@ -225,42 +129,113 @@ impl<S: Origin> Fetcher<S> {
         ensures knows { FetcherKnows [] self.new }
         ensures stopped { self.new.stopped ≡ self.old.stopped }
     {
-        let _ = parcels.send_as::<Sends, R>(rt, &mut self.parcels, Carried::End);
+        let _ = parcels.send_as::<Sends, R>(rt, &mut self.parcels, ParcelMessage::End);
     }
 }
 
-/// Takes windows until their end, fetches them, and sends their parcels. Then it tells the end.
-pub fn fetch_all<F: WriteFilter, S: Origin, J: Given<F>, L: Ledger, G: Gate, R: Wait>(
-    rt: &R,
-    alloc: Global,
-    windows: &WindowReceiver<S>,
-    parcels: &ParcelSender<S>,
-    source: &Peer<F>,
-    desk: &Mutex<Desk<F, S, J, L>>,
-    gate: &G,
-    window_pass: WindowPass<S>,
-    parcel_pass: ParcelPass<S>,
-) -> Fetcher<S>
-    requires source { S.source ≡ source.now.1.db }
-    requires window_pass { IsSeatAt (receives_on windows.now) window_pass × (view window_pass ≡ seen 1 0 0 []) }
-    requires parcel_pass { IsSeatAt (sends_on parcels.now) parcel_pass × (view parcel_pass ≡ hand 1 [] []) }
-    ensures window_seat { IsSeatAt (receives_on windows.now) result.windows }
-    ensures parcel_seat { IsSeatAt (sends_on parcels.now) result.parcels }
-    ensures knows { FetcherKnows [] result }
-    ensures halted { IfSome result.stopped (Allows (G.may_stop gate.now)) }
-{
-    let mut fetcher = Fetcher {
-        windows: window_pass,
-        parcels: parcel_pass,
-        sent: 0,
-        fetched: 0,
-        stopped: None,
-    };
-    for _ in rt.forever() {
-        if !fetcher.turn(rt, alloc, windows, parcels, source, desk, gate) {
-            break;
+impl<F: WriteFilter, S: SourceBrand, T: TargetBrand<F>, L: Ledger, G: Gate, R: Wait> Context<
+    '_,
+    F,
+    S,
+    T,
+    L,
+    G,
+    R,
+> {
+    /// Asks what the target misses of a page, and lets the lock go.
+    fn ask(&self, page: &Paged<S>) -> Result<Asked, AllocError> {
+        self.target.lock(self.rt).diff(self.alloc, page)
+    }
+
+    /// What the source has of what the target misses of a page, unless the gate stops the fetcher or memory runs out.
+    fn bring(&self, number: u64, page: &Paged<S>) -> Result<Fetched<S>, Halt>
+        requires source { S.source ≡ self.now.source.now.1.db }
+        ensures { IfErr result (Allows (G.may_stop self.now.gate.now)) }
+    {
+        pass(self.rt, self.gate, Place::Took(number))?;
+        let asked = self.ask(page)?;
+        pass(self.rt, self.gate, Place::Asked(number))?;
+        let fetched = Fetched::<S>::fetch(self.alloc, self.source, asked)?;
+        Ok(fetched)
+    }
+
+    /// Fetches one window and sends its parcel.
+    fn fetch(&self, fetcher: &mut Fetcher<S>, number: u64, page: &Paged<S>)
+        requires source { S.source ≡ self.now.source.now.1.db }
+        requires seat { IsSeatAt (sends_on self.now.channels.now.to_writers) fetcher.old.parcels }
+        requires knows { FetcherKnows (number ∷ []) fetcher.old × (fetcher.old.stopped ≡ None) }
+        ensures seat { IsSeatAt (sends_on self.now.channels.now.to_writers) fetcher.new.parcels }
+        ensures windows { fetcher.new.windows ≡ fetcher.old.windows }
+        ensures knows { FetcherKnows [] fetcher.new }
+        ensures halted { IfSome fetcher.new.stopped (Allows (G.may_stop self.now.gate.now)) }
+    {
+        match self.bring(number, page) {
+            Ok(fetched) => {
+                fetcher.send(
+                    self.rt,
+                    &self.channels.to_writers,
+                    self.gate,
+                    number,
+                    fetched,
+                )
+            }
+            Err(halt) => fetcher.stopped = Some(halt),
         }
     }
-    fetcher.tell_end(rt, parcels);
-    fetcher
+
+    /// Takes one message. False at the end of the windows.
+    fn take_window(&self, fetcher: &mut Fetcher<S>) -> bool
+        requires source { S.source ≡ self.now.source.now.1.db }
+        requires window_seat { IsSeatAt (receives_on self.now.channels.now.from_reader) fetcher.old.windows }
+        requires parcel_seat { IsSeatAt (sends_on self.now.channels.now.to_writers) fetcher.old.parcels }
+        requires knows { FetcherKnows [] fetcher.old }
+        requires halted { IfSome fetcher.old.stopped (Allows (G.may_stop self.now.gate.now)) }
+        ensures window_seat { IsSeatAt (receives_on self.now.channels.now.from_reader) fetcher.new.windows }
+        ensures parcel_seat { IsSeatAt (sends_on self.now.channels.now.to_writers) fetcher.new.parcels }
+        ensures knows { FetcherKnows [] fetcher.new }
+        ensures halted { IfSome fetcher.new.stopped (Allows (G.may_stop self.now.gate.now)) }
+    {
+        match self
+            .channels
+            .from_reader
+            .recv_as::<Takes, R>(self.rt, &mut fetcher.windows)
+        {
+            Ok(WindowMessage::Window { number, page }) => {
+                if fetcher.stopped.is_none() {
+                    self.fetch(fetcher, number, &page);
+                }
+                true
+            }
+            Ok(WindowMessage::End) => false,
+            Err(_) => false,
+        }
+    }
+
+    /// Takes windows until their end, fetches them, and sends their parcels. Then it tells the end.
+    pub fn fetch_all(&self, windows: WindowPass<S>, parcels: ParcelPass<S>) -> Fetcher<S>
+        requires source { S.source ≡ self.now.source.now.1.db }
+        requires windows { IsSeatAt (receives_on self.now.channels.now.from_reader) windows
+            × (view windows ≡ window_view 1 0 0 []) }
+        requires parcels { IsSeatAt (sends_on self.now.channels.now.to_writers) parcels
+            × (view parcels ≡ parcel_view 1 [] []) }
+        ensures window_seat { IsSeatAt (receives_on self.now.channels.now.from_reader) result.windows }
+        ensures parcel_seat { IsSeatAt (sends_on self.now.channels.now.to_writers) result.parcels }
+        ensures knows { FetcherKnows [] result }
+        ensures halted { IfSome result.stopped (Allows (G.may_stop self.now.gate.now)) }
+    {
+        let mut fetcher = Fetcher {
+            windows,
+            parcels,
+            sent: 0,
+            fetched: 0,
+            stopped: None,
+        };
+        for _ in self.rt.forever() {
+            if !self.take_window(&mut fetcher) {
+                break;
+            }
+        }
+        fetcher.tell_end(self.rt, &self.channels.to_writers);
+        fetcher
+    }
 }

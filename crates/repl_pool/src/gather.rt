@@ -8,17 +8,19 @@ ghost use Rattle.repl_pool.specs.Boards.{MayFill, AreBack, HaveShown, AreSeated,
 ghost use Rattle.repl_pool.specs.Faults.{AllowsOn, Allows};
 ghost use Rattle.repl_pool.specs.Gathered.{FetchedKnows, WrittenKnows, IsOneOf};
 
+use crate::brands::{SourceBrand, TargetBrand};
+use crate::channels::Channels;
+use crate::context::Context;
 use crate::fault::Halt;
 use crate::fetcher::Fetcher;
 use crate::gate::Gate;
-use crate::lines::Lines;
-use crate::parcels::{Cut, ParcelPass};
-use crate::picks::Origin;
+use crate::parcels::{ParcelCut, ParcelPass};
 use crate::show::give_back;
 use crate::start::{FetcherHandle, WriterHandle};
-use crate::windows::{Crew, WindowPass};
+use crate::windows::{WindowCut, WindowPass};
 use crate::writer::Writer;
-use progress_board::{Board, BoardSeat};
+use progress_board::BoardSeat;
+use repl_target::WriteFilter;
 use std::sync::ledger::{Ledger, Share};
 use std::thread::Threads;
 
@@ -59,22 +61,22 @@ fn count_up(
 
 impl FetchedAll {
     /// Takes one fetcher in.
-    fn take_in<S: Origin>(
+    fn take_in<S: SourceBrand>(
         &mut self,
-        lines: &Lines<S>,
+        channels: &Channels<S>,
         windows: &mut WindowPass<S>,
         parcels: &mut ParcelPass<S>,
         one: Fetcher<S>,
     )
         requires room { vec_len self.old.counts < vec_capacity self.old.counts }
-        requires windows { IsSeatAt (sends_on lines.now.to_fetchers) windows.old × (0 < (view windows.old).parts) }
-        requires parcels { IsSeatAt (sends_on lines.now.to_writers) parcels.old × (0 < (view parcels.old).parts) }
-        requires one_seats { IsSeatAt (sends_on lines.now.to_fetchers) one.windows
-            × IsSeatAt (sends_on lines.now.to_writers) one.parcels }
+        requires windows { IsSeatAt (sends_on channels.now.to_fetchers) windows.old × (0 < (view windows.old).parts) }
+        requires parcels { IsSeatAt (sends_on channels.now.to_writers) parcels.old × (0 < (view parcels.old).parts) }
+        requires one_seats { IsSeatAt (sends_on channels.now.to_fetchers) one.windows
+            × IsSeatAt (sends_on channels.now.to_writers) one.parcels }
         requires one_knows { FetcherKnows [] one }
         requires knows { FetchedKnows (view windows.old) (view parcels.old) self.old }
-        ensures seats { IsSeatAt (sends_on lines.now.to_fetchers) windows.new
-            × IsSeatAt (sends_on lines.now.to_writers) parcels.new }
+        ensures seats { IsSeatAt (sends_on channels.now.to_fetchers) windows.new
+            × IsSeatAt (sends_on channels.now.to_writers) parcels.new }
         ensures windows { ((view windows.new).parts ≡ (view windows.old).parts + 1)
             × ((view windows.new).reads ≡ (view windows.old).reads)
             × ((view windows.new).count ≡ (view windows.old).count) }
@@ -92,8 +94,12 @@ impl FetchedAll {
             fetched,
             stopped,
         } = one;
-        lines.to_fetchers.absorb::<Crew>(windows, its_windows);
-        lines.to_writers.absorb::<Cut>(parcels, its_parcels);
+        channels
+            .to_fetchers
+            .absorb::<WindowCut>(windows, its_windows);
+        channels
+            .to_writers
+            .absorb::<ParcelCut>(parcels, its_parcels);
         self.counts.push_reserved(fetched);
         let (sum, halt) = count_up(self.sent, sent, self.stopped.take(), stopped);
         self.sent = sum;
@@ -103,20 +109,20 @@ impl FetchedAll {
 
 impl WrittenAll {
     /// Takes one writer in.
-    fn take_in<S: Origin, L: Ledger>(
+    fn take_in<S: SourceBrand, L: Ledger>(
         &mut self,
-        lines: &Lines<S>,
+        channels: &Channels<S>,
         parcels: &mut ParcelPass<S>,
         all: &mut Share<L>,
         seats: &mut Vec<BoardSeat>,
         one: Writer<S, L>,
     )
-        requires parcels { IsSeatAt (sends_on lines.now.to_writers) parcels.old × (0 < (view parcels.old).parts) }
-        requires one_seat { IsSeatAt (sends_on lines.now.to_writers) one.parcels }
+        requires parcels { IsSeatAt (sends_on channels.now.to_writers) parcels.old × (0 < (view parcels.old).parts) }
+        requires one_seat { IsSeatAt (sends_on channels.now.to_writers) one.parcels }
         requires one_knows { WriterKnows [] one }
         requires knows { WrittenKnows (view parcels.old) all.old.amount self.old }
         requires room { vec_len seats.old + length (option_to_list one.seat) ≤ vec_capacity seats.old }
-        ensures seat { IsSeatAt (sends_on lines.now.to_writers) parcels.new }
+        ensures seat { IsSeatAt (sends_on channels.now.to_writers) parcels.new }
         ensures parcels { ((view parcels.new).parts ≡ (view parcels.old).parts + 1)
             × ((view parcels.new).sent ≡ (view parcels.old).sent) }
         ensures all { (all.new.parts ≡ all.old.parts + 1) × (all.new.amount ≡ all.old.amount + one.share.amount) }
@@ -133,7 +139,9 @@ impl WrittenAll {
             seat,
             stopped,
         } = one;
-        lines.to_writers.absorb::<Cut>(parcels, its_parcels);
+        channels
+            .to_writers
+            .absorb::<ParcelCut>(parcels, its_parcels);
         all.merge(share);
         give_back(seats, seat);
         let (sum, halt) = count_up(self.got, got, self.stopped.take(), stopped);
@@ -142,86 +150,94 @@ impl WrittenAll {
     }
 }
 
-/// Joins the fetchers, and takes them in.
-pub fn join_fetchers<S: Origin, G: Gate, R: Threads>(
-    rt: &R,
-    lines: &Lines<S>,
-    gate: &G,
-    handles: Vec<FetcherHandle<'_, S, G>>,
-    counts: Vec<u64>,
-    windows: &mut WindowPass<S>,
-    parcels: &mut ParcelPass<S>,
-) -> FetchedAll
-    requires room { vec_len handles ≤ vec_capacity counts }
-    requires counts { counts.items ≡ [] }
-    requires promised { All (λ h. (h.promise.lines.now ≡ lines.now) × (h.promise.gate.now ≡ gate.now)) handles.items }
-    requires windows { IsSeatAt (sends_on lines.now.to_fetchers) windows.old × (0 < (view windows.old).parts)
-        × ((view windows.old).taken ≡ []) }
-    requires parcels { IsSeatAt (sends_on lines.now.to_writers) parcels.old × (0 < (view parcels.old).parts)
-        × ((view parcels.old).sent ≡ []) }
-    ensures seats { IsSeatAt (sends_on lines.now.to_fetchers) windows.new
-        × IsSeatAt (sends_on lines.now.to_writers) parcels.new }
-    ensures windows { ((view windows.new).parts ≡ (view windows.old).parts + vec_len handles.entry)
-        × ((view windows.new).reads ≡ (view windows.old).reads)
-        × ((view windows.new).count ≡ (view windows.old).count) }
-    ensures parcels { ((view parcels.new).parts ≡ (view parcels.old).parts + vec_len handles.entry)
-        × ((view parcels.new).got ≡ (view parcels.old).got) }
-    ensures len { vec_len result.counts ≡ vec_len handles.entry }
-    ensures knows { FetchedKnows (view windows.new) (view parcels.new) result }
-    ensures halted { IfSome result.stopped (Allows (G.may_stop gate.now)) }
-{
-    let mut fetched = FetchedAll {
-        counts,
-        sent: 0,
-        stopped: None,
-    };
-    for handle in handles {
-        let one = handle.join(rt);
-        fetched.take_in(lines, windows, parcels, one);
+impl<F: WriteFilter, S: SourceBrand, T: TargetBrand<F>, L: Ledger, G: Gate, R: Threads> Context<
+    '_,
+    F,
+    S,
+    T,
+    L,
+    G,
+    R,
+> {
+    /// Joins the fetchers, and takes them in.
+    pub fn join_fetchers(
+        &self,
+        handles: Vec<FetcherHandle<'_, S, G>>,
+        counts: Vec<u64>,
+        windows: &mut WindowPass<S>,
+        parcels: &mut ParcelPass<S>,
+    ) -> FetchedAll
+        requires room { vec_len handles ≤ vec_capacity counts }
+        requires counts { counts.items ≡ [] }
+        requires promised { All
+            (λ h. (h.promise.channels.now ≡ self.now.channels.now) × (h.promise.gate.now ≡ self.now.gate.now))
+            handles.items }
+        requires windows { IsSeatAt (sends_on self.now.channels.now.to_fetchers) windows.old
+            × (0 < (view windows.old).parts) × ((view windows.old).taken ≡ []) }
+        requires parcels { IsSeatAt (sends_on self.now.channels.now.to_writers) parcels.old
+            × (0 < (view parcels.old).parts) × ((view parcels.old).sent ≡ []) }
+        ensures seats { IsSeatAt (sends_on self.now.channels.now.to_fetchers) windows.new
+            × IsSeatAt (sends_on self.now.channels.now.to_writers) parcels.new }
+        ensures windows { ((view windows.new).parts ≡ (view windows.old).parts + vec_len handles.entry)
+            × ((view windows.new).reads ≡ (view windows.old).reads)
+            × ((view windows.new).count ≡ (view windows.old).count) }
+        ensures parcels { ((view parcels.new).parts ≡ (view parcels.old).parts + vec_len handles.entry)
+            × ((view parcels.new).got ≡ (view parcels.old).got) }
+        ensures len { vec_len result.counts ≡ vec_len handles.entry }
+        ensures knows { FetchedKnows (view windows.new) (view parcels.new) result }
+        ensures halted { IfSome result.stopped (Allows (G.may_stop self.now.gate.now)) }
+    {
+        let mut fetched = FetchedAll {
+            counts,
+            sent: 0,
+            stopped: None,
+        };
+        for handle in handles {
+            let one = handle.join(self.rt);
+            fetched.take_in(self.channels, windows, parcels, one);
+        }
+        fetched
     }
-    fetched
-}
 
-/// Joins the writers, and takes them in, the last first: so their seats come back in order.
-pub fn join_writers<S: Origin, L: Ledger, G: Gate, R: Threads>(
-    rt: &R,
-    lines: &Lines<S>,
-    gate: &G,
-    board: Option<&Board>,
-    handles: Vec<WriterHandle<'_, S, L, G>>,
-    parcels: &mut ParcelPass<S>,
-    all: &mut Share<L>,
-    seats: &mut Vec<BoardSeat>,
-) -> WrittenAll
-    requires promised { All
-        (λ h. (h.promise.lines.now ≡ lines.now) × (h.promise.gate.now ≡ gate.now)
-        × (option_copied h.promise.board ≡ option_copied board)) handles.items }
-    requires parcels { IsSeatAt (sends_on lines.now.to_writers) parcels.old × (0 < (view parcels.old).parts)
-        × ((view parcels.old).got ≡ []) }
-    requires all { all.old.amount ≡ 0 }
-    requires seats { AreSeated (option_copied board)
-        (seats.old.items ++ held (λ h. h.promise.seat.value) handles.items) }
-    requires room { length (seats.old.items ++ held (λ h. h.promise.seat.value) handles.items)
-        ≤ vec_capacity seats.old }
-    ensures seat { IsSeatAt (sends_on lines.now.to_writers) parcels.new }
-    ensures parcels { ((view parcels.new).parts ≡ (view parcels.old).parts + vec_len handles.entry)
-        × ((view parcels.new).sent ≡ (view parcels.old).sent) }
-    ensures all { all.new.parts ≡ all.old.parts + vec_len handles.entry }
-    ensures knows { WrittenKnows (view parcels.new) all.new.amount result }
-    ensures halted { IfSome result.stopped (AllowsOn (MayFill (option_copied board.entry)) (G.may_stop gate.now)) }
-    ensures back { AreBack (option_copied board.entry)
-        (seats.old.items ++ held (λ h. h.promise.seat.value) handles.entry.items) seats.new.items }
-    ensures shown { HaveShown (option_copied board.entry) all.new.amount result.stopped
-        (seats.old.items ++ held (λ h. h.promise.seat.value) handles.entry.items) seats.new.items }
-{
-    let mut written = WrittenAll {
-        got: 0,
-        stopped: None,
-    };
-    let mut left = handles;
-    while let Some(handle) = left.pop() {
-        let one = handle.join(rt);
-        written.take_in(lines, parcels, all, seats, one);
+    /// Joins the writers, and takes them in, the last first: so their seats come back in order.
+    pub fn join_writers(
+        &self,
+        handles: Vec<WriterHandle<'_, S, L, G>>,
+        parcels: &mut ParcelPass<S>,
+        all: &mut Share<L>,
+        seats: &mut Vec<BoardSeat>,
+    ) -> WrittenAll
+        requires promised { All
+            (λ h. (h.promise.channels.now ≡ self.now.channels.now) × (h.promise.gate.now ≡ self.now.gate.now)
+            × (option_copied h.promise.board ≡ option_copied self.now.board)) handles.items }
+        requires parcels { IsSeatAt (sends_on self.now.channels.now.to_writers) parcels.old
+            × (0 < (view parcels.old).parts) × ((view parcels.old).got ≡ []) }
+        requires all { all.old.amount ≡ 0 }
+        requires seats { AreSeated (option_copied self.now.board)
+            (seats.old.items ++ held (λ h. h.promise.seat.value) handles.items) }
+        requires room { length (seats.old.items ++ held (λ h. h.promise.seat.value) handles.items)
+            ≤ vec_capacity seats.old }
+        ensures seat { IsSeatAt (sends_on self.now.channels.now.to_writers) parcels.new }
+        ensures parcels { ((view parcels.new).parts ≡ (view parcels.old).parts + vec_len handles.entry)
+            × ((view parcels.new).sent ≡ (view parcels.old).sent) }
+        ensures all { all.new.parts ≡ all.old.parts + vec_len handles.entry }
+        ensures knows { WrittenKnows (view parcels.new) all.new.amount result }
+        ensures halted { IfSome result.stopped
+            (AllowsOn (MayFill (option_copied self.now.board)) (G.may_stop self.now.gate.now)) }
+        ensures back { AreBack (option_copied self.now.board)
+            (seats.old.items ++ held (λ h. h.promise.seat.value) handles.entry.items) seats.new.items }
+        ensures shown { HaveShown (option_copied self.now.board) all.new.amount result.stopped
+            (seats.old.items ++ held (λ h. h.promise.seat.value) handles.entry.items) seats.new.items }
+    {
+        let mut written = WrittenAll {
+            got: 0,
+            stopped: None,
+        };
+        let mut left = handles;
+        while let Some(handle) = left.pop() {
+            let one = handle.join(self.rt);
+            written.take_in(self.channels, parcels, all, seats, one);
+        }
+        written
     }
-    written
 }

@@ -1,22 +1,22 @@
 //! The channel of parcels: its messages, what each thread knows of it, and its rule.
+use crate::brands::SourceBrand;
 use crate::messages::Fetched;
-use crate::picks::Origin;
 use crossbeam_channel::protocol::{Join, Lesson, Outcome, Protocol, Split};
 use crossbeam_channel::{Pass, RuledReceiver, RuledSender};
 use std::collections::LinkedList;
 
 /// What a fetcher tells a writer.
 #[derive(Drop)]
-pub enum Carried<S: Origin> {
+pub enum ParcelMessage<S: SourceBrand> {
     /// What the source answers for the window of this number.
-    Full { number: u64, fetched: Fetched<S> },
+    Parcel { number: u64, fetched: Fetched<S> },
     /// No further parcel comes.
     End,
 }
 
 /// What a thread knows of the channel: its parts of the right to know the whole, of 1,024; what it has sent and what it
 /// has got, each parcel by its number and how many documents it has. No value of it is made.
-pub struct Hand {
+pub struct ParcelView {
     pub parts: u64,
     pub sent: LinkedList<(u64, u64)>,
     pub got: LinkedList<(u64, u64)>,
@@ -25,78 +25,78 @@ pub struct Hand {
 /// The rule: what was sent is what was got and what is queued, each number with its documents, as often as it was sent.
 pub struct Conserved;
 
-impl<S: Origin> Protocol<Carried<S>, Hand> for Conserved {
+impl<S: SourceBrand> Protocol<ParcelMessage<S>, ParcelView> for Conserved {
     ghost use Rattle.std.specs.Prelude.{[]};
-    ghost use Rattle.repl_pool.specs.Parcels.{hand, Balanced};
+    ghost use Rattle.repl_pool.specs.Parcels.{parcel_view, Balanced};
 
     ghost holds = { Balanced };
 
-    ghost first = { hand 1024 [] [] };
+    ghost first = { parcel_view 1024 [] [] };
 }
 
 /// How a pass is cut off for a worker, and put back.
-pub struct Cut;
+pub struct ParcelCut;
 
-impl Split<Hand> for Cut {
+impl Split<ParcelView> for ParcelCut {
     ghost use Rattle.std.specs.Prelude.{◌-◌, []};
-    ghost use Rattle.repl_pool.specs.Parcels.{hand};
+    ghost use Rattle.repl_pool.specs.Parcels.{parcel_view};
 
-    ghost left = { λ v. hand (v.parts - 1) v.sent v.got };
+    ghost left = { λ v. parcel_view (v.parts - 1) v.sent v.got };
 
-    ghost right = { λ _. hand 1 [] [] };
+    ghost right = { λ _. parcel_view 1 [] [] };
 }
 
-impl Join<Hand> for Cut {
+impl Join<ParcelView> for ParcelCut {
     ghost use Rattle.std.specs.Prelude.{◌+◌, ◌++◌, []};
-    ghost use Rattle.repl_pool.specs.Parcels.{hand};
+    ghost use Rattle.repl_pool.specs.Parcels.{parcel_view};
 
-    ghost both = { λ v w. hand (v.parts + w.parts) (v.sent ++ w.sent) (v.got ++ w.got) };
+    ghost both = { λ v w. parcel_view (v.parts + w.parts) (v.sent ++ w.sent) (v.got ++ w.got) };
 
-    ghost spent = { hand 0 [] [] };
+    ghost spent = { parcel_view 0 [] [] };
 }
 
 /// Sending, as a fetcher.
 pub struct Sends;
 
-impl<S: Origin> Outcome<Carried<S>, Hand> for Sends {
+impl<S: SourceBrand> Outcome<ParcelMessage<S>, ParcelView> for Sends {
     ghost use Rattle.std.specs.Prelude.{◌≡◌};
     ghost use Rattle.repl_pool.specs.Parcels.{has_sent};
 
     ghost then = { λ v x w. w ≡ has_sent v x };
 }
 
-impl<S: Origin> Lesson<Carried<S>, Hand> for Sends {
+impl<S: SourceBrand> Lesson<ParcelMessage<S>, ParcelView> for Sends {
     ghost fact = { λ _ _. Unit {0} };
 }
 
 /// Receiving, as a writer.
 pub struct Gets;
 
-impl<S: Origin> Outcome<Carried<S>, Hand> for Gets {
+impl<S: SourceBrand> Outcome<ParcelMessage<S>, ParcelView> for Gets {
     ghost use Rattle.std.specs.Prelude.{◌≡◌};
     ghost use Rattle.repl_pool.specs.Parcels.{has_got};
 
     ghost then = { λ v x w. w ≡ has_got v x };
 }
 
-impl<S: Origin> Lesson<Carried<S>, Hand> for Gets {
+impl<S: SourceBrand> Lesson<ParcelMessage<S>, ParcelView> for Gets {
     ghost fact = { λ _ _. Unit {0} };
 }
 
 /// What the pass with every part learns.
 pub struct Whole;
 
-impl<S: Origin> Lesson<Carried<S>, Hand> for Whole {
+impl<S: SourceBrand> Lesson<ParcelMessage<S>, ParcelView> for Whole {
     ghost use Rattle.repl_pool.specs.Parcels.{Accounts};
 
     ghost fact = { Accounts };
 }
 
 /// What a thread knows of the channel of parcels.
-pub type ParcelPass<S> = Pass<Carried<S>, Hand>;
+pub type ParcelPass<S> = Pass<ParcelMessage<S>, ParcelView>;
 
 /// Its sending end.
-pub type ParcelSender<S> = RuledSender<Carried<S>, Hand, Conserved>;
+pub type ParcelSender<S> = RuledSender<ParcelMessage<S>, ParcelView, Conserved>;
 
 /// Its receiving end.
-pub type ParcelReceiver<S> = RuledReceiver<Carried<S>, Hand, Conserved>;
+pub type ParcelReceiver<S> = RuledReceiver<ParcelMessage<S>, ParcelView, Conserved>;

@@ -11,13 +11,14 @@ ghost use Rattle.repl_pool.specs.Boards.{WorksAt, AreRisen, HaveRisenBy, MayFill
 ghost use Rattle.repl_pool.specs.Runs.{Ends, EndsRun, RunsOn, Runs};
 
 use crate::begin::check_run;
-use crate::desk::Desk;
+use crate::brands::{SourceBrand, TargetBrand};
+use crate::channels::Channels;
+use crate::context::Context;
 use crate::end::end;
 use crate::fault::PoolFault;
 use crate::gate::Gate;
-use crate::lines::Lines;
-use crate::picks::{Given, Origin};
-use crate::threads::with_workers;
+use crate::run_target::RunTarget;
+use crate::threads::Owned;
 use crate::totals::{Summed, collect};
 use progress_board::{Board, BoardSeat};
 use repl_target::{Peer, Plan, Report, WriteFilter, begin_plan};
@@ -40,6 +41,30 @@ pub struct Ran<F: WriteFilter> {
     pub seats: Vec<BoardSeat>,
     /// The report of the plan's session, or why there is none.
     pub outcome: Result<Report, PoolFault>,
+}
+
+/// A board that a run shows its progress on, and the seats of its workers: one for each of the plan's.
+#[derive(Drop)]
+pub struct Progress<'a> {
+    /// The board.
+    pub board: &'a Board,
+    /// The seats, of workers of this board.
+    pub seats: Vec<BoardSeat>,
+}
+
+/// A run whose session has begun at the target: both peers, and where it starts.
+#[derive(Drop)]
+struct Begun<F: WriteFilter> {
+    source: Peer<F>,
+    target: Peer<F>,
+    start: u64,
+}
+
+/// The board that the writers show what they do on, where there is one, and their seats.
+#[derive(Drop)]
+struct Shows<'a> {
+    board: Option<&'a Board>,
+    seats: Vec<BoardSeat>,
 }
 
 /// The end of a run whose workers weren't started: memory ran out, or where no fault is given, there was nothing to
@@ -76,8 +101,8 @@ fn without_workers<F: WriteFilter>(
 /// Runs the pool over a target whose session has begun at a start.
 fn run_begun<
     F: WriteFilter + Send + Sync,
-    S: Origin + Send + Sync,
-    J: Given<F> + Send + Sync,
+    S: SourceBrand + Send + Sync,
+    T: TargetBrand<F> + Send + Sync,
     L: Ledger + Send + Sync,
     G: Gate + Sync,
     R: Threads + Wait + Sync,
@@ -85,33 +110,37 @@ fn run_begun<
     rt: &R,
     alloc: Global,
     blank: Blank,
-    source: Peer<F>,
-    target: Peer<F>,
+    begun: Begun<F>,
     plan: &Plan,
     gate: &G,
-    board: Option<&Board>,
-    seats: Vec<BoardSeat>,
-    start: u64,
+    shows: Shows<'_>,
 ) -> Ran<F>
     requires name { blank.name ≡ L.name }
     requires parts { blank.parts ≡ L.parts }
     requires workers { (blank.parts ≡ plan.now.workers) × (0 < plan.now.workers) × (plan.now.workers ≤ 64) }
     requires batch { is_batch plan.now.batch ≡ true }
-    requires seats { AreSeats (option_copied board) 0 plan.now.workers seats.items }
-    requires source { S.source ≡ source.1.db }
+    requires seats { AreSeats (option_copied shows.board) 0 plan.now.workers shows.seats.items }
+    requires source { S.source ≡ begun.source.1.db }
     requires chosen { S.chosen ≡ plan.now.chosen }
-    requires given { J.given ≡ Some (target, plan.now.session) }
-    requires none { read_in target.1.sessions plan.now.session ≡ 0 }
-    requires held { (s : SessionValue) × (session_in target.1.sessions plan.now.session ≡ Some s) }
-    ensures filter { result.source.0 ≡ source.0 }
-    ensures source { result.source.1 ≡ record source.1 { outgoing = result.source.1.outgoing } }
-    ensures grown { GrownPeer F.refuses source.1.db plan.now.chosen plan.now.session target result.target }
-    ensures ends { EndsRun F.refuses (MayFill (option_copied board.entry)) (G.may_stop gate.now) plan.now start source.1
-        target result.fetched.items result.source.1 result.target.1 result.outcome }
-    ensures back { AreBack (option_copied board.entry) seats.items result.seats.items }
+    requires given { T.given ≡ Some (begun.target, plan.now.session) }
+    requires none { read_in begun.target.1.sessions plan.now.session ≡ 0 }
+    requires held { (s : SessionValue) × (session_in begun.target.1.sessions plan.now.session ≡ Some s) }
+    ensures filter { result.source.0 ≡ begun.source.0 }
+    ensures source { result.source.1 ≡ record begun.source.1 { outgoing = result.source.1.outgoing } }
+    ensures grown { GrownPeer F.refuses begun.source.1.db plan.now.chosen plan.now.session begun.target result.target }
+    ensures ends { EndsRun F.refuses (MayFill (option_copied shows.entry.board)) (G.may_stop gate.now) plan.now
+        begun.start begun.source.1 begun.target result.fetched.items result.source.1 result.target.1 result.outcome }
+    ensures back { AreBack (option_copied shows.entry.board) shows.entry.seats.items result.seats.items }
     ensures shown { IfOk result.outcome
-        (λ _. HaveShown (option_copied board.entry) (sum result.fetched.items) None seats.items result.seats.items) }
+        (λ _. HaveShown (option_copied shows.entry.board) (sum result.fetched.items) None shows.entry.seats.items
+        result.seats.items) }
 {
+    let Begun {
+        source,
+        target,
+        start,
+    } = begun;
+    let Shows { board, seats } = shows;
     // These readings tell the proof that the source's database and the target are lawful.
     let update_seq = source.db().update_seq();
     let _uuid = target.db().uuid();
@@ -126,21 +155,35 @@ fn run_begun<
             return without_workers(alloc, source, target, plan, start, seats, fault);
         }
     };
-    let (lines, windows, parcels) = match Lines::<S>::open(alloc, 2 * workers) {
+    let (channels, windows, parcels) = match Channels::<S>::open(alloc, 2 * workers) {
         Ok(opened) => opened,
         Err(refused) => {
             let fault = Some(PoolFault::from(refused));
             return without_workers(alloc, source, target, plan, start, seats, fault);
         }
     };
-    let (book, all) = blank.open::<L>();
-    let desk = Mutex::new(Desk::<F, S, J, L>::open(target, plan.session, book));
-    let (ended, seats) = with_workers(
-        rt, alloc, &lines, &source, &desk, gate, plan, board, workers, start, counts, windows,
-        parcels, all, seats,
-    );
-    let desk = desk.into_inner();
-    let summed = collect(alloc, &lines, gate, board, desk, workers, ended, seats);
+    let (ledger, all) = blank.open::<L>();
+    let locked = Mutex::new(RunTarget::<F, S, T, L>::open(target, plan.session, ledger));
+    let context = Context {
+        rt,
+        alloc,
+        channels: &channels,
+        source: &source,
+        target: &locked,
+        gate,
+        plan,
+        board,
+    };
+    let owned = Owned {
+        counts,
+        windows,
+        parcels,
+        all,
+        seats,
+    };
+    let (ended, seats) = context.with_workers(workers, start, owned);
+    let locked = locked.into_inner();
+    let summed = collect(alloc, &channels, gate, board, locked, ended, seats);
     end(alloc, source, summed, plan, start)
 }
 
@@ -152,15 +195,15 @@ fn run_with<F: WriteFilter + Send + Sync, G: Gate + Sync, R: Threads + Wait + Sy
     target: Peer<F>,
     plan: &Plan,
     gate: &G,
-    board: Option<&Board>,
-    seats: Vec<BoardSeat>,
+    shows: Shows<'_>,
 ) -> Ran<F>
-    requires seats { AreSeats (option_copied board) 0 plan.now.workers seats.items }
-    ensures runs { RunsOn F.refuses (MayFill (option_copied board.entry)) (G.may_stop gate.now) plan.now source target
-        result.source result.target result.fetched.items result.outcome }
-    ensures back { AreBack (option_copied board.entry) seats.items result.seats.items }
+    requires seats { AreSeats (option_copied shows.board) 0 plan.now.workers shows.seats.items }
+    ensures runs { RunsOn F.refuses (MayFill (option_copied shows.entry.board)) (G.may_stop gate.now) plan.now source
+        target result.source result.target result.fetched.items result.outcome }
+    ensures back { AreBack (option_copied shows.entry.board) shows.entry.seats.items result.seats.items }
     ensures shown { IfOk result.outcome
-        (λ report. HaveShown (option_copied board.entry) report.counts.read None seats.items result.seats.items) }
+        (λ report. HaveShown (option_copied shows.entry.board) report.counts.read None shows.entry.seats.items
+        result.seats.items) }
 {
     // These readings tell the proof that the source's database and the target are lawful.
     let _update_seq = source.db().update_seq();
@@ -170,29 +213,26 @@ fn run_with<F: WriteFilter + Send + Sync, G: Gate + Sync, R: Threads + Wait + Sy
             source,
             target,
             fetched: Vec::new(alloc),
-            seats,
+            seats: shows.seats,
             outcome: Err(why),
         };
     }
-    let mut begun = target;
-    match begin_plan(&source, &mut begun, plan) {
-        Ok(start) => run_begun::<F, Brand, Brand, Brand, G, R>(
-            rt,
-            alloc,
-            Blank::new(plan.workers),
-            source,
-            begun,
-            plan,
-            gate,
-            board,
-            seats,
-            start,
-        ),
+    let mut target = target;
+    match begin_plan(&source, &mut target, plan) {
+        Ok(start) => {
+            let blank = Blank::new(plan.workers);
+            let begun = Begun {
+                source,
+                target,
+                start,
+            };
+            run_begun::<F, Brand, Brand, Brand, G, R>(rt, alloc, blank, begun, plan, gate, shows)
+        }
         Err(fault) => Ran {
             source,
-            target: begun,
+            target,
             fetched: Vec::new(alloc),
-            seats,
+            seats: shows.seats,
             outcome: Err(PoolFault::Refused(fault)),
         },
     }
@@ -236,7 +276,11 @@ pub fn run<F: WriteFilter + Send + Sync, G: Gate + Sync, R: Threads + Wait + Syn
         result.fetched.items result.outcome }
     ensures seats { result.seats.items ≡ [] }
 {
-    run_with(rt, alloc, source, target, plan, gate, None, Vec::new(alloc))
+    let unseen = Shows {
+        board: None,
+        seats: Vec::new(alloc),
+    };
+    run_with(rt, alloc, source, target, plan, gate, unseen)
 }
 
 /// `run`, of whose progress others may read on a board meanwhile: `Board::read`. Each writer has a seat of a worker of
@@ -244,7 +288,7 @@ pub fn run<F: WriteFilter + Send + Sync, G: Gate + Sync, R: Threads + Wait + Syn
 /// before the gate is asked at `Settled`, it adds to its count of those settled the ones that this settling has
 /// counted. No lock is taken for the board.
 ///
-/// The seats are so many as the plan has workers, and of workers of this board. They come back in their order, whatever
+/// The seats are so many as the plan has workers, and of workers of the board. They come back in their order, whatever
 /// the outcome, and no count has fallen. At `Ok` both counts, added up over the seats, have risen by the documents read
 /// that the report tells.
 ///
@@ -257,14 +301,19 @@ pub fn run_on<F: WriteFilter + Send + Sync, G: Gate + Sync, R: Threads + Wait + 
     target: Peer<F>,
     plan: &Plan,
     gate: &G,
-    board: &Board,
-    seats: Vec<BoardSeat>,
+    progress: Progress<'_>,
 ) -> Ran<F>
-    requires seats { (vec_len seats ≡ plan.now.workers) × All (WorksAt board.now) seats.items }
+    requires seats { (vec_len progress.seats ≡ plan.now.workers)
+        × All (WorksAt progress.board.now) progress.seats.items }
     ensures runs { RunsOn F.refuses (Unit {0}) (G.may_stop gate.now) plan.now source target result.source result.target
         result.fetched.items result.outcome }
-    ensures seats { AreRisen board.now seats.items result.seats.items }
-    ensures shown { IfOk result.outcome (λ report. HaveRisenBy report.counts.read seats.items result.seats.items) }
+    ensures seats { AreRisen progress.entry.board.now progress.entry.seats.items result.seats.items }
+    ensures shown { IfOk result.outcome
+        (λ report. HaveRisenBy report.counts.read progress.entry.seats.items result.seats.items) }
 {
-    run_with(rt, alloc, source, target, plan, gate, Some(board), seats)
+    let shows = Shows {
+        board: Some(progress.board),
+        seats: progress.seats,
+    };
+    run_with(rt, alloc, source, target, plan, gate, shows)
 }

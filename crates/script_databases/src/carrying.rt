@@ -8,7 +8,7 @@ ghost use Rattle.script_databases.specs.Stored.{Beside, deny_of, denied_of, peer
 
 use crate::databases::Names;
 use progress_board::{Board, BoardFault, BoardSeat};
-use repl_pool::{Open, PoolFault, Ran, run, run_on};
+use repl_pool::{Open, PoolFault, Progress, Ran, run, run_on};
 use repl_target::{Peer, Plan, Report, Rules, TargetFault, replicate_alone};
 use std::alloc::Global;
 use std::mem;
@@ -162,6 +162,10 @@ pub fn replicate_watched_at<H: Threads + Wait + Sync>(
     let Some(mut viewer) = seats.pop() else {
         unreachable!()
     };
+    let progress = Progress {
+        board: &board,
+        seats,
+    };
     let (sender, receiver) = take_out(names, alloc, source, target);
     let Ran {
         source: sender,
@@ -169,7 +173,7 @@ pub fn replicate_watched_at<H: Threads + Wait + Sync>(
         fetched: _,
         seats: _,
         outcome,
-    } = run_on(rt, alloc, sender, receiver, plan, &Open, &board, seats);
+    } = run_on(rt, alloc, sender, receiver, plan, &Open, progress);
     put_back(names, source, target, sender, receiver);
     match outcome {
         Ok(report) => Ok(with_reading(&board, &mut viewer, report)),

@@ -10,7 +10,7 @@ use crate::tests::records::{fault_text, report_text};
 use crate::tests::texts::{expect_answer, place_text};
 use progress_board::{Board, BoardSeat};
 use repl_log::{Moment, RepId, common};
-use repl_pool::{Gate, Open, PoolFault, Ran, run, run_on};
+use repl_pool::{Gate, Open, PoolFault, Progress, Ran, run, run_on};
 use repl_target::{Peer, Plan, Report, Rules, audit};
 use rev_tree::SessionId;
 use std::alloc::Global;
@@ -183,7 +183,8 @@ impl Bench {
         }
         let from = self.taken(rt, 0);
         let into = self.taken(rt, 1);
-        let ran = ran_on(rt, self.alloc, from, into, &plan, gate, board, seats);
+        let progress = Progress { board, seats };
+        let ran = ran_on(rt, self.alloc, from, into, &plan, gate, progress);
         self.take_back(rt, 0, 1, ran)
     }
 
@@ -265,12 +266,11 @@ fn ran_on<G: Gate + Sync, R: Threads + Wait + Sync>(
     target: Peer<Rules>,
     plan: &Plan,
     gate: &G,
-    board: &Board,
-    seats: Vec<BoardSeat>,
+    progress: Progress<'_>,
 ) -> Ran<Rules>
-    requires { (vec_len seats ≡ plan.now.workers) × All (WorksAt board.now) seats.items }
+    requires { (vec_len progress.seats ≡ plan.now.workers) × All (WorksAt progress.board.now) progress.seats.items }
 {
-    run_on(rt, alloc, source, target, plan, gate, board, seats)
+    run_on(rt, alloc, source, target, plan, gate, progress)
 }
 
 /// How a run ended, and the sum of what was fetched.

@@ -1,11 +1,11 @@
 use Rattle.std.proofs.Common.{◌<◌, subst, sym}
 use Rattle.crossbeam_channel.specs.Claims.{view}
-use Rattle.repl_pool.specs.declared.windows.Seen.{Seen}
+use Rattle.repl_pool.specs.declared.windows.WindowView.{WindowView}
 use Rattle.repl_pool.proofs.WindowRule as window
 use Rattle.repl_pool.proofs.ends.end_windows.Goals as goal
 
 pub send_as-requires-clause-rule : goal.send_as-requires-clause-rule
 send_as-requires-clause-rule g c =
     let v = view c.loop-i.windows in
-    let part : 0 < v.parts = subst (λ (y : Seen). 0 < y.parts) (sym c.loop-i.invariant.1) c.requires.seat.1 in
+    let part : 0 < v.parts = subst (λ (y : WindowView). 0 < y.parts) (sym c.loop-i.invariant.1) c.requires.seat.1 in
     (window.tells_end _ _ v part, λ _ _ _ _. tt)

@@ -2,8 +2,8 @@ use Rattle.std.proofs.Common.{◌≡◌, ◌≤◌, ℕ, length, sym, subst, ref
 use Rattle.crossbeam_channel.specs.Claims.{view}
 use Rattle.repl_pool.specs.Sums.{times, weigh}
 use Rattle.repl_pool.specs.Workers.{names}
-use Rattle.repl_pool.specs.declared.windows.Seen.{Seen}
-use Rattle.repl_pool.specs.declared.parcels.Hand.{Hand}
+use Rattle.repl_pool.specs.declared.windows.WindowView.{WindowView}
+use Rattle.repl_pool.specs.declared.parcels.ParcelView.{ParcelView}
 use Rattle.repl_pool.proofs.WindowRule as window
 use Rattle.repl_pool.proofs.ParcelRule as parcel
 use Rattle.repl_pool.proofs.Steps.{taken_once, got_once, settles}
@@ -25,9 +25,9 @@ returns g c =
     let sv = c.learn_as.ensures.channel.2 in
     let sp = c.learn_as-2.ensures.channel.2 in
     record {
-      taken = λ k. subst (λ (y : Seen). times k y.taken ≤ 1) (sym sv) (once k);
-      got = λ none k. subst (λ (y : Hand). times k (names y.got) ≤ 1) (sym sp) (got_once p s.0 v.taken s.1 (c.requires.tells.0 none).2 once k);
-      agree = subst (λ (y : Hand). length y.sent ≡ length y.got → (h : ℕ → ℕ → ℕ) → weigh h y.sent ≡ weigh h y.got) (sym sp) (λ same. settles p s.0 s.1 same);
+      taken = λ k. subst (λ (y : WindowView). times k y.taken ≤ 1) (sym sv) (once k);
+      got = λ none k. subst (λ (y : ParcelView). times k (names y.got) ≤ 1) (sym sp) (got_once p s.0 v.taken s.1 (c.requires.tells.0 none).2 once k);
+      agree = subst (λ (y : ParcelView). length y.sent ≡ length y.got → (h : ℕ → ℕ → ℕ) → weigh h y.sent ≡ weigh h y.got) (sym sp) (λ same. settles p s.0 s.1 same);
       tells = rw (sv, sp) c.requires.tells;
       same = (refl, refl, refl, refl);
     }

@@ -2,12 +2,12 @@ use Rattle.std.proofs.Common.{rules, ap, sym, ◌∙◌, arith, length}
 use Rattle.crossbeam_channel.specs.Claims.{view}
 use Rattle.repl_pool.specs.Workers.{names}
 use Rattle.repl_pool.proofs.Steps.{SentOne, sent_one}
-use Rattle.repl_pool.specs.declared.parcels.Hand.{Hand}
+use Rattle.repl_pool.specs.declared.parcels.ParcelView.{ParcelView}
 use Rattle.std.proofs.lemmas.List.{append-nil}
 use Rattle.repl_pool.proofs.fetcher.Fetcher.hand_over.Goals as goal
 
 pub put-requires-clause-part : goal.put-requires-clause-part
-put-requires-clause-part g c = let e = ap (λ (y : Hand). y.parts) c.requires.counted.1 in omega (arith, e)
+put-requires-clause-part g c = let e = ap (λ (y : ParcelView). y.parts) c.requires.counted.1 in omega (arith, e)
 
 pub returns-then-put-clause-knows : goal.returns-then-put-clause-knows
 returns-then-put-clause-knows g c =

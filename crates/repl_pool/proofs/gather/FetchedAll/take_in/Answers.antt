@@ -3,7 +3,7 @@ use Rattle.std.proofs.lemmas.List.{append-nil}
 use Rattle.std.proofs.lemmas.List.Sums.{sum_by_push}
 use Rattle.crossbeam_channel.specs.Claims.{view}
 use Rattle.repl_pool.specs.Workers.{names}
-use Rattle.repl_pool.specs.declared.windows.Seen.{Seen}
+use Rattle.repl_pool.specs.declared.windows.WindowView.{WindowView}
 use Rattle.repl_pool.proofs.Steps.{Gathers, gathers}
 use Rattle.repl_pool.proofs.WindowRule as window
 use Rattle.repl_pool.proofs.ParcelRule as parcel
@@ -25,5 +25,5 @@ returns-clause-knows g c none =
     let pushed : sum c.push_reserved.new.self.items ≡ sum (c.args.self.now.counts.items ++ c.args.one.fetched ∷ []) = ap sum c.push_reserved.ensures.items in (
       omega (arith, counts, pushed, p.0, k.0, o.0),
       omega (arith, s.0, p.1, k.1, c.requires.one_knows.2),
-      ap (λ (y : Seen). y.taken) c.absorb.ensures.rule ∙ ap (λ l. l ++ (view c.args.one.windows).taken) k.2 ∙ ap (λ l. names (view c.args.parcels.now).sent ++ l) (o.1 ∙ append-nil (names (view c.args.one.parcels).sent)) ∙ sym p.2,
+      ap (λ (y : WindowView). y.taken) c.absorb.ensures.rule ∙ ap (λ l. l ++ (view c.args.one.windows).taken) k.2 ∙ ap (λ l. names (view c.args.parcels.now).sent ++ l) (o.1 ∙ append-nil (names (view c.args.one.parcels).sent)) ∙ sym p.2,
     )

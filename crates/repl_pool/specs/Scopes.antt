@@ -1,0 +1,36 @@
+-- What the threads of a run start with, and what is known once all have ended: docs/PROFILE.md, "The pool".
+use Rattle.std.specs.Prelude.{◌≡◌, ◌≤◌, ℕ, List, [], Option, IfSome, vec_capacity}
+use Rattle.crossbeam_channel.specs.Claims.{view, IsSeatAt}
+use Rattle.crossbeam_channel.specs.Ends.{sends_on}
+use Rattle.progress_board.specs.declared.board.Board.{Board}
+use Rattle.progress_board.specs.declared.seat.BoardSeat.{BoardSeat}
+use Rattle.repl_pool.specs.declared.channels.Channels.{Channels}
+use Rattle.repl_pool.specs.declared.gate.Place.{Place}
+use Rattle.repl_pool.specs.declared.threads.Ended.{Ended}
+use Rattle.repl_pool.specs.declared.threads.Owned.{Owned}
+use Rattle.repl_pool.specs.Boards.{MayFill, AreSeats, AreBack, HaveShown}
+use Rattle.repl_pool.specs.Gathered.{IsWhole, Tells, StopsWhere}
+use Rattle.repl_pool.specs.Parcels.{parcel_view}
+use Rattle.repl_pool.specs.Windows.{window_view}
+
+-- room for a count of each fetcher, every part of both channels, on which nothing was sent, every part of the ledger,
+-- which is at 0, and a seat of each writer where there is a board
+pub record IsReady {S L : Type 0} (channels : Channels S) (board : Option Board) (workers : ℕ) (o : Owned S L) : Type 0
+  where
+    pub counts : (o.counts.items ≡ []) × (workers ≤ vec_capacity o.counts)
+    pub windows : IsSeatAt (sends_on channels.to_fetchers) o.windows × (view o.windows ≡ window_view 1024 1 0 [])
+    pub parcels : IsSeatAt (sends_on channels.to_writers) o.parcels × (view o.parcels ≡ parcel_view 1024 [] [])
+    pub all : (o.all.parts ≡ workers) × (o.all.amount ≡ 0)
+    pub seats : AreSeats board 0 workers o.seats.items
+
+-- the seats are back; and where all workers were started, every part of both channels and of the ledger is, and it is
+-- known what they did, where they were stopped and what they have shown
+pub record HaveEnded {S L : Type 0} (channels : Channels S) (board : Option Board) (may_stop : Place → Type 0)
+    (workers : ℕ) (given : List BoardSeat) (ended : Option (Ended S L)) (seats : List BoardSeat) : Type 0 where
+  pub window_seat : IfSome ended (λ e. IsSeatAt (sends_on channels.to_fetchers) e.windows)
+  pub parcel_seat : IfSome ended (λ e. IsSeatAt (sends_on channels.to_writers) e.parcels)
+  pub whole : IfSome ended (IsWhole workers)
+  pub tells : IfSome ended Tells
+  pub halted : IfSome ended (StopsWhere (MayFill board) may_stop)
+  pub back : AreBack board given seats
+  pub shown : IfSome ended (λ e. HaveShown board e.all.amount e.written.stopped given seats)

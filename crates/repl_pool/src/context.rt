@@ -1,0 +1,24 @@
+//! What all threads of a run share.
+
+use crate::brands::{SourceBrand, TargetBrand};
+use crate::channels::Channels;
+use crate::run_target::RunTarget;
+use progress_board::Board;
+use repl_target::{Peer, Plan, WriteFilter};
+use std::alloc::Global;
+use std::sync::Mutex;
+use std::sync::ledger::Ledger;
+
+/// What all threads of a run share: the runtime and the allocator, the two channels, the source, the target behind its
+/// lock, the gate, the plan, and the board, where there is one. Each step of a worker is a method of it.
+#[derive(Drop)]
+pub struct Context<'e, F: WriteFilter, S: SourceBrand, T: TargetBrand<F>, L: Ledger, G, R> {
+    pub rt: &'e R,
+    pub alloc: Global,
+    pub channels: &'e Channels<S>,
+    pub source: &'e Peer<F>,
+    pub target: &'e Mutex<RunTarget<F, S, T, L>>,
+    pub gate: &'e G,
+    pub plan: &'e Plan,
+    pub board: Option<&'e Board>,
+}
