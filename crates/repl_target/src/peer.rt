@@ -6,6 +6,7 @@ ghost use Rattle.couch_base.specs.Database.{tree_of};
 
 pub(crate) mod backup;
 pub(crate) mod filter;
+pub(crate) mod kept_rev;
 mod local;
 mod readers;
 pub(crate) mod written;

@@ -9,3 +9,4 @@ pub mod PeerInvariant
 pub mod CopiedInTurn
 pub mod RestoredPeers
 pub mod RefusedCalls
+pub mod EditedPeers

@@ -1,11 +1,11 @@
 -- The revisions of a write.
-use Rattle.std.specs.Prelude.{List, ◌∷◌}
-use Rattle.std.specs.Option.{option_to_list}
+use Rattle.std.specs.Prelude.{List, [], ◌∷◌}
 use Rattle.rev_core.specs.Rev.{RevId}
 use Rattle.repl_target.specs.declared.peer.written.Lineage.{Lineage}
-use Rattle.repl_target.specs.declared.peer.written.Lineage.TheVariants.{Whole, Edit}
+use Rattle.repl_target.specs.declared.peer.written.Lineage.TheVariants.{One, Two, Whole}
 
--- an ancestry, or a new revision and the one that it stands on
+-- one, two, or an ancestry
 abbrev pub revs_of : Lineage → List RevId
+revs_of (One rev) = rev ∷ []
+revs_of (Two rev parent) = rev ∷ parent ∷ []
 revs_of (Whole revs) = revs
-revs_of (Edit rev parent) = rev ∷ option_to_list parent
