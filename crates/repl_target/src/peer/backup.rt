@@ -10,12 +10,9 @@ use crate::logs::{Logs, copy_logs};
 use crate::peer::Peer;
 use crate::peer::filter::WriteFilter;
 use crate::peer::written::{Written, copy_writes};
-use couch_base::Database;
+use couch_base::{Database, MOST_SEQUENCE};
 use std::alloc::Global;
 use std::marker::Model;
-
-/// The last life: 2^53 - 1.
-const LAST_LIFE: u64 = 9_007_199_254_740_991;
 
 /// A copy of what a peer holds into which nothing was replicated: its database, its local writes, and its outgoing logs.
 pub struct Backup {
@@ -126,7 +123,7 @@ impl<F: WriteFilter> Peer<F> {
             return Err(TargetFault::ForeignBackup);
         }
         let life = self.db.life().max(backup.db.life());
-        if life >= LAST_LIFE {
+        if life >= MOST_SEQUENCE {
             return Err(TargetFault::LifeFull);
         }
         Ok(life + 1)

@@ -9,10 +9,7 @@ ghost use Rattle.repl_target.specs.session.SettlingParts.{Consecutive, IsWindowA
 use crate::fault::TargetFault;
 use crate::session::Session;
 use crate::session::rows::{all_have_rows, asked_count, leaf_count};
-use couch_base::{Parcel, Window};
-
-/// The greatest count: 2^53 - 1.
-const MOST: u64 = 9_007_199_254_740_991;
+use couch_base::{MOST_SEQUENCE, Parcel, Window};
 
 /// The place of a parcel's window among the stored ones, how many leaves its rows name, and how many revisions the
 /// parcel asked for.
@@ -91,5 +88,5 @@ fn has_room(session: &Session, read: u64, checked: u64, found: u64) -> bool
 fn fits(count: u64, more: u64) -> bool
     ensures { result ≡ nat_le (count + more) most }
 {
-    count <= MOST && more <= MOST - count
+    count <= MOST_SEQUENCE && more <= MOST_SEQUENCE - count
 }
