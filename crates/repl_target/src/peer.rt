@@ -136,12 +136,12 @@ impl<F: WriteFilter> Peer<F> {
         &self.db
     }
 
-    /// The peer's law, and that of its database, for a proof that needs them. It does nothing.
+    /// What holds of each peer and of its database, for the proofs that stand on it.
     pub fn law(&self)
         ensures peer { Lawful (F.refuses self.now.0) self.now.1 }
         ensures database { LawfulDatabase self.now.1.db }
     {
-        let _seq = self.db.update_seq();
+        self.db.law();
     }
 
     /// The write filter.

@@ -112,8 +112,7 @@ pub(crate) fn edit(
     ensures db_kept { OnErr result (db.new ≡ db.old) }
     ensures locals_kept { OnErr result (locals.new.items ≡ locals.old.items) }
 {
-    // The reading tells the proof that the database is lawful.
-    let _seq = db.update_seq();
+    db.law();
     let before = match parent {
         Some(parent) => Some(parent),
         None => winner(db, id),
