@@ -2,6 +2,7 @@ pub mod MembersLemmas
 pub mod GivenLemmas
 pub mod TextLemmas
 pub mod TellingLemmas
+pub mod WordLemmas
 pub mod SessionLemmas
 pub mod LoadLemmas
 pub mod ReplicateLemmas

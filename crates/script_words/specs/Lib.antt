@@ -5,4 +5,3 @@ pub mod Texts
 pub mod Telling
 pub mod words
 pub mod Script
-pub mod Ordered

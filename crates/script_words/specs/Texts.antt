@@ -1,5 +1,5 @@
 -- Parts of answers that several words print: docs/PROFILE.md, "Answers".
-use Rattle.std.specs.Prelude.{ℕ, List, [], ◌∷◌, ◌++◌, map, Bool, not, ◌&&◌, ◌==◌, nat_le, Option}
+use Rattle.std.specs.Prelude.{ℕ, List, [], ◌∷◌, ◌++◌, map, Option}
 use Rattle.std.specs.List.{join_with_byte}
 use Rattle.std.specs.Option.{option_map_or}
 use Rattle.serde_json.specs.Data.{string}
@@ -14,10 +14,6 @@ ended text = text ++ 10 ∷ []
 -- the text as JSON, in quotation marks
 abbrev pub quoted : List ℕ → List ℕ
 quoted text = compact_text (string text)
-
--- a byte that stands for itself there: no control character, quotation mark or backslash
-abbrev pub is_plain_byte : ℕ → Bool
-is_plain_byte b = nat_le 32 b && not (b == 34) && not (b == 92)
 
 -- the text of a revision, where there is one
 abbrev pub text_of_any : Option RevId → List ℕ

@@ -1,5 +1,5 @@
 -- The words of a script, each in a room of its own: docs/PROFILE.md, "Command lines".
-use Rattle.std.specs.Prelude.{ℕ, List, codes, if◌then◌else◌, Result, Ok, Err}
+use Rattle.std.specs.Prelude.{ℕ, List, codes, if◌then◌else◌, Option, Some, None, Result, Ok, Err}
 use Rattle.std.specs.Str.{bytes_eq}
 use Rattle.serde_json.specs.Data.{Data}
 use Rattle.script_engine.specs.Serving.{Answering}
@@ -9,16 +9,16 @@ use Rattle.script_databases.specs.declared.refusal.Refusal.TheVariants as why
 use Rattle.rev_core.specs.Checks.{◌>>=◌}
 use Rattle.script_words.specs.Checks.{needed, seen_as}
 use Rattle.script_words.specs.Members.{text_at}
-use Rattle.script_words.specs.words.Load.{LoadAsk, load_asked, load_in, Loads}
-use Rattle.script_words.specs.words.Edit.{EditAsk, edit_asked, edit_in, Edits}
-use Rattle.script_words.specs.words.Show.{ShowAsk, show_asked, show_in, Shows}
-use Rattle.script_words.specs.words.Doc.{DocAsk, doc_asked, doc_in, PrintsDocument}
-use Rattle.script_words.specs.words.Changes.{ChangesAsk, changes_asked, changes_in, ListsChanges}
-use Rattle.script_words.specs.words.Log.{LogAsk, log_asked, log_in, Logs}
-use Rattle.script_words.specs.words.Audit.{AuditAsk, audit_asked, audit_in, Audits}
-use Rattle.script_words.specs.words.Replicate.{ReplicateAsk, replicate_asked, replicate_in, Replicates}
-use Rattle.script_words.specs.words.Backup.{BackupAsk, backup_asked, backup_in, BacksUp}
-use Rattle.script_words.specs.words.Restore.{RestoreAsk, restore_asked, restore_in, Restores}
+use Rattle.script_words.specs.words.Load.{LoadAsk, load_in, Loads}
+use Rattle.script_words.specs.words.Edit.{EditAsk, edit_in, Edits}
+use Rattle.script_words.specs.words.Show.{ShowAsk, show_in, Shows}
+use Rattle.script_words.specs.words.Doc.{DocAsk, doc_in, PrintsDocument}
+use Rattle.script_words.specs.words.Changes.{ChangesAsk, changes_in, ListsChanges}
+use Rattle.script_words.specs.words.Log.{LogAsk, log_in, Logs}
+use Rattle.script_words.specs.words.Audit.{AuditAsk, audit_in, Audits}
+use Rattle.script_words.specs.words.Replicate.{ReplicateAsk, replicate_in, Replicates}
+use Rattle.script_words.specs.words.Backup.{BackupAsk, backup_in, BacksUp}
+use Rattle.script_words.specs.words.Restore.{RestoreAsk, restore_in, Restores}
 use Rattle.script_words.specs.declared.words.Word.{Word}
 use Rattle.script_words.specs.declared.words.Word.TheVariants as word
 pub mod Load
@@ -45,31 +45,37 @@ pub data Asked : Type 0 where
   backup : BackupAsk → Asked
   restore : RestoreAsk → Asked
 
-abbrev pub asked_of : Word → Asked
-asked_of (word.Load ask) = load (load_asked ask)
-asked_of (word.Edit ask) = edit (edit_asked ask)
-asked_of (word.Show ask) = show (show_asked ask)
-asked_of (word.Doc ask) = doc (doc_asked ask)
-asked_of (word.Changes ask) = changes (changes_asked ask)
-asked_of (word.Log ask) = log (log_asked ask)
-asked_of (word.Audit ask) = audit (audit_asked ask)
-asked_of (word.Replicate ask) = replicate (replicate_asked ask)
-asked_of (word.Backup ask) = backup (backup_asked ask)
-asked_of (word.Restore ask) = restore (restore_asked ask)
-
 -- what an object asks by a word
+abbrev pub asked_as : Word → Data → Result Asked Refusal
+asked_as word.Load d = seen_as load (load_in d)
+asked_as word.Edit d = seen_as edit (edit_in d)
+asked_as word.Show d = seen_as show (show_in d)
+asked_as word.Doc d = seen_as doc (doc_in d)
+asked_as word.Changes d = seen_as changes (changes_in d)
+asked_as word.Log d = seen_as log (log_in d)
+asked_as word.Audit d = seen_as audit (audit_in d)
+asked_as word.Replicate d = seen_as replicate (replicate_in d)
+asked_as word.Backup d = seen_as backup (backup_in d)
+asked_as word.Restore d = seen_as restore (restore_in d)
+
+-- where a word is known
+abbrev pub asked_if : Option Word → Data → Result Asked Refusal
+asked_if (Some w) d = asked_as w d
+asked_if None d = Err why.BadCommand
+
+-- by the word's name
 abbrev pub asked_by : List ℕ → Data → Result Asked Refusal
 asked_by name d =
-    if bytes_eq name (codes "load") then seen_as load (load_in d)
-    else (if bytes_eq name (codes "edit") then seen_as edit (edit_in d)
-    else (if bytes_eq name (codes "show") then seen_as show (show_in d)
-    else (if bytes_eq name (codes "doc") then seen_as doc (doc_in d)
-    else (if bytes_eq name (codes "changes") then seen_as changes (changes_in d)
-    else (if bytes_eq name (codes "log") then seen_as log (log_in d)
-    else (if bytes_eq name (codes "audit") then seen_as audit (audit_in d)
-    else (if bytes_eq name (codes "replicate") then seen_as replicate (replicate_in d)
-    else (if bytes_eq name (codes "backup") then seen_as backup (backup_in d)
-    else (if bytes_eq name (codes "restore") then seen_as restore (restore_in d)
+    if bytes_eq name (codes "load") then asked_as word.Load d
+    else (if bytes_eq name (codes "edit") then asked_as word.Edit d
+    else (if bytes_eq name (codes "show") then asked_as word.Show d
+    else (if bytes_eq name (codes "doc") then asked_as word.Doc d
+    else (if bytes_eq name (codes "changes") then asked_as word.Changes d
+    else (if bytes_eq name (codes "log") then asked_as word.Log d
+    else (if bytes_eq name (codes "audit") then asked_as word.Audit d
+    else (if bytes_eq name (codes "replicate") then asked_as word.Replicate d
+    else (if bytes_eq name (codes "backup") then asked_as word.Backup d
+    else (if bytes_eq name (codes "restore") then asked_as word.Restore d
     else Err why.BadCommand)))))))))
 
 -- by its member `do`

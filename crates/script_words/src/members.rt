@@ -155,6 +155,7 @@ fn as_uuid(value: &LineValue<'_>) -> Option<u128>
 }
 
 /// Whether a value is an object with no other members than these.
+#[inline(always)]
 pub fn has_only_members(value: &LineValue<'_>, keys: &[&str]) -> bool
     ensures { result ≡ has_only (map (λ x. x.now) keys.now) (line_view value.now) }
 {
@@ -164,6 +165,7 @@ pub fn has_only_members(value: &LineValue<'_>, keys: &[&str]) -> bool
     }
 }
 
+#[inline(always)]
 fn are_all_among(members: &Vec<(&str, LineValue<'_>)>, allowed: &[&str]) -> bool
     ensures { result ≡ list_all (λ m. list_any (λ k. bytes_eq m.0.now k.now) allowed.now) members.now.items }
 {
@@ -175,6 +177,7 @@ fn are_all_among(members: &Vec<(&str, LineValue<'_>)>, allowed: &[&str]) -> bool
     true
 }
 
+#[inline(always)]
 fn is_one_of(key: &str, keys: &[&str]) -> bool
     ensures { result ≡ list_any (λ k. bytes_eq key.now k.now) keys.now }
 {

@@ -80,10 +80,7 @@ fn serve_line<H: Threads + Wait + Sync>(
         Ok(value) => value,
         Err(refusal) => return Err(refusal),
     };
-    let Some(word) = words::read(&value) else {
-        return Err(Refusal::BadCommand);
-    };
-    words::serve(rt, alloc, databases, &word, answer)
+    words::serve(rt, alloc, databases, &value, answer)
 }
 
 /// Runs a script: reads lines to the reader's end, each of which is one command, and writes the answers in their

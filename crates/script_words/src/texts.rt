@@ -1,10 +1,11 @@
 //! Parts of answers that several words print (docs/PROFILE.md, "Answers").
-ghost use Rattle.std.specs.Prelude.{◌≡◌, ◌++◌, ◌∷◌, [], OnOk, IfOk, decimal, string_bytes};
-ghost use Rattle.std.specs.List.{list_all};
+ghost use Rattle.std.specs.Prelude.{◌≡◌, ◌++◌, ◌∷◌, [], OnOk, IfOk, IsTrue, decimal, string_bytes};
+ghost use Rattle.json.specs.Print.{escape};
 ghost use Rattle.rev_core.specs.Text.{rev_text};
-ghost use Rattle.script_words.specs.Texts.{is_plain_byte, quoted, texts_of_revs};
+ghost use Rattle.script_words.specs.Texts.{quoted, texts_of_revs};
 
 use itoa::Buffer;
+use json_values::plain_end;
 use rev_core::Rev;
 use serde_json::Value;
 use std::alloc::{AllocError, Global};
@@ -26,13 +27,36 @@ pub fn push_count(text: &mut Vec<u8>, count: usize) -> Result<(), AllocError>
 }
 
 /// Adds the text of a revision.
-pub fn push_rev(text: &mut Vec<u8>, rev: Rev) -> Result<(), AllocError>
-    ensures { OnOk result (text.new.items ≡ text.old.items ++ rev_text rev) }
+pub fn push_rev(text: &mut Vec<u8>, rev: &Rev) -> Result<(), AllocError>
+    ensures { OnOk result (text.new.items ≡ text.old.items ++ rev_text rev.now) }
 {
-    let mut digits = Buffer::new();
-    text.extend_from_slice(digits.format(rev.generation()).as_bytes())?;
-    text.extend_from_slice(b"-")?;
-    text.extend_from_slice(rev.sig_bytes())
+    push_generation(text, rev.generation())?;
+    text.push(b'-')?;
+    push_sig(text, rev.sig_bytes())
+}
+
+/// Adds a generation. Mostly it has one digit.
+#[inline(always)]
+fn push_generation(text: &mut Vec<u8>, generation: u32) -> Result<(), AllocError>
+    ensures { OnOk result (text.new.items ≡ text.old.items ++ decimal generation) }
+{
+    if generation < 10 {
+        text.push(b'0' + generation as u8)?;
+        return Ok(());
+    }
+    push_number(text, u64::from(generation))
+}
+
+/// Adds the bytes of a signature. Mostly they are 32, and their count is known where they are copied.
+#[inline(always)]
+fn push_sig(text: &mut Vec<u8>, sig: &[u8]) -> Result<(), AllocError>
+    ensures { OnOk result (text.new.items ≡ text.old.items ++ sig.now) }
+{
+    if sig.len() == 32 {
+        text.extend_from_slice(&sig[..32])?;
+        return Ok(());
+    }
+    text.extend_from_slice(sig)
 }
 
 /// Adds the texts of revisions, joined by commas.
@@ -43,7 +67,7 @@ pub fn push_revs(text: &mut Vec<u8>, revs: &[Rev]) -> Result<(), AllocError>
         if i > 0 {
             text.extend_from_slice(b",")?;
         }
-        push_rev(text, revs[i])?;
+        push_rev(text, &revs[i])?;
     }
     Ok(())
 }
@@ -76,16 +100,9 @@ fn escaped(alloc: Global, string: &str) -> Result<String, AllocError>
     Value::String(String::from_str(alloc, string)?).to_string(alloc)
 }
 
-/// Whether each byte stands for itself in JSON.
+/// Whether each byte stands for itself in JSON: none is a control character, quotation mark or backslash.
 fn is_plain(bytes: &[u8]) -> bool
-    ensures { result ≡ list_all is_plain_byte bytes.now }
+    ensures { IsTrue result → escape bytes.now ≡ bytes.now }
 {
-    bytes.iter().all(|b| is_plain_byte(*b))
-}
-
-/// Whether a byte stands for itself in JSON: no control character, quotation mark or backslash.
-fn is_plain_byte(b: u8) -> bool
-    ensures { result ≡ is_plain_byte b }
-{
-    b >= 32 && b != b'"' && b != b'\\'
+    plain_end(bytes, 0) == bytes.len()
 }

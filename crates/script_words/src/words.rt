@@ -1,13 +1,12 @@
 //! The words of a script, each in a room of its own: what it asks, what it does, and what it prints (docs/PROFILE.md,
 //! "Command lines", "Order of checks" and "Answers").
-ghost use Rattle.std.specs.Prelude.{◌≡◌, [], option_map, IfSome};
+ghost use Rattle.std.specs.Prelude.{◌≡◌, []};
 ghost use Rattle.json_values.specs.LineView.{line_view};
 ghost use Rattle.json_values.specs.LineOrder.{IsOrdered};
-ghost use Rattle.script_words.specs.Ordered.{HasOrder};
 ghost use Rattle.script_engine.specs.Serving.{MayTell};
-ghost use Rattle.script_words.specs.Checks.{needed};
+ghost use Rattle.script_words.specs.Script.{AnswersAsked};
 ghost use Rattle.script_words.specs.Telling.{told_by};
-ghost use Rattle.script_words.specs.words.{Answers, asked_in, asked_of};
+ghost use Rattle.script_words.specs.words.{asked_as, asked_if, asked_in};
 
 mod audit;
 mod backup;
@@ -27,94 +26,248 @@ use std::alloc::Global;
 use std::sync::Wait;
 use std::thread::Threads;
 
-/// What a line asks.
-#[derive(Drop)]
-pub enum Word<'v, 'a> {
-    Load(load::Load<'v, 'a>),
-    Edit(edit::Edit<'v, 'a>),
-    Show(show::Show<'v>),
-    Doc(doc::Doc<'v>),
-    Changes(changes::Changes<'v>),
-    Log(log::Log<'v, 'a>),
-    Audit(audit::Audit<'v, 'a>),
-    Replicate(replicate::Replicate<'v, 'a>),
-    Backup(backup::Backup<'v>),
-    Restore(restore::Restore<'v>),
+/// The words.
+#[derive(Clone, Copy, Drop)]
+enum Word {
+    Load,
+    Edit,
+    Show,
+    Doc,
+    Changes,
+    Log,
+    Audit,
+    Replicate,
+    Backup,
+    Restore,
 }
 
-/// What an object asks, by its word: all required members, each of its kind, and no others.
-pub fn read<'v, 'a>(value: &'v LineValue<'a>) -> Option<Word<'v, 'a>>
-    requires { IsOrdered (line_view value.now) }
-    ensures asked { needed (option_map asked_of result) ≡ asked_in (line_view value.now) }
-    ensures ordered { IfSome result HasOrder }
+/// The word of an object, by its member `do`.
+fn word_of(value: &LineValue<'_>) -> Option<Word>
+    ensures { asked_in (line_view value.now) ≡ asked_if result (line_view value.now) }
 {
     match text_member(value, "do") {
-        Some("load") => match load::read(value) {
-            Some(ask) => Some(Word::Load(ask)),
-            None => None,
-        },
-        Some("edit") => match edit::read(value) {
-            Some(ask) => Some(Word::Edit(ask)),
-            None => None,
-        },
-        Some("show") => match show::read(value) {
-            Some(ask) => Some(Word::Show(ask)),
-            None => None,
-        },
-        Some("doc") => match doc::read(value) {
-            Some(ask) => Some(Word::Doc(ask)),
-            None => None,
-        },
-        Some("changes") => match changes::read(value) {
-            Some(ask) => Some(Word::Changes(ask)),
-            None => None,
-        },
-        Some("log") => match log::read(value) {
-            Some(ask) => Some(Word::Log(ask)),
-            None => None,
-        },
-        Some("audit") => match audit::read(value) {
-            Some(ask) => Some(Word::Audit(ask)),
-            None => None,
-        },
-        Some("replicate") => match replicate::read(value) {
-            Some(ask) => Some(Word::Replicate(ask)),
-            None => None,
-        },
-        Some("backup") => match backup::read(value) {
-            Some(ask) => Some(Word::Backup(ask)),
-            None => None,
-        },
-        Some("restore") => match restore::read(value) {
-            Some(ask) => Some(Word::Restore(ask)),
-            None => None,
-        },
+        Some("load") => Some(Word::Load),
+        Some("edit") => Some(Word::Edit),
+        Some("show") => Some(Word::Show),
+        Some("doc") => Some(Word::Doc),
+        Some("changes") => Some(Word::Changes),
+        Some("log") => Some(Word::Log),
+        Some("audit") => Some(Word::Audit),
+        Some("replicate") => Some(Word::Replicate),
+        Some("backup") => Some(Word::Backup),
+        Some("restore") => Some(Word::Restore),
         _ => None,
     }
 }
 
-/// Serves a word. It waits, where the word is `replicate`.
+/// Serves what an object asks by its word. It waits, where the word is `replicate`.
 pub fn serve<H: Threads + Wait + Sync>(
     rt: &H,
     alloc: Global,
     databases: &mut Databases,
-    word: &Word<'_, '_>,
+    value: &LineValue<'_>,
     answer: &mut Vec<u8>,
 ) -> Result<(), Refusal>
     requires empty { answer.old.items ≡ [] }
-    requires ordered { HasOrder word.now }
-    ensures { MayTell Answers databases.old (asked_of word.now) (told_by result answer.new.items) databases.new }
+    requires ordered { IsOrdered (line_view value.now) }
+    ensures { MayTell AnswersAsked databases.old (asked_in (line_view value.now)) (told_by result answer.new.items)
+        databases.new }
 {
+    let Some(word) = word_of(value) else {
+        return Err(Refusal::BadCommand);
+    };
     match word {
-        Word::Load(ask) => load::serve(alloc, databases, ask, answer),
-        Word::Edit(ask) => edit::serve(alloc, databases, ask, answer),
-        Word::Show(ask) => show::serve(alloc, databases, ask, answer),
-        Word::Doc(ask) => doc::serve(alloc, databases, ask, answer),
-        Word::Changes(ask) => changes::serve(alloc, databases, ask, answer),
-        Word::Log(ask) => log::serve(alloc, databases, ask, answer),
-        Word::Audit(ask) => audit::serve(alloc, databases, ask, answer),
-        Word::Replicate(ask) => replicate::serve(rt, alloc, databases, ask, answer),
-        Word::Backup(ask) => backup::serve(alloc, databases, ask, answer),
-        Word::Restore(ask) => restore::serve(databases, ask, answer),
+        Word::Load => serve_load(alloc, databases, value, answer),
+        Word::Edit => serve_edit(alloc, databases, value, answer),
+        Word::Show => serve_show(alloc, databases, value, answer),
+        Word::Doc => serve_doc(alloc, databases, value, answer),
+        Word::Changes => serve_changes(alloc, databases, value, answer),
+        Word::Log => serve_log(alloc, databases, value, answer),
+        Word::Audit => serve_audit(alloc, databases, value, answer),
+        Word::Replicate => serve_replicate(rt, alloc, databases, value, answer),
+        Word::Backup => serve_backup(alloc, databases, value, answer),
+        Word::Restore => serve_restore(databases, value, answer),
+    }
+}
+
+/// Serves what an object asks by `load`.
+#[inline(never)]
+fn serve_load(
+    alloc: Global,
+    databases: &mut Databases,
+    value: &LineValue<'_>,
+    answer: &mut Vec<u8>,
+) -> Result<(), Refusal>
+    requires empty { answer.old.items ≡ [] }
+    requires ordered { IsOrdered (line_view value.now) }
+    ensures { MayTell AnswersAsked databases.old (asked_as Word.Load (line_view value.now)) (told_by result answer.new.items)
+        databases.new }
+{
+    match load::read(value) {
+        Some(ask) => load::serve(alloc, databases, &ask, answer),
+        None => Err(Refusal::BadCommand),
+    }
+}
+
+/// Serves what an object asks by `edit`.
+#[inline(never)]
+fn serve_edit(
+    alloc: Global,
+    databases: &mut Databases,
+    value: &LineValue<'_>,
+    answer: &mut Vec<u8>,
+) -> Result<(), Refusal>
+    requires empty { answer.old.items ≡ [] }
+    requires ordered { IsOrdered (line_view value.now) }
+    ensures { MayTell AnswersAsked databases.old (asked_as Word.Edit (line_view value.now)) (told_by result answer.new.items)
+        databases.new }
+{
+    match edit::read(value) {
+        Some(ask) => edit::serve(alloc, databases, &ask, answer),
+        None => Err(Refusal::BadCommand),
+    }
+}
+
+/// Serves what an object asks by `show`.
+#[inline(never)]
+fn serve_show(
+    alloc: Global,
+    databases: &Databases,
+    value: &LineValue<'_>,
+    answer: &mut Vec<u8>,
+) -> Result<(), Refusal>
+    requires { answer.old.items ≡ [] }
+    ensures { MayTell AnswersAsked databases.now (asked_as Word.Show (line_view value.now)) (told_by result answer.new.items)
+        databases.now }
+{
+    match show::read(value) {
+        Some(ask) => show::serve(alloc, databases, &ask, answer),
+        None => Err(Refusal::BadCommand),
+    }
+}
+
+/// Serves what an object asks by `doc`.
+#[inline(never)]
+fn serve_doc(
+    alloc: Global,
+    databases: &Databases,
+    value: &LineValue<'_>,
+    answer: &mut Vec<u8>,
+) -> Result<(), Refusal>
+    requires { answer.old.items ≡ [] }
+    ensures { MayTell AnswersAsked databases.now (asked_as Word.Doc (line_view value.now)) (told_by result answer.new.items)
+        databases.now }
+{
+    match doc::read(value) {
+        Some(ask) => doc::serve(alloc, databases, &ask, answer),
+        None => Err(Refusal::BadCommand),
+    }
+}
+
+/// Serves what an object asks by `changes`.
+#[inline(never)]
+fn serve_changes(
+    alloc: Global,
+    databases: &Databases,
+    value: &LineValue<'_>,
+    answer: &mut Vec<u8>,
+) -> Result<(), Refusal>
+    requires { answer.old.items ≡ [] }
+    ensures { MayTell AnswersAsked databases.now (asked_as Word.Changes (line_view value.now)) (told_by result answer.new.items)
+        databases.now }
+{
+    match changes::read(value) {
+        Some(ask) => changes::serve(alloc, databases, &ask, answer),
+        None => Err(Refusal::BadCommand),
+    }
+}
+
+/// Serves what an object asks by `log`.
+#[inline(never)]
+fn serve_log(
+    alloc: Global,
+    databases: &Databases,
+    value: &LineValue<'_>,
+    answer: &mut Vec<u8>,
+) -> Result<(), Refusal>
+    requires { answer.old.items ≡ [] }
+    ensures { MayTell AnswersAsked databases.now (asked_as Word.Log (line_view value.now)) (told_by result answer.new.items)
+        databases.now }
+{
+    match log::read(value) {
+        Some(ask) => log::serve(alloc, databases, &ask, answer),
+        None => Err(Refusal::BadCommand),
+    }
+}
+
+/// Serves what an object asks by `audit`.
+#[inline(never)]
+fn serve_audit(
+    alloc: Global,
+    databases: &Databases,
+    value: &LineValue<'_>,
+    answer: &mut Vec<u8>,
+) -> Result<(), Refusal>
+    requires { answer.old.items ≡ [] }
+    ensures { MayTell AnswersAsked databases.now (asked_as Word.Audit (line_view value.now)) (told_by result answer.new.items)
+        databases.now }
+{
+    match audit::read(value) {
+        Some(ask) => audit::serve(alloc, databases, &ask, answer),
+        None => Err(Refusal::BadCommand),
+    }
+}
+
+/// Serves what an object asks by `replicate`.
+#[inline(never)]
+fn serve_replicate<H: Threads + Wait + Sync>(
+    rt: &H,
+    alloc: Global,
+    databases: &mut Databases,
+    value: &LineValue<'_>,
+    answer: &mut Vec<u8>,
+) -> Result<(), Refusal>
+    requires { answer.old.items ≡ [] }
+    ensures { MayTell AnswersAsked databases.old (asked_as Word.Replicate (line_view value.now)) (told_by result answer.new.items)
+        databases.new }
+{
+    match replicate::read(value) {
+        Some(ask) => replicate::serve(rt, alloc, databases, &ask, answer),
+        None => Err(Refusal::BadCommand),
+    }
+}
+
+/// Serves what an object asks by `backup`.
+#[inline(never)]
+fn serve_backup(
+    alloc: Global,
+    databases: &mut Databases,
+    value: &LineValue<'_>,
+    answer: &mut Vec<u8>,
+) -> Result<(), Refusal>
+    requires { answer.old.items ≡ [] }
+    ensures { MayTell AnswersAsked databases.old (asked_as Word.Backup (line_view value.now)) (told_by result answer.new.items)
+        databases.new }
+{
+    match backup::read(value) {
+        Some(ask) => backup::serve(alloc, databases, &ask, answer),
+        None => Err(Refusal::BadCommand),
+    }
+}
+
+/// Serves what an object asks by `restore`.
+#[inline(never)]
+fn serve_restore(
+    databases: &mut Databases,
+    value: &LineValue<'_>,
+    answer: &mut Vec<u8>,
+) -> Result<(), Refusal>
+    requires { answer.old.items ≡ [] }
+    ensures { MayTell AnswersAsked databases.old (asked_as Word.Restore (line_view value.now)) (told_by result answer.new.items)
+        databases.new }
+{
+    match restore::read(value) {
+        Some(ask) => restore::serve(databases, &ask, answer),
+        None => Err(Refusal::BadCommand),
     }
 }

@@ -93,6 +93,6 @@ fn push_hole(
     answer.extend_from_slice(b" ")?;
     push_json(alloc, answer, id)?;
     answer.extend_from_slice(b" ")?;
-    push_rev(answer, rev)?;
+    push_rev(answer, &rev)?;
     answer.extend_from_slice(b"\n")
 }

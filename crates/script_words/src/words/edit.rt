@@ -98,7 +98,7 @@ fn print(
     answer.extend_from_slice(b" ")?;
     push_json(alloc, answer, id)?;
     answer.extend_from_slice(b" ")?;
-    push_rev(answer, edited.rev)?;
+    push_rev(answer, &edited.rev)?;
     answer.extend_from_slice(b" seq ")?;
     push_number(answer, edited.seq)?;
     answer.extend_from_slice(b"\n")

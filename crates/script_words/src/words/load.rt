@@ -287,5 +287,5 @@ fn push_document(alloc: Global, answer: &mut Vec<u8>, document: &Doc) -> Result<
     let rev = document.ancestry().head();
     push_json(alloc, answer, document.id().text())?;
     answer.extend_from_slice(b" ")?;
-    push_rev(answer, rev)
+    push_rev(answer, &rev)
 }

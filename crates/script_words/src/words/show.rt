@@ -98,7 +98,7 @@ fn push_winner(answer: &mut Vec<u8>, all: &[Rev]) -> Result<(), AllocError>
     ensures { OnOk result (answer.new.items ≡ answer.old.items ++ text_of_any (first_of all.now)) }
 {
     match all.first() {
-        Some(rev) => push_rev(answer, *rev),
+        Some(rev) => push_rev(answer, rev),
         None => Ok(()),
     }
 }
@@ -126,7 +126,7 @@ fn push_leaf(alloc: Global, answer: &mut Vec<u8>, tree: &Tree, leaf: Rev) -> Res
 {
     let ancestry = tree.known_ancestry(alloc, leaf)?;
     answer.extend_from_slice(b"leaf ")?;
-    push_rev(answer, leaf)?;
+    push_rev(answer, &leaf)?;
     if is_deleted(tree, leaf) {
         answer.extend_from_slice(b" deleted ")?;
     } else {

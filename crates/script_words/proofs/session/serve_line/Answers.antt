@@ -5,7 +5,8 @@ use Rattle.script_databases.specs.Refusals.{name_of}
 use Rattle.script_databases.specs.declared.refusal.Refusal.{Refusal}
 use Rattle.script_databases.specs.declared.refusal.Refusal.TheVariants as why
 use Rattle.script_words.specs.Script.{IsNoObject, LinesAnswer}
-use Rattle.script_words.specs.words.{asked_in, asked_of}
+use Rattle.script_words.specs.words.{asked_in}
+use Rattle.json_values.specs.LineView.{line_view}
 use Rattle.script_words.proofs.TellingLemmas.{may_tell}
 use Rattle.script_words.proofs.session.serve_line.Goals as goal
 
@@ -17,12 +18,7 @@ line_refused old line refusal (inr h) = subst (λ r. MayTell LinesAnswer old lin
 pub returns-in-Err : goal.returns-in-Err
 returns-in-Err g c = line_refused c.args.databases.now c.args.line.now c.in-Err.refusal c.in-Err.ensures.err
 
-pub returns-in_default : goal.returns-in_default
-returns-in_default g c =
-    let o = c.in-Ok.ensures.ok in
-    in_full (Err why.BadCommand, inl (o.0, o.1, c.in_default.ensures.asked ∙ ap asked_in o.2), (refl, refl))
-
 pub returns : goal.returns
 returns g c =
     let o = c.in-Ok.ensures.ok in
-    may_tell (λ t a. (Ok (asked_of c.in-Some.word), inl (o.0, o.1, c.in-Some.ensures.asked ∙ ap asked_in o.2), a)) c.serve.ensures
+    may_tell (λ t a. (asked_in (line_view c.in-Ok.value), inl (o.0, o.1, ap asked_in o.2), a)) c.serve.ensures

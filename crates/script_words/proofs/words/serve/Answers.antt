@@ -1,41 +1,47 @@
-use Rattle.std.proofs.Common.{◌≡◌, sym, subst}
-use Rattle.script_engine.specs.Serving.{Told, Answering, MayTell}
+use Rattle.std.proofs.Common.{◌≡◌, Err, refl, sym, ap, subst, ◌∙◌}
+use Rattle.serde_json.specs.Data.{Data}
+use Rattle.script_engine.specs.Serving.{Told, MayTell, in_full}
 use Rattle.script_databases.specs.Databases.{State}
-use Rattle.script_words.specs.words.{Answers, asked_of}
+use Rattle.script_databases.specs.Refusals.{name_of}
+use Rattle.script_databases.specs.declared.refusal.Refusal.TheVariants as why
+use Rattle.script_words.specs.Script.{AnswersAsked}
+use Rattle.script_words.specs.words.{asked_as, asked_in}
 use Rattle.script_words.specs.declared.words.Word.{Word}
-use Rattle.script_words.proofs.TellingLemmas.{may_tell}
 use Rattle.script_words.proofs.words.serve.Goals as goal
 
--- what a room may tell, a word may
-as_word : {K : Type 0} {part : Answering State K} {old new : State} {k : K} {told : Told} (word room : Word) → word ≡ room → ((t : Told) → part old k t new → Answers old (asked_of room) t new) → MayTell part old k told new → MayTell Answers old (asked_of word) told new
-as_word {old = old} {new = new} {told = told} word room e f h = subst (λ w. MayTell Answers old (asked_of w) told new) (sym e) (may_tell f h)
+-- what is told to what is asked by the word, is told to what is asked
+by_word : {old new : State} {told : Told} (d : Data) (word found : Word) → asked_in d ≡ asked_as found d → found ≡ word → MayTell AnswersAsked old (asked_as word d) told new → MayTell AnswersAsked old (asked_in d) told new
+by_word {old = old} {new = new} {told = told} d word found e is h = subst (λ a. MayTell AnswersAsked old a told new) (sym (e ∙ ap (λ w. asked_as w d) is)) h
+
+pub returns-in_default : goal.returns-in_default
+returns-in_default g c = subst (λ a. MayTell AnswersAsked c.args.databases.now a (Err (name_of why.BadCommand)) c.args.databases.now) (sym c.in_default.ensures) (in_full (refl, refl))
 
 pub returns-in-Load : goal.returns-in-Load
-returns-in-Load g c = as_word _ _ c.in-Load.is (λ t a. a) c.serve.ensures
+returns-in-Load g c = by_word _ _ _ c.in-Some.ensures c.in-Load.is c.serve_load.ensures
 
 pub returns-in-Edit : goal.returns-in-Edit
-returns-in-Edit g c = as_word _ _ c.in-Edit.is (λ t a. a) c.serve-in-Edit.ensures
+returns-in-Edit g c = by_word _ _ _ c.in-Some.ensures c.in-Edit.is c.serve_edit.ensures
 
 pub returns-in-Show : goal.returns-in-Show
-returns-in-Show g c = as_word _ _ c.in-Show.is (λ t a. a) c.serve-in-Show.ensures
+returns-in-Show g c = by_word _ _ _ c.in-Some.ensures c.in-Show.is c.serve_show.ensures
 
 pub returns-in-Doc : goal.returns-in-Doc
-returns-in-Doc g c = as_word _ _ c.in-Doc.is (λ t a. a) c.serve-in-Doc.ensures
+returns-in-Doc g c = by_word _ _ _ c.in-Some.ensures c.in-Doc.is c.serve_doc.ensures
 
 pub returns-in-Changes : goal.returns-in-Changes
-returns-in-Changes g c = as_word _ _ c.in-Changes.is (λ t a. a) c.serve-in-Changes.ensures
+returns-in-Changes g c = by_word _ _ _ c.in-Some.ensures c.in-Changes.is c.serve_changes.ensures
 
 pub returns-in-Log : goal.returns-in-Log
-returns-in-Log g c = as_word _ _ c.in-Log.is (λ t a. a) c.serve-in-Log.ensures
+returns-in-Log g c = by_word _ _ _ c.in-Some.ensures c.in-Log.is c.serve_log.ensures
 
 pub returns-in-Audit : goal.returns-in-Audit
-returns-in-Audit g c = as_word _ _ c.in-Audit.is (λ t a. a) c.serve-in-Audit.ensures
+returns-in-Audit g c = by_word _ _ _ c.in-Some.ensures c.in-Audit.is c.serve_audit.ensures
 
 pub returns-in-Replicate : goal.returns-in-Replicate
-returns-in-Replicate g c = as_word _ _ c.in-Replicate.is (λ t a. a) c.serve-in-Replicate.ensures
+returns-in-Replicate g c = by_word _ _ _ c.in-Some.ensures c.in-Replicate.is c.serve_replicate.ensures
 
 pub returns-in-Backup : goal.returns-in-Backup
-returns-in-Backup g c = as_word _ _ c.in-Backup.is (λ t a. a) c.serve-in-Backup.ensures
+returns-in-Backup g c = by_word _ _ _ c.in-Some.ensures c.in-Backup.is c.serve_backup.ensures
 
 pub returns-in-Restore : goal.returns-in-Restore
-returns-in-Restore g c = as_word _ _ c.in-Restore.is (λ t a. a) c.serve-in-Restore.ensures
+returns-in-Restore g c = by_word _ _ _ c.in-Some.ensures c.in-Restore.is c.serve_restore.ensures
