@@ -1,3 +1,3 @@
 pub mod Options
-pub mod Ends
+pub mod RunWords
 pub mod Status

@@ -1,4 +1,4 @@
-//! The command line: what its words set, or why they set nothing.
+//! The command line: what its words set, or why they set nothing (docs/PROFILE.md, "Options").
 ghost use Rattle.std.specs.Prelude.{◌≡◌, ℕ, IfOk, IfErr, map, string_bytes, codes, true, false};
 ghost use Rattle.clap.specs.Words.{HasKind, app_of, fault_of, found_of, first_value, kind_of, one_text, rule_of};
 ghost use Rattle.couch_replicate.specs.declared.options.NoSettings.TheVariants.{NoNumber, Memory};

@@ -1,6 +1,6 @@
 //! A run of the program over any reader and writer: its words, and the script that they have it run.
 ghost use Rattle.std.specs.Prelude.{map, string_bytes};
-ghost use Rattle.couch_replicate.specs.Ends.{Ends};
+ghost use Rattle.couch_replicate.specs.RunWords.{RunsWords};
 
 use crate::options::{NoSettings, read_words};
 use script_engine::{ScriptFault, ScriptRead, ScriptWrite};
@@ -26,7 +26,7 @@ pub fn run_words<'a, H: AllocGlobal + Threads + Wait + Sync, R: ScriptRead, W: S
     reader: &mut R,
     writer: &mut W,
 ) -> Ended
-    ensures { Ends (map string_bytes words.entry.now) (R.left reader.old) (R.left reader.new)
+    ensures { RunsWords (map string_bytes words.entry.now) (R.left reader.old) (R.left reader.new)
         (W.held writer.old) (W.held writer.new) (W.sent writer.new) result }
 {
     let settings = match read_words(rt.alloc(), words) {

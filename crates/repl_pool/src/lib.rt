@@ -28,6 +28,7 @@ mod totals;
 mod windows;
 mod writer;
 
+pub use begin::check_run;
 pub use both_ways::{SyncFault, SyncRan, sync};
 pub use fault::PoolFault;
 pub use gate::{Gate, Open, Place, Turn};

@@ -140,7 +140,7 @@ fn carry_all<F: WriteFilter, G: WriteFilter>(
 }
 
 /// Whether a plan can be begun between two peers: `check_plan` of their databases.
-fn check_peers<F: WriteFilter, G: WriteFilter>(
+pub fn check_peers<F: WriteFilter, G: WriteFilter>(
     source: &Peer<F>,
     target: &Peer<G>,
     plan: &Plan,

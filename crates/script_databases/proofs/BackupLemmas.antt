@@ -12,7 +12,7 @@ use Rattle.couch_base.specs.Database.{most}
 use Rattle.repl_target.specs.peer.Backups.{BackupValue, is_target, greater_life, restore_answer, restored_by, after_restore}
 use Rattle.repl_target.specs.declared.fault.TargetFault.{TargetFault}
 use Rattle.repl_target.specs.declared.fault.TargetFault.TheVariants as faults
-use Rattle.script_databases.specs.Databases.{State, peer_at, put_back_by, backed_of, backed_told}
+use Rattle.script_databases.specs.Databases.{State, put_back_by, backed_of, backed_told}
 use Rattle.script_databases.specs.Stored.{IsIndex}
 use Rattle.script_databases.proofs.IndexLemmas.{index_kept}
 use Rattle.script_databases.specs.declared.refusal.Refusal.{Refusal}

@@ -2,17 +2,15 @@
 use Rattle.std.proofs.Common.{◌≡◌, ℕ, Bool, true, false, cond, List, [], refl, sym, ap, subst, ◌∙◌, Option, Some, None, Result, Ok, Err}
 use Rattle.std.specs.Prelude.{nat_eq, OnOk, OnErr, option_map}
 use Rattle.std.specs.List.{list_any}
+use Rattle.std.specs.Cmp.{Equal-is}
 use Rattle.std.specs.Ordering.{eq_by_cmp, is_eq}
 use Rattle.std.specs.Map.{lookup}
 use Rattle.std.specs.FinMap.{get, insert, get-insert, get-empty}
-use Rattle.std.proofs.lemmas.Bool.{true≢false, eqb-true, eq-eqb, cond_both}
+use Rattle.std.proofs.lemmas.Bool.{true≢false, eqb-true, eq-eqb}
 use Rattle.std.proofs.lemmas.Cmp.{nat_list_cmp_total, tied_itself}
 use Rattle.std.proofs.lemmas.Map.Text.{is_text}
 use Rattle.rev_core.specs.Rev.{RevId}
-use Rattle.rev_tree.specs.declared.origin.Origin.{Origin}
 use Rattle.doc_json.specs.Document.{Document}
-use Rattle.couch_base.specs.Database.{DatabaseValue}
-use Rattle.couch_base.specs.Put.{after_put, put_answer, is_changed}
 use Rattle.couch_base.specs.Edit.{edited, edit_document}
 use Rattle.couch_base.specs.ListLaws.{some_is, none_some}
 use Rattle.couch_base.specs.declared.fault.BaseFault.{BaseFault}
@@ -22,7 +20,8 @@ use Rattle.repl_target.specs.declared.peer.filter.Rules.{Rules}
 use Rattle.script_databases.specs.Databases.{State, peer_at, with_peer, IsTaken, text_cmp, changed_at, with_changed}
 use Rattle.script_databases.specs.declared.refusal.Refusal.{Refusal}
 use Rattle.script_databases.specs.Stored.{Beside, Entries, peers_of, state_of, IsIndex, AllDeny, deny_of, denied_of}
-use Rattle.script_databases.proofs.TableLemmas.{text_cmp-IsAntisymmetric, is_equal, get-by_text}
+use Rattle.script_databases.proofs.TableLemmas.{text_cmp-IsAntisymmetric, get-by_text}
+use Rattle.script_databases.proofs.UuidLemmas.{put_keeps}
 
 -- ---- looking up
 
@@ -59,7 +58,7 @@ at_name s name l q = get-insert nat_list_cmp_total s.peers name l q
 pub split : (s : State) (name : List ℕ) (l : PeerValue) (q : List ℕ) (P : Type 0) → (q ≡ name → peer_at (with_peer s name l) q ≡ Some l → P) → (peer_at (with_peer s name l) q ≡ peer_at s q → P) → P
 split s name l q P f g =
     elim (eq_by_cmp text_cmp q name) as (λ b. eq_by_cmp text_cmp q name ≡ b → P) [
-      | true ↦ λ e. f (text_cmp-IsAntisymmetric q name (is_equal _ e)) (at_name s name l q ∙ ap (λ b. cond b (Some l) (peer_at s q)) e)
+      | true ↦ λ e. f (text_cmp-IsAntisymmetric q name ((Equal-is (text_cmp q name)).0 e)) (at_name s name l q ∙ ap (λ b. cond b (Some l) (peer_at s q)) e)
       | false ↦ λ e. g (at_name s name l q ∙ ap (λ b. cond b (Some l) (peer_at s q)) e)
     ] refl
 
@@ -122,9 +121,6 @@ index_kept (Ok x) old new name f uuids keeps index ok err = index_changed old ne
 index_kept (Err e) old new name f uuids keeps index ok err = subst (λ s. IsIndex s uuids) (sym err) index
 
 -- ---- neither a load nor an edit changes the UUID
-
-put_keeps : (db : DatabaseValue) (d : Document) (o : Origin) → (after_put db d o).uuid ≡ db.uuid
-put_keeps db d o = cond_both (is_changed (put_answer db d)) _ db (λ (x : DatabaseValue). x.uuid ≡ db.uuid) (λ _. refl) (λ _. refl)
 
 pub load_keeps : (d : Document) (l : PeerValue) → (after_load l d).db.uuid ≡ l.db.uuid
 load_keeps d l = put_keeps l.db d (next_local l)

@@ -2,5 +2,5 @@ pub mod TableLemmas
 pub mod NamedLemmas
 pub mod IndexLemmas
 pub mod UuidLemmas
-pub mod CarryingLemmas
+pub mod ReplicationLemmas
 pub mod BackupLemmas

@@ -4,10 +4,8 @@ use Rattle.std.specs.Prelude.{option_map}
 use Rattle.std.specs.declared.alloc.Global.{Global}
 use Rattle.std.specs.Map.{lookup, update}
 use Rattle.std.specs.Str.{bytes_eq}
-use Rattle.std.specs.declared.cmp.Ordering.{Ordering}
-use Rattle.std.specs.declared.cmp.Ordering.TheVariants.{Less, Equal, Greater}
-use Rattle.std.specs.Cmp.{eq_by_cmp_equiv}
-use Rattle.std.specs.Ordering.{eq_by_cmp, is_eq}
+use Rattle.std.specs.Cmp.{Equal-is, eq_by_cmp_equiv}
+use Rattle.std.specs.Ordering.{eq_by_cmp}
 use Rattle.std.specs.FinMap.{FinMap, find, get, contains_key, insert, get-from_entries, get-insert, same_map, slice_cmp-IsAntisymmetric, nat_cmp-IsAntisymmetric, IsAntisymmetric}
 use Rattle.std.proofs.lemmas.Cmp.{nat_list_cmp_total}
 use Rattle.std.specs.HashMap.{HashMap, UpdatesBy}
@@ -20,11 +18,6 @@ use Rattle.script_databases.specs.Stored.{by_text}
 pub text_cmp-IsAntisymmetric : IsAntisymmetric text_cmp
 text_cmp-IsAntisymmetric = slice_cmp-IsAntisymmetric nat_cmp-IsAntisymmetric
 
-pub is_equal : (o : Ordering) → is_eq o ≡ true → o ≡ Equal
-is_equal Less e = absurd (true≢false (sym e))
-is_equal Equal e = refl
-is_equal Greater e = absurd (true≢false (sym e))
-
 -- ---- maps
 
 -- what was found, put in again, changes nothing
@@ -32,7 +25,7 @@ pub insert-same : {V : Type 0} (m : FinMap text_cmp V) (k : List ℕ) (v : V) �
 insert-same {V} m k v is = same_map nat_list_cmp_total text_cmp-IsAntisymmetric _ _ (λ q. get-insert nat_list_cmp_total m k v q ∙ by q (eq_by_cmp text_cmp q k) refl)
   where
     by : (q : List ℕ) (b : Bool) → eq_by_cmp text_cmp q k ≡ b → cond b (Some v) (get m q) ≡ get m q
-    by q true e = sym is ∙ ap (get m) (sym (text_cmp-IsAntisymmetric q k (is_equal _ e)))
+    by q true e = sym is ∙ ap (get m) (sym (text_cmp-IsAntisymmetric q k ((Equal-is (text_cmp q k)).0 e)))
     by q false e = refl
 
 -- ---- tables

@@ -2,5 +2,5 @@ pub mod Refusals
 pub mod MadeIds
 pub mod MadeIdsLaws
 pub mod Databases
-pub mod Carrying
+pub mod Replications
 pub mod Stored

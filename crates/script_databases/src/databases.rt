@@ -1,24 +1,22 @@
 //! The databases of a script.
-ghost use Rattle.std.specs.Prelude.{◌≡◌, ◌≢◌, ◌≤◌, false, true, None, Some, Err, IfOk, OnErr, OnOk, option_map};
+ghost use Rattle.std.specs.Prelude.{◌≡◌, false, true, None, IfOk, OnErr, OnOk, option_map};
 ghost use Rattle.std.specs.FinMap.{contains_key};
 ghost use Rattle.std.specs.Option.{option_copied};
-ghost use Rattle.repl_target.specs.peer.Peer.{PeerValue};
-ghost use Rattle.repl_target.specs.replication.Replication.{plan_answer};
-ghost use Rattle.repl_pool.specs.Faults.{early_answer};
 ghost use Rattle.script_databases.specs.Databases.{State, coded_state};
 ghost use Rattle.script_databases.specs.Stored.{IsIndex, AllDeny, beside_of, program_of, state_of};
 
 use crate::backups::{NamedBackup, find_backup};
-use crate::carrying::{Watched, replicate_alone_at, replicate_at, replicate_watched_at};
 use crate::made_ids::MadeIds;
 use crate::named::{add_at, edit_at, load_at, put_back_at};
+use crate::pair::{find_both, put_in, take_out};
 use crate::refusal::Refusal;
 use crate::settings::Settings;
+use crate::watched::{Watched, board_for, with_reading};
 use couch_base::Put;
 use doc_json::{Body, Doc, DocId};
 use indexmap::{IndexMap, IndexSet};
-use repl_pool::PoolFault;
-use repl_target::{Peer, Plan, Report, Rules, TargetFault};
+use repl_pool::{Open, PoolFault, Progress, Ran, check_run, run, run_on};
+use repl_target::{Peer, Plan, Report, Rules, TargetFault, check_peers, replicate_alone};
 use rev_core::Rev;
 use std::alloc::{AllocError, Global};
 use std::marker::Model;
@@ -83,7 +81,7 @@ impl Databases {
     ghost use Rattle.script_databases.specs.Stored.{deny_of, program_of};
     ghost use Rattle.repl_target.specs.peer.Peer.{new_peer};
     ghost use Rattle.script_databases.specs.Refusals.{GivesOrMemory};
-    ghost use Rattle.script_databases.specs.Carrying.{CarriedAlone, CarriedByPool, CarriesFrom, WatchedIntoAnother};
+    ghost use Rattle.script_databases.specs.Replications.{ReplicatesAlone, ReplicatesBetween, ReplicatesByPool, ReplicatesWatched};
 
     /// No databases, with a copy of the settings, from whose seed ids are made.
     pub fn new(alloc: Global, settings: &Settings) -> Result<Databases, AllocError>
@@ -229,10 +227,10 @@ impl Databases {
         put_back_at(&mut self.by_name, &self.backups, db, name)
     }
 
-    /// Replicates from the database of one name into that of another by the pool. Both are there. It waits.
+    /// Replicates from the database of one name into that of another by the pool, through the gate that is always open.
+    /// Both are there. It waits.
     ///
-    /// Where the names are one, its refusal is the first of those of a run between two peers with one UUID, and nothing
-    /// is changed.
+    /// A plan that is refused before all else changes nothing: so is each where the names are one.
     pub fn replicate<H: Threads + Wait + Sync>(
         &mut self,
         rt: &H,
@@ -243,16 +241,25 @@ impl Databases {
     ) -> Result<Report, PoolFault>
         requires source { contains_key self.old.peers source.now ≡ true }
         requires target { contains_key self.old.peers target.now ≡ true }
-        ensures { CarriesFrom CarriedByPool self.old source.now target.now plan.now result self.new }
+        ensures { ReplicatesBetween ReplicatesByPool self.old source.now target.now plan.now result self.new }
     {
-        if source == target {
-            return Err(pool_refuses_itself(plan));
-        }
-        replicate_at(&mut self.by_name, rt, alloc, source, target, plan)
+        let (sender, receiver) = find_both(&self.by_name, source, target);
+        receiver.law();
+        check_run(sender, receiver, plan)?;
+        let (sender, receiver) = take_out(&mut self.by_name, alloc, source, target);
+        let Ran {
+            source: sender,
+            target: receiver,
+            fetched: _,
+            seats: _,
+            outcome,
+        } = run(rt, alloc, sender, receiver, plan, &Open);
+        put_in(&mut self.by_name, source, target, sender, receiver);
+        outcome
     }
 
     /// Replicates from the database of one name into that of another by the pool, as `replicate`, over a new board with
-    /// one viewer, which reads it once the run has ended. Both are there, and the plan's workers are 1 to 64. It waits.
+    /// one viewer, which reads it once the run has ended. Both are there. It waits.
     ///
     /// `Memory` too, with nothing changed, where there is none for the board.
     pub fn replicate_watched<H: Threads + Wait + Sync>(
@@ -265,16 +272,31 @@ impl Databases {
     ) -> Result<Watched, PoolFault>
         requires source { contains_key self.old.peers source.now ≡ true }
         requires target { contains_key self.old.peers target.now ≡ true }
-        requires two { source.now ≢ target.now }
-        requires workers { (1 ≤ plan.now.workers) × (plan.now.workers ≤ 64) }
-        ensures { CarriesFrom WatchedIntoAnother self.old source.now target.now plan.now result self.new }
+        ensures { ReplicatesBetween ReplicatesWatched self.old source.now target.now plan.now result self.new }
     {
-        replicate_watched_at(&mut self.by_name, rt, alloc, source, target, plan)
+        let (sender, receiver) = find_both(&self.by_name, source, target);
+        receiver.law();
+        check_run(sender, receiver, plan)?;
+        let (board, seats, mut viewer) = board_for(alloc, plan.workers)?;
+        let progress = Progress {
+            board: &board,
+            seats,
+        };
+        let (sender, receiver) = take_out(&mut self.by_name, alloc, source, target);
+        let Ran {
+            source: sender,
+            target: receiver,
+            fetched: _,
+            seats: _,
+            outcome,
+        } = run_on(rt, alloc, sender, receiver, plan, &Open, progress);
+        put_in(&mut self.by_name, source, target, sender, receiver);
+        with_reading(&board, &mut viewer, outcome)
     }
 
     /// Replicates from the database of one name into that of another by one thread. Both are there.
     ///
-    /// Where the names are one, its refusal is that of two peers with one UUID, and nothing is changed.
+    /// A plan that is refused before all else changes nothing: so is each where the names are one.
     pub fn replicate_alone(
         &mut self,
         alloc: Global,
@@ -284,37 +306,13 @@ impl Databases {
     ) -> Result<Report, TargetFault>
         requires source { contains_key self.old.peers source.now ≡ true }
         requires target { contains_key self.old.peers target.now ≡ true }
-        ensures { CarriesFrom CarriedAlone self.old source.now target.now plan.now result self.new }
+        ensures { ReplicatesBetween ReplicatesAlone self.old source.now target.now plan.now result self.new }
     {
-        if source == target {
-            return Err(refuses_itself(plan));
-        }
-        replicate_alone_at(&mut self.by_name, alloc, source, target, plan)
-    }
-}
-
-/// What a replication of a peer into itself by one thread is refused for.
-fn refuses_itself(plan: &Plan) -> TargetFault
-    ensures { (p : PeerValue) → plan_answer p.db.uuid p.db.uuid plan.now ≡ Err result }
-{
-    if plan.batch < 1 || plan.batch > 10_000 {
-        TargetFault::BadBatch
-    } else {
-        TargetFault::SamePeer
-    }
-}
-
-/// What a run of the pool from a peer into itself is refused for.
-fn pool_refuses_itself(plan: &Plan) -> PoolFault
-    ensures { (p : PeerValue) → early_answer p p plan.now ≡ Err result }
-{
-    if plan.workers == 0 {
-        PoolFault::NoWorkers
-    } else if plan.workers > 64 {
-        PoolFault::TooManyWorkers
-    } else if plan.batch < 1 || plan.batch > 10_000 {
-        PoolFault::BadBatch
-    } else {
-        PoolFault::SamePeer
+        let (sender, receiver) = find_both(&self.by_name, source, target);
+        check_peers(sender, receiver, plan)?;
+        let (mut sender, mut receiver) = take_out(&mut self.by_name, alloc, source, target);
+        let outcome = replicate_alone(alloc, &mut sender, &mut receiver, plan);
+        put_in(&mut self.by_name, source, target, sender, receiver);
+        outcome
     }
 }

@@ -4,15 +4,16 @@
 #![tactic(auto)]
 
 mod backups;
-mod carrying;
 mod databases;
 mod made_ids;
 mod named;
+mod pair;
 mod refusal;
 mod settings;
+mod watched;
 
-pub use carrying::Watched;
 pub use databases::{Databases, Edited, PutBack};
 pub use made_ids::MadeIds;
 pub use refusal::Refusal;
 pub use settings::Settings;
+pub use watched::Watched;

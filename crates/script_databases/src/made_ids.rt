@@ -1,4 +1,4 @@
-//! The ids that a script makes.
+//! The ids that a script makes (docs/PROFILE.md, "Made ids").
 ghost use Rattle.std.specs.Prelude.{◌≡◌, ◌<◌, ◌^◌};
 ghost use Rattle.script_databases.specs.MadeIds.{made_id, of_number, next_place};
 

@@ -136,7 +136,7 @@ pub enum Refusal {
 }
 
 impl Refusal {
-    /// The name that an answer gives.
+    /// The name that an answer gives (docs/PROFILE.md, "Names of refusals").
     pub fn name(&self) -> &'static str
         ensures { result.now ≡ name_of self.now }
     {

@@ -3,7 +3,7 @@ pub mod GivenLemmas
 pub mod TextLemmas
 pub mod TellingLemmas
 pub mod WordLemmas
-pub mod SessionLemmas
+pub mod InterpreterLemmas
 pub mod LoadLemmas
 pub mod ReplicateLemmas
 pub mod OrderLemmas

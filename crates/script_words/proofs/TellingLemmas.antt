@@ -59,11 +59,16 @@ unless_memory expected (inl e) s f = in_full (f e)
 unless_memory {answers = answers} {old = old} {new = new} {ask = ask} {refusal = refusal} expected (inr m) s f =
     subst (λ r. MayTell answers old ask (Err (name_of r)) new) (sym m) (subst (λ (x : State). MayTell answers old ask (Err (name_of why.Memory)) x) (sym s) gave_up)
 
+-- a refusal that is handed on is told by its name
+pub handed_on : {L A : Type 0} {answers : Answering State L} {old new : State} {ask : L} (refusal : Refusal) (r : Result A Refusal) (text : List ℕ) → IsErrAnd r (λ e. e ≡ refusal) → MayTell answers old ask (Err (name_of refusal)) new →
+    MayTell answers old ask (told_by r text) new
+handed_on refusal (Ok done) text h told = absurd h
+handed_on {answers = answers} {old = old} {new = new} {ask = ask} refusal (Err e) text h told = subst (λ r. MayTell answers old ask (Err (name_of r)) new) (sym h) told
+
 -- an allocation was refused, and that is told
 pub refused_memory : {L A : Type 0} {answers : Answering State L} {old new : State} {ask : L} (r : Result A Refusal) (text : List ℕ) → IsErrAnd r (λ refusal. refusal ≡ why.Memory) → MayTell answers old ask (Err (name_of why.Memory)) new →
     MayTell answers old ask (told_by r text) new
-refused_memory (Ok done) text h told = absurd h
-refused_memory {answers = answers} {old = old} {new = new} {ask = ask} (Err refusal) text h told = subst (λ r. MayTell answers old ask (Err (name_of r)) new) (sym h) told
+refused_memory r text h told = handed_on why.Memory r text h told
 
 -- what a part may be told, the whole may
 pub may_tell : {K L : Type 0} {part : Answering State K} {whole : Answering State L} {old new : State} {k : K} {l : L} {told : Told} → ((t : Told) → part old k t new → whole old l t new) → MayTell part old k told new → MayTell whole old l told new

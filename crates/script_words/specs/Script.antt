@@ -9,7 +9,7 @@ use Rattle.script_databases.specs.Databases.{State}
 use Rattle.script_databases.specs.declared.refusal.Refusal.{Refusal}
 use Rattle.script_databases.specs.declared.refusal.Refusal.TheVariants as why
 use Rattle.script_words.specs.Telling.{Refuses}
-use Rattle.script_words.specs.words.{Asked, asked_in, Answers}
+use Rattle.script_words.specs.words.{Asked, asked_in, WordsAnswer}
 
 -- the line is this JSON object
 abbrev pub IsObject : List ℕ → Members → Type 0
@@ -26,7 +26,7 @@ Asks line asked =
 
 -- what is asked is answered, or refused and everything stays
 abbrev pub AnswersAsked : State → Result Asked Refusal → Told → State → Type 0
-AnswersAsked old (Ok ask) told new = Answers old ask told new
+AnswersAsked old (Ok ask) told new = WordsAnswer old ask told new
 AnswersAsked old (Err refusal) told new = Refuses refusal old told new
 
 -- what lines may be told

@@ -16,7 +16,7 @@ use Rattle.script_words.specs.words.Doc.{DocAsk, doc_in, PrintsDocument}
 use Rattle.script_words.specs.words.Changes.{ChangesAsk, changes_in, ListsChanges}
 use Rattle.script_words.specs.words.Log.{LogAsk, log_in, Logs}
 use Rattle.script_words.specs.words.Audit.{AuditAsk, audit_in, Audits}
-use Rattle.script_words.specs.words.Replicate.{ReplicateAsk, replicate_in, Replicates}
+use Rattle.script_words.specs.words.Replicate.{ReplicateAsk, replicate_in, ReportsReplication}
 use Rattle.script_words.specs.words.Backup.{BackupAsk, backup_in, BacksUp}
 use Rattle.script_words.specs.words.Restore.{RestoreAsk, restore_in, Restores}
 use Rattle.script_words.specs.declared.words.Word.{Word}
@@ -85,14 +85,14 @@ asked_in d = do
   asked_by name d
 
 -- what is told to what is asked, and the state that it leaves
-abbrev pub Answers : Answering State Asked
-Answers old (load ask) told new = Loads old ask told new
-Answers old (edit ask) told new = Edits old ask told new
-Answers old (show ask) told new = Shows old ask told new
-Answers old (doc ask) told new = PrintsDocument old ask told new
-Answers old (changes ask) told new = ListsChanges old ask told new
-Answers old (log ask) told new = Logs old ask told new
-Answers old (audit ask) told new = Audits old ask told new
-Answers old (replicate ask) told new = Replicates old ask told new
-Answers old (backup ask) told new = BacksUp old ask told new
-Answers old (restore ask) told new = Restores old ask told new
+abbrev pub WordsAnswer : Answering State Asked
+WordsAnswer old (load ask) told new = Loads old ask told new
+WordsAnswer old (edit ask) told new = Edits old ask told new
+WordsAnswer old (show ask) told new = Shows old ask told new
+WordsAnswer old (doc ask) told new = PrintsDocument old ask told new
+WordsAnswer old (changes ask) told new = ListsChanges old ask told new
+WordsAnswer old (log ask) told new = Logs old ask told new
+WordsAnswer old (audit ask) told new = Audits old ask told new
+WordsAnswer old (replicate ask) told new = ReportsReplication old ask told new
+WordsAnswer old (backup ask) told new = BacksUp old ask told new
+WordsAnswer old (restore ask) told new = Restores old ask told new

@@ -2,13 +2,13 @@
 //!
 //! What a script is stands in docs/PROFILE.md, "Command lines" and "Answers". A line is read as an object (`members`),
 //! which asks for a word (`words`); the word's room reads its members, looks at what they give (`given`), does it with
-//! the databases, and puts the answer's text into a buffer (`texts`). `session` runs a whole script.
+//! the databases, and puts the answer's text into a buffer (`texts`). `interpreter` runs a whole script.
 #![tactic(auto)]
 
 mod given;
+mod interpreter;
 mod members;
-mod session;
 mod texts;
 mod words;
 
-pub use session::run_script;
+pub use interpreter::run_script;

@@ -1,6 +1,5 @@
 -- `replicate`: docs/PROFILE.md, "Command lines", "Order of checks" and "Answers".
-use Rattle.std.specs.Prelude.{◌≡◌, ◌⊎◌, ◌<◌, ◌≤◌, ℕ, Bool, true, false, not, ◌&&◌, nat_le, List, [], ◌∷◌, ◌++◌, codes, decimal, Option, Some, None, unwrap_or, option_map, Result, Ok, Err}
-use Rattle.std.specs.Str.{bytes_eq}
+use Rattle.std.specs.Prelude.{◌≡◌, ◌⊎◌, ◌<◌, ◌≤◌, ℕ, Bool, true, false, List, [], ◌∷◌, ◌++◌, codes, decimal, Option, Some, None, unwrap_or, option_map, Result, Ok, Err}
 use Rattle.serde_json.specs.Data.{Data}
 use Rattle.serde_json.specs.Find.{as_bool}
 use Rattle.json_values.specs.LineView.{line_items}
@@ -13,10 +12,10 @@ use Rattle.repl_target.specs.declared.fault.Report.{Report}
 use Rattle.repl_target.specs.declared.fault.TargetFault.{TargetFault}
 use Rattle.repl_target.specs.declared.replication.Plan.{Plan}
 use Rattle.script_engine.specs.Serving.{Told, Answering}
-use Rattle.script_databases.specs.Carrying.{CarriedAlone, CarriedByPool, WatchedIntoAnother}
+use Rattle.script_databases.specs.Replications.{ReplicatesAlone, ReplicatesByPool, ReplicatesWatched}
 use Rattle.script_databases.specs.Databases.{Program, State, drawn_one, next_made}
 use Rattle.script_databases.specs.Refusals.{GivesOrMemory, run_stop_of, stop_of}
-use Rattle.script_databases.specs.declared.carrying.Watched.{Watched}
+use Rattle.script_databases.specs.declared.watched.Watched.{Watched}
 use Rattle.script_databases.specs.declared.refusal.Refusal.{Refusal}
 use Rattle.script_databases.specs.declared.refusal.Refusal.TheVariants as why
 use Rattle.rev_core.specs.Checks.{◌>>=◌}
@@ -175,23 +174,18 @@ abbrev pub ending_of_watched : Result Watched PoolFault → Result Ending Refusa
 ending_of_watched (Ok watched) = Ok (Shown watched)
 ending_of_watched (Err fault) = ending_of_run (Err fault)
 
--- a line asks for progress that a board can show: between two databases, by as many workers as a pool may have
-abbrev pub is_watched : ReplicateAsk → Plan → Bool
-is_watched ask plan =
-    ask.options.progress && not (bytes_eq ask.source ask.target) && nat_le 1 plan.workers && nat_le plan.workers 64
-
--- how a replication ended that was carried by one thread, where the line says so; else by the pool, with a board where
--- the line asks for progress that one can show
+-- how a replication ended by one thread, where the line says so; else by the pool, with a board where the line asks for
+-- progress
 abbrev pub EndsBy : Bool → Bool → State → List ℕ → List ℕ → PeerValue → PeerValue → Plan → Result Ending Refusal → State
     → Type 0
-EndsBy true watched old source target s t plan ending new =
-    (result : Result Report TargetFault) × CarriedAlone old source target s t plan result new
+EndsBy true progress old source target s t plan ending new =
+    (result : Result Report TargetFault) × ReplicatesAlone old source target s t plan result new
     × (ending ≡ ending_of result)
 EndsBy false true old source target s t plan ending new =
-    (result : Result Watched PoolFault) × WatchedIntoAnother old source target s t plan result new
+    (result : Result Watched PoolFault) × ReplicatesWatched old source target s t plan result new
     × (ending ≡ ending_of_watched result)
 EndsBy false false old source target s t plan ending new =
-    (result : Result Report PoolFault) × CarriedByPool old source target s t plan result new
+    (result : Result Report PoolFault) × ReplicatesByPool old source target s t plan result new
     × (ending ≡ ending_of_run result)
 
 abbrev pub replicated_text : SessionId → Result Ending Refusal → Result (List ℕ) Refusal
@@ -205,8 +199,8 @@ abbrev pub ReplicatesChosen : State → ReplicateAsk → PeerValue × PeerValue 
 ReplicatesChosen old ask both (Ok chosen) told new =
     (last_second < moment_of old.program ask.options) × Refuses why.BadMoment (with_session old ask.options) told new
     ⊎ (moment_of old.program ask.options ≤ last_second) × (ending : Result Ending Refusal)
-    × EndsBy ask.options.alone (is_watched ask (plan_of old ask.options chosen)) (with_session old ask.options)
-    ask.source ask.target both.0 both.1 (plan_of old ask.options chosen) ending new
+    × EndsBy ask.options.alone ask.options.progress (with_session old ask.options) ask.source ask.target both.0 both.1
+    (plan_of old ask.options chosen) ending new
     × (told ≡ told_of (replicated_text (plan_of old ask.options chosen).session ending))
 ReplicatesChosen old ask both (Err refusal) told new = Refuses refusal (with_session old ask.options) told new
 
@@ -226,5 +220,5 @@ both_of s ask = do
   target ← database_of s ask.target
   Ok (source, target)
 
-abbrev pub Replicates : Answering State ReplicateAsk
-Replicates old ask told new = ReplicatesFound old ask (both_of old ask) told new
+abbrev pub ReportsReplication : Answering State ReplicateAsk
+ReportsReplication old ask told new = ReplicatesFound old ask (both_of old ask) told new

@@ -58,10 +58,7 @@ pub fn serve(
     let Some(target) = databases.find(ask.target) else {
         return Err(Refusal::NoDatabase);
     };
-    let chosen = match read_choice(alloc, ask.doc_ids) {
-        Ok(chosen) => chosen,
-        Err(refusal) => return Err(refusal),
-    };
+    let chosen = read_choice(alloc, ask.doc_ids)?;
     let found = audit(alloc, source, target, chosen.as_ref())?;
     print(alloc, answer, found)?;
     Ok(())

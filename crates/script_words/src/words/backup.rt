@@ -42,10 +42,7 @@ pub fn serve(
     requires { answer.old.items ≡ [] }
     ensures { MayTell BacksUp databases.old (backup_asked ask.now) (told_by result answer.new.items) databases.new }
 {
-    let seq = match databases.back_up(alloc, ask.db, ask.name) {
-        Ok(seq) => seq,
-        Err(refusal) => return Err(refusal),
-    };
+    let seq = databases.back_up(alloc, ask.db, ask.name)?;
     print(answer, ask.db, ask.name, seq)?;
     Ok(())
 }

@@ -52,14 +52,8 @@ pub fn serve(
     let Some(peer) = databases.find(ask.db) else {
         return Err(Refusal::NoDatabase);
     };
-    let id = match read_id(alloc, ask.id) {
-        Ok(id) => id,
-        Err(refusal) => return Err(refusal),
-    };
-    let named = match read_rev(ask.rev) {
-        Ok(named) => named,
-        Err(refusal) => return Err(refusal),
-    };
+    let id = read_id(alloc, ask.id)?;
+    let named = read_rev(ask.rev)?;
     let Some(tree) = peer.db().tree(&id) else {
         return Err(Refusal::NoSuchDocument);
     };

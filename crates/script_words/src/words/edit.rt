@@ -63,22 +63,10 @@ pub fn serve(
     if !databases.has(ask.db) {
         return Err(Refusal::NoDatabase);
     }
-    let id = match read_id(alloc, ask.id) {
-        Ok(id) => id,
-        Err(refusal) => return Err(refusal),
-    };
-    let parent = match read_rev(ask.parent) {
-        Ok(parent) => parent,
-        Err(refusal) => return Err(refusal),
-    };
-    let body = match read_content_or_empty(alloc, ask.body) {
-        Ok(body) => body,
-        Err(refusal) => return Err(refusal),
-    };
-    let edited = match databases.edit(ask.db, &id, parent, ask.deleted, &body) {
-        Ok(edited) => edited,
-        Err(refusal) => return Err(refusal),
-    };
+    let id = read_id(alloc, ask.id)?;
+    let parent = read_rev(ask.parent)?;
+    let body = read_content_or_empty(alloc, ask.body)?;
+    let edited = databases.edit(ask.db, &id, parent, ask.deleted, &body)?;
     print(alloc, answer, ask.db, id.text(), edited)?;
     Ok(())
 }

@@ -80,18 +80,12 @@ fn load_there(
         (record { db = db.now; uuid = None; doc = option_map (λ v. line_view v.now) doc.entry })
         (told_by result answer.new.items) databases.new }
 {
-    let given = match read_document(alloc, doc) {
-        Ok(given) => given,
-        Err(refusal) => return Err(refusal),
-    };
+    let given = read_document(alloc, doc)?;
     let Some(document) = given else {
         print_there(answer, db)?;
         return Ok(());
     };
-    let put = match databases.load(db, &document) {
-        Ok(put) => put,
-        Err(refusal) => return Err(refusal),
-    };
+    let put = databases.load(db, &document)?;
     print_put(alloc, answer, db, &document, put)?;
     Ok(())
 }
@@ -115,10 +109,7 @@ fn load_given(
     if databases.is_taken(uuid) {
         return Err(Refusal::UuidTaken);
     }
-    let given = match read_document(alloc, doc) {
-        Ok(given) => given,
-        Err(refusal) => return Err(refusal),
-    };
+    let given = read_document(alloc, doc)?;
     load_new(alloc, databases, db, uuid, given, answer)
 }
 
@@ -137,10 +128,7 @@ fn load_made(
         (record { db = db.now; uuid = None; doc = option_map (λ v. line_view v.now) doc.entry })
         (told_by result answer.new.items) databases.new }
 {
-    let given = match read_document(alloc, doc) {
-        Ok(given) => given,
-        Err(refusal) => return Err(refusal),
-    };
+    let given = read_document(alloc, doc)?;
     let uuid = databases.draw();
     if databases.is_taken(uuid) {
         return Err(Refusal::UuidTaken);
@@ -202,10 +190,7 @@ fn make_with(
         (told_by result answer.new.items) databases.new }
 {
     let mut peer = databases.make(alloc, uuid)?;
-    let put = match peer.load(document) {
-        Ok(put) => put,
-        Err(fault) => return Err(Refusal::from(fault)),
-    };
+    let put = peer.load(document)?;
     databases.add(alloc, db, peer)?;
     print_put(alloc, answer, db, document, put)?;
     Ok(())

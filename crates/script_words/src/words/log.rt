@@ -79,16 +79,10 @@ pub fn serve(
     let Some(target) = databases.find(ask.target) else {
         return Err(Refusal::NoDatabase);
     };
-    let chosen = match read_choice(alloc, ask.doc_ids) {
-        Ok(chosen) => chosen,
-        Err(refusal) => return Err(refusal),
-    };
+    let chosen = read_choice(alloc, ask.doc_ids)?;
     let rep = rep_between(source, target, chosen.as_ref())?;
     let log = log_held(alloc, source, target, ask.side, &rep)?;
-    let text = match write_log(alloc, &rep, &log) {
-        Ok(text) => text,
-        Err(fault) => return Err(Refusal::from(fault)),
-    };
+    let text = write_log(alloc, &rep, &log)?;
     print(answer, text.as_slice())?;
     Ok(())
 }

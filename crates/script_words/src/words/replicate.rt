@@ -4,11 +4,11 @@ ghost use Rattle.std.specs.FinMap.{contains_key};
 ghost use Rattle.json_values.specs.LineView.{line_view};
 ghost use Rattle.repl_log.specs.Text.{id_digits};
 ghost use Rattle.script_engine.specs.Serving.{MayTell};
-ghost use Rattle.script_databases.specs.Carrying.{CarriesFrom};
+ghost use Rattle.script_databases.specs.Replications.{ReplicatesBetween};
 ghost use Rattle.script_databases.specs.declared.refusal.Refusal.TheVariants.{BadMoment};
 ghost use Rattle.script_words.specs.Checks.{needed};
 ghost use Rattle.script_words.specs.Telling.{told_by};
-ghost use Rattle.script_words.specs.words.Replicate.{Replicates, EndsBy, checked_part, documents_part, ending_line, ending_of, ending_of_run, ending_of_watched, is_watched, last_second, moment_of, options_in, plan_with, progress_line, replicate_asked, replicate_in, report_line, session_of, session_part, stopped_line, with_session};
+ghost use Rattle.script_words.specs.words.Replicate.{EndsBy, ReportsReplication, checked_part, documents_part, ending_line, ending_of, ending_of_run, ending_of_watched, last_second, moment_of, options_in, plan_with, progress_line, replicate_asked, replicate_in, report_line, session_of, session_part, stopped_line, with_session};
 
 use crate::given::read_choice;
 use crate::members::{
@@ -36,8 +36,8 @@ pub struct Replicate<'v, 'a> {
     pub options: Options,
 }
 
-/// What a line says of a replication besides its two sides and its documents: what it leaves out is none, and `alone` and `progress` are
-/// false then.
+/// What a line says of a replication besides its two sides and its documents: what it leaves out is none, and `alone`
+/// and `progress` are false then.
 #[derive(Clone, Copy, Debug, PartialEq, Eq)]
 pub struct Options {
     /// The number of the UUID that is the new session's id.
@@ -133,7 +133,7 @@ pub fn serve<H: Threads + Wait + Sync>(
     answer: &mut Vec<u8>,
 ) -> Result<(), Refusal>
     requires { answer.old.items ≡ [] }
-    ensures { MayTell Replicates databases.old (replicate_asked ask.now) (told_by result answer.new.items)
+    ensures { MayTell ReportsReplication databases.old (replicate_asked ask.now) (told_by result answer.new.items)
         databases.new }
 {
     if !databases.has(ask.source) {
@@ -143,18 +143,9 @@ pub fn serve<H: Threads + Wait + Sync>(
         return Err(Refusal::NoDatabase);
     }
     let session = session_asked(databases, &ask.options);
-    let chosen = match read_choice(alloc, ask.doc_ids) {
-        Ok(chosen) => chosen,
-        Err(refusal) => return Err(refusal),
-    };
-    let plan = match plan_asked(databases, &ask.options, session, chosen) {
-        Ok(plan) => plan,
-        Err(refusal) => return Err(refusal),
-    };
-    let ending = match carry(rt, alloc, databases, ask, &plan) {
-        Ok(ending) => ending,
-        Err(refusal) => return Err(refusal),
-    };
+    let chosen = read_choice(alloc, ask.doc_ids)?;
+    let plan = plan_asked(databases, &ask.options, session, chosen)?;
+    let ending = run_plan(rt, alloc, databases, ask, &plan)?;
     print(alloc, answer, plan.session, &ending)?;
     Ok(())
 }
@@ -200,8 +191,8 @@ fn plan_asked(
 }
 
 /// Replicates between the two databases of a line, which are there: by one thread where the line says so, else by the
-/// pool.
-fn carry<H: Threads + Wait + Sync>(
+/// pool, whose progress is shown where the line asks for it.
+fn run_plan<H: Threads + Wait + Sync>(
     rt: &H,
     alloc: Global,
     databases: &mut Databases,
@@ -210,25 +201,17 @@ fn carry<H: Threads + Wait + Sync>(
 ) -> Result<Ending, Refusal>
     requires source { contains_key databases.old.peers ask.now.source.now ≡ true }
     requires target { contains_key databases.old.peers ask.now.target.now ≡ true }
-    ensures { CarriesFrom (EndsBy ask.now.options.alone (is_watched (replicate_asked ask.now) plan.now)) databases.old
+    ensures { ReplicatesBetween (EndsBy ask.now.options.alone ask.now.options.progress) databases.old
         ask.now.source.now ask.now.target.now plan.now result databases.new }
 {
     if ask.options.alone {
         return ending_of(databases.replicate_alone(alloc, ask.source, ask.target, plan));
     }
-    if is_watched(ask, plan) {
+    if ask.options.progress {
         let outcome = databases.replicate_watched(rt, alloc, ask.source, ask.target, plan);
         return ending_of_watched(outcome);
     }
     ending_of_run(databases.replicate(rt, alloc, ask.source, ask.target, plan))
-}
-
-/// Whether a line asks for progress that a board can show: between two databases, by as many workers as a pool may
-/// have.
-fn is_watched(ask: &Replicate<'_, '_>, plan: &Plan) -> bool
-    ensures { result ≡ is_watched (replicate_asked ask.now) plan.now }
-{
-    ask.options.progress && ask.source != ask.target && plan.workers >= 1 && plan.workers <= 64
 }
 
 /// How a run of the pool ended that was watched.

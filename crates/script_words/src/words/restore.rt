@@ -41,10 +41,7 @@ pub fn serve(
     requires { answer.old.items ≡ [] }
     ensures { MayTell Restores databases.old (restore_asked ask.now) (told_by result answer.new.items) databases.new }
 {
-    let back = match databases.put_back(ask.db, ask.name) {
-        Ok(back) => back,
-        Err(refusal) => return Err(refusal),
-    };
+    let back = databases.put_back(ask.db, ask.name)?;
     print(answer, ask.db, ask.name, back)?;
     Ok(())
 }

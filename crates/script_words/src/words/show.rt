@@ -51,10 +51,7 @@ pub fn serve(
     let Some(peer) = databases.find(ask.db) else {
         return Err(Refusal::NoDatabase);
     };
-    let id = match read_id(alloc, ask.id) {
-        Ok(id) => id,
-        Err(refusal) => return Err(refusal),
-    };
+    let id = read_id(alloc, ask.id)?;
     let Some(tree) = peer.db().tree(&id) else {
         return Err(Refusal::NoSuchDocument);
     };

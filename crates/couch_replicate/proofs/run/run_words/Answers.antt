@@ -8,7 +8,7 @@ use Rattle.script_engine.specs.declared.fault.ScriptFault.{ScriptFault}
 use Rattle.script_engine.specs.declared.fault.ScriptFault.TheVariants.{Read}
 use Rattle.script_databases.specs.Databases.{Program, State, no_databases}
 use Rattle.script_words.specs.Script.{LinesAnswer}
-use Rattle.couch_replicate.specs.Ends.{Answered}
+use Rattle.couch_replicate.specs.RunWords.{Answered}
 use Rattle.couch_replicate.proofs.run.run_words.Goals as goal
 
 -- what the run of a script answered

@@ -1,27 +1,90 @@
-use Rattle.std.proofs.Common.{subst, inr, ap}
+use Rattle.std.proofs.Common.{Err, sym, ap, subst, ◌∙◌}
+use Rattle.std.proofs.lemmas.Result.{err_from_is_err_and}
+use Rattle.std.specs.FinMap.{contains_key}
+use Rattle.repl_target.specs.peer.Law.{LawfulSessions}
 use Rattle.repl_target.specs.peer.Peer.{PeerValue}
-use Rattle.script_databases.specs.Carrying.{CarriedByPool, CarriesFrom}
 use Rattle.script_databases.specs.Databases.{State}
-use Rattle.script_databases.specs.Stored.{beside_of, state_of}
-use Rattle.script_databases.proofs.IndexLemmas.{deny_kept}
-use Rattle.script_databases.proofs.CarryingLemmas.{differ, index_carried}
+use Rattle.script_databases.specs.Replications.{Nowhere, ReplicatesBetween, ReplicatesByPool}
+use Rattle.script_databases.specs.Stored.{beside_of, deny_of, peers_of, state_of}
+use Rattle.script_databases.proofs.ReplicationLemmas.{deny_left, has_source, has_target, index_left, refuses_is, run_denied, run_names, run_refused, state_left}
 use Rattle.script_databases.proofs.databases.Databases.replicate.Goals as goal
 
+pub take_out-sender-requires-clause-two : goal.take_out-sender-requires-clause-two
+take_out-sender-requires-clause-two g c =
+    run_names (peers_of c.self.inside.by_name.entries) c.args.source.now c.args.target.now _ _ c.args.plan.now c.find_both.ensures.source c.find_both.ensures.target.0 c.in_ok-check_run.ensures
+
+pub put_in-requires-clause-source : goal.put_in-requires-clause-source
+put_in-requires-clause-source g c =
+    let left = c.take_out-sender.ensures.left in
+    has_source (peers_of c.self.inside.by_name.entries) _ c.args.source.now c.args.target.now left.0.1 left.1.1 left.2 (ap (λ (s : State). contains_key s.peers c.args.source.now) c.self.view_is ∙ c.requires.source)
+
+pub put_in-requires-clause-target : goal.put_in-requires-clause-target
+put_in-requires-clause-target g c =
+    let left = c.take_out-sender.ensures.left in
+    has_target (peers_of c.self.inside.by_name.entries) _ c.args.source.now c.args.target.now left.0.1 left.1.1 left.2 (ap (λ (s : State). contains_key s.peers c.args.target.now) c.self.view_is ∙ c.requires.target)
+
+pub returns-in_err-check_run : goal.returns-in_err-check_run
+returns-in_err-check_run g c =
+    let beside = beside_of c.self.inside.settings c.self.inside.drawn c.self.inside.backups.items in
+    let es = c.self.inside.by_name.entries in
+    let a = c.args.source.now in
+    let b = c.args.target.now in
+    let plan = c.args.plan.now in
+    let t = c.find_both.result.1.now in
+    let told = err_from_is_err_and c.from_residual.result c.from_residual.ensures.1 in
+    let lawful = subst (λ f. LawfulSessions f t.1) (refuses_is beside.program.deny es b t.0 c.self.invariant.1 c.find_both.ensures.target.1) c.law.ensures.peer.sessions in
+    let refused = run_refused beside es a b _ t.1 plan c.in_err-check_run.field-0.0 c.find_both.ensures.source c.find_both.ensures.target.0 lawful (sym c.in_err-check_run.ensures) in
+    subst (λ st. ReplicatesBetween ReplicatesByPool st a b plan c.from_residual.result st) c.self.view_is
+    (subst (λ r. ReplicatesBetween ReplicatesByPool (state_of beside es) a b plan r (state_of beside es)) (sym (told.1 ∙ ap Err told.2)) refused)
+
 pub invariant_of-self : goal.invariant_of-self
-invariant_of-self t c =
-    let g = beside_of c.self.inside.settings c.self.inside.drawn c.self.inside.backups.items in
-    let old = c.self.inside.by_name.entries in
-    let new = c.replicate_at.new.names.entries in
-    let done = c.replicate_at.ensures.carried g c.self.invariant.1 in
-    let run = done.4.3 in (
-      index_carried (state_of g old) (state_of g new) c.args.source.now c.args.target.now done.0 done.1 done.4.0 done.4.1 c.self.inside.uuids.keys (differ c.args.source.now c.args.target.now c.if-eq.ensures) done.2 done.3
-          (ap (λ (p : PeerValue). p.db.uuid) run.log) run.later.db.uuid done.4.4 c.self.invariant.0,
-      deny_kept g.program.deny old new c.self.invariant.1 c.replicate_at.ensures.filters,
+invariant_of-self g c =
+    let beside = beside_of c.self.inside.settings c.self.inside.drawn c.self.inside.backups.items in
+    let es = c.self.inside.by_name.entries in
+    let mid = c.take_out-sender.new.names.entries in
+    let new = c.put_in.new.names.entries in
+    let a = c.args.source.now in
+    let b = c.args.target.now in
+    let plan = c.args.plan.now in
+    let s = c.take_out-sender.result.0 in
+    let t = c.take_out-sender.result.1 in
+    let left = c.take_out-sender.ensures.left in
+    let there = c.take_out-sender.ensures.source in
+    let there' = c.take_out-sender.ensures.target in
+    let ran = c.run-sender.result in
+    let runs = c.run-sender.ensures.runs in (
+      index_left (state_of beside es) (state_of beside new) a b s.1 t.1 ran.source.1 ran.target.1 c.self.inside.uuids.keys (run_names (peers_of es) a b _ _ plan c.find_both.ensures.source c.find_both.ensures.target.0 c.in_ok-check_run.ensures) there.0 there'.0
+          (ap (λ (p : PeerValue). p.db.uuid) runs.log) runs.later.db.uuid (state_left beside es mid new a b left.0.1 left.1.1 ran.source.1 ran.target.1 left.2 c.put_in.ensures.peers) c.self.invariant.0,
+      deny_left beside.program.deny es mid new a b (deny_of left.0.0) (deny_of left.1.0) (deny_of s.0) (deny_of t.0) (deny_of ran.source.0) (deny_of ran.target.0) left.3 c.put_in.ensures.filters
+          (ap deny_of runs.filter) (ap deny_of runs.grown.0) there.1 there'.1 c.self.invariant.1,
     )
 
 pub returns : goal.returns
-returns t c =
-    let g = beside_of c.self.inside.settings c.self.inside.drawn c.self.inside.backups.items in
-    let done = c.replicate_at.ensures.carried g c.self.invariant.1 in
-    subst (λ (st : State). CarriesFrom CarriedByPool st c.args.source.now c.args.target.now c.args.plan.now c.replicate_at.result (state_of g c.replicate_at.new.names.entries)) c.self.view_is
-    (done.0, done.1, done.2, done.3, inr (differ c.args.source.now c.args.target.now c.if-eq.ensures, done.4))
+returns g c =
+    let beside = beside_of c.self.inside.settings c.self.inside.drawn c.self.inside.backups.items in
+    let es = c.self.inside.by_name.entries in
+    let mid = c.take_out-sender.new.names.entries in
+    let new = c.put_in.new.names.entries in
+    let a = c.args.source.now in
+    let b = c.args.target.now in
+    let plan = c.args.plan.now in
+    let s = c.take_out-sender.result.0 in
+    let t = c.take_out-sender.result.1 in
+    let left = c.take_out-sender.ensures.left in
+    let there = c.take_out-sender.ensures.source in
+    let there' = c.take_out-sender.ensures.target in
+    let ran = c.run-sender.result in
+    let runs = c.run-sender.ensures.runs in
+    subst (λ (st : State). ReplicatesBetween ReplicatesByPool st a b plan ran.outcome (state_of beside new)) c.self.view_is (
+      s.1,
+      t.1,
+      there.0,
+      there'.0,
+      (
+        ran.source.1,
+        ran.target.1,
+        ran.fetched.items,
+        run_denied ⊥ Nowhere plan beside.program.deny s t ran.source ran.target ran.fetched.items ran.outcome (refuses_is beside.program.deny es b t.0 c.self.invariant.1 there'.1) runs,
+        state_left beside es mid new a b left.0.1 left.1.1 ran.source.1 ran.target.1 left.2 c.put_in.ensures.peers,
+      ),
+    )

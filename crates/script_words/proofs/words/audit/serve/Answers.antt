@@ -3,7 +3,7 @@ use Rattle.script_engine.specs.Serving.{in_full, gave_up}
 use Rattle.script_databases.specs.declared.refusal.Refusal.TheVariants as why
 use Rattle.repl_target.specs.logs.Audit.{audit_answer}
 use Rattle.script_words.specs.words.Audit.{audit_text}
-use Rattle.script_words.proofs.TellingLemmas.{passes, stops, is_found, is_missing, reads, printed, unless_memory, refused_memory}
+use Rattle.script_words.proofs.TellingLemmas.{passes, stops, is_found, is_missing, reads, printed, unless_memory, handed_on, refused_memory}
 use Rattle.script_words.proofs.words.audit.serve.Goals as goal
 
 pub returns-in_default : goal.returns-in_default
@@ -12,11 +12,11 @@ returns-in_default c = in_full (reads (Err why.NoDatabase) (stops _ (is_missing 
 pub returns-in_default-find : goal.returns-in_default-find
 returns-in_default-find c = in_full (reads (Err why.NoDatabase) (passes _ (is_found why.NoDatabase (sym c.in-Some.ensures)) ∙ stops _ (is_missing why.NoDatabase (sym c.in_default-find.ensures))))
 
-pub returns-in-Err : goal.returns-in-Err
-returns-in-Err c = unless_memory _ c.in-Err.ensures refl (λ e. reads (Err c.in-Err.refusal) (passes _ (is_found why.NoDatabase (sym c.in-Some.ensures)) ∙ passes _ (is_found why.NoDatabase (sym c.in-Some-find.ensures)) ∙ stops _ e))
+pub returns-in_err-chosen : goal.returns-in_err-chosen
+returns-in_err-chosen c = handed_on c.in_err-chosen.field-0.0 c.from_residual.result _ c.from_residual.ensures.1 (unless_memory _ c.in_err-chosen.ensures refl (λ e. reads (Err c.in_err-chosen.field-0.0) (passes _ (is_found why.NoDatabase (sym c.in-Some.ensures)) ∙ passes _ (is_found why.NoDatabase (sym c.in-Some-find.ensures)) ∙ stops _ e)))
 
 pub returns-in_err-found : goal.returns-in_err-found
-returns-in_err-found c = refused_memory c.from_residual.result _ c.from_residual.ensures.1 gave_up
+returns-in_err-found c = refused_memory c.from_residual-in_err-found.result _ c.from_residual-in_err-found.ensures.1 gave_up
 
 pub returns : goal.returns
 returns c =
@@ -24,7 +24,7 @@ returns c =
     let t = c.in-Some-find.target.now.1 in
     let answer = c.in_ok-found.ensures.answer ∙ ap (audit_answer s t) c.as_ref.ensures.value in
     let text = printed c.in_ok-print.ensures c.requires (ap audit_text answer) in
-    in_full (reads (Ok c.print.new.answer.items) (passes _ (is_found why.NoDatabase (sym c.in-Some.ensures)) ∙ passes _ (is_found why.NoDatabase (sym c.in-Some-find.ensures)) ∙ passes _ c.in-Ok.ensures ∙ ap Ok (sym text)))
+    in_full (reads (Ok c.print.new.answer.items) (passes _ (is_found why.NoDatabase (sym c.in-Some.ensures)) ∙ passes _ (is_found why.NoDatabase (sym c.in-Some-find.ensures)) ∙ passes _ c.in_ok-chosen.ensures ∙ ap Ok (sym text)))
 
 pub returns-in_err-print : goal.returns-in_err-print
 returns-in_err-print c = refused_memory c.from_residual-in_err-print.result _ c.from_residual-in_err-print.ensures.1 gave_up

@@ -4,7 +4,7 @@ use Rattle.script_engine.specs.Serving.{in_full, served_only}
 use Rattle.script_databases.specs.Databases.{State, backed_answer, backed_told, backed_by}
 use Rattle.script_databases.specs.declared.refusal.Refusal.{Refusal}
 use Rattle.script_words.specs.words.Backup.{BackupAsk, backup_asked, backup_done, backed_line}
-use Rattle.script_words.proofs.TellingLemmas.{passes, stops, does, does_nothing, both, printed, unless_memory, refused_memory}
+use Rattle.script_words.proofs.TellingLemmas.{passes, stops, does, does_nothing, both, printed, unless_memory, handed_on, refused_memory}
 use Rattle.script_words.proofs.words.backup.serve.Goals as goal
 
 -- a copy that was kept
@@ -19,18 +19,19 @@ refused : (old : State) (ask : BackupAsk) (refusal : Refusal) (copy : Result Bac
 refused old ask refusal (Ok copy) is told = cc told
 refused old ask refusal (Err why) is told = stops _ is ∙ cc told
 
-pub returns-in-Err : goal.returns-in-Err
-returns-in-Err c =
-    unless_memory _ c.in-Err.ensures.answer c.in-Err.ensures.err
-    (λ e. does_nothing c.in-Err.refusal (refused c.args.databases.now (backup_asked c.args.ask.now) c.in-Err.refusal _ refl e) c.in-Err.ensures.err)
+pub returns-in_err-seq : goal.returns-in_err-seq
+returns-in_err-seq c =
+    handed_on c.in_err-seq.field-0.0 c.from_residual.result _ c.from_residual.ensures.1
+    (unless_memory _ c.in_err-seq.ensures.answer c.in_err-seq.ensures.err
+    (λ e. does_nothing c.in_err-seq.field-0.0 (refused c.args.databases.now (backup_asked c.args.ask.now) c.in_err-seq.field-0.0 _ refl e) c.in_err-seq.ensures.err))
 
 pub returns : goal.returns
 returns c =
     in_full (does c.args.databases.now c.print.new.answer.items
-    (kept c.args.databases.now _ (backup_asked c.args.ask.now) _ c.in-Ok.seq _ refl c.in-Ok.ensures.answer c.in-Ok.ensures.ok (printed c.in_ok-print.ensures c.requires refl)))
+    (kept c.args.databases.now _ (backup_asked c.args.ask.now) _ c.in_ok-seq.seq _ refl c.in_ok-seq.ensures.answer c.in_ok-seq.ensures.ok (printed c.in_ok-print.ensures c.requires refl)))
 
 pub returns-in_err-print : goal.returns-in_err-print
 returns-in_err-print c =
-    let line = backed_line c.args.ask.now.db.now c.args.ask.now.name.now c.in-Ok.seq in
-    refused_memory c.from_residual.result _ c.from_residual.ensures.1 (served_only line (does c.args.databases.now line
-    (kept c.args.databases.now _ (backup_asked c.args.ask.now) line c.in-Ok.seq _ refl c.in-Ok.ensures.answer c.in-Ok.ensures.ok refl)))
+    let line = backed_line c.args.ask.now.db.now c.args.ask.now.name.now c.in_ok-seq.seq in
+    refused_memory c.from_residual-in_err-print.result _ c.from_residual-in_err-print.ensures.1 (served_only line (does c.args.databases.now line
+    (kept c.args.databases.now _ (backup_asked c.args.ask.now) line c.in_ok-seq.seq _ refl c.in_ok-seq.ensures.answer c.in_ok-seq.ensures.ok refl)))

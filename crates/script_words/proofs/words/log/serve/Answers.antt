@@ -14,7 +14,7 @@ use Rattle.script_databases.specs.declared.refusal.Refusal.TheVariants as why
 use Rattle.script_words.specs.Texts.{ended}
 use Rattle.script_words.specs.words.Log.{log_held}
 use Rattle.script_words.specs.declared.words.log.Side.{Side}
-use Rattle.script_words.proofs.TellingLemmas.{passes, stops, is_found, is_missing, reads, printed, unless_memory, refused_memory}
+use Rattle.script_words.proofs.TellingLemmas.{passes, stops, is_found, is_missing, reads, printed, unless_memory, handed_on, refused_memory}
 use Rattle.script_words.proofs.words.log.serve.Goals as goal
 
 pub returns-in_default : goal.returns-in_default
@@ -23,11 +23,11 @@ returns-in_default c = in_full (reads (Err why.NoDatabase) (stops _ (is_missing 
 pub returns-in_default-find : goal.returns-in_default-find
 returns-in_default-find c = in_full (reads (Err why.NoDatabase) (passes _ (is_found why.NoDatabase (sym c.in-Some.ensures)) ∙ stops _ (is_missing why.NoDatabase (sym c.in_default-find.ensures))))
 
-pub returns-in-Err : goal.returns-in-Err
-returns-in-Err c = unless_memory _ c.in-Err.ensures refl (λ e. reads (Err c.in-Err.refusal) (passes _ (is_found why.NoDatabase (sym c.in-Some.ensures)) ∙ passes _ (is_found why.NoDatabase (sym c.in-Some-find.ensures)) ∙ stops _ e))
+pub returns-in_err-chosen : goal.returns-in_err-chosen
+returns-in_err-chosen c = handed_on c.in_err-chosen.field-0.0 c.from_residual.result _ c.from_residual.ensures.1 (unless_memory _ c.in_err-chosen.ensures refl (λ e. reads (Err c.in_err-chosen.field-0.0) (passes _ (is_found why.NoDatabase (sym c.in-Some.ensures)) ∙ passes _ (is_found why.NoDatabase (sym c.in-Some-find.ensures)) ∙ stops _ e)))
 
 pub returns-in_err-rep : goal.returns-in_err-rep
-returns-in_err-rep c = refused_memory c.from_residual.result _ c.from_residual.ensures.1 gave_up
+returns-in_err-rep c = refused_memory c.from_residual-in_err-rep.result _ c.from_residual-in_err-rep.ensures.1 gave_up
 
 pub log_held-requires : goal.log_held-requires
 log_held-requires c =
@@ -49,27 +49,28 @@ log_refused faults.Memory expected h = inr refl
 same_text : (side : Side) (s t : PeerValue) (rep : RepId) (chosen : Choice) (log : List EntryValue) → rep ≡ rep_between s t chosen → log ≡ log_held side s t rep.chosen → log_text rep log ≡ log_text (rep_between s t chosen) (log_held side s t chosen)
 same_text side s t rep chosen log is held = ap (log_text rep) (held ∙ ap (λ (r : RepId). log_held side s t r.chosen) is) ∙ ap (λ (r : RepId). log_text r (log_held side s t chosen)) is
 
-pub returns-in-Err-write_log : goal.returns-in-Err-write_log
-returns-in-Err-write_log c =
+pub returns-in_err-text : goal.returns-in_err-text
+returns-in_err-text c =
     let s = c.in-Some.source.now.1 in
     let t = c.in-Some-find.target.now.1 in
     let id = c.in_ok-rep.ensures.id ∙ ap (rep_between s t) c.as_ref.ensures.value in
-    let same = same_text c.args.ask.now.side s t c.in_ok-rep.rep c.in-Ok.chosen c.in_ok-log.log id c.in_ok-log.ensures in
-    rw c.from.ensures
-    (unless_memory (told_as log_refusal (log_text c.in_ok-rep.rep c.in_ok-log.log)) (log_refused c.in-Err-write_log.fault (log_text c.in_ok-rep.rep c.in_ok-log.log) c.in-Err-write_log.ensures.answer) refl
-    (λ e. reads (Err (log_refusal c.in-Err-write_log.fault))
-    (passes _ (is_found why.NoDatabase (sym c.in-Some.ensures)) ∙ passes _ (is_found why.NoDatabase (sym c.in-Some-find.ensures)) ∙ passes _ c.in-Ok.ensures ∙ stops _ (ap (told_as log_refusal) (sym same) ∙ e))))
+    let same = same_text c.args.ask.now.side s t c.in_ok-rep.rep c.in_ok-chosen.chosen c.in_ok-log.log id c.in_ok-log.ensures in
+    let fault = c.in_err-text.field-0.0 in
+    handed_on (log_refusal fault) c.from_residual-in_err-text.result _ c.from_residual-in_err-text.ensures.1
+    (unless_memory (told_as log_refusal (log_text c.in_ok-rep.rep c.in_ok-log.log)) (log_refused fault (log_text c.in_ok-rep.rep c.in_ok-log.log) c.in_err-text.ensures.answer) refl
+    (λ e. reads (Err (log_refusal fault))
+    (passes _ (is_found why.NoDatabase (sym c.in-Some.ensures)) ∙ passes _ (is_found why.NoDatabase (sym c.in-Some-find.ensures)) ∙ passes _ c.in_ok-chosen.ensures ∙ stops _ (ap (told_as log_refusal) (sym same) ∙ e))))
 
 pub returns : goal.returns
 returns c =
     let s = c.in-Some.source.now.1 in
     let t = c.in-Some-find.target.now.1 in
     let id = c.in_ok-rep.ensures.id ∙ ap (rep_between s t) c.as_ref.ensures.value in
-    let same = same_text c.args.ask.now.side s t c.in_ok-rep.rep c.in-Ok.chosen c.in_ok-log.log id c.in_ok-log.ensures in
+    let same = same_text c.args.ask.now.side s t c.in_ok-rep.rep c.in_ok-chosen.chosen c.in_ok-log.log id c.in_ok-log.ensures in
     let text = printed c.in_ok-print.ensures c.requires (ap ended c.as_slice.ensures.value) in
     in_full (reads (Ok c.print.new.answer.items)
-    (passes _ (is_found why.NoDatabase (sym c.in-Some.ensures)) ∙ passes _ (is_found why.NoDatabase (sym c.in-Some-find.ensures)) ∙ passes _ c.in-Ok.ensures
-    ∙ passes _ (ap (told_as log_refusal) (sym same ∙ sym c.in-Ok-write_log.ensures.answer)) ∙ ap Ok (sym text)))
+    (passes _ (is_found why.NoDatabase (sym c.in-Some.ensures)) ∙ passes _ (is_found why.NoDatabase (sym c.in-Some-find.ensures)) ∙ passes _ c.in_ok-chosen.ensures
+    ∙ passes _ (ap (told_as log_refusal) (sym same ∙ sym c.in_ok-text.ensures.answer)) ∙ ap Ok (sym text)))
 
 pub returns-in_err-print : goal.returns-in_err-print
 returns-in_err-print c = refused_memory c.from_residual-in_err-print.result _ c.from_residual-in_err-print.ensures.1 gave_up

@@ -2,9 +2,9 @@ use Rattle.std.proofs.Common.{refl, sym, ap, ◌∙◌, rules}
 use Rattle.std.specs.FinMap.{contains_key, insert}
 use Rattle.std.proofs.lemmas.Bool.{true≢false}
 use Rattle.script_databases.specs.Stored.{deny_of, peers_of}
-use Rattle.script_databases.proofs.CarryingLemmas.{still_there}
+use Rattle.script_databases.proofs.ReplicationLemmas.{still_there}
 use Rattle.script_databases.proofs.TableLemmas.{found_absent, written}
-use Rattle.script_databases.proofs.carrying.put_back.Goals as goal
+use Rattle.script_databases.proofs.pair.put_in.Goals as goal
 
 pub unreachable-requires : goal.unreachable-requires
 unreachable-requires c = true≢false (sym c.requires.source ∙ found_absent (λ p. p.1) c.args.names.now.entries c.args.source.now c.args.source.now refl c.in_default.ensures.value)

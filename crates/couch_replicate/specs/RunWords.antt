@@ -30,8 +30,8 @@ Answered program left left' held held' (Err fault) =
 
 -- Words that give no settings: nothing is read or written. Else a script is run with the settings that they give, and
 -- what the writer was given has been passed on, unless a write failed.
-abbrev pub Ends : List (List ℕ) → Option (List ℕ) → Option (List ℕ) → Option (List ℕ) → Option (List ℕ) → Option (List ℕ)
-    → Ended → Type 0
-Ends words left left' held held' sent (NotRun why) = Refuses words why × (left' ≡ left) × (held' ≡ held)
-Ends words left left' held held' sent (Ran ended) =
+abbrev pub RunsWords : List (List ℕ) → Option (List ℕ) → Option (List ℕ) → Option (List ℕ) → Option (List ℕ)
+    → Option (List ℕ) → Ended → Type 0
+RunsWords words left left' held held' sent (NotRun why) = Refuses words why × (left' ≡ left) × (held' ≡ held)
+RunsWords words left left' held held' sent (Ran ended) =
     (s : Settings) × Says words s × Answered (program_of s) left left' held held' ended × IsSent ended held' sent

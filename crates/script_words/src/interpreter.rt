@@ -1,4 +1,4 @@
-//! A script of commands on databases in memory.
+//! The interpreter of a script of commands on databases in memory.
 ghost use Rattle.std.specs.Prelude.{◌≡◌, ℕ, List, [], IfOk, IfErr, OnOk};
 ghost use Rattle.std.specs.Io.KnownBytes.{Appends, Consumes, IsAtEnd};
 ghost use Rattle.script_engine.specs.Device.{Gives};
@@ -24,14 +24,14 @@ use std::thread::Threads;
 
 /// The databases that a script's lines are served by, what they run on, and what reads the lines' values.
 #[derive(Drop)]
-struct Session<'a, H> {
+struct Interpreter<'a, H> {
     rt: &'a H,
     alloc: Global,
     values: ValueReader,
     databases: Databases,
 }
 
-impl<'a, H> Model for Session<'a, H> {
+impl<'a, H> Model for Interpreter<'a, H> {
     ghost use Rattle.script_databases.specs.Databases.{State, coded_state};
 
     ghost Value = { State };
@@ -41,7 +41,7 @@ impl<'a, H> Model for Session<'a, H> {
     ghost view = { λ a. a.databases };
 }
 
-impl<'a, H: Threads + Wait + Sync> Serve for Session<'a, H> {
+impl<'a, H: Threads + Wait + Sync> Serve for Interpreter<'a, H> {
     ghost use Rattle.std.specs.Thread.{IsSync};
 
     ghost can_serve = { IsSync H.row };
@@ -49,7 +49,7 @@ impl<'a, H: Threads + Wait + Sync> Serve for Session<'a, H> {
     ghost answers = { LinesAnswer };
 
     fn serve(&mut self, line: &[u8], answer: &mut Vec<u8>) -> Result<(), &'static str> {
-        match serve_line(
+        match answer_line(
             self.rt,
             self.alloc,
             &mut self.values,
@@ -64,8 +64,8 @@ impl<'a, H: Threads + Wait + Sync> Serve for Session<'a, H> {
     }
 }
 
-/// Serves a line that is not blank.
-fn serve_line<H: Threads + Wait + Sync>(
+/// Answers a line that is not blank.
+fn answer_line<H: Threads + Wait + Sync>(
     rt: &H,
     alloc: Global,
     values: &mut ValueReader,
@@ -155,18 +155,18 @@ fn run_on<H: Threads + Wait + Sync, R: ScriptRead, W: ScriptWrite>(
         × AnswersEnded LinesAnswer databases taken text result.1) }
     ensures sent { IsSent result.0 (W.held writer.new) (W.sent writer.new) }
 {
-    let mut session = Session {
+    let mut interpreter = Interpreter {
         rt,
         alloc,
         values: ValueReader::new(alloc),
         databases,
     };
-    let ended = run_lines(alloc, &mut session, reader, writer);
-    let Session {
+    let ended = run_lines(alloc, &mut interpreter, reader, writer);
+    let Interpreter {
         rt: _,
         alloc: _,
         values: _,
         databases,
-    } = session;
+    } = interpreter;
     (ended, databases)
 }

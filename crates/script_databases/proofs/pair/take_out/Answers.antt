@@ -4,9 +4,9 @@ use Rattle.std.proofs.lemmas.Bool.{true≢false}
 use Rattle.repl_target.specs.peer.Peer.{PeerValue}
 use Rattle.repl_target.specs.declared.peer.filter.Rules.{Rules}
 use Rattle.script_databases.specs.Stored.{deny_of, denied_of, peers_of}
-use Rattle.script_databases.proofs.CarryingLemmas.{other}
+use Rattle.script_databases.proofs.ReplicationLemmas.{other}
 use Rattle.script_databases.proofs.TableLemmas.{found_there, found_absent, written}
-use Rattle.script_databases.proofs.carrying.take_out.Goals as goal
+use Rattle.script_databases.proofs.pair.take_out.Goals as goal
 
 pub unreachable-requires : goal.unreachable-requires
 unreachable-requires c = true≢false (sym c.requires.source ∙ found_absent (λ p. p.1) c.args.names.now.entries c.args.source.now c.args.source.now refl c.in_default.ensures.value)

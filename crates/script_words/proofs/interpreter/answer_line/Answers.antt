@@ -8,7 +8,7 @@ use Rattle.script_words.specs.Script.{IsNoObject, LinesAnswer}
 use Rattle.script_words.specs.words.{asked_in}
 use Rattle.json_values.specs.LineView.{line_view}
 use Rattle.script_words.proofs.TellingLemmas.{may_tell}
-use Rattle.script_words.proofs.session.serve_line.Goals as goal
+use Rattle.script_words.proofs.interpreter.answer_line.Goals as goal
 
 -- a line that is no object, or for which memory was wanting
 line_refused : (old : State) (line : List ℕ) (refusal : Refusal) → (refusal ≡ why.Memory) ⊎ ((refusal ≡ why.BadLine) × IsNoObject line) → MayTell LinesAnswer old line (Err (name_of refusal)) old

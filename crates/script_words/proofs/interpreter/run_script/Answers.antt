@@ -3,8 +3,8 @@ use Rattle.script_engine.specs.Faults.{LeavesAs}
 use Rattle.script_engine.specs.declared.fault.ScriptFault.{ScriptFault}
 use Rattle.script_engine.specs.declared.fault.ScriptFault.TheVariants.{Memory}
 use Rattle.script_engine.proofs.RunLemmas.{IsFaultOf-left, SoFar-not_begun, not_read}
-use Rattle.script_words.proofs.SessionLemmas.{some_end, some_state, same_start}
-use Rattle.script_words.proofs.session.run_script.Goals as goal
+use Rattle.script_words.proofs.InterpreterLemmas.{some_end, some_state, same_start}
+use Rattle.script_words.proofs.interpreter.run_script.Goals as goal
 
 left_none : {A : ScriptFault} (left : ScriptFault) (old new : ℕ) → A ≡ Memory → LeavesAs A left old new → LeavesAs Memory left old new
 left_none left old new e h = subst (λ f. LeavesAs f left old new) e h

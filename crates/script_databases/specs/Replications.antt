@@ -1,0 +1,76 @@
+-- Replications between two of the databases: docs/PROFILE.md, "Command lines".
+use Rattle.std.specs.Prelude.{◌≡◌, ◌⊎◌, ℕ, Bool, false, nat_eq, List, Option, Some, Result, Ok, Err, IfOk, ◌≤◌}
+use Rattle.std.specs.List.{starts_with}
+use Rattle.std.specs.Option.{option_map_or}
+use Rattle.doc_json.specs.Document.{Document}
+use Rattle.repl_pool.specs.Faults.{early_answer}
+use Rattle.repl_pool.specs.Runs.{Runs, RunsOn}
+use Rattle.repl_pool.specs.declared.fault.PoolFault.{PoolFault}
+use Rattle.repl_pool.specs.declared.fault.PoolFault.TheVariants as faults
+use Rattle.repl_pool.specs.declared.gate.Place.{Place}
+use Rattle.repl_target.specs.peer.Peer.{PeerValue}
+use Rattle.repl_target.specs.replication.Replication.{Replicates}
+use Rattle.repl_target.specs.declared.fault.Report.{Report}
+use Rattle.repl_target.specs.declared.fault.TargetFault.{TargetFault}
+use Rattle.repl_target.specs.declared.replication.Plan.{Plan}
+use Rattle.script_databases.specs.Databases.{State, peer_at, with_peer}
+use Rattle.script_databases.specs.declared.watched.Watched.{Watched}
+
+-- a target refuses the documents whose ids begin with what the program denies
+abbrev pub deny_refuses : Option (List ℕ) → Document → Bool
+deny_refuses deny d = option_map_or (λ prefix. starts_with nat_eq d.id prefix) deny false
+
+-- the state with these two peers under two names
+abbrev pub with_both : State → List ℕ → List ℕ → PeerValue → PeerValue → State
+with_both old source target s t = with_peer (with_peer old source s) target t
+
+-- ---- by one thread
+
+-- any answer and next two peers that a replication gives, also where it is refused; from a name into itself each plan is
+-- refused
+abbrev pub ReplicatesAlone : State → List ℕ → List ℕ → PeerValue → PeerValue → Plan → Result Report TargetFault → State
+    → Type 0
+ReplicatesAlone old source target s t plan result new =
+    (s' : PeerValue) × (t' : PeerValue) × Replicates (deny_refuses old.program.deny) s t plan result s' t'
+    × (new ≡ with_both old source target s' t')
+
+-- ---- by the pool
+
+-- no worker is stopped
+abbrev pub Nowhere : Place → Type 0
+Nowhere place = ⊥
+
+-- any answer and next two peers that a run of the pool may give, also where it is refused
+abbrev pub ReplicatesByPool : State → List ℕ → List ℕ → PeerValue → PeerValue → Plan → Result Report PoolFault → State
+    → Type 0
+ReplicatesByPool old source target s t plan result new =
+    (s' : PeerValue) × (t' : PeerValue) × (fetched : List ℕ)
+    × Runs deny_refuses Nowhere plan (old.program.deny, s) (old.program.deny, t) (old.program.deny, s')
+    (old.program.deny, t') fetched result
+    × (new ≡ with_both old source target s' t')
+
+-- ---- by the pool, with its progress on a board
+
+-- how a run ended that was watched
+abbrev pub unwatched : Result Watched PoolFault → Result Report PoolFault
+unwatched (Ok watched) = Ok watched.report
+unwatched (Err why) = Err why
+
+-- no more was settled than was read; or nothing was done, where memory was wanting for the board of a plan that is not
+-- refused
+abbrev pub ReplicatesWatched : State → List ℕ → List ℕ → PeerValue → PeerValue → Plan → Result Watched PoolFault
+    → State → Type 0
+ReplicatesWatched old source target s t plan result new =
+    (early_answer s t plan ≡ Ok tt) × (result ≡ Err faults.Memory) × (new ≡ old)
+    ⊎ IfOk result (λ w. w.settled ≤ w.read) × (s' : PeerValue) × (t' : PeerValue) × (fetched : List ℕ)
+    × RunsOn deny_refuses (Unit {0}) Nowhere plan (old.program.deny, s) (old.program.deny, t) (old.program.deny, s')
+    (old.program.deny, t') fetched (unwatched result)
+    × (new ≡ with_both old source target s' t')
+
+-- ---- between two names under which peers stand, in one of these ways
+
+abbrev pub ReplicatesBetween : {R : Type 0} → (State → List ℕ → List ℕ → PeerValue → PeerValue → Plan → R → State → Type 0)
+    → State → List ℕ → List ℕ → Plan → R → State → Type 0
+ReplicatesBetween way old source target plan result new =
+    (s : PeerValue) × (t : PeerValue) × (peer_at old source ≡ Some s) × (peer_at old target ≡ Some t)
+    × way old source target s t plan result new
