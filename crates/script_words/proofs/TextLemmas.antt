@@ -1,15 +1,10 @@
--- The texts of lists, and of what stands for itself in JSON.
-use Rattle.std.proofs.Common.{◌≡◌, ℕ, suc, ◌+◌, ◌<◌, ◌≤◌, Bool, false, cond, ◌==◌, List, [], ◌∷◌, ◌++◌, length, take, get_or, map, true, refl, sym, ap, ◌∙◌, append_assoc, arith}
-use Rattle.std.proofs.lemmas.Bool.{or_parts, not-true, eqb-false, ltb-false}
-use Rattle.std.proofs.lemmas.List.Sums.{prefix_len-le-length}
+-- The texts of lists.
+use Rattle.std.proofs.Common.{◌≡◌, ℕ, ◌+◌, ◌<◌, ◌≤◌, List, [], ◌∷◌, ◌++◌, length, take, get_or, map, sym, ap, ◌∙◌, append_assoc, arith}
 use Rattle.std.proofs.lemmas.Grind.{flat_map-append}
-use Rattle.std.specs.List.{flat_map, join_with_byte, prefix_len}
-use Rattle.std.proofs.lemmas.List.{flat_map_more, take_more, map-append}
+use Rattle.std.specs.List.{flat_map, join_with_byte}
+use Rattle.std.proofs.lemmas.List.{take_more, map-append}
 use Rattle.rev_core.specs.Rev.{RevId}
 use Rattle.rev_core.specs.Text.{rev_text}
-use Rattle.json.specs.Print.{escape}
-use Rattle.json.specs.Run.{is_stop, is_plain}
-use Rattle.json.proofs.Printed.Strings.{escape_byte_plain}
 use Rattle.script_words.specs.Texts.{texts_of_revs}
 
 join-push : (c : ℕ) (x y : List ℕ) (xs : List (List ℕ)) → join_with_byte c ((x ∷ xs) ++ y ∷ []) ≡ (join_with_byte c (x ∷ xs) ++ c ∷ []) ++ y
@@ -44,17 +39,3 @@ pub texts_step : {X : Type 0} (f : X → List ℕ) (text next all : List ℕ) (r
 texts_step f text next all rows rest whole e h n =
     ap (λ t. t ++ flat_map f rest) n ∙ append_assoc text (flat_map f rows) (flat_map f rest)
     ∙ ap (λ t. text ++ t) (sym (flat_map-append f rows rest) ∙ ap (flat_map f) e) ∙ h
-
--- a text in which each byte stands for itself
-all_byte : (p : Bool) (n l : ℕ) → n ≤ l → cond p (1 + n) 0 ≡ suc l → (p ≡ true) × (n ≡ l)
-all_byte true n l h e = (refl, omega arith)
-all_byte false n l h e = absurd (omega arith)
-
-pub escape-plain : (s : List ℕ) → prefix_len is_plain s ≡ length s → escape s ≡ s
-escape-plain [] e = refl
-escape-plain (x ∷ xs) e =
-    let parts = all_byte (is_plain x) _ (length xs) (prefix_len-le-length is_plain xs) e in
-    let none = or_parts _ _ (not-true (is_stop x) parts.0) in
-    let tests = or_parts (x == 34) _ none.0 in
-    let rest = escape-plain xs parts.1 in
-    λ i. escape_byte_plain x (eqb-false x 34 tests.0) (eqb-false x 92 tests.1) (ltb-false x 32 none.1) i ++ rest i

@@ -1,14 +1,12 @@
 //! Parts of answers that several words print (docs/PROFILE.md, "Answers").
-ghost use Rattle.std.specs.Prelude.{◌≡◌, ◌++◌, ◌∷◌, [], OnOk, IfOk, IsTrue, decimal, string_bytes};
-ghost use Rattle.json.specs.Print.{escape};
+ghost use Rattle.std.specs.Prelude.{◌≡◌, ◌++◌, OnOk, decimal};
 ghost use Rattle.rev_core.specs.Text.{rev_text};
 ghost use Rattle.script_words.specs.Texts.{quoted, texts_of_revs};
 
+use doc_json::push_text;
 use itoa::Buffer;
-use json_values::plain_end;
 use rev_core::Rev;
-use serde_json::Value;
-use std::alloc::{AllocError, Global};
+use std::alloc::AllocError;
 
 /// Adds a number.
 pub fn push_number(text: &mut Vec<u8>, number: u64) -> Result<(), AllocError>
@@ -72,37 +70,10 @@ pub fn push_revs(text: &mut Vec<u8>, revs: &[Rev]) -> Result<(), AllocError>
     Ok(())
 }
 
-/// Adds a text as JSON, in quotation marks. A text in which each byte stands for itself is copied.
-pub fn push_json(alloc: Global, text: &mut Vec<u8>, string: &str) -> Result<(), AllocError>
+/// Adds a text as JSON, in quotation marks.
+#[inline(always)]
+pub fn push_json(text: &mut Vec<u8>, string: &str) -> Result<(), AllocError>
     ensures { OnOk result (text.new.items ≡ text.old.items ++ quoted string.now) }
 {
-    if is_plain(string.as_bytes()) {
-        push_plain(text, string)?;
-        return Ok(());
-    }
-    let json = escaped(alloc, string)?;
-    text.extend_from_slice(json.as_bytes())
-}
-
-/// Adds a text as it is, in quotation marks.
-fn push_plain(text: &mut Vec<u8>, string: &str) -> Result<(), AllocError>
-    ensures { OnOk result (text.new.items ≡ text.old.items ++ 34 ∷ (string.now ++ 34 ∷ [])) }
-{
-    text.extend_from_slice(b"\"")?;
-    text.extend_from_slice(string.as_bytes())?;
-    text.extend_from_slice(b"\"")
-}
-
-/// A text as JSON.
-fn escaped(alloc: Global, string: &str) -> Result<String, AllocError>
-    ensures { IfOk result (λ json. string_bytes json ≡ quoted string.now) }
-{
-    Value::String(String::from_str(alloc, string)?).to_string(alloc)
-}
-
-/// Whether each byte stands for itself in JSON: none is a control character, quotation mark or backslash.
-fn is_plain(bytes: &[u8]) -> bool
-    ensures { IsTrue result → escape bytes.now ≡ bytes.now }
-{
-    plain_end(bytes, 0) == bytes.len()
+    push_text(text, string)
 }

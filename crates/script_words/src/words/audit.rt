@@ -60,35 +60,29 @@ pub fn serve(
     };
     let chosen = read_choice(alloc, ask.doc_ids)?;
     let found = audit(alloc, source, target, chosen.as_ref())?;
-    print(alloc, answer, found)?;
+    print(answer, found)?;
     Ok(())
 }
 
 /// Prints what an audit found.
-fn print(alloc: Global, answer: &mut Vec<u8>, found: Found) -> Result<(), AllocError>
+fn print(answer: &mut Vec<u8>, found: Found) -> Result<(), AllocError>
     ensures { OnOk result (answer.new.items ≡ answer.old.items ++ audit_text (hole_of found)) }
 {
     match found {
         Found::Clean => answer.extend_from_slice(b"clean\n"),
-        Found::Hole { seq, id, rev } => push_hole(alloc, answer, seq, id.text(), rev),
+        Found::Hole { seq, id, rev } => push_hole(answer, seq, id.text(), rev),
     }
 }
 
 /// Prints a leaf that is not covered.
-fn push_hole(
-    alloc: Global,
-    answer: &mut Vec<u8>,
-    seq: u64,
-    id: &str,
-    rev: Rev,
-) -> Result<(), AllocError>
+fn push_hole(answer: &mut Vec<u8>, seq: u64, id: &str, rev: Rev) -> Result<(), AllocError>
     ensures { OnOk result
         (answer.new.items ≡ answer.old.items ++ hole_line (record { seq = seq; id = id.now; rev = rev })) }
 {
     answer.extend_from_slice(b"hole ")?;
     push_number(answer, seq)?;
     answer.extend_from_slice(b" ")?;
-    push_json(alloc, answer, id)?;
+    push_json(answer, id)?;
     answer.extend_from_slice(b" ")?;
     push_rev(answer, &rev)?;
     answer.extend_from_slice(b"\n")

@@ -67,24 +67,18 @@ pub fn serve(
     let parent = read_rev(ask.parent)?;
     let body = read_content_or_empty(alloc, ask.body)?;
     let edited = databases.edit(ask.db, &id, parent, ask.deleted, &body)?;
-    print(alloc, answer, ask.db, id.text(), edited)?;
+    print(answer, ask.db, id.text(), edited)?;
     Ok(())
 }
 
 /// Prints the new revision, and the sequence of the change.
-fn print(
-    alloc: Global,
-    answer: &mut Vec<u8>,
-    db: &str,
-    id: &str,
-    edited: Edited,
-) -> Result<(), AllocError>
+fn print(answer: &mut Vec<u8>, db: &str, id: &str, edited: Edited) -> Result<(), AllocError>
     ensures { OnOk result (answer.new.items ≡ answer.old.items ++ edited_line db.now id.now edited) }
 {
     answer.extend_from_slice(b"edited ")?;
     answer.extend_from_slice(db.as_bytes())?;
     answer.extend_from_slice(b" ")?;
-    push_json(alloc, answer, id)?;
+    push_json(answer, id)?;
     answer.extend_from_slice(b" ")?;
     push_rev(answer, &edited.rev)?;
     answer.extend_from_slice(b" seq ")?;

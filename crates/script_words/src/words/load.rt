@@ -86,7 +86,7 @@ fn load_there(
         return Ok(());
     };
     let put = databases.load(db, &document)?;
-    print_put(alloc, answer, db, &document, put)?;
+    print_put(answer, db, &document, put)?;
     Ok(())
 }
 
@@ -192,7 +192,7 @@ fn make_with(
     let mut peer = databases.make(alloc, uuid)?;
     let put = peer.load(document)?;
     databases.add(alloc, db, peer)?;
-    print_put(alloc, answer, db, document, put)?;
+    print_put(answer, db, document, put)?;
     Ok(())
 }
 
@@ -215,62 +215,45 @@ fn print_there(answer: &mut Vec<u8>, db: &str) -> Result<(), AllocError>
 }
 
 /// Prints what putting a document did.
-fn print_put(
-    alloc: Global,
-    answer: &mut Vec<u8>,
-    db: &str,
-    document: &Doc,
-    put: Put,
-) -> Result<(), AllocError>
+fn print_put(answer: &mut Vec<u8>, db: &str, document: &Doc, put: Put) -> Result<(), AllocError>
     ensures { OnOk result (answer.new.items ≡ answer.old.items ++ put_line db.now document.now put) }
 {
     match put {
-        Put::Changed { seq } => print_loaded(alloc, answer, db, document, seq),
-        Put::Same => print_same(alloc, answer, db, document),
+        Put::Changed { seq } => print_loaded(answer, db, document, seq),
+        Put::Same => print_same(answer, db, document),
     }
 }
 
 /// Prints that putting a document changed something.
-fn print_loaded(
-    alloc: Global,
-    answer: &mut Vec<u8>,
-    db: &str,
-    document: &Doc,
-    seq: u64,
-) -> Result<(), AllocError>
+fn print_loaded(answer: &mut Vec<u8>, db: &str, document: &Doc, seq: u64) -> Result<(), AllocError>
     ensures { OnOk result (answer.new.items ≡ answer.old.items ++ loaded_line db.now document.now seq) }
 {
     answer.extend_from_slice(b"loaded ")?;
     answer.extend_from_slice(db.as_bytes())?;
     answer.extend_from_slice(b" ")?;
-    push_document(alloc, answer, document)?;
+    push_document(answer, document)?;
     answer.extend_from_slice(b" seq ")?;
     push_number(answer, seq)?;
     answer.extend_from_slice(b"\n")
 }
 
 /// Prints that putting a document changed nothing.
-fn print_same(
-    alloc: Global,
-    answer: &mut Vec<u8>,
-    db: &str,
-    document: &Doc,
-) -> Result<(), AllocError>
+fn print_same(answer: &mut Vec<u8>, db: &str, document: &Doc) -> Result<(), AllocError>
     ensures { OnOk result (answer.new.items ≡ answer.old.items ++ same_line db.now document.now) }
 {
     answer.extend_from_slice(b"same ")?;
     answer.extend_from_slice(db.as_bytes())?;
     answer.extend_from_slice(b" ")?;
-    push_document(alloc, answer, document)?;
+    push_document(answer, document)?;
     answer.extend_from_slice(b"\n")
 }
 
 /// Prints a document's id, and its newest revision.
-fn push_document(alloc: Global, answer: &mut Vec<u8>, document: &Doc) -> Result<(), AllocError>
+fn push_document(answer: &mut Vec<u8>, document: &Doc) -> Result<(), AllocError>
     ensures { OnOk result (answer.new.items ≡ answer.old.items ++ document_part document.now) }
 {
     let rev = document.ancestry().head();
-    push_json(alloc, answer, document.id().text())?;
+    push_json(answer, document.id().text())?;
     answer.extend_from_slice(b" ")?;
     push_rev(answer, &rev)
 }

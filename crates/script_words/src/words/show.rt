@@ -64,23 +64,17 @@ fn print(alloc: Global, answer: &mut Vec<u8>, id: &str, tree: &Tree) -> Result<(
     ensures { OnOk result (answer.new.items ≡ answer.old.items ++ show_text id.now tree.now) }
 {
     let leaves = tree.leaves(alloc)?;
-    push_head(alloc, answer, id, tree, leaves.as_slice())?;
+    push_head(answer, id, tree, leaves.as_slice())?;
     push_leaves(alloc, answer, tree, leaves.as_slice())
 }
 
 /// Prints the first line. The leaves are the tree's.
-fn push_head(
-    alloc: Global,
-    answer: &mut Vec<u8>,
-    id: &str,
-    tree: &Tree,
-    all: &[Rev],
-) -> Result<(), AllocError>
+fn push_head(answer: &mut Vec<u8>, id: &str, tree: &Tree, all: &[Rev]) -> Result<(), AllocError>
     requires { all.now ≡ leaves tree.now }
     ensures { OnOk result (answer.new.items ≡ answer.old.items ++ head_line id.now tree.now) }
 {
     answer.extend_from_slice(b"doc ")?;
-    push_json(alloc, answer, id)?;
+    push_json(answer, id)?;
     answer.extend_from_slice(b" winner ")?;
     push_winner(answer, all)?;
     answer.extend_from_slice(b" leaves ")?;
