@@ -1,5 +1,5 @@
 -- `show`: docs/PROFILE.md, "Command lines" and "Answers".
-use Rattle.std.specs.Prelude.{ℕ, List, [], ◌∷◌, ◌++◌, length, if◌then◌else◌, codes, decimal, Result, Ok}
+use Rattle.std.specs.Prelude.{ℕ, Bool, List, [], ◌∷◌, ◌++◌, length, if◌then◌else◌, codes, decimal, Result, Ok}
 use Rattle.std.specs.List.{flat_map}
 use Rattle.std.specs.FinMap as finmap
 use Rattle.serde_json.specs.Data.{Data}
@@ -44,10 +44,12 @@ head_line id tree =
     ++ decimal (length (leaves tree)) ++ codes " revs " ++ decimal (finmap.len tree.origins))
 
 -- a leaf, whether it is deleted, and its known ancestry
+abbrev pub leaf_text : RevId → Bool → List RevId → List ℕ
+leaf_text leaf deleted ancestry =
+    ended (codes "leaf " ++ rev_text leaf ++ (if deleted then codes " deleted " else codes " live ") ++ texts_of_revs ancestry)
+
 abbrev pub leaf_line : TreeValue → RevId → List ℕ
-leaf_line tree leaf =
-    ended (codes "leaf " ++ rev_text leaf ++ (if is_deleted tree leaf then codes " deleted " else codes " live ")
-    ++ texts_of_revs (ancestors tree leaf))
+leaf_line tree leaf = leaf_text leaf (is_deleted tree leaf) (ancestors tree leaf)
 
 -- the leaves in their order, the winner first
 abbrev pub show_text : List ℕ → TreeValue → List ℕ

@@ -1,21 +1,22 @@
 //! `show`: a document's leaves, the winner first, each with its known ancestry.
-ghost use Rattle.std.specs.Prelude.{◌≡◌, ◌++◌, [], true, OnOk, option_map};
+ghost use Rattle.std.specs.Prelude.{◌≡◌, ◌++◌, [], true, false, OnOk, option_map};
 ghost use Rattle.std.specs.List.{flat_map, list_all};
+ghost use Rattle.std.specs.Option.{option_copied, option_map_or};
 ghost use Rattle.json_values.specs.LineView.{line_view};
 ghost use Rattle.rev_tree.specs.InOrder.{first_of};
-ghost use Rattle.rev_tree.specs.Tree.{has, is_deleted, leaves};
+ghost use Rattle.rev_tree.specs.Tree.{has, leaves};
 ghost use Rattle.script_engine.specs.Serving.{MayTell};
 ghost use Rattle.script_words.specs.Checks.{needed};
 ghost use Rattle.script_words.specs.Telling.{told_by};
 ghost use Rattle.script_words.specs.Texts.{text_of_any};
-ghost use Rattle.script_words.specs.words.Show.{Shows, head_line, leaf_line, show_asked, show_in, show_text};
+ghost use Rattle.script_words.specs.words.Show.{Shows, head_line, leaf_line, leaf_text, show_asked, show_in, show_text};
 
 use crate::given::read_id;
 use crate::members::{has_only_members, name_member, text_member};
 use crate::texts::{push_count, push_json, push_rev, push_revs};
 use json_values::LineValue;
 use rev_core::Rev;
-use rev_tree::Tree;
+use rev_tree::{Content, Tree};
 use script_databases::{Databases, Refusal};
 use std::alloc::{AllocError, Global};
 
@@ -115,24 +116,39 @@ fn push_leaf(alloc: Global, answer: &mut Vec<u8>, tree: &Tree, leaf: Rev) -> Res
     requires { has tree.now leaf ≡ true }
     ensures { OnOk result (answer.new.items ≡ answer.old.items ++ leaf_line tree.now leaf) }
 {
-    let ancestry = tree.known_ancestry(alloc, leaf)?;
+    let Some(standing) = tree.standing(alloc, leaf)? else {
+        unreachable!()
+    };
+    let deleted = is_deletion(standing.content);
+    push_leaf_text(answer, &leaf, deleted, standing.ancestry.revs())
+}
+
+/// Whether what is known of a content is that it is a deletion.
+fn is_deletion(content: Option<&Content>) -> bool
+    ensures { result ≡ option_map_or (λ c. c.deleted) (option_copied content.entry) false }
+{
+    match content {
+        Some(content) => content.deleted(),
+        None => false,
+    }
+}
+
+/// Prints a leaf, whether it is deleted, and its ancestry.
+fn push_leaf_text(
+    answer: &mut Vec<u8>,
+    leaf: &Rev,
+    deleted: bool,
+    ancestry: &[Rev],
+) -> Result<(), AllocError>
+    ensures { OnOk result (answer.new.items ≡ answer.old.items ++ leaf_text leaf.now deleted ancestry.now) }
+{
     answer.extend_from_slice(b"leaf ")?;
-    push_rev(answer, &leaf)?;
-    if is_deleted(tree, leaf) {
+    push_rev(answer, leaf)?;
+    if deleted {
         answer.extend_from_slice(b" deleted ")?;
     } else {
         answer.extend_from_slice(b" live ")?;
     }
-    push_revs(answer, ancestry.revs())?;
+    push_revs(answer, ancestry)?;
     answer.extend_from_slice(b"\n")
-}
-
-/// Whether what stands at a revision is a deletion.
-fn is_deleted(tree: &Tree, rev: Rev) -> bool
-    ensures { result ≡ is_deleted tree.now rev }
-{
-    match tree.content(rev) {
-        Some(content) => content.deleted(),
-        None => false,
-    }
 }
