@@ -18,7 +18,8 @@ pub use peer::filter::{Rules, Verdict, WriteFilter};
 pub use peer::written::Written;
 pub use replication::sync::{SyncFault, Synced, sync_alone};
 pub use replication::{
-    MOST_ROWS, Plan, begin_plan, check_peers, check_plan, has_left, record_at_source, replicate_alone,
+    MOST_ROWS, Plan, begin_plan, check_peers, check_plan, has_left, record_at_source,
+    replicate_alone,
 };
 pub use session::beginning::Beginning;
 pub use session::refused::Refused;

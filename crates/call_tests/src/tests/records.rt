@@ -29,7 +29,11 @@ fn bounds_text(alloc: Global, report: Report) -> Option<String> {
 /// What a report tells of reading.
 fn read_text(alloc: Global, report: Report) -> Option<String> {
     let (checked, found) = (report.counts.checked, report.counts.found);
-    format!(in alloc; " checked {checked} found {found} read {}", report.counts.read).ok()
+    format!(in alloc;
+        " checked {checked} found {found} read {}",
+        report.counts.read
+    )
+    .ok()
 }
 
 /// What a report tells of writing.

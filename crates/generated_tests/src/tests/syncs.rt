@@ -138,7 +138,11 @@ fn of_seed<R: Abort + Threads + Wait + Sync>(rt: &R, alloc: Global, seed: u64, w
             let back = plan(rt, &mut rng, workers, &mut sessions);
             let (one, other, synced) = meet(rt, alloc, a, b, &there, &back);
             assert_same(rt, alloc, &one, &other);
-            let carried = synced.there.counts.read.saturating_add(synced.back.counts.read);
+            let carried = synced
+                .there
+                .counts
+                .read
+                .saturating_add(synced.back.counts.read);
             assert!(rt; again == 0 || carried == 0, "nothing is left to carry");
             (a, b) = (one, other);
         }
