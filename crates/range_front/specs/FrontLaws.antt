@@ -28,9 +28,6 @@ IsFront-finished f lo hi front =
 
 -- ---- where windows lie
 
-pub spans-consecutive : (f : FrontValue) → IsFront f → IsConsecutive f.start (spans f)
-spans-consecutive f front = spans-consecutive_from f.start f.windows front.rises
-
 -- a window lies between the start and the end, and isn't empty
 pub is_window-within : (f : FrontValue) (lo hi : ℕ) → IsFront f → is_window f lo hi ≡ true → (f.start ≤ lo) × (lo < hi) × (hi ≤ end_of f)
 is_window-within f lo hi front window = window-within f.start f.windows lo hi front.rises window
@@ -54,27 +51,9 @@ low_water-le-end_of f front = rw low_in-is (low-le-end f.start f.windows front.r
 pub low_water-is_end : (f : FrontValue) → (low_water f ≡ f.start) ⊎ ((lo : ℕ) × (is_done f lo (low_water f) ≡ true))
 low_water-is_end f = rw low_in-is (low-is-end f.start f.windows)
 
--- a window at or under the low water is done
-pub is_done-under_low_water : (f : FrontValue) (lo hi : ℕ) → IsFront f → is_window f lo hi ≡ true → hi ≤ low_water f → is_done f lo hi ≡ true
-is_done-under_low_water f lo hi front window under = done-under_low f.start f.windows lo hi front.rises window (rw low_in-is at under)
-
 -- a sequence above the start and at or under the low water lies in a window that is done
 pub reached : (f : FrontValue) (q : ℕ) → IsFront f → f.start < q → q ≤ low_water f → (lo : ℕ) × (hi : ℕ) × (lo < q) × (q ≤ hi) × (is_done f lo hi ≡ true)
 reached f q front above under = reached-in f.start f.windows q front.rises above (rw low_in-is at under)
-
--- the low water is the end exactly where all windows are done
-pub low_water-all_done : (f : FrontValue) → all_done f ≡ true → low_water f ≡ end_of f
-low_water-all_done f all = low_in-is f.start f.windows ∙ low-all_done f.start f.windows all
-
-pub all_done-at_end : (f : FrontValue) → IsFront f → low_water f ≡ end_of f → all_done f ≡ true
-all_done-at_end f front all = all_done-low f.start f.windows front.rises (sym (low_in-is f.start f.windows) ∙ all)
-
--- ---- the ranges above the low water
-
--- where there are none, the low water has reached each done window
-pub range_count-none : (f : FrontValue) (lo hi : ℕ) → IsFront f → range_count f ≡ 0 → is_done f lo hi ≡ true → hi ≤ low_water f
-range_count-none f lo hi front none done =
-    rw low_in-is (run_count-low f.start f.windows lo hi front.rises (sym (run_count-above f.windows) ∙ none) done)
 
 -- ---- a window appended
 
@@ -130,3 +109,25 @@ finish_answer-done f lo hi done = rw (is_window-is_done f lo hi done, done)
 
 pub finish_answer-ok : (f : FrontValue) (lo hi : ℕ) → is_window f lo hi ≡ true → is_done f lo hi ≡ false → finish_answer f lo hi ≡ Ok tt
 finish_answer-ok f lo hi window open_yet = rw (window, open_yet)
+
+-- ---- what a front means: theorems for a reader, which no proof cites
+
+-- each window begins where the one before it ends
+pub spans-consecutive : (f : FrontValue) → IsFront f → IsConsecutive f.start (spans f)
+spans-consecutive f front = spans-consecutive_from f.start f.windows front.rises
+
+-- a window at or under the low water is done
+pub is_done-under_low_water : (f : FrontValue) (lo hi : ℕ) → IsFront f → is_window f lo hi ≡ true → hi ≤ low_water f → is_done f lo hi ≡ true
+is_done-under_low_water f lo hi front window under = done-under_low f.start f.windows lo hi front.rises window (rw low_in-is at under)
+
+-- the low water is the end exactly where all windows are done
+pub low_water-all_done : (f : FrontValue) → all_done f ≡ true → low_water f ≡ end_of f
+low_water-all_done f all = low_in-is f.start f.windows ∙ low-all_done f.start f.windows all
+
+pub all_done-at_end : (f : FrontValue) → IsFront f → low_water f ≡ end_of f → all_done f ≡ true
+all_done-at_end f front all = all_done-low f.start f.windows front.rises (sym (low_in-is f.start f.windows) ∙ all)
+
+-- where there are no ranges above the low water, it has reached each done window
+pub range_count-none : (f : FrontValue) (lo hi : ℕ) → IsFront f → range_count f ≡ 0 → is_done f lo hi ≡ true → hi ≤ low_water f
+range_count-none f lo hi front none done =
+    rw low_in-is (run_count-low f.start f.windows lo hi front.rises (sym (run_count-above f.windows) ∙ none) done)

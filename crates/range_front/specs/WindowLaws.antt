@@ -1,6 +1,7 @@
 -- The laws of fronts by recursion over their windows; specs/FrontLaws.antt states them of a whole front.
 use Rattle.std.proofs.Common.{◌≡◌, ◌⊎◌, inl, inr, ℕ, ◌+◌, ◌<◌, ◌≤◌, Bool, true, false, cond, ◌&&◌, ◌||◌, eqb, List, [], ◌∷◌, ◌++◌, map, refl, sym, ap, ◌∙◌, arith}
 use Rattle.std.specs.List.{list_any, list_all, take_while}
+use Rattle.std.proofs.Math.Bool.{or_assoc}
 use Rattle.std.proofs.lemmas.Bool.{eqb-true, eq-eqb, both_ways, and_parts, and_from, or_cases, or_left, or_right, or_from, cond_both, cases_lt, cond-true}
 use Rattle.std.proofs.lemmas.List.Sums.{take_while-cons}
 use Rattle.range_front.specs.Front.{FrontWindow, Span, spans_from, end_from, finished_from, above_low_water, run_count, IsConsecutive, Rises}
@@ -30,10 +31,6 @@ window_here x y r a b = or_left (x && y) r (and_from x y a b)
 
 done_here : (x y d r : Bool) → x ≡ true → y ≡ true → d ≡ true → ((x && (y && d)) || r) ≡ true
 done_here x y d r a b c = or_left (x && (y && d)) r (and_from x (y && d) a (and_from y d b c))
-
-or_assoc : (x y z : Bool) → (x || (y || z)) ≡ ((x || y) || z)
-or_assoc true y z = refl
-or_assoc false y z = refl
 
 -- ---- where windows lie
 
@@ -252,7 +249,7 @@ done-finished_from from (w ∷ ws) lo hi a b =
     ∙ now (eqb from a) (eqb w.hi b) w.done (done_in w.hi ws a b) (window_in w.hi ws lo hi) (eqb from lo && eqb w.hi hi) (eqb lo a) (eqb hi b) e s t)
     (λ e.
     ap (λ r. (eqb from a && (eqb w.hi b && w.done)) || r) (done-finished_from w.hi ws lo hi a b)
-    ∙ or_assoc (eqb from a && (eqb w.hi b && w.done)) (done_in w.hi ws a b) (window_in w.hi ws lo hi && (eqb lo a && eqb hi b))
+    ∙ sym (or_assoc (eqb from a && (eqb w.hi b && w.done)) (done_in w.hi ws a b) (window_in w.hi ws lo hi && (eqb lo a && eqb hi b)))
     ∙ ap (λ m. ((eqb from a && (eqb w.hi b && w.done)) || done_in w.hi ws a b) || ((m || window_in w.hi ws lo hi) && (eqb lo a && eqb hi b))) (sym e))
   where
     same : (x y d r i : Bool) → ((x && (y && true)) || (r || (i && (x && y)))) ≡ (((x && (y && d)) || r) || (x && y))
