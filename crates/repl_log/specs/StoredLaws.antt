@@ -3,6 +3,7 @@ use Rattle.std.proofs.Common.{◌≡◌, ◌==◌, ◌&&◌, ◌||◌, Bool, tru
 use Rattle.std.specs.List.{find, list_any, IsDistinct, AllByRecursion}
 use Rattle.std.specs.Option.{option_map, option_or}
 use Rattle.std.specs.Map.{keys_of, lookup, set_value}
+use Rattle.std.proofs.Math.Bool.{and-true}
 use Rattle.std.proofs.lemmas.Bool.{eqb-true, eq-eqb, ne_eqb, eqb-false}
 use Rattle.std.proofs.lemmas.List.{map_push, reverse-append}
 use Rattle.std.proofs.lemmas.List.Folds.{find-append}
@@ -22,10 +23,6 @@ same_id a b same = λ i. record { 0 = same i }
 or_none : {A : Type 0} (o : Option A) → option_or o None ≡ o
 or_none None = refl
 or_none (Some x) = refl
-
-always : (b : Bool) → b ≡ (b && true)
-always true = refl
-always false = refl
 
 pub any-find : {A : Type 0} (p : A → Bool) (xs : List A) → list_any p xs ≡ is_some (find p xs)
 any-find p [] = refl
@@ -108,7 +105,7 @@ module _ {X V : Type 0} (value : X → V) (session : V → SessionId) where
   -- the value of a session is what the table has there
   pub find-lookup : (s : SessionId) (es : List (SessionId × X)) → IsKeyed own es → EachSessionOnce es → find (named s) (newest_first value es) ≡ option_map value (lookup (at_session s) es)
   find-lookup s es keyed once =
-      find-chosen (λ _. true) (named s) s (λ v. always (named s v)) es keyed once ∙ chosen-always (lookup (at_session s) es)
+      find-chosen (λ _. true) (named s) s (λ v. sym (and-true (named s v))) es keyed once ∙ chosen-always (lookup (at_session s) es)
 
   pub any-lookup : (s : SessionId) (es : List (SessionId × X)) → IsKeyed own es → EachSessionOnce es → list_any (named s) (newest_first value es) ≡ is_some (lookup (at_session s) es)
   any-lookup s es keyed once =
