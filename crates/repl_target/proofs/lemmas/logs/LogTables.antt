@@ -20,6 +20,7 @@ use Rattle.repl_target.specs.session.Sessions.{GivesUnlessMemory}
 use Rattle.repl_target.specs.logs.Logs.{log_of, log_in, logs_with, as_log_answers, put_answer_in}
 use Rattle.repl_log.specs.Stored.{at_session, IsKeyed}
 use Rattle.repl_log.specs.StoredLaws.{EachSessionOnce, newest_first-push}
+use Rattle.repl_target.proofs.lemmas.session.SessionTable.{Entries, id_of, itself}
 
 -- ---- outgoing logs
 
@@ -93,15 +94,6 @@ pub put_answer_in-new : (rep : RepId) (e : EntryValue) (logs : Logs) → lookup 
 put_answer_in-new rep e logs is = ap (λ g. as_log_answers (put_answer g e)) (log_in-absent rep logs is)
 
 -- ---- the log of the sessions
-
-abbrev Entries : Type 0
-Entries = List (SessionId × SessionValue)
-
-abbrev itself : SessionValue → SessionValue
-itself s = s
-
-abbrev id_of : SessionValue → SessionId
-id_of s = s.id
 
 sessions_of-cons : (e : SessionId × SessionValue) (es : Entries) → sessions_of (e ∷ es) ≡ sessions_of es ++ e.1 ∷ []
 sessions_of-cons e es = reverse_onto (map (λ (e : SessionId × SessionValue). e.1) es) (e.1) []

@@ -1,8 +1,8 @@
 -- Lists and tables that are copied, one element after another.
-use Rattle.std.proofs.Common.{◌≡◌, ℕ, zero, suc, ◌+◌, ◌<◌, Bool, true, false, List, [], ◌∷◌, ◌++◌, take, get_or, length, Some, refl, sym, ap, ◌∙◌}
+use Rattle.std.proofs.Common.{◌≡◌, ℕ, zero, suc, ◌+◌, ◌<◌, false, List, [], ◌∷◌, ◌++◌, take, get_or, length, Some, sym, ap, ◌∙◌}
 use Rattle.std.specs.List.{slice_get, IsDistinct, AllByRecursion}
 use Rattle.std.specs.Map.{keys_of}
-use Rattle.std.proofs.lemmas.Bool.{both_ways}
+use Rattle.std.proofs.lemmas.Bool.{both_ways, false_from_ne_true}
 use Rattle.std.proofs.lemmas.List.{take_more}
 use Rattle.std.proofs.lemmas.Option.{slice_get_within, get_or_from_slice_get}
 use Rattle.indexmap.specs.IndexMap.{insert_entry}
@@ -17,16 +17,12 @@ use Rattle.repl_target.proofs.lemmas.peer.CallsKeepLaw.{same_rep-is, same_rep-se
 pub one_more : {X : Type 0} (xs done : List X) (i : ℕ) (x : X) → i < length xs → x ≡ get_or xs i x → done ≡ take i xs → done ++ x ∷ [] ≡ take (i + 1) xs
 one_more xs done i x lt is e = ap (λ ys. ys ++ x ∷ []) e ∙ ap (λ y. take i xs ++ y ∷ []) is ∙ sym (take_more xs i x lt)
 
-not_true : (b : Bool) → (b ≡ true → ⊥) → b ≡ false
-not_true true h = absurd (h refl)
-not_true false h = refl
-
 differs : (rep : RepId) (es : List (RepId × List EntryValue)) (i : ℕ) (e : RepId × List EntryValue) → AllByRecursion (λ k. same_rep rep k ≡ false) (keys_of es) → slice_get es i ≡ Some e → same_rep e.0 rep ≡ false
 differs rep [] i e none at = absurd (none_some e at)
 differs rep (x ∷ es) zero e none at =
     let same : x ≡ e = some_is x e at in
     let apart : same_rep rep e.0 ≡ false = ap (λ (y : RepId × List EntryValue). same_rep rep y.0) (sym same) ∙ none.0 in
-    not_true (same_rep e.0 rep) (λ h. both_ways _ apart (ap (same_rep rep) (same_rep-is e.0 rep h) ∙ same_rep-self rep))
+    false_from_ne_true (same_rep e.0 rep) (λ h. both_ways _ apart (ap (same_rep rep) (same_rep-is e.0 rep h) ∙ same_rep-self rep))
 differs rep (x ∷ es) (suc i) e none at = differs rep es i e none.1 at
 
 -- no replication comes twice, so the one at a place isn't among those before

@@ -11,7 +11,7 @@ use Rattle.repl_target.specs.peer.Covered.{Honest}
 use Rattle.repl_target.specs.peer.Law.{LawfulSession, LawfulSessions}
 use Rattle.couch_base.specs.FeedLaws.{rises_le}
 use Rattle.couch_base.specs.MemberLaws.{Among-mapped, each_member}
-use Rattle.repl_target.proofs.lemmas.session.WindowsFollow.{windows-follow, window-above, window-stored, one_window}
+use Rattle.repl_target.proofs.lemmas.session.WindowsFollow.{windows-consecutive, window-above, window-stored, one_window}
 
 -- numbers that rise lie between their bounds
 pub rises_member : (lo : ℕ) (ns : List ℕ) (hi n : ℕ) → Rises lo ns hi → Among n ns → (lo < n) × (n ≤ hi)
@@ -26,7 +26,7 @@ row_within w row window m = rises_member w.lo (map (λ (r : RowValue). r.seq) w.
 -- a stored window in which a sequence lies that the low water has reached is done
 pub reached_done : (refuses : Document → Bool) (p : PeerValue) (s : SessionValue) → LawfulSession refuses p s → (w : WindowValue) → Among w s.windows → (n : ℕ) → w.lo < n → n ≤ w.hi → n ≤ low_water s.front → is_done s.front w.lo w.hi ≡ true
 reached_done refuses p s l w m n above below under =
-    let follows = windows-follow s.front s.windows l.bounds l.front in
+    let follows = windows-consecutive s.front s.windows l.bounds l.front in
     let start = (window-above s.front.start s.windows w follows m).0 in
     let at = reached s.front n l.front (omega (arith, start, above)) under in
     let v = window-stored s.front s.windows at.0 at.1 l.bounds (is_window-is_done s.front at.0 at.1 at.4) in

@@ -7,7 +7,7 @@ use Rattle.doc_json.specs.Document.{Document}
 use Rattle.couch_base.specs.Lists.{Among}
 use Rattle.couch_base.specs.ListLaws.{none_some}
 use Rattle.couch_base.specs.Database.{DatabaseValue, LawfulDatabase}
-use Rattle.couch_base.specs.Feed.{RowValue, WindowValue, feed, chosen_feed, IsWindow}
+use Rattle.couch_base.specs.Feed.{RowValue, WindowValue, chosen_feed, IsWindow}
 use Rattle.couch_base.specs.FeedLaws.{IsWindow-page}
 use Rattle.couch_base.specs.Messages.{ParcelValue}
 use Rattle.range_front.specs.Front.{low_water, end_of}

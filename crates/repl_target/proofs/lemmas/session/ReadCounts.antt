@@ -1,26 +1,26 @@
 -- How many documents a session has read, after each call.
-use Rattle.std.proofs.Common.{◌≡◌, ℕ, ◌+◌, ◌≤◌, ◌==◌, Bool, true, false, cond, List, [], ◌∷◌, Option, Some, None, Result, Ok, Err, is_ok, take, length, refl, sym, ap, ◌∙◌, arith}
-use Rattle.std.specs.List.{find, list_all}
-use Rattle.std.proofs.lemmas.Bool.{cond_both, cond-true, cond-false, eq-eqb, false≢true}
+use Rattle.std.proofs.Common.{◌≡◌, ℕ, ◌+◌, ◌≤◌, ◌==◌, Bool, true, false, cond, List, [], ◌∷◌, Option, Some, None, Result, Ok, Err, take, length, refl, sym, ap, ◌∙◌, arith}
+use Rattle.std.specs.List.{find}
+use Rattle.std.proofs.lemmas.Bool.{cond_both, cond-true, cond-false, eq-eqb}
 use Rattle.std.proofs.Math.Seq.{take-length}
 use Rattle.rev_tree.specs.declared.origin.SessionId.{SessionId}
 use Rattle.doc_json.specs.Document.{Document}
 use Rattle.couch_base.specs.Feed.{WindowValue}
 use Rattle.couch_base.specs.Messages.{ParcelValue}
-use Rattle.range_front.specs.Front.{is_done}
 use Rattle.repl_target.specs.declared.fault.Settled.{Settled}
 use Rattle.repl_target.specs.declared.fault.TargetFault.{TargetFault}
 use Rattle.repl_target.specs.declared.fault.TargetFault.TheVariants as faults
 use Rattle.repl_target.specs.declared.replication.Plan.{Plan}
 use Rattle.repl_target.specs.peer.Peer.{PeerValue, SessionValue, is_of, session_in, with_session}
 use Rattle.repl_target.specs.peer.Covered.{covers_window}
-use Rattle.repl_target.specs.session.Sessions.{found_answer, on_found, on_session, append_in, with_window, after_append, recorded_at, after_record, new_session, begun}
-use Rattle.repl_target.specs.session.Settling.{settle_docs, settled_before, has_row, has_room, window_in, settle_at, settle_check, settling_of, with_settling, with_done, after_documents, after_all, SettlesAt, Settles, SettleGives}
+use Rattle.repl_target.specs.session.Sessions.{on_found, on_session, append_in, with_window, after_append, recorded_at, after_record, new_session, begun}
+use Rattle.repl_target.specs.session.Settling.{settle_docs, settled_before, settle_check, settling_of, with_settling, with_done, after_documents, after_all, SettlesAt, Settles, SettleGives}
 use Rattle.repl_target.specs.replication.Replication.{begins_answer, after_begins, beginning_between}
 use Rattle.repl_target.specs.peer.Law.{LawfulSessions}
 use Rattle.repl_target.proofs.lemmas.peer.LaterPeers.{session_found}
 use Rattle.repl_target.proofs.lemmas.replication.SourceFeedStored.{found-is}
 use Rattle.repl_target.proofs.lemmas.session.SettlingKeepsLaw.{settle_told, documents_settle}
+use Rattle.repl_target.proofs.lemmas.session.SettlingChecks.{check_refused}
 use Rattle.repl_target.proofs.lemmas.session.SettlingTakes.{read-docs}
 use Rattle.repl_target.specs.session.ReadCounts.{read_of, read_in, taken}
 
@@ -86,28 +86,7 @@ begun_reads source target plan ok =
 
 -- what is refused before the documents takes none
 refused_none : (p : PeerValue) (id : SessionId) (parcel : ParcelValue) (fault : TargetFault) (n : ℕ) → settle_check p id parcel ≡ Err fault → taken (Err fault) n ≡ 0
-refused_none p id parcel fault n h = in_peer (session_in p.sessions id) h
-  where
-    Fine : Result (SessionValue × WindowValue) TargetFault → Type 0
-    Fine r = r ≡ Err fault → taken (Err fault) n ≡ 0
-
-    told : (why : TargetFault) → taken (Err why) n ≡ 0 → Fine (Err why)
-    told why fine e = ap (λ (f : TargetFault). taken (Err f) n) (let same : fault ≡ why = cc in same) ∙ fine
-
-    passes : (x : SessionValue × WindowValue) → Fine (Ok x)
-    passes x e = absurd (false≢true (sym (ap is_ok e)))
-
-    in_window : (s : SessionValue) (o : Option WindowValue) → Fine (settle_at s parcel o)
-    in_window s None = told faults.ForeignParcel refl
-    in_window s (Some w) =
-        cond_both (list_all (has_row w) parcel.docs) (cond (is_done s.front w.lo w.hi) (Err faults.AlreadyDone) (cond (has_room s w parcel) (Ok (s, w)) (Err faults.CountFull))) (Err faults.ForeignParcel) Fine
-        (λ _. cond_both (is_done s.front w.lo w.hi) (Err faults.AlreadyDone) (cond (has_room s w parcel) (Ok (s, w)) (Err faults.CountFull)) Fine (λ _. told faults.AlreadyDone refl)
-        (λ _. cond_both (has_room s w parcel) (Ok (s, w)) (Err faults.CountFull) Fine (λ _. passes (s, w)) (λ _. told faults.CountFull refl)))
-        (λ _. told faults.ForeignParcel refl)
-
-    in_peer : (o : Option SessionValue) → found_answer (λ s. settle_at s parcel (window_in s parcel.asked.lo parcel.asked.hi)) o ≡ Err fault → taken (Err fault) n ≡ 0
-    in_peer None e = told faults.NoSuchSession refl e
-    in_peer (Some s) e = in_window s (window_in s parcel.asked.lo parcel.asked.hi) e
+refused_none p id parcel fault n h = check_refused (λ why. taken (Err why) n ≡ 0) p id parcel fault refl refl refl refl h
 
 module _ (refuses : Document → Bool) (p : PeerValue) (id : SessionId) (l : LawfulSessions refuses p) where
   -- the first n documents

@@ -8,6 +8,7 @@ use Rattle.std.proofs.lemmas.Map.{keys-set_value}
 use Rattle.std.proofs.lemmas.Map.Steps.{set_value_same}
 use Rattle.rev_core.specs.Rev.{RevId}
 use Rattle.rev_tree.specs.declared.origin.SessionId.{SessionId}
+use Rattle.rev_tree.proofs.Places.{none_of}
 use Rattle.couch_base.specs.Database.{Id}
 use Rattle.couch_base.specs.Feed.{WindowValue}
 use Rattle.range_front.specs.Front.{low_water}
@@ -30,7 +31,7 @@ use Rattle.repl_target.proofs.lemmas.session.SettlingPeers.{same_ledgers, index_
 abbrev pub Entries : Type 0
 Entries = List (SessionId × SessionValue)
 
-abbrev itself : SessionValue → SessionValue
+abbrev pub itself : SessionValue → SessionValue
 itself s = s
 
 abbrev pub id_of : SessionValue → SessionId
@@ -44,10 +45,6 @@ mapped_itself (Some s) = refl
 abbrev based_on : RepId → Option SessionValue → Option SessionValue
 based_on rep None = None
 based_on rep (Some s) = if same_rep s.rep rep then Some s else None
-
-absent_at : {A : Type 0} (o : Option A) → is_some o ≡ false → o ≡ None
-absent_at None none = refl
-absent_at (Some x) none = cc
 
 -- a session with another's id, replication and ledger
 pub record IsSame (s t : SessionValue) : Type 0 where
@@ -82,7 +79,7 @@ module _ (ledgered : LedgerIndex) (es : Entries) (stored : IsTableOf ledgered es
   holds-lookup = any-lookup itself id_of id es stored.keyed stored.once
 
   pub absent-not_held : holds (sessions_of es) id ≡ false → lookup (at_session id) es ≡ None
-  absent-not_held none = absent_at (lookup (at_session id) es) (sym holds-lookup ∙ none)
+  absent-not_held none = none_of (lookup (at_session id) es) (sym holds-lookup ∙ none)
 
   -- a base is the session of its id, where that is of the replication
   chosen-based : (rep : RepId) (o : Option SessionValue) → lookup (at_session id) es ≡ o → base_in (sessions_of es) rep id ≡ based_on rep o

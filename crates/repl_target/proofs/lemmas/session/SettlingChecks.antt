@@ -1,6 +1,6 @@
 -- The check of a parcel against the stored windows.
-use Rattle.std.proofs.Common.{◌≡◌, ℕ, ◌+◌, ◌-◌, ◌<◌, ◌≤◌, ◌^◌, ◌==◌, Bool, true, false, ◌&&◌, min, nat_le, List, [], ◌∷◌, inl, inr, length, get_or, Option, Some, None, Result, Ok, Err, if◌then◌else◌, map, drop, zero, suc, slice_get, refl, sym, ap, ◌∙◌, subst, arith}
-use Rattle.std.proofs.lemmas.Bool.{and_parts, eqb-true, leb-true, le-leb, lt-leb, cases_lt, eq-eqb, and_from, or_left, or_right}
+use Rattle.std.proofs.Common.{◌≡◌, ℕ, ◌+◌, ◌-◌, ◌≤◌, ◌^◌, ◌==◌, Bool, true, false, ◌&&◌, min, nat_le, List, [], ◌∷◌, inl, inr, length, get_or, Option, Some, None, Result, Ok, Err, is_ok, if◌then◌else◌, zero, suc, slice_get, refl, sym, ap, ◌∙◌, subst, arith}
+use Rattle.std.proofs.lemmas.Bool.{and_parts, eqb-true, leb-true, le-leb, lt-leb, cases_lt, eq-eqb, and_from, or_left, or_right, false≢true}
 use Rattle.std.proofs.lemmas.Option.{get_or_from_slice_get}
 use Rattle.std.specs.List.{find, list_all, list_any}
 use Rattle.std.specs.Str.{bytes_eq}
@@ -10,11 +10,13 @@ use Rattle.couch_base.specs.Feed.{RowValue, WindowValue}
 use Rattle.couch_base.specs.MemberLaws.{found_member}
 use Rattle.couch_base.specs.ListLaws.{none_some, some_is}
 use Rattle.couch_base.specs.Messages.{ParcelValue}
-use Rattle.range_front.specs.Front.{FrontValue, FrontWindow, Span, spans_from, bounds, is_window, is_done, finish_answer, Rises, IsFront}
+use Rattle.range_front.specs.Front.{FrontValue, bounds, is_window, is_done, finish_answer}
 use Rattle.range_front.specs.FrontLaws.{is_window-bounds, finish_answer-ok}
-use Rattle.repl_target.specs.peer.Peer.{SessionValue}
-use Rattle.repl_target.specs.session.Settling.{settle_at, window_in, has_row, has_room, leaf_count, asked_count}
-use Rattle.repl_target.specs.session.SettlingParts.{IsWindowAt, Consecutive, Passes}
+use Rattle.rev_tree.specs.declared.origin.SessionId.{SessionId}
+use Rattle.repl_target.specs.peer.Peer.{PeerValue, SessionValue, session_in}
+use Rattle.repl_target.specs.session.Sessions.{found_answer}
+use Rattle.repl_target.specs.session.Settling.{settle_at, settle_check, window_in, has_row, has_room, leaf_count, asked_count}
+use Rattle.repl_target.specs.session.SettlingParts.{IsWindowAt, Passes}
 use Rattle.repl_target.specs.peer.Law.{window_bounds}
 use Rattle.repl_target.specs.declared.fault.TargetFault.{TargetFault}
 use Rattle.repl_target.specs.declared.fault.TargetFault.TheVariants as faults
@@ -83,39 +85,47 @@ pub record Passed (s : SessionValue) (parcel : ParcelValue) (w : WindowValue) : 
 abbrev answer : Bool → Bool → Bool → SessionValue → WindowValue → Result (SessionValue × WindowValue) TargetFault
 answer rows done room s w = if rows then (if done then Err faults.AlreadyDone else (if room then Ok (s, w) else Err faults.CountFull)) else Err faults.ForeignParcel
 
-abbrev answered : Result (SessionValue × WindowValue) TargetFault → WindowValue → WindowValue
-answered (Ok at) w = at.1
-answered (Err fault) w = w
+abbrev answered : Result (SessionValue × WindowValue) TargetFault → SessionValue × WindowValue → SessionValue × WindowValue
+answered (Ok at) none = at
+answered (Err fault) none = none
 
-tested : (s : SessionValue) (parcel : ParcelValue) (w v : WindowValue) (a b c : Bool) → list_all (has_row v) parcel.docs ≡ a → is_done s.front v.lo v.hi ≡ b → has_room s v parcel ≡ c
-    → answer a b c s v ≡ Ok (s, w) → (v ≡ w) × Passed s parcel w
-tested s parcel w v false b c x y z h = cc h
-tested s parcel w v true true c x y z h = cc h
-tested s parcel w v true false false x y z h = cc h
-tested s parcel w v true false true x y z h =
-    let same : v ≡ w = ap (λ r. answered r v) h in
-    (same, subst (λ u. Passed s parcel u) same (record { rows = x; remains = y; room = z }))
+tested : (s : SessionValue) (parcel : ParcelValue) (w : WindowValue) (at : SessionValue × WindowValue) (a b c : Bool) → list_all (has_row w) parcel.docs ≡ a → is_done s.front w.lo w.hi ≡ b → has_room s w parcel ≡ c
+    → answer a b c s w ≡ Ok at → (at ≡ (s, w)) × Passed s parcel w
+tested s parcel w at false b c x y z h = cc h
+tested s parcel w at true true c x y z h = cc h
+tested s parcel w at true false false x y z h = cc h
+tested s parcel w at true false true x y z h = (sym (ap (λ r. answered r (s, w)) h), record { rows = x; remains = y; room = z })
 
-pub passed : (s : SessionValue) (parcel : ParcelValue) (o : Option WindowValue) (w : WindowValue) → settle_at s parcel o ≡ Ok (s, w) → Passed s parcel w
-passed s parcel None w h = cc h
-passed s parcel (Some v) w h = (tested s parcel w v _ _ _ refl refl refl h).1
+-- the window that was found, with the session
+pub passed : (s : SessionValue) (parcel : ParcelValue) (o : Option WindowValue) (at : SessionValue × WindowValue) → settle_at s parcel o ≡ Ok at → (w : WindowValue) × (o ≡ Some w) × (at ≡ (s, w)) × Passed s parcel w
+passed s parcel None at h = cc h
+passed s parcel (Some w) at h = let t = tested s parcel w at _ _ _ refl refl refl h in (w, refl, t.0, t.1)
+
+-- ---- what is refused before the documents
+
+-- by one of four faults
+pub check_refused : (P : TargetFault → Type 0) (p : PeerValue) (id : SessionId) (parcel : ParcelValue) (fault : TargetFault)
+    → P faults.NoSuchSession → P faults.ForeignParcel → P faults.AlreadyDone → P faults.CountFull → settle_check p id parcel ≡ Err fault → P fault
+check_refused P p id parcel fault absent foreign done full h = in_peer (session_in p.sessions id) h
+  where
+    told : (why : TargetFault) → P why → ◌≡◌ {A = Result (SessionValue × WindowValue) TargetFault} (Err why) (Err fault) → P fault
+    told why holds e = subst P (let same : why ≡ fault = cc in same) holds
+
+    by : (s : SessionValue) (w : WindowValue) (a b c : Bool) → answer a b c s w ≡ Err fault → P fault
+    by s w false b c e = told faults.ForeignParcel foreign e
+    by s w true true c e = told faults.AlreadyDone done e
+    by s w true false false e = told faults.CountFull full e
+    by s w true false true e = absurd (false≢true (sym (ap is_ok e)))
+
+    in_window : (s : SessionValue) (o : Option WindowValue) → settle_at s parcel o ≡ Err fault → P fault
+    in_window s None e = told faults.ForeignParcel foreign e
+    in_window s (Some w) e = by s w (list_all (has_row w) parcel.docs) (is_done s.front w.lo w.hi) (has_room s w parcel) e
+
+    in_peer : (o : Option SessionValue) → found_answer (λ s. settle_at s parcel (window_in s parcel.asked.lo parcel.asked.hi)) o ≡ Err fault → P fault
+    in_peer None e = told faults.NoSuchSession absent e
+    in_peer (Some s) e = in_window s (window_in s parcel.asked.lo parcel.asked.hi) e
 
 -- ---- stored windows and the front
-
-consecutive_from : (start : ℕ) (ws : List WindowValue) (fs : List FrontWindow) → window_bounds ws ≡ map (λ (s : Span). (s.lo, s.hi)) (spans_from start fs) → Rises start fs → Consecutive start ws
-consecutive_from start [] fs same rises = tt
-consecutive_from start (w ∷ ws) [] same rises = absurd (let n = ap length same in omega (arith, n))
-consecutive_from start (w ∷ ws) (f ∷ fs) same rises =
-    let heads : (w.lo, w.hi) ≡ (start, f.hi) = ap (λ (l : List (ℕ × ℕ)). get_or l 0 (w.lo, w.hi)) same in
-    let tails : window_bounds ws ≡ map (λ (s : Span). (s.lo, s.hi)) (spans_from f.hi fs) = ap (drop 1) same in
-    let high : w.hi ≡ f.hi = ap (λ (b : ℕ × ℕ). b.1) heads in
-    let above : start < f.hi = rises.0 in
-    let low : w.lo ≡ start = ap (λ (b : ℕ × ℕ). b.0) heads in
-    let rising : start < w.hi = subst (λ (n : ℕ). start < n) (sym high) above in
-    (low, rising, subst (λ (n : ℕ). Consecutive n ws) (sym high) (consecutive_from f.hi ws fs tails rises.1))
-
-pub consecutive : (f : FrontValue) (ws : List WindowValue) → IsFront f → window_bounds ws ≡ bounds f → (start : ℕ) × Consecutive start ws
-consecutive f ws front same = (f.start, consecutive_from f.start ws f.windows same front.rises)
 
 bound_there : (ws : List WindowValue) (i : ℕ) (w : WindowValue) → slice_get ws i ≡ Some w → list_any (λ (b : ℕ × ℕ). (b.0 == w.lo) && (b.1 == w.hi)) (window_bounds ws) ≡ true
 bound_there [] i w at = absurd (none_some w at)
@@ -131,7 +141,9 @@ can_finish f ws i w same at remains =
     finish_answer-ok f w.lo w.hi there remains
 
 pub passed_by : (s : SessionValue) (parcel : ParcelValue) (place leaves asked : ℕ) → (p : Passes s parcel place leaves asked) → Passed s parcel p.window
-passed_by s parcel place leaves asked p = passed s parcel (window_in s parcel.asked.lo parcel.asked.hi) p.window p.answer
+passed_by s parcel place leaves asked p =
+    let k = passed s parcel (window_in s parcel.asked.lo parcel.asked.hi) (s, p.window) p.answer in
+    subst (Passed s parcel) (ap (λ (at : SessionValue × WindowValue). at.1) (sym k.2)) k.3
 
 -- the counts that have room
 pub record Room (s : SessionValue) (w : WindowValue) (parcel : ParcelValue) : Type 0 where

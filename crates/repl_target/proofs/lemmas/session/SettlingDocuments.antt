@@ -7,7 +7,6 @@ use Rattle.std.specs.List.{list_all}
 use Rattle.std.proofs.Common.{get_or, length-drop}
 use Rattle.std.proofs.lemmas.List.{drop_more, take_more, take_all, reverse-reverse, reverse-append, length-reverse}
 use Rattle.std.proofs.lemmas.Option.{get_or_from_slice_get}
-use Rattle.std.specs.Prelude.{Vec}
 use Rattle.std.specs.Option.{MatchOption}
 use Rattle.std.specs.Str.{bytes_eq}
 use Rattle.rev_core.specs.Ancestry.{is_among}
@@ -128,9 +127,6 @@ reached_all refuses w z after ds n h =
     }
 
 -- ---- what a loop reads
-
-abbrev pub items_of : {X Z : Type 0} → Vec X Z → List X
-items_of v = v.items
 
 -- the window at a place
 pub window_is : (before now : List WindowValue) (place : ℕ) (w x : WindowValue) → before ≡ now → slice_get before place ≡ Some w → x ≡ get_or now place x → x ≡ w

@@ -32,12 +32,13 @@ use Rattle.repl_target.specs.declared.fault.TargetFault.TheVariants as faults
 use Rattle.repl_target.specs.peer.Peer.{PeerValue, SessionValue, WrittenValue, RefusedValue, written_of, is_of, session_in, with_session}
 use Rattle.repl_target.specs.peer.Covered.{contradiction_of, refusal_of, rightly_refused, covers, knows_row, covers_window, CoversWindow}
 use Rattle.repl_target.specs.session.Sessions.{found_answer}
-use Rattle.repl_target.specs.session.Settling.{Settling, fed, with_refused, with_arrival, is_full, settle_as, settle_one, settle_docs, settled_before, has_row, has_room, window_in, settle_at, settle_check, with_settling, settling_of, after_documents, with_done, marked, after_all, after_front, after_stop, settled_at, after_settle, SettlesAt, Settles, SettleGives}
+use Rattle.repl_target.specs.session.Settling.{Settling, fed, with_refused, with_arrival, is_full, settle_as, settle_one, settle_docs, settled_before, has_row, window_in, settle_at, settle_check, with_settling, settling_of, after_documents, with_done, marked, after_all, after_front, after_stop, settled_at, after_settle, SettlesAt, Settles, SettleGives}
 use Rattle.repl_target.specs.peer.Law.{LawfulSession, LawfulSessions}
 use Rattle.repl_target.specs.peer.Later.{Keeps, IsLaterPeer}
 use Rattle.couch_base.specs.MemberLaws.{Among-left, Among-push, all_member, found_member}
 use Rattle.repl_target.proofs.lemmas.peer.LaterPeers.{Keeps-same, Keeps-later, IsLaterPeer-same, IsLaterPeer-later, covers-later, session_found, with_session_holds, session_law}
-use Rattle.repl_target.proofs.lemmas.session.WindowsFollow.{windows-follow, window-above, one_window}
+use Rattle.repl_target.proofs.lemmas.session.SettlingChecks.{passed}
+use Rattle.repl_target.proofs.lemmas.session.WindowsFollow.{windows-consecutive, window-above, one_window}
 
 -- ---- refusals
 
@@ -201,7 +202,7 @@ window_covered p w h row m leaf n = all_member (covers p row.id) leaf row.leaves
 
 done_lawful : (refuses : Document → Bool) (q : PeerValue) (s : SessionValue) (w : WindowValue) (parcel : ParcelValue) → Among w s.windows → CoversWindow q w → LawfulSession refuses q s → LawfulSession refuses q (with_done w parcel s)
 done_lawful refuses q s w parcel m covered l =
-    let follows = windows-follow s.front s.windows l.bounds l.front in
+    let follows = windows-consecutive s.front s.windows l.bounds l.front in
     record {
       front = IsFront-finished s.front w.lo w.hi l.front;
       bounds = l.bounds ∙ sym (bounds-finished s.front w.lo w.hi);
@@ -249,28 +250,20 @@ pub record Settleable (p : PeerValue) (id : SessionId) (parcel : ParcelValue) (a
   pub rows : list_all (has_row at.1) parcel.docs ≡ true
   pub undone : is_done at.0.front at.1.lo at.1.hi ≡ false
 
-ok_is : {A : Type 0} (x y : A) → ◌≡◌ {A = Result A TargetFault} (Ok x) (Ok y) → x ≡ y
-ok_is x y e = cc
-
 pub settle_told : (p : PeerValue) (id : SessionId) (parcel : ParcelValue) (at : SessionValue × WindowValue) → settle_check p id parcel ≡ Ok at → Settleable p id parcel at
 settle_told p id parcel at h = in_peer (session_in p.sessions id) refl h
   where
-    in_window : (s : SessionValue) → Among s p.sessions → s.id.0 ≡ id.0 → (o : Option WindowValue) → window_in s parcel.asked.lo parcel.asked.hi ≡ o → settle_at s parcel o ≡ Ok at → Settleable p id parcel at
-    in_window s m number None e h = cc h
-    in_window s m number (Some w) e h =
-        let found = found_member (λ (v : WindowValue). (v.lo == parcel.asked.lo) && (v.hi == parcel.asked.hi)) s.windows w e in
+    in_window : (s : SessionValue) → Among s p.sessions → s.id.0 ≡ id.0 → settle_at s parcel (window_in s parcel.asked.lo parcel.asked.hi) ≡ Ok at → Settleable p id parcel at
+    in_window s m number h =
+        let k = passed s parcel (window_in s parcel.asked.lo parcel.asked.hi) at h in
+        let found = found_member (λ (v : WindowValue). (v.lo == parcel.asked.lo) && (v.hi == parcel.asked.hi)) s.windows k.0 k.1 in
         let both = and_parts _ _ found.1 in
-        let Asks : Result (SessionValue × WindowValue) TargetFault → Type 0 = λ r. r ≡ Ok at → Settleable p id parcel at in
-        cond_both (list_all (has_row w) parcel.docs) (cond (is_done s.front w.lo w.hi) (Err faults.AlreadyDone) (cond (has_room s w parcel) (Ok (s, w)) (Err faults.CountFull))) (Err faults.ForeignParcel) Asks
-        (λ rows. cond_both (is_done s.front w.lo w.hi) (Err faults.AlreadyDone) (cond (has_room s w parcel) (Ok (s, w)) (Err faults.CountFull)) Asks (λ _ k. cc k)
-        (λ undone. cond_both (has_room s w parcel) (Ok (s, w)) (Err faults.CountFull) Asks
-        (λ _ k. subst (Settleable p id parcel) (ok_is (s, w) at k) (record { held = m; number = number; stored = found.0; lo = eqb-true _ _ both.0; hi = eqb-true _ _ both.1; rows = rows; undone = undone }))
-        (λ _ k. cc k)))
-        (λ _ k. cc k) h
+        subst (Settleable p id parcel) (sym k.2)
+        (record { held = m; number = number; stored = found.0; lo = eqb-true _ _ both.0; hi = eqb-true _ _ both.1; rows = k.3.rows; undone = k.3.remains })
 
     in_peer : (o : Option SessionValue) → session_in p.sessions id ≡ o → found_answer (λ s. settle_at s parcel (window_in s parcel.asked.lo parcel.asked.hi)) o ≡ Ok at → Settleable p id parcel at
     in_peer None e h = cc h
-    in_peer (Some s) e h = let held = session_found p.sessions id s e in in_window s held.0 held.1 (window_in s parcel.asked.lo parcel.asked.hi) refl h
+    in_peer (Some s) e h = let held = session_found p.sessions id s e in in_window s held.0 held.1 h
 
 -- ---- where settling ends
 

@@ -1,8 +1,8 @@
 -- What settling over the parts of a peer gives of the peer.
-use Rattle.std.proofs.Common.{◌≡◌, Bool, true, false, not, cond, if◌then◌else◌, ◌&&◌, ◌||◌, List, [], ◌∷◌, Option, Some, None, Result, Ok, Err, is_ok, refl, sym, ap, ◌∙◌, subst, inl, inr}
+use Rattle.std.proofs.Common.{◌≡◌, Bool, true, false, not, cond, if◌then◌else◌, ◌&&◌, ◌||◌, List, [], ◌∷◌, Option, Some, None, Result, Ok, Err, refl, sym, ap, ◌∙◌, subst, inl, inr}
 use Rattle.std.specs.List.{find, list_all}
 use Rattle.std.specs.Option.{option_map, option_or}
-use Rattle.std.proofs.lemmas.Bool.{and_from, and_left, and_right, cond_both, cond-true, cond-false, or_cases, or_left, or_right, false≢true}
+use Rattle.std.proofs.lemmas.Bool.{and_from, and_left, and_right, cond_both, cond-true, cond-false, or_cases, or_left, or_right}
 use Rattle.rev_core.specs.Rev.{RevId}
 use Rattle.rev_tree.specs.Tree.{has}
 use Rattle.rev_tree.specs.declared.origin.SessionId.{SessionId}
@@ -13,11 +13,10 @@ use Rattle.couch_base.specs.Feed.{RowValue, WindowValue}
 use Rattle.couch_base.specs.Lists.{Among}
 use Rattle.couch_base.specs.ListLaws.{none_some}
 use Rattle.couch_base.specs.Messages.{ParcelValue}
-use Rattle.range_front.specs.Front.{is_done}
 use Rattle.repl_target.specs.peer.Peer.{PeerValue, SessionValue, is_of, session_in, with_session}
 use Rattle.repl_target.specs.peer.Covered.{in_ledger, covers, knows_row, covers_window, unknown_in, first_unknown, Leaf}
 use Rattle.repl_target.specs.session.Sessions.{found_answer}
-use Rattle.repl_target.specs.session.Settling.{Settling, has_row, has_room, settle_docs, settle_at, window_in, settle_check, with_settling, settling_of, with_done, after_all, SettlesAt, Settles, SettleGives}
+use Rattle.repl_target.specs.session.Settling.{Settling, settle_docs, settle_at, window_in, settle_check, with_settling, settling_of, with_done, after_all, SettlesAt, Settles, SettleGives}
 use Rattle.repl_target.specs.session.SettlingParts.{with_mark, PartsSettled, PartsSettle, PartsGive}
 use Rattle.repl_target.specs.session.SessionCalls.{in_ledgers}
 use Rattle.repl_target.specs.session.LedgerIndex.{is_ledgered}
@@ -30,6 +29,7 @@ use Rattle.repl_target.specs.declared.fault.TargetFault.TheVariants as faults
 use Rattle.repl_target.proofs.lemmas.peer.LaterPeers.{with_session_holds}
 use Rattle.repl_target.proofs.lemmas.session.SettlingKeepsLaw.{with_session-twice}
 use Rattle.couch_base.specs.MemberLaws.{Among-map, Among-mapped, any_member, any_from}
+use Rattle.repl_target.proofs.lemmas.session.SettlingChecks.{passed}
 
 -- ---- leaves
 
@@ -134,20 +134,9 @@ module _ (refuses : Document → Bool) (known : Id → RevId → Bool) (p : Peer
   settles_at (Err faults.SamePeer) after agrees h = absurd h
   settles_at (Err faults.Memory) after agrees h = absurd h
 
-abbrev told : Result (SessionValue × WindowValue) TargetFault → SessionValue → SessionValue
-told (Ok at) s = at.0
-told (Err fault) s = s
-
 -- the session of the check is the one that is asked
 own_session : (s : SessionValue) (parcel : ParcelValue) (o : Option WindowValue) (at : SessionValue × WindowValue) → settle_at s parcel o ≡ Ok at → at.0 ≡ s
-own_session s parcel None at h = absurd (false≢true (ap is_ok h))
-own_session s parcel (Some w) at h = own (list_all (has_row w) parcel.docs) (is_done s.front w.lo w.hi) (has_room s w parcel) h
-  where
-    own : (a b c : Bool) → (if a then (if b then Err faults.AlreadyDone else (if c then Ok (s, w) else Err faults.CountFull)) else Err faults.ForeignParcel) ≡ Ok at → at.0 ≡ s
-    own false b c h = absurd (false≢true (ap is_ok h))
-    own true true c h = absurd (false≢true (ap is_ok h))
-    own true false false h = absurd (false≢true (ap is_ok h))
-    own true false true h = sym (ap (λ r. told r s) h)
+own_session s parcel o at h = ap (λ (x : SessionValue × WindowValue). x.0) (passed s parcel o at h).2
 
 -- where the peer holds the session of the id, settling over its parts is settling the peer
 pub settle_gives : (refuses : Document → Bool) (known : Id → RevId → Bool) (p : PeerValue) (id : SessionId) (s : SessionValue) (parcel : ParcelValue) (result : Result Settled TargetFault) (after : Settling)

@@ -1,9 +1,9 @@
 -- What a settling takes: each document, in the counts too; so a parcel of a session's own window covers it.
-use Rattle.std.proofs.Common.{◌≡◌, ◌⊎◌, ℕ, zero, suc, ◌+◌, ◌≤◌, ◌&&◌, Bool, true, false, cond, not, List, [], ◌∷◌, Option, Some, None, Result, Ok, Err, is_ok, take, length, refl, sym, ap, ◌∙◌, subst, inl, inr, arith}
-use Rattle.std.specs.List.{find, list_all}
+use Rattle.std.proofs.Common.{◌≡◌, ◌⊎◌, ℕ, zero, suc, ◌+◌, ◌≤◌, ◌&&◌, Bool, true, false, cond, not, List, [], ◌∷◌, Option, Some, None, Result, Ok, Err, take, length, refl, sym, ap, ◌∙◌, subst, inl, inr, arith}
+use Rattle.std.specs.List.{find}
 use Rattle.std.specs.Option.{option_map, option_or}
 use Rattle.std.specs.Str.{bytes_eq}
-use Rattle.std.proofs.lemmas.Bool.{and_from, cond_both, both_ways, or_left, or_right, false≢true, cases_Bool}
+use Rattle.std.proofs.lemmas.Bool.{and_from, cond_both, both_ways, or_left, or_right, cases_Bool}
 use Rattle.std.proofs.lemmas.Slice.Eq.{bytes_eq-Decides}
 use Rattle.rev_core.specs.Rev.{RevId}
 use Rattle.rev_core.specs.Ancestry.{is_among}
@@ -16,20 +16,19 @@ use Rattle.couch_base.specs.Database.{Id, tree_of}
 use Rattle.couch_base.specs.Feed.{RowValue, WindowValue}
 use Rattle.couch_base.specs.Messages.{ParcelValue, IsParcel}
 use Rattle.couch_base.specs.Put.{put_answer}
-use Rattle.range_front.specs.Front.{is_done}
 use Rattle.repl_target.specs.declared.fault.Reason.{Reason}
 use Rattle.repl_target.specs.declared.fault.Settled.{Settled}
 use Rattle.repl_target.specs.declared.fault.TargetFault.{TargetFault}
 use Rattle.repl_target.specs.declared.fault.TargetFault.TheVariants as faults
-use Rattle.repl_target.specs.peer.Peer.{PeerValue, SessionValue, RefusedValue, written_of, session_in, with_session}
+use Rattle.repl_target.specs.peer.Peer.{PeerValue, SessionValue, RefusedValue, written_of, with_session}
 use Rattle.repl_target.specs.peer.Covered.{refusal_of, in_ledger, covers, unknown_in, first_unknown}
-use Rattle.repl_target.specs.session.Sessions.{found_answer}
-use Rattle.repl_target.specs.session.Settling.{Settling, settle_as, settle_one, settle_docs, stops_as, stops_at, settled_before, is_full, has_row, has_room, window_in, settle_at, settle_check, settling_of, with_settling, after_documents, after_all, Settles, SettleGives, is_uncovered}
+use Rattle.repl_target.specs.session.Settling.{Settling, settle_as, settle_one, settle_docs, stops_as, stops_at, settled_before, is_full, settle_check, settling_of, with_settling, after_documents, after_all, Settles, SettleGives, is_uncovered}
 use Rattle.repl_target.specs.peer.Law.{LawfulSessions}
 use Rattle.couch_base.specs.MemberLaws.{Among-left, Among-last, any_from}
 use Rattle.repl_target.proofs.lemmas.peer.LaterPeers.{covers-later, one_session}
+use Rattle.repl_target.proofs.lemmas.session.SettlingChecks.{check_refused}
 use Rattle.repl_target.proofs.lemmas.session.SettlingKeepsLaw.{SettlesLawfully, documents_settle, settle_told, mark_law}
-use Rattle.repl_target.proofs.lemmas.session.WindowsFollow.{windows-follow, window-above, one_window}
+use Rattle.repl_target.proofs.lemmas.session.WindowsFollow.{windows-consecutive, window-above, one_window}
 use Rattle.repl_target.specs.ties.Ties.{IsTiedParcel}
 use Rattle.repl_target.proofs.lemmas.ties.TiedMessages.{brought}
 
@@ -103,28 +102,7 @@ all_known known (row ∷ rows) h =
 
 -- what is refused before the documents is no leaf
 checked : (p : PeerValue) (id : SessionId) (parcel : ParcelValue) (fault : TargetFault) → settle_check p id parcel ≡ Err fault → is_uncovered (Err fault) ≡ false
-checked p id parcel fault h = in_peer (session_in p.sessions id) h
-  where
-    Fine : Result (SessionValue × WindowValue) TargetFault → Type 0
-    Fine r = r ≡ Err fault → is_uncovered (Err fault) ≡ false
-
-    told : (why : TargetFault) → is_uncovered (Err why) ≡ false → Fine (Err why)
-    told why fine e = ap (λ (f : TargetFault). is_uncovered (Err f)) (let same : fault ≡ why = cc in same) ∙ fine
-
-    taken : (x : SessionValue × WindowValue) → Fine (Ok x)
-    taken x e = absurd (false≢true (sym (ap is_ok e)))
-
-    in_window : (s : SessionValue) (o : Option WindowValue) → Fine (settle_at s parcel o)
-    in_window s None = told faults.ForeignParcel refl
-    in_window s (Some w) =
-        cond_both (list_all (has_row w) parcel.docs) (cond (is_done s.front w.lo w.hi) (Err faults.AlreadyDone) (cond (has_room s w parcel) (Ok (s, w)) (Err faults.CountFull))) (Err faults.ForeignParcel) Fine
-        (λ _. cond_both (is_done s.front w.lo w.hi) (Err faults.AlreadyDone) (cond (has_room s w parcel) (Ok (s, w)) (Err faults.CountFull)) Fine (λ _. told faults.AlreadyDone refl)
-        (λ _. cond_both (has_room s w parcel) (Ok (s, w)) (Err faults.CountFull) Fine (λ _. taken (s, w)) (λ _. told faults.CountFull refl)))
-        (λ _. told faults.ForeignParcel refl)
-
-    in_peer : (o : Option SessionValue) → found_answer (λ s. settle_at s parcel (window_in s parcel.asked.lo parcel.asked.hi)) o ≡ Err fault → is_uncovered (Err fault) ≡ false
-    in_peer None e = told faults.NoSuchSession refl e
-    in_peer (Some s) e = in_window s (window_in s parcel.asked.lo parcel.asked.hi) e
+checked p id parcel fault h = check_refused (λ why. is_uncovered (Err why) ≡ false) p id parcel fault refl refl refl refl h
 
 -- a leaf of the own window, after all documents
 leaf_covered : (refuses : Document → Bool) (p : PeerValue) (s : SessionValue) (w : WindowValue) (parcel : ParcelValue) → LawfulSessions refuses p → Among s p.sessions → IsTiedParcel p.db w parcel → IsParcel parcel → settled_before refuses w (settling_of p s) parcel.docs ≡ length parcel.docs
@@ -165,7 +143,7 @@ own_covered refuses p s w parcel l m n tied law (Err (faults.Uncovered seq id re
         let told = settle_told p s.id parcel at e in
         let one : at.0 ≡ s = one_session p.sessions at.0 s l.distinct told.held m told.number in
         let own = (l.sessions at.0 told.held) in
-        let follows = windows-follow at.0.front at.0.windows own.bounds own.front in
+        let follows = windows-consecutive at.0.front at.0.windows own.bounds own.front in
         let there : Among w at.0.windows = subst (λ (y : SessionValue). Among w y.windows) (sym one) n in
         let range = (window-above at.0.front.start at.0.windows at.1 follows told.stored).1 in
         let lo : w.lo ≡ at.1.lo = sym tied.asked.lo ∙ sym told.lo in

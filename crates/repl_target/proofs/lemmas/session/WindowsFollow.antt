@@ -7,29 +7,25 @@ use Rattle.range_front.specs.Front.{FrontValue, FrontWindow, Rises, IsFront, bou
 use Rattle.range_front.specs.WindowLaws.{bounds_from}
 use Rattle.range_front.specs.FrontLaws.{is_window-bounds}
 use Rattle.repl_target.specs.peer.Law.{window_bounds}
+use Rattle.repl_target.specs.session.SettlingParts.{Consecutive}
 use Rattle.couch_base.specs.MemberLaws.{Among-map, any_member}
 
--- each window begins where the one before it ends, the first at lo, and ends above that
-abbrev pub Follows : ℕ → List WindowValue → Type 0
-Follows lo [] = Unit {0}
-Follows lo (w ∷ ws) = (w.lo ≡ lo) × (lo < w.hi) × Follows w.hi ws
-
-follows_from : (lo : ℕ) (fs : List FrontWindow) (ws : List WindowValue) → window_bounds ws ≡ bounds_from lo fs → Rises lo fs → Follows lo ws
-follows_from lo [] [] e r = tt
-follows_from lo [] (w ∷ ws) e r = cc
-follows_from lo (f ∷ fs) [] e r = cc
-follows_from lo (f ∷ fs) (w ∷ ws) e r =
+consecutive_from : (lo : ℕ) (fs : List FrontWindow) (ws : List WindowValue) → window_bounds ws ≡ bounds_from lo fs → Rises lo fs → Consecutive lo ws
+consecutive_from lo [] [] e r = tt
+consecutive_from lo [] (w ∷ ws) e r = cc
+consecutive_from lo (f ∷ fs) [] e r = cc
+consecutive_from lo (f ∷ fs) (w ∷ ws) e r =
     let first : ◌≡◌ {A = ℕ × ℕ} (w.lo, w.hi) (lo, f.hi) = cc in
     let others : window_bounds ws ≡ bounds_from f.hi fs = cc in
     let from : w.lo ≡ lo = ap (λ (b : ℕ × ℕ). b.0) first in
     let to : w.hi ≡ f.hi = ap (λ (b : ℕ × ℕ). b.1) first in
-    (from, omega (arith, to, r.0), subst (λ n. Follows n ws) (sym to) (follows_from f.hi fs ws others r.1))
+    (from, omega (arith, to, r.0), subst (λ n. Consecutive n ws) (sym to) (consecutive_from f.hi fs ws others r.1))
 
-pub windows-follow : (f : FrontValue) (ws : List WindowValue) → window_bounds ws ≡ bounds f → IsFront f → Follows f.start ws
-windows-follow f ws e front = follows_from f.start f.windows ws e front.rises
+pub windows-consecutive : (f : FrontValue) (ws : List WindowValue) → window_bounds ws ≡ bounds f → IsFront f → Consecutive f.start ws
+windows-consecutive f ws e front = consecutive_from f.start f.windows ws e front.rises
 
 -- a window lies at or above where they begin, and isn't empty
-pub window-above : (lo : ℕ) (ws : List WindowValue) (x : WindowValue) → Follows lo ws → Among x ws → (lo ≤ x.lo) × (x.lo < x.hi)
+pub window-above : (lo : ℕ) (ws : List WindowValue) (x : WindowValue) → Consecutive lo ws → Among x ws → (lo ≤ x.lo) × (x.lo < x.hi)
 window-above lo [] x c m = absurd m
 window-above lo (w ∷ ws) x c (inl e) =
     let from : x.lo ≡ w.lo = ap (λ (v : WindowValue). v.lo) e in
@@ -38,7 +34,7 @@ window-above lo (w ∷ ws) x c (inl e) =
 window-above lo (w ∷ ws) x c (inr m) = let k = window-above w.hi ws x c.2 m in (omega (arith, k.0, c.1), k.1)
 
 -- two windows in which one sequence lies are one
-pub one_window : (lo : ℕ) (ws : List WindowValue) (x y : WindowValue) (q : ℕ) → Follows lo ws → Among x ws → Among y ws → x.lo < q → q ≤ x.hi → y.lo < q → q ≤ y.hi → x ≡ y
+pub one_window : (lo : ℕ) (ws : List WindowValue) (x y : WindowValue) (q : ℕ) → Consecutive lo ws → Among x ws → Among y ws → x.lo < q → q ≤ x.hi → y.lo < q → q ≤ y.hi → x ≡ y
 one_window lo [] x y q c m n a b d e = absurd m
 one_window lo (w ∷ ws) x y q c (inl i) (inl j) a b d e = i ∙ sym j
 one_window lo (w ∷ ws) x y q c (inl i) (inr n) a b d e =

@@ -1,5 +1,4 @@
 use Rattle.std.proofs.Common.{Ok, Err, subst}
-use Rattle.couch_base.specs.Database.{LawfulDatabase}
 use Rattle.repl_target.specs.replication.Replication.{Replicates}
 use Rattle.repl_target.specs.replication.Sync.{refused_there, refused_back, both}
 use Rattle.repl_target.proofs.lemmas.replication.BothWays.{replicates_leaves, turned_tied, both_meet}

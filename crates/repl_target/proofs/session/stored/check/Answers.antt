@@ -8,13 +8,14 @@ use Rattle.range_front.specs.Front.{is_done}
 use Rattle.repl_target.specs.session.Settling.{settle_at, has_row, has_room, leaf_count, asked_count}
 use Rattle.repl_target.specs.session.Stored.{session_value}
 use Rattle.repl_target.specs.session.SettlingParts.{Consecutive}
-use Rattle.repl_target.proofs.lemmas.session.SettlingChecks.{consecutive, rows_tested, found, foreign, done_already, count_full, passes_all, cut_fits, uncut}
+use Rattle.repl_target.proofs.lemmas.session.SettlingChecks.{rows_tested, found, foreign, done_already, count_full, passes_all, cut_fits, uncut}
+use Rattle.repl_target.proofs.lemmas.session.WindowsFollow.{windows-consecutive}
 use Rattle.repl_target.proofs.session.stored.check.Goals as goal
 
 pub find_window-requires : goal.find_window-requires
 find_window-requires c =
     let s = c.session.inside in
-    subst (λ (l : List WindowValue). (start : ℕ) × Consecutive start l) (sym c.deref.ensures.value) (consecutive s.front.front s.windows.items c.session.invariant.front c.session.invariant.bounds)
+    subst (λ (l : List WindowValue). (start : ℕ) × Consecutive start l) (sym c.deref.ensures.value) (s.front.front.start, windows-consecutive s.front.front s.windows.items c.session.invariant.bounds c.session.invariant.front)
 
 pub returns-then-not-all_have_rows-clause-err : goal.returns-then-not-all_have_rows-clause-err
 returns-then-not-all_have_rows-clause-err c =
