@@ -5,6 +5,7 @@
 
 mod content;
 mod fault;
+mod leaf;
 mod merging;
 mod node;
 mod nodes;

@@ -16,7 +16,8 @@ use rev_core::Rev;
 impl Nodes {
     /// Whether each given child has a known parent, or the first whose known parent is another than the given one.
     ///
-    /// The place of a known parent is known with it, so an ancestry that is there is followed with one look-up.
+    /// The place of a known parent is known with it, so an ancestry that is there is followed with one look-up. The parent
+    /// of a child that is new is looked for first where the last node has its own.
     pub(crate) fn knows_edges(&self, revs: &[Rev]) -> Result<bool, Contradiction>
         requires some { 0 < length revs.now }
         ensures edges { IfOk result (λ b. b ≡ list_all (has_edge (tree_of self.now.items)) (edges_of revs.now)) }
@@ -44,11 +45,24 @@ impl Nodes {
                 }
                 None => {
                     all = false;
-                    place = self.place_in(&given);
+                    let near = self.parent_at(self.all().len().checked_sub(1));
+                    place = self.place_near(near, &given);
                 }
             }
         }
         Ok(all)
+    }
+
+    /// Where the parent of a node may be: at the place that it names, or else at the one that the node before it names.
+    /// Leaves of one parent often come one behind the other.
+    fn near(&self, child: usize) -> Option<usize>
+        requires { child < length self.now.items }
+        ensures { IfSome result (λ i. i < length self.now.items) }
+    {
+        match self.parent_at(Some(child)) {
+            Some(parent) => Some(parent),
+            None => self.parent_at(child.checked_sub(1)),
+        }
     }
 
     /// The place of the known parent of the revision at a place.
@@ -102,7 +116,7 @@ impl Nodes {
         let mut child = self.add(None, revs[0], origin);
         self.give(child, content);
         for i in 1..revs.len() {
-            let near = self.node_at(child).parent();
+            let near = self.near(child);
             let parent = self.add(near, revs[i], origin);
             self.link(child, parent);
             child = parent;

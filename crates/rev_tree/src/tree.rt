@@ -5,6 +5,7 @@ ghost use Rattle.rev_tree.specs.Nodes.{deletes, goes_before};
 
 use crate::content::Content;
 use crate::fault::{Contradiction, Merged, TreeFault};
+use crate::leaf::Leaf;
 use crate::node::Node;
 use crate::nodes::Nodes;
 use crate::origin::Origin;
@@ -206,10 +207,10 @@ impl Tree {
         let mut found = Vec::with_capacity(alloc, self.leaf_count())?;
         for node in self.nodes.all() {
             if !node.has_child() {
-                found.push((is_deleted(node), node.rev()))?;
+                found.push(Leaf::new(is_deleted(node), node.rev()))?;
             }
         }
-        found.sort_unstable_by(|a, b| a.0.cmp(&b.0).then(b.1.cmp(a.1)));
+        found.sort_unstable_by(|a, b| a.order(b));
         revs_of(alloc, &found)
     }
 
@@ -387,13 +388,13 @@ fn is_deleted(node: &Node) -> bool
     }
 }
 
-/// The revisions of pairs.
-fn revs_of(alloc: Global, pairs: &[(bool, &Rev)]) -> Result<Vec<Rev>, AllocError>
-    ensures { IfOk result (λ v. v.items ≡ map (λ p. p.1.now) pairs.now) }
+/// The revisions of leaves.
+fn revs_of(alloc: Global, leaves: &[Leaf<'_>]) -> Result<Vec<Rev>, AllocError>
+    ensures { IfOk result (λ v. v.items ≡ map (λ l. l.rev.now) leaves.now) }
 {
-    let mut revs = Vec::with_capacity(alloc, pairs.len())?;
-    for pair in pairs {
-        revs.push(*pair.1)?;
+    let mut revs = Vec::with_capacity(alloc, leaves.len())?;
+    for leaf in leaves {
+        revs.push(*leaf.rev)?;
     }
     Ok(revs)
 }

@@ -70,7 +70,7 @@ loop-i-preserved c =
           record {
             edges = ap (λ x. x && list_all (has_edge t) (edges_of (drop (i + 1 - 1) revs))) w.all-is ∙ edges_missed t revs i a c.loop-i.all one c.loop-i-test.true is told ∙ c.loop-i.invariant.edges;
             none = c.loop-i.invariant.none ∙ no_contradiction_at t.parents revs i a b one c.loop-i-test.true is c.index-revs-i.is (ap (contradiction_at a b) told);
-            place = λ r at. w.place-is ∙ w.place_in-place-in-None.ensures.place ∙ ap (place_of nodes) (given r at);
+            place = λ r at. w.place-is ∙ w.place_near-place.ensures.place ∙ ap (place_of nodes) (given r at);
           }
     ]
 

@@ -1,6 +1,5 @@
-use Rattle.std.proofs.Common.{◌-◌, ◌<◌, length, IfSome, sym, subst, arith}
+use Rattle.std.proofs.Common.{◌-◌, ◌<◌, length, arith}
 use Rattle.rev_tree.specs.Nodes.{tree_of}
-use Rattle.rev_tree.proofs.Places.{node_at}
 use Rattle.rev_tree.proofs.Putting.{child_at, put_start, put_next, put_end, room_for, standing}
 use Rattle.rev_tree.proofs.nodes.Nodes.put_among.Goals as goal
 
@@ -15,17 +14,10 @@ loop-i-init c =
     put_start c.args.self.now c.add-child.new.self c.give.new.self c.args.origin c.args.revs.now c.args.content c.add-child.result c.index-revs-0.result c.requires.some c.index-revs-0.is c.requires.room c.add-child.ensures
     (c.give.ensures.tree c.index-revs-0.result c.add-child.ensures.at) c.give.ensures.revs c.give.ensures.room
 
-pub node_at-requires : goal.node_at-requires
-node_at-requires c =
+pub near-near-requires : goal.near-near-requires
+near-near-requires c =
     let low : c.loop-i.i - 1 < length c.args.revs.now = omega arith in
     standing c.loop-i.self c.loop-i.child _ (child_at _ c.loop-i.self c.args.origin c.args.revs.now c.args.content c.loop-i.i c.loop-i.child c.loop-i.invariant (omega arith) c.index-revs-0.result low)
-
-pub add-parent-requires-clause-near : goal.add-parent-requires-clause-near
-add-parent-requires-clause-near c =
-    let nodes = c.loop-i.self.items in
-    let n = c.node_at.result.now in
-    let linked = c.node_at.ensures.linked in
-    subst (λ o. IfSome o (λ i. i < length nodes)) (sym c.parent-near.ensures) (linked.each n.rev n (node_at nodes linked.once c.loop-i.child n c.node_at.ensures.node)).parent
 
 pub add-parent-requires-clause-room : goal.add-parent-requires-clause-room
 add-parent-requires-clause-room c = room_for c.loop-i.self (length c.args.revs.now - c.loop-i.i) 1 (omega (arith, c.loop-i-test.true)) c.loop-i.invariant.room

@@ -4,9 +4,10 @@ use Rattle.std.proofs.lemmas.Fn.{always_returns_same}
 use Rattle.std.proofs.lemmas.List.Sorted.{ranks_by}
 use Rattle.std.specs.Ordering.{is_lt}
 use Rattle.rev_tree.specs.Tree.{is_leaf}
+use Rattle.rev_tree.specs.declared.leaf.Leaf.{Leaf}
 use Rattle.rev_tree.specs.Nodes.{revs_in}
 use Rattle.rev_tree.proofs.Leaves.{leaf_item, deleted_item, leaves_pushed, leaves_of_nodes, count_once}
-use Rattle.rev_tree.proofs.Sorting.{told_deleted, pair_cmp, pair_cmp_total, lent, lent_in_order}
+use Rattle.rev_tree.proofs.Sorting.{told_deleted, pair_cmp, pair_cmp_total, told, leaves_in_order}
 use Rattle.rev_tree.proofs.tree.Tree.sorted_leaves.Goals as goal
 use Rattle.rev_tree.proofs.tree.Tree.sorted_leaves.Goals.{then-not-has_child+in_ok-push, else-not-has_child}
 
@@ -22,14 +23,15 @@ loop-node-preserved c =
     let more = leaves_pushed t items i n c.loop-node-test.true c.node-item.is in
     elim c.if-not-has_child.branch [
       | then-not-has_child+in_ok-push w ↦
-          ap (λ v. map lent v.items) w.found-is ∙ ap (map lent) w.in_ok-push.ensures.items ∙ map-append lent c.loop-node.found.items ((w.is_deleted.result, w.rev.result) ∷ [])
-          ∙ ap (λ r. map lent c.loop-node.found.items ++ (w.is_deleted.result, r) ∷ []) w.rev.ensures
+          ap (λ v. map told v.items) w.found-is ∙ ap (map told) w.in_ok-push.ensures.items ∙ map-append told c.loop-node.found.items (w.new.result ∷ [])
+          ∙ (λ i. map told c.loop-node.found.items ++ (w.new.ensures.deleted i, w.new.ensures.rev i) ∷ [])
+          ∙ ap (λ r. map told c.loop-node.found.items ++ (w.is_deleted.result, r) ∷ []) w.rev.ensures
           ∙ ap (λ l. l ++ (w.is_deleted.result, n.rev) ∷ []) c.loop-node.invariant
           ∙ ap (λ b. map (told_deleted t) before ++ (b, n.rev) ∷ []) (w.is_deleted.ensures ∙ sym deletes)
           ∙ sym (map-append (told_deleted t) before (n.rev ∷ []))
           ∙ ap (map (told_deleted t)) (sym (more ∙ ap (λ b. before ++ cond b (n.rev ∷ []) []) (leaf ∙ ap not (sym c.has_child.ensures ∙ w.if-not-has_child.true))))
       | else-not-has_child w ↦
-          ap (λ v. map lent v.items) w.found-is ∙ c.loop-node.invariant
+          ap (λ v. map told v.items) w.found-is ∙ c.loop-node.invariant
           ∙ ap (map (told_deleted t)) (sym (more ∙ ap (λ b. before ++ cond b (n.rev ∷ []) []) (leaf ∙ ap not (sym c.has_child.ensures ∙ w.if-not-has_child.false)) ∙ append-nil before))
     ]
 
@@ -38,10 +40,10 @@ returns c =
     let t = c.args.self.now in
     let nodes = c.self.inside.nodes.items in
     let revs = filter (is_leaf t) (revs_in nodes) in
-    let found : map lent c.loop-node.found.items ≡ map (told_deleted t) revs = c.loop-node.invariant ∙ ap (λ l. map (told_deleted t) (filter (is_leaf t) (revs_in l))) (take_all _ _ c.loop-node-test.false ∙ c.all-node-items.ensures.items) in
+    let found : map told c.loop-node.found.items ≡ map (told_deleted t) revs = c.loop-node.invariant ∙ ap (λ l. map (told_deleted t) (filter (is_leaf t) (revs_in l))) (take_all _ _ c.loop-node-test.false ∙ c.all-node-items.ensures.items) in
     let sorted =
-    lent_in_order t revs c.loop-node.found.items c.sort_unstable_by.new.self.items (count_once t (revs_in nodes) c.all-node-items.ensures.linked.once)
+    leaves_in_order t revs c.loop-node.found.items c.sort_unstable_by.new.self.items (count_once t (revs_in nodes) c.all-node-items.ensures.linked.once)
     found c.sort_unstable_by.ensures.permutation
-    (c.sort_unstable_by.ensures.sorted (λ x y. is_lt (pair_cmp (lent x) (lent y))) (ranks_by pair_cmp_total lent) (always_returns_same _ _ _ (λ a r q k. search rules)))
+    (c.sort_unstable_by.ensures.sorted (λ x y. is_lt (pair_cmp (told x) (told y))) (ranks_by pair_cmp_total told) (always_returns_same _ _ _ (λ a r q k. search rules)))
     ∙ leaves_of_nodes nodes t c.all-node-items.ensures.linked c.self.view_is in
-    subst (λ l. IfOk c.revs_of.result (λ v. v.items ≡ l)) (ap (map (λ p. p.1.now)) c.deref.ensures.value ∙ sorted) c.revs_of.ensures
+    subst (λ l. IfOk c.revs_of.result (λ v. v.items ≡ l)) (ap (map (λ (l : Leaf). l.rev.now)) c.deref.ensures.value ∙ sorted) c.revs_of.ensures

@@ -1,0 +1,70 @@
+//! A leaf, as leaves are sorted.
+ghost use Rattle.std.specs.Prelude.{◌≡◌, ◌<◌, length};
+ghost use Rattle.std.specs.Ordering.{bool_cmp, ordering_then};
+ghost use Rattle.rev_core.specs.Rev.{IsRev, rev_cmp};
+ghost use Rattle.rev_tree.specs.Leaf.{front_of};
+
+use rev_core::Rev;
+use std::cmp::Ordering;
+
+/// How many bytes of a signature are compared as one number.
+const FRONT: usize = 8;
+
+/// A leaf, with what mostly decides where it stands among leaves: so the revision is seldom looked at.
+#[derive(Clone, Copy)]
+pub(crate) struct Leaf<'a> {
+    pub(crate) deleted: bool,
+    generation: u32,
+    front: u64,
+    pub(crate) rev: &'a Rev,
+    ghost is_rev: { IsRev rev.now },
+    ghost is_generation: { generation ≡ rev.now.generation },
+    ghost is_front: { front ≡ front_of 8 rev.now.sig },
+}
+
+impl<'a> Leaf<'a> {
+    /// The leaf of a revision, and whether its content deletes.
+    pub(crate) fn new(deleted: bool, rev: &'a Rev) -> Leaf<'a>
+        ensures deleted { result.deleted ≡ deleted }
+        ensures rev { result.rev.now ≡ rev.now }
+    {
+        let generation = rev.generation();
+        let front = front_of(rev.sig_bytes());
+        Leaf {
+            deleted,
+            generation,
+            front,
+            rev,
+        }
+    }
+
+    /// How it stands to another: one that is not deleted first, then the greater generation, then the greater signature.
+    pub(crate) fn order(&self, other: &Leaf<'_>) -> Ordering
+        ensures { result ≡ ordering_then (bool_cmp self.now.deleted other.now.deleted)
+            (rev_cmp other.now.rev.now self.now.rev.now) }
+    {
+        if self.deleted != other.deleted {
+            return self.deleted.cmp(&other.deleted);
+        }
+        if self.generation != other.generation {
+            return other.generation.cmp(&self.generation);
+        }
+        if self.front != other.front {
+            return other.front.cmp(&self.front);
+        }
+        other.rev.cmp(self.rev)
+    }
+}
+
+/// The first bytes of a signature as one number, the first byte highest, and zeros behind a shorter one.
+fn front_of(sig: &[u8]) -> u64
+    ensures { result ≡ front_of 8 sig.now }
+{
+    let mut bytes = [0; FRONT];
+    if sig.len() >= FRONT {
+        bytes.copy_from_slice(&sig[..FRONT]);
+    } else {
+        bytes[..sig.len()].copy_from_slice(sig);
+    }
+    u64::from_be_bytes(bytes)
+}
