@@ -1,15 +1,13 @@
 -- The index of the places of a tree's nodes, by marks of their revisions.
-use Rattle.std.specs.Prelude.{ℕ, ◌+◌, List, [], ◌∷◌, ◌++◌, is_some, length, nat_eq, nat_lt, if◌then◌else◌}
-use Rattle.std.specs.List.{fold}
+use Rattle.std.specs.Prelude.{ℕ, ◌+◌, ◌%◌, ◌^◌, List, [], ◌∷◌, ◌++◌, is_some, length, nat_eq, nat_lt, if◌then◌else◌}
 use Rattle.std.specs.Map.{lookup}
 use Rattle.std.specs.Hash.FoldHasher as hasher
 use Rattle.rev_core.specs.Rev.{RevId}
-use Rattle.rev_core.specs.RevOrder.{hashed}
 use Rattle.rev_tree.specs.declared.nodes.TheConstants.{MOST_WALKED}
 
 -- a number of 64 bits, which two revisions hardly ever share
 abbrev pub mark_of : RevId → ℕ
-mark_of r = hasher.finish (fold hasher.write hasher.initial (hashed r))
+mark_of r = (hasher.finish (hasher.write hasher.initial r.sig) + r.generation) % 2 ^ 64
 
 -- a mark with its place, unless it has one
 abbrev pub noted : List (ℕ × ℕ) → ℕ → ℕ → List (ℕ × ℕ)

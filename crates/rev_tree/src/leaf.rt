@@ -1,14 +1,12 @@
 //! A leaf, as leaves are sorted.
-ghost use Rattle.std.specs.Prelude.{◌≡◌, ◌<◌, length};
+ghost use Rattle.std.specs.Prelude.{◌≡◌};
 ghost use Rattle.std.specs.Ordering.{bool_cmp, ordering_then};
 ghost use Rattle.rev_core.specs.Rev.{IsRev, rev_cmp};
-ghost use Rattle.rev_tree.specs.Leaf.{front_of};
+ghost use Rattle.rev_tree.specs.Words.{front_of};
 
+use crate::words::front_of;
 use rev_core::Rev;
 use std::cmp::Ordering;
-
-/// How many bytes of a signature are compared as one number.
-const FRONT: usize = 8;
 
 /// A leaf, with what mostly decides where it stands among leaves: so the revision is seldom looked at.
 #[derive(Clone, Copy)]
@@ -38,7 +36,8 @@ impl<'a> Leaf<'a> {
         }
     }
 
-    /// How it stands to another: one that is not deleted first, then the greater generation, then the greater signature.
+    /// How it stands to another: one that is not deleted first, then the greater generation, then the greater
+    /// signature.
     pub(crate) fn order(&self, other: &Leaf<'_>) -> Ordering
         ensures { result ≡ ordering_then (bool_cmp self.now.deleted other.now.deleted)
             (rev_cmp other.now.rev.now self.now.rev.now) }
@@ -54,17 +53,4 @@ impl<'a> Leaf<'a> {
         }
         other.rev.cmp(self.rev)
     }
-}
-
-/// The first bytes of a signature as one number, the first byte highest, and zeros behind a shorter one.
-fn front_of(sig: &[u8]) -> u64
-    ensures { result ≡ front_of 8 sig.now }
-{
-    let mut bytes = [0; FRONT];
-    if sig.len() >= FRONT {
-        bytes.copy_from_slice(&sig[..FRONT]);
-    } else {
-        bytes[..sig.len()].copy_from_slice(sig);
-    }
-    u64::from_be_bytes(bytes)
 }

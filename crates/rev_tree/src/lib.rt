@@ -14,6 +14,7 @@ mod place_index;
 mod revs;
 mod tree;
 mod walks;
+mod words;
 
 pub use content::Content;
 pub use fault::{Contradiction, Merged, TreeFault};

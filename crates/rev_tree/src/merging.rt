@@ -16,8 +16,8 @@ use rev_core::Rev;
 impl Nodes {
     /// Whether each given child has a known parent, or the first whose known parent is another than the given one.
     ///
-    /// The place of a known parent is known with it, so an ancestry that is there is followed with one look-up. The parent
-    /// of a child that is new is looked for first where the last node has its own.
+    /// The place of a known parent is known with it, so an ancestry that is there is followed with one look-up. The
+    /// parent of a child that is new is looked for first where the last node has its own.
     pub(crate) fn knows_edges(&self, revs: &[Rev]) -> Result<bool, Contradiction>
         requires some { 0 < length revs.now }
         ensures edges { IfOk result (λ b. b ≡ list_all (has_edge (tree_of self.now.items)) (edges_of revs.now)) }

@@ -6,6 +6,7 @@ ghost use Rattle.rev_core.specs.Rev.{rev_cmp};
 
 use crate::content::Content;
 use crate::origin::{Origin, SessionId};
+use crate::words::is_same;
 use rev_core::Rev;
 use std::alloc::AllocError;
 use std::marker::Model;
@@ -76,7 +77,10 @@ impl Node {
     pub(crate) fn is_of(&self, rev: &Rev) -> bool
         ensures { result ≡ eq_by_cmp rev_cmp rev.now self.now.rev }
     {
-        *rev == self.rev
+        if rev.generation() != self.rev.generation() {
+            return false;
+        }
+        is_same(rev.sig_bytes(), self.rev.sig_bytes())
     }
 
     /// The place of its parent, where one is known.

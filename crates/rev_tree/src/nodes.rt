@@ -12,7 +12,7 @@ use crate::origin::Origin;
 use crate::place_index::Places;
 use rev_core::Rev;
 use std::alloc::{AllocError, Global};
-use std::hash::{FoldHasher, Hash, Hasher};
+use std::hash::{FoldHasher, Hasher};
 use std::marker::Model;
 
 /// The most nodes that are walked for a revision. From one more on an index has their places.
@@ -167,8 +167,8 @@ fn mark_of(rev: &Rev) -> u64
     ensures { result ≡ mark_of rev.now }
 {
     let mut hasher = FoldHasher::default();
-    rev.hash(&mut hasher);
-    hasher.finish()
+    hasher.write(rev.sig_bytes());
+    hasher.finish().wrapping_add(u64::from(rev.generation()))
 }
 
 /// The place of a revision, for which the nodes are walked.

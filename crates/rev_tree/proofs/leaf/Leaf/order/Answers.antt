@@ -1,6 +1,6 @@
 use Rattle.std.proofs.Common.{sym, ◌∙◌}
 use Rattle.std.specs.Ordering.{nat_cmp}
-use Rattle.rev_tree.proofs.Fronts.{front_first, bytes_of_rev, behind_ties}
+use Rattle.rev_tree.proofs.Fronts.{front_first, bytes_of_sig, behind_ties}
 use Rattle.rev_tree.proofs.leaf.Leaf.order.Goals as goal
 
 pub returns-then-self-other-3 : goal.returns-then-self-other-3
@@ -11,5 +11,5 @@ returns-then-self-other-3 c =
     let s = b.rev.now in
     c.cmp-then-self-other-3.ensures
     ∙ (λ i. nat_cmp (b.is_front i) (a.is_front i))
-    ∙ front_first 8 s.sig r.sig (bytes_of_rev s b.is_rev) (bytes_of_rev r a.is_rev) (λ same. c.if-self-other-3.true (a.is_front ∙ sym same ∙ sym b.is_front))
+    ∙ front_first 8 s.sig r.sig (bytes_of_sig s.sig b.is_rev.sig) (bytes_of_sig r.sig a.is_rev.sig) (λ same. c.if-self-other-3.true (a.is_front ∙ sym same ∙ sym b.is_front))
     ∙ behind_ties a.deleted b.deleted s.generation r.generation _ c.if-self-other.false (sym b.is_generation ∙ sym c.if-self-other-2.false ∙ a.is_generation)

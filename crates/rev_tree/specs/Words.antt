@@ -1,4 +1,4 @@
--- A leaf, as leaves are sorted.
+-- Bytes as numbers.
 use Rattle.std.specs.Prelude.{ℕ, zero, suc, ◌+◌, ◌*◌, ◌^◌, List, [], ◌∷◌}
 
 -- the first n bytes of a text as one number, the first byte highest; behind a shorter text stand zeros

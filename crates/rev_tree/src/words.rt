@@ -1,0 +1,60 @@
+//! Bytes of signatures, eight at a time as one number.
+ghost use Rattle.std.specs.Prelude.{◌≡◌, ◌+◌, ◌≤◌, true, drop, length, nat_eq};
+ghost use Rattle.std.specs.Cmp.Lexicographic.{pointwise};
+ghost use Rattle.rev_core.specs.Sig.{is_sig};
+ghost use Rattle.rev_tree.specs.Words.{front_of};
+
+/// How many bytes are one number.
+const WORD: usize = 8;
+
+/// How many digits a digest has, as most signatures do.
+const DIGITS: usize = 32;
+
+/// The first bytes of a text as one number, the first byte highest, and zeros behind a shorter one.
+pub(crate) fn front_of(text: &[u8]) -> u64
+    ensures { result ≡ front_of 8 text.now }
+{
+    if text.len() >= WORD {
+        return word_at(text, 0);
+    }
+    let mut bytes = [0; WORD];
+    bytes[..text.len()].copy_from_slice(text);
+    u64::from_be_bytes(bytes)
+}
+
+/// Whether two signatures are the same.
+///
+/// Two digests are compared by four numbers each, which needs no loop.
+pub(crate) fn is_same(one: &[u8], other: &[u8]) -> bool
+    requires one { is_sig one.now ≡ true }
+    requires other { is_sig other.now ≡ true }
+    ensures { result ≡ pointwise nat_eq one.now other.now }
+{
+    if one.len() != other.len() {
+        return false;
+    }
+    if one.len() != DIGITS {
+        return one == other;
+    }
+    (word_at(one, 0) == word_at(other, 0))
+        & (word_at(one, 8) == word_at(other, 8))
+        & (word_at(one, 16) == word_at(other, 16))
+        & (word_at(one, 24) == word_at(other, 24))
+}
+
+/// Eight bytes from a place on as one number, the first byte highest.
+fn word_at(text: &[u8], at: usize) -> u64
+    requires { at + 8 ≤ length text.now }
+    ensures { result ≡ front_of 8 (drop at text.now) }
+{
+    u64::from_be_bytes([
+        text[at],
+        text[at + 1],
+        text[at + 2],
+        text[at + 3],
+        text[at + 4],
+        text[at + 5],
+        text[at + 6],
+        text[at + 7],
+    ])
+}
