@@ -1,5 +1,5 @@
 -- What a value is read as, by its first token.
-use Rattle.std.proofs.Common.{◌≡◌, ◌≢◌, ℕ, ◌-◌, ◌<◌, List, [], ◌∷◌, length, Bool, true, false, Bor, Some, None, option_map, refl, ap, ◌∙◌}
+use Rattle.std.proofs.Common.{◌≡◌, ◌≢◌, ℕ, ◌-◌, ◌<◌, List, [], ◌∷◌, length, Bool, true, false, Bor, Option, Some, None, option_map, refl, ap, ◌∙◌}
 use Rattle.std.proofs.lemmas.Bool.{true≢false, false≢true}
 use Rattle.json.specs.Token.{Token}
 use Rattle.json.specs.Json as json
@@ -7,7 +7,7 @@ use Rattle.json.specs.Json.{parse_map, items, members, read_key, value}
 use Rattle.json.specs.Reads.{token_of}
 use Rattle.json.specs.declared.token.Token as reader
 use Rattle.json.specs.declared.token.Token.TheVariants.{BeginObject, EndObject, BeginArray, EndArray, Key, String, Number, Bool as Boolean, Null, Bad}
-use Rattle.json_values.specs.Place.{begins_key, of_string}
+use Rattle.json_values.specs.Place.{begins_key, ends_object, of_string}
 use Rattle.json.proofs.Grammar.{value_is, value-begin_array, value-begin_object}
 use Rattle.serde_json.specs.Data.{null, boolean, number, string, array, object, no_members}
 use Rattle.serde_json.specs.Read.{of_json, of_items, of_members, converted, number_of}
@@ -84,6 +84,24 @@ not_a_value (Number s) rest kind other depth = absurd (false≢true kind)
 not_a_value (Boolean b) rest kind other depth = absurd (false≢true kind)
 not_a_value Null rest kind other depth = absurd (false≢true kind)
 not_a_value Bad rest kind other depth = value_is depth (Token.bad ∷ rest)
+
+abbrev named : Option (Option (List ℕ) × List Token) → Bool
+named None = false
+named (Some (None, ts)) = false
+named (Some (Some s, ts)) = true
+
+pub endless : (ts : List Token) → ends_object ts ≡ false → (rest : List Token) → read_key ts ≢ Some (None, rest)
+endless [] none rest e = cc
+endless (Token.begin_object ∷ ts) none rest e = cc
+endless (Token.end_object ∷ ts) none rest e = absurd (true≢false none)
+endless (Token.begin_array ∷ ts) none rest e = cc
+endless (Token.end_array ∷ ts) none rest e = cc
+endless (Token.key s ∷ ts) none rest e = true≢false (ap named e)
+endless (Token.string s ∷ ts) none rest e = cc
+endless (Token.number s ∷ ts) none rest e = cc
+endless (Token.boolean b ∷ ts) none rest e = cc
+endless (Token.null ∷ ts) none rest e = cc
+endless (Token.bad ∷ ts) none rest e = cc
 
 -- where neither a name nor an end comes, no member does
 pub neither : (ts : List Token) → begins_key ts ≡ false → ((rest : List Token) → read_key ts ≢ Some (None, rest)) → read_key ts ≡ None

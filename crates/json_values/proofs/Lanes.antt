@@ -8,7 +8,7 @@ use lib.Bits.{bit_or}
 use lib.Lanes.{zip2, mask_l, top, Each1}
 
 -- a fact of each number below n, by computation
-abbrev upto : (ℕ → Bool) → ℕ → Bool
+abbrev pub upto : (ℕ → Bool) → ℕ → Bool
 upto p zero = true
 upto p (suc n) = p n && upto p n
 
@@ -16,7 +16,7 @@ both : (a b : Bool) → T (a && b) → T a × T b
 both true b h = (tt, h)
 both false b h = absurd h
 
-upto_sound : (p : ℕ → Bool) (n : ℕ) → T (upto p n) → (i : ℕ) → i < n → T (p i)
+pub upto_sound : (p : ℕ → Bool) (n : ℕ) → T (upto p n) → (i : ℕ) → i < n → T (p i)
 upto_sound p zero h i lt = absurd (not-suc-le-zero lt)
 upto_sound p (suc n) h i lt = go (upto_sound p n (both (p n) (upto p n) h).1 i) (cases_order i n)
   where

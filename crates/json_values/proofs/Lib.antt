@@ -16,4 +16,5 @@ pub mod Passing
 pub mod NumberStarts
 pub mod Steps
 pub mod Wording
+pub mod Integers
 pub mod Punctuation

@@ -9,7 +9,7 @@ use Rattle.json.specs.Lex.{Lexeme, token, comma, colon, Class, quote, backslash,
 use Rattle.json.specs.Lex.{Place, fresh, after_value, after_comma, after_key, begins_colon, may_begin, may_close, if_allowed, place_token, punctuate}
 use Rattle.json.specs.Align.{is_good, is_blank}
 use Rattle.json.specs.Json.{after_end_array}
-use Rattle.json_values.specs.Place.{tokens_at, closes_at, begins_at, begins_key, refused_at, NotBeforeComma}
+use Rattle.json_values.specs.Place.{tokens_at, closes_at, begins_at, begins_key, ends_object, refused_at, NotBeforeComma}
 use Rattle.json_values.specs.declared.tokens.Place as reader
 use Rattle.json_values.specs.declared.tokens.Place.TheVariants.{Fresh, AfterValue, AfterComma, Failed}
 use Rattle.json_values.proofs.Steps.{lex_first, lex-nil}
@@ -305,3 +305,49 @@ no_key_yet Fresh t e h = absurd (true≢false e)
 no_key_yet AfterValue t e h = ap (λ ls. begins_key (punctuate after_value ls)) (at_string t _ h refl) ∙ ap begins_key (text_after_value _ _ _)
 no_key_yet AfterComma t e h = absurd (true≢false e)
 no_key_yet Failed t e h = refl
+
+-- ---- where no object ends
+
+other_end : (b : Bool) (t : Token) (k : Place → List Token) (next : Place) → ends_object (t ∷ k next) ≡ false → ends_object (if_allowed b t k next) ≡ false
+other_end true t k next e = e
+other_end false t k next e = refl
+
+text_no_brace : (p : Place) (o : Option (List ℕ)) (b : Bool) (k : Place → List Token) → ends_object (place_token p (string_token o) b k) ≡ false
+text_no_brace p None b k = refl
+text_no_brace p (Some s) true k = other_end (may_begin p) (key s) k after_key refl
+text_no_brace p (Some s) false k = other_end (may_begin p) (string s) k after_value refl
+
+word_no_brace : (p : Place) (w : Token) (b : Bool) (k : Place → List Token) → IsWord w → ends_object (place_token p w b k) ≡ false
+word_no_brace p begin_object b k h = absurd h
+word_no_brace p end_object b k h = absurd h
+word_no_brace p begin_array b k h = absurd h
+word_no_brace p end_array b k h = absurd h
+word_no_brace p (key s) b k h = absurd h
+word_no_brace p (string s) b k h = absurd h
+word_no_brace p (number s) b k h = other_end (may_begin p) (number s) k after_value refl
+word_no_brace p (boolean v) b k h = other_end (may_begin p) (boolean v) k after_value refl
+word_no_brace p null b k h = other_end (may_begin p) null k after_value refl
+word_no_brace p bad b k h = refl
+
+braceless : (p : Place) (t : List ℕ) → Ends t → head t ≢ 125 → ends_object (punctuate p []) ≡ false → (head t ≡ 44 → ends_object (punctuate p (comma ∷ rest t)) ≡ false)
+    → ends_object (punctuate p (colon ∷ rest t)) ≡ false → ends_object (punctuate p (lex between t)) ≡ false
+unfolding punctuate
+braceless p t ends other_byte none at_comma at_colon =
+    let k = λ (n : Place). punctuate n (rest t) in
+    first_cases t (λ ls. ends_object (punctuate p ls) ≡ false) (λ b. ap (λ ls. ends_object (punctuate p ls)) (ap (lex between) (ends b) ∙ lex-nil) ∙ none)
+    (λ o h. text_no_brace p o _ k) (λ w h. word_no_brace p w _ k h)
+    (six (λ x. head t ≡ x → ends_object (punctuate p (operator_lexeme x ∷ rest t)) ≡ false) (λ h. other_end (may_begin p) begin_object k fresh refl) (λ h. absurd (other_byte h))
+    (λ h. other_end (may_begin p) begin_array k fresh refl) (λ h. other_end (may_close p) end_array k after_value refl) (λ h. at_colon) at_comma)
+
+pub no_brace : (place : reader.Place) (t : List ℕ) → Ends t → NotBeforeComma place t → head t ≢ 125 → ends_object (tokens_at place t) ≡ false
+unfolding punctuate
+no_brace Fresh t ends passed h = braceless fresh t ends h refl (λ e. refl) refl
+no_brace AfterValue t ends passed h = braceless after_value t ends h refl (λ e. absurd (passed e)) refl
+no_brace AfterComma t ends passed h = braceless after_comma t ends h refl (λ e. refl) refl
+no_brace Failed t ends passed h = refl
+
+pub refused_no_brace : (place : reader.Place) → ends_object (refused_at place) ≡ false
+refused_no_brace Fresh = refl
+refused_no_brace AfterValue = refl
+refused_no_brace AfterComma = refl
+refused_no_brace Failed = refl

@@ -6,3 +6,4 @@ pub mod Escapes
 pub mod Words
 pub mod Lexer
 pub mod Place
+pub mod Utf8

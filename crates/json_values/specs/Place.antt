@@ -41,6 +41,20 @@ begins_key (Token.boolean b ∷ ts) = false
 begins_key (Token.null ∷ ts) = false
 begins_key (Token.bad ∷ ts) = false
 
+-- the end of an object comes first
+abbrev pub ends_object : List Token → Bool
+ends_object [] = false
+ends_object (Token.begin_object ∷ ts) = false
+ends_object (Token.end_object ∷ ts) = true
+ends_object (Token.begin_array ∷ ts) = false
+ends_object (Token.end_array ∷ ts) = false
+ends_object (Token.key s ∷ ts) = false
+ends_object (Token.string s ∷ ts) = false
+ends_object (Token.number s ∷ ts) = false
+ends_object (Token.boolean b ∷ ts) = false
+ends_object (Token.null ∷ ts) = false
+ends_object (Token.bad ∷ ts) = false
+
 -- a string is read as one of these
 abbrev pub of_string : Token → Bool
 of_string Token.begin_object = false

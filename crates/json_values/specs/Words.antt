@@ -1,12 +1,14 @@
 -- Numbers and literals, and where they end.
-use Rattle.std.specs.Prelude.{◌≡◌, ℕ, ◌<◌, ◌≤◌, List, ◌++◌, length, drop, true, MatchOption, Option}
+use Rattle.std.specs.Prelude.{◌≡◌, ℕ, ◌-◌, ◌<◌, ◌≤◌, List, ◌++◌, length, take, drop, true, Some, MatchOption, Option}
 use Rattle.json.specs.Token.{bad}
 use Rattle.json.specs.Token as spec
-use Rattle.json.specs.Word.{ends_word}
-use Rattle.json.specs.Lex.{between, lex}
+use Rattle.json.specs.Word.{head, ends_word, after_number}
+use Rattle.json.specs.Lex.{class, other, between, lex}
 use Rattle.json.specs.Align.{is_good}
 use Rattle.json.specs.Reads.{token_of}
 use Rattle.json.specs.declared.token.Token.{Token}
+use Rattle.serde_json.specs.Data.{Num}
+use Rattle.serde_json.specs.Read.{number_of}
 
 -- The word at i is r.0 and ends before r.1, where the next lexeme is looked for; it is bad where there is no r.
 abbrev pub WordAt : List ℕ → ℕ → Option (Token × ℕ) → spec.Token → Type 0
@@ -16,3 +18,14 @@ WordAt d i r w =
 -- a name that the lexer takes for one word, wherever a word ends behind it
 abbrev pub IsLiteral : List ℕ → spec.Token → Type 0
 IsLiteral name t = (0 < length name) × (is_good t ≡ true) × ((r : List ℕ) → ends_word r ≡ true → lex between r ≡ drop 1 (lex between (name ++ r)))
+
+-- the number n is written from the place i up to the place end
+pub record IntegerAt (d : List ℕ) (i : ℕ) (n : Num) (end : ℕ) : Type 0 where
+  pub within : i < length d
+  pub from : i ≤ end
+  pub bound : end ≤ length d
+  pub first : head (drop i d) < 58
+  pub kind : class (head (drop i d)) ≡ other
+  pub after : after_number (drop i d) ≡ Some (drop end d)
+  pub ended : ends_word (drop end d) ≡ true
+  pub number : number_of (take (end - i) (drop i d)) ≡ Some n

@@ -1,16 +1,19 @@
 //! Lexemes of a text, read one after another.
-ghost use Rattle.std.specs.Prelude.{◌≡◌, ◌≤◌, [], length, drop, true, Some, None, MatchOption, IfSome};
+ghost use Rattle.std.specs.Prelude.{◌≡◌, ◌≤◌, ℕ, List, [], length, drop, true, Some, None, MatchOption, IfSome};
 ghost use Rattle.json.specs.Text.{content, plain};
 ghost use Rattle.json.specs.Word.{head, word};
-ghost use Rattle.json.specs.Token.{bad};
+ghost use Rattle.json.specs.Token.{bad, number};
 ghost use Rattle.json.specs.Lex.{class, operator, other, between, lex};
 ghost use Rattle.json.specs.Align.{is_good, is_blank};
 ghost use Rattle.json.specs.Reads.{token_of};
+ghost use Rattle.serde_json.specs.Read.{number_of};
+ghost use Rattle.serde_json.specs.View.{number_view};
 
 use crate::run::{after_blanks, byte_at, plain_end};
 use crate::unescape::unescape;
-use crate::word::word;
+use crate::word::{integer, word};
 use json::Token;
+use serde_json::Number;
 use std::marker::Model;
 
 /// A text, and how far it is read. A clause sees the text from the next lexeme on.
@@ -75,6 +78,21 @@ impl<'a> Lexer<'a> {
         let (token, end) = word(self.text, self.at)?;
         self.at = after_blanks(self.text.as_bytes(), end);
         Some(token)
+    }
+
+    /// The number that comes next, where it is few digits and nothing else, behind a minus sign or none. Where another
+    /// lexeme comes next, it still does.
+    #[inline(always)]
+    pub(crate) fn integer(&mut self) -> Option<Number>
+        ensures kept { result ≡ None → self.new ≡ self.old }
+        ensures value { IfSome result (λ n. (s : List ℕ) × (word self.old ≡ number s)
+            × (number_of s ≡ Some (number_view n))) }
+        ensures kind { IfSome result (λ _. class (head self.old) ≡ other) }
+        ensures after { IfSome result (λ _. lex between self.new ≡ drop 1 (lex between self.old)) }
+    {
+        let (number, end) = integer(self.text.as_bytes(), self.at)?;
+        self.at = after_blanks(self.text.as_bytes(), end);
+        Some(number)
     }
 
     /// The content of the string that comes next.

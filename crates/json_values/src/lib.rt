@@ -10,10 +10,11 @@ mod reader;
 mod run;
 mod tokens;
 mod unescape;
+mod utf8;
 mod values;
 mod word;
 
 pub use fault::ReadFault;
-pub use line::LineValue;
+pub use line::{LineValue, is_same_text};
 pub use reader::ValueReader;
-pub use run::plain_end;
+pub use run::{is_plain, plain_end};

@@ -1,5 +1,6 @@
 //! JSON values whose texts stand where they were read.
 ghost use Rattle.std.specs.Prelude.{◌≡◌, option_map, is_some, option_and_then};
+ghost use Rattle.std.specs.Str.{bytes_eq};
 ghost use Rattle.serde_json.specs.Find.{get, get_member, as_object, as_array, as_str, as_bool, as_number, as_u64};
 ghost use Rattle.json_values.specs.LineView.{line_view, line_items, line_members};
 
@@ -95,9 +96,17 @@ fn find<'v, 'a>(members: &'v Vec<(&'a str, LineValue<'a>)>, name: &str) -> Optio
     ensures { option_map (λ v. line_view v.now) result ≡ get_member name.now (line_members members.now.items) }
 {
     for member in members {
-        if name == member.0 {
+        if is_same_text(name, member.0) {
             return Some(&member.1);
         }
     }
     None
+}
+
+/// Whether two texts are the same. Mostly their lengths tell, which a caller that knows one of them compares at once.
+#[inline(always)]
+pub fn is_same_text(a: &str, b: &str) -> bool
+    ensures { result ≡ bytes_eq a.now b.now }
+{
+    a.len() == b.len() && a == b
 }

@@ -70,6 +70,7 @@ impl<'a, T: Drop> Members<'a, T> {
     }
 
     /// The members, in byte order of their names.
+    #[inline(always)]
     pub(crate) fn into_vec(self, alloc: Global) -> Result<Vec<(&'a str, T)>, AllocError>
         ensures { IfOk result (λ v. v.items ≡ entries_of self.entry) }
     {
@@ -126,7 +127,7 @@ fn put_listed<'a, T: Drop>(
 }
 
 /// Puts a member into a list, wherever its name comes.
-#[inline(never)]
+#[inline(always)]
 fn put_within<'a, T: Drop>(
     entries: &mut Vec<(&'a str, T)>,
     name: &'a str,
@@ -202,6 +203,7 @@ fn comes_last<T>(entries: &[(&str, T)], name: &str) -> bool
 
 /// The place of the member of a name, or where there is none, the place at which it is to be put in. The last members
 /// are looked at first: mostly names come nearly in order.
+#[inline(always)]
 fn place_of<T>(entries: &[(&str, T)], name: &str) -> Result<usize, usize>
     requires { IsRising entries.now }
     ensures there { IfOk result (λ i. i < length entries.now × IsPlaceOf name.now entries.now i) }

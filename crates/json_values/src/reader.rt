@@ -1,6 +1,5 @@
 //! The reader, and what it keeps from read to read.
-ghost use Rattle.std.specs.Prelude.{◌≡◌, ◌≤◌, ◌<◌, length, Some, None, IfOk, OnOk, OnErr, IsUtf8, MatchOption, IsTrue};
-ghost use Rattle.std.specs.Str.{IsAscii};
+ghost use Rattle.std.specs.Prelude.{◌≡◌, ◌≤◌, ◌<◌, length, Some, None, IfOk, OnOk, OnErr, IsUtf8};
 ghost use Rattle.serde_json.specs.Data.{depth};
 ghost use Rattle.serde_json.specs.Read.{max_depth, read as read_text};
 ghost use Rattle.json_values.specs.LineView.{line_view};
@@ -9,9 +8,9 @@ ghost use Rattle.json_values.specs.LineOrder.{IsOrdered};
 use crate::fault::ReadFault;
 use crate::line::LineValue;
 use crate::tokens::Tokens;
+use crate::utf8::text_of;
 use crate::values;
 use std::alloc::{AllocError, Global};
-use std::simd::prelude::*;
 
 /// The deepest nesting that is read.
 const MAX_DEPTH: usize = 127;
@@ -54,60 +53,6 @@ impl ValueReader {
         make_room(&mut self.room, text.len())?;
         read_whole(alloc, text, self.room.as_mut_slice())
     }
-}
-
-/// The text that bytes are, where they are UTF-8. Mostly they are ASCII.
-#[inline(never)]
-fn text_of(bytes: &[u8]) -> Option<&str>
-    ensures { MatchOption result (¬ (IsUtf8 bytes.now)) (λ s. (s.now ≡ bytes.now) × IsUtf8 bytes.now) }
-{
-    if is_ascii(bytes) {
-        return Some(unsafe { std::str::from_utf8_unchecked(bytes) });
-    }
-    match std::str::from_utf8(bytes) {
-        Ok(text) => Some(text),
-        Err(_) => None,
-    }
-}
-
-/// Whether bytes are ASCII.
-#[inline(always)]
-fn is_ascii(bytes: &[u8]) -> bool
-    ensures { IsTrue result → IsAscii bytes.now }
-{
-    if bytes.len() < 16 {
-        return is_ascii_slowly(bytes);
-    }
-    let mut i = 0;
-    while bytes.len() - i >= 16 {
-        if !is_ascii_16(u8x16::from_slice(&bytes[i..])) {
-            return false;
-        }
-        i += 16;
-    }
-    is_ascii_16(u8x16::from_slice(&bytes[bytes.len() - 16..]))
-}
-
-/// Whether sixteen bytes are.
-#[inline(always)]
-fn is_ascii_16(v: u8x16) -> bool
-    ensures { IsTrue result → IsAscii v }
-{
-    v.simd_ge(u8x16::splat(128)).to_bitmask() == 0
-}
-
-/// Whether fewer bytes are.
-fn is_ascii_slowly(bytes: &[u8]) -> bool
-    ensures { IsTrue result → IsAscii bytes.now }
-{
-    let mut i = 0;
-    while i < bytes.len() {
-        if bytes[i] >= 128 {
-            return false;
-        }
-        i += 1;
-    }
-    true
 }
 
 /// Makes room for that many bytes.

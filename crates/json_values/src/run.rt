@@ -1,5 +1,5 @@
 //! Passing over blanks, over digits, and over the plain text of a string.
-ghost use Rattle.std.specs.Prelude.{◌≡◌, ◌+◌, ◌<◌, ◌≤◌, length, drop, get_or, true};
+ghost use Rattle.std.specs.Prelude.{◌≡◌, ◌+◌, ◌<◌, ◌≤◌, length, drop, get_or, true, IsTrue};
 ghost use Rattle.std.specs.Prelude.{map};
 ghost use Rattle.std.specs.List.{prefix_len};
 ghost use Rattle.std.specs.Char.{is_ascii_digit};
@@ -168,6 +168,61 @@ pub fn plain_end(text: &[u8], from: usize) -> usize
         i += 16;
     }
     plain_end_last(text, i)
+}
+
+/// Whether no byte is a quotation mark, a backslash or a control byte.
+#[inline(always)]
+pub fn is_plain(text: &[u8]) -> bool
+    ensures { IsTrue result → prefix_len is_plain text.now ≡ length text.now }
+{
+    if text.len() < 16 {
+        return is_plain_short(text);
+    }
+    let mut i = 0;
+    while text.len() - i >= 16 {
+        if stops_16(u8x16::from_slice(&text[i..])) != 0 {
+            return false;
+        }
+        i += 16;
+    }
+    stops_16(u8x16::from_slice(&text[text.len() - 16..])) == 0
+}
+
+/// The same of fewer than sixteen bytes. The last eight or four are looked at beside the first.
+#[inline(always)]
+fn is_plain_short(text: &[u8]) -> bool
+    requires { length text.now < 16 }
+    ensures { IsTrue result → prefix_len is_plain text.now ≡ length text.now }
+{
+    if text.len() < 4 {
+        return plain_end_slowly(text, 0) == text.len();
+    }
+    if text.len() <= 8 {
+        return is_plain_4(text);
+    }
+    is_plain_8(text)
+}
+
+/// The same of four to eight.
+#[inline(always)]
+fn is_plain_4(text: &[u8]) -> bool
+    requires { (4 ≤ length text.now) × (length text.now ≤ 8) }
+    ensures { IsTrue result → prefix_len is_plain text.now ≡ length text.now }
+{
+    let first = stops_4(u8x4::from_slice(text));
+    let last = stops_4(u8x4::from_slice(&text[text.len() - 4..]));
+    (first == 0) & (last == 0)
+}
+
+/// The same of eight to sixteen.
+#[inline(always)]
+fn is_plain_8(text: &[u8]) -> bool
+    requires { (8 ≤ length text.now) × (length text.now ≤ 16) }
+    ensures { IsTrue result → prefix_len is_plain text.now ≡ length text.now }
+{
+    let first = stops_8(u8x8::from_slice(text));
+    let last = stops_8(u8x8::from_slice(&text[text.len() - 8..]));
+    (first == 0) & (last == 0)
 }
 
 /// The first byte from a place on that is no digit, or the length.

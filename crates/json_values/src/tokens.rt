@@ -1,5 +1,5 @@
 //! The tokens of a text: its lexemes, with the commas and colons between them checked.
-ghost use Rattle.std.specs.Prelude.{◌≡◌, ◌≢◌, ◌≤◌, ◌⊎◌, [], ◌∷◌, length, true, false, Some, None, MatchOption, MatchResult, option_map};
+ghost use Rattle.std.specs.Prelude.{◌≡◌, ◌≢◌, ◌≤◌, ◌⊎◌, ℕ, List, [], ◌∷◌, length, true, false, Some, None, MatchOption, MatchResult};
 ghost use Rattle.std.specs.Bool.{MatchBool};
 ghost use Rattle.json.specs.Word.{head};
 ghost use Rattle.json.specs.Lex.{class, between, lex, after_value, punctuate, tokens};
@@ -7,11 +7,14 @@ ghost use Rattle.json.specs.Align.{is_blank};
 ghost use Rattle.json.specs.Json.{after_end_array, read_key};
 ghost use Rattle.json.specs.Reads.{token_of, Yields};
 ghost use Rattle.json.specs.Token as SpecToken;
-ghost use Rattle.json_values.specs.Place.{tokens_at, closes_at, begins_at, begins_key, of_string, refused_at, Begins, BeginsNoValue, Closes, NotBeforeComma};
+ghost use Rattle.serde_json.specs.Read.{number_of};
+ghost use Rattle.serde_json.specs.View.{number_view};
+ghost use Rattle.json_values.specs.Place.{tokens_at, closes_at, begins_at, begins_key, ends_object, of_string, refused_at, Begins, BeginsNoValue, Closes, NotBeforeComma};
 
 use crate::lexer::Lexer;
 use crate::run::is_space;
 use json::{Invalid, Token};
+use serde_json::Number;
 use std::marker::Model;
 
 /// Where a text is read on.
@@ -203,21 +206,6 @@ impl<'a> Tokens<'a> {
         token
     }
 
-    /// The name of a member, or none at the brace that ends an object.
-    #[inline(always)]
-    pub(crate) fn next_key(&mut self) -> Result<Option<&'a str>, Invalid>
-        ensures { MatchResult result
-            (λ k. read_key self.old ≡ Some (option_map (λ s. s.now) k, self.new))
-            (λ _. read_key self.old ≡ None) }
-    {
-        let token = self.next().ok_or(Invalid)?;
-        match token {
-            Token::Key(key) => Ok(Some(key)),
-            Token::EndObject => Ok(None),
-            _ => Err(Invalid),
-        }
-    }
-
     /// Takes the name of a member, where one comes next. Where none does, the next name or end stays what it was.
     #[inline(always)]
     pub(crate) fn take_key(&mut self) -> Option<&'a str>
@@ -253,6 +241,34 @@ impl<'a> Tokens<'a> {
             return Ok(Some(text));
         }
         Err(Invalid)
+    }
+
+    /// Takes the number that comes next, where it is few digits and nothing else, behind a minus sign or none. Where none
+    /// does, nothing is taken.
+    #[inline(always)]
+    pub(crate) fn take_integer(&mut self) -> Option<Number>
+        ensures { MatchOption result (self.new ≡ self.old)
+            (λ n. (s : List ℕ) × (self.old ≡ SpecToken.number s ∷ self.new) × (number_of s ≡ Some (number_view n))) }
+    {
+        if !self.place.may_begin() {
+            return None;
+        }
+        let number = self.lexer.integer()?;
+        self.place = after_value(&mut self.lexer);
+        Some(number)
+    }
+
+    /// Takes the brace that ends an object, if it is next.
+    #[inline(always)]
+    pub(crate) fn take_end_object(&mut self) -> bool
+        ensures { MatchBool result (read_key self.old ≡ Some (None, self.new)) (ends_object self.old ≡ false) }
+    {
+        if (self.lexer.peek() != b'}') | !self.place.may_close() {
+            return false;
+        }
+        self.lexer.skip();
+        self.place = after_value(&mut self.lexer);
+        true
     }
 
     /// Takes the bracket that ends a list, if it is next.

@@ -1,11 +1,11 @@
 //! From tokens to a value whose texts stand where they were read.
-ghost use Rattle.std.specs.Prelude.{◌≡◌, ◌≢◌, ◌<◌, List, length, Some, None, IfOk, OnOk};
-ghost use Rattle.json.specs.Token as SpecToken;
+ghost use Rattle.std.specs.Prelude.{◌≡◌, ◌<◌, length, false, Some, None, IfOk, OnOk};
 ghost use Rattle.json.specs.Json.{value, items, members, read_key};
 ghost use Rattle.serde_json.specs.Data.{no_members};
 ghost use Rattle.serde_json.specs.Read.{converted, of_json, of_items, of_members};
 ghost use Rattle.json_values.specs.LineView.{line_view, line_items, line_members};
 ghost use Rattle.json_values.specs.Members.{entries_of};
+ghost use Rattle.json_values.specs.Place.{ends_object};
 
 use crate::fault::ReadFault;
 use crate::line::LineValue;
@@ -31,12 +31,32 @@ pub(crate) fn read_value<'a>(
 {
     match reader.take_text() {
         Ok(Some(text)) => Ok(LineValue::String(text)),
-        Ok(None) => read_other(alloc, reader, depth),
+        Ok(None) => read_no_text(alloc, reader, depth),
         Err(_) => Err(ReadFault::NotJson),
     }
 }
 
-/// The same, where it may be no text.
+/// The same, where it may be no text. Mostly it is a whole number.
+#[cycle(read)]
+#[inline(always)]
+fn read_no_text<'a>(
+    alloc: Global,
+    reader: &mut Tokens<'a>,
+    depth: usize,
+) -> Result<LineValue<'a>, ReadFault>
+    ensures ok { IfOk result
+        (λ v. converted of_json (value depth reader.old) ≡ Some (line_view v, reader.new)) }
+    ensures shorter { OnOk result (length reader.new < length reader.old) }
+    ensures refused { result ≡ Err ReadFault.NotJson → converted of_json (value depth reader.old) ≡ None }
+    ensures memory { result ≡ Err ReadFault.Memory → 0 < length reader.old }
+{
+    match reader.take_integer() {
+        Some(number) => Ok(LineValue::Number(number)),
+        None => read_other(alloc, reader, depth),
+    }
+}
+
+/// The same, where it may be neither.
 #[cycle(read)]
 #[inline(always)]
 fn read_other<'a>(
@@ -128,7 +148,7 @@ fn read_members<'a>(
 }
 
 /// The members that were read, where the brace comes next that ends their object.
-#[inline(never)]
+#[inline(always)]
 fn end_members<'a>(
     alloc: Global,
     reader: &mut Tokens<'a>,
@@ -136,10 +156,10 @@ fn end_members<'a>(
 ) -> Result<Vec<(&'a str, LineValue<'a>)>, ReadFault>
     ensures ok { OnOk result (read_key reader.old ≡ Some (None, reader.new)) }
     ensures found { IfOk result (λ v. v.items ≡ entries_of found.entry) }
-    ensures refused { result ≡ Err ReadFault.NotJson → (ts : List SpecToken.Token) → read_key reader.old ≢ Some (None, ts) }
+    ensures refused { result ≡ Err ReadFault.NotJson → ends_object reader.old ≡ false }
 {
-    match reader.next_key() {
-        Ok(None) => Ok(found.into_vec(alloc)?),
-        _ => Err(ReadFault::NotJson),
+    if !reader.take_end_object() {
+        return Err(ReadFault::NotJson);
     }
+    Ok(found.into_vec(alloc)?)
 }

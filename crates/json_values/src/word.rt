@@ -1,12 +1,18 @@
 //! Numbers and the three literals.
-ghost use Rattle.std.specs.Prelude.{◌≡◌, ◌<◌, ◌≤◌, ◌||◌, length, drop};
+ghost use Rattle.std.specs.Prelude.{◌≡◌, ◌<◌, ◌≤◌, ◌^◌, ◌||◌, length, take, drop, Some, IfSome};
+ghost use Rattle.std.specs.Str.Parse.{AllDigits, digits_value};
+ghost use Rattle.serde_json.specs.View.{number_view};
 ghost use Rattle.json.specs.Word.{is_operator, is_space, after_digits, after_minus, after_sign, number_before, literal, after_whole, after_fraction, after_exponent, after_number, word};
 ghost use Rattle.json.specs.Run.{EndsAt};
 ghost use Rattle.json.specs.Reads.{token_of};
-ghost use Rattle.json_values.specs.Words.{IsLiteral, WordAt};
+ghost use Rattle.json_values.specs.Words.{IsLiteral, IntegerAt, WordAt};
 
 use crate::run::{byte_at, digits_end};
 use json::Token;
+use serde_json::Number;
+
+/// The most that one more digit is taken behind.
+const FULL: u64 = 100_000_000_000_000_000;
 
 /// Whether a byte ends a word.
 #[inline(always)]
@@ -153,4 +159,48 @@ pub(crate) fn word<'a>(text: &'a str, from: usize) -> Option<(Token<'a>, usize)>
         b'n' => literal(bytes, from, b"null", Token::Null),
         _ => number(text, from),
     }
+}
+
+/// The number that the digits at the front write, and how many they are, where they are not too many.
+#[inline(always)]
+fn digits_sum(rest: &[u8]) -> Option<(u64, usize)>
+    ensures bounds { IfSome result (λ r. (0 < r.1) × (r.1 ≤ length rest.now) × (r.0 < 2 ^ 63)) }
+    ensures digits { IfSome result (λ r. AllDigits 10 (take r.1 rest.now)) }
+    ensures value { IfSome result (λ r. digits_value 10 (take r.1 rest.now) ≡ r.0) }
+    ensures after { IfSome result (λ r. after_whole rest.now ≡ Some (drop r.1 rest.now)) }
+{
+    if byte_at(rest, 0) == b'0' {
+        return Some((0, 1));
+    }
+    let mut n: u64 = 0;
+    let mut i = 0;
+    while i < rest.len() && rest[i].is_ascii_digit() {
+        if n > FULL {
+            return None;
+        }
+        n = n * 10 + u64::from(rest[i] - b'0');
+        i += 1;
+    }
+    if i == 0 { None } else { Some((n, i)) }
+}
+
+/// The number that is few digits and nothing else, behind a minus sign or none, at a place, and where it ends.
+#[inline(always)]
+pub(crate) fn integer(text: &[u8], from: usize) -> Option<(Number, usize)>
+    requires { from ≤ length text.now }
+    ensures { IfSome result (λ r. IntegerAt text.now from (number_view r.0) r.1) }
+{
+    let start = minus_end(text, from);
+    let (n, len) = digits_sum(&text[start..])?;
+    let end = start + len;
+    if !is_delimiter(byte_at(text, end)) {
+        return None;
+    }
+    if start == from {
+        return Some((Number::from(n), end));
+    }
+    if n == 0 {
+        return None;
+    }
+    Some((Number::from(-(n as i64)), end))
 }

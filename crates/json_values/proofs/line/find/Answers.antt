@@ -9,8 +9,8 @@ use Rattle.json_values.proofs.line.find.Goals as goal
 pub loop-member-init : goal.loop-member-init
 loop-member-init c = refl
 
-pub returns-then-eq : goal.returns-then-eq
-returns-then-eq c =
+pub returns-then-is_same_text : goal.returns-then-is_same_text
+returns-then-is_same_text c =
     let l = c.loop-member in
     let xs = c.deref-member-items.result.now in
     let x = c.member-item.result in

@@ -14,7 +14,7 @@ use Rattle.json_values.proofs.PutEntries.{rising_none, rising_put}
 use Rattle.json_values.proofs.ValueReads.{items-one, items-refused, items-none, members-one, members-refused, members-no_key, members-none}
 use Rattle.json_values.proofs.LineReads.{Named, members-put, view-Array, view-Object, items_onto, items_onto-no_items, parse_map-items_onto}
 use Rattle.json_values.specs.Place.{begins_key}
-use Rattle.json_values.proofs.FirstTokens.{neither, read-nothing, read-string, read-number, read-boolean, read-null, read-array, read-object, read-deep_array, read-deep_object}
+use Rattle.json_values.proofs.FirstTokens.{endless, neither, read-nothing, read-string, read-number, read-boolean, read-null, read-array, read-object, read-deep_array, read-deep_object}
 use Rattle.json_values.proofs.values.+read.Goals as goal
 
 pub read_value-returns-in-Ok-Some-clause-ok : goal.read_value-returns-in-Ok-Some-clause-ok
@@ -24,6 +24,14 @@ read_value-returns-in-Ok-Some-clause-ok t c =
     let is : c.args.reader.now ≡ Token.string text.now ∷ left = grind arith in
     let seen : line_view (String text) ≡ string text.now = search (rules, the_lemmas) in
     ap (λ ts. converted of_json (value c.args.depth ts)) is ∙ read-string c.args.depth left text.now ∙ ap (λ d. Some (d, left)) (sym seen)
+
+pub read_no_text-returns-in-Some-clause-ok : goal.read_no_text-returns-in-Some-clause-ok
+read_no_text-returns-in-Some-clause-ok t c =
+    let e = c.in-Some.ensures in
+    let left = c.take_integer.new.self in
+    let seen : line_view (Number c.in-Some.number) ≡ number (number_view c.in-Some.number) = search (rules, the_lemmas) in
+    let counted : number_of e.0 ≡ Some (number_view c.in-Some.number) = e.2 in
+    ap (λ ts. converted of_json (value c.args.depth ts)) e.1 ∙ read-number c.args.depth left e.0 ∙ rw (counted, seen)
 
 pub read_other-returns-in_default-clause-refused : goal.read_other-returns-in_default-clause-refused
 read_other-returns-in_default-clause-refused t c refused =
@@ -156,7 +164,7 @@ pub read_members-returns-in_err-all-clause-refused : goal.read_members-returns-i
 read_members-returns-in_err-all-clause-refused t c refused =
     let l = c.members in
     let kept : (begins_key l.reader ≡ false) × (read_key c.take_key.new.self ≡ read_key l.reader) = grind arith in
-    let none : read_key l.reader ≡ None = neither l.reader kept.0 (λ ts e. c.end_members.ensures.refused (grind arith) ts (kept.1 ∙ e)) in
+    let none : read_key l.reader ≡ None = neither l.reader kept.0 (λ ts e. endless c.take_key.new.self (c.end_members.ensures.refused (grind arith)) ts (kept.1 ∙ e)) in
     l.invariant.3 ∙ members-no_key (value c.args.depth) (line_members (entries_of l.found)) l.invariant.0 l.reader none
 
 pub read_members-returns-in_default-clause-ok : goal.read_members-returns-in_default-clause-ok

@@ -9,16 +9,19 @@ use Rattle.json_values.proofs.LineReads.{items_onto}
 use Rattle.json_values.proofs.values.+read.Given as goal
 
 abbrev pub decreases-read_value : goal.decreases-read_value
-decreases-read_value l = 3 * l.depth + 1
+decreases-read_value l = 4 * l.depth + 2
+
+abbrev pub decreases-read_no_text : goal.decreases-read_no_text
+decreases-read_no_text l = 4 * l.depth + 1
 
 abbrev pub decreases-read_other : goal.decreases-read_other
-decreases-read_other l = 3 * l.depth
+decreases-read_other l = 4 * l.depth
 
 abbrev pub decreases-read_items : goal.decreases-read_items
-decreases-read_items l = 3 * l.depth + 2
+decreases-read_items l = 4 * l.depth + 3
 
 abbrev pub decreases-read_members : goal.decreases-read_members
-decreases-read_members l = 3 * l.depth + 2
+decreases-read_members l = 4 * l.depth + 3
 
 -- the items so far stand before what the rest of the list is read as
 abbrev pub invariant-read_items-items : goal.invariant-read_items-items

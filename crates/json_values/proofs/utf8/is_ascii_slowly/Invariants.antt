@@ -1,6 +1,6 @@
 use Rattle.std.proofs.Common.{◌-◌, ◌≤◌, length, take}
 use Rattle.std.specs.Str.{IsAscii}
-use Rattle.json_values.proofs.reader.is_ascii_slowly.Given as goal
+use Rattle.json_values.proofs.utf8.is_ascii_slowly.Given as goal
 
 abbrev pub invariant-loop-i : goal.invariant-loop-i
 invariant-loop-i l = (l.i ≤ length l.bytes) × IsAscii (take l.i l.bytes)

@@ -1,7 +1,7 @@
 use Rattle.std.proofs.Common.{◌-◌, length, sym, subst, arith, take-add}
 use Rattle.std.specs.Str.{IsAscii}
 use Rattle.json_values.proofs.AsciiText.{IsAscii-joined, ascii_joined}
-use Rattle.json_values.proofs.reader.is_ascii.Goals as goal
+use Rattle.json_values.proofs.utf8.is_ascii.Goals as goal
 
 pub loop-i-preserved : goal.loop-i-preserved
 loop-i-preserved c = (omega arith, subst IsAscii (sym (take-add c.loop-i.i 16 c.args.bytes.now)) (IsAscii-joined _ _ c.loop-i.invariant.1 (c.is_ascii_16.ensures c.if-not-is_ascii_16.false)))

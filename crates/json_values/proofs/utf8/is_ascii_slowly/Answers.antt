@@ -2,7 +2,7 @@ use Rattle.std.proofs.Common.{subst, arith}
 use Rattle.std.specs.Str.{IsAscii}
 use Rattle.std.proofs.lemmas.List.{take_all}
 use Rattle.std.proofs.lemmas.Str.Ascii.{IsAscii-more}
-use Rattle.json_values.proofs.reader.is_ascii_slowly.Goals as goal
+use Rattle.json_values.proofs.utf8.is_ascii_slowly.Goals as goal
 
 pub loop-i-preserved : goal.loop-i-preserved
 loop-i-preserved c = (omega arith, IsAscii-more c.args.bytes.now c.loop-i.i (omega arith) c.loop-i.invariant.1 (omega arith))

@@ -1,0 +1,31 @@
+use Rattle.std.proofs.Common.{◌≡◌, ◌-◌, drop, take, sym, ap, ◌∙◌, subst}
+use Rattle.json.specs.Word.{head, word}
+use Rattle.json.specs.Lex.{class, between, lex}
+use Rattle.serde_json.specs.View.{number_view}
+use Rattle.json_values.specs.Words.{IntegerAt}
+use Rattle.json_values.proofs.Integers.{integer_word, integer_passed}
+use Rattle.json_values.proofs.lexer.Lexer.integer.Goals as goal
+
+pub returns-clause-value : goal.returns-clause-value
+returns-clause-value c =
+    let a = c.self.inside in
+    let d = a.text.now in
+    let r = c.in_ok-number in
+    let at : IntegerAt d a.at (number_view r.number) r.end = subst (λ t. IntegerAt t a.at (number_view r.number) r.end) c.as_bytes.ensures.value r.ensures in
+    (take (r.end - a.at) (drop a.at d), ap word (sym c.self.view_is) ∙ integer_word d a.at (number_view r.number) r.end at, at.number)
+
+pub returns-clause-kind : goal.returns-clause-kind
+returns-clause-kind c =
+    let a = c.self.inside in
+    let r = c.in_ok-number in
+    let at : IntegerAt a.text.now a.at (number_view r.number) r.end = subst (λ t. IntegerAt t a.at (number_view r.number) r.end) c.as_bytes.ensures.value r.ensures in
+    ap (λ t. class (head t)) (sym c.self.view_is) ∙ at.kind
+
+pub returns-clause-after : goal.returns-clause-after
+returns-clause-after c =
+    let a = c.self.inside in
+    let d = a.text.now in
+    let r = c.in_ok-number in
+    let at : IntegerAt d a.at (number_view r.number) r.end = subst (λ t. IntegerAt t a.at (number_view r.number) r.end) c.as_bytes.ensures.value r.ensures in
+    let lexed : lex between (drop c.after_blanks-self-inside.result d) ≡ lex between (drop r.end d) = subst (λ t. lex between (drop c.after_blanks-self-inside.result t) ≡ lex between (drop r.end t)) c.as_bytes-2.ensures.value c.after_blanks-self-inside.ensures.lexed in
+    lexed ∙ integer_passed d a.at (number_view r.number) r.end at ∙ ap (λ t. drop 1 (lex between t)) c.self.view_is

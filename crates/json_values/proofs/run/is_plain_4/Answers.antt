@@ -1,0 +1,11 @@
+use Rattle.std.proofs.Common.{refl, sym, ◌∙◌, arith}
+use Rattle.std.proofs.lemmas.Bool.{eqb-true, and_parts}
+use Rattle.json.specs.Run.{is_stop, is_plain}
+use Rattle.json_values.proofs.Runs.{both_clear}
+use Rattle.json_values.proofs.run.is_plain_4.Goals as goal
+
+pub returns : goal.returns
+returns c clear =
+    let t = c.args.text.now in
+    let both = and_parts _ _ clear in
+    both_clear is_stop is_plain (λ x. refl) t 4 (omega arith) (omega arith) (sym c.stops_4-first.ensures ∙ eqb-true _ _ both.0) (sym c.stops_4-last.ensures ∙ eqb-true _ _ both.1)

@@ -1,0 +1,31 @@
+use Rattle.std.proofs.Common.{◌≡◌, false, None, Some, refl, sym, ap, ◌∙◌, inl, ⊎_elim, arith}
+use Rattle.std.proofs.lemmas.Bool.{cases_eq}
+use Rattle.json.specs.Token as spec
+use Rattle.json.specs.Word.{head}
+use Rattle.json.specs.Lex.{class, after_value, may_close, punctuate}
+use Rattle.json.specs.Align.{is_blank}
+use Rattle.json.specs.Json.{read_key}
+use Rattle.json_values.specs.Place.{tokens_at, ends_object}
+use Rattle.json_values.proofs.Punctuation.{rest, at_operator, allowed, closed, not_closed, no_brace, refused_no_brace}
+use Rattle.json_values.proofs.tokens.Tokens.take_end_object.Goals as goal
+
+pub returns-then-peek-may_close : goal.returns-then-peek-may_close
+returns-then-peek-may_close c =
+    let a = c.self.inside in
+    let seen = c.peek.ensures.value in
+    let none : ends_object (tokens_at a.place a.lexer) ≡ false = ⊎_elim
+    (λ e. ap ends_object (not_closed a.place a.lexer (grind arith) (inl e)) ∙ refused_no_brace a.place)
+    (no_brace a.place a.lexer (λ b. c.peek.ensures.end (ap (λ x. is_blank (class x)) seen ∙ b)) c.self.invariant) (cases_eq (head a.lexer) 125) in
+    ap ends_object (sym c.self.view_is) ∙ none
+
+pub skip-requires : goal.skip-requires
+skip-requires c = let e : head c.self.inside.lexer ≡ 125 = grind arith in ap class e
+
+pub returns : goal.returns
+unfolding punctuate
+returns c =
+    let a = c.self.inside in
+    let t = a.lexer in
+    let e : head t ≡ 125 = grind arith in
+    let first = closed a.place t _ (grind arith) (λ p may. ap (punctuate p) (at_operator 125 t refl e) ∙ allowed (may_close p) spec.end_object (λ n. punctuate n (rest t)) after_value may) in
+    ap read_key (sym c.self.view_is ∙ first) ∙ ap (λ ts. Some (None, ts)) (ap (punctuate after_value) (sym c.skip.ensures) ∙ sym c.after_value-self-inside.ensures.same)
