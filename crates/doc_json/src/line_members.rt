@@ -10,7 +10,7 @@ ghost use Rattle.doc_json.specs.Members.{has_unknown, is_unknown};
 
 use crate::doc_id::is_special;
 use crate::members::is_unknown;
-use json_values::LineValue;
+use json_values::{LineValue, is_same_text};
 
 /// Whether a value is, or holds at any depth, a number that is neither an i64 nor a u64.
 #[cycle(fraction)]
@@ -187,6 +187,7 @@ fn with_special<'v, 'a>(
 }
 
 /// What was found for a name, or this member where it has that name.
+#[inline(always)]
 fn kept<'v, 'a>(
     found: Option<&'v LineValue<'a>>,
     name: &str,
@@ -199,5 +200,9 @@ fn kept<'v, 'a>(
     if found.is_some() {
         return found;
     }
-    if name == wanted { Some(member) } else { None }
+    if is_same_text(name, wanted) {
+        Some(member)
+    } else {
+        None
+    }
 }

@@ -11,6 +11,7 @@ ghost use Rattle.doc_json.specs.Members.{plain_members, has_special};
 ghost use Rattle.doc_json.specs.Members.{has_unknown, is_unknown, special_names};
 
 use crate::doc_id::is_special;
+use json_values::is_same_text;
 use serde_json::{Map, Value};
 
 /// Whether a value is, or holds at any depth, a number that is neither an i64 nor a u64.
@@ -179,15 +180,12 @@ pub(crate) fn is_unknown(name: &str) -> bool
 fn is_special_name(name: &str) -> bool
     ensures { result ≡ list_any (bytes_eq name.now) special_names }
 {
-    matches!(
-        name,
-        "_id"
-            | "_rev"
-            | "_revisions"
-            | "_deleted"
-            | "_conflicts"
-            | "_deleted_conflicts"
-            | "_revs_info"
-            | "_local_seq"
-    )
+    is_same_text(name, "_id")
+        || is_same_text(name, "_rev")
+        || is_same_text(name, "_revisions")
+        || is_same_text(name, "_deleted")
+        || is_same_text(name, "_conflicts")
+        || is_same_text(name, "_deleted_conflicts")
+        || is_same_text(name, "_revs_info")
+        || is_same_text(name, "_local_seq")
 }

@@ -1,5 +1,6 @@
 //! Texts and integers, pushed as JSON behind what a buffer holds.
-ghost use Rattle.std.specs.Prelude.{◌≡◌, ◌<◌, ◌≤◌, ◌++◌, [], ◌∷◌, false, take, OnOk};
+ghost use Rattle.std.specs.Prelude.{◌≡◌, ◌<◌, ◌≤◌, ◌++◌, [], ◌∷◌, false, take, decimal, OnOk};
+ghost use Rattle.std.specs.Fmt.{signed_decimal};
 ghost use Rattle.std.specs.Char.{digit_char};
 ghost use Rattle.json.specs.Print.{escape_letter, escape_byte, quoted};
 ghost use Rattle.serde_json.specs.Find.{is_float};
@@ -8,7 +9,7 @@ ghost use Rattle.serde_json.specs.Written.{comma_if, number_text};
 ghost use Rattle.doc_json.specs.Numbers.{ReadsBack};
 
 use itoa::Buffer;
-use json_values::plain_end;
+use json_values::{is_plain, plain_end};
 use serde_json::Number;
 use std::alloc::AllocError;
 
@@ -34,8 +35,22 @@ pub(crate) fn push_name(out: &mut Vec<u8>, later: bool, name: &str) -> Result<()
     Ok(())
 }
 
-/// A text in quotation marks: what stands for itself as a whole, and each other byte as its escape.
+/// A text in quotation marks. Mostly each of its bytes stands for itself.
 pub fn push_text(out: &mut Vec<u8>, text: &str) -> Result<(), AllocError>
+    ensures { OnOk result (out.new.items ≡ out.old.items ++ quoted text.now) }
+{
+    if !is_plain(text.as_bytes()) {
+        return push_escaped(out, text);
+    }
+    out.push(b'"')?;
+    out.extend_from_slice(text.as_bytes())?;
+    out.push(b'"')?;
+    Ok(())
+}
+
+/// A text in quotation marks: what stands for itself as a whole, and each other byte as its escape.
+#[inline(never)]
+fn push_escaped(out: &mut Vec<u8>, text: &str) -> Result<(), AllocError>
     ensures { OnOk result (out.new.items ≡ out.old.items ++ quoted text.now) }
 {
     let bytes = text.as_bytes();
@@ -105,15 +120,44 @@ fn hex(digit: u8) -> u8
 }
 
 /// An integer in decimal.
-#[inline(never)]
+#[inline(always)]
 pub(crate) fn push_integer(out: &mut Vec<u8>, n: &Number) -> Result<(), AllocError>
     requires { is_float (number_view n.now) ≡ false }
     ensures text { OnOk result (out.new.items ≡ out.old.items ++ number_text (number_view n.now)) }
     ensures numbers { ReadsBack (number_view n.now) }
 {
-    let mut buffer = Buffer::new();
     match n.as_u64() {
-        Some(n) => out.extend_from_slice(buffer.format(n).as_bytes()),
-        None => out.extend_from_slice(buffer.format(n.as_i64().unwrap()).as_bytes()),
+        Some(n) => push_whole(out, n),
+        None => push_signed(out, n.as_i64().unwrap()),
     }
+}
+
+/// A whole number. One digit is pushed without a buffer.
+#[inline(always)]
+fn push_whole(out: &mut Vec<u8>, n: u64) -> Result<(), AllocError>
+    ensures { OnOk result (out.new.items ≡ out.old.items ++ decimal n) }
+{
+    if n < 10 {
+        out.push(b'0' + n as u8)?;
+        return Ok(());
+    }
+    push_digits(out, n)
+}
+
+/// A whole number of any length.
+#[inline(never)]
+fn push_digits(out: &mut Vec<u8>, n: u64) -> Result<(), AllocError>
+    ensures { OnOk result (out.new.items ≡ out.old.items ++ decimal n) }
+{
+    let mut buffer = Buffer::new();
+    out.extend_from_slice(buffer.format(n).as_bytes())
+}
+
+/// An integer below zero.
+#[inline(never)]
+fn push_signed(out: &mut Vec<u8>, n: i64) -> Result<(), AllocError>
+    ensures { OnOk result (out.new.items ≡ out.old.items ++ signed_decimal n) }
+{
+    let mut buffer = Buffer::new();
+    out.extend_from_slice(buffer.format(n).as_bytes())
 }

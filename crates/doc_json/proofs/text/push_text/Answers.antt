@@ -1,35 +1,19 @@
-use Rattle.std.proofs.Common.{◌≡◌, ◌+◌, ◌-◌, ◌<◌, ◌≤◌, ◌++◌, [], ◌∷◌, length, take, drop, get_or, sym, ap, ◌∙◌, arith, append_assoc}
+use Rattle.std.proofs.Common.{◌≡◌, ◌-◌, ◌++◌, [], ◌∷◌, length, take, drop, sym, ap, ◌∙◌, arith, append_assoc}
+use Rattle.std.proofs.lemmas.List.{take_all}
 use Rattle.std.specs.List.{prefix_len}
-use Rattle.json.specs.Print.{escape, escape_byte}
+use Rattle.json.specs.Print.{escape}
 use Rattle.json.specs.Run.{is_plain}
-use Rattle.json.proofs.Printed.Strings.{escape_to_stop, escape_at, escape_end}
-use Rattle.doc_json.proofs.Pushes.{moved}
+use Rattle.json.proofs.Printed.Strings.{escape_to_stop, escape_end}
 use Rattle.doc_json.proofs.text.push_text.Goals as goal
 
-pub loop-out-init : goal.loop-out-init
-loop-out-init c = let rest = escape c.args.text.now ++ 34 ∷ [] in (omega arith, ap (λ l. l ++ rest) c.in_ok-push.ensures.items ∙ append_assoc c.args.out.now.items (34 ∷ []) rest)
-
-pub returns-then-stop-bytes : goal.returns-then-stop-bytes
-returns-then-stop-bytes c =
+pub returns : goal.returns
+returns c =
     let d = c.args.text.now in
-    let l = c.loop-out in
-    let stop = c.plain_end-stop.result in
-    let same = c.as_bytes-bytes.ensures.value in
-    let is : stop ≡ l.at + prefix_len is_plain (drop l.at d) = rw (← same) c.plain_end-stop.ensures.value in
-    let pushed : c.extend_from_slice.new.self.items ≡ l.out.items ++ take (stop - l.at) (drop l.at d) = rw (← same) c.in_ok-extend_from_slice.ensures.items in
-    let mid = moved _ _ _ _ _ _ pushed (escape_to_stop d l.at stop (34 ∷ []) is) l.invariant.1 in
-    let ended : length d ≤ stop = omega arith in
-    c.in_ok-push-2.ensures.items ∙ ap (λ s. c.extend_from_slice.new.self.items ++ s) (sym (escape_end d stop (34 ∷ []) ended)) ∙ mid
-
-pub loop-out-preserved : goal.loop-out-preserved
-loop-out-preserved c =
-    let d = c.args.text.now in
-    let l = c.loop-out in
-    let stop = c.plain_end-stop.result in
-    let same = c.as_bytes-bytes.ensures.value in
-    let is : stop ≡ l.at + prefix_len is_plain (drop l.at d) = rw (← same) c.plain_end-stop.ensures.value in
-    let pushed : c.extend_from_slice.new.self.items ≡ l.out.items ++ take (stop - l.at) (drop l.at d) = rw (← same) c.in_ok-extend_from_slice.ensures.items in
-    let mid = moved _ _ _ _ _ _ pushed (escape_to_stop d l.at stop (34 ∷ []) is) l.invariant.1 in
-    let within : stop < length d = omega arith in
-    let escaped : c.push_escape.new.out.items ≡ c.extend_from_slice.new.self.items ++ escape_byte (get_or d stop 0) = rw (← same) c.in_ok-push_escape.ensures in
-    (omega arith, moved _ _ _ _ _ _ escaped (escape_at d stop (34 ∷ []) within) mid)
+    let out = c.args.out.now.items in
+    let close = 34 ∷ [] in
+    let plain : prefix_len is_plain d ≡ length d = rw (← c.as_bytes.ensures.value) (c.is_plain.ensures c.if-not-is_plain.false) in
+    let whole : take (length d - 0) (drop 0 d) ≡ d = take_all _ d (omega arith) in
+    let body : escape d ++ close ≡ d ++ close = escape_to_stop d 0 (length d) close (omega (arith, plain)) ∙ ap (λ l. take (length d - 0) (drop 0 d) ++ l) (escape_end d (length d) close (omega arith)) ∙ ap (λ l. l ++ close) whole in
+    let text : c.extend_from_slice.new.self.items ≡ c.push.new.self.items ++ d = rw (← c.as_bytes-2.ensures.value) c.in_ok-extend_from_slice.ensures.items in
+    c.in_ok-push-2.ensures.items ∙ ap (λ l. l ++ close) (text ∙ ap (λ l. l ++ d) c.in_ok-push.ensures.items) ∙ append_assoc (out ++ close) d close ∙ append_assoc out close (d ++ close)
+    ∙ ap (λ l. out ++ 34 ∷ l) (sym body)
