@@ -18,3 +18,4 @@ pub mod Steps
 pub mod Wording
 pub mod Integers
 pub mod Punctuation
+pub mod Moves

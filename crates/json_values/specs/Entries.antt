@@ -31,3 +31,7 @@ IsGapFor {T} k es i = (name : Bor (List ℕ)) → name.now ≡ k → (v : T) →
 -- a member of that name is to be put in behind all others
 abbrev pub ComesLast : {T : Type 0} → List ℕ → List (Entry T) → Type 0
 ComesLast {T} k es = (name : Bor (List ℕ)) → name.now ≡ k → (v : T) → put_entry name v es ≡ es ++ (name, v) ∷ []
+
+-- the last member stands at a place, before those that stood there
+abbrev pub MovesLast : {T : Type 0} → List (Entry T) → ℕ → List (Entry T) → Type 0
+MovesLast {T} old i new = (es : List (Entry T)) (last : Entry T) → old ≡ es ++ last ∷ [] → new ≡ take i es ++ last ∷ drop i es

@@ -2,7 +2,7 @@
 ghost use Rattle.std.specs.Prelude.{◌≡◌, ◌<◌, ◌≤◌, [], length, slice_index, true, OnOk, IfOk, IfErr};
 ghost use Rattle.std.specs.Ordering.{nat_cmp};
 ghost use Rattle.std.specs.Cmp.Lexicographic.{slice_cmp};
-ghost use Rattle.json_values.specs.Entries.{ComesLast, IsRising, IsPlaceOf, IsGapFor, put_entry};
+ghost use Rattle.json_values.specs.Entries.{ComesLast, IsRising, IsPlaceOf, IsGapFor, MovesLast, put_entry};
 ghost use Rattle.json_values.specs.Members.{entries_of};
 
 use std::alloc::{AllocError, Global};
@@ -109,26 +109,9 @@ fn put_mapped<'a, T: Drop>(
     Ok(())
 }
 
-/// Puts a member into a list. Mostly it comes behind all others.
+/// Puts a member into a list: at its end, and from there to its place.
 #[inline(always)]
 fn put_listed<'a, T: Drop>(
-    entries: &mut Vec<(&'a str, T)>,
-    name: &'a str,
-    value: T,
-) -> Result<(), AllocError>
-    requires { IsRising entries.old.items }
-    ensures { OnOk result (entries.new.items ≡ put_entry name.entry value entries.old.items) }
-{
-    if comes_last(entries, name) {
-        entries.push((name, value))?;
-        return Ok(());
-    }
-    put_within(entries, name, value)
-}
-
-/// Puts a member into a list, wherever its name comes.
-#[inline(always)]
-fn put_within<'a, T: Drop>(
     entries: &mut Vec<(&'a str, T)>,
     name: &'a str,
     value: T,
@@ -142,9 +125,23 @@ fn put_within<'a, T: Drop>(
             Ok(())
         }
         Err(place) => {
-            entries.insert(place, (name, value))?;
+            entries.push((name, value))?;
+            move_last(entries, place);
             Ok(())
         }
+    }
+}
+
+/// Moves the last member to a place, past one other at a time. Mostly these are none or few.
+#[inline(always)]
+fn move_last<'a, T>(entries: &mut Vec<(&'a str, T)>, place: usize)
+    requires { place < length entries.old.items }
+    ensures { MovesLast entries.old.items place entries.new.items }
+{
+    let mut i = entries.len() - 1;
+    while i > place {
+        entries.swap(i - 1, i);
+        i -= 1;
     }
 }
 

@@ -1,0 +1,10 @@
+use Rattle.std.proofs.Common.{◌≡◌, ◌<◌, ◌≤◌, length}
+use Rattle.json_values.specs.Entries.{MovesLast}
+use Rattle.json_values.proofs.members.move_last.Given as goal
+
+abbrev pub invariant-loop-i : goal.invariant-loop-i
+invariant-loop-i g l =
+    MovesLast l.initial.entries.items l.i l.entries.items × (l.place ≤ l.i) × (l.i < length l.entries.items) × (length l.entries.items ≡ length l.initial.entries.items)
+
+abbrev pub decreases-loop-i : goal.decreases-loop-i
+decreases-loop-i g l = l.i
