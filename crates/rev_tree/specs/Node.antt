@@ -2,6 +2,9 @@
 use Rattle.std.specs.Prelude.{ℕ, zero, suc, Bool, true, false, ◌+◌, ◌*◌, ◌^◌, Option, Some, None}
 use Rattle.rev_core.specs.Rev.{RevId}
 use Rattle.rev_tree.specs.Content.{ContentValue}
+use Rattle.rev_tree.specs.declared.node.Marks.{Marks}
+use Rattle.rev_tree.specs.declared.node.Known.{Known}
+use Rattle.rev_tree.specs.declared.node.Known.TheVariants.{Bare, Full}
 use Rattle.rev_tree.specs.declared.origin.Origin.{Origin}
 use Rattle.rev_tree.specs.declared.origin.Origin.TheVariants.{Local, Feed}
 
@@ -13,6 +16,19 @@ pub record NodeValue : Type 0 where
   pub content : Option ContentValue
   pub origin : Origin
   pub has_child : Bool
+
+-- what is kept in one place
+abbrev pub marks_of : Known → Marks
+marks_of (Bare marks parent) = marks
+marks_of (Full marks parent content) = marks
+
+abbrev pub counted_parent : Known → ℕ
+counted_parent (Bare marks parent) = parent
+counted_parent (Full marks parent content) = parent
+
+abbrev pub content_of : Known → Option ContentValue
+content_of (Bare marks parent) = None
+content_of (Full marks parent content) = Some content
 
 -- a place or none, counted from 1
 abbrev pub parent_of : ℕ → Option ℕ

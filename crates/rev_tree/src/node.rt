@@ -1,8 +1,10 @@
 //! A node of a tree: a revision with what the tree knows of it.
-ghost use Rattle.std.specs.Prelude.{◌≡◌, ◌+◌, ◌<◌, ◌^◌, Some, None, IfOk, true, false};
+ghost use Rattle.std.specs.Prelude.{◌≡◌, ◌<◌, Some, None, IfOk, true, false};
 ghost use Rattle.std.specs.Option.{option_copied};
 ghost use Rattle.std.specs.Ordering.{eq_by_cmp};
 ghost use Rattle.rev_core.specs.Rev.{rev_cmp};
+ghost use Rattle.rev_tree.specs.Node.{marks_of, counted_parent, content_of};
+ghost use Rattle.rev_tree.specs.declared.node.TheConstants.{MOST_NODES};
 
 use crate::content::Content;
 use crate::origin::{Origin, SessionId};
@@ -14,34 +16,113 @@ use std::marker::Model;
 /// How many numbers of 64 bits there are: each half of a session's number is one of them.
 const HALF: u128 = 1 << 64;
 
-/// A revision, the place of its parent where one is known, what stands at it where that is known, where it came
-/// from, and whether it is the parent of another node.
+/// The most nodes of a tree, so that the place of one is kept in 32 bits.
+pub(crate) const MOST_NODES: usize = 4_294_967_295;
+
+/// A revision, where it came from, and what else a tree knows of it.
 ///
-/// There may be very many, so they are kept small. The parent's place is counted from 1, and 0 where none is known: an
-/// `Option` takes a word more. A session's number is kept in halves: a `u128` stands at multiples of 16 bytes.
+/// There may be very many, so they are kept small. A session's number is kept in halves: a `u128` stands at multiples
+/// of 16 bytes.
 #[derive(Drop)]
 pub(crate) struct Node {
     rev: Rev,
-    parent: usize,
-    content: Option<Content>,
+    known: Known,
     session_high: u64,
     session_low: u64,
     number: u64,
+}
+
+/// Whether a feed brought a node, and whether it is the parent of another node.
+#[derive(Clone, Copy)]
+pub(crate) struct Marks {
     is_fed: bool,
     has_child: bool,
 }
 
+/// The marks of a node, the place of its parent, counted from 1, or 0 where none is known, and what stands at it where
+/// that is known.
+///
+/// They are one enum, since the marks and the place lie in the room that its own tag leaves free.
+#[derive(Drop)]
+pub(crate) enum Known {
+    Bare(Marks, u32),
+    Full(Marks, u32, Content),
+}
+
+impl Known {
+    /// The marks.
+    fn marks(&self) -> Marks
+        ensures { result ≡ marks_of self.now }
+    {
+        match self {
+            Known::Bare(marks, _) => *marks,
+            Known::Full(marks, _, _) => *marks,
+        }
+    }
+
+    /// The place of the parent, counted from 1, or 0.
+    fn parent(&self) -> u32
+        ensures { result ≡ counted_parent self.now }
+    {
+        match self {
+            Known::Bare(_, parent) => *parent,
+            Known::Full(_, parent, _) => *parent,
+        }
+    }
+
+    /// What stands at the node, where that is known.
+    fn content(&self) -> Option<&Content>
+        ensures { option_copied result ≡ content_of self.now }
+    {
+        match self {
+            Known::Bare(_, _) => None,
+            Known::Full(_, _, content) => Some(content),
+        }
+    }
+
+    /// Takes other marks and another parent.
+    fn set(&mut self, marks: Marks, parent: u32)
+        ensures marks { marks_of self.new ≡ marks }
+        ensures parent { counted_parent self.new ≡ parent }
+        ensures content { content_of self.new ≡ content_of self.old }
+    {
+        match self {
+            Known::Bare(old_marks, old_parent) => {
+                *old_marks = marks;
+                *old_parent = parent;
+            }
+            Known::Full(old_marks, old_parent, _) => {
+                *old_marks = marks;
+                *old_parent = parent;
+            }
+        }
+    }
+
+    /// The same.
+    fn copy(&self) -> Result<Known, AllocError>
+        ensures { IfOk result (λ k. k ≡ self.now) }
+    {
+        match self {
+            Known::Bare(marks, parent) => Ok(Known::Bare(*marks, *parent)),
+            Known::Full(marks, parent, content) => {
+                let content = content.copy()?;
+                Ok(Known::Full(*marks, *parent, content))
+            }
+        }
+    }
+}
+
 impl Model for Node {
-    ghost use Rattle.rev_tree.specs.Node.{NodeValue, parent_of, origin_of};
+    ghost use Rattle.rev_tree.specs.Node.{NodeValue, parent_of, origin_of, marks_of, counted_parent, content_of};
 
     ghost Value = { NodeValue };
 
     ghost view = { λ n. record {
       rev = n.rev;
-      parent = parent_of n.parent;
-      content = n.content;
-      origin = origin_of n.is_fed n.session_high n.session_low n.number;
-      has_child = n.has_child;
+      parent = parent_of (counted_parent n.known);
+      content = content_of n.known;
+      origin = origin_of (marks_of n.known).is_fed n.session_high n.session_low n.number;
+      has_child = (marks_of n.known).has_child;
     } };
 }
 
@@ -54,15 +135,16 @@ impl Node {
             Origin::Local(number) => (false, 0, number),
             Origin::Feed(session, number) => (true, session.0, number),
         };
+        let marks = Marks {
+            is_fed,
+            has_child: false,
+        };
         Node {
             rev,
-            parent: 0,
-            content: None,
+            known: Known::Bare(marks, 0),
             session_high: (session / HALF) as u64,
             session_low: (session % HALF) as u64,
             number,
-            is_fed,
-            has_child: false,
         }
     }
 
@@ -87,21 +169,22 @@ impl Node {
     pub(crate) fn parent(&self) -> Option<usize>
         ensures { result ≡ self.now.parent }
     {
-        self.parent.checked_sub(1)
+        let counted = self.known.parent() as usize;
+        counted.checked_sub(1)
     }
 
     /// What stands at it, where that is known.
     pub(crate) fn content(&self) -> Option<&Content>
         ensures { option_copied result ≡ self.now.content }
     {
-        self.content.as_ref()
+        self.known.content()
     }
 
     /// Where it came from.
     pub(crate) fn origin(&self) -> Origin
         ensures { result ≡ self.now.origin }
     {
-        if self.is_fed {
+        if self.known.marks().is_fed {
             let session = self.session_high as u128 * HALF + self.session_low as u128;
             Origin::Feed(SessionId(session), self.number)
         } else {
@@ -113,7 +196,7 @@ impl Node {
     pub(crate) fn has_child(&self) -> bool
         ensures { result ≡ self.now.has_child }
     {
-        self.has_child
+        self.known.marks().has_child
     }
 
     /// Tells what stands at it.
@@ -126,12 +209,12 @@ impl Node {
           has_child = self.old.has_child;
         } }
     {
-        self.content = Some(content);
+        self.known = Known::Full(self.known.marks(), self.known.parent(), content);
     }
 
     /// Names its parent, by its place.
     pub(crate) fn name_parent(&mut self, place: usize)
-        requires { place + 1 < 2 ^ 64 }
+        requires { place < MOST_NODES }
         ensures { self.new ≡ record {
           rev = self.old.rev;
           parent = Some place;
@@ -140,7 +223,7 @@ impl Node {
           has_child = self.old.has_child;
         } }
     {
-        self.parent = place + 1;
+        self.known.set(self.known.marks(), (place + 1) as u32);
     }
 
     /// Marks it as the parent of another node.
@@ -153,26 +236,24 @@ impl Node {
           has_child = true;
         } }
     {
-        self.has_child = true;
+        let marks = Marks {
+            is_fed: self.known.marks().is_fed,
+            has_child: true,
+        };
+        self.known.set(marks, self.known.parent());
     }
 
     /// The same node.
     pub(crate) fn copy(&self) -> Result<Node, AllocError>
         ensures { IfOk result (λ n. n ≡ self.now) }
     {
-        let content = match &self.content {
-            Some(content) => Some(content.copy()?),
-            None => None,
-        };
+        let known = self.known.copy()?;
         Ok(Node {
             rev: self.rev,
-            parent: self.parent,
-            content,
+            known,
             session_high: self.session_high,
             session_low: self.session_low,
             number: self.number,
-            is_fed: self.is_fed,
-            has_child: self.has_child,
         })
     }
 }
