@@ -1,5 +1,5 @@
 //! JSON values whose texts stand where they were read.
-ghost use Rattle.std.specs.Prelude.{◌≡◌, option_map, is_some, option_and_then};
+ghost use Rattle.std.specs.Prelude.{◌≡◌, ◌≢◌, IsTrue, length, option_map, is_some, option_and_then};
 ghost use Rattle.std.specs.Str.{bytes_eq};
 ghost use Rattle.serde_json.specs.Find.{get, get_member, as_object, as_array, as_str, as_bool, as_number, as_u64};
 ghost use Rattle.json_values.specs.LineView.{line_view, line_items, line_members};
@@ -103,10 +103,27 @@ fn find<'v, 'a>(members: &'v Vec<(&'a str, LineValue<'a>)>, name: &str) -> Optio
     None
 }
 
-/// Whether two texts are the same. Mostly their lengths tell, which a caller that knows one of them compares at once.
+/// Whether two texts are the same. Mostly their lengths or their last bytes tell, which a caller that knows one of the
+/// texts compares at once.
 #[inline(always)]
 pub fn is_same_text(a: &str, b: &str) -> bool
     ensures { result ≡ bytes_eq a.now b.now }
 {
-    a.len() == b.len() && a == b
+    let (x, y) = (a.as_bytes(), b.as_bytes());
+    if x.len() != y.len() {
+        return false;
+    }
+    if ends_apart(x, y) {
+        return false;
+    }
+    a == b
+}
+
+/// Whether two texts of one length have other last bytes.
+#[inline(always)]
+fn ends_apart(x: &[u8], y: &[u8]) -> bool
+    requires { length x.now ≡ length y.now }
+    ensures { IsTrue result → x.now ≢ y.now }
+{
+    !x.is_empty() && x[x.len() - 1] != y[y.len() - 1]
 }

@@ -23,11 +23,12 @@ pub(crate) enum Members<'a, T> {
 }
 
 impl<'a, T: Drop> Members<'a, T> {
-    /// No members.
-    pub(crate) fn new(alloc: Global) -> Members<'a, T>
-        ensures { entries_of result ≡ [] }
+    /// No members, with room for so many.
+    #[inline(always)]
+    pub(crate) fn new(alloc: Global, room: usize) -> Result<Members<'a, T>, AllocError>
+        ensures { IfOk result (λ members. entries_of members ≡ []) }
     {
-        Members::Listed(Vec::new(alloc))
+        Ok(Members::Listed(Vec::with_capacity(alloc, room)?))
     }
 
     /// Puts a member among those that are there. One of its name keeps its place and takes the value.

@@ -271,6 +271,18 @@ impl<'a> Tokens<'a> {
         true
     }
 
+    /// For how many items or members a list or an object begins with room, where its first is next: most have no more.
+    /// None where it ends at once.
+    #[inline(always)]
+    pub(crate) fn room(&self) -> usize {
+        let next = self.lexer.peek();
+        if (next == b']') | (next == b'}') {
+            0
+        } else {
+            8
+        }
+    }
+
     /// Takes the bracket that ends a list, if it is next.
     #[inline(always)]
     pub(crate) fn take_end_array(&mut self) -> bool

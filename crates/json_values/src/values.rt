@@ -112,7 +112,7 @@ fn read_items<'a>(
     ensures refused { result ≡ Err ReadFault.NotJson
         → converted of_items (items (value depth) (length reader.old) reader.old) ≡ None }
 {
-    let mut found = Vec::new(alloc);
+    let mut found = Vec::with_capacity(alloc, reader.room())?;
     'items: while !reader.take_end_array() {
         let item = read_value(alloc, reader, depth)?;
         found.push(item)?;
@@ -136,7 +136,7 @@ fn read_members<'a>(
     ensures refused { result ≡ Err ReadFault.NotJson
         → converted (λ ms. of_members ms no_members) (members (value depth) (length reader.old) reader.old) ≡ None }
 {
-    let mut found = Members::new(alloc);
+    let mut found = Members::new(alloc, reader.room())?;
     'members: loop {
         let Some(name) = reader.take_key() else {
             let all = end_members(alloc, reader, found)?;

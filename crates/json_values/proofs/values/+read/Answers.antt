@@ -152,7 +152,7 @@ read_items-returns-clause-ok t c =
 
 pub read_members-members-init : goal.read_members-members-init
 read_members-members-init t c =
-    let none = sym c.new-found.ensures in (
+    let none = sym c.in_ok-found.ensures in (
       length c.args.reader.now,
       omega arith,
       omega arith,
