@@ -10,7 +10,7 @@ mod replication;
 mod session;
 
 pub use fault::{Audit, Cause, Reason, Report, Settled, TargetFault};
-pub use logs::auditing::{audit, hole_above};
+pub use logs::auditing::{audit, hole_above, hole_within};
 pub use logs::{checkpoint, rep_between};
 pub use peer::Peer;
 pub use peer::backup::Backup;

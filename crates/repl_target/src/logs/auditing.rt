@@ -69,7 +69,9 @@ pub fn hole_above<F: WriteFilter, G: WriteFilter>(
 }
 
 /// Whether the target covers each leaf of the source's chosen feed above a sequence, and at or under another.
-fn hole_within<F: WriteFilter, G: WriteFilter>(
+///
+/// It reads the feed in pages.
+pub fn hole_within<F: WriteFilter, G: WriteFilter>(
     alloc: Global,
     source: &Peer<F>,
     target: &Peer<G>,
