@@ -13,3 +13,4 @@ pub mod Showing
 pub mod NewSeats
 pub mod RunLaws
 pub mod Syncing
+pub mod Walking

@@ -1,5 +1,5 @@
 //! The end of a run.
-ghost use Rattle.std.specs.Prelude.{◌≡◌, Some, Ok, IfOk, IfErr, OnOk};
+ghost use Rattle.std.specs.Prelude.{◌≡◌, Some, Ok, Err, IfOk, IfErr, OnOk};
 ghost use Rattle.couch_base.specs.Database.{DatabaseValue};
 ghost use Rattle.repl_target.specs.peer.Peer.{SessionValue, session_in};
 ghost use Rattle.doc_json.specs.Chosen.{Choice};
@@ -10,10 +10,10 @@ ghost use Rattle.repl_pool.specs.Runs.{IsConcluded, unfinished_at, IsRecorded, U
 use crate::fault::PoolFault;
 use crate::running::Ran;
 use crate::totals::Summed;
-use repl_target::{
-    Audit, Peer, Plan, Report, TargetFault, WriteFilter, hole_above, record_at_source,
-};
+use crate::walk::walk;
+use repl_target::{Audit, Peer, Plan, Report, TargetFault, WriteFilter, record_at_source};
 use std::alloc::Global;
+use std::thread::Threads;
 
 /// Records at the target, and tells that a run didn't reach its goal.
 fn record<F: WriteFilter>(target: &mut Peer<F>, plan: &Plan) -> PoolFault
@@ -95,7 +95,8 @@ fn put_entry<F: WriteFilter>(
 ///
 /// `Hole` is the first leaf that the target doesn't cover; nothing is put then. `Memory` where the walk or the log
 /// finds none.
-fn walk_and_put<F: WriteFilter>(
+fn walk_and_put<F: WriteFilter + Send + Sync, R: Threads + Sync>(
+    rt: &R,
     alloc: Global,
     source: &mut Peer<F>,
     target: &Peer<F>,
@@ -108,40 +109,39 @@ fn walk_and_put<F: WriteFilter>(
     ensures source { source.new.1 ≡ record source.old.1 { outgoing = source.new.1.outgoing } }
     ensures walks { Walks source.old.1 target.now.1 plan.now start report source.new.1 result }
 {
-    match hole_above(alloc, source, target, start, plan.chosen.as_ref()) {
+    match walk(rt, alloc, source, target, start, plan) {
         Ok(Audit::Hole { seq, id, rev }) => Err(PoolFault::Hole { seq, id, rev }),
         Ok(Audit::Clean) => put_entry(source, target, plan, Ok(report)),
         Err(refused) => put_entry(source, target, plan, Err(PoolFault::from(refused))),
     }
 }
 
-/// Closes a run at both peers, once its workers have ended.
-fn close<F: WriteFilter>(
+/// Closes a run whose session was concluded at the target, or recorded, at the source: walks and puts, or puts alone.
+fn close<F: WriteFilter + Send + Sync, R: Threads + Sync>(
+    rt: &R,
     alloc: Global,
     source: &mut Peer<F>,
-    target: &mut Peer<F>,
+    target: &Peer<F>,
     plan: &Plan,
     start: u64,
-    fault: Option<PoolFault>,
-    complete: bool,
+    concluded: Result<Report, PoolFault>,
 ) -> Result<Report, PoolFault>
-    requires held { (s : SessionValue) × (session_in target.old.1.sessions plan.now.session ≡ Some s) }
+    requires held { (s : SessionValue) × (session_in target.now.1.sessions plan.now.session ≡ Some s) }
     ensures filter { source.new.0 ≡ source.old.0 }
     ensures source { source.new.1 ≡ record source.old.1 { outgoing = source.new.1.outgoing } }
-    ensures grown { (db : DatabaseValue) (c : Choice) → GrownPeer F.refuses db c plan.now.session target.old target.new }
-    ensures ends { Ends plan.now start fault complete source.old.1 target.old.1 source.new.1 target.new.1 result }
+    ensures walks { IfOk concluded (λ report. Walks source.old.1 target.now.1 plan.now start report source.new.1 result) }
+    ensures puts { IfErr concluded
+        (λ why. (result ≡ Err why) × PutsEntry source.old.1 target.now.1 source.new.1 plan.now result) }
 {
-    // These readings tell the proof that the source's database and the target are lawful.
-    let _update_seq = source.db().update_seq();
-    let _uuid = target.db().uuid();
-    match close_target(target, plan, fault, complete) {
-        Ok(report) => walk_and_put(alloc, source, target, plan, start, report),
+    match concluded {
+        Ok(report) => walk_and_put(rt, alloc, source, target, plan, start, report),
         Err(fault) => put_entry(source, target, plan, Err(fault)),
     }
 }
 
 /// Ends a run: both peers are closed, and given back.
-pub fn end<F: WriteFilter>(
+pub fn end<F: WriteFilter + Send + Sync, R: Threads + Sync>(
+    rt: &R,
     alloc: Global,
     source: Peer<F>,
     summed: Summed<F>,
@@ -165,15 +165,11 @@ pub fn end<F: WriteFilter>(
         complete,
     } = summed;
     let mut source = source;
-    let outcome = close(
-        alloc,
-        &mut source,
-        &mut target,
-        plan,
-        start,
-        fault,
-        complete,
-    );
+    // These readings tell the proof that the source's database and the target are lawful.
+    let _update_seq = source.db().update_seq();
+    let _uuid = target.db().uuid();
+    let concluded = close_target(&mut target, plan, fault, complete);
+    let outcome = close(rt, alloc, &mut source, &target, plan, start, concluded);
     Ran {
         source,
         target,

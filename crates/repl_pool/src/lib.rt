@@ -25,6 +25,7 @@ mod show;
 mod start;
 mod threads;
 mod totals;
+mod walk;
 mod windows;
 mod writer;
 

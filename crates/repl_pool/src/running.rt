@@ -69,24 +69,28 @@ struct Shows<'a> {
 
 /// The end of a run whose workers weren't started: memory ran out, or where no fault is given, there was nothing to
 /// read.
-fn without_workers<F: WriteFilter>(
+fn without_workers<F: WriteFilter + Send + Sync, R: Threads + Sync>(
+    rt: &R,
     alloc: Global,
-    source: Peer<F>,
-    target: Peer<F>,
+    begun: Begun<F>,
     plan: &Plan,
-    start: u64,
     seats: Vec<BoardSeat>,
     fault: Option<PoolFault>,
 ) -> Ran<F>
-    requires held { (s : SessionValue) × (session_in target.1.sessions plan.now.session ≡ Some s) }
+    requires held { (s : SessionValue) × (session_in begun.target.1.sessions plan.now.session ≡ Some s) }
     ensures fetched { result.fetched.items ≡ [] }
     ensures seats { result.seats ≡ seats }
-    ensures filter { result.source.0 ≡ source.0 }
-    ensures source { result.source.1 ≡ record source.1 { outgoing = result.source.1.outgoing } }
-    ensures grown { (db : DatabaseValue) (c : Choice) → GrownPeer F.refuses db c plan.now.session target result.target }
-    ensures ends { Ends plan.now start fault (is_none fault) source.1 target.1 result.source.1 result.target.1
+    ensures filter { result.source.0 ≡ begun.source.0 }
+    ensures source { result.source.1 ≡ record begun.source.1 { outgoing = result.source.1.outgoing } }
+    ensures grown { (db : DatabaseValue) (c : Choice) → GrownPeer F.refuses db c plan.now.session begun.target result.target }
+    ensures ends { Ends plan.now begun.start fault (is_none fault) begun.source.1 begun.target.1 result.source.1 result.target.1
         result.outcome }
 {
+    let Begun {
+        source,
+        target,
+        start,
+    } = begun;
     let complete = fault.is_none();
     let summed = Summed {
         target,
@@ -95,7 +99,7 @@ fn without_workers<F: WriteFilter>(
         fault,
         complete,
     };
-    end(alloc, source, summed, plan, start)
+    end(rt, alloc, source, summed, plan, start)
 }
 
 /// Runs the pool over a target whose session has begun at a start.
@@ -135,33 +139,33 @@ fn run_begun<
         (λ _. HaveShown (option_copied shows.entry.board) (sum result.fetched.items) None shows.entry.seats.items
         result.seats.items) }
 {
-    let Begun {
-        source,
-        target,
-        start,
-    } = begun;
     let Shows { board, seats } = shows;
     // These readings tell the proof that the source's database and the target are lawful.
-    let update_seq = source.db().update_seq();
-    let _uuid = target.db().uuid();
-    if start == update_seq {
-        return without_workers(alloc, source, target, plan, start, seats, None);
+    let update_seq = begun.source.db().update_seq();
+    let _uuid = begun.target.db().uuid();
+    if begun.start == update_seq {
+        return without_workers(rt, alloc, begun, plan, seats, None);
     }
     let workers = plan.workers as usize;
     let counts = match Vec::with_capacity(alloc, workers) {
         Ok(counts) => counts,
         Err(refused) => {
             let fault = Some(PoolFault::from(refused));
-            return without_workers(alloc, source, target, plan, start, seats, fault);
+            return without_workers(rt, alloc, begun, plan, seats, fault);
         }
     };
     let (channels, windows, parcels) = match Channels::<S>::open(alloc, 2 * workers) {
         Ok(opened) => opened,
         Err(refused) => {
             let fault = Some(PoolFault::from(refused));
-            return without_workers(alloc, source, target, plan, start, seats, fault);
+            return without_workers(rt, alloc, begun, plan, seats, fault);
         }
     };
+    let Begun {
+        source,
+        target,
+        start,
+    } = begun;
     let (ledger, all) = blank.open::<L>();
     let locked = Mutex::new(RunTarget::<F, S, T, L>::open(target, plan.session, ledger));
     let context = Context {
@@ -184,7 +188,7 @@ fn run_begun<
     let (ended, seats) = context.with_workers(workers, start, owned);
     let locked = locked.into_inner();
     let summed = collect(alloc, &channels, gate, board, locked, ended, seats);
-    end(alloc, source, summed, plan, start)
+    end(rt, alloc, source, summed, plan, start)
 }
 
 /// A run with a board, where the writers show what they do, or without one: `run_on`, `run`.

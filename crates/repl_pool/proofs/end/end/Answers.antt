@@ -1,5 +1,15 @@
-use Rattle.std.proofs.Common.{rules}
+use Rattle.std.proofs.Common.{subst}
+use Rattle.couch_base.specs.Database.{LawfulDatabase}
+use Rattle.repl_pool.proofs.Closing.{ends_either}
+use Rattle.repl_pool.proofs.Ending.{held_grown}
 use Rattle.repl_pool.proofs.end.end.Goals as goal
 
+pub close-outcome-requires-clause-held : goal.close-outcome-requires-clause-held
+close-outcome-requires-clause-held g c κs within =
+    held_grown g.F.WriteFilter.refuses c.args.source.1.db c.args.plan.now.chosen c.args.summed.target c.close_target-concluded.new.target c.args.plan.now.session (subst LawfulDatabase c.db.ensures.value c.update_seq-update_seq.ensures.law) c.db-2.ensures.law.sessions
+    (c.close_target-concluded.ensures.grown c.args.source.1.db c.args.plan.now.chosen) c.requires.held
+
 pub returns-clause-ends : goal.returns-clause-ends
-returns-clause-ends g c = search rules
+returns-clause-ends g c =
+    ends_either c.args.plan.now c.args.start c.args.summed.fault c.args.summed.complete c.args.source.1 c.args.summed.target.1 c.close-outcome.new.source.1 c.close_target-concluded.new.target.1 c.close_target-concluded.result c.close-outcome.result
+    c.close_target-concluded.ensures.ok c.close_target-concluded.ensures.err c.close-outcome.ensures.walks c.close-outcome.ensures.puts

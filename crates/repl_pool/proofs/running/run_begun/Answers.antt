@@ -8,19 +8,19 @@ use Rattle.repl_pool.proofs.Ending.{grown_then, held_grown}
 use Rattle.repl_pool.proofs.RunLaws.{given_grown, no_workers, nothing_read, ends_free}
 use Rattle.repl_pool.proofs.running.run_begun.Goals as goal
 
-pub returns-then-start-update_seq-clause-grown : goal.returns-then-start-update_seq-clause-grown
-returns-then-start-update_seq-clause-grown g c = c.without_workers.ensures.grown c.args.begun.source.1.db c.args.plan.now.chosen
+pub returns-then-begun-update_seq-clause-grown : goal.returns-then-begun-update_seq-clause-grown
+returns-then-begun-update_seq-clause-grown g c = c.without_workers.ensures.grown c.args.begun.source.1.db c.args.plan.now.chosen
 
-pub returns-then-start-update_seq-clause-ends : goal.returns-then-start-update_seq-clause-ends
-returns-then-start-update_seq-clause-ends g c =
+pub returns-then-begun-update_seq-clause-ends : goal.returns-then-begun-update_seq-clause-ends
+returns-then-begun-update_seq-clause-ends g c =
     nothing_read g.F.WriteFilter.refuses (MayFill (option_copied c.args.shows.board)) (g.G.Gate.may_stop c.args.gate.now) _ _ _ c.args.begun.target _ _ _ _ c.requires.none c.without_workers.ensures.fetched c.without_workers.ensures.ends
 
-pub returns-then-start-update_seq-clause-back : goal.returns-then-start-update_seq-clause-back
-returns-then-start-update_seq-clause-back g c =
+pub returns-then-begun-update_seq-clause-back : goal.returns-then-begun-update_seq-clause-back
+returns-then-begun-update_seq-clause-back g c =
     back_is (option_copied c.args.shows.board) c.args.shows.seats.items _ (seats_seated (option_copied c.args.shows.board) 0 c.args.plan.now.workers c.args.shows.seats.items c.requires.seats) (ap vec_items (sym c.without_workers.ensures.seats))
 
-pub returns-then-start-update_seq-clause-shown : goal.returns-then-start-update_seq-clause-shown
-returns-then-start-update_seq-clause-shown g c =
+pub returns-then-begun-update_seq-clause-shown : goal.returns-then-begun-update_seq-clause-shown
+returns-then-begun-update_seq-clause-shown g c =
     let r = c.without_workers.result in
     let shows = HaveShown (option_copied c.args.shows.board) (sum r.fetched.items) None c.args.shows.seats.items in
     ends_free _ _ _ _ _ _ _ _ r.outcome (shows r.seats.items) c.without_workers.ensures.ends
@@ -63,14 +63,11 @@ returns-clause-ends g c =
       ends = c.end.ensures.ends;
     }
 
-pub end-requires : goal.end-requires
-end-requires g c =
+pub end-requires-clause-held : goal.end-requires-clause-held
+end-requires-clause-held g c κs within =
     let d = c.collect-summed.ensures.target in
-    record {
-      held =
-          held_grown g.F.WriteFilter.refuses c.args.begun.source.1.db c.args.plan.now.chosen c.args.begun.target c.collect-summed.result.target c.args.plan.now.session (subst LawfulDatabase c.db.ensures.value c.update_seq-update_seq.ensures.law) c.db-2.ensures.law.sessions
-          (given_grown g.F.WriteFilter.refuses c.args.begun.source.1.db g.S.SourceBrand.source c.requires.source c.args.plan.now.chosen g.S.SourceBrand.chosen c.requires.chosen c.args.begun.target c.args.plan.now.session g.T.TargetBrand.given c.requires.given d.0 d.1 c.collect-summed.result.target d.2).0 c.requires.held;
-    }
+    held_grown g.F.WriteFilter.refuses c.args.begun.source.1.db c.args.plan.now.chosen c.args.begun.target c.collect-summed.result.target c.args.plan.now.session (subst LawfulDatabase c.db.ensures.value c.update_seq-update_seq.ensures.law) c.db-2.ensures.law.sessions
+    (given_grown g.F.WriteFilter.refuses c.args.begun.source.1.db g.S.SourceBrand.source c.requires.source c.args.plan.now.chosen g.S.SourceBrand.chosen c.requires.chosen c.args.begun.target c.args.plan.now.session g.T.TargetBrand.given c.requires.given d.0 d.1 c.collect-summed.result.target d.2).0 c.requires.held
 
 pub returns-in-Err-clause-back : goal.returns-in-Err-clause-back
 returns-in-Err-clause-back g c =

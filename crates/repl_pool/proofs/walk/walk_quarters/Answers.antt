@@ -1,0 +1,25 @@
+use Rattle.std.proofs.Common.{◌≡◌, ◌+◌, ◌-◌, ◌/◌, sym, subst, ◌∙◌}
+use Rattle.std.specs.Option.{option_or}
+use Rattle.std.proofs.lemmas.Result.{IfOk-weaker}
+use Rattle.couch_base.specs.Database.{LawfulDatabase}
+use Rattle.couch_base.specs.Feed.{chosen_feed}
+use Rattle.repl_target.specs.logs.Audit.{hole_of}
+use Rattle.repl_target.specs.peer.Covered.{first_uncovered}
+use Rattle.repl_pool.proofs.Walking.{hole_cut, middle_above, middle_under}
+use Rattle.repl_pool.proofs.walk.walk_quarters.Goals as goal
+
+pub returns : goal.returns
+returns g c =
+    let db = c.args.source.now.1.db in
+    let target = c.args.target.now.1 in
+    let chosen = c.args.plan.now.chosen in
+    let since = c.args.since in
+    let upto = c.args.upto in
+    let middle = since + (upto - since) / 2 in
+    let law = subst LawfulDatabase c.db.ensures.value c.update_seq-update_seq.ensures.law in
+    let cut = hole_cut target db chosen since middle upto law (middle_above since upto) (middle_under since upto c.requires) in
+    IfOk-weaker c.first_of.result
+    (λ a. hole_of a ≡ option_or (first_uncovered target (chosen_feed chosen db since middle)) (first_uncovered target (chosen_feed chosen db middle upto)))
+    (λ a. hole_of a ≡ first_uncovered target (chosen_feed chosen db since upto))
+    (λ a e. e ∙ sym cut)
+    (c.first_of.ensures _ _ c.join-first.ensures.first c.join-first.ensures.second)
