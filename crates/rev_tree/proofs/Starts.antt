@@ -1,5 +1,5 @@
 -- No nodes, and the tree of no revisions.
-use Rattle.std.proofs.Common.{[], sym, ap, ◌∙◌, is_some, refl, arith}
+use Rattle.std.proofs.Common.{[], sym, ap, ◌∙◌, is_some, refl}
 use Rattle.std.proofs.lemmas.Bool.{and_parts, false≢true}
 use Rattle.std.specs.FinMap.{get-empty}
 use Rattle.rev_core.specs.Rev.{rev_cmp}
@@ -7,7 +7,7 @@ use Rattle.rev_tree.specs.Tree.{IsTree, has, no_revisions}
 use Rattle.rev_tree.specs.Nodes.{IsIndexed}
 
 pub IsIndexed-none : IsIndexed [] []
-IsIndexed-none = record { index = refl; linked = record { once = tt; each = λ r n h. absurd (false≢true (ap is_some h)) }; few = omega arith }
+IsIndexed-none = record { index = refl; linked = record { once = tt; each = λ r n h. absurd (false≢true (ap is_some h)) } }
 
 pub IsTree-none : IsTree no_revisions
 IsTree-none = record {

@@ -19,16 +19,12 @@ pub record NodeValue : Type 0 where
 
 -- what is kept in one place
 abbrev pub marks_of : Known → Marks
-marks_of (Bare marks parent) = marks
-marks_of (Full marks parent content) = marks
-
-abbrev pub counted_parent : Known → ℕ
-counted_parent (Bare marks parent) = parent
-counted_parent (Full marks parent content) = parent
+marks_of (Bare marks) = marks
+marks_of (Full marks content) = marks
 
 abbrev pub content_of : Known → Option ContentValue
-content_of (Bare marks parent) = None
-content_of (Full marks parent content) = Some content
+content_of (Bare marks) = None
+content_of (Full marks content) = Some content
 
 -- a place or none, counted from 1
 abbrev pub parent_of : ℕ → Option ℕ

@@ -11,7 +11,6 @@ use Rattle.rev_tree.specs.Node.{NodeValue}
 use Rattle.rev_tree.specs.Index.{index_for}
 use Rattle.rev_tree.specs.Room.{HasIndexRoom}
 use Rattle.rev_tree.specs.Steps.{with_rev}
-use Rattle.rev_tree.specs.declared.node.TheConstants.{MOST_NODES}
 use Rattle.rev_tree.specs.declared.origin.Origin.{Origin}
 
 -- the revisions, by place
@@ -86,7 +85,6 @@ goes_before n (Some best) = is_lt (ordering_then (bool_cmp (deletes n) (deletes 
 pub record IsIndexed (nodes : List NodeValue) (entries : List (ℕ × ℕ)) : Type 0 where
   pub index : entries ≡ index_for (revs_in nodes)
   pub linked : IsLinked nodes
-  pub few : length nodes ≤ MOST_NODES
 
 -- nodes, and how many they and their places may become with no memory more
 pub record NodesValue : Type 0 where

@@ -1,10 +1,9 @@
 //! A node of a tree: a revision with what the tree knows of it.
-ghost use Rattle.std.specs.Prelude.{◌≡◌, ◌<◌, Some, None, IfOk, true, false};
+ghost use Rattle.std.specs.Prelude.{◌≡◌, ◌+◌, ◌<◌, ◌^◌, Some, None, IfOk, true, false};
 ghost use Rattle.std.specs.Option.{option_copied};
 ghost use Rattle.std.specs.Ordering.{eq_by_cmp};
 ghost use Rattle.rev_core.specs.Rev.{rev_cmp};
-ghost use Rattle.rev_tree.specs.Node.{marks_of, counted_parent, content_of};
-ghost use Rattle.rev_tree.specs.declared.node.TheConstants.{MOST_NODES};
+ghost use Rattle.rev_tree.specs.Node.{marks_of, content_of};
 
 use crate::content::Content;
 use crate::origin::{Origin, SessionId};
@@ -16,16 +15,14 @@ use std::marker::Model;
 /// How many numbers of 64 bits there are: each half of a session's number is one of them.
 const HALF: u128 = 1 << 64;
 
-/// The most nodes of a tree, so that the place of one is kept in 32 bits.
-pub(crate) const MOST_NODES: usize = 4_294_967_295;
-
-/// A revision, where it came from, and what else a tree knows of it.
+/// A revision, the place of its parent where one is known, where it came from, and what else a tree knows of it.
 ///
-/// There may be very many, so they are kept small. A session's number is kept in halves: a `u128` stands at multiples
-/// of 16 bytes.
+/// There may be very many, so they are kept small. The parent's place is counted from 1, and 0 where none is known: an
+/// `Option` takes a word more. A session's number is kept in halves: a `u128` stands at multiples of 16 bytes.
 #[derive(Drop)]
 pub(crate) struct Node {
     rev: Rev,
+    parent: usize,
     known: Known,
     session_high: u64,
     session_low: u64,
@@ -39,14 +36,13 @@ pub(crate) struct Marks {
     has_child: bool,
 }
 
-/// The marks of a node, the place of its parent, counted from 1, or 0 where none is known, and what stands at it where
-/// that is known.
+/// The marks of a node, and what stands at it where that is known.
 ///
-/// They are one enum, since the marks and the place lie in the room that its own tag leaves free.
+/// They are one enum, since the marks lie in the room that its own tag leaves free.
 #[derive(Drop)]
 pub(crate) enum Known {
-    Bare(Marks, u32),
-    Full(Marks, u32, Content),
+    Bare(Marks),
+    Full(Marks, Content),
 }
 
 impl Known {
@@ -55,18 +51,8 @@ impl Known {
         ensures { result ≡ marks_of self.now }
     {
         match self {
-            Known::Bare(marks, _) => *marks,
-            Known::Full(marks, _, _) => *marks,
-        }
-    }
-
-    /// The place of the parent, counted from 1, or 0.
-    fn parent(&self) -> u32
-        ensures { result ≡ counted_parent self.now }
-    {
-        match self {
-            Known::Bare(_, parent) => *parent,
-            Known::Full(_, parent, _) => *parent,
+            Known::Bare(marks) => *marks,
+            Known::Full(marks, _) => *marks,
         }
     }
 
@@ -75,26 +61,19 @@ impl Known {
         ensures { option_copied result ≡ content_of self.now }
     {
         match self {
-            Known::Bare(_, _) => None,
-            Known::Full(_, _, content) => Some(content),
+            Known::Bare(_) => None,
+            Known::Full(_, content) => Some(content),
         }
     }
 
-    /// Takes other marks and another parent.
-    fn set(&mut self, marks: Marks, parent: u32)
+    /// Takes other marks.
+    fn mark(&mut self, marks: Marks)
         ensures marks { marks_of self.new ≡ marks }
-        ensures parent { counted_parent self.new ≡ parent }
         ensures content { content_of self.new ≡ content_of self.old }
     {
         match self {
-            Known::Bare(old_marks, old_parent) => {
-                *old_marks = marks;
-                *old_parent = parent;
-            }
-            Known::Full(old_marks, old_parent, _) => {
-                *old_marks = marks;
-                *old_parent = parent;
-            }
+            Known::Bare(old) => *old = marks,
+            Known::Full(old, _) => *old = marks,
         }
     }
 
@@ -103,23 +82,23 @@ impl Known {
         ensures { IfOk result (λ k. k ≡ self.now) }
     {
         match self {
-            Known::Bare(marks, parent) => Ok(Known::Bare(*marks, *parent)),
-            Known::Full(marks, parent, content) => {
+            Known::Bare(marks) => Ok(Known::Bare(*marks)),
+            Known::Full(marks, content) => {
                 let content = content.copy()?;
-                Ok(Known::Full(*marks, *parent, content))
+                Ok(Known::Full(*marks, content))
             }
         }
     }
 }
 
 impl Model for Node {
-    ghost use Rattle.rev_tree.specs.Node.{NodeValue, parent_of, origin_of, marks_of, counted_parent, content_of};
+    ghost use Rattle.rev_tree.specs.Node.{NodeValue, parent_of, origin_of, marks_of, content_of};
 
     ghost Value = { NodeValue };
 
     ghost view = { λ n. record {
       rev = n.rev;
-      parent = parent_of (counted_parent n.known);
+      parent = parent_of n.parent;
       content = content_of n.known;
       origin = origin_of (marks_of n.known).is_fed n.session_high n.session_low n.number;
       has_child = (marks_of n.known).has_child;
@@ -141,7 +120,8 @@ impl Node {
         };
         Node {
             rev,
-            known: Known::Bare(marks, 0),
+            parent: 0,
+            known: Known::Bare(marks),
             session_high: (session / HALF) as u64,
             session_low: (session % HALF) as u64,
             number,
@@ -169,8 +149,7 @@ impl Node {
     pub(crate) fn parent(&self) -> Option<usize>
         ensures { result ≡ self.now.parent }
     {
-        let counted = self.known.parent() as usize;
-        counted.checked_sub(1)
+        self.parent.checked_sub(1)
     }
 
     /// What stands at it, where that is known.
@@ -209,12 +188,12 @@ impl Node {
           has_child = self.old.has_child;
         } }
     {
-        self.known = Known::Full(self.known.marks(), self.known.parent(), content);
+        self.known = Known::Full(self.known.marks(), content);
     }
 
     /// Names its parent, by its place.
     pub(crate) fn name_parent(&mut self, place: usize)
-        requires { place < MOST_NODES }
+        requires { place + 1 < 2 ^ 64 }
         ensures { self.new ≡ record {
           rev = self.old.rev;
           parent = Some place;
@@ -223,7 +202,7 @@ impl Node {
           has_child = self.old.has_child;
         } }
     {
-        self.known.set(self.known.marks(), (place + 1) as u32);
+        self.parent = place + 1;
     }
 
     /// Marks it as the parent of another node.
@@ -240,7 +219,7 @@ impl Node {
             is_fed: self.known.marks().is_fed,
             has_child: true,
         };
-        self.known.set(marks, self.known.parent());
+        self.known.mark(marks);
     }
 
     /// The same node.
@@ -250,6 +229,7 @@ impl Node {
         let known = self.known.copy()?;
         Ok(Node {
             rev: self.rev,
+            parent: self.parent,
             known,
             session_high: self.session_high,
             session_low: self.session_low,

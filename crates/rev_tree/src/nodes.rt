@@ -7,7 +7,7 @@ ghost use Rattle.rev_tree.specs.Steps.{with_edge, with_content};
 ghost use Rattle.rev_tree.specs.declared.nodes.TheConstants.{MOST_WALKED};
 
 use crate::content::Content;
-use crate::node::{MOST_NODES, Node};
+use crate::node::Node;
 use crate::origin::Origin;
 use crate::place_index::Places;
 use rev_core::Rev;
@@ -32,15 +32,14 @@ pub(crate) struct Nodes {
 }
 
 impl Model for Nodes {
-    ghost use Rattle.std.specs.Prelude.{◌+◌, length, min, vec_capacity};
-    ghost use Rattle.rev_tree.specs.declared.node.TheConstants.{MOST_NODES};
+    ghost use Rattle.std.specs.Prelude.{◌+◌, length, vec_capacity};
     ghost use Rattle.rev_tree.specs.Nodes.{NodesValue, IsIndexed};
 
     ghost Value = { NodesValue };
 
     ghost view = { λ n. record {
       items = n.list.items;
-      capacity = min (vec_capacity n.list) MOST_NODES;
+      capacity = vec_capacity n.list;
       index_capacity = length n.places.entries + n.places.spare;
     } };
 
@@ -99,16 +98,12 @@ impl Nodes {
         walked_to(&self.list, rev)
     }
 
-    /// Makes room for the revisions of an ancestry, known ones too, and for no more where all together are few. There is
-    /// none for more than `MOST_NODES`.
+    /// Makes room for the revisions of an ancestry, known ones too, and for no more where all together are few.
     pub(crate) fn make_room(&mut self, revs: &[Rev]) -> Result<(), AllocError>
         ensures items { self.new.items ≡ self.old.items }
         ensures room { OnOk result (HasRoom self.new (length revs.now)) }
     {
         let all = self.list.as_slice().len() + revs.len();
-        if all > MOST_NODES {
-            return Err(AllocError);
-        }
         reserve_nodes(&mut self.list, revs)?;
         reserve_index(*self.list.allocator(), &mut self.places, all)
     }

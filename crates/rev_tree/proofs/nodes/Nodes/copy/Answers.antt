@@ -1,4 +1,4 @@
-use Rattle.std.proofs.Common.{length, sym, ap, ◌∙◌, subst, arith}
+use Rattle.std.proofs.Common.{sym, ap, ◌∙◌, subst}
 use Rattle.rev_tree.specs.Index.{index_for}
 use Rattle.rev_tree.specs.Nodes.{IsLinked, revs_in}
 use Rattle.rev_tree.proofs.nodes.Nodes.copy.Goals as goal
@@ -8,5 +8,4 @@ invariant_of-result c =
     record {
       index = c.in_ok-places.ensures ∙ ap (λ l. index_for (revs_in l)) c.deref-2.ensures.value;
       linked = subst IsLinked (sym (c.in_ok-list.ensures ∙ c.deref.ensures.value)) c.self.invariant.linked;
-      few = omega (arith, c.self.invariant.few, ap length (c.in_ok-list.ensures ∙ c.deref.ensures.value));
     }

@@ -1,4 +1,4 @@
-use Rattle.std.proofs.Common.{◌≡◌, ◌<◌, Some, is_some, not, set, length, length-set, slice_get, sym, ap, ◌∙◌, subst, arith}
+use Rattle.std.proofs.Common.{◌≡◌, ◌<◌, Some, is_some, not, set, length, slice_get, sym, ap, ◌∙◌, subst}
 use Rattle.rev_tree.specs.Index.{index_for}
 use Rattle.rev_tree.specs.Node.{NodeValue}
 use Rattle.rev_tree.specs.Nodes.{revs_in, tree_of}
@@ -19,7 +19,7 @@ gives c =
     given items c.args.place n c.give.new.self c.args.content c.self.invariant.linked (read_at items c.args.place n low c.index_mut.ensures.value) none c.give.ensures
 
 pub invariant_of-self : goal.invariant_of-self
-invariant_of-self c = record { index = c.self.invariant.index ∙ ap index_for (sym (gives c.before).revs); linked = (gives c.before).linked; few = omega (arith, c.self.invariant.few, length-set c.self.inside.list.items c.args.place c.give.new.self) }
+invariant_of-self c = record { index = c.self.invariant.index ∙ ap index_for (sym (gives c.before).revs); linked = (gives c.before).linked }
 
 pub returns-then-is_none-clause-tree : goal.returns-then-is_none-clause-tree
 returns-then-is_none-clause-tree c r is = (gives c.before).tree r (ap (λ v. slice_get (revs_in v.items) c.args.place) c.self.view_is ∙ is) ∙ ap (λ v. with_content (tree_of v.items) r c.args.content) c.self.view_is

@@ -23,7 +23,7 @@ links c =
     c.mark.ensures
 
 pub invariant_of-self : goal.invariant_of-self
-invariant_of-self c = record { index = c.self.invariant.index ∙ ap index_for (sym (links c.before).revs); linked = (links c.before).linked; few = omega (arith, c.self.invariant.few, length-set c.self.inside.list.items c.args.child c.name_parent.new.self, length-set (set c.self.inside.list.items c.args.child c.name_parent.new.self) c.args.parent c.mark.new.self) }
+invariant_of-self c = record { index = c.self.invariant.index ∙ ap index_for (sym (links c.before).revs); linked = (links c.before).linked }
 
 pub returns-then-is_none-clause-tree : goal.returns-then-is_none-clause-tree
 returns-then-is_none-clause-tree c child parent is at =

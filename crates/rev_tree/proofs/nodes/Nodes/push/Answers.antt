@@ -1,4 +1,4 @@
-use Rattle.std.proofs.Common.{◌≡◌, ◌++◌, ◌∷◌, [], None, length, take, slice_get, sym, ap, ◌∙◌, subst, rules, arith, length-append}
+use Rattle.std.proofs.Common.{◌≡◌, ◌++◌, ◌∷◌, [], None, length, take, slice_get, sym, ap, ◌∙◌, subst, rules}
 use Rattle.std.proofs.Math.Seq.{take-append_seam}
 use Rattle.rev_tree.specs.Index.{index_for}
 use Rattle.rev_tree.specs.Nodes.{place_of, revs_in, tree_of}
@@ -24,7 +24,7 @@ index_rest-requires-clause-begun c =
     c.self.invariant.index ∙ ap (λ l. index_for (revs_in l)) (sym first)
 
 pub invariant_of-self : goal.invariant_of-self
-invariant_of-self c = record { index = c.index_rest.ensures.index ∙ ap (λ l. index_for (revs_in l)) c.deref.ensures.value; linked = (adds c).linked; few = omega (arith, c.requires.room.nodes, ap (λ v. v.capacity) c.self.view_is, ap (λ v. length v.items) c.self.view_is, ap length c.push_reserved.ensures.items, length-append c.self.inside.list.items (c.new.result ∷ [])) }
+invariant_of-self c = record { index = c.index_rest.ensures.index ∙ ap (λ l. index_for (revs_in l)) c.deref.ensures.value; linked = (adds c).linked }
 
 pub returns-clause-gained : goal.returns-clause-gained
 returns-clause-gained c =
