@@ -8,7 +8,6 @@ use serde_json::Number;
 
 /// A JSON value whose texts stand in the line that it was read from, or beside it where they were escaped. Members
 /// stand in byte order of their names, each name once.
-#[derive(Drop)]
 pub enum LineValue<'a> {
     Null,
     Bool(bool),
@@ -16,6 +15,36 @@ pub enum LineValue<'a> {
     String(&'a str),
     Array(Vec<LineValue<'a>>),
     Object(Vec<(&'a str, LineValue<'a>)>),
+}
+
+// By hand, so that a value that owns no memory is let go of without a call.
+impl<'a> Drop for LineValue<'a> {
+    #[cycle(dropping)]
+    #[inline(always)]
+    fn drop(self) {
+        match self {
+            LineValue::Null => {}
+            LineValue::Bool(_) => {}
+            LineValue::Number(_) => {}
+            LineValue::String(_) => {}
+            LineValue::Array(items) => drop_items(items),
+            LineValue::Object(members) => drop_members(members),
+        }
+    }
+}
+
+/// Lets go of the items of a list.
+#[cycle(dropping)]
+#[inline(never)]
+fn drop_items(items: Vec<LineValue<'_>>) {
+    let _items = items;
+}
+
+/// Lets go of the members of an object.
+#[cycle(dropping)]
+#[inline(never)]
+fn drop_members(members: Vec<(&str, LineValue<'_>)>) {
+    let _members = members;
 }
 
 impl<'a> LineValue<'a> {
