@@ -56,9 +56,9 @@ fn read_no_text<'a>(
     }
 }
 
-/// The same, where it may be neither.
+/// The same, where it may be neither. It is a call, so that what comes before it is small enough to be none.
 #[cycle(read)]
-#[inline(always)]
+#[inline(never)]
 fn read_other<'a>(
     alloc: Global,
     reader: &mut Tokens<'a>,
