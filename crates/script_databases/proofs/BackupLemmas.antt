@@ -1,7 +1,6 @@
 -- Copies under names.
-use Rattle.std.proofs.Common.{◌≡◌, ◌⊎◌, inl, inr, ℕ, zero, suc, ◌+◌, ◌<◌, Bool, true, false, cond, List, [], ◌∷◌, ◌++◌, take, get_or, length, slice_get, Option, Some, None, is_some, Result, Ok, Err, OnOk, OnErr, Bor, nat_lt, ◌==◌, refl, sym, ap, ◌∙◌, subst}
+use Rattle.std.proofs.Common.{◌≡◌, ◌⊎◌, inl, inr, ℕ, zero, suc, ◌+◌, ◌<◌, Bool, true, false, cond, List, [], ◌∷◌, ◌++◌, take, get_or, length, slice_get, Option, Some, None, is_some, Result, Ok, Err, nat_lt, ◌==◌, refl, sym, ap, ◌∙◌}
 use Rattle.std.specs.List.{find}
-use Rattle.std.specs.FinMap as finmap
 use Rattle.std.proofs.lemmas.Bool.{cond_both, eqb-true}
 use Rattle.std.proofs.lemmas.List.{take_more}
 use Rattle.std.proofs.lemmas.Option.{slice_get-get_or}
@@ -12,12 +11,8 @@ use Rattle.couch_base.specs.Database.{most}
 use Rattle.repl_target.specs.peer.Backups.{BackupValue, is_target, greater_life, restore_answer, restored_by, after_restore}
 use Rattle.repl_target.specs.declared.fault.TargetFault.{TargetFault}
 use Rattle.repl_target.specs.declared.fault.TargetFault.TheVariants as faults
-use Rattle.script_databases.specs.Databases.{State, put_back_by, backed_of, backed_told}
-use Rattle.script_databases.specs.Stored.{IsIndex}
-use Rattle.script_databases.proofs.IndexLemmas.{index_kept}
-use Rattle.script_databases.specs.declared.refusal.Refusal.{Refusal}
+use Rattle.script_databases.specs.Databases.{backed_of, backed_told}
 use Rattle.script_databases.specs.declared.refusal.Refusal.TheVariants as why
-use Rattle.std.specs.Option.{option_copied}
 
 -- ---- looking for one
 
@@ -68,20 +63,7 @@ restore_keeps b p = go (restore_answer p b) refl
         (λ _ j. cond_both (b.db.uuid == p.db.uuid) (cond (nat_lt (greater_life p b) most) (Ok tt) (Err faults.LifeFull)) (Err faults.ForeignBackup) (λ (x : Result (Unit {0}) TargetFault). x ≡ Ok done → b.db.uuid ≡ p.db.uuid) (λ e _. eqb-true _ _ e) (λ _ i. cc) j)
         k
 
-pub index_put_back : {A : Type 0} (r : Result A Refusal) (old new : State) (name : List ℕ) (o : Option BackupValue) (uuids : List ℕ) → IsIndex old uuids → OnOk r (new ≡ put_back_by old name o) → OnErr r (new ≡ old) → IsIndex new uuids
-index_put_back (Ok x) old new name None uuids h ok err = subst (λ s. IsIndex s uuids) (sym ok) h
-index_put_back (Ok x) old new name (Some b) uuids h ok err = index_kept {A = Unit {0}} (Ok tt) old new name (λ p. after_restore p b) uuids (restore_keeps b) h ok tt
-index_put_back (Err w) old new name o uuids h ok err = subst (λ s. IsIndex s uuids) (sym err) h
-
 -- ---- making one
-
-pub some_copied : {A : Type 0} (o : Option (Bor A)) → is_some o ≡ is_some (option_copied o)
-some_copied None = refl
-some_copied (Some x) = refl
-
-pub none_from : {A : Type 0} (o : Option A) → is_some o ≡ false → o ≡ None
-none_from None h = refl
-none_from (Some x) h = cc
 
 -- a name that is taken
 pub taken_refused : (p : PeerValue) (o : Option BackupValue) → is_some o ≡ true → backed_told (backed_of (Some p) o) ≡ Err why.BackupExists

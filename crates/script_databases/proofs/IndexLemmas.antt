@@ -1,27 +1,27 @@
 -- The numbers of the databases' UUIDs, beside the databases.
-use Rattle.std.proofs.Common.{◌≡◌, ℕ, Bool, true, false, cond, List, [], refl, sym, ap, subst, ◌∙◌, Option, Some, None, Result, Ok, Err}
-use Rattle.std.specs.Prelude.{nat_eq, OnOk, OnErr, option_map}
+use Rattle.std.proofs.Common.{◌≡◌, ℕ, Bool, true, false, cond, List, [], refl, sym, ap, ◌∙◌, Option, Some, None, Result, Ok, Err}
+use Rattle.std.specs.Prelude.{nat_eq, option_map}
 use Rattle.std.specs.List.{list_any}
 use Rattle.std.specs.Cmp.{Equal-is}
 use Rattle.std.specs.Ordering.{eq_by_cmp, is_eq}
 use Rattle.std.specs.Map.{lookup}
 use Rattle.std.specs.FinMap.{get, insert, get-insert, get-empty}
-use Rattle.std.proofs.lemmas.Bool.{true≢false, eqb-true, eq-eqb}
+use Rattle.std.proofs.lemmas.Bool.{cond_both, true≢false, eqb-true, eq-eqb}
 use Rattle.std.proofs.lemmas.Cmp.{nat_list_cmp_total, tied_itself}
 use Rattle.std.proofs.lemmas.Map.Text.{is_text}
 use Rattle.rev_core.specs.Rev.{RevId}
 use Rattle.doc_json.specs.Document.{Document}
+use Rattle.rev_tree.specs.declared.origin.Origin.{Origin}
+use Rattle.couch_base.specs.Database.{DatabaseValue}
 use Rattle.couch_base.specs.Edit.{edited, edit_document}
+use Rattle.couch_base.specs.Put.{after_put, put_answer, is_changed}
 use Rattle.couch_base.specs.ListLaws.{some_is, none_some}
 use Rattle.couch_base.specs.declared.fault.BaseFault.{BaseFault}
 use Rattle.repl_target.specs.peer.Peer.{PeerValue}
 use Rattle.repl_target.specs.peer.Writing.{after_edit, after_load, load_edited, next_local}
-use Rattle.repl_target.specs.declared.peer.filter.Rules.{Rules}
-use Rattle.script_databases.specs.Databases.{State, peer_at, with_peer, IsTaken, text_cmp, changed_at, with_changed}
-use Rattle.script_databases.specs.declared.refusal.Refusal.{Refusal}
-use Rattle.script_databases.specs.Stored.{Beside, Entries, peers_of, state_of, IsIndex, AllDeny, deny_of, denied_of}
+use Rattle.script_databases.specs.Databases.{State, peer_at, with_peer, IsTaken, text_cmp}
+use Rattle.script_databases.specs.Stored.{Beside, Entries, peers_of, state_of, IsIndex, AllDeny, denied_of}
 use Rattle.script_databases.proofs.TableLemmas.{text_cmp-IsAntisymmetric, get-by_text}
-use Rattle.script_databases.proofs.UuidLemmas.{put_keeps}
 
 -- ---- looking up
 
@@ -33,9 +33,9 @@ found_at g es s q e = sym (get-by_text (λ p. p.1) es q) ∙ ap (λ t. peer_at t
 pub state_with : (g : Beside) (old new : Entries) (name : List ℕ) (u : PeerValue) → peers_of new ≡ insert (peers_of old) name u → state_of g new ≡ with_peer (state_of g old) name u
 state_with g old new name u e = ap (λ m. let s : State = record { program = g.program; drawn = g.drawn; backups = g.backups; peers = m } in s) e
 
-pub same_state : {A : Type 0} (g : Beside) (r : Result A Refusal) (old new : Entries) → OnErr r (peers_of new ≡ peers_of old) → OnErr r (state_of g new ≡ state_of g old)
-same_state g (Ok x) old new e = tt
-same_state g (Err why) old new e = ap (λ m. let s : State = record { program = g.program; drawn = g.drawn; backups = g.backups; peers = m } in s) e
+-- a table with the same peers
+pub state_at : (g : Beside) (old new : Entries) → peers_of new ≡ peers_of old → state_of g new ≡ state_of g old
+state_at g old new e = ap (λ m. let s : State = record { program = g.program; drawn = g.drawn; backups = g.backups; peers = m } in s) e
 
 -- ---- no databases
 
@@ -108,19 +108,10 @@ index_written old new name l m uuids index there is e = record {
       (λ same. index.taken u (t.0, t.1, sym same ∙ found, t.3));
 }
 
--- a change that keeps the UUID keeps the numbers
-index_changed : (old new : State) (name : List ℕ) (f : PeerValue → PeerValue) (uuids : List ℕ) → ((l : PeerValue) → (f l).db.uuid ≡ l.db.uuid) → IsIndex old uuids → new ≡ changed_at old name f → IsIndex new uuids
-index_changed old new name f uuids keeps index is = by (peer_at old name) refl
-  where
-    by : (o : Option PeerValue) → peer_at old name ≡ o → IsIndex new uuids
-    by None e = subst (λ s. IsIndex s uuids) (sym (is ∙ ap (with_changed old name f) e)) index
-    by (Some l) e = index_written old new name l (f l) uuids index e (is ∙ ap (with_changed old name f) e) (keeps l)
-
-pub index_kept : {A : Type 0} (r : Result A Refusal) (old new : State) (name : List ℕ) (f : PeerValue → PeerValue) (uuids : List ℕ) → ((l : PeerValue) → (f l).db.uuid ≡ l.db.uuid) → IsIndex old uuids → OnOk r (new ≡ changed_at old name f) → OnErr r (new ≡ old) → IsIndex new uuids
-index_kept (Ok x) old new name f uuids keeps index ok err = index_changed old new name f uuids keeps index ok
-index_kept (Err e) old new name f uuids keeps index ok err = subst (λ s. IsIndex s uuids) (sym err) index
-
 -- ---- neither a load nor an edit changes the UUID
+
+put_keeps : (db : DatabaseValue) (d : Document) (o : Origin) → (after_put db d o).uuid ≡ db.uuid
+put_keeps db d o = cond_both (is_changed (put_answer db d)) _ db (λ (x : DatabaseValue). x.uuid ≡ db.uuid) (λ _. refl) (λ _. refl)
 
 pub load_keeps : (d : Document) (l : PeerValue) → (after_load l d).db.uuid ≡ l.db.uuid
 load_keeps d l = put_keeps l.db d (next_local l)
@@ -145,12 +136,3 @@ deny_added deny old new name d all e is = λ q found h.
 
 pub deny_kept : (deny : Option (List ℕ)) (old new : Entries) → AllDeny deny old → denied_of new ≡ denied_of old → AllDeny deny new
 deny_kept deny old new all e = λ q found h. all q found (sym (ap (λ m. get m q) e) ∙ h)
-
--- one was added, or nothing was changed
-pub kept_or_added : {A E : Type 0} (r : Result A E) (g : Beside) (old new : Entries) (name : List ℕ) (p : Rules × PeerValue) (uuids more : List ℕ) → IsIndex (state_of g old) uuids → AllDeny g.program.deny old → peer_at (state_of g old) name ≡ None → deny_of p.0 ≡ g.program.deny →
-    OnOk r (peers_of new ≡ insert (peers_of old) name p.1) → OnOk r (denied_of new ≡ insert (denied_of old) name (deny_of p.0)) → OnOk r ((q : ℕ) → list_any (nat_eq q) more ≡ cond (nat_eq p.1.db.uuid q) true (list_any (nat_eq q) uuids)) →
-    OnErr r ((new ≡ old) × (more ≡ uuids)) → IsIndex (state_of g new) more × AllDeny g.program.deny new
-kept_or_added (Ok x) g old new name p uuids more index all absent denies peers filters noted err =
-    (index_added (state_of g old) (state_of g new) name p.1 uuids more p.1.db.uuid index absent (state_with g old new name p.1 peers) refl noted, deny_added g.program.deny old new name (deny_of p.0) all denies filters)
-kept_or_added (Err e) g old new name p uuids more index all absent denies peers filters noted err =
-    (subst (λ es. IsIndex (state_of g es) more) (sym err.0) (subst (λ us. IsIndex (state_of g old) us) (sym err.1) index), deny_kept g.program.deny old new all (ap denied_of err.0))

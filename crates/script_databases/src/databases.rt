@@ -7,7 +7,6 @@ ghost use Rattle.script_databases.specs.Stored.{IsIndex, AllDeny, beside_of, pro
 
 use crate::backups::{NamedBackup, find_backup};
 use crate::made_ids::MadeIds;
-use crate::named::{add_at, edit_at, load_at, put_back_at};
 use crate::pair::{find_both, put_in, take_out};
 use crate::refusal::Refusal;
 use crate::settings::Settings;
@@ -158,7 +157,12 @@ impl Databases {
         ensures ok { OnOk result (self.new ≡ with_peer self.old name.now peer.1) }
         ensures err { OnErr result (self.new ≡ self.old) }
     {
-        add_at(&mut self.by_name, &mut self.uuids, alloc, name, peer)
+        let key = String::from_str(alloc, name)?;
+        let uuid = peer.db().uuid();
+        self.by_name.reserve(1)?;
+        self.uuids.insert(uuid)?;
+        self.by_name.insert(key, peer)?;
+        Ok(())
     }
 
     /// Loads a document into the database of a name. `NoDatabase` where none has it; else what the database refuses.
@@ -167,7 +171,11 @@ impl Databases {
         ensures ok { OnOk result (self.new ≡ loaded_at self.old name.now doc.now) }
         ensures err { OnErr result (self.new ≡ self.old) }
     {
-        load_at(&mut self.by_name, name, doc)
+        let Some(peer) = self.by_name.get_mut(name) else {
+            return Err(Refusal::NoDatabase);
+        };
+        let put = peer.load(doc)?;
+        Ok(put)
     }
 
     /// Edits a document of the database of a name. `NoDatabase` where none has it; else what the database refuses.
@@ -184,7 +192,12 @@ impl Databases {
         ensures ok { OnOk result (self.new ≡ edited_at self.old name.now id.now parent deleted body.now) }
         ensures err { OnErr result (self.new ≡ self.old) }
     {
-        edit_at(&mut self.by_name, name, id, parent, deleted, body)
+        let Some(peer) = self.by_name.get_mut(name) else {
+            return Err(Refusal::NoDatabase);
+        };
+        let rev = peer.edit(id, parent, deleted, body)?;
+        let seq = peer.db().update_seq();
+        Ok(Edited { rev, seq })
     }
 
     /// Keeps a copy of the database `db` under a name of its own, and answers the copy's update sequence (docs/PROFILE.md,
@@ -224,7 +237,16 @@ impl Databases {
         ensures ok { OnOk result (self.new ≡ put_back_by self.old db.now (backup_at self.old db.now name.now)) }
         ensures err { OnErr result (self.new ≡ self.old) }
     {
-        put_back_at(&mut self.by_name, &self.backups, db, name)
+        let Some(peer) = self.by_name.get_mut(db) else {
+            return Err(Refusal::NoDatabase);
+        };
+        let Some(backup) = find_backup(&self.backups, db, name) else {
+            return Err(Refusal::NoBackup);
+        };
+        peer.restore(backup)?;
+        let seq = peer.db().update_seq();
+        let life = peer.db().life();
+        Ok(PutBack { seq, life })
     }
 
     /// Replicates from the database of one name into that of another by the pool, through the gate that is always open.
@@ -311,6 +333,8 @@ impl Databases {
         let (sender, receiver) = find_both(&self.by_name, source, target);
         check_peers(sender, receiver, plan)?;
         let (mut sender, mut receiver) = take_out(&mut self.by_name, alloc, source, target);
+        sender.law();
+        receiver.law();
         let outcome = replicate_alone(alloc, &mut sender, &mut receiver, plan);
         put_in(&mut self.by_name, source, target, sender, receiver);
         outcome

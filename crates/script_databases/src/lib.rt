@@ -6,7 +6,6 @@
 mod backups;
 mod databases;
 mod made_ids;
-mod named;
 mod pair;
 mod refusal;
 mod settings;

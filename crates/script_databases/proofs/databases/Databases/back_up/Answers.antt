@@ -1,6 +1,8 @@
 use Rattle.std.proofs.Common.{◌≡◌, inl, inr, Bor, List, [], ◌∷◌, ◌++◌, Option, Some, None, is_some, Ok, Err, sym, ap, ◌∙◌}
 use Rattle.std.specs.Prelude.{option_map}
 use Rattle.std.specs.Option.{option_copied}
+use Rattle.rev_tree.proofs.Lookups.{is_some-copied}
+use Rattle.rev_tree.proofs.Places.{none_of}
 use Rattle.couch_base.specs.Database.{DatabaseValue}
 use Rattle.repl_target.specs.peer.Peer.{PeerValue}
 use Rattle.repl_target.specs.peer.Backups.{backup_answer}
@@ -9,7 +11,7 @@ use Rattle.script_databases.specs.Databases.{State, NamedBackupValue, peer_at, b
 use Rattle.script_databases.specs.Refusals.{told_as, target_refusal}
 use Rattle.script_databases.specs.Stored.{beside_of, state_of}
 use Rattle.script_databases.proofs.IndexLemmas.{found_at}
-use Rattle.script_databases.proofs.BackupLemmas.{copy_refused, some_copied, none_from, taken_refused}
+use Rattle.script_databases.proofs.BackupLemmas.{copy_refused, taken_refused}
 use Rattle.script_databases.proofs.databases.Databases.back_up.Goals as goal
 
 pub returns-in_default-clause-answer : goal.returns-in_default-clause-answer
@@ -27,7 +29,7 @@ returns-then-is_some-clause-answer c =
     let there : peer_at c.args.self.now c.args.db.now ≡ Some p = sym found ∙ ap (λ (o : Option (Bor (Rules × PeerValue))). option_map (λ (p : Rules × PeerValue). p.1) (option_copied o)) c.in-Some.is in
     let kept = sym (c.find_backup.ensures ∙ ap (λ (ks : List NamedBackupValue). backup_among ks c.args.db.now c.args.name.now) c.deref.ensures.value ∙ ap (λ (s : State). backup_at s c.args.db.now c.args.name.now) c.self.view_is) in
     inl (ap (λ o. backed_told (backed_of o (backup_at c.args.self.now c.args.db.now c.args.name.now))) there
-    ∙ taken_refused p (backup_at c.args.self.now c.args.db.now c.args.name.now) (ap (λ o. is_some o) kept ∙ sym (some_copied c.find_backup.result) ∙ sym c.is_some.ensures ∙ c.if-is_some.true))
+    ∙ taken_refused p (backup_at c.args.self.now c.args.db.now c.args.name.now) (ap (λ o. is_some o) kept ∙ sym (is_some-copied c.find_backup.result) ∙ sym c.is_some.ensures ∙ c.if-is_some.true))
 
 pub returns-in-Err-clause-answer : goal.returns-in-Err-clause-answer
 returns-in-Err-clause-answer c =
@@ -36,7 +38,7 @@ returns-in-Err-clause-answer c =
     let p = c.in-Some.peer.now.1 in
     let there : peer_at c.args.self.now c.args.db.now ≡ Some p = sym found ∙ ap (λ (o : Option (Bor (Rules × PeerValue))). option_map (λ (p : Rules × PeerValue). p.1) (option_copied o)) c.in-Some.is in
     let kept = sym (c.find_backup.ensures ∙ ap (λ (ks : List NamedBackupValue). backup_among ks c.args.db.now c.args.name.now) c.deref.ensures.value ∙ ap (λ (s : State). backup_at s c.args.db.now c.args.name.now) c.self.view_is) in
-    let free : backup_at c.args.self.now c.args.db.now c.args.name.now ≡ None = kept ∙ none_from (option_copied c.find_backup.result) (sym (some_copied c.find_backup.result) ∙ sym c.is_some.ensures ∙ c.if-is_some.false) in
+    let free : backup_at c.args.self.now c.args.db.now c.args.name.now ≡ None = kept ∙ none_of (option_copied c.find_backup.result) (sym (is_some-copied c.find_backup.result) ∙ sym c.is_some.ensures ∙ c.if-is_some.false) in
     let is : backed_answer c.args.self.now c.args.db.now c.args.name.now ≡ told_as target_refusal (backup_answer p) = (λ i. backed_of (there i) (free i)) in
     elim (copy_refused c.in-Err.fault (backup_answer p) c.in-Err.ensures) [
       | inl e ↦ inl (ap backed_told is ∙ ap (λ r. backed_told (told_as target_refusal r)) e ∙ ap (λ r. Err r) (sym c.from.ensures))
@@ -50,7 +52,7 @@ returns-clause-answer c =
     let p = c.in-Some.peer.now.1 in
     let there : peer_at c.args.self.now c.args.db.now ≡ Some p = sym found ∙ ap (λ (o : Option (Bor (Rules × PeerValue))). option_map (λ (p : Rules × PeerValue). p.1) (option_copied o)) c.in-Some.is in
     let kept = sym (c.find_backup.ensures ∙ ap (λ (ks : List NamedBackupValue). backup_among ks c.args.db.now c.args.name.now) c.deref.ensures.value ∙ ap (λ (s : State). backup_at s c.args.db.now c.args.name.now) c.self.view_is) in
-    let free : backup_at c.args.self.now c.args.db.now c.args.name.now ≡ None = kept ∙ none_from (option_copied c.find_backup.result) (sym (some_copied c.find_backup.result) ∙ sym c.is_some.ensures ∙ c.if-is_some.false) in
+    let free : backup_at c.args.self.now c.args.db.now c.args.name.now ≡ None = kept ∙ none_of (option_copied c.find_backup.result) (sym (is_some-copied c.find_backup.result) ∙ sym c.is_some.ensures ∙ c.if-is_some.false) in
     let is : backed_answer c.args.self.now c.args.db.now c.args.name.now ≡ told_as target_refusal (backup_answer p) = (λ i. backed_of (there i) (free i)) in
     let seq = c.update_seq-seq.ensures.seq ∙ ap (λ (d : DatabaseValue). d.update_seq) c.db.ensures.value in
     ap backed_told is ∙ ap (λ r. backed_told (told_as target_refusal r)) (sym c.in-Ok.ensures) ∙ ap (λ n. Ok n) (sym seq)
@@ -62,7 +64,7 @@ returns-clause-ok c =
     let p = c.in-Some.peer.now.1 in
     let there : peer_at c.args.self.now c.args.db.now ≡ Some p = sym found ∙ ap (λ (o : Option (Bor (Rules × PeerValue))). option_map (λ (p : Rules × PeerValue). p.1) (option_copied o)) c.in-Some.is in
     let kept = sym (c.find_backup.ensures ∙ ap (λ (ks : List NamedBackupValue). backup_among ks c.args.db.now c.args.name.now) c.deref.ensures.value ∙ ap (λ (s : State). backup_at s c.args.db.now c.args.name.now) c.self.view_is) in
-    let free : backup_at c.args.self.now c.args.db.now c.args.name.now ≡ None = kept ∙ none_from (option_copied c.find_backup.result) (sym (some_copied c.find_backup.result) ∙ sym c.is_some.ensures ∙ c.if-is_some.false) in
+    let free : backup_at c.args.self.now c.args.db.now c.args.name.now ≡ None = kept ∙ none_of (option_copied c.find_backup.result) (sym (is_some-copied c.find_backup.result) ∙ sym c.is_some.ensures ∙ c.if-is_some.false) in
     let is : backed_answer c.args.self.now c.args.db.now c.args.name.now ≡ told_as target_refusal (backup_answer p) = (λ i. backed_of (there i) (free i)) in
     let made = is ∙ ap (told_as target_refusal) (sym c.in-Ok.ensures) in
     ap (λ (ks : List NamedBackupValue). state_of (beside_of c.self.inside.settings c.self.inside.drawn ks) c.self.inside.by_name.entries) (c.in_ok-push.ensures.items ∙ ap (λ (k : NamedBackupValue). c.self.inside.backups.items ++ k ∷ []) c.in_ok-copy.ensures)

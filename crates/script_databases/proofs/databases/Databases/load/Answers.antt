@@ -1,19 +1,60 @@
-use Rattle.std.proofs.Common.{◌≡◌, subst}
-use Rattle.std.specs.Prelude.{OnOk}
-use Rattle.script_databases.specs.Databases.{State, loaded_at}
+use Rattle.std.proofs.Common.{◌≡◌, Err, inl, sym, ap, ◌∙◌, rules, subst}
+use Rattle.std.proofs.lemmas.Result.{err_from_is_err_and}
+use Rattle.repl_target.specs.peer.Peer.{PeerValue}
 use Rattle.repl_target.specs.peer.Writing.{after_load}
+use Rattle.script_databases.specs.Databases.{State, load_answer, loaded_at, peer_at}
+use Rattle.script_databases.specs.Refusals.{GivesOrMemory, base_refusal, told_as}
 use Rattle.script_databases.specs.Stored.{beside_of, state_of}
-use Rattle.script_databases.proofs.IndexLemmas.{index_kept, deny_kept, same_state, load_keeps}
+use Rattle.script_databases.proofs.IndexLemmas.{load_keeps}
+use Rattle.script_databases.proofs.NamedLemmas.{on_err, peer_absent, peer_there, put_refused, state_changed, state_stays, tables_stay}
 use Rattle.script_databases.proofs.databases.Databases.load.Goals as goal
 
-pub invariant_of-self : goal.invariant_of-self
-invariant_of-self c =
+pub returns-in_default-clause-answer : goal.returns-in_default-clause-answer
+returns-in_default-clause-answer c =
     let g = beside_of c.self.inside.settings c.self.inside.drawn c.self.inside.backups.items in
-    let old = c.self.inside.by_name.entries in
-    let new = c.load_at.new.names.entries in
-    (index_kept c.load_at.result (state_of g old) (state_of g new) c.args.name.now (λ l. after_load l c.args.doc.now) c.self.inside.uuids.keys (load_keeps c.args.doc.now) c.self.invariant.0 (c.load_at.ensures.ok g) (same_state g c.load_at.result old new c.load_at.ensures.err), deny_kept g.program.deny old new c.self.invariant.1 c.load_at.ensures.filters)
+    inl (ap (λ o. load_answer o c.args.doc.now) (ap (λ (s : State). peer_at s c.args.name.now) (sym c.self.view_is) ∙ peer_absent g c.self.inside.by_name.entries c.args.name.now c.in_default.ensures.value))
+
+pub returns-clause-answer : goal.returns-clause-answer
+returns-clause-answer c =
+    let g = beside_of c.self.inside.settings c.self.inside.drawn c.self.inside.backups.items in
+    let there = ap (λ (s : State). peer_at s c.args.name.now) (sym c.self.view_is) ∙ peer_there g c.self.inside.by_name.entries c.args.name.now c.in-Some.peer.now c.in-Some.ensures.value in
+    ap (λ o. load_answer o c.args.doc.now) there ∙ ap (told_as base_refusal) (sym c.in_ok-put.ensures.answer)
 
 pub returns-clause-ok : goal.returns-clause-ok
 returns-clause-ok c =
     let g = beside_of c.self.inside.settings c.self.inside.drawn c.self.inside.backups.items in
-    subst (λ (s : State). OnOk c.load_at.result (state_of g c.load_at.new.names.entries ≡ loaded_at s c.args.name.now c.args.doc.now)) c.self.view_is (c.load_at.ensures.ok g)
+    let u = c.load.new.self in
+    let left = c.get_mut.follows.lender u in
+    subst (λ (s : State). state_of g left.entries ≡ loaded_at s c.args.name.now c.args.doc.now) c.self.view_is
+    (state_changed g c.self.inside.by_name left c.args.name.now c.in-Some.peer.now u c.in-Some.ensures.value ((c.get_mut.follows.holds u).3 (search rules)) (λ l. after_load l c.args.doc.now) c.in_ok-put.ensures.ok)
+
+pub invariant_of-self-2 : goal.invariant_of-self-2
+invariant_of-self-2 c =
+    let g = beside_of c.self.inside.settings c.self.inside.drawn c.self.inside.backups.items in
+    let l = c.in-Some.peer.now in
+    let u = c.load.new.self in
+    tables_stay g c.self.inside.by_name (c.get_mut.follows.lender u) c.args.name.now l u c.in-Some.ensures.value ((c.get_mut.follows.holds u).3 (search rules)) c.self.inside.uuids.keys
+    (ap (λ (p : PeerValue). p.db.uuid) c.in_ok-put.ensures.ok ∙ load_keeps c.args.doc.now l.1) c.load.ensures.filter c.self.invariant
+
+pub returns-in_err-put-clause-answer : goal.returns-in_err-put-clause-answer
+returns-in_err-put-clause-answer c =
+    let g = beside_of c.self.inside.settings c.self.inside.drawn c.self.inside.backups.items in
+    let fault = c.in_err-put.field-0.0 in
+    let there = ap (λ (s : State). peer_at s c.args.name.now) (sym c.self.view_is) ∙ peer_there g c.self.inside.by_name.entries c.args.name.now c.in-Some.peer.now c.in-Some.ensures.value in
+    let told = err_from_is_err_and c.from_residual.result c.from_residual.ensures.1 in
+    subst (λ r. GivesOrMemory r (load_answer (peer_at c.args.self.now c.args.name.now) c.args.doc.now)) (sym (told.1 ∙ ap Err told.2))
+    (subst (λ o. GivesOrMemory (Err (base_refusal fault)) (load_answer o c.args.doc.now)) (sym there) (put_refused fault _ c.in_err-put.ensures.answer))
+
+pub returns-in_err-put-clause-err : goal.returns-in_err-put-clause-err
+returns-in_err-put-clause-err c =
+    let g = beside_of c.self.inside.settings c.self.inside.drawn c.self.inside.backups.items in
+    let u = c.load.new.self in
+    on_err c.from_residual.result
+    (state_stays g c.self.inside.by_name (c.get_mut.follows.lender u) c.args.name.now c.in-Some.peer.now u c.in-Some.ensures.value ((c.get_mut.follows.holds u).3 (search rules)) c.in_err-put.ensures.err ∙ c.self.view_is)
+
+pub invariant_of-self-in_err-put : goal.invariant_of-self-in_err-put
+invariant_of-self-in_err-put c =
+    let g = beside_of c.self.inside.settings c.self.inside.drawn c.self.inside.backups.items in
+    let u = c.load.new.self in
+    tables_stay g c.self.inside.by_name (c.get_mut.follows.lender u) c.args.name.now c.in-Some.peer.now u c.in-Some.ensures.value ((c.get_mut.follows.holds u).3 (search rules)) c.self.inside.uuids.keys
+    (ap (λ (p : PeerValue). p.db.uuid) c.in_err-put.ensures.err) c.load.ensures.filter c.self.invariant

@@ -1,21 +1,101 @@
-use Rattle.std.proofs.Common.{◌≡◌, List, subst}
-use Rattle.std.specs.Prelude.{OnOk}
-use Rattle.script_databases.specs.Databases.{State, NamedBackupValue, backup_among, backup_at, put_back_by}
+use Rattle.std.proofs.Common.{◌≡◌, List, Ok, Err, inl, inr, refl, sym, ap, ◌∙◌, rules, subst}
+use Rattle.std.proofs.lemmas.Result.{err_from_is_err_and}
+use Rattle.std.specs.Option.{option_copied}
+use Rattle.couch_base.specs.Database.{DatabaseValue}
+use Rattle.repl_target.specs.peer.Peer.{PeerValue}
+use Rattle.repl_target.specs.peer.Backups.{restored, restored_by, after_restore, restore_answer}
+use Rattle.script_databases.specs.Databases.{NamedBackupValue, State, backup_among, backup_at, peer_at, put_back_answer, put_back_by, put_back_of}
+use Rattle.script_databases.specs.Refusals.{GivesOrMemory, target_refusal, told_as}
 use Rattle.script_databases.specs.Stored.{beside_of, state_of}
-use Rattle.script_databases.proofs.IndexLemmas.{deny_kept, same_state}
-use Rattle.script_databases.proofs.BackupLemmas.{index_put_back}
+use Rattle.script_databases.proofs.BackupLemmas.{copy_refused, restore_keeps}
+use Rattle.script_databases.proofs.NamedLemmas.{on_err, peer_absent, peer_there, state_changed, state_stays, tables_stay}
 use Rattle.script_databases.proofs.databases.Databases.put_back.Goals as goal
 
-pub invariant_of-self : goal.invariant_of-self
-invariant_of-self c =
+pub returns-in_default-clause-answer : goal.returns-in_default-clause-answer
+returns-in_default-clause-answer c =
     let g = beside_of c.self.inside.settings c.self.inside.drawn c.self.inside.backups.items in
-    let old = c.self.inside.by_name.entries in
-    let new = c.put_back_at.new.names.entries in
-    (index_put_back c.put_back_at.result (state_of g old) (state_of g new) c.args.db.now (backup_among c.deref.result.now c.args.db.now c.args.name.now) c.self.inside.uuids.keys c.self.invariant.0 (c.put_back_at.ensures.ok g) (same_state g c.put_back_at.result old new c.put_back_at.ensures.err), deny_kept g.program.deny old new c.self.invariant.1 c.put_back_at.ensures.filters)
+    inl (ap (λ o. put_back_answer o (backup_at c.args.self.now c.args.db.now c.args.name.now)) (ap (λ (s : State). peer_at s c.args.db.now) (sym c.self.view_is) ∙ peer_absent g c.self.inside.by_name.entries c.args.db.now c.in_default.ensures.value))
+
+pub returns-in_default-find_backup-clause-answer : goal.returns-in_default-find_backup-clause-answer
+returns-in_default-find_backup-clause-answer c =
+    let g = beside_of c.self.inside.settings c.self.inside.drawn c.self.inside.backups.items in
+    let there = ap (λ (s : State). peer_at s c.args.db.now) (sym c.self.view_is) ∙ peer_there g c.self.inside.by_name.entries c.args.db.now c.in-Some.peer.now c.in-Some.ensures.value in
+    let kept = sym (c.find_backup.ensures ∙ ap (λ (ks : List NamedBackupValue). backup_among ks c.args.db.now c.args.name.now) c.deref.ensures.value ∙ ap (λ (s : State). backup_at s c.args.db.now c.args.name.now) c.self.view_is) in
+    let none = kept ∙ ap option_copied c.in_default-find_backup.is in
+    inl (λ i. put_back_answer (there i) (none i))
+
+pub returns-in_default-find_backup-clause-err : goal.returns-in_default-find_backup-clause-err
+returns-in_default-find_backup-clause-err c =
+    let g = beside_of c.self.inside.settings c.self.inside.drawn c.self.inside.backups.items in
+    let u = c.in-Some.peer.now in
+    state_stays g c.self.inside.by_name (c.get_mut.follows.lender u) c.args.db.now u u c.in-Some.ensures.value ((c.get_mut.follows.holds u).3 (search rules)) refl ∙ c.self.view_is
+
+pub invariant_of-self-in_default-find_backup : goal.invariant_of-self-in_default-find_backup
+invariant_of-self-in_default-find_backup c =
+    let g = beside_of c.self.inside.settings c.self.inside.drawn c.self.inside.backups.items in
+    let u = c.in-Some.peer.now in
+    tables_stay g c.self.inside.by_name (c.get_mut.follows.lender u) c.args.db.now u u c.in-Some.ensures.value ((c.get_mut.follows.holds u).3 (search rules)) c.self.inside.uuids.keys refl refl c.self.invariant
+
+pub returns-in_err-restore-clause-answer : goal.returns-in_err-restore-clause-answer
+returns-in_err-restore-clause-answer c =
+    let g = beside_of c.self.inside.settings c.self.inside.drawn c.self.inside.backups.items in
+    let p = c.in-Some.peer.now.1 in
+    let b = c.in-Some-find_backup.backup.now in
+    let fault = c.in_err-restore.field-0.0 in
+    let there = ap (λ (s : State). peer_at s c.args.db.now) (sym c.self.view_is) ∙ peer_there g c.self.inside.by_name.entries c.args.db.now c.in-Some.peer.now c.in-Some.ensures.value in
+    let kept = sym (c.find_backup.ensures ∙ ap (λ (ks : List NamedBackupValue). backup_among ks c.args.db.now c.args.name.now) c.deref.ensures.value ∙ ap (λ (s : State). backup_at s c.args.db.now c.args.name.now) c.self.view_is) in
+    let told = err_from_is_err_and c.from_residual.result c.from_residual.ensures.1 in
+    let is : put_back_answer (peer_at c.args.self.now c.args.db.now) (backup_at c.args.self.now c.args.db.now c.args.name.now) ≡ put_back_of (restored p b) (told_as target_refusal (restore_answer p b)) =
+    (λ i. put_back_answer (there i) ((kept ∙ ap option_copied c.in-Some-find_backup.is) i)) in
+    subst (λ r. GivesOrMemory r (put_back_answer (peer_at c.args.self.now c.args.db.now) (backup_at c.args.self.now c.args.db.now c.args.name.now))) (sym (told.1 ∙ ap Err told.2))
+    (elim (copy_refused fault (restore_answer p b) c.in_err-restore.ensures.answer) [
+      | inl e ↦ inl (is ∙ ap (λ r. put_back_of (restored p b) (told_as target_refusal r)) e)
+      | inr m ↦ inr (ap target_refusal m)
+    ])
+
+pub returns-in_err-restore-clause-err : goal.returns-in_err-restore-clause-err
+returns-in_err-restore-clause-err c =
+    let g = beside_of c.self.inside.settings c.self.inside.drawn c.self.inside.backups.items in
+    let u = c.restore.new.self in
+    on_err c.from_residual.result
+    (state_stays g c.self.inside.by_name (c.get_mut.follows.lender u) c.args.db.now c.in-Some.peer.now u c.in-Some.ensures.value ((c.get_mut.follows.holds u).3 (search rules)) c.in_err-restore.ensures.err ∙ c.self.view_is)
+
+pub invariant_of-self-in_err-restore : goal.invariant_of-self-in_err-restore
+invariant_of-self-in_err-restore c =
+    let g = beside_of c.self.inside.settings c.self.inside.drawn c.self.inside.backups.items in
+    let u = c.restore.new.self in
+    tables_stay g c.self.inside.by_name (c.get_mut.follows.lender u) c.args.db.now c.in-Some.peer.now u c.in-Some.ensures.value ((c.get_mut.follows.holds u).3 (search rules)) c.self.inside.uuids.keys
+    (ap (λ (p : PeerValue). p.db.uuid) c.in_err-restore.ensures.err) c.restore.ensures.filter c.self.invariant
+
+pub returns-clause-answer : goal.returns-clause-answer
+returns-clause-answer c =
+    let g = beside_of c.self.inside.settings c.self.inside.drawn c.self.inside.backups.items in
+    let p = c.in-Some.peer.now.1 in
+    let b = c.in-Some-find_backup.backup.now in
+    let there = ap (λ (s : State). peer_at s c.args.db.now) (sym c.self.view_is) ∙ peer_there g c.self.inside.by_name.entries c.args.db.now c.in-Some.peer.now c.in-Some.ensures.value in
+    let kept = sym (c.find_backup.ensures ∙ ap (λ (ks : List NamedBackupValue). backup_among ks c.args.db.now c.args.name.now) c.deref.ensures.value ∙ ap (λ (s : State). backup_at s c.args.db.now c.args.name.now) c.self.view_is) in
+    let left : c.restore.new.self.1 ≡ restored p b = c.in_ok-restore.ensures.ok ∙ ap (restored_by p b) (sym c.in_ok-restore.ensures.answer) in
+    let seq = c.update_seq-seq.ensures.seq ∙ ap (λ (d : DatabaseValue). d.update_seq) c.db.ensures.value ∙ ap (λ (q : PeerValue). q.db.update_seq) left in
+    let life = c.life-life.ensures.value ∙ ap (λ (d : DatabaseValue). d.life) c.db-2.ensures.value ∙ ap (λ (q : PeerValue). q.db.life) left in
+    (λ i. put_back_answer (there i) ((kept ∙ ap option_copied c.in-Some-find_backup.is) i))
+    ∙ ap (λ r. put_back_of (restored p b) (told_as target_refusal r)) (sym c.in_ok-restore.ensures.answer)
+    ∙ (λ i. Ok (record { seq = sym seq i; life = sym life i }))
 
 pub returns-clause-ok : goal.returns-clause-ok
 returns-clause-ok c =
     let g = beside_of c.self.inside.settings c.self.inside.drawn c.self.inside.backups.items in
-    let new = c.put_back_at.new.names.entries in
-    subst (λ (s : State). OnOk c.put_back_at.result (state_of g new ≡ put_back_by s c.args.db.now (backup_at s c.args.db.now c.args.name.now))) c.self.view_is
-    (subst (λ (ks : List NamedBackupValue). OnOk c.put_back_at.result (state_of g new ≡ put_back_by (state_of g c.self.inside.by_name.entries) c.args.db.now (backup_among ks c.args.db.now c.args.name.now))) c.deref.ensures.value (c.put_back_at.ensures.ok g))
+    let u = c.restore.new.self in
+    let left = c.get_mut.follows.lender u in
+    let b = c.in-Some-find_backup.backup.now in
+    let kept = sym (c.find_backup.ensures ∙ ap (λ (ks : List NamedBackupValue). backup_among ks c.args.db.now c.args.name.now) c.deref.ensures.value ∙ ap (λ (s : State). backup_at s c.args.db.now c.args.name.now) c.self.view_is) in
+    subst (λ (s : State). state_of g left.entries ≡ put_back_by s c.args.db.now (backup_at c.args.self.now c.args.db.now c.args.name.now)) c.self.view_is
+    (state_changed g c.self.inside.by_name left c.args.db.now c.in-Some.peer.now u c.in-Some.ensures.value ((c.get_mut.follows.holds u).3 (search rules)) (λ l. after_restore l b) c.in_ok-restore.ensures.ok
+    ∙ sym (ap (put_back_by (state_of g c.self.inside.by_name.entries) c.args.db.now) (kept ∙ ap option_copied c.in-Some-find_backup.is)))
+
+pub invariant_of-self-2 : goal.invariant_of-self-2
+invariant_of-self-2 c =
+    let g = beside_of c.self.inside.settings c.self.inside.drawn c.self.inside.backups.items in
+    let l = c.in-Some.peer.now in
+    let u = c.restore.new.self in
+    tables_stay g c.self.inside.by_name (c.get_mut.follows.lender u) c.args.db.now l u c.in-Some.ensures.value ((c.get_mut.follows.holds u).3 (search rules)) c.self.inside.uuids.keys
+    (ap (λ (p : PeerValue). p.db.uuid) c.in_ok-restore.ensures.ok ∙ restore_keeps c.in-Some-find_backup.backup.now l.1) c.restore.ensures.filter c.self.invariant

@@ -1,12 +1,13 @@
 use Rattle.std.proofs.Common.{Err, sym, ap, subst, ◌∙◌}
 use Rattle.std.proofs.lemmas.Result.{err_from_is_err_and}
 use Rattle.std.specs.FinMap.{contains_key}
+use Rattle.repl_target.specs.peer.Peer.{PeerValue}
 use Rattle.repl_target.specs.replication.Replication.{Replicates}
+use Rattle.repl_target.proofs.lemmas.replication.ReplicationAsCalls.{left_law, replicates_left}
 use Rattle.script_databases.specs.Databases.{State}
 use Rattle.script_databases.specs.Replications.{ReplicatesAlone, ReplicatesBetween}
 use Rattle.script_databases.specs.Stored.{beside_of, deny_of, peers_of, state_of}
 use Rattle.script_databases.proofs.ReplicationLemmas.{alone_refused, deny_left, has_source, has_target, index_left, plan_names, refuses_is, state_left}
-use Rattle.script_databases.proofs.UuidLemmas.{source_keeps, target_keeps}
 use Rattle.script_databases.proofs.databases.Databases.replicate_alone.Goals as goal
 
 pub take_out-sender-requires-clause-two : goal.take_out-sender-requires-clause-two
@@ -54,7 +55,7 @@ invariant_of-self c =
     let ran = c.replicate_alone-outcome.ensures in
     let result = c.replicate_alone-outcome.result in (
       index_left (state_of g es) (state_of g new) a b s.1 t.1 s'.1 t'.1 c.self.inside.uuids.keys (plan_names (peers_of es) a b _ _ plan c.find_both.ensures.source c.find_both.ensures.target.0 (sym c.in_ok-check_peers.ensures)) there.0 there'.0
-          (source_keeps _ s.1 t.1 s'.1 t'.1 plan result ran.replicates) (target_keeps _ s.1 t.1 s'.1 t'.1 plan result ran.replicates)
+          (ap (λ (p : PeerValue). p.db.uuid) ran.source) (left_law _ s.1 t.1 plan t'.1 c.law.ensures.database c.law-2.ensures.peer.sessions (replicates_left _ s.1 t.1 plan result s'.1 t'.1 ran.replicates)).1.db.uuid
           (state_left g es mid new a b left.0.1 left.1.1 s'.1 t'.1 left.2 c.put_in.ensures.peers) c.self.invariant.0,
       deny_left g.program.deny es mid new a b (deny_of left.0.0) (deny_of left.1.0) (deny_of s.0) (deny_of t.0) (deny_of s'.0) (deny_of t'.0) left.3 c.put_in.ensures.filters
           (ap deny_of ran.filters.0) (ap deny_of ran.filters.1) there.1 there'.1 c.self.invariant.1,
