@@ -1,9 +1,6 @@
 -- ASCII, sixteen bytes at a time, of which the last may overlap those before.
-use Rattle.std.proofs.Common.{◌≡◌, ℕ, suc, Bool, true, false, not, cond, leb-false, drop, refl, sym, take-add, [], ◌∷◌, ◌++◌, ◌+◌, ◌-◌, ◌<◌, ◌≤◌, ◌⊎◌, inl, inr, List, length, take, get_or, ap, subst, ◌∙◌, arith}
-use Rattle.std.specs.Str.{IsAscii, IsUtf8}
-use Rattle.std.specs.List.{prefix_len}
-use Rattle.json_values.specs.Utf8.{is_high, is_low}
-use Rattle.std.proofs.lemmas.Str.{IsUtf8-append, IsUtf8-from_ascii}
+use Rattle.std.proofs.Common.{◌≡◌, ℕ, suc, [], ◌∷◌, ◌++◌, ◌+◌, ◌-◌, ◌<◌, ◌≤◌, ◌⊎◌, inl, inr, List, length, take, get_or, ap, subst, ◌∙◌, arith}
+use Rattle.std.specs.Str.{IsAscii}
 use Rattle.std.proofs.lemmas.Str.Ascii.{IsAscii-cons}
 use Rattle.std.proofs.lemmas.Bool.{cases_order}
 use Rattle.std.proofs.lemmas.List.{get_or-take, get_or_past}
@@ -42,24 +39,3 @@ module _ (xs : List ℕ) (i s : ℕ) (over : s ≤ i) (ends : s + 16 ≡ length 
 
   pub ascii_joined : IsAscii xs
   ascii_joined m = by m (cases_order m i)
-
-low_byte : (b : Bool) (x n : ℕ) (xs : List ℕ) → is_high x ≡ b → IsAscii (take n xs) → IsAscii (take (cond (not b) (1 + n) 0) (x ∷ xs))
-low_byte true x n xs e h = λ i. omega arith
-low_byte false x n xs e h = let one : suc n ≡ 1 + n = omega arith in subst (λ k. IsAscii (take k (x ∷ xs))) one (IsAscii-cons x (take n xs) (leb-false _ _ e) h)
-
--- bytes up to the first that is not ASCII
-pub low_run : (xs : List ℕ) → IsAscii (take (prefix_len is_low xs) xs)
-low_run [] = λ i. omega arith
-low_run (x ∷ xs) = low_byte (is_high x) x (prefix_len is_low xs) xs refl (low_run xs)
-
--- a text, and ASCII up to the next byte that is not
-pub low_joined : (xs : List ℕ) (at wide : ℕ) → IsUtf8 (take at xs) → wide ≡ at + prefix_len is_low (drop at xs) → IsUtf8 (take wide xs)
-low_joined xs at wide front is =
-    let n = prefix_len is_low (drop at xs) in
-    subst (λ k. IsUtf8 (take k xs)) (sym is) (subst IsUtf8 (sym (take-add at n xs)) (IsUtf8-append _ _ front (IsUtf8-from_ascii _ (low_run (drop at xs)))))
-
--- the same, and a text behind it
-pub joined : (xs : List ℕ) (at wide next : ℕ) → IsUtf8 (take at xs) → wide ≡ at + prefix_len is_low (drop at xs) → wide ≤ next → IsUtf8 (take (next - wide) (drop wide xs)) → IsUtf8 (take next xs)
-joined xs at wide next front is le back =
-    let whole : wide + (next - wide) ≡ next = omega arith in
-    subst (λ k. IsUtf8 (take k xs)) whole (subst IsUtf8 (sym (take-add wide (next - wide) xs)) (IsUtf8-append _ _ (low_joined xs at wide front is) back))

@@ -6,4 +6,3 @@ pub mod Escapes
 pub mod Words
 pub mod Lexer
 pub mod Place
-pub mod Utf8
