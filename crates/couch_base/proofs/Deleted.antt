@@ -1,5 +1,6 @@
 -- Where the winner is deleted all leaves are.
-use Rattle.std.proofs.Common.{◌≡◌, Bool, true, false, T, ◌&&◌, List, [], ◌∷◌, map, filter, Some, ap, subst, ◌∙◌, refl}
+use Rattle.couch_base.specs.FeedLaws.{both_hold}
+use Rattle.std.proofs.Common.{◌≡◌, true, false, T, ◌&&◌, List, [], ◌∷◌, map, filter, Some, ap, subst, ◌∙◌, refl}
 use Rattle.std.specs.List.{list_all}
 use Rattle.std.specs.Ordering.{is_lt, bool_cmp, ordering_then}
 use Rattle.std.specs.FinMap as finmap
@@ -9,10 +10,6 @@ use Rattle.rev_core.specs.Rev.{RevId, rev_cmp}
 use Rattle.rev_tree.specs.InOrder.{marked, first_of}
 use Rattle.rev_tree.specs.Tree.{TreeValue, is_deleted, is_leaf, leaf_cmp, leaves}
 use Rattle.couch_base.specs.ListLaws.{some_is, none_some}
-
-both_hold : (a b : Bool) → T (a && b) → T a × T b
-both_hold true b h = (tt, h)
-both_hold false b h = absurd h
 
 -- what stands behind a deleted leaf is deleted
 behind : (t : TreeValue) (w r : RevId) → is_deleted t w ≡ true → T (is_lt (leaf_cmp t w r)) → is_deleted t r ≡ true

@@ -2,35 +2,24 @@
 use Rattle.std.proofs.Common.{◌≡◌, ℕ, List, [], ◌∷◌, Option, Some, None, Bool, true, false, cond, sym, ap, ◌∙◌, refl, arith}
 use Rattle.std.proofs.Common.{inl, inr}
 use Rattle.std.proofs.lemmas.Bool.{cond_both, both_ways, eqb-true}
-use Rattle.std.proofs.lemmas.Slice.Eq.{bytes_eq-Decides}
 use Rattle.std.specs.Ordering.{nat_cmp}
 use Rattle.std.specs.BTreeMap.{is_at}
 use Rattle.std.specs.Prelude.{unwrap_or}
 use Rattle.std.specs.Cmp.{unsigned_ties}
 use Rattle.std.specs.Str.{bytes_eq}
 use Rattle.rev_tree.specs.Tree.{no_revisions}
-use Rattle.couch_base.specs.ListLaws.{some_is, none_some}
+use Rattle.couch_base.specs.ListLaws.{id_is, id_same, some_is, none_some}
 use Rattle.couch_base.specs.Lists.{Among}
 use Rattle.couch_base.specs.Database.{Id, tree_in, tree_of}
-use Rattle.couch_base.specs.Stored.{at_seq, seq_of, tree_at, documents, IsTable}
+use Rattle.couch_base.specs.Stored.{TableValue, at_seq, documents, documents_of, feed_of, found, seq_of, tree_at, IsKept}
 use Rattle.couch_base.specs.declared.kept.Kept.{Kept}
 
--- ids and sequences that a test finds equal
-pub id_is : (a b : Id) → bytes_eq a b ≡ true → a ≡ b
-id_is a b h = (bytes_eq-Decides a b).0 h
-
-pub id_same : (a : Id) → bytes_eq a a ≡ true
-id_same a = (bytes_eq-Decides a a).1 refl
-
+-- sequences that a test finds equal
 pub seq_is : (a b : ℕ) → is_at (nat_cmp a) b ≡ true → a ≡ b
 seq_is a b h = eqb-true a b (unsigned_ties a b ∙ h)
 
 pub seq_same : (a : ℕ) → is_at (nat_cmp a) a ≡ true
 seq_same a = sym (unsigned_ties a a) ∙ grind (arith)
-
-pub not_true : (b : Bool) → (b ≡ true → ⊥) → b ≡ false
-not_true true h = absurd (h refl)
-not_true false h = refl
 
 -- an id that the table hasn't is no document's
 pub none_in : (g : Id → Option Kept) (index : List (ℕ × Id)) (id : Id) → ((e : ℕ × Id) → Among e index → seq_of (g e.1) ≡ Some e.0) → g id ≡ None → tree_in (documents g index) id ≡ None
@@ -53,9 +42,9 @@ found_in g (e ∷ es) id k is at =
     (λ apart. found_in g es id k is (not_first (is_at (nat_cmp k.seq) e.0) e.1 id (at_seq k.seq es) at apart))
 
 -- the tree of a document is the table's
-pub tree_of-documents : (g : Id → Option Kept) (index : List (ℕ × Id)) (hi : ℕ) → IsTable g index hi → (id : Id) → tree_of (documents g index) id ≡ tree_at (g id)
-tree_of-documents g index hi t id = go (g id) refl
+pub tree_of-documents_of : (t : TableValue) → IsKept t → (id : Id) → tree_of (documents_of t) id ≡ tree_at (found t.entries id)
+tree_of-documents_of t kept id = go (found t.entries id) refl
   where
-    go : (o : Option Kept) → g id ≡ o → tree_of (documents g index) id ≡ tree_at (g id)
-    go None is = ap (λ o. unwrap_or o no_revisions) (none_in g index id t.held is) ∙ sym (ap tree_at is)
-    go (Some k) is = ap (λ o. unwrap_or o no_revisions) (found_in g index id k is (t.indexed id k is)) ∙ sym (ap tree_at is)
+    go : (o : Option Kept) → found t.entries id ≡ o → tree_of (documents_of t) id ≡ tree_at (found t.entries id)
+    go None is = ap (λ o. unwrap_or o no_revisions) (none_in (found t.entries) (feed_of t.entries t.rows) id kept.table.held is) ∙ sym (ap tree_at is)
+    go (Some k) is = ap (λ o. unwrap_or o no_revisions) (found_in (found t.entries) (feed_of t.entries t.rows) id k is (kept.table.indexed id k is)) ∙ sym (ap tree_at is)

@@ -1,13 +1,13 @@
 -- Look-ups in the index, and its end.
 use Rattle.std.proofs.Common.{◌≡◌, ℕ, ◌<◌, List, [], ◌∷◌, ◌++◌, Option, Some, None, Bool, true, false, cond, sym, ap, ◌∙◌, refl, arith, inl, inr}
-use Rattle.std.proofs.lemmas.Bool.{cond_both, cases_Bool}
+use Rattle.std.proofs.lemmas.Bool.{cond_both, cases_Bool, false_from_ne_true}
 use Rattle.std.specs.Ordering.{nat_cmp}
 use Rattle.std.specs.BTreeMap.{is_at}
 use Rattle.std.specs.Str.{bytes_eq}
 use Rattle.couch_base.specs.Database.{Id}
 use Rattle.couch_base.specs.Stored.{at_seq, feed_without, AllBelow}
-use Rattle.couch_base.specs.ListLaws.{none_some}
-use Rattle.couch_base.proofs.Found.{id_is, seq_is, seq_same, not_true, not_first}
+use Rattle.couch_base.specs.ListLaws.{id_is, none_some}
+use Rattle.couch_base.proofs.Found.{seq_is, seq_same, not_first}
 
 keep_tail : (b : Bool) (a q : Id) (o p : Option Id) → (o ≡ Some q → p ≡ Some q) → cond b (Some a) o ≡ Some q → cond b (Some a) p ≡ Some q
 keep_tail true a q o p f h = h
@@ -32,7 +32,7 @@ at_without s id (e ∷ es) q apart h =
       | inl hit ↦
           rw hit
           (at_without s id es q apart (not_first (is_at (nat_cmp s) e.0) e.1 q (at_seq s es) h
-          (not_true (bytes_eq e.1 q) (λ t. apart (sym (id_is e.1 q t) ∙ id_is e.1 id hit)))))
+          (false_from_ne_true (bytes_eq e.1 q) (λ t. apart (sym (id_is e.1 q t) ∙ id_is e.1 id hit)))))
       | inr miss ↦
           rw miss
           (keep_tail (is_at (nat_cmp s) e.0) e.1 q (at_seq s es) (at_seq s (feed_without id es)) (at_without s id es q apart) h)

@@ -1,35 +1,25 @@
 -- What a write does to the documents.
 use Rattle.std.proofs.Common.{◌≡◌, ℕ, ◌<◌, ◌≤◌, List, [], ◌∷◌, ◌++◌, Option, Some, None, true, cond, subst, sym, ap, ◌∙◌, refl, inl, inr}
 use Rattle.std.specs.Prelude.{not}
-use Rattle.std.proofs.lemmas.Bool.{both_ways, cases_Bool, false≢true}
+use Rattle.std.proofs.lemmas.Bool.{both_ways, cases_Bool, false≢true, false_from_ne_true}
 use Rattle.std.specs.Str.{bytes_eq}
 use Rattle.couch_base.specs.Lists.{Among}
 use Rattle.couch_base.specs.Database.{Id, DocumentValue, IsDocumentTree, without, most}
 use Rattle.couch_base.specs.Stored.{at_seq, feed_without, seq_of, tree_at, document, documents, IsTable, Sets}
 use Rattle.couch_base.specs.declared.kept.Kept.{Kept}
-use Rattle.couch_base.specs.ListLaws.{some_is, none_some}
-use Rattle.couch_base.proofs.Found.{id_is, id_same, not_true}
-use Rattle.couch_base.proofs.Rising.{Rising, all_below, rising_append, rising_filter, among_append, among_filter}
+use Rattle.couch_base.specs.ListLaws.{id_is, id_same, some_is, none_some}
+use Rattle.couch_base.proofs.Rising.{Rising, all_below, rising_append, rising_filter, among_filter}
+use Rattle.couch_base.specs.MemberLaws.{Among-push}
 use Rattle.couch_base.proofs.Index.{at_append, at_new, at_without}
 
 -- ---- documents
 
 -- an id apart from the one that is set
 pub same_at : (g h : Id → Option Kept) (id : Id) (k : Kept) → Sets g h id k → (q : Id) → (q ≡ id → ⊥) → h q ≡ g q
-same_at g h id k sets q apart = sets q ∙ ap (λ b. cond b (Some k) (g q)) (not_true (bytes_eq id q) (λ e. apart (sym (id_is id q e))))
+same_at g h id k sets q apart = sets q ∙ ap (λ b. cond b (Some k) (g q)) (false_from_ne_true (bytes_eq id q) (λ e. apart (sym (id_is id q e))))
 
 pub here_at : (g h : Id → Option Kept) (id : Id) (k : Kept) → Sets g h id k → h id ≡ Some k
 here_at g h id k sets = sets id ∙ ap (λ b. cond b (Some k) (g id)) (id_same id)
-
-passed : (g h : Id → Option Kept) (id : Id) (k : Kept) → Sets g h id k → (e : ℕ × Id) (xs : List (ℕ × Id)) (es : List (ℕ × Id)) → (e.1 ≡ id → ⊥) → documents h xs ≡ without (documents g es) id → documents h (e ∷ xs) ≡ without (documents g (e ∷ es)) id
-passed g h id k sets e xs es apart rest =
-    ap (λ (o : Option Kept). let x : DocumentValue = record { id = e.1; seq = e.0; tree = tree_at o } in x ∷ documents h xs) (same_at g h id k sets e.1 apart)
-    ∙ ap (λ l. document g e ∷ l) rest
-    ∙ sym (ap (λ b. cond (not b) (document g e ∷ without (documents g es) id) (without (documents g es) id)) (not_true (bytes_eq e.1 id) (λ m. apart (id_is e.1 id m))))
-
-pub others : (g h : Id → Option Kept) (id : Id) (k : Kept) → Sets g h id k → (index : List (ℕ × Id)) → ((e : ℕ × Id) → Among e index → e.1 ≡ id → ⊥) → documents h index ≡ without (documents g index) id
-others g h id k sets [] apart = refl
-others g h id k sets (e ∷ es) apart = passed g h id k sets e es es (apart e (inl refl)) (others g h id k sets es (λ x m. apart x (inr m)))
 
 pub without_documents : (g h : Id → Option Kept) (id : Id) (k : Kept) → Sets g h id k → (index : List (ℕ × Id)) → documents h (feed_without id index) ≡ without (documents g index) id
 without_documents g h id k sets [] = refl
@@ -59,6 +49,12 @@ kept_at g index hi t e m = some_of (g e.1) e.0 (t.held e m)
 pub nowhere : (g : Id → Option Kept) (index : List (ℕ × Id)) (hi : ℕ) → IsTable g index hi → (id : Id) → g id ≡ None → (e : ℕ × Id) → Among e index → e.1 ≡ id → ⊥
 nowhere g index hi t id gone e m same = none_some e.0 (sym (ap seq_of (ap g same ∙ gone)) ∙ t.held e m)
 
+-- where the feed has no such document, nothing is left out of it
+pub without_none : (id : Id) (index : List (ℕ × Id)) → ((e : ℕ × Id) → Among e index → e.1 ≡ id → ⊥) → feed_without id index ≡ index
+without_none id [] apart = refl
+without_none id (e ∷ es) apart =
+    rw (false_from_ne_true (bytes_eq e.1 id) (λ same. apart e (inl refl) (id_is e.1 id same))) (ap (λ l. e ∷ l) (without_none id es (λ x m. apart x (inr m))))
+
 held_new : (h : Id → Option Kept) (id : Id) (k : Kept) (s : ℕ) → h id ≡ Some k → k.seq ≡ s → (e : ℕ × Id) → e ≡ (s, id) → seq_of (h e.1) ≡ Some e.0
 held_new h id k s here at e same = ap (λ (p : ℕ × Id). seq_of (h p.1)) same ∙ ap seq_of here ∙ ap (λ n. Some n) at ∙ ap (λ (p : ℕ × Id). Some p.0) (sym same)
 
@@ -70,57 +66,28 @@ set_trees g h index hi t id k sets lawful q x is =
       | inr apart ↦ t.trees q x (sym (sets q ∙ ap (λ b. cond b (Some k) (g q)) apart) ∙ is)
     ]
 
--- ---- a document that is new
-
-pub added_documents : (g h : Id → Option Kept) (index : List (ℕ × Id)) (hi : ℕ) → IsTable g index hi → (id : Id) → g id ≡ None → (k : Kept) → Sets g h id k → (s : ℕ)
-    → documents h (index ++ (s, id) ∷ []) ≡ without (documents g index) id ++ record { id = id; seq = s; tree = k.tree } ∷ []
-added_documents g h index hi t id gone k sets s =
-    documents_append h index (s, id)
-    ∙ ap (λ l. l ++ document h (s, id) ∷ []) (others g h id k sets index (nowhere g index hi t id gone))
-    ∙ ap (λ (o : Option Kept). let x : DocumentValue = record { id = id; seq = s; tree = tree_at o } in without (documents g index) id ++ x ∷ []) (here_at g h id k sets)
-
-pub added_kept : (g h : Id → Option Kept) (index : List (ℕ × Id)) (hi : ℕ) → IsTable g index hi → (id : Id) → g id ≡ None → (k : Kept) → Sets g h id k → IsDocumentTree k.tree → hi < k.seq → k.seq ≤ most
-    → IsTable h (index ++ (k.seq, id) ∷ []) k.seq
-added_kept g h index hi t id gone k sets lawful above within = record {
-  rising = rising_append 0 index hi k.seq id t.rising above;
-  within = within;
-  held = λ e m. elim (among_append e (k.seq, id) index m) [
-    | inl n ↦ ap seq_of (same_at g h id k sets e.1 (nowhere g index hi t id gone e n)) ∙ t.held e n
-    | inr same ↦ held_new h id k k.seq (here_at g h id k sets) refl e same
-  ];
-  indexed = λ q c is. elim (cases_Bool (bytes_eq id q)) [
-    | inl hit ↦
-        let same = id_is id q hit in
-        let here : k ≡ c = some_is k c (sym (here_at g h id k sets) ∙ ap h same ∙ is) in
-        ap (λ (x : Kept). at_seq x.seq (index ++ (k.seq, id) ∷ [])) (sym here) ∙ at_new k.seq index id (all_below index hi k.seq t.rising above) ∙ ap (λ i. Some i) same
-    | inr apart ↦
-        at_append c.seq index (k.seq, id) q (t.indexed q c (sym (sets q ∙ ap (λ b. cond b (Some k) (g q)) apart) ∙ is))
-  ];
-  trees = set_trees g h index hi t id k sets lawful;
-}
-
--- ---- a document that is there
+-- ---- a write, which moves the document to the end of the feed
 
 -- what isn't left out is another one
 kept_apart : (a b : Id) → not (bytes_eq a b) ≡ true → a ≡ b → ⊥
 kept_apart a b kept same = false≢true (sym (ap not (ap (bytes_eq a) (sym same) ∙ id_same a)) ∙ kept)
 
-pub changed_documents : (g h : Id → Option Kept) (index : List (ℕ × Id)) (id : Id) (k : Kept) → Sets g h id k → (s : ℕ)
+pub moved_documents : (g h : Id → Option Kept) (index : List (ℕ × Id)) (id : Id) (k : Kept) → Sets g h id k → (s : ℕ)
     → documents h (feed_without id index ++ (s, id) ∷ []) ≡ without (documents g index) id ++ record { id = id; seq = s; tree = k.tree } ∷ []
-changed_documents g h index id k sets s =
+moved_documents g h index id k sets s =
     documents_append h (feed_without id index) (s, id)
     ∙ ap (λ l. l ++ document h (s, id) ∷ []) (without_documents g h id k sets index)
     ∙ ap (λ (o : Option Kept). let x : DocumentValue = record { id = id; seq = s; tree = tree_at o } in without (documents g index) id ++ x ∷ []) (here_at g h id k sets)
 
-pub changed_kept : (g h : Id → Option Kept) (index : List (ℕ × Id)) (hi : ℕ) → IsTable g index hi → (id : Id) (k : Kept) → Sets g h id k → IsDocumentTree k.tree → hi < k.seq → k.seq ≤ most
+pub moved_kept : (g h : Id → Option Kept) (index : List (ℕ × Id)) (hi : ℕ) → IsTable g index hi → (id : Id) (k : Kept) → Sets g h id k → IsDocumentTree k.tree → hi < k.seq → k.seq ≤ most
     → IsTable h (feed_without id index ++ (k.seq, id) ∷ []) k.seq
-changed_kept g h index hi t id k sets lawful above within =
+moved_kept g h index hi t id k sets lawful above within =
     let others = feed_without id index in
     let rising : Rising 0 others hi = rising_filter _ 0 index hi t.rising in
     record {
       rising = rising_append 0 others hi k.seq id rising above;
       within = within;
-      held = λ e m. elim (among_append e (k.seq, id) others m) [
+      held = λ e m. elim (Among-push e others (k.seq, id) m) [
         | inl n ↦
             let there = among_filter _ index e n in
             ap seq_of (same_at g h id k sets e.1 (λ j. kept_apart e.1 id there.1 j)) ∙ t.held e there.0

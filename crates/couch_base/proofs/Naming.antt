@@ -5,21 +5,22 @@ use Rattle.std.specs.List.{IsDistinct}
 use Rattle.std.specs.Option.{option_map}
 use Rattle.std.specs.Map.{keys_of}
 use Rattle.std.specs.Str.{bytes_eq}
-use Rattle.std.proofs.lemmas.Bool.{cond_both, cases_Bool, both_ways}
+use Rattle.std.proofs.lemmas.Bool.{cond_both, cases_Bool, both_ways, false_from_ne_true}
 use Rattle.std.proofs.lemmas.List.{get_or_append_left}
 use Rattle.std.proofs.lemmas.List.Elements.{filter-append}
 use Rattle.std.proofs.lemmas.List.Quantifiers.{position-Some}
-use Rattle.std.proofs.lemmas.Map.Entries.{length-keys_of}
+use Rattle.std.proofs.lemmas.Cmp.{nat_list_eq_equiv}
+use Rattle.std.proofs.lemmas.Map.Entries.{length-keys_of, lookup_from_place}
 use Rattle.std.proofs.lemmas.Map.Keys.{apart_from_distinct}
 use Rattle.std.proofs.lemmas.Option.{slice_get-map, slice_get_within, unwrap_or-slice_get, get_or_from_slice_get}
 use Rattle.indexmap.specs.IndexMap.{insert_entry, set_value_at}
 use Rattle.indexmap.proofs.MapLemmas.{absent_from_lookup, insert_entry-absent}
-use Rattle.rev_tree.proofs.Places.{slice_get-last}
-use Rattle.couch_base.specs.ListLaws.{some_is, none_some}
-use Rattle.couch_base.specs.Database.{Id}
-use Rattle.couch_base.specs.Stored.{found, id_at, is_live, live, swept, named, feed_of, feed_without, ArePlaces, AreRows, AllBelow, IsPlace}
+use Rattle.couch_base.specs.MemberLaws.{at-end}
+use Rattle.couch_base.specs.ListLaws.{id_is, id_same, some_is, none_some}
+use Rattle.couch_base.specs.Database.{Id, tree_of}
+use Rattle.couch_base.specs.Stored.{TableValue, documents_of, found, id_at, is_live, live, swept, named, feed_of, feed_without, tree_at, ArePlaces, AreRows, AllBelow, IsKept, IsPlace}
 use Rattle.couch_base.specs.declared.kept.Kept.{Kept}
-use Rattle.couch_base.proofs.Found.{id_is, id_same, not_true}
+use Rattle.couch_base.proofs.Found.{tree_of-documents_of}
 use Rattle.couch_base.proofs.Rows.{live_at, dead_at, live_same, live_more, get_set, get_set_apart, feed_swept, places_filter}
 
 -- ---- ids at places
@@ -34,7 +35,7 @@ id_stays ids id i within = unwrap_or-slice_get (ids ++ id ∷ []) i [] ∙ get_o
 
 -- and that id has the place behind them
 pub id_last : (ids : List Id) (id : Id) → id_at (ids ++ id ∷ []) (length ids) ≡ id
-id_last ids id = ap (λ o. unwrap_or o []) (slice_get-last ids id)
+id_last ids id = ap (λ o. unwrap_or o []) (at-end ids id)
 
 -- ---- the index
 
@@ -59,6 +60,16 @@ placed docs id i key k first at value =
       there = (k, at ∙ ap (λ (q : Id). Some (q, k)) (sym same), sym value);
       absent = λ none. absurd (none_some i (sym none));
     }
+
+-- and what stands at a place is found by its id
+pub standing : (docs : List (Id × Kept)) (i : ℕ) (id : Id) (k : Kept) → IsDistinct bytes_eq (keys_of docs) → slice_get docs i ≡ Some (id, k) → IsPlace docs id (Some i)
+standing docs i id k once at = record {
+  there = (k, at, lookup_from_place nat_list_eq_equiv docs i id k once at);
+  absent = λ none. absurd (none_some i (sym none));
+}
+
+pub tree_at_place : (t : TableValue) → IsKept t → (i : ℕ) (id : Id) (k : Kept) → IsDistinct bytes_eq (keys_of t.entries) → slice_get t.entries i ≡ Some (id, k) → tree_of (documents_of t) id ≡ k.tree
+tree_at_place t kept i id k once at = tree_of-documents_of t kept id ∙ ap tree_at (lookup_from_place nat_list_eq_equiv t.entries i id k once at)
 
 -- ---- writes
 
@@ -85,7 +96,7 @@ apart_at docs place i id was once at within apart =
           let less : place < i = grind (arith, before) in
           let differ : bytes_eq (get_or ids place []) (get_or ids i []) ≡ false = apart_from_distinct bytes_eq ids place i [] once less (omega (arith, within, size)) in
           let turned : bytes_eq id (id_at ids i) ≡ false = (λ j. bytes_eq (sym here j) (sym there j)) ∙ differ in
-          not_true _ (λ same. both_ways _ turned (ap (bytes_eq id) (id_is (id_at ids i) id same) ∙ id_same id))
+          false_from_ne_true _ (λ same. both_ways _ turned (ap (bytes_eq id) (id_is (id_at ids i) id same) ∙ id_same id))
       | inr behind ↦
           let less : i < place = (let high : i ≤ place = grind (arith, behind) in omega (arith, high, apart)) in
           (λ j. bytes_eq (sym there j) (sym here j)) ∙ apart_from_distinct bytes_eq ids i place [] once less (omega (arith, low, size))
@@ -153,7 +164,7 @@ added_feed docs new before after s id k grown latest longer places =
     let all = docs ++ (id, k) ∷ [] in
     (λ j. feed_of (grown j) (longer j))
     ∙ ap (λ l. named l (live all (before ++ (s, length docs) ∷ []))) (keys_append docs id k)
-    ∙ ap (named (ids ++ id ∷ [])) (live_push all before s (length docs) (live_at all s (length docs) id k (slice_get-last docs (id, k)) latest) ∙ (λ j. live_more docs (id, k) before places j ++ (s, sym size j) ∷ []))
+    ∙ ap (named (ids ++ id ∷ [])) (live_push all before s (length docs) (live_at all s (length docs) id k (at-end docs (id, k)) latest) ∙ (λ j. live_more docs (id, k) before places j ++ (s, sym size j) ∷ []))
     ∙ named_append (ids ++ id ∷ []) (live docs before) s (length ids)
     ∙ (λ j. named_more ids id (live docs before) (subst (λ n. ArePlaces n (live docs before)) (sym size) (places_filter (length docs) (is_live docs) before places)) j ++ (s, id_last ids id j) ∷ [])
 

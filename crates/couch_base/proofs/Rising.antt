@@ -1,18 +1,15 @@
 -- Rising sequences of an index.
-use Rattle.std.proofs.Common.{◌≡◌, ◌⊎◌, ℕ, ◌<◌, ◌≤◌, List, [], ◌∷◌, ◌++◌, Bool, true, map, ap, ◌∙◌, arith, inl, inr}
+use Rattle.std.proofs.Common.{◌≡◌, ℕ, ◌<◌, ◌≤◌, List, [], ◌∷◌, ◌++◌, Bool, true, map, ap, ◌∙◌, arith, inl, inr}
 use Rattle.std.specs.Prelude.{filter}
 use Rattle.std.proofs.lemmas.Bool.{cond_both}
 use Rattle.couch_base.specs.Lists.{Among, Rises}
 use Rattle.couch_base.specs.Database.{Id}
+use Rattle.couch_base.specs.FeedLaws.{rises_from, rises_le}
 use Rattle.couch_base.specs.Stored.{AllBelow}
 
 -- the sequences of an index rise
 abbrev pub Rising : ℕ → List (ℕ × Id) → ℕ → Type 0
 Rising lo index hi = Rises lo (map (λ e. e.0) index) hi
-
-pub rises_le : (lo : ℕ) (ns : List ℕ) (hi : ℕ) → Rises lo ns hi → lo ≤ hi
-rises_le lo [] hi r = r
-rises_le lo (n ∷ ns) hi r = let a : lo < n = r.0 in let b : n ≤ hi = rises_le n ns hi r.1 in omega (arith, a, b)
 
 pub rising_le : (lo : ℕ) (index : List (ℕ × Id)) (hi : ℕ) → Rising lo index hi → lo ≤ hi
 rising_le lo index hi r = rises_le lo (map (λ e. e.0) index) hi r
@@ -34,24 +31,14 @@ pub rising_append : (lo : ℕ) (index : List (ℕ × Id)) (hi s : ℕ) (id : Id)
 rising_append lo [] hi s id r above = let a : lo ≤ hi = r in (omega (arith, a, above), omega arith)
 rising_append lo (e ∷ es) hi s id r above = (r.0, rising_append e.0 es hi s id r.1 above)
 
-pub rises_lower : (lo k : ℕ) (ns : List ℕ) (hi : ℕ) → lo < k → Rises k ns hi → Rises lo ns hi
-rises_lower lo k [] hi l r = let a : k ≤ hi = r in omega (arith, l, a)
-rises_lower lo k (n ∷ ns) hi l r = let a : k < n = r.0 in (omega (arith, l, a), r.1)
-
 pub rising_filter : (p : ℕ × Id → Bool) (lo : ℕ) (index : List (ℕ × Id)) (hi : ℕ) → Rising lo index hi → Rising lo (filter p index) hi
 rising_filter p lo [] hi r = r
 rising_filter p lo (e ∷ es) hi r =
     cond_both (p e) (e ∷ filter p es) (filter p es) (λ l. Rising lo l hi)
     (λ _. (r.0, rising_filter p e.0 es hi r.1))
-    (λ _. rises_lower lo e.0 (map (λ e. e.0) (filter p es)) hi r.0 (rising_filter p e.0 es hi r.1))
+    (λ _. rises_from lo e.0 (map (λ e. e.0) (filter p es)) hi (let a : lo < e.0 = r.0 in omega (arith, a)) (rising_filter p e.0 es hi r.1))
 
 -- ---- members
-
-pub among_append : {X : Type 0} (x y : X) (xs : List X) → Among x (xs ++ y ∷ []) → Among x xs ⊎ (x ≡ y)
-among_append x y [] (inl s) = inr s
-among_append x y [] (inr m) = absurd m
-among_append x y (z ∷ xs) (inl s) = inl (inl s)
-among_append x y (z ∷ xs) (inr m) = elim (among_append x y xs m) [ inl k ↦ inl (inr k) | inr s ↦ inr s ]
 
 -- what passes a test
 pub among_filter : {X : Type 0} (p : X → Bool) (xs : List X) (x : X) → Among x (filter p xs) → (Among x xs) × (p x ≡ true)

@@ -5,7 +5,7 @@ use Rattle.std.specs.List.{AllWithin, AllByRecursion, IsDistinct, list_any}
 use Rattle.std.specs.List.Sorted.{IsNonDecreasingBy, IsPartitionPoint}
 use Rattle.std.specs.Map.{keys_of}
 use Rattle.std.specs.Option.{option_map_or}
-use Rattle.std.proofs.lemmas.Bool.{cond_both, cases_Bool, eqb-true, false≢true}
+use Rattle.std.proofs.lemmas.Bool.{cond_both, cases_Bool, eqb-true, false≢true, false_from_ne_true}
 use Rattle.std.proofs.lemmas.List.{length-append, length-map}
 use Rattle.std.proofs.lemmas.Map.Steps.{length-le_from_distinct_below}
 use Rattle.indexmap.specs.IndexMap.{set_value_at}
@@ -14,15 +14,15 @@ use Rattle.couch_base.specs.ListLaws.{some_is, none_some}
 use Rattle.couch_base.specs.Database.{Id}
 use Rattle.couch_base.specs.Stored.{is_live, live, live_upto, above, swept, named, feed_of, ArePlaces, AllBelow, InOrder, AreFew, AreRows}
 use Rattle.couch_base.specs.declared.kept.Kept.{Kept}
-use Rattle.couch_base.proofs.Found.{not_true}
-use Rattle.couch_base.proofs.Rising.{among_append, among_filter}
+use Rattle.couch_base.proofs.Rising.{among_filter}
+use Rattle.couch_base.specs.MemberLaws.{Among-push}
 
 -- ---- rows that are put at the end, and rows that are left out
 
 order_push : (s i : ℕ) (rows : List (ℕ × ℕ)) → InOrder rows → AllBelow s rows → InOrder (rows ++ (s, i) ∷ [])
 order_push s i [] o below = (λ x m. absurd m, tt)
 order_push s i (e ∷ rows) o below = (
-  λ x m. elim (among_append x (s, i) rows m) [
+  λ x m. elim (Among-push x rows (s, i) m) [
     | inl k ↦ o.0 x k
     | inr same ↦ let a : x.0 ≡ s = ap (λ (p : ℕ × ℕ). p.0) same in let b : e.0 < s = below e (inl refl) in omega (arith, a, b)
   ],
@@ -38,11 +38,11 @@ order_filter p (e ∷ rows) o =
 
 pub rows_push : (n m s i : ℕ) (rows : List (ℕ × ℕ)) → AreRows n s rows → n ≤ m → i < m → AreRows m (s + 1) (rows ++ (s, i) ∷ [])
 rows_push n m s i rows r more within = record {
-  places = λ e k. elim (among_append e (s, i) rows k) [
+  places = λ e k. elim (Among-push e rows (s, i) k) [
     | inl h ↦ let a : e.1 < n = r.places e h in omega (arith, a, more)
     | inr same ↦ let a : e.1 ≡ i = ap (λ (p : ℕ × ℕ). p.1) same in omega (arith, a, within)
   ];
-  below = λ e k. elim (among_append e (s, i) rows k) [
+  below = λ e k. elim (Among-push e rows (s, i) k) [
     | inl h ↦ let a : e.0 < s = r.below e h in omega (arith, a)
     | inr same ↦ let a : e.0 ≡ s = ap (λ (p : ℕ × ℕ). p.0) same in omega (arith, a)
   ];
@@ -79,9 +79,6 @@ feed_swept docs rows =
 pub places_filter : (n : ℕ) (p : ℕ × ℕ → Bool) (rows : List (ℕ × ℕ)) → ArePlaces n rows → ArePlaces n (filter p rows)
 places_filter n p rows places e m = places e (among_filter p rows e m).0
 
-pub places_live_above : (docs : List (Id × Kept)) (n a b : ℕ) (rows : List (ℕ × ℕ)) → ArePlaces n rows → ArePlaces n (live_upto docs b (above a rows))
-places_live_above docs n a b rows places = places_filter n _ (live docs (above a rows)) (places_filter n (is_live docs) (above a rows) (places_filter n _ rows places))
-
 pub order_above : (a : ℕ) (rows : List (ℕ × ℕ)) → InOrder rows → InOrder (above a rows)
 order_above a rows o = order_filter _ rows o
 
@@ -95,7 +92,7 @@ one_seq (Some d) s t h k = let a : d.1.seq ≡ s = eqb-true d.1.seq s h in let b
 -- of two rows of one place at most one is live
 live_apart : (docs : List (Id × Kept)) (e x : ℕ × ℕ) → e.0 < x.0 → is_live docs e ≡ true → is_live docs x ≡ true → (e.1 == x.1) ≡ false
 live_apart docs e x later here there =
-    not_true (e.1 == x.1) (λ same.
+    false_from_ne_true (e.1 == x.1) (λ same.
     let at : e.1 ≡ x.1 = eqb-true e.1 x.1 same in
     let s : e.0 ≡ x.0 = one_seq (slice_get docs e.1) e.0 x.0 here (ap (λ i. option_map_or (λ (d : Id × Kept). d.1.seq == x.0) (slice_get docs i) false) at ∙ there) in
     omega (arith, s, later))
@@ -243,3 +240,16 @@ past_goal docs b left e rows o is high =
       | inl same ↦ let a : x.0 ≡ e.0 = ap (λ (p : ℕ × ℕ). p.0) same in omega (arith, a, high)
       | inr n ↦ let a : e.0 < x.0 = order.0 x n in omega (arith, a, high)
     ])
+
+-- a row that is not live is passed over
+pub row_dead : (docs : List (Id × Kept)) (b : ℕ) (left : List (ℕ × ℕ)) (e : ℕ × ℕ) (rows : List (ℕ × ℕ)) → left ≡ e ∷ rows → is_live docs e ≡ false → live_upto docs b left ≡ live_upto docs b rows
+row_dead docs b left e rows is dead =
+    ap (live_upto docs b) is ∙ ap (λ t. filter (λ x. nat_le x.0 b) (cond t (e ∷ live docs rows) (live docs rows))) dead
+
+-- and one that is, at or under the goal, is the next
+pub row_live : (docs : List (Id × Kept)) (b : ℕ) (left : List (ℕ × ℕ)) (e : ℕ × ℕ) (rows : List (ℕ × ℕ)) → left ≡ e ∷ rows → is_live docs e ≡ true → e.0 ≤ b → live_upto docs b left ≡ e ∷ live_upto docs b rows
+row_live docs b left e rows is alive low =
+    let within : nat_le e.0 b ≡ true = grind (arith, low) in
+    ap (live_upto docs b) is
+    ∙ ap (λ t. filter (λ x. nat_le x.0 b) (cond t (e ∷ live docs rows) (live docs rows))) alive
+    ∙ ap (λ t. cond t (e ∷ live_upto docs b rows) (live_upto docs b rows)) within

@@ -1,7 +1,9 @@
 -- Laws of lists: tests of some or of all elements, and lists in which nothing comes twice.
-use Rattle.std.specs.Prelude.{◌≡◌, Bool, true, false, ◌&&◌, ◌||◌, List, [], ◌∷◌, ◌++◌, map, filter, Some, None, is_some, refl}
+use Rattle.std.specs.Prelude.{◌≡◌, ℕ, Bool, true, false, ◌&&◌, ◌||◌, List, [], ◌∷◌, ◌++◌, map, filter, Some, None, is_some, refl}
 use Rattle.std.proofs.Common.{ap, sym, ◌∙◌, inl, inr}
 use Rattle.std.proofs.lemmas.Bool.{and_parts, or_right, cond_both, false≢true}
+use Rattle.std.proofs.lemmas.Slice.Eq.{bytes_eq-Decides}
+use Rattle.std.specs.Str.{bytes_eq}
 use Rattle.std.specs.List.{list_any, list_all, AllByRecursion}
 use Rattle.std.specs.Option.{option_map_or}
 use Rattle.rev_core.specs.Rev.{RevId}
@@ -24,6 +26,13 @@ some_is x y e = ap (λ o. option_map_or (λ v. v) o x) e
 
 pub none_some : {X : Type 0} (x : X) → None ≡ Some x → ⊥
 none_some x e = false≢true (ap is_some e)
+
+-- ids that a test finds equal
+pub id_is : (a b : List ℕ) → bytes_eq a b ≡ true → a ≡ b
+id_is a b h = (bytes_eq-Decides a b).0 h
+
+pub id_same : (a : List ℕ) → bytes_eq a a ≡ true
+id_same a = (bytes_eq-Decides a a).1 refl
 
 -- ---- some element
 

@@ -1,8 +1,7 @@
 -- What is asked and what is fetched keep their facts.
-use Rattle.std.specs.Prelude.{◌≡◌, ℕ, zero, suc, Bool, true, false, not, ◌&&◌, ◌||◌, List, [], ◌∷◌, ◌++◌, map, refl}
+use Rattle.std.specs.Prelude.{◌≡◌, ℕ, zero, suc, true, false, not, ◌&&◌, ◌||◌, List, [], ◌∷◌, ◌++◌, map, refl}
 use Rattle.std.proofs.Common.{ap, sym, ◌∙◌, inl, inr, arith}
-use Rattle.std.proofs.lemmas.Bool.{or_right, false≢true, cases_Bool}
-use Rattle.std.proofs.lemmas.Slice.Eq.{bytes_eq-Decides}
+use Rattle.std.proofs.lemmas.Bool.{or_right, false≢true, cases_Bool, or_left}
 use Rattle.std.specs.List.{list_any, list_all, AllByRecursion}
 use Rattle.std.specs.Ordering.{eq_by_cmp}
 use Rattle.std.specs.Str.{bytes_eq}
@@ -16,15 +15,12 @@ use Rattle.rev_tree.specs.LeafLaws.{any_filter}
 use Rattle.rev_tree.specs.MergeLaws.{leaf_among}
 use Rattle.doc_json.specs.Document.{Document}
 use Rattle.couch_base.specs.Lists.{EachOnce}
-use Rattle.couch_base.specs.ListLaws.{both_false, not_both, any_left, any_right, none_append, all_weaker, all_append, all_made, all_members, each_filter, each_append}
+use Rattle.couch_base.specs.ListLaws.{both_false, not_both, any_left, any_right, none_append, all_weaker, all_append, all_made, all_members, each_filter, each_append, id_same}
 use Rattle.couch_base.specs.Database.{Id, DocumentValue, DatabaseValue, LawfulDatabase, tree_of}
 use Rattle.couch_base.specs.DatabaseLaws.{IsDocumentTree-tree_of}
 use Rattle.couch_base.specs.Feed.{RowValue, WindowValue, IsRow, IsWindow}
 use Rattle.couch_base.specs.FeedLaws.{EachOnce-leaves}
 use Rattle.couch_base.specs.Messages.{WantedValue, AskedValue, IsWanted, IsAsked, IsParcel, want_first, wanted, revs_diff, leaf_document, opened, fetched, gone_of, open_revs, brings, is_rev_of, is_answered, is_wanted, same_head, same_revision}
-
-id_same : (a : Id) → bytes_eq a a ≡ true
-id_same a = (bytes_eq-Decides a a).1 refl
 
 -- ---- asking
 
@@ -76,9 +72,6 @@ any_gone id r (x ∷ xs) h =
       | inl tie ↦ ap (λ b. b || list_any (is_rev_of id r) (map (λ y. (id, y)) xs)) (and_both (id_same id) tie)
       | inr later ↦ or_right _ _ (any_gone id r xs later)
     ]
-
-or_left : (a b : Bool) → a ≡ true → (a || b) ≡ true
-or_left a b h = ap (λ x. x || b) h
 
 answered_rev : (db : DatabaseValue) → LawfulDatabase db → (id : Id) (revs : List RevId) (r : RevId) → is_among r revs ≡ true
     → (list_any (brings id r) (opened id (tree_of db.docs id) revs) || list_any (is_rev_of id r) (map (λ x. (id, x)) (missing (tree_of db.docs id) revs))) ≡ true

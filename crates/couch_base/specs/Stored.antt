@@ -1,16 +1,34 @@
 -- A database as it is kept: a table of documents by id, and an index of their places by sequence. Each change puts a row
 -- at the end of the index. A row is live while its document has no later change; the live rows are the feed.
-use Rattle.std.specs.Prelude.{◌≡◌, ℕ, ◌+◌, ◌*◌, ◌/◌, ◌<◌, ◌≤◌, ◌==◌, nat_lt, nat_le, Bool, false, not, List, [], ◌∷◌, ◌++◌, cond, if◌then◌else◌, map, filter, length, slice_get, unwrap_or, Option, Some, None, IfSome}
+use Rattle.std.specs.Prelude.{◌≡◌, ℕ, ◌+◌, ◌*◌, ◌/◌, ◌<◌, ◌≤◌, ◌==◌, nat_lt, nat_le, Bool, false, not, List, [], ◌∷◌, cond, if◌then◌else◌, map, filter, length, slice_get, unwrap_or, Option, Some, None, IfSome, refl}
+use Rattle.std.specs.Coded.{Coded, code_by, coded×, coded_ℕ, coded_list}
 use Rattle.std.specs.Option.{option_map, option_map_or}
 use Rattle.std.specs.Ordering.{nat_cmp}
 use Rattle.std.specs.BTreeMap.{is_at}
 use Rattle.std.specs.Map.{keys_of, lookup}
 use Rattle.std.specs.Str.{bytes_eq}
-use Rattle.rev_tree.specs.Tree.{TreeValue, IsTree, no_revisions}
+use Rattle.rev_tree.specs.Tree.{TreeValue, coded_tree, no_revisions}
 use Rattle.couch_base.specs.Lists.{Among, Rises}
-use Rattle.couch_base.specs.Database.{Id, DocumentValue, IsDocumentTree, most}
+use Rattle.couch_base.specs.Database.{Id, coded_id, DocumentValue, DatabaseValue, IsDocumentTree, with_tree, most}
 use Rattle.couch_base.specs.Feed.{RowValue, row_of}
 use Rattle.couch_base.specs.declared.kept.Kept.{Kept}
+
+-- a table: its documents with their ids, the rows of their changes, and the sequence of the latest one
+pub record TableValue : Type 0 where
+  pub entries : List (Id × Kept)
+  pub rows : List (ℕ × ℕ)
+  pub last : ℕ
+
+abbrev pub coded_kept : Coded Kept
+coded_kept =
+    code_by (ℕ × TreeValue) (coded× coded_ℕ coded_tree)
+    (λ k. (k.seq, k.tree)) (λ p. record { seq = p.0; tree = p.1 }) (λ _. refl)
+
+abbrev pub coded_table : Coded TableValue
+coded_table =
+    code_by (List (Id × Kept) × (List (ℕ × ℕ) × ℕ))
+    (coded× (coded_list (coded× coded_id coded_kept)) (coded× (coded_list (coded× coded_ℕ coded_ℕ)) coded_ℕ))
+    (λ t. (t.entries, (t.rows, t.last))) (λ p. record { entries = p.0; rows = p.1.0; last = p.1.1 }) (λ _. refl)
 
 -- the id at a place
 abbrev pub id_at : List Id → ℕ → Id
@@ -68,9 +86,25 @@ document g e = record { id = e.1; seq = e.0; tree = tree_at (g e.1) }
 abbrev pub documents : (Id → Option Kept) → List (ℕ × Id) → List DocumentValue
 documents g index = map (document g) index
 
+-- the documents of a table, in the order of their latest changes
+abbrev pub documents_of : TableValue → List DocumentValue
+documents_of t = documents (found t.entries) (feed_of t.entries t.rows)
+
+-- the database of a table
+abbrev pub database_of : ℕ → ℕ → TableValue → DatabaseValue
+database_of uuid life t = record { uuid = uuid; life = life; update_seq = t.last; docs = documents_of t }
+
 -- the row of an entry of the index
 abbrev pub row_by : List (Id × Kept) → ℕ × ℕ → RowValue
 row_by docs e = row_of (document (found docs) (e.0, id_at (keys_of docs) e.1))
+
+-- and of a document that is kept
+abbrev pub row_of_kept : Id → Kept → RowValue
+row_of_kept id k = row_of (record { id = id; seq = k.seq; tree = k.tree })
+
+-- the rows of a table's feed above a and at or under b
+abbrev pub rows_within : TableValue → ℕ → ℕ → List RowValue
+rows_within t a b = map (row_by t.entries) (live_upto t.entries b (above a t.rows))
 
 -- the index names each document of the table at its sequence, and nothing else
 pub record IsTable (g : Id → Option Kept) (index : List (ℕ × Id)) (hi : ℕ) : Type 0 where
@@ -99,11 +133,11 @@ pub record AreRows (n s : ℕ) (rows : List (ℕ × ℕ)) : Type 0 where
 abbrev pub AreFew : ℕ → List (ℕ × ℕ) → Type 0
 AreFew n rows = length rows ≤ 2 * n + 1
 
--- what holds of a table and the index of its places: sweeping keeps the rows few
-pub record IsKept (docs : List (Id × Kept)) (index : List (ℕ × ℕ)) (hi : ℕ) : Type 0 where
-  pub table : IsTable (found docs) (feed_of docs index) hi
-  pub rows : AreRows (length docs) (hi + 1) index
-  pub few : AreFew (length docs) index
+-- what holds of every table: sweeping keeps the rows few
+pub record IsKept (t : TableValue) : Type 0 where
+  pub table : IsTable (found t.entries) (feed_of t.entries t.rows) t.last
+  pub rows : AreRows (length t.entries) (t.last + 1) t.rows
+  pub few : AreFew (length t.entries) t.rows
 
 -- the place of an id's document, where it is there
 pub record IsPlace (docs : List (Id × Kept)) (id : Id) (place : Option ℕ) : Type 0 where
@@ -118,22 +152,7 @@ Sets g h id k = (q : Id) → h q ≡ cond (bytes_eq id q) (Some k) (g q)
 abbrev pub feed_without : Id → List (ℕ × Id) → List (ℕ × Id)
 feed_without id index = filter (λ e. not (bytes_eq e.1 id)) index
 
--- a write of a tree at a new sequence: to a document that is there,
-pub record Moves (old new : List (Id × Kept)) (before after : List (ℕ × Id)) (id : Id) (tree : TreeValue) (s : ℕ)
-    (was : Kept) : Type 0 where
-  pub sets : Sets (found old) (found new) id (record { seq = s; tree = tree })
-  pub index : after ≡ feed_without id before ++ (s, id) ∷ []
-  pub lawful : IsTree tree
-
--- and to one that is new
-pub record Adds (old new : List (Id × Kept)) (before after : List (ℕ × Id)) (id : Id) (tree : TreeValue) (s : ℕ) : Type
-    0 where
-  pub sets : Sets (found old) (found new) id (record { seq = s; tree = tree })
-  pub index : after ≡ before ++ (s, id) ∷ []
-  pub lawful : IsTree tree
-
--- whichever it is, of the tree that is made from the one before
-pub record Writes (old new : List (Id × Kept)) (before after : List (ℕ × Id)) (id : Id) (made : TreeValue → TreeValue)
-    (s : ℕ) : Type 0 where
-  pub there : (was : Kept) → found old id ≡ Some was → Moves old new before after id (made was.tree) s was
-  pub absent : found old id ≡ None → Adds old new before after id (made no_revisions) s
+-- what a change of one document leaves: it takes the next sequence
+pub record IsWritten (old new : TableValue) (id : Id) (tree : TreeValue) : Type 0 where
+  pub kept : IsKept new
+  pub value : (uuid life : ℕ) → database_of uuid life new ≡ with_tree (database_of uuid life old) id tree

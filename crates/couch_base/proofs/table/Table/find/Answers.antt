@@ -1,0 +1,9 @@
+use Rattle.std.proofs.Common.{Some, subst}
+use Rattle.couch_base.specs.Stored.{TableValue, IsPlace}
+use Rattle.couch_base.proofs.Naming.{placed}
+use Rattle.couch_base.proofs.table.Table.find.Goals as goal
+
+pub returns-in-Some : goal.returns-in-Some
+returns-in-Some c =
+    let e = c.in-Some.ensures in
+    subst (λ (v : TableValue). IsPlace v.entries c.args.id.now (Some c.in-Some.place)) c.self.view_is (placed c.self.inside.docs.entries c.args.id.now c.in-Some.place c.in-Some._id.now c.in-Some._kept.now e.index e.entry e.value)

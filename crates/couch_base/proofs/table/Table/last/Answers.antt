@@ -1,0 +1,6 @@
+use Rattle.std.proofs.Common.{subst}
+use Rattle.couch_base.specs.Stored.{IsKept}
+use Rattle.couch_base.proofs.table.Table.last.Goals as goal
+
+pub returns-clause-kept : goal.returns-clause-kept
+returns-clause-kept c = subst IsKept c.self.view_is c.self.invariant
