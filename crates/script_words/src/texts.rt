@@ -9,6 +9,7 @@ use rev_core::Rev;
 use std::alloc::AllocError;
 
 /// Adds a number.
+#[inline(never)]
 pub fn push_number(text: &mut Vec<u8>, number: u64) -> Result<(), AllocError>
     ensures { OnOk result (text.new.items ≡ text.old.items ++ decimal number) }
 {
@@ -16,12 +17,16 @@ pub fn push_number(text: &mut Vec<u8>, number: u64) -> Result<(), AllocError>
     text.extend_from_slice(digits.format(number).as_bytes())
 }
 
-/// Adds a count.
+/// Adds a count. Mostly it has one digit.
+#[inline(always)]
 pub fn push_count(text: &mut Vec<u8>, count: usize) -> Result<(), AllocError>
     ensures { OnOk result (text.new.items ≡ text.old.items ++ decimal count) }
 {
-    let mut digits = Buffer::new();
-    text.extend_from_slice(digits.format(count).as_bytes())
+    if count < 10 {
+        text.push(b'0' + count as u8)?;
+        return Ok(());
+    }
+    push_number(text, count as u64)
 }
 
 /// Adds the text of a revision.
