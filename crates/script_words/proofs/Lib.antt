@@ -1,5 +1,4 @@
 pub mod MembersLemmas
-pub mod GivenLemmas
 pub mod TextLemmas
 pub mod TellingLemmas
 pub mod WordLemmas

@@ -1,5 +1,5 @@
 -- What replications are told.
-use Rattle.std.proofs.Common.{◌≡◌, ◌≤◌, ◌<◌, ◌⊎◌, inl, inr, ℕ, List, Option, Some, None, Result, Ok, Err, refl, sym, ap, subst, ◌∙◌}
+use Rattle.std.proofs.Common.{◌≡◌, ◌≤◌, ◌<◌, inl, inr, ℕ, List, Option, Some, None, Result, Ok, Err, refl, sym, ap, subst, ◌∙◌}
 use Rattle.doc_json.specs.Chosen.{Choice}
 use Rattle.repl_target.specs.peer.Peer.{PeerValue}
 use Rattle.repl_target.specs.declared.replication.Plan.{Plan}

@@ -106,6 +106,15 @@ LoadsAt old db None None doc told new = LoadsMade old db doc told new
 abbrev pub Loads : Answering State LoadAsk
 Loads old ask told new = LoadsAt old ask.db (peer_at old ask.db) ask.uuid (document_given ask.doc) told new
 
+-- ---- the part of it behind the document, where no UUID is given
+
+pub record NamedLoad : Type 0 where
+  pub db : List ℕ
+  pub doc : Option Document
+
+abbrev pub LoadsNamed : Answering State NamedLoad
+LoadsNamed old ask told new = LoadsAt old ask.db (peer_at old ask.db) None (Ok ask.doc) told new
+
 -- ---- the part of it behind the UUID
 
 pub record NewLoad : Type 0 where

@@ -1,13 +1,13 @@
 //! `load`: a database is made, or a document is put into one.
-ghost use Rattle.std.specs.Prelude.{◌≡◌, ◌++◌, [], true, None, Some, OnOk, option_map, IfSome};
-ghost use Rattle.std.specs.FinMap.{contains_key};
+ghost use Rattle.std.specs.Prelude.{◌≡◌, ◌++◌, [], None, Some, OnOk, IfOk, IfErr, option_map, IfSome};
 ghost use Rattle.json_values.specs.LineView.{line_view};
 ghost use Rattle.json_values.specs.LineOrder.{IsOrdered};
 ghost use Rattle.script_engine.specs.Serving.{MayTell};
-ghost use Rattle.script_databases.specs.Databases.{peer_at};
+ghost use Rattle.script_databases.specs.Databases.{IsTaken, drawn_one, next_made, peer_at};
+ghost use Rattle.script_databases.specs.declared.refusal.Refusal.TheVariants.{UuidTaken};
 ghost use Rattle.script_words.specs.Checks.{needed};
 ghost use Rattle.script_words.specs.Telling.{told_by};
-ghost use Rattle.script_words.specs.words.Load.{Loads, LoadsNew, document_part, load_asked, load_in, loaded_line, made_line, put_line, same_line, there_line};
+ghost use Rattle.script_words.specs.words.Load.{Loads, LoadsNamed, LoadsNew, document_part, load_asked, load_in, loaded_line, made_line, put_line, same_line, there_line};
 
 use crate::given::read_document;
 use crate::members::{has_only_members, name_member, optional_uuid};
@@ -53,44 +53,13 @@ pub fn serve(
     requires ordered { IfSome ask.now.doc (λ v. IsOrdered (line_view v.now)) }
     ensures { MayTell Loads databases.old (load_asked ask.now) (told_by result answer.new.items) databases.new }
 {
-    if databases.has(ask.db) {
-        return match ask.uuid {
-            Some(_) => Err(Refusal::DatabaseExists),
-            None => load_there(alloc, databases, ask.db, ask.doc, answer),
-        };
-    }
     match ask.uuid {
         Some(uuid) => load_given(alloc, databases, ask.db, uuid, ask.doc, answer),
-        None => load_made(alloc, databases, ask.db, ask.doc, answer),
+        None => load_named(alloc, databases, ask.db, ask.doc, answer),
     }
 }
 
-/// Loads into a database that is there.
-fn load_there(
-    alloc: Global,
-    databases: &mut Databases,
-    db: &str,
-    doc: Option<&LineValue<'_>>,
-    answer: &mut Vec<u8>,
-) -> Result<(), Refusal>
-    requires ordered { IfSome doc (λ v. IsOrdered (line_view v.now)) }
-    requires empty { answer.old.items ≡ [] }
-    requires there { contains_key databases.old.peers db.now ≡ true }
-    ensures { MayTell Loads databases.old
-        (record { db = db.now; uuid = None; doc = option_map (λ v. line_view v.now) doc.entry })
-        (told_by result answer.new.items) databases.new }
-{
-    let given = read_document(alloc, doc)?;
-    let Some(document) = given else {
-        print_there(answer, db)?;
-        return Ok(());
-    };
-    let put = databases.load(db, &document)?;
-    print_put(answer, db, &document, put)?;
-    Ok(())
-}
-
-/// Makes a database with a UUID: that no other has it is looked at first.
+/// Makes a database with a UUID: that none has the name is looked at first, then that none has the UUID.
 fn load_given(
     alloc: Global,
     databases: &mut Databases,
@@ -101,20 +70,25 @@ fn load_given(
 ) -> Result<(), Refusal>
     requires ordered { IfSome doc (λ v. IsOrdered (line_view v.now)) }
     requires empty { answer.old.items ≡ [] }
-    requires absent { peer_at databases.old db.now ≡ None }
     ensures { MayTell Loads databases.old
         (record { db = db.now; uuid = Some uuid; doc = option_map (λ v. line_view v.now) doc.entry })
         (told_by result answer.new.items) databases.new }
 {
+    if databases.has(db) {
+        return Err(Refusal::DatabaseExists);
+    }
     if databases.is_taken(uuid) {
         return Err(Refusal::UuidTaken);
     }
-    let given = read_document(alloc, doc)?;
-    load_new(alloc, databases, db, uuid, given, answer)
+    match read_document(alloc, doc)? {
+        None => make_empty(alloc, databases, db, uuid, answer),
+        Some(document) => make_with(alloc, databases, db, uuid, &document, answer),
+    }
 }
 
-/// Makes a database with a made UUID, which is drawn once the document has been read.
-fn load_made(
+/// Loads into the database of a name, or where none has it, into one that is made. The document is read before it is
+/// known which.
+fn load_named(
     alloc: Global,
     databases: &mut Databases,
     db: &str,
@@ -123,37 +97,95 @@ fn load_made(
 ) -> Result<(), Refusal>
     requires ordered { IfSome doc (λ v. IsOrdered (line_view v.now)) }
     requires empty { answer.old.items ≡ [] }
-    requires absent { peer_at databases.old db.now ≡ None }
     ensures { MayTell Loads databases.old
         (record { db = db.now; uuid = None; doc = option_map (λ v. line_view v.now) doc.entry })
         (told_by result answer.new.items) databases.new }
 {
-    let given = read_document(alloc, doc)?;
-    let uuid = databases.draw();
-    if databases.is_taken(uuid) {
-        return Err(Refusal::UuidTaken);
+    match read_document(alloc, doc)? {
+        None => open(alloc, databases, db, answer),
+        Some(document) => put(alloc, databases, db, &document, answer),
     }
-    load_new(alloc, databases, db, uuid, given, answer)
 }
 
-/// Makes a database, with the document where one is given.
-fn load_new(
+/// Makes a database of no documents, where none has the name.
+fn open(
     alloc: Global,
     databases: &mut Databases,
     db: &str,
-    uuid: u128,
-    given: Option<Doc>,
+    answer: &mut Vec<u8>,
+) -> Result<(), Refusal>
+    requires empty { answer.old.items ≡ [] }
+    ensures { MayTell LoadsNamed databases.old (record { db = db.now; doc = None })
+        (told_by result answer.new.items) databases.new }
+{
+    if databases.has(db) {
+        print_there(answer, db)?;
+        return Ok(());
+    }
+    let uuid = draw_free(databases)?;
+    make_empty(alloc, databases, db, uuid, answer)
+}
+
+/// Puts a document into the database of a name, or where none has it, into one that is made.
+///
+/// Only where the put is refused it is asked whether one has the name, so that a document that is put costs one look-up.
+fn put(
+    alloc: Global,
+    databases: &mut Databases,
+    db: &str,
+    document: &Doc,
+    answer: &mut Vec<u8>,
+) -> Result<(), Refusal>
+    requires empty { answer.old.items ≡ [] }
+    ensures { MayTell LoadsNamed databases.old (record { db = db.now; doc = Some document.now })
+        (told_by result answer.new.items) databases.new }
+{
+    match databases.load(db, document) {
+        Ok(put) => {
+            print_put(answer, db, document, put)?;
+            Ok(())
+        }
+        Err(refusal) => {
+            if databases.has(db) {
+                return Err(refusal);
+            }
+            put_new(alloc, databases, db, document, answer)
+        }
+    }
+}
+
+/// Puts a document into a database that is made.
+fn put_new(
+    alloc: Global,
+    databases: &mut Databases,
+    db: &str,
+    document: &Doc,
     answer: &mut Vec<u8>,
 ) -> Result<(), Refusal>
     requires empty { answer.old.items ≡ [] }
     requires absent { peer_at databases.old db.now ≡ None }
-    ensures { MayTell LoadsNew databases.old (record { db = db.now; uuid = uuid; doc = given })
+    ensures { MayTell LoadsNamed databases.old (record { db = db.now; doc = Some document.now })
         (told_by result answer.new.items) databases.new }
 {
-    match given {
-        None => make_empty(alloc, databases, db, uuid, answer),
-        Some(document) => make_with(alloc, databases, db, uuid, &document, answer),
+    let uuid = draw_free(databases)?;
+    make_with(alloc, databases, db, uuid, document, answer)
+}
+
+/// Draws the UUID of a database that is made.
+///
+/// `UuidTaken` where a database has it.
+fn draw_free(databases: &mut Databases) -> Result<u128, Refusal>
+    ensures drawn { databases.new ≡ drawn_one databases.old }
+    ensures ok { IfOk result
+        (λ uuid. (uuid ≡ next_made databases.old) × (IsTaken (drawn_one databases.old) uuid → ⊥)) }
+    ensures err { IfErr result
+        (λ why. (why ≡ UuidTaken) × IsTaken (drawn_one databases.old) (next_made databases.old)) }
+{
+    let uuid = databases.draw();
+    if databases.is_taken(uuid) {
+        return Err(Refusal::UuidTaken);
     }
+    Ok(uuid)
 }
 
 /// Makes a database of no documents.

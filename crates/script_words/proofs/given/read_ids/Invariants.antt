@@ -1,9 +1,14 @@
-use Rattle.std.proofs.Common.{◌≡◌, drop}
+use Rattle.std.proofs.Common.{◌≡◌, ℕ, List, ◌++◌, drop, Result, Ok, Err}
 use Rattle.json_values.specs.LineView.{line_items}
+use Rattle.script_databases.specs.declared.refusal.Refusal.{Refusal}
 use Rattle.script_words.specs.Given.{ids_given}
 use Rattle.script_words.specs.Members.{texts_of}
-use Rattle.script_words.proofs.GivenLemmas.{joined}
 use Rattle.script_words.proofs.given.read_ids.Given as goal
+
+-- ids, and those that follow them
+abbrev joined : List (List ℕ) → Result (List (List ℕ)) Refusal → Result (List (List ℕ)) Refusal
+joined ids (Ok more) = Ok (ids ++ more)
+joined ids (Err refusal) = Err refusal
 
 -- the ids so far, and those of the rest, are those of all
 abbrev pub invariant-loop-item : goal.invariant-loop-item

@@ -1,4 +1,4 @@
-use Rattle.std.proofs.Common.{◌≡◌, ◌⊎◌, inl, inr, ℕ, List, Ok, Err, refl, sym, ap, subst, ◌∙◌}
+use Rattle.std.proofs.Common.{◌≡◌, ◌⊎◌, inl, inr, ℕ, List, Err, refl, sym, ap, subst}
 use Rattle.script_engine.specs.Serving.{MayTell, in_full, gave_up}
 use Rattle.script_databases.specs.Databases.{State}
 use Rattle.script_databases.specs.Refusals.{name_of}
