@@ -11,7 +11,7 @@ ghost use Rattle.script_words.specs.Script.{IsObject, IsNoObject};
 ghost use Rattle.json_values.specs.LineOrder.{IsOrdered};
 ghost use Rattle.script_words.specs.Members.{are_texts, as_texts, as_uuid, as_whole, has_only, is_name, is_name_byte, name_at, optional, text_at, texts_of};
 
-use json_values::{LineValue, ReadFault, ValueReader};
+use json_values::{LineValue, ReadFault, ValueReader, is_same_text};
 use script_databases::Refusal;
 use std::alloc::Global;
 use uuid::Uuid;
@@ -181,7 +181,7 @@ fn are_all_among(members: &Vec<(&str, LineValue<'_>)>, allowed: &[&str]) -> bool
 fn is_one_of(key: &str, keys: &[&str]) -> bool
     ensures { result ≡ list_any (λ k. bytes_eq key.now k.now) keys.now }
 {
-    keys.iter().any(|k| key == *k)
+    keys.iter().any(|k| is_same_text(key, *k))
 }
 
 fn is_name(text: &str) -> bool
