@@ -13,7 +13,7 @@ use Rattle.couch_answers.specs.declared.place.Wanted.TheVariants.{Documents}
 use Rattle.couch_answers.specs.declared.place.Name.{Name}
 use Rattle.couch_answers.specs.declared.place.Name.TheVariants as names
 use Rattle.couch_answers.proofs.Readings.{after-append, pieces-append}
-use Rattle.couch_answers.proofs.Bytes.{At, Within, Steps, Ends, BeginsKey, BeforeObject, o_start, o_between, o_item, o_next, BeforeList, l_start, l_between, l_list, MaySpace, s_start, s_between, s_item, s_next_item, s_after_item, s_member, s_next_member, s_after_member, s_colon, s_list, closed_at, opens_object, opens_list, closes_empty, closes_object, closes_no_items, closes_list, item_comma, member_comma, list_colon, spaced, first_key, next_key, key_plain, key_escape, key_escaped, key_end, value_colon, value_lead, value_space, value_plain, value_quote, object_opens, list_opens, object_closes, list_closes, quoted_plain, quoted_escape, quoted_escaped, quoted_end, ends_comma, ends_brace}
+use Rattle.couch_answers.proofs.Bytes.{At, Within, Steps, EndsText, BeginsKey, BeforeObject, o_start, o_between, o_item, o_next, BeforeList, l_start, l_between, l_list, MaySpace, s_start, s_between, s_item, s_next_item, s_after_item, s_member, s_next_member, s_after_member, s_colon, s_list, closed_at, opens_object, opens_list, closes_empty, closes_object, closes_no_items, closes_list, item_comma, member_comma, list_colon, spaced, first_key, next_key, key_plain, key_escape, key_escaped, key_end, value_colon, value_lead, value_space, value_plain, value_quote, object_opens, list_opens, object_closes, list_closes, quoted_plain, quoted_escape, quoted_escaped, quoted_end, ends_comma, ends_brace}
 
 -- ---- texts from a place on
 
@@ -183,7 +183,7 @@ mutual
 
   some_members : {p : Place} (n d : ℕ) → n ≡ d + 1 → (t : List ℕ) (ps : List Piece) → BeginsKey p n → IsMembers n t ps → Leads (At p n) t (At (closed_at d AfterItem) d) ps
   some_members n d e text ps begins (last_value {k} s s' {t} {u} {name} named of h h' v) =
-      let brace = subst (λ z. Ends (Value name) z 0 u 125 (closed_at d AfterItem) d (held name u)) (sym e) (ends_brace d u of v.json) in
+      let brace = subst (λ z. EndsText (Value name) z 0 u 125 (closed_at d AfterItem) d (held name u)) (sym e) (ends_brace d u of v.json) in
       value_named n k s s' t u name begins named of h h' v (pieces_to (append-nil (held name u)) (then_held (held name u) brace none_read))
   some_members n d e text ps begins (value {k} s s' s'' {t} {u} {more} {name} {ps = qs} named of h h' v h'' m) =
       value_named n k s s' t u name begins named of h h' v

@@ -145,10 +145,10 @@ takes : (p : Place) (d n : ℕ) (u : List ℕ) (b : ℕ) (p' : Place) (n' : ℕ)
 takes p d n u b p' n' u' f s h = subst (λ z. Within p' d n' u' (step z b) × (given (step z b) ≡ [])) (sym (is_held s h)) (f s)
 
 -- a byte behind the whole text
-abbrev pub Ends : Place → ℕ → ℕ → List ℕ → ℕ → Place → ℕ → List Piece → Type 0
-Ends p d n u b p' d' ps = (s : State) → Within p d n u s → At p' d' (step s b) × (given (step s b) ≡ ps)
+abbrev pub EndsText : Place → ℕ → ℕ → List ℕ → ℕ → Place → ℕ → List Piece → Type 0
+EndsText p d n u b p' d' ps = (s : State) → Within p d n u s → At p' d' (step s b) × (given (step s b) ≡ ps)
 
-ends : (p : Place) (d n : ℕ) (u : List ℕ) (b : ℕ) (p' : Place) (d' : ℕ) (ps : List Piece) → ((s : State) → At p' d' (step (held_in s p d n u) b) × (given (step (held_in s p d n u) b) ≡ ps)) → Ends p d n u b p' d' ps
+ends : (p : Place) (d n : ℕ) (u : List ℕ) (b : ℕ) (p' : Place) (d' : ℕ) (ps : List Piece) → ((s : State) → At p' d' (step (held_in s p d n u) b) × (given (step (held_in s p d n u) b) ≡ ps)) → EndsText p d n u b p' d' ps
 ends p d n u b p' d' ps f s h = subst (λ z. At p' d' (step z b) × (given (step z b) ≡ ps)) (sym (is_held s h)) (f s)
 
 -- where a text begins
@@ -195,7 +195,7 @@ inner_same : (inner : Bool) (t : List ℕ) → name_of Documents inner t ≡ nam
 unfolding name_of
 inner_same inner t = refl
 
-pub key_end : (d n : ℕ) (u : List ℕ) (name : Name) → is_json (u ++ 34 ∷ []) ≡ true → name_of Documents false (u ++ 34 ∷ []) ≡ name → Ends Key d n u 34 (Colon name) d []
+pub key_end : (d n : ℕ) (u : List ℕ) (name : Name) → is_json (u ++ 34 ∷ []) ≡ true → name_of Documents false (u ++ 34 ∷ []) ≡ name → EndsText Key d n u 34 (Colon name) d []
 unfolding step
 key_end d n u name json says = ends Key d n u 34 (Colon name) d [] (λ s. rw json (record { wanted = refl; place = ap Colon (inner_same s.inner (u ++ 34 ∷ []) ∙ says); depth = refl }, refl))
 
@@ -257,14 +257,14 @@ module _ (name : Name) (d n : ℕ) (u : List ℕ) where
   unfolding step
   quoted_end = takes (Quoted name) d n u 34 (Value name) n (u ++ 34 ∷ []) (λ s. (record { wanted = refl; place = refl; depth = refl; nesting = refl; text = refl }, refl))
 
-pub ends_comma : {name : Name} (d : ℕ) (u : List ℕ) → IsOfText name → is_json u ≡ true → Ends (Value name) d 0 u 44 NextMember d (held name u)
+pub ends_comma : {name : Name} (d : ℕ) (u : List ℕ) → IsOfText name → is_json u ≡ true → EndsText (Value name) d 0 u 44 NextMember d (held name u)
 unfolding step
 ends_comma d u of_document e = ends (Value names.Document) d 0 u 44 NextMember d (held names.Document u) (λ s. rw e (record { wanted = refl; place = refl; depth = refl }, refl))
 ends_comma d u of_passed e = ends (Value names.Passed) d 0 u 44 NextMember d (held names.Passed u) (λ s. rw e (record { wanted = refl; place = refl; depth = refl }, refl))
 ends_comma d u of_last e = ends (Value names.Last) d 0 u 44 NextMember d (held names.Last u) (λ s. rw e (record { wanted = refl; place = refl; depth = refl }, refl))
 ends_comma d u of_other e = ends (Value names.Other) d 0 u 44 NextMember d (held names.Other u) (λ s. rw e (record { wanted = refl; place = refl; depth = refl }, refl))
 
-pub ends_brace : {name : Name} (d : ℕ) (u : List ℕ) → IsOfText name → is_json u ≡ true → Ends (Value name) (d + 1) 0 u 125 (closed_at d AfterItem) d (held name u)
+pub ends_brace : {name : Name} (d : ℕ) (u : List ℕ) → IsOfText name → is_json u ≡ true → EndsText (Value name) (d + 1) 0 u 125 (closed_at d AfterItem) d (held name u)
 unfolding step
 ends_brace d u of_document e = ends (Value names.Document) (d + 1) 0 u 125 (closed_at d AfterItem) d (held names.Document u) (λ s. rw e (record { wanted = refl; place = refl; depth = less_one d }, refl))
 ends_brace d u of_passed e = ends (Value names.Passed) (d + 1) 0 u 125 (closed_at d AfterItem) d (held names.Passed u) (λ s. rw e (record { wanted = refl; place = refl; depth = less_one d }, refl))

@@ -10,7 +10,7 @@ use Rattle.couch_answers.specs.State.{State, start}
 use Rattle.couch_answers.specs.Steps.{is_refused}
 use Rattle.couch_answers.specs.Reading.{Piece, after, given, piece_of, pieces, end_of, last_end, whole}
 use Rattle.couch_answers.specs.Words.{Words, text_for, words_then, texts, words_behind, last_text}
-use Rattle.couch_answers.specs.Runs.{Fed, IsWhole, Begins, Ends, Finishes, IsAll, Answered, Stopped, CountsOf, CountsOfWriter, all_text, judged_by, ended_of}
+use Rattle.couch_answers.specs.Runs.{Fed, IsWhole, Begins, EndsAnswers, Finishes, IsAll, Answered, Stopped, CountsOf, CountsOfWriter, all_text, judged_by, ended_of}
 use Rattle.couch_answers.specs.declared.place.Place.{Place}
 use Rattle.couch_answers.specs.declared.place.Place.TheVariants.{Start, Between, Item, NextItem, AfterItem, Member, NextMember, AfterMember, Key, KeyEscape, Colon, List as ListPlace, Value, Quoted, Escaped, Line, Refused as Place-Refused}
 use Rattle.couch_answers.specs.declared.place.Refusal.{Refusal}
@@ -147,7 +147,7 @@ Begins-taken fault s s' w rest n a b whole p =
 -- ---- the end
 
 -- the end behind a last line
-pub Finishes-end : (s s' : State) (w w' : Words) (a b c : Option (List ℕ)) (x : Result ℕ AnswerFault) → Fed s w (last_end s) s' w' a b → Ends s' w' b c x → Finishes s w a c x
+pub Finishes-end : (s s' : State) (w w' : Words) (a b c : Option (List ℕ)) (x : Result ℕ AnswerFault) → Fed s w (last_end s) s' w' a b → EndsAnswers s' w' b c x → Finishes s w a c x
 Finishes-end s s' w w' a b c (Ok passed) f e =
     let all = pieces s (last_end s) in (
       subst (λ z. Appends a c (texts w all ++ last_text z)) f.words (Appends-trans a b c (texts w all) (last_text w') f.written e.0),

@@ -54,12 +54,12 @@ pub record EndsInPart (fault : ScriptFault) (whole : List ℕ) (held held' : Opt
   pub failed : fault ≡ Write
 
 -- the last text is written where what was read is whole answers and nothing else
-abbrev pub Ends : State → Words → Option (List ℕ) → Option (List ℕ) → Result ℕ AnswerFault → Type 0
-Ends s w held held' (Ok passed) =
+abbrev pub EndsAnswers : State → Words → Option (List ℕ) → Option (List ℕ) → Result ℕ AnswerFault → Type 0
+EndsAnswers s w held held' (Ok passed) =
     Appends held held' (last_text w) × (end_of s.place ≡ Ok tt) × (passed ≡ s.passed)
-Ends s w held held' (Err (Refused why at)) =
+EndsAnswers s w held held' (Err (Refused why at)) =
     Appends held held' [] × (end_of s.place ≡ Err why) × (at ≡ s.taken)
-Ends s w held held' (Err (Device fault)) = EndsInPart fault (last_text w) held held'
+EndsAnswers s w held held' (Err (Device fault)) = EndsInPart fault (last_text w) held held'
 
 -- a last line is ended first
 abbrev pub Finishes : State → Words → Option (List ℕ) → Option (List ℕ) → Result ℕ AnswerFault → Type 0

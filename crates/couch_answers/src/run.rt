@@ -11,7 +11,7 @@ ghost use Rattle.couch_answers.specs.ChangeGrammar.{IsChangeScript};
 ghost use Rattle.couch_answers.specs.Words.{texts, words_behind};
 ghost use Rattle.script_engine.specs.declared.fault.ScriptFault.TheVariants.{Memory};
 ghost use Rattle.couch_answers.specs.declared.run.AnswerFault.TheVariants.{Device};
-ghost use Rattle.couch_answers.specs.Runs.{Fed, Begins, Ends, Finishes, Answered, Stopped, CountsOf, CountsOfWriter, ReadsAnswers, ended_of};
+ghost use Rattle.couch_answers.specs.Runs.{Fed, Begins, EndsAnswers, Finishes, Answered, Stopped, CountsOf, CountsOfWriter, ReadsAnswers, ended_of};
 
 use crate::place::{Refusal, Wanted};
 use crate::reading::Reading;
@@ -142,8 +142,8 @@ fn end<W: ScriptWrite>(
     wording: &Wording,
     writer: &mut W,
 ) -> Result<u64, AnswerFault>
-    ensures ends { Ends (state_of reading.now) (words_of_wording wording.now) (W.held writer.old) (W.held writer.new)
-        result }
+    ensures ends { EndsAnswers (state_of reading.now) (words_of_wording wording.now) (W.held writer.old)
+        (W.held writer.new) result }
     ensures counts { CountsOfWriter result (W.failures writer.old) (W.failures writer.new) }
 {
     match ended(reading) {
