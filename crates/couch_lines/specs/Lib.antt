@@ -1,3 +1,3 @@
 pub mod Tasks
-pub mod Ends
+pub mod Runs
 pub mod Status

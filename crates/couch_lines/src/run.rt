@@ -1,7 +1,7 @@
 //! A run of the program over any reader and writer: its words, and what they ask for.
 ghost use Rattle.std.specs.Prelude.{◌≡◌, IfOk, map, string_bytes};
 ghost use Rattle.couch_answers.specs.Stored.{words_of_wording};
-ghost use Rattle.couch_lines.specs.Ends.{Ends, IsDone, Makes, wanted_of, words_of_task};
+ghost use Rattle.couch_lines.specs.Runs.{RunsWords, IsDone, Makes, wanted_of, words_of_task};
 
 use crate::options::{NoTask, read_words};
 use crate::tasks::Task;
@@ -25,7 +25,7 @@ pub fn run_words<'a, R: ScriptRead, W: ScriptWrite>(
     reader: &mut R,
     writer: &mut W,
 ) -> Ended
-    ensures { Ends (map string_bytes words.entry.now) (R.left reader.old) (R.left reader.new)
+    ensures { RunsWords (map string_bytes words.entry.now) (R.left reader.old) (R.left reader.new)
         (W.held writer.old) (W.held writer.new) result }
 {
     let task = match read_words(alloc, words) {

@@ -1,7 +1,7 @@
 use Rattle.std.proofs.lemmas.Result.{err_from_is_err_and}
 use Rattle.script_engine.specs.declared.fault.ScriptFault.TheVariants.{Memory}
 use Rattle.couch_answers.proofs.Runs.{Stopped-none}
-use Rattle.couch_lines.specs.Ends.{wanted_of, words_of_task}
+use Rattle.couch_lines.specs.Runs.{wanted_of, words_of_task}
 use Rattle.couch_lines.proofs.run.run_task.Goals as goal
 
 pub returns-in_err-wording-clause-done : goal.returns-in_err-wording-clause-done

@@ -1,4 +1,4 @@
--- How the words of a command line end, over any reader and writer: docs/PROFILE.md, "CouchDB's answers".
+-- How the words of a command line are run, over any reader and writer: docs/PROFILE.md, "CouchDB's answers".
 use Rattle.std.specs.Prelude.{◌≡◌, ℕ, List, Option, Some, Result, Ok, Err, string_bytes, ⊤}
 use Rattle.couch_answers.specs.Words.{Words, loads_of, asked_words, docs_of, bodies_of}
 use Rattle.couch_answers.specs.Reading.{Piece}
@@ -46,7 +46,7 @@ Makes (Bulk n) left held held' result = (answers : List ℕ) → (documents : Li
     → IsScript answers documents → ReadsAnswers (bodies_of n) documents held held' result
 
 -- words that ask for nothing: nothing is read or written; else what they ask for is done
-abbrev pub Ends : List (List ℕ) → Option (List ℕ) → Option (List ℕ) → Option (List ℕ) → Option (List ℕ) → Ended → Type 0
-Ends words left left' held held' (NotRun why) = Refuses words why × (left' ≡ left) × (held' ≡ held)
-Ends words left left' held held' (Ran ended) =
+abbrev pub RunsWords : List (List ℕ) → Option (List ℕ) → Option (List ℕ) → Option (List ℕ) → Option (List ℕ) → Ended → Type 0
+RunsWords words left left' held held' (NotRun why) = Refuses words why × (left' ≡ left) × (held' ≡ held)
+RunsWords words left left' held held' (Ran ended) =
     (task : Task) × Says words task × IsDone task left held held' ended × Makes task left held held' ended
