@@ -110,7 +110,8 @@ fn walk_quarters<F: WriteFilter + Send + Sync, R: Threads + Sync>(
 
 /// Whether the target covers each leaf of the source's chosen feed above a sequence, else the first that it doesn't.
 ///
-/// By as many threads as the plan has workers, but by four at most, and by one alone where the feed is short.
+/// By four threads where the plan has four workers and there are 8,000 sequences to walk over, by two where it has two
+/// workers and there are 4,000, and else by this thread alone.
 pub fn walk<F: WriteFilter + Send + Sync, R: Threads + Sync>(
     rt: &R,
     alloc: Global,
