@@ -9,3 +9,6 @@ pub mod AncestryLaws
 pub mod Answers
 pub mod Checks
 pub mod NewRev
+pub mod KeptRev
+pub mod KeptForm
+pub mod LineageForm
