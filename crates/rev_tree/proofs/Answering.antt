@@ -1,20 +1,20 @@
 -- What a merge answers, from the edges and the content of the head.
 use Rattle.std.proofs.Common.{◌≡◌, ◌&&◌, List, [], ◌∷◌, Option, Some, None, Bool, true, false, is_some, Result, Ok, Err, sym, ap, ◌∙◌, subst, refl}
-use Rattle.std.proofs.lemmas.Bool.{false≢true, and_parts}
+use Rattle.std.proofs.lemmas.Bool.{false≢true, and_parts, and_from}
 use Rattle.std.proofs.Math.Bool.{and-false}
 use Rattle.std.specs.List.{list_all}
 use Rattle.std.specs.FinMap.{get}
+use Rattle.std.proofs.lemmas.Option.{same_Some}
+use Rattle.std.specs.Cmp.{both_ways}
 use Rattle.rev_core.specs.Rev.{RevId}
 use Rattle.rev_core.specs.Ancestry.{edges_of, head_of}
 use Rattle.rev_tree.specs.Tree.{TreeValue, IsTree, has, has_edge, contradiction_at, first_contradiction, is_same, at_head, answer_of, merge_answer, merged}
 use Rattle.rev_tree.specs.Content.{ContentValue}
-use Rattle.rev_tree.specs.TreeLaws.{and_both, both_none, agrees, same_from_merged}
-use Rattle.rev_tree.specs.LeafLaws.{same_tests}
+use Rattle.rev_tree.specs.TreeLaws.{both_none, agrees, same_from_merged}
 use Rattle.rev_tree.specs.declared.fault.Merged.{Merged}
 use Rattle.rev_tree.specs.declared.fault.Merged.TheVariants.{Same, Changed}
 use Rattle.rev_tree.specs.declared.fault.Contradiction.{Contradiction}
 use Rattle.rev_tree.specs.declared.origin.Origin.{Origin}
-use Rattle.rev_tree.proofs.Places.{some_is}
 
 -- a parent that is known and contradicts nothing is in the tree
 given_parent : (t : TreeValue) → IsTree t → (r s : RevId) (o : Option RevId) → get t.parents r ≡ o → contradiction_at r s o ≡ None → is_some o ≡ true → has t s ≡ true
@@ -27,21 +27,21 @@ known_rest t tree r [] none all = refl
 known_rest t tree r (s ∷ rest) none all =
     let apart = both_none (contradiction_at r s (get t.parents r)) (first_contradiction t.parents (edges_of (s ∷ rest))) none in
     let both = and_parts _ _ all in
-    and_both (given_parent t tree r s (get t.parents r) refl apart.0 both.0) (known_rest t tree s rest apart.1 both.1)
+    and_from _ _ (given_parent t tree r s (get t.parents r) refl apart.0 both.0) (known_rest t tree s rest apart.1 both.1)
 
 -- and the head is where it has a content
 pub is_same-edges : (t : TreeValue) → IsTree t → (revs : List RevId) (head : RevId) → head_of revs ≡ Some head → first_contradiction t.parents (edges_of revs) ≡ None
     → is_same t revs ≡ (list_all (has_edge t) (edges_of revs) && is_some (get t.contents head))
 is_same-edges t tree [] head h none = absurd (false≢true (ap is_some h))
 is_same-edges t tree (r ∷ rest) head h none =
-    same_tests _ _
+    both_ways _ _
     (λ same.
     let outer = and_parts _ _ same in
-    and_both (and_parts _ _ outer.0).1 (ap (λ q. is_some (get t.contents q)) (sym (some_is r head h)) ∙ (and_parts _ _ outer.1).0))
+    and_from _ _ (and_parts _ _ outer.0).1 (ap (λ q. is_some (get t.contents q)) (sym (same_Some r head h)) ∙ (and_parts _ _ outer.1).0))
     (λ known.
     let both = and_parts _ _ known in
-    let content = ap (λ q. is_some (get t.contents q)) (some_is r head h) ∙ both.1 in
-    and_both (and_both (and_both (tree.content r content) (known_rest t tree r rest none both.0)) both.0) (and_both content refl))
+    let content = ap (λ q. is_some (get t.contents q)) (same_Some r head h) ∙ both.1 in
+    and_from _ _ (and_from _ _ (and_from _ _ (tree.content r content) (known_rest t tree r rest none both.0)) both.0) (and_from _ _ content refl))
 
 -- ---- the answer
 

@@ -8,11 +8,10 @@ use Rattle.std.specs.Int.{from_be_bytes, w64}
 use Rattle.std.specs.declared.cmp.Ordering.{Ordering}
 use Rattle.std.specs.declared.cmp.Ordering.TheVariants.{Less, Equal, Greater}
 use Rattle.std.specs.Ordering.{nat_cmp, bool_cmp, ordering_then, ordering_reverse, MatchOrdering}
-use Rattle.std.specs.Cmp.{ranks, tied_itself, nat_cmp_total, bool_cmp_total}
+use Rattle.std.specs.Cmp.{ranks, tied_itself, nat_cmp_total, bool_cmp_total, both_ways}
 use Rattle.std.specs.Cmp.Lexicographic.{slice_cmp, nat_list_cmp_total, pointwise, bytes_decides}
 use Rattle.std.specs.Prelude.{nat_eq}
 use Rattle.std.proofs.lemmas.List.{drop_more, drop-drop, take-append-drop, take_all}
-use Rattle.rev_tree.specs.LeafLaws.{same_tests}
 use Rattle.std.proofs.lemmas.Bool.Decides.{nat_tests}
 use Rattle.rev_core.specs.Sig.{is_sig, is_sig_byte}
 use Rattle.rev_tree.specs.Words.{front_of}
@@ -138,7 +137,7 @@ joined n xs ys p q = sym (take-append-drop n xs) ∙ (λ i. p i ++ q i) ∙ take
 pub words_decide : (xs ys : List ℕ) → Bytes xs → Bytes ys → length xs ≡ 32 → length ys ≡ 32
     → (nat_eq (front_of 8 xs) (front_of 8 ys) && nat_eq (front_of 8 (drop 8 xs)) (front_of 8 (drop 8 ys)) && nat_eq (front_of 8 (drop 16 xs)) (front_of 8 (drop 16 ys)) && nat_eq (front_of 8 (drop 24 xs)) (front_of 8 (drop 24 ys)))
     ≡ pointwise nat_eq xs ys
-words_decide xs ys bx by lx ly = same_tests _ _
+words_decide xs ys bx by lx ly = both_ways _ _
     (λ e.
     let fourth = and_parts _ _ e in
     let third = and_parts _ _ fourth.0 in

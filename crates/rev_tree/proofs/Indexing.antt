@@ -8,6 +8,7 @@ use Rattle.std.specs.Ordering.{eq_by_cmp}
 use Rattle.std.specs.Option.{option_or}
 use Rattle.std.specs.FinMap.{find}
 use Rattle.std.specs.Map.{lookup}
+use Rattle.std.proofs.lemmas.Option.{same_Some}
 use Rattle.rev_core.specs.Rev.{RevId, rev_cmp}
 use Rattle.rev_core.specs.RevOrder.{rev_tie_is}
 use Rattle.rev_core.specs.Ancestry.{is_among}
@@ -16,7 +17,6 @@ use Rattle.rev_tree.specs.Index.{index_for, mark_of, noted, noted_from}
 use Rattle.rev_tree.specs.Nodes.{revs_in, places_from}
 use Rattle.rev_tree.specs.Node.{NodeValue}
 use Rattle.rev_tree.specs.declared.nodes.TheConstants.{MOST_WALKED}
-use Rattle.rev_tree.proofs.Places.{some_is}
 use Rattle.rev_tree.proofs.Linking.{length-revs_in}
 use Rattle.rev_tree.proofs.Leaves.{revs_more}
 
@@ -82,7 +82,7 @@ noted_below es m i low q p is =
     ] is
   where
     only : (b : Bool) → cond b (Some i) None ≡ Some p → p < i + 1
-    only true h = omega (arith, some_is i p h)
+    only true h = omega (arith, same_Some i p h)
     only false h = absurd (false≢true (ap is_some h))
 
 -- ---- the marks of revisions

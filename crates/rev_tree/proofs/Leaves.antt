@@ -17,10 +17,11 @@ use Rattle.rev_tree.specs.InOrder.{in_order, placed, first_of, first_of-placed, 
 use Rattle.rev_tree.specs.Tree.{TreeValue, is_leaf, is_deleted, leaf_cmp, leaves}
 use Rattle.rev_tree.specs.Content.{ContentValue}
 use Rattle.std.specs.Option.{option_map, option_map_or, option_to_list}
+use Rattle.std.proofs.lemmas.Option.{same_Some}
 use Rattle.rev_tree.specs.LeafLaws.{leaf_cmp_total, leaf_cmp_exact, leaf_tie, any_agree, any_filter}
 use Rattle.rev_tree.specs.Nodes.{revs_in, tree_of, deletes, goes_before, Distinct, IsLinked}
 use Rattle.rev_tree.specs.Node.{NodeValue}
-use Rattle.rev_tree.proofs.Places.{is_some-node_of, node_at, read_at, some_is}
+use Rattle.rev_tree.proofs.Places.{is_some-node_of, node_at, read_at}
 use Rattle.rev_tree.proofs.Lookups.{leaf_is, content_is}
 use Rattle.rev_tree.proofs.Views.{has-tree_of}
 
@@ -81,7 +82,7 @@ best_none t = record { first = ap first_of (sym (in_order-nil (leaf_cmp t))); to
 pub best_placed : (t : TreeValue) (xs : List RevId) (best : Option NodeValue) (n : NodeValue) → is_deleted t n.rev ≡ deletes n → IsBest t xs best → IsBest t (placed (leaf_cmp t) n.rev xs) (cond (goes_before n best) (Some n) best)
 best_placed t xs None n h best = record {
   first = ap (λ o. Some (better (leaf_cmp t) o n.rev)) best.first ∙ sym (first_of-placed (leaf_cmp t) n.rev xs);
-  told = λ m e. subst (λ (x : NodeValue). is_deleted t x.rev ≡ deletes x) (some_is n m e) h;
+  told = λ m e. subst (λ (x : NodeValue). is_deleted t x.rev ≡ deletes x) (same_Some n m e) h;
 }
 best_placed t xs (Some a) n h best =
     let same : goes_before n (Some a) ≡ is_lt (leaf_cmp t n.rev a.rev) = λ i. is_lt (ordering_then (bool_cmp (sym h i) (sym (best.told a refl) i)) (rev_cmp a.rev n.rev)) in
@@ -97,7 +98,7 @@ best_placed t xs (Some a) n h best =
     one false = refl
 
     of_one : (b : Bool) (m : NodeValue) → cond b (Some n) (Some a) ≡ Some m → is_deleted t m.rev ≡ deletes m
-    of_one true m e = subst (λ (x : NodeValue). is_deleted t x.rev ≡ deletes x) (some_is n m e) h
+    of_one true m e = subst (λ (x : NodeValue). is_deleted t x.rev ≡ deletes x) (same_Some n m e) h
     of_one false m e = best.told m e
 
 pub best_of_all : (nodes items : List NodeValue) (t : TreeValue) → IsLinked nodes → tree_of nodes ≡ t → items ≡ nodes → (k : ℕ) (best : Option NodeValue) → length items ≤ k

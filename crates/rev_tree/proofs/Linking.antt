@@ -1,22 +1,23 @@
 -- Nodes that are added, filled and linked.
 use Rattle.std.proofs.lemmas.List.{length-map}
 use Rattle.std.proofs.Common.{◌≡◌, ℕ, zero, suc, ◌<◌, ◌⊎◌, List, [], ◌∷◌, ◌++◌, length, set, slice_get, Option, Some, None, Bool, true, false, ◌||◌, ◌&&◌, cond, is_some, IfSome, sym, ap, ◌∙◌, subst, refl, inl, inr, arith, length-append, length-set}
-use Rattle.std.proofs.lemmas.Bool.{false≢true, or_right}
+use Rattle.std.proofs.lemmas.Bool.{false≢true, or_right, or_cases}
 use Rattle.std.specs.Ordering.{eq_by_cmp}
 use Rattle.std.specs.Option.{option_or}
 use Rattle.std.specs.FinMap.{find, get, from_entries}
+use Rattle.std.proofs.lemmas.Option.{same_Some}
+use Rattle.std.specs.Cmp.{both_ways}
 use Rattle.rev_core.specs.Rev.{RevId, rev_cmp}
 use Rattle.rev_core.specs.RevOrder.{rev_tie_is, rev_tie_self}
 use Rattle.rev_core.specs.Ancestry.{is_among}
 use Rattle.rev_tree.specs.Content.{ContentValue}
 use Rattle.rev_tree.specs.Tree.{TreeValue, joined, is_parent}
-use Rattle.rev_tree.specs.TreeLaws.{get-joined, get-joined_known, some_or, or_cases, same_joined, child_of_parent, parent_from_child}
-use Rattle.rev_tree.specs.LeafLaws.{same_tests}
+use Rattle.rev_tree.specs.TreeLaws.{get-joined, get-joined_known, some_or, same_joined, child_of_parent, parent_from_child}
 use Rattle.rev_tree.specs.Steps.{with_rev, with_edge, with_content}
 use Rattle.rev_tree.specs.Nodes.{revs_in, rev_at, node_of, Distinct, entries_of, parent_in, place_of, tree_of, IsNode, IsLinked}
 use Rattle.rev_tree.specs.Node.{NodeValue}
 use Rattle.rev_tree.specs.declared.origin.Origin.{Origin}
-use Rattle.rev_tree.proofs.Places.{some_is, is_some-node_of, node_rev, node_at, among_at, rev_at_place, node_of-push, place_unknown, revs_in-push, distinct_push, slice_get-push}
+use Rattle.rev_tree.proofs.Places.{is_some-node_of, node_rev, node_at, among_at, rev_at_place, node_of-push, place_unknown, revs_in-push, distinct_push, slice_get-push}
 use Rattle.rev_tree.proofs.Setting.{revs_in-set, node_of-set}
 use Rattle.rev_tree.proofs.Views.{part, get-origins, get-parents, get-contents, joined_entries, same_entries}
 
@@ -70,7 +71,7 @@ pub linked_from_marked : (nodes : List NodeValue) (mark : RevId → Bool) → ((
 linked_from_marked nodes mark is h = record { once = h.once; each = λ q n e. record { parent = h.within q n e; child = h.child q n e ∙ is n.rev } }
 
 set_cases : (b : Bool) (m : NodeValue) (o : Option NodeValue) (x : NodeValue) → cond b (Some m) o ≡ Some x → (x ≡ m) ⊎ ((b ≡ false) × (o ≡ Some x))
-set_cases true m o x h = inl (sym (some_is m x h))
+set_cases true m o x h = inl (sym (same_Some m x h))
 set_cases false m o x h = inr (refl, h)
 
 pub marked_set : (nodes : List NodeValue) (mark after : RevId → Bool) (k : ℕ) (n m : NodeValue) → IsMarked nodes mark → slice_get nodes k ≡ Some n → m.rev ≡ n.rev
@@ -101,7 +102,7 @@ module _ (nodes : List NodeValue) (k : ℕ) (n : NodeValue) (linked : IsLinked n
   same_node = node_at nodes linked.once k n at
 
   rev_is : (r : RevId) → slice_get (revs_in nodes) k ≡ Some r → n.rev ≡ r
-  rev_is r h = some_is n.rev r (sym (rev_at_place nodes k n at) ∙ h)
+  rev_is r h = same_Some n.rev r (sym (rev_at_place nodes k n at) ∙ h)
 
   module _ (b : ContentValue) where
     pub revs_given : revs_in (set nodes k (with_body n b)) ≡ revs_in nodes
@@ -158,7 +159,7 @@ with_mark n = record { rev = n.rev; parent = n.parent; content = n.content; orig
 -- whose parent a new edge names
 pub is_parent-edge : (t : TreeValue) (c p : RevId) → get t.parents c ≡ None → (q : RevId) → (is_parent t q || eq_by_cmp rev_cmp q p) ≡ is_parent (with_edge t c p) q
 is_parent-edge t c p none q =
-    same_tests _ _
+    both_ways _ _
     (λ h. elim (or_cases (is_parent t q) (eq_by_cmp rev_cmp q p) h) [
       | inl known ↦ let w = child_of_parent t q known in parent_from_child (with_edge t c p) q w.0 (get-joined_known t.parents ((c, p) ∷ []) w.0 q w.1)
       | inr new ↦ parent_from_child (with_edge t c p) q c
@@ -173,7 +174,7 @@ is_parent-edge t c p none q =
     ])
   where
     only : (b : Bool) (p q : RevId) → cond b (Some p) None ≡ Some q → eq_by_cmp rev_cmp q p ≡ true
-    only true p q h = ap (λ x. eq_by_cmp rev_cmp q x) (some_is p q h) ∙ rev_tie_self q
+    only true p q h = ap (λ x. eq_by_cmp rev_cmp q x) (same_Some p q h) ∙ rev_tie_self q
     only false p q h = absurd (false≢true (ap is_some h))
 
 or_false : (a b : Bool) → b ≡ false → a ≡ (a || b)
@@ -334,7 +335,7 @@ module _ (nodes : List NodeValue) (r : RevId) (o : Origin) (linked : IsLinked no
   same_marks q = λ i. is_parent (record { origins = (tree_of nodes).origins; parents = sym parents_added i; contents = (tree_of nodes).contents }) q
 
   the_new : (b : Bool) (n : NodeValue) → cond b (Some (new_node r o)) None ≡ Some n → n ≡ new_node r o
-  the_new true n h = sym (some_is (new_node r o) n h)
+  the_new true n h = sym (same_Some (new_node r o) n h)
   the_new false n h = absurd (false≢true (ap is_some h))
 
   longer : (p : Option ℕ) → IfSome p (λ i. i < length nodes) → IfSome p (λ i. i < length (nodes ++ new_node r o ∷ []))

@@ -1,10 +1,10 @@
 -- Nodes by their places and by their revisions.
-use Rattle.std.proofs.Common.{◌≡◌, ℕ, zero, suc, ◌+◌, ◌<◌, List, [], ◌∷◌, ◌++◌, map, length, get_or, Option, Some, None, Bool, true, false, ◌||◌, cond, is_some, IfSome, slice_get, sym, ap, ◌∙◌, subst, refl, arith}
-use Rattle.std.proofs.lemmas.Bool.{false≢true, or_right}
-use Rattle.std.proofs.lemmas.Option.{slice_get-map, slice_get_within, slice_get_read}
+use Rattle.std.proofs.Common.{◌≡◌, ℕ, zero, suc, ◌+◌, ◌<◌, List, [], ◌∷◌, ◌++◌, map, length, get_or, Option, Some, None, true, false, ◌||◌, cond, is_some, IfSome, slice_get, sym, ap, ◌∙◌, subst, refl, arith}
+use Rattle.std.proofs.lemmas.Bool.{false≢true, or_right, or_parts, or_from}
+use Rattle.std.proofs.lemmas.Option.{slice_get-map, slice_get_within, slice_get_read, same_Some}
 use Rattle.std.proofs.lemmas.List.{map-append}
 use Rattle.std.specs.Ordering.{eq_by_cmp}
-use Rattle.std.specs.Option.{option_map_or, option_map, option_or}
+use Rattle.std.specs.Option.{option_map, option_or}
 use Rattle.std.specs.Cmp.{eq_by_cmp_equiv}
 use Rattle.std.specs.FinMap.{find}
 use Rattle.rev_core.specs.Rev.{RevId, rev_cmp}
@@ -13,9 +13,6 @@ use Rattle.rev_core.specs.Ancestry.{is_among}
 use Rattle.rev_tree.specs.TreeLaws.{find-joined}
 use Rattle.rev_tree.specs.Nodes.{revs_in, node_of, place_of, places_from, Distinct}
 use Rattle.rev_tree.specs.Node.{NodeValue}
-
-pub some_is : {X : Type 0} (x y : X) → Some x ≡ Some y → x ≡ y
-some_is x y e = ap (λ o. option_map_or (λ v. v) o x) e
 
 -- the place, counted from i, is that of the revision's node
 pub record IsFound (nodes : List NodeValue) (q : RevId) (i j : ℕ) : Type 0 where
@@ -31,7 +28,7 @@ place_found [] q i j h = absurd (false≢true (ap is_some h))
 place_found (n ∷ nodes) q i j h =
     elim (eq_by_cmp rev_cmp q n.rev) as (λ b. eq_by_cmp rev_cmp q n.rev ≡ b → cond b (Some i) (find rev_cmp q (places_from (i + 1) (revs_in nodes))) ≡ Some j → IsFound (n ∷ nodes) q i j) [
       | true ↦ λ tie k.
-          let same = some_is i j k in
+          let same = same_Some i j k in
           record {
             place = 0;
             node = n;
@@ -79,7 +76,7 @@ pub node_rev : (nodes : List NodeValue) (q : RevId) (n : NodeValue) → node_of 
 node_rev [] q n h = absurd (false≢true (ap is_some h))
 node_rev (m ∷ nodes) q n h =
     elim (eq_by_cmp rev_cmp q m.rev) as (λ b. eq_by_cmp rev_cmp q m.rev ≡ b → cond b (Some m) (node_of nodes q) ≡ Some n → n.rev ≡ q) [
-      | true ↦ λ tie k. ap (λ (x : NodeValue). x.rev) (sym (some_is m n k)) ∙ sym (rev_tie_is q m.rev tie)
+      | true ↦ λ tie k. ap (λ (x : NodeValue). x.rev) (sym (same_Some m n k)) ∙ sym (rev_tie_is q m.rev tie)
       | false ↦ λ _ k. node_rev nodes q n k
     ] refl h
 
@@ -88,7 +85,7 @@ rev_at_place nodes k n h = slice_get-map (λ (m : NodeValue). m.rev) nodes k ∙
 
 pub among_at : (revs : List RevId) (k : ℕ) (r : RevId) → slice_get revs k ≡ Some r → is_among r revs ≡ true
 among_at [] k r h = absurd (false≢true (ap is_some h))
-among_at (x ∷ revs) zero r h = ap (λ y. eq_by_cmp rev_cmp r y || is_among r revs) (some_is x r h) ∙ ap (λ b. b || is_among r revs) (rev_tie_self r)
+among_at (x ∷ revs) zero r h = ap (λ y. eq_by_cmp rev_cmp r y || is_among r revs) (same_Some x r h) ∙ ap (λ b. b || is_among r revs) (rev_tie_self r)
 among_at (x ∷ revs) (suc k) r h = or_right _ _ (among_at revs k r h)
 
 -- a revision that isn't among others is none of them
@@ -103,7 +100,7 @@ apart_from x revs r none h =
 pub node_at : (nodes : List NodeValue) → Distinct (revs_in nodes) → (k : ℕ) (n : NodeValue) → slice_get nodes k ≡ Some n → node_of nodes n.rev ≡ Some n
 node_at [] d k n h = absurd (false≢true (ap is_some h))
 node_at (m ∷ nodes) d zero n h =
-    let same = some_is m n h in
+    let same = same_Some m n h in
     ap (λ (x : NodeValue). cond (eq_by_cmp rev_cmp n.rev x.rev) (Some x) (node_of nodes n.rev)) same
     ∙ ap (λ b. cond b (Some n) (node_of nodes n.rev)) (rev_tie_self n.rev)
 node_at (m ∷ nodes) d (suc k) n h =
@@ -118,25 +115,18 @@ node_of-push nodes n q = ap (find rev_cmp q) (map-append (λ (m : NodeValue). (m
 pub revs_in-push : (nodes : List NodeValue) (n : NodeValue) → revs_in (nodes ++ n ∷ []) ≡ revs_in nodes ++ n.rev ∷ []
 revs_in-push nodes n = map-append (λ (m : NodeValue). m.rev) nodes (n ∷ [])
 
-pub two_false : (a b : Bool) → (a || b) ≡ false → (a ≡ false) × (b ≡ false)
-two_false true b h = absurd (false≢true (sym h))
-two_false false b h = (refl, h)
-
-among_push : (revs : List RevId) (r q : RevId) → is_among q (revs ++ r ∷ []) ≡ (is_among q revs || (eq_by_cmp rev_cmp q r || false))
-among_push [] r q = refl
-among_push (x ∷ revs) r q = elim (eq_by_cmp rev_cmp q x) as (λ b. (b || is_among q (revs ++ r ∷ [])) ≡ ((b || is_among q revs) || (eq_by_cmp rev_cmp q r || false))) [
+pub among_push : (revs : List RevId) (r q : RevId) → is_among q (revs ++ r ∷ []) ≡ (is_among q revs || eq_by_cmp rev_cmp q r)
+among_push [] r q = elim (eq_by_cmp rev_cmp q r) as (λ b. (b || false) ≡ b) [ true ↦ refl | false ↦ refl ]
+among_push (x ∷ revs) r q = elim (eq_by_cmp rev_cmp q x) as (λ b. (b || is_among q (revs ++ r ∷ [])) ≡ ((b || is_among q revs) || eq_by_cmp rev_cmp q r)) [
   | true ↦ refl
   | false ↦ among_push revs r q
 ]
 
-both_false : (a b : Bool) → a ≡ false → b ≡ false → (a || (b || false)) ≡ false
-both_false a b p q = λ i. p i || (q i || false)
-
 pub distinct_push : (revs : List RevId) (r : RevId) → Distinct revs → is_among r revs ≡ false → Distinct (revs ++ r ∷ [])
 distinct_push [] r d none = (refl, tt)
 distinct_push (x ∷ revs) r d none =
-    let parts = two_false (eq_by_cmp rev_cmp r x) (is_among r revs) none in
-    (among_push revs r x ∙ both_false _ _ d.0 ((eq_by_cmp_equiv rev_cmp_total).symm x r ∙ parts.0), distinct_push revs r d.1 parts.1)
+    let parts = or_parts (eq_by_cmp rev_cmp r x) (is_among r revs) none in
+    (among_push revs r x ∙ or_from _ _ d.0 ((eq_by_cmp_equiv rev_cmp_total).symm x r ∙ parts.0), distinct_push revs r d.1 parts.1)
 
 -- a place stays
 pub slice_get-push : {X : Type 0} (xs : List X) (x : X) (k : ℕ) (y : X) → slice_get xs k ≡ Some y → slice_get (xs ++ x ∷ []) k ≡ Some y
@@ -181,7 +171,7 @@ placed_at : (nodes : List NodeValue) → Distinct (revs_in nodes) → (i k : ℕ
 placed_at [] d i k n h = absurd (false≢true (ap is_some h))
 placed_at (m ∷ nodes) d i zero n h =
     let here : i ≡ i + 0 = omega arith in
-    ap (λ (x : NodeValue). cond (eq_by_cmp rev_cmp n.rev x.rev) (Some i) (find rev_cmp n.rev (places_from (i + 1) (revs_in nodes)))) (some_is m n h)
+    ap (λ (x : NodeValue). cond (eq_by_cmp rev_cmp n.rev x.rev) (Some i) (find rev_cmp n.rev (places_from (i + 1) (revs_in nodes)))) (same_Some m n h)
     ∙ ap (λ b. cond b (Some i) (find rev_cmp n.rev (places_from (i + 1) (revs_in nodes)))) (rev_tie_self n.rev)
     ∙ ap Some here
 placed_at (m ∷ nodes) d i (suc k) n h =
@@ -199,4 +189,4 @@ pub read_at : {X : Type 0} (xs : List X) (k : ℕ) (x : X) → k < length xs →
 read_at xs k x low is = slice_get_read xs (length xs) k x refl low is
 
 pub read_alike : {X : Type 0} (xs : List X) (k : ℕ) (x y : X) → k < length xs → x ≡ get_or xs k x → y ≡ get_or xs k y → x ≡ y
-read_alike xs k x y low is also = some_is x y (sym (read_at xs k x low is) ∙ read_at xs k y low also)
+read_alike xs k x y low is also = same_Some x y (sym (read_at xs k x low is) ∙ read_at xs k y low also)

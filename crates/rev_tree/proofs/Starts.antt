@@ -9,8 +9,8 @@ use Rattle.rev_tree.specs.Nodes.{IsIndexed}
 pub IsIndexed-none : IsIndexed [] []
 IsIndexed-none = record { index = refl; linked = record { once = tt; each = λ r n h. absurd (false≢true (ap is_some h)) } }
 
-pub IsTree-none : IsTree no_revisions
-IsTree-none = record {
+pub IsTree-no_revisions : IsTree no_revisions
+IsTree-no_revisions = record {
   revs = λ r h. absurd (false≢true (sym (ap is_some (get-empty rev_cmp r)) ∙ h));
   child = λ c p h. absurd (false≢true (sym (ap is_some (get-empty rev_cmp c)) ∙ ap is_some h));
   parent = λ c p h. absurd (false≢true (sym (ap is_some (get-empty rev_cmp c)) ∙ ap is_some h));

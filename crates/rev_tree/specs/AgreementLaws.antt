@@ -4,10 +4,10 @@ use Rattle.std.specs.List.{list_any}
 use Rattle.std.specs.Option.{option_map_or}
 use Rattle.std.specs.declared.cmp.Ordering.{Ordering}
 use Rattle.std.specs.Ordering.{eq_by_cmp, ordering_then, bool_cmp}
-use Rattle.std.specs.Cmp.{IsTotalOrder, eq_by_cmp_equiv}
+use Rattle.std.specs.Cmp.{IsTotalOrder, eq_by_cmp_equiv, both_ways}
 use Rattle.std.specs.FinMap.{get, find, keys, same_map}
 use Rattle.std.specs.FinMap.Entries.{by_order}
-use Rattle.std.proofs.lemmas.Bool.{and_parts, or_right, false≢true, cases_Bool}
+use Rattle.std.proofs.lemmas.Bool.{and_parts, or_right, false≢true, cases_Bool, or_cases, and_from}
 use Rattle.rev_core.specs.Rev.{RevId, rev_cmp}
 use Rattle.rev_core.specs.RevOrder.{rev_cmp_total, rev_cmp_exact, rev_tie_is}
 use Rattle.rev_core.specs.Ancestry.{edges_of, is_among}
@@ -15,8 +15,8 @@ use Rattle.rev_tree.specs.Content.{ContentValue}
 use Rattle.rev_tree.specs.InOrder.{in_order, placed, in_order-nil, in_order-cons, any-in_order, same_in_order}
 use Rattle.rev_tree.specs.Tree.{TreeValue, IsTree, has, is_parent, is_leaf, is_deleted, leaf_cmp, leaves, walk, ancestors, at_head, merged, SameRevisions}
 use Rattle.rev_tree.specs.Agreement.{Agree, IsWhole, IsRoot, IsGrownBy}
-use Rattle.rev_tree.specs.TreeLaws.{some_or, or_cases, and_both, both_none, child_of_parent, parent_from_child, get-joined, get-joined_known, has-merged, edge_found}
-use Rattle.rev_tree.specs.LeafLaws.{leaf_cmp_total, leaf_cmp_exact, leaf_tie, any_agree, is_among-leaves, same_tests, leaf_above, has_walked, IsAncestry-ancestors}
+use Rattle.rev_tree.specs.TreeLaws.{some_or, both_none, child_of_parent, parent_from_child, get-joined, get-joined_known, has-merged, edge_found}
+use Rattle.rev_tree.specs.LeafLaws.{leaf_cmp_total, leaf_cmp_exact, leaf_tie, any_agree, is_among-leaves, leaf_above, has_walked, IsAncestry-ancestors}
 use Rattle.rev_tree.specs.PartLaws.{none_is, some_told, told_some, edges_walked, given, given_is, at_leaf}
 use Rattle.rev_tree.specs.declared.origin.Origin.{Origin}
 
@@ -77,7 +77,7 @@ leaf_kept old other t grown l top there =
       | inl up ↦
           let c = child_of_parent old l up in
           absurd (false≢true (sym (ap not (parent_from_child t l c.0 (grown.kept c.0 l c.1))) ∙ (and_parts _ _ top).1))
-      | inr none ↦ and_both there (ap not none)
+      | inr none ↦ and_from _ _ there (ap not none)
     ]
 
 -- s grew into t by what u has, which knows the leaves of s: so it knows those of t
@@ -152,11 +152,11 @@ turned s t agree = record { parents = λ c p q h k. sym (agree.parents c q p k h
 -- two trees that agree, that are whole, and that know each other's leaves have the same revisions, edges and contents
 pub same_by_leaves : (s t : TreeValue) → IsTree s → IsTree t → Agree s t → IsWhole s → IsWhole t → ((l : RevId) → is_leaf s l ≡ true → has t l ≡ true) → ((l : RevId) → is_leaf t l ≡ true → has s l ≡ true) → SameRevisions s t
 same_by_leaves s t ours theirs agree whole_s whole_t there back = record {
-  revs = λ r. same_tests _ _ (all_known s t ours theirs agree whole_t there r) (all_known t s theirs ours (turned s t agree) whole_s back r);
+  revs = λ r. both_ways _ _ (all_known s t ours theirs agree whole_t there r) (all_known t s theirs ours (turned s t agree) whole_s back r);
   edges = same;
   contents = λ leaf is.
       let b = some_told (get s.contents leaf) (ours.leaf leaf is) in
-      let d = some_told (get t.contents leaf) (theirs.leaf leaf (and_both (there leaf is) (ap not (nobody leaf is)))) in
+      let d = some_told (get t.contents leaf) (theirs.leaf leaf (and_from _ _ (there leaf is) (ap not (nobody leaf is)))) in
       b.1 ∙ ap Some (agree.contents leaf b.0 d.0 b.1 d.1) ∙ sym d.1;
 }
   where

@@ -3,19 +3,20 @@ use Rattle.std.proofs.Common.{◌≡◌, ℕ, zero, suc, ◌≤◌, true, false,
 use Rattle.std.specs.Option.{option_map_or, option_or}
 use Rattle.std.specs.Ordering.{eq_by_cmp}
 use Rattle.std.specs.FinMap.{FinMap, get, find, get-empty, same_map}
-use Rattle.std.proofs.lemmas.Bool.{and_parts, false≢true, cases_Bool}
+use Rattle.std.proofs.lemmas.Bool.{and_parts, false≢true, cases_Bool, or_cases}
+use Rattle.std.specs.Cmp.{both_ways}
 use Rattle.rev_core.specs.Rev.{RevId, rev_cmp}
 use Rattle.rev_core.specs.RevOrder.{rev_cmp_total, rev_cmp_exact, rev_tie_is, rev_tie_self}
 use Rattle.rev_core.specs.Ancestry.{edges_of, is_among}
 use Rattle.rev_tree.specs.Content.{ContentValue}
 use Rattle.rev_tree.specs.Tree.{TreeValue, IsTree, has, is_leaf, is_deleted, walk, ancestors, at_head, merged, no_revisions, SameRevisions}
-use Rattle.rev_tree.specs.TreeLaws.{some_or, or_cases, get-joined, has-merged, has-merged_known, has-merged_given, parent_from_child, edge_found, head_or_parent}
-use Rattle.rev_tree.specs.LeafLaws.{same_tests, has_walked, leaf_above, IsAncestry-ancestors}
+use Rattle.rev_tree.specs.TreeLaws.{some_or, get-joined, has-merged, has-merged_known, has-merged_given, parent_from_child, edge_found, head_or_parent}
+use Rattle.rev_tree.specs.LeafLaws.{has_walked, leaf_above, IsAncestry-ancestors}
 use Rattle.rev_tree.specs.declared.origin.Origin.{Origin}
 
 -- ---- options
 
-or_none : {X : Type 0} (x : Option X) → option_or x None ≡ x
+pub or_none : {X : Type 0} (x : Option X) → option_or x None ≡ x
 or_none None = refl
 or_none (Some x) = refl
 
@@ -241,4 +242,4 @@ whole_part s t tree part all = record {
 }
   where
     same : (r : RevId) → has s r ≡ has t r
-    same r = same_tests _ _ (λ h. let up = leaf_above s tree r h in part_walked s t part up.0.generation up.0 r (all up.0 up.1.leaf) up.1.above) (part.within r)
+    same r = both_ways _ _ (λ h. let up = leaf_above s tree r h in part_walked s t part up.0.generation up.0 r (all up.0 up.1.leaf) up.1.above) (part.within r)

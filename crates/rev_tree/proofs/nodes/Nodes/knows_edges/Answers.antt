@@ -1,7 +1,7 @@
 use Rattle.std.proofs.Common.{◌≡◌, ◌-◌, ◌<◌, ◌≤◌, ◌+◌, ◌&&◌, drop, get_or, length, slice_get, Some, not, sym, ap, ◌∙◌, arith}
 use Rattle.std.proofs.Math.Bool.{and-true}
 use Rattle.std.proofs.lemmas.List.{get_or_default}
-use Rattle.std.proofs.lemmas.Option.{slice_get-get_or}
+use Rattle.std.proofs.lemmas.Option.{slice_get-get_or, same_Some}
 use Rattle.std.specs.List.{list_all}
 use Rattle.std.specs.FinMap.{get}
 use Rattle.std.specs.Ordering.{eq_by_cmp}
@@ -11,7 +11,7 @@ use Rattle.rev_core.specs.Ancestry.{edges_of}
 use Rattle.rev_core.specs.AncestryLaws.{edges_end}
 use Rattle.rev_tree.specs.Tree.{has_edge, first_contradiction, contradiction_at}
 use Rattle.rev_tree.specs.Nodes.{rev_at, revs_in, place_of, tree_of}
-use Rattle.rev_tree.proofs.Places.{place_at, place_within, read_at, rev_at_place, some_is}
+use Rattle.rev_tree.proofs.Places.{place_at, place_within, read_at, rev_at_place}
 use Rattle.rev_tree.proofs.Edges.{edges_known, edges_missed, no_contradiction_at, contradiction_here, not_is, told_contradiction, told_none}
 use Rattle.rev_tree.proofs.nodes.Nodes.knows_edges.Goals as goal
 use Rattle.rev_tree.proofs.nodes.Nodes.knows_edges.Goals.{in-Some+else-ne, in-None}
@@ -52,7 +52,7 @@ loop-i-preserved c =
     let a = get_or revs (i - 1) b in
     let is = get_or_default revs (i - 1) b a low in
     let known = c.parent_at.ensures.parent a (c.loop-i.invariant.place a (slice_get-get_or revs (i - 1) b low)) in
-    let given : (r : RevId) → slice_get revs (i + 1 - 1) ≡ Some r → b ≡ r = λ r at. some_is b r (sym (read_at revs i b c.loop-i-test.true c.index-revs-i.is) ∙ ap (slice_get revs) next ∙ at) in
+    let given : (r : RevId) → slice_get revs (i + 1 - 1) ≡ Some r → b ≡ r = λ r at. same_Some b r (sym (read_at revs i b c.loop-i-test.true c.index-revs-i.is) ∙ ap (slice_get revs) next ∙ at) in
     elim c.match-parent_at.branch [
       | in-Some+else-ne w ↦
           let n = w.node_at.result.now in

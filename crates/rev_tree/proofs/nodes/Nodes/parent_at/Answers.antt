@@ -1,6 +1,7 @@
 use Rattle.std.proofs.Common.{◌≡◌, ◌<◌, Some, None, IfSome, length, slice_get, get_or, sym, ap, ◌∙◌, subst, refl}
+use Rattle.std.proofs.lemmas.Option.{same_Some}
 use Rattle.rev_tree.specs.Nodes.{rev_at, revs_in, tree_of}
-use Rattle.rev_tree.proofs.Places.{node_at, place_known, place_unknown, read_at, some_is}
+use Rattle.rev_tree.proofs.Places.{node_at, place_known, place_unknown, read_at}
 use Rattle.rev_tree.proofs.Lookups.{parent_is}
 use Rattle.rev_tree.proofs.nodes.Nodes.parent_at.Goals as goal
 use Rattle.rev_tree.proofs.nodes.Nodes.parent_at.Goals.{After-parent}
@@ -32,4 +33,4 @@ returns-clause-parent c r is =
     let n = c.index-nodes-place.result in
     let f = place_known nodes r c.in_ok-place.place (sym is ∙ c.in_ok-place.was) in
     ap (rev_at (revs_in nodes)) c.parent.ensures
-    ∙ sym (parent_is nodes (tree_of nodes) r (Some n) c.all-nodes.ensures.linked refl (f.found ∙ ap Some (some_is f.node n (sym f.at ∙ reads c))))
+    ∙ sym (parent_is nodes (tree_of nodes) r (Some n) c.all-nodes.ensures.linked refl (f.found ∙ ap Some (same_Some f.node n (sym f.at ∙ reads c))))

@@ -1,9 +1,10 @@
 use Rattle.std.proofs.Common.{Some, sym, ap, ◌∙◌, subst}
+use Rattle.std.proofs.lemmas.Option.{same_Some}
 use Rattle.rev_core.specs.Ancestry.{IsAncestry}
 use Rattle.rev_tree.specs.Tree.{IsTree}
 use Rattle.rev_tree.specs.LeafLaws.{IsAncestry-ancestors}
 use Rattle.rev_tree.specs.Node.{NodeValue}
-use Rattle.rev_tree.proofs.Places.{place_known, place_unknown, some_is}
+use Rattle.rev_tree.proofs.Places.{place_known, place_unknown}
 use Rattle.rev_tree.proofs.Lookups.{content_is, has_is}
 use Rattle.rev_tree.proofs.Walking.{place_is}
 use Rattle.rev_tree.proofs.tree.Tree.standing.Goals as goal
@@ -32,7 +33,7 @@ returns c =
       known = at.known;
       ancestry = c.from_revs.ensures ∙ c.in_ok-revs.ensures ∙ at.walk;
       content =
-          c.content.ensures ∙ ap (λ (n : NodeValue). n.content) (some_is c.node_at.result.now f.node (sym c.node_at.ensures.node ∙ f.at))
+          c.content.ensures ∙ ap (λ (n : NodeValue). n.content) (same_Some c.node_at.result.now f.node (sym c.node_at.ensures.node ∙ f.at))
           ∙ sym (content_is items c.args.self.now c.args.rev (Some f.node) linked c.self.view_is f.found);
     }
 
