@@ -17,7 +17,7 @@ use Rattle.rev_tree.specs.Steps.{with_rev, with_edge, with_content}
 use Rattle.rev_tree.specs.Nodes.{revs_in, rev_at, node_of, Distinct, entries_of, parent_in, place_of, tree_of, IsNode, IsLinked}
 use Rattle.rev_tree.specs.Node.{NodeValue}
 use Rattle.rev_tree.specs.declared.origin.Origin.{Origin}
-use Rattle.rev_tree.proofs.Places.{is_some-node_of, node_rev, node_at, among_at, rev_at_place, node_of-push, place_unknown, revs_in-push, distinct_push, slice_get-push}
+use Rattle.rev_tree.proofs.Places.{is_some-node_of, node_rev, node_at, among_at, rev_at_place, node_of-push, place_unknown, revs_in-push, distinct_push, slice_get-append}
 use Rattle.rev_tree.proofs.Setting.{revs_in-set, node_of-set}
 use Rattle.rev_tree.proofs.Views.{part, get-origins, get-parents, get-contents, joined_entries, same_entries}
 
@@ -365,7 +365,7 @@ added nodes after r o linked new is =
       revs = revs_in-push nodes (new_node r o);
       linked = linked_added nodes r o linked none;
       tree = tree_added nodes r o linked none;
-      kept = λ i q h. ap (λ l. slice_get l i) (revs_in-push nodes (new_node r o)) ∙ slice_get-push (revs_in nodes) r i q h;
+      kept = λ i q h. ap (λ l. slice_get l i) (revs_in-push nodes (new_node r o)) ∙ slice_get-append (revs_in nodes) (r ∷ []) i q h;
     })
 
 -- a revision that is there

@@ -129,10 +129,10 @@ distinct_push (x ∷ revs) r d none =
     (among_push revs r x ∙ or_from _ _ d.0 ((eq_by_cmp_equiv rev_cmp_total).symm x r ∙ parts.0), distinct_push revs r d.1 parts.1)
 
 -- a place stays
-pub slice_get-push : {X : Type 0} (xs : List X) (x : X) (k : ℕ) (y : X) → slice_get xs k ≡ Some y → slice_get (xs ++ x ∷ []) k ≡ Some y
-slice_get-push [] x k y h = absurd (false≢true (ap is_some h))
-slice_get-push (z ∷ xs) x zero y h = h
-slice_get-push (z ∷ xs) x (suc k) y h = slice_get-push xs x k y h
+pub slice_get-append : {X : Type 0} (xs ys : List X) (k : ℕ) (x : X) → slice_get xs k ≡ Some x → slice_get (xs ++ ys) k ≡ Some x
+slice_get-append [] ys k x h = absurd (false≢true (ap is_some h))
+slice_get-append (z ∷ xs) ys zero x h = h
+slice_get-append (z ∷ xs) ys (suc k) x h = slice_get-append xs ys k x h
 
 pub slice_get-last : {X : Type 0} (xs : List X) (x : X) → slice_get (xs ++ x ∷ []) (length xs) ≡ Some x
 slice_get-last [] x = refl
