@@ -6,10 +6,10 @@ use Rattle.std.specs.Ordering.{is_lt, bool_cmp, ordering_then}
 use Rattle.std.specs.FinMap as finmap
 use Rattle.std.specs.FinMap.{from_entries, entries, entries_sorted}
 use Rattle.std.specs.FinMap.Entries.{is_sorted, below_all}
+use Rattle.std.proofs.lemmas.Option.{same_Some, none-some}
 use Rattle.rev_core.specs.Rev.{RevId, rev_cmp}
 use Rattle.rev_tree.specs.InOrder.{marked, first_of}
 use Rattle.rev_tree.specs.Tree.{TreeValue, is_deleted, is_leaf, leaf_cmp, leaves}
-use Rattle.couch_base.specs.ListLaws.{some_is, none_some}
 
 -- what stands behind a deleted leaf is deleted
 behind : (t : TreeValue) (w r : RevId) → is_deleted t w ≡ true → T (is_lt (leaf_cmp t w r)) → is_deleted t r ≡ true
@@ -26,14 +26,14 @@ all_behind t w (e ∷ es) dead h =
     ap (λ b. b && list_all (is_deleted t) (map (λ e. e.0) es)) (behind t w e.0 dead parts.0) ∙ all_behind t w es dead parts.1
 
 all_sorted : (t : TreeValue) (es : List (RevId × Unit {0})) (w : RevId) → T (is_sorted (leaf_cmp t) es) → first_of (map (λ e. e.0) es) ≡ Some w → list_all (is_deleted t) (map (λ e. e.0) es) ≡ is_deleted t w
-all_sorted t [] w sorted first = absurd (none_some w first)
+all_sorted t [] w sorted first = absurd (none-some w first)
 all_sorted t (e ∷ es) w sorted first =
     let parts = both_hold (below_all (leaf_cmp t) e.0 es) (is_sorted (leaf_cmp t) es) sorted in
     elim (is_deleted t e.0) as (λ b. is_deleted t e.0 ≡ b → (b && list_all (is_deleted t) (map (λ e. e.0) es)) ≡ b) [
       | true ↦ λ dead. all_behind t e.0 es dead parts.0
       | false ↦ λ _. refl
     ] refl
-    ∙ ap (is_deleted t) (some_is e.0 w first)
+    ∙ ap (is_deleted t) (same_Some e.0 w first)
 
 -- all leaves are deleted just where the winner is
 pub all_deleted : (t : TreeValue) (w : RevId) → first_of (leaves t) ≡ Some w → list_all (is_deleted t) (leaves t) ≡ is_deleted t w

@@ -5,6 +5,7 @@ use Rattle.std.specs.List.{list_all}
 use Rattle.std.specs.Option.{option_or, option_to_list}
 use Rattle.std.specs.FinMap.{get, get-empty}
 use Rattle.std.proofs.lemmas.Bool.{false≢true}
+use Rattle.std.proofs.lemmas.Option.{same_Some}
 use Rattle.rev_core.specs.Rev.{RevId, rev_cmp}
 use Rattle.rev_core.specs.Ancestry.{edges_of, head_of}
 use Rattle.rev_tree.specs.Tree.{TreeValue, IsTree, has, has_edge, no_revisions, first_contradiction, contradiction_at, is_same, at_head, merged, merge_answer}
@@ -18,7 +19,6 @@ use Rattle.couch_base.specs.declared.fault.Put.TheVariants as answers
 use Rattle.couch_base.specs.Edit.{parent_answer, edit_id, edit_revs, edited, edit_document, after_edited, after_edit}
 use Rattle.couch_base.specs.declared.fault.BaseFault.{BaseFault}
 use Rattle.couch_base.specs.declared.fault.BaseFault.TheVariants as faults
-use Rattle.couch_base.specs.ListLaws.{some_is}
 use Rattle.couch_base.proofs.Putting.{from_tests, answer-changed, after_put-changed}
 
 -- ---- a new revision
@@ -60,7 +60,7 @@ from_id : (db : DatabaseValue) (id : Id) (parent : Option RevId) (deleted : Bool
 from_id db id parent deleted body before revs rev (Err e) is on told head absent = cc
 from_id db id parent deleted body before revs rev (Ok x) is on told head absent =
     let whole : revs ≡ x ∷ option_to_list before = cc in
-    let same : x ≡ rev = some_is x rev (sym (ap head_of whole) ∙ head) in
+    let same : x ≡ rev = same_Some x rev (sym (ap head_of whole) ∙ head) in
     let last : RevId → Result (RevId × Option RevId) BaseFault = λ y. refused_if (has (tree_of db.docs id) y) (faults.RevExists y) >>= λ _. Ok (y, before) in
     let next : Option RevId → Result (RevId × Option RevId) BaseFault = λ b. edit_id b deleted body >>= λ y. refused_if (has (tree_of db.docs id) y) (faults.RevExists y) >>= λ _. Ok (y, b) in
     record {

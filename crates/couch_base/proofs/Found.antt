@@ -7,8 +7,9 @@ use Rattle.std.specs.BTreeMap.{is_at}
 use Rattle.std.specs.Prelude.{unwrap_or}
 use Rattle.std.specs.Cmp.{unsigned_ties}
 use Rattle.std.specs.Str.{bytes_eq}
+use Rattle.std.proofs.lemmas.Option.{same_Some, none-some}
 use Rattle.rev_tree.specs.Tree.{no_revisions}
-use Rattle.couch_base.specs.ListLaws.{id_is, id_same, some_is, none_some}
+use Rattle.couch_base.specs.ListLaws.{id_is, id_same}
 use Rattle.couch_base.specs.Lists.{Among}
 use Rattle.couch_base.specs.Database.{Id, tree_in, tree_of}
 use Rattle.couch_base.specs.Stored.{TableValue, at_seq, documents, documents_of, feed_of, found, seq_of, tree_at, IsKept}
@@ -26,16 +27,16 @@ pub none_in : (g : Id → Option Kept) (index : List (ℕ × Id)) (id : Id) → 
 none_in g [] id held gone = refl
 none_in g (e ∷ es) id held gone =
     cond_both (bytes_eq e.1 id) (Some (tree_at (g e.1))) (tree_in (documents g es) id) (λ o. o ≡ None)
-    (λ same. absurd (none_some e.0 (sym (ap seq_of (ap g (id_is e.1 id same) ∙ gone)) ∙ held e (inl refl))))
+    (λ same. absurd (none-some e.0 (sym (ap seq_of (ap g (id_is e.1 id same) ∙ gone)) ∙ held e (inl refl))))
     (λ _. none_in g es id (λ x m. held x (inr m)) gone)
 
 pub not_first : (b : Bool) (x y : Id) (o : Option Id) → cond b (Some x) o ≡ Some y → bytes_eq x y ≡ false → o ≡ Some y
-not_first true x y o h apart = absurd (both_ways (bytes_eq x y) apart (ap (bytes_eq x) (sym (some_is x y h)) ∙ id_same x))
+not_first true x y o h apart = absurd (both_ways (bytes_eq x y) apart (ap (bytes_eq x) (sym (same_Some x y h)) ∙ id_same x))
 not_first false x y o h apart = h
 
 -- an id that the index has at its sequence is a document's
 pub found_in : (g : Id → Option Kept) (index : List (ℕ × Id)) (id : Id) (k : Kept) → g id ≡ Some k → at_seq k.seq index ≡ Some id → tree_in (documents g index) id ≡ Some k.tree
-found_in g [] id k is at = absurd (none_some id at)
+found_in g [] id k is at = absurd (none-some id at)
 found_in g (e ∷ es) id k is at =
     cond_both (bytes_eq e.1 id) (Some (tree_at (g e.1))) (tree_in (documents g es) id) (λ o. o ≡ Some k.tree)
     (λ same. ap (λ o. Some (tree_at o)) (ap g (id_is e.1 id same) ∙ is))

@@ -4,9 +4,10 @@ use Rattle.std.proofs.lemmas.Bool.{cond_both, cases_Bool, false_from_ne_true}
 use Rattle.std.specs.Ordering.{nat_cmp}
 use Rattle.std.specs.BTreeMap.{is_at}
 use Rattle.std.specs.Str.{bytes_eq}
+use Rattle.std.proofs.lemmas.Option.{none-some}
 use Rattle.couch_base.specs.Database.{Id}
 use Rattle.couch_base.specs.Stored.{at_seq, feed_without, AllBelow}
-use Rattle.couch_base.specs.ListLaws.{id_is, none_some}
+use Rattle.couch_base.specs.ListLaws.{id_is}
 use Rattle.couch_base.proofs.Found.{seq_is, seq_same, not_first}
 
 keep_tail : (b : Bool) (a q : Id) (o p : Option Id) → (o ≡ Some q → p ≡ Some q) → cond b (Some a) o ≡ Some q → cond b (Some a) p ≡ Some q
@@ -14,7 +15,7 @@ keep_tail true a q o p f h = h
 keep_tail false a q o p f h = f h
 
 pub at_append : (s : ℕ) (index : List (ℕ × Id)) (x : ℕ × Id) (q : Id) → at_seq s index ≡ Some q → at_seq s (index ++ x ∷ []) ≡ Some q
-at_append s [] x q h = absurd (none_some q h)
+at_append s [] x q h = absurd (none-some q h)
 at_append s (e ∷ es) x q h = keep_tail (is_at (nat_cmp s) e.0) e.1 q (at_seq s es) (at_seq s (es ++ x ∷ [])) (at_append s es x q) h
 
 pub at_new : (s : ℕ) (index : List (ℕ × Id)) (q : Id) → AllBelow s index → at_seq s (index ++ (s, q) ∷ []) ≡ Some q

@@ -3,11 +3,12 @@ use Rattle.std.proofs.Common.{◌≡◌, ℕ, ◌<◌, ◌≤◌, List, [], ◌�
 use Rattle.std.specs.Prelude.{not}
 use Rattle.std.proofs.lemmas.Bool.{both_ways, cases_Bool, false≢true, false_from_ne_true}
 use Rattle.std.specs.Str.{bytes_eq}
+use Rattle.std.proofs.lemmas.Option.{same_Some, none-some}
 use Rattle.couch_base.specs.Lists.{Among}
 use Rattle.couch_base.specs.Database.{Id, DocumentValue, IsDocumentTree, without, most}
 use Rattle.couch_base.specs.Stored.{at_seq, feed_without, seq_of, tree_at, document, documents, IsTable, Sets}
 use Rattle.couch_base.specs.declared.kept.Kept.{Kept}
-use Rattle.couch_base.specs.ListLaws.{id_is, id_same, some_is, none_some}
+use Rattle.couch_base.specs.ListLaws.{id_is, id_same}
 use Rattle.couch_base.proofs.Rising.{Rising, all_below, rising_append, rising_filter, among_filter}
 use Rattle.couch_base.specs.MemberLaws.{Among-push}
 use Rattle.couch_base.proofs.Index.{at_append, at_new, at_without}
@@ -40,14 +41,14 @@ documents_append h (e ∷ es) x = ap (λ l. document h e ∷ l) (documents_appen
 -- ---- ids and their sequences
 
 some_of : (o : Option Kept) (s : ℕ) → seq_of o ≡ Some s → (k : Kept) × (o ≡ Some k) × (k.seq ≡ s)
-some_of None s h = absurd (none_some s h)
-some_of (Some k) s h = (k, refl, some_is k.seq s h)
+some_of None s h = absurd (none-some s h)
+some_of (Some k) s h = (k, refl, same_Some k.seq s h)
 
 pub kept_at : (g : Id → Option Kept) (index : List (ℕ × Id)) (hi : ℕ) → IsTable g index hi → (e : ℕ × Id) → Among e index → (k : Kept) × (g e.1 ≡ Some k) × (k.seq ≡ e.0)
 kept_at g index hi t e m = some_of (g e.1) e.0 (t.held e m)
 
 pub nowhere : (g : Id → Option Kept) (index : List (ℕ × Id)) (hi : ℕ) → IsTable g index hi → (id : Id) → g id ≡ None → (e : ℕ × Id) → Among e index → e.1 ≡ id → ⊥
-nowhere g index hi t id gone e m same = none_some e.0 (sym (ap seq_of (ap g same ∙ gone)) ∙ t.held e m)
+nowhere g index hi t id gone e m same = none-some e.0 (sym (ap seq_of (ap g same ∙ gone)) ∙ t.held e m)
 
 -- where the feed has no such document, nothing is left out of it
 pub without_none : (id : Id) (index : List (ℕ × Id)) → ((e : ℕ × Id) → Among e index → e.1 ≡ id → ⊥) → feed_without id index ≡ index
@@ -62,7 +63,7 @@ held_new h id k s here at e same = ap (λ (p : ℕ × Id). seq_of (h p.1)) same 
 set_trees : (g h : Id → Option Kept) (index : List (ℕ × Id)) (hi : ℕ) → IsTable g index hi → (id : Id) (k : Kept) → Sets g h id k → IsDocumentTree k.tree → (q : Id) (x : Kept) → h q ≡ Some x → IsDocumentTree x.tree
 set_trees g h index hi t id k sets lawful q x is =
     elim (cases_Bool (bytes_eq id q)) [
-      | inl hit ↦ subst (λ (y : Kept). IsDocumentTree y.tree) (some_is k x (sym (here_at g h id k sets) ∙ ap h (id_is id q hit) ∙ is)) lawful
+      | inl hit ↦ subst (λ (y : Kept). IsDocumentTree y.tree) (same_Some k x (sym (here_at g h id k sets) ∙ ap h (id_is id q hit) ∙ is)) lawful
       | inr apart ↦ t.trees q x (sym (sets q ∙ ap (λ b. cond b (Some k) (g q)) apart) ∙ is)
     ]
 
@@ -96,7 +97,7 @@ moved_kept g h index hi t id k sets lawful above within =
       indexed = λ q x is. elim (cases_Bool (bytes_eq id q)) [
         | inl hit ↦
             let same = id_is id q hit in
-            let here : k ≡ x = some_is k x (sym (here_at g h id k sets) ∙ ap h same ∙ is) in
+            let here : k ≡ x = same_Some k x (sym (here_at g h id k sets) ∙ ap h same ∙ is) in
             ap (λ (y : Kept). at_seq y.seq (others ++ (k.seq, id) ∷ [])) (sym here)
             ∙ at_new k.seq others id (all_below others hi k.seq rising above)
             ∙ ap (λ i. Some i) same

@@ -12,11 +12,11 @@ use Rattle.std.proofs.lemmas.List.Quantifiers.{position-Some}
 use Rattle.std.proofs.lemmas.Cmp.{nat_list_eq_equiv}
 use Rattle.std.proofs.lemmas.Map.Entries.{length-keys_of, lookup_from_place}
 use Rattle.std.proofs.lemmas.Map.Keys.{apart_from_distinct}
-use Rattle.std.proofs.lemmas.Option.{slice_get-map, slice_get_within, unwrap_or-slice_get, get_or_from_slice_get}
+use Rattle.std.proofs.lemmas.Option.{slice_get-map, slice_get_within, unwrap_or-slice_get, get_or_from_slice_get, same_Some, none-some}
+use Rattle.rev_tree.proofs.Places.{slice_get-last}
 use Rattle.indexmap.specs.IndexMap.{insert_entry, set_value_at}
 use Rattle.indexmap.proofs.MapLemmas.{absent_from_lookup, insert_entry-absent}
-use Rattle.couch_base.specs.MemberLaws.{at-end}
-use Rattle.couch_base.specs.ListLaws.{id_is, id_same, some_is, none_some}
+use Rattle.couch_base.specs.ListLaws.{id_is, id_same}
 use Rattle.couch_base.specs.Database.{Id, tree_of}
 use Rattle.couch_base.specs.Stored.{TableValue, documents_of, found, id_at, is_live, live, swept, named, feed_of, feed_without, tree_at, ArePlaces, AreRows, AllBelow, IsKept, IsPlace}
 use Rattle.couch_base.specs.declared.kept.Kept.{Kept}
@@ -35,7 +35,7 @@ id_stays ids id i within = unwrap_or-slice_get (ids ++ id ∷ []) i [] ∙ get_o
 
 -- and that id has the place behind them
 pub id_last : (ids : List Id) (id : Id) → id_at (ids ++ id ∷ []) (length ids) ≡ id
-id_last ids id = ap (λ o. unwrap_or o []) (at-end ids id)
+id_last ids id = ap (λ o. unwrap_or o []) (slice_get-last ids id)
 
 -- ---- the index
 
@@ -58,14 +58,14 @@ placed docs id i key k first at value =
     let same : id ≡ key = id_is id key (sym (ap (bytes_eq id) here) ∙ hit) in
     record {
       there = (k, at ∙ ap (λ (q : Id). Some (q, k)) (sym same), sym value);
-      absent = λ none. absurd (none_some i (sym none));
+      absent = λ none. absurd (none-some i (sym none));
     }
 
 -- and what stands at a place is found by its id
 pub standing : (docs : List (Id × Kept)) (i : ℕ) (id : Id) (k : Kept) → IsDistinct bytes_eq (keys_of docs) → slice_get docs i ≡ Some (id, k) → IsPlace docs id (Some i)
 standing docs i id k once at = record {
   there = (k, at, lookup_from_place nat_list_eq_equiv docs i id k once at);
-  absent = λ none. absurd (none_some i (sym none));
+  absent = λ none. absurd (none-some i (sym none));
 }
 
 pub tree_at_place : (t : TableValue) → IsKept t → (i : ℕ) (id : Id) (k : Kept) → IsDistinct bytes_eq (keys_of t.entries) → slice_get t.entries i ≡ Some (id, k) → tree_of (documents_of t) id ≡ k.tree
@@ -76,7 +76,7 @@ tree_at_place t kept i id k once at = tree_of-documents_of t kept id ∙ ap tree
 -- what stands at a place, written back, changes nothing
 pub set_same : (docs : List (Id × Kept)) (i : ℕ) (id : Id) (k : Kept) → slice_get docs i ≡ Some (id, k) → set_value_at docs i k ≡ docs
 set_same [] i id k is = refl
-set_same (e ∷ es) zero id k is = ap (λ (p : Id × Kept). (e.0, p.1) ∷ es) (sym (some_is e (id, k) is))
+set_same (e ∷ es) zero id k is = ap (λ (p : Id × Kept). (e.0, p.1) ∷ es) (sym (same_Some e (id, k) is))
 set_same (e ∷ es) (suc i) id k is = ap (λ l. e ∷ l) (set_same es i id k is)
 
 keys_append : (docs : List (Id × Kept)) (id : Id) (k : Kept) → keys_of (docs ++ (id, k) ∷ []) ≡ keys_of docs ++ id ∷ []
@@ -164,7 +164,7 @@ added_feed docs new before after s id k grown latest longer places =
     let all = docs ++ (id, k) ∷ [] in
     (λ j. feed_of (grown j) (longer j))
     ∙ ap (λ l. named l (live all (before ++ (s, length docs) ∷ []))) (keys_append docs id k)
-    ∙ ap (named (ids ++ id ∷ [])) (live_push all before s (length docs) (live_at all s (length docs) id k (at-end docs (id, k)) latest) ∙ (λ j. live_more docs (id, k) before places j ++ (s, sym size j) ∷ []))
+    ∙ ap (named (ids ++ id ∷ [])) (live_push all before s (length docs) (live_at all s (length docs) id k (slice_get-last docs (id, k)) latest) ∙ (λ j. live_more docs (id, k) before places j ++ (s, sym size j) ∷ []))
     ∙ named_append (ids ++ id ∷ []) (live docs before) s (length ids)
     ∙ (λ j. named_more ids id (live docs before) (subst (λ n. ArePlaces n (live docs before)) (sym size) (places_filter (length docs) (is_live docs) before places)) j ++ (s, id_last ids id j) ∷ [])
 

@@ -8,9 +8,9 @@ use Rattle.std.specs.Option.{option_map_or}
 use Rattle.std.proofs.lemmas.Bool.{cond_both, cases_Bool, eqb-true, false≢true, false_from_ne_true}
 use Rattle.std.proofs.lemmas.List.{length-append, length-map}
 use Rattle.std.proofs.lemmas.Map.Steps.{length-le_from_distinct_below}
+use Rattle.std.proofs.lemmas.Option.{same_Some, none-some}
 use Rattle.indexmap.specs.IndexMap.{set_value_at}
 use Rattle.couch_base.specs.Lists.{Among}
-use Rattle.couch_base.specs.ListLaws.{some_is, none_some}
 use Rattle.couch_base.specs.Database.{Id}
 use Rattle.couch_base.specs.Stored.{is_live, live, live_upto, above, swept, named, feed_of, ArePlaces, AllBelow, InOrder, AreFew, AreRows}
 use Rattle.couch_base.specs.declared.kept.Kept.{Kept}
@@ -171,8 +171,8 @@ live_more docs x (e ∷ rows) places =
     ∙ ap (λ l. cond (is_live docs e) (e ∷ l) l) (live_more docs x rows (λ y m. places y (inr m)))
 
 pub get_set : (docs : List (Id × Kept)) (i : ℕ) (id : Id) (was k : Kept) → slice_get docs i ≡ Some (id, was) → slice_get (set_value_at docs i k) i ≡ Some (id, k)
-get_set [] i id was k at = absurd (none_some (id, was) at)
-get_set (d ∷ docs) zero id was k at = ap (λ (p : Id × Kept). Some (p.0, k)) (some_is d (id, was) at)
+get_set [] i id was k at = absurd (none-some (id, was) at)
+get_set (d ∷ docs) zero id was k at = ap (λ (p : Id × Kept). Some (p.0, k)) (same_Some d (id, was) at)
 get_set (d ∷ docs) (suc i) id was k at = get_set docs i id was k at
 
 pub get_set_apart : (docs : List (Id × Kept)) (i j : ℕ) (k : Kept) → (i ≡ j → ⊥) → slice_get (set_value_at docs i k) j ≡ slice_get docs j

@@ -1,13 +1,15 @@
 -- Laws of the trees of documents: a merge leaves one.
-use Rattle.std.proofs.Common.{◌≡◌, ◌<◌, ◌||◌, cond, inl, inr, subst, false, is_some, Some, None, List, [], ◌∷◌, true, length, map, filter, sym, ap, ◌∙◌, arith}
+use Rattle.std.proofs.Common.{◌≡◌, ◌<◌, ◌||◌, cond, inl, inr, subst, false, Some, None, List, [], ◌∷◌, true, length, map, filter, sym, ap, ◌∙◌, arith}
 use Rattle.std.proofs.lemmas.List.{nil_from_length}
 use Rattle.std.specs.FinMap.{FinMap, empty, entries, find, get, get-empty, len-entries, len-empty}
-use Rattle.std.proofs.lemmas.Bool.{and_parts, false≢true}
+use Rattle.std.proofs.lemmas.Bool.{false≢true}
 use Rattle.std.specs.Ordering.{eq_by_cmp}
+use Rattle.std.proofs.lemmas.Option.{same_Some, none-some}
 use Rattle.doc_json.specs.Body.{IsBody}
 use Rattle.rev_core.specs.Rev.{RevId, rev_cmp}
 use Rattle.rev_core.specs.RevOrder.{rev_tie_self}
 use Rattle.rev_core.specs.Ancestry.{IsAncestry, is_among}
+pub use Rattle.rev_tree.proofs.Starts.{IsTree-no_revisions}
 use Rattle.rev_tree.specs.Content.{ContentValue}
 use Rattle.rev_tree.specs.Tree.{TreeValue, IsTree, has, is_leaf, leaf_cmp, leaves, merged, at_head, no_revisions}
 use Rattle.rev_tree.specs.InOrder.{in_order, in_order-nil}
@@ -15,7 +17,6 @@ use Rattle.rev_tree.specs.TreeLaws.{has-merged_given, get-joined, some_or}
 use Rattle.rev_tree.specs.LeafLaws.{leaf_above, is_among-leaves}
 use Rattle.rev_tree.specs.declared.origin.Origin.{Origin}
 use Rattle.couch_base.specs.Database.{IsDocumentTree, HasBodies}
-use Rattle.couch_base.specs.ListLaws.{none_some, some_is}
 
 nonempty : (r : RevId) (revs : List RevId) → is_among r revs ≡ true → 0 < length revs
 nonempty r [] h = absurd (false≢true h)
@@ -27,14 +28,14 @@ has_leaf t tree r known = let up = leaf_above t tree r known in nonempty up.0 (l
 
 -- a tree of no revisions has no body
 pub no_bodies : HasBodies no_revisions
-no_bodies r b is = absurd (none_some b (sym (get-empty rev_cmp r) ∙ is))
+no_bodies r b is = absurd (none-some b (sym (get-empty rev_cmp r) ∙ is))
 
 head_content : (revs : List RevId) (b x : ContentValue) (r : RevId) → find rev_cmp r (at_head revs b) ≡ Some x → b ≡ x
-head_content [] b x r is = absurd (none_some x is)
+head_content [] b x r is = absurd (none-some x is)
 head_content (h ∷ rest) b x r is =
     elim (eq_by_cmp rev_cmp r h) as (λ t. cond t (Some b) None ≡ Some x → b ≡ x) [
-      | true ↦ λ k. some_is b x k
-      | false ↦ λ k. absurd (none_some x k)
+      | true ↦ λ k. same_Some b x k
+      | false ↦ λ k. absurd (none-some x k)
     ] is
 
 merged_bodies : (t : TreeValue) (revs : List RevId) (b : ContentValue) (o : Origin) → HasBodies t → IsBody b.body → HasBodies (merged t revs b o)
@@ -62,17 +63,3 @@ leaves-no_revisions =
   where
     none : FinMap rev_cmp Origin
     none = empty
-
-nothing_there : (r : RevId) → has no_revisions r ≡ true → ⊥
-nothing_there r h = false≢true (sym (ap is_some (get-empty rev_cmp r)) ∙ h)
-
--- it is a tree
-pub IsTree-no_revisions : IsTree no_revisions
-IsTree-no_revisions = record {
-  revs = λ r h. absurd (nothing_there r h);
-  child = λ c p h. absurd (none_some p (sym (get-empty rev_cmp c) ∙ h));
-  parent = λ c p h. absurd (none_some p (sym (get-empty rev_cmp c) ∙ h));
-  falls = λ c p h. absurd (none_some p (sym (get-empty rev_cmp c) ∙ h));
-  content = λ r h. absurd (false≢true (sym (ap is_some (get-empty rev_cmp r)) ∙ h));
-  leaf = λ r h. absurd (nothing_there r (and_parts _ _ h).0);
-}

@@ -1,31 +1,19 @@
 -- Laws of lists: tests of some or of all elements, and lists in which nothing comes twice.
-use Rattle.std.specs.Prelude.{◌≡◌, ℕ, Bool, true, false, ◌&&◌, ◌||◌, List, [], ◌∷◌, ◌++◌, map, filter, Some, None, is_some, refl}
-use Rattle.std.proofs.Common.{ap, sym, ◌∙◌, inl, inr}
-use Rattle.std.proofs.lemmas.Bool.{and_parts, or_right, cond_both, false≢true}
+use Rattle.std.specs.Prelude.{◌≡◌, ℕ, Bool, true, false, ◌||◌, List, [], ◌∷◌, ◌++◌, map, filter, refl}
+use Rattle.std.proofs.Common.{ap, ◌∙◌, inl, inr}
+use Rattle.std.proofs.lemmas.Bool.{and_parts, or_right, cond_both, false≢true, or_parts, and_from, or_cases}
 use Rattle.std.proofs.lemmas.Slice.Eq.{bytes_eq-Decides}
 use Rattle.std.specs.Str.{bytes_eq}
 use Rattle.std.specs.List.{list_any, list_all, AllByRecursion}
-use Rattle.std.specs.Option.{option_map_or}
+-- by the names that crates above cite
+pub use Rattle.std.proofs.lemmas.Bool.{or_parts as both_false}
+pub use Rattle.std.proofs.lemmas.Option.{same_Some as some_is, none-some as none_some}
 use Rattle.rev_core.specs.Rev.{RevId}
 use Rattle.rev_core.specs.RevOrder.{rev_tie_self}
 use Rattle.rev_core.specs.Ancestry.{is_among}
-use Rattle.rev_tree.specs.TreeLaws.{or_cases, and_both}
 use Rattle.couch_base.specs.Lists.{EachOnce}
 
--- ---- tests
-
-pub both_false : (a b : Bool) → (a || b) ≡ false → (a ≡ false) × (b ≡ false)
-both_false true b h = absurd (false≢true (sym h))
-both_false false b h = (refl, h)
-
-pub not_both : (a b : Bool) → a ≡ false → (a && b) ≡ false
-not_both a b h = ap (λ x. x && b) h
-
-pub some_is : {X : Type 0} (x y : X) → Some x ≡ Some y → x ≡ y
-some_is x y e = ap (λ o. option_map_or (λ v. v) o x) e
-
-pub none_some : {X : Type 0} (x : X) → None ≡ Some x → ⊥
-none_some x e = false≢true (ap is_some e)
+-- ---- ids
 
 -- ids that a test finds equal
 pub id_is : (a b : List ℕ) → bytes_eq a b ≡ true → a ≡ b
@@ -50,38 +38,34 @@ any_right p (x ∷ xs) ys h = or_right _ _ (any_right p xs ys h)
 
 pub none_append : {X : Type 0} (p : X → Bool) (xs ys : List X) → list_any p xs ≡ false → list_any p ys ≡ false → list_any p (xs ++ ys) ≡ false
 none_append p [] ys h k = k
-none_append p (x ∷ xs) ys h k = let parts = both_false (p x) (list_any p xs) h in ap (λ b. b || list_any p (xs ++ ys)) parts.0 ∙ none_append p xs ys parts.1 k
+none_append p (x ∷ xs) ys h k = let parts = or_parts (p x) (list_any p xs) h in ap (λ b. b || list_any p (xs ++ ys)) parts.0 ∙ none_append p xs ys parts.1 k
 
 pub none_filter : {X : Type 0} (q p : X → Bool) (xs : List X) → list_any q xs ≡ false → list_any q (filter p xs) ≡ false
 none_filter q p [] h = h
 none_filter q p (x ∷ xs) h =
-    let parts = both_false (q x) (list_any q xs) h in
+    let parts = or_parts (q x) (list_any q xs) h in
     cond_both (p x) (x ∷ filter p xs) (filter p xs) (λ l. list_any q l ≡ false)
     (λ _. ap (λ b. b || list_any q (filter p xs)) parts.0 ∙ none_filter q p xs parts.1)
     (λ _. none_filter q p xs parts.1)
 
 -- ---- all elements
 
-pub all_weaker : {X : Type 0} (p q : X → Bool) → ((x : X) → p x ≡ true → q x ≡ true) → (xs : List X) → list_all p xs ≡ true → list_all q xs ≡ true
-all_weaker p q f [] h = h
-all_weaker p q f (x ∷ xs) h = let parts = and_parts _ _ h in and_both (f x parts.0) (all_weaker p q f xs parts.1)
-
 pub all_append : {X : Type 0} (p : X → Bool) (xs ys : List X) → list_all p xs ≡ true → list_all p ys ≡ true → list_all p (xs ++ ys) ≡ true
 all_append p [] ys h k = k
-all_append p (x ∷ xs) ys h k = let parts = and_parts _ _ h in and_both parts.0 (all_append p xs ys parts.1 k)
+all_append p (x ∷ xs) ys h k = let parts = and_parts _ _ h in and_from _ _ parts.0 (all_append p xs ys parts.1 k)
 
 -- what holds of those that pass a test holds of all that are made of them
 pub all_made : {X Y : Type 0} (p : Y → Bool) (f : X → Y) (q : X → Bool) → ((x : X) → q x ≡ true → p (f x) ≡ true) → (xs : List X) → list_all p (map f (filter q xs)) ≡ true
 all_made p f q h [] = refl
 all_made p f q h (x ∷ xs) =
     cond_both (q x) (x ∷ filter q xs) (filter q xs) (λ l. list_all p (map f l) ≡ true)
-    (λ passes. and_both (h x passes) (all_made p f q h xs))
+    (λ passes. and_from _ _ (h x passes) (all_made p f q h xs))
     (λ _. all_made p f q h xs)
 
 -- what holds of each member holds of all
 pub all_members : (p : RevId → Bool) (revs : List RevId) → ((r : RevId) → is_among r revs ≡ true → p r ≡ true) → list_all p revs ≡ true
 all_members p [] h = refl
-all_members p (r ∷ revs) h = and_both (h r (ap (λ b. b || is_among r revs) (rev_tie_self r))) (all_members p revs (λ x m. h x (or_right _ _ m)))
+all_members p (r ∷ revs) h = and_from _ _ (h r (ap (λ b. b || is_among r revs) (rev_tie_self r))) (all_members p revs (λ x m. h x (or_right _ _ m)))
 
 -- ---- nothing twice
 

@@ -1,9 +1,11 @@
 -- Members of lists that were joined, mapped or searched.
-use Rattle.std.proofs.Common.{◌≡◌, ◌⊎◌, ℕ, zero, suc, List, [], ◌∷◌, ◌++◌, Bool, true, false, cond, Some, map, length, refl, sym, ap, ◌∙◌, inl, inr}
-use Rattle.std.specs.List.{find, list_any, list_all, slice_get, AllByRecursion}
+use Rattle.std.proofs.Common.{◌≡◌, ◌⊎◌, List, [], ◌∷◌, ◌++◌, Bool, true, false, cond, Some, map, refl, sym, ap, ◌∙◌, inl, inr}
+use Rattle.std.specs.List.{find, list_any, list_all, AllByRecursion}
 use Rattle.std.proofs.lemmas.Bool.{or_left, or_right, or_cases, and_parts, false≢true}
+use Rattle.std.proofs.lemmas.Option.{same_Some, none-some}
 use Rattle.couch_base.specs.Lists.{Among}
-use Rattle.couch_base.specs.ListLaws.{some_is, none_some}
+-- by the names that crates above cite
+pub use Rattle.rev_tree.proofs.Places.{slice_get-append as at-append, slice_get-last as at-end}
 
 -- ---- lists that were joined or mapped
 
@@ -55,11 +57,11 @@ all_member p x (y ∷ xs) h (inl e) = ap p e ∙ (and_parts _ _ h).0
 all_member p x (y ∷ xs) h (inr m) = all_member p x xs (and_parts _ _ h).1 m
 
 pub found_member : {X : Type 0} (p : X → Bool) (xs : List X) (x : X) → find p xs ≡ Some x → Among x xs × (p x ≡ true)
-found_member p [] x e = absurd (none_some x e)
+found_member p [] x e = absurd (none-some x e)
 found_member p (y ∷ xs) x e = step (λ h. found_member p xs x h) (p y) refl e
   where
     step : (find p xs ≡ Some x → Among x xs × (p x ≡ true)) → (b : Bool) → p y ≡ b → cond b (Some y) (find p xs) ≡ Some x → Among x (y ∷ xs) × (p x ≡ true)
-    step later true h e = let i : x ≡ y = sym (some_is y x e) in (inl i, ap p i ∙ h)
+    step later true h e = let i : x ≡ y = sym (same_Some y x e) in (inl i, ap p i ∙ h)
     step later false h e = let k = later e in (inr k.0, k.1)
 
 -- ---- what holds of each
@@ -72,14 +74,3 @@ each_member P x (y ∷ xs) h (inr m) = each_member P x xs h.1 m
 pub each_push : {X : Type 0} (P : X → Type 0) (xs : List X) (y : X) → AllByRecursion P xs → P y → AllByRecursion P (xs ++ y ∷ [])
 each_push P [] y h k = (k, tt)
 each_push P (x ∷ xs) y h k = (h.0, each_push P xs y h.1 k)
-
--- ---- places
-
-pub at-append : {X : Type 0} (xs ys : List X) (k : ℕ) (x : X) → slice_get xs k ≡ Some x → slice_get (xs ++ ys) k ≡ Some x
-at-append [] ys k x e = absurd (none_some x e)
-at-append (y ∷ xs) ys zero x e = e
-at-append (y ∷ xs) ys (suc k) x e = at-append xs ys k x e
-
-pub at-end : {X : Type 0} (xs : List X) (x : X) → slice_get (xs ++ x ∷ []) (length xs) ≡ Some x
-at-end [] x = refl
-at-end (y ∷ xs) x = at-end xs x

@@ -1,7 +1,7 @@
 -- What is asked and what is fetched keep their facts.
 use Rattle.std.specs.Prelude.{◌≡◌, ℕ, zero, suc, true, false, not, ◌&&◌, ◌||◌, List, [], ◌∷◌, ◌++◌, map, refl}
 use Rattle.std.proofs.Common.{ap, sym, ◌∙◌, inl, inr, arith}
-use Rattle.std.proofs.lemmas.Bool.{or_right, false≢true, cases_Bool, or_left}
+use Rattle.std.proofs.lemmas.Bool.{or_right, false≢true, cases_Bool, or_left, or_cases, and_from, or_parts, and_left}
 use Rattle.std.specs.List.{list_any, list_all, AllByRecursion}
 use Rattle.std.specs.Ordering.{eq_by_cmp}
 use Rattle.std.specs.Str.{bytes_eq}
@@ -10,12 +10,12 @@ use Rattle.rev_core.specs.Rev.{RevId, rev_cmp}
 use Rattle.rev_core.specs.RevOrder.{rev_tie_is}
 use Rattle.rev_core.specs.Ancestry.{is_among}
 use Rattle.rev_tree.specs.Tree.{TreeValue, has, ancestors, leaves, leaves_above, missing, walk}
-use Rattle.rev_tree.specs.TreeLaws.{or_cases, and_both, any_weaker}
+use Rattle.rev_tree.specs.TreeLaws.{any_weaker, all_weaker}
 use Rattle.rev_tree.specs.LeafLaws.{any_filter}
 use Rattle.rev_tree.specs.MergeLaws.{leaf_among}
 use Rattle.doc_json.specs.Document.{Document}
 use Rattle.couch_base.specs.Lists.{EachOnce}
-use Rattle.couch_base.specs.ListLaws.{both_false, not_both, any_left, any_right, none_append, all_weaker, all_append, all_made, all_members, each_filter, each_append, id_same}
+use Rattle.couch_base.specs.ListLaws.{any_left, any_right, none_append, all_append, all_made, all_members, each_filter, each_append, id_same}
 use Rattle.couch_base.specs.Database.{Id, DocumentValue, DatabaseValue, LawfulDatabase, tree_of}
 use Rattle.couch_base.specs.DatabaseLaws.{IsDocumentTree-tree_of}
 use Rattle.couch_base.specs.Feed.{RowValue, WindowValue, IsRow, IsWindow}
@@ -27,7 +27,7 @@ use Rattle.couch_base.specs.Messages.{WantedValue, AskedValue, IsWanted, IsAsked
 none_wanted : (ds : List DocumentValue) (id : Id) (rows : List RowValue) → list_any (bytes_eq id) (map (λ r. r.id) rows) ≡ false → list_any (bytes_eq id) (map (λ w. w.id) (wanted ds rows)) ≡ false
 none_wanted ds id [] h = h
 none_wanted ds id (r ∷ rows) h =
-    let parts = both_false (bytes_eq id r.id) (list_any (bytes_eq id) (map (λ r. r.id) rows)) h in
+    let parts = or_parts (bytes_eq id r.id) (list_any (bytes_eq id) (map (λ r. r.id) rows)) h in
     elim (missing (tree_of ds r.id) r.leaves) as (λ revs. list_any (bytes_eq id) (map (λ w. w.id) (want_first r.id revs (wanted ds rows))) ≡ false) [
       | [] ↦ none_wanted ds id rows parts.1
       | x ∷ revs ↦ ap (λ b. b || list_any (bytes_eq id) (map (λ w. w.id) (wanted ds rows))) parts.0 ∙ none_wanted ds id rows parts.1
@@ -60,7 +60,7 @@ any_opened id t leaf r [] h above = absurd (false≢true h)
 any_opened id t leaf r (x ∷ xs) h above =
     elim (or_cases _ _ h) [
       | inl tie ↦
-          let here : brings id r (leaf_document id t x) ≡ true = and_both (id_same id) (ap (λ y. is_among r (ancestors t y)) (sym (rev_tie_is leaf x tie)) ∙ above) in
+          let here : brings id r (leaf_document id t x) ≡ true = and_from _ _ (id_same id) (ap (λ y. is_among r (ancestors t y)) (sym (rev_tie_is leaf x tie)) ∙ above) in
           ap (λ b. b || list_any (brings id r) (map (leaf_document id t) xs)) here
       | inr later ↦ or_right _ _ (any_opened id t leaf r xs later above)
     ]
@@ -69,7 +69,7 @@ any_gone : (id : Id) (r : RevId) (xs : List RevId) → is_among r xs ≡ true �
 any_gone id r [] h = absurd (false≢true h)
 any_gone id r (x ∷ xs) h =
     elim (or_cases _ _ h) [
-      | inl tie ↦ ap (λ b. b || list_any (is_rev_of id r) (map (λ y. (id, y)) xs)) (and_both (id_same id) tie)
+      | inl tie ↦ ap (λ b. b || list_any (is_rev_of id r) (map (λ y. (id, y)) xs)) (and_from _ _ (id_same id) tie)
       | inr later ↦ or_right _ _ (any_gone id r xs later)
     ]
 
@@ -81,7 +81,7 @@ answered_rev db law id revs r asked =
       | inl known ↦
           let up = leaf_among t (IsDocumentTree-tree_of db law id r known).tree revs r known asked in
           or_left _ _ (any_opened id t up.0 r (leaves_above t revs) up.1.among up.1.above)
-      | inr absent ↦ or_right _ _ (any_gone id r (missing t revs) (any_filter (λ x. not (has t x)) r revs ∙ and_both asked (ap not absent)))
+      | inr absent ↦ or_right _ _ (any_gone id r (missing t revs) (any_filter (λ x. not (has t x)) r revs ∙ and_from _ _ asked (ap not absent)))
     ]
 
 answered_left : (docs more : List Document) (gone others : List (Id × RevId)) (w : WantedValue) → is_answered docs gone w ≡ true → is_answered (docs ++ more) (gone ++ others) w ≡ true
@@ -106,7 +106,7 @@ all_answered db law (w ∷ ws) =
     let t = tree_of db.docs w.id in
     let docs = opened w.id t w.revs in
     let gone = map (λ r. (w.id, r)) (missing t w.revs) in
-    and_both
+    and_from _ _
     (answered_left docs (fetched db.docs ws) gone (gone_of db.docs ws) w (all_members (λ r. list_any (brings w.id r) docs || list_any (is_rev_of w.id r) gone) w.revs (answered_rev db law w.id w.revs)))
     (all_weaker (is_answered (fetched db.docs ws) (gone_of db.docs ws)) (is_answered (docs ++ fetched db.docs ws) (gone ++ gone_of db.docs ws))
     (λ x. answered_right docs (fetched db.docs ws) gone (gone_of db.docs ws) x) ws (all_answered db law ws))
@@ -116,7 +116,7 @@ all_answered db law (w ∷ ws) =
 opened_wanted : (w : WantedValue) (ws : List WantedValue) (t : TreeValue) → list_all (is_wanted (w ∷ ws)) (opened w.id t w.revs) ≡ true
 opened_wanted w ws t =
     all_made (is_wanted (w ∷ ws)) (leaf_document w.id t) (λ leaf. list_any (λ r. is_among r (ancestors t leaf)) w.revs)
-    (λ leaf above. or_left _ _ (any_weaker (λ r. is_among r (ancestors t leaf)) (λ r. brings w.id r (leaf_document w.id t leaf)) (λ r k. and_both (id_same w.id) k) w.revs above))
+    (λ leaf above. or_left _ _ (any_weaker (λ r. is_among r (ancestors t leaf)) (λ r. brings w.id r (leaf_document w.id t leaf)) (λ r k. and_from _ _ (id_same w.id) k) w.revs above))
     (leaves t)
 
 fetched_wanted : (ds : List DocumentValue) (ws : List WantedValue) → list_all (is_wanted ws) (fetched ds ws) ≡ true
@@ -137,7 +137,7 @@ heads m (suc n) (suc k) a b = refl
 apart_in : (id : Id) (t : TreeValue) (x : RevId) (ys : List RevId) → list_any (eq_by_cmp rev_cmp x) ys ≡ false → list_any (same_revision (leaf_document id t x)) (map (leaf_document id t) ys) ≡ false
 apart_in id t x [] h = h
 apart_in id t x (y ∷ ys) h =
-    let parts = both_false (eq_by_cmp rev_cmp x y) (list_any (eq_by_cmp rev_cmp x) ys) h in
+    let parts = or_parts (eq_by_cmp rev_cmp x y) (list_any (eq_by_cmp rev_cmp x) ys) h in
     let here : same_revision (leaf_document id t x) (leaf_document id t y) ≡ false = ap (λ b. b && same_head (ancestors t x) (ancestors t y)) (id_same id) ∙ heads t.parents x.generation y.generation x y ∙ parts.0 in
     ap (λ b. b || list_any (same_revision (leaf_document id t x)) (map (leaf_document id t) ys)) here ∙ apart_in id t x ys parts.1
 
@@ -148,12 +148,12 @@ each_opened id t (x ∷ xs) h = (apart_in id t x xs h.0, each_opened id t xs h.1
 -- documents of another id
 apart_from : (d : Document) (id : Id) (t : TreeValue) (ys : List RevId) → bytes_eq d.id id ≡ false → list_any (same_revision d) (map (leaf_document id t) ys) ≡ false
 apart_from d id t [] h = refl
-apart_from d id t (y ∷ ys) h = ap (λ b. b || list_any (same_revision d) (map (leaf_document id t) ys)) (not_both _ (same_head d.ancestry (ancestors t y)) h) ∙ apart_from d id t ys h
+apart_from d id t (y ∷ ys) h = ap (λ b. b || list_any (same_revision d) (map (leaf_document id t) ys)) (and_left _ (same_head d.ancestry (ancestors t y)) h) ∙ apart_from d id t ys h
 
 apart_from_all : (ds : List DocumentValue) (d : Document) (ws : List WantedValue) → list_any (bytes_eq d.id) (map (λ w. w.id) ws) ≡ false → list_any (same_revision d) (fetched ds ws) ≡ false
 apart_from_all ds d [] h = refl
 apart_from_all ds d (w ∷ ws) h =
-    let parts = both_false (bytes_eq d.id w.id) (list_any (bytes_eq d.id) (map (λ w. w.id) ws)) h in
+    let parts = or_parts (bytes_eq d.id w.id) (list_any (bytes_eq d.id) (map (λ w. w.id) ws)) h in
     none_append (same_revision d) (opened w.id (tree_of ds w.id) w.revs) (fetched ds ws) (apart_from d w.id (tree_of ds w.id) (leaves_above (tree_of ds w.id) w.revs) parts.0) (apart_from_all ds d ws parts.1)
 
 all_apart : (ds : List DocumentValue) (id : Id) (t : TreeValue) (xs : List RevId) (ws : List WantedValue) → list_any (bytes_eq id) (map (λ w. w.id) ws) ≡ false → AllByRecursion (λ d. list_any (same_revision d) (fetched ds ws) ≡ false) (map (leaf_document id t) xs)

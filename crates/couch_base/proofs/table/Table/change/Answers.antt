@@ -3,6 +3,7 @@ use Rattle.std.proofs.Math.Seq.{take-append_seam}
 use Rattle.std.proofs.lemmas.List.{length-append}
 use Rattle.std.proofs.lemmas.Cmp.{nat_list_eq_equiv}
 use Rattle.std.proofs.lemmas.Map.Entries.{lookup_from_place}
+use Rattle.std.proofs.lemmas.Option.{same_Some}
 use Rattle.indexmap.specs.IndexMap.{set_value_at}
 use Rattle.indexmap.proofs.CallerLemmas.{keys-with_value_at, updates-with_value_at}
 use Rattle.rev_tree.specs.Tree.{TreeValue, IsTree, merged, merge_answer}
@@ -10,7 +11,6 @@ use Rattle.couch_base.specs.Database.{Id, IsDocumentTree, tree_of, most}
 use Rattle.couch_base.specs.DocumentTreeLaws.{merged_document}
 use Rattle.couch_base.specs.Stored.{TableValue, documents_of, IsKept, IsPlace, IsWritten}
 use Rattle.couch_base.specs.declared.kept.Kept.{Kept}
-use Rattle.couch_base.specs.ListLaws.{some_is}
 use Rattle.couch_base.proofs.Naming.{set_same, standing, tree_at_place}
 use Rattle.couch_base.proofs.Writing.{changed}
 use Rattle.couch_base.proofs.table.Table.change.Goals as goal
@@ -53,7 +53,7 @@ pub returns-in-Ok-clause-ok : goal.returns-in-Ok-clause-ok
 returns-in-Ok-clause-ok c = λ id at.
     let now = c.args.self.now in
     let first = ap (λ (v : TableValue). slice_get v.entries c.args.place) c.self.view_is in
-    let same : c.pair_mut-kept.result.0.now ≡ id = ap (λ (e : Id × Kept). e.0) (some_is (c.pair_mut-kept.result.0.now, c.pair_mut-kept.result.1.now) (id, at.there.0) (sym c.pair_mut-kept.ensures.value ∙ first ∙ at.there.1)) in
+    let same : c.pair_mut-kept.result.0.now ≡ id = ap (λ (e : Id × Kept). e.0) (same_Some (c.pair_mut-kept.result.0.now, c.pair_mut-kept.result.1.now) (id, at.there.0) (sym c.pair_mut-kept.ensures.value ∙ first ∙ at.there.1)) in
     let new : TableValue = record { entries = set_value_at c.self.inside.docs.entries c.args.place (record { seq = c.self.inside.last + 1; tree = c.merge_change.new.self }); rows = c.sweep.new.index.items; last = c.self.inside.last + 1 } in
     subst (λ (q : Id). IsWritten now new q (merged (tree_of (documents_of now) q) c.args.ancestry.now c.args.content c.args.origin)) same (made c)
 

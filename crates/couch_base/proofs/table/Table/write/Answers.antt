@@ -1,9 +1,9 @@
 use Rattle.std.proofs.Common.{◌≡◌, ◌∙◌, Ok, Some, sym, ap, subst}
+use Rattle.std.proofs.lemmas.Option.{same_Some}
 use Rattle.indexmap.proofs.MapLemmas.{OnOk-map}
 use Rattle.rev_tree.specs.Tree.{merged, merge_answer}
 use Rattle.rev_tree.specs.declared.fault.Merged.TheVariants.{Changed}
 use Rattle.couch_base.specs.Database.{Id, tree_of}
-use Rattle.couch_base.specs.ListLaws.{some_is}
 use Rattle.couch_base.specs.Stored.{documents_of, IsPlace, IsWritten}
 use Rattle.couch_base.specs.declared.kept.Kept.{Kept}
 use Rattle.couch_base.proofs.table.Table.write.Goals as goal
@@ -11,7 +11,7 @@ use Rattle.couch_base.proofs.table.Table.write.Goals as goal
 pub change-requires-clause-change : goal.change-requires-clause-change
 change-requires-clause-change c = λ id there.
     let here = subst (IsPlace c.args.self.now.entries c.args.id.now) c.in-Some.is c.requires.place in
-    let same : c.args.id.now ≡ id = ap (λ (e : Id × Kept). e.0) (some_is (c.args.id.now, here.there.0) (id, there.there.0) (sym here.there.1 ∙ there.there.1)) in
+    let same : c.args.id.now ≡ id = ap (λ (e : Id × Kept). e.0) (same_Some (c.args.id.now, here.there.0) (id, there.there.0) (sym here.there.1 ∙ there.there.1)) in
     subst (λ (q : Id). merge_answer (tree_of (documents_of c.args.self.now) q) c.args.ancestry.now ≡ Ok Changed) same c.requires.change
 
 pub returns-in-Some-clause-ok : goal.returns-in-Some-clause-ok
