@@ -1,2 +1,3 @@
 mod Floats
 mod Logging
+mod LogTables

@@ -3,6 +3,10 @@ pub mod Counts
 pub mod Entry
 pub mod Log
 pub mod LogLaws
+pub mod RepId
+pub mod RepIdLaws
+pub mod Logs
+pub mod LogsLaws
 pub mod Stored
 pub mod StoredLaws
 pub mod Time

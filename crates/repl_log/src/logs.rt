@@ -1,0 +1,113 @@
+//! The logs of replications.
+ghost use Rattle.std.specs.Prelude.{◌≡◌, [], OnOk, OnErr, IfOk};
+ghost use Rattle.std.specs.Option.{option_copied};
+ghost use Rattle.std.specs.Map.{lookup};
+
+use crate::entry::Entry;
+use crate::fault::LogFault;
+use crate::log::Log;
+use crate::replication::RepId;
+use indexmap::IndexMap;
+use std::alloc::{AllocError, Global};
+use std::marker::Model;
+
+/// Logs, each under its replication, in the order in which the replications began.
+pub struct Logs {
+    logs: IndexMap<RepId, Log>,
+}
+
+// By hand, so that it is proved once: docs/DECISIONS.md, "Letting values go".
+impl Drop for Logs {
+    fn drop(self) {
+        let Logs { logs: _ } = self;
+    }
+}
+
+impl Model for Logs {
+    ghost use Rattle.std.specs.Prelude.{List};
+    ghost use Rattle.repl_log.specs.declared.replication.RepId.{RepId};
+    ghost use Rattle.repl_log.specs.Entry.{EntryValue};
+
+    ghost Value = { List (RepId × List EntryValue) };
+
+    ghost view = { λ l. l.logs.entries };
+}
+
+impl Logs {
+    ghost use Rattle.repl_log.specs.Answers.{GivesUnlessMemory};
+    ghost use Rattle.repl_log.specs.Entry.{value_of};
+    ghost use Rattle.repl_log.specs.RepId.{same_rep};
+    ghost use Rattle.repl_log.specs.Logs.{log_in, logs_with, put_answer_in};
+
+    /// No logs. They grow by `alloc`.
+    pub fn new(alloc: Global) -> Logs
+        ensures { result ≡ [] }
+    {
+        Logs {
+            logs: IndexMap::new(alloc),
+        }
+    }
+
+    /// The log of a replication, where there is one.
+    pub fn get(&self, rep: &RepId) -> Option<&Log>
+        ensures { option_copied result ≡ lookup (same_rep rep.now) self.now }
+    {
+        self.logs.get(rep)
+    }
+
+    /// A copy of the log of a replication, an empty one where there is none.
+    pub fn copy_of(&self, alloc: Global, rep: &RepId) -> Result<Log, AllocError>
+        ensures log { IfOk result (λ l. l ≡ log_in self.now rep.now) }
+    {
+        match self.logs.get(rep) {
+            Some(log) => log.copy(alloc),
+            None => Ok(Log::new(alloc)),
+        }
+    }
+
+    /// Puts an entry into the log of a replication as `Log::put` does; where there is none, it begins with the entry.
+    ///
+    /// `Older` exactly where the log's entry of the session has a greater recorded sequence; else `Memory`. A refusal
+    /// changes nothing.
+    pub fn put(&mut self, rep: &RepId, entry: Entry) -> Result<(), LogFault>
+        ensures answer { GivesUnlessMemory result (put_answer_in self.old rep.now (value_of entry)) }
+        ensures ok { OnOk result (self.new ≡ logs_with self.old rep.now (value_of entry)) }
+        ensures err { OnErr result (self.new ≡ self.old) }
+    {
+        let alloc = *self.logs.allocator();
+        match self.logs.get_mut(rep) {
+            Some(log) => log.put(entry),
+            None => {
+                let mut log = Log::new(alloc);
+                log.set(entry)?;
+                let rep = rep.copy(alloc)?;
+                self.logs.insert(rep, log)?;
+                Ok(())
+            }
+        }
+    }
+
+    /// The same logs, each at its place.
+    pub fn copy(&self, alloc: Global) -> Result<Logs, AllocError>
+        ensures copied { IfOk result (λ l. l ≡ self.now) }
+    {
+        let mut logs = IndexMap::new(alloc);
+        for place in 0..self.logs.len() {
+            let Some((rep, log)) = self.logs.get_index(place) else {
+                unreachable!()
+            };
+            let (rep, log) = copied(alloc, rep, log)?;
+            logs.insert(rep, log)?;
+        }
+        Ok(Logs { logs })
+    }
+}
+
+/// A log with its replication.
+fn copied(alloc: Global, rep: &RepId, log: &Log) -> Result<(RepId, Log), AllocError>
+    ensures copied { IfOk result (λ e. (e.0 ≡ rep.now) × (e.1 ≡ log.now)) }
+{
+    let rep = rep.copy(alloc)?;
+    let log = log.copy(alloc)?;
+    Ok((rep, log))
+}
