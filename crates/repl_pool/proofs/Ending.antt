@@ -7,17 +7,17 @@ use Rattle.couch_base.specs.ListLaws.{some_is}
 use Rattle.doc_json.specs.Chosen.{Choice}
 use Rattle.couch_base.specs.Database.{DatabaseValue, LawfulDatabase}
 use Rattle.range_front.specs.Front.{low_water}
-use Rattle.repl_target.specs.declared.fault.Report.{Report}
-use Rattle.repl_target.specs.declared.fault.TargetFault.{TargetFault}
-use Rattle.repl_target.specs.declared.fault.TargetFault.TheVariants as faults
+use Rattle.repl_peer.specs.declared.fault.Report.{Report}
+use Rattle.repl_peer.specs.declared.fault.TargetFault.{TargetFault}
+use Rattle.repl_peer.specs.declared.fault.TargetFault.TheVariants as faults
 use Rattle.repl_target.specs.declared.replication.Plan.{Plan}
-use Rattle.repl_target.specs.peer.Peer.{PeerValue, SessionValue, is_of, session_in, with_session}
-use Rattle.repl_target.specs.peer.Law.{LawfulSessions}
+use Rattle.repl_peer.specs.peer.Peer.{PeerValue, SessionValue, is_of, session_in, with_session}
+use Rattle.repl_peer.specs.peer.Law.{LawfulSessions}
 use Rattle.std.specs.List.{find}
-use Rattle.repl_target.specs.session.Sessions.{new_session, begun as begun_by, found_answer, on_found, recorded_at, after_record, report_of, conclude_in, conclude_answer, after_conclude}
-use Rattle.repl_target.specs.logs.Audit.{rep_between}
+use Rattle.repl_peer.specs.session.Sessions.{new_session, begun as begun_by, found_answer, on_found, recorded_at, after_record, report_of, conclude_in, conclude_answer, after_conclude}
+use Rattle.repl_peer.specs.logs.Checkpoint.{rep_between}
 use Rattle.repl_target.specs.replication.Replication.{begins_answer, after_begins, beginning_between}
-use Rattle.repl_target.proofs.lemmas.peer.LaterPeers.{session_found}
+use Rattle.repl_peer.proofs.lemmas.peer.LaterPeers.{session_found}
 use Rattle.repl_target.proofs.lemmas.replication.SourceFeedStored.{found-is}
 use Rattle.repl_target.specs.replication.Calls.{Record, Conclude, IsGrown, after_calls}
 use Rattle.repl_target.proofs.lemmas.replication.CallLaws.{calls_law}
@@ -25,8 +25,8 @@ use Rattle.repl_target.proofs.lemmas.replication.ReplicationAsCalls.{grown-same,
 use Rattle.repl_target.proofs.lemmas.replication.BegunSessions.{later_session, later_covers}
 use Rattle.repl_pool.specs.Grown.{GrownPeer}
 use Rattle.repl_pool.specs.Runs.{EndsWell}
-use Rattle.repl_target.specs.session.ReadCounts.{read_of, read_in}
-use Rattle.repl_target.proofs.lemmas.session.ReadCounts.{swap_some}
+use Rattle.repl_peer.specs.session.ReadCounts.{read_of, read_in}
+use Rattle.repl_target.proofs.lemmas.replication.ReadCounts.{swap_some}
 
 module _ {F : Type 0} (refuses : F → Document → Bool) (db : DatabaseValue) (chosen : Choice) (run : SessionId) where
   pub grown_record : (p q : F × PeerValue) (at : ℕ) → q.0 ≡ p.0 → q.1 ≡ after_record p.1 run at → GrownPeer refuses db chosen run p q

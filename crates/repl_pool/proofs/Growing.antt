@@ -7,18 +7,18 @@ use Rattle.doc_json.specs.Chosen.{Choice}
 use Rattle.couch_base.specs.Database.{DatabaseValue}
 use Rattle.couch_base.specs.Feed.{WindowValue}
 use Rattle.couch_base.specs.Messages.{ParcelValue}
-use Rattle.repl_target.specs.declared.fault.Settled.{Settled}
-use Rattle.repl_target.specs.declared.fault.TargetFault.{TargetFault}
-use Rattle.repl_target.specs.declared.fault.TargetFault.TheVariants as refusals
-use Rattle.repl_target.specs.peer.Peer.{PeerValue, SessionValue}
-use Rattle.repl_target.specs.peer.Law.{LawfulSessions}
-use Rattle.repl_target.specs.session.Settling.{settle_check, SettlesAt, Settles, SettleGives}
+use Rattle.repl_peer.specs.declared.fault.Settled.{Settled}
+use Rattle.repl_peer.specs.declared.fault.TargetFault.{TargetFault}
+use Rattle.repl_peer.specs.declared.fault.TargetFault.TheVariants as refusals
+use Rattle.repl_peer.specs.peer.Peer.{PeerValue, SessionValue}
+use Rattle.repl_peer.specs.peer.Law.{LawfulSessions}
+use Rattle.repl_peer.specs.session.Settling.{settle_check, SettlesAt, Settles, SettleGives}
 use Rattle.repl_target.specs.replication.Calls.{Call, IsFrom, IsGrown, after_call}
 use Rattle.repl_target.proofs.lemmas.replication.ReplicationAsCalls.{grown-same, grown-later, grown-one, settled_grown}
 use Rattle.repl_pool.specs.Grown.{IsAnswerOf, GrownPeer, TargetKeeps}
-use Rattle.repl_target.specs.session.ReadCounts.{read_in, taken}
-use Rattle.repl_target.proofs.lemmas.session.ReadCounts.{settle_reads}
-use Rattle.repl_target.proofs.lemmas.session.SettlingDocuments.{before-le}
+use Rattle.repl_peer.specs.session.ReadCounts.{read_in, taken}
+use Rattle.repl_target.proofs.lemmas.replication.ReadCounts.{settle_reads}
+use Rattle.repl_peer.proofs.lemmas.session.SettlingDocuments.{before-le}
 
 module _ {F : Type 0} (refuses : F → Document → Bool) (source : DatabaseValue) (chosen : Choice) where
   pub starts : (given : F × PeerValue) (session : SessionId) → read_in given.1.sessions session ≡ 0 → TargetKeeps refuses source chosen (Some (given, session)) session 0 given

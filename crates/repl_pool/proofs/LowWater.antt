@@ -3,15 +3,15 @@ use Rattle.std.proofs.Common.{◌≡◌, ℕ, ◌==◌, Bool, false, cond, Optio
 use Rattle.std.proofs.lemmas.Bool.{cond_both, cond-false, false≢true}
 use Rattle.rev_tree.specs.declared.origin.SessionId.{SessionId}
 use Rattle.range_front.specs.Front.{low_water}
-use Rattle.repl_target.specs.declared.fault.Report.{Report}
-use Rattle.repl_target.specs.declared.fault.TargetFault.{TargetFault}
-use Rattle.repl_target.specs.declared.fault.TargetFault.TheVariants as refusals
+use Rattle.repl_peer.specs.declared.fault.Report.{Report}
+use Rattle.repl_peer.specs.declared.fault.TargetFault.{TargetFault}
+use Rattle.repl_peer.specs.declared.fault.TargetFault.TheVariants as refusals
 use Rattle.repl_target.specs.declared.replication.Plan.{Plan}
-use Rattle.repl_target.specs.peer.Peer.{PeerValue, SessionValue, session_in, with_session}
+use Rattle.repl_peer.specs.peer.Peer.{PeerValue, SessionValue, session_in, with_session}
 use Rattle.repl_target.specs.replication.Replication.{closed, closed_as}
-use Rattle.repl_target.specs.session.Sessions.{found_answer, on_found, recorded_at, record_answer, after_record, report_of, conclude_in, conclude_answer, after_conclude}
-use Rattle.repl_target.proofs.lemmas.peer.LaterPeers.{session_found}
-use Rattle.repl_target.proofs.lemmas.session.ReadCounts.{swap_some}
+use Rattle.repl_peer.specs.session.Sessions.{found_answer, on_found, recorded_at, record_answer, after_record, report_of, conclude_in, conclude_answer, after_conclude}
+use Rattle.repl_peer.proofs.lemmas.peer.LaterPeers.{session_found}
+use Rattle.repl_target.proofs.lemmas.replication.ReadCounts.{swap_some}
 use Rattle.repl_pool.specs.Faults.{IsHaltOn}
 use Rattle.repl_pool.specs.Runs.{unfinished_at, IsRecorded, stopped, fewer, refused, TellsLowWater}
 use Rattle.repl_pool.specs.declared.gate.Place.{Place}

@@ -7,12 +7,12 @@ use Rattle.doc_json.specs.Document.{Document}
 use Rattle.couch_base.specs.Feed.{WindowValue}
 use Rattle.couch_base.specs.Messages.{ParcelValue}
 use Rattle.range_front.specs.Front.{end_of, low_water, is_done}
-use Rattle.repl_target.specs.peer.Peer.{PeerValue, SessionValue, session_in}
-use Rattle.repl_target.specs.session.Sessions.{GivesUnlessMemory, found_answer, next_in, append_in, append_answer, record_answer}
-use Rattle.repl_target.specs.session.Settling.{has_row, has_room, window_in, settle_at, settle_check, SettlesAt, Settles, SettleGives}
-use Rattle.repl_target.specs.declared.fault.Settled.{Settled}
-use Rattle.repl_target.specs.declared.fault.TargetFault.{TargetFault}
-use Rattle.repl_target.specs.declared.fault.TargetFault.TheVariants as refusals
+use Rattle.repl_peer.specs.peer.Peer.{PeerValue, SessionValue, session_in}
+use Rattle.repl_peer.specs.session.Sessions.{GivesUnlessMemory, found_answer, next_in, append_in, append_answer, record_answer}
+use Rattle.repl_peer.specs.session.Settling.{has_row, has_room, window_in, settle_at, settle_check, SettlesAt, Settles, SettleGives}
+use Rattle.repl_peer.specs.declared.fault.Settled.{Settled}
+use Rattle.repl_peer.specs.declared.fault.TargetFault.{TargetFault}
+use Rattle.repl_peer.specs.declared.fault.TargetFault.TheVariants as refusals
 use Rattle.repl_pool.specs.Faults.{IsStepFault}
 
 -- ---- storing a window

@@ -7,23 +7,23 @@ use Rattle.doc_json.specs.Document.{Document}
 use Rattle.doc_json.specs.Chosen.{Choice}
 use Rattle.couch_base.specs.Database.{DatabaseValue, LawfulDatabase}
 use Rattle.couch_base.specs.Feed.{chosen_feed}
-use Rattle.repl_target.specs.declared.fault.Report.{Report}
-use Rattle.repl_target.specs.declared.fault.TargetFault.{TargetFault}
-use Rattle.repl_target.specs.declared.fault.TargetFault.TheVariants as refusals
+use Rattle.repl_peer.specs.declared.fault.Report.{Report}
+use Rattle.repl_peer.specs.declared.fault.TargetFault.{TargetFault}
+use Rattle.repl_peer.specs.declared.fault.TargetFault.TheVariants as refusals
 use Rattle.repl_target.specs.declared.replication.Plan.{Plan}
 use Rattle.repl_target.specs.replication.Calls.{IsGrown, IsLeft}
-use Rattle.repl_target.specs.logs.Audit.{CoversFeed}
+use Rattle.repl_target.specs.Audit.{CoversFeed}
 use Rattle.repl_target.specs.ties.Ties.{IsTiedPair}
-use Rattle.repl_target.specs.peer.Covered.{Leaf, covers, first_uncovered}
-use Rattle.repl_target.specs.peer.Peer.{PeerValue}
-use Rattle.repl_target.specs.peer.Law.{LawfulSessions}
-use Rattle.repl_target.specs.session.ReadCounts.{read_in}
-use Rattle.repl_target.specs.session.Sessions.{record_answer}
+use Rattle.repl_peer.specs.peer.Covered.{Leaf, covers, first_uncovered}
+use Rattle.repl_peer.specs.peer.Peer.{PeerValue}
+use Rattle.repl_peer.specs.peer.Law.{LawfulSessions}
+use Rattle.repl_peer.specs.session.ReadCounts.{read_in}
+use Rattle.repl_peer.specs.session.Sessions.{record_answer}
 use Rattle.repl_target.specs.replication.Replication.{is_batch, start_between, begins_answer, after_begins}
-use Rattle.repl_target.proofs.lemmas.peer.LaterPeers.{IsLaterPeer-same}
+use Rattle.repl_peer.proofs.lemmas.peer.LaterPeers.{IsLaterPeer-same}
 use Rattle.repl_target.proofs.lemmas.ties.TiedPeersCover.{tied_none}
 use Rattle.repl_target.proofs.lemmas.replication.ReplicationAsCalls.{grown-same, left_law, both_tied, puts_over, reported_whole, tied_clean}
-use Rattle.repl_target.proofs.lemmas.session.SettlingTakes.{all_known}
+use Rattle.repl_target.proofs.lemmas.ties.SettlingTakes.{all_known}
 use Rattle.repl_pool.specs.Grown.{GrownPeer, TargetKeeps}
 use Rattle.repl_pool.specs.Runs.{IsConcluded, unfinished_at, IsRecorded, stopped, fewer, refused, PutsEntry, Walks, clean, hole, no_memory, Ends, concluded, recorded, EndsRun, EndsWell, EarlyOrLate, TellsLowWater, RunsOn}
 use Rattle.repl_pool.specs.Faults.{early_answer, IsLateOn, IsHaltOn}

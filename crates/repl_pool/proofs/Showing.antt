@@ -4,7 +4,7 @@ use Rattle.std.proofs.lemmas.List.{append_assoc}
 use Rattle.std.proofs.lemmas.List.Elements.{All-push, All-pop}
 use Rattle.progress_board.specs.declared.board.Board.{Board}
 use Rattle.progress_board.specs.declared.seat.BoardSeat.{BoardSeat}
-use Rattle.repl_target.specs.declared.fault.Report.{Report}
+use Rattle.repl_peer.specs.declared.fault.Report.{Report}
 use Rattle.repl_pool.specs.Boards.{HaveRisenBy, AreSeated, AreBack, HaveShown, held}
 use Rattle.repl_pool.specs.declared.fault.Halt.{Halt}
 use Rattle.repl_pool.specs.declared.fault.PoolFault.{PoolFault}

@@ -1,8 +1,8 @@
 -- What a run leaves, for two runs, one each way.
 use Rattle.std.proofs.Common.{ℕ, Bool, List, Result}
 use Rattle.doc_json.specs.Document.{Document}
-use Rattle.repl_target.specs.peer.Peer.{PeerValue}
-use Rattle.repl_target.specs.declared.fault.Report.{Report}
+use Rattle.repl_peer.specs.peer.Peer.{PeerValue}
+use Rattle.repl_peer.specs.declared.fault.Report.{Report}
 use Rattle.repl_target.specs.declared.replication.Plan.{Plan}
 use Rattle.repl_target.proofs.lemmas.replication.BothWays.{Leaves}
 use Rattle.repl_pool.specs.Runs.{Runs}

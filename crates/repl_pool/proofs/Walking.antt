@@ -9,9 +9,9 @@ use Rattle.couch_base.specs.Lists.{Rises}
 use Rattle.couch_base.specs.Database.{DatabaseValue, DocumentValue, LawfulDatabase}
 use Rattle.couch_base.specs.Feed.{RowValue, row_of, chosen_rows, chosen_feed}
 use Rattle.couch_base.specs.FeedLaws.{in_range}
-use Rattle.repl_target.specs.peer.Peer.{PeerValue}
-use Rattle.repl_target.specs.peer.Covered.{covers, first_uncovered}
-use Rattle.repl_target.proofs.lemmas.logs.FirstUnknownLeaf.{first_unknown-append}
+use Rattle.repl_peer.specs.peer.Peer.{PeerValue}
+use Rattle.repl_peer.specs.peer.Covered.{covers, first_uncovered}
+use Rattle.repl_peer.proofs.lemmas.session.FirstUnknownLeaf.{first_unknown-append}
 
 above : (a b : ℕ) → a < b → nat_lt a b ≡ true
 above a b h = grind (arith, h)

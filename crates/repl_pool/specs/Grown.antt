@@ -5,10 +5,10 @@ use Rattle.doc_json.specs.Document.{Document}
 use Rattle.doc_json.specs.Chosen.{Choice}
 use Rattle.couch_base.specs.Database.{DatabaseValue}
 use Rattle.couch_base.specs.Messages.{ParcelValue, open_revs}
-use Rattle.repl_target.specs.peer.Peer.{PeerValue}
+use Rattle.repl_peer.specs.peer.Peer.{PeerValue}
 use Rattle.repl_target.specs.replication.Calls.{IsGrown, IsLeft}
 use Rattle.repl_target.specs.declared.replication.Plan.{Plan}
-use Rattle.repl_target.specs.session.ReadCounts.{read_in}
+use Rattle.repl_peer.specs.session.ReadCounts.{read_in}
 
 -- what the source answers to what was asked
 abbrev pub IsAnswerOf : DatabaseValue → ParcelValue → Type 0

@@ -8,19 +8,20 @@ use Rattle.couch_base.specs.Feed.{chosen_feed}
 use Rattle.repl_log.specs.Entry.{EntryValue}
 use Rattle.range_front.specs.Front.{low_water}
 use Rattle.rev_tree.specs.declared.origin.SessionId.{SessionId}
-use Rattle.repl_target.specs.logs.Audit.{rep_between, audit_answer, CoversFeed}
-use Rattle.repl_target.specs.peer.Backups.{BackupValue}
+use Rattle.repl_peer.specs.logs.Checkpoint.{rep_between}
+use Rattle.repl_target.specs.Audit.{audit_answer, CoversFeed}
+use Rattle.repl_peer.specs.peer.Backups.{BackupValue}
 use Rattle.repl_target.specs.ties.Ties.{IsTiedPair, IsTiedWith}
 use Rattle.repl_target.specs.replication.Calls.{IsGrown}
-use Rattle.repl_target.specs.peer.Covered.{first_uncovered}
-use Rattle.repl_target.specs.peer.Later.{IsLaterPeer}
-use Rattle.repl_target.specs.peer.Peer.{PeerValue, SessionValue, session_in, entry_of}
-use Rattle.repl_target.specs.session.ReadCounts.{read_in}
+use Rattle.repl_peer.specs.peer.Covered.{first_uncovered}
+use Rattle.repl_peer.specs.peer.Later.{IsLaterPeer}
+use Rattle.repl_peer.specs.peer.Peer.{PeerValue, SessionValue, session_in, entry_of}
+use Rattle.repl_peer.specs.session.ReadCounts.{read_in}
 use Rattle.repl_target.specs.replication.Replication.{PutsOver, closed, start_between, begins_answer, CoversFrom, IsReported}
-use Rattle.repl_target.specs.session.Sessions.{session_answer, record_answer, after_record, conclude_answer, after_conclude}
-use Rattle.repl_target.specs.declared.fault.Report.{Report}
-use Rattle.repl_target.specs.declared.fault.TargetFault.{TargetFault}
-use Rattle.repl_target.specs.declared.fault.TargetFault.TheVariants as refusals
+use Rattle.repl_peer.specs.session.Sessions.{session_answer, record_answer, after_record, conclude_answer, after_conclude}
+use Rattle.repl_peer.specs.declared.fault.Report.{Report}
+use Rattle.repl_peer.specs.declared.fault.TargetFault.{TargetFault}
+use Rattle.repl_peer.specs.declared.fault.TargetFault.TheVariants as refusals
 use Rattle.repl_target.specs.declared.replication.Plan.{Plan}
 use Rattle.repl_pool.specs.Faults.{early_answer, IsLateOn, IsHaltOn}
 use Rattle.repl_pool.specs.Grown.{LeftPeer}

@@ -1,8 +1,8 @@
 -- Replication both ways by the pool: docs/PROFILE.md, "Both ways"; PouchDB, `sync`.
 use Rattle.std.specs.Prelude.{ℕ, Bool, List, Result, Ok, Err}
 use Rattle.doc_json.specs.Document.{Document}
-use Rattle.repl_target.specs.peer.Peer.{PeerValue}
-use Rattle.repl_target.specs.declared.fault.Report.{Report}
+use Rattle.repl_peer.specs.peer.Peer.{PeerValue}
+use Rattle.repl_peer.specs.declared.fault.Report.{Report}
 use Rattle.repl_target.specs.declared.replication.Plan.{Plan}
 use Rattle.repl_target.specs.declared.replication.sync.Synced.{Synced}
 use Rattle.repl_pool.specs.Runs.{Runs}

@@ -1,7 +1,7 @@
 //! Replication both ways by the pool.
 ghost use Rattle.std.specs.Prelude.{List, OnOk};
 ghost use Rattle.doc_json.specs.Chosen.{Choice};
-ghost use Rattle.repl_target.specs.peer.Backups.{BackupValue};
+ghost use Rattle.repl_peer.specs.peer.Backups.{BackupValue};
 ghost use Rattle.repl_target.specs.ties.Ties.{IsTiedWith};
 ghost use Rattle.repl_target.specs.replication.Sync.{MeetBoth};
 ghost use Rattle.repl_pool.specs.Sync.{SyncRuns};

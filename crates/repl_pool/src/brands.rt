@@ -25,7 +25,7 @@ impl SourceBrand for Brand {
 /// Which target was given, and which session is the run's.
 pub trait TargetBrand<F> {
     ghost use Rattle.std.specs.Prelude.{Option};
-    ghost use Rattle.repl_target.specs.peer.Peer.{PeerValue};
+    ghost use Rattle.repl_peer.specs.peer.Peer.{PeerValue};
     ghost use Rattle.rev_tree.specs.declared.origin.SessionId.{SessionId};
 
     ghost given: { Option ((F × PeerValue) × SessionId) };

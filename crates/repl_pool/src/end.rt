@@ -1,10 +1,10 @@
 //! The end of a run.
 ghost use Rattle.std.specs.Prelude.{◌≡◌, Some, Ok, Err, IfOk, IfErr, OnOk};
 ghost use Rattle.couch_base.specs.Database.{DatabaseValue};
-ghost use Rattle.repl_target.specs.peer.Peer.{SessionValue, session_in};
+ghost use Rattle.repl_peer.specs.peer.Peer.{SessionValue, session_in};
 ghost use Rattle.doc_json.specs.Chosen.{Choice};
 ghost use Rattle.repl_pool.specs.Grown.{GrownPeer};
-ghost use Rattle.repl_target.specs.session.Sessions.{record_answer, after_record};
+ghost use Rattle.repl_peer.specs.session.Sessions.{record_answer, after_record};
 ghost use Rattle.repl_pool.specs.Runs.{IsConcluded, unfinished_at, IsRecorded, UnlessMemory, PutsEntry, Walks, Ends};
 
 use crate::fault::PoolFault;

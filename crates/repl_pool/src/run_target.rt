@@ -5,11 +5,11 @@ ghost use Rattle.rev_tree.specs.declared.origin.SessionId.{SessionId};
 ghost use Rattle.repl_pool.specs.Faults.{IsStepFault};
 ghost use Rattle.repl_pool.specs.Grown.{TargetKeeps};
 ghost use Rattle.couch_base.specs.Messages.{revs_diff};
-ghost use Rattle.repl_target.specs.peer.Peer.{PeerValue};
-ghost use Rattle.repl_target.specs.peer.PeerCode.{coded_peer};
-ghost use Rattle.repl_target.specs.session.ReadCounts.{read_in, taken};
-ghost use Rattle.repl_target.specs.session.Sessions.{GivesUnlessMemory, append_answer, after_append, record_answer, after_record};
-ghost use Rattle.repl_target.specs.session.Settling.{SettleGives};
+ghost use Rattle.repl_peer.specs.peer.Peer.{PeerValue};
+ghost use Rattle.repl_peer.specs.peer.PeerCode.{coded_peer};
+ghost use Rattle.repl_peer.specs.session.ReadCounts.{read_in, taken};
+ghost use Rattle.repl_peer.specs.session.Sessions.{GivesUnlessMemory, append_answer, after_append, record_answer, after_record};
+ghost use Rattle.repl_peer.specs.session.Settling.{SettleGives};
 
 use crate::brands::{SourceBrand, TargetBrand};
 use crate::messages::{Fetched, Paged};

@@ -2,8 +2,8 @@
 ghost use Rattle.std.specs.Prelude.{◌≡◌, ◌<◌, ◌≤◌, [], true, Some, None, IfOk, is_none, sum, vec_len, option_copied};
 ghost use Rattle.std.specs.List.{All};
 ghost use Rattle.couch_base.specs.Database.{DatabaseValue};
-ghost use Rattle.repl_target.specs.peer.Peer.{SessionValue, session_in};
-ghost use Rattle.repl_target.specs.session.ReadCounts.{read_in};
+ghost use Rattle.repl_peer.specs.peer.Peer.{SessionValue, session_in};
+ghost use Rattle.repl_peer.specs.session.ReadCounts.{read_in};
 ghost use Rattle.repl_target.specs.replication.Replication.{is_batch};
 ghost use Rattle.doc_json.specs.Chosen.{Choice};
 ghost use Rattle.repl_pool.specs.Grown.{GrownPeer};

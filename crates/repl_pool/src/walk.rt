@@ -3,8 +3,8 @@ ghost use Rattle.std.specs.Prelude.{◌≡◌, ◌≤◌, Option, IfOk};
 ghost use Rattle.std.specs.Option.{option_or};
 ghost use Rattle.std.specs.Thread.{IsSync};
 ghost use Rattle.couch_base.specs.Feed.{chosen_feed};
-ghost use Rattle.repl_target.specs.logs.Audit.{hole_of};
-ghost use Rattle.repl_target.specs.peer.Covered.{Leaf, first_uncovered};
+ghost use Rattle.repl_target.specs.Audit.{hole_of};
+ghost use Rattle.repl_peer.specs.peer.Covered.{Leaf, first_uncovered};
 
 use repl_target::{Audit, Peer, Plan, WriteFilter, hole_within};
 use std::alloc::{AllocError, Global};

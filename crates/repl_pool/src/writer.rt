@@ -4,7 +4,7 @@ ghost use Rattle.crossbeam_channel.specs.Claims.{view, IsSeatAt};
 ghost use Rattle.crossbeam_channel.specs.Ends.{receives_on};
 ghost use Rattle.repl_pool.specs.Parcels.{parcel_view};
 ghost use Rattle.progress_board.specs.declared.seat.BoardSeat.{BoardSeat};
-ghost use Rattle.repl_target.specs.declared.fault.TargetFault.{TargetFault};
+ghost use Rattle.repl_peer.specs.declared.fault.TargetFault.{TargetFault};
 ghost use Rattle.repl_pool.specs.Boards.{MayFill, IsSeated, HasRoom, HasSettled, HasWritten, halt_in};
 ghost use Rattle.repl_pool.specs.Workers.{WriterKnows, WriterShows};
 ghost use Rattle.repl_pool.specs.Faults.{AllowsOn, IsStepFault};

@@ -1,7 +1,3 @@
--- The lemmas, by rooms as the code has them.
-pub mod Members
-pub mod peer
-pub mod session
-pub mod logs
+-- The lemmas, by rooms as the definitions have them.
 pub mod ties
 pub mod replication

@@ -1,5 +1,3 @@
-pub mod peer
-pub mod session
-pub mod logs
+pub mod Audit
 pub mod ties
 pub mod replication

@@ -1,25 +1,20 @@
-//! What stands behind a lock: a database with the sessions that were replicated into it.
+//! Replications of one peer into another by one thread, and their audit.
 //!
-//! The rules stand in docs/PROFILE.md: "Sessions of a peer", "Settling", "Goal and windows" and "Common checkpoint".
+//! The rules stand in docs/PROFILE.md: "Goal and windows", "Common checkpoint" and "Audit". The peers and what is said
+//! of them are those of `repl_peer`, and stand here under the same names.
 #![tactic(auto)]
 
-mod fault;
-mod logs;
-mod peer;
+mod auditing;
 mod replication;
-mod session;
 
-pub use fault::{Audit, Cause, Reason, Report, Settled, TargetFault};
-pub use logs::auditing::{audit, hole_above, hole_within};
-pub use logs::{checkpoint, rep_between};
-pub use peer::Peer;
-pub use peer::backup::Backup;
-pub use peer::filter::{Rules, Verdict, WriteFilter};
-pub use peer::written::Written;
+pub use auditing::found::Audit;
+pub use auditing::{audit, hole_above, hole_within};
+pub use repl_peer::{
+    Backup, Beginning, Cause, Peer, Reason, Refused, Report, Rules, Settled, TargetFault, Verdict,
+    WriteFilter, Written, checkpoint, rep_between,
+};
 pub use replication::sync::{SyncFault, Synced, sync_alone};
 pub use replication::{
     MOST_ROWS, Plan, begin_plan, check_peers, check_plan, has_left, record_at_source,
     replicate_alone,
 };
-pub use session::beginning::Beginning;
-pub use session::refused::Refused;

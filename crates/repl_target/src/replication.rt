@@ -3,24 +3,21 @@ ghost use Rattle.std.specs.Prelude.{◌≡◌, ◌⊎◌, ℕ, ◌<◌, true, fa
 ghost use Rattle.doc_json.specs.Chosen.{Choice};
 ghost use Rattle.couch_base.specs.Database.{LawfulDatabase};
 ghost use Rattle.repl_log.specs.Entry.{EntryValue};
-ghost use Rattle.repl_target.specs.logs.Audit.{rep_between, audit_answer, CoversFeed};
-ghost use Rattle.repl_target.specs.peer.Backups.{BackupValue};
+ghost use Rattle.repl_peer.specs.logs.Checkpoint.{rep_between};
+ghost use Rattle.repl_target.specs.Audit.{audit_answer, CoversFeed};
+ghost use Rattle.repl_peer.specs.peer.Backups.{BackupValue};
 ghost use Rattle.repl_target.specs.ties.Ties.{IsTiedPair, IsTiedWith};
-ghost use Rattle.repl_target.specs.peer.Peer.{SessionValue, session_in, entry_of};
-ghost use Rattle.repl_target.specs.session.Sessions.{session_answer, conclude_answer};
+ghost use Rattle.repl_peer.specs.peer.Peer.{SessionValue, session_in, entry_of};
+ghost use Rattle.repl_peer.specs.session.Sessions.{session_answer, conclude_answer};
 ghost use Rattle.repl_target.specs.replication.Replication.{Reading, is_batch, plan_answer, start_between, begins_answer, after_begins, Carries, WindowRefused, has_left, ReadsAll, ReadsUntil, closed, PutsOver, Closes, Replicates, CoversFrom, IsReported, IsEmpty, SameDocuments};
-ghost use Rattle.repl_target.specs.peer.Law.{Lawful};
-ghost use Rattle.repl_target.specs.declared.fault.TargetFault.TheVariants as faults;
+ghost use Rattle.repl_peer.specs.peer.Law.{Lawful};
+ghost use Rattle.repl_peer.specs.declared.fault.TargetFault.TheVariants as faults;
 
 pub(crate) mod sync;
 
-use crate::fault::{Report, TargetFault};
-use crate::logs::{checkpoint, rep_between};
-use crate::peer::Peer;
-use crate::peer::filter::WriteFilter;
-use crate::session::beginning::Beginning;
 use doc_json::Chosen;
 use repl_log::Moment;
+use repl_peer::{Beginning, Peer, Report, TargetFault, WriteFilter, checkpoint, rep_between};
 use rev_tree::SessionId;
 use std::alloc::{AllocError, Global};
 

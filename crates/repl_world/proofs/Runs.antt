@@ -9,19 +9,19 @@ use Rattle.couch_base.specs.Lists.{Among}
 use Rattle.couch_base.specs.ListLaws.{some_is}
 use Rattle.couch_base.specs.Feed.{WindowValue}
 use Rattle.couch_base.specs.Messages.{ParcelValue}
-use Rattle.repl_target.specs.peer.Peer.{PeerValue}
-use Rattle.repl_target.specs.peer.Backups.{BackupValue}
-use Rattle.repl_target.specs.session.Sessions.{GivesUnlessMemory, append_answer, after_append}
-use Rattle.repl_target.specs.peer.Law.{LawfulSessions}
-use Rattle.repl_target.specs.session.Settling.{SettleGives, stopped_at}
+use Rattle.repl_peer.specs.peer.Peer.{PeerValue}
+use Rattle.repl_peer.specs.peer.Backups.{BackupValue}
+use Rattle.repl_peer.specs.session.Sessions.{GivesUnlessMemory, append_answer, after_append}
+use Rattle.repl_peer.specs.peer.Law.{LawfulSessions}
+use Rattle.repl_peer.specs.session.Settling.{SettleGives, stopped_at}
 use Rattle.repl_target.specs.ties.Ties.{IsTiedParcel}
-use Rattle.repl_target.specs.declared.fault.Settled.{Settled}
-use Rattle.repl_target.specs.declared.fault.TargetFault.{TargetFault}
-use Rattle.repl_target.specs.declared.fault.TargetFault.TheVariants as faults
+use Rattle.repl_peer.specs.declared.fault.Settled.{Settled}
+use Rattle.repl_peer.specs.declared.fault.TargetFault.{TargetFault}
+use Rattle.repl_peer.specs.declared.fault.TargetFault.TheVariants as faults
 use Rattle.repl_target.proofs.lemmas.ties.TiedPeersCover.{honest_is, audited_is, tied_none}
-use Rattle.repl_target.proofs.lemmas.peer.RefusedCalls.{append_refused}
+use Rattle.repl_peer.proofs.lemmas.peer.RefusedCalls.{append_refused}
 use Rattle.repl_target.proofs.lemmas.replication.ReplicationAsCalls.{settle_left, settle_gives, settle_stops}
-use Rattle.repl_target.proofs.lemmas.session.SettlingTakes.{own_covered}
+use Rattle.repl_target.proofs.lemmas.ties.SettlingTakes.{own_covered}
 use Rattle.repl_world.specs.declared.fault.WorldFault.TheVariants.{SamePeer}
 use Rattle.repl_world.specs.declared.step.Step.{Step}
 use Rattle.doc_json.specs.Chosen.{Choice}

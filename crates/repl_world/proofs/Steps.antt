@@ -12,23 +12,23 @@ use Rattle.couch_base.specs.Messages.{AskedValue, ParcelValue, revs_diff, open_r
 use Rattle.couch_base.specs.WriteLaws.{IsLater}
 use Rattle.couch_base.specs.declared.fault.BaseFault.{BaseFault}
 use Rattle.repl_log.specs.Entry.{EntryValue}
-use Rattle.repl_target.specs.peer.Peer.{PeerValue, SessionValue}
-use Rattle.repl_target.specs.session.Sessions.{after_record, after_conclude, conclude_answer}
-use Rattle.repl_target.specs.peer.Later.{IsLaterPeer}
+use Rattle.repl_peer.specs.peer.Peer.{PeerValue, SessionValue}
+use Rattle.repl_peer.specs.session.Sessions.{after_record, after_conclude, conclude_answer}
+use Rattle.repl_peer.specs.peer.Later.{IsLaterPeer}
 use Rattle.repl_target.specs.ties.Ties.{IsTiedWindow, AreTiedEntries, IsTiedPair, IsSentEntry}
-use Rattle.repl_target.specs.logs.Audit.{rep_between}
+use Rattle.repl_peer.specs.logs.Checkpoint.{rep_between}
 use Rattle.repl_target.specs.replication.Calls.{Call, Load, Edit, after_call}
-use Rattle.repl_target.specs.peer.Backups.{BackupValue, copy_of, is_target, backup_answer, greater_life, restore_answer, restored, restored_by}
-use Rattle.repl_target.specs.logs.Logs.{log_in}
-use Rattle.repl_target.specs.peer.Writing.{after_edit, load_edited}
-use Rattle.repl_target.specs.declared.fault.TargetFault.TheVariants as faults
+use Rattle.repl_peer.specs.peer.Backups.{BackupValue, copy_of, is_target, backup_answer, greater_life, restore_answer, restored, restored_by}
+use Rattle.repl_peer.specs.logs.Logs.{log_in}
+use Rattle.repl_peer.specs.peer.Writing.{after_edit, load_edited}
+use Rattle.repl_peer.specs.declared.fault.TargetFault.TheVariants as faults
 use Rattle.repl_target.specs.replication.Calls as calls
-use Rattle.repl_target.specs.declared.fault.TargetFault.{TargetFault}
+use Rattle.repl_peer.specs.declared.fault.TargetFault.{TargetFault}
 use Rattle.couch_base.specs.MemberLaws.{Among-push, at-append}
-use Rattle.repl_target.proofs.lemmas.Members.{Among-at}
-use Rattle.repl_target.proofs.lemmas.peer.CallsKeepLaw.{load_later, edit_later, begin_later, append_later, record_later, conclude_later}
-use Rattle.repl_target.proofs.lemmas.logs.PutChangesLogsAlone.{put_entry_later}
-use Rattle.repl_target.proofs.lemmas.session.SettlingKeepsLaw.{after_settle_law, after_stop_law}
+use Rattle.repl_peer.proofs.lemmas.Members.{Among-at}
+use Rattle.repl_peer.proofs.lemmas.peer.CallsKeepLaw.{load_later, edit_later, begin_later, append_later, record_later, conclude_later}
+use Rattle.repl_peer.proofs.lemmas.logs.PutChangesLogsAlone.{put_entry_later}
+use Rattle.repl_peer.proofs.lemmas.session.SettlingKeepsLaw.{after_settle_law, after_stop_law}
 use Rattle.repl_target.proofs.lemmas.ties.TiedPages.{IsTiedWindow-page, IsTiedWindow-later}
 use Rattle.repl_target.proofs.lemmas.ties.TiedMessages.{IsTiedAsked-revs_diff, IsTiedAsked-later, IsTiedParcel-open_revs}
 use Rattle.repl_target.proofs.lemmas.replication.CallLaws.{Brings}

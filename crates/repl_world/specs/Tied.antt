@@ -8,14 +8,15 @@ use Rattle.couch_base.specs.Database.{LawfulDatabase}
 use Rattle.couch_base.specs.Feed.{WindowValue}
 use Rattle.couch_base.specs.Messages.{AskedValue, ParcelValue}
 use Rattle.repl_log.specs.Entry.{EntryValue}
-use Rattle.repl_target.specs.peer.Peer.{PeerValue, SessionValue}
-use Rattle.repl_target.specs.session.Settling.{SettleGives, is_uncovered}
-use Rattle.repl_target.specs.peer.Law.{Lawful}
-use Rattle.repl_target.specs.logs.Audit.{rep_between, audit_answer, IsAudited}
+use Rattle.repl_peer.specs.peer.Peer.{PeerValue, SessionValue}
+use Rattle.repl_peer.specs.session.Settling.{SettleGives, is_uncovered}
+use Rattle.repl_peer.specs.peer.Law.{Lawful}
+use Rattle.repl_peer.specs.logs.Checkpoint.{rep_between}
+use Rattle.repl_target.specs.Audit.{audit_answer, IsAudited}
 use Rattle.repl_target.specs.ties.Ties.{IsTiedWindow, IsTiedAsked, IsTiedParcel, AreTiedEntries, IsTiedWith, IsSentEntry, LogsAreHonest}
-use Rattle.repl_target.specs.logs.Logs.{source_log}
-use Rattle.repl_target.specs.declared.fault.Settled.{Settled}
-use Rattle.repl_target.specs.declared.fault.TargetFault.{TargetFault}
+use Rattle.repl_peer.specs.logs.Logs.{source_log}
+use Rattle.repl_peer.specs.declared.fault.Settled.{Settled}
+use Rattle.repl_peer.specs.declared.fault.TargetFault.{TargetFault}
 use Rattle.repl_world.specs.Bags.{IsBag}
 use Rattle.repl_world.specs.Worlds.{WorldValue, rep_of}
 

@@ -6,9 +6,9 @@ use Rattle.couch_base.specs.Feed.{WindowValue, coded_window}
 use Rattle.couch_base.specs.Messages.{AskedValue, ParcelValue, coded_asked, coded_parcel}
 use Rattle.repl_log.specs.Entry.{EntryValue, coded_entry}
 use Rattle.repl_log.specs.Text.{coded_choice}
-use Rattle.repl_target.specs.peer.Peer.{PeerValue}
-use Rattle.repl_target.specs.peer.Backups.{BackupValue}
-use Rattle.repl_target.specs.peer.PeerCode.{coded_peer, coded_backup}
+use Rattle.repl_peer.specs.peer.Peer.{PeerValue}
+use Rattle.repl_peer.specs.peer.Backups.{BackupValue}
+use Rattle.repl_peer.specs.peer.PeerCode.{coded_peer, coded_backup}
 use Rattle.repl_world.specs.Bags.{BagValue}
 use Rattle.repl_world.specs.Worlds.{WorldValue}
 

@@ -16,17 +16,17 @@ use Rattle.couch_base.specs.Messages.{AskedValue, ParcelValue, revs_diff, open_r
 use Rattle.couch_base.specs.declared.fault.BaseFault.{BaseFault}
 use Rattle.repl_log.specs.declared.replication.RepId.{RepId}
 use Rattle.repl_log.specs.Entry.{EntryValue}
-use Rattle.repl_target.specs.peer.Peer.{PeerValue, SessionValue, entry_of}
-use Rattle.repl_target.specs.peer.Writing.{after_load, after_edit}
-use Rattle.repl_target.specs.session.Sessions.{session_answer, after_begin, after_append, after_record, after_conclude, conclude_answer}
-use Rattle.repl_target.specs.session.Settling.{after_settle, after_stop}
-use Rattle.repl_target.specs.logs.Logs.{source_log, target_log, after_put_entry}
+use Rattle.repl_peer.specs.peer.Peer.{PeerValue, SessionValue, entry_of}
+use Rattle.repl_peer.specs.peer.Writing.{after_load, after_edit}
+use Rattle.repl_peer.specs.session.Sessions.{session_answer, after_begin, after_append, after_record, after_conclude, conclude_answer}
+use Rattle.repl_peer.specs.session.Settling.{after_settle, after_stop}
+use Rattle.repl_peer.specs.logs.Logs.{source_log, target_log, after_put_entry}
 use Rattle.repl_target.specs.replication.Replication.{base_at, start_at}
-use Rattle.repl_target.specs.peer.Backups.{BackupValue, backup_answer, after_restore}
+use Rattle.repl_peer.specs.peer.Backups.{BackupValue, backup_answer, after_restore}
 use Rattle.repl_log.specs.Log.{common}
-use Rattle.repl_target.specs.logs.Audit.{rep_between}
-use Rattle.repl_target.specs.declared.session.beginning.Beginning.{Beginning}
-use Rattle.repl_target.specs.declared.fault.TargetFault.{TargetFault}
+use Rattle.repl_peer.specs.logs.Checkpoint.{rep_between}
+use Rattle.repl_peer.specs.declared.session.beginning.Beginning.{Beginning}
+use Rattle.repl_peer.specs.declared.fault.TargetFault.{TargetFault}
 use Rattle.repl_world.specs.declared.fault.WorldFault.{WorldFault}
 use Rattle.repl_world.specs.declared.fault.WorldFault.TheVariants.{SamePeer}
 use Rattle.repl_world.specs.declared.step.Step.{Step}

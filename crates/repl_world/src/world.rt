@@ -1,8 +1,8 @@
 //! Worlds.
 ghost use Rattle.std.specs.Prelude.{◌≡◌, ℕ, Some, None, Err, IfOk, OnOk, OnErr};
 ghost use Rattle.couch_base.specs.declared.fault.BaseFault.TheVariants as base_faults;
-ghost use Rattle.repl_target.specs.session.Settling.{stopped_at};
-ghost use Rattle.repl_target.specs.declared.fault.TargetFault.TheVariants as faults;
+ghost use Rattle.repl_peer.specs.session.Settling.{stopped_at};
+ghost use Rattle.repl_peer.specs.declared.fault.TargetFault.TheVariants as faults;
 
 use crate::bag::Bag;
 use crate::fault::WorldFault;
@@ -84,8 +84,8 @@ impl<F: WriteFilter + Drop> World<F> {
 impl<F: WriteFilter> World<F> {
     ghost use Rattle.std.specs.Prelude.{length, slice_get};
     ghost use Rattle.couch_base.specs.Feed.{page_answer};
-    ghost use Rattle.repl_target.specs.peer.Writing.{after_load, after_edit};
-    ghost use Rattle.repl_target.specs.peer.Backups.{backup_answer};
+    ghost use Rattle.repl_peer.specs.peer.Writing.{after_load, after_edit};
+    ghost use Rattle.repl_peer.specs.peer.Backups.{backup_answer};
     ghost use Rattle.repl_world.specs.Worlds.{paged, appends, differs, fetches, settles, stops, records, concludes, puts, reads_log, begins, backs_up, restores, happens, run, IsStopped, CutShort, StoppedIn};
     ghost use Rattle.repl_world.specs.Tied.{IsWorld, Tied, IsTrustworthy};
 

@@ -5,12 +5,12 @@ use Rattle.std.proofs.lemmas.Bool.{cond_both, eqb-true}
 use Rattle.std.proofs.lemmas.List.{take_more}
 use Rattle.std.proofs.lemmas.Option.{slice_get-get_or}
 use Rattle.couch_base.specs.ListLaws.{some_is, none_some}
-use Rattle.repl_target.specs.peer.Peer.{PeerValue}
-use Rattle.repl_target.specs.session.Sessions.{GivesUnlessMemory}
+use Rattle.repl_peer.specs.peer.Peer.{PeerValue}
+use Rattle.repl_peer.specs.session.Sessions.{GivesUnlessMemory}
 use Rattle.couch_base.specs.Database.{most}
-use Rattle.repl_target.specs.peer.Backups.{BackupValue, is_target, greater_life, restore_answer, restored_by, after_restore}
-use Rattle.repl_target.specs.declared.fault.TargetFault.{TargetFault}
-use Rattle.repl_target.specs.declared.fault.TargetFault.TheVariants as faults
+use Rattle.repl_peer.specs.peer.Backups.{BackupValue, is_target, greater_life, restore_answer, restored_by, after_restore}
+use Rattle.repl_peer.specs.declared.fault.TargetFault.{TargetFault}
+use Rattle.repl_peer.specs.declared.fault.TargetFault.TheVariants as faults
 use Rattle.script_databases.specs.Databases.{backed_of, backed_told}
 use Rattle.script_databases.specs.declared.refusal.Refusal.TheVariants as why
 

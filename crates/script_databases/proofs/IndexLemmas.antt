@@ -17,8 +17,8 @@ use Rattle.couch_base.specs.Edit.{edited, edit_document}
 use Rattle.couch_base.specs.Put.{after_put, put_answer, is_changed}
 use Rattle.couch_base.specs.ListLaws.{some_is, none_some}
 use Rattle.couch_base.specs.declared.fault.BaseFault.{BaseFault}
-use Rattle.repl_target.specs.peer.Peer.{PeerValue}
-use Rattle.repl_target.specs.peer.Writing.{after_edit, after_load, load_edited, next_local}
+use Rattle.repl_peer.specs.peer.Peer.{PeerValue}
+use Rattle.repl_peer.specs.peer.Writing.{after_edit, after_load, load_edited, next_local}
 use Rattle.script_databases.specs.Databases.{State, peer_at, with_peer, IsTaken, text_cmp}
 use Rattle.script_databases.specs.Stored.{Beside, Entries, peers_of, state_of, IsIndex, AllDeny, denied_of}
 use Rattle.script_databases.proofs.TableLemmas.{text_cmp-IsAntisymmetric, get-by_text}

@@ -13,8 +13,8 @@ use Rattle.couch_base.specs.Put.{PutGives}
 use Rattle.couch_base.specs.declared.fault.BaseFault.{BaseFault}
 use Rattle.couch_base.specs.declared.fault.BaseFault.TheVariants as base
 use Rattle.couch_base.specs.declared.fault.Put.{Put}
-use Rattle.repl_target.specs.peer.Peer.{PeerValue}
-use Rattle.repl_target.specs.declared.peer.filter.Rules.{Rules}
+use Rattle.repl_peer.specs.peer.Peer.{PeerValue}
+use Rattle.repl_peer.specs.declared.peer.filter.Rules.{Rules}
 use Rattle.script_databases.specs.Refusals.{told_as, base_refusal}
 use Rattle.script_databases.specs.Databases.{text_cmp, peer_at, with_changed, changed_at, edited_as}
 use Rattle.script_databases.specs.declared.refusal.Refusal.TheVariants as why

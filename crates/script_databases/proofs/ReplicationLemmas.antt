@@ -11,21 +11,21 @@ use Rattle.std.proofs.lemmas.Cmp.{nat_list_cmp_total}
 use Rattle.std.proofs.lemmas.Bool.{true≢false, cond_both, eq-eqb}
 use Rattle.doc_json.specs.Document.{Document}
 use Rattle.couch_base.specs.ListLaws.{some_is}
-use Rattle.repl_target.specs.peer.Law.{LawfulSessions}
-use Rattle.repl_target.specs.peer.Peer.{PeerValue}
-use Rattle.repl_target.specs.peer.Rules.{rules_refuse}
+use Rattle.repl_peer.specs.peer.Law.{LawfulSessions}
+use Rattle.repl_peer.specs.peer.Peer.{PeerValue}
+use Rattle.repl_peer.specs.peer.Rules.{rules_refuse}
 use Rattle.repl_target.specs.replication.Calls.{IsLeft}
 use Rattle.repl_target.specs.replication.Replication.{is_batch, not_planned, plan_answer}
-use Rattle.repl_target.specs.declared.fault.Report.{Report}
-use Rattle.repl_target.specs.declared.fault.TargetFault.{TargetFault}
-use Rattle.repl_target.specs.declared.fault.TargetFault.TheVariants as refusals
+use Rattle.repl_peer.specs.declared.fault.Report.{Report}
+use Rattle.repl_peer.specs.declared.fault.TargetFault.{TargetFault}
+use Rattle.repl_peer.specs.declared.fault.TargetFault.TheVariants as refusals
 use Rattle.repl_pool.specs.Faults.{early_answer}
 use Rattle.repl_pool.specs.Runs.{EarlyOrLate, LeavesOrPuts, RunsOn}
 use Rattle.repl_pool.specs.declared.fault.PoolFault.{PoolFault}
 use Rattle.repl_pool.specs.declared.fault.PoolFault.TheVariants as faults
 use Rattle.repl_pool.specs.declared.gate.Place.{Place}
 use Rattle.repl_pool.proofs.RunLaws.{runs_early}
-use Rattle.repl_target.specs.declared.peer.filter.Rules.{Rules}
+use Rattle.repl_peer.specs.declared.peer.filter.Rules.{Rules}
 use Rattle.repl_target.specs.declared.replication.Plan.{Plan}
 use Rattle.script_databases.specs.Databases.{State, peer_at, with_peer, text_cmp}
 use Rattle.script_databases.specs.Replications.{Nowhere, ReplicatesAlone, ReplicatesBetween, ReplicatesByPool, ReplicatesWatched, deny_refuses, with_both}

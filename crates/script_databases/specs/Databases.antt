@@ -14,10 +14,10 @@ use Rattle.couch_base.specs.Put.{put_answer}
 use Rattle.couch_base.specs.Edit.{edit_answer}
 use Rattle.couch_base.specs.declared.fault.Put.{Put}
 use Rattle.couch_base.specs.declared.fault.BaseFault.{BaseFault}
-use Rattle.repl_target.specs.peer.Peer.{PeerValue}
-use Rattle.repl_target.specs.peer.Backups.{BackupValue, backup_answer, restore_answer, restored, after_restore}
-use Rattle.repl_target.specs.peer.PeerCode.{coded_peer, coded_backup}
-use Rattle.repl_target.specs.peer.Writing.{after_load, after_edit}
+use Rattle.repl_peer.specs.peer.Peer.{PeerValue}
+use Rattle.repl_peer.specs.peer.Backups.{BackupValue, backup_answer, restore_answer, restored, after_restore}
+use Rattle.repl_peer.specs.peer.PeerCode.{coded_peer, coded_backup}
+use Rattle.repl_peer.specs.peer.Writing.{after_load, after_edit}
 use Rattle.script_databases.specs.MadeIds.{made_id, next_place}
 use Rattle.script_databases.specs.Refusals.{told_as, base_refusal, target_refusal}
 use Rattle.script_databases.specs.declared.databases.Edited.{Edited}

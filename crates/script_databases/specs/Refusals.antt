@@ -10,8 +10,8 @@ use Rattle.repl_log.specs.declared.fault.LogFault.{LogFault}
 use Rattle.repl_log.specs.declared.fault.LogFault.TheVariants as log
 use Rattle.repl_pool.specs.declared.fault.PoolFault.{PoolFault}
 use Rattle.repl_pool.specs.declared.fault.PoolFault.TheVariants as pool
-use Rattle.repl_target.specs.declared.fault.TargetFault.{TargetFault}
-use Rattle.repl_target.specs.declared.fault.TargetFault.TheVariants as target
+use Rattle.repl_peer.specs.declared.fault.TargetFault.{TargetFault}
+use Rattle.repl_peer.specs.declared.fault.TargetFault.TheVariants as target
 use Rattle.script_databases.specs.declared.refusal.Refusal.{Refusal}
 use Rattle.script_databases.specs.declared.refusal.Refusal.TheVariants as why
 

@@ -4,8 +4,8 @@ use Rattle.std.specs.declared.alloc.Global.{Global}
 use Rattle.std.specs.FinMap as finmap
 use Rattle.std.specs.FinMap.{FinMap}
 use Rattle.std.specs.List.{list_any}
-use Rattle.repl_target.specs.peer.Peer.{PeerValue}
-use Rattle.repl_target.specs.declared.peer.filter.Rules.{Rules}
+use Rattle.repl_peer.specs.peer.Peer.{PeerValue}
+use Rattle.repl_peer.specs.declared.peer.filter.Rules.{Rules}
 use Rattle.script_databases.specs.Databases.{Program, State, NamedBackupValue, IsTaken, text_cmp}
 use Rattle.script_databases.specs.declared.settings.Settings.{Settings}
 

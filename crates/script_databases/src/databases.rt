@@ -78,7 +78,7 @@ impl Model for Databases {
 impl Databases {
     ghost use Rattle.script_databases.specs.Databases.{IsTaken, backed_answer, backed_at, backed_told, backup_at, put_back_answer, put_back_by, drawn_one, edited_answer, edited_at, load_answer, loaded_at, next_made, no_databases, peer_at, with_peer};
     ghost use Rattle.script_databases.specs.Stored.{deny_of, program_of};
-    ghost use Rattle.repl_target.specs.peer.Peer.{new_peer};
+    ghost use Rattle.repl_peer.specs.peer.Peer.{new_peer};
     ghost use Rattle.script_databases.specs.Refusals.{GivesOrMemory};
     ghost use Rattle.script_databases.specs.Replications.{ReplicatesAlone, ReplicatesBetween, ReplicatesByPool, ReplicatesWatched};
 

@@ -2,7 +2,7 @@
 use Rattle.std.proofs.Common.{◌≡◌, inl, inr, ℕ, List, Option, Some, None, Result, Ok, Err, refl, sym, subst}
 use Rattle.doc_json.specs.Document.{Document}
 use Rattle.couch_base.specs.declared.fault.Put.{Put}
-use Rattle.repl_target.specs.peer.Peer.{PeerValue}
+use Rattle.repl_peer.specs.peer.Peer.{PeerValue}
 use Rattle.script_engine.specs.Serving.{Told, MayTell, in_full, gave_up, served_only}
 use Rattle.script_databases.specs.Databases.{State, peer_at, IsTaken, drawn_one, load_answer, next_made}
 use Rattle.script_databases.specs.Refusals.{name_of}

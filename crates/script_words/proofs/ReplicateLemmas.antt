@@ -1,7 +1,7 @@
 -- What replications are told.
 use Rattle.std.proofs.Common.{◌≡◌, ◌≤◌, ◌<◌, inl, inr, ℕ, List, Option, Some, None, Result, Ok, Err, refl, sym, ap, subst, ◌∙◌}
 use Rattle.doc_json.specs.Chosen.{Choice}
-use Rattle.repl_target.specs.peer.Peer.{PeerValue}
+use Rattle.repl_peer.specs.peer.Peer.{PeerValue}
 use Rattle.repl_target.specs.declared.replication.Plan.{Plan}
 use Rattle.script_engine.specs.Serving.{Told}
 use Rattle.script_databases.specs.Databases.{Program, State, peer_at}

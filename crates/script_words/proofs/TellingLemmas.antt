@@ -4,7 +4,7 @@ use Rattle.std.proofs.lemmas.Bool.{true≢false}
 use Rattle.std.specs.FinMap.{contains_key}
 use Rattle.rev_tree.specs.Tree.{TreeValue}
 use Rattle.couch_base.specs.Database.{DatabaseValue, tree_in}
-use Rattle.repl_target.specs.peer.Peer.{PeerValue}
+use Rattle.repl_peer.specs.peer.Peer.{PeerValue}
 use Rattle.script_engine.specs.Serving.{Told, Answering, MayTell, in_full, gave_up, served_only}
 use Rattle.script_databases.specs.Databases.{State, peer_at, with_peer, with_changed, changed_at}
 use Rattle.script_databases.specs.Refusals.{name_of}

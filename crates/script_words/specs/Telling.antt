@@ -1,6 +1,6 @@
 -- What a word is told, and what it leaves: docs/PROFILE.md, "Order of checks" and "Answers".
 use Rattle.std.specs.Prelude.{◌≡◌, ℕ, List, Result, Ok, Err}
-use Rattle.repl_target.specs.peer.Peer.{PeerValue}
+use Rattle.repl_peer.specs.peer.Peer.{PeerValue}
 use Rattle.script_engine.specs.Serving.{Told}
 use Rattle.script_databases.specs.Databases.{State, peer_at}
 use Rattle.script_databases.specs.Refusals.{name_of}

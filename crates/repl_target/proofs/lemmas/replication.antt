@@ -6,3 +6,4 @@ pub mod CallLaws
 pub mod ReplicationAsCalls
 pub mod BothWays
 pub mod BegunSessions
+pub mod ReadCounts

@@ -1,5 +1,6 @@
 -- Lemmas of what is tied.
 pub mod TiedPages
 pub mod TiedMessages
+pub mod SettlingTakes
 pub mod TiedPeersCover
 pub mod TiedPeersStay

@@ -10,12 +10,12 @@ use Rattle.couch_base.specs.Database.{Id, DatabaseValue}
 use Rattle.couch_base.specs.Feed.{WindowValue, page}
 use Rattle.couch_base.specs.Messages.{ParcelValue, open_revs}
 use Rattle.repl_log.specs.declared.replication.RepId.{RepId}
-use Rattle.repl_target.specs.peer.Peer.{PeerValue, SessionValue}
-use Rattle.repl_target.specs.peer.Writing.{after_load, after_edit}
-use Rattle.repl_target.specs.session.Sessions.{after_begin, after_append, after_record, after_conclude}
-use Rattle.repl_target.specs.session.Settling.{after_settle, after_stop}
+use Rattle.repl_peer.specs.peer.Peer.{PeerValue, SessionValue}
+use Rattle.repl_peer.specs.peer.Writing.{after_load, after_edit}
+use Rattle.repl_peer.specs.session.Sessions.{after_begin, after_append, after_record, after_conclude}
+use Rattle.repl_peer.specs.session.Settling.{after_settle, after_stop}
 use Rattle.repl_target.specs.replication.Replication.{begins_answer, after_begins}
-use Rattle.repl_target.specs.declared.session.beginning.Beginning.{Beginning}
+use Rattle.repl_peer.specs.declared.session.beginning.Beginning.{Beginning}
 use Rattle.repl_target.specs.declared.replication.Plan.{Plan}
 
 -- a call on a target. `Stop` is a settling that found no memory after so many documents

@@ -12,17 +12,17 @@ use Rattle.couch_base.specs.Messages.{ParcelValue, revs_diff, open_revs}
 use Rattle.repl_log.specs.declared.replication.RepId.{RepId}
 use Rattle.repl_log.specs.Counts.{AddUp}
 use Rattle.repl_log.specs.Entry.{EntryValue}
-use Rattle.repl_target.specs.peer.Peer.{PeerValue, SessionValue, session_in, entry_of}
-use Rattle.repl_target.specs.peer.Covered.{covers}
-use Rattle.repl_target.specs.session.Sessions.{report_of, session_answer, begin_answer, after_begin, append_answer, after_append, after_record, conclude_answer, after_conclude}
-use Rattle.repl_target.specs.session.Settling.{SettleGives}
-use Rattle.repl_target.specs.logs.Logs.{after_put_entry}
-use Rattle.repl_target.specs.logs.Audit.{rep_between, checkpoint_between}
-use Rattle.repl_target.specs.declared.session.beginning.Beginning.{Beginning}
-use Rattle.repl_target.specs.declared.fault.Report.{Report}
-use Rattle.repl_target.specs.declared.fault.Settled.{Settled}
-use Rattle.repl_target.specs.declared.fault.TargetFault.{TargetFault}
-use Rattle.repl_target.specs.declared.fault.TargetFault.TheVariants as faults
+use Rattle.repl_peer.specs.peer.Peer.{PeerValue, SessionValue, session_in, entry_of}
+use Rattle.repl_peer.specs.peer.Covered.{covers}
+use Rattle.repl_peer.specs.session.Sessions.{report_of, session_answer, begin_answer, after_begin, append_answer, after_append, after_record, conclude_answer, after_conclude}
+use Rattle.repl_peer.specs.session.Settling.{SettleGives}
+use Rattle.repl_peer.specs.logs.Logs.{after_put_entry}
+use Rattle.repl_peer.specs.logs.Checkpoint.{rep_between, checkpoint_between}
+use Rattle.repl_peer.specs.declared.session.beginning.Beginning.{Beginning}
+use Rattle.repl_peer.specs.declared.fault.Report.{Report}
+use Rattle.repl_peer.specs.declared.fault.Settled.{Settled}
+use Rattle.repl_peer.specs.declared.fault.TargetFault.{TargetFault}
+use Rattle.repl_peer.specs.declared.fault.TargetFault.TheVariants as faults
 use Rattle.repl_target.specs.declared.replication.Plan.{Plan}
 
 -- ---- before a session begins

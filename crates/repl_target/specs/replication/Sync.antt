@@ -7,14 +7,14 @@ use Rattle.doc_json.specs.Document.{Document}
 use Rattle.doc_json.specs.Chosen.{is_chosen}
 use Rattle.couch_base.specs.Lists.{Among}
 use Rattle.couch_base.specs.Database.{Id, DatabaseValue, tree_of}
-use Rattle.repl_target.specs.peer.Peer.{PeerValue, SessionValue}
+use Rattle.repl_peer.specs.peer.Peer.{PeerValue, SessionValue}
 use Rattle.repl_target.specs.replication.Replication.{SameDocument, Replicates}
 use Rattle.repl_target.specs.ties.Ties.{IsTiedPair}
 use Rattle.repl_target.specs.declared.replication.sync.SyncFault.{SyncFault}
 use Rattle.repl_target.specs.declared.replication.sync.SyncFault.TheVariants as faults
 use Rattle.repl_target.specs.declared.replication.sync.Synced.{Synced}
-use Rattle.repl_target.specs.declared.fault.Report.{Report}
-use Rattle.repl_target.specs.declared.fault.TargetFault.{TargetFault}
+use Rattle.repl_peer.specs.declared.fault.Report.{Report}
+use Rattle.repl_peer.specs.declared.fault.TargetFault.{TargetFault}
 use Rattle.repl_target.specs.declared.replication.Plan.{Plan}
 
 -- What replicating a into b and then b into a answers, and the two peers that it leaves: one replication each way, the

@@ -1,15 +1,13 @@
 //! Replication both ways, by one thread.
 ghost use Rattle.std.specs.Prelude.{◌≡◌, List, OnOk};
 ghost use Rattle.doc_json.specs.Chosen.{Choice};
-ghost use Rattle.repl_target.specs.peer.Backups.{BackupValue};
+ghost use Rattle.repl_peer.specs.peer.Backups.{BackupValue};
 ghost use Rattle.repl_target.specs.ties.Ties.{IsTiedWith};
 ghost use Rattle.repl_target.specs.replication.Sync.{Syncs, MeetBoth};
-ghost use Rattle.repl_target.specs.peer.Law.{Lawful};
+ghost use Rattle.repl_peer.specs.peer.Law.{Lawful};
 
-use crate::fault::{Report, TargetFault};
-use crate::peer::Peer;
-use crate::peer::filter::WriteFilter;
 use crate::replication::{Plan, replicate_alone};
+use repl_peer::{Peer, Report, TargetFault, WriteFilter};
 use std::alloc::Global;
 use thiserror::Error;
 

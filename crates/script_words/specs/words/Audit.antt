@@ -3,8 +3,8 @@ use Rattle.std.specs.Prelude.{ℕ, List, [], ◌∷◌, ◌++◌, codes, decimal
 use Rattle.serde_json.specs.Data.{Data}
 use Rattle.json_values.specs.LineView.{line_items}
 use Rattle.rev_core.specs.Text.{rev_text}
-use Rattle.repl_target.specs.peer.Covered.{Leaf}
-use Rattle.repl_target.specs.logs.Audit.{audit_answer}
+use Rattle.repl_peer.specs.peer.Covered.{Leaf}
+use Rattle.repl_target.specs.Audit.{audit_answer}
 use Rattle.script_engine.specs.Serving.{Answering}
 use Rattle.script_databases.specs.Databases.{State}
 use Rattle.script_databases.specs.declared.refusal.Refusal.{Refusal}

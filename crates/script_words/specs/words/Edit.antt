@@ -5,7 +5,7 @@ use Rattle.serde_json.specs.Data.{Data}
 use Rattle.serde_json.specs.Find.{get, as_bool, as_str}
 use Rattle.json_values.specs.LineView.{line_view}
 use Rattle.rev_core.specs.Text.{rev_text}
-use Rattle.repl_target.specs.peer.Writing.{after_edit}
+use Rattle.repl_peer.specs.peer.Writing.{after_edit}
 use Rattle.script_engine.specs.Serving.{Answering}
 use Rattle.script_databases.specs.Databases.{State, with_peer, edited_answer}
 use Rattle.script_databases.specs.declared.databases.Edited.{Edited}

@@ -8,8 +8,8 @@ use Rattle.doc_json.specs.Document.{Document}
 use Rattle.couch_base.specs.Put.{put_answer}
 use Rattle.couch_base.specs.declared.fault.Put.{Put}
 use Rattle.couch_base.specs.declared.fault.Put.TheVariants.{Changed, Same}
-use Rattle.repl_target.specs.peer.Peer.{PeerValue, new_peer}
-use Rattle.repl_target.specs.peer.Writing.{after_load}
+use Rattle.repl_peer.specs.peer.Peer.{PeerValue, new_peer}
+use Rattle.repl_peer.specs.peer.Writing.{after_load}
 use Rattle.script_engine.specs.Serving.{Told, Answering}
 use Rattle.script_databases.specs.Databases.{State, peer_at, with_peer, IsTaken, drawn_one, next_made}
 use Rattle.script_databases.specs.Refusals.{told_as, base_refusal}

@@ -6,9 +6,9 @@ use Rattle.json_values.specs.LineView.{line_items}
 use Rattle.doc_json.specs.Chosen.{Choice}
 use Rattle.repl_log.specs.Entry.{EntryValue}
 use Rattle.repl_log.specs.Text.{log_text}
-use Rattle.repl_target.specs.peer.Peer.{PeerValue}
-use Rattle.repl_target.specs.logs.Logs.{source_log, target_log}
-use Rattle.repl_target.specs.logs.Audit.{rep_between}
+use Rattle.repl_peer.specs.peer.Peer.{PeerValue}
+use Rattle.repl_peer.specs.logs.Logs.{source_log, target_log}
+use Rattle.repl_peer.specs.logs.Checkpoint.{rep_between}
 use Rattle.script_engine.specs.Serving.{Answering}
 use Rattle.script_databases.specs.Databases.{State}
 use Rattle.script_databases.specs.Refusals.{told_as, log_refusal}

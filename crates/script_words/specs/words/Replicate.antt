@@ -7,9 +7,9 @@ use Rattle.doc_json.specs.Chosen.{Choice}
 use Rattle.rev_tree.specs.declared.origin.SessionId.{SessionId}
 use Rattle.repl_log.specs.Text.{id_digits}
 use Rattle.repl_pool.specs.declared.fault.PoolFault.{PoolFault}
-use Rattle.repl_target.specs.peer.Peer.{PeerValue}
-use Rattle.repl_target.specs.declared.fault.Report.{Report}
-use Rattle.repl_target.specs.declared.fault.TargetFault.{TargetFault}
+use Rattle.repl_peer.specs.peer.Peer.{PeerValue}
+use Rattle.repl_peer.specs.declared.fault.Report.{Report}
+use Rattle.repl_peer.specs.declared.fault.TargetFault.{TargetFault}
 use Rattle.repl_target.specs.declared.replication.Plan.{Plan}
 use Rattle.script_engine.specs.Serving.{Told, Answering}
 use Rattle.script_databases.specs.Replications.{ReplicatesAlone, ReplicatesByPool, ReplicatesWatched}

@@ -1,7 +1,7 @@
 //! `audit`: whether the target covers what the two logs say is done.
 ghost use Rattle.std.specs.Prelude.{◌≡◌, ◌++◌, [], OnOk, option_map};
 ghost use Rattle.json_values.specs.LineView.{line_view};
-ghost use Rattle.repl_target.specs.logs.Audit.{hole_of};
+ghost use Rattle.repl_target.specs.Audit.{hole_of};
 ghost use Rattle.script_engine.specs.Serving.{MayTell};
 ghost use Rattle.script_words.specs.Checks.{needed};
 ghost use Rattle.script_words.specs.Telling.{told_by};

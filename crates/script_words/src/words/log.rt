@@ -1,7 +1,7 @@
 //! `log`: the log of a replication, as one of its sides holds it.
 ghost use Rattle.std.specs.Prelude.{◌≡◌, ◌++◌, [], OnOk, IfOk, option_map};
 ghost use Rattle.json_values.specs.LineView.{line_view};
-ghost use Rattle.repl_target.specs.logs.Audit.{rep_between};
+ghost use Rattle.repl_peer.specs.logs.Checkpoint.{rep_between};
 ghost use Rattle.script_engine.specs.Serving.{MayTell};
 ghost use Rattle.script_words.specs.Checks.{needed};
 ghost use Rattle.script_words.specs.Telling.{told_by};

@@ -1,7 +1,7 @@
 use Rattle.std.proofs.Common.{rules, ◌≡◌, None, true, false, sym, ap, ◌∙◌, subst}
-use Rattle.repl_target.specs.peer.Peer.{PeerValue}
+use Rattle.repl_peer.specs.peer.Peer.{PeerValue}
 use Rattle.repl_target.specs.replication.Replication.{closed_as}
-use Rattle.repl_target.specs.session.Sessions.{after_record}
+use Rattle.repl_peer.specs.session.Sessions.{after_record}
 use Rattle.repl_pool.specs.Runs.{IsRecorded, stopped, fewer, refused}
 use Rattle.repl_pool.proofs.Ending.{grown_conclude, grown_then}
 use Rattle.repl_pool.proofs.end.close_target.Goals as goal

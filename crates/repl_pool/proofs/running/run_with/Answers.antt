@@ -1,7 +1,7 @@
 use Rattle.std.proofs.Common.{rules, ◌≡◌, Ok, sym, ap, ◌∙◌, option_copied}
-use Rattle.repl_target.specs.peer.Peer.{PeerValue}
-use Rattle.repl_target.specs.session.ReadCounts.{read_in}
-use Rattle.repl_target.proofs.lemmas.session.ReadCounts.{begun_reads}
+use Rattle.repl_peer.specs.peer.Peer.{PeerValue}
+use Rattle.repl_peer.specs.session.ReadCounts.{read_in}
+use Rattle.repl_target.proofs.lemmas.replication.ReadCounts.{begun_reads}
 use Rattle.repl_pool.specs.Faults.{early_answer}
 use Rattle.repl_pool.proofs.Ending.{begun_held}
 use Rattle.repl_pool.specs.Boards.{MayFill}

@@ -3,8 +3,8 @@ use Rattle.std.specs.Option.{option_or}
 use Rattle.std.proofs.lemmas.Result.{IfOk-weaker}
 use Rattle.couch_base.specs.Database.{LawfulDatabase}
 use Rattle.couch_base.specs.Feed.{chosen_feed}
-use Rattle.repl_target.specs.logs.Audit.{hole_of}
-use Rattle.repl_target.specs.peer.Covered.{first_uncovered}
+use Rattle.repl_target.specs.Audit.{hole_of}
+use Rattle.repl_peer.specs.peer.Covered.{first_uncovered}
 use Rattle.repl_pool.proofs.Walking.{hole_cut, middle_above, middle_under}
 use Rattle.repl_pool.proofs.walk.walk_halves.Goals as goal
 

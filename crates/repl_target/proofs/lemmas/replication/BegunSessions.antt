@@ -7,14 +7,14 @@ use Rattle.couch_base.specs.Lists.{Among}
 use Rattle.couch_base.specs.Database.{LawfulDatabase}
 use Rattle.couch_base.specs.Feed.{RowValue, WindowValue}
 use Rattle.repl_log.specs.declared.replication.RepId.{RepId}
-use Rattle.repl_target.specs.declared.fault.TargetFault.{TargetFault}
-use Rattle.repl_target.specs.declared.fault.TargetFault.TheVariants as faults
+use Rattle.repl_peer.specs.declared.fault.TargetFault.{TargetFault}
+use Rattle.repl_peer.specs.declared.fault.TargetFault.TheVariants as faults
 use Rattle.repl_target.specs.declared.replication.Plan.{Plan}
-use Rattle.repl_target.specs.peer.Peer.{PeerValue, SessionValue, is_of, holds}
-use Rattle.repl_target.specs.peer.Covered.{covers}
-use Rattle.repl_target.specs.peer.Law.{LawfulSessions}
-use Rattle.repl_target.specs.session.Sessions.{goal_answer, base_answer, new_session, begun}
-use Rattle.repl_target.specs.logs.Audit.{rep_between}
+use Rattle.repl_peer.specs.peer.Peer.{PeerValue, SessionValue, is_of, holds}
+use Rattle.repl_peer.specs.peer.Covered.{covers}
+use Rattle.repl_peer.specs.peer.Law.{LawfulSessions}
+use Rattle.repl_peer.specs.session.Sessions.{goal_answer, base_answer, new_session, begun}
+use Rattle.repl_peer.specs.logs.Checkpoint.{rep_between}
 use Rattle.repl_target.specs.replication.Replication.{start_between, base_at, checkpoint_of, begins_answer, after_begins, CoversFrom, beginning_between}
 use Rattle.couch_base.specs.MemberLaws.{any_from}
 use Rattle.repl_target.specs.ties.Ties.{IsTiedWindow}

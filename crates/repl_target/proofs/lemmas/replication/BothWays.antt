@@ -18,22 +18,23 @@ use Rattle.couch_base.specs.Database.{Id, DatabaseValue, LawfulDatabase, tree_in
 use Rattle.couch_base.specs.WriteLaws.{tree_in-with_tree}
 use Rattle.couch_base.specs.Messages.{ParcelValue, leaf_document}
 use Rattle.couch_base.specs.Put.{put_answer, is_changed, after_put}
-use Rattle.repl_target.specs.peer.Peer.{PeerValue, SessionValue, session_in, with_session}
-use Rattle.repl_target.specs.peer.Covered.{in_ledger, covers, covers_window}
-use Rattle.repl_target.specs.peer.Law.{LawfulSessions}
-use Rattle.repl_target.specs.logs.Audit.{rep_between, CoversFeed}
-use Rattle.repl_target.specs.peer.Backups.{BackupValue}
+use Rattle.repl_peer.specs.peer.Peer.{PeerValue, SessionValue, session_in, with_session}
+use Rattle.repl_peer.specs.peer.Covered.{in_ledger, covers, covers_window}
+use Rattle.repl_peer.specs.peer.Law.{LawfulSessions}
+use Rattle.repl_peer.specs.logs.Checkpoint.{rep_between}
+use Rattle.repl_target.specs.Audit.{CoversFeed}
+use Rattle.repl_peer.specs.peer.Backups.{BackupValue}
 use Rattle.repl_target.specs.ties.Ties.{IsTiedPair, AreTiedBackups, IsTiedWith}
-use Rattle.repl_target.specs.session.Sessions.{on_found, new_session, begun}
-use Rattle.repl_target.specs.session.Settling.{settle_docs, settling_of, with_done, after_documents, after_settle, after_stop}
+use Rattle.repl_peer.specs.session.Sessions.{on_found, new_session, begun}
+use Rattle.repl_peer.specs.session.Settling.{settle_docs, settling_of, with_done, after_documents, after_settle, after_stop}
 use Rattle.repl_target.specs.replication.Calls.{Call, Load, Edit, Begin, Append, Settle, Stop, Record, Conclude, after_call, after_calls, IsFrom, AllFrom, IsLeft}
 use Rattle.repl_target.specs.replication.Replication.{SameDocument, beginning_between, begins_answer, after_begins, Replicates}
 use Rattle.repl_target.specs.replication.Sync.{HasRefusedNone, MeetBoth}
-use Rattle.repl_target.specs.declared.fault.Report.{Report}
-use Rattle.repl_target.specs.declared.fault.TargetFault.{TargetFault}
+use Rattle.repl_peer.specs.declared.fault.Report.{Report}
+use Rattle.repl_peer.specs.declared.fault.TargetFault.{TargetFault}
 use Rattle.repl_target.specs.declared.replication.Plan.{Plan}
-use Rattle.repl_target.proofs.lemmas.session.SettlingKeepsLaw.{LeavesAfter, after_settle_ends, after_stop_ends}
-use Rattle.repl_target.proofs.lemmas.logs.PutChangesLogsAlone.{logs_later}
+use Rattle.repl_peer.proofs.lemmas.session.SettlingKeepsLaw.{LeavesAfter, after_settle_ends, after_stop_ends}
+use Rattle.repl_peer.proofs.lemmas.logs.PutChangesLogsAlone.{logs_later}
 use Rattle.repl_target.proofs.lemmas.replication.FetchedDocuments.{tree_lawful, IsLeafOf, calls-keep}
 use Rattle.repl_target.proofs.lemmas.replication.EmptyTargetCopied.{leaf_covered}
 use Rattle.repl_target.proofs.lemmas.ties.TiedPeersStay.{session-later, entry-later, backups-later, backups-source, tied_source}

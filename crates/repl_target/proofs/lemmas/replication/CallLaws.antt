@@ -15,19 +15,19 @@ use Rattle.couch_base.specs.Edit.{edited}
 use Rattle.couch_base.specs.declared.fault.BaseFault.{BaseFault}
 use Rattle.range_front.specs.Front.{low_water}
 use Rattle.repl_log.specs.declared.replication.RepId.{RepId}
-use Rattle.repl_target.specs.declared.fault.Reason.{Reason}
-use Rattle.repl_target.specs.declared.fault.TargetFault.{TargetFault}
-use Rattle.repl_target.specs.peer.Peer.{PeerValue, SessionValue, is_of, session_in, with_session}
-use Rattle.repl_target.specs.peer.Covered.{refusal_of, covers_window}
-use Rattle.repl_target.specs.peer.Writing.{load_edited}
-use Rattle.repl_target.specs.session.Sessions.{on_found, on_session, begin_answer, new_session, begun, append_in, with_window, recorded_at}
-use Rattle.repl_target.specs.session.Settling.{Settling, settle_as, settle_one, settle_docs, with_arrival, settled_before, settle_check, settling_of, after_documents, with_done, after_all, after_front, after_stop, settled_at, after_settle, is_full}
-use Rattle.repl_target.specs.peer.Law.{LawfulSessions}
-use Rattle.repl_target.specs.peer.Later.{IsLaterPeer}
+use Rattle.repl_peer.specs.declared.fault.Reason.{Reason}
+use Rattle.repl_peer.specs.declared.fault.TargetFault.{TargetFault}
+use Rattle.repl_peer.specs.peer.Peer.{PeerValue, SessionValue, is_of, session_in, with_session}
+use Rattle.repl_peer.specs.peer.Covered.{refusal_of, covers_window}
+use Rattle.repl_peer.specs.peer.Writing.{load_edited}
+use Rattle.repl_peer.specs.session.Sessions.{on_found, on_session, begin_answer, new_session, begun, append_in, with_window, recorded_at}
+use Rattle.repl_peer.specs.session.Settling.{Settling, settle_as, settle_one, settle_docs, with_arrival, settled_before, settle_check, settling_of, after_documents, with_done, after_all, after_front, after_stop, settled_at, after_settle, is_full}
+use Rattle.repl_peer.specs.peer.Law.{LawfulSessions}
+use Rattle.repl_peer.specs.peer.Later.{IsLaterPeer}
 use Rattle.couch_base.specs.MemberLaws.{Among-map, Among-push}
-use Rattle.repl_target.proofs.lemmas.peer.LaterPeers.{IsLaterPeer-same, IsLaterPeer-later, session_found}
-use Rattle.repl_target.proofs.lemmas.peer.CallsKeepLaw.{takes, append_law, append_later, record_law, record_later, conclude_law, conclude_later}
-use Rattle.repl_target.proofs.lemmas.session.SettlingKeepsLaw.{settle_told, after_settle_law, after_stop_law}
+use Rattle.repl_peer.proofs.lemmas.peer.LaterPeers.{IsLaterPeer-same, IsLaterPeer-later, session_found}
+use Rattle.repl_peer.proofs.lemmas.peer.CallsKeepLaw.{takes, append_law, append_later, record_law, record_later, conclude_law, conclude_later}
+use Rattle.repl_peer.proofs.lemmas.session.SettlingKeepsLaw.{settle_told, after_settle_law, after_stop_law}
 use Rattle.repl_target.specs.ties.Ties.{IsTiedWindow}
 use Rattle.repl_target.specs.replication.Calls.{Call, Load, Edit, Begin, Append, Settle, Stop, Record, Conclude, after_call, after_calls, IsPageOf, IsFrom, AllFrom, EachStored}
 use Rattle.repl_target.proofs.lemmas.ties.TiedPages.{page_within, IsTiedWindow-page}

@@ -21,29 +21,30 @@ use Rattle.couch_base.specs.WriteLaws.{tree_in-with_tree}
 use Rattle.couch_base.specs.Feed.{WindowValue, row_of, feed}
 use Rattle.couch_base.specs.Messages.{ParcelValue, leaf_document}
 use Rattle.couch_base.specs.Put.{put_answer, is_changed, after_put}
-use Rattle.repl_target.specs.peer.Peer.{PeerValue, SessionValue, is_of, session_in, with_session}
-use Rattle.repl_target.specs.peer.Covered.{refusal_of, in_ledger, covers, covers_window}
-use Rattle.repl_target.specs.peer.Law.{LawfulSessions}
-use Rattle.repl_target.specs.logs.Audit.{rep_between, CoversFeedOf}
-use Rattle.repl_target.specs.logs.Logs.{log_of, source_log}
+use Rattle.repl_peer.specs.peer.Peer.{PeerValue, SessionValue, is_of, session_in, with_session}
+use Rattle.repl_peer.specs.peer.Covered.{refusal_of, in_ledger, covers, covers_window}
+use Rattle.repl_peer.specs.peer.Law.{LawfulSessions}
+use Rattle.repl_peer.specs.logs.Checkpoint.{rep_between}
+use Rattle.repl_target.specs.Audit.{CoversFeedOf}
+use Rattle.repl_peer.specs.logs.Logs.{log_of, source_log}
 use Rattle.repl_log.specs.Log.{common}
-use Rattle.repl_target.specs.session.Sessions.{on_found, on_session, new_session, begun, append_in, with_window, after_append, recorded_at, conclude_answer}
-use Rattle.repl_target.specs.session.Settling.{Settling, fed, with_arrival, is_full, settle_as, settle_one, settle_docs, settle_check, settling_of, with_settling, with_done, Settles, SettleGives}
+use Rattle.repl_peer.specs.session.Sessions.{on_found, on_session, new_session, begun, append_in, with_window, after_append, recorded_at, conclude_answer}
+use Rattle.repl_peer.specs.session.Settling.{Settling, fed, with_arrival, is_full, settle_as, settle_one, settle_docs, settle_check, settling_of, with_settling, with_done, Settles, SettleGives}
 use Rattle.repl_target.specs.replication.Replication.{Reading, parcel_for, Carries, Reads, ReadsAll, start_at, start_between, after_begins, closed_as, Closes, CoversFrom, IsReported, IsEmpty, SameDocuments, beginning_between}
-use Rattle.repl_target.specs.declared.fault.Reason.{Reason}
-use Rattle.repl_target.specs.declared.fault.Report.{Report}
-use Rattle.repl_target.specs.declared.fault.Settled.{Settled}
-use Rattle.repl_target.specs.declared.fault.TargetFault.{TargetFault}
+use Rattle.repl_peer.specs.declared.fault.Reason.{Reason}
+use Rattle.repl_peer.specs.declared.fault.Report.{Report}
+use Rattle.repl_peer.specs.declared.fault.Settled.{Settled}
+use Rattle.repl_peer.specs.declared.fault.TargetFault.{TargetFault}
 use Rattle.repl_target.specs.declared.replication.Plan.{Plan}
 use Rattle.couch_base.specs.MemberLaws.{Among-map, Among-mapped, any_member}
 use Rattle.repl_target.proofs.lemmas.replication.FetchedDocuments.{tree_lawful, IsLeafOf, fetched_leaves, docs-settled}
-use Rattle.repl_target.proofs.lemmas.Members.{among_from}
+use Rattle.repl_peer.proofs.lemmas.Members.{among_from}
 use Rattle.repl_target.proofs.lemmas.ties.TiedPages.{in_chosen}
-use Rattle.repl_target.proofs.lemmas.peer.LaterPeers.{one_session, session_found}
-use Rattle.repl_target.proofs.lemmas.session.SettlingKeepsLaw.{settle_told}
+use Rattle.repl_peer.proofs.lemmas.peer.LaterPeers.{one_session, session_found}
+use Rattle.repl_peer.proofs.lemmas.session.SettlingKeepsLaw.{settle_told}
 use Rattle.rev_tree.specs.AgreementLaws.{same_leaves}
 use Rattle.rev_tree.specs.PartLaws.{IsPart, nothing_is_part, given, part_merged, whole_part}
-use Rattle.repl_target.proofs.lemmas.peer.HonestSessions.{rises_member}
+use Rattle.repl_peer.proofs.lemmas.peer.HonestSessions.{rises_member}
 use Rattle.repl_target.proofs.lemmas.replication.SourceFeedStored.{Started, concluded, all-covered, all-reported, all-lawful}
 
 -- ---- databases

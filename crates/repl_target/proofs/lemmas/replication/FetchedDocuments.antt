@@ -17,14 +17,14 @@ use Rattle.couch_base.specs.DocumentTreeLaws.{IsTree-no_revisions}
 use Rattle.couch_base.specs.Feed.{WindowValue}
 use Rattle.couch_base.specs.Messages.{WantedValue, ParcelValue, leaf_document, opened, open_revs, fetched}
 use Rattle.couch_base.specs.Put.{put_answer, after_put}
-use Rattle.repl_target.specs.peer.Peer.{PeerValue, SessionValue, session_in, with_session}
-use Rattle.repl_target.specs.peer.Covered.{refusal_of, covers_window}
-use Rattle.repl_target.specs.session.Sessions.{on_found}
-use Rattle.repl_target.specs.session.Settling.{Settling, fed, with_arrival, is_full, settle_as, settle_one, settle_docs, settling_of, with_done, after_documents, after_settle, after_stop}
+use Rattle.repl_peer.specs.peer.Peer.{PeerValue, SessionValue, session_in, with_session}
+use Rattle.repl_peer.specs.peer.Covered.{refusal_of, covers_window}
+use Rattle.repl_peer.specs.session.Sessions.{on_found}
+use Rattle.repl_peer.specs.session.Settling.{Settling, fed, with_arrival, is_full, settle_as, settle_one, settle_docs, settling_of, with_done, after_documents, after_settle, after_stop}
 use Rattle.repl_target.specs.replication.Calls.{Call, Load, Edit, Begin, Append, Settle, Stop, Record, Conclude, after_call, after_calls, IsFrom, AllFrom}
-use Rattle.repl_target.specs.declared.fault.Reason.{Reason}
-use Rattle.repl_target.proofs.lemmas.session.SettlingKeepsLaw.{LeavesAfter, after_settle_ends, after_stop_ends}
-use Rattle.repl_target.proofs.lemmas.Members.{Among-filter, among_test}
+use Rattle.repl_peer.specs.declared.fault.Reason.{Reason}
+use Rattle.repl_peer.proofs.lemmas.session.SettlingKeepsLaw.{LeavesAfter, after_settle_ends, after_stop_ends}
+use Rattle.repl_peer.proofs.lemmas.Members.{Among-filter, among_test}
 
 pub tree_lawful : (db : DatabaseValue) → LawfulDatabase db → (id : Id) → IsTree (tree_of db.docs id)
 tree_lawful db law id = go (tree_in db.docs id) refl

@@ -8,30 +8,31 @@ use Rattle.couch_base.specs.Lists.{Among}
 use Rattle.couch_base.specs.Database.{DatabaseValue, LawfulDatabase}
 use Rattle.couch_base.specs.Feed.{WindowValue}
 use Rattle.couch_base.specs.Messages.{ParcelValue, open_revs}
-use Rattle.repl_target.specs.declared.fault.Cause.TheVariants as causes
-use Rattle.repl_target.specs.declared.fault.Report.{Report}
-use Rattle.repl_target.specs.declared.fault.Settled.{Settled}
-use Rattle.repl_target.specs.declared.fault.TargetFault.{TargetFault}
-use Rattle.repl_target.specs.declared.fault.TargetFault.TheVariants as faults
+use Rattle.repl_peer.specs.declared.fault.Cause.TheVariants as causes
+use Rattle.repl_peer.specs.declared.fault.Report.{Report}
+use Rattle.repl_peer.specs.declared.fault.Settled.{Settled}
+use Rattle.repl_peer.specs.declared.fault.TargetFault.{TargetFault}
+use Rattle.repl_peer.specs.declared.fault.TargetFault.TheVariants as faults
 use Rattle.repl_target.specs.declared.replication.Plan.{Plan}
-use Rattle.repl_target.specs.peer.Peer.{PeerValue, SessionValue, is_of, entry_of}
-use Rattle.repl_target.specs.peer.Law.{LawfulSessions}
-use Rattle.repl_target.specs.session.Sessions.{new_session, begun, after_append, conclude_answer, session_answer}
-use Rattle.repl_target.specs.session.Settling.{settle_check, settling_of, settled_before, after_all, after_documents, after_front, after_stop, settled_at, after_settle, SettlesAt, Settles, SettleGives, stopped_at}
-use Rattle.repl_target.specs.logs.Audit.{rep_between, audit_answer, CoversFeed}
+use Rattle.repl_peer.specs.peer.Peer.{PeerValue, SessionValue, is_of, entry_of}
+use Rattle.repl_peer.specs.peer.Law.{LawfulSessions}
+use Rattle.repl_peer.specs.session.Sessions.{new_session, begun, after_append, conclude_answer, session_answer}
+use Rattle.repl_peer.specs.session.Settling.{settle_check, settling_of, settled_before, after_all, after_documents, after_front, after_stop, settled_at, after_settle, SettlesAt, Settles, SettleGives, stopped_at}
+use Rattle.repl_peer.specs.logs.Checkpoint.{rep_between}
+use Rattle.repl_target.specs.Audit.{audit_answer, CoversFeed}
 use Rattle.repl_target.specs.replication.Replication.{Reading, is_batch, beginning_between, begins_answer, after_begins, next_window, parcel_for, Carries, WindowRefused, Reads, ReadsAll, ReadsUntil, is_due, first_reading, closed, closed_as, PutsOver, Replicates, not_planned, no_memory, not_begun, cut, ended, IsReported}
 use Rattle.repl_target.proofs.lemmas.replication.BegunSessions.{fresh_of}
 use Rattle.couch_base.specs.ListLaws.{some_is, none_some}
 use Rattle.couch_base.specs.MemberLaws.{any_from}
 use Rattle.repl_target.specs.replication.Calls.{Call, Append, Settle, Stop, Record, Conclude, after_call, after_calls, IsPageOf, IsFrom, AllFrom, IsGrown, IsLeft}
-use Rattle.repl_target.specs.peer.Backups.{BackupValue}
+use Rattle.repl_peer.specs.peer.Backups.{BackupValue}
 use Rattle.repl_target.specs.ties.Ties.{IsTiedPair, IsTiedWith, IsSentEntry}
-use Rattle.repl_target.specs.peer.Later.{IsLaterPeer}
-use Rattle.repl_target.specs.logs.Logs.{after_put_entry}
+use Rattle.repl_peer.specs.peer.Later.{IsLaterPeer}
+use Rattle.repl_peer.specs.logs.Logs.{after_put_entry}
 use Rattle.repl_log.specs.Entry.{EntryValue}
-use Rattle.repl_target.proofs.lemmas.peer.LaterPeers.{IsLaterPeer-same, IsLaterPeer-later, session_found}
-use Rattle.repl_target.proofs.lemmas.session.SettlingDocuments.{before-le}
-use Rattle.repl_target.proofs.lemmas.peer.CallsKeepLaw.{begin_law, begin_later}
+use Rattle.repl_peer.proofs.lemmas.peer.LaterPeers.{IsLaterPeer-same, IsLaterPeer-later, session_found}
+use Rattle.repl_peer.proofs.lemmas.session.SettlingDocuments.{before-le}
+use Rattle.repl_peer.proofs.lemmas.peer.CallsKeepLaw.{begin_law, begin_later}
 use Rattle.repl_target.proofs.lemmas.replication.SourceFeedStored.{planned_batch}
 use Rattle.repl_target.proofs.lemmas.replication.CallLaws.{calls_law, IsRunOf}
 use Rattle.repl_target.proofs.lemmas.ties.TiedPeersCover.{session_reached, start_small, tied_none}

@@ -13,25 +13,25 @@ use Rattle.couch_base.specs.Messages.{ParcelValue}
 use Rattle.range_front.specs.Front.{low_water, end_of}
 use Rattle.range_front.specs.FrontLaws.{end_of-appended, end_of-finished, low_water-le-end_of}
 use Rattle.repl_log.specs.Counts.{AddUp}
-use Rattle.repl_target.specs.peer.Peer.{PeerValue, SessionValue, is_of, session_in, with_session}
-use Rattle.repl_target.specs.peer.Covered.{covers_window}
-use Rattle.repl_target.specs.peer.Law.{LawfulSessions, session_numbers}
-use Rattle.repl_target.specs.session.Sessions.{found_answer, on_found, on_session, new_session, begun, append_in, append_answer, with_window, after_append, recorded_at, report_of, conclude_in, conclude_answer, after_conclude}
-use Rattle.repl_target.specs.session.Settling.{settling_of, with_settling, settle_docs, settle_check, with_done, after_all, Settles, SettleGives}
+use Rattle.repl_peer.specs.peer.Peer.{PeerValue, SessionValue, is_of, session_in, with_session}
+use Rattle.repl_peer.specs.peer.Covered.{covers_window}
+use Rattle.repl_peer.specs.peer.Law.{LawfulSessions, session_numbers}
+use Rattle.repl_peer.specs.session.Sessions.{found_answer, on_found, on_session, new_session, begun, append_in, append_answer, with_window, after_append, recorded_at, report_of, conclude_in, conclude_answer, after_conclude}
+use Rattle.repl_peer.specs.session.Settling.{settling_of, with_settling, settle_docs, settle_check, with_done, after_all, Settles, SettleGives}
 use Rattle.repl_target.specs.replication.Replication.{Reading, is_batch, plan_answer, parcel_for, Carries, Reads, start_between, begins_answer, after_begins, first_reading, closed_as, closed, told_by, Closes, is_due, CoversFrom, IsReported, ReadsAll, ReadsUntil, Replicates, not_planned, no_memory, not_begun, cut, ended, beginning_between}
-use Rattle.repl_target.specs.declared.session.beginning.Beginning.{Beginning}
-use Rattle.repl_target.specs.declared.fault.Report.{Report}
-use Rattle.repl_target.specs.declared.fault.Settled.{Settled}
-use Rattle.repl_target.specs.declared.fault.TargetFault.{TargetFault}
-use Rattle.repl_target.specs.declared.fault.TargetFault.TheVariants as faults
+use Rattle.repl_peer.specs.declared.session.beginning.Beginning.{Beginning}
+use Rattle.repl_peer.specs.declared.fault.Report.{Report}
+use Rattle.repl_peer.specs.declared.fault.Settled.{Settled}
+use Rattle.repl_peer.specs.declared.fault.TargetFault.{TargetFault}
+use Rattle.repl_peer.specs.declared.fault.TargetFault.TheVariants as faults
 use Rattle.repl_target.specs.declared.replication.Plan.{Plan}
 use Rattle.couch_base.specs.MemberLaws.{Among-left, Among-last}
-use Rattle.repl_target.proofs.lemmas.Members.{Among-split}
+use Rattle.repl_peer.proofs.lemmas.Members.{Among-split}
 use Rattle.repl_target.proofs.lemmas.ties.TiedPages.{chosen_member, page_within}
-use Rattle.repl_target.proofs.lemmas.peer.LaterPeers.{one_session, session_found, with_session_holds}
-use Rattle.repl_target.proofs.lemmas.peer.CallsKeepLaw.{append_law, conclude_law}
-use Rattle.repl_target.proofs.lemmas.session.SettlingKeepsLaw.{settle_told, documents_settle, settle_law}
-use Rattle.repl_target.proofs.lemmas.peer.HonestSessions.{honest_is}
+use Rattle.repl_peer.proofs.lemmas.peer.LaterPeers.{one_session, session_found, with_session_holds}
+use Rattle.repl_peer.proofs.lemmas.peer.CallsKeepLaw.{append_law, conclude_law}
+use Rattle.repl_peer.proofs.lemmas.session.SettlingKeepsLaw.{settle_told, documents_settle, settle_law}
+use Rattle.repl_peer.proofs.lemmas.peer.HonestSessions.{honest_is}
 use Rattle.couch_base.specs.FeedLaws.{feed-page, feed-none}
 
 -- ---- lists

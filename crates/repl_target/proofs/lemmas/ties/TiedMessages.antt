@@ -15,7 +15,7 @@ use Rattle.couch_base.specs.Messages.{WantedValue, AskedValue, ParcelValue, want
 use Rattle.couch_base.specs.WriteLaws.{IsLater}
 use Rattle.couch_base.specs.MemberLaws.{any_member, all_member}
 use Rattle.repl_target.specs.ties.Ties.{IsTiedWindow, Asks, Names, IsTiedAsked, IsTiedParcel}
-use Rattle.repl_target.proofs.lemmas.Members.{Among-filter, Among-filtered}
+use Rattle.repl_peer.proofs.lemmas.Members.{Among-filter, Among-filtered}
 
 -- ---- asking
 

@@ -15,7 +15,7 @@ use Rattle.couch_base.specs.WriteLaws.{IsLater}
 use Rattle.couch_base.specs.MemberLaws.{Among-map, Among-mapped, Among-left}
 use Rattle.couch_base.specs.FeedLaws.{feed-page}
 use Rattle.repl_target.specs.ties.Ties.{IsTiedWindow}
-use Rattle.repl_target.proofs.lemmas.Members.{Among-filter, Among-filtered, Among-split, among_test}
+use Rattle.repl_peer.proofs.lemmas.Members.{Among-filter, Among-filtered, Among-split, among_test}
 
 -- ---- documents
 

@@ -15,22 +15,23 @@ use Rattle.repl_log.specs.declared.replication.RepId.{RepId}
 use Rattle.repl_log.specs.Entry.{EntryValue}
 use Rattle.repl_log.specs.Log.{is_of, common}
 use Rattle.repl_log.specs.LogLaws.{common-IsCommon, common-le}
-use Rattle.repl_target.specs.peer.Peer.{PeerValue, SessionValue, entry_of, same_rep}
-use Rattle.repl_target.specs.peer.Covered.{covers}
-use Rattle.repl_target.specs.peer.Law.{LawfulSession, LawfulSessions}
-use Rattle.repl_target.specs.logs.Logs.{source_log, target_log}
-use Rattle.repl_target.specs.logs.Audit.{rep_between, hole_at, hole_of, audit_answer, CoversFeedOf, IsAudited}
+use Rattle.repl_peer.specs.peer.Peer.{PeerValue, SessionValue, entry_of, same_rep}
+use Rattle.repl_peer.specs.peer.Covered.{covers}
+use Rattle.repl_peer.specs.peer.Law.{LawfulSession, LawfulSessions}
+use Rattle.repl_peer.specs.logs.Logs.{source_log, target_log}
+use Rattle.repl_peer.specs.logs.Checkpoint.{rep_between}
+use Rattle.repl_target.specs.Audit.{hole_at, hole_of, audit_answer, CoversFeedOf, IsAudited}
 use Rattle.repl_target.specs.replication.Replication.{start_at, checkpoint_of, start_between}
-use Rattle.repl_target.specs.declared.fault.Audit.{Audit}
-use Rattle.repl_target.specs.declared.fault.Audit.TheVariants.{Clean, Hole}
+use Rattle.repl_target.specs.declared.auditing.found.Audit.{Audit}
+use Rattle.repl_target.specs.declared.auditing.found.Audit.TheVariants.{Clean, Hole}
 use Rattle.couch_base.specs.MemberLaws.{Among-map, found_member}
-use Rattle.repl_target.proofs.lemmas.peer.CallsKeepLaw.{same_rep-is}
-use Rattle.repl_target.proofs.lemmas.session.WindowsFollow.{window-stored}
+use Rattle.repl_peer.proofs.lemmas.peer.CallsKeepLaw.{same_rep-is}
+use Rattle.repl_peer.proofs.lemmas.session.WindowsFollow.{window-stored}
 use Rattle.repl_target.specs.ties.Ties.{IsTiedWindow, IsReached, IsTiedSession, IsTiedEntry, AreTiedEntries, IsTiedPair, LogsAreHonest}
-use Rattle.repl_target.proofs.lemmas.Members.{Among-filter}
+use Rattle.repl_peer.proofs.lemmas.Members.{Among-filter}
 use Rattle.repl_target.proofs.lemmas.ties.TiedPages.{chosen_member, in_chosen}
-use Rattle.repl_target.proofs.lemmas.peer.LaterPeers.{one_session}
-use Rattle.repl_target.proofs.lemmas.session.SettlingTakes.{all_known}
+use Rattle.repl_peer.proofs.lemmas.peer.LaterPeers.{one_session}
+use Rattle.repl_target.proofs.lemmas.ties.SettlingTakes.{all_known}
 
 -- each leaf of the document is covered
 abbrev pub IsCovered : PeerValue → DocumentValue → Type 0

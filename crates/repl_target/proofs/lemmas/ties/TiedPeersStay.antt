@@ -12,22 +12,22 @@ use Rattle.couch_base.specs.MemberLaws.{Among-map, Among-push}
 use Rattle.repl_log.specs.declared.replication.RepId.{RepId}
 use Rattle.repl_log.specs.Entry.{EntryValue}
 use Rattle.repl_log.specs.Log.{is_of, holds, replaced, with_entry}
-use Rattle.repl_target.specs.peer.Peer.{PeerValue, SessionValue, same_rep, entry_of, session_in}
-use Rattle.repl_target.specs.peer.Law.{LawfulSessions}
-use Rattle.repl_target.specs.peer.Later.{IsLaterPeer}
-use Rattle.repl_target.specs.logs.Audit.{rep_between}
-use Rattle.repl_target.specs.peer.Backups.{BackupValue}
-use Rattle.repl_target.specs.logs.Logs.{log_in, source_log, logs_with, put_by, put_answer_in, put_entry_answer, after_put_entry}
-use Rattle.repl_target.specs.session.Sessions.{new_session, with_window, session_answer, found_answer}
+use Rattle.repl_peer.specs.peer.Peer.{PeerValue, SessionValue, same_rep, entry_of, session_in}
+use Rattle.repl_peer.specs.peer.Law.{LawfulSessions}
+use Rattle.repl_peer.specs.peer.Later.{IsLaterPeer}
+use Rattle.repl_peer.specs.logs.Checkpoint.{rep_between}
+use Rattle.repl_peer.specs.peer.Backups.{BackupValue}
+use Rattle.repl_peer.specs.logs.Logs.{log_in, source_log, logs_with, put_by, put_answer_in, put_entry_answer, after_put_entry}
+use Rattle.repl_peer.specs.session.Sessions.{new_session, with_window, session_answer, found_answer}
 use Rattle.repl_target.specs.ties.Ties.{IsTiedWindow, IsReached, IsTiedSession, IsTiedEntry, AreTiedEntries, IsTiedPair, AreTiedBackups, IsSentEntry}
 use Rattle.repl_target.specs.replication.Calls.{Call, Load, Edit, Begin, Append, Settle, Stop, Record, Conclude, after_call, after_calls, IsFrom, AllFrom, IsGrown}
-use Rattle.repl_target.specs.declared.fault.TargetFault.{TargetFault}
-use Rattle.repl_target.specs.declared.fault.TargetFault.TheVariants as faults
+use Rattle.repl_peer.specs.declared.fault.TargetFault.{TargetFault}
+use Rattle.repl_peer.specs.declared.fault.TargetFault.TheVariants as faults
 use Rattle.repl_target.specs.replication.Replication.{beginning_between, start_between, after_begins}
 use Rattle.repl_target.specs.declared.replication.Plan.{Plan}
-use Rattle.repl_target.specs.declared.session.beginning.Beginning.{Beginning}
-use Rattle.repl_target.proofs.lemmas.peer.LaterPeers.{covers-later, session_found}
-use Rattle.repl_target.proofs.lemmas.peer.CallsKeepLaw.{begin_later, same_rep-is}
+use Rattle.repl_peer.specs.declared.session.beginning.Beginning.{Beginning}
+use Rattle.repl_peer.proofs.lemmas.peer.LaterPeers.{covers-later, session_found}
+use Rattle.repl_peer.proofs.lemmas.peer.CallsKeepLaw.{begin_later, same_rep-is}
 use Rattle.repl_target.proofs.lemmas.ties.TiedPages.{chosen_member, in_chosen, IsTiedWindow-later}
 use Rattle.repl_target.proofs.lemmas.replication.CallLaws.{Stays, Brings, call_law, call_keeps, page_window, IsRunOf, call_runs}
 use Rattle.repl_target.proofs.lemmas.ties.TiedPeersCover.{session_reached, start_reached}

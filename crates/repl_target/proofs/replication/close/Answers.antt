@@ -1,5 +1,5 @@
 use Rattle.std.proofs.Common.{◌≡◌, Some, sym, subst}
-use Rattle.repl_target.specs.peer.Peer.{PeerValue, SessionValue, session_in}
+use Rattle.repl_peer.specs.peer.Peer.{PeerValue, SessionValue, session_in}
 use Rattle.repl_target.proofs.lemmas.replication.SourceFeedStored.{closed-found}
 use Rattle.repl_target.proofs.replication.close.Goals as goal
 

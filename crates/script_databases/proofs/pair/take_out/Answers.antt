@@ -1,8 +1,8 @@
 use Rattle.std.proofs.Common.{Some, refl, sym, ap, ◌∙◌, rules, is_some}
 use Rattle.std.specs.FinMap.{get, insert}
 use Rattle.std.proofs.lemmas.Bool.{true≢false}
-use Rattle.repl_target.specs.peer.Peer.{PeerValue}
-use Rattle.repl_target.specs.declared.peer.filter.Rules.{Rules}
+use Rattle.repl_peer.specs.peer.Peer.{PeerValue}
+use Rattle.repl_peer.specs.declared.peer.filter.Rules.{Rules}
 use Rattle.script_databases.specs.Stored.{deny_of, denied_of, peers_of}
 use Rattle.script_databases.proofs.ReplicationLemmas.{other}
 use Rattle.script_databases.proofs.TableLemmas.{found_there, found_absent, written}

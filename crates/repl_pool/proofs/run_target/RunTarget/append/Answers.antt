@@ -1,7 +1,7 @@
 use Rattle.std.proofs.Common.{refl, subst, sym}
 use Rattle.repl_target.specs.replication.Calls.{Append, IsPageOf}
 use Rattle.repl_pool.proofs.Growing.{tries}
-use Rattle.repl_target.proofs.lemmas.session.ReadCounts.{append_reads}
+use Rattle.repl_target.proofs.lemmas.replication.ReadCounts.{append_reads}
 use Rattle.repl_pool.proofs.Refusals.{append_step}
 use Rattle.repl_pool.proofs.run_target.RunTarget.append.Goals as goal
 

@@ -1,7 +1,7 @@
 use Rattle.std.proofs.Common.{refl, sym, subst, IfErr}
 use Rattle.repl_target.specs.replication.Calls.{Record}
 use Rattle.repl_pool.proofs.Growing.{grows}
-use Rattle.repl_target.proofs.lemmas.session.ReadCounts.{record_reads}
+use Rattle.repl_target.proofs.lemmas.replication.ReadCounts.{record_reads}
 use Rattle.repl_pool.specs.Faults.{IsStepFault}
 use Rattle.repl_pool.proofs.Refusals.{record_step}
 use Rattle.repl_pool.proofs.run_target.RunTarget.record.Goals as goal

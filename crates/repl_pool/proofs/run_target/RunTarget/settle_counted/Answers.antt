@@ -1,6 +1,6 @@
 use Rattle.std.proofs.Common.{rules, ◌≤◌, length, subst, sym}
 use Rattle.couch_base.specs.Messages.{ParcelValue}
-use Rattle.repl_target.specs.session.ReadCounts.{taken}
+use Rattle.repl_peer.specs.session.ReadCounts.{taken}
 use Rattle.repl_pool.specs.Grown.{IsAnswerOf}
 use Rattle.repl_pool.proofs.Growing.{settles, taken_most}
 use Rattle.repl_pool.proofs.Refusals.{settle_step}

@@ -4,9 +4,9 @@ use Rattle.std.specs.Option.{option_copied}
 use Rattle.rev_tree.proofs.Lookups.{is_some-copied}
 use Rattle.rev_tree.proofs.Places.{none_of}
 use Rattle.couch_base.specs.Database.{DatabaseValue}
-use Rattle.repl_target.specs.peer.Peer.{PeerValue}
-use Rattle.repl_target.specs.peer.Backups.{backup_answer}
-use Rattle.repl_target.specs.declared.peer.filter.Rules.{Rules}
+use Rattle.repl_peer.specs.peer.Peer.{PeerValue}
+use Rattle.repl_peer.specs.peer.Backups.{backup_answer}
+use Rattle.repl_peer.specs.declared.peer.filter.Rules.{Rules}
 use Rattle.script_databases.specs.Databases.{State, NamedBackupValue, peer_at, backup_among, backup_at, with_backup, backed_of, backed_answer, backed_told, backed_by}
 use Rattle.script_databases.specs.Refusals.{told_as, target_refusal}
 use Rattle.script_databases.specs.Stored.{beside_of, state_of}

@@ -1,8 +1,8 @@
 use Rattle.std.proofs.Common.{◌≡◌, Result, Ok, Err, inl, sym, ap, ◌∙◌, rules, subst}
 use Rattle.std.proofs.lemmas.Result.{err_from_is_err_and}
 use Rattle.couch_base.specs.Database.{DatabaseValue}
-use Rattle.repl_target.specs.peer.Peer.{PeerValue}
-use Rattle.repl_target.specs.peer.Writing.{after_edit}
+use Rattle.repl_peer.specs.peer.Peer.{PeerValue}
+use Rattle.repl_peer.specs.peer.Writing.{after_edit}
 use Rattle.script_databases.specs.Databases.{State, edited_answer, edited_as, edited_at, peer_at}
 use Rattle.script_databases.specs.Refusals.{GivesOrMemory, base_refusal}
 use Rattle.script_databases.specs.declared.databases.Edited.{Edited}

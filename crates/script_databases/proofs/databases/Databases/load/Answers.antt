@@ -1,7 +1,7 @@
 use Rattle.std.proofs.Common.{◌≡◌, Err, inl, sym, ap, ◌∙◌, rules, subst}
 use Rattle.std.proofs.lemmas.Result.{err_from_is_err_and}
-use Rattle.repl_target.specs.peer.Peer.{PeerValue}
-use Rattle.repl_target.specs.peer.Writing.{after_load}
+use Rattle.repl_peer.specs.peer.Peer.{PeerValue}
+use Rattle.repl_peer.specs.peer.Writing.{after_load}
 use Rattle.script_databases.specs.Databases.{State, load_answer, loaded_at, peer_at}
 use Rattle.script_databases.specs.Refusals.{GivesOrMemory, base_refusal, told_as}
 use Rattle.script_databases.specs.Stored.{beside_of, state_of}

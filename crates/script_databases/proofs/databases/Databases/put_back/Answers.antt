@@ -2,8 +2,8 @@ use Rattle.std.proofs.Common.{◌≡◌, List, Ok, Err, inl, inr, refl, sym, ap,
 use Rattle.std.proofs.lemmas.Result.{err_from_is_err_and}
 use Rattle.std.specs.Option.{option_copied}
 use Rattle.couch_base.specs.Database.{DatabaseValue}
-use Rattle.repl_target.specs.peer.Peer.{PeerValue}
-use Rattle.repl_target.specs.peer.Backups.{restored, restored_by, after_restore, restore_answer}
+use Rattle.repl_peer.specs.peer.Peer.{PeerValue}
+use Rattle.repl_peer.specs.peer.Backups.{restored, restored_by, after_restore, restore_answer}
 use Rattle.script_databases.specs.Databases.{NamedBackupValue, State, backup_among, backup_at, peer_at, put_back_answer, put_back_by, put_back_of}
 use Rattle.script_databases.specs.Refusals.{GivesOrMemory, target_refusal, told_as}
 use Rattle.script_databases.specs.Stored.{beside_of, state_of}

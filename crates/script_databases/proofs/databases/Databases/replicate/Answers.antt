@@ -1,8 +1,8 @@
 use Rattle.std.proofs.Common.{Err, sym, ap, subst, ◌∙◌}
 use Rattle.std.proofs.lemmas.Result.{err_from_is_err_and}
 use Rattle.std.specs.FinMap.{contains_key}
-use Rattle.repl_target.specs.peer.Law.{LawfulSessions}
-use Rattle.repl_target.specs.peer.Peer.{PeerValue}
+use Rattle.repl_peer.specs.peer.Law.{LawfulSessions}
+use Rattle.repl_peer.specs.peer.Peer.{PeerValue}
 use Rattle.script_databases.specs.Databases.{State}
 use Rattle.script_databases.specs.Replications.{Nowhere, ReplicatesBetween, ReplicatesByPool}
 use Rattle.script_databases.specs.Stored.{beside_of, deny_of, peers_of, state_of}

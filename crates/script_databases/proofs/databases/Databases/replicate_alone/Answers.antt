@@ -1,7 +1,7 @@
 use Rattle.std.proofs.Common.{Err, sym, ap, subst, ◌∙◌}
 use Rattle.std.proofs.lemmas.Result.{err_from_is_err_and}
 use Rattle.std.specs.FinMap.{contains_key}
-use Rattle.repl_target.specs.peer.Peer.{PeerValue}
+use Rattle.repl_peer.specs.peer.Peer.{PeerValue}
 use Rattle.repl_target.specs.replication.Replication.{Replicates}
 use Rattle.repl_target.proofs.lemmas.replication.ReplicationAsCalls.{left_law, replicates_left}
 use Rattle.script_databases.specs.Databases.{State}

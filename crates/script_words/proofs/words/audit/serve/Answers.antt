@@ -1,7 +1,7 @@
 use Rattle.std.proofs.Common.{Ok, Err, refl, sym, ap, ◌∙◌}
 use Rattle.script_engine.specs.Serving.{in_full, gave_up}
 use Rattle.script_databases.specs.declared.refusal.Refusal.TheVariants as why
-use Rattle.repl_target.specs.logs.Audit.{audit_answer}
+use Rattle.repl_target.specs.Audit.{audit_answer}
 use Rattle.script_words.specs.words.Audit.{audit_text}
 use Rattle.script_words.proofs.TellingLemmas.{passes, stops, is_found, is_missing, reads, printed, unless_memory, handed_on, refused_memory}
 use Rattle.script_words.proofs.words.audit.serve.Goals as goal

@@ -1,5 +1,5 @@
 use Rattle.std.proofs.Common.{◌≡◌, ℕ, List, Result, Ok, Err, refl, sym, ap, ◌∙◌}
-use Rattle.repl_target.specs.peer.Backups.{BackupValue}
+use Rattle.repl_peer.specs.peer.Backups.{BackupValue}
 use Rattle.script_engine.specs.Serving.{in_full, served_only}
 use Rattle.script_databases.specs.Databases.{State, backed_answer, backed_told, backed_by}
 use Rattle.script_databases.specs.declared.refusal.Refusal.{Refusal}

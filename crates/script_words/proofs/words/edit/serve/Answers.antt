@@ -1,5 +1,5 @@
 use Rattle.std.proofs.Common.{List, ℕ, refl, sym, ap, ◌∙◌}
-use Rattle.repl_target.specs.peer.Writing.{after_edit}
+use Rattle.repl_peer.specs.peer.Writing.{after_edit}
 use Rattle.script_engine.specs.Serving.{in_full, served_only}
 use Rattle.script_databases.specs.Databases.{edited_answer}
 use Rattle.script_databases.specs.declared.refusal.Refusal.TheVariants as why

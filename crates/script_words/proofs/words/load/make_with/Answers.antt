@@ -1,7 +1,7 @@
 use Rattle.std.proofs.Common.{refl, sym, ap, ◌∙◌}
 use Rattle.couch_base.specs.Put.{put_answer}
-use Rattle.repl_target.specs.peer.Peer.{PeerValue, new_peer}
-use Rattle.repl_target.specs.peer.Writing.{after_load}
+use Rattle.repl_peer.specs.peer.Peer.{PeerValue, new_peer}
+use Rattle.repl_peer.specs.peer.Writing.{after_load}
 use Rattle.script_engine.specs.Serving.{in_full, gave_up, served_only}
 use Rattle.script_databases.specs.Databases.{with_peer}
 use Rattle.script_databases.specs.Refusals.{told_as, base_refusal}

@@ -1,5 +1,5 @@
 use Rattle.std.proofs.Common.{Some, ap, refl, sym, ◌∙◌}
-use Rattle.repl_target.specs.peer.Writing.{after_load}
+use Rattle.repl_peer.specs.peer.Writing.{after_load}
 use Rattle.script_engine.specs.Serving.{in_full, served_only}
 use Rattle.script_databases.specs.Databases.{State, load_answer, peer_at}
 use Rattle.script_words.specs.words.Load.{put_line}

@@ -6,8 +6,8 @@ use Rattle.repl_log.specs.declared.fault.LogFault.{LogFault}
 use Rattle.repl_log.specs.declared.fault.LogFault.TheVariants as faults
 use Rattle.repl_log.specs.declared.replication.RepId.{RepId}
 use Rattle.repl_log.specs.Entry.{EntryValue}
-use Rattle.repl_target.specs.peer.Peer.{PeerValue}
-use Rattle.repl_target.specs.logs.Audit.{rep_between}
+use Rattle.repl_peer.specs.peer.Peer.{PeerValue}
+use Rattle.repl_peer.specs.logs.Checkpoint.{rep_between}
 use Rattle.script_engine.specs.Serving.{in_full, gave_up}
 use Rattle.script_databases.specs.Refusals.{told_as, log_refusal}
 use Rattle.script_databases.specs.declared.refusal.Refusal.TheVariants as why

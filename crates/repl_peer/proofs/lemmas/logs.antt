@@ -1,0 +1,3 @@
+-- Lemmas of logs.
+pub mod LogTables
+pub mod PutChangesLogsAlone

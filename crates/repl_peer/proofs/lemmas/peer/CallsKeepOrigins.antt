@@ -1,0 +1,247 @@
+-- Every revision of a peer has an origin, whatever is called.
+use Rattle.std.proofs.Common.{◌≡◌, ◌⊎◌, ℕ, ◌<◌, ◌^◌, List, [], ◌∷◌, ◌++◌, Bool, true, false, cond, ◌||◌, Option, Some, None, is_some, unwrap_or, Result, Ok, Err, map, take, length, refl, sym, ap, ◌∙◌, subst, inl, inr, zero, suc}
+use Rattle.std.specs.List.{slice_get, list_all, list_any}
+use Rattle.std.specs.FinMap.{get, find, get-empty}
+use Rattle.std.specs.Ordering.{eq_by_cmp}
+use Rattle.std.specs.Str.{bytes_eq}
+use Rattle.std.proofs.lemmas.Bool.{and_parts, and_from, cond_both, cond-true, false≢true}
+use Rattle.std.proofs.lemmas.Slice.Eq.{bytes_eq-Decides}
+use Rattle.rev_core.specs.Rev.{RevId, rev_cmp}
+use Rattle.rev_core.specs.Ancestry.{is_among}
+use Rattle.rev_tree.specs.Tree.{TreeValue, merged, no_revisions}
+use Rattle.rev_tree.specs.TreeLaws.{find-among, get-joined, some_or}
+use Rattle.rev_tree.specs.declared.origin.Origin.{Origin}
+use Rattle.rev_tree.specs.declared.origin.Origin.TheVariants.{Local, Feed}
+use Rattle.rev_tree.specs.declared.origin.SessionId.{SessionId}
+use Rattle.doc_json.specs.Document.{Document}
+use Rattle.couch_base.specs.Lists.{Among}
+use Rattle.couch_base.specs.ListLaws.{some_is, none_some}
+use Rattle.couch_base.specs.Database.{Id, DatabaseValue, tree_in, tree_of, with_tree}
+use Rattle.couch_base.specs.Edit.{edited, edit_document}
+use Rattle.couch_base.specs.Feed.{RowValue, WindowValue, IsWindow}
+use Rattle.couch_base.specs.Messages.{ParcelValue}
+use Rattle.couch_base.specs.Put.{put_answer, is_changed, after_put, content_of}
+use Rattle.couch_base.specs.WriteLaws.{tree_in-with_tree}
+use Rattle.couch_base.specs.declared.fault.BaseFault.{BaseFault}
+use Rattle.repl_peer.specs.declared.fault.Reason.{Reason}
+use Rattle.repl_peer.specs.declared.fault.Settled.{Settled}
+use Rattle.repl_peer.specs.declared.fault.TargetFault.{TargetFault}
+use Rattle.repl_peer.specs.peer.Peer.{PeerValue, SessionValue, new_peer_at, written_of, session_in, with_session}
+use Rattle.repl_peer.specs.peer.Covered.{covers_window, refusal_of}
+use Rattle.repl_peer.specs.peer.Writing.{next_local, after_load, load_edited, after_edit}
+use Rattle.repl_peer.specs.session.Sessions.{on_found, begin_answer, new_session, begun, after_begin, after_append, after_record, after_conclude}
+use Rattle.repl_peer.specs.session.Settling.{Settling, seq_in, fed, with_arrival, is_full, settle_as, settle_one, settle_docs, has_row, with_settling, settling_of, after_documents, with_done, marked, after_all, SettleGives}
+use Rattle.repl_peer.specs.peer.Law.{LawfulSessions}
+use Rattle.repl_peer.specs.peer.Later.{IsLaterPeer}
+use Rattle.repl_peer.specs.peer.Origins.{ComesFrom, HasOrigins}
+use Rattle.repl_peer.specs.declared.session.beginning.Beginning.{Beginning}
+use Rattle.couch_base.specs.MemberLaws.{Among-last, at-end}
+use Rattle.repl_peer.proofs.lemmas.peer.LaterPeers.{with_session_holds}
+use Rattle.repl_peer.proofs.lemmas.peer.CallsKeepLaw.{load_later, begin_later, append_later, record_later, conclude_later}
+use Rattle.repl_peer.proofs.lemmas.session.SettlingKeepsLaw.{document_settles, documents_settle, with_settling-twice, mark_law, LeavesAfter, settle_ends}
+
+-- ---- origins that stand say what is so
+
+-- each origin that stands in a tree
+abbrev pub TellsOrigins : PeerValue → Type 0
+TellsOrigins p = (id : Id) (r : RevId) (o : Origin) → get (tree_of p.db.docs id).origins r ≡ Some o → ComesFrom p id r o
+
+pub stands_from : (p : PeerValue) → HasOrigins p → TellsOrigins p
+stands_from p h id r o is =
+    let k = h id r (ap is_some is) in
+    subst (ComesFrom p id r) (some_is k.0 o (sym k.1 ∙ is)) k.2
+
+pub has_from : (p : PeerValue) → TellsOrigins p → HasOrigins p
+has_from p h id r there = go (get (tree_of p.db.docs id).origins r) refl
+  where
+    go : (x : Option Origin) → get (tree_of p.db.docs id).origins r ≡ x → (o : Origin) × (get (tree_of p.db.docs id).origins r ≡ Some o) × ComesFrom p id r o
+    go None is = absurd (false≢true (sym (ap is_some is) ∙ there))
+    go (Some o) is = (o, is, h id r o is)
+
+-- where a revision comes from is told later too
+comes_later : (p q : PeerValue) → IsLaterPeer p q → (id : Id) (r : RevId) (o : Origin) → ComesFrom p id r o → ComesFrom q id r o
+comes_later p q later id r (Local n) h = record { write = h.write; stored = later.locals n h.write h.stored; of = h.of; brings = h.brings }
+comes_later p q later id r (Feed session seq) h =
+    let t = later.sessions h.by h.held in
+    let l = h.listed in
+    let a = h.arrived in
+    record {
+      by = t.0;
+      held = t.1;
+      named = t.2.id ∙ h.named;
+      listed = record { window = l.window; stored = t.2.windows l.window l.stored; row = l.row; listed = l.listed; at = l.at; of = l.of };
+      arrived = record { arrival = a.arrival; stored = t.2.arrivals a.arrival a.stored; of = a.of; brings = a.brings };
+    }
+
+-- no tree changes
+pub stands_same : (p q : PeerValue) → IsLaterPeer p q → q.db ≡ p.db → TellsOrigins p → TellsOrigins q
+stands_same p q later same h id r o is = comes_later p q later id r o (h id r o (ap (λ (db : DatabaseValue). get (tree_of db.docs id).origins r) (sym same) ∙ is))
+
+-- ---- what a put brings
+
+given_origin : (o p : Origin) (revs : List RevId) (r : RevId) → find rev_cmp r (map (λ r. (r, o)) revs) ≡ Some p → o ≡ p
+given_origin o p [] r h = absurd (none_some p h)
+given_origin o p (x ∷ revs) r h =
+    cond_both (eq_by_cmp rev_cmp r x) (Some o) (find rev_cmp r (map (λ r. (r, o)) revs)) (λ (u : Option Origin). u ≡ Some p → o ≡ p) (λ _ k. some_is o p k) (λ _ k. given_origin o p revs r k) h
+
+-- an origin of the put's own
+record IsNew (db : DatabaseValue) (d : Document) (o p : Origin) (id : Id) (r : RevId) : Type 0 where
+  of : d.id ≡ id
+  brings : is_among r d.ancestry ≡ true
+  changed : is_changed (put_answer db d) ≡ true
+  is : o ≡ p
+
+-- an origin after a put stood before, or is the put's own
+put_origin : (db : DatabaseValue) (d : Document) (o p : Origin) (id : Id) (r : RevId) → get (tree_of (after_put db d o).docs id).origins r ≡ Some p → (get (tree_of db.docs id).origins r ≡ Some p) ⊎ IsNew db d o p id r
+put_origin db d o p id r h =
+    cond_both (is_changed (put_answer db d)) (with_tree db d.id m) db (λ (x : DatabaseValue). get (tree_of x.docs id).origins r ≡ Some p → Answer)
+    (λ changed k. cond_both (bytes_eq d.id id) (Some m) (tree_in db.docs id) (λ (u : Option TreeValue). get (unwrap_or u no_revisions).origins r ≡ Some p → Answer)
+    (λ same j. in_merged changed ((bytes_eq-Decides d.id id).0 same) j)
+    (λ _ j. inl j)
+    (ap (λ (u : Option TreeValue). get (unwrap_or u no_revisions).origins r) (sym (tree_in-with_tree db d.id m id)) ∙ k))
+    (λ _ k. inl k) h
+  where
+    m : TreeValue
+    m = merged (tree_of db.docs d.id) d.ancestry (content_of d.deleted d.body) o
+
+    Answer : Type 0
+    Answer = (get (tree_of db.docs id).origins r ≡ Some p) ⊎ IsNew db d o p id r
+
+    in_merged : is_changed (put_answer db d) ≡ true → d.id ≡ id → get m.origins r ≡ Some p → Answer
+    in_merged changed of j =
+        let entries : List (RevId × Origin) = map (λ (x : RevId). (x, o)) d.ancestry in
+        elim (some_or (get (tree_of db.docs d.id).origins r) (find rev_cmp r entries) p (sym (get-joined (tree_of db.docs d.id).origins entries r) ∙ j)) [
+          | inl old ↦ inl (subst (λ i. get (tree_of db.docs i).origins r ≡ Some p) of old)
+          | inr new ↦ inr (record { of = of; brings = sym (find-among r o d.ancestry) ∙ ap is_some new.1; changed = changed; is = given_origin o p d.ancestry r new.1 })
+        ]
+
+-- ---- local writes
+
+pub new_origins : (uuid seq : ℕ) → HasOrigins (new_peer_at uuid seq)
+new_origins uuid seq id r there = absurd (false≢true (sym (ap is_some (get-empty {X = Origin} rev_cmp r)) ∙ there))
+
+pub load_origins : (p : PeerValue) (d : Document) → HasOrigins p → HasOrigins (after_load p d)
+load_origins p d h = has_from (after_load p d) stands
+  where
+    stored : is_changed (put_answer p.db d) ≡ true → slice_get (after_load p d).locals (length p.locals) ≡ Some (written_of d)
+    stored changed =
+        ap (λ xs. slice_get xs (length p.locals)) (cond-true (is_changed (put_answer p.db d)) (p.locals ++ written_of d ∷ []) p.locals changed) ∙ at-end p.locals (written_of d)
+
+    stands : TellsOrigins (after_load p d)
+    stands id r o is =
+        elim (put_origin p.db d (next_local p) o id r is) [
+          | inl old ↦ comes_later p (after_load p d) (load_later p d) id r o (stands_from p h id r o old)
+          | inr new ↦ subst (ComesFrom (after_load p d) id r) new.is (record { write = written_of d; stored = stored new.changed; of = new.of; brings = new.brings })
+        ]
+
+pub edit_origins : (p : PeerValue) (id : Id) (parent : Option RevId) (deleted : Bool) (body : List ℕ) → HasOrigins p → HasOrigins (after_edit p id parent deleted body)
+edit_origins p id parent deleted body h = go (edited p.db id parent deleted body)
+  where
+    go : (e : Result (RevId × Option RevId) BaseFault) → HasOrigins (load_edited p id deleted body e)
+    go (Ok e) = load_origins p (edit_document id e deleted body) h
+    go (Err fault) = h
+
+-- ---- what leaves the database as it is
+
+same_origins : (p q : PeerValue) → IsLaterPeer p q → q.db ≡ p.db → HasOrigins p → HasOrigins q
+same_origins p q later same h = has_from q (stands_same p q later same (stands_from p h))
+
+begun_database : (p : PeerValue) (s : SessionValue) (r : Result (Unit {0}) TargetFault) → (begun p s r).db ≡ p.db
+begun_database p s (Ok done) = refl
+begun_database p s (Err fault) = refl
+
+found_database : (p : PeerValue) (change : SessionValue → SessionValue) (o : Option SessionValue) → (on_found p change o).db ≡ p.db
+found_database p change None = refl
+found_database p change (Some s) = refl
+
+pub begin_origins : (p : PeerValue) (id : SessionId) (b : Beginning) (at : ℕ) → HasOrigins p → HasOrigins (after_begin p id b at)
+begin_origins p id b at h =
+    same_origins p (after_begin p id b at) (begin_later p id b at) (begun_database p (new_session id b at) (begin_answer p id b)) h
+
+pub append_origins : (refuses : Document → Bool) (p : PeerValue) (id : SessionId) (w : WindowValue) → IsWindow w → w.hi < 2 ^ 64 → LawfulSessions refuses p → HasOrigins p → HasOrigins (after_append p id w)
+append_origins refuses p id w window small l h = same_origins p (after_append p id w) (append_later refuses p id w window small l) (found_database p _ (session_in p.sessions id)) h
+
+pub record_origins : (refuses : Document → Bool) (p : PeerValue) (id : SessionId) (at : ℕ) → LawfulSessions refuses p → HasOrigins p → HasOrigins (after_record p id at)
+record_origins refuses p id at l h = same_origins p (after_record p id at) (record_later refuses p id at l) (found_database p _ (session_in p.sessions id)) h
+
+pub conclude_origins : (refuses : Document → Bool) (p : PeerValue) (id : SessionId) (at : ℕ) → LawfulSessions refuses p → HasOrigins p → HasOrigins (after_conclude p id at)
+conclude_origins refuses p id at l h = same_origins p (after_conclude p id at) (conclude_later refuses p id at l) (found_database p _ (session_in p.sessions id)) h
+
+-- ---- settling
+
+-- the row of a document, at the sequence that is looked up
+row_listed : (rows : List RowValue) (id : Id) → list_any (λ (row : RowValue). bytes_eq row.id id) rows ≡ true → (row : RowValue) × Among row rows × (row.seq ≡ seq_in rows id) × (row.id ≡ id)
+row_listed [] id h = absurd (false≢true h)
+row_listed (row ∷ rows) id h = step (λ k. row_listed rows id k) (bytes_eq row.id id) refl h
+  where
+    step : (list_any (λ (x : RowValue). bytes_eq x.id id) rows ≡ true → (x : RowValue) × Among x rows × (x.seq ≡ seq_in rows id) × (x.id ≡ id)) → (b : Bool) → bytes_eq row.id id ≡ b → (b || list_any (λ (x : RowValue). bytes_eq x.id id) rows) ≡ true
+        → (x : RowValue) × Among x (row ∷ rows) × (x.seq ≡ cond b row.seq (seq_in rows id)) × (x.id ≡ id)
+    step later true e h = (row, inl refl, refl, (bytes_eq-Decides row.id id).0 e)
+    step later false e h = let k = later h in (k.0, inr k.1, k.2, k.3)
+
+-- what arrives comes from its row, in the session's feed
+arrival_stands : (refuses : Document → Bool) (p : PeerValue) (s : SessionValue) (w : WindowValue) (d : Document) → Among s p.sessions → Among w s.windows → has_row w d ≡ true
+    → IsLaterPeer p (with_settling p (record { db = after_put p.db d (fed w s.id d); session = with_arrival d s })) → TellsOrigins p → TellsOrigins (with_settling p (record { db = after_put p.db d (fed w s.id d); session = with_arrival d s }))
+arrival_stands refuses p s w d m n has_one later h id r o is =
+    let q : PeerValue = with_settling p (record { db = after_put p.db d (fed w s.id d); session = with_arrival d s }) in
+    elim (put_origin p.db d (fed w s.id d) o id r is) [
+      | inl old ↦ comes_later p q later id r o (h id r o old)
+      | inr new ↦
+          let row = row_listed w.rows d.id has_one in
+          subst (ComesFrom q id r) new.is (record {
+            by = with_arrival d s;
+            held = with_session_holds p.sessions s (with_arrival d s) m refl;
+            named = refl;
+            listed = record { window = w; stored = n; row = row.0; listed = row.1; at = row.2; of = row.3 ∙ new.of };
+            arrived = record { arrival = written_of d; stored = Among-last (written_of d) s.arrivals; of = new.of; brings = new.brings };
+          })
+    ]
+
+document_stands : (refuses : Document → Bool) (p : PeerValue) (s : SessionValue) (w : WindowValue) (d : Document) → Among s p.sessions → Among w s.windows → has_row w d ≡ true → LawfulSessions refuses p → TellsOrigins p → TellsOrigins (with_settling p (settle_one refuses w (settling_of p s) d))
+document_stands refuses p s w d m n has_one l h = go (refusal_of refuses p.db d) (document_settles refuses p s w d m l).later
+  where
+    go : (o : Option Reason) → IsLaterPeer p (with_settling p (settle_as w (settling_of p s) d o)) → TellsOrigins (with_settling p (settle_as w (settling_of p s) d o))
+    go (Some reason) later = stands_same p (with_settling p (settle_as w (settling_of p s) d (Some reason))) later refl h
+    go None later =
+        cond_both (is_full (put_answer p.db d)) (settling_of p s) (record { db = after_put p.db d (fed w s.id d); session = with_arrival d s }) (λ (z : Settling). IsLaterPeer p (with_settling p z) → TellsOrigins (with_settling p z))
+        (λ _ k. stands_same p (with_settling p (settling_of p s)) k refl h)
+        (λ _ k. arrival_stands refuses p s w d m n has_one k h)
+        later
+
+documents_stand : (refuses : Document → Bool) (p : PeerValue) (s : SessionValue) (w : WindowValue) (docs : List Document) → Among s p.sessions → Among w s.windows → list_all (has_row w) docs ≡ true → LawfulSessions refuses p → TellsOrigins p → TellsOrigins (after_documents refuses p s w docs)
+documents_stand refuses p s w [] m n rows l h =
+    stands_same p (with_settling p (settling_of p s)) (documents_settle refuses p s w [] m l).later refl h
+documents_stand refuses p s w (d ∷ docs) m n rows l h =
+    let y = settle_one refuses w (settling_of p s) d in
+    let z = settle_docs refuses w y docs in
+    let both = and_parts (has_row w d) (list_all (has_row w) docs) rows in
+    let first = document_settles refuses p s w d m l in
+    let others = documents_settle refuses (with_settling p y) y.session w docs first.held first.lawful in
+    subst TellsOrigins (with_settling-twice p y z others.keeps.id)
+    (documents_stand refuses (with_settling p y) y.session w docs first.held (first.keeps.windows w n) both.1 first.lawful (document_stands refuses p s w d m n both.0 l h))
+
+all_take : (p : Document → Bool) (n : ℕ) (docs : List Document) → list_all p docs ≡ true → list_all p (take n docs) ≡ true
+all_take p zero docs h = refl
+all_take p (suc n) [] h = refl
+all_take p (suc n) (d ∷ docs) h = let both = and_parts (p d) (list_all p docs) h in and_from (p d) (list_all p (take n docs)) both.0 (all_take p n docs both.1)
+
+all_stand : (refuses : Document → Bool) (p : PeerValue) (s : SessionValue) (w : WindowValue) (parcel : ParcelValue) → Among s p.sessions → Among w s.windows → list_all (has_row w) parcel.docs ≡ true → LawfulSessions refuses p → TellsOrigins p → TellsOrigins (after_all refuses p s w parcel)
+all_stand refuses p s w parcel m n rows l h =
+    let z = settle_docs refuses w (settling_of p s) parcel.docs in
+    let q = with_settling p z in
+    let k = documents_settle refuses p s w parcel.docs m l in
+    let same : (marked q z.session w parcel).db ≡ q.db = cond_both (covers_window q w) (record q { sessions = with_session q.sessions (with_done w parcel z.session) }) q (λ (x : PeerValue). x.db ≡ q.db) (λ _. refl) (λ _. refl) in
+    stands_same q (marked q z.session w parcel) (mark_law refuses q z.session w parcel k.held (k.keeps.windows w n) k.lawful).1 same (documents_stand refuses p s w parcel.docs m n rows l h)
+
+-- wherever settling ends, every revision has an origin
+pub ends_origins : (refuses : Document → Bool) (p : PeerValue) (id : SessionId) (parcel : ParcelValue) (q : PeerValue) → LeavesAfter refuses p id parcel q → LawfulSessions refuses p → HasOrigins p → HasOrigins q
+ends_origins refuses p id parcel q (inl same) l h = subst HasOrigins (sym same) h
+ends_origins refuses p id parcel q (inr e) l h =
+    let t = e.1 in
+    elim e.2 [
+      | inl all ↦ subst HasOrigins (sym all) (has_from _ (all_stand refuses p e.0.0 e.0.1 parcel t.held t.stored t.rows l (stands_from p h)))
+      | inr some ↦ subst HasOrigins (sym some.1) (has_from _ (documents_stand refuses p e.0.0 e.0.1 (take some.0 parcel.docs) t.held t.stored (all_take _ some.0 parcel.docs t.rows) l (stands_from p h)))
+    ]
+
+pub settle_origins : (refuses : Document → Bool) (p : PeerValue) (id : SessionId) (parcel : ParcelValue) (result : Result Settled TargetFault) (q : PeerValue) → SettleGives refuses p id parcel result q → LawfulSessions refuses p → HasOrigins p → HasOrigins q
+settle_origins refuses p id parcel result q gives l h = ends_origins refuses p id parcel q (settle_ends refuses p id parcel result q gives) l h

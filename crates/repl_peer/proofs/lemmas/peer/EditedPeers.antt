@@ -1,0 +1,131 @@
+-- What a local edit answers and notes: its signature is short, and it is the next local write.
+use Rattle.std.specs.Prelude.{◌≡◌, ◌+◌, ◌*◌, ◌^◌, ◌∷◌, ◌++◌, [], ℕ, Bool, true, false, List, length, Option, Some, None, Result, Ok, Err, is_ok, nat_le, nat_lt, refl}
+use Rattle.std.proofs.Common.{ap, sym, ◌∙◌, cond, subst, arith}
+use Rattle.std.proofs.lemmas.Bool.{false≢true}
+use Rattle.std.specs.Result.{result_unwrap_or}
+use Rattle.md5.specs.Md5.{md5}
+use Rattle.md5.proofs.StandardFacts.{length-md5}
+use Rattle.hex.specs.Hex.{lower_digits}
+use Rattle.hex.proofs.HexLemmas.{length-encode_with}
+use Rattle.rev_core.specs.Rev.{RevId}
+use Rattle.rev_core.specs.NewRev.{edit_text, edit_sig, edit_rev, next_generation}
+use Rattle.rev_core.specs.Checks.{◌>>=◌, refused_if, named}
+use Rattle.rev_core.specs.declared.fault.RevFault.{RevFault}
+use Rattle.rev_core.specs.declared.fault.RevFault.TheVariants as rev_faults
+use Rattle.std.specs.List.{list_all}
+use Rattle.std.specs.Option.{option_to_list}
+use Rattle.std.proofs.lemmas.Bool.{cond-true}
+use Rattle.rev_tree.specs.InOrder.{first_of}
+use Rattle.rev_tree.specs.Tree.{TreeValue, has, is_leaf, is_deleted, leaves}
+use Rattle.rev_tree.specs.declared.origin.Origin.{Origin}
+use Rattle.couch_base.specs.Database.{Id, DatabaseValue, tree_in, tree_of, most}
+use Rattle.couch_base.specs.Edit.{parent_answer, edit_id, edited, edit_answer, edit_document, after_edit, after_edited}
+use Rattle.couch_base.specs.Put.{put_answer, is_changed}
+use Rattle.couch_base.specs.declared.fault.BaseFault.{BaseFault}
+use Rattle.couch_base.specs.declared.fault.BaseFault.TheVariants as base_faults
+use Rattle.repl_peer.specs.peer.Peer.{WrittenValue, written_of}
+use Rattle.repl_peer.specs.peer.Local.{with_edited, with_edit, stood_on}
+
+-- two digits for each byte of the digest
+length-edit_sig : (before : Option RevId) (deleted : Bool) (body : List ℕ) → length (edit_sig before deleted body) ≡ 32
+unfolding edit_sig
+length-edit_sig before deleted body =
+    length-encode_with lower_digits (md5 (edit_text before deleted body))
+    ∙ ap (λ n. 2 * n) (length-md5 (edit_text before deleted body))
+
+named_ok : {A E F : Type 0} (fault : F) (r : Result A E) (a : A) → named fault r ≡ Ok a → r ≡ Ok a
+named_ok fault (Ok x) a e = ap (λ y. Ok (result_unwrap_or y a)) e
+named_ok fault (Err why) a e = absurd (false≢true (ap is_ok e))
+
+of_bool : (b : Bool) (r s : RevId) (fault : RevFault) → cond b (Ok r) (Err fault) ≡ Ok s → r ≡ s
+of_bool true r s fault e = ap (λ y. result_unwrap_or y r) e
+of_bool false r s fault e = absurd (false≢true (ap is_ok e))
+
+edit_rev-short : (before : Option RevId) (deleted : Bool) (body : List ℕ) (r : RevId) → edit_rev before deleted body ≡ Ok r → length r.sig ≡ 32
+edit_rev-short before deleted body r e =
+    subst (λ (s : RevId). length s.sig ≡ 32) (of_bool (nat_lt (next_generation before) (2 ^ 32)) _ r rev_faults.GenerationFull e) (length-edit_sig before deleted body)
+
+edit_id-short : (before : Option RevId) (deleted : Bool) (body : List ℕ) (r : RevId) → edit_id before deleted body ≡ Ok r → length r.sig ≡ 32
+edit_id-short before deleted body r e =
+    edit_rev-short before deleted body r (named_ok base_faults.GenerationFull (edit_rev before deleted body) r e)
+
+-- what is passed on behind a check
+checked : {A E : Type 0} (b : Bool) (why : E) (x y : A) → (refused_if b why >>= λ _. Ok x) ≡ Ok y → x ≡ y
+checked true why x y e = absurd (false≢true (ap is_ok e))
+checked false why x y e = ap (λ r. result_unwrap_or r x) e
+
+-- the new revision is short, and the other is the one that it stands on
+abbrev IsEdit : Option RevId → (RevId × Option RevId) → Type 0
+IsEdit before e = (length e.0.sig ≡ 32) × (before ≡ e.1)
+
+made : (db : DatabaseValue) (id : Id) (before : Option RevId) (deleted : Bool) (body : List ℕ) (e : RevId × Option RevId)
+    → (edit_id before deleted body >>= λ rev. refused_if (has (tree_of db.docs id) rev) (base_faults.RevExists rev) >>= λ _. Ok (rev, before)) ≡ Ok e
+    → IsEdit before e
+made db id before deleted body e h = go (edit_id before deleted body) refl h
+  where
+    go : (r : Result RevId BaseFault) → edit_id before deleted body ≡ r
+        → (r >>= λ rev. refused_if (has (tree_of db.docs id) rev) (base_faults.RevExists rev) >>= λ _. Ok (rev, before)) ≡ Ok e
+        → IsEdit before e
+    go (Ok rev) is k =
+        let same = checked (has (tree_of db.docs id) rev) (base_faults.RevExists rev) (rev, before) e k in
+        (subst (λ (x : RevId × Option RevId). length x.0.sig ≡ 32) same (edit_id-short before deleted body rev is), ap (λ (x : RevId × Option RevId). x.1) same)
+    go (Err why) is k = absurd (false≢true (ap is_ok k))
+
+chosen : {A E : Type 0} (b : Bool) (x y : A) (why : E) → cond b (Ok x) (Err why) ≡ Ok y → x ≡ y
+chosen true x y why e = ap (λ r. result_unwrap_or r x) e
+chosen false x y why e = absurd (false≢true (ap is_ok e))
+
+stands : (t : Option TreeValue) (parent before : Option RevId) → parent_answer t parent ≡ Ok before → stood_on t parent ≡ before
+stands None None before e = ap (λ r. result_unwrap_or r None) e
+stands None (Some p) before e = absurd (false≢true (ap is_ok e))
+stands (Some t) (Some p) before e = chosen (is_leaf t p) (Some p) before base_faults.Conflict e
+stands (Some t) None before e = chosen (list_all (is_deleted t) (leaves t)) (first_of (leaves t)) before base_faults.Conflict e
+
+edited_parts : (db : DatabaseValue) (id : Id) (parent : Option RevId) (deleted : Bool) (body : List ℕ) (e : RevId × Option RevId)
+    → edited db id parent deleted body ≡ Ok e → IsEdit (stood_on (tree_in db.docs id) parent) e
+edited_parts db id parent deleted body e h = go (parent_answer (tree_in db.docs id) parent) refl h
+  where
+    go : (r : Result (Option RevId) BaseFault) → parent_answer (tree_in db.docs id) parent ≡ r
+        → (r >>= λ before. edit_id before deleted body >>= λ rev. refused_if (has (tree_of db.docs id) rev) (base_faults.RevExists rev) >>= λ _. Ok (rev, before)) ≡ Ok e
+        → IsEdit (stood_on (tree_in db.docs id) parent) e
+    go (Ok before) is k =
+        let parts = made db id before deleted body e k in
+        (parts.0, stands (tree_in db.docs id) parent before is ∙ parts.1)
+    go (Err why) is k = absurd (false≢true (ap is_ok k))
+
+-- what an edit answers
+pub edit_answer-short : (db : DatabaseValue) (id : Id) (parent : Option RevId) (deleted : Bool) (body : List ℕ) (rev : RevId)
+    → edit_answer db id parent deleted body ≡ Ok rev → length rev.sig ≡ 32
+edit_answer-short db id parent deleted body rev h = go (edited db id parent deleted body) refl h
+  where
+    go : (r : Result (RevId × Option RevId) BaseFault) → edited db id parent deleted body ≡ r
+        → (r >>= λ e. refused_if (nat_le most db.update_seq) base_faults.SeqFull >>= λ _. Ok e.0) ≡ Ok rev
+        → length rev.sig ≡ 32
+    go (Ok e) is k =
+        let same = checked (nat_le most db.update_seq) base_faults.SeqFull e.0 rev k in
+        subst (λ (r : RevId). length r.sig ≡ 32) same (edited_parts db id parent deleted body e is).0
+    go (Err why) is k = absurd (false≢true (ap is_ok k))
+
+changed : (b : Bool) (db written after : DatabaseValue) → after ≡ cond b written db → after.update_seq ≡ db.update_seq + 1 → b ≡ true
+changed true db written after is next = refl
+changed false db written after is next =
+    let same : after.update_seq ≡ db.update_seq = ap (λ (d : DatabaseValue). d.update_seq) is in absurd (omega (arith, next, same))
+
+-- an edit that takes a sequence is the next local write
+pub edit_noted : (db after : DatabaseValue) (locals : List WrittenValue) (id : Id) (parent : Option RevId) (deleted : Bool) (body : List ℕ) (o : Origin) (rev : RevId)
+    → edit_answer db id parent deleted body ≡ Ok rev → after ≡ after_edit db id parent deleted body o → after.update_seq ≡ db.update_seq + 1
+    → locals ++ record { id = id; ancestry = rev ∷ option_to_list (stood_on (tree_in db.docs id) parent) } ∷ [] ≡ with_edit db locals id parent deleted body
+edit_noted db after locals id parent deleted body o rev answer is next = go (edited db id parent deleted body) refl answer is
+  where
+    go : (r : Result (RevId × Option RevId) BaseFault) → edited db id parent deleted body ≡ r
+        → (r >>= λ e. refused_if (nat_le most db.update_seq) base_faults.SeqFull >>= λ _. Ok e.0) ≡ Ok rev
+        → after ≡ after_edited db id deleted body o r
+        → locals ++ record { id = id; ancestry = rev ∷ option_to_list (stood_on (tree_in db.docs id) parent) } ∷ [] ≡ with_edited db locals id deleted body r
+    go (Ok e) given k wrote =
+        let d = edit_document id e deleted body in
+        let same = sym (checked (nat_le most db.update_seq) base_faults.SeqFull e.0 rev k) in
+        let below = (edited_parts db id parent deleted body e given).1 in
+        let yes : is_changed (put_answer db d) ≡ true = changed (is_changed (put_answer db d)) db _ after wrote next in
+        (λ i. locals ++ record { id = id; ancestry = same i ∷ option_to_list (below i) } ∷ [])
+        ∙ sym (cond-true _ (locals ++ written_of d ∷ []) locals yes)
+    go (Err why) given k wrote = absurd (false≢true (ap is_ok k))

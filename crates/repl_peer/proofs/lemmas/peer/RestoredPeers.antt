@@ -1,0 +1,58 @@
+-- A peer that is put back to an earlier copy is lawful.
+use Rattle.std.proofs.Common.{◌≡◌, ℕ, ◌≤◌, Bool, List, [], ◌∷◌, length, false, refl, sym, ap, ◌∙◌, subst, eqb, arith}
+use Rattle.std.specs.List.{slice_get, IsDistinct}
+use Rattle.std.specs.FinMap.{get}
+use Rattle.std.proofs.lemmas.Bool.{false≢true}
+use Rattle.rev_core.specs.Rev.{RevId}
+use Rattle.rev_tree.specs.Tree.{has}
+use Rattle.rev_tree.specs.declared.origin.Origin.{Origin}
+use Rattle.rev_tree.specs.declared.origin.Origin.TheVariants.{Local, Feed}
+use Rattle.doc_json.specs.Document.{Document}
+use Rattle.couch_base.specs.Lists.{Among}
+use Rattle.couch_base.specs.Database.{Id, DocumentValue, tree_of}
+use Rattle.repl_peer.specs.peer.Peer.{PeerValue, SessionValue, WrittenValue}
+use Rattle.repl_peer.specs.peer.Law.{AllBased, Lawful, session_numbers}
+use Rattle.repl_peer.specs.peer.Origins.{ComesFrom, HasOrigins}
+use Rattle.repl_peer.specs.peer.Backups.{BackupValue, peer_of, IsBackup, is_target}
+
+pub none_held : (sessions : List SessionValue) → is_target sessions ≡ false → sessions ≡ []
+none_held [] h = refl
+none_held (s ∷ sessions) h = absurd (false≢true (sym h))
+
+-- origins are said of the trees, the local writes and the sessions alone
+comes_same : (p q : PeerValue) → q.locals ≡ p.locals → q.sessions ≡ p.sessions → (id : Id) (r : RevId) (o : Origin) → ComesFrom p id r o → ComesFrom q id r o
+comes_same p q locals sessions id r (Local n) h = record { write = h.write; stored = ap (λ (l : List WrittenValue). slice_get l n) locals ∙ h.stored; of = h.of; brings = h.brings }
+comes_same p q locals sessions id r (Feed session seq) h = record { by = h.by; held = subst (Among h.by) (sym sessions) h.held; named = h.named; listed = h.listed; arrived = h.arrived }
+
+pub origins_same : (p q : PeerValue) → q.db.docs ≡ p.db.docs → q.locals ≡ p.locals → q.sessions ≡ p.sessions → HasOrigins p → HasOrigins q
+origins_same p q docs locals sessions h id r there =
+    let k = h id r (ap (λ (ds : List DocumentValue). has (tree_of ds id) r) (sym docs) ∙ there) in
+    (k.0, ap (λ (ds : List DocumentValue). get (tree_of ds id).origins r) docs ∙ k.1, comes_same p q locals sessions id r k.0 k.2)
+
+-- a copy of a lawful peer without sessions is one
+pub IsBackup-copied : (p : PeerValue) (b : BackupValue) → p.sessions ≡ [] → b.db ≡ p.db → b.locals ≡ p.locals → HasOrigins p → IsBackup b
+IsBackup-copied p b none db locals h = origins_same p (peer_of b) (λ i. (db i).docs) locals (sym none) h
+
+distinct_none : (sessions : List SessionValue) → sessions ≡ [] → IsDistinct eqb (session_numbers sessions)
+unfolding IsDistinct
+distinct_none [] e = tt
+distinct_none (s ∷ sessions) e = cc
+
+-- and what is put back from one is lawful
+pub Lawful-restored : (refuses : Document → Bool) (b : BackupValue) (q : PeerValue) → q.sessions ≡ [] → q.db.docs ≡ b.db.docs → q.locals ≡ b.locals → IsBackup b → Lawful refuses q
+Lawful-restored refuses b q none docs locals h =
+    record {
+      sessions = record {
+        sessions = λ s m. absurd (subst (Among s) none m);
+        based = subst AllBased (sym none) tt;
+        distinct = distinct_none q.sessions none;
+      };
+      origins = origins_same (peer_of b) q docs locals none h;
+    }
+
+pub no_sessions : (sessions : List SessionValue) (n : ℕ) → n ≡ length sessions → n ≤ 0 → sessions ≡ []
+no_sessions [] n is none = refl
+no_sessions (s ∷ sessions) n is none = absurd (omega (arith, is, none))
+
+pub none_seen : {F : Type 0} (v w : F × PeerValue) → v ≡ w → is_target w.1.sessions ≡ false → v.1.sessions ≡ []
+none_seen v w is none = none_held v.1.sessions (ap (λ x. is_target x.1.sessions) is ∙ none)

@@ -1,0 +1,15 @@
+-- Lemmas of sessions and settling.
+pub mod SessionTable
+pub mod AddedToRepIndex
+pub mod SessionIndex
+pub mod AddedToLedgerIndex
+pub mod RowsInTurn
+pub mod FirstUnknownLeaf
+pub mod WindowsFound
+pub mod SettlingDocuments
+pub mod SettlingChecks
+pub mod SessionLaws
+pub mod SettlingParcels
+pub mod WindowsFollow
+pub mod SettlingKeepsLaw
+pub mod SettlingPeers

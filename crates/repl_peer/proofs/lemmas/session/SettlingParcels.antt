@@ -1,0 +1,81 @@
+-- What settling a parcel answers and leaves.
+use Rattle.std.proofs.Common.{◌≡◌, ℕ, ◌-◌, Bool, List, [], Result, Ok, Err, sym, ap, ◌∙◌, subst, arith}
+use Rattle.std.specs.Global.{Vec}
+use Rattle.rev_core.specs.Rev.{RevId}
+use Rattle.doc_json.specs.Document.{Document}
+use Rattle.couch_base.specs.Database.{Id, DatabaseValue}
+use Rattle.couch_base.specs.Feed.{WindowValue}
+use Rattle.couch_base.specs.Messages.{ParcelValue}
+use Rattle.range_front.specs.Front.{finished}
+use Rattle.repl_peer.specs.peer.Peer.{SessionValue}
+use Rattle.repl_peer.specs.session.Settling.{Settling, Halts, settle_docs, leaf_count, asked_count, with_done, with_checked}
+use Rattle.repl_peer.specs.session.SettlingParts.{Passes, Reached, ReachedAll, Marks, PartsSettled, PartsSettle, PartsGive}
+use Rattle.repl_peer.specs.declared.fault.Cause.{Cause}
+use Rattle.repl_peer.specs.declared.fault.Cause.TheVariants as causes
+use Rattle.repl_peer.specs.declared.fault.Settled.{Settled}
+use Rattle.repl_peer.specs.declared.fault.TargetFault.{TargetFault}
+use Rattle.repl_peer.specs.declared.fault.TargetFault.TheVariants as faults
+use Rattle.repl_peer.proofs.lemmas.session.SettlingDocuments.{reached_all, halts_end, grows}
+
+pub gives_from : (refuses : Document → Bool) (known : Id → RevId → Bool) (before after : Settling) (parcel : ParcelValue) (place leaves asked : ℕ) (result : Result Settled TargetFault)
+    → (p : Passes before.session parcel place leaves asked) → PartsSettled refuses known p.window before parcel result after → PartsGive refuses known before parcel result after
+gives_from refuses known before after parcel place leaves asked result p h =
+    subst (λ (r : Result (SessionValue × WindowValue) TargetFault). PartsSettle refuses known before parcel r result after) (sym p.answer) h
+
+pub stopped : (refuses : Document → Bool) (known : Id → RevId → Bool) (w : WindowValue) (before after : Settling) (parcel : ParcelValue) (docs : List Document) (n : ℕ) (rest : Vec Document) (cause : Cause)
+    → docs ≡ parcel.docs → Reached refuses w before docs n rest.items after → Halts refuses w before docs n cause
+    → PartsSettled refuses known w before parcel (Err (faults.Stopped n rest cause)) after
+stopped refuses known w before after parcel docs n rest cause same h why =
+    (subst (λ (l : List Document). Reached refuses w before l n rest.items after) same h, subst (λ (l : List Document). Halts refuses w before l n cause) same why)
+
+pub ended_err : (refuses : Document → Bool) (known : Id → RevId → Bool) (w : WindowValue) (before : Settling) (db : DatabaseValue) (mid t : SessionValue) (parcel : ParcelValue) (n leaves asked : ℕ) (fault : TargetFault)
+    → Reached refuses w before parcel.docs n [] (record { db = db; session = mid }) → Marks known w mid leaves asked n (Err fault) t
+    → PartsSettled refuses known w before parcel (Err fault) (record { db = db; session = t })
+ended_err refuses known w before db mid t parcel n leaves asked (faults.Uncovered seq id rev) h e =
+    (subst (λ (s : SessionValue). ReachedAll refuses w before parcel.docs (record { db = db; session = s })) (sym e.1) (reached_all refuses w before (record { db = db; session = mid }) parcel.docs n h), e.0)
+ended_err refuses known w before db mid t parcel n leaves asked (faults.Stopped m rest causes.Memory) h e =
+    let here : Reached refuses w before parcel.docs m [] (record { db = db; session = mid }) = subst (λ (k : ℕ). Reached refuses w before parcel.docs k [] (record { db = db; session = mid })) (sym e.0) h in (
+      subst (λ (s : SessionValue). Reached refuses w before parcel.docs m rest.items (record { db = db; session = s })) (sym e.2)
+          (subst (λ (l : List Document). Reached refuses w before parcel.docs m l (record { db = db; session = mid })) (sym e.1) here),
+      halts_end refuses w before (record { db = db; session = mid }) parcel.docs m here,
+    )
+ended_err refuses known w before db mid t parcel n leaves asked (faults.Stopped m rest causes.SeqFull) h e = absurd e
+ended_err refuses known w before db mid t parcel n leaves asked faults.SessionExists h e = absurd e
+ended_err refuses known w before db mid t parcel n leaves asked faults.NoSuchBase h e = absurd e
+ended_err refuses known w before db mid t parcel n leaves asked (faults.StartAboveBase r) h e = absurd e
+ended_err refuses known w before db mid t parcel n leaves asked faults.GoalBelowStart h e = absurd e
+ended_err refuses known w before db mid t parcel n leaves asked faults.NoSuchSession h e = absurd e
+ended_err refuses known w before db mid t parcel n leaves asked (faults.OtherLife now) h e = absurd e
+ended_err refuses known w before db mid t parcel n leaves asked faults.IsTarget h e = absurd e
+ended_err refuses known w before db mid t parcel n leaves asked faults.ForeignBackup h e = absurd e
+ended_err refuses known w before db mid t parcel n leaves asked faults.LifeFull h e = absurd e
+ended_err refuses known w before db mid t parcel n leaves asked (faults.Gap r) h e = absurd e
+ended_err refuses known w before db mid t parcel n leaves asked faults.PastGoal h e = absurd e
+ended_err refuses known w before db mid t parcel n leaves asked faults.ForeignParcel h e = absurd e
+ended_err refuses known w before db mid t parcel n leaves asked faults.AlreadyDone h e = absurd e
+ended_err refuses known w before db mid t parcel n leaves asked faults.CountFull h e = absurd e
+ended_err refuses known w before db mid t parcel n leaves asked (faults.Unfinished r) h e = absurd e
+ended_err refuses known w before db mid t parcel n leaves asked (faults.Older r) h e = absurd e
+ended_err refuses known w before db mid t parcel n leaves asked faults.BadBatch h e = absurd e
+ended_err refuses known w before db mid t parcel n leaves asked faults.SamePeer h e = absurd e
+ended_err refuses known w before db mid t parcel n leaves asked faults.Memory h e = absurd e
+
+pub ended_ok : (refuses : Document → Bool) (known : Id → RevId → Bool) (w : WindowValue) (before : Settling) (db : DatabaseValue) (mid t : SessionValue) (parcel : ParcelValue) (n leaves asked : ℕ) (settled : Settled) (tell : Unit {0})
+    → Reached refuses w before parcel.docs n [] (record { db = db; session = mid }) → Marks known w mid leaves asked n (Ok tell) t
+    → leaves ≡ leaf_count w → asked ≡ asked_count parcel.asked → settled.written ≡ mid.counts.written - before.session.counts.written → settled.failures ≡ mid.counts.failures - before.session.counts.failures
+    → PartsSettled refuses known w before parcel (Ok settled) (record { db = db; session = t })
+ended_ok refuses known w before db mid t parcel n leaves asked settled tell h e leafs asks wrote failed =
+    let all = reached_all refuses w before (record { db = db; session = mid }) parcel.docs n h in
+    let z = settle_docs refuses w before parcel.docs in
+    let here : mid ≡ z.session = ap (λ (x : Settling). x.session) all.settling in
+    let grown = grows refuses w before parcel.docs in
+    let written : z.session.counts.written ≡ mid.counts.written = ap (λ (s : SessionValue). s.counts.written) (sym here) in
+    let failures : z.session.counts.failures ≡ mid.counts.failures = ap (λ (s : SessionValue). s.counts.failures) (sym here) in
+    let done : t ≡ with_done w parcel z.session =
+    e.1 ∙ (λ i. let s : SessionValue = record (here i) { front = finished (here i).front w.lo w.hi; counts = with_checked (here i).counts (leafs i) (asks i) } in s) in
+    record {
+      all = all.all;
+      settling = λ i. record { db = ap (λ (x : Settling). x.db) all.settling i; session = done i };
+      covered = e.0;
+      counts = record { written = omega (arith, written, wrote, grown.written); failures = omega (arith, failures, failed, grown.failures) };
+    }

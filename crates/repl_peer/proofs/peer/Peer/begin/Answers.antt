@@ -1,0 +1,11 @@
+use Rattle.std.proofs.Common.{◌<◌, ◌^◌, arith}
+use Rattle.repl_peer.proofs.lemmas.peer.PeerInvariant.{Lawful-begun}
+use Rattle.repl_peer.proofs.peer.Peer.begin.Goals as goal
+
+pub invariant_of-self : goal.invariant_of-self
+invariant_of-self g c =
+    let fits : c.args.beginning.start < 2 ^ 64 = omega arith in
+    Lawful-begun _ _ c.self.invariant c.args.id c.args.beginning c.args.at fits c.begin.result _ c.begin.ensures.answer c.begin.ensures.ok c.begin.ensures.err
+
+pub returns-clause-law : goal.returns-clause-law
+returns-clause-law g c = invariant_of-self g c

@@ -1,0 +1,5 @@
+use Rattle.std.proofs.Common.{rules}
+use Rattle.repl_peer.proofs.peer.Peer.page.Goals as goal
+
+pub returns : goal.returns
+returns g c = search rules

@@ -1,0 +1,23 @@
+use Rattle.std.proofs.Common.{subst}
+use Rattle.repl_peer.specs.peer.Peer.{PeerValue}
+use Rattle.repl_peer.specs.session.Settling.{SettleGives}
+use Rattle.repl_peer.proofs.lemmas.session.SettlingKeepsLaw.{settle_law}
+use Rattle.repl_peer.proofs.lemmas.peer.CallsKeepOrigins.{settle_origins}
+use Rattle.repl_peer.proofs.peer.Peer.settle.Goals as goal
+
+pub invariant_of-self : goal.invariant_of-self
+invariant_of-self g c =
+    let p : PeerValue = record { db = c.self.inside.db; locals = c.self.inside.locals.items; sessions = c.self.inside.sessions; outgoing = c.self.inside.outgoing.entries } in
+    record {
+      sessions = settle_law (g.F.WriteFilter.refuses c.self.inside.filter) p c.args.id c.args.parcel c.settle_session.result _ (c.settle_session.ensures p) c.self.invariant.sessions;
+      origins = settle_origins (g.F.WriteFilter.refuses c.self.inside.filter) p c.args.id c.args.parcel c.settle_session.result _ (c.settle_session.ensures p) c.self.invariant.sessions c.self.invariant.origins;
+    }
+
+pub returns-clause-settles : goal.returns-clause-settles
+returns-clause-settles g c =
+    let p : PeerValue = record { db = c.self.inside.db; locals = c.self.inside.locals.items; sessions = c.self.inside.sessions; outgoing = c.self.inside.outgoing.entries } in
+    let q : PeerValue = record { db = c.settle_session.new.db; locals = c.self.inside.locals.items; sessions = c.settle_session.new.self; outgoing = c.self.inside.outgoing.entries } in
+    subst (λ v. SettleGives (g.F.WriteFilter.refuses v.0) v.1 c.args.id c.args.parcel c.settle_session.result q) c.self.view_is (c.settle_session.ensures p)
+
+pub returns-clause-law : goal.returns-clause-law
+returns-clause-law g c = invariant_of-self g c

@@ -1,0 +1,11 @@
+use Rattle.std.proofs.Common.{◌≡◌, ◌≤◌, length, drop}
+use Rattle.std.specs.List.{list_any, list_all}
+use Rattle.std.specs.Str.{bytes_eq}
+use Rattle.repl_peer.proofs.session.rows.all_have_rows.Given as goal
+
+-- the others decide
+abbrev pub invariant-loop-doc : goal.invariant-loop-doc
+invariant-loop-doc l = record {
+  within : l.place ≤ length l.rows;
+  remains : list_all (λ d. list_any (λ row. bytes_eq row.id d.id) l.rows) (drop l.doc-index l.docs) ≡ list_all (λ d. list_any (λ row. bytes_eq row.id d.id) l.rows) l.docs;
+}

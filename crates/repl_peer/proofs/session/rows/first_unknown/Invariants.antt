@@ -1,0 +1,8 @@
+use Rattle.std.proofs.Common.{◌≡◌, drop}
+use Rattle.repl_peer.specs.peer.Covered.{first_unknown}
+use Rattle.repl_peer.specs.session.SettlingParts.{known_of}
+use Rattle.repl_peer.proofs.session.rows.first_unknown.Given as goal
+
+-- none of the rows so far has an unknown leaf
+abbrev pub invariant-loop-row : goal.invariant-loop-row
+invariant-loop-row l = first_unknown (known_of l.db l.ledgered) (drop l.row-index l.rows) ≡ first_unknown (known_of l.db l.ledgered) l.rows

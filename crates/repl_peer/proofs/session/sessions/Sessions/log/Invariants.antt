@@ -1,0 +1,8 @@
+use Rattle.std.proofs.Common.{◌≡◌, take}
+use Rattle.repl_peer.specs.session.StoredSessions.{sessions_of}
+use Rattle.repl_peer.specs.logs.Logs.{log_of}
+use Rattle.repl_peer.proofs.session.sessions.Sessions.log.Given as goal
+
+-- what the sessions so far say
+abbrev pub invariant-loop-i : goal.invariant-loop-i
+invariant-loop-i l = l.log ≡ log_of (sessions_of (take l.i l.self-inside.entries.entries)) l.rep

@@ -1,0 +1,18 @@
+-- no session so far is shared: those behind decide
+use Rattle.std.proofs.Common.{◌≡◌, ◌≤◌, ◌-◌, drop, length}
+use Rattle.repl_log.specs.Log.{common}
+use Rattle.repl_peer.specs.session.StoredSessions.{sessions_of}
+use Rattle.repl_peer.specs.logs.Logs.{log_of}
+use Rattle.repl_peer.specs.session.RepIndex.{listed}
+use Rattle.repl_peer.proofs.session.sessions.Sessions.shared_with.Given as goal
+
+abbrev pub invariant-loop-left : goal.invariant-loop-left
+invariant-loop-left l =
+    let log = log_of (sessions_of l.self-inside.entries.entries) l.rep in
+    record {
+      so_far : common l.source log ≡ common l.source (drop (length (listed l.self-inside.by_rep l.rep) - l.left) log);
+      within : l.left ≤ length (listed l.self-inside.by_rep l.rep);
+    }
+
+abbrev pub decreases-loop-left : goal.decreases-loop-left
+decreases-loop-left g = g.left

@@ -1,0 +1,3 @@
+pub mod peer
+pub mod session
+pub mod logs

@@ -1,0 +1,3 @@
+-- The logs of a peer, and common checkpoints.
+pub mod Logs
+pub mod Checkpoint

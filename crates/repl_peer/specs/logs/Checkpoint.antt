@@ -1,0 +1,17 @@
+-- The replication between two peers, and where it goes on: docs/PROFILE.md, "Replication ids and logs" and "Common
+-- checkpoint".
+use Rattle.std.specs.Prelude.{ℕ, Option}
+use Rattle.rev_tree.specs.declared.origin.SessionId.{SessionId}
+use Rattle.doc_json.specs.Chosen.{Choice}
+use Rattle.repl_log.specs.declared.replication.RepId.{RepId}
+use Rattle.repl_log.specs.Log.{common}
+use Rattle.repl_peer.specs.peer.Peer.{PeerValue}
+use Rattle.repl_peer.specs.logs.Logs.{source_log, target_log}
+
+-- the replication of the chosen documents from one peer's database into another's
+abbrev pub rep_between : PeerValue → PeerValue → Choice → RepId
+rep_between source target chosen = record { source = source.db.uuid; target = target.db.uuid; chosen = chosen }
+
+-- the common checkpoint of the two logs
+abbrev pub checkpoint_between : PeerValue → PeerValue → RepId → Option (SessionId × ℕ)
+checkpoint_between source target rep = common (source_log source rep) (target_log target rep)

@@ -1,0 +1,62 @@
+-- Earlier copies of peers, and putting them back: docs/PROFILE.md, "Backup and restore".
+use Rattle.std.specs.Prelude.{ℕ, ◌+◌, ◌==◌, max, Bool, true, false, nat_lt, List, [], ◌∷◌, Result, Ok, Err, if◌then◌else◌}
+use Rattle.couch_base.specs.Database.{DatabaseValue, in_life, most}
+use Rattle.repl_log.specs.declared.replication.RepId.{RepId}
+use Rattle.repl_log.specs.Entry.{EntryValue}
+use Rattle.repl_peer.specs.peer.Peer.{PeerValue, SessionValue, WrittenValue}
+use Rattle.repl_peer.specs.peer.Origins.{HasOrigins}
+use Rattle.repl_peer.specs.declared.fault.TargetFault.{TargetFault}
+use Rattle.repl_peer.specs.declared.fault.TargetFault.TheVariants as faults
+
+-- a copy of what a peer without incoming sessions holds
+pub record BackupValue : Type 0 where
+  pub db : DatabaseValue
+  pub locals : List WrittenValue
+  pub outgoing : List (RepId × List EntryValue)
+
+-- the peer that a copy is of
+abbrev pub peer_of : BackupValue → PeerValue
+peer_of b = record { db = b.db; locals = b.locals; sessions = []; outgoing = b.outgoing }
+
+-- what holds of every copy: each revision comes from a local write
+abbrev pub IsBackup : BackupValue → Type 0
+IsBackup b = HasOrigins (peer_of b)
+
+-- whether something was replicated into a peer
+abbrev pub is_target : List SessionValue → Bool
+is_target [] = false
+is_target (s ∷ sessions) = true
+
+-- ---- making one
+
+abbrev pub copy_of : PeerValue → BackupValue
+copy_of p = record { db = p.db; locals = p.locals; outgoing = p.outgoing }
+
+abbrev pub backup_answer : PeerValue → Result BackupValue TargetFault
+backup_answer p = if is_target p.sessions then Err faults.IsTarget else Ok (copy_of p)
+
+-- ---- putting one back
+
+-- the life before, and that of the copy
+abbrev pub greater_life : PeerValue → BackupValue → ℕ
+greater_life p b = max p.db.life b.db.life
+
+-- a target isn't put back, nor another database's copy, nor behind the last life
+abbrev pub restore_answer : PeerValue → BackupValue → Result (Unit {0}) TargetFault
+restore_answer p b =
+    if is_target p.sessions then Err faults.IsTarget
+    else (if b.db.uuid == p.db.uuid
+    then (if nat_lt (greater_life p b) most then Ok tt else Err faults.LifeFull)
+    else Err faults.ForeignBackup)
+
+-- the copy's contents, in a life above both
+abbrev pub restored : PeerValue → BackupValue → PeerValue
+restored p b =
+    record p { db = in_life b.db (greater_life p b + 1); locals = b.locals; outgoing = b.outgoing }
+
+abbrev pub restored_by : PeerValue → BackupValue → Result (Unit {0}) TargetFault → PeerValue
+restored_by p b (Ok done) = restored p b
+restored_by p b (Err fault) = p
+
+abbrev pub after_restore : PeerValue → BackupValue → PeerValue
+after_restore p b = restored_by p b (restore_answer p b)

@@ -1,0 +1,25 @@
+-- Peers at two moments: nothing that covers is lost.
+use Rattle.std.specs.Prelude.{◌≡◌, ℕ, ◌≤◌, Some, slice_get}
+use Rattle.couch_base.specs.Lists.{Among}
+use Rattle.couch_base.specs.WriteLaws.{IsLater}
+use Rattle.couch_base.specs.Feed.{WindowValue}
+use Rattle.repl_peer.specs.peer.Peer.{PeerValue, SessionValue, WrittenValue, RefusedValue}
+
+-- a session keeps what it began with; its windows, its arrivals, its ledger and its recorded sequence only grow
+pub record Keeps (old new : SessionValue) : Type 0 where
+  pub id : new.id ≡ old.id
+  pub rep : new.rep ≡ old.rep
+  pub life : new.life ≡ old.life
+  pub base : new.base ≡ old.base
+  pub goal : new.goal ≡ old.goal
+  pub start : new.front.start ≡ old.front.start
+  pub recorded : old.recorded ≤ new.recorded
+  pub windows : (w : WindowValue) → Among w old.windows → Among w new.windows
+  pub arrivals : (a : WrittenValue) → Among a old.arrivals → Among a new.arrivals
+  pub ledger : (x : RefusedValue) → Among x old.ledger → Among x new.ledger
+
+-- a peer after some calls: its database is a later one, its local writes keep their numbers, and each session is there
+pub record IsLaterPeer (old new : PeerValue) : Type 0 where
+  pub db : IsLater old.db new.db
+  pub locals : (n : ℕ) (x : WrittenValue) → slice_get old.locals n ≡ Some x → slice_get new.locals n ≡ Some x
+  pub sessions : (s : SessionValue) → Among s old.sessions → (t : SessionValue) × Among t new.sessions × Keeps s t

@@ -1,0 +1,70 @@
+-- What every peer keeps: docs/PROFILE.md, "The peer's law".
+use Rattle.std.specs.Prelude.{◌≡◌, ◌⊎◌, ℕ, ◌≤◌, Bool, true, List, [], ◌∷◌, map, length, Some, None, nat_eq}
+use Rattle.std.specs.List.{IsDistinct, AllByRecursion}
+use Rattle.rev_core.specs.Rev.{RevId}
+use Rattle.rev_core.specs.Ancestry.{is_among}
+use Rattle.rev_tree.specs.Tree.{has}
+use Rattle.doc_json.specs.Document.{Document}
+use Rattle.couch_base.specs.Lists.{Among}
+use Rattle.couch_base.specs.Database.{tree_of}
+use Rattle.couch_base.specs.Feed.{WindowValue, IsWindow}
+use Rattle.range_front.specs.Front.{IsFront, bounds, end_of, is_done, low_water}
+use Rattle.repl_log.specs.Counts.{AddUp}
+use Rattle.repl_peer.specs.peer.Peer.{PeerValue, SessionValue, WrittenValue, RefusedValue}
+use Rattle.repl_peer.specs.peer.Covered.{rightly_refused, CoversWindow}
+use Rattle.repl_peer.specs.peer.Origins.{HasOrigins}
+
+abbrev pub window_bounds : List WindowValue → List (ℕ × ℕ)
+window_bounds ws = map (λ w. (w.lo, w.hi)) ws
+
+-- what holds of a session alone
+pub record IsSession (s : SessionValue) : Type 0 where
+  pub front : IsFront s.front
+  pub bounds : window_bounds s.windows ≡ bounds s.front
+  pub start : s.front.start ≤ s.recorded
+  pub read : AddUp s.counts
+
+pub record LawfulSession (refuses : Document → Bool) (p : PeerValue) (s : SessionValue) : Type 0 where
+  -- the windows are consecutive from the start, inside the goal, with rows rising; the done ones are of them
+  pub front : IsFront s.front
+  pub bounds : window_bounds s.windows ≡ bounds s.front
+  pub within : end_of s.front ≤ s.goal
+  pub windows : AllByRecursion IsWindow s.windows
+  -- each leaf in the rows of a done window is covered
+  pub done : (w : WindowValue) → Among w s.windows → is_done s.front w.lo w.hi ≡ true → CoversWindow p w
+  -- what is recorded is within the low water
+  pub start : s.front.start ≤ s.recorded
+  pub recorded : s.recorded ≤ low_water s.front
+  -- each document of the ledger is rightly refused
+  pub ledger : (x : RefusedValue) → Among x s.ledger → rightly_refused refuses p.db x.doc ≡ true
+  -- each arrival stands in its document's tree
+  pub arrivals : (a : WrittenValue) → Among a s.arrivals → (r : RevId) → is_among r a.ancestry ≡ true
+      → has (tree_of p.db.docs a.id) r ≡ true
+  -- the counts add up
+  pub written : s.counts.written ≡ length s.arrivals
+  pub failures : s.counts.failures ≡ length s.ledger
+  pub read : AddUp s.counts
+
+-- a session starts at 0, or at most at what an earlier one of the same replication has recorded
+abbrev pub IsBased : List SessionValue → SessionValue → Type 0
+IsBased earlier s =
+    (s.base ≡ None) × (s.front.start ≡ 0)
+    ⊎ (b : SessionValue) × Among b earlier × (s.base ≡ Some b.id) × (s.rep ≡ b.rep) × (s.front.start ≤ b.recorded)
+
+abbrev pub AllBased : List SessionValue → Type 0
+AllBased [] = Unit {0}
+AllBased (s ∷ earlier) = IsBased earlier s × AllBased earlier
+
+abbrev pub session_numbers : List SessionValue → List ℕ
+session_numbers sessions = map (λ s. s.id.0) sessions
+
+-- what holds of the sessions of every peer
+pub record LawfulSessions (refuses : Document → Bool) (p : PeerValue) : Type 0 where
+  pub sessions : (s : SessionValue) → Among s p.sessions → LawfulSession refuses p s
+  pub based : AllBased p.sessions
+  pub distinct : IsDistinct nat_eq (session_numbers p.sessions)
+
+-- what holds of every peer: the laws of its sessions, and that each of its revisions has an origin
+pub record Lawful (refuses : Document → Bool) (p : PeerValue) : Type 0 where
+  pub sessions : LawfulSessions refuses p
+  pub origins : HasOrigins p

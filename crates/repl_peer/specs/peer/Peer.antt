@@ -1,0 +1,107 @@
+-- Peers and their sessions: docs/PROFILE.md, "Sessions of a peer".
+--
+-- A peer is a database with what replication must remember beside it. A target holds a session for each replication
+-- into it that ever began: the windows of the source's changes feed that were stored for it, which of them are done,
+-- and of each document that came whether it was taken (an arrival) or refused (a row of the ledger). So what a session
+-- may claim as carried can be held against what stands there. A source holds a log for each replication out of it: what
+-- the target said, session by session, that it had recorded. The common checkpoint of a later replication is read from
+-- both. Local writes are noted too, so that of each revision of a tree it can be said where it came from.
+use Rattle.std.specs.Prelude.{ℕ, ◌==◌, Bool, ◌&&◌, nat_le, nat_eq, if◌then◌else◌, List, [], map, Option, Result, Ok, Err}
+use Rattle.std.specs.Option.{option_eq}
+use Rattle.std.specs.Cmp.Lexicographic.{pointwise}
+use Rattle.std.specs.List.{find, list_any}
+use Rattle.rev_core.specs.Rev.{RevId}
+use Rattle.rev_tree.specs.declared.origin.SessionId.{SessionId}
+use Rattle.doc_json.specs.Document.{Document}
+use Rattle.couch_base.specs.Database.{Id, DatabaseValue, no_documents_at, most}
+use Rattle.couch_base.specs.Feed.{WindowValue}
+use Rattle.couch_base.specs.declared.fault.BaseFault.{BaseFault}
+use Rattle.couch_base.specs.declared.fault.BaseFault.TheVariants as base_faults
+use Rattle.range_front.specs.Front.{FrontValue}
+use Rattle.repl_log.specs.declared.replication.RepId.{RepId}
+use Rattle.repl_log.specs.Entry.{EntryValue}
+use Rattle.repl_log.specs.declared.counts.Counts.{Counts}
+use Rattle.repl_peer.specs.declared.fault.Reason.{Reason}
+
+-- revisions of a document that were written: those of a local write, or the ancestry of an arrival
+pub record WrittenValue : Type 0 where
+  pub id : Id
+  pub ancestry : List RevId
+
+-- a document that was refused, and why
+pub record RefusedValue : Type 0 where
+  pub doc : Document
+  pub reason : Reason
+
+-- an incoming session: what it began with, the life of the source among it; its windows, and which of them are done,
+-- from its start on; the documents that were taken and those that were refused; the counts of leaves checked and found
+-- missing, and of documents read, written and refused; and when it began and last recorded
+pub record SessionValue : Type 0 where
+  pub id : SessionId
+  pub rep : RepId
+  pub life : ℕ
+  pub base : Option SessionId
+  pub goal : ℕ
+  pub front : FrontValue
+  pub windows : List WindowValue
+  pub recorded : ℕ
+  pub arrivals : List WrittenValue
+  pub ledger : List RefusedValue
+  pub counts : Counts
+  pub start_time : ℕ
+  pub end_time : ℕ
+
+-- a database, its local writes, its incoming sessions newest first, and its outgoing logs, each newest first
+pub record PeerValue : Type 0 where
+  pub db : DatabaseValue
+  pub locals : List WrittenValue
+  pub sessions : List SessionValue
+  pub outgoing : List (RepId × List EntryValue)
+
+-- a peer as it begins, with a database of no documents at a sequence
+abbrev pub new_peer_at : ℕ → ℕ → PeerValue
+new_peer_at uuid seq = record { db = no_documents_at uuid seq; locals = []; sessions = []; outgoing = [] }
+
+-- a new one has no change behind it
+abbrev pub new_peer : ℕ → PeerValue
+new_peer uuid = new_peer_at uuid 0
+
+-- there is one with its filter at each sequence
+abbrev pub new_at_answer : {F : Type 0} → F → ℕ → ℕ → Result (F × PeerValue) BaseFault
+new_at_answer filter uuid seq =
+    if nat_le seq most then Ok (filter, new_peer_at uuid seq) else Err base_faults.SeqTooLarge
+
+abbrev pub written_of : Document → WrittenValue
+written_of d = record { id = d.id; ancestry = d.ancestry }
+
+-- ---- sessions
+
+abbrev pub is_of : SessionId → SessionValue → Bool
+is_of id s = s.id.0 == id.0
+
+-- the session of an id, where the peer holds it
+abbrev pub session_in : List SessionValue → SessionId → Option SessionValue
+session_in sessions id = find (is_of id) sessions
+
+abbrev pub holds : List SessionValue → SessionId → Bool
+holds sessions id = list_any (is_of id) sessions
+
+-- the session stands in the place of the one of its id
+abbrev pub with_session : List SessionValue → SessionValue → List SessionValue
+with_session sessions t = map (λ s. if is_of t.id s then t else s) sessions
+
+abbrev pub same_rep : RepId → RepId → Bool
+same_rep a b =
+    (a.source == b.source) && ((a.target == b.target) && option_eq (pointwise (pointwise nat_eq)) a.chosen b.chosen)
+
+-- what a log says of a session
+abbrev pub entry_of : SessionValue → EntryValue
+entry_of s = record {
+  session = s.id;
+  life = s.life;
+  start = s.front.start;
+  recorded = s.recorded;
+  start_time = s.start_time;
+  end_time = s.end_time;
+  counts = s.counts;
+}

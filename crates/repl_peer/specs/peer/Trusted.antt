@@ -1,0 +1,36 @@
+-- What may be trusted of a peer: docs/PROFILE.md, "The peer's law".
+use Rattle.std.specs.Prelude.{◌≡◌, ◌⊎◌, ◌≤◌, Bool, true}
+use Rattle.rev_core.specs.Rev.{RevId}
+use Rattle.rev_core.specs.Ancestry.{is_among}
+use Rattle.rev_tree.specs.Tree.{has}
+use Rattle.doc_json.specs.Document.{Document}
+use Rattle.couch_base.specs.Lists.{Among}
+use Rattle.couch_base.specs.Database.{Id, tree_of}
+use Rattle.couch_base.specs.Feed.{RowValue, WindowValue}
+use Rattle.repl_log.specs.Counts.{AddUp}
+use Rattle.repl_peer.specs.peer.Peer.{PeerValue, SessionValue, RefusedValue}
+use Rattle.repl_peer.specs.peer.Covered.{rightly_refused}
+use Rattle.repl_peer.specs.peer.Origins.{HasOrigins}
+
+-- a ledger has a document of this id, rightly refused, whose ancestry holds the revision
+pub record IsRightlyRefused (refuses : Document → Bool) (p : PeerValue) (id : Id) (r : RevId) : Type 0 where
+  pub by : SessionValue
+  pub held : Among by p.sessions
+  pub refused : RefusedValue
+  pub stored : Among refused by.ledger
+  pub of : refused.doc.id ≡ id
+  pub holds : is_among r refused.doc.ancestry ≡ true
+  pub rightly : rightly_refused refuses p.db refused.doc ≡ true
+
+-- a revision is in its document's tree, or was rightly refused
+abbrev pub IsAccounted : (Document → Bool) → PeerValue → Id → RevId → Type 0
+IsAccounted refuses p id r = (has (tree_of p.db.docs id) r ≡ true) ⊎ IsRightlyRefused refuses p id r
+
+-- every leaf that a session's stored rows name at or under what it has recorded stands or was rightly refused; every
+-- revision comes from a stored row's change or a local write; documents read are documents written and those refused
+pub record IsTrusted (refuses : Document → Bool) (p : PeerValue) : Type 0 where
+  pub recorded : (s : SessionValue) → Among s p.sessions → (w : WindowValue) → Among w s.windows → (row : RowValue)
+      → Among row w.rows → row.seq ≤ s.recorded → (leaf : RevId) → Among leaf row.leaves
+      → IsAccounted refuses p row.id leaf
+  pub origins : HasOrigins p
+  pub counts : (s : SessionValue) → Among s p.sessions → AddUp s.counts

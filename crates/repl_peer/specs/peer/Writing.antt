@@ -1,0 +1,30 @@
+-- Local writes of a peer: docs/PROFILE.md, "Local writes".
+use Rattle.std.specs.Prelude.{ℕ, Bool, List, [], ◌∷◌, ◌++◌, length, Option, Result, Ok, Err, if◌then◌else◌}
+use Rattle.rev_core.specs.Rev.{RevId}
+use Rattle.rev_tree.specs.declared.origin.Origin.{Origin}
+use Rattle.rev_tree.specs.declared.origin.Origin.TheVariants.{Local}
+use Rattle.doc_json.specs.Document.{Document}
+use Rattle.couch_base.specs.Database.{Id}
+use Rattle.couch_base.specs.Put.{put_answer, after_put, is_changed}
+use Rattle.couch_base.specs.Edit.{edited, edit_document}
+use Rattle.couch_base.specs.declared.fault.BaseFault.{BaseFault}
+use Rattle.repl_peer.specs.peer.Peer.{PeerValue, written_of}
+
+-- the number of the next local write, as the origin of what it brings
+abbrev pub next_local : PeerValue → Origin
+next_local p = Local (length p.locals)
+
+-- a put of the user's own: where it changes the database, it is stored as the next local write
+abbrev pub after_load : PeerValue → Document → PeerValue
+after_load p d = record p {
+  db = after_put p.db d (next_local p);
+  locals = if is_changed (put_answer p.db d) then p.locals ++ written_of d ∷ [] else p.locals;
+}
+
+-- an edit is the put of what it brings: the new revision, and the one that it stands on
+abbrev pub load_edited : PeerValue → Id → Bool → List ℕ → Result (RevId × Option RevId) BaseFault → PeerValue
+load_edited p id deleted body (Ok e) = after_load p (edit_document id e deleted body)
+load_edited p id deleted body (Err fault) = p
+
+abbrev pub after_edit : PeerValue → Id → Option RevId → Bool → List ℕ → PeerValue
+after_edit p id parent deleted body = load_edited p id deleted body (edited p.db id parent deleted body)

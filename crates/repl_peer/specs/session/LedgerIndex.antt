@@ -1,0 +1,13 @@
+-- The index of ledgered revisions: those in the ancestries of ledgered documents.
+use Rattle.std.specs.Prelude.{Bool, false}
+use Rattle.std.specs.Map.{lookup}
+use Rattle.std.specs.Option.{option_map_or}
+use Rattle.std.specs.Str.{bytes_eq}
+use Rattle.rev_core.specs.Rev.{RevId}
+use Rattle.rev_core.specs.Ancestry.{is_among}
+use Rattle.couch_base.specs.Database.{Id}
+use Rattle.repl_peer.specs.declared.session.ledger_index.LedgerIndex.{LedgerIndex}
+
+-- whether the index has a revision of a document
+abbrev pub is_ledgered : LedgerIndex → Id → RevId → Bool
+is_ledgered index id r = option_map_or (λ revs. is_among r revs.keys) (lookup (bytes_eq id) index.docs.entries) false

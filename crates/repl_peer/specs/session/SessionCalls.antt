@@ -1,0 +1,52 @@
+-- Calls on a peer's sessions alone.
+use Rattle.std.specs.Prelude.{Bool, ℕ, List, Option, Some, None, Result, Ok, Err, if◌then◌else◌}
+use Rattle.std.specs.List.{list_any}
+use Rattle.rev_core.specs.Rev.{RevId}
+use Rattle.rev_tree.specs.declared.origin.SessionId.{SessionId}
+use Rattle.repl_log.specs.declared.replication.RepId.{RepId}
+use Rattle.repl_log.specs.declared.entry.Entry.{Entry}
+use Rattle.repl_log.specs.Entry.{EntryValue, value_of}
+use Rattle.couch_base.specs.Database.{Id}
+use Rattle.repl_peer.specs.peer.Peer.{SessionValue, session_in, holds, with_session}
+use Rattle.repl_peer.specs.peer.Covered.{in_ledger}
+use Rattle.repl_peer.specs.session.Sessions.{found_answer, base_in, base_answer, goal_answer}
+use Rattle.repl_peer.specs.declared.session.beginning.Beginning.{Beginning}
+use Rattle.repl_peer.specs.declared.fault.TargetFault.{TargetFault}
+use Rattle.repl_peer.specs.declared.fault.TargetFault.TheVariants as faults
+
+-- the sessions after a change of one of them, where it is there
+abbrev pub changed : (SessionValue → SessionValue) → List SessionValue → Option SessionValue → List SessionValue
+changed change sessions None = sessions
+changed change sessions (Some s) = with_session sessions (change s)
+
+abbrev pub with_changed : List SessionValue → SessionId → (SessionValue → SessionValue) → List SessionValue
+with_changed sessions id change = changed change sessions (session_in sessions id)
+
+-- an answer that a session gives
+abbrev pub answer_in : {A : Type 0} → List SessionValue → SessionId → (SessionValue → Result A TargetFault)
+    → Result A TargetFault
+answer_in sessions id answer = found_answer answer (session_in sessions id)
+
+-- what beginning a session answers where memory is left
+abbrev pub begin_in : List SessionValue → SessionId → Beginning → Result (Unit {0}) TargetFault
+begin_in sessions id b =
+    if holds sessions id then Err faults.SessionExists
+    else goal_answer b.start b.goal (base_answer sessions b.rep b.base b.start)
+
+-- what a base has recorded, 0 where there is none
+abbrev pub recorded_of : Option SessionValue → Result ℕ TargetFault
+recorded_of None = Err faults.NoSuchBase
+recorded_of (Some s) = Ok s.recorded
+
+abbrev pub recorded_by : List SessionValue → RepId → Option SessionId → Result ℕ TargetFault
+recorded_by sessions rep None = Ok 0
+recorded_by sessions rep (Some base) = recorded_of (base_in sessions rep base)
+
+-- whether a ledger has a revision of a document
+abbrev pub in_ledgers : List SessionValue → Id → RevId → Bool
+in_ledgers sessions id r = list_any (λ s. in_ledger s.ledger id r) sessions
+
+-- an answer with the numbers of its entry
+abbrev pub entry_value : Result Entry TargetFault → Result EntryValue TargetFault
+entry_value (Ok e) = Ok (value_of e)
+entry_value (Err fault) = Err fault

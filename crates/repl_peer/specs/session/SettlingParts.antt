@@ -1,0 +1,165 @@
+-- Settling over the parts of a peer: a database, one session and the index of refused revisions.
+use Rattle.std.specs.Prelude.{◌≡◌, ℕ, ◌<◌, ◌≤◌, ◌==◌, Bool, true, false, ◌&&◌, ◌||◌, if◌then◌else◌, List, [], ◌∷◌, ◌++◌, length, take, drop, slice_get, Option, Some, None, Result, Ok, Err}
+use Rattle.std.specs.List.{find}
+use Rattle.std.specs.Str.{bytes_eq}
+use Rattle.rev_core.specs.Rev.{RevId}
+use Rattle.rev_core.specs.Ancestry.{is_among}
+use Rattle.rev_tree.specs.Tree.{has}
+use Rattle.rev_tree.specs.declared.origin.Origin.{Origin}
+use Rattle.doc_json.specs.Document.{Document}
+use Rattle.couch_base.specs.Database.{Id, DatabaseValue, tree_of}
+use Rattle.couch_base.specs.Feed.{RowValue, WindowValue}
+use Rattle.couch_base.specs.Messages.{ParcelValue}
+use Rattle.couch_base.specs.Put.{put_answer, after_put}
+use Rattle.range_front.specs.Front.{finished}
+use Rattle.repl_peer.specs.peer.Peer.{PeerValue, SessionValue, RefusedValue}
+use Rattle.repl_peer.specs.peer.Covered.{in_ledger, first_unknown}
+use Rattle.repl_peer.specs.session.LedgerIndex.{is_ledgered}
+use Rattle.repl_peer.specs.session.Settling.{Settling, is_full, with_refused, with_arrival, fed, Halts, stops_in, stops_at, settle_one, leaf_count, asked_count, settle_docs, settled_before, settle_at, window_in, with_done, with_checked, GrownBy}
+use Rattle.repl_peer.specs.declared.fault.Cause.{Cause}
+use Rattle.repl_peer.specs.declared.fault.Cause.TheVariants as causes
+use Rattle.repl_peer.specs.declared.fault.Reason.{Reason}
+use Rattle.repl_peer.specs.declared.fault.Settled.{Settled}
+use Rattle.repl_peer.specs.declared.fault.TargetFault.{TargetFault}
+use Rattle.repl_peer.specs.declared.fault.TargetFault.TheVariants as faults
+use Rattle.repl_peer.specs.declared.session.ledger_index.LedgerIndex.{LedgerIndex}
+
+-- a revision is in its document's tree, or refused
+abbrev pub known_of : DatabaseValue → LedgerIndex → Id → RevId → Bool
+known_of db index id r = has (tree_of db.docs id) r || is_ledgered index id r
+
+-- an index has what an earlier one had, and the revisions of the documents of a ledger
+abbrev pub IndexesMore : LedgerIndex → List RefusedValue → LedgerIndex → Type 0
+IndexesMore old ledger new =
+    (id : Id) (r : RevId) → is_ledgered new id r ≡ (is_ledgered old id r || in_ledger ledger id r)
+
+-- a place has a row of an id
+abbrev pub IsRowOf : List RowValue → Id → ℕ → Type 0
+IsRowOf rows id i = (row : RowValue) × (slice_get rows i ≡ Some row) × (bytes_eq row.id id ≡ true)
+
+-- windows one behind the other
+abbrev pub Consecutive : ℕ → List WindowValue → Type 0
+Consecutive lo [] = Unit {0}
+Consecutive lo (w ∷ ws) = (w.lo ≡ lo) × (lo < w.hi) × Consecutive w.hi ws
+
+-- a place has the stored window of some bounds
+pub record IsWindowAt (ws : List WindowValue) (lo hi i : ℕ) : Type 0 where
+  pub window : WindowValue
+  pub at : slice_get ws i ≡ Some window
+  pub first : find (λ w. (w.lo == lo) && (w.hi == hi)) ws ≡ Some window
+
+-- ---- one document
+
+-- a document that is taken: the database has it, and nothing more is refused
+pub record Accepts (d : Document) (o : Origin) (before after : DatabaseValue) (old new : LedgerIndex) : Type 0 where
+  pub room : is_full (put_answer before d) ≡ false
+  pub db : after ≡ after_put before d o
+  pub index : (id : Id) (r : RevId) → is_ledgered new id r ≡ is_ledgered old id r
+
+-- a document that is refused: the database stays, and its revisions are refused
+pub record Rejects (d : Document) (before after : DatabaseValue) (old new : LedgerIndex) : Type 0 where
+  pub db : after ≡ before
+  pub index : (id : Id) (r : RevId)
+      → is_ledgered new id r ≡ (is_ledgered old id r || (bytes_eq d.id id && is_among r d.ancestry))
+
+-- the session with it
+abbrev pub entered : Document → Option Reason → SessionValue → SessionValue
+entered d None s = with_arrival d s
+entered d (Some reason) s = with_refused d reason s
+
+abbrev pub settling_at : DatabaseValue → SessionValue → Settling
+settling_at db session = record { db = db; session = session }
+
+-- a document that comes from an origin is settled
+pub record Steps (refuses : Document → Bool) (o : Origin) (d : Document) (before after : Settling) : Type 0 where
+  pub goes : stops_at refuses before d ≡ false
+  pub step : (w : WindowValue) → o ≡ fed w before.session.id d → after ≡ settle_one refuses w before d
+
+-- why a document stops, where it does: it finds no sequence, or memory was refused
+abbrev pub cause_at : Bool → Cause
+cause_at full = if full then causes.SeqFull else causes.Memory
+
+-- the last of some documents stops
+pub record Stuck (refuses : Document → Bool) (all : List Document) (before : DatabaseValue) (cause : Cause) : Type 0
+  where
+    pub others : List Document
+    pub last : Document
+    pub split : all ≡ others ++ last ∷ []
+    pub why : cause ≡ cause_at (stops_in refuses before last)
+
+-- ---- the documents of a parcel
+
+-- the first n of some documents are settled, and the others are left
+pub record Reached (refuses : Document → Bool) (w : WindowValue) (before : Settling) (docs : List Document) (n : ℕ)
+    (others : List Document) (after : Settling) : Type 0 where
+  pub within : n ≤ settled_before refuses w before docs
+  pub rest : others ≡ drop n docs
+  pub settling : after ≡ settle_docs refuses w before (take n docs)
+
+-- all of them are
+pub record ReachedAll (refuses : Document → Bool) (w : WindowValue) (before : Settling) (docs : List Document)
+    (after : Settling) : Type 0 where
+  pub all : settled_before refuses w before docs ≡ length docs
+  pub settling : after ≡ settle_docs refuses w before docs
+
+-- and the window is marked
+abbrev pub with_mark : WindowValue → ParcelValue → Settling → Settling
+with_mark w parcel z = record z { session = with_done w parcel z.session }
+
+pub record SettlesAndMarks (refuses : Document → Bool) (known : Id → RevId → Bool) (w : WindowValue) (before : Settling)
+    (parcel : ParcelValue) (settled : Settled) (after : Settling) : Type 0 where
+  pub all : settled_before refuses w before parcel.docs ≡ length parcel.docs
+  pub settling : after ≡ with_mark w parcel (settle_docs refuses w before parcel.docs)
+  pub covered : first_unknown known w.rows ≡ None
+  pub counts : GrownBy (settle_docs refuses w before parcel.docs).session.counts before.session.counts settled
+
+-- ---- the parcel
+
+-- what a check finds: the place of the window, and the counts of its leaves and of what is asked for
+pub record Passes (s : SessionValue) (parcel : ParcelValue) (place leaves asked : ℕ) : Type 0 where
+  pub window : WindowValue
+  pub at : slice_get s.windows place ≡ Some window
+  pub answer : settle_at s parcel (window_in s parcel.asked.lo parcel.asked.hi) ≡ Ok (s, window)
+  pub leaf_count : leaves ≡ leaf_count window
+  pub asked_count : asked ≡ asked_count parcel.asked
+
+-- what the end of settling answers: the window is marked where each leaf of its rows is known
+abbrev pub Marks : (Id → RevId → Bool) → WindowValue → SessionValue → ℕ → ℕ → ℕ → Result (Unit {0}) TargetFault
+    → SessionValue → Type 0
+Marks known w s leaves asked n (Ok done) t =
+    (first_unknown known w.rows ≡ None)
+    × (t ≡ record s { front = finished s.front w.lo w.hi; counts = with_checked s.counts leaves asked })
+Marks known w s leaves asked n (Err (faults.Uncovered seq id rev)) t =
+    (first_unknown known w.rows ≡ Some (record { seq = seq; id = id; rev = rev })) × (t ≡ s)
+Marks known w s leaves asked n (Err (faults.Stopped m rest causes.Memory)) t = (m ≡ n) × (rest.items ≡ []) × (t ≡ s)
+Marks known w s leaves asked n (Err fault) t = ⊥
+
+-- what settling answers after its check, and what it leaves
+abbrev pub PartsSettled : (Document → Bool) → (Id → RevId → Bool) → WindowValue → Settling → ParcelValue
+    → Result Settled TargetFault → Settling → Type 0
+PartsSettled refuses known w before parcel (Ok settled) after = SettlesAndMarks refuses known w before parcel settled after
+PartsSettled refuses known w before parcel (Err (faults.Uncovered seq id rev)) after =
+    ReachedAll refuses w before parcel.docs after
+    × (first_unknown known w.rows ≡ Some (record { seq = seq; id = id; rev = rev }))
+PartsSettled refuses known w before parcel (Err (faults.Stopped n rest cause)) after =
+    Reached refuses w before parcel.docs n rest.items after × Halts refuses w before parcel.docs n cause
+PartsSettled refuses known w before parcel (Err fault) after = ⊥
+
+-- what settling answers, and what it leaves
+abbrev pub PartsSettle : (Document → Bool) → (Id → RevId → Bool) → Settling → ParcelValue
+    → Result (SessionValue × WindowValue) TargetFault → Result Settled TargetFault → Settling → Type 0
+PartsSettle refuses known before parcel (Ok at) result after =
+    PartsSettled refuses known at.1 before parcel result after
+PartsSettle refuses known before parcel (Err fault) result after = (result ≡ Err fault) × (after ≡ before)
+
+abbrev pub PartsGive : (Document → Bool) → (Id → RevId → Bool) → Settling → ParcelValue → Result Settled TargetFault
+    → Settling → Type 0
+PartsGive refuses known before parcel result after =
+    PartsSettle refuses known before parcel
+    (settle_at before.session parcel (window_in before.session parcel.asked.lo parcel.asked.hi)) result after
+
+-- ---- the table of sessions
+
+-- the peer with another database and other sessions
+abbrev pub with_parts : PeerValue → DatabaseValue → List SessionValue → PeerValue
+with_parts p db sessions = record p { db = db; sessions = sessions }

@@ -1,0 +1,18 @@
+//! What stands behind a lock: a database with the sessions that were replicated into it.
+//!
+//! The rules stand in docs/PROFILE.md: "Sessions of a peer", "Settling" and "Replication ids and logs".
+#![tactic(auto)]
+
+mod fault;
+mod logs;
+mod peer;
+mod session;
+
+pub use fault::{Cause, Reason, Report, Settled, TargetFault};
+pub use logs::{checkpoint, rep_between};
+pub use peer::Peer;
+pub use peer::backup::Backup;
+pub use peer::filter::{Rules, Verdict, WriteFilter};
+pub use peer::written::Written;
+pub use session::beginning::Beginning;
+pub use session::refused::Refused;

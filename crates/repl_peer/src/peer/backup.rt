@@ -1,0 +1,131 @@
+//! Earlier copies of a peer, and putting them back.
+ghost use Rattle.std.specs.Prelude.{◌≡◌, ◌+◌, ◌≤◌, false, Ok, Err, IfOk, IfErr, OnOk, OnErr};
+ghost use Rattle.couch_base.specs.Database.{most};
+ghost use Rattle.repl_peer.specs.peer.Law.{Lawful};
+ghost use Rattle.repl_peer.specs.session.Sessions.{GivesUnlessMemory};
+ghost use Rattle.repl_peer.specs.peer.Backups.{is_target, backup_answer, greater_life, restore_answer, after_restore};
+
+use crate::fault::TargetFault;
+use crate::logs::{Logs, copy_logs};
+use crate::peer::Peer;
+use crate::peer::filter::WriteFilter;
+use crate::peer::written::{Written, copy_writes};
+use couch_base::{Database, MOST_SEQUENCE};
+use std::alloc::Global;
+use std::marker::Model;
+
+/// A copy of what a peer holds into which nothing was replicated: its database, its local writes, and its outgoing logs.
+pub struct Backup {
+    pub(crate) db: Database,
+    pub(crate) locals: Vec<Written>,
+    pub(crate) outgoing: Logs,
+}
+
+// By hand, so that it is proved once: docs/DECISIONS.md, "Letting values go".
+impl Drop for Backup {
+    fn drop(self) {
+        let Backup {
+            db: _,
+            locals: _,
+            outgoing: _,
+        } = self;
+    }
+}
+
+impl Model for Backup {
+    ghost use Rattle.repl_peer.specs.peer.Backups.{BackupValue};
+    ghost use Rattle.repl_peer.specs.peer.PeerCode.{coded_backup};
+
+    ghost Value = { BackupValue };
+
+    ghost coded = { coded_backup };
+
+    ghost use Rattle.repl_peer.specs.peer.Backups.{IsBackup};
+
+    ghost view = { λ b. record { db = b.db; locals = b.locals.items; outgoing = b.outgoing.entries } };
+
+    ghost invariant = { λ b. IsBackup (record {
+      db = b.db;
+      locals = b.locals.items;
+      outgoing = b.outgoing.entries;
+    }) };
+}
+
+impl Backup {
+    ghost use Rattle.repl_peer.specs.peer.Backups.{IsBackup};
+
+    /// The database that was copied. Each of its revisions comes from a local write of the copy.
+    pub fn db(&self) -> &Database
+        ensures value { result.now ≡ self.now.db }
+        ensures backup { IsBackup self.now }
+    {
+        &self.db
+    }
+}
+
+impl<F: WriteFilter> Peer<F> {
+    /// A copy of the database, the local writes and the outgoing logs.
+    ///
+    /// `IsTarget` where something was replicated into the peer; else `Memory`.
+    pub fn backup(&self, alloc: Global) -> Result<Backup, TargetFault>
+        ensures { GivesUnlessMemory result (backup_answer self.now.1) }
+    {
+        if self.sessions.len() > 0 {
+            return Err(TargetFault::IsTarget);
+        }
+        let db = self.db.copy(alloc)?;
+        let locals = copy_writes(alloc, &self.locals)?;
+        let outgoing = copy_logs(alloc, &self.outgoing)?;
+        Ok(Backup {
+            db,
+            locals,
+            outgoing,
+        })
+    }
+
+    /// Puts the database, the local writes and the outgoing logs back to what a copy holds. The database's life is one
+    /// above its own and the copy's.
+    ///
+    /// `IsTarget` where something was replicated into the peer; else `ForeignBackup` where the copy's database has
+    /// another UUID; else `LifeFull` where no life is left; else `Memory`. A refusal changes nothing.
+    pub fn restore(&mut self, backup: &Backup) -> Result<(), TargetFault>
+        ensures answer { GivesUnlessMemory result (restore_answer self.old.1 backup.now) }
+        ensures filter { self.new.0 ≡ self.old.0 }
+        ensures ok { OnOk result (self.new.1 ≡ after_restore self.old.1 backup.now) }
+        ensures err { OnErr result (self.new.1 ≡ self.old.1) }
+        ensures law { Lawful (F.refuses self.new.0) self.new.1 }
+    {
+        let life = self.next_life(backup)?;
+        // The reading tells the proof that the copy is one.
+        let _copy = backup.db();
+        self.law();
+        let alloc = *self.outgoing.allocator();
+        let db = backup.db.copy_in(alloc, life)?;
+        let locals = copy_writes(alloc, &backup.locals)?;
+        let outgoing = copy_logs(alloc, &backup.outgoing)?;
+        self.db = db;
+        self.locals = locals;
+        self.outgoing = outgoing;
+        Ok(())
+    }
+
+    /// The life that putting a copy back begins, where that may be done.
+    fn next_life(&self, backup: &Backup) -> Result<u64, TargetFault>
+        ensures ok { OnOk result (restore_answer self.now.1 backup.now ≡ Ok tt) }
+        ensures life { IfOk result (λ life. (life ≡ greater_life self.now.1 backup.now + 1) × (life ≤ most)) }
+        ensures err { IfErr result (λ why. restore_answer self.now.1 backup.now ≡ Err why) }
+        ensures empty { OnOk result (is_target self.now.1.sessions ≡ false) }
+    {
+        if self.sessions.len() > 0 {
+            return Err(TargetFault::IsTarget);
+        }
+        if backup.db.uuid() != self.db.uuid() {
+            return Err(TargetFault::ForeignBackup);
+        }
+        let life = self.db.life().max(backup.db.life());
+        if life >= MOST_SEQUENCE {
+            return Err(TargetFault::LifeFull);
+        }
+        Ok(life + 1)
+    }
+}

@@ -1,0 +1,145 @@
+//! Local writes.
+ghost use Rattle.std.specs.Prelude.{◌≡◌, ◌<◌, None, length, OnOk, OnErr, IfOk};
+ghost use Rattle.std.specs.Vec.{vec_len, vec_capacity};
+ghost use Rattle.rev_tree.specs.declared.origin.Origin.TheVariants.{Local};
+ghost use Rattle.couch_base.specs.Database.{tree_in};
+ghost use Rattle.couch_base.specs.Put.{put_answer, after_put, PutGives};
+ghost use Rattle.couch_base.specs.Edit.{edit_answer, after_edit, EditGives};
+ghost use Rattle.repl_peer.specs.peer.Peer.{written_of};
+ghost use Rattle.repl_peer.specs.peer.Local.{with_load, with_edit, stood_on};
+
+use crate::peer::kept_rev::KeptRev;
+use crate::peer::written::Written;
+use couch_base::{BaseFault, Database, Put};
+use doc_json::{Body, Doc, DocId};
+use rev_core::Rev;
+use rev_tree::Origin;
+use std::alloc::AllocError;
+
+/// Puts a document of the user's own.
+///
+/// What the local write needs is made first, so that a refusal changes nothing. Where that finds no memory, the answer
+/// is what a put refuses, or `Same`, which need none.
+pub(crate) fn load(
+    db: &mut Database,
+    locals: &mut Vec<Written>,
+    doc: &Doc,
+) -> Result<Put, BaseFault>
+    ensures answer { PutGives result (put_answer db.old doc.now) }
+    ensures db { OnOk result (db.new ≡ after_put db.old doc.now (Local (length locals.old.items))) }
+    ensures locals { OnOk result (locals.new.items ≡ with_load db.old locals.old.items doc.now) }
+    ensures db_kept { OnErr result (db.new ≡ db.old) }
+    ensures locals_kept { OnErr result (locals.new.items ≡ locals.old.items) }
+{
+    let written = match prepare(locals, doc) {
+        Ok(written) => written,
+        Err(refused) => {
+            return match db.put_answer(doc) {
+                Ok(Put::Changed { .. }) => Err(BaseFault::from(refused)),
+                answer => answer,
+            };
+        }
+    };
+    let origin = Origin::Local(locals.len() as u64);
+    match db.put(doc, origin) {
+        Ok(Put::Changed { seq }) => {
+            locals.push(written).unwrap();
+            Ok(Put::Changed { seq })
+        }
+        answer => answer,
+    }
+}
+
+/// The local write that a put brings, and a place for it.
+fn prepare(locals: &mut Vec<Written>, doc: &Doc) -> Result<Written, AllocError>
+    ensures written { IfOk result (λ w. w ≡ written_of doc.now) }
+    ensures place { OnOk result (vec_len locals.new < vec_capacity locals.new) }
+    ensures locals { locals.new.items ≡ locals.old.items }
+{
+    let id = prepare_id(locals, doc.id())?;
+    Written::copied(*locals.allocator(), id, doc.ancestry())
+}
+
+/// The id of a document that a local write names, and a place for it.
+fn prepare_id(locals: &mut Vec<Written>, id: &DocId) -> Result<DocId, AllocError>
+    ensures copied { IfOk result (λ again. again ≡ id.now) }
+    ensures place { OnOk result (vec_len locals.new < vec_capacity locals.new) }
+    ensures locals { locals.new.items ≡ locals.old.items }
+{
+    locals.reserve(1)?;
+    id.copy(*locals.allocator())
+}
+
+/// The id of a document that an edit names, and the revision that it stands on, both to be kept, and a place for the
+/// local write.
+fn prepare_edit(
+    locals: &mut Vec<Written>,
+    id: &DocId,
+    before: Option<Rev>,
+) -> Result<(DocId, Option<KeptRev>), AllocError>
+    ensures id { IfOk result (λ made. made.0 ≡ id.now) }
+    ensures before { IfOk result (λ made. made.1 ≡ before) }
+    ensures place { OnOk result (vec_len locals.new < vec_capacity locals.new) }
+    ensures locals { locals.new.items ≡ locals.old.items }
+{
+    let again = prepare_id(locals, id)?;
+    match before {
+        Some(rev) => {
+            let kept = KeptRev::keep(*locals.allocator(), &rev)?;
+            Ok((again, Some(kept)))
+        }
+        None => Ok((again, None)),
+    }
+}
+
+/// Edits a document.
+///
+/// What the local write needs is made first, so that a refusal changes nothing. Where that finds no memory, the answer
+/// is what an edit refuses without any.
+pub(crate) fn edit(
+    db: &mut Database,
+    locals: &mut Vec<Written>,
+    id: &DocId,
+    parent: Option<Rev>,
+    deleted: bool,
+    body: &Body,
+) -> Result<Rev, BaseFault>
+    ensures answer { EditGives result (edit_answer db.old id.now parent deleted body.now) }
+    ensures db { OnOk result (db.new
+        ≡ after_edit db.old id.now parent deleted body.now (Local (length locals.old.items))) }
+    ensures locals { OnOk result (locals.new.items
+        ≡ with_edit db.old locals.old.items id.now parent deleted body.now) }
+    ensures db_kept { OnErr result (db.new ≡ db.old) }
+    ensures locals_kept { OnErr result (locals.new.items ≡ locals.old.items) }
+{
+    db.law();
+    let before = match parent {
+        Some(parent) => Some(parent),
+        None => winner(db, id),
+    };
+    let (again, below) = match prepare_edit(locals, id, before) {
+        Ok(prepared) => prepared,
+        Err(refused) => {
+            db.check_edit(id, parent)?;
+            return Err(BaseFault::from(refused));
+        }
+    };
+    let origin = Origin::Local(locals.len() as u64);
+    match db.edit(id, parent, deleted, body, origin) {
+        Ok(rev) => {
+            locals.push(Written::edit(again, rev, below)).unwrap();
+            Ok(rev)
+        }
+        Err(fault) => Err(fault),
+    }
+}
+
+/// The winner of a document that is there.
+fn winner(db: &Database, id: &DocId) -> Option<Rev>
+    ensures { result ≡ stood_on (tree_in db.now.docs id.now) None }
+{
+    match db.tree(id) {
+        Some(tree) => tree.winner(),
+        None => None,
+    }
+}

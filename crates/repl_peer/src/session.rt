@@ -1,0 +1,169 @@
+//! Incoming sessions, as they are kept.
+
+ghost use Rattle.std.specs.Prelude.{◌≡◌, ◌==◌, OnOk, OnErr, if◌then◌else◌};
+ghost use Rattle.range_front.specs.Front.{low_water};
+ghost use Rattle.repl_log.specs.Entry.{value_of};
+ghost use Rattle.repl_peer.specs.peer.Peer.{entry_of};
+ghost use Rattle.repl_peer.specs.session.Sessions.{GivesUnlessMemory, new_session, append_in, with_window, recorded_at, report_of, conclude_in};
+
+pub(crate) mod beginning;
+mod ledger_index;
+pub(crate) mod refused;
+mod rep_index;
+mod rows;
+pub(crate) mod sessions;
+mod settle;
+mod stored;
+
+use crate::fault::{Report, TargetFault};
+use crate::peer::written::Written;
+use crate::session::beginning::Beginning;
+use crate::session::refused::Refused;
+use couch_base::Window;
+use range_front::Front;
+use repl_log::{Counts, Entry, Moment, RepId};
+use rev_tree::SessionId;
+use std::alloc::Global;
+use std::marker::Model;
+
+/// An incoming session.
+#[derive(Drop)]
+pub(crate) struct Session {
+    pub(crate) id: SessionId,
+    pub(crate) rep: RepId,
+    pub(crate) life: u64,
+    pub(crate) base: Option<SessionId>,
+    pub(crate) goal: u64,
+    pub(crate) front: Front,
+    pub(crate) windows: Vec<Window>,
+    pub(crate) recorded: u64,
+    pub(crate) arrivals: Vec<Written>,
+    pub(crate) ledger: Vec<Refused>,
+    pub(crate) counts: Counts,
+    pub(crate) start_time: Moment,
+    pub(crate) end_time: Moment,
+}
+
+impl Model for Session {
+    ghost use Rattle.repl_peer.specs.peer.Peer.{SessionValue};
+    ghost use Rattle.repl_peer.specs.peer.PeerCode.{coded_session};
+
+    ghost Value = { SessionValue };
+
+    ghost coded = { coded_session };
+
+    ghost use Rattle.repl_peer.specs.peer.Law.{IsSession};
+    ghost use Rattle.repl_peer.specs.session.Stored.{session_value};
+
+    ghost view = { session_value };
+
+    ghost invariant = { λ s. IsSession (session_value s) };
+}
+
+impl Session {
+    /// A session as it begins. It grows by `alloc`.
+    pub(crate) fn new(alloc: Global, id: SessionId, beginning: Beginning, at: Moment) -> Session
+        ensures { result ≡ new_session id beginning at }
+    {
+        let Beginning {
+            rep,
+            life,
+            base,
+            start,
+            goal,
+        } = beginning;
+        Session {
+            id,
+            rep,
+            life,
+            base,
+            goal,
+            front: Front::new(alloc, start),
+            windows: Vec::new(alloc),
+            recorded: start,
+            arrivals: Vec::new(alloc),
+            ledger: Vec::new(alloc),
+            counts: Counts::none(),
+            start_time: at,
+            end_time: at,
+        }
+    }
+
+    /// Stores the next window of the feed.
+    ///
+    /// `OtherLife` where it is of another life than the session; else `Gap` where it doesn't begin where the stored ones
+    /// end; else `PastGoal` where it ends above the goal; else `Memory`. A refusal changes nothing.
+    pub(crate) fn append(&mut self, window: Window) -> Result<(), TargetFault>
+        ensures answer { GivesUnlessMemory result (append_in window self.old) }
+        ensures ok { OnOk result (self.new ≡ with_window window self.old (append_in window self.old)) }
+        ensures err { OnErr result (self.new ≡ self.old) }
+    {
+        if window.life() != self.life {
+            return Err(TargetFault::OtherLife { now: self.life });
+        }
+        let expected = self.front.end();
+        let hi = window.hi();
+        if window.lo() != expected {
+            return Err(TargetFault::Gap { expected });
+        }
+        if hi > self.goal {
+            return Err(TargetFault::PastGoal);
+        }
+        self.windows.reserve(1)?;
+        self.front.append(hi)?;
+        self.windows.push(window).unwrap();
+        Ok(())
+    }
+
+    /// Records what is done without a gap, and answers it.
+    pub(crate) fn record(&mut self, at: Moment) -> u64
+        ensures mark { result ≡ low_water self.old.front }
+        ensures session { self.new ≡ recorded_at at self.old }
+    {
+        let mark = self.front.low_water();
+        self.recorded = mark;
+        self.end_time = at;
+        mark
+    }
+
+    /// Records and reports where all is done up to the goal, else `Unfinished`, which changes nothing.
+    pub(crate) fn conclude(&mut self, at: Moment) -> Result<Report, TargetFault>
+        ensures answer { result ≡ conclude_in self.old }
+        ensures session { self.new
+            ≡ (if low_water self.old.front == self.old.goal then recorded_at at self.old else self.old) }
+    {
+        let low_water = self.front.low_water();
+        if low_water != self.goal {
+            return Err(TargetFault::Unfinished { low_water });
+        }
+        self.record(at);
+        Ok(self.report())
+    }
+
+    /// What the session did.
+    fn report(&self) -> Report
+        ensures { result ≡ report_of self.now }
+    {
+        Report {
+            session: self.id,
+            start: self.front.start(),
+            recorded: self.recorded,
+            counts: self.counts,
+        }
+    }
+
+    /// What a log says of the session.
+    pub(crate) fn entry(&self) -> Entry
+        ensures { value_of result ≡ entry_of self.now }
+    {
+        Entry {
+            session: self.id,
+            life: self.life,
+            start: self.front.start(),
+            recorded: self.recorded,
+            start_time: self.start_time,
+            end_time: self.end_time,
+            counts: self.counts,
+        }
+    }
+}

@@ -1,0 +1,138 @@
+//! The rows of a stored window.
+ghost use Rattle.std.specs.Prelude.{◌≡◌, ◌≤◌, ◌-◌, ◌^◌, ◌||◌, true, false, not, map, length, min, unwrap_or, IfSome, IfNone};
+ghost use Rattle.std.specs.List.{find, list_any, list_all, sum_by};
+ghost use Rattle.std.specs.Option.{option_map, option_copied};
+ghost use Rattle.std.specs.Str.{bytes_eq};
+ghost use Rattle.rev_tree.specs.Tree.{has, no_revisions};
+ghost use Rattle.couch_base.specs.Lists.{EachOnce};
+ghost use Rattle.repl_peer.specs.peer.Covered.{first_unknown};
+ghost use Rattle.repl_peer.specs.session.LedgerIndex.{is_ledgered};
+ghost use Rattle.repl_peer.specs.session.Settling.{seq_in};
+ghost use Rattle.repl_peer.specs.session.SettlingParts.{known_of, IsRowOf};
+
+use crate::session::ledger_index::LedgerIndex;
+use couch_base::{Database, Row, Wanted};
+use doc_json::{Doc, DocId};
+use rev_core::Rev;
+use rev_tree::Tree;
+
+/// The place of the first row of an id.
+fn row_in(rows: &[Row], id: &DocId) -> Option<usize>
+    ensures some { IfSome result (IsRowOf rows.now id.now) }
+    ensures none { IfNone result (list_any (λ row. bytes_eq row.id id.now) rows.now ≡ false) }
+{
+    for (i, row) in rows.iter().enumerate() {
+        if row.id() == id {
+            return Some(i);
+        }
+    }
+    None
+}
+
+/// The place of a row of an id, which is looked for from a place on, and then before it.
+pub(crate) fn row_from(rows: &[Row], id: &DocId, from: usize) -> Option<usize>
+    requires { from ≤ length rows.now }
+    ensures some { IfSome result (IsRowOf rows.now id.now) }
+    ensures none { IfNone result (list_any (λ row. bytes_eq row.id id.now) rows.now ≡ false) }
+{
+    match row_in(&rows[from..], id) {
+        Some(i) => Some(from + i),
+        None => row_in(&rows[..from], id),
+    }
+}
+
+/// The place and the sequence of the row of an id, which has one. It is looked for from a place on, and then before it.
+pub(crate) fn seq_from(rows: &[Row], id: &DocId, from: usize) -> (usize, u64)
+    requires within { from ≤ length rows.now }
+    requires there { list_any (λ row. bytes_eq row.id id.now) rows.now ≡ true }
+    requires distinct { EachOnce bytes_eq (map (λ row. row.id) rows.now) }
+    ensures within { result.0 ≤ length rows.now }
+    ensures seq { result.1 ≡ seq_in rows.now id.now }
+{
+    let place = row_from(rows, id, from).unwrap();
+    (place, rows[place].seq())
+}
+
+/// Whether each document has a row.
+pub(crate) fn all_have_rows(rows: &[Row], docs: &[Doc]) -> bool
+    ensures { result ≡ list_all (λ d. list_any (λ row. bytes_eq row.id d.id) rows.now) docs.now }
+{
+    let mut place = 0;
+    for doc in docs {
+        match row_from(rows, doc.id(), place) {
+            Some(found) => place = found,
+            None => return false,
+        }
+    }
+    true
+}
+
+/// How many leaves the rows name, or the greatest `u64` where these are more.
+pub(crate) fn leaf_count(rows: &[Row]) -> u64
+    ensures { result ≡ min (sum_by (λ row. length row.leaves) rows.now) (2 ^ 64 - 1) }
+{
+    let mut count: u64 = 0;
+    for row in rows {
+        count = count.saturating_add(row.leaves().len() as u64);
+    }
+    count
+}
+
+/// How many revisions are asked for, or the greatest `u64` where these are more.
+pub(crate) fn asked_count(docs: &[Wanted]) -> u64
+    ensures { result ≡ min (sum_by (λ wanted. length wanted.revs) docs.now) (2 ^ 64 - 1) }
+{
+    let mut count: u64 = 0;
+    for wanted in docs {
+        count = count.saturating_add(wanted.revs().len() as u64);
+    }
+    count
+}
+
+/// Whether a revision is in a tree, which may not be there.
+fn has_in(tree: Option<&Tree>, rev: Rev) -> bool
+    ensures { result ≡ has (unwrap_or (option_copied tree.entry) no_revisions) rev }
+{
+    match tree {
+        Some(tree) => tree.has(rev),
+        None => false,
+    }
+}
+
+/// Whether a revision is in a document's tree or refused.
+fn is_known(tree: Option<&Tree>, ledgered: &LedgerIndex, id: &DocId, rev: Rev) -> bool
+    ensures { result
+        ≡ (has (unwrap_or (option_copied tree.entry) no_revisions) rev || is_ledgered ledgered.now id.now rev) }
+{
+    has_in(tree, rev) || ledgered.has(id, rev)
+}
+
+/// The first leaf of a row that is neither in its document's tree nor refused.
+fn unknown_in(db: &Database, ledgered: &LedgerIndex, row: &Row) -> Option<Rev>
+    ensures { result ≡ find (λ rev. not (known_of db.now ledgered.now row.now.id rev)) row.now.leaves }
+{
+    let tree = db.tree(row.id());
+    for rev in row.leaves() {
+        if !is_known(tree, ledgered, row.id(), *rev) {
+            return Some(*rev);
+        }
+    }
+    None
+}
+
+/// The first such leaf of some rows, with its row.
+pub(crate) fn first_unknown<'a>(
+    db: &Database,
+    ledgered: &LedgerIndex,
+    rows: &'a [Row],
+) -> Option<(&'a Row, Rev)>
+    ensures { option_map (λ u. record { seq = u.0.now.seq; id = u.0.now.id; rev = u.1 }) result
+        ≡ first_unknown (known_of db.now ledgered.now) rows.now }
+{
+    for row in rows {
+        if let Some(rev) = unknown_in(db, ledgered, row) {
+            return Some((row, rev));
+        }
+    }
+    None
+}

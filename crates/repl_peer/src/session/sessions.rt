@@ -1,0 +1,258 @@
+//! The incoming sessions of a peer.
+ghost use Rattle.std.specs.Prelude.{◌≡◌, [], ◌∷◌, ◌==◌, Ok, length, slice_get, OnOk, OnErr, IfOk, if◌then◌else◌};
+ghost use Rattle.std.specs.Option.{option_copied, option_map};
+ghost use Rattle.range_front.specs.Front.{low_water};
+ghost use Rattle.repl_log.specs.Log.{common};
+ghost use Rattle.repl_peer.specs.logs.Logs.{log_of};
+ghost use Rattle.repl_peer.specs.peer.Peer.{PeerValue, session_in};
+ghost use Rattle.repl_peer.specs.session.Sessions.{GivesUnlessMemory, new_session, append_in, with_window, recorded_at, conclude_in};
+ghost use Rattle.repl_peer.specs.session.Settling.{SettleGives};
+ghost use Rattle.repl_peer.specs.session.SettlingParts.{with_parts};
+ghost use Rattle.repl_peer.specs.session.SessionCalls.{in_ledgers, with_changed, answer_in, begin_in, recorded_by};
+
+use crate::fault::{Report, Settled, TargetFault};
+use crate::peer::filter::WriteFilter;
+use crate::session::Session;
+use crate::session::beginning::Beginning;
+use crate::session::ledger_index::LedgerIndex;
+use crate::session::rep_index::RepIndex;
+use crate::session::settle::settle_parcel;
+use couch_base::{Database, Parcel, Window};
+use doc_json::DocId;
+use indexmap::IndexMap;
+use repl_log::{Log, Moment, RepId};
+use rev_core::Rev;
+use rev_tree::SessionId;
+use std::alloc::{AllocError, Global};
+use std::marker::Model;
+
+/// The sessions that were replicated into a peer, newest first, each id once, with the index of what they refused and that
+/// of their replications.
+///
+/// They are kept the oldest first, under their ids: what a call does with one session doesn't look at the others.
+#[derive(Drop)]
+pub(crate) struct Sessions {
+    entries: IndexMap<SessionId, Session>,
+    ledgered: LedgerIndex,
+    by_rep: RepIndex,
+}
+
+impl Model for Sessions {
+    ghost use Rattle.std.specs.Prelude.{List};
+    ghost use Rattle.std.specs.Coded.{coded_list};
+    ghost use Rattle.repl_peer.specs.peer.Peer.{SessionValue};
+    ghost use Rattle.repl_peer.specs.peer.PeerCode.{coded_session};
+
+    ghost Value = { List SessionValue };
+
+    ghost coded = { coded_list coded_session };
+
+    ghost use Rattle.repl_peer.specs.session.StoredSessions.{sessions_of, AreListed, IsTableOf};
+
+    ghost view = { λ s. sessions_of s.entries.entries };
+
+    ghost invariant = { λ s. IsTableOf s.ledgered s.entries.entries × AreListed s.by_rep (sessions_of s.entries.entries) };
+}
+
+impl Sessions {
+    /// No sessions. They grow by `alloc`.
+    pub(crate) fn new(alloc: Global) -> Sessions
+        ensures { result ≡ [] }
+    {
+        Sessions {
+            entries: IndexMap::new(alloc),
+            ledgered: LedgerIndex::new(alloc),
+            by_rep: RepIndex::new(alloc),
+        }
+    }
+
+    // ---- readings
+
+    /// How many there are.
+    pub(crate) fn len(&self) -> usize
+        ensures { result ≡ length self.now }
+    {
+        self.entries.len()
+    }
+
+    /// The id of the session at a place, where there are so many; the newest is at 0.
+    pub(crate) fn id_at(&self, place: usize) -> Option<SessionId>
+        ensures { result ≡ option_map (λ s. s.id) (slice_get self.now place) }
+    {
+        let len = self.entries.len();
+        if place >= len {
+            return None;
+        }
+        let (_, session) = self.entries.get_index(len - 1 - place)?;
+        Some(session.id)
+    }
+
+    /// The session of an id.
+    pub(crate) fn find(&self, id: SessionId) -> Option<&Session>
+        ensures { option_copied result ≡ session_in self.now id }
+    {
+        self.entries.get(&id)
+    }
+
+    /// Whether a revision is in the ancestry of a document that a session refused.
+    pub(crate) fn has_refused(&self, id: &DocId, rev: Rev) -> bool
+        ensures { result ≡ in_ledgers self.now id.now rev }
+    {
+        self.ledgered.has(id, rev)
+    }
+
+    /// What the sessions of a replication say, newest first.
+    pub(crate) fn log(&self, alloc: Global, rep: &RepId) -> Result<Log, AllocError>
+        ensures log { IfOk result (λ l. l ≡ log_of self.now rep.now) }
+    {
+        let mut log = Log::new(alloc);
+        for i in 0..self.entries.len() {
+            let Some((_, session)) = self.entries.get_index(i) else {
+                unreachable!()
+            };
+            if session.rep == *rep {
+                log.set(session.entry())?;
+            }
+        }
+        Ok(log)
+    }
+
+    /// The newest session of a replication that the source's log also holds, with the lesser of its two recorded
+    /// sequences. It looks at no other replication's sessions, and at none behind the one that it finds.
+    pub(crate) fn shared_with(&self, rep: &RepId, source: &Log) -> Option<(SessionId, u64)>
+        ensures { result ≡ common source.now (log_of self.now rep.now) }
+    {
+        let ids = self.by_rep.of(rep);
+        let mut left = ids.len();
+        while left > 0 {
+            left -= 1;
+            let id = ids[left];
+            if let Some(recorded) = source.recorded_of(id) {
+                let Some(session) = self.entries.get(&id) else {
+                    unreachable!()
+                };
+                return Some((id, recorded.min(session.recorded)));
+            }
+        }
+        None
+    }
+
+    // ---- changes
+
+    /// Begins a session, which is the newest.
+    ///
+    /// `SessionExists` where the id is there; else `NoSuchBase` where the base is no session of the same replication;
+    /// else `StartAboveBase` where the start is above what it has recorded, or above 0 where there is no base; else
+    /// `GoalBelowStart`; else `Memory`. A refusal changes nothing.
+    pub(crate) fn begin(
+        &mut self,
+        id: SessionId,
+        beginning: Beginning,
+        at: Moment,
+    ) -> Result<(), TargetFault>
+        ensures answer { GivesUnlessMemory result (begin_in self.old id beginning) }
+        ensures ok { OnOk result (self.new ≡ new_session id beginning at ∷ self.old) }
+        ensures err { OnErr result (self.new ≡ self.old) }
+    {
+        self.check_new(id, &beginning)?;
+        let alloc = *self.entries.allocator();
+        self.entries.reserve(1)?;
+        self.by_rep.add(&beginning.rep, id)?;
+        let session = Session::new(alloc, id, beginning, at);
+        let Ok(_) = self.entries.insert(id, session) else {
+            unreachable!()
+        };
+        Ok(())
+    }
+
+    /// Whether a session may begin.
+    fn check_new(&self, id: SessionId, beginning: &Beginning) -> Result<(), TargetFault>
+        ensures { result ≡ begin_in self.now id beginning.now }
+    {
+        let (start, goal) = (beginning.start, beginning.goal);
+        if self.entries.contains_key(&id) {
+            return Err(TargetFault::SessionExists);
+        }
+        let recorded = self.recorded_of(&beginning.rep, beginning.base)?;
+        if start > recorded {
+            return Err(TargetFault::StartAboveBase { recorded });
+        }
+        if goal < start {
+            return Err(TargetFault::GoalBelowStart);
+        }
+        Ok(())
+    }
+
+    /// What the base has recorded, 0 where there is none; `NoSuchBase` where it is no session of the same replication.
+    fn recorded_of(&self, rep: &RepId, base: Option<SessionId>) -> Result<u64, TargetFault>
+        ensures { result ≡ recorded_by self.now rep.now base }
+    {
+        let Some(base) = base else {
+            return Ok(0);
+        };
+        match self.entries.get(&base) {
+            Some(session) => {
+                if session.rep == *rep {
+                    Ok(session.recorded)
+                } else {
+                    Err(TargetFault::NoSuchBase)
+                }
+            }
+            None => Err(TargetFault::NoSuchBase),
+        }
+    }
+
+    /// Stores the next window of a session.
+    pub(crate) fn append(&mut self, id: SessionId, window: Window) -> Result<(), TargetFault>
+        ensures answer { GivesUnlessMemory result (answer_in self.old id (append_in window)) }
+        ensures ok { OnOk result (self.new
+            ≡ with_changed self.old id (λ s. with_window window s (append_in window s))) }
+        ensures err { OnErr result (self.new ≡ self.old) }
+    {
+        let Some(session) = self.entries.get_mut(&id) else {
+            return Err(TargetFault::NoSuchSession);
+        };
+        session.append(window)
+    }
+
+    /// Settles a parcel of a session, as `settle_parcel` says. `NoSuchSession` comes before all else.
+    pub(crate) fn settle_session<F: WriteFilter>(
+        &mut self,
+        filter: &F,
+        db: &mut Database,
+        id: SessionId,
+        parcel: Parcel,
+    ) -> Result<Settled, TargetFault>
+        ensures { (p : PeerValue)
+            → SettleGives (F.refuses filter.now) (with_parts p db.old self.old) id parcel result
+            (with_parts p db.new self.new) }
+    {
+        let Some(session) = self.entries.get_mut(&id) else {
+            return Err(TargetFault::NoSuchSession);
+        };
+        settle_parcel(filter, db, &mut self.ledgered, session, parcel)
+    }
+
+    /// Records what a session has done without a gap.
+    pub(crate) fn record(&mut self, id: SessionId, at: Moment) -> Result<u64, TargetFault>
+        ensures answer { result ≡ answer_in self.old id (λ s. Ok (low_water s.front)) }
+        ensures sessions { self.new ≡ with_changed self.old id (recorded_at at) }
+    {
+        let Some(session) = self.entries.get_mut(&id) else {
+            return Err(TargetFault::NoSuchSession);
+        };
+        Ok(session.record(at))
+    }
+
+    /// Concludes a session where all is done up to its goal.
+    pub(crate) fn conclude(&mut self, id: SessionId, at: Moment) -> Result<Report, TargetFault>
+        ensures answer { result ≡ answer_in self.old id conclude_in }
+        ensures sessions { self.new
+            ≡ with_changed self.old id (λ s. if low_water s.front == s.goal then recorded_at at s else s) }
+    {
+        let Some(session) = self.entries.get_mut(&id) else {
+            return Err(TargetFault::NoSuchSession);
+        };
+        session.conclude(at)
+    }
+}

@@ -1,8 +1,0 @@
-use Rattle.std.proofs.Common.{◌≡◌, not, drop}
-use Rattle.std.specs.List.{find}
-use Rattle.repl_target.specs.peer.Covered.{covers}
-use Rattle.repl_target.proofs.logs.auditing.hole_in.Given as goal
-
--- the leaves so far are covered
-abbrev pub invariant-loop-rev : goal.invariant-loop-rev
-invariant-loop-rev g l = find (λ rev. not (covers l.target.1 l.row.id rev)) (drop l.rev-index l.rev-items) ≡ find (λ rev. not (covers l.target.1 l.row.id rev)) l.rev-items

@@ -1,8 +1,0 @@
-use Rattle.repl_target.proofs.lemmas.peer.PeerInvariant.{Lawful-loaded}
-use Rattle.repl_target.proofs.peer.Peer.load.Goals as goal
-
-pub invariant_of-self : goal.invariant_of-self
-invariant_of-self g c = Lawful-loaded _ _ c.self.invariant c.args.doc.now c.load.result _ _ c.load.ensures.db c.load.ensures.locals c.load.ensures.db_kept c.load.ensures.locals_kept
-
-pub returns-clause-law : goal.returns-clause-law
-returns-clause-law g c = invariant_of-self g c

@@ -1,5 +1,0 @@
-use Rattle.std.proofs.Common.{rules}
-use Rattle.repl_target.proofs.peer.Peer.page.Goals as goal
-
-pub returns : goal.returns
-returns g c = search rules

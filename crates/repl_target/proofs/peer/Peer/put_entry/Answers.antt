@@ -1,8 +1,0 @@
-use Rattle.repl_target.proofs.lemmas.logs.PutChangesLogsAlone.{Lawful-logs}
-use Rattle.repl_target.proofs.peer.Peer.put_entry.Goals as goal
-
-pub invariant_of-self : goal.invariant_of-self
-invariant_of-self g c = Lawful-logs _ _ c.put.new.logs.entries c.self.invariant
-
-pub returns-clause-law : goal.returns-clause-law
-returns-clause-law g c = invariant_of-self g c

@@ -1,8 +1,0 @@
-use Rattle.std.proofs.Common.{◌≡◌, take}
-use Rattle.repl_target.specs.session.StoredSessions.{sessions_of}
-use Rattle.repl_target.specs.logs.Logs.{log_of}
-use Rattle.repl_target.proofs.session.sessions.Sessions.log.Given as goal
-
--- what the sessions so far say
-abbrev pub invariant-loop-i : goal.invariant-loop-i
-invariant-loop-i l = l.log ≡ log_of (sessions_of (take l.i l.self-inside.entries.entries)) l.rep

@@ -1,0 +1,129 @@
+//! The audit of a replication.
+ghost use Rattle.std.specs.Prelude.{◌≡◌, not, IfOk};
+ghost use Rattle.std.specs.List.{find};
+ghost use Rattle.repl_peer.specs.peer.Covered.{covers, first_uncovered};
+ghost use Rattle.std.specs.Option.{option_copied};
+ghost use Rattle.couch_base.specs.Feed.{chosen_feed};
+ghost use Rattle.repl_target.specs.Audit.{audit_answer, hole_of, IsAudited};
+ghost use Rattle.repl_target.specs.ties.Ties.{IsTiedPair};
+
+pub(crate) mod found;
+
+use crate::auditing::found::Audit;
+use couch_base::Row;
+use doc_json::Chosen;
+use repl_peer::{Peer, WriteFilter, checkpoint, rep_between};
+use rev_core::Rev;
+use std::alloc::{AllocError, Global};
+
+/// How many rows of the source's feed are read at once.
+const PAGE: u64 = 1000;
+
+/// Whether the target covers all that the two logs of the replication of the chosen documents say is done: each leaf of
+/// the source's chosen feed at or under the common checkpoint.
+///
+/// Where the windows that the target stores of this replication are tied to the source's database, it is `Clean`. It
+/// reads the source's feed in pages.
+pub fn audit<F: WriteFilter, G: WriteFilter>(
+    alloc: Global,
+    source: &Peer<F>,
+    target: &Peer<G>,
+    chosen: Option<&Chosen>,
+) -> Result<Audit, AllocError>
+    ensures answer { IfOk result
+        (λ a. hole_of a ≡ audit_answer source.now.1 target.now.1 (option_copied chosen.entry)) }
+    ensures clean { IfOk result
+        (λ a. a ≡ Audit.Clean → IsAudited source.now.1 target.now.1 (option_copied chosen.entry)) }
+    ensures tied { IfOk result
+        (λ a. IsTiedPair source.now.1 target.now.1 (option_copied chosen.entry) → a ≡ Audit.Clean) }
+{
+    let rep = rep_between(source, target, chosen)?;
+    match checkpoint(source, target, &rep) {
+        Some((_, recorded)) => hole_within(alloc, source, target, 0, recorded, chosen),
+        None => Ok(Audit::Clean),
+    }
+}
+
+/// Whether the target covers each leaf of the source's chosen feed above a sequence, else the first that it doesn't.
+///
+/// It reads the feed in pages.
+pub fn hole_above<F: WriteFilter, G: WriteFilter>(
+    alloc: Global,
+    source: &Peer<F>,
+    target: &Peer<G>,
+    since: u64,
+    chosen: Option<&Chosen>,
+) -> Result<Audit, AllocError>
+    ensures answer { IfOk result
+        (λ a. hole_of a ≡ first_uncovered target.now.1
+        (chosen_feed (option_copied chosen.entry) source.now.1.db since source.now.1.db.update_seq)) }
+{
+    hole_within(
+        alloc,
+        source,
+        target,
+        since,
+        source.db().update_seq(),
+        chosen,
+    )
+}
+
+/// Whether the target covers each leaf of the source's chosen feed above a sequence, and at or under another.
+///
+/// It reads the feed in pages.
+pub fn hole_within<F: WriteFilter, G: WriteFilter>(
+    alloc: Global,
+    source: &Peer<F>,
+    target: &Peer<G>,
+    above: u64,
+    upto: u64,
+    chosen: Option<&Chosen>,
+) -> Result<Audit, AllocError>
+    ensures answer { IfOk result (λ a. hole_of a
+        ≡ first_uncovered target.now.1 (chosen_feed (option_copied chosen.entry) source.now.1.db above upto)) }
+{
+    let goal = upto.min(source.db().update_seq());
+    let mut since = above;
+    while since < goal {
+        let page = source.page_due(alloc, since, goal, PAGE, chosen)?;
+        let found = first_hole(alloc, target, page.rows())?;
+        if let Audit::Hole { seq, id, rev } = found {
+            return Ok(Audit::Hole { seq, id, rev });
+        }
+        since = page.hi();
+    }
+    Ok(Audit::Clean)
+}
+
+/// Whether the target covers each leaf of some rows.
+fn first_hole<G: WriteFilter>(
+    alloc: Global,
+    target: &Peer<G>,
+    rows: &[Row],
+) -> Result<Audit, AllocError>
+    ensures answer { IfOk result (λ a. hole_of a ≡ first_uncovered target.now.1 rows.now) }
+{
+    for row in rows {
+        if let Some(rev) = hole_in(target, row) {
+            let id = row.id().copy(alloc)?;
+            return Ok(Audit::Hole {
+                seq: row.seq(),
+                id,
+                rev,
+            });
+        }
+    }
+    Ok(Audit::Clean)
+}
+
+/// The first leaf of a row that isn't covered.
+fn hole_in<G: WriteFilter>(target: &Peer<G>, row: &Row) -> Option<Rev>
+    ensures { result ≡ find (λ rev. not (covers target.now.1 row.now.id rev)) row.now.leaves }
+{
+    for rev in row.leaves() {
+        if !target.covered(row.id(), *rev) {
+            return Some(*rev);
+        }
+    }
+    None
+}
