@@ -1,6 +1,6 @@
 //! The worked rows of logs as calls with the texts of their answers, and each public call once with ample memory.
 use crate::tests::texts::expect_answer;
-use repl_log::{Counts, Entry, Log, Moment, RepId, common, rep_id, write_log};
+use repl_log::{Counts, Entry, Log, Logs, Moment, RepId, common, rep_id, write_log};
 use rev_tree::SessionId;
 use std::alloc::Global;
 use std::process::Abort;
@@ -17,6 +17,12 @@ enum Call<'a> {
     Put(usize, u128, u64),
     /// Puts the entry of the session 1 that read one document at a moment.
     PutOne(usize, u64),
+    /// Puts such an entry into the log of the replication from 1 into a database.
+    PutInto(u128, u128, u64),
+    /// Copies the log of the replication from 1 into a database, out of a copy of all: it becomes the next log.
+    CopyInto(u128),
+    /// Asks whether there is a log of the replication from 1 into a database.
+    HasInto(u128),
     /// Asks whether a log has just the entries of sessions that recorded up to sequences, newest first.
     Has(usize, &'a [(u128, u64)]),
     /// Compares the logs of a source and a target.
@@ -32,11 +38,12 @@ enum Call<'a> {
 /// Calls, each with the text that it must answer.
 type Rows = &'static [(Call<'static>, &'static str)];
 
-/// Logs.
+/// Logs, and those of the replications from 1.
 #[derive(Drop)]
 struct Bench {
     alloc: Global,
     logs: Vec<Log>,
+    all: Logs,
 }
 
 impl Bench {
@@ -45,6 +52,7 @@ impl Bench {
         Bench {
             alloc,
             logs: Vec::new(alloc),
+            all: Logs::new(alloc),
         }
     }
 
@@ -55,6 +63,10 @@ impl Bench {
             Call::Copy(at) => self.keep_copy(at),
             Call::Put(at, session, recorded) => self.put(at, entry(session, recorded)?),
             Call::PutOne(at, moment) => self.put(at, one_document(moment)?),
+            Call::PutInto(target, session, recorded) => {
+                self.put_into(target, entry(session, recorded)?)
+            }
+            Call::CopyInto(target) => self.keep_into(target),
             reading => self.reading(&reading),
         }
     }
@@ -69,6 +81,7 @@ impl Bench {
     /// Makes a call that changes nothing.
     fn reading(&self, call: &Call) -> Option<String> {
         match *call {
+            Call::HasInto(target) => shown(self.alloc, &self.all.get(&from_one(target)).is_some()),
             Call::Has(at, sessions) => has(self.alloc, self.logs.get(at)?, sessions),
             Call::Common(source, target) => self.common(source, target),
             Call::Name => named(self.alloc, &replication()),
@@ -96,10 +109,32 @@ impl Bench {
         shown(self.alloc, &answer)
     }
 
+    /// Puts an entry into the log of the replication from 1 into a database.
+    fn put_into(&mut self, target: u128, entry: Entry) -> Option<String> {
+        let answer = self.all.put(&from_one(target), entry);
+        shown(self.alloc, &answer)
+    }
+
+    /// Keeps a copy of the log of the replication from 1 into a database, out of a copy of all.
+    fn keep_into(&mut self, target: u128) -> Option<String> {
+        let all = self.all.copy(self.alloc).ok()?;
+        let log = all.copy_of(self.alloc, &from_one(target)).ok()?;
+        self.keep(log)
+    }
+
     /// Compares two logs.
     fn common(&self, source: usize, target: usize) -> Option<String> {
         let found = common(self.logs.get(source)?, self.logs.get(target)?);
         shown(self.alloc, &found)
+    }
+}
+
+/// The replication of all documents from 1 into a database.
+fn from_one(target: u128) -> RepId {
+    RepId {
+        source: 1,
+        target,
+        chosen: None,
     }
 }
 
@@ -198,6 +233,28 @@ static REPLACED_ROWS: Rows = &[
 #[test]
 fn session_replaced(rt: HostRuntime) {
     Bench::new(rt.alloc()).run(&rt, REPLACED_ROWS);
+}
+
+/// Each replication has a log of its own, which begins with its first entry.
+static LOGS_ROWS: Rows = &[
+    (Call::HasInto(2), "false"),
+    (Call::PutInto(2, 10, 9), "Ok(())"),
+    (Call::PutInto(3, 10, 5), "Ok(())"),
+    (Call::PutInto(2, 10, 8), "Err(Older { stored: 9 })"),
+    (Call::PutInto(2, 11, 4), "Ok(())"),
+    (Call::HasInto(2), "true"),
+    (Call::HasInto(4), "false"),
+    (Call::CopyInto(2), "made"),
+    (Call::CopyInto(3), "made"),
+    (Call::CopyInto(4), "made"),
+    (Call::Has(0, &[(11, 4), (10, 9)]), "true"),
+    (Call::Has(1, &[(10, 5)]), "true"),
+    (Call::Has(2, &[]), "true"),
+];
+
+#[test]
+fn logs_by_replication(rt: HostRuntime) {
+    Bench::new(rt.alloc()).run(&rt, LOGS_ROWS);
 }
 
 /// The replication of the row `log_text`.
