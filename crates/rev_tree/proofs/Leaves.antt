@@ -1,6 +1,6 @@
 -- The leaves among the nodes, counted, put in order and sorted.
 use Rattle.std.proofs.Common.{◌≡◌, ℕ, zero, suc, ◌+◌, ◌<◌, ◌≤◌, ◌&&◌, ◌||◌, ◌++◌, ◌∷◌, [], List, Bool, true, false, cond, not, length, take, drop, get_or, filter, sym, ap, ◌∙◌, subst, Option, Some, None, is_some, refl, arith, add-one}
-use Rattle.std.proofs.lemmas.Bool.{false≢true}
+use Rattle.std.proofs.lemmas.Bool.{false≢true, or_parts}
 use Rattle.std.specs.List.{list_any}
 use Rattle.std.specs.List.Sorted.{IsSortedBy, IsPermutation}
 use Rattle.std.proofs.lemmas.List.Sorted.{list_any-IsPermutation, length_permutation}
@@ -213,10 +213,6 @@ goes_first a Less e ne nl = absurd (false≢true (sym nl))
 goes_first a Equal e ne nl = absurd (false≢true (sym ne ∙ ap is_eq e))
 goes_first a Greater e ne nl = e
 
-first_false : (a b : Bool) → (a || b) ≡ false → a ≡ false
-first_false true b h = absurd (false≢true (sym h))
-first_false false b h = refl
-
 -- one that rises and has nothing twice is in order
 pub in_order-sorted : {K : Type 0} (R : K → K → Ordering) → IsTotalOrder R → (xs : List K) → Rises R xs → length xs ≤ length (in_order R xs) → in_order R xs ≡ xs
 in_order-sorted R o [] up h = in_order-nil R
@@ -232,7 +228,7 @@ in_order-sorted {K} R o (x ∷ xs) up h =
     placed_first : (xs : List K) → Rises R (x ∷ xs) → list_any (eq_by_cmp R x) xs ≡ false → placed R x xs ≡ x ∷ xs
     placed_first [] up none = refl
     placed_first (y ∷ xs) up none =
-        ap (λ r. by_order r (x ∷ (y ∷ xs)) (y ∷ xs) (y ∷ placed R x xs)) (goes_first (R x y) (R y x) (o.antisymm x y) (first_false (eq_by_cmp R x y) (list_any (eq_by_cmp R x) xs) none) up.0)
+        ap (λ r. by_order r (x ∷ (y ∷ xs)) (y ∷ xs) (y ∷ placed R x xs)) (goes_first (R x y) (R y x) (o.antisymm x y) (or_parts (eq_by_cmp R x y) (list_any (eq_by_cmp R x) xs) none).0 up.0)
 
 -- and a sorted list that has the elements of one with nothing twice is that one in order
 pub sorted_in_order : {K : Type 0} (R : K → K → Ordering) → IsTotalOrder R → IsAntisymmetric R → (xs ys : List K) → length (in_order R xs) ≡ length xs → IsPermutation xs ys → IsSortedBy (λ x y. is_lt (R x y)) ys → ys ≡ in_order R xs
