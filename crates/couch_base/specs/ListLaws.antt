@@ -1,8 +1,9 @@
 -- Laws of lists: tests of some or of all elements, and lists in which nothing comes twice.
 use Rattle.std.specs.Prelude.{◌≡◌, ℕ, Bool, true, false, ◌||◌, List, [], ◌∷◌, ◌++◌, map, filter, refl}
-use Rattle.std.proofs.Common.{ap, ◌∙◌, inl, inr}
-use Rattle.std.proofs.lemmas.Bool.{and_parts, or_right, cond_both, false≢true, or_parts, and_from, or_cases}
+use Rattle.std.proofs.Common.{ap, ◌∙◌}
+use Rattle.std.proofs.lemmas.Bool.{or_right, cond_both, or_parts, and_from, or_left, or_from}
 use Rattle.std.proofs.lemmas.Slice.Eq.{bytes_eq-Decides}
+use Rattle.std.proofs.lemmas.List.Folds.{list_any-append, list_all-append}
 use Rattle.std.specs.Str.{bytes_eq}
 use Rattle.std.specs.List.{list_any, list_all, AllByRecursion}
 -- by the names that crates above cite
@@ -25,20 +26,13 @@ id_same a = (bytes_eq-Decides a a).1 refl
 -- ---- some element
 
 pub any_left : {X : Type 0} (p : X → Bool) (xs ys : List X) → list_any p xs ≡ true → list_any p (xs ++ ys) ≡ true
-any_left p [] ys h = absurd (false≢true h)
-any_left p (x ∷ xs) ys h =
-    elim (or_cases (p x) (list_any p xs) h) [
-      | inl here ↦ ap (λ b. b || list_any p (xs ++ ys)) here
-      | inr later ↦ or_right _ _ (any_left p xs ys later)
-    ]
+any_left p xs ys h = list_any-append p xs ys ∙ or_left _ _ h
 
 pub any_right : {X : Type 0} (p : X → Bool) (xs ys : List X) → list_any p ys ≡ true → list_any p (xs ++ ys) ≡ true
-any_right p [] ys h = h
-any_right p (x ∷ xs) ys h = or_right _ _ (any_right p xs ys h)
+any_right p xs ys h = list_any-append p xs ys ∙ or_right _ _ h
 
 pub none_append : {X : Type 0} (p : X → Bool) (xs ys : List X) → list_any p xs ≡ false → list_any p ys ≡ false → list_any p (xs ++ ys) ≡ false
-none_append p [] ys h k = k
-none_append p (x ∷ xs) ys h k = let parts = or_parts (p x) (list_any p xs) h in ap (λ b. b || list_any p (xs ++ ys)) parts.0 ∙ none_append p xs ys parts.1 k
+none_append p xs ys h k = list_any-append p xs ys ∙ or_from _ _ h k
 
 pub none_filter : {X : Type 0} (q p : X → Bool) (xs : List X) → list_any q xs ≡ false → list_any q (filter p xs) ≡ false
 none_filter q p [] h = h
@@ -51,8 +45,7 @@ none_filter q p (x ∷ xs) h =
 -- ---- all elements
 
 pub all_append : {X : Type 0} (p : X → Bool) (xs ys : List X) → list_all p xs ≡ true → list_all p ys ≡ true → list_all p (xs ++ ys) ≡ true
-all_append p [] ys h k = k
-all_append p (x ∷ xs) ys h k = let parts = and_parts _ _ h in and_from _ _ parts.0 (all_append p xs ys parts.1 k)
+all_append p xs ys h k = list_all-append p xs ys ∙ and_from _ _ h k
 
 -- what holds of those that pass a test holds of all that are made of them
 pub all_made : {X Y : Type 0} (p : Y → Bool) (f : X → Y) (q : X → Bool) → ((x : X) → q x ≡ true → p (f x) ≡ true) → (xs : List X) → list_all p (map f (filter q xs)) ≡ true

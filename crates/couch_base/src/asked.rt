@@ -1,6 +1,7 @@
 //! What is asked for a window of the feed.
 ghost use Rattle.std.specs.Prelude.{◌≡◌, IfOk};
 
+use crate::copies::copied;
 use doc_json::DocId;
 use rev_core::Rev;
 use rev_tree::Revs;
@@ -132,23 +133,11 @@ impl Asked {
         ensures copied { IfOk result (λ a. a ≡ self.now) }
         ensures asked { IsAsked self.now }
     {
-        let docs = copied(alloc, &self.docs)?;
+        let docs = copied(alloc, &self.docs, |wanted| wanted.copy(alloc))?;
         Ok(Asked {
             lo: self.lo,
             hi: self.hi,
             docs,
         })
     }
-}
-
-/// The same list.
-fn copied(alloc: Global, docs: &[Wanted]) -> Result<Vec<Wanted>, AllocError>
-    ensures copied { IfOk result (λ v. v.items ≡ docs.now) }
-{
-    let mut copy = Vec::with_capacity(alloc, docs.len())?;
-    for wanted in docs {
-        let again = wanted.copy(alloc)?;
-        copy.push(again)?;
-    }
-    Ok(copy)
 }

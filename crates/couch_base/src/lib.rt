@@ -5,6 +5,7 @@
 #![tactic(auto)]
 
 mod asked;
+mod copies;
 mod database;
 mod edit;
 mod exchange;

@@ -2,6 +2,7 @@
 ghost use Rattle.std.specs.Prelude.{◌≡◌, IfOk};
 
 use crate::asked::Asked;
+use crate::copies::copied;
 use doc_json::{Doc, DocId};
 use rev_core::Rev;
 use std::alloc::{AllocError, Global};
@@ -106,32 +107,8 @@ impl Parcel {
         ensures parcel { IsParcel self.now }
     {
         let asked = self.asked.copy(alloc)?;
-        let docs = docs_copied(alloc, &self.docs)?;
-        let gone = gone_copied(alloc, &self.gone)?;
+        let docs = copied(alloc, &self.docs, |doc| doc.copy(alloc))?;
+        let gone = copied(alloc, &self.gone, |(id, rev)| Ok((id.copy(alloc)?, *rev)))?;
         Ok(Parcel { asked, docs, gone })
     }
-}
-
-/// The same documents.
-fn docs_copied(alloc: Global, docs: &[Doc]) -> Result<Vec<Doc>, AllocError>
-    ensures copied { IfOk result (λ v. v.items ≡ docs.now) }
-{
-    let mut copy = Vec::with_capacity(alloc, docs.len())?;
-    for doc in docs {
-        let again = doc.copy(alloc)?;
-        copy.push(again)?;
-    }
-    Ok(copy)
-}
-
-/// The same revisions.
-fn gone_copied(alloc: Global, gone: &[(DocId, Rev)]) -> Result<Vec<(DocId, Rev)>, AllocError>
-    ensures copied { IfOk result (λ v. v.items ≡ gone.now) }
-{
-    let mut copy = Vec::with_capacity(alloc, gone.len())?;
-    for (id, rev) in gone {
-        let again = id.copy(alloc)?;
-        copy.push((again, *rev))?;
-    }
-    Ok(copy)
 }

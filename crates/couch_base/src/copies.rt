@@ -1,0 +1,23 @@
+//! Lists that are copied one element after another.
+ghost use Rattle.std.specs.Prelude.{◌≡◌, IfOk, Ok};
+ghost use Rattle.std.specs.Fn.{FnReturnsAt};
+
+use std::alloc::{AllocError, Global};
+
+/// The same list, each element as `copy` makes it again.
+pub(crate) fn copied<T: Drop, F: Fn(&T) -> Result<T, AllocError>>(
+    alloc: Global,
+    items: &[T],
+    copy: F,
+) -> Result<Vec<T>, AllocError>
+    requires callable { F.IsAlwaysCallable copy }
+    requires same { (x y : T) → FnReturnsAt F.Fn copy x (Ok y) → y ≡ x }
+    ensures { IfOk result (λ v. v.items ≡ items.now) }
+{
+    let mut copies = Vec::with_capacity(alloc, items.len())?;
+    for item in items {
+        let again = copy(item)?;
+        copies.push(again)?;
+    }
+    Ok(copies)
+}
