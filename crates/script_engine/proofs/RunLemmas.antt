@@ -1,7 +1,8 @@
 -- A script as far as it was read.
-use Rattle.std.proofs.Common.{inl, inr, ◌≡◌, ℕ, ◌+◌, ◌*◌, ◌<◌, ◌≤◌, List, [], ◌++◌, length, take, Bool, true, false, refl, sym, ap, subst, ◌∙◌, arith, append_assoc, append-nil, length-append, Option, Some, None}
+use Rattle.std.proofs.Common.{inl, inr, ◌≡◌, ℕ, ◌+◌, ◌*◌, ◌<◌, ◌≤◌, List, [], ◌++◌, length, take, true, false, refl, sym, ap, subst, ◌∙◌, arith, append_assoc, append-nil, length-append, Option, Some, None}
 use Rattle.std.specs.Prelude.{unwrap_or, min}
 use Rattle.std.specs.Io.KnownBytes.{Consumes, Appends, Keeps, IsAtEnd}
+use Rattle.std.proofs.KnownBytes.{Appends-nil, Appends-trans, Appends-kept, Consumes-nil, Consumes-trans, Consumes-kept}
 use Rattle.script_engine.specs.Device.{FailsOnce, Gives, counted, full}
 use Rattle.script_engine.specs.Faults.{FeedsUntil, IsOfWriter, IsFaultOf, IsToldUntil, LeavesAs, max_reads}
 use Rattle.script_engine.specs.declared.fault.ScriptFault.{ScriptFault}
@@ -10,7 +11,6 @@ use Rattle.script_engine.specs.Lines.{has_line_end, lines_of}
 use Rattle.script_engine.specs.Serving.{Answering}
 use Rattle.script_engine.specs.Script.{AnswersEnded, IsAnswered, IsAnsweredSoFar, AnswersFirst}
 use Rattle.script_engine.specs.Served.{Place, start, Served, Begins, Feeds, Finishes, FinishesInPart}
-use Rattle.script_engine.proofs.DeviceLemmas.{Appends-joined, Appends-kept, Appends-none}
 use Rattle.script_engine.proofs.ServedLemmas.{Served-none, Served-joined, Begins-joined, Begins-more, is_answered, is_answered_so_far}
 
 -- these bytes were read in so many turns, and served, and their answers written
@@ -23,22 +23,6 @@ pub record Ran {S : Type 0} (f : Answering S (List ℕ)) (g : S) (p : Place S) (
   pub few : length input ≤ 65536 * turns
 
 -- ---- known bytes
-
-pub Consumes-none : (a : Option (List ℕ)) → Consumes a a []
-Consumes-none None = tt
-Consumes-none (Some a) = refl
-
-pub Consumes-joined : (a b c : Option (List ℕ)) (x y : List ℕ) → Consumes a b x → Consumes b c y → Consumes a c (x ++ y)
-Consumes-joined None b c x y p q = tt
-Consumes-joined (Some a) None c x y p q = absurd p
-Consumes-joined (Some a) (Some b) None x y p q = absurd q
-Consumes-joined (Some a) (Some b) (Some c) x y p q = p ∙ ap (λ z. x ++ z) q ∙ sym (append_assoc x y c)
-
-pub Consumes-kept : (a b c : Option (List ℕ)) (x : List ℕ) → Consumes a b x → Keeps b c → Consumes a c x
-Consumes-kept None b c x p q = tt
-Consumes-kept (Some a) None c x p q = absurd p
-Consumes-kept (Some a) (Some b) None x p q = absurd q
-Consumes-kept (Some a) (Some b) (Some c) x p q = p ∙ ap (λ z. x ++ z) (sym q)
 
 -- what was taken and what is left is all there was
 pub Gives-left : (a b : Option (List ℕ)) (x : List ℕ) → Consumes a b x → Gives a (x ++ unwrap_or b [])
@@ -58,8 +42,8 @@ Ran-none {f} {g} p left held e = record {
   input = [];
   text = [];
   served = subst (λ q. Served f (start g) [] q []) (sym e) (Served-none (start g));
-  taken = Consumes-none left;
-  written = Appends-none held;
+  taken = Consumes-nil left;
+  written = Appends-nil held;
   few = omega arith;
 }
 
@@ -69,8 +53,8 @@ Ran-more {turns = turns} q left'' held'' bytes r c some most (t, s, w) = record 
   input = r.input ++ bytes;
   text = r.text ++ t;
   served = Served-joined r.served s;
-  taken = Consumes-joined _ _ _ r.input bytes r.taken c;
-  written = Appends-joined _ _ _ r.text t r.written w;
+  taken = Consumes-trans _ _ _ r.input bytes r.taken c;
+  written = Appends-trans _ _ _ r.text t r.written w;
   few = omega (arith, r.few, length-append r.input bytes);
 }
 
@@ -118,8 +102,8 @@ pub SoFar-none : {S : Type 0} {f : Answering S (List ℕ)} {g : S} (left held : 
 SoFar-none {g = g} left held = record {
   input = [] ++ unwrap_or left [];
   text = [];
-  gives = Gives-left left left [] (Consumes-none left);
-  written = Appends-none held;
+  gives = Gives-left left left [] (Consumes-nil left);
+  written = Appends-nil held;
   answered = answers_whole (unwrap_or left []) (unwrap_or left []) refl (Served-none (start g));
 }
 
@@ -158,15 +142,15 @@ SoFar-fed Read left'' held'' bytes r c x = absurd x
 SoFar-fed {left = left} {left'} Write left'' held'' bytes r c (t, b, w) = record {
   input = (r.input ++ bytes) ++ unwrap_or left'' [];
   text = r.text ++ t;
-  gives = Gives-left left left'' (r.input ++ bytes) (Consumes-joined left left' left'' r.input bytes r.taken c);
-  written = Appends-joined _ _ _ r.text t r.written w;
+  gives = Gives-left left left'' (r.input ++ bytes) (Consumes-trans left left' left'' r.input bytes r.taken c);
+  written = Appends-trans _ _ _ r.text t r.written w;
   answered = is_answered_so_far ((r.input ++ bytes) ++ unwrap_or left'' []) (Begins-more (unwrap_or left'' []) (Begins-joined r.served b)) refl;
 }
 SoFar-fed {left = left} {left'} Memory left'' held'' bytes r c (new, rest, fed) = record {
   input = (r.input ++ bytes) ++ unwrap_or left'' [];
   text = r.text ++ fed.feeds.0;
-  gives = Gives-left left left'' (r.input ++ bytes) (Consumes-joined left left' left'' r.input bytes r.taken c);
-  written = Appends-joined _ _ _ r.text fed.feeds.0 r.written fed.feeds.2;
+  gives = Gives-left left left'' (r.input ++ bytes) (Consumes-trans left left' left'' r.input bytes r.taken c);
+  written = Appends-trans _ _ _ r.text fed.feeds.0 r.written fed.feeds.2;
   answered = answers_whole (rest ++ unwrap_or left'' []) _ (sym (append_assoc (r.input ++ fed.front) rest (unwrap_or left'' [])) ∙ ap (λ z. z ++ unwrap_or left'' []) (append_assoc r.input fed.front rest ∙ ap (λ z. r.input ++ z) (sym fed.bytes_are))) (Served-joined r.served fed.feeds.1);
 }
 
@@ -203,7 +187,7 @@ SoFar-finished {left = left} {left'} held'' r e (bytes, l, (t, b, w)) = record {
   input = r.input;
   text = r.text ++ t;
   gives = Gives-end left left' r.input r.taken e;
-  written = Appends-joined _ _ _ r.text t r.written w;
+  written = Appends-trans _ _ _ r.text t r.written w;
   answered = is_answered_so_far r.input (Begins-joined r.served b) (same_lines bytes r.served l);
 }
 
@@ -218,7 +202,7 @@ Finishes-kept held held' held'' (bytes, l, n, (t, s, w)) k = (bytes, l, n, (t, s
 pub Ran-finished : {S : Type 0} {f : Answering S (List ℕ)} {g : S} {p : Place S} {left left' held held' : Option (List ℕ)} {turns : ℕ} (q : Place S) (held'' : Option (List ℕ)) → Ran f g p left left' held held' turns → IsAtEnd left' → Finishes f p q held' held'' →
     (input : List ℕ) × (text : List ℕ) × Gives left input × Appends held held'' text × IsAnswered f g input q.clean text q.state
 Ran-finished {left = left} {left'} q held'' r e (bytes, l, n, (t, s, w)) =
-    (r.input, r.text ++ t, Gives-end left left' r.input r.taken e, Appends-joined _ _ _ r.text t r.written w, is_answered r.input (Served-joined r.served s) n (same_lines bytes r.served l))
+    (r.input, r.text ++ t, Gives-end left left' r.input r.taken e, Appends-trans _ _ _ r.text t r.written w, is_answered r.input (Served-joined r.served s) n (same_lines bytes r.served l))
 
 -- a read that gave nothing
 pub Ran-end : {S : Type 0} {f : Answering S (List ℕ)} {g : S} {p : Place S} {left left' held held' : Option (List ℕ)} {turns : ℕ} (left'' : Option (List ℕ)) (buffer : List ℕ) (n : ℕ) → n ≡ 0 → Ran f g p left left' held held' turns → Consumes left' left'' (take n buffer) → Ran f g p left left'' held held' turns
@@ -226,7 +210,7 @@ Ran-end {left = left} {left'} left'' buffer n z r c = record {
   input = r.input;
   text = r.text;
   served = r.served;
-  taken = subst (λ x. Consumes left left'' x) (append-nil r.input) (Consumes-joined left left' left'' r.input [] r.taken (subst (λ k. Consumes left' left'' (take k buffer)) z c));
+  taken = subst (λ x. Consumes left left'' x) (append-nil r.input) (Consumes-trans left left' left'' r.input [] r.taken (subst (λ k. Consumes left' left'' (take k buffer)) z c));
   written = r.written;
   few = r.few;
 }
@@ -249,10 +233,9 @@ memory_not_read e = subst IsRead (sym e) tt
 pub IsOfWriter-write : (fault : ScriptFault) (w w' : ℕ) → fault ≡ Write → FailsOnce w w' → IsOfWriter fault w w'
 IsOfWriter-write fault w w' e h = subst (λ f. IsOfWriter f w w') (sym e) h
 
-pub IsFaultOf-writer : (fault : ScriptFault) (k k' r r' w w1 w2 : ℕ) → r' ≡ r → w1 ≡ w → IsOfWriter fault w1 w2 → IsFaultOf fault k k' r r' w w2
-IsFaultOf-writer Read k k' r r' w w1 w2 e f h = absurd h
-IsFaultOf-writer Write k k' r r' w w1 w2 e f h = (e, h ∙ ap (λ n. min (n + 1) full) f)
-IsFaultOf-writer Memory k k' r r' w w1 w2 e f h = (e, h ∙ f)
+-- memory that is out before anything is read, as the script leaves it
+pub LeavesAs-memory : {A : ScriptFault} (left : ScriptFault) (old new : ℕ) → A ≡ Memory → LeavesAs A left old new → LeavesAs Memory left old new
+LeavesAs-memory left old new e h = subst (λ f. LeavesAs f left old new) e h
 
 -- a fault of the writer or of memory, behind which what was written is passed on
 pub IsFaultOf-left : (fault stands : ScriptFault) (k k' r r' w w1 w2 w3 : ℕ) → r' ≡ r → w1 ≡ w → IsOfWriter fault w1 w2 → LeavesAs fault stands w2 w3 → IsFaultOf stands k k' r r' w w3
@@ -272,10 +255,6 @@ not_read Read stands w1 w2 w3 h l e = absurd h
 not_read Write stands w1 w2 w3 h l e = write_not_read (sym l.0 ∙ e)
 not_read Memory stands w1 w2 w3 h (inl l) e = memory_not_read (sym l.0 ∙ e)
 not_read Memory stands w1 w2 w3 h (inr l) e = write_not_read (sym l.0 ∙ e)
-
-pub Keeps-same : (a : Option (List ℕ)) → Keeps a a
-Keeps-same None = tt
-Keeps-same (Some a) = refl
 
 -- a script that has not begun stands at its start
 pub place_equal : {S : Type 0} (s : S) (b : List ℕ) → b ≡ [] → (record { state = s; begun = b; number = 1; clean = true }) ≡ start s

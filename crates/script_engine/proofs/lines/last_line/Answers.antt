@@ -1,17 +1,14 @@
-use Rattle.std.proofs.Common.{arith, ◌≡◌, ◌≢◌, [], ◌∷◌, ap, ◌∙◌, sym, refl, append-nil, length, List, ℕ}
+use Rattle.std.proofs.Common.{◌≢◌, [], ◌∷◌, ap, ◌∙◌, sym, append-nil, length}
+use Rattle.std.proofs.KnownBytes.{Appends-nil}
+use Rattle.std.proofs.lemmas.List.{nil_from_length}
 use Rattle.script_engine.specs.Lines.{lines_of}
-use Rattle.script_engine.proofs.DeviceLemmas.{Appends-none}
 use Rattle.script_engine.proofs.ServedLemmas.{Served-none, lines_of-ended}
 use Rattle.script_engine.proofs.lines.last_line.Goals as goal
 
-empty_list : (xs : List ℕ) → length xs ≡ 0 → xs ≡ []
-empty_list [] h = refl
-empty_list (x ∷ xs) h = absurd (omega arith)
-
 pub returns-then-begun-eq0-clause-ok : goal.returns-then-begun-eq0-clause-ok
 returns-then-begun-eq0-clause-ok g c =
-    let none = empty_list c.args.script.now.begun.items (sym c.args.script.now.begun.ok.0 ∙ sym c.len-begun.ensures ∙ c.if-begun-eq0.true) in
-    ([], ap lines_of (append-nil c.args.script.now.begun.items), none, ([], Served-none _, Appends-none _))
+    let none = nil_from_length c.args.script.now.begun.items (sym c.args.script.now.begun.ok.0 ∙ sym c.len-begun.ensures ∙ c.if-begun-eq0.true) in
+    ([], ap lines_of (append-nil c.args.script.now.begun.items), none, ([], Served-none _, Appends-nil _))
 
 pub returns-in-Err-clause-err : goal.returns-in-Err-clause-err
 returns-in-Err-clause-err g c =
