@@ -1,6 +1,7 @@
 -- Answers of CouchDB's forms are read as the documents that they hold.
-use Rattle.std.proofs.Common.{◌≡◌, ℕ, suc, ◌+◌, ◌<◌, ◌&&◌, ◌==◌, nat_lt, length, slice_index, List, [], ◌∷◌, ◌++◌, Bool, true, false, cond, refl, sym, ap, subst, ◌∙◌, append_assoc, append-nil, arith, ◌⊎◌, inl, inr}
+use Rattle.std.proofs.Common.{◌≡◌, ℕ, suc, ◌+◌, ◌<◌, ◌==◌, nat_lt, length, slice_index, List, [], ◌∷◌, ◌++◌, Bool, true, false, cond, refl, sym, ap, subst, ◌∙◌, append_assoc, append-nil, arith, ◌⊎◌, inl, inr}
 use Rattle.std.specs.List.{list_all}
+use Rattle.std.proofs.lemmas.Bool.{and_parts}
 use Rattle.couch_answers.specs.State.{State, start, is_space, is_json}
 use Rattle.couch_answers.specs.Names.{name_of}
 use Rattle.couch_answers.specs.Steps.{step}
@@ -48,21 +49,16 @@ joined {R = R} {t} {u} {ps} {qs} f g = record {
 
 -- ---- white space
 
-both_true : (a b : Bool) → (a && b) ≡ true → (a ≡ true) × (b ≡ true)
-both_true true true h = (refl, refl)
-both_true true false h = absurd (cc)
-both_true false b h = absurd (cc)
-
 spaces : {p : Place} (d : ℕ) (s : List ℕ) → MaySpace p → Spaces s → Leads (At p d) s (At p d) []
 spaces d [] m h = none_read
 spaces d (b ∷ s) m h =
-    let parts = both_true (is_space b) (list_all is_space s) h in
+    let parts = and_parts (is_space b) (list_all is_space s) h in
     then (spaced d b m parts.0) (spaces d s m parts.1)
 
 lead_spaces : (name : Name) (d : ℕ) (s : List ℕ) → Spaces s → Leads (Within (Value name) d 0 []) s (Within (Value name) d 0 []) []
 lead_spaces name d [] h = none_read
 lead_spaces name d (b ∷ s) h =
-    let parts = both_true (is_space b) (list_all is_space s) h in
+    let parts = and_parts (is_space b) (list_all is_space s) h in
     then (value_lead name d 0 [] b parts.0) (lead_spaces name d s parts.1)
 
 -- ---- names

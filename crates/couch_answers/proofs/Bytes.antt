@@ -1,5 +1,6 @@
 -- Single bytes of answers, from a place on.
-use Rattle.std.proofs.Common.{◌≡◌, ℕ, ◌+◌, ◌-◌, ◌&&◌, ◌==◌, nat_lt, length, List, [], ◌∷◌, ◌++◌, Bool, true, false, cond, refl, sym, ap, subst, ◌∙◌, arith}
+use Rattle.std.proofs.Common.{◌≡◌, ℕ, ◌+◌, ◌-◌, ◌==◌, nat_lt, length, List, [], ◌∷◌, ◌++◌, Bool, true, false, cond, refl, sym, ap, subst, ◌∙◌, arith}
+use Rattle.std.proofs.lemmas.Bool.{and_right}
 use Rattle.couch_answers.specs.State.{State, is_space, is_json}
 use Rattle.couch_answers.specs.Names.{name_of}
 use Rattle.couch_answers.specs.Steps.{step}
@@ -155,10 +156,6 @@ ends p d n u b p' d' ps f s h = subst (λ z. At p' d' (step z b) × (given (step
 abbrev pub Begins : Place → ℕ → ℕ → Place → ℕ → List ℕ → Type 0
 Begins p d b p' n u = (s : State) → At p d s → (m : ℕ) × Within p' d m u (step s b) × (given (step s b) ≡ [])
 
-and_false : (b : Bool) → (b && false) ≡ false
-and_false true = refl
-and_false false = refl
-
 some_not_zero : (n : ℕ) → (n + 1 == 0) ≡ false
 some_not_zero n = grind arith
 
@@ -223,15 +220,15 @@ module _ (name : Name) (d n : ℕ) (u : List ℕ) where
 
   pub value_quote : Takes (Value name) d n u 34 (Quoted name) n (u ++ 34 ∷ [])
   unfolding step
-  value_quote = takes (Value name) d n u 34 (Quoted name) n (u ++ 34 ∷ []) (λ s. rw (and_false (n == 0)) (record { wanted = refl; place = refl; depth = refl; nesting = refl; text = refl }, refl))
+  value_quote = takes (Value name) d n u 34 (Quoted name) n (u ++ 34 ∷ []) (λ s. rw (and_right (n == 0) false refl) (record { wanted = refl; place = refl; depth = refl; nesting = refl; text = refl }, refl))
 
   pub object_opens : nat_lt n 128 ≡ true → Takes (Value name) d n u 123 (Value name) (n + 1) (u ++ 123 ∷ [])
   unfolding step
-  object_opens e = takes (Value name) d n u 123 (Value name) (n + 1) (u ++ 123 ∷ []) (λ s. rw (and_false (n == 0), e) (record { wanted = refl; place = refl; depth = refl; nesting = refl; text = refl }, refl))
+  object_opens e = takes (Value name) d n u 123 (Value name) (n + 1) (u ++ 123 ∷ []) (λ s. rw (and_right (n == 0) false refl, e) (record { wanted = refl; place = refl; depth = refl; nesting = refl; text = refl }, refl))
 
   pub list_opens : nat_lt n 128 ≡ true → Takes (Value name) d n u 91 (Value name) (n + 1) (u ++ 91 ∷ [])
   unfolding step
-  list_opens e = takes (Value name) d n u 91 (Value name) (n + 1) (u ++ 91 ∷ []) (λ s. rw (and_false (n == 0), e) (record { wanted = refl; place = refl; depth = refl; nesting = refl; text = refl }, refl))
+  list_opens e = takes (Value name) d n u 91 (Value name) (n + 1) (u ++ 91 ∷ []) (λ s. rw (and_right (n == 0) false refl, e) (record { wanted = refl; place = refl; depth = refl; nesting = refl; text = refl }, refl))
 
   pub object_closes : Takes (Value name) d (n + 1) u 125 (Value name) n (u ++ 125 ∷ [])
   unfolding step

@@ -1,8 +1,9 @@
 -- A script's answers are read as the changes among them.
-use Rattle.std.proofs.Common.{◌≡◌, ℕ, ◌&&◌, ◌||◌, ◌==◌, List, [], ◌∷◌, ◌++◌, Bool, true, false, not, refl, sym, ap, subst, ◌∙◌, append_assoc, append-nil}
+use Rattle.std.proofs.Common.{◌≡◌, ℕ, ◌||◌, ◌==◌, List, [], ◌∷◌, ◌++◌, true, false, refl, sym, ap, subst, ◌∙◌, append_assoc, append-nil}
 use Rattle.std.specs.Prelude.{codes}
 use Rattle.std.specs.List.{list_all}
 use Rattle.std.specs.Str.{bytes_eq}
+use Rattle.std.proofs.lemmas.Bool.{and_parts, not-true}
 use Rattle.couch_answers.specs.State.{State, start, is_json}
 use Rattle.couch_answers.specs.Changes.{is_blank, is_lower, is_digit, is_rev_byte}
 use Rattle.couch_answers.specs.Steps.{step}
@@ -143,15 +144,6 @@ rev_end u = leaves at.Rev at.Begin 10 u ((Rev, u ++ 34 ∷ []) ∷ []) (λ s. (r
 
 -- ---- texts
 
-both_true : (a b : Bool) → (a && b) ≡ true → (a ≡ true) × (b ≡ true)
-both_true true true h = (refl, refl)
-both_true true false h = absurd (cc)
-both_true false b h = absurd (cc)
-
-not_true : (b : Bool) → not b ≡ true → b ≡ false
-not_true true h = absurd (cc)
-not_true false h = refl
-
 to_text : {P : State → Type 0} {p : LinePlace} {t u v : List ℕ} {ps : List Piece} → u ≡ v → Leads P t (Holds p u) ps → Leads P t (Holds p v) ps
 to_text {P} {p} {t} {ps = ps} e f = subst (λ z. Leads P t (Holds p z) ps) e f
 
@@ -162,12 +154,12 @@ rest_text (b ∷ x) h = let parts = no_end b x h in then (rest_step b parts.0) (
 word_text : (u w : List ℕ) → list_all is_word_byte w ≡ true → Leads (Holds at.Word u) w (Holds at.Word (u ++ w)) []
 word_text u [] h = to_text (sym (append-nil u)) none_read
 word_text u (b ∷ w) h =
-    let parts = both_true (is_word_byte b) (list_all is_word_byte w) h in
-    to_text (append_assoc u (b ∷ []) w) (then (word_step u b (not_true (b == 10 || b == 32) parts.0)) (word_text (u ++ b ∷ []) w parts.1))
+    let parts = and_parts (is_word_byte b) (list_all is_word_byte w) h in
+    to_text (append_assoc u (b ∷ []) w) (then (word_step u b (not-true (b == 10 || b == 32) parts.0)) (word_text (u ++ b ∷ []) w parts.1))
 
 digits : (n : List ℕ) → list_all is_digit n ≡ true → Leads (Stands at.Seq) n (Stands at.Seq) []
 digits [] h = none_read
-digits (b ∷ n) h = let parts = both_true (is_digit b) (list_all is_digit n) h in then (digit_step b parts.0) (digits n parts.1)
+digits (b ∷ n) h = let parts = and_parts (is_digit b) (list_all is_digit n) h in then (digit_step b parts.0) (digits n parts.1)
 
 id_is : {P Q : State → Type 0} {t u v : List ℕ} → u ≡ v → Leads P t Q ((Id, u) ∷ []) → Leads P t Q ((Id, v) ∷ [])
 id_is {P} {Q} {t} e f = subst (λ z. Leads P t Q ((Id, z) ∷ [])) e f
@@ -184,7 +176,7 @@ id_text u k (escaped {b} {t} rest) json =
 rev_text : (u r : List ℕ) → list_all is_rev_byte r ≡ true → Leads (Holds at.Rev u) r (Holds at.Rev (u ++ r)) []
 rev_text u [] h = to_text (sym (append-nil u)) none_read
 rev_text u (b ∷ r) h =
-    let parts = both_true (is_rev_byte b) (list_all is_rev_byte r) h in
+    let parts = and_parts (is_rev_byte b) (list_all is_rev_byte r) h in
     to_text (append_assoc u (b ∷ []) r) (then (rev_step u b parts.0) (rev_text (u ++ b ∷ []) r parts.1))
 
 some_revs : (r : List ℕ) (ps : List Piece) → AreRevs r ps → Leads (Stands at.BeforeRev) r (Stands at.Begin) ps

@@ -3,16 +3,13 @@ use Rattle.std.proofs.Common.{◌≡◌, ℕ, List, Bool, true, false, ◌&&◌,
 use Rattle.std.specs.Prelude.{IsUtf8}
 use Rattle.std.specs.Str.{is_utf8}
 use Rattle.std.proofs.lemmas.Str.{IsUtf8-from_is_utf8, is_utf8-from_IsUtf8}
+use Rattle.std.proofs.lemmas.Bool.{false_from_ne_true}
 use Rattle.json.specs.Json.{Json, document}
 use Rattle.couch_answers.specs.State.{is_json}
 
-false_unless : (b : Bool) → (b ≡ true → ⊥) → b ≡ false
-false_unless true h = absurd (h refl)
-false_unless false h = refl
-
 -- bytes that are no UTF-8 are no JSON
 pub no_utf8 : (text : List ℕ) → (IsUtf8 text → ⊥) → false ≡ is_json text
-no_utf8 text h = sym (ap (λ b. b && is_some (document text)) (false_unless (is_utf8 text) (λ e. h (IsUtf8-from_is_utf8 text e))))
+no_utf8 text h = sym (ap (λ b. b && is_some (document text)) (false_from_ne_true (is_utf8 text) (λ e. h (IsUtf8-from_is_utf8 text e))))
 
 same_test : (b : Bool) (o : Option Json) → IsTrue b ↔ IsSome o → b ≡ is_some o
 same_test true None h = sym (h.0 refl)

@@ -1,6 +1,7 @@
 -- A script's answers are read as the documents among them.
 use Rattle.std.proofs.Common.{◌≡◌, ℕ, ◌&&◌, ◌==◌, length, List, [], ◌∷◌, ◌++◌, Bool, true, false, not, cond, refl, sym, ap, subst, ◌∙◌, append_assoc, append-nil, ◌⊎◌, inl, inr}
 use Rattle.std.specs.List.{list_all}
+use Rattle.std.proofs.lemmas.Bool.{false≢true}
 use Rattle.couch_answers.specs.State.{State, start, is_json}
 use Rattle.couch_answers.specs.Changes.{is_blank, is_lower, is_log}
 use Rattle.couch_answers.specs.Steps.{step}
@@ -140,9 +141,6 @@ is_line (Quoted n) = false
 is_line (Escaped n) = false
 is_line (Refused why) = false
 
-no_line : false ≡ true → ⊥
-no_line e = absurd (cc)
-
 -- by what the places of two states are
 one_of_two : (b : Bool) (s z : State) → is_line s.place ≡ false → is_line z.place ≡ false → is_line (cond b s z).place ≡ false
 one_of_two true s z h k = h
@@ -174,7 +172,7 @@ unfolding is_line
 line_place s p e h = line_by p (is_line p) refl (subst (λ z. is_line (step z 10).place ≡ true) (λ i. record s { place = e i }) (ap is_line h)) where
   line_by : (p : Place) (b : Bool) → is_line p ≡ b → is_line (step (record s { place = p }) 10).place ≡ true → b ≡ true
   line_by p true f g = refl
-  line_by p false f g = absurd (no_line (sym (stays_out s p f) ∙ g))
+  line_by p false f g = absurd (false≢true (sym (stays_out s p f) ∙ g))
 
 pub begin_place : (p : Place) → is_line p ≡ true → has_rest p ≡ false → p ≡ Line Begin
 unfolding is_line
@@ -189,22 +187,22 @@ begin_place (Line IdEscape) h e = absurd (cc)
 begin_place (Line AfterId) h e = absurd (cc)
 begin_place (Line BeforeRev) h e = absurd (cc)
 begin_place (Line Rev) h e = absurd (cc)
-begin_place Start h e = absurd (no_line h)
-begin_place Between h e = absurd (no_line h)
-begin_place Item h e = absurd (no_line h)
-begin_place NextItem h e = absurd (no_line h)
-begin_place AfterItem h e = absurd (no_line h)
-begin_place Member h e = absurd (no_line h)
-begin_place NextMember h e = absurd (no_line h)
-begin_place AfterMember h e = absurd (no_line h)
-begin_place Key h e = absurd (no_line h)
-begin_place KeyEscape h e = absurd (no_line h)
-begin_place (Colon n) h e = absurd (no_line h)
-begin_place ListPlace h e = absurd (no_line h)
-begin_place (Value n) h e = absurd (no_line h)
-begin_place (Quoted n) h e = absurd (no_line h)
-begin_place (Escaped n) h e = absurd (no_line h)
-begin_place (Refused why) h e = absurd (no_line h)
+begin_place Start h e = absurd (false≢true h)
+begin_place Between h e = absurd (false≢true h)
+begin_place Item h e = absurd (false≢true h)
+begin_place NextItem h e = absurd (false≢true h)
+begin_place AfterItem h e = absurd (false≢true h)
+begin_place Member h e = absurd (false≢true h)
+begin_place NextMember h e = absurd (false≢true h)
+begin_place AfterMember h e = absurd (false≢true h)
+begin_place Key h e = absurd (false≢true h)
+begin_place KeyEscape h e = absurd (false≢true h)
+begin_place (Colon n) h e = absurd (false≢true h)
+begin_place ListPlace h e = absurd (false≢true h)
+begin_place (Value n) h e = absurd (false≢true h)
+begin_place (Quoted n) h e = absurd (false≢true h)
+begin_place (Escaped n) h e = absurd (false≢true h)
+begin_place (Refused why) h e = absurd (false≢true h)
 
 -- an empty line holds nothing
 begin_stood : (s : State) → given (step (record s { place = Line Begin }) 10) ≡ []

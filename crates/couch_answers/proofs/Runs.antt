@@ -4,15 +4,13 @@ use Rattle.std.specs.Prelude.{unwrap_or}
 use Rattle.std.specs.Io.KnownBytes.{Appends, Consumes, Keeps, IsAtEnd}
 use Rattle.script_engine.specs.declared.fault.ScriptFault.{ScriptFault}
 use Rattle.script_engine.specs.declared.fault.ScriptFault.TheVariants.{Read, Write, Memory}
-use Rattle.script_engine.proofs.RunLemmas.{Consumes-none, Consumes-joined, Consumes-kept, Gives-left, Gives-end, Keeps-same, IsFaultOf-writer}
-use Rattle.std.proofs.KnownBytes.{Appends-nil, Appends-trans}
+use Rattle.script_engine.proofs.RunLemmas.{Gives-left, Gives-end}
+use Rattle.std.proofs.KnownBytes.{Appends-nil, Appends-trans, Consumes-nil, Consumes-trans, Consumes-kept, Keeps-refl}
 use Rattle.couch_answers.specs.State.{State, start}
 use Rattle.couch_answers.specs.Steps.{is_refused}
 use Rattle.couch_answers.specs.Reading.{Piece, after, given, piece_of, pieces, end_of, last_end, whole}
 use Rattle.couch_answers.specs.Words.{Words, text_for, words_then, texts, words_behind, last_text}
-use Rattle.couch_answers.specs.Runs.{Fed, IsWhole, Begins, EndsAnswers, Finishes, IsAll, Answered, Stopped, CountsOf, CountsOfWriter, all_text, judged_by, ended_of}
-use Rattle.couch_answers.specs.declared.place.Place.{Place}
-use Rattle.couch_answers.specs.declared.place.Place.TheVariants.{Start, Between, Item, NextItem, AfterItem, Member, NextMember, AfterMember, Key, KeyEscape, Colon, List as ListPlace, Value, Quoted, Escaped, Line, Refused as Place-Refused}
+use Rattle.couch_answers.specs.Runs.{Fed, IsWhole, Begins, EndsAnswers, Finishes, IsAll, Answered, Stopped, all_text, judged_by, ended_of}
 use Rattle.couch_answers.specs.declared.place.Refusal.{Refusal}
 use Rattle.couch_answers.specs.declared.place.Wanted.{Wanted}
 use Rattle.couch_answers.specs.declared.place.Found.{Found}
@@ -179,14 +177,14 @@ pub record Ran (wanted : Wanted) (w : Words) (s : State) (w' : Words) (left left
   pub taken : Consumes left left' input
 
 pub Ran-none : (wanted : Wanted) (w : Words) (s : State) (left held : Option (List ℕ)) → s ≡ start wanted → Ran wanted w s w left left held held
-Ran-none wanted w s left held e = record { input = []; fed = subst (λ z. Fed (start wanted) w [] z w held held) (sym e) (Fed-none (start wanted) w held); taken = Consumes-none left }
+Ran-none wanted w s left held e = record { input = []; fed = subst (λ z. Fed (start wanted) w [] z w held held) (sym e) (Fed-none (start wanted) w held); taken = Consumes-nil left }
 
 module _ {wanted : Wanted} {w : Words} {s : State} {w' : Words} {left left' held held' : Option (List ℕ)} (r : Ran wanted w s w' left left' held held') where
   pub Ran-more : (s'' : State) (w'' : Words) (left'' held'' : Option (List ℕ)) (bytes : List ℕ) → Consumes left' left'' bytes → Fed s w' bytes s'' w'' held' held'' → Ran wanted w s'' w'' left left'' held held''
   Ran-more s'' w'' left'' held'' bytes c f = record {
     input = r.input ++ bytes;
     fed = Fed-joined _ _ r.input bytes _ _ _ _ _ _ _ r.fed f;
-    taken = Consumes-joined _ _ _ r.input bytes r.taken c;
+    taken = Consumes-trans _ _ _ r.input bytes r.taken c;
   }
 
   -- a read that gave nothing
@@ -194,7 +192,7 @@ module _ {wanted : Wanted} {w : Words} {s : State} {w' : Words} {left left' held
   Ran-end left'' buffer n z c = record {
     input = r.input;
     fed = r.fed;
-    taken = subst (λ x. Consumes left left'' x) (append-nil r.input) (Consumes-joined left left' left'' r.input [] r.taken (subst (λ k. Consumes left' left'' (take k buffer)) z c));
+    taken = subst (λ x. Consumes left left'' x) (append-nil r.input) (Consumes-trans left left' left'' r.input [] r.taken (subst (λ k. Consumes left' left'' (take k buffer)) z c));
   }
 
   -- all that is read, with what is left
@@ -211,14 +209,14 @@ module _ {wanted : Wanted} {w : Words} {s : State} {w' : Words} {left left' held
       let cut : whole (start wanted) input ≡ r.input ++ (bytes ++ (rest ++ tail)) =
       ap (λ l. l ++ tail) (append_assoc r.input bytes rest) ∙ append_assoc r.input (bytes ++ rest) tail ∙ ap (λ l. r.input ++ l) (append_assoc bytes rest tail) in (
         whole (start wanted) input,
-        all_read left'' bytes (Consumes-joined left left' left'' r.input bytes r.taken c),
+        all_read left'' bytes (Consumes-trans left left' left'' r.input bytes r.taken c),
         inl (Begins-in fault (start wanted) s w w' r.input (bytes ++ (rest ++ tail)) _ _ _ _ cut r.fed
             (subst (λ z. Begins fault w' z held' held'') (sym more) (Begins-more fault w' (pieces s bytes) _ _ _ b))),
       )
 
   -- no further chunk was read
   pub Stopped-before : (fault : ScriptFault) (left'' : Option (List ℕ)) → Keeps left' left'' → Stopped wanted w left held held' (Device fault)
-  Stopped-before fault left'' k = Stopped-in fault left'' held' [] (Consumes-kept left' left' left'' [] (Consumes-none left') k) (Begins-none fault w' [] held')
+  Stopped-before fault left'' k = Stopped-in fault left'' held' [] (Consumes-kept left' left' left'' [] (Consumes-nil left') k) (Begins-none fault w' [] held')
 
   -- at a byte that was refused
   ended_err : (o : Result (Unit {0}) Refusal) (x : Result ℕ AnswerFault) → end_of s.place ≡ o → x ≡ judged_by s.passed s.taken o → is_refused s.place ≡ true → IfErr x (Stopped wanted w left held held')
@@ -298,4 +296,4 @@ module _ {wanted : Wanted} {w : Words} {s : State} {w' : Words} {left left' held
 
 -- nothing was read
 pub Stopped-none : (wanted : Wanted) (w : Words) (left held : Option (List ℕ)) (fault : ScriptFault) → Stopped wanted w left held held (Device fault)
-Stopped-none wanted w left held fault = Stopped-before (Ran-none wanted w (start wanted) left held refl) fault left (Keeps-same left)
+Stopped-none wanted w left held fault = Stopped-before (Ran-none wanted w (start wanted) left held refl) fault left (Keeps-refl left)

@@ -1,7 +1,8 @@
 use Rattle.std.proofs.Common.{◌<◌, length, arith, ap, ◌∙◌, sym, take}
+use Rattle.std.proofs.KnownBytes.{Keeps-refl}
 use Rattle.script_engine.specs.Device.{counted}
 use Rattle.script_engine.specs.declared.fault.ScriptFault.TheVariants.{Read}
-use Rattle.script_engine.proofs.RunLemmas.{Keeps-same, one_more}
+use Rattle.script_engine.proofs.RunLemmas.{one_more}
 use Rattle.couch_answers.specs.Stored.{state_of, words_of_wording}
 use Rattle.couch_answers.proofs.Runs.{Ran-more, Ran-end, Stopped-before, Stopped-in, Answered-end, Stopped-end, Stopped-refused}
 use Rattle.couch_answers.proofs.run.run_chunks.Goals as goal
@@ -41,4 +42,4 @@ loop-turn-preserved g c =
     }
 
 pub returns-clause-fault : goal.returns-clause-fault
-returns-clause-fault g c = Stopped-before c.loop-turn.invariant.ran Read (g.R.ScriptRead.left c.loop-turn.reader) (Keeps-same _)
+returns-clause-fault g c = Stopped-before c.loop-turn.invariant.ran Read (g.R.ScriptRead.left c.loop-turn.reader) (Keeps-refl _)
