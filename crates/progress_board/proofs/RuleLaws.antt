@@ -407,17 +407,6 @@ splits_worker k id v deals low s kept here =
     ⊎_elim (λ (h : (a ≡ id) × (w ≡ u)). subst (λ (y : SeatView). v.number < y.number) h.1 (omega arith))
     (λ (h : (a ≢ id) × (get_elem? s.views a ≡ some u)). absurd (h.0 (kept.one a id u v h.1 here du deals))) (at_set s.views id a w u at))
 
--- a seat's facts after a load of what i has read
-pub record Loaded (v w : SeatView) : Type 0 where
-  pub ordered : (j : ℕ) → get_or w.settles j 0 ≤ get_or w.reads j 0
-  pub own_read : v.works ≡ true → get_or w.reads v.number 0 ≡ get_or v.reads v.number 0
-  pub own_settled : v.works ≡ true → get_or w.settles v.number 0 ≡ get_or v.settles v.number 0
-  pub reads_up : (j : ℕ) → get_or v.reads j 0 ≤ get_or w.reads j 0
-  pub settles_up : (j : ℕ) → get_or v.settles j 0 ≤ get_or w.settles j 0
-  pub read_size : length w.reads ≡ length v.reads
-  pub settle_size : length w.settles ≡ length v.settles
-  pub same : (w.works ≡ v.works) × (w.number ≡ v.number)
-
 -- of two lists of one length, the greater at each place has the greater sum
 pub sum_le : (xs ys : List ℕ) → length xs ≡ length ys → ((j : ℕ) → get_or xs j 0 ≤ get_or ys j 0) → sum xs ≤ sum ys
 sum_le [] ys e h = omega arith
