@@ -8,6 +8,8 @@ use Rattle.std.proofs.lemmas.Bool.{eqb-true, eq-eqb, ne_eqb, eqb-false}
 use Rattle.std.proofs.lemmas.List.{map_push, reverse-append}
 use Rattle.std.proofs.lemmas.List.Folds.{find-append}
 use Rattle.std.proofs.lemmas.Grind.{reverse_onto}
+use Rattle.doc_json.proofs.DocReads.{is_some-option_map}
+use Rattle.rev_tree.specs.PartLaws.{or_none}
 use Rattle.indexmap.proofs.ReorderLemmas.{map-reverse}
 use Rattle.indexmap.specs.IndexMap.{insert_entry}
 use Rattle.rev_tree.specs.declared.origin.SessionId.{SessionId}
@@ -20,10 +22,6 @@ EachSessionOnce es = IsDistinct at_session (keys_of es)
 pub same_id : (a b : SessionId) → a.0 ≡ b.0 → a ≡ b
 same_id a b same = λ i. record { 0 = same i }
 
-or_none : {A : Type 0} (o : Option A) → option_or o None ≡ o
-or_none None = refl
-or_none (Some x) = refl
-
 pub any-find : {A : Type 0} (p : A → Bool) (xs : List A) → list_any p xs ≡ is_some (find p xs)
 any-find p [] = refl
 any-find p (x ∷ xs) =
@@ -31,10 +29,6 @@ any-find p (x ∷ xs) =
       | true ↦ refl
       | false ↦ any-find p xs
     ]
-
-is_some-map : {A B : Type 0} (f : A → B) (o : Option A) → is_some (option_map f o) ≡ is_some o
-is_some-map f None = refl
-is_some-map f (Some x) = refl
 
 absent-lookup : {X : Type 0} (s : SessionId) (es : List (SessionId × X)) → AllByRecursion (λ k. at_session s k ≡ false) (keys_of es) → lookup (at_session s) es ≡ None
 absent-lookup s [] none = refl
@@ -109,7 +103,7 @@ module _ {X V : Type 0} (value : X → V) (session : V → SessionId) where
 
   pub any-lookup : (s : SessionId) (es : List (SessionId × X)) → IsKeyed own es → EachSessionOnce es → list_any (named s) (newest_first value es) ≡ is_some (lookup (at_session s) es)
   any-lookup s es keyed once =
-      any-find (named s) (newest_first value es) ∙ ap is_some (find-lookup s es keyed once) ∙ is_some-map value (lookup (at_session s) es)
+      any-find (named s) (newest_first value es) ∙ ap is_some (find-lookup s es keyed once) ∙ is_some-option_map value (lookup (at_session s) es)
 
   -- ---- writes
 
