@@ -2,11 +2,10 @@
 use Rattle.std.proofs.Common.{◌≡◌, ℕ, suc, ◌+◌, ◌<◌, ◌≤◌, ◌==◌, List, [], ◌∷◌, ◌++◌, Bool, Option, Some, None, Result, Ok, Err, OnOk, OnErr, IfSome, take, get_or, length, slice_get, take_all, refl, sym, ap, ◌∙◌, subst, inl, inr, arith}
 use Rattle.std.proofs.Math.Seq.{take-suc}
 use Rattle.std.proofs.lemmas.Bool.{cond-true, eq-eqb}
-use Rattle.std.proofs.lemmas.Option.{slice_get-get_or}
+use Rattle.std.proofs.lemmas.Option.{slice_get-get_or, same_Some}
 use Rattle.rev_tree.specs.declared.origin.SessionId.{SessionId}
 use Rattle.doc_json.specs.Document.{Document}
 use Rattle.couch_base.specs.Lists.{Among}
-use Rattle.couch_base.specs.ListLaws.{some_is}
 use Rattle.couch_base.specs.Feed.{WindowValue}
 use Rattle.couch_base.specs.Messages.{ParcelValue}
 use Rattle.repl_peer.specs.peer.Peer.{PeerValue}
@@ -151,7 +150,7 @@ trustworthy refuses w l h =
       clean = tied_none refuses w.source w.target w.chosen l.target.sessions h.peers.pair;
       covered = λ p m s n x k own life result q gives.
           (let t = h.parcels p m in
-          let same : x ≡ t.window = some_is x t.window (sym own ∙ t.own) in
+          let same : x ≡ t.window = same_Some x t.window (sym own ∙ t.own) in
           let tied = t.tied (ap (λ (y : WindowValue). y.life) (sym same) ∙ life) in
           own_covered refuses w.target s x p.1 l.target.sessions n k (subst (λ v. IsTiedParcel w.target.db v p.1) (sym same) tied) (l.bag.parcels_are p m) result q gives);
     }

@@ -7,6 +7,7 @@ use Rattle.couch_base.specs.Edit.{edited}
 use Rattle.rev_core.specs.Rev.{RevId}
 use Rattle.repl_log.specs.declared.replication.RepId.{RepId}
 use Rattle.std.proofs.lemmas.Bool.{cond_both, eqb-true}
+use Rattle.rev_tree.proofs.Places.{slice_get-append}
 use Rattle.couch_base.specs.Feed.{WindowValue, page, page_answer}
 use Rattle.couch_base.specs.Messages.{AskedValue, ParcelValue, revs_diff, open_revs}
 use Rattle.couch_base.specs.WriteLaws.{IsLater}
@@ -24,7 +25,7 @@ use Rattle.repl_peer.specs.peer.Writing.{after_edit, load_edited}
 use Rattle.repl_peer.specs.declared.fault.TargetFault.TheVariants as faults
 use Rattle.repl_target.specs.replication.Calls as calls
 use Rattle.repl_peer.specs.declared.fault.TargetFault.{TargetFault}
-use Rattle.couch_base.specs.MemberLaws.{Among-push, at-append}
+use Rattle.couch_base.specs.MemberLaws.{Among-push}
 use Rattle.repl_peer.proofs.lemmas.Members.{Among-at}
 use Rattle.repl_peer.proofs.lemmas.peer.CallsKeepLaw.{load_later, edit_later, begin_later, append_later, record_later, conclude_later}
 use Rattle.repl_peer.proofs.lemmas.logs.PutChangesLogsAlone.{put_entry_later}
@@ -109,8 +110,8 @@ window_step w x h life tied =
       window_lives = λ y m. elim (Among-push y w.bag.windows x m) [ inl old ↦ h.window_lives y old | inr new ↦ (let e : y.life ≡ w.source.db.life = ap (λ (z : WindowValue). z.life) new ∙ life in omega (arith, e)) ];
       log_lives = h.log_lives;
       windows = λ y m e. elim (Among-push y w.bag.windows x m) [ inl old ↦ h.windows y old e | inr new ↦ subst (IsTiedWindow w.source.db w.chosen) (sym new) tied ];
-      asked = λ a m. (let k = h.asked a m in record { window = k.window; own = at-append w.bag.windows (x ∷ []) a.0 k.window k.own; tied = k.tied });
-      parcels = λ p m. (let k = h.parcels p m in record { window = k.window; own = at-append w.bag.windows (x ∷ []) p.0 k.window k.own; tied = k.tied });
+      asked = λ a m. (let k = h.asked a m in record { window = k.window; own = slice_get-append w.bag.windows (x ∷ []) a.0 k.window k.own; tied = k.tied });
+      parcels = λ p m. (let k = h.parcels p m in record { window = k.window; own = slice_get-append w.bag.windows (x ∷ []) p.0 k.window k.own; tied = k.tied });
       logs = h.logs;
       entries = h.entries;
     }
