@@ -4,9 +4,6 @@ pub mod Covered
 pub mod Writing
 pub mod Law
 pub mod Rules
-pub mod KeptRev
-pub mod KeptForm
-pub mod Lineage
 pub mod Later
 pub mod PeerCode
 pub mod Origins

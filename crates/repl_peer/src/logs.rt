@@ -5,19 +5,14 @@ ghost use Rattle.repl_log.specs.Entry.{value_of};
 ghost use Rattle.repl_peer.specs.logs.Checkpoint.{checkpoint_between, rep_between};
 ghost use Rattle.repl_peer.specs.peer.Law.{Lawful};
 ghost use Rattle.repl_peer.specs.session.Sessions.{GivesUnlessMemory};
-ghost use Rattle.repl_peer.specs.logs.Logs.{log_in, logs_with, put_answer_in};
 
 use crate::fault::TargetFault;
 use crate::peer::Peer;
 use crate::peer::filter::WriteFilter;
 use doc_json::Chosen;
-use indexmap::IndexMap;
 use repl_log::{Entry, Log, RepId};
 use rev_tree::SessionId;
 use std::alloc::{AllocError, Global};
-
-/// The outgoing logs by replication.
-pub(crate) type Logs = IndexMap<RepId, Log>;
 
 /// The id of the replication from one peer into another: their databases' UUIDs, and the choice, which is shared. Both
 /// peers are lawful.
@@ -65,7 +60,7 @@ impl<F: WriteFilter> Peer<F> {
     pub fn source_log(&self, alloc: Global, rep: &RepId) -> Result<Log, AllocError>
         ensures log { IfOk result (λ l. l ≡ source_log self.now.1 rep.now) }
     {
-        copy_of(&self.outgoing, alloc, rep)
+        self.outgoing.copy_of(alloc, rep)
     }
 
     /// Puts an entry into the log of a replication from this peer, which begins with it where there is none.
@@ -83,62 +78,7 @@ impl<F: WriteFilter> Peer<F> {
         if entry.life != now {
             return Err(TargetFault::OtherLife { now });
         }
-        put(&mut self.outgoing, rep, entry)
+        self.outgoing.put(rep, entry)?;
+        Ok(())
     }
-}
-
-/// The log of a replication, an empty one where there is none.
-fn copy_of(logs: &Logs, alloc: Global, rep: &RepId) -> Result<Log, AllocError>
-    ensures log { IfOk result (λ l. l ≡ log_in logs.now.entries rep.now) }
-{
-    match logs.get(rep) {
-        Some(log) => log.copy(alloc),
-        None => Ok(Log::new(alloc)),
-    }
-}
-
-/// Puts an entry into the log of its replication.
-fn put(logs: &mut Logs, rep: &RepId, entry: Entry) -> Result<(), TargetFault>
-    ensures answer { GivesUnlessMemory result (put_answer_in logs.old.entries rep.now (value_of entry)) }
-    ensures ok { OnOk result (logs.new.entries ≡ logs_with logs.old.entries rep.now (value_of entry)) }
-    ensures err { OnErr result (logs.new.entries ≡ logs.old.entries) }
-{
-    let alloc = *logs.allocator();
-    match logs.get_mut(rep) {
-        Some(log) => {
-            log.put(entry)?;
-            Ok(())
-        }
-        None => {
-            let mut log = Log::new(alloc);
-            log.set(entry)?;
-            let rep = rep.copy(alloc)?;
-            logs.insert(rep, log)?;
-            Ok(())
-        }
-    }
-}
-
-/// A log with its replication.
-fn copy_log(alloc: Global, rep: &RepId, log: &Log) -> Result<(RepId, Log), AllocError>
-    ensures copied { IfOk result (λ e. (e.0 ≡ rep.now) × (e.1 ≡ log.now)) }
-{
-    let rep = rep.copy(alloc)?;
-    let log = log.copy(alloc)?;
-    Ok((rep, log))
-}
-
-/// The same logs, each at its place.
-pub(crate) fn copy_logs(alloc: Global, logs: &Logs) -> Result<Logs, AllocError>
-    ensures copied { IfOk result (λ m. m.entries ≡ logs.now.entries) }
-{
-    let mut copy: Logs = IndexMap::new(alloc);
-    for place in 0..logs.len() {
-        let Some((rep, log)) = logs.get_index(place) else {
-            unreachable!()
-        };
-        let (rep, log) = copy_log(alloc, rep, log)?;
-        copy.insert(rep, log)?;
-    }
-    Ok(copy)
 }

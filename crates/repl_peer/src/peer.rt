@@ -6,7 +6,6 @@ ghost use Rattle.couch_base.specs.Database.{tree_of};
 
 pub(crate) mod backup;
 pub(crate) mod filter;
-pub(crate) mod kept_rev;
 mod local;
 mod readers;
 pub(crate) mod written;
@@ -18,8 +17,7 @@ use crate::session::beginning::Beginning;
 use crate::session::sessions::Sessions;
 use couch_base::{Asked, BaseFault, Database, Listed, Parcel, Put, Revised, Window};
 use doc_json::{Body, Chosen, Doc, DocId};
-use indexmap::IndexMap;
-use repl_log::{Entry, Log, Moment, RepId};
+use repl_log::{Entry, Logs, Moment};
 use rev_core::Rev;
 use rev_tree::SessionId;
 use std::alloc::{AllocError, Global};
@@ -34,7 +32,7 @@ pub struct Peer<F: WriteFilter> {
     pub(crate) db: Database,
     pub(crate) locals: Vec<Written>,
     pub(crate) sessions: Sessions,
-    pub(crate) outgoing: IndexMap<RepId, Log>,
+    pub(crate) outgoing: Logs,
 }
 
 // By hand, so that it is proved once: docs/DECISIONS.md, "Letting values go".
@@ -67,7 +65,7 @@ impl<F: WriteFilter> Model for Peer<F> {
         db = p.db;
         locals = p.locals.items;
         sessions = p.sessions;
-        outgoing = p.outgoing.entries;
+        outgoing = p.outgoing;
       },
     ) };
 
@@ -75,7 +73,7 @@ impl<F: WriteFilter> Model for Peer<F> {
       db = p.db;
       locals = p.locals.items;
       sessions = p.sessions;
-      outgoing = p.outgoing.entries;
+      outgoing = p.outgoing;
     }) };
 }
 
@@ -117,7 +115,7 @@ impl<F: WriteFilter> Peer<F> {
             db,
             locals: Vec::new(alloc),
             sessions: Sessions::new(alloc),
-            outgoing: IndexMap::new(alloc),
+            outgoing: Logs::new(alloc),
         }
     }
 

@@ -20,7 +20,7 @@ use Rattle.repl_target.specs.ties.Ties.{IsTiedWindow, AreTiedEntries, IsTiedPair
 use Rattle.repl_peer.specs.logs.Checkpoint.{rep_between}
 use Rattle.repl_target.specs.replication.Calls.{Call, Load, Edit, after_call}
 use Rattle.repl_peer.specs.peer.Backups.{BackupValue, copy_of, is_target, backup_answer, greater_life, restore_answer, restored, restored_by}
-use Rattle.repl_peer.specs.logs.Logs.{log_in}
+use Rattle.repl_log.specs.Logs.{log_in}
 use Rattle.repl_peer.specs.peer.Writing.{after_edit, load_edited}
 use Rattle.repl_peer.specs.declared.fault.TargetFault.TheVariants as faults
 use Rattle.repl_target.specs.replication.Calls as calls

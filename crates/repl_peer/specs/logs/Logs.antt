@@ -1,11 +1,12 @@
 -- The logs of a peer: docs/PROFILE.md, "Replication ids and logs".
-use Rattle.std.specs.Prelude.{◌==◌, List, [], ◌∷◌, map, filter, Result, Ok, Err, if◌then◌else◌}
+use Rattle.std.specs.Prelude.{◌==◌, List, map, filter, Result, Ok, Err, if◌then◌else◌}
 use Rattle.repl_log.specs.declared.replication.RepId.{RepId}
 use Rattle.repl_log.specs.declared.fault.LogFault.{LogFault}
 use Rattle.repl_log.specs.declared.fault.LogFault.TheVariants as log_faults
 use Rattle.repl_log.specs.Entry.{EntryValue}
-use Rattle.repl_log.specs.Log.{with_entry, put_answer}
-use Rattle.repl_peer.specs.peer.Peer.{PeerValue, SessionValue, same_rep, entry_of}
+use Rattle.repl_log.specs.RepId.{same_rep}
+use Rattle.repl_log.specs.Logs.{log_in, logs_with, put_answer_in}
+use Rattle.repl_peer.specs.peer.Peer.{PeerValue, SessionValue, entry_of}
 use Rattle.repl_peer.specs.declared.fault.TargetFault.{TargetFault}
 use Rattle.repl_peer.specs.declared.fault.TargetFault.TheVariants as faults
 
@@ -20,18 +21,8 @@ target_log p rep = log_of p.sessions rep
 
 -- ---- outgoing
 
--- the log of a replication, empty where there is none
-abbrev pub log_in : List (RepId × List EntryValue) → RepId → List EntryValue
-log_in [] rep = []
-log_in (l ∷ logs) rep = if same_rep rep l.0 then l.1 else log_in logs rep
-
 abbrev pub source_log : PeerValue → RepId → List EntryValue
 source_log p rep = log_in p.outgoing rep
-
--- the entry is put into the log of its replication; a new replication's log comes last
-abbrev pub logs_with : List (RepId × List EntryValue) → RepId → EntryValue → List (RepId × List EntryValue)
-logs_with [] rep e = (rep, with_entry [] e) ∷ []
-logs_with (l ∷ logs) rep e = if same_rep rep l.0 then (l.0, with_entry l.1 e) ∷ logs else l ∷ logs_with logs rep e
 
 -- what a log refuses, as the peer refuses it
 abbrev pub refused_by_log : LogFault → TargetFault
@@ -43,14 +34,11 @@ abbrev pub as_log_answers : Result (Unit {0}) LogFault → Result (Unit {0}) Tar
 as_log_answers (Ok done) = Ok done
 as_log_answers (Err fault) = Err (refused_by_log fault)
 
--- what putting an entry answers where memory is left: no less may be recorded of its session
-abbrev pub put_answer_in : List (RepId × List EntryValue) → RepId → EntryValue → Result (Unit {0}) TargetFault
-put_answer_in logs rep e = as_log_answers (put_answer (log_in logs rep) e)
-
--- and the entry is of the database's life
+-- what putting an entry answers where memory is left: it is of the database's life, and no less may be recorded of its
+-- session
 abbrev pub put_entry_answer : PeerValue → RepId → EntryValue → Result (Unit {0}) TargetFault
 put_entry_answer p rep e =
-    if e.life == p.db.life then put_answer_in p.outgoing rep e else Err (faults.OtherLife p.db.life)
+    if e.life == p.db.life then as_log_answers (put_answer_in p.outgoing rep e) else Err (faults.OtherLife p.db.life)
 
 -- the entry is in its log, unless it is refused
 abbrev pub put_by : PeerValue → RepId → EntryValue → Result (Unit {0}) TargetFault → PeerValue

@@ -6,9 +6,7 @@
 -- may claim as carried can be held against what stands there. A source holds a log for each replication out of it: what
 -- the target said, session by session, that it had recorded. The common checkpoint of a later replication is read from
 -- both. Local writes are noted too, so that of each revision of a tree it can be said where it came from.
-use Rattle.std.specs.Prelude.{ℕ, ◌==◌, Bool, ◌&&◌, nat_le, nat_eq, if◌then◌else◌, List, [], map, Option, Result, Ok, Err}
-use Rattle.std.specs.Option.{option_eq}
-use Rattle.std.specs.Cmp.Lexicographic.{pointwise}
+use Rattle.std.specs.Prelude.{ℕ, ◌==◌, Bool, nat_le, if◌then◌else◌, List, [], map, Option, Result, Ok, Err}
 use Rattle.std.specs.List.{find, list_any}
 use Rattle.rev_core.specs.Rev.{RevId}
 use Rattle.rev_tree.specs.declared.origin.SessionId.{SessionId}
@@ -89,10 +87,6 @@ holds sessions id = list_any (is_of id) sessions
 -- the session stands in the place of the one of its id
 abbrev pub with_session : List SessionValue → SessionValue → List SessionValue
 with_session sessions t = map (λ s. if is_of t.id s then t else s) sessions
-
-abbrev pub same_rep : RepId → RepId → Bool
-same_rep a b =
-    (a.source == b.source) && ((a.target == b.target) && option_eq (pointwise (pointwise nat_eq)) a.chosen b.chosen)
 
 -- what a log says of a session
 abbrev pub entry_of : SessionValue → EntryValue

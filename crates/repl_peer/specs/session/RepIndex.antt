@@ -4,7 +4,7 @@ use Rattle.std.specs.Map.{lookup}
 use Rattle.std.specs.Option.{option_map_or}
 use Rattle.rev_tree.specs.declared.origin.SessionId.{SessionId}
 use Rattle.repl_log.specs.declared.replication.RepId.{RepId}
-use Rattle.repl_peer.specs.peer.Peer.{same_rep}
+use Rattle.repl_log.specs.RepId.{same_rep}
 use Rattle.repl_peer.specs.declared.session.rep_index.RepIndex.{RepIndex}
 
 -- the sessions that the index has of a replication, the oldest first

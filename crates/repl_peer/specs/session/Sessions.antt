@@ -8,7 +8,8 @@ use Rattle.range_front.specs.declared.fault.FrontFault.{FrontFault}
 use Rattle.range_front.specs.declared.fault.FrontFault.TheVariants as front_faults
 use Rattle.repl_log.specs.Counts.{no_counts}
 use Rattle.repl_log.specs.declared.replication.RepId.{RepId}
-use Rattle.repl_peer.specs.peer.Peer.{PeerValue, SessionValue, session_in, holds, with_session, is_of, same_rep}
+use Rattle.repl_log.specs.RepId.{same_rep}
+use Rattle.repl_peer.specs.peer.Peer.{PeerValue, SessionValue, session_in, holds, with_session, is_of}
 use Rattle.repl_peer.specs.declared.session.beginning.Beginning.{Beginning}
 use Rattle.repl_peer.specs.declared.fault.Report.{Report}
 use Rattle.repl_peer.specs.declared.fault.TargetFault.{TargetFault}

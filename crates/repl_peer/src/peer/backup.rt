@@ -6,11 +6,11 @@ ghost use Rattle.repl_peer.specs.session.Sessions.{GivesUnlessMemory};
 ghost use Rattle.repl_peer.specs.peer.Backups.{is_target, backup_answer, greater_life, restore_answer, after_restore};
 
 use crate::fault::TargetFault;
-use crate::logs::{Logs, copy_logs};
 use crate::peer::Peer;
 use crate::peer::filter::WriteFilter;
 use crate::peer::written::{Written, copy_writes};
 use couch_base::{Database, MOST_SEQUENCE};
+use repl_log::Logs;
 use std::alloc::Global;
 use std::marker::Model;
 
@@ -42,12 +42,12 @@ impl Model for Backup {
 
     ghost use Rattle.repl_peer.specs.peer.Backups.{IsBackup};
 
-    ghost view = { λ b. record { db = b.db; locals = b.locals.items; outgoing = b.outgoing.entries } };
+    ghost view = { λ b. record { db = b.db; locals = b.locals.items; outgoing = b.outgoing } };
 
     ghost invariant = { λ b. IsBackup (record {
       db = b.db;
       locals = b.locals.items;
-      outgoing = b.outgoing.entries;
+      outgoing = b.outgoing;
     }) };
 }
 
@@ -75,7 +75,7 @@ impl<F: WriteFilter> Peer<F> {
         }
         let db = self.db.copy(alloc)?;
         let locals = copy_writes(alloc, &self.locals)?;
-        let outgoing = copy_logs(alloc, &self.outgoing)?;
+        let outgoing = self.outgoing.copy(alloc)?;
         Ok(Backup {
             db,
             locals,
@@ -99,10 +99,10 @@ impl<F: WriteFilter> Peer<F> {
         // The reading tells the proof that the copy is one.
         let _copy = backup.db();
         self.law();
-        let alloc = *self.outgoing.allocator();
+        let alloc = *self.locals.allocator();
         let db = backup.db.copy_in(alloc, life)?;
         let locals = copy_writes(alloc, &backup.locals)?;
-        let outgoing = copy_logs(alloc, &backup.outgoing)?;
+        let outgoing = backup.outgoing.copy(alloc)?;
         self.db = db;
         self.locals = locals;
         self.outgoing = outgoing;

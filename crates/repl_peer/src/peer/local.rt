@@ -8,11 +8,10 @@ ghost use Rattle.couch_base.specs.Edit.{edit_answer, after_edit, EditGives};
 ghost use Rattle.repl_peer.specs.peer.Peer.{written_of};
 ghost use Rattle.repl_peer.specs.peer.Local.{with_load, with_edit, stood_on};
 
-use crate::peer::kept_rev::KeptRev;
 use crate::peer::written::Written;
 use couch_base::{BaseFault, Database, Put};
 use doc_json::{Body, Doc, DocId};
-use rev_core::Rev;
+use rev_core::{KeptRev, Rev};
 use rev_tree::Origin;
 use std::alloc::AllocError;
 

@@ -2,90 +2,10 @@
 ghost use Rattle.std.specs.Prelude.{◌≡◌, ◌≤◌, ◌∷◌, [], length, slice_get, IfOk};
 ghost use Rattle.std.specs.Option.{option_to_list};
 
-use crate::peer::kept_rev::KeptRev;
 use doc_json::DocId;
-use rev_core::{Ancestry, Rev};
+use rev_core::{Ancestry, KeptRev, Lineage, Rev};
 use std::alloc::{AllocError, Global};
 use std::marker::Model;
-
-/// The revisions of a write, newest first. One or two stand in the value itself.
-#[derive(Drop)]
-enum Lineage {
-    One(KeptRev),
-    Two(KeptRev, KeptRev),
-    Whole(Ancestry),
-}
-
-impl Lineage {
-    ghost use Rattle.std.specs.Prelude.{IfSome};
-    ghost use Rattle.repl_peer.specs.peer.Lineage.{revs_of};
-
-    /// One or two revisions with short signatures.
-    fn short(revs: &[Rev]) -> Option<Lineage>
-        ensures { IfSome result (λ l. revs_of l ≡ revs.now) }
-    {
-        match revs {
-            [rev] => Some(Lineage::One(KeptRev::short(rev)?)),
-            [rev, parent] => {
-                let rev = KeptRev::short(rev)?;
-                Some(Lineage::Two(rev, KeptRev::short(parent)?))
-            }
-            _ => None,
-        }
-    }
-
-    /// The revisions of an ancestry.
-    fn of(ancestry: Ancestry) -> Lineage
-        ensures { revs_of result ≡ ancestry }
-    {
-        match Lineage::short(ancestry.revs()) {
-            Some(short) => short,
-            None => Lineage::Whole(ancestry),
-        }
-    }
-
-    /// The revisions of an ancestry, copied.
-    fn copied(alloc: Global, ancestry: &Ancestry) -> Result<Lineage, AllocError>
-        ensures { IfOk result (λ l. revs_of l ≡ ancestry.now) }
-    {
-        match Lineage::short(ancestry.revs()) {
-            Some(short) => Ok(short),
-            None => Ok(Lineage::Whole(ancestry.copy(alloc)?)),
-        }
-    }
-
-    /// The same revisions.
-    fn copy(&self, alloc: Global) -> Result<Lineage, AllocError>
-        ensures { IfOk result (λ l. revs_of l ≡ revs_of self.now) }
-    {
-        match self {
-            Lineage::One(rev) => Ok(Lineage::One(rev.copy(alloc)?)),
-            Lineage::Two(rev, parent) => {
-                let rev = rev.copy(alloc)?;
-                Ok(Lineage::Two(rev, parent.copy(alloc)?))
-            }
-            Lineage::Whole(ancestry) => Ok(Lineage::Whole(ancestry.copy(alloc)?)),
-        }
-    }
-
-    /// The revision at a place, where there are so many; the newest is at 0.
-    fn rev(&self, place: usize) -> Option<Rev>
-        ensures { result ≡ slice_get (revs_of self.now) place }
-    {
-        match self {
-            Lineage::One(rev) => match place {
-                0 => Some(rev.rev()),
-                _ => None,
-            },
-            Lineage::Two(rev, parent) => match place {
-                0 => Some(rev.rev()),
-                1 => Some(parent.rev()),
-                _ => None,
-            },
-            Lineage::Whole(ancestry) => ancestry.revs().get(place).copied(),
-        }
-    }
-}
 
 /// A local write or an arrival: a document's id and the revisions that were written, newest first.
 #[derive(Drop)]
@@ -99,9 +19,7 @@ impl Model for Written {
 
     ghost Value = { WrittenValue };
 
-    ghost use Rattle.repl_peer.specs.peer.Lineage.{revs_of};
-
-    ghost view = { λ w. record { id = w.id; ancestry = revs_of w.lineage } };
+    ghost view = { λ w. record { id = w.id; ancestry = w.lineage } };
 }
 
 impl Written {
@@ -137,11 +55,10 @@ impl Written {
         let Some(rev) = KeptRev::short(&rev) else {
             unreachable!()
         };
-        let lineage = match parent {
-            Some(parent) => Lineage::Two(rev, parent),
-            None => Lineage::One(rev),
-        };
-        Written { id, lineage }
+        Written {
+            id,
+            lineage: Lineage::of_kept(rev, parent),
+        }
     }
 
     /// The same write.

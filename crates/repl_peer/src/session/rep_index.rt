@@ -1,7 +1,7 @@
 //! The index of sessions: which sessions a replication has.
 ghost use Rattle.std.specs.Prelude.{◌≡◌, ◌++◌, ◌∷◌, [], OnOk, OnErr, if◌then◌else◌};
 ghost use Rattle.repl_log.specs.declared.replication.RepId.{RepId};
-ghost use Rattle.repl_peer.specs.peer.Peer.{same_rep};
+ghost use Rattle.repl_log.specs.RepId.{same_rep};
 
 use indexmap::IndexMap;
 use repl_log::RepId;

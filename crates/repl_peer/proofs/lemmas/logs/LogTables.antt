@@ -1,99 +1,23 @@
--- Logs of a peer: what its tables hold, and putting an entry.
-use Rattle.std.proofs.Common.{◌≡◌, ℕ, zero, suc, ◌+◌, ◌==◌, ◌||◌, nat_lt, Bool, true, false, cond, List, [], ◌∷◌, ◌++◌, map, filter, take, Option, Some, None, Result, Ok, Err, IsOk, unwrap_or, refl, sym, ap, ◌∙◌, subst}
+-- The log of a replication, as the table of sessions says it.
+use Rattle.std.proofs.Common.{◌≡◌, ℕ, zero, suc, ◌+◌, ◌==◌, ◌||◌, true, false, List, [], ◌∷◌, ◌++◌, map, filter, take, Some, refl, sym, ap, ◌∙◌, subst}
 use Rattle.std.specs.List.{slice_get, list_any, IsDistinct, AllByRecursion}
-use Rattle.std.specs.Map.{keys_of, lookup, set_value}
-use Rattle.std.proofs.lemmas.Bool.{cond_both, cond-true, cond-false, false≢true}
+use Rattle.std.specs.Map.{keys_of}
+use Rattle.std.proofs.lemmas.Bool.{cond_both, cond-true, cond-false}
 use Rattle.std.proofs.lemmas.List.{take_more}
 use Rattle.std.proofs.lemmas.Option.{slice_get_within, get_or_from_slice_get}
 use Rattle.std.proofs.lemmas.Grind.{reverse_onto}
 use Rattle.rev_tree.specs.declared.origin.SessionId.{SessionId}
 use Rattle.couch_base.specs.ListLaws.{some_is, none_some, none_append, both_false}
 use Rattle.repl_log.specs.declared.replication.RepId.{RepId}
-use Rattle.repl_log.specs.declared.fault.LogFault.{LogFault}
-use Rattle.repl_log.specs.declared.fault.LogFault.TheVariants as log_faults
-use Rattle.repl_log.specs.Answers.{GivesUnlessMemory as LogGives}
 use Rattle.repl_log.specs.Entry.{EntryValue}
-use Rattle.repl_log.specs.Log.{holds, replaced, entry_for, with_entry, put_beside, put_answer}
-use Rattle.repl_peer.specs.peer.Peer.{SessionValue, is_of, same_rep, entry_of}
+use Rattle.repl_log.specs.Log.{holds, replaced, with_entry}
+use Rattle.repl_log.specs.RepId.{same_rep}
+use Rattle.repl_peer.specs.peer.Peer.{SessionValue, is_of, entry_of}
 use Rattle.repl_peer.specs.session.StoredSessions.{sessions_of}
-use Rattle.repl_peer.specs.session.Sessions.{GivesUnlessMemory}
-use Rattle.repl_peer.specs.logs.Logs.{log_of, log_in, logs_with, as_log_answers, put_answer_in}
+use Rattle.repl_peer.specs.logs.Logs.{log_of}
 use Rattle.repl_log.specs.Stored.{at_session, IsKeyed}
 use Rattle.repl_log.specs.StoredLaws.{EachSessionOnce, newest_first-push}
 use Rattle.repl_peer.proofs.lemmas.session.SessionTable.{Entries, id_of, itself}
-
--- ---- outgoing logs
-
-abbrev Logs : Type 0
-Logs = List (RepId × List EntryValue)
-
-lookup_step : (b : Bool) (l : RepId × List EntryValue) (log : List EntryValue) (o : Option (List EntryValue)) → log ≡ unwrap_or o [] → cond b l.1 log ≡ unwrap_or (cond b (Some l.1) o) []
-lookup_step true l log o rest = refl
-lookup_step false l log o rest = rest
-
-pub log_in-lookup : (rep : RepId) (logs : Logs) → log_in logs rep ≡ unwrap_or (lookup (same_rep rep) logs) []
-log_in-lookup rep [] = refl
-log_in-lookup rep (l ∷ logs) = lookup_step (same_rep rep l.0) l (log_in logs rep) (lookup (same_rep rep) logs) (log_in-lookup rep logs)
-
-pub log_in-found : (rep : RepId) (logs : Logs) (log : List EntryValue) → lookup (same_rep rep) logs ≡ Some log → log_in logs rep ≡ log
-log_in-found rep logs log is = log_in-lookup rep logs ∙ ap (λ o. unwrap_or o []) is
-
-pub log_in-absent : (rep : RepId) (logs : Logs) → lookup (same_rep rep) logs ≡ None → log_in logs rep ≡ []
-log_in-absent rep logs is = log_in-lookup rep logs ∙ ap (λ o. unwrap_or o []) is
-
--- a write at a replication puts the entry
-set_step : (b : Bool) (l : RepId × List EntryValue) (logs set with : Logs) (e : EntryValue) (log : List EntryValue) (o : Option (List EntryValue)) → (o ≡ Some log → set ≡ with) → cond b (Some l.1) o ≡ Some log
-    → cond b ((l.0, with_entry log e) ∷ logs) (l ∷ set) ≡ cond b ((l.0, with_entry l.1 e) ∷ logs) (l ∷ with)
-set_step true l logs set with e log o rest is = ap (λ g. (l.0, with_entry g e) ∷ logs) (sym (some_is l.1 log is))
-set_step false l logs set with e log o rest is = ap (λ ls. l ∷ ls) (rest is)
-
-pub logs_with-set : (rep : RepId) (e : EntryValue) (logs : Logs) (log : List EntryValue) → lookup (same_rep rep) logs ≡ Some log → set_value (same_rep rep) logs (with_entry log e) ≡ logs_with logs rep e
-logs_with-set rep e [] log is = absurd (none_some log is)
-logs_with-set rep e (l ∷ logs) log is =
-    set_step (same_rep rep l.0) l logs (set_value (same_rep rep) logs (with_entry log e)) (logs_with logs rep e) e log (lookup (same_rep rep) logs) (λ i. logs_with-set rep e logs log i) is
-
--- the log of a new replication comes last
-new_step : (b : Bool) (l : RepId × List EntryValue) (logs pushed with : Logs) (e : EntryValue) (o : Option (List EntryValue)) → (o ≡ None → pushed ≡ with) → cond b (Some l.1) o ≡ None → l ∷ pushed ≡ cond b ((l.0, with_entry l.1 e) ∷ logs) (l ∷ with)
-new_step true l logs pushed with e o rest is = absurd (none_some l.1 (sym is))
-new_step false l logs pushed with e o rest is = ap (λ ls. l ∷ ls) (rest is)
-
-pub logs_with-new : (rep : RepId) (e : EntryValue) (logs : Logs) → lookup (same_rep rep) logs ≡ None → logs ++ (rep, with_entry [] e) ∷ [] ≡ logs_with logs rep e
-logs_with-new rep e [] is = refl
-logs_with-new rep e (l ∷ logs) is =
-    new_step (same_rep rep l.0) l logs (logs ++ (rep, with_entry [] e) ∷ []) (logs_with logs rep e) e (lookup (same_rep rep) logs) (λ i. logs_with-new rep e logs i) is
-
--- ---- what putting an entry answers
-
-ok_kept : (r : Result (Unit {0}) LogFault) → IsOk r → IsOk (as_log_answers r)
-ok_kept (Ok done) is = refl
-ok_kept (Err fault) is = absurd (false≢true is)
-
-no_moment : (b : Bool) (n : ℕ) → Err log_faults.BadMoment ≡ cond b (Err (log_faults.Older n)) (Ok (tt {0})) → ⊥
-no_moment true n is = cc
-no_moment false n is = cc
-
-no_empty : (b : Bool) (n : ℕ) → Err log_faults.EmptyLog ≡ cond b (Err (log_faults.Older n)) (Ok (tt {0})) → ⊥
-no_empty true n is = cc
-no_empty false n is = cc
-
--- a log refuses only what is older
-as_answers : (e : EntryValue) (o : Option EntryValue) (r : Result (Unit {0}) LogFault) → LogGives r (put_beside e o) → GivesUnlessMemory (as_log_answers r) (as_log_answers (put_beside e o))
-as_answers e o (Ok done) is = ap as_log_answers is
-as_answers e o (Err (log_faults.Older n)) is = ap as_log_answers is
-as_answers e o (Err log_faults.Memory) is = ok_kept (put_beside e o) is
-as_answers e None (Err log_faults.BadMoment) is = cc
-as_answers e (Some stored) (Err log_faults.BadMoment) is = absurd (no_moment (nat_lt e.recorded stored.recorded) stored.recorded is)
-as_answers e None (Err log_faults.EmptyLog) is = cc
-as_answers e (Some stored) (Err log_faults.EmptyLog) is = absurd (no_empty (nat_lt e.recorded stored.recorded) stored.recorded is)
-
-pub put_answer_in-found : (rep : RepId) (e : EntryValue) (logs : Logs) (log : List EntryValue) (r : Result (Unit {0}) LogFault) → lookup (same_rep rep) logs ≡ Some log → LogGives r (put_answer log e) → GivesUnlessMemory (as_log_answers r) (put_answer_in logs rep e)
-put_answer_in-found rep e logs log r is told =
-    subst (λ g. GivesUnlessMemory (as_log_answers r) (as_log_answers (put_answer g e))) (sym (log_in-found rep logs log is)) (as_answers e (entry_for log e.session) r told)
-
-pub put_answer_in-new : (rep : RepId) (e : EntryValue) (logs : Logs) → lookup (same_rep rep) logs ≡ None → put_answer_in logs rep e ≡ Ok tt
-put_answer_in-new rep e logs is = ap (λ g. as_log_answers (put_answer g e)) (log_in-absent rep logs is)
-
--- ---- the log of the sessions
 
 sessions_of-cons : (e : SessionId × SessionValue) (es : Entries) → sessions_of (e ∷ es) ≡ sessions_of es ++ e.1 ∷ []
 sessions_of-cons e es = reverse_onto (map (λ (e : SessionId × SessionValue). e.1) es) (e.1) []

@@ -1,16 +1,12 @@
 -- What loading, editing, beginning, appending, recording and concluding keep: the peer's law, and all that covers.
-use Rattle.std.proofs.Common.{◌≡◌, ◌⊎◌, ℕ, ◌<◌, ◌≤◌, ◌^◌, ◌==◌, List, [], ◌∷◌, ◌++◌, Bool, true, false, cond, ◌&&◌, Option, Some, None, Result, Ok, Err, refl, sym, ap, ◌∙◌, subst, inl, inr, arith, eqb, nat_lt}
-use Rattle.std.specs.Prelude.{nat_eq}
-use Rattle.std.specs.Option.{option_eq}
-use Rattle.std.specs.Cmp.Lexicographic.{pointwise, pointwise_decides, bytes_decides}
+use Rattle.std.proofs.Common.{◌≡◌, ◌⊎◌, ℕ, ◌<◌, ◌≤◌, ◌^◌, ◌==◌, List, [], ◌∷◌, ◌++◌, Bool, false, cond, ◌&&◌, Option, Some, None, Result, Ok, Err, refl, sym, ap, ◌∙◌, subst, inl, inr, arith, eqb, nat_lt}
 use Rattle.std.specs.List.{slice_get, IsDistinct, AllByRecursion}
-use Rattle.std.proofs.lemmas.Bool.{and_parts, and_from, cond_both, eq-eqb, eqb-true, eqb-false, ltb-false, or_parts, false≢true, ne_eqb}
+use Rattle.std.proofs.lemmas.Bool.{and_parts, cond_both, eqb-true, eqb-false, ltb-false, or_parts, ne_eqb}
 use Rattle.std.proofs.lemmas.List.{map_push}
 use Rattle.std.proofs.lemmas.Map.Keys.{IsDistinct-cons}
 use Rattle.rev_core.specs.Rev.{RevId}
 use Rattle.rev_tree.specs.declared.origin.SessionId.{SessionId}
 use Rattle.doc_json.specs.Document.{Document}
-use Rattle.doc_json.specs.Chosen.{Choice}
 use Rattle.couch_base.specs.Lists.{Among}
 use Rattle.couch_base.specs.Database.{Id}
 use Rattle.couch_base.specs.Feed.{WindowValue, IsWindow}
@@ -23,7 +19,9 @@ use Rattle.range_front.specs.FrontLaws.{IsFront-no_windows, IsFront-appended, is
 use Rattle.repl_log.specs.declared.replication.RepId.{RepId}
 use Rattle.repl_peer.specs.declared.fault.TargetFault.{TargetFault}
 use Rattle.repl_peer.specs.declared.fault.TargetFault.TheVariants as faults
-use Rattle.repl_peer.specs.peer.Peer.{PeerValue, SessionValue, WrittenValue, new_peer_at, written_of, is_of, session_in, holds, same_rep}
+use Rattle.repl_log.specs.RepId.{same_rep}
+use Rattle.repl_log.specs.RepIdLaws.{same_rep-is}
+use Rattle.repl_peer.specs.peer.Peer.{PeerValue, SessionValue, WrittenValue, new_peer_at, written_of, is_of, session_in, holds}
 use Rattle.repl_peer.specs.peer.Writing.{next_local, after_load, load_edited, after_edit}
 use Rattle.repl_peer.specs.session.Sessions.{on_found, on_session, start_answer, base_in, on_base, base_answer, goal_answer, begin_answer, new_session, begun, after_begin, next_in, append_in, with_window, after_append, recorded_at, after_record, after_conclude}
 use Rattle.repl_peer.specs.peer.Law.{LawfulSession, LawfulSessions, session_numbers}
@@ -70,32 +68,6 @@ edit_later p id parent deleted body = go (edited p.db id parent deleted body)
     go (Err fault) = IsLaterPeer-same p
 
 -- ---- beginning
-
--- the test of two choices tells them apart
-abbrev pub same_test : Choice → Choice → Bool
-same_test a b = option_eq (pointwise (pointwise nat_eq)) a b
-
-pub same_choice : (a b : Choice) → same_test a b ≡ true → a ≡ b
-same_choice None None e = refl
-same_choice None (Some ys) e = absurd (false≢true e)
-same_choice (Some xs) None e = absurd (false≢true e)
-same_choice (Some xs) (Some ys) e = ap Some ((pointwise_decides bytes_decides xs ys).0 e)
-
-same_choice-self : (c : Choice) → same_test c c ≡ true
-same_choice-self None = refl
-same_choice-self (Some ids) = (pointwise_decides bytes_decides ids ids).1 refl
-
-pub same_rep-self : (a : RepId) → same_rep a a ≡ true
-same_rep-self a = and_from _ _ (eq-eqb a.source a.source refl) (and_from _ _ (eq-eqb a.target a.target refl) (same_choice-self a.chosen))
-
-pub same_rep-is : (a b : RepId) → same_rep a b ≡ true → a ≡ b
-same_rep-is a b e =
-    let k = and_parts _ _ e in
-    let m = and_parts _ _ k.1 in
-    let source : a.source ≡ b.source = eqb-true _ _ k.0 in
-    let target : a.target ≡ b.target = eqb-true _ _ m.0 in
-    let chosen : a.chosen ≡ b.chosen = same_choice a.chosen b.chosen m.1 in
-    λ i. record { source = source i; target = target i; chosen = chosen i }
 
 starts_within : (start recorded : ℕ) (done : Unit {0}) → start_answer start recorded ≡ Ok done → start ≤ recorded
 starts_within start recorded done h =

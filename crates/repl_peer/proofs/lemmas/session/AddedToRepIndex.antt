@@ -6,8 +6,8 @@ use Rattle.std.specs.Map.{lookup, set_value}
 use Rattle.std.proofs.lemmas.Map.{lookup-set_value}
 use Rattle.rev_tree.specs.declared.origin.SessionId.{SessionId}
 use Rattle.repl_log.specs.declared.replication.RepId.{RepId}
-use Rattle.repl_peer.specs.peer.Peer.{same_rep}
-use Rattle.repl_peer.proofs.lemmas.peer.CallsKeepLaw.{same_rep-is, same_rep-self}
+use Rattle.repl_log.specs.RepId.{same_rep}
+use Rattle.repl_log.specs.RepIdLaws.{same_rep-is, same_rep-self}
 
 same_both : (x y : RepId) (a b : Bool) → same_rep x y ≡ a → same_rep y x ≡ b → a ≡ b
 same_both x y true true e f = refl

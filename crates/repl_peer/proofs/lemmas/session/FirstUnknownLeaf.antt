@@ -9,8 +9,7 @@ use Rattle.doc_json.specs.Chosen.{Choice}
 use Rattle.couch_base.specs.Lists.{Among}
 use Rattle.couch_base.specs.Database.{Id, DatabaseValue, LawfulDatabase}
 use Rattle.couch_base.specs.Feed.{RowValue, chosen_feed, page}
-use Rattle.repl_peer.specs.peer.Peer.{PeerValue}
-use Rattle.repl_peer.specs.peer.Covered.{Leaf, covers, unknown_in, first_unknown}
+use Rattle.repl_peer.specs.peer.Covered.{Leaf, unknown_in, first_unknown}
 use Rattle.couch_base.specs.FeedLaws.{feed-page}
 
 -- ---- the first unknown leaf

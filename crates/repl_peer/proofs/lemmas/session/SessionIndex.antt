@@ -15,7 +15,8 @@ use Rattle.repl_log.specs.declared.replication.RepId.{RepId}
 use Rattle.repl_log.specs.Entry.{EntryValue}
 use Rattle.repl_log.specs.Stored.{at_session, IsKeyed}
 use Rattle.repl_log.specs.StoredLaws.{EachSessionOnce}
-use Rattle.repl_peer.specs.peer.Peer.{SessionValue, is_of, same_rep, entry_of, with_session}
+use Rattle.repl_log.specs.RepId.{same_rep}
+use Rattle.repl_peer.specs.peer.Peer.{SessionValue, is_of, entry_of, with_session}
 use Rattle.repl_peer.specs.logs.Logs.{log_of}
 use Rattle.repl_peer.specs.session.RepIndex.{listed}
 use Rattle.repl_peer.specs.session.StoredSessions.{sessions_of, ids_of, AreListed, IsTableOf}

@@ -15,7 +15,8 @@ use Rattle.range_front.specs.Front.{low_water}
 use Rattle.repl_log.specs.declared.replication.RepId.{RepId}
 use Rattle.repl_log.specs.Stored.{at_session, IsKeyed}
 use Rattle.repl_log.specs.StoredLaws.{same_id, find-chosen, find-lookup, any-lookup, newest_first-set, newest_first-push, IsKeyed-set, IsKeyed-push}
-use Rattle.repl_peer.specs.peer.Peer.{SessionValue, is_of, session_in, holds, with_session, same_rep}
+use Rattle.repl_log.specs.RepId.{same_rep}
+use Rattle.repl_peer.specs.peer.Peer.{SessionValue, is_of, session_in, holds, with_session}
 use Rattle.repl_peer.specs.peer.Covered.{in_ledger}
 use Rattle.repl_peer.specs.session.Sessions.{base_in, base_answer, on_base, goal_answer, start_answer, append_in, with_window, recorded_at}
 use Rattle.repl_peer.specs.session.SettlingParts.{IndexesMore}

@@ -3,7 +3,7 @@ use Rattle.std.specs.Option.{option_copied}
 use Rattle.repl_log.specs.Entry.{EntryValue}
 use Rattle.repl_log.specs.Log.{common}
 use Rattle.repl_peer.specs.logs.Logs.{log_of}
-use Rattle.repl_peer.proofs.lemmas.logs.LogTables.{log_in-found, log_in-absent}
+use Rattle.repl_log.specs.LogsLaws.{log_in-found, log_in-absent}
 use Rattle.repl_peer.proofs.logs.checkpoint.Goals as goal
 
 -- no session is shared with a log that holds none
@@ -13,14 +13,14 @@ common-nothing (t ∷ target) = common-nothing target
 
 pub returns-in-Some : goal.returns-in-Some
 returns-in-Some g c =
-    let there = sym c.get.ensures.value ∙ ap option_copied c.in-Some.is in
-    let log = log_in-found c.args.rep.now c.source.inside.outgoing.entries c.in-Some.log.now there in
+    let there = sym c.get.ensures ∙ ap option_copied c.in-Some.is in
+    let log = log_in-found c.args.rep.now c.source.inside.outgoing c.in-Some.log.now there in
     rw (← c.source.view_is) (rw (← c.target.view_is) (c.shared_with.ensures ∙ ap (λ (l : List EntryValue). common l (log_of c.target.inside.sessions c.args.rep.now)) (sym log)))
 
 pub returns-in-None : goal.returns-in-None
 returns-in-None g c =
-    let there = sym c.get.ensures.value ∙ ap option_copied c.in-None.is in
-    let log = log_in-absent c.args.rep.now c.source.inside.outgoing.entries there in
+    let there = sym c.get.ensures ∙ ap option_copied c.in-None.is in
+    let log = log_in-absent c.args.rep.now c.source.inside.outgoing there in
     rw (← c.source.view_is)
     (rw (← c.target.view_is)
     (sym (ap (λ (l : List EntryValue). common l (log_of c.target.inside.sessions c.args.rep.now)) log ∙ common-nothing (log_of c.target.inside.sessions c.args.rep.now))))

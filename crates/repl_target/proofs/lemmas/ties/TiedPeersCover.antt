@@ -15,7 +15,8 @@ use Rattle.repl_log.specs.declared.replication.RepId.{RepId}
 use Rattle.repl_log.specs.Entry.{EntryValue}
 use Rattle.repl_log.specs.Log.{is_of, common}
 use Rattle.repl_log.specs.LogLaws.{common-IsCommon, common-le}
-use Rattle.repl_peer.specs.peer.Peer.{PeerValue, SessionValue, entry_of, same_rep}
+use Rattle.repl_log.specs.RepId.{same_rep}
+use Rattle.repl_peer.specs.peer.Peer.{PeerValue, SessionValue, entry_of}
 use Rattle.repl_peer.specs.peer.Covered.{covers}
 use Rattle.repl_peer.specs.peer.Law.{LawfulSession, LawfulSessions}
 use Rattle.repl_peer.specs.logs.Logs.{source_log, target_log}
@@ -25,7 +26,7 @@ use Rattle.repl_target.specs.replication.Replication.{start_at, checkpoint_of, s
 use Rattle.repl_target.specs.declared.auditing.found.Audit.{Audit}
 use Rattle.repl_target.specs.declared.auditing.found.Audit.TheVariants.{Clean, Hole}
 use Rattle.couch_base.specs.MemberLaws.{Among-map, found_member}
-use Rattle.repl_peer.proofs.lemmas.peer.CallsKeepLaw.{same_rep-is}
+use Rattle.repl_log.specs.RepIdLaws.{same_rep-is}
 use Rattle.repl_peer.proofs.lemmas.session.WindowsFollow.{window-stored}
 use Rattle.repl_target.specs.ties.Ties.{IsTiedWindow, IsReached, IsTiedSession, IsTiedEntry, AreTiedEntries, IsTiedPair, LogsAreHonest}
 use Rattle.repl_peer.proofs.lemmas.Members.{Among-filter}

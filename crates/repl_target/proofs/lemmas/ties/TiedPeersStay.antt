@@ -12,12 +12,14 @@ use Rattle.couch_base.specs.MemberLaws.{Among-map, Among-push}
 use Rattle.repl_log.specs.declared.replication.RepId.{RepId}
 use Rattle.repl_log.specs.Entry.{EntryValue}
 use Rattle.repl_log.specs.Log.{is_of, holds, replaced, with_entry}
-use Rattle.repl_peer.specs.peer.Peer.{PeerValue, SessionValue, same_rep, entry_of, session_in}
+use Rattle.repl_log.specs.RepId.{same_rep}
+use Rattle.repl_peer.specs.peer.Peer.{PeerValue, SessionValue, entry_of, session_in}
 use Rattle.repl_peer.specs.peer.Law.{LawfulSessions}
 use Rattle.repl_peer.specs.peer.Later.{IsLaterPeer}
 use Rattle.repl_peer.specs.logs.Checkpoint.{rep_between}
 use Rattle.repl_peer.specs.peer.Backups.{BackupValue}
-use Rattle.repl_peer.specs.logs.Logs.{log_in, source_log, logs_with, put_by, put_answer_in, put_entry_answer, after_put_entry}
+use Rattle.repl_log.specs.Logs.{log_in, logs_with, put_answer_in}
+use Rattle.repl_peer.specs.logs.Logs.{source_log, as_log_answers, put_by, put_entry_answer, after_put_entry}
 use Rattle.repl_peer.specs.session.Sessions.{new_session, with_window, session_answer, found_answer}
 use Rattle.repl_target.specs.ties.Ties.{IsTiedWindow, IsReached, IsTiedSession, IsTiedEntry, AreTiedEntries, IsTiedPair, AreTiedBackups, IsSentEntry}
 use Rattle.repl_target.specs.replication.Calls.{Call, Load, Edit, Begin, Append, Settle, Stop, Record, Conclude, after_call, after_calls, IsFrom, AllFrom, IsGrown}
@@ -27,7 +29,8 @@ use Rattle.repl_target.specs.replication.Replication.{beginning_between, start_b
 use Rattle.repl_target.specs.declared.replication.Plan.{Plan}
 use Rattle.repl_peer.specs.declared.session.beginning.Beginning.{Beginning}
 use Rattle.repl_peer.proofs.lemmas.peer.LaterPeers.{covers-later, session_found}
-use Rattle.repl_peer.proofs.lemmas.peer.CallsKeepLaw.{begin_later, same_rep-is}
+use Rattle.repl_log.specs.RepIdLaws.{same_rep-is}
+use Rattle.repl_peer.proofs.lemmas.peer.CallsKeepLaw.{begin_later}
 use Rattle.repl_target.proofs.lemmas.ties.TiedPages.{chosen_member, in_chosen, IsTiedWindow-later}
 use Rattle.repl_target.proofs.lemmas.replication.CallLaws.{Stays, Brings, call_law, call_keeps, page_window, IsRunOf, call_runs}
 use Rattle.repl_target.proofs.lemmas.ties.TiedPeersCover.{session_reached, start_reached}
@@ -266,7 +269,7 @@ puts_tied refuses source target rep c e law h sent = go (put_entry_answer source
     go : (r : Result (Unit {0}) TargetFault) → put_entry_answer source rep e ≡ r → IsTiedPair (put_by source rep e r) target c
     go (Err fault) k = h
     go (Ok done) k =
-        let tied = sent_tied refuses source target c e law h sent (of_life (put_answer_in source.outgoing rep e) done k) in
+        let tied = sent_tied refuses source target c e law h sent (of_life (as_log_answers (put_answer_in source.outgoing rep e)) done k) in
         record {
           sessions = h.sessions;
           log = λ x m. elim (log_with source.outgoing rep e own x m) [ inl i ↦ subst (IsTiedEntry source.db target own) (sym i.1) tied | inr old ↦ h.log x old ];

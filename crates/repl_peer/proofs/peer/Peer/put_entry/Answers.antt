@@ -2,7 +2,10 @@ use Rattle.repl_peer.proofs.lemmas.logs.PutChangesLogsAlone.{Lawful-logs}
 use Rattle.repl_peer.proofs.peer.Peer.put_entry.Goals as goal
 
 pub invariant_of-self : goal.invariant_of-self
-invariant_of-self g c = Lawful-logs _ _ c.put.new.logs.entries c.self.invariant
+invariant_of-self g c = Lawful-logs _ _ c.put.new.self c.self.invariant
+
+pub invariant_of-self-2 : goal.invariant_of-self-2
+invariant_of-self-2 g c = Lawful-logs _ _ c.put.new.self c.self.invariant
 
 pub returns-clause-law : goal.returns-clause-law
-returns-clause-law g c = invariant_of-self g c
+returns-clause-law g c = invariant_of-self-2 g c

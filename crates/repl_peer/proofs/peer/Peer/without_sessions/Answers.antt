@@ -5,11 +5,11 @@ use Rattle.repl_peer.proofs.peer.Peer.without_sessions.Goals as goal
 
 pub invariant_of-result : goal.invariant_of-result
 invariant_of-result g c =
-    let new : record { db = c.args.db; locals = c.new.result.items; sessions = c.new-2.result; outgoing = c.new-3.result.entries } ≡ new_peer_at c.args.db.uuid c.args.db.update_seq = λ i. record {
+    let new : record { db = c.args.db; locals = c.new.result.items; sessions = c.new-2.result; outgoing = c.new-3.result } ≡ new_peer_at c.args.db.uuid c.args.db.update_seq = λ i. record {
       db = c.requires i;
       locals = c.new.ensures.items i;
       sessions = c.new-2.ensures i;
-      outgoing = c.new-3.ensures.empty i;
+      outgoing = c.new-3.ensures i;
     } in
     Lawful-new _ c.args.db.uuid c.args.db.update_seq _ new
 

@@ -3,7 +3,7 @@ use Rattle.std.specs.Map.{lookup}
 use Rattle.std.specs.Option.{option_copied_mut, option_map_or}
 use Rattle.std.proofs.lemmas.Result.{err_from_is_err_and}
 use Rattle.repl_log.specs.declared.replication.RepId.{RepId}
-use Rattle.repl_peer.specs.peer.Peer.{same_rep}
+use Rattle.repl_log.specs.RepId.{same_rep}
 use Rattle.repl_peer.proofs.lemmas.session.AddedToRepIndex.{added_known, added_new, kept_known}
 use Rattle.repl_peer.proofs.session.rep_index.RepIndex.add.Goals as goal
 

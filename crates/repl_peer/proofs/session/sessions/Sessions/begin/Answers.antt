@@ -4,7 +4,8 @@ use Rattle.indexmap.proofs.CallerLemmas.{insert_entry-new}
 use Rattle.rev_tree.specs.declared.origin.SessionId.{SessionId}
 use Rattle.repl_log.specs.declared.replication.RepId.{RepId}
 use Rattle.repl_log.specs.Stored.{at_session}
-use Rattle.repl_peer.specs.peer.Peer.{SessionValue, holds, same_rep}
+use Rattle.repl_log.specs.RepId.{same_rep}
+use Rattle.repl_peer.specs.peer.Peer.{SessionValue, holds}
 use Rattle.repl_peer.specs.session.RepIndex.{listed}
 use Rattle.repl_peer.specs.session.StoredSessions.{sessions_of, AreListed, IsTableOf}
 use Rattle.repl_peer.proofs.lemmas.session.SessionIndex.{AreListed-new, AreListed-same}
