@@ -5,8 +5,7 @@ use Rattle.std.proofs.lemmas.List.{append-nil}
 use Rattle.progress_board.specs.Seats.{AreNew, CameWith}
 use Rattle.progress_board.specs.declared.board.Board.{Board}
 use Rattle.progress_board.specs.declared.seat.BoardSeat.{BoardSeat}
-use Rattle.repl_pool.proofs.NewSeats.{new_taken, new_workers}
-use Rattle.repl_pool.specs.Boards.{WorksAt}
+use Rattle.repl_pool.proofs.NewSeats.{new_taken}
 
 -- the one that was taken came with the board
 pub taken_came : (b : Board) (seats rest : List BoardSeat) (taken : Option BoardSeat) → AreNew b seats → seats ≡ rest ++ option_to_list taken → IfSome taken (CameWith b)

@@ -3,7 +3,6 @@ use Rattle.std.proofs.Common.{◌≡◌, ℕ, ◌==◌, Bool, cond, Option, Some
 use Rattle.std.proofs.lemmas.Bool.{cond_both, cond-true, eqb-true, eq-eqb, false≢true}
 use Rattle.rev_tree.specs.declared.origin.SessionId.{SessionId}
 use Rattle.doc_json.specs.Document.{Document}
-use Rattle.couch_base.specs.ListLaws.{some_is}
 use Rattle.doc_json.specs.Chosen.{Choice}
 use Rattle.couch_base.specs.Database.{DatabaseValue, LawfulDatabase}
 use Rattle.range_front.specs.Front.{low_water}
@@ -14,14 +13,14 @@ use Rattle.repl_target.specs.declared.replication.Plan.{Plan}
 use Rattle.repl_peer.specs.peer.Peer.{PeerValue, SessionValue, is_of, session_in, with_session}
 use Rattle.repl_peer.specs.peer.Law.{LawfulSessions}
 use Rattle.std.specs.List.{find}
+use Rattle.std.proofs.lemmas.Option.{same_Some}
 use Rattle.repl_peer.specs.session.Sessions.{new_session, begun as begun_by, found_answer, on_found, recorded_at, after_record, report_of, conclude_in, conclude_answer, after_conclude}
-use Rattle.repl_peer.specs.logs.Checkpoint.{rep_between}
 use Rattle.repl_target.specs.replication.Replication.{begins_answer, after_begins, beginning_between}
 use Rattle.repl_peer.proofs.lemmas.peer.LaterPeers.{session_found}
 use Rattle.repl_target.proofs.lemmas.replication.SourceFeedStored.{found-is}
 use Rattle.repl_target.specs.replication.Calls.{Record, Conclude, IsGrown, after_calls}
 use Rattle.repl_target.proofs.lemmas.replication.CallLaws.{calls_law}
-use Rattle.repl_target.proofs.lemmas.replication.ReplicationAsCalls.{grown-same, grown-later, grown-one}
+use Rattle.repl_target.proofs.lemmas.replication.ReplicationAsCalls.{grown-later, grown-one}
 use Rattle.repl_target.proofs.lemmas.replication.BegunSessions.{later_session, later_covers}
 use Rattle.repl_pool.specs.Grown.{GrownPeer}
 use Rattle.repl_pool.specs.Runs.{EndsWell}
@@ -81,7 +80,7 @@ ends_well refuses source target plan p now report n law l ok grown reads answer 
     let l' : LawfulSessions refuses now = subst (LawfulSessions refuses) (sym whole.2) (calls_law refuses source.db plan.chosen plan.session whole.0 begun law whole.1 l).0 in
     let c = closes_in p plan.session plan.at report now answer after in
     let found = found-is now.sessions plan.session t.session l'.distinct t.held t.id in
-    let same : t.session ≡ recorded_at plan.at c.session = some_is t.session (recorded_at plan.at c.session) (sym found ∙ c.held) in
+    let same : t.session ≡ recorded_at plan.at c.session = same_Some t.session (recorded_at plan.at c.session) (sym found ∙ c.held) in
     let is : report ≡ report_of t.session = c.is ∙ ap report_of (sym same) in
     let recorded : t.session.recorded ≡ source.db.update_seq =
     ap (λ (s : SessionValue). s.recorded) same ∙ c.reached ∙ sym (ap (λ (s : SessionValue). s.goal) same) ∙ t.goal in

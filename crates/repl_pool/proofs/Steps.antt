@@ -1,6 +1,6 @@
 -- What a worker knows after one message.
 use Rattle.std.proofs.Common.{◌≡◌, ℕ, ◌+◌, ◌≤◌, ◌==◌, if◌then◌else◌, List, [], ◌∷◌, ◌++◌, length, refl, ap, ◌∙◌, arith, length-append}
-use Rattle.std.proofs.lemmas.List.{map-append, append-nil}
+use Rattle.std.proofs.lemmas.List.{map-append}
 use Rattle.repl_pool.specs.Sums.{weigh, times, once_below}
 use Rattle.repl_pool.specs.declared.windows.WindowView.{WindowView}
 use Rattle.repl_pool.specs.declared.windows.WindowMessage.{WindowMessage}

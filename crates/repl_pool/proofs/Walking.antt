@@ -1,7 +1,7 @@
 -- The walk over a feed that is cut in two.
-use Rattle.std.proofs.Common.{◌≡◌, ℕ, ◌+◌, ◌-◌, ◌/◌, ◌<◌, ◌≤◌, Bool, true, false, cond, ◌&&◌, nat_lt, nat_le, List, [], ◌∷◌, ◌++◌, map, filter, refl, sym, ap, subst, ◌∙◌, arith}
+use Rattle.std.proofs.Common.{◌≡◌, ℕ, ◌+◌, ◌-◌, ◌/◌, ◌<◌, ◌≤◌, Bool, true, false, cond, ◌&&◌, nat_lt, nat_le, List, [], ◌∷◌, ◌++◌, map, refl, sym, ap, subst, ◌∙◌, arith}
 use Rattle.std.specs.Option.{option_or}
-use Rattle.std.proofs.lemmas.Bool.{and_parts, cond_both, leb-true}
+use Rattle.std.proofs.lemmas.Bool.{and_parts, cond_both, leb-true, lt-ltb, le-ltb, le-leb, leb-false}
 use Rattle.std.proofs.lemmas.List.{map-append}
 use Rattle.std.proofs.lemmas.List.Elements.{filter-append}
 use Rattle.doc_json.specs.Chosen.{Choice, is_chosen}
@@ -12,18 +12,6 @@ use Rattle.couch_base.specs.FeedLaws.{in_range}
 use Rattle.repl_peer.specs.peer.Peer.{PeerValue}
 use Rattle.repl_peer.specs.peer.Covered.{covers, first_uncovered}
 use Rattle.repl_peer.proofs.lemmas.session.FirstUnknownLeaf.{first_unknown-append}
-
-above : (a b : ℕ) → a < b → nat_lt a b ≡ true
-above a b h = grind (arith, h)
-
-not_above : (a b : ℕ) → b ≤ a → nat_lt a b ≡ false
-not_above a b h = grind (arith, h)
-
-within : (a b : ℕ) → a ≤ b → nat_le a b ≡ true
-within a b h = grind (arith, h)
-
-passed : (m s : ℕ) → nat_le s m ≡ false → m < s
-passed m s h = grind (arith, h)
 
 -- of documents above a bound none is at or under it
 none_upto : (a m k : ℕ) (ds : List DocumentValue) (hi : ℕ) → Rises k (map (λ d. d.seq) ds) hi → m ≤ k → in_range a m ds ≡ []
@@ -56,13 +44,13 @@ cut_docs a m g k (d ∷ ds) hi low high r =
     cond_both (nat_le d.seq m) true false (λ _. in_range a g (d ∷ ds) ≡ in_range a m (d ∷ ds) ++ in_range m g (d ∷ ds))
     (λ yes.
     let under : d.seq ≤ m = leb-true d.seq m yes in
-    ap (λ t. cond (nat_lt a d.seq && t) (d ∷ all) all) (within d.seq g (omega (arith, under, high)) ∙ sym yes)
+    ap (λ t. cond (nat_lt a d.seq && t) (d ∷ all) all) (le-leb d.seq g (omega (arith, under, high)) ∙ sym yes)
     ∙ before (nat_lt a d.seq && nat_le d.seq m) d all first rest later
-    ∙ ap (λ t. cond (nat_lt a d.seq && nat_le d.seq m) (d ∷ first) first ++ cond (t && nat_le d.seq g) (d ∷ rest) rest) (sym (not_above m d.seq under)))
+    ∙ ap (λ t. cond (nat_lt a d.seq && nat_le d.seq m) (d ∷ first) first ++ cond (t && nat_le d.seq g) (d ∷ rest) rest) (sym (le-ltb m d.seq under)))
     (λ no.
-    let over : m < d.seq = passed m d.seq no in
-    let far : nat_lt a d.seq ≡ true = above a d.seq (omega (arith, low, over)) in
-    ap (λ t. cond (t && nat_le d.seq g) (d ∷ all) all) (far ∙ sym (above m d.seq over))
+    let over : m < d.seq = leb-false d.seq m no in
+    let far : nat_lt a d.seq ≡ true = lt-ltb a d.seq (omega (arith, low, over)) in
+    ap (λ t. cond (t && nat_le d.seq g) (d ∷ all) all) (far ∙ sym (lt-ltb m d.seq over))
     ∙ behind (nat_lt m d.seq && nat_le d.seq g) d all first rest (none_upto a m d.seq ds hi r.1 (omega (arith, over))) later
     ∙ ap (λ t. cond t (d ∷ first) first ++ cond (nat_lt m d.seq && nat_le d.seq g) (d ∷ rest) rest) (sym (ap (λ t. t && nat_le d.seq m) far ∙ no)))
 
