@@ -25,7 +25,7 @@ use Rattle.repl_target.proofs.lemmas.ties.TiedPeersCover.{tied_none}
 use Rattle.repl_target.proofs.lemmas.replication.ReplicationAsCalls.{grown-same, left_law, both_tied, puts_over, reported_whole, tied_clean}
 use Rattle.repl_target.proofs.lemmas.ties.SettlingTakes.{all_known}
 use Rattle.repl_pool.specs.Grown.{GrownPeer, TargetKeeps}
-use Rattle.repl_pool.specs.Runs.{IsConcluded, unfinished_at, IsRecorded, stopped, fewer, refused, PutsEntry, Walks, clean, hole, no_memory, Ends, concluded, recorded, EndsRun, EndsWell, EarlyOrLate, TellsLowWater, RunsOn}
+use Rattle.repl_pool.specs.Runs.{IsConcluded, unfinished_at, IsRecorded, stopped, fewer, refused, PutsEntry, Walks, clean, hole, no_memory, ClosesRun, concluded, recorded, EndsRun, EndsWell, EarlyOrLate, TellsLowWater, RunsOn}
 use Rattle.repl_pool.specs.Faults.{early_answer, IsLateOn, IsHaltOn}
 use Rattle.progress_board.specs.declared.board.Board.{Board}
 use Rattle.progress_board.specs.declared.seat.BoardSeat.{BoardSeat}
@@ -85,14 +85,14 @@ module _ {F : Type 0} (refuses : F → Document → Bool) (may_fill : Type 0) (m
   pub run_well : (outcome : Result Report PoolFault) → EndsRun refuses may_fill may_stop plan start source begun counts source' now outcome → IfOk outcome (EndsWell source target now plan (sum counts))
   run_well outcome e = go outcome e.ends
     where
-      go : (o : Result Report PoolFault) → Ends plan start e.fault e.complete source e.before source' now o → IfOk o (EndsWell source target now plan (sum counts))
+      go : (o : Result Report PoolFault) → ClosesRun plan start e.fault e.complete source e.before source' now o → IfOk o (EndsWell source target now plan (sum counts))
       go o (concluded c w) = walk_well _ o w (concluded_well e.fault e.complete e.before _ e.grown e.read c)
       go o (recorded r put) = tt
 
   pub run_late : (outcome : Result Report PoolFault) → EndsRun refuses may_fill may_stop plan start source begun counts source' now outcome → IfErr outcome (IsLateOn may_fill may_stop) × PutsEntry source now source' plan outcome
   run_late outcome e = go outcome e.ends
     where
-      go : (o : Result Report PoolFault) → Ends plan start e.fault e.complete source e.before source' now o → IfErr o (IsLateOn may_fill may_stop) × PutsEntry source now source' plan o
+      go : (o : Result Report PoolFault) → ClosesRun plan start e.fault e.complete source e.before source' now o → IfErr o (IsLateOn may_fill may_stop) × PutsEntry source now source' plan o
       go o (concluded c w) = walk_late _ o w (concluded_well e.fault e.complete e.before _ e.grown e.read c)
       go o (recorded r put) = (recorded_late may_fill may_stop plan e.fault e.complete e.before now _ e.late r, put)
 
@@ -105,7 +105,7 @@ module _ {F : Type 0} (refuses : F → Document → Bool) (may_fill : Type 0) (m
   pub run_tells : (outcome : Result Report PoolFault) → EndsRun refuses may_fill may_stop plan start source begun counts source' now outcome → IfErr outcome (TellsLowWater now plan.session)
   run_tells outcome e = go outcome e.ends
     where
-      go : (o : Result Report PoolFault) → Ends plan start e.fault e.complete source e.before source' now o → IfErr o (TellsLowWater now plan.session)
+      go : (o : Result Report PoolFault) → ClosesRun plan start e.fault e.complete source e.before source' now o → IfErr o (TellsLowWater now plan.session)
       go o (concluded c w) = walk_tells _ o w
       go o (recorded r put) = recorded_tells may_fill may_stop plan e.fault e.complete e.before now _ e.late r
 
@@ -115,7 +115,7 @@ ok_of (Err e) X x = tt
 
 -- where it is Ok, nothing was stopped and all was got
 pub ends_free : (plan : Plan) (start : ℕ) (fault : Option PoolFault) (complete : Bool) (source before source' after : PeerValue) (outcome : Result Report PoolFault) (X : Type 0)
-    → Ends plan start fault complete source before source' after outcome → (fault ≡ None → complete ≡ true → X) → IfOk outcome (λ _. X)
+    → ClosesRun plan start fault complete source before source' after outcome → (fault ≡ None → complete ≡ true → X) → IfOk outcome (λ _. X)
 ends_free plan start fault complete source before source' after outcome X (concluded c w) f = ok_of outcome X (f c.free c.whole)
 ends_free plan start fault complete source before source' after outcome X (recorded r put) f = tt
 
@@ -136,7 +136,7 @@ whole_of refuses source target target' plan n law l l' ok grown (Err why) w = tt
 
 -- no worker was started, for want of memory
 pub no_workers : {F : Type 0} (refuses : F → Document → Bool) (may_fill : Type 0) (may_stop : Place → Type 0) (plan : Plan) (start : ℕ) (source : PeerValue) (given : F × PeerValue) (counts : List ℕ) (source' after : PeerValue) (outcome : Result Report PoolFault) (fault : PoolFault) → fault ≡ faults.Memory
-    → Ends plan start (Some fault) false source given.1 source' after outcome → EndsRun refuses may_fill may_stop plan start source given counts source' after outcome
+    → ClosesRun plan start (Some fault) false source given.1 source' after outcome → EndsRun refuses may_fill may_stop plan start source given counts source' after outcome
 no_workers refuses may_fill may_stop plan start source given counts source' after outcome fault is e = record {
   fault = Some fault;
   complete = false;
@@ -149,7 +149,7 @@ no_workers refuses may_fill may_stop plan start source given counts source' afte
 
 -- nor was one needed, since there was nothing to read
 pub nothing_read : {F : Type 0} (refuses : F → Document → Bool) (may_fill : Type 0) (may_stop : Place → Type 0) (plan : Plan) (start : ℕ) (source : PeerValue) (given : F × PeerValue) (counts : List ℕ) (source' after : PeerValue) (outcome : Result Report PoolFault)
-    → read_in given.1.sessions plan.session ≡ 0 → counts ≡ [] → Ends plan start None true source given.1 source' after outcome → EndsRun refuses may_fill may_stop plan start source given counts source' after outcome
+    → read_in given.1.sessions plan.session ≡ 0 → counts ≡ [] → ClosesRun plan start None true source given.1 source' after outcome → EndsRun refuses may_fill may_stop plan start source given counts source' after outcome
 nothing_read refuses may_fill may_stop plan start source given counts source' after outcome none empty e = record {
   fault = None;
   complete = true;

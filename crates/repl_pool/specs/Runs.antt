@@ -83,15 +83,15 @@ pub data Walks (source target : PeerValue) (plan : Plan) (start : ℕ) (report :
       → Walks source target plan start report source' (Err faults.Memory)
 
 -- from the target as the workers left it: concluded, and then the walk; or recorded, and the entry is put
-pub data Ends (plan : Plan) (start : ℕ) (fault : Option PoolFault) (complete : Bool)
+pub data ClosesRun (plan : Plan) (start : ℕ) (fault : Option PoolFault) (complete : Bool)
     (source before source' after : PeerValue) : Result Report PoolFault → Type 0 where
   concluded : {report : Report} {outcome : Result Report PoolFault}
       → IsConcluded plan fault complete before after report
       → Walks source after plan start report source' outcome
-      → Ends plan start fault complete source before source' after outcome
+      → ClosesRun plan start fault complete source before source' after outcome
   recorded : {why : PoolFault} → IsRecorded plan fault complete before after why
       → PutsEntry source after source' plan (Err why)
-      → Ends plan start fault complete source before source' after (Err why)
+      → ClosesRun plan start fault complete source before source' after (Err why)
 
 -- with what is known of the workers: the target had grown from the given one, each halt stands where the gate allows
 -- it, or is what a worker's call was refused for, and where nothing was stopped and all was got, the session had read
@@ -105,7 +105,7 @@ pub record EndsRun {F : Type 0} (refuses : F → Document → Bool) (may_fill : 
   pub grown : IsGrown (refuses given.0) source.db plan.chosen plan.session given.1 before
   pub late : IfSome fault (IsHaltOn may_fill may_stop)
   pub read : fault ≡ None → complete ≡ true → read_in before.sessions plan.session ≡ sum counts
-  pub ends : Ends plan start fault complete source before source' after outcome
+  pub ends : ClosesRun plan start fault complete source before source' after outcome
 
 -- ---- a run
 

@@ -62,8 +62,8 @@ pub fn sync<F: WriteFilter + Send + Sync, G: Gate + Sync, R: Threads + Wait + Sy
         → IsTiedWith backups b.1 a.1 chosen → IsTiedWith backups result.b.1 result.a.1 chosen }
     ensures meet { OnOk result.outcome (MeetBoth a.1 b.1 result.a.1 result.b.1 there.now back.now) }
 {
-    // The readings tell the proof the laws of both peers.
-    let (_seq, _uuid) = (a.db().update_seq(), b.db().uuid());
+    a.law();
+    b.law();
     let Ran {
         source: a,
         target: b,
@@ -78,7 +78,8 @@ pub fn sync<F: WriteFilter + Send + Sync, G: Gate + Sync, R: Threads + Wait + Sy
             return SyncRan { a, b, outcome };
         }
     };
-    let (_seq_between, _uuid_between) = (b.db().update_seq(), a.db().uuid());
+    b.law();
+    a.law();
     let Ran {
         source: b,
         target: a,
@@ -86,7 +87,8 @@ pub fn sync<F: WriteFilter + Send + Sync, G: Gate + Sync, R: Threads + Wait + Sy
         seats: _,
         outcome,
     } = run(rt, alloc, b, a, back, gate);
-    let (_seq_after, _uuid_after) = (a.db().update_seq(), b.db().uuid());
+    a.law();
+    b.law();
     match outcome {
         Ok(report) => {
             let synced = Synced {

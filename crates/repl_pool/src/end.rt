@@ -5,7 +5,7 @@ ghost use Rattle.repl_peer.specs.peer.Peer.{SessionValue, session_in};
 ghost use Rattle.doc_json.specs.Chosen.{Choice};
 ghost use Rattle.repl_pool.specs.Grown.{GrownPeer};
 ghost use Rattle.repl_peer.specs.session.Sessions.{record_answer, after_record};
-ghost use Rattle.repl_pool.specs.Runs.{IsConcluded, unfinished_at, IsRecorded, UnlessMemory, PutsEntry, Walks, Ends};
+ghost use Rattle.repl_pool.specs.Runs.{IsConcluded, unfinished_at, IsRecorded, UnlessMemory, PutsEntry, Walks, ClosesRun};
 
 use crate::fault::PoolFault;
 use crate::running::Ran;
@@ -153,8 +153,9 @@ pub fn end<F: WriteFilter + Send + Sync, R: Threads + Sync>(
     ensures seats { result.seats ≡ summed.seats }
     ensures filter { result.source.0 ≡ source.0 }
     ensures source { result.source.1 ≡ record source.1 { outgoing = result.source.1.outgoing } }
-    ensures grown { (db : DatabaseValue) (c : Choice) → GrownPeer F.refuses db c plan.now.session summed.target result.target }
-    ensures ends { Ends plan.now start summed.fault summed.complete source.1 summed.target.1 result.source.1
+    ensures grown { (db : DatabaseValue) (c : Choice)
+        → GrownPeer F.refuses db c plan.now.session summed.target result.target }
+    ensures ends { ClosesRun plan.now start summed.fault summed.complete source.1 summed.target.1 result.source.1
         result.target.1 result.outcome }
 {
     let Summed {
@@ -165,9 +166,8 @@ pub fn end<F: WriteFilter + Send + Sync, R: Threads + Sync>(
         complete,
     } = summed;
     let mut source = source;
-    // These readings tell the proof that the source's database and the target are lawful.
-    let _update_seq = source.db().update_seq();
-    let _uuid = target.db().uuid();
+    source.law();
+    target.law();
     let concluded = close_target(&mut target, plan, fault, complete);
     let outcome = close(rt, alloc, &mut source, &target, plan, start, concluded);
     Ran {

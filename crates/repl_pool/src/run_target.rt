@@ -106,8 +106,7 @@ impl<F: WriteFilter, S: SourceBrand, T: TargetBrand<F>, L: Ledger> RunTarget<F, 
             (λ g. SettleGives (F.refuses self.old.0) self.old.1 g.1 fetched result self.new.1) }
         ensures step { IfErr result IsStepFault }
     {
-        // The reading tells the proof that the peer is lawful.
-        let _uuid = self.target.db().uuid();
+        self.target.law();
         let documents = fetched.documents();
         let parcel = fetched.into_parcel();
         let result = self.target.settle(self.session, parcel);

@@ -8,7 +8,7 @@ ghost use Rattle.repl_target.specs.replication.Replication.{is_batch};
 ghost use Rattle.doc_json.specs.Chosen.{Choice};
 ghost use Rattle.repl_pool.specs.Grown.{GrownPeer};
 ghost use Rattle.repl_pool.specs.Boards.{WorksAt, AreRisen, HaveRisenBy, MayFill, AreSeats, AreBack, HaveShown};
-ghost use Rattle.repl_pool.specs.Runs.{Ends, EndsRun, RunsOn, Runs};
+ghost use Rattle.repl_pool.specs.Runs.{ClosesRun, EndsRun, RunsOn, Runs};
 
 use crate::begin::check_run;
 use crate::brands::{SourceBrand, TargetBrand};
@@ -82,9 +82,10 @@ fn without_workers<F: WriteFilter + Send + Sync, R: Threads + Sync>(
     ensures seats { result.seats ≡ seats }
     ensures filter { result.source.0 ≡ begun.source.0 }
     ensures source { result.source.1 ≡ record begun.source.1 { outgoing = result.source.1.outgoing } }
-    ensures grown { (db : DatabaseValue) (c : Choice) → GrownPeer F.refuses db c plan.now.session begun.target result.target }
-    ensures ends { Ends plan.now begun.start fault (is_none fault) begun.source.1 begun.target.1 result.source.1 result.target.1
-        result.outcome }
+    ensures grown { (db : DatabaseValue) (c : Choice)
+        → GrownPeer F.refuses db c plan.now.session begun.target result.target }
+    ensures ends { ClosesRun plan.now begun.start fault (is_none fault) begun.source.1 begun.target.1
+        result.source.1 result.target.1 result.outcome }
 {
     let Begun {
         source,
@@ -140,10 +141,9 @@ fn run_begun<
         result.seats.items) }
 {
     let Shows { board, seats } = shows;
-    // These readings tell the proof that the source's database and the target are lawful.
-    let update_seq = begun.source.db().update_seq();
-    let _uuid = begun.target.db().uuid();
-    if begun.start == update_seq {
+    begun.source.law();
+    begun.target.law();
+    if begun.start == begun.source.db().update_seq() {
         return without_workers(rt, alloc, begun, plan, seats, None);
     }
     let workers = plan.workers as usize;
@@ -209,9 +209,8 @@ fn run_with<F: WriteFilter + Send + Sync, G: Gate + Sync, R: Threads + Wait + Sy
         (λ report. HaveShown (option_copied shows.entry.board) report.counts.read None shows.entry.seats.items
         result.seats.items) }
 {
-    // These readings tell the proof that the source's database and the target are lawful.
-    let _update_seq = source.db().update_seq();
-    let _uuid = target.db().uuid();
+    source.law();
+    target.law();
     if let Err(why) = check_run(&source, &target, plan) {
         return Ran {
             source,

@@ -58,18 +58,19 @@ fn walk_halves<F: WriteFilter + Send + Sync, R: Threads + Sync>(
     ensures { IfOk result (λ a. hole_of a
         ≡ first_uncovered target.now.1 (chosen_feed plan.now.chosen source.now.1.db since upto)) }
 {
-    // The reading tells the proof that the source's database is lawful.
-    let _update_seq = source.db().update_seq();
+    source.law();
     let middle = since + (upto - since) / 2;
     let (first, second) = thread::join(
         rt,
         || -> Result<Audit, AllocError>
             ensures { IfOk result (λ a. hole_of a
-                ≡ first_uncovered target.entry.now.1 (chosen_feed plan.entry.now.chosen source.entry.now.1.db since middle)) }
+                ≡ first_uncovered target.entry.now.1
+                (chosen_feed plan.entry.now.chosen source.entry.now.1.db since middle)) }
         { walk_one(alloc, source, target, since, middle, plan) },
         || -> Result<Audit, AllocError>
             ensures { IfOk result (λ a. hole_of a
-                ≡ first_uncovered target.entry.now.1 (chosen_feed plan.entry.now.chosen source.entry.now.1.db middle upto)) }
+                ≡ first_uncovered target.entry.now.1
+                (chosen_feed plan.entry.now.chosen source.entry.now.1.db middle upto)) }
         { walk_one(alloc, source, target, middle, upto, plan) },
     );
     first_of(first, second)
@@ -89,20 +90,21 @@ fn walk_quarters<F: WriteFilter + Send + Sync, R: Threads + Sync>(
     ensures { IfOk result (λ a. hole_of a
         ≡ first_uncovered target.now.1 (chosen_feed plan.now.chosen source.now.1.db since upto)) }
 {
-    // The reading tells the proof that the source's database is lawful.
-    let _update_seq = source.db().update_seq();
+    source.law();
     let middle = since + (upto - since) / 2;
     let (first, second) = thread::join(
         rt,
         || -> Result<Audit, AllocError>
             requires { IsSync R.row × (since ≤ middle) }
             ensures { IfOk result (λ a. hole_of a
-                ≡ first_uncovered target.entry.now.1 (chosen_feed plan.entry.now.chosen source.entry.now.1.db since middle)) }
+                ≡ first_uncovered target.entry.now.1
+                (chosen_feed plan.entry.now.chosen source.entry.now.1.db since middle)) }
         { walk_halves(rt, alloc, source, target, since, middle, plan) },
         || -> Result<Audit, AllocError>
             requires { IsSync R.row × (middle ≤ upto) }
             ensures { IfOk result (λ a. hole_of a
-                ≡ first_uncovered target.entry.now.1 (chosen_feed plan.entry.now.chosen source.entry.now.1.db middle upto)) }
+                ≡ first_uncovered target.entry.now.1
+                (chosen_feed plan.entry.now.chosen source.entry.now.1.db middle upto)) }
         { walk_halves(rt, alloc, source, target, middle, upto, plan) },
     );
     first_of(first, second)

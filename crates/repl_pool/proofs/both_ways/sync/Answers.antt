@@ -1,5 +1,4 @@
-use Rattle.std.proofs.Common.{◌≡◌, Ok, Err, subst}
-use Rattle.couch_base.specs.Database.{LawfulDatabase}
+use Rattle.std.proofs.Common.{subst}
 use Rattle.repl_target.proofs.lemmas.replication.BothWays.{turned_tied, both_meet}
 use Rattle.repl_pool.specs.Runs.{Runs}
 use Rattle.repl_pool.specs.Sync.{refused_there, refused_back, both}
@@ -12,7 +11,7 @@ returns-in-Err-clause-runs g c =
 
 pub returns-in-Err-clause-tied_back : goal.returns-in-Err-clause-tied_back
 returns-in-Err-clause-tied_back g c =
-    turned_tied (g.F.WriteFilter.refuses c.args.b.0) c.args.a.1 c.args.b.1 c.args.there.now c.run-a.result.source.1 c.run-a.result.target.1 (subst LawfulDatabase c.db.ensures.value c.update_seq-seq.ensures.law) c.db-2.ensures.law.sessions
+    turned_tied (g.F.WriteFilter.refuses c.args.b.0) c.args.a.1 c.args.b.1 c.args.there.now c.run-a.result.source.1 c.run-a.result.target.1 c.law.ensures.database c.law-2.ensures.peer.sessions
     (run_leaves _ _ _ _ _ _ _ _ _ c.run-a.ensures.runs)
 
 pub returns-in-Ok-outcome-clause-runs : goal.returns-in-Ok-outcome-clause-runs
@@ -24,14 +23,14 @@ returns-in-Ok-outcome-clause-runs g c =
 pub returns-in-Ok-outcome-clause-tied_there : goal.returns-in-Ok-outcome-clause-tied_there
 returns-in-Ok-outcome-clause-tied_there g c =
     λ chosen backups h.
-    turned_tied (g.F.WriteFilter.refuses c.run-a.result.source.0) c.run-a.result.target.1 c.run-a.result.source.1 c.args.back.now c.run-b.result.source.1 c.run-b.result.target.1 (subst LawfulDatabase c.db-3.ensures.value c.update_seq-seq_between.ensures.law) c.db-4.ensures.law.sessions
+    turned_tied (g.F.WriteFilter.refuses c.run-a.result.source.0) c.run-a.result.target.1 c.run-a.result.source.1 c.args.back.now c.run-b.result.source.1 c.run-b.result.target.1 c.law-3.ensures.database c.law-4.ensures.peer.sessions
     (run_leaves _ _ _ _ _ _ _ _ _ c.run-b.ensures.runs) chosen backups (c.run-a.ensures.runs.tied chosen backups h)
 
 pub returns-in-Ok-outcome-clause-tied_back : goal.returns-in-Ok-outcome-clause-tied_back
 returns-in-Ok-outcome-clause-tied_back g c =
     λ chosen backups h.
     c.run-b.ensures.runs.tied chosen backups
-    (turned_tied (g.F.WriteFilter.refuses c.args.b.0) c.args.a.1 c.args.b.1 c.args.there.now c.run-a.result.source.1 c.run-a.result.target.1 (subst LawfulDatabase c.db.ensures.value c.update_seq-seq.ensures.law) c.db-2.ensures.law.sessions
+    (turned_tied (g.F.WriteFilter.refuses c.args.b.0) c.args.a.1 c.args.b.1 c.args.there.now c.run-a.result.source.1 c.run-a.result.target.1 c.law.ensures.database c.law-2.ensures.peer.sessions
     (run_leaves _ _ _ _ _ _ _ _ _ c.run-a.ensures.runs) chosen backups h)
 
 pub returns-in-Ok-outcome-clause-meet : goal.returns-in-Ok-outcome-clause-meet
@@ -39,7 +38,7 @@ returns-in-Ok-outcome-clause-meet g c =
     let first = subst (λ o. Runs g.F.WriteFilter.refuses (g.G.Gate.may_stop c.args.gate.now) c.args.there.now c.args.a c.args.b c.run-a.result.source c.run-a.result.target c.run-a.result.fetched.items o) c.in-Ok.is c.run-a.ensures.runs in
     let second = subst (λ o. Runs g.F.WriteFilter.refuses (g.G.Gate.may_stop c.args.gate.now) c.args.back.now c.run-a.result.target c.run-a.result.source c.run-b.result.source c.run-b.result.target c.run-b.result.fetched.items o) c.in-Ok-outcome.is c.run-b.ensures.runs in
     both_meet (g.F.WriteFilter.refuses c.run-a.result.source.0) (g.F.WriteFilter.refuses c.args.b.0) c.args.a.1 c.args.b.1 c.run-a.result.source.1 c.run-a.result.target.1 c.run-b.result.target.1 c.run-b.result.source.1 c.args.there.now c.args.back.now
-    (subst LawfulDatabase c.db.ensures.value c.update_seq-seq.ensures.law) (subst LawfulDatabase c.db-3.ensures.value c.update_seq-seq_between.ensures.law) (subst LawfulDatabase c.db-5.ensures.value c.update_seq-seq_after.ensures.law) c.db-2.ensures.law.sessions
+    c.law.ensures.database c.law-3.ensures.database c.law-5.ensures.database c.law-2.ensures.peer.sessions
     (run_leaves _ _ _ _ _ _ _ _ _ c.run-a.ensures.runs) (run_leaves _ _ _ _ _ _ _ _ _ c.run-b.ensures.runs) first.whole second.whole
 
 pub returns-in-Err-outcome-clause-runs : goal.returns-in-Err-outcome-clause-runs
@@ -51,12 +50,12 @@ returns-in-Err-outcome-clause-runs g c =
 pub returns-in-Err-outcome-clause-tied_there : goal.returns-in-Err-outcome-clause-tied_there
 returns-in-Err-outcome-clause-tied_there g c =
     λ chosen backups h.
-    turned_tied (g.F.WriteFilter.refuses c.run-a.result.source.0) c.run-a.result.target.1 c.run-a.result.source.1 c.args.back.now c.run-b.result.source.1 c.run-b.result.target.1 (subst LawfulDatabase c.db-3.ensures.value c.update_seq-seq_between.ensures.law) c.db-4.ensures.law.sessions
+    turned_tied (g.F.WriteFilter.refuses c.run-a.result.source.0) c.run-a.result.target.1 c.run-a.result.source.1 c.args.back.now c.run-b.result.source.1 c.run-b.result.target.1 c.law-3.ensures.database c.law-4.ensures.peer.sessions
     (run_leaves _ _ _ _ _ _ _ _ _ c.run-b.ensures.runs) chosen backups (c.run-a.ensures.runs.tied chosen backups h)
 
 pub returns-in-Err-outcome-clause-tied_back : goal.returns-in-Err-outcome-clause-tied_back
 returns-in-Err-outcome-clause-tied_back g c =
     λ chosen backups h.
     c.run-b.ensures.runs.tied chosen backups
-    (turned_tied (g.F.WriteFilter.refuses c.args.b.0) c.args.a.1 c.args.b.1 c.args.there.now c.run-a.result.source.1 c.run-a.result.target.1 (subst LawfulDatabase c.db.ensures.value c.update_seq-seq.ensures.law) c.db-2.ensures.law.sessions
+    (turned_tied (g.F.WriteFilter.refuses c.args.b.0) c.args.a.1 c.args.b.1 c.args.there.now c.run-a.result.source.1 c.run-a.result.target.1 c.law.ensures.database c.law-2.ensures.peer.sessions
     (run_leaves _ _ _ _ _ _ _ _ _ c.run-a.ensures.runs) chosen backups h)

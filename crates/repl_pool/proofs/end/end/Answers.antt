@@ -1,12 +1,10 @@
-use Rattle.std.proofs.Common.{subst}
-use Rattle.couch_base.specs.Database.{LawfulDatabase}
 use Rattle.repl_pool.proofs.Closing.{ends_either}
 use Rattle.repl_pool.proofs.Ending.{held_grown}
 use Rattle.repl_pool.proofs.end.end.Goals as goal
 
 pub close-outcome-requires-clause-held : goal.close-outcome-requires-clause-held
 close-outcome-requires-clause-held g c κs within =
-    held_grown g.F.WriteFilter.refuses c.args.source.1.db c.args.plan.now.chosen c.args.summed.target c.close_target-concluded.new.target c.args.plan.now.session (subst LawfulDatabase c.db.ensures.value c.update_seq-update_seq.ensures.law) c.db-2.ensures.law.sessions
+    held_grown g.F.WriteFilter.refuses c.args.source.1.db c.args.plan.now.chosen c.args.summed.target c.close_target-concluded.new.target c.args.plan.now.session c.law.ensures.database c.law-2.ensures.peer.sessions
     (c.close_target-concluded.ensures.grown c.args.source.1.db c.args.plan.now.chosen) c.requires.held
 
 pub returns-clause-ends : goal.returns-clause-ends

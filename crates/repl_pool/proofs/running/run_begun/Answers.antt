@@ -3,7 +3,6 @@ use Rattle.std.proofs.lemmas.Bool.{false≢true}
 use Rattle.repl_pool.specs.Boards.{MayFill, HaveShown}
 use Rattle.repl_pool.proofs.Boarding.{seats_seated}
 use Rattle.repl_pool.proofs.Showing.{back_is, shown_start, shown_end}
-use Rattle.couch_base.specs.Database.{LawfulDatabase}
 use Rattle.repl_pool.proofs.Ending.{grown_then, held_grown}
 use Rattle.repl_pool.proofs.RunLaws.{given_grown, no_workers, nothing_read, ends_free}
 use Rattle.repl_pool.proofs.running.run_begun.Goals as goal
@@ -66,7 +65,7 @@ returns-clause-ends g c =
 pub end-requires-clause-held : goal.end-requires-clause-held
 end-requires-clause-held g c κs within =
     let d = c.collect-summed.ensures.target in
-    held_grown g.F.WriteFilter.refuses c.args.begun.source.1.db c.args.plan.now.chosen c.args.begun.target c.collect-summed.result.target c.args.plan.now.session (subst LawfulDatabase c.db.ensures.value c.update_seq-update_seq.ensures.law) c.db-2.ensures.law.sessions
+    held_grown g.F.WriteFilter.refuses c.args.begun.source.1.db c.args.plan.now.chosen c.args.begun.target c.collect-summed.result.target c.args.plan.now.session c.law.ensures.database c.law-2.ensures.peer.sessions
     (given_grown g.F.WriteFilter.refuses c.args.begun.source.1.db g.S.SourceBrand.source c.requires.source c.args.plan.now.chosen g.S.SourceBrand.chosen c.requires.chosen c.args.begun.target c.args.plan.now.session g.T.TargetBrand.given c.requires.given d.0 d.1 c.collect-summed.result.target d.2).0 c.requires.held
 
 pub returns-in-Err-clause-back : goal.returns-in-Err-clause-back

@@ -26,7 +26,7 @@ returns-in-Ok-clause-runs g c =
     let e = c.in-Ok.ensures in
     let early : early_answer c.args.source.1 c.args.target.1 c.args.plan.now ≡ Ok tt = sym c.check_run.ensures ∙ c.in_default.is in
     runs_begun g.F.WriteFilter.refuses (MayFill (option_copied c.args.shows.board)) (g.G.Gate.may_stop c.args.gate.now) c.args.plan.now c.args.source c.args.target c.begin_plan.new.target _ _ c.run_begun.result.source c.run_begun.result.target _
-    early e.source_law c.db-2.ensures.law.sessions e.target_law.sessions e.ok.0 e.filter e.ok.1 e.start
+    early e.source_law c.law-2.ensures.peer.sessions e.target_law.sessions e.ok.0 e.filter e.ok.1 e.start
     c.run_begun.ensures.filter c.run_begun.ensures.source c.run_begun.ensures.grown c.run_begun.ensures.ends
 
 pub returns-in-Ok-clause-shown : goal.returns-in-Ok-clause-shown
@@ -35,7 +35,7 @@ returns-in-Ok-clause-shown g c =
 
 pub returns-in-Err-clause-runs : goal.returns-in-Err-clause-runs
 returns-in-Err-clause-runs g c =
-    runs_early g.F.WriteFilter.refuses (MayFill (option_copied c.args.shows.board)) (g.G.Gate.may_stop c.args.gate.now) c.args.plan.now c.args.source c.args.target _ _ c.db-2.ensures.law.sessions (sym c.check_run.ensures ∙ c.in-Err.is) (search rules)
+    runs_early g.F.WriteFilter.refuses (MayFill (option_copied c.args.shows.board)) (g.G.Gate.may_stop c.args.gate.now) c.args.plan.now c.args.source c.args.target _ _ c.law-2.ensures.peer.sessions (sym c.check_run.ensures ∙ c.in-Err.is) (search rules)
 
 pub returns-in-Err-clause-back : goal.returns-in-Err-clause-back
 returns-in-Err-clause-back g c = back_same (option_copied c.args.shows.board) _ (seats_seated (option_copied c.args.shows.board) 0 c.args.plan.now.workers _ c.requires.seats)
@@ -43,7 +43,7 @@ returns-in-Err-clause-back g c = back_same (option_copied c.args.shows.board) _ 
 pub returns-in-Err-begin_plan-clause-runs : goal.returns-in-Err-begin_plan-clause-runs
 returns-in-Err-begin_plan-clause-runs g c =
     let early : early_answer c.args.source.1 c.args.target.1 c.args.plan.now ≡ Ok tt = sym c.check_run.ensures ∙ c.in_default.is in
-    runs_refused g.F.WriteFilter.refuses (MayFill (option_copied c.args.shows.board)) (g.G.Gate.may_stop c.args.gate.now) c.args.plan.now c.args.source c.args.target _ _ c.begin_plan.new.target c.db-2.ensures.law.sessions early c.in-Err-begin_plan.ensures.refused c.in-Err-begin_plan.ensures.filter c.in-Err-begin_plan.ensures.err
+    runs_refused g.F.WriteFilter.refuses (MayFill (option_copied c.args.shows.board)) (g.G.Gate.may_stop c.args.gate.now) c.args.plan.now c.args.source c.args.target _ _ c.begin_plan.new.target c.law-2.ensures.peer.sessions early c.in-Err-begin_plan.ensures.refused c.in-Err-begin_plan.ensures.filter c.in-Err-begin_plan.ensures.err
 
 pub returns-in-Err-begin_plan-clause-back : goal.returns-in-Err-begin_plan-clause-back
 returns-in-Err-begin_plan-clause-back g c = back_same (option_copied c.args.shows.board) _ (seats_seated (option_copied c.args.shows.board) 0 c.args.plan.now.workers _ c.requires.seats)

@@ -1,7 +1,6 @@
-use Rattle.std.proofs.Common.{◌≡◌, ◌+◌, ◌-◌, ◌/◌, sym, subst, ◌∙◌}
+use Rattle.std.proofs.Common.{◌≡◌, ◌+◌, ◌-◌, ◌/◌, sym, ◌∙◌}
 use Rattle.std.specs.Option.{option_or}
 use Rattle.std.proofs.lemmas.Result.{IfOk-weaker}
-use Rattle.couch_base.specs.Database.{LawfulDatabase}
 use Rattle.couch_base.specs.Feed.{chosen_feed}
 use Rattle.repl_target.specs.Audit.{hole_of}
 use Rattle.repl_peer.specs.peer.Covered.{first_uncovered}
@@ -16,7 +15,7 @@ returns g c =
     let since = c.args.since in
     let upto = c.args.upto in
     let middle = since + (upto - since) / 2 in
-    let law = subst LawfulDatabase c.db.ensures.value c.update_seq-update_seq.ensures.law in
+    let law = c.law.ensures.database in
     let cut = hole_cut target db chosen since middle upto law (middle_above since upto) (middle_under since upto c.requires) in
     IfOk-weaker c.first_of.result
     (λ a. hole_of a ≡ option_or (first_uncovered target (chosen_feed chosen db since middle)) (first_uncovered target (chosen_feed chosen db middle upto)))
