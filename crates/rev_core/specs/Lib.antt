@@ -9,6 +9,7 @@ pub mod AncestryLaws
 pub mod Answers
 pub mod Checks
 pub mod NewRev
+pub mod ShortSig
 pub mod KeptRev
 pub mod KeptForm
 pub mod LineageForm

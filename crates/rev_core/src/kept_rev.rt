@@ -4,71 +4,14 @@ ghost use Rattle.rev_core.specs.Rev.{RevId};
 ghost use Rattle.rev_core.specs.KeptRev.{short_of};
 
 use crate::rev::Rev;
-use crate::sig::Sig;
+use crate::short_sig::ShortSig;
 use std::alloc::{AllocError, Global};
 use std::marker::Model;
 
-/// The text of a signature of at most 32 bytes: as many as the digits of a digest.
-#[derive(Debug, Drop)]
-struct ShortSig {
-    len: u8,
-    bytes: [u8; 32],
-}
-
-impl Model for ShortSig {
-    ghost use Rattle.std.specs.Prelude.{List, ℕ, take};
-    ghost use Rattle.rev_core.specs.KeptRev.{IsShort};
-
-    ghost Value = { List ℕ };
-
-    ghost view = { λ s. take s.len s.bytes };
-
-    ghost invariant = { λ s. IsShort s.bytes s.len };
-}
-
-impl ShortSig {
-    ghost use Rattle.rev_core.specs.KeptRev.{short_sig};
-
-    /// The text of a signature, where it is short.
-    fn of(sig: &Sig) -> Option<ShortSig>
-        ensures { result ≡ short_sig sig.now }
-    {
-        let text = sig.bytes();
-        if text.len() > 32 {
-            return None;
-        }
-        let mut bytes = [0; 32];
-        bytes[..text.len()].copy_from_slice(text);
-        Some(ShortSig {
-            len: text.len() as u8,
-            bytes,
-        })
-    }
-
-    /// The signature.
-    fn sig(&self) -> Sig
-        ensures { result ≡ self.now }
-    {
-        let Ok(sig) = Sig::parse(&self.bytes[..self.len as usize]) else {
-            unreachable!()
-        };
-        sig
-    }
-
-    /// The same text.
-    fn copy(&self) -> ShortSig
-        ensures { result ≡ self.now }
-    {
-        ShortSig {
-            len: self.len,
-            bytes: self.bytes,
-        }
-    }
-}
-
-/// A revision in 40 bytes, where a `Rev` takes 72, for whoever keeps very many.
+/// A revision in 24 bytes, where a `Rev` takes 72, for whoever keeps very many.
 ///
-/// A signature of at most 32 bytes stands in the value itself, and a revision with a longer one in a block of its own.
+/// A short signature stands in the value itself, and a revision with another one in a block of its own. Short are the
+/// 32 digits of a digest, with letters in lower case, as nearly all signatures are, and texts of at most 16 bytes.
 #[derive(Debug)]
 pub struct KeptRev {
     form: Form,
@@ -84,7 +27,12 @@ impl Drop for KeptRev {
 /// Where the revision stands.
 #[derive(Debug, Drop)]
 enum Form {
-    Short { sig: ShortSig, generation: u32 },
+    Short {
+        len: u8,
+        generation: u32,
+        front: u64,
+        back: u64,
+    },
     Long(Box<Rev>),
 }
 
@@ -112,14 +60,29 @@ impl KeptRev {
         }
     }
 
-    /// The revision, kept without a block: where its signature has at most 32 bytes.
+    /// The revision, kept without a block: where its signature is short.
+    // Inlined into an edit it takes more instructions.
+    #[inline(never)]
     pub fn short(rev: &Rev) -> Option<KeptRev>
         ensures { result ≡ short_of rev.now }
     {
+        KeptRev::near(rev)
+    }
+
+    /// The same as `short`.
+    #[inline(always)]
+    pub(crate) fn near(rev: &Rev) -> Option<KeptRev>
+        ensures { result ≡ short_of rev.now }
+    {
         let generation = rev.generation();
-        let sig = ShortSig::of(&rev.sig())?;
+        let ShortSig { len, front, back } = ShortSig::of(rev.sig_bytes())?;
         Some(KeptRev {
-            form: Form::Short { sig, generation },
+            form: Form::Short {
+                len,
+                generation,
+                front,
+                back,
+            },
         })
     }
 
@@ -138,7 +101,19 @@ impl KeptRev {
         ensures { result ≡ self.now }
     {
         match &self.form {
-            Form::Short { sig, generation } => Rev::new(*generation, sig.sig()),
+            Form::Short {
+                len,
+                generation,
+                front,
+                back,
+            } => {
+                let short = ShortSig {
+                    len: *len,
+                    front: *front,
+                    back: *back,
+                };
+                Rev::new(*generation, short.sig())
+            }
             Form::Long(rev) => **rev,
         }
     }
@@ -148,10 +123,17 @@ impl KeptRev {
         ensures { IfOk result (λ k. k ≡ self.now) }
     {
         match &self.form {
-            Form::Short { sig, generation } => Ok(KeptRev {
+            Form::Short {
+                len,
+                generation,
+                front,
+                back,
+            } => Ok(KeptRev {
                 form: Form::Short {
-                    sig: sig.copy(),
+                    len: *len,
                     generation: *generation,
+                    front: *front,
+                    back: *back,
                 },
             }),
             Form::Long(rev) => KeptRev::long(alloc, rev),

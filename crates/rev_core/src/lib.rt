@@ -9,6 +9,7 @@ mod kept_rev;
 mod lineage;
 mod local_edit;
 mod rev;
+mod short_sig;
 mod sig;
 
 pub use ancestry::Ancestry;

@@ -297,6 +297,27 @@ static KEPT_ROWS: Rows = &[
         Call::Keep(DIGITS_AND_ONE),
         "long 2-0123456789abcdef0123456789abcdef0",
     ),
+    (
+        Call::Keep("9-f0e1d2c3b4a5968778695a4b3c2d1e0f"),
+        "short 9-f0e1d2c3b4a5968778695a4b3c2d1e0f",
+    ),
+    (
+        Call::Keep("2-0123456789ABCDEF0123456789ABCDEF"),
+        "long 2-0123456789ABCDEF0123456789ABCDEF",
+    ),
+    (
+        Call::Keep("2-0123456789abcdef0123456789abcdeg"),
+        "long 2-0123456789abcdef0123456789abcdeg",
+    ),
+    (
+        Call::Keep("2-0123456789abcdef0123456789abcde"),
+        "long 2-0123456789abcdef0123456789abcde",
+    ),
+    (Call::Keep("3-0123456789abcdef"), "short 3-0123456789abcdef"),
+    (
+        Call::Keep("3-0123456789abcdef0"),
+        "long 3-0123456789abcdef0",
+    ),
 ];
 
 #[test]
@@ -323,6 +344,22 @@ const LONG: Parts<'static> = Parts {
     sigs: &["0123456789abcdef0123456789abcdef0", "a"],
 };
 
+/// The digits of two digests and a signature of two bytes.
+const DIGESTS: Parts<'static> = Parts {
+    start: 7,
+    sigs: &[
+        "f0e1d2c3b4a5968778695a4b3c2d1e0f",
+        "00112233445566778899aabbccddeeff",
+        "r1",
+    ],
+};
+
+/// 4-d, 3-c, 2-b, 1-a.
+const FOUR: Parts<'static> = Parts {
+    start: 4,
+    sigs: &["d", "c", "b", "a"],
+};
+
 static LINEAGE_ROWS: Rows = &[
     (Call::Lineage(ONE, 0), "1-a 1-a 1-a"),
     (Call::Lineage(ONE, 1), "none none none"),
@@ -331,8 +368,21 @@ static LINEAGE_ROWS: Rows = &[
     (Call::Lineage(TWO, 2), "none none none"),
     (Call::Lineage(LONG, 1), "1-a 1-a 1-a"),
     (Call::Lineage(THREE, 0), "3-c 3-c 3-c"),
+    (Call::Lineage(THREE, 1), "2-b 2-b 2-b"),
     (Call::Lineage(THREE, 2), "1-a 1-a 1-a"),
     (Call::Lineage(THREE, 3), "none none none"),
+    (
+        Call::Lineage(DIGESTS, 0),
+        "7-f0e1d2c3b4a5968778695a4b3c2d1e0f 7-f0e1d2c3b4a5968778695a4b3c2d1e0f 7-f0e1d2c3b4a5968778695a4b3c2d1e0f",
+    ),
+    (
+        Call::Lineage(DIGESTS, 1),
+        "6-00112233445566778899aabbccddeeff 6-00112233445566778899aabbccddeeff 6-00112233445566778899aabbccddeeff",
+    ),
+    (Call::Lineage(DIGESTS, 2), "5-r1 5-r1 5-r1"),
+    (Call::Lineage(FOUR, 0), "4-d 4-d 4-d"),
+    (Call::Lineage(FOUR, 3), "1-a 1-a 1-a"),
+    (Call::Lineage(FOUR, 4), "none none none"),
     (Call::Stood("2-b", "1-a", 0), "2-b"),
     (Call::Stood("2-b", "1-a", 1), "1-a"),
     (Call::Stood("2-b", "1-a", 2), "none"),

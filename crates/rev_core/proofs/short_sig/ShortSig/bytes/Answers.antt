@@ -1,0 +1,7 @@
+use Rattle.std.proofs.Common.{refl}
+use Rattle.rev_core.specs.ShortSig.{bytes_in}
+use Rattle.rev_core.proofs.short_sig.ShortSig.bytes.Goals as goal
+
+pub returns : goal.returns
+unfolding bytes_in
+returns c = rw (c.to_le_bytes-a.ensures, c.to_le_bytes-b.ensures) refl

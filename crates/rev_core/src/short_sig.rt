@@ -1,0 +1,163 @@
+//! Signatures kept in two numbers.
+ghost use Rattle.std.specs.Prelude.{◌≡◌, ◌<◌, ◌≤◌, ◌++◌, true, length, IfSome, is_some, nat_le};
+ghost use Rattle.std.specs.List.{list_all};
+ghost use Rattle.rev_core.specs.Sig.{is_sig};
+ghost use Rattle.rev_core.specs.ShortSig.{bytes_in, digit_of, digits_of, is_digit, is_short, text_in};
+
+use crate::sig::Sig;
+
+/// How many digits a digest has.
+const DIGITS: usize = 32;
+
+/// How many bytes two numbers hold.
+const ROOM: usize = 16;
+
+/// A short signature, in two numbers of eight bytes each, the first byte lowest: how many bytes its text has, and these
+/// bytes; or 0, and the bytes whose digits are the text.
+#[derive(Clone, Copy)]
+pub(crate) struct ShortSig {
+    pub(crate) len: u8,
+    pub(crate) front: u64,
+    pub(crate) back: u64,
+}
+
+impl ShortSig {
+    /// A signature of which the text is given, where it is short.
+    pub(crate) fn of(text: &[u8]) -> Option<ShortSig>
+        requires { 1 ≤ length text.now }
+        ensures text { IfSome result (λ s. text_in s.len s.front s.back ≡ text.now) }
+        ensures short { is_some result ≡ is_short text.now }
+    {
+        if text.len() != DIGITS {
+            return ShortSig::of_few(text);
+        }
+        let (bytes, all) = joined(text);
+        if !all {
+            return None;
+        }
+        Some(ShortSig::new(0, &bytes))
+    }
+
+    /// The same of a text that isn't as long as a digest's digits.
+    #[inline(never)]
+    fn of_few(text: &[u8]) -> Option<ShortSig>
+        requires { 1 ≤ length text.now }
+        ensures text { IfSome result (λ s. text_in s.len s.front s.back ≡ text.now) }
+        ensures short { is_some result ≡ nat_le (length text.now) 16 }
+    {
+        if text.len() > ROOM {
+            return None;
+        }
+        let mut bytes = [0; ROOM];
+        bytes[..text.len()].copy_from_slice(text);
+        Some(ShortSig::new(text.len() as u8, &bytes))
+    }
+
+    /// A length, and sixteen bytes.
+    fn new(len: u8, bytes: &[u8; ROOM]) -> ShortSig
+        ensures len { result.len ≡ len }
+        ensures bytes { bytes_in result.front result.back ≡ bytes.now }
+    {
+        ShortSig {
+            len,
+            front: u64::from_le_bytes([
+                bytes[0], bytes[1], bytes[2], bytes[3], bytes[4], bytes[5], bytes[6], bytes[7],
+            ]),
+            back: u64::from_le_bytes([
+                bytes[8], bytes[9], bytes[10], bytes[11], bytes[12], bytes[13], bytes[14],
+                bytes[15],
+            ]),
+        }
+    }
+
+    /// The sixteen bytes.
+    fn bytes(&self) -> [u8; ROOM]
+        ensures { result ≡ bytes_in self.now.front self.now.back }
+    {
+        let a = self.front.to_le_bytes();
+        let b = self.back.to_le_bytes();
+        [
+            a[0], a[1], a[2], a[3], a[4], a[5], a[6], a[7], b[0], b[1], b[2], b[3], b[4], b[5],
+            b[6], b[7],
+        ]
+    }
+
+    /// The signature.
+    pub(crate) fn sig(&self) -> Sig
+        requires { is_sig (text_in self.now.len self.now.front self.now.back) ≡ true }
+        ensures { result ≡ text_in self.now.len self.now.front self.now.back }
+    {
+        let bytes = self.bytes();
+        let parsed = if self.len == 0 {
+            Sig::parse(&digits_of(&bytes))
+        } else {
+            let len = ROOM.min(self.len as usize);
+            Sig::parse(&bytes[..len])
+        };
+        parsed.unwrap()
+    }
+}
+
+/// Whether a byte is a hexadecimal digit, with letters in lower case.
+fn is_digit(b: u8) -> bool
+    ensures { result ≡ is_digit b }
+{
+    (b >= b'0') & (b <= b'9') | (b >= b'a') & (b <= b'f')
+}
+
+/// Whether each byte is a digit, and where they all are, the bytes whose digits they are: the first half of them are the
+/// high digits, the second half the low ones.
+fn joined(text: &[u8]) -> ([u8; ROOM], bool)
+    requires { length text.now ≡ 32 }
+    ensures all { result.1 ≡ list_all is_digit text.now }
+    ensures bytes { result.1 ≡ true → digits_of result.0 ≡ text.now }
+{
+    let mut bytes = [0; ROOM];
+    let mut all = true;
+    // Both in one loop without an early end: so many bytes are looked at in one instruction.
+    for i in 0..ROOM {
+        let (high, low) = (text[i], text[i + ROOM]);
+        all = is_digit(high) & is_digit(low) & all;
+        bytes[i] = value_of(high) * 16 + value_of(low);
+    }
+    (bytes, all)
+}
+
+/// The value of a digit, and a value of another byte.
+fn value_of(digit: u8) -> u8
+    ensures low { result < 16 }
+    ensures digit { is_digit digit ≡ true → digit_of result ≡ digit }
+{
+    if digit <= b'9' {
+        digit.wrapping_sub(b'0') % 16
+    } else {
+        digit.wrapping_sub(b'a' - 10) % 16
+    }
+}
+
+/// The digits of some bytes: the high ones of all, then the low ones.
+fn digits_of(bytes: &[u8; ROOM]) -> [u8; DIGITS]
+    ensures { result ≡ digits_of bytes.now }
+{
+    let mut text = [0; DIGITS];
+    for i in 0..DIGITS {
+        text[i] = if i < ROOM {
+            digit_of(bytes[i] / 16)
+        } else {
+            digit_of(bytes[i - ROOM] % 16)
+        };
+    }
+    text
+}
+
+/// The digit of a value.
+fn digit_of(value: u8) -> u8
+    requires { value < 16 }
+    ensures { result ≡ digit_of value }
+{
+    if value < 10 {
+        value + b'0'
+    } else {
+        value - 10 + b'a'
+    }
+}
