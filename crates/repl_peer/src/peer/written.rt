@@ -1,6 +1,7 @@
 //! Revisions that were written.
-ghost use Rattle.std.specs.Prelude.{◌≡◌, ◌≤◌, ◌∷◌, [], length, slice_get, IfOk};
+ghost use Rattle.std.specs.Prelude.{◌≡◌, ◌∷◌, true, slice_get, IfOk};
 ghost use Rattle.std.specs.Option.{option_to_list};
+ghost use Rattle.rev_core.specs.ShortSig.{is_short};
 
 use doc_json::DocId;
 use rev_core::{Ancestry, KeptRev, Lineage, Rev};
@@ -49,7 +50,7 @@ impl Written {
 
     /// What an edit brought: the new revision, which has a short signature, and the one that it stands on.
     pub(crate) fn edit(id: DocId, rev: Rev, parent: Option<KeptRev>) -> Written
-        requires { length rev.sig ≤ 32 }
+        requires { is_short rev.sig ≡ true }
         ensures { result ≡ record { id = id; ancestry = rev ∷ option_to_list parent } }
     {
         let Some(rev) = KeptRev::short(&rev) else {

@@ -1,17 +1,13 @@
 -- What a local edit answers and notes: its signature is short, and it is the next local write.
-use Rattle.std.specs.Prelude.{◌≡◌, ◌+◌, ◌*◌, ◌^◌, ◌∷◌, ◌++◌, [], ℕ, Bool, true, false, List, length, Option, Some, None, Result, Ok, Err, is_ok, nat_le, nat_lt, refl}
+use Rattle.std.specs.Prelude.{◌≡◌, ◌+◌, ◌∷◌, ◌++◌, [], ℕ, Bool, true, false, List, Option, Some, None, Result, Ok, Err, is_ok, nat_le, refl}
 use Rattle.std.proofs.Common.{ap, sym, ◌∙◌, cond, subst, arith}
 use Rattle.std.proofs.lemmas.Bool.{false≢true}
 use Rattle.std.specs.Result.{result_unwrap_or}
-use Rattle.md5.specs.Md5.{md5}
-use Rattle.md5.proofs.StandardFacts.{length-md5}
-use Rattle.hex.specs.Hex.{lower_digits}
-use Rattle.hex.proofs.HexLemmas.{length-encode_with}
 use Rattle.rev_core.specs.Rev.{RevId}
-use Rattle.rev_core.specs.NewRev.{edit_text, edit_sig, edit_rev, next_generation}
+use Rattle.rev_core.specs.NewRev.{edit_rev}
+use Rattle.rev_core.specs.ShortSig.{is_short}
+use Rattle.rev_core.proofs.ShortEdits.{is_short-edit_rev}
 use Rattle.rev_core.specs.Checks.{◌>>=◌, refused_if, named}
-use Rattle.rev_core.specs.declared.fault.RevFault.{RevFault}
-use Rattle.rev_core.specs.declared.fault.RevFault.TheVariants as rev_faults
 use Rattle.std.specs.List.{list_all}
 use Rattle.std.specs.Option.{option_to_list}
 use Rattle.std.proofs.lemmas.Bool.{cond-true}
@@ -26,28 +22,13 @@ use Rattle.couch_base.specs.declared.fault.BaseFault.TheVariants as base_faults
 use Rattle.repl_peer.specs.peer.Peer.{WrittenValue, written_of}
 use Rattle.repl_peer.specs.peer.Local.{with_edited, with_edit, stood_on}
 
--- two digits for each byte of the digest
-length-edit_sig : (before : Option RevId) (deleted : Bool) (body : List ℕ) → length (edit_sig before deleted body) ≡ 32
-unfolding edit_sig
-length-edit_sig before deleted body =
-    length-encode_with lower_digits (md5 (edit_text before deleted body))
-    ∙ ap (λ n. 2 * n) (length-md5 (edit_text before deleted body))
-
 named_ok : {A E F : Type 0} (fault : F) (r : Result A E) (a : A) → named fault r ≡ Ok a → r ≡ Ok a
 named_ok fault (Ok x) a e = ap (λ y. Ok (result_unwrap_or y a)) e
 named_ok fault (Err why) a e = absurd (false≢true (ap is_ok e))
 
-of_bool : (b : Bool) (r s : RevId) (fault : RevFault) → cond b (Ok r) (Err fault) ≡ Ok s → r ≡ s
-of_bool true r s fault e = ap (λ y. result_unwrap_or y r) e
-of_bool false r s fault e = absurd (false≢true (ap is_ok e))
-
-edit_rev-short : (before : Option RevId) (deleted : Bool) (body : List ℕ) (r : RevId) → edit_rev before deleted body ≡ Ok r → length r.sig ≡ 32
-edit_rev-short before deleted body r e =
-    subst (λ (s : RevId). length s.sig ≡ 32) (of_bool (nat_lt (next_generation before) (2 ^ 32)) _ r rev_faults.GenerationFull e) (length-edit_sig before deleted body)
-
-edit_id-short : (before : Option RevId) (deleted : Bool) (body : List ℕ) (r : RevId) → edit_id before deleted body ≡ Ok r → length r.sig ≡ 32
+edit_id-short : (before : Option RevId) (deleted : Bool) (body : List ℕ) (r : RevId) → edit_id before deleted body ≡ Ok r → is_short r.sig ≡ true
 edit_id-short before deleted body r e =
-    edit_rev-short before deleted body r (named_ok base_faults.GenerationFull (edit_rev before deleted body) r e)
+    is_short-edit_rev before deleted body r (named_ok base_faults.GenerationFull (edit_rev before deleted body) r e)
 
 -- what is passed on behind a check
 checked : {A E : Type 0} (b : Bool) (why : E) (x y : A) → (refused_if b why >>= λ _. Ok x) ≡ Ok y → x ≡ y
@@ -56,7 +37,7 @@ checked false why x y e = ap (λ r. result_unwrap_or r x) e
 
 -- the new revision is short, and the other is the one that it stands on
 abbrev IsEdit : Option RevId → (RevId × Option RevId) → Type 0
-IsEdit before e = (length e.0.sig ≡ 32) × (before ≡ e.1)
+IsEdit before e = (is_short e.0.sig ≡ true) × (before ≡ e.1)
 
 made : (db : DatabaseValue) (id : Id) (before : Option RevId) (deleted : Bool) (body : List ℕ) (e : RevId × Option RevId)
     → (edit_id before deleted body >>= λ rev. refused_if (has (tree_of db.docs id) rev) (base_faults.RevExists rev) >>= λ _. Ok (rev, before)) ≡ Ok e
@@ -68,7 +49,7 @@ made db id before deleted body e h = go (edit_id before deleted body) refl h
         → IsEdit before e
     go (Ok rev) is k =
         let same = checked (has (tree_of db.docs id) rev) (base_faults.RevExists rev) (rev, before) e k in
-        (subst (λ (x : RevId × Option RevId). length x.0.sig ≡ 32) same (edit_id-short before deleted body rev is), ap (λ (x : RevId × Option RevId). x.1) same)
+        (subst (λ (x : RevId × Option RevId). is_short x.0.sig ≡ true) same (edit_id-short before deleted body rev is), ap (λ (x : RevId × Option RevId). x.1) same)
     go (Err why) is k = absurd (false≢true (ap is_ok k))
 
 chosen : {A E : Type 0} (b : Bool) (x y : A) (why : E) → cond b (Ok x) (Err why) ≡ Ok y → x ≡ y
@@ -95,15 +76,15 @@ edited_parts db id parent deleted body e h = go (parent_answer (tree_in db.docs 
 
 -- what an edit answers
 pub edit_answer-short : (db : DatabaseValue) (id : Id) (parent : Option RevId) (deleted : Bool) (body : List ℕ) (rev : RevId)
-    → edit_answer db id parent deleted body ≡ Ok rev → length rev.sig ≡ 32
+    → edit_answer db id parent deleted body ≡ Ok rev → is_short rev.sig ≡ true
 edit_answer-short db id parent deleted body rev h = go (edited db id parent deleted body) refl h
   where
     go : (r : Result (RevId × Option RevId) BaseFault) → edited db id parent deleted body ≡ r
         → (r >>= λ e. refused_if (nat_le most db.update_seq) base_faults.SeqFull >>= λ _. Ok e.0) ≡ Ok rev
-        → length rev.sig ≡ 32
+        → is_short rev.sig ≡ true
     go (Ok e) is k =
         let same = checked (nat_le most db.update_seq) base_faults.SeqFull e.0 rev k in
-        subst (λ (r : RevId). length r.sig ≡ 32) same (edited_parts db id parent deleted body e is).0
+        subst (λ (r : RevId). is_short r.sig ≡ true) same (edited_parts db id parent deleted body e is).0
     go (Err why) is k = absurd (false≢true (ap is_ok k))
 
 changed : (b : Bool) (db written after : DatabaseValue) → after ≡ cond b written db → after.update_seq ≡ db.update_seq + 1 → b ≡ true

@@ -1,4 +1,4 @@
-use Rattle.std.proofs.Common.{rules, ◌≡◌, ◌∷◌, ◌++◌, [], sym, ◌∙◌, arith}
+use Rattle.std.proofs.Common.{rules, ◌≡◌, ◌∷◌, ◌++◌, [], sym, ◌∙◌}
 use Rattle.std.specs.Option.{option_to_list}
 use Rattle.rev_tree.specs.declared.origin.Origin.TheVariants.{Local}
 use Rattle.couch_base.specs.Database.{tree_in}
@@ -10,8 +10,7 @@ use Rattle.repl_peer.proofs.peer.local.edit.Goals as goal
 -- the revision that an edit makes
 pub edit-requires-in-Ok-edit : goal.edit-requires-in-Ok-edit
 edit-requires-in-Ok-edit c =
-    let size = edit_answer-short c.args.db.now c.args.id.now c.match-parent.parent c.args.deleted c.args.body.now c.in-Ok-edit.rev (sym c.in-Ok-edit.ensures.answer) in
-    omega (arith, size)
+    edit_answer-short c.args.db.now c.args.id.now c.match-parent.parent c.args.deleted c.args.body.now c.in-Ok-edit.rev (sym c.in-Ok-edit.ensures.answer)
 
 -- the write that was made before, with that revision
 pub returns-in-Ok-edit-clause-locals : goal.returns-in-Ok-edit-clause-locals
