@@ -1,12 +1,15 @@
 -- Digits of bytes, and bytes of digits.
-use Rattle.std.proofs.Common.{◌≡◌, ℕ, zero, suc, Bool, true, false, ◌&&◌, ◌+◌, ◌-◌, ◌*◌, ◌/◌, ◌%◌, ◌<◌, ◌≤◌, List, [], ◌∷◌, ◌++◌, length, take, drop, map, get_or, slice_set, refl, sym, ap, ◌∙◌, arith}
-use Rattle.std.proofs.lemmas.List.{get_or-append-add, get_or-drop, get_or-map, get_or_append_left, length-append, length-drop, length-map, length-set, drop_all, drop_more, map-append, take_all, take_more, take_more_set, take-append-drop}
-use Rattle.std.proofs.lemmas.Bool.{and_parts}
+use Rattle.std.proofs.Common.{◌≡◌, ℕ, zero, suc, Bool, true, false, ◌&&◌, ◌+◌, ◌-◌, ◌*◌, ◌/◌, ◌%◌, ◌<◌, ◌≤◌, List, [], ◌∷◌, ◌++◌, length, take, drop, map, get_or, slice_set, refl, sym, ap, subst, ◌∙◌, arith}
+use Rattle.std.proofs.lemmas.List.{get_or-append-add, get_or-drop, get_or-map, get_or_append_left, length-append, length-drop, length-map, length-set, drop_all, drop_more, map-append, take_all, take_more, take_more_set, take-append-drop, take-take}
+use Rattle.std.proofs.lemmas.Bool.{and_parts, cond-false, false≢true}
+use Rattle.std.proofs.Math.Dec.{eqb-suc-zero}
 use Rattle.std.proofs.lemmas.List.Folds.{list_all-append}
 use Rattle.std.proofs.lemmas.Nat.{le_bytes_8}
 use Rattle.std.specs.List.{list_all}
 use Rattle.std.specs.Int.{from_le_bytes, to_le_bytes, w64}
-use Rattle.rev_core.specs.ShortSig.{digit_of, digits_of, is_digit}
+use Rattle.rev_core.specs.Sig.{is_sig, padded}
+use Rattle.rev_core.specs.ShortSig.{bytes_in, digit_of, digits_of, is_digit, text_in}
+use Rattle.rev_core.proofs.Pad.{padded-front}
 
 abbrev high : ℕ → ℕ
 high b = digit_of (b / 16)
@@ -132,6 +135,11 @@ listed-drop zero k xs h = sym (drop_all k xs (omega (arith, h)))
 listed-drop (suc n) k xs h =
     (λ i. get_or xs k 0 ∷ listed-drop n (k + 1) xs (omega (arith, h)) i) ∙ sym (drop_more xs k 0 (omega (arith, h)))
 
+pub listed-take : (n k : ℕ) (xs : List ℕ) → k + n ≤ length xs → listed n k xs ≡ take n (drop k xs)
+listed-take zero k xs h = refl
+listed-take (suc n) k xs h =
+    (λ i. get_or xs k 0 ∷ listed-take n (k + 1) xs (omega (arith, h)) i) ∙ ap (take (suc n)) (sym (drop_more xs k 0 (omega (arith, h))))
+
 listed-low : (n k : ℕ) (xs : List ℕ) → ((i : ℕ) → get_or xs i 0 < 256) → (i : ℕ) → get_or (listed n k xs) i 0 < 256
 listed-low zero k xs h i = omega arith
 listed-low (suc n) k xs h zero = h k
@@ -144,3 +152,12 @@ numbers_of xs a b n low first second =
     let x = le_bytes_8 (listed 8 0 xs) a refl (listed-low 8 0 xs low) first in
     let y = le_bytes_8 (listed 8 8 xs) b refl (listed-low 8 8 xs low) second in
     (λ i. x i ++ y i) ∙ listed-drop 16 0 xs n
+
+-- a short text is the front of what it is padded to
+pub few : (text : List ℕ) (len front back : ℕ) → is_sig text ≡ true → length text ≤ 16 → len ≡ length text
+    → bytes_in front back ≡ take 16 (padded text) → text_in len front back ≡ text
+few [] len front back h fits same is = absurd (false≢true h)
+few (b ∷ rest) len front back h fits same is =
+    let text = b ∷ rest in
+    subst (λ n. text_in n front back ≡ text) (sym same)
+    (cond-false _ _ _ (eqb-suc-zero (length rest)) ∙ ap (take (length text)) is ∙ take-take (length text) 16 (padded text) fits ∙ padded-front text)

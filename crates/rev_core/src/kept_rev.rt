@@ -75,7 +75,7 @@ impl KeptRev {
         ensures { result ≡ short_of rev.now }
     {
         let generation = rev.generation();
-        let ShortSig { len, front, back } = ShortSig::of(rev.sig_bytes())?;
+        let ShortSig { len, front, back } = ShortSig::of(rev.signature())?;
         Some(KeptRev {
             form: Form::Short {
                 len,

@@ -128,9 +128,9 @@ impl Lineage {
         // Readings of the others tell the proof that they are revisions.
         let (_parent, _oldest) = (parent.generation(), oldest.generation());
         let generation = rev.generation();
-        let first = ShortSig::of(rev.sig_bytes())?;
-        let second = ShortSig::of(parent.sig_bytes())?;
-        let third = ShortSig::of(oldest.sig_bytes())?;
+        let first = ShortSig::of(rev.signature())?;
+        let second = ShortSig::of(parent.signature())?;
+        let third = ShortSig::of(oldest.signature())?;
         Some(Lineage {
             form: Form::Three {
                 first_len: first.len,

@@ -95,6 +95,13 @@ impl Rev {
         self.sig
     }
 
+    /// The signature, where it stands.
+    pub(crate) fn signature(&self) -> &Sig
+        ensures { result.now ≡ self.now.sig }
+    {
+        &self.sig
+    }
+
     /// The text of the signature.
     pub fn sig_bytes(&self) -> &[u8]
         ensures { result.now ≡ self.now.sig }

@@ -22,35 +22,23 @@ pub(crate) struct ShortSig {
 }
 
 impl ShortSig {
-    /// A signature of which the text is given, where it is short.
-    pub(crate) fn of(text: &[u8]) -> Option<ShortSig>
-        requires { 1 ≤ length text.now }
-        ensures text { IfSome result (λ s. text_in s.len s.front s.back ≡ text.now) }
-        ensures short { is_some result ≡ is_short text.now }
+    /// A signature, where it is short.
+    pub(crate) fn of(sig: &Sig) -> Option<ShortSig>
+        ensures text { IfSome result (λ s. text_in s.len s.front s.back ≡ sig.now) }
+        ensures short { is_some result ≡ is_short sig.now }
     {
-        if text.len() != DIGITS {
-            return ShortSig::of_few(text);
+        let text = sig.bytes();
+        if text.len() == DIGITS {
+            let (bytes, all) = joined(text);
+            if !all {
+                return None;
+            }
+            return Some(ShortSig::new(0, &bytes));
         }
-        let (bytes, all) = joined(text);
-        if !all {
-            return None;
-        }
-        Some(ShortSig::new(0, &bytes))
-    }
-
-    /// The same of a text that isn't as long as a digest's digits.
-    #[inline(never)]
-    fn of_few(text: &[u8]) -> Option<ShortSig>
-        requires { 1 ≤ length text.now }
-        ensures text { IfSome result (λ s. text_in s.len s.front s.back ≡ text.now) }
-        ensures short { is_some result ≡ nat_le (length text.now) 16 }
-    {
         if text.len() > ROOM {
             return None;
         }
-        let mut bytes = [0; ROOM];
-        bytes[..text.len()].copy_from_slice(text);
-        Some(ShortSig::new(text.len() as u8, &bytes))
+        Some(ShortSig::new(text.len() as u8, &sig.front()))
     }
 
     /// A length, and sixteen bytes.
@@ -74,11 +62,11 @@ impl ShortSig {
     fn bytes(&self) -> [u8; ROOM]
         ensures { result ≡ bytes_in self.now.front self.now.back }
     {
-        let a = self.front.to_le_bytes();
-        let b = self.back.to_le_bytes();
+        let front = self.front.to_le_bytes();
+        let back = self.back.to_le_bytes();
         [
-            a[0], a[1], a[2], a[3], a[4], a[5], a[6], a[7], b[0], b[1], b[2], b[3], b[4], b[5],
-            b[6], b[7],
+            front[0], front[1], front[2], front[3], front[4], front[5], front[6], front[7],
+            back[0], back[1], back[2], back[3], back[4], back[5], back[6], back[7],
         ]
     }
 

@@ -46,6 +46,7 @@ impl Model for Sig {
 }
 
 impl Sig {
+    ghost use Rattle.std.specs.Prelude.{take};
     ghost use Rattle.rev_core.specs.Sig.{sig_read, is_sig};
 
     /// The signature that a text spells, or `BadSig` where it spells none.
@@ -67,6 +68,17 @@ impl Sig {
         ensures sig { is_sig self.now ≡ true }
     {
         &self.bytes[..self.len as usize]
+    }
+
+    /// The first sixteen bytes of the text, and zeros behind a shorter one.
+    pub(crate) fn front(&self) -> [u8; 16]
+        ensures { result ≡ take 16 (padded self.now) }
+    {
+        let bytes = &self.bytes;
+        [
+            bytes[0], bytes[1], bytes[2], bytes[3], bytes[4], bytes[5], bytes[6], bytes[7],
+            bytes[8], bytes[9], bytes[10], bytes[11], bytes[12], bytes[13], bytes[14], bytes[15],
+        ]
     }
 }
 

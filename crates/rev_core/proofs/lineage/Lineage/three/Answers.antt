@@ -9,9 +9,9 @@ invariant_of-result c =
     let newest : c.args.rev.now.generation ≡ g = sym c.generation-generation.ensures.part in
     let middle : c.args.parent.now.generation ≡ g - 1 = omega (arith, newest, c.requires.parent) in
     let oldest : c.args.oldest.now.generation ≡ g - 2 = omega (arith, newest, c.requires.parent, c.requires.oldest) in
-    let a : c.args.rev.now.sig ≡ _ = sym (c.in_ok-first.ensures.text ∙ c.sig_bytes.ensures) in
-    let b : c.args.parent.now.sig ≡ _ = sym (c.in_ok-second.ensures.text ∙ c.sig_bytes-2.ensures) in
-    let d : c.args.oldest.now.sig ≡ _ = sym (c.in_ok-third.ensures.text ∙ c.sig_bytes-3.ensures) in (
+    let a : c.args.rev.now.sig ≡ _ = sym (c.in_ok-first.ensures.text ∙ c.signature.ensures) in
+    let b : c.args.parent.now.sig ≡ _ = sym (c.in_ok-second.ensures.text ∙ c.signature-2.ensures) in
+    let d : c.args.oldest.now.sig ≡ _ = sym (c.in_ok-third.ensures.text ∙ c.signature-3.ensures) in (
       subst IsRev (λ i. record { generation = newest i; sig = a i }) c.generation-generation.ensures.is_rev,
       subst IsRev (λ i. record { generation = middle i; sig = b i }) c.generation-parent.ensures.is_rev,
       subst IsRev (λ i. record { generation = oldest i; sig = d i }) c.generation-oldest.ensures.is_rev,

@@ -4,4 +4,4 @@ use Rattle.rev_core.proofs.short_sig.ShortSig.bytes.Goals as goal
 
 pub returns : goal.returns
 unfolding bytes_in
-returns c = rw (c.to_le_bytes-a.ensures, c.to_le_bytes-b.ensures) refl
+returns c = rw (c.to_le_bytes-front.ensures, c.to_le_bytes-back.ensures) refl

@@ -1,0 +1,9 @@
+use Rattle.std.proofs.Common.{take, ap, ◌∙◌, arith}
+use Rattle.rev_core.specs.Sig.{padded}
+use Rattle.rev_core.proofs.ShortSigs.{listed-take}
+use Rattle.rev_core.proofs.sig.Sig.front.Goals as goal
+
+pub returns : goal.returns
+returns c =
+    listed-take 16 0 c.self.inside.bytes (omega (arith, c.self.invariant.size))
+    ∙ ap (take 16) (c.self.invariant.zeros ∙ ap padded c.self.view_is)
