@@ -29,12 +29,20 @@ fn row_in(rows: &[Row], id: &DocId) -> Option<usize>
     None
 }
 
-/// The place of a row of an id, which is looked for from a place on, and then before it.
+/// The place of a row of an id, which is looked for behind a place, then from there on, and then before it.
+///
+/// Where the last document had its row, the next one has the next row mostly, or the same.
 pub(crate) fn row_from(rows: &[Row], id: &DocId, from: usize) -> Option<usize>
     requires { from ≤ length rows.now }
     ensures some { IfSome result (IsRowOf rows.now id.now) }
     ensures none { IfNone result (list_any (λ row. bytes_eq row.id id.now) rows.now ≡ false) }
 {
+    let next = from + 1;
+    if next < rows.len() {
+        if rows[next].id() == id {
+            return Some(next);
+        }
+    }
     match row_in(&rows[from..], id) {
         Some(i) => Some(from + i),
         None => row_in(&rows[..from], id),
