@@ -1,5 +1,6 @@
 -- A run of the pool: docs/PROFILE.md, "The pool".
 use Rattle.std.specs.Prelude.{◌≡◌, ◌⊎◌, ℕ, Bool, true, false, List, [], Option, Some, None, Result, Ok, Err, IfOk, IfErr, IfSome, sum}
+use Rattle.std.specs.declared.alloc.AllocError.{AllocError}
 use Rattle.rev_core.specs.Rev.{RevId}
 use Rattle.doc_json.specs.Document.{Document}
 use Rattle.doc_json.specs.Chosen.{Choice}
@@ -65,7 +66,7 @@ pub record PutsEntry (source target source' : PeerValue) (plan : Plan) (outcome 
   where
     pub entry : EntryValue
     pub told : session_answer target plan.session (λ s. Ok (entry_of s)) ≡ Ok entry
-    pub put : Result (Unit {0}) TargetFault
+    pub put : Result (Unit {0}) AllocError
     pub puts : PutsOver source (rep_between source target plan.chosen) entry put source'
     pub done : IfOk outcome (λ _. put ≡ Ok tt)
 

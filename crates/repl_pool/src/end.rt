@@ -55,23 +55,6 @@ fn close_target<F: WriteFilter>(
     }
 }
 
-/// An outcome, unless the source found no memory for its entry.
-fn both(
-    outcome: Result<Report, PoolFault>,
-    put: &Result<(), TargetFault>,
-) -> Result<Report, PoolFault>
-    requires memory { IfErr put.now (λ e. e ≡ TargetFault.Memory) }
-    ensures told { UnlessMemory outcome result }
-    ensures put { OnOk result (put.now ≡ Ok tt) }
-{
-    match (outcome, put) {
-        (Ok(report), Ok(())) => Ok(report),
-        (Ok(_), Err(TargetFault::Memory)) => Err(PoolFault::Memory),
-        (Ok(_), Err(_)) => unreachable!(),
-        (Err(fault), _) => Err(fault),
-    }
-}
-
 /// Puts the entry of a run's session, which the target holds, into the source's log, where an older one is passed over.
 ///
 /// The answer is the outcome, or where that is `Ok` and the log finds no memory, `Memory`.
@@ -88,7 +71,9 @@ fn put_entry<F: WriteFilter>(
     ensures puts { PutsEntry source.old.1 target.now.1 source.new.1 plan.now result }
 {
     let put = record_at_source(source, target, plan);
-    both(outcome, &put)
+    let report = outcome?;
+    put?;
+    Ok(report)
 }
 
 /// Walks over the source's feed above a run's start, where the run was concluded, and puts its entry.

@@ -308,12 +308,12 @@ fn record_at_target<G: WriteFilter>(
 
 /// Puts the entry of a plan's session, which the target holds, into the source's log; an older one is passed over.
 ///
-/// The only error is `Memory`, which changes nothing.
+/// A refusal changes nothing.
 pub fn record_at_source<F: WriteFilter, G: WriteFilter>(
     source: &mut Peer<F>,
     target: &Peer<G>,
     plan: &Plan,
-) -> Result<(), TargetFault>
+) -> Result<(), AllocError>
     requires held { (s : SessionValue) × (session_in target.now.1.sessions plan.now.session ≡ Some s) }
     ensures filter { source.new.0 ≡ source.old.0 }
     ensures law { Lawful (F.refuses source.new.0) source.new.1 }
@@ -326,7 +326,7 @@ pub fn record_at_source<F: WriteFilter, G: WriteFilter>(
     };
     let rep = rep_between(source, target, plan.chosen.as_ref())?;
     match source.put_entry(&rep, entry) {
-        Err(fault @ TargetFault::Memory) => Err(fault),
+        Err(TargetFault::Memory) => Err(AllocError),
         _ => Ok(()),
     }
 }

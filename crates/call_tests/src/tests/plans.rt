@@ -56,8 +56,6 @@ pub(crate) fn record(
     let plan = plan(session, 500, 0)?;
     // The call asks for a session that the target holds.
     let _windows = target.windows(plan.session)?;
-    match record_at_source(source, target, &plan) {
-        Ok(()) => "recorded".to_string(alloc).ok(),
-        Err(fault) => fault_text(alloc, fault),
-    }
+    record_at_source(source, target, &plan).ok()?;
+    "recorded".to_string(alloc).ok()
 }

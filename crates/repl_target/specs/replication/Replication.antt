@@ -1,5 +1,6 @@
 -- Replication by one thread: docs/PROFILE.md, "Replication by one thread"; CouchDB, "Replication Protocol".
 use Rattle.std.specs.Prelude.{◌≡◌, ◌⊎◌, ℕ, zero, suc, ◌==◌, ◌<◌, Bool, true, false, ◌&&◌, nat_lt, nat_le, if◌then◌else◌, [], Option, Some, None, Result, Ok, Err}
+use Rattle.std.specs.declared.alloc.AllocError.{AllocError}
 use Rattle.rev_core.specs.Rev.{RevId}
 use Rattle.rev_tree.specs.Tree.{leaves, SameRevisions}
 use Rattle.rev_tree.specs.declared.origin.SessionId.{SessionId}
@@ -149,15 +150,14 @@ abbrev pub closed : PeerValue → Plan → PeerValue
 closed p plan = closed_as p plan (conclude_answer p plan.session)
 
 -- an entry is put into the log of a replication, where an older one is passed over, or finds no memory
-abbrev pub PutsOver : PeerValue → RepId → EntryValue → Result (Unit {0}) TargetFault → PeerValue → Type 0
+abbrev pub PutsOver : PeerValue → RepId → EntryValue → Result (Unit {0}) AllocError → PeerValue → Type 0
 PutsOver source rep entry (Ok done) source' = source' ≡ after_put_entry source rep entry
-PutsOver source rep entry (Err why) source' =
-    (why ≡ faults.Memory) × (source' ≡ source)
+PutsOver source rep entry (Err refused) source' = source' ≡ source
 
 -- the answer of recording both sides: that of concluding, unless the second finds no memory
-abbrev pub told_by : Result Report TargetFault → Result (Unit {0}) TargetFault → Result Report TargetFault
+abbrev pub told_by : Result Report TargetFault → Result (Unit {0}) AllocError → Result Report TargetFault
 told_by concluded (Ok done) = concluded
-told_by concluded (Err why) = Err why
+told_by concluded (Err refused) = Err faults.Memory
 
 -- both sides are recorded, the target first: then its session's entry is put at the source
 pub record Closes (source target : PeerValue) (plan : Plan) (result : Result Report TargetFault)
@@ -165,7 +165,7 @@ pub record Closes (source target : PeerValue) (plan : Plan) (result : Result Rep
   pub at_target : target' ≡ closed target plan
   pub entry : EntryValue
   pub told : session_answer target' plan.session (λ s. Ok (entry_of s)) ≡ Ok entry
-  pub put : Result (Unit {0}) TargetFault
+  pub put : Result (Unit {0}) AllocError
   pub at_source : PutsOver source (rep_between source target' plan.chosen) entry put source'
   pub answer : result ≡ told_by (conclude_answer target plan.session) put
 

@@ -1,6 +1,7 @@
 -- A replication by one thread is calls on the target whose messages are what the source answers.
 use Rattle.std.proofs.Common.{◌≡◌, ℕ, zero, suc, ◌⊎◌, ◌==◌, ◌≤◌, Bool, true, List, [], ◌∷◌, ◌++◌, Option, Some, None, Result, Ok, Err, IfOk, OnOk, take, length, refl, sym, ap, ◌∙◌, subst, inl, inr, arith}
 use Rattle.std.proofs.lemmas.Bool.{and_parts, cond-true, cond-false, both_ways, eq-eqb, ne_eqb, leb-true, ltb-true}
+use Rattle.std.specs.declared.alloc.AllocError.{AllocError}
 use Rattle.rev_tree.specs.declared.origin.SessionId.{SessionId}
 use Rattle.doc_json.specs.Document.{Document}
 use Rattle.doc_json.specs.Chosen.{Choice}
@@ -245,10 +246,10 @@ abbrev pub IsPut : PeerValue → PeerValue → Choice → PeerValue → Type 0
 IsPut source target chosen source' =
     (source' ≡ source) ⊎ (e : EntryValue) × IsSentEntry target e × (source' ≡ after_put_entry source (rep_between source target chosen) e)
 
-pub puts_over : (source target : PeerValue) (plan : Plan) (entry : EntryValue) (put : Result (Unit {0}) TargetFault) (source' : PeerValue) → session_answer target plan.session (λ s. Ok (entry_of s)) ≡ Ok entry → PutsOver source (rep_between source target plan.chosen) entry put source'
+pub puts_over : (source target : PeerValue) (plan : Plan) (entry : EntryValue) (put : Result (Unit {0}) AllocError) (source' : PeerValue) → session_answer target plan.session (λ s. Ok (entry_of s)) ≡ Ok entry → PutsOver source (rep_between source target plan.chosen) entry put source'
     → IsPut source target plan.chosen source'
 puts_over source target plan entry (Ok done) source' told h = inr (entry, sent_entry target plan.session entry told, h)
-puts_over source target plan entry (Err why) source' told h = inl h.1
+puts_over source target plan entry (Err refused) source' told h = inl h
 
 replicates_puts : (refuses : Document → Bool) (source target : PeerValue) (plan : Plan) (result : Result Report TargetFault) (source' target' : PeerValue) → Replicates refuses source target plan result source' target' → IsPut source target' plan.chosen source'
 replicates_puts refuses source target plan result source' target' (not_planned h) = inl refl

@@ -2,6 +2,7 @@
 use Rattle.std.proofs.Common.{◌≡◌, ◌⊎◌, ℕ, zero, suc, ◌+◌, ◌<◌, ◌≤◌, ◌^◌, ◌==◌, Bool, true, cond, List, [], ◌∷◌, Option, Some, None, Result, Ok, Err, is_ok, OnOk, IfOk, refl, sym, ap, ◌∙◌, subst, inl, inr, arith, eqb}
 use Rattle.std.specs.List.{find, IsDistinct}
 use Rattle.std.proofs.lemmas.Bool.{and_parts, cond_both, cond-true, eqb-true, eq-eqb, leb-true, false≢true}
+use Rattle.std.specs.declared.alloc.AllocError.{AllocError}
 use Rattle.rev_tree.specs.declared.origin.SessionId.{SessionId}
 use Rattle.doc_json.specs.Document.{Document}
 use Rattle.couch_base.specs.Lists.{Among}
@@ -216,7 +217,7 @@ concludes s report h =
     ok_is : (x y : Report) → ◌≡◌ {A = Result Report TargetFault} (Ok x) (Ok y) → x ≡ y
     ok_is x y e = cc
 
-pub concluded : (answer : Result Report TargetFault) (put : Result (Unit {0}) TargetFault) (report : Report) → told_by answer put ≡ Ok report → answer ≡ Ok report
+pub concluded : (answer : Result Report TargetFault) (put : Result (Unit {0}) AllocError) (report : Report) → told_by answer put ≡ Ok report → answer ≡ Ok report
 concluded answer (Ok done) report h = h
 concluded answer (Err why) report h = absurd (false≢true (ap is_ok h))
 
