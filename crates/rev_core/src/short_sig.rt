@@ -93,8 +93,8 @@ fn is_digit(b: u8) -> bool
     (b >= b'0') & (b <= b'9') | (b >= b'a') & (b <= b'f')
 }
 
-/// Whether each byte is a digit, and where they all are, the bytes whose digits they are: the first half of them are the
-/// high digits, the second half the low ones.
+/// Whether each byte is a digit, and where they all are, the bytes whose digits they are: the first half of these are
+/// the high digits, the second half the low ones.
 fn joined(text: &[u8]) -> ([u8; ROOM], bool)
     requires { length text.now ≡ 32 }
     ensures all { result.1 ≡ list_all is_digit text.now }
@@ -111,7 +111,7 @@ fn joined(text: &[u8]) -> ([u8; ROOM], bool)
     (bytes, all)
 }
 
-/// The value of a digit, and a value of another byte.
+/// The value of a digit; of another byte, some value.
 fn value_of(digit: u8) -> u8
     ensures low { result < 16 }
     ensures digit { is_digit digit ≡ true → digit_of result ≡ digit }
