@@ -3,8 +3,7 @@ use Rattle.std.proofs.Common.{◌≡◌, ◌⊎◌, inl, inr, ℕ, zero, suc, �
 use Rattle.std.specs.List.{find}
 use Rattle.std.proofs.lemmas.Bool.{cond_both, eqb-true}
 use Rattle.std.proofs.lemmas.List.{take_more}
-use Rattle.std.proofs.lemmas.Option.{slice_get-get_or}
-use Rattle.couch_base.specs.ListLaws.{some_is, none_some}
+use Rattle.std.proofs.lemmas.Option.{slice_get-get_or, same_Some, none-some}
 use Rattle.repl_peer.specs.peer.Peer.{PeerValue}
 use Rattle.repl_peer.specs.session.Sessions.{GivesUnlessMemory}
 use Rattle.couch_base.specs.Database.{most}
@@ -20,7 +19,7 @@ find_end : {X : Type 0} (p : X → Bool) (xs : List X) (x : X) → find p xs ≡
 find_end p [] x none other = ap (λ b. cond b (Some x) None) other
 find_end p (y ∷ xs) x none other =
     cond_both (p y) (Some y) (find p xs) (λ o. o ≡ None → cond (p y) (Some y) (find p (xs ++ x ∷ [])) ≡ None)
-    (λ _ e. absurd (none_some y (sym e)))
+    (λ _ e. absurd (none-some y (sym e)))
     (λ apart e. ap (λ b. cond b (Some y) (find p (xs ++ x ∷ []))) apart ∙ find_end p xs x e other)
     none
 
@@ -30,13 +29,13 @@ find_more p xs i x lt is none other =
     ap (find p) (take_more xs i x lt ∙ ap (λ y. take i xs ++ y ∷ []) (sym is)) ∙ find_end p (take i xs) x none other
 
 find_at : {X : Type 0} (p : X → Bool) (xs : List X) (i : ℕ) (x : X) → slice_get xs i ≡ Some x → find p (take i xs) ≡ None → p x ≡ true → find p xs ≡ Some x
-find_at p [] i x at none passes = absurd (none_some x at)
+find_at p [] i x at none passes = absurd (none-some x at)
 find_at p (y ∷ xs) zero x at none passes =
-    let same : y ≡ x = some_is y x at in
+    let same : y ≡ x = same_Some y x at in
     ap (λ b. cond b (Some y) (find p xs)) (ap p same ∙ passes) ∙ ap Some same
 find_at p (y ∷ xs) (suc i) x at none passes =
     cond_both (p y) (Some y) (find p (take i xs)) (λ o. o ≡ None → cond (p y) (Some y) (find p xs) ≡ Some x)
-    (λ _ e. absurd (none_some y (sym e)))
+    (λ _ e. absurd (none-some y (sym e)))
     (λ apart e. ap (λ b. cond b (Some y) (find p xs)) apart ∙ find_at p xs i x at e passes)
     none
 

@@ -9,13 +9,13 @@ use Rattle.std.specs.FinMap.{get, insert, get-insert, get-empty}
 use Rattle.std.proofs.lemmas.Bool.{cond_both, true≢false, eqb-true, eq-eqb}
 use Rattle.std.proofs.lemmas.Cmp.{nat_list_cmp_total, tied_itself}
 use Rattle.std.proofs.lemmas.Map.Text.{is_text}
+use Rattle.std.proofs.lemmas.Option.{same_Some, none-some}
 use Rattle.rev_core.specs.Rev.{RevId}
 use Rattle.doc_json.specs.Document.{Document}
 use Rattle.rev_tree.specs.declared.origin.Origin.{Origin}
 use Rattle.couch_base.specs.Database.{DatabaseValue}
 use Rattle.couch_base.specs.Edit.{edited, edit_document}
 use Rattle.couch_base.specs.Put.{after_put, put_answer, is_changed}
-use Rattle.couch_base.specs.ListLaws.{some_is, none_some}
 use Rattle.couch_base.specs.declared.fault.BaseFault.{BaseFault}
 use Rattle.repl_peer.specs.peer.Peer.{PeerValue}
 use Rattle.repl_peer.specs.peer.Writing.{after_edit, after_load, load_edited, next_local}
@@ -42,11 +42,11 @@ state_at g old new e = ap (λ m. let s : State = record { program = g.program; d
 pub index_none : (g : Beside) (es : Entries) (uuids : List ℕ) → es ≡ [] → uuids ≡ [] → IsIndex (state_of g es) uuids
 index_none g es uuids e f = record {
   noted = λ u h. absurd (true≢false (sym h ∙ ap (list_any (nat_eq u)) f));
-  taken = λ u t. absurd (none_some t.1 (sym (get-empty text_cmp t.0) ∙ sym (ap (λ x. peer_at (state_of g x) t.0) e) ∙ t.2));
+  taken = λ u t. absurd (none-some t.1 (sym (get-empty text_cmp t.0) ∙ sym (ap (λ x. peer_at (state_of g x) t.0) e) ∙ t.2));
 }
 
 pub none_deny : (deny : Option (List ℕ)) (es : Entries) → es ≡ [] → AllDeny deny es
-none_deny deny es e = λ name d h. absurd (none_some d (sym (get-empty text_cmp name) ∙ sym (ap (λ x. get (denied_of x) name) e) ∙ h))
+none_deny deny es e = λ name d h. absurd (none-some d (sym (get-empty text_cmp name) ∙ sym (ap (λ x. get (denied_of x) name) e) ∙ h))
 
 -- ---- one more, or one changed
 
@@ -78,14 +78,14 @@ index_added old new name l uuids more k index absent is e h = record {
         | false ↦ λ t.
             let known = index.noted u (sym (h u ∙ ap (λ b. cond b true (list_any (nat_eq u) uuids)) t) ∙ among) in
             split old name l known.0 (IsTaken new u)
-            (λ q _. absurd (none_some known.1 (sym absent ∙ ap (peer_at old) (sym q) ∙ known.2)))
+            (λ q _. absurd (none-some known.1 (sym absent ∙ ap (peer_at old) (sym q) ∙ known.2)))
             (λ same. (known.0, known.1, ap (λ s. peer_at s known.0) is ∙ same ∙ known.2, known.3))
       ] refl;
   taken = λ u t.
       let found : peer_at (with_peer old name l) t.0 ≡ Some t.1 = ap (λ s. peer_at s t.0) (sym is) ∙ t.2 in
       split old name l t.0 (list_any (nat_eq u) more ≡ true)
       (λ _ here.
-      let one : l ≡ t.1 = some_is l t.1 (sym here ∙ found) in
+      let one : l ≡ t.1 = same_Some l t.1 (sym here ∙ found) in
       h u ∙ ap (λ b. cond b true (list_any (nat_eq u) uuids)) (eq-eqb k u (e ∙ ap (λ (x : PeerValue). x.db.uuid) one ∙ t.3)))
       (λ same. h u ∙ ap (λ b. cond (nat_eq k u) true b) (index.taken u (t.0, t.1, sym same ∙ found, t.3)) ∙ both_true (nat_eq k u));
 }
@@ -96,14 +96,14 @@ index_written old new name l m uuids index there is e = record {
       let known = index.noted u among in
       split old name m known.0 (IsTaken new u)
       (λ q here.
-      let one : l ≡ known.1 = some_is l known.1 (sym there ∙ ap (peer_at old) (sym q) ∙ known.2) in
+      let one : l ≡ known.1 = same_Some l known.1 (sym there ∙ ap (peer_at old) (sym q) ∙ known.2) in
       (known.0, m, ap (λ s. peer_at s known.0) is ∙ here, e ∙ ap (λ (x : PeerValue). x.db.uuid) one ∙ known.3))
       (λ same. (known.0, known.1, ap (λ s. peer_at s known.0) is ∙ same ∙ known.2, known.3));
   taken = λ u t.
       let found : peer_at (with_peer old name m) t.0 ≡ Some t.1 = ap (λ s. peer_at s t.0) (sym is) ∙ t.2 in
       split old name m t.0 (list_any (nat_eq u) uuids ≡ true)
       (λ q here.
-      let one : m ≡ t.1 = some_is m t.1 (sym here ∙ found) in
+      let one : m ≡ t.1 = same_Some m t.1 (sym here ∙ found) in
       index.taken u (t.0, l, ap (peer_at old) q ∙ there, sym e ∙ ap (λ (x : PeerValue). x.db.uuid) one ∙ t.3))
       (λ same. index.taken u (t.0, t.1, sym same ∙ found, t.3));
 }
@@ -130,7 +130,7 @@ pub deny_added : (deny : Option (List ℕ)) (old new : Entries) (name : List ℕ
 deny_added deny old new name d all e is = λ q found h.
     let at : cond (eq_by_cmp text_cmp q name) (Some d) (get (denied_of old) q) ≡ Some found = sym (get-insert nat_list_cmp_total (denied_of old) name d q) ∙ sym (ap (λ m. get m q) is) ∙ h in
     elim (eq_by_cmp text_cmp q name) as (λ b. cond b (Some d) (get (denied_of old) q) ≡ Some found → found ≡ deny) [
-      | true ↦ λ k. sym (some_is d found k) ∙ e
+      | true ↦ λ k. sym (same_Some d found k) ∙ e
       | false ↦ λ k. all q found k
     ] at
 

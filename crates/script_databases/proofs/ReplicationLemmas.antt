@@ -9,8 +9,8 @@ use Rattle.std.specs.Ordering.{eq_by_cmp}
 use Rattle.std.specs.FinMap.{FinMap, get, contains_key, insert, get-insert, same_map}
 use Rattle.std.proofs.lemmas.Cmp.{nat_list_cmp_total}
 use Rattle.std.proofs.lemmas.Bool.{true≢false, cond_both, eq-eqb}
+use Rattle.std.proofs.lemmas.Option.{same_Some}
 use Rattle.doc_json.specs.Document.{Document}
-use Rattle.couch_base.specs.ListLaws.{some_is}
 use Rattle.repl_peer.specs.peer.Law.{LawfulSessions}
 use Rattle.repl_peer.specs.peer.Peer.{PeerValue}
 use Rattle.repl_peer.specs.peer.Rules.{rules_refuse}
@@ -128,7 +128,7 @@ run_apart p q plan h =
 
 apart : (m : FinMap text_cmp PeerValue) (a b : List ℕ) (p q : PeerValue) → get m a ≡ Some p → get m b ≡ Some q → (p.db.uuid == q.db.uuid) ≡ false → a ≢ b
 apart m a b p q there there' other same =
-    let one : p ≡ q = some_is p q (sym there ∙ ap (get m) same ∙ there') in
+    let one : p ≡ q = same_Some p q (sym there ∙ ap (get m) same ∙ there') in
     absurd (true≢false (sym (eq-eqb p.db.uuid q.db.uuid (ap (λ (x : PeerValue). x.db.uuid) one)) ∙ other))
 
 -- by one thread
