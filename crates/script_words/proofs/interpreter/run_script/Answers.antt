@@ -1,22 +1,17 @@
-use Rattle.std.proofs.Common.{◌≡◌, ℕ, refl, subst}
-use Rattle.script_engine.specs.Faults.{LeavesAs}
-use Rattle.script_engine.specs.declared.fault.ScriptFault.{ScriptFault}
+use Rattle.std.proofs.Common.{refl}
 use Rattle.script_engine.specs.declared.fault.ScriptFault.TheVariants.{Memory}
-use Rattle.script_engine.proofs.RunLemmas.{IsFaultOf-left, SoFar-not_begun, not_read}
+use Rattle.script_engine.proofs.RunLemmas.{LeavesAs-memory, IsFaultOf-left, SoFar-not_begun, not_read}
 use Rattle.script_words.proofs.InterpreterLemmas.{some_end, some_state, same_start}
 use Rattle.script_words.proofs.interpreter.run_script.Goals as goal
 
-left_none : {A : ScriptFault} (left : ScriptFault) (old new : ℕ) → A ≡ Memory → LeavesAs A left old new → LeavesAs Memory left old new
-left_none left old new e h = subst (λ f. LeavesAs f left old new) e h
-
 pub returns-in-Err-clause-fault : goal.returns-in-Err-clause-fault
 returns-in-Err-clause-fault g c =
-    let left = left_none c.leave.result _ _ c.from.ensures c.leave.ensures.fault in
+    let left = LeavesAs-memory c.leave.result _ _ c.from.ensures c.leave.ensures.fault in
     let s = SoFar-not_begun (g.R.ScriptRead.left c.args.reader.now) _ (g.W.ScriptWrite.held c.leave.new.writer) c.leave.result c.leave.ensures.kept left in
     (s.input, s.text, s.gives, s.written, s.answered, IsFaultOf-left Memory c.leave.result _ _ _ _ _ _ _ _ refl refl refl left)
 
 pub returns-in-Err-clause-read : goal.returns-in-Err-clause-read
-returns-in-Err-clause-read g c = λ e. absurd (not_read Memory c.leave.result _ _ _ refl (left_none c.leave.result _ _ c.from.ensures c.leave.ensures.fault) e)
+returns-in-Err-clause-read g c = λ e. absurd (not_read Memory c.leave.result _ _ _ refl (LeavesAs-memory c.leave.result _ _ c.from.ensures c.leave.ensures.fault) e)
 
 pub returns-clause-answers : goal.returns-clause-answers
 returns-clause-answers g c = some_state _ _ _ _ _ _ c.run_on-ended.result.0 c.in-Ok.ensures c.run_on-ended.ensures.answers
