@@ -20,3 +20,4 @@ pub mod LineNumberedRevisions
 pub mod Outlines
 pub mod Integers
 pub mod Pushes
+pub mod QuotedTexts

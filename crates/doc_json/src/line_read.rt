@@ -2,6 +2,7 @@
 ghost use Rattle.std.specs.Prelude.{◌≡◌, Ok, Err, IfOk, IfErr, option_map};
 ghost use Rattle.json_values.specs.LineView.{line_view};
 ghost use Rattle.json_values.specs.LineOrder.{IsOrdered};
+ghost use Rattle.json_values.specs.Plain.{ArePlain};
 ghost use Rattle.doc_json.specs.Answers.{GivesUnlessMemory};
 ghost use Rattle.doc_json.specs.DocId.{doc_id_read};
 ghost use Rattle.doc_json.specs.DocRead.{doc_read, flag_of, id_of};
@@ -10,12 +11,20 @@ use crate::doc::Doc;
 use crate::doc_id::{DocId, check_id};
 use crate::fault::DocFault;
 use crate::{line_body, line_members, line_revisions};
-use json_values::LineValue;
+use json_values::{LinePart, LineValue, PlainTexts};
 use std::alloc::Global;
 
 /// The document that a line's JSON value is, as `read_doc` reads one.
-pub fn read_line_doc(alloc: Global, value: &LineValue<'_>) -> Result<Doc, DocFault>
-    requires { IsOrdered (line_view value.now) }
+pub fn read_line_doc(alloc: Global, part: &LinePart<'_, '_>) -> Result<Doc, DocFault>
+    ensures { GivesUnlessMemory result (doc_read (line_view part.now)) }
+{
+    read_known(alloc, part.value(), part.plain())
+}
+
+/// The document that a value is, of whose texts some are known to be plain.
+fn read_known(alloc: Global, value: &LineValue<'_>, plain: PlainTexts) -> Result<Doc, DocFault>
+    requires order { IsOrdered (line_view value.now) }
+    requires plain { ArePlain plain (line_view value.now) }
     ensures { GivesUnlessMemory result (doc_read (line_view value.now)) }
 {
     let Some(members) = value.as_object() else {
@@ -55,7 +64,7 @@ pub fn read_line_doc(alloc: Global, value: &LineValue<'_>) -> Result<Doc, DocFau
         Ok(id) => id,
         Err(refused) => return Err(DocFault::from(refused)),
     };
-    let body = match line_body::plain_body(alloc, members) {
+    let body = match line_body::plain_body(alloc, members, plain) {
         Ok(body) => body,
         Err(refused) => return Err(DocFault::from(refused)),
     };

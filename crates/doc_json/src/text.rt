@@ -2,6 +2,7 @@
 ghost use Rattle.std.specs.Prelude.{◌≡◌, ◌<◌, ◌≤◌, ◌++◌, [], ◌∷◌, false, take, decimal, OnOk};
 ghost use Rattle.std.specs.Fmt.{signed_decimal};
 ghost use Rattle.std.specs.Char.{digit_char};
+ghost use Rattle.json_values.specs.Plain.{PlainIf};
 ghost use Rattle.json.specs.Print.{escape_letter, escape_byte, quoted};
 ghost use Rattle.serde_json.specs.Find.{is_float};
 ghost use Rattle.serde_json.specs.View.{number_view};
@@ -24,13 +25,19 @@ pub(crate) fn push_comma(out: &mut Vec<u8>, later: bool) -> Result<(), AllocErro
     Ok(())
 }
 
-/// The name of a member with its colon, behind a comma where something stands before.
+/// The name of a member with its colon, behind a comma where something stands before. It may be known to be plain.
 #[inline(always)]
-pub(crate) fn push_name(out: &mut Vec<u8>, later: bool, name: &str) -> Result<(), AllocError>
-    ensures { OnOk result (out.new.items ≡ out.old.items ++ (comma_if later ++ (quoted name.now ++ 58 ∷ []))) }
+pub(crate) fn push_name(
+    out: &mut Vec<u8>,
+    later: bool,
+    name: &str,
+    is_plain: bool,
+) -> Result<(), AllocError>
+    ensures { OnOk result (PlainIf is_plain name.now
+        → out.new.items ≡ out.old.items ++ (comma_if later ++ (quoted name.now ++ 58 ∷ []))) }
 {
     push_comma(out, later)?;
-    push_text(out, name)?;
+    push_known_text(out, name, is_plain)?;
     out.push(b':')?;
     Ok(())
 }
@@ -42,6 +49,30 @@ pub fn push_text(out: &mut Vec<u8>, text: &str) -> Result<(), AllocError>
     if !is_plain(text.as_bytes()) {
         return push_escaped(out, text);
     }
+    push_standing(out, text)
+}
+
+/// A text in quotation marks, which may be known to be plain.
+#[inline(always)]
+pub(crate) fn push_known_text(
+    out: &mut Vec<u8>,
+    text: &str,
+    is_plain: bool,
+) -> Result<(), AllocError>
+    ensures { OnOk result (PlainIf is_plain text.now → out.new.items ≡ out.old.items ++ quoted text.now) }
+{
+    if is_plain {
+        push_standing(out, text)
+    } else {
+        push_text(out, text)
+    }
+}
+
+/// A text between quotation marks, as it stands.
+#[inline(always)]
+fn push_standing(out: &mut Vec<u8>, text: &str) -> Result<(), AllocError>
+    ensures { OnOk result (out.new.items ≡ out.old.items ++ 34 ∷ (text.now ++ 34 ∷ [])) }
+{
     out.push(b'"')?;
     out.extend_from_slice(text.as_bytes())?;
     out.push(b'"')?;

@@ -8,6 +8,8 @@ pub mod LineReads
 pub mod PutEntries
 pub mod NameOrder
 pub mod OrderedReads
+pub mod PlainReads
+pub mod PartReads
 pub mod Lanes
 pub mod AsciiText
 pub mod Runs

@@ -13,6 +13,8 @@ use Rattle.json_values.specs.Place.{tokens_at, closes_at, begins_at, begins_key,
 use Rattle.json_values.specs.declared.tokens.Place as reader
 use Rattle.json_values.specs.declared.tokens.Place.TheVariants.{Fresh, AfterValue, AfterComma, Failed}
 use Rattle.json_values.proofs.Steps.{lex_first, lex-nil}
+use Rattle.json_values.specs.Plain.{IsPlainToken}
+use Rattle.json_values.specs.declared.plain_texts.PlainTexts.{PlainTexts}
 
 abbrev pub rest : List ℕ → List Lexeme
 rest t = drop 1 (lex between t)
@@ -44,6 +46,18 @@ either false x y p q = q
 number_word : (t : List ℕ) (o : Option (List ℕ)) → IsWord (number_before t o)
 number_word t None = tt
 number_word t (Some r) = either (ends_word r) _ bad tt tt
+
+pub plain_word : (p : PlainTexts) (k : Token) → IsWord k → IsPlainToken p k
+plain_word p begin_object w = absurd w
+plain_word p end_object w = absurd w
+plain_word p begin_array w = absurd w
+plain_word p end_array w = absurd w
+plain_word p (key s) w = absurd w
+plain_word p (string s) w = absurd w
+plain_word p (number s) w = tt
+plain_word p (boolean v) w = tt
+plain_word p null w = tt
+plain_word p bad w = tt
 
 pub IsWord-word : (t : List ℕ) → IsWord (word t)
 unfolding word

@@ -1,12 +1,13 @@
--- What is left of a text from its next lexeme on.
-use Rattle.std.specs.Prelude.{◌≡◌, ℕ, ◌+◌, ◌≤◌, List, length, drop, get_or, true}
+-- What is left of a text from its next lexeme on, and what is known of the texts before.
+use Rattle.std.specs.Prelude.{◌≡◌, ◌+◌, ◌≤◌, length, drop, get_or, true}
 use Rattle.std.specs.Str.{IsUtf8}
 use Rattle.json.specs.Lex.{class}
 use Rattle.json.specs.Align.{is_blank}
+use Rattle.json_values.specs.Left.{TextLeft}
 use Rattle.json_values.specs.declared.lexer.Lexer.TheInside.{Inside}
 
-abbrev pub lexer_view : Inside → List ℕ
-lexer_view a = drop a.at a.text.now
+abbrev pub lexer_view : Inside → TextLeft
+lexer_view a = record { text = drop a.at a.text.now; plain = a.plain }
 
 pub record IsLexer (a : Inside) : Type 0 where
   pub utf8 : IsUtf8 a.text.now

@@ -1,4 +1,7 @@
 pub mod LineView
+pub mod LineCode
+pub mod Plain
+pub mod Left
 pub mod Entries
 pub mod LineOrder
 pub mod Members

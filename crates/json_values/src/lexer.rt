@@ -1,14 +1,16 @@
 //! Lexemes of a text, read one after another.
-ghost use Rattle.std.specs.Prelude.{◌≡◌, ◌≤◌, ℕ, List, [], length, drop, true, Some, None, MatchOption, IfSome};
+ghost use Rattle.std.specs.Prelude.{◌≡◌, ◌≢◌, ◌≤◌, ℕ, List, [], length, drop, true, Some, None, MatchOption, IfSome};
 ghost use Rattle.json.specs.Text.{content, plain};
 ghost use Rattle.json.specs.Word.{head, word};
 ghost use Rattle.json.specs.Token.{bad, number};
 ghost use Rattle.json.specs.Lex.{class, operator, other, between, lex};
 ghost use Rattle.json.specs.Align.{is_good, is_blank};
 ghost use Rattle.json.specs.Reads.{token_of};
+ghost use Rattle.json_values.specs.Plain.{Narrows, PlainIf};
 ghost use Rattle.serde_json.specs.Read.{number_of};
 ghost use Rattle.serde_json.specs.View.{number_view};
 
+use crate::plain_texts::PlainTexts;
 use crate::run::{after_blanks, byte_at, plain_end};
 use crate::unescape::unescape;
 use crate::word::{integer, word};
@@ -24,12 +26,16 @@ pub(crate) struct Lexer<'a> {
     at: usize,
     /// Where texts go that were escaped. It is as long as the text that is left.
     room: &'a mut [u8],
+    /// What is known of the texts before.
+    plain: PlainTexts,
 }
 
 impl<'a> Model for Lexer<'a> {
-    ghost use Rattle.std.specs.Prelude.{ℕ, List};
+    ghost use Rattle.json_values.specs.Left.{TextLeft, text_left_code};
 
-    ghost Value = { List ℕ };
+    ghost Value = { TextLeft };
+
+    ghost coded = { text_left_code };
 
     ghost use Rattle.json_values.specs.Lexer.{lexer_view, IsLexer};
 
@@ -43,26 +49,44 @@ impl<'a> Lexer<'a> {
     #[inline(always)]
     pub(crate) fn new(text: &'a str, room: &'a mut [u8]) -> Lexer<'a>
         requires { length text.now ≤ length room.old }
-        ensures { lex between result ≡ lex between text.now }
+        ensures { lex between result.text ≡ lex between text.now }
     {
         let at = after_blanks(text.as_bytes(), 0);
-        Lexer { text, at, room }
+        let plain = PlainTexts {
+            names: true,
+            values: true,
+        };
+        Lexer {
+            text,
+            at,
+            room,
+            plain,
+        }
     }
 
     /// The first byte of the next lexeme, or a space at the end.
     #[inline(always)]
     pub(crate) fn peek(&self) -> u8
-        ensures value { result ≡ head self.now }
-        ensures end { is_blank (class result) ≡ true → self.now ≡ [] }
+        ensures value { result ≡ head self.now.text }
+        ensures end { is_blank (class result) ≡ true → self.now.text ≡ [] }
     {
         byte_at(self.text.as_bytes(), self.at)
+    }
+
+    /// What is known of the texts before.
+    #[inline(always)]
+    pub(crate) fn plain(&self) -> PlainTexts
+        ensures { result ≡ self.now.plain }
+    {
+        self.plain
     }
 
     /// Passes over a bracket, a brace, a comma or a colon.
     #[inline(always)]
     pub(crate) fn skip(&mut self)
-        requires { class (head self.old) ≡ operator }
-        ensures { lex between self.new ≡ drop 1 (lex between self.old) }
+        requires { class (head self.old.text) ≡ operator }
+        ensures passed { lex between self.new.text ≡ drop 1 (lex between self.old.text) }
+        ensures plain { self.new.plain ≡ self.old.plain }
     {
         self.at = after_blanks(self.text.as_bytes(), self.at + 1);
     }
@@ -70,10 +94,11 @@ impl<'a> Lexer<'a> {
     /// The number or the literal that comes next.
     #[inline(always)]
     pub(crate) fn word(&mut self) -> Option<Token<'a>>
-        requires { class (head self.old) ≡ other }
-        ensures value { MatchOption result (word self.old ≡ bad) (λ t. word self.old ≡ token_of t) }
+        requires { class (head self.old.text) ≡ other }
+        ensures value { MatchOption result (word self.old.text ≡ bad) (λ t. word self.old.text ≡ token_of t) }
         ensures good { IfSome result (λ t. is_good (token_of t) ≡ true) }
-        ensures after { IfSome result (λ _. lex between self.new ≡ drop 1 (lex between self.old)) }
+        ensures plain { self.new.plain ≡ self.old.plain }
+        ensures after { IfSome result (λ _. lex between self.new.text ≡ drop 1 (lex between self.old.text)) }
     {
         let (token, end) = word(self.text, self.at)?;
         self.at = after_blanks(self.text.as_bytes(), end);
@@ -85,10 +110,11 @@ impl<'a> Lexer<'a> {
     #[inline(always)]
     pub(crate) fn integer(&mut self) -> Option<Number>
         ensures kept { result ≡ None → self.new ≡ self.old }
-        ensures value { IfSome result (λ n. (s : List ℕ) × (word self.old ≡ number s)
+        ensures value { IfSome result (λ n. (s : List ℕ) × (word self.old.text ≡ number s)
             × (number_of s ≡ Some (number_view n))) }
-        ensures kind { IfSome result (λ _. class (head self.old) ≡ other) }
-        ensures after { IfSome result (λ _. lex between self.new ≡ drop 1 (lex between self.old)) }
+        ensures kind { IfSome result (λ _. class (head self.old.text) ≡ other) }
+        ensures plain { self.new.plain ≡ self.old.plain }
+        ensures after { IfSome result (λ _. lex between self.new.text ≡ drop 1 (lex between self.old.text)) }
     {
         let (number, end) = integer(self.text.as_bytes(), self.at)?;
         self.at = after_blanks(self.text.as_bytes(), end);
@@ -98,10 +124,13 @@ impl<'a> Lexer<'a> {
     /// The content of the string that comes next.
     #[inline(always)]
     pub(crate) fn string(&mut self) -> Option<&'a str>
-        requires { head self.old ≡ 34 }
-        ensures value { MatchOption result (content plain (drop 1 self.old) ≡ None)
-            (λ s. content plain (drop 1 self.old) ≡ Some s.now) }
-        ensures after { IfSome result (λ _. lex between self.new ≡ drop 1 (lex between self.old)) }
+        requires { head self.old.text ≡ 34 }
+        ensures value { MatchOption result (content plain (drop 1 self.old.text) ≡ None)
+            (λ s. content plain (drop 1 self.old.text) ≡ Some s.now) }
+        ensures after { IfSome result (λ _. lex between self.new.text ≡ drop 1 (lex between self.old.text)) }
+        ensures narrows { Narrows self.old.plain self.new.plain }
+        ensures name { IfSome result (λ s. head self.new.text ≡ 58 → PlainIf self.new.plain.names s.now) }
+        ensures text { IfSome result (λ s. head self.new.text ≢ 58 → PlainIf self.new.plain.values s.now) }
     {
         let text = self.text;
         let start = self.at + 1;
@@ -119,10 +148,13 @@ impl<'a> Lexer<'a> {
     /// The content of a string that has escapes.
     #[inline(never)]
     fn escaped_string(&mut self) -> Option<&'a str>
-        requires { head self.old ≡ 34 }
-        ensures value { MatchOption result (content plain (drop 1 self.old) ≡ None)
-            (λ s. content plain (drop 1 self.old) ≡ Some s.now) }
-        ensures after { IfSome result (λ _. lex between self.new ≡ drop 1 (lex between self.old)) }
+        requires { head self.old.text ≡ 34 }
+        ensures value { MatchOption result (content plain (drop 1 self.old.text) ≡ None)
+            (λ s. content plain (drop 1 self.old.text) ≡ Some s.now) }
+        ensures after { IfSome result (λ _. lex between self.new.text ≡ drop 1 (lex between self.old.text)) }
+        ensures narrows { Narrows self.old.plain self.new.plain }
+        ensures name { IfSome result (λ s. head self.new.text ≡ 58 → PlainIf self.new.plain.names s.now) }
+        ensures text { IfSome result (λ s. head self.new.text ≢ 58 → PlainIf self.new.plain.values s.now) }
     {
         let room = std::mem::take(&mut self.room);
         let Some((len, end)) = unescape(self.text, self.at + 1, room) else {
@@ -132,6 +164,9 @@ impl<'a> Lexer<'a> {
         let (front, back) = room.split_at_mut(len);
         self.room = back;
         self.at = after_blanks(self.text.as_bytes(), end);
+        self.plain = self
+            .plain
+            .with_escaped(byte_at(self.text.as_bytes(), self.at) == b':');
         Some(unsafe { std::str::from_utf8_unchecked(front) })
     }
 }

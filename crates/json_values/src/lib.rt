@@ -4,8 +4,10 @@
 mod fault;
 mod lexer;
 mod line;
+mod line_part;
 mod members;
 mod numbers;
+mod plain_texts;
 mod reader;
 mod run;
 mod tokens;
@@ -16,5 +18,7 @@ mod word;
 
 pub use fault::ReadFault;
 pub use line::{LineValue, is_same_text};
+pub use line_part::{Line, LinePart};
+pub use plain_texts::PlainTexts;
 pub use reader::ValueReader;
 pub use run::{is_plain, plain_end};

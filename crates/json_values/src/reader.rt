@@ -6,7 +6,7 @@ ghost use Rattle.json_values.specs.LineView.{line_view};
 ghost use Rattle.json_values.specs.LineOrder.{IsOrdered};
 
 use crate::fault::ReadFault;
-use crate::line::LineValue;
+use crate::line_part::Line;
 use crate::tokens::Tokens;
 use crate::utf8::text_of;
 use crate::values;
@@ -40,10 +40,10 @@ impl ValueReader {
         &'a mut self,
         alloc: Global,
         bytes: &'a [u8],
-    ) -> Result<LineValue<'a>, ReadFault>
-        ensures ok { IfOk result (λ value. IsUtf8 bytes.now × (read_text bytes.now ≡ Some (line_view value))) }
-        ensures nests { IfOk result (λ value. depth (line_view value) ≤ max_depth) }
-        ensures ordered { IfOk result (λ value. IsOrdered (line_view value)) }
+    ) -> Result<Line<'a>, ReadFault>
+        ensures ok { IfOk result (λ line. IsUtf8 bytes.now × (read_text bytes.now ≡ Some (line_view line))) }
+        ensures nests { IfOk result (λ line. depth (line_view line) ≤ max_depth) }
+        ensures ordered { IfOk result (λ line. IsOrdered (line_view line)) }
         ensures refused { result ≡ Err ReadFault.NotJson → IsUtf8 bytes.now → read_text bytes.now ≡ None }
         ensures memory { result ≡ Err ReadFault.Memory → 0 < length bytes.now }
     {
@@ -67,22 +67,19 @@ fn make_room(room: &mut Vec<u8>, len: usize) -> Result<(), AllocError>
 }
 
 /// The value that a text is, with nothing behind it, whose texts stand in it or in the room.
-fn read_whole<'a>(
-    alloc: Global,
-    text: &'a str,
-    room: &'a mut [u8],
-) -> Result<LineValue<'a>, ReadFault>
+fn read_whole<'a>(alloc: Global, text: &'a str, room: &'a mut [u8]) -> Result<Line<'a>, ReadFault>
     requires { length text.now ≤ length room.old }
-    ensures ok { IfOk result (λ value. read_text text.now ≡ Some (line_view value)) }
-    ensures nests { IfOk result (λ value. depth (line_view value) ≤ max_depth) }
-    ensures ordered { IfOk result (λ value. IsOrdered (line_view value)) }
+    ensures ok { IfOk result (λ line. read_text text.now ≡ Some (line_view line)) }
+    ensures nests { IfOk result (λ line. depth (line_view line) ≤ max_depth) }
+    ensures ordered { IfOk result (λ line. IsOrdered (line_view line)) }
     ensures refused { result ≡ Err ReadFault.NotJson → read_text text.now ≡ None }
     ensures memory { result ≡ Err ReadFault.Memory → 0 < length text.now }
 {
     let mut reader = Tokens::new(text, room);
     let value = values::read_value(alloc, &mut reader, MAX_DEPTH)?;
+    let plain = reader.plain();
     if reader.next().is_some() {
         return Err(ReadFault::NotJson);
     }
-    Ok(value)
+    Ok(Line::new(value, plain))
 }

@@ -1,5 +1,5 @@
 //! The tokens of a text: its lexemes, with the commas and colons between them checked.
-ghost use Rattle.std.specs.Prelude.{◌≡◌, ◌≢◌, ◌≤◌, ◌⊎◌, ℕ, List, [], ◌∷◌, length, true, false, Some, None, MatchOption, MatchResult};
+ghost use Rattle.std.specs.Prelude.{◌≡◌, ◌≢◌, ◌≤◌, ◌⊎◌, ℕ, List, [], ◌∷◌, length, true, false, Some, None, IfOk, IfSome, MatchOption, MatchResult};
 ghost use Rattle.std.specs.Bool.{MatchBool};
 ghost use Rattle.json.specs.Word.{head};
 ghost use Rattle.json.specs.Lex.{class, between, lex, after_value, punctuate, tokens};
@@ -9,9 +9,11 @@ ghost use Rattle.json.specs.Reads.{token_of, Yields};
 ghost use Rattle.json.specs.Token as SpecToken;
 ghost use Rattle.serde_json.specs.Read.{number_of};
 ghost use Rattle.serde_json.specs.View.{number_view};
+ghost use Rattle.json_values.specs.Plain.{IsPlainToken, Narrows, PlainIf};
 ghost use Rattle.json_values.specs.Place.{tokens_at, closes_at, begins_at, begins_key, ends_object, of_string, refused_at, Begins, BeginsNoValue, Closes, NotBeforeComma};
 
 use crate::lexer::Lexer;
+use crate::plain_texts::PlainTexts;
 use crate::run::is_space;
 use json::{Invalid, Token};
 use serde_json::Number;
@@ -52,25 +54,25 @@ pub(crate) struct Tokens<'a> {
 }
 
 impl<'a> Model for Tokens<'a> {
-    ghost use Rattle.std.specs.Prelude.{List};
-    ghost use Rattle.json.specs.Token.{Token as SpecToken, tokens_code};
+    ghost use Rattle.json_values.specs.Left.{TokensLeft, tokens_left_code};
 
-    ghost Value = { List SpecToken };
+    ghost Value = { TokensLeft };
 
-    ghost coded = { tokens_code };
+    ghost coded = { tokens_left_code };
 
     ghost use Rattle.json_values.specs.Place.{tokens_at, NotBeforeComma};
 
-    ghost view = { λ a. tokens_at a.place a.lexer };
+    ghost view = { λ a. record { tokens = tokens_at a.place a.lexer.text; plain = a.lexer.plain } };
 
-    ghost invariant = { λ a. NotBeforeComma a.place a.lexer };
+    ghost invariant = { λ a. NotBeforeComma a.place a.lexer.text };
 }
 
 /// Passes over the comma that may follow a value.
 #[inline(always)]
 fn after_value(lexer: &mut Lexer<'_>) -> Place
-    ensures same { tokens_at result lexer.new ≡ punctuate after_value (lex between lexer.old) }
-    ensures passed { NotBeforeComma result lexer.new }
+    ensures same { tokens_at result lexer.new.text ≡ punctuate after_value (lex between lexer.old.text) }
+    ensures passed { NotBeforeComma result lexer.new.text }
+    ensures plain { lexer.new.plain ≡ lexer.old.plain }
 {
     if lexer.peek() == b',' {
         lexer.skip();
@@ -83,9 +85,10 @@ fn after_value(lexer: &mut Lexer<'_>) -> Place
 /// The string or the name that comes next.
 #[inline(always)]
 fn string<'a>(lexer: &mut Lexer<'a>) -> (Token<'a>, Place)
-    requires { head lexer.old ≡ 34 }
-    ensures value { Begins lexer.old (token_of result.0) result.1 lexer.new }
-    ensures passed { NotBeforeComma result.1 lexer.new }
+    requires { head lexer.old.text ≡ 34 }
+    ensures value { Begins lexer.old.text (token_of result.0) result.1 lexer.new.text }
+    ensures passed { NotBeforeComma result.1 lexer.new.text }
+    ensures plain { Narrows lexer.old.plain lexer.new.plain × IsPlainToken lexer.new.plain (token_of result.0) }
     ensures kind { of_string (token_of result.0) ≡ true }
 {
     let Some(text) = lexer.string() else {
@@ -102,10 +105,11 @@ fn string<'a>(lexer: &mut Lexer<'a>) -> (Token<'a>, Place)
 /// The token that begins with a byte, where a value or a name may begin.
 #[inline(always)]
 fn begin<'a>(lexer: &mut Lexer<'a>, c: u8) -> (Token<'a>, Place)
-    requires first { (head lexer.old ≡ c) × (is_blank (class c) ≡ false) }
+    requires first { (head lexer.old.text ≡ c) × (is_blank (class c) ≡ false) }
     requires opening { (c ≢ 125) × (c ≢ 93) }
-    ensures value { Begins lexer.old (token_of result.0) result.1 lexer.new }
-    ensures passed { NotBeforeComma result.1 lexer.new }
+    ensures value { Begins lexer.old.text (token_of result.0) result.1 lexer.new.text }
+    ensures passed { NotBeforeComma result.1 lexer.new.text }
+    ensures plain { Narrows lexer.old.plain lexer.new.plain × IsPlainToken lexer.new.plain (token_of result.0) }
 {
     match c {
         b'"' => string(lexer),
@@ -128,9 +132,10 @@ fn begin<'a>(lexer: &mut Lexer<'a>, c: u8) -> (Token<'a>, Place)
 /// The end of a list or of an object.
 #[inline(always)]
 fn close<'a>(lexer: &mut Lexer<'a>, c: u8) -> (Token<'a>, Place)
-    requires { (head lexer.old ≡ c) × ((c ≡ 125) ⊎ (c ≡ 93)) }
-    ensures value { Closes lexer.old (token_of result.0) result.1 lexer.new }
-    ensures passed { NotBeforeComma result.1 lexer.new }
+    requires { (head lexer.old.text ≡ c) × ((c ≡ 125) ⊎ (c ≡ 93)) }
+    ensures value { Closes lexer.old.text (token_of result.0) result.1 lexer.new.text }
+    ensures passed { NotBeforeComma result.1 lexer.new.text }
+    ensures plain { (lexer.new.plain ≡ lexer.old.plain) × IsPlainToken lexer.new.plain (token_of result.0) }
 {
     lexer.skip();
     let place = after_value(lexer);
@@ -156,9 +161,11 @@ fn refuse<'a>(place: Place) -> (Option<Token<'a>>, Place)
 /// The next token, and where the text is read on behind it.
 #[inline(always)]
 fn read<'a>(lexer: &mut Lexer<'a>, place: Place) -> (Option<Token<'a>>, Place)
-    requires { NotBeforeComma place lexer.old }
-    ensures value { Yields (tokens_at place lexer.old) result.0 (tokens_at result.1 lexer.new) }
-    ensures passed { NotBeforeComma result.1 lexer.new }
+    requires { NotBeforeComma place lexer.old.text }
+    ensures value { Yields (tokens_at place lexer.old.text) result.0 (tokens_at result.1 lexer.new.text) }
+    ensures passed { NotBeforeComma result.1 lexer.new.text }
+    ensures plain { Narrows lexer.old.plain lexer.new.plain
+        × IfSome result.0 (λ t. IsPlainToken lexer.new.plain (token_of t)) }
 {
     let c = lexer.peek();
     if (c == b'}') | (c == b']') {
@@ -187,7 +194,7 @@ impl<'a> Tokens<'a> {
     #[inline(always)]
     pub(crate) fn new(text: &'a str, room: &'a mut [u8]) -> Tokens<'a>
         requires { length text.now ≤ length room.old }
-        ensures { result ≡ tokens text.now }
+        ensures { result.tokens ≡ tokens text.now }
     {
         Tokens {
             lexer: Lexer::new(text, room),
@@ -195,11 +202,21 @@ impl<'a> Tokens<'a> {
         }
     }
 
+    /// What is known of the texts that were taken.
+    #[inline(always)]
+    pub(crate) fn plain(&self) -> PlainTexts
+        ensures { result ≡ self.now.plain }
+    {
+        self.lexer.plain()
+    }
+
     /// The next token.
     #[inline(always)]
     pub(crate) fn next(&mut self) -> Option<Token<'a>>
-        ensures { MatchOption result ((self.old ≡ []) × (self.new ≡ []))
-            (λ t. self.old ≡ token_of t ∷ self.new) }
+        ensures token { MatchOption result ((self.old.tokens ≡ []) × (self.new.tokens ≡ []))
+            (λ t. self.old.tokens ≡ token_of t ∷ self.new.tokens) }
+        ensures plain { Narrows self.old.plain self.new.plain
+            × IfSome result (λ t. IsPlainToken self.new.plain (token_of t)) }
     {
         let (token, place) = read(&mut self.lexer, self.place);
         self.place = place;
@@ -209,9 +226,11 @@ impl<'a> Tokens<'a> {
     /// Takes the name of a member, where one comes next. Where none does, the next name or end stays what it was.
     #[inline(always)]
     pub(crate) fn take_key(&mut self) -> Option<&'a str>
-        ensures { MatchOption result
-            ((begins_key self.old ≡ false) × (read_key self.new ≡ read_key self.old))
-            (λ s. self.old ≡ SpecToken.key s.now ∷ self.new) }
+        ensures name { MatchOption result
+            ((begins_key self.old.tokens ≡ false) × (read_key self.new.tokens ≡ read_key self.old.tokens))
+            (λ s. self.old.tokens ≡ SpecToken.key s.now ∷ self.new.tokens) }
+        ensures plain { Narrows self.old.plain self.new.plain
+            × IfSome result (λ s. PlainIf self.new.plain.names s.now) }
     {
         if (self.lexer.peek() != b'"') | !self.place.may_begin() {
             return None;
@@ -228,9 +247,12 @@ impl<'a> Tokens<'a> {
     /// Takes the text that comes next. None is taken where something else comes next. `Invalid` where no value does.
     #[inline(always)]
     pub(crate) fn take_text(&mut self) -> Result<Option<&'a str>, Invalid>
-        ensures { MatchResult result
-            (λ o. MatchOption o (self.new ≡ self.old) (λ s. self.old ≡ SpecToken.string s.now ∷ self.new))
-            (λ _. BeginsNoValue self.old) }
+        ensures text { MatchResult result
+            (λ o. MatchOption o (self.new ≡ self.old)
+            (λ s. self.old.tokens ≡ SpecToken.string s.now ∷ self.new.tokens))
+            (λ _. BeginsNoValue self.old.tokens) }
+        ensures plain { Narrows self.old.plain self.new.plain
+            × IfOk result (λ o. IfSome o (λ s. PlainIf self.new.plain.values s.now)) }
     {
         if (self.lexer.peek() != b'"') | !self.place.may_begin() {
             return Ok(None);
@@ -247,8 +269,10 @@ impl<'a> Tokens<'a> {
     /// does, nothing is taken.
     #[inline(always)]
     pub(crate) fn take_integer(&mut self) -> Option<Number>
-        ensures { MatchOption result (self.new ≡ self.old)
-            (λ n. (s : List ℕ) × (self.old ≡ SpecToken.number s ∷ self.new) × (number_of s ≡ Some (number_view n))) }
+        ensures number { MatchOption result (self.new ≡ self.old)
+            (λ n. (s : List ℕ) × (self.old.tokens ≡ SpecToken.number s ∷ self.new.tokens)
+            × (number_of s ≡ Some (number_view n))) }
+        ensures plain { self.new.plain ≡ self.old.plain }
     {
         if !self.place.may_begin() {
             return None;
@@ -261,7 +285,9 @@ impl<'a> Tokens<'a> {
     /// Takes the brace that ends an object, if it is next.
     #[inline(always)]
     pub(crate) fn take_end_object(&mut self) -> bool
-        ensures { MatchBool result (read_key self.old ≡ Some (None, self.new)) (ends_object self.old ≡ false) }
+        ensures end { MatchBool result (read_key self.old.tokens ≡ Some (None, self.new.tokens))
+            (ends_object self.old.tokens ≡ false) }
+        ensures plain { self.new.plain ≡ self.old.plain }
     {
         if (self.lexer.peek() != b'}') | !self.place.may_close() {
             return false;
@@ -286,8 +312,9 @@ impl<'a> Tokens<'a> {
     /// Takes the bracket that ends a list, if it is next.
     #[inline(always)]
     pub(crate) fn take_end_array(&mut self) -> bool
-        ensures { MatchBool result (after_end_array self.old ≡ Some self.new)
-            ((after_end_array self.old ≡ None) × (self.new ≡ self.old)) }
+        ensures end { MatchBool result (after_end_array self.old.tokens ≡ Some self.new.tokens)
+            ((after_end_array self.old.tokens ≡ None) × (self.new ≡ self.old)) }
+        ensures plain { self.new.plain ≡ self.old.plain }
     {
         if (self.lexer.peek() != b']') | !self.place.may_close() {
             return false;

@@ -4,6 +4,7 @@ ghost use Rattle.json.specs.Json.{value, items, members, read_key};
 ghost use Rattle.serde_json.specs.Data.{no_members};
 ghost use Rattle.serde_json.specs.Read.{converted, of_json, of_items, of_members};
 ghost use Rattle.json_values.specs.LineView.{line_view, line_items, line_members};
+ghost use Rattle.json_values.specs.Plain.{AreItemsPlain, AreMembersPlain, ArePlain, Narrows};
 ghost use Rattle.json_values.specs.Members.{entries_of};
 ghost use Rattle.json_values.specs.Place.{ends_object};
 
@@ -24,10 +25,12 @@ pub(crate) fn read_value<'a>(
     depth: usize,
 ) -> Result<LineValue<'a>, ReadFault>
     ensures ok { IfOk result
-        (λ v. converted of_json (value depth reader.old) ≡ Some (line_view v, reader.new)) }
-    ensures shorter { OnOk result (length reader.new < length reader.old) }
-    ensures refused { result ≡ Err ReadFault.NotJson → converted of_json (value depth reader.old) ≡ None }
-    ensures memory { result ≡ Err ReadFault.Memory → 0 < length reader.old }
+        (λ v. converted of_json (value depth reader.old.tokens) ≡ Some (line_view v, reader.new.tokens)) }
+    ensures plain { IfOk result (λ v. Narrows reader.old.plain reader.new.plain
+        × ArePlain reader.new.plain (line_view v)) }
+    ensures shorter { OnOk result (length reader.new.tokens < length reader.old.tokens) }
+    ensures refused { result ≡ Err ReadFault.NotJson → converted of_json (value depth reader.old.tokens) ≡ None }
+    ensures memory { result ≡ Err ReadFault.Memory → 0 < length reader.old.tokens }
 {
     match reader.take_text() {
         Ok(Some(text)) => Ok(LineValue::String(text)),
@@ -45,10 +48,12 @@ fn read_no_text<'a>(
     depth: usize,
 ) -> Result<LineValue<'a>, ReadFault>
     ensures ok { IfOk result
-        (λ v. converted of_json (value depth reader.old) ≡ Some (line_view v, reader.new)) }
-    ensures shorter { OnOk result (length reader.new < length reader.old) }
-    ensures refused { result ≡ Err ReadFault.NotJson → converted of_json (value depth reader.old) ≡ None }
-    ensures memory { result ≡ Err ReadFault.Memory → 0 < length reader.old }
+        (λ v. converted of_json (value depth reader.old.tokens) ≡ Some (line_view v, reader.new.tokens)) }
+    ensures plain { IfOk result (λ v. Narrows reader.old.plain reader.new.plain
+        × ArePlain reader.new.plain (line_view v)) }
+    ensures shorter { OnOk result (length reader.new.tokens < length reader.old.tokens) }
+    ensures refused { result ≡ Err ReadFault.NotJson → converted of_json (value depth reader.old.tokens) ≡ None }
+    ensures memory { result ≡ Err ReadFault.Memory → 0 < length reader.old.tokens }
 {
     match reader.take_integer() {
         Some(number) => Ok(LineValue::Number(number)),
@@ -65,10 +70,12 @@ fn read_other<'a>(
     depth: usize,
 ) -> Result<LineValue<'a>, ReadFault>
     ensures ok { IfOk result
-        (λ v. converted of_json (value depth reader.old) ≡ Some (line_view v, reader.new)) }
-    ensures shorter { OnOk result (length reader.new < length reader.old) }
-    ensures refused { result ≡ Err ReadFault.NotJson → converted of_json (value depth reader.old) ≡ None }
-    ensures memory { result ≡ Err ReadFault.Memory → 0 < length reader.old }
+        (λ v. converted of_json (value depth reader.old.tokens) ≡ Some (line_view v, reader.new.tokens)) }
+    ensures plain { IfOk result (λ v. Narrows reader.old.plain reader.new.plain
+        × ArePlain reader.new.plain (line_view v)) }
+    ensures shorter { OnOk result (length reader.new.tokens < length reader.old.tokens) }
+    ensures refused { result ≡ Err ReadFault.NotJson → converted of_json (value depth reader.old.tokens) ≡ None }
+    ensures memory { result ≡ Err ReadFault.Memory → 0 < length reader.old.tokens }
 {
     let Some(token) = reader.next() else {
         return Err(ReadFault::NotJson);
@@ -106,11 +113,13 @@ fn read_items<'a>(
     depth: usize,
 ) -> Result<Vec<LineValue<'a>>, ReadFault>
     ensures ok { IfOk result
-        (λ found. converted of_items (items (value depth) (length reader.old) reader.old)
-        ≡ Some (line_items found.items, reader.new)) }
-    ensures shorter { OnOk result (length reader.new < length reader.old) }
+        (λ found. converted of_items (items (value depth) (length reader.old.tokens) reader.old.tokens)
+        ≡ Some (line_items found.items, reader.new.tokens)) }
+    ensures plain { IfOk result (λ found. Narrows reader.old.plain reader.new.plain
+        × AreItemsPlain reader.new.plain (line_items found.items)) }
+    ensures shorter { OnOk result (length reader.new.tokens < length reader.old.tokens) }
     ensures refused { result ≡ Err ReadFault.NotJson
-        → converted of_items (items (value depth) (length reader.old) reader.old) ≡ None }
+        → converted of_items (items (value depth) (length reader.old.tokens) reader.old.tokens) ≡ None }
 {
     let mut found = Vec::with_capacity(alloc, reader.room())?;
     'items: while !reader.take_end_array() {
@@ -130,11 +139,14 @@ fn read_members<'a>(
 ) -> Result<Vec<(&'a str, LineValue<'a>)>, ReadFault>
     ensures ok { IfOk result
         (λ found. converted (λ ms. of_members ms no_members)
-        (members (value depth) (length reader.old) reader.old)
-        ≡ Some (line_members found.items, reader.new)) }
-    ensures shorter { OnOk result (length reader.new < length reader.old) }
+        (members (value depth) (length reader.old.tokens) reader.old.tokens)
+        ≡ Some (line_members found.items, reader.new.tokens)) }
+    ensures plain { IfOk result (λ found. Narrows reader.old.plain reader.new.plain
+        × AreMembersPlain reader.new.plain (line_members found.items)) }
+    ensures shorter { OnOk result (length reader.new.tokens < length reader.old.tokens) }
     ensures refused { result ≡ Err ReadFault.NotJson
-        → converted (λ ms. of_members ms no_members) (members (value depth) (length reader.old) reader.old) ≡ None }
+        → converted (λ ms. of_members ms no_members)
+        (members (value depth) (length reader.old.tokens) reader.old.tokens) ≡ None }
 {
     let mut found = Members::new(alloc, reader.room())?;
     'members: loop {
@@ -154,9 +166,10 @@ fn end_members<'a>(
     reader: &mut Tokens<'a>,
     found: Members<'a, LineValue<'a>>,
 ) -> Result<Vec<(&'a str, LineValue<'a>)>, ReadFault>
-    ensures ok { OnOk result (read_key reader.old ≡ Some (None, reader.new)) }
+    ensures ok { OnOk result (read_key reader.old.tokens ≡ Some (None, reader.new.tokens)) }
     ensures found { IfOk result (λ v. v.items ≡ entries_of found.entry) }
-    ensures refused { result ≡ Err ReadFault.NotJson → ends_object reader.old ≡ false }
+    ensures plain { OnOk result (reader.new.plain ≡ reader.old.plain) }
+    ensures refused { result ≡ Err ReadFault.NotJson → ends_object reader.old.tokens ≡ false }
 {
     if !reader.take_end_object() {
         return Err(ReadFault::NotJson);

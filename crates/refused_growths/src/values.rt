@@ -12,12 +12,12 @@ static TEXTS: &[&[u8]] = &[
 
 /// Whether a text is the body of the value that it is.
 fn is_its_body(reader: &mut ValueReader, alloc: Global, text: &[u8]) -> Result<bool, DocFault> {
-    let value = match reader.read_line(alloc, text) {
-        Ok(value) => value,
+    let line = match reader.read_line(alloc, text) {
+        Ok(line) => line,
         Err(ReadFault::Memory) => return Err(DocFault::Memory),
         Err(ReadFault::NotJson) => return Ok(false),
     };
-    match read_line_body(alloc, &value) {
+    match read_line_body(alloc, &line.part()) {
         Ok(body) => Ok(body.text() == text),
         Err(fault) => Err(fault),
     }

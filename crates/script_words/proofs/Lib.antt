@@ -5,4 +5,3 @@ pub mod WordLemmas
 pub mod InterpreterLemmas
 pub mod LoadLemmas
 pub mod ReplicateLemmas
-pub mod OrderLemmas

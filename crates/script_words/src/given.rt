@@ -1,6 +1,5 @@
 //! What a line gives: ids, revisions, bodies and documents, each read where its turn among the checks has come.
-ghost use Rattle.std.specs.Prelude.{◌≡◌, IfSome, option_map};
-ghost use Rattle.json_values.specs.LineOrder.{IsOrdered};
+ghost use Rattle.std.specs.Prelude.{◌≡◌, option_map};
 ghost use Rattle.std.specs.Option.{option_copied};
 ghost use Rattle.json_values.specs.LineView.{line_view, line_items};
 ghost use Rattle.script_databases.specs.Refusals.{GivesOrMemory};
@@ -9,7 +8,7 @@ ghost use Rattle.script_words.specs.Checks.{seen_as};
 ghost use Rattle.script_words.specs.Members.{texts_of};
 
 use doc_json::{Body, Chosen, Doc, DocId, read_line_body, read_line_doc};
-use json_values::LineValue;
+use json_values::{Line, LinePart, LineValue};
 use rev_core::Rev;
 use script_databases::Refusal;
 use std::alloc::Global;
@@ -83,36 +82,36 @@ pub fn read_rev(text: Option<&str>) -> Result<Option<Rev>, Refusal>
 }
 
 /// The body that a value is.
-fn read_content(alloc: Global, value: &LineValue<'_>) -> Result<Body, Refusal>
-    requires { IsOrdered (line_view value.now) }
-    ensures { GivesOrMemory result (body_given (line_view value.now)) }
+fn read_content(alloc: Global, part: &LinePart<'_, '_>) -> Result<Body, Refusal>
+    ensures { GivesOrMemory result (body_given (line_view part.now)) }
 {
-    match read_line_body(alloc, value) {
+    match read_line_body(alloc, part) {
         Ok(body) => Ok(body),
         Err(fault) => Err(Refusal::from(fault)),
     }
 }
 
 /// The body that a line gives, an object without members where it gives none.
-pub fn read_content_or_empty(alloc: Global, body: Option<&LineValue<'_>>) -> Result<Body, Refusal>
-    requires { IfSome body (λ v. IsOrdered (line_view v.now)) }
-    ensures { GivesOrMemory result (body_given_or_empty (option_map (λ v. line_view v.now) body.entry)) }
+pub fn read_content_or_empty(
+    alloc: Global,
+    body: &Option<LinePart<'_, '_>>,
+) -> Result<Body, Refusal>
+    ensures { GivesOrMemory result (body_given_or_empty (option_map line_view body.now)) }
 {
     match body {
-        Some(value) => read_content(alloc, value),
-        None => read_content(alloc, &LineValue::Object(Vec::new(alloc))),
+        Some(part) => read_content(alloc, part),
+        None => read_content(alloc, &Line::empty_object(alloc).part()),
     }
 }
 
 /// The document that a line gives, where it gives one.
-pub fn read_document(alloc: Global, doc: Option<&LineValue<'_>>) -> Result<Option<Doc>, Refusal>
-    requires { IfSome doc (λ v. IsOrdered (line_view v.now)) }
-    ensures { GivesOrMemory result (document_given (option_map (λ v. line_view v.now) doc.entry)) }
+pub fn read_document(alloc: Global, doc: &Option<LinePart<'_, '_>>) -> Result<Option<Doc>, Refusal>
+    ensures { GivesOrMemory result (document_given (option_map line_view doc.now)) }
 {
-    let Some(value) = doc else {
+    let Some(part) = doc else {
         return Ok(None);
     };
-    match read_line_doc(alloc, value) {
+    match read_line_doc(alloc, part) {
         Ok(doc) => Ok(Some(doc)),
         Err(fault) => Err(Refusal::from(fault)),
     }

@@ -8,10 +8,9 @@ ghost use Rattle.serde_json.specs.Data.{Members, object};
 ghost use Rattle.json_values.specs.LineView.{line_view, line_items};
 ghost use Rattle.script_databases.specs.declared.refusal.Refusal.TheVariants.{BadLine, Memory};
 ghost use Rattle.script_words.specs.Script.{IsObject, IsNoObject};
-ghost use Rattle.json_values.specs.LineOrder.{IsOrdered};
 ghost use Rattle.script_words.specs.Members.{are_texts, as_texts, as_uuid, as_whole, has_only, is_name, is_name_byte, name_at, optional, text_at, texts_of};
 
-use json_values::{LineValue, ReadFault, ValueReader, is_same_text};
+use json_values::{Line, LineValue, ReadFault, ValueReader, is_same_text};
 use script_databases::Refusal;
 use std::alloc::Global;
 use uuid::Uuid;
@@ -21,9 +20,8 @@ pub fn read_object<'a>(
     values: &'a mut ValueReader,
     alloc: Global,
     line: &'a [u8],
-) -> Result<LineValue<'a>, Refusal>
+) -> Result<Line<'a>, Refusal>
     ensures ok { IfOk result (λ value. (ms : Members) × IsObject line.now ms × (line_view value ≡ object ms)) }
-    ensures ordered { IfOk result (λ value. IsOrdered (line_view value)) }
     ensures err { IfErr result (λ why. (why ≡ Memory) ⊎ ((why ≡ BadLine) × IsNoObject line.now)) }
 {
     let value = match values.read_line(alloc, line) {
@@ -31,7 +29,7 @@ pub fn read_object<'a>(
         Err(ReadFault::NotJson) => return Err(Refusal::BadLine),
         Err(ReadFault::Memory) => return Err(Refusal::Memory),
     };
-    if !value.is_object() {
+    if !value.value().is_object() {
         return Err(Refusal::BadLine);
     }
     Ok(value)

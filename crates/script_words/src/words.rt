@@ -2,7 +2,6 @@
 //! "Command lines", "Order of checks" and "Answers").
 ghost use Rattle.std.specs.Prelude.{◌≡◌, []};
 ghost use Rattle.json_values.specs.LineView.{line_view};
-ghost use Rattle.json_values.specs.LineOrder.{IsOrdered};
 ghost use Rattle.script_engine.specs.Serving.{MayTell};
 ghost use Rattle.script_words.specs.Script.{AnswersAsked};
 ghost use Rattle.script_words.specs.Telling.{told_by};
@@ -20,7 +19,7 @@ mod restore;
 mod show;
 
 use crate::members::text_member;
-use json_values::LineValue;
+use json_values::{Line, LineValue};
 use script_databases::{Databases, Refusal};
 use std::alloc::Global;
 use std::sync::Wait;
@@ -65,28 +64,28 @@ pub fn serve<H: Threads + Wait + Sync>(
     rt: &H,
     alloc: Global,
     databases: &mut Databases,
-    value: &LineValue<'_>,
+    line: &Line<'_>,
     answer: &mut Vec<u8>,
 ) -> Result<(), Refusal>
     requires empty { answer.old.items ≡ [] }
-    requires ordered { IsOrdered (line_view value.now) }
-    ensures { MayTell AnswersAsked databases.old (asked_in (line_view value.now)) (told_by result answer.new.items)
+    ensures { MayTell AnswersAsked databases.old (asked_in (line_view line.now)) (told_by result answer.new.items)
         databases.new }
 {
-    let Some(word) = word_of(value) else {
+    let seen = line.value();
+    let Some(word) = word_of(seen) else {
         return Err(Refusal::BadCommand);
     };
     match word {
-        Word::Load => serve_load(alloc, databases, value, answer),
-        Word::Edit => serve_edit(alloc, databases, value, answer),
-        Word::Show => serve_show(alloc, databases, value, answer),
-        Word::Doc => serve_doc(alloc, databases, value, answer),
-        Word::Changes => serve_changes(alloc, databases, value, answer),
-        Word::Log => serve_log(alloc, databases, value, answer),
-        Word::Audit => serve_audit(alloc, databases, value, answer),
-        Word::Replicate => serve_replicate(rt, alloc, databases, value, answer),
-        Word::Backup => serve_backup(alloc, databases, value, answer),
-        Word::Restore => serve_restore(databases, value, answer),
+        Word::Load => serve_load(alloc, databases, line, answer),
+        Word::Edit => serve_edit(alloc, databases, line, answer),
+        Word::Show => serve_show(alloc, databases, seen, answer),
+        Word::Doc => serve_doc(alloc, databases, seen, answer),
+        Word::Changes => serve_changes(alloc, databases, seen, answer),
+        Word::Log => serve_log(alloc, databases, seen, answer),
+        Word::Audit => serve_audit(alloc, databases, seen, answer),
+        Word::Replicate => serve_replicate(rt, alloc, databases, seen, answer),
+        Word::Backup => serve_backup(alloc, databases, seen, answer),
+        Word::Restore => serve_restore(databases, seen, answer),
     }
 }
 
@@ -95,15 +94,14 @@ pub fn serve<H: Threads + Wait + Sync>(
 fn serve_load(
     alloc: Global,
     databases: &mut Databases,
-    value: &LineValue<'_>,
+    line: &Line<'_>,
     answer: &mut Vec<u8>,
 ) -> Result<(), Refusal>
     requires empty { answer.old.items ≡ [] }
-    requires ordered { IsOrdered (line_view value.now) }
-    ensures { MayTell AnswersAsked databases.old (asked_as Word.Load (line_view value.now)) (told_by result answer.new.items)
+    ensures { MayTell AnswersAsked databases.old (asked_as Word.Load (line_view line.now)) (told_by result answer.new.items)
         databases.new }
 {
-    match load::read(value) {
+    match load::read(line) {
         Some(ask) => load::serve(alloc, databases, &ask, answer),
         None => Err(Refusal::BadCommand),
     }
@@ -114,15 +112,14 @@ fn serve_load(
 fn serve_edit(
     alloc: Global,
     databases: &mut Databases,
-    value: &LineValue<'_>,
+    line: &Line<'_>,
     answer: &mut Vec<u8>,
 ) -> Result<(), Refusal>
     requires empty { answer.old.items ≡ [] }
-    requires ordered { IsOrdered (line_view value.now) }
-    ensures { MayTell AnswersAsked databases.old (asked_as Word.Edit (line_view value.now)) (told_by result answer.new.items)
+    ensures { MayTell AnswersAsked databases.old (asked_as Word.Edit (line_view line.now)) (told_by result answer.new.items)
         databases.new }
 {
-    match edit::read(value) {
+    match edit::read(line) {
         Some(ask) => edit::serve(alloc, databases, &ask, answer),
         None => Err(Refusal::BadCommand),
     }

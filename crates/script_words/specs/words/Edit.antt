@@ -35,7 +35,7 @@ edit_asked ask =
       id = ask.id.now;
       parent = option_copied ask.parent;
       deleted = ask.deleted;
-      body = option_map (λ v. line_view v.now) ask.body;
+      body = option_map line_view ask.body;
     }
 
 abbrev pub edit_in : Data → Result EditAsk Refusal

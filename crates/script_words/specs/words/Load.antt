@@ -32,7 +32,7 @@ pub record LoadAsk : Type 0 where
   pub doc : Option Data
 
 abbrev pub load_asked : Load → LoadAsk
-load_asked ask = record { db = ask.db.now; uuid = ask.uuid; doc = option_map (λ v. line_view v.now) ask.doc }
+load_asked ask = record { db = ask.db.now; uuid = ask.uuid; doc = option_map line_view ask.doc }
 
 -- `doc` may be any value
 abbrev pub load_in : Data → Result LoadAsk Refusal

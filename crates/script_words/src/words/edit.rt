@@ -1,7 +1,6 @@
 //! `edit`: a new revision of a document, behind a leaf.
-ghost use Rattle.std.specs.Prelude.{◌≡◌, ◌++◌, [], OnOk, option_map, IfSome};
+ghost use Rattle.std.specs.Prelude.{◌≡◌, ◌++◌, [], OnOk, option_map};
 ghost use Rattle.json_values.specs.LineView.{line_view};
-ghost use Rattle.json_values.specs.LineOrder.{IsOrdered};
 ghost use Rattle.script_engine.specs.Serving.{MayTell};
 ghost use Rattle.script_words.specs.Checks.{needed};
 ghost use Rattle.script_words.specs.Telling.{told_by};
@@ -10,7 +9,7 @@ ghost use Rattle.script_words.specs.words.Edit.{Edits, edit_asked, edit_in, edit
 use crate::given::{read_content_or_empty, read_id, read_rev};
 use crate::members::{has_only_members, name_member, optional_flag, optional_text, text_member};
 use crate::texts::{push_json, push_number, push_rev};
-use json_values::LineValue;
+use json_values::{Line, LinePart};
 use script_databases::{Databases, Edited, Refusal};
 use std::alloc::{AllocError, Global};
 
@@ -22,15 +21,14 @@ pub struct Edit<'v, 'a> {
     /// The revision behind which the new one goes.
     pub parent: Option<&'v str>,
     pub deleted: bool,
-    pub body: Option<&'v LineValue<'a>>,
+    pub body: Option<LinePart<'v, 'a>>,
 }
 
 /// What an object asks by `edit`.
-pub fn read<'v, 'a>(value: &'v LineValue<'a>) -> Option<Edit<'v, 'a>>
-    requires { IsOrdered (line_view value.now) }
-    ensures asked { needed (option_map edit_asked result) ≡ edit_in (line_view value.now) }
-    ensures ordered { IfSome result (λ ask. IfSome ask.body (λ v. IsOrdered (line_view v.now))) }
+pub fn read<'v, 'a>(line: &'v Line<'a>) -> Option<Edit<'v, 'a>>
+    ensures { needed (option_map edit_asked result) ≡ edit_in (line_view line.now) }
 {
+    let value = line.value();
     let db = name_member(value, "db")?;
     let id = text_member(value, "id")?;
     let parent = optional_text(value, "parent")?;
@@ -39,7 +37,7 @@ pub fn read<'v, 'a>(value: &'v LineValue<'a>) -> Option<Edit<'v, 'a>>
         return None;
     }
     let deleted = deleted.unwrap_or(false);
-    let body = value.get("body");
+    let body = line.get("body");
     Some(Edit {
         db,
         id,
@@ -57,7 +55,6 @@ pub fn serve(
     answer: &mut Vec<u8>,
 ) -> Result<(), Refusal>
     requires empty { answer.old.items ≡ [] }
-    requires ordered { IfSome ask.now.body (λ v. IsOrdered (line_view v.now)) }
     ensures { MayTell Edits databases.old (edit_asked ask.now) (told_by result answer.new.items) databases.new }
 {
     if !databases.has(ask.db) {
@@ -65,7 +62,7 @@ pub fn serve(
     }
     let id = read_id(alloc, ask.id)?;
     let parent = read_rev(ask.parent)?;
-    let body = read_content_or_empty(alloc, ask.body)?;
+    let body = read_content_or_empty(alloc, &ask.body)?;
     let edited = databases.edit(ask.db, &id, parent, ask.deleted, &body)?;
     print(answer, ask.db, id.text(), edited)?;
     Ok(())

@@ -1,7 +1,6 @@
 //! `load`: a database is made, or a document is put into one.
-ghost use Rattle.std.specs.Prelude.{◌≡◌, ◌++◌, [], None, Some, OnOk, IfOk, IfErr, option_map, IfSome};
+ghost use Rattle.std.specs.Prelude.{◌≡◌, ◌++◌, [], None, Some, OnOk, IfOk, IfErr, option_map};
 ghost use Rattle.json_values.specs.LineView.{line_view};
-ghost use Rattle.json_values.specs.LineOrder.{IsOrdered};
 ghost use Rattle.script_engine.specs.Serving.{MayTell};
 ghost use Rattle.script_databases.specs.Databases.{IsTaken, drawn_one, next_made, peer_at};
 ghost use Rattle.script_databases.specs.declared.refusal.Refusal.TheVariants.{UuidTaken};
@@ -14,7 +13,7 @@ use crate::members::{has_only_members, name_member, optional_uuid};
 use crate::texts::{push_json, push_number, push_rev};
 use couch_base::Put;
 use doc_json::Doc;
-use json_values::LineValue;
+use json_values::{Line, LinePart};
 use script_databases::{Databases, Refusal};
 use std::alloc::{AllocError, Global};
 
@@ -24,21 +23,20 @@ pub struct Load<'v, 'a> {
     pub db: &'v str,
     /// The number of the UUID of a database that is made.
     pub uuid: Option<u128>,
-    pub doc: Option<&'v LineValue<'a>>,
+    pub doc: Option<LinePart<'v, 'a>>,
 }
 
 /// What an object asks by `load`.
-pub fn read<'v, 'a>(value: &'v LineValue<'a>) -> Option<Load<'v, 'a>>
-    requires { IsOrdered (line_view value.now) }
-    ensures asked { needed (option_map load_asked result) ≡ load_in (line_view value.now) }
-    ensures ordered { IfSome result (λ ask. IfSome ask.doc (λ v. IsOrdered (line_view v.now))) }
+pub fn read<'v, 'a>(line: &'v Line<'a>) -> Option<Load<'v, 'a>>
+    ensures { needed (option_map load_asked result) ≡ load_in (line_view line.now) }
 {
+    let value = line.value();
     let db = name_member(value, "db")?;
     let uuid = optional_uuid(value, "uuid")?;
     if !has_only_members(value, &["do", "db", "uuid", "doc"]) {
         return None;
     }
-    let doc = value.get("doc");
+    let doc = line.get("doc");
     Some(Load { db, uuid, doc })
 }
 
@@ -50,12 +48,11 @@ pub fn serve(
     answer: &mut Vec<u8>,
 ) -> Result<(), Refusal>
     requires empty { answer.old.items ≡ [] }
-    requires ordered { IfSome ask.now.doc (λ v. IsOrdered (line_view v.now)) }
     ensures { MayTell Loads databases.old (load_asked ask.now) (told_by result answer.new.items) databases.new }
 {
     match ask.uuid {
-        Some(uuid) => load_given(alloc, databases, ask.db, uuid, ask.doc, answer),
-        None => load_named(alloc, databases, ask.db, ask.doc, answer),
+        Some(uuid) => load_given(alloc, databases, ask.db, uuid, &ask.doc, answer),
+        None => load_named(alloc, databases, ask.db, &ask.doc, answer),
     }
 }
 
@@ -65,13 +62,12 @@ fn load_given(
     databases: &mut Databases,
     db: &str,
     uuid: u128,
-    doc: Option<&LineValue<'_>>,
+    doc: &Option<LinePart<'_, '_>>,
     answer: &mut Vec<u8>,
 ) -> Result<(), Refusal>
-    requires ordered { IfSome doc (λ v. IsOrdered (line_view v.now)) }
     requires empty { answer.old.items ≡ [] }
     ensures { MayTell Loads databases.old
-        (record { db = db.now; uuid = Some uuid; doc = option_map (λ v. line_view v.now) doc.entry })
+        (record { db = db.now; uuid = Some uuid; doc = option_map line_view doc.now })
         (told_by result answer.new.items) databases.new }
 {
     if databases.has(db) {
@@ -92,13 +88,12 @@ fn load_named(
     alloc: Global,
     databases: &mut Databases,
     db: &str,
-    doc: Option<&LineValue<'_>>,
+    doc: &Option<LinePart<'_, '_>>,
     answer: &mut Vec<u8>,
 ) -> Result<(), Refusal>
-    requires ordered { IfSome doc (λ v. IsOrdered (line_view v.now)) }
     requires empty { answer.old.items ≡ [] }
     ensures { MayTell Loads databases.old
-        (record { db = db.now; uuid = None; doc = option_map (λ v. line_view v.now) doc.entry })
+        (record { db = db.now; uuid = None; doc = option_map line_view doc.now })
         (told_by result answer.new.items) databases.new }
 {
     match read_document(alloc, doc)? {

@@ -53,7 +53,7 @@ fn answer(alloc: Global, reader: &mut ValueReader, call: &Call) -> Option<String
 /// The compact text of the value that bytes are, or why they are none.
 fn written(alloc: Global, reader: &mut ValueReader, bytes: &[u8]) -> Option<String> {
     match reader.read_line(alloc, bytes) {
-        Ok(value) => owned(alloc, &value)?.to_string(alloc).ok(),
+        Ok(line) => owned(alloc, line.value())?.to_string(alloc).ok(),
         Err(fault) => shown(alloc, &fault),
     }
 }

@@ -1,5 +1,6 @@
 use Rattle.std.proofs.Common.{◌≡◌, ◌++◌, ◌∷◌, drop, false}
 use Rattle.json_values.specs.LineView.{line_members}
+use Rattle.json_values.specs.Plain.{AreMembersPlain}
 use Rattle.serde_json.specs.Written.{members_text, members_have_float}
 use Rattle.doc_json.specs.Members.{plain_members}
 use Rattle.doc_json.specs.Numbers.{MembersReadBack}
@@ -12,3 +13,4 @@ invariant-loop-entry l =
     let all = plain_members (line_members l.entry-items) in
     (l.out.items ++ members_text l.later left ≡ l.fn.out.items ++ 123 ∷ members_text false all)
     × (MembersReadBack left → MembersReadBack all) × (members_have_float left ≡ false)
+    × AreMembersPlain l.plain (line_members (drop l.entry-index l.entry-items))

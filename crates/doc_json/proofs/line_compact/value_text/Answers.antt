@@ -8,4 +8,4 @@ pub returns : goal.returns
 returns c =
     let d = line_view c.args.value.now in
     let w = c.in_ok-push_value.ensures in
-    written_text d _ (c.trimmed.ensures ∙ w.text ∙ ap (λ s. s ++ compact_text d) c.in_ok-out.ensures.items) w.numbers c.requires.order c.requires.exact
+    written_text d _ (c.trimmed.ensures ∙ w.text c.requires.plain ∙ ap (λ s. s ++ compact_text d) c.in_ok-out.ensures.items) w.numbers c.requires.order c.requires.exact

@@ -5,8 +5,8 @@ use Rattle.json_values.proofs.Punctuation.{at_operator}
 use Rattle.json_values.proofs.tokens.after_value.Goals as goal
 
 pub skip-requires : goal.skip-requires
-skip-requires c = let e : head c.args.lexer.now ≡ 44 = omega (arith, c.peek.ensures.value) in ap class e
+skip-requires c = let e : head c.args.lexer.now.text ≡ 44 = omega (arith, c.peek.ensures.value) in ap class e
 
 pub returns-then-peek-eq44-clause-same : goal.returns-then-peek-eq44-clause-same
 unfolding punctuate
-returns-then-peek-eq44-clause-same c = ap (punctuate after_comma) c.skip.ensures ∙ sym (ap (punctuate after_value) (at_operator 44 c.args.lexer.now refl (omega (arith, c.peek.ensures.value))))
+returns-then-peek-eq44-clause-same c = ap (punctuate after_comma) c.skip.ensures.passed ∙ sym (ap (punctuate after_value) (at_operator 44 c.args.lexer.now.text refl (omega (arith, c.peek.ensures.value))))

@@ -8,7 +8,7 @@ use Rattle.json_values.proofs.tokens.read.Goals as goal
 
 pub returns-then-not-may_close-clause-value : goal.returns-then-not-may_close-clause-value
 returns-then-not-may_close-clause-value c =
-    let t = c.args.lexer.now in
+    let t = c.args.lexer.now.text in
     let place = c.args.place in
     let r = c.refuse in
     let seen = c.peek-c.ensures.value in
@@ -17,14 +17,14 @@ returns-then-not-may_close-clause-value c =
 
 pub returns-then-may_close-clause-value : goal.returns-then-may_close-clause-value
 returns-then-may_close-clause-value c =
-    let t = c.args.lexer.now in
+    let t = c.args.lexer.now.text in
     let place = c.args.place in
     let none = ended place t (c.peek-c.ensures.end (sym c.is_space.ensures ∙ c.if-is_space.true)) ∙ ap (λ b. cond b [] (refused_at place)) (sym c.may_close-then-is_space.ensures ∙ c.if-may_close.true) in
     (none, none)
 
 pub returns-else-may_close-clause-value : goal.returns-else-may_close-clause-value
 returns-else-may_close-clause-value c =
-    let t = c.args.lexer.now in
+    let t = c.args.lexer.now.text in
     let place = c.args.place in
     let r = c.refuse-else-may_close in
     let seen = c.peek-c.ensures.value in
@@ -33,7 +33,7 @@ returns-else-may_close-clause-value c =
 
 pub returns-then-not-may_begin-clause-value : goal.returns-then-not-may_begin-clause-value
 returns-then-not-may_begin-clause-value c =
-    let t = c.args.lexer.now in
+    let t = c.args.lexer.now.text in
     let place = c.args.place in
     let r = c.refuse-then-not-may_begin in
     let seen = c.peek-c.ensures.value in

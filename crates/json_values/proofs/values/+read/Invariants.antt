@@ -2,7 +2,8 @@ use Rattle.std.proofs.Common.{◌≡◌, ℕ, ◌+◌, ◌*◌, ◌≤◌, lengt
 use Rattle.json.specs.Json.{items, members, value, parse_map}
 use Rattle.serde_json.specs.Data.{no_members}
 use Rattle.serde_json.specs.Read.{converted, of_items, of_members}
-use Rattle.json_values.specs.LineView.{line_members}
+use Rattle.json_values.specs.LineView.{line_items, line_members}
+use Rattle.json_values.specs.Plain.{AreItemsPlain, AreMembersPlain, Narrows}
 use Rattle.json_values.specs.Entries.{IsRising}
 use Rattle.json_values.specs.Members.{entries_of}
 use Rattle.json_values.proofs.LineReads.{items_onto}
@@ -26,19 +27,21 @@ decreases-read_members l = 4 * l.depth + 3
 -- the items so far stand before what the rest of the list is read as
 abbrev pub invariant-read_items-items : goal.invariant-read_items-items
 invariant-read_items-items l =
-    (turns : ℕ) × (length l.reader ≤ turns) × (length l.reader ≤ length l.initial.reader)
-    × (converted of_items (items (value l.depth) (length l.initial.reader) l.initial.reader)
-    ≡ parse_map (items_onto l.found.items) (converted of_items (items (value l.depth) turns l.reader)))
+    (turns : ℕ) × (length l.reader.tokens ≤ turns) × (length l.reader.tokens ≤ length l.initial.reader.tokens)
+    × (converted of_items (items (value l.depth) (length l.initial.reader.tokens) l.initial.reader.tokens)
+    ≡ parse_map (items_onto l.found.items) (converted of_items (items (value l.depth) turns l.reader.tokens)))
+    × Narrows l.initial.reader.plain l.reader.plain × AreItemsPlain l.reader.plain (line_items l.found.items)
 
 abbrev pub decreases-read_items-items : goal.decreases-read_items-items
-decreases-read_items-items l = length l.reader
+decreases-read_items-items l = length l.reader.tokens
 
 -- the members that are left go into those so far
 abbrev pub invariant-read_members-members : goal.invariant-read_members-members
 invariant-read_members-members l =
-    (turns : ℕ) × (length l.reader ≤ turns) × (length l.reader ≤ length l.initial.reader)
-    × (converted (λ ms. of_members ms no_members) (members (value l.depth) (length l.initial.reader) l.initial.reader)
-    ≡ converted (λ ms. of_members ms (line_members (entries_of l.found))) (members (value l.depth) turns l.reader)) × IsRising (entries_of l.found)
+    (turns : ℕ) × (length l.reader.tokens ≤ turns) × (length l.reader.tokens ≤ length l.initial.reader.tokens)
+    × (converted (λ ms. of_members ms no_members) (members (value l.depth) (length l.initial.reader.tokens) l.initial.reader.tokens)
+    ≡ converted (λ ms. of_members ms (line_members (entries_of l.found))) (members (value l.depth) turns l.reader.tokens)) × IsRising (entries_of l.found)
+    × Narrows l.initial.reader.plain l.reader.plain × AreMembersPlain l.reader.plain (line_members (entries_of l.found))
 
 abbrev pub decreases-read_members-members : goal.decreases-read_members-members
-decreases-read_members-members l = length l.reader
+decreases-read_members-members l = length l.reader.tokens

@@ -4,7 +4,7 @@ use Rattle.script_words.proofs.WordLemmas.{word_answered, word_refused}
 use Rattle.script_words.proofs.words.serve_load.Goals as goal
 
 pub returns-in-Some : goal.returns-in-Some
-returns-in-Some c = word_answered load _ _ (sym c.in-Some.ensures.asked) (λ t a. a) c.serve.ensures
+returns-in-Some c = word_answered load _ _ (sym c.in-Some.ensures) (λ t a. a) c.serve.ensures
 
 pub returns-in-None : goal.returns-in-None
-returns-in-None c = word_refused load _ (sym c.in-None.ensures.asked)
+returns-in-None c = word_refused load _ (sym c.in-None.ensures)

@@ -12,14 +12,14 @@ returns-clause-value c =
     let d = a.text.now in
     let r = c.in_ok-number in
     let at : IntegerAt d a.at (number_view r.number) r.end = subst (λ t. IntegerAt t a.at (number_view r.number) r.end) c.as_bytes.ensures.value r.ensures in
-    (take (r.end - a.at) (drop a.at d), ap word (sym c.self.view_is) ∙ integer_word d a.at (number_view r.number) r.end at, at.number)
+    (take (r.end - a.at) (drop a.at d), ap word (sym (ap (λ l. l.text) c.self.view_is)) ∙ integer_word d a.at (number_view r.number) r.end at, at.number)
 
 pub returns-clause-kind : goal.returns-clause-kind
 returns-clause-kind c =
     let a = c.self.inside in
     let r = c.in_ok-number in
     let at : IntegerAt a.text.now a.at (number_view r.number) r.end = subst (λ t. IntegerAt t a.at (number_view r.number) r.end) c.as_bytes.ensures.value r.ensures in
-    ap (λ t. class (head t)) (sym c.self.view_is) ∙ at.kind
+    ap (λ t. class (head t)) (sym (ap (λ l. l.text) c.self.view_is)) ∙ at.kind
 
 pub returns-clause-after : goal.returns-clause-after
 returns-clause-after c =
@@ -28,4 +28,4 @@ returns-clause-after c =
     let r = c.in_ok-number in
     let at : IntegerAt d a.at (number_view r.number) r.end = subst (λ t. IntegerAt t a.at (number_view r.number) r.end) c.as_bytes.ensures.value r.ensures in
     let lexed : lex between (drop c.after_blanks-self-inside.result d) ≡ lex between (drop r.end d) = subst (λ t. lex between (drop c.after_blanks-self-inside.result t) ≡ lex between (drop r.end t)) c.as_bytes-2.ensures.value c.after_blanks-self-inside.ensures.lexed in
-    lexed ∙ integer_passed d a.at (number_view r.number) r.end at ∙ ap (λ t. drop 1 (lex between t)) c.self.view_is
+    lexed ∙ integer_passed d a.at (number_view r.number) r.end at ∙ ap (λ t. drop 1 (lex between t)) (ap (λ l. l.text) c.self.view_is)

@@ -9,23 +9,23 @@ use Rattle.json_values.proofs.Punctuation.{rest, at_operator, allowed, closed, n
 use Rattle.std.proofs.lemmas.Bool.{cases_eq}
 use Rattle.json_values.proofs.tokens.Tokens.take_end_array.Goals as goal
 
-pub returns-then-peek-may_close : goal.returns-then-peek-may_close
-returns-then-peek-may_close c =
+pub returns-then-peek-may_close-clause-end : goal.returns-then-peek-may_close-clause-end
+returns-then-peek-may_close-clause-end c =
     let a = c.self.inside in
     let seen = c.peek.ensures.value in
-    let none : after_end_array (tokens_at a.place a.lexer) ≡ None = ⊎_elim
-    (λ e. ap after_end_array (not_closed a.place a.lexer (grind arith) (inr e)) ∙ refused_no_end a.place)
-    (no_end_array a.place a.lexer (λ b. c.peek.ensures.end (ap (λ x. is_blank (class x)) seen ∙ b)) c.self.invariant) (cases_eq (head a.lexer) 93) in
-    (ap after_end_array (sym c.self.view_is) ∙ none, refl)
+    let none : after_end_array (tokens_at a.place a.lexer.text) ≡ None = ⊎_elim
+    (λ e. ap after_end_array (not_closed a.place a.lexer.text (grind arith) (inr e)) ∙ refused_no_end a.place)
+    (no_end_array a.place a.lexer.text (λ b. c.peek.ensures.end (ap (λ x. is_blank (class x)) seen ∙ b)) c.self.invariant) (cases_eq (head a.lexer.text) 93) in
+    (ap after_end_array (sym (ap (λ l. l.tokens) c.self.view_is)) ∙ none, refl)
 
 pub skip-requires : goal.skip-requires
-skip-requires c = let e : head c.self.inside.lexer ≡ 93 = grind arith in ap class e
+skip-requires c = let e : head c.self.inside.lexer.text ≡ 93 = grind arith in ap class e
 
-pub returns : goal.returns
+pub returns-clause-end : goal.returns-clause-end
 unfolding punctuate
-returns c =
+returns-clause-end c =
     let a = c.self.inside in
-    let t = a.lexer in
+    let t = a.lexer.text in
     let e : head t ≡ 93 = grind arith in
     let first = closed a.place t _ (grind arith) (λ p may. ap (punctuate p) (at_operator 93 t refl e) ∙ allowed (may_close p) spec.end_array (λ n. punctuate n (rest t)) after_value may) in
-    ap after_end_array (sym c.self.view_is ∙ first) ∙ ap Some (ap (punctuate after_value) (sym c.skip.ensures) ∙ sym c.after_value-self-inside.ensures.same)
+    ap after_end_array (sym (ap (λ l. l.tokens) c.self.view_is) ∙ first) ∙ ap Some (ap (punctuate after_value) (sym c.skip.ensures.passed) ∙ sym c.after_value-self-inside.ensures.same)

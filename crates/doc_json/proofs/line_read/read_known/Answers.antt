@@ -10,8 +10,8 @@ use Rattle.doc_json.specs.Revisions.{rev_member, with_revisions, revs_read}
 use Rattle.doc_json.specs.declared.fault.DocFault.{DocFault}
 use Rattle.doc_json.proofs.DocReads.{is_some-option_map, ok_value, found_at, no_object, bad_id, attached, unknown, bad_flag, bad_revs, fraction, accepted}
 use Rattle.doc_json.proofs.FoundRevisions.{revs_by, revs_refused}
-use Rattle.doc_json.proofs.line_read.read_line_doc.Goals as goal
-use Rattle.doc_json.proofs.line_read.read_line_doc.Goals.{After-is_some, After-read_flag, After-read_rev, After-read_revisions, Else-found-2}
+use Rattle.doc_json.proofs.line_read.read_known.Goals as goal
+use Rattle.doc_json.proofs.line_read.read_known.Goals.{After-is_some, After-read_flag, After-read_rev, After-read_revisions, Else-found-2}
 
 -- the id
 named : (c : After-is_some) → id_member (line_view c.args.value.now) ≡ Ok c.in-Ok.id.now

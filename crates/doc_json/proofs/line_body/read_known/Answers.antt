@@ -2,7 +2,7 @@ use Rattle.std.proofs.Common.{Ok, inl, inr, refl, sym, ap, ◌∙◌, subst}
 use Rattle.std.specs.Prelude.{IsOk}
 use Rattle.std.specs.Arc.{arc_slice_items}
 use Rattle.doc_json.proofs.BodyReads.{body_no_object, body_special, body_fraction, body_ok, is_object, is_body}
-use Rattle.doc_json.proofs.line_body.read_line_body.Goals as goal
+use Rattle.doc_json.proofs.line_body.read_known.Goals as goal
 
 pub returns-in_default : goal.returns-in_default
 returns-in_default c = inl (body_no_object _ (sym c.in_default.ensures))

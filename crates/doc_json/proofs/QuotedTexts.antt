@@ -1,0 +1,26 @@
+-- A plain text in quotation marks stands as it is.
+use Rattle.std.proofs.Common.{◌≡◌, ℕ, Bool, true, Result, Ok, Err, ◌-◌, ◌++◌, List, [], ◌∷◌, length, take, drop, sym, ap, ◌∙◌, arith}
+use Rattle.std.specs.Prelude.{OnOk}
+use Rattle.std.proofs.lemmas.List.{take_all}
+use Rattle.std.specs.List.{prefix_len}
+use Rattle.json_values.specs.Plain.{PlainIf}
+use Rattle.json.specs.Print.{escape, quoted}
+use Rattle.json.specs.Run.{is_plain}
+use Rattle.json.proofs.Printed.Strings.{escape_to_stop, escape_end}
+
+pub quoted_plain : (d : List ℕ) → prefix_len is_plain d ≡ length d → 34 ∷ (d ++ 34 ∷ []) ≡ quoted d
+quoted_plain d plain =
+    let close = 34 ∷ [] in
+    let whole : take (length d - 0) (drop 0 d) ≡ d = take_all _ d (omega arith) in
+    let body : escape d ++ close ≡ d ++ close = escape_to_stop d 0 (length d) close (omega (arith, plain)) ∙ ap (λ l. take (length d - 0) (drop 0 d) ++ l) (escape_end d (length d) close (omega arith)) ∙ ap (λ l. l ++ close) whole in
+    ap (λ l. 34 ∷ l) (sym body)
+
+-- where a plain text was pushed as it stands, it stands there in quotation marks
+pub standing_quoted : {A E : Type 0} (r : Result A E) (out new d : List ℕ) → prefix_len is_plain d ≡ length d → OnOk r (new ≡ out ++ 34 ∷ (d ++ 34 ∷ [])) → OnOk r (new ≡ out ++ quoted d)
+standing_quoted (Ok a) out new d plain is = is ∙ ap (λ l. out ++ l) (quoted_plain d plain)
+standing_quoted (Err e) out new d plain is = is
+
+-- the same, where it may be plain
+pub known_quoted : {A E : Type 0} (r : Result A E) (out new d : List ℕ) (is_plain : Bool) → is_plain ≡ true → OnOk r (new ≡ out ++ 34 ∷ (d ++ 34 ∷ [])) → OnOk r (PlainIf is_plain d → new ≡ out ++ quoted d)
+known_quoted (Ok a) out new d is_plain known is = λ plain. is ∙ ap (λ l. out ++ l) (quoted_plain d (plain known))
+known_quoted (Err e) out new d is_plain known is = is

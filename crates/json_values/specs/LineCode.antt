@@ -1,0 +1,8 @@
+-- How values of lines are told apart.
+use Rattle.std.specs.Coded.{Coded}
+use denote.Signature.{static_lft}
+use Rattle.json_values.specs.declared.line.LineValue.{LineValue}
+use Rattle.json_values.specs.contracts.line.LineValue as line_value
+
+abbrev pub line_value_code : Coded LineValue
+line_value_code = (line_value.the_row static_lft).coded

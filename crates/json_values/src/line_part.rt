@@ -1,0 +1,134 @@
+//! A line that was read, and the values that are its parts.
+ghost use Rattle.std.specs.Prelude.{◌≡◌, IsTrue, option_map};
+ghost use Rattle.serde_json.specs.Data.{object, no_members};
+ghost use Rattle.serde_json.specs.Find.{get};
+ghost use Rattle.json_values.specs.LineView.{line_view};
+ghost use Rattle.json_values.specs.LineOrder.{IsOrdered};
+ghost use Rattle.json_values.specs.Plain.{ArePlain};
+
+use crate::line::LineValue;
+use crate::plain_texts::PlainTexts;
+use std::alloc::Global;
+use std::marker::Model;
+
+/// The value of a line. A clause sees that value. At each depth its members stand in byte order of their names.
+#[derive(Drop)]
+pub struct Line<'a> {
+    value: LineValue<'a>,
+    plain: PlainTexts,
+}
+
+impl<'a> Model for Line<'a> {
+    ghost use Rattle.json_values.specs.declared.line.LineValue.{LineValue};
+    ghost use Rattle.json_values.specs.LineCode.{line_value_code};
+
+    ghost Value = { LineValue };
+
+    ghost coded = { line_value_code };
+
+    ghost use Rattle.json_values.specs.LineView.{line_view};
+    ghost use Rattle.json_values.specs.LineOrder.{IsOrdered};
+    ghost use Rattle.json_values.specs.Plain.{ArePlain};
+
+    ghost view = { λ a. a.value };
+
+    ghost invariant = { λ a. IsOrdered (line_view a.value) × ArePlain a.plain (line_view a.value) };
+}
+
+impl<'a> Line<'a> {
+    /// The line of a value.
+    pub(crate) fn new(value: LineValue<'a>, plain: PlainTexts) -> Line<'a>
+        requires order { IsOrdered (line_view value) }
+        requires plain { ArePlain plain (line_view value) }
+        ensures { result ≡ value.entry }
+    {
+        Line { value, plain }
+    }
+
+    /// The line of an object without members.
+    pub fn empty_object(alloc: Global) -> Line<'a>
+        ensures { line_view result ≡ object no_members }
+    {
+        let plain = PlainTexts {
+            names: true,
+            values: true,
+        };
+        Line::new(LineValue::Object(Vec::new(alloc)), plain)
+    }
+
+    /// The value.
+    #[inline(always)]
+    pub fn value(&self) -> &LineValue<'a>
+        ensures { result.now ≡ self.now }
+    {
+        &self.value
+    }
+
+    /// The value as a part.
+    pub fn part(&self) -> LinePart<'_, 'a>
+        ensures { result ≡ self.now }
+    {
+        LinePart {
+            value: &self.value,
+            plain: self.plain,
+        }
+    }
+
+    /// The member of a name, where the value is an object.
+    #[inline(always)]
+    pub fn get(&self, name: &str) -> Option<LinePart<'_, 'a>>
+        ensures { option_map line_view result ≡ get name.now (line_view self.now) }
+    {
+        match self.value.get(name) {
+            Some(value) => Some(LinePart {
+                value,
+                plain: self.plain,
+            }),
+            None => None,
+        }
+    }
+}
+
+/// A value that stands in a line. A clause sees that value. At each depth its members stand in byte order of their
+/// names.
+#[derive(Drop)]
+pub struct LinePart<'v, 'a> {
+    value: &'v LineValue<'a>,
+    plain: PlainTexts,
+}
+
+impl<'v, 'a> Model for LinePart<'v, 'a> {
+    ghost use Rattle.json_values.specs.declared.line.LineValue.{LineValue};
+    ghost use Rattle.json_values.specs.LineCode.{line_value_code};
+
+    ghost Value = { LineValue };
+
+    ghost coded = { line_value_code };
+
+    ghost use Rattle.json_values.specs.LineView.{line_view};
+    ghost use Rattle.json_values.specs.LineOrder.{IsOrdered};
+    ghost use Rattle.json_values.specs.Plain.{ArePlain};
+
+    ghost view = { λ a. a.value.now };
+
+    ghost invariant = { λ a. IsOrdered (line_view a.value.now) × ArePlain a.plain (line_view a.value.now) };
+}
+
+impl<'v, 'a> LinePart<'v, 'a> {
+    /// The value.
+    #[inline(always)]
+    pub fn value(&self) -> &'v LineValue<'a>
+        ensures value { result.now ≡ self.now }
+        ensures order { IsOrdered (line_view self.now) }
+    {
+        self.value
+    }
+
+    /// Which texts of the value are known to be plain.
+    #[inline(always)]
+    pub fn plain(&self) -> PlainTexts
+        ensures { ArePlain result (line_view self.now) }
+    {
+        self.plain
+    }
+}
