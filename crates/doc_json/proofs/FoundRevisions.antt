@@ -1,11 +1,10 @@
 -- The members `_rev` and `_revisions`, before anything of them is copied.
-use Rattle.std.proofs.Common.{◌≡◌, ℕ, ◌^◌, ◌<◌, ◌≤◌, List, [], ◌∷◌, length, Bool, true, false, cond, nat_eq, nat_lt, nat_le, Option, Some, None, is_some, option_map, option_and_then, Result, Ok, Err, is_ok, codes, slice_get, inl, inr, refl, sym, ap, ◌∙◌, arith}
+use Rattle.std.proofs.Common.{◌≡◌, ℕ, ◌^◌, ◌<◌, ◌≤◌, List, [], ◌∷◌, length, map, Bool, true, false, cond, nat_eq, nat_lt, nat_le, Option, Some, None, is_some, option_map, option_and_then, Result, Ok, Err, is_ok, codes, slice_get, inl, inr, refl, sym, ap, ◌∙◌, arith}
 use Rattle.std.specs.Ordering.{eq_by_cmp}
 use Rattle.std.proofs.lemmas.Bool.{lt-ltb, le-ltb, le-leb, lt-leb, ne_eqb, cases_lt, false≢true}
 use Rattle.serde_json.specs.Data.{Data}
 use Rattle.serde_json.specs.Find.{get, as_str}
-use Rattle.serde_json.specs.View.{view, items_view}
-use Rattle.serde_json.specs.declared.value.Value.{Value}
+use Rattle.serde_json.specs.View.{items_of}
 use Rattle.rev_core.specs.Rev.{RevId, rev_cmp}
 use Rattle.rev_core.specs.Ancestry.{numbered, ancestry_read}
 use Rattle.rev_core.specs.declared.fault.RevFault.{RevFault}
@@ -26,13 +25,13 @@ both (Some sig) (Some more) sigs e = (sig, more, refl, refl, cc)
 pub none_left : (sigs : List (List ℕ)) → Some [] ≡ Some sigs → sigs ≡ []
 none_left sigs e = cc
 
-pub sigs_count : (vs : List Value) (sigs : List (List ℕ)) → sigs_of (items_view vs) ≡ Some sigs → length sigs ≡ length vs
-sigs_count [] sigs e = ap length (none_left sigs e)
-sigs_count (v ∷ vs) sigs e = let b = both _ _ sigs e in let n = sigs_count vs b.1 b.3 in ap length b.4 ∙ omega arith
+pub sigs_count : {V : Type 0} (seen : V → Data) (vs : List V) (sigs : List (List ℕ)) → sigs_of (items_of (map seen vs)) ≡ Some sigs → length sigs ≡ length vs
+sigs_count seen [] sigs e = ap length (none_left sigs e)
+sigs_count seen (v ∷ vs) sigs e = let b = both _ _ sigs e in let n = sigs_count seen vs b.1 b.3 in ap length b.4 ∙ omega arith
 
-pub sigs_first : (vs : List Value) (sigs : List (List ℕ)) → sigs_of (items_view vs) ≡ Some sigs → option_and_then (λ v. sig_of (as_str (view v))) (slice_get vs 0) ≡ slice_get sigs 0
-sigs_first [] sigs e = sym (ap (λ s. slice_get s 0) (none_left sigs e))
-sigs_first (v ∷ vs) sigs e = let b = both _ _ sigs e in b.2 ∙ sym (ap (λ s. slice_get s 0) b.4)
+pub sigs_first : {V : Type 0} (seen : V → Data) (vs : List V) (sigs : List (List ℕ)) → sigs_of (items_of (map seen vs)) ≡ Some sigs → option_and_then (λ v. sig_of (as_str (seen v))) (slice_get vs 0) ≡ slice_get sigs 0
+sigs_first seen [] sigs e = sym (ap (λ s. slice_get s 0) (none_left sigs e))
+sigs_first seen (v ∷ vs) sigs e = let b = both _ _ sigs e in b.2 ∙ sym (ap (λ s. slice_get s 0) b.4)
 
 -- ---- a start and a list
 

@@ -15,8 +15,6 @@ pub mod Choosing
 pub mod ChosenTexts
 pub mod ChosenBytes
 pub mod Marking
-pub mod LineFoundRevisions
-pub mod LineNumberedRevisions
 pub mod Outlines
 pub mod Integers
 pub mod Pushes

@@ -1,10 +1,10 @@
 use Rattle.std.proofs.Common.{arith, sym, ◌∙◌}
-use Rattle.json_values.specs.LineView.{line_items}
+use Rattle.json_values.specs.LineView.{line_view, line_items}
 use Rattle.doc_json.specs.Revisions.{sigs_of}
-use Rattle.doc_json.proofs.LineFoundRevisions.{ids_test, sigs_count}
+use Rattle.doc_json.proofs.FoundRevisions.{ids_test, sigs_count}
 use Rattle.doc_json.proofs.line_revisions.are_ids.Goals as goal
 
 pub returns-then-count-ge1 : goal.returns-then-count-ge1
 returns-then-count-ge1 c =
     let ids = c.args.ids.now in
-    ids_test c.args.start c.len-count.result (sigs_of (line_items ids.items)) (sym c.are_sigs.ensures ∙ c.if-not-are_sigs.false) (λ sigs e. sigs_count ids.items sigs e ∙ omega (arith, ids.ok.0, c.len-count.ensures)) (omega arith) (omega arith)
+    ids_test c.args.start c.len-count.result (sigs_of (line_items ids.items)) (sym c.are_sigs.ensures ∙ c.if-not-are_sigs.false) (λ sigs e. sigs_count line_view ids.items sigs e ∙ omega (arith, ids.ok.0, c.len-count.ensures)) (omega arith) (omega arith)
