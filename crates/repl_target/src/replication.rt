@@ -6,7 +6,7 @@ ghost use Rattle.repl_log.specs.Entry.{EntryValue};
 ghost use Rattle.repl_peer.specs.logs.Checkpoint.{rep_between};
 ghost use Rattle.repl_target.specs.Audit.{audit_answer, CoversFeed};
 ghost use Rattle.repl_peer.specs.peer.Backups.{BackupValue};
-ghost use Rattle.repl_target.specs.ties.Ties.{IsTiedPair, IsTiedWith};
+ghost use Rattle.repl_target.specs.ties.Ties.{IsTiedPair, IsTiedWith, KeepsOthersTied};
 ghost use Rattle.repl_peer.specs.peer.Peer.{SessionValue, session_in, entry_of};
 ghost use Rattle.repl_peer.specs.session.Sessions.{session_answer, conclude_answer};
 ghost use Rattle.repl_target.specs.replication.Replication.{Reading, is_batch, plan_answer, start_between, begins_answer, after_begins, Carries, WindowRefused, has_left, ReadsAll, ReadsUntil, closed, PutsOver, Closes, Replicates, CoversFrom, IsReported, IsEmpty, SameDocuments};
@@ -77,7 +77,7 @@ impl Plan {
 /// Where the windows that the target stores of this replication are tied to the source's database (docs/PROFILE.md,
 /// "Tied peers"), they are so afterwards, whatever the answer, and so are those of the replications of other choices
 /// between the two, and an audit is clean; at `Ok` each leaf of the source's whole chosen feed is covered then, those at
-/// or under the start too.
+/// or under the start too. Every third peer stays tied to each of the two, as a source and as a target.
 pub fn replicate_alone<F: WriteFilter, G: WriteFilter>(
     alloc: Global,
     source: &mut Peer<F>,
@@ -97,6 +97,7 @@ pub fn replicate_alone<F: WriteFilter, G: WriteFilter>(
         (λ report. IsEmpty target.old.1 → report.counts.failures ≡ 0 → SameDocuments plan.now.chosen source.old.1.db target.new.1.db) }
     ensures tied { (chosen : Choice) (backups : List BackupValue)
         → IsTiedWith backups source.old.1 target.old.1 chosen → IsTiedWith backups source.new.1 target.new.1 chosen }
+    ensures others { KeepsOthersTied source.old.1 target.old.1 source.new.1 target.new.1 }
     ensures whole { OnOk result
         (IsTiedPair source.old.1 target.old.1 plan.now.chosen
         → CoversFeed source.old.1 target.new.1 plan.now.chosen source.old.1.db.update_seq) }

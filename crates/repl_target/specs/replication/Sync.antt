@@ -1,5 +1,5 @@
 -- Replication both ways: docs/PROFILE.md, "Both ways"; PouchDB, `sync`.
-use Rattle.std.specs.Prelude.{◌≡◌, Bool, true, [], Result, Ok, Err}
+use Rattle.std.specs.Prelude.{◌≡◌, Bool, true, Result, Ok, Err}
 use Rattle.rev_core.specs.Rev.{RevId}
 use Rattle.rev_tree.specs.Tree.{has, is_leaf}
 use Rattle.rev_tree.specs.Agreement.{Agree, IsWhole}
@@ -7,7 +7,7 @@ use Rattle.doc_json.specs.Document.{Document}
 use Rattle.doc_json.specs.Chosen.{is_chosen}
 use Rattle.couch_base.specs.Lists.{Among}
 use Rattle.couch_base.specs.Database.{Id, DatabaseValue, tree_of}
-use Rattle.repl_peer.specs.peer.Peer.{PeerValue, SessionValue}
+use Rattle.repl_peer.specs.peer.Peer.{PeerValue, SessionValue, RefusedValue}
 use Rattle.repl_target.specs.replication.Replication.{SameDocument, Replicates}
 use Rattle.repl_target.specs.ties.Ties.{IsTiedPair}
 use Rattle.repl_target.specs.declared.replication.sync.SyncFault.{SyncFault}
@@ -37,9 +37,10 @@ abbrev pub KnowsLeaves : DatabaseValue → DatabaseValue → Id → Type 0
 KnowsLeaves knower db id =
     (leaf : RevId) → is_leaf (tree_of db.docs id) leaf ≡ true → has (tree_of knower.docs id) leaf ≡ true
 
--- no session of a peer has refused a document
-abbrev pub HasRefusedNone : PeerValue → Type 0
-HasRefusedNone p = (s : SessionValue) → Among s p.sessions → s.ledger ≡ []
+-- no session of a peer has refused this document
+abbrev pub HasRefusedNone : PeerValue → Id → Type 0
+HasRefusedNone p id =
+    (s : SessionValue) → Among s p.sessions → (x : RefusedValue) → Among x s.ledger → x.doc.id ≡ id → ⊥
 
 -- what both ways leave of a document: each side knows the other's leaves. Where the trees before agreed and no history
 -- was cut off, both sides have the same document
@@ -48,9 +49,13 @@ pub record Meets (a b a' b' : DatabaseValue) (id : Id) : Type 0 where
   pub back : KnowsLeaves a' b' id
   pub same : Agree (tree_of a.docs id) (tree_of b.docs id) → IsWhole (tree_of a.docs id) → IsWhole (tree_of b.docs id)
       → SameDocument a' b' id
+  -- and both premises hold again
+  pub agree : Agree (tree_of a.docs id) (tree_of b.docs id) → Agree (tree_of a'.docs id) (tree_of b'.docs id)
+  pub whole : IsWhole (tree_of a.docs id) → IsWhole (tree_of b.docs id)
+      → IsWhole (tree_of a'.docs id) × IsWhole (tree_of b'.docs id)
 
--- each document that is chosen both ways, from peers that are tied each way, where neither side has refused a document
+-- each document that is chosen both ways, from peers that are tied each way, where neither side has refused it
 abbrev pub MeetBoth : PeerValue → PeerValue → PeerValue → PeerValue → Plan → Plan → Type 0
 MeetBoth a b a' b' there back =
-    IsTiedPair a b there.chosen → IsTiedPair b a back.chosen → HasRefusedNone a' → HasRefusedNone b'
-    → (id : Id) → is_chosen there.chosen id ≡ true → is_chosen back.chosen id ≡ true → Meets a.db b.db a'.db b'.db id
+    IsTiedPair a b there.chosen → IsTiedPair b a back.chosen → (id : Id) → HasRefusedNone a' id → HasRefusedNone b' id
+    → is_chosen there.chosen id ≡ true → is_chosen back.chosen id ≡ true → Meets a.db b.db a'.db b'.db id

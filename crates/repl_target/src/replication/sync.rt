@@ -2,7 +2,7 @@
 ghost use Rattle.std.specs.Prelude.{◌≡◌, List, OnOk};
 ghost use Rattle.doc_json.specs.Chosen.{Choice};
 ghost use Rattle.repl_peer.specs.peer.Backups.{BackupValue};
-ghost use Rattle.repl_target.specs.ties.Ties.{IsTiedWith};
+ghost use Rattle.repl_target.specs.ties.Ties.{IsTiedWith, StaysTied};
 ghost use Rattle.repl_target.specs.replication.Sync.{Syncs, MeetBoth};
 ghost use Rattle.repl_peer.specs.peer.Law.{Lawful};
 
@@ -34,12 +34,13 @@ pub enum SyncFault {
 /// Replicates both ways, by one thread: first `a` into `b`, then, where that was refused nothing, `b` into `a`. Each way
 /// is `replicate_alone` by the plan of its own, whose session is of its own target.
 ///
-/// Where each of the two is tied to the other (docs/PROFILE.md, "Tied peers"), and neither has refused a document, then
-/// at `Ok` each side knows every leaf that the other has of a document which both plans choose. Where the trees that the
-/// two had of it agreed, no revision with two parents or two contents, and no history was cut off, both sides have the
-/// same revisions, the same parents and the same contents of leaves afterwards, and so the same winner.
+/// Where each of the two is tied to the other (docs/PROFILE.md, "Tied peers"), then at `Ok` each side knows every leaf
+/// that the other has of a document which both plans choose and neither has refused. Where the trees that the two had of
+/// it agreed, no revision with two parents or two contents, and no history was cut off, both sides have the same
+/// revisions, the same parents and the same contents of leaves afterwards, and so the same winner; and their trees agree
+/// and are whole again.
 ///
-/// Tied peers stay tied each way, whatever the answer.
+/// Tied peers stay tied each way, whatever the answer, and each of the two stays tied to every third one.
 pub fn sync_alone<F: WriteFilter, G: WriteFilter>(
     alloc: Global,
     a: &mut Peer<F>,
@@ -56,6 +57,7 @@ pub fn sync_alone<F: WriteFilter, G: WriteFilter>(
         → IsTiedWith backups a.old.1 b.old.1 chosen → IsTiedWith backups a.new.1 b.new.1 chosen }
     ensures tied_back { (chosen : Choice) (backups : List BackupValue)
         → IsTiedWith backups b.old.1 a.old.1 chosen → IsTiedWith backups b.new.1 a.new.1 chosen }
+    ensures others { StaysTied a.old.1 a.new.1 b.old.1.db.uuid × StaysTied b.old.1 b.new.1 a.old.1.db.uuid }
     ensures meet { OnOk result (MeetBoth a.old.1 b.old.1 a.new.1 b.new.1 there.now back.now) }
 {
     a.law();

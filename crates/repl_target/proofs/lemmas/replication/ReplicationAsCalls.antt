@@ -21,13 +21,14 @@ use Rattle.repl_peer.specs.session.Sessions.{new_session, begun, after_append, c
 use Rattle.repl_peer.specs.session.Settling.{settle_check, settling_of, settled_before, after_all, after_documents, after_front, after_stop, settled_at, after_settle, SettlesAt, Settles, SettleGives, stopped_at}
 use Rattle.repl_peer.specs.logs.Checkpoint.{rep_between}
 use Rattle.repl_target.specs.Audit.{audit_answer, CoversFeed}
-use Rattle.repl_target.specs.replication.Replication.{Reading, is_batch, beginning_between, begins_answer, after_begins, next_window, parcel_for, Carries, WindowRefused, Reads, ReadsAll, ReadsUntil, is_due, first_reading, closed, closed_as, PutsOver, Replicates, not_planned, no_memory, not_begun, cut, ended, IsReported}
+use Rattle.repl_target.specs.replication.Replication.{Reading, is_batch, plan_answer, beginning_between, begins_answer, after_begins, next_window, parcel_for, Carries, WindowRefused, Reads, ReadsAll, ReadsUntil, is_due, first_reading, closed, closed_as, PutsOver, Replicates, not_planned, no_memory, not_begun, cut, ended, IsReported}
 use Rattle.repl_target.proofs.lemmas.replication.BegunSessions.{fresh_of}
 use Rattle.couch_base.specs.ListLaws.{some_is, none_some}
 use Rattle.couch_base.specs.MemberLaws.{any_from}
 use Rattle.repl_target.specs.replication.Calls.{Call, Append, Settle, Stop, Record, Conclude, after_call, after_calls, IsPageOf, IsFrom, AllFrom, IsGrown, IsLeft}
 use Rattle.repl_peer.specs.peer.Backups.{BackupValue}
-use Rattle.repl_target.specs.ties.Ties.{IsTiedPair, IsTiedWith, IsSentEntry}
+use Rattle.repl_target.specs.ties.Ties.{IsTiedPair, IsTiedWith}
+use Rattle.repl_target.specs.replication.Leaves.{IsPut}
 use Rattle.repl_peer.specs.peer.Later.{IsLaterPeer}
 use Rattle.repl_peer.specs.logs.Logs.{after_put_entry}
 use Rattle.repl_log.specs.Entry.{EntryValue}
@@ -194,6 +195,13 @@ module _ (refuses : Document → Bool) (source : DatabaseValue) (plan : Plan) (b
 
 -- ---- a replication
 
+-- a target where all windows were read and the session was closed has grown since it began
+pub ended_grown : (refuses : Document → Bool) (source target : PeerValue) (plan : Plan) (read target' : PeerValue) → plan_answer source.db.uuid target.db.uuid plan ≡ Ok tt → ReadsAll refuses source.db plan (first_reading source target plan) read → target' ≡ closed read plan
+    → IsGrown refuses source.db plan.chosen plan.session (after_begins source target plan) target'
+ended_grown refuses source target plan read target' planned reads is =
+    let batch = planned_batch source target plan planned in
+    grown-later refuses source.db plan.chosen plan.session (after_begins source target plan) read target' (all_grown refuses source.db plan batch (first_reading source target plan) read reads) (closed_grown refuses source.db plan batch read target' is)
+
 -- what a replication by one thread leaves of its target
 pub replicates_left : (refuses : Document → Bool) (source target : PeerValue) (plan : Plan) (result : Result Report TargetFault) (source' target' : PeerValue) → Replicates refuses source target plan result source' target' → IsLeft refuses source target plan target'
 replicates_left refuses source target plan result source' target' (not_planned h) = inl refl
@@ -201,9 +209,7 @@ replicates_left refuses source target plan result source' target' (no_memory h) 
 replicates_left refuses source target plan result source' target' (not_begun h k) = inl refl
 replicates_left refuses source target plan result source' target' (cut planned begun reads) =
     inr (begun, until_grown refuses source.db plan (planned_batch source target plan planned) (first_reading source target plan) _ target' reads)
-replicates_left refuses source target plan result source' target' (ended read planned begun reads closes) =
-    let batch = planned_batch source target plan planned in
-    inr (begun, grown-later refuses source.db plan.chosen plan.session (after_begins source target plan) read target' (all_grown refuses source.db plan batch (first_reading source target plan) read reads) (closed_grown refuses source.db plan batch read target' closes.at_target))
+replicates_left refuses source target plan result source' target' (ended read planned begun reads closes) = inr (begun, ended_grown refuses source target plan read target' planned reads closes.at_target)
 
 -- the law and what covers, from a target to where it is left
 pub begun_law : (refuses : Document → Bool) (source target : PeerValue) (plan : Plan) → LawfulSessions refuses target → LawfulSessions refuses (after_begins source target plan) × IsLaterPeer target (after_begins source target plan)
@@ -241,17 +247,12 @@ left_tied refuses source target plan now other law l (inr grown) h =
 
 -- ---- both sides
 
--- the source is as it was given, or an entry of the target's was put into its log
-abbrev pub IsPut : PeerValue → PeerValue → Choice → PeerValue → Type 0
-IsPut source target chosen source' =
-    (source' ≡ source) ⊎ (e : EntryValue) × IsSentEntry target e × (source' ≡ after_put_entry source (rep_between source target chosen) e)
-
 pub puts_over : (source target : PeerValue) (plan : Plan) (entry : EntryValue) (put : Result (Unit {0}) AllocError) (source' : PeerValue) → session_answer target plan.session (λ s. Ok (entry_of s)) ≡ Ok entry → PutsOver source (rep_between source target plan.chosen) entry put source'
     → IsPut source target plan.chosen source'
 puts_over source target plan entry (Ok done) source' told h = inr (entry, sent_entry target plan.session entry told, h)
 puts_over source target plan entry (Err refused) source' told h = inl h
 
-replicates_puts : (refuses : Document → Bool) (source target : PeerValue) (plan : Plan) (result : Result Report TargetFault) (source' target' : PeerValue) → Replicates refuses source target plan result source' target' → IsPut source target' plan.chosen source'
+pub replicates_puts : (refuses : Document → Bool) (source target : PeerValue) (plan : Plan) (result : Result Report TargetFault) (source' target' : PeerValue) → Replicates refuses source target plan result source' target' → IsPut source target' plan.chosen source'
 replicates_puts refuses source target plan result source' target' (not_planned h) = inl refl
 replicates_puts refuses source target plan result source' target' (no_memory h) = inl refl
 replicates_puts refuses source target plan result source' target' (not_begun h k) = inl refl
@@ -301,9 +302,7 @@ replicates_whole refuses source target plan result source' target' law l l' (not
 replicates_whole refuses source target plan result source' target' law l l' (cut planned begun reads) tied = tt
 replicates_whole refuses source target plan (Err why) source' target' law l l' (ended read planned begun reads closes) tied = tt
 replicates_whole refuses source target plan (Ok report) source' target' law l l' (ended read planned begun reads closes) tied =
-    let batch = planned_batch source target plan planned in
-    let grown = grown-later refuses source.db plan.chosen plan.session (after_begins source target plan) read target' (all_grown refuses source.db plan batch (first_reading source target plan) read reads) (closed_grown refuses source.db plan batch read target' closes.at_target) in
-    reported_whole refuses source target plan target' report law l l' begun grown tied
+    reported_whole refuses source target plan target' report law l l' begun (ended_grown refuses source target plan read target' planned reads closes.at_target) tied
 
 -- so an audit of what comes back is clean, whichever choice is looked at
 pub tied_clean : (refuses : Document → Bool) (source target source' target' : PeerValue) → LawfulSessions refuses target' → ((chosen : Choice) (backups : List BackupValue) → IsTiedWith backups source target chosen → IsTiedWith backups source' target' chosen)

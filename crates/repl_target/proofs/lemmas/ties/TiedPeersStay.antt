@@ -218,7 +218,7 @@ entry_with log e x m =
     m
 
 -- what is in a log after an entry was put was in it before, or is that entry, and the log that of its replication
-log_with : (logs : List (RepId × List EntryValue)) (rep : RepId) (e : EntryValue) (own : RepId) (x : EntryValue) → Among x (log_in (logs_with logs rep e) own) → (own ≡ rep) × (x ≡ e) ⊎ Among x (log_in logs own)
+pub log_with : (logs : List (RepId × List EntryValue)) (rep : RepId) (e : EntryValue) (own : RepId) (x : EntryValue) → Among x (log_in (logs_with logs rep e) own) → (own ≡ rep) × (x ≡ e) ⊎ Among x (log_in logs own)
 log_with [] rep e own x m =
     cond_both (same_rep own rep) (e ∷ []) [] (λ (l : List EntryValue). Among x l → (own ≡ rep) × (x ≡ e) ⊎ ⊥)
     (λ t k. elim k [ inl i ↦ inl (same_rep-is own rep t, i) | inr n ↦ absurd n ])

@@ -1,0 +1,36 @@
+-- What a replication leaves of two peers, by one thread or by many: docs/PROFILE.md, "Replication by one thread", "The
+-- pool" and "Tied peers".
+use Rattle.std.specs.Prelude.{◌≡◌, ◌⊎◌, Bool, List}
+use Rattle.rev_tree.specs.Agreement.{IsGrownBy}
+use Rattle.doc_json.specs.Document.{Document}
+use Rattle.doc_json.specs.Chosen.{Choice}
+use Rattle.couch_base.specs.Database.{Id, DatabaseValue, tree_of}
+use Rattle.repl_log.specs.Entry.{EntryValue}
+use Rattle.repl_peer.specs.logs.Checkpoint.{rep_between}
+use Rattle.repl_peer.specs.logs.Logs.{after_put_entry}
+use Rattle.repl_peer.specs.peer.Backups.{BackupValue}
+use Rattle.repl_peer.specs.peer.Peer.{PeerValue}
+use Rattle.repl_target.specs.declared.replication.Plan.{Plan}
+use Rattle.repl_target.specs.ties.Ties.{IsTiedWith, IsSentEntry, KeepsOthersTied}
+use Rattle.repl_target.specs.replication.Calls.{IsLeft}
+
+-- each tree of a database has grown from an older one's by what another has
+abbrev pub HasGrownBy : DatabaseValue → DatabaseValue → DatabaseValue → Type 0
+HasGrownBy old other now = (id : Id) → IsGrownBy (tree_of old.docs id) (tree_of other.docs id) (tree_of now.docs id)
+
+-- the source is as it was given, or an entry of the target's was put into its log
+abbrev pub IsPut : PeerValue → PeerValue → Choice → PeerValue → Type 0
+IsPut source target chosen source' =
+    (source' ≡ source)
+    ⊎ (e : EntryValue) × IsSentEntry target e × (source' ≡ after_put_entry source (rep_between source target chosen) e)
+
+-- the two: of the source only the log, where an entry may have been put; the target as it was given or grown by calls of
+-- the plan's session; and tied, the two and others, as they were
+pub record Leaves (refuses : Document → Bool) (source target : PeerValue) (plan : Plan) (source' target' : PeerValue)
+    : Type 0 where
+  pub log : source' ≡ record source { outgoing = source'.outgoing }
+  pub put : IsPut source target' plan.chosen source'
+  pub left : IsLeft refuses source target plan target'
+  pub tied : (chosen : Choice) (backups : List BackupValue) → IsTiedWith backups source target chosen
+      → IsTiedWith backups source' target' chosen
+  pub others : KeepsOthersTied source target source' target'
