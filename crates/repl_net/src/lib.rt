@@ -1,0 +1,16 @@
+//! Any number of peers, and replications between any two of them: a crate of theorems.
+//!
+//! The rules stand in docs/PROFILE.md: "Nets".
+#![tactic(auto)]
+
+mod along;
+mod fault;
+mod hop;
+mod hub;
+mod net;
+
+pub use along::{edit_at, load_at, replicate_along};
+pub use fault::NetFault;
+pub use hop::Hop;
+pub use hub::sync_by_hub;
+pub use net::Net;
