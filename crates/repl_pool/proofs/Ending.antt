@@ -15,13 +15,14 @@ use Rattle.repl_peer.specs.peer.Law.{LawfulSessions}
 use Rattle.std.specs.List.{find}
 use Rattle.std.proofs.lemmas.Option.{same_Some}
 use Rattle.repl_peer.specs.session.Sessions.{new_session, begun as begun_by, found_answer, on_found, recorded_at, after_record, report_of, conclude_in, conclude_answer, after_conclude}
-use Rattle.repl_target.specs.replication.Replication.{begins_answer, after_begins, beginning_between}
+use Rattle.repl_target.specs.replication.Replication.{begins_answer, after_begins, beginning_between, IsReported}
 use Rattle.repl_peer.proofs.lemmas.peer.LaterPeers.{session_found}
 use Rattle.repl_target.proofs.lemmas.replication.SourceFeedStored.{found-is}
 use Rattle.repl_target.specs.replication.Calls.{Record, Conclude, IsGrown, after_calls}
 use Rattle.repl_target.proofs.lemmas.replication.CallLaws.{calls_law}
 use Rattle.repl_target.proofs.lemmas.replication.ReplicationAsCalls.{grown-later, grown-one}
 use Rattle.repl_target.proofs.lemmas.replication.BegunSessions.{later_session, later_covers}
+use Rattle.repl_target.proofs.lemmas.replication.EmptyTargetCopied.{copied}
 use Rattle.repl_pool.specs.Grown.{GrownPeer}
 use Rattle.repl_pool.specs.Runs.{EndsWell}
 use Rattle.repl_peer.specs.session.ReadCounts.{read_of, read_in}
@@ -88,23 +89,26 @@ ends_well refuses source target plan p now report n law l ok grown reads answer 
     let read_is : report.counts.read ≡ t.session.counts.read = ap (λ (r : Report). r.counts.read) is in
     let was : read_in p.sessions plan.session ≡ c.session.counts.read = ap read_of c.was in
     let kept : t.session.counts.read ≡ c.session.counts.read = ap (λ (s : SessionValue). s.counts.read) same in
+    let reported : IsReported source target now plan report = record {
+      session = t.session;
+      held = found;
+      is = is;
+      rep = t.rep;
+      life = t.life;
+      base = t.base;
+      goal = t.goal;
+      start = ap (λ (r : Report). r.start) is ∙ t.start;
+      recorded = ap (λ (r : Report). r.recorded) is ∙ recorded;
+      counts =
+          let w = ap (λ (r : Report). r.counts.written) is in
+          let f = ap (λ (r : Report). r.counts.failures) is in
+          omega (arith, read_is, w, f, own.read);
+    } in
+    let covered = later_covers refuses source target plan now l' t (omega (arith, recorded)) in
     record {
-      reported = record {
-        session = t.session;
-        held = found;
-        is = is;
-        rep = t.rep;
-        life = t.life;
-        base = t.base;
-        goal = t.goal;
-        start = ap (λ (r : Report). r.start) is ∙ t.start;
-        recorded = ap (λ (r : Report). r.recorded) is ∙ recorded;
-        counts =
-            let w = ap (λ (r : Report). r.counts.written) is in
-            let f = ap (λ (r : Report). r.counts.failures) is in
-            omega (arith, read_is, w, f, own.read);
-      };
-      covered = later_covers refuses source target plan now l' t (omega (arith, recorded));
+      reported = reported;
+      covered = covered;
+      copied = copied refuses source target plan now report law ok whole l' reported covered;
       sum = omega (arith, reads, was, kept, read_is);
     }
 

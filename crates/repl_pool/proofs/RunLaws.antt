@@ -14,6 +14,7 @@ use Rattle.repl_target.specs.declared.replication.Plan.{Plan}
 use Rattle.repl_target.specs.replication.Calls.{IsGrown, IsLeft}
 use Rattle.repl_target.specs.Audit.{CoversFeed}
 use Rattle.repl_target.specs.ties.Ties.{IsTiedPair}
+use Rattle.repl_target.proofs.lemmas.replication.OthersStayTied.{others_same, others_tied}
 use Rattle.repl_peer.specs.peer.Covered.{Leaf, covers, first_uncovered}
 use Rattle.repl_peer.specs.peer.Peer.{PeerValue}
 use Rattle.repl_peer.specs.peer.Law.{LawfulSessions}
@@ -170,6 +171,7 @@ module _ {F : Type 0} (refuses : F → Document → Bool) (may_fill : Type 0) (m
     grown = (refl, inl refl);
     later = IsLaterPeer-same target.1;
     tied = λ _ _ tied. tied;
+    others = others_same source.1 target.1;
     audited = λ chosen. tied_none (refuses target.0) source.1 target.1 chosen lawful;
     put = inl (refl, refl, record { fault = why; told = refl; due = inl early });
     well = tt;
@@ -189,6 +191,7 @@ module _ {F : Type 0} (refuses : F → Document → Bool) (may_fill : Type 0) (m
         grown = (refl, inl refl);
         later = IsLaterPeer-same target.1;
         tied = λ _ _ tied. tied;
+        others = others_same source.1 target.1;
         audited = λ chosen. tied_none (refuses target.0) source.1 target.1 chosen lawful;
         put = inl (
           refl,
@@ -215,7 +218,8 @@ module _ {F : Type 0} (refuses : F → Document → Bool) (may_fill : Type 0) (m
       let l' : LawfulSessions (refuses target.0) target'.1 = (left_law (refuses target.0) source.1 target.1 plan target'.1 law lawful left).0 in
       let late = run_late refuses may_fill may_stop source.1 target.1 begun plan start counts source'.1 target'.1 law lawful_begun ok is first outcome e in
       let same_db = ap (λ (q : PeerValue). q.db) log in
-      let tied = both_tied (refuses target.0) source.1 target.1 plan source'.1 target'.1 law lawful left (puts_over source.1 target'.1 plan late.1.entry late.1.put source'.1 late.1.told late.1.puts) same_db in
+      let put = puts_over source.1 target'.1 plan late.1.entry late.1.put source'.1 late.1.told late.1.puts in
+      let tied = both_tied (refuses target.0) source.1 target.1 plan source'.1 target'.1 law lawful left put same_db in
       let well = run_well refuses may_fill may_stop source.1 target.1 begun plan start counts source'.1 target'.1 law lawful_begun ok is first outcome e in
       record {
         early = subst (λ r. EarlyOrLate may_fill may_stop r source target source' target' counts outcome) (sym early) late.0;
@@ -224,6 +228,7 @@ module _ {F : Type 0} (refuses : F → Document → Bool) (may_fill : Type 0) (m
         grown = (more.0 ∙ same, left);
         later = (left_law (refuses target.0) source.1 target.1 plan target'.1 law lawful left).1;
         tied = tied;
+        others = others_tied (refuses target.0) source.1 target.1 plan source'.1 target'.1 law lawful log put left;
         audited = tied_clean (refuses target.0) source.1 target.1 source'.1 target'.1 l' tied;
         put = inr (record {
           begun = ok;

@@ -1,14 +1,25 @@
 -- What a run leaves, for two runs, one each way.
-use Rattle.std.proofs.Common.{ℕ, Bool, List, Result}
+use Rattle.std.proofs.Common.{ℕ, Bool, List, Result, ap, inl, inr}
 use Rattle.doc_json.specs.Document.{Document}
 use Rattle.repl_peer.specs.peer.Peer.{PeerValue}
 use Rattle.repl_peer.specs.declared.fault.Report.{Report}
 use Rattle.repl_target.specs.declared.replication.Plan.{Plan}
-use Rattle.repl_target.proofs.lemmas.replication.BothWays.{Leaves}
-use Rattle.repl_pool.specs.Runs.{Runs}
+use Rattle.repl_target.specs.replication.Leaves.{IsPut, Leaves}
+use Rattle.repl_target.proofs.lemmas.replication.ReplicationAsCalls.{puts_over}
+use Rattle.repl_pool.specs.Runs.{LeavesOrPuts, Runs}
 use Rattle.repl_pool.specs.declared.gate.Place.{Place}
 use Rattle.repl_pool.specs.declared.fault.PoolFault.{PoolFault}
 
+run_puts : {F : Type 0} (plan : Plan) (source target source' target' : F × PeerValue) (outcome : Result Report PoolFault) → LeavesOrPuts plan source target source' target' outcome → IsPut source.1 target'.1 plan.chosen source'.1
+run_puts {F = F} plan source target source' target' outcome (inl same) = inl (ap (λ (p : F × PeerValue). p.1) same.0)
+run_puts plan source target source' target' outcome (inr b) = puts_over source.1 target'.1 plan b.put.entry b.put.put source'.1 b.put.told b.put.puts
+
 pub run_leaves : {F : Type 0} (refuses : F → Document → Bool) (may_stop : Place → Type 0) (plan : Plan) (source target source' target' : F × PeerValue) (fetched : List ℕ) (outcome : Result Report PoolFault) → Runs refuses may_stop plan source target source' target' fetched outcome
     → Leaves (refuses target.0) source.1 target.1 plan source'.1 target'.1
-run_leaves refuses may_stop plan source target source' target' fetched outcome runs = record { log = runs.log; left = runs.grown.1; tied = runs.tied }
+run_leaves refuses may_stop plan source target source' target' fetched outcome runs = record {
+  log = runs.log;
+  put = run_puts plan source target source' target' outcome runs.put;
+  left = runs.grown.1;
+  tied = runs.tied;
+  others = runs.others;
+}

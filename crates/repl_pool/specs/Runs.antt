@@ -12,13 +12,13 @@ use Rattle.rev_tree.specs.declared.origin.SessionId.{SessionId}
 use Rattle.repl_peer.specs.logs.Checkpoint.{rep_between}
 use Rattle.repl_target.specs.Audit.{audit_answer, CoversFeed}
 use Rattle.repl_peer.specs.peer.Backups.{BackupValue}
-use Rattle.repl_target.specs.ties.Ties.{IsTiedPair, IsTiedWith}
+use Rattle.repl_target.specs.ties.Ties.{IsTiedPair, IsTiedWith, KeepsOthersTied}
 use Rattle.repl_target.specs.replication.Calls.{IsGrown}
 use Rattle.repl_peer.specs.peer.Covered.{first_uncovered}
 use Rattle.repl_peer.specs.peer.Later.{IsLaterPeer}
 use Rattle.repl_peer.specs.peer.Peer.{PeerValue, SessionValue, session_in, entry_of}
 use Rattle.repl_peer.specs.session.ReadCounts.{read_in}
-use Rattle.repl_target.specs.replication.Replication.{PutsOver, closed, start_between, begins_answer, CoversFrom, IsReported}
+use Rattle.repl_target.specs.replication.Replication.{PutsOver, closed, start_between, begins_answer, CoversFrom, IsReported, IsEmpty, SameDocuments}
 use Rattle.repl_peer.specs.session.Sessions.{session_answer, record_answer, after_record, conclude_answer, after_conclude}
 use Rattle.repl_peer.specs.declared.fault.Report.{Report}
 use Rattle.repl_peer.specs.declared.fault.TargetFault.{TargetFault}
@@ -152,11 +152,12 @@ LeavesOrPuts plan source target source' target' outcome =
     ⊎ IsBegun source.1 target.1 source'.1 target'.1 plan outcome
 
 -- what a run that is Ok says: the report is that of the plan's session, which began at the common checkpoint and is
--- recorded at its goal; all of the source's chosen feed above the start is covered; and the fetchers' counts add up to the
--- documents read
+-- recorded at its goal; all of the source's chosen feed above the start is covered; where the target was empty and nothing
+-- failed, each chosen document is as it is at the source; and the fetchers' counts add up to the documents read
 pub record EndsWell (source target target' : PeerValue) (plan : Plan) (n : ℕ) (report : Report) : Type 0 where
   pub reported : IsReported source target target' plan report
   pub covered : CoversFrom source target' plan.chosen (start_between source target plan.chosen)
+  pub copied : IsEmpty target → report.counts.failures ≡ 0 → SameDocuments plan.chosen source.db target'.db
   pub sum : n ≡ report.counts.read
 
 -- What running the pool answers, and the two peers that it gives back; a board may be found full where there is one.
@@ -177,6 +178,8 @@ pub record RunsOn {F : Type 0} (refuses : F → Document → Bool) (may_fill : T
   pub later : IsLaterPeer target.1 target'.1
   pub tied : (chosen : Choice) (backups : List BackupValue) → IsTiedWith backups source.1 target.1 chosen
       → IsTiedWith backups source'.1 target'.1 chosen
+  -- and every other peer stays tied to the two
+  pub others : KeepsOthersTied source.1 target.1 source'.1 target'.1
   -- so an audit of what comes back is clean, where the pair was tied
   pub audited : (chosen : Choice) → IsTiedPair source.1 target.1 chosen
       → audit_answer source'.1 target'.1 chosen ≡ None

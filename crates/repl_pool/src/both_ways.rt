@@ -2,7 +2,7 @@
 ghost use Rattle.std.specs.Prelude.{List, OnOk};
 ghost use Rattle.doc_json.specs.Chosen.{Choice};
 ghost use Rattle.repl_peer.specs.peer.Backups.{BackupValue};
-ghost use Rattle.repl_target.specs.ties.Ties.{IsTiedWith};
+ghost use Rattle.repl_target.specs.ties.Ties.{IsTiedWith, StaysTied};
 ghost use Rattle.repl_target.specs.replication.Sync.{MeetBoth};
 ghost use Rattle.repl_pool.specs.Sync.{SyncRuns};
 
@@ -41,9 +41,9 @@ pub struct SyncRan<F: WriteFilter> {
 /// `run` by the plan of its own, whose session is of its own target; the gate is that of both.
 ///
 /// What stands at `Ok` is what stands there after `sync_alone`: where each of the two is tied to the other
-/// (docs/PROFILE.md, "Tied peers"), and neither has refused a document, each side knows every leaf that the other has of a
-/// document which both plans choose; where the trees agreed before and no history was cut off, both sides hold the same.
-/// Tied peers stay tied each way, whatever the answer.
+/// (docs/PROFILE.md, "Tied peers"), each side knows every leaf that the other has of a document which both plans choose
+/// and neither has refused; where the trees agreed before and no history was cut off, both sides hold the same.
+/// Tied peers stay tied each way, whatever the answer, and each of the two stays tied to every third one.
 ///
 /// It waits. That it ends is not proved.
 pub fn sync<F: WriteFilter + Send + Sync, G: Gate + Sync, R: Threads + Wait + Sync>(
@@ -60,6 +60,7 @@ pub fn sync<F: WriteFilter + Send + Sync, G: Gate + Sync, R: Threads + Wait + Sy
         → IsTiedWith backups a.1 b.1 chosen → IsTiedWith backups result.a.1 result.b.1 chosen }
     ensures tied_back { (chosen : Choice) (backups : List BackupValue)
         → IsTiedWith backups b.1 a.1 chosen → IsTiedWith backups result.b.1 result.a.1 chosen }
+    ensures others { StaysTied a.1 result.a.1 b.1.db.uuid × StaysTied b.1 result.b.1 a.1.db.uuid }
     ensures meet { OnOk result.outcome (MeetBoth a.1 b.1 result.a.1 result.b.1 there.now back.now) }
 {
     a.law();

@@ -261,10 +261,12 @@ fn run_with<F: WriteFilter + Send + Sync, G: Gate + Sync, R: Threads + Wait + Sy
 ///
 /// At `Ok` each leaf of the source's feed above the start is covered at the target, the report is that of the session,
 /// which began at the common checkpoint and is recorded at the source's update sequence, and what the fetchers fetched
-/// adds up to the documents read; where the pair was tied, each leaf of the source's whole chosen feed is covered then,
-/// those at or under the start too. Whatever the answer, the source is the given one but for its log, and the target is
-/// the given one, or after the session has begun there and calls of the session whose messages are what the source
-/// answers: it keeps all that it held, a tied pair stays tied, and an audit of a pair that was tied is clean.
+/// adds up to the documents read; where the target was empty and nothing failed, each chosen document has the revisions,
+/// the parents and the contents of leaves that it has at the source; where the pair was tied, each leaf of the source's
+/// whole chosen feed is covered then, those at or under the start too. Whatever the answer, the source is the given one
+/// but for its log, and the target is the given one, or after the session has begun there and calls of the session whose
+/// messages are what the source answers: it keeps all that it held, a tied pair stays tied, every third peer stays tied
+/// to each of the two, and an audit of a pair that was tied is clean.
 ///
 /// It waits. That it ends is not proved.
 pub fn run<F: WriteFilter + Send + Sync, G: Gate + Sync, R: Threads + Wait + Sync>(
