@@ -41,6 +41,10 @@ mod pool_schedules;
 // Values that go into a thread and come back.
 mod crossings;
 
+// Nets of peers.
+mod net_rows;
+mod nets;
+
 // Worlds.
 mod world_rows;
 mod worlds;

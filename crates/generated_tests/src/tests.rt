@@ -26,6 +26,9 @@ mod plain_sides;
 // Pairs that are replicated both ways.
 mod syncs;
 
+// Nets of several peers.
+mod nets;
+
 // A peer beside its plain side.
 mod sides;
 

@@ -8,6 +8,7 @@ mod databases;
 mod documents;
 mod fronts;
 mod logs;
+mod nets;
 mod peers;
 mod pools;
 mod replications;
@@ -31,6 +32,7 @@ fn main(rt: HostRuntime) -> Result<()> {
     replications::run(&rt, rt.alloc())?;
     choices::run(&rt, rt.alloc())?;
     worlds::run(&rt, rt.alloc())?;
+    nets::run(&rt, rt.alloc())?;
     pools::run(&rt, rt.alloc())?;
     Ok(())
 }

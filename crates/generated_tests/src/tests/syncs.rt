@@ -3,7 +3,7 @@
 use crate::tests::feeds::id;
 use crate::tests::merges::below;
 use crate::tests::plain_sides::IDS;
-use doc_json::{Body, read_body};
+use doc_json::{Body, DocId, read_body};
 use rand_chacha::ChaCha8Rng;
 use rand_core::SeedableRng;
 use repl_log::Moment;
@@ -21,21 +21,41 @@ use std::thread::Threads;
 const MEETINGS: usize = 3;
 
 /// A body by chance, of few, so that both sides make the same change now and then.
-fn body(rt: &impl Abort, alloc: Global, rng: &mut ChaCha8Rng) -> Body {
+pub(crate) fn body(rt: &impl Abort, alloc: Global, rng: &mut ChaCha8Rng) -> Body {
     let text = format!(in alloc; "{{\"n\":{}}}", below(rng, 3)).expect(rt, "memory");
     let value = Value::from_slice(alloc, text.as_bytes()).expect(rt, "a value");
     read_body(alloc, &value).expect(rt, "a body")
 }
 
 /// A leaf of a tree by chance; none, where there is no tree.
-fn leaf(rt: &impl Abort, alloc: Global, rng: &mut ChaCha8Rng, tree: Option<&Tree>) -> Option<Rev> {
+pub(crate) fn leaf(
+    rt: &impl Abort,
+    alloc: Global,
+    rng: &mut ChaCha8Rng,
+    tree: Option<&Tree>,
+) -> Option<Rev> {
     let leaves = tree?.leaves(alloc).expect(rt, "memory");
     let leaves = leaves.as_slice();
     let place = below(rng, 60) % leaves.len().max(1);
     leaves.get(place).copied()
 }
 
-/// Edits of documents by chance: each makes one, or changes or deletes a leaf of it.
+/// Makes a document, or changes or deletes a leaf of it.
+fn edit_one(
+    rt: &impl Abort,
+    alloc: Global,
+    rng: &mut ChaCha8Rng,
+    peer: &mut Peer<Rules>,
+    number: usize,
+) {
+    let id = id(rt, alloc, number);
+    let parent = leaf(rt, alloc, rng, peer.db().tree(&id));
+    let deleted = parent.is_some() && below(rng, 5) == 0;
+    let body = body(rt, alloc, rng);
+    let _revised = peer.edit(&id, parent, deleted, &body);
+}
+
+/// Edits of documents by chance.
 fn edit(
     rt: &impl Abort,
     alloc: Global,
@@ -44,11 +64,22 @@ fn edit(
     edits: usize,
 ) {
     for _ in 0..edits {
-        let id = id(rt, alloc, below(rng, IDS as u32));
-        let parent = leaf(rt, alloc, rng, peer.db().tree(&id));
-        let deleted = parent.is_some() && below(rng, 5) == 0;
-        let body = body(rt, alloc, rng);
-        let _revised = peer.edit(&id, parent, deleted, &body);
+        let number = below(rng, IDS as u32);
+        edit_one(rt, alloc, rng, peer, number);
+    }
+}
+
+/// The same of all documents but d0.
+fn edit_others(
+    rt: &impl Abort,
+    alloc: Global,
+    rng: &mut ChaCha8Rng,
+    peer: &mut Peer<Rules>,
+    edits: usize,
+) {
+    for _ in 0..edits {
+        let number = below(rng, IDS as u32 - 1) % (IDS - 1);
+        edit_one(rt, alloc, rng, peer, 1 + number);
     }
 }
 
@@ -80,21 +111,41 @@ fn is_same_leaf(rt: &impl Abort, alloc: Global, one: &Tree, other: &Tree, leaf: 
     }
 }
 
+/// Whether two peers hold the same of a document.
+fn is_same(rt: &impl Abort, alloc: Global, a: &Peer<Rules>, b: &Peer<Rules>, id: &DocId) -> bool {
+    match (a.db().tree(id), b.db().tree(id)) {
+        (Some(one), Some(other)) => are_same(rt, alloc, one, other),
+        (None, None) => true,
+        _ => false,
+    }
+}
+
 /// Asserts that two peers hold the same documents.
-fn assert_same(rt: &impl Abort, alloc: Global, a: &Peer<Rules>, b: &Peer<Rules>) {
+pub(crate) fn assert_same(rt: &impl Abort, alloc: Global, a: &Peer<Rules>, b: &Peer<Rules>) {
     for number in 0..IDS {
-        let id = id(rt, alloc, number);
-        let same = match (a.db().tree(&id), b.db().tree(&id)) {
-            (Some(one), Some(other)) => are_same(rt, alloc, one, other),
-            (None, None) => true,
-            _ => false,
-        };
+        let same = is_same(rt, alloc, a, b, &id(rt, alloc, number));
         assert!(rt; same, "a document is the same on both sides");
     }
 }
 
+/// Asserts that two peers hold the same documents but for d0, which the second one has never taken.
+fn assert_same_but_d0(rt: &impl Abort, alloc: Global, a: &Peer<Rules>, b: &Peer<Rules>) {
+    for number in 1..IDS {
+        let same = is_same(rt, alloc, a, b, &id(rt, alloc, number));
+        assert!(rt; same, "a document that nobody refused is the same");
+    }
+    let d0 = id(rt, alloc, 0);
+    assert!(rt; a.db().tree(&d0).is_some(), "one side has the other one");
+    assert!(rt; b.db().tree(&d0).is_none(), "the other side hasn't");
+}
+
 /// A plan of the next session, with windows that scan 1 to 4 rows by chance.
-fn plan(rt: &impl Abort, rng: &mut ChaCha8Rng, workers: u64, sessions: &mut u128) -> Plan {
+pub(crate) fn plan(
+    rt: &impl Abort,
+    rng: &mut ChaCha8Rng,
+    workers: u64,
+    sessions: &mut u128,
+) -> Plan {
     *sessions = sessions.saturating_add(1);
     Plan {
         session: SessionId(*sessions),
@@ -146,6 +197,51 @@ fn of_seed<R: Abort + Threads + Wait + Sync>(rt: &R, alloc: Global, seed: u64, w
             assert!(rt; again == 0 || carried == 0, "nothing is left to carry");
             (a, b) = (one, other);
         }
+    }
+}
+
+/// Edits d0 at the side that has it.
+fn edit_d0(rt: &impl Abort, alloc: Global, rng: &mut ChaCha8Rng, peer: &mut Peer<Rules>) {
+    let id = id(rt, alloc, 0);
+    let parent = leaf(rt, alloc, rng, peer.db().tree(&id));
+    let body = body(rt, alloc, rng);
+    let _revised = peer.edit(&id, parent, false, &body);
+}
+
+/// A peer that refuses d0.
+fn refusing(rt: &impl Abort, alloc: Global) -> Peer<Rules> {
+    let deny = "d0".to_string(alloc).expect(rt, "memory");
+    Peer::new(alloc, 2, Rules { deny: Some(deny) })
+}
+
+/// Two peers of which the second refuses d0 each time: all other documents are the same after each meeting.
+fn beside_refusals<R: Abort + Threads + Wait + Sync>(
+    rt: &R,
+    alloc: Global,
+    seed: u64,
+    workers: u64,
+) {
+    let mut rng = ChaCha8Rng::seed_from_u64(seed);
+    let mut sessions = 0;
+    let mut a = Peer::new(alloc, 1, Rules { deny: None });
+    let mut b = refusing(rt, alloc);
+    for _ in 0..MEETINGS {
+        edit_d0(rt, alloc, &mut rng, &mut a);
+        edit(rt, alloc, &mut rng, &mut a, 12);
+        edit_others(rt, alloc, &mut rng, &mut b, 8);
+        let there = plan(rt, &mut rng, workers, &mut sessions);
+        let back = plan(rt, &mut rng, workers, &mut sessions);
+        let (one, other, synced) = meet(rt, alloc, a, b, &there, &back);
+        assert_same_but_d0(rt, alloc, &one, &other);
+        assert!(rt; 0 < synced.there.counts.failures, "d0 is refused");
+        (a, b) = (one, other);
+    }
+}
+
+#[test]
+fn ten_pairs_meet_beside_refusals(rt: HostRuntime) {
+    for seed in 0..10u64 {
+        beside_refusals(&rt, rt.alloc(), seed, seed % 4);
     }
 }
 

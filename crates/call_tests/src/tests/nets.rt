@@ -1,0 +1,250 @@
+//! Nets of peers, and the calls on these by name.
+use crate::tests::carried::leaves;
+use crate::tests::databases::{parent_of, tree};
+use crate::tests::peers::found_text;
+use crate::tests::plans::plan;
+use crate::tests::records::fault_text;
+use crate::tests::texts::{append, base_fault_text, body, doc, expect_answer};
+use doc_json::DocId;
+use repl_net::{Hop, Net, NetFault, edit_at, load_at, replicate_along, sync_by_hub};
+use repl_target::{Peer, Plan, Rules};
+use rev_tree::SessionId;
+use std::alloc::Global;
+use std::process::Abort;
+use test_texts::{rev_text, shown};
+
+/// The places of a hop: its source and its target.
+type Places = (usize, usize);
+
+/// A call on a net, whose peers are named by their places. Each replication has the next session.
+#[derive(Clone, Copy)]
+pub(crate) enum Call<'a> {
+    /// Adds a peer: its uuid, and the prefix that its filter refuses.
+    Add(u128, Option<&'a str>),
+    /// Loads a document.
+    Load(usize, &'a str),
+    /// Edits a document: its id, the parent (an empty text for none) and the body.
+    Edit(usize, &'a str, &'a str, &'a str),
+    /// Replicates along hops.
+    Along(&'a [Places]),
+    /// The same in windows of one row, of which each replication reads two at most.
+    AlongTwoRows(&'a [Places]),
+    /// Replicates by the hub, with so many plans there, and so many back.
+    Hub(usize, usize),
+    /// Audits a target, the second one, against a source.
+    Audit(usize, usize),
+    /// Reads the tree of a document.
+    Tree(usize, &'a str),
+    /// Reads the documents at the leaves of a document, winner first.
+    Leaves(usize, &'a str),
+}
+
+/// Calls, each with the text that it must answer.
+pub(crate) type Rows = &'static [(Call<'static>, &'static str)];
+
+/// Lists of calls that are made one after another.
+pub(crate) type Lists = &'static [Rows];
+
+/// A net, and the last session.
+#[derive(Drop)]
+struct Bench {
+    alloc: Global,
+    net: Net<Rules>,
+    session: u128,
+}
+
+impl Bench {
+    /// Makes a call, and gives the text of its answer.
+    fn answer(&mut self, call: &Call) -> Option<String> {
+        match *call {
+            Call::Add(uuid, deny) => self.add(uuid, deny),
+            Call::Load(place, text) => self.load(place, text),
+            Call::Edit(place, id, parent, text) => self.edit(place, id, parent, text),
+            Call::Along(places) => self.along(places, None),
+            Call::AlongTwoRows(places) => self.along(places, Some(2)),
+            Call::Hub(there, back) => self.by_hub(there, back),
+            reading => self.read(&reading),
+        }
+    }
+
+    /// Makes a call that changes nothing.
+    fn read(&self, call: &Call) -> Option<String> {
+        match *call {
+            Call::Audit(source, target) => self.audit(source, target),
+            Call::Tree(place, id) => tree(self.alloc, self.net.peer(place)?.db(), id),
+            Call::Leaves(place, id) => leaves(self.alloc, self.net.peer(place)?.db(), id),
+            _ => None,
+        }
+    }
+
+    /// Adds a peer, and tells its place.
+    fn add(&mut self, uuid: u128, deny: Option<&str>) -> Option<String> {
+        let deny = match deny {
+            Some(prefix) => Some(prefix.to_string(self.alloc).ok()?),
+            None => None,
+        };
+        match self.net.add(self.alloc, uuid, Rules { deny }) {
+            Ok(place) => shown(self.alloc, &place),
+            Err(fault) => net_fault_text(self.alloc, fault),
+        }
+    }
+
+    /// Loads a document.
+    fn load(&mut self, place: usize, text: &str) -> Option<String> {
+        let doc = doc(self.alloc, text)?;
+        match self.net.load(place, &doc) {
+            Ok(put) => shown(self.alloc, &put),
+            Err(fault) => net_fault_text(self.alloc, fault),
+        }
+    }
+
+    /// Edits a document.
+    fn edit(&mut self, place: usize, id: &str, parent: &str, text: &str) -> Option<String> {
+        let id = DocId::parse(self.alloc, id).ok()?;
+        let parent = parent_of(parent)?;
+        let body = body(self.alloc, text)?;
+        match self.net.edit(place, &id, parent, false, &body) {
+            Ok(rev) => rev_text(self.alloc, rev),
+            Err(fault) => net_fault_text(self.alloc, fault),
+        }
+    }
+
+    /// The plan of the next session, in windows of one row where it reads some of them alone.
+    fn next_plan(&mut self, stop_after: Option<u64>) -> Option<Plan> {
+        self.session = self.session.saturating_add(1);
+        let batch = if stop_after.is_some() { 1 } else { 500 };
+        let mut plan = plan(SessionId(self.session), batch, 0)?;
+        plan.stop_after = stop_after;
+        Some(plan)
+    }
+
+    /// So many plans.
+    fn plans(&mut self, count: usize) -> Option<Vec<Plan>> {
+        let mut plans = Vec::new(self.alloc);
+        for _ in 0..count {
+            plans.push(self.next_plan(None)?).ok()?;
+        }
+        Some(plans)
+    }
+
+    /// Replicates along hops.
+    fn along(&mut self, places: &[Places], stop_after: Option<u64>) -> Option<String> {
+        let mut hops = Vec::new(self.alloc);
+        for (from, to) in places {
+            let plan = self.next_plan(stop_after)?;
+            let (from, to) = (*from, *to);
+            hops.push(Hop { from, to, plan }).ok()?;
+        }
+        let done = self.net.replicate_along(self.alloc, &hops);
+        done_text(self.alloc, done)
+    }
+
+    /// Replicates by the hub.
+    fn by_hub(&mut self, there: usize, back: usize) -> Option<String> {
+        let there = self.plans(there)?;
+        let back = self.plans(back)?;
+        let done = self.net.sync_by_hub(self.alloc, &there, &back);
+        done_text(self.alloc, done)
+    }
+
+    /// Audits a target against a source.
+    fn audit(&self, source: usize, target: usize) -> Option<String> {
+        match self.net.audit(self.alloc, source, target, None) {
+            Ok(found) => found_text(self.alloc, Ok(found)),
+            Err(fault) => net_fault_text(self.alloc, fault),
+        }
+    }
+}
+
+/// How replications ended.
+fn done_text(alloc: Global, done: Result<(), NetFault>) -> Option<String> {
+    match done {
+        Ok(()) => "done".to_string(alloc).ok(),
+        Err(fault) => net_fault_text(alloc, fault),
+    }
+}
+
+/// Why a call on a net is refused.
+pub(crate) fn net_fault_text(alloc: Global, fault: NetFault) -> Option<String> {
+    match fault {
+        NetFault::Hop(at, why) => {
+            let mut all = format!(in alloc; "hop {at}: ").ok()?;
+            append(&mut all, fault_text(alloc, why))?;
+            Some(all)
+        }
+        NetFault::Write(why) => base_fault_text(alloc, why),
+        plain => shown(alloc, &plain),
+    }
+}
+
+/// Makes lists of calls on a new net, and asserts what each answers.
+pub(crate) fn expect(rt: &impl Abort, alloc: Global, lists: Lists) {
+    let mut bench = Bench {
+        alloc,
+        net: Net::new(alloc),
+        session: 0,
+    };
+    for rows in lists {
+        for (i, (call, wanted)) in rows.iter().enumerate() {
+            expect_answer(rt, i, bench.answer(call), wanted);
+        }
+    }
+}
+
+/// Three peers without documents.
+fn three(alloc: Global) -> Option<Vec<Peer<Rules>>> {
+    let mut peers = Vec::new(alloc);
+    for uuid in 1..4u64 {
+        peers
+            .push(Peer::new(alloc, uuid as u128, Rules { deny: None }))
+            .ok()?;
+    }
+    Some(peers)
+}
+
+/// Writes at two of them.
+fn write(alloc: Global, peers: &mut [Peer<Rules>]) -> Option<()> {
+    let doc = doc(alloc, r#"{"_id":"d","_rev":"1-a"}"#)?;
+    load_at(peers, 1, &doc).ok()?;
+    let id = DocId::parse(alloc, "e").ok()?;
+    let body = body(alloc, "{}")?;
+    let _rev = edit_at(peers, 2, &id, None, false, &body).ok()?;
+    Some(())
+}
+
+/// Replicates the second into the third, and then all by the first.
+fn replicate(alloc: Global, peers: &mut [Peer<Rules>]) -> Option<()> {
+    let plan = |session| plan(SessionId(session), 500, 0);
+    let hop = Hop {
+        from: 1,
+        to: 2,
+        plan: plan(1)?,
+    };
+    replicate_along(alloc, peers, &[hop]).ok()?;
+    let there = [plan(2)?, plan(3)?];
+    let back = [plan(4)?, plan(5)?];
+    sync_by_hub(alloc, peers, &there, &back).ok()
+}
+
+/// What each of three peers that wrote and replicated has of the two documents.
+fn replicated(alloc: Global) -> Option<String> {
+    let mut peers = three(alloc)?;
+    write(alloc, &mut peers)?;
+    replicate(alloc, &mut peers)?;
+    let mut all = String::new(alloc);
+    for peer in &peers {
+        append(&mut all, leaves(alloc, peer.db(), "d"))?;
+        append(&mut all, leaves(alloc, peer.db(), "e"))?;
+    }
+    Some(all)
+}
+
+/// Asserts what writes and replications on a slice of peers leave.
+pub(crate) fn of_slice(rt: &impl Abort, alloc: Global) {
+    const WANTED: &str = " d 1-a live {}; e 1-a7b2c897c2eeb544e2e818194f53a9e3 live {};";
+    let mut all = String::new(alloc);
+    for _ in 0..3 {
+        all.push_str(WANTED).expect(rt, "memory");
+    }
+    expect_answer(rt, 0, replicated(alloc), &all);
+}

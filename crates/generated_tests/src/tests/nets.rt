@@ -1,0 +1,261 @@
+//! Nets whose peers diverge by chance: by a hub, and along a ring that is gone round twice, all end with the same
+//! documents, a second time carries nothing, and no audit finds a hole; along hops by chance, whoever a chain leads to
+//! has all that its beginning had.
+use crate::tests::feeds::id;
+use crate::tests::merges::below;
+use crate::tests::plain_sides::IDS;
+use crate::tests::syncs::{assert_same, body, leaf, plan};
+use rand_chacha::ChaCha8Rng;
+use rand_core::SeedableRng;
+use repl_net::{Hop, Net};
+use repl_target::{Audit, Peer, Plan, Rules};
+use rev_core::Rev;
+use std::alloc::Global;
+use std::process::Abort;
+
+/// How many peers a net has, and how often they go on by themselves before they meet.
+const PEERS: usize = 5;
+
+const MEETINGS: usize = 3;
+
+/// Edits of documents by chance at each peer.
+fn edit(rt: &impl Abort, alloc: Global, rng: &mut ChaCha8Rng, net: &mut Net<Rules>) {
+    for place in 0..PEERS {
+        for _ in 0..6 {
+            let id = id(rt, alloc, below(rng, IDS as u32));
+            let tree = match net.peer(place) {
+                Some(peer) => peer.db().tree(&id),
+                None => None,
+            };
+            let parent = leaf(rt, alloc, rng, tree);
+            let deleted = parent.is_some() && below(rng, 5) == 0;
+            let body = body(rt, alloc, rng);
+            let _edited = net.edit(place, &id, parent, deleted, &body);
+        }
+    }
+}
+
+/// The peer at a place.
+fn at<'a>(rt: &impl Abort, net: &'a Net<Rules>, place: usize) -> &'a Peer<Rules> {
+    net.peer(place).expect(rt, "a peer")
+}
+
+/// Asserts that no audit finds a hole.
+fn assert_clean(rt: &impl Abort, alloc: Global, net: &Net<Rules>) {
+    for one in 0..PEERS {
+        for other in 0..PEERS {
+            if one != other {
+                let found = net.audit(alloc, one, other, None).expect(rt, "memory");
+                assert!(rt; matches!(found, Audit::Clean), "an audit is clean");
+            }
+        }
+    }
+}
+
+/// Asserts that all peers hold the same documents.
+fn assert_all_same(rt: &impl Abort, alloc: Global, net: &Net<Rules>) {
+    for other in 1..PEERS {
+        assert_same(rt, alloc, at(rt, net, 0), at(rt, net, other));
+    }
+}
+
+/// The update sequences of all peers, summed up.
+fn sequences(rt: &impl Abort, net: &Net<Rules>) -> u64 {
+    let mut sum = 0u64;
+    for place in 0..PEERS {
+        sum = sum.saturating_add(at(rt, net, place).db().update_seq());
+    }
+    sum
+}
+
+/// One plan for each peer behind the first.
+fn plans(rt: &impl Abort, alloc: Global, rng: &mut ChaCha8Rng, sessions: &mut u128) -> Vec<Plan> {
+    let mut plans = Vec::new(alloc);
+    for _ in 1..PEERS {
+        plans.push(plan(rt, rng, 0, sessions)).expect(rt, "memory");
+    }
+    plans
+}
+
+/// Hops twice round a ring: each place is led to from every other.
+fn ring(rt: &impl Abort, alloc: Global, rng: &mut ChaCha8Rng, sessions: &mut u128) -> Vec<Hop> {
+    let mut hops = Vec::new(alloc);
+    for step in 0..2 * PEERS {
+        let hop = Hop {
+            from: step % PEERS,
+            to: (step + 1) % PEERS,
+            plan: plan(rt, rng, 0, sessions),
+        };
+        hops.push(hop).expect(rt, "memory");
+    }
+    hops
+}
+
+/// Some hops between places by chance.
+fn hops(rt: &impl Abort, alloc: Global, rng: &mut ChaCha8Rng, sessions: &mut u128) -> Vec<Hop> {
+    let mut hops = Vec::new(alloc);
+    for _ in 0..8 + below(rng, 32) {
+        let from = below(rng, PEERS as u32) % PEERS;
+        let to = (from + 1 + below(rng, PEERS as u32 - 1)) % PEERS;
+        let plan = plan(rt, rng, 0, sessions);
+        if from != to {
+            hops.push(Hop { from, to, plan }).expect(rt, "memory");
+        }
+    }
+    hops
+}
+
+/// Of each place the places that chains of hops lead to from there, as bits.
+///
+/// The reference goes through the hops once, and asks of no chain.
+fn reached(hops: &[Hop]) -> [u32; PEERS] {
+    let mut reached = [0u32; PEERS];
+    for (place, places) in reached.iter_mut().enumerate() {
+        *places = 1 << (place % PEERS);
+        for hop in hops {
+            if *places & (1 << (hop.from % PEERS)) != 0 {
+                *places |= 1 << (hop.to % PEERS);
+            }
+        }
+    }
+    reached
+}
+
+/// The leaves of all documents at all peers, each with its place and the number of its document.
+fn leaves_of(rt: &impl Abort, alloc: Global, net: &Net<Rules>) -> Vec<(usize, usize, Rev)> {
+    let mut all = Vec::new(alloc);
+    for place in 0..PEERS {
+        for number in 0..IDS {
+            if let Some(tree) = at(rt, net, place).db().tree(&id(rt, alloc, number)) {
+                for leaf in tree.leaves(alloc).expect(rt, "memory").as_slice() {
+                    all.push((place, number, *leaf)).expect(rt, "memory");
+                }
+            }
+        }
+    }
+    all
+}
+
+/// Whether a peer has a revision of the document of a number.
+fn has(rt: &impl Abort, alloc: Global, peer: &Peer<Rules>, number: usize, rev: Rev) -> bool {
+    match peer.db().tree(&id(rt, alloc, number)) {
+        Some(tree) => tree.has(rev),
+        None => false,
+    }
+}
+
+/// Asserts that each leaf is at all places that were reached from its own.
+fn assert_led(
+    rt: &impl Abort,
+    alloc: Global,
+    net: &Net<Rules>,
+    reached: &[u32; PEERS],
+    leaves: &[(usize, usize, Rev)],
+) {
+    for (from, number, leaf) in leaves {
+        for place in 0..PEERS {
+            if reached[*from % PEERS] & (1 << place) != 0 {
+                let there = has(rt, alloc, at(rt, net, place), *number, *leaf);
+                assert!(rt; there, "a leaf is at the end of each chain");
+            }
+        }
+    }
+}
+
+/// Replicates along hops by chance, and tells whether chains led everywhere: then all are the same.
+fn along_chance(
+    rt: &impl Abort,
+    alloc: Global,
+    rng: &mut ChaCha8Rng,
+    net: &mut Net<Rules>,
+    sessions: &mut u128,
+) -> bool {
+    let leaves = leaves_of(rt, alloc, net);
+    let hops = hops(rt, alloc, rng, sessions);
+    net.replicate_along(alloc, hops.as_slice())
+        .expect(rt, "nothing refused");
+    let reached = reached(hops.as_slice());
+    assert_led(rt, alloc, net, &reached, leaves.as_slice());
+    assert_clean(rt, alloc, net);
+    let mut everywhere = true;
+    for places in reached {
+        everywhere = everywhere && places == (1 << PEERS) - 1;
+    }
+    if everywhere {
+        assert_all_same(rt, alloc, net);
+    }
+    everywhere
+}
+
+/// A net of peers without documents.
+fn net(rt: &impl Abort, alloc: Global) -> Net<Rules> {
+    let mut net = Net::new(alloc);
+    for uuid in 1..6u64 {
+        let _place = net
+            .add(alloc, uuid as u128, Rules { deny: None })
+            .expect(rt, "a new UUID");
+    }
+    net
+}
+
+/// Peers that go on by themselves, meet by a hub or along a ring, and meet once more, some times.
+fn of_seed(rt: &impl Abort, alloc: Global, seed: u64) {
+    let mut rng = ChaCha8Rng::seed_from_u64(seed);
+    let mut sessions = 0;
+    let mut net = net(rt, alloc);
+    for meeting in 0..MEETINGS {
+        edit(rt, alloc, &mut rng, &mut net);
+        let mut before = 0;
+        for again in 0..2 {
+            if meeting % 2 == 0 {
+                let there = plans(rt, alloc, &mut rng, &mut sessions);
+                let back = plans(rt, alloc, &mut rng, &mut sessions);
+                net.sync_by_hub(alloc, there.as_slice(), back.as_slice())
+                    .expect(rt, "nothing refused");
+            } else {
+                let hops = ring(rt, alloc, &mut rng, &mut sessions);
+                net.replicate_along(alloc, hops.as_slice())
+                    .expect(rt, "nothing refused");
+            }
+            assert_all_same(rt, alloc, &net);
+            assert_clean(rt, alloc, &net);
+            assert!(rt;
+                again == 0 || sequences(rt, &net) == before,
+                "nothing is left to carry"
+            );
+            before = sequences(rt, &net);
+        }
+    }
+}
+
+/// Peers that go on by themselves and replicate along hops by chance, some times: how often chains led everywhere.
+fn by_chance(rt: &impl Abort, alloc: Global, seed: u64) -> usize {
+    let mut rng = ChaCha8Rng::seed_from_u64(seed);
+    let mut sessions = 0;
+    let mut net = net(rt, alloc);
+    let mut ends = 0usize;
+    for _ in 0..MEETINGS {
+        edit(rt, alloc, &mut rng, &mut net);
+        if along_chance(rt, alloc, &mut rng, &mut net, &mut sessions) {
+            ends = ends.saturating_add(1);
+        }
+    }
+    ends
+}
+
+#[test]
+fn thirty_nets_meet(rt: HostRuntime) {
+    for seed in 0..30u64 {
+        of_seed(&rt, rt.alloc(), seed);
+    }
+}
+
+#[test]
+fn thirty_nets_replicate_by_chance(rt: HostRuntime) {
+    let mut ends = 0usize;
+    for seed in 0..30u64 {
+        ends = ends.saturating_add(by_chance(&rt, rt.alloc(), seed));
+    }
+    // Chains lead everywhere now and then, and now and then they don't.
+    assert!(rt; 5 < ends && ends < 85, "both kinds of ends: {ends}");
+}

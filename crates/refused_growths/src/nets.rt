@@ -1,0 +1,197 @@
+//! Calls on a net: after a refused growth nothing was added or written, no audit finds a hole, and the same hops by
+//! further sessions end where they would have.
+use crate::peers::{body, doc, doc_id};
+use crate::replications::{is_memory, is_nothing, plan};
+use anyhow::{Result, bail};
+use couch_base::BaseFault;
+use repl_log::Moment;
+use repl_net::{Hop, Net, NetFault};
+use repl_target::{Plan, Rules};
+use std::alloc::Global;
+
+/// How many peers the net has.
+const PEERS: usize = 3;
+
+/// Whether a call was refused for want of memory.
+fn is_wanting(fault: NetFault) -> bool {
+    match fault {
+        NetFault::Memory => true,
+        NetFault::Hop(_, why) => is_memory(why),
+        NetFault::Write(BaseFault::Memory) => true,
+        _ => false,
+    }
+}
+
+/// Adds a peer, once more where memory was refused.
+fn add(alloc: Global, net: &mut Net<Rules>, uuid: u128) -> Option<usize> {
+    match net.add(alloc, uuid, Rules { deny: None }) {
+        Ok(place) => Some(place),
+        Err(fault) => {
+            if !is_wanting(fault) {
+                return None;
+            }
+            net.add(alloc, uuid, Rules { deny: None }).ok()
+        }
+    }
+}
+
+/// Loads a document, once more where memory was refused.
+fn load(alloc: Global, net: &mut Net<Rules>, place: usize, text: &str) -> Option<()> {
+    let doc = doc(alloc, text)?;
+    if let Err(fault) = net.load(place, &doc) {
+        if !is_wanting(fault) {
+            return None;
+        }
+        let _put = net.load(place, &doc).ok()?;
+    }
+    Some(())
+}
+
+/// Edits a document, once more where memory was refused.
+fn edit(alloc: Global, net: &mut Net<Rules>, place: usize, id: &str) -> Option<()> {
+    let id = doc_id(alloc, id)?;
+    let body = body(alloc, r#"{"n":1}"#)?;
+    if let Err(fault) = net.edit(place, &id, None, false, &body) {
+        if !is_wanting(fault) {
+            return None;
+        }
+        let _rev = net.edit(place, &id, None, false, &body).ok()?;
+    }
+    Some(())
+}
+
+/// Whether an audit finds nothing; once more where memory was refused.
+fn is_clean(alloc: Global, net: &Net<Rules>, source: usize, target: usize) -> bool {
+    let found = match net.audit(alloc, source, target, None) {
+        Ok(found) => Some(found),
+        Err(_) => net.audit(alloc, source, target, None).ok(),
+    };
+    match found {
+        Some(found) => is_nothing(found),
+        None => false,
+    }
+}
+
+/// Whether all audits find nothing.
+fn are_clean(alloc: Global, net: &Net<Rules>) -> bool {
+    let mut clean = true;
+    for source in 0..PEERS {
+        for target in 0..PEERS {
+            clean = clean && is_clean(alloc, net, source, target);
+        }
+    }
+    clean
+}
+
+/// A chain from the second peer over the third to the first.
+fn hops(alloc: Global, first: u128, at: Moment) -> Option<Vec<Hop>> {
+    let mut hops = Vec::new(alloc);
+    let hop = Hop {
+        from: 1,
+        to: 2,
+        plan: plan(first, at),
+    };
+    hops.push(hop).ok()?;
+    let hop = Hop {
+        from: 2,
+        to: 0,
+        plan: plan(first.saturating_add(1), at),
+    };
+    hops.push(hop).ok()?;
+    Some(hops)
+}
+
+/// The same, once more where memory was refused.
+fn some_hops(alloc: Global, first: u128, at: Moment) -> Option<Vec<Hop>> {
+    match hops(alloc, first, at) {
+        Some(hops) => Some(hops),
+        None => hops(alloc, first, at),
+    }
+}
+
+/// Replicates along the chain, and once more by further sessions where memory was refused.
+fn along(alloc: Global, net: &mut Net<Rules>, at: Moment) -> Option<()> {
+    let first = some_hops(alloc, 1, at)?;
+    if let Err(fault) = net.replicate_along(alloc, &first) {
+        if !is_wanting(fault) || !are_clean(alloc, net) {
+            return None;
+        }
+        let again = some_hops(alloc, 3, at)?;
+        net.replicate_along(alloc, &again).ok()?;
+    }
+    Some(())
+}
+
+/// A plan for each peer behind the hub.
+fn plans(alloc: Global, first: u128, at: Moment) -> Option<Vec<Plan>> {
+    let mut plans = Vec::new(alloc);
+    plans.push(plan(first, at)).ok()?;
+    plans.push(plan(first.saturating_add(1), at)).ok()?;
+    Some(plans)
+}
+
+/// The same, once more where memory was refused.
+fn some_plans(alloc: Global, first: u128, at: Moment) -> Option<Vec<Plan>> {
+    match plans(alloc, first, at) {
+        Some(plans) => Some(plans),
+        None => plans(alloc, first, at),
+    }
+}
+
+/// Replicates by the hub, and once more by further sessions where memory was refused.
+fn by_hub(alloc: Global, net: &mut Net<Rules>, at: Moment) -> Option<()> {
+    let there = some_plans(alloc, 5, at)?;
+    let back = some_plans(alloc, 7, at)?;
+    if let Err(fault) = net.sync_by_hub(alloc, &there, &back) {
+        if !is_wanting(fault) || !are_clean(alloc, net) {
+            return None;
+        }
+        let there = some_plans(alloc, 9, at)?;
+        let back = some_plans(alloc, 11, at)?;
+        net.sync_by_hub(alloc, &there, &back).ok()?;
+    }
+    Some(())
+}
+
+/// The update sequences of all peers, summed up.
+fn sequences(net: &Net<Rules>) -> Option<u64> {
+    let mut sum = 0u64;
+    for place in 0..PEERS {
+        sum = sum.saturating_add(net.peer(place)?.db().update_seq());
+    }
+    Some(sum)
+}
+
+/// What is written and replicated in a net of three peers: the sum of their sequences, and whether audits are clean.
+fn ended(alloc: Global, net: &mut Net<Rules>) -> Option<(u64, bool)> {
+    let at = Moment::new(10).ok()?;
+    for uuid in 1..4u64 {
+        let _place = add(alloc, net, uuid as u128)?;
+    }
+    load(
+        alloc,
+        net,
+        1,
+        r#"{"_id":"d","_revisions":{"start":2,"ids":["b","a"]}}"#,
+    )?;
+    edit(alloc, net, 1, "e")?;
+    along(alloc, net, at)?;
+    edit(alloc, net, 2, "f")?;
+    by_hub(alloc, net, at)?;
+    let clean = are_clean(alloc, net);
+    Some((sequences(net)?, clean))
+}
+
+/// The same. Nothing else lives beside the net.
+fn of_net(alloc: Global) -> Option<(u64, bool)> {
+    let mut net = Net::new(alloc);
+    ended(alloc, &mut net)
+}
+
+pub(crate) fn run(rt: &impl Print, alloc: Global) -> Result<()> {
+    let Some((sequences, clean)) = of_net(alloc) else {
+        bail!("nets: another answer");
+    };
+    println!(rt; "nets as wanted: sequences {sequences}, clean {clean}")?;
+    Ok(())
+}
