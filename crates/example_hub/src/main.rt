@@ -1,0 +1,133 @@
+//! Three laptops and a hub: four peers of one net, which write by themselves and meet by the hub, twice.
+#![tactic(auto)]
+
+use anyhow::Result;
+use doc_json::{DocId, read_body};
+use repl_log::Moment;
+use repl_net::Net;
+use repl_target::{Audit, Peer, Plan, Rules};
+use rev_core::Rev;
+use rev_tree::SessionId;
+use serde_json::Value;
+use std::alloc::Global;
+use std::str::from_utf8;
+
+/// The peers by their places; the first is the hub.
+const NAMES: [&str; 4] = ["hub", "ann", "ben", "cleo"];
+
+fn main(rt: HostRuntime) -> Result<()> {
+    let mut net = Net::new(rt.alloc());
+    for uuid in 1..5u64 {
+        net.add(rt.alloc(), uuid as u128, Rules { deny: None })?;
+    }
+    let milk = first_day(rt.alloc(), &mut net)?;
+    meet(rt.alloc(), &mut net, 1)?;
+    tell(&rt, &net)?;
+    second_day(rt.alloc(), &mut net, milk)?;
+    meet(rt.alloc(), &mut net, 7)?;
+    tell(&rt, &net)?;
+    println!(rt; "holes found by audits: {}", holes(rt.alloc(), &net)?)?;
+    Ok(())
+}
+
+/// Each laptop writes a document of its own.
+fn first_day(alloc: Global, net: &mut Net<Rules>) -> Result<Rev> {
+    let milk = edit(alloc, net, 1, "milk", None, r#"{"litres":1}"#)?;
+    edit(alloc, net, 2, "bread", None, r#"{"loaves":1}"#)?;
+    edit(alloc, net, 3, "tea", None, r#"{"bags":20}"#)?;
+    Ok(milk)
+}
+
+/// Two of them change one document, each by itself.
+fn second_day(alloc: Global, net: &mut Net<Rules>, milk: Rev) -> Result<()> {
+    edit(alloc, net, 1, "milk", Some(milk), r#"{"litres":2}"#)?;
+    edit(alloc, net, 3, "milk", Some(milk), r#"{"litres":3}"#)?;
+    Ok(())
+}
+
+/// Edits a document at a place: adds a revision behind `parent`, or the first one where none is named.
+fn edit(
+    alloc: Global,
+    net: &mut Net<Rules>,
+    place: usize,
+    id: &str,
+    parent: Option<Rev>,
+    json: &str,
+) -> Result<Rev> {
+    let id = DocId::parse(alloc, id)?;
+    let value = Value::from_slice(alloc, json.as_bytes())?;
+    let body = read_body(alloc, &value)?;
+    Ok(net.edit(place, &id, parent, false, &body)?)
+}
+
+/// Replicates every laptop into the hub, and the hub into every laptop.
+fn meet(alloc: Global, net: &mut Net<Rules>, session: u128) -> Result<()> {
+    let there = plans(alloc, session)?;
+    let back = plans(alloc, session.saturating_add(3))?;
+    net.sync_by_hub(alloc, &there, &back)?;
+    Ok(())
+}
+
+/// A plan for each laptop, whose sessions count on from a first one.
+fn plans(alloc: Global, first: u128) -> Result<Vec<Plan>> {
+    let mut plans = Vec::new(alloc);
+    for number in 0..3u64 {
+        plans.push(Plan {
+            session: SessionId(first.saturating_add(number as u128)),
+            workers: 1,
+            batch: 500,
+            stop_after: None,
+            at: Moment::new(1_700_000_000)?,
+            chosen: None,
+        })?;
+    }
+    Ok(plans)
+}
+
+/// Prints what each peer says of the milk: its winner, and how many leaves there are.
+fn tell(rt: &HostRuntime, net: &Net<Rules>) -> Result<()> {
+    let id = DocId::parse(rt.alloc(), "milk")?;
+    for (place, name) in NAMES.iter().enumerate() {
+        if let Some(peer) = net.peer(place) {
+            let (winner, leaves) = winner(rt.alloc(), peer, &id)?;
+            println!(rt; "{name}: {winner}, of {leaves}")?;
+        }
+    }
+    Ok(())
+}
+
+/// The body of a document's winner, and the number of its leaves.
+fn winner(alloc: Global, peer: &Peer<Rules>, id: &DocId) -> Result<(String, usize)> {
+    let Some(tree) = peer.db().tree(id) else {
+        return Ok((String::new(alloc), 0));
+    };
+    let Some(rev) = tree.winner() else {
+        return Ok((String::new(alloc), 0));
+    };
+    let mut text = String::new(alloc);
+    if let Some(doc) = peer.db().document(alloc, id, rev)? {
+        text.push_str(from_utf8(doc.body().text())?)?;
+    }
+    Ok((text, tree.leaf_count()))
+}
+
+/// How many of the audits between every two peers find a hole.
+fn holes(alloc: Global, net: &Net<Rules>) -> Result<usize> {
+    let mut found = 0usize;
+    for source in 0..NAMES.len() {
+        for target in 0..NAMES.len() {
+            if source != target && is_hole(net.audit(alloc, source, target, None)?) {
+                found = found.saturating_add(1);
+            }
+        }
+    }
+    Ok(found)
+}
+
+/// Whether an audit found one.
+fn is_hole(found: Audit) -> bool {
+    match found {
+        Audit::Clean => false,
+        Audit::Hole { .. } => true,
+    }
+}
