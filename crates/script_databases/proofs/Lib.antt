@@ -3,3 +3,4 @@ pub mod NamedLemmas
 pub mod IndexLemmas
 pub mod ReplicationLemmas
 pub mod BackupLemmas
+pub mod ties

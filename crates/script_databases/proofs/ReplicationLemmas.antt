@@ -14,6 +14,7 @@ use Rattle.doc_json.specs.Document.{Document}
 use Rattle.repl_peer.specs.peer.Law.{LawfulSessions}
 use Rattle.repl_peer.specs.peer.Peer.{PeerValue}
 use Rattle.repl_peer.specs.peer.Rules.{rules_refuse}
+use Rattle.repl_peer.proofs.lemmas.peer.LaterPeers.{IsLaterPeer-same}
 use Rattle.repl_target.specs.replication.Calls.{IsLeft}
 use Rattle.repl_target.specs.replication.Replication.{is_batch, not_planned, plan_answer}
 use Rattle.repl_peer.specs.declared.fault.Report.{Report}
@@ -101,7 +102,7 @@ deny_left deny es mid new a b d e x y x' y' emptied written i j there there' all
 
 -- ---- a plan that is not refused is one between two names
 
-plan_apart : (u v : ℕ) (plan : Plan) → plan_answer u v plan ≡ Ok tt → (u == v) ≡ false
+pub plan_apart : (u v : ℕ) (plan : Plan) → plan_answer u v plan ≡ Ok tt → (u == v) ≡ false
 plan_apart u v plan h =
     let same = u == v in
     let both = cond same (Err refusals.SamePeer) (Ok tt) in
@@ -111,7 +112,7 @@ plan_apart u v plan h =
     (λ _ k. cc)
     h
 
-run_apart : (p q : PeerValue) (plan : Plan) → early_answer p q plan ≡ Ok tt → (p.db.uuid == q.db.uuid) ≡ false
+pub run_apart : (p q : PeerValue) (plan : Plan) → early_answer p q plan ≡ Ok tt → (p.db.uuid == q.db.uuid) ≡ false
 run_apart p q plan h =
     let same = p.db.uuid == q.db.uuid in
     let both = cond same (Err faults.SamePeer) (Ok tt) in
@@ -188,7 +189,7 @@ run_denied full may plan deny s t s' t' fetched outcome same runs = record {
 
 pub alone_refused : (g : Beside) (es : Entries) (a b : List ℕ) (s t : PeerValue) (plan : Plan) (why : TargetFault) → get (peers_of es) a ≡ Some s → get (peers_of es) b ≡ Some t → plan_answer s.db.uuid t.db.uuid plan ≡ Err why →
     ReplicatesBetween ReplicatesAlone (state_of g es) a b plan (Err why) (state_of g es)
-alone_refused g es a b s t plan why there there' refused = (s, t, there, there', (s, t, not_planned refused, state_kept g es a b s t there there'))
+alone_refused g es a b s t plan why there there' refused = (s, t, there, there', (s, t, not_planned refused, record { log = refl; later = IsLaterPeer-same t; tied = λ chosen backups h. h; well = tt; whole = tt }, state_kept g es a b s t there there'))
 
 module _ (g : Beside) (es : Entries) (a b : List ℕ) (s t : PeerValue) (plan : Plan) (why : PoolFault) (there : get (peers_of es) a ≡ Some s) (there' : get (peers_of es) b ≡ Some t) (lawful : LawfulSessions (deny_refuses g.program.deny) t) (refused : early_answer s t plan ≡ Err why) where
   pub run_refused : ReplicatesBetween ReplicatesByPool (state_of g es) a b plan (Err why) (state_of g es)

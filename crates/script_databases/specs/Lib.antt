@@ -4,3 +4,4 @@ pub mod MadeIdsLaws
 pub mod Databases
 pub mod Replications
 pub mod Stored
+pub mod AllTied

@@ -1,15 +1,20 @@
 -- Replications between two of the databases: docs/PROFILE.md, "Command lines".
-use Rattle.std.specs.Prelude.{◌≡◌, ◌⊎◌, ℕ, Bool, false, nat_eq, List, Option, Some, Result, Ok, Err, IfOk, ◌≤◌}
+use Rattle.std.specs.Prelude.{◌≡◌, ◌⊎◌, ℕ, Bool, false, nat_eq, List, Option, Some, Result, Ok, Err, IfOk, OnOk, ◌≤◌}
 use Rattle.std.specs.List.{starts_with}
 use Rattle.std.specs.Option.{option_map_or}
 use Rattle.doc_json.specs.Document.{Document}
+use Rattle.doc_json.specs.Chosen.{Choice}
 use Rattle.repl_pool.specs.Faults.{early_answer}
 use Rattle.repl_pool.specs.Runs.{Runs, RunsOn}
 use Rattle.repl_pool.specs.declared.fault.PoolFault.{PoolFault}
 use Rattle.repl_pool.specs.declared.fault.PoolFault.TheVariants as faults
 use Rattle.repl_pool.specs.declared.gate.Place.{Place}
+use Rattle.repl_peer.specs.peer.Backups.{BackupValue}
+use Rattle.repl_peer.specs.peer.Later.{IsLaterPeer}
 use Rattle.repl_peer.specs.peer.Peer.{PeerValue}
-use Rattle.repl_target.specs.replication.Replication.{Replicates}
+use Rattle.repl_target.specs.Audit.{CoversFeed}
+use Rattle.repl_target.specs.replication.Replication.{IsReported, Replicates}
+use Rattle.repl_target.specs.ties.Ties.{IsTiedPair, IsTiedWith}
 use Rattle.repl_peer.specs.declared.fault.Report.{Report}
 use Rattle.repl_peer.specs.declared.fault.TargetFault.{TargetFault}
 use Rattle.repl_target.specs.declared.replication.Plan.{Plan}
@@ -26,13 +31,25 @@ with_both old source target s t = with_peer (with_peer old source s) target t
 
 -- ---- by one thread
 
+-- what it leaves (docs/PROFILE.md, "Replication by one thread" and "Tied peers"): the source is as it was but for its
+-- log, and the target is a later one; peers that were tied stay so, with each copy of the source, whichever choice is
+-- looked at; and at Ok the report is the session's, and all of the source's chosen feed is covered where the two were tied
+pub record KeepsTied (s t : PeerValue) (plan : Plan) (result : Result Report TargetFault) (s' t' : PeerValue) : Type 0
+  where
+    pub log : s' ≡ record s { outgoing = s'.outgoing }
+    pub later : IsLaterPeer t t'
+    pub tied : (chosen : Choice) (backups : List BackupValue) → IsTiedWith backups s t chosen
+        → IsTiedWith backups s' t' chosen
+    pub well : IfOk result (λ report. IsReported s t t' plan report)
+    pub whole : OnOk result (IsTiedPair s t plan.chosen → CoversFeed s t' plan.chosen s.db.update_seq)
+
 -- any answer and next two peers that a replication gives, also where it is refused; from a name into itself each plan is
 -- refused
 abbrev pub ReplicatesAlone : State → List ℕ → List ℕ → PeerValue → PeerValue → Plan → Result Report TargetFault → State
     → Type 0
 ReplicatesAlone old source target s t plan result new =
     (s' : PeerValue) × (t' : PeerValue) × Replicates (deny_refuses old.program.deny) s t plan result s' t'
-    × (new ≡ with_both old source target s' t')
+    × KeepsTied s t plan result s' t' × (new ≡ with_both old source target s' t')
 
 -- ---- by the pool
 

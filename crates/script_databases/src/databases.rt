@@ -1,7 +1,8 @@
 //! The databases of a script.
-ghost use Rattle.std.specs.Prelude.{◌≡◌, false, true, None, IfOk, OnErr, OnOk, option_map};
+ghost use Rattle.std.specs.Prelude.{◌≡◌, [], false, true, None, IfOk, OnErr, OnOk, option_map};
 ghost use Rattle.std.specs.FinMap.{contains_key};
 ghost use Rattle.std.specs.Option.{option_copied};
+ghost use Rattle.script_databases.specs.AllTied.{AllTied, CoversUpTo};
 ghost use Rattle.script_databases.specs.Databases.{State, coded_state};
 ghost use Rattle.script_databases.specs.Stored.{IsIndex, AllDeny, beside_of, program_of, state_of};
 
@@ -82,9 +83,10 @@ impl Databases {
     ghost use Rattle.script_databases.specs.Refusals.{GivesOrMemory};
     ghost use Rattle.script_databases.specs.Replications.{ReplicatesAlone, ReplicatesBetween, ReplicatesByPool, ReplicatesWatched};
 
-    /// No databases, with a copy of the settings, from whose seed ids are made.
+    /// No databases, with a copy of the settings, from whose seed ids are made. All of none are tied.
     pub fn new(alloc: Global, settings: &Settings) -> Result<Databases, AllocError>
-        ensures { IfOk result (λ databases. databases ≡ no_databases (program_of settings.now)) }
+        ensures none { IfOk result (λ databases. databases ≡ no_databases (program_of settings.now)) }
+        ensures tied { IfOk result (λ databases. AllTied databases) }
     {
         let settings = settings.copy(alloc)?;
         Ok(Databases {
@@ -129,6 +131,7 @@ impl Databases {
     pub fn draw(&mut self) -> u128
         ensures id { result ≡ next_made self.old }
         ensures drawn { self.new ≡ drawn_one self.old }
+        ensures tied { AllTied self.old → AllTied self.new }
     {
         let mut ids = MadeIds {
             seed: self.settings.seed,
@@ -150,12 +153,15 @@ impl Databases {
         Ok(Peer::new(alloc, uuid, Rules { deny }))
     }
 
-    /// Adds a peer under a name that is not there. It refuses what the settings say.
+    /// Adds a peer under a name that is not there. It refuses what the settings say. All stay tied where it is a new one,
+    /// into and out of which nothing was replicated, and no database has its UUID.
     pub fn add(&mut self, alloc: Global, name: &str, peer: Peer<Rules>) -> Result<(), AllocError>
         requires absent { peer_at self.old name.now ≡ None }
         requires filter { deny_of peer.0 ≡ self.old.program.deny }
         ensures ok { OnOk result (self.new ≡ with_peer self.old name.now peer.1) }
         ensures err { OnErr result (self.new ≡ self.old) }
+        ensures tied { (IsTaken self.old peer.1.db.uuid → ⊥) → peer.1.sessions ≡ [] → peer.1.outgoing ≡ []
+            → AllTied self.old → AllTied self.new }
     {
         let key = String::from_str(alloc, name)?;
         let uuid = peer.db().uuid();
@@ -170,6 +176,7 @@ impl Databases {
         ensures answer { GivesOrMemory result (load_answer (peer_at self.old name.now) doc.now) }
         ensures ok { OnOk result (self.new ≡ loaded_at self.old name.now doc.now) }
         ensures err { OnErr result (self.new ≡ self.old) }
+        ensures tied { AllTied self.old → AllTied self.new }
     {
         let Some(peer) = self.by_name.get_mut(name) else {
             return Err(Refusal::NoDatabase);
@@ -191,6 +198,7 @@ impl Databases {
             (edited_answer (peer_at self.old name.now) id.now parent deleted body.now) }
         ensures ok { OnOk result (self.new ≡ edited_at self.old name.now id.now parent deleted body.now) }
         ensures err { OnErr result (self.new ≡ self.old) }
+        ensures tied { AllTied self.old → AllTied self.new }
     {
         let Some(peer) = self.by_name.get_mut(name) else {
             return Err(Refusal::NoDatabase);
@@ -209,6 +217,7 @@ impl Databases {
         ensures answer { GivesOrMemory result (backed_told (backed_answer self.old db.now name.now)) }
         ensures ok { OnOk result (self.new ≡ backed_at self.old db.now name.now) }
         ensures err { OnErr result (self.new ≡ self.old) }
+        ensures tied { AllTied self.old → AllTied self.new }
     {
         let Some(peer) = self.by_name.get(db) else {
             return Err(Refusal::NoDatabase);
@@ -236,6 +245,7 @@ impl Databases {
             (put_back_answer (peer_at self.old db.now) (backup_at self.old db.now name.now)) }
         ensures ok { OnOk result (self.new ≡ put_back_by self.old db.now (backup_at self.old db.now name.now)) }
         ensures err { OnErr result (self.new ≡ self.old) }
+        ensures tied { AllTied self.old → AllTied self.new }
     {
         let Some(peer) = self.by_name.get_mut(db) else {
             return Err(Refusal::NoDatabase);
@@ -263,7 +273,10 @@ impl Databases {
     ) -> Result<Report, PoolFault>
         requires source { contains_key self.old.peers source.now ≡ true }
         requires target { contains_key self.old.peers target.now ≡ true }
-        ensures { ReplicatesBetween ReplicatesByPool self.old source.now target.now plan.now result self.new }
+        ensures between { ReplicatesBetween ReplicatesByPool self.old source.now target.now plan.now result self.new }
+        ensures tied { AllTied self.old → AllTied self.new }
+        ensures covered { IfOk result (λ report. AllTied self.old
+            → CoversUpTo self.new source.now target.now plan.now.chosen report.recorded) }
     {
         let (sender, receiver) = find_both(&self.by_name, source, target);
         receiver.law();
@@ -294,7 +307,10 @@ impl Databases {
     ) -> Result<Watched, PoolFault>
         requires source { contains_key self.old.peers source.now ≡ true }
         requires target { contains_key self.old.peers target.now ≡ true }
-        ensures { ReplicatesBetween ReplicatesWatched self.old source.now target.now plan.now result self.new }
+        ensures between { ReplicatesBetween ReplicatesWatched self.old source.now target.now plan.now result self.new }
+        ensures tied { AllTied self.old → AllTied self.new }
+        ensures covered { IfOk result (λ watched. AllTied self.old
+            → CoversUpTo self.new source.now target.now plan.now.chosen watched.report.recorded) }
     {
         let (sender, receiver) = find_both(&self.by_name, source, target);
         receiver.law();
@@ -328,7 +344,10 @@ impl Databases {
     ) -> Result<Report, TargetFault>
         requires source { contains_key self.old.peers source.now ≡ true }
         requires target { contains_key self.old.peers target.now ≡ true }
-        ensures { ReplicatesBetween ReplicatesAlone self.old source.now target.now plan.now result self.new }
+        ensures between { ReplicatesBetween ReplicatesAlone self.old source.now target.now plan.now result self.new }
+        ensures tied { AllTied self.old → AllTied self.new }
+        ensures covered { IfOk result (λ report. AllTied self.old
+            → CoversUpTo self.new source.now target.now plan.now.chosen report.recorded) }
     {
         let (sender, receiver) = find_both(&self.by_name, source, target);
         check_peers(sender, receiver, plan)?;

@@ -1,10 +1,12 @@
 use Rattle.std.proofs.Common.{ℕ, List, ap, sym, ◌∙◌, string_bytes, subst}
 use Rattle.std.specs.FinMap.{insert}
 use Rattle.couch_base.specs.Database.{DatabaseValue}
+use Rattle.script_databases.specs.AllTied.{AllTied}
 use Rattle.script_databases.specs.Databases.{State, peer_at, with_peer}
 use Rattle.script_databases.specs.Stored.{AllDeny, Entries, IsIndex, beside_of, denied_of, deny_of, peers_of, state_of}
 use Rattle.script_databases.proofs.IndexLemmas.{deny_added, index_added, state_with}
 use Rattle.script_databases.proofs.TableLemmas.{written}
+use Rattle.script_databases.proofs.ties.OneMore.{made_tied}
 use Rattle.script_databases.proofs.databases.Databases.add.Goals as goal
 
 pub invariant_of-self : goal.invariant_of-self
@@ -44,3 +46,6 @@ returns-clause-ok c =
     let peers = written (λ p. p.1) c.reserve.new.self c.insert-2.new.self (string_bytes c.in_ok-key.key) name peer c.in_ok-key.ensures.ok c.in_ok-insert-2.ensures.updates
     ∙ ap (λ es. insert (peers_of es) name peer.1) c.in_ok-reserve.ensures.entries in
     state_with g c.self.inside.by_name.entries c.insert-2.new.self.entries name peer.1 peers ∙ ap (λ (s : State). with_peer s name peer.1) c.self.view_is
+
+pub returns-clause-tied : goal.returns-clause-tied
+returns-clause-tied c = λ untaken sessions logs h. subst AllTied (sym (returns-clause-ok c)) (made_tied c.args.self.now h c.args.name.now c.args.peer.1 c.requires.absent untaken sessions logs)

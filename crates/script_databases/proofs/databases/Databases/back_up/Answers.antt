@@ -12,6 +12,7 @@ use Rattle.script_databases.specs.Refusals.{told_as, target_refusal}
 use Rattle.script_databases.specs.Stored.{beside_of, state_of}
 use Rattle.script_databases.proofs.IndexLemmas.{found_at}
 use Rattle.script_databases.proofs.BackupLemmas.{copy_refused, taken_refused}
+use Rattle.script_databases.proofs.ties.Calls.{backed_tied}
 use Rattle.script_databases.proofs.databases.Databases.back_up.Goals as goal
 
 pub returns-in_default-clause-answer : goal.returns-in_default-clause-answer
@@ -70,3 +71,6 @@ returns-clause-ok c =
     ap (λ (ks : List NamedBackupValue). state_of (beside_of c.self.inside.settings c.self.inside.drawn ks) c.self.inside.by_name.entries) (c.in_ok-push.ensures.items ∙ ap (λ (k : NamedBackupValue). c.self.inside.backups.items ++ k ∷ []) c.in_ok-copy.ensures)
     ∙ ap (λ (s : State). with_backup s c.args.db.now c.args.name.now c.in-Ok.backup) c.self.view_is
     ∙ sym (ap (backed_by c.args.self.now c.args.db.now c.args.name.now) made)
+
+pub returns-clause-tied : goal.returns-clause-tied
+returns-clause-tied c = backed_tied _ _ _ _ (returns-clause-ok c)

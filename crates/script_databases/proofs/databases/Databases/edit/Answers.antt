@@ -10,6 +10,7 @@ use Rattle.script_databases.specs.declared.refusal.Refusal.{Refusal}
 use Rattle.script_databases.specs.Stored.{beside_of, state_of}
 use Rattle.script_databases.proofs.IndexLemmas.{edit_keeps}
 use Rattle.script_databases.proofs.NamedLemmas.{edit_refused, on_err, peer_absent, peer_there, state_changed, state_stays, tables_stay}
+use Rattle.script_databases.proofs.ties.Calls.{edited_tied, unchanged_tied}
 use Rattle.script_databases.proofs.databases.Databases.edit.Goals as goal
 
 pub returns-in_default-clause-answer : goal.returns-in_default-clause-answer
@@ -64,3 +65,12 @@ invariant_of-self-in_err-rev c =
     let u = c.edit.new.self in
     tables_stay g c.self.inside.by_name (c.get_mut.follows.lender u) c.args.name.now c.in-Some.peer.now u c.in-Some.ensures.value ((c.get_mut.follows.holds u).3 (search rules)) c.self.inside.uuids.keys
     (ap (λ (p : PeerValue). p.db.uuid) c.in_err-rev.ensures.err) c.edit.ensures.filter c.self.invariant
+
+pub returns-clause-tied : goal.returns-clause-tied
+returns-clause-tied c = edited_tied _ _ _ _ _ _ _ (returns-clause-ok c)
+
+pub returns-in_err-rev-clause-tied : goal.returns-in_err-rev-clause-tied
+returns-in_err-rev-clause-tied c =
+    let g = beside_of c.self.inside.settings c.self.inside.drawn c.self.inside.backups.items in
+    let u = c.edit.new.self in
+    unchanged_tied _ _ (state_stays g c.self.inside.by_name (c.get_mut.follows.lender u) c.args.name.now c.in-Some.peer.now u c.in-Some.ensures.value ((c.get_mut.follows.holds u).3 (search rules)) c.in_err-rev.ensures.err ∙ c.self.view_is)

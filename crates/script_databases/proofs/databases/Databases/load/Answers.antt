@@ -7,6 +7,7 @@ use Rattle.script_databases.specs.Refusals.{GivesOrMemory, base_refusal, told_as
 use Rattle.script_databases.specs.Stored.{beside_of, state_of}
 use Rattle.script_databases.proofs.IndexLemmas.{load_keeps}
 use Rattle.script_databases.proofs.NamedLemmas.{on_err, peer_absent, peer_there, put_refused, state_changed, state_stays, tables_stay}
+use Rattle.script_databases.proofs.ties.Calls.{loaded_tied, unchanged_tied}
 use Rattle.script_databases.proofs.databases.Databases.load.Goals as goal
 
 pub returns-in_default-clause-answer : goal.returns-in_default-clause-answer
@@ -58,3 +59,12 @@ invariant_of-self-in_err-put c =
     let u = c.load.new.self in
     tables_stay g c.self.inside.by_name (c.get_mut.follows.lender u) c.args.name.now c.in-Some.peer.now u c.in-Some.ensures.value ((c.get_mut.follows.holds u).3 (search rules)) c.self.inside.uuids.keys
     (ap (λ (p : PeerValue). p.db.uuid) c.in_err-put.ensures.err) c.load.ensures.filter c.self.invariant
+
+pub returns-clause-tied : goal.returns-clause-tied
+returns-clause-tied c = loaded_tied _ _ _ _ (returns-clause-ok c)
+
+pub returns-in_err-put-clause-tied : goal.returns-in_err-put-clause-tied
+returns-in_err-put-clause-tied c =
+    let g = beside_of c.self.inside.settings c.self.inside.drawn c.self.inside.backups.items in
+    let u = c.load.new.self in
+    unchanged_tied _ _ (state_stays g c.self.inside.by_name (c.get_mut.follows.lender u) c.args.name.now c.in-Some.peer.now u c.in-Some.ensures.value ((c.get_mut.follows.holds u).3 (search rules)) c.in_err-put.ensures.err ∙ c.self.view_is)

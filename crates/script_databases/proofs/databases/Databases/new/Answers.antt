@@ -1,5 +1,11 @@
+use Rattle.std.proofs.Common.{rules}
+use Rattle.script_databases.specs.Stored.{program_of}
 use Rattle.script_databases.proofs.IndexLemmas.{index_none, none_deny}
+use Rattle.script_databases.proofs.ties.Calls.{none_left}
 use Rattle.script_databases.proofs.databases.Databases.new.Goals as goal
 
 pub invariant_of-result : goal.invariant_of-result
 invariant_of-result c = (index_none _ c.new.result.entries c.new-2.result.keys c.new.ensures.empty c.new-2.ensures.empty, none_deny _ c.new.result.entries c.new.ensures.empty)
+
+pub returns-clause-tied : goal.returns-clause-tied
+returns-clause-tied c = none_left _ (program_of c.args.settings.now) (search rules)

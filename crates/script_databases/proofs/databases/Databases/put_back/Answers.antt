@@ -9,6 +9,7 @@ use Rattle.script_databases.specs.Refusals.{GivesOrMemory, target_refusal, told_
 use Rattle.script_databases.specs.Stored.{beside_of, state_of}
 use Rattle.script_databases.proofs.BackupLemmas.{copy_refused, restore_keeps}
 use Rattle.script_databases.proofs.NamedLemmas.{on_err, peer_absent, peer_there, state_changed, state_stays, tables_stay}
+use Rattle.script_databases.proofs.ties.Calls.{put_back_tied, unchanged_tied}
 use Rattle.script_databases.proofs.databases.Databases.put_back.Goals as goal
 
 pub returns-in_default-clause-answer : goal.returns-in_default-clause-answer
@@ -99,3 +100,15 @@ invariant_of-self-2 c =
     let u = c.restore.new.self in
     tables_stay g c.self.inside.by_name (c.get_mut.follows.lender u) c.args.db.now l u c.in-Some.ensures.value ((c.get_mut.follows.holds u).3 (search rules)) c.self.inside.uuids.keys
     (ap (λ (p : PeerValue). p.db.uuid) c.in_ok-restore.ensures.ok ∙ restore_keeps c.in-Some-find_backup.backup.now l.1) c.restore.ensures.filter c.self.invariant
+
+pub returns-in_default-find_backup-clause-tied : goal.returns-in_default-find_backup-clause-tied
+returns-in_default-find_backup-clause-tied c = unchanged_tied _ _ (returns-in_default-find_backup-clause-err c)
+
+pub returns-in_err-restore-clause-tied : goal.returns-in_err-restore-clause-tied
+returns-in_err-restore-clause-tied c =
+    let g = beside_of c.self.inside.settings c.self.inside.drawn c.self.inside.backups.items in
+    let u = c.restore.new.self in
+    unchanged_tied _ _ (state_stays g c.self.inside.by_name (c.get_mut.follows.lender u) c.args.db.now c.in-Some.peer.now u c.in-Some.ensures.value ((c.get_mut.follows.holds u).3 (search rules)) c.in_err-restore.ensures.err ∙ c.self.view_is)
+
+pub returns-clause-tied : goal.returns-clause-tied
+returns-clause-tied c = put_back_tied _ _ _ _ (returns-clause-ok c)

@@ -7,6 +7,7 @@ use Rattle.script_databases.specs.Databases.{State}
 use Rattle.script_databases.specs.Replications.{Nowhere, ReplicatesBetween, ReplicatesByPool}
 use Rattle.script_databases.specs.Stored.{beside_of, deny_of, peers_of, state_of}
 use Rattle.script_databases.proofs.ReplicationLemmas.{deny_left, has_source, has_target, index_left, refuses_is, run_denied, run_names, run_refused, state_left}
+use Rattle.script_databases.proofs.ties.Calls.{pool_between}
 use Rattle.script_databases.proofs.databases.Databases.replicate.Goals as goal
 
 pub take_out-sender-requires-clause-two : goal.take_out-sender-requires-clause-two
@@ -23,8 +24,8 @@ put_in-requires-clause-target g c =
     let left = c.take_out-sender.ensures.left in
     has_target (peers_of c.self.inside.by_name.entries) _ c.args.source.now c.args.target.now left.0.1 left.1.1 left.2 (ap (λ (s : State). contains_key s.peers c.args.target.now) c.self.view_is ∙ c.requires.target)
 
-pub returns-in_err-check_run : goal.returns-in_err-check_run
-returns-in_err-check_run g c =
+pub returns-in_err-check_run-clause-between : goal.returns-in_err-check_run-clause-between
+returns-in_err-check_run-clause-between g c =
     let beside = beside_of c.self.inside.settings c.self.inside.drawn c.self.inside.backups.items in
     let es = c.self.inside.by_name.entries in
     let a = c.args.source.now in
@@ -59,8 +60,8 @@ invariant_of-self g c =
           (ap deny_of runs.filter) (ap deny_of runs.grown.0) there.1 there'.1 c.self.invariant.1,
     )
 
-pub returns : goal.returns
-returns g c =
+pub returns-clause-between : goal.returns-clause-between
+returns-clause-between g c =
     let beside = beside_of c.self.inside.settings c.self.inside.drawn c.self.inside.backups.items in
     let es = c.self.inside.by_name.entries in
     let mid = c.take_out-sender.new.names.entries in
@@ -88,3 +89,15 @@ returns g c =
         state_left beside es mid new a b left.0.1 left.1.1 ran.source.1 ran.target.1 left.2 c.put_in.ensures.peers,
       ),
     )
+
+pub returns-in_err-check_run-clause-tied : goal.returns-in_err-check_run-clause-tied
+returns-in_err-check_run-clause-tied g c = (pool_between _ _ _ _ _ _ (returns-in_err-check_run-clause-between g c)).0
+
+pub returns-in_err-check_run-clause-covered : goal.returns-in_err-check_run-clause-covered
+returns-in_err-check_run-clause-covered g c = (pool_between _ _ _ _ _ _ (returns-in_err-check_run-clause-between g c)).1
+
+pub returns-clause-tied : goal.returns-clause-tied
+returns-clause-tied g c = (pool_between _ _ _ _ _ _ (returns-clause-between g c)).0
+
+pub returns-clause-covered : goal.returns-clause-covered
+returns-clause-covered g c = (pool_between _ _ _ _ _ _ (returns-clause-between g c)).1

@@ -8,6 +8,7 @@ use Rattle.script_databases.specs.Databases.{State}
 use Rattle.script_databases.specs.Replications.{ReplicatesAlone, ReplicatesBetween}
 use Rattle.script_databases.specs.Stored.{beside_of, deny_of, peers_of, state_of}
 use Rattle.script_databases.proofs.ReplicationLemmas.{alone_refused, deny_left, has_source, has_target, index_left, plan_names, refuses_is, state_left}
+use Rattle.script_databases.proofs.ties.Calls.{alone_between}
 use Rattle.script_databases.proofs.databases.Databases.replicate_alone.Goals as goal
 
 pub take_out-sender-requires-clause-two : goal.take_out-sender-requires-clause-two
@@ -24,8 +25,8 @@ put_in-requires-clause-target c =
     let left = c.take_out-sender.ensures.left in
     has_target (peers_of c.self.inside.by_name.entries) _ c.args.source.now c.args.target.now left.0.1 left.1.1 left.2 (ap (λ (s : State). contains_key s.peers c.args.target.now) c.self.view_is ∙ c.requires.target)
 
-pub returns-in_err-check_peers : goal.returns-in_err-check_peers
-returns-in_err-check_peers c =
+pub returns-in_err-check_peers-clause-between : goal.returns-in_err-check_peers-clause-between
+returns-in_err-check_peers-clause-between c =
     let g = beside_of c.self.inside.settings c.self.inside.drawn c.self.inside.backups.items in
     let es = c.self.inside.by_name.entries in
     let a = c.args.source.now in
@@ -61,8 +62,8 @@ invariant_of-self c =
           (ap deny_of ran.filters.0) (ap deny_of ran.filters.1) there.1 there'.1 c.self.invariant.1,
     )
 
-pub returns : goal.returns
-returns c =
+pub returns-clause-between : goal.returns-clause-between
+returns-clause-between c =
     let g = beside_of c.self.inside.settings c.self.inside.drawn c.self.inside.backups.items in
     let es = c.self.inside.by_name.entries in
     let mid = c.take_out-sender.new.names.entries in
@@ -77,6 +78,7 @@ returns c =
     let there' = c.take_out-sender.ensures.target in
     let s' = c.replicate_alone-outcome.new.source in
     let t' = c.replicate_alone-outcome.new.target in
+    let ran = c.replicate_alone-outcome.ensures in
     let result = c.replicate_alone-outcome.result in
     subst (λ (st : State). ReplicatesBetween ReplicatesAlone st a b plan result (state_of g new)) c.self.view_is (
       s.1,
@@ -86,7 +88,26 @@ returns c =
       (
         s'.1,
         t'.1,
-        subst (λ f. Replicates f s.1 t.1 plan result s'.1 t'.1) (refuses_is g.program.deny es b t.0 c.self.invariant.1 there'.1) c.replicate_alone-outcome.ensures.replicates,
+        subst (λ f. Replicates f s.1 t.1 plan result s'.1 t'.1) (refuses_is g.program.deny es b t.0 c.self.invariant.1 there'.1) ran.replicates,
+        record {
+          log = ran.source;
+          later = (left_law _ s.1 t.1 plan t'.1 c.law.ensures.database c.law-2.ensures.peer.sessions (replicates_left _ s.1 t.1 plan result s'.1 t'.1 ran.replicates)).1;
+          tied = ran.tied;
+          well = ran.report;
+          whole = ran.whole;
+        },
         state_left g es mid new a b left.0.1 left.1.1 s'.1 t'.1 left.2 c.put_in.ensures.peers,
       ),
     )
+
+pub returns-in_err-check_peers-clause-tied : goal.returns-in_err-check_peers-clause-tied
+returns-in_err-check_peers-clause-tied c = (alone_between _ _ _ _ _ _ (returns-in_err-check_peers-clause-between c)).0
+
+pub returns-in_err-check_peers-clause-covered : goal.returns-in_err-check_peers-clause-covered
+returns-in_err-check_peers-clause-covered c = (alone_between _ _ _ _ _ _ (returns-in_err-check_peers-clause-between c)).1
+
+pub returns-clause-tied : goal.returns-clause-tied
+returns-clause-tied c = (alone_between _ _ _ _ _ _ (returns-clause-between c)).0
+
+pub returns-clause-covered : goal.returns-clause-covered
+returns-clause-covered c = (alone_between _ _ _ _ _ _ (returns-clause-between c)).1

@@ -1,0 +1,115 @@
+-- One database is changed: by a write of its own, or by a copy that is put back.
+use Rattle.std.proofs.Common.{◌≡◌, inl, inr, ℕ, Bool, List, [], ◌∷◌, Result, Ok, Err, refl, sym, ap, subst, ◌∙◌, Option, Some, None}
+use Rattle.std.proofs.lemmas.Bool.{and_parts}
+use Rattle.doc_json.specs.Document.{Document}
+use Rattle.doc_json.specs.Chosen.{Choice}
+use Rattle.couch_base.specs.Lists.{Among}
+use Rattle.couch_base.specs.Database.{Id}
+use Rattle.couch_base.specs.MemberLaws.{found_member}
+use Rattle.repl_log.specs.declared.replication.RepId.{RepId}
+use Rattle.repl_log.specs.Entry.{EntryValue}
+use Rattle.repl_log.specs.Logs.{log_in}
+use Rattle.repl_peer.specs.declared.fault.TargetFault.{TargetFault}
+use Rattle.repl_peer.specs.peer.Backups.{BackupValue, restore_answer, restored, restored_by, after_restore}
+use Rattle.repl_peer.specs.peer.Later.{IsLaterPeer}
+use Rattle.repl_peer.specs.peer.Peer.{PeerValue, SessionValue}
+use Rattle.repl_peer.specs.logs.Checkpoint.{rep_between}
+use Rattle.repl_target.specs.ties.Ties.{IsTiedWith}
+use Rattle.std.specs.Prelude.{option_map}
+use Rattle.std.specs.List.{find}
+use Rattle.std.proofs.lemmas.Option.{same_Some, none-some}
+use Rattle.rev_core.specs.Rev.{RevId}
+use Rattle.couch_base.specs.ListLaws.{id_is}
+use Rattle.couch_base.specs.Edit.{edited}
+use Rattle.couch_base.specs.declared.fault.BaseFault.{BaseFault}
+use Rattle.repl_peer.specs.peer.Writing.{after_load, after_edit, load_edited}
+use Rattle.repl_peer.proofs.lemmas.peer.CallsKeepLaw.{load_later, edit_later}
+use Rattle.repl_peer.proofs.lemmas.peer.LaterPeers.{IsLaterPeer-same}
+use Rattle.script_databases.specs.Databases.{NamedBackupValue, State, backup_at, is_named, peer_at, with_peer}
+use Rattle.script_databases.specs.AllTied.{IsOther, LeadToOthers, ComeFromOthers, AreCopiesOf, AllTied}
+use Rattle.script_databases.proofs.ties.MovedPairs.{source_moves, target_moves, stays_same}
+use Rattle.script_databases.proofs.ties.RestoredPairs.{restores_in, restored_source, restored_target}
+use Rattle.script_databases.proofs.ties.AtNames.{names, looks, here, elsewhere}
+use Rattle.script_databases.proofs.ties.LaterStates.{grown_tied}
+
+module _ (old : State) (h : AllTied old) (a : List ℕ) (p new : PeerValue) (at : peer_at old a ≡ Some p) where
+  pub one_grows : new.db.uuid ≡ p.db.uuid → LeadToOthers old p.db.uuid new.outgoing → ComeFromOthers old p.db.uuid new.sessions
+      → ((m : List ℕ) (q : PeerValue) → peer_at old m ≡ Some q → (c : Choice) (backups : List BackupValue) → AreCopiesOf old a backups → IsTiedWith backups new q c)
+      → ((n : List ℕ) (q : PeerValue) → peer_at old n ≡ Some q → (c : Choice) (backups : List BackupValue) → AreCopiesOf old n backups → IsTiedWith backups q new c) → AllTied (with_peer old a new)
+  one_grows uuid logs sessions as_source as_target = grown_tied old (with_peer old a new) (record {
+    backups = refl;
+    back = λ n x e. elim (looks old a new n x e) [
+      | inl w ↦ record {
+        peer = p;
+        there = ap (peer_at old) w.0 ∙ at;
+        uuid = ap (λ (y : PeerValue). y.db.uuid) w.1 ∙ uuid;
+        logs = subst (λ (y : PeerValue). LeadToOthers old p.db.uuid y.outgoing) (sym w.1) logs;
+        sessions = subst (λ (y : PeerValue). ComeFromOthers old p.db.uuid y.sessions) (sym w.1) sessions;
+      }
+      | inr w ↦ record { peer = x; there = w.1; uuid = refl; logs = h.known.logs n x w.1; sessions = h.known.sessions n x w.1 }
+    ];
+    forth = λ n x e. elim (names n a) [
+      | inl i ↦ (new, ap (peer_at (with_peer old a new)) i ∙ here old a new, uuid ∙ ap (λ (y : PeerValue). y.db.uuid) (same_Some p x (sym at ∙ ap (peer_at old) (sym i) ∙ e)))
+      | inr ne ↦ (x, elsewhere old a new n ne ∙ e, refl)
+    ];
+    tied = λ n m x y ne e f c backups copies. elim (looks old a new n x e) [
+      | inl v ↦ elim (looks old a new m y f) [
+        | inl w ↦ absurd (ne (v.0 ∙ sym w.0))
+        | inr w ↦ subst (λ (z : PeerValue). IsTiedWith backups z y c) (sym v.1) (as_source m y w.1 c backups (λ b j. (let k = copies b j in (k.0, k.1, k.2 ∙ v.0, k.3))))
+      ]
+      | inr v ↦ elim (looks old a new m y f) [
+        | inl w ↦ subst (λ (z : PeerValue). IsTiedWith backups x z c) (sym w.1) (as_target n x v.1 c backups copies)
+        | inr w ↦ h.tied n m x y v.1 w.1 c backups copies
+      ]
+    ];
+  }) h
+
+  -- by a write of its own
+  pub local_tied : IsLaterPeer p new → new.outgoing ≡ p.outgoing → new.sessions ≡ p.sessions → AllTied (with_peer old a new)
+  local_tied later logs sessions =
+      one_grows later.db.uuid
+      (subst (λ (l : List (RepId × List EntryValue)). LeadToOthers old p.db.uuid l) (sym logs) (h.known.logs a p at))
+      (subst (λ (l : List SessionValue). ComeFromOthers old p.db.uuid l) (sym sessions) (h.known.sessions a p at))
+      (λ m q e c backups copies. source_moves backups p new q c later.db (ap (λ (l : List (RepId × List EntryValue)). log_in l (rep_between p q c)) logs) (h.tied a m p q at e c backups copies))
+      (λ n q e c backups copies. target_moves backups q p new c later (λ s m _. stays_same p s (subst (Among s) sessions m)) (h.tied n a q p e at c backups copies))
+
+pub load_tied : (old : State) → AllTied old → (a : List ℕ) (p : PeerValue) → peer_at old a ≡ Some p → (d : Document) → AllTied (with_peer old a (after_load p d))
+load_tied old h a p at d = local_tied old h a p (after_load p d) at (load_later p d) refl refl
+
+edit_outgoing : (p : PeerValue) (id : Id) (deleted : Bool) (body : List ℕ) (r : Result (RevId × Option RevId) BaseFault) → ((load_edited p id deleted body r).outgoing ≡ p.outgoing) × ((load_edited p id deleted body r).sessions ≡ p.sessions)
+edit_outgoing p id deleted body (Ok e) = (refl, refl)
+edit_outgoing p id deleted body (Err fault) = (refl, refl)
+
+pub edit_tied : (old : State) → AllTied old → (a : List ℕ) (p : PeerValue) → peer_at old a ≡ Some p → (id : Id) (parent : Option RevId) (deleted : Bool) (body : List ℕ) → AllTied (with_peer old a (after_edit p id parent deleted body))
+edit_tied old h a p at id parent deleted body =
+    let e = edit_outgoing p id deleted body (edited p.db id parent deleted body) in
+    local_tied old h a p (after_edit p id parent deleted body) at (edit_later p id parent deleted body) e.0 e.1
+
+-- it is put back to one of its copies
+pub restore_tied : (old : State) → AllTied old → (a name : List ℕ) (p : PeerValue) (b : BackupValue) → peer_at old a ≡ Some p → backup_at old a name ≡ Some b → AllTied (with_peer old a (after_restore p b))
+restore_tied old h a name p b at kept = go (restore_answer p b) refl
+  where
+    copy : (k : NamedBackupValue) × Among k old.backups × (k.db ≡ a) × (k.backup ≡ b)
+    copy = by (find (is_named a name) old.backups) refl kept
+      where
+        by : (o : Option NamedBackupValue) → find (is_named a name) old.backups ≡ o → option_map (λ (k : NamedBackupValue). k.backup) o ≡ Some b → (k : NamedBackupValue) × Among k old.backups × (k.db ≡ a) × (k.backup ≡ b)
+        by None e f = absurd (none-some b f)
+        by (Some k) e f =
+            let m = found_member (is_named a name) old.backups k e in
+            (k, m.0, id_is k.db a (and_parts _ _ m.1).0, same_Some k.backup b f)
+
+    only : AreCopiesOf old a (b ∷ [])
+    only x (inl e) = (copy.0, copy.1, copy.2, copy.3 ∙ sym e)
+    only x (inr m) = absurd m
+
+    go : (r : Result (Unit {0}) TargetFault) → restore_answer p b ≡ r → AllTied (with_peer old a (restored_by p b r))
+    go (Err fault) is = local_tied old h a p p at (IsLaterPeer-same p) refl refl
+    go (Ok done) is =
+        let k = restores_in p b done is in
+        let own = h.known.copies copy.0 copy.1 in
+        let one : own.peer ≡ p = same_Some own.peer p (sym own.there ∙ ap (peer_at old) copy.2 ∙ at) in
+        one_grows old h a p (restored p b) at k.uuid
+        (λ l m. subst (λ (x : PeerValue). IsOther old x.db.uuid l.0.target) one (own.logs l (subst (λ (x : BackupValue). Among l x.outgoing) (sym copy.3) m)))
+        (h.known.sessions a p at)
+        (λ m q e c backups copies. restored_source backups p b q c k ((h.tied a m p q at e c (b ∷ []) only).copies b (inl refl)) (h.tied a m p q at e c backups copies))
+        (λ n q e c backups copies. restored_target backups q p b c k (h.tied n a q p e at c backups copies))
