@@ -9,24 +9,24 @@ use Rattle.script_engine.specs.declared.fault.ScriptFault.TheVariants.{Read}
 use Rattle.script_databases.specs.Databases.{Program, State, no_databases}
 use Rattle.script_databases.specs.Stored.{program_of}
 use Rattle.script_databases.specs.declared.settings.Settings.{Settings}
-use Rattle.script_words.specs.Script.{LinesAnswer}
+use Rattle.script_words.specs.Trust.{TrustedLines}
 use Rattle.couch_replicate.specs.Options.{Says, Refuses}
 use Rattle.couch_replicate.specs.declared.run.Ended.{Ended}
 use Rattle.couch_replicate.specs.declared.run.Ended.TheVariants.{NotRun, Ran}
 
--- What a script was answered, of a program that is set so: all of it, or a beginning, which a fault of a read or of
--- memory cuts between two answers; where a read failed, the answers to all lines that were read in before. First what
--- the reader has left, before and after, then what the writer was given, before and after.
+-- What a script was answered, of a program that is set so, and may be trusted for: all of it, or a beginning, which a
+-- fault of a read or of memory cuts between two answers; where a read failed, the answers to all lines that were read in
+-- before. First what the reader has left, before and after, then what the writer was given, before and after.
 abbrev pub Answered : Program → Option (List ℕ) → Option (List ℕ) → Option (List ℕ) → Option (List ℕ)
     → Result Bool ScriptFault → Type 0
 Answered program left left' held held' (Ok clean) =
     (input : List ℕ) × (text : List ℕ) × (state : State) × Gives left input × Appends held held' text
-    × IsAnswered LinesAnswer (no_databases program) input clean text state
+    × IsAnswered TrustedLines (no_databases program) input clean text state
 Answered program left left' held held' (Err fault) =
     ((input : List ℕ) × (text : List ℕ) × Gives left input × Appends held held' text
-    × IsToldUntil fault LinesAnswer (no_databases program) input text)
+    × IsToldUntil fault TrustedLines (no_databases program) input text)
     × (fault ≡ Read → (taken : List ℕ) × (text : List ℕ) × (state : State) × Consumes left left' taken
-    × Appends held held' text × AnswersEnded LinesAnswer (no_databases program) taken text state)
+    × Appends held held' text × AnswersEnded TrustedLines (no_databases program) taken text state)
 
 -- Words that give no settings: nothing is read or written. Else a script is run with the settings that they give, and
 -- what the writer was given has been passed on, unless a write failed.

@@ -11,7 +11,10 @@ use Rattle.script_databases.specs.Databases.{State}
 use Rattle.script_databases.specs.Refusals.{name_of}
 use Rattle.script_databases.specs.declared.refusal.Refusal.{Refusal}
 use Rattle.script_databases.specs.declared.refusal.Refusal.TheVariants as whys
+use Rattle.script_databases.specs.AllTied.{AllTied}
 use Rattle.script_words.specs.Script.{LinesAnswer}
+use Rattle.script_words.specs.Trust.{TrustedLines}
+use Rattle.script_words.proofs.trust.Lines.{answered_trusted, ended_trusted, until_trusted}
 
 -- the state that is left is one
 pub some_state : (old s new : State) (l h h' : Option (List ℕ)) (r : Result Bool ScriptFault) → old ≡ s → IfOk r (λ clean. (input : List ℕ) × (text : List ℕ) × Gives l input × Appends h h' text × IsAnswered LinesAnswer old input clean text new) →
@@ -27,11 +30,23 @@ same_start old s l h h' k k' r r' w w' (Ok clean) e x = tt
 same_start old s l h h' k k' r r' w w' (Err fault) e (input, text, gives, written, answered, is) = (input, text, gives, written, subst (λ s. IsToldUntil fault LinesAnswer s input text) e answered, is)
 
 -- and so are the answers to all lines that were read in
-pub some_end : (old s new : State) (l l' h h' : Option (List ℕ)) (r : Result Bool ScriptFault) → old ≡ s →
+pub some_end : (old s new : State) (l l' h h' : Option (List ℕ)) (r : Result Bool ScriptFault) → AllTied old → old ≡ s →
     IfErr r (λ fault. fault ≡ Read → (taken : List ℕ) × (text : List ℕ) × Consumes l l' taken × Appends h h' text × AnswersEnded LinesAnswer old taken text new) →
-    IfErr r (λ fault. fault ≡ Read → (taken : List ℕ) × (text : List ℕ) × (state : State) × Consumes l l' taken × Appends h h' text × AnswersEnded LinesAnswer s taken text state)
-some_end old s new l l' h h' (Ok clean) e x = tt
-some_end old s new l l' h h' (Err fault) e x = λ is. let y = x is in (y.0, y.1, new, y.2, y.3, subst (λ s. AnswersEnded LinesAnswer s y.0 y.1 new) e y.4)
+    IfErr r (λ fault. fault ≡ Read → (taken : List ℕ) × (text : List ℕ) × (state : State) × Consumes l l' taken × Appends h h' text × AnswersEnded TrustedLines s taken text state)
+some_end old s new l l' h h' (Ok clean) tied e x = tt
+some_end old s new l l' h h' (Err fault) tied e x = λ is. let y = x is in (y.0, y.1, new, y.2, y.3, ended_trusted s y.0 y.1 new (subst AllTied e tied) (subst (λ s. AnswersEnded LinesAnswer s y.0 y.1 new) e y.4))
+
+-- where all databases are tied at first, the answers may be trusted, up to a fault too
+pub some_trust : (old s new : State) (l h h' : Option (List ℕ)) (r : Result Bool ScriptFault) → AllTied old → old ≡ s → IfOk r (λ clean. (input : List ℕ) × (text : List ℕ) × Gives l input × Appends h h' text × IsAnswered LinesAnswer old input clean text new) →
+    IfOk r (λ clean. (input : List ℕ) × (text : List ℕ) × (state : State) × Gives l input × Appends h h' text × IsAnswered TrustedLines s input clean text state)
+some_trust old s new l h h' (Ok clean) tied e (input, text, gives, written, answered) = (input, text, new, gives, written, answered_trusted s input clean text new (subst AllTied e tied) (subst (λ s. IsAnswered LinesAnswer s input clean text new) e answered))
+some_trust old s new l h h' (Err fault) tied e x = tt
+
+pub same_trust : (old s : State) (l h h' : Option (List ℕ)) (k k' r r' w w' : ℕ) (x : Result Bool ScriptFault) → AllTied old → old ≡ s →
+    IfErr x (λ fault. (input : List ℕ) × (text : List ℕ) × Gives l input × Appends h h' text × IsToldUntil fault LinesAnswer old input text × IsFaultOf fault k k' r r' w w') →
+    IfErr x (λ fault. (input : List ℕ) × (text : List ℕ) × Gives l input × Appends h h' text × IsToldUntil fault TrustedLines s input text)
+same_trust old s l h h' k k' r r' w w' (Ok clean) tied e x = tt
+same_trust old s l h h' k k' r r' w w' (Err fault) tied e (input, text, gives, written, answered, is) = (input, text, gives, written, until_trusted fault s input text (subst AllTied e tied) (subst (λ s. IsToldUntil fault LinesAnswer s input text) e answered))
 
 -- the name of a refusal is short
 pub name_short : (r : Refusal) → length (name_of r) ≤ 64

@@ -5,3 +5,4 @@ pub mod WordLemmas
 pub mod InterpreterLemmas
 pub mod LoadLemmas
 pub mod ReplicateLemmas
+pub mod trust

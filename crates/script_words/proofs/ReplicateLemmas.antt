@@ -24,7 +24,7 @@ pub are_both : (old : State) (ask : ReplicateAsk) (s t : PeerValue) → peer_at 
 are_both old ask s t e f = passes _ (is_found why.NoDatabase e) ∙ passes _ (is_found why.NoDatabase f)
 
 -- an id that is drawn changes no peer
-same_peer : (s : State) (given : Option ℕ) (name : List ℕ) → peer_at (with_drawn s given) name ≡ peer_at s name
+pub same_peer : (s : State) (given : Option ℕ) (name : List ℕ) → peer_at (with_drawn s given) name ≡ peer_at s name
 same_peer s (Some session) name = refl
 same_peer s None name = refl
 

@@ -5,3 +5,4 @@ pub mod Texts
 pub mod Telling
 pub mod words
 pub mod Script
+pub mod Trust

@@ -8,6 +8,7 @@ ghost use Rattle.script_engine.specs.declared.fault.ScriptFault.TheVariants.{Rea
 ghost use Rattle.script_databases.specs.Databases.{State, no_databases};
 ghost use Rattle.script_engine.specs.Serving.{MayTell};
 ghost use Rattle.script_words.specs.Script.{LinesAnswer};
+ghost use Rattle.script_words.specs.Trust.{TrustedLines};
 ghost use Rattle.script_words.specs.Telling.{told_by};
 ghost use Rattle.script_databases.specs.Stored.{program_of};
 
@@ -106,6 +107,12 @@ pub fn run_script<H: AllocGlobal + Threads + Wait + Sync, R: ScriptRead, W: Scri
         (λ clean. (input : List ℕ) × (text : List ℕ) × (state : State) × Gives (R.left reader.old) input
         × Appends (W.held writer.old) (W.held writer.new) text
         × IsAnswered LinesAnswer (no_databases (program_of settings.now)) input clean text state) }
+    // All databases are tied, each to each, before every line and behind it. So no audit is told a hole, and a session that
+    // is told to have come to its goal has covered all of the source that was chosen.
+    ensures trust { IfOk result
+        (λ clean. (input : List ℕ) × (text : List ℕ) × (state : State) × Gives (R.left reader.old) input
+        × Appends (W.held writer.old) (W.held writer.new) text
+        × IsAnswered TrustedLines (no_databases (program_of settings.now)) input clean text state) }
     ensures end { OnOk result (IsAtEnd (R.left reader.new)) }
     ensures counted { OnOk result ((R.failures reader.new ≡ R.failures reader.old)
         × (W.failures writer.new ≡ W.failures writer.old)) }
@@ -116,11 +123,15 @@ pub fn run_script<H: AllocGlobal + Threads + Wait + Sync, R: ScriptRead, W: Scri
         × IsToldUntil fault LinesAnswer (no_databases (program_of settings.now)) input text
         × IsFaultOf fault (R.reads reader.old) (R.reads reader.new) (R.failures reader.old) (R.failures reader.new)
         (W.failures writer.old) (W.failures writer.new)) }
+    // So it is up to a fault.
+    ensures trust_until { IfErr result (λ fault. (input : List ℕ) × (text : List ℕ) × Gives (R.left reader.old) input
+        × Appends (W.held writer.old) (W.held writer.new) text
+        × IsToldUntil fault TrustedLines (no_databases (program_of settings.now)) input text) }
     // Where a read fails, all lines that were read in before are answered, and wherever no write failed, their answers
     // have been passed on. So it is at each read, since each of them may fail.
     ensures read { IfErr result (λ fault. fault ≡ Read → (taken : List ℕ) × (text : List ℕ) × (state : State)
         × Consumes (R.left reader.old) (R.left reader.new) taken × Appends (W.held writer.old) (W.held writer.new) text
-        × AnswersEnded LinesAnswer (no_databases (program_of settings.now)) taken text state) }
+        × AnswersEnded TrustedLines (no_databases (program_of settings.now)) taken text state) }
     ensures sent { IsSent result (W.held writer.new) (W.sent writer.new) }
 {
     let databases = match Databases::new(rt.alloc(), settings) {

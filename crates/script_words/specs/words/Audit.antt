@@ -1,12 +1,15 @@
 -- `audit`: docs/PROFILE.md, "Command lines" and "Answers".
-use Rattle.std.specs.Prelude.{ℕ, List, [], ◌∷◌, ◌++◌, codes, decimal, Option, Some, None, Result, Ok, option_map}
+use Rattle.std.specs.Prelude.{◌≡◌, ℕ, List, [], ◌∷◌, ◌++◌, codes, decimal, Option, Some, None, Result, Ok, Err, option_map}
 use Rattle.serde_json.specs.Data.{Data}
 use Rattle.json_values.specs.LineView.{line_items}
 use Rattle.rev_core.specs.Text.{rev_text}
+use Rattle.doc_json.specs.Chosen.{Choice}
 use Rattle.repl_peer.specs.peer.Covered.{Leaf}
+use Rattle.repl_peer.specs.peer.Peer.{PeerValue}
 use Rattle.repl_target.specs.Audit.{audit_answer}
-use Rattle.script_engine.specs.Serving.{Answering}
-use Rattle.script_databases.specs.Databases.{State}
+use Rattle.repl_target.specs.ties.Ties.{IsTiedPair}
+use Rattle.script_engine.specs.Serving.{Told, Answering}
+use Rattle.script_databases.specs.Databases.{State, peer_at}
 use Rattle.script_databases.specs.declared.refusal.Refusal.{Refusal}
 use Rattle.rev_core.specs.Checks.{◌>>=◌}
 use Rattle.script_words.specs.Checks.{needed}
@@ -59,5 +62,18 @@ audit_told s ask = do
   chosen ← choice_given ask.doc_ids
   Ok (audit_text (audit_answer source target chosen))
 
+-- where the two are tied, no leaf is found
+abbrev pub FindsNone : State → AuditAsk → Type 0
+FindsNone s ask =
+    (p q : PeerValue) (chosen : Choice) → peer_at s ask.source ≡ Some p → peer_at s ask.target ≡ Some q
+    → choice_given ask.doc_ids ≡ Ok chosen → IsTiedPair p q chosen → audit_answer p q chosen ≡ None
+
 abbrev pub Audits : Answering State AuditAsk
-Audits old ask told new = Reads (audit_told old ask) old told new
+Audits old ask told new = Reads (audit_told old ask) old told new × FindsNone old ask
+
+-- ---- what it may be trusted for: docs/PROFILE.md, "Tied databases"
+
+-- an audit is answered `clean`, unless the line is refused
+abbrev pub IsClean : Told → Type 0
+IsClean (Ok text) = text ≡ codes "clean\n"
+IsClean (Err name) = Unit {0}

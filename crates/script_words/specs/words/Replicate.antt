@@ -12,6 +12,7 @@ use Rattle.repl_peer.specs.declared.fault.Report.{Report}
 use Rattle.repl_peer.specs.declared.fault.TargetFault.{TargetFault}
 use Rattle.repl_target.specs.declared.replication.Plan.{Plan}
 use Rattle.script_engine.specs.Serving.{Told, Answering}
+use Rattle.script_databases.specs.AllTied.{CoversUpTo}
 use Rattle.script_databases.specs.Replications.{ReplicatesAlone, ReplicatesByPool, ReplicatesWatched}
 use Rattle.script_databases.specs.Databases.{Program, State, drawn_one, next_made}
 use Rattle.script_databases.specs.Refusals.{GivesOrMemory, run_stop_of, stop_of}
@@ -222,3 +223,19 @@ both_of s ask = do
 
 abbrev pub ReportsReplication : Answering State ReplicateAsk
 ReportsReplication old ask told new = ReplicatesFound old ask (both_of old ask) told new
+
+-- ---- what it may be trusted for: docs/PROFILE.md, "Tied databases"
+
+-- a session that was not stopped, and is told to have come to n: that is the source's update sequence, and the target
+-- covers each leaf of the source's chosen feed
+abbrev pub CoversIfDone : State → List ℕ → List ℕ → Choice → Ending → Type 0
+CoversIfDone s source target chosen (Done report) = CoversUpTo s source target chosen report.recorded
+CoversIfDone s source target chosen (Shown watched) = CoversUpTo s source target chosen watched.report.recorded
+CoversIfDone s source target chosen (Stopped low_water) = Unit {0}
+
+-- a replication is answered with the line of an ending, of which that is so, unless the line is refused
+abbrev pub IsCovered : State → ReplicateAsk → Told → Type 0
+IsCovered s ask (Ok text) =
+    (session : SessionId) × (ending : Ending) × (chosen : Choice) × (text ≡ ending_line session ending)
+    × (choice_given ask.doc_ids ≡ Ok chosen) × CoversIfDone s ask.source ask.target chosen ending
+IsCovered s ask (Err name) = Unit {0}

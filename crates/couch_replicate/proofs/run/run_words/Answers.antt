@@ -2,23 +2,23 @@ use Rattle.std.proofs.Common.{◌≡◌, ℕ, List, Bool, Option, Result, Ok, Er
 use Rattle.std.specs.Prelude.{IfOk, IfErr}
 use Rattle.std.specs.Io.KnownBytes.{Appends, Consumes}
 use Rattle.script_engine.specs.Device.{Gives}
-use Rattle.script_engine.specs.Faults.{IsFaultOf, IsToldUntil}
+use Rattle.script_engine.specs.Faults.{IsToldUntil}
 use Rattle.script_engine.specs.Script.{AnswersEnded, IsAnswered}
 use Rattle.script_engine.specs.declared.fault.ScriptFault.{ScriptFault}
 use Rattle.script_engine.specs.declared.fault.ScriptFault.TheVariants.{Read}
 use Rattle.script_databases.specs.Databases.{Program, State, no_databases}
-use Rattle.script_words.specs.Script.{LinesAnswer}
+use Rattle.script_words.specs.Trust.{TrustedLines}
 use Rattle.couch_replicate.specs.RunWords.{Answered}
 use Rattle.couch_replicate.proofs.run.run_words.Goals as goal
 
 -- what the run of a script answered
-answered : (g : Program) (l l' h h' : Option (List ℕ)) (k k' r r' w w' : ℕ) (x : Result Bool ScriptFault) →
-    IfOk x (λ clean. (input : List ℕ) × (text : List ℕ) × (state : State) × Gives l input × Appends h h' text × IsAnswered LinesAnswer (no_databases g) input clean text state) →
-    IfErr x (λ fault. (input : List ℕ) × (text : List ℕ) × Gives l input × Appends h h' text × IsToldUntil fault LinesAnswer (no_databases g) input text × IsFaultOf fault k k' r r' w w') →
-    IfErr x (λ fault. fault ≡ Read → (taken : List ℕ) × (text : List ℕ) × (state : State) × Consumes l l' taken × Appends h h' text × AnswersEnded LinesAnswer (no_databases g) taken text state) → Answered g l l' h h' x
-answered g l l' h h' k k' r r' w w' (Ok clean) a f e = a
-answered g l l' h h' k k' r r' w w' (Err fault) a (input, text, gives, written, so_far, is) e = ((input, text, gives, written, so_far), e)
+answered : (g : Program) (l l' h h' : Option (List ℕ)) (x : Result Bool ScriptFault) →
+    IfOk x (λ clean. (input : List ℕ) × (text : List ℕ) × (state : State) × Gives l input × Appends h h' text × IsAnswered TrustedLines (no_databases g) input clean text state) →
+    IfErr x (λ fault. (input : List ℕ) × (text : List ℕ) × Gives l input × Appends h h' text × IsToldUntil fault TrustedLines (no_databases g) input text) →
+    IfErr x (λ fault. fault ≡ Read → (taken : List ℕ) × (text : List ℕ) × (state : State) × Consumes l l' taken × Appends h h' text × AnswersEnded TrustedLines (no_databases g) taken text state) → Answered g l l' h h' x
+answered g l l' h h' (Ok clean) a f e = a
+answered g l l' h h' (Err fault) a (input, text, gives, written, so_far) e = ((input, text, gives, written, so_far), e)
 
 pub returns : goal.returns
 returns g c =
-    (c.in-Ok.settings, c.in-Ok.ensures.ok, answered _ _ _ _ _ _ _ _ _ _ _ c.run_script-ended.result c.run_script-ended.ensures.answers c.run_script-ended.ensures.fault c.run_script-ended.ensures.read, c.run_script-ended.ensures.sent)
+    (c.in-Ok.settings, c.in-Ok.ensures.ok, answered _ _ _ _ _ c.run_script-ended.result c.run_script-ended.ensures.trust c.run_script-ended.ensures.trust_until c.run_script-ended.ensures.read, c.run_script-ended.ensures.sent)

@@ -1,0 +1,22 @@
+-- What the answers of a script may be trusted for, whatever its lines are: docs/PROFILE.md, "Tied databases".
+use Rattle.std.specs.Prelude.{ℕ, List, Result, IfOk}
+use Rattle.script_engine.specs.Serving.{Told, Answering}
+use Rattle.script_databases.specs.AllTied.{AllTied}
+use Rattle.script_databases.specs.Databases.{State}
+use Rattle.script_databases.specs.declared.refusal.Refusal.{Refusal}
+use Rattle.script_words.specs.Script.{Asks, AnswersAsked}
+use Rattle.script_words.specs.words.{Asked, audit, replicate}
+use Rattle.script_words.specs.words.Audit.{IsClean}
+use Rattle.script_words.specs.words.Replicate.{IsCovered}
+
+-- what is told to an audit, and to a replication
+abbrev pub IsTrusted : Asked → Told → State → Type 0
+IsTrusted (audit ask) told new = IsClean told
+IsTrusted (replicate ask) told new = IsCovered new ask told
+IsTrusted ask told new = Unit {0}
+
+-- what lines may be told: all databases are tied before a line and behind it, and its answer may be trusted
+abbrev pub TrustedLines : Answering State (List ℕ)
+TrustedLines old line told new =
+    (asked : Result Asked Refusal) × Asks line asked × AnswersAsked old asked told new × AllTied old × AllTied new
+    × IfOk asked (λ ask. IsTrusted ask told new)
