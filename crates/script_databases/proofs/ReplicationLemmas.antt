@@ -179,6 +179,7 @@ run_denied full may plan deny s t s' t' fetched outcome same runs = record {
   grown = (refl, subst (λ f. IsLeft f s.1 t.1 plan t'.1) same runs.grown.1);
   later = runs.later;
   tied = runs.tied;
+  others = runs.others;
   audited = runs.audited;
   put = leaves_denied deny plan s t s' t' outcome runs.put;
   well = runs.well;

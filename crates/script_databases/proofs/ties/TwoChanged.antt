@@ -18,7 +18,7 @@ use Rattle.repl_target.specs.replication.Calls.{IsLeft}
 use Rattle.repl_target.specs.ties.Ties.{IsTiedWith}
 use Rattle.std.proofs.lemmas.Option.{same_Some}
 use Rattle.repl_peer.proofs.lemmas.logs.PutChangesLogsAlone.{logs_later}
-use Rattle.repl_target.proofs.lemmas.replication.BothWays.{left_log}
+use Rattle.repl_target.proofs.lemmas.replication.OthersStayTied.{left_log}
 use Rattle.script_databases.specs.Databases.{State, peer_at, with_peer}
 use Rattle.script_databases.specs.Replications.{with_both}
 use Rattle.script_databases.specs.AllTied.{IsOther, LeadToOthers, ComeFromOthers, AreCopiesOf, AllTied}
