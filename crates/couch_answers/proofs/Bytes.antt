@@ -1,43 +1,84 @@
--- Single bytes of answers, from a place on.
-use Rattle.std.proofs.Common.{◌≡◌, ℕ, ◌+◌, ◌-◌, ◌==◌, nat_lt, length, List, [], ◌∷◌, ◌++◌, Bool, true, false, cond, refl, sym, ap, subst, ◌∙◌, arith}
+-- Single bytes of answers, from a place on, where documents are wanted.
+use Rattle.std.proofs.Common.{◌≡◌, ℕ, ◌+◌, ◌-◌, ◌==◌, ◌&&◌, ◌||◌, nat_lt, length, slice_index, List, [], ◌∷◌, ◌++◌, Bool, true, false, cond, refl, sym, ap, subst, ◌∙◌, arith, Option, Some}
 use Rattle.std.proofs.lemmas.Bool.{and_right}
-use Rattle.couch_answers.specs.State.{State, is_space, is_json}
-use Rattle.couch_answers.specs.Names.{name_of}
+use Rattle.document_texts.specs.Texts.{is_space, is_json, IsPlain}
+use Rattle.document_texts.specs.Names.{is_log}
+use Rattle.couch_answers.specs.Wanted.{wants_documents, wants_leaves, wants_changes, is_strict, covered}
+use Rattle.couch_answers.specs.State.{State, at}
+use Rattle.couch_answers.specs.Names.{name_of, is_plain}
+use Rattle.couch_answers.specs.Objects.{key_ended, plain_begun}
 use Rattle.couch_answers.specs.Steps.{step}
 use Rattle.couch_answers.specs.Reading.{given, Piece}
-use Rattle.couch_answers.specs.Grammar.{IsPlain, IsOfText, of_document, of_passed, of_last, of_other, held}
+use Rattle.couch_answers.specs.Grammar.{Holds, document, no_object, of_passed, of_last, of_other}
 use Rattle.couch_answers.specs.declared.place.Place.{Place}
-use Rattle.couch_answers.specs.declared.place.Place.TheVariants.{Start, Between, Item, NextItem, AfterItem, Member, NextMember, AfterMember, Key, KeyEscape, Colon, List as ListPlace, Value, Quoted, Escaped}
-use Rattle.couch_answers.specs.declared.place.Wanted.TheVariants.{Documents}
+use Rattle.couch_answers.specs.declared.place.Place.TheVariants.{Start, Begin, Between, Item, NextItem, AfterItem, Member, NextMember, AfterMember, Key, KeyEscape, Colon, List as ListPlace, Value, Quoted, Escaped}
+use Rattle.couch_answers.specs.declared.place.Wanted.{Wanted}
+use Rattle.couch_answers.specs.declared.place.Wanted.TheVariants.{Documents, Enveloped, Bodies, Unfolded, Leaves, Changes}
 use Rattle.couch_answers.specs.declared.place.Name.{Name}
 use Rattle.couch_answers.specs.declared.place.Name.TheVariants as names
+use Rattle.couch_answers.specs.declared.place.Found.TheVariants as found
+
+-- ---- what is wanted
+
+pub no_leaves : (w : Wanted) → wants_documents w ≡ true → wants_leaves w ≡ false
+no_leaves Documents h = refl
+no_leaves Enveloped h = refl
+no_leaves Bodies h = refl
+no_leaves Unfolded h = refl
+no_leaves Leaves h = absurd (cc)
+no_leaves Changes h = refl
+
+pub no_changes : (w : Wanted) → wants_documents w ≡ true → wants_changes w ≡ false
+no_changes Documents h = refl
+no_changes Enveloped h = refl
+no_changes Bodies h = refl
+no_changes Unfolded h = refl
+no_changes Leaves h = refl
+no_changes Changes h = absurd (cc)
+
+-- within lists no name says anything else, where documents are wanted
+pub name_same : (w : Wanted) → wants_documents w ≡ true → (first inner : Bool) (d : ℕ) (t : List ℕ) → name_of w first inner false d t ≡ name_of w first false false d t
+unfolding name_of
+name_same Documents h first inner d t = refl
+name_same Enveloped h first inner d t = refl
+name_same Bodies h first inner d t = refl
+name_same Unfolded h first inner d t = refl
+name_same Leaves h first inner d t = absurd (cc)
+name_same Changes h first inner d t = absurd (cc)
 
 -- ---- outside of values
 
 -- a reading that stands there, with so many lists and objects open
-pub record At (p : Place) (d : ℕ) (s : State) : Type 0 where
-  pub wanted : s.wanted ≡ Documents
+pub record At (w : Wanted) (p : Place) (d : ℕ) (s : State) : Type 0 where
+  pub wanted : s.wanted ≡ w
   pub place : s.place ≡ p
   pub depth : s.depth ≡ d
+  pub diff : s.diff ≡ false
 
-abbrev pub settled : State → Place → ℕ → State
-settled s p d = record s { wanted = Documents; place = p; depth = d }
+abbrev pub settled : State → Wanted → Place → ℕ → State
+settled s w p d = record s { wanted = w; place = p; depth = d; diff = false }
 
-is_settled : {p : Place} {d : ℕ} (s : State) → At p d s → s ≡ settled s p d
-is_settled s h = λ i. record s { wanted = h.wanted i; place = h.place i; depth = h.depth i }
+is_settled : {w : Wanted} {p : Place} {d : ℕ} (s : State) → At w p d s → s ≡ settled s w p d
+is_settled s h = λ i. record s { wanted = h.wanted i; place = h.place i; depth = h.depth i; diff = h.diff i }
 
 -- a byte leads from one place to another, and makes these pieces whole
-abbrev pub Steps : Place → ℕ → ℕ → Place → ℕ → List Piece → Type 0
-Steps p d b p' d' ps = (s : State) → At p d s → At p' d' (step s b) × (given (step s b) ≡ ps)
+abbrev pub Steps : Wanted → Place → ℕ → ℕ → Place → ℕ → List Piece → Type 0
+Steps w p d b p' d' ps = (s : State) → At w p d s → At w p' d' (step s b) × (given (step s b) ≡ ps)
 
-steps : (p : Place) (d b : ℕ) (p' : Place) (d' : ℕ) (ps : List Piece) → ((s : State) → At p' d' (step (settled s p d) b) × (given (step (settled s p d) b) ≡ ps)) → Steps p d b p' d' ps
-steps p d b p' d' ps f s h = subst (λ z. At p' d' (step z b) × (given (step z b) ≡ ps)) (sym (is_settled s h)) (f s)
+steps : (w : Wanted) (p : Place) (d b : ℕ) (p' : Place) (d' : ℕ) (ps : List Piece) → ((s : State) → At w p' d' (step (settled s w p d) b) × (given (step (settled s w p d) b) ≡ ps)) → Steps w p d b p' d' ps
+steps w p d b p' d' ps f s h = subst (λ z. At w p' d' (step z b) × (given (step z b) ≡ ps)) (sym (is_settled s h)) (f s)
+
+-- the same, whether the object has a known member or not
+steps_known : (w : Wanted) (p : Place) (d b : ℕ) (p' : Place) (d' : ℕ) (ps : List Piece)
+    → ((s : State) (k : Bool) → At w p' d' (step (record (settled s w p d) { known = k }) b) × (given (step (record (settled s w p d) { known = k }) b) ≡ ps)) → Steps w p d b p' d' ps
+steps_known w p d b p' d' ps f = steps w p d b p' d' ps (λ s. f s s.known)
 
 -- ---- brackets and commas
 
 -- an object may stand there, and a list
 pub data BeforeObject : Place → Type 0 where
   o_start : BeforeObject Start
+  o_begin : BeforeObject Begin
   o_between : BeforeObject Between
   o_item : BeforeObject Item
   o_next : BeforeObject NextItem
@@ -47,18 +88,20 @@ pub data BeforeList : Place → Type 0 where
   l_between : BeforeList Between
   l_list : BeforeList ListPlace
 
-pub opens_object : {p : Place} (d : ℕ) → BeforeObject p → nat_lt d 8 ≡ true → Steps p d 123 Member (d + 1) []
-unfolding step
-opens_object d o_start h = steps Start d 123 Member (d + 1) [] (λ s. rw h (record { wanted = refl; place = refl; depth = refl }, refl))
-opens_object d o_between h = steps Between d 123 Member (d + 1) [] (λ s. rw h (record { wanted = refl; place = refl; depth = refl }, refl))
-opens_object d o_item h = steps Item d 123 Member (d + 1) [] (λ s. rw h (record { wanted = refl; place = refl; depth = refl }, refl))
-opens_object d o_next h = steps NextItem d 123 Member (d + 1) [] (λ s. rw h (record { wanted = refl; place = refl; depth = refl }, refl))
+module _ (w : Wanted) where
+  pub opens_object : {p : Place} (d : ℕ) → BeforeObject p → nat_lt d 8 ≡ true → Steps w p d 123 Member (d + 1) []
+  unfolding step
+  opens_object d o_start h = steps w Start d 123 Member (d + 1) [] (λ s. rw h (record { wanted = refl; place = refl; depth = refl; diff = refl }, refl))
+  opens_object d o_begin h = steps w Begin d 123 Member (d + 1) [] (λ s. rw h (record { wanted = refl; place = refl; depth = refl; diff = refl }, refl))
+  opens_object d o_between h = steps w Between d 123 Member (d + 1) [] (λ s. rw h (record { wanted = refl; place = refl; depth = refl; diff = refl }, refl))
+  opens_object d o_item h = steps w Item d 123 Member (d + 1) [] (λ s. rw h (record { wanted = refl; place = refl; depth = refl; diff = refl }, refl))
+  opens_object d o_next h = steps w NextItem d 123 Member (d + 1) [] (λ s. rw h (record { wanted = refl; place = refl; depth = refl; diff = refl }, refl))
 
-pub opens_list : {p : Place} (d : ℕ) → BeforeList p → nat_lt d 8 ≡ true → Steps p d 91 Item (d + 1) []
-unfolding step
-opens_list d l_start h = steps Start d 91 Item (d + 1) [] (λ s. rw h (record { wanted = refl; place = refl; depth = refl }, refl))
-opens_list d l_between h = steps Between d 91 Item (d + 1) [] (λ s. rw h (record { wanted = refl; place = refl; depth = refl }, refl))
-opens_list d l_list h = steps ListPlace d 91 Item (d + 1) [] (λ s. rw h (record { wanted = refl; place = refl; depth = refl }, refl))
+  pub opens_list : {p : Place} (d : ℕ) → BeforeList p → wants_changes w ≡ false → nat_lt d 8 ≡ true → Steps w p d 91 Item (d + 1) []
+  unfolding step
+  opens_list d l_start c h = steps w Start d 91 Item (d + 1) [] (λ s. rw (c, h) (record { wanted = refl; place = refl; depth = refl; diff = refl }, refl))
+  opens_list d l_between c h = steps w Between d 91 Item (d + 1) [] (λ s. rw (c, h) (record { wanted = refl; place = refl; depth = refl; diff = refl }, refl))
+  opens_list d l_list c h = steps w ListPlace d 91 Item (d + 1) [] (λ s. rw h (record { wanted = refl; place = refl; depth = refl; diff = refl }, refl))
 
 -- behind what closes, with so many still open
 abbrev pub closed_at : ℕ → Place → Place
@@ -67,39 +110,44 @@ closed_at d p = cond (nat_lt 1 (d + 1)) p Between
 less_one : (d : ℕ) → (d + 1) - 1 ≡ d
 less_one d = omega arith
 
-pub closes_empty : (d : ℕ) → Steps Member (d + 1) 125 (closed_at d AfterItem) d []
-unfolding step
-closes_empty d = steps Member (d + 1) 125 (closed_at d AfterItem) d [] (λ s. (record { wanted = refl; place = refl; depth = less_one d }, refl))
+module _ (w : Wanted) where
+  pub closes_empty : (d : ℕ) → wants_leaves w ≡ false → is_strict w ≡ false → Steps w Member (d + 1) 125 (closed_at d AfterItem) d []
+  unfolding step
+  closes_empty d l h = steps w Member (d + 1) 125 (closed_at d AfterItem) d [] (λ s. rw (l, h) (record { wanted = refl; place = refl; depth = less_one d; diff = refl }, refl))
 
-pub closes_object : (d : ℕ) → Steps AfterMember (d + 1) 125 (closed_at d AfterItem) d []
-unfolding step
-closes_object d = steps AfterMember (d + 1) 125 (closed_at d AfterItem) d [] (λ s. (record { wanted = refl; place = refl; depth = less_one d }, refl))
+  pub closes_object : (d : ℕ) → is_strict w ≡ false → Steps w AfterMember (d + 1) 125 (closed_at d AfterItem) d []
+  unfolding step
+  closes_object d h = steps_known w AfterMember (d + 1) 125 (closed_at d AfterItem) d [] by_known where
+    by_known : (s : State) (k : Bool) → At w (closed_at d AfterItem) d (step (record (settled s w AfterMember (d + 1)) { known = k }) 125) × (given (step (record (settled s w AfterMember (d + 1)) { known = k }) 125) ≡ [])
+    by_known s true = (record { wanted = refl; place = refl; depth = less_one d; diff = refl }, refl)
+    by_known s false = rw h (record { wanted = refl; place = refl; depth = less_one d; diff = refl }, refl)
 
-pub closes_no_items : (d : ℕ) → Steps Item (d + 1) 93 (closed_at d AfterMember) d []
-unfolding step
-closes_no_items d = steps Item (d + 1) 93 (closed_at d AfterMember) d [] (λ s. (record { wanted = refl; place = refl; depth = less_one d }, refl))
+  pub closes_no_items : (d : ℕ) → Steps w Item (d + 1) 93 (closed_at d AfterMember) d []
+  unfolding step
+  closes_no_items d = steps w Item (d + 1) 93 (closed_at d AfterMember) d [] (λ s. (record { wanted = refl; place = refl; depth = less_one d; diff = refl }, refl))
 
-pub closes_list : (d : ℕ) → Steps AfterItem (d + 1) 93 (closed_at d AfterMember) d []
-unfolding step
-closes_list d = steps AfterItem (d + 1) 93 (closed_at d AfterMember) d [] (λ s. (record { wanted = refl; place = refl; depth = less_one d }, refl))
+  pub closes_list : (d : ℕ) → Steps w AfterItem (d + 1) 93 (closed_at d AfterMember) d []
+  unfolding step
+  closes_list d = steps w AfterItem (d + 1) 93 (closed_at d AfterMember) d [] (λ s. (record { wanted = refl; place = refl; depth = less_one d; diff = refl }, refl))
 
-pub item_comma : (d : ℕ) → Steps AfterItem d 44 NextItem d []
-unfolding step
-item_comma d = steps AfterItem d 44 NextItem d [] (λ s. (record { wanted = refl; place = refl; depth = refl }, refl))
+  pub item_comma : (d : ℕ) → Steps w AfterItem d 44 NextItem d []
+  unfolding step
+  item_comma d = steps w AfterItem d 44 NextItem d [] (λ s. (record { wanted = refl; place = refl; depth = refl; diff = refl }, refl))
 
-pub member_comma : (d : ℕ) → Steps AfterMember d 44 NextMember d []
-unfolding step
-member_comma d = steps AfterMember d 44 NextMember d [] (λ s. (record { wanted = refl; place = refl; depth = refl }, refl))
+  pub member_comma : (d : ℕ) → Steps w AfterMember d 44 NextMember d []
+  unfolding step
+  member_comma d = steps w AfterMember d 44 NextMember d [] (λ s. (record { wanted = refl; place = refl; depth = refl; diff = refl }, refl))
 
-pub list_colon : (d : ℕ) → Steps (Colon names.List) d 58 ListPlace d []
-unfolding step
-list_colon d = steps (Colon names.List) d 58 ListPlace d [] (λ s. (record { wanted = refl; place = refl; depth = refl }, refl))
+  pub list_colon : (d : ℕ) → wants_leaves w ≡ false → Steps w (Colon names.List) d 58 ListPlace d []
+  unfolding step
+  list_colon d l = steps w (Colon names.List) d 58 ListPlace d [] (λ s. rw l (record { wanted = refl; place = refl; depth = refl; diff = refl }, refl))
 
 -- ---- white space
 
 -- it may stand there
 pub data MaySpace : Place → Type 0 where
   s_start : MaySpace Start
+  s_begin : MaySpace Begin
   s_between : MaySpace Between
   s_item : MaySpace Item
   s_next_item : MaySpace NextItem
@@ -110,160 +158,224 @@ pub data MaySpace : Place → Type 0 where
   s_colon : {name : Name} → MaySpace (Colon name)
   s_list : MaySpace ListPlace
 
-pub spaced : {p : Place} (d b : ℕ) → MaySpace p → is_space b ≡ true → Steps p d b p d []
-unfolding step
-spaced d b s_start h = steps Start d b Start d [] (λ s. rw h (record { wanted = refl; place = refl; depth = refl }, refl))
-spaced d b s_between h = steps Between d b Between d [] (λ s. rw h (record { wanted = refl; place = refl; depth = refl }, refl))
-spaced d b s_item h = steps Item d b Item d [] (λ s. rw h (record { wanted = refl; place = refl; depth = refl }, refl))
-spaced d b s_next_item h = steps NextItem d b NextItem d [] (λ s. rw h (record { wanted = refl; place = refl; depth = refl }, refl))
-spaced d b s_after_item h = steps AfterItem d b AfterItem d [] (λ s. rw h (record { wanted = refl; place = refl; depth = refl }, refl))
-spaced d b s_member h = steps Member d b Member d [] (λ s. rw h (record { wanted = refl; place = refl; depth = refl }, refl))
-spaced d b s_next_member h = steps NextMember d b NextMember d [] (λ s. rw h (record { wanted = refl; place = refl; depth = refl }, refl))
-spaced d b s_after_member h = steps AfterMember d b AfterMember d [] (λ s. rw h (record { wanted = refl; place = refl; depth = refl }, refl))
-spaced d b (s_colon {name}) h = steps (Colon name) d b (Colon name) d [] (λ s. rw h (record { wanted = refl; place = refl; depth = refl }, refl))
-spaced d b s_list h = steps ListPlace d b ListPlace d [] (λ s. rw h (record { wanted = refl; place = refl; depth = refl }, refl))
+module _ (w : Wanted) where
+  pub spaced : {p : Place} (d b : ℕ) → MaySpace p → is_space b ≡ true → Steps w p d b p d []
+  unfolding step
+  spaced d b s_start h = steps w Start d b Start d [] (λ s. rw h (record { wanted = refl; place = refl; depth = refl; diff = refl }, refl))
+  spaced d b s_begin h = steps w Begin d b Begin d [] (λ s. rw h (record { wanted = refl; place = refl; depth = refl; diff = refl }, refl))
+  spaced d b s_between h = steps w Between d b Between d [] (λ s. rw h (record { wanted = refl; place = refl; depth = refl; diff = refl }, refl))
+  spaced d b s_item h = steps w Item d b Item d [] (λ s. rw h (record { wanted = refl; place = refl; depth = refl; diff = refl }, refl))
+  spaced d b s_next_item h = steps w NextItem d b NextItem d [] (λ s. rw h (record { wanted = refl; place = refl; depth = refl; diff = refl }, refl))
+  spaced d b s_after_item h = steps w AfterItem d b AfterItem d [] (λ s. rw h (record { wanted = refl; place = refl; depth = refl; diff = refl }, refl))
+  spaced d b s_member h = steps w Member d b Member d [] (λ s. rw h (record { wanted = refl; place = refl; depth = refl; diff = refl }, refl))
+  spaced d b s_next_member h = steps w NextMember d b NextMember d [] (λ s. rw h (record { wanted = refl; place = refl; depth = refl; diff = refl }, refl))
+  spaced d b s_after_member h = steps w AfterMember d b AfterMember d [] (λ s. rw h (record { wanted = refl; place = refl; depth = refl; diff = refl }, refl))
+  spaced d b (s_colon {name}) h = steps w (Colon name) d b (Colon name) d [] (λ s. rw h (record { wanted = refl; place = refl; depth = refl; diff = refl }, refl))
+  spaced d b s_list h = steps w ListPlace d b ListPlace d [] (λ s. rw h (record { wanted = refl; place = refl; depth = refl; diff = refl }, refl))
 
--- ---- names and values
+-- ---- names
 
--- a reading within a text, of which so much was taken
-pub record Within (p : Place) (d n : ℕ) (u : List ℕ) (s : State) : Type 0 where
-  pub wanted : s.wanted ≡ Documents
+-- a reading within a name, of which so much was taken
+pub record InKey (w : Wanted) (p : Place) (f : Bool) (d : ℕ) (u : List ℕ) (s : State) : Type 0 where
+  pub wanted : s.wanted ≡ w
   pub place : s.place ≡ p
   pub depth : s.depth ≡ d
+  pub diff : s.diff ≡ false
+  pub first : s.first ≡ f
+  pub text : s.text ≡ u
+
+abbrev pub key_in : State → Wanted → Place → Bool → ℕ → List ℕ → State
+key_in s w p f d u = record s { wanted = w; place = p; depth = d; diff = false; first = f; text = u }
+
+is_key_in : {w : Wanted} {p : Place} {f : Bool} {d : ℕ} {u : List ℕ} (s : State) → InKey w p f d u s → s ≡ key_in s w p f d u
+is_key_in s h = λ i. record s { wanted = h.wanted i; place = h.place i; depth = h.depth i; diff = h.diff i; first = h.first i; text = h.text i }
+
+-- a byte leads from one state to another, and makes these pieces whole
+abbrev pub Leads1 : (State → Type 0) → ℕ → (State → Type 0) → List Piece → Type 0
+Leads1 P b Q ps = (s : State) → P s → Q (step s b) × (given (step s b) ≡ ps)
+
+keys : (Q : State → Type 0) (w : Wanted) (p : Place) (f : Bool) (d : ℕ) (u : List ℕ) (b : ℕ) (ps : List Piece) → ((s : State) → Q (step (key_in s w p f d u) b) × (given (step (key_in s w p f d u) b) ≡ ps)) → Leads1 (InKey w p f d u) b Q ps
+keys Q w p f d u b ps g s h = subst (λ z. Q (step z b) × (given (step z b) ≡ ps)) (sym (is_key_in s h)) (g s)
+
+from_at : (Q : State → Type 0) (w : Wanted) (p : Place) (d b : ℕ) (ps : List Piece) → ((s : State) → Q (step (settled s w p d) b) × (given (step (settled s w p d) b) ≡ ps)) → Leads1 (At w p d) b Q ps
+from_at Q w p d b ps g s h = subst (λ z. Q (step z b) × (given (step z b) ≡ ps)) (sym (is_settled s h)) (g s)
+
+abbrev pub BeginsKey : Wanted → Place → Bool → ℕ → Type 0
+BeginsKey w p f d = Leads1 (At w p d) 34 (InKey w Key f d (34 ∷ [])) []
+
+module _ (w : Wanted) where
+  pub first_key : (d : ℕ) → BeginsKey w Member true d
+  unfolding step
+  first_key d = from_at (InKey w Key true d (34 ∷ [])) w Member d 34 [] (λ s. (record { wanted = refl; place = refl; depth = refl; diff = refl; first = refl; text = refl }, refl))
+
+  pub next_key : (d : ℕ) → BeginsKey w NextMember false d
+  unfolding step
+  next_key d = from_at (InKey w Key false d (34 ∷ [])) w NextMember d 34 [] (λ s. (record { wanted = refl; place = refl; depth = refl; diff = refl; first = refl; text = refl }, refl))
+
+  module _ (f : Bool) (d : ℕ) (u : List ℕ) where
+    pub key_plain : (b : ℕ) → (b == 34) ≡ false → (b == 92) ≡ false → Leads1 (InKey w Key f d u) b (InKey w Key f d (u ++ b ∷ [])) []
+    unfolding step
+    key_plain b e g = keys (InKey w Key f d (u ++ b ∷ [])) w Key f d u b [] (λ s. rw (e, g) (record { wanted = refl; place = refl; depth = refl; diff = refl; first = refl; text = refl }, refl))
+
+    pub key_escape : Leads1 (InKey w Key f d u) 92 (InKey w KeyEscape f d (u ++ 92 ∷ [])) []
+    unfolding step
+    key_escape = keys (InKey w KeyEscape f d (u ++ 92 ∷ [])) w Key f d u 92 [] (λ s. (record { wanted = refl; place = refl; depth = refl; diff = refl; first = refl; text = refl }, refl))
+
+    pub key_escaped : (b : ℕ) → Leads1 (InKey w KeyEscape f d u) b (InKey w Key f d (u ++ b ∷ [])) []
+    unfolding step
+    key_escaped b = keys (InKey w Key f d (u ++ b ∷ [])) w KeyEscape f d u b [] (λ s. (record { wanted = refl; place = refl; depth = refl; diff = refl; first = refl; text = refl }, refl))
+
+-- ---- values
+
+-- a reading within a text, of which so much was taken
+pub record Within (w : Wanted) (p : Place) (d n : ℕ) (u : List ℕ) (s : State) : Type 0 where
+  pub wanted : s.wanted ≡ w
+  pub place : s.place ≡ p
+  pub depth : s.depth ≡ d
+  pub diff : s.diff ≡ false
   pub nesting : s.nesting ≡ n
   pub text : s.text ≡ u
 
-abbrev pub held_in : State → Place → ℕ → ℕ → List ℕ → State
-held_in s p d n u = record s { wanted = Documents; place = p; depth = d; nesting = n; text = u }
+abbrev pub held_in : State → Wanted → Place → ℕ → ℕ → List ℕ → State
+held_in s w p d n u = record s { wanted = w; place = p; depth = d; diff = false; nesting = n; text = u }
 
-is_held : {p : Place} {d n : ℕ} {u : List ℕ} (s : State) → Within p d n u s → s ≡ held_in s p d n u
-is_held s h = λ i. record s { wanted = h.wanted i; place = h.place i; depth = h.depth i; nesting = h.nesting i; text = h.text i }
+is_held : {w : Wanted} {p : Place} {d n : ℕ} {u : List ℕ} (s : State) → Within w p d n u s → s ≡ held_in s w p d n u
+is_held s h = λ i. record s { wanted = h.wanted i; place = h.place i; depth = h.depth i; diff = h.diff i; nesting = h.nesting i; text = h.text i }
 
-abbrev pub Takes : Place → ℕ → ℕ → List ℕ → ℕ → Place → ℕ → List ℕ → Type 0
-Takes p d n u b p' n' u' = (s : State) → Within p d n u s → Within p' d n' u' (step s b) × (given (step s b) ≡ [])
+within : (Q : State → Type 0) (w : Wanted) (p : Place) (d n : ℕ) (u : List ℕ) (b : ℕ) (ps : List Piece) → ((s : State) → Q (step (held_in s w p d n u) b) × (given (step (held_in s w p d n u) b) ≡ ps)) → Leads1 (Within w p d n u) b Q ps
+within Q w p d n u b ps g s h = subst (λ z. Q (step z b) × (given (step z b) ≡ ps)) (sym (is_held s h)) (g s)
 
-takes : (p : Place) (d n : ℕ) (u : List ℕ) (b : ℕ) (p' : Place) (n' : ℕ) (u' : List ℕ) → ((s : State) → Within p' d n' u' (step (held_in s p d n u) b) × (given (step (held_in s p d n u) b) ≡ [])) → Takes p d n u b p' n' u'
-takes p d n u b p' n' u' f s h = subst (λ z. Within p' d n' u' (step z b) × (given (step z b) ≡ [])) (sym (is_held s h)) (f s)
+-- the same, whether the object has a known member or not
+within_known : (Q : State → Type 0) (w : Wanted) (p : Place) (d n : ℕ) (u : List ℕ) (b : ℕ) (ps : List Piece)
+    → ((s : State) (k : Bool) → Q (step (record (held_in s w p d n u) { known = k }) b) × (given (step (record (held_in s w p d n u) { known = k }) b) ≡ ps)) → Leads1 (Within w p d n u) b Q ps
+within_known Q w p d n u b ps g = within Q w p d n u b ps (λ s. g s s.known)
 
--- a byte behind the whole text
-abbrev pub EndsText : Place → ℕ → ℕ → List ℕ → ℕ → Place → ℕ → List Piece → Type 0
-EndsText p d n u b p' d' ps = (s : State) → Within p d n u s → At p' d' (step s b) × (given (step s b) ≡ ps)
+abbrev pub Takes : Wanted → Place → ℕ → ℕ → List ℕ → ℕ → Place → ℕ → List ℕ → Type 0
+Takes w p d n u b p' n' u' = Leads1 (Within w p d n u) b (Within w p' d n' u') []
 
-ends : (p : Place) (d n : ℕ) (u : List ℕ) (b : ℕ) (p' : Place) (d' : ℕ) (ps : List Piece) → ((s : State) → At p' d' (step (held_in s p d n u) b) × (given (step (held_in s p d n u) b) ≡ ps)) → EndsText p d n u b p' d' ps
-ends p d n u b p' d' ps f s h = subst (λ z. At p' d' (step z b) × (given (step z b) ≡ ps)) (sym (is_held s h)) (f s)
+-- the end of a name
 
--- where a text begins
-abbrev pub Begins : Place → ℕ → ℕ → Place → ℕ → List ℕ → Type 0
-Begins p d b p' n u = (s : State) → At p d s → (m : ℕ) × Within p' d m u (step s b) × (given (step s b) ≡ [])
+colon_at : (name : Name) (s : State) → is_plain name ≡ false → key_ended name s ≡ at (Colon name) s
+colon_at name s h = rw h
+
+module _ (w : Wanted) (docs : wants_documents w ≡ true) (f : Bool) (d : ℕ) (u : List ℕ) (json : is_json (u ++ 34 ∷ []) ≡ true) where
+  pub key_end : (name : Name) → is_plain name ≡ false → name_of w f false false d (u ++ 34 ∷ []) ≡ name → Leads1 (InKey w Key f d u) 34 (At w (Colon name) d) []
+  unfolding step
+  key_end name other says = keys (At w (Colon name) d) w Key f d u 34 [] (λ s. rw (json, name_same w docs f s.inner d (u ++ 34 ∷ []), says, other) (record { wanted = refl; place = refl; depth = refl; diff = refl }, refl))
+
+module _ (w : Wanted) (f : Bool) (d : ℕ) (u : List ℕ) (json : is_json (u ++ 34 ∷ []) ≡ true) where
+  pub key_itself : ((inner : Bool) → name_of w f inner false d (u ++ 34 ∷ []) ≡ names.Plain) → Leads1 (InKey w Key f d u) 34 (Within w (Value names.Plain) d 1 (123 ∷ 34 ∷ 95 ∷ 105 ∷ 100 ∷ 34 ∷ [])) []
+  unfolding step
+  key_itself says = keys (Within w (Value names.Plain) d 1 (123 ∷ 34 ∷ 95 ∷ 105 ∷ 100 ∷ 34 ∷ [])) w Key f d u 34 [] (λ s. rw (json, says s.inner) (record { wanted = refl; place = refl; depth = refl; diff = refl; nesting = refl; text = refl }, refl))
+
+module _ (w : Wanted) (leaves : wants_leaves w ≡ false) where
+  pub value_colon : {name : Name} {u : List ℕ} {ps : List Piece} (d : ℕ) → Holds w name u ps → Leads1 (At w (Colon name) d) 58 (Within w (Value name) d 0 []) []
+  unfolding step
+  value_colon d (document e c) = from_at (Within w (Value names.Document) d 0 []) w (Colon names.Document) d 58 [] (λ s. rw leaves (record { wanted = refl; place = refl; depth = refl; diff = refl; nesting = refl; text = refl }, refl))
+  value_colon d (no_object e) = from_at (Within w (Value names.Document) d 0 []) w (Colon names.Document) d 58 [] (λ s. rw leaves (record { wanted = refl; place = refl; depth = refl; diff = refl; nesting = refl; text = refl }, refl))
+  value_colon d of_passed = from_at (Within w (Value names.Passed) d 0 []) w (Colon names.Passed) d 58 [] (λ s. rw leaves (record { wanted = refl; place = refl; depth = refl; diff = refl; nesting = refl; text = refl }, refl))
+  value_colon d of_last = from_at (Within w (Value names.Last) d 0 []) w (Colon names.Last) d 58 [] (λ s. rw leaves (record { wanted = refl; place = refl; depth = refl; diff = refl; nesting = refl; text = refl }, refl))
+  value_colon d of_other = from_at (Within w (Value names.Other) d 0 []) w (Colon names.Other) d 58 [] (λ s. rw leaves (record { wanted = refl; place = refl; depth = refl; diff = refl; nesting = refl; text = refl }, refl))
 
 some_not_zero : (n : ℕ) → (n + 1 == 0) ≡ false
 some_not_zero n = grind arith
 
--- ---- names
-
-abbrev pub BeginsKey : Place → ℕ → Type 0
-BeginsKey p d = (s : State) → At p d s → Within Key d s.nesting (34 ∷ []) (step s 34) × (given (step s 34) ≡ [])
-
-begins_key : (p : Place) (d : ℕ) → ((s : State) → Within Key d s.nesting (34 ∷ []) (step (settled s p d) 34) × (given (step (settled s p d) 34) ≡ [])) → BeginsKey p d
-begins_key p d f s h = subst (λ z. Within Key d s.nesting (34 ∷ []) (step z 34) × (given (step z 34) ≡ [])) (sym (is_settled s h)) (f s)
-
-pub first_key : (d : ℕ) → BeginsKey Member d
-unfolding step
-first_key d = begins_key Member d (λ s. (record { wanted = refl; place = refl; depth = refl; nesting = refl; text = refl }, refl))
-
-pub next_key : (d : ℕ) → BeginsKey NextMember d
-unfolding step
-next_key d = begins_key NextMember d (λ s. (record { wanted = refl; place = refl; depth = refl; nesting = refl; text = refl }, refl))
-
-module _ (d n : ℕ) (u : List ℕ) where
-  pub key_plain : (b : ℕ) → (b == 34) ≡ false → (b == 92) ≡ false → Takes Key d n u b Key n (u ++ b ∷ [])
+module _ (w : Wanted) (name : Name) (d n : ℕ) (u : List ℕ) where
+  pub value_lead : (b : ℕ) → is_space b ≡ true → Takes w (Value name) d 0 [] b (Value name) 0 []
   unfolding step
-  key_plain b e f = takes Key d n u b Key n (u ++ b ∷ []) (λ s. rw (e, f) (record { wanted = refl; place = refl; depth = refl; nesting = refl; text = refl }, refl))
+  value_lead b e = within (Within w (Value name) d 0 []) w (Value name) d 0 [] b [] (λ s. rw e (record { wanted = refl; place = refl; depth = refl; diff = refl; nesting = refl; text = refl }, refl))
 
-  pub key_escape : Takes Key d n u 92 KeyEscape n (u ++ 92 ∷ [])
+  pub value_space : (b : ℕ) → is_space b ≡ true → (length u == 0) ≡ false → Takes w (Value name) d n u b (Value name) n (u ++ 32 ∷ [])
   unfolding step
-  key_escape = takes Key d n u 92 KeyEscape n (u ++ 92 ∷ []) (λ s. (record { wanted = refl; place = refl; depth = refl; nesting = refl; text = refl }, refl))
+  value_space b e f = within (Within w (Value name) d n (u ++ 32 ∷ [])) w (Value name) d n u b [] (λ s. rw (e, f) (record { wanted = refl; place = refl; depth = refl; diff = refl; nesting = refl; text = refl }, refl))
 
-  pub key_escaped : (b : ℕ) → Takes KeyEscape d n u b Key n (u ++ b ∷ [])
+  pub value_plain : (b : ℕ) → IsPlain n b → Takes w (Value name) d n u b (Value name) n (u ++ b ∷ [])
   unfolding step
-  key_escaped b = takes KeyEscape d n u b Key n (u ++ b ∷ []) (λ s. (record { wanted = refl; place = refl; depth = refl; nesting = refl; text = refl }, refl))
+  value_plain b h = within (Within w (Value name) d n (u ++ b ∷ [])) w (Value name) d n u b [] (λ s. rw (h.space, h.comma, h.quote, h.opens, h.closes) (record { wanted = refl; place = refl; depth = refl; diff = refl; nesting = refl; text = refl }, refl))
 
-inner_same : (inner : Bool) (t : List ℕ) → name_of Documents inner t ≡ name_of Documents false t
-unfolding name_of
-inner_same inner t = refl
-
-pub key_end : (d n : ℕ) (u : List ℕ) (name : Name) → is_json (u ++ 34 ∷ []) ≡ true → name_of Documents false (u ++ 34 ∷ []) ≡ name → EndsText Key d n u 34 (Colon name) d []
-unfolding step
-key_end d n u name json says = ends Key d n u 34 (Colon name) d [] (λ s. rw json (record { wanted = refl; place = ap Colon (inner_same s.inner (u ++ 34 ∷ []) ∙ says); depth = refl }, refl))
-
--- ---- values
-
-pub value_colon : {name : Name} (d : ℕ) → IsOfText name → (s : State) → At (Colon name) d s → Within (Value name) d 0 [] (step s 58) × (given (step s 58) ≡ [])
-unfolding step
-value_colon d of_document s h = subst (λ z. Within (Value names.Document) d 0 [] (step z 58) × (given (step z 58) ≡ [])) (sym (is_settled s h)) (record { wanted = refl; place = refl; depth = refl; nesting = refl; text = refl }, refl)
-value_colon d of_passed s h = subst (λ z. Within (Value names.Passed) d 0 [] (step z 58) × (given (step z 58) ≡ [])) (sym (is_settled s h)) (record { wanted = refl; place = refl; depth = refl; nesting = refl; text = refl }, refl)
-value_colon d of_last s h = subst (λ z. Within (Value names.Last) d 0 [] (step z 58) × (given (step z 58) ≡ [])) (sym (is_settled s h)) (record { wanted = refl; place = refl; depth = refl; nesting = refl; text = refl }, refl)
-value_colon d of_other s h = subst (λ z. Within (Value names.Other) d 0 [] (step z 58) × (given (step z 58) ≡ [])) (sym (is_settled s h)) (record { wanted = refl; place = refl; depth = refl; nesting = refl; text = refl }, refl)
-
-module _ (name : Name) (d n : ℕ) (u : List ℕ) where
-  pub value_lead : (b : ℕ) → is_space b ≡ true → Takes (Value name) d 0 [] b (Value name) 0 []
+  pub value_quote : Takes w (Value name) d n u 34 (Quoted name) n (u ++ 34 ∷ [])
   unfolding step
-  value_lead b e = takes (Value name) d 0 [] b (Value name) 0 [] (λ s. rw e (record { wanted = refl; place = refl; depth = refl; nesting = refl; text = refl }, refl))
+  value_quote = within (Within w (Quoted name) d n (u ++ 34 ∷ [])) w (Value name) d n u 34 [] (λ s. rw (and_right (n == 0) false refl) (record { wanted = refl; place = refl; depth = refl; diff = refl; nesting = refl; text = refl }, refl))
 
-  pub value_space : (b : ℕ) → is_space b ≡ true → (length u == 0) ≡ false → Takes (Value name) d n u b (Value name) n (u ++ 32 ∷ [])
+  pub object_opens : nat_lt n 128 ≡ true → Takes w (Value name) d n u 123 (Value name) (n + 1) (u ++ 123 ∷ [])
   unfolding step
-  value_space b e f = takes (Value name) d n u b (Value name) n (u ++ 32 ∷ []) (λ s. rw (e, f) (record { wanted = refl; place = refl; depth = refl; nesting = refl; text = refl }, refl))
+  object_opens e = within (Within w (Value name) d (n + 1) (u ++ 123 ∷ [])) w (Value name) d n u 123 [] (λ s. rw (and_right (n == 0) false refl, e) (record { wanted = refl; place = refl; depth = refl; diff = refl; nesting = refl; text = refl }, refl))
 
-  pub value_plain : (b : ℕ) → IsPlain n b → Takes (Value name) d n u b (Value name) n (u ++ b ∷ [])
+  pub list_opens : nat_lt n 128 ≡ true → Takes w (Value name) d n u 91 (Value name) (n + 1) (u ++ 91 ∷ [])
   unfolding step
-  value_plain b h = takes (Value name) d n u b (Value name) n (u ++ b ∷ []) (λ s. rw (h.space, h.comma, h.quote, h.opens, h.closes) (record { wanted = refl; place = refl; depth = refl; nesting = refl; text = refl }, refl))
+  list_opens e = within (Within w (Value name) d (n + 1) (u ++ 91 ∷ [])) w (Value name) d n u 91 [] (λ s. rw (and_right (n == 0) false refl, e) (record { wanted = refl; place = refl; depth = refl; diff = refl; nesting = refl; text = refl }, refl))
 
-  pub value_quote : Takes (Value name) d n u 34 (Quoted name) n (u ++ 34 ∷ [])
+  pub object_closes : (n + 1 == 1 && is_plain name) ≡ false → Takes w (Value name) d (n + 1) u 125 (Value name) n (u ++ 125 ∷ [])
   unfolding step
-  value_quote = takes (Value name) d n u 34 (Quoted name) n (u ++ 34 ∷ []) (λ s. rw (and_right (n == 0) false refl) (record { wanted = refl; place = refl; depth = refl; nesting = refl; text = refl }, refl))
+  object_closes e = within (Within w (Value name) d n (u ++ 125 ∷ [])) w (Value name) d (n + 1) u 125 [] (λ s. rw (some_not_zero n, e) (record { wanted = refl; place = refl; depth = refl; diff = refl; nesting = less_one n; text = refl }, refl))
 
-  pub object_opens : nat_lt n 128 ≡ true → Takes (Value name) d n u 123 (Value name) (n + 1) (u ++ 123 ∷ [])
+  pub list_closes : (n + 1 == 1 && is_plain name) ≡ false → Takes w (Value name) d (n + 1) u 93 (Value name) n (u ++ 93 ∷ [])
   unfolding step
-  object_opens e = takes (Value name) d n u 123 (Value name) (n + 1) (u ++ 123 ∷ []) (λ s. rw (and_right (n == 0) false refl, e) (record { wanted = refl; place = refl; depth = refl; nesting = refl; text = refl }, refl))
+  list_closes e = within (Within w (Value name) d n (u ++ 93 ∷ [])) w (Value name) d (n + 1) u 93 [] (λ s. rw (some_not_zero n, e) (record { wanted = refl; place = refl; depth = refl; diff = refl; nesting = less_one n; text = refl }, refl))
 
-  pub list_opens : nat_lt n 128 ≡ true → Takes (Value name) d n u 91 (Value name) (n + 1) (u ++ 91 ∷ [])
+  pub quoted_plain : (b : ℕ) → (b == 34) ≡ false → (b == 92) ≡ false → Takes w (Quoted name) d n u b (Quoted name) n (u ++ b ∷ [])
   unfolding step
-  list_opens e = takes (Value name) d n u 91 (Value name) (n + 1) (u ++ 91 ∷ []) (λ s. rw (and_right (n == 0) false refl, e) (record { wanted = refl; place = refl; depth = refl; nesting = refl; text = refl }, refl))
+  quoted_plain b e f = within (Within w (Quoted name) d n (u ++ b ∷ [])) w (Quoted name) d n u b [] (λ s. rw (e, f) (record { wanted = refl; place = refl; depth = refl; diff = refl; nesting = refl; text = refl }, refl))
 
-  pub object_closes : Takes (Value name) d (n + 1) u 125 (Value name) n (u ++ 125 ∷ [])
+  pub quoted_escape : Takes w (Quoted name) d n u 92 (Escaped name) n (u ++ 92 ∷ [])
   unfolding step
-  object_closes = takes (Value name) d (n + 1) u 125 (Value name) n (u ++ 125 ∷ []) (λ s. rw (some_not_zero n) (record { wanted = refl; place = refl; depth = refl; nesting = less_one n; text = refl }, refl))
+  quoted_escape = within (Within w (Escaped name) d n (u ++ 92 ∷ [])) w (Quoted name) d n u 92 [] (λ s. (record { wanted = refl; place = refl; depth = refl; diff = refl; nesting = refl; text = refl }, refl))
 
-  pub list_closes : Takes (Value name) d (n + 1) u 93 (Value name) n (u ++ 93 ∷ [])
+  pub quoted_escaped : (b : ℕ) → Takes w (Escaped name) d n u b (Quoted name) n (u ++ b ∷ [])
   unfolding step
-  list_closes = takes (Value name) d (n + 1) u 93 (Value name) n (u ++ 93 ∷ []) (λ s. rw (some_not_zero n) (record { wanted = refl; place = refl; depth = refl; nesting = less_one n; text = refl }, refl))
+  quoted_escaped b = within (Within w (Quoted name) d n (u ++ b ∷ [])) w (Escaped name) d n u b [] (λ s. (record { wanted = refl; place = refl; depth = refl; diff = refl; nesting = refl; text = refl }, refl))
 
-  pub quoted_plain : (b : ℕ) → (b == 34) ≡ false → (b == 92) ≡ false → Takes (Quoted name) d n u b (Quoted name) n (u ++ b ∷ [])
+  pub quoted_end : Takes w (Quoted name) d n u 34 (Value name) n (u ++ 34 ∷ [])
   unfolding step
-  quoted_plain b e f = takes (Quoted name) d n u b (Quoted name) n (u ++ b ∷ []) (λ s. rw (e, f) (record { wanted = refl; place = refl; depth = refl; nesting = refl; text = refl }, refl))
+  quoted_end = within (Within w (Value name) d n (u ++ 34 ∷ [])) w (Quoted name) d n u 34 [] (λ s. (record { wanted = refl; place = refl; depth = refl; diff = refl; nesting = refl; text = refl }, refl))
 
-  pub quoted_escape : Takes (Quoted name) d n u 92 (Escaped name) n (u ++ 92 ∷ [])
+-- ---- the byte behind a value
+
+module _ (w : Wanted) (d : ℕ) (u : List ℕ) (json : is_json u ≡ true) where
+  pub ends_comma : {name : Name} {ps : List Piece} → Holds w name u ps → Leads1 (Within w (Value name) d 0 u) 44 (At w NextMember d) ps
   unfolding step
-  quoted_escape = takes (Quoted name) d n u 92 (Escaped name) n (u ++ 92 ∷ []) (λ s. (record { wanted = refl; place = refl; depth = refl; nesting = refl; text = refl }, refl))
+  ends_comma (document {v} e c) = within (At w NextMember d) w (Value names.Document) d 0 u 44 ((found.Document, v) ∷ []) (λ s. rw (json, e, c) (record { wanted = refl; place = refl; depth = refl; diff = refl }, refl))
+  ends_comma (no_object e) = within (At w NextMember d) w (Value names.Document) d 0 u 44 [] (λ s. rw (json, e) (record { wanted = refl; place = refl; depth = refl; diff = refl }, refl))
+  ends_comma of_passed = within (At w NextMember d) w (Value names.Passed) d 0 u 44 [] (λ s. rw json (record { wanted = refl; place = refl; depth = refl; diff = refl }, refl))
+  ends_comma of_last = within (At w NextMember d) w (Value names.Last) d 0 u 44 [] (λ s. rw json (record { wanted = refl; place = refl; depth = refl; diff = refl }, refl))
+  ends_comma of_other = within (At w NextMember d) w (Value names.Other) d 0 u 44 [] (λ s. rw json (record { wanted = refl; place = refl; depth = refl; diff = refl }, refl))
 
-  pub quoted_escaped : (b : ℕ) → Takes (Escaped name) d n u b (Quoted name) n (u ++ b ∷ [])
+  pub ends_brace : {name : Name} {ps : List Piece} → is_strict w ≡ false → Holds w name u ps → Leads1 (Within w (Value name) (d + 1) 0 u) 125 (At w (closed_at d AfterItem) d) ps
   unfolding step
-  quoted_escaped b = takes (Escaped name) d n u b (Quoted name) n (u ++ b ∷ []) (λ s. (record { wanted = refl; place = refl; depth = refl; nesting = refl; text = refl }, refl))
+  ends_brace h (document {v} e c) = within_known (At w (closed_at d AfterItem) d) w (Value names.Document) (d + 1) 0 u 125 ((found.Document, v) ∷ []) by_known where
+    by_known : (s : State) (k : Bool) → At w (closed_at d AfterItem) d (step (record (held_in s w (Value names.Document) (d + 1) 0 u) { known = k }) 125) × (given (step (record (held_in s w (Value names.Document) (d + 1) 0 u) { known = k }) 125) ≡ (found.Document, v) ∷ [])
+    by_known s true = rw (json, e, c) (record { wanted = refl; place = refl; depth = less_one d; diff = refl }, refl)
+    by_known s false = rw (json, e, h, c) (record { wanted = refl; place = refl; depth = less_one d; diff = refl }, refl)
+  ends_brace h (no_object e) = within_known (At w (closed_at d AfterItem) d) w (Value names.Document) (d + 1) 0 u 125 [] by_known where
+    by_known : (s : State) (k : Bool) → At w (closed_at d AfterItem) d (step (record (held_in s w (Value names.Document) (d + 1) 0 u) { known = k }) 125) × (given (step (record (held_in s w (Value names.Document) (d + 1) 0 u) { known = k }) 125) ≡ [])
+    by_known s true = rw (json, e) (record { wanted = refl; place = refl; depth = less_one d; diff = refl }, refl)
+    by_known s false = rw (json, e, h) (record { wanted = refl; place = refl; depth = less_one d; diff = refl }, refl)
+  ends_brace h of_passed = within_known (At w (closed_at d AfterItem) d) w (Value names.Passed) (d + 1) 0 u 125 [] by_known where
+    by_known : (s : State) (k : Bool) → At w (closed_at d AfterItem) d (step (record (held_in s w (Value names.Passed) (d + 1) 0 u) { known = k }) 125) × (given (step (record (held_in s w (Value names.Passed) (d + 1) 0 u) { known = k }) 125) ≡ [])
+    by_known s true = rw json (record { wanted = refl; place = refl; depth = less_one d; diff = refl }, refl)
+    by_known s false = rw (json, h) (record { wanted = refl; place = refl; depth = less_one d; diff = refl }, refl)
+  ends_brace h of_last = within_known (At w (closed_at d AfterItem) d) w (Value names.Last) (d + 1) 0 u 125 [] by_known where
+    by_known : (s : State) (k : Bool) → At w (closed_at d AfterItem) d (step (record (held_in s w (Value names.Last) (d + 1) 0 u) { known = k }) 125) × (given (step (record (held_in s w (Value names.Last) (d + 1) 0 u) { known = k }) 125) ≡ [])
+    by_known s true = rw json (record { wanted = refl; place = refl; depth = less_one d; diff = refl }, refl)
+    by_known s false = rw (json, h) (record { wanted = refl; place = refl; depth = less_one d; diff = refl }, refl)
+  ends_brace h of_other = within_known (At w (closed_at d AfterItem) d) w (Value names.Other) (d + 1) 0 u 125 [] by_known where
+    by_known : (s : State) (k : Bool) → At w (closed_at d AfterItem) d (step (record (held_in s w (Value names.Other) (d + 1) 0 u) { known = k }) 125) × (given (step (record (held_in s w (Value names.Other) (d + 1) 0 u) { known = k }) 125) ≡ [])
+    by_known s true = rw json (record { wanted = refl; place = refl; depth = less_one d; diff = refl }, refl)
+    by_known s false = rw (json, h) (record { wanted = refl; place = refl; depth = less_one d; diff = refl }, refl)
 
-  pub quoted_end : Takes (Quoted name) d n u 34 (Value name) n (u ++ 34 ∷ [])
+-- ---- the brace that closes a document that is the object itself
+
+module _ (w : Wanted) (d : ℕ) (u : List ℕ) (json : is_json (u ++ 125 ∷ []) ≡ true) where
+  pub itself_ends : (v : List ℕ) → wants_documents w ≡ true → is_log (u ++ 125 ∷ []) ≡ false → covered w (u ++ 125 ∷ []) ≡ Some v
+      → Leads1 (Within w (Value names.Plain) (d + 1) 1 u) 125 (At w (closed_at d AfterItem) d) ((found.Document, v) ∷ [])
   unfolding step
-  quoted_end = takes (Quoted name) d n u 34 (Value name) n (u ++ 34 ∷ []) (λ s. (record { wanted = refl; place = refl; depth = refl; nesting = refl; text = refl }, refl))
+  itself_ends v docs e c = within (At w (closed_at d AfterItem) d) w (Value names.Plain) (d + 1) 1 u 125 ((found.Document, v) ∷ []) (λ s. rw (json, docs, e, c) (record { wanted = refl; place = refl; depth = less_one d; diff = refl }, refl))
 
-pub ends_comma : {name : Name} (d : ℕ) (u : List ℕ) → IsOfText name → is_json u ≡ true → EndsText (Value name) d 0 u 44 NextMember d (held name u)
-unfolding step
-ends_comma d u of_document e = ends (Value names.Document) d 0 u 44 NextMember d (held names.Document u) (λ s. rw e (record { wanted = refl; place = refl; depth = refl }, refl))
-ends_comma d u of_passed e = ends (Value names.Passed) d 0 u 44 NextMember d (held names.Passed u) (λ s. rw e (record { wanted = refl; place = refl; depth = refl }, refl))
-ends_comma d u of_last e = ends (Value names.Last) d 0 u 44 NextMember d (held names.Last u) (λ s. rw e (record { wanted = refl; place = refl; depth = refl }, refl))
-ends_comma d u of_other e = ends (Value names.Other) d 0 u 44 NextMember d (held names.Other u) (λ s. rw e (record { wanted = refl; place = refl; depth = refl }, refl))
+  pub log_ends : wants_documents w ≡ true → is_log (u ++ 125 ∷ []) ≡ true → Leads1 (Within w (Value names.Plain) (d + 1) 1 u) 125 (At w (closed_at d AfterItem) d) []
+  unfolding step
+  log_ends docs e = within (At w (closed_at d AfterItem) d) w (Value names.Plain) (d + 1) 1 u 125 [] (λ s. rw (json, docs, e) (record { wanted = refl; place = refl; depth = less_one d; diff = refl }, refl))
 
-pub ends_brace : {name : Name} (d : ℕ) (u : List ℕ) → IsOfText name → is_json u ≡ true → EndsText (Value name) (d + 1) 0 u 125 (closed_at d AfterItem) d (held name u)
-unfolding step
-ends_brace d u of_document e = ends (Value names.Document) (d + 1) 0 u 125 (closed_at d AfterItem) d (held names.Document u) (λ s. rw e (record { wanted = refl; place = refl; depth = less_one d }, refl))
-ends_brace d u of_passed e = ends (Value names.Passed) (d + 1) 0 u 125 (closed_at d AfterItem) d (held names.Passed u) (λ s. rw e (record { wanted = refl; place = refl; depth = less_one d }, refl))
-ends_brace d u of_last e = ends (Value names.Last) (d + 1) 0 u 125 (closed_at d AfterItem) d (held names.Last u) (λ s. rw e (record { wanted = refl; place = refl; depth = less_one d }, refl))
-ends_brace d u of_other e = ends (Value names.Other) (d + 1) 0 u 125 (closed_at d AfterItem) d (held names.Other u) (λ s. rw e (record { wanted = refl; place = refl; depth = less_one d }, refl))
+  -- where none is wanted
+  pub unwanted_ends : wants_documents w ≡ false → Leads1 (Within w (Value names.Plain) (d + 1) 1 u) 125 (At w (closed_at d AfterItem) d) []
+  unfolding step
+  unwanted_ends docs = within (At w (closed_at d AfterItem) d) w (Value names.Plain) (d + 1) 1 u 125 [] (λ s. rw (json, docs) (record { wanted = refl; place = refl; depth = less_one d; diff = refl }, refl))

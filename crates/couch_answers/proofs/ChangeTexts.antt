@@ -1,45 +1,52 @@
 -- A script's answers are read as the changes among them.
-use Rattle.std.proofs.Common.{◌≡◌, ℕ, ◌||◌, ◌==◌, List, [], ◌∷◌, ◌++◌, true, false, refl, sym, ap, subst, ◌∙◌, append_assoc, append-nil}
+use Rattle.std.proofs.Common.{◌≡◌, ℕ, ◌||◌, ◌==◌, List, [], ◌∷◌, ◌++◌, Bool, true, false, inl, inr, refl, sym, ap, subst, ◌∙◌, append_assoc, append-nil}
 use Rattle.std.specs.Prelude.{codes}
 use Rattle.std.specs.List.{list_all}
 use Rattle.std.specs.Str.{bytes_eq}
 use Rattle.std.proofs.lemmas.Bool.{and_parts, not-true}
-use Rattle.couch_answers.specs.State.{State, start, is_json}
-use Rattle.couch_answers.specs.Changes.{is_blank, is_lower, is_digit, is_rev_byte}
+use Rattle.document_texts.specs.Texts.{is_space, is_json, EndsString, ends, plain, escaped}
+use Rattle.couch_answers.specs.State.{State, start}
+use Rattle.couch_answers.specs.Lines.{is_lower, is_digit, is_rev_byte}
 use Rattle.couch_answers.specs.Steps.{step}
 use Rattle.couch_answers.specs.Reading.{after, given, pieces, Piece}
-use Rattle.couch_answers.specs.Grammar.{EndsString, ends, plain, escaped}
 use Rattle.couch_answers.specs.LineGrammar.{InOneLine}
 use Rattle.couch_answers.specs.ChangeGrammar.{AreRevs, last_rev, rev, is_word_byte, AreChanges, none, empty, change, object, word, words}
-use Rattle.couch_answers.specs.declared.place.Place.TheVariants.{Line}
+use Rattle.couch_answers.specs.declared.place.Place.TheVariants.{Begin, Between, Line}
 use Rattle.couch_answers.specs.declared.place.LinePlace.{LinePlace}
 use Rattle.couch_answers.specs.declared.place.LinePlace.TheVariants as at
+use Rattle.couch_answers.specs.declared.place.Wanted.{Wanted}
 use Rattle.couch_answers.specs.declared.place.Wanted.TheVariants.{Changes}
 use Rattle.couch_answers.specs.declared.place.Found.TheVariants.{Id, Rev}
-use Rattle.couch_answers.proofs.AnswerTexts.{Leads, none_read, then, then_held, joined}
-use Rattle.couch_answers.proofs.LineTexts.{no_end}
+use Rattle.couch_answers.proofs.Bytes.{At, settled, o_begin, o_between, s_begin, s_between, spaced}
+use Rattle.couch_answers.proofs.Texts.{Leads, none_read, then, then_held, joined}
+use Rattle.couch_answers.proofs.Itself.{unwanted}
+use Rattle.couch_answers.proofs.LineTexts.{no_end, lower_bracket, Before, from_either, to_between, is_at, EndsLines, before_ends, starts_strict}
 
 -- a reading of changes that stands there, with so much of a text
 record Stands (p : LinePlace) (s : State) : Type 0 where
   wanted : s.wanted ≡ Changes
   place : s.place ≡ Line p
+  depth : s.depth ≡ 0
+  diff : s.diff ≡ false
 
 record Holds (p : LinePlace) (u : List ℕ) (s : State) : Type 0 where
   wanted : s.wanted ≡ Changes
   place : s.place ≡ Line p
+  depth : s.depth ≡ 0
+  diff : s.diff ≡ false
   text : s.text ≡ u
 
 abbrev stood : State → LinePlace → State
-stood s p = record s { wanted = Changes; place = Line p }
+stood s p = record s { wanted = Changes; place = Line p; depth = 0; diff = false }
 
 abbrev held_in : State → LinePlace → List ℕ → State
-held_in s p u = record s { wanted = Changes; place = Line p; text = u }
+held_in s p u = record s { wanted = Changes; place = Line p; depth = 0; diff = false; text = u }
 
 is_stood : {p : LinePlace} (s : State) → Stands p s → s ≡ stood s p
-is_stood s h = λ i. record s { wanted = h.wanted i; place = h.place i }
+is_stood s h = λ i. record s { wanted = h.wanted i; place = h.place i; depth = h.depth i; diff = h.diff i }
 
 is_held : {p : LinePlace} {u : List ℕ} (s : State) → Holds p u s → s ≡ held_in s p u
-is_held s h = λ i. record s { wanted = h.wanted i; place = h.place i; text = h.text i }
+is_held s h = λ i. record s { wanted = h.wanted i; place = h.place i; depth = h.depth i; diff = h.diff i; text = h.text i }
 
 -- a byte from a place on, from a text on, and from a text to a place
 module _ (p q : LinePlace) (b : ℕ) where
@@ -55,92 +62,102 @@ module _ (p q : LinePlace) (b : ℕ) where
   leaves : (u : List ℕ) (ps : List Piece) → ((s : State) → Stands q (step (held_in s p u) b) × (given (step (held_in s p u) b) ≡ ps)) → (s : State) → Holds p u s → Stands q (step s b) × (given (step s b) ≡ ps)
   leaves u ps f s h = subst (λ z. Stands q (step z b) × (given (step z b) ≡ ps)) (sym (is_held s h)) (f s)
 
+-- from a text to the end of its line
+ends_line : (p : LinePlace) (u : List ℕ) (ps : List Piece) → ((s : State) → At Changes Between 0 (step (held_in s p u) 10) × (given (step (held_in s p u) 10) ≡ ps)) → (s : State) → Holds p u s → Before Changes (step s 10) × (given (step s 10) ≡ ps)
+ends_line p u ps f s h = subst (λ z. Before Changes (step z 10) × (given (step z 10) ≡ ps)) (sym (is_held s h)) (let r = f s in (inr r.0, r.1))
+
+-- a list or an object was closed before, or not: a line end leads before the next line
+or_true : (b : Bool) → (b || true) ≡ true
+or_true true = refl
+or_true false = refl
+
 -- ---- bytes
 
-blank_step : (b : ℕ) → is_blank b ≡ true → (s : State) → Stands at.Begin s → Stands at.Begin (step s b) × (given (step s b) ≡ [])
-unfolding step
-blank_step b h = stands at.Begin at.Begin b [] (λ s. rw h (record { wanted = refl; place = refl }, refl))
-
-object_step : (s : State) → Stands at.Begin s → Stands at.Rest (step s 123) × (given (step s 123) ≡ [])
-unfolding step
-object_step = stands at.Begin at.Rest 123 [] (λ s. (record { wanted = refl; place = refl }, refl))
+blank_step : (b : ℕ) → is_space b ≡ true → (s : State) → Before Changes s → Before Changes (step s b) × (given (step s b) ≡ [])
+blank_step b h s (inl here) = let r = spaced Changes 0 b s_begin h s here in (inl r.0, r.1)
+blank_step b h s (inr here) = let r = spaced Changes 0 b s_between h s here in (inr r.0, r.1)
 
 rest_step : (b : ℕ) → (b == 10) ≡ false → (s : State) → Stands at.Rest s → Stands at.Rest (step s b) × (given (step s b) ≡ [])
 unfolding step
-rest_step b e = stands at.Rest at.Rest b [] (λ s. rw e (record { wanted = refl; place = refl }, refl))
+rest_step b e = stands at.Rest at.Rest b [] (λ s. rw e (record { wanted = refl; place = refl; depth = refl; diff = refl }, refl))
 
-rest_end : (s : State) → Stands at.Rest s → Stands at.Begin (step s 10) × (given (step s 10) ≡ [])
+rest_end : (s : State) → Stands at.Rest s → Before Changes (step s 10) × (given (step s 10) ≡ [])
 unfolding step
-rest_end = stands at.Rest at.Begin 10 [] (λ s. (record { wanted = refl; place = refl }, refl))
+rest_end s h = subst (λ z. Before Changes (step z 10) × (given (step z 10) ≡ [])) (sym (is_stood s h)) (rw (or_true s.some) (inr (record { wanted = refl; place = refl; depth = refl; diff = refl }), refl))
 
-word_begins : (b : ℕ) → is_blank b ≡ false → is_lower b ≡ true → (s : State) → Stands at.Begin s → Holds at.Word (b ∷ []) (step s b) × (given (step s b) ≡ [])
+word_begins : (b : ℕ) → is_space b ≡ false → is_lower b ≡ true → (s : State) → Before Changes s → Holds at.Word (b ∷ []) (step s b) × (given (step s b) ≡ [])
 unfolding step
-word_begins b e h = begins at.Begin at.Word b (b ∷ []) (λ s. rw (e, h) (record { wanted = refl; place = refl; text = refl }, refl))
+word_begins b e h s (inl here) =
+    let k = lower_bracket b h in
+    subst (λ z. Holds at.Word (b ∷ []) (step z b) × (given (step z b) ≡ [])) (sym (is_at s here)) (rw (e, k.0, k.1, h) (record { wanted = refl; place = refl; depth = refl; diff = refl; text = refl }, refl))
+word_begins b e h s (inr here) =
+    let k = lower_bracket b h in
+    subst (λ z. Holds at.Word (b ∷ []) (step z b) × (given (step z b) ≡ [])) (sym (is_at s here)) (rw (e, k.0, k.1, h) (record { wanted = refl; place = refl; depth = refl; diff = refl; text = refl }, refl))
 
 word_step : (u : List ℕ) (b : ℕ) → (b == 10 || b == 32) ≡ false → (s : State) → Holds at.Word u s → Holds at.Word (u ++ b ∷ []) (step s b) × (given (step s b) ≡ [])
 unfolding step
-word_step u b e = holds at.Word at.Word b u (u ++ b ∷ []) (λ s. rw e (record { wanted = refl; place = refl; text = refl }, refl))
+word_step u b e = holds at.Word at.Word b u (u ++ b ∷ []) (λ s. rw e (record { wanted = refl; place = refl; depth = refl; diff = refl; text = refl }, refl))
 
-word_end : (u : List ℕ) → bytes_eq u (codes "change") ≡ false → (s : State) → Holds at.Word u s → Stands at.Begin (step s 10) × (given (step s 10) ≡ [])
+word_end : (u : List ℕ) → bytes_eq u (codes "change") ≡ false → (s : State) → Holds at.Word u s → Before Changes (step s 10) × (given (step s 10) ≡ [])
 unfolding step
-word_end u e = leaves at.Word at.Begin 10 u [] (λ s. rw e (record { wanted = refl; place = refl }, refl))
+word_end u e = ends_line at.Word u [] (λ s. rw (e, or_true s.some) (record { wanted = refl; place = refl; depth = refl; diff = refl }, refl))
 
 word_blank : (u : List ℕ) → bytes_eq u (codes "change") ≡ false → (s : State) → Holds at.Word u s → Stands at.Rest (step s 32) × (given (step s 32) ≡ [])
 unfolding step
-word_blank u e = leaves at.Word at.Rest 32 u [] (λ s. rw e (record { wanted = refl; place = refl }, refl))
+word_blank u e = leaves at.Word at.Rest 32 u [] (λ s. rw e (record { wanted = refl; place = refl; depth = refl; diff = refl }, refl))
 
 -- the word of a change
 change_end : (s : State) → Holds at.Word (codes "change") s → Stands at.Seq (step s 32) × (given (step s 32) ≡ [])
 unfolding step
-change_end = leaves at.Word at.Seq 32 (codes "change") [] (λ s. (record { wanted = refl; place = refl }, refl))
+change_end = leaves at.Word at.Seq 32 (codes "change") [] (λ s. (record { wanted = refl; place = refl; depth = refl; diff = refl }, refl))
 
 digit_step : (b : ℕ) → is_digit b ≡ true → (s : State) → Stands at.Seq s → Stands at.Seq (step s b) × (given (step s b) ≡ [])
 unfolding step
-digit_step b h = stands at.Seq at.Seq b [] (λ s. rw h (record { wanted = refl; place = refl }, refl))
+digit_step b h = stands at.Seq at.Seq b [] (λ s. rw h (record { wanted = refl; place = refl; depth = refl; diff = refl }, refl))
 
 seq_end : (s : State) → Stands at.Seq s → Stands at.BeforeId (step s 32) × (given (step s 32) ≡ [])
 unfolding step
-seq_end = stands at.Seq at.BeforeId 32 [] (λ s. (record { wanted = refl; place = refl }, refl))
+seq_end = stands at.Seq at.BeforeId 32 [] (λ s. (record { wanted = refl; place = refl; depth = refl; diff = refl }, refl))
 
 id_begins : (s : State) → Stands at.BeforeId s → Holds at.Id (34 ∷ []) (step s 34) × (given (step s 34) ≡ [])
 unfolding step
-id_begins = begins at.BeforeId at.Id 34 (34 ∷ []) (λ s. (record { wanted = refl; place = refl; text = refl }, refl))
+id_begins = begins at.BeforeId at.Id 34 (34 ∷ []) (λ s. (record { wanted = refl; place = refl; depth = refl; diff = refl; text = refl }, refl))
 
 id_plain : (u : List ℕ) (b : ℕ) → (b == 34) ≡ false → (b == 92) ≡ false → (s : State) → Holds at.Id u s → Holds at.Id (u ++ b ∷ []) (step s b) × (given (step s b) ≡ [])
 unfolding step
-id_plain u b e f = holds at.Id at.Id b u (u ++ b ∷ []) (λ s. rw (e, f) (record { wanted = refl; place = refl; text = refl }, refl))
+id_plain u b e f = holds at.Id at.Id b u (u ++ b ∷ []) (λ s. rw (e, f) (record { wanted = refl; place = refl; depth = refl; diff = refl; text = refl }, refl))
 
 id_escape : (u : List ℕ) → (s : State) → Holds at.Id u s → Holds at.IdEscape (u ++ 92 ∷ []) (step s 92) × (given (step s 92) ≡ [])
 unfolding step
-id_escape u = holds at.Id at.IdEscape 92 u (u ++ 92 ∷ []) (λ s. (record { wanted = refl; place = refl; text = refl }, refl))
+id_escape u = holds at.Id at.IdEscape 92 u (u ++ 92 ∷ []) (λ s. (record { wanted = refl; place = refl; depth = refl; diff = refl; text = refl }, refl))
 
 id_escaped : (u : List ℕ) (b : ℕ) → (s : State) → Holds at.IdEscape u s → Holds at.Id (u ++ b ∷ []) (step s b) × (given (step s b) ≡ [])
 unfolding step
-id_escaped u b = holds at.IdEscape at.Id b u (u ++ b ∷ []) (λ s. (record { wanted = refl; place = refl; text = refl }, refl))
+id_escaped u b = holds at.IdEscape at.Id b u (u ++ b ∷ []) (λ s. (record { wanted = refl; place = refl; depth = refl; diff = refl; text = refl }, refl))
 
 id_end : (u : List ℕ) → is_json (u ++ 34 ∷ []) ≡ true → (s : State) → Holds at.Id u s → Stands at.AfterId (step s 34) × (given (step s 34) ≡ (Id, u ++ 34 ∷ []) ∷ [])
 unfolding step
-id_end u json = leaves at.Id at.AfterId 34 u ((Id, u ++ 34 ∷ []) ∷ []) (λ s. rw json (record { wanted = refl; place = refl }, refl))
+id_end u json = leaves at.Id at.AfterId 34 u ((Id, u ++ 34 ∷ []) ∷ []) (λ s. rw json (record { wanted = refl; place = refl; depth = refl; diff = refl }, refl))
 
 id_blank : (s : State) → Stands at.AfterId s → Stands at.BeforeRev (step s 32) × (given (step s 32) ≡ [])
 unfolding step
-id_blank = stands at.AfterId at.BeforeRev 32 [] (λ s. (record { wanted = refl; place = refl }, refl))
+id_blank = stands at.AfterId at.BeforeRev 32 [] (λ s. (record { wanted = refl; place = refl; depth = refl; diff = refl }, refl))
 
 rev_begins : (b : ℕ) → is_rev_byte b ≡ true → (s : State) → Stands at.BeforeRev s → Holds at.Rev (34 ∷ b ∷ []) (step s b) × (given (step s b) ≡ [])
 unfolding step
-rev_begins b h = begins at.BeforeRev at.Rev b (34 ∷ b ∷ []) (λ s. rw h (record { wanted = refl; place = refl; text = refl }, refl))
+rev_begins b h = begins at.BeforeRev at.Rev b (34 ∷ b ∷ []) (λ s. rw h (record { wanted = refl; place = refl; depth = refl; diff = refl; text = refl }, refl))
 
 rev_step : (u : List ℕ) (b : ℕ) → is_rev_byte b ≡ true → (s : State) → Holds at.Rev u s → Holds at.Rev (u ++ b ∷ []) (step s b) × (given (step s b) ≡ [])
 unfolding step
-rev_step u b h = holds at.Rev at.Rev b u (u ++ b ∷ []) (λ s. rw h (record { wanted = refl; place = refl; text = refl }, refl))
+rev_step u b h = holds at.Rev at.Rev b u (u ++ b ∷ []) (λ s. rw h (record { wanted = refl; place = refl; depth = refl; diff = refl; text = refl }, refl))
 
 rev_comma : (u : List ℕ) → (s : State) → Holds at.Rev u s → Stands at.BeforeRev (step s 44) × (given (step s 44) ≡ (Rev, u ++ 34 ∷ []) ∷ [])
 unfolding step
-rev_comma u = leaves at.Rev at.BeforeRev 44 u ((Rev, u ++ 34 ∷ []) ∷ []) (λ s. (record { wanted = refl; place = refl }, refl))
+rev_comma u = leaves at.Rev at.BeforeRev 44 u ((Rev, u ++ 34 ∷ []) ∷ []) (λ s. (record { wanted = refl; place = refl; depth = refl; diff = refl }, refl))
 
-rev_end : (u : List ℕ) → (s : State) → Holds at.Rev u s → Stands at.Begin (step s 10) × (given (step s 10) ≡ (Rev, u ++ 34 ∷ []) ∷ [])
+rev_end : (u : List ℕ) → (s : State) → Holds at.Rev u s → Before Changes (step s 10) × (given (step s 10) ≡ (Rev, u ++ 34 ∷ []) ∷ [])
 unfolding step
-rev_end u = leaves at.Rev at.Begin 10 u ((Rev, u ++ 34 ∷ []) ∷ []) (λ s. (record { wanted = refl; place = refl }, refl))
+rev_end u = ends_line at.Rev u ((Rev, u ++ 34 ∷ []) ∷ []) (λ s. (record { wanted = refl; place = refl; depth = refl; diff = refl }, refl))
 
 -- ---- texts
 
@@ -179,30 +196,31 @@ rev_text u (b ∷ r) h =
     let parts = and_parts (is_rev_byte b) (list_all is_rev_byte r) h in
     to_text (append_assoc u (b ∷ []) r) (then (rev_step u b parts.0) (rev_text (u ++ b ∷ []) r parts.1))
 
-some_revs : (r : List ℕ) (ps : List Piece) → AreRevs r ps → Leads (Stands at.BeforeRev) r (Stands at.Begin) ps
+some_revs : (r : List ℕ) (ps : List Piece) → AreRevs r ps → Leads (Stands at.BeforeRev) r (Before Changes) ps
 some_revs text ps (last_rev {b} r h k) =
     then (rev_begins b h) (joined (rev_text (34 ∷ b ∷ []) r k) (then_held ((Rev, 34 ∷ b ∷ (r ++ 34 ∷ [])) ∷ []) (rev_end (34 ∷ b ∷ r)) none_read))
 some_revs text ps (rev {b} r {more} {ps = qs} h k m) =
     then (rev_begins b h) (joined (rev_text (34 ∷ b ∷ []) r k) (then_held ((Rev, 34 ∷ b ∷ (r ++ 34 ∷ [])) ∷ []) (rev_comma (34 ∷ b ∷ r)) (some_revs more qs m)))
 
-change_word : Leads (Stands at.Begin) (codes "change ") (Stands at.Seq) []
+change_word : Leads (Before Changes) (codes "change ") (Stands at.Seq) []
 change_word =
     then (word_begins 99 refl refl) (then (word_step (99 ∷ []) 104 refl) (then (word_step (99 ∷ 104 ∷ []) 97 refl) (then (word_step (99 ∷ 104 ∷ 97 ∷ []) 110 refl)
     (then (word_step (99 ∷ 104 ∷ 97 ∷ 110 ∷ []) 103 refl) (then (word_step (99 ∷ 104 ∷ 97 ∷ 110 ∷ 103 ∷ []) 101 refl) (then change_end none_read))))))
 
-some_changes : (t : List ℕ) (ps : List Piece) → AreChanges t ps → Leads (Stands at.Begin) t (Stands at.Begin) ps
+some_changes : (t : List ℕ) (ps : List Piece) → AreChanges t ps → Leads (Before Changes) t (Before Changes) ps
 some_changes t ps none = none_read
 some_changes t ps (empty {b} {t = rest} h m) = then (blank_step b h) (some_changes rest ps m)
 some_changes t ps (change n {k} {r} {t = rest} {ps = revs} {qs} h k_ends json m more) =
     joined change_word (joined (digits n h) (then seq_end (then id_begins (joined (id_text (34 ∷ []) k k_ends json) (then id_blank (joined (some_revs r revs m) (some_changes rest qs more)))))))
-some_changes t ps (object x {t = rest} h m) = then object_step (joined (rest_text x h) (then rest_end (some_changes rest ps m)))
+some_changes t ps (object {o} {u} {t = rest} h m) =
+    joined (to_between (from_either (unwanted Changes refl 0 o u refl o_begin refl h) (unwanted Changes refl 0 o u refl o_between refl h))) (some_changes rest ps m)
 some_changes t ps (word {b} w {t = rest} h e n other m) =
     then (word_begins b e h) (joined (word_text (b ∷ []) w n) (then (word_end (b ∷ w) other) (some_changes rest ps m)))
 some_changes t ps (words {b} w x {t = rest} h e n other line m) =
     then (word_begins b e h) (joined (word_text (b ∷ []) w n) (then (word_blank (b ∷ w) other) (joined (rest_text x line) (then rest_end (some_changes rest ps m)))))
 
 -- lines are read to their end, and as the changes that they hold
-pub changes_read : (t : List ℕ) (ps : List Piece) → AreChanges t ps → ((after (start Changes) t).place ≡ Line at.Begin) × (pieces (start Changes) t ≡ ps)
-changes_read t ps h =
-    let run = (some_changes t ps h).runs (start Changes) (record { wanted = refl; place = refl }) in
-    (run.0.place, run.1)
+pub changes_read : (w : Wanted) → w ≡ Changes → (t : List ℕ) (ps : List Piece) → AreChanges t ps → EndsLines (after (start w) t).place × (pieces (start w) t ≡ ps)
+changes_read w is t ps h =
+    let run = (some_changes t ps h).runs (start Changes) (starts_strict Changes refl) in
+    subst (λ z. EndsLines (after (start z) t).place × (pieces (start z) t ≡ ps)) (sym is) (before_ends Changes (after (start Changes) t) run.0, run.1)

@@ -1,8 +1,7 @@
-pub mod Json
 pub mod Readings
-pub mod Runs
 pub mod Bytes
+pub mod Texts
+pub mod Itself
 pub mod AnswerTexts
 pub mod LineTexts
 pub mod ChangeTexts
-pub mod Forms

@@ -1,89 +1,101 @@
 -- A script's answers are read as the documents among them.
-use Rattle.std.proofs.Common.{◌≡◌, ℕ, ◌&&◌, ◌==◌, length, List, [], ◌∷◌, ◌++◌, Bool, true, false, not, cond, refl, sym, ap, subst, ◌∙◌, append_assoc, append-nil, ◌⊎◌, inl, inr}
+use Rattle.std.proofs.Common.{◌≡◌, ℕ, ◌&&◌, ◌||◌, ◌==◌, length, List, [], ◌∷◌, ◌++◌, Bool, true, false, not, cond, refl, sym, ap, subst, ◌∙◌, append_assoc, append-nil, arith, ◌⊎◌, inl, inr, Result, Ok, Err}
 use Rattle.std.specs.List.{list_all}
 use Rattle.std.proofs.lemmas.Bool.{false≢true}
-use Rattle.couch_answers.specs.State.{State, start, is_json}
-use Rattle.couch_answers.specs.Changes.{is_blank, is_lower, is_log}
+use Rattle.document_texts.specs.Texts.{is_space}
+use Rattle.couch_answers.specs.Wanted.{wants_documents, wants_leaves, wants_changes, is_strict}
+use Rattle.couch_answers.specs.State.{State, start}
+use Rattle.couch_answers.specs.Signs.{begins_sign}
+use Rattle.couch_answers.specs.Lines.{is_lower}
 use Rattle.couch_answers.specs.Steps.{step}
-use Rattle.couch_answers.specs.Reading.{after, given, pieces, Piece, has_rest}
-use Rattle.couch_answers.specs.LineGrammar.{InOneLine, AreLines, no_lines, blank, document, log, answer}
+use Rattle.couch_answers.specs.Reading.{after, given, pieces, Piece, has_rest, end_of}
+use Rattle.couch_answers.specs.LineGrammar.{InOneLine, AreLines, no_lines, blank, document, answer}
 use Rattle.couch_answers.specs.declared.place.Place.{Place}
-use Rattle.couch_answers.specs.declared.place.Place.TheVariants.{Start, Between, Item, NextItem, AfterItem, Member, NextMember, AfterMember, Key, KeyEscape, Colon, List as ListPlace, Value, Quoted, Escaped, Line, Refused}
+use Rattle.couch_answers.specs.declared.place.Place.TheVariants.{Start, Begin, Sign, Between, Item, NextItem, AfterItem, Member, NextMember, AfterMember, Key, KeyEscape, Colon, Ahead, List as ListPlace, Value, Quoted, Escaped, Revs, Line, Refused}
 use Rattle.couch_answers.specs.declared.place.LinePlace.{LinePlace}
-use Rattle.couch_answers.specs.declared.place.LinePlace.TheVariants.{Begin, Word, Rest, Body, Seq, BeforeId, Id, IdEscape, AfterId, BeforeRev, Rev}
-use Rattle.couch_answers.specs.declared.place.Wanted.TheVariants.{Lines}
-use Rattle.couch_answers.specs.declared.place.Found.TheVariants.{Document}
-use Rattle.couch_answers.proofs.AnswerTexts.{Leads, none_read, then, then_held, joined}
+use Rattle.couch_answers.specs.declared.place.LinePlace.TheVariants.{Word, Rest}
+use Rattle.couch_answers.specs.declared.place.RevPlace.TheVariants as revs
+use Rattle.couch_answers.specs.declared.place.Refusal.{Refusal}
+use Rattle.couch_answers.specs.declared.place.Wanted.{Wanted}
+use Rattle.couch_answers.proofs.Bytes.{At, settled, BeforeObject, o_begin, o_between, s_begin, s_between, spaced, closed_at, no_leaves, no_changes}
+use Rattle.couch_answers.proofs.Texts.{Leads, none_read, then, then_held, joined}
+use Rattle.couch_answers.proofs.Itself.{a_document}
 
--- a reading of lines that stands there, with so much of a text
-record Stands (p : LinePlace) (s : State) : Type 0 where
-  wanted : s.wanted ≡ Lines
-  place : s.place ≡ Line p
+-- a reading before an answer or a line, where none need be
+abbrev pub Before : Wanted → State → Type 0
+Before w s = At w Begin 0 s ⊎ At w Between 0 s
 
-record Holds (p : LinePlace) (u : List ℕ) (s : State) : Type 0 where
-  wanted : s.wanted ≡ Lines
-  place : s.place ≡ Line p
-  text : s.text ≡ u
+pub from_either : {P P' Q : State → Type 0} {t : List ℕ} {ps : List Piece} → Leads P t Q ps → Leads P' t Q ps → Leads (λ s. P s ⊎ P' s) t Q ps
+from_either {P} {P'} {Q} {t} {ps} f g = record { runs = runs } where
+  runs : (s : State) → P s ⊎ P' s → Q (after s t) × (pieces s t ≡ ps)
+  runs s (inl h) = f.runs s h
+  runs s (inr h) = g.runs s h
 
-abbrev stood : State → LinePlace → State
-stood s p = record s { wanted = Lines; place = Line p }
+pub to_between : {w : Wanted} {P : State → Type 0} {t : List ℕ} {ps : List Piece} → Leads P t (At w Between 0) ps → Leads P t (Before w) ps
+to_between f = record { runs = λ s h. let r = f.runs s h in (inr r.0, r.1) }
 
-abbrev held_in : State → LinePlace → List ℕ → State
-held_in s p u = record s { wanted = Lines; place = Line p; text = u }
+-- within a line
+pub record InLine (w : Wanted) (p : LinePlace) (s : State) : Type 0 where
+  pub wanted : s.wanted ≡ w
+  pub place : s.place ≡ Line p
+  pub depth : s.depth ≡ 0
+  pub diff : s.diff ≡ false
 
-is_stood : {p : LinePlace} (s : State) → Stands p s → s ≡ stood s p
-is_stood s h = λ i. record s { wanted = h.wanted i; place = h.place i }
+abbrev pub lined : State → Wanted → LinePlace → State
+lined s w p = record s { wanted = w; place = Line p; depth = 0; diff = false }
 
-is_held : {p : LinePlace} {u : List ℕ} (s : State) → Holds p u s → s ≡ held_in s p u
-is_held s h = λ i. record s { wanted = h.wanted i; place = h.place i; text = h.text i }
+pub is_lined : {w : Wanted} {p : LinePlace} (s : State) → InLine w p s → s ≡ lined s w p
+is_lined s h = λ i. record s { wanted = h.wanted i; place = h.place i; depth = h.depth i; diff = h.diff i }
 
--- in a line that holds nothing
-abbrev Passes : State → Type 0
-Passes s = Stands Word s ⊎ Stands Rest s
+abbrev Passes : Wanted → State → Type 0
+Passes w s = InLine w Word s ⊎ InLine w Rest s
 
-blank_step : (b : ℕ) → is_blank b ≡ true → (s : State) → Stands Begin s → Stands Begin (step s b) × (given (step s b) ≡ [])
-unfolding step
-blank_step b h s at = subst (λ z. Stands Begin (step z b) × (given (step z b) ≡ [])) (sym (is_stood s at)) (rw h (record { wanted = refl; place = refl }, refl))
+pub is_at : {w : Wanted} {p : Place} (s : State) → At w p 0 s → s ≡ settled s w p 0
+is_at s h = λ i. record s { wanted = h.wanted i; place = h.place i; depth = h.depth i; diff = h.diff i }
 
-word_step : (b : ℕ) → is_blank b ≡ false → is_lower b ≡ true → (s : State) → Stands Begin s → Passes (step s b) × (given (step s b) ≡ [])
-unfolding step
-word_step b e h s at = subst (λ z. Passes (step z b) × (given (step z b) ≡ [])) (sym (is_stood s at)) (rw (e, h) (inl (record { wanted = refl; place = refl }), refl))
+-- a line end leads before the next one, where nothing need be read
+strict_or : (b c : Bool) → c ≡ true → (b || c) ≡ true
+strict_or true c h = refl
+strict_or false c h = h
 
-body_step : (s : State) → Stands Begin s → Holds Body (123 ∷ []) (step s 123) × (given (step s 123) ≡ [])
-unfolding step
-body_step s at = subst (λ z. Holds Body (123 ∷ []) (step z 123) × (given (step z 123) ≡ [])) (sym (is_stood s at)) (record { wanted = refl; place = refl; text = refl }, refl)
+module _ (w : Wanted) (docs : wants_documents w ≡ true) (strict : is_strict w ≡ true) where
+  blank_step : (b : ℕ) → is_space b ≡ true → (s : State) → Before w s → Before w (step s b) × (given (step s b) ≡ [])
+  blank_step b h s (inl at) = let r = spaced w 0 b s_begin h s at in (inl r.0, r.1)
+  blank_step b h s (inr at) = let r = spaced w 0 b s_between h s at in (inr r.0, r.1)
 
--- within a line that holds nothing
-in_word : (b : ℕ) (space : Bool) → (b == 10) ≡ false → (b == 32) ≡ space → (s : State) → Stands Word s → Passes (step s b) × (given (step s b) ≡ [])
-unfolding step
-in_word b true e f s at = subst (λ z. Passes (step z b) × (given (step z b) ≡ [])) (sym (is_stood s at)) (rw (e, f) (inr (record { wanted = refl; place = refl }), refl))
-in_word b false e f s at = subst (λ z. Passes (step z b) × (given (step z b) ≡ [])) (sym (is_stood s at)) (rw (e, f) (inl (record { wanted = refl; place = refl }), refl))
+  first_word : (b : ℕ) → is_space b ≡ false → (b == 91) ≡ false → (b == 123) ≡ false → is_lower b ≡ true → (s : State) → At w Begin 0 s → Passes w (step s b) × (given (step s b) ≡ [])
+  unfolding step
+  first_word b e f k h s at = subst (λ z. Passes w (step z b) × (given (step z b) ≡ [])) (sym (is_at s at)) (rw (e, f, k, h, no_leaves w docs) (inl (record { wanted = refl; place = refl; depth = refl; diff = refl }), refl))
 
-in_rest : (b : ℕ) → (b == 10) ≡ false → (s : State) → Stands Rest s → Passes (step s b) × (given (step s b) ≡ [])
-unfolding step
-in_rest b e s at = subst (λ z. Passes (step z b) × (given (step z b) ≡ [])) (sym (is_stood s at)) (rw e (inr (record { wanted = refl; place = refl }), refl))
+  next_word : (b : ℕ) → is_space b ≡ false → (b == 91) ≡ false → (b == 123) ≡ false → is_lower b ≡ true → (s : State) → At w Between 0 s → Passes w (step s b) × (given (step s b) ≡ [])
+  unfolding step
+  next_word b e f k h s at = subst (λ z. Passes w (step z b) × (given (step z b) ≡ [])) (sym (is_at s at)) (rw (e, f, k, h, no_leaves w docs) (inl (record { wanted = refl; place = refl; depth = refl; diff = refl }), refl))
 
-pass_step : (b : ℕ) → (b == 10) ≡ false → (s : State) → Passes s → Passes (step s b) × (given (step s b) ≡ [])
-pass_step b e s (inl at) = in_word b (b == 32) e refl s at
-pass_step b e s (inr at) = in_rest b e s at
+  word_begins : (b : ℕ) → is_space b ≡ false → (b == 91) ≡ false → (b == 123) ≡ false → is_lower b ≡ true → (s : State) → Before w s → Passes w (step s b) × (given (step s b) ≡ [])
+  word_begins b e f k h s (inl at) = first_word b e f k h s at
+  word_begins b e f k h s (inr at) = next_word b e f k h s at
 
-pass_end : (s : State) → Passes s → Stands Begin (step s 10) × (given (step s 10) ≡ [])
-unfolding step
-pass_end s (inl at) = subst (λ z. Stands Begin (step z 10) × (given (step z 10) ≡ [])) (sym (is_stood s at)) (record { wanted = refl; place = refl }, refl)
-pass_end s (inr at) = subst (λ z. Stands Begin (step z 10) × (given (step z 10) ≡ [])) (sym (is_stood s at)) (record { wanted = refl; place = refl }, refl)
+  -- within a line that holds nothing
+  in_word : (b : ℕ) (space : Bool) → (b == 10) ≡ false → (b == 32) ≡ space → (s : State) → InLine w Word s → Passes w (step s b) × (given (step s b) ≡ [])
+  unfolding step
+  in_word b true e f s at = subst (λ z. Passes w (step z b) × (given (step z b) ≡ [])) (sym (is_lined s at)) (rw (e, f, no_changes w docs) (inr (record { wanted = refl; place = refl; depth = refl; diff = refl }), refl))
+  in_word b false e f s at = subst (λ z. Passes w (step z b) × (given (step z b) ≡ [])) (sym (is_lined s at)) (rw (e, f) (inl (record { wanted = refl; place = refl; depth = refl; diff = refl }), refl))
 
--- within a document
-in_body : (u : List ℕ) (b : ℕ) → (b == 10) ≡ false → (s : State) → Holds Body u s → Holds Body (u ++ b ∷ []) (step s b) × (given (step s b) ≡ [])
-unfolding step
-in_body u b e s at = subst (λ z. Holds Body (u ++ b ∷ []) (step z b) × (given (step z b) ≡ [])) (sym (is_held s at)) (rw e (record { wanted = refl; place = refl; text = refl }, refl))
+  in_rest : (b : ℕ) → (b == 10) ≡ false → (s : State) → InLine w Rest s → Passes w (step s b) × (given (step s b) ≡ [])
+  unfolding step
+  in_rest b e s at = subst (λ z. Passes w (step z b) × (given (step z b) ≡ [])) (sym (is_lined s at)) (rw e (inr (record { wanted = refl; place = refl; depth = refl; diff = refl }), refl))
 
-body_end : (u : List ℕ) → is_json u ≡ true → is_log u ≡ false → (s : State) → Holds Body u s → Stands Begin (step s 10) × (given (step s 10) ≡ (Document, u) ∷ [])
-unfolding step
-body_end u json e s at = subst (λ z. Stands Begin (step z 10) × (given (step z 10) ≡ (Document, u) ∷ [])) (sym (is_held s at)) (rw (json, e) (record { wanted = refl; place = refl }, refl))
+  pass_step : (b : ℕ) → (b == 10) ≡ false → (s : State) → Passes w s → Passes w (step s b) × (given (step s b) ≡ [])
+  pass_step b e s (inl at) = in_word b (b == 32) e refl s at
+  pass_step b e s (inr at) = in_rest b e s at
 
-log_end : (u : List ℕ) → is_json u ≡ true → is_log u ≡ true → (s : State) → Holds Body u s → Stands Begin (step s 10) × (given (step s 10) ≡ [])
-unfolding step
-log_end u json e s at = subst (λ z. Stands Begin (step z 10) × (given (step z 10) ≡ [])) (sym (is_held s at)) (rw (json, e) (record { wanted = refl; place = refl }, refl))
+  pass_end : (s : State) → Passes w s → At w Between 0 (step s 10) × (given (step s 10) ≡ [])
+  unfolding step
+  pass_end s (inl at) = subst (λ z. At w Between 0 (step z 10) × (given (step z 10) ≡ [])) (sym (is_lined s at)) (rw (no_changes w docs, strict_or s.some (is_strict w) strict) (record { wanted = refl; place = refl; depth = refl; diff = refl }, refl))
+  pass_end s (inr at) = subst (λ z. At w Between 0 (step z 10) × (given (step z 10) ≡ [])) (sym (is_lined s at)) (rw (strict_or s.some (is_strict w) strict) (record { wanted = refl; place = refl; depth = refl; diff = refl }, refl))
+
+line_end : (w : Wanted) → wants_documents w ≡ true → is_strict w ≡ true → (s : State) → Passes w s → Before w (step s 10) × (given (step s 10) ≡ [])
+line_end w docs strict s h = let r = pass_end w docs strict s h in (inr r.0, r.1)
 
 -- ---- texts
 
@@ -95,119 +107,160 @@ no_end_by true c h = absurd (cc)
 pub no_end : (b : ℕ) (t : List ℕ) → InOneLine (b ∷ t) → ((b == 10) ≡ false) × InOneLine t
 no_end b t h = no_end_by (b == 10) (list_all (λ c. not (c == 10)) t) h
 
-to_text : {P : State → Type 0} {p : LinePlace} {t u v : List ℕ} {ps : List Piece} → u ≡ v → Leads P t (Holds p u) ps → Leads P t (Holds p v) ps
-to_text {P} {p} {t} {ps = ps} e f = subst (λ z. Leads P t (Holds p z) ps) e f
+-- a lower case letter is no bracket
+pub lower_bracket : (b : ℕ) → is_lower b ≡ true → ((b == 91) ≡ false) × ((b == 123) ≡ false)
+lower_bracket b h = grind arith
 
-passed : (x : List ℕ) → InOneLine x → Leads Passes x Passes []
-passed [] h = none_read
-passed (b ∷ x) h = let parts = no_end b x h in then (pass_step b parts.0) (passed x parts.1)
+module _ (w : Wanted) (docs : wants_documents w ≡ true) (strict : is_strict w ≡ true) where
+  passed : (x : List ℕ) → InOneLine x → Leads (Passes w) x (Passes w) []
+  passed [] h = none_read
+  passed (b ∷ x) h = let parts = no_end b x h in then (pass_step w docs strict b parts.0) (passed x parts.1)
 
-body : (u x : List ℕ) → InOneLine x → Leads (Holds Body u) x (Holds Body (u ++ x)) []
-body u [] h = to_text (sym (append-nil u)) none_read
-body u (b ∷ x) h = let parts = no_end b x h in to_text (append_assoc u (b ∷ []) x) (then (in_body u b parts.0) (body (u ++ b ∷ []) x parts.1))
+  some_lines : (t : List ℕ) (ps : List Piece) → AreLines w t ps → Leads (Before w) t (Before w) ps
+  some_lines t ps no_lines = none_read
+  some_lines t ps (blank {b} {t = rest} h m) = then (blank_step w docs strict b h) (some_lines rest ps m)
+  some_lines t ps (document {o} {t = rest} {ps = ins} {qs} h m) =
+      let leaves = no_leaves w docs in
+      joined (to_between (from_either (a_document w leaves 0 o ins docs o_begin refl h) (a_document w leaves 0 o ins docs o_between refl h))) (some_lines rest qs m)
+  some_lines t ps (answer {b} x {t = rest} h e n m) =
+      let k = lower_bracket b h in
+      then (word_begins w docs strict b e k.0 k.1 h) (joined (passed x n) (then (line_end w docs strict) (some_lines rest ps m)))
 
-some_lines : (t : List ℕ) (ps : List Piece) → AreLines t ps → Leads (Stands Begin) t (Stands Begin) ps
-some_lines t ps no_lines = none_read
-some_lines t ps (blank {b} {t = rest} h m) = then (blank_step b h) (some_lines rest ps m)
-some_lines t ps (document x {t = rest} {ps = qs} h json e m) =
-    then body_step (joined (body (123 ∷ []) x h) (then_held ((Document, 123 ∷ x) ∷ []) (body_end (123 ∷ x) json e) (some_lines rest qs m)))
-some_lines t ps (log x {t = rest} h json e m) = then body_step (joined (body (123 ∷ []) x h) (then (log_end (123 ∷ x) json e) (some_lines rest ps m)))
-some_lines t ps (answer {b} x {t = rest} h e n m) = then (word_step b e h) (joined (passed x n) (then pass_end (some_lines rest ps m)))
+-- ---- the end
 
--- lines are read to their end, and as the documents that they hold
-pub lines_read : (t : List ℕ) (ps : List Piece) → AreLines t ps → ((after (start Lines) t).place ≡ Line Begin) × (pieces (start Lines) t ≡ ps)
-lines_read t ps h =
-    let run = (some_lines t ps h).runs (start Lines) (record { wanted = refl; place = refl }) in
-    (run.0.place, run.1)
+-- a line may begin there, or the input end
+abbrev pub ends_lines : Place → Bool
+ends_lines Start = false
+ends_lines Begin = true
+ends_lines Sign = false
+ends_lines Between = true
+ends_lines Item = false
+ends_lines NextItem = false
+ends_lines AfterItem = false
+ends_lines Member = false
+ends_lines NextMember = false
+ends_lines AfterMember = false
+ends_lines Key = false
+ends_lines KeyEscape = false
+ends_lines (Colon n) = false
+ends_lines (Ahead n) = false
+ends_lines ListPlace = false
+ends_lines (Value n) = false
+ends_lines (Quoted n) = false
+ends_lines (Escaped n) = false
+ends_lines (Revs p) = false
+ends_lines (Line p) = false
+ends_lines (Refused why) = false
 
--- ---- a last line without its end
-
-pub is_line : Place → Bool
-is_line (Line p) = true
-is_line Start = false
-is_line Between = false
-is_line Item = false
-is_line NextItem = false
-is_line AfterItem = false
-is_line Member = false
-is_line NextMember = false
-is_line AfterMember = false
-is_line Key = false
-is_line KeyEscape = false
-is_line (Colon n) = false
-is_line ListPlace = false
-is_line (Value n) = false
-is_line (Quoted n) = false
-is_line (Escaped n) = false
-is_line (Refused why) = false
+pub lines_end : (p : Place) → ends_lines p ≡ true → end_of p ≡ Ok tt
+lines_end Begin h = refl
+lines_end Between h = refl
+lines_end Start h = absurd (cc)
+lines_end Sign h = absurd (cc)
+lines_end Item h = absurd (cc)
+lines_end NextItem h = absurd (cc)
+lines_end AfterItem h = absurd (cc)
+lines_end Member h = absurd (cc)
+lines_end NextMember h = absurd (cc)
+lines_end AfterMember h = absurd (cc)
+lines_end Key h = absurd (cc)
+lines_end KeyEscape h = absurd (cc)
+lines_end (Colon n) h = absurd (cc)
+lines_end (Ahead n) h = absurd (cc)
+lines_end ListPlace h = absurd (cc)
+lines_end (Value n) h = absurd (cc)
+lines_end (Quoted n) h = absurd (cc)
+lines_end (Escaped n) h = absurd (cc)
+lines_end (Revs p) h = absurd (cc)
+lines_end (Line p) h = absurd (cc)
+lines_end (Refused why) h = absurd (cc)
 
 -- by what the places of two states are
-one_of_two : (b : Bool) (s z : State) → is_line s.place ≡ false → is_line z.place ≡ false → is_line (cond b s z).place ≡ false
-one_of_two true s z h k = h
-one_of_two false s z h k = k
+one_of_two : (b : Bool) (p q : Place) → ends_lines p ≡ false → ends_lines q ≡ false → ends_lines (cond b p q) ≡ false
+one_of_two true p q h k = h
+one_of_two false p q h k = k
 
--- outside of lines a line end leads to no line
-stays_out : (s : State) (p : Place) → is_line p ≡ false → is_line (step (record s { place = p }) 10).place ≡ false
-unfolding step is_line
-stays_out s Start h = refl
-stays_out s Between h = refl
-stays_out s Item h = refl
-stays_out s NextItem h = refl
-stays_out s AfterItem h = refl
-stays_out s Member h = refl
-stays_out s NextMember h = refl
-stays_out s AfterMember h = refl
-stays_out s Key h = refl
-stays_out s KeyEscape h = refl
-stays_out s (Colon n) h = refl
-stays_out s ListPlace h = refl
-stays_out s (Value n) h = one_of_two (length s.text == 0) _ _ refl refl
-stays_out s (Quoted n) h = refl
-stays_out s (Escaped n) h = refl
-stays_out s (Refused why) h = refl
-stays_out s (Line p) h = absurd (cc)
+one_state : (b : Bool) (s z : State) → ends_lines s.place ≡ false → ends_lines z.place ≡ false → ends_lines (cond b s z).place ≡ false
+one_state true s z h k = h
+one_state false s z h k = k
 
-pub line_place : (s : State) (p : Place) → s.place ≡ p → (step s 10).place ≡ Line Begin → is_line p ≡ true
-unfolding is_line
-line_place s p e h = line_by p (is_line p) refl (subst (λ z. is_line (step z 10).place ≡ true) (λ i. record s { place = e i }) (ap is_line h)) where
-  line_by : (p : Place) (b : Bool) → is_line p ≡ b → is_line (step (record s { place = p }) 10).place ≡ true → b ≡ true
-  line_by p true f g = refl
-  line_by p false f g = absurd (false≢true (sym (stays_out s p f) ∙ g))
+-- outside of lines a line end leads before a line only from there
+stays_out : (s : State) (p : Place) → has_rest p ≡ false → ends_lines p ≡ false → ends_lines (step (record s { place = p }) 10).place ≡ false
+unfolding step
+stays_out s Start r h = refl
+stays_out s Begin r h = absurd (cc)
+stays_out s Sign r h = one_of_two (begins_sign (s.text ++ 10 ∷ [])) _ _ refl refl
+stays_out s Between r h = absurd (cc)
+stays_out s Item r h = refl
+stays_out s NextItem r h = refl
+stays_out s AfterItem r h = refl
+stays_out s Member r h = refl
+stays_out s NextMember r h = refl
+stays_out s AfterMember r h = refl
+stays_out s Key r h = refl
+stays_out s KeyEscape r h = refl
+stays_out s (Colon n) r h = refl
+stays_out s (Ahead n) r h = refl
+stays_out s ListPlace r h = refl
+stays_out s (Value n) r h = one_state (length s.text == 0) _ _ refl refl
+stays_out s (Quoted n) r h = refl
+stays_out s (Escaped n) r h = refl
+stays_out s (Revs revs.List) r h = refl
+stays_out s (Revs revs.First) r h = refl
+stays_out s (Revs revs.Next) r h = refl
+stays_out s (Revs revs.Rev) r h = refl
+stays_out s (Revs revs.Escape) r h = refl
+stays_out s (Revs revs.Behind) r h = refl
+stays_out s (Line p) r h = absurd (cc)
+stays_out s (Refused why) r h = refl
 
-pub begin_place : (p : Place) → is_line p ≡ true → has_rest p ≡ false → p ≡ Line Begin
-unfolding is_line
-begin_place (Line Begin) h e = refl
-begin_place (Line Word) h e = absurd (cc)
-begin_place (Line Rest) h e = absurd (cc)
-begin_place (Line Body) h e = absurd (cc)
-begin_place (Line Seq) h e = absurd (cc)
-begin_place (Line BeforeId) h e = absurd (cc)
-begin_place (Line Id) h e = absurd (cc)
-begin_place (Line IdEscape) h e = absurd (cc)
-begin_place (Line AfterId) h e = absurd (cc)
-begin_place (Line BeforeRev) h e = absurd (cc)
-begin_place (Line Rev) h e = absurd (cc)
-begin_place Start h e = absurd (false≢true h)
-begin_place Between h e = absurd (false≢true h)
-begin_place Item h e = absurd (false≢true h)
-begin_place NextItem h e = absurd (false≢true h)
-begin_place AfterItem h e = absurd (false≢true h)
-begin_place Member h e = absurd (false≢true h)
-begin_place NextMember h e = absurd (false≢true h)
-begin_place AfterMember h e = absurd (false≢true h)
-begin_place Key h e = absurd (false≢true h)
-begin_place KeyEscape h e = absurd (false≢true h)
-begin_place (Colon n) h e = absurd (false≢true h)
-begin_place ListPlace h e = absurd (false≢true h)
-begin_place (Value n) h e = absurd (false≢true h)
-begin_place (Quoted n) h e = absurd (false≢true h)
-begin_place (Escaped n) h e = absurd (false≢true h)
-begin_place (Refused why) h e = absurd (false≢true h)
+pub stood_before : (s : State) → ends_lines (step s 10).place ≡ true → has_rest s.place ≡ false → ends_lines s.place ≡ true
+stood_before s h r = by (ends_lines s.place) refl where
+  by : (b : Bool) → ends_lines s.place ≡ b → ends_lines s.place ≡ true
+  by true e = e
+  by false e = absurd (false≢true (sym (stays_out s s.place r e) ∙ h))
 
 -- an empty line holds nothing
-begin_stood : (s : State) → given (step (record s { place = Line Begin }) 10) ≡ []
+none_at : (s : State) (p : Place) → ends_lines p ≡ true → given (step (record s { place = p }) 10) ≡ []
 unfolding step
-begin_stood s = refl
+none_at s Begin h = refl
+none_at s Between h = refl
+none_at s Start h = absurd (cc)
+none_at s Sign h = absurd (cc)
+none_at s Item h = absurd (cc)
+none_at s NextItem h = absurd (cc)
+none_at s AfterItem h = absurd (cc)
+none_at s Member h = absurd (cc)
+none_at s NextMember h = absurd (cc)
+none_at s AfterMember h = absurd (cc)
+none_at s Key h = absurd (cc)
+none_at s KeyEscape h = absurd (cc)
+none_at s (Colon n) h = absurd (cc)
+none_at s (Ahead n) h = absurd (cc)
+none_at s ListPlace h = absurd (cc)
+none_at s (Value n) h = absurd (cc)
+none_at s (Quoted n) h = absurd (cc)
+none_at s (Escaped n) h = absurd (cc)
+none_at s (Revs p) h = absurd (cc)
+none_at s (Line p) h = absurd (cc)
+none_at s (Refused why) h = absurd (cc)
 
-pub begin_given : (s : State) → s.place ≡ Line Begin → given (step s 10) ≡ []
-begin_given s e = subst (λ z. given (step z 10) ≡ []) (λ i. record s { place = sym e i }) (begin_stood s)
+pub line_end_given : (s : State) → ends_lines s.place ≡ true → given (step s 10) ≡ []
+line_end_given s h = none_at s s.place h
+
+-- where lines end
+abbrev pub EndsLines : Place → Type 0
+EndsLines q = (p : Place) × (q ≡ p) × (ends_lines p ≡ true)
+
+pub before_ends : (w : Wanted) (s : State) → Before w s → EndsLines s.place
+before_ends w s (inl at) = (Begin, at.place, refl)
+before_ends w s (inr at) = (Between, at.place, refl)
+
+pub starts_strict : (w : Wanted) → is_strict w ≡ true → Before w (start w)
+starts_strict w h = inl (record { wanted = refl; place = ap (λ b. cond b Begin Start) h; depth = refl; diff = refl })
+
+-- lines are read to their end, and as the documents that they hold
+pub lines_read : (w : Wanted) → wants_documents w ≡ true → is_strict w ≡ true → (t : List ℕ) (ps : List Piece) → AreLines w t ps → EndsLines (after (start w) t).place × (pieces (start w) t ≡ ps)
+lines_read w docs strict t ps h =
+    let run = (some_lines w docs strict t ps h).runs (start w) (starts_strict w strict) in
+    (before_ends w (after (start w) t) run.0, run.1)

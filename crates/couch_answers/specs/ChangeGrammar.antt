@@ -2,10 +2,10 @@
 use Rattle.std.specs.Prelude.{◌≡◌, ℕ, ◌||◌, ◌==◌, List, [], ◌∷◌, ◌++◌, Bool, true, false, not, codes}
 use Rattle.std.specs.List.{list_all}
 use Rattle.std.specs.Str.{bytes_eq}
-use Rattle.couch_answers.specs.State.{is_json}
-use Rattle.couch_answers.specs.Changes.{is_blank, is_lower, is_digit, is_rev_byte}
+use Rattle.document_texts.specs.Texts.{is_space, is_json, EndsString}
+use Rattle.couch_answers.specs.Lines.{is_lower, is_digit, is_rev_byte}
 use Rattle.couch_answers.specs.Reading.{Piece}
-use Rattle.couch_answers.specs.Grammar.{EndsString}
+use Rattle.couch_answers.specs.Grammar.{IsPlainDocument}
 use Rattle.couch_answers.specs.LineGrammar.{InOneLine}
 use Rattle.couch_answers.specs.declared.place.Found.TheVariants.{Id, Rev}
 
@@ -23,16 +23,16 @@ is_word_byte b = not (b == 10 || b == 32)
 -- lines, each with its line end, and the id and the revisions of each change
 pub data AreChanges : List ℕ → List Piece → Type 0 where
   none : AreChanges [] []
-  empty : {b : ℕ} {t : List ℕ} {ps : List Piece} → is_blank b ≡ true → AreChanges t ps → AreChanges (b ∷ t) ps
+  empty : {b : ℕ} {t : List ℕ} {ps : List Piece} → is_space b ≡ true → AreChanges t ps → AreChanges (b ∷ t) ps
   change : (n : List ℕ) {k r t : List ℕ} {ps qs : List Piece} → list_all is_digit n ≡ true → EndsString k → is_json (34 ∷ k) ≡ true
       → AreRevs r ps → AreChanges t qs
       → AreChanges (codes "change " ++ (n ++ (32 ∷ 34 ∷ (k ++ (32 ∷ (r ++ t)))))) ((Id, 34 ∷ k) ∷ (ps ++ qs))
   -- a document or a log
-  object : (x : List ℕ) {t : List ℕ} {ps : List Piece} → InOneLine x → AreChanges t ps → AreChanges (123 ∷ (x ++ 10 ∷ t)) ps
+  object : {o u t : List ℕ} {ps : List Piece} → IsPlainDocument o u → AreChanges t ps → AreChanges (o ++ t) ps
   -- any other answer, of one word or more
-  word : {b : ℕ} (w : List ℕ) {t : List ℕ} {ps : List Piece} → is_lower b ≡ true → is_blank b ≡ false → list_all is_word_byte w ≡ true
+  word : {b : ℕ} (w : List ℕ) {t : List ℕ} {ps : List Piece} → is_lower b ≡ true → is_space b ≡ false → list_all is_word_byte w ≡ true
       → bytes_eq (b ∷ w) (codes "change") ≡ false → AreChanges t ps → AreChanges (b ∷ (w ++ 10 ∷ t)) ps
-  words : {b : ℕ} (w x : List ℕ) {t : List ℕ} {ps : List Piece} → is_lower b ≡ true → is_blank b ≡ false → list_all is_word_byte w ≡ true
+  words : {b : ℕ} (w x : List ℕ) {t : List ℕ} {ps : List Piece} → is_lower b ≡ true → is_space b ≡ false → list_all is_word_byte w ≡ true
       → bytes_eq (b ∷ w) (codes "change") ≡ false → InOneLine x → AreChanges t ps
       → AreChanges (b ∷ (w ++ (32 ∷ (x ++ 10 ∷ t)))) ps
 

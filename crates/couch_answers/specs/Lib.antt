@@ -1,11 +1,14 @@
+pub mod Wanted
 pub mod State
 pub mod Names
-pub mod Changes
+pub mod Signs
+pub mod Lines
+pub mod Objects
+pub mod Values
+pub mod Revs
 pub mod Steps
 pub mod Reading
 pub mod Grammar
 pub mod LineGrammar
 pub mod ChangeGrammar
-pub mod Words
-pub mod Runs
 pub mod Stored

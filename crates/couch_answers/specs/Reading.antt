@@ -1,10 +1,9 @@
 -- What bytes hold, one after another: docs/PROFILE.md, "CouchDB's answers".
 use Rattle.std.specs.Prelude.{ℕ, List, [], ◌∷◌, ◌++◌, Bool, true, false, cond, ◌||◌, Result, Ok, Err}
 use Rattle.couch_answers.specs.State.{State}
-use Rattle.couch_answers.specs.Changes.{is_begun}
 use Rattle.couch_answers.specs.Steps.{step, is_refused}
 use Rattle.couch_answers.specs.declared.place.Place.{Place}
-use Rattle.couch_answers.specs.declared.place.Place.TheVariants.{Start, Between, Item, NextItem, AfterItem, Member, NextMember, AfterMember, Key, KeyEscape, Colon, List as ListPlace, Value, Quoted, Escaped, Line, Refused}
+use Rattle.couch_answers.specs.declared.place.Place.TheVariants.{Start, Begin, Sign, Between, Item, NextItem, AfterItem, Member, NextMember, AfterMember, Key, KeyEscape, Colon, Ahead, List as ListPlace, Value, Quoted, Escaped, Revs, Line, Refused}
 use Rattle.couch_answers.specs.declared.place.Refusal.{Refusal}
 use Rattle.couch_answers.specs.declared.place.Refusal.TheVariants.{NoAnswer, CutOff}
 use Rattle.couch_answers.specs.declared.place.Found.{Found}
@@ -47,6 +46,8 @@ pieces s (b ∷ bytes) = given (step s b) ++ pieces (step s b) bytes
 -- why what was read is no answer, where nothing follows
 abbrev pub end_of : Place → Result (Unit {0}) Refusal
 end_of Start = Err NoAnswer
+end_of Begin = Ok tt
+end_of Sign = Err NoAnswer
 end_of Between = Ok tt
 end_of Item = Err CutOff
 end_of NextItem = Err CutOff
@@ -57,16 +58,20 @@ end_of AfterMember = Err CutOff
 end_of Key = Err CutOff
 end_of KeyEscape = Err CutOff
 end_of (Colon name) = Err CutOff
+end_of (Ahead name) = Err CutOff
 end_of ListPlace = Err CutOff
 end_of (Value name) = Err CutOff
 end_of (Quoted name) = Err CutOff
 end_of (Escaped name) = Err CutOff
-end_of (Line place) = cond (is_begun place) (Err CutOff) (Ok tt)
+end_of (Revs place) = Err CutOff
+end_of (Line place) = Err CutOff
 end_of (Refused why) = Err why
 
 -- whether a line has begun that has no line end
 abbrev pub has_rest : Place → Bool
 has_rest Start = false
+has_rest Begin = false
+has_rest Sign = false
 has_rest Between = false
 has_rest Item = false
 has_rest NextItem = false
@@ -77,11 +82,13 @@ has_rest AfterMember = false
 has_rest Key = false
 has_rest KeyEscape = false
 has_rest (Colon name) = false
+has_rest (Ahead name) = false
 has_rest ListPlace = false
 has_rest (Value name) = false
 has_rest (Quoted name) = false
 has_rest (Escaped name) = false
-has_rest (Line place) = is_begun place
+has_rest (Revs place) = false
+has_rest (Line place) = true
 has_rest (Refused why) = false
 
 -- a last line without a line end is read as if it had one

@@ -4,16 +4,16 @@
 #![tactic(auto)]
 
 mod brackets;
+mod cover;
 mod lines;
 mod members;
 mod place;
 mod reading;
-mod run;
+mod revs;
+mod signs;
 mod spelling;
 mod values;
-mod wording;
+mod wanted;
 
-pub use place::{Found, LinePlace, Name, Place, Refusal, Wanted};
+pub use place::{Found, LinePlace, Name, Place, Refusal, RevPlace, Wanted};
 pub use reading::Reading;
-pub use run::{AnswerFault, run_answers};
-pub use wording::{Form, Wording};

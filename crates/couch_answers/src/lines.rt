@@ -1,12 +1,13 @@
 //! Lines of a script's answers.
-ghost use Rattle.std.specs.Prelude.{◌≡◌, ◌∷◌, [], nat_eq, codes, OnOk};
-ghost use Rattle.std.specs.List.{starts_with};
+ghost use Rattle.std.specs.Prelude.{◌≡◌, OnOk};
 ghost use Rattle.couch_answers.specs.Stored.{state_of};
-ghost use Rattle.couch_answers.specs.Changes.{text_begun, is_lower, is_blank, wants_bodies, body_place, at_begin, past_word_place, change_begun, is_change, word_ended, in_word, in_rest, is_log, body_ended, in_body, is_digit, in_seq, before_id, id_ended, in_id, in_id_escape, after_id, is_rev_byte, before_rev, rev_ended, in_rev, in_line, is_begun};
+ghost use Rattle.couch_answers.specs.Objects.{at_answer, at_begin, is_first};
+ghost use Rattle.couch_answers.specs.Lines.{text_begun, is_lower, line_ended, change_begun, is_change, word_ended, in_word, in_rest, is_digit, in_seq, before_id, id_ended, in_id, in_id_escape, after_id, is_rev_byte, before_rev, rev_ended, in_rev, in_line};
 
-use crate::place::{Found, LinePlace, Place, Refusal, Wanted};
+use crate::place::{Found, LinePlace, Place, Refusal};
 use crate::reading::Reading;
-use crate::spelling::{is, more};
+use crate::spelling::{is, is_space, more};
+use crate::wanted::{is_strict, wants_changes, wants_leaves};
 use std::alloc::AllocError;
 
 impl Reading {
@@ -15,9 +16,7 @@ impl Reading {
         ensures { OnOk result (state_of self.new ≡ in_line place (state_of self.old) byte) }
     {
         match place {
-            LinePlace::Begin => self.at_begin(byte),
             LinePlace::Word => self.in_word(byte),
-            LinePlace::Body => self.in_body(byte),
             LinePlace::BeforeId => self.before_id(byte),
             LinePlace::Id => self.in_id(byte),
             LinePlace::IdEscape => self.in_id_escape(byte),
@@ -48,18 +47,30 @@ impl Reading {
         Ok(())
     }
 
-    /// A byte at the beginning of a line.
+    /// A byte before an answer, or a line of a script's answers.
+    pub(crate) fn at_answer(&mut self, byte: u8) -> Result<(), AllocError>
+        ensures { OnOk result (state_of self.new ≡ at_answer (state_of self.old) byte) }
+    {
+        if is_space(byte) {
+            return Ok(());
+        }
+        match byte {
+            b'[' => self.open_list(),
+            b'{' => self.open(Place::Member),
+            _ => return self.at_begin(byte),
+        }
+        Ok(())
+    }
+
+    /// A byte that begins a line of a script's answers, or no answer.
     fn at_begin(&mut self, byte: u8) -> Result<(), AllocError>
         ensures { OnOk result (state_of self.new ≡ at_begin (state_of self.old) byte) }
     {
-        if is_blank(byte) {
-            return Ok(());
-        }
-        if is_lower(byte) {
+        if is_lower(byte) && !wants_leaves(self.wanted) {
             return self.begin_text(LinePlace::Word, byte);
         }
-        if byte == b'{' {
-            return self.begin_text(body_place(self.wanted), byte);
+        if is_first(self.place) {
+            return self.begin_sign(byte);
         }
         self.refuse(Refusal::NoAnswer);
         Ok(())
@@ -88,14 +99,29 @@ impl Reading {
         if is(self.text.as_slice(), b"refused") {
             self.passed = more(self.passed);
         }
-        self.stand_at(past_word(byte));
+        if byte == b'\n' {
+            self.end_line();
+        } else {
+            self.stand_at(Place::Line(LinePlace::Rest));
+        }
+    }
+
+    /// Ends a line. Before the first answer it leaves the reading where it was.
+    fn end_line(&mut self)
+        ensures { state_of self.new ≡ line_ended (state_of self.old) }
+    {
+        self.place = if self.some || is_strict(self.wanted) {
+            Place::Between
+        } else {
+            Place::Start
+        };
     }
 
     /// Whether the first word is that of a change, and changes are wanted.
     fn is_change(&self) -> bool
         ensures { result ≡ is_change (state_of self.now) }
     {
-        !wants_bodies(self.wanted) && is(self.text.as_slice(), b"change")
+        wants_changes(self.wanted) && is(self.text.as_slice(), b"change")
     }
 
     /// The byte behind the word of a change.
@@ -115,36 +141,8 @@ impl Reading {
         ensures { state_of self.new ≡ in_rest (state_of self.old) byte }
     {
         if byte == b'\n' {
-            self.stand_at(Place::Line(LinePlace::Begin));
+            self.end_line();
         }
-    }
-
-    /// A byte of a document, or the line end behind it.
-    fn in_body(&mut self, byte: u8) -> Result<(), AllocError>
-        ensures { OnOk result (state_of self.new ≡ in_body (state_of self.old) byte) }
-    {
-        if byte == b'\n' {
-            self.end_body()
-        } else {
-            self.add(byte)
-        }
-    }
-
-    /// Ends a document.
-    fn end_body(&mut self) -> Result<(), AllocError>
-        ensures { OnOk result (state_of self.new ≡ body_ended (state_of self.old)) }
-    {
-        if self.is_json()? {
-            self.found = if is_log(self.text.as_slice()) {
-                Found::Nothing
-            } else {
-                Found::Document
-            };
-            self.stand_at(Place::Line(LinePlace::Begin));
-        } else {
-            self.refuse(Refusal::NotJson);
-        }
-        Ok(())
     }
 
     /// A byte of the sequence of a change.
@@ -238,20 +236,20 @@ impl Reading {
             return self.add(byte);
         }
         match byte {
-            b',' => return self.end_rev(LinePlace::BeforeRev),
-            b'\n' => return self.end_rev(LinePlace::Begin),
+            b',' => return self.end_rev(Place::Line(LinePlace::BeforeRev)),
+            b'\n' => return self.end_rev(Place::Between),
             _ => self.refuse(Refusal::NoAnswer),
         }
         Ok(())
     }
 
     /// Ends a revision, behind which is the place.
-    fn end_rev(&mut self, place: LinePlace) -> Result<(), AllocError>
+    fn end_rev(&mut self, place: Place) -> Result<(), AllocError>
         ensures { OnOk result (state_of self.new ≡ rev_ended place (state_of self.old)) }
     {
         self.add(b'"')?;
         self.found = Found::Rev;
-        self.stand_at(Place::Line(place));
+        self.stand_at(place);
         Ok(())
     }
 }
@@ -270,13 +268,6 @@ fn is_digit(byte: u8) -> bool
     byte >= b'0' && byte <= b'9'
 }
 
-/// White space before a line's first word, and empty lines.
-fn is_blank(byte: u8) -> bool
-    ensures { result ≡ is_blank byte }
-{
-    byte == b'\n' || byte == b'\r' || byte == b' ' || byte == b'\t'
-}
-
 /// A byte of a revision.
 fn is_rev_byte(byte: u8) -> bool
     ensures { result ≡ is_rev_byte byte }
@@ -289,45 +280,9 @@ fn is_rev_byte(byte: u8) -> bool
         || byte == b'.'
 }
 
-/// Whether documents are wanted, and not changes.
-fn wants_bodies(wanted: Wanted) -> bool
-    ensures { result ≡ wants_bodies wanted }
+/// Whether no answer comes before a place.
+fn is_first(place: Place) -> bool
+    ensures { result ≡ is_first place }
 {
-    matches!(wanted, Wanted::Lines)
-}
-
-/// Where an object stands that begins a line.
-fn body_place(wanted: Wanted) -> LinePlace
-    ensures { result ≡ body_place wanted }
-{
-    if wants_bodies(wanted) {
-        LinePlace::Body
-    } else {
-        LinePlace::Rest
-    }
-}
-
-/// Where the byte behind a line's first word leads.
-fn past_word(byte: u8) -> Place
-    ensures { result ≡ past_word_place byte }
-{
-    if byte == b'\n' {
-        Place::Line(LinePlace::Begin)
-    } else {
-        Place::Line(LinePlace::Rest)
-    }
-}
-
-/// Whether a text is that of a log.
-fn is_log(text: &[u8]) -> bool
-    ensures { result ≡ is_log text.now }
-{
-    text.starts_with(b"{\"_id\":\"_local/")
-}
-
-/// Whether a line has begun that has no line end.
-pub(crate) fn is_begun(place: LinePlace) -> bool
-    ensures { result ≡ is_begun place }
-{
-    !matches!(place, LinePlace::Begin)
+    matches!(place, Place::Start | Place::Begin)
 }

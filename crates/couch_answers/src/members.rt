@@ -1,14 +1,15 @@
 //! Members of objects: their names, and what stands round them.
-ghost use Rattle.std.specs.Prelude.{◌≡◌, ◌&&◌, true, false, IfOk, OnOk};
+ghost use Rattle.std.specs.Prelude.{◌≡◌, OnOk};
 ghost use Rattle.couch_answers.specs.Stored.{state_of};
-ghost use Rattle.couch_answers.specs.State.{is_json};
-ghost use Rattle.couch_answers.specs.Names.{is_known};
-ghost use Rattle.couch_answers.specs.Changes.{added};
-ghost use Rattle.couch_answers.specs.Steps.{moved, is_between, key_begun, at_member, at_next_member, after_member, named, in_key, in_key_escape, value_place, value_begun, begun_as, at_colon, at_list};
+ghost use Rattle.couch_answers.specs.State.{added};
+ghost use Rattle.couch_answers.specs.Names.{is_known, is_plain, is_id, is_changes};
+ghost use Rattle.couch_answers.specs.Objects.{key_begun, at_member, at_next_member, after_member, name_in, named, plain_begun, in_key, in_key_escape, value_place, value_begun, begun_as, is_ahead, at_colon, at_list, moved_between};
+ghost use Rattle.couch_answers.specs.Values.{at_ahead, begun_in};
 
-use crate::place::{Name, Place, Refusal};
+use crate::place::{Name, Place, Refusal, RevPlace};
 use crate::reading::Reading;
 use crate::spelling::{is_space, name_of};
+use crate::wanted::wants_leaves;
 use std::alloc::AllocError;
 
 impl Reading {
@@ -23,11 +24,9 @@ impl Reading {
 
     /// A byte where none is taken in.
     pub(crate) fn between(&mut self, byte: u8)
-        requires { is_between self.old.place ≡ true }
-        ensures { state_of self.new ≡ moved self.old.place (state_of self.old) byte }
+        ensures { state_of self.new ≡ moved_between self.old.place (state_of self.old) byte }
     {
         match self.place {
-            Place::Start | Place::Between => self.at_answer(byte),
             Place::Item => self.at_item(byte),
             Place::NextItem => self.at_next_item(byte),
             Place::AfterItem => self.after_item(byte),
@@ -39,12 +38,13 @@ impl Reading {
     }
 
     /// Begins a name, at its quotation mark.
-    fn begin_key(&mut self) -> Result<(), AllocError>
-        ensures { OnOk result (state_of self.new ≡ key_begun (state_of self.old)) }
+    fn begin_key(&mut self, first: bool) -> Result<(), AllocError>
+        ensures { OnOk result (state_of self.new ≡ key_begun first (state_of self.old)) }
     {
         self.text.clear();
         self.text.push(b'"')?;
         self.place = Place::Key;
+        self.first = first;
         Ok(())
     }
 
@@ -56,8 +56,8 @@ impl Reading {
             return Ok(());
         }
         match byte {
-            b'"' => return self.begin_key(),
-            b'}' => self.close_object(),
+            b'"' => return self.begin_key(true),
+            b'}' => self.close_empty(),
             _ => self.refuse(Refusal::NotJson),
         }
         Ok(())
@@ -71,13 +71,13 @@ impl Reading {
             return Ok(());
         }
         if byte == b'"' {
-            return self.begin_key();
+            return self.begin_key(false);
         }
         self.refuse(Refusal::NotJson);
         Ok(())
     }
 
-    /// A byte behind a member whose value is a list of objects.
+    /// A byte behind a member whose value is no text.
     fn after_member(&mut self, byte: u8)
         ensures { state_of self.new ≡ after_member (state_of self.old) byte }
     {
@@ -119,12 +119,40 @@ impl Reading {
     fn end_key(&mut self) -> Result<(), AllocError>
         ensures { OnOk result (state_of self.new ≡ named (state_of self.old)) }
     {
-        if self.is_json()? {
-            let name = name_of(self.wanted, self.inner, self.text.as_slice());
-            self.stand_at(Place::Colon(name));
-        } else {
+        if !self.is_json()? {
             self.refuse(Refusal::NotJson);
+            return Ok(());
         }
+        let name = self.name();
+        if is_plain(name) {
+            return self.begin_plain();
+        }
+        self.stand_at(Place::Colon(name));
+        Ok(())
+    }
+
+    /// What the name says that was read.
+    fn name(&self) -> Name
+        ensures { result ≡ name_in (state_of self.now) }
+    {
+        name_of(
+            self.wanted,
+            self.first,
+            self.inner,
+            self.diff,
+            self.depth,
+            self.text.as_slice(),
+        )
+    }
+
+    /// Begins a document that the object is, behind the name `_id` of its first member.
+    fn begin_plain(&mut self) -> Result<(), AllocError>
+        ensures { OnOk result (state_of self.new ≡ plain_begun (state_of self.old)) }
+    {
+        self.text.clear();
+        self.text.extend_from_slice(b"{\"_id\"")?;
+        self.place = Place::Value(Name::Plain);
+        self.nesting = 1;
         Ok(())
     }
 
@@ -135,10 +163,51 @@ impl Reading {
         if is_space(byte) {
             return;
         }
-        if byte == b':' {
-            self.begin_as(name);
-        } else {
+        if byte != b':' {
             self.refuse(Refusal::NotJson);
+        } else if self.is_ahead() {
+            self.stand_at(Place::Ahead(name));
+        } else {
+            self.begin_as(name);
+        }
+    }
+
+    /// Whether the value may be the entry of a document, which the name is the id of.
+    fn is_ahead(&self) -> bool
+        ensures { result ≡ is_ahead (state_of self.now) }
+    {
+        wants_leaves(self.wanted) && self.depth == 1 && (self.first || self.diff)
+    }
+
+    /// A byte before a value that may be the entry of a document.
+    pub(crate) fn at_ahead(&mut self, name: Name, byte: u8) -> Result<(), AllocError>
+        ensures { OnOk result (state_of self.new ≡ at_ahead name (state_of self.old) byte) }
+    {
+        if is_space(byte) {
+            return Ok(());
+        }
+        if byte == b'{' {
+            self.open_entry();
+            return Ok(());
+        }
+        if self.diff {
+            self.refuse(Refusal::NoAnswer);
+            return Ok(());
+        }
+        self.begin_as(name);
+        self.in_begun(byte)
+    }
+
+    /// The first byte of what a name says.
+    fn in_begun(&mut self, byte: u8) -> Result<(), AllocError>
+        ensures { OnOk result (state_of self.new ≡ begun_in (state_of self.old) byte) }
+    {
+        match self.place {
+            Place::Value(name) => self.in_value(name, byte),
+            _ => {
+                self.between(byte);
+                Ok(())
+            }
         }
     }
 
@@ -146,13 +215,10 @@ impl Reading {
     fn begin_as(&mut self, name: Name)
         ensures { state_of self.new ≡ begun_as name (state_of self.old) }
     {
-        if name != Name::Changes {
-            self.begin_value(name);
-        } else if self.known {
-            self.begin_value(name);
-            self.inner = true;
-        } else {
-            self.refuse(Refusal::NoAnswer);
+        match name {
+            Name::Foreign => self.refuse(Refusal::NoDocument),
+            Name::Changes if !self.named => self.refuse(Refusal::NoAnswer),
+            _ => self.begin_value(name),
         }
     }
 
@@ -162,6 +228,8 @@ impl Reading {
     {
         self.place = value_place(name);
         self.known = self.known || is_known(name);
+        self.named = self.named || is_id(name);
+        self.inner = self.inner || is_changes(name);
         self.text.clear();
         self.nesting = 0;
     }
@@ -187,6 +255,7 @@ fn value_place(name: Name) -> Place
 {
     match name {
         Name::List | Name::Changes => Place::List,
+        Name::Missing => Place::Revs(RevPlace::List),
         _ => Place::Value(name),
     }
 }
@@ -195,5 +264,26 @@ fn value_place(name: Name) -> Place
 fn is_known(name: Name) -> bool
     ensures { result ≡ is_known name }
 {
-    !matches!(name, Name::Other)
+    !matches!(name, Name::Other | Name::Id | Name::Reason)
+}
+
+/// Whether a name says that its object is a document itself.
+pub(crate) fn is_plain(name: Name) -> bool
+    ensures { result ≡ is_plain name }
+{
+    matches!(name, Name::Plain)
+}
+
+/// Whether it is that of an id.
+fn is_id(name: Name) -> bool
+    ensures { result ≡ is_id name }
+{
+    matches!(name, Name::Id)
+}
+
+/// Whether it is that of a list of revisions.
+fn is_changes(name: Name) -> bool
+    ensures { result ≡ is_changes name }
+{
+    matches!(name, Name::Changes)
 }

@@ -5,19 +5,25 @@ use thiserror::Error;
 /// What is wanted, and of what.
 #[derive(Clone, Copy, Debug, PartialEq, Eq)]
 pub enum Wanted {
-    /// The documents of CouchDB's answers.
+    /// The documents of answers; an object that holds none is passed over.
     Documents,
-    /// The document ids and revisions that CouchDB's changes feed lists.
+    /// The same, each in an envelope.
+    Enveloped,
+    /// The documents of answers; an object that holds none is refused.
+    Bodies,
+    /// The same, each taken out of its envelope.
+    Unfolded,
+    /// The document ids and revisions that CouchDB's changes feed lists, or its answer of what is missing.
     Leaves,
     /// The document ids and revisions in the `change` lines of a script's answers.
     Changes,
-    /// The documents among the lines of a script's answers.
-    Lines,
 }
 
 /// What the name of a member says of its value.
 #[derive(Clone, Copy, Debug, PartialEq, Eq)]
 pub enum Name {
+    /// The object is a document itself.
+    Plain,
     /// A document.
     Document,
     /// The id of a document.
@@ -28,12 +34,20 @@ pub enum Name {
     Changes,
     /// A revision in such a list.
     Rev,
+    /// A list of revisions that are missing.
+    Missing,
     /// What stands in the place of a document.
     Passed,
     /// The end of a changes feed.
     Last,
+    /// CouchDB's own error.
+    Error,
+    /// Why it is one.
+    Reason,
     /// Nothing that is wanted.
     Other,
+    /// Nothing that may stand there.
+    Foreign,
 }
 
 /// What was found whole at a byte.
@@ -61,19 +75,39 @@ pub enum Refusal {
     /// They end within an answer.
     #[error("CutOff")]
     CutOff,
+    /// They are an object that holds no document, where nothing else is wanted.
+    #[error("NoDocument")]
+    NoDocument,
+    /// They are a document that no envelope holds, or whose envelope holds none.
+    #[error("NotWhole")]
+    NotWhole,
+    /// They are CouchDB's own error.
+    #[error("CouchError")]
+    CouchError,
+    /// They are compressed.
+    #[error("Gzip")]
+    Gzip,
+    /// They are HTML.
+    #[error("Html")]
+    Html,
+    /// They are the headers of an answer.
+    #[error("Headers")]
+    Headers,
+    /// They are an answer of several parts.
+    #[error("Multipart")]
+    Multipart,
+    /// They are a byte order mark.
+    #[error("ByteOrderMark")]
+    ByteOrderMark,
 }
 
 /// Where in a line of a script's answers the next byte stands.
 #[derive(Clone, Copy, Debug, PartialEq, Eq)]
 pub enum LinePlace {
-    /// At its beginning.
-    Begin,
     /// In its first word.
     Word,
     /// Behind what is wanted of it.
     Rest,
-    /// In a document.
-    Body,
     /// In the sequence of a change.
     Seq,
     /// Before the id of a change.
@@ -90,11 +124,32 @@ pub enum LinePlace {
     Rev,
 }
 
+/// Where in a list of missing revisions the next byte stands.
+#[derive(Clone, Copy, Debug, PartialEq, Eq)]
+pub enum RevPlace {
+    /// Before the bracket that opens it.
+    List,
+    /// Behind that.
+    First,
+    /// Behind a comma.
+    Next,
+    /// In a revision.
+    Rev,
+    /// Behind a backslash in it.
+    Escape,
+    /// Behind a revision.
+    Behind,
+}
+
 /// Where in an answer the next byte stands.
 #[derive(Clone, Copy, Debug, PartialEq, Eq)]
 pub enum Place {
-    /// Before the first answer.
+    /// Before the first answer, where there must be one.
     Start,
+    /// Before the first answer, where there may be none.
+    Begin,
+    /// In the first bytes of what is no answer.
+    Sign,
     /// Behind an answer.
     Between,
     /// Behind the bracket that opens a list.
@@ -115,6 +170,8 @@ pub enum Place {
     KeyEscape,
     /// Behind a member's name.
     Colon(Name),
+    /// Before a value that may be the entry of a document.
+    Ahead(Name),
     /// Before the bracket that opens a list.
     List,
     /// In a member's value.
@@ -123,6 +180,8 @@ pub enum Place {
     Quoted(Name),
     /// Behind a backslash in that.
     Escaped(Name),
+    /// In a list of missing revisions.
+    Revs(RevPlace),
     /// In lines.
     Line(LinePlace),
     /// Where it was refused.

@@ -1,13 +1,14 @@
 //! A reading of answers, byte by byte.
 ghost use Rattle.std.specs.Prelude.{◌≡◌, ◌<◌, ◌≤◌, false, length, take, IfOk, OnOk};
 ghost use Rattle.couch_answers.specs.Stored.{state_of};
-ghost use Rattle.couch_answers.specs.State.{first_place, start};
+ghost use Rattle.couch_answers.specs.State.{start};
 ghost use Rattle.couch_answers.specs.Reading.{after, end_of, given, has_rest, pieces, stops};
 ghost use Rattle.couch_answers.specs.Steps.{is_refused, begun, moved, step};
 
-use crate::lines::is_begun;
-use crate::place::{Found, LinePlace, Place, Refusal, Wanted};
+use crate::place::{Found, Place, Refusal, Wanted};
 use crate::spelling::more;
+use crate::wanted::first_place;
+use document_texts::Envelope;
 use json::Scratch;
 use std::alloc::{AllocError, Global};
 
@@ -16,22 +17,35 @@ use std::alloc::{AllocError, Global};
 pub struct Reading {
     pub(crate) wanted: Wanted,
     pub(crate) place: Place,
+    /// Whether a list or an object was closed.
+    pub(crate) some: bool,
     /// How many lists and objects are open.
     pub(crate) depth: u8,
     /// Whether the innermost object has a member that is known.
     pub(crate) known: bool,
+    /// Whether it has an id.
+    pub(crate) named: bool,
+    /// Whether the name that was read last is the first one of its object.
+    pub(crate) first: bool,
     /// Whether the innermost list is one of a document's revisions.
     pub(crate) inner: bool,
+    /// Whether the answer is one of what is missing, by the ids of documents.
+    pub(crate) diff: bool,
+    /// Whether the answer has an error.
+    pub(crate) failed: bool,
     /// How many brackets are open within a value.
     pub(crate) nesting: u8,
     /// The text of a name or a value.
     pub(crate) text: Vec<u8>,
+    /// The text of the error that was read last.
+    pub(crate) error: Vec<u8>,
     pub(crate) found: Found,
     /// How many documents were passed over.
     pub(crate) passed: u64,
     /// How many bytes were read.
     pub(crate) taken: u64,
     pub(crate) scratch: Scratch,
+    pub(crate) envelope: Envelope,
 }
 
 impl Reading {
@@ -42,15 +56,22 @@ impl Reading {
         Reading {
             wanted,
             place: first_place(wanted),
+            some: false,
             depth: 0,
             known: false,
+            named: false,
+            first: false,
             inner: false,
+            diff: false,
+            failed: false,
             nesting: 0,
             text: Vec::new(alloc),
+            error: Vec::new(alloc),
             found: Found::Nothing,
             passed: 0,
             taken: 0,
             scratch: Scratch::new(alloc),
+            envelope: Envelope::new(alloc),
         }
     }
 
@@ -89,6 +110,13 @@ impl Reading {
         self.text.as_slice()
     }
 
+    /// The text of CouchDB's own error, with its quotation marks.
+    pub fn error(&self) -> &[u8]
+        ensures { result.now ≡ (state_of self.now).error }
+    {
+        self.error.as_slice()
+    }
+
     /// How many documents were passed over.
     pub fn passed(&self) -> u64
         ensures { result ≡ (state_of self.now).passed }
@@ -115,9 +143,8 @@ impl Reading {
         ensures { result ≡ end_of (state_of self.now).place }
     {
         match self.place {
-            Place::Between => Ok(()),
-            Place::Start => Err(Refusal::NoAnswer),
-            Place::Line(place) if !is_begun(place) => Ok(()),
+            Place::Between | Place::Begin => Ok(()),
+            Place::Start | Place::Sign => Err(Refusal::NoAnswer),
             Place::Refused(why) => Err(why),
             _ => Err(Refusal::CutOff),
         }
@@ -127,10 +154,7 @@ impl Reading {
     pub fn has_rest(&self) -> bool
         ensures { result ≡ has_rest (state_of self.now).place }
     {
-        match self.place {
-            Place::Line(place) => is_begun(place),
-            _ => false,
-        }
+        matches!(self.place, Place::Line(_))
     }
 
     /// Whether the last byte made something whole, or was refused.
@@ -172,6 +196,10 @@ impl Reading {
             Place::Quoted(name) => self.in_quoted(name, byte),
             Place::Escaped(name) => self.in_escaped(name, byte),
             Place::Line(place) => self.in_line(place, byte),
+            Place::Revs(place) => self.in_revs(place, byte),
+            Place::Ahead(name) => self.at_ahead(name, byte),
+            Place::Start | Place::Begin | Place::Between => self.at_answer(byte),
+            Place::Sign => self.in_sign(byte),
             Place::Key => self.in_key(byte),
             Place::KeyEscape => self.in_key_escape(byte),
             Place::Member => self.at_member(byte),
@@ -190,14 +218,4 @@ fn is_refused(place: Place) -> bool
     ensures { result ≡ is_refused place }
 {
     matches!(place, Place::Refused(_))
-}
-
-/// Where reading begins.
-fn first_place(wanted: Wanted) -> Place
-    ensures { result ≡ first_place wanted }
-{
-    match wanted {
-        Wanted::Documents | Wanted::Leaves => Place::Start,
-        Wanted::Changes | Wanted::Lines => Place::Line(LinePlace::Begin),
-    }
 }

@@ -1,8 +1,9 @@
 //! Single bytes and names.
-ghost use Rattle.std.specs.Prelude.{◌≡◌, ◌||◌, Bool};
+ghost use Rattle.std.specs.Prelude.{◌≡◌, ◌||◌};
 ghost use Rattle.std.specs.Str.{bytes_eq};
-ghost use Rattle.couch_answers.specs.State.{is_space, more};
-ghost use Rattle.couch_answers.specs.Names.{name_of};
+ghost use Rattle.document_texts.specs.Texts.{is_space};
+ghost use Rattle.couch_answers.specs.State.{more};
+ghost use Rattle.couch_answers.specs.Names.{name_of, wanted_name, document_name, leaf_name, change_name};
 
 use crate::place::{Name, Wanted};
 
@@ -38,25 +39,47 @@ fn is_either(text: &[u8], one: &[u8], other: &[u8]) -> bool
     is(text, one) || is(text, other)
 }
 
-/// What a member's name, with its quotation marks, says of its value. The flag says that it stands in a list of a
-/// document's revisions.
+/// What a member's name, with its quotation marks, says of its value. The flags say that it is the first one of its
+/// object, that it stands in a list of a document's revisions, and that the answer is one of what is missing; so many
+/// lists and objects are open.
 #[tactic(auto, unfolding(crate::specs::Names::name_of))]
-pub(crate) fn name_of(wanted: Wanted, inner: bool, text: &[u8]) -> Name
-    ensures { result ≡ name_of wanted inner text.now }
+pub(crate) fn name_of(
+    wanted: Wanted,
+    first: bool,
+    inner: bool,
+    diff: bool,
+    depth: u8,
+    text: &[u8],
+) -> Name
+    ensures { result ≡ name_of wanted first inner diff depth text.now }
+{
+    if depth == 1 && is(text, b"\"error\"") {
+        return Name::Error;
+    }
+    if depth == 1 && is(text, b"\"reason\"") {
+        return Name::Reason;
+    }
+    wanted_name(wanted, first, inner, diff && depth == 2, text)
+}
+
+/// The same, of an object within others.
+fn wanted_name(wanted: Wanted, first: bool, inner: bool, entry: bool, text: &[u8]) -> Name
+    ensures { result ≡ wanted_name wanted first inner entry text.now }
 {
     match wanted {
-        Wanted::Documents => name_of_documents(text),
-        Wanted::Leaves => name_of_leaves(inner, text),
-        Wanted::Changes | Wanted::Lines => Name::Other,
+        Wanted::Leaves => name_of_leaves(inner, entry, text),
+        Wanted::Changes => name_of_changes(first, text),
+        _ => name_of_documents(first, text),
     }
 }
 
 /// The same, where documents are wanted.
-#[tactic(auto, unfolding(crate::specs::Names::name_of))]
-fn name_of_documents(text: &[u8]) -> Name
-    ensures { (inner : Bool) → result ≡ name_of Wanted.Documents inner text.now }
+fn name_of_documents(first: bool, text: &[u8]) -> Name
+    ensures { result ≡ document_name first text.now }
 {
-    if is_either(text, b"\"ok\"", b"\"doc\"") {
+    if first && is(text, b"\"_id\"") {
+        Name::Plain
+    } else if is_either(text, b"\"ok\"", b"\"doc\"") {
         Name::Document
     } else if is_either(text, b"\"results\"", b"\"rows\"") || is(text, b"\"docs\"") {
         Name::List
@@ -70,11 +93,16 @@ fn name_of_documents(text: &[u8]) -> Name
 }
 
 /// The same, where leaves are wanted.
-#[tactic(auto, unfolding(crate::specs::Names::name_of))]
-fn name_of_leaves(inner: bool, text: &[u8]) -> Name
-    ensures { result ≡ name_of Wanted.Leaves inner text.now }
+fn name_of_leaves(inner: bool, entry: bool, text: &[u8]) -> Name
+    ensures { result ≡ leaf_name inner entry text.now }
 {
-    if is(text, b"\"results\"") {
+    if entry {
+        if is(text, b"\"missing\"") {
+            Name::Missing
+        } else {
+            Name::Other
+        }
+    } else if is(text, b"\"results\"") {
         Name::List
     } else if is(text, b"\"id\"") {
         Name::Id
@@ -86,5 +114,16 @@ fn name_of_leaves(inner: bool, text: &[u8]) -> Name
         Name::Last
     } else {
         Name::Other
+    }
+}
+
+/// The same, where a script's changes are wanted.
+fn name_of_changes(first: bool, text: &[u8]) -> Name
+    ensures { result ≡ change_name first text.now }
+{
+    if first && is(text, b"\"_id\"") {
+        Name::Plain
+    } else {
+        Name::Foreign
     }
 }

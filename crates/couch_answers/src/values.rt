@@ -1,13 +1,16 @@
-//! Values of members, by their own text.
-ghost use Rattle.std.specs.Prelude.{◌≡◌, ◌==◌, IfOk, OnOk, slice_index};
+//! Values of members.
+ghost use Rattle.std.specs.Prelude.{◌≡◌, IfOk, OnOk, slice_index};
+ghost use Rattle.document_texts.specs.Texts.{is_json};
 ghost use Rattle.couch_answers.specs.Stored.{state_of};
-ghost use Rattle.couch_answers.specs.State.{is_json};
-ghost use Rattle.couch_answers.specs.Names.{found_of, passes, misfits};
-ghost use Rattle.couch_answers.specs.Steps.{judged, value_passed, value_ended, deeper, shallower, spaced, in_value, in_quoted, in_escaped};
+ghost use Rattle.couch_answers.specs.Names.{found_of, passes, refusal_of, is_error};
+ghost use Rattle.couch_answers.specs.Values.{error_kept, told, judged, value_passed, value_ended, deeper, shallower, spaced, plain_ended, in_value, in_quoted, in_escaped};
 
+use crate::members::is_plain;
 use crate::place::{Found, Name, Place, Refusal};
 use crate::reading::Reading;
 use crate::spelling::{is_space, more};
+use crate::wanted::wants_documents;
+use document_texts::is_log;
 use std::alloc::AllocError;
 
 /// How many brackets may be open within a value.
@@ -42,7 +45,7 @@ impl Reading {
                 Ok(())
             }
             b'{' | b'[' => self.nest(byte),
-            b'}' | b']' => self.unnest(byte),
+            b'}' | b']' => self.unnest(name, byte),
             _ => self.add(byte),
         }
     }
@@ -69,16 +72,37 @@ impl Reading {
         Ok(())
     }
 
-    /// A bracket that closes.
-    fn unnest(&mut self, byte: u8) -> Result<(), AllocError>
-        ensures { OnOk result (state_of self.new ≡ shallower (state_of self.old) byte) }
+    /// A bracket that closes, and with it a document that is the object itself.
+    fn unnest(&mut self, name: Name, byte: u8) -> Result<(), AllocError>
+        ensures { OnOk result (state_of self.new ≡ shallower name (state_of self.old) byte) }
     {
         if self.nesting == 0 {
             self.refuse(Refusal::NotJson);
             return Ok(());
         }
+        let ends = self.nesting == 1 && is_plain(name);
         self.nesting -= 1;
-        self.add(byte)
+        self.add(byte)?;
+        if ends {
+            return self.end_plain();
+        }
+        Ok(())
+    }
+
+    /// Ends a document that is the object itself.
+    fn end_plain(&mut self) -> Result<(), AllocError>
+        ensures { OnOk result (state_of self.new ≡ plain_ended (state_of self.old)) }
+    {
+        if !self.is_json()? {
+            self.refuse(Refusal::NotJson);
+            return Ok(());
+        }
+        self.known = true;
+        self.close_object();
+        if wants_documents(self.wanted) && !is_log(self.text.as_slice()) {
+            return self.find_document();
+        }
+        Ok(())
     }
 
     /// The byte behind a value, a comma or the brace that closes the object.
@@ -90,13 +114,12 @@ impl Reading {
             return Ok(());
         }
         let first = first_of(self.text.as_slice());
-        if misfits(name, first) {
-            self.refuse(Refusal::NoAnswer);
+        if let Some(why) = refusal_of(name, first, self.failed) {
+            self.refuse(why);
             return Ok(());
         }
-        self.judge(name, first);
         self.pass_value(byte);
-        Ok(())
+        self.judge(name, first)
     }
 
     /// The byte behind a value that was told.
@@ -111,13 +134,39 @@ impl Reading {
     }
 
     /// Tells what a value is that is whole, by its first byte.
-    fn judge(&mut self, name: Name, first: u8)
-        requires { first ≡ slice_index self.old.text.items 0 }
-        ensures { state_of self.new ≡ judged name (state_of self.old) }
+    fn judge(&mut self, name: Name, first: u8) -> Result<(), AllocError>
+        ensures { OnOk result (state_of self.new ≡ judged name first (state_of self.old)) }
     {
-        self.found = found_of(name, first);
         if passes(name, first) {
             self.passed = more(self.passed);
+        }
+        self.keep_error(name, first)?;
+        let found = found_of(name, first);
+        self.tell(found)
+    }
+
+    /// Keeps CouchDB's own error.
+    fn keep_error(&mut self, name: Name, first: u8) -> Result<(), AllocError>
+        ensures { OnOk result (state_of self.new ≡ error_kept name first (state_of self.old)) }
+    {
+        if !is_error(name) || first != b'"' {
+            return Ok(());
+        }
+        self.failed = true;
+        self.error.clear();
+        self.error.extend_from_slice(self.text.as_slice())
+    }
+
+    /// Tells what the text is.
+    fn tell(&mut self, found: Found) -> Result<(), AllocError>
+        ensures { OnOk result (state_of self.new ≡ told found (state_of self.old)) }
+    {
+        match found {
+            Found::Document => self.find_document(),
+            found => {
+                self.found = found;
+                Ok(())
+            }
         }
     }
 
@@ -169,17 +218,26 @@ fn passes(name: Name, first: u8) -> bool
 {
     match name {
         Name::Document => first != b'{',
-        Name::Passed => true,
+        Name::Passed | Name::Error => true,
         _ => false,
     }
 }
 
-/// Whether it is no id or no revision, though its name says so.
-fn misfits(name: Name, first: u8) -> bool
-    ensures { result ≡ misfits name first }
+/// Why a value of a name is refused that begins with a byte: it is no id or no revision, though its name says so, or
+/// the reason of an error.
+fn refusal_of(name: Name, first: u8, failed: bool) -> Option<Refusal>
+    ensures { result ≡ refusal_of name first failed }
 {
     match name {
-        Name::Id | Name::Rev => first != b'"',
-        _ => false,
+        Name::Id | Name::Rev if first != b'"' => Some(Refusal::NoAnswer),
+        Name::Reason if first == b'"' && failed => Some(Refusal::CouchError),
+        _ => None,
     }
+}
+
+/// Whether a name is that of an error.
+fn is_error(name: Name) -> bool
+    ensures { result ≡ is_error name }
+{
+    matches!(name, Name::Error)
 }

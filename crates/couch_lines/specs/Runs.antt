@@ -1,52 +1,60 @@
 -- How the words of a command line are run, over any reader and writer: docs/PROFILE.md, "CouchDB's answers".
-use Rattle.std.specs.Prelude.{◌≡◌, ℕ, List, Option, Some, Result, Ok, Err, string_bytes, ⊤}
-use Rattle.couch_answers.specs.Words.{Words, loads_of, asked_words, docs_of, bodies_of}
+use Rattle.std.specs.Prelude.{◌≡◌, ℕ, List, Bool, true, false, Option, Some, Result, Ok, Err, string_bytes, ⊤}
 use Rattle.couch_answers.specs.Reading.{Piece}
 use Rattle.couch_answers.specs.Grammar.{IsAnswered}
 use Rattle.couch_answers.specs.LineGrammar.{IsScript}
 use Rattle.couch_answers.specs.ChangeGrammar.{IsChangeScript}
-use Rattle.couch_answers.specs.Runs.{Answered, Stopped, ReadsAnswers}
 use Rattle.couch_answers.specs.declared.place.Wanted.{Wanted}
-use Rattle.couch_answers.specs.declared.place.Wanted.TheVariants.{Documents, Leaves as InFeed, Changes, Lines}
-use Rattle.couch_answers.specs.declared.run.AnswerFault.{AnswerFault}
+use Rattle.couch_answers.specs.declared.place.Wanted.TheVariants.{Documents, Enveloped, Bodies, Unfolded, Leaves as InFeed, Changes}
+use Rattle.couch_wording.specs.Words.{Words, loads_of, asked_of, diffs_of, docs_of, bodies_of}
+use Rattle.couch_wording.specs.Runs.{Answered, Stopped, ReadsAnswers}
+use Rattle.couch_wording.specs.declared.run.AnswerFault.{AnswerFault}
 use Rattle.couch_lines.specs.Tasks.{Says, Refuses}
 use Rattle.couch_lines.specs.declared.tasks.Task.{Task}
-use Rattle.couch_lines.specs.declared.tasks.Task.TheVariants.{Load, Ids, Leaves, Bulk}
+use Rattle.couch_lines.specs.declared.tasks.Task.TheVariants.{Load, Ids, Diff, Leaves, Bulk}
+use Rattle.couch_lines.specs.declared.options.NoTask.{NoTask}
+use Rattle.couch_lines.specs.declared.options.NoTask.TheVariants.{Memory}
 use Rattle.couch_lines.specs.declared.run.Ended.{Ended}
 use Rattle.couch_lines.specs.declared.run.Ended.TheVariants.{NotRun, Ran}
 
 -- what is read for a task
 abbrev pub wanted_of : Task → Wanted
-wanted_of (Load db) = Documents
-wanted_of Ids = InFeed
+wanted_of (Load db false) = Documents
+wanted_of (Load db true) = Enveloped
+wanted_of (Ids n) = InFeed
+wanted_of (Diff n) = InFeed
 wanted_of (Leaves db) = Changes
-wanted_of (Bulk n) = Lines
+wanted_of (Bulk n false) = Bodies
+wanted_of (Bulk n true) = Unfolded
 
 -- how what was read is written
 abbrev pub words_of_task : Task → Words
-words_of_task (Load db) = loads_of (string_bytes db)
-words_of_task Ids = asked_words
+words_of_task (Load db whole) = loads_of (string_bytes db)
+words_of_task (Ids n) = asked_of n
+words_of_task (Diff n) = diffs_of n
 words_of_task (Leaves db) = docs_of (string_bytes db)
-words_of_task (Bulk n) = bodies_of n
+words_of_task (Bulk n whole) = bodies_of n
 
 -- First what the reader has left, then what the writer holds, before and after.
 abbrev pub IsDone : Task → Option (List ℕ) → Option (List ℕ) → Option (List ℕ) → Result ℕ AnswerFault → Type 0
 IsDone task left held held' (Ok passed) = Answered (wanted_of task) (words_of_task task) left held held' passed
 IsDone task left held held' (Err fault) = Stopped (wanted_of task) (words_of_task task) left held held' fault
 
--- What CouchDB's answers hold stands in `load` lines of the database, one for each document, in order, and nothing else;
--- and the documents among a script's answers stand in bodies, each leaf of its changes in a `doc` line. None is refused.
+-- What CouchDB's answers hold stands in `load` lines of the database, one for each document, in order, and nothing else,
+-- by its own text or in its envelope; and the documents among a script's answers stand in bodies, each leaf of its
+-- changes in a `doc` line. None is refused.
 abbrev pub Makes : Task → Option (List ℕ) → Option (List ℕ) → Option (List ℕ) → Result ℕ AnswerFault → Type 0
-Makes (Load db) left held held' result = (answers : List ℕ) → (documents : List Piece) → left ≡ Some answers
-    → IsAnswered answers documents → ReadsAnswers (loads_of (string_bytes db)) documents held held' result
-Makes Ids left held held' result = ⊤
+Makes (Load db whole) left held held' result = (answers : List ℕ) → (documents : List Piece) → left ≡ Some answers
+    → IsAnswered (wanted_of (Load db whole)) answers documents → ReadsAnswers (loads_of (string_bytes db)) documents held held' result
+Makes (Ids n) left held held' result = ⊤
+Makes (Diff n) left held held' result = ⊤
 Makes (Leaves db) left held held' result = (answers : List ℕ) → (changes : List Piece) → left ≡ Some answers
     → IsChangeScript answers changes → ReadsAnswers (docs_of (string_bytes db)) changes held held' result
-Makes (Bulk n) left held held' result = (answers : List ℕ) → (documents : List Piece) → left ≡ Some answers
-    → IsScript answers documents → ReadsAnswers (bodies_of n) documents held held' result
+Makes (Bulk n whole) left held held' result = (answers : List ℕ) → (documents : List Piece) → left ≡ Some answers
+    → IsScript (wanted_of (Bulk n whole)) answers documents → ReadsAnswers (bodies_of n) documents held held' result
 
--- words that ask for nothing: nothing is read or written; else what they ask for is done
+-- words that ask for nothing: nothing is read or written, as where memory was wanting; else what they ask for is done
 abbrev pub RunsWords : List (List ℕ) → Option (List ℕ) → Option (List ℕ) → Option (List ℕ) → Option (List ℕ) → Ended → Type 0
 RunsWords words left left' held held' (NotRun why) = Refuses words why × (left' ≡ left) × (held' ≡ held)
-RunsWords words left left' held held' (Ran ended) =
-    (task : Task) × Says words task × IsDone task left held held' ended × Makes task left held held' ended
+RunsWords words left left' held held' (Ran run) =
+    (task : Task) × Says words task × IsDone task left held held' run.ended × Makes task left held held' run.ended

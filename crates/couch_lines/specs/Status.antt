@@ -4,10 +4,10 @@ use Rattle.clap.specs.Words.{kind_of}
 use Rattle.clap.specs.declared.error.kind.ErrorKind.{ErrorKind}
 use Rattle.clap.specs.declared.error.kind.ErrorKind.TheVariants.{DisplayHelp, DisplayVersion, OutOfMemory}
 use Rattle.script_engine.specs.declared.fault.ScriptFault.TheVariants as faults
-use Rattle.couch_answers.specs.declared.run.AnswerFault.{AnswerFault}
-use Rattle.couch_answers.specs.declared.run.AnswerFault.TheVariants.{Device}
+use Rattle.couch_wording.specs.declared.run.AnswerFault.{AnswerFault}
+use Rattle.couch_wording.specs.declared.run.AnswerFault.TheVariants.{Device}
 use Rattle.couch_lines.specs.declared.options.NoTask.{NoTask}
-use Rattle.couch_lines.specs.declared.options.NoTask.TheVariants.{Words, Unknown, Memory}
+use Rattle.couch_lines.specs.declared.options.NoTask.TheVariants.{Words, Unknown, Wrong, Memory}
 use Rattle.couch_lines.specs.declared.run.Ended.{Ended}
 use Rattle.couch_lines.specs.declared.run.Ended.TheVariants.{NotRun, Ran}
 
@@ -27,14 +27,18 @@ kind_status kind = 2
 abbrev pub words_status : NoTask → ℕ
 words_status (Words error) = kind_status (kind_of error)
 words_status Unknown = 2
+words_status (Wrong named) = 2
 words_status Memory = 3
 
 abbrev pub ended_status : Ended → ℕ
 ended_status (NotRun why) = words_status why
-ended_status (Ran ended) = status_of ended
+ended_status (Ran run) = status_of run.ended
 
--- a run whose last texts could not be written; a fault before stands
+-- what a run ended with whose last texts could not be written; a fault before stands
+abbrev pub unwritten : Result ℕ AnswerFault → Result ℕ AnswerFault
+unwritten (Ok passed) = Err (Device faults.Write)
+unwritten (Err fault) = Err fault
+
 abbrev pub unflushed : Ended → Ended
 unflushed (NotRun why) = NotRun why
-unflushed (Ran (Ok passed)) = Ran (Err (Device faults.Write))
-unflushed (Ran (Err fault)) = Ran (Err fault)
+unflushed (Ran run) = Ran (record run { ended = unwritten run.ended })

@@ -1,47 +1,63 @@
 //! The command line: what its words ask for, or why they ask for nothing.
-ghost use Rattle.std.specs.Prelude.{◌≡◌, IfOk, IfErr, map, string_bytes, option_map, codes, Some, true, false};
-ghost use Rattle.clap.specs.Words.{HasKind, app_of, fault_of, found_of, first_value, kind_of, rule_of};
+ghost use Rattle.std.specs.Prelude.{◌≡◌, IfOk, IfErr, map, string_bytes, codes, false};
+ghost use Rattle.clap.specs.Words.{app_of, found_of, first_value, one_text, rule_of};
 ghost use Rattle.couch_lines.specs.declared.options.NoTask.TheVariants.{Memory};
-ghost use Rattle.couch_lines.specs.Tasks.{Asks, AskNothing, Says, Refuses, task_word, further_word, help_option, program_app, command_line};
+ghost use Rattle.couch_lines.specs.Tasks.{Says, Refuses, SaysBy, RefusesBy, task_word, second_word, third_word, whole_option, program_app, command_line};
 
-use crate::tasks::{Task, task_of};
+use crate::tasks::{Named, Task, task_of};
 use clap::{Arg, ArgAction, ArgMatches, Command, Error};
 use std::alloc::{AllocError, Global};
 
 /// What the program says of itself.
 const ABOUT: &str =
-    "Turns answers of CouchDB into lines of a script, and answers of a script into requests to CouchDB.";
+    "Turns answers of CouchDB into lines of a script, and documents into requests to CouchDB.";
 
 /// What the tasks are, for `--help`.
 const TASKS_HELP: &str = "Standard input is read, and what is made of it goes to standard output.
-`DB` is a name of 1 to 32 letters, digits, `-` or `_`.
+`DB` is a name of 1 to 32 letters, digits, `-` or `_`; N a whole number.
 
-  couch_lines load DB
-      a `load` line for each document in answers of CouchDB: _bulk_get?revs=true,
-      {docid}?open_revs=all&revs=true as JSON, _all_docs?include_docs=true and
-      _changes?include_docs=true, one or several behind one another
-  couch_lines ids
-      the body of a _bulk_get request that asks for each leaf in an answer of
-      _changes?style=all_docs
+  couch_lines load DB [--whole]
+      a `load` line for each document in answers of CouchDB (_bulk_get?revs=true,
+      {docid}?open_revs=all&revs=true as JSON, _all_docs?include_docs=true,
+      _changes?include_docs=true, _find, a document itself) and in files of such
+      (couchbackup, couchdb-dump, bodies of _bulk_docs, the answers of `doc` lines),
+      one or several behind one another
+  couch_lines ids [N]
+      bodies of _bulk_get requests that ask for each leaf in an answer of
+      _changes?style=all_docs, or in one of _revs_diff: N leaves in each, one body a
+      line; without N all in one
+  couch_lines diff [N]
+      bodies of _revs_diff requests that ask which of the leaves in an answer of
+      _changes?style=all_docs are missing: N documents in each, one body a line;
+      without N all in one
   couch_lines leaves DB
       a `doc` line for each leaf in the `change` lines of a script's answers
-  couch_lines bulk [N]
-      bodies of _bulk_docs requests that store the documents in the answers of `doc`
-      lines, N documents in each, one body a line (1000 without N)
+  couch_lines bulk [N] [--whole]
+      bodies of _bulk_docs requests that store the documents in the same answers and
+      files, in `load` lines and in the answers of `doc` lines, N documents in each,
+      one body a line (1000 without N)
 
-A document's text is copied as it is. What stands in the place of a document is passed over,
-and its number told on standard error.
+A document is an object whose first member is `_id`, or one that an answer of CouchDB
+names. Its text is copied as it is. What stands in the place of a document is passed over,
+and its number told on standard error; `bulk` refuses an object that holds no document.
+
+With --whole `load` puts all members but _id, _rev, _revisions and _deleted into one, a
+string named `whole`, in which nothing is looked at: numbers such as 12.5, attachments and
+all else go through couch_replicate as they are. `bulk --whole` takes them out again.
 
 Exit status: 0; 1 where something was passed over; 2 for a bad command line; 3 where the
-input is none of these or is cut off, or reading, writing or memory failed.";
+input is CouchDB's own error, none of these or cut off, or reading, writing or memory
+failed.";
 
 /// Why the words of a command line ask for nothing.
 #[derive(Drop)]
 pub enum NoTask {
     /// What `clap` says of them, the help that was asked for too.
     Words(Error),
-    /// They name no task, or a task with what it does not take.
+    /// They name no task.
     Unknown,
+    /// They name a task, with what it does not take.
+    Wrong(Named),
     /// An allocation was refused.
     Memory,
 }
@@ -70,35 +86,43 @@ pub fn read_words<'a>(alloc: Global, words: &'a [String]) -> Result<Task, NoTask
     }
 }
 
-/// What the two words ask for.
+/// What the words ask for.
 fn task_said(alloc: Global, matches: &ArgMatches<'_>) -> Result<Task, NoTask>
-    ensures ok { IfOk result (λ task. Asks (first_value (found_of matches.now) (codes "task"))
-        (first_value (found_of matches.now) (codes "of")) task) }
-    ensures err { IfErr result (λ why. AskNothing (first_value (found_of matches.now) (codes "task"))
-        (first_value (found_of matches.now) (codes "of")) why) }
+    ensures ok { IfOk result (λ task. SaysBy (first_value (found_of matches.now))
+        (one_text (found_of matches.now) (codes "whole")) task) }
+    ensures err { IfErr result (λ why. RefusesBy (first_value (found_of matches.now))
+        (one_text (found_of matches.now) (codes "whole")) why) }
 {
-    task_of(alloc, matches.get_str("task"), matches.get_str("of"))
+    let word = matches.get_str("task");
+    let second = matches.get_str("of");
+    let third = matches.get_str("further");
+    let whole = matches.get_flag("whole");
+    match task_of(alloc, word, second, third, whole) {
+        Ok(task) => Ok(task),
+        Err(why) => Err(why),
+    }
 }
 
-/// The command line: two words and `--help`.
+/// The command line: three words, `--whole`, `--help` and `--version`.
 fn command<'a>(alloc: Global) -> Result<Command<'a>, AllocError>
     ensures { IfOk result (λ c. app_of c ≡ command_line) }
 {
     let command = program(alloc)
         .arg(first_word(alloc))?
         .arg(second_word(alloc))?
-        .arg(help(alloc))?;
+        .arg(third_word(alloc))?
+        .arg(whole(alloc))?;
     Ok(command)
 }
 
-/// The program without words; its help is one of them.
+/// The program without words.
 fn program<'a>(alloc: Global) -> Command<'a>
     ensures { app_of result ≡ program_app }
 {
     Command::new(alloc, "couch_lines")
+        .version("0.1.0")
         .about(ABOUT)
         .after_help(TASKS_HELP)
-        .disable_help_flag(true)
 }
 
 /// The word that names the task.
@@ -110,27 +134,35 @@ fn first_word<'a>(alloc: Global) -> Arg<'a>
         .value_name("TASK")
         .required(true)
         .action(ArgAction::Set)
-        .help("`load`, `ids`, `leaves` or `bulk`")
+        .help("`load`, `ids`, `diff`, `leaves` or `bulk`")
 }
 
 /// What the task is done with.
 fn second_word<'a>(alloc: Global) -> Arg<'a>
-    ensures rule { rule_of result ≡ further_word }
+    ensures rule { rule_of result ≡ second_word }
     ensures local { result.global ≡ false }
 {
     Arg::new(alloc, "of")
         .value_name("DB|N")
         .action(ArgAction::Set)
-        .help("A database for `load` and `leaves`, a number for `bulk`")
+        .help("A database for `load` and `leaves`, a number for `ids`, `diff` and `bulk`")
 }
 
-/// The option `--help`.
-fn help<'a>(alloc: Global) -> Arg<'a>
-    ensures rule { rule_of result ≡ help_option }
+/// A word too many, which may be the name of a file.
+fn third_word<'a>(alloc: Global) -> Arg<'a>
+    ensures rule { rule_of result ≡ third_word }
     ensures local { result.global ≡ false }
 {
-    Arg::new(alloc, "help")
-        .long("help")
-        .action(ArgAction::Help)
-        .help("Print this text")
+    Arg::new(alloc, "further").hide(true).action(ArgAction::Set)
+}
+
+/// The option `--whole`.
+fn whole<'a>(alloc: Global) -> Arg<'a>
+    ensures rule { rule_of result ≡ whole_option }
+    ensures local { result.global ≡ false }
+{
+    Arg::new(alloc, "whole")
+        .long("whole")
+        .action(ArgAction::SetTrue)
+        .help("Documents in envelopes, for `load` and `bulk`")
 }

@@ -1,17 +1,19 @@
 //! The program: its words, its standard input and output, and its exit status.
 ghost use Rattle.std.specs.Prelude.{◌≡◌, ◌≤◌};
 ghost use Rattle.clap.specs.Words.{kind_of};
-ghost use Rattle.couch_lines.specs.Status.{ended_status, kind_status, status_of, unflushed};
+ghost use Rattle.couch_lines.specs.Status.{ended_status, kind_status, status_of, unflushed, unwritten};
 
 use crate::options::NoTask;
-use crate::run::{Ended, run_words};
+use crate::run::{Ended, Run, run_words};
+use crate::tasks::Named;
 use clap::Error;
 use clap::error::ErrorKind;
-use couch_answers::AnswerFault;
+use couch_answers::Refusal;
+use couch_wording::AnswerFault;
 use script_engine::{OverRead, OverWrite, ScriptFault, ScriptWrite};
 use std::env::Env;
 use std::io::{Eprint, Input, Print};
-use std::{env, io};
+use std::{env, io, str};
 
 /// The exit status for words that ask for nothing.
 const BAD_COMMAND_LINE: u8 = 2;
@@ -23,7 +25,7 @@ pub fn run_program<H: AllocGlobal + Env + Input + Print + Eprint>(rt: &H) -> u8
 {
     match words_of(rt) {
         Ok(words) => tell(rt, &run_standard(rt, words.as_slice())),
-        Err(error) if error.kind() == io::ErrorKind::OutOfMemory => tell_end(rt, &no_memory()),
+        Err(error) if error.kind() == io::ErrorKind::OutOfMemory => tell_no_memory(rt),
         Err(error) => {
             let _ = eprintln!(rt; "error: {error}");
             BAD_COMMAND_LINE
@@ -55,11 +57,24 @@ fn unflushed(ended: Ended) -> Ended
     ensures { result ≡ unflushed ended }
 {
     match ended {
-        Ended::Ran(Ok(_)) => Ended::Ran(Err(AnswerFault::Device {
-            fault: ScriptFault::Write,
-        })),
-        Ended::Ran(Err(fault)) => Ended::Ran(Err(fault)),
+        Ended::Ran(run) => Ended::Ran(Run {
+            ended: unwritten(run.ended),
+            reading: run.reading,
+            wording: run.wording,
+        }),
         Ended::NotRun(why) => Ended::NotRun(why),
+    }
+}
+
+/// The same, of what it ended with.
+fn unwritten(ended: Result<u64, AnswerFault>) -> Result<u64, AnswerFault>
+    ensures { result ≡ unwritten ended }
+{
+    match ended {
+        Ok(_) => Err(AnswerFault::Device {
+            fault: ScriptFault::Write,
+        }),
+        Err(fault) => Err(fault),
     }
 }
 
@@ -73,8 +88,26 @@ fn tell<H: Print + Eprint>(rt: &H, ended: &Ended) -> u8
             let _ = eprintln!(rt; "error: no such task; couch_lines --help tells them");
             BAD_COMMAND_LINE
         }
-        Ended::NotRun(NoTask::Memory) => tell_end(rt, &no_memory()),
-        Ended::Ran(ended) => tell_end(rt, ended),
+        Ended::NotRun(NoTask::Wrong(named)) => {
+            let usage = usage_of(*named);
+            let _ = eprintln!(rt;
+                "error: wanted is `couch_lines {usage} < FILE`; input goes to standard input"
+            );
+            BAD_COMMAND_LINE
+        }
+        Ended::NotRun(NoTask::Memory) => tell_no_memory(rt),
+        Ended::Ran(run) => tell_run(rt, run),
+    }
+}
+
+/// The words that a task wants.
+fn usage_of(named: Named) -> &'static str {
+    match named {
+        Named::Load => "load DB [--whole]",
+        Named::Ids => "ids [N]",
+        Named::Diff => "diff [N]",
+        Named::Leaves => "leaves DB",
+        Named::Bulk => "bulk [N] [--whole]",
     }
 }
 
@@ -83,7 +116,7 @@ fn tell_words<H: Print + Eprint>(rt: &H, error: &Error) -> u8
     ensures { result ≡ kind_status (kind_of error.now) }
 {
     if error.kind() == ErrorKind::OutOfMemory {
-        return tell_end(rt, &no_memory());
+        return tell_no_memory(rt);
     }
     let _ = error.print(rt);
     if error.use_stderr() {
@@ -93,28 +126,78 @@ fn tell_words<H: Print + Eprint>(rt: &H, error: &Error) -> u8
     }
 }
 
-/// How a run ended for which memory was wanting before it began.
-fn no_memory() -> Result<u64, AnswerFault>
-    ensures { status_of result ≡ 3 }
+/// Tells that memory was wanting, and gives the exit status.
+fn tell_no_memory(rt: &impl Eprint) -> u8
+    ensures { result ≡ 3 }
 {
-    Err(AnswerFault::Device {
-        fault: ScriptFault::Memory,
-    })
+    let fault = ScriptFault::Memory;
+    let _ = eprintln!(rt; "{fault}");
+    3
 }
 
 /// Tells what was passed over, or why what was asked for was not done to its end, and gives the exit status.
-fn tell_end(rt: &impl Eprint, ended: &Result<u64, AnswerFault>) -> u8
-    ensures { result ≡ status_of ended.now }
+fn tell_run(rt: &impl Eprint, run: &Run) -> u8
+    ensures { result ≡ status_of run.now.ended }
 {
-    match ended {
+    match &run.ended {
         Ok(0) => 0,
         Ok(passed) => {
             let _ = eprintln!(rt; "passed over: {passed}");
             1
         }
-        Err(fault) => {
+        Err(AnswerFault::Device { fault }) => {
             let _ = eprintln!(rt; "{fault}");
             3
         }
+        Err(AnswerFault::Refused { why, at }) => tell_refused(rt, run, *why, *at),
     }
+}
+
+/// Tells why what was read is no answer, and gives the exit status.
+fn tell_refused(rt: &impl Eprint, run: &Run, why: Refusal, at: u64) -> u8
+    ensures { result ≡ 3 }
+{
+    let id = text_of(run.wording.id());
+    let hint = hint_of(why);
+    if why == Refusal::CouchError {
+        let error = unquoted(run.reading.error());
+        let reason = unquoted(run.reading.text());
+        let _ = eprintln!(rt; "CouchDB says {error}: {reason}");
+    } else if !hint.is_empty() {
+        let _ = eprintln!(rt; "refused: {why} at byte {at}: {hint}");
+    } else if id.is_empty() {
+        let _ = eprintln!(rt; "refused: {why} at byte {at}");
+    } else {
+        let _ = eprintln!(rt; "refused: {why} at byte {at}, behind {id}");
+    }
+    3
+}
+
+/// What the first bytes are, and what is to be done.
+fn hint_of(why: Refusal) -> &'static str {
+    match why {
+        Refusal::Gzip => "this is gzip (curl --compressed)",
+        Refusal::Html => "this is HTML",
+        Refusal::Headers => "these are headers (curl without -i)",
+        Refusal::Multipart => "this is multipart (ask with Accept: application/json)",
+        Refusal::ByteOrderMark => "this begins with a byte order mark",
+        _ => "",
+    }
+}
+
+/// Bytes as a text, or none where they are no UTF-8.
+fn text_of(bytes: &[u8]) -> &str {
+    match str::from_utf8(bytes) {
+        Ok(text) => text,
+        Err(_) => "",
+    }
+}
+
+/// The text of a string without its quotation marks.
+fn unquoted(bytes: &[u8]) -> &str {
+    let end = if bytes.len() > 1 { bytes.len() - 1 } else { 1 };
+    if bytes.is_empty() {
+        return "";
+    }
+    text_of(&bytes[1..end])
 }

@@ -1,11 +1,12 @@
 //! A run of the program over any reader and writer: its words, and what they ask for.
 ghost use Rattle.std.specs.Prelude.{◌≡◌, IfOk, map, string_bytes};
-ghost use Rattle.couch_answers.specs.Stored.{words_of_wording};
+ghost use Rattle.couch_wording.specs.Stored.{words_of_wording};
 ghost use Rattle.couch_lines.specs.Runs.{RunsWords, IsDone, Makes, wanted_of, words_of_task};
 
 use crate::options::{NoTask, read_words};
 use crate::tasks::Task;
-use couch_answers::{AnswerFault, Wanted, Wording, run_answers};
+use couch_answers::{Reading, Wanted};
+use couch_wording::{AnswerFault, Wording, run_answers};
 use script_engine::{ScriptRead, ScriptWrite};
 use std::alloc::{AllocError, Global};
 
@@ -14,8 +15,19 @@ use std::alloc::{AllocError, Global};
 pub enum Ended {
     /// The words ask for nothing, and nothing was read.
     NotRun(NoTask),
-    /// What they ask for was done; how many documents were passed over, or why it was not done to its end.
-    Ran(Result<u64, AnswerFault>),
+    /// What they ask for was done, or begun.
+    Ran(Run),
+}
+
+/// What was done.
+#[derive(Drop)]
+pub struct Run {
+    /// How many documents were passed over; or why it was not done to its end.
+    pub(crate) ended: Result<u64, AnswerFault>,
+    /// How far was read.
+    pub(crate) reading: Reading,
+    /// What was written last.
+    pub(crate) wording: Wording,
 }
 
 /// Reads the words of a command line, the program's name first, and does what they ask for.
@@ -32,7 +44,10 @@ pub fn run_words<'a, R: ScriptRead, W: ScriptWrite>(
         Ok(task) => task,
         Err(why) => return Ended::NotRun(why),
     };
-    Ended::Ran(run_task(alloc, &task, reader, writer))
+    match wording_of(alloc, &task) {
+        Ok(wording) => Ended::Ran(run_task(alloc, &task, wording, reader, writer)),
+        Err(refused) => Ended::NotRun(NoTask::from(refused)),
+    }
 }
 
 /// What is read for a task.
@@ -40,10 +55,12 @@ fn wanted_of(task: &Task) -> Wanted
     ensures { result ≡ wanted_of task.now }
 {
     match task {
-        Task::Load(_) => Wanted::Documents,
-        Task::Ids => Wanted::Leaves,
+        Task::Load(_, false) => Wanted::Documents,
+        Task::Load(_, true) => Wanted::Enveloped,
+        Task::Ids(_) | Task::Diff(_) => Wanted::Leaves,
         Task::Leaves(_) => Wanted::Changes,
-        Task::Bulk(_) => Wanted::Lines,
+        Task::Bulk(_, false) => Wanted::Bodies,
+        Task::Bulk(_, true) => Wanted::Unfolded,
     }
 }
 
@@ -52,23 +69,31 @@ fn wording_of(alloc: Global, task: &Task) -> Result<Wording, AllocError>
     ensures { IfOk result (λ wording. words_of_wording wording ≡ words_of_task task.now) }
 {
     match task {
-        Task::Load(db) => Wording::loads(alloc, db.as_str()),
-        Task::Ids => Wording::asked(alloc),
+        Task::Load(db, _) => Wording::loads(alloc, db.as_str()),
+        Task::Ids(size) => Wording::asked(alloc, *size),
+        Task::Diff(size) => Ok(Wording::diffs(alloc, *size)),
         Task::Leaves(db) => Wording::docs(alloc, db.as_str()),
-        Task::Bulk(size) => Ok(Wording::bodies(alloc, *size)),
+        Task::Bulk(size, _) => Ok(Wording::bodies(alloc, *size)),
     }
 }
 
-/// Does a task, and gives how many documents were passed over.
+/// Does a task.
 fn run_task<R: ScriptRead, W: ScriptWrite>(
     alloc: Global,
     task: &Task,
+    mut wording: Wording,
     reader: &mut R,
     writer: &mut W,
-) -> Result<u64, AnswerFault>
-    ensures done { IsDone task.now (R.left reader.old) (W.held writer.old) (W.held writer.new) result }
-    ensures makes { Makes task.now (R.left reader.old) (W.held writer.old) (W.held writer.new) result }
+) -> Run
+    requires { words_of_wording wording ≡ words_of_task task.now }
+    ensures done { IsDone task.now (R.left reader.old) (W.held writer.old) (W.held writer.new) result.ended }
+    ensures makes { Makes task.now (R.left reader.old) (W.held writer.old) (W.held writer.new) result.ended }
 {
-    let mut wording = wording_of(alloc, task)?;
-    run_answers(alloc, wanted_of(task), &mut wording, reader, writer)
+    let mut reading = Reading::new(alloc, wanted_of(task));
+    let ended = run_answers(alloc, &mut reading, &mut wording, reader, writer);
+    Run {
+        ended,
+        reading,
+        wording,
+    }
 }

@@ -1,7 +1,8 @@
 //! What the program can be asked for.
-ghost use Rattle.std.specs.Prelude.{◌≡◌, ◌<◌, ℕ, Some, IfOk, IfErr, IfSome, IfNone, option_map, string_bytes, true};
+ghost use Rattle.std.specs.Prelude.{◌≡◌, ℕ, IfOk, IfErr, IfSome, IfNone, option_map, string_bytes};
 ghost use Rattle.std.specs.List.{list_all};
-ghost use Rattle.couch_lines.specs.Tasks.{Asks, AskNothing, NamesNothing, IsCount, is_name, is_name_byte};
+ghost use Rattle.couch_lines.specs.declared.tasks.Named.{Named};
+ghost use Rattle.couch_lines.specs.Tasks.{Asks, AskNothing, Fits, FitsNone, NamesNone, IsNamed, IsSize, is_name, is_name_byte, word_of};
 
 use crate::options::NoTask;
 use std::alloc::Global;
@@ -9,14 +10,28 @@ use std::alloc::Global;
 /// What the program is asked for.
 #[derive(Drop)]
 pub enum Task {
-    /// `load` lines of a database, of the documents in CouchDB's answers.
-    Load(String),
-    /// The body of a request that asks for each leaf in CouchDB's changes feed.
-    Ids,
+    /// `load` lines of a database, of the documents in CouchDB's answers; in envelopes where the flag is set.
+    Load(String, bool),
+    /// Bodies of requests that ask for each leaf in CouchDB's changes feed, or in its answer of what is missing; so many
+    /// in each, or all in one where the number is 0.
+    Ids(u64),
+    /// Bodies of requests for what is missing of the leaves in CouchDB's changes feed, of so many documents each, or all
+    /// in one where the number is 0.
+    Diff(u64),
     /// `doc` lines of a database, one for each leaf in the `change` lines of a script's answers.
     Leaves(String),
-    /// Bodies of requests that store the documents in the answers of a script, so many in each.
-    Bulk(u64),
+    /// Bodies of requests that store documents, so many in each; taken out of envelopes where the flag is set.
+    Bulk(u64, bool),
+}
+
+/// A task that is named by a word.
+#[derive(Clone, Copy, Debug, PartialEq, Eq)]
+pub enum Named {
+    Load,
+    Ids,
+    Diff,
+    Leaves,
+    Bulk,
 }
 
 /// How many documents a body holds where no word says so.
@@ -54,65 +69,111 @@ fn is_name(text: &str) -> bool
     are_name_bytes(bytes)
 }
 
-/// What two words ask for.
+/// The task that a word names.
+fn named_by(word: &str) -> Option<Named>
+    ensures some { IfSome result (λ n. word.now ≡ word_of n) }
+    ensures none { IfNone result ((n : Named) → word.now ≡ word_of n → ⊥) }
+{
+    if word == "load" {
+        Some(Named::Load)
+    } else if word == "ids" {
+        Some(Named::Ids)
+    } else if word == "diff" {
+        Some(Named::Diff)
+    } else if word == "leaves" {
+        Some(Named::Leaves)
+    } else if word == "bulk" {
+        Some(Named::Bulk)
+    } else {
+        None
+    }
+}
+
+/// What the words ask for: the task's name, what it is done with, a word too many, and whether documents stand in
+/// envelopes.
 ///
-/// `Unknown` where they ask for nothing.
-pub fn task_of(alloc: Global, word: Option<&str>, further: Option<&str>) -> Result<Task, NoTask>
-    ensures ok { IfOk result (λ task. Asks (option_map (λ s. s.now) word.entry) (option_map (λ s. s.now) further.entry) task) }
-    ensures err { IfErr result
-        (λ why. AskNothing (option_map (λ s. s.now) word.entry) (option_map (λ s. s.now) further.entry) why) }
+/// `Unknown` where the first one names no task, and `Wrong` where the task takes other words.
+pub fn task_of(
+    alloc: Global,
+    word: Option<&str>,
+    second: Option<&str>,
+    third: Option<&str>,
+    whole: bool,
+) -> Result<Task, NoTask>
+    ensures ok { IfOk result (λ task. Asks (option_map (λ s. s.now) word.entry)
+        (option_map (λ s. s.now) second.entry) (option_map (λ s. s.now) third.entry) whole task) }
+    ensures err { IfErr result (λ why. AskNothing (option_map (λ s. s.now) word.entry)
+        (option_map (λ s. s.now) second.entry) (option_map (λ s. s.now) third.entry) whole why) }
 {
     let Some(word) = word else {
         return Err(NoTask::Unknown);
     };
-    if word == "load" {
-        return match name_of(alloc, further) {
-            Ok(db) => Ok(Task::Load(db)),
-            Err(why) => Err(why),
-        };
+    let Some(named) = named_by(word) else {
+        return Err(NoTask::Unknown);
+    };
+    if third.is_some() {
+        return Err(NoTask::Wrong(named));
     }
-    if word == "leaves" {
-        return match name_of(alloc, further) {
+    match fitting(alloc, named, second, whole) {
+        Ok(task) => Ok(task),
+        Err(why) => Err(why),
+    }
+}
+
+/// The task of a name, done with a word, and with documents in envelopes or not. `Wrong` where it takes other ones.
+fn fitting(alloc: Global, named: Named, word: Option<&str>, whole: bool) -> Result<Task, NoTask>
+    ensures ok { IfOk result (λ task. Fits named (option_map (λ s. s.now) word.entry) whole task) }
+    ensures err { IfErr result (λ why. FitsNone named (option_map (λ s. s.now) word.entry) whole why) }
+{
+    match named {
+        Named::Load => match name_of(alloc, named, word) {
+            Ok(db) => Ok(Task::Load(db, whole)),
+            Err(why) => Err(why),
+        },
+        Named::Bulk => match size_of(word, SIZE) {
+            Some(size) => Ok(Task::Bulk(size, whole)),
+            None => Err(NoTask::Wrong(named)),
+        },
+        _ if whole => Err(NoTask::Wrong(named)),
+        Named::Leaves => match name_of(alloc, named, word) {
             Ok(db) => Ok(Task::Leaves(db)),
             Err(why) => Err(why),
-        };
+        },
+        Named::Ids => match size_of(word, 0) {
+            Some(size) => Ok(Task::Ids(size)),
+            None => Err(NoTask::Wrong(named)),
+        },
+        Named::Diff => match size_of(word, 0) {
+            Some(size) => Ok(Task::Diff(size)),
+            None => Err(NoTask::Wrong(named)),
+        },
     }
-    if word == "bulk" {
-        return match size_of(further) {
-            Some(size) => Ok(Task::Bulk(size)),
-            None => Err(NoTask::Unknown),
-        };
-    }
-    if word == "ids" && further.is_none() {
-        return Ok(Task::Ids);
-    }
-    Err(NoTask::Unknown)
 }
 
 /// The name of a database that a word is.
 ///
-/// `Unknown` where it is none, or there is no word.
-fn name_of(alloc: Global, word: Option<&str>) -> Result<String, NoTask>
-    ensures ok { IfOk result (λ db. (option_map (λ s. s.now) word.entry ≡ Some (string_bytes db)) × (is_name (string_bytes db) ≡ true)) }
-    ensures err { IfErr result (λ why. NamesNothing (option_map (λ s. s.now) word.entry) why) }
+/// `Wrong` where it is none, or there is no word.
+fn name_of(alloc: Global, named: Named, word: Option<&str>) -> Result<String, NoTask>
+    ensures ok { IfOk result (λ db. IsNamed (option_map (λ s. s.now) word.entry) (string_bytes db)) }
+    ensures err { IfErr result (λ why. NamesNone named (option_map (λ s. s.now) word.entry) why) }
 {
     let Some(word) = word else {
-        return Err(NoTask::Unknown);
+        return Err(NoTask::Wrong(named));
     };
     if !is_name(word) {
-        return Err(NoTask::Unknown);
+        return Err(NoTask::Wrong(named));
     }
     let db = String::from_str(alloc, word)?;
     Ok(db)
 }
 
-/// How many documents a body holds, where the word says so or there is none.
-fn size_of(word: Option<&str>) -> Option<u64>
-    ensures some { IfSome result (λ n. IsCount (option_map (λ s. s.now) word.entry) n × (0 < n)) }
-    ensures none { IfNone result ((n : ℕ) → IsCount (option_map (λ s. s.now) word.entry) n → 0 < n → ⊥) }
+/// The number that a word is, which is not 0, or another one where there is no word.
+fn size_of(word: Option<&str>, absent: u64) -> Option<u64>
+    ensures some { IfSome result (λ n. IsSize absent (option_map (λ s. s.now) word.entry) n) }
+    ensures none { IfNone result ((n : ℕ) → IsSize absent (option_map (λ s. s.now) word.entry) n → ⊥) }
 {
     let Some(word) = word else {
-        return Some(SIZE);
+        return Some(absent);
     };
     match word.parse::<u64>() {
         Ok(size) if size > 0 => Some(size),

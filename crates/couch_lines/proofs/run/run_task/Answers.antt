@@ -1,10 +1,15 @@
-use Rattle.std.proofs.lemmas.Result.{err_from_is_err_and}
-use Rattle.script_engine.specs.declared.fault.ScriptFault.TheVariants.{Memory}
-use Rattle.couch_answers.proofs.Runs.{Stopped-none}
-use Rattle.couch_lines.specs.Runs.{wanted_of, words_of_task}
+use Rattle.std.proofs.Common.{ap, ◌∙◌}
+use Rattle.couch_answers.specs.State.{State}
+use Rattle.couch_wording.specs.Stored.{words_of_wording}
+use Rattle.couch_lines.proofs.Doing.{is_done, makes}
 use Rattle.couch_lines.proofs.run.run_task.Goals as goal
 
-pub returns-in_err-wording-clause-done : goal.returns-in_err-wording-clause-done
-returns-in_err-wording-clause-done g c =
-    let p = err_from_is_err_and c.from_residual.result c.from_residual.ensures.1 in
-    rw (p.1, p.2) (Stopped-none (wanted_of c.args.task.now) (words_of_task c.args.task.now) (g.R.ScriptRead.left c.args.reader.now) (g.W.ScriptWrite.held c.args.writer.now) Memory)
+pub returns-clause-done : goal.returns-clause-done
+returns-clause-done g c =
+    is_done (g.R.ScriptRead.left c.args.reader.now) (g.W.ScriptWrite.held c.args.writer.now) (g.W.ScriptWrite.held c.run_answers-ended.new.writer) c.run_answers-ended.result c.args.task.now c.new-reading.result.wanted (words_of_wording c.args.wording)
+    (ap (λ (s : State). s.wanted) c.new-reading.ensures ∙ c.wanted_of.ensures) c.requires (c.run_answers-ended.ensures.ok, c.run_answers-ended.ensures.fault)
+
+pub returns-clause-makes : goal.returns-clause-makes
+returns-clause-makes g c =
+    makes (g.R.ScriptRead.left c.args.reader.now) (g.W.ScriptWrite.held c.args.writer.now) (g.W.ScriptWrite.held c.run_answers-ended.new.writer) c.run_answers-ended.result c.args.task.now c.new-reading.result.wanted (words_of_wording c.args.wording)
+    (ap (λ (s : State). s.wanted) c.new-reading.ensures ∙ c.wanted_of.ensures) c.requires c.run_answers-ended.ensures.forms c.run_answers-ended.ensures.script c.run_answers-ended.ensures.changes

@@ -1,0 +1,51 @@
+-- What a task does, by what its reading and its wording do.
+use Rattle.std.proofs.Common.{◌≡◌, ℕ, List, true, false, Option, Some, Result, Ok, Err, IfOk, IfErr, refl, sym, subst}
+use Rattle.couch_answers.specs.Wanted.{wants_documents, is_strict}
+use Rattle.couch_answers.specs.Reading.{Piece}
+use Rattle.couch_answers.specs.Grammar.{IsAnswered}
+use Rattle.couch_answers.specs.LineGrammar.{IsScript}
+use Rattle.couch_answers.specs.ChangeGrammar.{IsChangeScript}
+use Rattle.couch_answers.specs.declared.place.Wanted.{Wanted}
+use Rattle.couch_answers.specs.declared.place.Wanted.TheVariants.{Changes}
+use Rattle.couch_wording.specs.Words.{Words}
+use Rattle.couch_wording.specs.Runs.{Answered, Stopped, ReadsAnswers}
+use Rattle.couch_wording.specs.declared.run.AnswerFault.{AnswerFault}
+use Rattle.couch_lines.specs.Runs.{IsDone, Makes, wanted_of, words_of_task}
+use Rattle.couch_lines.specs.declared.tasks.Task.{Task}
+use Rattle.couch_lines.specs.declared.tasks.Task.TheVariants.{Load, Ids, Diff, Leaves, Bulk}
+
+module _ (left held held' : Option (List ℕ)) (x : Result ℕ AnswerFault) where
+  abbrev pub Ran : Wanted → Words → Type 0
+  Ran w words = IfOk x (Answered w words left held held') × IfErr x (Stopped w words left held held')
+
+  abbrev pub Forms : Wanted → Words → Type 0
+  Forms w words = (text : List ℕ) → (pieces : List Piece) → wants_documents w ≡ true → is_strict w ≡ false → left ≡ Some text → IsAnswered w text pieces → ReadsAnswers words pieces held held' x
+
+  abbrev pub Scripts : Wanted → Words → Type 0
+  Scripts w words = (text : List ℕ) → (pieces : List Piece) → wants_documents w ≡ true → is_strict w ≡ true → left ≡ Some text → IsScript w text pieces → ReadsAnswers words pieces held held' x
+
+  abbrev pub Changing : Wanted → Words → Type 0
+  Changing w words = (text : List ℕ) → (pieces : List Piece) → w ≡ Changes → left ≡ Some text → IsChangeScript text pieces → ReadsAnswers words pieces held held' x
+
+  done_by : (task : Task) (y : Result ℕ AnswerFault) → IfOk y (Answered (wanted_of task) (words_of_task task) left held held') → IfErr y (Stopped (wanted_of task) (words_of_task task) left held held') → IsDone task left held held' y
+  done_by task (Ok passed) ok err = ok
+  done_by task (Err fault) ok err = err
+
+  pub is_done : (task : Task) (w : Wanted) (words : Words) → w ≡ wanted_of task → words ≡ words_of_task task → Ran w words → IsDone task left held held' x
+  is_done task w words e f r =
+      let ran = subst (λ z. Ran (wanted_of task) z) f (subst (λ z. Ran z words) e r) in
+      done_by task x ran.0 ran.1
+
+  makes_by : (task : Task) → Forms (wanted_of task) (words_of_task task) → Scripts (wanted_of task) (words_of_task task) → Changing (wanted_of task) (words_of_task task) → Makes task left held held' x
+  makes_by (Load db false) forms scripts changes = λ text pieces l h. forms text pieces refl refl l h
+  makes_by (Load db true) forms scripts changes = λ text pieces l h. forms text pieces refl refl l h
+  makes_by (Ids n) forms scripts changes = tt
+  makes_by (Diff n) forms scripts changes = tt
+  makes_by (Leaves db) forms scripts changes = λ text pieces l h. changes text pieces refl l h
+  makes_by (Bulk n false) forms scripts changes = λ text pieces l h. scripts text pieces refl refl l h
+  makes_by (Bulk n true) forms scripts changes = λ text pieces l h. scripts text pieces refl refl l h
+
+  pub makes : (task : Task) (w : Wanted) (words : Words) → w ≡ wanted_of task → words ≡ words_of_task task → Forms w words → Scripts w words → Changing w words → Makes task left held held' x
+  makes task w words e f forms scripts changes =
+      makes_by task (subst (λ z. Forms (wanted_of task) z) f (subst (λ z. Forms z words) e forms)) (subst (λ z. Scripts (wanted_of task) z) f (subst (λ z. Scripts z words) e scripts))
+      (subst (λ z. Changing (wanted_of task) z) f (subst (λ z. Changing z words) e changes))

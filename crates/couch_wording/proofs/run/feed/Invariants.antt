@@ -1,0 +1,16 @@
+-- A front of the bytes was read, and what it holds is written.
+use Rattle.std.proofs.Common.{◌≡◌, ◌++◌, ℕ, List, length}
+use Rattle.couch_answers.specs.Stored.{state_of}
+use Rattle.couch_wording.specs.Stored.{words_of_wording}
+use Rattle.couch_wording.specs.Runs.{Fed}
+use Rattle.couch_wording.proofs.run.feed.Given as goal
+
+abbrev pub invariant-loop-rest : goal.invariant-loop-rest
+invariant-loop-rest g l =
+    let W = g.W.ScriptWrite in
+    (front : List ℕ) × (l.bytes ≡ front ++ l.rest)
+    × Fed (state_of l.fn.reading) (words_of_wording l.fn.wording) front (state_of l.reading) (words_of_wording l.wording) (W.held l.fn.writer) (W.held l.writer)
+    × (W.failures l.writer ≡ W.failures l.fn.writer)
+
+abbrev pub decreases-loop-rest : goal.decreases-loop-rest
+decreases-loop-rest g l = length l.rest

@@ -1,0 +1,131 @@
+-- What is written for what was read: docs/PROFILE.md, "CouchDB's answers" and "Lines of documents".
+use Rattle.std.specs.Prelude.{ℕ, ◌&&◌, ◌==◌, nat_lt, List, [], ◌∷◌, ◌++◌, Bool, true, false, not, cond, codes}
+use Rattle.document_texts.specs.Names.{id_of}
+use Rattle.couch_answers.specs.State.{more}
+use Rattle.couch_answers.specs.Reading.{Piece}
+use Rattle.couch_answers.specs.declared.place.Found.{Found}
+use Rattle.couch_answers.specs.declared.place.Found.TheVariants.{Nothing, Document, Id, Rev}
+use Rattle.couch_wording.specs.Forms.{opening, separator, ends, closing, empty, before_rev, has_lists}
+use Rattle.couch_wording.specs.declared.forms.Form.{Form}
+use Rattle.couch_wording.specs.declared.forms.Form.TheVariants.{Loads, Asked, Diffs, Docs, Bodies}
+
+-- how the next text is written
+pub record Words : Type 0 where
+  pub form : Form
+  -- what stands before each text
+  pub begins : List ℕ
+  -- the id that came last, and whether it has a revision
+  pub id : List ℕ
+  pub listed : Bool
+  -- how many texts stand in the body that is open
+  pub count : ℕ
+  -- how many texts a body holds at most, or 0 where it holds all
+  pub size : ℕ
+  -- whether anything was written
+  pub told : Bool
+
+-- ---- one text
+
+abbrev pub before : Words → List ℕ
+before w = cond (w.count == 0) (opening w.form) (separator w.form) ++ w.begins
+
+-- a body is full with one text more, and is closed behind it
+abbrev pub is_full : Words → Bool
+is_full w = not (has_lists w.form) && more w.count == w.size
+
+abbrev pub behind : Words → List ℕ
+behind w = ends w.form ++ cond (is_full w) (closing w.form) []
+
+abbrev pub counted_up : Words → Words
+counted_up w = record w { count = cond (is_full w) 0 (more w.count); told = true }
+
+abbrev pub id_kept : Words → List ℕ → Words
+id_kept w id = record w { id = id; listed = false }
+
+-- a document by its own text
+abbrev pub document_text : Words → List ℕ → List ℕ
+document_text w text = before w ++ (text ++ behind w)
+
+abbrev pub with_document : Words → List ℕ → Words
+with_document w text = counted_up (id_kept w (id_of text))
+
+-- a body of lists is full
+abbrev pub is_over : Words → Bool
+is_over w = has_lists w.form && (nat_lt 0 w.count && w.count == w.size)
+
+-- it is closed before the next document
+abbrev pub over_text : Words → List ℕ
+over_text w = cond (is_over w) (closing w.form) []
+
+abbrev pub over : Words → Words
+over w = record w { count = cond (is_over w) 0 w.count }
+
+-- the first revision of a document, behind its id
+abbrev pub first_rev_text : Words → List ℕ → List ℕ
+first_rev_text w text =
+    over_text w ++ (before (over w) ++ (w.id ++ (before_rev w.form ++ (text ++ behind (over w)))))
+
+abbrev pub with_first_rev : Words → Words
+with_first_rev w = record (counted_up (over w)) { listed = true }
+
+-- it stands in a list behind others
+abbrev pub is_further : Words → Bool
+is_further w = has_lists w.form && w.listed
+
+abbrev pub rev_text : Words → List ℕ → List ℕ
+rev_text w text = cond (is_further w) (44 ∷ text) (first_rev_text w text)
+
+abbrev pub with_rev : Words → Words
+with_rev w = cond (is_further w) w (with_first_rev w)
+
+abbrev pub text_for : Words → Found → List ℕ → List ℕ
+text_for w Nothing text = []
+text_for w Document text = document_text w text
+text_for w Id text = []
+text_for w Rev text = rev_text w text
+
+abbrev pub words_then : Words → Found → List ℕ → Words
+words_then w Nothing text = w
+words_then w Document text = with_document w text
+words_then w Id text = id_kept w text
+words_then w Rev text = with_rev w
+
+-- ---- all texts
+
+-- of pieces, one after another
+abbrev pub texts : Words → List Piece → List ℕ
+texts w [] = []
+texts w (p ∷ more) = text_for w p.0 p.1 ++ texts (words_then w p.0 p.1) more
+
+abbrev pub words_behind : Words → List Piece → Words
+words_behind w [] = w
+words_behind w (p ∷ more) = words_behind (words_then w p.0 p.1) more
+
+-- at the end
+abbrev pub last_text : Words → List ℕ
+last_text w = cond (nat_lt 0 w.count) (closing w.form) (cond w.told [] (empty w.form))
+
+-- ---- words that nothing was written by
+
+abbrev pub words_of : Form → List ℕ → ℕ → Words
+words_of form begins size = record { form = form; begins = begins; id = []; listed = false; count = 0; size = size; told = false }
+
+-- `load` lines of a database
+abbrev pub loads_of : List ℕ → Words
+loads_of db = words_of Loads (codes "{\"do\":\"load\",\"db\":\"" ++ (db ++ codes "\",\"doc\":")) 0
+
+-- bodies of requests for so many leaves
+abbrev pub asked_of : ℕ → Words
+asked_of size = words_of Asked (codes "{\"id\":") size
+
+-- bodies of requests for what is missing of so many documents
+abbrev pub diffs_of : ℕ → Words
+diffs_of size = words_of Diffs [] size
+
+-- `doc` lines of a database
+abbrev pub docs_of : List ℕ → Words
+docs_of db = words_of Docs (codes "{\"do\":\"doc\",\"db\":\"" ++ (db ++ codes "\",\"id\":")) 0
+
+-- bodies of so many documents
+abbrev pub bodies_of : ℕ → Words
+bodies_of size = words_of Bodies [] size

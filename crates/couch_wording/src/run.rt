@@ -1,0 +1,264 @@
+//! Answers read from a reader, and what they hold written to a writer.
+ghost use Rattle.std.specs.Prelude.{◌≡◌, ◌<◌, ◌≤◌, ℕ, List, length, Some, IfOk, OnOk, IfErr, true, false};
+ghost use Rattle.std.specs.Io.KnownBytes.{Appends, IsAtEnd};
+ghost use Rattle.script_engine.specs.Faults.{IsOfWriter};
+ghost use Rattle.couch_answers.specs.Stored.{state_of};
+ghost use Rattle.couch_wording.specs.Stored.{words_of_wording};
+ghost use Rattle.couch_answers.specs.Wanted.{wants_documents, is_strict};
+ghost use Rattle.couch_answers.specs.declared.place.Wanted.TheVariants.{Changes};
+ghost use Rattle.couch_answers.specs.State.{start};
+ghost use Rattle.couch_answers.specs.Reading.{Piece, given, last_end, pieces};
+ghost use Rattle.couch_answers.specs.Grammar.{IsAnswered};
+ghost use Rattle.couch_answers.specs.LineGrammar.{IsScript};
+ghost use Rattle.couch_answers.specs.ChangeGrammar.{IsChangeScript};
+ghost use Rattle.couch_wording.specs.Words.{texts, words_behind};
+ghost use Rattle.script_engine.specs.declared.fault.ScriptFault.TheVariants.{Memory};
+ghost use Rattle.couch_wording.specs.declared.run.AnswerFault.TheVariants.{Device};
+ghost use Rattle.couch_wording.specs.Runs.{Fed, Begins, EndsAnswers, Finishes, Answered, Stopped, CountsOf, CountsOfWriter, ReadsAnswers, ended_of};
+
+use crate::wording::Wording;
+use couch_answers::{Reading, Refusal};
+use script_engine::{ScriptFault, ScriptRead, ScriptWrite, write_all};
+use std::alloc::{AllocError, Global};
+use thiserror::Error;
+
+/// Why answers were not read to their end.
+#[derive(Debug, Drop, Error)]
+pub enum AnswerFault {
+    /// They are none. The place is the number of bytes that were read, with the one that is at fault.
+    #[error("refused: {why} at byte {at}")]
+    Refused { why: Refusal, at: u64 },
+    /// A device failed, or memory was wanting.
+    #[error("{fault}")]
+    Device { fault: ScriptFault },
+}
+
+impl From<ScriptFault> for AnswerFault {
+    ghost from_gives = { λ fault e. e ≡ Device fault };
+
+    fn from(fault: ScriptFault) -> AnswerFault {
+        AnswerFault::Device { fault }
+    }
+}
+
+impl From<AllocError> for AnswerFault {
+    ghost from_gives = { λ _ e. e ≡ Device Memory };
+
+    fn from(refused: AllocError) -> AnswerFault {
+        AnswerFault::Device {
+            fault: ScriptFault::from(refused),
+        }
+    }
+}
+
+/// How many reads there are at most.
+const MAX_READS: u32 = 4294967295;
+
+/// How many bytes a read takes at most.
+const CHUNK: usize = 65536;
+
+/// Writes what the last byte made whole.
+fn tell<W: ScriptWrite>(
+    reading: &Reading,
+    wording: &mut Wording,
+    writer: &mut W,
+) -> Result<(), ScriptFault>
+    ensures written { OnOk result (Appends (W.held writer.old) (W.held writer.new)
+        (texts (words_of_wording wording.old) (given (state_of reading.now)))) }
+    ensures words { OnOk result (words_of_wording wording.new
+        ≡ words_behind (words_of_wording wording.old) (given (state_of reading.now))) }
+    ensures counted { OnOk result (W.failures writer.new ≡ W.failures writer.old) }
+    ensures err { IfErr result (λ fault. Begins fault (words_of_wording wording.old) (given (state_of reading.now))
+        (W.held writer.old) (W.held writer.new)) }
+    ensures fault { IfErr result (λ fault. IsOfWriter fault (W.failures writer.old) (W.failures writer.new)) }
+{
+    wording.put(reading.found(), reading.text())?;
+    match write_all(writer, wording.text()) {
+        Ok(()) => Ok(()),
+        Err(fault) => Err(fault),
+    }
+}
+
+/// Reads bytes, and writes what they hold.
+fn feed<W: ScriptWrite>(
+    reading: &mut Reading,
+    wording: &mut Wording,
+    writer: &mut W,
+    bytes: &[u8],
+) -> Result<(), ScriptFault>
+    ensures ok { OnOk result
+        (Fed (state_of reading.old) (words_of_wording wording.old) bytes.now (state_of reading.new)
+        (words_of_wording wording.new) (W.held writer.old) (W.held writer.new)) }
+    ensures counted { OnOk result (W.failures writer.new ≡ W.failures writer.old) }
+    ensures err { IfErr result (λ fault. Begins fault (words_of_wording wording.old)
+        (pieces (state_of reading.old) bytes.now) (W.held writer.old) (W.held writer.new)) }
+    ensures fault { IfErr result (λ fault. IsOfWriter fault (W.failures writer.old) (W.failures writer.new)) }
+{
+    let mut rest = bytes;
+    while !rest.is_empty() {
+        let count = reading.take_in(rest)?;
+        match tell(reading, wording, writer) {
+            Ok(()) => {}
+            Err(fault) => return Err(fault),
+        }
+        rest = &rest[count..];
+    }
+    Ok(())
+}
+
+/// What reading comes to at its end.
+fn ended(reading: &Reading) -> Result<u64, AnswerFault>
+    ensures { result ≡ ended_of (state_of reading.now) }
+{
+    match reading.end() {
+        Ok(()) => Ok(reading.passed()),
+        Err(why) => Err(AnswerFault::Refused {
+            why,
+            at: reading.taken(),
+        }),
+    }
+}
+
+/// Ends a last line that has no line end.
+fn feed_rest<W: ScriptWrite>(
+    reading: &mut Reading,
+    wording: &mut Wording,
+    writer: &mut W,
+) -> Result<(), ScriptFault>
+    ensures ok { OnOk result (Fed (state_of reading.old) (words_of_wording wording.old) (last_end (state_of reading.old))
+        (state_of reading.new) (words_of_wording wording.new) (W.held writer.old) (W.held writer.new)) }
+    ensures counted { OnOk result (W.failures writer.new ≡ W.failures writer.old) }
+    ensures err { IfErr result (λ fault. Begins fault (words_of_wording wording.old)
+        (pieces (state_of reading.old) (last_end (state_of reading.old))) (W.held writer.old) (W.held writer.new)) }
+    ensures fault { IfErr result (λ fault. IsOfWriter fault (W.failures writer.old) (W.failures writer.new)) }
+{
+    if !reading.has_rest() {
+        return Ok(());
+    }
+    feed(reading, wording, writer, b"\n")
+}
+
+/// Writes the last text, where what was read is whole answers and nothing else.
+fn end<W: ScriptWrite>(
+    reading: &Reading,
+    wording: &Wording,
+    writer: &mut W,
+) -> Result<u64, AnswerFault>
+    ensures ends { EndsAnswers (state_of reading.now) (words_of_wording wording.now) (W.held writer.old)
+        (W.held writer.new) result }
+    ensures counts { CountsOfWriter result (W.failures writer.old) (W.failures writer.new) }
+{
+    match ended(reading) {
+        Ok(passed) => match write_all(writer, wording.last()) {
+            Ok(()) => Ok(passed),
+            Err(fault) => Err(AnswerFault::Device { fault }),
+        },
+        Err(fault) => Err(fault),
+    }
+}
+
+/// Does what is done where nothing follows.
+fn finish<W: ScriptWrite>(
+    reading: &mut Reading,
+    wording: &mut Wording,
+    writer: &mut W,
+) -> Result<u64, AnswerFault>
+    ensures finishes { Finishes (state_of reading.old) (words_of_wording wording.old) (W.held writer.old)
+        (W.held writer.new) result }
+    ensures counts { CountsOfWriter result (W.failures writer.old) (W.failures writer.new) }
+{
+    match feed_rest(reading, wording, writer) {
+        Ok(()) => end(reading, wording, writer),
+        Err(fault) => Err(AnswerFault::Device { fault }),
+    }
+}
+
+/// Reads chunk after chunk, and writes what they hold.
+fn run_chunks<R: ScriptRead, W: ScriptWrite>(
+    reading: &mut Reading,
+    wording: &mut Wording,
+    reader: &mut R,
+    writer: &mut W,
+    chunk: &mut [u8],
+) -> Result<u64, AnswerFault>
+    requires begins { state_of reading.old ≡ start reading.old.wanted }
+    requires room { 0 < length chunk.old }
+    ensures ok { IfOk result (λ passed. Answered reading.old.wanted (words_of_wording wording.old)
+        (R.left reader.old) (W.held writer.old) (W.held writer.new) passed) }
+    ensures end { OnOk result (IsAtEnd (R.left reader.new)) }
+    ensures counted { OnOk result ((R.failures reader.new ≡ R.failures reader.old)
+        × (W.failures writer.new ≡ W.failures writer.old)) }
+    ensures fault { IfErr result (λ fault. Stopped reading.old.wanted (words_of_wording wording.old)
+        (R.left reader.old) (W.held writer.old) (W.held writer.new) fault) }
+    ensures counts { IfErr result (λ fault. CountsOf fault (R.reads reader.old) (R.reads reader.new)
+        (R.failures reader.old) (R.failures reader.new) (W.failures writer.old) (W.failures writer.new)) }
+{
+    for turn in 0..MAX_READS {
+        let count = match reader.read(chunk) {
+            Ok(count) => count,
+            Err(_) => return Err(AnswerFault::Device {
+                fault: ScriptFault::Read,
+            }),
+        };
+        if count == 0 {
+            return finish(reading, wording, writer);
+        }
+        match feed(reading, wording, writer, &chunk[..count]) {
+            Ok(()) => {}
+            Err(fault) => return Err(AnswerFault::Device { fault }),
+        }
+        if reading.is_refused() {
+            return ended(reading);
+        }
+    }
+    Err(AnswerFault::Device {
+        fault: ScriptFault::Read,
+    })
+}
+
+/// Reads answers to the reader's end with a reading that begins, and writes what they hold, each text as soon as it is
+/// whole. Gives how many documents were passed over.
+///
+/// `Refused` where what is read is no answer: then what stands before the byte at fault is written. `Read` and `Write`
+/// come only where that device failed in this call, but that `Read` also comes in the place of a further read after
+/// 4,294,967,295 reads, each of at most 65,536 bytes.
+pub fn run_answers<R: ScriptRead, W: ScriptWrite>(
+    alloc: Global,
+    reading: &mut Reading,
+    wording: &mut Wording,
+    reader: &mut R,
+    writer: &mut W,
+) -> Result<u64, AnswerFault>
+    requires begins { state_of reading.old ≡ start reading.old.wanted }
+
+    // What answers of CouchDB's forms hold is written, and they are never refused, where what holds nothing is passed
+    // over.
+    ensures forms { (text : List ℕ) → (held : List Piece) → wants_documents reading.old.wanted ≡ true
+        → is_strict reading.old.wanted ≡ false → R.left reader.old ≡ Some text
+        → IsAnswered reading.old.wanted text held → ReadsAnswers (words_of_wording wording.old) held
+        (W.held writer.old) (W.held writer.new) result }
+
+    // So it is with the documents among a script's answers, where such are wanted alone, and with its changes.
+    ensures script { (text : List ℕ) → (held : List Piece) → wants_documents reading.old.wanted ≡ true
+        → is_strict reading.old.wanted ≡ true → R.left reader.old ≡ Some text
+        → IsScript reading.old.wanted text held → ReadsAnswers (words_of_wording wording.old) held
+        (W.held writer.old) (W.held writer.new) result }
+
+    ensures changes { (text : List ℕ) → (held : List Piece) → reading.old.wanted ≡ Changes
+        → R.left reader.old ≡ Some text → IsChangeScript text held
+        → ReadsAnswers (words_of_wording wording.old) held (W.held writer.old) (W.held writer.new) result }
+
+    // Whatever is read.
+    ensures ok { IfOk result (λ passed. Answered reading.old.wanted (words_of_wording wording.old)
+        (R.left reader.old) (W.held writer.old) (W.held writer.new) passed) }
+    ensures end { OnOk result (IsAtEnd (R.left reader.new)) }
+    ensures counted { OnOk result ((R.failures reader.new ≡ R.failures reader.old)
+        × (W.failures writer.new ≡ W.failures writer.old)) }
+    ensures fault { IfErr result (λ fault. Stopped reading.old.wanted (words_of_wording wording.old)
+        (R.left reader.old) (W.held writer.old) (W.held writer.new) fault) }
+    ensures counts { IfErr result (λ fault. CountsOf fault (R.reads reader.old) (R.reads reader.new)
+        (R.failures reader.old) (R.failures reader.new) (W.failures writer.old) (W.failures writer.new)) }
+{
+    let mut chunk = vec![in alloc; 0u8; CHUNK]?;
+    run_chunks(reading, wording, reader, writer, chunk.as_mut_slice())
+}

@@ -1,0 +1,285 @@
+//! What is written for what was read.
+ghost use Rattle.std.specs.Prelude.{◌≡◌, ◌++◌, ◌∷◌, [], IfOk, OnOk};
+ghost use Rattle.couch_answers.specs.State.{more};
+ghost use Rattle.couch_wording.specs.Stored.{made_of, words_of_wording};
+ghost use Rattle.couch_wording.specs.Forms.{before_rev as before_rev_of};
+ghost use Rattle.couch_wording.specs.Words.{before, behind, is_full, document_text, with_document, id_kept, rev_text, with_rev, first_rev_text, with_first_rev, over_text, over, text_for, counted_up, words_then, last_text, words_of, loads_of, asked_of, diffs_of, docs_of, bodies_of};
+
+use crate::forms::{Form, before_rev, closing, empty, ends, has_lists, opening, separator};
+use couch_answers::Found;
+use document_texts::id_of;
+use std::alloc::{AllocError, Global};
+
+/// How what was read is written.
+#[derive(Drop)]
+pub struct Wording {
+    form: Form,
+    /// What stands before each text.
+    begins: Vec<u8>,
+    /// The id that came last.
+    id: Vec<u8>,
+    /// Whether it has a revision.
+    listed: bool,
+    /// How many texts stand in the body that is open.
+    count: u64,
+    /// How many texts a body holds at most, or 0.
+    size: u64,
+    /// Whether anything was written.
+    told: bool,
+    /// The text that was made last.
+    text: Vec<u8>,
+}
+
+impl Wording {
+    /// A `load` line for each document, of a database. Its name stands in it as it is.
+    pub fn loads(alloc: Global, db: &str) -> Result<Wording, AllocError>
+        ensures { IfOk result (λ wording. words_of_wording wording ≡ loads_of db.now) }
+    {
+        let begins = three(
+            alloc,
+            b"{\"do\":\"load\",\"db\":\"",
+            db.as_bytes(),
+            b"\",\"doc\":",
+        )?;
+        Ok(made(alloc, Form::Loads, begins, 0))
+    }
+
+    /// Bodies of `_bulk_get` requests that ask for each revision, so many in each, or all in one where the number is 0.
+    pub fn asked(alloc: Global, size: u64) -> Result<Wording, AllocError>
+        ensures { IfOk result (λ wording. words_of_wording wording ≡ asked_of size) }
+    {
+        let begins = Vec::from_slice(alloc, b"{\"id\":")?;
+        Ok(made(alloc, Form::Asked, begins, size))
+    }
+
+    /// Bodies of `_revs_diff` requests, of so many documents each, or all in one where the number is 0.
+    pub fn diffs(alloc: Global, size: u64) -> Wording
+        ensures { words_of_wording result ≡ diffs_of size }
+    {
+        made(alloc, Form::Diffs, Vec::new(alloc), size)
+    }
+
+    /// A `doc` line for each revision, of a database. Its name stands in it as it is.
+    pub fn docs(alloc: Global, db: &str) -> Result<Wording, AllocError>
+        ensures { IfOk result (λ wording. words_of_wording wording ≡ docs_of db.now) }
+    {
+        let begins = three(
+            alloc,
+            b"{\"do\":\"doc\",\"db\":\"",
+            db.as_bytes(),
+            b"\",\"id\":",
+        )?;
+        Ok(made(alloc, Form::Docs, begins, 0))
+    }
+
+    /// Bodies of `_bulk_docs` requests, of so many documents each, or all in one where the number is 0.
+    pub fn bodies(alloc: Global, size: u64) -> Wording
+        ensures { words_of_wording result ≡ bodies_of size }
+    {
+        made(alloc, Form::Bodies, Vec::new(alloc), size)
+    }
+
+    /// Makes the text that is written for what was found.
+    ///
+    /// Where memory was wanting, no further text can be made.
+    pub fn put(&mut self, found: Found, text: &[u8]) -> Result<(), AllocError>
+        ensures text { OnOk result (made_of self.new ≡ text_for (words_of_wording self.old) found text.now) }
+        ensures words { OnOk result
+            (words_of_wording self.new ≡ words_then (words_of_wording self.old) found text.now) }
+    {
+        self.text.clear();
+        match found {
+            Found::Nothing => Ok(()),
+            Found::Document => self.put_document(text),
+            Found::Id => self.keep_id(text),
+            Found::Rev => self.put_rev(text),
+        }
+    }
+
+    /// The text that was made last.
+    pub fn text(&self) -> &[u8]
+        ensures { result.now ≡ made_of self.now }
+    {
+        self.text.as_slice()
+    }
+
+    /// The id that came last, with its quotation marks; that of the last document, where documents came.
+    pub fn id(&self) -> &[u8]
+        ensures { result.now ≡ (words_of_wording self.now).id }
+    {
+        self.id.as_slice()
+    }
+
+    /// The text that is written at the end.
+    pub fn last(&self) -> &'static [u8]
+        ensures { result.now ≡ last_text (words_of_wording self.now) }
+    {
+        if self.count > 0 {
+            closing(self.form)
+        } else if self.told {
+            b""
+        } else {
+            empty(self.form)
+        }
+    }
+
+    /// A document, by its own text.
+    fn put_document(&mut self, text: &[u8]) -> Result<(), AllocError>
+        requires { made_of self.old ≡ [] }
+        ensures text { OnOk result (made_of self.new ≡ document_text (words_of_wording self.old) text.now) }
+        ensures words { OnOk result (words_of_wording self.new ≡ with_document (words_of_wording self.old) text.now) }
+    {
+        self.keep_id(id_of(text))?;
+        self.put_before()?;
+        self.text.extend_from_slice(text)?;
+        self.put_behind()?;
+        self.count_up();
+        Ok(())
+    }
+
+    /// Keeps an id.
+    fn keep_id(&mut self, text: &[u8]) -> Result<(), AllocError>
+        ensures same { made_of self.new ≡ made_of self.old }
+        ensures words { OnOk result (words_of_wording self.new ≡ id_kept (words_of_wording self.old) text.now) }
+    {
+        self.id.clear();
+        self.listed = false;
+        self.id.extend_from_slice(text)
+    }
+
+    /// A revision, behind the id that was kept.
+    fn put_rev(&mut self, rev: &[u8]) -> Result<(), AllocError>
+        requires { made_of self.old ≡ [] }
+        ensures text { OnOk result (made_of self.new ≡ rev_text (words_of_wording self.old) rev.now) }
+        ensures words { OnOk result (words_of_wording self.new ≡ with_rev (words_of_wording self.old)) }
+    {
+        if has_lists(self.form) && self.listed {
+            return self.put_further(rev);
+        }
+        self.put_first(rev)
+    }
+
+    /// The first revision of a document.
+    fn put_first(&mut self, rev: &[u8]) -> Result<(), AllocError>
+        requires { made_of self.old ≡ [] }
+        ensures text { OnOk result (made_of self.new ≡ first_rev_text (words_of_wording self.old) rev.now) }
+        ensures words { OnOk result (words_of_wording self.new ≡ with_first_rev (words_of_wording self.old)) }
+    {
+        self.put_over()?;
+        self.put_before()?;
+        self.put_named(rev)?;
+        self.put_behind()?;
+        self.count_up();
+        self.listed = true;
+        Ok(())
+    }
+
+    /// A revision, behind its id.
+    fn put_named(&mut self, rev: &[u8]) -> Result<(), AllocError>
+        ensures text { OnOk result (made_of self.new ≡ made_of self.old
+            ++ ((words_of_wording self.old).id ++ (before_rev_of (words_of_wording self.old).form ++ rev.now))) }
+        ensures words { words_of_wording self.new ≡ words_of_wording self.old }
+    {
+        self.text.extend_from_slice(self.id.as_slice())?;
+        self.text.extend_from_slice(before_rev(self.form))?;
+        self.text.extend_from_slice(rev)
+    }
+
+    /// A further revision of a document, in the list of them.
+    fn put_further(&mut self, rev: &[u8]) -> Result<(), AllocError>
+        requires { made_of self.old ≡ [] }
+        ensures text { OnOk result (made_of self.new ≡ 44 ∷ rev.now) }
+        ensures words { words_of_wording self.new ≡ words_of_wording self.old }
+    {
+        self.text.extend_from_slice(b",")?;
+        self.text.extend_from_slice(rev)
+    }
+
+    /// Closes a body of lists that is full.
+    fn put_over(&mut self) -> Result<(), AllocError>
+        requires { made_of self.old ≡ [] }
+        ensures text { OnOk result (made_of self.new ≡ over_text (words_of_wording self.old)) }
+        ensures words { OnOk result (words_of_wording self.new ≡ over (words_of_wording self.old)) }
+    {
+        if has_lists(self.form) && self.count > 0 && self.count == self.size {
+            self.text.extend_from_slice(closing(self.form))?;
+            self.count = 0;
+        }
+        Ok(())
+    }
+
+    /// What stands before a text.
+    fn put_before(&mut self) -> Result<(), AllocError>
+        ensures text { OnOk result (made_of self.new ≡ made_of self.old ++ before (words_of_wording self.old)) }
+        ensures words { words_of_wording self.new ≡ words_of_wording self.old }
+    {
+        let opens = if self.count == 0 {
+            opening(self.form)
+        } else {
+            separator(self.form)
+        };
+        self.text.extend_from_slice(opens)?;
+        self.text.extend_from_slice(self.begins.as_slice())
+    }
+
+    /// What stands behind a text.
+    fn put_behind(&mut self) -> Result<(), AllocError>
+        ensures text { OnOk result (made_of self.new ≡ made_of self.old ++ behind (words_of_wording self.old)) }
+        ensures words { words_of_wording self.new ≡ words_of_wording self.old }
+    {
+        self.text.extend_from_slice(ends(self.form))?;
+        if self.is_full() {
+            self.text.extend_from_slice(closing(self.form))?;
+        }
+        Ok(())
+    }
+
+    /// Whether a body is full with one text more, and is closed behind it.
+    fn is_full(&self) -> bool
+        ensures { result ≡ is_full (words_of_wording self.now) }
+    {
+        !has_lists(self.form) && more(self.count) == self.size
+    }
+
+    /// Counts a text.
+    fn count_up(&mut self)
+        ensures words { words_of_wording self.new ≡ counted_up (words_of_wording self.old) }
+        ensures same { made_of self.new ≡ made_of self.old }
+    {
+        self.count = if self.is_full() { 0 } else { more(self.count) };
+        self.told = true;
+    }
+}
+
+/// A wording that nothing was written by.
+fn made(alloc: Global, form: Form, begins: Vec<u8>, size: u64) -> Wording
+    ensures { words_of_wording result ≡ words_of form begins.items size }
+{
+    Wording {
+        form,
+        begins,
+        id: Vec::new(alloc),
+        listed: false,
+        count: 0,
+        size,
+        told: false,
+        text: Vec::new(alloc),
+    }
+}
+
+/// One more, up to 2^64 - 1.
+fn more(count: u64) -> u64
+    ensures { result ≡ more count }
+{
+    if count < u64::MAX { count + 1 } else { count }
+}
+
+/// Three texts behind one another.
+fn three(alloc: Global, one: &[u8], two: &[u8], last: &[u8]) -> Result<Vec<u8>, AllocError>
+    ensures { IfOk result (λ joined. joined.items ≡ one.now ++ (two.now ++ last.now)) }
+{
+    let mut joined = Vec::from_slice(alloc, one)?;
+    joined.extend_from_slice(two)?;
+    joined.extend_from_slice(last)?;
+    Ok(joined)
+}

@@ -1,0 +1,5 @@
+pub mod Json
+pub mod Splits
+pub mod Folds
+pub mod KitValues
+pub mod Round

@@ -1,0 +1,35 @@
+use Rattle.std.proofs.Common.{◌≡◌, ◌==◌, [], false, ap, sym, ◌∙◌, length, take, arith}
+use Rattle.std.proofs.lemmas.Grind.{common_steps}
+use Rattle.document_texts.specs.Members.{members_in, first_length}
+use Rattle.document_texts.specs.Steps.{texts_with, helds_by, behind_comma, text_with, held_by}
+use Rattle.document_texts.specs.Stored.{made_of, held_of}
+use Rattle.document_texts.specs.declared.members.Mode.TheVariants.{Outside}
+use Rattle.document_texts.proofs.Splits.{members_first, members_none, no_bytes}
+use Rattle.document_texts.proofs.envelope.Envelope.fold.Goals as goal
+
+pub loop-rest-preserved : goal.loop-rest-preserved
+unfolding texts_with helds_by
+loop-rest-preserved c =
+    let rest = c.loop-rest.rest.now in
+    let some : (length rest == 0) ≡ false = grind (arith, common_steps, c.is_empty.ensures, c.loop-rest-test.true) in
+    let count = c.first_length-length.ensures.value in
+    let one = members_first rest some in
+    let more = members_in Outside 0 [] (behind_comma rest (first_length rest)) in
+    let behind : members_in Outside 0 [] c.behind_comma-rest.result.now ≡ more = ap (members_in Outside 0 []) (c.behind_comma-rest.ensures.value ∙ ap (behind_comma rest) count) in
+    let member = ap (λ n. take n rest) count in
+    record {
+      made = ap (texts_with (made_of c.put_member.new.self)) behind ∙ ap (λ t. texts_with t more) (c.in_ok-put_member.ensures.made ∙ ap (text_with (made_of c.loop-rest.self)) member) ∙ ap (texts_with (made_of c.loop-rest.self)) (sym one) ∙ c.loop-rest.invariant.made;
+      held = ap (helds_by (held_of c.put_member.new.self)) behind ∙ ap (λ t. helds_by t more) (c.in_ok-put_member.ensures.held ∙ ap (held_by (held_of c.loop-rest.self)) member) ∙ ap (helds_by (held_of c.loop-rest.self)) (sym one) ∙ c.loop-rest.invariant.held;
+    }
+
+pub returns-clause-made : goal.returns-clause-made
+unfolding texts_with
+returns-clause-made c =
+    let none = no_bytes c.loop-rest.rest.now (grind (arith, common_steps, c.is_empty.ensures, c.loop-rest-test.false)) in
+    ap (texts_with (made_of c.loop-rest.self)) (sym (ap (members_in Outside 0 []) none ∙ members_none)) ∙ c.loop-rest.invariant.made
+
+pub returns-clause-held : goal.returns-clause-held
+unfolding helds_by
+returns-clause-held c =
+    let none = no_bytes c.loop-rest.rest.now (grind (arith, common_steps, c.is_empty.ensures, c.loop-rest-test.false)) in
+    ap (helds_by (held_of c.loop-rest.self)) (sym (ap (members_in Outside 0 []) none ∙ members_none)) ∙ c.loop-rest.invariant.held

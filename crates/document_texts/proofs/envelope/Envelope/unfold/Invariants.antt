@@ -1,0 +1,13 @@
+-- What is taken of the members behind the text so far is what is taken of all of them.
+use Rattle.std.proofs.Common.{◌≡◌, [], ◌∷◌, drop, length}
+use Rattle.document_texts.specs.Members.{members_in}
+use Rattle.document_texts.specs.Steps.{all_taken}
+use Rattle.document_texts.specs.Stored.{made_of}
+use Rattle.document_texts.specs.declared.members.Mode.TheVariants.{Outside}
+use Rattle.document_texts.proofs.envelope.Envelope.unfold.Given as goal
+
+abbrev pub invariant-loop-rest : goal.invariant-loop-rest
+invariant-loop-rest l = all_taken (made_of l.self) (members_in Outside 0 [] l.rest) ≡ all_taken (123 ∷ []) (members_in Outside 0 [] (drop 1 l.document))
+
+abbrev pub decreases-loop-rest : goal.decreases-loop-rest
+decreases-loop-rest l = length l.rest

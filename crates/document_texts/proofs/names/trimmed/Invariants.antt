@@ -1,0 +1,10 @@
+-- What is left has the same text behind its blanks.
+use Rattle.std.proofs.Common.{◌≡◌, length}
+use Rattle.document_texts.specs.Names.{trimmed}
+use Rattle.document_texts.proofs.names.trimmed.Given as goal
+
+abbrev pub invariant-loop-rest : goal.invariant-loop-rest
+invariant-loop-rest l = trimmed l.rest ≡ trimmed l.text
+
+abbrev pub decreases-loop-rest : goal.decreases-loop-rest
+decreases-loop-rest l = length l.rest
