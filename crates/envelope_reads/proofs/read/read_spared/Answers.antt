@@ -1,0 +1,8 @@
+use Rattle.std.proofs.Common.{Err}
+use Rattle.json_values.specs.LineView.{line_view}
+use Rattle.doc_json.specs.DocRead.{doc_read}
+use Rattle.envelope_reads.proofs.Sparing.{doc_spares, given_spares}
+use Rattle.envelope_reads.proofs.read.read_spared.Goals as goal
+
+pub returns-in-Err : goal.returns-in-Err
+returns-in-Err c = given_spares (Err c.in-Err.why) (doc_read (line_view c.args.part.now)) (doc_spares (line_view c.args.part.now) c.requires) c.in-Err.ensures
