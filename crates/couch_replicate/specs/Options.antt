@@ -3,11 +3,11 @@ use Rattle.std.specs.Prelude.{◌≡◌, ◌^◌, ◌<◌, ℕ, List, Option, So
 use Rattle.std.specs.Str.Parse.{without_leading_plus, IsNumeral, digits_value}
 use Rattle.clap.specs.Words.{App, HasKind, Rule, fault_of, first_of, one_of, matches_of, new_app, new_rule, with_rule}
 use Rattle.clap.specs.Simple.{on_top}
-use Rattle.clap.specs.declared.builder.action.ArgAction.TheVariants.{Set, Help}
+use Rattle.clap.specs.declared.builder.action.ArgAction.TheVariants.{Set}
 use Rattle.clap.specs.declared.builder.value_parser.ValueParser.TheVariants as vp
 use Rattle.script_databases.specs.declared.settings.Settings.{Settings}
 use Rattle.couch_replicate.specs.declared.options.NoSettings.{NoSettings}
-use Rattle.couch_replicate.specs.declared.options.NoSettings.TheVariants.{Words, NoNumber, Memory}
+use Rattle.couch_replicate.specs.declared.options.NoSettings.TheVariants.{Words, NoNumber, File, Memory}
 
 -- the option `--deny`
 abbrev pub deny_option : Rule
@@ -19,18 +19,19 @@ number_option name =
     record (new_rule name)
     { long = Some name; action = Some Set; value_names = 1; parser = Some (vp.Unsigned 0 18446744073709551615) }
 
-abbrev pub help_option : Rule
-help_option = record (new_rule (codes "help")) { long = Some (codes "help"); action = Some Help }
+-- a word that is no option
+abbrev pub file_word : Rule
+file_word = record (new_rule (codes "file")) { action = Some Set }
 
--- the program without options; its help is one of them
+-- the program without options; it has a version
 abbrev pub program_app : App
-program_app = on_top (λ s. record s { disable_help_flag = true }) (new_app (codes "couch_replicate"))
+program_app = on_top (λ s. record s { has_version = true }) (new_app (codes "couch_replicate"))
 
 -- the program's command line
 abbrev pub options : App
 options = with_rule (with_rule (with_rule (with_rule (with_rule (with_rule program_app
     deny_option) (number_option (codes "seed"))) (number_option (codes "at"))) (number_option (codes "workers")))
-    (number_option (codes "batch"))) help_option
+    (number_option (codes "batch"))) file_word
 
 -- the text spells the number, or the default stands in its place
 abbrev pub IsNumber : Option (List ℕ) → ℕ → ℕ → Type 0
@@ -39,10 +40,10 @@ IsNumber (Some text) default n =
     IsNumeral 10 (without_leading_plus text) × (digits_value 10 (without_leading_plus text) < 2 ^ 64)
     × (n ≡ digits_value 10 (without_leading_plus text))
 
--- the settings are what the options' texts say
+-- the settings are what the options' texts say, and there is no other word
 abbrev pub AreSettings : (List ℕ → Option (List ℕ)) → (List ℕ → Option (List ℕ)) → Settings → Type 0
 AreSettings text number s =
-    (option_map string_bytes s.deny ≡ text (codes "deny")) × IsNumber (number (codes "seed")) 0 s.seed
+    (text (codes "file") ≡ None) × (option_map string_bytes s.deny ≡ text (codes "deny")) × IsNumber (number (codes "seed")) 0 s.seed
     × IsNumber (number (codes "at")) 0 s.at
     × IsNumber (number (codes "workers")) 4 s.workers × IsNumber (number (codes "batch")) 500 s.batch
 
@@ -52,14 +53,16 @@ Says words s = AreSettings (λ id. first_of id (matches_of options words)) (λ i
 
 -- ---- words that give none
 
--- no settings are what the options' texts say, or memory was wanting
+-- no settings are what the options' texts say, as where there is another word, or memory was wanting
 abbrev pub SetNothing : (List ℕ → Option (List ℕ)) → (List ℕ → Option (List ℕ)) → NoSettings → Type 0
 SetNothing text number (Words error) = ⊥
 SetNothing text number NoNumber = (s : Settings) → AreSettings text number s → ⊥
+SetNothing text number File = text (codes "file") ≡ None → ⊥
 SetNothing text number Memory = Unit {0}
 
 -- what `clap` says of the words, or no settings are what they say, or memory was wanting
 abbrev pub Refuses : List (List ℕ) → NoSettings → Type 0
 Refuses words (Words error) = HasKind (fault_of options words) error
 Refuses words NoNumber = (s : Settings) → Says words s → ⊥
+Refuses words File = first_of (codes "file") (matches_of options words) ≡ None → ⊥
 Refuses words Memory = Unit {0}

@@ -2,7 +2,7 @@
 ghost use Rattle.std.specs.Prelude.{◌≡◌, ℕ, IfOk, IfErr, map, string_bytes, codes, true, false};
 ghost use Rattle.clap.specs.Words.{HasKind, app_of, fault_of, found_of, first_value, kind_of, one_text, rule_of};
 ghost use Rattle.couch_replicate.specs.declared.options.NoSettings.TheVariants.{NoNumber, Memory};
-ghost use Rattle.couch_replicate.specs.Options.{AreSettings, IsNumber, Refuses, Says, deny_option, help_option, number_option, options, program_app, SetNothing};
+ghost use Rattle.couch_replicate.specs.Options.{AreSettings, IsNumber, Refuses, Says, deny_option, file_word, number_option, options, program_app, SetNothing};
 
 use clap::{Arg, ArgAction, ArgMatches, Command, Error, value_parser};
 use script_databases::Settings;
@@ -65,6 +65,8 @@ pub enum NoSettings {
     Words(Error),
     /// An option's text is no number, which `clap` has seen before.
     NoNumber,
+    /// There is a word that is no option.
+    File,
     /// An allocation was refused.
     Memory,
 }
@@ -99,6 +101,9 @@ fn settings_of(alloc: Global, matches: &ArgMatches<'_>) -> Result<Settings, NoSe
         (λ s. AreSettings (first_value (found_of matches.now)) (one_text (found_of matches.now)) s) }
     ensures err { IfErr result (SetNothing (first_value (found_of matches.now)) (one_text (found_of matches.now))) }
 {
+    if matches.get_str("file").is_some() {
+        return Err(NoSettings::File);
+    }
     let deny = match matches.get_str("deny") {
         Some(prefix) => Some(String::from_str(alloc, prefix)?),
         None => None,
@@ -141,7 +146,7 @@ fn number_of(matches: &ArgMatches<'_>, name: &str, default: u64) -> Result<u64, 
     }
 }
 
-/// The command line: the five options, each at most once, and `--help`.
+/// The command line: the five options, each at most once, and a word that is none.
 fn command<'a>(alloc: Global) -> Result<Command<'a>, AllocError>
     ensures { IfOk result (λ c. app_of c ≡ options) }
 {
@@ -171,18 +176,18 @@ fn command<'a>(alloc: Global) -> Result<Command<'a>, AllocError>
             "N",
             "How many documents a window of a replication has at most, 1 to 10000 [default: 500]",
         ))?
-        .arg(help(alloc))?;
+        .arg(file(alloc))?;
     Ok(command)
 }
 
-/// The program without options; its help is one of them.
+/// The program without options; it has a version.
 fn program<'a>(alloc: Global) -> Command<'a>
     ensures { app_of result ≡ program_app }
 {
     Command::new(alloc, "couch_replicate")
+        .version("0.1.0")
         .about(ABOUT)
         .after_help(SCRIPT_HELP)
-        .disable_help_flag(true)
 }
 
 /// The option `--deny`.
@@ -210,13 +215,10 @@ fn number<'a>(alloc: Global, name: &'a str, value: &'a str, help: &'a str) -> Ar
         .help(help)
 }
 
-/// The option `--help`.
-fn help<'a>(alloc: Global) -> Arg<'a>
-    ensures rule { rule_of result ≡ help_option }
+/// A word that is no option, which may be the name of a file.
+fn file<'a>(alloc: Global) -> Arg<'a>
+    ensures rule { rule_of result ≡ file_word }
     ensures local { result.global ≡ false }
 {
-    Arg::new(alloc, "help")
-        .long("help")
-        .action(ArgAction::Help)
-        .help("Print this text")
+    Arg::new(alloc, "file").hide(true).action(ArgAction::Set)
 }

@@ -59,6 +59,10 @@ fn tell<H: Print + Eprint>(rt: &H, ended: &Ended) -> u8
     match ended {
         Ended::NotRun(NoSettings::Words(error)) => tell_words(rt, error),
         Ended::NotRun(NoSettings::NoNumber) => BAD_COMMAND_LINE,
+        Ended::NotRun(NoSettings::File) => {
+            let _ = eprintln!(rt; "error: input goes to standard input: couch_replicate < FILE");
+            BAD_COMMAND_LINE
+        }
         Ended::NotRun(NoSettings::Memory) => tell_fault(rt, &no_memory()),
         Ended::Ran(ended) => tell_fault(rt, ended),
     }

@@ -1,4 +1,4 @@
-use Rattle.std.proofs.Common.{ap, ◌≡◌, ◌∙◌, true, Bool, Option, List, ℕ}
+use Rattle.std.proofs.Common.{ap, ◌≡◌, ◌∙◌, true, Bool, Option, Some, List, ℕ}
 use Rattle.std.specs.Borrow.{Bor}
 use Rattle.clap.specs.Words.{app_of}
 use Rattle.clap.specs.Simple.{app_of_fields, on_top}
@@ -13,10 +13,10 @@ with_about x y text e = ap app_of_fields e
 with_after_help : (x y : Command) (text : Option (Bor (List ℕ))) → out-Command y ≡ record (out-Command x) { after_help = text } → app_of y ≡ app_of x
 with_after_help x y text e = ap app_of_fields e
 
-without_help : (x y : Command) (flag : Bool) → out-Command y ≡ record (out-Command x) { disable_help_flag = flag } → app_of y ≡ on_top (λ s. record s { disable_help_flag = flag }) (app_of x)
-without_help x y flag e = ap app_of_fields e
+with_version : (x y : Command) (text : Bor (List ℕ)) → out-Command y ≡ record (out-Command x) { version = Some text } → app_of y ≡ on_top (λ s. record s { has_version = true }) (app_of x)
+with_version x y text e = ap app_of_fields e
 
 pub returns : goal.returns
 returns c =
-    without_help c.after_help.result c.disable_help_flag.result _ c.disable_help_flag.ensures
-    ∙ ap (on_top (λ s. record s { disable_help_flag = true })) (with_after_help c.about.result c.after_help.result _ c.after_help.ensures ∙ with_about c.new.result c.about.result _ c.about.ensures ∙ c.new.ensures.app)
+    with_after_help c.about.result c.after_help.result _ c.after_help.ensures ∙ with_about c.version.result c.about.result _ c.about.ensures
+    ∙ with_version c.new.result c.version.result _ c.version.ensures ∙ ap (on_top (λ s. record s { has_version = true })) c.new.ensures.app

@@ -4,7 +4,7 @@ use Rattle.clap.proofs.OnLiterals.{clap_on_literals}
 use Rattle.clap.proofs.WalkLemmas.{first_value-rows, one_text-rows}
 use Rattle.couch_replicate.specs.Options.{options, AreSettings, IsNumber, Refuses, SetNothing}
 use Rattle.couch_replicate.specs.declared.options.NoSettings.{NoSettings}
-use Rattle.couch_replicate.specs.declared.options.NoSettings.TheVariants.{Words, NoNumber, Memory}
+use Rattle.couch_replicate.specs.declared.options.NoSettings.TheVariants.{Words, NoNumber, File, Memory}
 use Rattle.script_databases.specs.declared.settings.Settings.{Settings}
 use Rattle.couch_replicate.proofs.options.read_words.Goals as goal
 
@@ -13,7 +13,8 @@ unfolding clap_on_literals
 options_simple = refl
 
 by_rows : (first one first' one' : List ℕ → Option (List ℕ)) (s : Settings) → ((id : List ℕ) → first id ≡ first' id) → ((id : List ℕ) → one id ≡ one' id) → AreSettings first one s → AreSettings first' one' s
-by_rows first one first' one' s f g (d, a, b, c, e) = (
+by_rows first one first' one' s f g (word, d, a, b, c, e) = (
+  sym (f (codes "file")) ∙ word,
   d ∙ f (codes "deny"),
   subst (λ o. IsNumber o 0 s.seed) (g (codes "seed")) a,
   subst (λ o. IsNumber o 0 s.at) (g (codes "at")) b,
@@ -30,6 +31,7 @@ nothing_said : (words : List (List ℕ)) (first one : List ℕ → Option (List 
     SetNothing first one why → Refuses words why
 nothing_said words first one (Words error) f g h = absurd h
 nothing_said words first one NoNumber f g h = λ s says. h s (by_rows _ _ first one s (λ id. sym (f id)) (λ id. sym (g id)) says)
+nothing_said words first one File f g h = λ none. h (f (codes "file") ∙ none)
 nothing_said words first one Memory f g h = tt
 
 pub returns-in-Ok-settings_of-clause-ok : goal.returns-in-Ok-settings_of-clause-ok
