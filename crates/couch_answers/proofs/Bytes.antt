@@ -1,12 +1,12 @@
 -- Single bytes of answers, from a place on, where documents are wanted.
-use Rattle.std.proofs.Common.{◌≡◌, ℕ, ◌+◌, ◌-◌, ◌==◌, ◌&&◌, ◌||◌, nat_lt, length, slice_index, List, [], ◌∷◌, ◌++◌, Bool, true, false, cond, refl, sym, ap, subst, ◌∙◌, arith, Option, Some}
+use Rattle.std.proofs.Common.{◌≡◌, ℕ, ◌+◌, ◌-◌, ◌==◌, ◌&&◌, nat_lt, length, List, [], ◌∷◌, ◌++◌, Bool, true, false, cond, refl, sym, subst, arith, Some}
 use Rattle.std.proofs.lemmas.Bool.{and_right}
 use Rattle.document_texts.specs.Texts.{is_space, is_json, IsPlain}
 use Rattle.document_texts.specs.Names.{is_log}
 use Rattle.couch_answers.specs.Wanted.{wants_documents, wants_leaves, wants_changes, is_strict, covered}
 use Rattle.couch_answers.specs.State.{State, at}
 use Rattle.couch_answers.specs.Names.{name_of, is_plain}
-use Rattle.couch_answers.specs.Objects.{key_ended, plain_begun}
+use Rattle.couch_answers.specs.Objects.{key_ended}
 use Rattle.couch_answers.specs.Steps.{step}
 use Rattle.couch_answers.specs.Reading.{given, Piece}
 use Rattle.couch_answers.specs.Grammar.{Holds, document, no_object, of_passed, of_last, of_other}

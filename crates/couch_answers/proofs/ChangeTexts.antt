@@ -11,13 +11,13 @@ use Rattle.couch_answers.specs.Steps.{step}
 use Rattle.couch_answers.specs.Reading.{after, given, pieces, Piece}
 use Rattle.couch_answers.specs.LineGrammar.{InOneLine}
 use Rattle.couch_answers.specs.ChangeGrammar.{AreRevs, last_rev, rev, is_word_byte, AreChanges, none, empty, change, object, word, words}
-use Rattle.couch_answers.specs.declared.place.Place.TheVariants.{Begin, Between, Line}
+use Rattle.couch_answers.specs.declared.place.Place.TheVariants.{Between, Line}
 use Rattle.couch_answers.specs.declared.place.LinePlace.{LinePlace}
 use Rattle.couch_answers.specs.declared.place.LinePlace.TheVariants as at
 use Rattle.couch_answers.specs.declared.place.Wanted.{Wanted}
 use Rattle.couch_answers.specs.declared.place.Wanted.TheVariants.{Changes}
 use Rattle.couch_answers.specs.declared.place.Found.TheVariants.{Id, Rev}
-use Rattle.couch_answers.proofs.Bytes.{At, settled, o_begin, o_between, s_begin, s_between, spaced}
+use Rattle.couch_answers.proofs.Bytes.{At, o_begin, o_between, s_begin, s_between, spaced}
 use Rattle.couch_answers.proofs.Texts.{Leads, none_read, then, then_held, joined}
 use Rattle.couch_answers.proofs.Itself.{unwanted}
 use Rattle.couch_answers.proofs.LineTexts.{no_end, lower_bracket, Before, from_either, to_between, is_at, EndsLines, before_ends, starts_strict}

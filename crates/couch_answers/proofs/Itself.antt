@@ -1,6 +1,5 @@
 -- An object whose first member is `_id` is read as a document.
-use Rattle.std.proofs.Common.{◌≡◌, ℕ, ◌+◌, ◌==◌, ◌&&◌, nat_lt, length, List, [], ◌∷◌, ◌++◌, Bool, true, false, codes, refl, sym, ap, subst, ◌∙◌, append_assoc, append-nil, arith, inl, Some}
-use Rattle.std.specs.Str.{bytes_eq}
+use Rattle.std.proofs.Common.{◌≡◌, ℕ, ◌+◌, ◌==◌, ◌&&◌, nat_lt, List, [], ◌∷◌, ◌++◌, Bool, true, false, codes, refl, sym, ap, ◌∙◌, append_assoc, inl}
 use Rattle.std.proofs.lemmas.Bool.{and_right}
 use Rattle.std.proofs.lemmas.Str.{is_utf8-from_IsUtf8}
 use Rattle.json.proofs.Printed.Utf8.{IsUtf8-are_ascii}
@@ -13,13 +12,13 @@ use Rattle.couch_answers.specs.Names.{name_of}
 use Rattle.couch_answers.specs.Reading.{Piece}
 use Rattle.couch_answers.specs.Grammar.{IsPlainDocument, IsDocument, document, log}
 use Rattle.couch_answers.specs.declared.place.Place.{Place}
-use Rattle.couch_answers.specs.declared.place.Place.TheVariants.{AfterItem, Key, Value}
+use Rattle.couch_answers.specs.declared.place.Place.TheVariants.{AfterItem, Value}
 use Rattle.couch_answers.specs.declared.place.Wanted.{Wanted}
 use Rattle.couch_answers.specs.declared.place.Wanted.TheVariants.{Documents, Enveloped, Bodies, Unfolded, Leaves, Changes}
 use Rattle.couch_answers.specs.declared.place.Name.TheVariants as names
 use Rattle.couch_answers.specs.declared.place.Found.TheVariants as found
-use Rattle.couch_answers.proofs.Bytes.{At, InKey, Within, Leads1, BeforeObject, closed_at, opens_object, s_member, first_key, key_plain, key_itself, itself_ends, log_ends, unwanted_ends}
-use Rattle.couch_answers.proofs.Texts.{Leads, none_read, then, then_held, joined, text_to, pieces_to, spaces, value_text}
+use Rattle.couch_answers.proofs.Bytes.{At, Within, BeforeObject, closed_at, opens_object, s_member, first_key, key_plain, key_itself, itself_ends, log_ends, unwanted_ends}
+use Rattle.couch_answers.proofs.Texts.{Leads, none_read, then, then_held, joined, text_to, spaces, value_text}
 
 -- `"_id"`
 abbrev id_key : List ℕ

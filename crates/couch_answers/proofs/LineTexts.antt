@@ -1,9 +1,9 @@
 -- A script's answers are read as the documents among them.
-use Rattle.std.proofs.Common.{◌≡◌, ℕ, ◌&&◌, ◌||◌, ◌==◌, length, List, [], ◌∷◌, ◌++◌, Bool, true, false, not, cond, refl, sym, ap, subst, ◌∙◌, append_assoc, append-nil, arith, ◌⊎◌, inl, inr, Result, Ok, Err}
+use Rattle.std.proofs.Common.{◌≡◌, ℕ, ◌&&◌, ◌||◌, ◌==◌, length, List, [], ◌∷◌, ◌++◌, Bool, true, false, not, cond, refl, sym, ap, subst, ◌∙◌, arith, ◌⊎◌, inl, inr, Ok}
 use Rattle.std.specs.List.{list_all}
 use Rattle.std.proofs.lemmas.Bool.{false≢true}
 use Rattle.document_texts.specs.Texts.{is_space}
-use Rattle.couch_answers.specs.Wanted.{wants_documents, wants_leaves, wants_changes, is_strict}
+use Rattle.couch_answers.specs.Wanted.{wants_documents, is_strict}
 use Rattle.couch_answers.specs.State.{State, start}
 use Rattle.couch_answers.specs.Signs.{begins_sign}
 use Rattle.couch_answers.specs.Lines.{is_lower}
@@ -15,10 +15,9 @@ use Rattle.couch_answers.specs.declared.place.Place.TheVariants.{Start, Begin, S
 use Rattle.couch_answers.specs.declared.place.LinePlace.{LinePlace}
 use Rattle.couch_answers.specs.declared.place.LinePlace.TheVariants.{Word, Rest}
 use Rattle.couch_answers.specs.declared.place.RevPlace.TheVariants as revs
-use Rattle.couch_answers.specs.declared.place.Refusal.{Refusal}
 use Rattle.couch_answers.specs.declared.place.Wanted.{Wanted}
-use Rattle.couch_answers.proofs.Bytes.{At, settled, BeforeObject, o_begin, o_between, s_begin, s_between, spaced, closed_at, no_leaves, no_changes}
-use Rattle.couch_answers.proofs.Texts.{Leads, none_read, then, then_held, joined}
+use Rattle.couch_answers.proofs.Bytes.{At, settled, o_begin, o_between, s_begin, s_between, spaced, no_leaves, no_changes}
+use Rattle.couch_answers.proofs.Texts.{Leads, none_read, then, joined}
 use Rattle.couch_answers.proofs.Itself.{a_document}
 
 -- a reading before an answer or a line, where none need be

@@ -1,23 +1,20 @@
 -- Texts from a place on: names, values and white space.
-use Rattle.std.proofs.Common.{◌≡◌, ℕ, suc, ◌+◌, ◌<◌, ◌==◌, ◌&&◌, nat_lt, length, slice_index, List, [], ◌∷◌, ◌++◌, Bool, true, false, cond, codes, refl, sym, ap, subst, ◌∙◌, append_assoc, append-nil, arith, ◌⊎◌, inl, inr, Some}
+use Rattle.std.proofs.Common.{◌≡◌, ℕ, suc, ◌+◌, ◌<◌, ◌==◌, ◌&&◌, nat_lt, length, slice_index, List, [], ◌∷◌, ◌++◌, Bool, true, false, refl, sym, ap, subst, ◌∙◌, append_assoc, append-nil, arith, ◌⊎◌, inl, inr}
 use Rattle.std.specs.List.{list_all}
 use Rattle.std.proofs.lemmas.Bool.{and_parts}
-use Rattle.document_texts.specs.Texts.{Spaces, EndsString, ends, plain, escaped, IsPlain, Closed, nothing, space, other, string, object, list, is_space, is_json}
-use Rattle.document_texts.specs.Names.{is_log}
-use Rattle.couch_answers.specs.Wanted.{wants_documents, covered}
+use Rattle.document_texts.specs.Texts.{Spaces, EndsString, ends, plain, escaped, Closed, nothing, space, other, string, object, list, is_space, is_json}
+use Rattle.couch_answers.specs.Wanted.{wants_documents}
 use Rattle.couch_answers.specs.State.{State}
 use Rattle.couch_answers.specs.Names.{name_of, is_plain}
 use Rattle.couch_answers.specs.Steps.{step}
 use Rattle.couch_answers.specs.Reading.{after, given, pieces, Piece}
-use Rattle.couch_answers.specs.Grammar.{IsNamed, IsPlainDocument}
+use Rattle.couch_answers.specs.Grammar.{IsNamed}
 use Rattle.couch_answers.specs.declared.place.Place.{Place}
-use Rattle.couch_answers.specs.declared.place.Place.TheVariants.{AfterItem, Member, Key, Colon, Value, Quoted}
+use Rattle.couch_answers.specs.declared.place.Place.TheVariants.{Key, Colon, Value, Quoted}
 use Rattle.couch_answers.specs.declared.place.Wanted.{Wanted}
 use Rattle.couch_answers.specs.declared.place.Name.{Name}
-use Rattle.couch_answers.specs.declared.place.Name.TheVariants as names
-use Rattle.couch_answers.specs.declared.place.Found.TheVariants as found
 use Rattle.couch_answers.proofs.Readings.{after-append, pieces-append}
-use Rattle.couch_answers.proofs.Bytes.{At, InKey, Within, Leads1, BeforeObject, MaySpace, s_member, BeginsKey, closed_at, opens_object, spaced, first_key, key_plain, key_escape, key_escaped, key_end, key_itself, value_lead, value_space, value_plain, value_quote, object_opens, list_opens, object_closes, list_closes, quoted_plain, quoted_escape, quoted_escaped, quoted_end}
+use Rattle.couch_answers.proofs.Bytes.{At, InKey, Within, MaySpace, BeginsKey, spaced, key_plain, key_escape, key_escaped, key_end, value_lead, value_space, value_plain, value_quote, object_opens, list_opens, object_closes, list_closes, quoted_plain, quoted_escape, quoted_escaped, quoted_end}
 
 -- a text leads from a kind of state to another, and makes these pieces whole
 pub record Leads (P : State → Type 0) (t : List ℕ) (Q : State → Type 0) (ps : List Piece) : Type 0 where

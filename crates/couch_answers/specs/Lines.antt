@@ -1,5 +1,5 @@
 -- What one byte of a line of a script's answers does: docs/PROFILE.md, "Lines of documents".
-use Rattle.std.specs.Prelude.{ℕ, ◌&&◌, ◌||◌, ◌==◌, nat_le, List, [], ◌∷◌, ◌++◌, Bool, not, cond, codes}
+use Rattle.std.specs.Prelude.{ℕ, ◌&&◌, ◌||◌, ◌==◌, nat_le, [], ◌∷◌, Bool, cond, codes}
 use Rattle.std.specs.Str.{bytes_eq}
 use Rattle.document_texts.specs.Texts.{is_json}
 use Rattle.couch_answers.specs.Wanted.{wants_changes, is_strict}
