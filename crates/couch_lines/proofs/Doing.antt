@@ -1,5 +1,5 @@
 -- What a task does, by what its reading and its wording do.
-use Rattle.std.proofs.Common.{◌≡◌, ℕ, List, true, false, Option, Some, Result, Ok, Err, IfOk, IfErr, refl, sym, subst}
+use Rattle.std.proofs.Common.{◌≡◌, ℕ, List, true, false, Option, Some, Result, Ok, Err, IfOk, IfErr, refl, subst}
 use Rattle.couch_answers.specs.Wanted.{wants_documents, is_strict}
 use Rattle.couch_answers.specs.Reading.{Piece}
 use Rattle.couch_answers.specs.Grammar.{IsAnswered}

@@ -1,5 +1,5 @@
 -- How the words of a command line are run, over any reader and writer: docs/PROFILE.md, "CouchDB's answers".
-use Rattle.std.specs.Prelude.{◌≡◌, ℕ, List, Bool, true, false, Option, Some, Result, Ok, Err, string_bytes, ⊤}
+use Rattle.std.specs.Prelude.{◌≡◌, ℕ, List, true, false, Option, Some, Result, Ok, Err, string_bytes, ⊤}
 use Rattle.couch_answers.specs.Reading.{Piece}
 use Rattle.couch_answers.specs.Grammar.{IsAnswered}
 use Rattle.couch_answers.specs.LineGrammar.{IsScript}
@@ -13,7 +13,6 @@ use Rattle.couch_lines.specs.Tasks.{Says, Refuses}
 use Rattle.couch_lines.specs.declared.tasks.Task.{Task}
 use Rattle.couch_lines.specs.declared.tasks.Task.TheVariants.{Load, Ids, Diff, Leaves, Bulk}
 use Rattle.couch_lines.specs.declared.options.NoTask.{NoTask}
-use Rattle.couch_lines.specs.declared.options.NoTask.TheVariants.{Memory}
 use Rattle.couch_lines.specs.declared.run.Ended.{Ended}
 use Rattle.couch_lines.specs.declared.run.Ended.TheVariants.{NotRun, Ran}
 

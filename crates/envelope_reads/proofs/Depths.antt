@@ -1,7 +1,7 @@
 -- What is read within so many brackets is read within one more.
-use Rattle.std.proofs.Common.{◌≡◌, ℕ, zero, suc, List, [], ◌∷◌, length, refl, sym, ap, subst, ◌∙◌, Option, Some, None, option_map, option_and_then}
+use Rattle.std.proofs.Common.{◌≡◌, ℕ, zero, suc, List, [], ◌∷◌, length, refl, ap, ◌∙◌, Option, Some, None, option_and_then}
 use Rattle.json.specs.Token.{Token}
-use Rattle.json.specs.Json.{Json, Items, Members, Parse, parse_map, item, member, no_items, no_members, array, object, items, members, items_step, members_step, after_end_array, read_key, value, value_with, if_last}
+use Rattle.json.specs.Json.{Json, Items, Members, Parse, parse_map, item, member, array, object, items, members, items_step, members_step, after_end_array, read_key, value, value_with}
 
 -- where one reads something, so does the other
 abbrev Within : {A : Type 0} → Parse A → Parse A → Type 0

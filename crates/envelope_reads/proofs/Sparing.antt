@@ -1,5 +1,5 @@
 -- The data of an envelope, and what reading it as a document refuses.
-use Rattle.std.proofs.Common.{◌≡◌, ℕ, suc, List, [], ◌∷◌, ◌&&◌, ◌||◌, Bool, true, false, cond, codes, not, refl, sym, ap, subst, ◌∙◌, Option, Some, None, option_map, option_and_then, is_some, if◌then◌else◌, Result, Ok, Err, IfErr, inl, inr, ◌⊎◌, length, ◌==◌}
+use Rattle.std.proofs.Common.{◌≡◌, ℕ, List, [], ◌∷◌, ◌&&◌, ◌||◌, Bool, true, false, cond, codes, not, refl, sym, ap, subst, ◌∙◌, Option, Some, None, option_map, option_and_then, is_some, if◌then◌else◌, Result, Ok, Err, IfErr, inl, inr, length, ◌==◌}
 use Rattle.std.specs.Str.{bytes_eq}
 use Rattle.std.specs.Ordering.{nat_cmp, match_ordering, is_eq}
 use Rattle.std.specs.declared.cmp.Ordering.{Ordering}
@@ -28,7 +28,6 @@ use Rattle.rev_core.specs.Rev.{RevId}
 use Rattle.rev_core.specs.Text.{rev_read}
 use Rattle.rev_core.specs.Ancestry.{ancestry_read}
 use Rattle.doc_json.specs.Answers.{GivesUnlessMemory}
-use Rattle.doc_json.specs.Document.{Document}
 use Rattle.doc_json.specs.declared.fault.DocFault.{DocFault}
 use Rattle.doc_json.specs.declared.fault.DocFault.TheVariants as faults
 use Rattle.envelope_reads.specs.Spared.{looks_into, may_be, AllMayBe, IsSpared}

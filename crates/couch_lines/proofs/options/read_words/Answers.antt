@@ -1,4 +1,4 @@
-use Rattle.std.proofs.Common.{ap, refl, sym, subst, ◌≡◌, ◌∙◌, true, map, string_bytes, List, ℕ, Option, codes}
+use Rattle.std.proofs.Common.{ap, refl, subst, ◌≡◌, ◌∙◌, true, map, string_bytes, List, ℕ, Option, codes}
 use Rattle.clap.specs.Words.{HasKind, app_of, fault_of, is_simple, is_simple_and_free, matches_of, found_of, first_of, one_of, first_value, one_text, rows_of}
 use Rattle.clap.proofs.OnLiterals.{clap_on_literals}
 use Rattle.clap.proofs.WalkLemmas.{first_value-rows, one_text-rows}
