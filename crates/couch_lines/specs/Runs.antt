@@ -12,7 +12,6 @@ use Rattle.couch_wording.specs.declared.run.AnswerFault.{AnswerFault}
 use Rattle.couch_lines.specs.Tasks.{Says, Refuses}
 use Rattle.couch_lines.specs.declared.tasks.Task.{Task}
 use Rattle.couch_lines.specs.declared.tasks.Task.TheVariants.{Load, Ids, Diff, Leaves, Bulk}
-use Rattle.couch_lines.specs.declared.options.NoTask.{NoTask}
 use Rattle.couch_lines.specs.declared.run.Ended.{Ended}
 use Rattle.couch_lines.specs.declared.run.Ended.TheVariants.{NotRun, Ran}
 
