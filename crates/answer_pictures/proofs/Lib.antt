@@ -1,0 +1,5 @@
+pub mod Inks
+pub mod ShownTexts
+pub mod RowLemmas
+pub mod RunLemmas
+pub mod Wholes

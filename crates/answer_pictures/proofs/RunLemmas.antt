@@ -1,0 +1,23 @@
+-- A run of whoever draws, by the document that is open alone.
+use Rattle.std.proofs.Common.{ℕ, List, [], ◌∷◌, ap, Bool}
+use Rattle.script_engine.specs.Serving.{Answering, MayTell, Told, gave_up, in_full, served_only}
+use Rattle.script_engine.specs.Script.{IsAnswered, Run, Step, blank, served}
+
+module _ {S T : Type 0} (answers : Answering S (List ℕ)) (others : Answering T (List ℕ)) (view : S → T) (seen : (old : S) (line : List ℕ) (told : Told) (new : S) → answers old line told new → others (view old) line told (view new)) where
+  telling : (old new : S) (line : List ℕ) (told : Told) → MayTell answers old line told new → MayTell others (view old) line told (view new)
+  telling old new line told (in_full h) = in_full (seen old line told new h)
+  telling old new line told gave_up = gave_up
+  telling old new line told (served_only text h) = served_only text (seen old line _ new h)
+
+  step : (old new : S) (line : List ℕ) (told : Told) → Step answers old line told new → Step others (view old) line told (view new)
+  step old new line told (blank h) = blank h
+  step old new line told (served h k) = served h (telling old new line told k)
+
+  run : (old new : S) (lines : List (List ℕ)) (told : List Told) → Run answers old lines told new → Run others (view old) lines told (view new)
+  run old new [] [] h = ap view h
+  run old new (line ∷ lines) (text ∷ told) h = (view h.0, step old h.0 line text h.1, run h.0 new lines told h.2)
+  run old new [] (text ∷ told) h = absurd h
+  run old new (line ∷ lines) [] h = absurd h
+
+  pub seen_as : (old new : S) (input : List ℕ) (clean : Bool) (text : List ℕ) → IsAnswered answers old input clean text new → IsAnswered others (view old) input clean text (view new)
+  seen_as old new input clean text h = (h.0, run old new _ h.0 h.1, h.2, h.3)

@@ -1,0 +1,5 @@
+use Rattle.std.proofs.lemmas.List.Sorted.{IsPermutation-map}
+use Rattle.answer_pictures.proofs.document.Document.sort.Goals as goal
+
+pub returns : goal.returns
+returns c = IsPermutation-map (λ l. l.rev) _ _ c.sort.ensures.permutation

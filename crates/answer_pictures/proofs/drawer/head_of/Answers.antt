@@ -1,0 +1,8 @@
+use Rattle.std.proofs.Common.{[]}
+use Rattle.answer_pictures.specs.declared.markup.Markup.TheVariants.{Head}
+use Rattle.answer_pictures.specs.Ink.{mark}
+use Rattle.answer_pictures.proofs.Inks.{drawn}
+use Rattle.answer_pictures.proofs.drawer.head_of.Goals as goal
+
+pub returns-in-Svg : goal.returns-in-Svg
+returns-in-Svg c = drawn (mark Head) [] c.text.result.now c.text.ensures

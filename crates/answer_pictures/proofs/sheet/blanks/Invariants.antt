@@ -1,0 +1,6 @@
+use Rattle.std.proofs.Common.{[]}
+use Rattle.answer_pictures.specs.Ink.{Draws}
+use Rattle.answer_pictures.proofs.sheet.blanks.Given as goal
+
+abbrev pub invariant-loop-turn : goal.invariant-loop-turn
+invariant-loop-turn l = Draws l.initial.out.items l.out.items []

@@ -1,0 +1,5 @@
+use Rattle.std.proofs.Common.{◌+◌, ◌≤◌}
+use Rattle.answer_pictures.proofs.sheet.digits.Given as goal
+
+abbrev pub invariant-loop-step : goal.invariant-loop-step
+invariant-loop-step l = l.count ≤ l.step + 1

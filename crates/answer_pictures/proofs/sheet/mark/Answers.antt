@@ -1,0 +1,10 @@
+use Rattle.std.proofs.Common.{arith}
+use Rattle.std.proofs.lemmas.Grind.{common_steps}
+use Rattle.answer_pictures.specs.Ink.{mark}
+use Rattle.answer_pictures.proofs.Inks.{drawn_by}
+use Rattle.answer_pictures.proofs.sheet.mark.Goals as goal
+
+pub returns-clause-draws : goal.returns-clause-draws
+returns-clause-draws c =
+    drawn_by c.extend_from_slice.result (mark c.args.markup) c.args.out.now.items c.extend_from_slice.new.self.items
+    (grind (arith, common_steps))

@@ -1,0 +1,6 @@
+use Rattle.std.proofs.Common.{[]}
+use Rattle.answer_pictures.proofs.Inks.{drawn_then}
+use Rattle.answer_pictures.proofs.svg.draw_cells.Goals as goal
+
+pub loop-i-preserved : goal.loop-i-preserved
+loop-i-preserved c = drawn_then _ _ _ [] [] c.loop-i.invariant c.in_ok-draw_column.ensures

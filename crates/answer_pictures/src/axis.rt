@@ -1,0 +1,95 @@
+//! The columns of a picture: generations that matter stand alone, and those between are folded.
+
+use crate::document::Leaf;
+use crate::rows::Row;
+use crate::sheet::{digits, short_len};
+use std::alloc::{AllocError, Global};
+
+/// A column: the generations from `low` to `high`.
+#[derive(Clone, Copy, Debug)]
+pub struct Cell {
+    pub low: u32,
+    pub high: u32,
+    /// How many characters the widest text in it has.
+    pub width: usize,
+}
+
+/// The columns of leaves that stand in rows.
+pub fn axis_of(alloc: Global, leaves: &[Leaf], rows: &[Row]) -> Result<Vec<Cell>, AllocError> {
+    let kept = kept_of(alloc, leaves, rows)?;
+    let mut cells = cells_of(alloc, kept.as_slice())?;
+    for cell in cells.as_mut_slice() {
+        cell.width = width_of(leaves, cell.low, cell.high);
+    }
+    Ok(cells)
+}
+
+/// The generations that stand alone, rising: where a row begins and ends, and from where something hangs.
+fn kept_of(alloc: Global, leaves: &[Leaf], rows: &[Row]) -> Result<Vec<u32>, AllocError> {
+    let mut kept = Vec::new(alloc);
+    for (leaf, row) in leaves.iter().zip(rows) {
+        kept.push(leaf.generation())?;
+        kept.push(start_of(leaf, row))?;
+        if row.hang > 0 {
+            kept.push(row.hang)?;
+        }
+    }
+    kept.sort()?;
+    kept.dedup();
+    Ok(kept)
+}
+
+/// The generation with which a row begins.
+pub fn start_of(leaf: &Leaf, row: &Row) -> u32 {
+    if row.hang == 0 || row.hang == u32::MAX {
+        return leaf.oldest();
+    }
+    row.hang + 1
+}
+
+/// A column for each kept generation, and one for those between two.
+fn cells_of(alloc: Global, kept: &[u32]) -> Result<Vec<Cell>, AllocError> {
+    let mut cells = Vec::new(alloc);
+    let mut next = kept.first().copied().unwrap_or(0);
+    for generation in kept {
+        if *generation > next {
+            cells.push(Cell {
+                low: next,
+                high: *generation - 1,
+                width: 0,
+            })?;
+        }
+        cells.push(Cell {
+            low: *generation,
+            high: *generation,
+            width: 0,
+        })?;
+        next = generation.saturating_add(1);
+    }
+    Ok(cells)
+}
+
+/// How many characters the widest text has that stands in a column.
+fn width_of(leaves: &[Leaf], low: u32, high: u32) -> usize {
+    let mut width = 0;
+    for leaf in leaves {
+        if low == high {
+            if let Some(rev) = leaf.ancestor(low) {
+                width = width.max(short_len(rev));
+            }
+        } else if leaf.ancestor(high).is_some() {
+            width = width.max(folded_len(folded(low, high)));
+        }
+    }
+    width
+}
+
+/// How many generations stand in a column.
+pub fn folded(low: u32, high: u32) -> u64 {
+    u64::from(high).saturating_sub(u64::from(low)) + 1
+}
+
+/// How many characters the text of a folded column has.
+pub fn folded_len(count: u64) -> usize {
+    digits(count) + 5
+}

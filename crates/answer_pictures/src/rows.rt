@@ -1,0 +1,90 @@
+//! How the leaves of a document hang together: each has a row, and hangs from a row before.
+
+ghost use Rattle.std.specs.Prelude.{◌≡◌, IfOk, length, vec_len};
+
+use crate::document::{Leaf, shared};
+use std::alloc::{AllocError, Global};
+
+/// A leaf's row.
+#[derive(Drop)]
+pub struct Row {
+    /// The generation of the revision that it hangs from, or 0 where it hangs from none.
+    pub hang: u32,
+    /// The row in which that one is drawn.
+    pub parent: usize,
+    /// The generation of the leaf's oldest known ancestor.
+    pub first: u32,
+    /// The generations from which something hangs below this row, rising: of this row, or of rows before.
+    pub below: Vec<u32>,
+}
+
+impl Row {
+    /// Whether something below hangs from this generation.
+    pub fn is_open(&self, generation: u32) -> bool {
+        self.below.contains(&generation)
+    }
+}
+
+/// The rows of leaves that stand in their order.
+pub fn rows_of(alloc: Global, leaves: &[Leaf]) -> Result<Vec<Row>, AllocError>
+    ensures { IfOk result (λ rows. vec_len rows ≡ length leaves.now) }
+{
+    let mut rows = Vec::new(alloc);
+    for i in 0..leaves.len() {
+        let hang = if i == 0 {
+            0
+        } else {
+            hang_of(&leaves[i - 1], &leaves[i])
+        };
+        let parent = parent_of(rows.as_slice(), hang);
+        rows.push(Row {
+            hang,
+            parent,
+            first: leaves[i].oldest(),
+            below: Vec::new(alloc),
+        })?;
+    }
+    open_below(alloc, rows.as_mut_slice())?;
+    Ok(rows)
+}
+
+/// The generation of the last revision that a leaf shares with the one before, or 0.
+fn hang_of(before: &Leaf, leaf: &Leaf) -> u32 {
+    let count = shared(before.before.as_slice(), leaf.before.as_slice());
+    if count == 0 {
+        return 0;
+    }
+    leaf.before
+        .as_slice()
+        .get(count - 1)
+        .map_or(0, |rev| rev.generation())
+}
+
+/// The last row in which a revision of this generation is drawn: one that hangs from an older one.
+fn parent_of(rows: &[Row], hang: u32) -> usize {
+    for i in (0..rows.len()).rev() {
+        if rows[i].hang < hang {
+            return i;
+        }
+    }
+    0
+}
+
+/// Tells each row what hangs below it.
+fn open_below(alloc: Global, rows: &mut [Row]) -> Result<(), AllocError> {
+    let mut open: Vec<u32> = Vec::new(alloc);
+    for i in (0..rows.len()).rev() {
+        rows[i].below = open.clone()?;
+        close(&mut open, rows[i].hang)?;
+    }
+    Ok(())
+}
+
+/// What is open above a row that hangs from this generation.
+fn close(open: &mut Vec<u32>, hang: u32) -> Result<(), AllocError> {
+    open.retain(|generation| *generation < hang);
+    if hang > 0 {
+        open.push(hang)?;
+    }
+    Ok(())
+}
