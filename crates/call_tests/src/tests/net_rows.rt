@@ -3,7 +3,7 @@
 use crate::tests::nets::{Call, Lists, Rows, expect, of_slice};
 
 /// Four peers.
-static FOUR: Rows = &[
+const FOUR: Rows = &[
     (Call::Add(1, None), "0"),
     (Call::Add(2, None), "1"),
     (Call::Add(3, None), "2"),
