@@ -90,7 +90,8 @@ fn answer_line<H: Threads + Wait + Sync>(
 ///
 /// Where memory is wanting within a line, the line is answered as refused and the script goes on. `Read` and `Write`
 /// come only where that device failed in this call, but that `Read` also comes in the place of a further read after
-/// 4,294,967,295 reads, each of at most 65,536 bytes. `Memory` comes only while a line is read in.
+/// 4,294,967,295 reads, each of at most 65,536 bytes. `Memory` comes before anything is read, or while a line is read
+/// in.
 ///
 /// The databases of the script are left in memory, since to let go of each document takes long: a program ends behind
 /// it.
@@ -116,8 +117,8 @@ pub fn run_script<H: AllocGlobal + Threads + Wait + Sync, R: ScriptRead, W: Scri
     ensures end { OnOk result (IsAtEnd (R.left reader.new)) }
     ensures counted { OnOk result ((R.failures reader.new ≡ R.failures reader.old)
         × (W.failures writer.new ≡ W.failures writer.old)) }
-    // After a fault it is a beginning of such answers, and the device that is named has failed. `Memory` comes only
-    // while a line is read in: the lines before it are answered whole.
+    // After a fault it is a beginning of such answers, and the device that is named has failed. `Memory` comes before
+    // anything is read, or while a line is read in: the lines before it are answered whole.
     ensures fault { IfErr result (λ fault. (input : List ℕ) × (text : List ℕ) × Gives (R.left reader.old) input
         × Appends (W.held writer.old) (W.held writer.new) text
         × IsToldUntil fault LinesAnswer (no_databases (program_of settings.now)) input text
