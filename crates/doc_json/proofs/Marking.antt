@@ -5,29 +5,33 @@ use Rattle.std.proofs.lemmas.List.{get_or-set_same, get_or-set_other, length-set
 use Rattle.std.specs.List.{list_any, AllByRecursion}
 use Rattle.std.specs.Str.{bytes_eq}
 use Rattle.std.specs.Cmp.Lexicographic.{bytes_decides}
-use Rattle.doc_json.specs.Marks.{AreMarks, is_marked, place_of}
+use Rattle.doc_json.specs.Marks.{AreMarks, is_marked, is_marked_of, place_of}
 use Rattle.doc_json.proofs.ChosenBytes.{each_more}
 
 -- a mark stays where another is made
-stays : (marks : List Bool) (n : ℕ) (id : List ℕ) → n < length marks → is_marked marks id ≡ true → is_marked (set marks n true) id ≡ true
-stays marks n id within h = go (n == place_of id) refl
+stays : (places : ℕ) (marks : List Bool) (n : ℕ) (id : List ℕ) → n < length marks → is_marked_of places marks id ≡ true → is_marked_of places (set marks n true) id ≡ true
+stays places marks n id within h = go (n == place_of places id) refl
   where
-    go : (b : Bool) → (n == place_of id) ≡ b → is_marked (set marks n true) id ≡ true
+    go : (b : Bool) → (n == place_of places id) ≡ b → is_marked_of places (set marks n true) id ≡ true
     go true e = subst (λ k. get_or (set marks n true) k false ≡ true) (eqb-true _ _ e) (get_or-set_same marks n true false within)
-    go false e = get_or-set_other marks n (place_of id) true false (λ same. eqb-false _ _ e (sym same)) ∙ h
+    go false e = get_or-set_other marks n (place_of places id) true false (λ same. eqb-false _ _ e (sym same)) ∙ h
 
-all_stay : (marks : List Bool) (n : ℕ) (ids : List (List ℕ)) → n < length marks → AllByRecursion (λ id. is_marked marks id ≡ true) ids → AllByRecursion (λ id. is_marked (set marks n true) id ≡ true) ids
-all_stay marks n [] within h = tt
-all_stay marks n (id ∷ ids) within h = (stays marks n id within h.0, all_stay marks n ids within h.1)
+all_stay : (places : ℕ) (marks : List Bool) (n : ℕ) (ids : List (List ℕ)) → n < length marks → AllByRecursion (λ id. is_marked_of places marks id ≡ true) ids → AllByRecursion (λ id. is_marked_of places (set marks n true) id ≡ true) ids
+all_stay places marks n [] within h = tt
+all_stay places marks n (id ∷ ids) within h = (stays places marks n id within h.0, all_stay places marks n ids within h.1)
 
 -- one id more is marked
-pub marked_more : (marks : List Bool) (ids : List (List ℕ)) (id : List ℕ) (n : ℕ) → n ≡ place_of id → n < 8192 → AreMarks marks ids → AreMarks (set marks n true) (ids ++ id ∷ [])
-marked_more marks ids id n is small m =
-    let within : n < length marks = subst (λ k. n < k) (sym m.places) small in
-    let own : is_marked (set marks n true) id ≡ true = subst (λ k. get_or (set marks n true) k false ≡ true) is (get_or-set_same marks n true false within) in
+pub marked_more : (places : ℕ) (marks : List Bool) (ids : List (List ℕ)) (id : List ℕ) (n : ℕ) → length marks ≡ places → n ≡ place_of places id → n < places → AreMarks marks ids → AreMarks (set marks n true) (ids ++ id ∷ [])
+marked_more places marks ids id n size is small m =
+    let within : n < length marks = subst (λ k. n < k) (sym size) small in
+    let there = subst (λ p. AllByRecursion (λ x. is_marked_of p marks x ≡ true) ids) size m.each in
+    let own : is_marked_of places (set marks n true) id ≡ true = subst (λ k. get_or (set marks n true) k false ≡ true) is (get_or-set_same marks n true false within) in
+    let same : length (set marks n true) ≡ places = length-set marks n true ∙ size in
     record {
-      places = length-set marks n true ∙ m.places;
-      each = each_more (λ x. is_marked (set marks n true) x ≡ true) ids id (all_stay marks n ids within m.each) own;
+      some = subst (λ k. 0 < k) (sym (length-set marks n true)) m.some;
+      each =
+          subst (λ p. AllByRecursion (λ x. is_marked_of p (set marks n true) x ≡ true) (ids ++ id ∷ [])) (sym same)
+          (each_more (λ x. is_marked_of places (set marks n true) x ≡ true) ids id (all_stay places marks n ids within there) own);
     }
 
 -- an id whose place isn't marked is none of them

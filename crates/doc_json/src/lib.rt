@@ -28,6 +28,7 @@ pub use doc::Doc;
 pub use doc_id::DocId;
 pub use fault::DocFault;
 pub use line_body::read_line_body;
+pub use line_members::has_fraction;
 pub use line_read::read_line_doc;
 pub use read::read_doc;
 pub use text::push_text;

@@ -15,7 +15,7 @@ use json_values::{LineValue, is_same_text};
 /// Whether a value is, or holds at any depth, a number that is neither an i64 nor a u64.
 #[cycle(fraction)]
 #[inline(always)]
-fn has_fraction(value: &LineValue<'_>) -> bool
+pub fn has_fraction(value: &LineValue<'_>) -> bool
     ensures { result ≡ has_float (line_view value.now) }
 {
     match value {

@@ -7,6 +7,7 @@ ghost use Rattle.json.specs.Print.{escape_letter, escape_byte, quoted};
 ghost use Rattle.serde_json.specs.Find.{is_float};
 ghost use Rattle.serde_json.specs.View.{number_view};
 ghost use Rattle.serde_json.specs.Written.{comma_if, number_text};
+ghost use Rattle.doc_json.specs.Buffers.{Keeps};
 ghost use Rattle.doc_json.specs.Numbers.{ReadsBack};
 
 use itoa::Buffer;
@@ -42,9 +43,12 @@ pub(crate) fn push_name(
     Ok(())
 }
 
-/// A text in quotation marks. Mostly each of its bytes stands for itself.
+/// A text in quotation marks, behind what a buffer holds. Mostly each of its bytes stands for itself.
+///
+/// Where memory is refused, a part of it may stand there. What the buffer held stands before it in any case.
 pub fn push_text(out: &mut Vec<u8>, text: &str) -> Result<(), AllocError>
-    ensures { OnOk result (out.new.items ≡ out.old.items ++ quoted text.now) }
+    ensures text { OnOk result (out.new.items ≡ out.old.items ++ quoted text.now) }
+    ensures kept { Keeps out.old.items out.new.items }
 {
     if !is_plain(text.as_bytes()) {
         return push_escaped(out, text);
@@ -71,7 +75,8 @@ pub(crate) fn push_known_text(
 /// A text between quotation marks, as it stands.
 #[inline(always)]
 fn push_standing(out: &mut Vec<u8>, text: &str) -> Result<(), AllocError>
-    ensures { OnOk result (out.new.items ≡ out.old.items ++ 34 ∷ (text.now ++ 34 ∷ [])) }
+    ensures text { OnOk result (out.new.items ≡ out.old.items ++ 34 ∷ (text.now ++ 34 ∷ [])) }
+    ensures kept { Keeps out.old.items out.new.items }
 {
     out.push(b'"')?;
     out.extend_from_slice(text.as_bytes())?;
@@ -82,7 +87,8 @@ fn push_standing(out: &mut Vec<u8>, text: &str) -> Result<(), AllocError>
 /// A text in quotation marks: what stands for itself as a whole, and each other byte as its escape.
 #[inline(never)]
 fn push_escaped(out: &mut Vec<u8>, text: &str) -> Result<(), AllocError>
-    ensures { OnOk result (out.new.items ≡ out.old.items ++ quoted text.now) }
+    ensures text { OnOk result (out.new.items ≡ out.old.items ++ quoted text.now) }
+    ensures kept { Keeps out.old.items out.new.items }
 {
     let bytes = text.as_bytes();
     out.push(b'"')?;
@@ -102,7 +108,8 @@ fn push_escaped(out: &mut Vec<u8>, text: &str) -> Result<(), AllocError>
 /// The escape of a byte.
 #[inline(never)]
 fn push_escape(out: &mut Vec<u8>, byte: u8) -> Result<(), AllocError>
-    ensures { OnOk result (out.new.items ≡ out.old.items ++ escape_byte byte) }
+    ensures text { OnOk result (out.new.items ≡ out.old.items ++ escape_byte byte) }
+    ensures kept { Keeps out.old.items out.new.items }
 {
     let (escape, len) = escape_of(byte);
     out.extend_from_slice(&escape[..len])

@@ -2,6 +2,7 @@
 ghost use Rattle.std.specs.Prelude.{◌≡◌, ◌++◌, Ok, Some, OnOk, IfOk, decimal};
 ghost use Rattle.serde_json.specs.Data.{Data};
 ghost use Rattle.serde_json.specs.Read.{read};
+ghost use Rattle.doc_json.specs.Buffers.{Keeps};
 ghost use Rattle.doc_json.specs.DocRead.{doc_read};
 ghost use Rattle.doc_json.specs.DocText.{doc_text, revs_text, head_text, start_text, sig_text};
 ghost use Rattle.doc_json.specs.DocText.{sig_texts, deleted_text, rest_text};
@@ -25,9 +26,11 @@ pub fn write_doc(alloc: Global, doc: &Doc) -> Result<Vec<u8>, AllocError>
     Ok(out)
 }
 
-/// Writes the text of a document behind what a buffer holds. Where memory is refused, a part of it may stand there.
+/// Writes the text of a document behind what a buffer holds. Where memory is refused, a part of it may stand there; what
+/// the buffer held stands before it in any case.
 pub fn push_doc(out: &mut Vec<u8>, doc: &Doc) -> Result<(), AllocError>
     ensures text { OnOk result (out.new.items ≡ out.old.items ++ doc_text doc.now) }
+    ensures kept { Keeps out.old.items out.new.items }
     ensures reads_back { (d : Data) → read (doc_text doc.now) ≡ Some d → doc_read d ≡ Ok doc.now }
 {
     let _deleted = doc.deleted();
@@ -36,7 +39,8 @@ pub fn push_doc(out: &mut Vec<u8>, doc: &Doc) -> Result<(), AllocError>
 
 /// The parts of a document's text, for all of which there is mostly room from the start.
 fn push_parts(out: &mut Vec<u8>, doc: &Doc) -> Result<(), AllocError>
-    ensures { OnOk result (out.new.items ≡ out.old.items ++ doc_text doc.now) }
+    ensures text { OnOk result (out.new.items ≡ out.old.items ++ doc_text doc.now) }
+    ensures kept { Keeps out.old.items out.new.items }
 {
     let body = doc.body().text();
     // A signature mostly has 32 bytes, and stands in quotation marks behind a comma.
@@ -51,7 +55,8 @@ fn push_parts(out: &mut Vec<u8>, doc: &Doc) -> Result<(), AllocError>
 
 /// `_rev` and `_revisions`, each behind a comma.
 fn push_revs(out: &mut Vec<u8>, ancestry: &Ancestry) -> Result<(), AllocError>
-    ensures { OnOk result (out.new.items ≡ out.old.items ++ revs_text ancestry.now) }
+    ensures text { OnOk result (out.new.items ≡ out.old.items ++ revs_text ancestry.now) }
+    ensures kept { Keeps out.old.items out.new.items }
 {
     out.extend_from_slice(b",\"_rev\":\"")?;
     push_head(out, ancestry)?;
@@ -65,7 +70,8 @@ fn push_revs(out: &mut Vec<u8>, ancestry: &Ancestry) -> Result<(), AllocError>
 
 /// The newest revision.
 fn push_head(out: &mut Vec<u8>, ancestry: &Ancestry) -> Result<(), AllocError>
-    ensures { OnOk result (out.new.items ≡ out.old.items ++ head_text ancestry.now) }
+    ensures text { OnOk result (out.new.items ≡ out.old.items ++ head_text ancestry.now) }
+    ensures kept { Keeps out.old.items out.new.items }
 {
     let head = ancestry.head();
     push_number(out, head.generation())?;
@@ -76,14 +82,16 @@ fn push_head(out: &mut Vec<u8>, ancestry: &Ancestry) -> Result<(), AllocError>
 
 /// The newest revision's generation.
 fn push_start(out: &mut Vec<u8>, ancestry: &Ancestry) -> Result<(), AllocError>
-    ensures { OnOk result (out.new.items ≡ out.old.items ++ start_text ancestry.now) }
+    ensures text { OnOk result (out.new.items ≡ out.old.items ++ start_text ancestry.now) }
+    ensures kept { Keeps out.old.items out.new.items }
 {
     push_number(out, ancestry.head().generation())
 }
 
 /// A number in decimal.
 fn push_number(out: &mut Vec<u8>, number: u32) -> Result<(), AllocError>
-    ensures { OnOk result (out.new.items ≡ out.old.items ++ decimal number) }
+    ensures text { OnOk result (out.new.items ≡ out.old.items ++ decimal number) }
+    ensures kept { Keeps out.old.items out.new.items }
 {
     let mut buffer = Buffer::new();
     out.extend_from_slice(buffer.format(number).as_bytes())?;
@@ -92,7 +100,8 @@ fn push_number(out: &mut Vec<u8>, number: u32) -> Result<(), AllocError>
 
 /// The signatures, each in quotation marks.
 fn push_sigs(out: &mut Vec<u8>, revs: &[Rev]) -> Result<(), AllocError>
-    ensures { OnOk result (out.new.items ≡ out.old.items ++ sig_texts revs.now) }
+    ensures text { OnOk result (out.new.items ≡ out.old.items ++ sig_texts revs.now) }
+    ensures kept { Keeps out.old.items out.new.items }
 {
     for i in 0..revs.len() {
         if i > 0 {
@@ -105,7 +114,8 @@ fn push_sigs(out: &mut Vec<u8>, revs: &[Rev]) -> Result<(), AllocError>
 
 /// A signature in quotation marks.
 fn push_sig(out: &mut Vec<u8>, rev: &Rev) -> Result<(), AllocError>
-    ensures { OnOk result (out.new.items ≡ out.old.items ++ sig_text rev.now) }
+    ensures text { OnOk result (out.new.items ≡ out.old.items ++ sig_text rev.now) }
+    ensures kept { Keeps out.old.items out.new.items }
 {
     out.push(b'"')?;
     out.extend_from_slice(rev.sig_bytes())?;
@@ -122,7 +132,8 @@ fn deleted_text(deleted: bool) -> &'static [u8]
 
 /// The body's members, and the end of the object.
 fn push_rest(out: &mut Vec<u8>, body: &[u8]) -> Result<(), AllocError>
-    ensures { OnOk result (out.new.items ≡ out.old.items ++ rest_text body.now) }
+    ensures text { OnOk result (out.new.items ≡ out.old.items ++ rest_text body.now) }
+    ensures kept { Keeps out.old.items out.new.items }
 {
     if body == b"{}".as_slice() {
         out.push(b'}')?;

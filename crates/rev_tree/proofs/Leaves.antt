@@ -1,5 +1,5 @@
 -- The leaves among the nodes, counted, put in order and sorted.
-use Rattle.std.proofs.Common.{◌≡◌, ℕ, zero, suc, ◌+◌, ◌<◌, ◌≤◌, ◌&&◌, ◌||◌, ◌++◌, ◌∷◌, [], List, Bool, true, false, cond, not, length, take, drop, get_or, filter, sym, ap, ◌∙◌, subst, Option, Some, None, is_some, refl, arith, add-one}
+use Rattle.std.proofs.Common.{◌≡◌, ℕ, zero, suc, ◌+◌, ◌<◌, ◌≤◌, ◌&&◌, ◌++◌, ◌∷◌, [], List, Bool, true, false, cond, not, length, take, drop, get_or, filter, sym, ap, ◌∙◌, subst, Option, Some, None, is_some, refl, arith, add-one}
 use Rattle.std.proofs.lemmas.Bool.{false≢true, or_parts}
 use Rattle.std.specs.List.{list_any}
 use Rattle.std.specs.List.Sorted.{IsSortedBy, IsPermutation}

@@ -14,3 +14,4 @@ pub mod Sorting
 pub mod Starts
 pub mod Views
 pub mod Walking
+pub mod Winning

@@ -1,9 +1,9 @@
 -- One step of a walk from a node to its parent.
 use Rattle.std.proofs.Common.{◌≡◌, ℕ, zero, suc, ◌<◌, List, [], ◌∷◌, length, slice_get, Some, None, true, IfSome, sym, ap, ◌∙◌, subst, refl, arith}
 use Rattle.std.specs.Option.{option_map_or}
-use Rattle.std.specs.FinMap.{get}
-use Rattle.rev_core.specs.Rev.{RevId}
-use Rattle.rev_tree.specs.Tree.{TreeValue, IsTree, has, ancestors}
+use Rattle.std.specs.FinMap.{FinMap, get}
+use Rattle.rev_core.specs.Rev.{RevId, rev_cmp}
+use Rattle.rev_tree.specs.Tree.{TreeValue, IsTree, has, ancestors, walk}
 use Rattle.rev_tree.specs.LeafLaws.{ancestors_step, ancestors_last}
 use Rattle.rev_tree.specs.Nodes.{revs_in, rev_at, place_of, tree_of, IsLinked}
 use Rattle.rev_tree.specs.Walks.{ancestors_at}
@@ -15,6 +15,10 @@ use Rattle.rev_tree.proofs.Lookups.{has_is, parent_is}
 -- the generation at a place
 abbrev pub generation_at : List NodeValue → ℕ → ℕ
 generation_at nodes i = option_map_or (λ (r : RevId). r.generation) (slice_get (revs_in nodes) i) 0
+
+walk_first : (m : FinMap rev_cmp RevId) (n : ℕ) (r : RevId) → slice_get (walk m n r) 0 ≡ Some r
+walk_first m zero r = refl
+walk_first m (suc n) r = refl
 
 -- from a node to its parent at p
 pub record IsStep (nodes : List NodeValue) (i p : ℕ) (n : NodeValue) : Type 0 where
@@ -52,6 +56,10 @@ module _ (nodes : List NodeValue) (linked : IsLinked nodes) (i : ℕ) (n : NodeV
 
   pub last : n.parent ≡ None → ancestors_at nodes i ≡ n.rev ∷ []
   last is = ancestors_here ∙ ancestors_last (tree_of nodes) n.rev (known_parent ∙ ap (rev_at (revs_in nodes)) is)
+
+  -- the revision itself is the first
+  pub first_there : slice_get (ancestors_at nodes i) 0 ≡ Some n.rev
+  first_there = ap (λ l. slice_get l 0) ancestors_here ∙ walk_first (tree_of nodes).parents n.rev.generation n.rev
 
 -- what the place of a revision gives
 pub record IsPlaceOf (nodes : List NodeValue) (t : TreeValue) (q : RevId) (i : ℕ) : Type 0 where

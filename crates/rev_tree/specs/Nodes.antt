@@ -5,7 +5,8 @@ use Rattle.std.specs.Option.{option_map_or}
 use Rattle.std.specs.Ordering.{is_lt, bool_cmp, ordering_then}
 use Rattle.rev_core.specs.Rev.{RevId, rev_cmp}
 use Rattle.rev_core.specs.Ancestry.{is_among}
-use Rattle.rev_tree.specs.Tree.{TreeValue, is_parent}
+use Rattle.rev_tree.specs.InOrder.{first_of}
+use Rattle.rev_tree.specs.Tree.{TreeValue, IsTree, is_parent, leaves}
 use Rattle.rev_tree.specs.Content.{ContentValue}
 use Rattle.rev_tree.specs.Node.{NodeValue}
 use Rattle.rev_tree.specs.Index.{index_for}
@@ -85,6 +86,11 @@ goes_before n (Some best) = is_lt (ordering_then (bool_cmp (deletes n) (deletes 
 pub record IsIndexed (nodes : List NodeValue) (entries : List (ℕ × ℕ)) : Type 0 where
   pub index : entries ≡ index_for (revs_in nodes)
   pub linked : IsLinked nodes
+
+-- the nodes make a tree, of whose winner, where there is one, the node stands at a place
+pub record IsLed (nodes : List NodeValue) (best : ℕ) : Type 0 where
+  pub tree : IsTree (tree_of nodes)
+  pub first : slice_get (revs_in nodes) best ≡ first_of (leaves (tree_of nodes))
 
 -- nodes, and how many they and their places may become with no memory more
 pub record NodesValue : Type 0 where

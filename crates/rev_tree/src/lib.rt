@@ -14,6 +14,7 @@ mod place_index;
 mod revs;
 mod tree;
 mod walks;
+mod winner;
 mod words;
 
 pub use content::Content;

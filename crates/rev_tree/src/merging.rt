@@ -1,11 +1,12 @@
 //! An ancestry beside the nodes of a tree, and put among them.
-ghost use Rattle.std.specs.Prelude.{◌≡◌, ◌<◌, [], Some, None, IfSome, IfOk, IfErr, OnOk, length};
+ghost use Rattle.std.specs.Prelude.{◌≡◌, ℕ, ◌<◌, [], Some, None, IfSome, IfOk, IfErr, OnOk, length, slice_get};
 ghost use Rattle.std.specs.FinMap.{get};
 ghost use Rattle.std.specs.List.{list_all};
 ghost use Rattle.rev_core.specs.Rev.{RevId};
 ghost use Rattle.rev_core.specs.Ancestry.{IsAncestry, edges_of};
-ghost use Rattle.rev_tree.specs.Tree.{merged, has_edge, first_contradiction};
-ghost use Rattle.rev_tree.specs.Nodes.{HasGained, HasRoom, IsLinked, place_of, rev_at, revs_in, tree_of};
+ghost use Rattle.rev_tree.specs.Tree.{merged, has_edge, first_contradiction, leaves};
+ghost use Rattle.rev_tree.specs.InOrder.{first_of};
+ghost use Rattle.rev_tree.specs.Nodes.{HasGained, HasRoom, IsLed, IsLinked, place_of, rev_at, revs_in, tree_of};
 
 use crate::content::Content;
 use crate::fault::Contradiction;
@@ -78,25 +79,38 @@ impl Nodes {
         nodes[place].parent()
     }
 
-    /// Puts the revisions of an ancestry, its edges and the content of its head among the nodes. There is room for all.
-    pub(crate) fn put(&mut self, revs: &[Rev], content: Content, origin: Origin)
+    /// Puts the revisions of an ancestry, its edges and the content of its head among the nodes, of which the winner's
+    /// stands at a place, and gives the place of the winner's node then. There is room for all.
+    pub(crate) fn put(
+        &mut self,
+        best: usize,
+        revs: &[Rev],
+        content: Content,
+        origin: Origin,
+    ) -> usize
+        requires led { IsLed self.old.items best }
         requires ancestry { IsAncestry revs.now }
+        requires none { first_contradiction (tree_of self.old.items).parents (edges_of revs.now) ≡ None }
         requires room { HasRoom self.old (length revs.now) }
-        ensures { tree_of self.new.items ≡ merged (tree_of self.old.items) revs.now content origin }
+        ensures tree { tree_of self.new.items ≡ merged (tree_of self.old.items) revs.now content origin }
+        ensures best { slice_get (revs_in self.new.items) result ≡ first_of (leaves (tree_of self.new.items)) }
     {
         if self.all().is_empty() {
             self.put_first(revs, content, origin);
+            0
         } else {
-            self.put_among(revs, content, origin);
+            let head = self.put_among(revs, content, origin);
+            self.winner_after(best, head)
         }
     }
 
-    /// Puts an ancestry where no node is. Its revisions differ, so none is looked for.
+    /// Puts an ancestry where no node is, from the first place on. Its revisions differ, so none is looked for.
     fn put_first(&mut self, revs: &[Rev], content: Content, origin: Origin)
         requires none { self.old.items ≡ [] }
         requires ancestry { IsAncestry revs.now }
         requires room { HasRoom self.old (length revs.now) }
-        ensures { tree_of self.new.items ≡ merged (tree_of self.old.items) revs.now content origin }
+        ensures tree { tree_of self.new.items ≡ merged (tree_of self.old.items) revs.now content origin }
+        ensures revs { revs_in self.new.items ≡ revs.now }
     {
         let mut child = self.push(revs[0], origin);
         self.give(child, content);
@@ -107,13 +121,18 @@ impl Nodes {
         }
     }
 
-    /// Puts an ancestry among nodes, of which some may be its own.
-    fn put_among(&mut self, revs: &[Rev], content: Content, origin: Origin)
+    /// Puts an ancestry among nodes, of which some may be its own, and gives the place of its head.
+    fn put_among(&mut self, revs: &[Rev], content: Content, origin: Origin) -> usize
         requires some { 0 < length revs.now }
         requires room { HasRoom self.old (length revs.now) }
-        ensures { tree_of self.new.items ≡ merged (tree_of self.old.items) revs.now content origin }
+        ensures tree { tree_of self.new.items ≡ merged (tree_of self.old.items) revs.now content origin }
+        ensures head { slice_get (revs_in self.new.items) result ≡ slice_get revs.now 0 }
+        ensures kept { (i : ℕ) (r : RevId)
+            → slice_get (revs_in self.old.items) i ≡ Some r
+            → slice_get (revs_in self.new.items) i ≡ Some r }
     {
-        let mut child = self.add(None, revs[0], origin);
+        let head = self.add(None, revs[0], origin);
+        let mut child = head;
         self.give(child, content);
         for i in 1..revs.len() {
             let near = self.near(child);
@@ -121,6 +140,7 @@ impl Nodes {
             self.link(child, parent);
             child = parent;
         }
+        head
     }
 
     /// Puts a revision with its origin at the end, unless it is there, and gives its place. There is room for it.

@@ -1,18 +1,16 @@
 //! Trees.
-ghost use Rattle.std.specs.Prelude.{◌≡◌, ◌∷◌, [], Ok, OnOk, OnErr, IfOk, MatchOption, length, map, true, false};
+ghost use Rattle.std.specs.Prelude.{◌≡◌, ◌∷◌, [], Ok, OnOk, OnErr, IfOk, MatchOption, length, map, slice_get, true, false};
 ghost use Rattle.std.specs.Option.{option_copied};
-ghost use Rattle.rev_tree.specs.Nodes.{deletes, goes_before};
 
 use crate::content::Content;
 use crate::fault::{Contradiction, Merged, TreeFault};
 use crate::leaf::Leaf;
-use crate::node::Node;
 use crate::nodes::Nodes;
 use crate::origin::Origin;
 use crate::revs::Revs;
+use crate::winner::is_deleted;
 use rev_core::{Ancestry, Rev};
 use std::alloc::{AllocError, Global};
-use std::cmp::Ordering;
 use std::marker::Model;
 
 /// What a tree has of one of its revisions: its ancestors, itself first, and what stands at it where that is known.
@@ -24,30 +22,31 @@ pub struct Standing<'a> {
 
 /// A document's revisions with their parents, contents and origins.
 ///
-/// Each revision is a node, which names its parent by its place.
+/// Each revision is a node, which names its parent by its place. The place of the winner's node is kept.
 pub struct Tree {
     nodes: Nodes,
+    best: usize,
 }
 
 // By hand, so that it is proved once: docs/DECISIONS.md, "Letting values go".
 impl Drop for Tree {
     fn drop(self) {
-        let Tree { nodes: _ } = self;
+        let Tree { nodes: _, best: _ } = self;
     }
 }
 
 impl Model for Tree {
-    ghost use Rattle.rev_tree.specs.Tree.{TreeValue, IsTree, coded_tree};
+    ghost use Rattle.rev_tree.specs.Tree.{TreeValue, coded_tree};
 
     ghost Value = { TreeValue };
 
     ghost coded = { coded_tree };
 
-    ghost use Rattle.rev_tree.specs.Nodes.{tree_of};
+    ghost use Rattle.rev_tree.specs.Nodes.{IsLed, tree_of};
 
     ghost view = { λ t. tree_of t.nodes.items };
 
-    ghost invariant = { λ t. IsTree (tree_of t.nodes.items) };
+    ghost invariant = { λ t. IsLed t.nodes.items t.best };
 }
 
 impl Tree {
@@ -61,6 +60,7 @@ impl Tree {
     {
         Tree {
             nodes: Nodes::new(alloc),
+            best: 0,
         }
     }
 
@@ -139,6 +139,18 @@ impl Tree {
         Ok(Ancestry::from_revs(revs))
     }
 
+    /// One of a revision's known ancestors, by its place: the revision itself has place 0, its parent 1, and so on. `None`
+    /// where so many are not known.
+    pub fn ancestor(&self, rev: Rev, place: usize) -> Option<Rev>
+        requires { has self.now rev ≡ true }
+        ensures { result ≡ slice_get (ancestors self.now rev) place }
+    {
+        let Some(start) = self.nodes.place_in(&rev) else {
+            unreachable!()
+        };
+        self.nodes.ancestor_at(start, place)
+    }
+
     /// What the tree has of a revision, found with one look-up: its ancestors, and what stands at it where that is known.
     /// `None` where it is not in the tree.
     pub fn standing(&self, alloc: Global, rev: Rev) -> Result<Option<Standing<'_>>, AllocError>
@@ -159,18 +171,8 @@ impl Tree {
     pub fn winner(&self) -> Option<Rev>
         ensures { result ≡ first_of (leaves self.now) }
     {
-        let mut best: Option<&Node> = None;
-        for node in self.nodes.all() {
-            if !node.has_child() {
-                if goes_before(node, best) {
-                    best = Some(node);
-                }
-            }
-        }
-        match best {
-            Some(node) => Some(*node.rev()),
-            None => None,
-        }
+        let node = self.nodes.all().get(self.best)?;
+        Some(*node.rev())
     }
 
     /// The leaves, winner first. One alone takes no memory.
@@ -282,7 +284,10 @@ impl Tree {
         ensures tree { IsTree self.now }
     {
         let nodes = self.nodes.copy(alloc)?;
-        Ok(Tree { nodes })
+        Ok(Tree {
+            nodes,
+            best: self.best,
+        })
     }
 
     /// What a merge of the ancestry would do. It takes no memory.
@@ -357,34 +362,9 @@ impl Tree {
     {
         let revs = ancestry.revs();
         self.nodes.make_room(revs)?;
-        self.nodes.put(revs, content, origin);
+        let best = self.nodes.put(self.best, revs, content, origin);
+        self.best = best;
         Ok(())
-    }
-}
-
-/// Whether a leaf goes before the best one so far, where there is one: one that is not deleted first, then the greater
-/// generation, then the greater signature.
-fn goes_before(leaf: &Node, best: Option<&Node>) -> bool
-    ensures { result ≡ goes_before leaf.now (option_copied best.entry) }
-{
-    match best {
-        Some(best) => {
-            let order = is_deleted(leaf)
-                .cmp(&is_deleted(best))
-                .then(best.rev().cmp(leaf.rev()));
-            order == Ordering::Less
-        }
-        None => true,
-    }
-}
-
-/// Whether a node has a content that deletes.
-fn is_deleted(node: &Node) -> bool
-    ensures { result ≡ deletes node.now }
-{
-    match node.content() {
-        Some(content) => content.deleted(),
-        None => false,
     }
 }
 

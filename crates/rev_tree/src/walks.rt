@@ -1,5 +1,5 @@
 //! Walks from a node to its ancestors, by their places.
-ghost use Rattle.std.specs.Prelude.{◌≡◌, ◌<◌, List, IfOk, true, filter, length};
+ghost use Rattle.std.specs.Prelude.{◌≡◌, ◌<◌, List, IfOk, true, filter, length, slice_get};
 ghost use Rattle.rev_core.specs.Rev.{RevId};
 ghost use Rattle.rev_core.specs.Ancestry.{is_among};
 ghost use Rattle.rev_tree.specs.Tree.{IsTree, has};
@@ -34,6 +34,19 @@ impl Nodes {
         }
         revs.shrink_to_fit();
         Ok(revs)
+    }
+
+    /// The ancestor of the revision at a place that is so many steps from it, where so many are known.
+    pub(crate) fn ancestor_at(&self, start: usize, steps: usize) -> Option<Rev>
+        requires within { start < length self.now.items }
+        requires tree { IsTree (tree_of self.now.items) }
+        ensures { result ≡ slice_get (ancestors_at self.now.items start) steps }
+    {
+        let mut at = start;
+        for i in 0..steps {
+            at = self.node_at(at).parent()?;
+        }
+        Some(*self.node_at(at).rev())
     }
 
     /// Those of the leaves that are one of the revisions asked or have one among their ancestors, in their order.

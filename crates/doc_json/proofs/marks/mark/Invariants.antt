@@ -1,7 +1,10 @@
-use Rattle.std.proofs.Common.{take}
+use Rattle.std.proofs.Common.{◌≡◌, length, take}
 use Rattle.doc_json.specs.Marks.{AreMarks}
 use Rattle.doc_json.proofs.marks.mark.Given as goal
 
 -- the places of the ids so far are marked
 abbrev pub invariant-loop-id : goal.invariant-loop-id
-invariant-loop-id l = AreMarks l.marks.items (take l.id-index l.ids)
+invariant-loop-id l = record {
+  size : length l.marks.items ≡ l.places;
+  marks : AreMarks l.marks.items (take l.id-index l.ids);
+}

@@ -1,10 +1,10 @@
-use Rattle.std.proofs.Common.{◌≡◌, ◌<◌, drop}
-use Rattle.doc_json.specs.Marks.{place_of, place_from}
+use Rattle.std.proofs.Common.{◌≡◌, ◌-◌, ◌<◌, drop, length}
+use Rattle.doc_json.specs.Marks.{place_from}
 use Rattle.doc_json.proofs.marks.place_of.Given as goal
 
 -- the rest of the bytes leads to the place of all
 abbrev pub invariant-loop-byte : goal.invariant-loop-byte
 invariant-loop-byte l = record {
   within : l.place < 8192;
-  rest : place_from l.place (drop l.byte-index l.byte-items) ≡ place_of l.id;
+  rest : place_from l.place (drop l.byte-index l.byte-items) ≡ place_from 0 (drop (length l.id - 8) l.id);
 }

@@ -1,11 +1,13 @@
 use Rattle.std.proofs.Common.{◌≡◌, ◌-◌, ◌≤◌, [], ◌∷◌, ◌++◌, length, drop}
 use Rattle.json.specs.Print.{escape, quoted}
+use Rattle.doc_json.specs.Buffers.{Keeps}
 use Rattle.doc_json.proofs.text.push_escaped.Given as goal
 
 -- what stands there and what is left of the text, with its end, are the whole in quotation marks
 abbrev pub invariant-loop-out : goal.invariant-loop-out
 invariant-loop-out l =
     (l.at ≤ length l.text) × (l.out.items ++ (escape (drop l.at l.text) ++ 34 ∷ []) ≡ l.fn.out.items ++ quoted l.text)
+    × Keeps l.fn.out.items l.out.items
 
 abbrev pub decreases-loop-out : goal.decreases-loop-out
 decreases-loop-out l = length l.text - l.at

@@ -1,8 +1,8 @@
 use Rattle.std.proofs.Common.{◌≡◌, ◌++◌, ◌∷◌, [], ap, ◌∙◌, append_assoc}
 use Rattle.doc_json.proofs.text.push_standing.Goals as goal
 
-pub returns : goal.returns
-returns c =
+pub returns-clause-text : goal.returns-clause-text
+returns-clause-text c =
     let d = c.args.text.now in
     let out = c.args.out.now.items in
     let close = 34 ∷ [] in

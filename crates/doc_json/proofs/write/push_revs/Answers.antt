@@ -11,10 +11,10 @@ joined o a b c d e f g t u v w x y z =
     z ∙ ap (λ s. s ++ g) (y ∙ ap (λ s. s ++ f) (x ∙ ap (λ s. s ++ e) (w ∙ ap (λ s. s ++ d) (v ∙ ap (λ s. s ++ c) (u ∙ ap (λ s. s ++ b) t))))) ∙ regroup o a b c d e f g
 
 -- the pieces, one after another
-pub returns : goal.returns
+pub returns-clause-text : goal.returns-clause-text
 unfolding revs_text
-returns c =
+returns-clause-text c =
     let revs = c.args.ancestry.now in
     joined c.args.out.now.items (codes ",\"_rev\":\"") (head_text revs) (codes "\",\"_revisions\":{\"start\":") (start_text revs) (codes ",\"ids\":[") (sig_texts revs) (codes "]}")
-    c.in_ok-extend_from_slice.ensures.items c.in_ok-push_head.ensures c.in_ok-extend_from_slice-2.ensures.items c.in_ok-push_start.ensures c.in_ok-extend_from_slice-3.ensures.items
-    (c.in_ok-push_sigs.ensures ∙ ap (λ r. c.extend_from_slice-3.new.self.items ++ sig_texts r) c.revs.ensures.all) c.in_ok-extend_from_slice-4.ensures.items
+    c.in_ok-extend_from_slice.ensures.items c.in_ok-push_head.ensures.text c.in_ok-extend_from_slice-2.ensures.items c.in_ok-push_start.ensures.text c.in_ok-extend_from_slice-3.ensures.items
+    (c.in_ok-push_sigs.ensures.text ∙ ap (λ r. c.extend_from_slice-3.new.self.items ++ sig_texts r) c.revs.ensures.all) c.in_ok-extend_from_slice-4.ensures.items

@@ -14,7 +14,7 @@ loop-i-preserved c =
     let i = c.loop-i.i in
     let r = c.index-revs-i.result in
     let at : sig_text (get_or revs i r) ≡ sig_text r = ap sig_text (sym c.index-revs-i.is) in
-    c.in_ok-push_sig.ensures
+    c.in_ok-push_sig.ensures.text
     ∙ elim c.if-i-gt0.branch [
       | then-i-gt0+in_ok-push w ↦
           ap (λ (v : Vec ℕ Global). v.items ++ sig_text r) w.out-is

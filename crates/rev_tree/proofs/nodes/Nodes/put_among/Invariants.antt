@@ -1,6 +1,15 @@
-use Rattle.rev_tree.specs.Nodes.{tree_of}
+use Rattle.std.proofs.Common.{◌≡◌, ℕ, Some, slice_get}
+use Rattle.rev_core.specs.Rev.{RevId}
+use Rattle.rev_tree.specs.Nodes.{revs_in, tree_of}
 use Rattle.rev_tree.proofs.Putting.{IsPut}
 use Rattle.rev_tree.proofs.nodes.Nodes.put_among.Given as goal
 
+-- the head stands at its place, and each revision that was there at its own
 abbrev pub invariant-loop-i : goal.invariant-loop-i
-invariant-loop-i l = IsPut (tree_of l.fn.self.items) l.self l.origin l.revs l.fn.content l.i l.child
+invariant-loop-i l = record {
+  put : IsPut (tree_of l.fn.self.items) l.self l.origin l.revs l.fn.content l.i l.child;
+  head : slice_get (revs_in l.self.items) l.head ≡ slice_get l.revs 0;
+  kept : (i : ℕ) (r : RevId)
+      → slice_get (revs_in l.fn.self.items) i ≡ Some r
+      → slice_get (revs_in l.self.items) i ≡ Some r;
+}

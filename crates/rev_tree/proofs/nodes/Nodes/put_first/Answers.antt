@@ -1,5 +1,5 @@
 use Rattle.std.proofs.Common.{◌≡◌, ◌-◌, ◌<◌, ◌++◌, ◌∷◌, [], List, length, take, sym, ap, ◌∙◌, refl, arith}
-use Rattle.std.proofs.lemmas.List.{take_more}
+use Rattle.std.proofs.lemmas.List.{take_all, take_more}
 use Rattle.rev_core.specs.Rev.{RevId}
 use Rattle.rev_tree.specs.Nodes.{revs_in, tree_of}
 use Rattle.rev_tree.proofs.Putting.{child_at, next_unplaced, put_start, put_next, put_end, room_for, standing}
@@ -61,5 +61,8 @@ loop-i-preserved c =
           ∙ sym (take_more revs i r c.loop-i-test.true ∙ ap (λ x. take i revs ++ x ∷ []) (sym c.index-revs-i.is));
     }
 
-pub returns : goal.returns
-returns c = put_end (tree_of c.args.self.now.items) c.loop-i.self c.args.origin c.args.revs.now c.args.content c.loop-i.i c.loop-i.child c.loop-i.invariant.put c.loop-i-test.false
+pub returns-clause-tree : goal.returns-clause-tree
+returns-clause-tree c = put_end (tree_of c.args.self.now.items) c.loop-i.self c.args.origin c.args.revs.now c.args.content c.loop-i.i c.loop-i.child c.loop-i.invariant.put c.loop-i-test.false
+
+pub returns-clause-revs : goal.returns-clause-revs
+returns-clause-revs c = c.loop-i.invariant.revs ∙ take_all _ _ c.loop-i-test.false

@@ -22,7 +22,7 @@ pub from_revs-requires : goal.from_revs-requires
 from_revs-requires c =
     let at = place_is c.self.inside.nodes.items c.args.self.now c.args.rev c.in-Some.place c.place_in.ensures.linked c.self.view_is (sym c.place_in.ensures.place ∙ c.in-Some.is) in
     subst IsAncestry (sym (c.in_ok-revs.ensures ∙ at.walk))
-    (IsAncestry-ancestors c.args.self.now (subst IsTree c.self.view_is c.self.invariant) c.args.rev at.known)
+    (IsAncestry-ancestors c.args.self.now (subst IsTree c.self.view_is c.self.invariant.tree) c.args.rev at.known)
 
 pub returns : goal.returns
 returns c =

@@ -1,0 +1,17 @@
+-- What a buffer held is kept, step by step.
+use Rattle.std.proofs.Common.{◌≡◌, ℕ, List, [], ◌++◌, Bool, true, false, cond, sym, ap, ◌∙◌, append_assoc}
+use Rattle.std.proofs.lemmas.List.{append-nil}
+use Rattle.doc_json.specs.Buffers.{Keeps}
+
+-- with more behind it
+pub kept_more : (old new more : List ℕ) → new ≡ old ++ more → Keeps old new
+kept_more old new more h = record { more = more; is = h }
+
+-- with more behind it, or not
+pub kept_if : (old new more : List ℕ) (b : Bool) → new ≡ cond b (old ++ more) old → Keeps old new
+kept_if old new more true h = record { more = more; is = h }
+kept_if old new more false h = record { more = []; is = h ∙ sym (append-nil old) }
+
+-- one step after another
+pub kept_then : (a b c : List ℕ) → Keeps a b → Keeps b c → Keeps a c
+kept_then a b c h k = record { more = h.more ++ k.more; is = k.is ∙ ap (λ l. l ++ k.more) h.is ∙ append_assoc a h.more k.more }

@@ -1,0 +1,10 @@
+use Rattle.std.proofs.Common.{◌≡◌, ℕ, ◌+◌, ◌<◌, length, slice_get}
+use Rattle.rev_tree.specs.Walks.{ancestors_at}
+use Rattle.rev_tree.proofs.nodes.Nodes.ancestor_at.Given as goal
+
+-- from the place that is reached on, the ancestors are those that are left
+abbrev pub invariant-loop-i : goal.invariant-loop-i
+invariant-loop-i l = record {
+  within : l.at < length l.self.items;
+  left : (k : ℕ) → slice_get (ancestors_at l.self.items l.at) k ≡ slice_get (ancestors_at l.self.items l.start) (l.i + k);
+}

@@ -1,0 +1,89 @@
+//! The winner's node among the nodes of a tree.
+ghost use Rattle.std.specs.Prelude.{◌≡◌, ◌<◌, Some, slice_get, length};
+ghost use Rattle.std.specs.Option.{option_copied};
+ghost use Rattle.rev_core.specs.Rev.{RevId};
+ghost use Rattle.rev_tree.specs.InOrder.{first_of};
+ghost use Rattle.rev_tree.specs.Tree.{TreeValue, leaves};
+ghost use Rattle.rev_tree.specs.Nodes.{deletes, goes_before, revs_in, tree_of};
+ghost use Rattle.rev_tree.specs.Steps.{AddsHead};
+
+use crate::node::Node;
+use crate::nodes::Nodes;
+use std::cmp::Ordering;
+
+impl Nodes {
+    /// The place of the winner's node, after an ancestry was put among nodes that had theirs at a place before.
+    ///
+    /// It is the head's, where the head goes before the old winner, or the old one's, where that is a leaf still. Else
+    /// all nodes are walked.
+    pub(crate) fn winner_after(&self, before: usize, head: usize) -> usize
+        requires before { before < length self.now.items }
+        requires head { head < length self.now.items }
+        ensures { (t : TreeValue) (w h : RevId)
+            → first_of (leaves t) ≡ Some w
+            → slice_get (revs_in self.now.items) before ≡ Some w
+            → slice_get (revs_in self.now.items) head ≡ Some h
+            → AddsHead t (tree_of self.now.items) h
+            → slice_get (revs_in self.now.items) result ≡ first_of (leaves (tree_of self.now.items)) }
+    {
+        let old = self.node_at(before);
+        let new = self.node_at(head);
+        if !new.has_child() {
+            if goes_before(new, Some(old)) {
+                return head;
+            }
+        }
+        if !old.has_child() {
+            return before;
+        }
+        self.first_leaf()
+    }
+
+    /// The place of the first leaf in the winner's order, for which all nodes are walked.
+    #[inline(never)]
+    fn first_leaf(&self) -> usize
+        ensures { (r : RevId)
+            → first_of (leaves (tree_of self.now.items)) ≡ Some r
+            → slice_get (revs_in self.now.items) result ≡ Some r }
+    {
+        let nodes = self.all();
+        let mut best: Option<&Node> = None;
+        let mut place = 0;
+        for i in 0..nodes.len() {
+            let node = &nodes[i];
+            if !node.has_child() {
+                if goes_before(node, best) {
+                    best = Some(node);
+                    place = i;
+                }
+            }
+        }
+        place
+    }
+}
+
+/// Whether a leaf goes before the best one so far, where there is one: one that is not deleted first, then the greater
+/// generation, then the greater signature.
+pub(crate) fn goes_before(leaf: &Node, best: Option<&Node>) -> bool
+    ensures { result ≡ goes_before leaf.now (option_copied best.entry) }
+{
+    match best {
+        Some(best) => {
+            let order = is_deleted(leaf)
+                .cmp(&is_deleted(best))
+                .then(best.rev().cmp(leaf.rev()));
+            order == Ordering::Less
+        }
+        None => true,
+    }
+}
+
+/// Whether a node has a content that deletes.
+pub(crate) fn is_deleted(node: &Node) -> bool
+    ensures { result ≡ deletes node.now }
+{
+    match node.content() {
+        Some(content) => content.deleted(),
+        None => false,
+    }
+}
