@@ -2,6 +2,8 @@
 pub mod Peer
 pub mod Covered
 pub mod Writing
+pub mod Stands
+pub mod Came
 pub mod Law
 pub mod Rules
 pub mod Later

@@ -6,6 +6,7 @@ ghost use Rattle.couch_base.specs.Database.{tree_of};
 
 pub(crate) mod backup;
 pub(crate) mod filter;
+mod ghost_revs;
 mod local;
 mod readers;
 pub(crate) mod written;

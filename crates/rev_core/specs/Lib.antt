@@ -12,4 +12,3 @@ pub mod NewRev
 pub mod ShortSig
 pub mod KeptRev
 pub mod KeptForm
-pub mod LineageForm

@@ -66,14 +66,6 @@ impl KeptRev {
     pub fn short(rev: &Rev) -> Option<KeptRev>
         ensures { result ≡ short_of rev.now }
     {
-        KeptRev::near(rev)
-    }
-
-    /// The same as `short`.
-    #[inline(always)]
-    pub(crate) fn near(rev: &Rev) -> Option<KeptRev>
-        ensures { result ≡ short_of rev.now }
-    {
         let generation = rev.generation();
         let ShortSig { len, front, back } = ShortSig::of(rev.signature())?;
         Some(KeptRev {

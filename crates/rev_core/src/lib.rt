@@ -6,7 +6,6 @@
 mod ancestry;
 mod fault;
 mod kept_rev;
-mod lineage;
 mod local_edit;
 mod rev;
 mod short_sig;
@@ -15,7 +14,6 @@ mod sig;
 pub use ancestry::Ancestry;
 pub use fault::RevFault;
 pub use kept_rev::KeptRev;
-pub use lineage::Lineage;
 pub use local_edit::new_rev;
 pub use rev::Rev;
 pub use sig::Sig;

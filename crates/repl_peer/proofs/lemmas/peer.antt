@@ -1,5 +1,6 @@
 -- Lemmas of peers and their law.
 pub mod RulesTested
+pub mod WritesStand
 pub mod LaterPeers
 pub mod CallsKeepLaw
 pub mod HonestSessions

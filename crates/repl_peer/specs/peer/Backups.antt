@@ -1,9 +1,11 @@
 -- Earlier copies of peers, and putting them back: docs/PROFILE.md, "Backup and restore".
 use Rattle.std.specs.Prelude.{ℕ, ◌+◌, ◌==◌, max, Bool, true, false, nat_lt, List, [], ◌∷◌, Result, Ok, Err, if◌then◌else◌}
+use Rattle.couch_base.specs.Lists.{Among}
 use Rattle.couch_base.specs.Database.{DatabaseValue, in_life, most}
 use Rattle.repl_log.specs.declared.replication.RepId.{RepId}
 use Rattle.repl_log.specs.Entry.{EntryValue}
 use Rattle.repl_peer.specs.peer.Peer.{PeerValue, SessionValue, WrittenValue}
+use Rattle.repl_peer.specs.peer.Stands.{StandsIn}
 use Rattle.repl_peer.specs.peer.Origins.{HasOrigins}
 use Rattle.repl_peer.specs.declared.fault.TargetFault.{TargetFault}
 use Rattle.repl_peer.specs.declared.fault.TargetFault.TheVariants as faults
@@ -18,9 +20,10 @@ pub record BackupValue : Type 0 where
 abbrev pub peer_of : BackupValue → PeerValue
 peer_of b = record { db = b.db; locals = b.locals; sessions = []; outgoing = b.outgoing }
 
--- what holds of every copy: each revision comes from a local write
-abbrev pub IsBackup : BackupValue → Type 0
-IsBackup b = HasOrigins (peer_of b)
+-- what holds of every copy: each revision comes from a local write, and these stand in the trees of their documents
+pub record IsBackup (b : BackupValue) : Type 0 where
+  pub origins : HasOrigins (peer_of b)
+  pub locals : (a : WrittenValue) → Among a b.locals → StandsIn b.db a
 
 -- whether something was replicated into a peer
 abbrev pub is_target : List SessionValue → Bool

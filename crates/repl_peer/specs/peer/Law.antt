@@ -11,6 +11,7 @@ use Rattle.couch_base.specs.Feed.{WindowValue, IsWindow}
 use Rattle.range_front.specs.Front.{IsFront, bounds, end_of, is_done, low_water}
 use Rattle.repl_log.specs.Counts.{AddUp}
 use Rattle.repl_peer.specs.peer.Peer.{PeerValue, SessionValue, WrittenValue, RefusedValue}
+use Rattle.repl_peer.specs.peer.Stands.{StandsIn}
 use Rattle.repl_peer.specs.peer.Covered.{rightly_refused, CoversWindow}
 use Rattle.repl_peer.specs.peer.Origins.{HasOrigins}
 
@@ -40,6 +41,7 @@ pub record LawfulSession (refuses : Document → Bool) (p : PeerValue) (s : Sess
   -- each arrival stands in its document's tree
   pub arrivals : (a : WrittenValue) → Among a s.arrivals → (r : RevId) → is_among r a.ancestry ≡ true
       → has (tree_of p.db.docs a.id) r ≡ true
+  pub stands : (a : WrittenValue) → Among a s.arrivals → StandsIn p.db a
   -- the counts add up
   pub written : s.counts.written ≡ length s.arrivals
   pub failures : s.counts.failures ≡ length s.ledger
@@ -64,7 +66,9 @@ pub record LawfulSessions (refuses : Document → Bool) (p : PeerValue) : Type 0
   pub based : AllBased p.sessions
   pub distinct : IsDistinct nat_eq (session_numbers p.sessions)
 
--- what holds of every peer: the laws of its sessions, and that each of its revisions has an origin
+-- what holds of every peer: the laws of its sessions, that each of its revisions has an origin, and that its local writes
+-- stand in the trees of their documents
 pub record Lawful (refuses : Document → Bool) (p : PeerValue) : Type 0 where
   pub sessions : LawfulSessions refuses p
   pub origins : HasOrigins p
+  pub locals : (a : WrittenValue) → Among a p.locals → StandsIn p.db a

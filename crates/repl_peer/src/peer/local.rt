@@ -56,7 +56,9 @@ fn prepare(locals: &mut Vec<Written>, doc: &Doc) -> Result<Written, AllocError>
     ensures locals { locals.new.items ≡ locals.old.items }
 {
     let id = prepare_id(locals, doc.id())?;
-    Written::copied(*locals.allocator(), id, doc.ancestry())
+    let ancestry = doc.ancestry();
+    let head = KeptRev::keep(*locals.allocator(), &ancestry.head())?;
+    Ok(Written::whole(id, head, ancestry))
 }
 
 /// The id of a document that a local write names, and a place for it.
@@ -67,28 +69,6 @@ fn prepare_id(locals: &mut Vec<Written>, id: &DocId) -> Result<DocId, AllocError
 {
     locals.reserve(1)?;
     id.copy(*locals.allocator())
-}
-
-/// The id of a document that an edit names, and the revision that it stands on, both to be kept, and a place for the
-/// local write.
-fn prepare_edit(
-    locals: &mut Vec<Written>,
-    id: &DocId,
-    before: Option<Rev>,
-) -> Result<(DocId, Option<KeptRev>), AllocError>
-    ensures id { IfOk result (λ made. made.0 ≡ id.now) }
-    ensures before { IfOk result (λ made. made.1 ≡ before) }
-    ensures place { OnOk result (vec_len locals.new < vec_capacity locals.new) }
-    ensures locals { locals.new.items ≡ locals.old.items }
-{
-    let again = prepare_id(locals, id)?;
-    match before {
-        Some(rev) => {
-            let kept = KeptRev::keep(*locals.allocator(), &rev)?;
-            Ok((again, Some(kept)))
-        }
-        None => Ok((again, None)),
-    }
 }
 
 /// Edits a document.
@@ -116,8 +96,8 @@ pub(crate) fn edit(
         Some(parent) => Some(parent),
         None => winner(db, id),
     };
-    let (again, below) = match prepare_edit(locals, id, before) {
-        Ok(prepared) => prepared,
+    let again = match prepare_id(locals, id) {
+        Ok(again) => again,
         Err(refused) => {
             db.check_edit(id, parent)?;
             return Err(BaseFault::from(refused));
@@ -126,7 +106,7 @@ pub(crate) fn edit(
     let origin = Origin::Local(locals.len() as u64);
     match db.edit(id, parent, deleted, body, origin) {
         Ok(rev) => {
-            locals.push(Written::edit(again, rev, below)).unwrap();
+            locals.push(Written::edit(again, rev, before)).unwrap();
             Ok(rev)
         }
         Err(fault) => Err(fault),

@@ -1,64 +1,75 @@
 //! Revisions that were written.
-ghost use Rattle.std.specs.Prelude.{◌≡◌, ◌∷◌, true, slice_get, IfOk};
+ghost use Rattle.std.specs.Prelude.{◌≡◌, ◌∷◌, Some, true, length, slice_get, IfOk};
+ghost use Rattle.std.specs.FinMap.{get};
 ghost use Rattle.std.specs.Option.{option_to_list};
+ghost use Rattle.couch_base.specs.Database.{tree_of};
 ghost use Rattle.rev_core.specs.ShortSig.{is_short};
+ghost use Rattle.rev_core.specs.Ancestry.{FallsByOne, head_of};
 
+use crate::peer::ghost_revs::{Came, GhostRevs};
+use couch_base::Database;
 use doc_json::DocId;
-use rev_core::{Ancestry, KeptRev, Lineage, Rev};
+use rev_core::{Ancestry, KeptRev, Rev};
 use std::alloc::{AllocError, Global};
 use std::marker::Model;
 
 /// A local write or an arrival: a document's id and the revisions that were written, newest first.
+///
+/// There may be very many, and their ancestries may be long, so the newest revision and their number alone are kept:
+/// the others stand in the document's tree, where no edge is ever changed.
 #[derive(Drop)]
 pub struct Written {
     id: DocId,
-    lineage: Lineage,
+    head: KeptRev,
+    count: usize,
+    was: GhostRevs,
 }
 
 impl Model for Written {
     ghost use Rattle.repl_peer.specs.peer.Peer.{WrittenValue};
+    ghost use Rattle.repl_peer.specs.peer.Came.{IsBegun};
 
     ghost Value = { WrittenValue };
 
-    ghost view = { λ w. record { id = w.id; ancestry = w.lineage } };
+    ghost view = { λ w. record { id = w.id; ancestry = w.was.revs } };
+
+    ghost invariant = { λ w. IsBegun w.head w.count w.was.revs };
 }
 
 impl Written {
     ghost use Rattle.repl_peer.specs.peer.Peer.{WrittenValue};
+    ghost use Rattle.repl_peer.specs.peer.Stands.{StandsIn};
 
-    /// A document with its whole ancestry.
-    pub(crate) fn whole(id: DocId, ancestry: Ancestry) -> Written
-        ensures { result ≡ record { id = id; ancestry = ancestry } }
+    /// A document with its whole ancestry, whose head is kept already.
+    pub(crate) fn whole(id: DocId, head: KeptRev, ancestry: &Ancestry) -> Written
+        requires { head_of ancestry.now ≡ Some head }
+        ensures { result ≡ record { id = id; ancestry = ancestry.now } }
     {
         Written {
             id,
-            lineage: Lineage::of(ancestry),
+            head,
+            count: ancestry.revs().len(),
+            was: GhostRevs::of(&Came::Whole(ancestry.revs())),
         }
     }
 
-    /// A document with its whole ancestry, which is copied.
-    pub(crate) fn copied(
-        alloc: Global,
-        id: DocId,
-        ancestry: &Ancestry,
-    ) -> Result<Written, AllocError>
-        ensures { IfOk result (λ w. w ≡ record { id = id; ancestry = ancestry.now }) }
-    {
-        let lineage = Lineage::copied(alloc, ancestry)?;
-        Ok(Written { id, lineage })
-    }
-
     /// What an edit brought: the new revision, which has a short signature, and the one that it stands on.
-    pub(crate) fn edit(id: DocId, rev: Rev, parent: Option<KeptRev>) -> Written
-        requires { is_short rev.sig ≡ true }
+    pub(crate) fn edit(id: DocId, rev: Rev, parent: Option<Rev>) -> Written
+        requires { (is_short rev.sig ≡ true) × FallsByOne (rev ∷ option_to_list parent) }
         ensures { result ≡ record { id = id; ancestry = rev ∷ option_to_list parent } }
     {
-        let Some(rev) = KeptRev::short(&rev) else {
+        let Some(head) = KeptRev::short(&rev) else {
             unreachable!()
+        };
+        let count = match parent {
+            Some(_) => 2,
+            None => 1,
         };
         Written {
             id,
-            lineage: Lineage::of_kept(rev, parent),
+            head,
+            count,
+            was: GhostRevs::of(&Came::Edit(rev, parent)),
         }
     }
 
@@ -67,8 +78,13 @@ impl Written {
         ensures copied { IfOk result (λ w. w ≡ self.now) }
     {
         let id = self.id.copy(alloc)?;
-        let lineage = self.lineage.copy(alloc)?;
-        Ok(Written { id, lineage })
+        let head = self.head.copy(alloc)?;
+        Ok(Written {
+            id,
+            head,
+            count: self.count,
+            was: GhostRevs::of(&Came::Again(&self.was)),
+        })
     }
 
     /// The document's id.
@@ -78,11 +94,41 @@ impl Written {
         &self.id
     }
 
-    /// The revision at a place, where there are so many; the newest is at 0.
-    pub fn rev(&self, place: usize) -> Option<Rev>
+    /// The revision at a place, where there are so many; the newest is at 0. The others are read in the database, in
+    /// which the write stands.
+    pub fn rev(&self, db: &Database, place: usize) -> Option<Rev>
+        requires { StandsIn db.now self.now }
         ensures { result ≡ slice_get self.now.ancestry place }
     {
-        self.lineage.rev(place)
+        if place >= self.count {
+            return None;
+        }
+        let mut at = self.head.rev();
+        for step in 0..place {
+            // The write stands in the database, so the parent is there.
+            let Some(parent) = parent_in(db, &self.id, at) else {
+                unreachable!()
+            };
+            at = parent;
+        }
+        Some(at)
+    }
+
+    /// How many revisions were written.
+    pub fn len(&self) -> usize
+        ensures { result ≡ length self.now.ancestry }
+    {
+        self.count
+    }
+}
+
+/// The parent of a document's revision, where one is known.
+fn parent_in(db: &Database, id: &DocId, rev: Rev) -> Option<Rev>
+    ensures { result ≡ get (tree_of db.now.docs id.now).parents rev }
+{
+    match db.tree(id) {
+        Some(tree) => tree.parent_of(rev),
+        None => None,
     }
 }
 

@@ -4,7 +4,7 @@ ghost use Rattle.std.specs.List.{list_all};
 ghost use Rattle.std.specs.Vec.{vec_len, vec_capacity};
 ghost use Rattle.std.specs.Str.{bytes_eq};
 ghost use Rattle.rev_core.specs.Rev.{RevId};
-ghost use Rattle.rev_core.specs.Ancestry.{is_among};
+ghost use Rattle.rev_core.specs.Ancestry.{head_of, is_among};
 ghost use Rattle.doc_json.specs.Document.{Document};
 ghost use Rattle.couch_base.specs.Database.{Id, most};
 ghost use Rattle.couch_base.specs.Feed.{WindowValue};
@@ -26,8 +26,9 @@ use crate::session::rows::{first_unknown, seq_from};
 use crate::session::stored::{Checked, check};
 use couch_base::{BaseFault, Database, Parcel};
 use doc_json::Doc;
+use rev_core::KeptRev;
 use rev_tree::Origin;
-use std::alloc::AllocError;
+use std::alloc::{AllocError, Global};
 
 /// Settles a parcel: its documents in order, then the mark of its window.
 ///
@@ -187,6 +188,7 @@ fn settle_last<F: WriteFilter>(
         → IndexesMore base session.new.ledger ledgered.new }
 {
     let doc = docs.last().unwrap();
+    let head = keep_head(filter, db, *session.arrivals.allocator(), doc)?;
     let reason = decide(
         filter,
         db,
@@ -206,10 +208,27 @@ fn settle_last<F: WriteFilter>(
         }
         None => {
             let (id, ancestry, _, _) = doc.into_parts();
-            session.arrivals.push(Written::whole(id, ancestry)).unwrap();
+            let written = Written::whole(id, head, &ancestry);
+            session.arrivals.push(written).unwrap();
             session.counts.written += 1;
             Ok(())
         }
+    }
+}
+
+/// The head of a document, kept.
+fn keep_head<F: WriteFilter>(
+    filter: &F,
+    db: &Database,
+    alloc: Global,
+    doc: &Doc,
+) -> Result<KeptRev, Cause>
+    ensures head { IfOk result (λ head. head_of doc.now.ancestry ≡ Some head) }
+    ensures why { IfErr result (λ cause. cause ≡ cause_at (stops_in (F.refuses filter.now) db.now doc.now)) }
+{
+    match KeptRev::keep(alloc, &doc.ancestry().head()) {
+        Ok(head) => Ok(head),
+        Err(refused) => Err(cause_of(filter, db, doc, refused)),
     }
 }
 

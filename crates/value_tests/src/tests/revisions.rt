@@ -1,7 +1,7 @@
 //! The worked rows of revisions as calls with the texts of their answers, and each call once with ample memory.
 use crate::tests::texts::{ancestry, expect_answer, sigs};
 use md5::{Digest, Md5};
-use rev_core::{Ancestry, KeptRev, Lineage, Rev, new_rev};
+use rev_core::{Ancestry, KeptRev, Rev, new_rev};
 use std::alloc::Global;
 use std::process::Abort;
 use test_texts::{rev, rev_text, revs_text, shown};
@@ -25,10 +25,6 @@ enum Call<'a> {
     Parent(Parts<'a>, &'a str),
     /// Keeps a revision, and reads a copy: whether its signature is short, and its text.
     Keep(&'a str),
-    /// Reads the revision at a place of the lineage of an ancestry: of a copied one, of its copy, and of a taken one.
-    Lineage(Parts<'a>, usize),
-    /// Reads the revision at a place of the lineage of a revision and its parent (an empty text for none).
-    Stood(&'a str, &'a str, usize),
     /// The hexadecimal digits of the digest of a text.
     Digest(&'a str),
     /// The text of hexadecimal digits.
@@ -71,8 +67,6 @@ fn answer(alloc: Global, call: &Call) -> Option<String> {
         Call::Contains(parts, text) => contains_text(alloc, parts, rev(text)?),
         Call::Parent(parts, text) => parent_text(alloc, parts, rev(text)?),
         Call::Keep(text) => kept_text(alloc, rev(text)?),
-        Call::Lineage(parts, place) => lineage_text(alloc, parts, place),
-        Call::Stood(text, parent, place) => stood_text(alloc, rev(text)?, parent, place),
         Call::Digest(text) => digest_text(alloc, text),
         Call::Decode(text) => decoded(alloc, text),
         Call::Edit(parent, deleted, body) => edited(alloc, parent, deleted, body),
@@ -160,36 +154,6 @@ fn kept_text(alloc: Global, rev: Rev) -> Option<String> {
     let kept = KeptRev::keep(alloc, &rev).ok()?.copy(alloc).ok()?;
     let text = rev_text(alloc, kept.rev())?;
     format!(in alloc; "{form} {text}").ok()
-}
-
-/// The revision at a place of a lineage, or that there is none.
-fn place_text(alloc: Global, lineage: &Lineage, place: usize) -> Option<String> {
-    match lineage.rev(place) {
-        Some(rev) => rev_text(alloc, rev),
-        None => "none".to_string(alloc).ok(),
-    }
-}
-
-/// The revision at a place of an ancestry's lineage: of a copied one, of its copy, and of a taken one.
-fn lineage_text(alloc: Global, parts: Parts, place: usize) -> Option<String> {
-    let ancestry = ancestry(alloc, parts.start, parts.sigs)?;
-    let copied = Lineage::copied(alloc, &ancestry).ok()?;
-    let again = copied.copy(alloc).ok()?;
-    let copied = place_text(alloc, &copied, place)?;
-    let again = place_text(alloc, &again, place)?;
-    let taken = place_text(alloc, &Lineage::of(ancestry), place)?;
-    format!(in alloc; "{copied} {again} {taken}").ok()
-}
-
-/// The revision at a place of the lineage of a revision and its parent.
-fn stood_text(alloc: Global, new: Rev, parent: &str, place: usize) -> Option<String> {
-    let kept = KeptRev::keep(alloc, &new).ok()?;
-    let below = if parent.is_empty() {
-        None
-    } else {
-        Some(KeptRev::keep(alloc, &rev(parent)?).ok()?)
-    };
-    place_text(alloc, &Lineage::of_kept(kept, below), place)
 }
 
 /// What making the id of an edit answers.
@@ -324,75 +288,6 @@ static KEPT_ROWS: Rows = &[
 fn keeps_a_revision(rt: HostRuntime) {
     assert_eq!(rt; DIGITS.len(), 2 + 32);
     run(&rt, rt.alloc(), KEPT_ROWS);
-}
-
-/// 1-a.
-const ONE: Parts<'static> = Parts {
-    start: 1,
-    sigs: &["a"],
-};
-
-/// 5-e, 4-d.
-const TWO: Parts<'static> = Parts {
-    start: 5,
-    sigs: &["e", "d"],
-};
-
-/// The signatures of 33 bytes and of one.
-const LONG: Parts<'static> = Parts {
-    start: 2,
-    sigs: &["0123456789abcdef0123456789abcdef0", "a"],
-};
-
-/// The digits of two digests and a signature of two bytes.
-const DIGESTS: Parts<'static> = Parts {
-    start: 7,
-    sigs: &[
-        "f0e1d2c3b4a5968778695a4b3c2d1e0f",
-        "00112233445566778899aabbccddeeff",
-        "r1",
-    ],
-};
-
-/// 4-d, 3-c, 2-b, 1-a.
-const FOUR: Parts<'static> = Parts {
-    start: 4,
-    sigs: &["d", "c", "b", "a"],
-};
-
-static LINEAGE_ROWS: Rows = &[
-    (Call::Lineage(ONE, 0), "1-a 1-a 1-a"),
-    (Call::Lineage(ONE, 1), "none none none"),
-    (Call::Lineage(TWO, 0), "5-e 5-e 5-e"),
-    (Call::Lineage(TWO, 1), "4-d 4-d 4-d"),
-    (Call::Lineage(TWO, 2), "none none none"),
-    (Call::Lineage(LONG, 1), "1-a 1-a 1-a"),
-    (Call::Lineage(THREE, 0), "3-c 3-c 3-c"),
-    (Call::Lineage(THREE, 1), "2-b 2-b 2-b"),
-    (Call::Lineage(THREE, 2), "1-a 1-a 1-a"),
-    (Call::Lineage(THREE, 3), "none none none"),
-    (
-        Call::Lineage(DIGESTS, 0),
-        "7-f0e1d2c3b4a5968778695a4b3c2d1e0f 7-f0e1d2c3b4a5968778695a4b3c2d1e0f 7-f0e1d2c3b4a5968778695a4b3c2d1e0f",
-    ),
-    (
-        Call::Lineage(DIGESTS, 1),
-        "6-00112233445566778899aabbccddeeff 6-00112233445566778899aabbccddeeff 6-00112233445566778899aabbccddeeff",
-    ),
-    (Call::Lineage(DIGESTS, 2), "5-r1 5-r1 5-r1"),
-    (Call::Lineage(FOUR, 0), "4-d 4-d 4-d"),
-    (Call::Lineage(FOUR, 3), "1-a 1-a 1-a"),
-    (Call::Lineage(FOUR, 4), "none none none"),
-    (Call::Stood("2-b", "1-a", 0), "2-b"),
-    (Call::Stood("2-b", "1-a", 1), "1-a"),
-    (Call::Stood("2-b", "1-a", 2), "none"),
-    (Call::Stood("1-a", "", 0), "1-a"),
-    (Call::Stood("1-a", "", 1), "none"),
-];
-
-#[test]
-fn keeps_the_revisions_of_a_write(rt: HostRuntime) {
-    run(&rt, rt.alloc(), LINEAGE_ROWS);
 }
 
 static REFUSED_ROWS: Rows = &[

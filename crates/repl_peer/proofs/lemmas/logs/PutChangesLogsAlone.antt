@@ -29,7 +29,7 @@ pub logs_origins : (p : PeerValue) (logs : List (RepId × List EntryValue)) → 
 logs_origins p logs h = has_from (record p { outgoing = logs }) (stands_same p (record p { outgoing = logs }) (logs_later p logs) refl (stands_from p h))
 
 pub Lawful-logs : (refuses : Document → Bool) (p : PeerValue) (logs : List (RepId × List EntryValue)) → Lawful refuses p → Lawful refuses (record p { outgoing = logs })
-Lawful-logs refuses p logs h = record { sessions = logs_law refuses p logs h.sessions; origins = logs_origins p logs h.origins }
+Lawful-logs refuses p logs h = record { sessions = logs_law refuses p logs h.sessions; origins = logs_origins p logs h.origins; locals = h.locals }
 
 -- ---- putting an entry
 

@@ -1,10 +1,12 @@
 -- What a local edit answers and notes: its signature is short, and it is the next local write.
-use Rattle.std.specs.Prelude.{◌≡◌, ◌+◌, ◌∷◌, ◌++◌, [], ℕ, Bool, true, false, List, Option, Some, None, Result, Ok, Err, is_ok, nat_le, refl}
+use Rattle.std.specs.Prelude.{◌≡◌, ◌+◌, ◌∷◌, ◌++◌, [], ℕ, Bool, true, false, List, Option, Some, None, Result, Ok, Err, is_ok, nat_le, nat_lt, ◌^◌, refl}
 use Rattle.std.proofs.Common.{ap, sym, ◌∙◌, cond, subst, arith}
 use Rattle.std.proofs.lemmas.Bool.{false≢true}
 use Rattle.std.specs.Result.{result_unwrap_or}
 use Rattle.rev_core.specs.Rev.{RevId}
-use Rattle.rev_core.specs.NewRev.{edit_rev}
+use Rattle.rev_core.specs.Ancestry.{FallsByOne}
+use Rattle.rev_core.specs.NewRev.{next_generation, edit_rev, edit_sig}
+use Rattle.rev_core.specs.declared.fault.RevFault.TheVariants as rev_faults
 use Rattle.rev_core.specs.ShortSig.{is_short}
 use Rattle.rev_core.proofs.ShortEdits.{is_short-edit_rev}
 use Rattle.rev_core.specs.Checks.{◌>>=◌, refused_if, named}
@@ -30,14 +32,31 @@ edit_id-short : (before : Option RevId) (deleted : Bool) (body : List ℕ) (r : 
 edit_id-short before deleted body r e =
     is_short-edit_rev before deleted body r (named_ok base_faults.GenerationFull (edit_rev before deleted body) r e)
 
+-- it is one generation above the one that it stands on
+above : (before : Option RevId) (r : RevId) → r.generation ≡ next_generation before → FallsByOne (r ∷ option_to_list before)
+above None r e = tt
+above (Some p) r e = (e, tt)
+
+chosen : {A E : Type 0} (b : Bool) (x y : A) (why : E) → cond b (Ok x) (Err why) ≡ Ok y → x ≡ y
+chosen true x y why e = ap (λ r. result_unwrap_or r x) e
+chosen false x y why e = absurd (false≢true (ap is_ok e))
+
+edit_id-falls : (before : Option RevId) (deleted : Bool) (body : List ℕ) (r : RevId) → edit_id before deleted body ≡ Ok r → FallsByOne (r ∷ option_to_list before)
+edit_id-falls before deleted body r e =
+    let new : RevId = record { generation = next_generation before; sig = edit_sig before deleted body } in
+    let same = chosen (nat_lt (next_generation before) (2 ^ 32)) new r rev_faults.GenerationFull (named_ok base_faults.GenerationFull (edit_rev before deleted body) r e) in
+    above before r (sym (ap (λ (x : RevId). x.generation) same))
+
 -- what is passed on behind a check
 checked : {A E : Type 0} (b : Bool) (why : E) (x y : A) → (refused_if b why >>= λ _. Ok x) ≡ Ok y → x ≡ y
 checked true why x y e = absurd (false≢true (ap is_ok e))
 checked false why x y e = ap (λ r. result_unwrap_or r x) e
 
 -- the new revision is short, and the other is the one that it stands on
-abbrev IsEdit : Option RevId → (RevId × Option RevId) → Type 0
-IsEdit before e = (is_short e.0.sig ≡ true) × (before ≡ e.1)
+record IsEdit (before : Option RevId) (e : RevId × Option RevId) : Type 0 where
+  pub short : is_short e.0.sig ≡ true
+  pub falls : FallsByOne (e.0 ∷ option_to_list before)
+  pub stood : before ≡ e.1
 
 made : (db : DatabaseValue) (id : Id) (before : Option RevId) (deleted : Bool) (body : List ℕ) (e : RevId × Option RevId)
     → (edit_id before deleted body >>= λ rev. refused_if (has (tree_of db.docs id) rev) (base_faults.RevExists rev) >>= λ _. Ok (rev, before)) ≡ Ok e
@@ -49,12 +68,12 @@ made db id before deleted body e h = go (edit_id before deleted body) refl h
         → IsEdit before e
     go (Ok rev) is k =
         let same = checked (has (tree_of db.docs id) rev) (base_faults.RevExists rev) (rev, before) e k in
-        (subst (λ (x : RevId × Option RevId). is_short x.0.sig ≡ true) same (edit_id-short before deleted body rev is), ap (λ (x : RevId × Option RevId). x.1) same)
+        record {
+          short = subst (λ (x : RevId × Option RevId). is_short x.0.sig ≡ true) same (edit_id-short before deleted body rev is);
+          falls = subst (λ (x : RevId × Option RevId). FallsByOne (x.0 ∷ option_to_list before)) same (edit_id-falls before deleted body rev is);
+          stood = ap (λ (x : RevId × Option RevId). x.1) same;
+        }
     go (Err why) is k = absurd (false≢true (ap is_ok k))
-
-chosen : {A E : Type 0} (b : Bool) (x y : A) (why : E) → cond b (Ok x) (Err why) ≡ Ok y → x ≡ y
-chosen true x y why e = ap (λ r. result_unwrap_or r x) e
-chosen false x y why e = absurd (false≢true (ap is_ok e))
 
 stands : (t : Option TreeValue) (parent before : Option RevId) → parent_answer t parent ≡ Ok before → stood_on t parent ≡ before
 stands None None before e = ap (λ r. result_unwrap_or r None) e
@@ -70,21 +89,23 @@ edited_parts db id parent deleted body e h = go (parent_answer (tree_in db.docs 
         → (r >>= λ before. edit_id before deleted body >>= λ rev. refused_if (has (tree_of db.docs id) rev) (base_faults.RevExists rev) >>= λ _. Ok (rev, before)) ≡ Ok e
         → IsEdit (stood_on (tree_in db.docs id) parent) e
     go (Ok before) is k =
-        let parts = made db id before deleted body e k in
-        (parts.0, stands (tree_in db.docs id) parent before is ∙ parts.1)
+        subst (λ b. IsEdit b e) (sym (stands (tree_in db.docs id) parent before is)) (made db id before deleted body e k)
     go (Err why) is k = absurd (false≢true (ap is_ok k))
 
 -- what an edit answers
-pub edit_answer-short : (db : DatabaseValue) (id : Id) (parent : Option RevId) (deleted : Bool) (body : List ℕ) (rev : RevId)
-    → edit_answer db id parent deleted body ≡ Ok rev → is_short rev.sig ≡ true
-edit_answer-short db id parent deleted body rev h = go (edited db id parent deleted body) refl h
+pub edit_answer-made : (db : DatabaseValue) (id : Id) (parent : Option RevId) (deleted : Bool) (body : List ℕ) (rev : RevId)
+    → edit_answer db id parent deleted body ≡ Ok rev → (is_short rev.sig ≡ true) × FallsByOne (rev ∷ option_to_list (stood_on (tree_in db.docs id) parent))
+edit_answer-made db id parent deleted body rev h = go (edited db id parent deleted body) refl h
   where
     go : (r : Result (RevId × Option RevId) BaseFault) → edited db id parent deleted body ≡ r
         → (r >>= λ e. refused_if (nat_le most db.update_seq) base_faults.SeqFull >>= λ _. Ok e.0) ≡ Ok rev
-        → is_short rev.sig ≡ true
+        → (is_short rev.sig ≡ true) × FallsByOne (rev ∷ option_to_list (stood_on (tree_in db.docs id) parent))
     go (Ok e) is k =
         let same = checked (nat_le most db.update_seq) base_faults.SeqFull e.0 rev k in
-        subst (λ (r : RevId). is_short r.sig ≡ true) same (edited_parts db id parent deleted body e is).0
+        let parts = edited_parts db id parent deleted body e is in (
+          subst (λ (r : RevId). is_short r.sig ≡ true) same parts.short,
+          subst (λ (r : RevId). FallsByOne (r ∷ option_to_list (stood_on (tree_in db.docs id) parent))) same parts.falls,
+        )
     go (Err why) is k = absurd (false≢true (ap is_ok k))
 
 changed : (b : Bool) (db written after : DatabaseValue) → after ≡ cond b written db → after.update_seq ≡ db.update_seq + 1 → b ≡ true
@@ -105,7 +126,7 @@ edit_noted db after locals id parent deleted body o rev answer is next = go (edi
     go (Ok e) given k wrote =
         let d = edit_document id e deleted body in
         let same = sym (checked (nat_le most db.update_seq) base_faults.SeqFull e.0 rev k) in
-        let below = (edited_parts db id parent deleted body e given).1 in
+        let below = (edited_parts db id parent deleted body e given).stood in
         let yes : is_changed (put_answer db d) ≡ true = changed (is_changed (put_answer db d)) db _ after wrote next in
         (λ i. locals ++ record { id = id; ancestry = same i ∷ option_to_list (below i) } ∷ [])
         ∙ sym (cond-true _ (locals ++ written_of d ∷ []) locals yes)

@@ -15,6 +15,7 @@ use Rattle.repl_peer.specs.peer.Peer.{PeerValue, SessionValue, WrittenValue, Ref
 use Rattle.repl_peer.specs.peer.Covered.{in_ledger, covers, rightly_refused}
 use Rattle.repl_peer.specs.peer.Law.{LawfulSession, AllBased, LawfulSessions, session_numbers}
 use Rattle.repl_peer.specs.peer.Later.{Keeps, IsLaterPeer}
+use Rattle.repl_peer.proofs.lemmas.peer.WritesStand.{stands_later}
 use Rattle.couch_base.specs.MemberLaws.{Among-map, Among-mapped, any_member, any_from, each_member, found_member}
 
 -- ---- later sessions and later peers
@@ -75,6 +76,7 @@ lawful-later refuses p q s h l = record {
   recorded = l.recorded;
   ledger = λ x m. refused-later refuses p.db q.db h.db x.doc (l.ledger x m);
   arrivals = λ a m r e. h.db.has a.id r (l.arrivals a m r e);
+  stands = λ a m. stands_later p.db q.db h.db a (l.stands a m);
   written = l.written;
   failures = l.failures;
   read = l.read;

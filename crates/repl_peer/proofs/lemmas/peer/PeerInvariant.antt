@@ -20,6 +20,7 @@ use Rattle.repl_peer.specs.session.SessionCalls.{with_changed, changed}
 use Rattle.repl_peer.specs.declared.fault.TargetFault.{TargetFault}
 use Rattle.repl_peer.specs.declared.session.beginning.Beginning.{Beginning}
 use Rattle.repl_peer.proofs.lemmas.peer.CallsKeepLaw.{new_law, load_law, edit_law, begin_law, append_law, record_law, conclude_law}
+use Rattle.repl_peer.proofs.lemmas.peer.WritesStand.{load_stands, edit_stands, begin_stands, append_stands, record_stands, conclude_stands}
 use Rattle.repl_peer.proofs.lemmas.peer.CallsKeepOrigins.{new_origins, load_origins, edit_origins, begin_origins, append_origins, record_origins, conclude_origins}
 
 -- a change of one session changes the list of them
@@ -32,7 +33,7 @@ on_session-changed p id change = found-changed p change (session_in p.sessions i
 
 -- a peer as it begins
 pub Lawful-new : (refuses : Document → Bool) (uuid seq : ℕ) (p : PeerValue) → p ≡ new_peer_at uuid seq → Lawful refuses p
-Lawful-new refuses uuid seq p new = subst (Lawful refuses) (sym new) (record { sessions = new_law refuses uuid seq; origins = new_origins uuid seq })
+Lawful-new refuses uuid seq p new = subst (Lawful refuses) (sym new) (record { sessions = new_law refuses uuid seq; origins = new_origins uuid seq; locals = λ a m. absurd m })
 
 module _ (refuses : Document → Bool) (p : PeerValue) (lawful : Lawful refuses p) where
   -- ---- what a call leaves, by its result
@@ -60,7 +61,7 @@ module _ (refuses : Document → Bool) (p : PeerValue) (lawful : Lawful refuses 
       either_way r (after_load p d) (record p { db = db; locals = locals })
       (both_ok r (λ x y i. record p { db = x i; locals = y i }) a b)
       (both_err r (λ x y i. record p { db = x i; locals = y i }) c e)
-      (record { sessions = load_law refuses p d lawful.sessions; origins = load_origins p d lawful.origins })
+      (record { sessions = load_law refuses p d lawful.sessions; origins = load_origins p d lawful.origins; locals = load_stands p d lawful.locals })
 
   pub Lawful-edited : (id : Id) (parent : Option RevId) (deleted : Bool) (body : List ℕ) (r : Result RevId BaseFault) (db : DatabaseValue) (locals : List WrittenValue)
       → OnOk r (db ≡ database_after_edit p.db id parent deleted body (next_local p)) → OnOk r (locals ≡ with_edit p.db p.locals id parent deleted body) → OnErr r (db ≡ p.db) → OnErr r (locals ≡ p.locals)
@@ -70,7 +71,7 @@ module _ (refuses : Document → Bool) (p : PeerValue) (lawful : Lawful refuses 
       either_way r (after_edit p id parent deleted body) (record p { db = db; locals = locals })
       (both_ok r (λ x y. (λ i. record p { db = x i; locals = y i }) ∙ sym parts) a b)
       (both_err r (λ x y i. record p { db = x i; locals = y i }) c e)
-      (record { sessions = edit_law refuses p id parent deleted body lawful.sessions; origins = edit_origins p id parent deleted body lawful.origins })
+      (record { sessions = edit_law refuses p id parent deleted body lawful.sessions; origins = edit_origins p id parent deleted body lawful.origins; locals = edit_stands p id parent deleted body lawful.locals })
 
   begun_peer : (id : SessionId) (b : Beginning) (at : ℕ) (r : Result (Unit {0}) TargetFault) (sessions : List SessionValue)
       → GivesUnlessMemory r (begin_answer p id b) → OnOk r (sessions ≡ new_session id b at ∷ p.sessions) → OnOk r (record p { sessions = sessions } ≡ after_begin p id b at)
@@ -84,7 +85,7 @@ module _ (refuses : Document → Bool) (p : PeerValue) (lawful : Lawful refuses 
       either_way r (after_begin p id b at) (record p { sessions = sessions })
       (begun_peer id b at r sessions told made)
       (on_err_weaker r (λ x. ap (λ s. record p { sessions = s }) x) kept)
-      (record { sessions = begin_law refuses p id b at fits lawful.sessions; origins = begin_origins p id b at lawful.origins })
+      (record { sessions = begin_law refuses p id b at fits lawful.sessions; origins = begin_origins p id b at lawful.origins; locals = begin_stands p id b at lawful.locals })
 
   pub Lawful-appended : (id : SessionId) (w : WindowValue) → IsWindow w → w.hi < 2 ^ 64 → (r : Result (Unit {0}) TargetFault) (sessions : List SessionValue)
       → OnOk r (sessions ≡ with_changed p.sessions id (λ s. with_window w s (append_in w s))) → OnErr r (sessions ≡ p.sessions) → Lawful refuses (record p { sessions = sessions })
@@ -93,12 +94,12 @@ module _ (refuses : Document → Bool) (p : PeerValue) (lawful : Lawful refuses 
       either_way r (after_append p id w) (record p { sessions = sessions })
       (on_ok_weaker r (λ x. ap (λ s. record p { sessions = s }) x ∙ sym whole) made)
       (on_err_weaker r (λ x. ap (λ s. record p { sessions = s }) x) kept)
-      (record { sessions = append_law refuses p id w window fits lawful.sessions; origins = append_origins refuses p id w window fits lawful.sessions lawful.origins })
+      (record { sessions = append_law refuses p id w window fits lawful.sessions; origins = append_origins refuses p id w window fits lawful.sessions lawful.origins; locals = append_stands p id w lawful.locals })
 
   pub Lawful-recorded : (id : SessionId) (at : ℕ) (sessions : List SessionValue) → sessions ≡ with_changed p.sessions id (recorded_at at) → Lawful refuses (record p { sessions = sessions })
   Lawful-recorded id at sessions made =
-      subst (Lawful refuses) (on_session-changed p id (recorded_at at) ∙ ap (λ s. record p { sessions = s }) (sym made)) (record { sessions = record_law refuses p id at lawful.sessions; origins = record_origins refuses p id at lawful.sessions lawful.origins })
+      subst (Lawful refuses) (on_session-changed p id (recorded_at at) ∙ ap (λ s. record p { sessions = s }) (sym made)) (record { sessions = record_law refuses p id at lawful.sessions; origins = record_origins refuses p id at lawful.sessions lawful.origins; locals = record_stands p id at lawful.locals })
 
   pub Lawful-concluded : (id : SessionId) (at : ℕ) (sessions : List SessionValue) → sessions ≡ with_changed p.sessions id (λ s. if low_water s.front == s.goal then recorded_at at s else s) → Lawful refuses (record p { sessions = sessions })
   Lawful-concluded id at sessions made =
-      subst (Lawful refuses) (on_session-changed p id (λ s. if low_water s.front == s.goal then recorded_at at s else s) ∙ ap (λ s. record p { sessions = s }) (sym made)) (record { sessions = conclude_law refuses p id at lawful.sessions; origins = conclude_origins refuses p id at lawful.sessions lawful.origins })
+      subst (Lawful refuses) (on_session-changed p id (λ s. if low_water s.front == s.goal then recorded_at at s else s) ∙ ap (λ s. record p { sessions = s }) (sym made)) (record { sessions = conclude_law refuses p id at lawful.sessions; origins = conclude_origins refuses p id at lawful.sessions lawful.origins; locals = conclude_stands p id at lawful.locals })

@@ -12,6 +12,8 @@ use Rattle.couch_base.specs.Lists.{Among}
 use Rattle.couch_base.specs.Database.{Id, DocumentValue, tree_of}
 use Rattle.repl_peer.specs.peer.Peer.{PeerValue, SessionValue, WrittenValue}
 use Rattle.repl_peer.specs.peer.Law.{AllBased, Lawful, session_numbers}
+use Rattle.rev_core.specs.Ancestry.{FallsByOne}
+use Rattle.repl_peer.specs.peer.Stands.{Follows, StandsIn}
 use Rattle.repl_peer.specs.peer.Origins.{ComesFrom, HasOrigins}
 use Rattle.repl_peer.specs.peer.Backups.{BackupValue, peer_of, IsBackup, is_target}
 
@@ -29,9 +31,16 @@ origins_same p q docs locals sessions h id r there =
     let k = h id r (ap (λ (ds : List DocumentValue). has (tree_of ds id) r) (sym docs) ∙ there) in
     (k.0, ap (λ (ds : List DocumentValue). get (tree_of ds id).origins r) docs ∙ k.1, comes_same p q locals sessions id r k.0 k.2)
 
+-- local writes stand in the trees alone
+pub locals_same : (old new : List DocumentValue) (before after : List WrittenValue) → new ≡ old → after ≡ before
+    → ((a : WrittenValue) → Among a before → FallsByOne a.ancestry → Follows (tree_of old a.id).parents a.ancestry)
+    → (a : WrittenValue) → Among a after → FallsByOne a.ancestry → Follows (tree_of new a.id).parents a.ancestry
+locals_same old new before after docs locals stand a m falls =
+    subst (λ (ds : List DocumentValue). Follows (tree_of ds a.id).parents a.ancestry) (sym docs) (stand a (subst (Among a) locals m) falls)
+
 -- a copy of a lawful peer without sessions is one
-pub IsBackup-copied : (p : PeerValue) (b : BackupValue) → p.sessions ≡ [] → b.db ≡ p.db → b.locals ≡ p.locals → HasOrigins p → IsBackup b
-IsBackup-copied p b none db locals h = origins_same p (peer_of b) (λ i. (db i).docs) locals (sym none) h
+pub IsBackup-copied : (p : PeerValue) (b : BackupValue) → p.sessions ≡ [] → b.db ≡ p.db → b.locals ≡ p.locals → HasOrigins p → ((a : WrittenValue) → Among a p.locals → StandsIn p.db a) → IsBackup b
+IsBackup-copied p b none db locals h stand = record { origins = origins_same p (peer_of b) (λ i. (db i).docs) locals (sym none) h; locals = locals_same p.db.docs b.db.docs p.locals b.locals (λ i. (db i).docs) locals stand }
 
 distinct_none : (sessions : List SessionValue) → sessions ≡ [] → IsDistinct eqb (session_numbers sessions)
 unfolding IsDistinct
@@ -47,7 +56,8 @@ Lawful-restored refuses b q none docs locals h =
         based = subst AllBased (sym none) tt;
         distinct = distinct_none q.sessions none;
       };
-      origins = origins_same (peer_of b) q docs locals none h;
+      origins = origins_same (peer_of b) q docs locals none h.origins;
+      locals = locals_same b.db.docs q.db.docs b.locals q.locals docs locals h.locals;
     }
 
 pub no_sessions : (sessions : List SessionValue) (n : ℕ) → n ≡ length sessions → n ≤ 0 → sessions ≡ []

@@ -33,6 +33,8 @@ use Rattle.repl_peer.specs.peer.Peer.{PeerValue, SessionValue, WrittenValue, Ref
 use Rattle.repl_peer.specs.peer.Covered.{contradiction_of, refusal_of, rightly_refused, covers, knows_row, covers_window, CoversWindow}
 use Rattle.repl_peer.specs.session.Sessions.{found_answer}
 use Rattle.repl_peer.specs.session.Settling.{Settling, fed, with_refused, with_arrival, is_full, settle_as, settle_one, settle_docs, settled_before, has_row, window_in, settle_at, settle_check, with_settling, settling_of, after_documents, with_done, marked, after_all, after_front, after_stop, settled_at, after_settle, SettlesAt, Settles, SettleGives}
+use Rattle.repl_peer.specs.peer.Stands.{StandsIn}
+use Rattle.repl_peer.proofs.lemmas.peer.WritesStand.{put_stands}
 use Rattle.repl_peer.specs.peer.Law.{LawfulSession, LawfulSessions}
 use Rattle.repl_peer.specs.peer.Later.{Keeps, IsLaterPeer}
 use Rattle.couch_base.specs.MemberLaws.{Among-left, Among-push, all_member, found_member}
@@ -97,6 +99,7 @@ refused_lawful refuses q s d reason right l =
       start = l.start;
       recorded = l.recorded;
       arrivals = l.arrivals;
+      stands = l.stands;
       written = l.written;
       failures = omega (arith, l.failures, length-append s.ledger (new ∷ []));
       read = omega (arith, l.read);
@@ -105,8 +108,8 @@ refused_lawful refuses q s d reason right l =
 arrival_keeps : (s : SessionValue) (d : Document) → Keeps s (with_arrival d s)
 arrival_keeps s d = record { id = refl; rep = refl; life = refl; base = refl; goal = refl; start = refl; recorded = omega arith; windows = λ w m. m; arrivals = λ a m. Among-left a s.arrivals _ m; ledger = λ x m. m }
 
-arrival_lawful : (refuses : Document → Bool) (q : PeerValue) (s : SessionValue) (d : Document) → ((r : RevId) → is_among r d.ancestry ≡ true → has (tree_of q.db.docs d.id) r ≡ true) → LawfulSession refuses q s → LawfulSession refuses q (with_arrival d s)
-arrival_lawful refuses q s d stands l = record {
+arrival_lawful : (refuses : Document → Bool) (q : PeerValue) (s : SessionValue) (d : Document) → ((r : RevId) → is_among r d.ancestry ≡ true → has (tree_of q.db.docs d.id) r ≡ true) → StandsIn q.db (written_of d) → LawfulSession refuses q s → LawfulSession refuses q (with_arrival d s)
+arrival_lawful refuses q s d stands follows l = record {
   front = l.front;
   bounds = l.bounds;
   within = l.within;
@@ -118,6 +121,10 @@ arrival_lawful refuses q s d stands l = record {
   arrivals = λ a m r e. elim (Among-push a s.arrivals (written_of d) m) [
     | inl old ↦ l.arrivals a old r e
     | inr is ↦ ap (λ (y : WrittenValue). has (tree_of q.db.docs y.id) r) is ∙ stands r (ap (λ (y : WrittenValue). is_among r y.ancestry) (sym is) ∙ e)
+  ];
+  stands = λ a m. elim (Among-push a s.arrivals (written_of d) m) [
+    | inl old ↦ l.stands a old
+    | inr is ↦ subst (StandsIn q.db) (sym is) follows
   ];
   written = omega (arith, l.written, length-append s.arrivals (written_of d ∷ []));
   failures = l.failures;
@@ -154,7 +161,7 @@ document_settles refuses p s w d m l = go (refusal_of refuses p.db d) refl
         (λ _. same_settles refuses p s m l)
         (λ room.
         let keeps = arrival_keeps s d in
-        let k = session_law refuses p (after_put p.db d (fed w s.id d)) s (with_arrival d s) m (IsLater-after_put p.db d (fed w s.id d)) keeps (λ _ h. arrival_lawful refuses _ s d (put_holds p.db d (fed w s.id d) (none_refused refuses p.db d e) room) h) l in
+        let k = session_law refuses p (after_put p.db d (fed w s.id d)) s (with_arrival d s) m (IsLater-after_put p.db d (fed w s.id d)) keeps (λ _ h. arrival_lawful refuses _ s d (put_holds p.db d (fed w s.id d) (none_refused refuses p.db d e) room) (put_stands p.db d (fed w s.id d) (none_refused refuses p.db d e) room) h) l in
         record { lawful = k.0; later = k.1; keeps = keeps; held = with_session_holds p.sessions s _ m refl; windows = refl; front = refl })
 
 -- the later change stands
@@ -218,6 +225,7 @@ done_lawful refuses q s w parcel m covered l =
       recorded = omega (arith, l.recorded, low_water-finished s.front w.lo w.hi l.front);
       ledger = l.ledger;
       arrivals = l.arrivals;
+      stands = l.stands;
       written = l.written;
       failures = l.failures;
       read = l.read;
@@ -319,6 +327,9 @@ ends_law refuses p id parcel q (inr e) l =
 
 pub settle_law : (refuses : Document → Bool) (p : PeerValue) (id : SessionId) (parcel : ParcelValue) (result : Result Settled TargetFault) (q : PeerValue) → SettleGives refuses p id parcel result q → LawfulSessions refuses p → LawfulSessions refuses q
 settle_law refuses p id parcel result q gives l = (ends_law refuses p id parcel q (settle_ends refuses p id parcel result q gives) l).0
+
+pub settle_later : (refuses : Document → Bool) (p : PeerValue) (id : SessionId) (parcel : ParcelValue) (result : Result Settled TargetFault) (q : PeerValue) → SettleGives refuses p id parcel result q → LawfulSessions refuses p → IsLaterPeer p q
+settle_later refuses p id parcel result q gives l = (ends_law refuses p id parcel q (settle_ends refuses p id parcel result q gives) l).1
 
 pub after_settle_law : (refuses : Document → Bool) (p : PeerValue) (id : SessionId) (parcel : ParcelValue) → LawfulSessions refuses p → LawfulSessions refuses (after_settle refuses p id parcel) × IsLaterPeer p (after_settle refuses p id parcel)
 after_settle_law refuses p id parcel l = ends_law refuses p id parcel (after_settle refuses p id parcel) (after_settle_ends refuses p id parcel) l

@@ -1,16 +1,22 @@
-use Rattle.std.proofs.Common.{rules, ◌≡◌, ◌∷◌, ◌++◌, [], sym, ◌∙◌}
+use Rattle.std.proofs.Common.{rules, ◌≡◌, ◌∷◌, ◌++◌, [], sym, subst, ◌∙◌}
 use Rattle.std.specs.Option.{option_to_list}
+use Rattle.rev_core.specs.Ancestry.{FallsByOne}
 use Rattle.rev_tree.specs.declared.origin.Origin.TheVariants.{Local}
 use Rattle.couch_base.specs.Database.{tree_in}
 use Rattle.repl_peer.specs.peer.Local.{with_edit, stood_on}
-use Rattle.repl_peer.proofs.lemmas.peer.EditedPeers.{edit_answer-short, edit_noted}
+use Rattle.repl_peer.proofs.lemmas.peer.EditedPeers.{edit_answer-made, edit_noted}
 use Rattle.repl_peer.proofs.peer.local.edit.Goals.{in-Some, in-None}
 use Rattle.repl_peer.proofs.peer.local.edit.Goals as goal
 
--- the revision that an edit makes
+-- the revision that an edit makes, and the one that it stands on
 pub edit-requires-in-Ok-edit : goal.edit-requires-in-Ok-edit
 edit-requires-in-Ok-edit c =
-    edit_answer-short c.args.db.now c.args.id.now c.match-parent.parent c.args.deleted c.args.body.now c.in-Ok-edit.rev (sym c.in-Ok-edit.ensures.answer)
+    let before : c.match-parent.before ≡ stood_on (tree_in c.args.db.now.docs c.args.id.now) c.match-parent.parent = elim c.match-parent.branch [
+      | in-Some w ↦ search rules
+      | in-None w ↦ search rules
+    ] in
+    let made = edit_answer-made c.args.db.now c.args.id.now c.match-parent.parent c.args.deleted c.args.body.now c.in-Ok-edit.rev (sym c.in-Ok-edit.ensures.answer) in
+    (made.0, subst (λ b. FallsByOne (c.in-Ok-edit.rev ∷ option_to_list b)) (sym before) made.1)
 
 -- the write that was made before, with that revision
 pub returns-in-Ok-edit-clause-locals : goal.returns-in-Ok-edit-clause-locals
@@ -26,10 +32,9 @@ returns-in-Ok-edit-clause-locals c =
       | in-Some w ↦ search rules
       | in-None w ↦ search rules
     ] in
-    let below = c.in-Ok.ensures.before ∙ before in
     pushed
     ∙ (λ i. c.in-Ok.ensures.locals i ++ c.edit-in-Ok-edit.ensures i ∷ [])
-    ∙ (λ i. locals ++ record { id = c.in-Ok.ensures.id i; ancestry = rev ∷ option_to_list (below i) } ∷ [])
+    ∙ (λ i. locals ++ record { id = c.in-Ok.ensures.copied i; ancestry = rev ∷ option_to_list (before i) } ∷ [])
     ∙ edit_noted c.args.db.now c.edit.new.self locals c.args.id.now c.match-parent.parent c.args.deleted c.args.body.now (Local c.len.result) rev
     (sym c.in-Ok-edit.ensures.answer) c.in-Ok-edit.ensures.ok c.in-Ok-edit.ensures.seq
     ∙ (λ i. with_edit c.args.db.now locals c.args.id.now (parent i) c.args.deleted c.args.body.now)

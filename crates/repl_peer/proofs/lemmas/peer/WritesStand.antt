@@ -1,0 +1,216 @@
+-- What is written stands in its document's tree, and stays there: an edge that is there is never changed.
+use Rattle.std.proofs.Common.{◌≡◌, ℕ, zero, suc, ◌+◌, ◌<◌, ◌≤◌, length, slice_get, List, [], ◌∷◌, ◌++◌, Bool, true, false, cond, Option, Some, None, is_some, Result, Ok, Err, unwrap_or, refl, sym, ap, ◌∙◌, subst, inl, inr, arith, nat_lt}
+use Rattle.std.specs.Ordering.{eq_by_cmp}
+use Rattle.std.specs.Option.{option_or}
+use Rattle.std.specs.Str.{bytes_eq}
+use Rattle.std.specs.FinMap.{FinMap, get, find}
+use Rattle.std.proofs.lemmas.Bool.{false≢true, cond-true}
+use Rattle.std.proofs.lemmas.Option.{same_Some}
+use Rattle.std.proofs.lemmas.Slice.Eq.{bytes_eq-Decides}
+use Rattle.rev_core.specs.Rev.{RevId, rev_cmp}
+use Rattle.rev_core.specs.RevOrder.{rev_tie_is, rev_tie_self}
+use Rattle.rev_core.specs.Ancestry.{FallsByOne, edges_of, head_of}
+use Rattle.rev_tree.specs.Tree.{TreeValue, merged, joined, is_same, answer_of, no_revisions, first_contradiction, contradiction_at}
+use Rattle.rev_tree.specs.TreeLaws.{apart, edge_found, get-joined, get-joined_known, lower_later, merged-same, no_contradiction}
+use Rattle.rev_tree.specs.declared.fault.Contradiction.{Contradiction}
+use Rattle.rev_tree.specs.declared.origin.Origin.{Origin}
+use Rattle.rev_tree.specs.declared.origin.SessionId.{SessionId}
+use Rattle.doc_json.specs.Document.{Document}
+use Rattle.couch_base.specs.Lists.{Among}
+use Rattle.couch_base.specs.ListLaws.{none_some}
+use Rattle.couch_base.specs.MemberLaws.{Among-push}
+use Rattle.couch_base.specs.Database.{Id, DatabaseValue, tree_in, tree_of, with_tree, most}
+use Rattle.couch_base.specs.Put.{put_told, put_answer, is_changed, after_put, content_of}
+use Rattle.couch_base.specs.Edit.{edited, edit_document}
+use Rattle.couch_base.specs.Feed.{WindowValue}
+use Rattle.couch_base.specs.WriteLaws.{IsLater, IsLater-after_put, tree_in-with_tree}
+use Rattle.couch_base.specs.declared.fault.BaseFault.{BaseFault}
+use Rattle.range_front.specs.Front.{low_water}
+use Rattle.std.proofs.Common.{◌==◌, if◌then◌else◌}
+use Rattle.repl_peer.specs.peer.Peer.{PeerValue, SessionValue, WrittenValue, written_of, session_in}
+use Rattle.repl_peer.specs.peer.Covered.{contradiction_of}
+use Rattle.repl_peer.specs.peer.Stands.{Follows, StandsIn}
+use Rattle.repl_peer.specs.peer.Writing.{next_local, after_load, load_edited, after_edit}
+use Rattle.repl_peer.specs.session.Sessions.{on_found, new_session, begin_answer, begun, after_begin, append_in, with_window, after_append, recorded_at, after_record, after_conclude}
+use Rattle.repl_peer.specs.session.Settling.{is_full}
+use Rattle.repl_peer.specs.declared.session.beginning.Beginning.{Beginning}
+use Rattle.repl_peer.specs.declared.fault.TargetFault.{TargetFault}
+
+-- ---- an edge stays
+
+one_edge : (m : FinMap rev_cmp RevId) (c x : RevId) → is_some (first_contradiction m ((c, x) ∷ [])) ≡ is_some (contradiction_at c x (get m c))
+one_edge m c x = elim (contradiction_at c x (get m c)) as (λ o. is_some (option_or o None) ≡ is_some o) [ None ↦ refl | Some y ↦ refl ]
+
+-- what is known of a child is told by what contradicts it
+pub edge_later : (m w : FinMap rev_cmp RevId) → ((es : List (RevId × RevId)) → is_some (first_contradiction m es) ≡ true → is_some (first_contradiction w es) ≡ true) → (c p : RevId) → get m c ≡ Some p → get w c ≡ Some p
+edge_later m w stays c p h = go (get w c) refl
+  where
+    told : (x : RevId) → eq_by_cmp rev_cmp p x ≡ false → is_some (contradiction_at c x (get w c)) ≡ true
+    told x other =
+        let fault : Contradiction = record { child = c; known = p; given = x } in
+        sym (one_edge w c x)
+        ∙ stays ((c, x) ∷ []) (one_edge m c x ∙ ap (λ o. is_some (contradiction_at c x o)) h ∙ ap (λ b. is_some (cond b None (Some fault))) other)
+
+    go : (o : Option RevId) → get w c ≡ o → get w c ≡ Some p
+    go None e =
+        let x : RevId = record { generation = p.generation + 1; sig = p.sig } in
+        absurd (false≢true (sym (ap (λ o. is_some (contradiction_at c x o)) e) ∙ told x (apart p x (omega arith))))
+    go (Some k) e = elim (eq_by_cmp rev_cmp p k) as (λ b. eq_by_cmp rev_cmp p k ≡ b → get w c ≡ Some p) [
+      | true ↦ λ tie. e ∙ ap Some (sym (rev_tie_is p k tie))
+      | false ↦ λ other.
+          let fault : Contradiction = record { child = c; known = k; given = k } in
+          absurd (false≢true (sym (ap (λ o. is_some (contradiction_at c k o)) e ∙ ap (λ b. is_some (cond b None (Some fault))) (rev_tie_self k)) ∙ told k other))
+    ] refl
+
+-- ---- revisions of which each is the next one's child
+
+follows_later : (m w : FinMap rev_cmp RevId) → ((c p : RevId) → get m c ≡ Some p → get w c ≡ Some p) → (revs : List RevId) → Follows m revs → Follows w revs
+follows_later m w keeps [] f = tt
+follows_later m w keeps (r ∷ []) f = tt
+follows_later m w keeps (r ∷ (s ∷ rest)) f = (keeps r s f.0, follows_later m w keeps (s ∷ rest) f.1)
+
+-- a write stands in every later database
+pub stands_later : (a b : DatabaseValue) → IsLater a b → (x : WrittenValue) → StandsIn a x → StandsIn b x
+stands_later a b later x h falls =
+    follows_later (tree_of a.docs x.id).parents (tree_of b.docs x.id).parents
+    (edge_later (tree_of a.docs x.id).parents (tree_of b.docs x.id).parents (later.contradicts x.id)) x.ancestry (h falls)
+
+follows_found : (w : FinMap rev_cmp RevId) (revs : List RevId) → FallsByOne revs → ((c p : RevId) → find rev_cmp c (edges_of revs) ≡ Some p → get w c ≡ Some p) → Follows w revs
+follows_found w [] falls known = tt
+follows_found w (r ∷ []) falls known = tt
+follows_found w (r ∷ (s ∷ rest)) falls known = (
+  known r s (ap (λ b. cond b (Some s) (find rev_cmp r (edges_of (s ∷ rest)))) (rev_tie_self r)),
+  follows_found w (s ∷ rest) falls.1
+      (λ c p e. known c p (ap (λ b. cond b (Some s) (find rev_cmp c (edges_of (s ∷ rest)))) (apart c r (lower_later r (s ∷ rest) c falls (edge_found (s ∷ rest) c p falls.1 e).child)) ∙ e)),
+)
+
+given_edge : (m : FinMap rev_cmp RevId) (es : List (RevId × RevId)) → first_contradiction m es ≡ None → (c p : RevId) → find rev_cmp c es ≡ Some p → get (joined m es) c ≡ Some p
+given_edge m es none c p h = go (get m c) refl
+  where
+    go : (o : Option RevId) → get m c ≡ o → get (joined m es) c ≡ Some p
+    go None e = get-joined m es c ∙ ap (λ o. option_or o (find rev_cmp c es)) e ∙ h
+    go (Some k) e = get-joined_known m es c p (e ∙ ap Some (no_contradiction m es c p k none h e))
+
+-- a merge of an ancestry that contradicts nothing
+follows_merged : (m : FinMap rev_cmp RevId) (revs : List RevId) → first_contradiction m (edges_of revs) ≡ None → FallsByOne revs → Follows (joined m (edges_of revs)) revs
+follows_merged m revs none falls = follows_found (joined m (edges_of revs)) revs falls (given_edge m (edges_of revs) none)
+
+-- ---- a put
+
+-- the changed document has the new tree
+changed_tree : (db : DatabaseValue) (id : Id) (t : TreeValue) → tree_of (with_tree db id t).docs id ≡ t
+changed_tree db id t =
+    ap (λ o. unwrap_or o no_revisions) (tree_in-with_tree db id t id ∙ cond-true (bytes_eq id id) (Some t) (tree_in db.docs id) ((bytes_eq-Decides id id).1 refl))
+
+-- what isn't refused stands
+pub put_stands : (db : DatabaseValue) (d : Document) (o : Origin) → contradiction_of db d ≡ None → is_full (put_answer db d) ≡ false → StandsIn (after_put db d o) (written_of d)
+put_stands db d o none room falls = go (contradiction_of db d) (is_same (tree_of db.docs d.id) d.ancestry) (nat_lt db.update_seq most) none refl room
+  where
+    new : TreeValue
+    new = merged (tree_of db.docs d.id) d.ancestry (content_of d.deleted d.body) o
+
+    all : Follows new.parents d.ancestry
+    all = follows_merged (tree_of db.docs d.id).parents d.ancestry none falls
+
+    go : (c : Option Contradiction) (same left : Bool) → c ≡ None → is_same (tree_of db.docs d.id) d.ancestry ≡ same → is_full (put_told (answer_of c same) left (db.update_seq + 1)) ≡ false
+        → Follows (tree_of (cond (is_changed (put_told (answer_of c same) left (db.update_seq + 1))) (with_tree db d.id new) db).docs d.id).parents d.ancestry
+    go (Some c) same left e s f = absurd (none_some c (sym e))
+    go None true left e s f = subst (λ (t : TreeValue). Follows t.parents d.ancestry) (merged-same (tree_of db.docs d.id) d.ancestry (content_of d.deleted d.body) o s) all
+    go None false true e s f = subst (λ (t : TreeValue). Follows t.parents d.ancestry) (sym (changed_tree db d.id new)) all
+    go None false false e s f = absurd (false≢true (sym f))
+
+-- and so does what changes the database
+changed_stands : (db : DatabaseValue) (d : Document) (o : Origin) → is_changed (put_answer db d) ≡ true → StandsIn (after_put db d o) (written_of d)
+changed_stands db d o change = let k = go (contradiction_of db d) (is_same (tree_of db.docs d.id) d.ancestry) (nat_lt db.update_seq most) change in put_stands db d o k.0 k.1
+  where
+    go : (c : Option Contradiction) (same left : Bool) → is_changed (put_told (answer_of c same) left (db.update_seq + 1)) ≡ true → (c ≡ None) × (is_full (put_told (answer_of c same) left (db.update_seq + 1)) ≡ false)
+    go (Some c) same left h = absurd (false≢true h)
+    go None true left h = (refl, refl)
+    go None false true h = (refl, refl)
+    go None false false h = absurd (false≢true h)
+
+-- ---- the local writes of a peer
+
+-- each of them stands
+abbrev pub LocalsStand : PeerValue → Type 0
+LocalsStand p = (a : WrittenValue) → Among a p.locals → StandsIn p.db a
+
+pub load_stands : (p : PeerValue) (d : Document) → LocalsStand p → LocalsStand (after_load p d)
+load_stands p d h a m = go (is_changed (put_answer p.db d)) refl m
+  where
+    old : (x : WrittenValue) → Among x p.locals → StandsIn (after_load p d).db x
+    old x n = stands_later p.db (after_load p d).db (IsLater-after_put p.db d (next_local p)) x (h x n)
+
+    go : (b : Bool) → is_changed (put_answer p.db d) ≡ b → Among a (cond b (p.locals ++ written_of d ∷ []) p.locals) → StandsIn (after_load p d).db a
+    go true e n = elim (Among-push a p.locals (written_of d) n) [
+      | inl before ↦ old a before
+      | inr is ↦ subst (StandsIn (after_load p d).db) (sym is) (changed_stands p.db d (next_local p) e)
+    ]
+    go false e n = old a n
+
+pub edit_stands : (p : PeerValue) (id : Id) (parent : Option RevId) (deleted : Bool) (body : List ℕ) → LocalsStand p → LocalsStand (after_edit p id parent deleted body)
+edit_stands p id parent deleted body h = go (edited p.db id parent deleted body)
+  where
+    go : (e : Result (RevId × Option RevId) BaseFault) → LocalsStand (load_edited p id deleted body e)
+    go (Ok e) = load_stands p (edit_document id e deleted body) h
+    go (Err fault) = h
+
+begun_stands : (p : PeerValue) (s : SessionValue) (r : Result (Unit {0}) TargetFault) → LocalsStand p → LocalsStand (begun p s r)
+begun_stands p s (Ok done) h = h
+begun_stands p s (Err fault) h = h
+
+pub begin_stands : (p : PeerValue) (id : SessionId) (b : Beginning) (at : ℕ) → LocalsStand p → LocalsStand (after_begin p id b at)
+begin_stands p id b at h = begun_stands p (new_session id b at) (begin_answer p id b) h
+
+found_stands : (p : PeerValue) (change : SessionValue → SessionValue) (o : Option SessionValue) → LocalsStand p → LocalsStand (on_found p change o)
+found_stands p change None h = h
+found_stands p change (Some s) h = h
+
+pub append_stands : (p : PeerValue) (id : SessionId) (w : WindowValue) → LocalsStand p → LocalsStand (after_append p id w)
+append_stands p id w h = found_stands p (λ s. with_window w s (append_in w s)) (session_in p.sessions id) h
+
+pub record_stands : (p : PeerValue) (id : SessionId) (at : ℕ) → LocalsStand p → LocalsStand (after_record p id at)
+record_stands p id at h = found_stands p (recorded_at at) (session_in p.sessions id) h
+
+pub conclude_stands : (p : PeerValue) (id : SessionId) (at : ℕ) → LocalsStand p → LocalsStand (after_conclude p id at)
+conclude_stands p id at h = found_stands p (λ s. if low_water s.front == s.goal then recorded_at at s else s) (session_in p.sessions id) h
+
+-- ---- reading a write
+
+pub first_at : (revs : List RevId) (r : RevId) → head_of revs ≡ Some r → slice_get revs 0 ≡ Some r
+first_at [] r h = h
+first_at (x ∷ revs) r h = h
+
+-- the parent of one of the revisions is the next one
+pub follows_at : (m : FinMap rev_cmp RevId) (revs : List RevId) (i : ℕ) (r : RevId) → Follows m revs → slice_get revs i ≡ Some r → i + 1 < length revs → get m r ≡ slice_get revs (i + 1)
+follows_at m [] i r f e h = absurd (omega arith)
+follows_at m (x ∷ []) i r f e h = absurd (omega arith)
+follows_at m (x ∷ (s ∷ rest)) zero r f e h = ap (get m) (sym (same_Some x r e)) ∙ f.0
+follows_at m (x ∷ (s ∷ rest)) (suc i) r f e h =
+    let more : suc (i + 1) ≡ suc i + 1 = omega arith in
+    follows_at m (s ∷ rest) i r f.1 e (omega arith) ∙ ap (slice_get (x ∷ (s ∷ rest))) more
+
+-- behind the last one there is none
+pub none_at : (revs : List RevId) (n : ℕ) → length revs ≤ n → slice_get revs n ≡ None
+none_at [] n h = refl
+none_at (x ∷ revs) zero h = absurd (omega arith)
+none_at (x ∷ revs) (suc n) h = none_at revs n (omega arith)
+
+-- and before it there is one
+pub some_at : (revs : List RevId) (n : ℕ) → n < length revs → (r : RevId) × (slice_get revs n ≡ Some r)
+some_at [] n h = absurd (omega arith)
+some_at (x ∷ revs) zero h = (x, refl)
+some_at (x ∷ revs) (suc n) h = some_at revs n (omega arith)
+
+-- the tree's parent of one of the revisions of a write is the next one
+pub next_stands : (db : DatabaseValue) (v w : WrittenValue) (n i k : ℕ) (r : RevId) → v ≡ w → FallsByOne v.ancestry → length v.ancestry ≡ n → StandsIn db w → slice_get w.ancestry i ≡ Some r → i < k → k < n → get (tree_of db.docs v.id).parents r ≡ slice_get w.ancestry (i + 1)
+next_stands db v w n i k r same falls size stands at before within =
+    let long : length w.ancestry ≡ n = subst (λ (x : WrittenValue). length x.ancestry ≡ n) same size in
+    ap (λ (x : WrittenValue). get (tree_of db.docs x.id).parents r) same
+    ∙ follows_at (tree_of db.docs w.id).parents w.ancestry i r (stands (subst (λ (x : WrittenValue). FallsByOne x.ancestry) same falls)) at (omega (arith, long, before, within))
+
+-- and there is one
+pub next_there : (v w : WrittenValue) (n i k : ℕ) → v ≡ w → length v.ancestry ≡ n → i < k → k < n → (r : RevId) × (slice_get w.ancestry (i + 1) ≡ Some r)
+next_there v w n i k same size before within =
+    let long : length w.ancestry ≡ n = subst (λ (x : WrittenValue). length x.ancestry ≡ n) same size in
+    some_at w.ancestry (i + 1) (omega (arith, long, before, within))

@@ -1,0 +1,6 @@
+use Rattle.std.proofs.Common.{◌≡◌, Some, slice_get}
+use Rattle.repl_peer.proofs.peer.written.Written.rev.Given as goal
+
+-- the revision at the place so far
+abbrev pub invariant-loop-step : goal.invariant-loop-step
+invariant-loop-step l = slice_get l.self.ancestry l.step ≡ Some l.at

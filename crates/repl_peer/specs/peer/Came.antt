@@ -1,0 +1,19 @@
+-- The revisions of a write as they came, and what of them is kept.
+use Rattle.std.specs.Prelude.{◌≡◌, ℕ, List, ◌∷◌, length, Some}
+use Rattle.std.specs.Option.{option_to_list}
+use Rattle.rev_core.specs.Rev.{RevId}
+use Rattle.rev_core.specs.Ancestry.{FallsByOne, head_of}
+use Rattle.repl_peer.specs.declared.peer.ghost_revs.Came.{Came}
+use Rattle.repl_peer.specs.declared.peer.ghost_revs.Came.TheVariants as came
+
+-- the revisions that came: of a document all, of an edit the new one and the one that it stands on, of a copy the same
+abbrev pub came_revs : Came → List RevId
+came_revs (came.Whole revs) = revs.now
+came_revs (came.Edit rev parent) = rev ∷ option_to_list parent
+came_revs (came.Again revs) = revs.now.revs
+
+-- the newest of them, and how many they are
+pub record IsBegun (head : RevId) (count : ℕ) (revs : List RevId) : Type 0 where
+  pub first : head_of revs ≡ Some head
+  pub size : length revs ≡ count
+  pub falls : FallsByOne revs

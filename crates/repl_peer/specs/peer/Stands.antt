@@ -1,0 +1,18 @@
+-- How a write stands in the tree of its document: docs/PROFILE.md, "The peer's law".
+use Rattle.std.specs.Prelude.{◌≡◌, List, [], ◌∷◌, Some}
+use Rattle.std.specs.FinMap.{FinMap, get}
+use Rattle.rev_core.specs.Rev.{RevId, rev_cmp}
+use Rattle.rev_core.specs.Ancestry.{FallsByOne}
+use Rattle.couch_base.specs.Database.{DatabaseValue, tree_of}
+use Rattle.repl_peer.specs.peer.Peer.{WrittenValue}
+
+-- the parent of each revision is the next one
+abbrev pub Follows : FinMap rev_cmp RevId → List RevId → Type 0
+Follows parents [] = Unit {0}
+Follows parents (r ∷ []) = Unit {0}
+Follows parents (r ∷ (s ∷ rest)) = (get parents r ≡ Some s) × Follows parents (s ∷ rest)
+
+-- the revisions of a write, where their generations fall by one, are what the tree of its document walks from the newest
+-- on
+abbrev pub StandsIn : DatabaseValue → WrittenValue → Type 0
+StandsIn db w = FallsByOne w.ancestry → Follows (tree_of db.docs w.id).parents w.ancestry
