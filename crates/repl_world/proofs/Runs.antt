@@ -20,6 +20,7 @@ use Rattle.repl_peer.specs.declared.fault.TargetFault.TheVariants as faults
 use Rattle.repl_target.proofs.lemmas.ties.TiedPeersCover.{honest_is, audited_is, tied_none}
 use Rattle.repl_peer.proofs.lemmas.peer.RefusedCalls.{append_refused}
 use Rattle.repl_target.proofs.lemmas.replication.ReplicationAsCalls.{settle_left, settle_gives, settle_stops}
+use Rattle.repl_target.specs.replication.Calls.{after_some, most_settled}
 use Rattle.repl_target.proofs.lemmas.ties.SettlingTakes.{own_covered}
 use Rattle.repl_world.specs.declared.fault.WorldFault.TheVariants.{SamePeer}
 use Rattle.repl_world.specs.declared.step.Step.{Step}
@@ -108,8 +109,8 @@ module _ (refuses : Document → Bool) (w : WorldValue) (session : SessionId) (p
         | inl kept ↦ inl (ap (λ t. record w { target = t }) kept)
         | inr stops_at ↦ inr (
           h.0,
-          subst (λ (o : Option (ℕ × ParcelValue)). IfSome o (λ (p : ℕ × ParcelValue). h.0 ≤ length p.1.docs)) (sym there) (subst (λ (x : ParcelValue). h.0 ≤ length x.docs) same stops_at.0),
-          ap (λ t. record w { target = t }) (left (Some h.0) h.1) ∙ sym (ap (stops refuses w session h.0) there),
+          subst (λ (o : Option (ℕ × ParcelValue)). IfSome o (λ (p : ℕ × ParcelValue). h.0 ≤ most_settled refuses w.target session p.1)) (sym there) (subst (λ (x : ParcelValue). h.0 ≤ most_settled refuses w.target session x) same stops_at.0),
+          ap (λ t. record w { target = t }) (stops_at.1 ∙ ap (λ x. after_some refuses w.target session x h.0) same) ∙ sym (ap (stops refuses w session h.0) there),
         )
       ]
 

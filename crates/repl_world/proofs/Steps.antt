@@ -1,5 +1,5 @@
 -- Each step keeps a world tied.
-use Rattle.std.proofs.Common.{◌≡◌, ℕ, ◌+◌, ◌<◌, ◌≤◌, ◌==◌, nat_lt, nat_le, List, [], ◌∷◌, Bool, true, false, cond, Option, Some, None, Result, Ok, Err, slice_get, refl, sym, ap, ◌∙◌, subst, inl, inr, arith}
+use Rattle.std.proofs.Common.{◌≡◌, ℕ, min, ◌+◌, ◌<◌, ◌≤◌, ◌==◌, nat_lt, nat_le, List, [], ◌∷◌, Bool, true, false, cond, Option, Some, None, Result, Ok, Err, slice_get, refl, sym, ap, ◌∙◌, subst, inl, inr, arith}
 use Rattle.rev_tree.specs.declared.origin.SessionId.{SessionId}
 use Rattle.doc_json.specs.Document.{Document}
 use Rattle.couch_base.specs.Database.{Id, LawfulDatabase, most}
@@ -18,7 +18,7 @@ use Rattle.repl_peer.specs.session.Sessions.{after_record, after_conclude, concl
 use Rattle.repl_peer.specs.peer.Later.{IsLaterPeer}
 use Rattle.repl_target.specs.ties.Ties.{IsTiedWindow, AreTiedEntries, IsTiedPair, IsSentEntry}
 use Rattle.repl_peer.specs.logs.Checkpoint.{rep_between}
-use Rattle.repl_target.specs.replication.Calls.{Call, Load, Edit, after_call}
+use Rattle.repl_target.specs.replication.Calls.{Call, Load, Edit, after_call, most_settled}
 use Rattle.repl_peer.specs.peer.Backups.{BackupValue, copy_of, is_target, backup_answer, greater_life, restore_answer, restored, restored_by}
 use Rattle.repl_log.specs.Logs.{log_in}
 use Rattle.repl_peer.specs.peer.Writing.{after_edit, load_edited}
@@ -325,7 +325,7 @@ settle_step refuses w session (Some p) l h = call_step refuses w (calls.Settle s
 
 stop_step : (refuses : Document → Bool) (w : WorldValue) (session : SessionId) (n : ℕ) (o : Option (ℕ × ParcelValue)) → IsWorld refuses w → Tied w → Tied (stops refuses w session n o)
 stop_step refuses w session n None l h = h
-stop_step refuses w session n (Some p) l h = call_step refuses w (calls.Stop session p.1 n) tt (after_stop_law refuses w.target session p.1 n l.target.sessions).1 h
+stop_step refuses w session n (Some p) l h = call_step refuses w (calls.Stop session p.1 n) tt (after_stop_law refuses w.target session p.1 (min n (most_settled refuses w.target session p.1)) l.target.sessions).1 h
 
 puts_step : (refuses : Document → Bool) (w : WorldValue) (place : ℕ) (o : Option EntryValue) → slice_get w.bag.entries place ≡ o → IsWorld refuses w → Tied w → Tied (puts w o)
 puts_step refuses w place None is l h = h

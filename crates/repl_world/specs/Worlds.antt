@@ -7,7 +7,7 @@
 -- the one before it. Copies of the source stand beside the bag. One of them may be put back at any moment, and the
 -- source's database then begins another life. A crash loses all messages, and nothing else. What holds after every list
 -- of steps holds however the two databases talk, and whoever else writes to them meanwhile.
-use Rattle.std.specs.Prelude.{◌≡◌, ◌⊎◌, ℕ, ◌==◌, ◌≤◌, List, [], ◌∷◌, ◌++◌, length, Bool, if◌then◌else◌, Option, Some, None, IfSome, Result, Ok, Err, take, slice_get}
+use Rattle.std.specs.Prelude.{◌≡◌, ◌⊎◌, ℕ, ◌==◌, ◌≤◌, List, [], ◌∷◌, ◌++◌, Bool, if◌then◌else◌, Option, Some, None, IfSome, Result, Ok, Err, take, slice_get}
 use Rattle.rev_tree.specs.declared.origin.SessionId.{SessionId}
 use Rattle.doc_json.specs.Document.{Document}
 use Rattle.doc_json.specs.Chosen.{Choice}
@@ -19,8 +19,9 @@ use Rattle.repl_log.specs.Entry.{EntryValue}
 use Rattle.repl_peer.specs.peer.Peer.{PeerValue, SessionValue, entry_of}
 use Rattle.repl_peer.specs.peer.Writing.{after_load, after_edit}
 use Rattle.repl_peer.specs.session.Sessions.{session_answer, after_begin, after_append, after_record, after_conclude, conclude_answer}
-use Rattle.repl_peer.specs.session.Settling.{after_settle, after_stop}
+use Rattle.repl_peer.specs.session.Settling.{after_settle}
 use Rattle.repl_peer.specs.logs.Logs.{source_log, target_log, after_put_entry}
+use Rattle.repl_target.specs.replication.Calls.{after_some, most_settled}
 use Rattle.repl_target.specs.replication.Replication.{base_at, start_at}
 use Rattle.repl_peer.specs.peer.Backups.{BackupValue, backup_answer, after_restore}
 use Rattle.repl_log.specs.Log.{common}
@@ -84,10 +85,10 @@ abbrev pub settles : (Document → Bool) → WorldValue → SessionId → Option
 settles refuses w session None = w
 settles refuses w session (Some p) = record w { target = after_settle refuses w.target session p.1 }
 
--- where a settling found no memory after n documents
+-- where a settling found no memory after n documents, of those that it settles where it finds some
 abbrev pub stops : (Document → Bool) → WorldValue → SessionId → ℕ → Option (ℕ × ParcelValue) → WorldValue
 stops refuses w session n None = w
-stops refuses w session n (Some p) = record w { target = after_stop refuses w.target session p.1 n }
+stops refuses w session n (Some p) = record w { target = after_some refuses w.target session p.1 n }
 
 -- what a log says of a session as it is now
 abbrev pub entry_in : PeerValue → SessionId → Result EntryValue TargetFault
@@ -172,12 +173,12 @@ run refuses w (step ∷ steps) = run refuses (happens refuses w step) steps
 
 -- ---- where memory was wanting
 
--- what a step leaves that found no memory: a settling is cut short after some of the parcel's documents, and any other
--- changes nothing
+-- what a step leaves that found no memory: a settling is cut short after some of the documents that it settles where it
+-- finds some, and any other changes nothing
 abbrev pub IsStopped : (Document → Bool) → WorldValue → SessionId → Option (ℕ × ParcelValue) → WorldValue → Type 0
 IsStopped refuses w session parcel now =
     (now ≡ w)
-    ⊎ (n : ℕ) × IfSome parcel (λ (p : ℕ × ParcelValue). n ≤ length p.1.docs)
+    ⊎ (n : ℕ) × IfSome parcel (λ (p : ℕ × ParcelValue). n ≤ most_settled refuses w.target session p.1)
     × (now ≡ stops refuses w session n parcel)
 
 abbrev pub CutShort : (Document → Bool) → WorldValue → Step → WorldValue → Type 0

@@ -1,6 +1,6 @@
 -- Calls on a target in any order, and what they leave: docs/PROFILE.md, "Sessions of a peer" and "Tied windows and
 -- messages".
-use Rattle.std.specs.Prelude.{◌≡◌, ◌⊎◌, ℕ, ◌<◌, ◌≤◌, Bool, List, [], ◌∷◌, length, Option, Ok}
+use Rattle.std.specs.Prelude.{◌≡◌, ◌⊎◌, ℕ, ◌<◌, ◌≤◌, min, Bool, List, [], ◌∷◌, Option, Result, Ok, Err}
 use Rattle.rev_core.specs.Rev.{RevId}
 use Rattle.rev_tree.specs.declared.origin.SessionId.{SessionId}
 use Rattle.doc_json.specs.Document.{Document}
@@ -13,10 +13,25 @@ use Rattle.repl_log.specs.declared.replication.RepId.{RepId}
 use Rattle.repl_peer.specs.peer.Peer.{PeerValue, SessionValue}
 use Rattle.repl_peer.specs.peer.Writing.{after_load, after_edit}
 use Rattle.repl_peer.specs.session.Sessions.{after_begin, after_append, after_record, after_conclude}
-use Rattle.repl_peer.specs.session.Settling.{after_settle, after_stop}
+use Rattle.repl_peer.specs.session.Settling.{settle_check, settling_of, settled_before, after_settle, after_stop}
 use Rattle.repl_target.specs.replication.Replication.{begins_answer, after_begins}
+use Rattle.repl_peer.specs.declared.fault.TargetFault.{TargetFault}
 use Rattle.repl_peer.specs.declared.session.beginning.Beginning.{Beginning}
 use Rattle.repl_target.specs.declared.replication.Plan.{Plan}
+
+-- how many documents of a parcel are settled where memory is found: none where it is refused
+abbrev pub settled_of : (Document → Bool) → PeerValue → ParcelValue → Result (SessionValue × WindowValue) TargetFault
+    → ℕ
+settled_of refuses p parcel (Err fault) = 0
+settled_of refuses p parcel (Ok at) = settled_before refuses at.1 (settling_of p at.0) parcel.docs
+
+abbrev pub most_settled : (Document → Bool) → PeerValue → SessionId → ParcelValue → ℕ
+most_settled refuses p session parcel = settled_of refuses p parcel (settle_check p session parcel)
+
+-- where settling found no memory after n documents, of those that it settles where it finds some
+abbrev pub after_some : (Document → Bool) → PeerValue → SessionId → ParcelValue → ℕ → PeerValue
+after_some refuses p session parcel n =
+    after_stop refuses p session parcel (min n (most_settled refuses p session parcel))
 
 -- a call on a target. `Stop` is a settling that found no memory after so many documents
 pub data Call : Type 0 where
@@ -36,7 +51,7 @@ after_call refuses p (Edit id parent deleted body) = after_edit p id parent dele
 after_call refuses p (Begin session beginning at) = after_begin p session beginning at
 after_call refuses p (Append session window) = after_append p session window
 after_call refuses p (Settle session parcel) = after_settle refuses p session parcel
-after_call refuses p (Stop session parcel settled) = after_stop refuses p session parcel settled
+after_call refuses p (Stop session parcel settled) = after_some refuses p session parcel settled
 after_call refuses p (Record session at) = after_record p session at
 after_call refuses p (Conclude session at) = after_conclude p session at
 
@@ -56,12 +71,11 @@ pub record IsPageOf (db : DatabaseValue) (chosen : Choice) (w : WindowValue) : T
   pub is : w ≡ page db since goal limit chosen
 
 -- a call of a run: it is one on the run's session, which begins no session and writes nothing of its own; its messages
--- are what a source answers under a choice, and a settling that stops has settled no more than the parcel has
+-- are what a source answers under a choice
 abbrev pub IsFrom : DatabaseValue → Choice → SessionId → Call → Type 0
 IsFrom source chosen run (Append session window) = (session ≡ run) × IsPageOf source chosen window
 IsFrom source chosen run (Settle session parcel) = (session ≡ run) × (parcel ≡ open_revs source parcel.asked)
-IsFrom source chosen run (Stop session parcel settled) =
-    (session ≡ run) × (parcel ≡ open_revs source parcel.asked) × (settled ≤ length parcel.docs)
+IsFrom source chosen run (Stop session parcel settled) = (session ≡ run) × (parcel ≡ open_revs source parcel.asked)
 IsFrom source chosen run (Record session at) = session ≡ run
 IsFrom source chosen run (Conclude session at) = session ≡ run
 IsFrom source chosen run call = ⊥

@@ -1,5 +1,5 @@
 -- What calls keep: the law, what covers, and the windows that are stored.
-use Rattle.std.proofs.Common.{◌≡◌, ℕ, ◌<◌, ◌^◌, ◌==◌, Bool, cond, List, [], ◌∷◌, Option, Some, None, Result, Ok, Err, take, length, refl, sym, ap, ◌∙◌, subst, inl, inr, arith}
+use Rattle.std.proofs.Common.{◌≡◌, ℕ, min, ◌<◌, ◌^◌, ◌==◌, Bool, cond, List, [], ◌∷◌, Option, Some, None, Result, Ok, Err, take, length, refl, sym, ap, ◌∙◌, subst, inl, inr, arith}
 use Rattle.std.proofs.lemmas.Bool.{cond_both}
 use Rattle.rev_core.specs.Rev.{RevId}
 use Rattle.rev_tree.specs.declared.origin.SessionId.{SessionId}
@@ -29,7 +29,7 @@ use Rattle.repl_peer.proofs.lemmas.peer.LaterPeers.{IsLaterPeer-same, IsLaterPee
 use Rattle.repl_peer.proofs.lemmas.peer.CallsKeepLaw.{takes, append_law, append_later, record_law, record_later, conclude_law, conclude_later}
 use Rattle.repl_peer.proofs.lemmas.session.SettlingKeepsLaw.{settle_told, after_settle_law, after_stop_law}
 use Rattle.repl_target.specs.ties.Ties.{IsTiedWindow}
-use Rattle.repl_target.specs.replication.Calls.{Call, Load, Edit, Begin, Append, Settle, Stop, Record, Conclude, after_call, after_calls, IsPageOf, IsFrom, AllFrom, EachStored}
+use Rattle.repl_target.specs.replication.Calls.{Call, Load, Edit, Begin, Append, Settle, Stop, Record, Conclude, after_call, after_calls, most_settled, IsPageOf, IsFrom, AllFrom, EachStored}
 use Rattle.repl_target.proofs.lemmas.ties.TiedPages.{page_within, IsTiedWindow-page}
 
 -- ---- pages
@@ -54,7 +54,7 @@ call_law refuses source chosen run p (Append session window) law from l =
     let w = page_window source chosen window law from.1 in
     (append_law refuses p session window w.0 w.1 l, append_later refuses p session window w.0 w.1 l)
 call_law refuses source chosen run p (Settle session parcel) law from l = after_settle_law refuses p session parcel l
-call_law refuses source chosen run p (Stop session parcel settled) law from l = after_stop_law refuses p session parcel settled l
+call_law refuses source chosen run p (Stop session parcel settled) law from l = after_stop_law refuses p session parcel (min settled (most_settled refuses p session parcel)) l
 call_law refuses source chosen run p (Record session at) law from l = (record_law refuses p session at l, record_later refuses p session at l)
 call_law refuses source chosen run p (Conclude session at) law from l = (conclude_law refuses p session at l, conclude_later refuses p session at l)
 
@@ -164,7 +164,7 @@ module _ (S : SessionValue → Type 0) (stays : (s t : SessionValue) → Stays s
   call_keeps refuses p (Begin session beginning at) b h = each-begun p (new_session session beginning at) (begin_answer p session beginning) b h
   call_keeps refuses p (Append session window) b h = each-on p session (λ s. with_window window s (append_in window s)) (λ s m own e. each-window window s (append_in window s) refl (b s m own) e) h
   call_keeps refuses p (Settle session parcel) b h = each-settle refuses p session parcel h
-  call_keeps refuses p (Stop session parcel settled) b h = each-stop refuses p session parcel settled h
+  call_keeps refuses p (Stop session parcel settled) b h = each-stop refuses p session parcel (min settled (most_settled refuses p session parcel)) h
   call_keeps refuses p (Record session at) b h = each-on p session (recorded_at at) (λ s m own e. stays s (recorded_at at s) (record { id = refl; rep = refl; life = refl; start = refl; windows = refl }) e) h
   call_keeps refuses p (Conclude session at) b h = each-on p session (λ s. cond (low_water s.front == s.goal) (recorded_at at s) s) (λ s m own. each-conclude at s) h
 

@@ -1,5 +1,5 @@
 -- Documents as a source hands them over, and what settling them keeps.
-use Rattle.std.proofs.Common.{◌≡◌, ℕ, zero, suc, Bool, true, List, [], ◌∷◌, ◌++◌, map, take, Option, Some, None, unwrap_or, refl, sym, ◌∙◌, subst, inl, inr}
+use Rattle.std.proofs.Common.{◌≡◌, ℕ, min, zero, suc, Bool, true, List, [], ◌∷◌, ◌++◌, map, take, Option, Some, None, unwrap_or, refl, sym, ◌∙◌, subst, inl, inr}
 use Rattle.std.specs.List.{AllByRecursion, list_any}
 use Rattle.std.proofs.lemmas.Bool.{cond_both}
 use Rattle.rev_core.specs.Rev.{RevId}
@@ -20,8 +20,8 @@ use Rattle.couch_base.specs.Put.{put_answer, after_put}
 use Rattle.repl_peer.specs.peer.Peer.{PeerValue, SessionValue, session_in, with_session}
 use Rattle.repl_peer.specs.peer.Covered.{refusal_of, covers_window}
 use Rattle.repl_peer.specs.session.Sessions.{on_found}
-use Rattle.repl_peer.specs.session.Settling.{Settling, fed, with_arrival, is_full, settle_as, settle_one, settle_docs, settling_of, with_done, after_documents, after_settle, after_stop}
-use Rattle.repl_target.specs.replication.Calls.{Call, Load, Edit, Begin, Append, Settle, Stop, Record, Conclude, after_call, after_calls, IsFrom, AllFrom}
+use Rattle.repl_peer.specs.session.Settling.{Settling, fed, with_arrival, is_full, settle_as, settle_one, settle_docs, settling_of, with_done, after_documents, after_settle}
+use Rattle.repl_target.specs.replication.Calls.{Call, Load, Edit, Begin, Append, Settle, Stop, Record, Conclude, after_call, after_calls, after_some, most_settled, IsFrom, AllFrom}
 use Rattle.repl_peer.specs.declared.fault.Reason.{Reason}
 use Rattle.repl_peer.proofs.lemmas.session.SettlingKeepsLaw.{LeavesAfter, after_settle_ends, after_stop_ends}
 use Rattle.repl_peer.proofs.lemmas.Members.{Among-filter, among_test}
@@ -109,7 +109,7 @@ module _ (source : DatabaseValue) (P : DatabaseValue → Type 0) (puts : (db : D
   call-keeps refuses chosen run p (Begin session beginning at) from h = absurd from
   call-keeps refuses chosen run p (Append session window) from h = found-same p _ (session_in p.sessions session) h
   call-keeps refuses chosen run p (Settle session parcel) from h = parcel-settled refuses p session parcel (after_settle refuses p session parcel) (handed parcel from.1) (after_settle_ends refuses p session parcel) h
-  call-keeps refuses chosen run p (Stop session parcel settled) from h = parcel-settled refuses p session parcel (after_stop refuses p session parcel settled) (handed parcel from.1) (after_stop_ends refuses p session parcel settled) h
+  call-keeps refuses chosen run p (Stop session parcel settled) from h = parcel-settled refuses p session parcel (after_some refuses p session parcel settled) (handed parcel from.1) (after_stop_ends refuses p session parcel (min settled (most_settled refuses p session parcel))) h
   call-keeps refuses chosen run p (Record session at) from h = found-same p _ (session_in p.sessions session) h
   call-keeps refuses chosen run p (Conclude session at) from h = found-same p _ (session_in p.sessions session) h
 

@@ -1,5 +1,5 @@
 -- A replication leaves its two peers tied to every other one as they were.
-use Rattle.std.proofs.Common.{◌≡◌, ◌≢◌, ℕ, Bool, List, [], ◌∷◌, Option, Some, None, Result, Ok, Err, refl, sym, ap, ◌∙◌, subst, inl, inr}
+use Rattle.std.proofs.Common.{◌≡◌, ◌≢◌, ℕ, min, Bool, List, [], ◌∷◌, Option, Some, None, Result, Ok, Err, refl, sym, ap, ◌∙◌, subst, inl, inr}
 use Rattle.std.proofs.lemmas.Bool.{cond_both, both_ways, eq-eqb}
 use Rattle.rev_tree.specs.declared.origin.SessionId.{SessionId}
 use Rattle.doc_json.specs.Document.{Document}
@@ -16,7 +16,7 @@ use Rattle.repl_peer.specs.peer.Law.{LawfulSessions}
 use Rattle.repl_peer.specs.logs.Checkpoint.{rep_between}
 use Rattle.repl_peer.specs.logs.Logs.{put_by, put_entry_answer}
 use Rattle.repl_peer.specs.session.Sessions.{on_found, new_session, begun}
-use Rattle.repl_peer.specs.session.Settling.{settle_docs, settling_of, with_done, after_documents, after_settle, after_stop}
+use Rattle.repl_peer.specs.session.Settling.{settle_docs, settling_of, with_done, after_documents, after_settle}
 use Rattle.repl_peer.specs.declared.fault.TargetFault.{TargetFault}
 use Rattle.repl_peer.proofs.lemmas.peer.CallsKeepLaw.{begin_later}
 use Rattle.repl_peer.proofs.lemmas.session.SettlingKeepsLaw.{LeavesAfter, after_settle_ends, after_stop_ends}
@@ -24,8 +24,8 @@ use Rattle.repl_peer.proofs.lemmas.logs.PutChangesLogsAlone.{logs_later}
 use Rattle.repl_target.specs.declared.replication.Plan.{Plan}
 use Rattle.repl_target.specs.ties.Ties.{IsTiedPair, AreTiedBackups, IsTiedWith, KeepsOthersTied, StaysTied}
 use Rattle.repl_target.specs.replication.Replication.{beginning_between, begins_answer, after_begins}
-use Rattle.repl_target.specs.replication.Calls.{Call, Load, Edit, Begin, Append, Settle, Stop, Record, Conclude, after_call, after_calls, IsFrom, AllFrom, IsLeft}
-use Rattle.repl_target.specs.replication.Leaves.{IsPut, Leaves}
+use Rattle.repl_target.specs.replication.Calls.{Call, Load, Edit, Begin, Append, Settle, Stop, Record, Conclude, after_call, after_calls, after_some, most_settled, IsFrom, AllFrom, IsLeft}
+use Rattle.repl_target.specs.replication.Leaves.{IsPut}
 use Rattle.repl_target.proofs.lemmas.replication.BegunSessions.{fresh_of}
 use Rattle.repl_target.proofs.lemmas.replication.CallLaws.{Stays, Brings, call_law, call_keeps}
 use Rattle.repl_target.proofs.lemmas.replication.ReplicationAsCalls.{begun_law, left_law}
@@ -61,7 +61,7 @@ call_log refuses source chosen run p (Edit id parent deleted body) from = absurd
 call_log refuses source chosen run p (Begin session beginning at) from = absurd from
 call_log refuses source chosen run p (Append session window) from = found_log p _ (session_in p.sessions session)
 call_log refuses source chosen run p (Settle session parcel) from = settled_log refuses p session parcel (after_settle refuses p session parcel) (after_settle_ends refuses p session parcel)
-call_log refuses source chosen run p (Stop session parcel settled) from = settled_log refuses p session parcel (after_stop refuses p session parcel settled) (after_stop_ends refuses p session parcel settled)
+call_log refuses source chosen run p (Stop session parcel settled) from = settled_log refuses p session parcel (after_some refuses p session parcel settled) (after_stop_ends refuses p session parcel (min settled (most_settled refuses p session parcel)))
 call_log refuses source chosen run p (Record session at) from = found_log p _ (session_in p.sessions session)
 call_log refuses source chosen run p (Conclude session at) from = found_log p _ (session_in p.sessions session)
 

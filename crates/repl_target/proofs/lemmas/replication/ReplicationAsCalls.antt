@@ -1,6 +1,7 @@
 -- A replication by one thread is calls on the target whose messages are what the source answers.
-use Rattle.std.proofs.Common.{◌≡◌, ℕ, zero, suc, ◌⊎◌, ◌==◌, ◌≤◌, Bool, true, List, [], ◌∷◌, ◌++◌, Option, Some, None, Result, Ok, Err, IfOk, OnOk, take, length, refl, sym, ap, ◌∙◌, subst, inl, inr, arith}
+use Rattle.std.proofs.Common.{◌≡◌, ℕ, min, zero, suc, ◌⊎◌, ◌==◌, ◌≤◌, Bool, true, List, [], ◌∷◌, ◌++◌, Option, Some, None, Result, Ok, Err, IfOk, OnOk, take, length, refl, sym, ap, ◌∙◌, subst, inl, inr, arith}
 use Rattle.std.proofs.lemmas.Bool.{and_parts, cond-true, cond-false, both_ways, eq-eqb, ne_eqb, leb-true, ltb-true}
+use Rattle.std.proofs.Math.Nat.{min-eq_left}
 use Rattle.std.specs.declared.alloc.AllocError.{AllocError}
 use Rattle.rev_tree.specs.declared.origin.SessionId.{SessionId}
 use Rattle.doc_json.specs.Document.{Document}
@@ -25,15 +26,13 @@ use Rattle.repl_target.specs.replication.Replication.{Reading, is_batch, plan_an
 use Rattle.repl_target.proofs.lemmas.replication.BegunSessions.{fresh_of}
 use Rattle.couch_base.specs.ListLaws.{some_is, none_some}
 use Rattle.couch_base.specs.MemberLaws.{any_from}
-use Rattle.repl_target.specs.replication.Calls.{Call, Append, Settle, Stop, Record, Conclude, after_call, after_calls, IsPageOf, IsFrom, AllFrom, IsGrown, IsLeft}
+use Rattle.repl_target.specs.replication.Calls.{Call, Append, Settle, Stop, Record, Conclude, after_call, after_calls, after_some, most_settled, settled_of, IsPageOf, IsFrom, AllFrom, IsGrown, IsLeft}
 use Rattle.repl_peer.specs.peer.Backups.{BackupValue}
 use Rattle.repl_target.specs.ties.Ties.{IsTiedPair, IsTiedWith}
 use Rattle.repl_target.specs.replication.Leaves.{IsPut}
 use Rattle.repl_peer.specs.peer.Later.{IsLaterPeer}
-use Rattle.repl_peer.specs.logs.Logs.{after_put_entry}
 use Rattle.repl_log.specs.Entry.{EntryValue}
 use Rattle.repl_peer.proofs.lemmas.peer.LaterPeers.{IsLaterPeer-same, IsLaterPeer-later, session_found}
-use Rattle.repl_peer.proofs.lemmas.session.SettlingDocuments.{before-le}
 use Rattle.repl_peer.proofs.lemmas.peer.CallsKeepLaw.{begin_law, begin_later}
 use Rattle.repl_target.proofs.lemmas.replication.SourceFeedStored.{planned_batch}
 use Rattle.repl_target.proofs.lemmas.replication.CallLaws.{calls_law, IsRunOf}
@@ -104,24 +103,31 @@ grown-later refuses source chosen run p q r h k =
 pub grown-one : (refuses : Document → Bool) (source : DatabaseValue) (chosen : Choice) (run : SessionId) (p q : PeerValue) (c : Call) → IsFrom source chosen run c → q ≡ after_call refuses p c → IsGrown refuses source chosen run p q
 grown-one refuses source chosen run p q c from is = (c ∷ [], (from, tt), is)
 
--- a settling that found no memory stopped within the parcel, or changed nothing
+-- a settling that found no memory stopped within what is settled where some is found, or changed nothing
 pub settle_stops : (refuses : Document → Bool) (p : PeerValue) (id : SessionId) (parcel : ParcelValue) (result : Result Settled TargetFault) (q : PeerValue) → SettleGives refuses p id parcel result q → (n : ℕ) → stopped_at result ≡ Some n
-    → (q ≡ p) ⊎ (n ≤ length parcel.docs) × (q ≡ after_stop refuses p id parcel n)
+    → (q ≡ p) ⊎ (n ≤ most_settled refuses p id parcel) × (q ≡ after_some refuses p id parcel n)
 settle_stops refuses p id parcel result q gives n is = go (settle_check p id parcel) gives
   where
-    stops : q ≡ after_stop refuses p id parcel n
-    stops = subst (λ o. q ≡ settle_left refuses p id parcel o) is (settle_gives refuses p id parcel result q gives)
+    -- so many as were settled
+    so_many : (s : SessionValue) (w : WindowValue) (m : ℕ) → m ≡ n → m ≤ settled_before refuses w (settling_of p s) parcel.docs → q ≡ after_documents refuses p s w (take m parcel.docs)
+        → (n ≤ settled_before refuses w (settling_of p s) parcel.docs) × (q ≡ after_documents refuses p s w (take (min n (settled_before refuses w (settling_of p s) parcel.docs)) parcel.docs))
+    so_many s w m same low peer =
+        let most = settled_before refuses w (settling_of p s) parcel.docs in
+        let within : n ≤ most = subst (λ k. k ≤ most) same low in
+        (within, peer ∙ ap (λ k. after_documents refuses p s w (take k parcel.docs)) (same ∙ sym (min-eq_left within)))
 
-    within : (s : SessionValue) (w : WindowValue) (r : Result Settled TargetFault) → SettlesAt refuses p parcel s w r q → stopped_at r ≡ Some n → n ≤ length parcel.docs
+    within : (s : SessionValue) (w : WindowValue) (r : Result Settled TargetFault) → SettlesAt refuses p parcel s w r q → stopped_at r ≡ Some n
+        → (n ≤ settled_before refuses w (settling_of p s) parcel.docs) × (q ≡ after_documents refuses p s w (take (min n (settled_before refuses w (settling_of p s) parcel.docs)) parcel.docs))
     within s w (Ok settled) h e = absurd (none_some n e)
     within s w (Err (faults.Uncovered seq uncovered rev)) h e = absurd (none_some n e)
-    within s w (Err (faults.Stopped m rest causes.Memory)) h e = omega (arith, h.0.within, before-le refuses w (settling_of p s) parcel.docs, some_is m n e)
+    within s w (Err (faults.Stopped m rest causes.Memory)) h e = so_many s w m (some_is m n e) h.0.within h.0.peer
     within s w (Err (faults.Stopped m rest causes.SeqFull)) h e = absurd (none_some n e)
     within s w (Err fault) h e = absurd h
 
-    go : (r : Result (SessionValue × WindowValue) TargetFault) → Settles refuses p parcel r result q → (q ≡ p) ⊎ (n ≤ length parcel.docs) × (q ≡ after_stop refuses p id parcel n)
+    go : (r : Result (SessionValue × WindowValue) TargetFault) → Settles refuses p parcel r result q
+        → (q ≡ p) ⊎ (n ≤ settled_of refuses p parcel r) × (q ≡ after_front refuses p parcel (min n (settled_of refuses p parcel r)) r)
     go (Err fault) h = inl h.1
-    go (Ok at) h = inr (within at.0 at.1 result h is, stops)
+    go (Ok at) h = inr (within at.0 at.1 result h is)
 
 -- a settling of what the source answers, for the run's session
 pub settled_grown : (refuses : Document → Bool) (source : DatabaseValue) (chosen : Choice) (run : SessionId) (p q : PeerValue) (parcel : ParcelValue) (result : Result Settled TargetFault) → parcel ≡ open_revs source parcel.asked → SettleGives refuses p run parcel result q
@@ -133,7 +139,7 @@ settled_grown refuses source chosen run p q parcel result from gives = go (stopp
     go (Some n) is =
         elim (settle_stops refuses p run parcel result q gives n is) [
           | inl same ↦ subst (IsGrown refuses source chosen run p) (sym same) (grown-same refuses source chosen run p)
-          | inr stops ↦ grown-one refuses source chosen run p q (Stop run parcel n) (refl, from, stops.0) stops.1
+          | inr stops ↦ grown-one refuses source chosen run p q (Stop run parcel n) (refl, from) stops.1
         ]
 
 -- ---- windows
