@@ -1,9 +1,8 @@
 -- What is kept of the target under the lock stays kept by each call.
-use Rattle.std.proofs.Common.{◌≡◌, ℕ, ◌+◌, ◌≤◌, Bool, Option, Some, Result, Ok, Err, OnOk, OnErr, length, refl, sym, ap, ◌∙◌, subst, arith}
+use Rattle.std.proofs.Common.{◌≡◌, ℕ, ◌+◌, ◌≤◌, Bool, Option, Some, Result, Ok, Err, IfSome, length, refl, sym, ap, ◌∙◌, subst, arith}
 use Rattle.std.proofs.lemmas.Option.{same_Some}
 use Rattle.rev_tree.specs.declared.origin.SessionId.{SessionId}
 use Rattle.doc_json.specs.Document.{Document}
-use Rattle.doc_json.specs.Chosen.{Choice}
 use Rattle.couch_base.specs.Database.{DatabaseValue}
 use Rattle.couch_base.specs.Feed.{WindowValue}
 use Rattle.couch_base.specs.Messages.{ParcelValue}
@@ -13,55 +12,85 @@ use Rattle.repl_peer.specs.declared.fault.TargetFault.TheVariants as refusals
 use Rattle.repl_peer.specs.peer.Peer.{PeerValue, SessionValue}
 use Rattle.repl_peer.specs.peer.Law.{LawfulSessions}
 use Rattle.repl_peer.specs.session.Settling.{settle_check, SettlesAt, Settles, SettleGives}
-use Rattle.repl_target.specs.replication.Calls.{Call, IsFrom, IsGrown, after_call}
+use Rattle.repl_target.specs.declared.replication.Plan.{Plan}
+use Rattle.repl_target.specs.replication.Calls.{Call, Append, Record, IsFrom, after_call}
 use Rattle.repl_target.proofs.lemmas.replication.ReplicationAsCalls.{grown-same, grown-later, grown-one, settled_grown}
 use Rattle.repl_pool.specs.Grown.{IsAnswerOf, GrownPeer, TargetKeeps}
+use Rattle.repl_pool.specs.Paging.{IsNext, IsOneLess, KeepsPages, HasNoWindows, LetsStore}
+use Rattle.repl_pool.proofs.Paging.{next_page, starts_pages, lets_store, pages_record, pages_settle, pages_append}
+use Rattle.repl_target.specs.replication.Replication.{has_left}
+use Rattle.repl_peer.specs.session.Sessions.{GivesUnlessMemory, append_answer, after_append, after_record}
 use Rattle.repl_peer.specs.session.ReadCounts.{read_in, taken}
-use Rattle.repl_target.proofs.lemmas.replication.ReadCounts.{settle_reads}
+use Rattle.repl_target.proofs.lemmas.replication.ReadCounts.{append_reads, record_reads, settle_reads}
 use Rattle.repl_peer.proofs.lemmas.session.SettlingDocuments.{before-le}
 
-module _ {F : Type 0} (refuses : F → Document → Bool) (source : DatabaseValue) (chosen : Choice) where
-  pub starts : (given : F × PeerValue) (session : SessionId) → read_in given.1.sessions session ≡ 0 → TargetKeeps refuses source chosen (Some (given, session)) session 0 given
-  starts given session none = (given, refl, (refl, grown-same (refuses given.0) source chosen session given.1), none)
+module _ {F : Type 0} (refuses : F → Document → Bool) (source : DatabaseValue) (plan : Plan) where
+  pub starts : (given : F × PeerValue) (session : SessionId) → read_in given.1.sessions session ≡ 0 → HasNoWindows session given.1.sessions → TargetKeeps refuses source plan (Some (given, session)) session 0 plan.stop_after given
+  starts given session none fresh = (given, refl, (refl, grown-same (refuses given.0) source plan.chosen session given.1), none, starts_pages source plan session given.1.sessions fresh)
 
   -- by a call that reads nothing
-  pub grows : (given : Option ((F × PeerValue) × SessionId)) (session : SessionId) (total : ℕ) (now next : F × PeerValue) (c : Call) → TargetKeeps refuses source chosen given session total now → next.0 ≡ now.0 → IsFrom source chosen session c
-      → read_in (after_call (refuses now.0) now.1 c).sessions session ≡ read_in now.1.sessions session → next.1 ≡ after_call (refuses now.0) now.1 c → TargetKeeps refuses source chosen given session total next
-  grows given session total now next c h same from reads is =
+  pub grows : (given : Option ((F × PeerValue) × SessionId)) (session : SessionId) (total : ℕ) (more left : Option ℕ) (now next : F × PeerValue) (c : Call) → TargetKeeps refuses source plan given session total more now → next.0 ≡ now.0 → IsFrom source plan.chosen session c
+      → read_in (after_call (refuses now.0) now.1 c).sessions session ≡ read_in now.1.sessions session → next.1 ≡ after_call (refuses now.0) now.1 c → KeepsPages source plan session left next.1.sessions → TargetKeeps refuses source plan given session total left next
+  grows given session total more left now next c h same from reads is pages =
       let g = h.0 in
       let grown = h.2 in
-      let is2 : next.1 ≡ after_call (refuses g.0) now.1 c = is ∙ ap (λ f. after_call (refuses f) now.1 c) grown.0 in
-      (g, h.1, (same ∙ grown.0, grown-later (refuses g.0) source chosen session g.1 now.1 next.1 grown.1 (grown-one (refuses g.0) source chosen session now.1 next.1 c from is2)), ap (λ (q : PeerValue). read_in q.sessions session) is ∙ reads ∙ h.3)
+      let is2 : next.1 ≡ after_call (refuses g.0) now.1 c = is ∙ ap (λ f. after_call (refuses f) now.1 c) grown.0 in (
+        g,
+        h.1,
+        (same ∙ grown.0, grown-later (refuses g.0) source plan.chosen session g.1 now.1 next.1 grown.1 (grown-one (refuses g.0) source plan.chosen session now.1 next.1 c from is2)),
+        ap (λ (q : PeerValue). read_in q.sessions session) is ∙ reads ∙ h.3,
+        pages,
+      )
+
+  -- a page is stored
+  pub appends : (given : Option ((F × PeerValue) × SessionId)) (session : SessionId) (total : ℕ) (more less : Option ℕ) (now next : F × PeerValue) (w : WindowValue) (done : Unit {0}) → TargetKeeps refuses source plan given session total more now → next.0 ≡ now.0
+      → IsNext source plan w → IsOneLess more less → GivesUnlessMemory (Ok done) (append_answer now.1 session w) → next.1 ≡ after_append now.1 session w → TargetKeeps refuses source plan given session total less next
+  appends given session total more less now next w done h same from one gives is =
+      grows given session total more less now next (Append session w) h same (refl, next_page source plan w from) (append_reads now.1 session w) is
+      (pages_append source plan session more less now.1 w next.1 done from one gives is h.4)
 
   -- or not at all
-  pub stays : (given : Option ((F × PeerValue) × SessionId)) (session : SessionId) (total : ℕ) (now next : F × PeerValue) → TargetKeeps refuses source chosen given session total now → next.0 ≡ now.0 → next.1 ≡ now.1 → TargetKeeps refuses source chosen given session total next
-  stays given session total now next h same is =
-      let grown = h.2 in
-      (h.0, h.1, (same ∙ grown.0, subst (IsGrown (refuses h.0.0) source chosen session h.0.1) (sym is) grown.1), ap (λ (q : PeerValue). read_in q.sessions session) is ∙ h.3)
+  pub stays : (given : Option ((F × PeerValue) × SessionId)) (session : SessionId) (total : ℕ) (more : Option ℕ) (now next : F × PeerValue) → TargetKeeps refuses source plan given session total more now → next.0 ≡ now.0 → next.1 ≡ now.1 → TargetKeeps refuses source plan given session total more next
+  stays given session total more now next h same is = subst (TargetKeeps refuses source plan given session total more) (λ i. (sym same i, sym is i)) h
 
-  -- a call that is made or refused
-  pub tries : {A E : Type 0} (given : Option ((F × PeerValue) × SessionId)) (session : SessionId) (total : ℕ) (now next : F × PeerValue) (c : Call) (r : Result A E) → TargetKeeps refuses source chosen given session total now → next.0 ≡ now.0 → IsFrom source chosen session c
-      → read_in (after_call (refuses now.0) now.1 c).sessions session ≡ read_in now.1.sessions session → OnOk r (next.1 ≡ after_call (refuses now.0) now.1 c) → OnErr r (next.1 ≡ now.1) → TargetKeeps refuses source chosen given session total next
-  tries given session total now next c (Ok a) h same from reads ok err = grows given session total now next c h same from reads ok
-  tries given session total now next c (Err e) h same from reads ok err = stays given session total now next h same err
+  -- a recording
+  pub records : (given : Option ((F × PeerValue) × SessionId)) (session : SessionId) (total : ℕ) (more : Option ℕ) (now next : F × PeerValue) (at : ℕ) → TargetKeeps refuses source plan given session total more now → next.0 ≡ now.0
+      → next.1 ≡ after_record now.1 session at → TargetKeeps refuses source plan given session total more next
+  records given session total more now next at h same is =
+      grows given session total more more now next (Record session at) h same refl (record_reads now.1 session at) is (pages_record source plan session more now.1 at next.1 is h.4)
 
   -- a settling, however it ends
-  pub settles : (given : Option ((F × PeerValue) × SessionId)) (session : SessionId) (total : ℕ) (now next : F × PeerValue) (parcel : ParcelValue) (result : Result Settled TargetFault) → LawfulSessions (refuses now.0) now.1 → TargetKeeps refuses source chosen given session total now
-      → next.0 ≡ now.0 → IsAnswerOf source parcel → SettleGives (refuses now.0) now.1 session parcel result next.1 → (more : ℕ) → more ≡ total + taken result (length parcel.docs) → TargetKeeps refuses source chosen given session more next
-  settles given session total now next parcel result law h same from gives more is =
+  pub settles : (given : Option ((F × PeerValue) × SessionId)) (session : SessionId) (total : ℕ) (more : Option ℕ) (now next : F × PeerValue) (parcel : ParcelValue) (result : Result Settled TargetFault) → LawfulSessions (refuses now.0) now.1
+      → TargetKeeps refuses source plan given session total more now → next.0 ≡ now.0 → IsAnswerOf source parcel → SettleGives (refuses now.0) now.1 session parcel result next.1 → (sum : ℕ) → sum ≡ total + taken result (length parcel.docs)
+      → TargetKeeps refuses source plan given session sum more next
+  settles given session total more now next parcel result law h same from gives sum is =
       let g = h.0 in
       let grown = h.2 in
       let gives2 = subst (λ f. SettleGives (refuses f) now.1 session parcel result next.1) grown.0 gives in
       let reads = settle_reads (refuses now.0) now.1 session law parcel result next.1 gives in
       let was = h.3 in
-      let total_is : read_in next.1.sessions session ≡ more = omega (arith, reads, was, is) in
-      (g, h.1, (same ∙ grown.0, grown-later (refuses g.0) source chosen session g.1 now.1 next.1 grown.1 (settled_grown (refuses g.0) source chosen session now.1 next.1 parcel result from gives2)), total_is)
+      let total_is : read_in next.1.sessions session ≡ sum = omega (arith, reads, was, is) in (
+        g,
+        h.1,
+        (same ∙ grown.0, grown-later (refuses g.0) source plan.chosen session g.1 now.1 next.1 grown.1 (settled_grown (refuses g.0) source plan.chosen session now.1 next.1 parcel result from gives2)),
+        total_is,
+        pages_settle source plan session more (refuses now.0) now.1 parcel result next.1 gives h.4,
+      )
 
   -- where it is known which was given
-  pub from_given : (given : F × PeerValue) (run : SessionId) (session : SessionId) (total : ℕ) (now : F × PeerValue) → TargetKeeps refuses source chosen (Some (given, run)) session total now → GrownPeer refuses source chosen run given now × (read_in now.1.sessions run ≡ total)
-  from_given given run session total now h =
-      let same = same_Some (given, run) (h.0, session) h.1 in
-      (subst (λ (x : (F × PeerValue) × SessionId). GrownPeer refuses source chosen x.1 x.0 now) (sym same) h.2, subst (λ (x : (F × PeerValue) × SessionId). read_in now.1.sessions x.1 ≡ total) (sym same) h.3)
+  abbrev pub IsKnown : F × PeerValue → SessionId → ℕ → Option ℕ → F × PeerValue → Type 0
+  IsKnown given run total more now =
+      GrownPeer refuses source plan.chosen run given now × (read_in now.1.sessions run ≡ total) × KeepsPages source plan run more now.1.sessions
+
+  pub from_given : (given : F × PeerValue) (run : SessionId) (session : SessionId) (total : ℕ) (more : Option ℕ) (now : F × PeerValue) → TargetKeeps refuses source plan (Some (given, run)) session total more now → IsKnown given run total more now
+  from_given given run session total more now h =
+      subst (λ (x : (F × PeerValue) × SessionId). IsKnown x.0 x.1 total more now) (sym (same_Some (given, run) (h.0, session) h.1)) (h.2, h.3, h.4)
+
+  -- of the run's session the plan lets another window be stored, or not
+  pub given_lets : (given : Option ((F × PeerValue) × SessionId)) (session : SessionId) (total : ℕ) (more : Option ℕ) (now : F × PeerValue) (b : Bool) → TargetKeeps refuses source plan given session total more now → has_left more 0 ≡ b
+      → IfSome given (λ g. LetsStore plan g.1 b now.1.sessions)
+  given_lets given session total more now b h left =
+      subst (λ (o : Option ((F × PeerValue) × SessionId)). IfSome o (λ g. LetsStore plan g.1 b now.1.sessions)) (sym h.1) (lets_store source plan session more now.1.sessions b h.4 left)
 
 -- ---- no more documents are taken than a parcel has
 

@@ -1,6 +1,7 @@
 pub mod Sums
 pub mod ParcelRule
 pub mod WindowRule
+pub mod Paging
 pub mod Growing
 pub mod Steps
 pub mod Boarding

@@ -4,7 +4,6 @@ use Rattle.std.proofs.lemmas.Bool.{cond_both, false≢true}
 use Rattle.std.proofs.lemmas.Bool.Decides.{nat_tests}
 use Rattle.rev_tree.specs.declared.origin.SessionId.{SessionId}
 use Rattle.doc_json.specs.Document.{Document}
-use Rattle.doc_json.specs.Chosen.{Choice}
 use Rattle.couch_base.specs.Database.{DatabaseValue, LawfulDatabase}
 use Rattle.couch_base.specs.Feed.{chosen_feed}
 use Rattle.repl_peer.specs.declared.fault.Report.{Report}
@@ -34,17 +33,20 @@ use Rattle.repl_pool.specs.Boards.{HaveShown}
 use Rattle.repl_pool.specs.declared.gate.Place.{Place}
 use Rattle.repl_pool.specs.declared.fault.PoolFault.{PoolFault}
 use Rattle.repl_pool.specs.declared.fault.PoolFault.TheVariants as faults
-use Rattle.repl_pool.proofs.Growing.{from_given}
+use Rattle.repl_pool.specs.Paging.{HasNoWindows}
+use Rattle.repl_pool.proofs.Paging.{starts_pages, is_paged, closes_pages}
+use Rattle.repl_pool.proofs.Growing.{IsKnown, from_given}
 use Rattle.repl_pool.proofs.Ending.{ends_well}
 use Rattle.repl_pool.proofs.Halting.{halt_late}
 use Rattle.repl_pool.proofs.LowWater.{recorded_tells}
 
 -- ---- what was given
 
-module _ {F : Type 0} (refuses : F → Document → Bool) (db source : DatabaseValue) (origin : source ≡ db) (choice chosen : Choice) (choosing : chosen ≡ choice) (given : F × PeerValue) (run : SessionId) (o : Option ((F × PeerValue) × SessionId)) (is : o ≡ Some (given, run)) where
-  pub given_grown : (session : SessionId) (total : ℕ) (t : F × PeerValue) → TargetKeeps refuses source chosen o session total t → GrownPeer refuses db choice run given t × (read_in t.1.sessions run ≡ total)
-  given_grown session total t h =
-      from_given refuses db choice given run session total t (subst (λ c. TargetKeeps refuses db c (Some (given, run)) session total t) choosing (subst (λ s. TargetKeeps refuses s chosen (Some (given, run)) session total t) origin (subst (λ x. TargetKeeps refuses source chosen x session total t) is h)))
+module _ {F : Type 0} (refuses : F → Document → Bool) (db source : DatabaseValue) (origin : source ≡ db) (choice plan : Plan) (planning : plan ≡ choice) (given : F × PeerValue) (run : SessionId) (o : Option ((F × PeerValue) × SessionId)) (is : o ≡ Some (given, run)) where
+  pub given_grown : (session : SessionId) (total : ℕ) (more : Option ℕ) (t : F × PeerValue) → TargetKeeps refuses source plan o session total more t → IsKnown refuses db choice given run total more t
+  given_grown session total more t h =
+      from_given refuses db choice given run session total more t
+      (subst (λ c. TargetKeeps refuses db c (Some (given, run)) session total more t) planning (subst (λ s. TargetKeeps refuses s plan (Some (given, run)) session total more t) origin (subst (λ x. TargetKeeps refuses source plan x session total more t) is h)))
 
 -- ---- how a run ends
 
@@ -137,12 +139,14 @@ whole_of refuses source target target' plan n law l l' ok grown (Err why) w = tt
 
 -- no worker was started, for want of memory
 pub no_workers : {F : Type 0} (refuses : F → Document → Bool) (may_fill : Type 0) (may_stop : Place → Type 0) (plan : Plan) (start : ℕ) (source : PeerValue) (given : F × PeerValue) (counts : List ℕ) (source' after : PeerValue) (outcome : Result Report PoolFault) (fault : PoolFault) → fault ≡ faults.Memory
-    → ClosesRun plan start (Some fault) false source given.1 source' after outcome → EndsRun refuses may_fill may_stop plan start source given counts source' after outcome
-no_workers refuses may_fill may_stop plan start source given counts source' after outcome fault is e = record {
+    → HasNoWindows plan.session given.1.sessions → ClosesRun plan start (Some fault) false source given.1 source' after outcome → EndsRun refuses may_fill may_stop plan start source given counts source' after outcome
+no_workers refuses may_fill may_stop plan start source given counts source' after outcome fault is fresh e = record {
   fault = Some fault;
   complete = false;
   before = given.1;
   grown = grown-same (refuses given.0) source.db plan.chosen plan.session given.1;
+  more = plan.stop_after;
+  paged = starts_pages source.db plan plan.session given.1.sessions fresh;
   late = subst (IsHaltOn may_fill may_stop) (sym is) tt;
   read = λ none whole. absurd (false≢true whole);
   ends = e;
@@ -150,12 +154,14 @@ no_workers refuses may_fill may_stop plan start source given counts source' afte
 
 -- nor was one needed, since there was nothing to read
 pub nothing_read : {F : Type 0} (refuses : F → Document → Bool) (may_fill : Type 0) (may_stop : Place → Type 0) (plan : Plan) (start : ℕ) (source : PeerValue) (given : F × PeerValue) (counts : List ℕ) (source' after : PeerValue) (outcome : Result Report PoolFault)
-    → read_in given.1.sessions plan.session ≡ 0 → counts ≡ [] → ClosesRun plan start None true source given.1 source' after outcome → EndsRun refuses may_fill may_stop plan start source given counts source' after outcome
-nothing_read refuses may_fill may_stop plan start source given counts source' after outcome none empty e = record {
+    → read_in given.1.sessions plan.session ≡ 0 → counts ≡ [] → HasNoWindows plan.session given.1.sessions → ClosesRun plan start None true source given.1 source' after outcome → EndsRun refuses may_fill may_stop plan start source given counts source' after outcome
+nothing_read refuses may_fill may_stop plan start source given counts source' after outcome none empty fresh e = record {
   fault = None;
   complete = true;
   before = given.1;
   grown = grown-same (refuses given.0) source.db plan.chosen plan.session given.1;
+  more = plan.stop_after;
+  paged = starts_pages source.db plan plan.session given.1.sessions fresh;
   late = tt;
   read = λ _ _. none ∙ ap sum (sym empty);
   ends = e;
@@ -232,6 +238,8 @@ module _ {F : Type 0} (refuses : F → Document → Bool) (may_fill : Type 0) (m
         audited = tied_clean (refuses target.0) source.1 target.1 source'.1 target'.1 l' tied;
         put = inr (record {
           begun = ok;
+          paged = is_paged (refuses target.0) source.1 target.1 plan target'.1 e.more law (subst (λ f. LawfulSessions (refuses f) (after_begins source.1 target.1 plan)) same (subst (LawfulSessions (refuses begun.0)) is lawful_begun)) ok since l'
+              (closes_pages source.1.db plan e.more start e.fault e.complete source.1 e.before source'.1 target'.1 outcome e.paged e.ends);
           put = late.1;
           unfinished = run_tells refuses may_fill may_stop source.1 target.1 begun plan start counts source'.1 target'.1 law lawful_begun ok is first outcome e;
         });

@@ -1,7 +1,8 @@
 -- What a run shows on a board: docs/PROFILE.md, "The pool".
-use Rattle.std.specs.Prelude.{◌≡◌, ◌+◌, ◌≤◌, ℕ, true, List, [], ◌∷◌, ◌++◌, Option, None, Some, Result, Ok, Err, length, option_to_list}
+use Rattle.std.specs.Prelude.{◌≡◌, ◌+◌, ◌<◌, ◌≤◌, ℕ, true, List, [], ◌∷◌, ◌++◌, Option, None, Some, Result, Ok, Err, length, option_to_list}
 use Rattle.std.specs.List.{All}
 use Rattle.progress_board.specs.Seats.{CameWith, seen_read, seen_settled}
+use Rattle.progress_board.specs.Rule.{most}
 use Rattle.progress_board.specs.declared.board.Board.{Board}
 use Rattle.progress_board.specs.declared.seat.BoardSeat.{BoardSeat}
 use Rattle.repl_pool.specs.Sums.{total}
@@ -77,6 +78,11 @@ HasRead None n s t = t ≡ s
 HasRead (Some b) n (Some s) (Some t) =
     WorksAt b t × (t.number ≡ s.number) × (t.read ≡ s.read + n) × (t.settled ≡ s.settled)
 HasRead (Some b) n s t = ⊥
+
+-- n documents more would pass the limit of what a seat shows as read
+abbrev pub IsFullFor : ℕ → Option BoardSeat → Type 0
+IsFullFor n None = ⊥
+IsFullFor n (Some s) = most < s.read + n
 
 -- no more are shown as settled than as read, were it n more
 abbrev pub HasRoom : Option Board → ℕ → Option BoardSeat → Type 0

@@ -63,6 +63,16 @@ AllowsOn may_fill may_stop halt = Unit {0}
 abbrev pub Allows : (Place → Type 0) → Halt → Type 0
 Allows may_stop halt = AllowsOn ⊥ may_stop halt
 
+-- a full count, and a full board, are told only where they are due
+abbrev pub SaysFull : Type 0 → Type 0 → Halt → Type 0
+SaysFull count board halts.CountFull = count
+SaysFull count board halts.BoardFull = board
+SaysFull count board halt = Unit {0}
+
+-- neither is told
+abbrev pub SaysNoFull : Halt → Type 0
+SaysNoFull halt = SaysFull ⊥ ⊥ halt
+
 -- the fault is that of one of three halts
 abbrev pub IsOneFault : Option Halt → Option Halt → Option Halt → PoolFault → Type 0
 IsOneFault a b c fault =

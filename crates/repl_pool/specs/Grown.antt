@@ -9,6 +9,7 @@ use Rattle.repl_peer.specs.peer.Peer.{PeerValue}
 use Rattle.repl_target.specs.replication.Calls.{IsGrown, IsLeft}
 use Rattle.repl_target.specs.declared.replication.Plan.{Plan}
 use Rattle.repl_peer.specs.session.ReadCounts.{read_in}
+use Rattle.repl_pool.specs.Paging.{KeepsPages}
 
 -- what the source answers to what was asked
 abbrev pub IsAnswerOf : DatabaseValue → ParcelValue → Type 0
@@ -24,10 +25,10 @@ module _ {F : Type 0} (refuses : F → Document → Bool) where
   abbrev pub LeftPeer : PeerValue → F × PeerValue → Plan → F × PeerValue → Type 0
   LeftPeer source given plan now = (now.0 ≡ given.0) × IsLeft (refuses given.0) source given.1 plan now.1
 
-  -- it is known which peer was given, and which session is the run's: the peer has grown from it, and the session has
-  -- read so much
-  abbrev pub TargetKeeps : DatabaseValue → Choice → Option ((F × PeerValue) × SessionId) → SessionId → ℕ → F × PeerValue
-      → Type 0
-  TargetKeeps source chosen given session total now =
-      (g : F × PeerValue) × (given ≡ Some (g, session)) × GrownPeer source chosen session g now
-      × (read_in now.1.sessions session ≡ total)
+  -- it is known which peer was given, and which session is the run's: the peer has grown from it, the session has read
+  -- so much, its windows are pages of the source, and the plan allows so many more
+  abbrev pub TargetKeeps : DatabaseValue → Plan → Option ((F × PeerValue) × SessionId) → SessionId → ℕ → Option ℕ
+      → F × PeerValue → Type 0
+  TargetKeeps source plan given session total more now =
+      (g : F × PeerValue) × (given ≡ Some (g, session)) × GrownPeer source plan.chosen session g now
+      × (read_in now.1.sessions session ≡ total) × KeepsPages source plan session more now.1.sessions

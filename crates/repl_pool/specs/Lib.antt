@@ -4,6 +4,7 @@ pub mod Windows
 pub mod Gates
 pub mod Faults
 pub mod Boards
+pub mod Paging
 pub mod Grown
 pub mod Workers
 pub mod Gathered

@@ -26,6 +26,7 @@ use Rattle.repl_peer.specs.declared.fault.TargetFault.TheVariants as refusals
 use Rattle.repl_target.specs.declared.replication.Plan.{Plan}
 use Rattle.repl_pool.specs.Faults.{early_answer, IsLateOn, IsHaltOn}
 use Rattle.repl_pool.specs.Grown.{LeftPeer}
+use Rattle.repl_pool.specs.Paging.{IsPaged, KeepsPages}
 use Rattle.repl_pool.specs.declared.gate.Place.{Place}
 use Rattle.repl_pool.specs.declared.fault.PoolFault.{PoolFault}
 use Rattle.repl_pool.specs.declared.fault.PoolFault.TheVariants as faults
@@ -94,9 +95,9 @@ pub data ClosesRun (plan : Plan) (start : ℕ) (fault : Option PoolFault) (compl
       → PutsEntry source after source' plan (Err why)
       → ClosesRun plan start fault complete source before source' after (Err why)
 
--- with what is known of the workers: the target had grown from the given one, each halt stands where the gate allows
--- it, or is what a worker's call was refused for, and where nothing was stopped and all was got, the session had read
--- what the fetchers fetched
+-- with what is known of the workers: the target had grown from the given one, the windows of its session are pages of
+-- the source, each halt stands where the gate allows it, or is what a worker's call was refused for, and where nothing
+-- was stopped and all was got, the session had read what the fetchers fetched
 pub record EndsRun {F : Type 0} (refuses : F → Document → Bool) (may_fill : Type 0) (may_stop : Place → Type 0)
     (plan : Plan) (start : ℕ) (source : PeerValue) (given : F × PeerValue) (counts : List ℕ) (source' after : PeerValue)
     (outcome : Result Report PoolFault) : Type 0 where
@@ -104,6 +105,8 @@ pub record EndsRun {F : Type 0} (refuses : F → Document → Bool) (may_fill : 
   pub complete : Bool
   pub before : PeerValue
   pub grown : IsGrown (refuses given.0) source.db plan.chosen plan.session given.1 before
+  pub more : Option ℕ
+  pub paged : KeepsPages source.db plan plan.session more before.sessions
   pub late : IfSome fault (IsHaltOn may_fill may_stop)
   pub read : fault ≡ None → complete ≡ true → read_in before.sessions plan.session ≡ sum counts
   pub ends : ClosesRun plan start fault complete source before source' after outcome
@@ -137,10 +140,11 @@ TellsLowWater target run (faults.Refused (refusals.Unfinished n)) =
     (s : SessionValue) × (session_in target.sessions run ≡ Some s) × (n ≡ low_water s.front) × (n ≡ s.recorded)
 TellsLowWater target run fault = Unit {0}
 
--- the session has begun, and its entry is put at the source
+-- the session has begun, its windows are pages of the source, and its entry is put at the source
 pub record IsBegun (source target source' target' : PeerValue) (plan : Plan) (outcome : Result Report PoolFault) : Type 0
   where
     pub begun : begins_answer source target plan ≡ Ok tt
+    pub paged : IsPaged source target target' plan
     pub put : PutsEntry source target' source' plan outcome
     pub unfinished : IfErr outcome (TellsLowWater target' plan.session)
 
@@ -183,7 +187,8 @@ pub record RunsOn {F : Type 0} (refuses : F → Document → Bool) (may_fill : T
   -- so an audit of what comes back is clean, where the pair was tied
   pub audited : (chosen : Choice) → IsTiedPair source.1 target.1 chosen
       → audit_answer source'.1 target'.1 chosen ≡ None
-  -- both are as they were given, and why is told, or the entry is put at the source
+  -- both are as they were given, and why is told, or the session has begun and has read pages of the source, and the entry
+  -- is put there
   pub put : LeavesOrPuts plan source target source' target' outcome
   -- what stands at Ok
   pub well : IfOk outcome (EndsWell source.1 target.1 target'.1 plan (sum fetched))

@@ -3,14 +3,14 @@
 //! Of a value under a lock or in a channel nothing is known but its type's invariant, and that may name these members.
 use std::marker::Brand;
 
-/// What the source holds, and which documents are chosen.
+/// What the source holds, and by which plan it is read.
 pub trait SourceBrand {
     ghost use Rattle.couch_base.specs.Database.{DatabaseValue};
-    ghost use Rattle.doc_json.specs.Chosen.{Choice};
+    ghost use Rattle.repl_target.specs.declared.replication.Plan.{Plan};
 
     ghost source: { DatabaseValue };
 
-    ghost chosen: { Choice };
+    ghost plan: { Plan };
 }
 
 impl SourceBrand for Brand {
@@ -19,7 +19,14 @@ impl SourceBrand for Brand {
 
     ghost source = { no_documents 0 };
 
-    ghost chosen = { None };
+    ghost plan = { record {
+      session = record { 0 = 0 };
+      workers = 0;
+      batch = 0;
+      stop_after = None;
+      at = 0;
+      chosen = None;
+    } };
 }
 
 /// Which target was given, and which session is the run's.

@@ -24,7 +24,7 @@ pub enum Halt {
     BoardFull,
     /// An allocation was refused.
     Memory,
-    /// A channel was cut.
+    /// A channel was cut, or a window came beyond those that the plan allows.
     Lost,
 }
 

@@ -1,11 +1,12 @@
 //! What one fetcher does.
-ghost use Rattle.std.specs.Prelude.{◌≡◌, ◌+◌, ◌-◌, ◌^◌, ◌<◌, [], ◌∷◌, ◌++◌, length, IfSome, None, IfErr, MatchBool};
+ghost use Rattle.std.specs.Prelude.{◌≡◌, ◌⊎◌, ◌+◌, ◌-◌, ◌^◌, ◌<◌, [], ◌∷◌, ◌++◌, length, IfSome, None, IfErr, MatchBool};
 ghost use Rattle.crossbeam_channel.specs.Claims.{view, IsSeatAt};
 ghost use Rattle.crossbeam_channel.specs.Ends.{sends_on, receives_on};
 ghost use Rattle.repl_pool.specs.Parcels.{parcel_view};
 ghost use Rattle.repl_pool.specs.Windows.{window_view};
 ghost use Rattle.repl_pool.specs.Workers.{FetcherKnows, HasCounted};
-ghost use Rattle.repl_pool.specs.Faults.{Allows};
+ghost use Rattle.repl_pool.specs.Faults.{Allows, SaysFull, SaysNoFull};
+ghost use Rattle.couch_base.specs.Database.{most};
 
 use crate::brands::{SourceBrand, TargetBrand};
 use crate::context::Context;
@@ -35,6 +36,7 @@ pub struct Fetcher<S: SourceBrand> {
 pub fn pass<G: Gate, R: Wait>(rt: &R, gate: &G, place: Place) -> Result<(), Halt>
     ensures place { IfErr result (λ halt. halt ≡ Halt.Stopped place) }
     ensures allowed { IfErr result (Allows (G.may_stop gate.now)) }
+    ensures uncounted { IfErr result SaysNoFull }
 {
     match gate.at(rt, place) {
         Turn::Go => Ok(()),
@@ -88,7 +90,7 @@ impl<S: SourceBrand> Fetcher<S> {
         }
     }
 
-    /// Counts what was fetched, and sends it.
+    /// Counts what was fetched, and sends it. `CountFull` only where one of its counts would pass its limit.
     fn send<G: Gate, R: Wait>(
         &mut self,
         rt: &R,
@@ -103,6 +105,8 @@ impl<S: SourceBrand> Fetcher<S> {
         ensures windows { self.new.windows ≡ self.old.windows }
         ensures knows { FetcherKnows [] self.new }
         ensures halted { IfSome self.new.stopped (Allows (G.may_stop gate.now)) }
+        ensures full { IfSome self.new.stopped (SaysFull ((most < self.old.fetched + length fetched.docs)
+            ⊎ (self.old.sent ≡ 2 ^ 64 - 1)) ⊥) }
     {
         let documents = fetched.documents();
         if self.fetched > MOST_SEQUENCE
@@ -150,7 +154,8 @@ impl<F: WriteFilter, S: SourceBrand, T: TargetBrand<F>, L: Ledger, G: Gate, R: W
     /// What the source has of what the target misses of a page, unless the gate stops the fetcher or memory runs out.
     fn bring(&self, number: u64, page: &Paged<S>) -> Result<Fetched<S>, Halt>
         requires source { S.source ≡ self.now.source.now.1.db }
-        ensures { IfErr result (Allows (G.may_stop self.now.gate.now)) }
+        ensures allowed { IfErr result (Allows (G.may_stop self.now.gate.now)) }
+        ensures uncounted { IfErr result SaysNoFull }
     {
         pass(self.rt, self.gate, Place::Took(number))?;
         let asked = self.ask(page)?;

@@ -7,6 +7,7 @@ ghost use Rattle.repl_peer.specs.session.ReadCounts.{read_in};
 ghost use Rattle.repl_target.specs.replication.Replication.{is_batch};
 ghost use Rattle.doc_json.specs.Chosen.{Choice};
 ghost use Rattle.repl_pool.specs.Grown.{GrownPeer};
+ghost use Rattle.repl_pool.specs.Paging.{HasNoWindows};
 ghost use Rattle.repl_pool.specs.Boards.{WorksAt, AreRisen, HaveRisenBy, MayFill, AreSeats, AreBack, HaveShown};
 ghost use Rattle.repl_pool.specs.Runs.{ClosesRun, EndsRun, RunsOn, Runs};
 
@@ -126,9 +127,10 @@ fn run_begun<
     requires batch { is_batch plan.now.batch ≡ true }
     requires seats { AreSeats (option_copied shows.board) 0 plan.now.workers shows.seats.items }
     requires source { S.source ≡ begun.source.1.db }
-    requires chosen { S.chosen ≡ plan.now.chosen }
+    requires plan { S.plan ≡ plan.now }
     requires given { T.given ≡ Some (begun.target, plan.now.session) }
     requires none { read_in begun.target.1.sessions plan.now.session ≡ 0 }
+    requires fresh { HasNoWindows plan.now.session begun.target.1.sessions }
     requires held { (s : SessionValue) × (session_in begun.target.1.sessions plan.now.session ≡ Some s) }
     ensures filter { result.source.0 ≡ begun.source.0 }
     ensures source { result.source.1 ≡ record begun.source.1 { outgoing = result.source.1.outgoing } }
@@ -167,7 +169,12 @@ fn run_begun<
         start,
     } = begun;
     let (ledger, all) = blank.open::<L>();
-    let locked = Mutex::new(RunTarget::<F, S, T, L>::open(target, plan.session, ledger));
+    let locked = Mutex::new(RunTarget::<F, S, T, L>::open(
+        target,
+        plan.session,
+        plan.stop_after,
+        ledger,
+    ));
     let context = Context {
         rt,
         alloc,

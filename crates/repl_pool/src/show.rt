@@ -1,6 +1,6 @@
 //! What a writer shows on a board: at its own seat, where it has one. No lock is taken for it.
 ghost use Rattle.std.specs.Prelude.{◌≡◌, ◌+◌, ◌≤◌, ◌++◌, length, IfErr, OnOk, OnErr, vec_len, vec_capacity, option_copied, option_to_list};
-ghost use Rattle.repl_pool.specs.Boards.{MayFill, IsSeated, HasRead, HasRoom, HasSettled};
+ghost use Rattle.repl_pool.specs.Boards.{MayFill, IsSeated, IsFullFor, HasRead, HasRoom, HasSettled};
 
 use crate::fault::Halt;
 use progress_board::{Board, BoardSeat};
@@ -15,6 +15,7 @@ pub fn show_read(
     ensures ok { OnOk result (HasRead (option_copied board.entry) documents seat.old seat.new) }
     ensures full { IfErr result (λ halt. halt ≡ Halt.BoardFull) }
     ensures may_fill { OnErr result (MayFill (option_copied board.entry)) }
+    ensures due { OnErr result (IsFullFor documents seat.old) }
     ensures kept { OnErr result (seat.new ≡ seat.old) }
 {
     let Some(board) = board else {

@@ -1,13 +1,13 @@
 //! What one writer does.
-ghost use Rattle.std.specs.Prelude.{◌≡◌, ◌+◌, ◌<◌, [], ◌∷◌, length, IfSome, IfErr, OnOk, Option, None, option_copied};
+ghost use Rattle.std.specs.Prelude.{◌≡◌, ◌+◌, ◌-◌, ◌^◌, ◌<◌, [], ◌∷◌, length, IfSome, IfErr, OnOk, Option, None, option_copied};
 ghost use Rattle.crossbeam_channel.specs.Claims.{view, IsSeatAt};
 ghost use Rattle.crossbeam_channel.specs.Ends.{receives_on};
 ghost use Rattle.repl_pool.specs.Parcels.{parcel_view};
 ghost use Rattle.progress_board.specs.declared.seat.BoardSeat.{BoardSeat};
 ghost use Rattle.repl_peer.specs.declared.fault.TargetFault.{TargetFault};
-ghost use Rattle.repl_pool.specs.Boards.{MayFill, IsSeated, HasRoom, HasSettled, HasWritten, halt_in};
+ghost use Rattle.repl_pool.specs.Boards.{MayFill, IsSeated, IsFullFor, HasRoom, HasSettled, HasWritten, halt_in};
 ghost use Rattle.repl_pool.specs.Workers.{WriterKnows, WriterShows};
-ghost use Rattle.repl_pool.specs.Faults.{AllowsOn, IsStepFault};
+ghost use Rattle.repl_pool.specs.Faults.{AllowsOn, IsStepFault, SaysFull};
 
 use crate::brands::{SourceBrand, TargetBrand};
 use crate::context::Context;
@@ -91,6 +91,7 @@ impl<F: WriteFilter, S: SourceBrand, T: TargetBrand<F>, L: Ledger, G: Gate, R: W
         ensures parts { share.new.parts ≡ share.old.parts }
         ensures ok { OnOk result (share.new.amount ≡ share.old.amount + length fetched.docs) }
         ensures err { IfErr result (AllowsOn (MayFill (option_copied self.now.board)) (G.may_stop self.now.gate.now)) }
+        ensures full { IfErr result (SaysFull ⊥ (IsFullFor (length fetched.docs) seat.old)) }
         ensures shows { HasWritten (option_copied self.now.board) share.old.amount share.new.amount (halt_in result)
             seat.old seat.new }
     {
@@ -101,7 +102,8 @@ impl<F: WriteFilter, S: SourceBrand, T: TargetBrand<F>, L: Ledger, G: Gate, R: W
         pass(self.rt, self.gate, Place::Recorded(number, recorded))
     }
 
-    /// Settles the parcel that a writer got last, and counts it, or keeps why it halts.
+    /// Settles the parcel that a writer got last, and counts it, or keeps why it halts. `CountFull` only where its count
+    /// is full, `BoardFull` only where the word of its seat would pass its limit.
     fn write(&self, writer: &mut Writer<S, L>, number: u64, fetched: Fetched<S>)
         requires knows { WriterKnows ((number, length fetched.docs) ∷ []) writer.old × (writer.old.stopped ≡ None) }
         requires seat { IsSeated (option_copied self.now.board) writer.old.seat }
@@ -109,6 +111,8 @@ impl<F: WriteFilter, S: SourceBrand, T: TargetBrand<F>, L: Ledger, G: Gate, R: W
         ensures knows { WriterKnows [] writer.new }
         ensures halted { IfSome writer.new.stopped
             (AllowsOn (MayFill (option_copied self.now.board)) (G.may_stop self.now.gate.now)) }
+        ensures full { IfSome writer.new.stopped
+            (SaysFull (writer.old.got ≡ 2 ^ 64 - 1) (IsFullFor (length fetched.docs) writer.old.seat)) }
         ensures seat { IsSeated (option_copied self.now.board) writer.new.seat }
         ensures shows { (given : Option BoardSeat) → WriterShows (option_copied self.now.board) given writer.old
             → WriterShows (option_copied self.now.board) given writer.new }

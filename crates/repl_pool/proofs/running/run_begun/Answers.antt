@@ -12,7 +12,7 @@ returns-then-begun-update_seq-clause-grown g c = c.without_workers.ensures.grown
 
 pub returns-then-begun-update_seq-clause-ends : goal.returns-then-begun-update_seq-clause-ends
 returns-then-begun-update_seq-clause-ends g c =
-    nothing_read g.F.WriteFilter.refuses (MayFill (option_copied c.args.shows.board)) (g.G.Gate.may_stop c.args.gate.now) _ _ _ c.args.begun.target _ _ _ _ c.requires.none c.without_workers.ensures.fetched c.without_workers.ensures.ends
+    nothing_read g.F.WriteFilter.refuses (MayFill (option_copied c.args.shows.board)) (g.G.Gate.may_stop c.args.gate.now) _ _ _ c.args.begun.target _ _ _ _ c.requires.none c.without_workers.ensures.fetched c.requires.fresh c.without_workers.ensures.ends
 
 pub returns-then-begun-update_seq-clause-back : goal.returns-then-begun-update_seq-clause-back
 returns-then-begun-update_seq-clause-back g c =
@@ -29,19 +29,19 @@ pub returns-in-Err-clause-grown : goal.returns-in-Err-clause-grown
 returns-in-Err-clause-grown g c = c.without_workers-in-Err.ensures.grown c.args.begun.source.1.db c.args.plan.now.chosen
 
 pub returns-in-Err-clause-ends : goal.returns-in-Err-clause-ends
-returns-in-Err-clause-ends g c = no_workers g.F.WriteFilter.refuses (MayFill (option_copied c.args.shows.board)) (g.G.Gate.may_stop c.args.gate.now) _ _ _ c.args.begun.target _ _ _ _ c.from.result c.from.ensures c.without_workers-in-Err.ensures.ends
+returns-in-Err-clause-ends g c = no_workers g.F.WriteFilter.refuses (MayFill (option_copied c.args.shows.board)) (g.G.Gate.may_stop c.args.gate.now) _ _ _ c.args.begun.target _ _ _ _ c.from.result c.from.ensures c.requires.fresh c.without_workers-in-Err.ensures.ends
 
 pub returns-in-Err-open-clause-grown : goal.returns-in-Err-open-clause-grown
 returns-in-Err-open-clause-grown g c = c.without_workers-in-Err-open.ensures.grown c.args.begun.source.1.db c.args.plan.now.chosen
 
 pub returns-in-Err-open-clause-ends : goal.returns-in-Err-open-clause-ends
-returns-in-Err-open-clause-ends g c = no_workers g.F.WriteFilter.refuses (MayFill (option_copied c.args.shows.board)) (g.G.Gate.may_stop c.args.gate.now) _ _ _ c.args.begun.target _ _ _ _ c.from-in-Err-open.result c.from-in-Err-open.ensures c.without_workers-in-Err-open.ensures.ends
+returns-in-Err-open-clause-ends g c = no_workers g.F.WriteFilter.refuses (MayFill (option_copied c.args.shows.board)) (g.G.Gate.may_stop c.args.gate.now) _ _ _ c.args.begun.target _ _ _ _ c.from-in-Err-open.result c.from-in-Err-open.ensures c.requires.fresh c.without_workers-in-Err-open.ensures.ends
 
 pub returns-clause-grown : goal.returns-clause-grown
 returns-clause-grown g c =
     let d = c.collect-summed.ensures.target in
     grown_then g.F.WriteFilter.refuses c.args.begun.source.1.db c.args.plan.now.chosen c.args.plan.now.session c.args.begun.target c.collect-summed.result.target c.end.result.target
-    (given_grown g.F.WriteFilter.refuses c.args.begun.source.1.db g.S.SourceBrand.source c.requires.source c.args.plan.now.chosen g.S.SourceBrand.chosen c.requires.chosen c.args.begun.target c.args.plan.now.session g.T.TargetBrand.given c.requires.given d.0 d.1 c.collect-summed.result.target d.2).0
+    (given_grown g.F.WriteFilter.refuses c.args.begun.source.1.db g.S.SourceBrand.source c.requires.source c.args.plan.now g.S.SourceBrand.plan c.requires.plan c.args.begun.target c.args.plan.now.session g.T.TargetBrand.given c.requires.given d.0 d.1 d.2 c.collect-summed.result.target d.3).0
     (c.end.ensures.grown c.args.begun.source.1.db c.args.plan.now.chosen)
 
 pub returns-clause-ends : goal.returns-clause-ends
@@ -52,12 +52,14 @@ returns-clause-ends g c =
       fault = t.fault;
       complete = t.complete;
       before = t.target.1;
-      grown = (given_grown g.F.WriteFilter.refuses c.args.begun.source.1.db g.S.SourceBrand.source c.requires.source c.args.plan.now.chosen g.S.SourceBrand.chosen c.requires.chosen c.args.begun.target c.args.plan.now.session g.T.TargetBrand.given c.requires.given d.0 d.1 t.target d.2).0.1;
+      grown = (given_grown g.F.WriteFilter.refuses c.args.begun.source.1.db g.S.SourceBrand.source c.requires.source c.args.plan.now g.S.SourceBrand.plan c.requires.plan c.args.begun.target c.args.plan.now.session g.T.TargetBrand.given c.requires.given d.0 d.1 d.2 t.target d.3).0.1;
+      more = d.2;
+      paged = (given_grown g.F.WriteFilter.refuses c.args.begun.source.1.db g.S.SourceBrand.source c.requires.source c.args.plan.now g.S.SourceBrand.plan c.requires.plan c.args.begun.target c.args.plan.now.session g.T.TargetBrand.given c.requires.given d.0 d.1 d.2 t.target d.3).2;
       late = c.collect-summed.ensures.halted;
       read =
           λ none whole.
           let k = c.collect-summed.ensures.sum none whole in
-          (given_grown g.F.WriteFilter.refuses c.args.begun.source.1.db g.S.SourceBrand.source c.requires.source c.args.plan.now.chosen g.S.SourceBrand.chosen c.requires.chosen c.args.begun.target c.args.plan.now.session g.T.TargetBrand.given c.requires.given k.0 (sum t.fetched.items) t.target k.1).1
+          (given_grown g.F.WriteFilter.refuses c.args.begun.source.1.db g.S.SourceBrand.source c.requires.source c.args.plan.now g.S.SourceBrand.plan c.requires.plan c.args.begun.target c.args.plan.now.session g.T.TargetBrand.given c.requires.given k.0 (sum t.fetched.items) k.1 t.target k.2).1
           ∙ ap sum (sym (ap vec_items c.end.ensures.fetched));
       ends = c.end.ensures.ends;
     }
@@ -66,7 +68,7 @@ pub end-requires-clause-held : goal.end-requires-clause-held
 end-requires-clause-held g c κs within =
     let d = c.collect-summed.ensures.target in
     held_grown g.F.WriteFilter.refuses c.args.begun.source.1.db c.args.plan.now.chosen c.args.begun.target c.collect-summed.result.target c.args.plan.now.session c.law.ensures.database c.law-2.ensures.peer.sessions
-    (given_grown g.F.WriteFilter.refuses c.args.begun.source.1.db g.S.SourceBrand.source c.requires.source c.args.plan.now.chosen g.S.SourceBrand.chosen c.requires.chosen c.args.begun.target c.args.plan.now.session g.T.TargetBrand.given c.requires.given d.0 d.1 c.collect-summed.result.target d.2).0 c.requires.held
+    (given_grown g.F.WriteFilter.refuses c.args.begun.source.1.db g.S.SourceBrand.source c.requires.source c.args.plan.now g.S.SourceBrand.plan c.requires.plan c.args.begun.target c.args.plan.now.session g.T.TargetBrand.given c.requires.given d.0 d.1 d.2 c.collect-summed.result.target d.3).0 c.requires.held
 
 pub returns-in-Err-clause-back : goal.returns-in-Err-clause-back
 returns-in-Err-clause-back g c =

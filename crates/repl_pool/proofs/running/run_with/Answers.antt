@@ -4,6 +4,7 @@ use Rattle.repl_peer.specs.session.ReadCounts.{read_in}
 use Rattle.repl_target.proofs.lemmas.replication.ReadCounts.{begun_reads}
 use Rattle.repl_pool.specs.Faults.{early_answer}
 use Rattle.repl_pool.proofs.Ending.{begun_held}
+use Rattle.repl_pool.proofs.Paging.{begun_fresh}
 use Rattle.repl_pool.specs.Boards.{MayFill}
 use Rattle.repl_pool.proofs.Boarding.{seats_seated, back_same}
 use Rattle.repl_pool.proofs.RunLaws.{Passes, passes, runs_early, runs_refused, runs_begun, shown_well}
@@ -17,6 +18,9 @@ run_begun-requires-clause-workers g c κs within =
 pub run_begun-requires-clause-none : goal.run_begun-requires-clause-none
 run_begun-requires-clause-none g c κs within =
     ap (λ (q : PeerValue). read_in q.sessions c.args.plan.now.session) c.in-Ok.ensures.ok.1 ∙ begun_reads c.args.source.1 c.args.target.1 c.args.plan.now c.in-Ok.ensures.ok.0
+
+pub run_begun-requires-clause-fresh : goal.run_begun-requires-clause-fresh
+run_begun-requires-clause-fresh g c κs within = begun_fresh c.args.source.1 c.args.target.1 c.args.plan.now c.begin_plan.new.target.1 c.in-Ok.ensures.ok.0 c.in-Ok.ensures.ok.1
 
 pub run_begun-requires-clause-held : goal.run_begun-requires-clause-held
 run_begun-requires-clause-held g c κs within = begun_held c.args.source.1 c.args.target.1 c.args.plan.now c.begin_plan.new.target.1 c.in-Ok.ensures.ok.0 c.in-Ok.ensures.ok.1

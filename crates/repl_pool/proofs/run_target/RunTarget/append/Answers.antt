@@ -1,14 +1,15 @@
-use Rattle.std.proofs.Common.{refl, subst, sym}
-use Rattle.repl_target.specs.replication.Calls.{Append, IsPageOf}
-use Rattle.repl_pool.proofs.Growing.{tries}
-use Rattle.repl_target.proofs.lemmas.replication.ReadCounts.{append_reads}
-use Rattle.repl_pool.proofs.Refusals.{append_step}
+use Rattle.std.proofs.Common.{sym, subst}
+use Rattle.repl_pool.proofs.Growing.{appends, stays}
+use Rattle.repl_pool.specs.Paging.{IsNext}
 use Rattle.repl_pool.proofs.run_target.RunTarget.append.Goals as goal
 
 pub invariant_of-self : goal.invariant_of-self
 invariant_of-self g c =
-    tries g.F.WriteFilter.refuses g.S.SourceBrand.source g.S.SourceBrand.chosen g.T.TargetBrand.given c.self.inside.session c.self.inside.ledger.total c.self.inside.target c.append.new.self (Append c.self.inside.session c.into_window-window.result) c.append.result c.self.invariant c.append.ensures.filter
-    (refl, subst (IsPageOf g.S.SourceBrand.source g.S.SourceBrand.chosen) (sym c.into_window-window.ensures.value) c.into_window-window.ensures.page) (append_reads c.self.inside.target.1 c.self.inside.session c.into_window-window.result) c.append.ensures.ok c.append.ensures.err
+    appends g.F.WriteFilter.refuses g.S.SourceBrand.source g.S.SourceBrand.plan g.T.TargetBrand.given c.self.inside.session c.self.inside.ledger.total c.self.inside.more c.one_less-less.result c.self.inside.target c.append.new.self c.into_window-window.result c.in-Ok.field-0
+    c.self.invariant c.append.ensures.filter (subst (IsNext g.S.SourceBrand.source g.S.SourceBrand.plan) (sym c.into_window-window.ensures.value) c.into_window-window.ensures.page)
+    c.one_less-less.ensures c.in-Ok.ensures.answer c.in-Ok.ensures.ok
 
-pub returns-clause-step : goal.returns-clause-step
-returns-clause-step g c = append_step c.self.inside.target.1 c.self.inside.session c.into_window-window.result c.append.result c.append.ensures.answer
+pub invariant_of-self-in-Err : goal.invariant_of-self-in-Err
+invariant_of-self-in-Err g c =
+    stays g.F.WriteFilter.refuses g.S.SourceBrand.source g.S.SourceBrand.plan g.T.TargetBrand.given c.self.inside.session c.self.inside.ledger.total c.self.inside.more c.self.inside.target c.append.new.self
+    c.self.invariant c.append.ensures.filter c.in-Err.ensures.err

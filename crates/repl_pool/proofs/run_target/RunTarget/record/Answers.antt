@@ -1,14 +1,12 @@
-use Rattle.std.proofs.Common.{refl, sym, subst, IfErr}
-use Rattle.repl_target.specs.replication.Calls.{Record}
-use Rattle.repl_pool.proofs.Growing.{grows}
-use Rattle.repl_target.proofs.lemmas.replication.ReadCounts.{record_reads}
+use Rattle.std.proofs.Common.{sym, subst, IfErr}
+use Rattle.repl_pool.proofs.Growing.{records}
 use Rattle.repl_pool.specs.Faults.{IsStepFault}
 use Rattle.repl_pool.proofs.Refusals.{record_step}
 use Rattle.repl_pool.proofs.run_target.RunTarget.record.Goals as goal
 
 pub invariant_of-self : goal.invariant_of-self
 invariant_of-self g c =
-    grows g.F.WriteFilter.refuses g.S.SourceBrand.source g.S.SourceBrand.chosen g.T.TargetBrand.given c.self.inside.session c.self.inside.ledger.total c.self.inside.target c.record.new.self (Record c.self.inside.session c.args.at) c.self.invariant c.record.ensures.filter refl (record_reads c.self.inside.target.1 c.self.inside.session c.args.at) c.record.ensures.peer
+    records g.F.WriteFilter.refuses g.S.SourceBrand.source g.S.SourceBrand.plan g.T.TargetBrand.given c.self.inside.session c.self.inside.ledger.total c.self.inside.more c.self.inside.target c.record.new.self c.args.at c.self.invariant c.record.ensures.filter c.record.ensures.peer
 
 pub returns-clause-step : goal.returns-clause-step
 returns-clause-step g c = subst (λ r. IfErr r IsStepFault) (sym c.record.ensures.answer) (record_step c.self.inside.target.1 c.self.inside.session)

@@ -8,7 +8,7 @@ use Rattle.repl_pool.proofs.run_target.RunTarget.settle_counted.Goals as goal
 
 pub invariant_of-self : goal.invariant_of-self
 invariant_of-self g c =
-    settles g.F.WriteFilter.refuses g.S.SourceBrand.source g.S.SourceBrand.chosen g.T.TargetBrand.given c.self.inside.session c.self.inside.ledger.total c.self.inside.target c.settle-result.new.self c.into_parcel-parcel.result c.settle-result.result c.law.ensures.peer.sessions c.self.invariant c.settle-result.ensures.filter
+    settles g.F.WriteFilter.refuses g.S.SourceBrand.source g.S.SourceBrand.plan g.T.TargetBrand.given c.self.inside.session c.self.inside.ledger.total c.self.inside.more c.self.inside.target c.settle-result.new.self c.into_parcel-parcel.result c.settle-result.result c.law.ensures.peer.sessions c.self.invariant c.settle-result.ensures.filter
     (subst (IsAnswerOf g.S.SourceBrand.source) (sym c.into_parcel-parcel.ensures.value) c.into_parcel-parcel.ensures.answer) c.settle-result.ensures.settles
     c.add.new.self.total (search rules)
 

@@ -1,0 +1,201 @@
+-- The windows that a run's session stores are pages of the source.
+use Rattle.std.proofs.Common.{◌≡◌, ℕ, ◌+◌, ◌<◌, Bool, true, false, nat_lt, cond, List, [], ◌∷◌, ◌++◌, map, length, Option, Some, None, Result, Ok, is_ok, refl, sym, ap, ◌∙◌, subst, inl, inr, arith, length-append}
+use Rattle.std.proofs.lemmas.Bool.{and_parts, cond_both, false≢true, both_ways, eq-eqb, leb-true, lt-ltb, ltb-true}
+use Rattle.std.proofs.lemmas.Bool.Decides.{nat_tests}
+use Rattle.rev_tree.specs.declared.origin.SessionId.{SessionId}
+use Rattle.doc_json.specs.Document.{Document}
+use Rattle.couch_base.specs.Lists.{Among}
+use Rattle.couch_base.specs.MemberLaws.{Among-map, Among-push, any_from}
+use Rattle.couch_base.specs.Database.{DatabaseValue, LawfulDatabase}
+use Rattle.couch_base.specs.Feed.{WindowValue}
+use Rattle.couch_base.specs.Messages.{ParcelValue}
+use Rattle.range_front.specs.Front.{FrontWindow, Span, spans_from}
+use Rattle.repl_peer.specs.declared.fault.Report.{Report}
+use Rattle.repl_peer.specs.declared.fault.Settled.{Settled}
+use Rattle.repl_peer.specs.declared.fault.TargetFault.{TargetFault}
+use Rattle.repl_peer.specs.peer.Law.{LawfulSessions}
+use Rattle.repl_peer.specs.peer.Peer.{PeerValue, SessionValue, is_of, session_in, with_session}
+use Rattle.repl_peer.specs.session.Sessions.{GivesUnlessMemory, new_session, begun as begun_by, found_answer, on_found, append_in, append_answer, with_window, after_append, after_record, after_conclude}
+use Rattle.repl_peer.specs.session.Settling.{SettleGives, stopped_at}
+use Rattle.repl_peer.proofs.lemmas.peer.LaterPeers.{session_found}
+use Rattle.repl_target.specs.declared.replication.Plan.{Plan}
+use Rattle.repl_target.specs.replication.Calls.{Settle, Stop, Record, Conclude, IsPageOf, IsGrown}
+use Rattle.repl_target.specs.replication.Replication.{is_batch, begins_answer, after_begins, beginning_between, next_window, has_left, closed_as}
+use Rattle.repl_target.proofs.lemmas.replication.CallLaws.{Stays, call_keeps}
+use Rattle.repl_target.proofs.lemmas.replication.ReplicationAsCalls.{settle_left, settle_gives, settle_stops}
+use Rattle.repl_target.proofs.lemmas.replication.BegunSessions.{fresh_of, later_session}
+use Rattle.repl_target.proofs.lemmas.replication.SourceFeedStored.{found-is}
+use Rattle.repl_pool.specs.Paging.{ArePages, AreAllowed, IsPaged, IsNext, AllowsMore, IsOneLess, HasPages, KeepsPages, HasNoWindows, LetsStore}
+use Rattle.repl_pool.specs.Runs.{IsRecorded, stopped, fewer, refused, ClosesRun, concluded, recorded}
+use Rattle.repl_pool.specs.declared.fault.PoolFault.{PoolFault}
+
+-- ---- one window
+
+pub next_page : (source : DatabaseValue) (plan : Plan) (w : WindowValue) → IsNext source plan w → IsPageOf source plan.chosen w
+next_page source plan w n = record {
+  since = w.lo;
+  goal = source.update_seq;
+  limit = plan.batch;
+  some = leb-true 1 plan.batch (and_parts _ _ n.0).0;
+  above = n.1;
+  within = omega arith;
+  is = n.2;
+}
+
+pub page_next : (source : DatabaseValue) (plan : Plan) (since : ℕ) (w : WindowValue) → w ≡ next_window source plan since → is_batch plan.batch ≡ true → since < source.update_seq → IsNext source plan w
+page_next source plan since w is batch due =
+    let lo : w.lo ≡ since = ap (λ (x : WindowValue). x.lo) is in
+    (batch, omega (arith, lo, due), is ∙ ap (next_window source plan) (sym lo))
+
+-- ---- how many
+
+allowed_none : (o : Option ℕ) → AllowsMore o 0 o
+allowed_none None = refl
+allowed_none (Some n) = omega arith
+
+one_more : (o : Option ℕ) (n : ℕ) (more less : Option ℕ) → AllowsMore o n more → IsOneLess more less → AllowsMore o (n + 1) less
+one_more None n None less h k = k
+one_more None n (Some m) less h k = cc
+one_more (Some stop_after) n None less h k = absurd h
+one_more (Some stop_after) n (Some m) None h k = absurd k
+one_more (Some stop_after) n (Some m) (Some l) h k = omega (arith, h, k)
+
+allowed_of : (o : Option ℕ) (n : ℕ) (more : Option ℕ) → AllowsMore o n more → AreAllowed o n
+allowed_of None n more h = tt
+allowed_of (Some stop_after) n None h = absurd h
+allowed_of (Some stop_after) n (Some m) h = omega (arith, h)
+
+lets_by : (o : Option ℕ) (n : ℕ) (more : Option ℕ) → AllowsMore o n more → has_left o n ≡ has_left more 0
+lets_by None n None h = refl
+lets_by None n (Some m) h = cc
+lets_by (Some stop_after) n None h = absurd h
+lets_by (Some stop_after) n (Some m) h = below (nat_lt 0 m) refl
+  where
+    below : (b : Bool) → nat_lt 0 m ≡ b → nat_lt n stop_after ≡ nat_lt 0 m
+    below true e = lt-ltb n stop_after (omega (arith, h, ltb-true 0 m e)) ∙ sym e
+    below false e = grind (arith, nat_tests, h, e)
+
+-- ---- a session's windows
+
+module _ (source : DatabaseValue) (plan : Plan) (run : SessionId) where
+  abbrev Keeps : Option ℕ → SessionValue → Type 0
+  Keeps more s = s.id ≡ run → HasPages source plan more s.windows
+
+  keeps-stays : (more : Option ℕ) (s t : SessionValue) → Stays s t → Keeps more s → Keeps more t
+  keeps-stays more s t k h = λ own. subst (HasPages source plan more) (sym k.windows) (h (sym k.id ∙ own))
+
+  pub starts_pages : (sessions : List SessionValue) → HasNoWindows run sessions → KeepsPages source plan run plan.stop_after sessions
+  starts_pages sessions fresh s m own = subst (HasPages source plan plan.stop_after) (sym (fresh s m own)) (λ w n. absurd n, allowed_none plan.stop_after)
+
+  pub lets_store : (more : Option ℕ) (sessions : List SessionValue) (b : Bool) → KeepsPages source plan run more sessions → has_left more 0 ≡ b → LetsStore plan run b sessions
+  lets_store more sessions b h left s m own = lets_by plan.stop_after (length s.windows) more (h s m own).1 ∙ left
+
+  -- a call that stores no window
+  pub pages_record : (more : Option ℕ) (p : PeerValue) (at : ℕ) (q : PeerValue) → q ≡ after_record p run at → KeepsPages source plan run more p.sessions → KeepsPages source plan run more q.sessions
+  pages_record more p at q is h = subst (λ (x : PeerValue). KeepsPages source plan run more x.sessions) (sym is) (call_keeps (Keeps more) (keeps-stays more) (λ _. false) p (Record run at) tt h)
+
+  pages_conclude : (more : Option ℕ) (p : PeerValue) (at : ℕ) (q : PeerValue) → q ≡ after_conclude p run at → KeepsPages source plan run more p.sessions → KeepsPages source plan run more q.sessions
+  pages_conclude more p at q is h = subst (λ (x : PeerValue). KeepsPages source plan run more x.sessions) (sym is) (call_keeps (Keeps more) (keeps-stays more) (λ _. false) p (Conclude run at) tt h)
+
+  pub pages_settle : (more : Option ℕ) (refuses : Document → Bool) (p : PeerValue) (parcel : ParcelValue) (result : Result Settled TargetFault) (q : PeerValue) → SettleGives refuses p run parcel result q → KeepsPages source plan run more p.sessions → KeepsPages source plan run more q.sessions
+  pages_settle more refuses p parcel result q gives h = go (stopped_at result) refl
+    where
+      go : (o : Option ℕ) → stopped_at result ≡ o → KeepsPages source plan run more q.sessions
+      go None e = subst (λ (x : PeerValue). KeepsPages source plan run more x.sessions) (sym (settle_gives refuses p run parcel result q gives ∙ ap (settle_left refuses p run parcel) e)) (call_keeps (Keeps more) (keeps-stays more) refuses p (Settle run parcel) tt h)
+      go (Some n) e =
+          elim (settle_stops refuses p run parcel result q gives n e) [
+            | inl same ↦ subst (λ (x : PeerValue). KeepsPages source plan run more x.sessions) (sym same) h
+            | inr stops ↦ subst (λ (x : PeerValue). KeepsPages source plan run more x.sessions) (sym stops.1) (call_keeps (Keeps more) (keeps-stays more) refuses p (Stop run parcel n) tt h)
+          ]
+
+  -- the next window is stored
+  with_next : (more less : Option ℕ) (w : WindowValue) (ws : List WindowValue) → IsNext source plan w → IsOneLess more less → HasPages source plan more ws → HasPages source plan less (ws ++ w ∷ [])
+  with_next more less w ws next one h = (
+    λ v m. elim (Among-push v ws w m) [ inl old ↦ h.0 v old | inr e ↦ subst (IsNext source plan) (sym e) next ],
+    subst (λ n. AllowsMore plan.stop_after n less) (sym (length-append ws (w ∷ []))) (one_more plan.stop_after (length ws) more less h.1 one),
+  )
+
+  in_place : (more less : Option ℕ) (w : WindowValue) (sessions : List SessionValue) (s : SessionValue) → Among s sessions → s.id.0 ≡ run.0 → IsNext source plan w → IsOneLess more less → KeepsPages source plan run more sessions
+      → KeepsPages source plan run less (with_session sessions (with_window w s (Ok tt)))
+  in_place more less w sessions s held number next one h t m own =
+      let now = with_window w s (Ok tt) in
+      let k = Among-map (λ (x : SessionValue). cond (is_of s.id x) now x) t sessions m in
+      let here : HasPages source plan less now.windows = with_next more less w s.windows next one (h s held (λ i. record { 0 = number i })) in
+      let at : (cond (is_of s.id k.0) now k.0).id ≡ run → HasPages source plan less (cond (is_of s.id k.0) now k.0).windows =
+      cond_both (is_of s.id k.0) now k.0 (λ (x : SessionValue). x.id ≡ run → HasPages source plan less x.windows)
+      (λ _ _. here)
+      (λ other same. absurd (both_ways _ other (eq-eqb k.0.id.0 s.id.0 (ap (λ (i : SessionId). i.0) same ∙ sym number)))) in
+      subst (λ (x : SessionValue). x.id ≡ run → HasPages source plan less x.windows) (sym k.2) at own
+
+  pub pages_append : (more less : Option ℕ) (p : PeerValue) (w : WindowValue) (q : PeerValue) (done : Unit {0}) → IsNext source plan w → IsOneLess more less → GivesUnlessMemory (Ok done) (append_answer p run w) → q ≡ after_append p run w
+      → KeepsPages source plan run more p.sessions → KeepsPages source plan run less q.sessions
+  pages_append more less p w q done next one gives is h = subst (λ (x : PeerValue). KeepsPages source plan run less x.sessions) (sym is) (go (session_in p.sessions run) refl gives)
+    where
+      change : SessionValue → SessionValue
+      change s = with_window w s (append_in w s)
+
+      go : (o : Option SessionValue) → session_in p.sessions run ≡ o → GivesUnlessMemory (Ok done) (found_answer (append_in w) o) → KeepsPages source plan run less (on_found p change o).sessions
+      go None e g = absurd (false≢true (sym (ap is_ok g)))
+      go (Some s) e g =
+          let found = session_found p.sessions run s e in
+          subst (λ r. KeepsPages source plan run less (with_session p.sessions (with_window w s r))) g (in_place more less w p.sessions s found.0 found.1 next one h)
+
+-- ---- what a run has read
+
+tails : {X : Type 0} (x y : X) (xs ys : List X) → ◌≡◌ {A = List X} (x ∷ xs) (y ∷ ys) → (x ≡ y) × (xs ≡ ys)
+tails x y xs ys e = (cc, cc)
+
+chained : (source : DatabaseValue) (plan : Plan) (lo : ℕ) (ws : List WindowValue) (fs : List FrontWindow) → map {B = ℕ × ℕ} (λ (w : WindowValue). (w.lo, w.hi)) ws ≡ map {B = ℕ × ℕ} (λ (s : Span). (s.lo, s.hi)) (spans_from lo fs)
+    → ((w : WindowValue) → Among w ws → IsNext source plan w) → ArePages source plan lo ws
+chained source plan lo [] fs e next = tt
+chained source plan lo (w ∷ ws) [] e next = absurd (false≢true (ap is_none_left e))
+  where
+    is_none_left : List (ℕ × ℕ) → Bool
+    is_none_left [] = true
+    is_none_left (x ∷ xs) = false
+chained source plan lo (w ∷ ws) (f ∷ fs) e next =
+    let t = tails (w.lo, w.hi) (lo, f.hi) (map {B = ℕ × ℕ} (λ (v : WindowValue). (v.lo, v.hi)) ws) (map {B = ℕ × ℕ} (λ (s : Span). (s.lo, s.hi)) (spans_from f.hi fs)) e in
+    let from : w.lo ≡ lo = ap (λ (p : ℕ × ℕ). p.0) t.0 in
+    let upto : w.hi ≡ f.hi = ap (λ (p : ℕ × ℕ). p.1) t.0 in
+    let n = next w (inl refl) in (
+      omega (arith, n.1, from),
+      n.2 ∙ ap (next_window source plan) from,
+      chained source plan w.hi ws fs (t.1 ∙ ap (λ n. map {B = ℕ × ℕ} (λ (s : Span). (s.lo, s.hi)) (spans_from n fs)) (sym upto)) (λ v m. next v (inr m)),
+    )
+
+pub is_paged : (refuses : Document → Bool) (source target : PeerValue) (plan : Plan) (now : PeerValue) (more : Option ℕ) → LawfulDatabase source.db → LawfulSessions refuses (after_begins source target plan) → begins_answer source target plan ≡ Ok tt
+    → IsGrown refuses source.db plan.chosen plan.session (after_begins source target plan) now → LawfulSessions refuses now → KeepsPages source.db plan plan.session more now.sessions → IsPaged source target now plan
+is_paged refuses source target plan now more law l ok grown l' keeps =
+    let t = later_session refuses source target plan now law l ok grown in
+    let k = keeps t.session t.held t.id in
+    record {
+      session = t.session;
+      held = found-is now.sessions plan.session t.session l'.distinct t.held t.id;
+      pages = subst (λ n. ArePages source.db plan n t.session.windows) t.start
+          (chained source.db plan t.session.front.start t.session.windows t.session.front.windows (l'.sessions t.session t.held).bounds k.0);
+      allowed = allowed_of plan.stop_after (length t.session.windows) more k.1;
+    }
+
+-- a session that began has no windows
+pub begun_fresh : (source target : PeerValue) (plan : Plan) (begun : PeerValue) → begins_answer source target plan ≡ Ok tt → begun ≡ after_begins source target plan → HasNoWindows plan.session begun.sessions
+begun_fresh source target plan begun ok is s m own =
+    let new = new_session plan.session (beginning_between source target plan.chosen) plan.at in
+    let made : begun ≡ record target { sessions = new ∷ target.sessions } = is ∙ ap (begun_by target new) ok in
+    elim (subst (λ (q : PeerValue). Among s q.sessions) made m) [
+      | inl e ↦ ap (λ (x : SessionValue). x.windows) e
+      | inr o ↦ absurd (both_ways _ (fresh_of source target plan ok) (any_from (is_of plan.session) s target.sessions o (eq-eqb s.id.0 plan.session.0 (ap (λ (i : SessionId). i.0) own))))
+    ]
+
+-- closing a run stores no window
+recorded_pages : (db : DatabaseValue) (plan : Plan) (more : Option ℕ) (fault : Option PoolFault) (complete : Bool) (before after : PeerValue) (why : PoolFault) → KeepsPages db plan plan.session more before.sessions → IsRecorded plan fault complete before after why
+    → KeepsPages db plan plan.session more after.sessions
+recorded_pages db plan more fault complete before after why h (stopped e same) = pages_record db plan plan.session more before plan.at after same h
+recorded_pages db plan more fault complete before after why h (fewer none less same) = pages_record db plan plan.session more before plan.at after same h
+recorded_pages db plan more fault complete before after why h (refused none whole answer same) =
+    let middle = after_conclude before plan.session plan.at in
+    pages_record db plan plan.session more middle plan.at after (same ∙ ap (closed_as before plan) answer) (pages_conclude db plan plan.session more before plan.at middle refl h)
+
+pub closes_pages : (db : DatabaseValue) (plan : Plan) (more : Option ℕ) (start : ℕ) (fault : Option PoolFault) (complete : Bool) (source before source' after : PeerValue) (outcome : Result Report PoolFault) → KeepsPages db plan plan.session more before.sessions
+    → ClosesRun plan start fault complete source before source' after outcome → KeepsPages db plan plan.session more after.sessions
+closes_pages db plan more start fault complete source before source' after outcome h (concluded c w) = pages_conclude db plan plan.session more before plan.at after c.peer h
+closes_pages db plan more start fault complete source before source' after outcome h (recorded r put) = recorded_pages db plan more fault complete before after _ h r
