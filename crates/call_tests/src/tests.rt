@@ -45,6 +45,10 @@ mod crossings;
 mod net_rows;
 mod nets;
 
+// What is asked of two peers.
+mod survey_rows;
+mod surveys;
+
 // Worlds.
 mod world_rows;
 mod worlds;

@@ -19,6 +19,9 @@ mod feeds;
 // Choices of documents by chance.
 mod choices;
 
+// What is asked of two databases.
+mod surveys;
+
 // Replicated pairs, and their plain model.
 mod pairs;
 mod plain_sides;

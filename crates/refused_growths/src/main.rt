@@ -13,6 +13,7 @@ mod peers;
 mod pools;
 mod replications;
 mod revisions;
+mod surveys;
 mod trees;
 mod values;
 mod worlds;
@@ -33,6 +34,7 @@ fn main(rt: HostRuntime) -> Result<()> {
     choices::run(&rt, rt.alloc())?;
     worlds::run(&rt, rt.alloc())?;
     nets::run(&rt, rt.alloc())?;
+    surveys::run(&rt, rt.alloc())?;
     pools::run(&rt, rt.alloc())?;
     Ok(())
 }

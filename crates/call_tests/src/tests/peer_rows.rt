@@ -507,7 +507,26 @@ fn a_foreign_document_is_refused(rt: HostRuntime) {
     expect(&rt, rt.alloc(), LISTS);
 }
 
-// With the one above, the hostile parcels: of another source, and fetched before a third party wrote.
+#[test]
+fn a_foreign_document_is_refused_before_a_done_window(rt: HostRuntime) {
+    const E: &str = r#"{"_id":"e","_rev":"1-a"}"#;
+    const ROWS: Rows = &[
+        (Call::Fetch(SOURCE, FIRST), "0 to 1: d 1-a live {};"),
+        (Call::Settle(TARGET, S1, FIRST), "written 1 failed 0"),
+        // The window is done, and the other source's document has no row in it.
+        (Call::Load(OTHER, E), "Changed { seq: 1 }"),
+        (Call::Page(OTHER, 0, 1), "0 to 1: 1 e 1-a;"),
+        (Call::Diff(TARGET, SECOND), "0 to 1: e 1-a;"),
+        (Call::Fetch(OTHER, SECOND), "0 to 1: e 1-a live {};"),
+        (Call::Settle(TARGET, S1, SECOND), "ForeignParcel"),
+        (Call::Settle(TARGET, S1, FIRST), "AlreadyDone"),
+        (Call::Numbers(TARGET), "2 at 1"),
+    ];
+    static LISTS: Lists = &[THREE, ASKED, ROWS];
+    expect(&rt, rt.alloc(), LISTS);
+}
+
+// With the two above, the hostile parcels: of another source, and fetched before a third party wrote.
 #[test]
 fn a_parcel_of_another_leaf_leaves_its_window_uncovered(rt: HostRuntime) {
     const ROWS: Rows = &[

@@ -13,14 +13,14 @@ use std::process::Abort;
 
 /// A database and its reference.
 #[derive(Drop)]
-struct Side {
-    db: Database,
-    plain: PlainSide,
+pub(crate) struct Side {
+    pub(crate) db: Database,
+    pub(crate) plain: PlainSide,
 }
 
 impl Side {
     /// A database of no documents.
-    fn new(alloc: Global, uuid: u128) -> Side {
+    pub(crate) fn new(alloc: Global, uuid: u128) -> Side {
         Side {
             db: Database::new(alloc, uuid),
             plain: PlainSide::new(),
@@ -28,7 +28,13 @@ impl Side {
     }
 
     /// Puts documents by chance.
-    fn grow(&mut self, rt: &impl Abort, alloc: Global, rng: &mut ChaCha8Rng, puts: usize) {
+    pub(crate) fn grow(
+        &mut self,
+        rt: &impl Abort,
+        alloc: Global,
+        rng: &mut ChaCha8Rng,
+        puts: usize,
+    ) {
         for _ in 0..puts {
             put(rt, alloc, rng, &mut self.db, &mut self.plain);
         }

@@ -92,7 +92,7 @@ impl Reference {
     }
 
     /// The first given child, newest first, that has another parent.
-    fn contradiction(&self, revs: &[usize]) -> Option<Answer> {
+    pub(crate) fn contradiction(&self, revs: &[usize]) -> Option<Answer> {
         for pair in revs.windows(2) {
             if let [child, given] = pair {
                 let others = self.parents[*child % PLACES] & !bit(*given);

@@ -1,0 +1,203 @@
+//! What is asked of two peers, by name: a source, and a target into which it is replicated.
+use crate::tests::databases::tree;
+use crate::tests::large::load_wide;
+use crate::tests::peers::load;
+use crate::tests::plans::plan;
+use crate::tests::records::{fault_text, report_text};
+use crate::tests::texts::{append, doc_text, expect_answer};
+use doc_json::{Chosen, DocId};
+use repl_survey::{
+    Comparison, LedgerRow, census_of, compare, compare_feed, conflicting, documents_of, ledger_row,
+};
+use repl_target::{Peer, Refused, Rules, replicate_alone};
+use rev_core::Rev;
+use rev_tree::SessionId;
+use std::alloc::Global;
+use std::process::Abort;
+use test_texts::{rev_text, shown};
+
+/// The one session.
+const SESSION: SessionId = SessionId(1);
+
+/// A call on the two peers.
+#[derive(Clone, Copy)]
+pub(crate) enum Call<'a> {
+    /// Loads a document into the source.
+    Source(&'a str),
+    /// The same into the target.
+    Target(&'a str),
+    /// Loads so many leaves of the document d into the source.
+    Wide(u32),
+    /// Replicates the source into the target.
+    Replicate,
+    /// Compares a document of the source with the target's.
+    Compare(&'a str),
+    /// The total of the source's feed, or of a chosen document.
+    Total(Option<&'a str>),
+    /// The leaves of a document of the source that are in conflict.
+    Conflict(&'a str),
+    /// How much the source holds.
+    Census,
+    /// The ledger of the session.
+    Ledger,
+    /// The documents of the leaves of a document of the source.
+    Documents(&'a str),
+    /// Reads the tree of a document of the target.
+    Tree(&'a str),
+}
+
+/// Calls, each with the text that it must answer.
+pub(crate) type Rows = &'static [(Call<'static>, &'static str)];
+
+/// The source and the target, which refuses documents whose ids begin with x.
+#[derive(Drop)]
+struct Bench {
+    alloc: Global,
+    source: Peer<Rules>,
+    target: Peer<Rules>,
+}
+
+impl Bench {
+    /// Makes a call, and gives the text of its answer.
+    fn answer(&mut self, call: &Call) -> Option<String> {
+        match *call {
+            Call::Source(text) => load(self.alloc, &mut self.source, text),
+            Call::Target(text) => load(self.alloc, &mut self.target, text),
+            Call::Wide(leaves) => load_wide(self.alloc, &mut self.source, leaves),
+            Call::Replicate => self.replicate(),
+            asking => self.ask(&asking),
+        }
+    }
+
+    /// Asks, which changes nothing.
+    fn ask(&self, call: &Call) -> Option<String> {
+        match *call {
+            Call::Compare(id) => self.compare(id),
+            Call::Total(id) => self.total(id),
+            Call::Conflict(id) => self.conflict(id),
+            Call::Census => shown(self.alloc, &census_of(self.alloc, self.source.db()).ok()?),
+            Call::Ledger => ledger(self.alloc, self.target.ledger(SESSION)?),
+            Call::Documents(id) => self.documents(id),
+            Call::Tree(id) => tree(self.alloc, self.target.db(), id),
+            _ => None,
+        }
+    }
+
+    /// Replicates by one thread.
+    fn replicate(&mut self) -> Option<String> {
+        let plan = plan(SESSION, 500, 0)?;
+        match replicate_alone(self.alloc, &mut self.source, &mut self.target, &plan) {
+            Ok(report) => report_text(self.alloc, report),
+            Err(fault) => fault_text(self.alloc, fault),
+        }
+    }
+
+    /// Compares a document.
+    fn compare(&self, id: &str) -> Option<String> {
+        let id = DocId::parse(self.alloc, id).ok()?;
+        let found = compare(self.alloc, self.source.db(), self.target.db(), &id).ok()?;
+        comparison_text(self.alloc, &found)
+    }
+
+    /// The total of the feed.
+    fn total(&self, id: Option<&str>) -> Option<String> {
+        let chosen = match id {
+            Some(id) => Some(choice(self.alloc, id)?),
+            None => None,
+        };
+        let total = compare_feed(self.alloc, &self.source, &self.target, chosen.as_ref()).ok()?;
+        shown(self.alloc, &total)
+    }
+
+    /// The leaves in conflict.
+    fn conflict(&self, id: &str) -> Option<String> {
+        let id = DocId::parse(self.alloc, id).ok()?;
+        let found = conflicting(self.alloc, self.source.db().tree(&id)?).ok()?;
+        revs_text(self.alloc, &found)
+    }
+
+    /// The documents of all leaves.
+    fn documents(&self, id: &str) -> Option<String> {
+        let id = DocId::parse(self.alloc, id).ok()?;
+        let mut all = String::new(self.alloc);
+        for doc in &documents_of(self.alloc, self.source.db(), &id).ok()? {
+            append(&mut all, doc_text(self.alloc, doc))?;
+        }
+        Some(all)
+    }
+}
+
+/// The choice of one document.
+fn choice(alloc: Global, id: &str) -> Option<Chosen> {
+    let mut ids = Vec::new(alloc);
+    ids.push(DocId::parse(alloc, id).ok()?).ok()?;
+    Chosen::new(ids).ok()
+}
+
+/// Revisions, each behind a space.
+fn revs_text(alloc: Global, revs: &[Rev]) -> Option<String> {
+    let mut all = String::new(alloc);
+    for rev in revs {
+        all.push(' ').ok()?;
+        append(&mut all, rev_text(alloc, *rev))?;
+    }
+    Some(all)
+}
+
+/// How many leaves there are, those that are missing, the child that contradicts, and the leaves that differ.
+fn comparison_text(alloc: Global, found: &Comparison) -> Option<String> {
+    let mut all = format!(in alloc; "{} missing", found.leaves()).ok()?;
+    append(&mut all, revs_text(alloc, found.missing()))?;
+    if let Some(contradiction) = found.contradiction() {
+        all.push_str(" contradicts ").ok()?;
+        append(&mut all, rev_text(alloc, contradiction.child))?;
+    }
+    all.push_str(" differing").ok()?;
+    append(&mut all, revs_text(alloc, found.differing()))?;
+    Some(all)
+}
+
+/// A row of a ledger.
+fn row_text(alloc: Global, row: LedgerRow) -> Option<String> {
+    match row {
+        LedgerRow::Denied { rev } => {
+            let mut all = " denied".to_string(alloc).ok()?;
+            append(&mut all, revs_text(alloc, &[rev]))?;
+            Some(all)
+        }
+        LedgerRow::Contradicted { rev, known, given } => {
+            let mut all = " contradicted".to_string(alloc).ok()?;
+            append(&mut all, revs_text(alloc, &[rev, known, given]))?;
+            Some(all)
+        }
+    }
+}
+
+/// The rows of a ledger, each behind its document's id.
+fn ledger(alloc: Global, rows: &[Refused]) -> Option<String> {
+    let mut all = String::new(alloc);
+    for row in rows {
+        all.push_str(row.doc().id().text()).ok()?;
+        append(&mut all, row_text(alloc, ledger_row(row)))?;
+        all.push(';').ok()?;
+    }
+    Some(all)
+}
+
+/// A bench of no documents. The target refuses documents whose ids begin with x.
+fn two_peers(rt: &impl Abort, alloc: Global) -> Bench {
+    let deny = "x".to_string(alloc).expect(rt, "memory");
+    Bench {
+        alloc,
+        source: Peer::new(alloc, 1, Rules { deny: None }),
+        target: Peer::new(alloc, 2, Rules { deny: Some(deny) }),
+    }
+}
+
+/// Makes the calls, and asserts what each answers.
+pub(crate) fn expect(rt: &impl Abort, alloc: Global, rows: Rows) {
+    let mut bench = two_peers(rt, alloc);
+    for (i, (call, wanted)) in rows.iter().enumerate() {
+        expect_answer(rt, i, bench.answer(call), wanted);
+    }
+}

@@ -1,0 +1,135 @@
+//! What is asked of two peers: after a refused growth the same question is answered as ever.
+use crate::peers::{doc_id, load};
+use anyhow::{Result, bail};
+use couch_base::Database;
+use doc_json::DocId;
+use repl_survey::{
+    Census, Comparison, Total, census_of, compare, compare_feed, conflicting, documents_of,
+};
+use repl_target::{Peer, Rules};
+use rev_tree::Tree;
+use std::alloc::{AllocError, Global};
+
+/// Two leaves of one document, of which the target has one, with another history.
+const SOURCE: [&str; 2] = [
+    r#"{"_id":"d","_revisions":{"start":3,"ids":["d","b","a"]}}"#,
+    r#"{"_id":"d","_revisions":{"start":2,"ids":["c","a"]}}"#,
+];
+
+const TARGET: [&str; 2] = [
+    r#"{"_id":"d","_revisions":{"start":2,"ids":["b","x"]}}"#,
+    r#"{"_id":"d","_revisions":{"start":2,"ids":["c","a"]},"n":1}"#,
+];
+
+/// A comparison, once more where memory was refused.
+fn compared(alloc: Global, source: &Database, target: &Database, id: &DocId) -> Option<Comparison> {
+    match compare(alloc, source, target, id) {
+        Err(AllocError) => compare(alloc, source, target, id).ok(),
+        answer => answer.ok(),
+    }
+}
+
+/// A total, once more where memory was refused.
+fn total(alloc: Global, source: &Peer<Rules>, target: &Peer<Rules>) -> Option<Total> {
+    match compare_feed(alloc, source, target, None) {
+        Err(AllocError) => compare_feed(alloc, source, target, None).ok(),
+        answer => answer.ok(),
+    }
+}
+
+/// How much a database holds, once more where memory was refused.
+fn census(alloc: Global, database: &Database) -> Option<Census> {
+    match census_of(alloc, database) {
+        Err(AllocError) => census_of(alloc, database).ok(),
+        answer => answer.ok(),
+    }
+}
+
+/// Adds a tree, once more where memory was refused: nothing was added then.
+fn counted(alloc: Global, tree: &Tree) -> Option<Census> {
+    let mut census = Census::none();
+    if census.add(alloc, tree).is_err() {
+        if census != Census::none() {
+            return None;
+        }
+        census.add(alloc, tree).ok()?;
+    }
+    Some(census)
+}
+
+/// How many leaves are in conflict, once more where memory was refused.
+fn in_conflict(alloc: Global, tree: &Tree) -> Option<usize> {
+    match conflicting(alloc, tree) {
+        Err(AllocError) => Some(conflicting(alloc, tree).ok()?.len()),
+        answer => Some(answer.ok()?.len()),
+    }
+}
+
+/// How many documents the leaves make, once more where memory was refused.
+fn documents(alloc: Global, database: &Database, id: &DocId) -> Option<usize> {
+    match documents_of(alloc, database, id) {
+        Err(AllocError) => Some(documents_of(alloc, database, id).ok()?.len()),
+        answer => Some(answer.ok()?.len()),
+    }
+}
+
+/// What is said of the one document: how many leaves it has, how many are missing, and how many differ.
+fn of_document(
+    alloc: Global,
+    source: &Database,
+    target: &Database,
+    id: &DocId,
+) -> Option<(usize, usize, usize)> {
+    let comparison = compared(alloc, source, target, id)?;
+    let _contradiction = comparison.contradiction()?;
+    Some((
+        comparison.leaves(),
+        comparison.missing().len(),
+        comparison.differing().len(),
+    ))
+}
+
+/// How many leaves of the one document are in conflict, and how many documents they make.
+fn of_leaves(alloc: Global, database: &Database, id: &DocId) -> Option<(usize, usize)> {
+    let tree = database.tree(id)?;
+    let _census = counted(alloc, tree)?;
+    Some((in_conflict(alloc, tree)?, documents(alloc, database, id)?))
+}
+
+/// Everything that is asked.
+fn asked(alloc: Global, source: &Peer<Rules>, target: &Peer<Rules>) -> Option<bool> {
+    let id = doc_id(alloc, "d")?;
+    let of_document = of_document(alloc, source.db(), target.db(), &id)?;
+    let of_leaves = of_leaves(alloc, source.db(), &id)?;
+    let total = total(alloc, source, target)?;
+    let census = census(alloc, source.db())?;
+    let totals = total.missing == 1 && total.contradicting == 1 && total.differing == 1;
+    let counts = census.conflicts == 1 && census.leaves == 2 && census.revisions == 4;
+    Some(of_document == (2, 1, 1) && of_leaves == (2, 2) && totals && counts)
+}
+
+/// Loads the target's documents, and asks.
+fn with_target(alloc: Global, source: &Peer<Rules>) -> Option<bool> {
+    let mut target = Peer::new(alloc, 2, Rules { deny: None });
+    for text in TARGET {
+        let _put = load(alloc, &mut target, text)?;
+    }
+    asked(alloc, source, &target)
+}
+
+/// Loads the source's documents, and asks.
+fn of_peers(alloc: Global) -> Option<bool> {
+    let mut source = Peer::new(alloc, 1, Rules { deny: None });
+    for text in SOURCE {
+        let _put = load(alloc, &mut source, text)?;
+    }
+    with_target(alloc, &source)
+}
+
+pub(crate) fn run(rt: &impl Print, alloc: Global) -> Result<()> {
+    let Some(wanted) = of_peers(alloc) else {
+        bail!("surveys: another answer");
+    };
+    println!(rt; "surveys as wanted: {wanted}")?;
+    Ok(())
+}

@@ -1,0 +1,26 @@
+-- A content stands at each leaf, so that there is a document of it.
+use Rattle.std.proofs.Common.{◌≡◌, true, false, [], Option, Some, None, is_some, refl, sym, ap, ◌∙◌}
+use Rattle.std.specs.Option.{option_map, option_map_or}
+use Rattle.std.specs.FinMap.{get}
+use Rattle.std.proofs.lemmas.Bool.{and_parts, false≢true}
+use Rattle.rev_core.specs.Rev.{RevId}
+use Rattle.rev_tree.specs.Content.{ContentValue}
+use Rattle.rev_tree.specs.Tree.{TreeValue, is_leaf, ancestors}
+use Rattle.doc_json.specs.Document.{Document}
+use Rattle.couch_base.specs.Database.{Id, DatabaseValue, LawfulDatabase, tree_of}
+use Rattle.couch_base.specs.DatabaseLaws.{IsDocumentTree-tree_of}
+use Rattle.couch_base.specs.Messages.{leaf_document, document_in}
+
+pub document_there : (id : Id) (t : TreeValue) (leaf : RevId) → is_some (get t.contents leaf) ≡ true → document_in id t leaf ≡ Some (leaf_document id t leaf)
+document_there id t leaf h = go (get t.contents leaf) refl h
+  where
+    go : (o : Option ContentValue) → get t.contents leaf ≡ o → is_some o ≡ true → document_in id t leaf ≡ Some (leaf_document id t leaf)
+    go None e nothing = absurd (false≢true nothing)
+    go (Some b) e known =
+        ap (option_map (λ (c : ContentValue). let d : Document = record { id = id; ancestry = ancestors t leaf; deleted = c.deleted; body = c.body } in d)) e
+        ∙ sym (ap (λ (o : Option ContentValue). let d : Document = record { id = id; ancestry = ancestors t leaf; deleted = option_map_or (λ (c : ContentValue). c.deleted) o false; body = option_map_or (λ (c : ContentValue). c.body) o [] } in Some d) e)
+
+-- of a database's document
+pub leaf_there : (db : DatabaseValue) → LawfulDatabase db → (id : Id) (leaf : RevId) → is_leaf (tree_of db.docs id) leaf ≡ true → document_in id (tree_of db.docs id) leaf ≡ Some (leaf_document id (tree_of db.docs id) leaf)
+leaf_there db law id leaf top =
+    document_there id (tree_of db.docs id) leaf ((IsDocumentTree-tree_of db law id leaf (and_parts _ _ top).0).tree.leaf leaf top)

@@ -1,0 +1,17 @@
+-- Leaves of a tree are in it.
+use Rattle.std.proofs.Common.{◌≡◌, true, not, sym, ◌∙◌}
+use Rattle.std.specs.List.{list_all}
+use Rattle.std.proofs.lemmas.Bool.{and_parts}
+use Rattle.rev_tree.specs.Tree.{TreeValue, has, is_leaf, leaves, missing}
+use Rattle.rev_tree.specs.LeafLaws.{any_filter, is_among-leaves}
+use Rattle.couch_base.specs.ListLaws.{all_members}
+
+-- those of its leaves that another tree hasn't
+pub missing_known : (s t : TreeValue) → list_all (has s) (missing t (leaves s)) ≡ true
+missing_known s t =
+    all_members (has s) (missing t (leaves s))
+    (λ r m. (and_parts _ _ (sym (is_among-leaves s r) ∙ (and_parts _ _ (sym (any_filter (λ q. not (has t q)) r (leaves s)) ∙ m)).0)).0)
+
+-- all of them are leaves
+pub leaves_leaves : (s : TreeValue) → list_all (is_leaf s) (leaves s) ≡ true
+leaves_leaves s = all_members (is_leaf s) (leaves s) (λ r m. sym (is_among-leaves s r) ∙ m)

@@ -1,0 +1,7 @@
+-- Those of the revisions so far are found.
+use Rattle.std.proofs.Common.{◌≡◌, filter, take}
+use Rattle.repl_survey.specs.Comparing.{differs}
+use Rattle.repl_survey.proofs.comparison.differing_of.Given as goal
+
+abbrev pub invariant-loop-leaf : goal.invariant-loop-leaf
+invariant-loop-leaf l = l.found.items ≡ filter (differs l.source l.target) (take l.leaf-index l.leaves)

@@ -1,0 +1,8 @@
+-- The leaves so far are made documents.
+use Rattle.std.proofs.Common.{◌≡◌, map, take}
+use Rattle.couch_base.specs.Database.{tree_of}
+use Rattle.couch_base.specs.Messages.{leaf_document}
+use Rattle.repl_survey.proofs.documents.documents_at.Given as goal
+
+abbrev pub invariant-loop-leaf : goal.invariant-loop-leaf
+invariant-loop-leaf l = l.found.items ≡ map (leaf_document l.id (tree_of l.database.docs l.id)) (take l.leaf-index l.leaves)

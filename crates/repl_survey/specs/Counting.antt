@@ -1,0 +1,7 @@
+-- Counts of documents and revisions: docs/PROFILE.md, "Sequences".
+use Rattle.std.specs.Prelude.{ℕ, min}
+use Rattle.couch_base.specs.Database.{most}
+
+-- a count, which ends at the greatest sequence
+abbrev pub counted : ℕ → ℕ
+counted n = min n most

@@ -1,0 +1,10 @@
+pub mod Counting
+pub mod Comparing
+pub mod Comparisons
+pub mod Totals
+pub mod Covering
+pub mod Conflicts
+pub mod Censuses
+pub mod Ledgers
+pub mod Documents
+pub mod LoadBack
