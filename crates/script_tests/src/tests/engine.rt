@@ -27,6 +27,8 @@ impl Serve for Lengths {
         self.before = line.len();
         Ok(())
     }
+
+    fn hear(&mut self, _number: u64, _line: &[u8], _refused: Option<&'static str>) {}
 }
 
 /// Prints a length on a line.
