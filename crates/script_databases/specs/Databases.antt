@@ -5,7 +5,7 @@ use Rattle.std.specs.Str.{bytes_eq}
 use Rattle.std.specs.declared.cmp.Ordering.{Ordering}
 use Rattle.std.specs.Ordering.{nat_cmp}
 use Rattle.std.specs.Cmp.Lexicographic.{slice_cmp}
-use Rattle.std.specs.Coded.{Coded, code_by, coded×, coded_ℕ, coded_list, coded_option}
+use Rattle.std.specs.Coded.{Coded, code_by, coded×, coded_ℕ, coded_bool, coded_list, coded_option}
 use Rattle.std.specs.FinMap as finmap
 use Rattle.std.specs.FinMap.{FinMap}
 use Rattle.rev_core.specs.Rev.{RevId}
@@ -29,14 +29,15 @@ use Rattle.script_databases.specs.declared.refusal.Refusal.TheVariants as why
 abbrev pub text_cmp : List ℕ → List ℕ → Ordering
 text_cmp = slice_cmp nat_cmp
 
--- what the program is set to: the beginning of the ids that a target refuses, the seed of made ids, and the moment, the
--- workers and the batch of replications that name none
+-- what the program is set to: the beginning of the ids that a target refuses, the seed of made ids, the moment, the
+-- workers and the batch of replications that name none, and whether a load or an edit that is done is answered nothing
 pub record Program : Type 0 where
   pub deny : Option (List ℕ)
   pub seed : ℕ
   pub at : ℕ
   pub workers : ℕ
   pub batch : ℕ
+  pub quiet : Bool
 
 -- a copy of a database, with the database's name and its own
 pub record NamedBackupValue : Type 0 where
@@ -59,22 +60,23 @@ pub record State : Type 0 where
   pub peers : FinMap text_cmp PeerValue
 
 abbrev pub coded_state : Coded State
-coded_state = code_by (Option (List ℕ) × (ℕ × (ℕ × (ℕ × (ℕ × (ℕ × (List NamedBackupValue × FinMap text_cmp PeerValue)))))))
+coded_state = code_by (Option (List ℕ) × (ℕ × (ℕ × (ℕ × (ℕ × (Bool × (ℕ × (List NamedBackupValue × FinMap text_cmp PeerValue))))))))
     (coded× (coded_option (coded_list coded_ℕ))
     (coded× coded_ℕ
     (coded× coded_ℕ
     (coded× coded_ℕ
     (coded× coded_ℕ
-    (coded× coded_ℕ (coded× (coded_list coded_named_backup) (finmap.code (coded_list coded_ℕ) coded_peer))))))))
+    (coded× coded_bool
+    (coded× coded_ℕ (coded× (coded_list coded_named_backup) (finmap.code (coded_list coded_ℕ) coded_peer)))))))))
     (λ s. (
       s.program.deny,
-      (s.program.seed, (s.program.at, (s.program.workers, (s.program.batch, (s.drawn, (s.backups, s.peers)))))),
+      (s.program.seed, (s.program.at, (s.program.workers, (s.program.batch, (s.program.quiet, (s.drawn, (s.backups, s.peers))))))),
     ))
     (λ p. record {
-      program = record { deny = p.0; seed = p.1.0; at = p.1.1.0; workers = p.1.1.1.0; batch = p.1.1.1.1.0 };
-      drawn = p.1.1.1.1.1.0;
-      backups = p.1.1.1.1.1.1.0;
-      peers = p.1.1.1.1.1.1.1;
+      program = record { deny = p.0; seed = p.1.0; at = p.1.1.0; workers = p.1.1.1.0; batch = p.1.1.1.1.0; quiet = p.1.1.1.1.1.0 };
+      drawn = p.1.1.1.1.1.1.0;
+      backups = p.1.1.1.1.1.1.1.0;
+      peers = p.1.1.1.1.1.1.1.1;
     })
     (λ _. refl)
 

@@ -54,7 +54,14 @@ IsEmptied old source target new =
 -- what settings say of a program
 abbrev pub program_of : Settings → Program
 program_of s =
-    record { deny = option_map string_bytes s.deny; seed = s.seed; at = s.at; workers = s.workers; batch = s.batch }
+    record {
+      deny = option_map string_bytes s.deny;
+      seed = s.seed;
+      at = s.at;
+      workers = s.workers;
+      batch = s.batch;
+      quiet = s.quiet;
+    }
 
 abbrev pub beside_of : Settings → ℕ → List NamedBackupValue → Beside
 beside_of s drawn backups = record { program = program_of s; drawn = drawn; backups = backups }

@@ -91,7 +91,7 @@ pub enum Refusal {
     NoSuchDocument,
     /// The document has no such revision, or it has no content.
     NoSuchRevision,
-    /// The target has no such session, which no line asks for.
+    /// The target has no such session.
     NoSuchSession,
     /// A pool without workers.
     NoWorkers,

@@ -1,5 +1,5 @@
 //! What a program of scripts is set to.
-ghost use Rattle.std.specs.Prelude.{◌≡◌, IfOk};
+ghost use Rattle.std.specs.Prelude.{◌≡◌, IfOk, false};
 ghost use Rattle.script_databases.specs.Stored.{program_of};
 
 use std::alloc::{AllocError, Global};
@@ -18,12 +18,14 @@ pub struct Settings {
     pub workers: u64,
     /// How many rows a window of a replication has at most.
     pub batch: u64,
+    /// Whether a load or an edit that is done is answered nothing.
+    pub quiet: bool,
 }
 
 impl Settings {
-    /// The settings of a program without options: no prefix, 0, 0, 4, 500.
+    /// The settings of a program without options: no prefix, 0, 0, 4, 500, not quiet.
     pub fn new() -> Settings
-        ensures { result ≡ record { deny = None; seed = 0; at = 0; workers = 4; batch = 500 } }
+        ensures { result ≡ record { deny = None; seed = 0; at = 0; workers = 4; batch = 500; quiet = false } }
     {
         Settings {
             deny: None,
@@ -31,6 +33,7 @@ impl Settings {
             at: 0,
             workers: 4,
             batch: 500,
+            quiet: false,
         }
     }
 
@@ -48,6 +51,7 @@ impl Settings {
             at: self.at,
             workers: self.workers,
             batch: self.batch,
+            quiet: self.quiet,
         })
     }
 }

@@ -9,11 +9,11 @@ use Rattle.script_databases.specs.Refusals.{name_of}
 use Rattle.script_databases.specs.declared.refusal.Refusal.{Refusal}
 use Rattle.script_databases.specs.declared.refusal.Refusal.TheVariants as why
 use Rattle.script_words.specs.Given.{document_given}
-use Rattle.script_words.specs.words.Load.{LoadAsk, NamedLoad, Loads, LoadsAt, LoadsNamed, LoadsNew}
+use Rattle.script_words.specs.words.Load.{LoadAsk, NamedLoad, LoadsLoud, LoadsAt, LoadsNamed, LoadsNew}
 
 -- where it is known whether the database is there, whether a UUID is given, and what the document is
 pub loads : (old new : State) (ask : LoadAsk) (told : Told) (there : Option PeerValue) (uuid : Option ℕ) (doc : Result (Option Document) Refusal) → peer_at old ask.db ≡ there → ask.uuid ≡ uuid → document_given ask.doc ≡ doc →
-    LoadsAt old ask.db there uuid doc told new → Loads old ask told new
+    LoadsAt old ask.db there uuid doc told new → LoadsLoud old ask told new
 loads old new ask told there uuid doc e f g h =
     subst (λ o. LoadsAt old ask.db o ask.uuid (document_given ask.doc) told new) (sym e) (subst (λ u. LoadsAt old ask.db there u (document_given ask.doc) told new) (sym f) (subst (λ d. LoadsAt old ask.db there uuid d told new) (sym g) h))
 

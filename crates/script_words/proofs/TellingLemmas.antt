@@ -1,5 +1,5 @@
 -- From checks that pass, or don't, to what a word is told.
-use Rattle.std.proofs.Common.{◌≡◌, ◌⊎◌, inl, inr, ℕ, true, false, List, [], ◌++◌, Option, Some, None, Result, Ok, Err, IsErrAnd, refl, sym, ap, subst, ◌∙◌, is_some}
+use Rattle.std.proofs.Common.{◌≡◌, ◌⊎◌, inl, inr, ℕ, Bool, true, false, List, [], ◌++◌, Option, Some, None, Result, Ok, Err, IsErrAnd, refl, sym, ap, subst, ◌∙◌, is_some}
 use Rattle.std.proofs.lemmas.Bool.{true≢false}
 use Rattle.std.specs.FinMap.{contains_key}
 use Rattle.rev_tree.specs.Tree.{TreeValue}
@@ -11,7 +11,7 @@ use Rattle.script_databases.specs.Refusals.{name_of}
 use Rattle.script_databases.specs.declared.refusal.Refusal.{Refusal}
 use Rattle.script_databases.specs.declared.refusal.Refusal.TheVariants as why
 use Rattle.rev_core.specs.Checks.{◌>>=◌, or_refused}
-use Rattle.script_words.specs.Telling.{told_by, told_of, Reads, Does}
+use Rattle.script_words.specs.Telling.{hushed, told_hushed, told_by, told_of, Reads, Does, UnlessQuiet}
 
 -- ---- checks
 
@@ -75,6 +75,23 @@ pub may_tell : {K L : Type 0} {part : Answering State K} {whole : Answering Stat
 may_tell f (in_full a) = in_full (f _ a)
 may_tell f gave_up = gave_up
 may_tell f (served_only text a) = served_only text (f _ a)
+
+-- ---- where the program is quiet
+
+-- what may be told aloud, or nothing in its place
+pub unless_quiet : {L : Type 0} {answers : Answering State L} {old new : State} {ask : L} {told : Told} (quiet : Bool) → quiet ≡ old.program.quiet → MayTell answers old ask told new → MayTell (UnlessQuiet answers) old ask (told_hushed quiet told) new
+unless_quiet quiet e (in_full {told = told} a) = in_full (told, a, ap (λ q. told_hushed q told) e)
+unless_quiet quiet e gave_up = gave_up
+unless_quiet quiet e (served_only text a) = served_only (hushed quiet text) (Ok text, a, ap (λ q. told_hushed q (Ok text)) e)
+
+pub hushed_by : {A : Type 0} (quiet : Bool) (r : Result A Refusal) (text : List ℕ) → told_hushed quiet (told_by r text) ≡ told_by r (hushed quiet text)
+hushed_by quiet (Ok done) text = refl
+hushed_by quiet (Err refusal) text = refl
+
+-- what a call tells aloud, and its text is taken back
+pub taken_back : {L A : Type 0} {answers : Answering State L} {old new : State} {ask : L} (quiet : Bool) (r : Result A Refusal) (text left : List ℕ) → quiet ≡ old.program.quiet → left ≡ hushed quiet text → MayTell answers old ask (told_by r text) new → MayTell (UnlessQuiet answers) old ask (told_by r left) new
+taken_back {answers = answers} {old = old} {new = new} {ask = ask} quiet r text left q l h =
+    subst (λ told. MayTell (UnlessQuiet answers) old ask told new) (hushed_by quiet r text ∙ ap (told_by r) (sym l)) (unless_quiet quiet q h)
 
 -- ---- documents
 

@@ -39,3 +39,7 @@ pub texts_step : {X : Type 0} (f : X → List ℕ) (text next all : List ℕ) (r
 texts_step f text next all rows rest whole e h n =
     ap (λ t. t ++ flat_map f rest) n ∙ append_assoc text (flat_map f rows) (flat_map f rest)
     ∙ ap (λ t. text ++ t) (sym (flat_map-append f rows rest) ∙ ap (flat_map f) e) ∙ h
+
+-- one part behind another
+pub two_parts : (old mid new a b : List ℕ) → mid ≡ old ++ a → new ≡ mid ++ b → new ≡ old ++ (a ++ b)
+two_parts old mid new a b m n = n ∙ ap (λ t. t ++ b) m ∙ append_assoc old a b

@@ -4,17 +4,21 @@ use Rattle.script_engine.specs.Serving.{Told, Answering, MayTell, in_full}
 use Rattle.script_databases.specs.Databases.{State}
 use Rattle.script_databases.specs.Refusals.{name_of}
 use Rattle.script_databases.specs.declared.refusal.Refusal.{Refusal}
-use Rattle.script_databases.specs.declared.refusal.Refusal.TheVariants as why
 use Rattle.script_words.specs.Checks.{seen_as}
 use Rattle.script_words.specs.Script.{AnswersAsked}
+use Rattle.script_words.specs.Telling.{AnswersIn}
 use Rattle.script_words.specs.words.{Asked, WordsAnswer}
 use Rattle.script_words.proofs.TellingLemmas.{may_tell}
 
 -- what is asked is answered as its room may answer it
-pub word_answered : {K : Type 0} {room : Answering State K} {old new : State} {told : Told} (word : K → Asked) (part : Result K Refusal) (ask : K) → part ≡ Ok ask → ((t : Told) → room old ask t new → WordsAnswer old (word ask) t new)
-    → MayTell room old ask told new → MayTell AnswersAsked old (seen_as word part) told new
-word_answered {old = old} {new = new} {told = told} word part ask e f h = subst (λ p. MayTell AnswersAsked old (seen_as word p) told new) (sym e) (may_tell f h)
+pub room_answered : {K : Type 0} {room : Answering State K} {old new : State} {told : Told} {part : Result K Refusal} {ask : K} → part ≡ Ok ask → MayTell room old ask told new → MayTell (AnswersIn room) old part told new
+room_answered {room = room} {old = old} {new = new} {told = told} e h = subst (λ p. MayTell (AnswersIn room) old p told new) (sym e) (may_tell (λ t a. a) h)
 
 -- what an object asks badly is refused
-pub word_refused : {K : Type 0} {old : State} (word : K → Asked) (part : Result K Refusal) → part ≡ Err why.BadCommand → MayTell AnswersAsked old (seen_as word part) (Err (name_of why.BadCommand)) old
-word_refused {old = old} word part e = subst (λ p. MayTell AnswersAsked old (seen_as word p) (Err (name_of why.BadCommand)) old) (sym e) (in_full (refl, refl))
+pub room_refused : {K : Type 0} {room : Answering State K} {old : State} {part : Result K Refusal} {refusal : Refusal} → part ≡ Err refusal → MayTell (AnswersIn room) old part (Err (name_of refusal)) old
+room_refused {room = room} {old = old} {refusal = refusal} e = subst (λ p. MayTell (AnswersIn room) old p (Err (name_of refusal)) old) (sym e) (in_full (refl, refl))
+
+-- what a word's room answers, the line is told
+pub word_answered : {K : Type 0} {room : Answering State K} {old new : State} {told : Told} (word : K → Asked) → ((ask : K) (t : Told) → room old ask t new → WordsAnswer old (word ask) t new) → (part : Result K Refusal) → MayTell (AnswersIn room) old part told new → MayTell AnswersAsked old (seen_as word part) told new
+word_answered word f (Ok ask) h = may_tell (f ask) h
+word_answered word f (Err refusal) h = may_tell (λ t a. a) h

@@ -4,11 +4,11 @@ use Rattle.std.specs.Prelude.{◌≡◌, ◌⊎◌, ℕ, List, Some, Result, Ok,
 use Rattle.std.specs.Str.{IsUtf8}
 use Rattle.serde_json.specs.Data.{object, Members}
 use Rattle.serde_json.specs.Read.{read}
-use Rattle.script_engine.specs.Serving.{Told, Answering}
+use Rattle.script_engine.specs.Serving.{Answering}
 use Rattle.script_databases.specs.Databases.{State}
 use Rattle.script_databases.specs.declared.refusal.Refusal.{Refusal}
 use Rattle.script_databases.specs.declared.refusal.Refusal.TheVariants as why
-use Rattle.script_words.specs.Telling.{Refuses}
+use Rattle.script_words.specs.Telling.{AnswersIn}
 use Rattle.script_words.specs.words.{Asked, asked_in, WordsAnswer}
 
 -- the line is this JSON object
@@ -25,9 +25,8 @@ Asks line asked =
     ((ms : Members) × IsObject line ms × (asked ≡ asked_in (object ms))) ⊎ (IsNoObject line × (asked ≡ Err why.BadLine))
 
 -- what is asked is answered, or refused and everything stays
-abbrev pub AnswersAsked : State → Result Asked Refusal → Told → State → Type 0
-AnswersAsked old (Ok ask) told new = WordsAnswer old ask told new
-AnswersAsked old (Err refusal) told new = Refuses refusal old told new
+abbrev pub AnswersAsked : Answering State (Result Asked Refusal)
+AnswersAsked old asked told new = AnswersIn WordsAnswer old asked told new
 
 -- what lines may be told
 abbrev pub LinesAnswer : Answering State (List ℕ)

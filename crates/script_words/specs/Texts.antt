@@ -1,5 +1,5 @@
 -- Parts of answers that several words print: docs/PROFILE.md, "Answers".
-use Rattle.std.specs.Prelude.{ℕ, List, [], ◌∷◌, ◌++◌, map, Option}
+use Rattle.std.specs.Prelude.{ℕ, ◌==◌, List, [], ◌∷◌, ◌++◌, length, codes, decimal, map, if◌then◌else◌, Option}
 use Rattle.std.specs.List.{join_with_byte}
 use Rattle.std.specs.Option.{option_map_or}
 use Rattle.serde_json.specs.Data.{string}
@@ -22,3 +22,15 @@ text_of_any rev = option_map_or rev_text rev []
 -- their texts, joined by commas
 abbrev pub texts_of_revs : List RevId → List ℕ
 texts_of_revs revs = join_with_byte 44 (map rev_text revs)
+
+-- a line of a document's revisions
+abbrev pub line_of_revs : List ℕ → List ℕ → List RevId → List ℕ
+line_of_revs word id revs = ended (word ++ codes " " ++ quoted id ++ codes " " ++ texts_of_revs revs)
+
+-- none where there are none
+abbrev pub revs_line : List ℕ → List ℕ → List RevId → List ℕ
+revs_line word id revs = if length revs == 0 then [] else line_of_revs word id revs
+
+-- the sequence up to which a feed was listed
+abbrev pub last_line : ℕ → List ℕ
+last_line last = ended (codes "last " ++ decimal last)

@@ -19,6 +19,11 @@ use Rattle.script_words.specs.words.Audit.{AuditAsk, audit_in, Audits}
 use Rattle.script_words.specs.words.Replicate.{ReplicateAsk, replicate_in, ReportsReplication}
 use Rattle.script_words.specs.words.Backup.{BackupAsk, backup_in, BacksUp}
 use Rattle.script_words.specs.words.Restore.{RestoreAsk, restore_in, Restores}
+use Rattle.script_words.specs.words.Compare.{CompareAsk, compare_in, Compares}
+use Rattle.script_words.specs.words.Conflicts.{ConflictsAsk, conflicts_in, ListsConflicts}
+use Rattle.script_words.specs.words.Docs.{DocsAsk, docs_in, PrintsDocuments}
+use Rattle.script_words.specs.words.Info.{InfoAsk, info_in, Informs}
+use Rattle.script_words.specs.words.Ledger.{LedgerAsk, ledger_in, ListsLedger}
 use Rattle.script_words.specs.declared.words.Word.{Word}
 use Rattle.script_words.specs.declared.words.Word.TheVariants as word
 pub mod Load
@@ -31,6 +36,11 @@ pub mod Audit
 pub mod Replicate
 pub mod Backup
 pub mod Restore
+pub mod Compare
+pub mod Conflicts
+pub mod Docs
+pub mod Info
+pub mod Ledger
 
 -- what a line asks: a word, with what it names
 pub data Asked : Type 0 where
@@ -44,6 +54,11 @@ pub data Asked : Type 0 where
   replicate : ReplicateAsk → Asked
   backup : BackupAsk → Asked
   restore : RestoreAsk → Asked
+  compare : CompareAsk → Asked
+  conflicts : ConflictsAsk → Asked
+  docs : DocsAsk → Asked
+  info : InfoAsk → Asked
+  ledger : LedgerAsk → Asked
 
 -- what an object asks by a word
 abbrev pub asked_as : Word → Data → Result Asked Refusal
@@ -57,6 +72,11 @@ asked_as word.Audit d = seen_as audit (audit_in d)
 asked_as word.Replicate d = seen_as replicate (replicate_in d)
 asked_as word.Backup d = seen_as backup (backup_in d)
 asked_as word.Restore d = seen_as restore (restore_in d)
+asked_as word.Compare d = seen_as compare (compare_in d)
+asked_as word.Conflicts d = seen_as conflicts (conflicts_in d)
+asked_as word.Docs d = seen_as docs (docs_in d)
+asked_as word.Info d = seen_as info (info_in d)
+asked_as word.Ledger d = seen_as ledger (ledger_in d)
 
 -- where a word is known
 abbrev pub asked_if : Option Word → Data → Result Asked Refusal
@@ -76,7 +96,12 @@ asked_by name d =
     else (if bytes_eq name (codes "replicate") then asked_as word.Replicate d
     else (if bytes_eq name (codes "backup") then asked_as word.Backup d
     else (if bytes_eq name (codes "restore") then asked_as word.Restore d
-    else Err why.BadCommand)))))))))
+    else (if bytes_eq name (codes "compare") then asked_as word.Compare d
+    else (if bytes_eq name (codes "conflicts") then asked_as word.Conflicts d
+    else (if bytes_eq name (codes "docs") then asked_as word.Docs d
+    else (if bytes_eq name (codes "info") then asked_as word.Info d
+    else (if bytes_eq name (codes "ledger") then asked_as word.Ledger d
+    else Err why.BadCommand))))))))))))))
 
 -- by its member `do`
 abbrev pub asked_in : Data → Result Asked Refusal
@@ -96,3 +121,8 @@ WordsAnswer old (audit ask) told new = Audits old ask told new
 WordsAnswer old (replicate ask) told new = ReportsReplication old ask told new
 WordsAnswer old (backup ask) told new = BacksUp old ask told new
 WordsAnswer old (restore ask) told new = Restores old ask told new
+WordsAnswer old (compare ask) told new = Compares old ask told new
+WordsAnswer old (conflicts ask) told new = ListsConflicts old ask told new
+WordsAnswer old (docs ask) told new = PrintsDocuments old ask told new
+WordsAnswer old (info ask) told new = Informs old ask told new
+WordsAnswer old (ledger ask) told new = ListsLedger old ask told new

@@ -16,23 +16,25 @@ use crate::members::read_object;
 use crate::words;
 use json_values::ValueReader;
 use script_databases::{Databases, Refusal, Settings};
-use script_engine::{ScriptFault, ScriptRead, ScriptWrite, Serve, leave, run_lines};
+use script_engine::{Listen, ScriptFault, ScriptRead, ScriptWrite, Serve, leave, run_lines};
 use std::alloc::Global;
 use std::marker::Model;
 use std::mem;
 use std::sync::Wait;
 use std::thread::Threads;
 
-/// The databases that a script's lines are served by, what they run on, and what reads the lines' values.
+/// The databases that a script's lines are served by, what they run on, what reads the lines' values, and who hears what
+/// lines are told.
 #[derive(Drop)]
-struct Interpreter<'a, H> {
+struct Interpreter<'a, H, L> {
     rt: &'a H,
     alloc: Global,
     values: ValueReader,
     databases: Databases,
+    listener: L,
 }
 
-impl<'a, H> Model for Interpreter<'a, H> {
+impl<'a, H, L> Model for Interpreter<'a, H, L> {
     ghost use Rattle.script_databases.specs.Databases.{State, coded_state};
 
     ghost Value = { State };
@@ -42,7 +44,7 @@ impl<'a, H> Model for Interpreter<'a, H> {
     ghost view = { λ a. a.databases };
 }
 
-impl<'a, H: Threads + Wait + Sync> Serve for Interpreter<'a, H> {
+impl<'a, H: Threads + Wait + Sync, L: Listen> Serve for Interpreter<'a, H, L> {
     ghost use Rattle.std.specs.Thread.{IsSync};
 
     ghost can_serve = { IsSync H.row };
@@ -62,6 +64,11 @@ impl<'a, H: Threads + Wait + Sync> Serve for Interpreter<'a, H> {
             Err(refusal) => return Err(refusal.name()),
         }
         Ok(())
+    }
+
+    #[inline]
+    fn hear(&mut self, number: u64, line: &[u8], refused: Option<&'static str>) {
+        self.listener.hear(number, line, refused);
     }
 }
 
@@ -96,13 +103,18 @@ fn answer_line<H: Threads + Wait + Sync>(
 /// The databases of the script are left in memory, since to let go of each document takes long: a program ends behind
 /// it.
 ///
+/// The listener hears what each line is told, and changes nothing of it.
+///
 /// It waits for the threads of a `replicate` line. That it ends is not proved.
-pub fn run_script<H: AllocGlobal + Threads + Wait + Sync, R: ScriptRead, W: ScriptWrite>(
+pub fn run_script<H, R: ScriptRead, W: ScriptWrite, L: Listen>(
     rt: &H,
     reader: &mut R,
     writer: &mut W,
+    listener: L,
     settings: &Settings,
 ) -> Result<bool, ScriptFault>
+where
+    H: AllocGlobal + Threads + Wait + Sync,
     // What is written is the answers to the lines of what was read, to its end.
     ensures answers { IfOk result
         (λ clean. (input : List ℕ) × (text : List ℕ) × (state : State) × Gives (R.left reader.old) input
@@ -139,18 +151,19 @@ pub fn run_script<H: AllocGlobal + Threads + Wait + Sync, R: ScriptRead, W: Scri
         Ok(databases) => databases,
         Err(refused) => return Err(leave(writer, ScriptFault::from(refused))),
     };
-    let (ended, databases) = run_on(rt, rt.alloc(), databases, reader, writer);
+    let (ended, databases) = run_on(rt, rt.alloc(), databases, reader, writer, listener);
     mem::forget(databases);
     ended
 }
 
 /// Runs a script on databases that are there, and gives them back: the last state of the script.
-fn run_on<H: Threads + Wait + Sync, R: ScriptRead, W: ScriptWrite>(
+fn run_on<H: Threads + Wait + Sync, R: ScriptRead, W: ScriptWrite, L: Listen>(
     rt: &H,
     alloc: Global,
     databases: Databases,
     reader: &mut R,
     writer: &mut W,
+    listener: L,
 ) -> (Result<bool, ScriptFault>, Databases)
     ensures answers { IfOk result.0 (λ clean. (input : List ℕ) × (text : List ℕ) × Gives (R.left reader.old) input
         × Appends (W.held writer.old) (W.held writer.new) text
@@ -172,6 +185,7 @@ fn run_on<H: Threads + Wait + Sync, R: ScriptRead, W: ScriptWrite>(
         alloc,
         values: ValueReader::new(alloc),
         databases,
+        listener,
     };
     let ended = run_lines(alloc, &mut interpreter, reader, writer);
     let Interpreter {
@@ -179,6 +193,8 @@ fn run_on<H: Threads + Wait + Sync, R: ScriptRead, W: ScriptWrite>(
         alloc: _,
         values: _,
         databases,
+        mut listener,
     } = interpreter;
+    listener.close();
     (ended, databases)
 }

@@ -1,13 +1,15 @@
 //! Scripts of commands on document databases in memory: what their lines ask, what is done, and what is answered.
 //!
 //! What a script is stands in docs/PROFILE.md, "Command lines" and "Answers". A line is read as an object (`members`),
-//! which asks for a word (`words`); the word's room reads its members, looks at what they give (`given`), does it with
-//! the databases, and puts the answer's text into a buffer (`texts`). `interpreter` runs a whole script.
+//! which asks for a word (`words`); the word's room (`room`) reads its members, looks at what they give (`given`), does it
+//! with the databases, and puts the answer's text into a buffer (`texts`). `interpreter` runs a whole script.
 #![tactic(auto)]
 
+mod feed;
 mod given;
 mod interpreter;
 mod members;
+mod room;
 mod texts;
 mod words;
 

@@ -1,12 +1,14 @@
 //! Parts of answers that several words print (docs/PROFILE.md, "Answers").
-ghost use Rattle.std.specs.Prelude.{◌≡◌, ◌++◌, OnOk, decimal};
+ghost use Rattle.std.specs.Prelude.{◌≡◌, ◌++◌, IfOk, OnOk, decimal, string_bytes};
 ghost use Rattle.rev_core.specs.Text.{rev_text};
-ghost use Rattle.script_words.specs.Texts.{quoted, texts_of_revs};
+ghost use Rattle.repl_log.specs.Text.{id_digits};
+ghost use Rattle.script_words.specs.Telling.{hushed};
+ghost use Rattle.script_words.specs.Texts.{last_line, line_of_revs, quoted, revs_line, texts_of_revs};
 
 use doc_json::push_text;
 use itoa::Buffer;
 use rev_core::Rev;
-use std::alloc::AllocError;
+use std::alloc::{AllocError, Global};
 
 /// Adds a number.
 #[inline(never)]
@@ -81,4 +83,62 @@ pub fn push_json(text: &mut Vec<u8>, string: &str) -> Result<(), AllocError>
     ensures { OnOk result (text.new.items ≡ text.old.items ++ quoted string.now) }
 {
     push_text(text, string)
+}
+
+/// Adds a line of a word, a document's id and revisions of it; no line where there are no revisions.
+pub fn push_revs_line(
+    text: &mut Vec<u8>,
+    word: &[u8],
+    id: &str,
+    revs: &[Rev],
+) -> Result<(), AllocError>
+    ensures { OnOk result (text.new.items ≡ text.old.items ++ revs_line word.now id.now revs.now) }
+{
+    if revs.is_empty() {
+        return Ok(());
+    }
+    push_line_of_revs(text, word, id, revs)
+}
+
+/// Adds a line of a word, a document's id and revisions of it.
+fn push_line_of_revs(
+    text: &mut Vec<u8>,
+    word: &[u8],
+    id: &str,
+    revs: &[Rev],
+) -> Result<(), AllocError>
+    ensures { OnOk result (text.new.items ≡ text.old.items ++ line_of_revs word.now id.now revs.now) }
+{
+    text.extend_from_slice(word)?;
+    text.push(b' ')?;
+    push_json(text, id)?;
+    text.push(b' ')?;
+    push_revs(text, revs)?;
+    text.extend_from_slice(b"\n")
+}
+
+/// Adds the line of the sequence up to which a feed was listed.
+pub fn push_last(text: &mut Vec<u8>, last: u64) -> Result<(), AllocError>
+    ensures { OnOk result (text.new.items ≡ text.old.items ++ last_line last) }
+{
+    text.extend_from_slice(b"last ")?;
+    push_number(text, last)?;
+    text.extend_from_slice(b"\n")
+}
+
+/// Takes the answer back, where the program is quiet.
+pub fn hush(text: &mut Vec<u8>, quiet: bool)
+    ensures { text.new.items ≡ hushed quiet text.old.items }
+{
+    if quiet {
+        text.clear();
+    }
+}
+
+/// The 32 lower case hexadecimal digits of an id.
+#[tactic(auto, unfolding(repl_log::specs::Text::id_digits))]
+pub fn id_text(alloc: Global, id: u128) -> Result<String, AllocError>
+    ensures { IfOk result (λ text. string_bytes text ≡ id_digits id) }
+{
+    hex::encode(alloc, id.to_be_bytes())
 }

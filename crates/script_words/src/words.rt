@@ -5,20 +5,41 @@ ghost use Rattle.json_values.specs.LineView.{line_view};
 ghost use Rattle.script_engine.specs.Serving.{MayTell};
 ghost use Rattle.script_words.specs.Script.{AnswersAsked};
 ghost use Rattle.script_words.specs.Telling.{told_by};
-ghost use Rattle.script_words.specs.words.{asked_as, asked_if, asked_in};
+ghost use Rattle.script_words.specs.words.{asked_if, asked_in};
 
 mod audit;
 mod backup;
 mod changes;
+mod compare;
+mod conflicts;
 mod doc;
+mod docs;
 mod edit;
+mod info;
+mod ledger;
 mod load;
 mod log;
 mod replicate;
 mod restore;
 mod show;
 
+use self::audit::Audit;
+use self::backup::Backup;
+use self::changes::Changes;
+use self::compare::Compare;
+use self::conflicts::Conflicts;
+use self::doc::Doc;
+use self::docs::Docs;
+use self::edit::Edit;
+use self::info::Info;
+use self::ledger::Ledger;
+use self::load::Load;
+use self::log::Log;
+use self::replicate::Replicate;
+use self::restore::Restore;
+use self::show::Show;
 use crate::members::text_member;
+use crate::room::serve_in;
 use json_values::{Line, LineValue};
 use script_databases::{Databases, Refusal};
 use std::alloc::Global;
@@ -38,6 +59,11 @@ enum Word {
     Replicate,
     Backup,
     Restore,
+    Compare,
+    Conflicts,
+    Docs,
+    Info,
+    Ledger,
 }
 
 /// The word of an object, by its member `do`.
@@ -55,11 +81,16 @@ fn word_of(value: &LineValue<'_>) -> Option<Word>
         Some("replicate") => Some(Word::Replicate),
         Some("backup") => Some(Word::Backup),
         Some("restore") => Some(Word::Restore),
+        Some("compare") => Some(Word::Compare),
+        Some("conflicts") => Some(Word::Conflicts),
+        Some("docs") => Some(Word::Docs),
+        Some("info") => Some(Word::Info),
+        Some("ledger") => Some(Word::Ledger),
         _ => None,
     }
 }
 
-/// Serves what an object asks by its word. It waits, where the word is `replicate`.
+/// Serves what an object asks, in the room of its word. It waits, where the word is `replicate`.
 pub fn serve<H: Threads + Wait + Sync>(
     rt: &H,
     alloc: Global,
@@ -71,200 +102,30 @@ pub fn serve<H: Threads + Wait + Sync>(
     ensures { MayTell AnswersAsked databases.old (asked_in (line_view line.now)) (told_by result answer.new.items)
         databases.new }
 {
-    let seen = line.value();
-    let Some(word) = word_of(seen) else {
+    let Some(word) = word_of(line.value()) else {
         return Err(Refusal::BadCommand);
     };
     match word {
-        Word::Load => serve_load(alloc, databases, line, answer),
-        Word::Edit => serve_edit(alloc, databases, line, answer),
-        Word::Show => serve_show(alloc, databases, seen, answer),
-        Word::Doc => serve_doc(alloc, databases, seen, answer),
-        Word::Changes => serve_changes(alloc, databases, seen, answer),
-        Word::Log => serve_log(alloc, databases, seen, answer),
-        Word::Audit => serve_audit(alloc, databases, seen, answer),
-        Word::Replicate => serve_replicate(rt, alloc, databases, seen, answer),
-        Word::Backup => serve_backup(alloc, databases, seen, answer),
-        Word::Restore => serve_restore(databases, seen, answer),
-    }
-}
-
-/// Serves what an object asks by `load`.
-#[inline(never)]
-fn serve_load(
-    alloc: Global,
-    databases: &mut Databases,
-    line: &Line<'_>,
-    answer: &mut Vec<u8>,
-) -> Result<(), Refusal>
-    requires empty { answer.old.items ≡ [] }
-    ensures { MayTell AnswersAsked databases.old (asked_as Word.Load (line_view line.now)) (told_by result answer.new.items)
-        databases.new }
-{
-    match load::read(line) {
-        Some(ask) => load::serve(alloc, databases, &ask, answer),
-        None => Err(Refusal::BadCommand),
-    }
-}
-
-/// Serves what an object asks by `edit`.
-#[inline(never)]
-fn serve_edit(
-    alloc: Global,
-    databases: &mut Databases,
-    line: &Line<'_>,
-    answer: &mut Vec<u8>,
-) -> Result<(), Refusal>
-    requires empty { answer.old.items ≡ [] }
-    ensures { MayTell AnswersAsked databases.old (asked_as Word.Edit (line_view line.now)) (told_by result answer.new.items)
-        databases.new }
-{
-    match edit::read(line) {
-        Some(ask) => edit::serve(alloc, databases, &ask, answer),
-        None => Err(Refusal::BadCommand),
-    }
-}
-
-/// Serves what an object asks by `show`.
-#[inline(never)]
-fn serve_show(
-    alloc: Global,
-    databases: &Databases,
-    value: &LineValue<'_>,
-    answer: &mut Vec<u8>,
-) -> Result<(), Refusal>
-    requires { answer.old.items ≡ [] }
-    ensures { MayTell AnswersAsked databases.now (asked_as Word.Show (line_view value.now)) (told_by result answer.new.items)
-        databases.now }
-{
-    match show::read(value) {
-        Some(ask) => show::serve(alloc, databases, &ask, answer),
-        None => Err(Refusal::BadCommand),
-    }
-}
-
-/// Serves what an object asks by `doc`.
-#[inline(never)]
-fn serve_doc(
-    alloc: Global,
-    databases: &Databases,
-    value: &LineValue<'_>,
-    answer: &mut Vec<u8>,
-) -> Result<(), Refusal>
-    requires { answer.old.items ≡ [] }
-    ensures { MayTell AnswersAsked databases.now (asked_as Word.Doc (line_view value.now)) (told_by result answer.new.items)
-        databases.now }
-{
-    match doc::read(value) {
-        Some(ask) => doc::serve(alloc, databases, &ask, answer),
-        None => Err(Refusal::BadCommand),
-    }
-}
-
-/// Serves what an object asks by `changes`.
-#[inline(never)]
-fn serve_changes(
-    alloc: Global,
-    databases: &Databases,
-    value: &LineValue<'_>,
-    answer: &mut Vec<u8>,
-) -> Result<(), Refusal>
-    requires { answer.old.items ≡ [] }
-    ensures { MayTell AnswersAsked databases.now (asked_as Word.Changes (line_view value.now)) (told_by result answer.new.items)
-        databases.now }
-{
-    match changes::read(value) {
-        Some(ask) => changes::serve(alloc, databases, &ask, answer),
-        None => Err(Refusal::BadCommand),
-    }
-}
-
-/// Serves what an object asks by `log`.
-#[inline(never)]
-fn serve_log(
-    alloc: Global,
-    databases: &Databases,
-    value: &LineValue<'_>,
-    answer: &mut Vec<u8>,
-) -> Result<(), Refusal>
-    requires { answer.old.items ≡ [] }
-    ensures { MayTell AnswersAsked databases.now (asked_as Word.Log (line_view value.now)) (told_by result answer.new.items)
-        databases.now }
-{
-    match log::read(value) {
-        Some(ask) => log::serve(alloc, databases, &ask, answer),
-        None => Err(Refusal::BadCommand),
-    }
-}
-
-/// Serves what an object asks by `audit`.
-#[inline(never)]
-fn serve_audit(
-    alloc: Global,
-    databases: &Databases,
-    value: &LineValue<'_>,
-    answer: &mut Vec<u8>,
-) -> Result<(), Refusal>
-    requires { answer.old.items ≡ [] }
-    ensures { MayTell AnswersAsked databases.now (asked_as Word.Audit (line_view value.now)) (told_by result answer.new.items)
-        databases.now }
-{
-    match audit::read(value) {
-        Some(ask) => audit::serve(alloc, databases, &ask, answer),
-        None => Err(Refusal::BadCommand),
-    }
-}
-
-/// Serves what an object asks by `replicate`.
-#[inline(never)]
-fn serve_replicate<H: Threads + Wait + Sync>(
-    rt: &H,
-    alloc: Global,
-    databases: &mut Databases,
-    value: &LineValue<'_>,
-    answer: &mut Vec<u8>,
-) -> Result<(), Refusal>
-    requires { answer.old.items ≡ [] }
-    ensures { MayTell AnswersAsked databases.old (asked_as Word.Replicate (line_view value.now)) (told_by result answer.new.items)
-        databases.new }
-{
-    match replicate::read(value) {
-        Some(ask) => replicate::serve(rt, alloc, databases, &ask, answer),
-        None => Err(Refusal::BadCommand),
-    }
-}
-
-/// Serves what an object asks by `backup`.
-#[inline(never)]
-fn serve_backup(
-    alloc: Global,
-    databases: &mut Databases,
-    value: &LineValue<'_>,
-    answer: &mut Vec<u8>,
-) -> Result<(), Refusal>
-    requires { answer.old.items ≡ [] }
-    ensures { MayTell AnswersAsked databases.old (asked_as Word.Backup (line_view value.now)) (told_by result answer.new.items)
-        databases.new }
-{
-    match backup::read(value) {
-        Some(ask) => backup::serve(alloc, databases, &ask, answer),
-        None => Err(Refusal::BadCommand),
-    }
-}
-
-/// Serves what an object asks by `restore`.
-#[inline(never)]
-fn serve_restore(
-    databases: &mut Databases,
-    value: &LineValue<'_>,
-    answer: &mut Vec<u8>,
-) -> Result<(), Refusal>
-    requires { answer.old.items ≡ [] }
-    ensures { MayTell AnswersAsked databases.old (asked_as Word.Restore (line_view value.now)) (told_by result answer.new.items)
-        databases.new }
-{
-    match restore::read(value) {
-        Some(ask) => restore::serve(databases, &ask, answer),
-        None => Err(Refusal::BadCommand),
+        Word::Load => serve_in::<&Line<'_>, Load<'_, '_>, H>(rt, alloc, databases, line, answer),
+        Word::Edit => serve_in::<&Line<'_>, Edit<'_, '_>, H>(rt, alloc, databases, line, answer),
+        Word::Show => serve_in::<&Line<'_>, Show<'_>, H>(rt, alloc, databases, line, answer),
+        Word::Doc => serve_in::<&Line<'_>, Doc<'_>, H>(rt, alloc, databases, line, answer),
+        Word::Changes => serve_in::<&Line<'_>, Changes<'_>, H>(rt, alloc, databases, line, answer),
+        Word::Log => serve_in::<&Line<'_>, Log<'_, '_>, H>(rt, alloc, databases, line, answer),
+        Word::Audit => serve_in::<&Line<'_>, Audit<'_, '_>, H>(rt, alloc, databases, line, answer),
+        Word::Replicate => serve_in::<&Line<'_>, Replicate<'_, '_>, H>(
+            rt, alloc, databases, line, answer,
+        ),
+        Word::Backup => serve_in::<&Line<'_>, Backup<'_>, H>(rt, alloc, databases, line, answer),
+        Word::Restore => serve_in::<&Line<'_>, Restore<'_>, H>(rt, alloc, databases, line, answer),
+        Word::Compare => serve_in::<&Line<'_>, Compare<'_, '_>, H>(
+            rt, alloc, databases, line, answer,
+        ),
+        Word::Conflicts => serve_in::<&Line<'_>, Conflicts<'_>, H>(
+            rt, alloc, databases, line, answer,
+        ),
+        Word::Docs => serve_in::<&Line<'_>, Docs<'_, '_>, H>(rt, alloc, databases, line, answer),
+        Word::Info => serve_in::<&Line<'_>, Info<'_>, H>(rt, alloc, databases, line, answer),
+        Word::Ledger => serve_in::<&Line<'_>, Ledger<'_>, H>(rt, alloc, databases, line, answer),
     }
 }

@@ -5,11 +5,11 @@ use Rattle.script_databases.specs.AllTied.{AllTied}
 use Rattle.script_databases.specs.Databases.{State, edited_answer}
 use Rattle.script_words.specs.Given.{body_given_or_empty, id_given, rev_given}
 use Rattle.script_words.specs.Telling.{database_of}
-use Rattle.script_words.specs.words.Edit.{EditAsk, Edits, edit_done}
+use Rattle.script_words.specs.words.Edit.{EditAsk, EditsLoud, edit_done}
 use Rattle.script_databases.proofs.ties.OneChanged.{edit_tied}
 use Rattle.script_words.proofs.trust.Checks.{bound, does_tied, found, left_is}
 
-pub edits_tied : (old new : State) → AllTied old → (ask : EditAsk) (told : Told) → Edits old ask told new → AllTied new
+pub edits_tied : (old new : State) → AllTied old → (ask : EditAsk) (told : Told) → EditsLoud old ask told new → AllTied new
 edits_tied old new h ask told d =
     does_tied (edit_done old ask) old told new h
     (λ done e.

@@ -3,7 +3,7 @@ use Rattle.std.proofs.Common.{refl, sym, subst}
 use Rattle.script_engine.specs.Serving.{Told}
 use Rattle.script_databases.specs.AllTied.{AllTied}
 use Rattle.script_databases.specs.Databases.{State, peer_at}
-use Rattle.script_words.specs.words.{Asked, WordsAnswer, load, edit, show, doc, changes, log, audit, replicate, backup, restore}
+use Rattle.script_words.specs.words.{Asked, WordsAnswer, load, edit, show, doc, changes, log, audit, replicate, backup, restore, compare, conflicts, docs, info, ledger}
 use Rattle.script_words.specs.words.Replicate.{both_of}
 use Rattle.script_words.specs.Trust.{IsTrusted}
 use Rattle.script_words.proofs.trust.Load.{loads_tied}
@@ -14,8 +14,8 @@ use Rattle.script_words.proofs.trust.Audit.{audits_clean}
 use Rattle.script_words.proofs.trust.Replicate.{reports_tied}
 
 pub words_trusted : (old new : State) → AllTied old → (ask : Asked) (told : Told) → WordsAnswer old ask told new → AllTied new × IsTrusted ask told new
-words_trusted old new h (load ask) told d = (loads_tied old new h ask.db told (peer_at old ask.db) refl ask.uuid _ d, tt)
-words_trusted old new h (edit ask) told d = (edits_tied old new h ask told d, tt)
+words_trusted old new h (load ask) told d = (loads_tied old new h ask.db d.0 (peer_at old ask.db) refl ask.uuid _ d.1, tt)
+words_trusted old new h (edit ask) told d = (edits_tied old new h ask d.0 d.1, tt)
 words_trusted old new h (show ask) told d = (subst AllTied (sym d.1) h, tt)
 words_trusted old new h (doc ask) told d = (subst AllTied (sym d.1) h, tt)
 words_trusted old new h (changes ask) told d = (subst AllTied (sym d.1) h, tt)
@@ -24,3 +24,8 @@ words_trusted old new h (audit ask) told d = (subst AllTied (sym d.0.1) h, audit
 words_trusted old new h (replicate ask) told d = reports_tied old new h ask told (both_of old ask) refl d
 words_trusted old new h (backup ask) told d = (backs_tied old new h ask told d, tt)
 words_trusted old new h (restore ask) told d = (restores_tied old new h ask told d, tt)
+words_trusted old new h (compare ask) told d = (subst AllTied (sym d.1) h, tt)
+words_trusted old new h (conflicts ask) told d = (subst AllTied (sym d.1) h, tt)
+words_trusted old new h (docs ask) told d = (subst AllTied (sym d.1) h, tt)
+words_trusted old new h (info ask) told d = (subst AllTied (sym d.1) h, tt)
+words_trusted old new h (ledger ask) told d = (subst AllTied (sym d.1) h, tt)

@@ -10,7 +10,7 @@ use Rattle.rev_core.specs.Checks.{◌>>=◌}
 use Rattle.script_words.specs.Checks.{needed}
 use Rattle.script_words.specs.Members.{name_at, optional, if_only, as_whole}
 use Rattle.script_words.specs.Telling.{database_of, Reads}
-use Rattle.script_words.specs.Texts.{ended, quoted, texts_of_revs}
+use Rattle.script_words.specs.Texts.{ended, last_line, quoted, texts_of_revs}
 use Rattle.script_words.specs.declared.words.changes.Changes.{Changes}
 
 -- ---- what it asks
@@ -34,9 +34,6 @@ changes_in d = do
 -- a document's latest change, and its leaves
 abbrev pub row_line : RowValue → List ℕ
 row_line r = ended (codes "change " ++ decimal r.seq ++ codes " " ++ quoted r.id ++ codes " " ++ texts_of_revs r.leaves)
-
-abbrev pub last_line : ℕ → List ℕ
-last_line last = ended (codes "last " ++ decimal last)
 
 -- ---- what it does
 

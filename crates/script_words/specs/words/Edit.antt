@@ -14,7 +14,7 @@ use Rattle.rev_core.specs.Checks.{◌>>=◌}
 use Rattle.script_words.specs.Checks.{needed}
 use Rattle.script_words.specs.Given.{id_given, rev_given, body_given_or_empty}
 use Rattle.script_words.specs.Members.{name_at, text_at, optional, if_only}
-use Rattle.script_words.specs.Telling.{database_of, Does}
+use Rattle.script_words.specs.Telling.{database_of, Does, UnlessQuiet}
 use Rattle.script_words.specs.Texts.{ended, quoted}
 use Rattle.script_words.specs.declared.words.edit.Edit.{Edit}
 
@@ -66,5 +66,8 @@ edit_done s ask = do
   edited ← edited_answer (Some l) id parent ask.deleted body
   Ok (edited_line ask.db id edited, with_peer s ask.db (after_edit l id parent ask.deleted body))
 
+abbrev pub EditsLoud : Answering State EditAsk
+EditsLoud old ask told new = Does (edit_done old ask) old told new
+
 abbrev pub Edits : Answering State EditAsk
-Edits old ask told new = Does (edit_done old ask) old told new
+Edits old ask told new = UnlessQuiet EditsLoud old ask told new

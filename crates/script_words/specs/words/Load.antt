@@ -19,7 +19,7 @@ use Rattle.rev_core.specs.Checks.{◌>>=◌}
 use Rattle.script_words.specs.Checks.{needed}
 use Rattle.script_words.specs.Given.{document_given}
 use Rattle.script_words.specs.Members.{name_at, optional, if_only, as_uuid}
-use Rattle.script_words.specs.Telling.{Refuses, Does}
+use Rattle.script_words.specs.Telling.{Refuses, Does, UnlessQuiet}
 use Rattle.script_words.specs.Texts.{ended, quoted, text_of_any}
 use Rattle.script_words.specs.declared.words.load.Load.{Load}
 
@@ -103,8 +103,11 @@ LoadsAt old db (Some l) None doc told new = Does (doc >>= load_there old db l) o
 LoadsAt old db None (Some uuid) doc told new = LoadsUntaken old db uuid doc told new
 LoadsAt old db None None doc told new = LoadsMade old db doc told new
 
+abbrev pub LoadsLoud : Answering State LoadAsk
+LoadsLoud old ask told new = LoadsAt old ask.db (peer_at old ask.db) ask.uuid (document_given ask.doc) told new
+
 abbrev pub Loads : Answering State LoadAsk
-Loads old ask told new = LoadsAt old ask.db (peer_at old ask.db) ask.uuid (document_given ask.doc) told new
+Loads old ask told new = UnlessQuiet LoadsLoud old ask told new
 
 -- ---- the part of it behind the document, where no UUID is given
 

@@ -1,20 +1,20 @@
 //! `audit`: whether the target covers what the two logs say is done.
-ghost use Rattle.std.specs.Prelude.{◌≡◌, ◌++◌, [], OnOk, option_map};
-ghost use Rattle.json_values.specs.LineView.{line_view};
+ghost use Rattle.std.specs.Prelude.{◌≡◌, ◌++◌, OnOk};
 ghost use Rattle.repl_target.specs.Audit.{hole_of};
-ghost use Rattle.script_engine.specs.Serving.{MayTell};
-ghost use Rattle.script_words.specs.Checks.{needed};
-ghost use Rattle.script_words.specs.Telling.{told_by};
-ghost use Rattle.script_words.specs.words.Audit.{Audits, audit_asked, audit_in, audit_text, hole_line};
+ghost use Rattle.json_values.specs.LineView.{line_view};
+ghost use Rattle.script_words.specs.words.Audit.{audit_text, hole_line};
 
 use crate::given::read_choice;
 use crate::members::{has_only_members, name_member, optional_texts};
+use crate::room::Room;
 use crate::texts::{push_json, push_number, push_rev};
-use json_values::LineValue;
+use json_values::{Line, LineValue};
 use repl_target::{Audit as Found, audit};
 use rev_core::Rev;
 use script_databases::{Databases, Refusal};
 use std::alloc::{AllocError, Global};
+use std::sync::Wait;
+use std::thread::Threads;
 
 /// What an `audit` line asks.
 #[derive(Drop)]
@@ -25,43 +25,53 @@ pub struct Audit<'v, 'a> {
     pub doc_ids: Option<&'v Vec<LineValue<'a>>>,
 }
 
-/// What an object asks by `audit`.
-pub fn read<'v, 'a>(value: &'v LineValue<'a>) -> Option<Audit<'v, 'a>>
-    ensures { needed (option_map audit_asked result) ≡ audit_in (line_view value.now) }
-{
-    let source = name_member(value, "source")?;
-    let target = name_member(value, "target")?;
-    let doc_ids = optional_texts(value, "doc_ids")?;
-    if !has_only_members(value, &["do", "source", "target", "doc_ids"]) {
-        return None;
-    }
-    Some(Audit {
-        source,
-        target,
-        doc_ids,
-    })
-}
+impl<'v, 'a> Room<&'v Line<'a>> for Audit<'v, 'a> {
+    ghost use Rattle.script_words.specs.words.Audit.{AuditAsk, Audits, audit_asked, audit_in};
 
-/// Serves `audit`.
-pub fn serve(
-    alloc: Global,
-    databases: &Databases,
-    ask: &Audit<'_, '_>,
-    answer: &mut Vec<u8>,
-) -> Result<(), Refusal>
-    requires { answer.old.items ≡ [] }
-    ensures { MayTell Audits databases.now (audit_asked ask.now) (told_by result answer.new.items) databases.now }
-{
-    let Some(source) = databases.find(ask.source) else {
-        return Err(Refusal::NoDatabase);
-    };
-    let Some(target) = databases.find(ask.target) else {
-        return Err(Refusal::NoDatabase);
-    };
-    let chosen = read_choice(alloc, ask.doc_ids)?;
-    let found = audit(alloc, source, target, chosen.as_ref())?;
-    print(answer, found)?;
-    Ok(())
+    ghost seen = { λ line. line_view line.now };
+
+    ghost Ask = { AuditAsk };
+
+    ghost asked = { audit_asked };
+
+    ghost asked_in = { audit_in };
+
+    ghost answers = { Audits };
+
+    fn read(line: &'v Line<'a>) -> Option<Audit<'v, 'a>> {
+        let value = line.value();
+        let source = name_member(value, "source")?;
+        let target = name_member(value, "target")?;
+        let doc_ids = optional_texts(value, "doc_ids")?;
+        if !has_only_members(value, &["do", "source", "target", "doc_ids"]) {
+            return None;
+        }
+        Some(Audit {
+            source,
+            target,
+            doc_ids,
+        })
+    }
+
+    /// Serves `audit`.
+    fn serve<H: Threads + Wait + Sync>(
+        &self,
+        _rt: &H,
+        alloc: Global,
+        databases: &mut Databases,
+        answer: &mut Vec<u8>,
+    ) -> Result<(), Refusal> {
+        let Some(source) = databases.find(self.source) else {
+            return Err(Refusal::NoDatabase);
+        };
+        let Some(target) = databases.find(self.target) else {
+            return Err(Refusal::NoDatabase);
+        };
+        let chosen = read_choice(alloc, self.doc_ids)?;
+        let found = audit(alloc, source, target, chosen.as_ref())?;
+        print(answer, found)?;
+        Ok(())
+    }
 }
 
 /// Prints what an audit found.

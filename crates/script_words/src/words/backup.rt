@@ -1,16 +1,16 @@
 //! `backup`: a copy of a database, kept under a name of its own.
-ghost use Rattle.std.specs.Prelude.{◌≡◌, ◌++◌, [], OnOk, option_map};
+ghost use Rattle.std.specs.Prelude.{◌≡◌, ◌++◌, OnOk};
 ghost use Rattle.json_values.specs.LineView.{line_view};
-ghost use Rattle.script_engine.specs.Serving.{MayTell};
-ghost use Rattle.script_words.specs.Checks.{needed};
-ghost use Rattle.script_words.specs.Telling.{told_by};
-ghost use Rattle.script_words.specs.words.Backup.{BacksUp, backed_line, backup_asked, backup_in};
+ghost use Rattle.script_words.specs.words.Backup.{backed_line};
 
 use crate::members::{has_only_members, name_member};
+use crate::room::Room;
 use crate::texts::push_number;
-use json_values::LineValue;
+use json_values::Line;
 use script_databases::{Databases, Refusal};
 use std::alloc::{AllocError, Global};
+use std::sync::Wait;
+use std::thread::Threads;
 
 /// What a `backup` line asks.
 #[derive(Drop)]
@@ -20,31 +20,41 @@ pub struct Backup<'a> {
     pub name: &'a str,
 }
 
-/// What an object asks by `backup`.
-pub fn read<'v>(value: &'v LineValue<'_>) -> Option<Backup<'v>>
-    ensures { needed (option_map backup_asked result) ≡ backup_in (line_view value.now) }
-{
-    let db = name_member(value, "db")?;
-    let name = name_member(value, "name")?;
-    if !has_only_members(value, &["do", "db", "name"]) {
-        return None;
-    }
-    Some(Backup { db, name })
-}
+impl<'v, 'a> Room<&'v Line<'a>> for Backup<'v> {
+    ghost use Rattle.script_words.specs.words.Backup.{BacksUp, BackupAsk, backup_asked, backup_in};
 
-/// Serves `backup`.
-pub fn serve(
-    alloc: Global,
-    databases: &mut Databases,
-    ask: &Backup<'_>,
-    answer: &mut Vec<u8>,
-) -> Result<(), Refusal>
-    requires { answer.old.items ≡ [] }
-    ensures { MayTell BacksUp databases.old (backup_asked ask.now) (told_by result answer.new.items) databases.new }
-{
-    let seq = databases.back_up(alloc, ask.db, ask.name)?;
-    print(answer, ask.db, ask.name, seq)?;
-    Ok(())
+    ghost seen = { λ line. line_view line.now };
+
+    ghost Ask = { BackupAsk };
+
+    ghost asked = { backup_asked };
+
+    ghost asked_in = { backup_in };
+
+    ghost answers = { BacksUp };
+
+    fn read(line: &'v Line<'a>) -> Option<Backup<'v>> {
+        let value = line.value();
+        let db = name_member(value, "db")?;
+        let name = name_member(value, "name")?;
+        if !has_only_members(value, &["do", "db", "name"]) {
+            return None;
+        }
+        Some(Backup { db, name })
+    }
+
+    /// Serves `backup`.
+    fn serve<H: Threads + Wait + Sync>(
+        &self,
+        _rt: &H,
+        alloc: Global,
+        databases: &mut Databases,
+        answer: &mut Vec<u8>,
+    ) -> Result<(), Refusal> {
+        let seq = databases.back_up(alloc, self.db, self.name)?;
+        print(answer, self.db, self.name, seq)?;
+        Ok(())
+    }
 }
 
 /// Prints the two names, and the update sequence of the copy.

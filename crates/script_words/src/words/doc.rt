@@ -1,21 +1,21 @@
 //! `doc`: a document at a revision, with its known ancestry.
-ghost use Rattle.std.specs.Prelude.{◌≡◌, ◌++◌, [], OnOk, option_map};
-ghost use Rattle.json_values.specs.LineView.{line_view};
+ghost use Rattle.std.specs.Prelude.{◌≡◌, ◌++◌, OnOk};
 ghost use Rattle.doc_json.specs.DocText.{doc_text};
-ghost use Rattle.script_engine.specs.Serving.{MayTell};
-ghost use Rattle.script_words.specs.Checks.{needed};
-ghost use Rattle.script_words.specs.Telling.{told_by};
 ghost use Rattle.script_words.specs.Texts.{ended};
-ghost use Rattle.script_words.specs.words.Doc.{PrintsDocument, chosen, doc_asked, doc_in};
+ghost use Rattle.json_values.specs.LineView.{line_view};
+ghost use Rattle.script_words.specs.words.Doc.{chosen};
 
 use crate::given::{read_id, read_rev};
 use crate::members::{has_only_members, name_member, optional_text, text_member};
+use crate::room::Room;
 use doc_json::push_doc;
-use json_values::LineValue;
+use json_values::Line;
 use rev_core::Rev;
 use rev_tree::Tree;
 use script_databases::{Databases, Refusal};
 use std::alloc::{AllocError, Global};
+use std::sync::Wait;
+use std::thread::Threads;
 
 /// What a `doc` line asks.
 #[derive(Drop)]
@@ -26,46 +26,56 @@ pub struct Doc<'a> {
     pub rev: Option<&'a str>,
 }
 
-/// What an object asks by `doc`.
-pub fn read<'v>(value: &'v LineValue<'_>) -> Option<Doc<'v>>
-    ensures { needed (option_map doc_asked result) ≡ doc_in (line_view value.now) }
-{
-    let db = name_member(value, "db")?;
-    let id = text_member(value, "id")?;
-    let rev = optional_text(value, "rev")?;
-    if !has_only_members(value, &["do", "db", "id", "rev"]) {
-        return None;
-    }
-    Some(Doc { db, id, rev })
-}
+impl<'v, 'a> Room<&'v Line<'a>> for Doc<'v> {
+    ghost use Rattle.script_words.specs.words.Doc.{DocAsk, PrintsDocument, doc_asked, doc_in};
 
-/// Serves `doc`.
-pub fn serve(
-    alloc: Global,
-    databases: &Databases,
-    ask: &Doc<'_>,
-    answer: &mut Vec<u8>,
-) -> Result<(), Refusal>
-    requires { answer.old.items ≡ [] }
-    ensures { MayTell PrintsDocument databases.now (doc_asked ask.now) (told_by result answer.new.items) databases.now }
-{
-    let Some(peer) = databases.find(ask.db) else {
-        return Err(Refusal::NoDatabase);
-    };
-    let id = read_id(alloc, ask.id)?;
-    let named = read_rev(ask.rev)?;
-    let Some(tree) = peer.db().tree(&id) else {
-        return Err(Refusal::NoSuchDocument);
-    };
-    let Some(rev) = chosen(tree, named) else {
-        return Err(Refusal::NoSuchRevision);
-    };
-    let found = peer.db().document(alloc, &id, rev)?;
-    let Some(document) = found else {
-        return Err(Refusal::NoSuchRevision);
-    };
-    print(answer, &document)?;
-    Ok(())
+    ghost seen = { λ line. line_view line.now };
+
+    ghost Ask = { DocAsk };
+
+    ghost asked = { doc_asked };
+
+    ghost asked_in = { doc_in };
+
+    ghost answers = { PrintsDocument };
+
+    fn read(line: &'v Line<'a>) -> Option<Doc<'v>> {
+        let value = line.value();
+        let db = name_member(value, "db")?;
+        let id = text_member(value, "id")?;
+        let rev = optional_text(value, "rev")?;
+        if !has_only_members(value, &["do", "db", "id", "rev"]) {
+            return None;
+        }
+        Some(Doc { db, id, rev })
+    }
+
+    /// Serves `doc`.
+    fn serve<H: Threads + Wait + Sync>(
+        &self,
+        _rt: &H,
+        alloc: Global,
+        databases: &mut Databases,
+        answer: &mut Vec<u8>,
+    ) -> Result<(), Refusal> {
+        let Some(peer) = databases.find(self.db) else {
+            return Err(Refusal::NoDatabase);
+        };
+        let id = read_id(alloc, self.id)?;
+        let named = read_rev(self.rev)?;
+        let Some(tree) = peer.db().tree(&id) else {
+            return Err(Refusal::NoSuchDocument);
+        };
+        let Some(rev) = chosen(tree, named) else {
+            return Err(Refusal::NoSuchRevision);
+        };
+        let found = peer.db().document(alloc, &id, rev)?;
+        let Some(document) = found else {
+            return Err(Refusal::NoSuchRevision);
+        };
+        print(answer, &document)?;
+        Ok(())
+    }
 }
 
 /// The revision that is named, or the winner where none is.

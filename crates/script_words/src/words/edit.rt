@@ -1,17 +1,19 @@
 //! `edit`: a new revision of a document, behind a leaf.
-ghost use Rattle.std.specs.Prelude.{◌≡◌, ◌++◌, [], OnOk, option_map};
+ghost use Rattle.std.specs.Prelude.{◌≡◌, ◌++◌, [], OnOk};
 ghost use Rattle.json_values.specs.LineView.{line_view};
+ghost use Rattle.script_words.specs.words.Edit.{EditsLoud, edit_asked, edited_line};
 ghost use Rattle.script_engine.specs.Serving.{MayTell};
-ghost use Rattle.script_words.specs.Checks.{needed};
 ghost use Rattle.script_words.specs.Telling.{told_by};
-ghost use Rattle.script_words.specs.words.Edit.{Edits, edit_asked, edit_in, edited_line};
 
 use crate::given::{read_content_or_empty, read_id, read_rev};
 use crate::members::{has_only_members, name_member, optional_flag, optional_text, text_member};
-use crate::texts::{push_json, push_number, push_rev};
+use crate::room::Room;
+use crate::texts::{hush, push_json, push_number, push_rev};
 use json_values::{Line, LinePart};
 use script_databases::{Databases, Edited, Refusal};
 use std::alloc::{AllocError, Global};
+use std::sync::Wait;
+use std::thread::Threads;
 
 /// What an `edit` line asks.
 #[derive(Drop)]
@@ -24,38 +26,63 @@ pub struct Edit<'v, 'a> {
     pub body: Option<LinePart<'v, 'a>>,
 }
 
-/// What an object asks by `edit`.
-pub fn read<'v, 'a>(line: &'v Line<'a>) -> Option<Edit<'v, 'a>>
-    ensures { needed (option_map edit_asked result) ≡ edit_in (line_view line.now) }
-{
-    let value = line.value();
-    let db = name_member(value, "db")?;
-    let id = text_member(value, "id")?;
-    let parent = optional_text(value, "parent")?;
-    let deleted = optional_flag(value, "deleted")?;
-    if !has_only_members(value, &["do", "db", "id", "parent", "deleted", "body"]) {
-        return None;
+impl<'v, 'a> Room<&'v Line<'a>> for Edit<'v, 'a> {
+    ghost use Rattle.script_words.specs.words.Edit.{EditAsk, Edits, edit_asked, edit_in};
+
+    ghost seen = { λ line. line_view line.now };
+
+    ghost Ask = { EditAsk };
+
+    ghost asked = { edit_asked };
+
+    ghost asked_in = { edit_in };
+
+    ghost answers = { Edits };
+
+    fn read(line: &'v Line<'a>) -> Option<Edit<'v, 'a>> {
+        let value = line.value();
+        let db = name_member(value, "db")?;
+        let id = text_member(value, "id")?;
+        let parent = optional_text(value, "parent")?;
+        let deleted = optional_flag(value, "deleted")?;
+        if !has_only_members(value, &["do", "db", "id", "parent", "deleted", "body"]) {
+            return None;
+        }
+        let deleted = deleted.unwrap_or(false);
+        let body = line.get("body");
+        Some(Edit {
+            db,
+            id,
+            parent,
+            deleted,
+            body,
+        })
     }
-    let deleted = deleted.unwrap_or(false);
-    let body = line.get("body");
-    Some(Edit {
-        db,
-        id,
-        parent,
-        deleted,
-        body,
-    })
+
+    /// Serves `edit`. Where the program is quiet, what is done is answered nothing.
+    fn serve<H: Threads + Wait + Sync>(
+        &self,
+        _rt: &H,
+        alloc: Global,
+        databases: &mut Databases,
+        answer: &mut Vec<u8>,
+    ) -> Result<(), Refusal> {
+        let quiet = databases.settings().quiet;
+        let served = edit_loud(alloc, databases, self, answer);
+        hush(answer, quiet);
+        served
+    }
 }
 
-/// Serves `edit`. The id is looked at first, then the parent, then the body.
-pub fn serve(
+/// Edits. The id is looked at first, then the parent, then the body.
+fn edit_loud(
     alloc: Global,
     databases: &mut Databases,
     ask: &Edit<'_, '_>,
     answer: &mut Vec<u8>,
 ) -> Result<(), Refusal>
     requires empty { answer.old.items ≡ [] }
-    ensures { MayTell Edits databases.old (edit_asked ask.now) (told_by result answer.new.items) databases.new }
+    ensures { MayTell EditsLoud databases.old (edit_asked ask.now) (told_by result answer.new.items) databases.new }
 {
     if !databases.has(ask.db) {
         return Err(Refusal::NoDatabase);

@@ -4,18 +4,20 @@ ghost use Rattle.json_values.specs.LineView.{line_view};
 ghost use Rattle.script_engine.specs.Serving.{MayTell};
 ghost use Rattle.script_databases.specs.Databases.{IsTaken, drawn_one, next_made, peer_at};
 ghost use Rattle.script_databases.specs.declared.refusal.Refusal.TheVariants.{UuidTaken};
-ghost use Rattle.script_words.specs.Checks.{needed};
 ghost use Rattle.script_words.specs.Telling.{told_by};
-ghost use Rattle.script_words.specs.words.Load.{Loads, LoadsNamed, LoadsNew, document_part, load_asked, load_in, loaded_line, made_line, put_line, same_line, there_line};
+ghost use Rattle.script_words.specs.words.Load.{LoadsLoud, LoadsNamed, LoadsNew, document_part, load_asked, loaded_line, made_line, put_line, same_line, there_line};
 
 use crate::given::read_document;
 use crate::members::{has_only_members, name_member, optional_uuid};
-use crate::texts::{push_json, push_number, push_rev};
+use crate::room::Room;
+use crate::texts::{hush, push_json, push_number, push_rev};
 use couch_base::Put;
 use doc_json::Doc;
 use json_values::{Line, LinePart};
 use script_databases::{Databases, Refusal};
 use std::alloc::{AllocError, Global};
+use std::sync::Wait;
+use std::thread::Threads;
 
 /// What a `load` line asks.
 #[derive(Drop)]
@@ -26,29 +28,54 @@ pub struct Load<'v, 'a> {
     pub doc: Option<LinePart<'v, 'a>>,
 }
 
-/// What an object asks by `load`.
-pub fn read<'v, 'a>(line: &'v Line<'a>) -> Option<Load<'v, 'a>>
-    ensures { needed (option_map load_asked result) ≡ load_in (line_view line.now) }
-{
-    let value = line.value();
-    let db = name_member(value, "db")?;
-    let uuid = optional_uuid(value, "uuid")?;
-    if !has_only_members(value, &["do", "db", "uuid", "doc"]) {
-        return None;
+impl<'v, 'a> Room<&'v Line<'a>> for Load<'v, 'a> {
+    ghost use Rattle.script_words.specs.words.Load.{LoadAsk, Loads, load_asked, load_in};
+
+    ghost seen = { λ line. line_view line.now };
+
+    ghost Ask = { LoadAsk };
+
+    ghost asked = { load_asked };
+
+    ghost asked_in = { load_in };
+
+    ghost answers = { Loads };
+
+    fn read(line: &'v Line<'a>) -> Option<Load<'v, 'a>> {
+        let value = line.value();
+        let db = name_member(value, "db")?;
+        let uuid = optional_uuid(value, "uuid")?;
+        if !has_only_members(value, &["do", "db", "uuid", "doc"]) {
+            return None;
+        }
+        let doc = line.get("doc");
+        Some(Load { db, uuid, doc })
     }
-    let doc = line.get("doc");
-    Some(Load { db, uuid, doc })
+
+    /// Serves `load`. Where the program is quiet, what is done is answered nothing.
+    fn serve<H: Threads + Wait + Sync>(
+        &self,
+        _rt: &H,
+        alloc: Global,
+        databases: &mut Databases,
+        answer: &mut Vec<u8>,
+    ) -> Result<(), Refusal> {
+        let quiet = databases.settings().quiet;
+        let served = load_loud(alloc, databases, self, answer);
+        hush(answer, quiet);
+        served
+    }
 }
 
-/// Serves `load`. A UUID is given only for a database that is new.
-pub fn serve(
+/// Loads. A UUID is given only for a database that is new.
+fn load_loud(
     alloc: Global,
     databases: &mut Databases,
     ask: &Load<'_, '_>,
     answer: &mut Vec<u8>,
 ) -> Result<(), Refusal>
     requires empty { answer.old.items ≡ [] }
-    ensures { MayTell Loads databases.old (load_asked ask.now) (told_by result answer.new.items) databases.new }
+    ensures { MayTell LoadsLoud databases.old (load_asked ask.now) (told_by result answer.new.items) databases.new }
 {
     match ask.uuid {
         Some(uuid) => load_given(alloc, databases, ask.db, uuid, &ask.doc, answer),
@@ -66,7 +93,7 @@ fn load_given(
     answer: &mut Vec<u8>,
 ) -> Result<(), Refusal>
     requires empty { answer.old.items ≡ [] }
-    ensures { MayTell Loads databases.old
+    ensures { MayTell LoadsLoud databases.old
         (record { db = db.now; uuid = Some uuid; doc = option_map line_view doc.now })
         (told_by result answer.new.items) databases.new }
 {
@@ -92,7 +119,7 @@ fn load_named(
     answer: &mut Vec<u8>,
 ) -> Result<(), Refusal>
     requires empty { answer.old.items ≡ [] }
-    ensures { MayTell Loads databases.old
+    ensures { MayTell LoadsLoud databases.old
         (record { db = db.now; uuid = None; doc = option_map line_view doc.now })
         (told_by result answer.new.items) databases.new }
 {

@@ -1,20 +1,20 @@
 //! `log`: the log of a replication, as one of its sides holds it.
-ghost use Rattle.std.specs.Prelude.{◌≡◌, ◌++◌, [], OnOk, IfOk, option_map};
+ghost use Rattle.std.specs.Prelude.{◌≡◌, ◌++◌, OnOk, IfOk};
 ghost use Rattle.json_values.specs.LineView.{line_view};
 ghost use Rattle.repl_peer.specs.logs.Checkpoint.{rep_between};
-ghost use Rattle.script_engine.specs.Serving.{MayTell};
-ghost use Rattle.script_words.specs.Checks.{needed};
-ghost use Rattle.script_words.specs.Telling.{told_by};
 ghost use Rattle.script_words.specs.Texts.{ended};
-ghost use Rattle.script_words.specs.words.Log.{Logs, log_asked, log_held, log_in, side_at};
+ghost use Rattle.script_words.specs.words.Log.{log_held, side_at};
 
 use crate::given::read_choice;
 use crate::members::{has_only_members, name_member, optional_texts, text_member};
-use json_values::LineValue;
+use crate::room::Room;
+use json_values::{Line, LineValue};
 use repl_log::{RepId, write_log};
 use repl_target::{Peer, Rules, rep_between};
 use script_databases::{Databases, Refusal};
 use std::alloc::{AllocError, Global};
+use std::sync::Wait;
+use std::thread::Threads;
 
 /// What a `log` line asks.
 #[derive(Drop)]
@@ -33,23 +33,57 @@ pub enum Side {
     Target,
 }
 
-/// What an object asks by `log`.
-pub fn read<'v, 'a>(value: &'v LineValue<'a>) -> Option<Log<'v, 'a>>
-    ensures { needed (option_map log_asked result) ≡ log_in (line_view value.now) }
-{
-    let source = name_member(value, "source")?;
-    let target = name_member(value, "target")?;
-    let side = side_member(value)?;
-    let doc_ids = optional_texts(value, "doc_ids")?;
-    if !has_only_members(value, &["do", "source", "target", "side", "doc_ids"]) {
-        return None;
+impl<'v, 'a> Room<&'v Line<'a>> for Log<'v, 'a> {
+    ghost use Rattle.script_words.specs.words.Log.{LogAsk, Logs, log_asked, log_in};
+
+    ghost seen = { λ line. line_view line.now };
+
+    ghost Ask = { LogAsk };
+
+    ghost asked = { log_asked };
+
+    ghost asked_in = { log_in };
+
+    ghost answers = { Logs };
+
+    fn read(line: &'v Line<'a>) -> Option<Log<'v, 'a>> {
+        let value = line.value();
+        let source = name_member(value, "source")?;
+        let target = name_member(value, "target")?;
+        let side = side_member(value)?;
+        let doc_ids = optional_texts(value, "doc_ids")?;
+        if !has_only_members(value, &["do", "source", "target", "side", "doc_ids"]) {
+            return None;
+        }
+        Some(Log {
+            source,
+            target,
+            side,
+            doc_ids,
+        })
     }
-    Some(Log {
-        source,
-        target,
-        side,
-        doc_ids,
-    })
+
+    /// Serves `log`.
+    fn serve<H: Threads + Wait + Sync>(
+        &self,
+        _rt: &H,
+        alloc: Global,
+        databases: &mut Databases,
+        answer: &mut Vec<u8>,
+    ) -> Result<(), Refusal> {
+        let Some(source) = databases.find(self.source) else {
+            return Err(Refusal::NoDatabase);
+        };
+        let Some(target) = databases.find(self.target) else {
+            return Err(Refusal::NoDatabase);
+        };
+        let chosen = read_choice(alloc, self.doc_ids)?;
+        let rep = rep_between(source, target, chosen.as_ref())?;
+        let log = log_held(alloc, source, target, self.side, &rep)?;
+        let text = write_log(alloc, &rep, &log)?;
+        print(answer, text.as_slice())?;
+        Ok(())
+    }
 }
 
 /// The side of a replication, which has to be there.
@@ -61,30 +95,6 @@ fn side_member(value: &LineValue<'_>) -> Option<Side>
         Some("target") => Some(Side::Target),
         _ => None,
     }
-}
-
-/// Serves `log`.
-pub fn serve(
-    alloc: Global,
-    databases: &Databases,
-    ask: &Log<'_, '_>,
-    answer: &mut Vec<u8>,
-) -> Result<(), Refusal>
-    requires { answer.old.items ≡ [] }
-    ensures { MayTell Logs databases.now (log_asked ask.now) (told_by result answer.new.items) databases.now }
-{
-    let Some(source) = databases.find(ask.source) else {
-        return Err(Refusal::NoDatabase);
-    };
-    let Some(target) = databases.find(ask.target) else {
-        return Err(Refusal::NoDatabase);
-    };
-    let chosen = read_choice(alloc, ask.doc_ids)?;
-    let rep = rep_between(source, target, chosen.as_ref())?;
-    let log = log_held(alloc, source, target, ask.side, &rep)?;
-    let text = write_log(alloc, &rep, &log)?;
-    print(answer, text.as_slice())?;
-    Ok(())
 }
 
 /// The log that a side holds of the replication of the two.

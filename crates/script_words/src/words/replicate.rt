@@ -1,22 +1,20 @@
 //! `replicate`: a replication from one database into another.
-ghost use Rattle.std.specs.Prelude.{◌≡◌, ◌<◌, ◌≤◌, ◌++◌, [], true, OnOk, IfOk, IfErr, option_map, string_bytes};
+ghost use Rattle.std.specs.Prelude.{◌≡◌, ◌<◌, ◌≤◌, ◌++◌, true, OnOk, IfOk, IfErr};
+ghost use Rattle.script_words.specs.Checks.{needed};
 ghost use Rattle.std.specs.FinMap.{contains_key};
-ghost use Rattle.json_values.specs.LineView.{line_view};
-ghost use Rattle.repl_log.specs.Text.{id_digits};
-ghost use Rattle.script_engine.specs.Serving.{MayTell};
 ghost use Rattle.script_databases.specs.Replications.{ReplicatesBetween};
 ghost use Rattle.script_databases.specs.declared.refusal.Refusal.TheVariants.{BadMoment};
-ghost use Rattle.script_words.specs.Checks.{needed};
-ghost use Rattle.script_words.specs.Telling.{told_by};
-ghost use Rattle.script_words.specs.words.Replicate.{EndsBy, ReportsReplication, checked_part, documents_part, ending_line, ending_of, ending_of_run, ending_of_watched, last_second, moment_of, options_in, plan_with, progress_line, replicate_asked, replicate_in, report_line, session_of, session_part, stopped_line, with_session};
+ghost use Rattle.json_values.specs.LineView.{line_view};
+ghost use Rattle.script_words.specs.words.Replicate.{EndsBy, checked_part, documents_part, ending_line, ending_of, ending_of_run, ending_of_watched, last_second, moment_of, options_in, plan_with, progress_line, report_line, session_of, session_part, stopped_line, with_session};
 
 use crate::given::read_choice;
 use crate::members::{
     has_only_members, name_member, optional_flag, optional_texts, optional_uuid, optional_whole,
 };
-use crate::texts::push_number;
+use crate::room::Room;
+use crate::texts::{id_text, push_number};
 use doc_json::Chosen;
-use json_values::LineValue;
+use json_values::{Line, LineValue};
 use repl_log::Moment;
 use repl_pool::PoolFault;
 use repl_target::{Plan, Report, TargetFault};
@@ -67,38 +65,73 @@ enum Ending {
     Stopped(u64),
 }
 
-/// What an object asks by `replicate`.
-pub fn read<'v, 'a>(value: &'v LineValue<'a>) -> Option<Replicate<'v, 'a>>
-    ensures { needed (option_map replicate_asked result) ≡ replicate_in (line_view value.now) }
-{
-    let source = name_member(value, "source")?;
-    let target = name_member(value, "target")?;
-    let doc_ids = optional_texts(value, "doc_ids")?;
-    let options = options_of(value)?;
-    if !has_only_members(
-        value,
-        &[
-            "do",
-            "source",
-            "target",
-            "doc_ids",
-            "session",
-            "workers",
-            "batch",
-            "at",
-            "stop_after",
-            "alone",
-            "progress",
-        ],
-    ) {
-        return None;
+impl<'v, 'a> Room<&'v Line<'a>> for Replicate<'v, 'a> {
+    ghost use Rattle.script_words.specs.words.Replicate.{ReplicateAsk, ReportsReplication, replicate_asked, replicate_in};
+
+    ghost seen = { λ line. line_view line.now };
+
+    ghost Ask = { ReplicateAsk };
+
+    ghost asked = { replicate_asked };
+
+    ghost asked_in = { replicate_in };
+
+    ghost answers = { ReportsReplication };
+
+    fn read(line: &'v Line<'a>) -> Option<Replicate<'v, 'a>> {
+        let value = line.value();
+        let source = name_member(value, "source")?;
+        let target = name_member(value, "target")?;
+        let doc_ids = optional_texts(value, "doc_ids")?;
+        let options = options_of(value)?;
+        if !has_only_members(
+            value,
+            &[
+                "do",
+                "source",
+                "target",
+                "doc_ids",
+                "session",
+                "workers",
+                "batch",
+                "at",
+                "stop_after",
+                "alone",
+                "progress",
+            ],
+        ) {
+            return None;
+        }
+        Some(Replicate {
+            source,
+            target,
+            doc_ids,
+            options,
+        })
     }
-    Some(Replicate {
-        source,
-        target,
-        doc_ids,
-        options,
-    })
+
+    /// Serves `replicate`. An id is made for a session that has none, once both databases are found, and before the line's
+    /// ids are looked at. It waits, where the line does not ask for one thread.
+    fn serve<H: Threads + Wait + Sync>(
+        &self,
+        rt: &H,
+        alloc: Global,
+        databases: &mut Databases,
+        answer: &mut Vec<u8>,
+    ) -> Result<(), Refusal> {
+        if !databases.has(self.source) {
+            return Err(Refusal::NoDatabase);
+        }
+        if !databases.has(self.target) {
+            return Err(Refusal::NoDatabase);
+        }
+        let session = session_asked(databases, &self.options);
+        let chosen = read_choice(alloc, self.doc_ids)?;
+        let plan = plan_asked(databases, &self.options, session, chosen)?;
+        let ending = run_plan(rt, alloc, databases, self, &plan)?;
+        print(alloc, answer, plan.session, &ending)?;
+        Ok(())
+    }
 }
 
 /// What an object says of a replication besides its two sides and its documents.
@@ -121,33 +154,6 @@ fn options_of(value: &LineValue<'_>) -> Option<Options>
         alone,
         progress,
     })
-}
-
-/// Serves `replicate`. An id is made for a session that has none, once both databases are found, and before the line's
-/// ids are looked at. It waits, where the line does not ask for one thread.
-pub fn serve<H: Threads + Wait + Sync>(
-    rt: &H,
-    alloc: Global,
-    databases: &mut Databases,
-    ask: &Replicate<'_, '_>,
-    answer: &mut Vec<u8>,
-) -> Result<(), Refusal>
-    requires { answer.old.items ≡ [] }
-    ensures { MayTell ReportsReplication databases.old (replicate_asked ask.now) (told_by result answer.new.items)
-        databases.new }
-{
-    if !databases.has(ask.source) {
-        return Err(Refusal::NoDatabase);
-    }
-    if !databases.has(ask.target) {
-        return Err(Refusal::NoDatabase);
-    }
-    let session = session_asked(databases, &ask.options);
-    let chosen = read_choice(alloc, ask.doc_ids)?;
-    let plan = plan_asked(databases, &ask.options, session, chosen)?;
-    let ending = run_plan(rt, alloc, databases, ask, &plan)?;
-    print(alloc, answer, plan.session, &ending)?;
-    Ok(())
 }
 
 /// The id of the session that a line asks for, which is drawn where it names none.
@@ -294,7 +300,7 @@ fn print_report(alloc: Global, answer: &mut Vec<u8>, report: &Report) -> Result<
 fn push_session(alloc: Global, answer: &mut Vec<u8>, report: &Report) -> Result<(), AllocError>
     ensures { OnOk result (answer.new.items ≡ answer.old.items ++ session_part report.now) }
 {
-    let id = session_text(alloc, report.session)?;
+    let id = id_text(alloc, report.session.0)?;
     answer.extend_from_slice(b"session ")?;
     answer.extend_from_slice(id.as_bytes())?;
     answer.extend_from_slice(b" from ")?;
@@ -334,18 +340,10 @@ fn print_stopped(
 ) -> Result<(), AllocError>
     ensures { OnOk result (answer.new.items ≡ answer.old.items ++ stopped_line session low_water) }
 {
-    let id = session_text(alloc, session)?;
+    let id = id_text(alloc, session.0)?;
     answer.extend_from_slice(b"stopped ")?;
     answer.extend_from_slice(id.as_bytes())?;
     answer.extend_from_slice(b" at ")?;
     push_number(answer, low_water)?;
     answer.extend_from_slice(b"\n")
-}
-
-/// The 32 lower case hexadecimal digits of a session's id.
-#[tactic(auto, unfolding(repl_log::specs::Text::id_digits))]
-fn session_text(alloc: Global, session: SessionId) -> Result<String, AllocError>
-    ensures { IfOk result (λ text. string_bytes text ≡ id_digits session.0) }
-{
-    hex::encode(alloc, session.0.to_be_bytes())
 }

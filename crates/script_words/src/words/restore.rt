@@ -1,16 +1,16 @@
 //! `restore`: a database put back to a copy of it.
-ghost use Rattle.std.specs.Prelude.{◌≡◌, ◌++◌, [], OnOk, option_map};
+ghost use Rattle.std.specs.Prelude.{◌≡◌, ◌++◌, OnOk};
 ghost use Rattle.json_values.specs.LineView.{line_view};
-ghost use Rattle.script_engine.specs.Serving.{MayTell};
-ghost use Rattle.script_words.specs.Checks.{needed};
-ghost use Rattle.script_words.specs.Telling.{told_by};
-ghost use Rattle.script_words.specs.words.Restore.{Restores, left_part, restore_asked, restore_in, restored_line};
+ghost use Rattle.script_words.specs.words.Restore.{left_part, restored_line};
 
 use crate::members::{has_only_members, name_member};
+use crate::room::Room;
 use crate::texts::push_number;
-use json_values::LineValue;
+use json_values::Line;
 use script_databases::{Databases, PutBack, Refusal};
-use std::alloc::AllocError;
+use std::alloc::{AllocError, Global};
+use std::sync::Wait;
+use std::thread::Threads;
 
 /// What a `restore` line asks.
 #[derive(Drop)]
@@ -20,30 +20,41 @@ pub struct Restore<'a> {
     pub name: &'a str,
 }
 
-/// What an object asks by `restore`.
-pub fn read<'v>(value: &'v LineValue<'_>) -> Option<Restore<'v>>
-    ensures { needed (option_map restore_asked result) ≡ restore_in (line_view value.now) }
-{
-    let db = name_member(value, "db")?;
-    let name = name_member(value, "name")?;
-    if !has_only_members(value, &["do", "db", "name"]) {
-        return None;
-    }
-    Some(Restore { db, name })
-}
+impl<'v, 'a> Room<&'v Line<'a>> for Restore<'v> {
+    ghost use Rattle.script_words.specs.words.Restore.{RestoreAsk, Restores, restore_asked, restore_in};
 
-/// Serves `restore`.
-pub fn serve(
-    databases: &mut Databases,
-    ask: &Restore<'_>,
-    answer: &mut Vec<u8>,
-) -> Result<(), Refusal>
-    requires { answer.old.items ≡ [] }
-    ensures { MayTell Restores databases.old (restore_asked ask.now) (told_by result answer.new.items) databases.new }
-{
-    let back = databases.put_back(ask.db, ask.name)?;
-    print(answer, ask.db, ask.name, back)?;
-    Ok(())
+    ghost seen = { λ line. line_view line.now };
+
+    ghost Ask = { RestoreAsk };
+
+    ghost asked = { restore_asked };
+
+    ghost asked_in = { restore_in };
+
+    ghost answers = { Restores };
+
+    fn read(line: &'v Line<'a>) -> Option<Restore<'v>> {
+        let value = line.value();
+        let db = name_member(value, "db")?;
+        let name = name_member(value, "name")?;
+        if !has_only_members(value, &["do", "db", "name"]) {
+            return None;
+        }
+        Some(Restore { db, name })
+    }
+
+    /// Serves `restore`.
+    fn serve<H: Threads + Wait + Sync>(
+        &self,
+        _rt: &H,
+        _alloc: Global,
+        databases: &mut Databases,
+        answer: &mut Vec<u8>,
+    ) -> Result<(), Refusal> {
+        let back = databases.put_back(self.db, self.name)?;
+        print(answer, self.db, self.name, back)?;
+        Ok(())
+    }
 }
 
 /// Prints the two names, and the database's update sequence and life.

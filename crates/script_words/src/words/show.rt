@@ -1,24 +1,24 @@
 //! `show`: a document's leaves, the winner first, each with its known ancestry.
-ghost use Rattle.std.specs.Prelude.{◌≡◌, ◌++◌, [], true, false, OnOk, option_map};
+ghost use Rattle.std.specs.Prelude.{◌≡◌, ◌++◌, true, false, OnOk};
 ghost use Rattle.std.specs.List.{flat_map, list_all};
 ghost use Rattle.std.specs.Option.{option_copied, option_map_or};
-ghost use Rattle.json_values.specs.LineView.{line_view};
 ghost use Rattle.rev_tree.specs.InOrder.{first_of};
 ghost use Rattle.rev_tree.specs.Tree.{has, leaves};
-ghost use Rattle.script_engine.specs.Serving.{MayTell};
-ghost use Rattle.script_words.specs.Checks.{needed};
-ghost use Rattle.script_words.specs.Telling.{told_by};
 ghost use Rattle.script_words.specs.Texts.{text_of_any};
-ghost use Rattle.script_words.specs.words.Show.{Shows, head_line, leaf_line, leaf_text, show_asked, show_in, show_text};
+ghost use Rattle.json_values.specs.LineView.{line_view};
+ghost use Rattle.script_words.specs.words.Show.{head_line, leaf_line, leaf_text, show_text};
 
 use crate::given::read_id;
 use crate::members::{has_only_members, name_member, text_member};
+use crate::room::Room;
 use crate::texts::{push_count, push_json, push_rev, push_revs};
-use json_values::LineValue;
+use json_values::Line;
 use rev_core::Rev;
 use rev_tree::{Content, Tree};
 use script_databases::{Databases, Refusal};
 use std::alloc::{AllocError, Global};
+use std::sync::Wait;
+use std::thread::Threads;
 
 /// What a `show` line asks.
 #[derive(Drop)]
@@ -27,37 +27,47 @@ pub struct Show<'a> {
     pub id: &'a str,
 }
 
-/// What an object asks by `show`.
-pub fn read<'v>(value: &'v LineValue<'_>) -> Option<Show<'v>>
-    ensures { needed (option_map show_asked result) ≡ show_in (line_view value.now) }
-{
-    let db = name_member(value, "db")?;
-    let id = text_member(value, "id")?;
-    if !has_only_members(value, &["do", "db", "id"]) {
-        return None;
-    }
-    Some(Show { db, id })
-}
+impl<'v, 'a> Room<&'v Line<'a>> for Show<'v> {
+    ghost use Rattle.script_words.specs.words.Show.{ShowAsk, Shows, show_asked, show_in};
 
-/// Serves `show`.
-pub fn serve(
-    alloc: Global,
-    databases: &Databases,
-    ask: &Show<'_>,
-    answer: &mut Vec<u8>,
-) -> Result<(), Refusal>
-    requires { answer.old.items ≡ [] }
-    ensures { MayTell Shows databases.now (show_asked ask.now) (told_by result answer.new.items) databases.now }
-{
-    let Some(peer) = databases.find(ask.db) else {
-        return Err(Refusal::NoDatabase);
-    };
-    let id = read_id(alloc, ask.id)?;
-    let Some(tree) = peer.db().tree(&id) else {
-        return Err(Refusal::NoSuchDocument);
-    };
-    print(alloc, answer, id.text(), tree)?;
-    Ok(())
+    ghost seen = { λ line. line_view line.now };
+
+    ghost Ask = { ShowAsk };
+
+    ghost asked = { show_asked };
+
+    ghost asked_in = { show_in };
+
+    ghost answers = { Shows };
+
+    fn read(line: &'v Line<'a>) -> Option<Show<'v>> {
+        let value = line.value();
+        let db = name_member(value, "db")?;
+        let id = text_member(value, "id")?;
+        if !has_only_members(value, &["do", "db", "id"]) {
+            return None;
+        }
+        Some(Show { db, id })
+    }
+
+    /// Serves `show`.
+    fn serve<H: Threads + Wait + Sync>(
+        &self,
+        _rt: &H,
+        alloc: Global,
+        databases: &mut Databases,
+        answer: &mut Vec<u8>,
+    ) -> Result<(), Refusal> {
+        let Some(peer) = databases.find(self.db) else {
+            return Err(Refusal::NoDatabase);
+        };
+        let id = read_id(alloc, self.id)?;
+        let Some(tree) = peer.db().tree(&id) else {
+            return Err(Refusal::NoSuchDocument);
+        };
+        print(alloc, answer, id.text(), tree)?;
+        Ok(())
+    }
 }
 
 /// Prints a document's leaves.
