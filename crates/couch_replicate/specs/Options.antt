@@ -1,12 +1,13 @@
 -- What the options of the command line set: docs/PROFILE.md, "Options".
-use Rattle.std.specs.Prelude.{◌≡◌, ◌^◌, ◌<◌, ℕ, List, Option, Some, None, codes, option_map, string_bytes, true}
+use Rattle.std.specs.Prelude.{◌≡◌, ◌^◌, ◌<◌, ℕ, List, Bool, Option, Some, None, codes, option_map, string_bytes, true, false}
 use Rattle.std.specs.Str.Parse.{without_leading_plus, IsNumeral, digits_value}
 use Rattle.clap.specs.Words.{App, HasKind, Rule, fault_of, first_of, one_of, matches_of, new_app, new_rule, with_rule}
 use Rattle.clap.specs.Simple.{on_top}
-use Rattle.clap.specs.declared.builder.action.ArgAction.TheVariants.{Set}
+use Rattle.clap.specs.declared.builder.action.ArgAction.TheVariants.{Set, SetTrue}
 use Rattle.clap.specs.declared.builder.value_parser.ValueParser.TheVariants as vp
 use Rattle.script_databases.specs.declared.settings.Settings.{Settings}
 use Rattle.couch_replicate.specs.declared.options.NoSettings.{NoSettings}
+use Rattle.couch_replicate.specs.declared.options.Options.{Options}
 use Rattle.couch_replicate.specs.declared.options.NoSettings.TheVariants.{Words, NoNumber, File, Memory}
 
 -- the option `--deny`
@@ -19,6 +20,10 @@ number_option name =
     record (new_rule name)
     { long = Some name; action = Some Set; value_names = 1; parser = Some (vp.Unsigned 0 18446744073709551615) }
 
+-- an option that is there or not
+abbrev pub flag_option : List ℕ → Rule
+flag_option name = record (new_rule name) { long = Some name; action = Some SetTrue }
+
 -- a word that is no option
 abbrev pub file_word : Rule
 file_word = record (new_rule (codes "file")) { action = Some Set }
@@ -29,9 +34,10 @@ program_app = on_top (λ s. record s { has_version = true }) (new_app (codes "co
 
 -- the program's command line
 abbrev pub options : App
-options = with_rule (with_rule (with_rule (with_rule (with_rule (with_rule program_app
+options = with_rule (with_rule (with_rule (with_rule (with_rule (with_rule (with_rule (with_rule (with_rule program_app
     deny_option) (number_option (codes "seed"))) (number_option (codes "at"))) (number_option (codes "workers")))
-    (number_option (codes "batch"))) file_word
+    (number_option (codes "batch"))) (flag_option (codes "quiet"))) (flag_option (codes "explain")))
+    (flag_option (codes "progress"))) file_word
 
 -- the text spells the number, or the default stands in its place
 abbrev pub IsNumber : Option (List ℕ) → ℕ → ℕ → Type 0
@@ -40,16 +46,28 @@ IsNumber (Some text) default n =
     IsNumeral 10 (without_leading_plus text) × (digits_value 10 (without_leading_plus text) < 2 ^ 64)
     × (n ≡ digits_value 10 (without_leading_plus text))
 
+-- the text of a flag that is set or not
+abbrev pub IsFlag : Option (List ℕ) → Bool → Type 0
+IsFlag text flag =
+    ((text ≡ None) → flag ≡ false) × ((text ≡ Some (codes "true")) → flag ≡ true)
+    × ((text ≡ Some (codes "false")) → flag ≡ false)
+
 -- the settings are what the options' texts say, and there is no other word
 abbrev pub AreSettings : (List ℕ → Option (List ℕ)) → (List ℕ → Option (List ℕ)) → Settings → Type 0
 AreSettings text number s =
     (text (codes "file") ≡ None) × (option_map string_bytes s.deny ≡ text (codes "deny")) × IsNumber (number (codes "seed")) 0 s.seed
     × IsNumber (number (codes "at")) 0 s.at
     × IsNumber (number (codes "workers")) 4 s.workers × IsNumber (number (codes "batch")) 500 s.batch
+    × IsFlag (number (codes "quiet")) s.quiet
+
+-- the settings are so, and what is told on standard error is what the options say
+abbrev pub AreOptions : (List ℕ → Option (List ℕ)) → (List ℕ → Option (List ℕ)) → Options → Type 0
+AreOptions text number o = AreSettings text number o.settings
+    × IsFlag (number (codes "explain")) o.explain × IsFlag (number (codes "progress")) o.progress
 
 -- the same of the words, as the command line is read
-abbrev pub Says : List (List ℕ) → Settings → Type 0
-Says words s = AreSettings (λ id. first_of id (matches_of options words)) (λ id. one_of id (matches_of options words)) s
+abbrev pub Says : List (List ℕ) → Options → Type 0
+Says words o = AreOptions (λ id. first_of id (matches_of options words)) (λ id. one_of id (matches_of options words)) o
 
 -- ---- words that give none
 
@@ -63,6 +81,6 @@ SetNothing text number Memory = Unit {0}
 -- what `clap` says of the words, or no settings are what they say, or memory was wanting
 abbrev pub Refuses : List (List ℕ) → NoSettings → Type 0
 Refuses words (Words error) = HasKind (fault_of options words) error
-Refuses words NoNumber = (s : Settings) → Says words s → ⊥
+Refuses words NoNumber = (o : Options) → Says words o → ⊥
 Refuses words File = first_of (codes "file") (matches_of options words) ≡ None → ⊥
 Refuses words Memory = Unit {0}

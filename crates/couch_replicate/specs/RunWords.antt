@@ -8,9 +8,9 @@ use Rattle.script_engine.specs.declared.fault.ScriptFault.{ScriptFault}
 use Rattle.script_engine.specs.declared.fault.ScriptFault.TheVariants.{Read}
 use Rattle.script_databases.specs.Databases.{Program, State, no_databases}
 use Rattle.script_databases.specs.Stored.{program_of}
-use Rattle.script_databases.specs.declared.settings.Settings.{Settings}
 use Rattle.script_words.specs.Trust.{TrustedLines}
 use Rattle.couch_replicate.specs.Options.{Says, Refuses}
+use Rattle.couch_replicate.specs.declared.options.Options.{Options}
 use Rattle.couch_replicate.specs.declared.run.Ended.{Ended}
 use Rattle.couch_replicate.specs.declared.run.Ended.TheVariants.{NotRun, Ran}
 
@@ -34,4 +34,4 @@ abbrev pub RunsWords : List (List ℕ) → Option (List ℕ) → Option (List �
     → Option (List ℕ) → Ended → Type 0
 RunsWords words left left' held held' sent (NotRun why) = Refuses words why × (left' ≡ left) × (held' ≡ held)
 RunsWords words left left' held held' sent (Ran ended) =
-    (s : Settings) × Says words s × Answered (program_of s) left left' held held' ended × IsSent ended held' sent
+    (o : Options) × Says words o × Answered (program_of o.settings) left left' held held' ended × IsSent ended held' sent

@@ -5,12 +5,14 @@
 //! streams and the exit status.
 #![tactic(auto)]
 
+mod hearing;
 mod options;
 mod program;
 mod run;
 
+use std::io::IsTerminal;
 use std::process::ExitCode;
 
 fn main(rt: HostRuntime) -> ExitCode {
-    ExitCode::from(program::run_program(&rt))
+    ExitCode::from(program::run_program(&rt, rt.stderr().is_terminal()))
 }

@@ -2,7 +2,7 @@
 ghost use Rattle.std.specs.Prelude.{◌≡◌, ℕ, IfOk, IfErr, map, string_bytes, codes, true, false};
 ghost use Rattle.clap.specs.Words.{HasKind, app_of, fault_of, found_of, first_value, kind_of, one_text, rule_of};
 ghost use Rattle.couch_replicate.specs.declared.options.NoSettings.TheVariants.{NoNumber, Memory};
-ghost use Rattle.couch_replicate.specs.Options.{AreSettings, IsNumber, Refuses, Says, deny_option, file_word, number_option, options, program_app, SetNothing};
+ghost use Rattle.couch_replicate.specs.Options.{AreOptions, AreSettings, IsNumber, Refuses, Says, deny_option, file_word, flag_option, number_option, options, program_app, SetNothing};
 
 use clap::{Arg, ArgAction, ArgMatches, Command, Error, value_parser};
 use script_databases::Settings;
@@ -50,6 +50,18 @@ const SCRIPT_HELP: &str =
       keeps a copy of `a` under the name `k`; nothing may have been replicated into `a`
   {\"do\":\"restore\",\"db\":\"a\",\"name\":\"k\"}
       puts `a` back to its copy `k`, with the logs of that time; the copy is kept
+  {\"do\":\"compare\",\"source\":\"a\",\"target\":\"b\"}
+      tells of each document of `a` which leaves `b` misses, which revision contradicts, and
+      which leaves differ, whatever the logs say; with \"doc_ids\" of these documents
+  {\"do\":\"conflicts\",\"db\":\"a\"}
+      lists the documents that have several live leaves, with these leaves
+  {\"do\":\"docs\",\"db\":\"a\",\"since\":1}
+      prints the documents that changed after a sequence, each at each of its leaves, as
+      `load` takes them; with \"doc_ids\" these documents
+  {\"do\":\"info\",\"db\":\"a\"}
+      counts documents, leaves, conflicts, revisions and sessions
+  {\"do\":\"ledger\",\"target\":\"b\",\"session\":\"11111111111141118111111111111111\"}
+      lists the documents that a session into `b` refused, and why
 
 Blank lines are passed over. A line that is refused is answered with `refused LINE NAME`,
 and changes nothing; but what a replication has carried before it was refused stays.
@@ -57,6 +69,17 @@ docs/PROFILE.md, \"Names of refusals\", has a sentence for each NAME.
 
 Exit status: 0; 1 where a line was refused; 2 for a bad command line; 3 where reading,
 writing or memory failed.";
+
+/// What the words of a command line say.
+#[derive(Drop)]
+pub struct Options {
+    /// What the script is run with.
+    pub settings: Settings,
+    /// Whether refusals are told on standard error, each with a sentence.
+    pub explain: bool,
+    /// Whether it is told on standard error how far the run came.
+    pub progress: bool,
+}
 
 /// Why the words of a command line give no settings.
 #[derive(Drop)]
@@ -79,9 +102,9 @@ impl From<AllocError> for NoSettings {
     }
 }
 
-/// The settings that the words of a command line give, the program's name first.
-pub fn read_words<'a>(alloc: Global, words: &'a [String]) -> Result<Settings, NoSettings>
-    ensures ok { IfOk result (λ s. Says (map string_bytes words.entry.now) s) }
+/// The options that the words of a command line give, the program's name first.
+pub fn read_words<'a>(alloc: Global, words: &'a [String]) -> Result<Options, NoSettings>
+    ensures ok { IfOk result (λ o. Says (map string_bytes words.entry.now) o) }
     ensures err { IfErr result (λ why. Refuses (map string_bytes words.entry.now) why) }
 {
     let command = command(alloc)?;
@@ -89,8 +112,24 @@ pub fn read_words<'a>(alloc: Global, words: &'a [String]) -> Result<Settings, No
         Ok(matches) => matches,
         Err(error) => return Err(NoSettings::Words(error)),
     };
-    match settings_of(alloc, &matches) {
-        Ok(settings) => Ok(settings),
+    match options_of(alloc, &matches) {
+        Ok(options) => Ok(options),
+        Err(why) => Err(why),
+    }
+}
+
+/// What the options say.
+fn options_of(alloc: Global, matches: &ArgMatches<'_>) -> Result<Options, NoSettings>
+    ensures ok { IfOk result
+        (λ o. AreOptions (first_value (found_of matches.now)) (one_text (found_of matches.now)) o) }
+    ensures err { IfErr result (SetNothing (first_value (found_of matches.now)) (one_text (found_of matches.now))) }
+{
+    match settings_of(alloc, matches) {
+        Ok(settings) => Ok(Options {
+            settings,
+            explain: matches.get_flag("explain"),
+            progress: matches.get_flag("progress"),
+        }),
         Err(why) => Err(why),
     }
 }
@@ -124,12 +163,14 @@ fn settings_of(alloc: Global, matches: &ArgMatches<'_>) -> Result<Settings, NoSe
         Ok(batch) => batch,
         Err(why) => return Err(why),
     };
+    let quiet = matches.get_flag("quiet");
     Ok(Settings {
         deny,
         seed,
         at,
         workers,
         batch,
+        quiet,
     })
 }
 
@@ -146,7 +187,7 @@ fn number_of(matches: &ArgMatches<'_>, name: &str, default: u64) -> Result<u64, 
     }
 }
 
-/// The command line: the five options, each at most once, and a word that is none.
+/// The command line: the eight options, each at most once, and a word that is none.
 fn command<'a>(alloc: Global) -> Result<Command<'a>, AllocError>
     ensures { IfOk result (λ c. app_of c ≡ options) }
 {
@@ -175,6 +216,21 @@ fn command<'a>(alloc: Global) -> Result<Command<'a>, AllocError>
             "batch",
             "N",
             "How many documents a window of a replication has at most, 1 to 10000 [default: 500]",
+        ))?
+        .arg(flag(
+            alloc,
+            "quiet",
+            "Loads and edits that are done are answered nothing",
+        ))?
+        .arg(flag(
+            alloc,
+            "explain",
+            "Tells the first 20 refusals on standard error, each with a sentence, and counts all by name",
+        ))?
+        .arg(flag(
+            alloc,
+            "progress",
+            "Tells the number of the line each second on standard error, where it is a terminal",
         ))?
         .arg(file(alloc))?;
     Ok(command)
@@ -212,6 +268,17 @@ fn number<'a>(alloc: Global, name: &'a str, value: &'a str, help: &'a str) -> Ar
         .value_name(value)
         .value_parser(value_parser!(u64))
         .action(ArgAction::Set)
+        .help(help)
+}
+
+/// An option that is there or not.
+fn flag<'a>(alloc: Global, name: &'a str, help: &'a str) -> Arg<'a>
+    ensures rule { rule_of result ≡ flag_option name.entry.now }
+    ensures local { result.global ≡ false }
+{
+    Arg::new(alloc, name)
+        .long(name)
+        .action(ArgAction::SetTrue)
         .help(help)
 }
 

@@ -10,6 +10,7 @@ use clap::error::ErrorKind;
 use script_engine::{OverRead, OverWrite, ScriptFault};
 use std::env::Env;
 use std::io::{Eprint, Input, Print};
+use std::rt::Clock;
 use std::sync::Wait;
 use std::thread::Threads;
 use std::{env, io};
@@ -19,13 +20,15 @@ const BAD_COMMAND_LINE: u8 = 2;
 
 /// Runs the program, and gives its exit status: 0; 1 where a line was refused; 2 for a bad command line; 3 where
 /// reading, writing or memory failed.
-pub fn run_program<H: AllocGlobal + Env + Input + Print + Eprint + Threads + Wait + Sync>(
-    rt: &H,
-) -> u8
+///
+/// `is_watched` says whether standard error is a terminal, where `--progress` shows how far a run came.
+pub fn run_program<H>(rt: &H, is_watched: bool) -> u8
+where
+    H: AllocGlobal + Env + Input + Print + Eprint + Clock + Threads + Wait + Sync,
     ensures { result ≤ 3 }
 {
     match words_of(rt) {
-        Ok(words) => tell(rt, &run_standard(rt, words.as_slice())),
+        Ok(words) => tell(rt, &run_standard(rt, words.as_slice(), is_watched)),
         Err(error) if error.kind() == io::ErrorKind::OutOfMemory => tell_fault(rt, &no_memory()),
         Err(error) => {
             let _ = eprintln!(rt; "error: {error}");
@@ -41,15 +44,15 @@ fn words_of<H: AllocGlobal + Env>(rt: &H) -> io::Result<Vec<String>> {
 }
 
 /// Runs the words over standard input and output.
-fn run_standard<H: AllocGlobal + Input + Print + Threads + Wait + Sync>(
-    rt: &H,
-    words: &[String],
-) -> Ended {
+fn run_standard<H>(rt: &H, words: &[String], is_watched: bool) -> Ended
+where
+    H: AllocGlobal + Input + Print + Eprint + Clock + Threads + Wait + Sync,
+{
     let Ok(mut writer) = OverWrite::new(rt.alloc(), io::writer(rt)) else {
         return Ended::NotRun(NoSettings::Memory);
     };
     let mut reader = OverRead::new(rt.reader());
-    run_words(rt, words, &mut reader, &mut writer)
+    run_words(rt, words, is_watched, &mut reader, &mut writer)
 }
 
 /// Tells on standard error how a run ended, where it isn't well, and gives the exit status.

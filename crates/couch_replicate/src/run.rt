@@ -2,9 +2,12 @@
 ghost use Rattle.std.specs.Prelude.{map, string_bytes};
 ghost use Rattle.couch_replicate.specs.RunWords.{RunsWords};
 
+use crate::hearing::Hearing;
 use crate::options::{NoSettings, read_words};
 use script_engine::{ScriptFault, ScriptRead, ScriptWrite};
 use script_words::run_script;
+use std::io::Eprint;
+use std::rt::Clock;
 use std::sync::Wait;
 use std::thread::Threads;
 
@@ -20,19 +23,25 @@ pub enum Ended {
 /// Reads the words of a command line, the program's name first, and runs the script of the reader.
 ///
 /// The databases are left in memory, since the program ends behind it.
-pub fn run_words<'a, H: AllocGlobal + Threads + Wait + Sync, R: ScriptRead, W: ScriptWrite>(
+pub fn run_words<'a, H, R: ScriptRead, W: ScriptWrite>(
     rt: &H,
     words: &'a [String],
+    is_watched: bool,
     reader: &mut R,
     writer: &mut W,
 ) -> Ended
+where
+    H: AllocGlobal + Eprint + Clock + Threads + Wait + Sync,
     ensures { RunsWords (map string_bytes words.entry.now) (R.left reader.old) (R.left reader.new)
         (W.held writer.old) (W.held writer.new) (W.sent writer.new) result }
 {
-    let settings = match read_words(rt.alloc(), words) {
-        Ok(settings) => settings,
+    let options = match read_words(rt.alloc(), words) {
+        Ok(options) => options,
         Err(why) => return Ended::NotRun(why),
     };
-    let ended = run_script(rt, reader, writer, &settings);
+    let shows = options.progress && is_watched;
+    let hearing = Hearing::new(rt, rt.alloc(), options.explain, shows);
+    hearing.warn(&options.settings);
+    let ended = run_script(rt, reader, writer, hearing, &options.settings);
     Ended::Ran(ended)
 }

@@ -21,4 +21,4 @@ answered g l l' h h' (Err fault) a (input, text, gives, written, so_far) e = ((i
 
 pub returns : goal.returns
 returns g c =
-    (c.in-Ok.settings, c.in-Ok.ensures.ok, answered _ _ _ _ _ c.run_script-ended.result c.run_script-ended.ensures.trust c.run_script-ended.ensures.trust_until c.run_script-ended.ensures.read, c.run_script-ended.ensures.sent)
+    (c.in-Ok.options, c.in-Ok.ensures.ok, answered _ _ _ _ _ c.run_script-ended.result c.run_script-ended.ensures.trust c.run_script-ended.ensures.trust_until c.run_script-ended.ensures.read, c.run_script-ended.ensures.sent)

@@ -1,0 +1,276 @@
+//! Why an object is no command: a word, a member or its kind is wrong (docs/PROFILE.md, "Command lines").
+
+use json_values::{LineValue, is_same_text};
+use uuid::Uuid;
+
+/// What a member's value has to be.
+#[derive(Drop)]
+pub(crate) enum Kind {
+    /// 1 to 32 ASCII letters, digits, `-` or `_`.
+    Name,
+    /// Any text.
+    Text,
+    /// A list of texts.
+    Texts,
+    /// A whole number from 0 to 2^64 - 1.
+    Whole,
+    /// True or false.
+    Flag,
+    /// The text of a UUID.
+    Uuid,
+    /// `source` or `target`.
+    Side,
+    /// Any value.
+    Any,
+}
+
+/// A member of a word: its name, its kind, and whether a line must have it.
+type Member = (&'static str, Kind, bool);
+
+/// Each word with its members beside `do`.
+static WORDS: &[(&str, &[Member])] = &[
+    (
+        "load",
+        &[
+            ("db", Kind::Name, true),
+            ("uuid", Kind::Uuid, false),
+            ("doc", Kind::Any, false),
+        ],
+    ),
+    (
+        "edit",
+        &[
+            ("db", Kind::Name, true),
+            ("id", Kind::Text, true),
+            ("parent", Kind::Text, false),
+            ("deleted", Kind::Flag, false),
+            ("body", Kind::Any, false),
+        ],
+    ),
+    (
+        "show",
+        &[("db", Kind::Name, true), ("id", Kind::Text, true)],
+    ),
+    (
+        "doc",
+        &[
+            ("db", Kind::Name, true),
+            ("id", Kind::Text, true),
+            ("rev", Kind::Text, false),
+        ],
+    ),
+    (
+        "changes",
+        &[("db", Kind::Name, true), ("since", Kind::Whole, false)],
+    ),
+    (
+        "replicate",
+        &[
+            ("source", Kind::Name, true),
+            ("target", Kind::Name, true),
+            ("doc_ids", Kind::Texts, false),
+            ("session", Kind::Uuid, false),
+            ("workers", Kind::Whole, false),
+            ("batch", Kind::Whole, false),
+            ("at", Kind::Whole, false),
+            ("stop_after", Kind::Whole, false),
+            ("alone", Kind::Flag, false),
+            ("progress", Kind::Flag, false),
+        ],
+    ),
+    (
+        "log",
+        &[
+            ("source", Kind::Name, true),
+            ("target", Kind::Name, true),
+            ("side", Kind::Side, true),
+            ("doc_ids", Kind::Texts, false),
+        ],
+    ),
+    (
+        "audit",
+        &[
+            ("source", Kind::Name, true),
+            ("target", Kind::Name, true),
+            ("doc_ids", Kind::Texts, false),
+        ],
+    ),
+    (
+        "backup",
+        &[("db", Kind::Name, true), ("name", Kind::Name, true)],
+    ),
+    (
+        "restore",
+        &[("db", Kind::Name, true), ("name", Kind::Name, true)],
+    ),
+    (
+        "compare",
+        &[
+            ("source", Kind::Name, true),
+            ("target", Kind::Name, true),
+            ("doc_ids", Kind::Texts, false),
+        ],
+    ),
+    ("conflicts", &[("db", Kind::Name, true)]),
+    (
+        "docs",
+        &[
+            ("db", Kind::Name, true),
+            ("since", Kind::Whole, false),
+            ("doc_ids", Kind::Texts, false),
+        ],
+    ),
+    ("info", &[("db", Kind::Name, true)]),
+    (
+        "ledger",
+        &[("target", Kind::Name, true), ("session", Kind::Uuid, true)],
+    ),
+];
+
+/// Why an object is no command: the first that is seen.
+#[derive(Drop)]
+pub(crate) enum CommandFault<'v> {
+    /// No member `do` is a text.
+    NoWord,
+    /// No word is called so.
+    UnknownWord(&'v str),
+    /// The word has no such member.
+    UnknownMember(&'v str),
+    /// A member of the word is missing.
+    Missing(&'static str),
+    /// A member is not what it has to be.
+    WrongKind(&'static str, &'static str),
+    /// Nothing is seen.
+    NoneSeen,
+}
+
+/// Why an object is no command.
+pub(crate) fn fault_of<'v>(object: &'v LineValue<'_>) -> CommandFault<'v> {
+    let word = match object.get("do") {
+        Some(value) => value.as_str(),
+        None => None,
+    };
+    let Some(word) = word else {
+        return CommandFault::NoWord;
+    };
+    match members_of(word) {
+        Some(members) => fault_among(object, members),
+        None => CommandFault::UnknownWord(word),
+    }
+}
+
+/// The members of a word, if there is one of that name.
+fn members_of(word: &str) -> Option<&'static [Member]> {
+    for row in WORDS {
+        if is_same_text(word, row.0) {
+            return Some(row.1);
+        }
+    }
+    None
+}
+
+/// Why an object is no command of the word with these members.
+fn fault_among<'v>(object: &'v LineValue<'_>, members: &'static [Member]) -> CommandFault<'v> {
+    for member in members {
+        match object.get(member.0) {
+            Some(value) if !is_of_kind(value, &member.1) => {
+                return CommandFault::WrongKind(member.0, wanted(&member.1));
+            }
+            None if member.2 => return CommandFault::Missing(member.0),
+            _ => {}
+        }
+    }
+    unknown_member(object, members)
+}
+
+/// The first member that a word hasn't, if there is one.
+fn unknown_member<'v>(object: &'v LineValue<'_>, members: &'static [Member]) -> CommandFault<'v> {
+    let Some(given) = object.as_object() else {
+        return CommandFault::NoWord;
+    };
+    for entry in given {
+        if !is_same_text("do", entry.0) && !is_among(entry.0, members) {
+            return CommandFault::UnknownMember(entry.0);
+        }
+    }
+    CommandFault::NoneSeen
+}
+
+/// Whether a member of that name is among these.
+fn is_among(name: &str, members: &'static [Member]) -> bool {
+    for member in members {
+        if is_same_text(name, member.0) {
+            return true;
+        }
+    }
+    false
+}
+
+/// Whether a value is what the kind asks for.
+fn is_of_kind(value: &LineValue<'_>, kind: &Kind) -> bool {
+    match kind {
+        Kind::Name => is_text_where(value, is_name),
+        Kind::Text => value.as_str().is_some(),
+        Kind::Texts => are_texts(value),
+        Kind::Whole => value.as_u64().is_some(),
+        Kind::Flag => value.as_bool().is_some(),
+        Kind::Uuid => is_text_where(value, is_uuid),
+        Kind::Side => is_text_where(value, is_side),
+        Kind::Any => true,
+    }
+}
+
+/// Whether a value is a text of which this holds.
+fn is_text_where(value: &LineValue<'_>, holds: fn(&str) -> bool) -> bool
+    requires { IsAlwaysCallable holds }
+{
+    match value.as_str() {
+        Some(text) => holds(text),
+        None => false,
+    }
+}
+
+/// Whether a value is a list of texts.
+fn are_texts(value: &LineValue<'_>) -> bool {
+    let Some(items) = value.as_array() else {
+        return false;
+    };
+    for item in items {
+        if item.as_str().is_none() {
+            return false;
+        }
+    }
+    true
+}
+
+/// Whether a text is the name of a database.
+fn is_name(text: &str) -> bool {
+    let bytes = text.as_bytes();
+    !bytes.is_empty()
+        && bytes.len() <= 32
+        && bytes.iter().all(|b| matches!(*b, b'0'..=b'9' | b'A'..=b'Z' | b'a'..=b'z' | b'-' | b'_'))
+}
+
+/// Whether a text spells a UUID.
+fn is_uuid(text: &str) -> bool {
+    Uuid::parse_str(text).is_ok()
+}
+
+/// Whether a text names a side.
+fn is_side(text: &str) -> bool {
+    is_same_text("source", text) || is_same_text("target", text)
+}
+
+/// What a kind asks for, in words.
+fn wanted(kind: &Kind) -> &'static str {
+    match kind {
+        Kind::Name => "is to be a name, 1 to 32 letters, digits, - or _",
+        Kind::Text => "is to be a text",
+        Kind::Texts => "is to be a list of texts",
+        Kind::Whole => "is to be a whole number from 0 on",
+        Kind::Flag => "is to be true or false",
+        Kind::Uuid => "is to be a UUID",
+        Kind::Side => "is to be source or target",
+        Kind::Any => "may be any value",
+    }
+}
