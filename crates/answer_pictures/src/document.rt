@@ -1,5 +1,6 @@
 //! A document as an answer of `show` tells it.
-ghost use Rattle.std.specs.Prelude.{◌≡◌, ◌++◌, ◌∷◌, [], OnOk, IfOk, map, IsPermutation};
+ghost use Rattle.std.specs.Prelude.{◌≡◌, ◌++◌, ◌∷◌, [], OnOk, IsPermutation, nat_le, string_bytes, vec_len};
+ghost use Rattle.answer_pictures.specs.Drawing.{Holds, revs_in};
 
 use rev_core::Rev;
 use std::alloc::{AllocError, Global};
@@ -62,31 +63,37 @@ pub struct Document {
     /// Its id, as JSON writes it.
     pub id: String,
     /// How many leaves it has.
-    pub count: usize,
+    pub count: u64,
     /// Those that were read: the winner first, or as they are drawn.
     pub leaves: Vec<Leaf>,
 }
 
 impl Document {
     /// A document of which no leaf was read.
-    pub fn new(alloc: Global, id: &str, count: usize) -> Result<Document, AllocError>
-        ensures { IfOk result (λ d. d.leaves.items ≡ []) }
+    pub fn new(alloc: Global, id: String, count: u64) -> Document
+        ensures holds { Holds result (string_bytes id) [] }
+        ensures id { result.id ≡ id }
+        ensures count { result.count ≡ count }
     {
-        Ok(Document {
-            id: String::from_str(alloc, id)?,
+        Document {
+            id,
             count,
             leaves: Vec::new(alloc),
-        })
+        }
     }
 
     /// Whether all its leaves were read.
-    pub fn is_whole(&self) -> bool {
-        self.leaves.len() >= self.count
+    pub fn is_whole(&self) -> bool
+        ensures { result ≡ nat_le self.now.count (vec_len self.now.leaves) }
+    {
+        self.leaves.len() as u64 >= self.count
     }
 
     /// Adds a leaf, of which the first is the winner.
     pub fn add(&mut self, leaf: Leaf) -> Result<(), AllocError>
-        ensures { OnOk result (map (λ l. l.rev) self.new.leaves.items ≡ map (λ l. l.rev) self.old.leaves.items ++ leaf.rev ∷ []) }
+        ensures leaves { OnOk result (revs_in self.new ≡ revs_in self.old ++ leaf.rev ∷ []) }
+        ensures id { OnOk result (self.new.id ≡ self.old.id) }
+        ensures count { OnOk result (self.new.count ≡ self.old.count) }
     {
         let leaf = self.placed(leaf);
         self.leaves.push(leaf)?;
@@ -116,7 +123,8 @@ impl Document {
 
     /// Puts the leaves into the order in which they are drawn.
     pub fn sort(&mut self) -> Result<(), AllocError>
-        ensures { IsPermutation (map (λ l. l.rev) self.old.leaves.items) (map (λ l. l.rev) self.new.leaves.items) }
+        ensures leaves { IsPermutation (revs_in self.old) (revs_in self.new) }
+        ensures id { self.new.id ≡ self.old.id }
     {
         self.leaves.sort()
     }

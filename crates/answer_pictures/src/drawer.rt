@@ -1,16 +1,17 @@
 //! A run over a script's answers.
-ghost use Rattle.std.specs.Prelude.{◌≡◌, [], Some, None, IfOk, OnOk, OnErr, map};
+ghost use Rattle.std.specs.Prelude.{◌≡◌, [], None, IfOk, OnOk, OnErr};
 ghost use Rattle.std.specs.Io.KnownBytes.{Keeps};
 ghost use Rattle.answer_pictures.specs.Ink.{Draws};
-ghost use Rattle.answer_pictures.specs.Drawing.{Drawn, IsPictured, Pictures, open_leaves};
+ghost use Rattle.answer_pictures.specs.Drawing.{IsPicture, IsPictured, Pictures, Takes, revs_in};
 
-use crate::document::{Document, Leaf};
+use crate::document::Document;
 use crate::form::Form;
-use crate::lines::{read_doc, read_leaf};
 use crate::markup::Markup;
+use crate::reading::next;
 use crate::sheet::{mark, number};
 use crate::svg::Extent;
 use crate::{svg, text};
+use answer_lines::read_line;
 use script_engine::{ScriptFault, ScriptRead, ScriptWrite, Serve, run_lines, write_all};
 use std::alloc::{AllocError, Global};
 
@@ -36,56 +37,42 @@ impl Serve for Drawer<'_> {
             Err(_) => Err("Memory"),
         }
     }
+
+    fn hear(&mut self, _number: u64, _line: &[u8], _refused: Option<&'static str>) {}
 }
 
 impl Drawer<'_> {
-    /// Takes in a line, and draws the document that it ends. Where memory is wanting, none is open.
+    /// Takes in a line, and draws the document that it makes whole. Where memory is wanting, none is open.
     fn take_in(&mut self, line: &[u8], answer: &mut Vec<u8>) -> Result<(), AllocError>
         requires { answer.old.items ≡ [] }
-        ensures ok { OnOk result (Drawn self.old.begun self.new.begun answer.new.items) }
-        ensures err { OnErr result (open_leaves self.new.begun ≡ []) }
+        ensures ok { OnOk result (Takes self.old.begun line.now self.new.begun answer.new.items) }
+        ensures err { OnErr result (self.new.begun ≡ None) }
     {
         let begun = self.begun.take();
-        let Ok(text) = str::from_utf8(line) else {
-            return Ok(());
-        };
-        if let Some((id, count)) = read_doc(text) {
-            self.begun = Some(Document::new(self.alloc, id, count)?);
-            return Ok(());
+        let told = read_line(self.alloc, line)?;
+        let (begun, whole) = next(self.alloc, begun, told)?;
+        match whole {
+            Some(document) => self.draw(document, answer),
+            None => {
+                self.begun = begun;
+                Ok(())
+            }
         }
-        let Some(document) = begun else {
-            return Ok(());
-        };
-        let Some(leaf) = read_leaf(self.alloc, text)? else {
-            return Ok(());
-        };
-        self.add(document, leaf, answer)
-    }
-
-    /// Adds a leaf to a document, and draws it where it is whole.
-    fn add(
-        &mut self,
-        mut document: Document,
-        leaf: Leaf,
-        answer: &mut Vec<u8>,
-    ) -> Result<(), AllocError>
-        requires empty { answer.old.items ≡ [] }
-        requires none { self.old.begun ≡ None }
-        ensures ok { OnOk result (Drawn (Some document) self.new.begun answer.new.items) }
-        ensures err { OnErr result (open_leaves self.new.begun ≡ []) }
-    {
-        document.add(leaf)?;
-        if !document.is_whole() {
-            self.begun = Some(document);
-            return Ok(());
-        }
-        document.sort()?;
-        self.draw(&document, answer)
     }
 
     /// Draws a document.
-    fn draw(&mut self, document: &Document, answer: &mut Vec<u8>) -> Result<(), AllocError>
-        ensures draws { OnOk result (Draws answer.old.items answer.new.items (map (λ l. l.rev) document.now.leaves.items)) }
+    fn draw(&mut self, mut document: Document, answer: &mut Vec<u8>) -> Result<(), AllocError>
+        requires { answer.old.items ≡ [] }
+        ensures draws { OnOk result (IsPicture document answer.new.items) }
+        ensures begun { self.new.begun ≡ self.old.begun }
+    {
+        document.sort()?;
+        self.draw_sorted(&document, answer)
+    }
+
+    /// Draws a document whose leaves stand in their order.
+    fn draw_sorted(&mut self, document: &Document, answer: &mut Vec<u8>) -> Result<(), AllocError>
+        ensures draws { OnOk result (Draws answer.old.items answer.new.items (revs_in document.now)) }
         ensures begun { self.new.begun ≡ self.old.begun }
     {
         match self.form {
@@ -102,9 +89,9 @@ impl Drawer<'_> {
     }
 }
 
-/// Reads a script's answers, and writes a picture of each document that an answer of `show` tells (docs/PROFILE.md,
-/// "Pictures"): as text, or all of them as one picture in SVG. Where the database is named, a text has the lines that end
-/// the conflicts.
+/// Reads a script's answers, and writes a picture of each document that an answer of `show` or `conflicts` tells
+/// (docs/PROFILE.md, "Pictures"): as text, or all of them as one picture in SVG. Where the database is named, a text has
+/// the lines that end the conflicts.
 ///
 /// `true` where memory was wanting for no line. `Read` and `Write` where that device failed, `Memory` where memory was
 /// wanting between lines: then a beginning was written.

@@ -1,5 +1,6 @@
 -- What a task does, by what its reading and its wording do.
 use Rattle.std.proofs.Common.{◌≡◌, ℕ, List, true, false, Option, Some, Result, Ok, Err, IfOk, IfErr, refl, subst}
+use Rattle.std.proofs.lemmas.Bool.{true≢false}
 use Rattle.couch_answers.specs.Wanted.{wants_documents, is_strict}
 use Rattle.couch_answers.specs.Reading.{Piece}
 use Rattle.couch_answers.specs.Grammar.{IsAnswered}
@@ -10,9 +11,9 @@ use Rattle.couch_answers.specs.declared.place.Wanted.TheVariants.{Changes}
 use Rattle.couch_wording.specs.Words.{Words}
 use Rattle.couch_wording.specs.Runs.{Answered, Stopped, ReadsAnswers}
 use Rattle.couch_wording.specs.declared.run.AnswerFault.{AnswerFault}
-use Rattle.couch_lines.specs.Runs.{IsDone, Makes, wanted_of, words_of_task}
+use Rattle.couch_lines.specs.Runs.{IsDone, Makes, is_drawn, wanted_of, words_of_task}
 use Rattle.couch_lines.specs.declared.tasks.Task.{Task}
-use Rattle.couch_lines.specs.declared.tasks.Task.TheVariants.{Load, Ids, Diff, Leaves, Bulk}
+use Rattle.couch_lines.specs.declared.tasks.Task.TheVariants.{Load, Ids, Diff, Leaves, Bulk, Trees}
 
 module _ (left held held' : Option (List ℕ)) (x : Result ℕ AnswerFault) where
   abbrev pub Ran : Wanted → Words → Type 0
@@ -36,16 +37,17 @@ module _ (left held held' : Option (List ℕ)) (x : Result ℕ AnswerFault) wher
       let ran = subst (λ z. Ran (wanted_of task) z) f (subst (λ z. Ran z words) e r) in
       done_by task x ran.0 ran.1
 
-  makes_by : (task : Task) → Forms (wanted_of task) (words_of_task task) → Scripts (wanted_of task) (words_of_task task) → Changing (wanted_of task) (words_of_task task) → Makes task left held held' x
-  makes_by (Load db false) forms scripts changes = λ text pieces l h. forms text pieces refl refl l h
-  makes_by (Load db true) forms scripts changes = λ text pieces l h. forms text pieces refl refl l h
-  makes_by (Ids n) forms scripts changes = tt
-  makes_by (Diff n) forms scripts changes = tt
-  makes_by (Leaves db) forms scripts changes = λ text pieces l h. changes text pieces refl l h
-  makes_by (Bulk n false) forms scripts changes = λ text pieces l h. scripts text pieces refl refl l h
-  makes_by (Bulk n true) forms scripts changes = λ text pieces l h. scripts text pieces refl refl l h
+  makes_by : (task : Task) → is_drawn task ≡ false → Forms (wanted_of task) (words_of_task task) → Scripts (wanted_of task) (words_of_task task) → Changing (wanted_of task) (words_of_task task) → Makes task left held held' x
+  makes_by (Load db false) lines forms scripts changes = λ text pieces l h. forms text pieces refl refl l h
+  makes_by (Load db true) lines forms scripts changes = λ text pieces l h. forms text pieces refl refl l h
+  makes_by (Ids n) lines forms scripts changes = tt
+  makes_by (Diff n) lines forms scripts changes = tt
+  makes_by (Leaves db) lines forms scripts changes = λ text pieces l h. changes text pieces refl l h
+  makes_by (Bulk n false) lines forms scripts changes = λ text pieces l h. scripts text pieces refl refl l h
+  makes_by (Trees db svg) lines forms scripts changes = absurd (true≢false lines)
+  makes_by (Bulk n true) lines forms scripts changes = λ text pieces l h. scripts text pieces refl refl l h
 
-  pub makes : (task : Task) (w : Wanted) (words : Words) → w ≡ wanted_of task → words ≡ words_of_task task → Forms w words → Scripts w words → Changing w words → Makes task left held held' x
-  makes task w words e f forms scripts changes =
-      makes_by task (subst (λ z. Forms (wanted_of task) z) f (subst (λ z. Forms z words) e forms)) (subst (λ z. Scripts (wanted_of task) z) f (subst (λ z. Scripts z words) e scripts))
+  pub makes : (task : Task) (w : Wanted) (words : Words) → is_drawn task ≡ false → w ≡ wanted_of task → words ≡ words_of_task task → Forms w words → Scripts w words → Changing w words → Makes task left held held' x
+  makes task w words lines e f forms scripts changes =
+      makes_by task lines (subst (λ z. Forms (wanted_of task) z) f (subst (λ z. Forms z words) e forms)) (subst (λ z. Scripts (wanted_of task) z) f (subst (λ z. Scripts z words) e scripts))
       (subst (λ z. Changing (wanted_of task) z) f (subst (λ z. Changing z words) e changes))

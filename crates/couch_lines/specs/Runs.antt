@@ -1,5 +1,6 @@
 -- How the words of a command line are run, over any reader and writer: docs/PROFILE.md, "CouchDB's answers".
-use Rattle.std.specs.Prelude.{◌≡◌, ℕ, List, true, false, Option, Some, Result, Ok, Err, string_bytes, ⊤}
+use Rattle.std.specs.Prelude.{◌≡◌, ℕ, List, Bool, true, false, Option, Some, Result, Ok, Err, IfOk, String, string_bytes, ⊤}
+use Rattle.std.specs.declared.alloc.Global.{Global}
 use Rattle.couch_answers.specs.Reading.{Piece}
 use Rattle.couch_answers.specs.Grammar.{IsAnswered}
 use Rattle.couch_answers.specs.LineGrammar.{IsScript}
@@ -9,11 +10,12 @@ use Rattle.couch_answers.specs.declared.place.Wanted.TheVariants.{Documents, Env
 use Rattle.couch_wording.specs.Words.{Words, loads_of, asked_of, diffs_of, docs_of, bodies_of}
 use Rattle.couch_wording.specs.Runs.{Answered, Stopped, ReadsAnswers}
 use Rattle.couch_wording.specs.declared.run.AnswerFault.{AnswerFault}
+use Rattle.answer_pictures.specs.Drawing.{IsPictured}
 use Rattle.couch_lines.specs.Tasks.{Says, Refuses}
 use Rattle.couch_lines.specs.declared.tasks.Task.{Task}
-use Rattle.couch_lines.specs.declared.tasks.Task.TheVariants.{Load, Ids, Diff, Leaves, Bulk}
+use Rattle.couch_lines.specs.declared.tasks.Task.TheVariants.{Load, Ids, Diff, Leaves, Bulk, Trees}
 use Rattle.couch_lines.specs.declared.run.Ended.{Ended}
-use Rattle.couch_lines.specs.declared.run.Ended.TheVariants.{NotRun, Ran}
+use Rattle.couch_lines.specs.declared.run.Ended.TheVariants.{NotRun, Ran, Drawn}
 
 -- what is read for a task
 abbrev pub wanted_of : Task → Wanted
@@ -24,6 +26,7 @@ wanted_of (Diff n) = InFeed
 wanted_of (Leaves db) = Changes
 wanted_of (Bulk n false) = Bodies
 wanted_of (Bulk n true) = Unfolded
+wanted_of (Trees db svg) = Documents
 
 -- how what was read is written
 abbrev pub words_of_task : Task → Words
@@ -32,6 +35,12 @@ words_of_task (Ids n) = asked_of n
 words_of_task (Diff n) = diffs_of n
 words_of_task (Leaves db) = docs_of (string_bytes db)
 words_of_task (Bulk n whole) = bodies_of n
+words_of_task (Trees db svg) = bodies_of 0
+
+-- whether pictures are drawn, and no lines made
+abbrev pub is_drawn : Task → Bool
+is_drawn (Trees db svg) = true
+is_drawn task = false
 
 -- First what the reader has left, then what the writer holds, before and after.
 abbrev pub IsDone : Task → Option (List ℕ) → Option (List ℕ) → Option (List ℕ) → Result ℕ AnswerFault → Type 0
@@ -50,9 +59,13 @@ Makes (Leaves db) left held held' result = (answers : List ℕ) → (changes : L
     → IsChangeScript answers changes → ReadsAnswers (docs_of (string_bytes db)) changes held held' result
 Makes (Bulk n whole) left held held' result = (answers : List ℕ) → (documents : List Piece) → left ≡ Some answers
     → IsScript (wanted_of (Bulk n whole)) answers documents → ReadsAnswers (bodies_of n) documents held held' result
+Makes (Trees db svg) left held held' result = ⊥
 
--- words that ask for nothing: nothing is read or written, as where memory was wanting; else what they ask for is done
+-- words that ask for nothing: nothing is read or written, as where memory was wanting; else what they ask for is done,
+-- and pictures are drawn for `trees` alone
 abbrev pub RunsWords : List (List ℕ) → Option (List ℕ) → Option (List ℕ) → Option (List ℕ) → Option (List ℕ) → Ended → Type 0
 RunsWords words left left' held held' (NotRun why) = Refuses words why × (left' ≡ left) × (held' ≡ held)
 RunsWords words left left' held held' (Ran run) =
     (task : Task) × Says words task × IsDone task left held held' run.ended × Makes task left held held' run.ended
+RunsWords words left left' held held' (Drawn ended) =
+    (db : Option (String Global)) × (svg : Bool) × Says words (Trees db svg) × IfOk ended (λ clean. IsPictured left held held' clean)

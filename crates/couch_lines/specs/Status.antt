@@ -1,20 +1,27 @@
 -- The exit status of the program: docs/PROFILE.md, "Options of `couch_lines`".
-use Rattle.std.specs.Prelude.{ℕ, ◌==◌, cond, Result, Ok, Err}
+use Rattle.std.specs.Prelude.{ℕ, ◌==◌, Bool, true, false, cond, Result, Ok, Err}
 use Rattle.clap.specs.Words.{kind_of}
 use Rattle.clap.specs.declared.error.kind.ErrorKind.{ErrorKind}
 use Rattle.clap.specs.declared.error.kind.ErrorKind.TheVariants.{DisplayHelp, DisplayVersion, OutOfMemory}
+use Rattle.script_engine.specs.declared.fault.ScriptFault.{ScriptFault}
 use Rattle.script_engine.specs.declared.fault.ScriptFault.TheVariants as faults
 use Rattle.couch_wording.specs.declared.run.AnswerFault.{AnswerFault}
 use Rattle.couch_wording.specs.declared.run.AnswerFault.TheVariants.{Device}
 use Rattle.couch_lines.specs.declared.options.NoTask.{NoTask}
 use Rattle.couch_lines.specs.declared.options.NoTask.TheVariants.{Words, Unknown, Wrong, Memory}
 use Rattle.couch_lines.specs.declared.run.Ended.{Ended}
-use Rattle.couch_lines.specs.declared.run.Ended.TheVariants.{NotRun, Ran}
+use Rattle.couch_lines.specs.declared.run.Ended.TheVariants.{NotRun, Ran, Drawn}
 
 -- of what was done: whether something was passed over
 abbrev pub status_of : Result ℕ AnswerFault → ℕ
 status_of (Ok passed) = cond (passed == 0) 0 1
 status_of (Err fault) = 3
+
+-- of what was drawn: whether memory was wanting for a line
+abbrev pub drawn_status : Result Bool ScriptFault → ℕ
+drawn_status (Ok true) = 0
+drawn_status (Ok false) = 1
+drawn_status (Err fault) = 3
 
 -- of a command line that `clap` refuses so: help is no mistake
 abbrev pub kind_status : ErrorKind → ℕ
@@ -33,12 +40,18 @@ words_status Memory = 3
 abbrev pub ended_status : Ended → ℕ
 ended_status (NotRun why) = words_status why
 ended_status (Ran run) = status_of run.ended
+ended_status (Drawn ended) = drawn_status ended
 
 -- what a run ended with whose last texts could not be written; a fault before stands
 abbrev pub unwritten : Result ℕ AnswerFault → Result ℕ AnswerFault
 unwritten (Ok passed) = Err (Device faults.Write)
 unwritten (Err fault) = Err fault
 
+abbrev pub undrawn : Result Bool ScriptFault → Result Bool ScriptFault
+undrawn (Ok clean) = Err faults.Write
+undrawn (Err fault) = Err fault
+
 abbrev pub unflushed : Ended → Ended
 unflushed (NotRun why) = NotRun why
 unflushed (Ran run) = Ran (record run { ended = unwritten run.ended })
+unflushed (Drawn ended) = Drawn (undrawn ended)

@@ -1,5 +1,5 @@
 -- What the words of the command line ask for: docs/PROFILE.md, "Options of `couch_lines`".
-use Rattle.std.specs.Prelude.{◌≡◌, ◌^◌, ◌<◌, ℕ, ◌&&◌, ◌||◌, ◌==◌, nat_lt, nat_le, length, List, Bool, Option, Some, None, codes, string_bytes, true, false}
+use Rattle.std.specs.Prelude.{◌≡◌, ◌^◌, ◌<◌, ℕ, ◌&&◌, ◌||◌, ◌==◌, nat_lt, nat_le, length, List, Bool, Option, Some, None, option_map, codes, string_bytes, true, false}
 use Rattle.std.specs.List.{list_all}
 use Rattle.std.specs.Str.Parse.{without_leading_plus, IsNumeral, digits_value}
 use Rattle.clap.specs.Words.{App, HasKind, Rule, fault_of, first_of, one_of, matches_of, new_app, new_rule, with_rule}
@@ -8,7 +8,7 @@ use Rattle.clap.specs.declared.builder.action.ArgAction.TheVariants.{Set, SetTru
 use Rattle.couch_lines.specs.declared.tasks.Named.{Named}
 use Rattle.couch_lines.specs.declared.tasks.Named.TheVariants as named
 use Rattle.couch_lines.specs.declared.tasks.Task.{Task}
-use Rattle.couch_lines.specs.declared.tasks.Task.TheVariants.{Load, Ids, Diff, Leaves, Bulk}
+use Rattle.couch_lines.specs.declared.tasks.Task.TheVariants.{Load, Ids, Diff, Leaves, Bulk, Trees}
 use Rattle.couch_lines.specs.declared.options.NoTask.{NoTask}
 use Rattle.couch_lines.specs.declared.options.NoTask.TheVariants.{Words, Unknown, Wrong, Memory}
 
@@ -38,47 +38,64 @@ word_of named.Ids = codes "ids"
 word_of named.Diff = codes "diff"
 word_of named.Leaves = codes "leaves"
 word_of named.Bulk = codes "bulk"
+word_of named.Trees = codes "trees"
 
--- what a task is, done with a word, and with documents in envelopes or not
-abbrev pub Fits : Named → Option (List ℕ) → Bool → Task → Type 0
-Fits named.Load word whole (Load db w) = IsNamed word (string_bytes db) × (w ≡ whole)
-Fits named.Load word whole (Ids n) = ⊥
-Fits named.Load word whole (Diff n) = ⊥
-Fits named.Load word whole (Leaves db) = ⊥
-Fits named.Load word whole (Bulk n w) = ⊥
-Fits named.Ids word whole (Load db w) = ⊥
-Fits named.Ids word whole (Ids n) = IsSize 0 word n × (whole ≡ false)
-Fits named.Ids word whole (Diff n) = ⊥
-Fits named.Ids word whole (Leaves db) = ⊥
-Fits named.Ids word whole (Bulk n w) = ⊥
-Fits named.Diff word whole (Load db w) = ⊥
-Fits named.Diff word whole (Ids n) = ⊥
-Fits named.Diff word whole (Diff n) = IsSize 0 word n × (whole ≡ false)
-Fits named.Diff word whole (Leaves db) = ⊥
-Fits named.Diff word whole (Bulk n w) = ⊥
-Fits named.Leaves word whole (Load db w) = ⊥
-Fits named.Leaves word whole (Ids n) = ⊥
-Fits named.Leaves word whole (Diff n) = ⊥
-Fits named.Leaves word whole (Leaves db) = IsNamed word (string_bytes db) × (whole ≡ false)
-Fits named.Leaves word whole (Bulk n w) = ⊥
-Fits named.Bulk word whole (Load db w) = ⊥
-Fits named.Bulk word whole (Ids n) = ⊥
-Fits named.Bulk word whole (Diff n) = ⊥
-Fits named.Bulk word whole (Leaves db) = ⊥
-Fits named.Bulk word whole (Bulk n w) = IsSize 1000 word n × (w ≡ whole)
+-- the name of a database, or no word
+abbrev pub IsNamedOrNone : Option (List ℕ) → Option (List ℕ) → Type 0
+IsNamedOrNone word None = word ≡ None
+IsNamedOrNone word (Some db) = IsNamed word db
+
+-- what a task is, done with a word, with documents in envelopes or not, and drawn in SVG or not
+abbrev pub Fits : Named → Option (List ℕ) → Bool → Bool → Task → Type 0
+Fits named.Load word whole svg (Load db w) = IsNamed word (string_bytes db) × (w ≡ whole) × (svg ≡ false)
+Fits named.Load word whole svg (Ids n) = ⊥
+Fits named.Load word whole svg (Diff n) = ⊥
+Fits named.Load word whole svg (Leaves db) = ⊥
+Fits named.Load word whole svg (Bulk n w) = ⊥
+Fits named.Load word whole svg (Trees db s) = ⊥
+Fits named.Ids word whole svg (Load db w) = ⊥
+Fits named.Ids word whole svg (Ids n) = IsSize 0 word n × (whole ≡ false) × (svg ≡ false)
+Fits named.Ids word whole svg (Diff n) = ⊥
+Fits named.Ids word whole svg (Leaves db) = ⊥
+Fits named.Ids word whole svg (Bulk n w) = ⊥
+Fits named.Ids word whole svg (Trees db s) = ⊥
+Fits named.Diff word whole svg (Load db w) = ⊥
+Fits named.Diff word whole svg (Ids n) = ⊥
+Fits named.Diff word whole svg (Diff n) = IsSize 0 word n × (whole ≡ false) × (svg ≡ false)
+Fits named.Diff word whole svg (Leaves db) = ⊥
+Fits named.Diff word whole svg (Bulk n w) = ⊥
+Fits named.Diff word whole svg (Trees db s) = ⊥
+Fits named.Leaves word whole svg (Load db w) = ⊥
+Fits named.Leaves word whole svg (Ids n) = ⊥
+Fits named.Leaves word whole svg (Diff n) = ⊥
+Fits named.Leaves word whole svg (Leaves db) = IsNamed word (string_bytes db) × (whole ≡ false) × (svg ≡ false)
+Fits named.Leaves word whole svg (Bulk n w) = ⊥
+Fits named.Leaves word whole svg (Trees db s) = ⊥
+Fits named.Bulk word whole svg (Load db w) = ⊥
+Fits named.Bulk word whole svg (Ids n) = ⊥
+Fits named.Bulk word whole svg (Diff n) = ⊥
+Fits named.Bulk word whole svg (Leaves db) = ⊥
+Fits named.Bulk word whole svg (Bulk n w) = IsSize 1000 word n × (w ≡ whole) × (svg ≡ false)
+Fits named.Bulk word whole svg (Trees db s) = ⊥
+Fits named.Trees word whole svg (Load db w) = ⊥
+Fits named.Trees word whole svg (Ids n) = ⊥
+Fits named.Trees word whole svg (Diff n) = ⊥
+Fits named.Trees word whole svg (Leaves db) = ⊥
+Fits named.Trees word whole svg (Bulk n w) = ⊥
+Fits named.Trees word whole svg (Trees db s) = IsNamedOrNone word (option_map string_bytes db) × (whole ≡ false) × (s ≡ svg)
 
 -- what the words ask for: the first one names a task, and none stands behind the second one
-abbrev pub Asks : Option (List ℕ) → Option (List ℕ) → Option (List ℕ) → Bool → Task → Type 0
-Asks word second third whole task = (n : Named) × (word ≡ Some (word_of n)) × (third ≡ None) × Fits n second whole task
+abbrev pub Asks : Option (List ℕ) → Option (List ℕ) → Option (List ℕ) → Bool → Bool → Task → Type 0
+Asks word second third whole svg task = (n : Named) × (word ≡ Some (word_of n)) × (third ≡ None) × Fits n second whole svg task
 
 -- ---- words that ask for nothing
 
 -- the task takes other words than these, or memory was wanting
-abbrev pub FitsNone : Named → Option (List ℕ) → Bool → NoTask → Type 0
-FitsNone n word whole (Words error) = ⊥
-FitsNone n word whole Unknown = ⊥
-FitsNone n word whole (Wrong m) = (m ≡ n) × ((t : Task) → Fits n word whole t → ⊥)
-FitsNone n word whole Memory = Unit {0}
+abbrev pub FitsNone : Named → Option (List ℕ) → Bool → Bool → NoTask → Type 0
+FitsNone n word whole svg (Words error) = ⊥
+FitsNone n word whole svg Unknown = ⊥
+FitsNone n word whole svg (Wrong m) = (m ≡ n) × ((t : Task) → Fits n word whole svg t → ⊥)
+FitsNone n word whole svg Memory = Unit {0}
 
 -- no name is what the word is, or memory was wanting
 abbrev pub NamesNone : Named → Option (List ℕ) → NoTask → Type 0
@@ -88,12 +105,12 @@ NamesNone n word (Wrong m) = (m ≡ n) × ((db : List ℕ) → IsNamed word db �
 NamesNone n word Memory = Unit {0}
 
 -- the first word names no task; or it names one that takes other words; or memory was wanting
-abbrev pub AskNothing : Option (List ℕ) → Option (List ℕ) → Option (List ℕ) → Bool → NoTask → Type 0
-AskNothing word second third whole (Words error) = ⊥
-AskNothing word second third whole Unknown = (n : Named) → word ≡ Some (word_of n) → ⊥
-AskNothing word second third whole (Wrong n) =
-    (word ≡ Some (word_of n)) × (third ≡ None → (t : Task) → Fits n second whole t → ⊥)
-AskNothing word second third whole Memory = Unit {0}
+abbrev pub AskNothing : Option (List ℕ) → Option (List ℕ) → Option (List ℕ) → Bool → Bool → NoTask → Type 0
+AskNothing word second third whole svg (Words error) = ⊥
+AskNothing word second third whole svg Unknown = (n : Named) → word ≡ Some (word_of n) → ⊥
+AskNothing word second third whole svg (Wrong n) =
+    (word ≡ Some (word_of n)) × (third ≡ None → (t : Task) → Fits n second whole svg t → ⊥)
+AskNothing word second third whole svg Memory = Unit {0}
 
 -- ---- the command line
 
@@ -112,35 +129,51 @@ third_word = record (new_rule (codes "further")) { action = Some Set }
 abbrev pub whole_option : Rule
 whole_option = record (new_rule (codes "whole")) { long = Some (codes "whole"); action = Some SetTrue }
 
+abbrev pub svg_option : Rule
+svg_option = record (new_rule (codes "svg")) { long = Some (codes "svg"); action = Some SetTrue }
+
 -- the program without words; it has a version
 abbrev pub program_app : App
 program_app = on_top (λ s. record s { has_version = true }) (new_app (codes "couch_lines"))
 
 abbrev pub command_line : App
-command_line = with_rule (with_rule (with_rule (with_rule program_app task_word) second_word) third_word) whole_option
+command_line =
+    with_rule (with_rule (with_rule (with_rule (with_rule program_app task_word) second_word) third_word) whole_option) svg_option
 
 -- the text of a flag that is set or not
 abbrev pub IsFlag : Option (List ℕ) → Bool → Type 0
 IsFlag text flag =
     ((text ≡ None) → flag ≡ false) × ((text ≡ Some (codes "true")) → flag ≡ true) × ((text ≡ Some (codes "false")) → flag ≡ false)
 
--- what the words ask for, by the texts of the command line's parts and of its flag
-abbrev pub SaysBy : (List ℕ → Option (List ℕ)) → Option (List ℕ) → Task → Type 0
-SaysBy text flag task =
-    (whole : Bool) × IsFlag flag whole × Asks (text (codes "task")) (text (codes "of")) (text (codes "further")) whole task
+-- what the words ask for, by the texts of the command line's parts and of its flags
+abbrev pub SaysBy : (List ℕ → Option (List ℕ)) → Option (List ℕ) → Option (List ℕ) → Task → Type 0
+SaysBy text flag drawn task =
+    (whole : Bool) × (svg : Bool) × IsFlag flag whole × IsFlag drawn svg
+    × Asks (text (codes "task")) (text (codes "of")) (text (codes "further")) whole svg task
 
 -- they ask for nothing, or memory was wanting
-abbrev pub RefusesBy : (List ℕ → Option (List ℕ)) → Option (List ℕ) → NoTask → Type 0
-RefusesBy text flag why =
-    (whole : Bool) × IsFlag flag whole × AskNothing (text (codes "task")) (text (codes "of")) (text (codes "further")) whole why
+abbrev pub RefusesBy : (List ℕ → Option (List ℕ)) → Option (List ℕ) → Option (List ℕ) → NoTask → Type 0
+RefusesBy text flag drawn why =
+    (whole : Bool) × (svg : Bool) × IsFlag flag whole × IsFlag drawn svg
+    × AskNothing (text (codes "task")) (text (codes "of")) (text (codes "further")) whole svg why
+
+-- the text of a part of the command line, and that of a flag
+abbrev pub text_said : List (List ℕ) → List ℕ → Option (List ℕ)
+text_said words id = first_of id (matches_of command_line words)
+
+abbrev pub flag_said : List (List ℕ) → List ℕ → Option (List ℕ)
+flag_said words id = one_of id (matches_of command_line words)
 
 -- the same of the words, as the command line is read
 abbrev pub Says : List (List ℕ) → Task → Type 0
-Says words task = SaysBy (λ id. first_of id (matches_of command_line words)) (one_of (codes "whole") (matches_of command_line words)) task
+Says words task = SaysBy (text_said words) (flag_said words (codes "whole")) (flag_said words (codes "svg")) task
+
+abbrev pub Refused : List (List ℕ) → NoTask → Type 0
+Refused words why = RefusesBy (text_said words) (flag_said words (codes "whole")) (flag_said words (codes "svg")) why
 
 -- what `clap` says of the words, or they ask for nothing, or memory was wanting
 abbrev pub Refuses : List (List ℕ) → NoTask → Type 0
 Refuses words (Words error) = HasKind (fault_of command_line words) error
-Refuses words Unknown = RefusesBy (λ id. first_of id (matches_of command_line words)) (one_of (codes "whole") (matches_of command_line words)) Unknown
-Refuses words (Wrong n) = RefusesBy (λ id. first_of id (matches_of command_line words)) (one_of (codes "whole") (matches_of command_line words)) (Wrong n)
+Refuses words Unknown = Refused words Unknown
+Refuses words (Wrong n) = Refused words (Wrong n)
 Refuses words Memory = Unit {0}

@@ -2,7 +2,7 @@
 ghost use Rattle.std.specs.Prelude.{◌≡◌, IfOk, IfErr, map, string_bytes, codes, false};
 ghost use Rattle.clap.specs.Words.{app_of, found_of, first_value, one_text, rule_of};
 ghost use Rattle.couch_lines.specs.declared.options.NoTask.TheVariants.{Memory};
-ghost use Rattle.couch_lines.specs.Tasks.{Says, Refuses, SaysBy, RefusesBy, task_word, second_word, third_word, whole_option, program_app, command_line};
+ghost use Rattle.couch_lines.specs.Tasks.{Says, Refuses, SaysBy, RefusesBy, task_word, second_word, third_word, whole_option, svg_option, program_app, command_line};
 
 use crate::tasks::{Named, Task, task_of};
 use clap::{Arg, ArgAction, ArgMatches, Command, Error};
@@ -36,6 +36,10 @@ const TASKS_HELP: &str = "Standard input is read, and what is made of it goes to
       bodies of _bulk_docs requests that store the documents in the same answers and
       files, in `load` lines and in the answers of `doc` lines, N documents in each,
       one body a line (1000 without N)
+  couch_lines trees [DB] [--svg]
+      the revision tree of each document in a script's answers to `show`, as text, or
+      all of them as one picture in SVG; with DB, the database of the answers, a text
+      has the `edit` lines that end the conflicts
 
 A document is an object whose first member is `_id`, or one that an answer of CouchDB
 names. Its text is copied as it is. What stands in the place of a document is passed over,
@@ -89,21 +93,22 @@ pub fn read_words<'a>(alloc: Global, words: &'a [String]) -> Result<Task, NoTask
 /// What the words ask for.
 fn task_said(alloc: Global, matches: &ArgMatches<'_>) -> Result<Task, NoTask>
     ensures ok { IfOk result (λ task. SaysBy (first_value (found_of matches.now))
-        (one_text (found_of matches.now) (codes "whole")) task) }
+        (one_text (found_of matches.now) (codes "whole")) (one_text (found_of matches.now) (codes "svg")) task) }
     ensures err { IfErr result (λ why. RefusesBy (first_value (found_of matches.now))
-        (one_text (found_of matches.now) (codes "whole")) why) }
+        (one_text (found_of matches.now) (codes "whole")) (one_text (found_of matches.now) (codes "svg")) why) }
 {
     let word = matches.get_str("task");
     let second = matches.get_str("of");
     let third = matches.get_str("further");
     let whole = matches.get_flag("whole");
-    match task_of(alloc, word, second, third, whole) {
+    let svg = matches.get_flag("svg");
+    match task_of(alloc, word, second, third, whole, svg) {
         Ok(task) => Ok(task),
         Err(why) => Err(why),
     }
 }
 
-/// The command line: three words, `--whole`, `--help` and `--version`.
+/// The command line: three words, `--whole`, `--svg`, `--help` and `--version`.
 fn command<'a>(alloc: Global) -> Result<Command<'a>, AllocError>
     ensures { IfOk result (λ c. app_of c ≡ command_line) }
 {
@@ -111,7 +116,8 @@ fn command<'a>(alloc: Global) -> Result<Command<'a>, AllocError>
         .arg(first_word(alloc))?
         .arg(second_word(alloc))?
         .arg(third_word(alloc))?
-        .arg(whole(alloc))?;
+        .arg(whole(alloc))?
+        .arg(svg(alloc))?;
     Ok(command)
 }
 
@@ -134,7 +140,7 @@ fn first_word<'a>(alloc: Global) -> Arg<'a>
         .value_name("TASK")
         .required(true)
         .action(ArgAction::Set)
-        .help("`load`, `ids`, `diff`, `leaves` or `bulk`")
+        .help("`load`, `ids`, `diff`, `leaves`, `bulk` or `trees`")
 }
 
 /// What the task is done with.
@@ -145,7 +151,7 @@ fn second_word<'a>(alloc: Global) -> Arg<'a>
     Arg::new(alloc, "of")
         .value_name("DB|N")
         .action(ArgAction::Set)
-        .help("A database for `load` and `leaves`, a number for `ids`, `diff` and `bulk`")
+        .help("A database for `load`, `leaves` and `trees`, else a number")
 }
 
 /// A word too many, which may be the name of a file.
@@ -165,4 +171,15 @@ fn whole<'a>(alloc: Global) -> Arg<'a>
         .long("whole")
         .action(ArgAction::SetTrue)
         .help("Documents in envelopes, for `load` and `bulk`")
+}
+
+/// The option `--svg`.
+fn svg<'a>(alloc: Global) -> Arg<'a>
+    ensures rule { rule_of result ≡ svg_option }
+    ensures local { result.global ≡ false }
+{
+    Arg::new(alloc, "svg")
+        .long("svg")
+        .action(ArgAction::SetTrue)
+        .help("One picture in SVG, for `trees`")
 }

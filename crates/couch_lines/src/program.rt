@@ -1,7 +1,7 @@
 //! The program: its words, its standard input and output, and its exit status.
 ghost use Rattle.std.specs.Prelude.{◌≡◌, ◌≤◌};
 ghost use Rattle.clap.specs.Words.{kind_of};
-ghost use Rattle.couch_lines.specs.Status.{ended_status, kind_status, status_of, unflushed, unwritten};
+ghost use Rattle.couch_lines.specs.Status.{drawn_status, ended_status, kind_status, status_of, undrawn, unflushed, unwritten};
 
 use crate::options::NoTask;
 use crate::run::{Ended, Run, run_words};
@@ -62,7 +62,18 @@ fn unflushed(ended: Ended) -> Ended
             reading: run.reading,
             wording: run.wording,
         }),
+        Ended::Drawn(ended) => Ended::Drawn(undrawn(ended)),
         Ended::NotRun(why) => Ended::NotRun(why),
+    }
+}
+
+/// The same, of what was drawn.
+fn undrawn(ended: Result<bool, ScriptFault>) -> Result<bool, ScriptFault>
+    ensures { result ≡ undrawn ended }
+{
+    match ended {
+        Ok(_) => Err(ScriptFault::Write),
+        Err(fault) => Err(fault),
     }
 }
 
@@ -97,6 +108,21 @@ fn tell<H: Print + Eprint>(rt: &H, ended: &Ended) -> u8
         }
         Ended::NotRun(NoTask::Memory) => tell_no_memory(rt),
         Ended::Ran(run) => tell_run(rt, run),
+        Ended::Drawn(ended) => tell_drawn(rt, ended),
+    }
+}
+
+/// Tells why pictures were not drawn to their end, and gives the exit status.
+fn tell_drawn(rt: &impl Eprint, ended: &Result<bool, ScriptFault>) -> u8
+    ensures { result ≡ drawn_status ended.now }
+{
+    match ended {
+        Ok(true) => 0,
+        Ok(false) => 1,
+        Err(fault) => {
+            let _ = eprintln!(rt; "{fault}");
+            3
+        }
     }
 }
 
@@ -108,6 +134,7 @@ fn usage_of(named: Named) -> &'static str {
         Named::Diff => "diff [N]",
         Named::Leaves => "leaves DB",
         Named::Bulk => "bulk [N] [--whole]",
+        Named::Trees => "trees [DB] [--svg]",
     }
 }
 

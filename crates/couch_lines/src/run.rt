@@ -1,13 +1,15 @@
 //! A run of the program over any reader and writer: its words, and what they ask for.
-ghost use Rattle.std.specs.Prelude.{◌≡◌, IfOk, map, string_bytes};
+ghost use Rattle.std.specs.Prelude.{◌≡◌, IfOk, false, map, string_bytes};
 ghost use Rattle.couch_wording.specs.Stored.{words_of_wording};
-ghost use Rattle.couch_lines.specs.Runs.{RunsWords, IsDone, Makes, wanted_of, words_of_task};
+ghost use Rattle.answer_pictures.specs.Drawing.{IsPictured};
+ghost use Rattle.couch_lines.specs.Runs.{RunsWords, IsDone, Makes, is_drawn, wanted_of, words_of_task};
 
 use crate::options::{NoTask, read_words};
 use crate::tasks::Task;
+use answer_pictures::{Form, draw_answers};
 use couch_answers::{Reading, Wanted};
 use couch_wording::{AnswerFault, Wording, run_answers};
-use script_engine::{ScriptRead, ScriptWrite};
+use script_engine::{ScriptFault, ScriptRead, ScriptWrite};
 use std::alloc::{AllocError, Global};
 
 /// How a run ended.
@@ -17,6 +19,8 @@ pub enum Ended {
     NotRun(NoTask),
     /// What they ask for was done, or begun.
     Ran(Run),
+    /// Pictures were drawn, or begun; `false` where memory was wanting for a line.
+    Drawn(Result<bool, ScriptFault>),
 }
 
 /// What was done.
@@ -44,9 +48,29 @@ pub fn run_words<'a, R: ScriptRead, W: ScriptWrite>(
         Ok(task) => task,
         Err(why) => return Ended::NotRun(why),
     };
+    if let Task::Trees(db, svg) = &task {
+        return Ended::Drawn(draw(alloc, db.as_ref(), *svg, reader, writer));
+    }
     match wording_of(alloc, &task) {
         Ok(wording) => Ended::Ran(run_task(alloc, &task, wording, reader, writer)),
         Err(refused) => Ended::NotRun(NoTask::from(refused)),
+    }
+}
+
+/// Draws pictures of a script's answers.
+fn draw<R: ScriptRead, W: ScriptWrite>(
+    alloc: Global,
+    db: Option<&String>,
+    svg: bool,
+    reader: &mut R,
+    writer: &mut W,
+) -> Result<bool, ScriptFault>
+    ensures { IfOk result (λ clean. IsPictured (R.left reader.old) (W.held writer.old) (W.held writer.new) clean) }
+{
+    let form = if svg { Form::Svg } else { Form::Text };
+    match db {
+        Some(db) => draw_answers(alloc, form, Some(db.as_str()), reader, writer),
+        None => draw_answers(alloc, form, None, reader, writer),
     }
 }
 
@@ -61,6 +85,7 @@ fn wanted_of(task: &Task) -> Wanted
         Task::Leaves(_) => Wanted::Changes,
         Task::Bulk(_, false) => Wanted::Bodies,
         Task::Bulk(_, true) => Wanted::Unfolded,
+        Task::Trees(_, _) => Wanted::Documents,
     }
 }
 
@@ -74,6 +99,7 @@ fn wording_of(alloc: Global, task: &Task) -> Result<Wording, AllocError>
         Task::Diff(size) => Ok(Wording::diffs(alloc, *size)),
         Task::Leaves(db) => Wording::docs(alloc, db.as_str()),
         Task::Bulk(size, _) => Ok(Wording::bodies(alloc, *size)),
+        Task::Trees(_, _) => Ok(Wording::bodies(alloc, 0)),
     }
 }
 
@@ -85,7 +111,8 @@ fn run_task<R: ScriptRead, W: ScriptWrite>(
     reader: &mut R,
     writer: &mut W,
 ) -> Run
-    requires { words_of_wording wording ≡ words_of_task task.now }
+    requires words { words_of_wording wording ≡ words_of_task task.now }
+    requires lines { is_drawn task.now ≡ false }
     ensures done { IsDone task.now (R.left reader.old) (W.held writer.old) (W.held writer.new) result.ended }
     ensures makes { Makes task.now (R.left reader.old) (W.held writer.old) (W.held writer.new) result.ended }
 {

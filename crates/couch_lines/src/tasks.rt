@@ -2,6 +2,7 @@
 ghost use Rattle.std.specs.Prelude.{◌≡◌, ℕ, IfOk, IfErr, IfSome, IfNone, option_map, string_bytes};
 ghost use Rattle.std.specs.List.{list_all};
 ghost use Rattle.couch_lines.specs.declared.tasks.Named.{Named};
+ghost use Rattle.couch_lines.specs.declared.tasks.Named.TheVariants as named;
 ghost use Rattle.couch_lines.specs.Tasks.{Asks, AskNothing, Fits, FitsNone, NamesNone, IsNamed, IsSize, is_name, is_name_byte, word_of};
 
 use crate::options::NoTask;
@@ -22,6 +23,9 @@ pub enum Task {
     Leaves(String),
     /// Bodies of requests that store documents, so many in each; taken out of envelopes where the flag is set.
     Bulk(u64, bool),
+    /// Pictures of a script's answers; with the lines that end a conflict where their database is named, and in SVG where
+    /// the flag is set.
+    Trees(Option<String>, bool),
 }
 
 /// A task that is named by a word.
@@ -32,6 +36,7 @@ pub enum Named {
     Diff,
     Leaves,
     Bulk,
+    Trees,
 }
 
 /// How many documents a body holds where no word says so.
@@ -84,13 +89,15 @@ fn named_by(word: &str) -> Option<Named>
         Some(Named::Leaves)
     } else if word == "bulk" {
         Some(Named::Bulk)
+    } else if word == "trees" {
+        Some(Named::Trees)
     } else {
         None
     }
 }
 
-/// What the words ask for: the task's name, what it is done with, a word too many, and whether documents stand in
-/// envelopes.
+/// What the words ask for: the task's name, what it is done with, a word too many, whether documents stand in envelopes,
+/// and whether pictures are drawn in SVG.
 ///
 /// `Unknown` where the first one names no task, and `Wrong` where the task takes other words.
 pub fn task_of(
@@ -99,11 +106,12 @@ pub fn task_of(
     second: Option<&str>,
     third: Option<&str>,
     whole: bool,
+    svg: bool,
 ) -> Result<Task, NoTask>
     ensures ok { IfOk result (λ task. Asks (option_map (λ s. s.now) word.entry)
-        (option_map (λ s. s.now) second.entry) (option_map (λ s. s.now) third.entry) whole task) }
+        (option_map (λ s. s.now) second.entry) (option_map (λ s. s.now) third.entry) whole svg task) }
     ensures err { IfErr result (λ why. AskNothing (option_map (λ s. s.now) word.entry)
-        (option_map (λ s. s.now) second.entry) (option_map (λ s. s.now) third.entry) whole why) }
+        (option_map (λ s. s.now) second.entry) (option_map (λ s. s.now) third.entry) whole svg why) }
 {
     let Some(word) = word else {
         return Err(NoTask::Unknown);
@@ -114,18 +122,27 @@ pub fn task_of(
     if third.is_some() {
         return Err(NoTask::Wrong(named));
     }
-    match fitting(alloc, named, second, whole) {
+    match fitting(alloc, named, second, whole, svg) {
         Ok(task) => Ok(task),
         Err(why) => Err(why),
     }
 }
 
-/// The task of a name, done with a word, and with documents in envelopes or not. `Wrong` where it takes other ones.
-fn fitting(alloc: Global, named: Named, word: Option<&str>, whole: bool) -> Result<Task, NoTask>
-    ensures ok { IfOk result (λ task. Fits named (option_map (λ s. s.now) word.entry) whole task) }
-    ensures err { IfErr result (λ why. FitsNone named (option_map (λ s. s.now) word.entry) whole why) }
+/// The task of a name, done with a word, with documents in envelopes or not, and drawn in SVG or not. `Wrong` where it
+/// takes other ones.
+fn fitting(
+    alloc: Global,
+    named: Named,
+    word: Option<&str>,
+    whole: bool,
+    svg: bool,
+) -> Result<Task, NoTask>
+    ensures ok { IfOk result (λ task. Fits named (option_map (λ s. s.now) word.entry) whole svg task) }
+    ensures err { IfErr result (λ why. FitsNone named (option_map (λ s. s.now) word.entry) whole svg why) }
 {
     match named {
+        Named::Trees => drawing(alloc, word, whole, svg),
+        _ if svg => Err(NoTask::Wrong(named)),
         Named::Load => match name_of(alloc, named, word) {
             Ok(db) => Ok(Task::Load(db, whole)),
             Err(why) => Err(why),
@@ -147,6 +164,23 @@ fn fitting(alloc: Global, named: Named, word: Option<&str>, whole: bool) -> Resu
             Some(size) => Ok(Task::Diff(size)),
             None => Err(NoTask::Wrong(named)),
         },
+    }
+}
+
+/// The task that draws, done with a word or none. `Wrong` where the word is no name, or documents stand in envelopes.
+fn drawing(alloc: Global, word: Option<&str>, whole: bool, svg: bool) -> Result<Task, NoTask>
+    ensures ok { IfOk result (λ task. Fits named.Trees (option_map (λ s. s.now) word.entry) whole svg task) }
+    ensures err { IfErr result (λ why. FitsNone named.Trees (option_map (λ s. s.now) word.entry) whole svg why) }
+{
+    if whole {
+        return Err(NoTask::Wrong(Named::Trees));
+    }
+    if word.is_none() {
+        return Ok(Task::Trees(None, svg));
+    }
+    match name_of(alloc, Named::Trees, word) {
+        Ok(db) => Ok(Task::Trees(Some(db), svg)),
+        Err(why) => Err(why),
     }
 }
 

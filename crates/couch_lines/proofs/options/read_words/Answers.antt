@@ -2,7 +2,7 @@ use Rattle.std.proofs.Common.{ap, refl, subst, ◌≡◌, ◌∙◌, true, map, 
 use Rattle.clap.specs.Words.{HasKind, app_of, fault_of, is_simple, is_simple_and_free, matches_of, found_of, first_of, one_of, first_value, one_text, rows_of}
 use Rattle.clap.proofs.OnLiterals.{clap_on_literals}
 use Rattle.clap.proofs.WalkLemmas.{first_value-rows, one_text-rows}
-use Rattle.couch_lines.specs.Tasks.{command_line, Asks, AskNothing, IsFlag, SaysBy, RefusesBy, Refuses}
+use Rattle.couch_lines.specs.Tasks.{command_line, Asks, AskNothing, IsFlag, SaysBy, RefusesBy, Refused, Refuses}
 use Rattle.couch_lines.specs.declared.tasks.Task.{Task}
 use Rattle.couch_lines.specs.declared.options.NoTask.{NoTask}
 use Rattle.couch_lines.specs.declared.options.NoTask.TheVariants.{Words, Unknown, Wrong, Memory}
@@ -17,26 +17,30 @@ unfolding clap_on_literals
 line_free = refl
 
 -- by equal texts
-says_by : (text text' : List ℕ → Option (List ℕ)) (flag flag' : Option (List ℕ)) (task : Task) → ((id : List ℕ) → text id ≡ text' id) → flag ≡ flag' → SaysBy text flag task → SaysBy text' flag' task
-says_by text text' flag flag' task e f (whole, is, asks) = (
+says_by : (text text' : List ℕ → Option (List ℕ)) (flag flag' drawn drawn' : Option (List ℕ)) (task : Task) → ((id : List ℕ) → text id ≡ text' id) → flag ≡ flag' → drawn ≡ drawn' → SaysBy text flag drawn task → SaysBy text' flag' drawn' task
+says_by text text' flag flag' drawn drawn' task e f g (whole, svg, is, are, asks) = (
   whole,
+  svg,
   subst (λ o. IsFlag o whole) f is,
-  subst (λ o. Asks (text' (codes "task")) (text' (codes "of")) o whole task) (e (codes "further"))
-      (subst (λ o. Asks (text' (codes "task")) o (text (codes "further")) whole task) (e (codes "of"))
-      (subst (λ o. Asks o (text (codes "of")) (text (codes "further")) whole task) (e (codes "task")) asks)),
+  subst (λ o. IsFlag o svg) g are,
+  subst (λ o. Asks (text' (codes "task")) (text' (codes "of")) o whole svg task) (e (codes "further"))
+      (subst (λ o. Asks (text' (codes "task")) o (text (codes "further")) whole svg task) (e (codes "of"))
+      (subst (λ o. Asks o (text (codes "of")) (text (codes "further")) whole svg task) (e (codes "task")) asks)),
 )
 
-refuses_by : (text text' : List ℕ → Option (List ℕ)) (flag flag' : Option (List ℕ)) (why : NoTask) → ((id : List ℕ) → text id ≡ text' id) → flag ≡ flag' → RefusesBy text flag why → RefusesBy text' flag' why
-refuses_by text text' flag flag' why e f (whole, is, asks) = (
+refuses_by : (text text' : List ℕ → Option (List ℕ)) (flag flag' drawn drawn' : Option (List ℕ)) (why : NoTask) → ((id : List ℕ) → text id ≡ text' id) → flag ≡ flag' → drawn ≡ drawn' → RefusesBy text flag drawn why → RefusesBy text' flag' drawn' why
+refuses_by text text' flag flag' drawn drawn' why e f g (whole, svg, is, are, asks) = (
   whole,
+  svg,
   subst (λ o. IsFlag o whole) f is,
-  subst (λ o. AskNothing (text' (codes "task")) (text' (codes "of")) o whole why) (e (codes "further"))
-      (subst (λ o. AskNothing (text' (codes "task")) o (text (codes "further")) whole why) (e (codes "of"))
-      (subst (λ o. AskNothing o (text (codes "of")) (text (codes "further")) whole why) (e (codes "task")) asks)),
+  subst (λ o. IsFlag o svg) g are,
+  subst (λ o. AskNothing (text' (codes "task")) (text' (codes "of")) o whole svg why) (e (codes "further"))
+      (subst (λ o. AskNothing (text' (codes "task")) o (text (codes "further")) whole svg why) (e (codes "of"))
+      (subst (λ o. AskNothing o (text (codes "of")) (text (codes "further")) whole svg why) (e (codes "task")) asks)),
 )
 
-nothing_said : (words : List (List ℕ)) (why : NoTask) → RefusesBy (λ id. first_of id (matches_of command_line words)) (one_of (codes "whole") (matches_of command_line words)) why → Refuses words why
-nothing_said words (Words error) h = absurd h.2
+nothing_said : (words : List (List ℕ)) (why : NoTask) → Refused words why → Refuses words why
+nothing_said words (Words error) h = absurd h.4
 nothing_said words Unknown h = h
 nothing_said words (Wrong n) h = h
 nothing_said words Memory h = tt
@@ -46,8 +50,8 @@ returns-in-Ok-task_said-clause-ok c =
     let m = c.in-Ok.matches in
     let simple : is_simple (app_of c.in_ok-command.command) ≡ true = ap is_simple c.in_ok-command.ensures ∙ line_simple in
     let rows : rows_of (found_of m) ≡ matches_of command_line (map string_bytes c.args.words.now) = (c.in-Ok.ensures.matches simple).0 ∙ ap (λ a. matches_of a (map string_bytes c.args.words.now)) c.in_ok-command.ensures in
-    says_by (first_value (found_of m)) _ (one_text (found_of m) (codes "whole")) _ c.in-Ok-task_said.task (λ id. first_value-rows (found_of m) id ∙ ap (first_of id) rows)
-    (one_text-rows (found_of m) (codes "whole") ∙ ap (one_of (codes "whole")) rows) c.in-Ok-task_said.ensures.ok
+    says_by (first_value (found_of m)) _ (one_text (found_of m) (codes "whole")) _ (one_text (found_of m) (codes "svg")) _ c.in-Ok-task_said.task (λ id. first_value-rows (found_of m) id ∙ ap (first_of id) rows)
+    (one_text-rows (found_of m) (codes "whole") ∙ ap (one_of (codes "whole")) rows) (one_text-rows (found_of m) (codes "svg") ∙ ap (one_of (codes "svg")) rows) c.in-Ok-task_said.ensures.ok
 
 pub returns-in-Err-clause-err : goal.returns-in-Err-clause-err
 returns-in-Err-clause-err c =
@@ -60,5 +64,5 @@ returns-clause-err c =
     let simple : is_simple (app_of c.in_ok-command.command) ≡ true = ap is_simple c.in_ok-command.ensures ∙ line_simple in
     let rows : rows_of (found_of m) ≡ matches_of command_line (map string_bytes c.args.words.now) = (c.in-Ok.ensures.matches simple).0 ∙ ap (λ a. matches_of a (map string_bytes c.args.words.now)) c.in_ok-command.ensures in
     nothing_said (map string_bytes c.args.words.now) c.in-Err-task_said.why
-    (refuses_by (first_value (found_of m)) _ (one_text (found_of m) (codes "whole")) _ c.in-Err-task_said.why (λ id. first_value-rows (found_of m) id ∙ ap (first_of id) rows)
-    (one_text-rows (found_of m) (codes "whole") ∙ ap (one_of (codes "whole")) rows) c.in-Err-task_said.ensures.err)
+    (refuses_by (first_value (found_of m)) _ (one_text (found_of m) (codes "whole")) _ (one_text (found_of m) (codes "svg")) _ c.in-Err-task_said.why (λ id. first_value-rows (found_of m) id ∙ ap (first_of id) rows)
+    (one_text-rows (found_of m) (codes "whole") ∙ ap (one_of (codes "whole")) rows) (one_text-rows (found_of m) (codes "svg") ∙ ap (one_of (codes "svg")) rows) c.in-Err-task_said.ensures.err)

@@ -7,9 +7,9 @@ use Rattle.couch_lines.proofs.run.run_task.Goals as goal
 pub returns-clause-done : goal.returns-clause-done
 returns-clause-done g c =
     is_done (g.R.ScriptRead.left c.args.reader.now) (g.W.ScriptWrite.held c.args.writer.now) (g.W.ScriptWrite.held c.run_answers-ended.new.writer) c.run_answers-ended.result c.args.task.now c.new-reading.result.wanted (words_of_wording c.args.wording)
-    (ap (λ (s : State). s.wanted) c.new-reading.ensures ∙ c.wanted_of.ensures) c.requires (c.run_answers-ended.ensures.ok, c.run_answers-ended.ensures.fault)
+    (ap (λ (s : State). s.wanted) c.new-reading.ensures ∙ c.wanted_of.ensures) c.requires.words (c.run_answers-ended.ensures.ok, c.run_answers-ended.ensures.fault)
 
 pub returns-clause-makes : goal.returns-clause-makes
 returns-clause-makes g c =
     makes (g.R.ScriptRead.left c.args.reader.now) (g.W.ScriptWrite.held c.args.writer.now) (g.W.ScriptWrite.held c.run_answers-ended.new.writer) c.run_answers-ended.result c.args.task.now c.new-reading.result.wanted (words_of_wording c.args.wording)
-    (ap (λ (s : State). s.wanted) c.new-reading.ensures ∙ c.wanted_of.ensures) c.requires c.run_answers-ended.ensures.forms c.run_answers-ended.ensures.script c.run_answers-ended.ensures.changes
+    c.requires.lines (ap (λ (s : State). s.wanted) c.new-reading.ensures ∙ c.wanted_of.ensures) c.requires.words c.run_answers-ended.ensures.forms c.run_answers-ended.ensures.script c.run_answers-ended.ensures.changes

@@ -1,5 +1,5 @@
 use Rattle.std.proofs.lemmas.List.Sorted.{IsPermutation-map}
 use Rattle.answer_pictures.proofs.document.Document.sort.Goals as goal
 
-pub returns : goal.returns
-returns c = IsPermutation-map (λ l. l.rev) _ _ c.sort.ensures.permutation
+pub returns-clause-leaves : goal.returns-clause-leaves
+returns-clause-leaves c = IsPermutation-map (λ l. l.rev) _ _ c.sort.ensures.permutation

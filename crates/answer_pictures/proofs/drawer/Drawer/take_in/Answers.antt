@@ -1,21 +1,28 @@
-use Rattle.std.proofs.Common.{ap, map, Some}
-use Rattle.answer_pictures.specs.declared.document.Leaf.{Leaf}
-use Rattle.answer_pictures.specs.Drawing.{open_leaves}
-use Rattle.answer_pictures.proofs.Wholes.{closed_at}
+use Rattle.std.proofs.Common.{Some, None, sym, subst, ◌∙◌}
+use Rattle.answer_pictures.specs.Drawing.{IsNext}
+use Rattle.answer_pictures.proofs.Documents.{none_open, takes_by}
 use Rattle.answer_pictures.proofs.drawer.Drawer.take_in.Goals as goal
-
-pub returns-in_default-clause-ok : goal.returns-in_default-clause-ok
-returns-in_default-clause-ok c =
-    closed_at c.args.self.now.begun c.take-begun.new.self _ c.requires (ap open_leaves c.take-begun.ensures.after)
 
 pub returns-in-Some-clause-ok : goal.returns-in-Some-clause-ok
 returns-in-Some-clause-ok c =
-    closed_at c.args.self.now.begun (Some c.in_ok-new.field-0) _ c.requires (ap (map (λ (l : Leaf). l.rev)) c.in_ok-new.ensures)
+    let old = c.args.self.now.begun in
+    let told = c.in_ok-told.told in
+    let d = c.in-Some.document in
+    let from_old = subst (λ b. IsNext b told c.in_ok-begun.begun c.in_ok-begun.whole) c.take-begun.ensures.value c.in_ok-begun.ensures in
+    let whole = subst (λ w. IsNext old told c.in_ok-begun.begun w) c.in-Some.is from_old in
+    let none = none_open old c.in_ok-begun.begun told d whole in
+    let next = subst (λ b. IsNext old told b (Some d)) (none ∙ sym (c.draw.ensures.begun ∙ c.take-begun.ensures.after)) whole in
+    takes_by c.draw.result old c.draw.new.self.begun c.args.line.now c.draw.new.answer.items told (Some d) c.in_ok-told.ensures next c.draw.ensures.draws
 
-pub returns-in_default-begun-clause-ok : goal.returns-in_default-begun-clause-ok
-returns-in_default-begun-clause-ok c =
-    closed_at c.args.self.now.begun c.take-begun.new.self _ c.requires (ap open_leaves c.take-begun.ensures.after)
-
-pub returns-in_default-2-clause-ok : goal.returns-in_default-2-clause-ok
-returns-in_default-2-clause-ok c =
-    closed_at c.args.self.now.begun c.take-begun.new.self _ c.requires (ap open_leaves c.take-begun.ensures.after)
+pub returns-in-None-clause-ok : goal.returns-in-None-clause-ok
+returns-in-None-clause-ok c =
+    let old = c.args.self.now.begun in
+    let told = c.in_ok-told.told in
+    let from_old = subst (λ b. IsNext b told c.in_ok-begun.begun c.in_ok-begun.whole) c.take-begun.ensures.value c.in_ok-begun.ensures in
+    record {
+      told = told;
+      whole = None;
+      tells = c.in_ok-told.ensures;
+      next = subst (λ w. IsNext old told c.in_ok-begun.begun w) c.in-None.is from_old;
+      drawn = c.requires;
+    }

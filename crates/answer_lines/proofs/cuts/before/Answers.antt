@@ -1,0 +1,15 @@
+use Rattle.std.proofs.Common.{◌≡◌, ◌≢◌, ◌++◌, ℕ, List}
+use Rattle.std.proofs.lemmas.Bool.Decides.{Decides-eqb}
+use Rattle.std.proofs.lemmas.Slice.Eq.{strip_suffix_is}
+use Rattle.answer_lines.proofs.WordLemmas.{none_of, some_of}
+use Rattle.answer_lines.proofs.cuts.before.Goals as goal
+
+pub returns-clause-some : goal.returns-clause-some
+returns-clause-some c =
+    some_of c.strip_suffix.result ((front : List ℕ) → c.args.text.now ≢ front ++ c.args.end.now) (λ x. c.args.text.now ≡ x.now ++ c.args.end.now)
+    (strip_suffix_is Decides-eqb c.args.text.now c.args.end.now c.strip_suffix.result c.strip_suffix.ensures.cases)
+
+pub returns-clause-none : goal.returns-clause-none
+returns-clause-none c =
+    none_of c.strip_suffix.result ((front : List ℕ) → c.args.text.now ≢ front ++ c.args.end.now) (λ x. c.args.text.now ≡ x.now ++ c.args.end.now)
+    (strip_suffix_is Decides-eqb c.args.text.now c.args.end.now c.strip_suffix.result c.strip_suffix.ensures.cases)

@@ -1,0 +1,15 @@
+use Rattle.std.proofs.Common.{◌≡◌, ◌≢◌, ◌++◌, ℕ, List}
+use Rattle.std.proofs.lemmas.Bool.Decides.{Decides-eqb}
+use Rattle.std.proofs.lemmas.Slice.Eq.{strip_prefix_is}
+use Rattle.answer_lines.proofs.WordLemmas.{none_of, some_of}
+use Rattle.answer_lines.proofs.cuts.behind.Goals as goal
+
+pub returns-clause-some : goal.returns-clause-some
+returns-clause-some c =
+    some_of c.strip_prefix.result ((rest : List ℕ) → c.args.text.now ≢ c.args.beginning.now ++ rest) (λ x. c.args.text.now ≡ c.args.beginning.now ++ x.now)
+    (strip_prefix_is Decides-eqb c.args.text.now c.args.beginning.now c.strip_prefix.result c.strip_prefix.ensures.cases)
+
+pub returns-clause-none : goal.returns-clause-none
+returns-clause-none c =
+    none_of c.strip_prefix.result ((rest : List ℕ) → c.args.text.now ≢ c.args.beginning.now ++ rest) (λ x. c.args.text.now ≡ c.args.beginning.now ++ x.now)
+    (strip_prefix_is Decides-eqb c.args.text.now c.args.beginning.now c.strip_prefix.result c.strip_prefix.ensures.cases)

@@ -1,0 +1,65 @@
+-- What lines of a script's answers tell: docs/PROFILE.md, "Answers" and "Pictures".
+use Rattle.std.specs.Prelude.{◌≡◌, ℕ, List, [], ◌∷◌, ◌++◌, Bool, true, false, codes, string_bytes}
+use Rattle.std.specs.Str.{IsUtf8}
+use Rattle.rev_core.specs.Rev.{RevId}
+use Rattle.rev_core.specs.Text.{rev_text}
+use Rattle.rev_core.specs.Ancestry.{FallsByOne}
+use Rattle.answer_lines.specs.Words.{lacks, named, IsNumber, IsRevs}
+use Rattle.answer_lines.specs.declared.told.Told.{Told}
+use Rattle.answer_lines.specs.declared.told.Told.TheVariants as told
+
+-- `doc ID winner REV leaves N revs N`: the last six words, and the id before them
+pub record IsDocLine (line id : List ℕ) (count : ℕ) : Type 0 where
+  pub winner : List ℕ
+  pub leaves : List ℕ
+  pub revs : List ℕ
+  pub winner_word : lacks 32 winner ≡ true
+  pub leaves_word : lacks 32 leaves ≡ true
+  pub revs_word : lacks 32 revs ≡ true
+  pub form : line ≡ codes "doc " ++ (((id ++ named (codes " winner") winner) ++ named (codes " leaves") leaves)
+      ++ named (codes " revs") revs)
+  pub counted : IsNumber leaves count
+  pub utf8 : IsUtf8 id
+
+abbrev pub state_text : Bool → List ℕ
+state_text true = codes "live "
+state_text false = codes "deleted "
+
+-- `leaf REV live REVS` or `leaf REV deleted REVS`, by its texts
+pub record LeafParts (line own : List ℕ) (live : Bool) (list : List ℕ) : Type 0 where
+  pub word : lacks 32 own ≡ true
+  pub form : line ≡ codes "leaf " ++ (own ++ 32 ∷ (state_text live ++ list))
+
+-- the first revision has this text
+abbrev pub BeginsWith : List ℕ → List RevId → Type 0
+BeginsWith own [] = ⊥
+BeginsWith own (r ∷ rest) = own ≡ rev_text r
+
+-- the list is the leaf's ancestry, which begins with itself
+pub record IsLeafLine (line : List ℕ) (live : Bool) (revs : List RevId) : Type 0 where
+  pub own : List ℕ
+  pub list : List ℕ
+  pub parts : LeafParts line own live list
+  pub listed : IsRevs list revs
+  pub falls : FallsByOne revs
+  pub begins : BeginsWith own revs
+
+-- `conflict ID REVS`, by its texts
+pub record ConflictParts (line id list : List ℕ) : Type 0 where
+  pub word : lacks 32 list ≡ true
+  pub form : line ≡ codes "conflict " ++ (id ++ 32 ∷ list)
+  pub utf8 : IsUtf8 id
+
+pub record IsConflictLine (line id : List ℕ) (revs : List RevId) : Type 0 where
+  pub list : List ℕ
+  pub parts : ConflictParts line id list
+  pub listed : IsRevs list revs
+
+-- What a line tells; nothing, where it has none of the forms.
+abbrev pub Tells : List ℕ → Told → Type 0
+Tells line (told.Document id count) = IsDocLine line (string_bytes id) count
+Tells line (told.Leaf live revs) = IsLeafLine line live revs.items
+Tells line (told.Conflict id revs) = IsConflictLine line (string_bytes id) revs.items
+Tells line told.Other =
+    ((id : List ℕ) (count : ℕ) → IsDocLine line id count → ⊥) × ((live : Bool) (revs : List RevId) → IsLeafLine line live revs → ⊥)
+    × ((id : List ℕ) (revs : List RevId) → IsConflictLine line id revs → ⊥)

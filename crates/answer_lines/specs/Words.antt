@@ -1,0 +1,22 @@
+-- Words of a line: docs/PROFILE.md, "Answers".
+use Rattle.std.specs.Prelude.{◌≡◌, ◌==◌, ◌<◌, ◌^◌, ℕ, List, ◌∷◌, ◌++◌, Bool, not, map, decimal}
+use Rattle.std.specs.List.{AllByRecursion, list_all, slice_split}
+use Rattle.rev_core.specs.Rev.{IsRev, RevId}
+use Rattle.rev_core.specs.Text.{rev_text}
+
+-- none of the bytes is this one
+abbrev pub lacks : ℕ → List ℕ → Bool
+lacks b text = list_all (λ x. not (x == b)) text
+
+-- a name, a blank, and what is named
+abbrev pub named : List ℕ → List ℕ → List ℕ
+named name word = name ++ 32 ∷ word
+
+-- a number of at most 64 bits, in decimal
+abbrev pub IsNumber : List ℕ → ℕ → Type 0
+IsNumber text n = (text ≡ decimal n) × (n < 2 ^ 64)
+
+-- a joined list of revisions: between its commas stand their texts
+pub record IsRevs (text : List ℕ) (revs : List RevId) : Type 0 where
+  pub listed : slice_split (λ b. b == 44) text ≡ map rev_text revs
+  pub each : AllByRecursion IsRev revs

@@ -1,0 +1,13 @@
+//! What the lines of a script's answers tell, as far as pictures are drawn of them.
+//!
+//! The forms of the lines stand in docs/PROFILE.md, "Answers" and "Pictures".
+#![tactic(auto)]
+
+mod cuts;
+mod lines;
+mod numbers;
+mod revs;
+mod told;
+
+pub use lines::read_line;
+pub use told::Told;

@@ -1,0 +1,7 @@
+use Rattle.answer_pictures.proofs.Documents.{picture_by}
+use Rattle.answer_pictures.proofs.drawer.Drawer.draw.Goals as goal
+
+pub returns-clause-draws : goal.returns-clause-draws
+returns-clause-draws c =
+    picture_by c.draw_sorted.result c.args.document c.sort.new.self c.args.answer.now.items c.draw_sorted.new.answer.items c.requires
+    c.sort.ensures.leaves c.draw_sorted.ensures.draws

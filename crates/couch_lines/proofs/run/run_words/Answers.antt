@@ -1,0 +1,7 @@
+use Rattle.std.proofs.Common.{map, string_bytes, subst}
+use Rattle.couch_lines.specs.Tasks.{Says}
+use Rattle.couch_lines.proofs.run.run_words.Goals as goal
+
+pub returns-in-Trees : goal.returns-in-Trees
+returns-in-Trees g c =
+    (c.in-Trees.db, c.in-Trees.svg, subst (Says (map string_bytes c.args.words.now)) c.in-Trees.is c.in-Ok.ensures.ok, c.draw.ensures)
