@@ -35,6 +35,16 @@ impl IdText {
         Ok(IdText::Far(String::from_str(alloc, text)?))
     }
 
+    /// The same text. A near one is copied with its whole room, which is of a size that the compiler knows.
+    fn copy(&self, alloc: Global) -> Result<IdText, AllocError>
+        ensures copied { IfOk result (λ t. text_of t ≡ text_of self.now) }
+    {
+        match self {
+            IdText::Near(near) => Ok(IdText::Near(*near)),
+            IdText::Far(far) => Ok(IdText::Far(String::from_str(alloc, far.as_str())?)),
+        }
+    }
+
     /// The text.
     fn as_str(&self) -> &str
         ensures { result.now ≡ text_of self.now }
@@ -112,7 +122,7 @@ impl DocId {
     pub fn copy(&self, alloc: Global) -> Result<DocId, AllocError>
         ensures copied { IfOk result (λ a. a ≡ self.now) }
     {
-        let text = IdText::keep(alloc, self.text())?;
+        let text = self.text.copy(alloc)?;
         Ok(DocId { text })
     }
 }

@@ -1,9 +1,9 @@
 -- The index of the nodes: walked while they are few, and noted by marks from there on.
-use Rattle.std.proofs.Common.{◌≡◌, ℕ, suc, ◌+◌, ◌<◌, ◌≤◌, ◌||◌, List, [], ◌∷◌, ◌++◌, length, take, drop, get_or, Option, Some, None, Bool, true, false, cond, is_some, inl, inr, sym, ap, ◌∙◌, subst, refl, arith, length-append, length-take}
-use Rattle.std.proofs.lemmas.Bool.{false≢true, lt-ltb, eq-eqb}
+use Rattle.std.proofs.Common.{◌≡◌, ℕ, suc, ◌+◌, ◌<◌, ◌≤◌, ◌&&◌, ◌||◌, List, [], ◌∷◌, ◌++◌, length, take, drop, get_or, Option, Some, None, Bool, true, false, not, cond, is_some, inl, inr, sym, ap, ◌∙◌, subst, refl, arith, length-append, length-take}
+use Rattle.std.proofs.lemmas.Bool.{false≢true, lt-ltb, ltb-true, eq-eqb, eqb-true}
+use Rattle.std.proofs.Math.Bool.{and-false}
 use Rattle.std.proofs.lemmas.List.{drop_more, drop_all}
-use Rattle.std.proofs.Math.Dec.{ltb}
-use Rattle.std.specs.Prelude.{nat_eq}
+use Rattle.std.specs.Prelude.{nat_eq, nat_lt}
 use Rattle.std.specs.Ordering.{eq_by_cmp}
 use Rattle.std.specs.Option.{option_or}
 use Rattle.std.specs.FinMap.{find}
@@ -13,15 +13,50 @@ use Rattle.rev_core.specs.Rev.{RevId, rev_cmp}
 use Rattle.rev_core.specs.RevOrder.{rev_tie_is}
 use Rattle.rev_core.specs.Ancestry.{is_among}
 use Rattle.rev_tree.specs.TreeLaws.{some_or}
-use Rattle.rev_tree.specs.Index.{index_for, mark_of, noted, noted_from}
+use Rattle.rev_tree.specs.Index.{falls, index_for, mark_of, noted, noted_from}
 use Rattle.rev_tree.specs.Nodes.{revs_in, places_from}
 use Rattle.rev_tree.specs.Node.{NodeValue}
 use Rattle.rev_tree.specs.declared.nodes.TheConstants.{MOST_WALKED}
 use Rattle.rev_tree.proofs.Linking.{length-revs_in}
 use Rattle.rev_tree.proofs.Leaves.{revs_more}
 
-pub index_many : (revs : List RevId) → MOST_WALKED < length revs → index_for revs ≡ noted_from [] 0 revs
-index_many revs many = ap (λ b. cond b (noted_from [] 0 revs) []) (lt-ltb MOST_WALKED (length revs) many)
+-- an index of many that don't fall, and none of those that do
+pub index_many : (revs : List RevId) → MOST_WALKED < length revs → falls revs ≡ false → index_for revs ≡ noted_from [] 0 revs
+index_many revs many stays =
+    ap (λ b. cond (b && not (falls revs)) (noted_from [] 0 revs) []) (lt-ltb MOST_WALKED (length revs) many)
+    ∙ ap (λ b. cond (not b) (noted_from [] 0 revs) []) stays
+
+pub index_fallen : (revs : List RevId) → falls revs ≡ true → index_for revs ≡ []
+index_fallen revs f =
+    ap (λ b. cond (nat_lt MOST_WALKED (length revs) && not b) (noted_from [] 0 revs) []) f
+    ∙ ap (λ b. cond b (noted_from [] 0 revs) []) (and-false (nat_lt MOST_WALKED (length revs)))
+
+pub index_few : (revs : List RevId) → length revs ≤ MOST_WALKED → index_for revs ≡ []
+index_few revs few =
+    elim (nat_lt MOST_WALKED (length revs)) as (λ b. nat_lt MOST_WALKED (length revs) ≡ b → cond (b && not (falls revs)) (noted_from [] 0 revs) [] ≡ []) [
+      | true ↦ λ e. absurd (omega (arith, ltb-true MOST_WALKED (length revs) e, few))
+      | false ↦ λ _. refl
+    ] refl
+
+-- what an index that is empty, or not, says
+pub index_gone : (revs : List RevId) (es : List (ℕ × ℕ)) → es ≡ index_for revs → nat_eq (length es) 0 ≡ true → index_for revs ≡ []
+index_gone revs [] is h = sym is
+index_gone revs (e ∷ es) is h = absurd (omega (arith, eqb-true (length (e ∷ es)) 0 h))
+
+-- where the index has places, the revisions are many that don't fall
+pub index_told : (revs : List RevId) → 0 < length (index_for revs) → (MOST_WALKED < length revs) × (falls revs ≡ false)
+index_told revs some =
+    elim (nat_lt MOST_WALKED (length revs)) as (λ b. nat_lt MOST_WALKED (length revs) ≡ b → 0 < length (cond (b && not (falls revs)) (noted_from [] 0 revs) []) → (MOST_WALKED < length revs) × (falls revs ≡ false)) [
+      | true ↦ λ e. elim (falls revs) as (λ f. falls revs ≡ f → 0 < length (cond (not f) (noted_from [] 0 revs) []) → (MOST_WALKED < length revs) × (falls revs ≡ false)) [
+        | true ↦ λ _ h. absurd (omega arith)
+        | false ↦ λ f _. (ltb-true MOST_WALKED (length revs) e, f)
+      ] refl
+      | false ↦ λ _ h. absurd (omega arith)
+    ] refl some
+
+pub index_held : (revs : List RevId) (es : List (ℕ × ℕ)) → es ≡ index_for revs → nat_eq (length es) 0 ≡ false → (MOST_WALKED < length revs) × (falls revs ≡ false)
+index_held revs [] is h = absurd (false≢true (sym h))
+index_held revs (e ∷ es) is h = index_told revs (omega (arith, ap length is))
 
 -- ---- one mark more
 
@@ -98,7 +133,7 @@ length_marks revs = omega (arith, length_noted_from [] 0 revs)
 
 pub index_short : (revs : List RevId) (index : List (ℕ × ℕ)) → index ≡ index_for revs → length index ≤ length revs
 index_short revs index is =
-    elim (ltb MOST_WALKED (length revs)) as (λ b. index ≡ cond b (noted_from [] 0 revs) [] → length index ≤ length revs) [
+    elim (nat_lt MOST_WALKED (length revs) && not (falls revs)) as (λ b. index ≡ cond b (noted_from [] 0 revs) [] → length index ≤ length revs) [
       | true ↦ λ e. omega (arith, ap length e, length_marks revs)
       | false ↦ λ e. omega (arith, ap length e)
     ] is
@@ -106,6 +141,23 @@ index_short revs index is =
 all_kept : (q : ℕ) (es : List (ℕ × ℕ)) (i : ℕ) (revs : List RevId) → is_some (lookup (nat_eq q) es) ≡ true → is_some (lookup (nat_eq q) (noted_from es i revs)) ≡ true
 all_kept q es i [] h = h
 all_kept q es i (r ∷ revs) h = all_kept q (noted es (mark_of r) i) (i + 1) revs (noted_kept q es (mark_of r) i h)
+
+some_found : (q : ℕ) (es : List (ℕ × ℕ)) → is_some (lookup (nat_eq q) es) ≡ true → 0 < length es
+some_found q [] h = absurd (false≢true h)
+some_found q (e ∷ es) h = omega arith
+
+some_noted : (revs : List RevId) → 0 < length revs → 0 < length (noted_from [] 0 revs)
+some_noted [] h = absurd (omega arith)
+some_noted (r ∷ revs) h =
+    some_found (mark_of r) (noted_from [] 0 (r ∷ revs)) (all_kept (mark_of r) (noted [] (mark_of r) 0) 1 revs (noted_there [] (mark_of r) 0))
+
+-- many revisions with no index fall
+pub index_empty : (revs : List RevId) → MOST_WALKED < length revs → length (index_for revs) ≡ 0 → falls revs ≡ true
+index_empty revs many none =
+    elim (falls revs) as (λ f. falls revs ≡ f → f ≡ true) [
+      | true ↦ λ _. refl
+      | false ↦ λ e. absurd (omega (arith, some_noted revs (omega (arith, many)), ap length (index_many revs many e), none))
+    ] refl
 
 -- a revision whose mark has no place is none of them
 pub unmarked : (es : List (ℕ × ℕ)) (i : ℕ) (revs : List RevId) (q : RevId) → is_some (lookup (nat_eq (mark_of q)) (noted_from es i revs)) ≡ false → is_among q revs ≡ false

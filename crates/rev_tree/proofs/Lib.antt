@@ -1,6 +1,7 @@
 pub mod Answering
 pub mod Asking
 pub mod Edges
+pub mod Falling
 pub mod Fronts
 pub mod Indexing
 pub mod Leaves

@@ -1,5 +1,5 @@
 -- The index of the places of a tree's nodes, by marks of their revisions.
-use Rattle.std.specs.Prelude.{ℕ, ◌+◌, ◌%◌, ◌^◌, List, [], ◌∷◌, ◌++◌, is_some, length, nat_eq, nat_lt, if◌then◌else◌}
+use Rattle.std.specs.Prelude.{ℕ, Bool, true, ◌&&◌, not, ◌+◌, ◌%◌, ◌^◌, List, [], ◌∷◌, ◌++◌, is_some, length, nat_eq, nat_lt, if◌then◌else◌}
 use Rattle.std.specs.Map.{lookup}
 use Rattle.std.specs.Hash.FoldHasher as hasher
 use Rattle.rev_core.specs.Rev.{RevId}
@@ -19,6 +19,13 @@ abbrev pub noted_from : List (ℕ × ℕ) → ℕ → List RevId → List (ℕ �
 noted_from entries i [] = entries
 noted_from entries i (r ∷ revs) = noted_from (noted entries (mark_of r) i) (i + 1) revs
 
--- the index of the nodes that have these revisions: empty while they are few enough to be walked
+-- each is one generation below the one before it, as in an ancestry
+abbrev pub falls : List RevId → Bool
+falls [] = true
+falls (r ∷ []) = true
+falls (r ∷ (s ∷ revs)) = nat_eq r.generation (s.generation + 1) && falls (s ∷ revs)
+
+-- the index of the nodes that have these revisions: empty while they are few enough to be walked, or where each is one
+-- generation below the one before it, so that the generation tells the place
 abbrev pub index_for : List RevId → List (ℕ × ℕ)
-index_for revs = if nat_lt MOST_WALKED (length revs) then noted_from [] 0 revs else []
+index_for revs = if nat_lt MOST_WALKED (length revs) && not (falls revs) then noted_from [] 0 revs else []

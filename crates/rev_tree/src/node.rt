@@ -2,7 +2,7 @@
 ghost use Rattle.std.specs.Prelude.{◌≡◌, ◌+◌, ◌<◌, ◌^◌, Some, None, IfOk, true, false};
 ghost use Rattle.std.specs.Option.{option_copied};
 ghost use Rattle.std.specs.Ordering.{eq_by_cmp};
-ghost use Rattle.rev_core.specs.Rev.{rev_cmp};
+ghost use Rattle.rev_core.specs.Rev.{IsRev, rev_cmp};
 ghost use Rattle.rev_tree.specs.Node.{marks_of, content_of};
 
 use crate::content::Content;
@@ -133,6 +133,14 @@ impl Node {
         ensures { result.now ≡ self.now.rev }
     {
         &self.rev
+    }
+
+    /// The generation of its revision.
+    pub(crate) fn generation(&self) -> u32
+        ensures part { result ≡ self.now.rev.generation }
+        ensures is_rev { IsRev self.now.rev }
+    {
+        self.rev.generation()
     }
 
     /// Whether it is the node of a revision.

@@ -1,5 +1,5 @@
 //! The nodes of a tree, and the place of each revision among them.
-ghost use Rattle.std.specs.Prelude.{◌≡◌, ℕ, ◌+◌, ◌<◌, ◌≤◌, ◌∷◌, ◌++◌, [], Some, None, IfOk, OnOk, slice_get, length, take, vec_capacity};
+ghost use Rattle.std.specs.Prelude.{◌≡◌, ℕ, ◌+◌, ◌<◌, ◌≤◌, ◌∷◌, ◌++◌, [], Some, None, IfOk, OnOk, slice_get, length, take, drop, true, nat_eq, vec_capacity};
 ghost use Rattle.std.specs.Option.{option_copied};
 ghost use Rattle.rev_core.specs.Rev.{RevId};
 ghost use Rattle.rev_tree.specs.Room.{HasIndexRoom};
@@ -18,8 +18,8 @@ use std::marker::Model;
 /// The most nodes that are walked for a revision. From one more on an index has their places.
 pub(crate) const MOST_WALKED: usize = 8;
 
-ghost use Rattle.rev_tree.specs.Index.{index_for, mark_of, noted_from};
-ghost use Rattle.rev_tree.specs.Nodes.{HasGained, HasRoom, IsLinked, node_of, place_of, revs_in, tree_of};
+ghost use Rattle.rev_tree.specs.Index.{falls, index_for, mark_of, noted_from};
+ghost use Rattle.rev_tree.specs.Nodes.{Distinct, HasGained, HasRoom, IsLinked, node_of, place_of, revs_in, tree_of};
 
 /// Nodes with the index of their places. A node is never removed, so places stay.
 ///
@@ -89,6 +89,9 @@ impl Nodes {
         ensures linked { IsLinked self.now.items }
     {
         if self.list.as_slice().len() > MOST_WALKED {
+            if self.places.is_empty() {
+                return fallen_to(&self.list, rev);
+            }
             let place = self.places.get(mark_of(rev))?;
             if self.list[place].is_of(rev) {
                 return Some(place);
@@ -106,6 +109,15 @@ impl Nodes {
         let all = self.list.as_slice().len() + revs.len();
         reserve_nodes(&mut self.list, revs)?;
         reserve_index(*self.list.allocator(), &mut self.places, all)
+    }
+
+    /// Gives back the room in the index, where no place is in it.
+    pub(crate) fn give_back(&mut self)
+        ensures { self.new.items ≡ self.old.items }
+    {
+        if self.places.is_empty() {
+            self.places = Places::new();
+        }
     }
 
     /// Puts a revision, which is new, with its origin at the end, and gives its place. There is room for it.
@@ -171,6 +183,30 @@ fn mark_of(rev: &Rev) -> u64
     hasher.finish().wrapping_add(u64::from(rev.generation()))
 }
 
+/// The place of a revision among nodes of which each is one generation below the one before it.
+#[inline(never)]
+fn fallen_to(nodes: &[Node], rev: &Rev) -> Option<usize>
+    requires some { 0 < length nodes.now }
+    requires once { Distinct (revs_in nodes.now) }
+    requires falls { falls (revs_in nodes.now) ≡ true }
+    ensures { result ≡ place_of nodes.now rev.now }
+{
+    let top = nodes[0].generation();
+    let generation = rev.generation();
+    if generation > top {
+        return None;
+    }
+    let place = (top - generation) as usize;
+    if place >= nodes.len() {
+        return None;
+    }
+    if nodes[place].is_of(rev) {
+        Some(place)
+    } else {
+        None
+    }
+}
+
 /// The place of a revision, for which the nodes are walked.
 fn walked_to(nodes: &[Node], rev: &Rev) -> Option<usize>
     ensures { result ≡ place_of nodes.now rev.now }
@@ -194,11 +230,51 @@ fn index_rest(nodes: &[Node], places: &mut Places, known: usize)
     if nodes.len() <= MOST_WALKED {
         return;
     }
-    if known <= MOST_WALKED {
-        index_from(nodes, places, 0);
-    } else {
+    if !places.is_empty() {
         index_from(nodes, places, known);
+        return;
     }
+    if all_fall(nodes, known) {
+        return;
+    }
+    index_from(nodes, places, 0);
+}
+
+/// Whether each node is one generation below the one before it, where this is known of the first ones, so many.
+#[inline(never)]
+fn all_fall(nodes: &[Node], known: usize) -> bool
+    requires known { known ≤ length nodes.now }
+    requires many { MOST_WALKED < length nodes.now }
+    requires fall { MOST_WALKED < known → falls (take known (revs_in nodes.now)) ≡ true }
+    ensures { result ≡ falls (revs_in nodes.now) }
+{
+    if known <= MOST_WALKED {
+        falls_from(nodes, 0)
+    } else {
+        falls_from(nodes, known - 1)
+    }
+}
+
+/// Whether each node behind a place is one generation below the one before it.
+fn falls_from(nodes: &[Node], first: usize) -> bool
+    requires { first < length nodes.now }
+    ensures { result ≡ falls (drop first (revs_in nodes.now)) }
+{
+    for i in first + 1..nodes.len() {
+        let upper = &nodes[i - 1];
+        let lower = &nodes[i];
+        if !is_below(upper, lower) {
+            return false;
+        }
+    }
+    true
+}
+
+/// Whether a node is one generation below another.
+fn is_below(upper: &Node, lower: &Node) -> bool
+    ensures { result ≡ nat_eq upper.now.rev.generation (lower.now.rev.generation + 1) }
+{
+    upper.generation() - 1 == lower.generation()
 }
 
 /// Puts the places of the nodes from one on into the index, which has those before. There is room for them.
@@ -243,6 +319,12 @@ fn index_of(alloc: Global, nodes: &[Node]) -> Result<Places, AllocError>
     ensures { IfOk result (λ m. m.entries ≡ index_for (revs_in nodes.now)) }
 {
     let mut places = Places::new();
+    if nodes.len() <= MOST_WALKED {
+        return Ok(places);
+    }
+    if falls_from(nodes, 0) {
+        return Ok(places);
+    }
     reserve_index(alloc, &mut places, nodes.len())?;
     index_rest(nodes, &mut places, 0);
     Ok(places)

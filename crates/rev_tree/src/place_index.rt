@@ -11,7 +11,8 @@ use std::marker::Model;
 /// mark, the first has its place here, and the others are walked for. That happens only where somebody looked for
 /// such revisions on purpose.
 ///
-/// A tree whose nodes are walked has none of them: they take memory from the first one on.
+/// A tree whose nodes are walked has none of them, nor has one of which each node is a generation below the one before it:
+/// they take memory from the first one on.
 #[derive(Drop)]
 pub(crate) struct Places {
     index: Option<Box<IndexMap<u64, usize>>>,
@@ -47,6 +48,13 @@ impl Places {
             Some(index) => index.len(),
             None => 0,
         }
+    }
+
+    /// Whether there are none.
+    pub(crate) fn is_empty(&self) -> bool
+        ensures { result ≡ nat_eq (length self.now.entries) 0 }
+    {
+        self.len() == 0
     }
 
     /// The place of a mark.

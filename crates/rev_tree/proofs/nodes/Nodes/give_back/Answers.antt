@@ -1,0 +1,12 @@
+use Rattle.std.proofs.Common.{sym, ◌∙◌}
+use Rattle.rev_tree.specs.Nodes.{revs_in}
+use Rattle.rev_tree.proofs.Indexing.{index_gone}
+use Rattle.rev_tree.proofs.nodes.Nodes.give_back.Goals as goal
+
+pub invariant_of-self : goal.invariant_of-self
+invariant_of-self c =
+    let revs = revs_in c.self.inside.list.items in
+    record {
+      index = c.new.ensures ∙ sym (index_gone revs c.self.inside.places.entries c.self.invariant.index (sym c.is_empty.ensures ∙ c.if-is_empty.true));
+      linked = c.self.invariant.linked;
+    }
