@@ -1,3 +1,5 @@
 mod Floats
+mod Listed
 mod Logging
+mod LogTexts
 mod LogTables

@@ -1,12 +1,12 @@
 -- Texts of replication ids and logs: docs/PROFILE.md, "Replication ids and logs".
-use Rattle.std.specs.Prelude.{ℕ, ◌<◌, ◌^◌, List, [], ◌∷◌, ◌++◌, map, codes, Some, None, Result, Ok, Err, refl}
+use Rattle.std.specs.Prelude.{ℕ, ◌<◌, ◌^◌, Bool, true, List, [], ◌∷◌, ◌++◌, map, codes, Some, None, Result, Ok, Err, refl}
 use Rattle.std.specs.Coded.{Coded, code_by, coded×, coded_ℕ, coded_list, coded_option}
 use Rattle.std.specs.Int.{w128, to_be_bytes}
 use Rattle.std.specs.List.{AllByRecursion}
 use Rattle.hex.specs.Hex.{encode_lower}
 use Rattle.serde_json.specs.Data.{Data, number, unsigned, string, array, object, Items, Members, no_members, member}
 use Rattle.serde_json.specs.View.{items_of}
-use Rattle.serde_json.specs.Written.{compact_text}
+use Rattle.serde_json.specs.Written.{compact_text, comma_if}
 use Rattle.doc_json.specs.Chosen.{Choice, IsText, ids_text}
 use Rattle.repl_log.specs.declared.fault.LogFault.{LogFault}
 use Rattle.repl_log.specs.declared.fault.LogFault.TheVariants as faults
@@ -78,6 +78,11 @@ entry_with e session_id start_time end_time =
 
 abbrev pub entry_json : EntryValue → Data
 entry_json e = entry_with e (id_digits e.session.0) (time_text e.start_time) (time_text e.end_time)
+
+-- the texts of entries, with commas between them, and one before the first where something stands there
+abbrev pub listed : Bool → List EntryValue → List ℕ
+listed later [] = []
+listed later (e ∷ es) = comma_if later ++ (compact_text (entry_json e) ++ listed true es)
 
 -- a log, newest first, by its replication id's text, its history and the session and the recorded sequence of its
 -- newest entry

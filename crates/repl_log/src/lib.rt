@@ -12,6 +12,7 @@ mod logs;
 mod moment;
 mod replication;
 mod text;
+mod written;
 
 pub use checkpoint::common;
 pub use counts::Counts;
@@ -21,4 +22,5 @@ pub use log::Log;
 pub use logs::Logs;
 pub use moment::Moment;
 pub use replication::RepId;
-pub use text::{rep_id, write_log};
+pub use text::rep_id;
+pub use written::write_log;

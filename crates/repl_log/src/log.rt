@@ -96,6 +96,13 @@ impl Log {
         Ok(())
     }
 
+    /// Lets the room go that its entries don't take.
+    pub(crate) fn shrink(&mut self)
+        ensures { self.new ≡ self.old }
+    {
+        self.entries.shrink_to_fit();
+    }
+
     /// How many sessions it holds.
     pub fn len(&self) -> usize
         ensures len { result ≡ length self.now }

@@ -80,8 +80,10 @@ impl Logs {
             None => {
                 let mut log = Log::new(alloc);
                 log.set(entry)?;
+                log.shrink();
                 let rep = rep.copy(alloc)?;
                 self.logs.insert(rep, log)?;
+                fit(&mut self.logs);
                 Ok(())
             }
         }
@@ -100,6 +102,15 @@ impl Logs {
             logs.insert(rep, log)?;
         }
         Ok(Logs { logs })
+    }
+}
+
+/// Lets the room go that the first log doesn't take: most sources have one target.
+fn fit(logs: &mut IndexMap<RepId, Log>)
+    ensures { logs.new.entries ≡ logs.old.entries }
+{
+    if logs.len() == 1 {
+        logs.shrink_to_fit();
     }
 }
 

@@ -69,11 +69,12 @@ returns-in_ok-insert-in-None-clause-ok c =
     let there = sym c.get_mut.ensures.value ∙ ap option_copied_mut c.in-None.is in
     let logs = c.self.inside.logs in
     let rep = c.args.rep.now in
-    let log = c.in_ok-set-in-None.ensures.ok ∙ ap (λ g. with_entry g (value_of c.args.entry)) c.new-log.ensures.value in
+    let log = c.shrink.ensures ∙ c.in_ok-set-in-None.ensures.ok ∙ ap (λ g. with_entry g (value_of c.args.entry)) c.new-log.ensures.value in
     rw (← c.self.view_is)
-    (c.in_ok-insert-in-None.ensures.entries
-    ∙ ap (λ r. insert_entry same_rep c.get_mut.follows.lender-at-none.entries r c.set.new.self) c.in_ok-rep-in-None.ensures.copied
-    ∙ ap (λ m. insert_entry same_rep m.entries rep c.set.new.self) c.get_mut.follows.holds-at-none
-    ∙ insert_entry-new same_rep logs rep c.set.new.self there
+    (c.fit.ensures
+    ∙ c.in_ok-insert-in-None.ensures.entries
+    ∙ ap (λ r. insert_entry same_rep c.get_mut.follows.lender-at-none.entries r c.shrink.new.self) c.in_ok-rep-in-None.ensures.copied
+    ∙ ap (λ m. insert_entry same_rep m.entries rep c.shrink.new.self) c.get_mut.follows.holds-at-none
+    ∙ insert_entry-new same_rep logs rep c.shrink.new.self there
     ∙ ap (λ g. logs.entries ++ (rep, g) ∷ []) log
     ∙ logs_with-new rep (value_of c.args.entry) logs.entries there)

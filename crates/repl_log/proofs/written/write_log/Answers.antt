@@ -1,5 +1,5 @@
 use Rattle.repl_log.specs.TimeLaws.{time_text-date}
-use Rattle.repl_log.proofs.text.write_log.Goals as goal
+use Rattle.repl_log.proofs.written.write_log.Goals as goal
 
 pub returns-in_default-clause-times : goal.returns-in_default-clause-times
 returns-in_default-clause-times c = time_text-date
@@ -7,5 +7,5 @@ returns-in_default-clause-times c = time_text-date
 pub returns-clause-times : goal.returns-clause-times
 returns-clause-times c = time_text-date
 
-pub returns-in_err-text-clause-times : goal.returns-in_err-text-clause-times
-returns-in_err-text-clause-times c = time_text-date
+pub returns-in_err-whole_log-clause-times : goal.returns-in_err-whole_log-clause-times
+returns-in_err-whole_log-clause-times c = time_text-date

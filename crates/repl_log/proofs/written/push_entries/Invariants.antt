@@ -1,0 +1,7 @@
+use Rattle.std.proofs.Common.{◌≡◌, ◌++◌, false, take}
+use Rattle.repl_log.specs.Text.{listed}
+use Rattle.repl_log.proofs.written.push_entries.Given as goal
+
+-- the entries so far stand behind what was there
+abbrev pub invariant-loop-i : goal.invariant-loop-i
+invariant-loop-i l = l.out.items ≡ l.fn.out.items ++ listed false (take l.i l.log)
