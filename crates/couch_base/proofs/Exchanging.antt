@@ -1,5 +1,5 @@
 -- Asking and fetching, one document after another.
-use Rattle.std.proofs.Common.{◌≡◌, ℕ, ◌+◌, ◌<◌, ◌≤◌, true, List, [], ◌∷◌, ◌++◌, map, filter, None, drop, length, get_or, sym, ap, ◌∙◌, refl, append_assoc}
+use Rattle.std.proofs.Common.{◌≡◌, ℕ, ◌+◌, ◌<◌, ◌≤◌, true, List, [], ◌∷◌, ◌++◌, map, filter, None, drop, length, get_or, sym, ap, ◌∙◌, refl, append_assoc, length-append, arith}
 use Rattle.std.proofs.lemmas.Bool.{and_parts}
 use Rattle.std.proofs.lemmas.List.{append-nil, drop_more, drop_all}
 use Rattle.std.specs.List.{list_any, list_all}
@@ -59,3 +59,17 @@ gone_next ds done all ws i w h is so =
 -- at the end nothing is left
 pub end_of : {X Y : Type 0} (f : List X → List Y) → f [] ≡ [] → (done all : List Y) (xs : List X) (i : ℕ) → length xs ≤ i → done ++ f (drop i xs) ≡ all → done ≡ all
 end_of f none done all xs i h so = sym (append-nil done) ∙ ap (λ l. done ++ l) (sym none ∙ ap f (sym (drop_all i xs h))) ∙ so
+
+-- ---- counting
+
+pub counted_next : (ds : List DocumentValue) (done all : ℕ) (ws : List WantedValue) (i : ℕ) (w : WantedValue) → i < length ws → w ≡ get_or ws i w
+    → done + length (fetched ds (drop i ws)) ≡ all → (done + length (opened w.id (tree_of ds w.id) w.revs)) + length (fetched ds (drop (i + 1) ws)) ≡ all
+counted_next ds done all ws i w h is so =
+    let split : length (fetched ds (drop i ws)) ≡ length (opened w.id (tree_of ds w.id) w.revs) + length (fetched ds (drop (i + 1) ws)) =
+    ap (λ l. length (fetched ds l)) (next_of ws i w h is) ∙ length-append (opened w.id (tree_of ds w.id) w.revs) (fetched ds (drop (i + 1) ws)) in
+    omega (arith, split, so)
+
+pub counted_end : (ds : List DocumentValue) (done all : ℕ) (ws : List WantedValue) (i : ℕ) → length ws ≤ i → done + length (fetched ds (drop i ws)) ≡ all → done ≡ all
+counted_end ds done all ws i h so =
+    let none : length (fetched ds (drop i ws)) ≡ 0 = ap (λ l. length (fetched ds l)) (drop_all i ws h) in
+    omega (arith, none, so)

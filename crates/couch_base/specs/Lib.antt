@@ -2,6 +2,7 @@ pub mod Lists
 pub mod Answers
 pub mod Database
 pub mod Put
+pub mod Readied
 pub mod Feed
 pub mod Stored
 pub mod FeedLaws

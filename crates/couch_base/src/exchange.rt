@@ -1,11 +1,12 @@
 //! Asking for missing revisions, and fetching them; and the document at a revision.
-ghost use Rattle.std.specs.Prelude.{◌≡◌, ◌++◌, [], true, map, OnOk, IfOk};
+ghost use Rattle.std.specs.Prelude.{◌≡◌, ◌++◌, [], true, map, length, OnOk, IfOk};
 ghost use Rattle.std.specs.List.{list_all};
 ghost use Rattle.rev_tree.specs.Tree.{is_leaf, missing};
 ghost use Rattle.couch_base.specs.Database.{IsDocumentTree, tree_of};
 ghost use Rattle.couch_base.specs.Messages.{document_in, leaf_document, opened, want_first};
 
 use crate::asked::{Asked, Wanted};
+use crate::brought::Brought;
 use crate::database::Database;
 use crate::parcel::Parcel;
 use crate::row::Row;
@@ -56,6 +57,30 @@ impl Database {
         Ok(Parcel::new(asked, docs, gone))
     }
 
+    /// How many documents `open_revs` has for what is asked.
+    pub fn count_asked(&self, alloc: Global, asked: &Asked) -> Result<u128, AllocError>
+        ensures count { IfOk result (λ n. n ≡ length (open_revs self.now asked.now).docs) }
+    {
+        let mut count: u128 = 0;
+        for wanted in asked.docs() {
+            let more = self.count_wanted(alloc, wanted)?;
+            count += more as u128;
+        }
+        Ok(count)
+    }
+
+    /// How many documents there are for the wanted revisions of one.
+    fn count_wanted(&self, alloc: Global, wanted: &Wanted) -> Result<u64, AllocError>
+        ensures count { IfOk result
+            (λ n. n ≡ length (opened wanted.now.id (tree_of self.now.docs wanted.now.id) wanted.now.revs)) }
+    {
+        let Some(tree) = self.tree(wanted.id()) else {
+            return Ok(0);
+        };
+        let leaves = tree.leaves_above(alloc, wanted.revs())?;
+        Ok(leaves.as_slice().len() as u64)
+    }
+
     /// The document at a revision, leaf or not: its whole known ancestry, and its content. `None` where the document is
     /// not there, the revision is not in its tree, or no content stands at it.
     pub fn document(&self, alloc: Global, id: &DocId, rev: Rev) -> Result<Option<Doc>, AllocError>
@@ -87,7 +112,7 @@ impl Database {
         &self,
         alloc: Global,
         wanted: &Wanted,
-        docs: &mut Vec<Doc>,
+        docs: &mut Vec<Brought>,
         gone: &mut Vec<(DocId, Rev)>,
     ) -> Result<(), AllocError>
         ensures docs { OnOk result (docs.new.items ≡ docs.old.items
@@ -125,7 +150,7 @@ fn add_documents(
     id: &DocId,
     tree: &Tree,
     leaves: &[Rev],
-    docs: &mut Vec<Doc>,
+    docs: &mut Vec<Brought>,
 ) -> Result<(), AllocError>
     requires document { IsDocumentTree tree.now }
     requires leaves { list_all (is_leaf tree.now) leaves.now ≡ true }
@@ -134,7 +159,7 @@ fn add_documents(
 {
     for leaf in leaves {
         let doc = leaf_document(alloc, id, tree, *leaf)?;
-        docs.push(doc)?;
+        docs.push(Brought::new(doc))?;
     }
     Ok(())
 }

@@ -5,6 +5,7 @@
 #![tactic(auto)]
 
 mod asked;
+mod brought;
 mod copies;
 mod database;
 mod edit;
@@ -19,6 +20,7 @@ mod table;
 mod window;
 
 pub use asked::{Asked, Wanted};
+pub use brought::{Brought, Made};
 pub use database::{Database, MOST_SEQUENCE};
 pub use fault::{BaseFault, Listed, Put, Revised};
 pub use parcel::Parcel;

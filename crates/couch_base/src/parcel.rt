@@ -2,9 +2,12 @@
 ghost use Rattle.std.specs.Prelude.{◌≡◌, IfOk};
 
 use crate::asked::Asked;
+use crate::brought::Brought;
 use crate::copies::copied;
-use doc_json::{Doc, DocId};
+use crate::row::Row;
+use doc_json::DocId;
 use rev_core::Rev;
+use rev_tree::SessionId;
 use std::alloc::{AllocError, Global};
 use std::marker::Model;
 
@@ -14,7 +17,7 @@ use std::marker::Model;
 /// revision. No id and head comes twice.
 pub struct Parcel {
     asked: Asked,
-    docs: Vec<Doc>,
+    docs: Vec<Brought>,
     gone: Vec<(DocId, Rev)>,
 }
 
@@ -45,7 +48,7 @@ impl Parcel {
     ghost use Rattle.couch_base.specs.Messages.{ParcelValue, IsParcel};
 
     /// The parcel of these parts, which make one.
-    pub(crate) fn new(asked: Asked, docs: Vec<Doc>, gone: Vec<(DocId, Rev)>) -> Parcel
+    pub(crate) fn new(asked: Asked, docs: Vec<Brought>, gone: Vec<(DocId, Rev)>) -> Parcel
         requires { IsParcel (record { asked = asked; docs = docs.items; gone = gone.items }) }
         ensures { result ≡ record { asked = asked; docs = docs.items; gone = gone.items } }
     {
@@ -77,7 +80,7 @@ impl Parcel {
     }
 
     /// The fetched documents, in the order of the asked ones, of each one the winner first.
-    pub fn docs(&self) -> &[Doc]
+    pub fn docs(&self) -> &[Brought]
         ensures value { result.now ≡ self.now.docs }
         ensures parcel { IsParcel self.now }
     {
@@ -93,12 +96,26 @@ impl Parcel {
     }
 
     /// The asked, the documents and the gone revisions.
-    pub fn into_parts(self) -> (Asked, Vec<Doc>, Vec<(DocId, Rev)>)
+    pub fn into_parts(self) -> (Asked, Vec<Brought>, Vec<(DocId, Rev)>)
         ensures parts { self ≡ record { asked = result.0; docs = result.1.items; gone = result.2.items } }
         ensures parcel { IsParcel self }
     {
         let Parcel { asked, docs, gone } = self;
         (asked, docs, gone)
+    }
+
+    /// Makes what the documents make where they are new, and come from a session's feed at the sequences of some rows.
+    /// It stays the same parcel: what is made spares the put of such a document the making. Where memory is refused,
+    /// some are made.
+    pub fn prepare(
+        &mut self,
+        alloc: Global,
+        session: SessionId,
+        rows: &[Row],
+    ) -> Result<(), AllocError>
+        ensures same { self.new ≡ self.old }
+    {
+        prepare(alloc, session, rows, &mut self.docs)
     }
 
     /// The same parcel.
@@ -111,4 +128,35 @@ impl Parcel {
         let gone = copied(alloc, &self.gone, |(id, rev)| Ok((id.copy(alloc)?, *rev)))?;
         Ok(Parcel { asked, docs, gone })
     }
+}
+
+/// Makes what documents make where they are new. Their rows are looked for in order, and those behind one that has none
+/// are left as they are.
+fn prepare(
+    alloc: Global,
+    session: SessionId,
+    rows: &[Row],
+    docs: &mut Vec<Brought>,
+) -> Result<(), AllocError>
+    ensures same { docs.new.items ≡ docs.old.items }
+{
+    let mut row = 0;
+    for i in 0..docs.len() {
+        row = row_from(rows, docs[i].id(), row);
+        if row >= rows.len() {
+            return Ok(());
+        }
+        docs[i].prepare(alloc, session, rows[row].seq())?;
+    }
+    Ok(())
+}
+
+/// The first place from one on with a row of an id, or that of the end.
+fn row_from(rows: &[Row], id: &DocId, from: usize) -> usize {
+    for place in from..rows.len() {
+        if rows[place].id() == id {
+            return place;
+        }
+    }
+    rows.len()
 }

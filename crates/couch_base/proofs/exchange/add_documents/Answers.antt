@@ -1,5 +1,6 @@
 use Rattle.std.proofs.Common.{[], ◌∷◌, ◌++◌, ap, ◌∙◌, arith}
 use Rattle.rev_tree.specs.Tree.{is_leaf}
+use Rattle.doc_json.specs.Document.{Document}
 use Rattle.couch_base.specs.Messages.{leaf_document}
 use Rattle.couch_base.proofs.Copied.{one_more_of, all_at}
 use Rattle.couch_base.proofs.exchange.add_documents.Goals as goal
@@ -11,5 +12,5 @@ leaf_document-requires-clause-leaf c =
 pub loop-leaf-preserved : goal.loop-leaf-preserved
 loop-leaf-preserved c =
     let l = c.loop-leaf in
-    c.in_ok-push.ensures.items ∙ ap (λ d. l.docs.items ++ d ∷ []) c.in_ok-doc.ensures.document
+    c.in_ok-push.ensures.items ∙ ap (λ (d : Document). l.docs.items ++ d ∷ []) (c.new.ensures ∙ c.in_ok-doc.ensures.document)
     ∙ one_more_of (leaf_document c.args.id.now c.args.tree.now) c.args.leaves.now c.args.docs.now.items l.docs.items l.leaf-index c.leaf-item.result (omega arith) c.leaf-item.is l.invariant

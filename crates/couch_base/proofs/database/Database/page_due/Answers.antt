@@ -16,4 +16,4 @@ pub new-requires : goal.new-requires
 new-requires c = subst IsWindow (sym (same c)) (IsWindow-page c.args.self.now c.args.since c.args.goal c.args.limit (option_copied c.args.chosen) c.law.ensures c.requires.range c.requires.limit)
 
 pub returns : goal.returns
-returns c = c.new.ensures ∙ same c.before
+returns c = c.in_ok-window.ensures ∙ same c.before.before.before

@@ -16,12 +16,12 @@ pub merge_change-requires : goal.merge_change-requires
 merge_change-requires c = ap (λ t. merge_answer t c.args.ancestry.now) c.new-tree.ensures ∙ new_changes c.args.ancestry.now c.revs-revs.ensures.ancestry
 
 -- the table after it
-made : (c : goal.After-self-1) → IsWritten c.args.self.now (record { entries = c.insert.new.self.entries; rows = c.note.new.index.items; last = c.self.inside.last + 1 }) c.args.id.now (merged (tree_of (documents_of c.args.self.now) c.args.id.now) c.args.ancestry.now c.args.content c.args.origin)
+made : (c : goal.After-self-1) → IsWritten c.args.self.now (record { entries = c.fit.new.docs.entries; rows = c.note.new.index.items; last = c.self.inside.last + 1 }) c.args.id.now (merged (tree_of (documents_of c.args.self.now) c.args.id.now) c.args.ancestry.now c.args.content c.args.origin)
 made c =
     let id = c.args.id.now in
     let tree = c.merge_change.new.self in
     let t : TableValue = record { entries = c.self.inside.docs.entries; rows = c.self.inside.index.items; last = c.self.inside.last } in
-    let new : TableValue = record { entries = c.insert.new.self.entries; rows = c.note.new.index.items; last = c.self.inside.last + 1 } in
+    let new : TableValue = record { entries = c.fit.new.docs.entries; rows = c.note.new.index.items; last = c.self.inside.last + 1 } in
     let kept : Kept = record { seq = t.last + 1; tree = tree } in
     let merge : TreeValue → TreeValue = λ x. merged x c.args.ancestry.now c.args.content c.args.origin in
     let room : t.last < most = subst (λ (v : TableValue). v.last < most) (sym c.self.view_is) c.requires.room in
@@ -29,7 +29,8 @@ made c =
     let is : tree ≡ merge no_revisions = c.in_ok-merge_change.ensures.ok ∙ ap merge c.new-tree.ensures in
     let lawful = merged_document no_revisions c.args.ancestry.now c.args.content c.args.origin c.revs-revs.ensures.ancestry c.requires.body no_bodies (subst IsTree is c.in_ok-merge_change.ensures.tree) in
     let grown : new.entries ≡ t.entries ++ (id, kept) ∷ [] =
-    c.in_ok-insert.ensures.entries
+    c.fit.ensures
+    ∙ c.in_ok-insert.ensures.entries
     ∙ ap (λ es. insert_entry bytes_eq es c.in_ok-key.key kept) c.in_ok-reserve.ensures.entries
     ∙ ap (λ (k : Id). insert_entry bytes_eq t.entries k kept) c.in_ok-key.ensures.copied
     ∙ inserted t.entries id kept absent in

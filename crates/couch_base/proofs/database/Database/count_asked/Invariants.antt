@@ -1,0 +1,10 @@
+use Rattle.std.proofs.Common.{◌≡◌, ◌+◌, ◌*◌, ◌^◌, ◌≤◌, drop, length}
+use Rattle.couch_base.specs.Messages.{fetched}
+use Rattle.couch_base.proofs.database.Database.count_asked.Given as goal
+
+-- how many are counted, with those of the other documents, are all; of each there are less than 2 ^ 64
+abbrev pub invariant-loop-wanted : goal.invariant-loop-wanted
+invariant-loop-wanted l = record {
+  all : l.count + length (fetched l.self.docs (drop l.wanted-index l.wanted-items)) ≡ length (fetched l.self.docs l.wanted-items);
+  fits : l.count ≤ l.wanted-index * 2 ^ 64;
+}

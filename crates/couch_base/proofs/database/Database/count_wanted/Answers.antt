@@ -1,0 +1,14 @@
+use Rattle.std.proofs.Common.{length, sym, ap, ◌∙◌}
+use Rattle.std.specs.Prelude.{unwrap_or}
+use Rattle.std.specs.Option.{option_copied}
+use Rattle.rev_tree.specs.Tree.{no_revisions}
+use Rattle.couch_base.specs.Database.{tree_in}
+use Rattle.couch_base.specs.Messages.{opened}
+use Rattle.couch_base.proofs.Exchanging.{opened-no_revisions}
+use Rattle.couch_base.proofs.database.Database.count_wanted.Goals as goal
+
+pub returns-in_default : goal.returns-in_default
+returns-in_default c =
+    let w = c.args.wanted.now in
+    let gone = ap (tree_in c.args.self.now.docs) (sym c.id.ensures) ∙ sym c.tree.ensures.value ∙ ap option_copied c.in_default.is in
+    record { count = sym (ap length (ap (λ o. opened w.id (unwrap_or o no_revisions) w.revs) gone ∙ opened-no_revisions w.id w.revs)) }

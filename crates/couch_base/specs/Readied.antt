@@ -1,0 +1,14 @@
+-- The tree that a document makes where it is new, made beforehand.
+use Rattle.std.specs.Prelude.{◌≡◌}
+use Rattle.rev_tree.specs.Tree.{merged, no_revisions}
+use Rattle.rev_tree.specs.declared.origin.Origin.TheVariants.{Feed}
+use Rattle.doc_json.specs.Document.{Document}
+use Rattle.couch_base.specs.Database.{IsDocumentTree}
+use Rattle.couch_base.specs.Put.{content_of}
+use Rattle.couch_base.specs.declared.brought.Made.{Made}
+
+-- what a document makes where it is new: its id, and its ancestry and its content merged into no revisions
+pub record IsMadeOf (d : Document) (m : Made) : Type 0 where
+  pub key : m.key ≡ d.id
+  pub tree : m.tree ≡ merged no_revisions d.ancestry (content_of d.deleted d.body) (Feed m.session m.seq)
+  pub document : IsDocumentTree m.tree
