@@ -2,6 +2,8 @@
 pub mod Sessions
 pub mod Settling
 pub mod Stored
+pub mod Windows
+pub mod Kept
 pub mod SessionCalls
 pub mod LedgerIndex
 pub mod RepIndex

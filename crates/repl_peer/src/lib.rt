@@ -6,6 +6,7 @@
 mod fault;
 mod logs;
 mod peer;
+mod room;
 mod session;
 
 pub use fault::{Cause, Reason, Report, Settled, TargetFault};
@@ -16,3 +17,4 @@ pub use peer::filter::{Rules, Verdict, WriteFilter};
 pub use peer::written::Written;
 pub use session::beginning::Beginning;
 pub use session::refused::Refused;
+pub use session::window::StoredWindow;

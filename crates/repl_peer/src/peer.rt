@@ -1,12 +1,12 @@
 //! Peers.
-ghost use Rattle.std.specs.Prelude.{◌≡◌, ◌<◌, ◌≤◌, Ok, OnOk, OnErr, IfOk};
+ghost use Rattle.std.specs.Prelude.{◌≡◌, ◌<◌, ◌≤◌, length, Ok, OnOk, OnErr, IfOk};
 ghost use Rattle.std.specs.Option.{option_copied};
 ghost use Rattle.rev_tree.specs.Tree.{has};
 ghost use Rattle.couch_base.specs.Database.{tree_of};
 
 pub(crate) mod backup;
 pub(crate) mod filter;
-mod ghost_revs;
+pub(crate) mod ghost_revs;
 mod local;
 mod readers;
 pub(crate) mod written;
@@ -234,6 +234,13 @@ impl<F: WriteFilter> Peer<F> {
         ensures parcel { IfOk result (λ p. p ≡ open_revs self.now.1.db asked) }
     {
         self.db.open_asked(alloc, asked)
+    }
+
+    /// How many documents `open_revs` has for what is asked.
+    pub fn count_asked(&self, alloc: Global, asked: &Asked) -> Result<u128, AllocError>
+        ensures count { IfOk result (λ n. n ≡ length (open_revs self.now.1.db asked.now).docs) }
+    {
+        self.db.count_asked(alloc, asked)
     }
 
     /// Whether a revision is in its document's tree, or in the ancestry of a document that a session refused.

@@ -14,11 +14,14 @@ mod rows;
 pub(crate) mod sessions;
 mod settle;
 mod stored;
+pub(crate) mod window;
 
 use crate::fault::{Report, TargetFault};
 use crate::peer::written::Written;
+use crate::room::room_for_one;
 use crate::session::beginning::Beginning;
 use crate::session::refused::Refused;
+use crate::session::window::StoredWindow;
 use couch_base::Window;
 use range_front::Front;
 use repl_log::{Counts, Entry, Moment, RepId};
@@ -35,7 +38,7 @@ pub(crate) struct Session {
     pub(crate) base: Option<SessionId>,
     pub(crate) goal: u64,
     pub(crate) front: Front,
-    pub(crate) windows: Vec<Window>,
+    pub(crate) windows: Vec<StoredWindow>,
     pub(crate) recorded: u64,
     pub(crate) arrivals: Vec<Written>,
     pub(crate) ledger: Vec<Refused>,
@@ -52,12 +55,11 @@ impl Model for Session {
 
     ghost coded = { coded_session };
 
-    ghost use Rattle.repl_peer.specs.peer.Law.{IsSession};
-    ghost use Rattle.repl_peer.specs.session.Stored.{session_value};
+    ghost use Rattle.repl_peer.specs.session.Stored.{session_value, IsSession};
 
     ghost view = { session_value };
 
-    ghost invariant = { λ s. IsSession (session_value s) };
+    ghost invariant = { λ s. IsSession s };
 }
 
 impl Session {
@@ -109,9 +111,9 @@ impl Session {
         if hi > self.goal {
             return Err(TargetFault::PastGoal);
         }
-        self.windows.reserve(1)?;
+        room_for_one(&mut self.windows)?;
         self.front.append(hi)?;
-        self.windows.push(window).unwrap();
+        self.windows.push(StoredWindow::whole(window)).unwrap();
         Ok(())
     }
 

@@ -6,6 +6,7 @@ pub mod AddedToLedgerIndex
 pub mod RowsInTurn
 pub mod FirstUnknownLeaf
 pub mod WindowsFound
+pub mod StoredWindows
 pub mod SettlingDocuments
 pub mod SettlingChecks
 pub mod SessionLaws

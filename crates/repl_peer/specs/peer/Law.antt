@@ -18,13 +18,6 @@ use Rattle.repl_peer.specs.peer.Origins.{HasOrigins}
 abbrev pub window_bounds : List WindowValue → List (ℕ × ℕ)
 window_bounds ws = map (λ w. (w.lo, w.hi)) ws
 
--- what holds of a session alone
-pub record IsSession (s : SessionValue) : Type 0 where
-  pub front : IsFront s.front
-  pub bounds : window_bounds s.windows ≡ bounds s.front
-  pub start : s.front.start ≤ s.recorded
-  pub read : AddUp s.counts
-
 pub record LawfulSession (refuses : Document → Bool) (p : PeerValue) (s : SessionValue) : Type 0 where
   -- the windows are consecutive from the start, inside the goal, with rows rising; the done ones are of them
   pub front : IsFront s.front

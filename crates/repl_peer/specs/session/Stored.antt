@@ -1,5 +1,10 @@
 -- A session as it is stored.
+use Rattle.std.specs.Prelude.{◌≡◌, ◌≤◌}
+use Rattle.range_front.specs.Front.{IsFront, bounds}
+use Rattle.repl_log.specs.Counts.{AddUp}
 use Rattle.repl_peer.specs.peer.Peer.{SessionValue}
+use Rattle.repl_peer.specs.peer.Law.{window_bounds}
+use Rattle.repl_peer.specs.session.Windows.{windows_of, IsThinnedWhereDone}
 use Rattle.repl_peer.specs.declared.session.Session.TheInside.{Inside}
 
 -- what contracts see of a session
@@ -11,7 +16,7 @@ session_value s = record {
   base = s.base;
   goal = s.goal;
   front = s.front.front;
-  windows = s.windows.items;
+  windows = windows_of s.windows.items;
   recorded = s.recorded;
   arrivals = s.arrivals.items;
   ledger = s.ledger.items;
@@ -19,3 +24,12 @@ session_value s = record {
   start_time = s.start_time;
   end_time = s.end_time;
 }
+
+-- what holds of a session alone
+pub record IsSession (s : Inside) : Type 0 where
+  pub front : IsFront s.front.front
+  pub bounds : window_bounds (windows_of s.windows.items) ≡ bounds s.front.front
+  pub start : s.front.front.start ≤ s.recorded
+  pub read : AddUp s.counts
+  -- where leaves are let go, their window is done
+  pub thinned : IsThinnedWhereDone s.front.front s.windows.items

@@ -9,6 +9,7 @@ ghost use Rattle.repl_peer.specs.peer.Peer.{written_of};
 ghost use Rattle.repl_peer.specs.peer.Local.{with_load, with_edit, stood_on};
 
 use crate::peer::written::Written;
+use crate::room::room_for_one;
 use couch_base::{BaseFault, Database, Put};
 use doc_json::{Body, Doc, DocId};
 use rev_core::{KeptRev, Rev};
@@ -67,7 +68,7 @@ fn prepare_id(locals: &mut Vec<Written>, id: &DocId) -> Result<DocId, AllocError
     ensures place { OnOk result (vec_len locals.new < vec_capacity locals.new) }
     ensures locals { locals.new.items ≡ locals.old.items }
 {
-    locals.reserve(1)?;
+    room_for_one(locals)?;
     id.copy(*locals.allocator())
 }
 

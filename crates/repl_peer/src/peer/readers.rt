@@ -3,7 +3,7 @@ use crate::peer::Peer;
 use crate::peer::filter::WriteFilter;
 use crate::peer::written::Written;
 use crate::session::refused::Refused;
-use couch_base::Window;
+use crate::session::window::StoredWindow;
 use range_front::Front;
 use rev_tree::SessionId;
 
@@ -11,6 +11,7 @@ impl<F: WriteFilter> Peer<F> {
     ghost use Rattle.std.specs.Prelude.{◌≡◌, ◌+◌, map, length, slice_get};
     ghost use Rattle.std.specs.Option.{option_copied, option_map};
     ghost use Rattle.repl_peer.specs.peer.Peer.{session_in};
+    ghost use Rattle.repl_peer.specs.session.Windows.{windows_of};
 
     /// The local writes, by their numbers.
     pub fn locals(&self) -> &[Written]
@@ -33,9 +34,10 @@ impl<F: WriteFilter> Peer<F> {
         self.sessions.id_at(place)
     }
 
-    /// The windows that a session stores, where the peer holds it.
-    pub fn windows(&self, id: SessionId) -> Option<&[Window]>
-        ensures { option_copied result ≡ option_map (λ s. s.windows) (session_in self.now.1.sessions id) }
+    /// The windows that a session stores, where the peer holds it. Those that are done are mostly not kept whole.
+    pub fn windows(&self, id: SessionId) -> Option<&[StoredWindow]>
+        ensures { option_map windows_of (option_copied result)
+            ≡ option_map (λ s. s.windows) (session_in self.now.1.sessions id) }
     {
         match self.sessions.find(id) {
             Some(session) => Some(&session.windows),

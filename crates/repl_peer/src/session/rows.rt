@@ -11,8 +11,8 @@ ghost use Rattle.repl_peer.specs.session.Settling.{seq_in};
 ghost use Rattle.repl_peer.specs.session.SettlingParts.{known_of, IsRowOf};
 
 use crate::session::ledger_index::LedgerIndex;
-use couch_base::{Database, Row, Wanted};
-use doc_json::{Doc, DocId};
+use couch_base::{Brought, Database, Row, Wanted};
+use doc_json::DocId;
 use rev_core::Rev;
 use rev_tree::Tree;
 
@@ -62,7 +62,7 @@ pub(crate) fn seq_from(rows: &[Row], id: &DocId, from: usize) -> (usize, u64)
 }
 
 /// Whether each document has a row.
-pub(crate) fn all_have_rows(rows: &[Row], docs: &[Doc]) -> bool
+pub(crate) fn all_have_rows(rows: &[Row], docs: &[Brought]) -> bool
     ensures { result ≡ list_all (λ d. list_any (λ row. bytes_eq row.id d.id) rows.now) docs.now }
 {
     let mut place = 0;

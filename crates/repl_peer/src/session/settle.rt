@@ -1,5 +1,5 @@
 //! Settling a parcel.
-ghost use Rattle.std.specs.Prelude.{◌≡◌, ◌<◌, ◌≤◌, ◌+◌, ◌-◌, ◌&&◌, ◌||◌, [], ◌∷◌, ◌++◌, Some, Ok, true, length, reverse, slice_get, OnOk, OnErr, IfOk, IfErr, MatchOption};
+ghost use Rattle.std.specs.Prelude.{◌≡◌, ◌<◌, ◌≤◌, ◌+◌, ◌-◌, ◌&&◌, ◌||◌, [], ◌∷◌, ◌++◌, Some, Ok, true, false, length, reverse, slice_get, OnOk, OnErr, IfOk, IfErr, MatchOption};
 ghost use Rattle.std.specs.List.{list_all};
 ghost use Rattle.std.specs.Vec.{vec_len, vec_capacity};
 ghost use Rattle.std.specs.Str.{bytes_eq};
@@ -9,7 +9,7 @@ ghost use Rattle.doc_json.specs.Document.{Document};
 ghost use Rattle.couch_base.specs.Database.{Id, most};
 ghost use Rattle.couch_base.specs.Feed.{WindowValue};
 ghost use Rattle.couch_base.specs.Put.{after_put};
-ghost use Rattle.range_front.specs.Front.{finish_answer};
+ghost use Rattle.range_front.specs.Front.{finish_answer, is_done};
 ghost use Rattle.repl_peer.specs.peer.Covered.{refusal_of, in_ledger};
 ghost use Rattle.repl_peer.specs.declared.session.ledger_index.LedgerIndex.{LedgerIndex};
 ghost use Rattle.repl_peer.specs.session.LedgerIndex.{is_ledgered};
@@ -19,12 +19,14 @@ ghost use Rattle.repl_peer.specs.session.SettlingParts.{PartsGive, Reached, Mark
 use crate::fault::{Cause, Reason, Settled, TargetFault};
 use crate::peer::filter::{Verdict, WriteFilter};
 use crate::peer::written::Written;
+use crate::room::room_for_one;
 use crate::session::Session;
 use crate::session::ledger_index::LedgerIndex;
 use crate::session::refused::Refused;
 use crate::session::rows::{first_unknown, seq_from};
 use crate::session::stored::{Checked, check};
-use couch_base::{BaseFault, Database, Parcel};
+use crate::session::window::let_leaves_go_at;
+use couch_base::{BaseFault, Brought, Database, Parcel};
 use doc_json::Doc;
 use rev_core::KeptRev;
 use rev_tree::Origin;
@@ -86,11 +88,14 @@ fn settle_in_order<F: WriteFilter>(
     ledgered: &mut LedgerIndex,
     session: &mut Session,
     place: usize,
-    docs: &mut Vec<Doc>,
+    docs: &mut Vec<Brought>,
 ) -> Result<(), Cause>
     requires rows { (w : WindowValue)
         × (slice_get session.old.windows place ≡ Some w)
         × (list_all (has_row w) docs.old.items ≡ true) }
+    requires remains { (w : WindowValue)
+        → slice_get session.old.windows place ≡ Some w
+        → is_done session.old.front w.lo w.hi ≡ false }
     requires room { session.old.counts.read + length docs.old.items ≤ most }
     ensures reached { (w : WindowValue)
         → slice_get session.old.windows place ≡ Some w
@@ -113,7 +118,7 @@ fn settle_in_order<F: WriteFilter>(
         let Some(doc) = docs.first() else {
             return Err(Cause::from(refused));
         };
-        return Err(cause_of(filter, db, doc, refused));
+        return Err(cause_of(filter, db, doc.doc(), refused));
     }
     docs.reverse();
     let settled = settle_from_end(filter, db, ledgered, session, place, docs);
@@ -130,11 +135,14 @@ fn settle_from_end<F: WriteFilter>(
     ledgered: &mut LedgerIndex,
     session: &mut Session,
     place: usize,
-    docs: &mut Vec<Doc>,
+    docs: &mut Vec<Brought>,
 ) -> Result<(), Cause>
     requires rows { (w : WindowValue)
         × (slice_get session.old.windows place ≡ Some w)
         × (list_all (has_row w) docs.old.items ≡ true) }
+    requires remains { (w : WindowValue)
+        → slice_get session.old.windows place ≡ Some w
+        → is_done session.old.front w.lo w.hi ≡ false }
     requires room { session.old.counts.read + length docs.old.items ≤ most }
     ensures reached { (w : WindowValue)
         → slice_get session.old.windows place ≡ Some w
@@ -152,7 +160,11 @@ fn settle_from_end<F: WriteFilter>(
 {
     let mut row = 0;
     while let Some(doc) = docs.last() {
-        let (found, seq) = seq_from(session.windows[place].rows(), doc.id(), row);
+        // Only done windows are not kept whole.
+        let Some(rows) = session.windows[place].rows() else {
+            unreachable!()
+        };
+        let (found, seq) = seq_from(rows, doc.id(), row);
         row = found;
         let origin = Origin::Feed(session.id, seq);
         settle_last(filter, db, ledgered, session, docs, origin)?;
@@ -167,7 +179,7 @@ fn settle_last<F: WriteFilter>(
     db: &mut Database,
     ledgered: &mut LedgerIndex,
     session: &mut Session,
-    docs: &mut Vec<Doc>,
+    docs: &mut Vec<Brought>,
     origin: Origin,
 ) -> Result<(), Cause>
     requires one { 0 < vec_len docs.old }
@@ -187,18 +199,31 @@ fn settle_last<F: WriteFilter>(
         → IndexesMore base session.old.ledger ledgered.old
         → IndexesMore base session.new.ledger ledgered.new }
 {
-    let doc = docs.last().unwrap();
-    let head = keep_head(filter, db, *session.arrivals.allocator(), doc)?;
-    let reason = decide(
+    let mut doc = docs.pop().unwrap();
+    let alloc = *session.arrivals.allocator();
+    let head = match keep_head(filter, db, alloc, doc.doc()) {
+        Ok(head) => head,
+        Err(cause) => {
+            docs.push_reserved(doc);
+            return Err(cause);
+        }
+    };
+    let reason = match decide(
         filter,
         db,
         ledgered,
         &mut session.arrivals,
         &mut session.ledger,
-        doc,
+        &mut doc,
         origin,
-    )?;
-    let doc = docs.pop().unwrap();
+    ) {
+        Ok(reason) => reason,
+        Err(cause) => {
+            docs.push_reserved(doc);
+            return Err(cause);
+        }
+    };
+    let doc = doc.into_doc();
     session.counts.read += 1;
     match reason {
         Some(reason) => {
@@ -234,38 +259,39 @@ fn keep_head<F: WriteFilter>(
 
 /// Puts a document, or answers why it is refused. Its arrival or its place in the ledger then needs no memory.
 ///
-/// An error changes nothing.
+/// It stays the same document. An error changes nothing.
 fn decide<F: WriteFilter>(
     filter: &F,
     db: &mut Database,
     ledgered: &mut LedgerIndex,
     arrivals: &mut Vec<Written>,
     ledger: &mut Vec<Refused>,
-    doc: &Doc,
+    brought: &mut Brought,
     origin: Origin,
 ) -> Result<Option<Reason>, Cause>
-    ensures reason { IfOk result (λ reason. reason ≡ refusal_of (F.refuses filter.now) db.old doc.now) }
+    ensures reason { IfOk result (λ reason. reason ≡ refusal_of (F.refuses filter.now) db.old brought.old) }
     ensures decided { IfOk result
-        (λ reason. MatchOption reason (Accepts doc.now origin db.old db.new ledgered.old ledgered.new)
-        (λ _. Rejects doc.now db.old db.new ledgered.old ledgered.new)) }
+        (λ reason. MatchOption reason (Accepts brought.old origin db.old db.new ledgered.old ledgered.new)
+        (λ _. Rejects brought.old db.old db.new ledgered.old ledgered.new)) }
     ensures place { IfOk result
         (λ reason. MatchOption reason (vec_len arrivals.new < vec_capacity arrivals.new)
         (λ _. vec_len ledger.new < vec_capacity ledger.new)) }
+    ensures same { brought.new ≡ brought.old }
     ensures arrivals { arrivals.new.items ≡ arrivals.old.items }
     ensures ledger { ledger.new.items ≡ ledger.old.items }
     ensures db { OnErr result (db.new ≡ db.old) }
     ensures index { OnErr result
         ((id : Id) (r : RevId) → is_ledgered ledgered.new id r ≡ is_ledgered ledgered.old id r) }
-    ensures why { IfErr result (λ cause. cause ≡ cause_at (stops_in (F.refuses filter.now) db.old doc.now)) }
+    ensures why { IfErr result (λ cause. cause ≡ cause_at (stops_in (F.refuses filter.now) db.old brought.old)) }
 {
-    if filter.verdict(doc) == Verdict::Refuse {
-        note_ledgered(ledgered, ledger, doc)?;
+    if is_refused(filter, brought) {
+        note_ledgered(ledgered, ledger, brought.doc())?;
         return Ok(Some(Reason::Filtered));
     }
-    if let Err(refused) = arrivals.reserve(1) {
-        return Err(cause_of(filter, db, doc, refused));
+    if let Err(refused) = room_for_one(arrivals) {
+        return Err(cause_of(filter, db, brought.doc(), refused));
     }
-    match db.put(doc, origin) {
+    match db.put_brought(brought, origin) {
         Ok(_) => Ok(None),
         Err(fault) => match fault {
             BaseFault::Contradiction {
@@ -273,7 +299,7 @@ fn decide<F: WriteFilter>(
                 known,
                 given,
             } => {
-                note_ledgered(ledgered, ledger, doc)?;
+                note_ledgered(ledgered, ledger, brought.doc())?;
                 Ok(Some(Reason::Contradicting {
                     child,
                     known,
@@ -283,6 +309,13 @@ fn decide<F: WriteFilter>(
             other => Err(Cause::from(other)),
         },
     }
+}
+
+/// Whether the filter refuses a document.
+fn is_refused<F: WriteFilter>(filter: &F, brought: &Brought) -> bool
+    ensures { result ≡ F.refuses filter.now brought.now }
+{
+    filter.verdict(brought.doc()) == Verdict::Refuse
 }
 
 /// Makes a place in the ledger, and adds a document's revisions to its index. A refusal changes nothing.
@@ -300,7 +333,7 @@ fn note_ledgered(
     ensures index { OnErr result
         ((id : Id) (r : RevId) → is_ledgered ledgered.new id r ≡ is_ledgered ledgered.old id r) }
 {
-    ledger.reserve(1)?;
+    room_for_one(ledger)?;
     ledgered.add(doc)
 }
 
@@ -327,7 +360,7 @@ fn mark_window(
     session: &mut Session,
     checked: Checked,
     settled: u64,
-    docs: Vec<Doc>,
+    docs: Vec<Brought>,
 ) -> Result<(), TargetFault>
     requires none_left { docs.items ≡ [] }
     requires stored { (w : WindowValue)
@@ -346,7 +379,11 @@ fn mark_window(
 {
     let window = &session.windows[checked.place];
     let (lo, hi) = (window.lo(), window.hi());
-    if let Some((row, rev)) = first_unknown(db, ledgered, window.rows()) {
+    // Only done windows are not kept whole.
+    let Some(rows) = window.rows() else {
+        unreachable!()
+    };
+    if let Some((row, rev)) = first_unknown(db, ledgered, rows) {
         let id = match row.id().copy(*session.windows.allocator()) {
             Ok(id) => id,
             Err(refused) => {
@@ -373,5 +410,6 @@ fn mark_window(
     }
     session.counts.checked += checked.leaves;
     session.counts.found += checked.asked;
+    let_leaves_go_at(&mut session.windows, checked.place);
     Ok(())
 }

@@ -5,11 +5,13 @@ ghost use Rattle.std.specs.List.Sorted.{IsPartitionPoint};
 ghost use Rattle.couch_base.specs.Database.{most};
 ghost use Rattle.repl_peer.specs.session.Settling.{settle_at, window_in};
 ghost use Rattle.repl_peer.specs.session.SettlingParts.{Consecutive, IsWindowAt, Passes};
+ghost use Rattle.repl_peer.specs.session.Windows.{windows_of};
 
 use crate::fault::TargetFault;
 use crate::session::Session;
-use crate::session::rows::{all_have_rows, asked_count, leaf_count};
-use couch_base::{MOST_SEQUENCE, Parcel, Window};
+use crate::session::rows::{asked_count, leaf_count};
+use crate::session::window::StoredWindow;
+use couch_base::{MOST_SEQUENCE, Parcel};
 
 /// The place of a parcel's window among the stored ones, how many leaves its rows name, and how many revisions the
 /// parcel asked for.
@@ -33,13 +35,17 @@ pub(crate) fn check(session: &Session, parcel: &Parcel) -> Result<Checked, Targe
     let Some(place) = find_window(&session.windows, lo, hi) else {
         return Err(TargetFault::ForeignParcel);
     };
-    let rows = session.windows[place].rows();
-    if !all_have_rows(rows, parcel.docs()) {
+    let window = &session.windows[place];
+    if !window.has_rows_of(parcel.docs()) {
         return Err(TargetFault::ForeignParcel);
     }
     if session.front.is_done(lo, hi) {
         return Err(TargetFault::AlreadyDone);
     }
+    // Only done windows are not kept whole.
+    let Some(rows) = window.rows() else {
+        unreachable!()
+    };
     let (leaves, asked) = (leaf_count(rows), asked_count(parcel.asked().docs()));
     let read = parcel.docs().len() as u64;
     if !has_room(session, read, leaves, asked) {
@@ -53,10 +59,10 @@ pub(crate) fn check(session: &Session, parcel: &Parcel) -> Result<Checked, Targe
 }
 
 /// The place of the stored window of some bounds.
-fn find_window(windows: &[Window], lo: u64, hi: u64) -> Option<usize>
-    requires { (start : ℕ) × Consecutive start windows.now }
-    ensures some { IfSome result (IsWindowAt windows.now lo hi) }
-    ensures none { IfNone result (find (λ w. (w.lo == lo) && (w.hi == hi)) windows.now ≡ None) }
+fn find_window(windows: &[StoredWindow], lo: u64, hi: u64) -> Option<usize>
+    requires { (start : ℕ) × Consecutive start (windows_of windows.now) }
+    ensures some { IfSome result (IsWindowAt (windows_of windows.now) lo hi) }
+    ensures none { IfNone result (find (λ w. (w.lo == lo) && (w.hi == hi)) (windows_of windows.now) ≡ None) }
 {
     let place = place_from(windows, lo);
     match windows.get(place) {
@@ -66,9 +72,9 @@ fn find_window(windows: &[Window], lo: u64, hi: u64) -> Option<usize>
 }
 
 /// The place of the first window that begins at a bound or above it.
-fn place_from(windows: &[Window], lo: u64) -> usize
-    requires { (start : ℕ) × Consecutive start windows.now }
-    ensures { IsPartitionPoint (λ w. w.lo < lo) (λ w. lo ≤ w.lo) windows.now result }
+fn place_from(windows: &[StoredWindow], lo: u64) -> usize
+    requires { (start : ℕ) × Consecutive start (windows_of windows.now) }
+    ensures { IsPartitionPoint (λ w. w.lo < lo) (λ w. lo ≤ w.lo) (windows_of windows.now) result }
 {
     windows.partition_point(|window| window.lo() < lo)
 }

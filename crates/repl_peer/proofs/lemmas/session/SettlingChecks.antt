@@ -3,10 +3,8 @@ use Rattle.std.proofs.Common.{◌≡◌, ℕ, ◌+◌, ◌-◌, ◌≤◌, ◌^�
 use Rattle.std.proofs.lemmas.Bool.{and_parts, eqb-true, leb-true, le-leb, lt-leb, cases_lt, eq-eqb, and_from, or_left, or_right, false≢true}
 use Rattle.std.proofs.lemmas.Option.{get_or_from_slice_get}
 use Rattle.std.specs.List.{find, list_all, list_any}
-use Rattle.std.specs.Str.{bytes_eq}
-use Rattle.doc_json.specs.Document.{Document}
 use Rattle.couch_base.specs.Database.{most}
-use Rattle.couch_base.specs.Feed.{RowValue, WindowValue}
+use Rattle.couch_base.specs.Feed.{WindowValue}
 use Rattle.couch_base.specs.MemberLaws.{found_member}
 use Rattle.couch_base.specs.ListLaws.{none_some, some_is}
 use Rattle.couch_base.specs.Messages.{ParcelValue}
@@ -41,11 +39,6 @@ found ws read lo hi low high place w same a b h is =
       lo_is = ap (λ (x : WindowValue). x.lo) (sym here) ∙ eqb-true _ _ parts.0;
       hi_is = ap (λ (x : WindowValue). x.hi) (sym here) ∙ eqb-true _ _ parts.1;
     }
-
-pub rows_tested : (w : WindowValue) (rows : List RowValue) (all docs : List Document) (result b : Bool) → rows ≡ w.rows → docs ≡ all
-    → result ≡ list_all (λ d. list_any (λ row. bytes_eq row.id d.id) rows) docs → result ≡ b → list_all (has_row w) all ≡ b
-rows_tested w rows all docs result b same read tested is =
-    sym (tested ∙ (λ i. list_all (λ (d : Document). list_any (λ row. bytes_eq row.id d.id) (same i)) (read i))) ∙ is
 
 -- ---- its answers
 

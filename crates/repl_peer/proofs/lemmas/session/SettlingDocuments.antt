@@ -6,7 +6,6 @@ use Rattle.std.proofs.lemmas.List.Folds.{list_any-append, list_all-append}
 use Rattle.std.specs.List.{list_all}
 use Rattle.std.proofs.Common.{get_or, length-drop}
 use Rattle.std.proofs.lemmas.List.{drop_more, take_more, take_all, reverse-reverse, reverse-append, length-reverse}
-use Rattle.std.proofs.lemmas.Option.{get_or_from_slice_get}
 use Rattle.std.specs.Option.{MatchOption}
 use Rattle.std.specs.Str.{bytes_eq}
 use Rattle.rev_core.specs.Ancestry.{is_among}
@@ -127,10 +126,6 @@ reached_all refuses w z after ds n h =
     }
 
 -- ---- what a loop reads
-
--- the window at a place
-pub window_is : (before now : List WindowValue) (place : ℕ) (w x : WindowValue) → before ≡ now → slice_get before place ≡ Some w → x ≡ get_or now place x → x ≡ w
-window_is before now place w x same at is = is ∙ get_or_from_slice_get now place w x (sym (ap (λ l. slice_get l place) same) ∙ at)
 
 -- the last document
 pub last_at : (read docs : List Document) (d : Document) → read ≡ docs → slice_get read (length read - 1) ≡ Some d → slice_get docs (length docs - 1) ≡ Some d

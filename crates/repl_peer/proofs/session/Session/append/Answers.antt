@@ -1,18 +1,24 @@
-use Rattle.std.proofs.Common.{◌≡◌, ◌≤◌, ◌++◌, ◌∷◌, [], sym, ◌∙◌, subst, rules}
-use Rattle.range_front.specs.Front.{FrontValue}
+use Rattle.std.proofs.Common.{◌≡◌, ◌≤◌, ◌++◌, ◌∷◌, [], true, refl, sym, ap, ◌∙◌, subst, rules}
+use Rattle.std.proofs.lemmas.List.{map_push}
+use Rattle.range_front.specs.Front.{FrontValue, appended}
+use Rattle.repl_peer.specs.session.Windows.{StoredWindowValue, windows_of, IsThinnedWhereDone}
+use Rattle.repl_peer.proofs.lemmas.session.StoredWindows.{thinned_grown}
 use Rattle.repl_peer.proofs.lemmas.session.SessionLaws.{bounds_grown}
 use Rattle.repl_peer.proofs.session.Session.append.Goals as goal
 
 pub invariant_of-self-2 : goal.invariant_of-self-2
 invariant_of-self-2 c =
-    let pushed : c.push.new.self.items ≡ c.reserve.new.self.items ++ c.args.window ∷ [] = search rules in
+    let stored : StoredWindowValue = record { window = c.args.window; whole = true } in
+    let pushed : c.push.new.self.items ≡ c.self.inside.windows.items ++ stored ∷ [] = search rules in
+    let windows : windows_of c.push.new.self.items ≡ windows_of c.self.inside.windows.items ++ c.args.window ∷ [] = ap windows_of pushed ∙ map_push (λ (v : StoredWindowValue). v.window) c.self.inside.windows.items stored in
     let f = c.self.inside.front.front in
     let at = sym c.lo.ensures.value ∙ c.if-lo-expected.false ∙ c.end-expected.ensures.value in
     record {
       front = c.append.ensures.front;
-      bounds = bounds_grown f c.append.new.self.front c.self.inside.windows.items c.reserve.new.self.items c.push.new.self.items c.args.window c.hi-hi.result c.self.invariant.bounds c.in_ok-reserve.ensures.items pushed at c.hi-hi.ensures.value c.in_ok-append.ensures.ok;
+      bounds = bounds_grown f c.append.new.self.front (windows_of c.self.inside.windows.items) (windows_of c.self.inside.windows.items) (windows_of c.push.new.self.items) c.args.window c.hi-hi.result c.self.invariant.bounds refl windows at c.hi-hi.ensures.value c.in_ok-append.ensures.ok;
       start = subst (λ (g : FrontValue). g.start ≤ c.self.inside.recorded) (sym c.in_ok-append.ensures.ok) c.self.invariant.start;
       read = c.self.invariant.read;
+      thinned = subst (λ (g : FrontValue). IsThinnedWhereDone g c.push.new.self.items) (sym c.in_ok-append.ensures.ok) (subst (IsThinnedWhereDone (appended f c.hi-hi.result)) (sym pushed) (thinned_grown f c.self.inside.windows.items c.args.window c.hi-hi.result c.self.invariant.thinned));
     }
 
 pub returns-then-hi-self-clause-answer : goal.returns-then-hi-self-clause-answer

@@ -7,4 +7,5 @@ invariant_of-self c = record {
   bounds = c.self.invariant.bounds;
   start = start_recorded c.self.inside.front.front c.low_water-mark.result c.self.invariant.front c.low_water-mark.ensures.value;
   read = c.self.invariant.read;
+  thinned = c.self.invariant.thinned;
 }

@@ -1,4 +1,4 @@
-use Rattle.std.proofs.Common.{◌≡◌, ◌∷◌, ◌+◌, ◌-◌, ◌≤◌, [], ℕ, Some, List, length, length-append, reverse, slice_get, true, sym, ap, ◌∙◌, subst, arith}
+use Rattle.std.proofs.Common.{◌≡◌, ◌∷◌, ◌+◌, ◌-◌, ◌≤◌, [], ℕ, Some, List, length, length-append, reverse, slice_get, true, false, is_some, sym, ap, ◌∙◌, subst, arith}
 use Rattle.std.proofs.lemmas.List.{reverse-append}
 use Rattle.std.specs.List.{list_any}
 use Rattle.std.specs.Str.{bytes_eq}
@@ -6,22 +6,36 @@ use Rattle.rev_tree.specs.declared.origin.Origin.{Origin}
 use Rattle.rev_tree.specs.declared.origin.Origin.TheVariants.{Feed}
 use Rattle.doc_json.specs.Document.{Document}
 use Rattle.couch_base.specs.Feed.{WindowValue, RowValue}
+use Rattle.std.proofs.lemmas.Bool.{false≢true}
+use Rattle.range_front.specs.Front.{FrontValue, is_done}
 use Rattle.repl_peer.specs.peer.Peer.{SessionValue}
+use Rattle.repl_peer.specs.session.Stored.{session_value}
 use Rattle.repl_peer.specs.session.Settling.{Settling, has_row, seq_in}
 use Rattle.repl_peer.specs.session.SettlingParts.{Reached, settling_at}
 use Rattle.couch_base.specs.MemberLaws.{all_member}
 use Rattle.repl_peer.proofs.lemmas.Members.{Among-at}
 use Rattle.repl_peer.proofs.lemmas.session.RowsInTurn.{all_before}
-use Rattle.repl_peer.proofs.lemmas.session.SettlingDocuments.{window_is, last_at, last_is, reached_next}
+use Rattle.repl_peer.proofs.lemmas.session.SettlingDocuments.{last_at, last_is, reached_next}
+use Rattle.repl_peer.proofs.lemmas.session.StoredWindows.{stored_at, whole_at}
 use Rattle.repl_peer.proofs.session.settle.settle_from_end.Goals as goal
+
+pub unreachable-requires : goal.unreachable-requires
+unreachable-requires g c =
+    let stored = c.requires.rows in
+    let s = session_value c.session.inside in
+    let at : slice_get s.windows c.args.place ≡ Some stored.0 = ap (λ (ws : List WindowValue). slice_get ws c.args.place) (ap (λ (s : SessionValue). s.windows) c.session.view_is ∙ c.loop-doc.invariant.windows) ∙ stored.1 in
+    let front : s.front ≡ c.args.session.now.front = ap (λ (s : SessionValue). s.front) c.session.view_is ∙ c.loop-doc.invariant.front in
+    let remains : is_done s.front stored.0.lo stored.0.hi ≡ false = ap (λ (f : FrontValue). is_done f stored.0.lo stored.0.hi) front ∙ c.requires.remains stored.0 stored.1 in
+    let whole = whole_at s.front c.session.inside.windows.items c.args.place stored.0 c.index.result.now c.session.invariant.thinned at c.index.ensures remains in
+    false≢true (ap is_some (sym c.in_default-rows.is) ∙ c.rows.ensures.whole ∙ whole)
 
 pub seq_from-found-requires-clause-there : goal.seq_from-found-requires-clause-there
 seq_from-found-requires-clause-there g c =
     let stored = c.requires.rows in
-    let same = window_is c.args.session.now.windows c.session.inside.windows.items c.args.place stored.0 c.index.result.now (sym (ap (λ (s : SessionValue). s.windows) c.session.view_is ∙ c.loop-doc.invariant.windows)) stored.1 c.index.ensures in
+    let same = (stored_at c.session.inside.windows.items c.args.place stored.0 c.index.result.now (ap (λ (ws : List WindowValue). slice_get ws c.args.place) (ap (λ (s : SessionValue). s.windows) c.session.view_is ∙ c.loop-doc.invariant.windows) ∙ stored.1) c.index.ensures).window in
     let at = last_at c.deref.result.now c.loop-doc.docs.items c.in-Some.doc.now c.deref.ensures.value (sym c.in-Some.ensures.value) in
     let there : has_row stored.0 c.in-Some.doc.now ≡ true = all_member (has_row stored.0) c.in-Some.doc.now c.loop-doc.docs.items (c.loop-doc.invariant.rows stored.0 stored.1) (Among-at c.loop-doc.docs.items _ c.in-Some.doc.now at) in
-    subst (λ (rows : List RowValue). list_any (λ row. bytes_eq row.id c.id.result.now) rows ≡ true) (ap (λ (w : WindowValue). w.rows) (sym same) ∙ sym c.rows.ensures.value)
+    subst (λ (rows : List RowValue). list_any (λ row. bytes_eq row.id c.id.result.now) rows ≡ true) (ap (λ (w : WindowValue). w.rows) (sym same) ∙ sym c.in-Some-rows.ensures.rows)
     (subst (λ (i : List ℕ). list_any (λ row. bytes_eq row.id i) stored.0.rows ≡ true) (sym c.id.ensures.part) there)
 
 pub loop-doc-preserved : goal.loop-doc-preserved
@@ -39,9 +53,9 @@ loop-doc-preserved g c =
     let turned : reverse docs ≡ step.0 ∷ reverse others = ap reverse step.1 ∙ reverse-append others (step.0 ∷ []) in
     let inv = c.loop-doc.invariant in
     let window = λ (w : WindowValue) (is : slice_get c.args.session.now.windows c.args.place ≡ Some w).
-    window_is c.args.session.now.windows c.session.inside.windows.items c.args.place w c.index.result.now (sym (ap (λ (s : SessionValue). s.windows) c.session.view_is ∙ inv.windows)) is c.index.ensures in
+    (stored_at c.session.inside.windows.items c.args.place w c.index.result.now (ap (λ (ws : List WindowValue). slice_get ws c.args.place) (ap (λ (s : SessionValue). s.windows) c.session.view_is ∙ inv.windows) ∙ is) c.index.ensures).window in
     let rows = λ (w : WindowValue) (is : slice_get c.args.session.now.windows c.args.place ≡ Some w).
-    c.rows.ensures.value ∙ ap (λ (v : WindowValue). v.rows) (window w is) in
+    c.in-Some-rows.ensures.rows ∙ ap (λ (v : WindowValue). v.rows) (window w is) in
     record {
       reached = λ w is.
           let origin : c.seq_from-found.result.1 ≡ seq_in w.rows step.0.id = c.seq_from-found.ensures.seq ∙ (λ i. seq_in (rows w is i) ((c.id.ensures.part ∙ ap (λ (d : Document). d.id) same) i)) in

@@ -2,10 +2,11 @@ use Rattle.std.proofs.Common.{◌≡◌, ◌-◌, Some, List, slice_get, length,
 use Rattle.std.proofs.lemmas.List.{length-reverse}
 use Rattle.doc_json.specs.Document.{Document}
 use Rattle.couch_base.specs.Feed.{WindowValue}
+use Rattle.range_front.specs.Front.{FrontValue, is_done}
 use Rattle.repl_peer.specs.peer.Peer.{SessionValue}
 use Rattle.repl_peer.specs.session.Stored.{session_value}
-use Rattle.repl_peer.specs.session.Settling.{has_row}
-use Rattle.repl_peer.specs.session.SettlingParts.{settling_at, IndexesMore, Reached}
+use Rattle.repl_peer.specs.session.Settling.{has_row, stops_in}
+use Rattle.repl_peer.specs.session.SettlingParts.{settling_at, IndexesMore, Reached, cause_at}
 use Rattle.repl_peer.proofs.lemmas.session.SettlingDocuments.{reached_turned, halts_first, halts_from, all_turned, IfErr_then}
 use Rattle.repl_peer.proofs.session.settle.settle_in_order.Given.{Over}
 use Rattle.repl_peer.proofs.session.settle.settle_in_order.Goals as goal
@@ -14,6 +15,11 @@ pub settle_from_end-settled-requires-clause-rows : goal.settle_from_end-settled-
 settle_from_end-settled-requires-clause-rows g c =
     let stored = c.requires.rows in
     (stored.0, subst (λ (s : SessionValue). slice_get s.windows c.args.place ≡ Some stored.0) (sym c.session.view_is) stored.1, all_turned (has_row stored.0) c.args.docs.now.items c.reverse.new.self.items c.reverse.ensures.items stored.2)
+
+pub settle_from_end-settled-requires-clause-remains : goal.settle_from_end-settled-requires-clause-remains
+settle_from_end-settled-requires-clause-remains g c = λ w at.
+    ap (λ (f : FrontValue). is_done f w.lo w.hi) (c.reserve.ensures.kept ∙ ap (λ (s : SessionValue). s.front) c.session.view_is)
+    ∙ c.requires.remains w (subst (λ (s : SessionValue). slice_get s.windows c.args.place ≡ Some w) c.session.view_is at)
 
 reached : (g : Over) (c : goal.After-reverse-2 g) (w : WindowValue) → slice_get c.args.session.now.windows c.args.place ≡ Some w
     → Reached (g.F.WriteFilter.refuses c.args.filter.now) w (settling_at c.args.db.now c.args.session.now) c.args.docs.now.items (length c.args.docs.now.items - length c.reverse-2.new.self.items) c.reverse-2.new.self.items (settling_at c.settle_from_end-settled.new.db c.settle_from_end-settled.new.session)
@@ -41,7 +47,8 @@ returns-clause-why g c =
 pub returns-in-Err-clause-why : goal.returns-in-Err-clause-why
 returns-in-Err-clause-why g c = λ w is.
     halts_first (g.F.WriteFilter.refuses c.args.filter.now) w (settling_at c.args.db.now c.args.session.now) c.args.docs.now.items _ c.in-Some.doc.now c.cause_of.result (omega arith)
-    (c.in-Some.ensures.value ∙ ap (λ (l : List Document). slice_get l 0) c.deref.ensures.value) c.cause_of.ensures
+    (c.in-Some.ensures.value ∙ ap (λ (l : List Document). slice_get l 0) c.deref.ensures.value)
+    (c.cause_of.ensures ∙ ap (λ (d : Document). cause_at (stops_in (g.F.WriteFilter.refuses c.args.filter.now) c.args.db.now d)) c.doc.ensures)
 
 pub returns-clause-indexed : goal.returns-clause-indexed
 returns-clause-indexed g c = λ base h.

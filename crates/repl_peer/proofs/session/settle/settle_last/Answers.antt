@@ -1,25 +1,20 @@
-use Rattle.std.proofs.Common.{◌≡◌, ◌++◌, ◌∷◌, ◌-◌, [], List, Some, Option, MatchOption, length, slice_get, refl, sym, ap, ◌∙◌, subst, rules}
-use Rattle.std.specs.Option.{option_copied, option_to_list}
-use Rattle.doc_json.specs.Document.{Document}
+use Rattle.std.proofs.Common.{◌≡◌, ◌++◌, ◌∷◌, [], List, Some, Option, MatchOption, refl, sym, ap, ◌∙◌, subst, rules}
 use Rattle.repl_peer.specs.peer.Peer.{RefusedValue, SessionValue}
 use Rattle.repl_peer.specs.session.SettlingParts.{Accepts, Rejects, IndexesMore, entered}
 use Rattle.repl_peer.specs.declared.fault.Reason.{Reason}
-use Rattle.repl_peer.proofs.lemmas.session.SettlingDocuments.{indexes_from, last_is}
+use Rattle.repl_peer.proofs.lemmas.session.SettlingDocuments.{indexes_from}
 use Rattle.repl_peer.proofs.session.settle.settle_last.Goals as goal
 
 pub returns-in-Some-clause-indexed : goal.returns-in-Some-clause-indexed
 returns-in-Some-clause-indexed g c = λ base h.
     let s = c.args.session.now in
-    let doc = c.unwrap-doc.result.now in
+    let doc = c.unwrap-doc.result in
     let reason = c.in-Some.reason in
-    let all = c.args.docs.now.items in
-    let split = c.pop.ensures.items ∙ ap (λ o. c.pop.new.self.items ++ option_to_list o) c.unwrap-doc-2.ensures in
-    let at = sym (subst (λ (l : List Document). option_copied c.last.result ≡ slice_get l (length l - 1)) c.deref.ensures.value c.last.ensures.value) ∙ ap option_copied c.unwrap-doc.ensures in
-    let same : doc ≡ c.unwrap-doc-2.result = last_is all c.pop.new.self.items c.unwrap-doc-2.result doc split at in
-    let pushed : c.push.new.self.items ≡ c.decide.new.ledger.items ++ record { doc = c.unwrap-doc-2.result; reason = reason } ∷ [] = search rules in
+    let same : c.into_doc-doc.result ≡ doc = c.into_doc-doc.ensures ∙ c.decide.ensures.same in
+    let pushed : c.push.new.self.items ≡ c.decide.new.ledger.items ++ record { doc = c.into_doc-doc.result; reason = reason } ∷ [] = search rules in
     let grown : c.push.new.self.items ≡ s.ledger ++ record { doc = doc; reason = reason } ∷ [] =
-    pushed ∙ (λ i. (c.decide.ensures.ledger ∙ ap (λ (x : SessionValue). x.ledger) c.session.view_is) i ++ record { doc = sym same i; reason = reason } ∷ []) in
-    let decided = subst (λ (o : Option Reason). MatchOption o (Accepts doc c.args.origin c.args.db.now c.decide.new.db c.args.ledgered.now c.decide.new.ledgered) (λ _. Rejects doc c.args.db.now c.decide.new.db c.args.ledgered.now c.decide.new.ledgered)) c.in-Some.is c.in_ok-reason.ensures.decided in
+    pushed ∙ (λ i. (c.decide.ensures.ledger ∙ ap (λ (x : SessionValue). x.ledger) c.session.view_is) i ++ record { doc = same i; reason = reason } ∷ []) in
+    let decided = subst (λ (o : Option Reason). MatchOption o (Accepts doc c.args.origin c.args.db.now c.decide.new.db c.args.ledgered.now c.decide.new.ledgered) (λ _. Rejects doc c.args.db.now c.decide.new.db c.args.ledgered.now c.decide.new.ledgered)) c.in-Some.is c.in-Ok-decide.ensures.decided in
     subst (λ (l : List RefusedValue). IndexesMore base l c.decide.new.ledgered) (sym grown)
     (indexes_from c.args.origin doc c.args.db.now c.decide.new.db c.args.ledgered.now c.decide.new.ledgered base (Some reason) s (entered doc (Some reason) s) decided refl h)
 

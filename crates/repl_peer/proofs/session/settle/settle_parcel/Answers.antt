@@ -1,10 +1,11 @@
-use Rattle.std.proofs.Common.{◌≡◌, ◌+◌, ◌-◌, ◌≤◌, ℕ, List, Some, Ok, length, slice_get, true, sym, ap, ◌∙◌, subst, arith}
+use Rattle.std.proofs.Common.{◌≡◌, ◌+◌, ◌-◌, ◌≤◌, ℕ, List, Some, Ok, length, slice_get, true, false, sym, ap, ◌∙◌, subst, arith}
+use Rattle.std.proofs.lemmas.Option.{same_Some}
 use Rattle.doc_json.specs.Document.{Document}
 use Rattle.couch_base.specs.Database.{most}
 use Rattle.couch_base.specs.Feed.{WindowValue}
 use Rattle.couch_base.specs.Messages.{ParcelValue}
 use Rattle.std.specs.List.{list_all}
-use Rattle.range_front.specs.Front.{FrontValue, bounds, finish_answer}
+use Rattle.range_front.specs.Front.{FrontValue, bounds, is_done, finish_answer}
 use Rattle.repl_peer.specs.peer.Covered.{in_ledger}
 use Rattle.repl_peer.specs.peer.Peer.{RefusedValue, SessionValue}
 use Rattle.repl_peer.specs.peer.Law.{window_bounds}
@@ -21,6 +22,13 @@ settle_in_order-stop-requires-clause-rows g c =
     let p = c.in_ok-checked.ensures.ok in
     let q = passed_by c.args.session.now c.args.parcel _ _ _ p in
     (p.window, p.at, subst (λ (l : List Document). list_all (has_row p.window) l ≡ true) docs q.rows)
+
+pub settle_in_order-stop-requires-clause-remains : goal.settle_in_order-stop-requires-clause-remains
+settle_in_order-stop-requires-clause-remains g c = λ w at.
+    let p = c.in_ok-checked.ensures.ok in
+    let q = passed_by c.args.session.now c.args.parcel _ _ _ p in
+    let same = same_Some p.window w (sym p.at ∙ at) in
+    subst (λ (v : WindowValue). is_done c.args.session.now.front v.lo v.hi ≡ false) same q.remains
 
 pub settle_in_order-stop-requires-clause-room : goal.settle_in_order-stop-requires-clause-room
 settle_in_order-stop-requires-clause-room g c =

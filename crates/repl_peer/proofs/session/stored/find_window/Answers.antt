@@ -1,36 +1,42 @@
-use Rattle.std.proofs.Common.{◌==◌, is_some, refl, sym, ap, ◌∙◌}
+use Rattle.std.proofs.Common.{◌==◌, is_some, refl, sym, ap, ◌∙◌, arith}
 use Rattle.std.proofs.lemmas.Bool.{and_left, and_right, ne_eqb, ltb-true, lt-ltb, false≢true}
 use Rattle.std.proofs.lemmas.Option.{slice_get_within, slice_get_read, same_Some}
+use Rattle.std.proofs.lemmas.List.{length-map}
 use Rattle.couch_base.specs.Feed.{WindowValue}
+use Rattle.repl_peer.specs.session.Windows.{StoredWindowValue, windows_of}
 use Rattle.repl_peer.proofs.lemmas.session.WindowsFound.{window_at, no_window}
+use Rattle.repl_peer.proofs.lemmas.session.StoredWindows.{window_at_place}
 use Rattle.repl_peer.proofs.session.stored.find_window.Goals as goal
 
 pub returns-in-Some-clause-some : goal.returns-in-Some-clause-some
 returns-in-Some-clause-some c =
-    let w = c.in-Some.window.now in
+    let v = c.in-Some.window.now in
+    let w = v.window in
     let look = c.in-Some.ensures.lookup in
-    let at = slice_get_read c.args.windows.now _ c.place_from-place.result w refl (ltb-true _ _ (sym look.0)) look.1 in
-    window_at c.requires.0 c.args.windows.now c.args.lo c.args.hi c.place_from-place.result w c.place_from-place.ensures at (sym c.lo.ensures.value ∙ c.if-lo.true) (sym c.hi.ensures.value ∙ c.if-hi.true)
+    let at = window_at_place c.args.windows.now c.place_from-place.result v (slice_get_read c.args.windows.now _ c.place_from-place.result v refl (ltb-true _ _ (sym look.0)) look.1) in
+    window_at c.requires.0 (windows_of c.args.windows.now) c.args.lo c.args.hi c.place_from-place.result w c.place_from-place.ensures at (sym c.lo.ensures.value ∙ c.if-lo.true) (sym c.hi.ensures.value ∙ c.if-hi.true)
 
 pub returns-in_default-clause-none : goal.returns-in_default-clause-none
 returns-in_default-clause-none c =
-    let w = c.in-Some.window.now in
+    let v = c.in-Some.window.now in
+    let w = v.window in
     let look = c.in-Some.ensures.lookup in
-    let at = slice_get_read c.args.windows.now _ c.place_from-place.result w refl (ltb-true _ _ (sym look.0)) look.1 in
-    no_window c.requires.0 c.args.windows.now c.args.lo c.args.hi c.place_from-place.result c.requires.1 c.place_from-place.ensures
-    (λ v so. let same = same_Some w v (sym at ∙ so) in
-    and_right (v.lo == c.args.lo) (v.hi == c.args.hi) (ne_eqb v.hi c.args.hi (λ e. c.if-hi.false (c.hi.ensures.value ∙ ap (λ (y : WindowValue). y.hi) same ∙ e))))
+    let at = window_at_place c.args.windows.now c.place_from-place.result v (slice_get_read c.args.windows.now _ c.place_from-place.result v refl (ltb-true _ _ (sym look.0)) look.1) in
+    no_window c.requires.0 (windows_of c.args.windows.now) c.args.lo c.args.hi c.place_from-place.result c.requires.1 c.place_from-place.ensures
+    (λ u so. let same = same_Some w u (sym at ∙ so) in
+    and_right (u.lo == c.args.lo) (u.hi == c.args.hi) (ne_eqb u.hi c.args.hi (λ e. c.if-hi.false (c.hi.ensures.value ∙ ap (λ (y : WindowValue). y.hi) same ∙ e))))
 
 pub returns-in_default-2-clause-none : goal.returns-in_default-2-clause-none
 returns-in_default-2-clause-none c =
-    let w = c.in-Some.window.now in
+    let v = c.in-Some.window.now in
+    let w = v.window in
     let look = c.in-Some.ensures.lookup in
-    let at = slice_get_read c.args.windows.now _ c.place_from-place.result w refl (ltb-true _ _ (sym look.0)) look.1 in
-    no_window c.requires.0 c.args.windows.now c.args.lo c.args.hi c.place_from-place.result c.requires.1 c.place_from-place.ensures
-    (λ v so. let same = same_Some w v (sym at ∙ so) in
-    and_left (v.lo == c.args.lo) (v.hi == c.args.hi) (ne_eqb v.lo c.args.lo (λ e. c.if-lo.false (c.lo.ensures.value ∙ ap (λ (y : WindowValue). y.lo) same ∙ e))))
+    let at = window_at_place c.args.windows.now c.place_from-place.result v (slice_get_read c.args.windows.now _ c.place_from-place.result v refl (ltb-true _ _ (sym look.0)) look.1) in
+    no_window c.requires.0 (windows_of c.args.windows.now) c.args.lo c.args.hi c.place_from-place.result c.requires.1 c.place_from-place.ensures
+    (λ u so. let same = same_Some w u (sym at ∙ so) in
+    and_left (u.lo == c.args.lo) (u.hi == c.args.hi) (ne_eqb u.lo c.args.lo (λ e. c.if-lo.false (c.lo.ensures.value ∙ ap (λ (y : WindowValue). y.lo) same ∙ e))))
 
 pub returns-in_default-3-clause-none : goal.returns-in_default-3-clause-none
 returns-in_default-3-clause-none c =
-    no_window c.requires.0 c.args.windows.now c.args.lo c.args.hi c.place_from-place.result c.requires.1 c.place_from-place.ensures
-    (λ v so. absurd (false≢true (ap is_some (sym c.in_default.is) ∙ c.get.ensures.lookup.0 ∙ lt-ltb _ _ (slice_get_within c.args.windows.now c.place_from-place.result v so))))
+    no_window c.requires.0 (windows_of c.args.windows.now) c.args.lo c.args.hi c.place_from-place.result c.requires.1 c.place_from-place.ensures
+    (λ u so. absurd (false≢true (ap is_some (sym c.in_default.is) ∙ c.get.ensures.lookup.0 ∙ lt-ltb _ _ (let there = slice_get_within (windows_of c.args.windows.now) c.place_from-place.result u so in omega (arith, there, length-map c.args.windows.now (λ (v : StoredWindowValue). v.window))))))

@@ -1,12 +1,12 @@
 use Rattle.std.proofs.Common.{ltb, ltb-true, rules}
 use Rattle.std.proofs.lemmas.Bool.{ltb-false}
 use Rattle.std.proofs.lemmas.List.Sorted.{IsPartitionPoint-from_clause, IsPartitionedBy-ltb}
-use Rattle.couch_base.specs.Feed.{WindowValue}
-use Rattle.repl_peer.proofs.lemmas.session.WindowsFound.{rises}
+use Rattle.repl_peer.specs.session.Windows.{StoredWindowValue}
+use Rattle.repl_peer.proofs.lemmas.session.StoredWindows.{rises_stored, point_stored}
 use Rattle.repl_peer.proofs.session.stored.place_from.Goals as goal
 
 pub returns : goal.returns
 returns c =
-    let parted = IsPartitionedBy-ltb (λ (w : WindowValue). w.lo) _ c.args.lo (λ i j d le h. rises c.requires.0 c.args.windows.now i j d c.requires.1 le h) in
-    let point = IsPartitionPoint-from_clause (λ (w : WindowValue). ltb w.lo c.args.lo) _ _ c.partition_point.ensures.partitioned parted (λ a r q k. search rules) in
-    ((λ k d low h. ltb-true _ _ (point.0 k d low h)), (λ k d low h. ltb-false _ _ (point.1 k d low h)))
+    let parted = IsPartitionedBy-ltb (λ (v : StoredWindowValue). v.window.lo) _ c.args.lo (λ i j d le h. rises_stored c.requires.0 c.args.windows.now i j d c.requires.1 le h) in
+    let point = IsPartitionPoint-from_clause (λ (v : StoredWindowValue). ltb v.window.lo c.args.lo) _ _ c.partition_point.ensures.partitioned parted (λ a r q k. search rules) in
+    point_stored c.args.windows.now c.args.lo _ c.partition_point.ensures.bound ((λ k d low h. ltb-true _ _ (point.0 k d low h)), (λ k d low h. ltb-false _ _ (point.1 k d low h)))

@@ -1,0 +1,14 @@
+use Rattle.std.proofs.Common.{◌≡◌, true, sym, ap, ◌∙◌}
+use Rattle.std.specs.List.{list_any}
+use Rattle.std.specs.Str.{bytes_eq}
+use Rattle.couch_base.specs.Feed.{RowValue, WindowValue}
+use Rattle.repl_peer.specs.session.Settling.{has_row}
+use Rattle.repl_peer.proofs.lemmas.session.RowsInTurn.{all_later}
+use Rattle.repl_peer.proofs.session.window.DoneWindow.has_rows_of.Goals as goal
+
+pub loop-doc-preserved : goal.loop-doc-preserved
+loop-doc-preserved c =
+    let w = c.args.self.now in
+    let rows = c.deref.ensures.value ∙ ap (λ (v : WindowValue). v.rows) c.self.view_is in
+    let found : has_row w c.doc-item.result ≡ true = (λ i. list_any (λ (row : RowValue). bytes_eq row.id (sym c.id.ensures.part i)) (sym rows i)) ∙ sym c.has_done_row.ensures ∙ c.if-not-has_done_row.false in
+    sym (all_later (has_row w) c.args.docs.now c.loop-doc.doc-index c.doc-item.result c.loop-doc-test.true c.doc-item.is found) ∙ c.loop-doc.invariant

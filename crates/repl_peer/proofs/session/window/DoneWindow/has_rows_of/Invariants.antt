@@ -1,0 +1,8 @@
+use Rattle.std.proofs.Common.{◌≡◌, drop}
+use Rattle.std.specs.List.{list_all}
+use Rattle.repl_peer.specs.session.Settling.{has_row}
+use Rattle.repl_peer.proofs.session.window.DoneWindow.has_rows_of.Given as goal
+
+-- the others decide
+abbrev pub invariant-loop-doc : goal.invariant-loop-doc
+invariant-loop-doc l = list_all (has_row l.self) (drop l.doc-index l.docs) ≡ list_all (has_row l.self) l.docs

@@ -1,0 +1,8 @@
+use Rattle.std.proofs.Common.{◌≡◌, drop}
+use Rattle.std.specs.List.{list_any}
+use Rattle.std.specs.Str.{bytes_eq}
+use Rattle.repl_peer.proofs.session.window.has_done_row.Given as goal
+
+-- the others decide
+abbrev pub invariant-loop-row : goal.invariant-loop-row
+invariant-loop-row l = list_any (λ row. bytes_eq row.id l.id) (drop l.row-index l.rows) ≡ list_any (λ row. bytes_eq row.id l.id) l.rows

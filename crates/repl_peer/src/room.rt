@@ -1,0 +1,17 @@
+//! Room in lists that mostly have one item.
+ghost use Rattle.std.specs.Prelude.{◌≡◌, ◌<◌, OnOk};
+ghost use Rattle.std.specs.Vec.{vec_len, vec_capacity};
+
+use std::alloc::AllocError;
+
+/// Makes room for one more item: in an empty list for that one alone, else as lists grow. A refusal changes nothing.
+pub(crate) fn room_for_one<T>(list: &mut Vec<T>) -> Result<(), AllocError>
+    ensures items { list.new.items ≡ list.old.items }
+    ensures room { OnOk result (vec_len list.new < vec_capacity list.new) }
+{
+    if list.is_empty() {
+        list.reserve_exact(1)
+    } else {
+        list.reserve(1)
+    }
+}
