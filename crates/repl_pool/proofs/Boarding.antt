@@ -1,5 +1,5 @@
 -- What seats at a board show, as they go out and come back.
-use Rattle.std.proofs.Common.{◌≡◌, ℕ, ◌+◌, List, [], ◌∷◌, ◌++◌, length, Option, None, Some, option_to_list, All, refl, sym, ap, ◌∙◌, subst, arith}
+use Rattle.std.proofs.Common.{◌≡◌, ℕ, ◌+◌, ◌≤◌, List, [], ◌∷◌, ◌++◌, length, Option, None, Some, option_to_list, All, refl, sym, ap, ◌∙◌, subst, arith}
 use Rattle.std.proofs.lemmas.List.{append-nil, append_assoc}
 use Rattle.std.proofs.lemmas.List.Elements.{All-nil, All-cons, All-head, All-tail}
 use Rattle.progress_board.specs.declared.board.Board.{Board}
@@ -75,6 +75,11 @@ module _ (b : Board) where
 pub seats_seated : (board : Option Board) (out workers : ℕ) (xs : List BoardSeat) → AreSeats board out workers xs → AreSeated board xs
 seats_seated None out workers xs h = h
 seats_seated (Some b) out workers xs h = h.1
+
+-- so many are enough for fewer
+pub seats_fewer : (board : Option Board) (m n : ℕ) (xs : List BoardSeat) → m ≤ n → AreSeats board 0 n xs → AreSeats board 0 m xs
+seats_fewer None m n xs less h = h
+seats_fewer (Some b) m n xs less h = (omega (arith, less, h.0), h.1)
 
 pub seated_parts : (board : Option Board) (ps rs : List BoardSeat) → AreSeated board (ps ++ rs) → AreSeated board ps × AreSeated board rs
 seated_parts None ps rs h = no_parts ps rs h

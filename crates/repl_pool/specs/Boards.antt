@@ -49,10 +49,10 @@ abbrev pub AreSeated : Option Board → List BoardSeat → Type 0
 AreSeated None seats = seats ≡ []
 AreSeated (Some b) seats = All (WorksAt b) seats
 
--- with a board, seats of its workers, which with `out` others are one for each worker; without one, none
+-- with a board, seats of its workers, which with `out` others are one for each worker or more; without one, none
 abbrev pub AreSeats : Option Board → ℕ → ℕ → List BoardSeat → Type 0
 AreSeats None out workers seats = seats ≡ []
-AreSeats (Some b) out workers seats = (length seats + out ≡ workers) × All (WorksAt b) seats
+AreSeats (Some b) out workers seats = (workers ≤ length seats + out) × All (WorksAt b) seats
 
 -- the seats come back
 abbrev pub AreBack : Option Board → List BoardSeat → List BoardSeat → Type 0

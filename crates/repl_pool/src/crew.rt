@@ -110,6 +110,7 @@ impl<
     ) -> Result<PromisedHandle<Writer<S, L>, WriterPromise<'e, S, G>>, Option<BoardSeat>>
     where
         'e: 's,
+        requires source { S.source ≡ self.now.source.now.1.db }
         requires others { others < 64 }
         requires whole { IsSeatAt (sends_on self.now.channels.now.to_writers) whole.old
             × (0 < (view whole.old).parts) }
@@ -134,6 +135,7 @@ impl<
             seat: Snapshot::of(&seat),
         };
         let work = move || -> Writer<S, L>
+            requires source { S.source ≡ context.now.source.now.1.db }
             requires parcels { IsSeatAt (sends_on context.now.channels.now.to_writers) parcels
                 × (view parcels ≡ parcel_view 1 [] []) }
             requires share { (share.parts ≡ 1) × (share.amount ≡ 0) }

@@ -12,7 +12,7 @@ use crate::brands::{SourceBrand, TargetBrand};
 use crate::context::Context;
 use crate::fault::Halt;
 use crate::gate::{Gate, Place, Turn};
-use crate::messages::{Fetched, Paged};
+use crate::messages::{Found, Paged};
 use crate::parcels::{ParcelMessage, ParcelPass, ParcelSender, Sends};
 use crate::windows::{Takes, WindowMessage, WindowPass};
 use couch_base::{Asked, MOST_SEQUENCE};
@@ -50,7 +50,7 @@ fn put<S: SourceBrand, R: Wait>(
     parcels: &ParcelSender<S>,
     pass: &mut ParcelPass<S>,
     number: u64,
-    fetched: Fetched<S>,
+    fetched: Found<S>,
 ) -> bool
     requires seat { IsSeatAt (sends_on parcels.now) pass.old }
     requires part { 0 < (view pass.old).parts }
@@ -73,7 +73,7 @@ impl<S: SourceBrand> Fetcher<S> {
         rt: &R,
         parcels: &ParcelSender<S>,
         number: u64,
-        fetched: Fetched<S>,
+        fetched: Found<S>,
     )
         requires seat { IsSeatAt (sends_on parcels.now) self.old.parcels }
         requires room { self.old.sent < 2 ^ 64 - 1 }
@@ -97,7 +97,7 @@ impl<S: SourceBrand> Fetcher<S> {
         parcels: &ParcelSender<S>,
         gate: &G,
         number: u64,
-        fetched: Fetched<S>,
+        fetched: Found<S>,
     )
         requires seat { IsSeatAt (sends_on parcels.now) self.old.parcels }
         requires knows { FetcherKnows (number ∷ []) self.old × (self.old.stopped ≡ None) }
@@ -110,13 +110,13 @@ impl<S: SourceBrand> Fetcher<S> {
     {
         let documents = fetched.documents();
         if self.fetched > MOST_SEQUENCE
-            || documents > MOST_SEQUENCE - self.fetched
+            || documents > (MOST_SEQUENCE - self.fetched) as u128
             || self.sent == u64::MAX
         {
             self.stopped = Some(Halt::CountFull);
             return;
         }
-        self.fetched += documents;
+        self.fetched += documents as u64;
         if let Err(halt) = pass(rt, gate, Place::Fetched(number)) {
             self.stopped = Some(halt);
             return;
@@ -152,20 +152,20 @@ impl<F: WriteFilter, S: SourceBrand, T: TargetBrand<F>, L: Ledger, G: Gate, R: W
     }
 
     /// What the source has of what the target misses of a page, unless the gate stops the fetcher or memory runs out.
-    fn bring(&self, number: u64, page: &Paged<S>) -> Result<Fetched<S>, Halt>
+    fn bring(&self, number: u64, page: Paged<S>) -> Result<Found<S>, Halt>
         requires source { S.source ≡ self.now.source.now.1.db }
         ensures allowed { IfErr result (Allows (G.may_stop self.now.gate.now)) }
         ensures uncounted { IfErr result SaysNoFull }
     {
         pass(self.rt, self.gate, Place::Took(number))?;
-        let asked = self.ask(page)?;
+        let asked = self.ask(&page)?;
         pass(self.rt, self.gate, Place::Asked(number))?;
-        let fetched = Fetched::<S>::fetch(self.alloc, self.source, asked)?;
+        let fetched = Found::<S>::count(self.alloc, self.source, asked, page)?;
         Ok(fetched)
     }
 
     /// Fetches one window and sends its parcel.
-    fn fetch(&self, fetcher: &mut Fetcher<S>, number: u64, page: &Paged<S>)
+    fn fetch(&self, fetcher: &mut Fetcher<S>, number: u64, page: Paged<S>)
         requires source { S.source ≡ self.now.source.now.1.db }
         requires seat { IsSeatAt (sends_on self.now.channels.now.to_writers) fetcher.old.parcels }
         requires knows { FetcherKnows (number ∷ []) fetcher.old × (fetcher.old.stopped ≡ None) }
@@ -207,7 +207,7 @@ impl<F: WriteFilter, S: SourceBrand, T: TargetBrand<F>, L: Ledger, G: Gate, R: W
         {
             Ok(WindowMessage::Window { number, page }) => {
                 if fetcher.stopped.is_none() {
-                    self.fetch(fetcher, number, &page);
+                    self.fetch(fetcher, number, page);
                 }
                 true
             }

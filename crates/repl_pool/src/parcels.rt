@@ -1,6 +1,6 @@
 //! The channel of parcels: its messages, what each thread knows of it, and its rule.
 use crate::brands::SourceBrand;
-use crate::messages::Fetched;
+use crate::messages::Found;
 use crossbeam_channel::protocol::{Join, Lesson, Outcome, Protocol, Split};
 use crossbeam_channel::{Pass, RuledReceiver, RuledSender};
 use std::collections::LinkedList;
@@ -8,8 +8,8 @@ use std::collections::LinkedList;
 /// What a fetcher tells a writer.
 #[derive(Drop)]
 pub enum ParcelMessage<S: SourceBrand> {
-    /// What the source answers for the window of this number.
-    Parcel { number: u64, fetched: Fetched<S> },
+    /// What the source answers for the window of this number: counted, and read by who settles it.
+    Parcel { number: u64, fetched: Found<S> },
     /// No further parcel comes.
     End,
 }

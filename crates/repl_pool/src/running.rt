@@ -53,12 +53,31 @@ pub struct Progress<'a> {
     pub seats: Vec<BoardSeat>,
 }
 
-/// A run whose session has begun at the target: both peers, and where it starts.
+/// A run whose session has begun at the target: both peers, where it starts, and how many workers a crew has.
 #[derive(Drop)]
 struct Begun<F: WriteFilter> {
     source: Peer<F>,
     target: Peer<F>,
     start: u64,
+    crew: u64,
+}
+
+/// How many workers a crew has: as many as the plan has, and no more than there may be windows.
+fn crew_of(plan: &Plan, start: u64, goal: u64) -> u64
+    requires workers { 0 < plan.now.workers }
+    requires batch { is_batch plan.now.batch ≡ true }
+    ensures some { 0 < result }
+    ensures most { result ≤ plan.now.workers }
+{
+    if goal <= start {
+        return 1;
+    }
+    let further = (goal - start - 1) / plan.batch;
+    if further < plan.workers {
+        further + 1
+    } else {
+        plan.workers
+    }
 }
 
 /// The board that the writers show what they do on, where there is one, and their seats.
@@ -92,6 +111,7 @@ fn without_workers<F: WriteFilter + Send + Sync, R: Threads + Sync>(
         source,
         target,
         start,
+        crew: _,
     } = begun;
     let complete = fault.is_none();
     let summed = Summed {
@@ -123,9 +143,9 @@ fn run_begun<
 ) -> Ran<F>
     requires name { blank.name ≡ L.name }
     requires parts { blank.parts ≡ L.parts }
-    requires workers { (blank.parts ≡ plan.now.workers) × (0 < plan.now.workers) × (plan.now.workers ≤ 64) }
+    requires workers { (blank.parts ≡ begun.crew) × (0 < begun.crew) × (begun.crew ≤ 64) }
     requires batch { is_batch plan.now.batch ≡ true }
-    requires seats { AreSeats (option_copied shows.board) 0 plan.now.workers shows.seats.items }
+    requires seats { AreSeats (option_copied shows.board) 0 begun.crew shows.seats.items }
     requires source { S.source ≡ begun.source.1.db }
     requires plan { S.plan ≡ plan.now }
     requires given { T.given ≡ Some (begun.target, plan.now.session) }
@@ -148,7 +168,7 @@ fn run_begun<
     if begun.start == begun.source.db().update_seq() {
         return without_workers(rt, alloc, begun, plan, seats, None);
     }
-    let workers = plan.workers as usize;
+    let workers = begun.crew as usize;
     let counts = match Vec::with_capacity(alloc, workers) {
         Ok(counts) => counts,
         Err(refused) => {
@@ -167,6 +187,7 @@ fn run_begun<
         source,
         target,
         start,
+        crew: _,
     } = begun;
     let (ledger, all) = blank.open::<L>();
     let locked = Mutex::new(RunTarget::<F, S, T, L>::open(
@@ -230,11 +251,13 @@ fn run_with<F: WriteFilter + Send + Sync, G: Gate + Sync, R: Threads + Wait + Sy
     let mut target = target;
     match begin_plan(&source, &mut target, plan) {
         Ok(start) => {
-            let blank = Blank::new(plan.workers);
+            let crew = crew_of(plan, start, source.db().update_seq());
+            let blank = Blank::new(crew);
             let begun = Begun {
                 source,
                 target,
                 start,
+                crew,
             };
             run_begun::<F, Brand, Brand, Brand, G, R>(rt, alloc, blank, begun, plan, gate, shows)
         }
@@ -250,8 +273,8 @@ fn run_with<F: WriteFilter + Send + Sync, G: Gate + Sync, R: Threads + Wait + Sy
 
 /// Replicates the source's documents into the target by a pool of threads: the caller's thread begins the session from
 /// the common checkpoint of the two logs, reads the source's feed in windows, stores each at the target and sends it to
-/// `plan.workers` fetchers; these ask the target, fetch at the source, and send parcels to as many writers, which
-/// settle and record. The target stands behind a lock, the source is shared. The gate is asked at each place, with no
+/// `plan.workers` fetchers, or fewer where fewer windows may come; these ask the target, count at the source, and send
+/// parcels to as many writers, which read, settle and record. The target stands behind a lock, the source is shared. The gate is asked at each place, with no
 /// lock held.
 ///
 /// `NoWorkers`, else `TooManyWorkers` above 64, else `BadBatch` where the batch isn't 1 to 10,000, else `SamePeer`

@@ -121,6 +121,7 @@ impl<
     ) -> Option<WriterHandle<'e, S, L, G>>
     where
         'e: 's,
+        requires source { S.source ≡ self.now.source.now.1.db }
         requires parcels { IsSeatAt (sends_on self.now.channels.now.to_writers) parcels.old
             × (1 < (view parcels.old).parts) }
         requires all { (0 < all.old.parts) × (all.old.amount ≡ 0) }
@@ -166,6 +167,7 @@ impl<
     ) -> Vec<WriterHandle<'e, S, L, G>>
     where
         'e: 's,
+        requires source { S.source ≡ self.now.source.now.1.db }
         requires workers { workers ≤ 64 }
         requires parcels { IsSeatAt (sends_on self.now.channels.now.to_writers) parcels.old
             × (view parcels.old ≡ parcel_view (view parcels.old).parts [] []) × (64 < (view parcels.old).parts) }

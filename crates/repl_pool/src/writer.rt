@@ -14,7 +14,7 @@ use crate::context::Context;
 use crate::fault::Halt;
 use crate::fetcher::pass;
 use crate::gate::{Gate, Place};
-use crate::messages::Fetched;
+use crate::messages::{Fetched, Found};
 use crate::parcels::{Gets, ParcelMessage, ParcelPass};
 use crate::run_target::taken_of;
 use crate::show::{show_read, show_settled};
@@ -102,17 +102,41 @@ impl<F: WriteFilter, S: SourceBrand, T: TargetBrand<F>, L: Ledger, G: Gate, R: W
         pass(self.rt, self.gate, Place::Recorded(number, recorded))
     }
 
+    /// Reads a parcel at the source, makes its documents ready before the lock is taken, settles it and records:
+    /// `settle_and_record`.
+    fn read_and_settle(
+        &self,
+        share: &mut Share<L>,
+        seat: &mut Option<BoardSeat>,
+        number: u64,
+        found: Found<S>,
+    ) -> Result<(), Halt>
+        requires source { S.source ≡ self.now.source.now.1.db }
+        requires parts { 0 < share.old.parts }
+        requires seat { IsSeated (option_copied self.now.board) seat.old }
+        ensures parts { share.new.parts ≡ share.old.parts }
+        ensures ok { OnOk result (share.new.amount ≡ share.old.amount + length found.docs) }
+        ensures err { IfErr result (AllowsOn (MayFill (option_copied self.now.board)) (G.may_stop self.now.gate.now)) }
+        ensures full { IfErr result (SaysFull ⊥ (IsFullFor (length found.docs) seat.old)) }
+        ensures shows { HasWritten (option_copied self.now.board) share.old.amount share.new.amount (halt_in result)
+            seat.old seat.new }
+    {
+        let fetched = found.fetch(self.alloc, self.source, self.plan.session)?;
+        self.settle_and_record(share, seat, number, fetched)
+    }
+
     /// Settles the parcel that a writer got last, and counts it, or keeps why it halts. `CountFull` only where its count
     /// is full, `BoardFull` only where the word of its seat would pass its limit.
-    fn write(&self, writer: &mut Writer<S, L>, number: u64, fetched: Fetched<S>)
-        requires knows { WriterKnows ((number, length fetched.docs) ∷ []) writer.old × (writer.old.stopped ≡ None) }
+    fn write(&self, writer: &mut Writer<S, L>, number: u64, found: Found<S>)
+        requires source { S.source ≡ self.now.source.now.1.db }
+        requires knows { WriterKnows ((number, length found.docs) ∷ []) writer.old × (writer.old.stopped ≡ None) }
         requires seat { IsSeated (option_copied self.now.board) writer.old.seat }
         ensures same { writer.new.parcels ≡ writer.old.parcels }
         ensures knows { WriterKnows [] writer.new }
         ensures halted { IfSome writer.new.stopped
             (AllowsOn (MayFill (option_copied self.now.board)) (G.may_stop self.now.gate.now)) }
         ensures full { IfSome writer.new.stopped
-            (SaysFull (writer.old.got ≡ 2 ^ 64 - 1) (IsFullFor (length fetched.docs) writer.old.seat)) }
+            (SaysFull (writer.old.got ≡ 2 ^ 64 - 1) (IsFullFor (length found.docs) writer.old.seat)) }
         ensures seat { IsSeated (option_copied self.now.board) writer.new.seat }
         ensures shows { (given : Option BoardSeat) → WriterShows (option_copied self.now.board) given writer.old
             → WriterShows (option_copied self.now.board) given writer.new }
@@ -121,7 +145,7 @@ impl<F: WriteFilter, S: SourceBrand, T: TargetBrand<F>, L: Ledger, G: Gate, R: W
             writer.stopped = Some(Halt::CountFull);
             return;
         }
-        match self.settle_and_record(&mut writer.share, &mut writer.seat, number, fetched) {
+        match self.read_and_settle(&mut writer.share, &mut writer.seat, number, found) {
             Ok(()) => writer.got += 1,
             Err(halt) => writer.stopped = Some(halt),
         }
@@ -129,6 +153,7 @@ impl<F: WriteFilter, S: SourceBrand, T: TargetBrand<F>, L: Ledger, G: Gate, R: W
 
     /// Takes one message. False at the end of the parcels.
     fn take_parcel(&self, writer: &mut Writer<S, L>) -> bool
+        requires source { S.source ≡ self.now.source.now.1.db }
         requires seat { IsSeatAt (receives_on self.now.channels.now.from_fetchers) writer.old.parcels }
         requires knows { WriterKnows [] writer.old }
         requires halted { IfSome writer.old.stopped
@@ -165,6 +190,7 @@ impl<F: WriteFilter, S: SourceBrand, T: TargetBrand<F>, L: Ledger, G: Gate, R: W
         share: Share<L>,
         seat: Option<BoardSeat>,
     ) -> Writer<S, L>
+        requires source { S.source ≡ self.now.source.now.1.db }
         requires parcels { IsSeatAt (receives_on self.now.channels.now.from_fetchers) parcels
             × (view parcels ≡ parcel_view 1 [] []) }
         requires share { (share.parts ≡ 1) × (share.amount ≡ 0) }

@@ -16,7 +16,7 @@ returns-then-begun-update_seq-clause-ends g c =
 
 pub returns-then-begun-update_seq-clause-back : goal.returns-then-begun-update_seq-clause-back
 returns-then-begun-update_seq-clause-back g c =
-    back_is (option_copied c.args.shows.board) c.args.shows.seats.items _ (seats_seated (option_copied c.args.shows.board) 0 c.args.plan.now.workers c.args.shows.seats.items c.requires.seats) (ap vec_items (sym c.without_workers.ensures.seats))
+    back_is (option_copied c.args.shows.board) c.args.shows.seats.items _ (seats_seated (option_copied c.args.shows.board) 0 c.args.begun.crew c.args.shows.seats.items c.requires.seats) (ap vec_items (sym c.without_workers.ensures.seats))
 
 pub returns-then-begun-update_seq-clause-shown : goal.returns-then-begun-update_seq-clause-shown
 returns-then-begun-update_seq-clause-shown g c =
@@ -72,7 +72,7 @@ end-requires-clause-held g c κs within =
 
 pub returns-in-Err-clause-back : goal.returns-in-Err-clause-back
 returns-in-Err-clause-back g c =
-    back_is (option_copied c.args.shows.board) c.args.shows.seats.items _ (seats_seated (option_copied c.args.shows.board) 0 c.args.plan.now.workers c.args.shows.seats.items c.requires.seats) (ap vec_items (sym c.without_workers-in-Err.ensures.seats))
+    back_is (option_copied c.args.shows.board) c.args.shows.seats.items _ (seats_seated (option_copied c.args.shows.board) 0 c.args.begun.crew c.args.shows.seats.items c.requires.seats) (ap vec_items (sym c.without_workers-in-Err.ensures.seats))
 
 pub returns-in-Err-clause-shown : goal.returns-in-Err-clause-shown
 returns-in-Err-clause-shown g c =
@@ -81,7 +81,7 @@ returns-in-Err-clause-shown g c =
 
 pub returns-in-Err-open-clause-back : goal.returns-in-Err-open-clause-back
 returns-in-Err-open-clause-back g c =
-    back_is (option_copied c.args.shows.board) c.args.shows.seats.items _ (seats_seated (option_copied c.args.shows.board) 0 c.args.plan.now.workers c.args.shows.seats.items c.requires.seats) (ap vec_items (sym c.without_workers-in-Err-open.ensures.seats))
+    back_is (option_copied c.args.shows.board) c.args.shows.seats.items _ (seats_seated (option_copied c.args.shows.board) 0 c.args.begun.crew c.args.shows.seats.items c.requires.seats) (ap vec_items (sym c.without_workers-in-Err-open.ensures.seats))
 
 pub returns-in-Err-open-clause-shown : goal.returns-in-Err-open-clause-shown
 returns-in-Err-open-clause-shown g c =

@@ -1,4 +1,4 @@
-use Rattle.std.proofs.Common.{rules, ◌≡◌, Ok, sym, ap, ◌∙◌, option_copied}
+use Rattle.std.proofs.Common.{rules, ◌≡◌, Ok, sym, ap, ◌∙◌, option_copied, arith}
 use Rattle.repl_peer.specs.peer.Peer.{PeerValue}
 use Rattle.repl_peer.specs.session.ReadCounts.{read_in}
 use Rattle.repl_target.proofs.lemmas.replication.ReadCounts.{begun_reads}
@@ -6,14 +6,28 @@ use Rattle.repl_pool.specs.Faults.{early_answer}
 use Rattle.repl_pool.proofs.Ending.{begun_held}
 use Rattle.repl_pool.proofs.Paging.{begun_fresh}
 use Rattle.repl_pool.specs.Boards.{MayFill}
-use Rattle.repl_pool.proofs.Boarding.{seats_seated, back_same}
+use Rattle.repl_pool.proofs.Boarding.{seats_seated, seats_fewer, back_same}
 use Rattle.repl_pool.proofs.RunLaws.{Passes, passes, runs_early, runs_refused, runs_begun, shown_well}
 use Rattle.repl_pool.proofs.running.run_with.Goals as goal
 
 pub run_begun-requires-clause-workers : goal.run_begun-requires-clause-workers
 run_begun-requires-clause-workers g c κs within =
     let p : Passes c.args.plan.now = passes c.args.source.1 c.args.target.1 c.args.plan.now (sym c.check_run.ensures ∙ c.in_default.is) in
-    (c.new-blank.ensures, p.some, p.most)
+    (c.new-blank.ensures, c.crew_of-crew.ensures.some, omega (arith, c.crew_of-crew.ensures.most, p.most))
+
+pub run_begun-requires-clause-seats : goal.run_begun-requires-clause-seats
+run_begun-requires-clause-seats g c κs within =
+    seats_fewer (option_copied c.args.shows.board) c.crew_of-crew.result c.args.plan.now.workers c.args.shows.seats.items c.crew_of-crew.ensures.most c.requires.seats
+
+pub crew_of-crew-requires-clause-workers : goal.crew_of-crew-requires-clause-workers
+crew_of-crew-requires-clause-workers g c =
+    let p : Passes c.args.plan.now = passes c.args.source.1 c.args.target.1 c.args.plan.now (sym c.check_run.ensures ∙ c.in_default.is) in
+    p.some
+
+pub crew_of-crew-requires-clause-batch : goal.crew_of-crew-requires-clause-batch
+crew_of-crew-requires-clause-batch g c =
+    let p : Passes c.args.plan.now = passes c.args.source.1 c.args.target.1 c.args.plan.now (sym c.check_run.ensures ∙ c.in_default.is) in
+    p.batch
 
 pub run_begun-requires-clause-none : goal.run_begun-requires-clause-none
 run_begun-requires-clause-none g c κs within =
