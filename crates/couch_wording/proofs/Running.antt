@@ -3,7 +3,7 @@ use Rattle.std.proofs.Common.{◌≡◌, ℕ, List, [], ◌∷◌, ◌++◌, tru
 use Rattle.std.specs.Prelude.{unwrap_or}
 use Rattle.std.specs.Io.KnownBytes.{Appends, Consumes, Keeps, IsAtEnd}
 use Rattle.script_engine.specs.declared.fault.ScriptFault.{ScriptFault}
-use Rattle.script_engine.specs.declared.fault.ScriptFault.TheVariants.{Read, Write, Memory}
+use Rattle.script_engine.specs.declared.fault.ScriptFault.TheVariants.{Read, Write, Memory, Cut}
 use Rattle.script_engine.proofs.RunLemmas.{Gives-left, Gives-end}
 use Rattle.std.proofs.KnownBytes.{Appends-nil, Appends-trans, Consumes-nil, Consumes-trans, Consumes-kept, Keeps-refl}
 use Rattle.couch_answers.specs.State.{State, start}
@@ -53,6 +53,7 @@ whole_none : (fault : ScriptFault) → IsWhole fault []
 whole_none Read = refl
 whole_none Write = tt
 whole_none Memory = refl
+whole_none Cut = refl
 
 -- nothing of it is written
 pub Begins-none : (fault : ScriptFault) (w : Words) (all : List Piece) (held : Option (List ℕ)) → Begins fault w all held held

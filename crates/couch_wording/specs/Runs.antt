@@ -4,7 +4,7 @@ use Rattle.std.specs.Io.KnownBytes.{Appends}
 use Rattle.script_engine.specs.Device.{Gives}
 use Rattle.script_engine.specs.Faults.{IsFaultOf, IsOfWriter}
 use Rattle.script_engine.specs.declared.fault.ScriptFault.{ScriptFault}
-use Rattle.script_engine.specs.declared.fault.ScriptFault.TheVariants.{Read, Write, Memory}
+use Rattle.script_engine.specs.declared.fault.ScriptFault.TheVariants.{Read, Write, Memory, Cut}
 use Rattle.couch_answers.specs.State.{State, start}
 use Rattle.couch_answers.specs.Steps.{is_refused}
 use Rattle.couch_answers.specs.Reading.{Piece, after, pieces, end_of, last_end, whole}
@@ -27,6 +27,7 @@ abbrev pub IsWhole : ScriptFault → List ℕ → Type 0
 IsWhole Read missing = missing ≡ []
 IsWhole Write missing = ⊤
 IsWhole Memory missing = missing ≡ []
+IsWhole Cut missing = missing ≡ []
 
 -- what is written is a beginning of the texts of these pieces
 pub record Begins (fault : ScriptFault) (w : Words) (all : List Piece) (held held' : Option (List ℕ)) : Type 0 where

@@ -4,9 +4,9 @@ use Rattle.std.specs.Prelude.{unwrap_or, min}
 use Rattle.std.specs.Io.KnownBytes.{Consumes, Appends, Keeps, IsAtEnd}
 use Rattle.std.proofs.KnownBytes.{Appends-nil, Appends-trans, Appends-kept, Consumes-nil, Consumes-trans, Consumes-kept}
 use Rattle.script_engine.specs.Device.{FailsOnce, Gives, counted, full}
-use Rattle.script_engine.specs.Faults.{FeedsUntil, IsOfWriter, IsFaultOf, IsToldUntil, LeavesAs, max_reads}
+use Rattle.script_engine.specs.Faults.{FeedsUntil, IsInAnswer, IsOfWriter, IsFaultOf, IsToldUntil, LeavesAs, max_reads}
 use Rattle.script_engine.specs.declared.fault.ScriptFault.{ScriptFault}
-use Rattle.script_engine.specs.declared.fault.ScriptFault.TheVariants.{Read, Write, Memory}
+use Rattle.script_engine.specs.declared.fault.ScriptFault.TheVariants.{Read, Write, Memory, Cut}
 use Rattle.script_engine.specs.Lines.{has_line_end, lines_of}
 use Rattle.script_engine.specs.Serving.{Answering}
 use Rattle.script_engine.specs.Script.{AnswersEnded, IsAnswered, IsAnsweredSoFar, AnswersFirst}
@@ -121,6 +121,7 @@ so_far : {S : Type 0} (f : Answering S (List ℕ)) (g : S) (input text : List �
 so_far f g input text Read h = h.0
 so_far f g input text Write h = h
 so_far f g input text Memory h = h.0
+so_far f g input text Cut h = h
 
 -- a write failed besides
 SoFar-write : {S : Type 0} {fault : ScriptFault} {f : Answering S (List ℕ)} {g : S} {left held held' : Option (List ℕ)} → SoFar fault f g left held held' → SoFar Write f g left held held'
@@ -140,6 +141,13 @@ SoFar-unsent left'' r k = SoFar-write (SoFar-stopped left'' r k)
 pub SoFar-fed : {S : Type 0} {f : Answering S (List ℕ)} {g : S} {p : Place S} {left left' held held' : Option (List ℕ)} {turns : ℕ} (fault : ScriptFault) (left'' held'' : Option (List ℕ)) (bytes : List ℕ) → Ran f g p left left' held held' turns → Consumes left' left'' bytes → FeedsUntil fault f p bytes held' held'' → SoFar fault f g left held held''
 SoFar-fed Read left'' held'' bytes r c x = absurd x
 SoFar-fed {left = left} {left'} Write left'' held'' bytes r c (t, b, w) = record {
+  input = (r.input ++ bytes) ++ unwrap_or left'' [];
+  text = r.text ++ t;
+  gives = Gives-left left left'' (r.input ++ bytes) (Consumes-trans left left' left'' r.input bytes r.taken c);
+  written = Appends-trans _ _ _ r.text t r.written w;
+  answered = is_answered_so_far ((r.input ++ bytes) ++ unwrap_or left'' []) (Begins-more (unwrap_or left'' []) (Begins-joined r.served b)) refl;
+}
+SoFar-fed {left = left} {left'} Cut left'' held'' bytes r c (t, b, w) = record {
   input = (r.input ++ bytes) ++ unwrap_or left'' [];
   text = r.text ++ t;
   gives = Gives-left left left'' (r.input ++ bytes) (Consumes-trans left left' left'' r.input bytes r.taken c);
@@ -171,6 +179,8 @@ SoFar-left {f = f} {g} {left} {held} {held'} Read stands w w' s (inr h) = subst 
 SoFar-left {f = f} {g} {left} {held} {held'} Write stands w w' s h = subst (λ e. SoFar e f g left held held') (sym h.0) s
 SoFar-left {f = f} {g} {left} {held} {held'} Memory stands w w' s (inl h) = subst (λ e. SoFar e f g left held held') (sym h.0) s
 SoFar-left {f = f} {g} {left} {held} {held'} Memory stands w w' s (inr h) = subst (λ e. SoFar e f g left held held') (sym h.0) (SoFar-write s)
+SoFar-left {f = f} {g} {left} {held} {held'} Cut stands w w' s (inl h) = subst (λ e. SoFar e f g left held held') (sym h.0) s
+SoFar-left {f = f} {g} {left} {held} {held'} Cut stands w w' s (inr h) = subst (λ e. SoFar e f g left held held') (sym h.0) (SoFar-write s)
 
 -- nothing was read, and what was written before is passed on
 pub SoFar-not_begun : {S : Type 0} {f : Answering S (List ℕ)} {g : S} (left held held' : Option (List ℕ)) (stands : ScriptFault) {w w' : ℕ} → Keeps held held' → LeavesAs Memory stands w w' → SoFar stands f g left held held'
@@ -190,6 +200,13 @@ SoFar-finished {left = left} {left'} held'' r e (bytes, l, (t, b, w)) = record {
   written = Appends-trans _ _ _ r.text t r.written w;
   answered = is_answered_so_far r.input (Begins-joined r.served b) (same_lines bytes r.served l);
 }
+
+-- it stopped in an answer
+pub SoFar-in_answer : {S : Type 0} {f : Answering S (List ℕ)} {g : S} {left held held' : Option (List ℕ)} (fault : ScriptFault) (w w' : ℕ) → IsInAnswer fault w w' → SoFar Write f g left held held' → SoFar fault f g left held held'
+SoFar-in_answer Read w w' h s = absurd h
+SoFar-in_answer Write w w' h s = s
+SoFar-in_answer Memory w w' h s = absurd h
+SoFar-in_answer Cut w w' h s = record { input = s.input; text = s.text; gives = s.gives; written = s.written; answered = s.answered }
 
 -- it stopped where the answers to all lines were to be passed on
 pub FinishesInPart-whole : {S : Type 0} {f : Answering S (List ℕ)} {p q : Place S} (held held' held'' : Option (List ℕ)) → Finishes f p q held held' → Keeps held' held'' → FinishesInPart f p held held''
@@ -221,6 +238,7 @@ IsRead : ScriptFault → Type 0
 IsRead Read = Unit {0}
 IsRead Write = ⊥
 IsRead Memory = ⊥
+IsRead Cut = ⊥
 
 pub write_not_read : Write ≡ Read → ⊥
 unfolding IsRead
@@ -229,6 +247,28 @@ write_not_read e = subst IsRead (sym e) tt
 pub memory_not_read : Memory ≡ Read → ⊥
 unfolding IsRead
 memory_not_read e = subst IsRead (sym e) tt
+
+pub cut_not_read : Cut ≡ Read → ⊥
+unfolding IsRead
+cut_not_read e = subst IsRead (sym e) tt
+
+-- what stops an answer is of the writer, or of memory
+pub IsInAnswer-of_writer : (fault : ScriptFault) (w w1 w' : ℕ) → w1 ≡ w → IsInAnswer fault w1 w' → IsOfWriter fault w w'
+IsInAnswer-of_writer Read w w1 w' e h = absurd h
+IsInAnswer-of_writer Write w w1 w' e h = h ∙ ap (λ n. min (n + 1) full) e
+IsInAnswer-of_writer Memory w w1 w' e h = absurd h
+IsInAnswer-of_writer Cut w w1 w' e h = h ∙ e
+
+-- nothing else failed before
+pub IsInAnswer-from : (fault : ScriptFault) (w w1 w' : ℕ) → w1 ≡ w → IsInAnswer fault w1 w' → IsInAnswer fault w w'
+IsInAnswer-from Read w w1 w' e h = absurd h
+IsInAnswer-from Write w w1 w' e h = h ∙ ap (λ n. min (n + 1) full) e
+IsInAnswer-from Memory w w1 w' e h = absurd h
+IsInAnswer-from Cut w w1 w' e h = h ∙ e
+
+-- a write failed in an answer
+pub IsInAnswer-write : (fault : ScriptFault) (w w1 w' : ℕ) → w1 ≡ w → fault ≡ Write → FailsOnce w1 w' → IsInAnswer fault w w'
+IsInAnswer-write fault w w1 w' e is h = subst (λ f. IsInAnswer f w w') (sym is) (h ∙ ap (λ n. min (n + 1) full) e)
 
 pub IsOfWriter-write : (fault : ScriptFault) (w w' : ℕ) → fault ≡ Write → FailsOnce w w' → IsOfWriter fault w w'
 IsOfWriter-write fault w w' e h = subst (λ f. IsOfWriter f w w') (sym e) h
@@ -243,6 +283,8 @@ IsFaultOf-left Read stands k k' r r' w w1 w2 w3 e f h l = absurd h
 IsFaultOf-left Write stands k k' r r' w w1 w2 w3 e f h l = subst (λ s. IsFaultOf s k k' r r' w w3) (sym l.0) (e, l.1 ∙ h ∙ ap (λ n. min (n + 1) full) f)
 IsFaultOf-left Memory stands k k' r r' w w1 w2 w3 e f h (inl l) = subst (λ s. IsFaultOf s k k' r r' w w3) (sym l.0) (e, l.1 ∙ h ∙ f)
 IsFaultOf-left Memory stands k k' r r' w w1 w2 w3 e f h (inr l) = subst (λ s. IsFaultOf s k k' r r' w w3) (sym l.0) (e, l.1 ∙ ap (λ n. min (n + 1) full) (h ∙ f))
+IsFaultOf-left Cut stands k k' r r' w w1 w2 w3 e f h (inl l) = subst (λ s. IsFaultOf s k k' r r' w w3) (sym l.0) (e, l.1 ∙ h ∙ f)
+IsFaultOf-left Cut stands k k' r r' w w1 w2 w3 e f h (inr l) = subst (λ s. IsFaultOf s k k' r r' w w3) (sym l.0) (e, l.1 ∙ ap (λ n. min (n + 1) full) (h ∙ f))
 
 -- there were as many reads as there may be, and what was written is passed on
 pub IsFaultOf-last : (stands : ScriptFault) (k k' r r' w w1 w2 : ℕ) → counted k' 0 ≡ counted k max_reads → r' ≡ r → w1 ≡ w → LeavesAs Read stands w1 w2 → IsFaultOf stands k k' r r' w w2
@@ -255,6 +297,8 @@ not_read Read stands w1 w2 w3 h l e = absurd h
 not_read Write stands w1 w2 w3 h l e = write_not_read (sym l.0 ∙ e)
 not_read Memory stands w1 w2 w3 h (inl l) e = memory_not_read (sym l.0 ∙ e)
 not_read Memory stands w1 w2 w3 h (inr l) e = write_not_read (sym l.0 ∙ e)
+not_read Cut stands w1 w2 w3 h (inl l) e = cut_not_read (sym l.0 ∙ e)
+not_read Cut stands w1 w2 w3 h (inr l) e = write_not_read (sym l.0 ∙ e)
 
 -- a script that has not begun stands at its start
 pub place_equal : {S : Type 0} (s : S) (b : List ℕ) → b ≡ [] → (record { state = s; begun = b; number = 1; clean = true }) ≡ start s

@@ -6,3 +6,6 @@ mod engine;
 
 // Devices that fail.
 mod devices;
+
+// Answers in pieces.
+mod pieces;

@@ -1,9 +1,9 @@
 //! The engine over a server of other words than the program's.
-ghost use Rattle.std.specs.Prelude.{◌≡◌, ◌++◌, OnOk, codes, decimal};
+ghost use Rattle.std.specs.Prelude.{◌≡◌, ◌++◌, [], OnOk, codes, decimal};
 ghost use Rattle.script_tests.specs.Lengths.{TellsLength};
 
 use itoa::Buffer;
-use script_engine::{OverRead, OverWrite, Serve, run_lines};
+use script_engine::{NoRest, OverRead, OverWrite, Serve, run_lines};
 use std::alloc::AllocError;
 use std::test::Fail;
 
@@ -16,7 +16,11 @@ pub(crate) struct Lengths {
 impl Serve for Lengths {
     ghost answers = { λ old line told new. TellsLength old.before line told new.before };
 
-    fn serve(&mut self, line: &[u8], answer: &mut Vec<u8>) -> Result<(), &'static str> {
+    type Rest = NoRest;
+
+    ghost left = { λ _ _. [] };
+
+    fn serve(&mut self, line: &[u8], answer: &mut Vec<u8>) -> Result<Option<NoRest>, &'static str> {
         if line.len() > 40 {
             return Err("Long");
         }
@@ -25,7 +29,11 @@ impl Serve for Lengths {
             Err(_) => return Err("Memory"),
         }
         self.before = line.len();
-        Ok(())
+        Ok(None)
+    }
+
+    fn more(&self, _rest: &mut NoRest, _piece: &mut Vec<u8>) -> Result<bool, AllocError> {
+        Ok(false)
     }
 
     fn hear(&mut self, _number: u64, _line: &[u8], _refused: Option<&'static str>) {}

@@ -1,0 +1,14 @@
+-- An answer in pieces.
+use Rattle.std.proofs.Common.{◌≡◌, ℕ, List, [], ◌++◌, Option, Some, None, Result, Ok, Err, refl, sym, append-nil}
+use Rattle.std.specs.Prelude.{OnErr}
+use Rattle.script_engine.specs.Serving.{text_with}
+
+-- its first piece, and what is left
+pub text_with-piece : {R : Type 0} (left : R → List ℕ) (piece : List ℕ) (rest : Option R) → text_with left piece rest ≡ piece ++ text_with left [] rest
+text_with-piece left piece None = sym (append-nil piece)
+text_with-piece left piece (Some r) = refl
+
+-- what an error leaves
+pub on_err : {T E P Q : Type 0} (r : Result T E) → (P → Q) → OnErr r P → OnErr r Q
+on_err (Ok x) f h = h
+on_err (Err e) f h = f h

@@ -1,0 +1,31 @@
+use Rattle.std.proofs.Common.{◌++◌, [], sym, ap, ◌∙◌, append_assoc}
+use Rattle.std.specs.Prelude.{if◌then◌else◌}
+use Rattle.std.proofs.KnownBytes.{Appends-trans}
+use Rattle.script_engine.specs.Serving.{text_with}
+use Rattle.script_engine.proofs.PieceLemmas.{on_err, text_with-piece}
+use Rattle.script_engine.proofs.lines.write_answer.Goals as goal
+
+pub returns-in-Err-clause-err : goal.returns-in-Err-clause-err
+returns-in-Err-clause-err g c =
+    let left = g.S.Serve.left c.args.server.now in
+    let piece = if c.args.accepted then c.args.script.now.answer.items else c.args.script.now.refusal.items in
+    let more = text_with left [] c.args.rest in
+    let part = c.in-Err.ensures.err in (
+      part.0,
+      part.1 ++ more,
+      text_with-piece left piece c.args.rest ∙ ap (λ t. t ++ more) (sym c.text_told-text.ensures ∙ part.2) ∙ append_assoc part.0 part.1 more,
+      part.3,
+    )
+
+pub returns-clause-err : goal.returns-clause-err
+returns-clause-err g c =
+    let left = g.S.Serve.left c.args.server.now in
+    let piece = if c.args.accepted then c.args.script.now.answer.items else c.args.script.now.refusal.items in
+    let given = c.text_told-text.result.now in
+    let more = text_with left [] c.args.rest in
+    on_err c.write_left.result (λ part. (
+      given ++ part.0,
+      part.1,
+      text_with-piece left piece c.args.rest ∙ ap (λ t. t ++ more) (sym c.text_told-text.ensures) ∙ ap (λ t. given ++ t) part.2 ∙ sym (append_assoc given part.0 part.1),
+      Appends-trans _ _ _ given part.0 c.in-Ok.ensures.ok.0 part.3,
+    )) c.write_left.ensures.err

@@ -1,0 +1,11 @@
+use Rattle.std.proofs.Common.{◌++◌, Ok, ap, ◌∙◌}
+use Rattle.std.specs.Prelude.{codes}
+use Rattle.script_engine.specs.Serving.{in_full, gave_up}
+use Rattle.script_tests.proofs.tests.pieces.EchoServe.serve.Goals as goal
+
+pub returns-in-Ok-clause-told : goal.returns-in-Ok-clause-told
+returns-in-Ok-clause-told c =
+    in_full (ap (λ x. Ok (x ++ codes "\n")) (c.in-Ok.ensures.items ∙ ap (λ x. x ++ c.args.line.now) c.requires.empty))
+
+pub returns-in-Err-clause-refused : goal.returns-in-Err-clause-refused
+returns-in-Err-clause-refused c = gave_up

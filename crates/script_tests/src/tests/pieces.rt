@@ -1,0 +1,65 @@
+//! Answers in pieces: the engine over a server that gives a line back, and then its line end.
+ghost use Rattle.std.specs.Prelude.{◌≡◌, ◌++◌, Ok, codes};
+
+use script_engine::{OverRead, OverWrite, ScriptFault, Serve, run_lines};
+use std::alloc::{AllocError, Global};
+use std::test::Fail;
+
+/// The line end behind a line.
+#[derive(Drop)]
+pub(crate) struct LineEnd;
+
+/// Gives each line back, then its line end, for which memory may be wanting.
+#[derive(Drop)]
+pub(crate) struct Echo {
+    alloc: Global,
+    /// How much room is made before the line end is given.
+    room: usize,
+}
+
+impl Serve for Echo {
+    ghost answers = { λ _ line told _. told ≡ Ok (line ++ codes "\n") };
+
+    type Rest = LineEnd;
+
+    ghost left = { λ _ _. codes "\n" };
+
+    fn serve(
+        &mut self,
+        line: &[u8],
+        answer: &mut Vec<u8>,
+    ) -> Result<Option<LineEnd>, &'static str> {
+        match answer.extend_from_slice(line) {
+            Ok(()) => Ok(Some(LineEnd)),
+            Err(_) => Err("Memory"),
+        }
+    }
+
+    fn more(&self, _rest: &mut LineEnd, piece: &mut Vec<u8>) -> Result<bool, AllocError> {
+        let _room: Vec<u8> = Vec::with_capacity(self.alloc, self.room)?;
+        piece.extend_from_slice(b"\n")?;
+        Ok(false)
+    }
+
+    fn hear(&mut self, _number: u64, _line: &[u8], _refused: Option<&'static str>) {}
+}
+
+/// What lines are answered where there is memory, and where there is none behind a first piece.
+static ROOMS: &[(usize, bool, &str)] = &[(1, true, "one\ntwo three\n"), (usize::MAX, false, "one")];
+
+#[test]
+fn gives_answers_in_pieces(rt: HostRuntime) -> Result<(), Fail> {
+    for (room, is_whole, answers) in ROOMS {
+        let mut server = Echo {
+            alloc: rt.alloc(),
+            room: *room,
+        };
+        let mut reader = OverRead::new("one\n \ntwo three".as_bytes());
+        let mut writer = OverWrite::new(rt.alloc(), Vec::new(rt.alloc()))?;
+        let ended = run_lines(rt.alloc(), &mut server, &mut reader, &mut writer);
+        assert_eq!(rt; matches!(ended, Ok(true)), *is_whole);
+        assert_eq!(rt; matches!(ended, Err(ScriptFault::Cut)), !*is_whole);
+        assert_eq!(rt; writer.into_inner().as_slice(), answers.as_bytes());
+    }
+    Ok(())
+}
