@@ -62,6 +62,9 @@ const SCRIPT_HELP: &str =
       counts documents, leaves, conflicts, revisions and sessions
   {\"do\":\"ledger\",\"target\":\"b\",\"session\":\"11111111111141118111111111111111\"}
       lists the documents that a session into `b` refused, and why
+  {\"do\":\"sync\",\"a\":\"a\",\"b\":\"b\"}
+      carries from `a` to `b`, then from `b` to `a`, as two lines of `replicate` would;
+      \"there\" and \"back\" give the sessions' UUIDs
 
 Blank lines are passed over. A line that is refused is answered with `refused LINE NAME`,
 and changes nothing; but what a replication has carried before it was refused stays.

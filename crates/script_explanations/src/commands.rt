@@ -125,6 +125,20 @@ static WORDS: &[(&str, &[Member])] = &[
         "ledger",
         &[("target", Kind::Name, true), ("session", Kind::Uuid, true)],
     ),
+    (
+        "sync",
+        &[
+            ("a", Kind::Name, true),
+            ("b", Kind::Name, true),
+            ("doc_ids", Kind::Texts, false),
+            ("there", Kind::Uuid, false),
+            ("back", Kind::Uuid, false),
+            ("workers", Kind::Whole, false),
+            ("batch", Kind::Whole, false),
+            ("at", Kind::Whole, false),
+            ("alone", Kind::Flag, false),
+        ],
+    ),
 ];
 
 /// Why an object is no command: the first that is seen.

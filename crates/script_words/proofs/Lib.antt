@@ -6,3 +6,5 @@ pub mod InterpreterLemmas
 pub mod LoadLemmas
 pub mod ReplicateLemmas
 pub mod trust
+mod RestLemmas
+mod CompareLemmas

@@ -1,5 +1,5 @@
 -- The texts of lists.
-use Rattle.std.proofs.Common.{◌≡◌, ℕ, ◌+◌, ◌<◌, ◌≤◌, List, [], ◌∷◌, ◌++◌, length, take, get_or, map, sym, ap, ◌∙◌, append_assoc, arith}
+use Rattle.std.proofs.Common.{◌≡◌, ℕ, ◌+◌, ◌<◌, ◌≤◌, List, [], ◌∷◌, ◌++◌, length, take, get_or, map, sym, ap, ◌∙◌, append_assoc, append-nil, arith}
 use Rattle.std.proofs.lemmas.Grind.{flat_map-append}
 use Rattle.std.specs.List.{flat_map, join_with_byte}
 use Rattle.std.proofs.lemmas.List.{take_more, map-append}
@@ -43,3 +43,33 @@ texts_step f text next all rows rest whole e h n =
 -- one part behind another
 pub two_parts : (old mid new a b : List ℕ) → mid ≡ old ++ a → new ≡ mid ++ b → new ≡ old ++ (a ++ b)
 two_parts old mid new a b m n = n ∙ ap (λ t. t ++ b) m ∙ append_assoc old a b
+
+-- one row more is printed
+pub rows_more : {X : Type 0} (f : X → List ℕ) (text : List ℕ) (rows : List X) (i : ℕ) (row : X) → i < length rows → row ≡ get_or rows i row → (text ++ flat_map f (take i rows)) ++ f row ≡ text ++ flat_map f (take (i + 1) rows)
+rows_more f text rows i row below is =
+    append_assoc text (flat_map f (take i rows)) (f row)
+    ∙ ap (λ t. text ++ t)
+    (ap (λ t. flat_map f (take i rows) ++ t) (sym (append-nil (f row)))
+    ∙ sym (flat_map-append f (take i rows) (row ∷ []))
+    ∙ ap (flat_map f) (ap (λ r. take i rows ++ r ∷ []) is ∙ sym (take_more rows i row below)))
+
+-- one row more is counted
+pub list_more : {X : Type 0} (earlier rows : List X) (i : ℕ) (row : X) → i < length rows → row ≡ get_or rows i row → (earlier ++ take i rows) ++ row ∷ [] ≡ earlier ++ take (i + 1) rows
+list_more earlier rows i row below is =
+    append_assoc earlier (take i rows) (row ∷ []) ∙ ap (λ l. earlier ++ l) (ap (λ r. take i rows ++ r ∷ []) is ∙ sym (take_more rows i row below))
+
+-- rows are printed, and what follows them is left
+pub piece_on : {X : Type 0} (f f' : X → List ℕ) (old new last : List ℕ) (rows rows' : List X) → new ++ flat_map f' rows' ≡ old ++ flat_map f rows → f' ≡ f → new ++ (flat_map f rows' ++ last) ≡ old ++ (flat_map f rows ++ last)
+piece_on f f' old new last rows rows' e k =
+    sym (append_assoc new (flat_map f rows') last)
+    ∙ ap (λ g. (new ++ flat_map g rows') ++ last) (sym k)
+    ∙ ap (λ t. t ++ last) e
+    ∙ append_assoc old (flat_map f rows) last
+
+-- all rows are printed, and what follows them
+pub piece_last : {X : Type 0} (f f' : X → List ℕ) (old new end last : List ℕ) (rows rows' : List X) → new ++ flat_map f' rows' ≡ old ++ flat_map f rows → rows' ≡ [] → end ≡ new ++ last → end ++ [] ≡ old ++ (flat_map f rows ++ last)
+piece_last f f' old new end last rows rows' e n is =
+    append-nil end
+    ∙ is
+    ∙ ap (λ t. t ++ last) (sym (append-nil new) ∙ ap (λ r. new ++ flat_map f' r) (sym n) ∙ e)
+    ∙ append_assoc old (flat_map f rows) last

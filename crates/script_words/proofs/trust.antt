@@ -6,5 +6,6 @@ pub mod Backup
 pub mod Restore
 pub mod Audit
 pub mod Replicate
+pub mod Sync
 pub mod Words
 pub mod Lines

@@ -3,6 +3,8 @@ pub mod Members
 pub mod Given
 pub mod Texts
 pub mod Telling
+pub mod Walks
 pub mod words
+pub mod Rest
 pub mod Script
 pub mod Trust

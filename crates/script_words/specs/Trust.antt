@@ -5,14 +5,16 @@ use Rattle.script_databases.specs.AllTied.{AllTied}
 use Rattle.script_databases.specs.Databases.{State}
 use Rattle.script_databases.specs.declared.refusal.Refusal.{Refusal}
 use Rattle.script_words.specs.Script.{Asks, AnswersAsked}
-use Rattle.script_words.specs.words.{Asked, audit, replicate}
+use Rattle.script_words.specs.words.{Asked, audit, replicate, sync}
 use Rattle.script_words.specs.words.Audit.{IsClean}
 use Rattle.script_words.specs.words.Replicate.{IsCovered}
+use Rattle.script_words.specs.words.Sync.{IsMet}
 
--- what is told to an audit, and to a replication
+-- what is told to an audit, to a replication, and to one each way
 abbrev pub IsTrusted : Asked → Told → State → Type 0
 IsTrusted (audit ask) told new = IsClean told
 IsTrusted (replicate ask) told new = IsCovered new ask told
+IsTrusted (sync ask) told new = IsMet new ask told
 IsTrusted ask told new = Unit {0}
 
 -- what lines may be told: all databases are tied before a line and behind it, and its answer may be trusted

@@ -24,6 +24,7 @@ use Rattle.script_words.specs.words.Conflicts.{ConflictsAsk, conflicts_in, Lists
 use Rattle.script_words.specs.words.Docs.{DocsAsk, docs_in, PrintsDocuments}
 use Rattle.script_words.specs.words.Info.{InfoAsk, info_in, Informs}
 use Rattle.script_words.specs.words.Ledger.{LedgerAsk, ledger_in, ListsLedger}
+use Rattle.script_words.specs.words.Sync.{SyncAsk, sync_in, Syncs}
 use Rattle.script_words.specs.declared.words.Word.{Word}
 use Rattle.script_words.specs.declared.words.Word.TheVariants as word
 pub mod Load
@@ -41,6 +42,7 @@ pub mod Conflicts
 pub mod Docs
 pub mod Info
 pub mod Ledger
+pub mod Sync
 
 -- what a line asks: a word, with what it names
 pub data Asked : Type 0 where
@@ -59,6 +61,7 @@ pub data Asked : Type 0 where
   docs : DocsAsk → Asked
   info : InfoAsk → Asked
   ledger : LedgerAsk → Asked
+  sync : SyncAsk → Asked
 
 -- what an object asks by a word
 abbrev pub asked_as : Word → Data → Result Asked Refusal
@@ -77,6 +80,7 @@ asked_as word.Conflicts d = seen_as conflicts (conflicts_in d)
 asked_as word.Docs d = seen_as docs (docs_in d)
 asked_as word.Info d = seen_as info (info_in d)
 asked_as word.Ledger d = seen_as ledger (ledger_in d)
+asked_as word.Sync d = seen_as sync (sync_in d)
 
 -- where a word is known
 abbrev pub asked_if : Option Word → Data → Result Asked Refusal
@@ -101,7 +105,8 @@ asked_by name d =
     else (if bytes_eq name (codes "docs") then asked_as word.Docs d
     else (if bytes_eq name (codes "info") then asked_as word.Info d
     else (if bytes_eq name (codes "ledger") then asked_as word.Ledger d
-    else Err why.BadCommand))))))))))))))
+    else (if bytes_eq name (codes "sync") then asked_as word.Sync d
+    else Err why.BadCommand)))))))))))))))
 
 -- by its member `do`
 abbrev pub asked_in : Data → Result Asked Refusal
@@ -126,3 +131,4 @@ WordsAnswer old (conflicts ask) told new = ListsConflicts old ask told new
 WordsAnswer old (docs ask) told new = PrintsDocuments old ask told new
 WordsAnswer old (info ask) told new = Informs old ask told new
 WordsAnswer old (ledger ask) told new = ListsLedger old ask told new
+WordsAnswer old (sync ask) told new = Syncs old ask told new

@@ -6,18 +6,19 @@ ghost use Rattle.script_engine.specs.Script.{AnswersEnded, IsAnswered};
 ghost use Rattle.script_engine.specs.Faults.{IsFaultOf, IsSent, IsToldUntil};
 ghost use Rattle.script_engine.specs.declared.fault.ScriptFault.TheVariants.{Read};
 ghost use Rattle.script_databases.specs.Databases.{State, no_databases};
-ghost use Rattle.script_engine.specs.Serving.{MayTell};
+ghost use Rattle.script_engine.specs.Serving.{Fits, MayTell};
 ghost use Rattle.script_words.specs.Script.{LinesAnswer};
 ghost use Rattle.script_words.specs.Trust.{TrustedLines};
-ghost use Rattle.script_words.specs.Telling.{told_by};
+ghost use Rattle.script_words.specs.Rest.{FitsRest, told_begun};
 ghost use Rattle.script_databases.specs.Stored.{program_of};
 
 use crate::members::read_object;
+use crate::rest::Rest;
 use crate::words;
 use json_values::ValueReader;
 use script_databases::{Databases, Refusal, Settings};
 use script_engine::{Listen, ScriptFault, ScriptRead, ScriptWrite, Serve, leave, run_lines};
-use std::alloc::Global;
+use std::alloc::{AllocError, Global};
 use std::marker::Model;
 use std::mem;
 use std::sync::Wait;
@@ -46,13 +47,20 @@ impl<'a, H, L> Model for Interpreter<'a, H, L> {
 
 impl<'a, H: Threads + Wait + Sync, L: Listen> Serve for Interpreter<'a, H, L> {
     ghost use Rattle.std.specs.Thread.{IsSync};
+    ghost use Rattle.script_words.specs.Rest.{FitsRest, rest_left};
 
     ghost can_serve = { IsSync H.row };
 
     ghost answers = { LinesAnswer };
 
-    fn serve(&mut self, line: &[u8], answer: &mut Vec<u8>) -> Result<(), &'static str> {
-        match answer_line(
+    type Rest = Rest;
+
+    ghost fits = { FitsRest };
+
+    ghost left = { rest_left };
+
+    fn serve(&mut self, line: &[u8], answer: &mut Vec<u8>) -> Result<Option<Rest>, &'static str> {
+        let rest = match answer_line(
             self.rt,
             self.alloc,
             &mut self.values,
@@ -60,10 +68,14 @@ impl<'a, H: Threads + Wait + Sync, L: Listen> Serve for Interpreter<'a, H, L> {
             line,
             answer,
         ) {
-            Ok(()) => {}
+            Ok(rest) => rest,
             Err(refusal) => return Err(refusal.name()),
-        }
-        Ok(())
+        };
+        Ok(rest)
+    }
+
+    fn more(&self, rest: &mut Rest, piece: &mut Vec<u8>) -> Result<bool, AllocError> {
+        rest.more(self.alloc, &self.databases, piece)
     }
 
     #[inline]
@@ -72,7 +84,7 @@ impl<'a, H: Threads + Wait + Sync, L: Listen> Serve for Interpreter<'a, H, L> {
     }
 }
 
-/// Answers a line that is not blank.
+/// Answers a line that is not blank: gives the text of its answer, or the first piece of it, and what is left.
 fn answer_line<H: Threads + Wait + Sync>(
     rt: &H,
     alloc: Global,
@@ -80,9 +92,11 @@ fn answer_line<H: Threads + Wait + Sync>(
     databases: &mut Databases,
     line: &[u8],
     answer: &mut Vec<u8>,
-) -> Result<(), Refusal>
+) -> Result<Option<Rest>, Refusal>
     requires { answer.old.items ≡ [] }
-    ensures { MayTell LinesAnswer databases.old line.now (told_by result answer.new.items) databases.new }
+    ensures told { MayTell LinesAnswer databases.old line.now (told_begun databases.new result answer.new.items)
+        databases.new }
+    ensures fits { IfOk result (λ rest. Fits (FitsRest databases.new) rest) }
 {
     let value = match read_object(values, alloc, line) {
         Ok(value) => value,
@@ -98,7 +112,7 @@ fn answer_line<H: Threads + Wait + Sync>(
 /// Where memory is wanting within a line, the line is answered as refused and the script goes on. `Read` and `Write`
 /// come only where that device failed in this call, but that `Read` also comes in the place of a further read after
 /// 4,294,967,295 reads, each of at most 65,536 bytes. `Memory` comes before anything is read, or while a line is read
-/// in.
+/// in; `Cut` where memory is wanting behind the first piece of an answer.
 ///
 /// The databases of the script are left in memory, since to let go of each document takes long: a program ends behind
 /// it.

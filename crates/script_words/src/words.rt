@@ -1,10 +1,10 @@
 //! The words of a script, each in a room of its own: what it asks, what it does, and what it prints (docs/PROFILE.md,
 //! "Command lines", "Order of checks" and "Answers").
-ghost use Rattle.std.specs.Prelude.{◌≡◌, []};
+ghost use Rattle.std.specs.Prelude.{◌≡◌, [], IfOk};
 ghost use Rattle.json_values.specs.LineView.{line_view};
-ghost use Rattle.script_engine.specs.Serving.{MayTell};
+ghost use Rattle.script_engine.specs.Serving.{Fits, MayTell};
+ghost use Rattle.script_words.specs.Rest.{FitsRest, told_begun};
 ghost use Rattle.script_words.specs.Script.{AnswersAsked};
-ghost use Rattle.script_words.specs.Telling.{told_by};
 ghost use Rattle.script_words.specs.words.{asked_if, asked_in};
 
 mod audit;
@@ -22,14 +22,18 @@ mod log;
 mod replicate;
 mod restore;
 mod show;
+mod sync;
 
 use self::audit::Audit;
 use self::backup::Backup;
 use self::changes::Changes;
 use self::compare::Compare;
+pub use self::compare::CompareRest;
 use self::conflicts::Conflicts;
+pub use self::conflicts::ConflictsRest;
 use self::doc::Doc;
 use self::docs::Docs;
+pub use self::docs::DocsRest;
 use self::edit::Edit;
 use self::info::Info;
 use self::ledger::Ledger;
@@ -38,8 +42,10 @@ use self::log::Log;
 use self::replicate::Replicate;
 use self::restore::Restore;
 use self::show::Show;
+use self::sync::BothWays;
 use crate::members::text_member;
-use crate::room::serve_in;
+use crate::rest::Rest;
+use crate::room::{begin_in, serve_in, whole};
 use json_values::{Line, LineValue};
 use script_databases::{Databases, Refusal};
 use std::alloc::Global;
@@ -64,6 +70,7 @@ enum Word {
     Docs,
     Info,
     Ledger,
+    Sync,
 }
 
 /// The word of an object, by its member `do`.
@@ -86,46 +93,64 @@ fn word_of(value: &LineValue<'_>) -> Option<Word>
         Some("docs") => Some(Word::Docs),
         Some("info") => Some(Word::Info),
         Some("ledger") => Some(Word::Ledger),
+        Some("sync") => Some(Word::Sync),
         _ => None,
     }
 }
 
-/// Serves what an object asks, in the room of its word. It waits, where the word is `replicate`.
+/// Serves what an object asks, in the room of its word: gives the text of its answer, or the first piece of it, and what
+/// is left. It waits, where the word is `replicate` or `sync`.
 pub fn serve<H: Threads + Wait + Sync>(
     rt: &H,
     alloc: Global,
     databases: &mut Databases,
     line: &Line<'_>,
     answer: &mut Vec<u8>,
-) -> Result<(), Refusal>
+) -> Result<Option<Rest>, Refusal>
     requires empty { answer.old.items ≡ [] }
-    ensures { MayTell AnswersAsked databases.old (asked_in (line_view line.now)) (told_by result answer.new.items)
-        databases.new }
+    ensures told { MayTell AnswersAsked databases.old (asked_in (line_view line.now))
+        (told_begun databases.new result answer.new.items) databases.new }
+    ensures fits { IfOk result (λ rest. Fits (FitsRest databases.new) rest) }
 {
     let Some(word) = word_of(line.value()) else {
         return Err(Refusal::BadCommand);
     };
     match word {
-        Word::Load => serve_in::<&Line<'_>, Load<'_, '_>, H>(rt, alloc, databases, line, answer),
-        Word::Edit => serve_in::<&Line<'_>, Edit<'_, '_>, H>(rt, alloc, databases, line, answer),
-        Word::Show => serve_in::<&Line<'_>, Show<'_>, H>(rt, alloc, databases, line, answer),
-        Word::Doc => serve_in::<&Line<'_>, Doc<'_>, H>(rt, alloc, databases, line, answer),
-        Word::Changes => serve_in::<&Line<'_>, Changes<'_>, H>(rt, alloc, databases, line, answer),
-        Word::Log => serve_in::<&Line<'_>, Log<'_, '_>, H>(rt, alloc, databases, line, answer),
-        Word::Audit => serve_in::<&Line<'_>, Audit<'_, '_>, H>(rt, alloc, databases, line, answer),
-        Word::Replicate => serve_in::<&Line<'_>, Replicate<'_, '_>, H>(
+        Word::Load => whole(serve_in::<&Line<'_>, Load<'_, '_>, H>(
             rt, alloc, databases, line, answer,
-        ),
-        Word::Backup => serve_in::<&Line<'_>, Backup<'_>, H>(rt, alloc, databases, line, answer),
-        Word::Restore => serve_in::<&Line<'_>, Restore<'_>, H>(rt, alloc, databases, line, answer),
-        Word::Compare => serve_in::<&Line<'_>, Compare<'_, '_>, H>(
+        )),
+        Word::Edit => whole(serve_in::<&Line<'_>, Edit<'_, '_>, H>(
             rt, alloc, databases, line, answer,
-        ),
-        Word::Conflicts => serve_in::<&Line<'_>, Conflicts<'_>, H>(
+        )),
+        Word::Show => whole(serve_in::<&Line<'_>, Show<'_>, H>(rt, alloc, databases, line, answer)),
+        Word::Doc => whole(serve_in::<&Line<'_>, Doc<'_>, H>(rt, alloc, databases, line, answer)),
+        Word::Changes => whole(serve_in::<&Line<'_>, Changes<'_>, H>(
             rt, alloc, databases, line, answer,
-        ),
-        Word::Docs => serve_in::<&Line<'_>, Docs<'_, '_>, H>(rt, alloc, databases, line, answer),
-        Word::Info => serve_in::<&Line<'_>, Info<'_>, H>(rt, alloc, databases, line, answer),
-        Word::Ledger => serve_in::<&Line<'_>, Ledger<'_>, H>(rt, alloc, databases, line, answer),
+        )),
+        Word::Log => whole(serve_in::<&Line<'_>, Log<'_, '_>, H>(
+            rt, alloc, databases, line, answer,
+        )),
+        Word::Audit => whole(serve_in::<&Line<'_>, Audit<'_, '_>, H>(
+            rt, alloc, databases, line, answer,
+        )),
+        Word::Replicate => whole(serve_in::<&Line<'_>, Replicate<'_, '_>, H>(
+            rt, alloc, databases, line, answer,
+        )),
+        Word::Backup => whole(serve_in::<&Line<'_>, Backup<'_>, H>(
+            rt, alloc, databases, line, answer,
+        )),
+        Word::Restore => whole(serve_in::<&Line<'_>, Restore<'_>, H>(
+            rt, alloc, databases, line, answer,
+        )),
+        Word::Compare => begin_in::<&Line<'_>, Compare<'_, '_>>(alloc, databases, line, answer),
+        Word::Conflicts => begin_in::<&Line<'_>, Conflicts<'_>>(alloc, databases, line, answer),
+        Word::Docs => begin_in::<&Line<'_>, Docs<'_, '_>>(alloc, databases, line, answer),
+        Word::Info => whole(serve_in::<&Line<'_>, Info<'_>, H>(rt, alloc, databases, line, answer)),
+        Word::Ledger => whole(serve_in::<&Line<'_>, Ledger<'_>, H>(
+            rt, alloc, databases, line, answer,
+        )),
+        Word::Sync => whole(serve_in::<&Line<'_>, BothWays<'_, '_>, H>(
+            rt, alloc, databases, line, answer,
+        )),
     }
 }

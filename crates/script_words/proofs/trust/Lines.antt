@@ -4,7 +4,7 @@ use Rattle.script_engine.specs.Script.{AnswersEnded, AnswersFirst, IsAnswered, I
 use Rattle.script_engine.specs.Faults.{IsToldUntil}
 use Rattle.script_engine.specs.Serving.{Told, gave_up, in_full, served_only}
 use Rattle.script_engine.specs.declared.fault.ScriptFault.{ScriptFault}
-use Rattle.script_engine.specs.declared.fault.ScriptFault.TheVariants.{Memory, Read, Write}
+use Rattle.script_engine.specs.declared.fault.ScriptFault.TheVariants.{Cut, Memory, Read, Write}
 use Rattle.script_databases.specs.AllTied.{AllTied}
 use Rattle.script_databases.specs.Databases.{State}
 use Rattle.script_databases.specs.declared.refusal.Refusal.{Refusal}
@@ -47,6 +47,7 @@ pub until_trusted : (fault : ScriptFault) (old : State) (input text : List ℕ) 
 until_trusted Read old input text h t = (so_far_trusted old input text h t.0, first_trusted old input text h t.1)
 until_trusted Write old input text h t = so_far_trusted old input text h t
 until_trusted Memory old input text h t = (so_far_trusted old input text h t.0, first_trusted old input text h t.1)
+until_trusted Cut old input text h t = so_far_trusted old input text h t
 
 pub ended_trusted : (old : State) (bytes text : List ℕ) (new : State) → AllTied old → AnswersEnded LinesAnswer old bytes text new → AnswersEnded TrustedLines old bytes text new
 ended_trusted old bytes text new h (lines, begun, told, cut, ended, run, is) = (lines, begun, told, cut, ended, run_trusted lines told old new h run, is)

@@ -1,5 +1,5 @@
 -- `compare`: docs/PROFILE.md, "Command lines" and "Answers".
-use Rattle.std.specs.Prelude.{ℕ, List, [], ◌∷◌, ◌++◌, codes, decimal, Option, Some, None, Result, Ok, option_map}
+use Rattle.std.specs.Prelude.{◌≡◌, ℕ, List, [], ◌∷◌, ◌++◌, codes, decimal, Option, Some, None, Result, Ok, option_map, string_bytes}
 use Rattle.std.specs.List.{flat_map}
 use Rattle.serde_json.specs.Data.{Data}
 use Rattle.json_values.specs.LineView.{line_items}
@@ -12,7 +12,7 @@ use Rattle.repl_survey.specs.Comparisons.{compared_at, comparisons}
 use Rattle.repl_survey.specs.Totals.{total_of}
 use Rattle.repl_survey.specs.declared.total.Total.{Total}
 use Rattle.script_engine.specs.Serving.{Answering}
-use Rattle.script_databases.specs.Databases.{State}
+use Rattle.script_databases.specs.Databases.{State, peer_at}
 use Rattle.script_databases.specs.declared.refusal.Refusal.{Refusal}
 use Rattle.rev_core.specs.Checks.{◌>>=◌}
 use Rattle.script_words.specs.Checks.{needed}
@@ -20,7 +20,9 @@ use Rattle.script_words.specs.Given.{choice_given}
 use Rattle.script_words.specs.Members.{as_texts, name_at, optional, texts_of, if_only}
 use Rattle.script_words.specs.Telling.{database_of, Reads}
 use Rattle.script_words.specs.Texts.{ended, revs_line}
+use Rattle.script_words.specs.Walks.{left_in, holds_in, rows_left, rows_walked}
 use Rattle.script_words.specs.declared.words.compare.Compare.{Compare}
+use Rattle.script_words.specs.declared.words.compare.CompareRest.{CompareRest}
 
 -- ---- what it asks
 
@@ -78,6 +80,20 @@ abbrev pub compare_text : DatabaseValue → DatabaseValue → Choice → List �
 compare_text source target chosen =
     flat_map (compared_lines source target) (chosen_feed chosen source 0 source.update_seq)
     ++ compared_line (total_of (comparisons source target (chosen_feed chosen source 0 source.update_seq)))
+
+-- what is left of it: the total is that of all rows
+abbrev pub compare_left : State → CompareRest → List ℕ
+compare_left s r =
+    left_in (peer_at s (string_bytes r.source)) (λ source. left_in (peer_at s (string_bytes r.target)) (λ target.
+    flat_map (compared_lines source.db target.db) (rows_left source.db r.walk)
+    ++ compared_line (total_of (comparisons source.db target.db (rows_walked source.db r.walk)))))
+
+-- what was added up is the total of the rows before those that are left
+abbrev pub FitsCompare : State → CompareRest → Type 0
+FitsCompare s r =
+    holds_in (peer_at s (string_bytes r.source)) (λ source. holds_in (peer_at s (string_bytes r.target)) (λ target.
+    (earlier : List RowValue) × (r.total ≡ total_of (comparisons source.db target.db earlier))
+    × (earlier ++ rows_left source.db r.walk ≡ rows_walked source.db r.walk)))
 
 -- ---- what it does
 

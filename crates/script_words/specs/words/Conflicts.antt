@@ -1,22 +1,24 @@
 -- `conflicts`: docs/PROFILE.md, "Command lines" and "Answers".
-use Rattle.std.specs.Prelude.{ℕ, List, [], ◌∷◌, ◌++◌, codes, decimal, Result, Ok}
+use Rattle.std.specs.Prelude.{◌≡◌, ℕ, List, map, [], ◌∷◌, ◌++◌, codes, decimal, None, Result, Ok, string_bytes}
 use Rattle.std.specs.List.{flat_map}
 use Rattle.std.specs.Option.{option_map_or}
 use Rattle.serde_json.specs.Data.{Data}
-use Rattle.couch_base.specs.Database.{DatabaseValue, tree_in}
+use Rattle.couch_base.specs.Database.{DatabaseValue, tree_in, tree_of}
 use Rattle.couch_base.specs.Feed.{RowValue, feed}
 use Rattle.repl_survey.specs.Censuses.{census_of, trees}
 use Rattle.repl_survey.specs.Conflicts.{conflicting}
 use Rattle.repl_survey.specs.declared.census.Census.{Census}
 use Rattle.script_engine.specs.Serving.{Answering}
-use Rattle.script_databases.specs.Databases.{State}
+use Rattle.script_databases.specs.Databases.{State, peer_at}
 use Rattle.script_databases.specs.declared.refusal.Refusal.{Refusal}
 use Rattle.rev_core.specs.Checks.{◌>>=◌}
 use Rattle.script_words.specs.Checks.{needed}
 use Rattle.script_words.specs.Members.{name_at, if_only}
 use Rattle.script_words.specs.Telling.{database_of, Reads}
 use Rattle.script_words.specs.Texts.{ended, revs_line}
+use Rattle.script_words.specs.Walks.{left_in, holds_in, rows_left, rows_walked}
 use Rattle.script_words.specs.declared.words.conflicts.Conflicts.{Conflicts}
+use Rattle.script_words.specs.declared.words.conflicts.ConflictsRest.{ConflictsRest}
 
 -- ---- what it asks
 
@@ -44,6 +46,18 @@ conflicts_line c = ended (codes "conflicts " ++ decimal c.conflicts ++ codes " o
 
 abbrev pub conflicts_text : DatabaseValue → List ℕ
 conflicts_text db = flat_map (conflict_line db) (feed db 0 db.update_seq) ++ conflicts_line (census_of (trees db))
+
+-- what is left of it: the counts are those of all documents
+abbrev pub conflicts_left : State → ConflictsRest → List ℕ
+conflicts_left s r =
+    left_in (peer_at s (string_bytes r.db)) (λ l. flat_map (conflict_line l.db) (rows_left l.db r.walk) ++ conflicts_line (census_of (trees l.db)))
+
+-- what was counted is of the documents before those that are left, which are all others
+abbrev pub FitsConflicts : State → ConflictsRest → Type 0
+FitsConflicts s r =
+    holds_in (peer_at s (string_bytes r.db)) (λ l. (earlier : List RowValue)
+    × (r.census ≡ census_of (map (λ x. tree_of l.db.docs x.id) earlier))
+    × (earlier ++ rows_left l.db r.walk ≡ rows_walked l.db r.walk) × (r.walk.chosen ≡ None))
 
 -- ---- what it does
 

@@ -1,5 +1,5 @@
 -- `docs`: docs/PROFILE.md, "Command lines" and "Answers".
-use Rattle.std.specs.Prelude.{ℕ, List, [], ◌∷◌, ◌++◌, codes, unwrap_or, Option, Result, Ok, option_map}
+use Rattle.std.specs.Prelude.{ℕ, List, [], ◌∷◌, ◌++◌, codes, unwrap_or, Option, Result, Ok, option_map, string_bytes}
 use Rattle.std.specs.List.{flat_map}
 use Rattle.serde_json.specs.Data.{Data}
 use Rattle.json_values.specs.LineView.{line_items}
@@ -10,7 +10,7 @@ use Rattle.couch_base.specs.Database.{DatabaseValue}
 use Rattle.couch_base.specs.Feed.{RowValue, chosen_feed}
 use Rattle.repl_survey.specs.Documents.{documents_at}
 use Rattle.script_engine.specs.Serving.{Answering}
-use Rattle.script_databases.specs.Databases.{State}
+use Rattle.script_databases.specs.Databases.{State, peer_at}
 use Rattle.script_databases.specs.declared.refusal.Refusal.{Refusal}
 use Rattle.rev_core.specs.Checks.{◌>>=◌}
 use Rattle.script_words.specs.Checks.{needed}
@@ -18,7 +18,9 @@ use Rattle.script_words.specs.Given.{choice_given}
 use Rattle.script_words.specs.Members.{as_texts, as_whole, name_at, optional, texts_of, if_only}
 use Rattle.script_words.specs.Telling.{database_of, Reads}
 use Rattle.script_words.specs.Texts.{ended, last_line}
+use Rattle.script_words.specs.Walks.{left_in, rows_left}
 use Rattle.script_words.specs.declared.words.docs.Docs.{Docs}
+use Rattle.script_words.specs.declared.words.docs.DocsRest.{DocsRest}
 
 -- ---- what it asks
 
@@ -54,6 +56,10 @@ leaf_lines db r = flat_map doc_line (documents_at db r.id)
 
 abbrev pub docs_text : DatabaseValue → ℕ → Choice → List ℕ
 docs_text db since chosen = flat_map (leaf_lines db) (chosen_feed chosen db since db.update_seq) ++ last_line db.update_seq
+
+-- what is left of it
+abbrev pub docs_left : State → DocsRest → List ℕ
+docs_left s r = left_in (peer_at s (string_bytes r.db)) (λ l. flat_map (leaf_lines l.db) (rows_left l.db r.walk) ++ last_line l.db.update_seq)
 
 -- ---- what it does
 

@@ -1,24 +1,20 @@
 //! `compare`: what a target misses of a source, by their documents alone.
-ghost use Rattle.std.specs.Prelude.{◌≡◌, ◌++◌, OnOk};
-ghost use Rattle.std.specs.Option.{option_copied};
+ghost use Rattle.std.specs.Prelude.{◌≡◌, ◌++◌, ◌<◌, [], length, true, if◌then◌else◌, IfOk, OnOk};
 ghost use Rattle.json_values.specs.LineView.{line_view};
-ghost use Rattle.script_words.specs.words.Compare.{compare_text, compared_line, compared_part, comparison_lines, contradicts_line, found_part};
+ghost use Rattle.script_words.specs.words.Compare.{FitsCompare, compare_left, compared_line, compared_part, comparison_lines, contradicts_line, found_part};
 
-use crate::feed::{RowPrinter, print_feed};
+use crate::feed::{RowPrinter, Walk, fill};
 use crate::given::read_choice;
 use crate::members::{has_only_members, name_member, optional_texts};
-use crate::room::Room;
+use crate::rest::Rest;
+use crate::room::LongRoom;
 use crate::texts::{push_number, push_revs_line};
 use couch_base::{Database, Row};
-use doc_json::Chosen;
 use json_values::{Line, LineValue};
-use repl_survey::{Comparison, Total, compare, compare_feed};
-use repl_target::{Peer, Rules};
+use repl_survey::{Comparison, Total, compare};
 use rev_tree::Contradiction;
 use script_databases::{Databases, Refusal};
 use std::alloc::{AllocError, Global};
-use std::sync::Wait;
-use std::thread::Threads;
 
 /// What a `compare` line asks.
 #[derive(Drop)]
@@ -29,7 +25,7 @@ pub struct Compare<'v, 'a> {
     pub doc_ids: Option<&'v Vec<LineValue<'a>>>,
 }
 
-impl<'v, 'a> Room<&'v Line<'a>> for Compare<'v, 'a> {
+impl<'v, 'a> LongRoom<&'v Line<'a>> for Compare<'v, 'a> {
     ghost use Rattle.script_words.specs.words.Compare.{CompareAsk, Compares, compare_asked, compare_in};
 
     ghost seen = { λ line. line_view line.now };
@@ -57,47 +53,70 @@ impl<'v, 'a> Room<&'v Line<'a>> for Compare<'v, 'a> {
         })
     }
 
-    /// Serves `compare`.
-    fn serve<H: Threads + Wait + Sync>(
-        &self,
-        _rt: &H,
-        alloc: Global,
-        databases: &mut Databases,
-        answer: &mut Vec<u8>,
-    ) -> Result<(), Refusal> {
-        let Some(source) = databases.find(self.source) else {
+    fn begin(&self, alloc: Global, databases: &Databases) -> Result<Rest, Refusal> {
+        let Some(_source) = databases.find(self.source) else {
             return Err(Refusal::NoDatabase);
         };
-        let Some(target) = databases.find(self.target) else {
+        let Some(_target) = databases.find(self.target) else {
             return Err(Refusal::NoDatabase);
         };
         let chosen = read_choice(alloc, self.doc_ids)?;
-        print(alloc, answer, source, target, chosen.as_ref())?;
-        Ok(())
+        let source = String::from_str(alloc, self.source)?;
+        let target = String::from_str(alloc, self.target)?;
+        Ok(Rest::Compare(CompareRest {
+            source,
+            target,
+            walk: Walk { since: 0, chosen },
+            total: Total::none(),
+        }))
     }
 }
 
-/// Prints what the target misses of each document, and the total.
-fn print(
-    alloc: Global,
-    answer: &mut Vec<u8>,
-    source: &Peer<Rules>,
-    target: &Peer<Rules>,
-    chosen: Option<&Chosen>,
-) -> Result<(), AllocError>
-    ensures { OnOk result (answer.new.items ≡ answer.old.items
-        ++ compare_text source.now.1.db target.now.1.db (option_copied chosen.entry)) }
-{
-    let ours = source.db();
-    let theirs = target.db();
-    let rows = ComparedRows {
-        source: ours,
-        target: theirs,
-    };
-    print_feed(alloc, answer, ours, 0, chosen, &rows)?;
-    let total = compare_feed(alloc, source, target, chosen)?;
-    push_total(answer, &total)?;
-    Ok(())
+/// How many rows are read at a time, at most.
+const PAGE: u64 = 100;
+
+/// What is left of an answer to `compare`, and the total of what was compared.
+#[derive(Drop)]
+pub struct CompareRest {
+    pub source: String,
+    pub target: String,
+    pub walk: Walk,
+    pub total: Total,
+}
+
+impl CompareRest {
+    /// Adds what there is to say of documents to a piece until it is full, then the total, and tells whether more is left.
+    pub fn more(
+        &mut self,
+        alloc: Global,
+        databases: &Databases,
+        piece: &mut Vec<u8>,
+    ) -> Result<bool, AllocError>
+        requires fits { FitsCompare databases.now self.old }
+        ensures piece { IfOk result
+            (λ more. piece.new.items ++ (if more then compare_left databases.now self.new else [])
+            ≡ piece.old.items ++ compare_left databases.now self.old) }
+        ensures some { IfOk result (λ more. more ≡ true → 0 < length piece.new.items) }
+        ensures fits { OnOk result (FitsCompare databases.now self.new) }
+    {
+        let Some(source) = databases.find(self.source.as_str()) else {
+            return Ok(false);
+        };
+        let Some(target) = databases.find(self.target.as_str()) else {
+            return Ok(false);
+        };
+        let ours = source.db();
+        let rows = ComparedRows {
+            source: ours,
+            target: target.db(),
+        };
+        let walk = &mut self.walk;
+        if fill(alloc, piece, ours, walk, PAGE, &rows, &mut self.total)? {
+            return Ok(true);
+        }
+        push_total(piece, &self.total)?;
+        Ok(false)
+    }
 }
 
 /// Prints the total.
@@ -132,7 +151,7 @@ fn push_found(answer: &mut Vec<u8>, total: &Total) -> Result<(), AllocError>
     push_number(answer, total.differing)
 }
 
-/// Rows of a source, each with what a target misses of its document.
+/// Rows of a source, each with what a target misses of its document, and their total.
 #[derive(Drop)]
 struct ComparedRows<'a> {
     source: &'a Database,
@@ -140,13 +159,28 @@ struct ComparedRows<'a> {
 }
 
 impl<'a> RowPrinter for ComparedRows<'a> {
+    ghost use Rattle.std.specs.Prelude.{◌≡◌};
+    ghost use Rattle.repl_survey.specs.Comparisons.{comparisons};
+    ghost use Rattle.repl_survey.specs.Totals.{total_of};
     ghost use Rattle.script_words.specs.words.Compare.{compared_lines};
+
+    type Tally = Total;
 
     ghost row_text = { λ p row. compared_lines p.source.now p.target.now row };
 
-    fn push_row(&self, alloc: Global, answer: &mut Vec<u8>, row: &Row) -> Result<(), AllocError> {
+    ghost counts = { λ p total rows. total ≡ total_of (comparisons p.source.now p.target.now rows) };
+
+    fn push_row(
+        &self,
+        alloc: Global,
+        answer: &mut Vec<u8>,
+        row: &Row,
+        tally: &mut Total,
+    ) -> Result<(), AllocError> {
         let comparison = compare(alloc, self.source, self.target, row.id())?;
-        push_comparison(answer, row.id().text(), &comparison)
+        push_comparison(answer, row.id().text(), &comparison)?;
+        tally.add(&comparison);
+        Ok(())
     }
 }
 

@@ -1,19 +1,19 @@
 //! `conflicts`: the documents of which two or more leaves are not deleted.
-ghost use Rattle.std.specs.Prelude.{◌≡◌, ◌++◌, OnOk};
+ghost use Rattle.std.specs.Prelude.{◌≡◌, ◌++◌, ◌<◌, [], length, true, if◌then◌else◌, IfOk, OnOk};
 ghost use Rattle.json_values.specs.LineView.{line_view};
-ghost use Rattle.script_words.specs.words.Conflicts.{conflicts_line, conflicts_text};
+ghost use Rattle.script_words.specs.words.Conflicts.{FitsConflicts, conflicts_left, conflicts_line};
 
-use crate::feed::{RowPrinter, print_feed};
+use crate::feed::{RowPrinter, Walk, fill};
 use crate::members::{has_only_members, name_member};
-use crate::room::Room;
+use crate::rest::Rest;
+use crate::room::LongRoom;
 use crate::texts::{push_number, push_revs_line};
 use couch_base::{Database, Row};
 use json_values::Line;
-use repl_survey::{Census, census_of, conflicting};
+use repl_survey::{Census, conflicting};
+use rev_tree::Tree;
 use script_databases::{Databases, Refusal};
 use std::alloc::{AllocError, Global};
-use std::sync::Wait;
-use std::thread::Threads;
 
 /// What a `conflicts` line asks.
 #[derive(Drop)]
@@ -21,7 +21,7 @@ pub struct Conflicts<'a> {
     pub db: &'a str,
 }
 
-impl<'v, 'a> Room<&'v Line<'a>> for Conflicts<'v> {
+impl<'v, 'a> LongRoom<&'v Line<'a>> for Conflicts<'v> {
     ghost use Rattle.script_words.specs.words.Conflicts.{ConflictsAsk, ListsConflicts, conflicts_asked, conflicts_in};
 
     ghost seen = { λ line. line_view line.now };
@@ -43,30 +43,62 @@ impl<'v, 'a> Room<&'v Line<'a>> for Conflicts<'v> {
         Some(Conflicts { db })
     }
 
-    /// Serves `conflicts`.
-    fn serve<H: Threads + Wait + Sync>(
-        &self,
-        _rt: &H,
-        alloc: Global,
-        databases: &mut Databases,
-        answer: &mut Vec<u8>,
-    ) -> Result<(), Refusal> {
-        let Some(peer) = databases.find(self.db) else {
+    fn begin(&self, alloc: Global, databases: &Databases) -> Result<Rest, Refusal> {
+        let Some(_peer) = databases.find(self.db) else {
             return Err(Refusal::NoDatabase);
         };
-        print(alloc, answer, peer.db())?;
-        Ok(())
+        let db = String::from_str(alloc, self.db)?;
+        let walk = Walk {
+            since: 0,
+            chosen: None,
+        };
+        Ok(Rest::Conflicts(ConflictsRest {
+            db,
+            walk,
+            census: Census::none(),
+        }))
     }
 }
 
-/// Prints the documents in conflict, and how many they are.
-fn print(alloc: Global, answer: &mut Vec<u8>, database: &Database) -> Result<(), AllocError>
-    ensures { OnOk result (answer.new.items ≡ answer.old.items ++ conflicts_text database.now) }
-{
-    print_feed(alloc, answer, database, 0, None, &ConflictRows { database })?;
-    let census = census_of(alloc, database)?;
-    push_counts(answer, &census)?;
-    Ok(())
+/// How many rows are read at a time, at most.
+const PAGE: u64 = 100;
+
+/// What is left of an answer to `conflicts`, and how much the documents are that were looked at.
+#[derive(Drop)]
+pub struct ConflictsRest {
+    pub db: String,
+    pub walk: Walk,
+    pub census: Census,
+}
+
+impl ConflictsRest {
+    /// Adds documents in conflict to a piece until it is full, then how many they are, and tells whether more is left.
+    pub fn more(
+        &mut self,
+        alloc: Global,
+        databases: &Databases,
+        piece: &mut Vec<u8>,
+    ) -> Result<bool, AllocError>
+        requires fits { FitsConflicts databases.now self.old }
+        ensures piece { IfOk result
+            (λ more. piece.new.items ++ (if more then conflicts_left databases.now self.new else [])
+            ≡ piece.old.items ++ conflicts_left databases.now self.old) }
+        ensures some { IfOk result (λ more. more ≡ true → 0 < length piece.new.items) }
+        ensures fits { OnOk result (FitsConflicts databases.now self.new) }
+    {
+        let Some(peer) = databases.find(self.db.as_str()) else {
+            return Ok(false);
+        };
+        let database = peer.db();
+        database.law();
+        let rows = ConflictRows { database };
+        let walk = &mut self.walk;
+        if fill(alloc, piece, database, walk, PAGE, &rows, &mut self.census)? {
+            return Ok(true);
+        }
+        push_counts(piece, &self.census)?;
+        Ok(false)
+    }
 }
 
 /// Prints how many documents are in conflict.
@@ -80,23 +112,36 @@ fn push_counts(answer: &mut Vec<u8>, census: &Census) -> Result<(), AllocError>
     answer.extend_from_slice(b" documents\n")
 }
 
-/// Rows whose documents are in conflict, each with the leaves that are.
+/// Rows whose documents are in conflict, each with the leaves that are, and how much the documents are of all rows.
 #[derive(Drop)]
 struct ConflictRows<'a> {
     database: &'a Database,
 }
 
 impl<'a> RowPrinter for ConflictRows<'a> {
+    ghost use Rattle.std.specs.Prelude.{◌≡◌, map};
+    ghost use Rattle.couch_base.specs.Database.{tree_of};
+    ghost use Rattle.repl_survey.specs.Censuses.{census_of};
     ghost use Rattle.script_words.specs.words.Conflicts.{conflict_line};
+
+    type Tally = Census;
 
     ghost row_text = { λ p row. conflict_line p.database.now row };
 
-    fn push_row(&self, alloc: Global, answer: &mut Vec<u8>, row: &Row) -> Result<(), AllocError> {
+    ghost counts = { λ p census rows. census ≡ census_of (map (λ r. tree_of p.database.now.docs r.id) rows) };
+
+    fn push_row(
+        &self,
+        alloc: Global,
+        answer: &mut Vec<u8>,
+        row: &Row,
+        tally: &mut Census,
+    ) -> Result<(), AllocError> {
         let Some(tree) = self.database.tree(row.id()) else {
-            return Ok(());
+            return tally.add(alloc, &Tree::new(alloc));
         };
         let leaves = conflicting(alloc, tree)?;
         push_revs_line(answer, b"conflict", row.id().text(), leaves.as_slice())?;
-        Ok(())
+        tally.add(alloc, tree)
     }
 }

@@ -1,23 +1,21 @@
 //! `docs`: the documents of a database, each at each of its leaves.
-ghost use Rattle.std.specs.Prelude.{◌≡◌, ◌++◌, OnOk};
+ghost use Rattle.std.specs.Prelude.{◌≡◌, ◌++◌, ◌<◌, [], length, true, if◌then◌else◌, IfOk, OnOk};
 ghost use Rattle.std.specs.List.{flat_map};
-ghost use Rattle.std.specs.Option.{option_copied};
 ghost use Rattle.json_values.specs.LineView.{line_view};
-ghost use Rattle.script_words.specs.words.Docs.{doc_line, docs_text};
+ghost use Rattle.script_words.specs.words.Docs.{doc_line, docs_left};
 
-use crate::feed::{RowPrinter, print_feed};
+use crate::feed::{NoTally, RowPrinter, Walk, fill};
 use crate::given::read_choice;
 use crate::members::{has_only_members, name_member, optional_texts, optional_whole};
-use crate::room::Room;
+use crate::rest::Rest;
+use crate::room::LongRoom;
 use crate::texts::push_last;
 use couch_base::{Database, Row};
-use doc_json::{Chosen, Doc, push_doc};
+use doc_json::{Doc, push_doc};
 use json_values::{Line, LineValue};
 use repl_survey::documents_of;
 use script_databases::{Databases, Refusal};
 use std::alloc::{AllocError, Global};
-use std::sync::Wait;
-use std::thread::Threads;
 
 /// What a `docs` line asks.
 #[derive(Drop)]
@@ -29,7 +27,7 @@ pub struct Docs<'v, 'a> {
     pub doc_ids: Option<&'v Vec<LineValue<'a>>>,
 }
 
-impl<'v, 'a> Room<&'v Line<'a>> for Docs<'v, 'a> {
+impl<'v, 'a> LongRoom<&'v Line<'a>> for Docs<'v, 'a> {
     ghost use Rattle.script_words.specs.words.Docs.{DocsAsk, PrintsDocuments, docs_asked, docs_in};
 
     ghost seen = { λ line. line_view line.now };
@@ -54,44 +52,62 @@ impl<'v, 'a> Room<&'v Line<'a>> for Docs<'v, 'a> {
         Some(Docs { db, since, doc_ids })
     }
 
-    /// Serves `docs`.
-    fn serve<H: Threads + Wait + Sync>(
-        &self,
-        _rt: &H,
-        alloc: Global,
-        databases: &mut Databases,
-        answer: &mut Vec<u8>,
-    ) -> Result<(), Refusal> {
-        let Some(peer) = databases.find(self.db) else {
+    fn begin(&self, alloc: Global, databases: &Databases) -> Result<Rest, Refusal> {
+        let Some(_peer) = databases.find(self.db) else {
             return Err(Refusal::NoDatabase);
         };
         let chosen = read_choice(alloc, self.doc_ids)?;
-        print(alloc, answer, peer.db(), self.since, chosen.as_ref())?;
-        Ok(())
+        let db = String::from_str(alloc, self.db)?;
+        let walk = Walk {
+            since: self.since,
+            chosen,
+        };
+        Ok(Rest::Docs(DocsRest { db, walk }))
     }
 }
 
-/// Prints the documents above a sequence, and the update sequence.
-fn print(
-    alloc: Global,
-    answer: &mut Vec<u8>,
-    database: &Database,
-    since: u64,
-    chosen: Option<&Chosen>,
-) -> Result<(), AllocError>
-    ensures { OnOk result (answer.new.items ≡ answer.old.items
-        ++ docs_text database.now since (option_copied chosen.entry)) }
-{
-    print_feed(
-        alloc,
-        answer,
-        database,
-        since,
-        chosen,
-        &DocumentRows { database },
-    )?;
-    push_last(answer, database.update_seq())?;
-    Ok(())
+/// How many rows are read at a time, at most: a document may be large, and the pieces are to be small.
+const PAGE: u64 = 16;
+
+/// What is left of an answer to `docs`.
+#[derive(Drop)]
+pub struct DocsRest {
+    pub db: String,
+    pub walk: Walk,
+}
+
+impl DocsRest {
+    /// Adds documents to a piece until it is full, then the update sequence, and tells whether more is left.
+    pub fn more(
+        &mut self,
+        alloc: Global,
+        databases: &Databases,
+        piece: &mut Vec<u8>,
+    ) -> Result<bool, AllocError>
+        ensures piece { IfOk result
+            (λ more. piece.new.items ++ (if more then docs_left databases.now self.new else [])
+            ≡ piece.old.items ++ docs_left databases.now self.old) }
+        ensures some { IfOk result (λ more. more ≡ true → 0 < length piece.new.items) }
+    {
+        let Some(peer) = databases.find(self.db.as_str()) else {
+            return Ok(false);
+        };
+        let database = peer.db();
+        let rows = DocumentRows { database };
+        if fill(
+            alloc,
+            piece,
+            database,
+            &mut self.walk,
+            PAGE,
+            &rows,
+            &mut NoTally,
+        )? {
+            return Ok(true);
+        }
+        push_last(piece, database.update_seq())?;
+        Ok(false)
+    }
 }
 
 /// Rows, each with its document at each of its leaves.
@@ -103,9 +119,17 @@ struct DocumentRows<'a> {
 impl<'a> RowPrinter for DocumentRows<'a> {
     ghost use Rattle.script_words.specs.words.Docs.{leaf_lines};
 
+    type Tally = NoTally;
+
     ghost row_text = { λ p row. leaf_lines p.database.now row };
 
-    fn push_row(&self, alloc: Global, answer: &mut Vec<u8>, row: &Row) -> Result<(), AllocError> {
+    fn push_row(
+        &self,
+        alloc: Global,
+        answer: &mut Vec<u8>,
+        row: &Row,
+        _tally: &mut NoTally,
+    ) -> Result<(), AllocError> {
         let documents = documents_of(alloc, self.database, row.id())?;
         push_documents(answer, documents.as_slice())
     }

@@ -1,11 +1,13 @@
 //! `replicate`: a replication from one database into another.
-ghost use Rattle.std.specs.Prelude.{◌≡◌, ◌<◌, ◌≤◌, ◌++◌, true, OnOk, IfOk, IfErr};
+ghost use Rattle.std.specs.Prelude.{◌≡◌, ◌<◌, ◌≤◌, ◌++◌, [], true, OnOk, IfOk, IfErr};
 ghost use Rattle.script_words.specs.Checks.{needed};
 ghost use Rattle.std.specs.FinMap.{contains_key};
 ghost use Rattle.script_databases.specs.Replications.{ReplicatesBetween};
 ghost use Rattle.script_databases.specs.declared.refusal.Refusal.TheVariants.{BadMoment};
 ghost use Rattle.json_values.specs.LineView.{line_view};
-ghost use Rattle.script_words.specs.words.Replicate.{EndsBy, checked_part, documents_part, ending_line, ending_of, ending_of_run, ending_of_watched, last_second, moment_of, options_in, plan_with, progress_line, report_line, session_of, session_part, stopped_line, with_session};
+ghost use Rattle.script_engine.specs.Serving.{MayTell};
+ghost use Rattle.script_words.specs.Telling.{told_by};
+ghost use Rattle.script_words.specs.words.Replicate.{EndsBy, ReportsReplication, checked_part, documents_part, ending_line, ending_of, ending_of_run, ending_of_watched, last_second, moment_of, options_in, plan_with, progress_line, replicate_asked, report_line, session_of, session_part, stopped_line, with_session};
 
 use crate::given::read_choice;
 use crate::members::{
@@ -110,8 +112,7 @@ impl<'v, 'a> Room<&'v Line<'a>> for Replicate<'v, 'a> {
         })
     }
 
-    /// Serves `replicate`. An id is made for a session that has none, once both databases are found, and before the line's
-    /// ids are looked at. It waits, where the line does not ask for one thread.
+    /// Serves `replicate`. It waits, where the line does not ask for one thread.
     fn serve<H: Threads + Wait + Sync>(
         &self,
         rt: &H,
@@ -119,19 +120,36 @@ impl<'v, 'a> Room<&'v Line<'a>> for Replicate<'v, 'a> {
         databases: &mut Databases,
         answer: &mut Vec<u8>,
     ) -> Result<(), Refusal> {
-        if !databases.has(self.source) {
-            return Err(Refusal::NoDatabase);
-        }
-        if !databases.has(self.target) {
-            return Err(Refusal::NoDatabase);
-        }
-        let session = session_asked(databases, &self.options);
-        let chosen = read_choice(alloc, self.doc_ids)?;
-        let plan = plan_asked(databases, &self.options, session, chosen)?;
-        let ending = run_plan(rt, alloc, databases, self, &plan)?;
-        print(alloc, answer, plan.session, &ending)?;
-        Ok(())
+        serve_replication(rt, alloc, databases, self, answer)
     }
+}
+
+/// Serves a replication. An id is made for a session that has none, once both databases are found, and before the ids of
+/// documents are looked at. It waits, where one thread is not asked for.
+#[inline(never)]
+pub fn serve_replication<H: Threads + Wait + Sync>(
+    rt: &H,
+    alloc: Global,
+    databases: &mut Databases,
+    ask: &Replicate<'_, '_>,
+    answer: &mut Vec<u8>,
+) -> Result<(), Refusal>
+    requires empty { answer.old.items ≡ [] }
+    ensures { MayTell ReportsReplication databases.old (replicate_asked ask.now) (told_by result answer.new.items)
+        databases.new }
+{
+    if !databases.has(ask.source) {
+        return Err(Refusal::NoDatabase);
+    }
+    if !databases.has(ask.target) {
+        return Err(Refusal::NoDatabase);
+    }
+    let session = session_asked(databases, &ask.options);
+    let chosen = read_choice(alloc, ask.doc_ids)?;
+    let plan = plan_asked(databases, &ask.options, session, chosen)?;
+    let ending = run_plan(rt, alloc, databases, ask, &plan)?;
+    print(alloc, answer, plan.session, &ending)?;
+    Ok(())
 }
 
 /// What an object says of a replication besides its two sides and its documents.

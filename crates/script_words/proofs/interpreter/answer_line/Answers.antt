@@ -15,10 +15,10 @@ line_refused : (old : State) (line : List ℕ) (refusal : Refusal) → (refusal 
 line_refused old line refusal (inl m) = subst (λ r. MayTell LinesAnswer old line (Err (name_of r)) old) (sym m) gave_up
 line_refused old line refusal (inr h) = subst (λ r. MayTell LinesAnswer old line (Err (name_of r)) old) (sym h.0) (in_full (Err why.BadLine, inr (h.1, refl), (refl, refl)))
 
-pub returns-in-Err : goal.returns-in-Err
-returns-in-Err g c = line_refused c.args.databases.now c.args.line.now c.in-Err.refusal c.in-Err.ensures.err
+pub returns-in-Err-clause-told : goal.returns-in-Err-clause-told
+returns-in-Err-clause-told g c = line_refused c.args.databases.now c.args.line.now c.in-Err.refusal c.in-Err.ensures.err
 
-pub returns : goal.returns
-returns g c =
+pub returns-clause-told : goal.returns-clause-told
+returns-clause-told g c =
     let o = c.in-Ok.ensures.ok in
-    may_tell (λ t a. (asked_in (line_view c.in-Ok.value), inl (o.0, o.1, ap asked_in o.2), a)) c.serve.ensures
+    may_tell (λ t a. (asked_in (line_view c.in-Ok.value), inl (o.0, o.1, ap asked_in o.2), a)) c.serve.ensures.told

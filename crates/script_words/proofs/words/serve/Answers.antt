@@ -1,13 +1,14 @@
-use Rattle.std.proofs.Common.{◌≡◌, Err, refl, sym, ap, subst, ◌∙◌}
+use Rattle.std.proofs.Common.{◌≡◌, Result, Err, refl, sym, ap, subst, ◌∙◌}
 use Rattle.serde_json.specs.Data.{Data}
 use Rattle.json_values.specs.LineView.{line_view}
 use Rattle.json_values.specs.declared.line.LineValue.{LineValue}
 use Rattle.script_engine.specs.Serving.{Told, MayTell, in_full}
 use Rattle.script_databases.specs.Databases.{State}
 use Rattle.script_databases.specs.Refusals.{name_of}
+use Rattle.script_databases.specs.declared.refusal.Refusal.{Refusal}
 use Rattle.script_databases.specs.declared.refusal.Refusal.TheVariants as why
 use Rattle.script_words.specs.Script.{AnswersAsked}
-use Rattle.script_words.specs.words.{asked_as, asked_in, load, edit, show, doc, changes, log, audit, replicate, backup, restore, compare, conflicts, docs, info, ledger}
+use Rattle.script_words.specs.words.{Asked, asked_as, asked_in, load, edit, show, doc, changes, log, audit, replicate, backup, restore, compare, conflicts, docs, info, ledger, sync}
 use Rattle.script_words.specs.declared.words.Word.{Word}
 use Rattle.script_words.proofs.WordLemmas.{word_answered}
 use Rattle.script_words.proofs.words.serve.Goals as goal
@@ -20,50 +21,96 @@ by_word {old = old} {new = new} {told = told} d word found e is h = subst (λ a.
 of_line : {old new : State} {told : Told} {v w : LineValue} → v ≡ w → MayTell AnswersAsked old (asked_in (line_view v)) told new → MayTell AnswersAsked old (asked_in (line_view w)) told new
 of_line {old = old} {new = new} {told = told} is h = subst (λ x. MayTell AnswersAsked old (asked_in (line_view x)) told new) is h
 
-pub returns-in_default : goal.returns-in_default
-returns-in_default g c = of_line c.value.ensures (subst (λ a. MayTell AnswersAsked c.args.databases.now a (Err (name_of why.BadCommand)) c.args.databases.now) (sym c.in_default.ensures) (in_full (refl, refl)))
+-- what is told whole
+told_whole : {old new : State} {a : Result Asked Refusal} {x y : Told} → x ≡ y → MayTell AnswersAsked old a y new → MayTell AnswersAsked old a x new
+told_whole {old = old} {new = new} {a = a} e h = subst (λ t. MayTell AnswersAsked old a t new) (sym e) h
 
-pub returns-in-Load : goal.returns-in-Load
-returns-in-Load g c = by_word _ _ _ (subst (λ v. asked_in (line_view v) ≡ asked_as c.in-Some.word (line_view v)) c.value.ensures c.in-Some.ensures) c.in-Load.is (word_answered load (λ ask t a. a) _ c.serve_in.ensures)
+pub returns-in_default-clause-told : goal.returns-in_default-clause-told
+returns-in_default-clause-told g c = of_line c.value.ensures (subst (λ a. MayTell AnswersAsked c.args.databases.now a (Err (name_of why.BadCommand)) c.args.databases.now) (sym c.in_default.ensures) (in_full (refl, refl)))
 
-pub returns-in-Edit : goal.returns-in-Edit
-returns-in-Edit g c = by_word _ _ _ (subst (λ v. asked_in (line_view v) ≡ asked_as c.in-Some.word (line_view v)) c.value.ensures c.in-Some.ensures) c.in-Edit.is (word_answered edit (λ ask t a. a) _ c.serve_in-in-Edit.ensures)
+pub returns-in-Load-clause-told : goal.returns-in-Load-clause-told
+returns-in-Load-clause-told g c = told_whole (c.whole.ensures.told c.serve_in.new.databases _) (by_word _ _ _ (subst (λ v. asked_in (line_view v) ≡ asked_as c.in-Some.word (line_view v)) c.value.ensures c.in-Some.ensures) c.in-Load.is (word_answered load (λ ask t a. a) _ c.serve_in.ensures))
 
-pub returns-in-Show : goal.returns-in-Show
-returns-in-Show g c = by_word _ _ _ (subst (λ v. asked_in (line_view v) ≡ asked_as c.in-Some.word (line_view v)) c.value.ensures c.in-Some.ensures) c.in-Show.is (word_answered show (λ ask t a. a) _ c.serve_in-in-Show.ensures)
+pub returns-in-Edit-clause-told : goal.returns-in-Edit-clause-told
+returns-in-Edit-clause-told g c = told_whole (c.whole-in-Edit.ensures.told c.serve_in-in-Edit.new.databases _) (by_word _ _ _ (subst (λ v. asked_in (line_view v) ≡ asked_as c.in-Some.word (line_view v)) c.value.ensures c.in-Some.ensures) c.in-Edit.is (word_answered edit (λ ask t a. a) _ c.serve_in-in-Edit.ensures))
 
-pub returns-in-Doc : goal.returns-in-Doc
-returns-in-Doc g c = by_word _ _ _ (subst (λ v. asked_in (line_view v) ≡ asked_as c.in-Some.word (line_view v)) c.value.ensures c.in-Some.ensures) c.in-Doc.is (word_answered doc (λ ask t a. a) _ c.serve_in-in-Doc.ensures)
+pub returns-in-Show-clause-told : goal.returns-in-Show-clause-told
+returns-in-Show-clause-told g c = told_whole (c.whole-in-Show.ensures.told c.serve_in-in-Show.new.databases _) (by_word _ _ _ (subst (λ v. asked_in (line_view v) ≡ asked_as c.in-Some.word (line_view v)) c.value.ensures c.in-Some.ensures) c.in-Show.is (word_answered show (λ ask t a. a) _ c.serve_in-in-Show.ensures))
 
-pub returns-in-Changes : goal.returns-in-Changes
-returns-in-Changes g c = by_word _ _ _ (subst (λ v. asked_in (line_view v) ≡ asked_as c.in-Some.word (line_view v)) c.value.ensures c.in-Some.ensures) c.in-Changes.is (word_answered changes (λ ask t a. a) _ c.serve_in-in-Changes.ensures)
+pub returns-in-Doc-clause-told : goal.returns-in-Doc-clause-told
+returns-in-Doc-clause-told g c = told_whole (c.whole-in-Doc.ensures.told c.serve_in-in-Doc.new.databases _) (by_word _ _ _ (subst (λ v. asked_in (line_view v) ≡ asked_as c.in-Some.word (line_view v)) c.value.ensures c.in-Some.ensures) c.in-Doc.is (word_answered doc (λ ask t a. a) _ c.serve_in-in-Doc.ensures))
 
-pub returns-in-Log : goal.returns-in-Log
-returns-in-Log g c = by_word _ _ _ (subst (λ v. asked_in (line_view v) ≡ asked_as c.in-Some.word (line_view v)) c.value.ensures c.in-Some.ensures) c.in-Log.is (word_answered log (λ ask t a. a) _ c.serve_in-in-Log.ensures)
+pub returns-in-Changes-clause-told : goal.returns-in-Changes-clause-told
+returns-in-Changes-clause-told g c = told_whole (c.whole-in-Changes.ensures.told c.serve_in-in-Changes.new.databases _) (by_word _ _ _ (subst (λ v. asked_in (line_view v) ≡ asked_as c.in-Some.word (line_view v)) c.value.ensures c.in-Some.ensures) c.in-Changes.is (word_answered changes (λ ask t a. a) _ c.serve_in-in-Changes.ensures))
 
-pub returns-in-Audit : goal.returns-in-Audit
-returns-in-Audit g c = by_word _ _ _ (subst (λ v. asked_in (line_view v) ≡ asked_as c.in-Some.word (line_view v)) c.value.ensures c.in-Some.ensures) c.in-Audit.is (word_answered audit (λ ask t a. a) _ c.serve_in-in-Audit.ensures)
+pub returns-in-Log-clause-told : goal.returns-in-Log-clause-told
+returns-in-Log-clause-told g c = told_whole (c.whole-in-Log.ensures.told c.serve_in-in-Log.new.databases _) (by_word _ _ _ (subst (λ v. asked_in (line_view v) ≡ asked_as c.in-Some.word (line_view v)) c.value.ensures c.in-Some.ensures) c.in-Log.is (word_answered log (λ ask t a. a) _ c.serve_in-in-Log.ensures))
 
-pub returns-in-Replicate : goal.returns-in-Replicate
-returns-in-Replicate g c = by_word _ _ _ (subst (λ v. asked_in (line_view v) ≡ asked_as c.in-Some.word (line_view v)) c.value.ensures c.in-Some.ensures) c.in-Replicate.is (word_answered replicate (λ ask t a. a) _ c.serve_in-in-Replicate.ensures)
+pub returns-in-Audit-clause-told : goal.returns-in-Audit-clause-told
+returns-in-Audit-clause-told g c = told_whole (c.whole-in-Audit.ensures.told c.serve_in-in-Audit.new.databases _) (by_word _ _ _ (subst (λ v. asked_in (line_view v) ≡ asked_as c.in-Some.word (line_view v)) c.value.ensures c.in-Some.ensures) c.in-Audit.is (word_answered audit (λ ask t a. a) _ c.serve_in-in-Audit.ensures))
 
-pub returns-in-Backup : goal.returns-in-Backup
-returns-in-Backup g c = by_word _ _ _ (subst (λ v. asked_in (line_view v) ≡ asked_as c.in-Some.word (line_view v)) c.value.ensures c.in-Some.ensures) c.in-Backup.is (word_answered backup (λ ask t a. a) _ c.serve_in-in-Backup.ensures)
+pub returns-in-Replicate-clause-told : goal.returns-in-Replicate-clause-told
+returns-in-Replicate-clause-told g c = told_whole (c.whole-in-Replicate.ensures.told c.serve_in-in-Replicate.new.databases _) (by_word _ _ _ (subst (λ v. asked_in (line_view v) ≡ asked_as c.in-Some.word (line_view v)) c.value.ensures c.in-Some.ensures) c.in-Replicate.is (word_answered replicate (λ ask t a. a) _ c.serve_in-in-Replicate.ensures))
 
-pub returns-in-Restore : goal.returns-in-Restore
-returns-in-Restore g c = by_word _ _ _ (subst (λ v. asked_in (line_view v) ≡ asked_as c.in-Some.word (line_view v)) c.value.ensures c.in-Some.ensures) c.in-Restore.is (word_answered restore (λ ask t a. a) _ c.serve_in-in-Restore.ensures)
+pub returns-in-Backup-clause-told : goal.returns-in-Backup-clause-told
+returns-in-Backup-clause-told g c = told_whole (c.whole-in-Backup.ensures.told c.serve_in-in-Backup.new.databases _) (by_word _ _ _ (subst (λ v. asked_in (line_view v) ≡ asked_as c.in-Some.word (line_view v)) c.value.ensures c.in-Some.ensures) c.in-Backup.is (word_answered backup (λ ask t a. a) _ c.serve_in-in-Backup.ensures))
 
-pub returns-in-Compare : goal.returns-in-Compare
-returns-in-Compare g c = by_word _ _ _ (subst (λ v. asked_in (line_view v) ≡ asked_as c.in-Some.word (line_view v)) c.value.ensures c.in-Some.ensures) c.in-Compare.is (word_answered compare (λ ask t a. a) _ c.serve_in-in-Compare.ensures)
+pub returns-in-Restore-clause-told : goal.returns-in-Restore-clause-told
+returns-in-Restore-clause-told g c = told_whole (c.whole-in-Restore.ensures.told c.serve_in-in-Restore.new.databases _) (by_word _ _ _ (subst (λ v. asked_in (line_view v) ≡ asked_as c.in-Some.word (line_view v)) c.value.ensures c.in-Some.ensures) c.in-Restore.is (word_answered restore (λ ask t a. a) _ c.serve_in-in-Restore.ensures))
 
-pub returns-in-Conflicts : goal.returns-in-Conflicts
-returns-in-Conflicts g c = by_word _ _ _ (subst (λ v. asked_in (line_view v) ≡ asked_as c.in-Some.word (line_view v)) c.value.ensures c.in-Some.ensures) c.in-Conflicts.is (word_answered conflicts (λ ask t a. a) _ c.serve_in-in-Conflicts.ensures)
+pub returns-in-Compare-clause-told : goal.returns-in-Compare-clause-told
+returns-in-Compare-clause-told g c = by_word _ _ _ (subst (λ v. asked_in (line_view v) ≡ asked_as c.in-Some.word (line_view v)) c.value.ensures c.in-Some.ensures) c.in-Compare.is (word_answered compare (λ ask t a. a) _ c.begin_in.ensures.told)
 
-pub returns-in-Docs : goal.returns-in-Docs
-returns-in-Docs g c = by_word _ _ _ (subst (λ v. asked_in (line_view v) ≡ asked_as c.in-Some.word (line_view v)) c.value.ensures c.in-Some.ensures) c.in-Docs.is (word_answered docs (λ ask t a. a) _ c.serve_in-in-Docs.ensures)
+pub returns-in-Conflicts-clause-told : goal.returns-in-Conflicts-clause-told
+returns-in-Conflicts-clause-told g c = by_word _ _ _ (subst (λ v. asked_in (line_view v) ≡ asked_as c.in-Some.word (line_view v)) c.value.ensures c.in-Some.ensures) c.in-Conflicts.is (word_answered conflicts (λ ask t a. a) _ c.begin_in-in-Conflicts.ensures.told)
 
-pub returns-in-Info : goal.returns-in-Info
-returns-in-Info g c = by_word _ _ _ (subst (λ v. asked_in (line_view v) ≡ asked_as c.in-Some.word (line_view v)) c.value.ensures c.in-Some.ensures) c.in-Info.is (word_answered info (λ ask t a. a) _ c.serve_in-in-Info.ensures)
+pub returns-in-Docs-clause-told : goal.returns-in-Docs-clause-told
+returns-in-Docs-clause-told g c = by_word _ _ _ (subst (λ v. asked_in (line_view v) ≡ asked_as c.in-Some.word (line_view v)) c.value.ensures c.in-Some.ensures) c.in-Docs.is (word_answered docs (λ ask t a. a) _ c.begin_in-in-Docs.ensures.told)
 
-pub returns-in-Ledger : goal.returns-in-Ledger
-returns-in-Ledger g c = by_word _ _ _ (subst (λ v. asked_in (line_view v) ≡ asked_as c.in-Some.word (line_view v)) c.value.ensures c.in-Some.ensures) c.in-Ledger.is (word_answered ledger (λ ask t a. a) _ c.serve_in-in-Ledger.ensures)
+pub returns-in-Info-clause-told : goal.returns-in-Info-clause-told
+returns-in-Info-clause-told g c = told_whole (c.whole-in-Info.ensures.told c.serve_in-in-Info.new.databases _) (by_word _ _ _ (subst (λ v. asked_in (line_view v) ≡ asked_as c.in-Some.word (line_view v)) c.value.ensures c.in-Some.ensures) c.in-Info.is (word_answered info (λ ask t a. a) _ c.serve_in-in-Info.ensures))
+
+pub returns-in-Ledger-clause-told : goal.returns-in-Ledger-clause-told
+returns-in-Ledger-clause-told g c = told_whole (c.whole-in-Ledger.ensures.told c.serve_in-in-Ledger.new.databases _) (by_word _ _ _ (subst (λ v. asked_in (line_view v) ≡ asked_as c.in-Some.word (line_view v)) c.value.ensures c.in-Some.ensures) c.in-Ledger.is (word_answered ledger (λ ask t a. a) _ c.serve_in-in-Ledger.ensures))
+
+pub returns-in-Sync-clause-told : goal.returns-in-Sync-clause-told
+returns-in-Sync-clause-told g c = told_whole (c.whole-in-Sync.ensures.told c.serve_in-in-Sync.new.databases _) (by_word _ _ _ (subst (λ v. asked_in (line_view v) ≡ asked_as c.in-Some.word (line_view v)) c.value.ensures c.in-Some.ensures) c.in-Sync.is (word_answered sync (λ ask t a. a) _ c.serve_in-in-Sync.ensures))
+
+pub returns-in-Load-clause-fits : goal.returns-in-Load-clause-fits
+returns-in-Load-clause-fits g c = c.whole.ensures.fits c.serve_in.new.databases
+
+pub returns-in-Edit-clause-fits : goal.returns-in-Edit-clause-fits
+returns-in-Edit-clause-fits g c = c.whole-in-Edit.ensures.fits c.serve_in-in-Edit.new.databases
+
+pub returns-in-Show-clause-fits : goal.returns-in-Show-clause-fits
+returns-in-Show-clause-fits g c = c.whole-in-Show.ensures.fits c.serve_in-in-Show.new.databases
+
+pub returns-in-Doc-clause-fits : goal.returns-in-Doc-clause-fits
+returns-in-Doc-clause-fits g c = c.whole-in-Doc.ensures.fits c.serve_in-in-Doc.new.databases
+
+pub returns-in-Changes-clause-fits : goal.returns-in-Changes-clause-fits
+returns-in-Changes-clause-fits g c = c.whole-in-Changes.ensures.fits c.serve_in-in-Changes.new.databases
+
+pub returns-in-Log-clause-fits : goal.returns-in-Log-clause-fits
+returns-in-Log-clause-fits g c = c.whole-in-Log.ensures.fits c.serve_in-in-Log.new.databases
+
+pub returns-in-Audit-clause-fits : goal.returns-in-Audit-clause-fits
+returns-in-Audit-clause-fits g c = c.whole-in-Audit.ensures.fits c.serve_in-in-Audit.new.databases
+
+pub returns-in-Replicate-clause-fits : goal.returns-in-Replicate-clause-fits
+returns-in-Replicate-clause-fits g c = c.whole-in-Replicate.ensures.fits c.serve_in-in-Replicate.new.databases
+
+pub returns-in-Backup-clause-fits : goal.returns-in-Backup-clause-fits
+returns-in-Backup-clause-fits g c = c.whole-in-Backup.ensures.fits c.serve_in-in-Backup.new.databases
+
+pub returns-in-Restore-clause-fits : goal.returns-in-Restore-clause-fits
+returns-in-Restore-clause-fits g c = c.whole-in-Restore.ensures.fits c.serve_in-in-Restore.new.databases
+
+pub returns-in-Info-clause-fits : goal.returns-in-Info-clause-fits
+returns-in-Info-clause-fits g c = c.whole-in-Info.ensures.fits c.serve_in-in-Info.new.databases
+
+pub returns-in-Ledger-clause-fits : goal.returns-in-Ledger-clause-fits
+returns-in-Ledger-clause-fits g c = c.whole-in-Ledger.ensures.fits c.serve_in-in-Ledger.new.databases
+
+pub returns-in-Sync-clause-fits : goal.returns-in-Sync-clause-fits
+returns-in-Sync-clause-fits g c = c.whole-in-Sync.ensures.fits c.serve_in-in-Sync.new.databases

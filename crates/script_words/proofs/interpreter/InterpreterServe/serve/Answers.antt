@@ -1,19 +1,24 @@
 use Rattle.std.proofs.Common.{◌≤◌, length, subst, sym}
 use Rattle.std.specs.Prelude.{Ok, Err}
-use Rattle.script_engine.specs.Serving.{MayTell}
+use Rattle.script_engine.specs.Serving.{MayTell, text_with}
 use Rattle.script_databases.specs.Databases.{State}
 use Rattle.script_databases.specs.Refusals.{name_of}
+use Rattle.script_words.specs.Rest.{rest_left}
 use Rattle.script_words.specs.Script.{LinesAnswer}
 use Rattle.script_words.proofs.InterpreterLemmas.{name_short}
 use Rattle.script_words.proofs.interpreter.InterpreterServe.serve.Goals as goal
 
 pub returns-clause-told : goal.returns-clause-told
-returns-clause-told g c = subst (λ (s : State). MayTell LinesAnswer s c.args.line.now (Ok c.answer_line.new.answer.items) c.answer_line.new.databases) c.self.view_is c.in-Ok.ensures
+returns-clause-told g c =
+    subst (λ (s : State). MayTell LinesAnswer s c.args.line.now (Ok (text_with (rest_left c.answer_line.new.databases) c.answer_line.new.answer.items c.in-Ok.rest)) c.answer_line.new.databases) c.self.view_is c.in-Ok.ensures.told
+
+pub returns-clause-fits : goal.returns-clause-fits
+returns-clause-fits g c = c.in-Ok.ensures.fits
 
 pub returns-in-Err-clause-refused : goal.returns-in-Err-clause-refused
 returns-in-Err-clause-refused g c =
     subst (λ n. MayTell LinesAnswer c.args.self.now c.args.line.now (Err n) c.answer_line.new.databases) (sym c.name.ensures)
-    (subst (λ (s : State). MayTell LinesAnswer s c.args.line.now (Err (name_of c.in-Err.refusal)) c.answer_line.new.databases) c.self.view_is c.in-Err.ensures)
+    (subst (λ (s : State). MayTell LinesAnswer s c.args.line.now (Err (name_of c.in-Err.refusal)) c.answer_line.new.databases) c.self.view_is c.in-Err.ensures.told)
 
 pub returns-in-Err-clause-short : goal.returns-in-Err-clause-short
 returns-in-Err-clause-short g c = subst (λ n. length n ≤ 64) (sym c.name.ensures) (name_short c.in-Err.refusal)
