@@ -1,3 +1,4 @@
 pub mod WordLemmas
 pub mod RevLemmas
 pub mod LineLemmas
+pub mod ColumnLemmas

@@ -5,15 +5,23 @@ use Rattle.std.proofs.lemmas.Bool.{false≢true}
 use Rattle.std.specs.Str.{IsUtf8}
 use Rattle.std.proofs.lemmas.List.{append_cancel_left, append_cancel_right}
 use Rattle.answer_lines.specs.Words.{lacks, IsNumber}
-use Rattle.answer_lines.specs.Lines.{ConflictParts, IsDocLine, LeafParts, state_text}
+use Rattle.answer_lines.specs.Lines.{IsDocLine, LeafParts, ListedParts, NoFinding, NoRow, state_text}
+use Rattle.answer_lines.specs.declared.told.Finding.{Finding}
+use Rattle.answer_lines.specs.declared.told.Finding.TheVariants as findings
+use Rattle.answer_lines.specs.declared.told.Table.{Table}
+use Rattle.answer_lines.specs.declared.told.Table.TheVariants as tables
 use Rattle.answer_lines.proofs.WordLemmas.{first_unique, last_unique}
 
 pub if_none : {T : Type 0} (o : Option T) (P : Type 0) → P → IfNone o P
 if_none None P h = h
 if_none (Some x) P h = tt
 
+pub none_map : {T : Type 0} (o : Option T) (P Q : Type 0) → (P → Q) → IfNone o P → IfNone o Q
+none_map None P Q f h = f h
+none_map (Some x) P Q f h = tt
+
 -- behind one beginning
-after : (a line x y : List ℕ) → line ≡ a ++ x → line ≡ a ++ y → x ≡ y
+pub after : (a line x y : List ℕ) → line ≡ a ++ x → line ≡ a ++ y → x ≡ y
 after a line x y p q = append_cancel_left a x y (sym p ∙ q)
 
 -- before a name and the last word
@@ -48,8 +56,18 @@ leaf_list line own o live l list x p q =
     let u = first_unique 32 own o (state_text live ++ list) (state_text l ++ x) p.word q.word (after (codes "leaf ") line _ _ p.form q.form) in
     (u.0, state_list live l list x u.1)
 
-pub conflict_list : (line a b x y : List ℕ) → ConflictParts line a x → ConflictParts line b y → x ≡ y
-conflict_list line a b x y p q = (last_unique 32 a b x y p.word q.word (after (codes "conflict ") line _ _ p.form q.form)).1
+pub all_findings : (line : List ℕ) → NoFinding line findings.Missing → NoFinding line findings.Contradicts → NoFinding line findings.Differs → (finding : Finding) → NoFinding line finding
+all_findings line a b c findings.Missing = a
+all_findings line a b c findings.Contradicts = b
+all_findings line a b c findings.Differs = c
+
+pub all_rows : (line : List ℕ) → NoRow line tables.Compared → NoRow line tables.Info → NoRow line tables.Session → (table : Table) → NoRow line table
+all_rows line a b c tables.Compared = a
+all_rows line a b c tables.Info = b
+all_rows line a b c tables.Session = c
+
+pub listed_list : (word line a b x y : List ℕ) → ListedParts word line a x → ListedParts word line b y → x ≡ y
+listed_list word line a b x y p q = (last_unique 32 a b x y p.lacks_blank q.lacks_blank (after word line _ _ p.form q.form)).1
 
 pub none_at : {T : Type 0} (o : Option T) (P : Type 0) → o ≡ None → IfNone o P → P
 none_at None P e h = h
@@ -58,9 +76,8 @@ none_at (Some x) P e h = absurd (false≢true (ap is_none e))
 pub some_at : {T : Type 0} (o : Option T) (Q : T → Type 0) (x : T) → o ≡ Some x → IfSome o Q → Q x
 some_at o Q x e h = subst (λ z. IfSome z Q) e h
 
-pub conflict_unique : (line rest id list : List ℕ) → line ≡ codes "conflict " ++ rest → rest ≡ id ++ 32 ∷ list → lacks 32 list ≡ true → (i l : List ℕ) → ConflictParts line i l → (id ≡ i) × (list ≡ l)
-conflict_unique line rest id list a b h i l p =
-    last_unique 32 id i list l h p.word (sym b ∙ after (codes "conflict ") line rest _ a p.form)
+pub listed_unique : (word line rest id list : List ℕ) → line ≡ word ++ rest → rest ≡ id ++ 32 ∷ list → lacks 32 list ≡ true → (i l : List ℕ) → ListedParts word line i l → (id ≡ i) × (list ≡ l)
+listed_unique word line rest id list a b h i l p = last_unique 32 id i list l h p.lacks_blank (sym b ∙ after word line rest _ a p.form)
 
 -- what stands before ` revs N`, before ` leaves N` and before ` winner REV`
 module _ (line id : List ℕ) (count : ℕ) (d : IsDocLine line id count) where

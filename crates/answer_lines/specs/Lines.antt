@@ -5,6 +5,10 @@ use Rattle.rev_core.specs.Rev.{RevId}
 use Rattle.rev_core.specs.Text.{rev_text}
 use Rattle.rev_core.specs.Ancestry.{FallsByOne}
 use Rattle.answer_lines.specs.Words.{lacks, named, IsNumber, IsRevs}
+use Rattle.answer_lines.specs.Columns.{IsRow}
+use Rattle.answer_lines.specs.declared.told.Finding.{Finding}
+use Rattle.answer_lines.specs.declared.told.Finding.TheVariants as findings
+use Rattle.answer_lines.specs.declared.told.Table.{Table}
 use Rattle.answer_lines.specs.declared.told.Told.{Told}
 use Rattle.answer_lines.specs.declared.told.Told.TheVariants as told
 
@@ -44,22 +48,47 @@ pub record IsLeafLine (line : List ℕ) (live : Bool) (revs : List RevId) : Type
   pub falls : FallsByOne revs
   pub begins : BeginsWith own revs
 
--- `conflict ID REVS`, by its texts
-pub record ConflictParts (line id list : List ℕ) : Type 0 where
-  pub word : lacks 32 list ≡ true
-  pub form : line ≡ codes "conflict " ++ (id ++ 32 ∷ list)
+-- a word, an id and a joined list of revisions, by its texts; the word ends with a blank
+pub record ListedParts (word line id list : List ℕ) : Type 0 where
+  pub lacks_blank : lacks 32 list ≡ true
+  pub form : line ≡ word ++ (id ++ 32 ∷ list)
   pub utf8 : IsUtf8 id
 
-pub record IsConflictLine (line id : List ℕ) (revs : List RevId) : Type 0 where
+pub record IsListed (word line id : List ℕ) (revs : List RevId) : Type 0 where
   pub list : List ℕ
-  pub parts : ConflictParts line id list
+  pub parts : ListedParts word line id list
   pub listed : IsRevs list revs
+
+-- `missing ID REVS`, `contradicts ID REV` or `differs ID REVS`
+abbrev pub finding_text : Finding → List ℕ
+finding_text findings.Missing = codes "missing "
+finding_text findings.Contradicts = codes "contradicts "
+finding_text findings.Differs = codes "differs "
+
+-- the line is none of these
+abbrev pub NoFinding : List ℕ → Finding → Type 0
+NoFinding line finding = (id : List ℕ) (revs : List RevId) → IsListed (finding_text finding) line id revs → ⊥
+
+abbrev pub NoRow : List ℕ → Table → Type 0
+NoRow line table = (name numbers : List ℕ) → IsRow table line name numbers → ⊥
+
+-- What a line tells that is of no tree.
+abbrev pub TellsMore : List ℕ → Told → Type 0
+TellsMore line (told.Document id count) = ⊥
+TellsMore line (told.Leaf live revs) = ⊥
+TellsMore line (told.Conflict id revs) = ⊥
+TellsMore line (told.Found f) = IsListed (finding_text f.finding) line (string_bytes f.id) f.revs.items
+TellsMore line (told.Row r) = IsRow r.table line (string_bytes r.name) r.numbers.items
+TellsMore line told.Other = ((finding : Finding) → NoFinding line finding) × ((table : Table) → NoRow line table)
 
 -- What a line tells; nothing, where it has none of the forms.
 abbrev pub Tells : List ℕ → Told → Type 0
 Tells line (told.Document id count) = IsDocLine line (string_bytes id) count
 Tells line (told.Leaf live revs) = IsLeafLine line live revs.items
-Tells line (told.Conflict id revs) = IsConflictLine line (string_bytes id) revs.items
+Tells line (told.Conflict id revs) = IsListed (codes "conflict ") line (string_bytes id) revs.items
+Tells line (told.Found f) = IsListed (finding_text f.finding) line (string_bytes f.id) f.revs.items
+Tells line (told.Row r) = IsRow r.table line (string_bytes r.name) r.numbers.items
 Tells line told.Other =
     ((id : List ℕ) (count : ℕ) → IsDocLine line id count → ⊥) × ((live : Bool) (revs : List RevId) → IsLeafLine line live revs → ⊥)
-    × ((id : List ℕ) (revs : List RevId) → IsConflictLine line id revs → ⊥)
+    × ((id : List ℕ) (revs : List RevId) → IsListed (codes "conflict ") line id revs → ⊥)
+    × (((finding : Finding) → NoFinding line finding) × ((table : Table) → NoRow line table))

@@ -7,7 +7,8 @@ mod cuts;
 mod lines;
 mod numbers;
 mod revs;
+mod rows;
 mod told;
 
 pub use lines::read_line;
-pub use told::Told;
+pub use told::{Column, Finding, Found, Row, Table, Told};

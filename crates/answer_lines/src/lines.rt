@@ -2,12 +2,13 @@
 ghost use Rattle.std.specs.Prelude.{◌≡◌, ℕ, List, Bool, IfOk, IfSome, IfNone, true, false, string_bytes};
 ghost use Rattle.std.specs.List.{AllByRecursion};
 ghost use Rattle.rev_core.specs.Rev.{IsRev, RevId};
-ghost use Rattle.answer_lines.specs.Lines.{BeginsWith, IsConflictLine, IsDocLine, IsLeafLine, LeafParts, ConflictParts, Tells};
+ghost use Rattle.answer_lines.specs.Lines.{BeginsWith, IsDocLine, IsLeafLine, IsListed, LeafParts, ListedParts, Tells, TellsMore, finding_text};
 
 use crate::cuts::{behind, cut_first, cut_last, cut_named};
 use crate::numbers::number;
 use crate::revs::{falls_by_one, read_revs, revision};
-use crate::told::Told;
+use crate::rows::read_row;
+use crate::told::{Finding, Found, Table, Told};
 use rev_core::Rev;
 use std::alloc::{AllocError, Global};
 use std::str;
@@ -24,11 +25,50 @@ pub fn read_line(alloc: Global, line: &[u8]) -> Result<Told, AllocError>
     if let Some((live, revs)) = read_leaf(alloc, line)? {
         return Ok(Told::Leaf { live, revs });
     }
-    if let Some((id, revs)) = read_conflict(alloc, line)? {
+    if let Some((id, revs)) = read_listed(alloc, line, b"conflict ")? {
         let id = String::from_str(alloc, id)?;
         return Ok(Told::Conflict { id, revs });
     }
+    read_more(alloc, line)
+}
+
+/// The same, of a line that tells of no tree.
+fn read_more(alloc: Global, line: &[u8]) -> Result<Told, AllocError>
+    ensures { IfOk result (λ told. TellsMore line.now told) }
+{
+    if let Some(found) = read_found(alloc, line, Finding::Missing)? {
+        return Ok(Told::Found(found));
+    }
+    if let Some(found) = read_found(alloc, line, Finding::Contradicts)? {
+        return Ok(Told::Found(found));
+    }
+    if let Some(found) = read_found(alloc, line, Finding::Differs)? {
+        return Ok(Told::Found(found));
+    }
+    if let Some(row) = read_row(alloc, line, Table::Compared)? {
+        return Ok(Told::Row(row));
+    }
+    if let Some(row) = read_row(alloc, line, Table::Info)? {
+        return Ok(Told::Row(row));
+    }
+    if let Some(row) = read_row(alloc, line, Table::Session)? {
+        return Ok(Told::Row(row));
+    }
     Ok(Told::Other)
+}
+
+/// What a line of `compare` finds of a document.
+fn read_found(alloc: Global, line: &[u8], finding: Finding) -> Result<Option<Found>, AllocError>
+    ensures some { IfOk result (λ o. IfSome o (λ f. (f.finding ≡ finding)
+        × IsListed (finding_text finding) line.now (string_bytes f.id) f.revs.items)) }
+    ensures none { IfOk result (λ o. IfNone o ((id : List ℕ) (revs : List RevId)
+        → IsListed (finding_text finding) line.now id revs → ⊥)) }
+{
+    let Some((id, revs)) = read_listed(alloc, line, finding.text().as_bytes())? else {
+        return Ok(None);
+    };
+    let id = String::from_str(alloc, id)?;
+    Ok(Some(Found { finding, id, revs }))
 }
 
 /// The id and the number of leaves that a `doc` line tells.
@@ -95,12 +135,16 @@ fn begins_with(revs: &[Rev], own: &[u8]) -> bool
     revs[0] == own
 }
 
-/// The id and the live leaves that a `conflict` line tells.
-fn read_conflict(alloc: Global, line: &[u8]) -> Result<Option<(&str, Vec<Rev>)>, AllocError>
-    ensures some { IfOk result (λ o. IfSome o (λ x. IsConflictLine line.now x.0.now x.1.items)) }
-    ensures none { IfOk result (λ o. IfNone o ((id : List ℕ) (revs : List RevId) → IsConflictLine line.now id revs → ⊥)) }
+/// The id and the revisions that a line tells behind its first word; `None` where it does not begin so.
+fn read_listed<'a>(
+    alloc: Global,
+    line: &'a [u8],
+    word: &[u8],
+) -> Result<Option<(&'a str, Vec<Rev>)>, AllocError>
+    ensures some { IfOk result (λ o. IfSome o (λ x. IsListed word.now line.now x.0.now x.1.items)) }
+    ensures none { IfOk result (λ o. IfNone o ((id : List ℕ) (revs : List RevId) → IsListed word.now line.now id revs → ⊥)) }
 {
-    let Some((id, list)) = conflict_parts(line) else {
+    let Some((id, list)) = listed_parts(line, word) else {
         return Ok(None);
     };
     match read_revs(alloc, list)? {
@@ -109,12 +153,12 @@ fn read_conflict(alloc: Global, line: &[u8]) -> Result<Option<(&str, Vec<Rev>)>,
     }
 }
 
-/// The parts of a `conflict` line: the id, and the text of its live leaves.
-fn conflict_parts(line: &[u8]) -> Option<(&str, &[u8])>
-    ensures some { IfSome result (λ x. ConflictParts line.now x.0.now x.1.now) }
-    ensures none { IfNone result ((id list : List ℕ) → ConflictParts line.now id list → ⊥) }
+/// The parts of such a line: the id, and the text of its revisions.
+fn listed_parts<'a>(line: &'a [u8], word: &[u8]) -> Option<(&'a str, &'a [u8])>
+    ensures some { IfSome result (λ x. ListedParts word.now line.now x.0.now x.1.now) }
+    ensures none { IfNone result ((id list : List ℕ) → ListedParts word.now line.now id list → ⊥) }
 {
-    let rest = behind(line, b"conflict ")?;
+    let rest = behind(line, word)?;
     let (id, list) = cut_last(rest, b' ')?;
     match str::from_utf8(id) {
         Ok(id) => Some((id, list)),

@@ -2,4 +2,4 @@ pub mod Inks
 pub mod ShownTexts
 pub mod RowLemmas
 pub mod RunLemmas
-pub mod Documents
+pub mod Leaves

@@ -11,7 +11,7 @@ use Rattle.std.proofs.lemmas.Grind.{flat_map-append}
 use Rattle.std.proofs.lemmas.Str.{encodes-append}
 use Rattle.answer_pictures.specs.declared.form.Form.{Form}
 use Rattle.answer_pictures.specs.declared.form.Form.TheVariants.{Text, Svg}
-use Rattle.answer_pictures.specs.Shown.{IsEscaped, IsSeen, done, entity_of, escape_of, is_hidden, is_markup, named, plain, shown, shown_char}
+use Rattle.answer_pictures.specs.Shown.{IsEscaped, IsSafe, IsSeen, done, entity_of, escape_of, is_hidden, is_markup, named, plain, shown, shown_char}
 
 by_if : {X : Type 0} (P : X → Type 0) (b : Bool) (x y : X) → (b ≡ true → P x) → (b ≡ false → P y) → P (if b then x else y)
 by_if P true x y f g = f refl
@@ -110,6 +110,10 @@ escaped_shown (c ∷ cs) =
     let rest = escaped_shown cs in
     by_if (λ (t : List ℕ). IsEscaped (t ++ shown Svg cs)) (is_hidden c) (escape_of c) (entity_of c)
     (λ h. escape_escaped c (shown Svg cs) h rest) (λ h. entity_escaped c (shown Svg cs) h rest)
+
+pub safe_shown : (form : Form) (cs : List ℕ) → IsSafe form (shown form cs)
+safe_shown Text cs = seen_shown Text cs
+safe_shown Svg cs = escaped_shown cs
 
 -- one character more
 pub shown_more : (form : Form) (old a b : List ℕ) (cs : List ℕ) (c : ℕ) → a ≡ old ++ encode_utf8_all (shown form cs) → b ≡ a ++ encode_utf8_all (shown_char form c) → b ≡ old ++ encode_utf8_all (shown form (cs ++ c ∷ []))

@@ -1,9 +1,18 @@
 -- What pictures are drawn of: docs/PROFILE.md, "Pictures".
-use Rattle.std.specs.Prelude.{◌≡◌, ℕ, List, [], ◌∷◌, ◌++◌, codes, decimal, encode_utf8_all, take}
+use Rattle.std.specs.Prelude.{◌≡◌, ◌==◌, ◌&&◌, ◌*◌, ◌/◌, ◌-◌, nat_le, drop, get_or, ℕ, Bool, true, false, not, if◌then◌else◌, List, [], ◌∷◌, ◌++◌, Option, Some, None, map, codes, chars, decimal, encode_utf8_all, take}
 use Rattle.std.specs.List.{flat_map}
 use Rattle.rev_core.specs.Rev.{RevId}
 use Rattle.rev_core.specs.Text.{rev_text}
+use Rattle.answer_lines.specs.Lines.{finding_text}
+use Rattle.answer_lines.specs.Columns.{columns_of}
+use Rattle.answer_lines.specs.declared.told.Column.{Column}
+use Rattle.answer_lines.specs.declared.told.Column.TheVariants as columns
+use Rattle.answer_lines.specs.declared.told.Finding.{Finding}
+use Rattle.answer_lines.specs.declared.told.Table.{Table}
+use Rattle.answer_lines.specs.declared.told.Table.TheVariants as tables
+use Rattle.answer_pictures.specs.declared.document.Leaf.{Leaf}
 use Rattle.answer_pictures.specs.declared.form.Form.{Form}
+use Rattle.answer_pictures.specs.declared.form.Form.TheVariants as forms
 use Rattle.answer_pictures.specs.declared.markup.Markup.{Markup}
 use Rattle.answer_pictures.specs.declared.markup.Markup.TheVariants as own
 use Rattle.answer_pictures.specs.Shown.{shown}
@@ -20,15 +29,7 @@ markup_text own.Fork = 32 ∷ 226 ∷ 148 ∷ 172 ∷ 32 ∷ []  --  ┬
 markup_text own.Branch = 32 ∷ 226 ∷ 148 ∷ 156 ∷ 32 ∷ []  --  ├
 markup_text own.Corner = 32 ∷ 226 ∷ 148 ∷ 148 ∷ 32 ∷ []  --  └
 markup_text own.More = codes " more"
-markup_text own.WinsLive = codes "  wins, live\n"
-markup_text own.WinsDeleted = codes "  wins, deleted\n"
-markup_text own.Live = codes "  live\n"
-markup_text own.Deleted = codes "  deleted\n"
-markup_text own.EditDb = codes "  to keep the winner alone: {\"do\":\"edit\",\"db\":\""
-markup_text own.EditId = codes "\",\"id\":"
-markup_text own.EditParent = codes ",\"parent\":\""
-markup_text own.EditEnd = codes "\",\"deleted\":true}\n"
-markup_text own.Head = codes "<svg xmlns=\"http://www.w3.org/2000/svg\" role=\"img\" font-family=\"sans-serif\" font-size=\"13\"><title>Revision trees</title><desc>Each document is a tree of its revisions, the oldest to the left, with the winner in the first row. Filled marks are live leaves, a disc for the winner and squares for those that lose; hollow marks are deleted leaves.</desc><style>svg{background:#fff}text{fill:#222}.b{font-weight:bold}.r{font-size:10px;text-anchor:middle;fill:#555}.e{stroke:#7f8c8d;stroke-width:1.6;fill:none}.a{fill:#95a5a6}.w{fill:#0072b2}.l{fill:#d55e00}.d{fill:#fff;stroke:#555;stroke-width:2}@media(prefers-color-scheme:dark){svg{background:#1b1b1b}text{fill:#eee}.r{fill:#bbb}.d{fill:#1b1b1b;stroke:#bbb}}</style>\n"
+markup_text own.Head = codes "<svg xmlns=\"http://www.w3.org/2000/svg\" role=\"img\" font-family=\"sans-serif\" font-size=\"13\"><title>Revision trees</title><desc>Each document is a tree of its revisions, the oldest to the left, with the winner in the first row. Filled marks are live leaves, a disc for the winner and squares for those that lose; hollow marks are deleted leaves.</desc><style>svg{background:#fff}text{fill:#222;white-space:pre}.b{font-weight:bold}.r{font-size:10px;text-anchor:middle;fill:#555}.e{stroke:#7f8c8d;stroke-width:1.6;fill:none}.a{fill:#95a5a6}.w{fill:#0072b2}.l{fill:#d55e00}.d{fill:#fff;stroke:#555;stroke-width:2}@media(prefers-color-scheme:dark){svg{background:#1b1b1b}text{fill:#eee}.r{fill:#bbb}.d{fill:#1b1b1b;stroke:#bbb}}</style>\n"
 markup_text own.TailWidth = codes "<style>svg{width:"
 markup_text own.TailHeight = codes "px;height:"
 markup_text own.Tail = codes "px}</style></svg>\n"
@@ -43,52 +44,192 @@ markup_text own.PathEnd = codes "\"/>\n"
 markup_text own.Node = codes "<g transform=\"translate("
 markup_text own.NodeTitle = codes ")\"><title>"
 markup_text own.Ancestor = codes "</title><circle r=\"6\" class=\"a\"/><text y=\"-11\" class=\"r\">"
-markup_text own.Winner = codes "</title><circle r=\"8\" class=\"w\"/><text y=\"-11\" class=\"r\">"
-markup_text own.Loser = codes "</title><rect x=\"-7\" y=\"-7\" width=\"14\" height=\"14\" class=\"l\"/><text y=\"-11\" class=\"r\">"
-markup_text own.DeletedWinner = codes "</title><circle r=\"8\" class=\"d\"/><text y=\"-11\" class=\"r\">"
-markup_text own.DeletedLeaf = codes "</title><rect x=\"-7\" y=\"-7\" width=\"14\" height=\"14\" class=\"d\"/><text y=\"-11\" class=\"r\">"
 markup_text own.Folded = codes ")\"><text y=\"4\" class=\"r\">"
 markup_text own.NodeNone = codes ")\"></g>\n"
 markup_text own.NodeEnd = codes "</text></g>\n"
-markup_text own.NodeWinsLive = codes "</text><text x=\"14\" y=\"4\">wins, live</text></g>\n"
-markup_text own.NodeWinsDeleted = codes "</text><text x=\"14\" y=\"4\">wins, deleted</text></g>\n"
-markup_text own.NodeLive = codes "</text><text x=\"14\" y=\"4\">live</text></g>\n"
-markup_text own.NodeDeleted = codes "</text><text x=\"14\" y=\"4\">deleted</text></g>\n"
+markup_text own.Line = codes ")\"><text x=\"20\" y=\"18\">"
+markup_text own.Numbers = codes "</text>\n<text x=\"20\" y=\"40\">"
 
 -- a revision by its generation and the first six characters of its signature
 abbrev pub short_text : RevId → List ℕ
 short_text r = decimal r.generation ++ 45 ∷ take 6 r.sig
 
--- all that may stand in a picture: markup, numbers, and what answers name
+-- ---- what a picture tells
+
+-- what stands beside a leaf, and how it looks: whether it wins, and whether it is live
+abbrev pub label_text : Bool → Bool → List ℕ
+label_text true true = codes "  wins, live\n"
+label_text true false = codes "  wins, deleted\n"
+label_text false true = codes "  live\n"
+label_text false false = codes "  deleted\n"
+
+abbrev pub shape_text : Bool → Bool → List ℕ
+shape_text true true = codes "</title><circle r=\"8\" class=\"w\"/><text y=\"-11\" class=\"r\">"
+shape_text true false = codes "</title><circle r=\"8\" class=\"d\"/><text y=\"-11\" class=\"r\">"
+shape_text false true = codes "</title><rect x=\"-7\" y=\"-7\" width=\"14\" height=\"14\" class=\"l\"/><text y=\"-11\" class=\"r\">"
+shape_text false false = codes "</title><rect x=\"-7\" y=\"-7\" width=\"14\" height=\"14\" class=\"d\"/><text y=\"-11\" class=\"r\">"
+
+abbrev pub node_label : Bool → Bool → List ℕ
+node_label true true = codes "</text><text x=\"14\" y=\"4\">wins, live</text></g>\n"
+node_label true false = codes "</text><text x=\"14\" y=\"4\">wins, deleted</text></g>\n"
+node_label false true = codes "</text><text x=\"14\" y=\"4\">live</text></g>\n"
+node_label false false = codes "</text><text x=\"14\" y=\"4\">deleted</text></g>\n"
+
+-- a text of an answer, in UTF-8
+abbrev pub shown_text : Form → List ℕ → List ℕ
+shown_text form text = encode_utf8_all (shown form (chars text))
+
+pub data Sign : Type 0 where
+  -- a document's id
+  title : Form → List ℕ → Sign
+  -- a leaf, whether it wins, and whether it is live
+  leaf : Form → RevId → Bool → Bool → Sign
+  -- the line that ends a leaf's part of a conflict: its database, its id and its revision
+  edit : List ℕ → List ℕ → RevId → Sign
+  -- what `compare` finds of a document, by its id
+  found : Form → Finding → List ℕ → Sign
+  -- a revision of which that is so
+  listed : RevId → Sign
+  -- what a row of numbers tells of, by its name
+  heading : Form → Table → List ℕ → Sign
+  -- the number of a column
+  count : Column → ℕ → Sign
+  -- how much of a whole is there
+  bar : Form → ℕ → ℕ → Sign
+
+abbrev pub leaf_ink : Form → RevId → Bool → Bool → List ℕ
+leaf_ink forms.Text r wins live = short_text r ++ label_text wins live
+leaf_ink forms.Svg r wins live = rev_text r ++ (shape_text wins live ++ (short_text r ++ node_label wins live))
+
+abbrev pub edit_ink : List ℕ → List ℕ → RevId → List ℕ
+edit_ink db id r =
+    codes "  to keep the winner alone: {\"do\":\"edit\",\"db\":\"" ++ (shown_text forms.Text db ++ (codes "\",\"id\":"
+    ++ (shown_text forms.Text id ++ (codes ",\"parent\":\"" ++ (rev_text r ++ codes "\",\"deleted\":true}\n")))))
+
+-- how a column is called
+abbrev pub caption : Column → List ℕ
+caption columns.ComparedDocuments = codes "documents"
+caption columns.ComparedLeaves = codes "leaves"
+caption columns.ComparedMissing = codes "missing leaves"
+caption columns.Contradicting = codes "contradicting documents"
+caption columns.Differing = codes "differing leaves"
+caption columns.Seq = codes "seq"
+caption columns.Life = codes "life"
+caption columns.Documents = codes "documents"
+caption columns.Deleted = codes "deleted"
+caption columns.Leaves = codes "leaves"
+caption columns.Conflicts = codes "conflicts"
+caption columns.Revisions = codes "revisions"
+caption columns.Sessions = codes "sessions"
+caption columns.From = codes "from"
+caption columns.To = codes "to"
+caption columns.Checked = codes "checked"
+caption columns.Found = codes "found"
+caption columns.Read = codes "read"
+caption columns.Written = codes "written"
+caption columns.Failed = codes "failed"
+
+-- what a row of numbers tells of
+abbrev pub table_text : Table → List ℕ
+table_text tables.Compared = codes "compare"
+table_text tables.Info = codes "database "
+table_text tables.Session = codes "session "
+
+-- how much of a whole is there, in parts of 400
+abbrev pub share : ℕ → ℕ → ℕ
+share part all = if all == 0 then 400 else (if nat_le 400 (part * 400 / all) then 400 else part * 400 / all)
+
+abbrev pub ratio : ℕ → ℕ → List ℕ
+ratio part all = (decimal part ++ codes " of ") ++ decimal all
+
+-- a bar of 40 characters, or 400 wide
+abbrev pub bar_ink : Form → ℕ → ℕ → List ℕ
+bar_ink forms.Text part all =
+    ((((codes "  [" ++ take (share part all / 10) (codes "########################################"))
+    ++ drop (share part all / 10) (codes "........................................")) ++ codes "] ") ++ ratio part all) ++ codes "\n"
+bar_ink forms.Svg part all =
+    (((codes "<rect x=\"20\" y=\"54\" width=\"400\" height=\"10\" class=\"d\"/><rect x=\"20\" y=\"54\" width=\""
+    ++ decimal (share part all)) ++ codes "\" height=\"10\" class=\"w\"/><text x=\"432\" y=\"63\">") ++ ratio part all)
+    ++ codes "</text>\n"
+
+abbrev pub sign_ink : Sign → List ℕ
+sign_ink (title form text) = shown_text form text
+sign_ink (leaf form r wins live) = leaf_ink form r wins live
+sign_ink (edit db id r) = edit_ink db id r
+sign_ink (found form finding id) = finding_text finding ++ shown_text form id
+sign_ink (listed r) = codes " " ++ short_text r
+sign_ink (heading form table name) = table_text table ++ shown_text form name
+sign_ink (count column n) = ((codes "  " ++ caption column) ++ codes " ") ++ decimal n
+sign_ink (bar form part all) = bar_ink form part all
+
+-- ---- what it is drawn of
+
+-- all that may stand in a picture: markup, numbers, ancestors, and what it tells
 pub data Piece : Type 0 where
   mark : Markup → Piece
   number : ℕ → Piece
-  text : Form → List ℕ → Piece
   whole : RevId → Piece
   short : RevId → Piece
-  -- a leaf, where it is drawn
-  leaf : RevId → Piece
+  sign : Sign → Piece
 
 -- the bytes of a piece
 abbrev pub ink_of : Piece → List ℕ
 ink_of (mark m) = markup_text m
 ink_of (number n) = decimal n
-ink_of (text form cs) = encode_utf8_all (shown form cs)
 ink_of (whole r) = rev_text r
 ink_of (short r) = short_text r
-ink_of (leaf r) = short_text r
+ink_of (sign s) = sign_ink s
 
--- the leaf that a piece draws
-abbrev pub leaf_in : Piece → List RevId
-leaf_in (mark m) = []
-leaf_in (number n) = []
-leaf_in (text form cs) = []
-leaf_in (whole r) = []
-leaf_in (short r) = []
-leaf_in (leaf r) = r ∷ []
+-- what a piece tells
+abbrev pub sign_in : Piece → List Sign
+sign_in (mark m) = []
+sign_in (number n) = []
+sign_in (whole r) = []
+sign_in (short r) = []
+sign_in (sign s) = s ∷ []
 
--- from one text to the next such pieces were drawn, of which these are leaves, each where it is drawn
-pub record Draws (old new : List ℕ) (leaves : List RevId) : Type 0 where
+-- from one text to the next such pieces were drawn, which tell this, in order
+pub record Draws (old new : List ℕ) (signs : List Sign) : Type 0 where
   pub pieces : List Piece
   pub ink : new ≡ old ++ flat_map ink_of pieces
-  pub drawn : flat_map leaf_in pieces ≡ leaves
+  pub drawn : flat_map sign_in pieces ≡ signs
+
+-- ---- what is told of a document
+
+abbrev pub leaf_sign : Form → Leaf → Sign
+leaf_sign form l = leaf form l.rev l.wins l.live
+
+-- a leaf that is live and loses has a line that ends its part of the conflict, where the database is named
+abbrev pub edit_of : List ℕ → List ℕ → Leaf → List Sign
+edit_of db id l = if not l.wins && l.live then edit db id l.rev ∷ [] else []
+
+abbrev pub edits_of : Option (List ℕ) → List ℕ → List Leaf → List Sign
+edits_of None id leaves = []
+edits_of (Some db) id leaves = flat_map (edit_of db id) leaves
+
+-- its id, its leaves, and in a text the lines that end its conflict
+abbrev pub signs_of : Form → Option (List ℕ) → List ℕ → List Leaf → List Sign
+signs_of forms.Text db id leaves = title forms.Text id ∷ (map (leaf_sign forms.Text) leaves ++ edits_of db id leaves)
+signs_of forms.Svg db id leaves = title forms.Svg id ∷ map (leaf_sign forms.Svg) leaves
+
+-- ---- what is told of other lines
+
+-- what `compare` finds of a document, and of which revisions
+abbrev pub signs_of_found : Form → Finding → List ℕ → List RevId → List Sign
+signs_of_found form finding id revs = found form finding id ∷ map listed revs
+
+-- each number by its column
+abbrev pub counts_of : List Column → List ℕ → List Sign
+counts_of (c ∷ cs) (n ∷ ns) = count c n ∷ counts_of cs ns
+counts_of cs ns = []
+
+-- of what `compare` counts, how many leaves are at the target; of a session, how many of the documents that were read were
+-- written
+abbrev pub bars_of : Form → Table → List ℕ → List Sign
+bars_of form tables.Compared ns = bar form (get_or ns 1 0 - get_or ns 2 0) (get_or ns 1 0) ∷ []
+bars_of form tables.Info ns = []
+bars_of form tables.Session ns = bar form (get_or ns 5 0) (get_or ns 4 0) ∷ []
+
+-- its name, its numbers, and a bar
+abbrev pub signs_of_row : Form → Table → List ℕ → List ℕ → List Sign
+signs_of_row form table name ns = heading form table name ∷ (counts_of (columns_of table) ns ++ bars_of form table ns)

@@ -48,3 +48,8 @@ pub data IsEscaped : List ℕ → Type 0 where
 -- no character of it is hidden
 abbrev pub IsSeen : List ℕ → Type 0
 IsSeen cs = list_any is_hidden cs ≡ false
+
+-- a text of an answer in a picture of this form
+abbrev pub IsSafe : Form → List ℕ → Type 0
+IsSafe Text cs = IsSeen cs
+IsSafe Svg cs = IsEscaped cs

@@ -1,6 +1,6 @@
 //! A document as an answer of `show` tells it.
-ghost use Rattle.std.specs.Prelude.{◌≡◌, ◌++◌, ◌∷◌, [], OnOk, IsPermutation, nat_le, string_bytes, vec_len};
-ghost use Rattle.answer_pictures.specs.Drawing.{Holds, revs_in};
+ghost use Rattle.std.specs.Prelude.{◌≡◌, ◌==◌, [], OnOk, IsPermutation, length, nat_le, string_bytes, vec_len};
+ghost use Rattle.answer_pictures.specs.Drawing.{Holds, states, with_leaf};
 
 use rev_core::Rev;
 use std::alloc::{AllocError, Global};
@@ -91,8 +91,7 @@ impl Document {
 
     /// Adds a leaf, of which the first is the winner.
     pub fn add(&mut self, leaf: Leaf) -> Result<(), AllocError>
-        ensures leaves { OnOk result (revs_in self.new ≡ revs_in self.old ++ leaf.rev ∷ []) }
-        ensures id { OnOk result (self.new.id ≡ self.old.id) }
+        ensures holds { OnOk result (Holds self.new (string_bytes self.old.id) (with_leaf (states self.old) leaf.rev leaf.live)) }
         ensures count { OnOk result (self.new.count ≡ self.old.count) }
     {
         let leaf = self.placed(leaf);
@@ -102,28 +101,29 @@ impl Document {
 
     /// A leaf with its place among the others.
     fn placed(&self, leaf: Leaf) -> Leaf
-        ensures { result.rev ≡ leaf.rev }
+        ensures rev { result.rev ≡ leaf.rev }
+        ensures live { result.live ≡ leaf.live }
+        ensures wins { result.wins ≡ (length self.now.leaves.items == 0) }
     {
-        match self.leaves.as_slice().first() {
-            None => Leaf {
+        let leaves = self.leaves.as_slice();
+        if leaves.is_empty() {
+            return Leaf {
                 wins: true,
                 apart: 0,
                 ..leaf
-            },
-            Some(winner) => {
-                let together = shared(winner.before.as_slice(), leaf.before.as_slice());
-                Leaf {
-                    wins: false,
-                    apart: usize::MAX - together,
-                    ..leaf
-                }
-            }
+            };
+        }
+        let together = shared(leaves[0].before.as_slice(), leaf.before.as_slice());
+        Leaf {
+            wins: false,
+            apart: usize::MAX - together,
+            ..leaf
         }
     }
 
     /// Puts the leaves into the order in which they are drawn.
     pub fn sort(&mut self) -> Result<(), AllocError>
-        ensures leaves { IsPermutation (revs_in self.old) (revs_in self.new) }
+        ensures leaves { IsPermutation (states self.old) (states self.new) }
         ensures id { self.new.id ≡ self.old.id }
     {
         self.leaves.sort()

@@ -1,18 +1,18 @@
 //! A run over a script's answers.
-ghost use Rattle.std.specs.Prelude.{◌≡◌, [], None, IfOk, OnOk, OnErr};
+ghost use Rattle.std.specs.Prelude.{◌≡◌, [], Some, None, IfOk, OnOk, OnErr, option_map, string_bytes};
 ghost use Rattle.std.specs.Io.KnownBytes.{Keeps};
-ghost use Rattle.answer_pictures.specs.Ink.{Draws};
-ghost use Rattle.answer_pictures.specs.Drawing.{IsPicture, IsPictured, Pictures, Takes, revs_in};
+ghost use Rattle.answer_pictures.specs.Ink.{Draws, signs_of, signs_of_found, signs_of_row};
+ghost use Rattle.answer_pictures.specs.Drawing.{IsDrawn, IsPicture, IsPictured, Pictures, Takes, sketch_of};
 
 use crate::document::Document;
 use crate::form::Form;
 use crate::markup::Markup;
-use crate::reading::next;
+use crate::reading::{Whole, next};
 use crate::sheet::{mark, number};
 use crate::svg::Extent;
-use crate::{svg, text};
-use answer_lines::read_line;
-use script_engine::{ScriptFault, ScriptRead, ScriptWrite, Serve, run_lines, write_all};
+use crate::{lines, svg, text};
+use answer_lines::{Found, Row, read_line};
+use script_engine::{NoRest, ScriptFault, ScriptRead, ScriptWrite, Serve, run_lines, write_all};
 use std::alloc::{AllocError, Global};
 
 /// Whoever draws.
@@ -29,13 +29,21 @@ struct Drawer<'a> {
 }
 
 impl Serve for Drawer<'_> {
-    ghost answers = { λ old line told new. Pictures old.begun line told new.begun };
+    ghost answers = { λ old line told new. Pictures (sketch_of old.form old.db old.begun) line told (sketch_of new.form new.db new.begun) };
 
-    fn serve(&mut self, line: &[u8], answer: &mut Vec<u8>) -> Result<(), &'static str> {
+    type Rest = NoRest;
+
+    ghost left = { λ _ _. [] };
+
+    fn serve(&mut self, line: &[u8], answer: &mut Vec<u8>) -> Result<Option<NoRest>, &'static str> {
         match self.take_in(line, answer) {
-            Ok(()) => Ok(()),
+            Ok(()) => Ok(None),
             Err(_) => Err("Memory"),
         }
+    }
+
+    fn more(&self, _rest: &mut NoRest, _piece: &mut Vec<u8>) -> Result<bool, AllocError> {
+        Ok(false)
     }
 
     fn hear(&mut self, _number: u64, _line: &[u8], _refused: Option<&'static str>) {}
@@ -45,14 +53,17 @@ impl Drawer<'_> {
     /// Takes in a line, and draws the document that it makes whole. Where memory is wanting, none is open.
     fn take_in(&mut self, line: &[u8], answer: &mut Vec<u8>) -> Result<(), AllocError>
         requires { answer.old.items ≡ [] }
-        ensures ok { OnOk result (Takes self.old.begun line.now self.new.begun answer.new.items) }
+        ensures ok { OnOk result (Takes (sketch_of self.old.form self.old.db self.old.begun) line.now
+            (sketch_of self.new.form self.new.db self.new.begun) answer.new.items) }
         ensures err { OnErr result (self.new.begun ≡ None) }
+        ensures form { self.new.form ≡ self.old.form }
+        ensures db { self.new.db ≡ self.old.db }
     {
         let begun = self.begun.take();
         let told = read_line(self.alloc, line)?;
         let (begun, whole) = next(self.alloc, begun, told)?;
         match whole {
-            Some(document) => self.draw(document, answer),
+            Some(whole) => self.draw_whole(whole, answer),
             None => {
                 self.begun = begun;
                 Ok(())
@@ -60,11 +71,54 @@ impl Drawer<'_> {
         }
     }
 
+    /// Draws what is whole.
+    fn draw_whole(&mut self, whole: Whole, answer: &mut Vec<u8>) -> Result<(), AllocError>
+        requires { answer.old.items ≡ [] }
+        ensures draws { OnOk result (IsDrawn self.old.form (option_map (λ s. s.now) self.old.db) (Some whole) answer.new.items) }
+        ensures begun { self.new.begun ≡ self.old.begun }
+        ensures form { self.new.form ≡ self.old.form }
+        ensures db { self.new.db ≡ self.old.db }
+    {
+        match whole {
+            Whole::Tree(document) => self.draw(document, answer),
+            Whole::Found(found) => self.draw_found(&found, answer),
+            Whole::Row(row) => self.draw_row(&row, answer),
+        }
+    }
+
+    /// Draws what `compare` finds of a document.
+    fn draw_found(&mut self, found: &Found, answer: &mut Vec<u8>) -> Result<(), AllocError>
+        ensures draws { OnOk result (Draws answer.old.items answer.new.items (signs_of_found self.old.form
+            found.now.finding (string_bytes found.now.id) found.now.revs.items)) }
+        ensures begun { self.new.begun ≡ self.old.begun }
+        ensures form { self.new.form ≡ self.old.form }
+        ensures db { self.new.db ≡ self.old.db }
+    {
+        lines::draw_found(answer, self.form, self.extent.height, found)?;
+        self.extent = self.extent.with_below(lines::extent_of_found(found));
+        Ok(())
+    }
+
+    /// Draws a row of numbers.
+    fn draw_row(&mut self, row: &Row, answer: &mut Vec<u8>) -> Result<(), AllocError>
+        ensures draws { OnOk result (Draws answer.old.items answer.new.items (signs_of_row self.old.form
+            row.now.table (string_bytes row.now.name) row.now.numbers.items)) }
+        ensures begun { self.new.begun ≡ self.old.begun }
+        ensures form { self.new.form ≡ self.old.form }
+        ensures db { self.new.db ≡ self.old.db }
+    {
+        lines::draw_numbers(answer, self.form, self.extent.height, row)?;
+        self.extent = self.extent.with_below(lines::extent_of_row(row));
+        Ok(())
+    }
+
     /// Draws a document.
     fn draw(&mut self, mut document: Document, answer: &mut Vec<u8>) -> Result<(), AllocError>
         requires { answer.old.items ≡ [] }
-        ensures draws { OnOk result (IsPicture document answer.new.items) }
+        ensures draws { OnOk result (IsPicture self.old.form (option_map (λ s. s.now) self.old.db) document answer.new.items) }
         ensures begun { self.new.begun ≡ self.old.begun }
+        ensures form { self.new.form ≡ self.old.form }
+        ensures db { self.new.db ≡ self.old.db }
     {
         document.sort()?;
         self.draw_sorted(&document, answer)
@@ -72,26 +126,26 @@ impl Drawer<'_> {
 
     /// Draws a document whose leaves stand in their order.
     fn draw_sorted(&mut self, document: &Document, answer: &mut Vec<u8>) -> Result<(), AllocError>
-        ensures draws { OnOk result (Draws answer.old.items answer.new.items (revs_in document.now)) }
+        ensures draws { OnOk result (Draws answer.old.items answer.new.items (signs_of self.old.form
+            (option_map (λ s. s.now) self.old.db) (string_bytes document.now.id) document.now.leaves.items)) }
         ensures begun { self.new.begun ≡ self.old.begun }
+        ensures form { self.new.form ≡ self.old.form }
+        ensures db { self.new.db ≡ self.old.db }
     {
         match self.form {
             Form::Text => text::draw_document(self.alloc, answer, self.db, document),
             Form::Svg => {
                 let extent = svg::draw_document(self.alloc, answer, self.extent.height, document)?;
-                self.extent = Extent {
-                    width: self.extent.width.max(extent.width),
-                    height: self.extent.height.saturating_add(extent.height),
-                };
+                self.extent = self.extent.with_below(extent);
                 Ok(())
             }
         }
     }
 }
 
-/// Reads a script's answers, and writes a picture of each document that an answer of `show` or `conflicts` tells
-/// (docs/PROFILE.md, "Pictures"): as text, or all of them as one picture in SVG. Where the database is named, a text has
-/// the lines that end the conflicts.
+/// Reads a script's answers, and writes a picture of each document that an answer of `show` or `conflicts` tells, of what
+/// `compare` finds and counts, and of the numbers of `info` and of sessions (docs/PROFILE.md, "Pictures"): as text, or all of
+/// them as one picture in SVG. Where the database is named, a text has the lines that end the conflicts.
 ///
 /// `true` where memory was wanting for no line. `Read` and `Write` where that device failed, `Memory` where memory was
 /// wanting between lines: then a beginning was written.
@@ -102,8 +156,8 @@ pub fn draw_answers<R: ScriptRead, W: ScriptWrite>(
     reader: &mut R,
     writer: &mut W,
 ) -> Result<bool, ScriptFault>
-    ensures { IfOk result
-        (λ clean. IsPictured (R.left reader.old) (W.held writer.old) (W.held writer.new) clean) }
+    ensures { IfOk result (λ clean. IsPictured form (option_map (λ s. s.now) db.entry)
+        (R.left reader.old) (W.held writer.old) (W.held writer.new) clean) }
 {
     let mut drawer = Drawer {
         alloc,

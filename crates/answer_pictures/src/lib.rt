@@ -1,4 +1,4 @@
-//! Pictures of a script's answers: revision trees, as text and as SVG.
+//! Pictures of a script's answers, as text and as SVG: revision trees, what `compare` finds, and rows of numbers.
 //!
 //! What is read and drawn stands in docs/PROFILE.md, "Pictures".
 #![tactic(auto)]
@@ -7,6 +7,8 @@ mod axis;
 mod document;
 mod drawer;
 mod form;
+mod labels;
+mod lines;
 mod markup;
 mod reading;
 mod rows;

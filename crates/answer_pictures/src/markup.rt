@@ -25,16 +25,6 @@ pub enum Markup {
     Corner,
     /// Behind the number of folded revisions.
     More,
-    /// Behind a leaf.
-    WinsLive,
-    WinsDeleted,
-    Live,
-    Deleted,
-    /// The line that ends a conflict.
-    EditDb,
-    EditId,
-    EditParent,
-    EditEnd,
     /// The beginning of a picture in SVG.
     Head,
     /// Its end, around its width and height.
@@ -59,19 +49,15 @@ pub enum Markup {
     NodeTitle,
     /// Behind its whole id, before its short one.
     Ancestor,
-    Winner,
-    Loser,
-    DeletedWinner,
-    DeletedLeaf,
     Folded,
     /// Where there is none.
     NodeNone,
     /// Behind its short id.
     NodeEnd,
-    NodeWinsLive,
-    NodeWinsDeleted,
-    NodeLive,
-    NodeDeleted,
+    /// Before what a line tells.
+    Line,
+    /// Between the name of a row and its numbers.
+    Numbers,
 }
 
 impl Markup {
@@ -90,16 +76,8 @@ impl Markup {
             Markup::Branch => " ├ ",
             Markup::Corner => " └ ",
             Markup::More => " more",
-            Markup::WinsLive => "  wins, live\n",
-            Markup::WinsDeleted => "  wins, deleted\n",
-            Markup::Live => "  live\n",
-            Markup::Deleted => "  deleted\n",
-            Markup::EditDb => "  to keep the winner alone: {\"do\":\"edit\",\"db\":\"",
-            Markup::EditId => "\",\"id\":",
-            Markup::EditParent => ",\"parent\":\"",
-            Markup::EditEnd => "\",\"deleted\":true}\n",
             Markup::Head => {
-                "<svg xmlns=\"http://www.w3.org/2000/svg\" role=\"img\" font-family=\"sans-serif\" font-size=\"13\"><title>Revision trees</title><desc>Each document is a tree of its revisions, the oldest to the left, with the winner in the first row. Filled marks are live leaves, a disc for the winner and squares for those that lose; hollow marks are deleted leaves.</desc><style>svg{background:#fff}text{fill:#222}.b{font-weight:bold}.r{font-size:10px;text-anchor:middle;fill:#555}.e{stroke:#7f8c8d;stroke-width:1.6;fill:none}.a{fill:#95a5a6}.w{fill:#0072b2}.l{fill:#d55e00}.d{fill:#fff;stroke:#555;stroke-width:2}@media(prefers-color-scheme:dark){svg{background:#1b1b1b}text{fill:#eee}.r{fill:#bbb}.d{fill:#1b1b1b;stroke:#bbb}}</style>\n"
+                "<svg xmlns=\"http://www.w3.org/2000/svg\" role=\"img\" font-family=\"sans-serif\" font-size=\"13\"><title>Revision trees</title><desc>Each document is a tree of its revisions, the oldest to the left, with the winner in the first row. Filled marks are live leaves, a disc for the winner and squares for those that lose; hollow marks are deleted leaves.</desc><style>svg{background:#fff}text{fill:#222;white-space:pre}.b{font-weight:bold}.r{font-size:10px;text-anchor:middle;fill:#555}.e{stroke:#7f8c8d;stroke-width:1.6;fill:none}.a{fill:#95a5a6}.w{fill:#0072b2}.l{fill:#d55e00}.d{fill:#fff;stroke:#555;stroke-width:2}@media(prefers-color-scheme:dark){svg{background:#1b1b1b}text{fill:#eee}.r{fill:#bbb}.d{fill:#1b1b1b;stroke:#bbb}}</style>\n"
             }
             Markup::TailWidth => "<style>svg{width:",
             Markup::TailHeight => "px;height:",
@@ -115,22 +93,11 @@ impl Markup {
             Markup::Node => "<g transform=\"translate(",
             Markup::NodeTitle => ")\"><title>",
             Markup::Ancestor => "</title><circle r=\"6\" class=\"a\"/><text y=\"-11\" class=\"r\">",
-            Markup::Winner => "</title><circle r=\"8\" class=\"w\"/><text y=\"-11\" class=\"r\">",
-            Markup::Loser => {
-                "</title><rect x=\"-7\" y=\"-7\" width=\"14\" height=\"14\" class=\"l\"/><text y=\"-11\" class=\"r\">"
-            }
-            Markup::DeletedWinner =>
-                "</title><circle r=\"8\" class=\"d\"/><text y=\"-11\" class=\"r\">",
-            Markup::DeletedLeaf => {
-                "</title><rect x=\"-7\" y=\"-7\" width=\"14\" height=\"14\" class=\"d\"/><text y=\"-11\" class=\"r\">"
-            }
             Markup::Folded => ")\"><text y=\"4\" class=\"r\">",
             Markup::NodeNone => ")\"></g>\n",
             Markup::NodeEnd => "</text></g>\n",
-            Markup::NodeWinsLive => "</text><text x=\"14\" y=\"4\">wins, live</text></g>\n",
-            Markup::NodeWinsDeleted => "</text><text x=\"14\" y=\"4\">wins, deleted</text></g>\n",
-            Markup::NodeLive => "</text><text x=\"14\" y=\"4\">live</text></g>\n",
-            Markup::NodeDeleted => "</text><text x=\"14\" y=\"4\">deleted</text></g>\n",
+            Markup::Line => ")\"><text x=\"20\" y=\"18\">",
+            Markup::Numbers => "</text>\n<text x=\"20\" y=\"40\">",
         }
     }
 }

@@ -1,20 +1,31 @@
 //! Documents, as the lines of a script's answers tell them.
-ghost use Rattle.std.specs.Prelude.{◌≡◌, Some, None, IfOk, IfSome, IfNone, string_bytes};
+ghost use Rattle.std.specs.Prelude.{◌≡◌, [], Some, None, true, IfOk, IfSome, IfNone, string_bytes};
 ghost use Rattle.rev_core.specs.Ancestry.{head_of};
 ghost use Rattle.answer_lines.specs.declared.told.Told.TheVariants as lines;
-ghost use Rattle.answer_pictures.specs.Drawing.{Holds, IsNext};
+ghost use Rattle.answer_pictures.specs.Drawing.{Holds, IsNext, with_all};
 
 use crate::document::{Document, Leaf};
-use answer_lines::Told;
+use answer_lines::{Found, Row, Told};
 use rev_core::Rev;
 use std::alloc::{AllocError, Global};
 
-/// The document that is open behind what a line tells, and the one that it makes whole.
+/// What a line makes whole, so that it is drawn.
+#[derive(Drop)]
+pub enum Whole {
+    /// A document, with each of its leaves.
+    Tree(Document),
+    /// What `compare` finds of a document.
+    Found(Found),
+    /// A row of numbers.
+    Row(Row),
+}
+
+/// The document that is open behind what a line tells, and what it makes whole.
 pub fn next(
     alloc: Global,
     begun: Option<Document>,
     told: Told,
-) -> Result<(Option<Document>, Option<Document>), AllocError>
+) -> Result<(Option<Document>, Option<Whole>), AllocError>
     ensures { IfOk result (λ x. IsNext begun told x.0 x.1) }
 {
     match told {
@@ -23,7 +34,12 @@ pub fn next(
             Some(document) => read_leaf(document, live, revs),
             None => Ok((None, None)),
         },
-        Told::Conflict { id, revs } => Ok((None, Some(conflict_of(alloc, id, revs.as_slice())?))),
+        Told::Conflict { id, revs } => Ok((
+            None,
+            Some(Whole::Tree(conflict_of(alloc, id, revs.as_slice())?)),
+        )),
+        Told::Found(found) => Ok((None, Some(Whole::Found(found)))),
+        Told::Row(row) => Ok((None, Some(Whole::Row(row)))),
         Told::Other => Ok((None, None)),
     }
 }
@@ -33,7 +49,7 @@ fn read_leaf(
     mut document: Document,
     live: bool,
     revs: Vec<Rev>,
-) -> Result<(Option<Document>, Option<Document>), AllocError>
+) -> Result<(Option<Document>, Option<Whole>), AllocError>
     ensures { IfOk result (λ x. IsNext (Some document) (lines.Leaf live revs) x.0 x.1) }
 {
     let Some(leaf) = leaf_of(live, revs) else {
@@ -41,7 +57,7 @@ fn read_leaf(
     };
     document.add(leaf)?;
     if document.is_whole() {
-        Ok((None, Some(document)))
+        Ok((None, Some(Whole::Tree(document))))
     } else {
         Ok((Some(document), None))
     }
@@ -49,7 +65,7 @@ fn read_leaf(
 
 /// The leaf of an ancestry, newest first; none of an empty list.
 fn leaf_of(live: bool, mut revs: Vec<Rev>) -> Option<Leaf>
-    ensures some { IfSome result (λ l. head_of revs.items ≡ Some l.rev) }
+    ensures some { IfSome result (λ l. (head_of revs.items ≡ Some l.rev) × (l.live ≡ live)) }
     ensures none { IfNone result (head_of revs.items ≡ None) }
 {
     if revs.is_empty() {
@@ -69,7 +85,7 @@ fn leaf_of(live: bool, mut revs: Vec<Rev>) -> Option<Leaf>
 
 /// The document of these live leaves, whose ancestors are not known.
 fn conflict_of(alloc: Global, id: String, revs: &[Rev]) -> Result<Document, AllocError>
-    ensures { IfOk result (λ d. Holds d (string_bytes id) revs.now) }
+    ensures { IfOk result (λ d. Holds d (string_bytes id) (with_all [] revs.now)) }
 {
     let mut document = Document::new(alloc, id, revs.len() as u64);
     for i in 0..revs.len() {
@@ -80,7 +96,8 @@ fn conflict_of(alloc: Global, id: String, revs: &[Rev]) -> Result<Document, Allo
 
 /// A live leaf whose ancestors are not known.
 fn alone(alloc: Global, rev: Rev) -> Leaf
-    ensures { result.rev ≡ rev }
+    ensures rev { result.rev ≡ rev }
+    ensures live { result.live ≡ true }
 {
     Leaf {
         apart: 0,

@@ -2,11 +2,12 @@
 ghost use Rattle.std.specs.Prelude.{◌≡◌, ◌++◌, ◌∷◌, ◌<◌, [], OnOk, string_bytes, decimal, encode_utf8_all, chars, take};
 ghost use Rattle.std.specs.Char.{digit_char};
 ghost use Rattle.rev_core.specs.Text.{rev_text};
-ghost use Rattle.answer_pictures.specs.declared.form.Form.TheVariants.{Svg};
-ghost use Rattle.answer_pictures.specs.Ink.{Draws, markup_text, short_text};
+ghost use Rattle.answer_pictures.specs.declared.form.Form.TheVariants.{Svg, Text};
+ghost use Rattle.answer_pictures.specs.Ink.{Draws, edit, leaf, markup_text, short_text, shown_text, title};
 ghost use Rattle.answer_pictures.specs.Shown.{IsEscaped, IsSeen, entity_of, escape_of, is_hidden, seen_char, shown, shown_char};
 
 use crate::form::Form;
+use crate::labels::{label_text, node_label, shape_text};
 use crate::markup::Markup;
 use itoa::Buffer;
 use rev_core::Rev;
@@ -25,6 +26,13 @@ pub fn number(out: &mut Vec<u8>, number: u64) -> Result<(), AllocError>
     ensures text { OnOk result (out.new.items ≡ out.old.items ++ decimal number) }
     ensures draws { OnOk result (Draws out.old.items out.new.items []) }
 {
+    put_number(out, number)
+}
+
+/// Puts a number.
+pub fn put_number(out: &mut Vec<u8>, number: u64) -> Result<(), AllocError>
+    ensures { OnOk result (out.new.items ≡ out.old.items ++ decimal number) }
+{
     let mut digits = Buffer::new();
     out.extend_from_slice(digits.format(number).as_bytes())
 }
@@ -39,17 +47,53 @@ pub fn blanks(out: &mut Vec<u8>, count: usize) -> Result<(), AllocError>
     Ok(())
 }
 
-/// Draws a text of an answer, so that no character of it is markup and each is seen.
-pub fn text(out: &mut Vec<u8>, form: Form, text: &str) -> Result<(), AllocError>
-    ensures text { OnOk result
-        (out.new.items ≡ out.old.items ++ encode_utf8_all (shown form (chars text.now))) }
-    ensures draws { OnOk result (Draws out.old.items out.new.items []) }
+/// Puts a text of an answer, so that no character of it is markup and each is seen.
+pub fn put_text(out: &mut Vec<u8>, form: Form, text: &str) -> Result<(), AllocError>
+    ensures text { OnOk result (out.new.items ≡ out.old.items ++ shown_text form text.now) }
     ensures seen { IsSeen (shown form (chars text.now)) }
     ensures escaped { IsEscaped (shown Svg (chars text.now)) }
 {
     let mut shown = String::new(*out.allocator());
     push_shown(&mut shown, form, text)?;
     out.extend_from_slice(shown.as_bytes())
+}
+
+/// Draws a document's id.
+pub fn title(out: &mut Vec<u8>, form: Form, id: &str) -> Result<(), AllocError>
+    ensures { OnOk result (Draws out.old.items out.new.items (title form id.now ∷ [])) }
+{
+    put_text(out, form, id)
+}
+
+/// Draws a leaf as text.
+pub fn leaf_row(out: &mut Vec<u8>, rev: &Rev, wins: bool, live: bool) -> Result<(), AllocError>
+    ensures { OnOk result (Draws out.old.items out.new.items (leaf Text rev.now wins live ∷ [])) }
+{
+    push_rev(out, rev.generation(), short_sig(rev))?;
+    out.extend_from_slice(label_text(wins, live).as_bytes())
+}
+
+/// Draws a leaf in SVG, behind its place.
+pub fn leaf_node(out: &mut Vec<u8>, rev: &Rev, wins: bool, live: bool) -> Result<(), AllocError>
+    ensures { OnOk result (Draws out.old.items out.new.items (leaf Svg rev.now wins live ∷ [])) }
+{
+    push_rev(out, rev.generation(), rev.sig_bytes())?;
+    out.extend_from_slice(shape_text(wins, live).as_bytes())?;
+    push_rev(out, rev.generation(), short_sig(rev))?;
+    out.extend_from_slice(node_label(wins, live).as_bytes())
+}
+
+/// Draws the line that ends a leaf's part of a conflict.
+pub fn edit_line(out: &mut Vec<u8>, db: &str, id: &str, rev: &Rev) -> Result<(), AllocError>
+    ensures { OnOk result (Draws out.old.items out.new.items (edit db.now id.now rev.now ∷ [])) }
+{
+    out.extend_from_slice(b"  to keep the winner alone: {\"do\":\"edit\",\"db\":\"")?;
+    put_text(out, Form::Text, db)?;
+    out.extend_from_slice(b"\",\"id\":")?;
+    put_text(out, Form::Text, id)?;
+    out.extend_from_slice(b",\"parent\":\"")?;
+    push_rev(out, rev.generation(), rev.sig_bytes())?;
+    out.extend_from_slice(b"\",\"deleted\":true}\n")
 }
 
 /// Draws a revision by its whole id.
@@ -68,13 +112,12 @@ pub fn short_rev(out: &mut Vec<u8>, rev: &Rev) -> Result<(), AllocError>
     ensures text { OnOk result (out.new.items ≡ out.old.items ++ short_text rev.now) }
     ensures draws { OnOk result (Draws out.old.items out.new.items []) }
 {
-    push_rev(out, rev.generation(), short_sig(rev))
+    push_short(out, rev)
 }
 
-/// Draws a leaf by the beginning of its id.
-pub fn draw_rev(out: &mut Vec<u8>, rev: &Rev) -> Result<(), AllocError>
-    ensures text { OnOk result (out.new.items ≡ out.old.items ++ short_text rev.now) }
-    ensures draws { OnOk result (Draws out.old.items out.new.items (rev.now ∷ [])) }
+/// Puts a revision by the beginning of its id.
+pub fn push_short(out: &mut Vec<u8>, rev: &Rev) -> Result<(), AllocError>
+    ensures { OnOk result (out.new.items ≡ out.old.items ++ short_text rev.now) }
 {
     push_rev(out, rev.generation(), short_sig(rev))
 }

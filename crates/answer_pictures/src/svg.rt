@@ -1,14 +1,15 @@
 //! A document as a picture in SVG.
 
-ghost use Rattle.std.specs.Prelude.{◌≡◌, ◌∷◌, [], OnOk, length, map};
-ghost use Rattle.answer_pictures.specs.Ink.{Draws};
+ghost use Rattle.std.specs.Prelude.{◌≡◌, ◌∷◌, [], None, OnOk, length, map, string_bytes};
+ghost use Rattle.answer_pictures.specs.declared.form.Form.TheVariants.{Svg};
+ghost use Rattle.answer_pictures.specs.Ink.{Draws, leaf_sign, signs_of, title};
 
 use crate::axis::{Cell, axis_of, folded, start_of};
 use crate::document::{Document, Leaf};
 use crate::form::Form;
 use crate::markup::Markup;
 use crate::rows::{Row, rows_of};
-use crate::sheet::{draw_rev, mark, number, short_rev, text, whole_rev};
+use crate::sheet::{leaf_node, mark, number, short_rev, title, whole_rev};
 use rev_core::Rev;
 use std::alloc::{AllocError, Global};
 
@@ -28,6 +29,21 @@ pub struct Extent {
     pub height: u64,
 }
 
+impl Extent {
+    /// Both, one under the other.
+    pub fn with_below(self, below: Extent) -> Extent {
+        Extent {
+            width: self.width.max(below.width),
+            height: self.height.saturating_add(below.height),
+        }
+    }
+}
+
+/// How wide a text is at most.
+pub fn width_of(text: &str) -> u64 {
+    (text.len() as u64).min(1 << 32) * 9
+}
+
 /// Where the middle of a column is.
 fn x_of(place: usize) -> u64 {
     (place as u64).min(1 << 32) * COLUMN + LEFT
@@ -45,7 +61,7 @@ pub fn draw_document(
     height: u64,
     document: &Document,
 ) -> Result<Extent, AllocError>
-    ensures { OnOk result (Draws out.old.items out.new.items (map (λ l. l.rev) document.now.leaves.items)) }
+    ensures { OnOk result (Draws out.old.items out.new.items (signs_of Svg None (string_bytes document.now.id) document.now.leaves.items)) }
 {
     let leaves = document.leaves.as_slice();
     let rows = rows_of(alloc, leaves)?;
@@ -54,19 +70,19 @@ pub fn draw_document(
     draw_rows(out, cells.as_slice(), leaves, rows.as_slice())?;
     mark(out, Markup::GroupEnd)?;
     Ok(Extent {
-        width: x_of(cells.len()),
+        width: x_of(cells.len()).max(width_of(document.id.as_str())),
         height: y_of(leaves.len()),
     })
 }
 
 /// Draws where a document stands, and its id.
 fn draw_head(out: &mut Vec<u8>, height: u64, document: &Document) -> Result<(), AllocError>
-    ensures { OnOk result (Draws out.old.items out.new.items []) }
+    ensures { OnOk result (Draws out.old.items out.new.items (title Svg (string_bytes document.now.id) ∷ [])) }
 {
     mark(out, Markup::Group)?;
     number(out, height)?;
     mark(out, Markup::Title)?;
-    text(out, Form::Svg, document.id.as_str())?;
+    title(out, Form::Svg, document.id.as_str())?;
     mark(out, Markup::TitleEnd)
 }
 
@@ -78,7 +94,7 @@ fn draw_rows(
     rows: &[Row],
 ) -> Result<(), AllocError>
     requires { length rows.now ≡ length leaves.now }
-    ensures { OnOk result (Draws out.old.items out.new.items (map (λ l. l.rev) leaves.now)) }
+    ensures { OnOk result (Draws out.old.items out.new.items (map (leaf_sign Svg) leaves.now)) }
 {
     for i in 0..leaves.len() {
         draw_row(out, cells, &leaves[i], &rows[i], i)?;
@@ -94,7 +110,7 @@ fn draw_row(
     row: &Row,
     place: usize,
 ) -> Result<(), AllocError>
-    ensures { OnOk result (Draws out.old.items out.new.items (leaf.now.rev ∷ [])) }
+    ensures { OnOk result (Draws out.old.items out.new.items (leaf_sign Svg leaf.now ∷ [])) }
 {
     draw_cells(out, cells, leaf, row, place)?;
     draw_leaf(out, leaf, column_of(cells, leaf), place)
@@ -237,33 +253,10 @@ fn draw_ancestor(out: &mut Vec<u8>, rev: &Rev) -> Result<(), AllocError>
 
 /// Draws a leaf, and what it is.
 fn draw_leaf(out: &mut Vec<u8>, leaf: &Leaf, i: usize, place: usize) -> Result<(), AllocError>
-    ensures { OnOk result (Draws out.old.items out.new.items (leaf.now.rev ∷ [])) }
+    ensures { OnOk result (Draws out.old.items out.new.items (leaf_sign Svg leaf.now ∷ [])) }
 {
     mark(out, Markup::Node)?;
     draw_point(out, x_of(i), y_of(place))?;
     mark(out, Markup::NodeTitle)?;
-    whole_rev(out, &leaf.rev)?;
-    mark(out, shape_of(leaf))?;
-    draw_rev(out, &leaf.rev)?;
-    mark(out, label_of(leaf))
-}
-
-/// How a leaf is drawn.
-fn shape_of(leaf: &Leaf) -> Markup {
-    match (leaf.wins, leaf.live) {
-        (true, true) => Markup::Winner,
-        (true, false) => Markup::DeletedWinner,
-        (false, true) => Markup::Loser,
-        (false, false) => Markup::DeletedLeaf,
-    }
-}
-
-/// What stands behind a leaf.
-fn label_of(leaf: &Leaf) -> Markup {
-    match (leaf.wins, leaf.live) {
-        (true, true) => Markup::NodeWinsLive,
-        (true, false) => Markup::NodeWinsDeleted,
-        (false, true) => Markup::NodeLive,
-        (false, false) => Markup::NodeDeleted,
-    }
+    leaf_node(out, &leaf.rev, leaf.wins, leaf.live)
 }

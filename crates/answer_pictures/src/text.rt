@@ -1,14 +1,16 @@
 //! A document as lines of text.
 
-ghost use Rattle.std.specs.Prelude.{◌≡◌, ◌∷◌, [], OnOk, length, map};
-ghost use Rattle.answer_pictures.specs.Ink.{Draws};
+ghost use Rattle.std.specs.Prelude.{◌≡◌, ◌∷◌, [], OnOk, length, map, option_map, string_bytes};
+ghost use Rattle.std.specs.List.{flat_map};
+ghost use Rattle.answer_pictures.specs.declared.form.Form.TheVariants.{Text};
+ghost use Rattle.answer_pictures.specs.Ink.{Draws, edit_of, edits_of, leaf_sign, signs_of};
 
 use crate::axis::{Cell, axis_of, folded, folded_len, start_of};
 use crate::document::{Document, Leaf};
 use crate::form::Form;
 use crate::markup::Markup;
 use crate::rows::{Row, rows_of};
-use crate::sheet::{blanks, draw_rev, mark, number, short_len, short_rev, text, whole_rev};
+use crate::sheet::{blanks, edit_line, leaf_row, mark, number, short_len, short_rev, title};
 use rev_core::Rev;
 use std::alloc::{AllocError, Global};
 
@@ -19,15 +21,16 @@ pub fn draw_document(
     db: Option<&str>,
     document: &Document,
 ) -> Result<(), AllocError>
-    ensures { OnOk result (Draws out.old.items out.new.items (map (λ l. l.rev) document.now.leaves.items)) }
+    ensures { OnOk result (Draws out.old.items out.new.items
+        (signs_of Text (option_map (λ s. s.now) db.entry) (string_bytes document.now.id) document.now.leaves.items)) }
 {
     let leaves = document.leaves.as_slice();
     let rows = rows_of(alloc, leaves)?;
     let cells = axis_of(alloc, leaves, rows.as_slice())?;
-    text(out, Form::Text, document.id.as_str())?;
+    title(out, Form::Text, document.id.as_str())?;
     mark(out, Markup::LineEnd)?;
     draw_rows(out, cells.as_slice(), leaves, rows.as_slice())?;
-    draw_edits(out, db, document)?;
+    draw_edits(out, db, document.id.as_str(), leaves)?;
     mark(out, Markup::LineEnd)
 }
 
@@ -39,7 +42,7 @@ fn draw_rows(
     rows: &[Row],
 ) -> Result<(), AllocError>
     requires { length rows.now ≡ length leaves.now }
-    ensures { OnOk result (Draws out.old.items out.new.items (map (λ l. l.rev) leaves.now)) }
+    ensures { OnOk result (Draws out.old.items out.new.items (map (leaf_sign Text) leaves.now)) }
 {
     for i in 0..leaves.len() {
         draw_row(out, cells, &leaves[i], &rows[i])?;
@@ -48,21 +51,34 @@ fn draw_rows(
 }
 
 /// Draws the lines that end the conflicts, where the database is known.
-fn draw_edits(out: &mut Vec<u8>, db: Option<&str>, document: &Document) -> Result<(), AllocError>
-    ensures { OnOk result (Draws out.old.items out.new.items []) }
+fn draw_edits(
+    out: &mut Vec<u8>,
+    db: Option<&str>,
+    id: &str,
+    leaves: &[Leaf],
+) -> Result<(), AllocError>
+    ensures { OnOk result (Draws out.old.items out.new.items
+        (edits_of (option_map (λ s. s.now) db.entry) id.now leaves.now)) }
 {
     let Some(db) = db else {
         return Ok(());
     };
-    for leaf in document.leaves.as_slice() {
-        draw_edit(out, db, document.id.as_str(), leaf)?;
+    draw_edits_of(out, db, id, leaves)
+}
+
+/// Draws the lines that end the conflicts.
+fn draw_edits_of(out: &mut Vec<u8>, db: &str, id: &str, leaves: &[Leaf]) -> Result<(), AllocError>
+    ensures { OnOk result (Draws out.old.items out.new.items (flat_map (edit_of db.now id.now) leaves.now)) }
+{
+    for i in 0..leaves.len() {
+        draw_edit(out, db, id, &leaves[i])?;
     }
     Ok(())
 }
 
 /// Draws a row: the columns before the leaf's, and the leaf.
 fn draw_row(out: &mut Vec<u8>, cells: &[Cell], leaf: &Leaf, row: &Row) -> Result<(), AllocError>
-    ensures { OnOk result (Draws out.old.items out.new.items (leaf.now.rev ∷ [])) }
+    ensures { OnOk result (Draws out.old.items out.new.items (leaf_sign Text leaf.now ∷ [])) }
 {
     mark(out, Markup::Indent)?;
     draw_cells(out, cells, leaf, row)?;
@@ -163,41 +179,17 @@ fn draw_ancestor(out: &mut Vec<u8>, rev: &Rev, width: usize) -> Result<(), Alloc
 
 /// Draws a leaf, and what it is.
 fn draw_leaf(out: &mut Vec<u8>, leaf: &Leaf) -> Result<(), AllocError>
-    ensures { OnOk result (Draws out.old.items out.new.items (leaf.now.rev ∷ [])) }
+    ensures { OnOk result (Draws out.old.items out.new.items (leaf_sign Text leaf.now ∷ [])) }
 {
-    draw_rev(out, &leaf.rev)?;
-    mark(out, label_of(leaf))
-}
-
-/// What stands behind a leaf.
-fn label_of(leaf: &Leaf) -> Markup {
-    match (leaf.wins, leaf.live) {
-        (true, true) => Markup::WinsLive,
-        (true, false) => Markup::WinsDeleted,
-        (false, true) => Markup::Live,
-        (false, false) => Markup::Deleted,
-    }
+    leaf_row(out, &leaf.rev, leaf.wins, leaf.live)
 }
 
 /// Draws the line that ends a conflict, where a leaf is live and loses.
 fn draw_edit(out: &mut Vec<u8>, db: &str, id: &str, leaf: &Leaf) -> Result<(), AllocError>
-    ensures { OnOk result (Draws out.old.items out.new.items []) }
+    ensures { OnOk result (Draws out.old.items out.new.items (edit_of db.now id.now leaf.now)) }
 {
     if leaf.wins || !leaf.live {
         return Ok(());
     }
-    draw_edit_of(out, db, id)?;
-    mark(out, Markup::EditParent)?;
-    whole_rev(out, &leaf.rev)?;
-    mark(out, Markup::EditEnd)
-}
-
-/// Draws the beginning of such a line.
-fn draw_edit_of(out: &mut Vec<u8>, db: &str, id: &str) -> Result<(), AllocError>
-    ensures { OnOk result (Draws out.old.items out.new.items []) }
-{
-    mark(out, Markup::EditDb)?;
-    text(out, Form::Text, db)?;
-    mark(out, Markup::EditId)?;
-    text(out, Form::Text, id)
+    edit_line(out, db, id, &leaf.rev)
 }

@@ -1,5 +1,5 @@
 -- How the words of a command line are run, over any reader and writer: docs/PROFILE.md, "CouchDB's answers".
-use Rattle.std.specs.Prelude.{◌≡◌, ℕ, List, Bool, true, false, Option, Some, Result, Ok, Err, IfOk, String, string_bytes, ⊤}
+use Rattle.std.specs.Prelude.{◌≡◌, ℕ, List, Bool, true, false, Option, Some, Result, Ok, Err, IfOk, String, string_bytes, option_map, ⊤}
 use Rattle.std.specs.declared.alloc.Global.{Global}
 use Rattle.couch_answers.specs.Reading.{Piece}
 use Rattle.couch_answers.specs.Grammar.{IsAnswered}
@@ -11,6 +11,8 @@ use Rattle.couch_wording.specs.Words.{Words, loads_of, asked_of, diffs_of, docs_
 use Rattle.couch_wording.specs.Runs.{Answered, Stopped, ReadsAnswers}
 use Rattle.couch_wording.specs.declared.run.AnswerFault.{AnswerFault}
 use Rattle.answer_pictures.specs.Drawing.{IsPictured}
+use Rattle.answer_pictures.specs.declared.form.Form.{Form}
+use Rattle.answer_pictures.specs.declared.form.Form.TheVariants.{Text, Svg}
 use Rattle.couch_lines.specs.Tasks.{Says, Refuses}
 use Rattle.couch_lines.specs.declared.tasks.Task.{Task}
 use Rattle.couch_lines.specs.declared.tasks.Task.TheVariants.{Load, Ids, Diff, Leaves, Bulk, Trees}
@@ -42,6 +44,11 @@ abbrev pub is_drawn : Task → Bool
 is_drawn (Trees db svg) = true
 is_drawn task = false
 
+-- what pictures are drawn as
+abbrev pub form_of : Bool → Form
+form_of true = Svg
+form_of false = Text
+
 -- First what the reader has left, then what the writer holds, before and after.
 abbrev pub IsDone : Task → Option (List ℕ) → Option (List ℕ) → Option (List ℕ) → Result ℕ AnswerFault → Type 0
 IsDone task left held held' (Ok passed) = Answered (wanted_of task) (words_of_task task) left held held' passed
@@ -68,4 +75,5 @@ RunsWords words left left' held held' (NotRun why) = Refuses words why × (left'
 RunsWords words left left' held held' (Ran run) =
     (task : Task) × Says words task × IsDone task left held held' run.ended × Makes task left held held' run.ended
 RunsWords words left left' held held' (Drawn ended) =
-    (db : Option (String Global)) × (svg : Bool) × Says words (Trees db svg) × IfOk ended (λ clean. IsPictured left held held' clean)
+    (db : Option (String Global)) × (svg : Bool) × Says words (Trees db svg)
+    × IfOk ended (λ clean. IsPictured (form_of svg) (option_map string_bytes db) left held held' clean)

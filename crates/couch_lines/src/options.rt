@@ -37,9 +37,10 @@ const TASKS_HELP: &str = "Standard input is read, and what is made of it goes to
       files, in `load` lines and in the answers of `doc` lines, N documents in each,
       one body a line (1000 without N)
   couch_lines trees [DB] [--svg]
-      the revision tree of each document in a script's answers to `show`, as text, or
-      all of them as one picture in SVG; with DB, the database of the answers, a text
-      has the `edit` lines that end the conflicts
+      pictures of a script's answers, as text, or all of them as one picture in SVG:
+      of `show` and `conflicts` the revision trees (with DB, the database of the answers,
+      a text has the `edit` lines that end the conflicts); of `compare` what is missing
+      or otherwise, and how much is there; of `info` and of a session the numbers
 
 A document is an object whose first member is `_id`, or one that an answer of CouchDB
 names. Its text is copied as it is. What stands in the place of a document is passed over,

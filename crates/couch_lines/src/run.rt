@@ -1,8 +1,8 @@
 //! A run of the program over any reader and writer: its words, and what they ask for.
-ghost use Rattle.std.specs.Prelude.{◌≡◌, IfOk, false, map, string_bytes};
+ghost use Rattle.std.specs.Prelude.{◌≡◌, IfOk, false, map, option_map, string_bytes};
 ghost use Rattle.couch_wording.specs.Stored.{words_of_wording};
 ghost use Rattle.answer_pictures.specs.Drawing.{IsPictured};
-ghost use Rattle.couch_lines.specs.Runs.{RunsWords, IsDone, Makes, is_drawn, wanted_of, words_of_task};
+ghost use Rattle.couch_lines.specs.Runs.{RunsWords, IsDone, Makes, form_of, is_drawn, wanted_of, words_of_task};
 
 use crate::options::{NoTask, read_words};
 use crate::tasks::Task;
@@ -49,7 +49,7 @@ pub fn run_words<'a, R: ScriptRead, W: ScriptWrite>(
         Err(why) => return Ended::NotRun(why),
     };
     if let Task::Trees(db, svg) = &task {
-        return Ended::Drawn(draw(alloc, db.as_ref(), *svg, reader, writer));
+        return Ended::Drawn(draw(alloc, db, *svg, reader, writer));
     }
     match wording_of(alloc, &task) {
         Ok(wording) => Ended::Ran(run_task(alloc, &task, wording, reader, writer)),
@@ -60,18 +60,26 @@ pub fn run_words<'a, R: ScriptRead, W: ScriptWrite>(
 /// Draws pictures of a script's answers.
 fn draw<R: ScriptRead, W: ScriptWrite>(
     alloc: Global,
-    db: Option<&String>,
+    db: &Option<String>,
     svg: bool,
     reader: &mut R,
     writer: &mut W,
 ) -> Result<bool, ScriptFault>
-    ensures { IfOk result (λ clean. IsPictured (R.left reader.old) (W.held writer.old) (W.held writer.new) clean) }
+    ensures { IfOk result (λ clean. IsPictured (form_of svg) (option_map string_bytes db.now)
+        (R.left reader.old) (W.held writer.old) (W.held writer.new) clean) }
 {
-    let form = if svg { Form::Svg } else { Form::Text };
+    let form = form_of(svg);
     match db {
         Some(db) => draw_answers(alloc, form, Some(db.as_str()), reader, writer),
         None => draw_answers(alloc, form, None, reader, writer),
     }
+}
+
+/// What pictures are drawn as.
+fn form_of(svg: bool) -> Form
+    ensures { result ≡ form_of svg }
+{
+    if svg { Form::Svg } else { Form::Text }
 }
 
 /// What is read for a task.

@@ -1,8 +1,10 @@
 use Rattle.std.proofs.Common.{ℕ, List, [], sym, subst}
 use Rattle.std.proofs.KnownBytes.{Appends-kept, Appends-trans}
-use Rattle.answer_pictures.specs.Drawing.{Pictures}
+use Rattle.answer_pictures.specs.Drawing.{Pictures, sketch_of}
 use Rattle.answer_pictures.specs.Ink.{Draws}
+use Rattle.std.specs.Str.{chars}
 use Rattle.answer_pictures.proofs.RunLemmas.{seen_as}
+use Rattle.answer_pictures.proofs.ShownTexts.{safe_shown}
 use Rattle.answer_pictures.proofs.drawer.draw_answers.Goals as goal
 
 pub returns : goal.returns
@@ -14,12 +16,13 @@ returns g c =
       head = c.as_bytes.result.now;
       head_drawn = subst (λ (t : List ℕ). Draws [] t []) (sym c.as_bytes.ensures.value) c.head_of.ensures;
       text = a.1;
-      document = c.run_lines.new.server.begun;
-      answered = seen_as _ Pictures (λ d. d.begun) (λ old line told new h. h) _ _ a.0 _ a.1 a.4;
+      left_open = sketch_of c.run_lines.new.server.form c.run_lines.new.server.db c.run_lines.new.server.begun;
+      answered = seen_as _ Pictures (λ d. sketch_of d.form d.db d.begun) (λ old line told new h. h) _ _ a.0 _ a.1 a.4;
       tail = c.as_slice.result.now;
       tail_drawn = subst (λ (t : List ℕ). Draws [] t []) (sym c.as_slice.ensures.value) c.in_ok-tail.ensures;
       written =
           Appends-kept _ _ _ _
           (Appends-trans _ _ _ _ _ (Appends-trans _ _ _ _ _ c.in_ok-write_all.ensures.ok.0 a.3) c.in_ok-write_all-2.ensures.ok.0)
           c.in_ok-pass_on.ensures;
+      safe = λ shows. safe_shown c.args.form (chars shows);
     }

@@ -1,6 +1,7 @@
-use Rattle.std.proofs.Common.{◌≡◌, take}
-use Rattle.answer_pictures.specs.Drawing.{revs_in}
+use Rattle.std.proofs.Common.{◌≡◌, [], drop}
+use Rattle.std.specs.Prelude.{string_bytes}
+use Rattle.answer_pictures.specs.Drawing.{states, with_all}
 use Rattle.answer_pictures.proofs.reading.conflict_of.Given as goal
 
 abbrev pub invariant-loop-i : goal.invariant-loop-i
-invariant-loop-i l = (revs_in l.document ≡ take l.i l.revs) × (l.document.id ≡ l.fn.id)
+invariant-loop-i l = (with_all (states l.document) (drop l.i l.revs) ≡ with_all [] l.revs) × (string_bytes l.document.id ≡ string_bytes l.fn.id)

@@ -1,7 +1,9 @@
-use Rattle.std.proofs.Common.{Some, None, sym, subst}
+use Rattle.std.proofs.Common.{List, [], Some, None, sym, subst}
+use Rattle.rev_core.specs.Rev.{RevId}
 use Rattle.std.specs.Prelude.{string_bytes}
 use Rattle.answer_lines.specs.declared.told.Told.TheVariants as lines
-use Rattle.answer_pictures.specs.Drawing.{Holds, IsNext, conflict, loose, opened, other}
+use Rattle.answer_pictures.specs.Drawing.{Holds, IsNext, conflict, found, loose, opened, other, row, with_all}
+use Rattle.answer_pictures.specs.declared.reading.Whole.TheVariants as wholes
 use Rattle.answer_pictures.proofs.reading.next.Goals as goal
 
 pub returns-in-Document : goal.returns-in-Document
@@ -16,8 +18,14 @@ returns-in-None c =
 pub returns-in_ok-conflict_of-in-Conflict : goal.returns-in_ok-conflict_of-in-Conflict
 returns-in_ok-conflict_of-in-Conflict c =
     let d = c.in_ok-conflict_of-in-Conflict.field-0 in
-    subst (λ t. IsNext c.args.begun t None (Some d)) (sym c.in-Conflict.is)
-    (conflict (subst (Holds d (string_bytes c.in-Conflict.id)) c.as_slice.ensures.value c.in_ok-conflict_of-in-Conflict.ensures))
+    subst (λ t. IsNext c.args.begun t None (Some (wholes.Tree d))) (sym c.in-Conflict.is)
+    (conflict (subst (λ (rs : List RevId). Holds d (string_bytes c.in-Conflict.id) (with_all [] rs)) c.as_slice.ensures.value c.in_ok-conflict_of-in-Conflict.ensures))
 
 pub returns-in-Other : goal.returns-in-Other
 returns-in-Other c = subst (λ t. IsNext c.args.begun t None None) (sym c.in-Other.is) other
+
+pub returns-in-Found : goal.returns-in-Found
+returns-in-Found c = subst (λ t. IsNext c.args.begun t None (Some (wholes.Found c.in-Found.found))) (sym c.in-Found.is) found
+
+pub returns-in-Row : goal.returns-in-Row
+returns-in-Row c = subst (λ t. IsNext c.args.begun t None (Some (wholes.Row c.in-Row.row))) (sym c.in-Row.is) row

@@ -6,4 +6,4 @@ use Rattle.answer_pictures.proofs.sheet.number.Goals as goal
 
 pub returns-clause-draws : goal.returns-clause-draws
 returns-clause-draws c =
-    drawn_by c.extend_from_slice.result (number c.args.number) c.args.out.now.items c.extend_from_slice.new.self.items (grind (arith, common_steps))
+    drawn_by c.put_number.result (number c.args.number) c.args.out.now.items c.put_number.new.out.items (grind (arith, common_steps))

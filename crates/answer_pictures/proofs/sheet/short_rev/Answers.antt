@@ -6,4 +6,4 @@ use Rattle.answer_pictures.proofs.sheet.short_rev.Goals as goal
 
 pub returns-clause-draws : goal.returns-clause-draws
 returns-clause-draws c =
-    drawn_by c.push_rev.result (short c.args.rev.now) c.args.out.now.items c.push_rev.new.out.items (grind (arith, common_steps))
+    drawn_by c.push_short.result (short c.args.rev.now) c.args.out.now.items c.push_short.new.out.items (grind (arith, common_steps))

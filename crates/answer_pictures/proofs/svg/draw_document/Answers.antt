@@ -1,13 +1,15 @@
-use Rattle.std.proofs.Common.{List, [], map, subst}
-use Rattle.rev_core.specs.Rev.{RevId}
+use Rattle.std.proofs.Common.{List, [], ◌∷◌, map, subst}
+use Rattle.std.specs.Prelude.{string_bytes}
 use Rattle.answer_pictures.specs.declared.document.Leaf.{Leaf}
-use Rattle.answer_pictures.specs.Ink.{Draws}
+use Rattle.answer_pictures.specs.declared.form.Form.TheVariants.{Svg}
+use Rattle.answer_pictures.specs.Ink.{Draws, Sign, leaf_sign, title}
 use Rattle.answer_pictures.proofs.Inks.{drawn_plain, drawn_then}
 use Rattle.answer_pictures.proofs.svg.draw_document.Goals as goal
 
 pub returns : goal.returns
 returns c =
-    let leaves : List RevId = map (λ (l : Leaf). l.rev) c.as_slice-leaves.result.now in
-    let rows = drawn_then _ _ _ [] leaves c.in_ok-draw_head.ensures c.in_ok-draw_rows.ensures in
-    subst (λ (ls : List Leaf). Draws c.args.out.now.items c.mark.new.out.items (map (λ (l : Leaf). l.rev) ls))
-    c.as_slice-leaves.ensures.value (drawn_plain _ _ _ leaves rows c.in_ok-mark.ensures.draws)
+    let id = string_bytes c.args.document.now.id in
+    let leaves : List Sign = map (leaf_sign Svg) c.as_slice-leaves.result.now in
+    let rows = drawn_then _ _ _ (title Svg id ∷ []) leaves c.in_ok-draw_head.ensures c.in_ok-draw_rows.ensures in
+    subst (λ (ls : List Leaf). Draws c.args.out.now.items c.mark.new.out.items (title Svg id ∷ map (leaf_sign Svg) ls))
+    c.as_slice-leaves.ensures.value (drawn_plain _ _ _ (title Svg id ∷ leaves) rows c.in_ok-mark.ensures.draws)

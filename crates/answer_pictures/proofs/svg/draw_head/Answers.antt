@@ -1,9 +1,14 @@
-use Rattle.std.proofs.Common.{[]}
-use Rattle.answer_pictures.proofs.Inks.{drawn_then, then_by}
+use Rattle.std.proofs.Common.{[], ◌∷◌, List, ℕ, subst}
+use Rattle.std.specs.Prelude.{string_bytes}
+use Rattle.answer_pictures.specs.declared.form.Form.TheVariants.{Svg}
+use Rattle.answer_pictures.specs.Ink.{Draws, title}
+use Rattle.answer_pictures.proofs.Inks.{drawn_then, plain_by}
 use Rattle.answer_pictures.proofs.svg.draw_head.Goals as goal
 
 pub returns : goal.returns
 returns c =
-    then_by c.mark-3.result _ _ _ [] []
-    (drawn_then _ _ _ [] [] (drawn_then _ _ _ [] [] (drawn_then _ _ _ [] [] c.in_ok-mark.ensures.draws c.in_ok-number.ensures.draws) c.in_ok-mark-2.ensures.draws) c.in_ok-text.ensures.draws)
+    let id = string_bytes c.args.document.now.id in
+    let named = subst (λ (t : List ℕ). Draws c.mark-2.new.out.items c.title.new.out.items (title Svg t ∷ [])) c.as_str.ensures.value c.in_ok-title.ensures in
+    plain_by c.mark-3.result _ _ _ (title Svg id ∷ [])
+    (drawn_then _ _ _ [] (title Svg id ∷ []) (drawn_then _ _ _ [] [] (drawn_then _ _ _ [] [] c.in_ok-mark.ensures.draws c.in_ok-number.ensures.draws) c.in_ok-mark-2.ensures.draws) named)
     c.mark-3.ensures.draws

@@ -1,15 +1,21 @@
-use Rattle.std.proofs.Common.{List, [], map, subst, OnOk}
-use Rattle.rev_core.specs.Rev.{RevId}
+use Rattle.std.proofs.Common.{List, ℕ, [], ◌∷◌, ◌++◌, map, subst, OnOk}
+use Rattle.std.specs.Prelude.{option_map, string_bytes}
 use Rattle.answer_pictures.specs.declared.document.Leaf.{Leaf}
-use Rattle.answer_pictures.specs.Ink.{Draws}
+use Rattle.answer_pictures.specs.declared.form.Form.TheVariants.{Text}
+use Rattle.answer_pictures.specs.Ink.{Draws, Sign, edits_of, leaf_sign, signs_of, title}
 use Rattle.answer_pictures.proofs.Inks.{drawn_plain, drawn_then, plain_by}
 use Rattle.answer_pictures.proofs.text.draw_document.Goals as goal
 
 pub returns : goal.returns
 returns c =
-    let leaves : List RevId = map (λ (l : Leaf). l.rev) c.as_slice-leaves.result.now in
-    let head = drawn_then _ _ _ [] [] c.in_ok-text.ensures.draws c.in_ok-mark.ensures.draws in
-    let rows = drawn_then _ _ _ [] leaves head c.in_ok-draw_rows.ensures in
-    let edits = drawn_plain _ _ _ leaves rows c.in_ok-draw_edits.ensures in
-    subst (λ (ls : List Leaf). OnOk c.mark-2.result (Draws c.args.out.now.items c.mark-2.new.out.items (map (λ (l : Leaf). l.rev) ls)))
-    c.as_slice-leaves.ensures.value (plain_by c.mark-2.result _ _ _ leaves edits c.mark-2.ensures.draws)
+    let db = option_map (λ s. s.now) c.args.db in
+    let id = string_bytes c.args.document.now.id in
+    let leaves = c.as_slice-leaves.result.now in
+    let rows : List Sign = map (leaf_sign Text) leaves in
+    let named = subst (λ (t : List ℕ). Draws c.args.out.now.items c.title.new.out.items (title Text t ∷ [])) c.as_str.ensures.value c.in_ok-title.ensures in
+    let head = drawn_plain _ _ _ (title Text id ∷ []) named c.in_ok-mark.ensures.draws in
+    let both = drawn_then _ _ _ (title Text id ∷ []) rows head c.in_ok-draw_rows.ensures in
+    let ends = subst (λ (t : List ℕ). Draws c.draw_rows.new.out.items c.draw_edits.new.out.items (edits_of db t leaves)) c.as_str-2.ensures.value c.in_ok-draw_edits.ensures in
+    let edits = drawn_then _ _ _ (title Text id ∷ rows) (edits_of db id leaves) both ends in
+    subst (λ (ls : List Leaf). OnOk c.mark-2.result (Draws c.args.out.now.items c.mark-2.new.out.items (signs_of Text db id ls)))
+    c.as_slice-leaves.ensures.value (plain_by c.mark-2.result _ _ _ (title Text id ∷ (rows ++ edits_of db id leaves)) edits c.mark-2.ensures.draws)

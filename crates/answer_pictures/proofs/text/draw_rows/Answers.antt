@@ -1,8 +1,10 @@
 use Rattle.std.proofs.Common.{arith}
+use Rattle.answer_pictures.specs.declared.form.Form.TheVariants.{Text}
+use Rattle.answer_pictures.specs.Ink.{leaf_sign}
 use Rattle.answer_pictures.proofs.RowLemmas.{rows_more}
 use Rattle.answer_pictures.proofs.text.draw_rows.Goals as goal
 
 pub loop-i-preserved : goal.loop-i-preserved
 loop-i-preserved c =
-    rows_more _ _ _ c.args.leaves.now c.loop-i.i c.index-leaves-i.result (omega arith) c.index-leaves-i.is c.loop-i.invariant
+    rows_more (leaf_sign Text) _ _ _ c.args.leaves.now c.loop-i.i c.index-leaves-i.result (omega arith) c.index-leaves-i.is c.loop-i.invariant
     c.in_ok-draw_row.ensures

@@ -1,5 +1,6 @@
 use Rattle.std.proofs.lemmas.List.Sorted.{IsPermutation-map}
+use Rattle.answer_pictures.specs.Drawing.{state_of}
 use Rattle.answer_pictures.proofs.document.Document.sort.Goals as goal
 
 pub returns-clause-leaves : goal.returns-clause-leaves
-returns-clause-leaves c = IsPermutation-map (λ l. l.rev) _ _ c.sort.ensures.permutation
+returns-clause-leaves c = IsPermutation-map state_of _ _ c.sort.ensures.permutation

@@ -1,4 +1,5 @@
-use Rattle.std.proofs.Common.{refl}
+use Rattle.std.proofs.Common.{[], refl, ap}
+use Rattle.std.specs.Prelude.{option_map}
 use Rattle.script_engine.specs.Serving.{in_full}
 use Rattle.answer_pictures.proofs.drawer.DrawerServe.serve.Goals as goal
 
@@ -6,4 +7,4 @@ pub returns-in-Ok-clause-told : goal.returns-in-Ok-clause-told
 returns-in-Ok-clause-told c = in_full c.in-Ok.ensures.ok
 
 pub returns-in-Err-clause-refused : goal.returns-in-Err-clause-refused
-returns-in-Err-clause-refused c = in_full (refl, c.in-Err.ensures.err)
+returns-in-Err-clause-refused c = in_full (refl, c.in-Err.ensures.err, c.take_in.ensures.form, ap (option_map (λ s. s.now)) c.take_in.ensures.db)

@@ -1,0 +1,12 @@
+use Rattle.std.proofs.Common.{ℕ, List, sym, subst, ◌∙◌}
+use Rattle.rev_core.specs.Rev.{RevId}
+use Rattle.answer_lines.specs.Lines.{IsListed}
+use Rattle.answer_lines.proofs.LineLemmas.{none_at}
+use Rattle.answer_lines.proofs.lines.read_found.Goals as goal
+
+pub returns-in_default-clause-none : goal.returns-in_default-clause-none
+returns-in_default-clause-none c =
+    λ id revs p.
+    none_at c.in_ok-id.field-0 ((id : List ℕ) (revs : List RevId) → IsListed c.as_bytes.result.now c.args.line.now id revs → ⊥) c.in_default.is
+    c.in_ok-id.ensures.none id revs
+    (subst (λ w. IsListed w c.args.line.now id revs) (sym (c.as_bytes.ensures.value ∙ c.text.ensures)) p)

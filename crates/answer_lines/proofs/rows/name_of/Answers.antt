@@ -1,0 +1,10 @@
+use Rattle.std.proofs.Common.{subst, sym}
+use Rattle.std.specs.Str.{IsUtf8}
+use Rattle.answer_lines.proofs.ColumnLemmas.{front_unique}
+use Rattle.answer_lines.proofs.rows.name_of.Goals as goal
+
+pub returns-in-Err-clause-none : goal.returns-in-Err-clause-none
+returns-in-Err-clause-none c =
+    λ name h utf8.
+    let same = front_unique c.args.table name c.in_ok-name.name.now c.args.front.now h c.in_ok-name.ensures.some in
+    c.in-Err.ensures.cases.0 (subst IsUtf8 same utf8)

@@ -1,0 +1,13 @@
+use Rattle.std.proofs.Common.{◌≡◌, List, refl, sym, ap, ◌∙◌, map}
+use Rattle.answer_pictures.specs.declared.document.Leaf.{Leaf}
+use Rattle.answer_pictures.specs.Drawing.{state_of}
+use Rattle.answer_pictures.proofs.Leaves.{added}
+use Rattle.answer_pictures.proofs.document.Document.add.Goals as goal
+
+pub returns-clause-holds : goal.returns-clause-holds
+returns-clause-holds c =
+    record {
+      named = refl;
+      read = ap (map state_of) c.in_ok-push.ensures.items
+          ∙ added c.args.self.now.leaves.items c.args.leaf c.placed-leaf.result c.placed-leaf.ensures.rev c.placed-leaf.ensures.live c.placed-leaf.ensures.wins;
+    }

@@ -1,0 +1,6 @@
+use Rattle.std.proofs.Common.{take}
+use Rattle.answer_pictures.specs.Ink.{Draws, counts_of}
+use Rattle.answer_pictures.proofs.lines.draw_counts.Given as goal
+
+abbrev pub invariant-loop-i : goal.invariant-loop-i
+invariant-loop-i l = Draws l.initial.out.items l.out.items (counts_of (take l.i l.columns) l.numbers)

@@ -1,0 +1,6 @@
+use Rattle.std.proofs.Common.{map, take}
+use Rattle.answer_pictures.specs.Ink.{Draws, listed}
+use Rattle.answer_pictures.proofs.lines.draw_listed.Given as goal
+
+abbrev pub invariant-loop-i : goal.invariant-loop-i
+invariant-loop-i l = Draws l.initial.out.items l.out.items (map listed (take l.i l.revs))

@@ -1,0 +1,11 @@
+use Rattle.std.proofs.Common.{refl, arith}
+use Rattle.std.proofs.lemmas.Grind.{common_steps}
+use Rattle.answer_lines.specs.Lines.{finding_text}
+use Rattle.answer_pictures.specs.Ink.{found, shown_text}
+use Rattle.answer_pictures.proofs.Inks.{sign_by}
+use Rattle.answer_pictures.proofs.lines.put_found.Goals as goal
+
+pub returns : goal.returns
+returns c =
+    sign_by c.put_text.result (found c.args.form c.args.finding c.args.id.now) c.args.out.now.items c.extend_from_slice.new.self.items
+    c.put_text.new.out.items (finding_text c.args.finding) (shown_text c.args.form c.args.id.now) refl (grind (arith, common_steps)) c.put_text.ensures.text

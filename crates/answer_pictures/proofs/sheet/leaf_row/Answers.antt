@@ -1,0 +1,11 @@
+use Rattle.std.proofs.Common.{refl, arith}
+use Rattle.std.proofs.lemmas.Grind.{common_steps}
+use Rattle.answer_pictures.specs.declared.form.Form.TheVariants.{Text}
+use Rattle.answer_pictures.specs.Ink.{label_text, leaf, short_text}
+use Rattle.answer_pictures.proofs.Inks.{sign_by}
+use Rattle.answer_pictures.proofs.sheet.leaf_row.Goals as goal
+
+pub returns : goal.returns
+returns c =
+    sign_by c.extend_from_slice.result (leaf Text c.args.rev.now c.args.wins c.args.live) c.args.out.now.items c.push_rev.new.out.items
+    c.extend_from_slice.new.self.items (short_text c.args.rev.now) (label_text c.args.wins c.args.live) refl (grind (arith, common_steps)) (grind (arith, common_steps))

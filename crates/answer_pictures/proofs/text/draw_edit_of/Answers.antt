@@ -1,9 +1,0 @@
-use Rattle.std.proofs.Common.{[]}
-use Rattle.answer_pictures.proofs.Inks.{drawn_then, then_by}
-use Rattle.answer_pictures.proofs.text.draw_edit_of.Goals as goal
-
-pub returns : goal.returns
-returns c =
-    then_by c.text-2.result _ _ _ [] []
-    (drawn_then _ _ _ [] [] (drawn_then _ _ _ [] [] c.in_ok-mark.ensures.draws c.in_ok-text.ensures.draws) c.in_ok-mark-2.ensures.draws)
-    c.text-2.ensures.draws

@@ -1,0 +1,7 @@
+use Rattle.std.proofs.Common.{take}
+use Rattle.std.specs.List.{flat_map}
+use Rattle.answer_pictures.specs.Ink.{Draws, edit_of}
+use Rattle.answer_pictures.proofs.text.draw_edits_of.Given as goal
+
+abbrev pub invariant-loop-i : goal.invariant-loop-i
+invariant-loop-i l = Draws l.initial.out.items l.out.items (flat_map (edit_of l.db l.id) (take l.i l.leaves))
