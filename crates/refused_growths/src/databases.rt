@@ -1,10 +1,10 @@
-//! `Database::put`, `edit`, `page`, `revs_diff`, `open_revs` and `copy_in`, and the copies of their messages. A refused growth
-//! leaves a database as it was.
+//! `Database::put`, `edit`, `page`, `revs_diff`, `open_revs`, `count_asked`, `put_brought` and `copy_in`, the copies of their
+//! messages, and `Parcel::prepare`. A refused growth leaves a database as it was.
 use anyhow::{Result, bail};
-use couch_base::{Asked, BaseFault, Database, Parcel, Put, Window};
+use couch_base::{Asked, BaseFault, Brought, Database, Parcel, Put, Row, Window};
 use doc_json::{Body, Doc, DocFault, DocId, read_body, read_doc};
 use rev_core::Rev;
-use rev_tree::Origin;
+use rev_tree::{Origin, SessionId};
 use serde_json::Value;
 use std::alloc::{AllocError, Global};
 
@@ -177,16 +177,71 @@ fn fetched(alloc: Global, db: &Database, asked: &Asked) -> Result<(usize, usize)
     Ok((parcel.docs().len(), parcel.gone().len()))
 }
 
+/// How many documents there are of what is asked.
+fn asked_count(alloc: Global, db: &Database, asked: &Asked) -> Result<u128> {
+    match db.count_asked(alloc, asked) {
+        Err(AllocError) => Ok(db.count_asked(alloc, asked)?),
+        answer => Ok(answer?),
+    }
+}
+
+/// Makes a parcel's documents ready for a session.
+fn prepare(alloc: Global, parcel: &mut Parcel, window: &Window) -> Result<()> {
+    match parcel.prepare(alloc, SessionId(1), window.rows()) {
+        Err(AllocError) => Ok(parcel.prepare(alloc, SessionId(1), window.rows())?),
+        answer => Ok(answer?),
+    }
+}
+
+fn put_brought(alloc: Global, db: &mut Database, doc: &mut Brought, seq: u64) -> Result<Put> {
+    let origin = Origin::Feed(SessionId(1), seq);
+    let before = reading(db, doc.id());
+    let rows = feed(alloc, db)?;
+    match db.put_brought(doc, origin) {
+        Err(BaseFault::Memory) => {
+            if reading(db, doc.id()) != before || feed(alloc, db)? != rows {
+                bail!("a refused put changed the database");
+            }
+            Ok(db.put_brought(doc, origin)?)
+        }
+        answer => Ok(answer?),
+    }
+}
+
+/// Puts the documents of a row.
+fn put_row(alloc: Global, db: &mut Database, docs: &mut [Brought], row: &Row) -> Result<()> {
+    for i in 0..docs.len() {
+        if docs[i].id() == row.id() {
+            let _answer = put_brought(alloc, db, &mut docs[i], row.seq())?;
+        }
+    }
+    Ok(())
+}
+
+/// Puts the documents of a window, made ready, into a database of none: its update sequence then.
+fn arrived(alloc: Global, window: &Window, parcel: Parcel) -> Result<u64> {
+    let mut db = Database::new(alloc, 9);
+    let mut parcel = parcel;
+    prepare(alloc, &mut parcel, window)?;
+    let (_, mut docs, _) = parcel.into_parts();
+    for row in window.rows() {
+        put_row(alloc, &mut db, &mut docs, row)?;
+    }
+    Ok(db.update_seq())
+}
+
 /// What the exchange with a database of no documents counts.
 #[derive(Clone, Copy)]
 struct Counts {
     rows: usize,
     asked: usize,
+    counted: u128,
     fetched: usize,
     gone: usize,
+    arrived: u64,
 }
 
-/// Asks for a window for a database of no documents, and fetches from both.
+/// Asks for a window for a database of no documents, fetches from both, and puts what was fetched.
 fn counted(alloc: Global, db: &Database, empty: &Database, window: &Window) -> Result<Counts> {
     let asked = asked(alloc, empty, window)?;
     let (count, _) = fetched(alloc, db, &asked)?;
@@ -194,8 +249,10 @@ fn counted(alloc: Global, db: &Database, empty: &Database, window: &Window) -> R
     Ok(Counts {
         rows: window.rows().len(),
         asked: asked.docs().len(),
+        counted: asked_count(alloc, db, &asked)?,
         fetched: count,
         gone,
+        arrived: arrived(alloc, window, opened(alloc, db, &asked)?)?,
     })
 }
 
@@ -237,8 +294,8 @@ fn between(alloc: Global) -> Result<(u64, Counts)> {
 pub(crate) fn run(rt: &impl Print, alloc: Global) -> Result<()> {
     let (sequence, counts) = between(alloc)?;
     println!(rt;
-        "databases as wanted: sequence {sequence}, rows {}, asked {}, fetched {}, gone {}",
-        counts.rows, counts.asked, counts.fetched, counts.gone
+        "databases as wanted: sequence {sequence}, rows {}, asked {}, counted {}, fetched {}, gone {}, arrived {}",
+        counts.rows, counts.asked, counts.counted, counts.fetched, counts.gone, counts.arrived
     )?;
     Ok(())
 }

@@ -526,6 +526,24 @@ fn a_foreign_document_is_refused_before_a_done_window(rt: HostRuntime) {
     expect(&rt, rt.alloc(), LISTS);
 }
 
+#[test]
+fn the_leaves_of_a_done_window_are_let_go(rt: HostRuntime) {
+    const ROWS: Rows = &[
+        (Call::Windows(TARGET, S1), "0 to 1 of 0 with 1 rows;"),
+        // A window with a leaf that isn't covered isn't done.
+        (Call::Fetch(OTHER, FIRST), "0 to 1: gone d 1-a;"),
+        (Call::Settle(TARGET, S1, FIRST), "Uncovered 1 d 1-a"),
+        (Call::Windows(TARGET, S1), "0 to 1 of 0 with 1 rows;"),
+        (Call::Fetch(SOURCE, FIRST), "0 to 1: d 1-a live {};"),
+        (Call::Settle(TARGET, S1, SECOND), "written 1 failed 0"),
+        (Call::Windows(TARGET, S1), "0 to 1 of 0;"),
+        (Call::Settle(TARGET, S1, SECOND), "AlreadyDone"),
+        (Call::Windows(TARGET, S1), "0 to 1 of 0;"),
+    ];
+    static LISTS: Lists = &[THREE, ASKED, ROWS];
+    expect(&rt, rt.alloc(), LISTS);
+}
+
 // With the two above, the hostile parcels: of another source, and fetched before a third party wrote.
 #[test]
 fn a_parcel_of_another_leaf_leaves_its_window_uncovered(rt: HostRuntime) {

@@ -6,7 +6,9 @@ use crate::tests::databases::{
 use crate::tests::records::{
     common_text, entry_text, fault_text, log_text, report_text, settled_text,
 };
-use crate::tests::texts::{base_fault_text, body, doc, expect_answer, numbers_text, place_text};
+use crate::tests::texts::{
+    base_fault_text, body, doc, expect_answer, numbers_text, place_text, stored_text,
+};
 use crate::tests::{backups, large, plans};
 use couch_base::{Asked, Parcel, Window};
 use doc_json::DocId;
@@ -85,6 +87,8 @@ pub(crate) enum Call<'a> {
     Conclude(usize, SessionId, u64),
     /// Reads the entry of a session.
     Entry(usize, SessionId),
+    /// Reads the windows that a session stores, and which of them are kept whole.
+    Windows(usize, SessionId),
     /// Reads the log of a replication into a peer.
     TargetLog(usize, Rep),
     /// Reads the log of a replication from a peer.
@@ -202,6 +206,7 @@ fn place_of(call: &Call) -> Option<usize> {
         | Call::Record(at, _, _)
         | Call::Conclude(at, _, _)
         | Call::Entry(at, _)
+        | Call::Windows(at, _)
         | Call::TargetLog(at, _)
         | Call::SourceLog(at, _)
         | Call::PutEntry(at, _, _, _)
@@ -258,6 +263,7 @@ fn read(alloc: Global, peer: &Peer<Rules>, call: &Call) -> Option<String> {
         Call::Covered(_, id, rev) => covered(alloc, peer, id, rev),
         Call::Sizes(_) => large::sizes(alloc, peer),
         Call::Entry(_, session) => entry(alloc, peer, session),
+        Call::Windows(_, session) => stored_text(alloc, peer.windows(session)?),
         Call::TargetLog(_, rep) => target_log(alloc, peer, &rep.id()),
         Call::SourceLog(_, rep) => source_log(alloc, peer, &rep.id()),
         _ => None,

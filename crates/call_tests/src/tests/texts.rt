@@ -1,6 +1,7 @@
 //! Texts of what calls answer, and what is read from the texts of a call.
 use couch_base::{Asked, BaseFault, Database, Parcel, Row, Wanted, Window};
 use doc_json::{Body, Doc, DocId, read_body, read_doc};
+use repl_target::StoredWindow;
 use rev_core::Rev;
 use rev_tree::{Origin, Tree};
 use serde_json::Value;
@@ -56,6 +57,24 @@ fn row_text(alloc: Global, row: &Row) -> Option<String> {
     format!(in alloc; " {} {} {leaves};", row.seq(), row.id().text()).ok()
 }
 
+/// The bounds of stored windows, and of each whether it is kept whole.
+pub(crate) fn stored_text(alloc: Global, windows: &[StoredWindow]) -> Option<String> {
+    let mut all = String::new(alloc);
+    for window in windows {
+        append(&mut all, one_stored_text(alloc, window))?;
+    }
+    Some(all)
+}
+
+/// The same of one window.
+fn one_stored_text(alloc: Global, window: &StoredWindow) -> Option<String> {
+    let (life, lo, hi) = (window.life(), window.lo(), window.hi());
+    match window.rows() {
+        Some(rows) => format!(in alloc; "{lo} to {hi} of {life} with {} rows;", rows.len()).ok(),
+        None => format!(in alloc; "{lo} to {hi} of {life};").ok(),
+    }
+}
+
 /// The bounds of what is asked, and the documents.
 pub(crate) fn asked_text(alloc: Global, asked: &Asked) -> Option<String> {
     let mut all = bounds_text(alloc, asked.lo(), asked.hi())?;
@@ -75,7 +94,7 @@ fn wanted_text(alloc: Global, wanted: &Wanted) -> Option<String> {
 pub(crate) fn parcel_text(alloc: Global, parcel: &Parcel) -> Option<String> {
     let mut all = bounds_text(alloc, parcel.lo(), parcel.hi())?;
     for doc in parcel.docs() {
-        append(&mut all, doc_text(alloc, doc))?;
+        append(&mut all, doc_text(alloc, doc.doc()))?;
     }
     for (id, rev) in parcel.gone() {
         append(&mut all, gone_text(alloc, id, *rev))?;
