@@ -156,7 +156,7 @@ impl Gate for CountsRecordings {
 
     fn at<R: Wait>(&self, _rt: &R, place: Place) -> Turn {
         if let Place::Recorded(window, recorded) = place {
-            if recorded != window + 1 {
+            if recorded != window.wrapping_add(1) {
                 self.other.store(true, Ordering::SeqCst);
             }
             self.count.fetch_add(1, Ordering::SeqCst);
