@@ -2,11 +2,10 @@
 use Rattle.std.proofs.Common.{◌≡◌, ◌≢◌, ◌⊎◌, ℕ, zero, suc, Bool, List, [], ◌∷◌, ◌++◌, length, slice_get, Option, is_some, unwrap_or, Result, Ok, Err, refl, sym, ap, ◌∙◌, subst, inl, inr}
 use Rattle.std.proofs.lemmas.Bool.{false≢true}
 use Rattle.rev_core.specs.Rev.{RevId}
-use Rattle.rev_tree.specs.declared.origin.SessionId.{SessionId}
 use Rattle.doc_json.specs.Document.{Document}
 use Rattle.doc_json.specs.Chosen.{Choice}
 use Rattle.couch_base.specs.Lists.{Among}
-use Rattle.couch_base.specs.Database.{Id, DatabaseValue}
+use Rattle.couch_base.specs.Database.{Id}
 use Rattle.couch_base.specs.Edit.{edited, edit_document}
 use Rattle.couch_base.specs.declared.fault.BaseFault.{BaseFault}
 use Rattle.repl_log.specs.declared.replication.RepId.{RepId}
@@ -19,10 +18,11 @@ use Rattle.repl_peer.specs.logs.Checkpoint.{rep_between}
 use Rattle.repl_peer.specs.logs.Logs.{put_by, put_entry_answer}
 use Rattle.repl_target.specs.ties.Ties.{IsTiedPair}
 use Rattle.repl_target.specs.replication.Replication.{beginning_between, after_begins}
-use Rattle.repl_target.specs.replication.Calls.{Call, Load, Edit, Begin, Append, Settle, Stop, Record, Conclude, after_call, after_calls, IsFrom, AllFrom, IsLeft}
+use Rattle.repl_target.specs.replication.Calls.{Begin, IsLeft}
 use Rattle.repl_target.specs.declared.replication.Plan.{Plan}
 use Rattle.repl_target.proofs.lemmas.replication.OthersStayTied.{left_log}
-use Rattle.repl_target.proofs.lemmas.replication.CallLaws.{Stays, Brings, call_keeps}
+use Rattle.repl_target.proofs.lemmas.replication.CallLaws.{Stays, call_keeps, each-kept}
+use Rattle.repl_target.proofs.lemmas.replication.FetchedDocuments.{of_run, run_keeps}
 use Rattle.repl_target.specs.replication.Leaves.{IsPut}
 use Rattle.repl_target.proofs.lemmas.ties.TiedPeersStay.{log_with}
 use Rattle.repl_net.specs.declared.hop.Hop.{Hop}
@@ -41,28 +41,12 @@ module _ (U : ℕ → Type 0) where
   of-stays : (s t : SessionValue) → Stays s t → Of s → Of t
   of-stays s t k h = subst (λ (r : RepId). U r.source) (sym k.rep) h
 
-  of_brings : (source : DatabaseValue) (chosen : Choice) (run : SessionId) (p : PeerValue) (c : Call) → IsFrom source chosen run c → Brings Of of-stays p c
-  of_brings source chosen run p (Load doc) from = absurd from
-  of_brings source chosen run p (Edit id parent deleted body) from = absurd from
-  of_brings source chosen run p (Begin session beginning at) from = absurd from
-  of_brings source chosen run p (Append session window) from = λ s _ _ _ h. h
-  of_brings source chosen run p (Settle session parcel) from = tt
-  of_brings source chosen run p (Stop session parcel settled) from = tt
-  of_brings source chosen run p (Record session at) from = tt
-  of_brings source chosen run p (Conclude session at) from = tt
-
-  calls_of : (refuses : Document → Bool) (source : DatabaseValue) (chosen : Choice) (run : SessionId) (calls : List Call) (p : PeerValue) → AllFrom source chosen run calls → ((s : SessionValue) → Among s p.sessions → Of s)
-      → (s : SessionValue) → Among s (after_calls refuses p calls).sessions → Of s
-  calls_of refuses source chosen run [] p from h = h
-  calls_of refuses source chosen run (c ∷ calls) p from h =
-      calls_of refuses source chosen run calls (after_call refuses p c) from.1 (call_keeps Of of-stays refuses p c (of_brings source chosen run p c from.0) h)
-
   left_of : (refuses : Document → Bool) (source target : PeerValue) (plan : Plan) (now : PeerValue) → IsLeft refuses source target plan now → U source.db.uuid → ((s : SessionValue) → Among s target.sessions → Of s) → (s : SessionValue) → Among s now.sessions → Of s
   left_of refuses source target plan now (inl same) own h = subst (λ (p : PeerValue). (s : SessionValue) → Among s p.sessions → Of s) (sym same) h
   left_of refuses source target plan now (inr left) own h =
-      subst (λ (p : PeerValue). (s : SessionValue) → Among s p.sessions → Of s) (sym left.1.2)
-      (calls_of refuses source.db plan.chosen plan.session left.1.0 (after_begins source target plan) left.1.1
-      (call_keeps Of of-stays refuses target (Begin plan.session (beginning_between source target plan.chosen) plan.at) (λ _. own) h))
+      run_keeps refuses source.db plan.chosen plan.session (λ (p : PeerValue). (s : SessionValue) → Among s p.sessions → Of s)
+      (each-kept Of of-stays refuses (of_run source.db plan.chosen plan.session) (λ _ _ _ _ k. k)) (after_begins source target plan) now left.1
+      (call_keeps Of of-stays refuses target (Begin plan.session (beginning_between source target plan.chosen) plan.at) (λ _. own) h)
 
 -- the logs that a run leaves
 put_logs : (U : ℕ → Type 0) (source target : PeerValue) (chosen : Choice) (source' : PeerValue) → IsPut source target chosen source' → U target.db.uuid → ((rep : RepId) (e : EntryValue) → Among e (log_in source.outgoing rep) → U rep.target)

@@ -24,7 +24,7 @@ use Rattle.repl_target.specs.replication.Replication.{is_batch, begins_answer, a
 use Rattle.repl_target.proofs.lemmas.replication.CallLaws.{Stays, call_keeps}
 use Rattle.repl_target.proofs.lemmas.replication.ReplicationAsCalls.{settle_left, settle_gives, settle_stops}
 use Rattle.repl_target.proofs.lemmas.replication.BegunSessions.{fresh_of, later_session}
-use Rattle.repl_target.proofs.lemmas.replication.SourceFeedStored.{found-is}
+use Rattle.repl_target.proofs.lemmas.replication.RunsConcluded.{found-is}
 use Rattle.repl_pool.specs.Paging.{ArePages, AreAllowed, IsPaged, IsNext, AllowsMore, IsOneLess, HasPages, KeepsPages, HasNoWindows, LetsStore}
 use Rattle.repl_pool.specs.Runs.{IsRecorded, stopped, fewer, refused, ClosesRun, concluded, recorded}
 use Rattle.repl_pool.specs.declared.fault.PoolFault.{PoolFault}

@@ -1,5 +1,5 @@
 -- Each step keeps a world tied.
-use Rattle.std.proofs.Common.{◌≡◌, ℕ, min, ◌+◌, ◌<◌, ◌≤◌, ◌==◌, nat_lt, nat_le, List, [], ◌∷◌, Bool, true, false, cond, Option, Some, None, Result, Ok, Err, slice_get, refl, sym, ap, ◌∙◌, subst, inl, inr, arith}
+use Rattle.std.proofs.Common.{◌≡◌, ℕ, ◌+◌, ◌<◌, ◌≤◌, ◌==◌, nat_lt, nat_le, List, [], ◌∷◌, Bool, true, false, cond, Option, Some, None, Result, Ok, Err, slice_get, refl, sym, ap, ◌∙◌, subst, inl, inr, arith}
 use Rattle.rev_tree.specs.declared.origin.SessionId.{SessionId}
 use Rattle.doc_json.specs.Document.{Document}
 use Rattle.couch_base.specs.Database.{Id, LawfulDatabase, most}
@@ -18,7 +18,7 @@ use Rattle.repl_peer.specs.session.Sessions.{after_record, after_conclude, concl
 use Rattle.repl_peer.specs.peer.Later.{IsLaterPeer}
 use Rattle.repl_target.specs.ties.Ties.{IsTiedWindow, AreTiedEntries, IsTiedPair, IsSentEntry}
 use Rattle.repl_peer.specs.logs.Checkpoint.{rep_between}
-use Rattle.repl_target.specs.replication.Calls.{Call, Load, Edit, after_call, most_settled}
+use Rattle.repl_target.specs.replication.Calls.{Call, Load, Edit, after_call}
 use Rattle.repl_peer.specs.peer.Backups.{BackupValue, copy_of, is_target, backup_answer, greater_life, restore_answer, restored, restored_by}
 use Rattle.repl_log.specs.Logs.{log_in}
 use Rattle.repl_peer.specs.peer.Writing.{after_edit, load_edited}
@@ -27,9 +27,10 @@ use Rattle.repl_target.specs.replication.Calls as calls
 use Rattle.repl_peer.specs.declared.fault.TargetFault.{TargetFault}
 use Rattle.couch_base.specs.MemberLaws.{Among-push}
 use Rattle.repl_peer.proofs.lemmas.Members.{Among-at}
-use Rattle.repl_peer.proofs.lemmas.peer.CallsKeepLaw.{load_later, edit_later, begin_later, append_later, record_later, conclude_later}
+use Rattle.repl_peer.proofs.lemmas.peer.CallsKeepLaw.{load_later, edit_later, begin_later}
 use Rattle.repl_peer.proofs.lemmas.logs.PutChangesLogsAlone.{put_entry_later}
-use Rattle.repl_peer.proofs.lemmas.session.SettlingKeepsLaw.{after_settle_law, after_stop_law}
+use Rattle.repl_peer.proofs.lemmas.session.Changes.{after_settle_ends, after_stop_ends}
+use Rattle.repl_peer.proofs.lemmas.session.SettlingKeepsLaw.{ends_law, append_law, record_law, conclude_law}
 use Rattle.repl_target.proofs.lemmas.ties.TiedPages.{IsTiedWindow-page, IsTiedWindow-later}
 use Rattle.repl_target.proofs.lemmas.ties.TiedMessages.{IsTiedAsked-revs_diff, IsTiedAsked-later, IsTiedParcel-open_revs}
 use Rattle.repl_target.proofs.lemmas.replication.CallLaws.{Brings}
@@ -307,7 +308,7 @@ append_step refuses w session place None is l h = h
 append_step refuses w session place (Some x) is l h =
     let m = Among-at w.bag.windows place x is in
     call_step refuses w (calls.Append session x) (λ s _ _ life t. tied-more w.source.db w.target (rep_of w) x s (λ _ e. h.windows x m (life ∙ e)) t)
-    (append_later refuses w.target session x (l.bag.windows_are x m) (l.bag.windows_end x m) l.target.sessions) h
+    (append_law refuses w.target session l.target.sessions x (l.bag.windows_are x m) (l.bag.windows_end x m)).1 h
 
 begin_step : (refuses : Document → Bool) (w : WorldValue) (session : SessionId) (goal at place : ℕ) (o : Option (ℕ × List EntryValue)) → slice_get w.bag.logs place ≡ o → IsWorld refuses w → Tied w → Tied (begins w session goal at o)
 begin_step refuses w session goal at place None is l h = h
@@ -321,11 +322,11 @@ begin_step refuses w session goal at place (Some g) is l h =
 
 settle_step : (refuses : Document → Bool) (w : WorldValue) (session : SessionId) (o : Option (ℕ × ParcelValue)) → IsWorld refuses w → Tied w → Tied (settles refuses w session o)
 settle_step refuses w session None l h = h
-settle_step refuses w session (Some p) l h = call_step refuses w (calls.Settle session p.1) tt (after_settle_law refuses w.target session p.1 l.target.sessions).1 h
+settle_step refuses w session (Some p) l h = call_step refuses w (calls.Settle session p.1) tt (ends_law refuses w.target session l.target.sessions p.1 _ (after_settle_ends refuses w.target session p.1)).1 h
 
 stop_step : (refuses : Document → Bool) (w : WorldValue) (session : SessionId) (n : ℕ) (o : Option (ℕ × ParcelValue)) → IsWorld refuses w → Tied w → Tied (stops refuses w session n o)
 stop_step refuses w session n None l h = h
-stop_step refuses w session n (Some p) l h = call_step refuses w (calls.Stop session p.1 n) tt (after_stop_law refuses w.target session p.1 (min n (most_settled refuses w.target session p.1)) l.target.sessions).1 h
+stop_step refuses w session n (Some p) l h = call_step refuses w (calls.Stop session p.1 n) tt (ends_law refuses w.target session l.target.sessions p.1 _ (after_stop_ends refuses w.target session p.1 _)).1 h
 
 puts_step : (refuses : Document → Bool) (w : WorldValue) (place : ℕ) (o : Option EntryValue) → slice_get w.bag.entries place ≡ o → IsWorld refuses w → Tied w → Tied (puts w o)
 puts_step refuses w place None is l h = h
@@ -348,10 +349,10 @@ happens_tied refuses w (Fetch asked) l h = fetch_step w asked (slice_get w.bag.a
 happens_tied refuses w (Settle session parcel) l h = settle_step refuses w session (slice_get w.bag.parcels parcel) l h
 happens_tied refuses w (Record session at) l h =
     let now = after_record w.target session at in
-    told_step (record w { target = now }) (entry_in now session) (sent_entry now session) (call_step refuses w (calls.Record session at) tt (record_later refuses w.target session at l.target.sessions) h)
+    told_step (record w { target = now }) (entry_in now session) (sent_entry now session) (call_step refuses w (calls.Record session at) tt (record_law refuses w.target session l.target.sessions at).1 h)
 happens_tied refuses w (Conclude session at) l h =
     let now = after_conclude w.target session at in
-    told_where_step (record w { target = now }) (conclude_answer w.target session) (entry_in now session) (sent_entry now session) (call_step refuses w (calls.Conclude session at) tt (conclude_later refuses w.target session at l.target.sessions) h)
+    told_where_step (record w { target = now }) (conclude_answer w.target session) (entry_in now session) (sent_entry now session) (call_step refuses w (calls.Conclude session at) tt (conclude_law refuses w.target session l.target.sessions at).1 h)
 happens_tied refuses w (PutEntry entry) l h = puts_step refuses w entry (slice_get w.bag.entries entry) refl l h
 happens_tied refuses w Backup l h = backup_step w (backup_answer w.source) refl h
 happens_tied refuses w (Restore backup) l h = restore_step w backup (slice_get w.backups backup) refl h

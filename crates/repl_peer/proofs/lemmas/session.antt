@@ -12,5 +12,6 @@ pub mod SettlingChecks
 pub mod SessionLaws
 pub mod SettlingParcels
 pub mod WindowsFollow
+pub mod Changes
 pub mod SettlingKeepsLaw
 pub mod SettlingPeers

@@ -1,5 +1,5 @@
 -- Lemmas of replications.
-pub mod SourceFeedStored
+pub mod RunsConcluded
 pub mod FetchedDocuments
 pub mod EmptyTargetCopied
 pub mod CallLaws

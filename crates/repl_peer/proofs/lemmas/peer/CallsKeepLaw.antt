@@ -1,35 +1,32 @@
--- What loading, editing, beginning, appending, recording and concluding keep: the peer's law, and all that covers.
-use Rattle.std.proofs.Common.{◌≡◌, ◌⊎◌, ℕ, ◌<◌, ◌≤◌, ◌^◌, ◌==◌, List, [], ◌∷◌, ◌++◌, Bool, false, cond, ◌&&◌, Option, Some, None, Result, Ok, Err, refl, sym, ap, ◌∙◌, subst, inl, inr, arith, eqb, nat_lt}
+-- What loading, editing and beginning keep: the peer's law, and all that covers.
+use Rattle.std.proofs.Common.{◌≡◌, ◌⊎◌, ℕ, ◌<◌, ◌≤◌, ◌^◌, ◌==◌, List, [], ◌∷◌, ◌++◌, Bool, false, ◌&&◌, Option, Some, None, Result, Ok, Err, refl, sym, ap, subst, inl, inr, arith, eqb, nat_lt}
 use Rattle.std.specs.List.{slice_get, IsDistinct, AllByRecursion}
 use Rattle.std.proofs.lemmas.Bool.{and_parts, cond_both, eqb-true, eqb-false, ltb-false, or_parts, ne_eqb}
-use Rattle.std.proofs.lemmas.List.{map_push}
 use Rattle.std.proofs.lemmas.Map.Keys.{IsDistinct-cons}
 use Rattle.rev_core.specs.Rev.{RevId}
 use Rattle.rev_tree.specs.declared.origin.SessionId.{SessionId}
 use Rattle.doc_json.specs.Document.{Document}
 use Rattle.couch_base.specs.Lists.{Among}
 use Rattle.couch_base.specs.Database.{Id}
-use Rattle.couch_base.specs.Feed.{WindowValue, IsWindow}
 use Rattle.couch_base.specs.Put.{put_answer, is_changed}
 use Rattle.couch_base.specs.Edit.{edited, edit_document}
 use Rattle.couch_base.specs.declared.fault.BaseFault.{BaseFault}
 use Rattle.couch_base.specs.WriteLaws.{IsLater-same, IsLater-after_put}
-use Rattle.range_front.specs.Front.{bounds, end_of, low_water}
-use Rattle.range_front.specs.FrontLaws.{IsFront-no_windows, IsFront-appended, is_window-within, is_window-is_done, bounds-appended, end_of-appended, is_done-appended, low_water-appended}
+use Rattle.range_front.specs.FrontLaws.{IsFront-no_windows}
 use Rattle.repl_log.specs.declared.replication.RepId.{RepId}
 use Rattle.repl_peer.specs.declared.fault.TargetFault.{TargetFault}
 use Rattle.repl_peer.specs.declared.fault.TargetFault.TheVariants as faults
 use Rattle.repl_log.specs.RepId.{same_rep}
 use Rattle.repl_log.specs.RepIdLaws.{same_rep-is}
-use Rattle.repl_peer.specs.peer.Peer.{PeerValue, SessionValue, WrittenValue, new_peer_at, written_of, is_of, session_in, holds}
+use Rattle.repl_peer.specs.peer.Peer.{PeerValue, SessionValue, WrittenValue, new_peer_at, written_of, is_of, holds}
 use Rattle.repl_peer.specs.peer.Writing.{next_local, after_load, load_edited, after_edit}
-use Rattle.repl_peer.specs.session.Sessions.{on_found, on_session, start_answer, base_in, on_base, base_answer, goal_answer, begin_answer, new_session, begun, after_begin, next_in, append_in, with_window, after_append, recorded_at, after_record, after_conclude}
+use Rattle.repl_peer.specs.session.Sessions.{start_answer, base_in, on_base, base_answer, goal_answer, begin_answer, new_session, begun, after_begin}
 use Rattle.repl_peer.specs.peer.Law.{LawfulSession, LawfulSessions, session_numbers}
-use Rattle.repl_peer.specs.peer.Later.{Keeps, IsLaterPeer}
+use Rattle.repl_peer.specs.peer.Later.{IsLaterPeer}
 use Rattle.repl_peer.specs.declared.session.beginning.Beginning.{Beginning}
 use Rattle.repl_log.specs.StoredLaws.{same_id}
-use Rattle.couch_base.specs.MemberLaws.{Among-left, Among-push, each_push, found_member, at-append}
-use Rattle.repl_peer.proofs.lemmas.peer.LaterPeers.{Keeps-same, IsLaterPeer-same, lawful-later, session_found, session_law}
+use Rattle.couch_base.specs.MemberLaws.{found_member, at-append}
+use Rattle.repl_peer.proofs.lemmas.peer.LaterPeers.{Keeps-same, IsLaterPeer-same, lawful-later}
 
 -- ---- a peer as it begins
 
@@ -152,119 +149,3 @@ begin_law refuses p id b at small l = go (begin_answer p id b) refl
           based = (is_based p.sessions b.rep b.base b.start done k.based, l.based);
           distinct = IsDistinct-cons eqb id.0 (session_numbers p.sessions) (fresh_number p.sessions id k.fresh) l.distinct;
         }
-
--- ---- a change of a session that the peer holds
-
--- a change that keeps each lawful session lawful
-found_law : (refuses : Document → Bool) (p : PeerValue) (id : SessionId) (change : SessionValue → SessionValue) → ((q : PeerValue) (s : SessionValue) → LawfulSession refuses q s → Keeps s (change s) × LawfulSession refuses q (change s)) → LawfulSessions refuses p
-    → LawfulSessions refuses (on_session p id change) × IsLaterPeer p (on_session p id change)
-found_law refuses p id change keeps l = go (session_in p.sessions id) refl
-  where
-    go : (o : Option SessionValue) → session_in p.sessions id ≡ o → LawfulSessions refuses (on_found p change o) × IsLaterPeer p (on_found p change o)
-    go None e = (l, IsLaterPeer-same p)
-    go (Some s) e =
-        let held = (session_found p.sessions id s e).0 in
-        session_law refuses p p.db s (change s) held (IsLater-same p.db) (keeps p s (l.sessions s held)).0 (λ _ h. (keeps _ s h).1) l
-
--- ---- appending
-
-appended_lawful : (refuses : Document → Bool) (q : PeerValue) (w : WindowValue) (s : SessionValue) → IsWindow w → w.hi < 2 ^ 64 → w.lo ≡ end_of s.front → w.hi ≤ s.goal → LawfulSession refuses q s → LawfulSession refuses q (with_window w s (Ok tt))
-appended_lawful refuses q w s window small at within l =
-    let above : end_of s.front < w.hi = omega (arith, window.range, at) in
-    record {
-      front = IsFront-appended s.front w.hi l.front above small;
-      bounds = map_push (λ (v : WindowValue). (v.lo, v.hi)) s.windows w ∙ ap (λ bs. bs ++ (w.lo, w.hi) ∷ []) l.bounds ∙ ap (λ n. bounds s.front ++ (n, w.hi) ∷ []) at ∙ sym (bounds-appended s.front w.hi);
-      within = omega (arith, end_of-appended s.front w.hi, within);
-      windows = each_push IsWindow s.windows w l.windows window;
-      done = λ v m e. (let before = sym (is_done-appended s.front w.hi v.lo v.hi) ∙ e in elim (Among-push v s.windows w m) [
-        | inl old ↦ l.done v old before
-        | inr new ↦
-            let last : v.hi ≡ w.hi = ap (λ (x : WindowValue). x.hi) new in
-            let under = is_window-within s.front v.lo v.hi l.front (is_window-is_done s.front v.lo v.hi before) in
-            absurd (omega (arith, under.2, last, above))
-      ]);
-      start = l.start;
-      recorded = omega (arith, l.recorded, low_water-appended s.front w.hi);
-      ledger = l.ledger;
-      arrivals = l.arrivals;
-      stands = l.stands;
-      written = l.written;
-      failures = l.failures;
-      read = l.read;
-    }
-
-appended_keeps : (w : WindowValue) (s : SessionValue) (r : Result (Unit {0}) TargetFault) → Keeps s (with_window w s r)
-appended_keeps w s (Ok done) = record { id = refl; rep = refl; life = refl; base = refl; goal = refl; start = refl; recorded = omega arith; windows = λ v m. Among-left v s.windows (w ∷ []) m; arrivals = λ a m. m; ledger = λ x m. m }
-appended_keeps w s (Err fault) = Keeps-same s
-
--- where a window is taken
-next_takes : (w : WindowValue) (s : SessionValue) (done : Unit {0}) → next_in w s ≡ Ok done → (w.lo ≡ end_of s.front) × (w.hi ≤ s.goal)
-next_takes w s done h =
-    cond_both (w.lo == end_of s.front) (cond (nat_lt s.goal w.hi) (Err faults.PastGoal) (Ok tt)) (Err (faults.Gap (end_of s.front))) (λ (r : Result (Unit {0}) TargetFault). r ≡ Ok done → (w.lo ≡ end_of s.front) × (w.hi ≤ s.goal))
-    (λ e k. (eqb-true _ _ e, cond_both (nat_lt s.goal w.hi) (Err faults.PastGoal) (Ok tt) (λ (r : Result (Unit {0}) TargetFault). r ≡ Ok done → w.hi ≤ s.goal) (λ _ j. cc j) (λ f _. ltb-false s.goal w.hi f) k))
-    (λ _ k. cc k)
-    h
-
-pub takes : (w : WindowValue) (s : SessionValue) (done : Unit {0}) → append_in w s ≡ Ok done → (w.lo ≡ end_of s.front) × (w.hi ≤ s.goal) × (w.life ≡ s.life)
-takes w s done h =
-    cond_both (w.life == s.life) (next_in w s) (Err (faults.OtherLife s.life)) (λ (r : Result (Unit {0}) TargetFault). r ≡ Ok done → (w.lo ≡ end_of s.front) × (w.hi ≤ s.goal) × (w.life ≡ s.life))
-    (λ e k. let t = next_takes w s done k in (t.0, t.1, eqb-true _ _ e))
-    (λ _ k. cc k)
-    h
-
-append_both : (refuses : Document → Bool) (p : PeerValue) (id : SessionId) (w : WindowValue) → IsWindow w → w.hi < 2 ^ 64 → LawfulSessions refuses p → LawfulSessions refuses (after_append p id w) × IsLaterPeer p (after_append p id w)
-append_both refuses p id w window small l =
-    found_law refuses p id (λ s. with_window w s (append_in w s)) (λ q s h. (appended_keeps w s (append_in w s), go q s h (append_in w s) refl)) l
-  where
-    go : (q : PeerValue) (s : SessionValue) → LawfulSession refuses q s → (r : Result (Unit {0}) TargetFault) → append_in w s ≡ r → LawfulSession refuses q (with_window w s r)
-    go q s h (Ok done) e = let t = takes w s done e in appended_lawful refuses q w s window small t.0 t.1 h
-    go q s h (Err fault) e = h
-
-pub append_law : (refuses : Document → Bool) (p : PeerValue) (id : SessionId) (w : WindowValue) → IsWindow w → w.hi < 2 ^ 64 → LawfulSessions refuses p → LawfulSessions refuses (after_append p id w)
-append_law refuses p id w window small l = (append_both refuses p id w window small l).0
-
-pub append_later : (refuses : Document → Bool) (p : PeerValue) (id : SessionId) (w : WindowValue) → IsWindow w → w.hi < 2 ^ 64 → LawfulSessions refuses p → IsLaterPeer p (after_append p id w)
-append_later refuses p id w window small l = (append_both refuses p id w window small l).1
-
--- ---- recording and concluding
-
-recorded_keeps : (refuses : Document → Bool) (q : PeerValue) (at : ℕ) (s : SessionValue) → LawfulSession refuses q s → Keeps s (recorded_at at s)
-recorded_keeps refuses q at s l = record { id = refl; rep = refl; life = refl; base = refl; goal = refl; start = refl; recorded = l.recorded; windows = λ w m. m; arrivals = λ a m. m; ledger = λ x m. m }
-
-recorded_lawful : (refuses : Document → Bool) (q : PeerValue) (at : ℕ) (s : SessionValue) → LawfulSession refuses q s → LawfulSession refuses q (recorded_at at s)
-recorded_lawful refuses q at s l = record {
-  front = l.front;
-  bounds = l.bounds;
-  within = l.within;
-  windows = l.windows;
-  done = l.done;
-  start = omega (arith, l.start, l.recorded);
-  recorded = omega arith;
-  ledger = l.ledger;
-  arrivals = l.arrivals;
-  stands = l.stands;
-  written = l.written;
-  failures = l.failures;
-  read = l.read;
-}
-
-record_both : (refuses : Document → Bool) (p : PeerValue) (id : SessionId) (at : ℕ) → LawfulSessions refuses p → LawfulSessions refuses (after_record p id at) × IsLaterPeer p (after_record p id at)
-record_both refuses p id at l = found_law refuses p id (recorded_at at) (λ q s h. (recorded_keeps refuses q at s h, recorded_lawful refuses q at s h)) l
-
-pub record_law : (refuses : Document → Bool) (p : PeerValue) (id : SessionId) (at : ℕ) → LawfulSessions refuses p → LawfulSessions refuses (after_record p id at)
-record_law refuses p id at l = (record_both refuses p id at l).0
-
-pub record_later : (refuses : Document → Bool) (p : PeerValue) (id : SessionId) (at : ℕ) → LawfulSessions refuses p → IsLaterPeer p (after_record p id at)
-record_later refuses p id at l = (record_both refuses p id at l).1
-
-conclude_both : (refuses : Document → Bool) (p : PeerValue) (id : SessionId) (at : ℕ) → LawfulSessions refuses p → LawfulSessions refuses (after_conclude p id at) × IsLaterPeer p (after_conclude p id at)
-conclude_both refuses p id at l =
-    found_law refuses p id (λ s. cond (low_water s.front == s.goal) (recorded_at at s) s)
-    (λ q s h. cond_both (low_water s.front == s.goal) (recorded_at at s) s (λ t. Keeps s t × LawfulSession refuses q t) (λ _. (recorded_keeps refuses q at s h, recorded_lawful refuses q at s h)) (λ _. (Keeps-same s, h)))
-    l
-
-pub conclude_law : (refuses : Document → Bool) (p : PeerValue) (id : SessionId) (at : ℕ) → LawfulSessions refuses p → LawfulSessions refuses (after_conclude p id at)
-conclude_law refuses p id at l = (conclude_both refuses p id at l).0
-
-pub conclude_later : (refuses : Document → Bool) (p : PeerValue) (id : SessionId) (at : ℕ) → LawfulSessions refuses p → IsLaterPeer p (after_conclude p id at)
-conclude_later refuses p id at l = (conclude_both refuses p id at l).1

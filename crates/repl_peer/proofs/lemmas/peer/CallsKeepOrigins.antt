@@ -1,10 +1,10 @@
 -- Every revision of a peer has an origin, whatever is called.
-use Rattle.std.proofs.Common.{◌≡◌, ◌⊎◌, ℕ, ◌<◌, ◌^◌, List, [], ◌∷◌, ◌++◌, Bool, true, false, cond, ◌||◌, Option, Some, None, is_some, unwrap_or, Result, Ok, Err, map, take, length, refl, sym, ap, ◌∙◌, subst, inl, inr, zero, suc}
-use Rattle.std.specs.List.{slice_get, list_all, list_any}
+use Rattle.std.proofs.Common.{◌≡◌, ◌⊎◌, ℕ, ◌<◌, ◌^◌, List, [], ◌∷◌, ◌++◌, Bool, true, false, cond, ◌||◌, Option, Some, None, is_some, unwrap_or, Result, Ok, Err, map, length, refl, sym, ap, ◌∙◌, subst, inl, inr}
+use Rattle.std.specs.List.{slice_get, list_any}
 use Rattle.std.specs.FinMap.{get, find, get-empty}
 use Rattle.std.specs.Ordering.{eq_by_cmp}
 use Rattle.std.specs.Str.{bytes_eq}
-use Rattle.std.proofs.lemmas.Bool.{and_parts, and_from, cond_both, cond-true, false≢true}
+use Rattle.std.proofs.lemmas.Bool.{cond_both, cond-true, false≢true}
 use Rattle.std.proofs.lemmas.Slice.Eq.{bytes_eq-Decides}
 use Rattle.rev_core.specs.Rev.{RevId, rev_cmp}
 use Rattle.rev_core.specs.Ancestry.{is_among}
@@ -23,22 +23,22 @@ use Rattle.couch_base.specs.Messages.{ParcelValue}
 use Rattle.couch_base.specs.Put.{put_answer, is_changed, after_put, content_of}
 use Rattle.couch_base.specs.WriteLaws.{tree_in-with_tree}
 use Rattle.couch_base.specs.declared.fault.BaseFault.{BaseFault}
-use Rattle.repl_peer.specs.declared.fault.Reason.{Reason}
 use Rattle.repl_peer.specs.declared.fault.Settled.{Settled}
 use Rattle.repl_peer.specs.declared.fault.TargetFault.{TargetFault}
-use Rattle.repl_peer.specs.peer.Peer.{PeerValue, SessionValue, new_peer_at, written_of, session_in, with_session}
-use Rattle.repl_peer.specs.peer.Covered.{covers_window, refusal_of}
+use Rattle.repl_peer.specs.peer.Peer.{PeerValue, SessionValue, new_peer_at, written_of}
 use Rattle.repl_peer.specs.peer.Writing.{next_local, after_load, load_edited, after_edit}
-use Rattle.repl_peer.specs.session.Sessions.{on_found, begin_answer, new_session, begun, after_begin, after_append, after_record, after_conclude}
-use Rattle.repl_peer.specs.session.Settling.{Settling, seq_in, fed, with_arrival, is_full, settle_as, settle_one, settle_docs, has_row, with_settling, settling_of, after_documents, with_done, marked, after_all, SettleGives}
-use Rattle.repl_peer.specs.peer.Law.{LawfulSessions}
+use Rattle.repl_peer.specs.session.Sessions.{begin_answer, new_session, begun, after_begin, after_append, after_record, after_conclude}
+use Rattle.repl_peer.specs.session.Settling.{seq_in, fed, with_arrival, has_row, with_settling, SettleGives}
+use Rattle.repl_peer.specs.peer.Law.{Lawful}
 use Rattle.repl_peer.specs.peer.Later.{IsLaterPeer}
 use Rattle.repl_peer.specs.peer.Origins.{ComesFrom, HasOrigins}
 use Rattle.repl_peer.specs.declared.session.beginning.Beginning.{Beginning}
 use Rattle.couch_base.specs.MemberLaws.{Among-last, at-end}
 use Rattle.repl_peer.proofs.lemmas.peer.LaterPeers.{with_session_holds}
-use Rattle.repl_peer.proofs.lemmas.peer.CallsKeepLaw.{load_later, begin_later, append_later, record_later, conclude_later}
-use Rattle.repl_peer.proofs.lemmas.session.SettlingKeepsLaw.{document_settles, documents_settle, with_settling-twice, mark_law, LeavesAfter, settle_ends}
+use Rattle.repl_peer.proofs.lemmas.peer.CallsKeepLaw.{load_later, begin_later}
+use Rattle.repl_peer.proofs.lemmas.session.Changes.{Change, Arrived, after_change, Source, May, KeptByChanges, settle_ends, ends_keep, append_keep, record_keep, conclude_keep}
+use Rattle.repl_peer.proofs.lemmas.session.SettlingKeepsLaw.{any, change_law}
+use Rattle.repl_peer.proofs.lemmas.peer.WritesStand.{stands_later}
 
 -- ---- origins that stand say what is so
 
@@ -141,33 +141,17 @@ edit_origins p id parent deleted body h = go (edited p.db id parent deleted body
     go (Ok e) = load_origins p (edit_document id e deleted body) h
     go (Err fault) = h
 
--- ---- what leaves the database as it is
-
-same_origins : (p q : PeerValue) → IsLaterPeer p q → q.db ≡ p.db → HasOrigins p → HasOrigins q
-same_origins p q later same h = has_from q (stands_same p q later same (stands_from p h))
-
-begun_database : (p : PeerValue) (s : SessionValue) (r : Result (Unit {0}) TargetFault) → (begun p s r).db ≡ p.db
-begun_database p s (Ok done) = refl
-begun_database p s (Err fault) = refl
-
-found_database : (p : PeerValue) (change : SessionValue → SessionValue) (o : Option SessionValue) → (on_found p change o).db ≡ p.db
-found_database p change None = refl
-found_database p change (Some s) = refl
+-- ---- beginning
 
 pub begin_origins : (p : PeerValue) (id : SessionId) (b : Beginning) (at : ℕ) → HasOrigins p → HasOrigins (after_begin p id b at)
 begin_origins p id b at h =
-    same_origins p (after_begin p id b at) (begin_later p id b at) (begun_database p (new_session id b at) (begin_answer p id b)) h
+    has_from (after_begin p id b at) (stands_same p (after_begin p id b at) (begin_later p id b at) (begun_database (begin_answer p id b)) (stands_from p h))
+  where
+    begun_database : (r : Result (Unit {0}) TargetFault) → (begun p (new_session id b at) r).db ≡ p.db
+    begun_database (Ok done) = refl
+    begun_database (Err fault) = refl
 
-pub append_origins : (refuses : Document → Bool) (p : PeerValue) (id : SessionId) (w : WindowValue) → IsWindow w → w.hi < 2 ^ 64 → LawfulSessions refuses p → HasOrigins p → HasOrigins (after_append p id w)
-append_origins refuses p id w window small l h = same_origins p (after_append p id w) (append_later refuses p id w window small l) (found_database p _ (session_in p.sessions id)) h
-
-pub record_origins : (refuses : Document → Bool) (p : PeerValue) (id : SessionId) (at : ℕ) → LawfulSessions refuses p → HasOrigins p → HasOrigins (after_record p id at)
-record_origins refuses p id at l h = same_origins p (after_record p id at) (record_later refuses p id at l) (found_database p _ (session_in p.sessions id)) h
-
-pub conclude_origins : (refuses : Document → Bool) (p : PeerValue) (id : SessionId) (at : ℕ) → LawfulSessions refuses p → HasOrigins p → HasOrigins (after_conclude p id at)
-conclude_origins refuses p id at l h = same_origins p (after_conclude p id at) (conclude_later refuses p id at l) (found_database p _ (session_in p.sessions id)) h
-
--- ---- settling
+-- ---- changes of a session
 
 -- the row of a document, at the sequence that is looked up
 row_listed : (rows : List RowValue) (id : Id) → list_any (λ (row : RowValue). bytes_eq row.id id) rows ≡ true → (row : RowValue) × Among row rows × (row.seq ≡ seq_in rows id) × (row.id ≡ id)
@@ -180,9 +164,9 @@ row_listed (row ∷ rows) id h = step (λ k. row_listed rows id k) (bytes_eq row
     step later false e h = let k = later h in (k.0, inr k.1, k.2, k.3)
 
 -- what arrives comes from its row, in the session's feed
-arrival_stands : (refuses : Document → Bool) (p : PeerValue) (s : SessionValue) (w : WindowValue) (d : Document) → Among s p.sessions → Among w s.windows → has_row w d ≡ true
+arrival_stands : (p : PeerValue) (s : SessionValue) (w : WindowValue) (d : Document) → Among s p.sessions → Among w s.windows → has_row w d ≡ true
     → IsLaterPeer p (with_settling p (record { db = after_put p.db d (fed w s.id d); session = with_arrival d s })) → TellsOrigins p → TellsOrigins (with_settling p (record { db = after_put p.db d (fed w s.id d); session = with_arrival d s }))
-arrival_stands refuses p s w d m n has_one later h id r o is =
+arrival_stands p s w d m n has_one later h id r o is =
     let q : PeerValue = with_settling p (record { db = after_put p.db d (fed w s.id d); session = with_arrival d s }) in
     elim (put_origin p.db d (fed w s.id d) o id r is) [
       | inl old ↦ comes_later p q later id r o (h id r o old)
@@ -197,51 +181,29 @@ arrival_stands refuses p s w d m n has_one later h id r o is =
           })
     ]
 
-document_stands : (refuses : Document → Bool) (p : PeerValue) (s : SessionValue) (w : WindowValue) (d : Document) → Among s p.sessions → Among w s.windows → has_row w d ≡ true → LawfulSessions refuses p → TellsOrigins p → TellsOrigins (with_settling p (settle_one refuses w (settling_of p s) d))
-document_stands refuses p s w d m n has_one l h = go (refusal_of refuses p.db d) (document_settles refuses p s w d m l).later
-  where
-    go : (o : Option Reason) → IsLaterPeer p (with_settling p (settle_as w (settling_of p s) d o)) → TellsOrigins (with_settling p (settle_as w (settling_of p s) d o))
-    go (Some reason) later = stands_same p (with_settling p (settle_as w (settling_of p s) d (Some reason))) later refl h
-    go None later =
-        cond_both (is_full (put_answer p.db d)) (settling_of p s) (record { db = after_put p.db d (fed w s.id d); session = with_arrival d s }) (λ (z : Settling). IsLaterPeer p (with_settling p z) → TellsOrigins (with_settling p z))
-        (λ _ k. stands_same p (with_settling p (settling_of p s)) k refl h)
-        (λ _ k. arrival_stands refuses p s w d m n has_one k h)
-        later
+change_stands : (refuses : Document → Bool) (Of : Source) (p : PeerValue) (s : SessionValue) (c : Change) → Among s p.sessions → May refuses Of p s c → IsLaterPeer p (after_change p s c) → TellsOrigins p → TellsOrigins (after_change p s c)
+change_stands refuses Of p s (Arrived window doc) m may later h = arrival_stands p s window doc m may.stored may.row later h
+change_stands refuses Of p s change m may later h = stands_same p (after_change p s change) later refl h
 
-documents_stand : (refuses : Document → Bool) (p : PeerValue) (s : SessionValue) (w : WindowValue) (docs : List Document) → Among s p.sessions → Among w s.windows → list_all (has_row w) docs ≡ true → LawfulSessions refuses p → TellsOrigins p → TellsOrigins (after_documents refuses p s w docs)
-documents_stand refuses p s w [] m n rows l h =
-    stands_same p (with_settling p (settling_of p s)) (documents_settle refuses p s w [] m l).later refl h
-documents_stand refuses p s w (d ∷ docs) m n rows l h =
-    let y = settle_one refuses w (settling_of p s) d in
-    let z = settle_docs refuses w y docs in
-    let both = and_parts (has_row w d) (list_all (has_row w) docs) rows in
-    let first = document_settles refuses p s w d m l in
-    let others = documents_settle refuses (with_settling p y) y.session w docs first.held first.lawful in
-    subst TellsOrigins (with_settling-twice p y z others.keeps.id)
-    (documents_stand refuses (with_settling p y) y.session w docs first.held (first.keeps.windows w n) both.1 first.lawful (document_stands refuses p s w d m n both.0 l h))
+-- each call keeps the law and the origins
+lawful_kept : (refuses : Document → Bool) → KeptByChanges refuses any (λ p _. Lawful refuses p)
+lawful_kept refuses p s c m may h =
+    let k = change_law refuses any (λ _ _ w. w) p s c m may h.sessions in
+    record {
+      sessions = k.0;
+      origins = has_from _ (change_stands refuses any p s c m may k.1 (stands_from p h.origins));
+      locals = λ a n. stands_later p.db (after_change p s c).db k.1.db a (h.locals a n);
+    }
 
-all_take : (p : Document → Bool) (n : ℕ) (docs : List Document) → list_all p docs ≡ true → list_all p (take n docs) ≡ true
-all_take p zero docs h = refl
-all_take p (suc n) [] h = refl
-all_take p (suc n) (d ∷ docs) h = let both = and_parts (p d) (list_all p docs) h in and_from (p d) (list_all p (take n docs)) both.0 (all_take p n docs both.1)
+module _ (refuses : Document → Bool) (p : PeerValue) (id : SessionId) (lawful : Lawful refuses p) where
+  pub settle_lawful : (parcel : ParcelValue) (result : Result Settled TargetFault) (q : PeerValue) → SettleGives refuses p id parcel result q → Lawful refuses q
+  settle_lawful parcel result q gives = ends_keep refuses any (Lawful refuses) (lawful_kept refuses) p id parcel q (settle_ends refuses p id parcel result q gives) (λ _ _. tt) lawful
 
-all_stand : (refuses : Document → Bool) (p : PeerValue) (s : SessionValue) (w : WindowValue) (parcel : ParcelValue) → Among s p.sessions → Among w s.windows → list_all (has_row w) parcel.docs ≡ true → LawfulSessions refuses p → TellsOrigins p → TellsOrigins (after_all refuses p s w parcel)
-all_stand refuses p s w parcel m n rows l h =
-    let z = settle_docs refuses w (settling_of p s) parcel.docs in
-    let q = with_settling p z in
-    let k = documents_settle refuses p s w parcel.docs m l in
-    let same : (marked q z.session w parcel).db ≡ q.db = cond_both (covers_window q w) (record q { sessions = with_session q.sessions (with_done w parcel z.session) }) q (λ (x : PeerValue). x.db ≡ q.db) (λ _. refl) (λ _. refl) in
-    stands_same q (marked q z.session w parcel) (mark_law refuses q z.session w parcel k.held (k.keeps.windows w n) k.lawful).1 same (documents_stand refuses p s w parcel.docs m n rows l h)
+  pub append_lawful : (w : WindowValue) → IsWindow w → w.hi < 2 ^ 64 → Lawful refuses (after_append p id w)
+  append_lawful w window small = append_keep refuses any (Lawful refuses) (lawful_kept refuses) p id w (λ _ _ _. (window, small)) lawful
 
--- wherever settling ends, every revision has an origin
-pub ends_origins : (refuses : Document → Bool) (p : PeerValue) (id : SessionId) (parcel : ParcelValue) (q : PeerValue) → LeavesAfter refuses p id parcel q → LawfulSessions refuses p → HasOrigins p → HasOrigins q
-ends_origins refuses p id parcel q (inl same) l h = subst HasOrigins (sym same) h
-ends_origins refuses p id parcel q (inr e) l h =
-    let t = e.1 in
-    elim e.2 [
-      | inl all ↦ subst HasOrigins (sym all) (has_from _ (all_stand refuses p e.0.0 e.0.1 parcel t.held t.stored t.rows l (stands_from p h)))
-      | inr some ↦ subst HasOrigins (sym some.1) (has_from _ (documents_stand refuses p e.0.0 e.0.1 (take some.0 parcel.docs) t.held t.stored (all_take _ some.0 parcel.docs t.rows) l (stands_from p h)))
-    ]
+  pub record_lawful : (at : ℕ) → Lawful refuses (after_record p id at)
+  record_lawful at = record_keep refuses any (Lawful refuses) (lawful_kept refuses) p id at lawful
 
-pub settle_origins : (refuses : Document → Bool) (p : PeerValue) (id : SessionId) (parcel : ParcelValue) (result : Result Settled TargetFault) (q : PeerValue) → SettleGives refuses p id parcel result q → LawfulSessions refuses p → HasOrigins p → HasOrigins q
-settle_origins refuses p id parcel result q gives l h = ends_origins refuses p id parcel q (settle_ends refuses p id parcel result q gives) l h
+  pub conclude_lawful : (at : ℕ) → Lawful refuses (after_conclude p id at)
+  conclude_lawful at = conclude_keep refuses any (Lawful refuses) (lawful_kept refuses) p id at lawful

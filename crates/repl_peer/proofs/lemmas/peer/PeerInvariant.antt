@@ -19,9 +19,9 @@ use Rattle.repl_peer.specs.peer.Law.{Lawful}
 use Rattle.repl_peer.specs.session.SessionCalls.{with_changed, changed}
 use Rattle.repl_peer.specs.declared.fault.TargetFault.{TargetFault}
 use Rattle.repl_peer.specs.declared.session.beginning.Beginning.{Beginning}
-use Rattle.repl_peer.proofs.lemmas.peer.CallsKeepLaw.{new_law, load_law, edit_law, begin_law, append_law, record_law, conclude_law}
-use Rattle.repl_peer.proofs.lemmas.peer.WritesStand.{load_stands, edit_stands, begin_stands, append_stands, record_stands, conclude_stands}
-use Rattle.repl_peer.proofs.lemmas.peer.CallsKeepOrigins.{new_origins, load_origins, edit_origins, begin_origins, append_origins, record_origins, conclude_origins}
+use Rattle.repl_peer.proofs.lemmas.peer.CallsKeepLaw.{new_law, load_law, edit_law, begin_law}
+use Rattle.repl_peer.proofs.lemmas.peer.WritesStand.{load_stands, edit_stands, begin_stands}
+use Rattle.repl_peer.proofs.lemmas.peer.CallsKeepOrigins.{new_origins, load_origins, edit_origins, begin_origins, append_lawful, record_lawful, conclude_lawful}
 
 -- a change of one session changes the list of them
 found-changed : (p : PeerValue) (change : SessionValue → SessionValue) (o : Option SessionValue) → on_found p change o ≡ record p { sessions = changed change p.sessions o }
@@ -94,12 +94,12 @@ module _ (refuses : Document → Bool) (p : PeerValue) (lawful : Lawful refuses 
       either_way r (after_append p id w) (record p { sessions = sessions })
       (on_ok_weaker r (λ x. ap (λ s. record p { sessions = s }) x ∙ sym whole) made)
       (on_err_weaker r (λ x. ap (λ s. record p { sessions = s }) x) kept)
-      (record { sessions = append_law refuses p id w window fits lawful.sessions; origins = append_origins refuses p id w window fits lawful.sessions lawful.origins; locals = append_stands p id w lawful.locals })
+      (append_lawful refuses p id lawful w window fits)
 
   pub Lawful-recorded : (id : SessionId) (at : ℕ) (sessions : List SessionValue) → sessions ≡ with_changed p.sessions id (recorded_at at) → Lawful refuses (record p { sessions = sessions })
   Lawful-recorded id at sessions made =
-      subst (Lawful refuses) (on_session-changed p id (recorded_at at) ∙ ap (λ s. record p { sessions = s }) (sym made)) (record { sessions = record_law refuses p id at lawful.sessions; origins = record_origins refuses p id at lawful.sessions lawful.origins; locals = record_stands p id at lawful.locals })
+      subst (Lawful refuses) (on_session-changed p id (recorded_at at) ∙ ap (λ s. record p { sessions = s }) (sym made)) (record_lawful refuses p id lawful at)
 
   pub Lawful-concluded : (id : SessionId) (at : ℕ) (sessions : List SessionValue) → sessions ≡ with_changed p.sessions id (λ s. if low_water s.front == s.goal then recorded_at at s else s) → Lawful refuses (record p { sessions = sessions })
   Lawful-concluded id at sessions made =
-      subst (Lawful refuses) (on_session-changed p id (λ s. if low_water s.front == s.goal then recorded_at at s else s) ∙ ap (λ s. record p { sessions = s }) (sym made)) (record { sessions = conclude_law refuses p id at lawful.sessions; origins = conclude_origins refuses p id at lawful.sessions lawful.origins; locals = conclude_stands p id at lawful.locals })
+      subst (Lawful refuses) (on_session-changed p id (λ s. if low_water s.front == s.goal then recorded_at at s else s) ∙ ap (λ s. record p { sessions = s }) (sym made)) (conclude_lawful refuses p id lawful at)

@@ -1,5 +1,5 @@
 -- What is written stands in its document's tree, and stays there: an edge that is there is never changed.
-use Rattle.std.proofs.Common.{◌≡◌, ℕ, zero, suc, ◌+◌, ◌<◌, ◌≤◌, length, slice_get, List, [], ◌∷◌, ◌++◌, Bool, true, false, cond, Option, Some, None, is_some, Result, Ok, Err, unwrap_or, refl, sym, ap, ◌∙◌, subst, inl, inr, arith, nat_lt}
+use Rattle.std.proofs.Common.{◌≡◌, ℕ, zero, suc, ◌+◌, ◌<◌, length, slice_get, List, [], ◌∷◌, ◌++◌, Bool, true, false, cond, Option, Some, None, is_some, Result, Ok, Err, unwrap_or, refl, sym, ap, ◌∙◌, subst, inl, inr, arith, nat_lt}
 use Rattle.std.specs.Ordering.{eq_by_cmp}
 use Rattle.std.specs.Option.{option_or}
 use Rattle.std.specs.Str.{bytes_eq}
@@ -9,7 +9,7 @@ use Rattle.std.proofs.lemmas.Option.{same_Some}
 use Rattle.std.proofs.lemmas.Slice.Eq.{bytes_eq-Decides}
 use Rattle.rev_core.specs.Rev.{RevId, rev_cmp}
 use Rattle.rev_core.specs.RevOrder.{rev_tie_is, rev_tie_self}
-use Rattle.rev_core.specs.Ancestry.{FallsByOne, edges_of, head_of}
+use Rattle.rev_core.specs.Ancestry.{FallsByOne, edges_of}
 use Rattle.rev_tree.specs.Tree.{TreeValue, merged, joined, is_same, answer_of, no_revisions, first_contradiction, contradiction_at}
 use Rattle.rev_tree.specs.TreeLaws.{apart, edge_found, get-joined, get-joined_known, lower_later, merged-same, no_contradiction}
 use Rattle.rev_tree.specs.declared.fault.Contradiction.{Contradiction}
@@ -22,16 +22,13 @@ use Rattle.couch_base.specs.MemberLaws.{Among-push}
 use Rattle.couch_base.specs.Database.{Id, DatabaseValue, tree_in, tree_of, with_tree, most}
 use Rattle.couch_base.specs.Put.{put_told, put_answer, is_changed, after_put, content_of}
 use Rattle.couch_base.specs.Edit.{edited, edit_document}
-use Rattle.couch_base.specs.Feed.{WindowValue}
 use Rattle.couch_base.specs.WriteLaws.{IsLater, IsLater-after_put, tree_in-with_tree}
 use Rattle.couch_base.specs.declared.fault.BaseFault.{BaseFault}
-use Rattle.range_front.specs.Front.{low_water}
-use Rattle.std.proofs.Common.{◌==◌, if◌then◌else◌}
-use Rattle.repl_peer.specs.peer.Peer.{PeerValue, SessionValue, WrittenValue, written_of, session_in}
+use Rattle.repl_peer.specs.peer.Peer.{PeerValue, SessionValue, WrittenValue, written_of}
 use Rattle.repl_peer.specs.peer.Covered.{contradiction_of}
 use Rattle.repl_peer.specs.peer.Stands.{Follows, StandsIn}
 use Rattle.repl_peer.specs.peer.Writing.{next_local, after_load, load_edited, after_edit}
-use Rattle.repl_peer.specs.session.Sessions.{on_found, new_session, begin_answer, begun, after_begin, append_in, with_window, after_append, recorded_at, after_record, after_conclude}
+use Rattle.repl_peer.specs.session.Sessions.{new_session, begin_answer, begun, after_begin}
 use Rattle.repl_peer.specs.session.Settling.{is_full}
 use Rattle.repl_peer.specs.declared.session.beginning.Beginning.{Beginning}
 use Rattle.repl_peer.specs.declared.fault.TargetFault.{TargetFault}
@@ -98,7 +95,7 @@ follows_merged m revs none falls = follows_found (joined m (edges_of revs)) revs
 -- ---- a put
 
 -- the changed document has the new tree
-changed_tree : (db : DatabaseValue) (id : Id) (t : TreeValue) → tree_of (with_tree db id t).docs id ≡ t
+pub changed_tree : (db : DatabaseValue) (id : Id) (t : TreeValue) → tree_of (with_tree db id t).docs id ≡ t
 changed_tree db id t =
     ap (λ o. unwrap_or o no_revisions) (tree_in-with_tree db id t id ∙ cond-true (bytes_eq id id) (Some t) (tree_in db.docs id) ((bytes_eq-Decides id id).1 refl))
 
@@ -162,24 +159,7 @@ begun_stands p s (Err fault) h = h
 pub begin_stands : (p : PeerValue) (id : SessionId) (b : Beginning) (at : ℕ) → LocalsStand p → LocalsStand (after_begin p id b at)
 begin_stands p id b at h = begun_stands p (new_session id b at) (begin_answer p id b) h
 
-found_stands : (p : PeerValue) (change : SessionValue → SessionValue) (o : Option SessionValue) → LocalsStand p → LocalsStand (on_found p change o)
-found_stands p change None h = h
-found_stands p change (Some s) h = h
-
-pub append_stands : (p : PeerValue) (id : SessionId) (w : WindowValue) → LocalsStand p → LocalsStand (after_append p id w)
-append_stands p id w h = found_stands p (λ s. with_window w s (append_in w s)) (session_in p.sessions id) h
-
-pub record_stands : (p : PeerValue) (id : SessionId) (at : ℕ) → LocalsStand p → LocalsStand (after_record p id at)
-record_stands p id at h = found_stands p (recorded_at at) (session_in p.sessions id) h
-
-pub conclude_stands : (p : PeerValue) (id : SessionId) (at : ℕ) → LocalsStand p → LocalsStand (after_conclude p id at)
-conclude_stands p id at h = found_stands p (λ s. if low_water s.front == s.goal then recorded_at at s else s) (session_in p.sessions id) h
-
 -- ---- reading a write
-
-pub first_at : (revs : List RevId) (r : RevId) → head_of revs ≡ Some r → slice_get revs 0 ≡ Some r
-first_at [] r h = h
-first_at (x ∷ revs) r h = h
 
 -- the parent of one of the revisions is the next one
 pub follows_at : (m : FinMap rev_cmp RevId) (revs : List RevId) (i : ℕ) (r : RevId) → Follows m revs → slice_get revs i ≡ Some r → i + 1 < length revs → get m r ≡ slice_get revs (i + 1)
@@ -190,13 +170,7 @@ follows_at m (x ∷ (s ∷ rest)) (suc i) r f e h =
     let more : suc (i + 1) ≡ suc i + 1 = omega arith in
     follows_at m (s ∷ rest) i r f.1 e (omega arith) ∙ ap (slice_get (x ∷ (s ∷ rest))) more
 
--- behind the last one there is none
-pub none_at : (revs : List RevId) (n : ℕ) → length revs ≤ n → slice_get revs n ≡ None
-none_at [] n h = refl
-none_at (x ∷ revs) zero h = absurd (omega arith)
-none_at (x ∷ revs) (suc n) h = none_at revs n (omega arith)
-
--- and before it there is one
+-- before the end there is one
 pub some_at : (revs : List RevId) (n : ℕ) → n < length revs → (r : RevId) × (slice_get revs n ≡ Some r)
 some_at [] n h = absurd (omega arith)
 some_at (x ∷ revs) zero h = (x, refl)

@@ -27,7 +27,7 @@ use Rattle.repl_peer.specs.declared.fault.Settled.{Settled}
 use Rattle.repl_peer.specs.declared.fault.TargetFault.{TargetFault}
 use Rattle.repl_peer.specs.declared.fault.TargetFault.TheVariants as faults
 use Rattle.repl_peer.proofs.lemmas.peer.LaterPeers.{with_session_holds}
-use Rattle.repl_peer.proofs.lemmas.session.SettlingKeepsLaw.{with_session-twice}
+use Rattle.repl_peer.proofs.lemmas.session.Changes.{with_session-twice}
 use Rattle.couch_base.specs.MemberLaws.{Among-map, Among-mapped, any_member, any_from}
 use Rattle.repl_peer.proofs.lemmas.session.SettlingChecks.{passed}
 

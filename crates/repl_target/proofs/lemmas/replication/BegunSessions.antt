@@ -20,7 +20,7 @@ use Rattle.couch_base.specs.MemberLaws.{any_from}
 use Rattle.repl_target.specs.ties.Ties.{IsTiedWindow}
 use Rattle.repl_target.specs.replication.Calls.{IsGrown, EachStored}
 use Rattle.repl_target.proofs.lemmas.ties.TiedPages.{chosen_member}
-use Rattle.repl_target.proofs.lemmas.replication.CallLaws.{calls_law, calls_store}
+use Rattle.repl_target.proofs.lemmas.replication.CallLaws.{grown_law, grown_stores}
 use Rattle.repl_target.proofs.lemmas.ties.TiedPeersCover.{windows_cover}
 
 -- the session as it is later: what it began with is kept, and its windows are tied to the source's database
@@ -48,18 +48,17 @@ later_session refuses source target plan now law l ok grown =
     let new = new_session plan.session (beginning_between source target plan.chosen) plan.at in
     let is : p ≡ record target { sessions = new ∷ target.sessions } = ap (begun target new) ok in
     let there : Among new p.sessions = subst (λ (q : PeerValue). Among new q.sessions) (sym is) (inl refl) in
-    let k = (calls_law refuses source.db plan.chosen plan.session grown.0 p law grown.1 l).1.sessions new there in
+    let k = (grown_law refuses source.db plan.chosen plan.session p now law grown l).1.sessions new there in
     let own : SessionId → RepId → Type 0 = λ id rep. id ≡ plan.session in
     let none : EachStored own (IsTiedWindow source.db plan.chosen) (new ∷ target.sessions) =
     λ s m q w n. elim m [
       | inl e ↦ absurd (subst (Among w) (ap (λ (x : SessionValue). x.windows) e) n)
       | inr o ↦ absurd (both_ways _ (fresh_of source target plan ok) (any_from (is_of plan.session) s target.sessions o (eq-eqb s.id.0 plan.session.0 (ap (λ (i : SessionId). i.0) q))))
     ] in
-    let stored = calls_store own refuses source.db plan.chosen plan.session grown.0 p law grown.1 (subst (λ (q : PeerValue). EachStored own (IsTiedWindow source.db plan.chosen) q.sessions) (sym is) none) in
-    let held : Among k.0 now.sessions = subst (λ (q : PeerValue). Among k.0 q.sessions) (sym grown.2) k.1 in
+    let stored = grown_stores own refuses source.db plan.chosen plan.session p now law grown (subst (λ (q : PeerValue). EachStored own (IsTiedWindow source.db plan.chosen) q.sessions) (sym is) none) in
     record {
       session = k.0;
-      held = held;
+      held = k.1;
       id = k.2.id;
       rep = k.2.rep;
       life = k.2.life;

@@ -30,7 +30,7 @@ use Rattle.repl_target.specs.replication.Sync.{HasRefusedNone, MeetBoth}
 use Rattle.repl_peer.specs.declared.fault.Report.{Report}
 use Rattle.repl_peer.specs.declared.fault.TargetFault.{TargetFault}
 use Rattle.repl_target.specs.declared.replication.Plan.{Plan}
-use Rattle.repl_target.proofs.lemmas.replication.FetchedDocuments.{tree_lawful, IsLeafOf, calls-keep}
+use Rattle.repl_target.proofs.lemmas.replication.FetchedDocuments.{tree_lawful, IsLeafOf, run_keeps, database_kept}
 use Rattle.repl_target.proofs.lemmas.replication.EmptyTargetCopied.{leaf_covered}
 use Rattle.repl_target.proofs.lemmas.replication.ReplicationAsCalls.{replicates_left, replicates_puts}
 use Rattle.repl_target.proofs.lemmas.replication.OthersStayTied.{turned_tied}
@@ -65,10 +65,9 @@ begun_same P p s (Err fault) h = h
 pub left_grown : (refuses : Document → Bool) (source target : PeerValue) (plan : Plan) (now : PeerValue) → LawfulDatabase source.db → IsLeft refuses source target plan now → HasGrownBy target.db source.db now.db
 left_grown refuses source target plan now law (inl same) = subst (λ (p : PeerValue). HasGrownBy target.db source.db p.db) (sym same) (λ id. IsGrownBy-same (tree_of target.db.docs id) (tree_of source.db.docs id))
 left_grown refuses source target plan now law (inr left) =
-    let grown = left.1 in
     let first = begun_same (HasGrownBy target.db source.db) target (new_session plan.session (beginning_between source target plan.chosen) plan.at) (begins_answer source target plan) (λ id. IsGrownBy-same (tree_of target.db.docs id) (tree_of source.db.docs id)) in
-    subst (λ (p : PeerValue). HasGrownBy target.db source.db p.db) (sym grown.2)
-    (calls-keep source.db (HasGrownBy target.db source.db) (λ db d o from h. put_grown target.db source.db law db d o from h) refuses plan.chosen plan.session (after_begins source target plan) grown.0 grown.1 first)
+    run_keeps refuses source.db plan.chosen plan.session (λ (p : PeerValue). HasGrownBy target.db source.db p.db)
+    (database_kept refuses source.db plan.chosen plan.session (HasGrownBy target.db source.db) (λ db d o from h. put_grown target.db source.db law db d o from h)) (after_begins source target plan) now left.1 first
 
 -- ---- one replication
 

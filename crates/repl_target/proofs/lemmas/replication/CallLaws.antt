@@ -1,5 +1,5 @@
 -- What calls keep: the law, what covers, and the windows that are stored.
-use Rattle.std.proofs.Common.{◌≡◌, ℕ, min, ◌<◌, ◌^◌, ◌==◌, Bool, cond, List, [], ◌∷◌, Option, Some, None, Result, Ok, Err, take, length, refl, sym, ap, ◌∙◌, subst, inl, inr, arith}
+use Rattle.std.proofs.Common.{◌≡◌, ℕ, ◌<◌, ◌^◌, Bool, cond, List, Option, Result, Ok, Err, refl, sym, ap, ◌∙◌, subst, inl, inr, arith}
 use Rattle.std.proofs.lemmas.Bool.{cond_both}
 use Rattle.rev_core.specs.Rev.{RevId}
 use Rattle.rev_tree.specs.declared.origin.SessionId.{SessionId}
@@ -9,27 +9,21 @@ use Rattle.couch_base.specs.Lists.{Among}
 use Rattle.couch_base.specs.Database.{Id, DatabaseValue, LawfulDatabase}
 use Rattle.couch_base.specs.Feed.{WindowValue, page, IsWindow}
 use Rattle.couch_base.specs.FeedLaws.{IsWindow-page}
-use Rattle.couch_base.specs.Messages.{ParcelValue}
-use Rattle.couch_base.specs.Put.{put_answer}
 use Rattle.couch_base.specs.Edit.{edited}
 use Rattle.couch_base.specs.declared.fault.BaseFault.{BaseFault}
-use Rattle.range_front.specs.Front.{low_water}
 use Rattle.repl_log.specs.declared.replication.RepId.{RepId}
-use Rattle.repl_peer.specs.declared.fault.Reason.{Reason}
 use Rattle.repl_peer.specs.declared.fault.TargetFault.{TargetFault}
-use Rattle.repl_peer.specs.peer.Peer.{PeerValue, SessionValue, is_of, session_in, with_session}
-use Rattle.repl_peer.specs.peer.Covered.{refusal_of, covers_window}
+use Rattle.repl_peer.specs.peer.Peer.{PeerValue, SessionValue, is_of, with_session}
 use Rattle.repl_peer.specs.peer.Writing.{load_edited}
-use Rattle.repl_peer.specs.session.Sessions.{on_found, on_session, begin_answer, new_session, begun, append_in, with_window, recorded_at}
-use Rattle.repl_peer.specs.session.Settling.{Settling, settle_as, settle_one, settle_docs, with_arrival, settled_before, settle_check, settling_of, after_documents, with_done, after_all, after_front, after_stop, settled_at, after_settle, is_full}
+use Rattle.repl_peer.specs.session.Sessions.{begin_answer, new_session, begun, with_window}
+use Rattle.repl_peer.specs.session.Settling.{after_settle}
 use Rattle.repl_peer.specs.peer.Law.{LawfulSessions}
-use Rattle.repl_peer.specs.peer.Later.{IsLaterPeer}
 use Rattle.couch_base.specs.MemberLaws.{Among-map, Among-push}
-use Rattle.repl_peer.proofs.lemmas.peer.LaterPeers.{IsLaterPeer-same, IsLaterPeer-later, session_found}
-use Rattle.repl_peer.proofs.lemmas.peer.CallsKeepLaw.{takes, append_law, append_later, record_law, record_later, conclude_law, conclude_later}
-use Rattle.repl_peer.proofs.lemmas.session.SettlingKeepsLaw.{settle_told, after_settle_law, after_stop_law}
+use Rattle.repl_peer.proofs.lemmas.session.Changes.{Change, Stored, changed, Source, May, KeptByChanges, ends_keep, append_keep, record_keep, conclude_keep, after_settle_ends, after_stop_ends}
+use Rattle.repl_peer.proofs.lemmas.session.SettlingKeepsLaw.{AreWindows, StaysLawful, stays_same, law_kept}
+use Rattle.repl_target.proofs.lemmas.replication.FetchedDocuments.{of_run, run_keeps}
 use Rattle.repl_target.specs.ties.Ties.{IsTiedWindow}
-use Rattle.repl_target.specs.replication.Calls.{Call, Load, Edit, Begin, Append, Settle, Stop, Record, Conclude, after_call, after_calls, most_settled, IsPageOf, IsFrom, AllFrom, EachStored}
+use Rattle.repl_target.specs.replication.Calls.{Call, Load, Edit, Begin, Append, Settle, Stop, Record, Conclude, after_call, after_some, IsPageOf, IsGrown, EachStored}
 use Rattle.repl_target.proofs.lemmas.ties.TiedPages.{page_within, IsTiedWindow-page}
 
 -- ---- pages
@@ -45,25 +39,13 @@ page_window db c w law p =
 
 -- ---- the law
 
--- what a call leaves of a lawful peer
-pub call_law : (refuses : Document → Bool) (source : DatabaseValue) (chosen : Choice) (run : SessionId) (p : PeerValue) (c : Call) → LawfulDatabase source → IsFrom source chosen run c → LawfulSessions refuses p → LawfulSessions refuses (after_call refuses p c) × IsLaterPeer p (after_call refuses p c)
-call_law refuses source chosen run p (Load doc) law from l = absurd from
-call_law refuses source chosen run p (Edit id parent deleted body) law from l = absurd from
-call_law refuses source chosen run p (Begin session beginning at) law from l = absurd from
-call_law refuses source chosen run p (Append session window) law from l =
-    let w = page_window source chosen window law from.1 in
-    (append_law refuses p session window w.0 w.1 l, append_later refuses p session window w.0 w.1 l)
-call_law refuses source chosen run p (Settle session parcel) law from l = after_settle_law refuses p session parcel l
-call_law refuses source chosen run p (Stop session parcel settled) law from l = after_stop_law refuses p session parcel (min settled (most_settled refuses p session parcel)) l
-call_law refuses source chosen run p (Record session at) law from l = (record_law refuses p session at l, record_later refuses p session at l)
-call_law refuses source chosen run p (Conclude session at) law from l = (conclude_law refuses p session at l, conclude_later refuses p session at l)
+-- what calls leave of a lawful peer
+pub run_windows : (source : DatabaseValue) (chosen : Choice) (run : SessionId) → LawfulDatabase source → AreWindows (of_run source chosen run)
+run_windows source chosen run law s w from = let k = page_window source chosen w law from.1 in (k.0, k.1)
 
-pub calls_law : (refuses : Document → Bool) (source : DatabaseValue) (chosen : Choice) (run : SessionId) (calls : List Call) (p : PeerValue) → LawfulDatabase source → AllFrom source chosen run calls → LawfulSessions refuses p → LawfulSessions refuses (after_calls refuses p calls) × IsLaterPeer p (after_calls refuses p calls)
-calls_law refuses source chosen run [] p law from l = (l, IsLaterPeer-same p)
-calls_law refuses source chosen run (c ∷ calls) p law from l =
-    let h = call_law refuses source chosen run p c law from.0 l in
-    let k = calls_law refuses source chosen run calls (after_call refuses p c) law from.1 h.0 in
-    (k.0, IsLaterPeer-later p (after_call refuses p c) (after_calls refuses (after_call refuses p c) calls) h.1 k.1)
+pub grown_law : (refuses : Document → Bool) (source : DatabaseValue) (chosen : Choice) (run : SessionId) (given now : PeerValue) → LawfulDatabase source → IsGrown refuses source chosen run given now → LawfulSessions refuses given → StaysLawful refuses given now
+grown_law refuses source chosen run given now law grown l =
+    run_keeps refuses source chosen run (StaysLawful refuses given) (law_kept refuses (of_run source chosen run) (run_windows source chosen run law) given) given now grown (stays_same refuses given l)
 
 -- ---- what holds of each session
 
@@ -86,21 +68,19 @@ module _ (S : SessionValue → Type 0) (stays : (s t : SessionValue) → Stays s
   abbrev pub Each : List SessionValue → Type 0
   Each sessions = (s : SessionValue) → Among s sessions → S s
 
-  each-with : (sessions : List SessionValue) (t : SessionValue) → S t → Each sessions → Each (with_session sessions t)
+  pub each-with : (sessions : List SessionValue) (t : SessionValue) → S t → Each sessions → Each (with_session sessions t)
   each-with sessions t here h s m =
       let k = Among-map (λ (x : SessionValue). cond (is_of t.id x) t x) s sessions m in
       let at : S (cond (is_of t.id k.0) t k.0) = cond_both (is_of t.id k.0) t k.0 S (λ _. here) (λ _. h k.0 k.1) in
       subst S (sym k.2) at
 
-  -- a change of one session
-  each-on : (p : PeerValue) (id : SessionId) (change : SessionValue → SessionValue) → ((s : SessionValue) → Among s p.sessions → s.id ≡ id → S s → S (change s)) → Each p.sessions → Each (on_session p id change).sessions
-  each-on p id change keeps h = go (session_in p.sessions id) refl
-    where
-      go : (o : Option SessionValue) → session_in p.sessions id ≡ o → Each (on_found p change o).sessions
-      go None e = h
-      go (Some s) e =
-          let found = session_found p.sessions id s e in
-          each-with p.sessions (change s) (keeps s found.0 (λ i. record { 0 = found.1 i }) (h s found.0)) h
+  -- what a change leaves of its session
+  pub each-changed : (refuses : Document → Bool) (Of : Source) (p : PeerValue) (s : SessionValue) (c : Change) → May refuses Of p s c → ((w : WindowValue) → Of.window s w → w.life ≡ s.life → S s → S (with_window w s (Ok tt))) → S s → S (changed s c)
+  each-changed refuses Of p s (Stored window) may more h = more window may.from may.life h
+  each-changed refuses Of p s change may more h = stays s (changed s change) (record { id = refl; rep = refl; life = refl; start = refl; windows = refl }) h
+
+  pub each-kept : (refuses : Document → Bool) (Of : Source) → ((s : SessionValue) (w : WindowValue) → Of.window s w → w.life ≡ s.life → S s → S (with_window w s (Ok tt))) → KeptByChanges refuses Of (λ p _. Each p.sessions)
+  each-kept refuses Of more p s c m may h = each-with p.sessions (changed s c) (each-changed refuses Of p s c may (more s) (h s m)) h
 
   each-edited : (p : PeerValue) (id : Id) (deleted : Bool) (body : List ℕ) (e : Result (RevId × Option RevId) BaseFault) → Each p.sessions → Each (load_edited p id deleted body e).sessions
   each-edited p id deleted body (Ok e) h = h
@@ -110,63 +90,19 @@ module _ (S : SessionValue → Type 0) (stays : (s t : SessionValue) → Stays s
   each-begun p s (Err fault) new h = h
   each-begun p s (Ok done) new h = λ t m. elim m [ inl e ↦ subst S (sym e) (new refl) | inr o ↦ h t o ]
 
-  each-window : (w : WindowValue) (s : SessionValue) (r : Result (Unit {0}) TargetFault) → append_in w s ≡ r → (w.life ≡ s.life → S s → S (with_window w s (Ok tt))) → S s → S (with_window w s r)
-  each-window w s (Err fault) e brings h = h
-  each-window w s (Ok done) e brings h = brings (takes w s done e).2 h
-
-  each-conclude : (at : ℕ) (s : SessionValue) → S s → S (cond (low_water s.front == s.goal) (recorded_at at s) s)
-  each-conclude at s h = cond_both (low_water s.front == s.goal) (recorded_at at s) s S (λ _. stays s (recorded_at at s) (record { id = refl; rep = refl; life = refl; start = refl; windows = refl }) h) (λ _. h)
-
-  each-document : (w : WindowValue) (z : Settling) (d : Document) (o : Option Reason) → S z.session → S (settle_as w z d o).session
-  each-document w z d (Some reason) h = stays z.session (settle_as w z d (Some reason)).session (record { id = refl; rep = refl; life = refl; start = refl; windows = refl }) h
-  each-document w z d None h =
-      cond_both (is_full (put_answer z.db d)) z _ (λ (y : Settling). S y.session) (λ _. h)
-      (λ _. stays z.session (with_arrival d z.session) (record { id = refl; rep = refl; life = refl; start = refl; windows = refl }) h)
-
-  each-documents : (refuses : Document → Bool) (w : WindowValue) (z : Settling) (docs : List Document) → S z.session → S (settle_docs refuses w z docs).session
-  each-documents refuses w z [] h = h
-  each-documents refuses w z (d ∷ docs) h = each-documents refuses w (settle_one refuses w z d) docs (each-document w z d (refusal_of refuses z.db d) h)
-
-  each-after_documents : (refuses : Document → Bool) (p : PeerValue) (s : SessionValue) (w : WindowValue) (docs : List Document) → Among s p.sessions → Each p.sessions → Each (after_documents refuses p s w docs).sessions
-  each-after_documents refuses p s w docs m h = each-with p.sessions (settle_docs refuses w (settling_of p s) docs).session (each-documents refuses w (settling_of p s) docs (h s m)) h
-
-  each-after_all : (refuses : Document → Bool) (p : PeerValue) (s : SessionValue) (w : WindowValue) (parcel : ParcelValue) → Among s p.sessions → Each p.sessions → Each (after_all refuses p s w parcel).sessions
-  each-after_all refuses p s w parcel m h =
-      let q = after_documents refuses p s w parcel.docs in
-      let z = settle_docs refuses w (settling_of p s) parcel.docs in
-      let own : S z.session = each-documents refuses w (settling_of p s) parcel.docs (h s m) in
-      cond_both (covers_window q w) (record q { sessions = with_session q.sessions (with_done w parcel z.session) }) q (λ (x : PeerValue). Each x.sessions)
-      (λ _. each-with q.sessions (with_done w parcel z.session) (stays z.session (with_done w parcel z.session) (record { id = refl; rep = refl; life = refl; start = refl; windows = refl }) own) (each-after_documents refuses p s w parcel.docs m h))
-      (λ _. each-after_documents refuses p s w parcel.docs m h)
-
-  each-settle : (refuses : Document → Bool) (p : PeerValue) (id : SessionId) (parcel : ParcelValue) → Each p.sessions → Each (after_settle refuses p id parcel).sessions
-  each-settle refuses p id parcel h = go (settle_check p id parcel) refl
-    where
-      go : (r : Result (SessionValue × WindowValue) TargetFault) → settle_check p id parcel ≡ r → Each (settled_at refuses p parcel r).sessions
-      go (Err fault) e = h
-      go (Ok at) e =
-          let held = (settle_told p id parcel at e).held in
-          let n = settled_before refuses at.1 (settling_of p at.0) parcel.docs in
-          cond_both (n == length parcel.docs) (after_all refuses p at.0 at.1 parcel) (after_documents refuses p at.0 at.1 (take n parcel.docs)) (λ (x : PeerValue). Each x.sessions)
-          (λ _. each-after_all refuses p at.0 at.1 parcel held h)
-          (λ _. each-after_documents refuses p at.0 at.1 (take n parcel.docs) held h)
-
-  each-stop : (refuses : Document → Bool) (p : PeerValue) (id : SessionId) (parcel : ParcelValue) (n : ℕ) → Each p.sessions → Each (after_stop refuses p id parcel n).sessions
-  each-stop refuses p id parcel n h = go (settle_check p id parcel) refl
-    where
-      go : (r : Result (SessionValue × WindowValue) TargetFault) → settle_check p id parcel ≡ r → Each (after_front refuses p parcel n r).sessions
-      go (Err fault) e = h
-      go (Ok at) e = each-after_documents refuses p at.0 at.1 (take n parcel.docs) (settle_told p id parcel at e).held h
+  -- windows that keep it so
+  abbrev growing : Source
+  growing = record { doc = λ _. Unit {0}; window = λ s w. w.life ≡ s.life → S s → S (with_window w s (Ok tt)) }
 
   pub call_keeps : (refuses : Document → Bool) (p : PeerValue) (c : Call) → Brings p c → Each p.sessions → Each (after_call refuses p c).sessions
   call_keeps refuses p (Load doc) b h = h
   call_keeps refuses p (Edit id parent deleted body) b h = each-edited p id deleted body (edited p.db id parent deleted body) h
   call_keeps refuses p (Begin session beginning at) b h = each-begun p (new_session session beginning at) (begin_answer p session beginning) b h
-  call_keeps refuses p (Append session window) b h = each-on p session (λ s. with_window window s (append_in window s)) (λ s m own e. each-window window s (append_in window s) refl (b s m own) e) h
-  call_keeps refuses p (Settle session parcel) b h = each-settle refuses p session parcel h
-  call_keeps refuses p (Stop session parcel settled) b h = each-stop refuses p session parcel (min settled (most_settled refuses p session parcel)) h
-  call_keeps refuses p (Record session at) b h = each-on p session (recorded_at at) (λ s m own e. stays s (recorded_at at s) (record { id = refl; rep = refl; life = refl; start = refl; windows = refl }) e) h
-  call_keeps refuses p (Conclude session at) b h = each-on p session (λ s. cond (low_water s.front == s.goal) (recorded_at at s) s) (λ s m own. each-conclude at s) h
+  call_keeps refuses p (Append session window) b h = append_keep refuses growing (λ q. Each q.sessions) (each-kept refuses growing (λ _ _ k. k)) p session window b h
+  call_keeps refuses p (Settle session parcel) b h = ends_keep refuses growing (λ q. Each q.sessions) (each-kept refuses growing (λ _ _ k. k)) p session parcel (after_settle refuses p session parcel) (after_settle_ends refuses p session parcel) (λ _ _. tt) h
+  call_keeps refuses p (Stop session parcel settled) b h = ends_keep refuses growing (λ q. Each q.sessions) (each-kept refuses growing (λ _ _ k. k)) p session parcel (after_some refuses p session parcel settled) (after_stop_ends refuses p session parcel _) (λ _ _. tt) h
+  call_keeps refuses p (Record session at) b h = record_keep refuses growing (λ q. Each q.sessions) (each-kept refuses growing (λ _ _ k. k)) p session at h
+  call_keeps refuses p (Conclude session at) b h = conclude_keep refuses growing (λ q. Each q.sessions) (each-kept refuses growing (λ _ _ k. k)) p session at h
 
 -- ---- the windows that are stored
 
@@ -181,45 +117,20 @@ stores-stays Q P s t k h = λ q w m. h (subst (λ (i : SessionId). Q i s.rep) k.
 stores-more : (Q : SessionId → RepId → Type 0) (P : WindowValue → Type 0) (w : WindowValue) (s : SessionValue) → P w → Stores Q P s → Stores Q P (with_window w s (Ok tt))
 stores-more Q P w s is h = λ q v n. elim (Among-push v s.windows w n) [ inl old ↦ h q v old | inr e ↦ subst P (sym e) is ]
 
--- a call whose messages are the source's brings tied windows
-from_stores : (Q : SessionId → RepId → Type 0) (source : DatabaseValue) (chosen : Choice) (run : SessionId) (p : PeerValue) (c : Call) → LawfulDatabase source → IsFrom source chosen run c
-    → Brings (Stores Q (IsTiedWindow source chosen)) (stores-stays Q (IsTiedWindow source chosen)) p c
-from_stores Q source chosen run p (Load doc) law from = absurd from
-from_stores Q source chosen run p (Edit id parent deleted body) law from = absurd from
-from_stores Q source chosen run p (Begin session beginning at) law from = absurd from
-from_stores Q source chosen run p (Append session window) law from =
-    λ s _ _ _ h. stores-more Q (IsTiedWindow source chosen) window s (page_window source chosen window law from.1).2 h
-from_stores Q source chosen run p (Settle session parcel) law from = tt
-from_stores Q source chosen run p (Stop session parcel settled) law from = tt
-from_stores Q source chosen run p (Record session at) law from = tt
-from_stores Q source chosen run p (Conclude session at) law from = tt
-
-pub calls_store : (Q : SessionId → RepId → Type 0) (refuses : Document → Bool) (source : DatabaseValue) (chosen : Choice) (run : SessionId) (calls : List Call) (p : PeerValue) → LawfulDatabase source → AllFrom source chosen run calls → EachStored Q (IsTiedWindow source chosen) p.sessions
-    → EachStored Q (IsTiedWindow source chosen) (after_calls refuses p calls).sessions
-calls_store Q refuses source chosen run [] p law from h = h
-calls_store Q refuses source chosen run (c ∷ calls) p law from h =
-    calls_store Q refuses source chosen run calls (after_call refuses p c) law from.1
-    (call_keeps (Stores Q (IsTiedWindow source chosen)) (stores-stays Q (IsTiedWindow source chosen)) refuses p c (from_stores Q source chosen run p c law from.0) h)
+pub grown_stores : (Q : SessionId → RepId → Type 0) (refuses : Document → Bool) (source : DatabaseValue) (chosen : Choice) (run : SessionId) (given now : PeerValue) → LawfulDatabase source → IsGrown refuses source chosen run given now → EachStored Q (IsTiedWindow source chosen) given.sessions
+    → EachStored Q (IsTiedWindow source chosen) now.sessions
+grown_stores Q refuses source chosen run given now law grown h =
+    let P = IsTiedWindow source chosen in
+    run_keeps refuses source chosen run (λ (q : PeerValue). EachStored Q P q.sessions)
+    (each-kept (Stores Q P) (stores-stays Q P) refuses (of_run source chosen run) (λ s w from _ k. stores-more Q P w s (page_window source chosen w law from.1).2 k)) given now grown h
 
 -- ---- the session that runs
 
--- the run's session is of the choice
-abbrev pub IsRunOf : SessionId → Choice → SessionValue → Type 0
-IsRunOf run chosen s = s.id ≡ run → s.rep.chosen ≡ chosen
+-- the run's session is of replications from a database, and of a choice
+abbrev pub IsRunOf : SessionId → ℕ → Choice → SessionValue → Type 0
+IsRunOf run source chosen s = s.id ≡ run → (s.rep.source ≡ source) × (s.rep.chosen ≡ chosen)
 
-run-stays : (run : SessionId) (chosen : Choice) (s t : SessionValue) → Stays s t → IsRunOf run chosen s → IsRunOf run chosen t
-run-stays run chosen s t k h = λ own. ap (λ (r : RepId). r.chosen) k.rep ∙ h (sym k.id ∙ own)
-
-from_runs : (source : DatabaseValue) (chosen : Choice) (run : SessionId) (p : PeerValue) (c : Call) → IsFrom source chosen run c → Brings (IsRunOf run chosen) (run-stays run chosen) p c
-from_runs source chosen run p (Load doc) from = absurd from
-from_runs source chosen run p (Edit id parent deleted body) from = absurd from
-from_runs source chosen run p (Begin session beginning at) from = absurd from
-from_runs source chosen run p (Append session window) from = λ s _ _ _ h. h
-from_runs source chosen run p (Settle session parcel) from = tt
-from_runs source chosen run p (Stop session parcel settled) from = tt
-from_runs source chosen run p (Record session at) from = tt
-from_runs source chosen run p (Conclude session at) from = tt
-
-pub call_runs : (refuses : Document → Bool) (source : DatabaseValue) (chosen : Choice) (run : SessionId) (p : PeerValue) (c : Call) → IsFrom source chosen run c → ((s : SessionValue) → Among s p.sessions → IsRunOf run chosen s)
-    → (s : SessionValue) → Among s (after_call refuses p c).sessions → IsRunOf run chosen s
-call_runs refuses source chosen run p c from h = call_keeps (IsRunOf run chosen) (run-stays run chosen) refuses p c (from_runs source chosen run p c from) h
+pub run-stays : (run : SessionId) (source : ℕ) (chosen : Choice) (s t : SessionValue) → Stays s t → IsRunOf run source chosen s → IsRunOf run source chosen t
+run-stays run source chosen s t k h own =
+    let was = h (sym k.id ∙ own) in
+    (ap (λ (r : RepId). r.source) k.rep ∙ was.0, ap (λ (r : RepId). r.chosen) k.rep ∙ was.1)

@@ -27,22 +27,21 @@ use Rattle.repl_target.specs.Audit.{CoversFeedOf}
 use Rattle.repl_peer.specs.logs.Logs.{log_of, source_log}
 use Rattle.repl_log.specs.Log.{common}
 use Rattle.repl_peer.specs.session.Sessions.{new_session, begun}
-use Rattle.repl_target.specs.replication.Replication.{Reading, ReadsAll, start_at, start_between, begins_answer, after_begins, Closes, CoversFrom, IsReported, IsEmpty, SameDocuments, beginning_between}
+use Rattle.repl_target.specs.replication.Replication.{Reading, ReadsAll, start_at, start_between, begins_answer, after_begins, Closes, CoversFrom, IsEmpty, SameDocuments, beginning_between}
 use Rattle.repl_peer.specs.declared.fault.Report.{Report}
 use Rattle.repl_peer.specs.declared.fault.TargetFault.{TargetFault}
 use Rattle.repl_target.specs.declared.replication.Plan.{Plan}
 use Rattle.couch_base.specs.MemberLaws.{Among-mapped, any_member}
-use Rattle.repl_target.specs.replication.Calls.{Call, Load, Edit, Begin, Append, Settle, Stop, Record, Conclude, after_call, after_calls, IsFrom, AllFrom, IsGrown}
-use Rattle.repl_target.proofs.lemmas.replication.CallLaws.{Brings, call_keeps}
-use Rattle.repl_target.proofs.lemmas.replication.ReplicationAsCalls.{ended_grown}
-use Rattle.repl_target.proofs.lemmas.replication.FetchedDocuments.{tree_lawful, IsLeafOf, calls-keep}
+use Rattle.repl_target.proofs.lemmas.replication.FetchedDocuments.{tree_lawful, IsLeafOf, of_run, run_keeps, database_kept}
+use Rattle.repl_target.proofs.lemmas.replication.CallLaws.{each-kept}
+use Rattle.repl_peer.proofs.lemmas.session.Changes.{KeptByChanges}
 use Rattle.repl_peer.proofs.lemmas.Members.{among_from}
 use Rattle.repl_target.proofs.lemmas.ties.TiedPages.{in_chosen}
 use Rattle.repl_peer.proofs.lemmas.peer.LaterPeers.{one_session, session_found}
 use Rattle.rev_tree.specs.AgreementLaws.{same_leaves}
 use Rattle.rev_tree.specs.PartLaws.{IsPart, nothing_is_part, given, part_merged, whole_part}
 use Rattle.repl_peer.proofs.lemmas.peer.HonestSessions.{rises_member}
-use Rattle.repl_target.proofs.lemmas.replication.SourceFeedStored.{Started, all-covered, all-reported, all-lawful}
+use Rattle.repl_target.proofs.lemmas.replication.RunsConcluded.{Started, Concludes, all-concludes}
 
 -- ---- databases
 
@@ -76,28 +75,12 @@ record Copying (source : DatabaseValue) (id : SessionId) (p : PeerValue) : Type 
   part : IsPartOf source p.db
   only : (x : SessionValue) → Among x p.sessions → x.id ≡ id
 
--- a call of a run begins no session
-one_brings : (source : DatabaseValue) (chosen : Choice) (run : SessionId) (p : PeerValue) (c : Call) → IsFrom source chosen run c → Brings (λ s. s.id ≡ run) (λ s t k own. k.id ∙ own) p c
-one_brings source chosen run p (Load doc) from = absurd from
-one_brings source chosen run p (Edit id parent deleted body) from = absurd from
-one_brings source chosen run p (Begin session beginning at) from = absurd from
-one_brings source chosen run p (Append session window) from = λ s _ _ _ own. own
-one_brings source chosen run p (Settle session parcel) from = tt
-one_brings source chosen run p (Stop session parcel settled) from = tt
-one_brings source chosen run p (Record session at) from = tt
-one_brings source chosen run p (Conclude session at) from = tt
-
-calls_one : (refuses : Document → Bool) (source : DatabaseValue) (chosen : Choice) (run : SessionId) (p : PeerValue) (calls : List Call) → AllFrom source chosen run calls → ((x : SessionValue) → Among x p.sessions → x.id ≡ run)
-    → (x : SessionValue) → Among x (after_calls refuses p calls).sessions → x.id ≡ run
-calls_one refuses source chosen run p [] from h = h
-calls_one refuses source chosen run p (c ∷ calls) from h =
-    calls_one refuses source chosen run (after_call refuses p c) calls from.1 (call_keeps (λ s. s.id ≡ run) (λ s t k own. k.id ∙ own) refuses p c (one_brings source chosen run p c from.0) h)
-
-grown_copying : (refuses : Document → Bool) (source : DatabaseValue) (chosen : Choice) (run : SessionId) (p q : PeerValue) → LawfulDatabase source → IsGrown refuses source chosen run p q → Copying source run p → Copying source run q
-grown_copying refuses source chosen run p q law grown c = subst (Copying source run) (sym grown.2) (record {
-  part = calls-keep source (IsPartOf source) (λ db d o from. put_part source db d o law from) refuses chosen run p grown.0 grown.1 c.part;
-  only = calls_one refuses source chosen run p grown.0 grown.1 c.only;
-})
+copying : (refuses : Document → Bool) (source : DatabaseValue) (chosen : Choice) (run : SessionId) → LawfulDatabase source → KeptByChanges refuses (of_run source chosen run) (λ p _. Copying source run p)
+copying refuses source chosen run law p s c m may h =
+    record {
+      part = database_kept refuses source chosen run (IsPartOf source) (λ db d o from. put_part source db d o law from) p s c m may h.part;
+      only = each-kept (λ x. x.id ≡ run) (λ s t k e. k.id ∙ e) refuses (of_run source chosen run) (λ _ _ _ _ e. e) p s c m may h.only;
+    }
 
 module _ (source target : PeerValue) (plan : Plan) (empty : IsEmpty target) where
   -- the session begins at 0
@@ -149,25 +132,25 @@ covered_there refuses p id s law only held none doc r h =
           absurd (false≢true (ap (λ l. in_ledger l doc r) (sym (ap (λ (y : SessionValue). y.ledger) same ∙ empty)) ∙ x.2))
     ]
 
--- a target that was empty and has grown, by one thread or by many
-pub copied : (refuses : Document → Bool) (source target : PeerValue) (plan : Plan) (now : PeerValue) (report : Report) → LawfulDatabase source.db → begins_answer source target plan ≡ Ok tt → IsGrown refuses source.db plan.chosen plan.session (after_begins source target plan) now
-    → LawfulSessions refuses now → IsReported source target now plan report → CoversFrom source now plan.chosen (start_between source target plan.chosen) → IsEmpty target → report.counts.failures ≡ 0 → SameDocuments plan.chosen source.db now.db
-copied refuses source target plan now report law ok grown l reported covered empty none = same
+-- a run into an empty target, by one thread or by many
+pub copied : (refuses : Document → Bool) (source target : PeerValue) (plan : Plan) (p : PeerValue) (report : Report) (now : PeerValue)
+    → LawfulDatabase source.db → begins_answer source target plan ≡ Ok tt → Concludes refuses source target plan p report now → IsEmpty target → report.counts.failures ≡ 0 → SameDocuments plan.chosen source.db now.db
+copied refuses source target plan p report now law ok ends empty none = same
   where
     all_covered : CoversFrom source now plan.chosen 0
-    all_covered = subst (CoversFrom source now plan.chosen) (starts_at_0 source target plan empty) covered
+    all_covered = subst (CoversFrom source now plan.chosen) (starts_at_0 source target plan empty) ends.covered
 
-    copying : Copying source.db plan.session now
-    copying = grown_copying refuses source.db plan.chosen plan.session (after_begins source target plan) now law grown (begun_copying source target plan empty ok)
+    one : Copying source.db plan.session now
+    one = run_keeps refuses source.db plan.chosen plan.session (Copying source.db plan.session) (copying refuses source.db plan.chosen plan.session law) (after_begins source target plan) now ends.grown (begun_copying source target plan empty ok)
 
     leaf_there : (id : Id) → is_chosen plan.chosen id ≡ true → (leaf : RevId) → is_leaf (tree_of source.db.docs id) leaf ≡ true → has (tree_of now.db.docs id) leaf ≡ true
     leaf_there id chosen leaf top =
-        covered_there refuses now plan.session reported.session l copying.only reported.held (sym (ap (λ (x : Report). x.counts.failures) reported.is) ∙ none) id leaf
+        covered_there refuses now plan.session ends.reported.session ends.law one.only ends.reported.held (sym (ap (λ (x : Report). x.counts.failures) ends.reported.is) ∙ none) id leaf
         (leaf_covered plan.chosen source.db now law all_covered id chosen leaf top)
 
     same : SameDocuments plan.chosen source.db now.db
     same id chosen =
-        let is = whole_part (tree_of source.db.docs id) (tree_of now.db.docs id) (tree_lawful source.db law id) (copying.part id) (leaf_there id chosen) in
+        let is = whole_part (tree_of source.db.docs id) (tree_of now.db.docs id) (tree_lawful source.db law id) (one.part id) (leaf_there id chosen) in
         (is, same_leaves (tree_of source.db.docs id) (tree_of now.db.docs id) is)
 
 pub all-copied : (refuses : Document → Bool) (source target : PeerValue) (plan : Plan) (from : Reading) (read : PeerValue) (result : Result Report TargetFault) (source' target' : PeerValue)
@@ -175,8 +158,4 @@ pub all-copied : (refuses : Document → Bool) (source target : PeerValue) (plan
     → IfOk result (λ report. IsEmpty target → report.counts.failures ≡ 0 → SameDocuments plan.chosen source.db target'.db)
 all-copied refuses source target plan from read (Err why) source' target' s law lawful reads closes = tt
 all-copied refuses source target plan from read (Ok report) source' target' s law lawful reads closes =
-    copied refuses source target plan target' report law s.begun
-    (ended_grown refuses source target plan read target' s.planned (subst (λ f. ReadsAll refuses source.db plan f read) s.is reads) closes.at_target)
-    (all-lawful refuses source target plan from read (Ok report) source' target' s law lawful reads closes)
-    (all-reported refuses source target plan from read (Ok report) source' target' s law lawful reads closes)
-    (all-covered refuses source target plan from read (Ok report) source' target' s law lawful reads closes)
+    copied refuses source target plan read report target' law s.begun (all-concludes refuses source target plan from read s law lawful reads report source' target' closes)

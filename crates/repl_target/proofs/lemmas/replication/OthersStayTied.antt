@@ -1,80 +1,38 @@
 -- A replication leaves its two peers tied to every other one as they were.
-use Rattle.std.proofs.Common.{◌≡◌, ◌≢◌, ℕ, min, Bool, List, [], ◌∷◌, Option, Some, None, Result, Ok, Err, refl, sym, ap, ◌∙◌, subst, inl, inr}
-use Rattle.std.proofs.lemmas.Bool.{cond_both, both_ways, eq-eqb}
-use Rattle.rev_tree.specs.declared.origin.SessionId.{SessionId}
+use Rattle.std.proofs.Common.{◌≡◌, ◌≢◌, ℕ, Bool, List, Result, Ok, Err, refl, sym, ap, ◌∙◌, subst, inl, inr}
 use Rattle.doc_json.specs.Document.{Document}
 use Rattle.doc_json.specs.Chosen.{Choice}
-use Rattle.couch_base.specs.Lists.{Among}
-use Rattle.couch_base.specs.MemberLaws.{any_from}
-use Rattle.couch_base.specs.Database.{DatabaseValue, LawfulDatabase}
-use Rattle.couch_base.specs.Messages.{ParcelValue}
+use Rattle.couch_base.specs.Database.{LawfulDatabase}
 use Rattle.repl_log.specs.declared.replication.RepId.{RepId}
-use Rattle.repl_peer.specs.peer.Peer.{PeerValue, SessionValue, is_of, session_in, with_session}
+use Rattle.repl_peer.specs.peer.Peer.{PeerValue, SessionValue}
 use Rattle.repl_peer.specs.peer.Backups.{BackupValue}
-use Rattle.repl_peer.specs.peer.Covered.{covers_window}
 use Rattle.repl_peer.specs.peer.Law.{LawfulSessions}
 use Rattle.repl_peer.specs.logs.Checkpoint.{rep_between}
 use Rattle.repl_peer.specs.logs.Logs.{put_by, put_entry_answer}
-use Rattle.repl_peer.specs.session.Sessions.{on_found, new_session, begun}
-use Rattle.repl_peer.specs.session.Settling.{settle_docs, settling_of, with_done, after_documents, after_settle}
+use Rattle.repl_peer.specs.session.Sessions.{new_session, begun}
 use Rattle.repl_peer.specs.declared.fault.TargetFault.{TargetFault}
 use Rattle.repl_peer.proofs.lemmas.peer.CallsKeepLaw.{begin_later}
-use Rattle.repl_peer.proofs.lemmas.session.SettlingKeepsLaw.{LeavesAfter, after_settle_ends, after_stop_ends}
 use Rattle.repl_peer.proofs.lemmas.logs.PutChangesLogsAlone.{logs_later}
 use Rattle.repl_target.specs.declared.replication.Plan.{Plan}
 use Rattle.repl_target.specs.ties.Ties.{IsTiedPair, AreTiedBackups, IsTiedWith, KeepsOthersTied, StaysTied}
 use Rattle.repl_target.specs.replication.Replication.{beginning_between, begins_answer, after_begins}
-use Rattle.repl_target.specs.replication.Calls.{Call, Load, Edit, Begin, Append, Settle, Stop, Record, Conclude, after_call, after_calls, after_some, most_settled, IsFrom, AllFrom, IsLeft}
+use Rattle.repl_target.specs.replication.Calls.{Begin, IsLeft}
 use Rattle.repl_target.specs.replication.Leaves.{IsPut}
-use Rattle.repl_target.proofs.lemmas.replication.BegunSessions.{fresh_of}
-use Rattle.repl_target.proofs.lemmas.replication.CallLaws.{Stays, Brings, call_law, call_keeps}
-use Rattle.repl_target.proofs.lemmas.replication.ReplicationAsCalls.{begun_law, left_law}
-use Rattle.repl_target.proofs.lemmas.ties.TiedPeersStay.{session-later, entry-later, backups-later, backups-source, tied_source, TiedAt, tied-stays, tied-more, tied_call, log_with}
+use Rattle.repl_target.proofs.lemmas.replication.FetchedDocuments.{run_keeps}
+use Rattle.repl_target.proofs.lemmas.replication.ReplicationAsCalls.{begun_law, begun_runs, left_law}
+use Rattle.repl_target.proofs.lemmas.ties.TiedPeersStay.{session-later, entry-later, backups-later, backups-source, tied_source, tied_call, tied_grown, log_with}
 
 -- ---- the target as a source: its own log stays
-
-found_log : (p : PeerValue) (change : SessionValue → SessionValue) (o : Option SessionValue) → (on_found p change o).outgoing ≡ p.outgoing
-found_log p change None = refl
-found_log p change (Some s) = refl
 
 begun_log : (p : PeerValue) (s : SessionValue) (r : Result (Unit {0}) TargetFault) → (begun p s r).outgoing ≡ p.outgoing
 begun_log p s (Ok done) = refl
 begun_log p s (Err fault) = refl
 
-settled_log : (refuses : Document → Bool) (p : PeerValue) (id : SessionId) (parcel : ParcelValue) (q : PeerValue) → LeavesAfter refuses p id parcel q → q.outgoing ≡ p.outgoing
-settled_log refuses p id parcel q (inl same) = ap (λ (x : PeerValue). x.outgoing) same
-settled_log refuses p id parcel q (inr e) =
-    let s = e.0.0 in
-    let w = e.0.1 in
-    elim e.2 [
-      | inl all ↦
-          let mid = after_documents refuses p s w parcel.docs in
-          let done = with_done w parcel (settle_docs refuses w (settling_of p s) parcel.docs).session in
-          ap (λ (x : PeerValue). x.outgoing) all
-          ∙ cond_both (covers_window mid w) (record mid { sessions = with_session mid.sessions done }) mid (λ (x : PeerValue). x.outgoing ≡ p.outgoing) (λ _. refl) (λ _. refl)
-      | inr some ↦ ap (λ (x : PeerValue). x.outgoing) some.1
-    ]
-
-call_log : (refuses : Document → Bool) (source : DatabaseValue) (chosen : Choice) (run : SessionId) (p : PeerValue) (c : Call) → IsFrom source chosen run c → (after_call refuses p c).outgoing ≡ p.outgoing
-call_log refuses source chosen run p (Load doc) from = absurd from
-call_log refuses source chosen run p (Edit id parent deleted body) from = absurd from
-call_log refuses source chosen run p (Begin session beginning at) from = absurd from
-call_log refuses source chosen run p (Append session window) from = found_log p _ (session_in p.sessions session)
-call_log refuses source chosen run p (Settle session parcel) from = settled_log refuses p session parcel (after_settle refuses p session parcel) (after_settle_ends refuses p session parcel)
-call_log refuses source chosen run p (Stop session parcel settled) from = settled_log refuses p session parcel (after_some refuses p session parcel settled) (after_stop_ends refuses p session parcel (min settled (most_settled refuses p session parcel)))
-call_log refuses source chosen run p (Record session at) from = found_log p _ (session_in p.sessions session)
-call_log refuses source chosen run p (Conclude session at) from = found_log p _ (session_in p.sessions session)
-
-calls_log : (refuses : Document → Bool) (source : DatabaseValue) (chosen : Choice) (run : SessionId) (p : PeerValue) (calls : List Call) → AllFrom source chosen run calls → (after_calls refuses p calls).outgoing ≡ p.outgoing
-calls_log refuses source chosen run p [] from = refl
-calls_log refuses source chosen run p (c ∷ calls) from = calls_log refuses source chosen run (after_call refuses p c) calls from.1 ∙ call_log refuses source chosen run p c from.0
-
 pub left_log : (refuses : Document → Bool) (source target : PeerValue) (plan : Plan) (now : PeerValue) → IsLeft refuses source target plan now → now.outgoing ≡ target.outgoing
 left_log refuses source target plan now (inl same) = ap (λ (p : PeerValue). p.outgoing) same
 left_log refuses source target plan now (inr left) =
-    let grown = left.1 in
-    ap (λ (p : PeerValue). p.outgoing) grown.2 ∙ calls_log refuses source.db plan.chosen plan.session (after_begins source target plan) grown.0 grown.1
-    ∙ begun_log target (new_session plan.session (beginning_between source target plan.chosen) plan.at) (begins_answer source target plan)
+    run_keeps refuses source.db plan.chosen plan.session (λ (p : PeerValue). p.outgoing ≡ target.outgoing) (λ p s c m may h. h) (after_begins source target plan) now left.1
+    (begun_log target (new_session plan.session (beginning_between source target plan.chosen) plan.at) (begins_answer source target plan))
 
 -- it stays tied to each peer that it was a source of
 onward_tied : (refuses : Document → Bool) (source target : PeerValue) (plan : Plan) (target' : PeerValue) → LawfulDatabase source.db → LawfulSessions refuses target → IsLeft refuses source target plan target'
@@ -105,63 +63,9 @@ inward_tied source source' is other c backups h = record {
       (backups-later backups other source (record source { outgoing = source'.outgoing }) c (logs_later source source'.outgoing) h.copies);
 }
 
--- ---- the session that runs
-
--- it is of a replication from that database
-abbrev IsRunFrom : ℕ → SessionId → SessionValue → Type 0
-IsRunFrom uuid run s = s.id ≡ run → s.rep.source ≡ uuid
-
-run-stays : (uuid : ℕ) (run : SessionId) (s t : SessionValue) → Stays s t → IsRunFrom uuid run s → IsRunFrom uuid run t
-run-stays uuid run s t k h = λ own. ap (λ (r : RepId). r.source) k.rep ∙ h (sym k.id ∙ own)
-
-from_runs : (uuid : ℕ) (source : DatabaseValue) (chosen : Choice) (run : SessionId) (p : PeerValue) (c : Call) → IsFrom source chosen run c → Brings (IsRunFrom uuid run) (run-stays uuid run) p c
-from_runs uuid source chosen run p (Load doc) from = absurd from
-from_runs uuid source chosen run p (Edit id parent deleted body) from = absurd from
-from_runs uuid source chosen run p (Begin session beginning at) from = absurd from
-from_runs uuid source chosen run p (Append session window) from = λ s _ _ _ h. h
-from_runs uuid source chosen run p (Settle session parcel) from = tt
-from_runs uuid source chosen run p (Stop session parcel settled) from = tt
-from_runs uuid source chosen run p (Record session at) from = tt
-from_runs uuid source chosen run p (Conclude session at) from = tt
-
--- the session that began alone has its id
-begun_from : (source target : PeerValue) (plan : Plan) → begins_answer source target plan ≡ Ok tt → (s : SessionValue) → Among s (after_begins source target plan).sessions → IsRunFrom source.db.uuid plan.session s
-begun_from source target plan ok s m own =
-    let b = beginning_between source target plan.chosen in
-    let new = new_session plan.session b plan.at in
-    let is : after_begins source target plan ≡ record target { sessions = new ∷ target.sessions } = ap (begun target new) ok in
-    elim (subst (λ (q : PeerValue). Among s q.sessions) is m) [
-      | inl e ↦ ap (λ (x : SessionValue). x.rep.source) e
-      | inr o ↦ absurd (both_ways _ (fresh_of source target plan ok) (any_from (is_of plan.session) s target.sessions o (eq-eqb s.id.0 plan.session.0 (ap (λ (i : SessionId). i.0) own))))
-    ]
-
 -- ---- the target as another source's
 
--- a call of a run stores windows for the run's session alone, and that isn't one of the other source's replications
-third_brings : (third target : PeerValue) (uuid : ℕ) (source : DatabaseValue) (chosen : Choice) (run : SessionId) (other : Choice) (c : Call) → third.db.uuid ≢ uuid → ((s : SessionValue) → Among s target.sessions → IsRunFrom uuid run s) → IsFrom source chosen run c
-    → Brings (TiedAt third.db target (rep_between third target other)) (tied-stays third.db target (rep_between third target other)) target c
-third_brings third target uuid source chosen run other (Load doc) apart runs from = absurd from
-third_brings third target uuid source chosen run other (Edit id parent deleted body) apart runs from = absurd from
-third_brings third target uuid source chosen run other (Begin session beginning at) apart runs from = absurd from
-third_brings third target uuid source chosen run other (Append session window) apart runs from =
-    λ s m own _ h.
-    tied-more third.db target (rep_between third target other) window s
-    (λ r _. absurd (apart (sym (ap (λ (x : RepId). x.source) r) ∙ runs s m (own ∙ from.0))))
-    h
-third_brings third target uuid source chosen run other (Settle session parcel) apart runs from = tt
-third_brings third target uuid source chosen run other (Stop session parcel settled) apart runs from = tt
-third_brings third target uuid source chosen run other (Record session at) apart runs from = tt
-third_brings third target uuid source chosen run other (Conclude session at) apart runs from = tt
-
-third_calls : (refuses : Document → Bool) (third : PeerValue) (uuid : ℕ) (source : DatabaseValue) (chosen : Choice) (run : SessionId) (other : Choice) (calls : List Call) (target : PeerValue) → third.db.uuid ≢ uuid → LawfulDatabase source → LawfulSessions refuses target
-    → ((s : SessionValue) → Among s target.sessions → IsRunFrom uuid run s) → AllFrom source chosen run calls → IsTiedPair third target other → IsTiedPair third (after_calls refuses target calls) other
-third_calls refuses third uuid source chosen run other [] target apart law l runs from h = h
-third_calls refuses third uuid source chosen run other (c ∷ calls) target apart law l runs from h =
-    let k = call_law refuses source chosen run target c law from.0 l in
-    third_calls refuses third uuid source chosen run other calls (after_call refuses target c) apart law k.0
-    (call_keeps (IsRunFrom uuid run) (run-stays uuid run) refuses target c (from_runs uuid source chosen run target c from.0) runs) from.1
-    (tied_call refuses third target other c (third_brings third target uuid source chosen run other c apart runs from.0) k.1 h)
-
+-- a run stores windows for its own session alone, and that isn't one of the other source's replications
 third_begun : (refuses : Document → Bool) (third source target : PeerValue) (plan : Plan) (other : Choice) → third.db.uuid ≢ source.db.uuid → IsTiedPair third target other → IsTiedPair third (after_begins source target plan) other
 third_begun refuses third source target plan other apart h =
     let b = beginning_between source target plan.chosen in
@@ -174,9 +78,8 @@ beside_pair : (refuses : Document → Bool) (third source target : PeerValue) (p
     → IsTiedPair third target other → IsTiedPair third now other
 beside_pair refuses third source target plan now other apart law l (inl same) h = subst (λ (p : PeerValue). IsTiedPair third p other) (sym same) h
 beside_pair refuses third source target plan now other apart law l (inr left) h =
-    subst (λ (p : PeerValue). IsTiedPair third p other) (sym left.1.2)
-    (third_calls refuses third source.db.uuid source.db plan.chosen plan.session other left.1.0 (after_begins source target plan) apart law (begun_law refuses source target plan l).0 (begun_from source target plan left.0) left.1.1
-    (third_begun refuses third source target plan other apart h))
+    tied_grown refuses source.db plan.chosen plan.session third other law (λ _ _ same _. absurd (apart (sym same))) (after_begins source target plan) now (begun_law refuses source target plan l).0 (begun_runs source target plan left.0) left.1
+    (third_begun refuses third source target plan other apart h)
 
 -- ---- the source as another target's: its log of the other replication stays
 

@@ -18,8 +18,9 @@ use Rattle.repl_peer.specs.session.Settling.{settle_docs, settled_before, settle
 use Rattle.repl_target.specs.replication.Replication.{begins_answer, after_begins, beginning_between}
 use Rattle.repl_peer.specs.peer.Law.{LawfulSessions}
 use Rattle.repl_peer.proofs.lemmas.peer.LaterPeers.{session_found}
-use Rattle.repl_target.proofs.lemmas.replication.SourceFeedStored.{found-is}
-use Rattle.repl_peer.proofs.lemmas.session.SettlingKeepsLaw.{settle_told, documents_settle}
+use Rattle.repl_target.proofs.lemmas.replication.RunsConcluded.{found-is}
+use Rattle.repl_peer.proofs.lemmas.session.Changes.{settle_told}
+use Rattle.repl_peer.proofs.lemmas.session.SettlingDocuments.{grows}
 use Rattle.repl_peer.proofs.lemmas.session.SettlingChecks.{check_refused}
 use Rattle.repl_target.proofs.lemmas.ties.SettlingTakes.{read-docs}
 use Rattle.repl_peer.specs.session.ReadCounts.{read_of, read_in, taken}
@@ -95,8 +96,8 @@ module _ (refuses : Document → Bool) (p : PeerValue) (id : SessionId) (l : Law
   some_read s w docs n is within q e =
       let held = session_found p.sessions id s is in
       let z = settle_docs refuses w (settling_of p s) (take n docs) in
-      let h = documents_settle refuses p s w (take n docs) held.0 l in
-      let now : read_in (with_settling p z).sessions id ≡ z.session.counts.read = ap read_of (swap_some id s z.session p.sessions (ap (λ (i : SessionId). i.0) h.keeps.id ∙ held.1) is) in
+      let h = grows refuses w (settling_of p s) (take n docs) in
+      let now : read_in (with_settling p z).sessions id ≡ z.session.counts.read = ap read_of (swap_some id s z.session p.sessions (ap (λ (i : SessionId). i.0) h.id ∙ held.1) is) in
       let read = read-docs refuses w n (settling_of p s) docs within in
       let was : read_in p.sessions id ≡ s.counts.read = ap read_of is in
       let at : read_in q.sessions id ≡ read_in (with_settling p z).sessions id = ap (λ (x : PeerValue). read_in x.sessions id) e in
@@ -108,8 +109,8 @@ module _ (refuses : Document → Bool) (p : PeerValue) (id : SessionId) (l : Law
   all_read s w parcel is all q e =
       let held = session_found p.sessions id s is in
       let z = settle_docs refuses w (settling_of p s) parcel.docs in
-      let h = documents_settle refuses p s w parcel.docs held.0 l in
-      let number : z.session.id.0 ≡ id.0 = ap (λ (i : SessionId). i.0) h.keeps.id ∙ held.1 in
+      let h = grows refuses w (settling_of p s) parcel.docs in
+      let number : z.session.id.0 ≡ id.0 = ap (λ (i : SessionId). i.0) h.id ∙ held.1 in
       let there : session_in (with_settling p z).sessions id ≡ Some z.session = swap_some id s z.session p.sessions number is in
       let read : z.session.counts.read ≡ s.counts.read + length parcel.docs =
       ap (λ ds. (settle_docs refuses w (settling_of p s) ds).session.counts.read) (sym (take-length parcel.docs)) ∙ read-docs refuses w (length parcel.docs) (settling_of p s) parcel.docs (omega (arith, all)) in

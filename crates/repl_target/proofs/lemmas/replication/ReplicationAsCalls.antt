@@ -1,6 +1,6 @@
 -- A replication by one thread is calls on the target whose messages are what the source answers.
-use Rattle.std.proofs.Common.{◌≡◌, ℕ, min, zero, suc, ◌⊎◌, ◌==◌, ◌≤◌, Bool, true, List, [], ◌∷◌, ◌++◌, Option, Some, None, Result, Ok, Err, IfOk, OnOk, take, length, refl, sym, ap, ◌∙◌, subst, inl, inr, arith}
-use Rattle.std.proofs.lemmas.Bool.{and_parts, cond-true, cond-false, both_ways, eq-eqb, ne_eqb, leb-true, ltb-true}
+use Rattle.std.proofs.Common.{◌≡◌, ℕ, min, zero, suc, ◌⊎◌, ◌==◌, ◌≤◌, Bool, true, cond, List, [], ◌∷◌, ◌++◌, Option, Some, None, Result, Ok, Err, is_ok, IfOk, OnOk, take, length, refl, sym, ap, ◌∙◌, subst, inl, inr, arith}
+use Rattle.std.proofs.lemmas.Bool.{cond_both, false≢true, and_parts, cond-true, cond-false, both_ways, eq-eqb, ne_eqb, leb-true, ltb-true}
 use Rattle.std.proofs.Math.Nat.{min-eq_left}
 use Rattle.std.specs.declared.alloc.AllocError.{AllocError}
 use Rattle.rev_tree.specs.declared.origin.SessionId.{SessionId}
@@ -22,20 +22,19 @@ use Rattle.repl_peer.specs.session.Sessions.{new_session, begun, after_append, c
 use Rattle.repl_peer.specs.session.Settling.{settle_check, settling_of, settled_before, after_all, after_documents, after_front, after_stop, settled_at, after_settle, SettlesAt, Settles, SettleGives, stopped_at}
 use Rattle.repl_peer.specs.logs.Checkpoint.{rep_between}
 use Rattle.repl_target.specs.Audit.{audit_answer, CoversFeed}
-use Rattle.repl_target.specs.replication.Replication.{Reading, is_batch, plan_answer, beginning_between, begins_answer, after_begins, next_window, parcel_for, Carries, WindowRefused, Reads, ReadsAll, ReadsUntil, is_due, first_reading, closed, closed_as, PutsOver, Replicates, not_planned, no_memory, not_begun, cut, ended, IsReported}
+use Rattle.repl_target.specs.replication.Replication.{Reading, is_batch, beginning_between, begins_answer, after_begins, next_window, parcel_for, Carries, WindowRefused, Reads, ReadsAll, ReadsUntil, is_due, first_reading, closed, closed_as, PutsOver, plan_answer, Replicates, cut, ended, IsReported}
 use Rattle.repl_target.proofs.lemmas.replication.BegunSessions.{fresh_of}
 use Rattle.couch_base.specs.ListLaws.{some_is, none_some}
 use Rattle.couch_base.specs.MemberLaws.{any_from}
 use Rattle.repl_target.specs.replication.Calls.{Call, Append, Settle, Stop, Record, Conclude, after_call, after_calls, after_some, most_settled, settled_of, IsPageOf, IsFrom, AllFrom, IsGrown, IsLeft}
 use Rattle.repl_peer.specs.peer.Backups.{BackupValue}
-use Rattle.repl_target.specs.ties.Ties.{IsTiedPair, IsTiedWith}
+use Rattle.repl_target.specs.ties.Ties.{IsTiedWindow, IsTiedPair, IsTiedWith}
 use Rattle.repl_target.specs.replication.Leaves.{IsPut}
 use Rattle.repl_peer.specs.peer.Later.{IsLaterPeer}
 use Rattle.repl_log.specs.Entry.{EntryValue}
 use Rattle.repl_peer.proofs.lemmas.peer.LaterPeers.{IsLaterPeer-same, IsLaterPeer-later, session_found}
 use Rattle.repl_peer.proofs.lemmas.peer.CallsKeepLaw.{begin_law, begin_later}
-use Rattle.repl_target.proofs.lemmas.replication.SourceFeedStored.{planned_batch}
-use Rattle.repl_target.proofs.lemmas.replication.CallLaws.{calls_law, IsRunOf}
+use Rattle.repl_target.proofs.lemmas.replication.CallLaws.{page_window, grown_law, IsRunOf}
 use Rattle.repl_target.proofs.lemmas.ties.TiedPeersCover.{session_reached, start_small, tied_none}
 use Rattle.repl_target.proofs.lemmas.ties.TiedPeersStay.{backups-later, backups-source, tied_grown, tied_begun, puts_tied, sent_entry}
 
@@ -201,21 +200,26 @@ module _ (refuses : Document → Bool) (source : DatabaseValue) (plan : Plan) (b
 
 -- ---- a replication
 
--- a target where all windows were read and the session was closed has grown since it began
-pub ended_grown : (refuses : Document → Bool) (source target : PeerValue) (plan : Plan) (read target' : PeerValue) → plan_answer source.db.uuid target.db.uuid plan ≡ Ok tt → ReadsAll refuses source.db plan (first_reading source target plan) read → target' ≡ closed read plan
-    → IsGrown refuses source.db plan.chosen plan.session (after_begins source target plan) target'
-ended_grown refuses source target plan read target' planned reads is =
-    let batch = planned_batch source target plan planned in
-    grown-later refuses source.db plan.chosen plan.session (after_begins source target plan) read target' (all_grown refuses source.db plan batch (first_reading source target plan) read reads) (closed_grown refuses source.db plan batch read target' is)
+pub planned_batch : (source target : PeerValue) (plan : Plan) → plan_answer source.db.uuid target.db.uuid plan ≡ Ok tt → is_batch plan.batch ≡ true
+planned_batch source target plan h =
+    cond_both (is_batch plan.batch) (cond (source.db.uuid == target.db.uuid) (Err faults.SamePeer) (Ok tt)) (Err faults.BadBatch) (λ (r : Result (Unit {0}) TargetFault). r ≡ Ok tt → is_batch plan.batch ≡ true)
+    (λ e _. e) (λ _ k. absurd (false≢true (ap is_ok k))) h
+
+module _ (refuses : Document → Bool) (source target : PeerValue) (plan : Plan) (read : PeerValue) (planned : plan_answer source.db.uuid target.db.uuid plan ≡ Ok tt) (reads : ReadsAll refuses source.db plan (first_reading source target plan) read) where
+  pub read_grown : IsGrown refuses source.db plan.chosen plan.session (after_begins source target plan) read
+  read_grown = all_grown refuses source.db plan (planned_batch source target plan planned) (first_reading source target plan) read reads
+
+  pub ended_grown : (target' : PeerValue) → target' ≡ closed read plan → IsGrown refuses source.db plan.chosen plan.session (after_begins source target plan) target'
+  ended_grown target' is =
+      grown-later refuses source.db plan.chosen plan.session (after_begins source target plan) read target' read_grown (closed_grown refuses source.db plan (planned_batch source target plan planned) read target' is)
 
 -- what a replication by one thread leaves of its target
 pub replicates_left : (refuses : Document → Bool) (source target : PeerValue) (plan : Plan) (result : Result Report TargetFault) (source' target' : PeerValue) → Replicates refuses source target plan result source' target' → IsLeft refuses source target plan target'
-replicates_left refuses source target plan result source' target' (not_planned h) = inl refl
-replicates_left refuses source target plan result source' target' (no_memory h) = inl refl
-replicates_left refuses source target plan result source' target' (not_begun h k) = inl refl
 replicates_left refuses source target plan result source' target' (cut planned begun reads) =
     inr (begun, until_grown refuses source.db plan (planned_batch source target plan planned) (first_reading source target plan) _ target' reads)
-replicates_left refuses source target plan result source' target' (ended read planned begun reads closes) = inr (begun, ended_grown refuses source target plan read target' planned reads closes.at_target)
+replicates_left refuses source target plan result source' target' (ended read planned begun reads closes) =
+    inr (begun, ended_grown refuses source target plan read planned reads target' closes.at_target)
+replicates_left refuses source target plan result source' target' other = inl refl
 
 -- the law and what covers, from a target to where it is left
 pub begun_law : (refuses : Document → Bool) (source target : PeerValue) (plan : Plan) → LawfulSessions refuses target → LawfulSessions refuses (after_begins source target plan) × IsLaterPeer target (after_begins source target plan)
@@ -230,17 +234,17 @@ left_law refuses source target plan now law l (inl same) = subst (λ (p : PeerVa
 left_law refuses source target plan now law l (inr grown) =
     let p = after_begins source target plan in
     let b = begun_law refuses source target plan l in
-    let k = calls_law refuses source.db plan.chosen plan.session grown.1.0 p law grown.1.1 b.0 in
-    subst (λ (q : PeerValue). LawfulSessions refuses q × IsLaterPeer target q) (sym grown.1.2) (k.0, IsLaterPeer-later target p (after_calls refuses p grown.1.0) b.1 k.1)
+    let k = grown_law refuses source.db plan.chosen plan.session p now law grown.1 b.0 in
+    (k.0, IsLaterPeer-later target p now b.1 k.1)
 
 -- the session that began alone has its id
-begun_runs : (source target : PeerValue) (plan : Plan) → begins_answer source target plan ≡ Ok tt → (s : SessionValue) → Among s (after_begins source target plan).sessions → IsRunOf plan.session plan.chosen s
+pub begun_runs : (source target : PeerValue) (plan : Plan) → begins_answer source target plan ≡ Ok tt → (s : SessionValue) → Among s (after_begins source target plan).sessions → IsRunOf plan.session source.db.uuid plan.chosen s
 begun_runs source target plan ok s m own =
     let b = beginning_between source target plan.chosen in
     let new = new_session plan.session b plan.at in
     let is : after_begins source target plan ≡ record target { sessions = new ∷ target.sessions } = ap (begun target new) ok in
     elim (subst (λ (q : PeerValue). Among s q.sessions) is m) [
-      | inl e ↦ ap (λ (x : SessionValue). x.rep.chosen) e
+      | inl e ↦ (ap (λ (x : SessionValue). x.rep.source) e, ap (λ (x : SessionValue). x.rep.chosen) e)
       | inr o ↦ absurd (both_ways _ (fresh_of source target plan ok) (any_from (is_of plan.session) s target.sessions o (eq-eqb s.id.0 plan.session.0 (ap (λ (i : SessionId). i.0) own))))
     ]
 
@@ -248,7 +252,8 @@ begun_runs source target plan ok s m own =
 pub left_tied : (refuses : Document → Bool) (source target : PeerValue) (plan : Plan) (now : PeerValue) (other : Choice) → LawfulDatabase source.db → LawfulSessions refuses target → IsLeft refuses source target plan now → IsTiedPair source target other → IsTiedPair source now other
 left_tied refuses source target plan now other law l (inl same) h = subst (λ (p : PeerValue). IsTiedPair source p other) (sym same) h
 left_tied refuses source target plan now other law l (inr grown) h =
-    tied_grown refuses source (after_begins source target plan) now plan.chosen plan.session other law (begun_law refuses source target plan l).0 (begun_runs source target plan grown.0) grown.1
+    tied_grown refuses source.db plan.chosen plan.session source other law (λ w page _ same. subst (λ (x : Choice). IsTiedWindow source.db x w) same (page_window source.db plan.chosen w law page).2) (after_begins source target plan) now (begun_law refuses source target plan l).0
+    (begun_runs source target plan grown.0) grown.1
     (tied_begun refuses source target plan other l h)
 
 -- ---- both sides
@@ -259,11 +264,8 @@ puts_over source target plan entry (Ok done) source' told h = inr (entry, sent_e
 puts_over source target plan entry (Err refused) source' told h = inl h
 
 pub replicates_puts : (refuses : Document → Bool) (source target : PeerValue) (plan : Plan) (result : Result Report TargetFault) (source' target' : PeerValue) → Replicates refuses source target plan result source' target' → IsPut source target' plan.chosen source'
-replicates_puts refuses source target plan result source' target' (not_planned h) = inl refl
-replicates_puts refuses source target plan result source' target' (no_memory h) = inl refl
-replicates_puts refuses source target plan result source' target' (not_begun h k) = inl refl
-replicates_puts refuses source target plan result source' target' (cut planned begun reads) = inl refl
 replicates_puts refuses source target plan result source' target' (ended read planned begun reads closes) = puts_over source target' plan closes.entry closes.put source' closes.told closes.at_source
+replicates_puts refuses source target plan result source' target' other = inl refl
 
 -- both peers stay tied, with each copy of the source, whichever choice is looked at
 pub both_tied : (refuses : Document → Bool) (source target : PeerValue) (plan : Plan) (source' now : PeerValue) → LawfulDatabase source.db → LawfulSessions refuses target → IsLeft refuses source target plan now → IsPut source now plan.chosen source' → source'.db ≡ source.db
@@ -302,13 +304,10 @@ reported_whole refuses source target plan target' report law l l' begun grown ti
 
 pub replicates_whole : (refuses : Document → Bool) (source target : PeerValue) (plan : Plan) (result : Result Report TargetFault) (source' target' : PeerValue) → LawfulDatabase source.db → LawfulSessions refuses target → LawfulSessions refuses target'
     → Replicates refuses source target plan result source' target' → IsTiedPair source target plan.chosen → IfOk result (λ report. IsReported source target target' plan report → CoversFeed source target' plan.chosen source.db.update_seq)
-replicates_whole refuses source target plan result source' target' law l l' (not_planned h) tied = tt
-replicates_whole refuses source target plan result source' target' law l l' (no_memory h) tied = tt
-replicates_whole refuses source target plan result source' target' law l l' (not_begun h k) tied = tt
-replicates_whole refuses source target plan result source' target' law l l' (cut planned begun reads) tied = tt
-replicates_whole refuses source target plan (Err why) source' target' law l l' (ended read planned begun reads closes) tied = tt
 replicates_whole refuses source target plan (Ok report) source' target' law l l' (ended read planned begun reads closes) tied =
-    reported_whole refuses source target plan target' report law l l' begun (ended_grown refuses source target plan read target' planned reads closes.at_target) tied
+    let grown = ended_grown refuses source target plan read planned reads target' closes.at_target in
+    reported_whole refuses source target plan target' report law l l' begun grown tied
+replicates_whole refuses source target plan result source' target' law l l' other tied = tt
 
 -- so an audit of what comes back is clean, whichever choice is looked at
 pub tied_clean : (refuses : Document → Bool) (source target source' target' : PeerValue) → LawfulSessions refuses target' → ((chosen : Choice) (backups : List BackupValue) → IsTiedWith backups source target chosen → IsTiedWith backups source' target' chosen)

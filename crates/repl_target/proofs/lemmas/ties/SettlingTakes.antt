@@ -1,6 +1,6 @@
 -- What a settling takes: each document, in the counts too; so a parcel of a session's own window covers it.
 use Rattle.std.proofs.Common.{◌≡◌, ◌⊎◌, ℕ, zero, suc, ◌+◌, ◌≤◌, ◌&&◌, Bool, true, false, cond, not, List, [], ◌∷◌, Option, Some, None, Result, Ok, Err, take, length, refl, sym, ap, ◌∙◌, subst, inl, inr, arith}
-use Rattle.std.specs.List.{find}
+use Rattle.std.specs.List.{find, list_all}
 use Rattle.std.specs.Option.{option_map, option_or}
 use Rattle.std.specs.Str.{bytes_eq}
 use Rattle.std.proofs.lemmas.Bool.{and_from, cond_both, both_ways, or_left, or_right, cases_Bool}
@@ -22,12 +22,13 @@ use Rattle.repl_peer.specs.declared.fault.TargetFault.{TargetFault}
 use Rattle.repl_peer.specs.declared.fault.TargetFault.TheVariants as faults
 use Rattle.repl_peer.specs.peer.Peer.{PeerValue, SessionValue, RefusedValue, written_of, with_session}
 use Rattle.repl_peer.specs.peer.Covered.{refusal_of, in_ledger, covers, unknown_in, first_unknown}
-use Rattle.repl_peer.specs.session.Settling.{Settling, settle_as, settle_one, settle_docs, stops_as, stops_at, settled_before, is_full, settle_check, settling_of, with_settling, after_documents, after_all, Settles, SettleGives, is_uncovered}
+use Rattle.repl_peer.specs.session.Settling.{Settling, settle_as, settle_one, settle_docs, stops_as, stops_at, settled_before, is_full, has_row, settle_check, settling_of, with_settling, after_documents, after_all, Settles, SettleGives, is_uncovered}
 use Rattle.repl_peer.specs.peer.Law.{LawfulSessions}
 use Rattle.couch_base.specs.MemberLaws.{Among-left, Among-last, any_from}
 use Rattle.repl_peer.proofs.lemmas.peer.LaterPeers.{covers-later, one_session}
 use Rattle.repl_peer.proofs.lemmas.session.SettlingChecks.{check_refused}
-use Rattle.repl_peer.proofs.lemmas.session.SettlingKeepsLaw.{SettlesLawfully, documents_settle, settle_told, mark_law}
+use Rattle.repl_peer.proofs.lemmas.session.Changes.{Walked, settle_told}
+use Rattle.repl_peer.proofs.lemmas.session.SettlingKeepsLaw.{StaysLawful, documents_law, mark_law}
 use Rattle.repl_peer.proofs.lemmas.session.WindowsFollow.{windows-consecutive, window-above, one_window}
 use Rattle.repl_target.specs.ties.Ties.{IsTiedParcel}
 use Rattle.repl_target.proofs.lemmas.ties.TiedMessages.{brought}
@@ -105,24 +106,24 @@ checked : (p : PeerValue) (id : SessionId) (parcel : ParcelValue) (fault : Targe
 checked p id parcel fault h = check_refused (λ why. is_uncovered (Err why) ≡ false) p id parcel fault refl refl refl refl h
 
 -- a leaf of the own window, after all documents
-leaf_covered : (refuses : Document → Bool) (p : PeerValue) (s : SessionValue) (w : WindowValue) (parcel : ParcelValue) → LawfulSessions refuses p → Among s p.sessions → IsTiedParcel p.db w parcel → IsParcel parcel → settled_before refuses w (settling_of p s) parcel.docs ≡ length parcel.docs
+leaf_covered : (refuses : Document → Bool) (p : PeerValue) (s : SessionValue) (w : WindowValue) (parcel : ParcelValue) → LawfulSessions refuses p → Among s p.sessions → Among w s.windows → list_all (has_row w) parcel.docs ≡ true → IsTiedParcel p.db w parcel → IsParcel parcel → settled_before refuses w (settling_of p s) parcel.docs ≡ length parcel.docs
     → (row : RowValue) → Among row w.rows → (leaf : RevId) → Among leaf row.leaves → covers (after_documents refuses p s w parcel.docs) row.id leaf ≡ true
 unfolding IsTaken
-leaf_covered refuses p s w parcel l m tied law all row n leaf k =
+leaf_covered refuses p s w parcel l m own rows tied law all row n leaf k =
     let z = settle_docs refuses w (settling_of p s) parcel.docs in
     let q = with_settling p z in
-    let h = documents_settle refuses p s w parcel.docs m l in
+    let h = documents_law refuses p s w parcel.docs m own rows l in
     elim (cases_Bool (has (tree_of p.db.docs row.id) leaf)) [
-      | inl there ↦ or_left _ _ (h.later.db.has row.id leaf there)
+      | inl there ↦ or_left _ _ (h.kept.1.db.has row.id leaf there)
       | inr lacks ↦
           let asks = tied.asked.whole row.id leaf (row, n, refl, k) lacks in
           let d = brought parcel law tied.gone row.id leaf asks in
           taken_covers z q h d.0 (all_taken refuses w (settling_of p s) parcel.docs (omega (arith, all)) d.0 d.1) d.2 d.3
     ]
   where
-    taken_covers : (z : Settling) (q : PeerValue) → SettlesLawfully refuses p s z → (d : Document) → IsTaken z.session d → d.id ≡ row.id → is_among leaf d.ancestry ≡ true → covers (with_settling p z) row.id leaf ≡ true
+    taken_covers : (z : Settling) (q : PeerValue) → Walked (λ x _. StaysLawful refuses p x) p s z → (d : Document) → IsTaken z.session d → d.id ≡ row.id → is_among leaf d.ancestry ≡ true → covers (with_settling p z) row.id leaf ≡ true
     taken_covers z q h d taken same holds =
-        let own = h.lawful.sessions z.session h.held in
+        let own = h.kept.0.sessions z.session h.held in
         elim taken [
           | inl arrived ↦ or_left _ _ (ap (λ i. has (tree_of z.db.docs i) leaf) (sym same) ∙ own.arrivals (written_of d) arrived leaf holds)
           | inr refused ↦
@@ -151,9 +152,9 @@ own_covered refuses p s w parcel l m n tied law (Err (faults.Uncovered seq id re
         let is : w ≡ at.1 = one_window at.0.front.start at.0.windows w at.1 at.1.hi follows there told.stored (omega (arith, lo, range)) (omega (arith, hi)) range (omega arith) in
         let q1 = after_documents refuses p at.0 at.1 parcel.docs in
         let z = settle_docs refuses at.1 (settling_of p at.0) parcel.docs in
-        let settled = documents_settle refuses p at.0 at.1 parcel.docs told.held l in
-        let later = (mark_law refuses q1 z.session at.1 parcel settled.held (settled.keeps.windows at.1 told.stored) settled.lawful).1 in
+        let settled = documents_law refuses p at.0 at.1 parcel.docs told.held told.stored told.rows l in
+        let later = mark_law refuses q1 z.session at.1 parcel settled.held (subst (Among at.1) (sym settled.windows) told.stored) settled.kept.0 in
         let known = all_known (covers q) at.1.rows (λ row i leaf k. subst (λ (x : PeerValue). covers x row.id leaf ≡ true) (sym h.0.peer)
-        (covers-later q1 (after_all refuses p at.0 at.1 parcel) later row.id leaf (leaf_covered refuses p at.0 at.1 parcel l told.held (subst (λ v. IsTiedParcel p.db v parcel) is tied) law h.0.all row i leaf k))) in
+        (covers-later q1 (after_all refuses p at.0 at.1 parcel) later row.id leaf (leaf_covered refuses p at.0 at.1 parcel l told.held told.stored told.rows (subst (λ v. IsTiedParcel p.db v parcel) is tied) law h.0.all row i leaf k))) in
         absurd (none_some _ (sym known ∙ h.1))
 own_covered refuses p s w parcel l m n tied law (Err fault) q gives = refl

@@ -22,7 +22,7 @@ use Rattle.repl_log.specs.Logs.{log_in, logs_with, put_answer_in}
 use Rattle.repl_peer.specs.logs.Logs.{source_log, as_log_answers, put_by, put_entry_answer, after_put_entry}
 use Rattle.repl_peer.specs.session.Sessions.{new_session, with_window, session_answer, found_answer}
 use Rattle.repl_target.specs.ties.Ties.{IsTiedWindow, IsReached, IsTiedSession, IsTiedEntry, AreTiedEntries, IsTiedPair, AreTiedBackups, IsSentEntry}
-use Rattle.repl_target.specs.replication.Calls.{Call, Load, Edit, Begin, Append, Settle, Stop, Record, Conclude, after_call, after_calls, IsFrom, AllFrom, IsGrown}
+use Rattle.repl_target.specs.replication.Calls.{Call, Begin, after_call, IsPageOf, IsGrown}
 use Rattle.repl_peer.specs.declared.fault.TargetFault.{TargetFault}
 use Rattle.repl_peer.specs.declared.fault.TargetFault.TheVariants as faults
 use Rattle.repl_target.specs.replication.Replication.{beginning_between, start_between, after_begins}
@@ -32,7 +32,10 @@ use Rattle.repl_peer.proofs.lemmas.peer.LaterPeers.{covers-later, session_found}
 use Rattle.repl_log.specs.RepIdLaws.{same_rep-is}
 use Rattle.repl_peer.proofs.lemmas.peer.CallsKeepLaw.{begin_later}
 use Rattle.repl_target.proofs.lemmas.ties.TiedPages.{chosen_member, in_chosen, IsTiedWindow-later}
-use Rattle.repl_target.proofs.lemmas.replication.CallLaws.{Stays, Brings, call_law, call_keeps, page_window, IsRunOf, call_runs}
+use Rattle.repl_peer.proofs.lemmas.session.Changes.{changed, after_change, KeptByChanges}
+use Rattle.repl_peer.proofs.lemmas.session.SettlingKeepsLaw.{change_law}
+use Rattle.repl_target.proofs.lemmas.replication.FetchedDocuments.{of_run, run_keeps}
+use Rattle.repl_target.proofs.lemmas.replication.CallLaws.{Stays, Brings, call_keeps, each-with, each-changed, each-kept, run_windows, IsRunOf, run-stays}
 use Rattle.repl_target.proofs.lemmas.ties.TiedPeersCover.{session_reached, start_reached}
 
 -- ---- a later target
@@ -95,50 +98,49 @@ tied-more db p rep w s tied h = λ r.
 pub tied-new : (db : DatabaseValue) (p : PeerValue) (rep : RepId) (id : SessionId) (b : Beginning) (at : ℕ) → b.life ≤ db.life → (b.rep ≡ rep → b.life ≡ db.life → IsReached rep.chosen db p b.start) → TiedAt db p rep (new_session id b at)
 tied-new db p rep id b at under reach = λ r. record { life = under; windows = λ e w m. absurd m; start = reach r }
 
+-- two peers stay tied where the target becomes a later one, whose sessions are so
+pair_later : (source p q : PeerValue) (chosen : Choice) → IsLaterPeer p q → ((s : SessionValue) → Among s q.sessions → TiedAt source.db p (rep_between source p chosen) s) → IsTiedPair source p chosen → IsTiedPair source q chosen
+pair_later source p q chosen later each h =
+    let rep = rep_between source p chosen in
+    let same = rep_later source p q chosen later in
+    record {
+      sessions = λ s m r. session-later chosen source.db p q s later (each s m (r ∙ sym same));
+      log = subst (λ (x : RepId). AreTiedEntries source.db q x (source_log source x)) same (λ e m. entry-later source.db p q rep e later (h.log e m));
+    }
+
 pub tied_call : (refuses : Document → Bool) (source target : PeerValue) (chosen : Choice) (c : Call) → Brings (TiedAt source.db target (rep_between source target chosen)) (tied-stays source.db target (rep_between source target chosen)) target c → IsLaterPeer target (after_call refuses target c)
     → IsTiedPair source target chosen → IsTiedPair source (after_call refuses target c) chosen
 tied_call refuses source target chosen c brings later h =
     let rep = rep_between source target chosen in
-    let q = after_call refuses target c in
-    let each = call_keeps (TiedAt source.db target rep) (tied-stays source.db target rep) refuses target c brings h.sessions in
-    let same = rep_later source target q chosen later in
-    record {
-      sessions = λ s m r. session-later chosen source.db target q s later (each s m (r ∙ sym same));
-      log = subst (λ (x : RepId). AreTiedEntries source.db q x (source_log source x)) same (λ e m. entry-later source.db target q rep e later (h.log e m));
-    }
+    pair_later source target (after_call refuses target c) chosen later (call_keeps (TiedAt source.db target rep) (tied-stays source.db target rep) refuses target c brings h.sessions) h
 
--- a call of a run, whose messages are the source's: it stores windows of the run's choice for the run's session alone,
--- and whichever other choice is looked at, these aren't of it
-from_tied : (source target : PeerValue) (chosen : Choice) (run : SessionId) (other : Choice) (c : Call) → LawfulDatabase source.db → ((s : SessionValue) → Among s target.sessions → IsRunOf run chosen s) → IsFrom source.db chosen run c
-    → Brings (TiedAt source.db target (rep_between source target other)) (tied-stays source.db target (rep_between source target other)) target c
-from_tied source target chosen run other (Load doc) law runs from = absurd from
-from_tied source target chosen run other (Edit id parent deleted body) law runs from = absurd from
-from_tied source target chosen run other (Begin session beginning at) law runs from = absurd from
-from_tied source target chosen run other (Append session window) law runs from =
-    λ s m own _ h.
-    tied-more source.db target (rep_between source target other) window s
-    (λ r _.
-    let same : chosen ≡ other = sym (runs s m (own ∙ from.0)) ∙ ap (λ (x : RepId). x.chosen) r in
-    subst (λ (x : Choice). IsTiedWindow source.db x window) same (page_window source.db chosen window law from.1).2)
-    h
-from_tied source target chosen run other (Settle session parcel) law runs from = tt
-from_tied source target chosen run other (Stop session parcel settled) law runs from = tt
-from_tied source target chosen run other (Record session at) law runs from = tt
-from_tied source target chosen run other (Conclude session at) law runs from = tt
+-- a target that grows by what a source answers to a run, and any peer that it is tied to, whichever choice is looked at:
+-- the windows that it stores are for the run's session alone, and fit, or aren't of this pair's replication
+module _ (refuses : Document → Bool) (source : DatabaseValue) (chosen : Choice) (run : SessionId) (peer : PeerValue) (other : Choice) (law : LawfulDatabase source)
+    (fits : (w : WindowValue) → IsPageOf source chosen w → source.uuid ≡ peer.db.uuid → chosen ≡ other → IsTiedWindow peer.db other w) where
+  record Grows (p : PeerValue) : Type 0 where
+    lawful : LawfulSessions refuses p
+    runs : (s : SessionValue) → Among s p.sessions → IsRunOf run source.uuid chosen s
+    tied : IsTiedPair peer p other
 
-tied_calls : (refuses : Document → Bool) (source : PeerValue) (chosen : Choice) (run : SessionId) (other : Choice) (calls : List Call) (target : PeerValue) → LawfulDatabase source.db → LawfulSessions refuses target
-    → ((s : SessionValue) → Among s target.sessions → IsRunOf run chosen s) → AllFrom source.db chosen run calls → IsTiedPair source target other → IsTiedPair source (after_calls refuses target calls) other
-tied_calls refuses source chosen run other [] target law l runs from h = h
-tied_calls refuses source chosen run other (c ∷ calls) target law l runs from h =
-    let k = call_law refuses source.db chosen run target c law from.0 l in
-    tied_calls refuses source chosen run other calls (after_call refuses target c) law k.0 (call_runs refuses source.db chosen run target c from.0 runs) from.1
-    (tied_call refuses source target other c (from_tied source target chosen run other c law runs from.0) k.1 h)
+  grows : KeptByChanges refuses (of_run source chosen run) (λ p _. Grows p)
+  grows p s c m may h =
+      let Of = of_run source chosen run in
+      let rep = rep_between peer p other in
+      let k = change_law refuses Of (run_windows source chosen run law) p s c m may h.lawful in
+      let more = λ (w : WindowValue) (from : (s.id ≡ run) × IsPageOf source chosen w) (life : w.life ≡ s.life) (t : TiedAt peer.db p rep s). tied-more peer.db p rep w s (λ r _.
+      let own = h.runs s m from.0 in
+      fits w from.1 (sym own.0 ∙ ap (λ (x : RepId). x.source) r) (sym own.1 ∙ ap (λ (x : RepId). x.chosen) r)) t in
+      let own = each-changed (TiedAt peer.db p rep) (tied-stays peer.db p rep) refuses Of p s c may more (h.tied.sessions s m) in
+      record {
+        lawful = k.0;
+        runs = each-kept (IsRunOf run source.uuid chosen) (run-stays run source.uuid chosen) refuses Of (λ _ _ _ _ r. r) p s c m may h.runs;
+        tied = pair_later peer p (after_change p s c) other k.1 (each-with (TiedAt peer.db p rep) (tied-stays peer.db p rep) p.sessions (changed s c) own h.tied.sessions) h.tied;
+      }
 
--- two peers stay tied while the target grows by what the source answers to a run, whichever choice is looked at
-pub tied_grown : (refuses : Document → Bool) (source given now : PeerValue) (chosen : Choice) (run : SessionId) (other : Choice) → LawfulDatabase source.db → LawfulSessions refuses given → ((s : SessionValue) → Among s given.sessions → IsRunOf run chosen s)
-    → IsGrown refuses source.db chosen run given now → IsTiedPair source given other → IsTiedPair source now other
-tied_grown refuses source given now chosen run other law l runs grown h =
-    subst (λ (p : PeerValue). IsTiedPair source p other) (sym grown.2) (tied_calls refuses source chosen run other grown.0 given law l runs grown.1 h)
+  -- the two stay tied meanwhile
+  pub tied_grown : (given now : PeerValue) → LawfulSessions refuses given → ((s : SessionValue) → Among s given.sessions → IsRunOf run source.uuid chosen s) → IsGrown refuses source chosen run given now → IsTiedPair peer given other → IsTiedPair peer now other
+  tied_grown given now l runs grown h = (run_keeps refuses source chosen run Grows grows given now grown (record { lawful = l; runs = runs; tied = h })).tied
 
 -- and where a replication begins its session
 pub tied_begun : (refuses : Document → Bool) (source target : PeerValue) (plan : Plan) (other : Choice) → LawfulSessions refuses target → IsTiedPair source target other → IsTiedPair source (after_begins source target plan) other

@@ -2,7 +2,7 @@ use Rattle.std.proofs.Common.{Err, sym, ap, ◌∙◌, subst}
 use Rattle.std.proofs.lemmas.Result.{err_from_is_err_and}
 use Rattle.repl_target.specs.replication.Replication.{Reading, ReadsAll, ReadsUntil}
 use Rattle.repl_target.proofs.lemmas.replication.EmptyTargetCopied.{all-copied}
-use Rattle.repl_target.proofs.lemmas.replication.SourceFeedStored.{refused_plan, refused_begin, cut_short, ended_all, all-found, all-covered, all-reported}
+use Rattle.repl_target.proofs.lemmas.replication.RunsConcluded.{refused_plan, refused_begin, cut_short, ended_all, all-found, all-covered, all-reported}
 use Rattle.repl_target.proofs.replication.carry_all.Goals as goal
 
 pub returns-in_err-check_peers-clause-replicates : goal.returns-in_err-check_peers-clause-replicates
@@ -48,17 +48,17 @@ pub returns-clause-covered : goal.returns-clause-covered
 returns-clause-covered g c =
     let from : Reading = record { since = c.in_ok-start.start; target = c.begin_plan.new.target.1 } in
     let begun = c.in_ok-start.ensures.ok in
-    all-covered (g.G.WriteFilter.refuses c.begin_plan.new.target.0) c.args.source.now.1 c.args.target.now.1 c.args.plan.now from _ _ _ _
+    all-covered (g.G.WriteFilter.refuses c.begin_plan.new.target.0) c.args.source.now.1 c.args.target.now.1 c.args.plan.now from _
     (record { planned = sym c.in_ok-check_peers.ensures; begun = begun.0; is = λ i. record { since = c.in_ok-start.ensures.start i; target = begun.1 i } })
-    c.in_ok-start.ensures.source_law c.in_ok-start.ensures.target_law.sessions c.in_ok-read_windows.ensures.ok c.close.ensures.closes
+    c.in_ok-start.ensures.source_law c.in_ok-start.ensures.target_law.sessions c.in_ok-read_windows.ensures.ok _ _ _ c.close.ensures.closes
 
 pub returns-clause-report : goal.returns-clause-report
 returns-clause-report g c =
     let from : Reading = record { since = c.in_ok-start.start; target = c.begin_plan.new.target.1 } in
     let begun = c.in_ok-start.ensures.ok in
-    all-reported (g.G.WriteFilter.refuses c.begin_plan.new.target.0) c.args.source.now.1 c.args.target.now.1 c.args.plan.now from _ _ _ _
+    all-reported (g.G.WriteFilter.refuses c.begin_plan.new.target.0) c.args.source.now.1 c.args.target.now.1 c.args.plan.now from _
     (record { planned = sym c.in_ok-check_peers.ensures; begun = begun.0; is = λ i. record { since = c.in_ok-start.ensures.start i; target = begun.1 i } })
-    c.in_ok-start.ensures.source_law c.in_ok-start.ensures.target_law.sessions c.in_ok-read_windows.ensures.ok c.close.ensures.closes
+    c.in_ok-start.ensures.source_law c.in_ok-start.ensures.target_law.sessions c.in_ok-read_windows.ensures.ok _ _ _ c.close.ensures.closes
 
 pub returns-clause-copied : goal.returns-clause-copied
 returns-clause-copied g c =

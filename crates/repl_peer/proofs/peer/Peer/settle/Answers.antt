@@ -1,20 +1,13 @@
 use Rattle.std.proofs.Common.{subst}
 use Rattle.repl_peer.specs.peer.Peer.{PeerValue}
 use Rattle.repl_peer.specs.session.Settling.{SettleGives}
-use Rattle.repl_peer.proofs.lemmas.session.SettlingKeepsLaw.{settle_law, settle_later}
-use Rattle.repl_peer.proofs.lemmas.peer.WritesStand.{stands_later}
-use Rattle.repl_peer.proofs.lemmas.peer.CallsKeepOrigins.{settle_origins}
+use Rattle.repl_peer.proofs.lemmas.peer.CallsKeepOrigins.{settle_lawful}
 use Rattle.repl_peer.proofs.peer.Peer.settle.Goals as goal
 
 pub invariant_of-self : goal.invariant_of-self
 invariant_of-self g c =
     let p : PeerValue = record { db = c.self.inside.db; locals = c.self.inside.locals.items; sessions = c.self.inside.sessions; outgoing = c.self.inside.outgoing } in
-    let q : PeerValue = record { db = c.settle_session.new.db; locals = c.self.inside.locals.items; sessions = c.settle_session.new.self; outgoing = c.self.inside.outgoing } in
-    record {
-      sessions = settle_law (g.F.WriteFilter.refuses c.self.inside.filter) p c.args.id c.args.parcel c.settle_session.result _ (c.settle_session.ensures p) c.self.invariant.sessions;
-      origins = settle_origins (g.F.WriteFilter.refuses c.self.inside.filter) p c.args.id c.args.parcel c.settle_session.result _ (c.settle_session.ensures p) c.self.invariant.sessions c.self.invariant.origins;
-      locals = λ a m. stands_later p.db q.db (settle_later (g.F.WriteFilter.refuses c.self.inside.filter) p c.args.id c.args.parcel c.settle_session.result q (c.settle_session.ensures p) c.self.invariant.sessions).db a (c.self.invariant.locals a m);
-    }
+    settle_lawful (g.F.WriteFilter.refuses c.self.inside.filter) p c.args.id c.self.invariant c.args.parcel c.settle_session.result _ (c.settle_session.ensures p)
 
 pub returns-clause-settles : goal.returns-clause-settles
 returns-clause-settles g c =
