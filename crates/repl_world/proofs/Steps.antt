@@ -360,24 +360,9 @@ happens_tied refuses w Crash l h = crash_step w h
 
 -- and one that found no memory
 pub cut_tied : (refuses : Document → Bool) (w : WorldValue) (step : Step) (now : WorldValue) → IsWorld refuses w → CutShort refuses w step now → Tied w → Tied now
-cut_tied refuses w (EditSource id parent deleted body) now l is h = subst Tied (sym is) h
-cut_tied refuses w (EditTarget id parent deleted body) now l is h = subst Tied (sym is) h
-cut_tied refuses w (LoadSource doc) now l is h = subst Tied (sym is) h
-cut_tied refuses w (ThirdParty doc) now l is h = subst Tied (sym is) h
-cut_tied refuses w ReadLog now l is h = subst Tied (sym is) h
-cut_tied refuses w (Begin session log goal at) now l is h = subst Tied (sym is) h
-cut_tied refuses w (Page since goal limit) now l is h = subst Tied (sym is) h
-cut_tied refuses w (Append session window) now l is h = subst Tied (sym is) h
-cut_tied refuses w (Diff window) now l is h = subst Tied (sym is) h
-cut_tied refuses w (Fetch asked) now l is h = subst Tied (sym is) h
 cut_tied refuses w (Settle session parcel) now l is h =
     elim is [
       | inl same ↦ subst Tied (sym same) h
       | inr stopped ↦ subst Tied (sym stopped.2) (stop_step refuses w session stopped.0 (slice_get w.bag.parcels parcel) l h)
     ]
-cut_tied refuses w (Record session at) now l is h = subst Tied (sym is) h
-cut_tied refuses w (Conclude session at) now l is h = subst Tied (sym is) h
-cut_tied refuses w (PutEntry entry) now l is h = subst Tied (sym is) h
-cut_tied refuses w Backup now l is h = subst Tied (sym is) h
-cut_tied refuses w (Restore backup) now l is h = subst Tied (sym is) h
-cut_tied refuses w Crash now l is h = subst Tied (sym is) h
+cut_tied refuses w step now l is h = subst Tied (sym is) h

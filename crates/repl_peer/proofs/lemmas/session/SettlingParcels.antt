@@ -39,26 +39,7 @@ ended_err refuses known w before db mid t parcel n leaves asked (faults.Stopped 
           (subst (λ (l : List Document). Reached refuses w before parcel.docs m l (record { db = db; session = mid })) (sym e.1) here),
       halts_end refuses w before (record { db = db; session = mid }) parcel.docs m here,
     )
-ended_err refuses known w before db mid t parcel n leaves asked (faults.Stopped m rest causes.SeqFull) h e = absurd e
-ended_err refuses known w before db mid t parcel n leaves asked faults.SessionExists h e = absurd e
-ended_err refuses known w before db mid t parcel n leaves asked faults.NoSuchBase h e = absurd e
-ended_err refuses known w before db mid t parcel n leaves asked (faults.StartAboveBase r) h e = absurd e
-ended_err refuses known w before db mid t parcel n leaves asked faults.GoalBelowStart h e = absurd e
-ended_err refuses known w before db mid t parcel n leaves asked faults.NoSuchSession h e = absurd e
-ended_err refuses known w before db mid t parcel n leaves asked (faults.OtherLife now) h e = absurd e
-ended_err refuses known w before db mid t parcel n leaves asked faults.IsTarget h e = absurd e
-ended_err refuses known w before db mid t parcel n leaves asked faults.ForeignBackup h e = absurd e
-ended_err refuses known w before db mid t parcel n leaves asked faults.LifeFull h e = absurd e
-ended_err refuses known w before db mid t parcel n leaves asked (faults.Gap r) h e = absurd e
-ended_err refuses known w before db mid t parcel n leaves asked faults.PastGoal h e = absurd e
-ended_err refuses known w before db mid t parcel n leaves asked faults.ForeignParcel h e = absurd e
-ended_err refuses known w before db mid t parcel n leaves asked faults.AlreadyDone h e = absurd e
-ended_err refuses known w before db mid t parcel n leaves asked faults.CountFull h e = absurd e
-ended_err refuses known w before db mid t parcel n leaves asked (faults.Unfinished r) h e = absurd e
-ended_err refuses known w before db mid t parcel n leaves asked (faults.Older r) h e = absurd e
-ended_err refuses known w before db mid t parcel n leaves asked faults.BadBatch h e = absurd e
-ended_err refuses known w before db mid t parcel n leaves asked faults.SamePeer h e = absurd e
-ended_err refuses known w before db mid t parcel n leaves asked faults.Memory h e = absurd e
+ended_err refuses known w before db mid t parcel n leaves asked fault h e = absurd e
 
 pub ended_ok : (refuses : Document → Bool) (known : Id → RevId → Bool) (w : WindowValue) (before : Settling) (db : DatabaseValue) (mid t : SessionValue) (parcel : ParcelValue) (n leaves asked : ℕ) (settled : Settled) (tell : Unit {0})
     → Reached refuses w before parcel.docs n [] (record { db = db; session = mid }) → Marks known w mid leaves asked n (Ok tell) t

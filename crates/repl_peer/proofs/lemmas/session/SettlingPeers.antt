@@ -114,25 +114,7 @@ module _ (refuses : Document → Bool) (known : Id → RevId → Bool) (p : Peer
       sym (cond-false (covers_window documents w) (record documents { sessions = with_session documents.sessions (with_done w parcel z.session) }) documents missing) in
       (record { all = h.0.all; peer = q ∙ whole }, ap (λ k. first_unknown k w.rows) (sym (agreed known (with_settling p after) agrees)) ∙ h.1)
   settles_at (Err (faults.Stopped n rest cause)) after agrees h = (record { within = h.0.within; rest = h.0.rest; peer = ap (with_settling p) h.0.settling }, h.1)
-  settles_at (Err faults.SessionExists) after agrees h = absurd h
-  settles_at (Err faults.NoSuchBase) after agrees h = absurd h
-  settles_at (Err (faults.StartAboveBase r)) after agrees h = absurd h
-  settles_at (Err faults.GoalBelowStart) after agrees h = absurd h
-  settles_at (Err faults.NoSuchSession) after agrees h = absurd h
-  settles_at (Err (faults.OtherLife now)) after agrees h = absurd h
-  settles_at (Err faults.IsTarget) after agrees h = absurd h
-  settles_at (Err faults.ForeignBackup) after agrees h = absurd h
-  settles_at (Err faults.LifeFull) after agrees h = absurd h
-  settles_at (Err (faults.Gap r)) after agrees h = absurd h
-  settles_at (Err faults.PastGoal) after agrees h = absurd h
-  settles_at (Err faults.ForeignParcel) after agrees h = absurd h
-  settles_at (Err faults.AlreadyDone) after agrees h = absurd h
-  settles_at (Err faults.CountFull) after agrees h = absurd h
-  settles_at (Err (faults.Unfinished r)) after agrees h = absurd h
-  settles_at (Err (faults.Older r)) after agrees h = absurd h
-  settles_at (Err faults.BadBatch) after agrees h = absurd h
-  settles_at (Err faults.SamePeer) after agrees h = absurd h
-  settles_at (Err faults.Memory) after agrees h = absurd h
+  settles_at (Err fault) after agrees h = absurd h
 
 -- the session of the check is the one that is asked
 own_session : (s : SessionValue) (parcel : ParcelValue) (o : Option WindowValue) (at : SessionValue × WindowValue) → settle_at s parcel o ≡ Ok at → at.0 ≡ s
