@@ -1,7 +1,7 @@
 -- Chains of hops by a hub.
 use Rattle.std.proofs.Common.{◌≡◌, ℕ, zero, suc, ◌+◌, ◌<◌, ◌≤◌, List, [], ◌∷◌, ◌++◌, length, take, get_or, refl, sym, ap, ◌∙◌, subst, inl, inr, arith}
 use Rattle.std.proofs.lemmas.Bool.{cases_lt}
-use Rattle.std.proofs.lemmas.List.{append_assoc, append-nil}
+use Rattle.std.proofs.lemmas.List.{append_assoc}
 use Rattle.std.proofs.Math.Seq.{take-suc}
 use Rattle.couch_base.specs.Database.{Id}
 use Rattle.repl_peer.specs.peer.Peer.{PeerValue}
@@ -98,12 +98,6 @@ length-first (x ∷ plans) (suc k) h = ap suc (length-first plans k (omega (arit
 next_plan : (plans : List Plan) (k : ℕ) (plan : Plan) → k < length plans → plan ≡ get_or plans k plan → take (k + 1) plans ≡ take k plans ++ plan ∷ []
 next_plan plans k plan h is = (let e : k + 1 ≡ suc k = omega arith in ap (λ n. take n plans) e ∙ (take-suc plans k plan h ∙ ap (λ x. take k plans ++ x ∷ []) (sym is)))
 
-all_plans : (plans : List Plan) (k : ℕ) → length plans ≤ k → take k plans ≡ plans
-all_plans [] zero h = refl
-all_plans [] (suc k) h = refl
-all_plans (x ∷ plans) zero h = absurd (omega (arith, h))
-all_plans (x ∷ plans) (suc k) h = ap (λ ps. x ∷ ps) (all_plans plans k (omega (arith, h)))
-
 module _ (plans : List Plan) (k : ℕ) where
   pub gathers_next : (plan : Plan) (hops : List Hop) → k < length plans → plan ≡ get_or plans k plan → hops ≡ gathers 0 (take k plans) → hops ++ record { from = k + 1; to = 0; plan = plan } ∷ [] ≡ gathers 0 (take (k + 1) plans)
   gathers_next plan hops within is before =
@@ -120,9 +114,3 @@ module _ (plans : List Plan) (k : ℕ) where
       ∙ ap (λ hs. first ++ hs)
       (ap (λ (n : ℕ). spreads 0 (take k plans) ++ record { from = 0; to = n; plan = plan } ∷ []) e
       ∙ (sym (spreads_more (take k plans) 0 plan) ∙ ap (spreads 0) (sym (next_plan plans k plan within is)))))
-
-  pub gathers_all : (hops : List Hop) → length plans ≤ k → hops ≡ gathers 0 (take k plans) → hops ≡ gathers 0 plans ++ spreads 0 []
-  gathers_all hops over is = is ∙ (ap (gathers 0) (all_plans plans k over) ∙ sym (append-nil (gathers 0 plans)))
-
-  pub spreads_all : (first : List Hop) (hops : List Hop) → length plans ≤ k → hops ≡ first ++ spreads 0 (take k plans) → hops ≡ first ++ spreads 0 plans
-  spreads_all first hops over is = is ∙ ap (λ ps. first ++ spreads 0 ps) (all_plans plans k over)

@@ -196,10 +196,6 @@ module _ (peers : List PeerValue) (hop : Hop) (peers' : List PeerValue) (h : Hop
 
 -- ---- one behind the other
 
-pub all_tied : (hops : List Hop) (peers peers' : List PeerValue) → AllHopped peers hops peers' → AreTied peers → AreTied peers'
-all_tied [] peers peers' all net = subst AreTied (sym all) net
-all_tied (hop ∷ hops) peers peers' all net = all_tied hops all.0 peers' all.2 (hop_tied peers hop all.0 all.1.hopped net)
-
 all_law : (hops : List Hop) (peers peers' : List PeerValue) → AllHopped peers hops peers' → AllLawful peers → AllLawful peers'
 all_law [] peers peers' all law = subst AllLawful (sym all) law
 all_law (hop ∷ hops) peers peers' all law = all_law hops all.0 peers' all.2 (hop_law peers hop all.0 all.1.hopped law)

@@ -1,6 +1,6 @@
 -- Two peers of a slice that was split between them.
-use Rattle.std.proofs.Common.{◌≡◌, ◌≢◌, ℕ, zero, suc, ◌+◌, ◌<◌, ◌≤◌, Bool, List, [], ◌∷◌, ◌++◌, length, take, drop, slice_get, slice_set, get_or, option_map, Option, Some, None, is_some, unwrap_or, Result, Ok, Err, OnOk, refl, sym, ap, ◌∙◌, subst, inl, inr, arith}
-use Rattle.std.proofs.lemmas.Bool.{cases_lt, false≢true}
+use Rattle.std.proofs.Common.{◌≡◌, ◌≢◌, ℕ, zero, suc, ◌+◌, ◌<◌, ◌≤◌, Bool, List, [], ◌∷◌, ◌++◌, length, take, drop, slice_get, slice_set, get_or, option_map, Option, Some, unwrap_or, Result, Ok, Err, OnOk, refl, sym, ap, ◌∙◌, subst, inl, inr, arith}
+use Rattle.std.proofs.lemmas.Bool.{cases_lt}
 use Rattle.std.proofs.lemmas.Option.{slice_get-map, slice_get-get_or, slice_get_within}
 use Rattle.std.proofs.lemmas.List.{length-map}
 use Rattle.doc_json.specs.Document.{Document}
@@ -318,12 +318,6 @@ at_of {F = F} peers place p is =
 
 pub there_at : {F : Type 0} (peers : List (F × PeerValue)) (place : ℕ) (d : F × PeerValue) → place < length peers → IsAt (peers_of peers) place (get_or peers place d).1
 there_at peers place d within = at_of peers place (get_or peers place d) (slice_get-get_or peers place d within)
-
--- nobody is behind the last
-pub nobody_at : {X : Type 0} (xs : List X) (place : ℕ) → slice_get xs place ≡ None → length xs ≤ place
-nobody_at [] place e = omega arith
-nobody_at (x ∷ xs) zero e = absurd (false≢true (sym (ap is_some e)))
-nobody_at (x ∷ xs) (suc place) e = (let rest = nobody_at xs place e in omega (arith, rest))
 
 -- ---- all of a vector
 

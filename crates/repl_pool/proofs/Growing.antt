@@ -1,5 +1,5 @@
 -- What is kept of the target under the lock stays kept by each call.
-use Rattle.std.proofs.Common.{◌≡◌, ℕ, ◌+◌, ◌≤◌, Bool, Option, Some, Result, Ok, Err, IfSome, length, refl, sym, ap, ◌∙◌, subst, arith}
+use Rattle.std.proofs.Common.{◌≡◌, ℕ, ◌+◌, ◌≤◌, Bool, Option, Some, Result, Ok, Err, length, refl, sym, ap, ◌∙◌, subst, arith}
 use Rattle.std.proofs.lemmas.Option.{same_Some}
 use Rattle.rev_tree.specs.declared.origin.SessionId.{SessionId}
 use Rattle.doc_json.specs.Document.{Document}
@@ -16,9 +16,8 @@ use Rattle.repl_target.specs.declared.replication.Plan.{Plan}
 use Rattle.repl_target.specs.replication.Calls.{Call, Append, Record, IsFrom, after_call}
 use Rattle.repl_target.proofs.lemmas.replication.ReplicationAsCalls.{grown-same, grown-later, grown-one, settled_grown}
 use Rattle.repl_pool.specs.Grown.{IsAnswerOf, GrownPeer, TargetKeeps}
-use Rattle.repl_pool.specs.Paging.{IsNext, IsOneLess, KeepsPages, HasNoWindows, LetsStore}
-use Rattle.repl_pool.proofs.Paging.{next_page, starts_pages, lets_store, pages_record, pages_settle, pages_append}
-use Rattle.repl_target.specs.replication.Replication.{has_left}
+use Rattle.repl_pool.specs.Paging.{IsNext, IsOneLess, KeepsPages, HasNoWindows}
+use Rattle.repl_pool.proofs.Paging.{next_page, starts_pages, pages_record, pages_settle, pages_append}
 use Rattle.repl_peer.specs.session.Sessions.{GivesUnlessMemory, append_answer, after_append, after_record}
 use Rattle.repl_peer.specs.session.ReadCounts.{read_in, taken}
 use Rattle.repl_target.proofs.lemmas.replication.ReadCounts.{append_reads, record_reads, settle_reads}
@@ -85,12 +84,6 @@ module _ {F : Type 0} (refuses : F → Document → Bool) (source : DatabaseValu
   pub from_given : (given : F × PeerValue) (run : SessionId) (session : SessionId) (total : ℕ) (more : Option ℕ) (now : F × PeerValue) → TargetKeeps refuses source plan (Some (given, run)) session total more now → IsKnown given run total more now
   from_given given run session total more now h =
       subst (λ (x : (F × PeerValue) × SessionId). IsKnown x.0 x.1 total more now) (sym (same_Some (given, run) (h.0, session) h.1)) (h.2, h.3, h.4)
-
-  -- of the run's session the plan lets another window be stored, or not
-  pub given_lets : (given : Option ((F × PeerValue) × SessionId)) (session : SessionId) (total : ℕ) (more : Option ℕ) (now : F × PeerValue) (b : Bool) → TargetKeeps refuses source plan given session total more now → has_left more 0 ≡ b
-      → IfSome given (λ g. LetsStore plan g.1 b now.1.sessions)
-  given_lets given session total more now b h left =
-      subst (λ (o : Option ((F × PeerValue) × SessionId)). IfSome o (λ g. LetsStore plan g.1 b now.1.sessions)) (sym h.1) (lets_store source plan session more now.1.sessions b h.4 left)
 
 -- ---- no more documents are taken than a parcel has
 

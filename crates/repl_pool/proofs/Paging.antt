@@ -1,7 +1,6 @@
 -- The windows that a run's session stores are pages of the source.
-use Rattle.std.proofs.Common.{◌≡◌, ℕ, ◌+◌, ◌<◌, Bool, true, false, nat_lt, cond, List, [], ◌∷◌, ◌++◌, map, length, Option, Some, None, Result, Ok, is_ok, refl, sym, ap, ◌∙◌, subst, inl, inr, arith, length-append}
-use Rattle.std.proofs.lemmas.Bool.{and_parts, cond_both, false≢true, both_ways, eq-eqb, leb-true, lt-ltb, ltb-true}
-use Rattle.std.proofs.lemmas.Bool.Decides.{nat_tests}
+use Rattle.std.proofs.Common.{◌≡◌, ℕ, ◌+◌, Bool, true, false, cond, List, [], ◌∷◌, ◌++◌, map, length, Option, Some, None, Result, Ok, is_ok, refl, sym, ap, ◌∙◌, subst, inl, inr, arith, length-append}
+use Rattle.std.proofs.lemmas.Bool.{and_parts, cond_both, false≢true, both_ways, eq-eqb, leb-true}
 use Rattle.rev_tree.specs.declared.origin.SessionId.{SessionId}
 use Rattle.doc_json.specs.Document.{Document}
 use Rattle.couch_base.specs.Lists.{Among}
@@ -20,12 +19,12 @@ use Rattle.repl_peer.specs.session.Settling.{SettleGives, stopped_at}
 use Rattle.repl_peer.proofs.lemmas.peer.LaterPeers.{session_found}
 use Rattle.repl_target.specs.declared.replication.Plan.{Plan}
 use Rattle.repl_target.specs.replication.Calls.{Settle, Stop, Record, Conclude, IsPageOf, IsGrown}
-use Rattle.repl_target.specs.replication.Replication.{is_batch, begins_answer, after_begins, beginning_between, next_window, has_left, closed_as}
+use Rattle.repl_target.specs.replication.Replication.{begins_answer, after_begins, beginning_between, next_window, closed_as}
 use Rattle.repl_target.proofs.lemmas.replication.CallLaws.{Stays, call_keeps}
 use Rattle.repl_target.proofs.lemmas.replication.ReplicationAsCalls.{settle_left, settle_gives, settle_stops}
 use Rattle.repl_target.proofs.lemmas.replication.BegunSessions.{fresh_of, later_session}
 use Rattle.repl_target.proofs.lemmas.replication.RunsConcluded.{found-is}
-use Rattle.repl_pool.specs.Paging.{ArePages, AreAllowed, IsPaged, IsNext, AllowsMore, IsOneLess, HasPages, KeepsPages, HasNoWindows, LetsStore}
+use Rattle.repl_pool.specs.Paging.{ArePages, AreAllowed, IsPaged, IsNext, AllowsMore, IsOneLess, HasPages, KeepsPages, HasNoWindows}
 use Rattle.repl_pool.specs.Runs.{IsRecorded, stopped, fewer, refused, ClosesRun, concluded, recorded}
 use Rattle.repl_pool.specs.declared.fault.PoolFault.{PoolFault}
 
@@ -41,11 +40,6 @@ next_page source plan w n = record {
   within = omega arith;
   is = n.2;
 }
-
-pub page_next : (source : DatabaseValue) (plan : Plan) (since : ℕ) (w : WindowValue) → w ≡ next_window source plan since → is_batch plan.batch ≡ true → since < source.update_seq → IsNext source plan w
-page_next source plan since w is batch due =
-    let lo : w.lo ≡ since = ap (λ (x : WindowValue). x.lo) is in
-    (batch, omega (arith, lo, due), is ∙ ap (next_window source plan) (sym lo))
 
 -- ---- how many
 
@@ -65,16 +59,6 @@ allowed_of None n more h = tt
 allowed_of (Some stop_after) n None h = absurd h
 allowed_of (Some stop_after) n (Some m) h = omega (arith, h)
 
-lets_by : (o : Option ℕ) (n : ℕ) (more : Option ℕ) → AllowsMore o n more → has_left o n ≡ has_left more 0
-lets_by None n None h = refl
-lets_by None n (Some m) h = cc
-lets_by (Some stop_after) n None h = absurd h
-lets_by (Some stop_after) n (Some m) h = below (nat_lt 0 m) refl
-  where
-    below : (b : Bool) → nat_lt 0 m ≡ b → nat_lt n stop_after ≡ nat_lt 0 m
-    below true e = lt-ltb n stop_after (omega (arith, h, ltb-true 0 m e)) ∙ sym e
-    below false e = grind (arith, nat_tests, h, e)
-
 -- ---- a session's windows
 
 module _ (source : DatabaseValue) (plan : Plan) (run : SessionId) where
@@ -86,9 +70,6 @@ module _ (source : DatabaseValue) (plan : Plan) (run : SessionId) where
 
   pub starts_pages : (sessions : List SessionValue) → HasNoWindows run sessions → KeepsPages source plan run plan.stop_after sessions
   starts_pages sessions fresh s m own = subst (HasPages source plan plan.stop_after) (sym (fresh s m own)) (λ w n. absurd n, allowed_none plan.stop_after)
-
-  pub lets_store : (more : Option ℕ) (sessions : List SessionValue) (b : Bool) → KeepsPages source plan run more sessions → has_left more 0 ≡ b → LetsStore plan run b sessions
-  lets_store more sessions b h left s m own = lets_by plan.stop_after (length s.windows) more (h s m own).1 ∙ left
 
   -- a call that stores no window
   pub pages_record : (more : Option ℕ) (p : PeerValue) (at : ℕ) (q : PeerValue) → q ≡ after_record p run at → KeepsPages source plan run more p.sessions → KeepsPages source plan run more q.sessions

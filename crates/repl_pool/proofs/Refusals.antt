@@ -1,44 +1,22 @@
 -- What a worker's call on the target may be refused for.
-use Rattle.std.proofs.Common.{◌==◌, nat_lt, Bool, cond, Option, None, Some, Result, Ok, Err, IfErr, sym, subst}
+use Rattle.std.proofs.Common.{Bool, cond, Option, None, Some, Result, Ok, Err, IfErr, sym, subst}
 use Rattle.std.proofs.lemmas.Bool.{cond_both}
 use Rattle.std.specs.List.{list_all}
 use Rattle.rev_tree.specs.declared.origin.SessionId.{SessionId}
 use Rattle.doc_json.specs.Document.{Document}
 use Rattle.couch_base.specs.Feed.{WindowValue}
 use Rattle.couch_base.specs.Messages.{ParcelValue}
-use Rattle.range_front.specs.Front.{end_of, low_water, is_done}
+use Rattle.range_front.specs.Front.{low_water, is_done}
 use Rattle.repl_peer.specs.peer.Peer.{PeerValue, SessionValue, session_in}
-use Rattle.repl_peer.specs.session.Sessions.{GivesUnlessMemory, found_answer, next_in, append_in, append_answer, record_answer}
+use Rattle.repl_peer.specs.session.Sessions.{found_answer, record_answer}
 use Rattle.repl_peer.specs.session.Settling.{has_row, has_room, window_in, settle_at, settle_check, SettlesAt, Settles, SettleGives}
 use Rattle.repl_peer.specs.declared.fault.Settled.{Settled}
 use Rattle.repl_peer.specs.declared.fault.TargetFault.{TargetFault}
 use Rattle.repl_peer.specs.declared.fault.TargetFault.TheVariants as refusals
 use Rattle.repl_pool.specs.Faults.{IsStepFault}
 
--- ---- storing a window
-
 abbrev IsStep : {A : Type 0} → Result A TargetFault → Type 0
 IsStep r = IfErr r IsStepFault
-
-window_step : (w : WindowValue) (s : SessionValue) → IsStep (append_in w s)
-window_step w s =
-    cond_both (w.life == s.life) (next_in w s) (Err (refusals.OtherLife s.life)) IsStep
-    (λ _. cond_both (w.lo == end_of s.front) (cond (nat_lt s.goal w.hi) (Err refusals.PastGoal) (Ok tt)) (Err (refusals.Gap (end_of s.front))) IsStep
-    (λ _. cond_both (nat_lt s.goal w.hi) (Err refusals.PastGoal) (Ok tt) IsStep (λ _. tt) (λ _. tt))
-    (λ _. tt))
-    (λ _. tt)
-
-pub append_step : (p : PeerValue) (id : SessionId) (w : WindowValue) (r : Result (Unit {0}) TargetFault) → GivesUnlessMemory r (append_answer p id w) → IfErr r IsStepFault
-append_step p id w r h = told r (append_answer p id w) (answers (session_in p.sessions id)) h
-  where
-    answers : (o : Option SessionValue) → IsStep (found_answer (append_in w) o)
-    answers None = tt
-    answers (Some s) = window_step w s
-
-    told : (r e : Result (Unit {0}) TargetFault) → IsStep e → GivesUnlessMemory r e → IsStep r
-    told (Ok done) e k h = tt
-    told (Err refusals.Memory) e k h = tt
-    told (Err why) e k h = subst IsStep (sym h) k
 
 -- ---- recording
 

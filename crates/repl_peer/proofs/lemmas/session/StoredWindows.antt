@@ -5,7 +5,6 @@ use Rattle.std.proofs.lemmas.List.{length-map, get_or-map}
 use Rattle.std.proofs.lemmas.Option.{slice_get-map, slice_get_within}
 use Rattle.std.specs.Option.{option_map}
 use Rattle.std.specs.List.Sorted.{IsPartitionPoint}
-use Rattle.couch_base.specs.Lists.{Among}
 use Rattle.couch_base.specs.MemberLaws.{Among-push}
 use Rattle.couch_base.specs.ListLaws.{none_some, some_is}
 use Rattle.couch_base.specs.Feed.{WindowValue}
