@@ -33,6 +33,15 @@ abbrev pub IndexesMore : LedgerIndex → List RefusedValue → LedgerIndex → T
 IndexesMore old ledger new =
     (id : Id) (r : RevId) → is_ledgered new id r ≡ (is_ledgered old id r || in_ledger ledger id r)
 
+-- a session keeps its id and its replication, its ledger only grows, and an index that has the ledger has what is new
+-- in it
+pub record KeepsIndexed (old : SessionValue) (index : LedgerIndex) (new : SessionValue) (index' : LedgerIndex) : Type 0
+  where
+    pub id : new.id ≡ old.id
+    pub rep : new.rep ≡ old.rep
+    pub ledger : (i : Id) (r : RevId) → in_ledger old.ledger i r ≡ true → in_ledger new.ledger i r ≡ true
+    pub indexed : (base : LedgerIndex) → IndexesMore base old.ledger index → IndexesMore base new.ledger index'
+
 -- a place has a row of an id
 abbrev pub IsRowOf : List RowValue → Id → ℕ → Type 0
 IsRowOf rows id i = (row : RowValue) × (slice_get rows i ≡ Some row) × (bytes_eq row.id id ≡ true)

@@ -10,11 +10,11 @@ ghost use Rattle.couch_base.specs.Database.{Id, most};
 ghost use Rattle.couch_base.specs.Feed.{WindowValue};
 ghost use Rattle.couch_base.specs.Put.{after_put};
 ghost use Rattle.range_front.specs.Front.{finish_answer, is_done};
-ghost use Rattle.repl_peer.specs.peer.Covered.{refusal_of, in_ledger};
+ghost use Rattle.repl_peer.specs.peer.Covered.{refusal_of};
 ghost use Rattle.repl_peer.specs.declared.session.ledger_index.LedgerIndex.{LedgerIndex};
 ghost use Rattle.repl_peer.specs.session.LedgerIndex.{is_ledgered};
 ghost use Rattle.repl_peer.specs.session.Settling.{Halts, stops_in, has_row};
-ghost use Rattle.repl_peer.specs.session.SettlingParts.{PartsGive, Reached, Marks, Accepts, Rejects, Steps, Stuck, cause_at, IndexesMore, known_of, settling_at};
+ghost use Rattle.repl_peer.specs.session.SettlingParts.{PartsGive, Reached, Marks, Accepts, Rejects, Steps, Stuck, cause_at, IndexesMore, KeepsIndexed, known_of, settling_at};
 
 use crate::fault::{Cause, Reason, Settled, TargetFault};
 use crate::peer::filter::{Verdict, WriteFilter};
@@ -48,14 +48,7 @@ pub(crate) fn settle_parcel<F: WriteFilter>(
 ) -> Result<Settled, TargetFault>
     ensures gives { PartsGive (F.refuses filter.now) (known_of db.new ledgered.new)
         (settling_at db.old session.old) parcel result (settling_at db.new session.new) }
-    ensures id { session.new.id ≡ session.old.id }
-    ensures rep { session.new.rep ≡ session.old.rep }
-    ensures ledger { (i : Id) (r : RevId)
-        → in_ledger session.old.ledger i r ≡ true
-        → in_ledger session.new.ledger i r ≡ true }
-    ensures indexed { (base : LedgerIndex)
-        → IndexesMore base session.old.ledger ledgered.old
-        → IndexesMore base session.new.ledger ledgered.new }
+    ensures keeps { KeepsIndexed session.old ledgered.old session.new ledgered.new }
 {
     let checked = check(session, &parcel)?;
     let (_, mut docs, _) = parcel.into_parts();

@@ -185,7 +185,7 @@ change_stands : (refuses : Document → Bool) (Of : Source) (p : PeerValue) (s :
 change_stands refuses Of p s (Arrived window doc) m may later h = arrival_stands p s window doc m may.stored may.row later h
 change_stands refuses Of p s change m may later h = stands_same p (after_change p s change) later refl h
 
--- each call keeps the law and the origins
+-- each change keeps the peer's law: of its sessions, its origins and its local writes
 lawful_kept : (refuses : Document → Bool) → KeptByChanges refuses any (λ p _. Lawful refuses p)
 lawful_kept refuses p s c m may h =
     let k = change_law refuses any (λ _ _ w. w) p s c m may h.sessions in

@@ -21,7 +21,7 @@ use Rattle.repl_peer.specs.peer.Peer.{SessionValue, RefusedValue}
 use Rattle.repl_peer.specs.peer.Covered.{refusal_of, in_ledger}
 use Rattle.repl_peer.specs.session.LedgerIndex.{is_ledgered}
 use Rattle.repl_peer.specs.session.Settling.{Settling, is_full, settle_as, settle_one, settle_docs, Halts, stops_in, stops_at, settled_before, fed}
-use Rattle.repl_peer.specs.session.SettlingParts.{Accepts, Rejects, Stuck, IndexesMore, Reached, ReachedAll, cause_at, entered}
+use Rattle.repl_peer.specs.session.SettlingParts.{Accepts, Rejects, Stuck, IndexesMore, KeepsIndexed, Reached, ReachedAll, cause_at, entered}
 use Rattle.repl_peer.specs.declared.fault.Cause.{Cause}
 use Rattle.repl_peer.specs.declared.fault.Cause.TheVariants as causes
 use Rattle.repl_peer.specs.declared.fault.Reason.{Reason}
@@ -236,3 +236,19 @@ reached_left refuses w z after docs all left n m same count none h =
     subst (λ (l : List Document). Reached refuses w z l m [] after) same
     (subst (λ (l : List Document). Reached refuses w z docs m l after) none
     (subst (λ (k : ℕ). Reached refuses w z docs k left after) count h))
+
+-- what is kept while documents are settled
+pub keeps_reached : (refuses : Document → Bool) (w : WindowValue) (z after : Settling) (docs others : List Document) (n : ℕ) (index index' : LedgerIndex) → Reached refuses w z docs n others after
+    → ((base : LedgerIndex) → IndexesMore base z.session.ledger index → IndexesMore base after.session.ledger index') → KeepsIndexed z.session index after.session index'
+keeps_reached refuses w z after docs others n index index' h indexed =
+    let grown = grown_by refuses w z after docs others n h in
+    record { id = grown.id; rep = grown.rep; ledger = grown.ledger; indexed = indexed }
+
+-- and where the window is marked
+pub keeps_marked : (s mid t : SessionValue) (index index' : LedgerIndex) → KeepsIndexed s index mid index' → t.id ≡ mid.id → t.rep ≡ mid.rep → t.ledger ≡ mid.ledger → KeepsIndexed s index t index'
+keeps_marked s mid t index index' h id rep ledger = record {
+  id = id ∙ h.id;
+  rep = rep ∙ h.rep;
+  ledger = λ i r e. ap (λ (l : List RefusedValue). in_ledger l i r) ledger ∙ h.ledger i r e;
+  indexed = λ base e. subst (λ (l : List RefusedValue). IndexesMore base l index') (sym ledger) (h.indexed base e);
+}

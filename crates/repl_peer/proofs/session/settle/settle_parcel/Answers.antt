@@ -6,13 +6,12 @@ use Rattle.couch_base.specs.Feed.{WindowValue}
 use Rattle.couch_base.specs.Messages.{ParcelValue}
 use Rattle.std.specs.List.{list_all}
 use Rattle.range_front.specs.Front.{FrontValue, bounds, is_done, finish_answer}
-use Rattle.repl_peer.specs.peer.Covered.{in_ledger}
-use Rattle.repl_peer.specs.peer.Peer.{RefusedValue, SessionValue}
+use Rattle.repl_peer.specs.peer.Peer.{SessionValue}
 use Rattle.repl_peer.specs.peer.Law.{window_bounds}
 use Rattle.repl_peer.specs.session.Settling.{Halts, has_row}
-use Rattle.repl_peer.specs.session.SettlingParts.{IndexesMore, Reached, settling_at, known_of}
+use Rattle.repl_peer.specs.session.SettlingParts.{Reached, settling_at, known_of}
 use Rattle.repl_peer.proofs.lemmas.session.SettlingChecks.{passed_by, room_of, can_finish}
-use Rattle.repl_peer.proofs.lemmas.session.SettlingDocuments.{grown_by, reached_left}
+use Rattle.repl_peer.proofs.lemmas.session.SettlingDocuments.{grown_by, reached_left, keeps_reached, keeps_marked}
 use Rattle.repl_peer.proofs.lemmas.session.SettlingParcels.{gives_from, stopped, ended_err, ended_ok}
 use Rattle.repl_peer.proofs.session.settle.settle_parcel.Goals as goal
 
@@ -139,66 +138,19 @@ returns-clause-gives g c =
     (λ i. (ap (λ (s : SessionValue). s.counts.written) c.session-2.view_is ∙ c.mark_window.ensures.written) i - ap (λ (s : SessionValue). s.counts.written) c.session.view_is i)
     (λ i. (ap (λ (s : SessionValue). s.counts.failures) c.session-2.view_is ∙ c.mark_window.ensures.failures) i - ap (λ (s : SessionValue). s.counts.failures) c.session.view_is i))
 
-pub returns-in-Err-clause-ledger : goal.returns-in-Err-clause-ledger
-returns-in-Err-clause-ledger g c = λ i r there.
+pub returns-in-Err-clause-keeps : goal.returns-in-Err-clause-keeps
+returns-in-Err-clause-keeps g c =
     let p = c.in_ok-checked.ensures.ok in
-    let before = settling_at c.args.db.now c.args.session.now in
-    (grown_by _ _ before _ _ _ _ (c.settle_in_order-stop.ensures.reached p.window p.at)).ledger i r there
+    keeps_reached _ _ (settling_at c.args.db.now c.args.session.now) _ _ _ _ _ _ (c.settle_in_order-stop.ensures.reached p.window p.at) c.settle_in_order-stop.ensures.indexed
 
-pub returns-clause-ledger : goal.returns-clause-ledger
-returns-clause-ledger g c = λ i r there.
+pub returns-in-Err-mark_window-clause-keeps : goal.returns-in-Err-mark_window-clause-keeps
+returns-in-Err-mark_window-clause-keeps g c =
     let p = c.in_ok-checked.ensures.ok in
-    let before = settling_at c.args.db.now c.args.session.now in
-    ap (λ (l : List RefusedValue). in_ledger l i r) c.mark_window.ensures.ledger
-    ∙ (grown_by _ _ before _ _ _ _ (c.settle_in_order-stop.ensures.reached p.window p.at)).ledger i r there
+    keeps_marked _ _ _ _ _ (keeps_reached _ _ (settling_at c.args.db.now c.args.session.now) _ _ _ _ _ _ (c.settle_in_order-stop.ensures.reached p.window p.at) c.settle_in_order-stop.ensures.indexed)
+    c.mark_window.ensures.id c.mark_window.ensures.rep c.mark_window.ensures.ledger
 
-pub returns-in-Err-mark_window-clause-ledger : goal.returns-in-Err-mark_window-clause-ledger
-returns-in-Err-mark_window-clause-ledger g c = λ i r there.
+pub returns-clause-keeps : goal.returns-clause-keeps
+returns-clause-keeps g c =
     let p = c.in_ok-checked.ensures.ok in
-    let before = settling_at c.args.db.now c.args.session.now in
-    ap (λ (l : List RefusedValue). in_ledger l i r) c.mark_window.ensures.ledger
-    ∙ (grown_by _ _ before _ _ _ _ (c.settle_in_order-stop.ensures.reached p.window p.at)).ledger i r there
-
-pub returns-in-Err-clause-id : goal.returns-in-Err-clause-id
-returns-in-Err-clause-id g c =
-    let p = c.in_ok-checked.ensures.ok in
-    let before = settling_at c.args.db.now c.args.session.now in
-    (grown_by _ _ before _ _ _ _ (c.settle_in_order-stop.ensures.reached p.window p.at)).id
-
-pub returns-in-Err-mark_window-clause-id : goal.returns-in-Err-mark_window-clause-id
-returns-in-Err-mark_window-clause-id g c =
-    let p = c.in_ok-checked.ensures.ok in
-    let before = settling_at c.args.db.now c.args.session.now in
-    c.mark_window.ensures.id ∙ (grown_by _ _ before _ _ _ _ (c.settle_in_order-stop.ensures.reached p.window p.at)).id
-
-pub returns-clause-id : goal.returns-clause-id
-returns-clause-id g c =
-    let p = c.in_ok-checked.ensures.ok in
-    let before = settling_at c.args.db.now c.args.session.now in
-    c.mark_window.ensures.id ∙ (grown_by _ _ before _ _ _ _ (c.settle_in_order-stop.ensures.reached p.window p.at)).id
-
-pub returns-in-Err-mark_window-clause-indexed : goal.returns-in-Err-mark_window-clause-indexed
-returns-in-Err-mark_window-clause-indexed g c = λ base h.
-    subst (λ (l : List RefusedValue). IndexesMore base l c.settle_in_order-stop.new.ledgered) (sym c.mark_window.ensures.ledger) (c.settle_in_order-stop.ensures.indexed base h)
-
-pub returns-clause-indexed : goal.returns-clause-indexed
-returns-clause-indexed g c = λ base h.
-    subst (λ (l : List RefusedValue). IndexesMore base l c.settle_in_order-stop.new.ledgered) (sym c.mark_window.ensures.ledger) (c.settle_in_order-stop.ensures.indexed base h)
-
-pub returns-in-Err-clause-rep : goal.returns-in-Err-clause-rep
-returns-in-Err-clause-rep g c =
-    let p = c.in_ok-checked.ensures.ok in
-    let before = settling_at c.args.db.now c.args.session.now in
-    (grown_by _ _ before _ _ _ _ (c.settle_in_order-stop.ensures.reached p.window p.at)).rep
-
-pub returns-in-Err-mark_window-clause-rep : goal.returns-in-Err-mark_window-clause-rep
-returns-in-Err-mark_window-clause-rep g c =
-    let p = c.in_ok-checked.ensures.ok in
-    let before = settling_at c.args.db.now c.args.session.now in
-    c.mark_window.ensures.rep ∙ (grown_by _ _ before _ _ _ _ (c.settle_in_order-stop.ensures.reached p.window p.at)).rep
-
-pub returns-clause-rep : goal.returns-clause-rep
-returns-clause-rep g c =
-    let p = c.in_ok-checked.ensures.ok in
-    let before = settling_at c.args.db.now c.args.session.now in
-    c.mark_window.ensures.rep ∙ (grown_by _ _ before _ _ _ _ (c.settle_in_order-stop.ensures.reached p.window p.at)).rep
+    keeps_marked _ _ _ _ _ (keeps_reached _ _ (settling_at c.args.db.now c.args.session.now) _ _ _ _ _ _ (c.settle_in_order-stop.ensures.reached p.window p.at) c.settle_in_order-stop.ensures.indexed)
+    c.mark_window.ensures.id c.mark_window.ensures.rep c.mark_window.ensures.ledger

@@ -17,9 +17,9 @@ invariant_of-self-2 g c =
     let there = sym c.get_mut.ensures.value ∙ ap option_copied_mut c.in-Some.is in
     let set = (c.get_mut.follows.holds c.settle_parcel.new.session).0 in (
       subst (IsTableOf c.settle_parcel.new.ledgered) (sym set)
-          (Stored-more c.self.inside.ledgered c.self.inside.entries.entries c.self.invariant.0 c.args.id c.in-Some.session.now c.settle_parcel.new.session there c.settle_parcel.new.ledgered c.settle_parcel.ensures.id c.settle_parcel.ensures.ledger c.settle_parcel.ensures.indexed),
+          (Stored-more c.self.inside.ledgered c.self.inside.entries.entries c.self.invariant.0 c.args.id c.in-Some.session.now c.settle_parcel.new.session there c.settle_parcel.new.ledgered c.settle_parcel.ensures.keeps.id c.settle_parcel.ensures.keeps.ledger c.settle_parcel.ensures.keeps.indexed),
       subst (λ es. AreListed c.self.inside.by_rep (sessions_of es)) (sym set)
-          (listed-set c.self.inside.ledgered c.self.inside.by_rep c.self.inside.entries.entries c.self.invariant.0 c.args.id c.in-Some.session.now c.settle_parcel.new.session c.self.invariant.1 there c.settle_parcel.ensures.id c.settle_parcel.ensures.rep),
+          (listed-set c.self.inside.ledgered c.self.inside.by_rep c.self.inside.entries.entries c.self.invariant.0 c.args.id c.in-Some.session.now c.settle_parcel.new.session c.self.invariant.1 there c.settle_parcel.ensures.keeps.id c.settle_parcel.ensures.keeps.rep),
     )
 
 pub returns : goal.returns
@@ -29,8 +29,8 @@ returns g c = λ p.
     let t = c.settle_parcel.new.session in
     let there = sym c.get_mut.ensures.value ∙ ap option_copied_mut c.in-Some.is in
     let found = session_in-at c.self.inside.ledgered es c.self.invariant.0 c.args.id _ there in
-    let new = Stored-more c.self.inside.ledgered es c.self.invariant.0 c.args.id s t there c.settle_parcel.new.ledgered c.settle_parcel.ensures.id c.settle_parcel.ensures.ledger c.settle_parcel.ensures.indexed in
-    let set = sessions_of-set c.self.inside.ledgered es c.self.invariant.0 c.args.id s t there c.settle_parcel.ensures.id in
+    let new = Stored-more c.self.inside.ledgered es c.self.invariant.0 c.args.id s t there c.settle_parcel.new.ledgered c.settle_parcel.ensures.keeps.id c.settle_parcel.ensures.keeps.ledger c.settle_parcel.ensures.keeps.indexed in
+    let set = sessions_of-set c.self.inside.ledgered es c.self.invariant.0 c.args.id s t there c.settle_parcel.ensures.keeps.id in
     let table = ap sessions_of (c.get_mut.follows.holds t).0 ∙ set in
     let before : PeerValue = with_parts p c.args.db.now (sessions_of es) in
     let after : Settling = settling_at c.settle_parcel.new.db t in
