@@ -15,3 +15,4 @@ pub mod NewSeats
 pub mod RunLaws
 pub mod Syncing
 pub mod Walking
+pub mod Crews

@@ -11,3 +11,4 @@ pub mod Gathered
 pub mod Scopes
 pub mod Runs
 pub mod Sync
+pub mod Crews

@@ -9,6 +9,7 @@ ghost use Rattle.doc_json.specs.Chosen.{Choice};
 ghost use Rattle.repl_pool.specs.Grown.{GrownPeer};
 ghost use Rattle.repl_pool.specs.Paging.{HasNoWindows};
 ghost use Rattle.repl_pool.specs.Boards.{WorksAt, AreRisen, HaveRisenBy, MayFill, AreSeats, AreBack, HaveShown};
+ghost use Rattle.repl_pool.specs.Crews.{crew_of};
 ghost use Rattle.repl_pool.specs.Runs.{ClosesRun, EndsRun, RunsOn, Runs};
 
 use crate::begin::check_run;
@@ -62,12 +63,12 @@ struct Begun<F: WriteFilter> {
     crew: u64,
 }
 
-/// How many workers a crew has: as many as the plan has, and no more than there may be windows.
+/// How many workers a crew has: as many as the plan has, and no more than there may be windows; one where there is
+/// nothing to read.
 fn crew_of(plan: &Plan, start: u64, goal: u64) -> u64
     requires workers { 0 < plan.now.workers }
     requires batch { is_batch plan.now.batch ≡ true }
-    ensures some { 0 < result }
-    ensures most { result ≤ plan.now.workers }
+    ensures { result ≡ crew_of plan.now start goal }
 {
     if goal <= start {
         return 1;

@@ -7,17 +7,23 @@ use Rattle.repl_pool.proofs.Ending.{begun_held}
 use Rattle.repl_pool.proofs.Paging.{begun_fresh}
 use Rattle.repl_pool.specs.Boards.{MayFill}
 use Rattle.repl_pool.proofs.Boarding.{seats_seated, seats_fewer, back_same}
+use Rattle.repl_pool.proofs.Crews.{crew_some, crew_most}
 use Rattle.repl_pool.proofs.RunLaws.{Passes, passes, runs_early, runs_refused, runs_begun, shown_well}
 use Rattle.repl_pool.proofs.running.run_with.Goals as goal
 
 pub run_begun-requires-clause-workers : goal.run_begun-requires-clause-workers
 run_begun-requires-clause-workers g c κs within =
     let p : Passes c.args.plan.now = passes c.args.source.1 c.args.target.1 c.args.plan.now (sym c.check_run.ensures ∙ c.in_default.is) in
-    (c.new-blank.ensures, c.crew_of-crew.ensures.some, omega (arith, c.crew_of-crew.ensures.most, p.most))
+    let start = c.in-Ok.start in
+    let goal = c.update_seq.result in
+    let most = crew_most c.args.plan.now start goal c.crew_of-crew.result c.crew_of-crew.ensures p.some in
+    (c.new-blank.ensures, crew_some c.args.plan.now start goal c.crew_of-crew.result c.crew_of-crew.ensures p.some, omega (arith, most, p.most))
 
 pub run_begun-requires-clause-seats : goal.run_begun-requires-clause-seats
 run_begun-requires-clause-seats g c κs within =
-    seats_fewer (option_copied c.args.shows.board) c.crew_of-crew.result c.args.plan.now.workers c.args.shows.seats.items c.crew_of-crew.ensures.most c.requires.seats
+    let p : Passes c.args.plan.now = passes c.args.source.1 c.args.target.1 c.args.plan.now (sym c.check_run.ensures ∙ c.in_default.is) in
+    let most = crew_most c.args.plan.now c.in-Ok.start c.update_seq.result c.crew_of-crew.result c.crew_of-crew.ensures p.some in
+    seats_fewer (option_copied c.args.shows.board) c.crew_of-crew.result c.args.plan.now.workers c.args.shows.seats.items most c.requires.seats
 
 pub crew_of-crew-requires-clause-workers : goal.crew_of-crew-requires-clause-workers
 crew_of-crew-requires-clause-workers g c =
