@@ -1,6 +1,5 @@
 pub mod Keeping
 pub mod Kept
-pub mod PlainMembers
 pub mod BodyReads
 pub mod DocReads
 pub mod SigTexts
@@ -20,3 +19,8 @@ pub mod Outlines
 pub mod Integers
 pub mod Pushes
 pub mod QuotedTexts
+pub mod MembersLeft
+pub mod NoneKnown
+pub mod PlainPushes
+pub mod OwnedMembers
+pub mod Refusals

@@ -117,7 +117,7 @@ behind_if : (b : Bool) (k l : List ℕ) (d : Data) (ms : Members) → slice_cmp 
 behind_if true k l d ms less h = h
 behind_if false k l d ms less h = (less, h)
 
-behind_plain : (k : List ℕ) (ms : Members) → AllBehind k ms → AllBehind k (plain_members ms)
+pub behind_plain : (k : List ℕ) (ms : Members) → AllBehind k ms → AllBehind k (plain_members ms)
 behind_plain k no_members h = tt
 behind_plain k (member l d ms) h = behind_if (is_special l) k l d (plain_members ms) h.0 (behind_plain k ms h.1)
 

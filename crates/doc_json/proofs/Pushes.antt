@@ -14,3 +14,9 @@ pub member_pieces : (out comma name value left : List ℕ) {a b : List ℕ} → 
 member_pieces out comma name value left e f =
     ap (λ l. l ++ left) (f ∙ ap (λ l. l ++ value) e) ∙ append_assoc (out ++ (comma ++ (name ++ 58 ∷ []))) value left ∙ append_assoc out (comma ++ (name ++ 58 ∷ [])) (value ++ left)
     ∙ ap (λ l. out ++ l) (append_assoc comma (name ++ 58 ∷ []) (value ++ left) ∙ ap (λ l. comma ++ l) (append_assoc name (58 ∷ []) (value ++ left)))
+
+-- the same where nothing is left
+pub member_put : (out comma name value : List ℕ) {a b : List ℕ} → a ≡ out ++ (comma ++ (name ++ 58 ∷ [])) → b ≡ a ++ value → b ≡ out ++ (comma ++ (name ++ 58 ∷ value))
+member_put out comma name value e f =
+    f ∙ ap (λ l. l ++ value) e ∙ append_assoc out (comma ++ (name ++ 58 ∷ [])) value
+    ∙ ap (λ l. out ++ l) (append_assoc comma (name ++ 58 ∷ []) value ∙ ap (λ l. comma ++ l) (append_assoc name (58 ∷ []) value))

@@ -2,15 +2,21 @@
 ghost use Rattle.std.specs.Prelude.{◌≡◌, false, IfOk};
 ghost use Rattle.std.specs.Arc.{arc_slice_items};
 ghost use Rattle.serde_json.specs.Data.{object};
-ghost use Rattle.serde_json.specs.View.{view, members_view};
+ghost use Rattle.serde_json.specs.View.{view};
 ghost use Rattle.serde_json.specs.Written.{has_float, members_have_float};
+ghost use Rattle.json_values.specs.LineView.{line_view};
+ghost use Rattle.json_values.specs.Plain.{AreMembersPlain, ArePlain};
 ghost use Rattle.doc_json.specs.Answers.{GivesUnlessMemory};
 ghost use Rattle.doc_json.specs.Members.{plain_members};
 ghost use Rattle.doc_json.specs.Body.{body_read, body_text, IsWritten};
 
+use crate::compact::{plain_text, value_text};
 use crate::fault::DocFault;
-use crate::{compact, members};
-use serde_json::{Map, Value};
+use crate::json_value::JsonValue;
+use crate::members::has_special;
+use crate::owned_value::NONE_KNOWN;
+use json_values::{LinePart, PlainTexts};
+use serde_json::Value;
 use std::alloc::{AllocError, Global};
 use std::marker::Model;
 use std::sync::ArcSlice;
@@ -89,46 +95,87 @@ impl Body {
 pub fn read_body(alloc: Global, value: &Value) -> Result<Body, DocFault>
     ensures { GivesUnlessMemory result (body_read (view value.now)) }
 {
+    body_of(alloc, value, NONE_KNOWN)
+}
+
+/// The body that a line's JSON value is, as `read_body` reads one.
+///
+/// The first of these refusals is the answer: `NotObject` where it is no object; `SpecialMember` where it has
+/// a member that begins with `_`; `Fraction` where it holds, at any depth, a number that is neither an i64 nor
+/// a u64. `Memory` stands only in the place of a body.
+pub fn read_line_body(alloc: Global, part: &LinePart<'_, '_>) -> Result<Body, DocFault>
+    ensures { GivesUnlessMemory result (body_read (line_view part.now)) }
+{
+    body_of(alloc, part.value(), part.plain())
+}
+
+/// The body that a value is, of whose texts some are known to be plain.
+fn body_of<'v, V: JsonValue<'v>>(
+    alloc: Global,
+    value: &'v V,
+    plain: PlainTexts,
+) -> Result<Body, DocFault>
+where
+    V::Object: 'v,
+    requires order { V.in_order value.now }
+    requires plain { ArePlain plain (V.seen value.now) }
+    ensures { GivesUnlessMemory result (body_read (V.seen value.now)) }
+{
     let Some(members) = value.as_object() else {
         return Err(DocFault::NotObject);
     };
-    if members::has_special(members) {
+    if has_special::<V>(members) {
         return Err(DocFault::SpecialMember);
     }
-    if members::members_have_fraction(members) {
+    if value.has_fraction() {
         return Err(DocFault::Fraction);
     }
-    let text = match written(alloc, value) {
-        Ok(text) => text,
-        Err(refused) => return Err(DocFault::from(refused)),
-    };
+    let text = written(alloc, value, plain)?;
     Ok(Body::from_text(text))
 }
 
 /// The body of an object's members without a leading `_`.
-pub(crate) fn plain_body(alloc: Global, members: &Map<String, Value>) -> Result<Body, AllocError>
-    requires { members_have_float (plain_members (members_view members.now.entries)) ≡ false }
-    ensures body { IfOk result (λ b. b ≡ body_text (members_view members.now.entries)) }
+pub(crate) fn plain_body<'v, V: JsonValue<'v>>(
+    alloc: Global,
+    members: &'v V::Object,
+    plain: PlainTexts,
+) -> Result<Body, AllocError>
+    requires exact { members_have_float (plain_members (V.members_seen members.now)) ≡ false }
+    requires order { V.members_in_order members.now }
+    requires plain { AreMembersPlain plain (V.members_seen members.now) }
+    ensures body { IfOk result (λ b. b ≡ body_text (V.members_seen members.now)) }
 {
-    let text = plain_written(alloc, members)?;
+    let text = plain_written::<V>(alloc, members, plain)?;
     Ok(Body::from_text(text))
 }
 
 /// The compact text of an object's members without a leading `_`, to be shared.
-fn plain_written(alloc: Global, members: &Map<String, Value>) -> Result<ArcSlice<u8>, AllocError>
-    requires { members_have_float (plain_members (members_view members.now.entries)) ≡ false }
+fn plain_written<'v, V: JsonValue<'v>>(
+    alloc: Global,
+    members: &'v V::Object,
+    plain: PlainTexts,
+) -> Result<ArcSlice<u8>, AllocError>
+    requires exact { members_have_float (plain_members (V.members_seen members.now)) ≡ false }
+    requires order { V.members_in_order members.now }
+    requires plain { AreMembersPlain plain (V.members_seen members.now) }
     ensures { IfOk result
-        (λ v. IsWritten (arc_slice_items v) (object (plain_members (members_view members.now.entries)))) }
+        (λ v. IsWritten (arc_slice_items v) (object (plain_members (V.members_seen members.now)))) }
 {
-    let text = compact::plain_text(alloc, members)?;
+    let text = plain_text::<V>(alloc, members, plain)?;
     ArcSlice::from_vec(text)
 }
 
 /// The compact text of a value, to be shared.
-fn written(alloc: Global, value: &Value) -> Result<ArcSlice<u8>, AllocError>
-    requires { has_float (view value.now) ≡ false }
-    ensures { IfOk result (λ v. IsWritten (arc_slice_items v) (view value.now)) }
+fn written<'v, V: JsonValue<'v>>(
+    alloc: Global,
+    value: &'v V,
+    plain: PlainTexts,
+) -> Result<ArcSlice<u8>, AllocError>
+    requires exact { has_float (V.seen value.now) ≡ false }
+    requires order { V.in_order value.now }
+    requires plain { ArePlain plain (V.seen value.now) }
+    ensures { IfOk result (λ v. IsWritten (arc_slice_items v) (V.seen value.now)) }
 {
-    let text = compact::trimmed(value.to_vec(alloc)?);
+    let text = value_text(alloc, value, plain)?;
     ArcSlice::from_vec(text)
 }

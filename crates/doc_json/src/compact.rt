@@ -1,32 +1,55 @@
-//! The compact text of the members of an object, written from where they stand.
-ghost use Rattle.std.specs.Prelude.{◌≡◌, false, OnOk, IfOk};
-ghost use Rattle.serde_json.specs.Data.{number, object};
-ghost use Rattle.serde_json.specs.Find.{is_float};
-ghost use Rattle.serde_json.specs.View.{view, number_view, items_view, members_view};
-ghost use Rattle.serde_json.specs.Written.{has_float, items_have_float, members_have_float};
-ghost use Rattle.serde_json.specs.Written.{WritesValue, WritesItems, WritesMembers};
+//! The compact text of a value, or of an object's members, written from where they stand.
+ghost use Rattle.std.specs.Prelude.{◌≡◌, ◌++◌, ◌∷◌, true, false, OnOk, IfOk};
+ghost use Rattle.json.specs.Print.{quoted};
+ghost use Rattle.serde_json.specs.Data.{object};
+ghost use Rattle.serde_json.specs.Written.{has_float, members_have_float, comma_if, compact_text, members_text};
+ghost use Rattle.json_values.specs.LineOrder.{IsOrdered, IsInOrderOfNames};
+ghost use Rattle.json_values.specs.Plain.{AreMembersPlain, ArePlain, PlainIf};
+ghost use Rattle.doc_json.specs.DocId.{is_special};
 ghost use Rattle.doc_json.specs.Members.{plain_members};
+ghost use Rattle.doc_json.specs.Numbers.{AllReadBack, MembersReadBack};
 ghost use Rattle.doc_json.specs.Body.{IsWritten};
 
 use crate::doc_id::is_special;
-use json::Writer;
-use serde_json::{Map, Number, Value};
+use crate::json_value::JsonValue;
+use crate::text::push_name;
+use json_values::PlainTexts;
 use std::alloc::{AllocError, Global};
 
 /// The compact text of the object of the members without a leading `_`, in a buffer with fewer than 32 bytes to spare.
-pub(crate) fn plain_text(alloc: Global, members: &Map<String, Value>) -> Result<Vec<u8>, AllocError>
-    requires { members_have_float (plain_members (members_view members.now.entries)) ≡ false }
-    ensures { IfOk result
-        (λ v. IsWritten v.items (object (plain_members (members_view members.now.entries)))) }
+pub(crate) fn plain_text<'v, V: JsonValue<'v>>(
+    alloc: Global,
+    members: &'v V::Object,
+    plain: PlainTexts,
+) -> Result<Vec<u8>, AllocError>
+    requires exact { members_have_float (plain_members (V.members_seen members.now)) ≡ false }
+    requires order { V.members_in_order members.now }
+    requires plain { AreMembersPlain plain (V.members_seen members.now) }
+    ensures { IfOk result (λ v. IsWritten v.items (object (plain_members (V.members_seen members.now)))) }
 {
-    let mut out = Writer::new(Vec::with_capacity(alloc, 128)?);
-    out.begin_object()?;
-    write_plain(members, &mut out)?;
-    Ok(trimmed(out.into_inner()))
+    let mut out = Vec::with_capacity(alloc, 128)?;
+    push_plain::<V>(members, plain, &mut out)?;
+    Ok(trimmed(out))
+}
+
+/// The compact text of a value, in a buffer with fewer than 32 bytes to spare.
+pub(crate) fn value_text<'v, V: JsonValue<'v>>(
+    alloc: Global,
+    value: &'v V,
+    plain: PlainTexts,
+) -> Result<Vec<u8>, AllocError>
+    requires exact { has_float (V.seen value.now) ≡ false }
+    requires order { V.in_order value.now }
+    requires plain { ArePlain plain (V.seen value.now) }
+    ensures { IfOk result (λ v. IsWritten v.items (V.seen value.now)) }
+{
+    let mut out = Vec::with_capacity(alloc, 128)?;
+    value.push(plain, &mut out)?;
+    Ok(trimmed(out))
 }
 
 /// The text, in a buffer with fewer than 32 bytes to spare: so few would not come free as a block of their own.
-pub(crate) fn trimmed(text: Vec<u8>) -> Vec<u8>
+fn trimmed(text: Vec<u8>) -> Vec<u8>
     ensures { result.items ≡ text.items }
 {
     let mut text = text;
@@ -36,84 +59,54 @@ pub(crate) fn trimmed(text: Vec<u8>) -> Vec<u8>
     text
 }
 
-/// Writes the members without a leading `_`, and the end of their object.
-fn write_plain(members: &Map<String, Value>, out: &mut Writer) -> Result<(), AllocError>
-    requires { members_have_float (plain_members (members_view members.now.entries)) ≡ false }
-    ensures ok { OnOk result (WritesMembers (plain_members (members_view members.now.entries))
-        out.old.tokens out.new.tokens) }
-    ensures before { out.new.before ≡ out.old.before }
+/// The object of the members without a leading `_`.
+fn push_plain<'v, V: JsonValue<'v>>(
+    members: &'v V::Object,
+    plain: PlainTexts,
+    out: &mut Vec<u8>,
+) -> Result<(), AllocError>
+    requires exact { members_have_float (plain_members (V.members_seen members.now)) ≡ false }
+    requires order { V.members_in_order members.now }
+    requires plain { AreMembersPlain plain (V.members_seen members.now) }
+    ensures text { OnOk result (out.new.items
+        ≡ out.old.items ++ 123 ∷ members_text false (plain_members (V.members_seen members.now))) }
+    ensures numbers { OnOk result (MembersReadBack (plain_members (V.members_seen members.now))) }
+    ensures order { OnOk result (IsInOrderOfNames (plain_members (V.members_seen members.now))) }
 {
-    for (name, member) in members.iter() {
-        if !is_special(name.as_str()) {
-            out.key(name.as_str())?;
-            write_value(member, out)?;
-        }
+    out.push(b'{')?;
+    let mut later = false;
+    let mut left = V::walk(members);
+    while let Some((name, member)) = V::next_member(&mut left) {
+        later = push_unless_special(name, member, later, plain, out)?;
     }
-    out.end_object()
+    out.push(b'}')?;
+    Ok(())
 }
 
-/// Writes a value.
-#[cycle(write)]
-#[inline(always)]
-fn write_value(value: &Value, out: &mut Writer) -> Result<(), AllocError>
-    requires { has_float (view value.now) ≡ false }
-    ensures ok { OnOk result (WritesValue (view value.now) out.old.tokens out.new.tokens) }
-    ensures before { out.new.before ≡ out.old.before }
+/// A member, unless its name begins with `_`. Answers whether something stands before what comes next.
+fn push_unless_special<'v, V: JsonValue<'v>>(
+    name: &str,
+    member: &'v V,
+    later: bool,
+    plain: PlainTexts,
+    out: &mut Vec<u8>,
+) -> Result<bool, AllocError>
+    requires exact { is_special name.now ≡ false → has_float (V.seen member.now) ≡ false }
+    requires order { V.in_order member.now }
+    requires name { PlainIf plain.names name.now }
+    requires plain { ArePlain plain (V.seen member.now) }
+    ensures special { IfOk result (λ now. is_special name.now ≡ true
+        → (now ≡ later) × (out.new.items ≡ out.old.items)) }
+    ensures plain { IfOk result (λ now. is_special name.now ≡ false
+        → (now ≡ true) × (out.new.items
+        ≡ out.old.items ++ (comma_if later ++ (quoted name.now ++ 58 ∷ compact_text (V.seen member.now))))) }
+    ensures numbers { IfOk result (λ now. is_special name.now ≡ false → AllReadBack (V.seen member.now)) }
+    ensures order { IfOk result (λ now. is_special name.now ≡ false → IsOrdered (V.seen member.now)) }
 {
-    match value {
-        Value::Null => out.null(),
-        Value::Bool(b) => out.boolean(*b),
-        Value::Number(n) => write_number(n, out),
-        Value::String(text) => out.string(text.as_str()),
-        Value::Array(items) => {
-            out.begin_array()?;
-            write_items(items, out)
-        }
-        Value::Object(members) => {
-            out.begin_object()?;
-            write_members(members, out)
-        }
+    if is_special(name) {
+        return Ok(later);
     }
-}
-
-/// Writes the items of a list, and its end.
-#[cycle(write)]
-#[inline(never)]
-fn write_items(items: &Vec<Value>, out: &mut Writer) -> Result<(), AllocError>
-    requires { items_have_float (items_view items.now.items) ≡ false }
-    ensures ok { OnOk result (WritesItems (items_view items.now.items) out.old.tokens out.new.tokens) }
-    ensures before { out.new.before ≡ out.old.before }
-{
-    for item in items {
-        write_value(item, out)?;
-    }
-    out.end_array()
-}
-
-/// Writes the members of an object, and its end.
-#[cycle(write)]
-#[inline(never)]
-fn write_members(members: &Map<String, Value>, out: &mut Writer) -> Result<(), AllocError>
-    requires { members_have_float (members_view members.now.entries) ≡ false }
-    ensures ok { OnOk result
-        (WritesMembers (members_view members.now.entries) out.old.tokens out.new.tokens) }
-    ensures before { out.new.before ≡ out.old.before }
-{
-    for (name, member) in members.iter() {
-        out.key(name.as_str())?;
-        write_value(member, out)?;
-    }
-    out.end_object()
-}
-
-/// Writes an integer.
-pub(crate) fn write_number(n: &Number, out: &mut Writer) -> Result<(), AllocError>
-    requires { is_float (number_view n.now) ≡ false }
-    ensures ok { OnOk result (WritesValue (number (number_view n.now)) out.old.tokens out.new.tokens) }
-    ensures before { out.new.before ≡ out.old.before }
-{
-    match n.as_u64() {
-        Some(n) => out.u64(n),
-        None => out.i64(n.as_i64().unwrap()),
-    }
+    push_name(out, later, name, plain.names)?;
+    member.push(plain, out)?;
+    Ok(true)
 }

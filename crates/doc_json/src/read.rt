@@ -1,14 +1,21 @@
 //! Reading documents.
 ghost use Rattle.std.specs.Prelude.{◌≡◌, Ok, Err, IfOk, IfErr, option_map};
 ghost use Rattle.serde_json.specs.View.{view};
+ghost use Rattle.json_values.specs.LineView.{line_view};
+ghost use Rattle.json_values.specs.Plain.{ArePlain};
 ghost use Rattle.doc_json.specs.Answers.{GivesUnlessMemory};
 ghost use Rattle.doc_json.specs.DocId.{doc_id_read};
 ghost use Rattle.doc_json.specs.DocRead.{doc_read, flag_of, id_of};
 
+use crate::body::plain_body;
 use crate::doc::Doc;
 use crate::doc_id::{DocId, check_id};
 use crate::fault::DocFault;
-use crate::{body, members, revisions};
+use crate::json_value::JsonValue;
+use crate::members::find_members;
+use crate::owned_value::NONE_KNOWN;
+use crate::revisions::{read_rev, read_revisions};
+use json_values::{LinePart, PlainTexts};
 use serde_json::Value;
 use std::alloc::Global;
 
@@ -25,55 +32,56 @@ use std::alloc::Global;
 pub fn read_doc(alloc: Global, value: &Value) -> Result<Doc, DocFault>
     ensures { GivesUnlessMemory result (doc_read (view value.now)) }
 {
+    document_of(alloc, value, NONE_KNOWN)
+}
+
+/// The document that a line's JSON value is, as `read_doc` reads one.
+pub fn read_line_doc(alloc: Global, part: &LinePart<'_, '_>) -> Result<Doc, DocFault>
+    ensures { GivesUnlessMemory result (doc_read (line_view part.now)) }
+{
+    document_of(alloc, part.value(), part.plain())
+}
+
+/// The document that a value is, of whose texts some are known to be plain.
+fn document_of<'v, V: JsonValue<'v>>(
+    alloc: Global,
+    value: &'v V,
+    plain: PlainTexts,
+) -> Result<Doc, DocFault>
+where
+    V::Object: 'v,
+    requires order { V.in_order value.now }
+    requires plain { ArePlain plain (V.seen value.now) }
+    ensures { GivesUnlessMemory result (doc_read (V.seen value.now)) }
+{
     let Some(members) = value.as_object() else {
         return Err(DocFault::NotObject);
     };
-    let found = members::find_members(members);
-    let id = match read_id(found.id) {
-        Ok(id) => id,
-        Err(fault) => return Err(fault),
-    };
+    let found = find_members::<V>(members);
+    let id = read_id(found.id)?;
     if found.attachments.is_some() {
         return Err(DocFault::Attachments);
     }
     if found.has_unknown {
         return Err(DocFault::SpecialMember);
     }
-    let deleted = match read_flag(found.deleted) {
-        Ok(deleted) => deleted,
-        Err(fault) => return Err(fault),
-    };
-    let rev = match revisions::read_rev(found.rev) {
-        Ok(rev) => rev,
-        Err(fault) => return Err(fault),
-    };
-    let ancestry = match revisions::read_revisions(alloc, found.revisions, rev) {
-        Ok(ancestry) => ancestry,
-        Err(fault) => return Err(fault),
-    };
+    let deleted = read_flag(found.deleted)?;
+    let rev = read_rev(found.rev)?;
+    let ancestry = read_revisions(alloc, found.revisions, rev)?;
     if found.has_fraction {
         return Err(DocFault::Fraction);
     }
-    let ancestry = match ancestry {
-        Ok(ancestry) => ancestry,
-        Err(refused) => return Err(DocFault::from(refused)),
-    };
-    let id = match DocId::of_checked(alloc, id) {
-        Ok(id) => id,
-        Err(refused) => return Err(DocFault::from(refused)),
-    };
-    let body = match body::plain_body(alloc, members) {
-        Ok(body) => body,
-        Err(refused) => return Err(DocFault::from(refused)),
-    };
+    let ancestry = ancestry?;
+    let id = DocId::of_checked(alloc, id)?;
+    let body = plain_body::<V>(alloc, members, plain)?;
     Ok(Doc::new(id, ancestry, deleted, body))
 }
 
 /// The text of the id that a member `_id` is.
-fn read_id(member: Option<&Value>) -> Result<&str, DocFault>
-    ensures id { IfOk result (λ text. id_of (option_map (λ v. view v.now) member.entry) ≡ Ok text.now) }
+fn read_id<'v, V: JsonValue<'v>>(member: Option<&'v V>) -> Result<&'v str, DocFault>
+    ensures id { IfOk result (λ text. id_of (option_map (λ v. V.seen v.now) member.entry) ≡ Ok text.now) }
     ensures read { IfOk result (λ text. doc_id_read text.now ≡ Ok text.now) }
-    ensures err { IfErr result (λ e. id_of (option_map (λ v. view v.now) member.entry) ≡ Err e) }
+    ensures err { IfErr result (λ e. id_of (option_map (λ v. V.seen v.now) member.entry) ≡ Err e) }
 {
     let Some(value) = member else {
         return Err(DocFault::NoId);
@@ -81,15 +89,13 @@ fn read_id(member: Option<&Value>) -> Result<&str, DocFault>
     let Some(text) = value.as_str() else {
         return Err(DocFault::NoId);
     };
-    match check_id(text) {
-        Ok(()) => Ok(text),
-        Err(fault) => Err(fault),
-    }
+    check_id(text)?;
+    Ok(text)
 }
 
 /// The flag of a member `_deleted`, false where it is absent.
-fn read_flag(member: Option<&Value>) -> Result<bool, DocFault>
-    ensures { result ≡ flag_of (option_map (λ v. view v.now) member.entry) }
+fn read_flag<'v, V: JsonValue<'v>>(member: Option<&'v V>) -> Result<bool, DocFault>
+    ensures { result ≡ flag_of (option_map (λ v. V.seen v.now) member.entry) }
 {
     match member {
         None => Ok(false),

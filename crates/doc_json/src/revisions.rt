@@ -1,8 +1,8 @@
 //! The members `_rev` and `_revisions`.
 ghost use Rattle.std.specs.Prelude.{◌≡◌, ◌≤◌, [], ◌∷◌, List, Some, Ok, Err, IfSome, IfNone, IsOk, IfOk, IfErr, OnOk};
-ghost use Rattle.std.specs.Prelude.{codes, length, is_some, is_ok, option_map, option_and_then, slice_get};
+ghost use Rattle.std.specs.Prelude.{codes, map, length, is_some, is_ok, option_map, option_and_then, slice_get};
 ghost use Rattle.std.specs.Ordering.{eq_by_cmp};
-ghost use Rattle.serde_json.specs.View.{view, items_view};
+ghost use Rattle.serde_json.specs.View.{items_of};
 ghost use Rattle.serde_json.specs.Find.{get, as_array, as_str};
 ghost use Rattle.rev_core.specs.Rev.{RevId, rev_cmp};
 ghost use Rattle.rev_core.specs.Ancestry.{numbered};
@@ -10,13 +10,13 @@ ghost use Rattle.doc_json.specs.Revisions.{rev_member, with_revisions, revisions
 ghost use Rattle.doc_json.specs.Revisions.{numbered_beside, start_of, numbered_from, sigs_of, sig_of};
 
 use crate::fault::DocFault;
+use crate::json_value::JsonValue;
 use rev_core::{Ancestry, Rev, Sig};
-use serde_json::Value;
 use std::alloc::{AllocError, Global};
 
 /// The revision id of a member `_rev`, where it is there.
-pub(crate) fn read_rev(member: Option<&Value>) -> Result<Option<Rev>, DocFault>
-    ensures { result ≡ rev_member (option_map (λ v. view v.now) member.entry) }
+pub(crate) fn read_rev<'v, V: JsonValue<'v>>(member: Option<&'v V>) -> Result<Option<Rev>, DocFault>
+    ensures { result ≡ rev_member (option_map (λ v. V.seen v.now) member.entry) }
 {
     let Some(value) = member else {
         return Ok(None);
@@ -31,16 +31,16 @@ pub(crate) fn read_rev(member: Option<&Value>) -> Result<Option<Rev>, DocFault>
 }
 
 /// The ancestry that a member `_revisions` gives beside what `_rev` gave, or that memory for it was refused.
-pub(crate) fn read_revisions(
+pub(crate) fn read_revisions<'v, V: JsonValue<'v>>(
     alloc: Global,
-    member: Option<&Value>,
+    member: Option<&'v V>,
     rev: Option<Rev>,
 ) -> Result<Result<Ancestry, AllocError>, DocFault>
-    ensures ok { OnOk result (IsOk (with_revisions (option_map (λ v. view v.now) member.entry) rev)) }
+    ensures ok { OnOk result (IsOk (with_revisions (option_map (λ v. V.seen v.now) member.entry) rev)) }
     ensures built { IfOk result (λ r. IfOk r
-        (λ a. with_revisions (option_map (λ v. view v.now) member.entry) rev ≡ Ok a)) }
+        (λ a. with_revisions (option_map (λ v. V.seen v.now) member.entry) rev ≡ Ok a)) }
     ensures err { IfErr result
-        (λ e. with_revisions (option_map (λ v. view v.now) member.entry) rev ≡ Err e) }
+        (λ e. with_revisions (option_map (λ v. V.seen v.now) member.entry) rev ≡ Err e) }
 {
     match member {
         Some(value) => read_numbered(alloc, value, rev),
@@ -62,14 +62,14 @@ pub(crate) fn alone(alloc: Global, rev: Rev) -> Result<Ancestry, AllocError>
 }
 
 /// The ancestry that a value of `_revisions` gives beside what `_rev` gave, or that memory for it was refused.
-fn read_numbered(
+fn read_numbered<'v, V: JsonValue<'v>>(
     alloc: Global,
-    value: &Value,
+    value: &'v V,
     rev: Option<Rev>,
 ) -> Result<Result<Ancestry, AllocError>, DocFault>
-    ensures ok { OnOk result (IsOk (revisions_beside rev (view value.now))) }
-    ensures built { IfOk result (λ r. IfOk r (λ a. revisions_beside rev (view value.now) ≡ Ok a)) }
-    ensures err { IfErr result (λ e. revisions_beside rev (view value.now) ≡ Err e) }
+    ensures ok { OnOk result (IsOk (revisions_beside rev (V.seen value.now))) }
+    ensures built { IfOk result (λ r. IfOk r (λ a. revisions_beside rev (V.seen value.now) ≡ Ok a)) }
+    ensures err { IfErr result (λ e. revisions_beside rev (V.seen value.now) ≡ Err e) }
 {
     let Some(start) = start_of(value) else {
         return Err(DocFault::BadRevisions);
@@ -106,15 +106,15 @@ pub(crate) fn matched(
 }
 
 /// The ancestry of a start and a list of signatures, where they give one.
-fn numbered_from(
+fn numbered_from<'v, V: JsonValue<'v>>(
     alloc: Global,
     start: u64,
-    ids: &Vec<Value>,
+    ids: &'v Vec<V>,
 ) -> Result<Option<Ancestry>, AllocError>
     ensures some { IfOk result (λ o. IfSome o
-        (λ a. numbered_from (Some start) (sigs_of (items_view ids.now.items)) ≡ Ok a)) }
+        (λ a. numbered_from (Some start) (sigs_of (items_of (map V.seen ids.now.items))) ≡ Ok a)) }
     ensures none { IfOk result (λ o. IfNone o
-        (numbered_from (Some start) (sigs_of (items_view ids.now.items)) ≡ Err DocFault.BadRevisions)) }
+        (numbered_from (Some start) (sigs_of (items_of (map V.seen ids.now.items))) ≡ Err DocFault.BadRevisions)) }
 {
     let count = ids.len() as u64;
     if start > 4_294_967_295 || count < 1 || count > start {
@@ -127,10 +127,14 @@ fn numbered_from(
 }
 
 /// The revisions of a list of signatures, from a generation downwards.
-fn numbered(alloc: Global, start: u32, ids: &Vec<Value>) -> Result<Option<Vec<Rev>>, AllocError>
+fn numbered<'v, V: JsonValue<'v>>(
+    alloc: Global,
+    start: u32,
+    ids: &'v Vec<V>,
+) -> Result<Option<Vec<Rev>>, AllocError>
     requires { length ids.now.items ≤ start }
     ensures { IfOk result (λ o. option_map (λ revs. revs.items) o
-        ≡ option_map (numbered start) (sigs_of (items_view ids.now.items))) }
+        ≡ option_map (numbered start) (sigs_of (items_of (map V.seen ids.now.items)))) }
 {
     let mut revs = Vec::with_capacity(alloc, ids.len())?;
     let mut generation = start;
@@ -145,11 +149,15 @@ fn numbered(alloc: Global, start: u32, ids: &Vec<Value>) -> Result<Option<Vec<Re
 }
 
 /// Why a start and a list give no ancestry beside what `_rev` gave.
-fn check_numbered(start: u64, ids: &Vec<Value>, rev: Option<Rev>) -> Result<(), DocFault>
+fn check_numbered<'v, V: JsonValue<'v>>(
+    start: u64,
+    ids: &'v Vec<V>,
+    rev: Option<Rev>,
+) -> Result<(), DocFault>
     ensures ok { OnOk result
-        (IsOk (numbered_beside rev (Some start) (sigs_of (items_view ids.now.items)))) }
+        (IsOk (numbered_beside rev (Some start) (sigs_of (items_of (map V.seen ids.now.items))))) }
     ensures err { IfErr result
-        (λ e. numbered_beside rev (Some start) (sigs_of (items_view ids.now.items)) ≡ Err e) }
+        (λ e. numbered_beside rev (Some start) (sigs_of (items_of (map V.seen ids.now.items))) ≡ Err e) }
 {
     if !are_ids(start, ids) {
         return Err(DocFault::BadRevisions);
@@ -161,24 +169,24 @@ fn check_numbered(start: u64, ids: &Vec<Value>, rev: Option<Rev>) -> Result<(), 
 }
 
 /// The number of a member `start`.
-fn start_of(value: &Value) -> Option<u64>
-    ensures { result ≡ start_of (view value.now) }
+fn start_of<'v, V: JsonValue<'v>>(value: &'v V) -> Option<u64>
+    ensures { result ≡ start_of (V.seen value.now) }
 {
-    value.get("start")?.as_u64()
+    value.get("start")?.as_number()?.as_u64()
 }
 
 /// The list of a member `ids`.
-fn ids_of(value: &Value) -> Option<&Vec<Value>>
-    ensures { option_map (λ v. items_view v.now.items) result
-        ≡ option_and_then as_array (get (codes "ids") (view value.now)) }
+fn ids_of<'v, V: JsonValue<'v>>(value: &'v V) -> Option<&'v Vec<V>>
+    ensures { option_map (λ v. items_of (map V.seen v.now.items)) result
+        ≡ option_and_then as_array (get (codes "ids") (V.seen value.now)) }
 {
     value.get("ids")?.as_array()
 }
 
 /// Whether a start is a generation, and a list is one of signatures, at least one and at most as many as the
 /// start says.
-fn are_ids(start: u64, ids: &Vec<Value>) -> bool
-    ensures { result ≡ is_ok (numbered_from (Some start) (sigs_of (items_view ids.now.items))) }
+fn are_ids<'v, V: JsonValue<'v>>(start: u64, ids: &'v Vec<V>) -> bool
+    ensures { result ≡ is_ok (numbered_from (Some start) (sigs_of (items_of (map V.seen ids.now.items)))) }
 {
     if start > 4_294_967_295 {
         return false;
@@ -191,8 +199,8 @@ fn are_ids(start: u64, ids: &Vec<Value>) -> bool
 }
 
 /// Whether each item is a signature.
-fn are_sigs(items: &Vec<Value>) -> bool
-    ensures { result ≡ is_some (sigs_of (items_view items.now.items)) }
+fn are_sigs<'v, V: JsonValue<'v>>(items: &'v Vec<V>) -> bool
+    ensures { result ≡ is_some (sigs_of (items_of (map V.seen items.now.items))) }
 {
     for item in items {
         if sig_of(item).is_none() {
@@ -203,8 +211,8 @@ fn are_sigs(items: &Vec<Value>) -> bool
 }
 
 /// Whether `_rev`, where it is there, is the newest revision of `_revisions`.
-fn agrees(rev: Option<Rev>, start: u64, ids: &Vec<Value>) -> bool
-    ensures { (revs : List RevId) → numbered_from (Some start) (sigs_of (items_view ids.now.items)) ≡ Ok revs
+fn agrees<'v, V: JsonValue<'v>>(rev: Option<Rev>, start: u64, ids: &'v Vec<V>) -> bool
+    ensures { (revs : List RevId) → numbered_from (Some start) (sigs_of (items_of (map V.seen ids.now.items))) ≡ Ok revs
         → result ≡ agrees rev revs }
 {
     match rev {
@@ -217,8 +225,8 @@ fn agrees(rev: Option<Rev>, start: u64, ids: &Vec<Value>) -> bool
 }
 
 /// The first item as a signature.
-fn first_sig(items: &Vec<Value>) -> Option<Sig>
-    ensures { result ≡ option_and_then (λ v. sig_of (as_str (view v))) (slice_get items.now.items 0) }
+fn first_sig<'v, V: JsonValue<'v>>(items: &'v Vec<V>) -> Option<Sig>
+    ensures { result ≡ option_and_then (λ v. sig_of (as_str (V.seen v))) (slice_get items.now.items 0) }
 {
     match items.first() {
         Some(first) => sig_of(first),
@@ -235,8 +243,8 @@ pub(crate) fn is_revision(rev: Rev, generation: u64, sig: Sig) -> bool
 }
 
 /// The signature that a value is.
-fn sig_of(value: &Value) -> Option<Sig>
-    ensures { result ≡ sig_of (as_str (view value.now)) }
+fn sig_of<'v, V: JsonValue<'v>>(value: &'v V) -> Option<Sig>
+    ensures { result ≡ sig_of (as_str (V.seen value.now)) }
 {
     match Sig::parse(value.as_str()?.as_bytes()) {
         Ok(sig) => Some(sig),

@@ -1,8 +1,7 @@
 use Rattle.std.proofs.Common.{refl}
-use Rattle.serde_json.specs.View.{members_view}
 use Rattle.std.specs.Arc.{arc_slice_items}
 use Rattle.doc_json.proofs.BodyReads.{is_body, plain_members_plain}
 use Rattle.doc_json.proofs.body.plain_body.Goals as goal
 
 pub from_text-requires : goal.from_text-requires
-from_text-requires c = is_body (arc_slice_items c.in_ok-text.text) _ _ refl (plain_members_plain (members_view c.args.members.now.entries)) c.requires c.in_ok-text.ensures
+from_text-requires g c = is_body (arc_slice_items c.in_ok-text.text) _ _ refl (plain_members_plain (g.V.JsonValue.members_seen c.args.members.now)) c.requires.exact c.in_ok-text.ensures

@@ -1,16 +1,15 @@
 use Rattle.std.proofs.Common.{◌≡◌, true, false, is_some, option_map, sym, ◌∙◌}
 use Rattle.serde_json.specs.Data.{no_members}
-use Rattle.serde_json.specs.View.{view}
 use Rattle.doc_json.proofs.DocReads.{is_some-option_map}
 use Rattle.doc_json.proofs.Kept.{none_yet, looked_at}
 use Rattle.doc_json.proofs.members.kept.Goals as goal
 
-pub returns-then-eq : goal.returns-then-eq
-returns-then-eq c =
-    let empty : false ≡ is_some (option_map (λ v. view v.now) c.args.found) = sym (is_some-option_map _ c.args.found ∙ sym c.is_some.ensures ∙ c.if-is_some.false) in
-    sym (none_yet _ _ empty ∙ looked_at c.args.wanted.now c.args.name.now (view c.args.member.now) no_members true (sym c.if-eq.true ∙ c.eq.ensures))
+pub returns-then-is_same_text : goal.returns-then-is_same_text
+returns-then-is_same_text g c =
+    let empty : false ≡ is_some (option_map (λ v. g.V.JsonValue.seen v.now) c.args.found) = sym (is_some-option_map _ c.args.found ∙ sym c.is_some.ensures ∙ c.if-is_some.false) in
+    sym (none_yet _ _ empty ∙ looked_at c.args.wanted.now c.args.name.now (g.V.JsonValue.seen c.args.member.now) no_members true (sym c.if-is_same_text.true ∙ c.is_same_text.ensures))
 
-pub returns-else-eq : goal.returns-else-eq
-returns-else-eq c =
-    let empty : false ≡ is_some (option_map (λ v. view v.now) c.args.found) = sym (is_some-option_map _ c.args.found ∙ sym c.is_some.ensures ∙ c.if-is_some.false) in
-    sym (none_yet _ _ empty ∙ looked_at c.args.wanted.now c.args.name.now (view c.args.member.now) no_members false (sym c.if-eq.false ∙ c.eq.ensures))
+pub returns-else-is_same_text : goal.returns-else-is_same_text
+returns-else-is_same_text g c =
+    let empty : false ≡ is_some (option_map (λ v. g.V.JsonValue.seen v.now) c.args.found) = sym (is_some-option_map _ c.args.found ∙ sym c.is_some.ensures ∙ c.if-is_some.false) in
+    sym (none_yet _ _ empty ∙ looked_at c.args.wanted.now c.args.name.now (g.V.JsonValue.seen c.args.member.now) no_members false (sym c.if-is_same_text.false ∙ c.is_same_text.ensures))

@@ -1,20 +1,19 @@
 use Rattle.std.proofs.Common.{sym, ap, ◌∙◌}
-use Rattle.serde_json.specs.View.{view}
 use Rattle.doc_json.specs.Revisions.{agrees, is_head}
 use Rattle.doc_json.proofs.FoundRevisions.{numbered_ok, sigs_first, head_some, head_none}
 use Rattle.doc_json.proofs.revisions.agrees.Goals as goal
 
 pub returns-in-Some-first_sig : goal.returns-in-Some-first_sig
-returns-in-Some-first_sig c = λ revs e.
+returns-in-Some-first_sig g c = λ revs e.
     let n = numbered_ok c.args.start _ revs e in
     let r = c.in-Some.rev in
     c.is_revision.ensures
     ∙ sym (ap (λ o. agrees o revs) c.in-Some.is ∙ ap (is_head r) n.2
-    ∙ head_some r c.args.start n.0 c.in-Some-first_sig.sig (sym c.in-Some-first_sig.is ∙ c.first_sig.ensures ∙ sigs_first view c.args.ids.now.items n.0 n.1))
+    ∙ head_some r c.args.start n.0 c.in-Some-first_sig.sig (sym c.in-Some-first_sig.is ∙ c.first_sig.ensures ∙ sigs_first g.V.JsonValue.seen c.args.ids.now.items n.0 n.1))
 
 pub returns-in-None-first_sig : goal.returns-in-None-first_sig
-returns-in-None-first_sig c = λ revs e.
+returns-in-None-first_sig g c = λ revs e.
     let n = numbered_ok c.args.start _ revs e in
     let r = c.in-Some.rev in
     sym (ap (λ o. agrees o revs) c.in-Some.is ∙ ap (is_head r) n.2
-    ∙ head_none r c.args.start n.0 (sym c.in-None-first_sig.is ∙ c.first_sig.ensures ∙ sigs_first view c.args.ids.now.items n.0 n.1))
+    ∙ head_none r c.args.start n.0 (sym c.in-None-first_sig.is ∙ c.first_sig.ensures ∙ sigs_first g.V.JsonValue.seen c.args.ids.now.items n.0 n.1))

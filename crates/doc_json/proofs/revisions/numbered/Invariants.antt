@@ -1,14 +1,14 @@
-use Rattle.std.proofs.Common.{◌≡◌, ◌+◌, ◌≤◌, ◌++◌, drop, length, option_map}
+use Rattle.std.proofs.Common.{map, ◌≡◌, ◌+◌, ◌≤◌, ◌++◌, drop, length, option_map}
 use Rattle.std.specs.Vec.{vec_len, vec_capacity}
-use Rattle.serde_json.specs.View.{items_view}
+use Rattle.serde_json.specs.View.{items_of}
 use Rattle.rev_core.specs.Ancestry.{numbered}
 use Rattle.doc_json.specs.Revisions.{sigs_of}
 use Rattle.doc_json.proofs.revisions.numbered.Given as goal
 
 -- the rest of the list gives what all of it gives
 abbrev pub invariant-loop-item : goal.invariant-loop-item
-invariant-loop-item l = record {
-  revs : option_map (λ rest. l.revs.items ++ numbered l.generation rest) (sigs_of (items_view (drop l.item-index l.item-items))) ≡ option_map (numbered l.start) (sigs_of (items_view l.item-items));
+invariant-loop-item g l = record {
+  revs : option_map (λ rest. l.revs.items ++ numbered l.generation rest) (sigs_of (items_of (map g.V.JsonValue.seen (drop l.item-index l.item-items)))) ≡ option_map (numbered l.start) (sigs_of (items_of (map g.V.JsonValue.seen l.item-items)));
   count : l.generation + l.item-index ≡ l.start;
   within : length l.item-items ≤ l.start;
   room : vec_len l.revs + length (drop l.item-index l.item-items) ≤ vec_capacity l.revs;

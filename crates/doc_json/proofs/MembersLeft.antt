@@ -1,0 +1,7 @@
+-- Members that are left of a walk over them.
+use Rattle.std.proofs.Common.{ℕ, suc}
+use Rattle.serde_json.specs.Data.{Members, no_members, member}
+
+abbrev pub count : Members → ℕ
+count no_members = 0
+count (member k d ms) = suc (count ms)

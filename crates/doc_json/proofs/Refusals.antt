@@ -1,0 +1,21 @@
+-- What is answered where a call that may find no memory is refused.
+use Rattle.std.proofs.Common.{◌≡◌, Result, Err, inl, inr, sym, ap, ◌∙◌, subst}
+use Rattle.std.specs.Prelude.{IsOk}
+use Rattle.std.specs.Result.{IsErrAnd}
+use Rattle.std.proofs.lemmas.Result.{err_from_is_err_and}
+use Rattle.doc_json.specs.Answers.{GivesUnlessMemory}
+use Rattle.doc_json.specs.declared.fault.DocFault.{DocFault}
+use Rattle.doc_json.specs.declared.fault.DocFault.TheVariants as faults
+
+module _ {A : Type 0} (r expected : Result A DocFault) where
+  -- what is refused is what is expected
+  pub refused : (e : DocFault) → IsErrAnd r (λ y. y ≡ e) → expected ≡ Err e → GivesUnlessMemory r expected
+  refused e h is =
+      let p = err_from_is_err_and r h in
+      subst (λ x. GivesUnlessMemory x expected) (sym p.1) (inl (is ∙ ap Err (sym p.2)))
+
+  -- memory is, where an answer is expected
+  pub out_of_memory : IsErrAnd r (λ y. y ≡ faults.Memory) → IsOk expected → GivesUnlessMemory r expected
+  out_of_memory h ok =
+      let p = err_from_is_err_and r h in
+      subst (λ x. GivesUnlessMemory x expected) (sym p.1) (inr (p.2, ok))
