@@ -3,7 +3,7 @@ use Rattle.std.proofs.Common.{◌≡◌, ℕ, List, [], ◌∷◌, ◌++◌, tru
 use Rattle.std.specs.Prelude.{unwrap_or}
 use Rattle.std.specs.Io.KnownBytes.{Appends, Consumes, Keeps, IsAtEnd}
 use Rattle.script_engine.specs.declared.fault.ScriptFault.{ScriptFault}
-use Rattle.script_engine.specs.declared.fault.ScriptFault.TheVariants.{Read, Write, Memory, Cut}
+use Rattle.script_engine.specs.declared.fault.ScriptFault.TheVariants.{Write}
 use Rattle.script_engine.proofs.RunLemmas.{Gives-left, Gives-end}
 use Rattle.std.proofs.KnownBytes.{Appends-nil, Appends-trans, Consumes-nil, Consumes-trans, Consumes-kept, Keeps-refl}
 use Rattle.couch_answers.specs.State.{State, start}
@@ -49,15 +49,9 @@ Fed-joined s w xs ys s' s'' w' w'' a b c p q =
           (Appends-trans a b c (texts w ps) (texts w' (pieces s' ys)) p.written q.written);
     }
 
-whole_none : (fault : ScriptFault) → IsWhole fault []
-whole_none Read = refl
-whole_none Write = tt
-whole_none Memory = refl
-whole_none Cut = refl
-
 -- nothing of it is written
-pub Begins-none : (fault : ScriptFault) (w : Words) (all : List Piece) (held : Option (List ℕ)) → Begins fault w all held held
-Begins-none fault w all held = record {
+pub Begins-none : (fault : ScriptFault) (w : Words) (all : List Piece) (held : Option (List ℕ)) → IsWhole fault [] → Begins fault w all held held
+Begins-none fault w all held is_whole = record {
   told = [];
   untold = all;
   pieces_are = refl;
@@ -65,7 +59,7 @@ Begins-none fault w all held = record {
   missing = [];
   text_is = refl;
   written = Appends-nil held;
-  complete = whole_none fault;
+  complete = is_whole;
 }
 
 pub Begins-more : (fault : ScriptFault) (w : Words) (ps qs : List Piece) (held held' : Option (List ℕ)) → Begins fault w ps held held' → Begins fault w (ps ++ qs) held held'
@@ -217,8 +211,8 @@ module _ {wanted : Wanted} {w : Words} {s : State} {w' : Words} {left left' held
       )
 
   -- no further chunk was read
-  pub Stopped-before : (fault : ScriptFault) (left'' : Option (List ℕ)) → Keeps left' left'' → Stopped wanted w left held held' (Device fault)
-  Stopped-before fault left'' k = Stopped-in fault left'' held' [] (Consumes-kept left' left' left'' [] (Consumes-nil left') k) (Begins-none fault w' [] held')
+  pub Stopped-before : (fault : ScriptFault) (left'' : Option (List ℕ)) → Keeps left' left'' → IsWhole fault [] → Stopped wanted w left held held' (Device fault)
+  Stopped-before fault left'' k is_whole = Stopped-in fault left'' held' [] (Consumes-kept left' left' left'' [] (Consumes-nil left') k) (Begins-none fault w' [] held' is_whole)
 
   -- at a byte that was refused
   ended_err : (o : Result (Unit {0}) Refusal) (x : Result ℕ AnswerFault) → end_of s.place ≡ o → x ≡ judged_by s.passed s.taken o → is_refused s.place ≡ true → IfErr x (Stopped wanted w left held held')
@@ -309,5 +303,5 @@ start_going Leaves = refl
 start_going Changes = refl
 
 -- nothing was read
-pub Stopped-none : (wanted : Wanted) (w : Words) (left held : Option (List ℕ)) (fault : ScriptFault) → Stopped wanted w left held held (Device fault)
-Stopped-none wanted w left held fault = Stopped-before (Ran-none wanted w (start wanted) left held refl) fault left (Keeps-refl left)
+pub Stopped-none : (wanted : Wanted) (w : Words) (left held : Option (List ℕ)) (fault : ScriptFault) → IsWhole fault [] → Stopped wanted w left held held (Device fault)
+Stopped-none wanted w left held fault is_whole = Stopped-before (Ran-none wanted w (start wanted) left held refl) fault left (Keeps-refl left) is_whole

@@ -22,12 +22,12 @@ pub record Fed (s : State) (w : Words) (bytes : List ℕ) (s' : State) (w' : Wor
   pub words : w' ≡ words_behind w (pieces s bytes)
   pub written : Appends held held' (texts w (pieces s bytes))
 
--- only a failed write leaves a text in part
+-- only a failed write leaves a text in part; no answer is given in pieces, so none is cut
 abbrev pub IsWhole : ScriptFault → List ℕ → Type 0
 IsWhole Read missing = missing ≡ []
 IsWhole Write missing = ⊤
 IsWhole Memory missing = missing ≡ []
-IsWhole Cut missing = missing ≡ []
+IsWhole Cut missing = ⊥
 
 -- what is written is a beginning of the texts of these pieces
 pub record Begins (fault : ScriptFault) (w : Words) (all : List Piece) (held held' : Option (List ℕ)) : Type 0 where

@@ -1,4 +1,4 @@
-use Rattle.std.proofs.Common.{◌++◌, take, arith, ◌∙◌, sym, subst}
+use Rattle.std.proofs.Common.{◌++◌, take, arith, ◌∙◌, refl, sym, subst}
 use Rattle.std.proofs.lemmas.Result.{err_from_is_err_and}
 use Rattle.couch_wording.specs.Runs.{Begins}
 use Rattle.couch_answers.specs.Reading.{pieces}
@@ -13,7 +13,7 @@ returns-in_err-count-clause-err g c =
     let i = c.loop-rest.invariant in
     let p = err_from_is_err_and c.from_residual.result c.from_residual.ensures.1 in
     rw p.1 (Begins-in p.0 (state_of c.args.reading.now) (state_of c.loop-rest.reading) (words_of_wording c.args.wording.now) (words_of_wording c.loop-rest.wording) i.0 c.loop-rest.rest.now c.args.bytes.now _ _ _
-    i.1 i.2 (subst (λ f. Begins f (words_of_wording c.loop-rest.wording) (pieces (state_of c.loop-rest.reading) c.loop-rest.rest.now) (g.W.ScriptWrite.held c.loop-rest.writer) (g.W.ScriptWrite.held c.loop-rest.writer)) (sym p.2) (Begins-none _ _ _ _)))
+    i.1 i.2 (subst (λ f. Begins f (words_of_wording c.loop-rest.wording) (pieces (state_of c.loop-rest.reading) c.loop-rest.rest.now) (g.W.ScriptWrite.held c.loop-rest.writer) (g.W.ScriptWrite.held c.loop-rest.writer)) (sym p.2) (Begins-none _ _ _ _ refl)))
 
 pub returns-in-Err-clause-err : goal.returns-in-Err-clause-err
 returns-in-Err-clause-err g c =

@@ -1,3 +1,4 @@
+use Rattle.std.proofs.Common.{refl}
 use Rattle.std.proofs.lemmas.Result.{err_from_is_err_and}
 use Rattle.script_engine.specs.declared.fault.ScriptFault.TheVariants.{Memory}
 use Rattle.couch_answers.specs.Stored.{state_of}
@@ -9,7 +10,7 @@ use Rattle.couch_wording.proofs.run.run_answers.Goals as goal
 pub returns-in_err-chunk-clause-fault : goal.returns-in_err-chunk-clause-fault
 returns-in_err-chunk-clause-fault g c =
     let p = err_from_is_err_and c.from_residual.result c.from_residual.ensures.1 in
-    rw (p.1, p.2) (Stopped-none (state_of c.args.reading.now).wanted (words_of_wording c.args.wording.now) (g.R.ScriptRead.left c.args.reader.now) (g.W.ScriptWrite.held c.args.writer.now) Memory)
+    rw (p.1, p.2) (Stopped-none (state_of c.args.reading.now).wanted (words_of_wording c.args.wording.now) (g.R.ScriptRead.left c.args.reader.now) (g.W.ScriptWrite.held c.args.writer.now) Memory refl)
 
 pub returns-clause-forms : goal.returns-clause-forms
 returns-clause-forms g c = λ text held docs lenient left h.

@@ -22,7 +22,7 @@ loop-turn-init g c =
     }
 
 pub returns-in-Err-clause-fault : goal.returns-in-Err-clause-fault
-returns-in-Err-clause-fault g c = Stopped-before c.loop-turn.invariant.ran Read (g.R.ScriptRead.left c.read.new.self) c.in-Err.ensures.bytes
+returns-in-Err-clause-fault g c = Stopped-before c.loop-turn.invariant.ran Read (g.R.ScriptRead.left c.read.new.self) c.in-Err.ensures.bytes refl
 
 pub returns-then-count-eq0-clause-ok : goal.returns-then-count-eq0-clause-ok
 returns-then-count-eq0-clause-ok g c =
@@ -57,4 +57,4 @@ loop-turn-preserved g c =
     }
 
 pub returns-clause-fault : goal.returns-clause-fault
-returns-clause-fault g c = Stopped-before c.loop-turn.invariant.ran Read (g.R.ScriptRead.left c.loop-turn.reader) (Keeps-refl _)
+returns-clause-fault g c = Stopped-before c.loop-turn.invariant.ran Read (g.R.ScriptRead.left c.loop-turn.reader) (Keeps-refl _) refl

@@ -1,4 +1,4 @@
-use Rattle.std.proofs.Common.{◌∙◌}
+use Rattle.std.proofs.Common.{◌∙◌, refl}
 use Rattle.std.proofs.lemmas.Result.{err_from_is_err_and}
 use Rattle.couch_answers.specs.Stored.{state_of}
 use Rattle.couch_wording.specs.Stored.{words_of_wording}
@@ -8,7 +8,7 @@ use Rattle.couch_wording.proofs.run.tell.Goals as goal
 pub returns-in_err-put-clause-err : goal.returns-in_err-put-clause-err
 returns-in_err-put-clause-err g c =
     let p = err_from_is_err_and c.from_residual.result c.from_residual.ensures.1 in
-    rw (p.1, p.2) (Begins-none _ _ _ _)
+    rw (p.1, p.2) (Begins-none _ _ _ _ refl)
 
 pub returns-in-Err-clause-err : goal.returns-in-Err-clause-err
 returns-in-Err-clause-err g c =
