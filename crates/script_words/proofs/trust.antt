@@ -1,11 +1,3 @@
--- Why the answers of a script may be trusted: by words, each in a file of its own, then by lines.
-pub mod Checks
-pub mod Load
-pub mod Edit
-pub mod Backup
-pub mod Restore
-pub mod Audit
-pub mod Replicate
-pub mod Sync
+-- Why the answers of a script may be trusted: by words, then by lines.
 pub mod Words
 pub mod Lines

@@ -1,10 +1,3 @@
-pub mod Checks
-pub mod Members
-pub mod Given
-pub mod Texts
-pub mod Telling
-pub mod Walks
 pub mod words
-pub mod Rest
 pub mod Script
 pub mod Trust

@@ -6,9 +6,9 @@ use Rattle.script_databases.specs.Databases.{State}
 use Rattle.script_databases.specs.declared.refusal.Refusal.{Refusal}
 use Rattle.script_words.specs.Script.{Asks, AnswersAsked}
 use Rattle.script_words.specs.words.{Asked, audit, replicate, sync}
-use Rattle.script_words.specs.words.Audit.{IsClean}
-use Rattle.script_words.specs.words.Replicate.{IsCovered}
-use Rattle.script_words.specs.words.Sync.{IsMet}
+use Rattle.script_reads.specs.Audit.{IsClean}
+use Rattle.script_writes.specs.Replicate.{IsCovered}
+use Rattle.script_writes.specs.Sync.{IsMet}
 
 -- what is told to an audit, to a replication, and to one each way
 abbrev pub IsTrusted : Asked → Told → State → Type 0

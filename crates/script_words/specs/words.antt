@@ -7,42 +7,26 @@ use Rattle.script_databases.specs.Databases.{State}
 use Rattle.script_databases.specs.declared.refusal.Refusal.{Refusal}
 use Rattle.script_databases.specs.declared.refusal.Refusal.TheVariants as why
 use Rattle.rev_core.specs.Checks.{◌>>=◌}
-use Rattle.script_words.specs.Checks.{needed, seen_as}
-use Rattle.script_words.specs.Members.{text_at}
-use Rattle.script_words.specs.words.Load.{LoadAsk, load_in, Loads}
-use Rattle.script_words.specs.words.Edit.{EditAsk, edit_in, Edits}
-use Rattle.script_words.specs.words.Show.{ShowAsk, show_in, Shows}
-use Rattle.script_words.specs.words.Doc.{DocAsk, doc_in, PrintsDocument}
-use Rattle.script_words.specs.words.Changes.{ChangesAsk, changes_in, ListsChanges}
-use Rattle.script_words.specs.words.Log.{LogAsk, log_in, Logs}
-use Rattle.script_words.specs.words.Audit.{AuditAsk, audit_in, Audits}
-use Rattle.script_words.specs.words.Replicate.{ReplicateAsk, replicate_in, ReportsReplication}
-use Rattle.script_words.specs.words.Backup.{BackupAsk, backup_in, BacksUp}
-use Rattle.script_words.specs.words.Restore.{RestoreAsk, restore_in, Restores}
-use Rattle.script_words.specs.words.Compare.{CompareAsk, compare_in, Compares}
-use Rattle.script_words.specs.words.Conflicts.{ConflictsAsk, conflicts_in, ListsConflicts}
-use Rattle.script_words.specs.words.Docs.{DocsAsk, docs_in, PrintsDocuments}
-use Rattle.script_words.specs.words.Info.{InfoAsk, info_in, Informs}
-use Rattle.script_words.specs.words.Ledger.{LedgerAsk, ledger_in, ListsLedger}
-use Rattle.script_words.specs.words.Sync.{SyncAsk, sync_in, Syncs}
+use Rattle.script_rooms.specs.Checks.{needed, seen_as}
+use Rattle.script_rooms.specs.Members.{text_at}
+use Rattle.script_writes.specs.Load.{LoadAsk, load_in, Loads}
+use Rattle.script_writes.specs.Edit.{EditAsk, edit_in, Edits}
+use Rattle.script_reads.specs.Show.{ShowAsk, show_in, Shows}
+use Rattle.script_reads.specs.Doc.{DocAsk, doc_in, PrintsDocument}
+use Rattle.script_reads.specs.Changes.{ChangesAsk, changes_in, ListsChanges}
+use Rattle.script_reads.specs.Log.{LogAsk, log_in, Logs}
+use Rattle.script_reads.specs.Audit.{AuditAsk, audit_in, Audits}
+use Rattle.script_writes.specs.Replicate.{ReplicateAsk, replicate_in, ReportsReplication}
+use Rattle.script_writes.specs.Backup.{BackupAsk, backup_in, BacksUp}
+use Rattle.script_writes.specs.Restore.{RestoreAsk, restore_in, Restores}
+use Rattle.script_reads.specs.Compare.{CompareAsk, compare_in, Compares}
+use Rattle.script_reads.specs.Conflicts.{ConflictsAsk, conflicts_in, ListsConflicts}
+use Rattle.script_reads.specs.Docs.{DocsAsk, docs_in, PrintsDocuments}
+use Rattle.script_reads.specs.Info.{InfoAsk, info_in, Informs}
+use Rattle.script_reads.specs.Ledger.{LedgerAsk, ledger_in, ListsLedger}
+use Rattle.script_writes.specs.Sync.{SyncAsk, sync_in, Syncs}
 use Rattle.script_words.specs.declared.words.Word.{Word}
 use Rattle.script_words.specs.declared.words.Word.TheVariants as word
-pub mod Load
-pub mod Edit
-pub mod Show
-pub mod Doc
-pub mod Changes
-pub mod Log
-pub mod Audit
-pub mod Replicate
-pub mod Backup
-pub mod Restore
-pub mod Compare
-pub mod Conflicts
-pub mod Docs
-pub mod Info
-pub mod Ledger
-pub mod Sync
 
 -- what a line asks: a word, with what it names
 pub data Asked : Type 0 where

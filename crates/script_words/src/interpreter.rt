@@ -1,23 +1,25 @@
 //! The interpreter of a script of commands on databases in memory.
-ghost use Rattle.std.specs.Prelude.{◌≡◌, ℕ, List, [], IfOk, IfErr, OnOk};
+ghost use Rattle.std.specs.Prelude.{◌≡◌, ◌⊎◌, ℕ, List, [], IfOk, IfErr, OnOk};
+ghost use Rattle.serde_json.specs.Data.{Members, object};
+ghost use Rattle.json_values.specs.LineView.{line_view};
 ghost use Rattle.std.specs.Io.KnownBytes.{Appends, Consumes, IsAtEnd};
 ghost use Rattle.script_engine.specs.Device.{Gives};
 ghost use Rattle.script_engine.specs.Script.{AnswersEnded, IsAnswered};
 ghost use Rattle.script_engine.specs.Faults.{IsFaultOf, IsSent, IsToldUntil};
 ghost use Rattle.script_engine.specs.declared.fault.ScriptFault.TheVariants.{Read};
 ghost use Rattle.script_databases.specs.Databases.{State, no_databases};
+ghost use Rattle.script_databases.specs.declared.refusal.Refusal.TheVariants.{BadLine, Memory};
 ghost use Rattle.script_engine.specs.Serving.{Fits, MayTell};
-ghost use Rattle.script_words.specs.Script.{LinesAnswer};
+ghost use Rattle.script_words.specs.Script.{IsNoObject, IsObject, LinesAnswer};
 ghost use Rattle.script_words.specs.Trust.{TrustedLines};
-ghost use Rattle.script_words.specs.Rest.{FitsRest, told_begun};
+ghost use Rattle.script_reads.specs.Rest.{FitsRest, told_begun};
 ghost use Rattle.script_databases.specs.Stored.{program_of};
 
-use crate::members::read_object;
-use crate::rest::Rest;
 use crate::words;
-use json_values::ValueReader;
+use json_values::{Line, ReadFault, ValueReader};
 use script_databases::{Databases, Refusal, Settings};
 use script_engine::{Listen, ScriptFault, ScriptRead, ScriptWrite, Serve, leave, run_lines};
+use script_reads::Rest;
 use std::alloc::{AllocError, Global};
 use std::marker::Model;
 use std::mem;
@@ -47,7 +49,7 @@ impl<'a, H, L> Model for Interpreter<'a, H, L> {
 
 impl<'a, H: Threads + Wait + Sync, L: Listen> Serve for Interpreter<'a, H, L> {
     ghost use Rattle.std.specs.Thread.{IsSync};
-    ghost use Rattle.script_words.specs.Rest.{FitsRest, rest_left};
+    ghost use Rattle.script_reads.specs.Rest.{FitsRest, rest_left};
 
     ghost can_serve = { IsSync H.row };
 
@@ -103,6 +105,26 @@ fn answer_line<H: Threads + Wait + Sync>(
         Err(refusal) => return Err(refusal),
     };
     words::serve(rt, alloc, databases, &value, answer)
+}
+
+/// The JSON object that a line is. `BadLine` where it is none; want of memory may come in the place of any answer.
+pub fn read_object<'a>(
+    values: &'a mut ValueReader,
+    alloc: Global,
+    line: &'a [u8],
+) -> Result<Line<'a>, Refusal>
+    ensures ok { IfOk result (λ value. (ms : Members) × IsObject line.now ms × (line_view value ≡ object ms)) }
+    ensures err { IfErr result (λ why. (why ≡ Memory) ⊎ ((why ≡ BadLine) × IsNoObject line.now)) }
+{
+    let value = match values.read_line(alloc, line) {
+        Ok(value) => value,
+        Err(ReadFault::NotJson) => return Err(Refusal::BadLine),
+        Err(ReadFault::Memory) => return Err(Refusal::Memory),
+    };
+    if !value.value().is_object() {
+        return Err(Refusal::BadLine);
+    }
+    Ok(value)
 }
 
 /// Runs a script: reads lines to the reader's end, each of which is one command, and writes the answers in their

@@ -3,51 +3,17 @@
 ghost use Rattle.std.specs.Prelude.{◌≡◌, [], IfOk};
 ghost use Rattle.json_values.specs.LineView.{line_view};
 ghost use Rattle.script_engine.specs.Serving.{Fits, MayTell};
-ghost use Rattle.script_words.specs.Rest.{FitsRest, told_begun};
+ghost use Rattle.script_reads.specs.Rest.{FitsRest, told_begun};
 ghost use Rattle.script_words.specs.Script.{AnswersAsked};
 ghost use Rattle.script_words.specs.words.{asked_if, asked_in};
 
-mod audit;
-mod backup;
-mod changes;
-mod compare;
-mod conflicts;
-mod doc;
-mod docs;
-mod edit;
-mod info;
-mod ledger;
-mod load;
-mod log;
-mod replicate;
-mod restore;
-mod show;
-mod sync;
-
-use self::audit::Audit;
-use self::backup::Backup;
-use self::changes::Changes;
-use self::compare::Compare;
-pub use self::compare::CompareRest;
-use self::conflicts::Conflicts;
-pub use self::conflicts::ConflictsRest;
-use self::doc::Doc;
-use self::docs::Docs;
-pub use self::docs::DocsRest;
-use self::edit::Edit;
-use self::info::Info;
-use self::ledger::Ledger;
-use self::load::Load;
-use self::log::Log;
-use self::replicate::Replicate;
-use self::restore::Restore;
-use self::show::Show;
-use self::sync::BothWays;
-use crate::members::text_member;
-use crate::rest::Rest;
-use crate::room::{begin_in, serve_in, whole};
 use json_values::{Line, LineValue};
 use script_databases::{Databases, Refusal};
+use script_reads::{
+    Audit, Changes, Compare, Conflicts, Doc, Docs, Info, Ledger, Log, Rest, Show, begin_in, whole,
+};
+use script_rooms::{serve_in, text_member};
+use script_writes::{Backup, BothWays, Edit, Load, Replicate, Restore};
 use std::alloc::Global;
 use std::sync::Wait;
 use std::thread::Threads;

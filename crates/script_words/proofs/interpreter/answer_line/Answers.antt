@@ -7,7 +7,7 @@ use Rattle.script_databases.specs.declared.refusal.Refusal.TheVariants as why
 use Rattle.script_words.specs.Script.{IsNoObject, LinesAnswer}
 use Rattle.script_words.specs.words.{asked_in}
 use Rattle.json_values.specs.LineView.{line_view}
-use Rattle.script_words.proofs.TellingLemmas.{may_tell}
+use Rattle.script_rooms.proofs.TellingLemmas.{may_tell}
 use Rattle.script_words.proofs.interpreter.answer_line.Goals as goal
 
 -- a line that is no object, or for which memory was wanting

@@ -3,7 +3,7 @@ use Rattle.std.specs.Prelude.{Ok, Err}
 use Rattle.script_engine.specs.Serving.{MayTell, text_with}
 use Rattle.script_databases.specs.Databases.{State}
 use Rattle.script_databases.specs.Refusals.{name_of}
-use Rattle.script_words.specs.Rest.{rest_left}
+use Rattle.script_reads.specs.Rest.{rest_left}
 use Rattle.script_words.specs.Script.{LinesAnswer}
 use Rattle.script_words.proofs.InterpreterLemmas.{name_short}
 use Rattle.script_words.proofs.interpreter.InterpreterServe.serve.Goals as goal

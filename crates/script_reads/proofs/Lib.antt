@@ -1,0 +1,3 @@
+pub mod RestLemmas
+pub mod CompareLemmas
+pub mod trust

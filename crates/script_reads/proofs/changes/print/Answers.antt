@@ -1,0 +1,14 @@
+use Rattle.std.proofs.Common.{◌++◌, ap, ◌∙◌}
+use Rattle.std.specs.List.{flat_map}
+use Rattle.couch_base.specs.Feed.{feed}
+use Rattle.couch_base.specs.FeedLaws.{chosen-all}
+use Rattle.script_rooms.specs.Texts.{last_line}
+use Rattle.script_reads.specs.Changes.{row_line}
+use Rattle.script_rooms.proofs.TextLemmas.{two_parts}
+use Rattle.script_reads.proofs.changes.print.Goals as goal
+
+pub returns : goal.returns
+returns c =
+    let db = c.args.database.now in
+    let rows = ap (λ rows. c.args.answer.now.items ++ flat_map row_line rows) (chosen-all (feed db c.args.since db.update_seq)) in
+    two_parts _ _ _ _ _ (c.in_ok-print_feed.ensures ∙ rows) (c.in_ok-push_last.ensures ∙ ap (λ n. c.print_feed.new.answer.items ++ last_line n) c.update_seq.ensures.seq)

@@ -1,0 +1,34 @@
+use Rattle.std.proofs.Common.{◌≡◌, Ok, Err, None, List, [], map, refl, sym, ap, ◌∙◌, ◌++◌}
+use Rattle.std.specs.List.{flat_map}
+use Rattle.couch_base.specs.Feed.{RowValue, feed, chosen_feed}
+use Rattle.doc_json.specs.Chosen.{Choice}
+use Rattle.couch_base.specs.Database.{tree_of}
+use Rattle.couch_base.specs.FeedLaws.{chosen-all}
+use Rattle.repl_peer.specs.peer.Peer.{PeerValue}
+use Rattle.repl_survey.specs.Censuses.{census_of, trees}
+use Rattle.script_engine.specs.Serving.{in_full}
+use Rattle.script_databases.specs.declared.refusal.Refusal.TheVariants as why
+use Rattle.script_reads.specs.Walks.{rows_left}
+use Rattle.script_reads.specs.Conflicts.{conflict_line, conflicts_left, conflicts_line}
+use Rattle.script_reads.specs.declared.conflicts.ConflictsRest.{ConflictsRest}
+use Rattle.script_rooms.proofs.TellingLemmas.{passes, stops, is_found, is_missing, reads}
+use Rattle.script_reads.proofs.RestLemmas.{left_found, holds_found, memory_from}
+use Rattle.script_reads.proofs.conflicts.ConflictsLongRoomRefLine.begin.Goals as goal
+
+pub returns-in_default-clause-told : goal.returns-in_default-clause-told
+returns-in_default-clause-told c = in_full (reads (Err why.NoDatabase) (stops _ (is_missing why.NoDatabase (sym c.in_default.ensures))))
+
+pub returns-in_err-db-clause-told : goal.returns-in_err-db-clause-told
+returns-in_err-db-clause-told c = memory_from c.args.databases.now c.from_residual.result c.from_residual.ensures.1
+
+pub returns-clause-told : goal.returns-clause-told
+returns-clause-told c =
+    let rest : ConflictsRest = record { db = c.in_ok-db.db; walk = record { since = 0; chosen = None }; census = c.none.result } in
+    let l = c.in-Some._peer.now.1 in
+    let left = left_found c.args.databases.now (λ (l : PeerValue). flat_map (conflict_line l.db) (rows_left l.db rest.walk) ++ conflicts_line (census_of (trees l.db))) c.in_ok-db.ensures.ok (sym c.in-Some.ensures) in
+    let all = ap (λ (rows : List RowValue). flat_map (conflict_line l.db) rows ++ conflicts_line (census_of (trees l.db))) (chosen-all (feed l.db 0 l.db.update_seq)) in
+    in_full (reads (Ok (conflicts_left c.args.databases.now rest)) (passes _ (is_found why.NoDatabase (sym c.in-Some.ensures)) ∙ ap Ok (sym (left ∙ all))))
+
+pub returns-clause-fits : goal.returns-clause-fits
+returns-clause-fits c =
+    holds_found c.args.databases.now (λ (l : PeerValue). (earlier : List RowValue) × (c.none.result ≡ census_of (map (λ (x : RowValue). tree_of l.db.docs x.id) earlier)) × (earlier ++ chosen_feed None l.db 0 l.db.update_seq ≡ chosen_feed None l.db 0 l.db.update_seq) × ◌≡◌ {A = Choice} None None) c.in_ok-db.ensures.ok (sym c.in-Some.ensures) ([], c.none.ensures, refl, refl)

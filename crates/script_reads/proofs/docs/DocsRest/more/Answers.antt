@@ -1,0 +1,40 @@
+use Rattle.std.proofs.Common.{◌≡◌, ◌++◌, ℕ, List, [], refl, sym, ap, subst, ◌∙◌}
+use Rattle.std.specs.List.{flat_map}
+use Rattle.couch_base.specs.Database.{DatabaseValue}
+use Rattle.repl_peer.specs.peer.Peer.{PeerValue}
+use Rattle.script_rooms.specs.Texts.{last_line}
+use Rattle.script_reads.specs.Walks.{rows_left}
+use Rattle.script_reads.specs.Docs.{leaf_lines}
+use Rattle.script_reads.specs.declared.feed.Walk.{Walk}
+use Rattle.script_reads.proofs.RestLemmas.{left_found}
+use Rattle.script_rooms.proofs.TextLemmas.{piece_on, piece_last}
+use Rattle.script_reads.proofs.docs.DocsRest.more.Goals as goal
+
+abbrev docs_rest : DatabaseValue → Walk → List ℕ
+docs_rest d walk = flat_map (leaf_lines d) (rows_left d walk) ++ last_line d.update_seq
+
+pub returns-then-branch-clause-piece : goal.returns-then-branch-clause-piece
+returns-then-branch-clause-piece c =
+    let s = c.args.databases.now in
+    let d = c.db-database.result.now in
+    let old = c.args.piece.now.items in
+    let new = c.fill.new.piece.items in
+    let from = c.args.self.now.walk in
+    let on = c.fill.new.walk in
+    let step = piece_on (leaf_lines d) (leaf_lines d) old new (last_line d.update_seq) (rows_left d from) (rows_left d on) c.in_ok-fill.ensures.text refl in
+    ap (λ t. new ++ t) (left_found s (λ (l : PeerValue). docs_rest l.db on) (sym c.as_str.ensures.value) (sym c.in-Some.ensures))
+    ∙ subst (λ (x : DatabaseValue). new ++ docs_rest x on ≡ old ++ docs_rest x from) c.db-database.ensures.value step
+    ∙ ap (λ t. old ++ t) (sym (left_found s (λ (l : PeerValue). docs_rest l.db from) (sym c.as_str.ensures.value) (sym c.in-Some.ensures)))
+
+pub returns-clause-piece : goal.returns-clause-piece
+returns-clause-piece c =
+    let s = c.args.databases.now in
+    let d = c.db-database.result.now in
+    let old = c.args.piece.now.items in
+    let new = c.fill.new.piece.items in
+    let end = c.push_last.new.text.items in
+    let from = c.args.self.now.walk in
+    let on = c.fill.new.walk in
+    let last = piece_last (leaf_lines d) (leaf_lines d) old new end (last_line d.update_seq) (rows_left d from) (rows_left d on) c.in_ok-fill.ensures.text (c.in_ok-fill.ensures.end c.if-branch.false) (c.in_ok-push_last.ensures ∙ ap (λ n. new ++ last_line n) c.update_seq.ensures.seq) in
+    subst (λ (x : DatabaseValue). end ++ [] ≡ old ++ docs_rest x from) c.db-database.ensures.value last
+    ∙ ap (λ t. old ++ t) (sym (left_found s (λ (l : PeerValue). docs_rest l.db from) (sym c.as_str.ensures.value) (sym c.in-Some.ensures)))

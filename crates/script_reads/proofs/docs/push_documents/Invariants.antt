@@ -1,0 +1,8 @@
+-- The documents so far have been printed.
+use Rattle.std.proofs.Common.{◌≡◌, ◌++◌, take}
+use Rattle.std.specs.List.{flat_map}
+use Rattle.script_reads.specs.Docs.{doc_line}
+use Rattle.script_reads.proofs.docs.push_documents.Given as goal
+
+abbrev pub invariant-loop-document : goal.invariant-loop-document
+invariant-loop-document l = l.answer.items ≡ l.fn.answer.items ++ flat_map doc_line (take l.document-index l.documents)

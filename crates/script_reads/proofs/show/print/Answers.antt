@@ -1,0 +1,16 @@
+use Rattle.std.proofs.Common.{◌≡◌, true, sym, ap, ◌∙◌}
+use Rattle.std.proofs.lemmas.Bool.{and_parts}
+use Rattle.std.specs.List.{list_all}
+use Rattle.rev_tree.specs.Tree.{TreeValue, has, leaves}
+use Rattle.rev_tree.specs.LeafLaws.{is_among-leaves}
+use Rattle.couch_base.specs.ListLaws.{all_members}
+use Rattle.script_reads.proofs.show.print.Goals as goal
+
+-- the leaves of a tree are in it
+all_known : (t : TreeValue) → list_all (has t) (leaves t) ≡ true
+all_known t = all_members (has t) (leaves t) (λ r m. (and_parts _ _ (sym (is_among-leaves t r) ∙ m)).0)
+
+pub push_leaves-requires : goal.push_leaves-requires
+push_leaves-requires c =
+    let t = c.args.tree.now in
+    ap (list_all (has t)) (c.as_slice-2.ensures ∙ c.in_ok-leaves.ensures) ∙ all_known t

@@ -1,0 +1,11 @@
+use Rattle.std.proofs.Common.{ap, ◌∙◌, arith}
+use Rattle.std.proofs.lemmas.Bool.{both_ways, true_from_ne_false}
+use Rattle.std.proofs.lemmas.List.Folds.{list_all_at}
+use Rattle.rev_tree.specs.Tree.{has}
+use Rattle.script_reads.proofs.show.push_leaves.Goals as goal
+
+-- what holds of all holds of each
+pub push_leaf-requires : goal.push_leaf-requires
+push_leaf-requires c =
+    ap (has c.args.tree.now) c.leaf-item.is
+    ∙ true_from_ne_false _ (λ no. both_ways _ (list_all_at (has c.args.tree.now) c.args.leaves.now c.loop-leaf.leaf-index _ (omega arith) no) c.requires)

@@ -1,0 +1,12 @@
+pub mod Walks
+pub mod Show
+pub mod Doc
+pub mod Changes
+pub mod Log
+pub mod Audit
+pub mod Compare
+pub mod Conflicts
+pub mod Docs
+pub mod Info
+pub mod Ledger
+pub mod Rest

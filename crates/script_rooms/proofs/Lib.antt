@@ -1,0 +1,5 @@
+pub mod MembersLemmas
+pub mod TextLemmas
+pub mod TellingLemmas
+pub mod CheckLemmas
+pub mod RoomLemmas

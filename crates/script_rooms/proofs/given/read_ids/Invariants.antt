@@ -1,0 +1,15 @@
+use Rattle.std.proofs.Common.{◌≡◌, ℕ, List, ◌++◌, drop, Result, Ok, Err}
+use Rattle.json_values.specs.LineView.{line_items}
+use Rattle.script_databases.specs.declared.refusal.Refusal.{Refusal}
+use Rattle.script_rooms.specs.Given.{ids_given}
+use Rattle.script_rooms.specs.Members.{texts_of}
+use Rattle.script_rooms.proofs.given.read_ids.Given as goal
+
+-- ids, and those that follow them
+abbrev joined : List (List ℕ) → Result (List (List ℕ)) Refusal → Result (List (List ℕ)) Refusal
+joined ids (Ok more) = Ok (ids ++ more)
+joined ids (Err refusal) = Err refusal
+
+-- the ids so far, and those of the rest, are those of all
+abbrev pub invariant-loop-item : goal.invariant-loop-item
+invariant-loop-item l = joined l.ids.items (ids_given (texts_of (line_items (drop l.item-index l.item-items)))) ≡ ids_given (texts_of (line_items l.item-items))

@@ -1,0 +1,11 @@
+-- An object's keys are those of its view.
+use Rattle.std.proofs.Common.{map, ap, ◌∙◌, false}
+use Rattle.std.specs.Option.{option_map_or}
+use Rattle.script_rooms.specs.Members.{all_among}
+use Rattle.script_rooms.proofs.MembersLemmas.{all_among-keys}
+use Rattle.script_rooms.proofs.members.has_only_members.Goals as goal
+
+pub returns-in-Some : goal.returns-in-Some
+returns-in-Some c =
+    c.are_all_among.ensures ∙ all_among-keys c.args.keys.now c.in-Some.members.now.items
+    ∙ ap (λ o. option_map_or (all_among (map (λ x. x.now) c.args.keys.now)) o false) c.in-Some.ensures

@@ -1,0 +1,144 @@
+//! Parts of answers that several words print (docs/PROFILE.md, "Answers").
+ghost use Rattle.std.specs.Prelude.{◌≡◌, ◌++◌, IfOk, OnOk, decimal, string_bytes};
+ghost use Rattle.rev_core.specs.Text.{rev_text};
+ghost use Rattle.repl_log.specs.Text.{id_digits};
+ghost use Rattle.script_rooms.specs.Telling.{hushed};
+ghost use Rattle.script_rooms.specs.Texts.{last_line, line_of_revs, quoted, revs_line, texts_of_revs};
+
+use doc_json::push_text;
+use itoa::Buffer;
+use rev_core::Rev;
+use std::alloc::{AllocError, Global};
+
+/// Adds a number.
+#[inline(never)]
+pub fn push_number(text: &mut Vec<u8>, number: u64) -> Result<(), AllocError>
+    ensures { OnOk result (text.new.items ≡ text.old.items ++ decimal number) }
+{
+    let mut digits = Buffer::new();
+    text.extend_from_slice(digits.format(number).as_bytes())
+}
+
+/// Adds a count. Mostly it has one digit.
+#[inline(always)]
+pub fn push_count(text: &mut Vec<u8>, count: usize) -> Result<(), AllocError>
+    ensures { OnOk result (text.new.items ≡ text.old.items ++ decimal count) }
+{
+    if count < 10 {
+        text.push(b'0' + count as u8)?;
+        return Ok(());
+    }
+    push_number(text, count as u64)
+}
+
+/// Adds the text of a revision.
+pub fn push_rev(text: &mut Vec<u8>, rev: &Rev) -> Result<(), AllocError>
+    ensures { OnOk result (text.new.items ≡ text.old.items ++ rev_text rev.now) }
+{
+    push_generation(text, rev.generation())?;
+    text.push(b'-')?;
+    push_sig(text, rev.sig_bytes())
+}
+
+/// Adds a generation. Mostly it has one digit.
+#[inline(always)]
+fn push_generation(text: &mut Vec<u8>, generation: u32) -> Result<(), AllocError>
+    ensures { OnOk result (text.new.items ≡ text.old.items ++ decimal generation) }
+{
+    if generation < 10 {
+        text.push(b'0' + generation as u8)?;
+        return Ok(());
+    }
+    push_number(text, u64::from(generation))
+}
+
+/// Adds the bytes of a signature. Mostly they are 32, and their count is known where they are copied.
+#[inline(always)]
+fn push_sig(text: &mut Vec<u8>, sig: &[u8]) -> Result<(), AllocError>
+    ensures { OnOk result (text.new.items ≡ text.old.items ++ sig.now) }
+{
+    if sig.len() == 32 {
+        text.extend_from_slice(&sig[..32])?;
+        return Ok(());
+    }
+    text.extend_from_slice(sig)
+}
+
+/// Adds the texts of revisions, joined by commas.
+pub fn push_revs(text: &mut Vec<u8>, revs: &[Rev]) -> Result<(), AllocError>
+    ensures { OnOk result (text.new.items ≡ text.old.items ++ texts_of_revs revs.now) }
+{
+    for i in 0..revs.len() {
+        if i > 0 {
+            text.extend_from_slice(b",")?;
+        }
+        push_rev(text, &revs[i])?;
+    }
+    Ok(())
+}
+
+/// Adds a text as JSON, in quotation marks.
+#[inline(always)]
+pub fn push_json(text: &mut Vec<u8>, string: &str) -> Result<(), AllocError>
+    ensures { OnOk result (text.new.items ≡ text.old.items ++ quoted string.now) }
+{
+    push_text(text, string)
+}
+
+/// Adds a line of a word, a document's id and revisions of it; no line where there are no revisions.
+pub fn push_revs_line(
+    text: &mut Vec<u8>,
+    word: &[u8],
+    id: &str,
+    revs: &[Rev],
+) -> Result<(), AllocError>
+    ensures { OnOk result (text.new.items ≡ text.old.items ++ revs_line word.now id.now revs.now) }
+{
+    if revs.is_empty() {
+        return Ok(());
+    }
+    push_line_of_revs(text, word, id, revs)
+}
+
+/// Adds a line of a word, a document's id and revisions of it.
+fn push_line_of_revs(
+    text: &mut Vec<u8>,
+    word: &[u8],
+    id: &str,
+    revs: &[Rev],
+) -> Result<(), AllocError>
+    ensures { OnOk result (text.new.items ≡ text.old.items ++ line_of_revs word.now id.now revs.now) }
+{
+    text.extend_from_slice(word)?;
+    text.push(b' ')?;
+    push_json(text, id)?;
+    text.push(b' ')?;
+    push_revs(text, revs)?;
+    text.extend_from_slice(b"\n")
+}
+
+/// Adds the line of the sequence up to which a feed was listed.
+pub fn push_last(text: &mut Vec<u8>, last: u64) -> Result<(), AllocError>
+    ensures { OnOk result (text.new.items ≡ text.old.items ++ last_line last) }
+{
+    text.extend_from_slice(b"last ")?;
+    push_number(text, last)?;
+    text.extend_from_slice(b"\n")
+}
+
+/// Takes the answer back, where the program is quiet.
+pub fn hush(text: &mut Vec<u8>, quiet: bool)
+    ensures { text.new.items ≡ hushed quiet text.old.items }
+{
+    if quiet {
+        text.clear();
+    }
+}
+
+/// The 32 lower case hexadecimal digits of an id.
+#[tactic(auto, unfolding(repl_log::specs::Text::id_digits))]
+pub fn id_text(alloc: Global, id: u128) -> Result<String, AllocError>
+    ensures { IfOk result (λ text. string_bytes text ≡ id_digits id) }
+{
+    hex::encode(alloc, id.to_be_bytes())
+}

@@ -1,8 +1,0 @@
-use Rattle.std.proofs.Common.{◌≡◌, drop}
-use Rattle.json_values.specs.LineView.{line_items}
-use Rattle.script_words.specs.Members.{are_texts}
-use Rattle.script_words.proofs.members.are_texts.Given as goal
-
--- each item so far is one
-abbrev pub invariant-loop-item : goal.invariant-loop-item
-invariant-loop-item l = are_texts (line_items (drop l.item-index l.item-items)) ≡ are_texts (line_items l.item-items)

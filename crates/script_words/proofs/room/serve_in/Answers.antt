@@ -1,9 +1,0 @@
-use Rattle.std.proofs.Common.{sym}
-use Rattle.script_words.proofs.WordLemmas.{room_answered, room_refused}
-use Rattle.script_words.proofs.room.serve_in.Goals as goal
-
-pub returns-in-Some : goal.returns-in-Some
-returns-in-Some g c = room_answered (sym c.in-Some.ensures) c.serve.ensures
-
-pub returns-in-None : goal.returns-in-None
-returns-in-None g c = room_refused (sym c.in-None.ensures)

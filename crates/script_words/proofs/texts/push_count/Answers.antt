@@ -1,6 +1,0 @@
-use Rattle.std.proofs.Common.{◌++◌, sym, ap, ◌∙◌, arith}
-use Rattle.std.proofs.lemmas.Fmt.{decimal_digit}
-use Rattle.script_words.proofs.texts.push_count.Goals as goal
-
-pub returns-then-count-lt10 : goal.returns-then-count-lt10
-returns-then-count-lt10 c = c.in_ok-push.ensures.items ∙ ap (λ x. c.args.text.now.items ++ x) (sym (decimal_digit c.args.count (omega arith)))

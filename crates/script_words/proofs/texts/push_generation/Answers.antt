@@ -1,6 +1,0 @@
-use Rattle.std.proofs.Common.{◌++◌, sym, ap, ◌∙◌, arith}
-use Rattle.std.proofs.lemmas.Fmt.{decimal_digit}
-use Rattle.script_words.proofs.texts.push_generation.Goals as goal
-
-pub returns-then-generation-lt10 : goal.returns-then-generation-lt10
-returns-then-generation-lt10 c = c.in_ok-push.ensures.items ∙ ap (λ x. c.args.text.now.items ++ x) (sym (decimal_digit c.args.generation (omega arith)))

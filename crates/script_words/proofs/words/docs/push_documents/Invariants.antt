@@ -1,8 +1,0 @@
--- The documents so far have been printed.
-use Rattle.std.proofs.Common.{◌≡◌, ◌++◌, take}
-use Rattle.std.specs.List.{flat_map}
-use Rattle.script_words.specs.words.Docs.{doc_line}
-use Rattle.script_words.proofs.words.docs.push_documents.Given as goal
-
-abbrev pub invariant-loop-document : goal.invariant-loop-document
-invariant-loop-document l = l.answer.items ≡ l.fn.answer.items ++ flat_map doc_line (take l.document-index l.documents)

@@ -1,8 +1,0 @@
--- The rows so far have been printed.
-use Rattle.std.proofs.Common.{◌≡◌, ◌++◌, take}
-use Rattle.std.specs.List.{flat_map}
-use Rattle.script_words.specs.words.Ledger.{refused_line}
-use Rattle.script_words.proofs.words.ledger.push_rows.Given as goal
-
-abbrev pub invariant-loop-row : goal.invariant-loop-row
-invariant-loop-row l = l.answer.items ≡ l.fn.answer.items ++ flat_map refused_line (take l.row-index l.rows)

@@ -1,8 +1,0 @@
--- The leaves so far have been printed.
-use Rattle.std.proofs.Common.{◌≡◌, ◌++◌, take}
-use Rattle.std.specs.List.{flat_map}
-use Rattle.script_words.specs.words.Show.{leaf_line}
-use Rattle.script_words.proofs.words.show.push_leaves.Given as goal
-
-abbrev pub invariant-loop-leaf : goal.invariant-loop-leaf
-invariant-loop-leaf l = l.answer.items ≡ l.fn.answer.items ++ flat_map (leaf_line l.tree) (take l.leaf-index l.leaves)

@@ -1,0 +1,3 @@
+pub mod LoadLemmas
+pub mod ReplicateLemmas
+pub mod trust

@@ -1,0 +1,7 @@
+use Rattle.std.proofs.Common.{ap}
+use Rattle.script_databases.specs.Databases.{Program}
+use Rattle.script_rooms.proofs.TellingLemmas.{taken_back}
+use Rattle.script_writes.proofs.edit.EditRoomRefLine.serve.Goals as goal
+
+pub returns : goal.returns
+returns g c = taken_back _ c.edit_loud-served.result c.edit_loud-served.new.answer.items _ (ap (λ (p : Program). p.quiet) c.settings.ensures) c.hush.ensures c.edit_loud-served.ensures

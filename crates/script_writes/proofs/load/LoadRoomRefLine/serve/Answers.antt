@@ -1,0 +1,7 @@
+use Rattle.std.proofs.Common.{ap}
+use Rattle.script_databases.specs.Databases.{Program}
+use Rattle.script_rooms.proofs.TellingLemmas.{taken_back}
+use Rattle.script_writes.proofs.load.LoadRoomRefLine.serve.Goals as goal
+
+pub returns : goal.returns
+returns g c = taken_back _ c.load_loud-served.result c.load_loud-served.new.answer.items _ (ap (λ (p : Program). p.quiet) c.settings.ensures) c.hush.ensures c.load_loud-served.ensures
