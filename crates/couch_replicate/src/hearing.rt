@@ -1,10 +1,12 @@
 //! What is told on standard error beside the answers, for people: a sentence for each refusal, and how far the run came
 //! (docs/PROFILE.md, "Options").
 
+use crate::seen::Seen;
 use json_values::{ValueReader, is_same_text};
 use script_databases::Settings;
 use script_engine::Listen;
 use script_explanations::explain;
+use script_words::Attend;
 use std::alloc::{AllocError, Global};
 use std::io::Eprint;
 use std::rt::Clock;
@@ -32,6 +34,8 @@ pub struct Hearing<'a, H> {
     explains: bool,
     /// When it was last told how far the run came, where that is told.
     told_at: Option<Instant>,
+    /// What the answers say of that.
+    seen: Seen,
     /// How many refusals were told with a sentence.
     told: u64,
     /// The names of refusals that came, and how often.
@@ -67,6 +71,15 @@ impl<'a, H: Eprint + Clock> Listen for Hearing<'a, H> {
     }
 }
 
+impl<'a, H: Eprint + Clock> Attend for Hearing<'a, H> {
+    #[inline]
+    fn attend(&mut self, answer: &[u8]) {
+        if self.told_at.is_some() {
+            self.seen.note(answer);
+        }
+    }
+}
+
 impl<'a, H: Eprint + Clock> Hearing<'a, H> {
     /// Tells refusals where `explains` is true, and how far a run came where `shows` is.
     pub(crate) fn new(rt: &'a H, alloc: Global, explains: bool, shows: bool) -> Hearing<'a, H> {
@@ -75,6 +88,7 @@ impl<'a, H: Eprint + Clock> Hearing<'a, H> {
             rt,
             explains,
             told_at,
+            seen: Seen::nothing(),
             told: 0,
             counts: Vec::new(alloc),
             values: ValueReader::new(alloc),
@@ -152,6 +166,14 @@ impl<'a, H: Eprint + Clock> Hearing<'a, H> {
             return;
         }
         self.told_at = Some(now);
-        let _ = eprint!(self.rt; "\rline {number} ");
+        let Seen {
+            writes,
+            sessions,
+            read,
+            written,
+        } = self.seen;
+        let _ = eprint!(self.rt;
+            "\rline {number}: {writes} loads and edits, {sessions} sessions, {read} documents read, {written} written "
+        );
     }
 }

@@ -9,6 +9,7 @@ mod hearing;
 mod options;
 mod program;
 mod run;
+mod seen;
 
 use std::io::IsTerminal;
 use std::process::ExitCode;

@@ -233,7 +233,7 @@ fn command<'a>(alloc: Global) -> Result<Command<'a>, AllocError>
         .arg(flag(
             alloc,
             "progress",
-            "Tells the number of the line each second on standard error, where it is a terminal",
+            "Tells on standard error, where it is a terminal, how far the answered lines came",
         ))?
         .arg(file(alloc))?;
     Ok(command)

@@ -15,10 +15,11 @@ ghost use Rattle.script_words.specs.Trust.{TrustedLines};
 ghost use Rattle.script_reads.specs.Rest.{FitsRest, told_begun};
 ghost use Rattle.script_databases.specs.Stored.{program_of};
 
+use crate::attend::Attend;
 use crate::words;
 use json_values::{Line, ReadFault, ValueReader};
 use script_databases::{Databases, Refusal, Settings};
-use script_engine::{Listen, ScriptFault, ScriptRead, ScriptWrite, Serve, leave, run_lines};
+use script_engine::{ScriptFault, ScriptRead, ScriptWrite, Serve, leave, run_lines};
 use script_reads::Rest;
 use std::alloc::{AllocError, Global};
 use std::marker::Model;
@@ -47,7 +48,7 @@ impl<'a, H, L> Model for Interpreter<'a, H, L> {
     ghost view = { λ a. a.databases };
 }
 
-impl<'a, H: Threads + Wait + Sync, L: Listen> Serve for Interpreter<'a, H, L> {
+impl<'a, H: Threads + Wait + Sync, L: Attend> Serve for Interpreter<'a, H, L> {
     ghost use Rattle.std.specs.Thread.{IsSync};
     ghost use Rattle.script_reads.specs.Rest.{FitsRest, rest_left};
 
@@ -73,6 +74,7 @@ impl<'a, H: Threads + Wait + Sync, L: Listen> Serve for Interpreter<'a, H, L> {
             Ok(rest) => rest,
             Err(refusal) => return Err(refusal.name()),
         };
+        self.listener.attend(answer.as_slice());
         Ok(rest)
     }
 
@@ -139,10 +141,10 @@ pub fn read_object<'a>(
 /// The databases of the script are left in memory, since to let go of each document takes long: a program ends behind
 /// it.
 ///
-/// The listener hears what each line is told, and changes nothing of it.
+/// The listener hears what each line is told, and how its answer begins, and changes nothing of it.
 ///
 /// It waits for the threads of a `replicate` line. That it ends is not proved.
-pub fn run_script<H, R: ScriptRead, W: ScriptWrite, L: Listen>(
+pub fn run_script<H, R: ScriptRead, W: ScriptWrite, L: Attend>(
     rt: &H,
     reader: &mut R,
     writer: &mut W,
@@ -193,7 +195,7 @@ where
 }
 
 /// Runs a script on databases that are there, and gives them back: the last state of the script.
-fn run_on<H: Threads + Wait + Sync, R: ScriptRead, W: ScriptWrite, L: Listen>(
+fn run_on<H: Threads + Wait + Sync, R: ScriptRead, W: ScriptWrite, L: Attend>(
     rt: &H,
     alloc: Global,
     databases: Databases,

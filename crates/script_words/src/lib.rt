@@ -5,7 +5,9 @@
 //! others in `script_writes`, and what all rooms are made of in `script_rooms`. `interpreter` runs a whole script.
 #![tactic(auto)]
 
+mod attend;
 mod interpreter;
 mod words;
 
+pub use attend::Attend;
 pub use interpreter::run_script;
