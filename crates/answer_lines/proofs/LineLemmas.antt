@@ -41,7 +41,7 @@ abbrev head_or : ℕ → List ℕ → ℕ
 head_or d [] = d
 head_or d (x ∷ xs) = x
 
-first_apart : (a b : ℕ) (x y : List ℕ) → (a ≡ b → ⊥) → a ∷ x ≡ b ∷ y → ⊥
+pub first_apart : (a b : ℕ) (x y : List ℕ) → (a ≡ b → ⊥) → a ∷ x ≡ b ∷ y → ⊥
 first_apart a b x y apart e = apart (ap (head_or 0) e)
 
 state_list : (a b : Bool) (x y : List ℕ) → state_text a ++ x ≡ state_text b ++ y → x ≡ y

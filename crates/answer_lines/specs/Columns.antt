@@ -1,7 +1,7 @@
 -- Lines that are a row of numbers: docs/PROFILE.md, "Answers".
 use Rattle.std.specs.Prelude.{◌≡◌, ℕ, List, [], ◌∷◌, ◌++◌, true, codes, reverse}
 use Rattle.std.specs.Str.{IsUtf8}
-use Rattle.answer_lines.specs.Words.{lacks, named, IsNumber}
+use Rattle.answer_lines.specs.Words.{lacks, named, InTurn, IsNumber}
 use Rattle.answer_lines.specs.declared.told.Column.{Column}
 use Rattle.answer_lines.specs.declared.told.Column.TheVariants as columns
 use Rattle.answer_lines.specs.declared.told.Table.{Table}
@@ -49,10 +49,7 @@ pub record EndsIn (column : Column) (n : ℕ) (front text : List ℕ) : Type 0 w
 
 -- The text ends in these columns with these numbers, the last one first, and that is what stands before.
 abbrev pub Ends : List Column → List ℕ → List ℕ → List ℕ → Type 0
-Ends [] [] front text = text ≡ front
-Ends [] (n ∷ ns) front text = ⊥
-Ends (column ∷ rest) [] front text = ⊥
-Ends (column ∷ rest) (n ∷ ns) front text = (before : List ℕ) × EndsIn column n before text × Ends rest ns front before
+Ends columns numbers front text = InTurn EndsIn columns numbers front text
 
 -- what stands before the columns: `info DB uuid U`, `session S`, or nothing
 abbrev pub IsFront : Table → List ℕ → List ℕ → Type 0

@@ -1,11 +1,12 @@
 -- What lines of a script's answers tell: docs/PROFILE.md, "Answers" and "Pictures".
-use Rattle.std.specs.Prelude.{◌≡◌, ℕ, List, [], ◌∷◌, ◌++◌, Bool, true, false, codes, string_bytes}
+use Rattle.std.specs.Prelude.{◌≡◌, ℕ, List, [], ◌∷◌, ◌++◌, Bool, true, false, codes, map, string_bytes}
 use Rattle.std.specs.Str.{IsUtf8}
 use Rattle.rev_core.specs.Rev.{RevId}
 use Rattle.rev_core.specs.Text.{rev_text}
 use Rattle.rev_core.specs.Ancestry.{FallsByOne}
 use Rattle.answer_lines.specs.Words.{lacks, named, IsNumber, IsRevs}
 use Rattle.answer_lines.specs.Columns.{IsRow}
+use Rattle.answer_lines.specs.Logs.{IsLog, Logged, logged}
 use Rattle.answer_lines.specs.declared.told.Finding.{Finding}
 use Rattle.answer_lines.specs.declared.told.Finding.TheVariants as findings
 use Rattle.answer_lines.specs.declared.told.Table.{Table}
@@ -72,6 +73,9 @@ NoFinding line finding = (id : List ℕ) (revs : List RevId) → IsListed (findi
 abbrev pub NoRow : List ℕ → Table → Type 0
 NoRow line table = (name numbers : List ℕ) → IsRow table line name numbers → ⊥
 
+abbrev pub NoLog : List ℕ → Type 0
+NoLog line = (id : List ℕ) (entries : List Logged) → IsLog line id entries → ⊥
+
 -- What a line tells that is of no tree.
 abbrev pub TellsMore : List ℕ → Told → Type 0
 TellsMore line (told.Document id count) = ⊥
@@ -79,7 +83,8 @@ TellsMore line (told.Leaf live revs) = ⊥
 TellsMore line (told.Conflict id revs) = ⊥
 TellsMore line (told.Found f) = IsListed (finding_text f.finding) line (string_bytes f.id) f.revs.items
 TellsMore line (told.Row r) = IsRow r.table line (string_bytes r.name) r.numbers.items
-TellsMore line told.Other = ((finding : Finding) → NoFinding line finding) × ((table : Table) → NoRow line table)
+TellsMore line (told.Log l) = IsLog line (string_bytes l.id) (map logged l.entries.items)
+TellsMore line told.Other = ((finding : Finding) → NoFinding line finding) × ((table : Table) → NoRow line table) × NoLog line
 
 -- What a line tells; nothing, where it has none of the forms.
 abbrev pub Tells : List ℕ → Told → Type 0
@@ -88,7 +93,8 @@ Tells line (told.Leaf live revs) = IsLeafLine line live revs.items
 Tells line (told.Conflict id revs) = IsListed (codes "conflict ") line (string_bytes id) revs.items
 Tells line (told.Found f) = IsListed (finding_text f.finding) line (string_bytes f.id) f.revs.items
 Tells line (told.Row r) = IsRow r.table line (string_bytes r.name) r.numbers.items
+Tells line (told.Log l) = IsLog line (string_bytes l.id) (map logged l.entries.items)
 Tells line told.Other =
     ((id : List ℕ) (count : ℕ) → IsDocLine line id count → ⊥) × ((live : Bool) (revs : List RevId) → IsLeafLine line live revs → ⊥)
     × ((id : List ℕ) (revs : List RevId) → IsListed (codes "conflict ") line id revs → ⊥)
-    × (((finding : Finding) → NoFinding line finding) × ((table : Table) → NoRow line table))
+    × (((finding : Finding) → NoFinding line finding) × ((table : Table) → NoRow line table) × NoLog line)

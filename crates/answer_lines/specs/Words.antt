@@ -1,5 +1,5 @@
 -- Words of a line: docs/PROFILE.md, "Answers".
-use Rattle.std.specs.Prelude.{◌≡◌, ◌==◌, ◌<◌, ◌^◌, ℕ, List, ◌∷◌, ◌++◌, Bool, not, map, decimal}
+use Rattle.std.specs.Prelude.{◌≡◌, ◌==◌, ◌<◌, ◌^◌, ℕ, List, [], ◌∷◌, ◌++◌, Bool, not, map, decimal}
 use Rattle.std.specs.List.{AllByRecursion, list_all, slice_split}
 use Rattle.rev_core.specs.Rev.{IsRev, RevId}
 use Rattle.rev_core.specs.Text.{rev_text}
@@ -20,3 +20,10 @@ IsNumber text n = (text ≡ decimal n) × (n < 2 ^ 64)
 pub record IsRevs (text : List ℕ) (revs : List RevId) : Type 0 where
   pub listed : slice_split (λ b. b == 44) text ≡ map rev_text revs
   pub each : AllByRecursion IsRev revs
+
+-- Things stand one behind another in a text, each with its value; a step says what is left of the text behind a thing.
+abbrev pub InTurn : {T V : Type 0} → (T → V → List ℕ → List ℕ → Type 0) → List T → List V → List ℕ → List ℕ → Type 0
+InTurn Step [] [] rest text = text ≡ rest
+InTurn Step [] (v ∷ vs) rest text = ⊥
+InTurn Step (t ∷ ts) [] rest text = ⊥
+InTurn Step (t ∷ ts) (v ∷ vs) rest text = (after : List ℕ) × Step t v after text × InTurn Step ts vs rest after

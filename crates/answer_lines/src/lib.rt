@@ -5,10 +5,11 @@
 
 mod cuts;
 mod lines;
+mod logs;
 mod numbers;
 mod revs;
 mod rows;
 mod told;
 
 pub use lines::read_line;
-pub use told::{Column, Finding, Found, Row, Table, Told};
+pub use told::{Column, Entry, Finding, Found, Log, Member, Row, Table, Told};

@@ -5,6 +5,7 @@ ghost use Rattle.rev_core.specs.Rev.{IsRev, RevId};
 ghost use Rattle.answer_lines.specs.Lines.{BeginsWith, IsDocLine, IsLeafLine, IsListed, LeafParts, ListedParts, Tells, TellsMore, finding_text};
 
 use crate::cuts::{behind, cut_first, cut_last, cut_named};
+use crate::logs::read_log;
 use crate::numbers::number;
 use crate::revs::{falls_by_one, read_revs, revision};
 use crate::rows::read_row;
@@ -54,7 +55,10 @@ fn read_more(alloc: Global, line: &[u8]) -> Result<Told, AllocError>
     if let Some(row) = read_row(alloc, line, Table::Session)? {
         return Ok(Told::Row(row));
     }
-    Ok(Told::Other)
+    match read_log(alloc, line)? {
+        Some(log) => Ok(Told::Log(log)),
+        None => Ok(Told::Other),
+    }
 }
 
 /// What a line of `compare` finds of a document.

@@ -2,6 +2,7 @@
 ghost use Rattle.std.specs.Prelude.{◌≡◌};
 ghost use Rattle.answer_lines.specs.Lines.{finding_text};
 ghost use Rattle.answer_lines.specs.Columns.{column_text, columns_of};
+ghost use Rattle.answer_lines.specs.Logs.{member_end, member_text};
 
 use rev_core::Rev;
 
@@ -18,6 +19,8 @@ pub enum Told {
     Found(Found),
     /// A row of numbers.
     Row(Row),
+    /// A log.
+    Log(Log),
     /// Nothing of these.
     Other,
 }
@@ -168,6 +171,77 @@ impl Column {
             Column::Read => " read",
             Column::Written => " written",
             Column::Failed => " failed",
+        }
+    }
+}
+
+/// A log.
+#[derive(Drop)]
+pub struct Log {
+    /// The replication's id.
+    pub id: String,
+    /// Its sessions, newest first.
+    pub entries: Vec<Entry>,
+}
+
+/// What a log tells of a session.
+#[derive(Drop)]
+pub struct Entry {
+    /// The session's id.
+    pub session: String,
+    /// When it began, as the log writes it.
+    pub begun: String,
+    /// How many documents it read, how many of them it wrote, and how many writes failed.
+    pub read: u64,
+    pub written: u64,
+    pub failed: u64,
+}
+
+/// A member of a session in the text of a log, in their order.
+#[derive(Clone, Copy, Debug, PartialEq, Eq)]
+pub enum Member {
+    Failed,
+    Read,
+    Written,
+    End,
+    EndTime,
+    Checked,
+    Found,
+    Recorded,
+    Session,
+    Start,
+    StartTime,
+}
+
+impl Member {
+    /// What stands before its value.
+    pub fn text(self) -> &'static str
+        ensures { result.now ≡ member_text self }
+    {
+        match self {
+            Member::Failed => "{\"doc_write_failures\":",
+            Member::Read => "\"docs_read\":",
+            Member::Written => "\"docs_written\":",
+            Member::End => "\"end_last_seq\":",
+            Member::EndTime => "\"end_time\":\"",
+            Member::Checked => ",\"missing_checked\":",
+            Member::Found => "\"missing_found\":",
+            Member::Recorded => "\"recorded_seq\":",
+            Member::Session => "\"session_id\":\"",
+            Member::Start => ",\"start_last_seq\":",
+            Member::StartTime => "\"start_time\":\"",
+        }
+    }
+
+    /// The byte behind its value: the comma, or the mark that ends a text.
+    pub fn end(self) -> u8
+        ensures { result ≡ member_end self }
+    {
+        match self {
+            Member::EndTime => b'"',
+            Member::Session => b'"',
+            Member::StartTime => b'"',
+            _ => b',',
         }
     }
 }

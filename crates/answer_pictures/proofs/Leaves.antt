@@ -11,7 +11,7 @@ use Rattle.answer_pictures.specs.declared.document.Leaf.{Leaf}
 use Rattle.answer_pictures.specs.declared.form.Form.{Form}
 use Rattle.answer_pictures.specs.declared.reading.Whole.{Whole}
 use Rattle.answer_pictures.specs.Ink.{Draws, Sign, signs_of}
-use Rattle.answer_pictures.specs.Drawing.{IsDrawn, IsNext, IsPicture, Sketch, State, Takes, conflict, empty, found, loose, more, opened, other, row, state_of, states, whole, with_all, with_leaf}
+use Rattle.answer_pictures.specs.Drawing.{IsDrawn, IsNext, IsPicture, Sketch, State, Takes, conflict, empty, found, log, loose, more, opened, other, row, state_of, states, whole, with_all, with_leaf}
 use Rattle.answer_lines.specs.Lines.{Tells}
 
 state_is : (r s : RevId) (a b c d : Bool) → r ≡ s → a ≡ b → c ≡ d → Path State (r, a, c) (s, b, d)
@@ -39,6 +39,7 @@ none_open old new t w (whole r h k n low) = refl
 none_open old new t w (conflict h) = refl
 none_open old new t w found = refl
 none_open old new t w row = refl
+none_open old new t w log = refl
 
 -- from an empty text on
 pub draws_new : {T E : Type 0} (r : Result T E) (signs : List Sign) (a b : List ℕ) → a ≡ [] → OnOk r (Draws a b signs) → OnOk r (Draws [] b signs)

@@ -3,7 +3,6 @@ use Rattle.std.proofs.Common.{◌≡◌, ℕ, zero, suc, ◌+◌, ◌<◌, ◌�
 use Rattle.std.specs.List.{flat_map}
 use Rattle.std.proofs.lemmas.List.{append-nil, map-append, take_more}
 use Rattle.std.proofs.lemmas.Grind.{flat_map-append}
-use Rattle.answer_pictures.specs.declared.document.Leaf.{Leaf}
 use Rattle.answer_lines.specs.declared.told.Column.{Column}
 use Rattle.answer_pictures.specs.Ink.{Draws, Sign, count, counts_of}
 use Rattle.answer_pictures.proofs.Inks.{drawn_then}
@@ -15,13 +14,13 @@ rows_more f a b c leaves i leaf low is p q =
     (sym (ap (map f) (more ∙ ap (λ x. take i leaves ++ x ∷ []) (sym is)) ∙ map-append f (take i leaves) (leaf ∷ [])))
     (drawn_then a b c (map f (take i leaves)) (f leaf ∷ []) p q)
 
-pub edits_more : (f : Leaf → List Sign) (a b c : List ℕ) (leaves : List Leaf) (i : ℕ) (leaf : Leaf) → i < length leaves → leaf ≡ get_or leaves i leaf → Draws a b (flat_map f (take i leaves)) → Draws b c (f leaf) → Draws a c (flat_map f (take (i + 1) leaves))
-edits_more f a b c leaves i leaf low is p q =
-    let more = take_more leaves i leaf low in
-    subst (λ xs. Draws a c xs)
-    (sym (ap (flat_map f) (more ∙ ap (λ x. take i leaves ++ x ∷ []) (sym is)) ∙ (flat_map-append f (take i leaves) (leaf ∷ [])
-    ∙ ap (λ xs. flat_map f (take i leaves) ++ xs) (append-nil (f leaf)))))
-    (drawn_then a b c (flat_map f (take i leaves)) (f leaf) p q)
+pub all_more : {T : Type 0} (f : T → List Sign) (a b c : List ℕ) (xs : List T) (i : ℕ) (x : T) → i < length xs → x ≡ get_or xs i x → Draws a b (flat_map f (take i xs)) → Draws b c (f x) → Draws a c (flat_map f (take (i + 1) xs))
+all_more f a b c xs i x low is p q =
+    let more = take_more xs i x low in
+    subst (λ signs. Draws a c signs)
+    (sym (ap (flat_map f) (more ∙ ap (λ y. take i xs ++ y ∷ []) (sym is)) ∙ (flat_map-append f (take i xs) (x ∷ [])
+    ∙ ap (λ ys. flat_map f (take i xs) ++ ys) (append-nil (f x)))))
+    (drawn_then a b c (flat_map f (take i xs)) (f x) p q)
 
 -- ---- numbers by their columns
 

@@ -10,6 +10,7 @@ use Rattle.script_engine.specs.Serving.{Answering}
 use Rattle.script_engine.specs.Script.{IsAnswered}
 use Rattle.answer_lines.specs.Lines.{Tells}
 use Rattle.answer_lines.specs.declared.told.Found.{Found}
+use Rattle.answer_lines.specs.declared.told.Log.{Log}
 use Rattle.answer_lines.specs.declared.told.Row.{Row}
 use Rattle.answer_lines.specs.declared.told.Told.{Told}
 use Rattle.answer_lines.specs.declared.told.Told.TheVariants as told
@@ -19,7 +20,7 @@ use Rattle.answer_pictures.specs.declared.form.Form.{Form}
 use Rattle.answer_pictures.specs.declared.reading.Whole.{Whole}
 use Rattle.answer_pictures.specs.declared.reading.Whole.TheVariants as wholes
 use Rattle.answer_pictures.specs.Shown.{IsSafe, shown}
-use Rattle.answer_pictures.specs.Ink.{Draws, signs_of, signs_of_found, signs_of_row}
+use Rattle.answer_pictures.specs.Ink.{Draws, signs_of, signs_of_found, signs_of_log, signs_of_row}
 
 -- ---- documents, line by line
 
@@ -71,6 +72,8 @@ pub data IsNext : Option Document → Told → Option Document → Option Whole 
   -- what `compare` finds of a document, and a row of numbers
   found : {old : Option Document} {f : Found} → IsNext old (told.Found f) None (Some (wholes.Found f))
   row : {old : Option Document} {r : Row} → IsNext old (told.Row r) None (Some (wholes.Row r))
+  -- a log
+  log : {old : Option Document} {l : Log} → IsNext old (told.Log l) None (Some (wholes.Log l))
   -- another line
   other : {old : Option Document} → IsNext old told.Other None None
 
@@ -88,6 +91,7 @@ IsDrawn form db None text = text ≡ []
 IsDrawn form db (Some (wholes.Tree d)) text = IsPicture form db d text
 IsDrawn form db (Some (wholes.Found f)) text = Draws [] text (signs_of_found form f.finding (string_bytes f.id) f.revs.items)
 IsDrawn form db (Some (wholes.Row r)) text = Draws [] text (signs_of_row form r.table (string_bytes r.name) r.numbers.items)
+IsDrawn form db (Some (wholes.Log l)) text = Draws [] text (signs_of_log form (string_bytes l.id) l.entries.items)
 
 -- what is drawn as, for which database, and the document that is open
 pub record Sketch : Type 0 where

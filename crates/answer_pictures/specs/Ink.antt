@@ -1,5 +1,5 @@
 -- What pictures are drawn of: docs/PROFILE.md, "Pictures".
-use Rattle.std.specs.Prelude.{◌≡◌, ◌==◌, ◌&&◌, ◌*◌, ◌/◌, ◌-◌, nat_le, drop, get_or, ℕ, Bool, true, false, not, if◌then◌else◌, List, [], ◌∷◌, ◌++◌, Option, Some, None, map, codes, chars, decimal, encode_utf8_all, take}
+use Rattle.std.specs.Prelude.{◌≡◌, ◌==◌, ◌&&◌, ◌*◌, ◌/◌, ◌-◌, nat_le, drop, get_or, ℕ, Bool, true, false, not, if◌then◌else◌, List, [], ◌∷◌, ◌++◌, Option, Some, None, map, codes, chars, decimal, encode_utf8_all, max, string_bytes, take}
 use Rattle.std.specs.List.{flat_map}
 use Rattle.rev_core.specs.Rev.{RevId}
 use Rattle.rev_core.specs.Text.{rev_text}
@@ -7,6 +7,7 @@ use Rattle.answer_lines.specs.Lines.{finding_text}
 use Rattle.answer_lines.specs.Columns.{columns_of}
 use Rattle.answer_lines.specs.declared.told.Column.{Column}
 use Rattle.answer_lines.specs.declared.told.Column.TheVariants as columns
+use Rattle.answer_lines.specs.declared.told.Entry.{Entry}
 use Rattle.answer_lines.specs.declared.told.Finding.{Finding}
 use Rattle.answer_lines.specs.declared.told.Table.{Table}
 use Rattle.answer_lines.specs.declared.told.Table.TheVariants as tables
@@ -96,6 +97,12 @@ pub data Sign : Type 0 where
   count : Column → ℕ → Sign
   -- how much of a whole is there
   bar : Form → ℕ → ℕ → Sign
+  -- a log, by the id of its replication
+  log : Form → List ℕ → Sign
+  -- when a session began
+  moment : Form → List ℕ → Sign
+  -- how many documents it wrote, and how many it read, beside the most that a session of its log read
+  chart : Form → ℕ → ℕ → ℕ → Sign
 
 abbrev pub leaf_ink : Form → RevId → Bool → Bool → List ℕ
 leaf_ink forms.Text r wins live = short_text r ++ label_text wins live
@@ -152,6 +159,23 @@ bar_ink forms.Svg part all =
     ++ decimal (share part all)) ++ codes "\" height=\"10\" class=\"w\"/><text x=\"432\" y=\"63\">") ++ ratio part all)
     ++ codes "</text>\n"
 
+-- how far a chart is filled, and how far it reaches, in 40 characters
+abbrev pub filled : ℕ → ℕ → ℕ
+filled written most = share written most / 10
+
+abbrev pub reached : ℕ → ℕ → ℕ → ℕ
+reached written read most = max (filled written most) (share read most / 10)
+
+abbrev pub chart_ink : Form → ℕ → ℕ → ℕ → List ℕ
+chart_ink forms.Text written read most =
+    (((codes "  [" ++ take (filled written most) (codes "########################################"))
+    ++ take (reached written read most - filled written most) (codes "........................................"))
+    ++ drop (reached written read most) (codes "                                        ")) ++ codes "]"
+chart_ink forms.Svg written read most =
+    (((codes "</text>\n<rect x=\"250\" y=\"8\" height=\"10\" class=\"d\" width=\"" ++ decimal (share read most))
+    ++ codes "\"/><rect x=\"250\" y=\"8\" height=\"10\" class=\"w\" width=\"") ++ decimal (share written most))
+    ++ codes "\"/>\n<text x=\"662\" y=\"18\">"
+
 abbrev pub sign_ink : Sign → List ℕ
 sign_ink (title form text) = shown_text form text
 sign_ink (leaf form r wins live) = leaf_ink form r wins live
@@ -161,6 +185,9 @@ sign_ink (listed r) = codes " " ++ short_text r
 sign_ink (heading form table name) = table_text table ++ shown_text form name
 sign_ink (count column n) = ((codes "  " ++ caption column) ++ codes " ") ++ decimal n
 sign_ink (bar form part all) = bar_ink form part all
+sign_ink (log form id) = codes "log " ++ shown_text form id
+sign_ink (moment form text) = shown_text form text
+sign_ink (chart form written read most) = chart_ink form written read most
 
 -- ---- what it is drawn of
 
@@ -233,3 +260,18 @@ bars_of form tables.Session ns = bar form (get_or ns 5 0) (get_or ns 4 0) ∷ []
 -- its name, its numbers, and a bar
 abbrev pub signs_of_row : Form → Table → List ℕ → List ℕ → List Sign
 signs_of_row form table name ns = heading form table name ∷ (counts_of (columns_of table) ns ++ bars_of form table ns)
+
+-- the most documents that a session of these read, or this many
+abbrev pub most_from : ℕ → List Entry → ℕ
+most_from most [] = most
+most_from most (e ∷ es) = most_from (max most e.read) es
+
+-- of a session of a log: when it began, its documents, and its id
+abbrev pub signs_of_session : Form → ℕ → Entry → List Sign
+signs_of_session form most e =
+    moment form (string_bytes e.begun) ∷ chart form e.written e.read most ∷ count columns.Read e.read ∷ count columns.Written e.written
+    ∷ count columns.Failed e.failed ∷ heading form tables.Session (string_bytes e.session) ∷ []
+
+-- its id, and each session
+abbrev pub signs_of_log : Form → List ℕ → List Entry → List Sign
+signs_of_log form id es = log form id ∷ flat_map (signs_of_session form (most_from 1 es)) es

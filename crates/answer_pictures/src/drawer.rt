@@ -1,7 +1,7 @@
 //! A run over a script's answers.
 ghost use Rattle.std.specs.Prelude.{◌≡◌, [], Some, None, IfOk, OnOk, OnErr, option_map, string_bytes};
 ghost use Rattle.std.specs.Io.KnownBytes.{Keeps};
-ghost use Rattle.answer_pictures.specs.Ink.{Draws, signs_of, signs_of_found, signs_of_row};
+ghost use Rattle.answer_pictures.specs.Ink.{Draws, signs_of, signs_of_found, signs_of_log, signs_of_row};
 ghost use Rattle.answer_pictures.specs.Drawing.{IsDrawn, IsPicture, IsPictured, Pictures, Takes, sketch_of};
 
 use crate::document::Document;
@@ -10,8 +10,8 @@ use crate::markup::Markup;
 use crate::reading::{Whole, next};
 use crate::sheet::{mark, number};
 use crate::svg::Extent;
-use crate::{lines, svg, text};
-use answer_lines::{Found, Row, read_line};
+use crate::{lines, sessions, svg, text};
+use answer_lines::{Found, Log, Row, read_line};
 use script_engine::{NoRest, ScriptFault, ScriptRead, ScriptWrite, Serve, run_lines, write_all};
 use std::alloc::{AllocError, Global};
 
@@ -83,6 +83,7 @@ impl Drawer<'_> {
             Whole::Tree(document) => self.draw(document, answer),
             Whole::Found(found) => self.draw_found(&found, answer),
             Whole::Row(row) => self.draw_row(&row, answer),
+            Whole::Log(log) => self.draw_log(&log, answer),
         }
     }
 
@@ -109,6 +110,19 @@ impl Drawer<'_> {
     {
         lines::draw_numbers(answer, self.form, self.extent.height, row)?;
         self.extent = self.extent.with_below(lines::extent_of_row(row));
+        Ok(())
+    }
+
+    /// Draws a log.
+    fn draw_log(&mut self, log: &Log, answer: &mut Vec<u8>) -> Result<(), AllocError>
+        ensures draws { OnOk result (Draws answer.old.items answer.new.items (signs_of_log self.old.form
+            (string_bytes log.now.id) log.now.entries.items)) }
+        ensures begun { self.new.begun ≡ self.old.begun }
+        ensures form { self.new.form ≡ self.old.form }
+        ensures db { self.new.db ≡ self.old.db }
+    {
+        sessions::draw_log(answer, self.form, self.extent.height, log)?;
+        self.extent = self.extent.with_below(sessions::extent_of(log));
         Ok(())
     }
 
@@ -144,7 +158,7 @@ impl Drawer<'_> {
 }
 
 /// Reads a script's answers, and writes a picture of each document that an answer of `show` or `conflicts` tells, of what
-/// `compare` finds and counts, and of the numbers of `info` and of sessions (docs/PROFILE.md, "Pictures"): as text, or all of
+/// `compare` finds and counts, of the numbers of `info` and of sessions, and of logs (docs/PROFILE.md, "Pictures"): as text, or all of
 /// them as one picture in SVG. Where the database is named, a text has the lines that end the conflicts.
 ///
 /// `true` where memory was wanting for no line. `Read` and `Write` where that device failed, `Memory` where memory was

@@ -12,6 +12,7 @@ mod lines;
 mod markup;
 mod reading;
 mod rows;
+mod sessions;
 mod sheet;
 mod svg;
 mod text;

@@ -117,7 +117,7 @@ pub fn extent_of_row(row: &Row) -> Extent {
 }
 
 /// Draws where something stands, in SVG.
-fn begin(out: &mut Vec<u8>, form: Form, height: u64, behind: Markup) -> Result<(), AllocError>
+pub fn begin(out: &mut Vec<u8>, form: Form, height: u64, behind: Markup) -> Result<(), AllocError>
     ensures { OnOk result (Draws out.old.items out.new.items []) }
 {
     if form == Form::Text {
@@ -159,7 +159,7 @@ fn end(out: &mut Vec<u8>, form: Form) -> Result<(), AllocError>
 }
 
 /// Draws the end of a line.
-fn end_line(out: &mut Vec<u8>, form: Form) -> Result<(), AllocError>
+pub fn end_line(out: &mut Vec<u8>, form: Form) -> Result<(), AllocError>
     ensures { OnOk result (Draws out.old.items out.new.items []) }
 {
     if form == Form::Text {
@@ -188,7 +188,12 @@ fn put_listed(out: &mut Vec<u8>, rev: &Rev) -> Result<(), AllocError>
 }
 
 /// Draws what a row tells of, and its name.
-fn put_heading(out: &mut Vec<u8>, form: Form, table: Table, name: &str) -> Result<(), AllocError>
+pub fn put_heading(
+    out: &mut Vec<u8>,
+    form: Form,
+    table: Table,
+    name: &str,
+) -> Result<(), AllocError>
     ensures { OnOk result (Draws out.old.items out.new.items (heading form table name.now ∷ [])) }
 {
     out.extend_from_slice(table_text(table).as_bytes())?;
@@ -207,7 +212,7 @@ fn table_text(table: Table) -> &'static str
 }
 
 /// Draws the number of a column.
-fn put_count(out: &mut Vec<u8>, column: Column, number: u64) -> Result<(), AllocError>
+pub fn put_count(out: &mut Vec<u8>, column: Column, number: u64) -> Result<(), AllocError>
     ensures { OnOk result (Draws out.old.items out.new.items (count column number ∷ [])) }
 {
     out.extend_from_slice(b"  ")?;
@@ -292,7 +297,7 @@ fn put_ratio(out: &mut Vec<u8>, part: u64, whole: u64) -> Result<(), AllocError>
 }
 
 /// How much of a whole is there, in parts of 400.
-fn share(part: u64, whole: u64) -> u64
+pub fn share(part: u64, whole: u64) -> u64
     ensures share { result ≡ share part whole }
     ensures most { result ≤ 400 }
 {

@@ -5,7 +5,7 @@ ghost use Rattle.answer_lines.specs.declared.told.Told.TheVariants as lines;
 ghost use Rattle.answer_pictures.specs.Drawing.{Holds, IsNext, with_all};
 
 use crate::document::{Document, Leaf};
-use answer_lines::{Found, Row, Told};
+use answer_lines::{Found, Log, Row, Told};
 use rev_core::Rev;
 use std::alloc::{AllocError, Global};
 
@@ -18,6 +18,8 @@ pub enum Whole {
     Found(Found),
     /// A row of numbers.
     Row(Row),
+    /// A log.
+    Log(Log),
 }
 
 /// The document that is open behind what a line tells, and what it makes whole.
@@ -40,6 +42,7 @@ pub fn next(
         )),
         Told::Found(found) => Ok((None, Some(Whole::Found(found)))),
         Told::Row(row) => Ok((None, Some(Whole::Row(row)))),
+        Told::Log(log) => Ok((None, Some(Whole::Log(log)))),
         Told::Other => Ok((None, None)),
     }
 }

@@ -1,6 +1,7 @@
 use Rattle.std.proofs.Common.{drop}
-use Rattle.answer_lines.proofs.ColumnLemmas.{Reads}
+use Rattle.answer_lines.specs.Columns.{EndsIn}
+use Rattle.answer_lines.proofs.TurnLemmas.{Reads}
 use Rattle.answer_lines.proofs.rows.read_columns.Given as goal
 
 abbrev pub invariant-loop-i : goal.invariant-loop-i
-invariant-loop-i l = Reads l.columns l.text l.rest (drop l.i l.columns) l.numbers.items
+invariant-loop-i l = Reads EndsIn l.columns l.text l.rest (drop l.i l.columns) l.numbers.items

@@ -1,7 +1,8 @@
 use Rattle.std.proofs.Common.{Some, subst, List, ℕ, reverse}
-use Rattle.answer_lines.specs.Columns.{Ends, IsFront, columns_of}
+use Rattle.answer_lines.specs.Columns.{Ends, EndsIn, IsFront, columns_of}
 use Rattle.answer_lines.proofs.LineLemmas.{some_at}
-use Rattle.answer_lines.proofs.ColumnLemmas.{ends_unique}
+use Rattle.answer_lines.proofs.ColumnLemmas.{column_unique}
+use Rattle.answer_lines.proofs.TurnLemmas.{turns_unique}
 use Rattle.answer_lines.proofs.rows.read_row.Goals as goal
 
 pub returns-in_default-name_of-clause-none : goal.returns-in_default-name_of-clause-none
@@ -9,6 +10,6 @@ returns-in_default-name_of-clause-none c =
     λ name numbers r.
     let line = c.args.line.now in
     let read = some_at c.in_ok-front.field-0 (λ x. Ends c.columns_back.result.now x.1.items x.0.now line) (c.in-Some.front, c.in-Some.numbers) c.in-Some.is c.in_ok-front.ensures.some in
-    let same = ends_unique (reverse (columns_of c.args.table)) (reverse numbers) c.in-Some.numbers.items r.front c.in-Some.front.now line r.ends
-    (subst (λ cs. Ends cs c.in-Some.numbers.items c.in-Some.front.now line) c.columns_back.ensures read) in
+    let same = (turns_unique EndsIn column_unique (reverse (columns_of c.args.table)) (reverse numbers) c.in-Some.numbers.items r.front c.in-Some.front.now line r.ends
+    (subst (λ cs. Ends cs c.in-Some.numbers.items c.in-Some.front.now line) c.columns_back.ensures read)).0 in
     c.in_default-name_of.ensures.none name (subst (IsFront c.args.table name) same r.is_front) r.utf8

@@ -2,7 +2,7 @@ use Rattle.std.proofs.Common.{List, [], Some, None, sym, subst}
 use Rattle.rev_core.specs.Rev.{RevId}
 use Rattle.std.specs.Prelude.{string_bytes}
 use Rattle.answer_lines.specs.declared.told.Told.TheVariants as lines
-use Rattle.answer_pictures.specs.Drawing.{Holds, IsNext, conflict, found, loose, opened, other, row, with_all}
+use Rattle.answer_pictures.specs.Drawing.{Holds, IsNext, conflict, found, log, loose, opened, other, row, with_all}
 use Rattle.answer_pictures.specs.declared.reading.Whole.TheVariants as wholes
 use Rattle.answer_pictures.proofs.reading.next.Goals as goal
 
@@ -29,3 +29,6 @@ returns-in-Found c = subst (λ t. IsNext c.args.begun t None (Some (wholes.Found
 
 pub returns-in-Row : goal.returns-in-Row
 returns-in-Row c = subst (λ t. IsNext c.args.begun t None (Some (wholes.Row c.in-Row.row))) (sym c.in-Row.is) row
+
+pub returns-in-Log : goal.returns-in-Log
+returns-in-Log c = subst (λ t. IsNext c.args.begun t None (Some (wholes.Log c.in-Log.log))) (sym c.in-Log.is) log

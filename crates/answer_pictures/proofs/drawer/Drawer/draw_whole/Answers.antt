@@ -1,7 +1,7 @@
 use Rattle.std.proofs.Common.{Some, OnOk, sym, subst}
 use Rattle.std.specs.Prelude.{option_map, string_bytes}
 use Rattle.answer_pictures.specs.Drawing.{IsDrawn}
-use Rattle.answer_pictures.specs.Ink.{signs_of_found, signs_of_row}
+use Rattle.answer_pictures.specs.Ink.{signs_of_found, signs_of_log, signs_of_row}
 use Rattle.answer_pictures.proofs.Leaves.{draws_new}
 use Rattle.answer_pictures.proofs.drawer.Drawer.draw_whole.Goals as goal
 
@@ -26,3 +26,11 @@ returns-in-Row-clause-draws c =
     subst (λ w. OnOk c.draw_row.result (IsDrawn self.form (option_map (λ s. s.now) self.db) (Some w) c.draw_row.new.answer.items)) (sym c.in-Row.is)
     (draws_new c.draw_row.result (signs_of_row self.form r.table (string_bytes r.name) r.numbers.items) c.args.answer.now.items
     c.draw_row.new.answer.items c.requires c.draw_row.ensures.draws)
+
+pub returns-in-Log-clause-draws : goal.returns-in-Log-clause-draws
+returns-in-Log-clause-draws c =
+    let self = c.args.self.now in
+    let l = c.in-Log.log in
+    subst (λ w. OnOk c.draw_log.result (IsDrawn self.form (option_map (λ s. s.now) self.db) (Some w) c.draw_log.new.answer.items)) (sym c.in-Log.is)
+    (draws_new c.draw_log.result (signs_of_log self.form (string_bytes l.id) l.entries.items) c.args.answer.now.items
+    c.draw_log.new.answer.items c.requires c.draw_log.ensures.draws)

@@ -1,0 +1,6 @@
+use Rattle.std.proofs.Common.{◌≡◌, drop}
+use Rattle.answer_pictures.specs.Ink.{most_from}
+use Rattle.answer_pictures.proofs.sessions.most_read.Given as goal
+
+abbrev pub invariant-loop-i : goal.invariant-loop-i
+invariant-loop-i l = most_from l.most (drop l.i l.entries) ≡ most_from 1 l.entries
