@@ -144,6 +144,47 @@ impl Gate for StopsOnce {
     }
 }
 
+/// Counts the recordings of windows of one row, and notes whether one tells another low water than the end of its window.
+#[derive(Drop)]
+struct CountsRecordings {
+    count: AtomicU64,
+    other: AtomicBool,
+}
+
+impl Gate for CountsRecordings {
+    ghost may_stop = { λ _ _. ⊥ };
+
+    fn at<R: Wait>(&self, _rt: &R, place: Place) -> Turn {
+        if let Place::Recorded(window, recorded) = place {
+            if recorded != window.wrapping_add(1) {
+                self.other.store(true, Ordering::SeqCst);
+            }
+            self.count.fetch_add(1, Ordering::SeqCst);
+        }
+        Turn::Go
+    }
+}
+
+// A writer that recorded each second window only, or told another low water than it recorded, would be as right by its contract.
+#[test]
+fn each_recording_tells_the_low_water(rt: HostRuntime) {
+    const ONE_BY_ONE: How = How {
+        session: S1,
+        workers: Some(1),
+        batch: 1,
+        stop_after: None,
+    };
+    let gate = CountsRecordings {
+        count: AtomicU64::new(0),
+        other: AtomicBool::new(false),
+    };
+    let mut bench = Bench::new(rt.alloc(), 2);
+    bench.run(&rt, FOUR);
+    expect_answer(&rt, 3, bench.replicate(&rt, &gate, A, B, ONE_BY_ONE), WELL);
+    assert_eq!(rt; gate.count.load(Ordering::SeqCst), 4);
+    assert!(rt; !gate.other.load(Ordering::SeqCst), "another low water");
+}
+
 #[test]
 fn windows_done_out_of_order(rt: HostRuntime) {
     let gate = HoldsFetched::new();
