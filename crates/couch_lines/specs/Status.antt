@@ -1,8 +1,7 @@
 -- The exit status of the program: docs/PROFILE.md, "Options of `couch_lines`".
 use Rattle.std.specs.Prelude.{ℕ, ◌==◌, Bool, true, false, cond, Result, Ok, Err}
 use Rattle.clap.specs.Words.{kind_of}
-use Rattle.clap.specs.declared.error.kind.ErrorKind.{ErrorKind}
-use Rattle.clap.specs.declared.error.kind.ErrorKind.TheVariants.{DisplayHelp, DisplayVersion, OutOfMemory}
+use Rattle.program_shell.specs.Status.{kind_status}
 use Rattle.script_engine.specs.declared.fault.ScriptFault.{ScriptFault}
 use Rattle.script_engine.specs.declared.fault.ScriptFault.TheVariants as faults
 use Rattle.couch_wording.specs.declared.run.AnswerFault.{AnswerFault}
@@ -22,13 +21,6 @@ abbrev pub drawn_status : Result Bool ScriptFault → ℕ
 drawn_status (Ok true) = 0
 drawn_status (Ok false) = 1
 drawn_status (Err fault) = 3
-
--- of a command line that `clap` refuses so: help is no mistake
-abbrev pub kind_status : ErrorKind → ℕ
-kind_status OutOfMemory = 3
-kind_status DisplayHelp = 0
-kind_status DisplayVersion = 0
-kind_status kind = 2
 
 -- of words that ask for nothing
 abbrev pub words_status : NoTask → ℕ

@@ -2,9 +2,9 @@
 use Rattle.std.specs.Prelude.{◌≡◌, ◌^◌, ◌<◌, ℕ, ◌&&◌, ◌||◌, ◌==◌, nat_lt, nat_le, length, List, Bool, Option, Some, None, option_map, codes, string_bytes, true, false}
 use Rattle.std.specs.List.{list_all}
 use Rattle.std.specs.Str.Parse.{without_leading_plus, IsNumeral, digits_value}
-use Rattle.clap.specs.Words.{App, HasKind, Rule, fault_of, first_of, one_of, matches_of, new_app, new_rule, with_rule}
-use Rattle.clap.specs.Simple.{on_top}
-use Rattle.clap.specs.declared.builder.action.ArgAction.TheVariants.{Set, SetTrue}
+use Rattle.clap.specs.Words.{App, HasKind, Rule, fault_of, first_of, one_of, matches_of, new_rule, with_rule}
+use Rattle.clap.specs.declared.builder.action.ArgAction.TheVariants.{Set}
+use Rattle.program_shell.specs.Words.{IsFlag, flag_option, hidden_option, program_app}
 use Rattle.couch_lines.specs.declared.tasks.Named.{Named}
 use Rattle.couch_lines.specs.declared.tasks.Named.TheVariants as named
 use Rattle.couch_lines.specs.declared.tasks.Task.{Task}
@@ -122,28 +122,11 @@ task_word = record (new_rule (codes "task")) { action = Some Set; value_names = 
 abbrev pub second_word : Rule
 second_word = record (new_rule (codes "of")) { action = Some Set; value_names = 1 }
 
--- one too many
-abbrev pub third_word : Rule
-third_word = record (new_rule (codes "further")) { action = Some Set }
-
-abbrev pub whole_option : Rule
-whole_option = record (new_rule (codes "whole")) { long = Some (codes "whole"); action = Some SetTrue }
-
-abbrev pub svg_option : Rule
-svg_option = record (new_rule (codes "svg")) { long = Some (codes "svg"); action = Some SetTrue }
-
--- the program without words; it has a version
-abbrev pub program_app : App
-program_app = on_top (λ s. record s { has_version = true }) (new_app (codes "couch_lines"))
-
+-- a word too many stands third
 abbrev pub command_line : App
 command_line =
-    with_rule (with_rule (with_rule (with_rule (with_rule program_app task_word) second_word) third_word) whole_option) svg_option
-
--- the text of a flag that is set or not
-abbrev pub IsFlag : Option (List ℕ) → Bool → Type 0
-IsFlag text flag =
-    ((text ≡ None) → flag ≡ false) × ((text ≡ Some (codes "true")) → flag ≡ true) × ((text ≡ Some (codes "false")) → flag ≡ false)
+    with_rule (with_rule (with_rule (with_rule (with_rule (program_app (codes "couch_lines")) task_word) second_word)
+    (hidden_option (codes "further"))) (flag_option (codes "whole"))) (flag_option (codes "svg"))
 
 -- what the words ask for, by the texts of the command line's parts and of its flags
 abbrev pub SaysBy : (List ℕ → Option (List ℕ)) → Option (List ℕ) → Option (List ℕ) → Task → Type 0

@@ -2,10 +2,11 @@
 ghost use Rattle.std.specs.Prelude.{◌≡◌, IfOk, IfErr, map, string_bytes, codes, false};
 ghost use Rattle.clap.specs.Words.{app_of, found_of, first_value, one_text, rule_of};
 ghost use Rattle.couch_lines.specs.declared.options.NoTask.TheVariants.{Memory};
-ghost use Rattle.couch_lines.specs.Tasks.{Says, Refuses, SaysBy, RefusesBy, task_word, second_word, third_word, whole_option, svg_option, program_app, command_line};
+ghost use Rattle.couch_lines.specs.Tasks.{Says, Refuses, SaysBy, RefusesBy, task_word, second_word, command_line};
 
 use crate::tasks::{Named, Task, task_of};
 use clap::{Arg, ArgAction, ArgMatches, Command, Error};
+use program_shell::{find, flag, hidden_word, program};
 use std::alloc::{AllocError, Global};
 
 /// What the program says of itself.
@@ -40,7 +41,8 @@ const TASKS_HELP: &str = "Standard input is read, and what is made of it goes to
       pictures of a script's answers, as text, or all of them as one picture in SVG:
       of `show` and `conflicts` the revision trees (with DB, the database of the answers,
       a text has the `edit` lines that end the conflicts); of `compare` what is missing
-      or otherwise, and how much is there; of `info` and of a session the numbers
+      or otherwise, and how much is there; of `info` and of a session the numbers; of `log`
+      the sessions of a replication, each beside the one that read most
 
 A document is an object whose first member is `_id`, or one that an answer of CouchDB
 names. Its text is copied as it is. What stands in the place of a document is passed over,
@@ -81,13 +83,9 @@ pub fn read_words<'a>(alloc: Global, words: &'a [String]) -> Result<Task, NoTask
     ensures err { IfErr result (λ why. Refuses (map string_bytes words.entry.now) why) }
 {
     let command = command(alloc)?;
-    let matches = match command.try_get_matches_from(words) {
-        Ok(matches) => matches,
-        Err(error) => return Err(NoTask::Words(error)),
-    };
-    match task_said(alloc, &matches) {
-        Ok(task) => Ok(task),
-        Err(why) => Err(why),
+    match find(command, words) {
+        Ok(matches) => task_said(alloc, &matches),
+        Err(error) => Err(NoTask::Words(error)),
     }
 }
 
@@ -113,23 +111,17 @@ fn task_said(alloc: Global, matches: &ArgMatches<'_>) -> Result<Task, NoTask>
 fn command<'a>(alloc: Global) -> Result<Command<'a>, AllocError>
     ensures { IfOk result (λ c. app_of c ≡ command_line) }
 {
-    let command = program(alloc)
+    let command = program(alloc, "couch_lines", ABOUT, TASKS_HELP)
         .arg(first_word(alloc))?
         .arg(second_word(alloc))?
-        .arg(third_word(alloc))?
-        .arg(whole(alloc))?
-        .arg(svg(alloc))?;
+        .arg(hidden_word(alloc, "further"))?
+        .arg(flag(
+            alloc,
+            "whole",
+            "Documents in envelopes, for `load` and `bulk`",
+        ))?
+        .arg(flag(alloc, "svg", "One picture in SVG, for `trees`"))?;
     Ok(command)
-}
-
-/// The program without words.
-fn program<'a>(alloc: Global) -> Command<'a>
-    ensures { app_of result ≡ program_app }
-{
-    Command::new(alloc, "couch_lines")
-        .version("0.1.0")
-        .about(ABOUT)
-        .after_help(TASKS_HELP)
 }
 
 /// The word that names the task.
@@ -153,34 +145,4 @@ fn second_word<'a>(alloc: Global) -> Arg<'a>
         .value_name("DB|N")
         .action(ArgAction::Set)
         .help("A database for `load`, `leaves` and `trees`, else a number")
-}
-
-/// A word too many, which may be the name of a file.
-fn third_word<'a>(alloc: Global) -> Arg<'a>
-    ensures rule { rule_of result ≡ third_word }
-    ensures local { result.global ≡ false }
-{
-    Arg::new(alloc, "further").hide(true).action(ArgAction::Set)
-}
-
-/// The option `--whole`.
-fn whole<'a>(alloc: Global) -> Arg<'a>
-    ensures rule { rule_of result ≡ whole_option }
-    ensures local { result.global ≡ false }
-{
-    Arg::new(alloc, "whole")
-        .long("whole")
-        .action(ArgAction::SetTrue)
-        .help("Documents in envelopes, for `load` and `bulk`")
-}
-
-/// The option `--svg`.
-fn svg<'a>(alloc: Global) -> Arg<'a>
-    ensures rule { rule_of result ≡ svg_option }
-    ensures local { result.global ≡ false }
-{
-    Arg::new(alloc, "svg")
-        .long("svg")
-        .action(ArgAction::SetTrue)
-        .help("One picture in SVG, for `trees`")
 }

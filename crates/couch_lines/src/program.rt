@@ -1,22 +1,17 @@
 //! The program: its words, its standard input and output, and its exit status.
 ghost use Rattle.std.specs.Prelude.{◌≡◌, ◌≤◌};
-ghost use Rattle.clap.specs.Words.{kind_of};
-ghost use Rattle.couch_lines.specs.Status.{drawn_status, ended_status, kind_status, status_of, undrawn, unflushed, unwritten};
+ghost use Rattle.couch_lines.specs.Status.{drawn_status, ended_status, status_of, undrawn, unflushed, unwritten};
 
 use crate::options::NoTask;
 use crate::run::{Ended, Run, run_words};
 use crate::tasks::Named;
-use clap::Error;
-use clap::error::ErrorKind;
 use couch_answers::Refusal;
 use couch_wording::AnswerFault;
+use program_shell::{BAD_COMMAND_LINE, tell_no_memory, tell_no_words, tell_words, words_of};
 use script_engine::{OverRead, OverWrite, ScriptFault, ScriptWrite};
 use std::env::Env;
 use std::io::{Eprint, Input, Print};
-use std::{env, io, str};
-
-/// The exit status for words that ask for nothing.
-const BAD_COMMAND_LINE: u8 = 2;
+use std::{io, str};
 
 /// Runs the program, and gives its exit status: 0; 1 where something was passed over; 2 for a bad command line; 3 where
 /// what was read is no answer, or reading, writing or memory failed.
@@ -25,18 +20,8 @@ pub fn run_program<H: AllocGlobal + Env + Input + Print + Eprint>(rt: &H) -> u8
 {
     match words_of(rt) {
         Ok(words) => tell(rt, &run_standard(rt, words.as_slice())),
-        Err(error) if error.kind() == io::ErrorKind::OutOfMemory => tell_no_memory(rt),
-        Err(error) => {
-            let _ = eprintln!(rt; "error: {error}");
-            BAD_COMMAND_LINE
-        }
+        Err(error) => tell_no_words(rt, &error),
     }
-}
-
-/// The words of the command line, the program's name first.
-fn words_of<H: AllocGlobal + Env>(rt: &H) -> io::Result<Vec<String>> {
-    let words = env::args(rt)?.collect(rt.alloc())?;
-    Ok(words)
 }
 
 /// Does what the words ask for over standard input and output. Texts go out once the buffer is full, and at the end.
@@ -136,30 +121,6 @@ fn usage_of(named: Named) -> &'static str {
         Named::Bulk => "bulk [N] [--whole]",
         Named::Trees => "trees [DB] [--svg]",
     }
-}
-
-/// Tells what `clap` says of the command line, and gives the exit status: 0 where it is the help that was asked for.
-fn tell_words<H: Print + Eprint>(rt: &H, error: &Error) -> u8
-    ensures { result ≡ kind_status (kind_of error.now) }
-{
-    if error.kind() == ErrorKind::OutOfMemory {
-        return tell_no_memory(rt);
-    }
-    let _ = error.print(rt);
-    if error.use_stderr() {
-        BAD_COMMAND_LINE
-    } else {
-        0
-    }
-}
-
-/// Tells that memory was wanting, and gives the exit status.
-fn tell_no_memory(rt: &impl Eprint) -> u8
-    ensures { result ≡ 3 }
-{
-    let fault = ScriptFault::Memory;
-    let _ = eprintln!(rt; "{fault}");
-    3
 }
 
 /// Tells what was passed over, or why what was asked for was not done to its end, and gives the exit status.

@@ -1,10 +1,10 @@
 -- What the options of the command line set: docs/PROFILE.md, "Options".
 use Rattle.std.specs.Prelude.{◌≡◌, ◌^◌, ◌<◌, ℕ, List, Bool, Option, Some, None, codes, option_map, string_bytes, true, false}
 use Rattle.std.specs.Str.Parse.{without_leading_plus, IsNumeral, digits_value}
-use Rattle.clap.specs.Words.{App, HasKind, Rule, fault_of, first_of, one_of, matches_of, new_app, new_rule, with_rule}
-use Rattle.clap.specs.Simple.{on_top}
-use Rattle.clap.specs.declared.builder.action.ArgAction.TheVariants.{Set, SetTrue}
+use Rattle.clap.specs.Words.{App, HasKind, Rule, fault_of, first_of, one_of, matches_of, new_rule, with_rule}
+use Rattle.clap.specs.declared.builder.action.ArgAction.TheVariants.{Set}
 use Rattle.clap.specs.declared.builder.value_parser.ValueParser.TheVariants as vp
+use Rattle.program_shell.specs.Words.{IsFlag, flag_option, hidden_option, program_app}
 use Rattle.script_databases.specs.declared.settings.Settings.{Settings}
 use Rattle.couch_replicate.specs.declared.options.NoSettings.{NoSettings}
 use Rattle.couch_replicate.specs.declared.options.Options.{Options}
@@ -20,24 +20,12 @@ number_option name =
     record (new_rule name)
     { long = Some name; action = Some Set; value_names = 1; parser = Some (vp.Unsigned 0 18446744073709551615) }
 
--- an option that is there or not
-abbrev pub flag_option : List ℕ → Rule
-flag_option name = record (new_rule name) { long = Some name; action = Some SetTrue }
-
--- a word that is no option
-abbrev pub file_word : Rule
-file_word = record (new_rule (codes "file")) { action = Some Set }
-
--- the program without options; it has a version
-abbrev pub program_app : App
-program_app = on_top (λ s. record s { has_version = true }) (new_app (codes "couch_replicate"))
-
 -- the program's command line
 abbrev pub options : App
-options = with_rule (with_rule (with_rule (with_rule (with_rule (with_rule (with_rule (with_rule (with_rule program_app
-    deny_option) (number_option (codes "seed"))) (number_option (codes "at"))) (number_option (codes "workers")))
+options = with_rule (with_rule (with_rule (with_rule (with_rule (with_rule (with_rule (with_rule (with_rule
+    (program_app (codes "couch_replicate")) deny_option) (number_option (codes "seed"))) (number_option (codes "at"))) (number_option (codes "workers")))
     (number_option (codes "batch"))) (flag_option (codes "quiet"))) (flag_option (codes "explain")))
-    (flag_option (codes "progress"))) file_word
+    (flag_option (codes "progress"))) (hidden_option (codes "file"))
 
 -- the text spells the number, or the default stands in its place
 abbrev pub IsNumber : Option (List ℕ) → ℕ → ℕ → Type 0
@@ -45,12 +33,6 @@ IsNumber None default n = n ≡ default
 IsNumber (Some text) default n =
     IsNumeral 10 (without_leading_plus text) × (digits_value 10 (without_leading_plus text) < 2 ^ 64)
     × (n ≡ digits_value 10 (without_leading_plus text))
-
--- the text of a flag that is set or not
-abbrev pub IsFlag : Option (List ℕ) → Bool → Type 0
-IsFlag text flag =
-    ((text ≡ None) → flag ≡ false) × ((text ≡ Some (codes "true")) → flag ≡ true)
-    × ((text ≡ Some (codes "false")) → flag ≡ false)
 
 -- the settings are what the options' texts say, and there is no other word
 abbrev pub AreSettings : (List ℕ → Option (List ℕ)) → (List ℕ → Option (List ℕ)) → Settings → Type 0

@@ -1,10 +1,11 @@
 //! The command line: what its words set, or why they set nothing (docs/PROFILE.md, "Options").
-ghost use Rattle.std.specs.Prelude.{◌≡◌, ℕ, IfOk, IfErr, map, string_bytes, codes, true, false};
-ghost use Rattle.clap.specs.Words.{HasKind, app_of, fault_of, found_of, first_value, kind_of, one_text, rule_of};
+ghost use Rattle.std.specs.Prelude.{◌≡◌, ℕ, IfOk, IfErr, map, string_bytes, false};
+ghost use Rattle.clap.specs.Words.{app_of, found_of, first_value, one_text, rule_of};
 ghost use Rattle.couch_replicate.specs.declared.options.NoSettings.TheVariants.{NoNumber, Memory};
-ghost use Rattle.couch_replicate.specs.Options.{AreOptions, AreSettings, IsNumber, Refuses, Says, deny_option, file_word, flag_option, number_option, options, program_app, SetNothing};
+ghost use Rattle.couch_replicate.specs.Options.{AreOptions, AreSettings, IsNumber, Refuses, Says, deny_option, number_option, options, SetNothing};
 
 use clap::{Arg, ArgAction, ArgMatches, Command, Error, value_parser};
+use program_shell::{find, flag, hidden_word, program};
 use script_databases::Settings;
 use std::alloc::{AllocError, Global};
 
@@ -111,13 +112,9 @@ pub fn read_words<'a>(alloc: Global, words: &'a [String]) -> Result<Options, NoS
     ensures err { IfErr result (λ why. Refuses (map string_bytes words.entry.now) why) }
 {
     let command = command(alloc)?;
-    let matches = match command.try_get_matches_from(words) {
-        Ok(matches) => matches,
-        Err(error) => return Err(NoSettings::Words(error)),
-    };
-    match options_of(alloc, &matches) {
-        Ok(options) => Ok(options),
-        Err(why) => Err(why),
+    match find(command, words) {
+        Ok(matches) => options_of(alloc, &matches),
+        Err(error) => Err(NoSettings::Words(error)),
     }
 }
 
@@ -194,7 +191,7 @@ fn number_of(matches: &ArgMatches<'_>, name: &str, default: u64) -> Result<u64, 
 fn command<'a>(alloc: Global) -> Result<Command<'a>, AllocError>
     ensures { IfOk result (λ c. app_of c ≡ options) }
 {
-    let command = program(alloc)
+    let command = program(alloc, "couch_replicate", ABOUT, SCRIPT_HELP)
         .arg(deny(alloc))?
         .arg(number(
             alloc,
@@ -235,18 +232,8 @@ fn command<'a>(alloc: Global) -> Result<Command<'a>, AllocError>
             "progress",
             "Tells on standard error, where it is a terminal, how far the answered lines came",
         ))?
-        .arg(file(alloc))?;
+        .arg(hidden_word(alloc, "file"))?;
     Ok(command)
-}
-
-/// The program without options; it has a version.
-fn program<'a>(alloc: Global) -> Command<'a>
-    ensures { app_of result ≡ program_app }
-{
-    Command::new(alloc, "couch_replicate")
-        .version("0.1.0")
-        .about(ABOUT)
-        .after_help(SCRIPT_HELP)
 }
 
 /// The option `--deny`.
@@ -272,23 +259,4 @@ fn number<'a>(alloc: Global, name: &'a str, value: &'a str, help: &'a str) -> Ar
         .value_parser(value_parser!(u64))
         .action(ArgAction::Set)
         .help(help)
-}
-
-/// An option that is there or not.
-fn flag<'a>(alloc: Global, name: &'a str, help: &'a str) -> Arg<'a>
-    ensures rule { rule_of result ≡ flag_option name.entry.now }
-    ensures local { result.global ≡ false }
-{
-    Arg::new(alloc, name)
-        .long(name)
-        .action(ArgAction::SetTrue)
-        .help(help)
-}
-
-/// A word that is no option, which may be the name of a file.
-fn file<'a>(alloc: Global) -> Arg<'a>
-    ensures rule { rule_of result ≡ file_word }
-    ensures local { result.global ≡ false }
-{
-    Arg::new(alloc, "file").hide(true).action(ArgAction::Set)
 }

@@ -1,22 +1,17 @@
 //! The program: its words, its standard input and output, and its exit status.
 ghost use Rattle.std.specs.Prelude.{◌≡◌, ◌≤◌};
-ghost use Rattle.clap.specs.Words.{kind_of};
-ghost use Rattle.couch_replicate.specs.Status.{ended_status, kind_status, status_of};
+ghost use Rattle.couch_replicate.specs.Status.{ended_status, status_of};
 
 use crate::options::NoSettings;
 use crate::run::{Ended, run_words};
-use clap::Error;
-use clap::error::ErrorKind;
+use program_shell::{BAD_COMMAND_LINE, tell_no_memory, tell_no_words, tell_words, words_of};
 use script_engine::{OverRead, OverWrite, ScriptFault};
 use std::env::Env;
+use std::io;
 use std::io::{Eprint, Input, Print};
 use std::rt::Clock;
 use std::sync::Wait;
 use std::thread::Threads;
-use std::{env, io};
-
-/// The exit status for words that are no command line.
-const BAD_COMMAND_LINE: u8 = 2;
 
 /// Runs the program, and gives its exit status: 0; 1 where a line was refused; 2 for a bad command line; 3 where
 /// reading, writing or memory failed.
@@ -29,18 +24,8 @@ where
 {
     match words_of(rt) {
         Ok(words) => tell(rt, &run_standard(rt, words.as_slice(), is_watched)),
-        Err(error) if error.kind() == io::ErrorKind::OutOfMemory => tell_fault(rt, &no_memory()),
-        Err(error) => {
-            let _ = eprintln!(rt; "error: {error}");
-            BAD_COMMAND_LINE
-        }
+        Err(error) => tell_no_words(rt, &error),
     }
-}
-
-/// The words of the command line, the program's name first.
-fn words_of<H: AllocGlobal + Env>(rt: &H) -> io::Result<Vec<String>> {
-    let words = env::args(rt)?.collect(rt.alloc())?;
-    Ok(words)
 }
 
 /// Runs the words over standard input and output.
@@ -66,31 +51,9 @@ fn tell<H: Print + Eprint>(rt: &H, ended: &Ended) -> u8
             let _ = eprintln!(rt; "error: input goes to standard input: couch_replicate < FILE");
             BAD_COMMAND_LINE
         }
-        Ended::NotRun(NoSettings::Memory) => tell_fault(rt, &no_memory()),
+        Ended::NotRun(NoSettings::Memory) => tell_no_memory(rt),
         Ended::Ran(ended) => tell_fault(rt, ended),
     }
-}
-
-/// Tells what `clap` says of the command line, and gives the exit status: 0 where it is the help that was asked for.
-fn tell_words<H: Print + Eprint>(rt: &H, error: &Error) -> u8
-    ensures { result ≡ kind_status (kind_of error.now) }
-{
-    if error.kind() == ErrorKind::OutOfMemory {
-        return tell_fault(rt, &no_memory());
-    }
-    let _ = error.print(rt);
-    if error.use_stderr() {
-        BAD_COMMAND_LINE
-    } else {
-        0
-    }
-}
-
-/// How a run ended for which memory was wanting before it began.
-fn no_memory() -> Result<bool, ScriptFault>
-    ensures { status_of result ≡ 3 }
-{
-    Err(ScriptFault::Memory)
 }
 
 /// Tells a fault, and gives the exit status.

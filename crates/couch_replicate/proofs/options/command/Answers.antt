@@ -12,4 +12,4 @@ returns c =
     let six = c.in_ok-arg-6.ensures.shape c.flag.ensures.local ∙ ap₂ with_rule five c.flag.ensures.rule in
     let seven = c.in_ok-arg-7.ensures.shape c.flag-2.ensures.local ∙ ap₂ with_rule six c.flag-2.ensures.rule in
     let eight = c.in_ok-arg-8.ensures.shape c.flag-3.ensures.local ∙ ap₂ with_rule seven c.flag-3.ensures.rule in
-    c.in_ok-command.ensures.shape c.file.ensures.local ∙ ap₂ with_rule eight c.file.ensures.rule
+    c.in_ok-command.ensures.shape c.hidden_word.ensures.local ∙ ap₂ with_rule eight c.hidden_word.ensures.rule

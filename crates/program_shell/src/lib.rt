@@ -1,0 +1,10 @@
+//! The shell of a program: the words of its command line, and its exit status where they ask for nothing.
+//!
+//! A program says which words it takes and what they ask for; what all programs have alike is told here.
+#![tactic(auto)]
+
+mod status;
+mod words;
+
+pub use status::{BAD_COMMAND_LINE, tell_no_memory, tell_no_words, tell_words, words_of};
+pub use words::{find, flag, hidden_word, program};

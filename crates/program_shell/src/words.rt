@@ -1,0 +1,50 @@
+//! The command line: its parts, and what is found of them.
+ghost use Rattle.std.specs.Prelude.{◌≡◌, IfOk, IfErr, map, string_bytes, true, false};
+ghost use Rattle.clap.specs.Words.{HasKind, app_of, fault_of, is_simple_and_free, rule_of};
+ghost use Rattle.program_shell.specs.Words.{IsFound, flag_option, hidden_option, program_app};
+
+use clap::{Arg, ArgAction, ArgMatches, Command, Error};
+use std::alloc::Global;
+
+/// A program by its name, without words: what it says of itself, and what stands behind its help.
+pub fn program<'a>(alloc: Global, name: &'a str, about: &'a str, help: &'a str) -> Command<'a>
+    ensures { app_of result ≡ program_app name.entry.now }
+{
+    Command::new(alloc, name)
+        .version("0.1.0")
+        .about(about)
+        .after_help(help)
+}
+
+/// An option that is there or not.
+pub fn flag<'a>(alloc: Global, name: &'a str, help: &'a str) -> Arg<'a>
+    ensures rule { rule_of result ≡ flag_option name.entry.now }
+    ensures local { result.global ≡ false }
+{
+    Arg::new(alloc, name)
+        .long(name)
+        .action(ArgAction::SetTrue)
+        .help(help)
+}
+
+/// A word too many, which may be the name of a file: it is taken, so that the program can say what it wants, and stands
+/// in no help.
+pub fn hidden_word<'a>(alloc: Global, name: &'a str) -> Arg<'a>
+    ensures rule { rule_of result ≡ hidden_option name.entry.now }
+    ensures local { result.global ≡ false }
+{
+    Arg::new(alloc, name).hide(true).action(ArgAction::Set)
+}
+
+/// What is found of the words of a command line, the program's name first; or what `clap` says of them, the help that
+/// was asked for too, or that memory was wanting.
+pub fn find<'a>(command: Command<'a>, words: &'a [String]) -> Result<ArgMatches<'a>, Error>
+    requires free { is_simple_and_free (app_of command) ≡ true }
+    ensures ok { IfOk result (IsFound (app_of command.entry) (map string_bytes words.entry.now)) }
+    ensures err { IfErr result (HasKind (fault_of (app_of command.entry) (map string_bytes words.entry.now))) }
+{
+    match command.try_get_matches_from(words) {
+        Ok(matches) => Ok(matches),
+        Err(error) => Err(error),
+    }
+}
