@@ -183,13 +183,9 @@ module _ {wanted : Wanted} {w : Words} {s : State} {w' : Words} {left left' held
     taken = Consumes-trans _ _ _ r.input bytes r.taken c;
   }
 
-  -- a read that gave nothing
-  pub Ran-end : (left'' : Option (List ℕ)) (buffer : List ℕ) (n : ℕ) → n ≡ 0 → Consumes left' left'' (take n buffer) → Ran wanted w s w' left left'' held held'
-  Ran-end left'' buffer n z c = record {
-    input = r.input;
-    fed = r.fed;
-    taken = subst (λ x. Consumes left left'' x) (append-nil r.input) (Consumes-trans left left' left'' r.input [] r.taken (subst (λ k. Consumes left' left'' (take k buffer)) z c));
-  }
+  -- nothing more was read
+  pub Ran-end : (left'' : Option (List ℕ)) → Keeps left' left'' → Ran wanted w s w' left left'' held held'
+  Ran-end left'' k = record { input = r.input; fed = r.fed; taken = Consumes-kept left left' left'' r.input r.taken k }
 
   -- all that is read, with what is left
   all_read : (left'' : Option (List ℕ)) (bytes : List ℕ) → Consumes left left'' (r.input ++ bytes) → IsLeft wanted left (whole (start wanted) ((r.input ++ bytes) ++ unwrap_or left'' []))

@@ -1,6 +1,7 @@
 //! Answers read from a reader, and what they hold written to a writer.
-ghost use Rattle.std.specs.Prelude.{◌≡◌, ◌<◌, ◌≤◌, ℕ, List, length, Some, IfOk, OnOk, IfErr, true, false};
+ghost use Rattle.std.specs.Prelude.{◌≡◌, ℕ, List, Some, IfOk, OnOk, IfErr, true, false};
 ghost use Rattle.std.specs.Io.KnownBytes.{Appends, IsAtEnd};
+ghost use Rattle.script_engine.specs.Chunks.{AreChunks};
 ghost use Rattle.script_engine.specs.Faults.{IsOfWriter};
 ghost use Rattle.couch_answers.specs.Stored.{state_of};
 ghost use Rattle.couch_wording.specs.Stored.{words_of_wording};
@@ -18,7 +19,7 @@ ghost use Rattle.couch_wording.specs.Runs.{Fed, Begins, EndsAnswers, Finishes, A
 
 use crate::wording::Wording;
 use couch_answers::{Reading, Refusal};
-use script_engine::{ScriptFault, ScriptRead, ScriptWrite, write_all};
+use script_engine::{Chunks, ScriptFault, ScriptRead, ScriptWrite, write_all};
 use std::alloc::{AllocError, Global};
 use thiserror::Error;
 
@@ -50,12 +51,6 @@ impl From<AllocError> for AnswerFault {
         }
     }
 }
-
-/// How many reads there are at most.
-const MAX_READS: u32 = 4294967295;
-
-/// How many bytes a read takes at most.
-const CHUNK: usize = 65536;
 
 /// Writes what the last byte made whole.
 fn tell<W: ScriptWrite>(
@@ -179,10 +174,11 @@ fn run_chunks<R: ScriptRead, W: ScriptWrite>(
     wording: &mut Wording,
     reader: &mut R,
     writer: &mut W,
-    chunk: &mut [u8],
+    chunks: &mut Chunks,
 ) -> Result<u64, AnswerFault>
     requires begins { state_of reading.old ≡ start reading.old.wanted }
-    requires room { 0 < length chunk.old }
+    requires room { AreChunks chunks.old }
+    requires unread { chunks.old.turns ≡ 0 }
     ensures ok { IfOk result (λ passed. Answered reading.old.wanted (words_of_wording wording.old)
         (R.left reader.old) (W.held writer.old) (W.held writer.new) passed) }
     ensures end { OnOk result (IsAtEnd (R.left reader.new)) }
@@ -193,17 +189,15 @@ fn run_chunks<R: ScriptRead, W: ScriptWrite>(
     ensures counts { IfErr result (λ fault. CountsOf fault (R.reads reader.old) (R.reads reader.new)
         (R.failures reader.old) (R.failures reader.new) (W.failures writer.old) (W.failures writer.new)) }
 {
-    for turn in 0..MAX_READS {
-        let count = match reader.read(chunk) {
-            Ok(count) => count,
-            Err(_) => return Err(AnswerFault::Device {
-                fault: ScriptFault::Read,
-            }),
+    loop {
+        let more = match chunks.next(reader) {
+            Ok(more) => more,
+            Err(fault) => return Err(AnswerFault::Device { fault }),
         };
-        if count == 0 {
+        if !more {
             return finish(reading, wording, writer);
         }
-        match feed(reading, wording, writer, &chunk[..count]) {
+        match feed(reading, wording, writer, chunks.bytes()) {
             Ok(()) => {}
             Err(fault) => return Err(AnswerFault::Device { fault }),
         }
@@ -211,9 +205,6 @@ fn run_chunks<R: ScriptRead, W: ScriptWrite>(
             return ended(reading);
         }
     }
-    Err(AnswerFault::Device {
-        fault: ScriptFault::Read,
-    })
 }
 
 /// Reads answers to the reader's end with a reading that begins, and writes what they hold, each text as soon as it is
@@ -259,6 +250,6 @@ pub fn run_answers<R: ScriptRead, W: ScriptWrite>(
     ensures counts { IfErr result (λ fault. CountsOf fault (R.reads reader.old) (R.reads reader.new)
         (R.failures reader.old) (R.failures reader.new) (W.failures writer.old) (W.failures writer.new)) }
 {
-    let mut chunk = vec![in alloc; 0u8; CHUNK]?;
-    run_chunks(reading, wording, reader, writer, chunk.as_mut_slice())
+    let mut chunks = Chunks::new(alloc)?;
+    run_chunks(reading, wording, reader, writer, &mut chunks)
 }

@@ -1,10 +1,11 @@
 -- A script as far as it was read.
-use Rattle.std.proofs.Common.{inl, inr, ◌≡◌, ℕ, ◌+◌, ◌*◌, ◌<◌, ◌≤◌, List, [], ◌++◌, length, take, true, false, refl, sym, ap, subst, ◌∙◌, arith, append_assoc, append-nil, length-append, Option, Some, None}
+use Rattle.std.proofs.Common.{inl, inr, ◌≡◌, Bool, ℕ, ◌+◌, ◌*◌, ◌<◌, ◌≤◌, List, [], ◌++◌, length, true, false, refl, sym, ap, subst, ◌∙◌, arith, append_assoc, append-nil, length-append, Option, Some, None}
 use Rattle.std.specs.Prelude.{unwrap_or, min}
 use Rattle.std.specs.Io.KnownBytes.{Consumes, Appends, Keeps, IsAtEnd}
 use Rattle.std.proofs.KnownBytes.{Appends-nil, Appends-trans, Appends-kept, Consumes-nil, Consumes-trans, Consumes-kept}
-use Rattle.script_engine.specs.Device.{FailsOnce, Gives, counted, full}
-use Rattle.script_engine.specs.Faults.{FeedsUntil, IsInAnswer, IsOfWriter, IsFaultOf, IsToldUntil, LeavesAs, max_reads}
+use Rattle.script_engine.specs.Chunks.{ReadsChunk}
+use Rattle.script_engine.specs.Device.{FailsOnce, Gives, full}
+use Rattle.script_engine.specs.Faults.{FeedsUntil, IsInAnswer, IsOfWriter, IsFaultOf, IsToldUntil, LeavesAs}
 use Rattle.script_engine.specs.declared.fault.ScriptFault.{ScriptFault}
 use Rattle.script_engine.specs.declared.fault.ScriptFault.TheVariants.{Read, Write, Memory, Cut}
 use Rattle.script_engine.specs.Lines.{has_line_end, lines_of}
@@ -35,10 +36,20 @@ Gives-end None b x p e = tt
 Gives-end (Some a) None x p e = absurd p
 Gives-end (Some a) (Some b) x p e = p ∙ ap (λ z. x ++ z) e ∙ append-nil x
 
+-- ---- a chunk
+
+-- there was none
+pub no_chunk : {more : Bool} (left left' : Option (List ℕ)) (chunk : List ℕ) → more ≡ false → ReadsChunk more left left' chunk → Keeps left left' × IsAtEnd left'
+no_chunk left left' chunk e h = subst (λ b. ReadsChunk b left left' chunk) e h
+
+-- there was one
+pub a_chunk : {more : Bool} (left left' : Option (List ℕ)) (chunk bytes : List ℕ) → more ≡ true → bytes ≡ chunk → ReadsChunk more left left' chunk → Consumes left left' bytes × (0 < length bytes) × (length bytes ≤ 65536)
+a_chunk left left' chunk bytes e is h = subst (ReadsChunk true left left') (sym is) (subst (λ b. ReadsChunk b left left' chunk) e h)
+
 -- ---- turns
 
-pub Ran-none : {S : Type 0} {f : Answering S (List ℕ)} {g : S} (p : Place S) (left held : Option (List ℕ)) → p ≡ start g → Ran f g p left left held held 0
-Ran-none {f} {g} p left held e = record {
+pub Ran-none : {S : Type 0} {f : Answering S (List ℕ)} {g : S} (p : Place S) (left held : Option (List ℕ)) (turns : ℕ) → p ≡ start g → Ran f g p left left held held turns
+Ran-none {f} {g} p left held turns e = record {
   input = [];
   text = [];
   served = subst (λ q. Served f (start g) [] q []) (sym e) (Served-none (start g));
@@ -47,19 +58,19 @@ Ran-none {f} {g} p left held e = record {
   few = omega arith;
 }
 
-pub Ran-more : {S : Type 0} {f : Answering S (List ℕ)} {g : S} {p : Place S} {left left' held held' : Option (List ℕ)} {turns : ℕ} (q : Place S) (left'' held'' : Option (List ℕ)) (bytes : List ℕ) → Ran f g p left left' held held' turns → Consumes left' left'' bytes → 0 < length bytes → length bytes ≤ 65536 → Feeds f p bytes q held' held'' →
-    Ran f g q left left'' held held'' (turns + 1)
-Ran-more {turns = turns} q left'' held'' bytes r c some most (t, s, w) = record {
+pub Ran-more : {S : Type 0} {f : Answering S (List ℕ)} {g : S} {p : Place S} {left left' held held' : Option (List ℕ)} {turns : ℕ} (q : Place S) (left'' held'' : Option (List ℕ)) (bytes : List ℕ) (turns' : ℕ) → turns' ≡ turns + 1 → Ran f g p left left' held held' turns → Consumes left' left'' bytes → length bytes ≤ 65536 → Feeds f p bytes q held' held'' →
+    Ran f g q left left'' held held'' turns'
+Ran-more {turns = turns} q left'' held'' bytes turns' e r c most (t, s, w) = record {
   input = r.input ++ bytes;
   text = r.text ++ t;
   served = Served-joined r.served s;
   taken = Consumes-trans _ _ _ r.input bytes r.taken c;
   written = Appends-trans _ _ _ r.text t r.written w;
-  few = omega (arith, r.few, length-append r.input bytes);
+  few = omega (arith, r.few, length-append r.input bytes, e);
 }
 
 -- the number of the line is far below its limit
-pub Ran-number : {S : Type 0} {f : Answering S (List ℕ)} {g : S} {p : Place S} {left left' held held' : Option (List ℕ)} {turns : ℕ} → Ran f g p left left' held held' turns → turns < 4294967295 → p.number + 65536 < 18446744073709551616
+pub Ran-number : {S : Type 0} {f : Answering S (List ℕ)} {g : S} {p : Place S} {left left' held held' : Option (List ℕ)} {turns : ℕ} → Ran f g p left left' held held' turns → turns ≤ 4294967295 → p.number + 65536 < 18446744073709551616
 Ran-number r h = omega (arith, r.served.number_is, r.served.few, r.few)
 
 -- what the writer holds is kept
@@ -221,13 +232,13 @@ pub Ran-finished : {S : Type 0} {f : Answering S (List ℕ)} {g : S} {p : Place 
 Ran-finished {left = left} {left'} q held'' r e (bytes, l, n, (t, s, w)) =
     (r.input, r.text ++ t, Gives-end left left' r.input r.taken e, Appends-trans _ _ _ r.text t r.written w, is_answered r.input (Served-joined r.served s) n (same_lines bytes r.served l))
 
--- a read that gave nothing
-pub Ran-end : {S : Type 0} {f : Answering S (List ℕ)} {g : S} {p : Place S} {left left' held held' : Option (List ℕ)} {turns : ℕ} (left'' : Option (List ℕ)) (buffer : List ℕ) (n : ℕ) → n ≡ 0 → Ran f g p left left' held held' turns → Consumes left' left'' (take n buffer) → Ran f g p left left'' held held' turns
-Ran-end {left = left} {left'} left'' buffer n z r c = record {
+-- nothing more was read
+pub Ran-end : {S : Type 0} {f : Answering S (List ℕ)} {g : S} {p : Place S} {left left' held held' : Option (List ℕ)} {turns : ℕ} (left'' : Option (List ℕ)) → Ran f g p left left' held held' turns → Keeps left' left'' → Ran f g p left left'' held held' turns
+Ran-end {left = left} {left'} left'' r k = record {
   input = r.input;
   text = r.text;
   served = r.served;
-  taken = subst (λ x. Consumes left left'' x) (append-nil r.input) (Consumes-trans left left' left'' r.input [] r.taken (subst (λ k. Consumes left' left'' (take k buffer)) z c));
+  taken = Consumes-kept left left' left'' r.input r.taken k;
   written = r.written;
   few = r.few;
 }
@@ -286,11 +297,6 @@ IsFaultOf-left Memory stands k k' r r' w w1 w2 w3 e f h (inr l) = subst (λ s. I
 IsFaultOf-left Cut stands k k' r r' w w1 w2 w3 e f h (inl l) = subst (λ s. IsFaultOf s k k' r r' w w3) (sym l.0) (e, l.1 ∙ h ∙ f)
 IsFaultOf-left Cut stands k k' r r' w w1 w2 w3 e f h (inr l) = subst (λ s. IsFaultOf s k k' r r' w w3) (sym l.0) (e, l.1 ∙ ap (λ n. min (n + 1) full) (h ∙ f))
 
--- there were as many reads as there may be, and what was written is passed on
-pub IsFaultOf-last : (stands : ScriptFault) (k k' r r' w w1 w2 : ℕ) → counted k' 0 ≡ counted k max_reads → r' ≡ r → w1 ≡ w → LeavesAs Read stands w1 w2 → IsFaultOf stands k k' r r' w w2
-IsFaultOf-last stands k k' r r' w w1 w2 n e f (inl l) = subst (λ s. IsFaultOf s k k' r r' w w2) (sym l.0) (inr (n, e), l.1 ∙ f)
-IsFaultOf-last stands k k' r r' w w1 w2 n e f (inr l) = subst (λ s. IsFaultOf s k k' r r' w w2) (sym l.0) (e, l.1 ∙ ap (λ n. min (n + 1) full) f)
-
 -- a script that stopped in bytes that it took in did not stop at a read
 pub not_read : (fault stands : ScriptFault) (w1 w2 w3 : ℕ) → IsOfWriter fault w1 w2 → LeavesAs fault stands w2 w3 → stands ≡ Read → ⊥
 not_read Read stands w1 w2 w3 h l e = absurd h
@@ -301,10 +307,5 @@ not_read Cut stands w1 w2 w3 h (inl l) e = cut_not_read (sym l.0 ∙ e)
 not_read Cut stands w1 w2 w3 h (inr l) e = write_not_read (sym l.0 ∙ e)
 
 -- a script that has not begun stands at its start
-pub place_equal : {S : Type 0} (s : S) (b : List ℕ) → b ≡ [] → (record { state = s; begun = b; number = 1; clean = true }) ≡ start s
-place_equal s b e = λ i. record { state = s; begun = e i; number = 1; clean = true }
-
--- ---- counts
-
-pub one_more : (a b n : ℕ) → counted b 0 ≡ counted a n → counted (counted b 1) 0 ≡ counted a (n + 1)
-one_more a b n e = omega (arith, e)
+pub place_equal : {S : Type 0} (s : S) (b : List ℕ) (n : ℕ) (clean : Bool) → b ≡ [] → n ≡ 1 → clean ≡ true → (record { state = s; begun = b; number = n; clean = clean }) ≡ start s
+place_equal s b n clean e f h = λ i. record { state = s; begun = e i; number = f i; clean = h i }

@@ -7,8 +7,8 @@ use Rattle.couch_wording.proofs.Running.{Stopped-none}
 use Rattle.couch_wording.proofs.AnswersWritten.{reads_answers, reads_changes, reads_script}
 use Rattle.couch_wording.proofs.run.run_answers.Goals as goal
 
-pub returns-in_err-chunk-clause-fault : goal.returns-in_err-chunk-clause-fault
-returns-in_err-chunk-clause-fault g c =
+pub returns-in_err-chunks-clause-fault : goal.returns-in_err-chunks-clause-fault
+returns-in_err-chunks-clause-fault g c =
     let p = err_from_is_err_and c.from_residual.result c.from_residual.ensures.1 in
     rw (p.1, p.2) (Stopped-none (state_of c.args.reading.now).wanted (words_of_wording c.args.wording.now) (g.R.ScriptRead.left c.args.reader.now) (g.W.ScriptWrite.held c.args.writer.now) Memory refl)
 

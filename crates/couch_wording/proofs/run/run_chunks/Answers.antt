@@ -1,60 +1,59 @@
-use Rattle.std.proofs.Common.{◌≡◌, ◌<◌, length, arith, ap, ◌∙◌, sym, subst, refl, false, take}
-use Rattle.std.proofs.KnownBytes.{Keeps-refl}
+use Rattle.std.proofs.Common.{◌≡◌, [], ap, ◌∙◌, sym, subst, refl, false}
 use Rattle.script_engine.specs.Device.{counted}
-use Rattle.script_engine.specs.declared.fault.ScriptFault.TheVariants.{Read}
-use Rattle.script_engine.proofs.RunLemmas.{one_more}
+use Rattle.script_engine.specs.Stored.{chunk_of}
+use Rattle.script_engine.proofs.RunLemmas.{a_chunk, no_chunk}
 use Rattle.couch_answers.specs.State.{State}
 use Rattle.couch_answers.specs.Steps.{is_refused}
 use Rattle.couch_answers.specs.Stored.{state_of}
+use Rattle.couch_wording.specs.Runs.{IsWhole}
 use Rattle.couch_wording.specs.Stored.{words_of_wording}
 use Rattle.couch_wording.proofs.Running.{Ran-none, start_going, Ran-more, Ran-end, Stopped-before, Stopped-in, Answered-end, Stopped-end, Stopped-refused}
 use Rattle.couch_wording.proofs.run.run_chunks.Goals as goal
 
-pub loop-turn-init : goal.loop-turn-init
-loop-turn-init g c =
+pub loop-more-init : goal.loop-more-init
+loop-more-init g c =
     let s = state_of c.args.reading.now in
     record {
       ran = Ran-none s.wanted (words_of_wording c.args.wording.now) s (g.R.ScriptRead.left c.args.reader.now) (g.W.ScriptWrite.held c.args.writer.now) c.requires.begins;
       going = subst (λ (z : State). is_refused z.place ≡ false) (sym c.requires.begins) (start_going s.wanted);
-      reads = refl;
-      reader = refl;
+      chunks = c.requires.room;
+      reads = record { made = ap (counted (g.R.ScriptRead.reads c.args.reader.now)) (sym c.requires.unread); unfailing = refl };
       writer = refl;
     }
 
 pub returns-in-Err-clause-fault : goal.returns-in-Err-clause-fault
-returns-in-Err-clause-fault g c = Stopped-before c.loop-turn.invariant.ran Read (g.R.ScriptRead.left c.read.new.self) c.in-Err.ensures.bytes refl
+returns-in-Err-clause-fault g c = Stopped-before c.loop-more.invariant.ran c.in-Err.fault (g.R.ScriptRead.left c.next.new.reader) c.in-Err.ensures.kept
+    (subst (λ f. IsWhole f []) (sym c.in-Err.ensures.fault) refl)
 
-pub returns-then-count-eq0-clause-ok : goal.returns-then-count-eq0-clause-ok
-returns-then-count-eq0-clause-ok g c =
-    let some : 0 < length c.read.new.buffer = omega (arith, c.read.auto.buffer, c.loop-turn.auto.chunk, c.requires.room) in
-    let ran = Ran-end c.loop-turn.invariant.ran (g.R.ScriptRead.left c.read.new.self) c.read.new.buffer c.in-Ok.count c.if-count-eq0.true c.in-Ok.ensures.bytes.0 in
-    Answered-end ran (g.W.ScriptWrite.held c.finish.new.writer) c.finish.result (c.in-Ok.ensures.bytes.1 c.if-count-eq0.true some) c.loop-turn.invariant.going c.finish.ensures.finishes
+pub returns-then-not-more-clause-ok : goal.returns-then-not-more-clause-ok
+returns-then-not-more-clause-ok g c =
+    let none = no_chunk (g.R.ScriptRead.left c.loop-more.reader) (g.R.ScriptRead.left c.next.new.reader) (chunk_of c.next.new.self) c.if-not-more.true c.in-Ok.ensures.chunk in
+    Answered-end (Ran-end c.loop-more.invariant.ran (g.R.ScriptRead.left c.next.new.reader) none.0) (g.W.ScriptWrite.held c.finish.new.writer) c.finish.result none.1 c.loop-more.invariant.going c.finish.ensures.finishes
 
-pub returns-then-count-eq0-clause-fault : goal.returns-then-count-eq0-clause-fault
-returns-then-count-eq0-clause-fault g c =
-    let some : 0 < length c.read.new.buffer = omega (arith, c.read.auto.buffer, c.loop-turn.auto.chunk, c.requires.room) in
-    let ran = Ran-end c.loop-turn.invariant.ran (g.R.ScriptRead.left c.read.new.self) c.read.new.buffer c.in-Ok.count c.if-count-eq0.true c.in-Ok.ensures.bytes.0 in
-    Stopped-end ran (g.W.ScriptWrite.held c.finish.new.writer) c.finish.result (c.in-Ok.ensures.bytes.1 c.if-count-eq0.true some) c.loop-turn.invariant.going c.finish.ensures.finishes
+pub returns-then-not-more-clause-fault : goal.returns-then-not-more-clause-fault
+returns-then-not-more-clause-fault g c =
+    let none = no_chunk (g.R.ScriptRead.left c.loop-more.reader) (g.R.ScriptRead.left c.next.new.reader) (chunk_of c.next.new.self) c.if-not-more.true c.in-Ok.ensures.chunk in
+    Stopped-end (Ran-end c.loop-more.invariant.ran (g.R.ScriptRead.left c.next.new.reader) none.0) (g.W.ScriptWrite.held c.finish.new.writer) c.finish.result none.1 c.loop-more.invariant.going c.finish.ensures.finishes
 
 pub returns-in-Err-feed-clause-fault : goal.returns-in-Err-feed-clause-fault
 returns-in-Err-feed-clause-fault g c =
-    Stopped-in c.loop-turn.invariant.ran c.in-Err-feed.fault (g.R.ScriptRead.left c.read.new.self) (g.W.ScriptWrite.held c.feed.new.writer) (take c.in-Ok.count c.read.new.buffer) c.in-Ok.ensures.bytes.0 c.in-Err-feed.ensures.err
+    let some = a_chunk (g.R.ScriptRead.left c.loop-more.reader) (g.R.ScriptRead.left c.next.new.reader) (chunk_of c.next.new.self) c.bytes.result.now c.if-not-more.false c.bytes.ensures c.in-Ok.ensures.chunk in
+    Stopped-in c.loop-more.invariant.ran c.in-Err-feed.fault (g.R.ScriptRead.left c.next.new.reader) (g.W.ScriptWrite.held c.feed.new.writer) c.bytes.result.now some.0 c.in-Err-feed.ensures.err
 
 pub returns-then-is_refused-clause-fault : goal.returns-then-is_refused-clause-fault
 returns-then-is_refused-clause-fault g c =
-    let ran = Ran-more c.loop-turn.invariant.ran (state_of c.feed.new.reading) (words_of_wording c.feed.new.wording) (g.R.ScriptRead.left c.read.new.self) (g.W.ScriptWrite.held c.feed.new.writer) (take c.in-Ok.count c.read.new.buffer) c.in-Ok.ensures.bytes.0 c.in-Ok-feed.ensures.ok in
+    let some = a_chunk (g.R.ScriptRead.left c.loop-more.reader) (g.R.ScriptRead.left c.next.new.reader) (chunk_of c.next.new.self) c.bytes.result.now c.if-not-more.false c.bytes.ensures c.in-Ok.ensures.chunk in
+    let ran = Ran-more c.loop-more.invariant.ran (state_of c.feed.new.reading) (words_of_wording c.feed.new.wording) (g.R.ScriptRead.left c.next.new.reader) (g.W.ScriptWrite.held c.feed.new.writer) c.bytes.result.now some.0 c.in-Ok-feed.ensures.ok in
     Stopped-refused ran c.ended.result c.ended.ensures (sym c.is_refused.ensures ∙ c.if-is_refused.true)
 
-pub loop-turn-preserved : goal.loop-turn-preserved
-loop-turn-preserved g c =
-    let i = c.loop-turn.invariant in
+pub loop-more-preserved : goal.loop-more-preserved
+loop-more-preserved g c =
+    let i = c.loop-more.invariant in
+    let some = a_chunk (g.R.ScriptRead.left c.loop-more.reader) (g.R.ScriptRead.left c.next.new.reader) (chunk_of c.next.new.self) c.bytes.result.now c.if-not-more.false c.bytes.ensures c.in-Ok.ensures.chunk in
     record {
-      ran = Ran-more i.ran (state_of c.feed.new.reading) (words_of_wording c.feed.new.wording) (g.R.ScriptRead.left c.read.new.self) (g.W.ScriptWrite.held c.feed.new.writer) (take c.in-Ok.count c.read.new.buffer) c.in-Ok.ensures.bytes.0 c.in-Ok-feed.ensures.ok;
+      ran = Ran-more i.ran (state_of c.feed.new.reading) (words_of_wording c.feed.new.wording) (g.R.ScriptRead.left c.next.new.reader) (g.W.ScriptWrite.held c.feed.new.writer) c.bytes.result.now some.0 c.in-Ok-feed.ensures.ok;
       going = sym c.is_refused.ensures ∙ c.if-is_refused.false;
-      reads = ap (λ n. counted n 0) c.read.ensures.asked ∙ one_more (g.R.ScriptRead.reads c.args.reader.now) _ c.loop-turn.turn i.reads;
-      reader = c.in-Ok.ensures.counted.1 ∙ i.reader;
+      chunks = c.in-Ok.ensures.room;
+      reads = c.in-Ok.ensures.reads _ _ i.reads;
       writer = c.in-Ok-feed.ensures.counted ∙ i.writer;
     }
-
-pub returns-clause-fault : goal.returns-clause-fault
-returns-clause-fault g c = Stopped-before c.loop-turn.invariant.ran Read (g.R.ScriptRead.left c.loop-turn.reader) (Keeps-refl _) refl

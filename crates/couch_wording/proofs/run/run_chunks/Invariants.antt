@@ -1,20 +1,23 @@
 -- What was read so far is answers, and what they hold is written.
-use Rattle.std.proofs.Common.{◌≡◌, false}
+use Rattle.std.proofs.Common.{◌≡◌, ◌-◌, false}
 use Rattle.couch_answers.specs.Steps.{is_refused}
-use Rattle.script_engine.specs.Device.{counted}
+use Rattle.script_engine.specs.Chunks.{HasRead, AreChunks, max_reads}
 use Rattle.couch_answers.specs.Stored.{state_of}
 use Rattle.couch_wording.specs.Stored.{words_of_wording}
 use Rattle.couch_wording.proofs.Running.{Ran}
 use Rattle.couch_wording.proofs.run.run_chunks.Given as goal
 
-abbrev pub invariant-loop-turn : goal.invariant-loop-turn
-invariant-loop-turn g l =
+abbrev pub invariant-loop-more : goal.invariant-loop-more
+invariant-loop-more g l =
     let R = g.R.ScriptRead in
     let W = g.W.ScriptWrite in
     record {
       ran : Ran l.fn.reading.wanted (words_of_wording l.fn.wording) (state_of l.reading) (words_of_wording l.wording) (R.left l.fn.reader) (R.left l.reader) (W.held l.fn.writer) (W.held l.writer);
       going : is_refused (state_of l.reading).place ≡ false;
-      reads : counted (R.reads l.reader) 0 ≡ counted (R.reads l.fn.reader) l.turn;
-      reader : R.failures l.reader ≡ R.failures l.fn.reader;
+      chunks : AreChunks l.chunks;
+      reads : HasRead l.chunks.turns (R.reads l.fn.reader) (R.reads l.reader) (R.failures l.fn.reader) (R.failures l.reader);
       writer : W.failures l.writer ≡ W.failures l.fn.writer;
     }
+
+abbrev pub decreases-loop-more : goal.decreases-loop-more
+decreases-loop-more g l = max_reads - l.chunks.turns
