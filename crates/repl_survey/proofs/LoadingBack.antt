@@ -13,6 +13,8 @@ use Rattle.rev_core.specs.RevOrder.{rev_tie_self}
 use Rattle.rev_core.specs.Rev.{RevId, rev_cmp}
 use Rattle.rev_core.specs.Ancestry.{is_among, edges_of}
 use Rattle.rev_tree.specs.Tree.{TreeValue, has, is_leaf, is_same, leaves, ancestors, merged, no_revisions, answer_of, walk, contradiction_at, first_contradiction}
+use Rattle.rev_tree.specs.TreeLaws.{has-merged_given}
+use Rattle.rev_tree.specs.MergeLaws.{has-same}
 use Rattle.rev_tree.specs.LeafLaws.{is_among-leaves, ancestors_self}
 use Rattle.rev_tree.specs.AgreementLaws.{same_leaves}
 use Rattle.rev_tree.specs.PartLaws.{IsPart, nothing_is_part, given, part_merged, whole_part}
@@ -34,7 +36,7 @@ use Rattle.repl_peer.specs.peer.Covered.{contradiction_of, in_ledger}
 use Rattle.repl_peer.specs.peer.Writing.{after_load, next_local}
 use Rattle.repl_peer.specs.session.Settling.{is_full}
 use Rattle.repl_peer.proofs.lemmas.Members.{among_test}
-use Rattle.repl_peer.proofs.lemmas.session.SettlingKeepsLaw.{put_holds}
+use Rattle.repl_peer.proofs.lemmas.peer.WritesStand.{changed_tree}
 use Rattle.repl_target.specs.Audit.{CoversFeedOf}
 use Rattle.repl_target.specs.replication.Replication.{IsEmpty, SameDocuments}
 use Rattle.repl_target.proofs.lemmas.replication.EmptyTargetCopied.{IsPartOf, leaf_covered}
@@ -75,6 +77,17 @@ not_refused db d ok = (go (contradiction_of db d) refl ok, room (put_answer db d
     room : (a : Result Put BaseFault) → IsOk a → is_full a ≡ false
     room (Ok put) taken = refl
     room (Err why) taken = absurd (false≢true taken)
+
+-- what is taken stands in its document's tree
+put_holds : (db : DatabaseValue) (d : Document) (o : Origin) → contradiction_of db d ≡ None → is_full (put_answer db d) ≡ false → (r : RevId) → is_among r d.ancestry ≡ true → has (tree_of (after_put db d o).docs d.id) r ≡ true
+put_holds db d o none room r given = go (contradiction_of db d) (is_same (tree_of db.docs d.id) d.ancestry) (nat_lt db.update_seq most) none refl room
+  where
+    go : (c : Option Contradiction) (same left : Bool) → c ≡ None → is_same (tree_of db.docs d.id) d.ancestry ≡ same → is_full (put_told (answer_of c same) left (db.update_seq + 1)) ≡ false
+        → has (tree_of (cond (is_changed (put_told (answer_of c same) left (db.update_seq + 1))) (with_tree db d.id (merged (tree_of db.docs d.id) d.ancestry (content_of d.deleted d.body) o)) db).docs d.id) r ≡ true
+    go (Some c) same left e s f = absurd (none_some c (sym e))
+    go None true left e s f = has-same (tree_of db.docs d.id) d.ancestry r s given
+    go None false true e s f = ap (λ t. has t r) (changed_tree db d.id (merged (tree_of db.docs d.id) d.ancestry (content_of d.deleted d.body) o)) ∙ has-merged_given (tree_of db.docs d.id) d.ancestry (content_of d.deleted d.body) o r given
+    go None false false e s f = absurd (false≢true (sym f))
 
 -- and one that contradicts nothing is taken, where a sequence is left
 taken_ok : (db : DatabaseValue) (d : Document) → contradiction_of db d ≡ None → db.update_seq < most → IsOk (put_answer db d)
