@@ -42,12 +42,12 @@ numbered_from (Some start) (Some sigs) =
 abbrev pub start_of : Data → Option ℕ
 start_of d = option_and_then as_u64 (option_and_then as_number (get (codes "start") d))
 
-abbrev pub ids_of : Data → Option (List (List ℕ))
-ids_of d = option_and_then sigs_of (option_and_then as_array (get (codes "ids") d))
+abbrev pub ids_read : Data → Option (List (List ℕ))
+ids_read d = option_and_then sigs_of (option_and_then as_array (get (codes "ids") d))
 
 -- what a value of `_revisions` gives
 abbrev pub revisions_read : Data → Result (List RevId) DocFault
-revisions_read d = numbered_from (start_of d) (ids_of d)
+revisions_read d = numbered_from (start_of d) (ids_read d)
 
 -- whether a revision is the first of a list
 abbrev pub is_head : RevId → List RevId → Bool

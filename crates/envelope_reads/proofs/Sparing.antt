@@ -23,7 +23,7 @@ use Rattle.document_texts.specs.Members.{members_of, joined}
 use Rattle.doc_json.specs.Members.{has_unknown, is_unknown, plain_members}
 use Rattle.doc_json.specs.DocId.{is_special, is_design, doc_id_read}
 use Rattle.doc_json.specs.DocRead.{doc_read, id_of, flag_of}
-use Rattle.doc_json.specs.Revisions.{revs_read, rev_of_text, rev_member, with_revisions, revisions_read, numbered_from, start_of, ids_of, alone, matched, agrees}
+use Rattle.doc_json.specs.Revisions.{revs_read, rev_of_text, rev_member, with_revisions, revisions_read, numbered_from, start_of, ids_read, alone, matched, agrees}
 use Rattle.rev_core.specs.Rev.{RevId}
 use Rattle.rev_core.specs.Text.{rev_read}
 use Rattle.rev_core.specs.Ancestry.{ancestry_read}
@@ -278,7 +278,7 @@ alone_spares (Some r) = tt
 
 with_spares : (o : Option Data) (rev : Option RevId) → Spares (with_revisions o rev)
 with_spares None rev = alone_spares rev
-with_spares (Some d) rev = then_spares (revisions_read d) (matched rev) (numbered_spares (start_of d) (ids_of d)) (λ revs. if_spares (agrees rev revs) (Ok revs) (Err faults.RevMismatch) tt refl)
+with_spares (Some d) rev = then_spares (revisions_read d) (matched rev) (numbered_spares (start_of d) (ids_read d)) (λ revs. if_spares (agrees rev revs) (Ok revs) (Err faults.RevMismatch) tt refl)
 
 revs_spares : (d : Data) → Spares (revs_read d)
 unfolding revs_read

@@ -5,7 +5,7 @@ use Rattle.std.proofs.lemmas.Bool.{and_parts, and_from, le-leb, eq-eqb, cases_lt
 use Rattle.hex.specs.Hex.{encode_with, encode_lower, lower_digits}
 use Rattle.hex.proofs.HexLemmas.{length-encode_with}
 use Rattle.rev_core.specs.Sig.{is_sig, is_sig_byte}
-use Rattle.rev_core.specs.ShortSig.{is_digit, is_short}
+use Rattle.rev_core.specs.ShortSig.{is_hex_digit, is_short}
 
 -- a test of the first digits
 abbrev all_below : (ℕ → Bool) → ℕ → Bool
@@ -40,4 +40,4 @@ is_sig-encode_lower bytes n h =
 pub is_short-encode_lower : (bytes : List ℕ) → length bytes ≡ 16 → ((i : ℕ) → slice_index bytes i < 256) → is_short (encode_lower bytes) ≡ true
 is_short-encode_lower bytes n h =
     let size : length (encode_lower bytes) ≡ 32 = omega (arith, length-encode_with lower_digits bytes, n) in
-    cond-true _ _ _ (eq-eqb (length (encode_lower bytes)) 32 size) ∙ all_digits is_digit refl bytes h
+    cond-true _ _ _ (eq-eqb (length (encode_lower bytes)) 32 size) ∙ all_digits is_hex_digit refl bytes h

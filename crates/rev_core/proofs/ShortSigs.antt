@@ -8,7 +8,7 @@ use Rattle.std.proofs.lemmas.Nat.{le_bytes_8}
 use Rattle.std.specs.List.{list_all}
 use Rattle.std.specs.Int.{from_le_bytes, to_le_bytes, w64}
 use Rattle.rev_core.specs.Sig.{is_sig, padded}
-use Rattle.rev_core.specs.ShortSig.{bytes_in, digit_of, digits_of, is_digit, text_in}
+use Rattle.rev_core.specs.ShortSig.{bytes_in, digit_of, digits_of, is_hex_digit, text_in}
 use Rattle.rev_core.proofs.Pad.{padded-front}
 
 abbrev high : ℕ → ℕ
@@ -54,7 +54,7 @@ joined_all text bytes size m h =
 -- whether the first digits of both halves, so many, are digits, and the first bytes where they are
 pub record IsRead (text bytes : List ℕ) (all : Bool) (n : ℕ) : Type 0 where
   pub size : length bytes ≡ 16
-  pub tested : all ≡ (list_all is_digit (take n text) && list_all is_digit (take n (drop 16 text)))
+  pub tested : all ≡ (list_all is_hex_digit (take n text) && list_all is_hex_digit (take n (drop 16 text)))
   pub read : all ≡ true → IsJoined text bytes n
 
 regroup : (a b c d : Bool) → ((a && b) && (c && d)) ≡ ((c && (a && true)) && (d && (b && true)))
@@ -67,15 +67,15 @@ regroup true false false d = refl
 regroup false b true d = refl
 regroup false b false d = refl
 
-all_more : (xs : List ℕ) (i : ℕ) → i < length xs → list_all is_digit (take (i + 1) xs) ≡ (list_all is_digit (take i xs) && (is_digit (get_or xs i 0) && true))
-all_more xs i n = ap (list_all is_digit) (take_more xs i 0 n) ∙ list_all-append is_digit (take i xs) (get_or xs i 0 ∷ [])
+all_more : (xs : List ℕ) (i : ℕ) → i < length xs → list_all is_hex_digit (take (i + 1) xs) ≡ (list_all is_hex_digit (take i xs) && (is_hex_digit (get_or xs i 0) && true))
+all_more xs i n = ap (list_all is_hex_digit) (take_more xs i 0 n) ∙ list_all-append is_hex_digit (take i xs) (get_or xs i 0 ∷ [])
 
 -- two digits more are read
 pub read_more : (text bytes : List ℕ) (all : Bool) (i x y : ℕ) → length text ≡ 32 → i < 16 → x < 16 → y < 16
-    → (is_digit (get_or text i 0) ≡ true → digit_of x ≡ get_or text i 0)
-    → (is_digit (get_or text (i + 16) 0) ≡ true → digit_of y ≡ get_or text (i + 16) 0)
+    → (is_hex_digit (get_or text i 0) ≡ true → digit_of x ≡ get_or text i 0)
+    → (is_hex_digit (get_or text (i + 16) 0) ≡ true → digit_of y ≡ get_or text (i + 16) 0)
     → IsRead text bytes all i
-    → IsRead text (slice_set bytes i (x * 16 + y)) ((is_digit (get_or text i 0) && is_digit (get_or text (i + 16) 0)) && all) (i + 1)
+    → IsRead text (slice_set bytes i (x * 16 + y)) ((is_hex_digit (get_or text i 0) && is_hex_digit (get_or text (i + 16) 0)) && all) (i + 1)
 read_more text bytes all i x y m lt xs ys dx dy h =
     let place : i + 16 ≡ 16 + i = omega arith in
     let low : get_or text (i + 16) 0 ≡ get_or (drop 16 text) i 0 = ap (λ k. get_or text k 0) place ∙ sym (get_or-drop 16 text i 0) in
@@ -83,22 +83,22 @@ read_more text bytes all i x y m lt xs ys dx dy h =
     record {
       size = length-set bytes i (x * 16 + y) ∙ h.size;
       tested =
-          (λ j. (is_digit (get_or text i 0) && is_digit (low j)) && h.tested j)
-          ∙ regroup (is_digit (get_or text i 0)) (is_digit (get_or (drop 16 text) i 0)) (list_all is_digit (take i text)) (list_all is_digit (take i (drop 16 text)))
+          (λ j. (is_hex_digit (get_or text i 0) && is_hex_digit (low j)) && h.tested j)
+          ∙ regroup (is_hex_digit (get_or text i 0)) (is_hex_digit (get_or (drop 16 text) i 0)) (list_all is_hex_digit (take i text)) (list_all is_hex_digit (take i (drop 16 text)))
           ∙ (λ j. sym (all_more text i (omega arith)) j && sym (all_more (drop 16 text) i rest) j);
       read = λ e.
-          let parts = and_parts (is_digit (get_or text i 0) && is_digit (get_or text (i + 16) 0)) all e in
-          let digits = and_parts (is_digit (get_or text i 0)) (is_digit (get_or text (i + 16) 0)) parts.0 in
+          let parts = and_parts (is_hex_digit (get_or text i 0) && is_hex_digit (get_or text (i + 16) 0)) all e in
+          let digits = and_parts (is_hex_digit (get_or text i 0)) (is_hex_digit (get_or text (i + 16) 0)) parts.0 in
           joined_more text bytes i x y h.size m lt xs ys (dx digits.0) (dy digits.1) (h.read parts.1);
     }
 
 -- all digits are read
 pub read_all : (text bytes : List ℕ) (all : Bool) → length text ≡ 32 → IsRead text bytes all 16
-    → (all ≡ list_all is_digit text) × (all ≡ true → digits_of bytes ≡ text)
+    → (all ≡ list_all is_hex_digit text) × (all ≡ true → digits_of bytes ≡ text)
 read_all text bytes all m h =
     let rest = take_all 16 (drop 16 text) (omega (arith, length-drop 16 text)) in (
-      h.tested ∙ (λ j. list_all is_digit (take 16 text) && list_all is_digit (rest j))
-          ∙ sym (list_all-append is_digit (take 16 text) (drop 16 text)) ∙ ap (list_all is_digit) (take-append-drop 16 text),
+      h.tested ∙ (λ j. list_all is_hex_digit (take 16 text) && list_all is_hex_digit (rest j))
+          ∙ sym (list_all-append is_hex_digit (take 16 text) (drop 16 text)) ∙ ap (list_all is_hex_digit) (take-append-drop 16 text),
       λ e. joined_all text bytes h.size m (h.read e),
     )
 

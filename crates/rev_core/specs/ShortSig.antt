@@ -4,8 +4,8 @@ use Rattle.std.specs.List.{list_all}
 use Rattle.std.specs.Int.{to_le_bytes, w64}
 
 -- a hexadecimal digit, with letters in lower case
-abbrev pub is_digit : ℕ → Bool
-is_digit b = nat_le 48 b && nat_le b 57 || nat_le 97 b && nat_le b 102
+abbrev pub is_hex_digit : ℕ → Bool
+is_hex_digit b = nat_le 48 b && nat_le b 57 || nat_le 97 b && nat_le b 102
 
 -- the digit of a value below 16
 abbrev pub digit_of : ℕ → ℕ
@@ -17,7 +17,7 @@ digits_of bytes = map (λ b. digit_of (b / 16)) bytes ++ map (λ b. digit_of (b 
 
 -- the digits of a digest, or another text of at most 16 bytes
 abbrev pub is_short : List ℕ → Bool
-is_short text = if length text == 32 then list_all is_digit text else nat_le (length text) 16
+is_short text = if length text == 32 then list_all is_hex_digit text else nat_le (length text) 16
 
 -- sixteen bytes, of two numbers
 unfoldable pub bytes_in : ℕ → ℕ → List ℕ

@@ -2,7 +2,7 @@
 ghost use Rattle.std.specs.Prelude.{◌≡◌, ◌<◌, ◌≤◌, ◌++◌, true, length, IfSome, is_some, nat_le};
 ghost use Rattle.std.specs.List.{list_all};
 ghost use Rattle.rev_core.specs.Sig.{is_sig};
-ghost use Rattle.rev_core.specs.ShortSig.{bytes_in, digit_of, digits_of, is_digit, is_short, text_in};
+ghost use Rattle.rev_core.specs.ShortSig.{bytes_in, digit_of, digits_of, is_hex_digit, is_short, text_in};
 
 use crate::sig::Sig;
 
@@ -87,8 +87,8 @@ impl ShortSig {
 }
 
 /// Whether a byte is a hexadecimal digit, with letters in lower case.
-fn is_digit(b: u8) -> bool
-    ensures { result ≡ is_digit b }
+fn is_hex_digit(b: u8) -> bool
+    ensures { result ≡ is_hex_digit b }
 {
     (b >= b'0') & (b <= b'9') | (b >= b'a') & (b <= b'f')
 }
@@ -97,7 +97,7 @@ fn is_digit(b: u8) -> bool
 /// the high digits, the second half the low ones.
 fn joined(text: &[u8]) -> ([u8; ROOM], bool)
     requires { length text.now ≡ 32 }
-    ensures all { result.1 ≡ list_all is_digit text.now }
+    ensures all { result.1 ≡ list_all is_hex_digit text.now }
     ensures bytes { result.1 ≡ true → digits_of result.0 ≡ text.now }
 {
     let mut bytes = [0; ROOM];
@@ -105,7 +105,7 @@ fn joined(text: &[u8]) -> ([u8; ROOM], bool)
     // Both in one loop without an early end: so many bytes are looked at in one instruction.
     for i in 0..ROOM {
         let (high, low) = (text[i], text[i + ROOM]);
-        all = is_digit(high) & is_digit(low) & all;
+        all = is_hex_digit(high) & is_hex_digit(low) & all;
         bytes[i] = value_of(high) * 16 + value_of(low);
     }
     (bytes, all)
@@ -114,7 +114,7 @@ fn joined(text: &[u8]) -> ([u8; ROOM], bool)
 /// The value of a digit; of another byte, some value.
 fn value_of(digit: u8) -> u8
     ensures low { result < 16 }
-    ensures digit { is_digit digit ≡ true → digit_of result ≡ digit }
+    ensures digit { is_hex_digit digit ≡ true → digit_of result ≡ digit }
 {
     if digit <= b'9' {
         digit.wrapping_sub(b'0') % 16

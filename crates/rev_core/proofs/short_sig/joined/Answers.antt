@@ -8,7 +8,7 @@ loop-i-preserved c =
     let bytes = slice_set c.loop-i.bytes c.loop-i.i (c.value_of.result * 16 + c.value_of-in-loop-i.result) in
     let more = read_more text c.loop-i.bytes c.loop-i.all c.loop-i.i c.value_of.result c.value_of-in-loop-i.result c.requires (omega arith)
     c.value_of.ensures.low c.value_of-in-loop-i.ensures.low c.value_of.ensures.digit c.value_of-in-loop-i.ensures.digit c.loop-i.invariant in
-    subst (λ b. IsRead text bytes b (c.loop-i.i + 1)) (λ i. (sym c.is_digit.ensures i && sym c.is_digit-in-loop-i.ensures i) && c.loop-i.all) more
+    subst (λ b. IsRead text bytes b (c.loop-i.i + 1)) (λ i. (sym c.is_hex_digit.ensures i && sym c.is_hex_digit-in-loop-i.ensures i) && c.loop-i.all) more
 
 pub returns-clause-all : goal.returns-clause-all
 returns-clause-all c =
