@@ -1,7 +1,7 @@
 -- The members of a text, one after another.
 use Rattle.std.proofs.Common.{◌≡◌, ℕ, ◌+◌, ◌<◌, ◌==◌, get_or, take, drop, length, List, [], ◌∷◌, ◌++◌, Bool, true, false, cond, refl, sym, ap, ◌∙◌, append_assoc, append-nil, add-one, drop-cons, arith}
 use Rattle.std.proofs.lemmas.Grind.{common_steps}
-use Rattle.document_texts.specs.Members.{ends, mode_behind, nesting_behind, length_in, first_length, members_in}
+use Rattle.document_texts.specs.Members.{ends_member, mode_behind, nesting_behind, length_in, first_length, members_in}
 use Rattle.document_texts.specs.Steps.{behind_comma}
 use Rattle.document_texts.specs.declared.members.Mode.{Mode}
 use Rattle.document_texts.specs.declared.members.Mode.TheVariants.{Outside}
@@ -21,12 +21,12 @@ comma_members false t = refl
 abbrev FirstBy : Mode → ℕ → List ℕ → List ℕ → Type 0
 FirstBy m n u t = members_in m n u t ≡ (u ++ take (length_in m n t) t) ∷ members_in Outside 0 [] (behind_comma t (length_in m n t))
 
-first_end : (m : Mode) (n : ℕ) (u : List ℕ) (b : ℕ) (t : List ℕ) → ends m n b ≡ true → FirstBy m n u (b ∷ t)
+first_end : (m : Mode) (n : ℕ) (u : List ℕ) (b : ℕ) (t : List ℕ) → ends_member m n b ≡ true → FirstBy m n u (b ∷ t)
 unfolding members_in length_in
 first_end m n u b t h =
     rw h (ap (λ z. z ∷ cond (b == 44) (members_in Outside 0 [] t) []) (sym (append-nil u)) ∙ ap (λ z. (u ++ []) ∷ z) (comma_members (b == 44) t))
 
-first_more : (m : Mode) (n : ℕ) (u : List ℕ) (b : ℕ) (t : List ℕ) → ends m n b ≡ false → FirstBy (mode_behind m b) (nesting_behind m n b) (u ++ b ∷ []) t → FirstBy m n u (b ∷ t)
+first_more : (m : Mode) (n : ℕ) (u : List ℕ) (b : ℕ) (t : List ℕ) → ends_member m n b ≡ false → FirstBy (mode_behind m b) (nesting_behind m n b) (u ++ b ∷ []) t → FirstBy m n u (b ∷ t)
 unfolding members_in length_in
 first_more m n u b t h more =
     let k = length_in (mode_behind m b) (nesting_behind m n b) t in
@@ -40,8 +40,8 @@ first_none m n u h = rw h (ap (λ z. z ∷ []) (sym (append-nil u)))
 first_by : (m : Mode) (n : ℕ) (u t : List ℕ) → (length (u ++ t) == 0) ≡ false → FirstBy m n u t
 first_by m n u [] some = first_none m n u (ap (λ z. length z == 0) (sym (append-nil u)) ∙ some)
 first_by m n u (b ∷ t) some =
-    by_end (ends m n b) refl (first_by (mode_behind m b) (nesting_behind m n b) (u ++ b ∷ []) t (ap (λ z. length z == 0) (append_assoc u (b ∷ []) t) ∙ some)) where
-      by_end : (c : Bool) → ends m n b ≡ c → FirstBy (mode_behind m b) (nesting_behind m n b) (u ++ b ∷ []) t → FirstBy m n u (b ∷ t)
+    by_end (ends_member m n b) refl (first_by (mode_behind m b) (nesting_behind m n b) (u ++ b ∷ []) t (ap (λ z. length z == 0) (append_assoc u (b ∷ []) t) ∙ some)) where
+      by_end : (c : Bool) → ends_member m n b ≡ c → FirstBy (mode_behind m b) (nesting_behind m n b) (u ++ b ∷ []) t → FirstBy m n u (b ∷ t)
       by_end true h more = first_end m n u b t h
       by_end false h more = first_more m n u b t h more
 
@@ -54,11 +54,11 @@ members_none = refl
 
 -- ---- one byte more of the first member
 
-length_more : (m : Mode) (n : ℕ) (b : ℕ) (t : List ℕ) → ends m n b ≡ false → length_in m n (b ∷ t) ≡ length_in (mode_behind m b) (nesting_behind m n b) t + 1
+length_more : (m : Mode) (n : ℕ) (b : ℕ) (t : List ℕ) → ends_member m n b ≡ false → length_in m n (b ∷ t) ≡ length_in (mode_behind m b) (nesting_behind m n b) t + 1
 unfolding length_in
 length_more m n b t h = rw h
 
-length_end : (m : Mode) (n : ℕ) (b : ℕ) (t : List ℕ) → ends m n b ≡ true → length_in m n (b ∷ t) ≡ 0
+length_end : (m : Mode) (n : ℕ) (b : ℕ) (t : List ℕ) → ends_member m n b ≡ true → length_in m n (b ∷ t) ≡ 0
 unfolding length_in
 length_end m n b t h = rw h
 
@@ -70,11 +70,11 @@ module _ (m : Mode) (n : ℕ) (text : List ℕ) (i : ℕ) where
   cut : i < length text → drop i text ≡ get_or text i 0 ∷ drop (i + 1) text
   cut h = grind (arith, common_steps, drop-cons text i 0, h)
 
-  pub length_step : i < length text → ends m n (get_or text i 0) ≡ false
+  pub length_step : i < length text → ends_member m n (get_or text i 0) ≡ false
       → length_in m n (drop i text) ≡ length_in (mode_behind m (get_or text i 0)) (nesting_behind m n (get_or text i 0)) (drop (i + 1) text) + 1
   length_step h e = ap (length_in m n) (cut h) ∙ length_more m n (get_or text i 0) (drop (i + 1) text) e
 
-  pub length_stop : i < length text → ends m n (get_or text i 0) ≡ true → length_in m n (drop i text) ≡ 0
+  pub length_stop : i < length text → ends_member m n (get_or text i 0) ≡ true → length_in m n (drop i text) ≡ 0
   length_stop h e = ap (length_in m n) (cut h) ∙ length_end m n (get_or text i 0) (drop (i + 1) text) e
 
 over : (t : List ℕ) → drop (length t) t ≡ []

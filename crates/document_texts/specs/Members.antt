@@ -13,10 +13,10 @@ abbrev pub closes : ℕ → Bool
 closes b = b == 125 || b == 93
 
 -- a byte stands behind a member, within which so many brackets are open: a comma, or a bracket that closes the object
-abbrev pub ends : Mode → ℕ → ℕ → Bool
-ends Outside n b = n == 0 && (b == 44 || closes b)
-ends Quoted n b = false
-ends Escaped n b = false
+abbrev pub ends_member : Mode → ℕ → ℕ → Bool
+ends_member Outside n b = n == 0 && (b == 44 || closes b)
+ends_member Quoted n b = false
+ends_member Escaped n b = false
 
 abbrev pub mode_behind : Mode → ℕ → Mode
 mode_behind Outside b = cond (b == 34) Quoted Outside
@@ -33,7 +33,7 @@ nesting_behind Escaped n b = n
 -- how many bytes the member has that is being read
 unfoldable pub length_in : Mode → ℕ → List ℕ → ℕ
 length_in m n [] = 0
-length_in m n (b ∷ t) = cond (ends m n b) 0 (length_in (mode_behind m b) (nesting_behind m n b) t + 1)
+length_in m n (b ∷ t) = cond (ends_member m n b) 0 (length_in (mode_behind m b) (nesting_behind m n b) t + 1)
 
 -- how many bytes the first member of a text has
 abbrev pub first_length : List ℕ → ℕ
@@ -43,7 +43,7 @@ first_length t = length_in Outside 0 t
 unfoldable pub members_in : Mode → ℕ → List ℕ → List ℕ → List (List ℕ)
 members_in m n u [] = cond (length u == 0) [] (u ∷ [])
 members_in m n u (b ∷ t) =
-    cond (ends m n b) (u ∷ cond (b == 44) (members_in Outside 0 [] t) [])
+    cond (ends_member m n b) (u ∷ cond (b == 44) (members_in Outside 0 [] t) [])
     (members_in (mode_behind m b) (nesting_behind m n b) (u ++ b ∷ []) t)
 
 abbrev pub is_blank : List ℕ → Bool

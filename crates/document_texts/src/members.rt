@@ -1,6 +1,6 @@
 //! The members of an object, by their texts.
 ghost use Rattle.std.specs.Prelude.{◌≡◌, ◌+◌, ◌<◌, ◌≤◌, length};
-ghost use Rattle.document_texts.specs.Members.{opens, closes, ends, mode_behind, nesting_behind, first_length};
+ghost use Rattle.document_texts.specs.Members.{opens, closes, ends_member, mode_behind, nesting_behind, first_length};
 
 /// Where in a text a byte stands.
 #[derive(Clone, Copy, Debug, PartialEq, Eq)]
@@ -30,7 +30,7 @@ fn closes(byte: u8) -> bool
 /// Whether a byte stands behind a member, within which so many brackets are open.
 #[inline(always)]
 fn ends(mode: Mode, nesting: usize, byte: u8) -> bool
-    ensures { result ≡ ends mode nesting byte }
+    ensures { result ≡ ends_member mode nesting byte }
 {
     match mode {
         Mode::Outside => nesting == 0 && (byte == b',' || closes(byte)),

@@ -108,11 +108,11 @@ module _ (peers : List PeerValue) (place : ℕ) (change : PeerValue → PeerValu
   Where n = (n ≡ place) ⊎ (n ≢ place)
 
   change_is : (n : ℕ) (p : PeerValue) → IsAt peers' n p → n ≡ place → change w.before ≡ p
-  change_is n p at e = hops.one_peer peers' place (change w.before) p w.at_then (subst (λ k. IsAt peers' k p) e at)
+  change_is n p at e = writes.one_peer peers' place (change w.before) p w.at_then (subst (λ k. IsAt peers' k p) e at)
 
   held_at : (u n : ℕ) (p : PeerValue) → IsAt peers n p → p.db.uuid ≡ u → Where n → IsHeld peers' u
   held_at u n p at is (inl e) =
-      let same : w.before ≡ p = hops.one_peer peers place w.before p w.at (subst (λ k. IsAt peers k p) e at) in
+      let same : w.before ≡ p = writes.one_peer peers place w.before p w.at (subst (λ k. IsAt peers k p) e at) in
       (place, change w.before, w.at_then, uuid ∙ (ap (λ (x : PeerValue). x.db.uuid) same ∙ is))
   held_at u n p at is (inr o) = (n, p, w.others n o ∙ at, is)
 

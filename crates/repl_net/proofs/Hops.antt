@@ -23,6 +23,7 @@ use Rattle.repl_net.specs.declared.hop.Hop.{Hop}
 use Rattle.repl_net.specs.Nets.{IsAt, AreTied, AllAgree, AllWhole, IsRefusedNowhere, IsSameEverywhere, AllChoose, Leads, LeadsEverywhere, Spread}
 use Rattle.repl_net.specs.Hopped.{Hopped, AllHopped, AllLawful}
 use Rattle.repl_net.proofs.Trees.{Agree-both, IsWhole-grown}
+use Rattle.repl_net.proofs.Writes.{one_peer}
 
 abbrev tree : PeerValue → Id → TreeValue
 tree p id = tree_of p.db.docs id
@@ -44,9 +45,6 @@ where_is from to n =
       | inl t ↦ inl (eqb-true n from t)
       | inr f ↦ elim (cases_Bool (n == to)) [ inl t ↦ inr (inl (eqb-true n to t)) | inr g ↦ inr (inr (eqb-false n from f, eqb-false n to g)) ]
     ]
-
-pub one_peer : (peers : List PeerValue) (n : ℕ) (p q : PeerValue) → IsAt peers n p → IsAt peers n q → p ≡ q
-one_peer peers n p q h k = ap (λ (o : Option PeerValue). unwrap_or o p) (sym h ∙ k)
 
 -- two peers are the same two
 both : (c : Choice) (x p y q : PeerValue) → x ≡ p → y ≡ q → IsTiedPair x y c → IsTiedPair p q c

@@ -103,5 +103,5 @@ module _ {S : Type 0} where
       let p = b.1 h in
       omega arith
 
-pub begins : (S : Type 0) → Balanced {S = S} [] (parcel_view 1024 [] [] ∷ [])
-begins S = (refl, (λ h. refl), idle_snoc [] (parcel_view 1024 [] []) (λ none. absurd (omega arith)) (λ j u at none. absurd (some-ne-none u (sym at))))
+pub parcels_begin : (S : Type 0) → Balanced {S = S} [] (parcel_view 1024 [] [] ∷ [])
+parcels_begin S = (refl, (λ h. refl), idle_snoc [] (parcel_view 1024 [] []) (λ none. absurd (omega arith)) (λ j u at none. absurd (some-ne-none u (sym at))))

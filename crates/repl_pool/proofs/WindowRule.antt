@@ -147,5 +147,5 @@ module _ {S : Type 0} where
       let p = b.2 k in
       omega arith
 
-pub begins : (S : Type 0) → Numbered {S = S} [] (window_view 1024 1 0 [] ∷ [])
-begins S = (refl, refl, (λ x. sym (none_below x)), role_snoc [] (window_view 1024 1 0 []) ((λ none. refl), λ none. absurd (omega arith)) (λ j u at. absurd (some-ne-none u (sym at))))
+pub windows_begin : (S : Type 0) → Numbered {S = S} [] (window_view 1024 1 0 [] ∷ [])
+windows_begin S = (refl, refl, (λ x. sym (none_below x)), role_snoc [] (window_view 1024 1 0 []) ((λ none. refl), λ none. absurd (omega arith)) (λ j u at. absurd (some-ne-none u (sym at))))
