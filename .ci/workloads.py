@@ -121,6 +121,11 @@ def chosen(n):
     return pair() + loads(10)[1:] + [session("a", "b", i + 1, doc_ids=["doc-1", "doc-2"]) for i in range(n)]
 
 
+def scanned(n):
+    """A replication for each of n choices of two documents, each over a feed of a thousand."""
+    return pair() + loads(1000)[1:] + [session("a", "b", i + 1, doc_ids=["doc-%d" % (2 * i), "doc-%d" % (2 * i + 1)]) for i in range(n)]
+
+
 def copied(n):
     """Four backups of n documents, of which the last is put back."""
     return loads(n) + [{"do": "backup", "db": "a", "name": "k%d" % k} for k in range(4)] + [
