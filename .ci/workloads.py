@@ -81,6 +81,11 @@ def bodies(n):
         load("a", "doc-%d" % i, [digest(i)], items=[small(k) for k in range(200)]) for i in range(n)]
 
 
+def plain(n):
+    """n documents with a text of 20 KB, in which nothing needs an escape."""
+    return [database("a", 1)] + [load("a", "doc-%d" % i, [digest(i)], text="x" * 20_000) for i in range(n)]
+
+
 def carried(n):
     """n documents, carried once by one thread, and an audit."""
     return pair() + loads(n)[1:] + [session("a", "b", 1), audit("a", "b")]
