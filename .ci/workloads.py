@@ -91,6 +91,13 @@ def carried(n):
     return pair() + loads(n)[1:] + [session("a", "b", 1), audit("a", "b")]
 
 
+def pooled(n):
+    """n documents, carried once by the pool."""
+    by_threads = session("a", "b", 1)
+    del by_threads["alone"]
+    return pair() + loads(n)[1:] + [by_threads, audit("a", "b")]
+
+
 def daily(n):
     """n times a new document and a replication."""
     lines = pair()
