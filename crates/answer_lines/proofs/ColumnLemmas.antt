@@ -1,13 +1,7 @@
 -- A text ends in columns in one way.
-use Rattle.std.proofs.Common.{◌≡◌, ℕ, zero, suc, ◌+◌, ◌<◌, ◌≤◌, List, [], ◌∷◌, ◌++◌, length, get_or, drop, refl, sym, ap, subst, ◌∙◌, append_assoc, arith, codes}
-use Rattle.std.proofs.lemmas.List.{append-nil, append_cancel_left}
-use Rattle.std.proofs.lemmas.Fmt.{decimal_is_IsNumeral}
+use Rattle.proof_words.proofs.{◌≡◌, ℕ, zero, suc, ◌+◌, ◌<◌, ◌≤◌, List, [], ◌∷◌, ◌++◌, length, get_or, drop, refl, sym, ap, subst, ◌∙◌, append_assoc, arith, codes, append-nil, append_cancel_left, decimal_is_IsNumeral, digits_value}
 use Rattle.std.proofs.Math.Seq.{drop-cons}
-use Rattle.std.specs.Str.Parse.{digits_value}
-use Rattle.answer_lines.specs.Words.{IsNumber}
-use Rattle.answer_lines.specs.Columns.{EndsIn, IsFront, column_text}
-use Rattle.answer_lines.specs.declared.told.Column.{Column}
-use Rattle.answer_lines.specs.declared.told.Table.{Table}
+use Rattle.answer_lines.specs.{IsNumber, EndsIn, IsFront, column_text, Column, Table}
 use Rattle.answer_lines.specs.declared.told.Table.TheVariants as tables
 use Rattle.answer_lines.proofs.LineLemmas.{named_unique}
 use Rattle.answer_lines.proofs.TurnLemmas.{OneWay}

@@ -1,14 +1,7 @@
 -- The parts of a line are what they are in one way.
-use Rattle.std.proofs.Common.{◌≡◌, ℕ, ◌^◌, ◌<◌, Bool, true, false, List, [], ◌∷◌, ◌++◌, refl, sym, ap, ◌∙◌, append_assoc, codes, decimal, Option, Some, None, IfNone, IfSome, arith, subst}
-use Rattle.std.specs.Option.{is_none}
-use Rattle.std.proofs.lemmas.Bool.{false≢true}
-use Rattle.std.specs.Str.{IsUtf8}
-use Rattle.std.proofs.lemmas.List.{append_cancel_left, append_cancel_right}
-use Rattle.answer_lines.specs.Words.{lacks, IsNumber}
-use Rattle.answer_lines.specs.Lines.{IsDocLine, LeafParts, ListedParts, NoFinding, NoRow, state_text}
-use Rattle.answer_lines.specs.declared.told.Finding.{Finding}
+use Rattle.proof_words.proofs.{◌≡◌, ℕ, ◌^◌, ◌<◌, Bool, true, false, List, [], ◌∷◌, ◌++◌, refl, sym, ap, ◌∙◌, append_assoc, codes, decimal, Option, Some, None, IfNone, IfSome, arith, subst, is_none, false≢true, IsUtf8, append_cancel_left, append_cancel_right}
+use Rattle.answer_lines.specs.{lacks, IsNumber, IsDocLine, LeafParts, ListedParts, NoFinding, NoRow, state_text, Finding, Table}
 use Rattle.answer_lines.specs.declared.told.Finding.TheVariants as findings
-use Rattle.answer_lines.specs.declared.told.Table.{Table}
 use Rattle.answer_lines.specs.declared.told.Table.TheVariants as tables
 use Rattle.answer_lines.proofs.WordLemmas.{first_unique, last_unique}
 

@@ -1,11 +1,6 @@
 -- A log is read in one way.
-use Rattle.std.proofs.Common.{◌≡◌, ℕ, ◌+◌, ◌<◌, ◌≤◌, Bool, true, List, [], ◌∷◌, ◌++◌, length, get_or, refl, sym, ap, ap₂, subst, ◌∙◌, append_assoc, codes, map, arith}
-use Rattle.std.proofs.lemmas.List.{append-nil, append_cancel_left, length-append, map-append}
-use Rattle.std.specs.Str.{IsUtf8}
-use Rattle.answer_lines.specs.Words.{lacks, InTurn, IsNumber}
-use Rattle.answer_lines.specs.Logs.{AreEntries, AreFurther, IsEntry, IsFurther, IsHead, IsHistory, IsMember, Logged, Values, all_members, logged, member_end, member_text}
-use Rattle.answer_lines.specs.declared.told.Entry.{Entry}
-use Rattle.answer_lines.specs.declared.told.Member.{Member}
+use Rattle.proof_words.proofs.{◌≡◌, ℕ, ◌+◌, ◌<◌, ◌≤◌, Bool, true, List, [], ◌∷◌, ◌++◌, length, get_or, refl, sym, ap, ap₂, subst, ◌∙◌, append_assoc, codes, map, arith, append-nil, append_cancel_left, length-append, map-append, IsUtf8}
+use Rattle.answer_lines.specs.{lacks, InTurn, IsNumber, AreEntries, AreFurther, IsEntry, IsFurther, IsHead, IsHistory, IsMember, Logged, Values, all_members, logged, member_end, member_text, Entry, Member}
 use Rattle.answer_lines.proofs.ColumnLemmas.{number_unique}
 use Rattle.answer_lines.proofs.LineLemmas.{after, first_apart}
 use Rattle.answer_lines.proofs.TurnLemmas.{OneWay, turns_unique}

@@ -1,20 +1,7 @@
 -- Joined lists, and lists whose generations fall by one.
-use Rattle.std.proofs.Common.{◌≡◌, ℕ, suc, zero, ◌+◌, ◌-◌, ◌<◌, ◌==◌, ◌&&◌, Bool, true, false, not, List, [], ◌∷◌, ◌++◌, length, get_or, drop, map, refl, sym, ap, subst, ◌∙◌, append_assoc, arith, Result, Ok, Err}
-use Rattle.std.specs.List.{All, AllByRecursion, list_all, slice_split}
-use Rattle.std.proofs.lemmas.Bool.{and_parts, false≢true}
-use Rattle.std.proofs.lemmas.Bool.Decides.{nat_tests}
-use Rattle.std.proofs.lemmas.List.{append-nil, map-append}
-use Rattle.std.proofs.lemmas.List.Elements.{All-cons, All-nil}
-use Rattle.std.proofs.lemmas.List.Splits.{slice_split_at, slice_split_none}
-use Rattle.std.specs.Prelude.{is_ok}
-use Rattle.std.specs.Ordering.{eq_by_cmp}
-use Rattle.rev_core.specs.Rev.{IsRev, RevId, rev_cmp}
-use Rattle.rev_core.specs.RevOrder.{rev_tie_is, rev_tie_self}
-use Rattle.rev_core.specs.Ancestry.{FallsByOne}
-use Rattle.rev_core.specs.Text.{rev_read, rev_text}
-use Rattle.rev_core.specs.TextLaws.{rev_read-text}
-use Rattle.answer_lines.specs.Words.{IsRevs, lacks}
-use Rattle.answer_lines.specs.Lines.{BeginsWith}
+use Rattle.proof_words.proofs.{◌≡◌, ℕ, suc, zero, ◌+◌, ◌-◌, ◌<◌, ◌==◌, ◌&&◌, Bool, true, false, not, List, [], ◌∷◌, ◌++◌, length, get_or, drop, map, refl, sym, ap, subst, ◌∙◌, append_assoc, arith, Result, Ok, Err, All, AllByRecursion, list_all, slice_split, and_parts, false≢true, nat_tests, append-nil, map-append, All-cons, All-nil, slice_split_at, slice_split_none, is_ok, eq_by_cmp}
+use Rattle.rev_core.specs.{IsRev, RevId, rev_cmp, rev_tie_is, rev_tie_self, FallsByOne, rev_read, rev_text, rev_read-text}
+use Rattle.answer_lines.specs.{IsRevs, lacks, BeginsWith}
 
 pub clash : {T E : Type 0} (r : Result T E) (x : T) (e : E) → r ≡ Ok x → r ≡ Err e → ⊥
 clash r x e p q = false≢true (ap is_ok (sym q ∙ p))

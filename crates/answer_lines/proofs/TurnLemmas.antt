@@ -1,8 +1,7 @@
 -- Things that stand one behind another in a text are read in one way.
-use Rattle.std.proofs.Common.{◌≡◌, ℕ, zero, suc, ◌+◌, ◌<◌, ◌≤◌, List, [], ◌∷◌, ◌++◌, length, get_or, drop, refl, sym, ap, ap₂, subst, ◌∙◌, append_assoc, arith}
-use Rattle.std.proofs.lemmas.List.{append-nil}
+use Rattle.proof_words.proofs.{◌≡◌, ℕ, zero, suc, ◌+◌, ◌<◌, ◌≤◌, List, [], ◌∷◌, ◌++◌, length, get_or, drop, refl, sym, ap, ap₂, subst, ◌∙◌, append_assoc, arith, append-nil}
 use Rattle.std.proofs.Math.Seq.{drop-cons}
-use Rattle.answer_lines.specs.Words.{InTurn}
+use Rattle.answer_lines.specs.{InTurn}
 
 -- a thing has one value, and one text stands behind it
 abbrev pub OneWay : {T V : Type 0} → (T → V → List ℕ → List ℕ → Type 0) → Type 0

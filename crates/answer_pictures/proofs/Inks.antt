@@ -1,9 +1,6 @@
 -- Drawing one thing behind another.
-use Rattle.std.proofs.Common.{◌≡◌, ℕ, List, [], ◌∷◌, ◌++◌, sym, ap, subst, ◌∙◌, append_assoc, Result, Ok, Err, OnOk}
-use Rattle.std.specs.List.{flat_map}
-use Rattle.std.proofs.lemmas.List.{append-nil}
-use Rattle.std.proofs.lemmas.Grind.{flat_map-append}
-use Rattle.answer_pictures.specs.Ink.{Draws, Piece, Sign, ink_of, sign, sign_in, sign_ink}
+use Rattle.proof_words.proofs.{◌≡◌, ℕ, List, [], ◌∷◌, ◌++◌, sym, ap, subst, ◌∙◌, append_assoc, Result, Ok, Err, OnOk, flat_map, append-nil, flat_map-append}
+use Rattle.answer_pictures.specs.{Draws, Piece, Sign, ink_of, sign, sign_in, sign_ink}
 
 -- a piece
 pub drawn : (p : Piece) (old new : List ℕ) → new ≡ old ++ ink_of p → Draws old new (sign_in p)

@@ -1,18 +1,10 @@
 -- Documents and their leaves.
-use Rattle.std.proofs.Common.{◌≡◌, ℕ, ◌==◌, Bool, true, false, List, [], ◌∷◌, ◌++◌, length, map, refl, sym, ap, subst, ◌∙◌, Result, Ok, Err, OnOk, Option, Some, None, get_or, drop, arith, ◌<◌, suc}
-use Rattle.std.specs.Prelude.{IsPermutation, string_bytes}
-use Rattle.std.proofs.lemmas.List.{map-append}
+use Rattle.proof_words.proofs.{◌≡◌, ℕ, ◌==◌, Bool, true, false, List, [], ◌∷◌, ◌++◌, length, map, refl, sym, ap, subst, ◌∙◌, Result, Ok, Err, OnOk, Option, Some, None, get_or, drop, arith, ◌<◌, suc, IsPermutation, string_bytes, map-append, nat_tests}
 use Rattle.std.proofs.Math.Seq.{drop-cons}
-use Rattle.std.proofs.lemmas.Bool.Decides.{nat_tests}
-use Rattle.rev_core.specs.Rev.{RevId}
-use Rattle.answer_lines.specs.declared.told.Told.{Told}
-use Rattle.answer_pictures.specs.declared.document.Document.{Document}
-use Rattle.answer_pictures.specs.declared.document.Leaf.{Leaf}
-use Rattle.answer_pictures.specs.declared.form.Form.{Form}
-use Rattle.answer_pictures.specs.declared.reading.Whole.{Whole}
-use Rattle.answer_pictures.specs.Ink.{Draws, Sign, signs_of}
+use Rattle.rev_core.specs.{RevId}
+use Rattle.answer_lines.specs.{Told, Tells}
+use Rattle.answer_pictures.specs.{Document, Leaf, Form, Whole, Draws, Sign, signs_of}
 use Rattle.answer_pictures.specs.Drawing.{IsDrawn, IsNext, IsPicture, Sketch, State, Takes, conflict, empty, found, log, loose, more, opened, other, row, state_of, states, whole, with_all, with_leaf}
-use Rattle.answer_lines.specs.Lines.{Tells}
 
 state_is : (r s : RevId) (a b c d : Bool) → r ≡ s → a ≡ b → c ≡ d → Path State (r, a, c) (s, b, d)
 state_is r s a b c d p q o = λ i. (p i, q i, o i)

@@ -3,3 +3,8 @@ pub mod ShownTexts
 pub mod RowLemmas
 pub mod RunLemmas
 pub mod Leaves
+pub use Inks.{drawn, drawn_by, drawn_plain, drawn_then, plain_by, sign_by, text_by, then_by, then_text}
+pub use ShownTexts.{escaped_shown, safe_shown, seen_shown, shown_more}
+pub use RowLemmas.{all_more, counts_all, counts_more, rows_more}
+pub use RunLemmas.{seen_as}
+pub use Leaves.{added, draws_new, none_open, picture_by, takes_by}

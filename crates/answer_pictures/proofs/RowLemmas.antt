@@ -1,10 +1,7 @@
 -- Drawing one row behind another.
-use Rattle.std.proofs.Common.{◌≡◌, ℕ, zero, suc, ◌+◌, ◌<◌, ◌≤◌, List, [], ◌∷◌, ◌++◌, length, get_or, take, map, refl, sym, ap, subst, ◌∙◌, arith}
-use Rattle.std.specs.List.{flat_map}
-use Rattle.std.proofs.lemmas.List.{append-nil, map-append, take_more}
-use Rattle.std.proofs.lemmas.Grind.{flat_map-append}
-use Rattle.answer_lines.specs.declared.told.Column.{Column}
-use Rattle.answer_pictures.specs.Ink.{Draws, Sign, count, counts_of}
+use Rattle.proof_words.proofs.{◌≡◌, ℕ, zero, suc, ◌+◌, ◌<◌, ◌≤◌, List, [], ◌∷◌, ◌++◌, length, get_or, take, map, refl, sym, ap, subst, ◌∙◌, arith, flat_map, append-nil, map-append, take_more, flat_map-append}
+use Rattle.answer_lines.specs.{Column}
+use Rattle.answer_pictures.specs.{Draws, Sign, count, counts_of}
 use Rattle.answer_pictures.proofs.Inks.{drawn_then}
 
 pub rows_more : {T : Type 0} (f : T → Sign) (a b c : List ℕ) (leaves : List T) (i : ℕ) (leaf : T) → i < length leaves → leaf ≡ get_or leaves i leaf → Draws a b (map f (take i leaves)) → Draws b c (f leaf ∷ []) → Draws a c (map f (take (i + 1) leaves))

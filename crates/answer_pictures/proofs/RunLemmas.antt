@@ -1,7 +1,6 @@
 -- A run of whoever draws, by the document that is open alone.
-use Rattle.std.proofs.Common.{ℕ, List, [], ◌∷◌, ap, Bool}
-use Rattle.script_engine.specs.Serving.{Answering, MayTell, Told, gave_up, in_full, served_only}
-use Rattle.script_engine.specs.Script.{IsAnswered, Run, Step, blank, served}
+use Rattle.proof_words.proofs.{ℕ, List, [], ◌∷◌, ap, Bool}
+use Rattle.script_engine.specs.{Answering, MayTell, Told, gave_up, in_full, served_only, IsAnswered, Run, Step, blank, served}
 
 module _ {S T : Type 0} (answers : Answering S (List ℕ)) (others : Answering T (List ℕ)) (view : S → T) (seen : (old : S) (line : List ℕ) (told : Told) (new : S) → answers old line told new → others (view old) line told (view new)) where
   telling : (old new : S) (line : List ℕ) (told : Told) → MayTell answers old line told new → MayTell others (view old) line told (view new)

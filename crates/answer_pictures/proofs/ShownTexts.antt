@@ -1,17 +1,7 @@
 -- A text that is shown has no hidden character, and in XML none that is markup.
-use Rattle.std.proofs.Common.{◌≡◌, ℕ, ◌/◌, ◌%◌, ◌<◌, ◌≤◌, ◌==◌, ◌&&◌, ◌||◌, nat_le, Bool, true, false, if◌then◌else◌, List, [], ◌∷◌, ◌++◌, refl, sym, ap, ◌∙◌, append_assoc, arith}
-use Rattle.std.specs.Prelude.{encode_utf8_all, codes}
-use Rattle.std.specs.List.{list_any}
-use Rattle.std.specs.Char.{digit_char}
-use Rattle.std.proofs.lemmas.Bool.{lt-leb}
-use Rattle.std.proofs.lemmas.Bool.Decides.{nat_tests}
-use Rattle.std.proofs.lemmas.List.{append-nil}
-use Rattle.std.proofs.lemmas.List.Folds.{list_any-append}
-use Rattle.std.proofs.lemmas.Grind.{flat_map-append}
-use Rattle.std.proofs.lemmas.Str.{encodes-append}
-use Rattle.answer_pictures.specs.declared.form.Form.{Form}
+use Rattle.proof_words.proofs.{◌≡◌, ℕ, ◌/◌, ◌%◌, ◌<◌, ◌≤◌, ◌==◌, ◌&&◌, ◌||◌, nat_le, Bool, true, false, if◌then◌else◌, List, [], ◌∷◌, ◌++◌, refl, sym, ap, ◌∙◌, append_assoc, arith, encode_utf8_all, codes, list_any, digit_char, lt-leb, nat_tests, append-nil, list_any-append, flat_map-append, encodes-append}
+use Rattle.answer_pictures.specs.{Form, IsEscaped, IsSafe, IsSeen, done, entity_of, escape_of, is_hidden, is_markup, named, plain, shown, shown_char}
 use Rattle.answer_pictures.specs.declared.form.Form.TheVariants.{Text, Svg}
-use Rattle.answer_pictures.specs.Shown.{IsEscaped, IsSafe, IsSeen, done, entity_of, escape_of, is_hidden, is_markup, named, plain, shown, shown_char}
 
 by_if : {X : Type 0} (P : X → Type 0) (b : Bool) (x y : X) → (b ≡ true → P x) → (b ≡ false → P y) → P (if b then x else y)
 by_if P true x y f g = f refl

@@ -1,16 +1,11 @@
 -- Answers of CouchDB's forms are read as the documents that they hold.
-use Rattle.std.proofs.Common.{◌≡◌, ℕ, ◌+◌, ◌<◌, ◌==◌, ◌&&◌, nat_lt, List, [], ◌∷◌, ◌++◌, Bool, true, false, cond, refl, sym, ap, subst, ◌∙◌, append-nil, arith, inr}
-use Rattle.document_texts.specs.Texts.{Spaces}
-use Rattle.couch_answers.specs.Wanted.{wants_documents, is_strict}
-use Rattle.couch_answers.specs.State.{State, start}
-use Rattle.couch_answers.specs.Names.{is_plain}
-use Rattle.couch_answers.specs.Reading.{after, pieces, Piece}
-use Rattle.couch_answers.specs.Grammar.{IsValue, IsNamed, Holds, document, no_object, of_passed, of_last, of_other, IsObject, no_members, with_members, itself, IsMembers, last_value, value, last_list, IsList, no_items, with_items, IsItems, last_item, item, AreAnswers, no_more, of_object, of_list, IsAnswered, object_first, list_first}
+use Rattle.proof_words.proofs.{◌≡◌, ℕ, ◌+◌, ◌<◌, ◌==◌, ◌&&◌, nat_lt, List, [], ◌∷◌, ◌++◌, Bool, true, false, cond, refl, sym, ap, subst, ◌∙◌, append-nil, arith, inr}
+use Rattle.document_texts.specs.{Spaces}
+use Rattle.couch_answers.specs.{wants_documents, is_strict, start, is_plain, after, pieces, Piece, IsValue, IsNamed, Holds, document, no_object, of_passed, of_last, of_other, IsObject, no_members, with_members, itself, IsMembers, last_value, value, last_list, IsList, no_items, with_items, IsItems, last_item, item, AreAnswers, no_more, of_object, of_list, IsAnswered, object_first, list_first, Place, Name}
+use Rattle.couch_answers.specs.State.{State}
 use Rattle.couch_answers.specs.Grammar as grammar
-use Rattle.couch_answers.specs.declared.place.Place.{Place}
 use Rattle.couch_answers.specs.declared.place.Place.TheVariants.{Start, Begin, Between, AfterItem, AfterMember, List as ListPlace, Value}
 use Rattle.couch_answers.specs.declared.place.Wanted.{Wanted}
-use Rattle.couch_answers.specs.declared.place.Name.{Name}
 use Rattle.couch_answers.specs.declared.place.Name.TheVariants as names
 use Rattle.couch_answers.proofs.Bytes.{At, Within, Leads1, Steps, BeginsKey, BeforeObject, o_start, o_between, o_item, o_next, BeforeList, l_start, l_between, l_list, s_start, s_between, s_item, s_next_item, s_after_item, s_member, s_next_member, s_after_member, s_colon, s_list, no_leaves, no_changes, closed_at, opens_object, opens_list, closes_empty, closes_object, closes_no_items, closes_list, item_comma, member_comma, list_colon, first_key, next_key, value_colon, ends_comma, ends_brace}
 use Rattle.couch_answers.proofs.Texts.{Leads, none_read, then, then_held, joined, pieces_to, spaces, lead_spaces, key, value_text}

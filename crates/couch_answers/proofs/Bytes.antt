@@ -1,20 +1,11 @@
 -- Single bytes of answers, from a place on, where documents are wanted.
-use Rattle.std.proofs.Common.{◌≡◌, ℕ, ◌+◌, ◌-◌, ◌==◌, ◌&&◌, nat_lt, length, List, [], ◌∷◌, ◌++◌, Bool, true, false, cond, refl, sym, subst, arith, Some}
-use Rattle.std.proofs.lemmas.Bool.{and_right}
-use Rattle.document_texts.specs.Texts.{is_space, is_json, IsPlain}
-use Rattle.document_texts.specs.Names.{is_log}
-use Rattle.couch_answers.specs.Wanted.{wants_documents, wants_leaves, wants_changes, is_strict, covered}
-use Rattle.couch_answers.specs.State.{State, at}
-use Rattle.couch_answers.specs.Names.{name_of, is_plain}
-use Rattle.couch_answers.specs.Objects.{key_ended}
-use Rattle.couch_answers.specs.Steps.{step}
-use Rattle.couch_answers.specs.Reading.{given, Piece}
-use Rattle.couch_answers.specs.Grammar.{Holds, document, no_object, of_passed, of_last, of_other}
-use Rattle.couch_answers.specs.declared.place.Place.{Place}
+use Rattle.proof_words.proofs.{◌≡◌, ℕ, ◌+◌, ◌-◌, ◌==◌, ◌&&◌, nat_lt, length, List, [], ◌∷◌, ◌++◌, Bool, true, false, cond, refl, sym, subst, arith, Some, and_right}
+use Rattle.document_texts.specs.{is_space, is_json, IsPlain, is_log}
+use Rattle.couch_answers.specs.{wants_documents, wants_leaves, wants_changes, is_strict, covered, at, name_of, is_plain, key_ended, step, given, Piece, Holds, document, no_object, of_passed, of_last, of_other, Place, Name}
+use Rattle.couch_answers.specs.State.{State}
 use Rattle.couch_answers.specs.declared.place.Place.TheVariants.{Start, Begin, Between, Item, NextItem, AfterItem, Member, NextMember, AfterMember, Key, KeyEscape, Colon, List as ListPlace, Value, Quoted, Escaped}
 use Rattle.couch_answers.specs.declared.place.Wanted.{Wanted}
 use Rattle.couch_answers.specs.declared.place.Wanted.TheVariants.{Documents, Enveloped, Bodies, Unfolded, Leaves, Changes}
-use Rattle.couch_answers.specs.declared.place.Name.{Name}
 use Rattle.couch_answers.specs.declared.place.Name.TheVariants as names
 use Rattle.couch_answers.specs.declared.place.Found.TheVariants as found
 

@@ -1,18 +1,10 @@
 -- A script's answers are read as the changes among them.
-use Rattle.std.proofs.Common.{◌≡◌, ℕ, ◌||◌, ◌==◌, List, [], ◌∷◌, ◌++◌, Bool, true, false, inl, inr, refl, sym, ap, subst, ◌∙◌, append_assoc, append-nil}
-use Rattle.std.specs.Prelude.{codes}
-use Rattle.std.specs.List.{list_all}
-use Rattle.std.specs.Str.{bytes_eq}
-use Rattle.std.proofs.lemmas.Bool.{and_parts, not-true}
-use Rattle.document_texts.specs.Texts.{is_space, is_json, EndsString, ends, plain, escaped}
-use Rattle.couch_answers.specs.State.{State, start}
-use Rattle.couch_answers.specs.Lines.{is_lower, is_digit, is_rev_byte}
-use Rattle.couch_answers.specs.Steps.{step}
-use Rattle.couch_answers.specs.Reading.{after, given, pieces, Piece}
+use Rattle.proof_words.proofs.{◌≡◌, ℕ, ◌||◌, ◌==◌, List, [], ◌∷◌, ◌++◌, Bool, true, false, inl, inr, refl, sym, ap, subst, ◌∙◌, append_assoc, append-nil, codes, list_all, bytes_eq, and_parts, not-true}
+use Rattle.document_texts.specs.{is_space, is_json, EndsString, ends, plain, escaped}
+use Rattle.couch_answers.specs.State.{State}
+use Rattle.couch_answers.specs.{start, is_lower, is_digit, is_rev_byte, step, after, given, pieces, Piece, AreRevs, last_rev, rev, is_word_byte, AreChanges, none, empty, change, object, word, words, LinePlace}
 use Rattle.couch_answers.specs.LineGrammar.{InOneLine}
-use Rattle.couch_answers.specs.ChangeGrammar.{AreRevs, last_rev, rev, is_word_byte, AreChanges, none, empty, change, object, word, words}
 use Rattle.couch_answers.specs.declared.place.Place.TheVariants.{Between, Line}
-use Rattle.couch_answers.specs.declared.place.LinePlace.{LinePlace}
 use Rattle.couch_answers.specs.declared.place.LinePlace.TheVariants as at
 use Rattle.couch_answers.specs.declared.place.Wanted.{Wanted}
 use Rattle.couch_answers.specs.declared.place.Wanted.TheVariants.{Changes}

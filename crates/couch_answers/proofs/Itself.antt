@@ -1,17 +1,10 @@
 -- An object whose first member is `_id` is read as a document.
-use Rattle.std.proofs.Common.{◌≡◌, ℕ, ◌+◌, ◌==◌, ◌&&◌, nat_lt, List, [], ◌∷◌, ◌++◌, Bool, true, false, codes, refl, sym, ap, ◌∙◌, append_assoc, inl}
-use Rattle.std.proofs.lemmas.Bool.{and_right}
-use Rattle.std.proofs.lemmas.Str.{is_utf8-from_IsUtf8}
+use Rattle.proof_words.proofs.{◌≡◌, ℕ, ◌+◌, ◌==◌, ◌&&◌, nat_lt, List, [], ◌∷◌, ◌++◌, Bool, true, false, codes, refl, sym, ap, ◌∙◌, append_assoc, inl, and_right, is_utf8-from_IsUtf8}
 use Rattle.json.proofs.Printed.Utf8.{IsUtf8-are_ascii}
 use Rattle.json.proofs.OnLiterals.{json_on_literals}
-use Rattle.document_texts.specs.Texts.{is_json}
-use Rattle.document_texts.specs.Names.{is_log}
-use Rattle.couch_answers.specs.Wanted.{wants_documents, wants_leaves, covered}
+use Rattle.document_texts.specs.{is_json, is_log}
+use Rattle.couch_answers.specs.{wants_documents, wants_leaves, covered, name_of, Piece, IsPlainDocument, IsDocument, document, log, Place}
 use Rattle.couch_answers.specs.State.{State}
-use Rattle.couch_answers.specs.Names.{name_of}
-use Rattle.couch_answers.specs.Reading.{Piece}
-use Rattle.couch_answers.specs.Grammar.{IsPlainDocument, IsDocument, document, log}
-use Rattle.couch_answers.specs.declared.place.Place.{Place}
 use Rattle.couch_answers.specs.declared.place.Place.TheVariants.{AfterItem, Value}
 use Rattle.couch_answers.specs.declared.place.Wanted.{Wanted}
 use Rattle.couch_answers.specs.declared.place.Wanted.TheVariants.{Documents, Enveloped, Bodies, Unfolded, Leaves, Changes}

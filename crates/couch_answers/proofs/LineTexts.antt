@@ -1,18 +1,10 @@
 -- A script's answers are read as the documents among them.
-use Rattle.std.proofs.Common.{◌≡◌, ℕ, ◌&&◌, ◌||◌, ◌==◌, length, List, [], ◌∷◌, ◌++◌, Bool, true, false, not, cond, refl, sym, ap, subst, ◌∙◌, arith, ◌⊎◌, inl, inr, Ok}
-use Rattle.std.specs.List.{list_all}
-use Rattle.std.proofs.lemmas.Bool.{false≢true}
-use Rattle.document_texts.specs.Texts.{is_space}
-use Rattle.couch_answers.specs.Wanted.{wants_documents, is_strict}
-use Rattle.couch_answers.specs.State.{State, start}
-use Rattle.couch_answers.specs.Signs.{begins_sign}
-use Rattle.couch_answers.specs.Lines.{is_lower}
-use Rattle.couch_answers.specs.Steps.{step}
-use Rattle.couch_answers.specs.Reading.{after, given, pieces, Piece, has_rest, end_of}
+use Rattle.proof_words.proofs.{◌≡◌, ℕ, ◌&&◌, ◌||◌, ◌==◌, length, List, [], ◌∷◌, ◌++◌, Bool, true, false, not, cond, refl, sym, ap, subst, ◌∙◌, arith, ◌⊎◌, inl, inr, Ok, list_all, false≢true}
+use Rattle.document_texts.specs.{is_space}
+use Rattle.couch_answers.specs.{wants_documents, is_strict, start, begins_sign, is_lower, step, after, given, pieces, Piece, has_rest, end_of, Place, LinePlace}
+use Rattle.couch_answers.specs.State.{State}
 use Rattle.couch_answers.specs.LineGrammar.{InOneLine, AreLines, no_lines, blank, document, answer}
-use Rattle.couch_answers.specs.declared.place.Place.{Place}
 use Rattle.couch_answers.specs.declared.place.Place.TheVariants.{Start, Begin, Sign, Between, Item, NextItem, AfterItem, Member, NextMember, AfterMember, Key, KeyEscape, Colon, Ahead, List as ListPlace, Value, Quoted, Escaped, Revs, Line, Refused}
-use Rattle.couch_answers.specs.declared.place.LinePlace.{LinePlace}
 use Rattle.couch_answers.specs.declared.place.LinePlace.TheVariants.{Word, Rest}
 use Rattle.couch_answers.specs.declared.place.RevPlace.TheVariants as revs
 use Rattle.couch_answers.specs.declared.place.Wanted.{Wanted}

@@ -1,10 +1,7 @@
 -- Bytes read one after another.
-use Rattle.std.proofs.Common.{◌≡◌, ℕ, ◌+◌, ◌<◌, List, [], ◌∷◌, ◌++◌, take, get_or, length, Bool, false, ◌||◌, refl, sym, ap, ◌∙◌, append_assoc, append-nil}
-use Rattle.std.proofs.lemmas.List.{take_more}
+use Rattle.proof_words.proofs.{◌≡◌, ℕ, ◌+◌, ◌<◌, List, [], ◌∷◌, ◌++◌, take, get_or, length, Bool, false, ◌||◌, refl, sym, ap, ◌∙◌, append_assoc, append-nil, take_more}
 use Rattle.couch_answers.specs.State.{State}
-use Rattle.couch_answers.specs.Steps.{step, is_refused}
-use Rattle.couch_answers.specs.Reading.{after, given, pieces, piece_of, is_piece, stops}
-use Rattle.couch_answers.specs.declared.place.Found.{Found}
+use Rattle.couch_answers.specs.{step, is_refused, after, given, pieces, piece_of, is_piece, stops, Found}
 use Rattle.couch_answers.specs.declared.place.Found.TheVariants.{Nothing, Document, Id, Rev}
 
 pub after-append : (s : State) (xs ys : List ℕ) → after s (xs ++ ys) ≡ after (after s xs) ys

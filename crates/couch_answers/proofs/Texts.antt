@@ -1,18 +1,10 @@
 -- Texts from a place on: names, values and white space.
-use Rattle.std.proofs.Common.{◌≡◌, ℕ, suc, ◌+◌, ◌<◌, ◌==◌, ◌&&◌, nat_lt, length, slice_index, List, [], ◌∷◌, ◌++◌, Bool, true, false, refl, sym, ap, subst, ◌∙◌, append_assoc, append-nil, arith, ◌⊎◌, inl, inr}
-use Rattle.std.specs.List.{list_all}
-use Rattle.std.proofs.lemmas.Bool.{and_parts}
-use Rattle.document_texts.specs.Texts.{Spaces, EndsString, ends, plain, escaped, Closed, nothing, space, other, string, object, list, is_space, is_json}
-use Rattle.couch_answers.specs.Wanted.{wants_documents}
+use Rattle.proof_words.proofs.{◌≡◌, ℕ, suc, ◌+◌, ◌<◌, ◌==◌, ◌&&◌, nat_lt, length, slice_index, List, [], ◌∷◌, ◌++◌, Bool, true, false, refl, sym, ap, subst, ◌∙◌, append_assoc, append-nil, arith, ◌⊎◌, inl, inr, list_all, and_parts}
+use Rattle.document_texts.specs.{Spaces, EndsString, ends, plain, escaped, Closed, nothing, space, other, string, object, list, is_space, is_json}
+use Rattle.couch_answers.specs.{wants_documents, name_of, is_plain, step, after, given, pieces, Piece, IsNamed, Place, Name}
 use Rattle.couch_answers.specs.State.{State}
-use Rattle.couch_answers.specs.Names.{name_of, is_plain}
-use Rattle.couch_answers.specs.Steps.{step}
-use Rattle.couch_answers.specs.Reading.{after, given, pieces, Piece}
-use Rattle.couch_answers.specs.Grammar.{IsNamed}
-use Rattle.couch_answers.specs.declared.place.Place.{Place}
 use Rattle.couch_answers.specs.declared.place.Place.TheVariants.{Key, Colon, Value, Quoted}
 use Rattle.couch_answers.specs.declared.place.Wanted.{Wanted}
-use Rattle.couch_answers.specs.declared.place.Name.{Name}
 use Rattle.couch_answers.proofs.Readings.{after-append, pieces-append}
 use Rattle.couch_answers.proofs.Bytes.{At, InKey, Within, MaySpace, BeginsKey, spaced, key_plain, key_escape, key_escaped, key_end, value_lead, value_space, value_plain, value_quote, object_opens, list_opens, object_closes, list_closes, quoted_plain, quoted_escape, quoted_escaped, quoted_end}
 

@@ -1,15 +1,9 @@
 -- Where the winner is deleted all leaves are.
-use Rattle.couch_base.specs.FeedLaws.{both_hold}
-use Rattle.std.proofs.Common.{◌≡◌, true, false, T, ◌&&◌, List, [], ◌∷◌, map, filter, Some, ap, subst, ◌∙◌, refl}
-use Rattle.std.specs.List.{list_all}
-use Rattle.std.specs.Ordering.{is_lt, bool_cmp, ordering_then}
+use Rattle.couch_base.specs.{both_hold}
+use Rattle.proof_words.proofs.{◌≡◌, true, false, T, ◌&&◌, List, [], ◌∷◌, map, filter, Some, ap, subst, ◌∙◌, refl, list_all, is_lt, bool_cmp, ordering_then, from_entries, entries, entries_sorted, is_sorted, below_all, same_Some, none-some}
 use Rattle.std.specs.FinMap as finmap
-use Rattle.std.specs.FinMap.{from_entries, entries, entries_sorted}
-use Rattle.std.specs.FinMap.Entries.{is_sorted, below_all}
-use Rattle.std.proofs.lemmas.Option.{same_Some, none-some}
-use Rattle.rev_core.specs.Rev.{RevId, rev_cmp}
-use Rattle.rev_tree.specs.InOrder.{marked, first_of}
-use Rattle.rev_tree.specs.Tree.{TreeValue, is_deleted, is_leaf, leaf_cmp, leaves}
+use Rattle.rev_core.specs.{RevId, rev_cmp}
+use Rattle.rev_tree.specs.{marked, first_of, TreeValue, is_deleted, is_leaf, leaf_cmp, leaves}
 
 -- what stands behind a deleted leaf is deleted
 behind : (t : TreeValue) (w r : RevId) → is_deleted t w ≡ true → T (is_lt (leaf_cmp t w r)) → is_deleted t r ≡ true

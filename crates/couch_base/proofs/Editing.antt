@@ -1,23 +1,10 @@
 -- What an edit leaves.
-use Rattle.std.proofs.Common.{◌≡◌, ℕ, ◌+◌, ◌<◌, Bool, false, ◌&&◌, List, ◌∷◌, Option, Some, None, is_some, Ok, Err, sym, ap, ◌∙◌, refl}
-use Rattle.std.specs.Prelude.{Result, unwrap_or}
-use Rattle.std.specs.List.{list_all}
-use Rattle.std.specs.Option.{option_or, option_to_list}
-use Rattle.std.specs.FinMap.{get, get-empty}
-use Rattle.std.proofs.lemmas.Bool.{false≢true}
-use Rattle.std.proofs.lemmas.Option.{same_Some}
-use Rattle.rev_core.specs.Rev.{RevId, rev_cmp}
-use Rattle.rev_core.specs.Ancestry.{edges_of, head_of}
-use Rattle.rev_tree.specs.Tree.{TreeValue, IsTree, has, has_edge, no_revisions, first_contradiction, contradiction_at, is_same, at_head, merged, merge_answer}
+use Rattle.proof_words.proofs.{◌≡◌, ℕ, ◌+◌, ◌<◌, Bool, false, ◌&&◌, List, ◌∷◌, Option, Some, None, is_some, Ok, Err, sym, ap, ◌∙◌, refl, Result, unwrap_or, list_all, option_or, option_to_list, get, get-empty, false≢true, same_Some}
+use Rattle.rev_core.specs.{RevId, rev_cmp, edges_of, head_of, ◌>>=◌, refused_if}
+use Rattle.rev_tree.specs.{TreeValue, IsTree, has, has_edge, no_revisions, first_contradiction, contradiction_at, is_same, at_head, merged, merge_answer, Origin}
 use Rattle.rev_tree.specs.declared.fault.Merged.TheVariants.{Changed}
-use Rattle.rev_tree.specs.declared.origin.Origin.{Origin}
-use Rattle.rev_core.specs.Checks.{◌>>=◌, refused_if}
-use Rattle.couch_base.specs.Database.{Id, DatabaseValue, LawfulDatabase, tree_in, tree_of, with_tree, most}
-use Rattle.couch_base.specs.DatabaseLaws.{IsDocumentTree-tree_in}
-use Rattle.couch_base.specs.Put.{content_of, put_answer}
+use Rattle.couch_base.specs.{Id, DatabaseValue, LawfulDatabase, tree_in, tree_of, with_tree, most, IsDocumentTree-tree_in, content_of, put_answer, parent_answer, edit_id, edit_revs, edited, edit_document, after_edited, after_edit, BaseFault}
 use Rattle.couch_base.specs.declared.fault.Put.TheVariants as answers
-use Rattle.couch_base.specs.Edit.{parent_answer, edit_id, edit_revs, edited, edit_document, after_edited, after_edit}
-use Rattle.couch_base.specs.declared.fault.BaseFault.{BaseFault}
 use Rattle.couch_base.specs.declared.fault.BaseFault.TheVariants as faults
 use Rattle.couch_base.proofs.Putting.{from_tests, answer-changed, after_put-changed}
 

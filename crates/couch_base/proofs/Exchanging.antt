@@ -1,20 +1,9 @@
 -- Asking and fetching, one document after another.
-use Rattle.std.proofs.Common.{◌≡◌, ℕ, ◌+◌, ◌<◌, ◌≤◌, true, List, [], ◌∷◌, ◌++◌, map, filter, None, drop, length, get_or, sym, ap, ◌∙◌, refl, append_assoc, length-append, arith}
-use Rattle.std.proofs.lemmas.Bool.{and_parts}
-use Rattle.std.proofs.lemmas.List.{append-nil, drop_more, drop_all}
-use Rattle.std.specs.List.{list_any, list_all}
-use Rattle.std.specs.Option.{option_map}
-use Rattle.std.specs.FinMap.{get-empty}
-use Rattle.rev_core.specs.Rev.{RevId, rev_cmp}
-use Rattle.rev_core.specs.Ancestry.{is_among}
-use Rattle.rev_tree.specs.Content.{ContentValue}
-use Rattle.rev_tree.specs.Tree.{TreeValue, is_leaf, leaves, leaves_above, ancestors, missing, no_revisions}
-use Rattle.rev_tree.specs.LeafLaws.{any_filter, is_among-leaves}
+use Rattle.proof_words.proofs.{◌≡◌, ℕ, ◌+◌, ◌<◌, ◌≤◌, true, List, [], ◌∷◌, ◌++◌, map, filter, None, drop, length, get_or, sym, ap, ◌∙◌, refl, append_assoc, length-append, arith, and_parts, append-nil, drop_more, drop_all, list_any, list_all, option_map, get-empty}
+use Rattle.rev_core.specs.{RevId, rev_cmp, is_among}
+use Rattle.rev_tree.specs.{ContentValue, TreeValue, is_leaf, leaves, leaves_above, ancestors, missing, no_revisions, any_filter, is_among-leaves}
 use Rattle.doc_json.specs.Document.{Document}
-use Rattle.couch_base.specs.ListLaws.{all_members}
-use Rattle.couch_base.specs.Database.{Id, DocumentValue, tree_of}
-use Rattle.couch_base.specs.Messages.{WantedValue, document_in, leaf_document, opened, fetched, gone_of}
-use Rattle.couch_base.specs.DocumentTreeLaws.{leaves-no_revisions}
+use Rattle.couch_base.specs.{all_members, Id, DocumentValue, tree_of, WantedValue, document_in, leaf_document, opened, fetched, gone_of, leaves-no_revisions}
 
 -- ---- a document that isn't there
 

@@ -1,19 +1,7 @@
 -- What a look-up by id finds.
-use Rattle.std.proofs.Common.{◌≡◌, ℕ, List, [], ◌∷◌, Option, Some, None, Bool, true, false, cond, sym, ap, ◌∙◌, refl, arith}
-use Rattle.std.proofs.Common.{inl, inr}
-use Rattle.std.proofs.lemmas.Bool.{cond_both, both_ways, eqb-true}
-use Rattle.std.specs.Ordering.{nat_cmp}
-use Rattle.std.specs.BTreeMap.{is_at}
-use Rattle.std.specs.Prelude.{unwrap_or}
-use Rattle.std.specs.Cmp.{unsigned_ties}
-use Rattle.std.specs.Str.{bytes_eq}
-use Rattle.std.proofs.lemmas.Option.{same_Some, none-some}
-use Rattle.rev_tree.specs.Tree.{no_revisions}
-use Rattle.couch_base.specs.ListLaws.{id_is, id_same}
-use Rattle.couch_base.specs.Lists.{Among}
-use Rattle.couch_base.specs.Database.{Id, tree_in, tree_of}
-use Rattle.couch_base.specs.Stored.{TableValue, at_seq, documents, documents_of, feed_of, found, seq_of, tree_at, IsKept}
-use Rattle.couch_base.specs.declared.kept.Kept.{Kept}
+use Rattle.proof_words.proofs.{◌≡◌, ℕ, List, [], ◌∷◌, Option, Some, None, Bool, true, false, cond, sym, ap, ◌∙◌, refl, arith, inl, inr, cond_both, both_ways, eqb-true, nat_cmp, is_at, unwrap_or, unsigned_ties, bytes_eq, same_Some, none-some}
+use Rattle.rev_tree.specs.{no_revisions}
+use Rattle.couch_base.specs.{id_is, id_same, Among, Id, tree_in, tree_of, TableValue, at_seq, documents, documents_of, feed_of, found, seq_of, tree_at, IsKept, Kept}
 
 -- sequences that a test finds equal
 pub seq_is : (a b : ℕ) → is_at (nat_cmp a) b ≡ true → a ≡ b

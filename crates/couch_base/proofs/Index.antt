@@ -1,13 +1,6 @@
 -- Look-ups in the index, and its end.
-use Rattle.std.proofs.Common.{◌≡◌, ℕ, ◌<◌, List, [], ◌∷◌, ◌++◌, Option, Some, None, Bool, true, false, cond, sym, ap, ◌∙◌, refl, arith, inl, inr}
-use Rattle.std.proofs.lemmas.Bool.{cond_both, cases_Bool, false_from_ne_true}
-use Rattle.std.specs.Ordering.{nat_cmp}
-use Rattle.std.specs.BTreeMap.{is_at}
-use Rattle.std.specs.Str.{bytes_eq}
-use Rattle.std.proofs.lemmas.Option.{none-some}
-use Rattle.couch_base.specs.Database.{Id}
-use Rattle.couch_base.specs.Stored.{at_seq, feed_without, AllBelow}
-use Rattle.couch_base.specs.ListLaws.{id_is}
+use Rattle.proof_words.proofs.{◌≡◌, ℕ, ◌<◌, List, [], ◌∷◌, ◌++◌, Option, Some, None, Bool, true, false, cond, sym, ap, ◌∙◌, refl, arith, inl, inr, cond_both, cases_Bool, false_from_ne_true, nat_cmp, is_at, bytes_eq, none-some}
+use Rattle.couch_base.specs.{Id, at_seq, feed_without, AllBelow, id_is}
 use Rattle.couch_base.proofs.Found.{seq_is, seq_same, not_first}
 
 keep_tail : (b : Bool) (a q : Id) (o p : Option Id) → (o ≡ Some q → p ≡ Some q) → cond b (Some a) o ≡ Some q → cond b (Some a) p ≡ Some q

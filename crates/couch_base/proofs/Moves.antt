@@ -1,16 +1,7 @@
 -- What a write does to the documents.
-use Rattle.std.proofs.Common.{◌≡◌, ℕ, ◌<◌, ◌≤◌, List, [], ◌∷◌, ◌++◌, Option, Some, None, true, cond, subst, sym, ap, ◌∙◌, refl, inl, inr}
-use Rattle.std.specs.Prelude.{not}
-use Rattle.std.proofs.lemmas.Bool.{both_ways, cases_Bool, false≢true, false_from_ne_true}
-use Rattle.std.specs.Str.{bytes_eq}
-use Rattle.std.proofs.lemmas.Option.{same_Some, none-some}
-use Rattle.couch_base.specs.Lists.{Among}
-use Rattle.couch_base.specs.Database.{Id, DocumentValue, IsDocumentTree, without, most}
-use Rattle.couch_base.specs.Stored.{at_seq, feed_without, seq_of, tree_at, document, documents, IsTable, Sets}
-use Rattle.couch_base.specs.declared.kept.Kept.{Kept}
-use Rattle.couch_base.specs.ListLaws.{id_is, id_same}
+use Rattle.proof_words.proofs.{◌≡◌, ℕ, ◌<◌, ◌≤◌, List, [], ◌∷◌, ◌++◌, Option, Some, None, true, cond, subst, sym, ap, ◌∙◌, refl, inl, inr, not, both_ways, cases_Bool, false≢true, false_from_ne_true, bytes_eq, same_Some, none-some}
+use Rattle.couch_base.specs.{Among, Id, DocumentValue, IsDocumentTree, without, most, at_seq, feed_without, seq_of, tree_at, document, documents, IsTable, Sets, Kept, id_is, id_same, Among-push}
 use Rattle.couch_base.proofs.Rising.{Rising, all_below, rising_append, rising_filter, among_filter}
-use Rattle.couch_base.specs.MemberLaws.{Among-push}
 use Rattle.couch_base.proofs.Index.{at_append, at_new, at_without}
 
 -- ---- documents

@@ -1,25 +1,9 @@
 -- The index with ids in the place of places.
-use Rattle.std.proofs.Common.{◌≡◌, ℕ, zero, suc, ◌<◌, ◌≤◌, List, [], ◌∷◌, ◌++◌, Bool, true, false, Some, None, length, cond, sym, ap, subst, ◌∙◌, refl, arith, inl, inr}
-use Rattle.std.specs.Prelude.{◌==◌, nat_lt, not, slice_get, unwrap_or, position, get_or}
-use Rattle.std.specs.List.{IsDistinct}
-use Rattle.std.specs.Option.{option_map}
-use Rattle.std.specs.Map.{keys_of}
-use Rattle.std.specs.Str.{bytes_eq}
-use Rattle.std.proofs.lemmas.Bool.{cond_both, cases_Bool, both_ways, false_from_ne_true}
-use Rattle.std.proofs.lemmas.List.{get_or_append_left}
-use Rattle.std.proofs.lemmas.List.Elements.{filter-append}
-use Rattle.std.proofs.lemmas.List.Quantifiers.{position-Some}
-use Rattle.std.proofs.lemmas.Cmp.{nat_list_eq_equiv}
-use Rattle.std.proofs.lemmas.Map.Entries.{length-keys_of, lookup_from_place}
-use Rattle.std.proofs.lemmas.Map.Keys.{apart_from_distinct}
-use Rattle.std.proofs.lemmas.Option.{slice_get-map, slice_get_within, unwrap_or-slice_get, get_or_from_slice_get, same_Some, none-some}
-use Rattle.rev_tree.proofs.Places.{slice_get-last}
+use Rattle.proof_words.proofs.{◌≡◌, ℕ, zero, suc, ◌<◌, ◌≤◌, List, [], ◌∷◌, ◌++◌, Bool, true, false, Some, None, length, cond, sym, ap, subst, ◌∙◌, refl, arith, inl, inr, ◌==◌, nat_lt, not, slice_get, unwrap_or, position, get_or, IsDistinct, option_map, keys_of, bytes_eq, cond_both, cases_Bool, both_ways, false_from_ne_true, get_or_append_left, filter-append, position-Some, nat_list_eq_equiv, length-keys_of, lookup_from_place, apart_from_distinct, slice_get-map, slice_get_within, unwrap_or-slice_get, get_or_from_slice_get, same_Some, none-some}
+use Rattle.rev_tree.proofs.{slice_get-last}
 use Rattle.indexmap.specs.IndexMap.{insert_entry, set_value_at}
 use Rattle.indexmap.proofs.MapLemmas.{absent_from_lookup, insert_entry-absent}
-use Rattle.couch_base.specs.ListLaws.{id_is, id_same}
-use Rattle.couch_base.specs.Database.{Id, tree_of}
-use Rattle.couch_base.specs.Stored.{TableValue, documents_of, found, id_at, is_live, live, swept, named, feed_of, feed_without, tree_at, ArePlaces, AreRows, AllBelow, IsKept, IsPlace}
-use Rattle.couch_base.specs.declared.kept.Kept.{Kept}
+use Rattle.couch_base.specs.{id_is, id_same, Id, tree_of, TableValue, documents_of, found, id_at, is_live, live, swept, named, feed_of, feed_without, tree_at, ArePlaces, AreRows, AllBelow, IsKept, IsPlace, Kept}
 use Rattle.couch_base.proofs.Found.{tree_of-documents_of}
 use Rattle.couch_base.proofs.Rows.{live_at, dead_at, live_same, live_more, get_set, get_set_apart, feed_swept, places_filter}
 

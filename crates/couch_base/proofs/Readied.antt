@@ -1,19 +1,13 @@
 -- Putting a document whose tree is made, where it is new.
-use Rattle.std.proofs.Common.{◌≡◌, ℕ, ◌+◌, ◌<◌, None, Ok, Err, sym, ap, ◌∙◌}
-use Rattle.std.specs.Prelude.{nat_lt, false}
-use Rattle.rev_tree.specs.Tree.{merged, merge_answer, no_revisions}
+use Rattle.proof_words.proofs.{◌≡◌, ℕ, ◌+◌, ◌<◌, None, Ok, Err, sym, ap, ◌∙◌, nat_lt, false}
+use Rattle.rev_tree.specs.{merged, merge_answer, no_revisions, Origin}
 use Rattle.rev_tree.specs.declared.fault.Merged.TheVariants.{Changed}
-use Rattle.rev_tree.specs.declared.origin.Origin.{Origin}
 use Rattle.rev_tree.specs.declared.origin.Origin.TheVariants.{Feed}
 use Rattle.doc_json.specs.Document.{Document}
-use Rattle.rev_core.specs.Ancestry.{IsAncestry}
-use Rattle.couch_base.specs.Database.{DatabaseValue, tree_of, with_tree, most}
-use Rattle.couch_base.specs.Put.{put_answer, put_told, after_put, content_of}
-use Rattle.couch_base.specs.Readied.{IsMadeOf}
-use Rattle.couch_base.specs.declared.brought.Made.{Made}
+use Rattle.rev_core.specs.{IsAncestry}
+use Rattle.couch_base.specs.{DatabaseValue, tree_of, with_tree, most, put_answer, put_told, after_put, content_of, IsMadeOf, Made, TableValue, database_of, found, tree_at, IsKept}
 use Rattle.couch_base.specs.declared.fault.Put.TheVariants as answers
 use Rattle.couch_base.specs.declared.fault.BaseFault.TheVariants as faults
-use Rattle.couch_base.specs.Stored.{TableValue, database_of, found, tree_at, IsKept}
 use Rattle.couch_base.proofs.Found.{tree_of-documents_of}
 use Rattle.couch_base.proofs.Putting.{new_changes, answer-changed, after_put-changed}
 

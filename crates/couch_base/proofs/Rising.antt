@@ -1,11 +1,6 @@
 -- Rising sequences of an index.
-use Rattle.std.proofs.Common.{◌≡◌, ℕ, ◌<◌, ◌≤◌, List, [], ◌∷◌, ◌++◌, Bool, true, map, ap, ◌∙◌, arith, inl, inr}
-use Rattle.std.specs.Prelude.{filter}
-use Rattle.std.proofs.lemmas.Bool.{cond_both}
-use Rattle.couch_base.specs.Lists.{Among, Rises}
-use Rattle.couch_base.specs.Database.{Id}
-use Rattle.couch_base.specs.FeedLaws.{rises_from, rises_le}
-use Rattle.couch_base.specs.Stored.{AllBelow}
+use Rattle.proof_words.proofs.{◌≡◌, ℕ, ◌<◌, ◌≤◌, List, [], ◌∷◌, ◌++◌, Bool, true, map, ap, ◌∙◌, arith, inl, inr, filter, cond_both}
+use Rattle.couch_base.specs.{Among, Rises, Id, rises_from, rises_le, AllBelow}
 
 -- the sequences of an index rise
 abbrev pub Rising : ℕ → List (ℕ × Id) → ℕ → Type 0

@@ -1,21 +1,8 @@
 -- The rows of an index: what a change leaves of them, and which ones are live.
-use Rattle.std.proofs.Common.{◌≡◌, ℕ, zero, suc, ◌+◌, ◌*◌, ◌<◌, ◌≤◌, List, [], ◌∷◌, ◌++◌, Bool, true, false, Option, Some, None, eqb, length, map, drop, cond, sym, ap, subst, ◌∙◌, refl, arith, inl, inr}
-use Rattle.std.specs.Prelude.{◌==◌, ◌/◌, nat_lt, nat_le, filter, slice_get, get_or}
-use Rattle.std.specs.List.{AllWithin, AllByRecursion, IsDistinct, list_any}
-use Rattle.std.specs.List.Sorted.{IsNonDecreasingBy, IsPartitionPoint}
-use Rattle.std.specs.Map.{keys_of}
-use Rattle.std.specs.Option.{option_map_or}
-use Rattle.std.proofs.lemmas.Bool.{cond_both, cases_Bool, eqb-true, false≢true, false_from_ne_true}
-use Rattle.std.proofs.lemmas.List.{length-append, length-map}
-use Rattle.std.proofs.lemmas.Map.Steps.{length-le_from_distinct_below}
-use Rattle.std.proofs.lemmas.Option.{same_Some, none-some}
+use Rattle.proof_words.proofs.{◌≡◌, ℕ, zero, suc, ◌+◌, ◌*◌, ◌<◌, ◌≤◌, List, [], ◌∷◌, ◌++◌, Bool, true, false, Option, Some, None, eqb, length, map, drop, cond, sym, ap, subst, ◌∙◌, refl, arith, inl, inr, ◌==◌, ◌/◌, nat_lt, nat_le, filter, slice_get, get_or, AllWithin, AllByRecursion, IsDistinct, list_any, IsNonDecreasingBy, IsPartitionPoint, keys_of, option_map_or, cond_both, cases_Bool, eqb-true, false≢true, false_from_ne_true, length-append, length-map, length-le_from_distinct_below, same_Some, none-some}
 use Rattle.indexmap.specs.IndexMap.{set_value_at}
-use Rattle.couch_base.specs.Lists.{Among}
-use Rattle.couch_base.specs.Database.{Id}
-use Rattle.couch_base.specs.Stored.{is_live, live, live_upto, above, swept, named, feed_of, ArePlaces, AllBelow, InOrder, AreFew, AreRows}
-use Rattle.couch_base.specs.declared.kept.Kept.{Kept}
+use Rattle.couch_base.specs.{Among, Id, is_live, live, live_upto, above, swept, named, feed_of, ArePlaces, AllBelow, InOrder, AreFew, AreRows, Kept, Among-push}
 use Rattle.couch_base.proofs.Rising.{among_filter}
-use Rattle.couch_base.specs.MemberLaws.{Among-push}
 
 -- ---- rows that are put at the end, and rows that are left out
 

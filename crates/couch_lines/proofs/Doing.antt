@@ -1,18 +1,12 @@
 -- What a task does, by what its reading and its wording do.
-use Rattle.std.proofs.Common.{◌≡◌, ℕ, List, true, false, Option, Some, Result, Ok, Err, IfOk, IfErr, refl, subst}
-use Rattle.std.proofs.lemmas.Bool.{true≢false}
-use Rattle.couch_answers.specs.Wanted.{wants_documents, is_strict}
-use Rattle.couch_answers.specs.Reading.{Piece}
-use Rattle.couch_answers.specs.Grammar.{IsAnswered}
+use Rattle.proof_words.proofs.{◌≡◌, ℕ, List, true, false, Option, Some, Result, Ok, Err, IfOk, IfErr, refl, subst, true≢false}
+use Rattle.couch_answers.specs.{wants_documents, is_strict, Piece, IsAnswered, IsChangeScript}
 use Rattle.couch_answers.specs.LineGrammar.{IsScript}
-use Rattle.couch_answers.specs.ChangeGrammar.{IsChangeScript}
 use Rattle.couch_answers.specs.declared.place.Wanted.{Wanted}
 use Rattle.couch_answers.specs.declared.place.Wanted.TheVariants.{Changes}
 use Rattle.couch_wording.specs.Words.{Words}
-use Rattle.couch_wording.specs.Runs.{Answered, Stopped, ReadsAnswers}
-use Rattle.couch_wording.specs.declared.run.AnswerFault.{AnswerFault}
-use Rattle.couch_lines.specs.Runs.{IsDone, Makes, is_drawn, wanted_of, words_of_task}
-use Rattle.couch_lines.specs.declared.tasks.Task.{Task}
+use Rattle.couch_wording.specs.{Answered, Stopped, ReadsAnswers, AnswerFault}
+use Rattle.couch_lines.specs.{IsDone, Makes, is_drawn, wanted_of, words_of_task, Task}
 use Rattle.couch_lines.specs.declared.tasks.Task.TheVariants.{Load, Ids, Diff, Leaves, Bulk, Trees}
 
 module _ (left held held' : Option (List ℕ)) (x : Result ℕ AnswerFault) where

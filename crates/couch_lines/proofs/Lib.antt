@@ -1,1 +1,2 @@
 pub mod Doing
+pub use Doing.{is_done, makes}

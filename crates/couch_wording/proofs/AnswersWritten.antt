@@ -1,27 +1,16 @@
 -- What is made of texts that are answers, or lines, by their grammar.
-use Rattle.std.proofs.Common.{◌≡◌, ℕ, List, [], ◌∷◌, ◌++◌, Bool, true, false, cond, refl, sym, ap, subst, ◌∙◌, append_assoc, append-nil, inl, inr, Result, Ok, Err, Option, Some, IfOk, IfErr}
-use Rattle.std.specs.Io.KnownBytes.{Appends}
-use Rattle.script_engine.specs.Device.{Gives}
-use Rattle.couch_answers.specs.Wanted.{wants_documents, is_strict}
-use Rattle.couch_answers.specs.State.{State, start}
-use Rattle.couch_answers.specs.Steps.{step, is_refused}
-use Rattle.couch_answers.specs.Reading.{after, pieces, Piece, end_of, has_rest, last_end, whole}
-use Rattle.couch_answers.specs.Grammar.{IsAnswered}
+use Rattle.proof_words.proofs.{◌≡◌, ℕ, List, [], ◌∷◌, ◌++◌, Bool, true, false, cond, refl, sym, ap, subst, ◌∙◌, append_assoc, append-nil, inl, inr, Result, Ok, Err, Option, Some, IfOk, IfErr, Appends}
+use Rattle.script_engine.specs.{Gives}
+use Rattle.couch_answers.specs.{wants_documents, is_strict, start, step, is_refused, after, pieces, Piece, end_of, has_rest, last_end, whole, IsAnswered, IsChangeScript, Place, Refusal}
+use Rattle.couch_answers.specs.State.{State}
 use Rattle.couch_answers.specs.LineGrammar.{IsScript}
-use Rattle.couch_answers.specs.ChangeGrammar.{IsChangeScript}
 use Rattle.couch_wording.specs.Words.{Words}
-use Rattle.couch_wording.specs.Runs.{Answered, Stopped, ReadsAnswers, all_text}
-use Rattle.couch_answers.specs.declared.place.Place.{Place}
+use Rattle.couch_wording.specs.{Answered, Stopped, ReadsAnswers, all_text, AnswerFault}
 use Rattle.couch_answers.specs.declared.place.Place.TheVariants.{Start, Begin, Sign, Between, Item, NextItem, AfterItem, Member, NextMember, AfterMember, Key, KeyEscape, Colon, Ahead, List as ListPlace, Value, Quoted, Escaped, Revs, Line, Refused}
-use Rattle.couch_answers.specs.declared.place.Refusal.{Refusal}
 use Rattle.couch_answers.specs.declared.place.Wanted.{Wanted}
 use Rattle.couch_answers.specs.declared.place.Wanted.TheVariants.{Changes}
-use Rattle.couch_wording.specs.declared.run.AnswerFault.{AnswerFault}
 use Rattle.couch_wording.specs.declared.run.AnswerFault.TheVariants.{Device, Refused as Refusing}
-use Rattle.couch_answers.proofs.Readings.{after-append, pieces-append}
-use Rattle.couch_answers.proofs.AnswerTexts.{answers_read}
-use Rattle.couch_answers.proofs.ChangeTexts.{changes_read}
-use Rattle.couch_answers.proofs.LineTexts.{lines_read, ends_lines, lines_end, stood_before, line_end_given}
+use Rattle.couch_answers.proofs.{after-append, pieces-append, answers_read, changes_read, lines_read, ends_lines, lines_end, stood_before, line_end_given}
 
 refused_is : (p : Place) → is_refused p ≡ true → (why : Refusal) × (p ≡ Refused why)
 refused_is (Refused why) h = (why, refl)

@@ -1,24 +1,17 @@
 -- Answers as far as they were read, and what is written of them.
-use Rattle.std.proofs.Common.{◌≡◌, ℕ, List, [], ◌∷◌, ◌++◌, true, false, Option, Result, Ok, Err, IfOk, IfErr, refl, sym, ap, subst, ◌∙◌, append_assoc, append-nil, inl, inr, take, drop, take-append-drop}
-use Rattle.std.specs.Prelude.{unwrap_or}
-use Rattle.std.specs.Io.KnownBytes.{Appends, Consumes, Keeps, IsAtEnd}
-use Rattle.script_engine.specs.declared.fault.ScriptFault.{ScriptFault}
+use Rattle.proof_words.proofs.{◌≡◌, ℕ, List, [], ◌∷◌, ◌++◌, true, false, Option, Result, Ok, Err, IfOk, IfErr, refl, sym, ap, subst, ◌∙◌, append_assoc, append-nil, inl, inr, take, drop, take-append-drop, unwrap_or, Appends, Consumes, Keeps, IsAtEnd, Appends-nil, Appends-trans, Consumes-nil, Consumes-trans, Consumes-kept, Keeps-refl}
+use Rattle.script_engine.specs.{ScriptFault}
 use Rattle.script_engine.specs.declared.fault.ScriptFault.TheVariants.{Write}
-use Rattle.script_engine.proofs.RunLemmas.{Gives-left, Gives-end}
-use Rattle.std.proofs.KnownBytes.{Appends-nil, Appends-trans, Consumes-nil, Consumes-trans, Consumes-kept, Keeps-refl}
-use Rattle.couch_answers.specs.State.{State, start}
-use Rattle.couch_answers.specs.Steps.{is_refused}
-use Rattle.couch_answers.specs.Reading.{Piece, after, given, piece_of, pieces, end_of, last_end, whole}
-use Rattle.couch_wording.specs.Words.{Words, text_for, words_then, texts, words_behind, last_text}
-use Rattle.couch_wording.specs.Runs.{Fed, IsWhole, Begins, EndsAnswers, Finishes, IsAll, IsLeft, Answered, Stopped, all_text, judged_by, ended_of}
-use Rattle.couch_answers.specs.declared.place.Refusal.{Refusal}
+use Rattle.script_engine.proofs.{Gives-left, Gives-end}
+use Rattle.couch_answers.specs.State.{State}
+use Rattle.couch_answers.specs.{start, is_refused, Piece, after, given, piece_of, pieces, end_of, last_end, whole, Refusal, Found}
+use Rattle.couch_wording.specs.Words.{Words}
+use Rattle.couch_wording.specs.{text_for, words_then, texts, words_behind, last_text, Fed, IsWhole, Begins, EndsAnswers, Finishes, IsAll, IsLeft, Answered, Stopped, all_text, judged_by, ended_of, AnswerFault}
 use Rattle.couch_answers.specs.declared.place.Wanted.{Wanted}
 use Rattle.couch_answers.specs.declared.place.Wanted.TheVariants.{Documents, Enveloped, Bodies, Unfolded, Leaves, Changes}
-use Rattle.couch_answers.specs.declared.place.Found.{Found}
 use Rattle.couch_answers.specs.declared.place.Found.TheVariants.{Nothing, Document, Id, Rev}
-use Rattle.couch_wording.specs.declared.run.AnswerFault.{AnswerFault}
 use Rattle.couch_wording.specs.declared.run.AnswerFault.TheVariants.{Refused, Device}
-use Rattle.couch_answers.proofs.Readings.{after-append, pieces-append}
+use Rattle.couch_answers.proofs.{after-append, pieces-append}
 
 -- ---- texts
 

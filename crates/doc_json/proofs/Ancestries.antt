@@ -1,13 +1,7 @@
 -- The ancestry of a document's members is that of the document.
-use Rattle.std.proofs.Common.{◌≡◌, ℕ, ◌-◌, ◌^◌, ◌≤◌, List, [], ◌∷◌, length, map, false, cond, Some, None, option_map, option_and_then, Ok, refl, ap, ◌∙◌, arith}
-use Rattle.std.specs.Prelude.{nat_eq}
-use Rattle.std.specs.List.{AllByRecursion}
-use Rattle.std.proofs.lemmas.Bool.{cond-true, cond-false, lt-ltb, le-ltb, ne_eqb}
-use Rattle.rev_core.specs.Rev.{RevId, IsRev}
-use Rattle.rev_core.specs.RevOrder.{rev_tie_self}
-use Rattle.rev_core.specs.Ancestry.{FallsByOne, IsAncestry, numbered, ancestry_read}
-use Rattle.rev_core.specs.Checks.{named}
-use Rattle.doc_json.specs.Revisions.{sigs_of, numbered_from, revisions_read, matched}
+use Rattle.proof_words.proofs.{◌≡◌, ℕ, ◌-◌, ◌^◌, ◌≤◌, List, [], ◌∷◌, length, map, false, cond, Some, None, option_map, option_and_then, Ok, refl, ap, ◌∙◌, arith, nat_eq, AllByRecursion, cond-true, cond-false, lt-ltb, le-ltb, ne_eqb}
+use Rattle.rev_core.specs.{RevId, IsRev, rev_tie_self, FallsByOne, IsAncestry, numbered, ancestry_read, named}
+use Rattle.doc_json.specs.{sigs_of, numbered_from, revisions_read, matched}
 use Rattle.doc_json.specs.declared.fault.DocFault.TheVariants as faults
 use Rattle.doc_json.proofs.DocData.{sig_items, revisions_value}
 

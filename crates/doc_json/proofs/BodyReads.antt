@@ -1,5 +1,5 @@
 -- Reading a value as a body, check by check.
-use Rattle.std.proofs.Common.{◌≡◌, ◌≤◌, ◌∙◌, ℕ, List, [], Option, option_and_then, arith, append-nil, Bool, true, false, cond, Some, None, Ok, Err, refl, sym, ap, subst}
+use Rattle.proof_words.proofs.{◌≡◌, ◌≤◌, ◌∙◌, ℕ, List, [], Option, option_and_then, arith, append-nil, Bool, true, false, cond, Some, None, Ok, Err, refl, sym, ap, subst}
 use Rattle.json.specs.Token.{Token}
 use Rattle.json.specs.Lex.{tokens}
 use Rattle.json.specs.Print.{print}
@@ -10,9 +10,7 @@ use Rattle.serde_json.specs.Find.{as_object}
 use Rattle.serde_json.specs.Written.{compact_text, has_float, members_have_float, IsInOrder, WritesValue}
 use Rattle.serde_json.proofs.Texts.{tokens_from_order, print-outline}
 use Rattle.serde_json.specs.Read.{of_json, read, max_depth}
-use Rattle.doc_json.specs.DocId.{is_special}
-use Rattle.doc_json.specs.Members.{has_special, plain_members}
-use Rattle.doc_json.specs.Body.{body_read, IsWritten, IsBody}
+use Rattle.doc_json.specs.{is_special, has_special, plain_members, body_read, IsWritten, IsBody}
 use Rattle.doc_json.specs.declared.fault.DocFault.TheVariants as faults
 
 pub is_object : (d : Data) (ms : Members) → as_object d ≡ Some ms → d ≡ object ms

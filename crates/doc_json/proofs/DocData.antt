@@ -1,15 +1,12 @@
 -- The value that the text of a document is, with its members in the order of the text.
-use Rattle.std.proofs.Common.{◌≡◌, ℕ, List, [], ◌∷◌, ◌++◌, Bool, true, false, Some, option_map, codes, refl, sym, ap, ◌∙◌, arith, append_assoc}
-use Rattle.std.specs.Prelude.{decimal}
-use Rattle.std.specs.List.{AllByRecursion}
+use Rattle.proof_words.proofs.{◌≡◌, ℕ, List, [], ◌∷◌, ◌++◌, Bool, true, false, Some, option_map, codes, refl, sym, ap, ◌∙◌, arith, append_assoc, decimal, AllByRecursion}
 use Rattle.json.specs.Print.{quoted, escape, escape_byte}
 use Rattle.serde_json.specs.Data.{Data, Items, no_items, item, Members, no_members, member, object, boolean, number, string, array, unsigned}
 use Rattle.serde_json.specs.Read.{of_json, of_items, of_members}
 use Rattle.serde_json.specs.Written.{compact_text, items_text, members_text, outline, items_outline, members_outline}
 use Rattle.serde_json.proofs.Numbers.{number_of-decimal}
-use Rattle.rev_core.specs.Rev.{RevId, IsRev}
-use Rattle.rev_core.specs.Text.{rev_text}
-use Rattle.doc_json.specs.DocText.{doc_text, revs_text, sig_text, sig_texts, deleted_text, rest_text}
+use Rattle.rev_core.specs.{RevId, IsRev, rev_text}
+use Rattle.doc_json.specs.{doc_text, revs_text, sig_text, sig_texts, deleted_text, rest_text}
 use Rattle.doc_json.proofs.SigBytes.{escape-sig_bytes, sig_bytes, rev_text_bytes}
 
 abbrev pub sig_items : List RevId → Items

@@ -1,16 +1,10 @@
 -- Reading a value as a document, check by check.
-use Rattle.std.proofs.Common.{◌≡◌, ℕ, List, Bool, true, false, Option, Some, None, option_map, is_some, Result, Ok, Err, codes, refl, sym, ap, ◌∙◌}
-use Rattle.std.specs.Prelude.{IsOk}
-use Rattle.std.proofs.lemmas.Bool.{false≢true}
+use Rattle.proof_words.proofs.{◌≡◌, ℕ, List, Bool, true, false, Option, Some, None, option_map, is_some, Result, Ok, Err, codes, refl, sym, ap, ◌∙◌, IsOk, false≢true}
 use Rattle.serde_json.specs.Data.{Data, Members}
 use Rattle.serde_json.specs.Find.{get, get_member, as_object}
 use Rattle.serde_json.specs.Written.{members_have_float}
-use Rattle.rev_core.specs.Rev.{RevId}
-use Rattle.doc_json.specs.Members.{has_unknown, plain_members}
-use Rattle.doc_json.specs.Body.{body_text}
-use Rattle.doc_json.specs.Revisions.{revs_read}
-use Rattle.doc_json.specs.DocRead.{doc_read, id_member, flag_of}
-use Rattle.doc_json.specs.declared.fault.DocFault.{DocFault}
+use Rattle.rev_core.specs.{RevId}
+use Rattle.doc_json.specs.{has_unknown, plain_members, body_text, revs_read, doc_read, id_member, flag_of, DocFault}
 use Rattle.doc_json.specs.declared.fault.DocFault.TheVariants as faults
 use Rattle.doc_json.proofs.BodyReads.{is_object}
 

@@ -1,17 +1,11 @@
 -- The members `_rev` and `_revisions`, before anything of them is copied.
-use Rattle.std.proofs.Common.{◌≡◌, ℕ, ◌^◌, ◌<◌, ◌≤◌, List, [], ◌∷◌, length, map, Bool, true, false, cond, nat_eq, nat_lt, nat_le, Option, Some, None, is_some, option_map, option_and_then, Result, Ok, Err, is_ok, codes, slice_get, inl, inr, refl, sym, ap, ◌∙◌, arith}
-use Rattle.std.specs.Ordering.{eq_by_cmp}
-use Rattle.std.proofs.lemmas.Bool.{lt-ltb, le-ltb, le-leb, lt-leb, ne_eqb, cases_lt, false≢true}
+use Rattle.proof_words.proofs.{◌≡◌, ℕ, ◌^◌, ◌<◌, ◌≤◌, List, [], ◌∷◌, length, map, Bool, true, false, cond, nat_eq, nat_lt, nat_le, Option, Some, None, is_some, option_map, option_and_then, Result, Ok, Err, is_ok, codes, slice_get, inl, inr, refl, sym, ap, ◌∙◌, arith, eq_by_cmp, lt-ltb, le-ltb, le-leb, lt-leb, ne_eqb, cases_lt, false≢true}
 use Rattle.serde_json.specs.Data.{Data}
 use Rattle.serde_json.specs.Find.{get, as_str}
 use Rattle.serde_json.specs.View.{items_of}
-use Rattle.rev_core.specs.Rev.{RevId, rev_cmp}
-use Rattle.rev_core.specs.Ancestry.{numbered, ancestry_read}
-use Rattle.rev_core.specs.declared.fault.RevFault.{RevFault}
+use Rattle.rev_core.specs.{RevId, rev_cmp, numbered, ancestry_read, RevFault, named, ◌>>=◌}
 use Rattle.rev_core.specs.declared.fault.RevFault.TheVariants as rev_faults
-use Rattle.rev_core.specs.Checks.{named, ◌>>=◌}
-use Rattle.doc_json.specs.Revisions.{sig_of, sigs_of, numbered_from, is_head, rev_member, with_revisions, revs_read}
-use Rattle.doc_json.specs.declared.fault.DocFault.{DocFault}
+use Rattle.doc_json.specs.{sig_of, sigs_of, numbered_from, is_head, rev_member, with_revisions, revs_read, DocFault}
 use Rattle.doc_json.specs.declared.fault.DocFault.TheVariants as faults
 
 -- ---- signatures of a list

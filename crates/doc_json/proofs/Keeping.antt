@@ -1,7 +1,6 @@
 -- What a buffer held is kept, step by step.
-use Rattle.std.proofs.Common.{◌≡◌, ℕ, List, [], ◌++◌, Bool, true, false, cond, sym, ap, ◌∙◌, append_assoc}
-use Rattle.std.proofs.lemmas.List.{append-nil}
-use Rattle.doc_json.specs.Buffers.{Keeps}
+use Rattle.proof_words.proofs.{◌≡◌, ℕ, List, [], ◌++◌, Bool, true, false, cond, sym, ap, ◌∙◌, append_assoc, append-nil}
+use Rattle.doc_json.specs.{Keeps}
 
 -- with more behind it
 pub kept_more : (old new more : List ℕ) → new ≡ old ++ more → Keeps old new

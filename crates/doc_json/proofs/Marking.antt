@@ -1,11 +1,6 @@
 -- What marks tell of ids.
-use Rattle.std.proofs.Common.{◌≡◌, ℕ, ◌<◌, ◌==◌, Bool, true, false, ◌||◌, List, [], ◌∷◌, ◌++◌, length, get_or, set, refl, sym, ap, ◌∙◌, subst}
-use Rattle.std.proofs.lemmas.Bool.{false≢true, eqb-true, eqb-false}
-use Rattle.std.proofs.lemmas.List.{get_or-set_same, get_or-set_other, length-set}
-use Rattle.std.specs.List.{list_any, AllByRecursion}
-use Rattle.std.specs.Str.{bytes_eq}
-use Rattle.std.specs.Cmp.Lexicographic.{bytes_decides}
-use Rattle.doc_json.specs.Marks.{AreMarks, is_marked, is_marked_of, place_of}
+use Rattle.proof_words.proofs.{◌≡◌, ℕ, ◌<◌, ◌==◌, Bool, true, false, ◌||◌, List, [], ◌∷◌, ◌++◌, length, get_or, set, refl, sym, ap, ◌∙◌, subst, false≢true, eqb-true, eqb-false, get_or-set_same, get_or-set_other, length-set, list_any, AllByRecursion, bytes_eq, bytes_decides}
+use Rattle.doc_json.specs.{AreMarks, is_marked, is_marked_of, place_of}
 use Rattle.doc_json.proofs.ChosenBytes.{each_more}
 
 -- a mark stays where another is made

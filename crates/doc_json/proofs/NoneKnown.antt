@@ -1,8 +1,7 @@
 -- Where no text is known to be plain, nothing is said of any.
-use Rattle.std.proofs.Common.{false}
-use Rattle.std.proofs.lemmas.Bool.{false≢true}
+use Rattle.proof_words.proofs.{false, false≢true}
 use Rattle.serde_json.specs.Data.{Data, null, boolean, number, string, array, object, Items, no_items, item, Members, no_members, member}
-use Rattle.json_values.specs.Plain.{ArePlain, AreItemsPlain, AreMembersPlain}
+use Rattle.json_values.specs.{ArePlain, AreItemsPlain, AreMembersPlain}
 
 mutual
   pub none_plain : (d : Data) → ArePlain (record { names = false; values = false }) d

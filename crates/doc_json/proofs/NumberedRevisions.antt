@@ -1,19 +1,11 @@
 -- The revisions that a start and a list of signatures give.
-use Rattle.std.proofs.Common.{◌≡◌, ℕ, ◌-◌, ◌^◌, ◌<◌, ◌≤◌, ◌⊎◌, List, [], ◌∷◌, length, map, Bool, true, false, cond, nat_eq, nat_lt, Option, Some, None, option_map, Result, Ok, Err, inl, inr, refl, sym, ap, ◌∙◌, subst, arith}
-use Rattle.std.specs.List.{AllByRecursion}
-use Rattle.std.proofs.lemmas.Bool.{lt-ltb, le-ltb, ne_eqb, eq-eqb}
+use Rattle.proof_words.proofs.{◌≡◌, ℕ, ◌-◌, ◌^◌, ◌<◌, ◌≤◌, ◌⊎◌, List, [], ◌∷◌, length, map, Bool, true, false, cond, nat_eq, nat_lt, Option, Some, None, option_map, Result, Ok, Err, inl, inr, refl, sym, ap, ◌∙◌, subst, arith, AllByRecursion, lt-ltb, le-ltb, ne_eqb, eq-eqb}
 use Rattle.serde_json.specs.Data.{Data}
 use Rattle.serde_json.specs.Find.{as_str}
 use Rattle.serde_json.specs.View.{items_of}
-use Rattle.rev_core.specs.Sig.{is_sig}
-use Rattle.rev_core.specs.Rev.{RevId, IsRev}
-use Rattle.rev_core.specs.Ancestry.{IsAncestry, numbered}
-use Rattle.rev_core.specs.AncestryLaws.{falls_numbered, length-numbered}
-use Rattle.rev_core.specs.declared.fault.RevFault.{RevFault}
+use Rattle.rev_core.specs.{is_sig, RevId, IsRev, IsAncestry, numbered, falls_numbered, length-numbered, RevFault, named}
 use Rattle.rev_core.specs.declared.fault.RevFault.TheVariants as rev_faults
-use Rattle.rev_core.specs.Checks.{named}
-use Rattle.doc_json.specs.Revisions.{sig_of, sigs_of, numbered_from}
-use Rattle.doc_json.specs.declared.fault.DocFault.{DocFault}
+use Rattle.doc_json.specs.{sig_of, sigs_of, numbered_from, DocFault}
 use Rattle.doc_json.specs.declared.fault.DocFault.TheVariants as faults
 use Rattle.doc_json.proofs.FoundRevisions.{both, none_left, sigs_count}
 

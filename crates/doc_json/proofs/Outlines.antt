@@ -1,9 +1,5 @@
 -- The text of data whose numbers read as themselves and whose members stand in order.
-use Rattle.std.proofs.Common.{◌≡◌, ℕ, List, [], Bool, true, false, cond, Some, option_map, option_and_then, Less, Greater, nat_cmp, refl, sym, ap, ap₂, ◌∙◌, subst, arith, if◌then◌else◌}
-use Rattle.std.proofs.lemmas.Bool.{or_parts}
-use Rattle.std.proofs.lemmas.Cmp.{nat_list_cmp_total}
-use Rattle.std.specs.Cmp.Lexicographic.{slice_cmp}
-use Rattle.std.specs.Ordering.{ordering_reverse, match_ordering}
+use Rattle.proof_words.proofs.{◌≡◌, ℕ, List, [], Bool, true, false, cond, Some, option_map, option_and_then, Less, Greater, nat_cmp, refl, sym, ap, ap₂, ◌∙◌, subst, arith, if◌then◌else◌, or_parts, nat_list_cmp_total, slice_cmp, ordering_reverse, match_ordering}
 use Rattle.json.specs.Json as json
 use Rattle.json.specs.Lex.{tokens}
 use Rattle.json.specs.Tree.{json_tokens, HasNumbers, ItemsHaveNumbers, MembersHaveNumbers}
@@ -11,11 +7,8 @@ use Rattle.serde_json.specs.Data.{Data, null, boolean, number, string, array, ob
 use Rattle.serde_json.specs.Read.{of_json, of_items, of_members}
 use Rattle.serde_json.specs.Written.{number_text, outline, items_outline, members_outline, blank, blank_items, blank_members, compact_text, has_float, items_have_float, members_have_float}
 use Rattle.serde_json.proofs.Texts.{print-outline, unless_float-number_of}
-use Rattle.json_values.specs.LineOrder.{AllBehind, IsOrdered, AreOrdered, IsInOrderOfNames}
-use Rattle.doc_json.specs.Body.{IsWritten}
-use Rattle.doc_json.specs.DocId.{is_special}
-use Rattle.doc_json.specs.Members.{plain_members}
-use Rattle.doc_json.specs.Numbers.{AllReadBack, ItemsReadBack, MembersReadBack}
+use Rattle.json_values.specs.{AllBehind, IsOrdered, AreOrdered, IsInOrderOfNames}
+use Rattle.doc_json.specs.{IsWritten, is_special, plain_members, AllReadBack, ItemsReadBack, MembersReadBack}
 use Rattle.doc_json.proofs.BodyReads.{is_written}
 use Rattle.doc_json.proofs.WrittenTexts.{compact_tokens, depth-outline}
 

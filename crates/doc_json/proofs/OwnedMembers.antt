@@ -1,11 +1,8 @@
 -- The members of a map, in the order of their names.
-use Rattle.std.proofs.Common.{◌≡◌, ℕ, List, [], ◌∷◌, String, Global, Less, string_bytes, string_cmp}
-use Rattle.std.specs.List.{AllByRecursion}
-use Rattle.std.specs.List.Sorted.{IsStrictlySortedBy}
-use Rattle.std.specs.Map.{keys_of}
+use Rattle.proof_words.proofs.{◌≡◌, ℕ, List, [], ◌∷◌, String, Global, Less, string_bytes, string_cmp, AllByRecursion, IsStrictlySortedBy, keys_of}
 use Rattle.serde_json.specs.View.{members_view}
 use Rattle.serde_json.proofs.Views.{Entry}
-use Rattle.json_values.specs.LineOrder.{AllBehind}
+use Rattle.json_values.specs.{AllBehind}
 
 behind_all : (k : String Global) (es : List Entry) → AllByRecursion (λ y. string_cmp k y ≡ Less) (keys_of es) → AllBehind (string_bytes k) (members_view es)
 behind_all k [] h = tt

@@ -1,13 +1,10 @@
 -- One member more of an object whose members without a leading `_` are pushed.
-use Rattle.std.proofs.Common.{◌≡◌, ℕ, List, ◌∷◌, ◌++◌, Bool, true, false, if◌then◌else◌, sym, ap, ◌∙◌, subst, append_assoc}
-use Rattle.std.proofs.lemmas.Bool.{or_parts}
+use Rattle.proof_words.proofs.{◌≡◌, ℕ, List, ◌∷◌, ◌++◌, Bool, true, false, if◌then◌else◌, sym, ap, ◌∙◌, subst, append_assoc, or_parts}
 use Rattle.json.specs.Print.{quoted}
 use Rattle.serde_json.specs.Data.{Data, Members, member}
 use Rattle.serde_json.specs.Written.{comma_if, compact_text, members_text, has_float, members_have_float}
-use Rattle.json_values.specs.LineOrder.{AllBehind, IsOrdered, IsInOrderOfNames}
-use Rattle.doc_json.specs.DocId.{is_special}
-use Rattle.doc_json.specs.Members.{plain_members}
-use Rattle.doc_json.specs.Numbers.{AllReadBack, MembersReadBack}
+use Rattle.json_values.specs.{AllBehind, IsOrdered, IsInOrderOfNames}
+use Rattle.doc_json.specs.{is_special, plain_members, AllReadBack, MembersReadBack}
 use Rattle.doc_json.proofs.Outlines.{behind_plain}
 
 module _ (name : List ℕ) (d : Data) (rest : Members) where

@@ -1,9 +1,6 @@
 -- A plain text in quotation marks stands as it is.
-use Rattle.std.proofs.Common.{◌≡◌, ℕ, Bool, true, Result, Ok, Err, ◌-◌, ◌++◌, List, [], ◌∷◌, length, take, drop, sym, ap, ◌∙◌, arith}
-use Rattle.std.specs.Prelude.{OnOk}
-use Rattle.std.proofs.lemmas.List.{take_all}
-use Rattle.std.specs.List.{prefix_len}
-use Rattle.json_values.specs.Plain.{PlainIf}
+use Rattle.proof_words.proofs.{◌≡◌, ℕ, Bool, true, Result, Ok, Err, ◌-◌, ◌++◌, List, [], ◌∷◌, length, take, drop, sym, ap, ◌∙◌, arith, OnOk, take_all, prefix_len}
+use Rattle.json_values.specs.{PlainIf}
 use Rattle.json.specs.Print.{escape, quoted}
 use Rattle.json.specs.Run.{is_plain}
 use Rattle.json.proofs.Printed.Strings.{escape_to_stop, escape_end}

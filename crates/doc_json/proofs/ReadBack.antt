@@ -1,6 +1,5 @@
 -- The text of a document is read as that document.
-use Rattle.std.proofs.Common.{◌≡◌, ℕ, ◌≤◌, List, [], ◌∷◌, Bool, true, false, Option, Some, None, option_map, option_and_then, is_some, Ok, codes, refl, sym, ap, ◌∙◌, subst, arith}
-use Rattle.std.proofs.lemmas.Bool.{or_parts}
+use Rattle.proof_words.proofs.{◌≡◌, ℕ, ◌≤◌, List, [], ◌∷◌, Bool, true, false, Option, Some, None, option_map, option_and_then, is_some, Ok, codes, refl, sym, ap, ◌∙◌, subst, arith, or_parts}
 use Rattle.json.specs.Lex.{tokens}
 use Rattle.json.specs.Tree as tree
 use Rattle.json.specs.Tree.{json_tokens, HasNumbers, ItemsHaveNumbers, MembersHaveNumbers}
@@ -9,18 +8,9 @@ use Rattle.serde_json.specs.Data.{Data, Members, no_members, member, object, str
 use Rattle.serde_json.specs.Find.{get, get_member, as_str}
 use Rattle.serde_json.specs.Read.{read, of_members, max_depth}
 use Rattle.serde_json.specs.Written.{outline, items_outline, members_outline, compact_text, members_have_float}
-use Rattle.rev_core.specs.Rev.{RevId}
-use Rattle.rev_core.specs.Text.{rev_text}
-use Rattle.rev_core.specs.Ancestry.{IsAncestry}
-use Rattle.rev_core.specs.TextLaws.{rev_read-text}
-use Rattle.rev_core.specs.Checks.{◌>>=◌, or_refused, named}
-use Rattle.doc_json.specs.DocId.{is_special, doc_id_read}
-use Rattle.doc_json.specs.Members.{has_special, has_unknown, plain_members}
-use Rattle.doc_json.specs.Body.{body_text}
-use Rattle.doc_json.specs.Revisions.{revs_read, rev_member, with_revisions, matched}
-use Rattle.doc_json.specs.Document.{Document, IsDocument}
-use Rattle.doc_json.specs.DocRead.{doc_read, id_member, flag_of}
-use Rattle.doc_json.specs.DocText.{doc_text}
+use Rattle.rev_core.specs.{RevId, rev_text, IsAncestry, rev_read-text, ◌>>=◌, or_refused, named}
+use Rattle.doc_json.specs.{is_special, doc_id_read, has_special, has_unknown, plain_members, body_text, revs_read, rev_member, with_revisions, matched, IsDocument, doc_read, id_member, flag_of, doc_text}
+use Rattle.doc_json.specs.Document.{Document}
 use Rattle.doc_json.specs.declared.fault.DocFault.TheVariants as faults
 use Rattle.doc_json.proofs.DocReads.{accepted}
 use Rattle.doc_json.proofs.Sorted.{IsSorted, ArePlain, IsBeside, beside}

@@ -1,10 +1,6 @@
 -- What is answered where a call that may find no memory is refused.
-use Rattle.std.proofs.Common.{◌≡◌, Result, Err, inl, inr, sym, ap, ◌∙◌, subst}
-use Rattle.std.specs.Prelude.{IsOk}
-use Rattle.std.specs.Result.{IsErrAnd}
-use Rattle.std.proofs.lemmas.Result.{err_from_is_err_and}
-use Rattle.doc_json.specs.Answers.{GivesUnlessMemory}
-use Rattle.doc_json.specs.declared.fault.DocFault.{DocFault}
+use Rattle.proof_words.proofs.{◌≡◌, Result, Err, inl, inr, sym, ap, ◌∙◌, subst, IsOk, IsErrAnd, err_from_is_err_and}
+use Rattle.doc_json.specs.{GivesUnlessMemory, DocFault}
 use Rattle.doc_json.specs.declared.fault.DocFault.TheVariants as faults
 
 module _ {A : Type 0} (r expected : Result A DocFault) where

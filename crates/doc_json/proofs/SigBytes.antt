@@ -1,17 +1,8 @@
 -- Signatures and revision ids are written as JSON texts without escapes.
-use Rattle.std.proofs.Common.{◌≡◌, ℕ, ◌<◌, List, [], ◌∷◌, ◌++◌, true, false, inl, inr, refl, sym, ap, ap₂, ◌∙◌, arith, rules}
-use Rattle.std.specs.List.{list_all}
-use Rattle.std.specs.Prelude.{decimal, fold}
-use Rattle.std.proofs.lemmas.Bool.{and_parts, and_from, true≢false, cases_lt}
-use Rattle.std.proofs.lemmas.Bool.Decides.{nat_tests}
-use Rattle.std.proofs.lemmas.List.Folds.{list_all-append}
-use Rattle.std.proofs.lemmas.Fmt.{digits_decimal}
-use Rattle.std.proofs.lemmas.Str.Parse.{IsNumeralModel, numerals_by_fold}
+use Rattle.proof_words.proofs.{◌≡◌, ℕ, ◌<◌, List, [], ◌∷◌, ◌++◌, true, false, inl, inr, refl, sym, ap, ap₂, ◌∙◌, arith, rules, list_all, decimal, fold, and_parts, and_from, true≢false, cases_lt, nat_tests, list_all-append, digits_decimal, IsNumeralModel, numerals_by_fold}
 use Rattle.json.specs.Print.{escape, escape_byte}
 use Rattle.json.proofs.Printed.Strings.{escape_byte_plain}
-use Rattle.rev_core.specs.Sig.{is_sig, is_sig_byte}
-use Rattle.rev_core.specs.Rev.{RevId, IsRev}
-use Rattle.rev_core.specs.Text.{is_digit, with_digit, value_of, rev_text}
+use Rattle.rev_core.specs.{is_sig, is_sig_byte, RevId, IsRev, is_digit, with_digit, value_of, rev_text}
 
 not_low : (x : ℕ) → x < 32 → is_sig_byte x ≡ false
 not_low x h = grind (arith, nat_tests)

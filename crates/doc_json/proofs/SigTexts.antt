@@ -1,8 +1,7 @@
 -- Signatures joined by commas, one after another.
-use Rattle.std.proofs.Common.{◌≡◌, ℕ, zero, suc, ◌+◌, ◌<◌, List, [], ◌∷◌, ◌++◌, length, take, get_or, refl, sym, ap, ◌∙◌, arith, append_assoc}
-use Rattle.std.proofs.lemmas.List.{take_more}
-use Rattle.rev_core.specs.Rev.{RevId}
-use Rattle.doc_json.specs.DocText.{sig_text, sig_texts}
+use Rattle.proof_words.proofs.{◌≡◌, ℕ, zero, suc, ◌+◌, ◌<◌, List, [], ◌∷◌, ◌++◌, length, take, get_or, refl, sym, ap, ◌∙◌, arith, append_assoc, take_more}
+use Rattle.rev_core.specs.{RevId}
+use Rattle.doc_json.specs.{sig_text, sig_texts}
 
 -- one signature more
 sig_texts-push : (first : RevId) (revs : List RevId) (r : RevId) → sig_texts (first ∷ (revs ++ r ∷ [])) ≡ sig_texts (first ∷ revs) ++ 44 ∷ sig_text r

@@ -1,19 +1,11 @@
 -- Members in order of their names, with and without special ones.
-use Rattle.std.proofs.Common.{◌≡◌, ℕ, List, Bool, true, false, ◌||◌, cond, Ordering, Less, Equal, Greater, Option, Some, None, option_and_then, nat_cmp, is_eq, refl, sym, ap, ◌∙◌}
-use Rattle.std.specs.Prelude.{⊤}
-use Rattle.std.specs.Ordering.{match_ordering, ordering_reverse}
-use Rattle.std.specs.Cmp.Lexicographic.{slice_cmp}
-use Rattle.std.proofs.lemmas.Cmp.{nat_list_cmp_total}
-use Rattle.std.proofs.lemmas.Bool.{true≢false}
-use Rattle.std.proofs.lemmas.Map.Text.{is_eq-slice_cmp}
-use Rattle.std.proofs.lemmas.Slice.Eq.{bytes_eq-Decides}
+use Rattle.proof_words.proofs.{◌≡◌, ℕ, List, Bool, true, false, ◌||◌, cond, Ordering, Less, Equal, Greater, Option, Some, None, option_and_then, nat_cmp, is_eq, refl, sym, ap, ◌∙◌, ⊤, match_ordering, ordering_reverse, slice_cmp, nat_list_cmp_total, true≢false, is_eq-slice_cmp, bytes_eq-Decides}
 use Rattle.json.specs.Json as json
 use Rattle.serde_json.specs.Data.{Data, Members, no_members, member, put}
 use Rattle.serde_json.specs.Find.{get_member}
 use Rattle.serde_json.specs.Read.{of_json, of_members}
 use Rattle.serde_json.proofs.Views.{get_member-put_other}
-use Rattle.doc_json.specs.DocId.{is_special}
-use Rattle.doc_json.specs.Members.{plain_members, has_unknown, is_unknown}
+use Rattle.doc_json.specs.{is_special, plain_members, has_unknown, is_unknown}
 
 -- every name is greater
 abbrev pub Above : List ℕ → Members → Type 0

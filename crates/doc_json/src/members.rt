@@ -6,8 +6,7 @@ ghost use Rattle.serde_json.specs.Find.{get_member};
 ghost use Rattle.serde_json.specs.Written.{members_have_float};
 ghost use Rattle.std.specs.Str.{bytes_eq};
 ghost use Rattle.std.specs.List.{list_any};
-ghost use Rattle.doc_json.specs.Members.{plain_members, has_special};
-ghost use Rattle.doc_json.specs.Members.{has_unknown, is_unknown, special_names};
+ghost use Rattle.doc_json.specs.Members.{plain_members, has_special, has_unknown, is_unknown, special_names};
 
 use crate::doc_id::is_special;
 use crate::json_value::JsonValue;

@@ -6,8 +6,7 @@ ghost use Rattle.serde_json.specs.View.{items_of};
 ghost use Rattle.serde_json.specs.Find.{get, as_array, as_str};
 ghost use Rattle.rev_core.specs.Rev.{RevId, rev_cmp};
 ghost use Rattle.rev_core.specs.Ancestry.{numbered};
-ghost use Rattle.doc_json.specs.Revisions.{rev_member, with_revisions, revisions_beside, matched, agrees};
-ghost use Rattle.doc_json.specs.Revisions.{numbered_beside, start_of, numbered_from, sigs_of, sig_of};
+ghost use Rattle.doc_json.specs.Revisions.{rev_member, with_revisions, revisions_beside, matched, agrees, numbered_beside, start_of, numbered_from, sigs_of, sig_of};
 
 use crate::fault::DocFault;
 use crate::json_value::JsonValue;

@@ -4,8 +4,7 @@ ghost use Rattle.serde_json.specs.Data.{Data};
 ghost use Rattle.serde_json.specs.Read.{read};
 ghost use Rattle.doc_json.specs.Buffers.{Keeps};
 ghost use Rattle.doc_json.specs.DocRead.{doc_read};
-ghost use Rattle.doc_json.specs.DocText.{doc_text, revs_text, head_text, start_text, sig_text};
-ghost use Rattle.doc_json.specs.DocText.{sig_texts, deleted_text, rest_text};
+ghost use Rattle.doc_json.specs.DocText.{doc_text, revs_text, head_text, start_text, sig_text, sig_texts, deleted_text, rest_text};
 
 use crate::doc::Doc;
 use crate::text::push_text;

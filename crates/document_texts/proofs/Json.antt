@@ -1,11 +1,7 @@
 -- Whether a text is JSON, by its two tests.
-use Rattle.std.proofs.Common.{◌≡◌, ℕ, List, Bool, true, false, ◌&&◌, Result, IfOk, Ok, Err, Option, Some, None, IsTrue, IsSome, is_some, ◌↔◌, refl, sym, ap, ◌∙◌}
-use Rattle.std.specs.Prelude.{IsUtf8}
-use Rattle.std.specs.Str.{is_utf8}
-use Rattle.std.proofs.lemmas.Str.{IsUtf8-from_is_utf8, is_utf8-from_IsUtf8}
-use Rattle.std.proofs.lemmas.Bool.{false_from_ne_true}
+use Rattle.proof_words.proofs.{◌≡◌, ℕ, List, Bool, true, false, ◌&&◌, Result, IfOk, Ok, Err, Option, Some, None, IsTrue, IsSome, is_some, ◌↔◌, refl, sym, ap, ◌∙◌, IsUtf8, is_utf8, IsUtf8-from_is_utf8, is_utf8-from_IsUtf8, false_from_ne_true}
 use Rattle.json.specs.Json.{Json, document}
-use Rattle.document_texts.specs.Texts.{is_json}
+use Rattle.document_texts.specs.{is_json}
 
 -- bytes that are no UTF-8 are no JSON
 pub no_utf8 : (text : List ℕ) → (IsUtf8 text → ⊥) → false ≡ is_json text

@@ -1,20 +1,12 @@
 -- What the kit's reader says of texts.
-use Rattle.std.proofs.Common.{◌≡◌, ℕ, List, [], ◌∷◌, ◌++◌, ◌&&◌, ◌==◌, map, drop, length, Bool, true, false, cond, refl, sym, ap, ◌∙◌, append-nil, suc, arith, Some, None, option_and_then, Result, Ok, Err, IfOk, Global}
-use Rattle.std.specs.Prelude.{IsUtf8}
-use Rattle.std.specs.List.{list_all, filter}
-use Rattle.std.specs.Borrow.{Bor}
-use Rattle.std.specs.Str.{is_utf8}
-use Rattle.std.proofs.lemmas.Str.{IsUtf8-from_is_utf8, is_utf8-from_IsUtf8, IsUtf8-nil}
+use Rattle.proof_words.proofs.{◌≡◌, ℕ, List, [], ◌∷◌, ◌++◌, ◌&&◌, ◌==◌, map, drop, length, Bool, true, false, cond, refl, sym, ap, ◌∙◌, append-nil, suc, arith, Some, None, option_and_then, Result, Ok, Err, IfOk, Global, IsUtf8, list_all, filter, Bor, is_utf8, IsUtf8-from_is_utf8, is_utf8-from_IsUtf8, IsUtf8-nil}
 use Rattle.json.specs.Json.{Json, document}
 use Rattle.json.specs.Token.{Token, string}
 use Rattle.json.specs.Print.{print, print_from, quoted}
 use Rattle.json.specs.Find.{as_str}
 use Rattle.json.specs.Value.{value_view, members_of as view_of}
 use Rattle.json.specs.declared.value.Value.{Value}
-use Rattle.document_texts.specs.Texts.{is_json}
-use Rattle.document_texts.specs.Members.{members_in, members_of, joined}
-use Rattle.document_texts.specs.Envelopes.{string_of, is_envelope, is_envelope_value, may_stand, all_may_stand, goes, enveloped, envelope_of, unfolded, if_json}
-use Rattle.document_texts.specs.Steps.{all_taken}
+use Rattle.document_texts.specs.{is_json, members_in, members_of, joined, string_of, is_envelope, is_envelope_value, may_stand, all_may_stand, goes, enveloped, envelope_of, unfolded, if_json, all_taken}
 use Rattle.document_texts.specs.declared.members.Mode.TheVariants.{Outside}
 use Rattle.document_texts.proofs.Folds.{taken_some}
 

@@ -1,23 +1,14 @@
 -- What goes into an envelope comes out of it, member by member.
-use Rattle.std.proofs.Common.{◌≡◌, ℕ, ◌+◌, ◌-◌, ◌&&◌, ◌||◌, ◌==◌, ◌/◌, ◌%◌, nat_lt, List, [], ◌∷◌, ◌++◌, Bool, true, false, not, cond, refl, sym, ap, subst, ◌∙◌, append_assoc, append-nil, arith, Option, Some, None, option_map, option_and_then}
-use Rattle.std.specs.List.{filter}
-use Rattle.std.specs.Str.{is_utf8}
-use Rattle.std.proofs.lemmas.Bool.{and_right}
-use Rattle.std.proofs.lemmas.Str.{IsUtf8-from_is_utf8, is_utf8-from_IsUtf8}
+use Rattle.proof_words.proofs.{◌≡◌, ℕ, ◌+◌, ◌-◌, ◌&&◌, ◌||◌, ◌==◌, ◌/◌, ◌%◌, nat_lt, List, [], ◌∷◌, ◌++◌, Bool, true, false, not, cond, refl, sym, ap, subst, ◌∙◌, append_assoc, append-nil, arith, Option, Some, None, option_map, option_and_then, filter, is_utf8, and_right, IsUtf8-from_is_utf8, is_utf8-from_IsUtf8, digit_char}
 use Rattle.json.specs.Json.{document, value, items, members, if_last, max_depth}
 use Rattle.json.specs.Token.{string as json_string}
 use Rattle.json.specs.Lex.{lex, punctuate, in_string, between, fresh, token, string_token}
 use Rattle.json.specs.Print.{quoted, escape, escape_byte, escape_letter}
-use Rattle.std.specs.Char.{digit_char}
 use Rattle.json.specs.Find.{as_str}
 use Rattle.json.proofs.Printed.Strings.{content-escape, lex-escape}
 use Rattle.json.proofs.Printed.Utf8.{IsUtf8-quoted}
-use Rattle.document_texts.specs.Texts.{EndsString, ends, plain, escaped, is_json}
-use Rattle.document_texts.specs.Members.{members_in, members_of, is_blank, joined, object_of}
-use Rattle.document_texts.specs.Names.{value_of}
-use Rattle.document_texts.specs.Envelopes.{whole_name, stays, goes, whole_of, is_envelope, envelope_of, enveloped, if_any, string_of, unfolded_members, unfolded, if_json}
+use Rattle.document_texts.specs.{EndsString, ends, plain, escaped, is_json, members_in, members_of, is_blank, joined, object_of, value_of, whole_name, stays, goes, whole_of, is_envelope, envelope_of, enveloped, if_any, string_of, unfolded_members, unfolded, if_json, Mode}
 use Rattle.document_texts.specs.Carried.{IsByte, Paired, nothing, byte, string, object, list, IsMember, AreMembers, HasMembers, Carries, none, whole, AreOthers, Envelops}
-use Rattle.document_texts.specs.declared.members.Mode.{Mode}
 use Rattle.document_texts.specs.declared.members.Mode.TheVariants.{Outside, Quoted}
 use Rattle.document_texts.proofs.Folds.{is_filled}
 

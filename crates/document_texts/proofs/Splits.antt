@@ -1,9 +1,6 @@
 -- The members of a text, one after another.
-use Rattle.std.proofs.Common.{◌≡◌, ℕ, ◌+◌, ◌<◌, ◌==◌, get_or, take, drop, length, List, [], ◌∷◌, ◌++◌, Bool, true, false, cond, refl, sym, ap, ◌∙◌, append_assoc, append-nil, add-one, drop-cons, arith}
-use Rattle.std.proofs.lemmas.Grind.{common_steps}
-use Rattle.document_texts.specs.Members.{ends_member, mode_behind, nesting_behind, length_in, first_length, members_in}
-use Rattle.document_texts.specs.Steps.{behind_comma}
-use Rattle.document_texts.specs.declared.members.Mode.{Mode}
+use Rattle.proof_words.proofs.{◌≡◌, ℕ, ◌+◌, ◌<◌, ◌==◌, get_or, take, drop, length, List, [], ◌∷◌, ◌++◌, Bool, true, false, cond, refl, sym, ap, ◌∙◌, append_assoc, append-nil, add-one, drop-cons, arith, common_steps}
+use Rattle.document_texts.specs.{ends_member, mode_behind, nesting_behind, length_in, first_length, members_in, behind_comma, Mode}
 use Rattle.document_texts.specs.declared.members.Mode.TheVariants.{Outside}
 
 take_one : (k b : ℕ) (t : List ℕ) → take (k + 1) (b ∷ t) ≡ b ∷ take k t

@@ -1,14 +1,5 @@
 -- The data of an envelope, and what reading it as a document refuses.
-use Rattle.std.proofs.Common.{◌≡◌, ℕ, List, [], ◌∷◌, ◌&&◌, ◌||◌, Bool, true, false, cond, codes, not, refl, sym, ap, subst, ◌∙◌, Option, Some, None, option_map, option_and_then, is_some, if◌then◌else◌, Result, Ok, Err, IfErr, inl, inr, length, ◌==◌}
-use Rattle.std.specs.Str.{bytes_eq}
-use Rattle.std.specs.Ordering.{nat_cmp, match_ordering, is_eq}
-use Rattle.std.specs.declared.cmp.Ordering.{Ordering}
-use Rattle.std.specs.declared.cmp.Ordering.TheVariants.{Less, Equal, Greater}
-use Rattle.std.specs.Cmp.Lexicographic.{slice_cmp}
-use Rattle.std.proofs.lemmas.Slice.Eq.{bytes_eq-Decides}
-use Rattle.std.proofs.lemmas.Map.Text.{is_eq-slice_cmp}
-use Rattle.std.specs.Str.{is_utf8}
-use Rattle.std.specs.List.{filter}
+use Rattle.proof_words.proofs.{◌≡◌, ℕ, List, [], ◌∷◌, ◌&&◌, ◌||◌, Bool, true, false, cond, codes, not, refl, sym, ap, subst, ◌∙◌, Option, Some, None, option_map, option_and_then, is_some, if◌then◌else◌, Result, Ok, Err, IfErr, inl, inr, length, ◌==◌, bytes_eq, nat_cmp, match_ordering, is_eq, Ordering, Less, Equal, Greater, slice_cmp, bytes_eq-Decides, is_eq-slice_cmp, is_utf8, filter}
 use Rattle.json.specs.Json as json
 use Rattle.json.specs.Token.{Token}
 use Rattle.json.specs.Lex.{tokens}
@@ -17,20 +8,11 @@ use Rattle.serde_json.specs.Data.{Num, Data, null, boolean, number, string, arra
 use Rattle.serde_json.specs.Read.{of_json, of_items, of_members, number_of, read}
 use Rattle.serde_json.specs.Find.{get_member, get, as_str, as_bool}
 use Rattle.serde_json.specs.Written.{has_float, members_have_float}
-use Rattle.rev_core.specs.Checks.{◌>>=◌, or_refused, refused_if, named}
-use Rattle.document_texts.specs.Envelopes.{may_stand, all_may_stand, is_envelope_value, is_envelope, envelope_of, enveloped, goes}
-use Rattle.document_texts.specs.Members.{members_of, joined}
-use Rattle.doc_json.specs.Members.{has_unknown, is_unknown, plain_members}
-use Rattle.doc_json.specs.DocId.{is_special, is_design, doc_id_read}
-use Rattle.doc_json.specs.DocRead.{doc_read, id_of, flag_of}
-use Rattle.doc_json.specs.Revisions.{revs_read, rev_of_text, rev_member, with_revisions, revisions_read, numbered_from, start_of, ids_read, alone, matched, agrees}
-use Rattle.rev_core.specs.Rev.{RevId}
-use Rattle.rev_core.specs.Text.{rev_read}
-use Rattle.rev_core.specs.Ancestry.{ancestry_read}
-use Rattle.doc_json.specs.Answers.{GivesUnlessMemory}
-use Rattle.doc_json.specs.declared.fault.DocFault.{DocFault}
+use Rattle.rev_core.specs.{◌>>=◌, or_refused, refused_if, named, RevId, rev_read, ancestry_read}
+use Rattle.document_texts.specs.{may_stand, all_may_stand, is_envelope_value, is_envelope, envelope_of, enveloped, goes, members_of, joined}
+use Rattle.doc_json.specs.{has_unknown, is_unknown, plain_members, is_special, is_design, doc_id_read, doc_read, id_of, flag_of, revs_read, rev_of_text, rev_member, with_revisions, revisions_read, numbered_from, start_of, ids_read, alone, matched, agrees, GivesUnlessMemory, DocFault}
 use Rattle.doc_json.specs.declared.fault.DocFault.TheVariants as faults
-use Rattle.envelope_reads.specs.Spared.{looks_into, may_be, AllMayBe, IsSpared}
+use Rattle.envelope_reads.specs.{looks_into, may_be, AllMayBe, IsSpared}
 use Rattle.envelope_reads.proofs.Depths.{value_within}
 
 -- ---- from JSON to data

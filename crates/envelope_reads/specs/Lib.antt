@@ -1,1 +1,2 @@
 pub mod Spared
+pub use Spared.{AllMayBe, IsSpared, looks_into, may_be}

@@ -1,10 +1,5 @@
 -- ASCII, sixteen bytes at a time, of which the last may overlap those before.
-use Rattle.std.proofs.Common.{◌≡◌, ℕ, suc, [], ◌∷◌, ◌++◌, ◌+◌, ◌-◌, ◌<◌, ◌≤◌, ◌⊎◌, inl, inr, List, length, take, get_or, ap, subst, ◌∙◌, arith}
-use Rattle.std.specs.Str.{IsAscii}
-use Rattle.std.proofs.lemmas.Str.Ascii.{IsAscii-cons}
-use Rattle.std.proofs.lemmas.Bool.{cases_order}
-use Rattle.std.proofs.lemmas.List.{get_or-take, get_or_past}
-use Rattle.std.proofs.lemmas.Simd.{get_or-chunk}
+use Rattle.proof_words.proofs.{◌≡◌, ℕ, suc, [], ◌∷◌, ◌++◌, ◌+◌, ◌-◌, ◌<◌, ◌≤◌, ◌⊎◌, inl, inr, List, length, take, get_or, ap, subst, ◌∙◌, arith, IsAscii, IsAscii-cons, cases_order, get_or-take, get_or_past, get_or-chunk}
 use lib.Lanes.{chunk}
 
 tail_of : (x : ℕ) (xs : List ℕ) → IsAscii (x ∷ xs) → IsAscii xs

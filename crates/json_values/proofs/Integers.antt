@@ -1,18 +1,12 @@
 -- Numbers of few digits and nothing else.
-use Rattle.std.proofs.Common.{◌≡◌, ◌≢◌, ℕ, ◌+◌, ◌-◌, ◌<◌, ◌≤◌, ◌^◌, Bool, true, false, ◌||◌, ◌==◌, cond, leb-true, List, length, take, drop, get_or, Some, refl, sym, ap, ◌∙◌, subst, arith, T, drop-drop, length-drop}
-use Rattle.std.proofs.lemmas.Bool.{ne_eqb, eq-eqb, eqb-true, false≢true, and_parts}
-use Rattle.std.proofs.lemmas.List.{get_or-take, get_or_default, length-take-le, drop-take}
-use Rattle.std.proofs.lemmas.Str.Parse.{digit_at}
-use Rattle.std.specs.Char.{is_ascii_digit}
-use Rattle.std.specs.Int.{IsInRange}
-use Rattle.std.specs.Str.Parse.{AllDigits, digits_value}
+use Rattle.proof_words.proofs.{◌≡◌, ◌≢◌, ℕ, ◌+◌, ◌-◌, ◌<◌, ◌≤◌, ◌^◌, Bool, true, false, ◌||◌, ◌==◌, cond, leb-true, List, length, take, drop, get_or, Some, refl, sym, ap, ◌∙◌, subst, arith, T, drop-drop, length-drop, ne_eqb, eq-eqb, eqb-true, false≢true, and_parts, get_or-take, get_or_default, length-take-le, drop-take, digit_at, is_ascii_digit, IsInRange, AllDigits, digits_value}
 use Rattle.fast_float.specs.Text.{minus, scan, with_sign}
 use Rattle.serde_json.specs.Data.{Num, unsigned, negative}
 use Rattle.serde_json.specs.Read.{number_of, number_from}
 use Rattle.json.specs.Token.{number}
 use Rattle.json.specs.Word.{head, is_operator, is_space, ends_word, word, after_minus, after_whole, after_number, number_before}
 use Rattle.json.specs.Lex.{Class, quote, backslash, operator, space, other, class, between, lex}
-use Rattle.json_values.specs.Words.{IntegerAt}
+use Rattle.json_values.specs.{IntegerAt}
 use Rattle.json_values.proofs.Lanes.{upto_sound}
 use Rattle.json_values.proofs.NumberReads.{number_of-minus, number_of-no_minus, from_digits, below_digits}
 use Rattle.json_values.proofs.Wording.{number_at}

@@ -1,9 +1,5 @@
 -- A mask that is computed lane by lane is held to a predicate at each of the 256 bytes.
-use Rattle.std.specs.Str.{IsAscii}
-use Rattle.std.proofs.Common.{leb, leb-false, ◌≡◌, ℕ, zero, suc, ◌%◌, ◌^◌, ◌<◌, ◌≤◌, ltb, Bool, true, false, not, ◌&&◌, cond, eqb, T, ◌⊎◌, inl, inr, List, [], ◌∷◌, map, length, refl, sym, ap, ap₂, ◌∙◌, subst, arith, w8, Fits, not-suc-le-zero}
-use Rattle.std.proofs.lemmas.Simd.{mask_l-mod}
-use Rattle.std.proofs.lemmas.Bool.{cases_order}
-use Rattle.std.proofs.lemmas.List.{length-map}
+use Rattle.proof_words.proofs.{IsAscii, leb, leb-false, ◌≡◌, ℕ, zero, suc, ◌%◌, ◌^◌, ◌<◌, ◌≤◌, ltb, Bool, true, false, not, ◌&&◌, cond, eqb, T, ◌⊎◌, inl, inr, List, [], ◌∷◌, map, length, refl, sym, ap, ap₂, ◌∙◌, subst, arith, w8, Fits, not-suc-le-zero, mask_l-mod, cases_order, length-map}
 use lib.Bits.{bit_or}
 use lib.Lanes.{zip2, mask_l, top, Each1}
 

@@ -1,13 +1,9 @@
 -- Values of a line: level by level, lists that grow at their end, and members that are put in.
-use Rattle.std.proofs.Common.{◌≡◌, ℕ, List, [], ◌∷◌, ◌++◌, Option, Some, None, Ordering, Less, Equal, Greater, nat_cmp, Vec, Bor, Global, refl, ap, rules}
-use Rattle.std.specs.Ordering.{match_ordering}
-use Rattle.std.specs.Cmp.Lexicographic.{slice_cmp}
+use Rattle.proof_words.proofs.{◌≡◌, ℕ, List, [], ◌∷◌, ◌++◌, Option, Some, None, Ordering, Less, Equal, Greater, nat_cmp, Vec, Bor, Global, refl, ap, rules, match_ordering, slice_cmp}
 use Rattle.json.specs.Token.{Token}
 use Rattle.json.specs.Json.{parse_map}
 use Rattle.serde_json.specs.Data.{array, object, Items, no_items, item, member, put}
-use Rattle.json_values.specs.LineView.{line_view, line_items, line_members}
-use Rattle.json_values.specs.Entries.{Entry, put_entry}
-use Rattle.json_values.specs.declared.line.LineValue.{LineValue, Array, Object, the_lemmas}
+use Rattle.json_values.specs.{line_view, line_items, line_members, Entry, put_entry, LineValue, Array, Object, the_lemmas}
 
 abbrev pub Named : Type 0
 Named = Entry LineValue

@@ -1,14 +1,10 @@
 -- What was read is in order.
-use Rattle.std.proofs.Common.{◌≡◌, ℕ, List, Option, Some, None, option_map, option_and_then, Ordering, Less, Equal, Greater, nat_cmp, refl, ap, subst, ◌∙◌}
-use Rattle.std.specs.Prelude.{⊤}
-use Rattle.std.specs.Ordering.{match_ordering, ordering_reverse}
-use Rattle.std.specs.Cmp.Lexicographic.{slice_cmp}
-use Rattle.std.proofs.lemmas.Cmp.{nat_list_cmp_total}
+use Rattle.proof_words.proofs.{◌≡◌, ℕ, List, Option, Some, None, option_map, option_and_then, Ordering, Less, Equal, Greater, nat_cmp, refl, ap, subst, ◌∙◌, ⊤, match_ordering, ordering_reverse, slice_cmp, nat_list_cmp_total}
 use Rattle.json.specs.Lex.{tokens}
 use Rattle.json.specs.Json as json
 use Rattle.serde_json.specs.Data.{Data, number, array, object, item, Members, no_members, member, put}
 use Rattle.serde_json.specs.Read.{number_of, of_json, of_items, of_members, max_depth, read}
-use Rattle.json_values.specs.LineOrder.{AllBehind, IsOrdered, AreOrdered, IsInOrderOfNames}
+use Rattle.json_values.specs.{AllBehind, IsOrdered, AreOrdered, IsInOrderOfNames}
 
 further : (k l : List ℕ) (ms : Members) → slice_cmp nat_cmp k l ≡ Less → AllBehind l ms → AllBehind k ms
 further k l no_members less all = tt

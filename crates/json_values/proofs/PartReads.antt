@@ -1,13 +1,8 @@
 -- A member of a value that is in order is in order, and its texts are as plain.
-use Rattle.std.proofs.Common.{◌≡◌, ℕ, List, Option, Some, Ordering, Less, Equal, Greater, nat_cmp, sym, subst}
-use Rattle.std.specs.Prelude.{IfSome}
-use Rattle.std.specs.Ordering.{match_ordering}
-use Rattle.std.specs.Cmp.Lexicographic.{slice_cmp}
+use Rattle.proof_words.proofs.{◌≡◌, ℕ, List, Option, Some, Ordering, Less, Equal, Greater, nat_cmp, sym, subst, IfSome, match_ordering, slice_cmp}
 use Rattle.serde_json.specs.Data.{Data, null, boolean, number, string, array, object, Members, no_members, member}
 use Rattle.serde_json.specs.Find.{get, get_member}
-use Rattle.json_values.specs.LineOrder.{IsOrdered, IsInOrderOfNames}
-use Rattle.json_values.specs.Plain.{ArePlain, AreMembersPlain}
-use Rattle.json_values.specs.declared.plain_texts.PlainTexts.{PlainTexts}
+use Rattle.json_values.specs.{IsOrdered, IsInOrderOfNames, ArePlain, AreMembersPlain, PlainTexts}
 
 module _ (p : PlainTexts) where
   abbrev IsPart : Data → Type 0

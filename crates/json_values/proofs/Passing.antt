@@ -1,15 +1,11 @@
 -- What the lexer passes over, at a place of the text.
-use Rattle.std.proofs.Common.{◌≡◌, ℕ, suc, ◌+◌, ◌<◌, ◌≤◌, Bool, true, false, ◌&&◌, ◌||◌, ◌==◌, cond, List, [], ◌∷◌, length, drop, get_or, Option, Some, None, refl, sym, ap, ◌∙◌, arith, drop-drop}
-use Rattle.std.proofs.lemmas.Bool.{false≢true, or_parts, not-true, eqb-true, and_parts}
-use Rattle.std.proofs.lemmas.List.{drop_more}
-use Rattle.std.specs.List.{prefix_len}
-use Rattle.std.specs.Char.{is_digit}
+use Rattle.proof_words.proofs.{◌≡◌, ℕ, suc, ◌+◌, ◌<◌, ◌≤◌, Bool, true, false, ◌&&◌, ◌||◌, ◌==◌, cond, List, [], ◌∷◌, length, drop, get_or, Option, Some, None, refl, sym, ap, ◌∙◌, arith, drop-drop, false≢true, or_parts, not-true, eqb-true, and_parts, drop_more, prefix_len, is_digit}
 use Rattle.json.specs.Text.{Within, content, code_unit}
 use Rattle.json.specs.Word.{is_operator, is_space, head}
 use Rattle.json.specs.Lex.{Lexeme, Class, quote, backslash, operator, space, other, class, Mode, between, in_string, in_escape, lex_byte, lex}
 use Rattle.json.specs.Align.{is_blank}
 use Rattle.json.specs.Run.{is_plain}
-use Rattle.json_values.specs.Escapes.{mode, Escape}
+use Rattle.json_values.specs.{mode, Escape}
 use Rattle.json_values.proofs.Content.{four, is_found, all_hex}
 
 -- ---- between lexemes

@@ -1,15 +1,7 @@
 -- Texts that are plain stay so while more is read.
-use Rattle.std.proofs.Common.{◌≡◌, ℕ, suc, ◌+◌, Bool, true, false, cond, List, [], ◌∷◌, ◌++◌, length, take, Ordering, Less, Equal, Greater, nat_cmp, Bor, refl, sym, ap, ◌∙◌, subst, arith}
-use Rattle.std.proofs.lemmas.Bool.{false≢true}
-use Rattle.std.specs.Ordering.{match_ordering}
-use Rattle.std.specs.Cmp.Lexicographic.{slice_cmp}
-use Rattle.std.specs.List.{prefix_len}
+use Rattle.proof_words.proofs.{◌≡◌, ℕ, suc, ◌+◌, Bool, true, false, cond, List, [], ◌∷◌, ◌++◌, length, take, Ordering, Less, Equal, Greater, nat_cmp, Bor, refl, sym, ap, ◌∙◌, subst, arith, false≢true, match_ordering, slice_cmp, prefix_len}
 use Rattle.serde_json.specs.Data.{Data, null, boolean, number, string, array, object, Items, no_items, item, Members, no_members, member, put}
-use Rattle.json_values.specs.Entries.{put_entry}
-use Rattle.json_values.specs.LineView.{line_view, line_items, line_members}
-use Rattle.json_values.specs.Plain.{PlainIf, ArePlain, AreItemsPlain, AreMembersPlain, Narrows}
-use Rattle.json_values.specs.declared.plain_texts.PlainTexts.{PlainTexts}
-use Rattle.json_values.specs.declared.line.LineValue.{LineValue}
+use Rattle.json_values.specs.{put_entry, line_view, line_items, line_members, PlainIf, ArePlain, AreItemsPlain, AreMembersPlain, Narrows, PlainTexts, LineValue}
 use Rattle.json_values.proofs.LineReads.{Named, members-put}
 
 one_more : (n : ℕ) → 1 + n ≡ suc n

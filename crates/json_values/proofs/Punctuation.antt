@@ -1,7 +1,5 @@
 -- What `punctuate` gives, by the first byte of the text.
-use Rattle.std.proofs.Common.{◌≡◌, ◌≢◌, ℕ, Bool, true, false, cond, ◌==◌, List, [], ◌∷◌, drop, Option, Some, None, ◌⊎◌, inl, inr, refl, sym, ap, ◌∙◌, subst}
-use Rattle.std.proofs.lemmas.Bool.{true≢false, false≢true, eqb-true, or_cases}
-use Rattle.std.specs.Prelude.{⊤}
+use Rattle.proof_words.proofs.{◌≡◌, ◌≢◌, ℕ, Bool, true, false, cond, ◌==◌, List, [], ◌∷◌, drop, Option, Some, None, ◌⊎◌, inl, inr, refl, sym, ap, ◌∙◌, subst, true≢false, false≢true, eqb-true, or_cases, ⊤}
 use Rattle.json.specs.Token.{Token, begin_object, end_object, begin_array, end_array, key, string, number, boolean, null, bad}
 use Rattle.json.specs.Text.{content, plain}
 use Rattle.json.specs.Word.{is_operator, is_space, head, ends_word, after_number, number_before, word}
@@ -9,12 +7,10 @@ use Rattle.json.specs.Lex.{Lexeme, token, comma, colon, Class, quote, backslash,
 use Rattle.json.specs.Lex.{Place, fresh, after_value, after_comma, after_key, begins_colon, may_begin, may_close, if_allowed, place_token, punctuate}
 use Rattle.json.specs.Align.{is_good, is_blank}
 use Rattle.json.specs.Json.{after_end_array}
-use Rattle.json_values.specs.Place.{tokens_at, closes_at, begins_at, begins_key, ends_object, refused_at, NotBeforeComma}
+use Rattle.json_values.specs.{tokens_at, closes_at, begins_at, begins_key, ends_object, refused_at, NotBeforeComma, IsPlainToken, PlainTexts}
 use Rattle.json_values.specs.declared.tokens.Place as reader
 use Rattle.json_values.specs.declared.tokens.Place.TheVariants.{Fresh, AfterValue, AfterComma, Failed}
 use Rattle.json_values.proofs.Steps.{lex_first, lex-nil}
-use Rattle.json_values.specs.Plain.{IsPlainToken}
-use Rattle.json_values.specs.declared.plain_texts.PlainTexts.{PlainTexts}
 
 abbrev pub rest : List ℕ → List Lexeme
 rest t = drop 1 (lex between t)

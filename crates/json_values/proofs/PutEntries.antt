@@ -1,12 +1,6 @@
 -- A member that is put among others.
-use Rattle.std.proofs.Common.{◌≡◌, ℕ, ◌+◌, ◌<◌, length, take, drop, List, [], ◌∷◌, ◌++◌, Ordering, Less, Equal, Greater, nat_cmp, Bor, refl, sym, ap, ◌∙◌}
-use Rattle.std.specs.Ordering.{match_ordering, ordering_reverse}
-use Rattle.std.specs.Cmp.Lexicographic.{slice_cmp}
-use Rattle.std.specs.List.{AllByRecursion, slice_set}
-use Rattle.std.specs.List.Sorted.{IsStrictlySortedBy}
-use Rattle.std.proofs.lemmas.Cmp.{nat_list_cmp_total, alike_right}
-use Rattle.std.proofs.lemmas.List.{take-set, drop-set, take-append-drop}
-use Rattle.json_values.specs.Entries.{Entry, names_of, IsRising, put_entry}
+use Rattle.proof_words.proofs.{◌≡◌, ℕ, ◌+◌, ◌<◌, length, take, drop, List, [], ◌∷◌, ◌++◌, Ordering, Less, Equal, Greater, nat_cmp, Bor, refl, sym, ap, ◌∙◌, match_ordering, ordering_reverse, slice_cmp, AllByRecursion, slice_set, IsStrictlySortedBy, nat_list_cmp_total, alike_right, take-set, drop-set, take-append-drop}
+use Rattle.json_values.specs.{Entry, names_of, IsRising, put_entry}
 
 abbrev Behind : List ℕ → List (List ℕ) → Type 0
 Behind k ks = AllByRecursion (λ y. slice_cmp nat_cmp k y ≡ Less) ks

@@ -1,7 +1,5 @@
 -- One lexeme at a time: what stands first, and what is left after it.
-use Rattle.std.proofs.Common.{◌≡◌, ℕ, ◌+◌, ◌<◌, false, List, [], ◌∷◌, length, drop, get_or, add-zero, lt_of_not-le, refl, sym, ap, ◌∙◌, arith}
-use Rattle.std.proofs.lemmas.List.{drop-drop, get_or-drop, get_or_default, get_or_past}
-use Rattle.std.proofs.lemmas.Bool.{true≢false}
+use Rattle.proof_words.proofs.{◌≡◌, ℕ, ◌+◌, ◌<◌, false, List, [], ◌∷◌, length, drop, get_or, add-zero, lt_of_not-le, refl, sym, ap, ◌∙◌, arith, drop-drop, get_or-drop, get_or_default, get_or_past, true≢false}
 use Rattle.json.specs.Token.{bad}
 use Rattle.json.specs.Text.{content, plain}
 use Rattle.json.specs.Word.{head, word}

@@ -1,17 +1,12 @@
 -- Numbers and literals, and where the lexer goes on behind them.
-use Rattle.std.proofs.Common.{◌≡◌, ℕ, ◌+◌, ◌-◌, ◌<◌, ◌≤◌, List, [], ◌∷◌, ◌++◌, length, take, drop, true, is_some, ◌&&◌, cond, nat_eq, Some, refl, sym, ap, ap₂, ◌∙◌, arith, drop-drop, length-append}
-use Rattle.std.proofs.lemmas.List.{length-drop, length-take-le, take-append-drop}
-use Rattle.std.proofs.lemmas.Bool.{false≢true}
-use Rattle.std.proofs.lemmas.Bool.Decides.{Decides-eqb}
-use Rattle.std.proofs.lemmas.Slice.Eq.{starts_is}
-use Rattle.std.specs.List.{starts_with}
+use Rattle.proof_words.proofs.{◌≡◌, ℕ, ◌+◌, ◌-◌, ◌<◌, ◌≤◌, List, [], ◌∷◌, ◌++◌, length, take, drop, true, is_some, ◌&&◌, cond, nat_eq, Some, refl, sym, ap, ap₂, ◌∙◌, arith, drop-drop, length-append, length-drop, length-take-le, take-append-drop, false≢true, Decides-eqb, starts_is, starts_with}
 use Rattle.json.specs.Token as spec
 use Rattle.json.specs.Token.{number, bad}
 use Rattle.json.specs.Word.{ends_word, literal, after_number, number_before}
 use Rattle.json.specs.Lex.{between, lex}
 use Rattle.json.specs.Align.{is_good}
 use Rattle.json.proofs.Printed.Numbers.{number_alone, lex-number}
-use Rattle.json_values.specs.Words.{IsLiteral}
+use Rattle.json_values.specs.{IsLiteral}
 
 -- w is t, which is good, and behind the n bytes from i on the next lexeme is looked for
 abbrev pub Stands : List ℕ → ℕ → spec.Token → spec.Token → ℕ → Type 0

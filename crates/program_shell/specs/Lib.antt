@@ -1,2 +1,3 @@
 pub mod Words
 pub mod Status
+pub use Words.{IsFound}

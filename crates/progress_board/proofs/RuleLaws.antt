@@ -1,15 +1,12 @@
 -- Each step keeps the rule of the board.
-use Rattle.std.proofs.Common.{◌≡◌, ◌≢◌, ℕ, zero, suc, ◌+◌, ◌<◌, ◌≤◌, ◌%◌, ◌^◌, true, false, true≢false, List, [], ◌∷◌, ◌++◌, length, max, get_or, set, sym, refl, ap, ◌∙◌, subst, ◌⊎◌, inl, inr, ⊎_elim, arith, replicate, sum}
+use Rattle.proof_words.proofs.{◌≡◌, ◌≢◌, ℕ, zero, suc, ◌+◌, ◌<◌, ◌≤◌, ◌%◌, ◌^◌, true, false, true≢false, List, [], ◌∷◌, ◌++◌, length, max, get_or, set, sym, refl, ap, ◌∙◌, subst, ◌⊎◌, inl, inr, ⊎_elim, arith, replicate, sum, get_or-set_same, get_or-set_other, length-set, get_or-replicate, length-replicate, sum_by-cons}
 use mathlib.Core.Option.{some, some-injective, some-ne-none}
 use mathlib.Core.Logic.{dite}
 use native.Mathlib.Decide.{ℕ_discrete}
 use lib.ListN.{get_elem?}
-use Rattle.std.proofs.lemmas.List.{get_or-set_same, get_or-set_other, length-set, get_or-replicate, length-replicate}
-use Rattle.std.proofs.lemmas.List.Sums.{sum_by-cons}
 use Rattle.atomic_table.specs.Table.{State, Me, Allows, Splits, keeps}
 use Rattle.atomic_table.proofs.Lists.{at_set, set_again}
-use Rattle.progress_board.specs.declared.rule.SeatView.{SeatView}
-use Rattle.progress_board.specs.Rule.{seat_view, dealer, dealt, hired, viewer, added_read, added_settled, SeesRead, SeesSettled, Fits, InOrder, Kept}
+use Rattle.progress_board.specs.{SeatView, seat_view, dealer, dealt, hired, viewer, added_read, added_settled, SeesRead, SeesSettled, Fits, InOrder, Kept}
 
 -- what a list holds after one write
 pub at_write : (xs : List ℕ) (i n q : ℕ) (P : ℕ → Type 0) → i < length xs → (q ≡ i → P n) → (q ≢ i → P (get_or xs q 0)) → P (get_or (set xs i n) q 0)

@@ -30,8 +30,7 @@ pub(crate) fn board_of(table: BoardTable, workers: usize) -> Board
 }
 
 impl Board {
-    ghost use Rattle.progress_board.specs.Seats.{CameWith, IsLater, SameSeat, read_refusal, settled_refusal};
-    ghost use Rattle.progress_board.specs.Seats.{seen_read, seen_settled, SeesItself};
+    ghost use Rattle.progress_board.specs.Seats.{CameWith, IsLater, SameSeat, read_refusal, settled_refusal, seen_read, seen_settled, SeesItself};
 
     /// What all workers have settled and what they have read, as this seat has seen it then, in this order.
     ///

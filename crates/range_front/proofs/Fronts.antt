@@ -1,13 +1,7 @@
 -- The front of ends, a mark and ranges: what each reading of it is, and what each change makes of it.
-use Rattle.std.proofs.Common.{◌≡◌, inl, inr, ℕ, suc, ◌<◌, ◌≤◌, ◌^◌, Bool, true, false, ◌&&◌, ◌||◌, eqb, List, [], ◌∷◌, ◌++◌, length, slice_get, Some, Ok, Err, ◌-◌, refl, sym, ap, ◌∙◌, subst, arith}
-use Rattle.std.proofs.lemmas.Bool.{eqb-true, ne_eqb, and_parts, and_left, and_right, and_from, or_cases, cond-true, cond-false, lt-leb}
-use Rattle.std.proofs.lemmas.List.{map_push}
-use Rattle.range_front.specs.declared.ranges.DoneRange.{DoneRange}
+use Rattle.proof_words.proofs.{◌≡◌, inl, inr, ℕ, suc, ◌<◌, ◌≤◌, ◌^◌, Bool, true, false, ◌&&◌, ◌||◌, eqb, List, [], ◌∷◌, ◌++◌, length, slice_get, Some, Ok, Err, ◌-◌, refl, sym, ap, ◌∙◌, subst, arith, eqb-true, ne_eqb, and_parts, and_left, and_right, and_from, or_cases, cond-true, cond-false, lt-leb, map_push}
+use Rattle.range_front.specs.{DoneRange, FrontWindow, end_from, end_of, appended, finished, finished_from, finish_answer, is_done, is_window, low_water, range_count, run_count, Rises, IsFront, Rising, has_window, IsBound, Apart, AtBounds, covers, joined, marked, front_of, IsKept, window_in, done_in, low_in, low_in-is, run_count-done, run_count-open, run_count-above, IsFront-appended, IsFront-finished, finish_answer-no_window, finish_answer-done, finish_answer-ok}
 use Rattle.range_front.specs.declared.fault.FrontFault.TheVariants as faults
-use Rattle.range_front.specs.Front.{FrontWindow, end_from, end_of, appended, finished, finished_from, finish_answer, is_done, is_window, low_water, range_count, run_count, Rises, IsFront}
-use Rattle.range_front.specs.Ranges.{Rising, has_window, IsBound, Apart, AtBounds, covers, joined, marked, front_of, IsKept}
-use Rattle.range_front.specs.WindowLaws.{window_in, done_in, low_in, low_in-is, run_count-done, run_count-open, run_count-above}
-use Rattle.range_front.specs.FrontLaws.{IsFront-appended, IsFront-finished, finish_answer-no_window, finish_answer-done, finish_answer-ok}
 use Rattle.range_front.proofs.RisingEnds.{bound-first, bound-le, bound-next, bound-append, has-within}
 use Rattle.range_front.proofs.Cover.{AllUnder, cover-low, cover-high, cover-under, cover-above}
 use Rattle.range_front.proofs.Joins.{Clear, Grown, clear-from, joined-grown, joined-apart, joined-bounds}

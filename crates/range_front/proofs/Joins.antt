@@ -1,10 +1,6 @@
 -- A window joined to the mark or put among the ranges: what is covered then, and that the ranges stay apart.
-use Rattle.std.proofs.Common.{◌≡◌, ◌⊎◌, inl, inr, ℕ, zero, suc, ◌<◌, ◌≤◌, Bool, true, false, cond, leb, eqb, List, [], ◌∷◌, ◌++◌, length, take, drop, set, get_or, slice_get, Some, add-one, ◌+◌, refl, sym, ap, ◌∙◌, arith}
-use Rattle.std.proofs.lemmas.Bool.{le-leb, lt-leb, leb-true, leb-false, eqb-true, eqb-false, eq-eqb, ne_eqb, cond-true, cond-false, cond_both, cases_lt, both_ways}
-use Rattle.std.proofs.lemmas.Option.{slice_get_within, slice_get_read, get_or_from_slice_get}
-use Rattle.std.specs.List.{insert}
-use Rattle.range_front.specs.declared.ranges.DoneRange.{DoneRange}
-use Rattle.range_front.specs.Ranges.{Apart, AtBounds, IsBound, Rising, has_window, covers, absorbed, put_at, put_in, joined}
+use Rattle.proof_words.proofs.{◌≡◌, ◌⊎◌, inl, inr, ℕ, zero, suc, ◌<◌, ◌≤◌, Bool, true, false, cond, leb, eqb, List, [], ◌∷◌, ◌++◌, length, take, drop, set, get_or, slice_get, Some, add-one, ◌+◌, refl, sym, ap, ◌∙◌, arith, le-leb, lt-leb, leb-true, leb-false, eqb-true, eqb-false, eq-eqb, ne_eqb, cond-true, cond-false, cond_both, cases_lt, both_ways, slice_get_within, slice_get_read, get_or_from_slice_get, insert}
+use Rattle.range_front.specs.{DoneRange, Apart, AtBounds, IsBound, Rising, has_window, covers, absorbed, put_at, put_in, joined}
 use Rattle.range_front.proofs.RisingEnds.{bound-apart}
 use Rattle.range_front.proofs.Cover.{cover-low, cover-high, cover-under, EndBelow, end-below-next}
 

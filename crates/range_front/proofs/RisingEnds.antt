@@ -1,10 +1,6 @@
 -- The rising ends: the window that an end found by halving belongs to.
-use Rattle.std.proofs.Common.{◌≡◌, ◌⊎◌, inl, inr, ℕ, zero, suc, ◌<◌, ◌≤◌, ◌-◌, Bool, true, false, ◌&&◌, ◌||◌, eqb, List, [], ◌∷◌, ◌++◌, length, get_or, Result, Ok, Err, refl, ap, ◌∙◌, arith}
-use Rattle.std.proofs.lemmas.Bool.{ne_eqb, eq-eqb, eqb-true, and_right, and_parts, or_from, or_cases, cases_lt}
-use Rattle.std.proofs.lemmas.List.Sorted.{searched}
-use Rattle.std.specs.List.Sorted.{IsBinarySearchResult}
-use Rattle.std.specs.Ordering.{nat_cmp}
-use Rattle.range_front.specs.Ranges.{Rising, has_window, IsBound}
+use Rattle.proof_words.proofs.{◌≡◌, ◌⊎◌, inl, inr, ℕ, zero, suc, ◌<◌, ◌≤◌, ◌-◌, Bool, true, false, ◌&&◌, ◌||◌, eqb, List, [], ◌∷◌, ◌++◌, length, get_or, Result, Ok, Err, refl, ap, ◌∙◌, arith, ne_eqb, eq-eqb, eqb-true, and_right, and_parts, or_from, or_cases, cases_lt, searched, IsBinarySearchResult, nat_cmp}
+use Rattle.range_front.specs.{Rising, has_window, IsBound}
 
 from-le : (from : ℕ) (es : List ℕ) (j : ℕ) → Rising from es → j < length es → from < get_or es j 0
 from-le from [] j h l = absurd (omega (arith, l))

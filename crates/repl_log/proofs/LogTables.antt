@@ -1,19 +1,9 @@
 -- The table of logs by replication: what a put writes, and what a copy holds.
-use Rattle.std.proofs.Common.{◌≡◌, ℕ, zero, suc, ◌+◌, Bool, true, false, cond, List, [], ◌∷◌, ◌++◌, take, Option, Some, None, Ok, refl, sym, ap, ◌∙◌}
-use Rattle.std.specs.List.{slice_get, IsDistinct, AllByRecursion}
-use Rattle.std.specs.Map.{keys_of, lookup, set_value}
-use Rattle.std.proofs.lemmas.Bool.{both_ways, false_from_ne_true}
-use Rattle.std.proofs.lemmas.List.{take_more}
-use Rattle.std.proofs.lemmas.Option.{same_Some, slice_get_within, get_or_from_slice_get}
+use Rattle.proof_words.proofs.{◌≡◌, ℕ, zero, suc, ◌+◌, Bool, true, false, cond, List, [], ◌∷◌, ◌++◌, take, Option, Some, None, Ok, refl, sym, ap, ◌∙◌, slice_get, IsDistinct, AllByRecursion, keys_of, lookup, set_value, both_ways, false_from_ne_true, take_more, same_Some, slice_get_within, get_or_from_slice_get}
 use Rattle.indexmap.specs.IndexMap.{insert_entry}
 use Rattle.indexmap.proofs.MapLemmas.{insert_entry-absent}
 use Rattle.repl_log.specs.declared.replication.RepId.{RepId}
-use Rattle.repl_log.specs.Entry.{EntryValue}
-use Rattle.repl_log.specs.Log.{with_entry, put_answer}
-use Rattle.repl_log.specs.RepId.{same_rep}
-use Rattle.repl_log.specs.RepIdLaws.{same_rep-is, same_rep-self}
-use Rattle.repl_log.specs.Logs.{logs_with, put_answer_in}
-use Rattle.repl_log.specs.LogsLaws.{LogsValue, log_in-absent}
+use Rattle.repl_log.specs.{EntryValue, with_entry, put_answer, same_rep, same_rep-is, same_rep-self, logs_with, put_answer_in, LogsValue, log_in-absent}
 
 -- ---- a put
 

@@ -1,10 +1,9 @@
 -- What a log's text and those of its entries are made of, and how it grows piece by piece.
-use Rattle.std.proofs.Common.{◌≡◌, ℕ, false, List, [], ◌∷◌, ◌++◌, codes, decimal, refl, ap, ◌∙◌, append_assoc}
+use Rattle.proof_words.proofs.{◌≡◌, ℕ, false, List, [], ◌∷◌, ◌++◌, codes, decimal, refl, ap, ◌∙◌, append_assoc}
 use Rattle.json.specs.Print.{escape_byte, quoted}
 use Rattle.serde_json.specs.Data.{Items}
 use Rattle.serde_json.specs.Written.{compact_text, items_text}
-use Rattle.repl_log.specs.Entry.{EntryValue}
-use Rattle.repl_log.specs.Text.{entry_with, log_with}
+use Rattle.repl_log.specs.{EntryValue, entry_with, log_with}
 
 -- one piece more stands there, and one less is left
 pub moved : {all : List ℕ} (out piece left new : List ℕ) → out ++ (piece ++ left) ≡ all → new ≡ out ++ piece → new ++ left ≡ all

@@ -1,18 +1,11 @@
 -- The table of a log's sessions, and the log that contracts see.
-use Rattle.std.proofs.Common.{◌≡◌, ◌<◌, ◌≤◌, nat_lt, false, List, ◌∷◌, ◌++◌, [], Option, Some, None, is_some, Ok, Err, refl, sym, ap, ◌∙◌, subst}
-use Rattle.std.specs.Option.{option_map}
-use Rattle.std.specs.Map.{lookup, set_value}
-use Rattle.std.proofs.lemmas.Bool.{cond-true, cond-false, le-ltb, lt-ltb}
+use Rattle.proof_words.proofs.{◌≡◌, ◌<◌, ◌≤◌, nat_lt, false, List, ◌∷◌, ◌++◌, [], Option, Some, None, is_some, Ok, Err, refl, sym, ap, ◌∙◌, subst, option_map, lookup, set_value, cond-true, cond-false, le-ltb, lt-ltb}
 use Rattle.indexmap.specs.IndexMap.{IndexMap, insert_entry}
 use Rattle.indexmap.proofs.CallerLemmas.{insert_entry-new}
-use Rattle.rev_tree.specs.declared.origin.SessionId.{SessionId}
+use Rattle.rev_tree.specs.{SessionId}
 use Rattle.repl_log.specs.declared.entry.Entry.{Entry}
 use Rattle.repl_log.specs.declared.fault.LogFault.TheVariants as faults
-use Rattle.repl_log.specs.Entry.{EntryValue, IsSound, value_of}
-use Rattle.repl_log.specs.Log.{IsLog, holds, entry_for, replaced, recorded_of, with_entry, put_beside, put_answer}
-use Rattle.repl_log.specs.LogLaws.{IsLog-with_entry}
-use Rattle.repl_log.specs.Stored.{at_session, newest_first, IsKeyed}
-use Rattle.repl_log.specs.StoredLaws.{EachSessionOnce, insert_entry-present, find-lookup, any-lookup, newest_first-set, newest_first-push, IsKeyed-set, IsKeyed-push}
+use Rattle.repl_log.specs.{EntryValue, IsSound, value_of, IsLog, holds, entry_for, replaced, recorded_of, with_entry, put_beside, put_answer, IsLog-with_entry, at_session, newest_first, IsKeyed, EachSessionOnce, insert_entry-present, find-lookup, any-lookup, newest_first-set, newest_first-push, IsKeyed-set, IsKeyed-push}
 
 abbrev pub Entries : Type 0
 Entries = List (SessionId × Entry)

@@ -1,14 +1,10 @@
 -- Chains of hops by a hub.
-use Rattle.std.proofs.Common.{◌≡◌, ℕ, zero, suc, ◌+◌, ◌<◌, ◌≤◌, List, [], ◌∷◌, ◌++◌, length, take, get_or, refl, sym, ap, ◌∙◌, subst, inl, inr, arith}
-use Rattle.std.proofs.lemmas.Bool.{cases_lt}
-use Rattle.std.proofs.lemmas.List.{append_assoc}
+use Rattle.proof_words.proofs.{◌≡◌, ℕ, zero, suc, ◌+◌, ◌<◌, ◌≤◌, List, [], ◌∷◌, ◌++◌, length, take, get_or, refl, sym, ap, ◌∙◌, subst, inl, inr, arith, cases_lt, append_assoc}
 use Rattle.std.proofs.Math.Seq.{take-suc}
-use Rattle.couch_base.specs.Database.{Id}
-use Rattle.repl_peer.specs.peer.Peer.{PeerValue}
-use Rattle.repl_target.specs.declared.replication.Plan.{Plan}
-use Rattle.repl_net.specs.declared.hop.Hop.{Hop}
-use Rattle.repl_net.specs.Nets.{AreTied, AllChoose, Leads, LeadsEverywhere, Spread}
-use Rattle.repl_net.specs.Hubs.{gathers, spreads, AllPlansChoose, HubSpread}
+use Rattle.couch_base.specs.{Id}
+use Rattle.repl_peer.specs.{PeerValue}
+use Rattle.repl_target.specs.{Plan}
+use Rattle.repl_net.specs.{Hop, AreTied, AllChoose, Leads, LeadsEverywhere, Spread, gathers, spreads, AllPlansChoose, HubSpread}
 
 -- ---- chains
 

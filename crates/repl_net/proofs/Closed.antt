@@ -1,33 +1,16 @@
 -- A net stays closed: what its sessions and logs speak of was replicated between two of its peers.
-use Rattle.std.proofs.Common.{◌≡◌, ◌≢◌, ◌⊎◌, ℕ, zero, suc, Bool, List, [], ◌∷◌, ◌++◌, length, slice_get, Option, is_some, unwrap_or, Result, Ok, Err, refl, sym, ap, ◌∙◌, subst, inl, inr}
-use Rattle.std.proofs.lemmas.Bool.{false≢true}
-use Rattle.rev_core.specs.Rev.{RevId}
+use Rattle.proof_words.proofs.{◌≡◌, ◌≢◌, ◌⊎◌, ℕ, zero, suc, Bool, List, [], ◌∷◌, ◌++◌, length, slice_get, Option, is_some, unwrap_or, Result, Ok, Err, refl, sym, ap, ◌∙◌, subst, inl, inr, false≢true}
+use Rattle.rev_core.specs.{RevId}
 use Rattle.doc_json.specs.Document.{Document}
-use Rattle.doc_json.specs.Chosen.{Choice}
-use Rattle.couch_base.specs.Lists.{Among}
-use Rattle.couch_base.specs.Database.{Id}
-use Rattle.couch_base.specs.Edit.{edited, edit_document}
-use Rattle.couch_base.specs.declared.fault.BaseFault.{BaseFault}
+use Rattle.doc_json.specs.{Choice}
+use Rattle.couch_base.specs.{Among, Id, edited, edit_document, BaseFault}
 use Rattle.repl_log.specs.declared.replication.RepId.{RepId}
-use Rattle.repl_log.specs.Entry.{EntryValue}
-use Rattle.repl_log.specs.Logs.{log_in}
-use Rattle.repl_peer.specs.declared.fault.TargetFault.{TargetFault}
-use Rattle.repl_peer.specs.peer.Peer.{PeerValue, SessionValue, new_peer}
-use Rattle.repl_peer.specs.peer.Writing.{after_load, after_edit}
-use Rattle.repl_peer.specs.logs.Checkpoint.{rep_between}
-use Rattle.repl_peer.specs.logs.Logs.{put_by, put_entry_answer}
-use Rattle.repl_target.specs.ties.Ties.{IsTiedPair}
-use Rattle.repl_target.specs.replication.Replication.{beginning_between, after_begins}
-use Rattle.repl_target.specs.replication.Calls.{Begin, IsLeft}
-use Rattle.repl_target.specs.declared.replication.Plan.{Plan}
-use Rattle.repl_target.proofs.lemmas.replication.OthersStayTied.{left_log}
-use Rattle.repl_target.proofs.lemmas.replication.CallLaws.{Stays, call_keeps, each-kept}
-use Rattle.repl_target.proofs.lemmas.replication.FetchedDocuments.{of_run, run_keeps}
-use Rattle.repl_target.specs.replication.Leaves.{IsPut}
-use Rattle.repl_target.proofs.lemmas.ties.TiedPeersStay.{log_with}
-use Rattle.repl_net.specs.declared.hop.Hop.{Hop}
-use Rattle.repl_net.specs.Nets.{IsAt, IsHeld, AreClosed, IsNet, peers_of}
-use Rattle.repl_net.specs.Hopped.{Hopped, IsChangedAt}
+use Rattle.repl_log.specs.{EntryValue, log_in}
+use Rattle.repl_peer.specs.{TargetFault, PeerValue, SessionValue, new_peer, after_load, after_edit, rep_between, put_by, put_entry_answer}
+use Rattle.repl_target.specs.{IsTiedPair, beginning_between, after_begins, Begin, IsLeft, Plan, IsPut}
+use Rattle.repl_target.proofs.{left_log, Stays, call_keeps, each-kept, of_run, run_keeps, log_with}
+use Rattle.repl_net.specs.{Hop, IsAt, IsHeld, AreClosed, IsNet, peers_of, IsChangedAt}
+use Rattle.repl_net.specs.Hopped.{Hopped}
 use Rattle.repl_net.proofs.Hops as hops
 use Rattle.repl_net.proofs.Writes as writes
 

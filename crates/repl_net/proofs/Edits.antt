@@ -1,30 +1,12 @@
 -- The document that an edit puts is cut off nowhere but at what its peer has.
-use Rattle.std.proofs.Common.{◌≡◌, ◌⊎◌, ℕ, ◌^◌, Bool, true, false, cond, List, [], ◌∷◌, Option, Some, None, is_some, unwrap_or, Result, Ok, Err, refl, sym, ap, ◌∙◌, subst, inl, inr}
-use Rattle.std.specs.Prelude.{nat_lt, is_ok}
-use Rattle.std.specs.List.{list_all}
-use Rattle.std.specs.Option.{option_to_list}
-use Rattle.std.specs.Result.{result_unwrap_or}
-use Rattle.std.specs.FinMap.{find, get-empty}
-use Rattle.std.specs.Ordering.{eq_by_cmp}
-use Rattle.std.proofs.lemmas.Bool.{false≢true, and_parts, or_cases, or_left}
-use Rattle.std.proofs.lemmas.Option.{same_Some}
-use Rattle.rev_core.specs.Rev.{RevId, rev_cmp}
-use Rattle.rev_core.specs.RevOrder.{rev_tie_is, rev_tie_self}
-use Rattle.rev_core.specs.Ancestry.{edges_of, is_among}
-use Rattle.rev_core.specs.Checks.{◌>>=◌, refused_if, named}
-use Rattle.rev_core.specs.NewRev.{next_generation, edit_sig, edit_rev}
-use Rattle.rev_tree.specs.InOrder.{first_of}
-use Rattle.rev_tree.specs.Tree.{TreeValue, has, is_leaf, is_deleted, leaves, no_revisions}
-use Rattle.rev_tree.specs.TreeLaws.{has-merged}
-use Rattle.rev_tree.specs.LeafLaws.{is_among-leaves}
-use Rattle.rev_tree.specs.Agreement.{IsRoot}
+use Rattle.proof_words.proofs.{◌≡◌, ◌⊎◌, ℕ, ◌^◌, Bool, true, false, cond, List, [], ◌∷◌, Option, Some, None, is_some, unwrap_or, Result, Ok, Err, refl, sym, ap, ◌∙◌, subst, inl, inr, nat_lt, is_ok, list_all, option_to_list, result_unwrap_or, get-empty, eq_by_cmp, false≢true, and_parts, or_cases, or_left, same_Some}
+use Rattle.std.specs.FinMap.{find}
+use Rattle.rev_core.specs.{RevId, rev_cmp, rev_tie_is, rev_tie_self, edges_of, is_among, ◌>>=◌, refused_if, named, next_generation, edit_sig, edit_rev}
+use Rattle.rev_tree.specs.{first_of, TreeValue, has, is_leaf, is_deleted, leaves, no_revisions, has-merged, is_among-leaves, IsRoot}
 use Rattle.rev_tree.specs.declared.origin.Origin.TheVariants.{Local}
-use Rattle.couch_base.specs.Put.{content_of}
-use Rattle.couch_base.specs.Database.{Id, DatabaseValue, tree_in, tree_of}
-use Rattle.couch_base.specs.Edit.{parent_answer, edit_id, edited, edit_document}
-use Rattle.couch_base.specs.declared.fault.BaseFault.{BaseFault}
+use Rattle.couch_base.specs.{content_of, Id, DatabaseValue, tree_in, tree_of, parent_answer, edit_id, edited, edit_document, BaseFault}
 use Rattle.couch_base.specs.declared.fault.BaseFault.TheVariants as faults
-use Rattle.repl_net.specs.Nets.{tree_alone, IsRooted}
+use Rattle.repl_net.specs.{tree_alone, IsRooted}
 use Rattle.repl_net.proofs.Trees.{alone}
 
 -- ---- what an edit makes

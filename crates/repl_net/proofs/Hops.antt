@@ -1,27 +1,15 @@
 -- What replications in a net leave: its peers stay tied, and documents spread along chains of them.
-use Rattle.std.proofs.Common.{◌≡◌, ◌≢◌, ◌⊎◌, ℕ, ◌==◌, true, List, [], ◌∷◌, length, Option, unwrap_or, refl, sym, ap, ◌∙◌, subst, inl, inr}
-use Rattle.std.proofs.lemmas.Bool.{cases_Bool, eqb-true, eqb-false, and_parts}
-use Rattle.std.proofs.lemmas.Option.{slice_get_within}
-use Rattle.rev_core.specs.Rev.{RevId}
-use Rattle.rev_tree.specs.Tree.{TreeValue, has, is_leaf}
-use Rattle.rev_tree.specs.AgreementLaws.{IsGrownBy-same, all_known, same_by_leaves, same_leaves}
-use Rattle.doc_json.specs.Chosen.{Choice, is_chosen}
-use Rattle.couch_base.specs.Database.{Id, DatabaseValue, LawfulDatabase, tree_of}
-use Rattle.repl_peer.specs.peer.Peer.{PeerValue}
-use Rattle.repl_peer.specs.peer.Later.{IsLaterPeer}
-use Rattle.repl_peer.proofs.lemmas.peer.LaterPeers.{IsLaterPeer-same}
-use Rattle.repl_peer.proofs.lemmas.logs.PutChangesLogsAlone.{logs_later}
-use Rattle.repl_target.specs.Audit.{CoversFeed}
-use Rattle.repl_target.specs.ties.Ties.{IsTiedPair, IsTiedWith}
-use Rattle.repl_target.proofs.lemmas.replication.FetchedDocuments.{tree_lawful}
-use Rattle.repl_target.proofs.lemmas.replication.EmptyTargetCopied.{leaf_covered}
-use Rattle.repl_target.proofs.lemmas.replication.ReplicationAsCalls.{left_law}
-use Rattle.repl_target.proofs.lemmas.replication.BothWays.{left_grown, covered_stands}
-use Rattle.repl_target.proofs.lemmas.replication.OthersStayTied.{turned_tied}
-use Rattle.repl_target.specs.replication.Leaves.{HasGrownBy}
-use Rattle.repl_net.specs.declared.hop.Hop.{Hop}
-use Rattle.repl_net.specs.Nets.{IsAt, AreTied, AllAgree, AllWhole, IsRefusedNowhere, IsSameEverywhere, AllChoose, Leads, LeadsEverywhere, Spread}
-use Rattle.repl_net.specs.Hopped.{Hopped, AllHopped, AllLawful}
+use Rattle.proof_words.proofs.{◌≡◌, ◌≢◌, ◌⊎◌, ℕ, ◌==◌, true, List, [], ◌∷◌, length, Option, unwrap_or, refl, sym, ap, ◌∙◌, subst, inl, inr, cases_Bool, eqb-true, eqb-false, and_parts, slice_get_within}
+use Rattle.rev_core.specs.{RevId}
+use Rattle.rev_tree.specs.{TreeValue, has, is_leaf, IsGrownBy-same, all_known, same_by_leaves, same_leaves}
+use Rattle.doc_json.specs.{Choice, is_chosen}
+use Rattle.couch_base.specs.{Id, DatabaseValue, LawfulDatabase, tree_of}
+use Rattle.repl_peer.specs.{PeerValue, IsLaterPeer}
+use Rattle.repl_peer.proofs.{IsLaterPeer-same, logs_later}
+use Rattle.repl_target.specs.{CoversFeed, IsTiedPair, IsTiedWith, HasGrownBy}
+use Rattle.repl_target.proofs.{tree_lawful, leaf_covered, left_law, left_grown, covered_stands, turned_tied}
+use Rattle.repl_net.specs.{Hop, IsAt, AreTied, AllAgree, AllWhole, IsRefusedNowhere, IsSameEverywhere, AllChoose, Leads, LeadsEverywhere, Spread, AllHopped, AllLawful}
+use Rattle.repl_net.specs.Hopped.{Hopped}
 use Rattle.repl_net.proofs.Trees.{Agree-both, IsWhole-grown}
 use Rattle.repl_net.proofs.Writes.{one_peer}
 

@@ -1,29 +1,11 @@
 -- What edits alone have made agrees, where no two of them have one MD5; and it stays made by them.
-use Rattle.std.proofs.Common.{◌≡◌, ℕ, Bool, true, false, List, [], ◌∷◌, ◌++◌, ◌⊎◌, length, Option, Some, None, is_some, Result, Ok, Err, refl, sym, ap, ◌∙◌, subst, inl, inr}
-use Rattle.std.specs.Str.{bytes_eq}
-use Rattle.std.specs.Option.{option_to_list}
-use Rattle.std.specs.FinMap.{get, get-empty}
-use Rattle.std.specs.Ordering.{eq_by_cmp}
-use Rattle.std.proofs.lemmas.Bool.{false≢true, cases_Bool, cond_both}
-use Rattle.std.proofs.lemmas.Option.{same_Some}
-use Rattle.std.proofs.lemmas.Slice.Eq.{bytes_eq-Decides}
-use Rattle.rev_core.specs.Rev.{RevId, rev_cmp}
-use Rattle.rev_core.specs.RevOrder.{rev_tie_is}
-use Rattle.rev_core.specs.Ancestry.{edges_of}
-use Rattle.rev_core.specs.NewRev.{edit_rev}
-use Rattle.rev_tree.specs.Content.{ContentValue}
-use Rattle.rev_tree.specs.Tree.{TreeValue, at_head}
-use Rattle.rev_tree.specs.Agreement.{Agree, IsGrownBy}
-use Rattle.couch_base.specs.Database.{Id, tree_of}
-use Rattle.couch_base.specs.Put.{content_of}
-use Rattle.couch_base.specs.Edit.{edited, edit_document}
-use Rattle.couch_base.specs.declared.fault.BaseFault.{BaseFault}
-use Rattle.repl_peer.specs.peer.Peer.{PeerValue, new_peer}
-use Rattle.repl_peer.specs.peer.Writing.{after_edit}
-use Rattle.repl_net.specs.declared.hop.Hop.{Hop}
-use Rattle.repl_net.specs.Nets.{IsAt, peers_of, tree_alone, IsRooted, IsRootedAt}
-use Rattle.repl_net.specs.Hopped.{Hopped, IsChangedAt}
-use Rattle.repl_net.specs.Made.{EditValue, Makes, IsMadeBy, AllMadeBy, HaveNoCollision, IsOneOf, MadeAgree, StaysMade}
+use Rattle.proof_words.proofs.{◌≡◌, ℕ, Bool, true, false, List, [], ◌∷◌, ◌++◌, ◌⊎◌, length, Option, Some, None, is_some, Result, Ok, Err, refl, sym, ap, ◌∙◌, subst, inl, inr, bytes_eq, option_to_list, get, get-empty, eq_by_cmp, false≢true, cases_Bool, cond_both, same_Some, bytes_eq-Decides}
+use Rattle.rev_core.specs.{RevId, rev_cmp, rev_tie_is, edges_of, edit_rev}
+use Rattle.rev_tree.specs.{ContentValue, TreeValue, at_head, Agree, IsGrownBy}
+use Rattle.couch_base.specs.{Id, tree_of, content_of, edited, edit_document, BaseFault}
+use Rattle.repl_peer.specs.{PeerValue, new_peer, after_edit}
+use Rattle.repl_net.specs.{Hop, IsAt, peers_of, tree_alone, IsRooted, IsRootedAt, IsChangedAt, EditValue, Makes, IsMadeBy, AllMadeBy, HaveNoCollision, IsOneOf, MadeAgree, StaysMade}
+use Rattle.repl_net.specs.Hopped.{Hopped}
 use Rattle.repl_net.proofs.Trees.{alone, IsWhole-grown}
 use Rattle.repl_net.proofs.Edits.{edit_rooted, edit_makes, sig_of}
 use Rattle.repl_net.proofs.Closed.{old_or_new, peers_more}

@@ -1,21 +1,11 @@
 -- Two peers of a slice that was split between them.
-use Rattle.std.proofs.Common.{◌≡◌, ◌≢◌, ℕ, zero, suc, ◌+◌, ◌<◌, ◌≤◌, Bool, List, [], ◌∷◌, ◌++◌, length, take, drop, slice_get, slice_set, get_or, option_map, Option, Some, unwrap_or, Result, Ok, Err, OnOk, refl, sym, ap, ◌∙◌, subst, inl, inr, arith}
-use Rattle.std.proofs.lemmas.Bool.{cases_lt}
-use Rattle.std.proofs.lemmas.Option.{slice_get-map, slice_get-get_or, slice_get_within}
-use Rattle.std.proofs.lemmas.List.{length-map}
+use Rattle.proof_words.proofs.{◌≡◌, ◌≢◌, ℕ, zero, suc, ◌+◌, ◌<◌, ◌≤◌, Bool, List, [], ◌∷◌, ◌++◌, length, take, drop, slice_get, slice_set, get_or, option_map, Option, Some, unwrap_or, Result, Ok, Err, OnOk, refl, sym, ap, ◌∙◌, subst, inl, inr, arith, cases_lt, slice_get-map, slice_get-get_or, slice_get_within, length-map}
 use Rattle.doc_json.specs.Document.{Document}
-use Rattle.repl_peer.specs.peer.Peer.{PeerValue}
-use Rattle.repl_target.specs.Audit.{CoversFeed}
-use Rattle.repl_target.specs.ties.Ties.{IsTiedPair}
-use Rattle.repl_net.specs.declared.hop.Hop.{Hop}
-use Rattle.doc_json.specs.Chosen.{Choice}
-use Rattle.repl_net.specs.Nets.{IsAt, AreTied, peers_of, filters_of}
-use Rattle.repl_peer.specs.declared.fault.Report.{Report}
-use Rattle.repl_peer.specs.declared.fault.TargetFault.{TargetFault}
-use Rattle.repl_target.specs.replication.Replication.{Replicates}
-use Rattle.repl_net.specs.declared.fault.NetFault.{NetFault}
-use Rattle.repl_net.specs.Taken.{IsHop, TakesHop, TakesHops}
-use Rattle.repl_net.specs.Hopped.{Carried, Hopped, Ended, AllHopped, IsChangedAt}
+use Rattle.repl_peer.specs.{PeerValue, Report, TargetFault}
+use Rattle.repl_target.specs.{CoversFeed, IsTiedPair, Replicates}
+use Rattle.repl_net.specs.{Hop, IsAt, AreTied, peers_of, filters_of, NetFault, IsHop, TakesHop, TakesHops, Carried, Ended, AllHopped, IsChangedAt}
+use Rattle.doc_json.specs.{Choice}
+use Rattle.repl_net.specs.Hopped.{Hopped}
 
 -- ---- places in two lists that are joined
 

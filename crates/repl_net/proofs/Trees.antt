@@ -1,15 +1,8 @@
 -- Trees that each grow by what one of them has, or by what is written.
-use Rattle.std.proofs.Common.{◌≡◌, ◌⊎◌, true, List, Option, Some, sym, ap, ◌∙◌, inl, inr}
-use Rattle.std.specs.Option.{option_map_or, option_or}
-use Rattle.std.specs.FinMap.{get, find, empty, get-empty}
-use Rattle.std.proofs.lemmas.Bool.{or_cases}
-use Rattle.rev_core.specs.Rev.{RevId, rev_cmp}
-use Rattle.rev_core.specs.Ancestry.{edges_of}
-use Rattle.rev_tree.specs.Content.{ContentValue}
-use Rattle.rev_tree.specs.Tree.{TreeValue, has, joined, merged, at_head, no_revisions}
-use Rattle.rev_tree.specs.TreeLaws.{some_or, both_none, get-joined, get-joined_known, has-merged, has-merged_given}
-use Rattle.rev_tree.specs.Agreement.{Agree, IsWhole, IsRoot, IsGrownBy}
-use Rattle.rev_tree.specs.declared.origin.Origin.{Origin}
+use Rattle.proof_words.proofs.{◌≡◌, ◌⊎◌, true, List, Option, Some, sym, ap, ◌∙◌, inl, inr, option_map_or, option_or, get, empty, get-empty, or_cases}
+use Rattle.std.specs.FinMap.{find}
+use Rattle.rev_core.specs.{RevId, rev_cmp, edges_of}
+use Rattle.rev_tree.specs.{ContentValue, TreeValue, has, joined, merged, at_head, no_revisions, some_or, both_none, get-joined, get-joined_known, has-merged, has-merged_given, Agree, IsWhole, IsRoot, IsGrownBy, Origin}
 
 one_told : {X : Type 0} (o : Option X) (x y : X) → o ≡ Some x → o ≡ Some y → x ≡ y
 one_told {X = X} o x y h k = ap (λ (v : Option X). option_map_or (λ w. w) v x) (sym h ∙ k)

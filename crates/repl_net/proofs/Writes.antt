@@ -1,31 +1,16 @@
 -- What a write at one peer of a net leaves: its peers stay tied, and trees that agree go on doing so where it fits.
-use Rattle.std.proofs.Common.{◌≡◌, ◌≢◌, ◌⊎◌, ℕ, ◌==◌, Bool, true, false, cond, List, slice_get, Option, Some, unwrap_or, Result, Ok, Err, refl, sym, ap, ◌∙◌, subst, inl, inr}
-use Rattle.std.specs.Str.{bytes_eq}
-use Rattle.std.proofs.lemmas.Bool.{cases_Bool, cond_both, eqb-true, eqb-false}
-use Rattle.std.proofs.lemmas.Slice.Eq.{bytes_eq-Decides}
-use Rattle.rev_core.specs.Rev.{RevId}
-use Rattle.rev_tree.specs.Tree.{TreeValue, has, merged, no_revisions}
-use Rattle.rev_tree.specs.Agreement.{Agree, IsWhole, IsRoot, IsGrownBy}
-use Rattle.rev_tree.specs.AgreementLaws.{IsGrownBy-same}
-use Rattle.rev_tree.specs.declared.origin.Origin.{Origin}
+use Rattle.proof_words.proofs.{◌≡◌, ◌≢◌, ◌⊎◌, ℕ, ◌==◌, Bool, true, false, cond, List, slice_get, Option, Some, unwrap_or, Result, Ok, Err, refl, sym, ap, ◌∙◌, subst, inl, inr, bytes_eq, cases_Bool, cond_both, eqb-true, eqb-false, bytes_eq-Decides}
+use Rattle.rev_core.specs.{RevId}
+use Rattle.rev_tree.specs.{TreeValue, has, merged, no_revisions, Agree, IsWhole, IsRoot, IsGrownBy, IsGrownBy-same, Origin}
 use Rattle.rev_tree.specs.declared.origin.Origin.TheVariants.{Local}
 use Rattle.doc_json.specs.Document.{Document}
-use Rattle.doc_json.specs.Chosen.{Choice}
-use Rattle.couch_base.specs.Database.{Id, DatabaseValue, tree_in, tree_of, with_tree}
-use Rattle.couch_base.specs.WriteLaws.{tree_in-with_tree}
-use Rattle.couch_base.specs.Put.{put_answer, is_changed, content_of, after_put}
-use Rattle.repl_peer.specs.peer.Peer.{PeerValue}
-use Rattle.repl_peer.specs.peer.Later.{IsLaterPeer}
-use Rattle.repl_peer.specs.peer.Writing.{next_local, after_load, load_edited, after_edit}
-use Rattle.couch_base.specs.Edit.{edited, edit_document}
-use Rattle.couch_base.specs.declared.fault.BaseFault.{BaseFault}
-use Rattle.repl_peer.proofs.lemmas.peer.CallsKeepLaw.{load_later}
-use Rattle.repl_peer.proofs.lemmas.peer.LaterPeers.{IsLaterPeer-same}
-use Rattle.repl_target.specs.ties.Ties.{IsTiedPair}
-use Rattle.repl_target.specs.replication.Calls.{Load}
-use Rattle.repl_target.proofs.lemmas.ties.TiedPeersStay.{tied_call, tied_source}
-use Rattle.repl_net.specs.Nets.{IsAt, AreTied, AllAgree, AllWhole, tree_alone, FitsIn, IsRooted, IsRootedAt, EditFits, KeepsAgreement}
-use Rattle.repl_net.specs.Hopped.{IsChangedAt}
+use Rattle.doc_json.specs.{Choice}
+use Rattle.couch_base.specs.{Id, DatabaseValue, tree_in, tree_of, with_tree, tree_in-with_tree, put_answer, is_changed, content_of, after_put, edited, edit_document, BaseFault}
+use Rattle.repl_peer.specs.{PeerValue, IsLaterPeer, next_local, after_load, load_edited, after_edit}
+use Rattle.repl_peer.proofs.{load_later, IsLaterPeer-same}
+use Rattle.repl_target.specs.{IsTiedPair, Load}
+use Rattle.repl_target.proofs.{tied_call, tied_source}
+use Rattle.repl_net.specs.{IsAt, AreTied, AllAgree, AllWhole, tree_alone, FitsIn, IsRooted, IsRootedAt, EditFits, KeepsAgreement, IsChangedAt}
 use Rattle.repl_net.proofs.Edits.{edit_rooted}
 use Rattle.repl_net.proofs.Trees.{Agree-both, IsGrownBy-written, IsWhole-written}
 

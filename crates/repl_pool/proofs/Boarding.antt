@@ -1,12 +1,7 @@
 -- What seats at a board show, as they go out and come back.
-use Rattle.std.proofs.Common.{◌≡◌, ℕ, ◌+◌, ◌≤◌, List, [], ◌∷◌, ◌++◌, length, Option, None, Some, option_to_list, All, refl, sym, ap, ◌∙◌, subst, arith}
-use Rattle.std.proofs.lemmas.List.{append-nil, append_assoc}
-use Rattle.std.proofs.lemmas.List.Elements.{All-nil, All-cons, All-head, All-tail}
-use Rattle.progress_board.specs.declared.board.Board.{Board}
-use Rattle.progress_board.specs.declared.seat.BoardSeat.{BoardSeat}
-use Rattle.repl_pool.specs.Sums.{total}
-use Rattle.repl_pool.specs.Boards.{WorksAt, IsRisen, AreRisen, AreSeated, AreSeats, AreBack, HaveShown, held}
-use Rattle.repl_pool.specs.declared.fault.Halt.{Halt}
+use Rattle.proof_words.proofs.{◌≡◌, ℕ, ◌+◌, ◌≤◌, List, [], ◌∷◌, ◌++◌, length, Option, None, Some, option_to_list, All, refl, sym, ap, ◌∙◌, subst, arith, append-nil, append_assoc, All-nil, All-cons, All-head, All-tail}
+use Rattle.progress_board.specs.{Board, BoardSeat}
+use Rattle.repl_pool.specs.{total, WorksAt, IsRisen, AreRisen, AreSeated, AreSeats, AreBack, HaveShown, held, Halt}
 
 -- ---- lists
 

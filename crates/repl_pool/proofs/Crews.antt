@@ -1,9 +1,7 @@
 -- How many workers a crew has.
-use Rattle.std.proofs.Common.{◌≡◌, ℕ, ◌<◌, ◌≤◌, nat_le, min, sym, subst, arith}
-use Rattle.std.proofs.lemmas.Bool.{cond_both}
-use Rattle.std.proofs.Math.Nat.{min-le_right}
-use Rattle.repl_target.specs.declared.replication.Plan.{Plan}
-use Rattle.repl_pool.specs.Crews.{most_windows, crew_of}
+use Rattle.proof_words.proofs.{◌≡◌, ℕ, ◌<◌, ◌≤◌, nat_le, min, sym, subst, arith, cond_both, min-le_right}
+use Rattle.repl_target.specs.{Plan}
+use Rattle.repl_pool.specs.{most_windows, crew_of}
 
 -- at least one
 pub crew_some : (plan : Plan) (start goal n : ℕ) → n ≡ crew_of plan start goal → 0 < plan.workers → 0 < n

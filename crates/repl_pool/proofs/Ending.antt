@@ -1,26 +1,14 @@
 -- The end of a run.
-use Rattle.std.proofs.Common.{◌≡◌, ℕ, ◌==◌, Bool, Some, Ok, refl, sym, ap, ◌∙◌, subst, arith}
-use Rattle.std.proofs.lemmas.Bool.{cond-true, eq-eqb}
-use Rattle.rev_tree.specs.declared.origin.SessionId.{SessionId}
+use Rattle.proof_words.proofs.{◌≡◌, ℕ, ◌==◌, Bool, Some, Ok, refl, sym, ap, ◌∙◌, subst, arith, cond-true, eq-eqb, find}
+use Rattle.rev_tree.specs.{SessionId}
 use Rattle.doc_json.specs.Document.{Document}
-use Rattle.doc_json.specs.Chosen.{Choice}
-use Rattle.couch_base.specs.Database.{DatabaseValue, LawfulDatabase}
-use Rattle.repl_peer.specs.declared.fault.Report.{Report}
-use Rattle.repl_target.specs.declared.replication.Plan.{Plan}
-use Rattle.repl_peer.specs.peer.Peer.{PeerValue, SessionValue, is_of, session_in}
-use Rattle.repl_peer.specs.peer.Law.{LawfulSessions}
-use Rattle.std.specs.List.{find}
-use Rattle.repl_peer.specs.session.Sessions.{new_session, begun as begun_by, after_record, conclude_answer, after_conclude}
-use Rattle.repl_target.specs.replication.Replication.{begins_answer, after_begins, beginning_between}
-use Rattle.repl_peer.proofs.lemmas.peer.LaterPeers.{session_found}
-use Rattle.repl_target.proofs.lemmas.replication.RunsConcluded.{found-is, concludes}
-use Rattle.repl_target.specs.replication.Calls.{Record, Conclude, IsGrown}
-use Rattle.repl_target.proofs.lemmas.replication.CallLaws.{grown_law}
-use Rattle.repl_target.proofs.lemmas.replication.ReplicationAsCalls.{grown-later, grown-one}
-use Rattle.repl_target.proofs.lemmas.replication.EmptyTargetCopied.{copied}
-use Rattle.repl_pool.specs.Grown.{GrownPeer}
-use Rattle.repl_pool.specs.Runs.{EndsWell}
-use Rattle.repl_peer.specs.session.ReadCounts.{read_of, read_in}
+use Rattle.doc_json.specs.{Choice}
+use Rattle.couch_base.specs.{DatabaseValue, LawfulDatabase}
+use Rattle.repl_peer.specs.{Report, PeerValue, SessionValue, is_of, session_in, LawfulSessions, new_session, begun as begun_by, after_record, conclude_answer, after_conclude, read_of, read_in}
+use Rattle.repl_target.specs.{Plan, begins_answer, after_begins, beginning_between, Record, Conclude, IsGrown}
+use Rattle.repl_peer.proofs.{session_found}
+use Rattle.repl_target.proofs.{found-is, concludes, grown_law, grown-later, grown-one, copied}
+use Rattle.repl_pool.specs.{GrownPeer, EndsWell}
 
 module _ {F : Type 0} (refuses : F → Document → Bool) (db : DatabaseValue) (chosen : Choice) (run : SessionId) where
   pub grown_record : (p q : F × PeerValue) (at : ℕ) → q.0 ≡ p.0 → q.1 ≡ after_record p.1 run at → GrownPeer refuses db chosen run p q

@@ -1,27 +1,15 @@
 -- What is kept of the target under the lock stays kept by each call.
-use Rattle.std.proofs.Common.{◌≡◌, ℕ, ◌+◌, ◌≤◌, Bool, Option, Some, Result, Ok, Err, length, refl, sym, ap, ◌∙◌, subst, arith}
-use Rattle.std.proofs.lemmas.Option.{same_Some}
-use Rattle.rev_tree.specs.declared.origin.SessionId.{SessionId}
+use Rattle.proof_words.proofs.{◌≡◌, ℕ, ◌+◌, ◌≤◌, Bool, Option, Some, Result, Ok, Err, length, refl, sym, ap, ◌∙◌, subst, arith, same_Some}
+use Rattle.rev_tree.specs.{SessionId}
 use Rattle.doc_json.specs.Document.{Document}
-use Rattle.couch_base.specs.Database.{DatabaseValue}
-use Rattle.couch_base.specs.Feed.{WindowValue}
-use Rattle.couch_base.specs.Messages.{ParcelValue}
-use Rattle.repl_peer.specs.declared.fault.Settled.{Settled}
-use Rattle.repl_peer.specs.declared.fault.TargetFault.{TargetFault}
+use Rattle.couch_base.specs.{DatabaseValue, WindowValue, ParcelValue}
+use Rattle.repl_peer.specs.{Settled, TargetFault, PeerValue, SessionValue, LawfulSessions, settle_check, SettlesAt, Settles, SettleGives, GivesUnlessMemory, append_answer, after_append, after_record, read_in, taken}
 use Rattle.repl_peer.specs.declared.fault.TargetFault.TheVariants as refusals
-use Rattle.repl_peer.specs.peer.Peer.{PeerValue, SessionValue}
-use Rattle.repl_peer.specs.peer.Law.{LawfulSessions}
-use Rattle.repl_peer.specs.session.Settling.{settle_check, SettlesAt, Settles, SettleGives}
-use Rattle.repl_target.specs.declared.replication.Plan.{Plan}
-use Rattle.repl_target.specs.replication.Calls.{Call, Append, Record, IsFrom, after_call}
-use Rattle.repl_target.proofs.lemmas.replication.ReplicationAsCalls.{grown-same, grown-later, grown-one, settled_grown}
-use Rattle.repl_pool.specs.Grown.{IsAnswerOf, GrownPeer, TargetKeeps}
-use Rattle.repl_pool.specs.Paging.{IsNext, IsOneLess, KeepsPages, HasNoWindows}
+use Rattle.repl_target.specs.{Plan, Call, Append, Record, IsFrom, after_call}
+use Rattle.repl_target.proofs.{grown-same, grown-later, grown-one, settled_grown, append_reads, record_reads, settle_reads}
+use Rattle.repl_pool.specs.{IsAnswerOf, GrownPeer, TargetKeeps, IsNext, IsOneLess, KeepsPages, HasNoWindows}
 use Rattle.repl_pool.proofs.Paging.{next_page, starts_pages, pages_record, pages_settle, pages_append}
-use Rattle.repl_peer.specs.session.Sessions.{GivesUnlessMemory, append_answer, after_append, after_record}
-use Rattle.repl_peer.specs.session.ReadCounts.{read_in, taken}
-use Rattle.repl_target.proofs.lemmas.replication.ReadCounts.{append_reads, record_reads, settle_reads}
-use Rattle.repl_peer.proofs.lemmas.session.SettlingDocuments.{before-le}
+use Rattle.repl_peer.proofs.{before-le}
 
 module _ {F : Type 0} (refuses : F → Document → Bool) (source : DatabaseValue) (plan : Plan) where
   pub starts : (given : F × PeerValue) (session : SessionId) → read_in given.1.sessions session ≡ 0 → HasNoWindows session given.1.sessions → TargetKeeps refuses source plan (Some (given, session)) session 0 plan.stop_after given

@@ -1,11 +1,7 @@
 -- A run halts only where the gate allows it, or where a worker's call is refused.
-use Rattle.std.proofs.Common.{◌≡◌, ◌⊎◌, ⊎_elim, Option, None, Some, IfSome, sym, subst, inl, inr}
-use Rattle.repl_pool.specs.Faults.{AllowsOn, Allows, IsHaltOn, fault_of, IsOneFault, IsLateOn}
-use Rattle.repl_pool.specs.Gathered.{IsOneOf}
-use Rattle.repl_pool.specs.declared.gate.Place.{Place}
-use Rattle.repl_pool.specs.declared.fault.Halt.{Halt}
+use Rattle.proof_words.proofs.{◌≡◌, ◌⊎◌, ⊎_elim, Option, None, Some, IfSome, sym, subst, inl, inr}
+use Rattle.repl_pool.specs.{AllowsOn, Allows, IsHaltOn, fault_of, IsOneFault, IsLateOn, IsOneOf, Place, Halt, PoolFault}
 use Rattle.repl_pool.specs.declared.fault.Halt.TheVariants as halts
-use Rattle.repl_pool.specs.declared.fault.PoolFault.{PoolFault}
 use Rattle.repl_pool.specs.declared.fault.PoolFault.TheVariants as faults
 
 allowed_halt : (B : Type 0) (P : Place → Type 0) (h : Halt) → AllowsOn B P h → IsHaltOn B P (fault_of h)

@@ -1,21 +1,13 @@
 -- What an unfinished run tells is the low water of its session, which is recorded.
-use Rattle.std.proofs.Common.{◌≡◌, ℕ, ◌==◌, Bool, cond, Option, Some, None, Result, Ok, Err, is_ok, IfSome, refl, sym, ap, ◌∙◌, subst}
-use Rattle.std.proofs.lemmas.Bool.{cond_both, cond-false, false≢true}
-use Rattle.rev_tree.specs.declared.origin.SessionId.{SessionId}
-use Rattle.range_front.specs.Front.{low_water}
-use Rattle.repl_peer.specs.declared.fault.Report.{Report}
-use Rattle.repl_peer.specs.declared.fault.TargetFault.{TargetFault}
+use Rattle.proof_words.proofs.{◌≡◌, ℕ, ◌==◌, Bool, cond, Option, Some, None, Result, Ok, Err, is_ok, IfSome, refl, sym, ap, ◌∙◌, subst, cond_both, cond-false, false≢true}
+use Rattle.rev_tree.specs.{SessionId}
+use Rattle.range_front.specs.{low_water}
+use Rattle.repl_peer.specs.{Report, TargetFault, PeerValue, SessionValue, session_in, with_session, found_answer, on_found, recorded_at, record_answer, after_record, report_of, conclude_in, conclude_answer, after_conclude}
 use Rattle.repl_peer.specs.declared.fault.TargetFault.TheVariants as refusals
-use Rattle.repl_target.specs.declared.replication.Plan.{Plan}
-use Rattle.repl_peer.specs.peer.Peer.{PeerValue, SessionValue, session_in, with_session}
-use Rattle.repl_target.specs.replication.Replication.{closed, closed_as}
-use Rattle.repl_peer.specs.session.Sessions.{found_answer, on_found, recorded_at, record_answer, after_record, report_of, conclude_in, conclude_answer, after_conclude}
-use Rattle.repl_peer.proofs.lemmas.peer.LaterPeers.{session_found}
-use Rattle.repl_target.proofs.lemmas.replication.ReadCounts.{swap_some}
-use Rattle.repl_pool.specs.Faults.{IsHaltOn}
-use Rattle.repl_pool.specs.Runs.{unfinished_at, IsRecorded, stopped, fewer, refused, TellsLowWater}
-use Rattle.repl_pool.specs.declared.gate.Place.{Place}
-use Rattle.repl_pool.specs.declared.fault.PoolFault.{PoolFault}
+use Rattle.repl_target.specs.{Plan, closed, closed_as}
+use Rattle.repl_peer.proofs.{session_found}
+use Rattle.repl_target.proofs.{swap_some}
+use Rattle.repl_pool.specs.{IsHaltOn, unfinished_at, IsRecorded, stopped, fewer, refused, TellsLowWater, Place, PoolFault}
 use Rattle.repl_pool.specs.declared.fault.PoolFault.TheVariants as faults
 
 -- a worker's halt tells no low water

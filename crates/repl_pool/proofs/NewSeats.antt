@@ -1,10 +1,6 @@
 -- The seats of a new board, for who runs the pool on it.
-use Rattle.std.proofs.Common.{◌≡◌, ◌+◌, ◌++◌, List, [], ◌∷◌, length, slice_index_or, ap, ◌∙◌, subst, arith, length-append}
-use Rattle.std.proofs.Math.Seq.{get_or-append_seam}
-use Rattle.std.proofs.lemmas.List.{get_or_append_left}
-use Rattle.progress_board.specs.Seats.{AreNew, IsNew}
-use Rattle.progress_board.specs.declared.board.Board.{Board}
-use Rattle.progress_board.specs.declared.seat.BoardSeat.{BoardSeat}
+use Rattle.proof_words.proofs.{◌≡◌, ◌+◌, ◌++◌, List, [], ◌∷◌, length, slice_index_or, ap, ◌∙◌, subst, arith, length-append, get_or-append_seam, get_or_append_left}
+use Rattle.progress_board.specs.{AreNew, IsNew, Board, BoardSeat}
 
 -- ---- seats that are taken from the end
 

@@ -1,32 +1,14 @@
 -- The windows that a run's session stores are pages of the source.
-use Rattle.std.proofs.Common.{◌≡◌, ℕ, ◌+◌, Bool, true, false, cond, List, [], ◌∷◌, ◌++◌, map, length, Option, Some, None, Result, Ok, is_ok, refl, sym, ap, ◌∙◌, subst, inl, inr, arith, length-append}
-use Rattle.std.proofs.lemmas.Bool.{and_parts, cond_both, false≢true, both_ways, eq-eqb, leb-true}
-use Rattle.rev_tree.specs.declared.origin.SessionId.{SessionId}
+use Rattle.proof_words.proofs.{◌≡◌, ℕ, ◌+◌, Bool, true, false, cond, List, [], ◌∷◌, ◌++◌, map, length, Option, Some, None, Result, Ok, is_ok, refl, sym, ap, ◌∙◌, subst, inl, inr, arith, length-append, and_parts, cond_both, false≢true, both_ways, eq-eqb, leb-true}
+use Rattle.rev_tree.specs.{SessionId}
 use Rattle.doc_json.specs.Document.{Document}
-use Rattle.couch_base.specs.Lists.{Among}
-use Rattle.couch_base.specs.MemberLaws.{Among-map, Among-push, any_from}
-use Rattle.couch_base.specs.Database.{DatabaseValue, LawfulDatabase}
-use Rattle.couch_base.specs.Feed.{WindowValue}
-use Rattle.couch_base.specs.Messages.{ParcelValue}
-use Rattle.range_front.specs.Front.{FrontWindow, Span, spans_from}
-use Rattle.repl_peer.specs.declared.fault.Report.{Report}
-use Rattle.repl_peer.specs.declared.fault.Settled.{Settled}
-use Rattle.repl_peer.specs.declared.fault.TargetFault.{TargetFault}
-use Rattle.repl_peer.specs.peer.Law.{LawfulSessions}
-use Rattle.repl_peer.specs.peer.Peer.{PeerValue, SessionValue, is_of, session_in, with_session}
-use Rattle.repl_peer.specs.session.Sessions.{GivesUnlessMemory, new_session, begun as begun_by, found_answer, on_found, append_in, append_answer, with_window, after_append, after_record, after_conclude}
-use Rattle.repl_peer.specs.session.Settling.{SettleGives, stopped_at}
-use Rattle.repl_peer.proofs.lemmas.peer.LaterPeers.{session_found}
-use Rattle.repl_target.specs.declared.replication.Plan.{Plan}
-use Rattle.repl_target.specs.replication.Calls.{Settle, Stop, Record, Conclude, IsPageOf, IsGrown}
-use Rattle.repl_target.specs.replication.Replication.{begins_answer, after_begins, beginning_between, next_window, closed_as}
-use Rattle.repl_target.proofs.lemmas.replication.CallLaws.{Stays, call_keeps}
-use Rattle.repl_target.proofs.lemmas.replication.ReplicationAsCalls.{settle_left, settle_gives, settle_stops}
-use Rattle.repl_target.proofs.lemmas.replication.BegunSessions.{fresh_of, later_session}
-use Rattle.repl_target.proofs.lemmas.replication.RunsConcluded.{found-is}
-use Rattle.repl_pool.specs.Paging.{ArePages, AreAllowed, IsPaged, IsNext, AllowsMore, IsOneLess, HasPages, KeepsPages, HasNoWindows}
-use Rattle.repl_pool.specs.Runs.{IsRecorded, stopped, fewer, refused, ClosesRun, concluded, recorded}
-use Rattle.repl_pool.specs.declared.fault.PoolFault.{PoolFault}
+use Rattle.couch_base.specs.{Among, Among-map, Among-push, any_from, DatabaseValue, LawfulDatabase, WindowValue, ParcelValue}
+use Rattle.range_front.specs.{FrontWindow, Span, spans_from}
+use Rattle.repl_peer.specs.{Report, Settled, TargetFault, LawfulSessions, PeerValue, SessionValue, is_of, session_in, with_session, GivesUnlessMemory, new_session, begun as begun_by, found_answer, on_found, append_in, append_answer, with_window, after_append, after_record, after_conclude, SettleGives, stopped_at}
+use Rattle.repl_peer.proofs.{session_found}
+use Rattle.repl_target.specs.{Plan, Settle, Stop, Record, Conclude, IsPageOf, IsGrown, begins_answer, after_begins, beginning_between, next_window, closed_as}
+use Rattle.repl_target.proofs.{Stays, call_keeps, settle_left, settle_gives, settle_stops, fresh_of, later_session, found-is}
+use Rattle.repl_pool.specs.{ArePages, AreAllowed, IsPaged, IsNext, AllowsMore, IsOneLess, HasPages, KeepsPages, HasNoWindows, IsRecorded, stopped, fewer, refused, ClosesRun, concluded, recorded, PoolFault}
 
 -- ---- one window
 

@@ -1,15 +1,12 @@
 -- Each move keeps the rule of the parcels.
-use Rattle.std.proofs.Common.{◌≡◌, ◌≢◌, ℕ, ◌+◌, ◌-◌, ◌<◌, List, [], ◌∷◌, ◌++◌, length, set, sym, refl, ap, ◌∙◌, subst, ⊎_elim, arith}
+use Rattle.proof_words.proofs.{◌≡◌, ◌≢◌, ℕ, ◌+◌, ◌-◌, ◌<◌, List, [], ◌∷◌, ◌++◌, length, set, sym, refl, ap, ◌∙◌, subst, ⊎_elim, arith}
 use mathlib.Core.Option.{some, some-ne-none}
 use lib.ListN.{get_elem?}
 use Rattle.crossbeam_channel.specs.Fifo.{Pushes, Pops, Forks, Merges, Learns}
 use Rattle.atomic_table.proofs.Lists.{at_set, at_snoc}
-use Rattle.repl_pool.specs.Sums.{total, weigh}
+use Rattle.repl_pool.specs.{total, weigh, ParcelView, ParcelMessage, parcel_view, parcels, has_sent, has_got, IdleIsEmpty, Balanced, Accounts}
 use Rattle.repl_pool.proofs.Sums.{total_set, total_snoc, total_whole, weigh-append}
-use Rattle.repl_pool.specs.declared.parcels.ParcelView.{ParcelView}
-use Rattle.repl_pool.specs.declared.parcels.ParcelMessage.{ParcelMessage}
 use Rattle.repl_pool.specs.declared.parcels.ParcelMessage.TheVariants.{Parcel, End}
-use Rattle.repl_pool.specs.Parcels.{parcel_view, parcels, has_sent, has_got, IdleIsEmpty, Balanced, Accounts}
 
 idle_set : (views : List ParcelView) (port : ℕ) (w : ParcelView) → (w.parts ≡ 0 → (w.sent ≡ []) × (w.got ≡ [])) → IdleIsEmpty views → IdleIsEmpty (set views port w)
 idle_set views port w mine others j u at none =

@@ -1,19 +1,12 @@
 -- What a worker's call on the target may be refused for.
-use Rattle.std.proofs.Common.{Bool, cond, Option, None, Some, Result, Ok, Err, IfErr, sym, subst}
-use Rattle.std.proofs.lemmas.Bool.{cond_both}
-use Rattle.std.specs.List.{list_all}
-use Rattle.rev_tree.specs.declared.origin.SessionId.{SessionId}
+use Rattle.proof_words.proofs.{Bool, cond, Option, None, Some, Result, Ok, Err, IfErr, sym, subst, cond_both, list_all}
+use Rattle.rev_tree.specs.{SessionId}
 use Rattle.doc_json.specs.Document.{Document}
-use Rattle.couch_base.specs.Feed.{WindowValue}
-use Rattle.couch_base.specs.Messages.{ParcelValue}
-use Rattle.range_front.specs.Front.{low_water, is_done}
-use Rattle.repl_peer.specs.peer.Peer.{PeerValue, SessionValue, session_in}
-use Rattle.repl_peer.specs.session.Sessions.{found_answer, record_answer}
-use Rattle.repl_peer.specs.session.Settling.{has_row, has_room, window_in, settle_at, settle_check, SettlesAt, Settles, SettleGives}
-use Rattle.repl_peer.specs.declared.fault.Settled.{Settled}
-use Rattle.repl_peer.specs.declared.fault.TargetFault.{TargetFault}
+use Rattle.couch_base.specs.{WindowValue, ParcelValue}
+use Rattle.range_front.specs.{low_water, is_done}
+use Rattle.repl_peer.specs.{PeerValue, SessionValue, session_in, found_answer, record_answer, has_row, has_room, window_in, settle_at, settle_check, SettlesAt, Settles, SettleGives, Settled, TargetFault}
 use Rattle.repl_peer.specs.declared.fault.TargetFault.TheVariants as refusals
-use Rattle.repl_pool.specs.Faults.{IsStepFault}
+use Rattle.repl_pool.specs.{IsStepFault}
 
 abbrev IsStep : {A : Type 0} → Result A TargetFault → Type 0
 IsStep r = IfErr r IsStepFault

@@ -1,39 +1,16 @@
 -- What a run says, from what came out of the lock.
-use Rattle.std.proofs.Common.{◌≡◌, ◌⊎◌, ℕ, ◌<◌, ◌≤◌, ◌==◌, Bool, true, false, cond, nat_lt, List, [], Option, Some, None, Result, Ok, Err, is_ok, is_some, IfOk, IfErr, IfSome, sum, refl, sym, ap, ◌∙◌, subst, inl, inr, arith}
-use Rattle.std.proofs.lemmas.Bool.{cond_both, false≢true}
-use Rattle.std.proofs.lemmas.Bool.Decides.{nat_tests}
-use Rattle.rev_tree.specs.declared.origin.SessionId.{SessionId}
+use Rattle.proof_words.proofs.{◌≡◌, ◌⊎◌, ℕ, ◌<◌, ◌≤◌, ◌==◌, Bool, true, false, cond, nat_lt, List, [], Option, Some, None, Result, Ok, Err, is_ok, is_some, IfOk, IfErr, IfSome, sum, refl, sym, ap, ◌∙◌, subst, inl, inr, arith, cond_both, false≢true, nat_tests}
+use Rattle.rev_tree.specs.{SessionId}
 use Rattle.doc_json.specs.Document.{Document}
-use Rattle.couch_base.specs.Database.{DatabaseValue, LawfulDatabase}
-use Rattle.couch_base.specs.Feed.{chosen_feed}
-use Rattle.repl_peer.specs.declared.fault.Report.{Report}
-use Rattle.repl_peer.specs.declared.fault.TargetFault.{TargetFault}
+use Rattle.couch_base.specs.{DatabaseValue, LawfulDatabase, chosen_feed}
+use Rattle.repl_peer.specs.{Report, TargetFault, Leaf, covers, first_uncovered, PeerValue, LawfulSessions, read_in, record_answer}
 use Rattle.repl_peer.specs.declared.fault.TargetFault.TheVariants as refusals
-use Rattle.repl_target.specs.declared.replication.Plan.{Plan}
-use Rattle.repl_target.specs.replication.Calls.{IsGrown, IsLeft}
-use Rattle.repl_target.specs.Audit.{CoversFeed}
-use Rattle.repl_target.specs.ties.Ties.{IsTiedPair}
-use Rattle.repl_target.proofs.lemmas.replication.OthersStayTied.{others_same, others_tied}
-use Rattle.repl_peer.specs.peer.Covered.{Leaf, covers, first_uncovered}
-use Rattle.repl_peer.specs.peer.Peer.{PeerValue}
-use Rattle.repl_peer.specs.peer.Law.{LawfulSessions}
-use Rattle.repl_peer.specs.session.ReadCounts.{read_in}
-use Rattle.repl_peer.specs.session.Sessions.{record_answer}
-use Rattle.repl_target.specs.replication.Replication.{is_batch, start_between, begins_answer, after_begins}
-use Rattle.repl_peer.proofs.lemmas.peer.LaterPeers.{IsLaterPeer-same}
-use Rattle.repl_target.proofs.lemmas.ties.TiedPeersCover.{tied_none}
-use Rattle.repl_target.proofs.lemmas.replication.ReplicationAsCalls.{grown-same, left_law, both_tied, puts_over, reported_whole, tied_clean}
-use Rattle.repl_target.proofs.lemmas.ties.SettlingTakes.{all_known}
-use Rattle.repl_pool.specs.Grown.{GrownPeer, TargetKeeps}
-use Rattle.repl_pool.specs.Runs.{IsConcluded, unfinished_at, IsRecorded, stopped, fewer, refused, PutsEntry, Walks, clean, hole, no_memory, ClosesRun, concluded, recorded, EndsRun, EndsWell, EarlyOrLate, TellsLowWater, RunsOn}
-use Rattle.repl_pool.specs.Faults.{early_answer, IsLateOn, IsHaltOn}
-use Rattle.progress_board.specs.declared.board.Board.{Board}
-use Rattle.progress_board.specs.declared.seat.BoardSeat.{BoardSeat}
-use Rattle.repl_pool.specs.Boards.{HaveShown}
-use Rattle.repl_pool.specs.declared.gate.Place.{Place}
-use Rattle.repl_pool.specs.declared.fault.PoolFault.{PoolFault}
+use Rattle.repl_target.specs.{Plan, IsGrown, IsLeft, CoversFeed, IsTiedPair, is_batch, start_between, begins_answer, after_begins}
+use Rattle.repl_target.proofs.{others_same, others_tied, tied_none, grown-same, left_law, both_tied, puts_over, reported_whole, tied_clean, all_known}
+use Rattle.repl_peer.proofs.{IsLaterPeer-same}
+use Rattle.repl_pool.specs.{GrownPeer, TargetKeeps, IsConcluded, unfinished_at, IsRecorded, stopped, fewer, refused, PutsEntry, Walks, clean, hole, no_memory, ClosesRun, concluded, recorded, EndsRun, EndsWell, EarlyOrLate, TellsLowWater, RunsOn, early_answer, IsLateOn, IsHaltOn, HaveShown, Place, PoolFault, HasNoWindows}
+use Rattle.progress_board.specs.{Board, BoardSeat}
 use Rattle.repl_pool.specs.declared.fault.PoolFault.TheVariants as faults
-use Rattle.repl_pool.specs.Paging.{HasNoWindows}
 use Rattle.repl_pool.proofs.Paging.{starts_pages, is_paged, closes_pages}
 use Rattle.repl_pool.proofs.Growing.{IsKnown, from_given}
 use Rattle.repl_pool.proofs.Ending.{ends_well}

@@ -1,13 +1,8 @@
 -- What a run shows, from what its writers' seats show.
-use Rattle.std.proofs.Common.{◌≡◌, ℕ, ◌+◌, ◌≤◌, List, [], ◌∷◌, ◌++◌, length, Option, None, Some, Result, Ok, Err, IfOk, IfSome, option_to_list, All, refl, sym, ap, ◌∙◌, subst, arith, length-append}
-use Rattle.std.proofs.lemmas.List.{append_assoc}
-use Rattle.std.proofs.lemmas.List.Elements.{All-push, All-pop}
-use Rattle.progress_board.specs.declared.board.Board.{Board}
-use Rattle.progress_board.specs.declared.seat.BoardSeat.{BoardSeat}
-use Rattle.repl_peer.specs.declared.fault.Report.{Report}
-use Rattle.repl_pool.specs.Boards.{HaveRisenBy, AreSeated, AreBack, HaveShown, held}
-use Rattle.repl_pool.specs.declared.fault.Halt.{Halt}
-use Rattle.repl_pool.specs.declared.fault.PoolFault.{PoolFault}
+use Rattle.proof_words.proofs.{◌≡◌, ℕ, ◌+◌, ◌≤◌, List, [], ◌∷◌, ◌++◌, length, Option, None, Some, Result, Ok, Err, IfOk, IfSome, option_to_list, All, refl, sym, ap, ◌∙◌, subst, arith, length-append, append_assoc, All-push, All-pop}
+use Rattle.progress_board.specs.{Board, BoardSeat}
+use Rattle.repl_peer.specs.{Report}
+use Rattle.repl_pool.specs.{HaveRisenBy, AreSeated, AreBack, HaveShown, held, Halt, PoolFault}
 use Rattle.repl_pool.proofs.Boarding.{held_push, seated_parts, back_same, back_append, back_one, shown_none, shown_one}
 
 -- what holds of each element holds of the last, and of the others

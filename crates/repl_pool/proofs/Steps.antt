@@ -1,16 +1,7 @@
 -- What a worker knows after one message.
-use Rattle.std.proofs.Common.{◌≡◌, ℕ, ◌+◌, ◌≤◌, ◌==◌, if◌then◌else◌, List, [], ◌∷◌, ◌++◌, length, refl, ap, ◌∙◌, arith, length-append}
-use Rattle.std.proofs.lemmas.List.{map-append}
-use Rattle.repl_pool.specs.Sums.{weigh, times, once_below}
-use Rattle.repl_pool.specs.declared.windows.WindowView.{WindowView}
-use Rattle.repl_pool.specs.declared.windows.WindowMessage.{WindowMessage}
-use Rattle.repl_pool.specs.Windows.{Covers}
-use Rattle.std.proofs.lemmas.Bool.Decides.{nat_tests}
+use Rattle.proof_words.proofs.{◌≡◌, ℕ, ◌+◌, ◌≤◌, ◌==◌, if◌then◌else◌, List, [], ◌∷◌, ◌++◌, length, refl, ap, ◌∙◌, arith, length-append, map-append, nat_tests}
+use Rattle.repl_pool.specs.{weigh, times, once_below, WindowView, WindowMessage, Covers, ParcelView, ParcelMessage, parcel_view, parcels, Accounts, amounts, names}
 use Rattle.repl_pool.proofs.Sums.{weigh-append}
-use Rattle.repl_pool.specs.declared.parcels.ParcelView.{ParcelView}
-use Rattle.repl_pool.specs.declared.parcels.ParcelMessage.{ParcelMessage}
-use Rattle.repl_pool.specs.Parcels.{parcel_view, parcels, Accounts}
-use Rattle.repl_pool.specs.Workers.{amounts, names}
 
 pub amounts-append : (xs ys : List (ℕ × ℕ)) → amounts (xs ++ ys) ≡ amounts xs + amounts ys
 amounts-append xs ys = weigh-append (λ n a. a) xs ys

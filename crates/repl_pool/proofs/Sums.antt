@@ -1,11 +1,8 @@
 -- Sums over the views of all passes.
-use Rattle.std.proofs.Common.{◌≡◌, ℕ, zero, suc, ◌+◌, ◌≤◌, ◌==◌, List, [], ◌∷◌, ◌++◌, set, sym, refl, ap, subst, arith, if◌then◌else◌}
+use Rattle.proof_words.proofs.{◌≡◌, ℕ, zero, suc, ◌+◌, ◌≤◌, ◌==◌, List, [], ◌∷◌, ◌++◌, set, sym, refl, ap, subst, arith, if◌then◌else◌, nat_tests, All, All-tail, All-head}
 use mathlib.Core.Option.{some, some-injective, some-ne-none}
 use lib.ListN.{get_elem?}
-use Rattle.std.proofs.lemmas.Bool.Decides.{nat_tests}
-use Rattle.std.specs.List.{All}
-use Rattle.std.proofs.lemmas.List.Elements.{All-tail, All-head}
-use Rattle.repl_pool.specs.Sums.{total, weigh, times, once_below}
+use Rattle.repl_pool.specs.{total, weigh, times, once_below}
 
 module _ {V : Type 0} where
   -- the sum after one view changed

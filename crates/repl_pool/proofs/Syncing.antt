@@ -1,14 +1,11 @@
 -- What a run leaves, for two runs, one each way.
-use Rattle.std.proofs.Common.{ℕ, Bool, List, Result, ap, inl, inr}
+use Rattle.proof_words.proofs.{ℕ, Bool, List, Result, ap, inl, inr}
 use Rattle.doc_json.specs.Document.{Document}
-use Rattle.repl_peer.specs.peer.Peer.{PeerValue}
-use Rattle.repl_peer.specs.declared.fault.Report.{Report}
-use Rattle.repl_target.specs.declared.replication.Plan.{Plan}
-use Rattle.repl_target.specs.replication.Leaves.{IsPut, Leaves}
-use Rattle.repl_target.proofs.lemmas.replication.ReplicationAsCalls.{puts_over}
-use Rattle.repl_pool.specs.Runs.{LeavesOrPuts, Runs}
-use Rattle.repl_pool.specs.declared.gate.Place.{Place}
-use Rattle.repl_pool.specs.declared.fault.PoolFault.{PoolFault}
+use Rattle.repl_peer.specs.{PeerValue, Report}
+use Rattle.repl_target.specs.{Plan, IsPut, Leaves}
+use Rattle.repl_target.proofs.{puts_over}
+use Rattle.repl_pool.specs.Runs.{Runs}
+use Rattle.repl_pool.specs.{LeavesOrPuts, Place, PoolFault}
 
 run_puts : {F : Type 0} (plan : Plan) (source target source' target' : F × PeerValue) (outcome : Result Report PoolFault) → LeavesOrPuts plan source target source' target' outcome → IsPut source.1 target'.1 plan.chosen source'.1
 run_puts {F = F} plan source target source' target' outcome (inl same) = inl (ap (λ (p : F × PeerValue). p.1) same.0)

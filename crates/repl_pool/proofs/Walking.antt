@@ -1,17 +1,9 @@
 -- The walk over a feed that is cut in two.
-use Rattle.std.proofs.Common.{◌≡◌, ℕ, ◌+◌, ◌-◌, ◌/◌, ◌<◌, ◌≤◌, Bool, true, false, cond, ◌&&◌, nat_lt, nat_le, List, [], ◌∷◌, ◌++◌, map, refl, sym, ap, subst, ◌∙◌, arith}
-use Rattle.std.specs.Option.{option_or}
-use Rattle.std.proofs.lemmas.Bool.{and_parts, cond_both, leb-true, lt-ltb, le-ltb, le-leb, leb-false}
-use Rattle.std.proofs.lemmas.List.{map-append}
-use Rattle.std.proofs.lemmas.List.Elements.{filter-append}
-use Rattle.doc_json.specs.Chosen.{Choice, is_chosen}
-use Rattle.couch_base.specs.Lists.{Rises}
-use Rattle.couch_base.specs.Database.{DatabaseValue, DocumentValue, LawfulDatabase}
-use Rattle.couch_base.specs.Feed.{RowValue, row_of, chosen_rows, chosen_feed}
-use Rattle.couch_base.specs.FeedLaws.{in_range}
-use Rattle.repl_peer.specs.peer.Peer.{PeerValue}
-use Rattle.repl_peer.specs.peer.Covered.{covers, first_uncovered}
-use Rattle.repl_peer.proofs.lemmas.session.FirstUnknownLeaf.{first_unknown-append}
+use Rattle.proof_words.proofs.{◌≡◌, ℕ, ◌+◌, ◌-◌, ◌/◌, ◌<◌, ◌≤◌, Bool, true, false, cond, ◌&&◌, nat_lt, nat_le, List, [], ◌∷◌, ◌++◌, map, refl, sym, ap, subst, ◌∙◌, arith, option_or, and_parts, cond_both, leb-true, lt-ltb, le-ltb, le-leb, leb-false, map-append, filter-append}
+use Rattle.doc_json.specs.{Choice, is_chosen}
+use Rattle.couch_base.specs.{Rises, DatabaseValue, DocumentValue, LawfulDatabase, RowValue, row_of, chosen_rows, chosen_feed, in_range}
+use Rattle.repl_peer.specs.{PeerValue, covers, first_uncovered}
+use Rattle.repl_peer.proofs.{first_unknown-append}
 
 -- of documents above a bound none is at or under it
 none_upto : (a m k : ℕ) (ds : List DocumentValue) (hi : ℕ) → Rises k (map (λ d. d.seq) ds) hi → m ≤ k → in_range a m ds ≡ []

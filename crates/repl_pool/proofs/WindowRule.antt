@@ -1,16 +1,13 @@
 -- Each move keeps the rule of the windows.
-use Rattle.std.proofs.Common.{◌≡◌, ◌≢◌, ℕ, ◌+◌, ◌-◌, ◌<◌, List, [], ◌∷◌, ◌++◌, set, sym, refl, ap, ◌∙◌, subst, ⊎_elim, arith}
+use Rattle.proof_words.proofs.{◌≡◌, ◌≢◌, ℕ, ◌+◌, ◌-◌, ◌<◌, List, [], ◌∷◌, ◌++◌, set, sym, refl, ap, ◌∙◌, subst, ⊎_elim, arith}
 use mathlib.Core.Option.{some, some-ne-none}
 use lib.ListN.{get_elem?}
 use Rattle.crossbeam_channel.specs.Fifo.{Pushes, Pops, Forks, Merges, Learns}
 use Rattle.atomic_table.proofs.Lists.{at_set, at_snoc}
-use Rattle.couch_base.specs.Feed.{WindowValue}
-use Rattle.repl_pool.specs.Sums.{total, times, once_below}
+use Rattle.couch_base.specs.{WindowValue}
+use Rattle.repl_pool.specs.{total, times, once_below, WindowView, WindowMessage, window_view, numbers, has_read, has_taken, KeepsRole, Numbered, Covers}
 use Rattle.repl_pool.proofs.Sums.{total_set, total_snoc, total_whole, times-append, once_more, none_below}
-use Rattle.repl_pool.specs.declared.windows.WindowView.{WindowView}
-use Rattle.repl_pool.specs.declared.windows.WindowMessage.{WindowMessage}
 use Rattle.repl_pool.specs.declared.windows.WindowMessage.TheVariants.{Window, End}
-use Rattle.repl_pool.specs.Windows.{window_view, numbers, has_read, has_taken, KeepsRole, Numbered, Covers}
 
 -- what one view owes
 abbrev Role : WindowView → Type 0

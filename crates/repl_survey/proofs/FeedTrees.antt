@@ -1,13 +1,9 @@
 -- The whole feed has each document of a database, in their order.
-use Rattle.std.proofs.Common.{◌≡◌, ℕ, ◌<◌, ◌≤◌, ◌&&◌, nat_lt, nat_le, cond, List, [], ◌∷◌, map, filter, None, refl, ap, ◌∙◌, inl, inr, arith}
-use Rattle.std.proofs.lemmas.Bool.{and_from, lt-ltb, le-leb}
-use Rattle.rev_tree.specs.Tree.{TreeValue}
-use Rattle.couch_base.specs.Lists.{Among, Rises}
-use Rattle.couch_base.specs.Database.{DocumentValue, DatabaseValue, LawfulDatabase, tree_of}
-use Rattle.couch_base.specs.Feed.{RowValue, row_of, feed, chosen_feed}
-use Rattle.couch_base.specs.FeedLaws.{chosen-all, rises_le}
-use Rattle.repl_target.proofs.lemmas.ties.TiedPages.{tree_of-member}
-use Rattle.repl_survey.specs.Censuses.{trees}
+use Rattle.proof_words.proofs.{◌≡◌, ℕ, ◌<◌, ◌≤◌, ◌&&◌, nat_lt, nat_le, cond, List, [], ◌∷◌, map, filter, None, refl, ap, ◌∙◌, inl, inr, arith, and_from, lt-ltb, le-leb}
+use Rattle.rev_tree.specs.{TreeValue}
+use Rattle.couch_base.specs.{Among, Rises, DocumentValue, DatabaseValue, LawfulDatabase, tree_of, RowValue, row_of, feed, chosen_feed, chosen-all, rises_le}
+use Rattle.repl_target.proofs.{tree_of-member}
+use Rattle.repl_survey.specs.{trees}
 
 all_in : (k n : ℕ) (ds : List DocumentValue) → Rises k (map (λ d. d.seq) ds) n → filter (λ d. nat_lt 0 d.seq && nat_le d.seq n) ds ≡ ds
 all_in k n [] r = refl

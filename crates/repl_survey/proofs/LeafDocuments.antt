@@ -1,15 +1,9 @@
 -- A content stands at each leaf, so that there is a document of it.
-use Rattle.std.proofs.Common.{◌≡◌, true, false, [], Option, Some, None, is_some, refl, sym, ap, ◌∙◌}
-use Rattle.std.specs.Option.{option_map, option_map_or}
-use Rattle.std.specs.FinMap.{get}
-use Rattle.std.proofs.lemmas.Bool.{and_parts, false≢true}
-use Rattle.rev_core.specs.Rev.{RevId}
-use Rattle.rev_tree.specs.Content.{ContentValue}
-use Rattle.rev_tree.specs.Tree.{TreeValue, is_leaf, ancestors}
+use Rattle.proof_words.proofs.{◌≡◌, true, false, [], Option, Some, None, is_some, refl, sym, ap, ◌∙◌, option_map, option_map_or, get, and_parts, false≢true}
+use Rattle.rev_core.specs.{RevId}
+use Rattle.rev_tree.specs.{ContentValue, TreeValue, is_leaf, ancestors}
 use Rattle.doc_json.specs.Document.{Document}
-use Rattle.couch_base.specs.Database.{Id, DatabaseValue, LawfulDatabase, tree_of}
-use Rattle.couch_base.specs.DatabaseLaws.{IsDocumentTree-tree_of}
-use Rattle.couch_base.specs.Messages.{leaf_document, document_in}
+use Rattle.couch_base.specs.{Id, DatabaseValue, LawfulDatabase, tree_of, IsDocumentTree-tree_of, leaf_document, document_in}
 
 pub document_there : (id : Id) (t : TreeValue) (leaf : RevId) → is_some (get t.contents leaf) ≡ true → document_in id t leaf ≡ Some (leaf_document id t leaf)
 document_there id t leaf h = go (get t.contents leaf) refl h

@@ -1,10 +1,7 @@
 -- Leaves of a tree are in it.
-use Rattle.std.proofs.Common.{◌≡◌, true, not, sym, ◌∙◌}
-use Rattle.std.specs.List.{list_all}
-use Rattle.std.proofs.lemmas.Bool.{and_parts}
-use Rattle.rev_tree.specs.Tree.{TreeValue, has, is_leaf, leaves, missing}
-use Rattle.rev_tree.specs.LeafLaws.{any_filter, is_among-leaves}
-use Rattle.couch_base.specs.ListLaws.{all_members}
+use Rattle.proof_words.proofs.{◌≡◌, true, not, sym, ◌∙◌, list_all, and_parts}
+use Rattle.rev_tree.specs.{TreeValue, has, is_leaf, leaves, missing, any_filter, is_among-leaves}
+use Rattle.couch_base.specs.{all_members}
 
 -- those of its leaves that another tree hasn't
 pub missing_known : (s t : TreeValue) → list_all (has s) (missing t (leaves s)) ≡ true

@@ -1,49 +1,17 @@
 -- The documents of all leaves make the same trees again.
-use Rattle.std.proofs.Common.{◌≡◌, ◌+◌, ◌||◌, nat_lt, true, false, List, [], ◌∷◌, ◌++◌, map, Option, Some, None, Result, Ok, Err, unwrap_or, refl, sym, ap, ◌∙◌, subst, inl, inr, Bool, ℕ, zero, suc, ◌<◌, ◌≤◌, cond, length, arith}
-use Rattle.std.specs.List.{AllByRecursion, flat_map, list_any}
-use Rattle.std.specs.Result.{IsOk}
-use Rattle.std.specs.Str.{bytes_eq}
-use Rattle.std.proofs.lemmas.Bool.{cond_both, false≢true, or_cases, lt-ltb}
-use Rattle.std.proofs.lemmas.Slice.Eq.{bytes_eq-Decides}
-use Rattle.std.specs.Option.{option_map_or, option_or}
-use Rattle.std.specs.Ordering.{eq_by_cmp}
-use Rattle.std.specs.FinMap.{get}
-use Rattle.couch_base.specs.ListLaws.{none_some, some_is}
-use Rattle.rev_core.specs.RevOrder.{rev_tie_self}
-use Rattle.rev_core.specs.Rev.{RevId, rev_cmp}
-use Rattle.rev_core.specs.Ancestry.{is_among, edges_of}
-use Rattle.rev_tree.specs.Tree.{TreeValue, has, is_leaf, is_same, leaves, ancestors, merged, no_revisions, answer_of, walk, contradiction_at, first_contradiction}
-use Rattle.rev_tree.specs.TreeLaws.{has-merged_given}
-use Rattle.rev_tree.specs.MergeLaws.{has-same}
-use Rattle.rev_tree.specs.LeafLaws.{is_among-leaves, ancestors_self}
-use Rattle.rev_tree.specs.AgreementLaws.{same_leaves}
-use Rattle.rev_tree.specs.PartLaws.{IsPart, nothing_is_part, given, part_merged, whole_part}
-use Rattle.rev_tree.specs.declared.fault.Contradiction.{Contradiction}
-use Rattle.rev_tree.specs.declared.origin.Origin.{Origin}
+use Rattle.proof_words.proofs.{◌≡◌, ◌+◌, ◌||◌, nat_lt, true, false, List, [], ◌∷◌, ◌++◌, map, Option, Some, None, Result, Ok, Err, unwrap_or, refl, sym, ap, ◌∙◌, subst, inl, inr, Bool, ℕ, zero, suc, ◌<◌, ◌≤◌, cond, length, arith, AllByRecursion, flat_map, list_any, IsOk, bytes_eq, cond_both, false≢true, or_cases, lt-ltb, bytes_eq-Decides, option_map_or, option_or, eq_by_cmp, get}
+use Rattle.couch_base.specs.{none_some, some_is, Among, Among-left, Among-mapped, Id, DatabaseValue, LawfulDatabase, most, tree_in, tree_of, with_tree, RowValue, chosen_feed, leaf_document, put_answer, put_told, is_changed, after_put, content_of, IsLater-after_put, tree_in-with_tree, BaseFault}
+use Rattle.rev_core.specs.{rev_tie_self, RevId, rev_cmp, is_among, edges_of}
+use Rattle.rev_tree.specs.{TreeValue, has, is_leaf, is_same, leaves, ancestors, merged, no_revisions, answer_of, walk, contradiction_at, first_contradiction, has-merged_given, has-same, is_among-leaves, ancestors_self, same_leaves, IsPart, nothing_is_part, given, part_merged, whole_part, Contradiction, Origin}
 use Rattle.doc_json.specs.Document.{Document}
-use Rattle.doc_json.specs.Chosen.{Choice, is_chosen}
-use Rattle.couch_base.specs.Lists.{Among}
-use Rattle.couch_base.specs.MemberLaws.{Among-left, Among-mapped}
-use Rattle.couch_base.specs.Database.{Id, DatabaseValue, LawfulDatabase, most, tree_in, tree_of, with_tree}
-use Rattle.couch_base.specs.Feed.{RowValue, chosen_feed}
-use Rattle.couch_base.specs.Messages.{leaf_document}
-use Rattle.couch_base.specs.Put.{put_answer, put_told, is_changed, after_put, content_of}
-use Rattle.couch_base.specs.WriteLaws.{IsLater-after_put, tree_in-with_tree}
+use Rattle.doc_json.specs.{Choice, is_chosen}
 use Rattle.couch_base.specs.declared.fault.Put.{Put}
-use Rattle.couch_base.specs.declared.fault.BaseFault.{BaseFault}
-use Rattle.repl_peer.specs.peer.Peer.{PeerValue, SessionValue}
-use Rattle.repl_peer.specs.peer.Covered.{contradiction_of, in_ledger}
-use Rattle.repl_peer.specs.peer.Writing.{after_load, next_local}
-use Rattle.repl_peer.specs.session.Settling.{is_full}
-use Rattle.repl_peer.proofs.lemmas.Members.{among_test}
-use Rattle.repl_peer.proofs.lemmas.peer.WritesStand.{changed_tree}
-use Rattle.repl_target.specs.Audit.{CoversFeedOf}
-use Rattle.repl_target.specs.replication.Replication.{IsEmpty, SameDocuments}
-use Rattle.repl_target.proofs.lemmas.replication.EmptyTargetCopied.{IsPartOf, leaf_covered}
-use Rattle.repl_target.proofs.lemmas.replication.FetchedDocuments.{IsLeafOf, tree_lawful}
-use Rattle.repl_target.proofs.lemmas.ties.TiedPages.{chosen_member, tree_of-member}
-use Rattle.repl_survey.specs.Documents.{documents_at}
-use Rattle.repl_survey.specs.LoadBack.{all_documents, after_loads, AllTaken, LoadBack}
+use Rattle.repl_peer.specs.{PeerValue, SessionValue, contradiction_of, in_ledger, after_load, next_local, is_full}
+use Rattle.repl_peer.proofs.{among_test, changed_tree}
+use Rattle.repl_target.specs.{CoversFeedOf, IsEmpty, SameDocuments}
+use Rattle.repl_target.proofs.{IsPartOf, leaf_covered, IsLeafOf, tree_lawful, chosen_member, tree_of-member}
+use Rattle.repl_survey.specs.{documents_at, all_documents, after_loads, AllTaken}
+use Rattle.repl_survey.specs.LoadBack.{LoadBack}
 
 -- ---- lists
 

@@ -1,26 +1,14 @@
 -- What is missing, and what is covered.
-use Rattle.std.proofs.Common.{◌≡◌, ℕ, ◌+◌, not, ◌||◌, List, [], ◌∷◌, length, refl, sym, ap, ◌∙◌, subst, inl, inr, arith}
-use Rattle.std.specs.List.{list_any, sum_by}
-use Rattle.std.proofs.lemmas.Bool.{or_cases, false≢true, cases_Bool}
-use Rattle.std.proofs.lemmas.List.{nil_from_length}
-use Rattle.std.proofs.lemmas.List.Sums.{sum_by-cons}
-use Rattle.rev_core.specs.Rev.{RevId}
-use Rattle.rev_tree.specs.Tree.{has, leaves, missing}
-use Rattle.doc_json.specs.Chosen.{Choice}
-use Rattle.couch_base.specs.Lists.{Among}
-use Rattle.couch_base.specs.MemberLaws.{Among-map, Among-mapped, any_member}
-use Rattle.couch_base.specs.Database.{LawfulDatabase, tree_of}
-use Rattle.couch_base.specs.Feed.{RowValue, chosen_feed}
-use Rattle.repl_peer.specs.peer.Peer.{PeerValue, SessionValue}
-use Rattle.repl_peer.specs.peer.Covered.{in_ledger}
-use Rattle.repl_peer.proofs.lemmas.Members.{Among-filter, Among-filtered}
-use Rattle.repl_target.specs.Audit.{CoversFeed}
-use Rattle.repl_target.proofs.lemmas.ties.TiedPages.{chosen_member, tree_of-member}
-use Rattle.repl_survey.specs.Counting.{counted}
-use Rattle.repl_survey.specs.Comparing.{ComparisonValue}
-use Rattle.repl_survey.specs.Comparisons.{compared_at, comparisons}
-use Rattle.repl_survey.specs.Covering.{HasNoLedger, MissingIsRefused}
-use Rattle.repl_survey.specs.Totals.{total_of}
+use Rattle.proof_words.proofs.{◌≡◌, ℕ, ◌+◌, not, ◌||◌, List, [], ◌∷◌, length, refl, sym, ap, ◌∙◌, subst, inl, inr, arith, list_any, sum_by, or_cases, false≢true, cases_Bool, nil_from_length, sum_by-cons}
+use Rattle.rev_core.specs.{RevId}
+use Rattle.rev_tree.specs.{has, leaves, missing}
+use Rattle.doc_json.specs.{Choice}
+use Rattle.couch_base.specs.{Among, Among-map, Among-mapped, any_member, LawfulDatabase, tree_of, RowValue, chosen_feed}
+use Rattle.repl_peer.specs.{PeerValue, SessionValue, in_ledger}
+use Rattle.repl_peer.proofs.{Among-filter, Among-filtered}
+use Rattle.repl_target.specs.{CoversFeed}
+use Rattle.repl_target.proofs.{chosen_member, tree_of-member}
+use Rattle.repl_survey.specs.{counted, ComparisonValue, compared_at, comparisons, HasNoLedger, MissingIsRefused, total_of}
 
 -- ---- sums
 

@@ -1,33 +1,18 @@
 -- Runs of steps, and what a tied world may be trusted for.
-use Rattle.std.proofs.Common.{◌≡◌, ℕ, suc, ◌+◌, ◌<◌, ◌≤◌, ◌==◌, List, [], ◌∷◌, ◌++◌, Bool, Option, Some, None, Result, Ok, Err, OnOk, OnErr, IfSome, take, get_or, length, slice_get, take_all, refl, sym, ap, ◌∙◌, subst, inl, inr, arith}
+use Rattle.proof_words.proofs.{◌≡◌, ℕ, suc, ◌+◌, ◌<◌, ◌≤◌, ◌==◌, List, [], ◌∷◌, ◌++◌, Bool, Option, Some, None, Result, Ok, Err, OnOk, OnErr, IfSome, take, get_or, length, slice_get, take_all, refl, sym, ap, ◌∙◌, subst, inl, inr, arith, cond-true, eq-eqb, slice_get-get_or, same_Some}
 use Rattle.std.proofs.Math.Seq.{take-suc}
-use Rattle.std.proofs.lemmas.Bool.{cond-true, eq-eqb}
-use Rattle.std.proofs.lemmas.Option.{slice_get-get_or, same_Some}
-use Rattle.rev_tree.specs.declared.origin.SessionId.{SessionId}
+use Rattle.rev_tree.specs.{SessionId}
 use Rattle.doc_json.specs.Document.{Document}
-use Rattle.couch_base.specs.Lists.{Among}
-use Rattle.couch_base.specs.Feed.{WindowValue}
-use Rattle.couch_base.specs.Messages.{ParcelValue}
-use Rattle.repl_peer.specs.peer.Peer.{PeerValue}
-use Rattle.repl_peer.specs.peer.Backups.{BackupValue}
-use Rattle.repl_peer.specs.session.Sessions.{GivesUnlessMemory, append_answer, after_append}
-use Rattle.repl_peer.specs.peer.Law.{LawfulSessions}
-use Rattle.repl_peer.specs.session.Settling.{SettleGives, stopped_at}
-use Rattle.repl_target.specs.ties.Ties.{IsTiedParcel}
-use Rattle.repl_peer.specs.declared.fault.Settled.{Settled}
-use Rattle.repl_peer.specs.declared.fault.TargetFault.{TargetFault}
+use Rattle.couch_base.specs.{Among, WindowValue, ParcelValue}
+use Rattle.repl_peer.specs.{PeerValue, BackupValue, GivesUnlessMemory, append_answer, after_append, LawfulSessions, SettleGives, stopped_at, Settled, TargetFault}
+use Rattle.repl_target.specs.{IsTiedParcel, after_some, most_settled}
 use Rattle.repl_peer.specs.declared.fault.TargetFault.TheVariants as faults
-use Rattle.repl_target.proofs.lemmas.ties.TiedPeersCover.{honest_is, audited_is, tied_none}
-use Rattle.repl_peer.proofs.lemmas.peer.RefusedCalls.{append_refused}
-use Rattle.repl_target.proofs.lemmas.replication.ReplicationAsCalls.{settle_left, settle_gives, settle_stops}
-use Rattle.repl_target.specs.replication.Calls.{after_some, most_settled}
-use Rattle.repl_target.proofs.lemmas.ties.SettlingTakes.{own_covered}
+use Rattle.repl_target.proofs.{honest_is, audited_is, tied_none, settle_left, settle_gives, settle_stops, own_covered}
+use Rattle.repl_peer.proofs.{append_refused}
 use Rattle.repl_world.specs.declared.fault.WorldFault.TheVariants.{SamePeer}
-use Rattle.repl_world.specs.declared.step.Step.{Step}
-use Rattle.doc_json.specs.Chosen.{Choice}
-use Rattle.repl_world.specs.Bags.{BagValue, empty_bag}
-use Rattle.repl_world.specs.Worlds.{WorldValue, new_world, new_answer, appends, settles, stops, happens, run, IsStopped, CutShort, StoppedIn}
-use Rattle.repl_world.specs.Tied.{IsWorld, Tied, HoldNone, IsTrustworthy}
+use Rattle.repl_world.specs.{Step, BagValue, empty_bag, WorldValue, new_world, new_answer, appends, settles, stops, happens, run, IsStopped, CutShort, StoppedIn, IsWorld, HoldNone, IsTrustworthy}
+use Rattle.doc_json.specs.{Choice}
+use Rattle.repl_world.specs.Tied.{Tied}
 use Rattle.repl_world.proofs.Steps.{happens_tied, cut_tied}
 
 -- ---- new worlds

@@ -1,45 +1,20 @@
 -- Each step keeps a world tied.
-use Rattle.std.proofs.Common.{◌≡◌, ℕ, ◌+◌, ◌<◌, ◌≤◌, ◌==◌, nat_lt, nat_le, List, [], ◌∷◌, Bool, true, false, cond, Option, Some, None, Result, Ok, Err, slice_get, refl, sym, ap, ◌∙◌, subst, inl, inr, arith}
-use Rattle.rev_tree.specs.declared.origin.SessionId.{SessionId}
+use Rattle.proof_words.proofs.{◌≡◌, ℕ, ◌+◌, ◌<◌, ◌≤◌, ◌==◌, nat_lt, nat_le, List, [], ◌∷◌, Bool, true, false, cond, Option, Some, None, Result, Ok, Err, slice_get, refl, sym, ap, ◌∙◌, subst, inl, inr, arith, cond_both, eqb-true}
+use Rattle.rev_tree.specs.{SessionId}
 use Rattle.doc_json.specs.Document.{Document}
-use Rattle.couch_base.specs.Database.{Id, LawfulDatabase, most}
-use Rattle.couch_base.specs.Edit.{edited}
-use Rattle.rev_core.specs.Rev.{RevId}
+use Rattle.couch_base.specs.{Id, LawfulDatabase, most, edited, WindowValue, page, page_answer, AskedValue, ParcelValue, revs_diff, open_revs, IsLater, BaseFault, Among-push}
+use Rattle.rev_core.specs.{RevId}
 use Rattle.repl_log.specs.declared.replication.RepId.{RepId}
-use Rattle.std.proofs.lemmas.Bool.{cond_both, eqb-true}
-use Rattle.rev_tree.proofs.Places.{slice_get-append}
-use Rattle.couch_base.specs.Feed.{WindowValue, page, page_answer}
-use Rattle.couch_base.specs.Messages.{AskedValue, ParcelValue, revs_diff, open_revs}
-use Rattle.couch_base.specs.WriteLaws.{IsLater}
-use Rattle.couch_base.specs.declared.fault.BaseFault.{BaseFault}
-use Rattle.repl_log.specs.Entry.{EntryValue}
-use Rattle.repl_peer.specs.peer.Peer.{PeerValue, SessionValue}
-use Rattle.repl_peer.specs.session.Sessions.{after_record, after_conclude, conclude_answer}
-use Rattle.repl_peer.specs.peer.Later.{IsLaterPeer}
-use Rattle.repl_target.specs.ties.Ties.{IsTiedWindow, AreTiedEntries, IsTiedPair, IsSentEntry}
-use Rattle.repl_peer.specs.logs.Checkpoint.{rep_between}
-use Rattle.repl_target.specs.replication.Calls.{Call, Load, Edit, after_call}
-use Rattle.repl_peer.specs.peer.Backups.{BackupValue, copy_of, is_target, backup_answer, greater_life, restore_answer, restored, restored_by}
-use Rattle.repl_log.specs.Logs.{log_in}
-use Rattle.repl_peer.specs.peer.Writing.{after_edit, load_edited}
+use Rattle.rev_tree.proofs.{slice_get-append}
+use Rattle.repl_log.specs.{EntryValue, log_in}
+use Rattle.repl_peer.specs.{PeerValue, SessionValue, after_record, after_conclude, conclude_answer, IsLaterPeer, rep_between, BackupValue, copy_of, is_target, backup_answer, greater_life, restore_answer, restored, restored_by, after_edit, load_edited, TargetFault}
+use Rattle.repl_target.specs.{IsTiedWindow, AreTiedEntries, IsTiedPair, IsSentEntry, Call, Load, Edit, after_call}
 use Rattle.repl_peer.specs.declared.fault.TargetFault.TheVariants as faults
 use Rattle.repl_target.specs.replication.Calls as calls
-use Rattle.repl_peer.specs.declared.fault.TargetFault.{TargetFault}
-use Rattle.couch_base.specs.MemberLaws.{Among-push}
-use Rattle.repl_peer.proofs.lemmas.Members.{Among-at}
-use Rattle.repl_peer.proofs.lemmas.peer.CallsKeepLaw.{load_later, edit_later, begin_later}
-use Rattle.repl_peer.proofs.lemmas.logs.PutChangesLogsAlone.{put_entry_later}
-use Rattle.repl_peer.proofs.lemmas.session.Changes.{after_settle_ends, after_stop_ends}
-use Rattle.repl_peer.proofs.lemmas.session.SettlingKeepsLaw.{ends_law, append_law, record_law, conclude_law}
-use Rattle.repl_target.proofs.lemmas.ties.TiedPages.{IsTiedWindow-page, IsTiedWindow-later}
-use Rattle.repl_target.proofs.lemmas.ties.TiedMessages.{IsTiedAsked-revs_diff, IsTiedAsked-later, IsTiedParcel-open_revs}
-use Rattle.repl_target.proofs.lemmas.replication.CallLaws.{Brings}
-use Rattle.repl_target.proofs.lemmas.ties.TiedPeersCover.{common_reached}
-use Rattle.repl_target.proofs.lemmas.ties.TiedPeersStay.{entry-later, entry-source, entry-life, sent-later, sent_entry, backups-later, backups-source, TiedAt, tied-stays, tied-more, tied-new, tied_call, tied_source, puts_tied}
-use Rattle.repl_world.specs.Bags.{with_window, told, told_where}
-use Rattle.repl_world.specs.Worlds.{WorldValue, rep_of, paged, appends, differs, fetches, settles, stops, entry_in, puts, crashed, log_of_source, reads_log, beginning_in, begins, backs_up, restores, happens, CutShort}
-use Rattle.repl_world.specs.Tied.{IsWorld, OwnAsked, OwnParcel, Tied}
-use Rattle.repl_world.specs.declared.step.Step.{Step}
+use Rattle.repl_peer.proofs.{Among-at, load_later, edit_later, begin_later, put_entry_later, after_settle_ends, after_stop_ends, ends_law, append_law, record_law, conclude_law}
+use Rattle.repl_target.proofs.{IsTiedWindow-page, IsTiedWindow-later, IsTiedAsked-revs_diff, IsTiedAsked-later, IsTiedParcel-open_revs, Brings, common_reached, entry-later, entry-source, entry-life, sent-later, sent_entry, backups-later, backups-source, TiedAt, tied-stays, tied-more, tied-new, tied_call, tied_source, puts_tied}
+use Rattle.repl_world.specs.{with_window, told, told_where, WorldValue, rep_of, paged, appends, differs, fetches, settles, stops, entry_in, puts, crashed, log_of_source, reads_log, beginning_in, begins, backs_up, restores, happens, CutShort, IsWorld, OwnAsked, OwnParcel, Step}
+use Rattle.repl_world.specs.Tied.{Tied}
 use Rattle.repl_world.specs.declared.step.Step.TheVariants.{EditSource, EditTarget, LoadSource, ThirdParty, ReadLog, Begin, Page, Append, Diff, Fetch, Settle, Record, Conclude, PutEntry, Backup, Restore, Crash}
 
 -- ---- a step at one peer

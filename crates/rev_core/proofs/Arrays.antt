@@ -1,12 +1,6 @@
 -- Signatures are ordered as they are stored.
-use Rattle.std.proofs.Common.{◌≡◌, ℕ, zero, suc, List, [], ◌∷◌, take, get_or, refl, sym, arith}
-use Rattle.std.proofs.lemmas.Bool.{false≢true}
-use Rattle.std.specs.declared.cmp.Ordering.{Ordering}
-use Rattle.std.specs.declared.cmp.Ordering.TheVariants.{Less, Equal, Greater}
-use Rattle.std.specs.Ordering.{nat_cmp, ordering_then}
-use Rattle.std.specs.Cmp.Lexicographic.{slice_cmp}
-use Rattle.std.specs.FinMap.{nat_cmp-IsAntisymmetric}
-use Rattle.rev_core.specs.Sig.{IsStored}
+use Rattle.proof_words.proofs.{◌≡◌, ℕ, zero, suc, List, [], ◌∷◌, take, get_or, refl, sym, arith, false≢true, Ordering, Less, Equal, Greater, nat_cmp, ordering_then, slice_cmp, nat_cmp-IsAntisymmetric}
+use Rattle.rev_core.specs.{IsStored}
 
 then_first : (o p : Ordering) → (o ≡ Equal → ⊥) → ordering_then o p ≡ o
 then_first Less p h = refl

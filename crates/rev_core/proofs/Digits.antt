@@ -1,13 +1,7 @@
 -- Numbers grow with each digit.
-use Rattle.std.proofs.Common.{◌≡◌, ℕ, ◌≤◌, ◌^◌, Bool, true, false, ◌&&◌, cond, List, [], ◌∷◌, Some, None, Result, Ok, Err, is_ok, fold, get_or, nat_le, sym, ap, ◌∙◌, refl, arith}
-use Rattle.std.specs.List.{list_all}
-use Rattle.std.specs.Result.{result_unwrap_or}
-use Rattle.std.proofs.lemmas.Bool.{cond-false, le-ltb, false≢true}
-use Rattle.rev_core.specs.Sig.{is_sig, sig_read}
-use Rattle.rev_core.specs.Rev.{RevId}
-use Rattle.rev_core.specs.declared.fault.RevFault.{RevFault}
+use Rattle.proof_words.proofs.{◌≡◌, ℕ, ◌≤◌, ◌^◌, Bool, true, false, ◌&&◌, cond, List, [], ◌∷◌, Some, None, Result, Ok, Err, is_ok, fold, get_or, nat_le, sym, ap, ◌∙◌, refl, arith, list_all, result_unwrap_or, cond-false, le-ltb, false≢true}
+use Rattle.rev_core.specs.{is_sig, sig_read, RevId, RevFault, with_digit, value_of, is_digit, generation_read, with_sig}
 use Rattle.rev_core.specs.declared.fault.RevFault.TheVariants as faults
-use Rattle.rev_core.specs.Text.{with_digit, value_of, is_digit, generation_read, with_sig}
 
 pub value_grows : (n : ℕ) (digits : List ℕ) → n ≤ fold with_digit n digits
 value_grows n [] = omega arith

@@ -1,11 +1,8 @@
 -- The digits of a digest are a signature, and a short one.
-use Rattle.std.specs.List.{list_all}
-use Rattle.std.proofs.Common.{◌≡◌, ℕ, zero, suc, ◌/◌, ◌%◌, ◌<◌, ◌≤◌, Bool, true, ◌&&◌, List, [], ◌∷◌, length, slice_index, refl, subst, inl, inr, arith, ◌∙◌}
-use Rattle.std.proofs.lemmas.Bool.{and_parts, and_from, le-leb, eq-eqb, cases_lt, cond-true}
+use Rattle.proof_words.proofs.{list_all, ◌≡◌, ℕ, zero, suc, ◌/◌, ◌%◌, ◌<◌, ◌≤◌, Bool, true, ◌&&◌, List, [], ◌∷◌, length, slice_index, refl, subst, inl, inr, arith, ◌∙◌, and_parts, and_from, le-leb, eq-eqb, cases_lt, cond-true}
 use Rattle.hex.specs.Hex.{encode_with, encode_lower, lower_digits}
 use Rattle.hex.proofs.HexLemmas.{length-encode_with}
-use Rattle.rev_core.specs.Sig.{is_sig, is_sig_byte}
-use Rattle.rev_core.specs.ShortSig.{is_hex_digit, is_short}
+use Rattle.rev_core.specs.{is_sig, is_sig_byte, is_hex_digit, is_short}
 
 -- a test of the first digits
 abbrev all_below : (ℕ → Bool) → ℕ → Bool

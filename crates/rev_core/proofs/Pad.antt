@@ -1,10 +1,6 @@
 -- A signature in an array, with zeros behind it.
-use Rattle.std.specs.Prelude.{nat_le}
-use Rattle.std.specs.List.{list_all}
-use Rattle.std.proofs.Common.{◌≡◌, ℕ, ◌+◌, ◌-◌, ◌≤◌, List, length, take, true, ap, sym, arith, ◌∙◌, refl, subst}
-use Rattle.std.proofs.lemmas.List.{take_at, length-replicate, length-append}
-use Rattle.std.proofs.lemmas.Bool.{and_parts, leb-true}
-use Rattle.rev_core.specs.Sig.{is_sig, is_sig_byte, IsStored, padded}
+use Rattle.proof_words.proofs.{nat_le, list_all, ◌≡◌, ℕ, ◌+◌, ◌-◌, ◌≤◌, List, length, take, true, ap, sym, arith, ◌∙◌, refl, subst, take_at, length-replicate, length-append, and_parts, leb-true}
+use Rattle.rev_core.specs.{is_sig, is_sig_byte, IsStored, padded}
 
 pub padded-front : (text : List ℕ) → take (length text) (padded text) ≡ text
 padded-front text = take_at text _ (length text) refl

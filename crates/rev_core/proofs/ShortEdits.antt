@@ -1,17 +1,9 @@
 -- The signature of a local edit is short.
-use Rattle.std.proofs.Common.{◌≡◌, ℕ, zero, suc, ◌-◌, ◌^◌, ◌<◌, Bool, true, false, List, length, get_or, slice_index, cond, Ok, Err, Option, ap, sym, subst, arith, inl, inr}
-use Rattle.std.specs.Prelude.{is_ok, nat_lt}
-use Rattle.std.specs.Int.{to_le_bytes, w32}
-use Rattle.std.specs.Result.{result_unwrap_or}
-use Rattle.std.proofs.lemmas.Bool.{false≢true, cases_lt}
-use Rattle.std.proofs.lemmas.List.{get_or_append_left}
-use Rattle.std.proofs.Math.Seq.{get_or-append_right}
+use Rattle.proof_words.proofs.{◌≡◌, ℕ, zero, suc, ◌-◌, ◌^◌, ◌<◌, Bool, true, false, List, length, get_or, slice_index, cond, Ok, Err, Option, ap, sym, subst, arith, inl, inr, is_ok, nat_lt, to_le_bytes, result_unwrap_or, false≢true, cases_lt, get_or_append_left, get_or-append_right}
+use Rattle.std.specs.Int.{w32}
 use Rattle.md5.specs.Md5.{md5, digest_bytes}
 use Rattle.md5.proofs.StandardFacts.{length-md5}
-use Rattle.rev_core.specs.Rev.{RevId}
-use Rattle.rev_core.specs.NewRev.{edit_text, edit_sig, edit_rev, next_generation}
-use Rattle.rev_core.specs.ShortSig.{is_short}
-use Rattle.rev_core.specs.declared.fault.RevFault.{RevFault}
+use Rattle.rev_core.specs.{RevId, edit_text, edit_sig, edit_rev, next_generation, is_short, RevFault}
 use Rattle.rev_core.specs.declared.fault.RevFault.TheVariants as rev_faults
 use Rattle.rev_core.proofs.HexSigs.{is_short-encode_lower}
 

@@ -1,15 +1,7 @@
 -- Tests of revisions, one after another.
-use Rattle.std.proofs.Common.{◌≡◌, ℕ, ◌+◌, ◌-◌, ◌<◌, ◌≤◌, true, false, cond, Some, ◌||◌, List, [], ◌∷◌, length, get_or, drop, ap, sym, ◌∙◌, refl, arith}
-use Rattle.std.proofs.lemmas.Bool.{cond-true, cond-false}
-use Rattle.std.proofs.lemmas.List.{get_or_default}
+use Rattle.proof_words.proofs.{◌≡◌, ℕ, ◌+◌, ◌-◌, ◌<◌, ◌≤◌, true, false, cond, Some, ◌||◌, List, [], ◌∷◌, length, get_or, drop, ap, sym, ◌∙◌, refl, arith, cond-true, cond-false, get_or_default, list_any, eq_by_cmp, eq_by_cmp_equiv}
 use Rattle.std.specs.FinMap.{find}
-use Rattle.std.specs.List.{list_any}
-use Rattle.std.specs.Ordering.{eq_by_cmp}
-use Rattle.std.specs.Cmp.{eq_by_cmp_equiv}
-use Rattle.rev_core.specs.Rev.{RevId, rev_cmp}
-use Rattle.rev_core.specs.RevOrder.{rev_cmp_total}
-use Rattle.rev_core.specs.Ancestry.{edges_of}
-use Rattle.rev_core.specs.AncestryLaws.{edges_at}
+use Rattle.rev_core.specs.{RevId, rev_cmp, rev_cmp_total, edges_of, edges_at}
 
 same_turned : (a b : RevId) → eq_by_cmp rev_cmp a b ≡ eq_by_cmp rev_cmp b a
 same_turned = (eq_by_cmp_equiv rev_cmp_total).symm

@@ -1,20 +1,9 @@
 -- What a merge answers, from the edges and the content of the head.
-use Rattle.std.proofs.Common.{◌≡◌, ◌&&◌, List, [], ◌∷◌, Option, Some, None, Bool, true, false, is_some, Result, Ok, Err, sym, ap, ◌∙◌, subst, refl}
-use Rattle.std.proofs.lemmas.Bool.{false≢true, and_parts, and_from}
-use Rattle.std.proofs.Math.Bool.{and-false}
-use Rattle.std.specs.List.{list_all}
-use Rattle.std.specs.FinMap.{get}
-use Rattle.std.proofs.lemmas.Option.{same_Some}
+use Rattle.proof_words.proofs.{◌≡◌, ◌&&◌, List, [], ◌∷◌, Option, Some, None, Bool, true, false, is_some, Result, Ok, Err, sym, ap, ◌∙◌, subst, refl, false≢true, and_parts, and_from, and-false, list_all, get, same_Some}
 use Rattle.std.specs.Cmp.{both_ways}
-use Rattle.rev_core.specs.Rev.{RevId}
-use Rattle.rev_core.specs.Ancestry.{edges_of, head_of}
-use Rattle.rev_tree.specs.Tree.{TreeValue, IsTree, has, has_edge, contradiction_at, first_contradiction, is_same, at_head, answer_of, merge_answer, merged}
-use Rattle.rev_tree.specs.Content.{ContentValue}
-use Rattle.rev_tree.specs.TreeLaws.{both_none, agrees, same_from_merged}
-use Rattle.rev_tree.specs.declared.fault.Merged.{Merged}
+use Rattle.rev_core.specs.{RevId, edges_of, head_of}
+use Rattle.rev_tree.specs.{TreeValue, IsTree, has, has_edge, contradiction_at, first_contradiction, is_same, at_head, answer_of, merge_answer, merged, ContentValue, both_none, agrees, same_from_merged, Merged, Contradiction, Origin}
 use Rattle.rev_tree.specs.declared.fault.Merged.TheVariants.{Same, Changed}
-use Rattle.rev_tree.specs.declared.fault.Contradiction.{Contradiction}
-use Rattle.rev_tree.specs.declared.origin.Origin.{Origin}
 
 -- a parent that is known and contradicts nothing is in the tree
 given_parent : (t : TreeValue) → IsTree t → (r s : RevId) (o : Option RevId) → get t.parents r ≡ o → contradiction_at r s o ≡ None → is_some o ≡ true → has t s ≡ true

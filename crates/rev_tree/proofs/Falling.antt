@@ -1,16 +1,7 @@
 -- Revisions of which each is one generation below the one before it: where each of them stands.
-use Rattle.std.proofs.Common.{◌≡◌, ℕ, zero, suc, ◌+◌, ◌-◌, ◌<◌, ◌≤◌, ◌&&◌, List, [], ◌∷◌, length, take, drop, get_or, Some, None, true, false, slice_get, sym, ap, ◌∙◌, refl, arith}
-use Rattle.std.proofs.lemmas.Bool.{and_parts, eqb-true, false≢true}
-use Rattle.std.proofs.lemmas.Option.{slice_get-get_or, same_Some}
-use Rattle.std.specs.Ordering.{eq_by_cmp}
-use Rattle.std.proofs.lemmas.List.{drop_more, length-drop}
-use Rattle.std.specs.Prelude.{nat_eq}
-use Rattle.rev_core.specs.Rev.{RevId, rev_cmp}
-use Rattle.rev_core.specs.RevOrder.{rev_tie_self}
-use Rattle.std.proofs.lemmas.List.{take-map}
-use Rattle.rev_tree.specs.Index.{falls, noted_from}
-use Rattle.rev_tree.specs.Nodes.{place_of, revs_in}
-use Rattle.rev_tree.specs.Node.{NodeValue}
+use Rattle.proof_words.proofs.{◌≡◌, ℕ, zero, suc, ◌+◌, ◌-◌, ◌<◌, ◌≤◌, ◌&&◌, List, [], ◌∷◌, length, take, drop, get_or, Some, None, true, false, slice_get, sym, ap, ◌∙◌, refl, arith, and_parts, eqb-true, false≢true, slice_get-get_or, same_Some, eq_by_cmp, drop_more, length-drop, nat_eq, take-map}
+use Rattle.rev_core.specs.{RevId, rev_cmp, rev_tie_self}
+use Rattle.rev_tree.specs.{falls, noted_from, place_of, revs_in, NodeValue}
 use Rattle.rev_tree.proofs.Places.{place_known, read_at, rev_at_place}
 use Rattle.rev_tree.proofs.Linking.{length-revs_in}
 

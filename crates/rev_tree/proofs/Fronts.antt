@@ -1,20 +1,11 @@
 -- Bytes of texts as numbers, which stand to one another as the bytes do.
-use Rattle.std.proofs.Common.{◌≡◌, ℕ, zero, suc, ◌+◌, ◌*◌, ◌^◌, ◌<◌, ◌≤◌, ◌++◌, ◌∷◌, [], List, Bool, true, false, not, ◌&&◌, length, length-drop, get_or, take, drop, replicate, sym, ap, ◌∙◌, refl, arith}
-use Rattle.std.proofs.lemmas.Bool.{and_parts, false≢true, eqb-true, eq-eqb}
-use Rattle.std.proofs.Math.Bool.{beq}
+use Rattle.proof_words.proofs.{◌≡◌, ℕ, zero, suc, ◌+◌, ◌*◌, ◌^◌, ◌<◌, ◌≤◌, ◌++◌, ◌∷◌, [], List, Bool, true, false, not, ◌&&◌, length, length-drop, get_or, take, drop, replicate, sym, ap, ◌∙◌, refl, arith, and_parts, false≢true, eqb-true, eq-eqb, beq, list_all, from_be_bytes, Ordering, Less, Equal, Greater, nat_cmp, bool_cmp, ordering_then, ordering_reverse, MatchOrdering, ranks, nat_cmp_total, bool_cmp_total, slice_cmp, pointwise, bytes_decides, nat_eq, drop_more, drop-drop, take-append-drop, take_all, nat_tests}
 use Rattle.std.proofs.Math.Nat.{mul-le-mul_right, pow-suc}
-use Rattle.std.specs.List.{list_all}
-use Rattle.std.specs.Int.{from_be_bytes, w64}
-use Rattle.std.specs.declared.cmp.Ordering.{Ordering}
-use Rattle.std.specs.declared.cmp.Ordering.TheVariants.{Less, Equal, Greater}
-use Rattle.std.specs.Ordering.{nat_cmp, bool_cmp, ordering_then, ordering_reverse, MatchOrdering}
-use Rattle.std.specs.Cmp.{ranks, tied_itself, nat_cmp_total, bool_cmp_total, both_ways}
-use Rattle.std.specs.Cmp.Lexicographic.{slice_cmp, nat_list_cmp_total, pointwise, bytes_decides}
-use Rattle.std.specs.Prelude.{nat_eq}
-use Rattle.std.proofs.lemmas.List.{drop_more, drop-drop, take-append-drop, take_all}
-use Rattle.std.proofs.lemmas.Bool.Decides.{nat_tests}
-use Rattle.rev_core.specs.Sig.{is_sig, is_sig_byte}
-use Rattle.rev_tree.specs.Words.{front_of}
+use Rattle.std.specs.Int.{w64}
+use Rattle.std.specs.Cmp.{tied_itself, both_ways}
+use Rattle.std.specs.Cmp.Lexicographic.{nat_list_cmp_total}
+use Rattle.rev_core.specs.{is_sig, is_sig_byte}
+use Rattle.rev_tree.specs.{front_of}
 
 -- each of some bytes is one
 abbrev pub Bytes : List ℕ → Type 0

@@ -1,22 +1,8 @@
 -- The index of the nodes: walked while they are few, and noted by marks from there on.
-use Rattle.std.proofs.Common.{◌≡◌, ℕ, suc, ◌+◌, ◌<◌, ◌≤◌, ◌&&◌, ◌||◌, List, [], ◌∷◌, ◌++◌, length, take, drop, get_or, Option, Some, None, Bool, true, false, not, cond, is_some, inl, inr, sym, ap, ◌∙◌, subst, refl, arith, length-append, length-take}
-use Rattle.std.proofs.lemmas.Bool.{false≢true, lt-ltb, ltb-true, eq-eqb, eqb-true}
-use Rattle.std.proofs.Math.Bool.{and-false}
-use Rattle.std.proofs.lemmas.List.{drop_more, drop_all}
-use Rattle.std.specs.Prelude.{nat_eq, nat_lt}
-use Rattle.std.specs.Ordering.{eq_by_cmp}
-use Rattle.std.specs.Option.{option_or}
+use Rattle.proof_words.proofs.{◌≡◌, ℕ, suc, ◌+◌, ◌<◌, ◌≤◌, ◌&&◌, ◌||◌, List, [], ◌∷◌, ◌++◌, length, take, drop, get_or, Option, Some, None, Bool, true, false, not, cond, is_some, inl, inr, sym, ap, ◌∙◌, subst, refl, arith, length-append, length-take, false≢true, lt-ltb, ltb-true, eq-eqb, eqb-true, and-false, drop_more, drop_all, nat_eq, nat_lt, eq_by_cmp, option_or, lookup, same_Some}
 use Rattle.std.specs.FinMap.{find}
-use Rattle.std.specs.Map.{lookup}
-use Rattle.std.proofs.lemmas.Option.{same_Some}
-use Rattle.rev_core.specs.Rev.{RevId, rev_cmp}
-use Rattle.rev_core.specs.RevOrder.{rev_tie_is}
-use Rattle.rev_core.specs.Ancestry.{is_among}
-use Rattle.rev_tree.specs.TreeLaws.{some_or}
-use Rattle.rev_tree.specs.Index.{falls, index_for, mark_of, noted, noted_from}
-use Rattle.rev_tree.specs.Nodes.{revs_in, places_from}
-use Rattle.rev_tree.specs.Node.{NodeValue}
-use Rattle.rev_tree.specs.declared.nodes.TheConstants.{MOST_WALKED}
+use Rattle.rev_core.specs.{RevId, rev_cmp, rev_tie_is, is_among}
+use Rattle.rev_tree.specs.{some_or, falls, index_for, mark_of, noted, noted_from, revs_in, places_from, NodeValue, MOST_WALKED}
 use Rattle.rev_tree.proofs.Linking.{length-revs_in}
 use Rattle.rev_tree.proofs.Leaves.{revs_more}
 

@@ -1,26 +1,7 @@
 -- The leaves among the nodes, counted, put in order and sorted.
-use Rattle.std.proofs.Common.{◌≡◌, ℕ, zero, suc, ◌+◌, ◌<◌, ◌≤◌, ◌&&◌, ◌++◌, ◌∷◌, [], List, Bool, true, false, cond, not, length, take, drop, get_or, filter, sym, ap, ◌∙◌, subst, Option, Some, None, is_some, refl, arith, add-one}
-use Rattle.std.proofs.lemmas.Bool.{false≢true, or_parts}
-use Rattle.std.specs.List.{list_any}
-use Rattle.std.specs.List.Sorted.{IsSortedBy, IsPermutation}
-use Rattle.std.proofs.lemmas.List.Sorted.{list_any-IsPermutation, length_permutation}
-use Rattle.std.specs.declared.cmp.Ordering.{Ordering}
-use Rattle.std.specs.declared.cmp.Ordering.TheVariants.{Less, Equal, Greater}
-use Rattle.std.specs.Ordering.{eq_by_cmp, is_lt, is_eq, bool_cmp, ordering_reverse, ordering_then}
-use Rattle.std.specs.Cmp.{IsTotalOrder}
-use Rattle.std.specs.FinMap.{keys, contains_key-keys, IsAntisymmetric}
-use Rattle.std.specs.FinMap.Entries.{by_order}
-use Rattle.std.proofs.lemmas.List.{take_all, take_more, take-append-drop, map-append, append-nil, length-append}
-use Rattle.std.proofs.lemmas.List.Elements.{filter-append}
-use Rattle.rev_core.specs.Rev.{RevId, rev_cmp}
-use Rattle.rev_tree.specs.InOrder.{in_order, placed, first_of, first_of-placed, better, only_of, same_in_order, in_order-push, in_order-cons, in_order-nil, length-placed}
-use Rattle.rev_tree.specs.Tree.{TreeValue, is_leaf, is_deleted, leaf_cmp, leaves}
-use Rattle.rev_tree.specs.Content.{ContentValue}
-use Rattle.std.specs.Option.{option_map, option_map_or, option_to_list}
-use Rattle.std.proofs.lemmas.Option.{same_Some}
-use Rattle.rev_tree.specs.LeafLaws.{leaf_cmp_total, leaf_cmp_exact, leaf_tie, any_agree, any_filter}
-use Rattle.rev_tree.specs.Nodes.{revs_in, tree_of, deletes, goes_before, Distinct, IsLinked}
-use Rattle.rev_tree.specs.Node.{NodeValue}
+use Rattle.proof_words.proofs.{◌≡◌, ℕ, zero, suc, ◌+◌, ◌<◌, ◌≤◌, ◌&&◌, ◌++◌, ◌∷◌, [], List, Bool, true, false, cond, not, length, take, drop, get_or, filter, sym, ap, ◌∙◌, subst, Option, Some, None, is_some, refl, arith, add-one, false≢true, or_parts, list_any, IsSortedBy, IsPermutation, list_any-IsPermutation, length_permutation, Ordering, Less, Equal, Greater, eq_by_cmp, is_lt, is_eq, bool_cmp, ordering_reverse, ordering_then, IsTotalOrder, keys, contains_key-keys, IsAntisymmetric, by_order, take_all, take_more, take-append-drop, map-append, append-nil, length-append, filter-append, option_map, option_map_or, option_to_list, same_Some}
+use Rattle.rev_core.specs.{RevId, rev_cmp}
+use Rattle.rev_tree.specs.{in_order, placed, first_of, first_of-placed, better, only_of, same_in_order, in_order-push, in_order-cons, in_order-nil, length-placed, TreeValue, is_leaf, is_deleted, leaf_cmp, leaves, ContentValue, leaf_cmp_total, leaf_cmp_exact, leaf_tie, any_agree, any_filter, revs_in, tree_of, deletes, goes_before, Distinct, IsLinked, NodeValue}
 use Rattle.rev_tree.proofs.Places.{is_some-node_of, node_at, read_at}
 use Rattle.rev_tree.proofs.Lookups.{leaf_is, content_is}
 use Rattle.rev_tree.proofs.Views.{has-tree_of}

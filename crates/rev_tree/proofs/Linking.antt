@@ -1,22 +1,9 @@
 -- Nodes that are added, filled and linked.
-use Rattle.std.proofs.lemmas.List.{length-map}
-use Rattle.std.proofs.Common.{◌≡◌, ℕ, zero, suc, ◌<◌, ◌⊎◌, List, [], ◌∷◌, ◌++◌, length, set, slice_get, Option, Some, None, Bool, true, false, ◌||◌, ◌&&◌, cond, is_some, IfSome, sym, ap, ◌∙◌, subst, refl, inl, inr, arith, length-append, length-set}
-use Rattle.std.proofs.lemmas.Bool.{false≢true, or_right, or_cases}
-use Rattle.std.specs.Ordering.{eq_by_cmp}
-use Rattle.std.specs.Option.{option_or}
-use Rattle.std.specs.FinMap.{find, get, from_entries}
-use Rattle.std.proofs.lemmas.Option.{same_Some}
+use Rattle.proof_words.proofs.{length-map, ◌≡◌, ℕ, zero, suc, ◌<◌, ◌⊎◌, List, [], ◌∷◌, ◌++◌, length, set, slice_get, Option, Some, None, Bool, true, false, ◌||◌, ◌&&◌, cond, is_some, IfSome, sym, ap, ◌∙◌, subst, refl, inl, inr, arith, length-append, length-set, false≢true, or_right, or_cases, eq_by_cmp, option_or, get, from_entries, same_Some}
+use Rattle.std.specs.FinMap.{find}
 use Rattle.std.specs.Cmp.{both_ways}
-use Rattle.rev_core.specs.Rev.{RevId, rev_cmp}
-use Rattle.rev_core.specs.RevOrder.{rev_tie_is, rev_tie_self}
-use Rattle.rev_core.specs.Ancestry.{is_among}
-use Rattle.rev_tree.specs.Content.{ContentValue}
-use Rattle.rev_tree.specs.Tree.{TreeValue, joined, is_parent}
-use Rattle.rev_tree.specs.TreeLaws.{get-joined, get-joined_known, some_or, same_joined, child_of_parent, parent_from_child}
-use Rattle.rev_tree.specs.Steps.{with_rev, with_edge, with_content}
-use Rattle.rev_tree.specs.Nodes.{revs_in, rev_at, node_of, Distinct, entries_of, parent_in, place_of, tree_of, IsNode, IsLinked}
-use Rattle.rev_tree.specs.Node.{NodeValue}
-use Rattle.rev_tree.specs.declared.origin.Origin.{Origin}
+use Rattle.rev_core.specs.{RevId, rev_cmp, rev_tie_is, rev_tie_self, is_among}
+use Rattle.rev_tree.specs.{ContentValue, TreeValue, joined, is_parent, get-joined, get-joined_known, some_or, same_joined, child_of_parent, parent_from_child, with_rev, with_edge, with_content, revs_in, rev_at, node_of, Distinct, entries_of, parent_in, place_of, tree_of, IsNode, IsLinked, NodeValue, Origin}
 use Rattle.rev_tree.proofs.Places.{is_some-node_of, node_rev, node_at, among_at, rev_at_place, node_of-push, place_unknown, revs_in-push, distinct_push, slice_get-append}
 use Rattle.rev_tree.proofs.Setting.{revs_in-set, node_of-set}
 use Rattle.rev_tree.proofs.Views.{part, get-origins, get-parents, get-contents, joined_entries, same_entries}

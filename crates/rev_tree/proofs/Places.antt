@@ -1,18 +1,8 @@
 -- Nodes by their places and by their revisions.
-use Rattle.std.proofs.Common.{◌≡◌, ℕ, zero, suc, ◌+◌, ◌<◌, List, [], ◌∷◌, ◌++◌, map, length, get_or, Option, Some, None, true, false, ◌||◌, cond, is_some, IfSome, slice_get, sym, ap, ◌∙◌, subst, refl, arith}
-use Rattle.std.proofs.lemmas.Bool.{false≢true, or_right, or_parts, or_from}
-use Rattle.std.proofs.lemmas.Option.{slice_get-map, slice_get_within, slice_get_read, same_Some}
-use Rattle.std.proofs.lemmas.List.{map-append}
-use Rattle.std.specs.Ordering.{eq_by_cmp}
-use Rattle.std.specs.Option.{option_map, option_or}
-use Rattle.std.specs.Cmp.{eq_by_cmp_equiv}
+use Rattle.proof_words.proofs.{◌≡◌, ℕ, zero, suc, ◌+◌, ◌<◌, List, [], ◌∷◌, ◌++◌, map, length, get_or, Option, Some, None, true, false, ◌||◌, cond, is_some, IfSome, slice_get, sym, ap, ◌∙◌, subst, refl, arith, false≢true, or_right, or_parts, or_from, slice_get-map, slice_get_within, slice_get_read, same_Some, map-append, eq_by_cmp, option_map, option_or, eq_by_cmp_equiv}
 use Rattle.std.specs.FinMap.{find}
-use Rattle.rev_core.specs.Rev.{RevId, rev_cmp}
-use Rattle.rev_core.specs.RevOrder.{rev_cmp_total, rev_tie_is, rev_tie_self}
-use Rattle.rev_core.specs.Ancestry.{is_among}
-use Rattle.rev_tree.specs.TreeLaws.{find-joined}
-use Rattle.rev_tree.specs.Nodes.{revs_in, node_of, place_of, places_from, Distinct}
-use Rattle.rev_tree.specs.Node.{NodeValue}
+use Rattle.rev_core.specs.{RevId, rev_cmp, rev_cmp_total, rev_tie_is, rev_tie_self, is_among}
+use Rattle.rev_tree.specs.{find-joined, revs_in, node_of, place_of, places_from, Distinct, NodeValue}
 
 -- the place, counted from i, is that of the revision's node
 pub record IsFound (nodes : List NodeValue) (q : RevId) (i j : ℕ) : Type 0 where

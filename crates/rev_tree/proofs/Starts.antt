@@ -1,10 +1,7 @@
 -- No nodes, and the tree of no revisions.
-use Rattle.std.proofs.Common.{[], sym, ap, ◌∙◌, is_some, refl}
-use Rattle.std.proofs.lemmas.Bool.{and_parts, false≢true}
-use Rattle.std.specs.FinMap.{get-empty}
-use Rattle.rev_core.specs.Rev.{rev_cmp}
-use Rattle.rev_tree.specs.Tree.{IsTree, has, no_revisions}
-use Rattle.rev_tree.specs.Nodes.{IsIndexed}
+use Rattle.proof_words.proofs.{[], sym, ap, ◌∙◌, is_some, refl, and_parts, false≢true, get-empty}
+use Rattle.rev_core.specs.{rev_cmp}
+use Rattle.rev_tree.specs.{IsTree, has, no_revisions, IsIndexed}
 
 pub IsIndexed-none : IsIndexed [] []
 IsIndexed-none = record { index = refl; linked = record { once = tt; each = λ r n h. absurd (false≢true (ap is_some h)) } }

@@ -1,13 +1,7 @@
 -- One step of a walk from a node to its parent.
-use Rattle.std.proofs.Common.{◌≡◌, ℕ, zero, suc, ◌<◌, List, [], ◌∷◌, length, slice_get, Some, None, true, IfSome, sym, ap, ◌∙◌, subst, refl, arith}
-use Rattle.std.specs.Option.{option_map_or}
-use Rattle.std.specs.FinMap.{FinMap, get}
-use Rattle.rev_core.specs.Rev.{RevId, rev_cmp}
-use Rattle.rev_tree.specs.Tree.{TreeValue, IsTree, has, ancestors, walk}
-use Rattle.rev_tree.specs.LeafLaws.{ancestors_step, ancestors_last}
-use Rattle.rev_tree.specs.Nodes.{revs_in, rev_at, place_of, tree_of, IsLinked}
-use Rattle.rev_tree.specs.Walks.{ancestors_at}
-use Rattle.rev_tree.specs.Node.{NodeValue}
+use Rattle.proof_words.proofs.{◌≡◌, ℕ, zero, suc, ◌<◌, List, [], ◌∷◌, length, slice_get, Some, None, true, IfSome, sym, ap, ◌∙◌, subst, refl, arith, option_map_or, FinMap, get}
+use Rattle.rev_core.specs.{RevId, rev_cmp}
+use Rattle.rev_tree.specs.{TreeValue, IsTree, has, ancestors, walk, ancestors_step, ancestors_last, revs_in, rev_at, place_of, tree_of, IsLinked, ancestors_at, NodeValue}
 use Rattle.rev_tree.proofs.Places.{node_at, rev_at_place, place_known}
 use Rattle.rev_tree.proofs.Linking.{length-revs_in}
 use Rattle.rev_tree.proofs.Lookups.{has_is, parent_is}

@@ -1,26 +1,7 @@
 -- The winner after a merge: the head, the winner before, or another leaf.
-use Rattle.std.proofs.Common.{◌≡◌, ℕ, ◌<◌, length, arith, List, [], ◌∷◌, Option, Some, None, true, false, not, cond, ◌||◌, ◌&&◌, is_some, inl, inr, ◌⊎◌, filter, slice_get, sym, ap, ◌∙◌, subst, refl}
-use Rattle.std.proofs.lemmas.Bool.{false≢true, or_cases, or_right, not-true}
-use Rattle.std.proofs.lemmas.Option.{same_Some}
-use Rattle.std.specs.List.{list_any}
-use Rattle.std.specs.Option.{option_map, option_map_or}
-use Rattle.std.specs.declared.cmp.Ordering.{Ordering}
-use Rattle.std.specs.declared.cmp.Ordering.TheVariants.{Less, Equal, Greater}
-use Rattle.std.specs.Ordering.{eq_by_cmp, is_eq, is_lt, bool_cmp, ordering_reverse, ordering_then}
-use Rattle.std.specs.Cmp.{IsTotalOrder, eq_by_cmp_equiv}
-use Rattle.std.specs.FinMap.{get, keys, get-empty}
-use Rattle.rev_core.specs.Rev.{RevId, rev_cmp}
-use Rattle.rev_core.specs.RevOrder.{rev_tie_self}
-use Rattle.rev_core.specs.Ancestry.{IsAncestry, edges_of, is_among}
-use Rattle.rev_tree.specs.Content.{ContentValue}
-use Rattle.rev_tree.specs.InOrder.{in_order, first_of, first_of-placed, better, in_order-cons, in_order-nil, any-in_order}
-use Rattle.rev_tree.specs.Tree.{TreeValue, IsTree, at_head, first_contradiction, is_deleted, is_leaf, is_parent, leaf_cmp, leaves, merged, no_revisions}
-use Rattle.rev_tree.specs.TreeLaws.{IsTree-merged, get-joined_known, has-merged_given, head_is, leaf_cases}
-use Rattle.rev_tree.specs.LeafLaws.{any_agree, is_among-leaves, leaf_above, leaf_cmp_exact, leaf_cmp_total, leaf_tie}
-use Rattle.rev_tree.specs.Node.{NodeValue}
-use Rattle.rev_tree.specs.Nodes.{IsLed, IsLinked, deletes, goes_before, revs_in, tree_of}
-use Rattle.rev_tree.specs.Steps.{AddsHead}
-use Rattle.rev_tree.specs.declared.origin.Origin.{Origin}
+use Rattle.proof_words.proofs.{◌≡◌, ℕ, ◌<◌, length, arith, List, [], ◌∷◌, Option, Some, None, true, false, not, cond, ◌||◌, ◌&&◌, is_some, inl, inr, ◌⊎◌, filter, slice_get, sym, ap, ◌∙◌, subst, refl, false≢true, or_cases, or_right, not-true, same_Some, list_any, option_map, option_map_or, Ordering, Less, Equal, Greater, eq_by_cmp, is_eq, is_lt, bool_cmp, ordering_reverse, ordering_then, IsTotalOrder, eq_by_cmp_equiv, get, keys, get-empty}
+use Rattle.rev_core.specs.{RevId, rev_cmp, rev_tie_self, IsAncestry, edges_of, is_among}
+use Rattle.rev_tree.specs.{ContentValue, in_order, first_of, first_of-placed, better, in_order-cons, in_order-nil, any-in_order, TreeValue, IsTree, at_head, first_contradiction, is_deleted, is_leaf, is_parent, leaf_cmp, leaves, merged, no_revisions, IsTree-merged, get-joined_known, has-merged_given, head_is, leaf_cases, any_agree, is_among-leaves, leaf_above, leaf_cmp_exact, leaf_cmp_total, leaf_tie, NodeValue, IsLed, IsLinked, deletes, goes_before, revs_in, tree_of, AddsHead, Origin}
 use Rattle.rev_tree.proofs.Places.{node_at, rev_at_place}
 use Rattle.rev_tree.proofs.Lookups.{content_is, leaf_is}
 use Rattle.rev_tree.proofs.Starts.{IsTree-no_revisions}

@@ -1,16 +1,9 @@
 -- Copies under names.
-use Rattle.std.proofs.Common.{◌≡◌, ◌⊎◌, inl, inr, ℕ, zero, suc, ◌+◌, ◌<◌, Bool, true, false, cond, List, [], ◌∷◌, ◌++◌, take, get_or, length, slice_get, Option, Some, None, is_some, Result, Ok, Err, nat_lt, ◌==◌, refl, sym, ap, ◌∙◌}
-use Rattle.std.specs.List.{find}
-use Rattle.std.proofs.lemmas.Bool.{cond_both, eqb-true}
-use Rattle.std.proofs.lemmas.List.{take_more}
-use Rattle.std.proofs.lemmas.Option.{slice_get-get_or, same_Some, none-some}
-use Rattle.repl_peer.specs.peer.Peer.{PeerValue}
-use Rattle.repl_peer.specs.session.Sessions.{GivesUnlessMemory}
-use Rattle.couch_base.specs.Database.{most}
-use Rattle.repl_peer.specs.peer.Backups.{BackupValue, is_target, greater_life, restore_answer, restored_by, after_restore}
-use Rattle.repl_peer.specs.declared.fault.TargetFault.{TargetFault}
+use Rattle.proof_words.proofs.{◌≡◌, ◌⊎◌, inl, inr, ℕ, zero, suc, ◌+◌, ◌<◌, Bool, true, false, cond, List, [], ◌∷◌, ◌++◌, take, get_or, length, slice_get, Option, Some, None, is_some, Result, Ok, Err, nat_lt, ◌==◌, refl, sym, ap, ◌∙◌, find, cond_both, eqb-true, take_more, slice_get-get_or, same_Some, none-some}
+use Rattle.repl_peer.specs.{PeerValue, GivesUnlessMemory, BackupValue, is_target, greater_life, restore_answer, restored_by, after_restore, TargetFault}
+use Rattle.couch_base.specs.{most}
 use Rattle.repl_peer.specs.declared.fault.TargetFault.TheVariants as faults
-use Rattle.script_databases.specs.Databases.{backed_of, backed_told}
+use Rattle.script_databases.specs.{backed_of, backed_told}
 use Rattle.script_databases.specs.declared.refusal.Refusal.TheVariants as why
 
 -- ---- looking for one

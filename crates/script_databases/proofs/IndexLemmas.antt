@@ -1,26 +1,12 @@
 -- The numbers of the databases' UUIDs, beside the databases.
-use Rattle.std.proofs.Common.{◌≡◌, ℕ, Bool, true, false, cond, List, [], refl, sym, ap, ◌∙◌, Option, Some, None, Result, Ok, Err}
-use Rattle.std.specs.Prelude.{nat_eq, option_map}
-use Rattle.std.specs.List.{list_any}
-use Rattle.std.specs.Cmp.{Equal-is}
-use Rattle.std.specs.Ordering.{eq_by_cmp, is_eq}
-use Rattle.std.specs.Map.{lookup}
-use Rattle.std.specs.FinMap.{get, insert, get-insert, get-empty}
-use Rattle.std.proofs.lemmas.Bool.{cond_both, true≢false, eqb-true, eq-eqb}
-use Rattle.std.proofs.lemmas.Cmp.{nat_list_cmp_total, tied_itself}
-use Rattle.std.proofs.lemmas.Map.Text.{is_text}
-use Rattle.std.proofs.lemmas.Option.{same_Some, none-some}
-use Rattle.rev_core.specs.Rev.{RevId}
+use Rattle.proof_words.proofs.{◌≡◌, ℕ, Bool, true, false, cond, List, [], refl, sym, ap, ◌∙◌, Option, Some, None, Result, Ok, Err, nat_eq, option_map, list_any, Equal-is, eq_by_cmp, is_eq, lookup, get, get-insert, get-empty, cond_both, true≢false, eqb-true, eq-eqb, nat_list_cmp_total, tied_itself, is_text, same_Some, none-some}
+use Rattle.std.specs.FinMap.{insert}
+use Rattle.rev_core.specs.{RevId}
 use Rattle.doc_json.specs.Document.{Document}
-use Rattle.rev_tree.specs.declared.origin.Origin.{Origin}
-use Rattle.couch_base.specs.Database.{DatabaseValue}
-use Rattle.couch_base.specs.Edit.{edited, edit_document}
-use Rattle.couch_base.specs.Put.{after_put, put_answer, is_changed}
-use Rattle.couch_base.specs.declared.fault.BaseFault.{BaseFault}
-use Rattle.repl_peer.specs.peer.Peer.{PeerValue}
-use Rattle.repl_peer.specs.peer.Writing.{after_edit, after_load, load_edited, next_local}
-use Rattle.script_databases.specs.Databases.{State, peer_at, with_peer, IsTaken, text_cmp}
-use Rattle.script_databases.specs.Stored.{Beside, Entries, peers_of, state_of, IsIndex, AllDeny, denied_of}
+use Rattle.rev_tree.specs.{Origin}
+use Rattle.couch_base.specs.{DatabaseValue, edited, edit_document, after_put, put_answer, is_changed, BaseFault}
+use Rattle.repl_peer.specs.{PeerValue, after_edit, after_load, load_edited, next_local}
+use Rattle.script_databases.specs.{State, peer_at, with_peer, IsTaken, text_cmp, Beside, Entries, peers_of, state_of, IsIndex, AllDeny, denied_of}
 use Rattle.script_databases.proofs.TableLemmas.{text_cmp-IsAntisymmetric, get-by_text}
 
 -- ---- looking up

@@ -1,24 +1,15 @@
 -- Changes of one database in a table of names.
-use Rattle.std.proofs.Common.{◌≡◌, ◌⊎◌, inl, inr, ℕ, List, refl, sym, ap, ◌∙◌, Some, None, Result, Ok, Err, OnErr, String, string_bytes}
+use Rattle.proof_words.proofs.{◌≡◌, ◌⊎◌, inl, inr, ℕ, List, refl, sym, ap, ◌∙◌, Some, None, Result, Ok, Err, OnErr, String, string_bytes, FinMap, get, UpdatesBy, lookup, bytes_eq, string_eq, is_text}
 use Rattle.std.specs.declared.alloc.Global.{Global}
-use Rattle.std.specs.FinMap.{FinMap, get, insert}
-use Rattle.std.specs.HashMap.{HashMap, UpdatesBy}
-use Rattle.std.specs.Map.{lookup}
-use Rattle.std.specs.Str.{bytes_eq}
-use Rattle.std.specs.String.{string_eq}
-use Rattle.std.proofs.lemmas.Map.Text.{is_text}
-use Rattle.rev_core.specs.Rev.{RevId}
-use Rattle.couch_base.specs.Edit.{EditGives}
-use Rattle.couch_base.specs.Put.{PutGives}
-use Rattle.couch_base.specs.declared.fault.BaseFault.{BaseFault}
+use Rattle.std.specs.FinMap.{insert}
+use Rattle.std.specs.HashMap.{HashMap}
+use Rattle.rev_core.specs.{RevId}
+use Rattle.couch_base.specs.{EditGives, PutGives, BaseFault}
 use Rattle.couch_base.specs.declared.fault.BaseFault.TheVariants as base
 use Rattle.couch_base.specs.declared.fault.Put.{Put}
-use Rattle.repl_peer.specs.peer.Peer.{PeerValue}
-use Rattle.repl_peer.specs.declared.peer.filter.Rules.{Rules}
-use Rattle.script_databases.specs.Refusals.{told_as, base_refusal}
-use Rattle.script_databases.specs.Databases.{text_cmp, peer_at, with_changed, changed_at, edited_as}
+use Rattle.repl_peer.specs.{PeerValue, Rules}
+use Rattle.script_databases.specs.{told_as, base_refusal, text_cmp, peer_at, with_changed, changed_at, edited_as, AllDeny, Beside, Entries, IsIndex, deny_of, denied_of, peers_of, state_of}
 use Rattle.script_databases.specs.declared.refusal.Refusal.TheVariants as why
-use Rattle.script_databases.specs.Stored.{AllDeny, Beside, Entries, IsIndex, deny_of, denied_of, peers_of, state_of}
 use Rattle.script_databases.proofs.IndexLemmas.{deny_kept, index_written, state_at, state_with}
 use Rattle.script_databases.proofs.TableLemmas.{found_absent, found_there, insert-same, none_there, written}
 

@@ -1,36 +1,16 @@
 -- Replications between two of the databases.
-use Rattle.std.proofs.Common.{◌≡◌, ◌≢◌, inl, inr, ℕ, Bool, true, false, cond, nat_eq, nat_lt, ◌==◌, List, [], Option, Some, None, is_some, Result, Ok, Err, String, string_bytes, refl, sym, ap, subst, ◌∙◌}
-use Rattle.std.specs.Prelude.{option_map}
-use Rattle.std.specs.List.{starts_with}
-use Rattle.std.specs.Option.{option_map_or}
+use Rattle.proof_words.proofs.{◌≡◌, ◌≢◌, inl, inr, ℕ, Bool, true, false, cond, nat_eq, nat_lt, ◌==◌, List, [], Option, Some, None, is_some, Result, Ok, Err, String, string_bytes, refl, sym, ap, subst, ◌∙◌, option_map, starts_with, option_map_or, Equal-is, eq_by_cmp, FinMap, get, contains_key, get-insert, same_map, nat_list_cmp_total, true≢false, cond_both, eq-eqb, same_Some}
 use Rattle.std.specs.declared.alloc.Global.{Global}
-use Rattle.std.specs.Cmp.{Equal-is}
-use Rattle.std.specs.Ordering.{eq_by_cmp}
-use Rattle.std.specs.FinMap.{FinMap, get, contains_key, insert, get-insert, same_map}
-use Rattle.std.proofs.lemmas.Cmp.{nat_list_cmp_total}
-use Rattle.std.proofs.lemmas.Bool.{true≢false, cond_both, eq-eqb}
-use Rattle.std.proofs.lemmas.Option.{same_Some}
+use Rattle.std.specs.FinMap.{insert}
 use Rattle.doc_json.specs.Document.{Document}
-use Rattle.repl_peer.specs.peer.Law.{LawfulSessions}
-use Rattle.repl_peer.specs.peer.Peer.{PeerValue}
-use Rattle.repl_peer.specs.peer.Rules.{rules_refuse}
-use Rattle.repl_peer.proofs.lemmas.peer.LaterPeers.{IsLaterPeer-same}
-use Rattle.repl_target.specs.replication.Calls.{IsLeft}
-use Rattle.repl_target.specs.replication.Replication.{is_batch, not_planned, plan_answer}
-use Rattle.repl_peer.specs.declared.fault.Report.{Report}
-use Rattle.repl_peer.specs.declared.fault.TargetFault.{TargetFault}
+use Rattle.repl_peer.specs.{LawfulSessions, PeerValue, rules_refuse, Report, TargetFault, Rules}
+use Rattle.repl_peer.proofs.{IsLaterPeer-same}
+use Rattle.repl_target.specs.{IsLeft, is_batch, not_planned, plan_answer, Plan}
 use Rattle.repl_peer.specs.declared.fault.TargetFault.TheVariants as refusals
-use Rattle.repl_pool.specs.Faults.{early_answer}
-use Rattle.repl_pool.specs.Runs.{EarlyOrLate, LeavesOrPuts, RunsOn}
-use Rattle.repl_pool.specs.declared.fault.PoolFault.{PoolFault}
+use Rattle.repl_pool.specs.{early_answer, EarlyOrLate, LeavesOrPuts, RunsOn, PoolFault, Place}
 use Rattle.repl_pool.specs.declared.fault.PoolFault.TheVariants as faults
-use Rattle.repl_pool.specs.declared.gate.Place.{Place}
-use Rattle.repl_pool.proofs.RunLaws.{runs_early}
-use Rattle.repl_peer.specs.declared.peer.filter.Rules.{Rules}
-use Rattle.repl_target.specs.declared.replication.Plan.{Plan}
-use Rattle.script_databases.specs.Databases.{State, peer_at, with_peer, text_cmp}
-use Rattle.script_databases.specs.Replications.{Nowhere, ReplicatesAlone, ReplicatesBetween, ReplicatesByPool, ReplicatesWatched, deny_refuses, with_both}
-use Rattle.script_databases.specs.Stored.{AllDeny, Beside, Entries, IsIndex, denied_of, deny_of, peers_of, state_of}
+use Rattle.repl_pool.proofs.{runs_early}
+use Rattle.script_databases.specs.{State, peer_at, with_peer, text_cmp, Nowhere, ReplicatesAlone, ReplicatesBetween, ReplicatesByPool, ReplicatesWatched, deny_refuses, with_both, AllDeny, Beside, Entries, IsIndex, denied_of, deny_of, peers_of, state_of}
 use Rattle.script_databases.proofs.IndexLemmas.{deny_kept, index_written}
 use Rattle.script_databases.proofs.TableLemmas.{insert-same, text_cmp-IsAntisymmetric}
 

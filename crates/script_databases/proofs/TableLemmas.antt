@@ -1,19 +1,9 @@
 -- Tables by the bytes of their names.
-use Rattle.std.proofs.Common.{◌≡◌, ℕ, Bool, true, false, cond, List, [], ◌∷◌, map, refl, sym, ap, ◌∙◌, Option, Some, None, String, string_bytes, is_some}
-use Rattle.std.specs.Prelude.{option_map}
+use Rattle.proof_words.proofs.{◌≡◌, ℕ, Bool, true, false, cond, List, [], ◌∷◌, map, refl, sym, ap, ◌∙◌, Option, Some, None, String, string_bytes, is_some, option_map, lookup, update, bytes_eq, Equal-is, eq_by_cmp_equiv, eq_by_cmp, FinMap, get, contains_key, get-from_entries, get-insert, same_map, slice_cmp-IsAntisymmetric, nat_cmp-IsAntisymmetric, IsAntisymmetric, nat_list_cmp_total, UpdatesBy, string_eq, is_text, is_eq-slice_cmp, hash_map_updates_text, true≢false}
 use Rattle.std.specs.declared.alloc.Global.{Global}
-use Rattle.std.specs.Map.{lookup, update}
-use Rattle.std.specs.Str.{bytes_eq}
-use Rattle.std.specs.Cmp.{Equal-is, eq_by_cmp_equiv}
-use Rattle.std.specs.Ordering.{eq_by_cmp}
-use Rattle.std.specs.FinMap.{FinMap, find, get, contains_key, insert, get-from_entries, get-insert, same_map, slice_cmp-IsAntisymmetric, nat_cmp-IsAntisymmetric, IsAntisymmetric}
-use Rattle.std.proofs.lemmas.Cmp.{nat_list_cmp_total}
-use Rattle.std.specs.HashMap.{HashMap, UpdatesBy}
-use Rattle.std.specs.String.{string_eq}
-use Rattle.std.proofs.lemmas.Map.Text.{is_text, is_eq-slice_cmp, hash_map_updates_text}
-use Rattle.std.proofs.lemmas.Bool.{true≢false}
-use Rattle.script_databases.specs.Databases.{text_cmp}
-use Rattle.script_databases.specs.Stored.{by_text}
+use Rattle.std.specs.FinMap.{find, insert}
+use Rattle.std.specs.HashMap.{HashMap}
+use Rattle.script_databases.specs.{text_cmp, by_text}
 
 pub text_cmp-IsAntisymmetric : IsAntisymmetric text_cmp
 text_cmp-IsAntisymmetric = slice_cmp-IsAntisymmetric nat_cmp-IsAntisymmetric

@@ -1,8 +1,7 @@
 //! Why a line is refused.
 ghost use Rattle.std.specs.Prelude.{◌≡◌};
 ghost use Rattle.script_databases.specs.declared.refusal.Refusal.TheVariants.{Memory};
-ghost use Rattle.script_databases.specs.Refusals.{name_of};
-ghost use Rattle.script_databases.specs.Refusals.{base_refusal, doc_refusal, log_refusal, rev_refusal, run_stop_of, stop_of, target_refusal};
+ghost use Rattle.script_databases.specs.Refusals.{name_of, base_refusal, doc_refusal, log_refusal, rev_refusal, run_stop_of, stop_of, target_refusal};
 
 use couch_base::BaseFault;
 use doc_json::DocFault;

@@ -1,7 +1,6 @@
 -- An answer in pieces.
-use Rattle.std.proofs.Common.{◌≡◌, ℕ, List, [], ◌++◌, Option, Some, None, Result, Ok, Err, refl, sym, append-nil}
-use Rattle.std.specs.Prelude.{OnErr}
-use Rattle.script_engine.specs.Serving.{text_with}
+use Rattle.proof_words.proofs.{◌≡◌, ℕ, List, [], ◌++◌, Option, Some, None, Result, Ok, Err, refl, sym, append-nil, OnErr}
+use Rattle.script_engine.specs.{text_with}
 
 -- its first piece, and what is left
 pub text_with-piece : {R : Type 0} (left : R → List ℕ) (piece : List ℕ) (rest : Option R) → text_with left piece rest ≡ piece ++ text_with left [] rest

@@ -1,17 +1,8 @@
 -- A script as far as it was read.
-use Rattle.std.proofs.Common.{inl, inr, ◌≡◌, Bool, ℕ, ◌+◌, ◌*◌, ◌<◌, ◌≤◌, List, [], ◌++◌, length, true, false, refl, sym, ap, subst, ◌∙◌, arith, append_assoc, append-nil, length-append, Option, Some, None}
-use Rattle.std.specs.Prelude.{unwrap_or, min}
-use Rattle.std.specs.Io.KnownBytes.{Consumes, Appends, Keeps, IsAtEnd}
-use Rattle.std.proofs.KnownBytes.{Appends-nil, Appends-trans, Appends-kept, Consumes-nil, Consumes-trans, Consumes-kept}
-use Rattle.script_engine.specs.Chunks.{ReadsChunk}
-use Rattle.script_engine.specs.Device.{FailsOnce, Gives, full}
-use Rattle.script_engine.specs.Faults.{FeedsUntil, IsInAnswer, IsOfWriter, IsFaultOf, IsToldUntil, LeavesAs}
-use Rattle.script_engine.specs.declared.fault.ScriptFault.{ScriptFault}
+use Rattle.proof_words.proofs.{inl, inr, ◌≡◌, Bool, ℕ, ◌+◌, ◌*◌, ◌<◌, ◌≤◌, List, [], ◌++◌, length, true, false, refl, sym, ap, subst, ◌∙◌, arith, append_assoc, append-nil, length-append, Option, Some, None, unwrap_or, min, Consumes, Appends, Keeps, IsAtEnd, Appends-nil, Appends-trans, Appends-kept, Consumes-nil, Consumes-trans, Consumes-kept}
+use Rattle.script_engine.specs.{ReadsChunk, FailsOnce, Gives, full, FeedsUntil, IsInAnswer, IsOfWriter, IsFaultOf, IsToldUntil, LeavesAs, ScriptFault, has_line_end, lines_of, Answering, AnswersEnded, IsAnswered, IsAnsweredSoFar, AnswersFirst, Place, start, Begins, Feeds, Finishes, FinishesInPart}
 use Rattle.script_engine.specs.declared.fault.ScriptFault.TheVariants.{Read, Write, Memory, Cut}
-use Rattle.script_engine.specs.Lines.{has_line_end, lines_of}
-use Rattle.script_engine.specs.Serving.{Answering}
-use Rattle.script_engine.specs.Script.{AnswersEnded, IsAnswered, IsAnsweredSoFar, AnswersFirst}
-use Rattle.script_engine.specs.Served.{Place, start, Served, Begins, Feeds, Finishes, FinishesInPart}
+use Rattle.script_engine.specs.Served.{Served}
 use Rattle.script_engine.proofs.ServedLemmas.{Served-none, Served-joined, Begins-joined, Begins-more, is_answered, is_answered_so_far}
 
 -- these bytes were read in so many turns, and served, and their answers written

@@ -1,14 +1,8 @@
 -- What is left of a comparison of two databases that are there.
-use Rattle.std.proofs.Common.{◌≡◌, ℕ, List, ◌++◌}
-use Rattle.std.specs.List.{flat_map}
-use Rattle.couch_base.specs.Database.{DatabaseValue}
-use Rattle.couch_base.specs.Feed.{RowValue}
-use Rattle.repl_survey.specs.Comparisons.{comparisons}
-use Rattle.repl_survey.specs.Totals.{total_of}
-use Rattle.repl_survey.specs.declared.total.Total.{Total}
-use Rattle.script_reads.specs.Walks.{rows_left, rows_walked}
-use Rattle.script_reads.specs.Compare.{compared_line, compared_lines}
-use Rattle.script_reads.specs.declared.feed.Walk.{Walk}
+use Rattle.proof_words.proofs.{◌≡◌, ℕ, List, ◌++◌, flat_map}
+use Rattle.couch_base.specs.{DatabaseValue, RowValue}
+use Rattle.repl_survey.specs.{comparisons, total_of, Total}
+use Rattle.script_reads.specs.{rows_left, rows_walked, compared_line, compared_lines, Walk}
 
 abbrev pub compare_rest : DatabaseValue → DatabaseValue → Walk → List ℕ
 compare_rest d t walk = flat_map (compared_lines d t) (rows_left d walk) ++ compared_line (total_of (comparisons d t (rows_walked d walk)))

@@ -1,14 +1,10 @@
 -- What is left of an answer about databases that are there.
-use Rattle.std.proofs.Common.{◌≡◌, List, [], ℕ, ◌++◌, Option, Some, None, Result, Ok, Err, Bool, true, false, sym, ap, subst, ◌∙◌, IsErrAnd}
-use Rattle.std.specs.Prelude.{if◌then◌else◌, IfOk, IfErr}
-use Rattle.repl_peer.specs.peer.Peer.{PeerValue}
-use Rattle.script_engine.specs.Serving.{Told, Answering, MayTell, gave_up, text_with}
-use Rattle.script_databases.specs.Databases.{State, peer_at}
-use Rattle.script_databases.specs.Refusals.{name_of}
-use Rattle.script_databases.specs.declared.refusal.Refusal.{Refusal}
+use Rattle.proof_words.proofs.{◌≡◌, List, [], ℕ, ◌++◌, Option, Some, None, Result, Ok, Err, Bool, true, false, sym, ap, subst, ◌∙◌, IsErrAnd, if◌then◌else◌, IfOk, IfErr}
+use Rattle.repl_peer.specs.{PeerValue}
+use Rattle.script_engine.specs.{Told, Answering, MayTell, gave_up, text_with}
+use Rattle.script_databases.specs.{State, peer_at, name_of, Refusal}
 use Rattle.script_databases.specs.declared.refusal.Refusal.TheVariants as why
-use Rattle.script_reads.specs.Rest.{rest_left, told_begun, told_from}
-use Rattle.script_reads.specs.Walks.{left_in, holds_in}
+use Rattle.script_reads.specs.{rest_left, told_begun, told_from, left_in, holds_in}
 use Rattle.script_reads.specs.declared.rest.Rest.{Rest}
 
 pub left_found : (s : State) {name db : List ℕ} {l : PeerValue} (text : PeerValue → List ℕ) → db ≡ name → peer_at s name ≡ Some l → left_in (peer_at s db) text ≡ text l

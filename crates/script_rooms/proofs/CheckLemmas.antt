@@ -1,13 +1,12 @@
 -- Checks, one behind the other, and what a line leaves that is refused at one of them.
-use Rattle.std.proofs.Common.{◌≡◌, ℕ, List, Option, Some, None, Result, Ok, Err, refl, sym, ap, subst}
-use Rattle.repl_peer.specs.peer.Peer.{PeerValue}
-use Rattle.script_engine.specs.Serving.{Told}
+use Rattle.proof_words.proofs.{◌≡◌, ℕ, List, Option, Some, None, Result, Ok, Err, refl, sym, ap, subst}
+use Rattle.repl_peer.specs.{PeerValue}
+use Rattle.script_engine.specs.{Told}
 use Rattle.script_databases.specs.AllTied.{AllTied}
-use Rattle.script_databases.specs.Databases.{State, peer_at}
-use Rattle.script_databases.specs.declared.refusal.Refusal.{Refusal}
-use Rattle.rev_core.specs.Checks.{◌>>=◌, or_refused}
-use Rattle.script_rooms.specs.Telling.{Does, database_of}
-use Rattle.script_databases.proofs.ties.Calls.{same_Ok}
+use Rattle.script_databases.specs.{State, peer_at, Refusal}
+use Rattle.rev_core.specs.{◌>>=◌, or_refused}
+use Rattle.script_rooms.specs.{Does, database_of}
+use Rattle.script_databases.proofs.{same_Ok}
 use Rattle.script_databases.specs.declared.refusal.Refusal.TheVariants as why
 
 -- where a check is passed, and what stands behind it

@@ -1,10 +1,7 @@
 -- Laws of members and names.
-use Rattle.std.proofs.Common.{◌≡◌, ℕ, List, [], ◌∷◌, ◌&&◌, ◌||◌, map, refl, ap, ◌∙◌, Bor}
-use Rattle.std.specs.List.{list_any, list_all}
-use Rattle.std.specs.Str.{bytes_eq}
-use Rattle.json_values.specs.LineView.{line_members}
-use Rattle.json_values.specs.declared.line.LineValue.{LineValue}
-use Rattle.script_rooms.specs.Members.{is_among, all_among}
+use Rattle.proof_words.proofs.{◌≡◌, ℕ, List, [], ◌∷◌, ◌&&◌, ◌||◌, map, refl, ap, ◌∙◌, Bor, list_any, list_all, bytes_eq}
+use Rattle.json_values.specs.{line_members, LineValue}
+use Rattle.script_rooms.specs.{is_among, all_among}
 
 -- a test of the references is the test of what they point to
 pub is_among-refs : (key : List ℕ) (ks : List (Bor (List ℕ))) → list_any (λ k. bytes_eq key k.now) ks ≡ is_among (map (λ k. k.now) ks) key

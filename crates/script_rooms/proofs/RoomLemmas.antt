@@ -1,10 +1,8 @@
 -- From what a room may tell to what is told to what an object asks.
-use Rattle.std.proofs.Common.{◌≡◌, Result, Ok, Err, refl, sym, subst}
-use Rattle.script_engine.specs.Serving.{Told, Answering, MayTell, in_full}
-use Rattle.script_databases.specs.Databases.{State}
-use Rattle.script_databases.specs.Refusals.{name_of}
-use Rattle.script_databases.specs.declared.refusal.Refusal.{Refusal}
-use Rattle.script_rooms.specs.Telling.{AnswersIn}
+use Rattle.proof_words.proofs.{◌≡◌, Result, Ok, Err, refl, sym, subst}
+use Rattle.script_engine.specs.{Told, Answering, MayTell, in_full}
+use Rattle.script_databases.specs.{State, name_of, Refusal}
+use Rattle.script_rooms.specs.{AnswersIn}
 use Rattle.script_rooms.proofs.TellingLemmas.{may_tell}
 
 -- what is asked is answered as its room may answer it

@@ -1,17 +1,13 @@
 -- From checks that pass, or don't, to what a word is told.
-use Rattle.std.proofs.Common.{◌≡◌, ◌⊎◌, inl, inr, ℕ, Bool, true, false, List, [], ◌++◌, Option, Some, None, Result, Ok, Err, IsErrAnd, refl, sym, ap, subst, ◌∙◌, is_some}
-use Rattle.std.proofs.lemmas.Bool.{true≢false}
-use Rattle.std.specs.FinMap.{contains_key}
-use Rattle.rev_tree.specs.Tree.{TreeValue}
-use Rattle.couch_base.specs.Database.{DatabaseValue, tree_in}
-use Rattle.repl_peer.specs.peer.Peer.{PeerValue}
-use Rattle.script_engine.specs.Serving.{Told, Answering, MayTell, in_full, gave_up, served_only}
-use Rattle.script_databases.specs.Databases.{State, peer_at, with_peer, with_changed, changed_at}
-use Rattle.script_databases.specs.Refusals.{name_of}
-use Rattle.script_databases.specs.declared.refusal.Refusal.{Refusal}
+use Rattle.proof_words.proofs.{◌≡◌, ◌⊎◌, inl, inr, ℕ, Bool, true, false, List, [], ◌++◌, Option, Some, None, Result, Ok, Err, IsErrAnd, refl, sym, ap, subst, ◌∙◌, is_some, true≢false, contains_key}
+use Rattle.rev_tree.specs.{TreeValue}
+use Rattle.couch_base.specs.{DatabaseValue, tree_in}
+use Rattle.repl_peer.specs.{PeerValue}
+use Rattle.script_engine.specs.{Told, Answering, MayTell, in_full, gave_up, served_only}
+use Rattle.script_databases.specs.{State, peer_at, with_peer, with_changed, changed_at, name_of, Refusal}
 use Rattle.script_databases.specs.declared.refusal.Refusal.TheVariants as why
-use Rattle.rev_core.specs.Checks.{◌>>=◌, or_refused}
-use Rattle.script_rooms.specs.Telling.{hushed, told_hushed, told_by, told_of, Reads, Does, UnlessQuiet}
+use Rattle.rev_core.specs.{◌>>=◌, or_refused}
+use Rattle.script_rooms.specs.{hushed, told_hushed, told_by, told_of, Reads, Does, UnlessQuiet}
 
 -- ---- checks
 

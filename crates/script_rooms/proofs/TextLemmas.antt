@@ -1,11 +1,7 @@
 -- The texts of lists.
-use Rattle.std.proofs.Common.{◌≡◌, ℕ, ◌+◌, ◌<◌, ◌≤◌, List, [], ◌∷◌, ◌++◌, length, take, get_or, map, sym, ap, ◌∙◌, append_assoc, append-nil, arith}
-use Rattle.std.proofs.lemmas.Grind.{flat_map-append}
-use Rattle.std.specs.List.{flat_map, join_with_byte}
-use Rattle.std.proofs.lemmas.List.{take_more, map-append}
-use Rattle.rev_core.specs.Rev.{RevId}
-use Rattle.rev_core.specs.Text.{rev_text}
-use Rattle.script_rooms.specs.Texts.{texts_of_revs}
+use Rattle.proof_words.proofs.{◌≡◌, ℕ, ◌+◌, ◌<◌, ◌≤◌, List, [], ◌∷◌, ◌++◌, length, take, get_or, map, sym, ap, ◌∙◌, append_assoc, append-nil, arith, flat_map-append, flat_map, join_with_byte, take_more, map-append}
+use Rattle.rev_core.specs.{RevId, rev_text}
+use Rattle.script_rooms.specs.{texts_of_revs}
 
 join-push : (c : ℕ) (x y : List ℕ) (xs : List (List ℕ)) → join_with_byte c ((x ∷ xs) ++ y ∷ []) ≡ (join_with_byte c (x ∷ xs) ++ c ∷ []) ++ y
 join-push c x y [] = sym (append_assoc x (c ∷ []) y)

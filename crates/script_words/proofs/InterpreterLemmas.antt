@@ -1,19 +1,11 @@
 -- A script that was run on databases that are there, and the names of refusals.
-use Rattle.std.proofs.Common.{◌≡◌, ◌≤◌, ℕ, List, length, Bool, Option, Result, Ok, Err, subst, arith}
-use Rattle.std.specs.Prelude.{IfOk, IfErr}
-use Rattle.std.specs.Io.KnownBytes.{Appends, Consumes}
-use Rattle.script_engine.specs.Device.{Gives}
-use Rattle.script_engine.specs.Faults.{IsFaultOf, IsToldUntil}
-use Rattle.script_engine.specs.Script.{AnswersEnded, IsAnswered}
-use Rattle.script_engine.specs.declared.fault.ScriptFault.{ScriptFault}
+use Rattle.proof_words.proofs.{◌≡◌, ◌≤◌, ℕ, List, length, Bool, Option, Result, Ok, Err, subst, arith, IfOk, IfErr, Appends, Consumes}
+use Rattle.script_engine.specs.{Gives, IsFaultOf, IsToldUntil, AnswersEnded, IsAnswered, ScriptFault}
 use Rattle.script_engine.specs.declared.fault.ScriptFault.TheVariants.{Read}
-use Rattle.script_databases.specs.Databases.{State}
-use Rattle.script_databases.specs.Refusals.{name_of}
-use Rattle.script_databases.specs.declared.refusal.Refusal.{Refusal}
+use Rattle.script_databases.specs.{State, name_of, Refusal}
 use Rattle.script_databases.specs.declared.refusal.Refusal.TheVariants as whys
 use Rattle.script_databases.specs.AllTied.{AllTied}
-use Rattle.script_words.specs.Script.{LinesAnswer}
-use Rattle.script_words.specs.Trust.{TrustedLines}
+use Rattle.script_words.specs.{LinesAnswer, TrustedLines}
 use Rattle.script_words.proofs.trust.Lines.{answered_trusted, ended_trusted, until_trusted}
 
 -- the state that is left is one

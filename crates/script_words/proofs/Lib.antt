@@ -1,3 +1,6 @@
 pub mod WordLemmas
 pub mod InterpreterLemmas
 pub mod trust
+pub use WordLemmas.{word_answered}
+pub use InterpreterLemmas.{name_short, same_start, same_trust, some_end, some_state, some_trust}
+pub use trust.Lines.{until_trusted}

@@ -1,13 +1,10 @@
 -- From what a word's room may tell to what its line may be told.
-use Rattle.std.proofs.Common.{Result, Ok, Err}
-use Rattle.script_engine.specs.Serving.{Told, Answering, MayTell}
-use Rattle.script_databases.specs.Databases.{State}
-use Rattle.script_databases.specs.declared.refusal.Refusal.{Refusal}
-use Rattle.script_rooms.specs.Checks.{seen_as}
-use Rattle.script_words.specs.Script.{AnswersAsked}
-use Rattle.script_rooms.specs.Telling.{AnswersIn}
-use Rattle.script_words.specs.words.{Asked, WordsAnswer}
-use Rattle.script_rooms.proofs.TellingLemmas.{may_tell}
+use Rattle.proof_words.proofs.{Result, Ok, Err}
+use Rattle.script_engine.specs.{Told, Answering, MayTell}
+use Rattle.script_databases.specs.{State, Refusal}
+use Rattle.script_rooms.specs.{seen_as, AnswersIn}
+use Rattle.script_words.specs.{AnswersAsked, Asked, WordsAnswer}
+use Rattle.script_rooms.proofs.{may_tell}
 
 -- what a word's room answers, the line is told
 pub word_answered : {K : Type 0} {room : Answering State K} {old new : State} {told : Told} (word : K → Asked) → ((ask : K) (t : Told) → room old ask t new → WordsAnswer old (word ask) t new) → (part : Result K Refusal) → MayTell (AnswersIn room) old part told new → MayTell AnswersAsked old (seen_as word part) told new

@@ -1,15 +1,13 @@
 -- What loads are told, by their parts.
-use Rattle.std.proofs.Common.{◌≡◌, inl, inr, ℕ, List, Option, Some, None, Result, Ok, Err, refl, sym, subst}
+use Rattle.proof_words.proofs.{◌≡◌, inl, inr, ℕ, List, Option, Some, None, Result, Ok, Err, refl, sym, subst}
 use Rattle.doc_json.specs.Document.{Document}
 use Rattle.couch_base.specs.declared.fault.Put.{Put}
-use Rattle.repl_peer.specs.peer.Peer.{PeerValue}
-use Rattle.script_engine.specs.Serving.{Told, MayTell, in_full, gave_up, served_only}
-use Rattle.script_databases.specs.Databases.{State, peer_at, IsTaken, drawn_one, load_answer, next_made}
-use Rattle.script_databases.specs.Refusals.{name_of}
-use Rattle.script_databases.specs.declared.refusal.Refusal.{Refusal}
+use Rattle.repl_peer.specs.{PeerValue}
+use Rattle.script_engine.specs.{Told, MayTell, in_full, gave_up, served_only}
+use Rattle.script_databases.specs.{State, peer_at, IsTaken, drawn_one, load_answer, next_made, name_of, Refusal}
 use Rattle.script_databases.specs.declared.refusal.Refusal.TheVariants as why
-use Rattle.script_rooms.specs.Given.{document_given}
-use Rattle.script_writes.specs.Load.{LoadAsk, NamedLoad, LoadsLoud, LoadsAt, LoadsNamed, LoadsNew}
+use Rattle.script_rooms.specs.{document_given}
+use Rattle.script_writes.specs.{LoadAsk, NamedLoad, LoadsLoud, LoadsAt, LoadsNamed, LoadsNew}
 
 -- where it is known whether the database is there, whether a UUID is given, and what the document is
 pub loads : (old new : State) (ask : LoadAsk) (told : Told) (there : Option PeerValue) (uuid : Option ℕ) (doc : Result (Option Document) Refusal) → peer_at old ask.db ≡ there → ask.uuid ≡ uuid → document_given ask.doc ≡ doc →

@@ -1,19 +1,14 @@
 -- What replications are told.
-use Rattle.std.proofs.Common.{◌≡◌, ◌≤◌, ◌<◌, inl, inr, ℕ, List, Option, Some, None, Result, Ok, Err, refl, sym, ap, subst, ◌∙◌}
-use Rattle.doc_json.specs.Chosen.{Choice}
-use Rattle.repl_peer.specs.peer.Peer.{PeerValue}
-use Rattle.repl_target.specs.declared.replication.Plan.{Plan}
-use Rattle.script_engine.specs.Serving.{Told}
-use Rattle.script_databases.specs.Databases.{Program, State, peer_at}
-use Rattle.script_databases.specs.Replications.{ReplicatesBetween}
-use Rattle.script_databases.specs.declared.refusal.Refusal.{Refusal}
+use Rattle.proof_words.proofs.{◌≡◌, ◌≤◌, ◌<◌, inl, inr, ℕ, List, Option, Some, None, Result, Ok, Err, refl, sym, ap, subst, ◌∙◌}
+use Rattle.doc_json.specs.{Choice}
+use Rattle.repl_peer.specs.{PeerValue}
+use Rattle.repl_target.specs.{Plan}
+use Rattle.script_engine.specs.{Told}
+use Rattle.script_databases.specs.{Program, State, peer_at, ReplicatesBetween, Refusal, GivesOrMemory, name_of}
 use Rattle.script_databases.specs.declared.refusal.Refusal.TheVariants as why
-use Rattle.script_databases.specs.Refusals.{GivesOrMemory, name_of}
-use Rattle.script_rooms.specs.Given.{choice_given}
-use Rattle.script_rooms.specs.Telling.{told_of}
-use Rattle.script_writes.specs.Replicate.{EndsBy, ReplicateAsk, ReportsReplication, ReplicatesFound, both_of, last_second, moment_of, plan_of, plan_with, replicated_text, session_of, with_drawn, with_session}
-use Rattle.script_writes.specs.declared.replicate.Ending.{Ending}
-use Rattle.script_rooms.proofs.TellingLemmas.{passes, is_found}
+use Rattle.script_rooms.specs.{choice_given, told_of}
+use Rattle.script_writes.specs.{EndsBy, ReplicateAsk, ReportsReplication, ReplicatesFound, both_of, last_second, moment_of, plan_of, plan_with, replicated_text, session_of, with_drawn, with_session, Ending}
+use Rattle.script_rooms.proofs.{passes, is_found}
 
 -- where it is known whether both databases are there
 pub replicates : (old new : State) (ask : ReplicateAsk) (told : Told) (found : Result (PeerValue × PeerValue) Refusal) → both_of old ask ≡ found → ReplicatesFound old ask found told new → ReportsReplication old ask told new

@@ -1,5 +1,5 @@
 -- The viewer's seat is one of the board.
-use Rattle.progress_board.specs.Seats.{CameWith}
+use Rattle.progress_board.specs.{CameWith}
 use Rattle.example_pool.proofs.watch.Given as goal
 
 abbrev pub invariant-loop : goal.invariant-loop

@@ -1,12 +1,7 @@
 -- Members of lists that were filtered or joined, and members at places.
-use Rattle.std.proofs.Common.{◌≡◌, ◌⊎◌, ℕ, zero, suc, List, [], ◌∷◌, ◌++◌, filter, Bool, true, Some, slice_get, sym, ap, ◌∙◌, subst, inl, inr}
-use Rattle.std.specs.Ordering.{eq_by_cmp}
-use Rattle.std.proofs.lemmas.Bool.{cond_both, both_ways, or_cases, or_left, or_right, false≢true}
-use Rattle.rev_core.specs.Rev.{RevId, rev_cmp}
-use Rattle.rev_core.specs.RevOrder.{rev_tie_is, rev_tie_self}
-use Rattle.rev_core.specs.Ancestry.{is_among}
-use Rattle.couch_base.specs.Lists.{Among}
-use Rattle.couch_base.specs.ListLaws.{some_is, none_some}
+use Rattle.proof_words.proofs.{◌≡◌, ◌⊎◌, ℕ, zero, suc, List, [], ◌∷◌, ◌++◌, filter, Bool, true, Some, slice_get, sym, ap, ◌∙◌, subst, inl, inr, eq_by_cmp, cond_both, both_ways, or_cases, or_left, or_right, false≢true}
+use Rattle.rev_core.specs.{RevId, rev_cmp, rev_tie_is, rev_tie_self, is_among}
+use Rattle.couch_base.specs.{Among, some_is, none_some}
 
 pub Among-filter : {X : Type 0} (p : X → Bool) (x : X) (xs : List X) → Among x (filter p xs) → Among x xs × (p x ≡ true)
 Among-filter p x [] m = absurd m

@@ -1,13 +1,7 @@
 -- What stands at a name of a state, where a peer was written at one.
-use Rattle.std.proofs.Common.{◌≡◌, ◌≢◌, ◌⊎◌, inl, inr, ℕ, Bool, false, cond, List, refl, sym, ap, ◌∙◌, true, Some}
-use Rattle.std.proofs.lemmas.Bool.{true≢false}
-use Rattle.repl_peer.specs.peer.Peer.{PeerValue}
-use Rattle.std.specs.Cmp.{Equal-is}
-use Rattle.std.specs.Ordering.{eq_by_cmp, is_eq}
-use Rattle.std.specs.FinMap.{get-insert}
-use Rattle.std.proofs.lemmas.Cmp.{nat_list_cmp_total, tied_itself}
-use Rattle.std.proofs.lemmas.Option.{same_Some}
-use Rattle.script_databases.specs.Databases.{State, peer_at, text_cmp, with_peer}
+use Rattle.proof_words.proofs.{◌≡◌, ◌≢◌, ◌⊎◌, inl, inr, ℕ, Bool, false, cond, List, refl, sym, ap, ◌∙◌, true, Some, true≢false, Equal-is, eq_by_cmp, is_eq, get-insert, nat_list_cmp_total, tied_itself, same_Some}
+use Rattle.repl_peer.specs.{PeerValue}
+use Rattle.script_databases.specs.{State, peer_at, text_cmp, with_peer}
 use Rattle.script_databases.proofs.TableLemmas.{text_cmp-IsAntisymmetric}
 use Rattle.script_databases.proofs.ReplicationLemmas.{other}
 

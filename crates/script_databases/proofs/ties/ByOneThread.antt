@@ -1,19 +1,12 @@
 -- Replications by one thread between two of the databases keep all of them tied, and cover what they say.
-use Rattle.std.proofs.Common.{◌≡◌, ◌≢◌, ◌⊎◌, inl, inr, ℕ, Bool, List, [], Result, Ok, Err, refl, sym, subst, Some, IfOk}
-use Rattle.std.proofs.lemmas.Bool.{eqb-false}
+use Rattle.proof_words.proofs.{◌≡◌, ◌≢◌, ◌⊎◌, inl, inr, ℕ, Bool, List, [], Result, Ok, Err, refl, sym, subst, Some, IfOk, eqb-false}
 use Rattle.doc_json.specs.Document.{Document}
-use Rattle.repl_log.specs.Entry.{EntryValue}
-use Rattle.repl_peer.specs.declared.fault.TargetFault.{TargetFault}
-use Rattle.repl_peer.specs.peer.Peer.{PeerValue}
-use Rattle.repl_peer.specs.logs.Checkpoint.{rep_between}
-use Rattle.repl_peer.specs.logs.Logs.{after_put_entry}
-use Rattle.repl_target.specs.declared.replication.Plan.{Plan}
-use Rattle.repl_target.specs.replication.Replication.{Replicates, not_planned, no_memory, not_begun, cut, ended}
-use Rattle.script_databases.specs.Databases.{State, peer_at}
-use Rattle.script_databases.specs.Replications.{with_both, KeepsTied, deny_refuses, ReplicatesAlone}
-use Rattle.script_databases.specs.AllTied.{AllTied, CoversUpTo}
-use Rattle.repl_peer.specs.declared.fault.Report.{Report}
-use Rattle.repl_target.proofs.lemmas.replication.ReplicationAsCalls.{replicates_left}
+use Rattle.repl_log.specs.{EntryValue}
+use Rattle.repl_peer.specs.{TargetFault, PeerValue, rep_between, after_put_entry, Report}
+use Rattle.repl_target.specs.{Plan, Replicates, not_planned, no_memory, not_begun, cut, ended}
+use Rattle.script_databases.specs.{State, peer_at, with_both, KeepsTied, deny_refuses, ReplicatesAlone, CoversUpTo}
+use Rattle.script_databases.specs.AllTied.{AllTied}
+use Rattle.repl_target.proofs.{replicates_left}
 use Rattle.script_databases.proofs.ReplicationLemmas.{plan_apart}
 use Rattle.script_databases.proofs.ties.Replications.{Unchanged, covered_at, moved_tied, put_of}
 

@@ -1,19 +1,10 @@
 -- Runs of the pool between two of the databases keep all of them tied, and cover what they say.
-use Rattle.std.proofs.Common.{◌≡◌, ◌≢◌, inl, inr, ℕ, List, [], Result, Ok, Err, refl, sym, ap, subst, ◌∙◌, Option, Some, IfOk}
-use Rattle.std.proofs.lemmas.Bool.{eqb-false}
-use Rattle.repl_peer.specs.peer.Peer.{PeerValue}
-use Rattle.repl_target.specs.declared.replication.Plan.{Plan}
-use Rattle.repl_target.specs.ties.Ties.{IsTiedPair}
-use Rattle.std.specs.Prelude.{sum}
-use Rattle.script_databases.specs.Databases.{State, peer_at}
-use Rattle.script_databases.specs.Replications.{with_both, Nowhere, deny_refuses, ReplicatesByPool, ReplicatesWatched, unwatched}
-use Rattle.script_databases.specs.AllTied.{AllTied, CoversUpTo}
-use Rattle.repl_peer.specs.declared.fault.Report.{Report}
-use Rattle.repl_pool.specs.Faults.{early_answer}
-use Rattle.repl_pool.specs.Runs.{EarlyOrLate, EndsWell, RunsOn}
-use Rattle.repl_pool.specs.declared.fault.PoolFault.{PoolFault}
-use Rattle.repl_target.specs.Audit.{CoversFeed}
-use Rattle.script_databases.specs.declared.watched.Watched.{Watched}
+use Rattle.proof_words.proofs.{◌≡◌, ◌≢◌, inl, inr, ℕ, List, [], Result, Ok, Err, refl, sym, ap, subst, ◌∙◌, Option, Some, IfOk, eqb-false, sum}
+use Rattle.repl_peer.specs.{PeerValue, Report}
+use Rattle.repl_target.specs.{Plan, IsTiedPair, CoversFeed}
+use Rattle.script_databases.specs.{State, peer_at, with_both, Nowhere, deny_refuses, ReplicatesByPool, ReplicatesWatched, unwatched, CoversUpTo, Watched}
+use Rattle.script_databases.specs.AllTied.{AllTied}
+use Rattle.repl_pool.specs.{early_answer, EarlyOrLate, EndsWell, RunsOn, PoolFault}
 use Rattle.script_databases.proofs.ReplicationLemmas.{run_apart}
 use Rattle.script_databases.proofs.ties.TwoChanged.{Moves}
 use Rattle.script_databases.proofs.ties.Replications.{Unchanged, covered_at, moved_tied, put_of}

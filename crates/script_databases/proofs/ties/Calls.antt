@@ -1,23 +1,13 @@
 -- What each call on the databases leaves: all of them stay tied, and a replication covers what it says.
-use Rattle.std.proofs.Common.{◌≡◌, ℕ, Bool, List, Result, Ok, Err, refl, sym, ap, subst, Option, Some, IfOk, None}
-use Rattle.std.proofs.lemmas.Bool.{cond_both}
-use Rattle.std.proofs.lemmas.Result.{MatchResult-at_ok}
+use Rattle.proof_words.proofs.{◌≡◌, ℕ, Bool, List, Result, Ok, Err, refl, sym, ap, subst, Option, Some, IfOk, None, cond_both, MatchResult-at_ok}
 use Rattle.doc_json.specs.Document.{Document}
-use Rattle.couch_base.specs.Database.{Id}
-use Rattle.repl_peer.specs.declared.fault.TargetFault.{TargetFault}
-use Rattle.repl_peer.specs.peer.Peer.{PeerValue}
-use Rattle.repl_target.specs.declared.replication.Plan.{Plan}
-use Rattle.script_databases.specs.Databases.{Program, State, drawn_one, no_databases, peer_at, with_peer, backed_answer, backed_at, backed_by, backed_of, backup_at, changed_at, edited_at, loaded_at, put_back_by, with_backup, with_changed}
-use Rattle.script_databases.specs.Replications.{ReplicatesAlone, ReplicatesBetween, ReplicatesByPool, ReplicatesWatched, unwatched}
-use Rattle.script_databases.specs.AllTied.{AllTied, CoversUpTo}
-use Rattle.repl_peer.specs.declared.fault.Report.{Report}
-use Rattle.repl_pool.specs.declared.fault.PoolFault.{PoolFault}
-use Rattle.rev_core.specs.Rev.{RevId}
-use Rattle.repl_peer.specs.peer.Backups.{BackupValue, after_restore, copy_of, is_target}
-use Rattle.repl_peer.specs.peer.Writing.{after_load, after_edit}
-use Rattle.script_databases.specs.Refusals.{target_refusal, told_as}
-use Rattle.script_databases.specs.declared.refusal.Refusal.{Refusal}
-use Rattle.script_databases.specs.declared.watched.Watched.{Watched}
+use Rattle.couch_base.specs.{Id}
+use Rattle.repl_peer.specs.{TargetFault, PeerValue, Report, BackupValue, after_restore, copy_of, is_target, after_load, after_edit}
+use Rattle.repl_target.specs.{Plan}
+use Rattle.script_databases.specs.{Program, State, drawn_one, no_databases, peer_at, with_peer, backed_answer, backed_at, backed_by, backed_of, backup_at, changed_at, edited_at, loaded_at, put_back_by, with_backup, with_changed, ReplicatesAlone, ReplicatesBetween, ReplicatesByPool, ReplicatesWatched, unwatched, CoversUpTo, target_refusal, told_as, Refusal, Watched}
+use Rattle.script_databases.specs.AllTied.{AllTied}
+use Rattle.repl_pool.specs.{PoolFault}
+use Rattle.rev_core.specs.{RevId}
 use Rattle.repl_peer.specs.declared.fault.TargetFault.TheVariants as faults
 use Rattle.script_databases.proofs.ties.OneChanged.{edit_tied, load_tied, restore_tied}
 use Rattle.script_databases.proofs.ties.LaterStates.{none_are_tied}

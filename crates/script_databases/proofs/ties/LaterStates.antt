@@ -1,16 +1,13 @@
 -- The same databases later: all are tied where each two that are not one are.
-use Rattle.std.proofs.Common.{◌≡◌, ◌≢◌, inl, inr, ℕ, List, sym, ap, subst, ◌∙◌, Some}
-use Rattle.doc_json.specs.Chosen.{Choice}
-use Rattle.couch_base.specs.Lists.{Among}
+use Rattle.proof_words.proofs.{◌≡◌, ◌≢◌, inl, inr, ℕ, List, sym, ap, subst, ◌∙◌, Some, get-empty, same_Some, none-some}
+use Rattle.doc_json.specs.{Choice}
+use Rattle.couch_base.specs.{Among}
 use Rattle.repl_log.specs.declared.replication.RepId.{RepId}
-use Rattle.repl_peer.specs.peer.Backups.{BackupValue}
-use Rattle.repl_peer.specs.peer.Peer.{PeerValue}
-use Rattle.repl_target.specs.ties.Ties.{IsTiedWith}
-use Rattle.std.specs.FinMap.{get-empty}
-use Rattle.std.proofs.lemmas.Option.{same_Some, none-some}
-use Rattle.script_databases.specs.Databases.{Program, State, no_databases, peer_at, text_cmp}
+use Rattle.repl_peer.specs.{BackupValue, PeerValue}
+use Rattle.repl_target.specs.{IsTiedWith}
+use Rattle.script_databases.specs.{Program, State, no_databases, peer_at, text_cmp, IsOther, LeadToOthers, ComeFromOthers, IsKnown, AreCopiesOf}
 use Rattle.script_databases.proofs.ReplicationLemmas.{other}
-use Rattle.script_databases.specs.AllTied.{IsOther, LeadToOthers, ComeFromOthers, IsKnown, AreCopiesOf, AllTied}
+use Rattle.script_databases.specs.AllTied.{AllTied}
 use Rattle.script_databases.proofs.ties.MovedPairs.{none_tied}
 use Rattle.script_databases.proofs.ties.AtNames.{names}
 

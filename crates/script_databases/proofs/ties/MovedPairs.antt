@@ -1,19 +1,12 @@
 -- Two peers that stay tied where a call changed the source, or the target; and two of which neither knows the replication.
-use Rattle.std.proofs.Common.{◌≡◌, List, refl, sym, subst, ◌∙◌}
-use Rattle.doc_json.specs.Chosen.{Choice}
-use Rattle.couch_base.specs.Lists.{Among}
-use Rattle.couch_base.specs.WriteLaws.{IsLater}
+use Rattle.proof_words.proofs.{◌≡◌, List, refl, sym, subst, ◌∙◌}
+use Rattle.doc_json.specs.{Choice}
+use Rattle.couch_base.specs.{Among, IsLater}
 use Rattle.repl_log.specs.declared.replication.RepId.{RepId}
-use Rattle.repl_log.specs.Entry.{EntryValue}
-use Rattle.repl_log.specs.Logs.{log_in}
-use Rattle.repl_peer.specs.peer.Backups.{BackupValue}
-use Rattle.repl_peer.specs.peer.Later.{IsLaterPeer}
-use Rattle.repl_peer.specs.peer.Peer.{PeerValue, SessionValue}
-use Rattle.repl_peer.specs.logs.Checkpoint.{rep_between}
-use Rattle.repl_peer.specs.logs.Logs.{source_log}
-use Rattle.repl_target.specs.ties.Ties.{AreTiedEntries, IsTiedWith}
-use Rattle.repl_target.proofs.lemmas.replication.CallLaws.{Stays}
-use Rattle.repl_target.proofs.lemmas.ties.TiedPeersStay.{session-later, entry-later, backups-later, session-source, entry-source, backups-source, tied-stays}
+use Rattle.repl_log.specs.{EntryValue, log_in}
+use Rattle.repl_peer.specs.{BackupValue, IsLaterPeer, PeerValue, SessionValue, rep_between, source_log}
+use Rattle.repl_target.specs.{AreTiedEntries, IsTiedWith}
+use Rattle.repl_target.proofs.{Stays, session-later, entry-later, backups-later, session-source, entry-source, backups-source, tied-stays}
 use Rattle.script_databases.proofs.ties.OtherLogs.{log_member}
 
 -- a source whose database is later, and whose log of the replication is as it was

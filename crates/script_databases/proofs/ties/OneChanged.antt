@@ -1,32 +1,16 @@
 -- One database is changed: by a write of its own, or by a copy that is put back.
-use Rattle.std.proofs.Common.{◌≡◌, inl, inr, ℕ, Bool, List, [], ◌∷◌, Result, Ok, Err, refl, sym, ap, subst, ◌∙◌, Option, Some, None}
-use Rattle.std.proofs.lemmas.Bool.{and_parts}
+use Rattle.proof_words.proofs.{◌≡◌, inl, inr, ℕ, Bool, List, [], ◌∷◌, Result, Ok, Err, refl, sym, ap, subst, ◌∙◌, Option, Some, None, and_parts, option_map, find, same_Some, none-some}
 use Rattle.doc_json.specs.Document.{Document}
-use Rattle.doc_json.specs.Chosen.{Choice}
-use Rattle.couch_base.specs.Lists.{Among}
-use Rattle.couch_base.specs.Database.{Id}
-use Rattle.couch_base.specs.MemberLaws.{found_member}
+use Rattle.doc_json.specs.{Choice}
+use Rattle.couch_base.specs.{Among, Id, found_member, id_is, edited, BaseFault}
 use Rattle.repl_log.specs.declared.replication.RepId.{RepId}
-use Rattle.repl_log.specs.Entry.{EntryValue}
-use Rattle.repl_log.specs.Logs.{log_in}
-use Rattle.repl_peer.specs.declared.fault.TargetFault.{TargetFault}
-use Rattle.repl_peer.specs.peer.Backups.{BackupValue, restore_answer, restored, restored_by, after_restore}
-use Rattle.repl_peer.specs.peer.Later.{IsLaterPeer}
-use Rattle.repl_peer.specs.peer.Peer.{PeerValue, SessionValue}
-use Rattle.repl_peer.specs.logs.Checkpoint.{rep_between}
-use Rattle.repl_target.specs.ties.Ties.{IsTiedWith}
-use Rattle.std.specs.Prelude.{option_map}
-use Rattle.std.specs.List.{find}
-use Rattle.std.proofs.lemmas.Option.{same_Some, none-some}
-use Rattle.rev_core.specs.Rev.{RevId}
-use Rattle.couch_base.specs.ListLaws.{id_is}
-use Rattle.couch_base.specs.Edit.{edited}
-use Rattle.couch_base.specs.declared.fault.BaseFault.{BaseFault}
-use Rattle.repl_peer.specs.peer.Writing.{after_load, after_edit, load_edited}
-use Rattle.repl_peer.proofs.lemmas.peer.CallsKeepLaw.{load_later, edit_later}
-use Rattle.repl_peer.proofs.lemmas.peer.LaterPeers.{IsLaterPeer-same}
-use Rattle.script_databases.specs.Databases.{NamedBackupValue, State, backup_at, is_named, peer_at, with_peer}
-use Rattle.script_databases.specs.AllTied.{IsOther, LeadToOthers, ComeFromOthers, AreCopiesOf, AllTied}
+use Rattle.repl_log.specs.{EntryValue, log_in}
+use Rattle.repl_peer.specs.{TargetFault, BackupValue, restore_answer, restored, restored_by, after_restore, IsLaterPeer, PeerValue, SessionValue, rep_between, after_load, after_edit, load_edited}
+use Rattle.repl_target.specs.{IsTiedWith}
+use Rattle.rev_core.specs.{RevId}
+use Rattle.repl_peer.proofs.{load_later, edit_later, IsLaterPeer-same}
+use Rattle.script_databases.specs.{NamedBackupValue, State, backup_at, is_named, peer_at, with_peer, IsOther, LeadToOthers, ComeFromOthers, AreCopiesOf}
+use Rattle.script_databases.specs.AllTied.{AllTied}
 use Rattle.script_databases.proofs.ties.MovedPairs.{source_moves, target_moves, stays_same}
 use Rattle.script_databases.proofs.ties.RestoredPairs.{restores_in, restored_source, restored_target}
 use Rattle.script_databases.proofs.ties.AtNames.{names, looks, here, elsewhere}

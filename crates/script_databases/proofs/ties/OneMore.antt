@@ -1,18 +1,13 @@
 -- One copy, one id or one database more.
-use Rattle.std.proofs.Common.{◌≡◌, ◌≢◌, inl, inr, ℕ, List, [], ◌∷◌, refl, sym, ap, subst, ◌∙◌, Some, None}
-use Rattle.couch_base.specs.Lists.{Among}
-use Rattle.couch_base.specs.MemberLaws.{Among-push}
+use Rattle.proof_words.proofs.{◌≡◌, ◌≢◌, inl, inr, ℕ, List, [], ◌∷◌, refl, sym, ap, subst, ◌∙◌, Some, None, same_Some, none-some}
+use Rattle.couch_base.specs.{Among, Among-push}
 use Rattle.repl_log.specs.declared.replication.RepId.{RepId}
-use Rattle.repl_log.specs.Entry.{EntryValue}
-use Rattle.repl_log.specs.Logs.{log_in}
-use Rattle.repl_peer.specs.peer.Backups.{BackupValue, copy_of}
-use Rattle.repl_peer.specs.peer.Peer.{PeerValue, SessionValue}
-use Rattle.repl_peer.specs.logs.Checkpoint.{rep_between}
-use Rattle.repl_target.specs.ties.Ties.{AreTiedEntries, IsTiedWith}
-use Rattle.std.proofs.lemmas.Option.{same_Some, none-some}
-use Rattle.script_databases.specs.Databases.{NamedBackupValue, State, IsTaken, drawn_one, peer_at, with_backup, with_peer}
+use Rattle.repl_log.specs.{EntryValue, log_in}
+use Rattle.repl_peer.specs.{BackupValue, copy_of, PeerValue, SessionValue, rep_between}
+use Rattle.repl_target.specs.{AreTiedEntries, IsTiedWith}
+use Rattle.script_databases.specs.{NamedBackupValue, State, IsTaken, drawn_one, peer_at, with_backup, with_peer, IsCopyOfOne}
 use Rattle.script_databases.proofs.ReplicationLemmas.{other}
-use Rattle.script_databases.specs.AllTied.{IsCopyOfOne, AllTied}
+use Rattle.script_databases.specs.AllTied.{AllTied}
 use Rattle.script_databases.proofs.ties.MovedPairs.{none_tied}
 use Rattle.script_databases.proofs.ties.AtNames.{looks, elsewhere}
 use Rattle.script_databases.proofs.ties.LaterStates.{all_tied, still_other}

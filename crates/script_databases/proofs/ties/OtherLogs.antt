@@ -1,16 +1,9 @@
 -- Logs of a peer, where an entry is put into one of them.
-use Rattle.std.proofs.Common.{◌≡◌, ◌≢◌, ◌⊎◌, inl, inr, cond, List, [], ◌∷◌, Result, Ok, Err, refl, sym, ap, ◌∙◌}
-use Rattle.std.proofs.lemmas.Bool.{cond_both}
-use Rattle.couch_base.specs.Lists.{Among}
+use Rattle.proof_words.proofs.{◌≡◌, ◌≢◌, ◌⊎◌, inl, inr, cond, List, [], ◌∷◌, Result, Ok, Err, refl, sym, ap, ◌∙◌, cond_both}
+use Rattle.couch_base.specs.{Among}
 use Rattle.repl_log.specs.declared.replication.RepId.{RepId}
-use Rattle.repl_log.specs.Entry.{EntryValue}
-use Rattle.repl_log.specs.Log.{with_entry}
-use Rattle.repl_log.specs.Logs.{log_in, logs_with}
-use Rattle.repl_log.specs.RepId.{same_rep}
-use Rattle.repl_log.specs.RepIdLaws.{same_rep-is}
-use Rattle.repl_peer.specs.declared.fault.TargetFault.{TargetFault}
-use Rattle.repl_peer.specs.peer.Peer.{PeerValue}
-use Rattle.repl_peer.specs.logs.Logs.{put_by, put_entry_answer, after_put_entry}
+use Rattle.repl_log.specs.{EntryValue, with_entry, log_in, logs_with, same_rep, same_rep-is}
+use Rattle.repl_peer.specs.{TargetFault, PeerValue, put_by, put_entry_answer, after_put_entry}
 
 -- an entry of a log stands in a log of that replication
 pub log_member : (logs : List (RepId × List EntryValue)) (rep : RepId) (e : EntryValue) → Among e (log_in logs rep) → (l : RepId × List EntryValue) × Among l logs × (l.0 ≡ rep)

@@ -1,22 +1,14 @@
 -- A replication between two of the databases, or one that changed nothing.
-use Rattle.std.proofs.Common.{◌≡◌, ◌≢◌, ◌⊎◌, inl, inr, ℕ, Bool, List, Result, Ok, Err, sym, ap, subst, ◌∙◌, Some}
+use Rattle.proof_words.proofs.{◌≡◌, ◌≢◌, ◌⊎◌, inl, inr, ℕ, Bool, List, Result, Ok, Err, sym, ap, subst, ◌∙◌, Some, FinMap, same_Some, AllocError}
 use Rattle.doc_json.specs.Document.{Document}
-use Rattle.doc_json.specs.Chosen.{Choice}
-use Rattle.couch_base.specs.Database.{DatabaseValue}
-use Rattle.repl_log.specs.Entry.{EntryValue}
-use Rattle.repl_peer.specs.peer.Peer.{PeerValue}
-use Rattle.repl_peer.specs.logs.Checkpoint.{rep_between}
-use Rattle.repl_peer.specs.logs.Logs.{after_put_entry}
-use Rattle.repl_target.specs.declared.replication.Plan.{Plan}
-use Rattle.repl_target.specs.replication.Replication.{PutsOver}
-use Rattle.std.specs.FinMap.{FinMap}
-use Rattle.std.proofs.lemmas.Option.{same_Some}
-use Rattle.script_databases.specs.Databases.{State, peer_at, text_cmp, with_peer}
-use Rattle.script_databases.specs.Replications.{with_both}
+use Rattle.doc_json.specs.{Choice}
+use Rattle.couch_base.specs.{DatabaseValue}
+use Rattle.repl_log.specs.{EntryValue}
+use Rattle.repl_peer.specs.{PeerValue, rep_between, after_put_entry}
+use Rattle.repl_target.specs.{Plan, PutsOver, CoversFeed}
+use Rattle.script_databases.specs.{State, peer_at, text_cmp, with_peer, with_both, CoversUpTo}
 use Rattle.script_databases.proofs.TableLemmas.{insert-same}
-use Rattle.script_databases.specs.AllTied.{AllTied, CoversUpTo}
-use Rattle.std.specs.declared.alloc.AllocError.{AllocError}
-use Rattle.repl_target.specs.Audit.{CoversFeed}
+use Rattle.script_databases.specs.AllTied.{AllTied}
 use Rattle.script_databases.proofs.ties.AtNames.{here, elsewhere}
 use Rattle.script_databases.proofs.ties.TwoChanged.{Moves, replication_tied}
 

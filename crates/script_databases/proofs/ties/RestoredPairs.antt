@@ -1,18 +1,12 @@
 -- Two peers that stay tied where one of them is put back to a copy.
-use Rattle.std.proofs.Common.{◌≡◌, ℕ, false, cond, List, [], ◌∷◌, Result, Ok, Err, ◌+◌, ◌<◌, ◌≤◌, ◌==◌, nat_lt, sym, subst, ◌∙◌, arith}
-use Rattle.std.proofs.lemmas.Bool.{cond_both, eqb-true}
-use Rattle.doc_json.specs.Chosen.{Choice}
-use Rattle.couch_base.specs.Lists.{Among}
-use Rattle.couch_base.specs.Database.{most}
+use Rattle.proof_words.proofs.{◌≡◌, ℕ, false, cond, List, [], ◌∷◌, Result, Ok, Err, ◌+◌, ◌<◌, ◌≤◌, ◌==◌, nat_lt, sym, subst, ◌∙◌, arith, cond_both, eqb-true}
+use Rattle.doc_json.specs.{Choice}
+use Rattle.couch_base.specs.{Among, most}
 use Rattle.repl_log.specs.declared.replication.RepId.{RepId}
-use Rattle.repl_log.specs.Logs.{log_in}
-use Rattle.repl_peer.specs.declared.fault.TargetFault.{TargetFault}
-use Rattle.repl_peer.specs.peer.Backups.{BackupValue, is_target, greater_life, restore_answer, restored}
-use Rattle.repl_peer.specs.peer.Peer.{PeerValue, SessionValue}
-use Rattle.repl_peer.specs.logs.Checkpoint.{rep_between}
-use Rattle.repl_peer.specs.logs.Logs.{source_log}
-use Rattle.repl_target.specs.ties.Ties.{AreTiedEntries, IsTiedWith}
-use Rattle.repl_target.proofs.lemmas.ties.TiedPeersStay.{entry-life, backups-source}
+use Rattle.repl_log.specs.{log_in}
+use Rattle.repl_peer.specs.{TargetFault, BackupValue, is_target, greater_life, restore_answer, restored, PeerValue, SessionValue, rep_between, source_log}
+use Rattle.repl_target.specs.{AreTiedEntries, IsTiedWith}
+use Rattle.repl_target.proofs.{entry-life, backups-source}
 use Rattle.repl_peer.specs.declared.fault.TargetFault.TheVariants as faults
 
 -- what that asks

@@ -1,20 +1,13 @@
 -- The sessions of a target behind a replication: those that were there, and others from its source.
-use Rattle.std.proofs.Common.{◌≡◌, ◌⊎◌, inl, inr, ℕ, Bool, List, [], ◌∷◌, Ok, sym, ap, subst, ◌∙◌}
-use Rattle.std.proofs.lemmas.Bool.{both_ways, eq-eqb}
-use Rattle.rev_tree.specs.declared.origin.SessionId.{SessionId}
+use Rattle.proof_words.proofs.{◌≡◌, ◌⊎◌, inl, inr, ℕ, Bool, List, [], ◌∷◌, Ok, sym, ap, subst, ◌∙◌, both_ways, eq-eqb}
+use Rattle.rev_tree.specs.{SessionId}
 use Rattle.doc_json.specs.Document.{Document}
-use Rattle.doc_json.specs.Chosen.{Choice}
-use Rattle.couch_base.specs.Lists.{Among}
-use Rattle.couch_base.specs.Database.{DatabaseValue}
-use Rattle.couch_base.specs.MemberLaws.{any_from}
+use Rattle.doc_json.specs.{Choice}
+use Rattle.couch_base.specs.{Among, DatabaseValue, any_from}
 use Rattle.repl_log.specs.declared.replication.RepId.{RepId}
-use Rattle.repl_peer.specs.peer.Peer.{PeerValue, SessionValue, is_of}
-use Rattle.repl_peer.specs.session.Sessions.{new_session, begun}
-use Rattle.repl_target.specs.declared.replication.Plan.{Plan}
-use Rattle.repl_target.specs.replication.Calls.{Call, Load, Edit, Begin, Append, Settle, Stop, Record, Conclude, after_call, after_calls, IsFrom, AllFrom, IsLeft}
-use Rattle.repl_target.specs.replication.Replication.{beginning_between, begins_answer, after_begins}
-use Rattle.repl_target.proofs.lemmas.replication.BegunSessions.{fresh_of}
-use Rattle.repl_target.proofs.lemmas.replication.CallLaws.{Stays, Brings, call_keeps}
+use Rattle.repl_peer.specs.{PeerValue, SessionValue, is_of, new_session, begun}
+use Rattle.repl_target.specs.{Plan, Call, Load, Edit, Begin, Append, Settle, Stop, Record, Conclude, after_call, after_calls, IsFrom, AllFrom, IsLeft, beginning_between, begins_answer, after_begins}
+use Rattle.repl_target.proofs.{fresh_of, Stays, Brings, call_keeps}
 use Rattle.script_databases.proofs.ties.MovedPairs.{WasThere, stays_same}
 
 -- they are those that were there, and others from its source

@@ -1,27 +1,16 @@
 -- A replication between two databases, in all pairs of them and of a third.
-use Rattle.std.proofs.Common.{◌≡◌, ◌≢◌, ◌⊎◌, inl, inr, ℕ, Bool, List, refl, sym, ap, subst, ◌∙◌, Some}
+use Rattle.proof_words.proofs.{◌≡◌, ◌≢◌, ◌⊎◌, inl, inr, ℕ, Bool, List, refl, sym, ap, subst, ◌∙◌, Some, same_Some}
 use Rattle.doc_json.specs.Document.{Document}
-use Rattle.doc_json.specs.Chosen.{Choice}
-use Rattle.couch_base.specs.Lists.{Among}
-use Rattle.couch_base.specs.Database.{DatabaseValue}
-use Rattle.couch_base.specs.WriteLaws.{IsLater, IsLater-same}
+use Rattle.doc_json.specs.{Choice}
+use Rattle.couch_base.specs.{Among, DatabaseValue, IsLater, IsLater-same}
 use Rattle.repl_log.specs.declared.replication.RepId.{RepId}
-use Rattle.repl_log.specs.Entry.{EntryValue}
-use Rattle.repl_log.specs.Logs.{log_in}
-use Rattle.repl_peer.specs.peer.Backups.{BackupValue}
-use Rattle.repl_peer.specs.peer.Later.{IsLaterPeer}
-use Rattle.repl_peer.specs.peer.Peer.{PeerValue, SessionValue}
-use Rattle.repl_peer.specs.logs.Checkpoint.{rep_between}
-use Rattle.repl_peer.specs.logs.Logs.{after_put_entry}
-use Rattle.repl_target.specs.declared.replication.Plan.{Plan}
-use Rattle.repl_target.specs.replication.Calls.{IsLeft}
-use Rattle.repl_target.specs.ties.Ties.{IsTiedWith}
-use Rattle.std.proofs.lemmas.Option.{same_Some}
-use Rattle.repl_peer.proofs.lemmas.logs.PutChangesLogsAlone.{logs_later}
-use Rattle.repl_target.proofs.lemmas.replication.OthersStayTied.{left_log}
-use Rattle.script_databases.specs.Databases.{State, peer_at, with_peer}
-use Rattle.script_databases.specs.Replications.{with_both}
-use Rattle.script_databases.specs.AllTied.{IsOther, LeadToOthers, ComeFromOthers, AreCopiesOf, AllTied}
+use Rattle.repl_log.specs.{EntryValue, log_in}
+use Rattle.repl_peer.specs.{BackupValue, IsLaterPeer, PeerValue, SessionValue, rep_between, after_put_entry}
+use Rattle.repl_target.specs.{Plan, IsLeft, IsTiedWith}
+use Rattle.repl_peer.proofs.{logs_later}
+use Rattle.repl_target.proofs.{left_log}
+use Rattle.script_databases.specs.{State, peer_at, with_peer, with_both, IsOther, LeadToOthers, ComeFromOthers, AreCopiesOf}
+use Rattle.script_databases.specs.AllTied.{AllTied}
 use Rattle.script_databases.proofs.ties.OtherLogs.{put_other, put_logs}
 use Rattle.script_databases.proofs.ties.MovedPairs.{source_moves, target_moves, stays_same}
 use Rattle.script_databases.proofs.ties.RunSessions.{left_sessions}

@@ -1,21 +1,17 @@
 -- `audit` is told `clean` where all databases are tied.
-use Rattle.std.proofs.Common.{◌≡◌, ℕ, List, [], codes, Some, None, Result, Ok, Err, refl, sym, ap, subst, ◌∙◌}
-use Rattle.doc_json.specs.Chosen.{Choice}
-use Rattle.repl_peer.specs.peer.Peer.{PeerValue}
-use Rattle.repl_target.specs.Audit.{audit_answer, hole_of}
-use Rattle.script_engine.specs.Serving.{Told}
+use Rattle.proof_words.proofs.{◌≡◌, ℕ, List, [], codes, Some, None, Result, Ok, Err, refl, sym, ap, subst, ◌∙◌, same_Some}
+use Rattle.doc_json.specs.{Choice}
+use Rattle.repl_peer.specs.{PeerValue}
+use Rattle.repl_target.specs.{audit_answer, hole_of, IsTiedPair}
+use Rattle.script_engine.specs.{Told}
 use Rattle.script_databases.specs.AllTied.{AllTied}
-use Rattle.script_databases.specs.Databases.{State, peer_at}
-use Rattle.script_databases.specs.declared.refusal.Refusal.{Refusal}
-use Rattle.script_rooms.specs.Given.{choice_given}
-use Rattle.script_rooms.specs.Telling.{database_of, told_of}
-use Rattle.script_reads.specs.Audit.{AuditAsk, Audits, audit_told, audit_text, FindsNone, IsClean}
-use Rattle.std.proofs.lemmas.Option.{same_Some}
-use Rattle.repl_target.specs.ties.Ties.{IsTiedPair}
+use Rattle.script_databases.specs.{State, peer_at, Refusal}
+use Rattle.script_rooms.specs.{choice_given, database_of, told_of}
+use Rattle.script_reads.specs.{AuditAsk, Audits, audit_told, audit_text, FindsNone, IsClean}
 use Rattle.repl_target.specs.declared.auditing.found.Audit.{Audit}
 use Rattle.repl_target.specs.declared.auditing.found.Audit.TheVariants.{Clean}
-use Rattle.script_databases.proofs.ties.Calls.{same_Ok}
-use Rattle.script_rooms.proofs.CheckLemmas.{bound, found}
+use Rattle.script_databases.proofs.{same_Ok}
+use Rattle.script_rooms.proofs.{bound, found}
 
 -- what was found is what an audit of the two finds, which is nothing where they are tied
 pub finds_none : (old : State) (ask : AuditAsk) (s t : PeerValue) (v w : Choice) (found : Audit) → peer_at old ask.source ≡ Some s → peer_at old ask.target ≡ Some t → choice_given ask.doc_ids ≡ Ok v → w ≡ v → hole_of found ≡ audit_answer s t v → (IsTiedPair s t w → found ≡ Clean)

@@ -1,16 +1,10 @@
 -- Each line keeps all databases tied, and the answers to a whole script may be trusted.
-use Rattle.std.proofs.Common.{ℕ, Bool, List, [], ◌∷◌, Result, Ok, Err, sym, subst}
-use Rattle.script_engine.specs.Script.{AnswersEnded, AnswersFirst, IsAnswered, IsAnsweredSoFar, Run, Step, blank, served}
-use Rattle.script_engine.specs.Faults.{IsToldUntil}
-use Rattle.script_engine.specs.Serving.{Told, gave_up, in_full, served_only}
-use Rattle.script_engine.specs.declared.fault.ScriptFault.{ScriptFault}
+use Rattle.proof_words.proofs.{ℕ, Bool, List, [], ◌∷◌, Result, Ok, Err, sym, subst}
+use Rattle.script_engine.specs.{AnswersEnded, AnswersFirst, IsAnswered, IsAnsweredSoFar, Run, Step, blank, served, IsToldUntil, Told, gave_up, in_full, served_only, ScriptFault}
 use Rattle.script_engine.specs.declared.fault.ScriptFault.TheVariants.{Cut, Memory, Read, Write}
 use Rattle.script_databases.specs.AllTied.{AllTied}
-use Rattle.script_databases.specs.Databases.{State}
-use Rattle.script_databases.specs.declared.refusal.Refusal.{Refusal}
-use Rattle.script_words.specs.Script.{AnswersAsked, Asks, LinesAnswer}
-use Rattle.script_words.specs.words.{Asked}
-use Rattle.script_words.specs.Trust.{TrustedLines}
+use Rattle.script_databases.specs.{State, Refusal}
+use Rattle.script_words.specs.{AnswersAsked, Asks, LinesAnswer, Asked, TrustedLines}
 use Rattle.script_words.proofs.trust.Words.{words_trusted}
 
 line_trusted : (old new : State) → AllTied old → (line : List ℕ) (told : Told) → LinesAnswer old line told new → TrustedLines old line told new

@@ -1,18 +1,12 @@
 -- Each word keeps all databases tied, and its answer may be trusted.
-use Rattle.std.proofs.Common.{refl, sym, subst}
-use Rattle.script_engine.specs.Serving.{Told}
+use Rattle.proof_words.proofs.{refl, sym, subst}
+use Rattle.script_engine.specs.{Told}
 use Rattle.script_databases.specs.AllTied.{AllTied}
-use Rattle.script_databases.specs.Databases.{State, peer_at}
-use Rattle.script_words.specs.words.{Asked, WordsAnswer, load, edit, show, doc, changes, log, audit, replicate, backup, restore, compare, conflicts, docs, info, ledger, sync}
-use Rattle.script_writes.specs.Replicate.{both_of}
-use Rattle.script_words.specs.Trust.{IsTrusted}
-use Rattle.script_writes.proofs.trust.Load.{loads_tied}
-use Rattle.script_writes.proofs.trust.Edit.{edits_tied}
-use Rattle.script_writes.proofs.trust.Backup.{backs_tied}
-use Rattle.script_writes.proofs.trust.Restore.{restores_tied}
-use Rattle.script_reads.proofs.trust.Audit.{audits_clean}
-use Rattle.script_writes.proofs.trust.Replicate.{reports_tied}
-use Rattle.script_writes.proofs.trust.Sync.{syncs_tied}
+use Rattle.script_databases.specs.{State, peer_at}
+use Rattle.script_words.specs.{Asked, WordsAnswer, load, edit, show, doc, changes, log, audit, replicate, backup, restore, compare, conflicts, docs, info, ledger, sync, IsTrusted}
+use Rattle.script_writes.specs.{both_of}
+use Rattle.script_writes.proofs.{loads_tied, edits_tied, backs_tied, restores_tied, reports_tied, syncs_tied}
+use Rattle.script_reads.proofs.{audits_clean}
 
 pub words_trusted : (old new : State) → AllTied old → (ask : Asked) (told : Told) → WordsAnswer old ask told new → AllTied new × IsTrusted ask told new
 words_trusted old new h (load ask) told d = (loads_tied old new h ask.db d.0 (peer_at old ask.db) refl ask.uuid _ d.1, tt)

@@ -1,11 +1,11 @@
 -- `backup` keeps all databases tied.
-use Rattle.std.proofs.Common.{sym, ap}
-use Rattle.script_engine.specs.Serving.{Told}
+use Rattle.proof_words.proofs.{sym, ap}
+use Rattle.script_engine.specs.{Told}
 use Rattle.script_databases.specs.AllTied.{AllTied}
-use Rattle.script_databases.specs.Databases.{State, backed_answer, with_backup, backed_by}
-use Rattle.script_writes.specs.Backup.{BackupAsk, BacksUp, backup_done}
-use Rattle.script_databases.proofs.ties.Calls.{backed_tied}
-use Rattle.script_rooms.proofs.CheckLemmas.{bound, does_tied, left_is}
+use Rattle.script_databases.specs.{State, backed_answer, with_backup, backed_by}
+use Rattle.script_writes.specs.{BackupAsk, BacksUp, backup_done}
+use Rattle.script_databases.proofs.{backed_tied}
+use Rattle.script_rooms.proofs.{bound, does_tied, left_is}
 
 pub backs_tied : (old new : State) → AllTied old → (ask : BackupAsk) (told : Told) → BacksUp old ask told new → AllTied new
 backs_tied old new h ask told d =

@@ -1,13 +1,12 @@
 -- `edit` keeps all databases tied.
-use Rattle.std.proofs.Common.{Some}
-use Rattle.script_engine.specs.Serving.{Told}
+use Rattle.proof_words.proofs.{Some}
+use Rattle.script_engine.specs.{Told}
 use Rattle.script_databases.specs.AllTied.{AllTied}
-use Rattle.script_databases.specs.Databases.{State, edited_answer}
-use Rattle.script_rooms.specs.Given.{body_given_or_empty, id_given, rev_given}
-use Rattle.script_rooms.specs.Telling.{database_of}
-use Rattle.script_writes.specs.Edit.{EditAsk, EditsLoud, edit_done}
-use Rattle.script_databases.proofs.ties.OneChanged.{edit_tied}
-use Rattle.script_rooms.proofs.CheckLemmas.{bound, does_tied, found, left_is}
+use Rattle.script_databases.specs.{State, edited_answer}
+use Rattle.script_rooms.specs.{body_given_or_empty, id_given, rev_given, database_of}
+use Rattle.script_writes.specs.{EditAsk, EditsLoud, edit_done}
+use Rattle.script_databases.proofs.{edit_tied}
+use Rattle.script_rooms.proofs.{bound, does_tied, found, left_is}
 
 pub edits_tied : (old new : State) → AllTied old → (ask : EditAsk) (told : Told) → EditsLoud old ask told new → AllTied new
 edits_tied old new h ask told d =

@@ -1,20 +1,15 @@
 -- `load` keeps all databases tied.
-use Rattle.std.proofs.Common.{◌≡◌, inl, inr, ℕ, List, Option, Some, None, Result, Ok, Err, refl, sym, subst}
+use Rattle.proof_words.proofs.{◌≡◌, inl, inr, ℕ, List, Option, Some, None, Result, Ok, Err, refl, sym, subst}
 use Rattle.doc_json.specs.Document.{Document}
-use Rattle.couch_base.specs.Put.{put_answer}
-use Rattle.repl_peer.specs.peer.Peer.{PeerValue, new_peer}
-use Rattle.repl_peer.specs.peer.Writing.{after_load}
-use Rattle.script_engine.specs.Serving.{Told}
+use Rattle.couch_base.specs.{put_answer}
+use Rattle.repl_peer.specs.{PeerValue, new_peer, after_load}
+use Rattle.script_engine.specs.{Told}
 use Rattle.script_databases.specs.AllTied.{AllTied}
-use Rattle.script_databases.specs.Databases.{IsTaken, State, drawn_one, next_made, peer_at}
-use Rattle.script_databases.specs.Refusals.{base_refusal, told_as}
-use Rattle.script_databases.specs.declared.refusal.Refusal.{Refusal}
-use Rattle.script_databases.proofs.IndexLemmas.{load_keeps}
-use Rattle.rev_core.specs.Checks.{◌>>=◌}
-use Rattle.script_writes.specs.Load.{LoadsAt, LoadsUntaken, load_new, load_there}
-use Rattle.script_databases.proofs.ties.OneChanged.{load_tied}
-use Rattle.script_databases.proofs.ties.OneMore.{made_tied, drawn_tied}
-use Rattle.script_rooms.proofs.CheckLemmas.{bound, does_tied, left_is}
+use Rattle.script_databases.specs.{IsTaken, State, drawn_one, next_made, peer_at, base_refusal, told_as, Refusal}
+use Rattle.script_databases.proofs.{load_keeps, load_tied, made_tied, drawn_tied}
+use Rattle.rev_core.specs.{◌>>=◌}
+use Rattle.script_writes.specs.{LoadsAt, LoadsUntaken, load_new, load_there}
+use Rattle.script_rooms.proofs.{bound, does_tied, left_is}
 
 -- a document is put, or none
 there_tied : (s : State) → AllTied s → (db : List ℕ) (l : PeerValue) → peer_at s db ≡ Some l → (doc : Option Document) (done : List ℕ × State) → load_there s db l doc ≡ Ok done → AllTied done.1

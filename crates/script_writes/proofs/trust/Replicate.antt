@@ -1,31 +1,20 @@
 -- `replicate` keeps all databases tied, and a session that came to its goal covers all of the chosen source.
-use Rattle.std.proofs.Common.{◌≡◌, inl, inr, ℕ, Bool, true, false, List, Option, Some, None, Result, Ok, Err, IfOk, refl, sym, ap, subst, ◌∙◌}
-use Rattle.rev_tree.specs.declared.origin.SessionId.{SessionId}
-use Rattle.doc_json.specs.Chosen.{Choice}
-use Rattle.repl_peer.specs.declared.fault.Report.{Report}
-use Rattle.repl_peer.specs.declared.fault.TargetFault.{TargetFault}
-use Rattle.repl_peer.specs.peer.Peer.{PeerValue}
-use Rattle.repl_pool.specs.declared.fault.PoolFault.{PoolFault}
-use Rattle.repl_target.specs.declared.replication.Plan.{Plan}
-use Rattle.script_engine.specs.Serving.{Told}
-use Rattle.script_databases.specs.AllTied.{AllTied, CoversUpTo}
-use Rattle.script_databases.specs.Databases.{State, peer_at}
-use Rattle.script_databases.specs.Refusals.{GivesOrMemory, run_stop_of, stop_of}
-use Rattle.script_databases.specs.Replications.{unwatched}
-use Rattle.script_databases.specs.declared.refusal.Refusal.{Refusal}
-use Rattle.script_databases.specs.declared.watched.Watched.{Watched}
-use Rattle.rev_core.specs.Checks.{◌>>=◌}
-use Rattle.script_rooms.specs.Given.{choice_given}
-use Rattle.script_rooms.specs.Telling.{database_of, told_of}
-use Rattle.script_writes.specs.Replicate.{EndsBy, ReplicateAsk, ReplicatesChosen, ReplicatesFound, both_of, ending_of, ending_of_run, ending_of_watched, plan_of, replicated_text, with_drawn, with_session, CoversIfDone, IsCovered}
-use Rattle.script_writes.specs.declared.replicate.Ending.{Ending}
+use Rattle.proof_words.proofs.{◌≡◌, inl, inr, ℕ, Bool, true, false, List, Option, Some, None, Result, Ok, Err, IfOk, refl, sym, ap, subst, ◌∙◌}
+use Rattle.rev_tree.specs.{SessionId}
+use Rattle.doc_json.specs.{Choice}
+use Rattle.repl_peer.specs.{Report, TargetFault, PeerValue}
+use Rattle.repl_pool.specs.{PoolFault}
+use Rattle.repl_target.specs.{Plan}
+use Rattle.script_engine.specs.{Told}
+use Rattle.script_databases.specs.AllTied.{AllTied}
+use Rattle.script_databases.specs.{CoversUpTo, State, peer_at, GivesOrMemory, run_stop_of, stop_of, unwatched, Refusal, Watched}
+use Rattle.rev_core.specs.{◌>>=◌}
+use Rattle.script_rooms.specs.{choice_given, database_of, told_of}
+use Rattle.script_writes.specs.{EndsBy, ReplicateAsk, ReplicatesChosen, ReplicatesFound, both_of, ending_of, ending_of_run, ending_of_watched, plan_of, replicated_text, with_drawn, with_session, CoversIfDone, IsCovered, Ending}
 use Rattle.script_writes.specs.declared.replicate.Ending.TheVariants.{Stopped}
-use Rattle.script_databases.proofs.ties.Calls.{same_Ok}
-use Rattle.script_databases.proofs.ties.OneMore.{drawn_tied}
-use Rattle.script_databases.proofs.ties.ByOneThread.{alone_left}
-use Rattle.script_databases.proofs.ties.ByPool.{pool_left, watched_left}
+use Rattle.script_databases.proofs.{same_Ok, drawn_tied, alone_left, pool_left, watched_left}
 use Rattle.script_writes.proofs.ReplicateLemmas.{same_peer}
-use Rattle.script_rooms.proofs.CheckLemmas.{bound, found}
+use Rattle.script_rooms.proofs.{bound, found}
 
 -- ---- an id is drawn, or none
 

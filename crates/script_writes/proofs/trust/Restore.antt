@@ -1,11 +1,11 @@
 -- `restore` keeps all databases tied.
-use Rattle.std.proofs.Common.{refl}
-use Rattle.script_engine.specs.Serving.{Told}
+use Rattle.proof_words.proofs.{refl}
+use Rattle.script_engine.specs.{Told}
 use Rattle.script_databases.specs.AllTied.{AllTied}
-use Rattle.script_databases.specs.Databases.{State, backup_at, peer_at, put_back_answer, put_back_by}
-use Rattle.script_writes.specs.Restore.{RestoreAsk, Restores, restore_done}
-use Rattle.script_databases.proofs.ties.Calls.{put_back_tied}
-use Rattle.script_rooms.proofs.CheckLemmas.{bound, does_tied, left_is}
+use Rattle.script_databases.specs.{State, backup_at, peer_at, put_back_answer, put_back_by}
+use Rattle.script_writes.specs.{RestoreAsk, Restores, restore_done}
+use Rattle.script_databases.proofs.{put_back_tied}
+use Rattle.script_rooms.proofs.{bound, does_tied, left_is}
 
 pub restores_tied : (old new : State) → AllTied old → (ask : RestoreAsk) (told : Told) → Restores old ask told new → AllTied new
 restores_tied old new h ask told d =

@@ -1,10 +1,9 @@
 -- `sync` keeps all databases tied, and each of its ways may be trusted.
-use Rattle.std.proofs.Common.{Ok, Err, refl, sym, subst}
-use Rattle.script_engine.specs.Serving.{Told, MayTell, in_full, gave_up, served_only}
+use Rattle.proof_words.proofs.{Ok, Err, refl, sym, subst}
+use Rattle.script_engine.specs.{Told, MayTell, in_full, gave_up, served_only}
 use Rattle.script_databases.specs.AllTied.{AllTied}
-use Rattle.script_databases.specs.Databases.{State}
-use Rattle.script_writes.specs.Replicate.{ReplicateAsk, ReportsReplication, IsCovered, both_of}
-use Rattle.script_writes.specs.Sync.{SyncAsk, Syncs, IsMet}
+use Rattle.script_databases.specs.{State}
+use Rattle.script_writes.specs.{ReplicateAsk, ReportsReplication, IsCovered, both_of, SyncAsk, Syncs, IsMet}
 use Rattle.script_writes.proofs.trust.Replicate.{reports_tied}
 
 -- one way, for which memory may be wanting

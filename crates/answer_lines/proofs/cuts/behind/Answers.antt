@@ -1,7 +1,5 @@
-use Rattle.std.proofs.Common.{◌≡◌, ◌≢◌, ◌++◌, ℕ, List}
-use Rattle.std.proofs.lemmas.Bool.Decides.{Decides-eqb}
-use Rattle.std.proofs.lemmas.Slice.Eq.{strip_prefix_is}
-use Rattle.answer_lines.proofs.WordLemmas.{none_of, some_of}
+use Rattle.proof_words.proofs.{◌≡◌, ◌≢◌, ◌++◌, ℕ, List, Decides-eqb, strip_prefix_is}
+use Rattle.answer_lines.proofs.{none_of, some_of}
 use Rattle.answer_lines.proofs.cuts.behind.Goals as goal
 
 pub returns-clause-some : goal.returns-clause-some

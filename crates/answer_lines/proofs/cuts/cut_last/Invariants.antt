@@ -1,5 +1,5 @@
-use Rattle.std.proofs.Common.{◌≡◌, true, drop}
-use Rattle.answer_lines.specs.Words.{lacks}
+use Rattle.proof_words.proofs.{◌≡◌, true, drop}
+use Rattle.answer_lines.specs.{lacks}
 use Rattle.answer_lines.proofs.cuts.cut_last.Given as goal
 
 abbrev pub invariant-loop-i : goal.invariant-loop-i

@@ -1,5 +1,5 @@
-use Rattle.std.proofs.Common.{◌++◌, ◌∷◌, sym, ◌∙◌, append_assoc}
-use Rattle.answer_lines.proofs.WordLemmas.{last_unique}
+use Rattle.proof_words.proofs.{◌++◌, ◌∷◌, sym, ◌∙◌, append_assoc}
+use Rattle.answer_lines.proofs.{last_unique}
 use Rattle.answer_lines.proofs.cuts.cut_named.Goals as goal
 
 pub returns-in-None-clause-none : goal.returns-in-None-clause-none

@@ -1,6 +1,5 @@
-use Rattle.std.proofs.Common.{sym, ◌∙◌, arith, rules}
-use Rattle.std.proofs.lemmas.Grind.{common_steps}
-use Rattle.answer_lines.proofs.RevLemmas.{begins_bad, begins_no, begins_yes}
+use Rattle.proof_words.proofs.{sym, ◌∙◌, arith, rules, common_steps}
+use Rattle.answer_lines.proofs.{begins_bad, begins_no, begins_yes}
 use Rattle.answer_lines.proofs.lines.begins_with.Goals as goal
 
 pub returns-clause-yes : goal.returns-clause-yes

@@ -1,4 +1,4 @@
-use Rattle.answer_lines.proofs.LineLemmas.{if_none, leaf_none}
+use Rattle.answer_lines.proofs.{if_none, leaf_none}
 use Rattle.answer_lines.proofs.lines.leaf_parts.Goals as goal
 
 pub returns-in_err-list-clause-none : goal.returns-in_err-list-clause-none

@@ -1,8 +1,6 @@
-use Rattle.std.proofs.Common.{◌++◌, ◌∷◌, sym, ap, subst, ◌∙◌}
-use Rattle.std.specs.Str.{IsUtf8}
-use Rattle.answer_lines.proofs.LineLemmas.{after, if_none, listed_unique}
-use Rattle.answer_lines.proofs.WordLemmas.{lacks_not}
-use Rattle.answer_lines.specs.Words.{lacks}
+use Rattle.proof_words.proofs.{◌++◌, ◌∷◌, sym, ap, subst, ◌∙◌, IsUtf8}
+use Rattle.answer_lines.proofs.{after, if_none, listed_unique, lacks_not}
+use Rattle.answer_lines.specs.{lacks}
 use Rattle.answer_lines.proofs.lines.listed_parts.Goals as goal
 
 pub returns-in-Err-clause-none : goal.returns-in-Err-clause-none

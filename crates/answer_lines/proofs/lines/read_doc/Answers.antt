@@ -1,7 +1,6 @@
-use Rattle.std.proofs.Common.{sym, ap, subst, ◌∙◌, codes}
-use Rattle.std.specs.Str.{IsUtf8}
-use Rattle.answer_lines.specs.Words.{IsNumber}
-use Rattle.answer_lines.proofs.LineLemmas.{if_none, doc_two, doc_one, doc_id}
+use Rattle.proof_words.proofs.{sym, ap, subst, ◌∙◌, codes, IsUtf8}
+use Rattle.answer_lines.specs.{IsNumber}
+use Rattle.answer_lines.proofs.{if_none, doc_two, doc_one, doc_id}
 use Rattle.answer_lines.proofs.lines.read_doc.Goals as goal
 
 pub returns-in_err-rest-3-clause-none : goal.returns-in_err-rest-3-clause-none

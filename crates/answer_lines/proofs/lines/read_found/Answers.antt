@@ -1,7 +1,7 @@
-use Rattle.std.proofs.Common.{ℕ, List, sym, subst, ◌∙◌}
-use Rattle.rev_core.specs.Rev.{RevId}
-use Rattle.answer_lines.specs.Lines.{IsListed}
-use Rattle.answer_lines.proofs.LineLemmas.{none_at}
+use Rattle.proof_words.proofs.{ℕ, List, sym, subst, ◌∙◌}
+use Rattle.rev_core.specs.{RevId}
+use Rattle.answer_lines.specs.{IsListed}
+use Rattle.answer_lines.proofs.{none_at}
 use Rattle.answer_lines.proofs.lines.read_found.Goals as goal
 
 pub returns-in_default-clause-none : goal.returns-in_default-clause-none

@@ -1,11 +1,7 @@
-use Rattle.std.proofs.Common.{sym, ap, subst, ◌∙◌, ◌≡◌, ℕ, List}
-use Rattle.std.specs.List.{AllByRecursion}
-use Rattle.rev_core.specs.Rev.{IsRev, RevId}
-use Rattle.rev_core.specs.Ancestry.{FallsByOne}
-use Rattle.answer_lines.specs.Words.{IsRevs}
-use Rattle.answer_lines.specs.Lines.{BeginsWith}
-use Rattle.answer_lines.proofs.RevLemmas.{revs_unique}
-use Rattle.answer_lines.proofs.LineLemmas.{leaf_list, none_at, some_at}
+use Rattle.proof_words.proofs.{sym, ap, subst, ◌∙◌, ◌≡◌, ℕ, List, AllByRecursion}
+use Rattle.rev_core.specs.{IsRev, RevId, FallsByOne}
+use Rattle.answer_lines.specs.{IsRevs, BeginsWith}
+use Rattle.answer_lines.proofs.{revs_unique, leaf_list, none_at, some_at}
 use Rattle.answer_lines.proofs.lines.read_leaf.Goals as goal
 
 pub returns-in_default-2-clause-none : goal.returns-in_default-2-clause-none

@@ -1,7 +1,7 @@
-use Rattle.std.proofs.Common.{sym, subst, ℕ, List}
-use Rattle.rev_core.specs.Rev.{RevId}
-use Rattle.answer_lines.specs.Words.{IsRevs}
-use Rattle.answer_lines.proofs.LineLemmas.{listed_list, none_at}
+use Rattle.proof_words.proofs.{sym, subst, ℕ, List}
+use Rattle.rev_core.specs.{RevId}
+use Rattle.answer_lines.specs.{IsRevs}
+use Rattle.answer_lines.proofs.{listed_list, none_at}
 use Rattle.answer_lines.proofs.lines.read_listed.Goals as goal
 
 pub returns-in-None-clause-none : goal.returns-in-None-clause-none

@@ -1,8 +1,8 @@
-use Rattle.std.proofs.Common.{ℕ, List}
-use Rattle.answer_lines.specs.Lines.{NoFinding, NoLog, NoRow}
+use Rattle.proof_words.proofs.{ℕ, List}
+use Rattle.answer_lines.specs.{NoFinding, NoLog, NoRow}
 use Rattle.answer_lines.specs.declared.told.Finding.TheVariants as findings
 use Rattle.answer_lines.specs.declared.told.Table.TheVariants as tables
-use Rattle.answer_lines.proofs.LineLemmas.{all_findings, all_rows, none_at}
+use Rattle.answer_lines.proofs.{all_findings, all_rows, none_at}
 use Rattle.answer_lines.proofs.lines.read_more.Goals as goal
 
 pub returns-in-None : goal.returns-in-None

@@ -1,7 +1,5 @@
-use Rattle.std.proofs.Common.{sym, subst}
-use Rattle.std.specs.Str.{IsUtf8}
-use Rattle.answer_lines.proofs.LineLemmas.{if_none}
-use Rattle.answer_lines.proofs.LogLemmas.{head_cut, head_is}
+use Rattle.proof_words.proofs.{sym, subst, IsUtf8}
+use Rattle.answer_lines.proofs.{if_none, head_cut, head_is}
 use Rattle.answer_lines.proofs.logs.log_head.Goals as goal
 
 pub returns-in_err-rest-clause-none : goal.returns-in_err-rest-clause-none

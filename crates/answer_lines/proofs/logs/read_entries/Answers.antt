@@ -1,7 +1,6 @@
-use Rattle.std.proofs.Common.{◌∷◌, ◌++◌, ◌≡◌, [], List, ℕ, length, map, sym, ap, subst, ◌∙◌, arith}
-use Rattle.answer_lines.specs.Logs.{IsEntry, Logged, logged}
-use Rattle.answer_lines.proofs.LineLemmas.{none_at, some_at}
-use Rattle.answer_lines.proofs.LogLemmas.{ReadsEntries, entries_all, entries_more, entries_none, entries_unclosed, entry_shorter, none_at_all, one_entry}
+use Rattle.proof_words.proofs.{◌∷◌, ◌++◌, ◌≡◌, [], List, ℕ, length, map, sym, ap, subst, ◌∙◌, arith}
+use Rattle.answer_lines.specs.{IsEntry, Logged, logged}
+use Rattle.answer_lines.proofs.{none_at, some_at, ReadsEntries, entries_all, entries_more, entries_none, entries_unclosed, entry_shorter, none_at_all, one_entry}
 use Rattle.answer_lines.proofs.logs.read_entries.Goals as goal
 
 pub returns-in_default-clause-none : goal.returns-in_default-clause-none

@@ -1,6 +1,6 @@
-use Rattle.std.proofs.Common.{length, map}
-use Rattle.answer_lines.specs.Logs.{logged}
-use Rattle.answer_lines.proofs.LogLemmas.{ReadsEntries}
+use Rattle.proof_words.proofs.{length, map}
+use Rattle.answer_lines.specs.{logged}
+use Rattle.answer_lines.proofs.{ReadsEntries}
 use Rattle.answer_lines.proofs.logs.read_entries.Given as goal
 
 abbrev pub invariant-loop-begins : goal.invariant-loop-begins

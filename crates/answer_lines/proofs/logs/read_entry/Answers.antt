@@ -1,8 +1,6 @@
-use Rattle.std.proofs.Common.{◌∷◌, ◌≡◌, List, ℕ, sym, ap, subst, ◌∙◌}
-use Rattle.answer_lines.specs.Words.{InTurn}
-use Rattle.answer_lines.specs.Logs.{IsMember, Logged, Values, all_members, texts_of}
-use Rattle.answer_lines.proofs.LineLemmas.{none_at, some_at}
-use Rattle.answer_lines.proofs.LogLemmas.{values_same}
+use Rattle.proof_words.proofs.{◌∷◌, ◌≡◌, List, ℕ, sym, ap, subst, ◌∙◌}
+use Rattle.answer_lines.specs.{InTurn, IsMember, Logged, Values, all_members, texts_of}
+use Rattle.answer_lines.proofs.{none_at, some_at, values_same}
 use Rattle.answer_lines.proofs.logs.read_entry.Goals as goal
 
 pub returns-in_default-clause-none : goal.returns-in_default-clause-none

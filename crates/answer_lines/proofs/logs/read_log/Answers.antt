@@ -1,7 +1,6 @@
-use Rattle.std.proofs.Common.{List, ℕ, subst}
-use Rattle.answer_lines.specs.Logs.{IsHistory, Logged}
-use Rattle.answer_lines.proofs.LineLemmas.{none_at}
-use Rattle.answer_lines.proofs.LogLemmas.{heads_same}
+use Rattle.proof_words.proofs.{List, ℕ, subst}
+use Rattle.answer_lines.specs.{IsHistory, Logged}
+use Rattle.answer_lines.proofs.{none_at, heads_same}
 use Rattle.answer_lines.proofs.logs.read_log.Goals as goal
 
 pub returns-in_default-clause-none : goal.returns-in_default-clause-none

@@ -1,10 +1,6 @@
-use Rattle.std.proofs.Common.{◌++◌, ◌∷◌, [], ap, map, ◌∙◌, arith}
-use Rattle.std.proofs.lemmas.List.{map-append}
-use Rattle.std.specs.Borrow.{Bor}
-use Rattle.std.proofs.Common.{List, ℕ}
-use Rattle.answer_lines.specs.Logs.{IsMember, texts_of}
-use Rattle.answer_lines.proofs.LogLemmas.{member_unique}
-use Rattle.answer_lines.proofs.TurnLemmas.{drop_all, reads_all, reads_more, reads_none}
+use Rattle.proof_words.proofs.{◌++◌, ◌∷◌, [], ap, map, ◌∙◌, arith, map-append, Bor, List, ℕ}
+use Rattle.answer_lines.specs.{IsMember, texts_of}
+use Rattle.answer_lines.proofs.{member_unique, drop_all, reads_all, reads_more, reads_none}
 use Rattle.answer_lines.proofs.logs.read_values.Goals as goal
 
 pub returns-in_default-clause-none : goal.returns-in_default-clause-none

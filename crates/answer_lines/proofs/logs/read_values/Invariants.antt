@@ -1,5 +1,5 @@
-use Rattle.std.proofs.Common.{drop}
-use Rattle.answer_lines.specs.Logs.{IsMember, texts_of}
+use Rattle.proof_words.proofs.{drop}
+use Rattle.answer_lines.specs.{IsMember, texts_of}
 use Rattle.answer_lines.proofs.TurnLemmas.{Reads}
 use Rattle.answer_lines.proofs.logs.read_values.Given as goal
 

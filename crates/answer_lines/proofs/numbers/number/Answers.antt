@@ -1,10 +1,5 @@
-use Rattle.std.proofs.Common.{◌≡◌, ℕ, sym, ap, subst, ◌∙◌, decimal, List, Ok, Result}
-use Rattle.std.proofs.lemmas.Bool.{false≢true}
-use Rattle.std.specs.Str.{IsUtf8}
-use Rattle.std.proofs.lemmas.Str.{IsUtf8-from_ascii}
-use Rattle.std.proofs.lemmas.Fmt.{IsAscii-decimal, parse-decimal}
-use Rattle.std.specs.Cmp.Lexicographic.{pointwise, bytes_decides}
-use Rattle.answer_lines.proofs.RevLemmas.{clash}
+use Rattle.proof_words.proofs.{◌≡◌, ℕ, sym, ap, subst, ◌∙◌, decimal, List, Ok, Result, false≢true, IsUtf8, IsUtf8-from_ascii, IsAscii-decimal, parse-decimal, pointwise, bytes_decides}
+use Rattle.answer_lines.proofs.{clash}
 use Rattle.answer_lines.proofs.numbers.number.Goals as goal
 
 ok_number : {E : Type 0} (m n : ℕ) (r : Result ℕ E) → r ≡ Ok m → r ≡ Ok n → m ≡ n

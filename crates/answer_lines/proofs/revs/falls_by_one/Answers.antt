@@ -1,5 +1,5 @@
-use Rattle.std.proofs.Common.{◌-◌, arith}
-use Rattle.answer_lines.proofs.RevLemmas.{falls_init, falls_read}
+use Rattle.proof_words.proofs.{◌-◌, arith}
+use Rattle.answer_lines.proofs.{falls_init, falls_read}
 use Rattle.answer_lines.proofs.revs.falls_by_one.Goals as goal
 
 pub loop-i-init : goal.loop-i-init

@@ -1,5 +1,5 @@
-use Rattle.std.proofs.Common.{◌-◌, drop}
-use Rattle.rev_core.specs.Ancestry.{FallsByOne}
+use Rattle.proof_words.proofs.{◌-◌, drop}
+use Rattle.rev_core.specs.{FallsByOne}
 use Rattle.answer_lines.proofs.revs.falls_by_one.Given as goal
 
 abbrev pub invariant-loop-i : goal.invariant-loop-i

@@ -1,7 +1,6 @@
-use Rattle.std.proofs.Common.{[], ◌++◌, ◌∷◌, map, sym, ap, ◌∙◌}
-use Rattle.std.proofs.lemmas.List.{append-nil}
-use Rattle.rev_core.specs.Text.{rev_text}
-use Rattle.answer_lines.proofs.RevLemmas.{no_piece, pieces, pieces_first, pieces_last, read_more, revs_more}
+use Rattle.proof_words.proofs.{[], ◌++◌, ◌∷◌, map, sym, ap, ◌∙◌, append-nil}
+use Rattle.rev_core.specs.{rev_text}
+use Rattle.answer_lines.proofs.{no_piece, pieces, pieces_first, pieces_last, read_more, revs_more}
 use Rattle.answer_lines.proofs.revs.read_revs.Goals as goal
 
 pub returns-in_default-revision-clause-none : goal.returns-in_default-revision-clause-none

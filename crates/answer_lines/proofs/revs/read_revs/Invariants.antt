@@ -1,7 +1,5 @@
-use Rattle.std.proofs.Common.{◌≡◌, ◌++◌, ◌==◌, length, map}
-use Rattle.std.specs.List.{AllByRecursion, slice_split}
-use Rattle.rev_core.specs.Rev.{IsRev}
-use Rattle.rev_core.specs.Text.{rev_text}
+use Rattle.proof_words.proofs.{◌≡◌, ◌++◌, ◌==◌, length, map, AllByRecursion, slice_split}
+use Rattle.rev_core.specs.{IsRev, rev_text}
 use Rattle.answer_lines.proofs.revs.read_revs.Given as goal
 
 abbrev pub invariant-loop-word : goal.invariant-loop-word

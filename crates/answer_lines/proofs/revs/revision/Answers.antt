@@ -1,7 +1,6 @@
-use Rattle.std.proofs.Common.{sym, ap, ◌∙◌}
-use Rattle.rev_core.specs.Text.{rev_read}
-use Rattle.rev_core.specs.TextLaws.{rev_read-text}
-use Rattle.answer_lines.proofs.RevLemmas.{clash}
+use Rattle.proof_words.proofs.{sym, ap, ◌∙◌}
+use Rattle.rev_core.specs.{rev_read, rev_read-text}
+use Rattle.answer_lines.proofs.{clash}
 use Rattle.answer_lines.proofs.revs.revision.Goals as goal
 
 pub returns-in-Err-clause-none : goal.returns-in-Err-clause-none

@@ -1,7 +1,6 @@
-use Rattle.std.proofs.Common.{◌≡◌, ◌++◌, ◌∷◌, ◌∙◌, subst}
-use Rattle.answer_lines.specs.Words.{IsNumber}
-use Rattle.answer_lines.specs.Columns.{column_text}
-use Rattle.answer_lines.proofs.LineLemmas.{named_unique}
+use Rattle.proof_words.proofs.{◌≡◌, ◌++◌, ◌∷◌, ◌∙◌, subst}
+use Rattle.answer_lines.specs.{IsNumber, column_text}
+use Rattle.answer_lines.proofs.{named_unique}
 use Rattle.answer_lines.proofs.rows.cut_column.Goals as goal
 
 pub returns-in-None-clause-none : goal.returns-in-None-clause-none

@@ -1,7 +1,7 @@
-use Rattle.std.proofs.Common.{◌≡◌, ◌++◌, ℕ, List, codes, sym}
-use Rattle.answer_lines.specs.Columns.{IsFront}
+use Rattle.proof_words.proofs.{◌≡◌, ◌++◌, ℕ, List, codes, sym}
+use Rattle.answer_lines.specs.{IsFront}
 use Rattle.answer_lines.specs.declared.told.Table.TheVariants as tables
-use Rattle.answer_lines.proofs.LineLemmas.{if_none, named_unique, none_map}
+use Rattle.answer_lines.proofs.{if_none, named_unique, none_map}
 use Rattle.answer_lines.proofs.rows.database_name.Goals as goal
 
 pub returns-in_err-name-clause-none : goal.returns-in_err-name-clause-none

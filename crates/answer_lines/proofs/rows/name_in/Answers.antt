@@ -1,7 +1,7 @@
-use Rattle.std.proofs.Common.{ℕ, List, subst}
-use Rattle.answer_lines.specs.Columns.{IsFront}
+use Rattle.proof_words.proofs.{ℕ, List, subst}
+use Rattle.answer_lines.specs.{IsFront}
 use Rattle.answer_lines.specs.declared.told.Table.TheVariants as tables
-use Rattle.answer_lines.proofs.LineLemmas.{none_map}
+use Rattle.answer_lines.proofs.{none_map}
 use Rattle.answer_lines.proofs.rows.name_in.Goals as goal
 
 pub returns-in-Info-clause-none : goal.returns-in-Info-clause-none

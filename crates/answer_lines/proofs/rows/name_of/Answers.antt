@@ -1,6 +1,5 @@
-use Rattle.std.proofs.Common.{subst, sym}
-use Rattle.std.specs.Str.{IsUtf8}
-use Rattle.answer_lines.proofs.ColumnLemmas.{front_unique}
+use Rattle.proof_words.proofs.{subst, sym, IsUtf8}
+use Rattle.answer_lines.proofs.{front_unique}
 use Rattle.answer_lines.proofs.rows.name_of.Goals as goal
 
 pub returns-in-Err-clause-none : goal.returns-in-Err-clause-none

@@ -1,7 +1,6 @@
-use Rattle.std.proofs.Common.{arith}
-use Rattle.answer_lines.specs.Columns.{EndsIn}
-use Rattle.answer_lines.proofs.ColumnLemmas.{column_unique}
-use Rattle.answer_lines.proofs.TurnLemmas.{drop_all, reads_all, reads_more, reads_none}
+use Rattle.proof_words.proofs.{arith}
+use Rattle.answer_lines.specs.{EndsIn}
+use Rattle.answer_lines.proofs.{column_unique, drop_all, reads_all, reads_more, reads_none}
 use Rattle.answer_lines.proofs.rows.read_columns.Goals as goal
 
 pub returns-in_default-clause-none : goal.returns-in_default-clause-none

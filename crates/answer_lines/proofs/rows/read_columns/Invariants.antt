@@ -1,5 +1,5 @@
-use Rattle.std.proofs.Common.{drop}
-use Rattle.answer_lines.specs.Columns.{EndsIn}
+use Rattle.proof_words.proofs.{drop}
+use Rattle.answer_lines.specs.{EndsIn}
 use Rattle.answer_lines.proofs.TurnLemmas.{Reads}
 use Rattle.answer_lines.proofs.rows.read_columns.Given as goal
 

@@ -1,8 +1,6 @@
-use Rattle.std.proofs.Common.{Some, subst, List, ℕ, reverse}
-use Rattle.answer_lines.specs.Columns.{Ends, EndsIn, IsFront, columns_of}
-use Rattle.answer_lines.proofs.LineLemmas.{some_at}
-use Rattle.answer_lines.proofs.ColumnLemmas.{column_unique}
-use Rattle.answer_lines.proofs.TurnLemmas.{turns_unique}
+use Rattle.proof_words.proofs.{Some, subst, List, ℕ, reverse}
+use Rattle.answer_lines.specs.{Ends, EndsIn, IsFront, columns_of}
+use Rattle.answer_lines.proofs.{some_at, column_unique, turns_unique}
 use Rattle.answer_lines.proofs.rows.read_row.Goals as goal
 
 pub returns-in_default-name_of-clause-none : goal.returns-in_default-name_of-clause-none

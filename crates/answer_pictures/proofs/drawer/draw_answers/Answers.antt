@@ -1,10 +1,7 @@
-use Rattle.std.proofs.Common.{ℕ, List, [], sym, subst}
-use Rattle.std.proofs.KnownBytes.{Appends-kept, Appends-trans}
+use Rattle.proof_words.proofs.{ℕ, List, [], sym, subst, Appends-kept, Appends-trans, chars}
 use Rattle.answer_pictures.specs.Drawing.{Pictures, sketch_of}
-use Rattle.answer_pictures.specs.Ink.{Draws}
-use Rattle.std.specs.Str.{chars}
-use Rattle.answer_pictures.proofs.RunLemmas.{seen_as}
-use Rattle.answer_pictures.proofs.ShownTexts.{safe_shown}
+use Rattle.answer_pictures.specs.{Draws}
+use Rattle.answer_pictures.proofs.{seen_as, safe_shown}
 use Rattle.answer_pictures.proofs.drawer.draw_answers.Goals as goal
 
 pub returns : goal.returns

@@ -1,7 +1,7 @@
-use Rattle.std.proofs.Common.{[]}
+use Rattle.proof_words.proofs.{[]}
 use Rattle.answer_pictures.specs.declared.markup.Markup.TheVariants.{Head}
-use Rattle.answer_pictures.specs.Ink.{mark}
-use Rattle.answer_pictures.proofs.Inks.{drawn}
+use Rattle.answer_pictures.specs.{mark}
+use Rattle.answer_pictures.proofs.{drawn}
 use Rattle.answer_pictures.proofs.drawer.head_of.Goals as goal
 
 pub returns-in-Svg : goal.returns-in-Svg

@@ -1,6 +1,6 @@
-use Rattle.std.proofs.Common.{ℕ, List, [], subst}
-use Rattle.answer_pictures.specs.Ink.{Draws}
-use Rattle.answer_pictures.proofs.Inks.{drawn_then}
+use Rattle.proof_words.proofs.{ℕ, List, [], subst}
+use Rattle.answer_pictures.specs.{Draws}
+use Rattle.answer_pictures.proofs.{drawn_then}
 use Rattle.answer_pictures.proofs.drawer.tail_of.Goals as goal
 
 pub returns : goal.returns

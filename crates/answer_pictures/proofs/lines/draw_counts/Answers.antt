@@ -1,5 +1,5 @@
-use Rattle.std.proofs.Common.{arith}
-use Rattle.answer_pictures.proofs.RowLemmas.{counts_all, counts_more}
+use Rattle.proof_words.proofs.{arith}
+use Rattle.answer_pictures.proofs.{counts_all, counts_more}
 use Rattle.answer_pictures.proofs.lines.draw_counts.Goals as goal
 
 pub loop-i-preserved : goal.loop-i-preserved

@@ -1,5 +1,5 @@
-use Rattle.std.proofs.Common.{take}
-use Rattle.answer_pictures.specs.Ink.{Draws, counts_of}
+use Rattle.proof_words.proofs.{take}
+use Rattle.answer_pictures.specs.{Draws, counts_of}
 use Rattle.answer_pictures.proofs.lines.draw_counts.Given as goal
 
 abbrev pub invariant-loop-i : goal.invariant-loop-i

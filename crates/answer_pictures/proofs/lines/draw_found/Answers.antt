@@ -1,8 +1,7 @@
-use Rattle.std.proofs.Common.{List, ℕ, [], ◌∷◌, map, subst}
-use Rattle.std.specs.Prelude.{string_bytes}
-use Rattle.rev_core.specs.Rev.{RevId}
-use Rattle.answer_pictures.specs.Ink.{Draws, Sign, found, listed}
-use Rattle.answer_pictures.proofs.Inks.{drawn_then, plain_by}
+use Rattle.proof_words.proofs.{List, ℕ, [], ◌∷◌, map, subst, string_bytes}
+use Rattle.rev_core.specs.{RevId}
+use Rattle.answer_pictures.specs.{Draws, Sign, found, listed}
+use Rattle.answer_pictures.proofs.{drawn_then, plain_by}
 use Rattle.answer_pictures.proofs.lines.draw_found.Goals as goal
 
 pub returns : goal.returns

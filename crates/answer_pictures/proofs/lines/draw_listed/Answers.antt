@@ -1,6 +1,6 @@
-use Rattle.std.proofs.Common.{arith}
-use Rattle.answer_pictures.specs.Ink.{listed}
-use Rattle.answer_pictures.proofs.RowLemmas.{rows_more}
+use Rattle.proof_words.proofs.{arith}
+use Rattle.answer_pictures.specs.{listed}
+use Rattle.answer_pictures.proofs.{rows_more}
 use Rattle.answer_pictures.proofs.lines.draw_listed.Goals as goal
 
 pub loop-i-preserved : goal.loop-i-preserved

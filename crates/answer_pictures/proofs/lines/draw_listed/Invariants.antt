@@ -1,5 +1,5 @@
-use Rattle.std.proofs.Common.{map, take}
-use Rattle.answer_pictures.specs.Ink.{Draws, listed}
+use Rattle.proof_words.proofs.{map, take}
+use Rattle.answer_pictures.specs.{Draws, listed}
 use Rattle.answer_pictures.proofs.lines.draw_listed.Given as goal
 
 abbrev pub invariant-loop-i : goal.invariant-loop-i

@@ -1,9 +1,7 @@
-use Rattle.std.proofs.Common.{List, ℕ, [], ◌∷◌, ◌++◌, OnOk, subst}
-use Rattle.std.specs.Prelude.{string_bytes}
-use Rattle.answer_lines.specs.Columns.{columns_of}
-use Rattle.answer_lines.specs.declared.told.Column.{Column}
-use Rattle.answer_pictures.specs.Ink.{Draws, Sign, bars_of, counts_of, heading, signs_of_row}
-use Rattle.answer_pictures.proofs.Inks.{drawn_plain, drawn_then, plain_by}
+use Rattle.proof_words.proofs.{List, ℕ, [], ◌∷◌, ◌++◌, OnOk, subst, string_bytes}
+use Rattle.answer_lines.specs.{columns_of, Column}
+use Rattle.answer_pictures.specs.{Draws, Sign, bars_of, counts_of, heading, signs_of_row}
+use Rattle.answer_pictures.proofs.{drawn_plain, drawn_then, plain_by}
 use Rattle.answer_pictures.proofs.lines.draw_numbers.Goals as goal
 
 pub returns : goal.returns

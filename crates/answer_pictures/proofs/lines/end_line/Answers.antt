@@ -1,5 +1,5 @@
-use Rattle.std.proofs.Common.{[]}
-use Rattle.answer_pictures.proofs.Inks.{then_by}
+use Rattle.proof_words.proofs.{[]}
+use Rattle.answer_pictures.proofs.{then_by}
 use Rattle.answer_pictures.proofs.lines.end_line.Goals as goal
 
 pub returns : goal.returns

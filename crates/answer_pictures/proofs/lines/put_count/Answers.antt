@@ -1,7 +1,6 @@
-use Rattle.std.proofs.Common.{◌++◌, refl, codes, decimal, arith}
-use Rattle.std.proofs.lemmas.Grind.{common_steps}
-use Rattle.answer_pictures.specs.Ink.{caption, count}
-use Rattle.answer_pictures.proofs.Inks.{sign_by, then_text}
+use Rattle.proof_words.proofs.{◌++◌, refl, codes, decimal, arith, common_steps}
+use Rattle.answer_pictures.specs.{caption, count}
+use Rattle.answer_pictures.proofs.{sign_by, then_text}
 use Rattle.answer_pictures.proofs.lines.put_count.Goals as goal
 
 pub returns : goal.returns

@@ -1,8 +1,7 @@
-use Rattle.std.proofs.Common.{refl, arith}
-use Rattle.std.proofs.lemmas.Grind.{common_steps}
-use Rattle.answer_lines.specs.Lines.{finding_text}
-use Rattle.answer_pictures.specs.Ink.{found, shown_text}
-use Rattle.answer_pictures.proofs.Inks.{sign_by}
+use Rattle.proof_words.proofs.{refl, arith, common_steps}
+use Rattle.answer_lines.specs.{finding_text}
+use Rattle.answer_pictures.specs.{found, shown_text}
+use Rattle.answer_pictures.proofs.{sign_by}
 use Rattle.answer_pictures.proofs.lines.put_found.Goals as goal
 
 pub returns : goal.returns

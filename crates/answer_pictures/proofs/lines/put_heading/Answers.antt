@@ -1,8 +1,6 @@
-use Rattle.std.proofs.Common.{refl, arith}
-use Rattle.std.proofs.lemmas.Grind.{common_steps}
-use Rattle.answer_pictures.specs.Ink.{table_text}
-use Rattle.answer_pictures.specs.Ink.{heading, shown_text}
-use Rattle.answer_pictures.proofs.Inks.{sign_by}
+use Rattle.proof_words.proofs.{refl, arith, common_steps}
+use Rattle.answer_pictures.specs.{table_text, heading, shown_text}
+use Rattle.answer_pictures.proofs.{sign_by}
 use Rattle.answer_pictures.proofs.lines.put_heading.Goals as goal
 
 pub returns : goal.returns

@@ -1,6 +1,6 @@
-use Rattle.std.proofs.Common.{refl, codes}
-use Rattle.answer_pictures.specs.Ink.{listed, short_text}
-use Rattle.answer_pictures.proofs.Inks.{sign_by}
+use Rattle.proof_words.proofs.{refl, codes}
+use Rattle.answer_pictures.specs.{listed, short_text}
+use Rattle.answer_pictures.proofs.{sign_by}
 use Rattle.answer_pictures.proofs.lines.put_listed.Goals as goal
 
 pub returns : goal.returns

@@ -1,5 +1,5 @@
-use Rattle.std.proofs.Common.{◌++◌, codes, decimal}
-use Rattle.answer_pictures.proofs.Inks.{text_by, then_text}
+use Rattle.proof_words.proofs.{◌++◌, codes, decimal}
+use Rattle.answer_pictures.proofs.{text_by, then_text}
 use Rattle.answer_pictures.proofs.lines.put_ratio.Goals as goal
 
 pub returns : goal.returns

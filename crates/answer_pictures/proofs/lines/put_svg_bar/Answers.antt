@@ -1,8 +1,7 @@
-use Rattle.std.proofs.Common.{◌≡◌, ◌++◌, refl, codes, decimal, subst, arith}
-use Rattle.std.proofs.lemmas.Grind.{common_steps}
+use Rattle.proof_words.proofs.{◌≡◌, ◌++◌, refl, codes, decimal, subst, arith, common_steps}
 use Rattle.answer_pictures.specs.declared.form.Form.TheVariants.{Svg}
-use Rattle.answer_pictures.specs.Ink.{bar, ratio, share}
-use Rattle.answer_pictures.proofs.Inks.{sign_by, then_text}
+use Rattle.answer_pictures.specs.{bar, ratio, share}
+use Rattle.answer_pictures.proofs.{sign_by, then_text}
 use Rattle.answer_pictures.proofs.lines.put_svg_bar.Goals as goal
 
 pub returns : goal.returns

@@ -1,4 +1,4 @@
-use Rattle.std.proofs.Common.{ap}
+use Rattle.proof_words.proofs.{ap}
 use Rattle.answer_pictures.specs.Drawing.{with_all}
 use Rattle.answer_pictures.proofs.reading.conflict_of.Goals as goal
 

@@ -1,5 +1,4 @@
-use Rattle.std.proofs.Common.{◌≡◌, [], drop}
-use Rattle.std.specs.Prelude.{string_bytes}
+use Rattle.proof_words.proofs.{◌≡◌, [], drop, string_bytes}
 use Rattle.answer_pictures.specs.Drawing.{states, with_all}
 use Rattle.answer_pictures.proofs.reading.conflict_of.Given as goal
 

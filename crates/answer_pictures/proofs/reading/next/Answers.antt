@@ -1,6 +1,5 @@
-use Rattle.std.proofs.Common.{List, [], Some, None, sym, subst}
-use Rattle.rev_core.specs.Rev.{RevId}
-use Rattle.std.specs.Prelude.{string_bytes}
+use Rattle.proof_words.proofs.{List, [], Some, None, sym, subst, string_bytes}
+use Rattle.rev_core.specs.{RevId}
 use Rattle.answer_lines.specs.declared.told.Told.TheVariants as lines
 use Rattle.answer_pictures.specs.Drawing.{Holds, IsNext, conflict, found, log, loose, opened, other, row, with_all}
 use Rattle.answer_pictures.specs.declared.reading.Whole.TheVariants as wholes

@@ -1,7 +1,4 @@
-use Rattle.std.proofs.Common.{◌≡◌, ℕ, ◌<◌, false, nat_le, sym, subst, ◌∙◌, arith}
-use Rattle.std.specs.Prelude.{string_bytes}
-use Rattle.std.proofs.lemmas.Bool.{leb-true}
-use Rattle.std.proofs.lemmas.Bool.Decides.{nat_tests}
+use Rattle.proof_words.proofs.{◌≡◌, ℕ, ◌<◌, false, nat_le, sym, subst, ◌∙◌, arith, string_bytes, leb-true, nat_tests}
 use Rattle.answer_pictures.specs.Drawing.{Holds, empty, more, states, whole, with_leaf}
 use Rattle.answer_pictures.proofs.reading.read_leaf.Goals as goal
 

@@ -1,9 +1,7 @@
-use Rattle.std.proofs.Common.{List, ℕ, [], ◌∷◌, subst}
-use Rattle.std.specs.List.{flat_map}
-use Rattle.std.specs.Prelude.{string_bytes}
-use Rattle.answer_lines.specs.declared.told.Entry.{Entry}
-use Rattle.answer_pictures.specs.Ink.{Draws, Sign, log, most_from, signs_of_session}
-use Rattle.answer_pictures.proofs.Inks.{drawn_plain, drawn_then, plain_by}
+use Rattle.proof_words.proofs.{List, ℕ, [], ◌∷◌, subst, flat_map, string_bytes}
+use Rattle.answer_lines.specs.{Entry}
+use Rattle.answer_pictures.specs.{Draws, Sign, log, most_from, signs_of_session}
+use Rattle.answer_pictures.proofs.{drawn_plain, drawn_then, plain_by}
 use Rattle.answer_pictures.proofs.sessions.draw_log.Goals as goal
 
 pub returns : goal.returns

@@ -1,9 +1,8 @@
-use Rattle.std.proofs.Common.{List, ℕ, [], ◌∷◌, subst}
-use Rattle.std.specs.Prelude.{string_bytes}
+use Rattle.proof_words.proofs.{List, ℕ, [], ◌∷◌, subst, string_bytes}
 use Rattle.answer_lines.specs.declared.told.Column.TheVariants as columns
 use Rattle.answer_lines.specs.declared.told.Table.TheVariants as tables
-use Rattle.answer_pictures.specs.Ink.{Draws, Sign, chart, count, heading, moment}
-use Rattle.answer_pictures.proofs.Inks.{drawn_plain, drawn_then, plain_by}
+use Rattle.answer_pictures.specs.{Draws, Sign, chart, count, heading, moment}
+use Rattle.answer_pictures.proofs.{drawn_plain, drawn_then, plain_by}
 use Rattle.answer_pictures.proofs.sessions.draw_session.Goals as goal
 
 pub returns : goal.returns

@@ -1,6 +1,6 @@
-use Rattle.std.proofs.Common.{arith}
-use Rattle.answer_pictures.specs.Ink.{signs_of_session}
-use Rattle.answer_pictures.proofs.RowLemmas.{all_more}
+use Rattle.proof_words.proofs.{arith}
+use Rattle.answer_pictures.specs.{signs_of_session}
+use Rattle.answer_pictures.proofs.{all_more}
 use Rattle.answer_pictures.proofs.sessions.draw_sessions.Goals as goal
 
 pub loop-i-preserved : goal.loop-i-preserved

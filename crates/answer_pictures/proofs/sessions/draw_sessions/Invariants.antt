@@ -1,6 +1,5 @@
-use Rattle.std.proofs.Common.{take}
-use Rattle.std.specs.List.{flat_map}
-use Rattle.answer_pictures.specs.Ink.{Draws, signs_of_session}
+use Rattle.proof_words.proofs.{take, flat_map}
+use Rattle.answer_pictures.specs.{Draws, signs_of_session}
 use Rattle.answer_pictures.proofs.sessions.draw_sessions.Given as goal
 
 abbrev pub invariant-loop-i : goal.invariant-loop-i

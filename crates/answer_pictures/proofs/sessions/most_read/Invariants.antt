@@ -1,5 +1,5 @@
-use Rattle.std.proofs.Common.{◌≡◌, drop}
-use Rattle.answer_pictures.specs.Ink.{most_from}
+use Rattle.proof_words.proofs.{◌≡◌, drop}
+use Rattle.answer_pictures.specs.{most_from}
 use Rattle.answer_pictures.proofs.sessions.most_read.Given as goal
 
 abbrev pub invariant-loop-i : goal.invariant-loop-i

@@ -1,6 +1,6 @@
-use Rattle.std.proofs.Common.{codes, refl}
-use Rattle.answer_pictures.specs.Ink.{log, shown_text}
-use Rattle.answer_pictures.proofs.Inks.{sign_by}
+use Rattle.proof_words.proofs.{codes, refl}
+use Rattle.answer_pictures.specs.{log, shown_text}
+use Rattle.answer_pictures.proofs.{sign_by}
 use Rattle.answer_pictures.proofs.sessions.put_log.Goals as goal
 
 pub returns : goal.returns

@@ -1,5 +1,5 @@
-use Rattle.answer_pictures.specs.Ink.{moment, sign}
-use Rattle.answer_pictures.proofs.Inks.{drawn_by}
+use Rattle.answer_pictures.specs.{moment, sign}
+use Rattle.answer_pictures.proofs.{drawn_by}
 use Rattle.answer_pictures.proofs.sessions.put_moment.Goals as goal
 
 pub returns : goal.returns

@@ -1,8 +1,7 @@
-use Rattle.std.proofs.Common.{◌≡◌, ◌++◌, refl, codes, decimal, subst, arith}
-use Rattle.std.proofs.lemmas.Grind.{common_steps}
+use Rattle.proof_words.proofs.{◌≡◌, ◌++◌, refl, codes, decimal, subst, arith, common_steps}
 use Rattle.answer_pictures.specs.declared.form.Form.TheVariants.{Svg}
-use Rattle.answer_pictures.specs.Ink.{chart, share}
-use Rattle.answer_pictures.proofs.Inks.{sign_by, then_text}
+use Rattle.answer_pictures.specs.{chart, share}
+use Rattle.answer_pictures.proofs.{sign_by, then_text}
 use Rattle.answer_pictures.proofs.sessions.put_svg_chart.Goals as goal
 
 pub returns : goal.returns

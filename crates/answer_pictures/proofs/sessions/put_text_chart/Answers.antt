@@ -1,8 +1,7 @@
-use Rattle.std.proofs.Common.{◌≡◌, ◌++◌, ◌-◌, refl, codes, take, drop, arith}
-use Rattle.std.proofs.lemmas.Grind.{common_steps}
+use Rattle.proof_words.proofs.{◌≡◌, ◌++◌, ◌-◌, refl, codes, take, drop, arith, common_steps}
 use Rattle.answer_pictures.specs.declared.form.Form.TheVariants.{Text}
-use Rattle.answer_pictures.specs.Ink.{chart, filled, reached}
-use Rattle.answer_pictures.proofs.Inks.{sign_by, then_text}
+use Rattle.answer_pictures.specs.{chart, filled, reached}
+use Rattle.answer_pictures.proofs.{sign_by, then_text}
 use Rattle.answer_pictures.proofs.sessions.put_text_chart.Goals as goal
 
 pub returns : goal.returns

@@ -1,5 +1,5 @@
-use Rattle.std.proofs.Common.{[]}
-use Rattle.answer_pictures.specs.Ink.{Draws}
+use Rattle.proof_words.proofs.{[]}
+use Rattle.answer_pictures.specs.{Draws}
 use Rattle.answer_pictures.proofs.sheet.blanks.Given as goal
 
 abbrev pub invariant-loop-turn : goal.invariant-loop-turn

@@ -1,4 +1,4 @@
-use Rattle.std.proofs.Common.{◌+◌, ◌≤◌}
+use Rattle.proof_words.proofs.{◌+◌, ◌≤◌}
 use Rattle.answer_pictures.proofs.sheet.digits.Given as goal
 
 abbrev pub invariant-loop-step : goal.invariant-loop-step

@@ -1,9 +1,8 @@
-use Rattle.std.proofs.Common.{◌≡◌, ℕ, List, ◌++◌, codes, ◌∙◌, append_assoc, arith}
-use Rattle.std.proofs.lemmas.Grind.{common_steps}
-use Rattle.rev_core.specs.Text.{rev_text}
+use Rattle.proof_words.proofs.{◌≡◌, ℕ, List, ◌++◌, codes, ◌∙◌, append_assoc, arith, common_steps}
+use Rattle.rev_core.specs.{rev_text}
 use Rattle.answer_pictures.specs.declared.form.Form.TheVariants.{Text}
-use Rattle.answer_pictures.specs.Ink.{edit, shown_text}
-use Rattle.answer_pictures.proofs.Inks.{sign_by, then_text}
+use Rattle.answer_pictures.specs.{edit, shown_text}
+use Rattle.answer_pictures.proofs.{sign_by, then_text}
 use Rattle.answer_pictures.proofs.sheet.edit_line.Goals as goal
 
 seven : (a b c d e f g : List ℕ) → ((((((a ++ b) ++ c) ++ d) ++ e) ++ f) ++ g) ≡ a ++ (b ++ (c ++ (d ++ (e ++ (f ++ g)))))

@@ -1,9 +1,8 @@
-use Rattle.std.proofs.Common.{◌++◌, refl, sym, append_assoc, ◌∙◌, arith}
-use Rattle.std.proofs.lemmas.Grind.{common_steps}
-use Rattle.rev_core.specs.Text.{rev_text}
+use Rattle.proof_words.proofs.{◌++◌, refl, sym, append_assoc, ◌∙◌, arith, common_steps}
+use Rattle.rev_core.specs.{rev_text}
 use Rattle.answer_pictures.specs.declared.form.Form.TheVariants.{Svg}
-use Rattle.answer_pictures.specs.Ink.{leaf, node_label, shape_text, short_text}
-use Rattle.answer_pictures.proofs.Inks.{sign_by, then_text}
+use Rattle.answer_pictures.specs.{leaf, node_label, shape_text, short_text}
+use Rattle.answer_pictures.proofs.{sign_by, then_text}
 use Rattle.answer_pictures.proofs.sheet.leaf_node.Goals as goal
 
 pub returns : goal.returns

@@ -1,8 +1,7 @@
-use Rattle.std.proofs.Common.{refl, arith}
-use Rattle.std.proofs.lemmas.Grind.{common_steps}
+use Rattle.proof_words.proofs.{refl, arith, common_steps}
 use Rattle.answer_pictures.specs.declared.form.Form.TheVariants.{Text}
-use Rattle.answer_pictures.specs.Ink.{label_text, leaf, short_text}
-use Rattle.answer_pictures.proofs.Inks.{sign_by}
+use Rattle.answer_pictures.specs.{label_text, leaf, short_text}
+use Rattle.answer_pictures.proofs.{sign_by}
 use Rattle.answer_pictures.proofs.sheet.leaf_row.Goals as goal
 
 pub returns : goal.returns

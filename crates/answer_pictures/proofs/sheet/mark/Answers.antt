@@ -1,7 +1,6 @@
-use Rattle.std.proofs.Common.{arith}
-use Rattle.std.proofs.lemmas.Grind.{common_steps}
-use Rattle.answer_pictures.specs.Ink.{mark}
-use Rattle.answer_pictures.proofs.Inks.{drawn_by}
+use Rattle.proof_words.proofs.{arith, common_steps}
+use Rattle.answer_pictures.specs.{mark}
+use Rattle.answer_pictures.proofs.{drawn_by}
 use Rattle.answer_pictures.proofs.sheet.mark.Goals as goal
 
 pub returns-clause-draws : goal.returns-clause-draws

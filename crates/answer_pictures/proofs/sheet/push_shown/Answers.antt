@@ -1,10 +1,6 @@
-use Rattle.std.proofs.Common.{◌++◌, ap, sym, ◌∙◌}
-use Rattle.std.specs.Prelude.{string_bytes, encode_utf8_all}
-use Rattle.std.proofs.lemmas.Iterator.{YieldsList-from_chars}
-use Rattle.std.proofs.lemmas.Iterator.Consumers.{YieldsList-end}
-use Rattle.std.proofs.lemmas.List.{map-id}
-use Rattle.answer_pictures.specs.Shown.{shown}
-use Rattle.answer_pictures.proofs.ShownTexts.{shown_more}
+use Rattle.proof_words.proofs.{◌++◌, ap, sym, ◌∙◌, string_bytes, encode_utf8_all, YieldsList-from_chars, YieldsList-end, map-id}
+use Rattle.answer_pictures.specs.{shown}
+use Rattle.answer_pictures.proofs.{shown_more}
 use Rattle.answer_pictures.proofs.sheet.push_shown.Goals as goal
 
 pub loop-c-preserved : goal.loop-c-preserved

@@ -1,5 +1,5 @@
-use Rattle.std.proofs.Common.{◌≡◌, ◌++◌, string_bytes, encode_utf8_all}
-use Rattle.answer_pictures.specs.Shown.{shown}
+use Rattle.proof_words.proofs.{◌≡◌, ◌++◌, string_bytes, encode_utf8_all}
+use Rattle.answer_pictures.specs.{shown}
 use Rattle.answer_pictures.proofs.sheet.push_shown.Given as goal
 
 abbrev pub invariant-loop-c : goal.invariant-loop-c

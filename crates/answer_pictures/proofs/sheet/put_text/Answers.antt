@@ -1,5 +1,5 @@
-use Rattle.std.specs.Str.{chars}
-use Rattle.answer_pictures.proofs.ShownTexts.{escaped_shown, seen_shown}
+use Rattle.proof_words.proofs.{chars}
+use Rattle.answer_pictures.proofs.{escaped_shown, seen_shown}
 use Rattle.answer_pictures.proofs.sheet.put_text.Goals as goal
 
 pub returns-clause-seen : goal.returns-clause-seen

@@ -1,5 +1,5 @@
-use Rattle.answer_pictures.specs.Ink.{sign, title}
-use Rattle.answer_pictures.proofs.Inks.{drawn_by}
+use Rattle.answer_pictures.specs.{sign, title}
+use Rattle.answer_pictures.proofs.{drawn_by}
 use Rattle.answer_pictures.proofs.sheet.title.Goals as goal
 
 pub returns : goal.returns

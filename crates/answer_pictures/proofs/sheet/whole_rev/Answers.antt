@@ -1,7 +1,6 @@
-use Rattle.std.proofs.Common.{arith}
-use Rattle.std.proofs.lemmas.Grind.{common_steps}
-use Rattle.answer_pictures.specs.Ink.{whole}
-use Rattle.answer_pictures.proofs.Inks.{drawn_by}
+use Rattle.proof_words.proofs.{arith, common_steps}
+use Rattle.answer_pictures.specs.{whole}
+use Rattle.answer_pictures.proofs.{drawn_by}
 use Rattle.answer_pictures.proofs.sheet.whole_rev.Goals as goal
 
 pub returns-clause-draws : goal.returns-clause-draws

@@ -1,5 +1,5 @@
-use Rattle.std.proofs.Common.{[]}
-use Rattle.answer_pictures.proofs.Inks.{drawn_then}
+use Rattle.proof_words.proofs.{[]}
+use Rattle.answer_pictures.proofs.{drawn_then}
 use Rattle.answer_pictures.proofs.svg.draw_cells.Goals as goal
 
 pub loop-i-preserved : goal.loop-i-preserved

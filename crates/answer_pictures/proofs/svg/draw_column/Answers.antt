@@ -1,5 +1,5 @@
-use Rattle.std.proofs.Common.{[]}
-use Rattle.answer_pictures.proofs.Inks.{then_by}
+use Rattle.proof_words.proofs.{[]}
+use Rattle.answer_pictures.proofs.{then_by}
 use Rattle.answer_pictures.proofs.svg.draw_column.Goals as goal
 
 pub returns-then-cell-generation-2 : goal.returns-then-cell-generation-2

@@ -1,9 +1,7 @@
-use Rattle.std.proofs.Common.{List, [], ◌∷◌, map, subst}
-use Rattle.std.specs.Prelude.{string_bytes}
-use Rattle.answer_pictures.specs.declared.document.Leaf.{Leaf}
+use Rattle.proof_words.proofs.{List, [], ◌∷◌, map, subst, string_bytes}
+use Rattle.answer_pictures.specs.{Leaf, Draws, Sign, leaf_sign, title}
 use Rattle.answer_pictures.specs.declared.form.Form.TheVariants.{Svg}
-use Rattle.answer_pictures.specs.Ink.{Draws, Sign, leaf_sign, title}
-use Rattle.answer_pictures.proofs.Inks.{drawn_plain, drawn_then}
+use Rattle.answer_pictures.proofs.{drawn_plain, drawn_then}
 use Rattle.answer_pictures.proofs.svg.draw_document.Goals as goal
 
 pub returns : goal.returns

@@ -1,8 +1,7 @@
-use Rattle.std.proofs.Common.{[], ◌∷◌, List, ℕ, subst}
-use Rattle.std.specs.Prelude.{string_bytes}
+use Rattle.proof_words.proofs.{[], ◌∷◌, List, ℕ, subst, string_bytes}
 use Rattle.answer_pictures.specs.declared.form.Form.TheVariants.{Svg}
-use Rattle.answer_pictures.specs.Ink.{Draws, title}
-use Rattle.answer_pictures.proofs.Inks.{drawn_then, plain_by}
+use Rattle.answer_pictures.specs.{Draws, title}
+use Rattle.answer_pictures.proofs.{drawn_then, plain_by}
 use Rattle.answer_pictures.proofs.svg.draw_head.Goals as goal
 
 pub returns : goal.returns

@@ -1,5 +1,5 @@
-use Rattle.std.proofs.Common.{[]}
-use Rattle.answer_pictures.proofs.Inks.{drawn_then, then_by}
+use Rattle.proof_words.proofs.{[]}
+use Rattle.answer_pictures.proofs.{drawn_then, then_by}
 use Rattle.answer_pictures.proofs.svg.draw_point.Goals as goal
 
 pub returns : goal.returns

@@ -1,7 +1,7 @@
-use Rattle.std.proofs.Common.{[], ◌∷◌}
+use Rattle.proof_words.proofs.{[], ◌∷◌}
 use Rattle.answer_pictures.specs.declared.form.Form.TheVariants.{Svg}
-use Rattle.answer_pictures.specs.Ink.{leaf_sign}
-use Rattle.answer_pictures.proofs.Inks.{then_by}
+use Rattle.answer_pictures.specs.{leaf_sign}
+use Rattle.answer_pictures.proofs.{then_by}
 use Rattle.answer_pictures.proofs.svg.draw_row.Goals as goal
 
 pub returns : goal.returns

@@ -1,7 +1,7 @@
-use Rattle.std.proofs.Common.{arith}
+use Rattle.proof_words.proofs.{arith}
 use Rattle.answer_pictures.specs.declared.form.Form.TheVariants.{Svg}
-use Rattle.answer_pictures.specs.Ink.{leaf_sign}
-use Rattle.answer_pictures.proofs.RowLemmas.{rows_more}
+use Rattle.answer_pictures.specs.{leaf_sign}
+use Rattle.answer_pictures.proofs.{rows_more}
 use Rattle.answer_pictures.proofs.svg.draw_rows.Goals as goal
 
 pub loop-i-preserved : goal.loop-i-preserved

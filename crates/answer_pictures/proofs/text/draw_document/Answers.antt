@@ -1,9 +1,7 @@
-use Rattle.std.proofs.Common.{List, ℕ, [], ◌∷◌, ◌++◌, map, subst, OnOk}
-use Rattle.std.specs.Prelude.{option_map, string_bytes}
-use Rattle.answer_pictures.specs.declared.document.Leaf.{Leaf}
+use Rattle.proof_words.proofs.{List, ℕ, [], ◌∷◌, ◌++◌, map, subst, OnOk, option_map, string_bytes}
+use Rattle.answer_pictures.specs.{Leaf, Draws, Sign, edits_of, leaf_sign, signs_of, title}
 use Rattle.answer_pictures.specs.declared.form.Form.TheVariants.{Text}
-use Rattle.answer_pictures.specs.Ink.{Draws, Sign, edits_of, leaf_sign, signs_of, title}
-use Rattle.answer_pictures.proofs.Inks.{drawn_plain, drawn_then, plain_by}
+use Rattle.answer_pictures.proofs.{drawn_plain, drawn_then, plain_by}
 use Rattle.answer_pictures.proofs.text.draw_document.Goals as goal
 
 pub returns : goal.returns

@@ -1,6 +1,6 @@
-use Rattle.std.proofs.Common.{arith}
-use Rattle.answer_pictures.specs.Ink.{edit_of}
-use Rattle.answer_pictures.proofs.RowLemmas.{all_more}
+use Rattle.proof_words.proofs.{arith}
+use Rattle.answer_pictures.specs.{edit_of}
+use Rattle.answer_pictures.proofs.{all_more}
 use Rattle.answer_pictures.proofs.text.draw_edits_of.Goals as goal
 
 pub loop-i-preserved : goal.loop-i-preserved

@@ -1,6 +1,5 @@
-use Rattle.std.proofs.Common.{take}
-use Rattle.std.specs.List.{flat_map}
-use Rattle.answer_pictures.specs.Ink.{Draws, edit_of}
+use Rattle.proof_words.proofs.{take, flat_map}
+use Rattle.answer_pictures.specs.{Draws, edit_of}
 use Rattle.answer_pictures.proofs.text.draw_edits_of.Given as goal
 
 abbrev pub invariant-loop-i : goal.invariant-loop-i

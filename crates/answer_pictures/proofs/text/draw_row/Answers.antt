@@ -1,7 +1,7 @@
-use Rattle.std.proofs.Common.{[], ◌∷◌}
+use Rattle.proof_words.proofs.{[], ◌∷◌}
 use Rattle.answer_pictures.specs.declared.form.Form.TheVariants.{Text}
-use Rattle.answer_pictures.specs.Ink.{leaf_sign}
-use Rattle.answer_pictures.proofs.Inks.{drawn_then, then_by}
+use Rattle.answer_pictures.specs.{leaf_sign}
+use Rattle.answer_pictures.proofs.{drawn_then, then_by}
 use Rattle.answer_pictures.proofs.text.draw_row.Goals as goal
 
 pub returns : goal.returns

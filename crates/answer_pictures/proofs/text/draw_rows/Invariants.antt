@@ -1,6 +1,6 @@
-use Rattle.std.proofs.Common.{map, take}
+use Rattle.proof_words.proofs.{map, take}
 use Rattle.answer_pictures.specs.declared.form.Form.TheVariants.{Text}
-use Rattle.answer_pictures.specs.Ink.{Draws, leaf_sign}
+use Rattle.answer_pictures.specs.{Draws, leaf_sign}
 use Rattle.answer_pictures.proofs.text.draw_rows.Given as goal
 
 abbrev pub invariant-loop-i : goal.invariant-loop-i

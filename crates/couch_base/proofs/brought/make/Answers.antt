@@ -1,11 +1,8 @@
-use Rattle.std.proofs.Common.{◌≡◌, sym, ap, ◌∙◌, subst}
-use Rattle.rev_tree.specs.Tree.{IsTree, merged, merge_answer, no_revisions}
-use Rattle.rev_tree.specs.declared.origin.Origin.{Origin}
+use Rattle.proof_words.proofs.{◌≡◌, sym, ap, ◌∙◌, subst}
+use Rattle.rev_tree.specs.{IsTree, merged, merge_answer, no_revisions, Origin}
 use Rattle.rev_tree.specs.declared.origin.Origin.TheVariants.{Feed}
-use Rattle.couch_base.specs.Database.{IsDocumentTree}
-use Rattle.couch_base.specs.DocumentTreeLaws.{merged_document, no_bodies}
-use Rattle.couch_base.specs.Put.{content_of}
-use Rattle.couch_base.proofs.Putting.{new_changes}
+use Rattle.couch_base.specs.{IsDocumentTree, merged_document, no_bodies, content_of}
+use Rattle.couch_base.proofs.{new_changes}
 use Rattle.couch_base.proofs.brought.make.Goals as goal
 
 pub merge_change-requires : goal.merge_change-requires

@@ -1,5 +1,5 @@
-use Rattle.std.proofs.Common.{[], ◌∷◌, ◌++◌, ap, ◌∙◌, refl, arith}
-use Rattle.couch_base.proofs.Copied.{one_more}
+use Rattle.proof_words.proofs.{[], ◌∷◌, ◌++◌, ap, ◌∙◌, refl, arith}
+use Rattle.couch_base.proofs.{one_more}
 use Rattle.couch_base.proofs.copies.copied.Goals as goal
 
 pub loop-item-preserved : goal.loop-item-preserved

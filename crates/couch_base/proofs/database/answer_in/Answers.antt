@@ -1,8 +1,6 @@
-use Rattle.std.proofs.Common.{sym, ap, ◌∙◌}
-use Rattle.std.specs.Prelude.{unwrap_or}
-use Rattle.std.specs.Option.{option_copied}
-use Rattle.rev_tree.specs.Tree.{merge_answer, no_revisions}
-use Rattle.couch_base.proofs.Putting.{new_changes}
+use Rattle.proof_words.proofs.{sym, ap, ◌∙◌, unwrap_or, option_copied}
+use Rattle.rev_tree.specs.{merge_answer, no_revisions}
+use Rattle.couch_base.proofs.{new_changes}
 use Rattle.couch_base.proofs.database.answer_in.Goals as goal
 
 pub returns-in-None : goal.returns-in-None

@@ -1,8 +1,7 @@
-use Rattle.std.proofs.Common.{Ok, Err, cond, sym, ap, ◌∙◌}
-use Rattle.rev_tree.specs.InOrder.{first_of}
-use Rattle.rev_tree.specs.Tree.{leaves}
+use Rattle.proof_words.proofs.{Ok, Err, cond, sym, ap, ◌∙◌}
+use Rattle.rev_tree.specs.{first_of, leaves}
 use Rattle.couch_base.specs.declared.fault.BaseFault.TheVariants as faults
-use Rattle.couch_base.proofs.Deleted.{all_deleted}
+use Rattle.couch_base.proofs.{all_deleted}
 use Rattle.couch_base.proofs.edit.deleted_winner.Goals as goal
 
 pub returns-then-is_deleted : goal.returns-then-is_deleted

@@ -1,8 +1,8 @@
-use Rattle.std.proofs.Common.{[], ◌∷◌, ◌++◌, ap, ◌∙◌, arith}
-use Rattle.rev_tree.specs.Tree.{is_leaf}
+use Rattle.proof_words.proofs.{[], ◌∷◌, ◌++◌, ap, ◌∙◌, arith}
+use Rattle.rev_tree.specs.{is_leaf}
 use Rattle.doc_json.specs.Document.{Document}
-use Rattle.couch_base.specs.Messages.{leaf_document}
-use Rattle.couch_base.proofs.Copied.{one_more_of, all_at}
+use Rattle.couch_base.specs.{leaf_document}
+use Rattle.couch_base.proofs.{one_more_of, all_at}
 use Rattle.couch_base.proofs.exchange.add_documents.Goals as goal
 
 pub leaf_document-requires-clause-leaf : goal.leaf_document-requires-clause-leaf

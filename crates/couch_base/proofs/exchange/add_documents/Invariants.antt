@@ -1,5 +1,5 @@
-use Rattle.std.proofs.Common.{◌≡◌, ◌++◌, map, take}
-use Rattle.couch_base.specs.Messages.{leaf_document}
+use Rattle.proof_words.proofs.{◌≡◌, ◌++◌, map, take}
+use Rattle.couch_base.specs.{leaf_document}
 use Rattle.couch_base.proofs.exchange.add_documents.Given as goal
 
 -- the documents of the leaves so far are added

@@ -1,5 +1,5 @@
-use Rattle.std.proofs.Common.{[], ◌∷◌, ◌++◌, ap, ◌∙◌, arith}
-use Rattle.couch_base.proofs.Copied.{one_more_of}
+use Rattle.proof_words.proofs.{[], ◌∷◌, ◌++◌, ap, ◌∙◌, arith}
+use Rattle.couch_base.proofs.{one_more_of}
 use Rattle.couch_base.proofs.exchange.add_revs.Goals as goal
 
 pub loop-rev-preserved : goal.loop-rev-preserved

@@ -1,4 +1,4 @@
-use Rattle.std.proofs.Common.{◌≡◌}
+use Rattle.proof_words.proofs.{◌≡◌}
 use Rattle.couch_base.proofs.parcel.prepare.Given as goal
 
 -- the documents stay what they are

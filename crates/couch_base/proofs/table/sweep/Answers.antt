@@ -1,6 +1,5 @@
-use Rattle.std.proofs.Common.{◌≡◌, ◌/◌, length, nat_lt, true, cond, rules, sym, ap, ◌∙◌, arith}
-use Rattle.std.proofs.lemmas.Fn.{filter_same}
-use Rattle.couch_base.specs.Stored.{is_live, live}
+use Rattle.proof_words.proofs.{◌≡◌, ◌/◌, length, nat_lt, true, cond, rules, sym, ap, ◌∙◌, arith, filter_same}
+use Rattle.couch_base.specs.{is_live, live}
 use Rattle.couch_base.proofs.table.sweep.Goals as goal
 
 pub returns-then-len : goal.returns-then-len

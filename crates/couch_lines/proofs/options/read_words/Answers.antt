@@ -1,10 +1,8 @@
-use Rattle.std.proofs.Common.{ap, refl, subst, subst₂, ◌≡◌, ◌∙◌, true, map, string_bytes, List, ℕ, codes, Result, Ok, Err, IfOk, IfErr}
+use Rattle.proof_words.proofs.{ap, refl, subst, subst₂, ◌≡◌, ◌∙◌, true, map, string_bytes, List, ℕ, codes, Result, Ok, Err, IfOk, IfErr}
 use Rattle.clap.specs.Words.{HasKind, app_of, fault_of, is_simple_and_free}
 use Rattle.clap.proofs.OnLiterals.{clap_on_literals}
-use Rattle.program_shell.specs.Words.{IsFound}
-use Rattle.couch_lines.specs.Tasks.{command_line, SaysBy, RefusesBy, Refused, Refuses}
-use Rattle.couch_lines.specs.declared.tasks.Task.{Task}
-use Rattle.couch_lines.specs.declared.options.NoTask.{NoTask}
+use Rattle.program_shell.specs.{IsFound}
+use Rattle.couch_lines.specs.{command_line, SaysBy, RefusesBy, Refused, Refuses, Task, NoTask}
 use Rattle.couch_lines.specs.declared.options.NoTask.TheVariants.{Words, Unknown, Wrong, Memory}
 use Rattle.couch_lines.proofs.options.read_words.Goals as goal
 

@@ -1,7 +1,7 @@
-use Rattle.std.proofs.Common.{ap, ◌∙◌}
+use Rattle.proof_words.proofs.{ap, ◌∙◌}
 use Rattle.couch_answers.specs.State.{State}
-use Rattle.couch_wording.specs.Stored.{words_of_wording}
-use Rattle.couch_lines.proofs.Doing.{is_done, makes}
+use Rattle.couch_wording.specs.{words_of_wording}
+use Rattle.couch_lines.proofs.{is_done, makes}
 use Rattle.couch_lines.proofs.run.run_task.Goals as goal
 
 pub returns-clause-done : goal.returns-clause-done

@@ -1,5 +1,5 @@
-use Rattle.std.proofs.Common.{map, string_bytes, subst}
-use Rattle.couch_lines.specs.Tasks.{Says}
+use Rattle.proof_words.proofs.{map, string_bytes, subst}
+use Rattle.couch_lines.specs.{Says}
 use Rattle.couch_lines.proofs.run.run_words.Goals as goal
 
 pub returns-in-Trees : goal.returns-in-Trees

@@ -1,9 +1,8 @@
-use Rattle.std.proofs.Common.{ap, refl, subst, subst₂, ◌≡◌, ◌∙◌, true, map, string_bytes, List, ℕ, Option, codes, Result, Ok, Err, IfOk, IfErr}
+use Rattle.proof_words.proofs.{ap, refl, subst, subst₂, ◌≡◌, ◌∙◌, true, map, string_bytes, List, ℕ, Option, codes, Result, Ok, Err, IfOk, IfErr}
 use Rattle.clap.specs.Words.{HasKind, app_of, fault_of, first_of, is_simple_and_free, matches_of, one_of}
 use Rattle.clap.proofs.OnLiterals.{clap_on_literals}
-use Rattle.program_shell.specs.Words.{IsFound}
-use Rattle.couch_replicate.specs.Options.{options, AreOptions, Refuses, SetNothing}
-use Rattle.couch_replicate.specs.declared.options.NoSettings.{NoSettings}
+use Rattle.program_shell.specs.{IsFound}
+use Rattle.couch_replicate.specs.{options, AreOptions, Refuses, SetNothing, NoSettings}
 use Rattle.couch_replicate.specs.declared.options.NoSettings.TheVariants.{Words, NoNumber, File, Memory}
 use Rattle.couch_replicate.specs.declared.options.Options.{Options}
 use Rattle.couch_replicate.proofs.options.read_words.Goals as goal

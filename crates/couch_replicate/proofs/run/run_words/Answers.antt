@@ -1,14 +1,9 @@
-use Rattle.std.proofs.Common.{◌≡◌, ℕ, List, Bool, Option, Result, Ok, Err}
-use Rattle.std.specs.Prelude.{IfOk, IfErr}
-use Rattle.std.specs.Io.KnownBytes.{Appends, Consumes}
-use Rattle.script_engine.specs.Device.{Gives}
-use Rattle.script_engine.specs.Faults.{IsToldUntil}
-use Rattle.script_engine.specs.Script.{AnswersEnded, IsAnswered}
-use Rattle.script_engine.specs.declared.fault.ScriptFault.{ScriptFault}
+use Rattle.proof_words.proofs.{◌≡◌, ℕ, List, Bool, Option, Result, Ok, Err, IfOk, IfErr, Appends, Consumes}
+use Rattle.script_engine.specs.{Gives, IsToldUntil, AnswersEnded, IsAnswered, ScriptFault}
 use Rattle.script_engine.specs.declared.fault.ScriptFault.TheVariants.{Read}
-use Rattle.script_databases.specs.Databases.{Program, State, no_databases}
-use Rattle.script_words.specs.Trust.{TrustedLines}
-use Rattle.couch_replicate.specs.RunWords.{Answered}
+use Rattle.script_databases.specs.{Program, State, no_databases}
+use Rattle.script_words.specs.{TrustedLines}
+use Rattle.couch_replicate.specs.{Answered}
 use Rattle.couch_replicate.proofs.run.run_words.Goals as goal
 
 -- what the run of a script answered

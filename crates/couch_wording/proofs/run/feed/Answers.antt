@@ -1,11 +1,7 @@
-use Rattle.std.proofs.Common.{◌++◌, take, arith, ◌∙◌, refl, sym, subst}
-use Rattle.std.proofs.lemmas.Result.{err_from_is_err_and}
-use Rattle.couch_wording.specs.Runs.{Begins}
-use Rattle.couch_answers.specs.Reading.{pieces}
-use Rattle.std.proofs.lemmas.Grind.{common_steps}
-use Rattle.couch_answers.specs.Stored.{state_of}
-use Rattle.couch_wording.specs.Stored.{words_of_wording}
-use Rattle.couch_wording.proofs.Running.{Begins-none, Begins-in, Begins-taken, Fed-joined, Fed-taken}
+use Rattle.proof_words.proofs.{◌++◌, take, arith, ◌∙◌, refl, sym, subst, err_from_is_err_and, common_steps}
+use Rattle.couch_wording.specs.{Begins, words_of_wording}
+use Rattle.couch_answers.specs.{pieces, state_of}
+use Rattle.couch_wording.proofs.{Begins-none, Begins-in, Begins-taken, Fed-joined, Fed-taken}
 use Rattle.couch_wording.proofs.run.feed.Goals as goal
 
 pub returns-in_err-count-clause-err : goal.returns-in_err-count-clause-err

@@ -1,8 +1,7 @@
 -- A front of the bytes was read, and what it holds is written.
-use Rattle.std.proofs.Common.{◌≡◌, ◌++◌, ℕ, List, length}
-use Rattle.couch_answers.specs.Stored.{state_of}
-use Rattle.couch_wording.specs.Stored.{words_of_wording}
-use Rattle.couch_wording.specs.Runs.{Fed}
+use Rattle.proof_words.proofs.{◌≡◌, ◌++◌, ℕ, List, length}
+use Rattle.couch_answers.specs.{state_of}
+use Rattle.couch_wording.specs.{words_of_wording, Fed}
 use Rattle.couch_wording.proofs.run.feed.Given as goal
 
 abbrev pub invariant-loop-rest : goal.invariant-loop-rest

@@ -1,6 +1,6 @@
-use Rattle.couch_answers.specs.Stored.{state_of}
-use Rattle.couch_wording.specs.Stored.{words_of_wording}
-use Rattle.couch_wording.proofs.Running.{Finishes-end}
+use Rattle.couch_answers.specs.{state_of}
+use Rattle.couch_wording.specs.{words_of_wording}
+use Rattle.couch_wording.proofs.{Finishes-end}
 use Rattle.couch_wording.proofs.run.finish.Goals as goal
 
 pub returns-in-Ok-clause-finishes : goal.returns-in-Ok-clause-finishes

@@ -1,10 +1,8 @@
-use Rattle.std.proofs.Common.{refl}
-use Rattle.std.proofs.lemmas.Result.{err_from_is_err_and}
+use Rattle.proof_words.proofs.{refl, err_from_is_err_and}
 use Rattle.script_engine.specs.declared.fault.ScriptFault.TheVariants.{Memory}
-use Rattle.couch_answers.specs.Stored.{state_of}
-use Rattle.couch_wording.specs.Stored.{words_of_wording}
-use Rattle.couch_wording.proofs.Running.{Stopped-none}
-use Rattle.couch_wording.proofs.AnswersWritten.{reads_answers, reads_changes, reads_script}
+use Rattle.couch_answers.specs.{state_of}
+use Rattle.couch_wording.specs.{words_of_wording}
+use Rattle.couch_wording.proofs.{Stopped-none, reads_answers, reads_changes, reads_script}
 use Rattle.couch_wording.proofs.run.run_answers.Goals as goal
 
 pub returns-in_err-chunks-clause-fault : goal.returns-in_err-chunks-clause-fault

@@ -1,13 +1,10 @@
-use Rattle.std.proofs.Common.{◌≡◌, [], ap, ◌∙◌, sym, subst, refl, false}
-use Rattle.script_engine.specs.Device.{counted}
-use Rattle.script_engine.specs.Stored.{chunk_of}
-use Rattle.script_engine.proofs.RunLemmas.{a_chunk, no_chunk}
+use Rattle.proof_words.proofs.{◌≡◌, [], ap, ◌∙◌, sym, subst, refl, false}
+use Rattle.script_engine.specs.{counted, chunk_of}
+use Rattle.script_engine.proofs.{a_chunk, no_chunk}
 use Rattle.couch_answers.specs.State.{State}
-use Rattle.couch_answers.specs.Steps.{is_refused}
-use Rattle.couch_answers.specs.Stored.{state_of}
-use Rattle.couch_wording.specs.Runs.{IsWhole}
-use Rattle.couch_wording.specs.Stored.{words_of_wording}
-use Rattle.couch_wording.proofs.Running.{Ran-none, start_going, Ran-more, Ran-end, Stopped-before, Stopped-in, Answered-end, Stopped-end, Stopped-refused}
+use Rattle.couch_answers.specs.{is_refused, state_of}
+use Rattle.couch_wording.specs.{IsWhole, words_of_wording}
+use Rattle.couch_wording.proofs.{Ran-none, start_going, Ran-more, Ran-end, Stopped-before, Stopped-in, Answered-end, Stopped-end, Stopped-refused}
 use Rattle.couch_wording.proofs.run.run_chunks.Goals as goal
 
 pub loop-more-init : goal.loop-more-init

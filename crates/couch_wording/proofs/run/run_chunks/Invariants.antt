@@ -1,10 +1,9 @@
 -- What was read so far is answers, and what they hold is written.
-use Rattle.std.proofs.Common.{◌≡◌, ◌-◌, false}
-use Rattle.couch_answers.specs.Steps.{is_refused}
-use Rattle.script_engine.specs.Chunks.{HasRead, AreChunks, max_reads}
-use Rattle.couch_answers.specs.Stored.{state_of}
-use Rattle.couch_wording.specs.Stored.{words_of_wording}
-use Rattle.couch_wording.proofs.Running.{Ran}
+use Rattle.proof_words.proofs.{◌≡◌, ◌-◌, false}
+use Rattle.couch_answers.specs.{is_refused, state_of}
+use Rattle.script_engine.specs.{HasRead, AreChunks, max_reads}
+use Rattle.couch_wording.specs.{words_of_wording}
+use Rattle.couch_wording.proofs.{Ran}
 use Rattle.couch_wording.proofs.run.run_chunks.Given as goal
 
 abbrev pub invariant-loop-more : goal.invariant-loop-more

@@ -1,8 +1,7 @@
-use Rattle.std.proofs.Common.{◌∙◌, refl}
-use Rattle.std.proofs.lemmas.Result.{err_from_is_err_and}
-use Rattle.couch_answers.specs.Stored.{state_of}
-use Rattle.couch_wording.specs.Stored.{words_of_wording}
-use Rattle.couch_wording.proofs.Running.{Begins-none, Begins-part}
+use Rattle.proof_words.proofs.{◌∙◌, refl, err_from_is_err_and}
+use Rattle.couch_answers.specs.{state_of}
+use Rattle.couch_wording.specs.{words_of_wording}
+use Rattle.couch_wording.proofs.{Begins-none, Begins-part}
 use Rattle.couch_wording.proofs.run.tell.Goals as goal
 
 pub returns-in_err-put-clause-err : goal.returns-in_err-put-clause-err

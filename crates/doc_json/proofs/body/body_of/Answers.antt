@@ -1,9 +1,6 @@
-use Rattle.std.proofs.Common.{Ok, inl, refl, sym, ap, ◌∙◌, subst}
-use Rattle.std.specs.Prelude.{IsOk}
-use Rattle.std.specs.Arc.{arc_slice_items}
+use Rattle.proof_words.proofs.{Ok, inl, refl, sym, ap, ◌∙◌, subst, IsOk, arc_slice_items}
 use Rattle.serde_json.specs.Written.{has_float}
-use Rattle.doc_json.proofs.BodyReads.{body_no_object, body_special, body_fraction, body_ok, is_object, is_body}
-use Rattle.doc_json.proofs.Refusals.{out_of_memory}
+use Rattle.doc_json.proofs.{body_no_object, body_special, body_fraction, body_ok, is_object, is_body, out_of_memory}
 use Rattle.doc_json.proofs.body.body_of.Goals as goal
 
 pub returns-in_default : goal.returns-in_default

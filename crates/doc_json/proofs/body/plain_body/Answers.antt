@@ -1,6 +1,5 @@
-use Rattle.std.proofs.Common.{refl}
-use Rattle.std.specs.Arc.{arc_slice_items}
-use Rattle.doc_json.proofs.BodyReads.{is_body, plain_members_plain}
+use Rattle.proof_words.proofs.{refl, arc_slice_items}
+use Rattle.doc_json.proofs.{is_body, plain_members_plain}
 use Rattle.doc_json.proofs.body.plain_body.Goals as goal
 
 pub from_text-requires : goal.from_text-requires

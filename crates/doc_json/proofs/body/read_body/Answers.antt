@@ -1,5 +1,5 @@
-use Rattle.std.proofs.Common.{refl}
-use Rattle.doc_json.proofs.NoneKnown.{none_plain}
+use Rattle.proof_words.proofs.{refl}
+use Rattle.doc_json.proofs.{none_plain}
 use Rattle.doc_json.proofs.body.read_body.Goals as goal
 
 pub body_of-requires : goal.body_of-requires

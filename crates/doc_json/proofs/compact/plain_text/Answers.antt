@@ -1,8 +1,8 @@
-use Rattle.std.proofs.Common.{◌++◌, ap, ◌∙◌}
+use Rattle.proof_words.proofs.{◌++◌, ap, ◌∙◌}
 use Rattle.serde_json.specs.Data.{object}
 use Rattle.serde_json.specs.Written.{compact_text}
-use Rattle.doc_json.specs.Members.{plain_members}
-use Rattle.doc_json.proofs.Outlines.{written_text}
+use Rattle.doc_json.specs.{plain_members}
+use Rattle.doc_json.proofs.{written_text}
 use Rattle.doc_json.proofs.compact.plain_text.Goals as goal
 
 pub returns : goal.returns

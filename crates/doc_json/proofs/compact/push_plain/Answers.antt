@@ -1,11 +1,8 @@
-use Rattle.std.proofs.Common.{◌≡◌, ◌∷◌, ◌++◌, false, ap, ◌∙◌, refl, sym, subst}
+use Rattle.proof_words.proofs.{◌≡◌, ◌∷◌, ◌++◌, false, ap, ◌∙◌, refl, sym, subst}
 use Rattle.serde_json.specs.Written.{members_text, members_have_float}
-use Rattle.json_values.specs.LineOrder.{IsInOrderOfNames}
-use Rattle.json_values.specs.Plain.{AreMembersPlain}
-use Rattle.doc_json.specs.DocId.{is_special}
-use Rattle.doc_json.specs.Members.{plain_members}
-use Rattle.doc_json.specs.Numbers.{MembersReadBack}
-use Rattle.doc_json.proofs.PlainPushes.{text_step, numbers_step, order_step, exact_step}
+use Rattle.json_values.specs.{IsInOrderOfNames, AreMembersPlain}
+use Rattle.doc_json.specs.{is_special, plain_members, MembersReadBack}
+use Rattle.doc_json.proofs.{text_step, numbers_step, order_step, exact_step}
 use Rattle.doc_json.proofs.compact.push_plain.Goals as goal
 
 pub loop-name-preserved : goal.loop-name-preserved

@@ -1,10 +1,8 @@
-use Rattle.std.proofs.Common.{◌≡◌, ◌++◌, ◌∷◌, false}
+use Rattle.proof_words.proofs.{◌≡◌, ◌++◌, ◌∷◌, false}
 use Rattle.serde_json.specs.Written.{members_text, members_have_float}
-use Rattle.json_values.specs.LineOrder.{IsInOrderOfNames}
-use Rattle.json_values.specs.Plain.{AreMembersPlain}
-use Rattle.doc_json.specs.Members.{plain_members}
-use Rattle.doc_json.specs.Numbers.{MembersReadBack}
-use Rattle.doc_json.proofs.MembersLeft.{count}
+use Rattle.json_values.specs.{IsInOrderOfNames, AreMembersPlain}
+use Rattle.doc_json.specs.{plain_members, MembersReadBack}
+use Rattle.doc_json.proofs.{count}
 use Rattle.doc_json.proofs.compact.push_plain.Given as goal
 
 -- what stands there and the plain members that are left are the object's text

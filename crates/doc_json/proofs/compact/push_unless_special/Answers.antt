@@ -1,7 +1,7 @@
-use Rattle.std.proofs.Common.{refl}
+use Rattle.proof_words.proofs.{refl}
 use Rattle.json.specs.Print.{quoted}
 use Rattle.serde_json.specs.Written.{comma_if, compact_text}
-use Rattle.doc_json.proofs.Pushes.{member_put}
+use Rattle.doc_json.proofs.{member_put}
 use Rattle.doc_json.proofs.compact.push_unless_special.Goals as goal
 
 pub returns-clause-plain : goal.returns-clause-plain

@@ -1,6 +1,6 @@
-use Rattle.std.proofs.Common.{◌++◌, ap, ◌∙◌}
+use Rattle.proof_words.proofs.{◌++◌, ap, ◌∙◌}
 use Rattle.serde_json.specs.Written.{compact_text}
-use Rattle.doc_json.proofs.Outlines.{written_text}
+use Rattle.doc_json.proofs.{written_text}
 use Rattle.doc_json.proofs.compact.value_text.Goals as goal
 
 pub returns : goal.returns

@@ -1,13 +1,10 @@
-use Rattle.std.proofs.Common.{◌≡◌, ◌+◌, ◌||◌, ◌∷◌, ◌++◌, List, drop, true, false, sym, ap, ◌∙◌, subst, arith}
-use Rattle.std.proofs.lemmas.Bool.{or_parts}
-use Rattle.std.proofs.lemmas.List.{drop_more}
+use Rattle.proof_words.proofs.{◌≡◌, ◌+◌, ◌||◌, ◌∷◌, ◌++◌, List, drop, true, false, sym, ap, ◌∙◌, subst, arith, or_parts, drop_more}
 use Rattle.json.specs.Print.{quoted}
 use Rattle.serde_json.specs.Written.{comma_if, compact_text, items_text, members_text, has_float, items_have_float, members_have_float}
-use Rattle.json_values.specs.LineView.{line_view, line_items, line_members}
-use Rattle.json_values.specs.Plain.{AreItemsPlain, AreMembersPlain}
-use Rattle.json_values.proofs.LineReads.{Named}
-use Rattle.doc_json.specs.Numbers.{ItemsReadBack, MembersReadBack}
-use Rattle.doc_json.proofs.Pushes.{item_pieces, member_pieces}
+use Rattle.json_values.specs.{line_view, line_items, line_members, AreItemsPlain, AreMembersPlain}
+use Rattle.json_values.proofs.{Named}
+use Rattle.doc_json.specs.{ItemsReadBack, MembersReadBack}
+use Rattle.doc_json.proofs.{item_pieces, member_pieces}
 use Rattle.doc_json.proofs.line_value.+push.Goals as goal
 
 pub push_items-loop-item-preserved : goal.push_items-loop-item-preserved

@@ -1,8 +1,7 @@
-use Rattle.std.proofs.Common.{◌≡◌, ◌++◌, ◌∷◌, drop, false}
-use Rattle.json_values.specs.LineView.{line_items, line_members}
-use Rattle.json_values.specs.Plain.{AreItemsPlain, AreMembersPlain}
+use Rattle.proof_words.proofs.{◌≡◌, ◌++◌, ◌∷◌, drop, false}
+use Rattle.json_values.specs.{line_items, line_members, AreItemsPlain, AreMembersPlain}
 use Rattle.serde_json.specs.Written.{items_text, members_text, items_have_float, members_have_float}
-use Rattle.doc_json.specs.Numbers.{ItemsReadBack, MembersReadBack}
+use Rattle.doc_json.specs.{ItemsReadBack, MembersReadBack}
 use Rattle.doc_json.proofs.line_value.+push.Given as goal
 
 -- what stands there and the items that are left are the list's text

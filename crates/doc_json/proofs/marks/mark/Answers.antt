@@ -1,7 +1,6 @@
-use Rattle.std.proofs.Common.{◌++◌, ◌∷◌, [], true, take, sym, ap, ◌∙◌, subst}
-use Rattle.std.proofs.lemmas.List.{length-set, take_more}
-use Rattle.doc_json.specs.Marks.{AreMarks}
-use Rattle.doc_json.proofs.Marking.{marked_more}
+use Rattle.proof_words.proofs.{◌++◌, ◌∷◌, [], true, take, sym, ap, ◌∙◌, subst, length-set, take_more}
+use Rattle.doc_json.specs.{AreMarks}
+use Rattle.doc_json.proofs.{marked_more}
 use Rattle.doc_json.proofs.marks.mark.Goals as goal
 
 pub loop-id-preserved : goal.loop-id-preserved

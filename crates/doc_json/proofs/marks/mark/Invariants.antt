@@ -1,5 +1,5 @@
-use Rattle.std.proofs.Common.{◌≡◌, length, take}
-use Rattle.doc_json.specs.Marks.{AreMarks}
+use Rattle.proof_words.proofs.{◌≡◌, length, take}
+use Rattle.doc_json.specs.{AreMarks}
 use Rattle.doc_json.proofs.marks.mark.Given as goal
 
 -- the places of the ids so far are marked

@@ -1,5 +1,5 @@
-use Rattle.std.proofs.Common.{◌≡◌, ◌-◌, ◌<◌, drop, length}
-use Rattle.doc_json.specs.Marks.{place_from}
+use Rattle.proof_words.proofs.{◌≡◌, ◌-◌, ◌<◌, drop, length}
+use Rattle.doc_json.specs.{place_from}
 use Rattle.doc_json.proofs.marks.place_of.Given as goal
 
 -- the rest of the bytes leads to the place of all

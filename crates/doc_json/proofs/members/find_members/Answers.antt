@@ -1,9 +1,8 @@
-use Rattle.std.proofs.Common.{◌≡◌, ◌||◌, ℕ, List, Bool, true, false, if◌then◌else◌, codes, refl, sym, ap, ◌∙◌}
+use Rattle.proof_words.proofs.{◌≡◌, ◌||◌, ℕ, List, Bool, true, false, if◌then◌else◌, codes, refl, sym, ap, ◌∙◌}
 use Rattle.serde_json.specs.Data.{Data, Members, no_members, member}
 use Rattle.serde_json.specs.Written.{has_float, members_have_float}
-use Rattle.doc_json.specs.DocId.{is_special}
-use Rattle.doc_json.specs.Members.{has_unknown, plain_members}
-use Rattle.doc_json.proofs.Kept.{more}
+use Rattle.doc_json.specs.{is_special, has_unknown, plain_members}
+use Rattle.doc_json.proofs.{more}
 use Rattle.doc_json.proofs.members.find_members.Goals as goal
 
 or_assoc : (a b c : Bool) → ((a || b) || c) ≡ (a || (b || c))

@@ -1,9 +1,8 @@
-use Rattle.std.proofs.Common.{◌≡◌, ◌||◌, codes, option_map}
-use Rattle.std.specs.Option.{option_or}
+use Rattle.proof_words.proofs.{◌≡◌, ◌||◌, codes, option_map, option_or}
 use Rattle.serde_json.specs.Find.{get_member}
 use Rattle.serde_json.specs.Written.{members_have_float}
-use Rattle.doc_json.specs.Members.{has_unknown, plain_members}
-use Rattle.doc_json.proofs.MembersLeft.{count}
+use Rattle.doc_json.specs.{has_unknown, plain_members}
+use Rattle.doc_json.proofs.{count}
 use Rattle.doc_json.proofs.members.find_members.Given as goal
 
 -- what was found, and else what is found in the members that are left

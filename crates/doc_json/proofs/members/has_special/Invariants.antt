@@ -1,6 +1,6 @@
-use Rattle.std.proofs.Common.{◌≡◌}
-use Rattle.doc_json.specs.Members.{has_special}
-use Rattle.doc_json.proofs.MembersLeft.{count}
+use Rattle.proof_words.proofs.{◌≡◌}
+use Rattle.doc_json.specs.{has_special}
+use Rattle.doc_json.proofs.{count}
 use Rattle.doc_json.proofs.members.has_special.Given as goal
 
 -- no member so far is such a one

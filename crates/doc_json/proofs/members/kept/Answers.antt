@@ -1,7 +1,6 @@
-use Rattle.std.proofs.Common.{◌≡◌, true, false, is_some, option_map, sym, ◌∙◌}
+use Rattle.proof_words.proofs.{◌≡◌, true, false, is_some, option_map, sym, ◌∙◌}
 use Rattle.serde_json.specs.Data.{no_members}
-use Rattle.doc_json.proofs.DocReads.{is_some-option_map}
-use Rattle.doc_json.proofs.Kept.{none_yet, looked_at}
+use Rattle.doc_json.proofs.{is_some-option_map, none_yet, looked_at}
 use Rattle.doc_json.proofs.members.kept.Goals as goal
 
 pub returns-then-is_same_text : goal.returns-then-is_same_text

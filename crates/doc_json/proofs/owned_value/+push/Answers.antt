@@ -1,17 +1,11 @@
-use Rattle.std.proofs.Common.{◌≡◌, ◌+◌, [], ◌∷◌, ◌++◌, drop, true, false, string_bytes, sym, ap, ◌∙◌, subst, arith}
-use Rattle.std.proofs.lemmas.Bool.{or_parts, false≢true}
-use Rattle.std.proofs.lemmas.List.{drop_more}
-use Rattle.std.specs.List.Sorted.{IsStrictlySortedBy}
-use Rattle.std.specs.Map.{keys_of}
-use Rattle.std.specs.String.{string_cmp}
+use Rattle.proof_words.proofs.{◌≡◌, ◌+◌, [], ◌∷◌, ◌++◌, drop, true, false, string_bytes, sym, ap, ◌∙◌, subst, arith, or_parts, false≢true, drop_more, IsStrictlySortedBy, keys_of, string_cmp}
 use Rattle.json.specs.Print.{quoted}
 use Rattle.serde_json.specs.View.{view, items_view, members_view}
 use Rattle.serde_json.specs.Written.{comma_if, compact_text, items_text, members_text, has_float, items_have_float, members_have_float}
 use Rattle.serde_json.proofs.Views.{Entry}
-use Rattle.json_values.specs.LineOrder.{AreOrdered, IsInOrderOfNames}
-use Rattle.doc_json.specs.Numbers.{ItemsReadBack, MembersReadBack}
-use Rattle.doc_json.proofs.OwnedMembers.{behind_first}
-use Rattle.doc_json.proofs.Pushes.{item_pieces, member_pieces}
+use Rattle.json_values.specs.{AreOrdered, IsInOrderOfNames}
+use Rattle.doc_json.specs.{ItemsReadBack, MembersReadBack}
+use Rattle.doc_json.proofs.{behind_first, item_pieces, member_pieces}
 use Rattle.doc_json.proofs.owned_value.+push.Goals as goal
 
 pub push_items-loop-item-preserved : goal.push_items-loop-item-preserved

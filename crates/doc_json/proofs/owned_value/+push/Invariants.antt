@@ -1,11 +1,8 @@
-use Rattle.std.proofs.Common.{◌≡◌, ◌++◌, ◌∷◌, drop, false}
-use Rattle.std.specs.List.Sorted.{IsStrictlySortedBy}
-use Rattle.std.specs.Map.{keys_of}
-use Rattle.std.specs.String.{string_cmp}
+use Rattle.proof_words.proofs.{◌≡◌, ◌++◌, ◌∷◌, drop, false, IsStrictlySortedBy, keys_of, string_cmp}
 use Rattle.serde_json.specs.View.{items_view, members_view}
 use Rattle.serde_json.specs.Written.{items_text, members_text, items_have_float, members_have_float}
-use Rattle.json_values.specs.LineOrder.{AreOrdered, IsInOrderOfNames}
-use Rattle.doc_json.specs.Numbers.{ItemsReadBack, MembersReadBack}
+use Rattle.json_values.specs.{AreOrdered, IsInOrderOfNames}
+use Rattle.doc_json.specs.{ItemsReadBack, MembersReadBack}
 use Rattle.doc_json.proofs.owned_value.+push.Given as goal
 
 -- what stands there and the items that are left are the list's text

@@ -1,18 +1,11 @@
-use Rattle.std.proofs.Common.{◌≡◌, List, Result, Ok, Some, ℕ, codes, is_some, option_map, Bool, Option, inl, refl, sym, ap, ◌∙◌, subst}
-use Rattle.std.specs.Prelude.{IsOk, IfOk}
+use Rattle.proof_words.proofs.{◌≡◌, List, Result, Ok, Some, ℕ, codes, is_some, option_map, Bool, Option, inl, refl, sym, ap, ◌∙◌, subst, IsOk, IfOk}
 use Rattle.serde_json.specs.Data.{Data, Members}
 use Rattle.serde_json.specs.Find.{get, get_member, as_object}
-use Rattle.rev_core.specs.Rev.{RevId}
-use Rattle.doc_json.specs.Body.{body_text}
-use Rattle.doc_json.specs.DocRead.{doc_read, flag_of, id_of, id_member}
+use Rattle.rev_core.specs.{RevId}
+use Rattle.doc_json.specs.{body_text, doc_read, flag_of, id_of, id_member, rev_member, with_revisions, revs_read, DocFault}
 use Rattle.doc_json.specs.Document.{Document}
-use Rattle.doc_json.specs.Revisions.{rev_member, with_revisions, revs_read}
-use Rattle.doc_json.specs.declared.fault.DocFault.{DocFault}
-use Rattle.doc_json.proofs.BodyReads.{is_object}
-use Rattle.doc_json.proofs.DocReads.{is_some-option_map, ok_value, found_at, no_object, bad_id, attached, unknown, bad_flag, bad_revs, fraction, accepted}
-use Rattle.doc_json.proofs.FoundRevisions.{revs_by, revs_refused}
-use Rattle.doc_json.proofs.Refusals.{refused, out_of_memory}
-use Rattle.json_values.specs.Plain.{ArePlain}
+use Rattle.doc_json.proofs.{is_object, is_some-option_map, ok_value, found_at, no_object, bad_id, attached, unknown, bad_flag, bad_revs, fraction, accepted, revs_by, revs_refused, refused, out_of_memory}
+use Rattle.json_values.specs.{ArePlain}
 use Rattle.doc_json.proofs.read.document_of.Goals as goal
 
 -- what is read of the members that were found

@@ -1,5 +1,5 @@
-use Rattle.std.proofs.Common.{refl}
-use Rattle.doc_json.proofs.NoneKnown.{none_plain}
+use Rattle.proof_words.proofs.{refl}
+use Rattle.doc_json.proofs.{none_plain}
 use Rattle.doc_json.proofs.read.read_doc.Goals as goal
 
 pub document_of-requires : goal.document_of-requires

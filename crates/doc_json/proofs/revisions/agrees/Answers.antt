@@ -1,6 +1,6 @@
-use Rattle.std.proofs.Common.{sym, ap, ◌∙◌}
-use Rattle.doc_json.specs.Revisions.{agrees, is_head}
-use Rattle.doc_json.proofs.FoundRevisions.{numbered_ok, sigs_first, head_some, head_none}
+use Rattle.proof_words.proofs.{sym, ap, ◌∙◌}
+use Rattle.doc_json.specs.{agrees, is_head}
+use Rattle.doc_json.proofs.{numbered_ok, sigs_first, head_some, head_none}
 use Rattle.doc_json.proofs.revisions.agrees.Goals as goal
 
 pub returns-in-Some-first_sig : goal.returns-in-Some-first_sig

@@ -1,7 +1,7 @@
-use Rattle.std.proofs.Common.{map, arith, sym, ◌∙◌}
+use Rattle.proof_words.proofs.{map, arith, sym, ◌∙◌}
 use Rattle.serde_json.specs.View.{items_of}
-use Rattle.doc_json.specs.Revisions.{sigs_of}
-use Rattle.doc_json.proofs.FoundRevisions.{ids_test, sigs_count}
+use Rattle.doc_json.specs.{sigs_of}
+use Rattle.doc_json.proofs.{ids_test, sigs_count}
 use Rattle.doc_json.proofs.revisions.are_ids.Goals as goal
 
 pub returns-then-count-ge1 : goal.returns-then-count-ge1

@@ -1,7 +1,5 @@
-use Rattle.std.proofs.Common.{◌&&◌, nat_eq, ap, sym, ◌∙◌}
-use Rattle.std.proofs.lemmas.Bool.{eq-eqb}
-use Rattle.std.specs.Cmp.Lexicographic.{pointwise}
-use Rattle.rev_core.specs.RevOrder.{rev_eq_is}
+use Rattle.proof_words.proofs.{◌&&◌, nat_eq, ap, sym, ◌∙◌, eq-eqb, pointwise}
+use Rattle.rev_core.specs.{rev_eq_is}
 use Rattle.doc_json.proofs.revisions.is_revision.Goals as goal
 
 pub returns-then-from-generation : goal.returns-then-from-generation

@@ -1,8 +1,7 @@
-use Rattle.std.proofs.Common.{map, ◌≡◌, ◌+◌, ◌≤◌, ◌++◌, drop, length, option_map}
-use Rattle.std.specs.Vec.{vec_len, vec_capacity}
+use Rattle.proof_words.proofs.{map, ◌≡◌, ◌+◌, ◌≤◌, ◌++◌, drop, length, option_map, vec_len, vec_capacity}
 use Rattle.serde_json.specs.View.{items_of}
-use Rattle.rev_core.specs.Ancestry.{numbered}
-use Rattle.doc_json.specs.Revisions.{sigs_of}
+use Rattle.rev_core.specs.{numbered}
+use Rattle.doc_json.specs.{sigs_of}
 use Rattle.doc_json.proofs.revisions.numbered.Given as goal
 
 -- the rest of the list gives what all of it gives

@@ -1,10 +1,8 @@
-use Rattle.std.proofs.Common.{◌≡◌, ◌+◌, ◌-◌, ◌<◌, ◌≤◌, ◌++◌, [], ◌∷◌, length, take, drop, get_or, sym, ap, ◌∙◌, arith, append_assoc}
-use Rattle.std.specs.List.{prefix_len}
+use Rattle.proof_words.proofs.{◌≡◌, ◌+◌, ◌-◌, ◌<◌, ◌≤◌, ◌++◌, [], ◌∷◌, length, take, drop, get_or, sym, ap, ◌∙◌, arith, append_assoc, prefix_len}
 use Rattle.json.specs.Print.{escape, escape_byte}
 use Rattle.json.specs.Run.{is_plain}
 use Rattle.json.proofs.Printed.Strings.{escape_to_stop, escape_at, escape_end}
-use Rattle.doc_json.proofs.Keeping.{kept_if, kept_more, kept_then}
-use Rattle.doc_json.proofs.Pushes.{moved}
+use Rattle.doc_json.proofs.{kept_if, kept_more, kept_then, moved}
 use Rattle.doc_json.proofs.text.push_escaped.Goals as goal
 
 pub loop-out-init : goal.loop-out-init

@@ -1,6 +1,6 @@
-use Rattle.std.proofs.Common.{◌≡◌, ◌-◌, ◌≤◌, [], ◌∷◌, ◌++◌, length, drop}
+use Rattle.proof_words.proofs.{◌≡◌, ◌-◌, ◌≤◌, [], ◌∷◌, ◌++◌, length, drop}
 use Rattle.json.specs.Print.{escape, quoted}
-use Rattle.doc_json.specs.Buffers.{Keeps}
+use Rattle.doc_json.specs.{Keeps}
 use Rattle.doc_json.proofs.text.push_escaped.Given as goal
 
 -- what stands there and what is left of the text, with its end, are the whole in quotation marks

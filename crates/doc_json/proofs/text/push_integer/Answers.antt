@@ -1,9 +1,9 @@
-use Rattle.std.proofs.Common.{◌≡◌, true, SFits, w64, sym, ◌∙◌, subst, arith}
+use Rattle.proof_words.proofs.{◌≡◌, true, SFits, w64, sym, ◌∙◌, subst, arith}
 use Rattle.json.proofs.Printed.Decimals.{IsNumber-decimal, IsNumber-signed_decimal}
 use Rattle.serde_json.specs.Number.{is_valid}
 use Rattle.serde_json.proofs.Numbers.{number_of-decimal}
-use Rattle.doc_json.specs.Numbers.{ReadsBack}
-use Rattle.doc_json.proofs.Integers.{is_unsigned, is_below_zero, below_zero}
+use Rattle.doc_json.specs.{ReadsBack}
+use Rattle.doc_json.proofs.{is_unsigned, is_below_zero, below_zero}
 use Rattle.doc_json.proofs.text.push_integer.Goals as goal
 
 pub returns-in-Some-clause-numbers : goal.returns-in-Some-clause-numbers

@@ -1,4 +1,4 @@
-use Rattle.doc_json.proofs.QuotedTexts.{known_quoted}
+use Rattle.doc_json.proofs.{known_quoted}
 use Rattle.doc_json.proofs.text.push_known_text.Goals as goal
 
 pub returns-then-is_plain : goal.returns-then-is_plain

@@ -1,4 +1,4 @@
-use Rattle.doc_json.proofs.QuotedTexts.{standing_quoted}
+use Rattle.doc_json.proofs.{standing_quoted}
 use Rattle.doc_json.proofs.text.push_text.Goals as goal
 
 pub returns-clause-text : goal.returns-clause-text

@@ -1,4 +1,4 @@
-use Rattle.doc_json.proofs.ReadBack.{read_back}
+use Rattle.doc_json.proofs.{read_back}
 use Rattle.doc_json.proofs.write.push_doc.Goals as goal
 
 pub returns-clause-reads_back : goal.returns-clause-reads_back

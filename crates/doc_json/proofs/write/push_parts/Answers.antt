@@ -1,6 +1,5 @@
-use Rattle.std.proofs.Common.{rules, append_assoc}
-use Rattle.std.proofs.lemmas.Result.{IfOk-equal}
-use Rattle.doc_json.specs.DocText.{doc_text}
+use Rattle.proof_words.proofs.{rules, append_assoc, IfOk-equal}
+use Rattle.doc_json.specs.{doc_text}
 use Rattle.doc_json.proofs.write.push_parts.Goals as goal
 
 pub returns-clause-text : goal.returns-clause-text

@@ -1,5 +1,5 @@
-use Rattle.std.proofs.Common.{◌≡◌, ℕ, List, ◌++◌, ap, ◌∙◌, append_assoc, codes}
-use Rattle.doc_json.specs.DocText.{revs_text, head_text, start_text, sig_texts}
+use Rattle.proof_words.proofs.{◌≡◌, ℕ, List, ◌++◌, ap, ◌∙◌, append_assoc, codes}
+use Rattle.doc_json.specs.{revs_text, head_text, start_text, sig_texts}
 use Rattle.doc_json.proofs.write.push_revs.Goals as goal
 
 regroup : (o a b c d e f g : List ℕ) → ((((((o ++ a) ++ b) ++ c) ++ d) ++ e) ++ f) ++ g ≡ o ++ ((((((a ++ b) ++ c) ++ d) ++ e) ++ f) ++ g)

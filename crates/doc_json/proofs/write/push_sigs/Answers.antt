@@ -1,6 +1,6 @@
-use Rattle.std.proofs.Common.{◌≡◌, ℕ, List, Vec, Global, [], ◌∷◌, ◌++◌, take, get_or, sym, ap, ◌∙◌, arith, append_assoc}
-use Rattle.doc_json.specs.DocText.{sig_text, sig_texts}
-use Rattle.doc_json.proofs.SigTexts.{sig_texts-more, sig_texts-first}
+use Rattle.proof_words.proofs.{◌≡◌, ℕ, List, Vec, Global, [], ◌∷◌, ◌++◌, take, get_or, sym, ap, ◌∙◌, arith, append_assoc}
+use Rattle.doc_json.specs.{sig_text, sig_texts}
+use Rattle.doc_json.proofs.{sig_texts-more, sig_texts-first}
 use Rattle.doc_json.proofs.write.push_sigs.Goals as goal
 use Rattle.doc_json.proofs.write.push_sigs.Goals.{then-i-gt0+in_ok-push, else-i-gt0}
 

@@ -1,5 +1,5 @@
-use Rattle.std.proofs.Common.{◌≡◌, ◌++◌, take}
-use Rattle.doc_json.specs.DocText.{sig_texts}
+use Rattle.proof_words.proofs.{◌≡◌, ◌++◌, take}
+use Rattle.doc_json.specs.{sig_texts}
 use Rattle.doc_json.proofs.write.push_sigs.Given as goal
 
 -- the signatures so far

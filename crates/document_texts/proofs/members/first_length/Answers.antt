@@ -1,6 +1,6 @@
-use Rattle.std.proofs.Common.{◌≡◌, ◌+◌, ◌∙◌, ap, sym, subst, arith, get_or, drop, length}
-use Rattle.document_texts.specs.Members.{length_in, mode_behind, nesting_behind}
-use Rattle.document_texts.proofs.Splits.{length_step, length_stop, length_over}
+use Rattle.proof_words.proofs.{◌≡◌, ◌+◌, ◌∙◌, ap, sym, subst, arith, get_or, drop, length}
+use Rattle.document_texts.specs.{length_in, mode_behind, nesting_behind}
+use Rattle.document_texts.proofs.{length_step, length_stop, length_over}
 use Rattle.document_texts.proofs.members.first_length.Goals as goal
 
 pub returns-then-ends-clause-value : goal.returns-then-ends-clause-value

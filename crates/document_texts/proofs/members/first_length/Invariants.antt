@@ -1,6 +1,6 @@
 -- The bytes so far belong to the member.
-use Rattle.std.proofs.Common.{◌≡◌, ◌+◌, ◌≤◌, drop}
-use Rattle.document_texts.specs.Members.{length_in}
+use Rattle.proof_words.proofs.{◌≡◌, ◌+◌, ◌≤◌, drop}
+use Rattle.document_texts.specs.{length_in}
 use Rattle.document_texts.specs.declared.members.Mode.TheVariants.{Outside}
 use Rattle.document_texts.proofs.members.first_length.Given as goal
 

@@ -1,6 +1,6 @@
 -- What is left has the same text behind its blanks.
-use Rattle.std.proofs.Common.{◌≡◌, length}
-use Rattle.document_texts.specs.Names.{trimmed}
+use Rattle.proof_words.proofs.{◌≡◌, length}
+use Rattle.document_texts.specs.{trimmed}
 use Rattle.document_texts.proofs.names.trimmed.Given as goal
 
 abbrev pub invariant-loop-rest : goal.invariant-loop-rest

@@ -1,6 +1,6 @@
-use Rattle.std.proofs.Common.{◌∙◌, ap, Err}
+use Rattle.proof_words.proofs.{◌∙◌, ap, Err}
 use Rattle.json.specs.Value.{value_view}
-use Rattle.document_texts.proofs.KitValues.{value_envelope, no_envelope}
+use Rattle.document_texts.proofs.{value_envelope, no_envelope}
 use Rattle.document_texts.proofs.values.is_envelope.Goals as goal
 
 pub returns-in-Ok : goal.returns-in-Ok

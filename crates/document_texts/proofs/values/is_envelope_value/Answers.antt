@@ -1,11 +1,9 @@
-use Rattle.std.proofs.Common.{ap, sym, ◌∙◌, Some, List, ℕ, Global}
-use Rattle.std.specs.Borrow.{Bor}
-use Rattle.std.specs.List.{list_all}
+use Rattle.proof_words.proofs.{ap, sym, ◌∙◌, Some, List, ℕ, Global, Bor, list_all}
 use Rattle.json.specs.Value.{value_view}
 use Rattle.json.specs.declared.value.Value.{Value}
 use Rattle.json.proofs.Trees.{view-Object}
-use Rattle.document_texts.specs.Envelopes.{is_envelope_value, may_stand}
-use Rattle.document_texts.proofs.KitValues.{all_view}
+use Rattle.document_texts.specs.{is_envelope_value, may_stand}
+use Rattle.document_texts.proofs.{all_view}
 use Rattle.document_texts.proofs.values.is_envelope_value.Goals as goal
 
 pub returns-in-Object : goal.returns-in-Object

@@ -1,10 +1,7 @@
-use Rattle.std.proofs.Common.{◌++◌, ◌∷◌, [], ap, sym, ◌∙◌, ℕ, Vec, Global}
-use Rattle.std.specs.Str.{is_utf8}
-use Rattle.std.proofs.lemmas.Str.{IsUtf8-from_is_utf8, is_utf8-from_IsUtf8}
-use Rattle.std.proofs.lemmas.Bool.{false_from_ne_true}
+use Rattle.proof_words.proofs.{◌++◌, ◌∷◌, [], ap, sym, ◌∙◌, ℕ, Vec, Global, is_utf8, IsUtf8-from_is_utf8, is_utf8-from_IsUtf8, false_from_ne_true}
 use Rattle.json.specs.Token.{string}
 use Rattle.json.specs.Print.{print}
-use Rattle.document_texts.proofs.KitValues.{quoted_behind}
+use Rattle.document_texts.proofs.{quoted_behind}
 use Rattle.document_texts.proofs.values.quote.Goals as goal
 
 pub returns-in_default-clause-is : goal.returns-in_default-clause-is

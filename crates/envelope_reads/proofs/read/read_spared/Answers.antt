@@ -1,7 +1,7 @@
-use Rattle.std.proofs.Common.{Err}
-use Rattle.json_values.specs.LineView.{line_view}
-use Rattle.doc_json.specs.DocRead.{doc_read}
-use Rattle.envelope_reads.proofs.Sparing.{doc_spares, given_spares}
+use Rattle.proof_words.proofs.{Err}
+use Rattle.json_values.specs.{line_view}
+use Rattle.doc_json.specs.{doc_read}
+use Rattle.envelope_reads.proofs.{doc_spares, given_spares}
 use Rattle.envelope_reads.proofs.read.read_spared.Goals as goal
 
 pub returns-in-Err : goal.returns-in-Err

@@ -1,9 +1,7 @@
-use Rattle.std.proofs.Common.{◌≡◌, ℕ, List, Bor, ◌+◌, [], ◌∷◌, drop, sym, ap, ◌∙◌, arith, refl}
-use Rattle.std.proofs.lemmas.List.{drop_more, drop_all}
+use Rattle.proof_words.proofs.{◌≡◌, ℕ, List, Bor, ◌+◌, [], ◌∷◌, drop, sym, ap, ◌∙◌, arith, refl, drop_more, drop_all}
 use Rattle.serde_json.specs.Find.{get_member}
-use Rattle.json_values.specs.declared.line.LineValue.{LineValue}
-use Rattle.json_values.specs.LineView.{line_view, line_members}
-use Rattle.json_values.proofs.LineMembers.{get_member-here, get_member-past}
+use Rattle.json_values.specs.{LineValue, line_view, line_members}
+use Rattle.json_values.proofs.{get_member-here, get_member-past}
 use Rattle.json_values.proofs.line.find.Goals as goal
 
 pub loop-member-init : goal.loop-member-init

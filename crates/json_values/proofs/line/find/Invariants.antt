@@ -1,6 +1,6 @@
-use Rattle.std.proofs.Common.{◌≡◌, drop}
+use Rattle.proof_words.proofs.{◌≡◌, drop}
 use Rattle.serde_json.specs.Find.{get_member}
-use Rattle.json_values.specs.LineView.{line_members}
+use Rattle.json_values.specs.{line_members}
 use Rattle.json_values.proofs.line.find.Given as goal
 
 -- the member is among those that are left

@@ -1,8 +1,6 @@
-use Rattle.std.proofs.Common.{◌≡◌, ◌+◌, ◌-◌, ◌<◌, List, [], ◌∷◌, ◌++◌, length, take, drop, Greater, nat_cmp, sym, ap, subst, ◌∙◌, arith}
-use Rattle.std.specs.Cmp.Lexicographic.{slice_cmp}
-use Rattle.std.proofs.lemmas.List.{drop_more, drop_all, take-append-drop}
-use Rattle.json_values.specs.Entries.{Entry, IsRising, put_entry}
-use Rattle.json_values.proofs.PutEntries.{put_last}
+use Rattle.proof_words.proofs.{◌≡◌, ◌+◌, ◌-◌, ◌<◌, List, [], ◌∷◌, ◌++◌, length, take, drop, Greater, nat_cmp, sym, ap, subst, ◌∙◌, arith, slice_cmp, drop_more, drop_all, take-append-drop}
+use Rattle.json_values.specs.{Entry, IsRising, put_entry}
+use Rattle.json_values.proofs.{put_last}
 use Rattle.json_values.proofs.members.comes_last.Goals as goal
 
 pub returns-in-Greater : goal.returns-in-Greater

@@ -1,7 +1,6 @@
-use Rattle.std.proofs.Common.{◌≡◌, ◌∷◌, ◌++◌, [], List, sym, ap, subst, ◌∙◌, append_assoc}
-use Rattle.std.specs.Vec.Iter.{into_iter_items}
-use Rattle.json_values.specs.Entries.{Entry, IsRising}
-use Rattle.json_values.proofs.PutEntries.{put_behind}
+use Rattle.proof_words.proofs.{◌≡◌, ◌∷◌, ◌++◌, [], List, sym, ap, subst, ◌∙◌, append_assoc, into_iter_items}
+use Rattle.json_values.specs.{Entry, IsRising}
+use Rattle.json_values.proofs.{put_behind}
 use Rattle.json_values.proofs.members.map_of.Goals as goal
 
 pub loop-name-preserved : goal.loop-name-preserved

@@ -1,7 +1,5 @@
-use Rattle.std.proofs.Common.{◌≡◌, ◌+◌, ◌-◌, ◌<◌, [], ◌∷◌, ◌++◌, length, take, drop, refl, ap, ◌∙◌, arith}
-use Rattle.std.proofs.lemmas.List.{length-append}
-use Rattle.std.specs.List.{swap}
-use Rattle.json_values.proofs.Moves.{moved_down, stays_last}
+use Rattle.proof_words.proofs.{◌≡◌, ◌+◌, ◌-◌, ◌<◌, [], ◌∷◌, ◌++◌, length, take, drop, refl, ap, ◌∙◌, arith, length-append, swap}
+use Rattle.json_values.proofs.{moved_down, stays_last}
 use Rattle.json_values.proofs.members.move_last.Goals as goal
 
 pub loop-i-init : goal.loop-i-init

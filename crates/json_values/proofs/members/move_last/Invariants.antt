@@ -1,5 +1,5 @@
-use Rattle.std.proofs.Common.{◌≡◌, ◌<◌, ◌≤◌, length}
-use Rattle.json_values.specs.Entries.{MovesLast}
+use Rattle.proof_words.proofs.{◌≡◌, ◌<◌, ◌≤◌, length}
+use Rattle.json_values.specs.{MovesLast}
 use Rattle.json_values.proofs.members.move_last.Given as goal
 
 abbrev pub invariant-loop-i : goal.invariant-loop-i

@@ -1,6 +1,5 @@
-use Rattle.std.proofs.Common.{◌≡◌, length, get_or, nat_cmp, sym, ap, ap₂, ◌∙◌, arith}
-use Rattle.std.specs.Cmp.Lexicographic.{slice_cmp}
-use Rattle.json_values.proofs.NameOrder.{second_less, second_greater}
+use Rattle.proof_words.proofs.{◌≡◌, length, get_or, nat_cmp, sym, ap, ap₂, ◌∙◌, arith, slice_cmp}
+use Rattle.json_values.proofs.{second_less, second_greater}
 use Rattle.json_values.proofs.members.order_behind.Goals as goal
 
 pub returns-then-x-y : goal.returns-then-x-y

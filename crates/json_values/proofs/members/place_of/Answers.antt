@@ -1,10 +1,6 @@
-use Rattle.std.proofs.Common.{◌≡◌, ◌+◌, ◌-◌, List, [], ◌∷◌, ◌++◌, length, take, drop, Less, Equal, Greater, nat_cmp, sym, ap, subst, ◌∙◌, arith, append_assoc, append-nil}
-use Rattle.std.specs.Cmp.Lexicographic.{slice_cmp}
-use Rattle.std.proofs.lemmas.List.{drop_more, take_more, drop_all, take_all, take-append-drop}
-use Rattle.std.proofs.lemmas.Option.{get_or_from_slice_get}
-use Rattle.std.specs.List.{slice_set}
-use Rattle.json_values.specs.Entries.{Entry, IsRising, put_entry}
-use Rattle.json_values.proofs.PutEntries.{put_front, put_tied, put_last, rising_front, set_between}
+use Rattle.proof_words.proofs.{◌≡◌, ◌+◌, ◌-◌, List, [], ◌∷◌, ◌++◌, length, take, drop, Less, Equal, Greater, nat_cmp, sym, ap, subst, ◌∙◌, arith, append_assoc, append-nil, slice_cmp, drop_more, take_more, drop_all, take_all, take-append-drop, get_or_from_slice_get, slice_set}
+use Rattle.json_values.specs.{Entry, IsRising, put_entry}
+use Rattle.json_values.proofs.{put_front, put_tied, put_last, rising_front, set_between}
 use Rattle.json_values.proofs.members.place_of.Goals as goal
 
 pub loop-end-init : goal.loop-end-init

@@ -1,5 +1,5 @@
-use Rattle.std.proofs.Common.{◌≡◌, ◌≤◌, ℕ, List, ◌++◌, length, Bor, take, drop}
-use Rattle.json_values.specs.Entries.{put_entry}
+use Rattle.proof_words.proofs.{◌≡◌, ◌≤◌, ℕ, List, ◌++◌, length, Bor, take, drop}
+use Rattle.json_values.specs.{put_entry}
 use Rattle.json_values.proofs.members.place_of.Given as goal
 
 -- the member goes before those that were passed

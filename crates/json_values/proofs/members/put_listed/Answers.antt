@@ -1,7 +1,5 @@
-use Rattle.std.proofs.Common.{◌≡◌, ◌<◌, ◌≤◌, List, Some, length, refl, sym, ◌∙◌, subst}
-use Rattle.std.specs.List.{slice_get}
-use Rattle.std.proofs.lemmas.Option.{slice_get_read}
-use Rattle.json_values.specs.Entries.{Entry, IsGapFor, IsPlaceOf}
+use Rattle.proof_words.proofs.{◌≡◌, ◌<◌, ◌≤◌, List, Some, length, refl, sym, ◌∙◌, subst, slice_get, slice_get_read}
+use Rattle.json_values.specs.{Entry, IsGapFor, IsPlaceOf}
 use Rattle.json_values.proofs.members.put_listed.Goals as goal
 
 pub returns-in-Ok : goal.returns-in-Ok

@@ -1,5 +1,5 @@
-use Rattle.std.proofs.Common.{Some, sym, ap, ◌∙◌, arith}
-use Rattle.json_values.proofs.NumberReads.{below_digits, opposite}
+use Rattle.proof_words.proofs.{Some, sym, ap, ◌∙◌, arith}
+use Rattle.json_values.proofs.{below_digits, opposite}
 use Rattle.json_values.proofs.numbers.read_below_zero.Goals as goal
 
 pub returns-in-Some : goal.returns-in-Some

@@ -1,5 +1,5 @@
-use Rattle.std.proofs.Common.{Some, sym, ap, ◌∙◌, arith}
-use Rattle.json_values.proofs.NumberReads.{from_digits}
+use Rattle.proof_words.proofs.{Some, sym, ap, ◌∙◌, arith}
+use Rattle.json_values.proofs.{from_digits}
 use Rattle.json_values.proofs.numbers.read_from_zero.Goals as goal
 
 pub returns-in-Some : goal.returns-in-Some

@@ -1,7 +1,7 @@
-use Rattle.std.proofs.Common.{drop, true, ap, ◌∙◌, sym, arith, take_all, length-drop}
+use Rattle.proof_words.proofs.{drop, true, ap, ◌∙◌, sym, arith, take_all, length-drop}
 use Rattle.fast_float.specs.Text.{scan}
 use Rattle.serde_json.specs.Read.{number_of, number_from}
-use Rattle.json_values.proofs.NumberReads.{number_of-minus, number_of-no_minus}
+use Rattle.json_values.proofs.{number_of-minus, number_of-no_minus}
 use Rattle.json_values.proofs.numbers.read_number.Goals as goal
 
 pub returns-then-has_minus : goal.returns-then-has_minus

@@ -1,11 +1,9 @@
-use Rattle.std.proofs.Common.{◌≡◌, ◌≤◌, [], Some, sym, subst, arith, rules}
+use Rattle.proof_words.proofs.{◌≡◌, ◌≤◌, [], Some, sym, subst, arith, rules}
 use Rattle.serde_json.specs.Data.{depth}
 use Rattle.serde_json.specs.Read.{max_depth, read}
 use Rattle.serde_json.proofs.Nesting.{depth-read}
-use Rattle.json_values.specs.LineOrder.{IsOrdered}
-use Rattle.json_values.specs.LineView.{line_view}
-use Rattle.json_values.proofs.OrderedReads.{ordered-read}
-use Rattle.json_values.proofs.WholeReads.{read-all, some_text}
+use Rattle.json_values.specs.{IsOrdered, line_view}
+use Rattle.json_values.proofs.{ordered-read, read-all, some_text}
 use Rattle.json_values.proofs.reader.read_whole.Goals as goal
 
 pub returns-in_err-value-clause-memory : goal.returns-in_err-value-clause-memory

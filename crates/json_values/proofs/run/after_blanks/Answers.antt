@@ -1,5 +1,5 @@
-use Rattle.std.proofs.Common.{sym, ◌∙◌, arith}
-use Rattle.json_values.proofs.Passing.{lex-blank}
+use Rattle.proof_words.proofs.{sym, ◌∙◌, arith}
+use Rattle.json_values.proofs.{lex-blank}
 use Rattle.json_values.proofs.run.after_blanks.Goals as goal
 
 pub loop-i-preserved : goal.loop-i-preserved

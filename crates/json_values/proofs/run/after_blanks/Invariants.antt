@@ -1,4 +1,4 @@
-use Rattle.std.proofs.Common.{◌≡◌, ◌-◌, ◌≤◌, length, drop}
+use Rattle.proof_words.proofs.{◌≡◌, ◌-◌, ◌≤◌, length, drop}
 use Rattle.json.specs.Lex.{between, lex}
 use Rattle.json_values.proofs.run.after_blanks.Given as goal
 

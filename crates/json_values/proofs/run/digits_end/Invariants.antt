@@ -1,6 +1,4 @@
-use Rattle.std.proofs.Common.{◌≡◌, ◌+◌, ◌-◌, ◌≤◌, length, drop}
-use Rattle.std.specs.List.{prefix_len}
-use Rattle.std.specs.Char.{is_ascii_digit}
+use Rattle.proof_words.proofs.{◌≡◌, ◌+◌, ◌-◌, ◌≤◌, length, drop, prefix_len, is_ascii_digit}
 use Rattle.json_values.proofs.run.digits_end.Given as goal
 
 abbrev pub invariant-loop-i : goal.invariant-loop-i

@@ -1,7 +1,6 @@
-use Rattle.std.proofs.Common.{◌-◌, length, refl, sym, ◌∙◌, arith}
-use Rattle.std.proofs.lemmas.Bool.{eqb-true}
+use Rattle.proof_words.proofs.{◌-◌, length, refl, sym, ◌∙◌, arith, eqb-true}
 use Rattle.json.specs.Run.{is_stop, is_plain}
-use Rattle.json_values.proofs.Runs.{run_through, end_clear}
+use Rattle.json_values.proofs.{run_through, end_clear}
 use Rattle.json_values.proofs.run.is_plain.Goals as goal
 
 pub loop-i-preserved : goal.loop-i-preserved

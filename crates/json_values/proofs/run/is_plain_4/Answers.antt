@@ -1,7 +1,6 @@
-use Rattle.std.proofs.Common.{refl, sym, ◌∙◌, arith}
-use Rattle.std.proofs.lemmas.Bool.{eqb-true, and_parts}
+use Rattle.proof_words.proofs.{refl, sym, ◌∙◌, arith, eqb-true, and_parts}
 use Rattle.json.specs.Run.{is_stop, is_plain}
-use Rattle.json_values.proofs.Runs.{both_clear}
+use Rattle.json_values.proofs.{both_clear}
 use Rattle.json_values.proofs.run.is_plain_4.Goals as goal
 
 pub returns : goal.returns

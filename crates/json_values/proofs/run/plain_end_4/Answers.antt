@@ -1,7 +1,7 @@
-use Rattle.std.proofs.Common.{refl, sym, ap, ◌∙◌, arith}
+use Rattle.proof_words.proofs.{refl, sym, ap, ◌∙◌, arith}
 use lib.Count.{count_trailing_zeros}
 use Rattle.json.specs.Run.{is_stop, is_plain}
-use Rattle.json_values.proofs.Runs.{run_through, run_stops}
+use Rattle.json_values.proofs.{run_through, run_stops}
 use Rattle.json_values.proofs.run.plain_end_4.Goals as goal
 
 pub returns-then-found-ne0 : goal.returns-then-found-ne0

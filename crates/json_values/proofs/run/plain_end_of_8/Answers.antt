@@ -1,7 +1,7 @@
-use Rattle.std.proofs.Common.{◌≡◌, ◌+◌, ◌-◌, ◌/◌, ◌^◌, ◌<◌, length, refl, sym, ap, subst, ◌∙◌, arith}
+use Rattle.proof_words.proofs.{◌≡◌, ◌+◌, ◌-◌, ◌/◌, ◌^◌, ◌<◌, length, refl, sym, ap, subst, ◌∙◌, arith}
 use lib.Count.{count_trailing_zeros}
 use Rattle.json.specs.Run.{is_stop, is_plain}
-use Rattle.json_values.proofs.Runs.{end_through, end_stops}
+use Rattle.json_values.proofs.{end_through, end_stops}
 use Rattle.json_values.proofs.run.plain_end_of_8.Goals as goal
 
 pub returns-then-found-ne0 : goal.returns-then-found-ne0

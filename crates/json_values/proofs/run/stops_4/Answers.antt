@@ -1,7 +1,6 @@
-use Rattle.std.proofs.Common.{arith}
-use Rattle.std.proofs.lemmas.Simd.{zip2_splat}
+use Rattle.proof_words.proofs.{arith, zip2_splat}
 use Rattle.json.specs.Run.{is_stop}
-use Rattle.json_values.proofs.Lanes.{hit, below, either, masked}
+use Rattle.json_values.proofs.{hit, below, either, masked}
 use Rattle.json_values.proofs.run.stops_4.Goals as goal
 
 pub returns : goal.returns

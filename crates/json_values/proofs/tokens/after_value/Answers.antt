@@ -1,7 +1,7 @@
-use Rattle.std.proofs.Common.{◌≡◌, refl, sym, ap, ◌∙◌, arith}
+use Rattle.proof_words.proofs.{◌≡◌, refl, sym, ap, ◌∙◌, arith}
 use Rattle.json.specs.Word.{head}
 use Rattle.json.specs.Lex.{class, after_value, after_comma, punctuate}
-use Rattle.json_values.proofs.Punctuation.{at_operator}
+use Rattle.json_values.proofs.{at_operator}
 use Rattle.json_values.proofs.tokens.after_value.Goals as goal
 
 pub skip-requires : goal.skip-requires

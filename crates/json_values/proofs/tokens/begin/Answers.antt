@@ -1,11 +1,10 @@
-use Rattle.std.proofs.Common.{◌≡◌, ◌∷◌, refl, sym, ap, ◌∙◌, subst, arith, rules}
+use Rattle.proof_words.proofs.{◌≡◌, ◌∷◌, refl, sym, ap, ◌∙◌, subst, arith, rules}
 use Rattle.json.specs.Token as spec
 use Rattle.json.specs.Word.{head}
 use Rattle.json.specs.Lex.{token, class, other, fresh, after_value, may_begin, punctuate}
 use Rattle.json.specs.Reads.{token_of}
-use Rattle.json_values.specs.Plain.{Narrows}
-use Rattle.json_values.proofs.Steps.{lex_first}
-use Rattle.json_values.proofs.Punctuation.{rest, at_operator, allowed, IsWord, IsWord-word, plain_word, good_word, bad_word, stray}
+use Rattle.json_values.specs.{Narrows}
+use Rattle.json_values.proofs.{lex_first, rest, at_operator, allowed, IsWord, IsWord-word, plain_word, good_word, bad_word, stray}
 use Rattle.json_values.proofs.tokens.begin.Goals as goal
 
 pub skip-requires : goal.skip-requires

@@ -1,8 +1,8 @@
-use Rattle.std.proofs.Common.{◌≡◌, ◌∷◌, refl, sym, ap, ◌∙◌, arith}
+use Rattle.proof_words.proofs.{◌≡◌, ◌∷◌, refl, sym, ap, ◌∙◌, arith}
 use Rattle.json.specs.Token as spec
 use Rattle.json.specs.Word.{head}
 use Rattle.json.specs.Lex.{after_value, may_close, punctuate}
-use Rattle.json_values.proofs.Punctuation.{rest, at_operator, allowed, closing}
+use Rattle.json_values.proofs.{rest, at_operator, allowed, closing}
 use Rattle.json_values.proofs.tokens.close.Goals as goal
 
 pub skip-requires : goal.skip-requires

@@ -1,9 +1,9 @@
-use Rattle.std.proofs.Common.{◌≡◌, [], cond, sym, ap, ◌∙◌, subst, arith}
+use Rattle.proof_words.proofs.{◌≡◌, [], cond, sym, ap, ◌∙◌, subst, arith}
 use Rattle.json.specs.Lex.{class}
 use Rattle.json.specs.Align.{is_blank}
 use Rattle.json.specs.Reads.{Yields}
-use Rattle.json_values.specs.Place.{tokens_at, refused_at}
-use Rattle.json_values.proofs.Punctuation.{not_closed, ended, not_begun}
+use Rattle.json_values.specs.{tokens_at, refused_at}
+use Rattle.json_values.proofs.{not_closed, ended, not_begun}
 use Rattle.json_values.proofs.tokens.read.Goals as goal
 
 pub returns-then-not-may_close-clause-value : goal.returns-then-not-may_close-clause-value

@@ -1,9 +1,9 @@
-use Rattle.std.proofs.Common.{◌≡◌, ◌∷◌, None, Some, refl, sym, ap, ◌∙◌, arith}
+use Rattle.proof_words.proofs.{◌≡◌, ◌∷◌, None, Some, refl, sym, ap, ◌∙◌, arith}
 use Rattle.json.specs.Token as spec
 use Rattle.json.specs.Word.{head}
 use Rattle.json.specs.Lex.{token, colon, class, between, lex, fresh, after_value, after_key, may_begin, place_token, punctuate}
 use Rattle.json.specs.Align.{is_blank}
-use Rattle.json_values.proofs.Punctuation.{rest, at_operator, at_string, no_colon, allowed}
+use Rattle.json_values.proofs.{rest, at_operator, at_string, no_colon, allowed}
 use Rattle.json_values.proofs.tokens.string.Goals as goal
 
 pub returns-in_default-clause-value : goal.returns-in_default-clause-value

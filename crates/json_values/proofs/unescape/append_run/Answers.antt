@@ -1,8 +1,6 @@
-use Rattle.std.proofs.Common.{◌≡◌, ◌+◌, ◌-◌, ◌++◌, length, take, drop, sym, ap, ◌∙◌, arith, take-add}
-use Rattle.std.proofs.lemmas.List.{append_assoc, drop-drop}
-use Rattle.std.proofs.lemmas.Simd.{take_more_put_chunk, length-chunk, length-put_chunk}
+use Rattle.proof_words.proofs.{◌≡◌, ◌+◌, ◌-◌, ◌++◌, length, take, drop, sym, ap, ◌∙◌, arith, take-add, append_assoc, drop-drop, take_more_put_chunk, length-chunk, length-put_chunk}
 use lib.Lanes.{chunk}
-use Rattle.json_values.proofs.Content.{cut_back}
+use Rattle.json_values.proofs.{cut_back}
 use Rattle.json_values.proofs.unescape.append_run.Goals as goal
 
 pub loop-done-preserved : goal.loop-done-preserved

@@ -1,11 +1,8 @@
-use Rattle.std.proofs.Common.{◌≡◌, ◌+◌, drop, Some, ap, ◌∙◌, arith}
-use Rattle.std.proofs.lemmas.Grind.{common_steps}
-use Rattle.json_values.proofs.Content.{content-after_backslash, content-nil}
-use Rattle.std.proofs.lemmas.List.{drop_all}
+use Rattle.proof_words.proofs.{◌≡◌, ◌+◌, drop, Some, ap, ◌∙◌, arith, common_steps, drop_all}
+use Rattle.json_values.proofs.{content-after_backslash, content-nil, in_escape-any, escape_from}
 use Rattle.std.specs.Char.{encode_utf8}
 use Rattle.json.specs.Text.{content, after_backslash, after_u}
 use Rattle.json.specs.Run.{Escape}
-use Rattle.json_values.proofs.Passing.{in_escape-any, escape_from}
 use Rattle.json_values.proofs.unescape.escape.Goals as goal
 
 pub returns-then-i-text : goal.returns-then-i-text

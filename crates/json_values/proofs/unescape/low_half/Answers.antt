@@ -1,8 +1,5 @@
-use Rattle.std.proofs.Common.{◌≡◌, ◌+◌, ◌-◌, drop, sym, arith}
-use Rattle.std.proofs.lemmas.Grind.{common_steps}
-use Rattle.json_values.proofs.Content.{content-after_high, short_after_high, len_utf8-le}
-use Rattle.std.proofs.lemmas.List.{length-drop}
-use Rattle.json_values.proofs.Passing.{in_string-low_half}
+use Rattle.proof_words.proofs.{◌≡◌, ◌+◌, ◌-◌, drop, sym, arith, common_steps, length-drop}
+use Rattle.json_values.proofs.{content-after_high, short_after_high, len_utf8-le, in_string-low_half}
 use Rattle.json_values.proofs.unescape.low_half.Goals as goal
 
 pub returns-then-text-i-lt6 : goal.returns-then-text-i-lt6

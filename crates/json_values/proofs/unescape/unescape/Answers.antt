@@ -1,12 +1,7 @@
-use Rattle.std.proofs.Common.{◌≡◌, ◌+◌, ◌-◌, ◌<◌, ◌++◌, length, take, drop, Some, None, sym, ap, ◌∙◌, subst, arith}
-use Rattle.std.proofs.lemmas.List.{length-take-le, length-drop, append-nil}
-use Rattle.std.proofs.lemmas.Str.{IsUtf8-append, IsUtf8-between, IsCharBoundary-before_ascii, IsCharBoundary-after_ascii}
-use Rattle.std.specs.List.{prefix_len}
-use Rattle.std.specs.Str.{IsUtf8, IsCharBoundary}
+use Rattle.proof_words.proofs.{◌≡◌, ◌+◌, ◌-◌, ◌<◌, ◌++◌, length, take, drop, Some, None, sym, ap, ◌∙◌, subst, arith, length-take-le, length-drop, append-nil, IsUtf8-append, IsUtf8-between, IsCharBoundary-before_ascii, IsCharBoundary-after_ascii, prefix_len, IsUtf8, IsCharBoundary}
 use Rattle.json.specs.Text.{content, plain, after_backslash, prepend}
 use Rattle.json.specs.Run.{is_plain}
-use Rattle.json_values.proofs.Content.{prepend-prepend, content-to_stop, at_quote, at_backslash, at_control, at_end, stop_is_backslash}
-use Rattle.json_values.proofs.Passing.{in_string-to_stop, in_string-quote, in_string-backslash}
+use Rattle.json_values.proofs.{prepend-prepend, content-to_stop, at_quote, at_backslash, at_control, at_end, stop_is_backslash, in_string-to_stop, in_string-quote, in_string-backslash}
 use Rattle.json_values.proofs.unescape.unescape.Goals as goal
 
 pub returns-then-stop-bytes-clause-value : goal.returns-then-stop-bytes-clause-value

@@ -1,5 +1,4 @@
-use Rattle.std.proofs.Common.{◌≡◌, ◌+◌, ◌-◌, ◌≤◌, length, take, drop}
-use Rattle.std.specs.Str.{IsUtf8, IsCharBoundary}
+use Rattle.proof_words.proofs.{◌≡◌, ◌+◌, ◌-◌, ◌≤◌, length, take, drop, IsUtf8, IsCharBoundary}
 use Rattle.json.specs.Text.{content, plain, prepend}
 use Rattle.json.specs.Lex.{in_string, lex}
 use Rattle.json_values.proofs.unescape.unescape.Given as goal

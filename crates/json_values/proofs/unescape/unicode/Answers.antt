@@ -1,8 +1,6 @@
-use Rattle.std.proofs.Common.{◌≡◌, ◌+◌, ◌-◌, drop, sym, arith}
+use Rattle.proof_words.proofs.{◌≡◌, ◌+◌, ◌-◌, drop, sym, arith, length-drop}
 use Rattle.json.specs.Text.{content, after_u, after_high}
-use Rattle.json_values.proofs.Content.{content-after_u, short_after_u, len_utf8-le}
-use Rattle.std.proofs.lemmas.List.{length-drop}
-use Rattle.json_values.proofs.Passing.{in_string-unit, escape_from}
+use Rattle.json_values.proofs.{content-after_u, short_after_u, len_utf8-le, in_string-unit, escape_from}
 use Rattle.json_values.proofs.unescape.unicode.Goals as goal
 
 pub returns-then-text-i-lt4 : goal.returns-then-text-i-lt4

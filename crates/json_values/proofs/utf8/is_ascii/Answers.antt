@@ -1,6 +1,5 @@
-use Rattle.std.proofs.Common.{◌-◌, length, sym, subst, arith, take-add}
-use Rattle.std.specs.Str.{IsAscii}
-use Rattle.json_values.proofs.AsciiText.{IsAscii-joined, ascii_joined}
+use Rattle.proof_words.proofs.{◌-◌, length, sym, subst, arith, take-add, IsAscii}
+use Rattle.json_values.proofs.{IsAscii-joined, ascii_joined}
 use Rattle.json_values.proofs.utf8.is_ascii.Goals as goal
 
 pub loop-i-preserved : goal.loop-i-preserved

@@ -1,5 +1,4 @@
-use Rattle.std.proofs.Common.{◌-◌, ◌≤◌, length, take}
-use Rattle.std.specs.Str.{IsAscii}
+use Rattle.proof_words.proofs.{◌-◌, ◌≤◌, length, take, IsAscii}
 use Rattle.json_values.proofs.utf8.is_ascii.Given as goal
 
 abbrev pub invariant-loop-i : goal.invariant-loop-i

@@ -1,7 +1,5 @@
-use Rattle.std.proofs.Common.{cond, leb, sym, ◌∙◌, arith}
-use Rattle.std.proofs.lemmas.Bool.{eqb-true}
-use Rattle.std.proofs.lemmas.Simd.{zip2_splat_left}
-use Rattle.json_values.proofs.Lanes.{at_least, is_high, masked, none_high}
+use Rattle.proof_words.proofs.{cond, leb, sym, ◌∙◌, arith, eqb-true, zip2_splat_left}
+use Rattle.json_values.proofs.{at_least, is_high, masked, none_high}
 use Rattle.json_values.proofs.utf8.is_ascii_16.Goals as goal
 
 pub returns : goal.returns

@@ -1,7 +1,4 @@
-use Rattle.std.proofs.Common.{subst, arith}
-use Rattle.std.specs.Str.{IsAscii}
-use Rattle.std.proofs.lemmas.List.{take_all}
-use Rattle.std.proofs.lemmas.Str.Ascii.{IsAscii-more}
+use Rattle.proof_words.proofs.{subst, arith, IsAscii, take_all, IsAscii-more}
 use Rattle.json_values.proofs.utf8.is_ascii_slowly.Goals as goal
 
 pub loop-i-preserved : goal.loop-i-preserved

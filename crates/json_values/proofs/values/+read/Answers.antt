@@ -1,4 +1,4 @@
-use Rattle.std.proofs.Common.{List, false, ◌≡◌, ◌-◌, ◌<◌, [], ◌∷◌, length, Some, None, sym, ap, subst, ◌∙◌, arith, rules}
+use Rattle.proof_words.proofs.{List, false, ◌≡◌, ◌-◌, ◌<◌, [], ◌∷◌, length, Some, None, sym, ap, subst, ◌∙◌, arith, rules}
 use Rattle.json.specs.Token.{Token}
 use Rattle.json.specs.Json.{parse_map, after_end_array, read_key, items, members, value}
 use Rattle.json.specs.Reads.{token_of}
@@ -6,17 +6,8 @@ use Rattle.json.proofs.Grammar.{value_is, read_key-shorter}
 use Rattle.serde_json.specs.Data.{null, boolean, number, string, array, object}
 use Rattle.serde_json.specs.Read.{of_json, of_items, of_members, converted, number_of}
 use Rattle.serde_json.specs.View.{number_view}
-use Rattle.json_values.specs.LineView.{line_view, line_items, line_members}
-use Rattle.json_values.specs.declared.line.LineValue.{LineValue, String, Number, Bool, Null, the_lemmas}
-use Rattle.json_values.specs.Plain.{AreItemsPlain, AreMembersPlain, Narrows}
-use Rattle.json_values.specs.Entries.{IsRising}
-use Rattle.json_values.specs.Members.{entries_of}
-use Rattle.json_values.proofs.PlainReads.{narrows_on, items_still, members_still, items_more, members_more}
-use Rattle.json_values.proofs.PutEntries.{rising_none, rising_put}
-use Rattle.json_values.proofs.ValueReads.{items-one, items-refused, items-none, members-one, members-refused, members-no_key, members-none}
-use Rattle.json_values.proofs.LineReads.{Named, members-put, view-Array, view-Object, items_onto, items_onto-no_items, parse_map-items_onto}
-use Rattle.json_values.specs.Place.{begins_key}
-use Rattle.json_values.proofs.FirstTokens.{endless, neither, read-nothing, read-string, read-number, read-boolean, read-null, read-array, read-object, read-deep_array, read-deep_object}
+use Rattle.json_values.specs.{line_view, line_items, line_members, LineValue, String, Number, Bool, Null, the_lemmas, AreItemsPlain, AreMembersPlain, Narrows, IsRising, entries_of, begins_key}
+use Rattle.json_values.proofs.{narrows_on, items_still, members_still, items_more, members_more, rising_none, rising_put, items-one, items-refused, items-none, members-one, members-refused, members-no_key, members-none, Named, members-put, view-Array, view-Object, items_onto, items_onto-no_items, parse_map-items_onto, endless, neither, read-nothing, read-string, read-number, read-boolean, read-null, read-array, read-object, read-deep_array, read-deep_object}
 use Rattle.json_values.proofs.values.+read.Goals as goal
 
 pub read_value-returns-in-Ok-Some-clause-ok : goal.read_value-returns-in-Ok-Some-clause-ok

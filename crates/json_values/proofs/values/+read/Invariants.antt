@@ -1,12 +1,9 @@
-use Rattle.std.proofs.Common.{◌≡◌, ℕ, ◌+◌, ◌*◌, ◌≤◌, length}
+use Rattle.proof_words.proofs.{◌≡◌, ℕ, ◌+◌, ◌*◌, ◌≤◌, length}
 use Rattle.json.specs.Json.{items, members, value, parse_map}
 use Rattle.serde_json.specs.Data.{no_members}
 use Rattle.serde_json.specs.Read.{converted, of_items, of_members}
-use Rattle.json_values.specs.LineView.{line_items, line_members}
-use Rattle.json_values.specs.Plain.{AreItemsPlain, AreMembersPlain, Narrows}
-use Rattle.json_values.specs.Entries.{IsRising}
-use Rattle.json_values.specs.Members.{entries_of}
-use Rattle.json_values.proofs.LineReads.{items_onto}
+use Rattle.json_values.specs.{line_items, line_members, AreItemsPlain, AreMembersPlain, Narrows, IsRising, entries_of}
+use Rattle.json_values.proofs.{items_onto}
 use Rattle.json_values.proofs.values.+read.Given as goal
 
 abbrev pub decreases-read_value : goal.decreases-read_value

@@ -1,9 +1,5 @@
-use Rattle.std.proofs.Common.{◌≡◌, ◌+◌, ◌<◌, true, length, get_or, arith}
-use Rattle.std.specs.Char.{is_ascii_digit, digit_value}
-use Rattle.std.proofs.lemmas.Str.{digit_value_digit}
-use Rattle.std.proofs.lemmas.Int.Digits.{digits_more, digits_value_more}
-use Rattle.std.proofs.lemmas.List.Sums.{prefix_len-drop_yes}
-use Rattle.json_values.proofs.Integers.{digit_range}
+use Rattle.proof_words.proofs.{◌≡◌, ◌+◌, ◌<◌, true, length, get_or, arith, is_ascii_digit, digit_value, digit_value_digit, digits_more, digits_value_more, prefix_len-drop_yes}
+use Rattle.json_values.proofs.{digit_range}
 use Rattle.json_values.proofs.word.digits_sum.Goals as goal
 
 pub loop-i-preserved : goal.loop-i-preserved

@@ -1,11 +1,8 @@
-use Rattle.std.proofs.Common.{◌≡◌, ℕ, ◌+◌, ◌≤◌, ◌||◌, List, length, take, drop, true, Some, sym, ap, ◌∙◌, subst, arith, length-drop}
-use Rattle.std.proofs.lemmas.List.{take_rest}
-use Rattle.std.specs.Str.Parse.{AllDigits, digits_value}
+use Rattle.proof_words.proofs.{◌≡◌, ℕ, ◌+◌, ◌≤◌, ◌||◌, List, length, take, drop, true, Some, sym, ap, ◌∙◌, subst, arith, length-drop, take_rest, AllDigits, digits_value}
 use Rattle.serde_json.specs.View.{number_view}
 use Rattle.json.specs.Word.{is_operator, is_space, ends_word, after_whole}
-use Rattle.json_values.specs.Words.{IntegerAt}
-use Rattle.json_values.proofs.Integers.{plain_integer, minus_integer, minus_place}
-use Rattle.json_values.proofs.NumberReads.{opposite}
+use Rattle.json_values.specs.{IntegerAt}
+use Rattle.json_values.proofs.{plain_integer, minus_integer, minus_place, opposite}
 use Rattle.json_values.proofs.word.integer.Goals as goal
 
 pub returns-then-start-from : goal.returns-then-start-from

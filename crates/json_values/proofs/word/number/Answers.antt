@@ -1,10 +1,7 @@
-use Rattle.std.proofs.Common.{◌≡◌, ◌<◌, drop, get_or, Some, sym, ap, ◌∙◌, subst, add-zero, ◌||◌, true}
-use Rattle.std.proofs.lemmas.Str.{IsCharBoundary-before_ascii}
-use Rattle.std.proofs.lemmas.List.{get_or-drop, get_or_default}
+use Rattle.proof_words.proofs.{◌≡◌, ◌<◌, drop, get_or, Some, sym, ap, ◌∙◌, subst, add-zero, ◌||◌, true, IsCharBoundary-before_ascii, get_or-drop, get_or_default}
 use Rattle.json.specs.Word.{is_operator, is_space, ends_word, after_number, number_before}
 use Rattle.json.specs.Token.{number}
-use Rattle.json_values.proofs.NumberStarts.{Found, number_ascii}
-use Rattle.json_values.proofs.Wording.{Stands, number_at}
+use Rattle.json_values.proofs.{Found, number_ascii, Stands, number_at}
 use Rattle.json_values.proofs.word.number.Goals as goal
 
 pub range-requires-clause-start_boundary : goal.range-requires-clause-start_boundary

@@ -1,5 +1,4 @@
-use Rattle.std.proofs.Common.{rules, arith}
-use Rattle.std.proofs.lemmas.Grind.{common_steps}
+use Rattle.proof_words.proofs.{rules, arith, common_steps}
 use Rattle.json.specs.Word.{after_number}
 use Rattle.json_values.proofs.word.number_end.Goals as goal
 

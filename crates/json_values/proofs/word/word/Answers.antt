@@ -1,5 +1,4 @@
-use Rattle.std.proofs.Common.{refl, sym, rules, arith}
-use Rattle.std.proofs.lemmas.Grind.{common_steps}
+use Rattle.proof_words.proofs.{refl, sym, rules, arith, common_steps}
 use Rattle.json.specs.Word.{word}
 use Rattle.json.specs.Lex.{lex}
 use Rattle.json.proofs.Printed.Numbers.{in_word-ended}

@@ -1,6 +1,4 @@
-use Rattle.std.proofs.Common.{ap, ◌≡◌, ◌∙◌, true, map, string_bytes}
-use Rattle.std.proofs.Math.Path.{fun_ext}
-use Rattle.std.proofs.lemmas.Bool.{and_parts}
+use Rattle.proof_words.proofs.{ap, ◌≡◌, ◌∙◌, true, map, string_bytes, fun_ext, and_parts}
 use Rattle.clap.specs.Words.{app_of, is_simple, matches_of, found_of, first_of, one_of, rows_of}
 use Rattle.clap.proofs.WalkLemmas.{first_value-rows, one_text-rows}
 use Rattle.program_shell.proofs.words.find.Goals as goal

@@ -1,5 +1,4 @@
-use Rattle.std.proofs.Common.{ap, ◌≡◌, ◌∙◌, true, Option, Some, List, ℕ}
-use Rattle.std.specs.Borrow.{Bor}
+use Rattle.proof_words.proofs.{ap, ◌≡◌, ◌∙◌, true, Option, Some, List, ℕ, Bor}
 use Rattle.clap.specs.Words.{app_of}
 use Rattle.clap.specs.Simple.{app_of_fields, on_top}
 use Rattle.clap.specs.declared.builder.command.Command.{Command}

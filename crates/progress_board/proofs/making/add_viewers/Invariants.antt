@@ -1,6 +1,5 @@
-use Rattle.std.proofs.Common.{◌≡◌, ◌+◌, [], vec_len, vec_capacity, vec_items}
-use Rattle.progress_board.specs.Rule.{dealer}
-use Rattle.progress_board.specs.Seats.{SeatsAre}
+use Rattle.proof_words.proofs.{◌≡◌, ◌+◌, [], vec_len, vec_capacity, vec_items}
+use Rattle.progress_board.specs.{dealer, SeatsAre}
 use Rattle.progress_board.proofs.making.add_viewers.Given as goal
 
 abbrev pub invariant-loop-i : goal.invariant-loop-i

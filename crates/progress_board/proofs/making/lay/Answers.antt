@@ -1,6 +1,5 @@
-use Rattle.std.proofs.Common.{rules, ◌≡◌, ◌*◌, ℕ, get_or, length, replicate, ap, ◌∙◌, arith}
-use Rattle.std.proofs.lemmas.List.{length-replicate}
-use Rattle.progress_board.proofs.RuleLaws.{zeros}
+use Rattle.proof_words.proofs.{rules, ◌≡◌, ◌*◌, ℕ, get_or, length, replicate, ap, ◌∙◌, arith, length-replicate}
+use Rattle.progress_board.proofs.{zeros}
 use Rattle.progress_board.proofs.making.lay.Goals as goal
 
 pub lay_words-requires : goal.lay_words-requires

@@ -1,4 +1,4 @@
-use Rattle.progress_board.proofs.RuleLaws.{kept_new}
+use Rattle.progress_board.proofs.{kept_new}
 use Rattle.progress_board.proofs.making.lay_words.Goals as goal
 
 pub of_words-requires : goal.of_words-requires

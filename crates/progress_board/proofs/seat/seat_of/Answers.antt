@@ -1,6 +1,5 @@
-use Rattle.std.proofs.Common.{◌≡◌, ℕ, get_or, length, ap, sym, ◌∙◌, arith}
-use Rattle.std.proofs.lemmas.List.{length-replicate}
-use Rattle.progress_board.proofs.RuleLaws.{zeros}
+use Rattle.proof_words.proofs.{◌≡◌, ℕ, get_or, length, ap, sym, ◌∙◌, arith, length-replicate}
+use Rattle.progress_board.proofs.{zeros}
 use Rattle.progress_board.proofs.seat.seat_of.Goals as goal
 
 pub invariant_of-result : goal.invariant_of-result

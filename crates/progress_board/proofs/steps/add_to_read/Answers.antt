@@ -1,8 +1,7 @@
-use Rattle.std.proofs.Common.{◌≡◌, ◌≤◌, ◌%◌, ◌^◌, ℕ, slice_index, ◌+◌, subst, arith}
+use Rattle.proof_words.proofs.{◌≡◌, ◌≤◌, ◌%◌, ◌^◌, ℕ, slice_index, ◌+◌, subst, arith}
 use Rattle.atomic_table.specs.Table.{State, Allows}
-use Rattle.progress_board.specs.Rule.{added_read, Kept}
-use Rattle.progress_board.specs.declared.rule.SeatView.{SeatView}
-use Rattle.progress_board.proofs.RuleLaws.{add_read}
+use Rattle.progress_board.specs.{added_read, Kept, SeatView}
+use Rattle.progress_board.proofs.{add_read}
 use Rattle.progress_board.proofs.steps.add_to_read.Goals as goal
 
 pub fetch_add-requires : goal.fetch_add-requires

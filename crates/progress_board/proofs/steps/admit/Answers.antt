@@ -1,5 +1,5 @@
-use Rattle.std.proofs.Common.{arith}
-use Rattle.progress_board.proofs.RuleLaws.{splits_viewer}
+use Rattle.proof_words.proofs.{arith}
+use Rattle.progress_board.proofs.{splits_viewer}
 use Rattle.progress_board.proofs.steps.admit.Goals as goal
 
 pub split_seat-requires : goal.split_seat-requires

@@ -1,5 +1,5 @@
-use Rattle.std.proofs.Common.{◌<◌, arith}
-use Rattle.progress_board.proofs.RuleLaws.{load_read}
+use Rattle.proof_words.proofs.{◌<◌, arith}
+use Rattle.progress_board.proofs.{load_read}
 use Rattle.progress_board.proofs.steps.look_at_read.Goals as goal
 
 pub load-requires : goal.load-requires

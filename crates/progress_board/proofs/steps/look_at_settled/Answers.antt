@@ -1,8 +1,7 @@
-use Rattle.std.proofs.Common.{◌≡◌, ◌+◌, ◌-◌, ◌<◌, ℕ, length, subst, arith}
+use Rattle.proof_words.proofs.{◌≡◌, ◌+◌, ◌-◌, ◌<◌, ℕ, length, subst, arith}
 use Rattle.atomic_table.specs.Table.{State, Allows}
-use Rattle.progress_board.specs.Rule.{SeesSettled, Kept}
-use Rattle.progress_board.specs.declared.rule.SeatView.{SeatView}
-use Rattle.progress_board.proofs.RuleLaws.{load_settled}
+use Rattle.progress_board.specs.{SeesSettled, Kept, SeatView}
+use Rattle.progress_board.proofs.{load_settled}
 use Rattle.progress_board.proofs.steps.look_at_settled.Goals as goal
 
 pub load-requires : goal.load-requires

@@ -1,5 +1,5 @@
-use Rattle.std.proofs.Common.{eqb, sym, ap, ◌∙◌}
-use Rattle.range_front.proofs.RisingEnds.{begin_at, begin_at-before, has-found, has-missed}
+use Rattle.proof_words.proofs.{eqb, sym, ap, ◌∙◌}
+use Rattle.range_front.proofs.{begin_at, begin_at-before, has-found, has-missed}
 use Rattle.range_front.proofs.ends.is_window.Goals as goal
 
 pub returns-in_default : goal.returns-in_default

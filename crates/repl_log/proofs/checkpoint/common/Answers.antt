@@ -1,8 +1,5 @@
-use Rattle.std.proofs.Common.{◌≡◌, List, [], None, drop, sym, ap, ◌∙◌, arith}
-use Rattle.std.proofs.lemmas.List.{drop_all}
-use Rattle.repl_log.specs.Entry.{EntryValue, value_of}
-use Rattle.repl_log.specs.Log.{common, recorded_of}
-use Rattle.repl_log.specs.LogLaws.{common-at, common-behind, common-IsCommon, common-none}
+use Rattle.proof_words.proofs.{◌≡◌, List, [], None, drop, sym, ap, ◌∙◌, arith, drop_all}
+use Rattle.repl_log.specs.{EntryValue, value_of, common, recorded_of, common-at, common-behind, common-IsCommon, common-none}
 use Rattle.repl_log.proofs.checkpoint.common.Goals as goal
 
 pub returns-in-Some-recorded_of-clause-value : goal.returns-in-Some-recorded_of-clause-value

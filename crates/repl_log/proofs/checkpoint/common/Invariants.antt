@@ -1,5 +1,5 @@
-use Rattle.std.proofs.Common.{◌≡◌, drop}
-use Rattle.repl_log.specs.Log.{common}
+use Rattle.proof_words.proofs.{◌≡◌, drop}
+use Rattle.repl_log.specs.{common}
 use Rattle.repl_log.proofs.checkpoint.common.Given as goal
 
 -- no session so far is shared: the rest decides

@@ -1,9 +1,8 @@
-use Rattle.std.proofs.Common.{◌≡◌, map, false, ap, ◌∙◌}
-use Rattle.std.proofs.lemmas.Result.{IfOk-weaker}
+use Rattle.proof_words.proofs.{◌≡◌, map, false, ap, ◌∙◌, IfOk-weaker}
 use Rattle.serde_json.specs.Data.{string, array}
 use Rattle.serde_json.specs.View.{view, items_of}
 use Rattle.serde_json.specs.Written.{compact_text, has_float}
-use Rattle.repl_log.proofs.Floats.{items_have_float-texts}
+use Rattle.repl_log.proofs.{items_have_float-texts}
 use Rattle.repl_log.proofs.text.list_text.Goals as goal
 
 pub returns : goal.returns

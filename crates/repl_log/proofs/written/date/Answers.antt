@@ -1,7 +1,6 @@
-use Rattle.std.proofs.Common.{◌≡◌, sym, ap, ◌∙◌}
+use Rattle.proof_words.proofs.{◌≡◌, sym, ap, ◌∙◌}
 use Rattle.httpdate.specs.Date.{date_text}
-use Rattle.repl_log.specs.Time.{time_text}
-use Rattle.repl_log.specs.TimeLaws.{time_text-date}
+use Rattle.repl_log.specs.{time_text, time_text-date}
 use Rattle.repl_log.proofs.written.date.Goals as goal
 
 pub returns : goal.returns

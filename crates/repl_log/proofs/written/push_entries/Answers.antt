@@ -1,8 +1,7 @@
-use Rattle.std.proofs.Common.{ℕ, List, ◌++◌, false, nat_lt, take, ap, sym, ◌∙◌, append_assoc}
+use Rattle.proof_words.proofs.{ℕ, List, ◌++◌, false, nat_lt, take, ap, sym, ◌∙◌, append_assoc}
 use Rattle.serde_json.specs.Written.{comma_if}
-use Rattle.repl_log.specs.Entry.{EntryValue, value_of}
-use Rattle.repl_log.specs.Text.{listed}
-use Rattle.repl_log.proofs.Listed.{entry_text, listed_more}
+use Rattle.repl_log.specs.{EntryValue, value_of, listed}
+use Rattle.repl_log.proofs.{entry_text, listed_more}
 use Rattle.repl_log.proofs.written.push_entries.Goals as goal
 
 pub loop-i-preserved : goal.loop-i-preserved

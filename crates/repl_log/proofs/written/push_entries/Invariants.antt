@@ -1,5 +1,5 @@
-use Rattle.std.proofs.Common.{◌≡◌, ◌++◌, false, take}
-use Rattle.repl_log.specs.Text.{listed}
+use Rattle.proof_words.proofs.{◌≡◌, ◌++◌, false, take}
+use Rattle.repl_log.specs.{listed}
 use Rattle.repl_log.proofs.written.push_entries.Given as goal
 
 -- the entries so far stand behind what was there

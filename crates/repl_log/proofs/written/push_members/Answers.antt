@@ -1,7 +1,7 @@
-use Rattle.std.proofs.Common.{ℕ, List, ◌∷◌, ◌++◌, [], codes, decimal, ap, sym, ◌∙◌}
+use Rattle.proof_words.proofs.{ℕ, List, ◌∷◌, ◌++◌, [], codes, decimal, ap, sym, ◌∙◌}
 use Rattle.json.specs.Print.{quoted}
-use Rattle.repl_log.specs.Entry.{EntryValue, value_of}
-use Rattle.repl_log.proofs.LogTexts.{moved, entry_pieces}
+use Rattle.repl_log.specs.{EntryValue, value_of}
+use Rattle.repl_log.proofs.{moved, entry_pieces}
 use Rattle.repl_log.proofs.written.push_members.Goals as goal
 
 pub returns : goal.returns

@@ -1,11 +1,9 @@
-use Rattle.std.proofs.Common.{◌≡◌, ℕ, List, ◌∷◌, ◌++◌, [], false, map, codes, decimal, ap, sym, ◌∙◌, append_assoc}
+use Rattle.proof_words.proofs.{◌≡◌, ℕ, List, ◌∷◌, ◌++◌, [], false, map, codes, decimal, ap, sym, ◌∙◌, append_assoc}
 use Rattle.json.specs.Print.{quoted}
 use Rattle.serde_json.specs.Data.{Items}
 use Rattle.serde_json.specs.View.{items_of}
-use Rattle.repl_log.specs.Entry.{EntryValue}
-use Rattle.repl_log.specs.Text.{id_digits, rep_text, entry_json, listed}
-use Rattle.repl_log.proofs.Listed.{items_text-listed}
-use Rattle.repl_log.proofs.LogTexts.{moved, log_pieces}
+use Rattle.repl_log.specs.{EntryValue, id_digits, rep_text, entry_json, listed}
+use Rattle.repl_log.proofs.{items_text-listed, moved, log_pieces}
 use Rattle.repl_log.proofs.written.whole_log.Goals as goal
 
 pub returns : goal.returns

@@ -1,4 +1,4 @@
-use Rattle.repl_log.specs.TimeLaws.{time_text-date}
+use Rattle.repl_log.specs.{time_text-date}
 use Rattle.repl_log.proofs.written.write_log.Goals as goal
 
 pub returns-in_default-clause-times : goal.returns-in_default-clause-times

@@ -1,5 +1,5 @@
-use Rattle.std.proofs.Common.{◌<◌, get_or, arith}
-use Rattle.repl_net.proofs.Places.{two_filters, up, up_ended, up_hop, down, down_ended, down_hop}
+use Rattle.proof_words.proofs.{◌<◌, get_or, arith}
+use Rattle.repl_net.proofs.{two_filters, up, up_ended, up_hop, down, down_ended, down_hop}
 use Rattle.repl_net.proofs.along.carry.Goals as goal
 
 pub returns-then-hop-clause-hopped : goal.returns-then-hop-clause-hopped

@@ -1,12 +1,7 @@
-use Rattle.std.proofs.Common.{Ok, Err, refl, sym, subst, inl, inr, arith}
-use Rattle.std.proofs.lemmas.List.{length-map}
-use Rattle.repl_peer.specs.peer.Writing.{after_edit}
-use Rattle.repl_net.specs.Nets.{peers_of, AreTied, IsNet, KeepsAgreement}
-use Rattle.repl_net.proofs.Places.{set_filters, changed_at, unchanged_at, there_at}
-use Rattle.repl_net.proofs.Writes.{edit_tied, edit_agree}
-use Rattle.repl_net.specs.Made.{AllMadeBy}
-use Rattle.repl_net.proofs.Closed.{edit_net}
-use Rattle.repl_net.proofs.Makes.{edit_made}
+use Rattle.proof_words.proofs.{Ok, Err, refl, sym, subst, inl, inr, arith, length-map}
+use Rattle.repl_peer.specs.{after_edit}
+use Rattle.repl_net.specs.{peers_of, AreTied, IsNet, KeepsAgreement, AllMadeBy}
+use Rattle.repl_net.proofs.{set_filters, changed_at, unchanged_at, there_at, edit_tied, edit_agree, edit_net, edit_made}
 use Rattle.repl_net.proofs.along.edit_at.Goals as goal
 
 pub returns-in-Ok-clause-ok : goal.returns-in-Ok-clause-ok

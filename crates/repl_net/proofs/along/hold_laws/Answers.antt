@@ -1,5 +1,5 @@
-use Rattle.couch_base.specs.Database.{LawfulDatabase}
-use Rattle.repl_net.proofs.Places.{each_more, each_all}
+use Rattle.couch_base.specs.{LawfulDatabase}
+use Rattle.repl_net.proofs.{each_more, each_all}
 use Rattle.repl_net.proofs.along.hold_laws.Goals as goal
 
 pub loop-peer-preserved : goal.loop-peer-preserved

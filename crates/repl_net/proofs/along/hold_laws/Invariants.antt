@@ -1,7 +1,7 @@
-use Rattle.std.proofs.Common.{ℕ, ◌<◌}
-use Rattle.couch_base.specs.Database.{LawfulDatabase}
-use Rattle.repl_peer.specs.peer.Peer.{PeerValue}
-use Rattle.repl_net.specs.Nets.{peers_of, IsAt}
+use Rattle.proof_words.proofs.{ℕ, ◌<◌}
+use Rattle.couch_base.specs.{LawfulDatabase}
+use Rattle.repl_peer.specs.{PeerValue}
+use Rattle.repl_net.specs.{peers_of, IsAt}
 use Rattle.repl_net.proofs.along.hold_laws.Given as goal
 
 -- those so far keep it

@@ -1,10 +1,7 @@
-use Rattle.std.proofs.Common.{Ok, Err, refl, sym, subst, inl, inr, arith}
-use Rattle.std.proofs.lemmas.List.{length-map}
-use Rattle.repl_peer.specs.peer.Writing.{after_load}
-use Rattle.repl_net.specs.Nets.{peers_of, AreTied, IsNet, KeepsAgreement}
-use Rattle.repl_net.proofs.Places.{set_filters, changed_at, unchanged_at, there_at}
-use Rattle.repl_net.proofs.Writes.{wrote_tied, wrote_agree}
-use Rattle.repl_net.proofs.Closed.{load_net}
+use Rattle.proof_words.proofs.{Ok, Err, refl, sym, subst, inl, inr, arith, length-map}
+use Rattle.repl_peer.specs.{after_load}
+use Rattle.repl_net.specs.{peers_of, AreTied, IsNet, KeepsAgreement}
+use Rattle.repl_net.proofs.{set_filters, changed_at, unchanged_at, there_at, wrote_tied, wrote_agree, load_net}
 use Rattle.repl_net.proofs.along.load_at.Goals as goal
 
 pub returns-in-Ok-clause-ok : goal.returns-in-Ok-clause-ok

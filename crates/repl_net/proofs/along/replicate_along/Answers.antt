@@ -1,9 +1,6 @@
-use Rattle.std.proofs.Common.{◌+◌, Err, sym, ap, ◌∙◌, subst}
-use Rattle.std.proofs.lemmas.Result.{err_from_is_err_and}
-use Rattle.repl_net.specs.Nets.{peers_of}
-use Rattle.repl_net.specs.Taken.{TakesHops}
-use Rattle.repl_net.proofs.Hops.{all_spread}
-use Rattle.repl_net.proofs.Places.{hops_next, hops_all, takes_next, takes_refused, takes_all}
+use Rattle.proof_words.proofs.{◌+◌, Err, sym, ap, ◌∙◌, subst, err_from_is_err_and}
+use Rattle.repl_net.specs.{peers_of, TakesHops}
+use Rattle.repl_net.proofs.{all_spread, hops_next, hops_all, takes_next, takes_refused, takes_all}
 use Rattle.repl_net.proofs.along.replicate_along.Goals as goal
 
 pub returns-clause-spread : goal.returns-clause-spread

@@ -1,9 +1,7 @@
-use Rattle.std.proofs.Common.{◌≡◌, List, drop}
-use Rattle.repl_peer.specs.peer.Peer.{PeerValue}
-use Rattle.repl_net.specs.Nets.{peers_of, filters_of, AreTied, IsNet}
-use Rattle.repl_net.specs.Hopped.{AllHopped, AllLawful}
-use Rattle.repl_net.specs.Made.{StaysMade}
-use Rattle.repl_net.proofs.Places.{IsOnTheWay}
+use Rattle.proof_words.proofs.{◌≡◌, List, drop}
+use Rattle.repl_peer.specs.{PeerValue}
+use Rattle.repl_net.specs.{peers_of, filters_of, AreTied, IsNet, AllHopped, AllLawful, StaysMade}
+use Rattle.repl_net.proofs.{IsOnTheWay}
 use Rattle.repl_net.proofs.along.replicate_along.Given as goal
 
 -- what the hops that are left make of the peers is what all make of them as they were

@@ -1,4 +1,4 @@
-use Rattle.repl_target.proofs.lemmas.replication.BothWays.{replicates_leaves}
+use Rattle.repl_target.proofs.{replicates_leaves}
 use Rattle.repl_net.proofs.along.replicate_two.Goals as goal
 
 pub returns-clause-carried : goal.returns-clause-carried

@@ -1,9 +1,6 @@
-use Rattle.std.proofs.Common.{arith}
-use Rattle.repl_net.specs.Nets.{peers_of}
-use Rattle.repl_net.proofs.Hops.{hop_tied}
-use Rattle.repl_net.proofs.Closed.{hop_net}
-use Rattle.repl_net.proofs.Makes.{hop_made}
-use Rattle.repl_net.specs.Taken.{no_source, no_target, one_place, refused, taken}
+use Rattle.proof_words.proofs.{arith}
+use Rattle.repl_net.specs.{peers_of, no_source, no_target, one_place, refused, taken}
+use Rattle.repl_net.proofs.{hop_tied, hop_net, hop_made}
 use Rattle.repl_net.proofs.along.take_hop.Goals as goal
 
 pub returns-in-Ok-clause-tied : goal.returns-in-Ok-clause-tied

@@ -1,6 +1,6 @@
-use Rattle.std.proofs.Common.{◌+◌, [], ◌∷◌, ◌++◌, ap, ◌∙◌}
-use Rattle.repl_net.specs.Hubs.{gathers}
-use Rattle.repl_net.proofs.Chains.{gathers_next, spreads_next}
+use Rattle.proof_words.proofs.{◌+◌, [], ◌∷◌, ◌++◌, ap, ◌∙◌}
+use Rattle.repl_net.specs.{gathers}
+use Rattle.repl_net.proofs.{gathers_next, spreads_next}
 use Rattle.repl_net.proofs.hub.hub_hops.Goals as goal
 
 pub loop-plan-preserved : goal.loop-plan-preserved

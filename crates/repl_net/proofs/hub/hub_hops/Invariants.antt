@@ -1,5 +1,5 @@
-use Rattle.std.proofs.Common.{◌≡◌, ◌++◌, take}
-use Rattle.repl_net.specs.Hubs.{gathers, spreads}
+use Rattle.proof_words.proofs.{◌≡◌, ◌++◌, take}
+use Rattle.repl_net.specs.{gathers, spreads}
 use Rattle.repl_net.proofs.hub.hub_hops.Given as goal
 
 -- the hops of the plans so far

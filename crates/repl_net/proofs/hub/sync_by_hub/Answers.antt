@@ -1,9 +1,6 @@
-use Rattle.std.proofs.Common.{◌≡◌, ◌+◌, length, ◌∙◌, subst, inr, arith}
-use Rattle.std.proofs.lemmas.List.{length-map}
-use Rattle.std.proofs.lemmas.Result.{on_ok_weaker}
-use Rattle.repl_net.specs.Nets.{peers_of}
-use Rattle.repl_net.specs.Taken.{TakesHops}
-use Rattle.repl_net.proofs.Chains.{hub_spread}
+use Rattle.proof_words.proofs.{◌≡◌, ◌+◌, length, ◌∙◌, subst, inr, arith, length-map, on_ok_weaker}
+use Rattle.repl_net.specs.{peers_of, TakesHops}
+use Rattle.repl_net.proofs.{hub_spread}
 use Rattle.repl_net.proofs.hub.sync_by_hub.Goals as goal
 
 pub returns-clause-same : goal.returns-clause-same

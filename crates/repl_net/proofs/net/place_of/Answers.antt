@@ -1,6 +1,6 @@
-use Rattle.std.proofs.Common.{◌≡◌, ◌≢◌, get_or, sym, ap, ◌∙◌}
-use Rattle.couch_base.specs.Database.{DatabaseValue}
-use Rattle.repl_net.proofs.Places.{each_more, each_all, there_at}
+use Rattle.proof_words.proofs.{◌≡◌, ◌≢◌, get_or, sym, ap, ◌∙◌}
+use Rattle.couch_base.specs.{DatabaseValue}
+use Rattle.repl_net.proofs.{each_more, each_all, there_at}
 use Rattle.repl_net.proofs.net.place_of.Goals as goal
 
 pub loop-place-preserved : goal.loop-place-preserved

@@ -1,6 +1,6 @@
-use Rattle.std.proofs.Common.{◌≢◌, ℕ, ◌<◌}
-use Rattle.repl_peer.specs.peer.Peer.{PeerValue}
-use Rattle.repl_net.specs.Nets.{peers_of, IsAt}
+use Rattle.proof_words.proofs.{◌≢◌, ℕ, ◌<◌}
+use Rattle.repl_peer.specs.{PeerValue}
+use Rattle.repl_net.specs.{peers_of, IsAt}
 use Rattle.repl_net.proofs.net.place_of.Given as goal
 
 -- none of those so far has it

@@ -1,22 +1,10 @@
 -- The log of a replication, as the table of sessions says it.
-use Rattle.std.proofs.Common.{◌≡◌, ℕ, zero, suc, ◌+◌, ◌==◌, ◌||◌, true, false, List, [], ◌∷◌, ◌++◌, map, filter, take, Some, refl, sym, ap, ◌∙◌, subst}
-use Rattle.std.specs.List.{slice_get, list_any, IsDistinct, AllByRecursion}
-use Rattle.std.specs.Map.{keys_of}
-use Rattle.std.proofs.lemmas.Bool.{cond_both, cond-true, cond-false}
-use Rattle.std.proofs.lemmas.List.{take_more}
-use Rattle.std.proofs.lemmas.Option.{slice_get_within, get_or_from_slice_get}
-use Rattle.std.proofs.lemmas.Grind.{reverse_onto}
-use Rattle.rev_tree.specs.declared.origin.SessionId.{SessionId}
-use Rattle.couch_base.specs.ListLaws.{some_is, none_some, none_append, both_false}
+use Rattle.proof_words.proofs.{◌≡◌, ℕ, zero, suc, ◌+◌, ◌==◌, ◌||◌, true, false, List, [], ◌∷◌, ◌++◌, map, filter, take, Some, refl, sym, ap, ◌∙◌, subst, slice_get, list_any, IsDistinct, AllByRecursion, keys_of, cond_both, cond-true, cond-false, take_more, slice_get_within, get_or_from_slice_get, reverse_onto}
+use Rattle.rev_tree.specs.{SessionId}
+use Rattle.couch_base.specs.{some_is, none_some, none_append, both_false}
 use Rattle.repl_log.specs.declared.replication.RepId.{RepId}
-use Rattle.repl_log.specs.Entry.{EntryValue}
-use Rattle.repl_log.specs.Log.{holds, replaced, with_entry}
-use Rattle.repl_log.specs.RepId.{same_rep}
-use Rattle.repl_peer.specs.peer.Peer.{SessionValue, is_of, entry_of}
-use Rattle.repl_peer.specs.session.StoredSessions.{sessions_of}
-use Rattle.repl_peer.specs.logs.Logs.{log_of}
-use Rattle.repl_log.specs.Stored.{at_session, IsKeyed}
-use Rattle.repl_log.specs.StoredLaws.{EachSessionOnce, newest_first-push}
+use Rattle.repl_log.specs.{EntryValue, holds, replaced, with_entry, same_rep, at_session, IsKeyed, EachSessionOnce, newest_first-push}
+use Rattle.repl_peer.specs.{SessionValue, is_of, entry_of, sessions_of, log_of}
 use Rattle.repl_peer.proofs.lemmas.session.SessionTable.{Entries, id_of, itself}
 
 sessions_of-cons : (e : SessionId × SessionValue) (es : Entries) → sessions_of (e ∷ es) ≡ sessions_of es ++ e.1 ∷ []

@@ -1,15 +1,10 @@
 -- Putting an entry changes nothing but the outgoing logs.
-use Rattle.std.proofs.Common.{Bool, List, Result, Ok, Err, refl}
+use Rattle.proof_words.proofs.{Bool, List, Result, Ok, Err, refl}
 use Rattle.doc_json.specs.Document.{Document}
-use Rattle.couch_base.specs.WriteLaws.{IsLater-same}
+use Rattle.couch_base.specs.{IsLater-same}
 use Rattle.repl_log.specs.declared.replication.RepId.{RepId}
-use Rattle.repl_log.specs.Entry.{EntryValue}
-use Rattle.repl_peer.specs.peer.Peer.{PeerValue}
-use Rattle.repl_peer.specs.peer.Law.{Lawful, LawfulSessions}
-use Rattle.repl_peer.specs.peer.Later.{IsLaterPeer}
-use Rattle.repl_peer.specs.peer.Origins.{HasOrigins}
-use Rattle.repl_peer.specs.logs.Logs.{put_by, put_entry_answer, after_put_entry}
-use Rattle.repl_peer.specs.declared.fault.TargetFault.{TargetFault}
+use Rattle.repl_log.specs.{EntryValue}
+use Rattle.repl_peer.specs.{PeerValue, Lawful, LawfulSessions, IsLaterPeer, HasOrigins, put_by, put_entry_answer, after_put_entry, TargetFault}
 use Rattle.repl_peer.proofs.lemmas.peer.LaterPeers.{Keeps-same, IsLaterPeer-same, lawful-later}
 use Rattle.repl_peer.proofs.lemmas.peer.CallsKeepOrigins.{stands_from, has_from, stands_same}
 

@@ -1,31 +1,14 @@
 -- What loading, editing and beginning keep: the peer's law, and all that covers.
-use Rattle.std.proofs.Common.{◌≡◌, ◌⊎◌, ℕ, ◌<◌, ◌≤◌, ◌^◌, ◌==◌, List, [], ◌∷◌, ◌++◌, Bool, false, ◌&&◌, Option, Some, None, Result, Ok, Err, refl, sym, ap, subst, inl, inr, arith, eqb, nat_lt}
-use Rattle.std.specs.List.{slice_get, IsDistinct, AllByRecursion}
-use Rattle.std.proofs.lemmas.Bool.{and_parts, cond_both, eqb-true, eqb-false, ltb-false, or_parts, ne_eqb}
-use Rattle.std.proofs.lemmas.Map.Keys.{IsDistinct-cons}
-use Rattle.rev_core.specs.Rev.{RevId}
-use Rattle.rev_tree.specs.declared.origin.SessionId.{SessionId}
+use Rattle.proof_words.proofs.{◌≡◌, ◌⊎◌, ℕ, ◌<◌, ◌≤◌, ◌^◌, ◌==◌, List, [], ◌∷◌, ◌++◌, Bool, false, ◌&&◌, Option, Some, None, Result, Ok, Err, refl, sym, ap, subst, inl, inr, arith, eqb, nat_lt, slice_get, IsDistinct, AllByRecursion, and_parts, cond_both, eqb-true, eqb-false, ltb-false, or_parts, ne_eqb, IsDistinct-cons}
+use Rattle.rev_core.specs.{RevId}
+use Rattle.rev_tree.specs.{SessionId}
 use Rattle.doc_json.specs.Document.{Document}
-use Rattle.couch_base.specs.Lists.{Among}
-use Rattle.couch_base.specs.Database.{Id}
-use Rattle.couch_base.specs.Put.{put_answer, is_changed}
-use Rattle.couch_base.specs.Edit.{edited, edit_document}
-use Rattle.couch_base.specs.declared.fault.BaseFault.{BaseFault}
-use Rattle.couch_base.specs.WriteLaws.{IsLater-same, IsLater-after_put}
-use Rattle.range_front.specs.FrontLaws.{IsFront-no_windows}
+use Rattle.couch_base.specs.{Among, Id, put_answer, is_changed, edited, edit_document, BaseFault, IsLater-same, IsLater-after_put, found_member, at-append}
+use Rattle.range_front.specs.{IsFront-no_windows}
 use Rattle.repl_log.specs.declared.replication.RepId.{RepId}
-use Rattle.repl_peer.specs.declared.fault.TargetFault.{TargetFault}
+use Rattle.repl_peer.specs.{TargetFault, PeerValue, SessionValue, WrittenValue, new_peer_at, written_of, is_of, holds, next_local, after_load, load_edited, after_edit, start_answer, base_in, on_base, base_answer, goal_answer, begin_answer, new_session, begun, after_begin, LawfulSession, LawfulSessions, session_numbers, IsLaterPeer, Beginning}
 use Rattle.repl_peer.specs.declared.fault.TargetFault.TheVariants as faults
-use Rattle.repl_log.specs.RepId.{same_rep}
-use Rattle.repl_log.specs.RepIdLaws.{same_rep-is}
-use Rattle.repl_peer.specs.peer.Peer.{PeerValue, SessionValue, WrittenValue, new_peer_at, written_of, is_of, holds}
-use Rattle.repl_peer.specs.peer.Writing.{next_local, after_load, load_edited, after_edit}
-use Rattle.repl_peer.specs.session.Sessions.{start_answer, base_in, on_base, base_answer, goal_answer, begin_answer, new_session, begun, after_begin}
-use Rattle.repl_peer.specs.peer.Law.{LawfulSession, LawfulSessions, session_numbers}
-use Rattle.repl_peer.specs.peer.Later.{IsLaterPeer}
-use Rattle.repl_peer.specs.declared.session.beginning.Beginning.{Beginning}
-use Rattle.repl_log.specs.StoredLaws.{same_id}
-use Rattle.couch_base.specs.MemberLaws.{found_member, at-append}
+use Rattle.repl_log.specs.{same_rep, same_rep-is, same_id}
 use Rattle.repl_peer.proofs.lemmas.peer.LaterPeers.{Keeps-same, IsLaterPeer-same, lawful-later}
 
 -- ---- a peer as it begins

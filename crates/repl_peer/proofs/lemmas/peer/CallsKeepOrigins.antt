@@ -1,39 +1,12 @@
 -- Every revision of a peer has an origin, whatever is called.
-use Rattle.std.proofs.Common.{◌≡◌, ◌⊎◌, ℕ, ◌<◌, ◌^◌, List, [], ◌∷◌, ◌++◌, Bool, true, false, cond, ◌||◌, Option, Some, None, is_some, unwrap_or, Result, Ok, Err, map, length, refl, sym, ap, ◌∙◌, subst, inl, inr}
-use Rattle.std.specs.List.{slice_get, list_any}
-use Rattle.std.specs.FinMap.{get, find, get-empty}
-use Rattle.std.specs.Ordering.{eq_by_cmp}
-use Rattle.std.specs.Str.{bytes_eq}
-use Rattle.std.proofs.lemmas.Bool.{cond_both, cond-true, false≢true}
-use Rattle.std.proofs.lemmas.Slice.Eq.{bytes_eq-Decides}
-use Rattle.rev_core.specs.Rev.{RevId, rev_cmp}
-use Rattle.rev_core.specs.Ancestry.{is_among}
-use Rattle.rev_tree.specs.Tree.{TreeValue, merged, no_revisions}
-use Rattle.rev_tree.specs.TreeLaws.{find-among, get-joined, some_or}
-use Rattle.rev_tree.specs.declared.origin.Origin.{Origin}
+use Rattle.proof_words.proofs.{◌≡◌, ◌⊎◌, ℕ, ◌<◌, ◌^◌, List, [], ◌∷◌, ◌++◌, Bool, true, false, cond, ◌||◌, Option, Some, None, is_some, unwrap_or, Result, Ok, Err, map, length, refl, sym, ap, ◌∙◌, subst, inl, inr, slice_get, list_any, get, get-empty, eq_by_cmp, bytes_eq, cond_both, cond-true, false≢true, bytes_eq-Decides}
+use Rattle.std.specs.FinMap.{find}
+use Rattle.rev_core.specs.{RevId, rev_cmp, is_among}
+use Rattle.rev_tree.specs.{TreeValue, merged, no_revisions, find-among, get-joined, some_or, Origin, SessionId}
 use Rattle.rev_tree.specs.declared.origin.Origin.TheVariants.{Local, Feed}
-use Rattle.rev_tree.specs.declared.origin.SessionId.{SessionId}
 use Rattle.doc_json.specs.Document.{Document}
-use Rattle.couch_base.specs.Lists.{Among}
-use Rattle.couch_base.specs.ListLaws.{some_is, none_some}
-use Rattle.couch_base.specs.Database.{Id, DatabaseValue, tree_in, tree_of, with_tree}
-use Rattle.couch_base.specs.Edit.{edited, edit_document}
-use Rattle.couch_base.specs.Feed.{RowValue, WindowValue, IsWindow}
-use Rattle.couch_base.specs.Messages.{ParcelValue}
-use Rattle.couch_base.specs.Put.{put_answer, is_changed, after_put, content_of}
-use Rattle.couch_base.specs.WriteLaws.{tree_in-with_tree}
-use Rattle.couch_base.specs.declared.fault.BaseFault.{BaseFault}
-use Rattle.repl_peer.specs.declared.fault.Settled.{Settled}
-use Rattle.repl_peer.specs.declared.fault.TargetFault.{TargetFault}
-use Rattle.repl_peer.specs.peer.Peer.{PeerValue, SessionValue, new_peer_at, written_of}
-use Rattle.repl_peer.specs.peer.Writing.{next_local, after_load, load_edited, after_edit}
-use Rattle.repl_peer.specs.session.Sessions.{begin_answer, new_session, begun, after_begin, after_append, after_record, after_conclude}
-use Rattle.repl_peer.specs.session.Settling.{seq_in, fed, with_arrival, has_row, with_settling, SettleGives}
-use Rattle.repl_peer.specs.peer.Law.{Lawful}
-use Rattle.repl_peer.specs.peer.Later.{IsLaterPeer}
-use Rattle.repl_peer.specs.peer.Origins.{ComesFrom, HasOrigins}
-use Rattle.repl_peer.specs.declared.session.beginning.Beginning.{Beginning}
-use Rattle.couch_base.specs.MemberLaws.{Among-last, at-end}
+use Rattle.couch_base.specs.{Among, some_is, none_some, Id, DatabaseValue, tree_in, tree_of, with_tree, edited, edit_document, RowValue, WindowValue, IsWindow, ParcelValue, put_answer, is_changed, after_put, content_of, tree_in-with_tree, BaseFault, Among-last, at-end}
+use Rattle.repl_peer.specs.{Settled, TargetFault, PeerValue, SessionValue, new_peer_at, written_of, next_local, after_load, load_edited, after_edit, begin_answer, new_session, begun, after_begin, after_append, after_record, after_conclude, seq_in, fed, with_arrival, has_row, with_settling, SettleGives, Lawful, IsLaterPeer, ComesFrom, HasOrigins, Beginning}
 use Rattle.repl_peer.proofs.lemmas.peer.LaterPeers.{with_session_holds}
 use Rattle.repl_peer.proofs.lemmas.peer.CallsKeepLaw.{load_later, begin_later}
 use Rattle.repl_peer.proofs.lemmas.session.Changes.{Change, Arrived, after_change, Source, May, KeptByChanges, settle_ends, ends_keep, append_keep, record_keep, conclude_keep}

@@ -1,28 +1,12 @@
 -- What a local edit answers and notes: its signature is short, and it is the next local write.
-use Rattle.std.specs.Prelude.{◌≡◌, ◌+◌, ◌∷◌, ◌++◌, [], ℕ, Bool, true, false, List, Option, Some, None, Result, Ok, Err, is_ok, nat_le, nat_lt, ◌^◌, refl}
-use Rattle.std.proofs.Common.{ap, sym, ◌∙◌, cond, subst, arith}
-use Rattle.std.proofs.lemmas.Bool.{false≢true}
-use Rattle.std.specs.Result.{result_unwrap_or}
-use Rattle.rev_core.specs.Rev.{RevId}
-use Rattle.rev_core.specs.Ancestry.{FallsByOne}
-use Rattle.rev_core.specs.NewRev.{next_generation, edit_rev, edit_sig}
+use Rattle.proof_words.proofs.{◌≡◌, ◌+◌, ◌∷◌, ◌++◌, [], ℕ, Bool, true, false, List, Option, Some, None, Result, Ok, Err, is_ok, nat_le, nat_lt, ◌^◌, refl, ap, sym, ◌∙◌, cond, subst, arith, false≢true, result_unwrap_or, list_all, option_to_list, cond-true}
+use Rattle.rev_core.specs.{RevId, FallsByOne, next_generation, edit_rev, edit_sig, is_short, ◌>>=◌, refused_if, named}
 use Rattle.rev_core.specs.declared.fault.RevFault.TheVariants as rev_faults
-use Rattle.rev_core.specs.ShortSig.{is_short}
-use Rattle.rev_core.proofs.ShortEdits.{is_short-edit_rev}
-use Rattle.rev_core.specs.Checks.{◌>>=◌, refused_if, named}
-use Rattle.std.specs.List.{list_all}
-use Rattle.std.specs.Option.{option_to_list}
-use Rattle.std.proofs.lemmas.Bool.{cond-true}
-use Rattle.rev_tree.specs.InOrder.{first_of}
-use Rattle.rev_tree.specs.Tree.{TreeValue, has, is_leaf, is_deleted, leaves}
-use Rattle.rev_tree.specs.declared.origin.Origin.{Origin}
-use Rattle.couch_base.specs.Database.{Id, DatabaseValue, tree_in, tree_of, most}
-use Rattle.couch_base.specs.Edit.{parent_answer, edit_id, edited, edit_answer, edit_document, after_edit, after_edited}
-use Rattle.couch_base.specs.Put.{put_answer, is_changed}
-use Rattle.couch_base.specs.declared.fault.BaseFault.{BaseFault}
+use Rattle.rev_core.proofs.{is_short-edit_rev}
+use Rattle.rev_tree.specs.{first_of, TreeValue, has, is_leaf, is_deleted, leaves, Origin}
+use Rattle.couch_base.specs.{Id, DatabaseValue, tree_in, tree_of, most, parent_answer, edit_id, edited, edit_answer, edit_document, after_edit, after_edited, put_answer, is_changed, BaseFault}
 use Rattle.couch_base.specs.declared.fault.BaseFault.TheVariants as base_faults
-use Rattle.repl_peer.specs.peer.Peer.{WrittenValue, written_of}
-use Rattle.repl_peer.specs.peer.Local.{with_edited, with_edit, stood_on}
+use Rattle.repl_peer.specs.{WrittenValue, written_of, with_edited, with_edit, stood_on}
 
 named_ok : {A E F : Type 0} (fault : F) (r : Result A E) (a : A) → named fault r ≡ Ok a → r ≡ Ok a
 named_ok fault (Ok x) a e = ap (λ y. Ok (result_unwrap_or y a)) e

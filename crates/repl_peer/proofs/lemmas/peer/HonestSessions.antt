@@ -1,16 +1,10 @@
 -- What a lawful peer's sessions say of themselves is so.
-use Rattle.std.proofs.Common.{◌≡◌, ℕ, ◌<◌, ◌≤◌, List, [], ◌∷◌, Bool, true, map, sym, ap, ◌∙◌, subst, inl, inr, arith}
+use Rattle.proof_words.proofs.{◌≡◌, ℕ, ◌<◌, ◌≤◌, List, [], ◌∷◌, Bool, true, map, sym, ap, ◌∙◌, subst, inl, inr, arith}
 use Rattle.doc_json.specs.Document.{Document}
-use Rattle.couch_base.specs.Lists.{Among, Rises}
-use Rattle.couch_base.specs.Feed.{RowValue, WindowValue, IsWindow}
-use Rattle.range_front.specs.Front.{is_done, low_water}
-use Rattle.range_front.specs.FrontLaws.{reached, is_window-is_done}
-use Rattle.repl_log.specs.Counts.{AddUp}
-use Rattle.repl_peer.specs.peer.Peer.{PeerValue, SessionValue}
-use Rattle.repl_peer.specs.peer.Covered.{Honest}
-use Rattle.repl_peer.specs.peer.Law.{LawfulSession, LawfulSessions}
-use Rattle.couch_base.specs.FeedLaws.{rises_le}
-use Rattle.couch_base.specs.MemberLaws.{Among-mapped, each_member}
+use Rattle.couch_base.specs.{Among, Rises, RowValue, WindowValue, IsWindow, rises_le, Among-mapped, each_member}
+use Rattle.range_front.specs.{is_done, low_water, reached, is_window-is_done}
+use Rattle.repl_log.specs.{AddUp}
+use Rattle.repl_peer.specs.{PeerValue, SessionValue, Honest, LawfulSession, LawfulSessions}
 use Rattle.repl_peer.proofs.lemmas.session.WindowsFollow.{windows-consecutive, window-above, window-stored, one_window}
 
 -- numbers that rise lie between their bounds

@@ -1,22 +1,11 @@
 -- What is kept from one moment of a peer to a later one.
-use Rattle.std.proofs.Common.{◌≡◌, ℕ, List, [], ◌∷◌, Bool, true, false, cond, ◌&&◌, Some, map, refl, sym, ap, ◌∙◌, subst, inl, inr, arith, eqb, ◌==◌}
-use Rattle.std.specs.List.{slice_get, IsDistinct}
-use Rattle.std.specs.Str.{bytes_eq}
-use Rattle.std.proofs.lemmas.Map.Keys.{IsDistinct-head, IsDistinct-tail}
-use Rattle.std.proofs.lemmas.Bool.{or_cases, or_left, or_right, cond_both, cond-true, eqb-true, eq-eqb, both_ways}
-use Rattle.rev_core.specs.Rev.{RevId}
-use Rattle.rev_core.specs.Ancestry.{edges_of, is_among}
-use Rattle.rev_tree.specs.declared.origin.SessionId.{SessionId}
+use Rattle.proof_words.proofs.{◌≡◌, ℕ, List, [], ◌∷◌, Bool, true, false, cond, ◌&&◌, Some, map, refl, sym, ap, ◌∙◌, subst, inl, inr, arith, eqb, ◌==◌, slice_get, IsDistinct, bytes_eq, IsDistinct-head, IsDistinct-tail, or_cases, or_left, or_right, cond_both, cond-true, eqb-true, eq-eqb, both_ways}
+use Rattle.rev_core.specs.{RevId, edges_of, is_among}
+use Rattle.rev_tree.specs.{SessionId}
 use Rattle.doc_json.specs.Document.{Document}
-use Rattle.couch_base.specs.Lists.{Among}
-use Rattle.couch_base.specs.Database.{Id, DatabaseValue}
-use Rattle.couch_base.specs.WriteLaws.{IsLater, IsLater-same, IsLater-later}
-use Rattle.repl_peer.specs.peer.Peer.{PeerValue, SessionValue, WrittenValue, RefusedValue, is_of, session_in, with_session}
-use Rattle.repl_peer.specs.peer.Covered.{in_ledger, covers, rightly_refused}
-use Rattle.repl_peer.specs.peer.Law.{LawfulSession, AllBased, LawfulSessions, session_numbers}
-use Rattle.repl_peer.specs.peer.Later.{Keeps, IsLaterPeer}
+use Rattle.couch_base.specs.{Among, Id, DatabaseValue, IsLater, IsLater-same, IsLater-later, Among-map, Among-mapped, any_member, any_from, each_member, found_member}
+use Rattle.repl_peer.specs.{PeerValue, SessionValue, WrittenValue, RefusedValue, is_of, session_in, with_session, in_ledger, covers, rightly_refused, LawfulSession, AllBased, LawfulSessions, session_numbers, Keeps, IsLaterPeer}
 use Rattle.repl_peer.proofs.lemmas.peer.WritesStand.{stands_later}
-use Rattle.couch_base.specs.MemberLaws.{Among-map, Among-mapped, any_member, any_from, each_member, found_member}
 
 -- ---- later sessions and later peers
 

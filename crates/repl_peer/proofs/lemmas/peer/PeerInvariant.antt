@@ -1,24 +1,12 @@
 -- What the calls keep of a peer: its law.
-use Rattle.std.proofs.Common.{◌≡◌, ℕ, ◌==◌, ◌<◌, ◌^◌, Bool, if◌then◌else◌, List, ◌∷◌, Option, Some, None, Result, Ok, Err, refl, sym, ap, ◌∙◌, subst, OnOk, OnErr}
-use Rattle.std.proofs.lemmas.Result.{on_ok_weaker, on_err_weaker}
-use Rattle.rev_core.specs.Rev.{RevId}
-use Rattle.rev_tree.specs.declared.origin.SessionId.{SessionId}
+use Rattle.proof_words.proofs.{◌≡◌, ℕ, ◌==◌, ◌<◌, ◌^◌, Bool, if◌then◌else◌, List, ◌∷◌, Option, Some, None, Result, Ok, Err, refl, sym, ap, ◌∙◌, subst, OnOk, OnErr, on_ok_weaker, on_err_weaker}
+use Rattle.rev_core.specs.{RevId}
+use Rattle.rev_tree.specs.{SessionId}
 use Rattle.doc_json.specs.Document.{Document}
-use Rattle.couch_base.specs.Database.{Id, DatabaseValue}
-use Rattle.couch_base.specs.Put.{after_put}
-use Rattle.couch_base.specs.Edit.{edited, after_edited, after_edit as database_after_edit}
-use Rattle.couch_base.specs.Feed.{WindowValue, IsWindow}
-use Rattle.couch_base.specs.declared.fault.BaseFault.{BaseFault}
+use Rattle.couch_base.specs.{Id, DatabaseValue, after_put, edited, after_edited, after_edit as database_after_edit, WindowValue, IsWindow, BaseFault}
 use Rattle.couch_base.specs.declared.fault.Put.{Put}
-use Rattle.range_front.specs.Front.{low_water}
-use Rattle.repl_peer.specs.peer.Peer.{PeerValue, SessionValue, WrittenValue, new_peer_at, session_in}
-use Rattle.repl_peer.specs.peer.Writing.{next_local, after_load, after_edit, load_edited}
-use Rattle.repl_peer.specs.session.Sessions.{GivesUnlessMemory, on_session, on_found, new_session, begin_answer, begun, after_begin, append_in, with_window, after_append, recorded_at}
-use Rattle.repl_peer.specs.peer.Local.{with_load, with_edited, with_edit}
-use Rattle.repl_peer.specs.peer.Law.{Lawful}
-use Rattle.repl_peer.specs.session.SessionCalls.{with_changed, changed}
-use Rattle.repl_peer.specs.declared.fault.TargetFault.{TargetFault}
-use Rattle.repl_peer.specs.declared.session.beginning.Beginning.{Beginning}
+use Rattle.range_front.specs.{low_water}
+use Rattle.repl_peer.specs.{PeerValue, SessionValue, WrittenValue, new_peer_at, session_in, next_local, after_load, after_edit, load_edited, GivesUnlessMemory, on_session, on_found, new_session, begin_answer, begun, after_begin, append_in, with_window, after_append, recorded_at, with_load, with_edited, with_edit, Lawful, with_changed, changed, TargetFault, Beginning}
 use Rattle.repl_peer.proofs.lemmas.peer.CallsKeepLaw.{new_law, load_law, edit_law, begin_law}
 use Rattle.repl_peer.proofs.lemmas.peer.WritesStand.{load_stands, edit_stands, begin_stands}
 use Rattle.repl_peer.proofs.lemmas.peer.CallsKeepOrigins.{new_origins, load_origins, edit_origins, begin_origins, append_lawful, record_lawful, conclude_lawful}

@@ -1,14 +1,9 @@
 -- What is refused changes nothing.
-use Rattle.std.proofs.Common.{◌≡◌, Bool, cond, List, [], ◌∷◌, Option, Some, None, Result, Ok, Err, is_ok, map, refl, sym, ap, ◌∙◌, inl, inr}
-use Rattle.std.proofs.lemmas.Bool.{cond_both, eqb-true, false≢true}
-use Rattle.rev_tree.specs.declared.origin.SessionId.{SessionId}
+use Rattle.proof_words.proofs.{◌≡◌, Bool, cond, List, [], ◌∷◌, Option, Some, None, Result, Ok, Err, is_ok, map, refl, sym, ap, ◌∙◌, inl, inr, cond_both, eqb-true, false≢true}
+use Rattle.rev_tree.specs.{SessionId}
 use Rattle.doc_json.specs.Document.{Document}
-use Rattle.couch_base.specs.Lists.{Among}
-use Rattle.couch_base.specs.Feed.{WindowValue}
-use Rattle.repl_peer.specs.peer.Peer.{PeerValue, SessionValue, is_of, session_in, with_session}
-use Rattle.repl_peer.specs.session.Sessions.{on_found, found_answer, append_in, append_answer, with_window, after_append}
-use Rattle.repl_peer.specs.peer.Law.{LawfulSessions}
-use Rattle.repl_peer.specs.declared.fault.TargetFault.{TargetFault}
+use Rattle.couch_base.specs.{Among, WindowValue}
+use Rattle.repl_peer.specs.{PeerValue, SessionValue, is_of, session_in, with_session, on_found, found_answer, append_in, append_answer, with_window, after_append, LawfulSessions, TargetFault}
 use Rattle.repl_peer.proofs.lemmas.peer.LaterPeers.{one_session, session_found}
 
 map-same : {X : Type 0} (f : X → X) (xs : List X) → ((x : X) → Among x xs → f x ≡ x) → map f xs ≡ xs

@@ -1,21 +1,11 @@
 -- A peer that is put back to an earlier copy is lawful.
-use Rattle.std.proofs.Common.{◌≡◌, ℕ, ◌≤◌, Bool, List, [], ◌∷◌, length, false, refl, sym, ap, ◌∙◌, subst, eqb, arith}
-use Rattle.std.specs.List.{slice_get, IsDistinct}
-use Rattle.std.specs.FinMap.{get}
-use Rattle.std.proofs.lemmas.Bool.{false≢true}
-use Rattle.rev_core.specs.Rev.{RevId}
-use Rattle.rev_tree.specs.Tree.{has}
-use Rattle.rev_tree.specs.declared.origin.Origin.{Origin}
+use Rattle.proof_words.proofs.{◌≡◌, ℕ, ◌≤◌, Bool, List, [], ◌∷◌, length, false, refl, sym, ap, ◌∙◌, subst, eqb, arith, slice_get, IsDistinct, get, false≢true}
+use Rattle.rev_core.specs.{RevId, FallsByOne}
+use Rattle.rev_tree.specs.{has, Origin}
 use Rattle.rev_tree.specs.declared.origin.Origin.TheVariants.{Local, Feed}
 use Rattle.doc_json.specs.Document.{Document}
-use Rattle.couch_base.specs.Lists.{Among}
-use Rattle.couch_base.specs.Database.{Id, DocumentValue, tree_of}
-use Rattle.repl_peer.specs.peer.Peer.{PeerValue, SessionValue, WrittenValue}
-use Rattle.repl_peer.specs.peer.Law.{AllBased, Lawful, session_numbers}
-use Rattle.rev_core.specs.Ancestry.{FallsByOne}
-use Rattle.repl_peer.specs.peer.Stands.{Follows, StandsIn}
-use Rattle.repl_peer.specs.peer.Origins.{ComesFrom, HasOrigins}
-use Rattle.repl_peer.specs.peer.Backups.{BackupValue, peer_of, IsBackup, is_target}
+use Rattle.couch_base.specs.{Among, Id, DocumentValue, tree_of}
+use Rattle.repl_peer.specs.{PeerValue, SessionValue, WrittenValue, AllBased, Lawful, session_numbers, Follows, StandsIn, ComesFrom, HasOrigins, BackupValue, peer_of, IsBackup, is_target}
 
 pub none_held : (sessions : List SessionValue) → is_target sessions ≡ false → sessions ≡ []
 none_held [] h = refl

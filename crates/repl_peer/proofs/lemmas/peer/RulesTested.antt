@@ -1,9 +1,7 @@
 -- What the program's filter tests.
-use Rattle.std.proofs.Common.{◌≡◌, ℕ, Bool, nat_eq, List, Some, string_bytes, ap, sym, ◌∙◌}
-use Rattle.std.specs.List.{starts_with}
+use Rattle.proof_words.proofs.{◌≡◌, ℕ, Bool, nat_eq, List, Some, string_bytes, ap, sym, ◌∙◌, starts_with}
 use Rattle.doc_json.specs.Document.{Document}
-use Rattle.repl_peer.specs.declared.peer.filter.Rules.{Rules}
-use Rattle.repl_peer.specs.peer.Rules.{rules_refuse}
+use Rattle.repl_peer.specs.{Rules, rules_refuse}
 
 -- a test of the bytes is the filter's verdict
 pub refuses-tested : (rules : Rules) (d : Document) (prefix : _) (text bytes : List ℕ) (tested expected : Bool) → rules.deny ≡ Some prefix → text ≡ d.id → bytes ≡ string_bytes prefix → tested ≡ starts_with nat_eq text bytes → tested ≡ expected → rules_refuse rules d ≡ expected

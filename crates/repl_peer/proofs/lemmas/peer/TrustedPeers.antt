@@ -1,18 +1,9 @@
 -- A lawful peer may be trusted.
-use Rattle.std.proofs.Common.{◌≡◌, Bool, true, ◌&&◌, inl, inr}
-use Rattle.std.specs.Str.{bytes_eq}
-use Rattle.std.proofs.lemmas.Bool.{or_cases, and_parts}
-use Rattle.std.proofs.lemmas.Slice.Eq.{bytes_eq-Decides}
-use Rattle.rev_core.specs.Rev.{RevId}
-use Rattle.rev_core.specs.Ancestry.{is_among}
+use Rattle.proof_words.proofs.{◌≡◌, Bool, true, ◌&&◌, inl, inr, bytes_eq, or_cases, and_parts, bytes_eq-Decides}
+use Rattle.rev_core.specs.{RevId, is_among}
 use Rattle.doc_json.specs.Document.{Document}
-use Rattle.couch_base.specs.Database.{Id}
-use Rattle.repl_peer.specs.peer.Peer.{PeerValue, SessionValue, RefusedValue}
-use Rattle.repl_peer.specs.peer.Covered.{in_ledger, covers}
-use Rattle.repl_peer.specs.peer.Law.{LawfulSessions}
-use Rattle.repl_peer.specs.peer.Origins.{HasOrigins}
-use Rattle.repl_peer.specs.peer.Trusted.{IsAccounted, IsTrusted}
-use Rattle.couch_base.specs.MemberLaws.{any_member}
+use Rattle.couch_base.specs.{Id, any_member}
+use Rattle.repl_peer.specs.{PeerValue, SessionValue, RefusedValue, in_ledger, covers, LawfulSessions, HasOrigins, IsAccounted, IsTrusted}
 use Rattle.repl_peer.proofs.lemmas.peer.HonestSessions.{honest_is, counts_are}
 
 -- what a lawful peer covers is in a tree, or was rightly refused

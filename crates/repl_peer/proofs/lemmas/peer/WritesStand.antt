@@ -1,37 +1,11 @@
 -- What is written stands in its document's tree, and stays there: an edge that is there is never changed.
-use Rattle.std.proofs.Common.{◌≡◌, ℕ, zero, suc, ◌+◌, ◌<◌, length, slice_get, List, [], ◌∷◌, ◌++◌, Bool, true, false, cond, Option, Some, None, is_some, Result, Ok, Err, unwrap_or, refl, sym, ap, ◌∙◌, subst, inl, inr, arith, nat_lt}
-use Rattle.std.specs.Ordering.{eq_by_cmp}
-use Rattle.std.specs.Option.{option_or}
-use Rattle.std.specs.Str.{bytes_eq}
-use Rattle.std.specs.FinMap.{FinMap, get, find}
-use Rattle.std.proofs.lemmas.Bool.{false≢true, cond-true}
-use Rattle.std.proofs.lemmas.Option.{same_Some}
-use Rattle.std.proofs.lemmas.Slice.Eq.{bytes_eq-Decides}
-use Rattle.rev_core.specs.Rev.{RevId, rev_cmp}
-use Rattle.rev_core.specs.RevOrder.{rev_tie_is, rev_tie_self}
-use Rattle.rev_core.specs.Ancestry.{FallsByOne, edges_of}
-use Rattle.rev_tree.specs.Tree.{TreeValue, merged, joined, is_same, answer_of, no_revisions, first_contradiction, contradiction_at}
-use Rattle.rev_tree.specs.TreeLaws.{apart, edge_found, get-joined, get-joined_known, lower_later, merged-same, no_contradiction}
-use Rattle.rev_tree.specs.declared.fault.Contradiction.{Contradiction}
-use Rattle.rev_tree.specs.declared.origin.Origin.{Origin}
-use Rattle.rev_tree.specs.declared.origin.SessionId.{SessionId}
+use Rattle.proof_words.proofs.{◌≡◌, ℕ, zero, suc, ◌+◌, ◌<◌, length, slice_get, List, [], ◌∷◌, ◌++◌, Bool, true, false, cond, Option, Some, None, is_some, Result, Ok, Err, unwrap_or, refl, sym, ap, ◌∙◌, subst, inl, inr, arith, nat_lt, eq_by_cmp, option_or, bytes_eq, FinMap, get, false≢true, cond-true, same_Some, bytes_eq-Decides}
+use Rattle.std.specs.FinMap.{find}
+use Rattle.rev_core.specs.{RevId, rev_cmp, rev_tie_is, rev_tie_self, FallsByOne, edges_of}
+use Rattle.rev_tree.specs.{TreeValue, merged, joined, is_same, answer_of, no_revisions, first_contradiction, contradiction_at, apart, edge_found, get-joined, get-joined_known, lower_later, merged-same, no_contradiction, Contradiction, Origin, SessionId}
 use Rattle.doc_json.specs.Document.{Document}
-use Rattle.couch_base.specs.Lists.{Among}
-use Rattle.couch_base.specs.ListLaws.{none_some}
-use Rattle.couch_base.specs.MemberLaws.{Among-push}
-use Rattle.couch_base.specs.Database.{Id, DatabaseValue, tree_in, tree_of, with_tree, most}
-use Rattle.couch_base.specs.Put.{put_told, put_answer, is_changed, after_put, content_of}
-use Rattle.couch_base.specs.Edit.{edited, edit_document}
-use Rattle.couch_base.specs.WriteLaws.{IsLater, IsLater-after_put, tree_in-with_tree}
-use Rattle.couch_base.specs.declared.fault.BaseFault.{BaseFault}
-use Rattle.repl_peer.specs.peer.Peer.{PeerValue, SessionValue, WrittenValue, written_of}
-use Rattle.repl_peer.specs.peer.Covered.{contradiction_of}
-use Rattle.repl_peer.specs.peer.Stands.{Follows, StandsIn}
-use Rattle.repl_peer.specs.peer.Writing.{next_local, after_load, load_edited, after_edit}
-use Rattle.repl_peer.specs.session.Sessions.{new_session, begin_answer, begun, after_begin}
-use Rattle.repl_peer.specs.session.Settling.{is_full}
-use Rattle.repl_peer.specs.declared.session.beginning.Beginning.{Beginning}
-use Rattle.repl_peer.specs.declared.fault.TargetFault.{TargetFault}
+use Rattle.couch_base.specs.{Among, none_some, Among-push, Id, DatabaseValue, tree_in, tree_of, with_tree, most, put_told, put_answer, is_changed, after_put, content_of, edited, edit_document, IsLater, IsLater-after_put, tree_in-with_tree, BaseFault}
+use Rattle.repl_peer.specs.{PeerValue, SessionValue, WrittenValue, written_of, contradiction_of, Follows, StandsIn, next_local, after_load, load_edited, after_edit, new_session, begin_answer, begun, after_begin, is_full, Beginning, TargetFault}
 
 -- ---- an edge stays
 

@@ -1,18 +1,9 @@
 -- Adding revisions to the index.
-use Rattle.std.proofs.Common.{◌≡◌, ℕ, ◌+◌, ◌<◌, Bool, true, false, ◌||◌, List, [], ◌∷◌, ◌++◌, length, take, get_or, cond, ◌&&◌, Option, Some, None, refl, subst, sym, ap, ◌∙◌}
-use Rattle.std.proofs.Math.Bool.{or-false, or_assoc}
-use Rattle.std.proofs.lemmas.Bool.{cond_both, or_right}
-use Rattle.std.proofs.lemmas.List.Folds.{list_any-append, list_any_more}
-use Rattle.std.specs.Ordering.{eq_by_cmp}
-use Rattle.rev_core.specs.Rev.{RevId, rev_cmp}
-use Rattle.rev_core.specs.RevOrder.{rev_tie_is}
-use Rattle.rev_core.specs.Ancestry.{is_among}
+use Rattle.proof_words.proofs.{◌≡◌, ℕ, ◌+◌, ◌<◌, Bool, true, false, ◌||◌, List, [], ◌∷◌, ◌++◌, length, take, get_or, cond, ◌&&◌, Option, Some, None, refl, subst, sym, ap, ◌∙◌, or-false, or_assoc, cond_both, or_right, list_any-append, list_any_more, eq_by_cmp, option_map_or, bytes_eq, bytes_eq-Decides}
+use Rattle.rev_core.specs.{RevId, rev_cmp, rev_tie_is, is_among}
 use Rattle.indexmap.specs.IndexSet.{insert_key}
 use Rattle.std.specs.HashSet.{HashSet}
-use Rattle.std.specs.Option.{option_map_or}
-use Rattle.std.specs.Str.{bytes_eq}
-use Rattle.std.proofs.lemmas.Slice.Eq.{bytes_eq-Decides}
-use Rattle.couch_base.specs.Database.{Id}
+use Rattle.couch_base.specs.{Id}
 
 pub or_held : (a b : Bool) → (a ≡ true → b ≡ true) → (b || a) ≡ b
 or_held true b h = or_right b true refl ∙ sym (h refl)

@@ -1,13 +1,8 @@
 -- What the index of replications has after a session was added.
-use Rattle.std.proofs.Common.{◌≡◌, Bool, true, false, cond, List, [], ◌∷◌, ◌++◌, Option, Some, None, refl, sym, ap, ◌∙◌}
-use Rattle.std.specs.Cmp.{IsEquivalence}
-use Rattle.std.specs.Option.{option_map_or}
-use Rattle.std.specs.Map.{lookup, set_value}
-use Rattle.std.proofs.lemmas.Map.{lookup-set_value}
-use Rattle.rev_tree.specs.declared.origin.SessionId.{SessionId}
+use Rattle.proof_words.proofs.{◌≡◌, Bool, true, false, cond, List, [], ◌∷◌, ◌++◌, Option, Some, None, refl, sym, ap, ◌∙◌, IsEquivalence, option_map_or, lookup, set_value, lookup-set_value}
+use Rattle.rev_tree.specs.{SessionId}
 use Rattle.repl_log.specs.declared.replication.RepId.{RepId}
-use Rattle.repl_log.specs.RepId.{same_rep}
-use Rattle.repl_log.specs.RepIdLaws.{same_rep-is, same_rep-self}
+use Rattle.repl_log.specs.{same_rep, same_rep-is, same_rep-self}
 
 same_both : (x y : RepId) (a b : Bool) → same_rep x y ≡ a → same_rep y x ≡ b → a ≡ b
 same_both x y true true e f = refl

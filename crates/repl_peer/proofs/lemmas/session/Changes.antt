@@ -1,28 +1,12 @@
 -- A peer's sessions change by small changes: what each of them keeps, the calls keep.
-use Rattle.std.proofs.Common.{◌≡◌, ◌⊎◌, ℕ, zero, suc, ◌≤◌, ◌==◌, nat_lt, List, [], ◌∷◌, Bool, true, false, cond, ◌&&◌, ◌||◌, Option, Some, None, is_some, Result, Ok, Err, take, length, refl, sym, ap, ◌∙◌, subst, inl, inr}
-use Rattle.std.specs.List.{list_all}
-use Rattle.std.specs.Option.{option_map}
-use Rattle.std.proofs.lemmas.Bool.{and_parts, cond_both, cond-true, eqb-true, eq-eqb, ltb-false}
-use Rattle.rev_tree.specs.declared.fault.Contradiction.{Contradiction}
-use Rattle.rev_tree.specs.declared.origin.SessionId.{SessionId}
+use Rattle.proof_words.proofs.{◌≡◌, ◌⊎◌, ℕ, zero, suc, ◌≤◌, ◌==◌, nat_lt, List, [], ◌∷◌, Bool, true, false, cond, ◌&&◌, ◌||◌, Option, Some, None, is_some, Result, Ok, Err, take, length, refl, sym, ap, ◌∙◌, subst, inl, inr, list_all, option_map, and_parts, cond_both, cond-true, eqb-true, eq-eqb, ltb-false}
+use Rattle.rev_tree.specs.{Contradiction, SessionId}
 use Rattle.doc_json.specs.Document.{Document}
-use Rattle.couch_base.specs.Lists.{Among}
-use Rattle.couch_base.specs.ListLaws.{none_some}
-use Rattle.couch_base.specs.Database.{DatabaseValue}
-use Rattle.couch_base.specs.Feed.{WindowValue}
-use Rattle.couch_base.specs.Messages.{ParcelValue}
-use Rattle.couch_base.specs.Put.{put_answer, after_put}
-use Rattle.couch_base.specs.MemberLaws.{all_member, found_member}
-use Rattle.range_front.specs.Front.{is_done, end_of, low_water}
-use Rattle.repl_peer.specs.declared.fault.Reason.{Reason}
+use Rattle.couch_base.specs.{Among, none_some, DatabaseValue, WindowValue, ParcelValue, put_answer, after_put, all_member, found_member}
+use Rattle.range_front.specs.{is_done, end_of, low_water}
+use Rattle.repl_peer.specs.{Reason, Settled, TargetFault, PeerValue, SessionValue, is_of, session_in, with_session, contradiction_of, refusal_of, rightly_refused, covers, knows_row, covers_window, CoversWindow, on_found, on_session, found_answer, next_in, append_in, with_window, after_append, recorded_at, after_record, after_conclude, Settling, fed, with_refused, with_arrival, is_full, settle_as, settle_one, settle_docs, settled_before, has_row, window_in, settle_at, settle_check, with_settling, settling_of, after_documents, with_done, marked, after_all, after_front, after_stop, settled_at, after_settle, SettlesAt, Settles, SettleGives}
 use Rattle.repl_peer.specs.declared.fault.Reason.TheVariants as reasons
-use Rattle.repl_peer.specs.declared.fault.Settled.{Settled}
-use Rattle.repl_peer.specs.declared.fault.TargetFault.{TargetFault}
 use Rattle.repl_peer.specs.declared.fault.TargetFault.TheVariants as faults
-use Rattle.repl_peer.specs.peer.Peer.{PeerValue, SessionValue, is_of, session_in, with_session}
-use Rattle.repl_peer.specs.peer.Covered.{contradiction_of, refusal_of, rightly_refused, covers, knows_row, covers_window, CoversWindow}
-use Rattle.repl_peer.specs.session.Sessions.{on_found, on_session, found_answer, next_in, append_in, with_window, after_append, recorded_at, after_record, after_conclude}
-use Rattle.repl_peer.specs.session.Settling.{Settling, fed, with_refused, with_arrival, is_full, settle_as, settle_one, settle_docs, settled_before, has_row, window_in, settle_at, settle_check, with_settling, settling_of, after_documents, with_done, marked, after_all, after_front, after_stop, settled_at, after_settle, SettlesAt, Settles, SettleGives}
 use Rattle.repl_peer.proofs.lemmas.peer.LaterPeers.{session_found, with_session_holds}
 use Rattle.repl_peer.proofs.lemmas.session.SettlingChecks.{passed}
 

@@ -1,16 +1,10 @@
 -- The first unknown leaf of a feed, and of its pages.
-use Rattle.std.proofs.Common.{◌≡◌, ℕ, ◌+◌, ◌<◌, Bool, true, false, cond, not, inl, inr, List, [], ◌∷◌, ◌++◌, length, drop, get_or, Option, Some, None, refl, sym, ap, ◌∙◌}
-use Rattle.std.specs.List.{find}
-use Rattle.std.specs.Option.{option_or, option_map}
-use Rattle.std.proofs.lemmas.List.{drop_more}
-use Rattle.rev_core.specs.Rev.{RevId}
-use Rattle.rev_tree.specs.TreeLaws.{both_none}
-use Rattle.doc_json.specs.Chosen.{Choice}
-use Rattle.couch_base.specs.Lists.{Among}
-use Rattle.couch_base.specs.Database.{Id, DatabaseValue, LawfulDatabase}
-use Rattle.couch_base.specs.Feed.{RowValue, chosen_feed, page}
-use Rattle.repl_peer.specs.peer.Covered.{Leaf, unknown_in, first_unknown}
-use Rattle.couch_base.specs.FeedLaws.{feed-page}
+use Rattle.proof_words.proofs.{◌≡◌, ℕ, ◌+◌, ◌<◌, Bool, true, false, cond, not, inl, inr, List, [], ◌∷◌, ◌++◌, length, drop, get_or, Option, Some, None, refl, sym, ap, ◌∙◌, find, option_or, option_map, drop_more}
+use Rattle.rev_core.specs.{RevId}
+use Rattle.rev_tree.specs.{both_none}
+use Rattle.doc_json.specs.{Choice}
+use Rattle.couch_base.specs.{Among, Id, DatabaseValue, LawfulDatabase, RowValue, chosen_feed, page, feed-page}
+use Rattle.repl_peer.specs.{Leaf, unknown_in, first_unknown}
 
 -- ---- the first unknown leaf
 

@@ -1,16 +1,7 @@
 -- Rows, one after another.
-use Rattle.std.proofs.Common.{◌≡◌, ℕ, ◌+◌, ◌<◌, Bool, true, false, ◌&&◌, ◌||◌, List, [], ◌∷◌, ◌++◌, length, map, take, drop, get_or, Option, Some, None, slice_get, IfNone, sym, ap, ◌∙◌, zero, suc}
-use Rattle.std.proofs.lemmas.Bool.{cond-true, cond-false, and_parts}
-use Rattle.std.proofs.lemmas.List.{drop_more, take-append-drop}
-use Rattle.std.proofs.lemmas.List.Folds.{list_any-append, list_all-append}
-use Rattle.std.specs.List.{list_any, list_all}
-use Rattle.std.specs.Str.{bytes_eq}
-use Rattle.std.proofs.lemmas.Slice.Eq.{bytes_eq-Decides}
-use Rattle.couch_base.specs.Lists.{EachOnce}
-use Rattle.repl_peer.specs.session.Settling.{seq_in}
-use Rattle.couch_base.specs.Database.{Id}
-use Rattle.couch_base.specs.Feed.{RowValue}
-use Rattle.couch_base.specs.ListLaws.{none_some, some_is, both_false}
+use Rattle.proof_words.proofs.{◌≡◌, ℕ, ◌+◌, ◌<◌, Bool, true, false, ◌&&◌, ◌||◌, List, [], ◌∷◌, ◌++◌, length, map, take, drop, get_or, Option, Some, None, slice_get, IfNone, sym, ap, ◌∙◌, zero, suc, cond-true, cond-false, and_parts, drop_more, take-append-drop, list_any-append, list_all-append, list_any, list_all, bytes_eq, bytes_eq-Decides}
+use Rattle.couch_base.specs.{EachOnce, Id, RowValue, none_some, some_is, both_false}
+use Rattle.repl_peer.specs.{seq_in}
 
 pub next_of : {X : Type 0} (xs : List X) (i : ℕ) (x : X) → i < length xs → x ≡ get_or xs i x → drop i xs ≡ x ∷ drop (i + 1) xs
 next_of xs i x h is = drop_more xs i x h ∙ ap (λ y. y ∷ drop (i + 1) xs) (sym is)

@@ -1,27 +1,10 @@
 -- The index of the sessions by their replications.
-use Rattle.std.proofs.Common.{◌≡◌, ℕ, ◌-◌, ◌<◌, ◌≤◌, true, false, cond, List, [], ◌∷◌, ◌++◌, map, filter, reverse, length, Option, Some, None, refl, sym, ap, ◌∙◌, subst, inl, inr, arith, get_or}
-use Rattle.std.specs.List.{slice_get, AllByRecursion, IsDistinct}
-use Rattle.std.specs.Option.{option_map}
-use Rattle.std.specs.Map.{keys_of, lookup, set_value}
-use Rattle.std.proofs.lemmas.Bool.{cond-true, cond-false, eq-eqb, eqb-false, ne_eqb}
-use Rattle.std.proofs.lemmas.Grind.{reverse_onto}
-use Rattle.std.proofs.lemmas.List.{length-reverse, get_or-reverse}
-use Rattle.std.proofs.lemmas.Option.{slice_get_within, get_or_from_slice_get, slice_get-map, slice_get-get_or}
-use Rattle.rev_tree.specs.declared.origin.SessionId.{SessionId}
-use Rattle.couch_base.specs.Lists.{Among}
-use Rattle.couch_base.specs.ListLaws.{none_some, some_is}
-use Rattle.couch_base.specs.MemberLaws.{Among-push}
+use Rattle.proof_words.proofs.{◌≡◌, ℕ, ◌-◌, ◌<◌, ◌≤◌, true, false, cond, List, [], ◌∷◌, ◌++◌, map, filter, reverse, length, Option, Some, None, refl, sym, ap, ◌∙◌, subst, inl, inr, arith, get_or, slice_get, AllByRecursion, IsDistinct, option_map, keys_of, lookup, set_value, cond-true, cond-false, eq-eqb, eqb-false, ne_eqb, reverse_onto, length-reverse, get_or-reverse, slice_get_within, get_or_from_slice_get, slice_get-map, slice_get-get_or}
+use Rattle.rev_tree.specs.{SessionId}
+use Rattle.couch_base.specs.{Among, none_some, some_is, Among-push}
 use Rattle.repl_log.specs.declared.replication.RepId.{RepId}
-use Rattle.repl_log.specs.Entry.{EntryValue}
-use Rattle.repl_log.specs.Stored.{at_session, IsKeyed}
-use Rattle.repl_log.specs.StoredLaws.{EachSessionOnce}
-use Rattle.repl_log.specs.RepId.{same_rep}
-use Rattle.repl_peer.specs.peer.Peer.{SessionValue, is_of, entry_of, with_session}
-use Rattle.repl_peer.specs.logs.Logs.{log_of}
-use Rattle.repl_peer.specs.session.RepIndex.{listed}
-use Rattle.repl_peer.specs.session.StoredSessions.{sessions_of, ids_of, AreListed, IsTableOf}
-use Rattle.repl_peer.specs.declared.session.rep_index.RepIndex.{RepIndex}
-use Rattle.repl_peer.specs.declared.session.ledger_index.LedgerIndex.{LedgerIndex}
+use Rattle.repl_log.specs.{EntryValue, at_session, IsKeyed, EachSessionOnce, same_rep}
+use Rattle.repl_peer.specs.{SessionValue, is_of, entry_of, with_session, log_of, listed, sessions_of, ids_of, AreListed, IsTableOf, RepIndex, LedgerIndex}
 use Rattle.repl_peer.proofs.lemmas.Members.{Among-filter, Among-at}
 use Rattle.repl_peer.proofs.lemmas.session.SessionTable.{Entries, id_of, with_session-same, sessions_of-set}
 

@@ -1,10 +1,8 @@
 -- A session's own law: what appending, recording and marking keep of it.
-use Rattle.std.proofs.Common.{◌≡◌, ℕ, ◌≤◌, List, [], ◌∷◌, ◌++◌, sym, ap, ◌∙◌, subst}
-use Rattle.std.proofs.lemmas.List.{map_push}
-use Rattle.couch_base.specs.Feed.{WindowValue}
-use Rattle.range_front.specs.Front.{FrontValue, IsFront, bounds, end_of, low_water, appended, finished}
-use Rattle.range_front.specs.FrontLaws.{start-le-low_water, bounds-appended, bounds-finished}
-use Rattle.repl_peer.specs.peer.Law.{window_bounds}
+use Rattle.proof_words.proofs.{◌≡◌, ℕ, ◌≤◌, List, [], ◌∷◌, ◌++◌, sym, ap, ◌∙◌, subst, map_push}
+use Rattle.couch_base.specs.{WindowValue}
+use Rattle.range_front.specs.{FrontValue, IsFront, bounds, end_of, low_water, appended, finished, start-le-low_water, bounds-appended, bounds-finished}
+use Rattle.repl_peer.specs.{window_bounds}
 
 -- a window more
 pub bounds_grown : (f g : FrontValue) (ws vs us : List WindowValue) (w : WindowValue) (hi : ℕ) → window_bounds ws ≡ bounds f → vs ≡ ws → us ≡ vs ++ w ∷ [] → w.lo ≡ end_of f → hi ≡ w.hi → g ≡ appended f hi

@@ -1,31 +1,14 @@
 -- The table of sessions: its look-ups and its writes, as contracts see them.
-use Rattle.std.proofs.Common.{◌≡◌, ℕ, ◌<◌, ◌≤◌, nat_lt, ◌==◌, ◌&&◌, ◌||◌, true, false, cond, if◌then◌else◌, Bool, List, [], ◌∷◌, ◌++◌, map, Option, Some, None, is_some, Result, Ok, Err, OnOk, OnErr, refl, sym, ap, ◌∙◌, subst}
-use Rattle.std.specs.List.{IsDistinct}
-use Rattle.std.specs.Option.{option_map}
-use Rattle.std.specs.Map.{keys_of, lookup, set_value}
-use Rattle.std.proofs.lemmas.Bool.{lt-ltb, le-ltb}
-use Rattle.std.proofs.lemmas.Map.{keys-set_value}
-use Rattle.std.proofs.lemmas.Map.Steps.{set_value_same}
-use Rattle.rev_core.specs.Rev.{RevId}
-use Rattle.rev_tree.specs.declared.origin.SessionId.{SessionId}
-use Rattle.rev_tree.proofs.Places.{none_of}
-use Rattle.couch_base.specs.Database.{Id}
-use Rattle.couch_base.specs.Feed.{WindowValue}
-use Rattle.range_front.specs.Front.{low_water}
+use Rattle.proof_words.proofs.{◌≡◌, ℕ, ◌<◌, ◌≤◌, nat_lt, ◌==◌, ◌&&◌, ◌||◌, true, false, cond, if◌then◌else◌, Bool, List, [], ◌∷◌, ◌++◌, map, Option, Some, None, is_some, Result, Ok, Err, OnOk, OnErr, refl, sym, ap, ◌∙◌, subst, IsDistinct, option_map, keys_of, lookup, set_value, lt-ltb, le-ltb, keys-set_value, set_value_same}
+use Rattle.rev_core.specs.{RevId}
+use Rattle.rev_tree.specs.{SessionId}
+use Rattle.rev_tree.proofs.{none_of}
+use Rattle.couch_base.specs.{Id, WindowValue}
+use Rattle.range_front.specs.{low_water}
 use Rattle.repl_log.specs.declared.replication.RepId.{RepId}
-use Rattle.repl_log.specs.Stored.{at_session, IsKeyed}
-use Rattle.repl_log.specs.StoredLaws.{same_id, find-chosen, find-lookup, any-lookup, newest_first-set, newest_first-push, IsKeyed-set, IsKeyed-push}
-use Rattle.repl_log.specs.RepId.{same_rep}
-use Rattle.repl_peer.specs.peer.Peer.{SessionValue, is_of, session_in, holds, with_session}
-use Rattle.repl_peer.specs.peer.Covered.{in_ledger}
-use Rattle.repl_peer.specs.session.Sessions.{base_in, base_answer, on_base, goal_answer, start_answer, append_in, with_window, recorded_at}
-use Rattle.repl_peer.specs.session.SettlingParts.{IndexesMore}
-use Rattle.repl_peer.specs.session.StoredSessions.{sessions_of, Indexes, IsTableOf}
-use Rattle.repl_peer.specs.session.SessionCalls.{in_ledgers, with_changed, changed, recorded_of, recorded_by, begin_in}
-use Rattle.repl_peer.specs.declared.fault.TargetFault.{TargetFault}
+use Rattle.repl_log.specs.{at_session, IsKeyed, same_id, find-chosen, find-lookup, any-lookup, newest_first-set, newest_first-push, IsKeyed-set, IsKeyed-push, same_rep}
+use Rattle.repl_peer.specs.{SessionValue, is_of, session_in, holds, with_session, in_ledger, base_in, base_answer, on_base, goal_answer, start_answer, append_in, with_window, recorded_at, IndexesMore, sessions_of, Indexes, IsTableOf, in_ledgers, with_changed, changed, recorded_of, recorded_by, begin_in, TargetFault, LedgerIndex, Beginning}
 use Rattle.repl_peer.specs.declared.fault.TargetFault.TheVariants as faults
-use Rattle.repl_peer.specs.declared.session.ledger_index.LedgerIndex.{LedgerIndex}
-use Rattle.repl_peer.specs.declared.session.beginning.Beginning.{Beginning}
 use Rattle.repl_peer.proofs.lemmas.peer.LaterPeers.{session_found}
 use Rattle.repl_peer.proofs.lemmas.session.SettlingPeers.{same_ledgers, index_after}
 

@@ -1,22 +1,9 @@
 -- The check of a parcel against the stored windows.
-use Rattle.std.proofs.Common.{◌≡◌, ℕ, ◌+◌, ◌-◌, ◌≤◌, ◌^◌, ◌==◌, Bool, true, false, ◌&&◌, min, nat_le, List, [], ◌∷◌, inl, inr, length, get_or, Option, Some, None, Result, Ok, Err, is_ok, if◌then◌else◌, zero, suc, slice_get, refl, sym, ap, ◌∙◌, subst, arith}
-use Rattle.std.proofs.lemmas.Bool.{and_parts, eqb-true, leb-true, le-leb, lt-leb, cases_lt, eq-eqb, and_from, or_left, or_right, false≢true}
-use Rattle.std.proofs.lemmas.Option.{get_or_from_slice_get}
-use Rattle.std.specs.List.{find, list_all, list_any}
-use Rattle.couch_base.specs.Database.{most}
-use Rattle.couch_base.specs.Feed.{WindowValue}
-use Rattle.couch_base.specs.MemberLaws.{found_member}
-use Rattle.couch_base.specs.ListLaws.{none_some, some_is}
-use Rattle.couch_base.specs.Messages.{ParcelValue}
-use Rattle.range_front.specs.Front.{FrontValue, bounds, is_window, is_done, finish_answer}
-use Rattle.range_front.specs.FrontLaws.{is_window-bounds, finish_answer-ok}
-use Rattle.rev_tree.specs.declared.origin.SessionId.{SessionId}
-use Rattle.repl_peer.specs.peer.Peer.{PeerValue, SessionValue, session_in}
-use Rattle.repl_peer.specs.session.Sessions.{found_answer}
-use Rattle.repl_peer.specs.session.Settling.{settle_at, settle_check, window_in, has_row, has_room, leaf_count, asked_count}
-use Rattle.repl_peer.specs.session.SettlingParts.{IsWindowAt, Passes}
-use Rattle.repl_peer.specs.peer.Law.{window_bounds}
-use Rattle.repl_peer.specs.declared.fault.TargetFault.{TargetFault}
+use Rattle.proof_words.proofs.{◌≡◌, ℕ, ◌+◌, ◌-◌, ◌≤◌, ◌^◌, ◌==◌, Bool, true, false, ◌&&◌, min, nat_le, List, [], ◌∷◌, inl, inr, length, get_or, Option, Some, None, Result, Ok, Err, is_ok, if◌then◌else◌, zero, suc, slice_get, refl, sym, ap, ◌∙◌, subst, arith, and_parts, eqb-true, leb-true, le-leb, lt-leb, cases_lt, eq-eqb, and_from, or_left, or_right, false≢true, get_or_from_slice_get, find, list_all, list_any}
+use Rattle.couch_base.specs.{most, WindowValue, found_member, none_some, some_is, ParcelValue}
+use Rattle.range_front.specs.{FrontValue, bounds, is_window, is_done, finish_answer, is_window-bounds, finish_answer-ok}
+use Rattle.rev_tree.specs.{SessionId}
+use Rattle.repl_peer.specs.{PeerValue, SessionValue, session_in, found_answer, settle_at, settle_check, window_in, has_row, has_room, leaf_count, asked_count, IsWindowAt, Passes, window_bounds, TargetFault}
 use Rattle.repl_peer.specs.declared.fault.TargetFault.TheVariants as faults
 
 -- the window that was found, as the session has it

@@ -1,31 +1,11 @@
 -- The documents of a parcel, one after another.
-use Rattle.std.proofs.Common.{◌≡◌, ℕ, ◌+◌, ◌-◌, ◌<◌, ◌≤◌, Bool, true, false, ◌&&◌, ◌||◌, List, [], ◌∷◌, ◌++◌, length, length-append, take, drop, reverse, Option, Some, None, Result, Ok, Err, IfErr, slice_get, zero, suc, refl, sym, ap, ◌∙◌, subst, arith}
-use Rattle.std.proofs.Math.Bool.{or-false, or_assoc}
-use Rattle.std.proofs.lemmas.Bool.{and_parts, and_from, cond-true, cond-false, cond_both}
-use Rattle.std.proofs.lemmas.List.Folds.{list_any-append, list_all-append}
-use Rattle.std.specs.List.{list_all}
-use Rattle.std.proofs.Common.{get_or, length-drop}
-use Rattle.std.proofs.lemmas.List.{drop_more, take_more, take_all, reverse-reverse, reverse-append, length-reverse}
-use Rattle.std.specs.Option.{MatchOption}
-use Rattle.std.specs.Str.{bytes_eq}
-use Rattle.rev_core.specs.Ancestry.{is_among}
-use Rattle.rev_tree.specs.declared.origin.Origin.{Origin}
-use Rattle.rev_core.specs.Rev.{RevId}
+use Rattle.proof_words.proofs.{◌≡◌, ℕ, ◌+◌, ◌-◌, ◌<◌, ◌≤◌, Bool, true, false, ◌&&◌, ◌||◌, List, [], ◌∷◌, ◌++◌, length, length-append, take, drop, reverse, Option, Some, None, Result, Ok, Err, IfErr, slice_get, zero, suc, refl, sym, ap, ◌∙◌, subst, arith, or-false, or_assoc, and_parts, and_from, cond-true, cond-false, cond_both, list_any-append, list_all-append, list_all, get_or, length-drop, drop_more, take_more, take_all, reverse-reverse, reverse-append, length-reverse, MatchOption, bytes_eq}
+use Rattle.rev_core.specs.{is_among, RevId}
+use Rattle.rev_tree.specs.{Origin}
 use Rattle.doc_json.specs.Document.{Document}
-use Rattle.couch_base.specs.Database.{Id, DatabaseValue}
-use Rattle.couch_base.specs.Feed.{WindowValue}
-use Rattle.couch_base.specs.MemberLaws.{at-end}
-use Rattle.couch_base.specs.ListLaws.{some_is, none_some, any_left}
-use Rattle.couch_base.specs.Put.{put_answer, after_put}
-use Rattle.repl_peer.specs.peer.Peer.{SessionValue, RefusedValue}
-use Rattle.repl_peer.specs.peer.Covered.{refusal_of, in_ledger}
-use Rattle.repl_peer.specs.session.LedgerIndex.{is_ledgered}
-use Rattle.repl_peer.specs.session.Settling.{Settling, is_full, settle_as, settle_one, settle_docs, Halts, stops_in, stops_at, settled_before, fed}
-use Rattle.repl_peer.specs.session.SettlingParts.{Accepts, Rejects, Stuck, IndexesMore, KeepsIndexed, Reached, ReachedAll, cause_at, entered}
-use Rattle.repl_peer.specs.declared.fault.Cause.{Cause}
+use Rattle.couch_base.specs.{Id, DatabaseValue, WindowValue, at-end, some_is, none_some, any_left, put_answer, after_put}
+use Rattle.repl_peer.specs.{SessionValue, RefusedValue, refusal_of, in_ledger, is_ledgered, Settling, is_full, settle_as, settle_one, settle_docs, Halts, stops_in, stops_at, settled_before, fed, Accepts, Rejects, Stuck, IndexesMore, KeepsIndexed, Reached, ReachedAll, cause_at, entered, Cause, Reason, LedgerIndex}
 use Rattle.repl_peer.specs.declared.fault.Cause.TheVariants as causes
-use Rattle.repl_peer.specs.declared.fault.Reason.{Reason}
-use Rattle.repl_peer.specs.declared.session.ledger_index.LedgerIndex.{LedgerIndex}
 
 -- ---- one document
 

@@ -1,34 +1,11 @@
 -- What settling keeps, in full or as far as it came: the peer's law, and all that covers.
-use Rattle.std.proofs.Common.{◌≡◌, ℕ, ◌+◌, ◌<◌, ◌^◌, List, [], ◌∷◌, ◌++◌, Bool, true, false, cond, Option, Some, None, refl, sym, ap, ◌∙◌, subst, inl, inr, arith, nat_lt}
-use Rattle.std.specs.List.{list_all}
-use Rattle.std.proofs.lemmas.Bool.{false≢true}
-use Rattle.std.proofs.lemmas.List.{length-append, map_push}
-use Rattle.rev_core.specs.Rev.{RevId}
-use Rattle.rev_core.specs.Ancestry.{is_among}
-use Rattle.rev_tree.specs.Tree.{has, merged, is_same, answer_of}
-use Rattle.rev_tree.specs.TreeLaws.{has-merged_given}
-use Rattle.rev_tree.specs.MergeLaws.{has-same}
-use Rattle.rev_tree.specs.declared.fault.Contradiction.{Contradiction}
-use Rattle.rev_tree.specs.declared.origin.Origin.{Origin}
-use Rattle.rev_tree.specs.declared.origin.SessionId.{SessionId}
+use Rattle.proof_words.proofs.{◌≡◌, ℕ, ◌+◌, ◌<◌, ◌^◌, List, [], ◌∷◌, ◌++◌, Bool, true, false, cond, Option, Some, None, refl, sym, ap, ◌∙◌, subst, inl, inr, arith, nat_lt, list_all, false≢true, length-append, map_push}
+use Rattle.rev_core.specs.{RevId, is_among}
+use Rattle.rev_tree.specs.{has, merged, is_same, answer_of, has-merged_given, has-same, Contradiction, Origin, SessionId}
 use Rattle.doc_json.specs.Document.{Document}
-use Rattle.couch_base.specs.Lists.{Among}
-use Rattle.couch_base.specs.ListLaws.{none_some}
-use Rattle.couch_base.specs.Database.{DatabaseValue, tree_of, with_tree, most}
-use Rattle.couch_base.specs.Feed.{WindowValue, IsWindow}
-use Rattle.couch_base.specs.Messages.{ParcelValue}
-use Rattle.couch_base.specs.Put.{put_told, put_answer, is_changed, after_put, content_of}
-use Rattle.couch_base.specs.WriteLaws.{IsLater, IsLater-same, IsLater-after_put}
-use Rattle.range_front.specs.Front.{bounds, end_of}
-use Rattle.range_front.specs.FrontLaws.{IsFront-appended, bounds-appended, end_of-appended, is_done-appended, low_water-appended, is_window-within, is_window-is_done, IsFront-finished, bounds-finished, end_of-finished, is_done-finished_cases, low_water-finished}
-use Rattle.repl_peer.specs.peer.Peer.{PeerValue, SessionValue, WrittenValue, RefusedValue, written_of}
-use Rattle.repl_peer.specs.peer.Covered.{contradiction_of, rightly_refused, CoversWindow}
-use Rattle.repl_peer.specs.session.Settling.{fed, is_full, settle_docs, has_row, settling_of, marked}
-use Rattle.repl_peer.specs.session.Sessions.{after_append, after_record, after_conclude}
-use Rattle.repl_peer.specs.peer.Stands.{StandsIn}
-use Rattle.repl_peer.specs.peer.Law.{LawfulSession, LawfulSessions}
-use Rattle.repl_peer.specs.peer.Later.{Keeps, IsLaterPeer}
-use Rattle.couch_base.specs.MemberLaws.{Among-left, Among-push, each_push, all_member}
+use Rattle.couch_base.specs.{Among, none_some, DatabaseValue, tree_of, with_tree, most, WindowValue, IsWindow, ParcelValue, put_told, put_answer, is_changed, after_put, content_of, IsLater, IsLater-same, IsLater-after_put, Among-left, Among-push, each_push, all_member}
+use Rattle.range_front.specs.{bounds, end_of, IsFront-appended, bounds-appended, end_of-appended, is_done-appended, low_water-appended, is_window-within, is_window-is_done, IsFront-finished, bounds-finished, end_of-finished, is_done-finished_cases, low_water-finished}
+use Rattle.repl_peer.specs.{PeerValue, SessionValue, WrittenValue, RefusedValue, written_of, contradiction_of, rightly_refused, CoversWindow, fed, is_full, settle_docs, has_row, settling_of, marked, after_append, after_record, after_conclude, StandsIn, LawfulSession, LawfulSessions, Keeps, IsLaterPeer}
 use Rattle.repl_peer.proofs.lemmas.peer.WritesStand.{changed_tree, put_stands}
 use Rattle.repl_peer.proofs.lemmas.peer.LaterPeers.{IsLaterPeer-same, IsLaterPeer-later, covers-later, session_law}
 use Rattle.repl_peer.proofs.lemmas.session.WindowsFollow.{windows-consecutive, window-above, one_window}

@@ -1,19 +1,11 @@
 -- What settling a parcel answers and leaves.
-use Rattle.std.proofs.Common.{◌≡◌, ℕ, ◌-◌, Bool, List, [], Result, Ok, Err, sym, ap, ◌∙◌, subst, arith}
-use Rattle.std.specs.Global.{Vec}
-use Rattle.rev_core.specs.Rev.{RevId}
+use Rattle.proof_words.proofs.{◌≡◌, ℕ, ◌-◌, Bool, List, [], Result, Ok, Err, sym, ap, ◌∙◌, subst, arith, Vec}
+use Rattle.rev_core.specs.{RevId}
 use Rattle.doc_json.specs.Document.{Document}
-use Rattle.couch_base.specs.Database.{Id, DatabaseValue}
-use Rattle.couch_base.specs.Feed.{WindowValue}
-use Rattle.couch_base.specs.Messages.{ParcelValue}
-use Rattle.range_front.specs.Front.{finished}
-use Rattle.repl_peer.specs.peer.Peer.{SessionValue}
-use Rattle.repl_peer.specs.session.Settling.{Settling, Halts, settle_docs, leaf_count, asked_count, with_done, with_checked}
-use Rattle.repl_peer.specs.session.SettlingParts.{Passes, Reached, ReachedAll, Marks, PartsSettled, PartsSettle, PartsGive}
-use Rattle.repl_peer.specs.declared.fault.Cause.{Cause}
+use Rattle.couch_base.specs.{Id, DatabaseValue, WindowValue, ParcelValue}
+use Rattle.range_front.specs.{finished}
+use Rattle.repl_peer.specs.{SessionValue, Settling, Halts, settle_docs, leaf_count, asked_count, with_done, with_checked, Passes, Reached, ReachedAll, Marks, PartsSettled, PartsSettle, PartsGive, Cause, Settled, TargetFault}
 use Rattle.repl_peer.specs.declared.fault.Cause.TheVariants as causes
-use Rattle.repl_peer.specs.declared.fault.Settled.{Settled}
-use Rattle.repl_peer.specs.declared.fault.TargetFault.{TargetFault}
 use Rattle.repl_peer.specs.declared.fault.TargetFault.TheVariants as faults
 use Rattle.repl_peer.proofs.lemmas.session.SettlingDocuments.{reached_all, halts_end, grows}
 

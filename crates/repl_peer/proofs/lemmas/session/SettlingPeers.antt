@@ -1,34 +1,14 @@
 -- What settling over the parts of a peer gives of the peer.
-use Rattle.std.proofs.Common.{◌≡◌, Bool, true, false, not, cond, if◌then◌else◌, ◌&&◌, ◌||◌, List, [], ◌∷◌, Option, Some, None, Result, Ok, Err, refl, sym, ap, ◌∙◌, subst, inl, inr}
-use Rattle.std.specs.List.{find, list_all}
-use Rattle.std.specs.Option.{option_map, option_or}
-use Rattle.std.proofs.lemmas.Bool.{and_from, and_left, and_right, cond_both, cond-true, cond-false, or_cases, or_left, or_right}
-use Rattle.rev_core.specs.Rev.{RevId}
-use Rattle.rev_tree.specs.Tree.{has}
-use Rattle.rev_tree.specs.declared.origin.SessionId.{SessionId}
+use Rattle.proof_words.proofs.{◌≡◌, Bool, true, false, not, cond, if◌then◌else◌, ◌&&◌, ◌||◌, List, [], ◌∷◌, Option, Some, None, Result, Ok, Err, refl, sym, ap, ◌∙◌, subst, inl, inr, find, list_all, option_map, option_or, and_from, and_left, and_right, cond_both, cond-true, cond-false, or_cases, or_left, or_right}
+use Rattle.rev_core.specs.{RevId}
+use Rattle.rev_tree.specs.{has, SessionId, same_tests}
 use Rattle.doc_json.specs.Document.{Document}
-use Rattle.rev_tree.specs.LeafLaws.{same_tests}
-use Rattle.couch_base.specs.Database.{Id, tree_of}
-use Rattle.couch_base.specs.Feed.{RowValue, WindowValue}
-use Rattle.couch_base.specs.Lists.{Among}
-use Rattle.couch_base.specs.ListLaws.{none_some}
-use Rattle.couch_base.specs.Messages.{ParcelValue}
-use Rattle.repl_peer.specs.peer.Peer.{PeerValue, SessionValue, is_of, session_in, with_session}
-use Rattle.repl_peer.specs.peer.Covered.{in_ledger, covers, knows_row, covers_window, unknown_in, first_unknown, Leaf}
-use Rattle.repl_peer.specs.session.Sessions.{found_answer}
-use Rattle.repl_peer.specs.session.Settling.{Settling, settle_docs, settle_at, window_in, settle_check, with_settling, settling_of, with_done, after_all, SettlesAt, Settles, SettleGives}
-use Rattle.repl_peer.specs.session.SettlingParts.{with_mark, PartsSettled, PartsSettle, PartsGive}
-use Rattle.repl_peer.specs.session.SessionCalls.{in_ledgers}
-use Rattle.repl_peer.specs.session.LedgerIndex.{is_ledgered}
-use Rattle.repl_peer.specs.session.StoredSessions.{Indexes}
-use Rattle.repl_peer.specs.declared.session.ledger_index.LedgerIndex.{LedgerIndex}
+use Rattle.couch_base.specs.{Id, tree_of, RowValue, WindowValue, Among, none_some, ParcelValue, Among-map, Among-mapped, any_member, any_from}
+use Rattle.repl_peer.specs.{PeerValue, SessionValue, is_of, session_in, with_session, in_ledger, covers, knows_row, covers_window, unknown_in, first_unknown, Leaf, found_answer, Settling, settle_docs, settle_at, window_in, settle_check, with_settling, settling_of, with_done, after_all, SettlesAt, Settles, SettleGives, with_mark, PartsSettled, PartsSettle, PartsGive, in_ledgers, is_ledgered, Indexes, LedgerIndex, Settled, TargetFault}
 use Rattle.repl_peer.proofs.lemmas.session.AddedToLedgerIndex.{or_held}
-use Rattle.repl_peer.specs.declared.fault.Settled.{Settled}
-use Rattle.repl_peer.specs.declared.fault.TargetFault.{TargetFault}
 use Rattle.repl_peer.specs.declared.fault.TargetFault.TheVariants as faults
 use Rattle.repl_peer.proofs.lemmas.peer.LaterPeers.{with_session_holds}
 use Rattle.repl_peer.proofs.lemmas.session.Changes.{with_session-twice}
-use Rattle.couch_base.specs.MemberLaws.{Among-map, Among-mapped, any_member, any_from}
 use Rattle.repl_peer.proofs.lemmas.session.SettlingChecks.{passed}
 
 -- ---- leaves

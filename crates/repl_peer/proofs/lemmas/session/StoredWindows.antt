@@ -1,17 +1,8 @@
 -- Stored windows: which of them are kept whole, and what thinning keeps.
-use Rattle.std.proofs.Common.{◌≡◌, ℕ, ◌<◌, Bool, true, false, List, [], ◌∷◌, ◌++◌, length, set, get_or, Some, Ok, is_ok, inl, inr, zero, suc, slice_get, ◌≤◌, refl, sym, ap, ◌∙◌, subst, arith}
-use Rattle.std.proofs.lemmas.Bool.{false≢true, or_left, or_right, and_from, eq-eqb}
-use Rattle.std.proofs.lemmas.List.{length-map, get_or-map}
-use Rattle.std.proofs.lemmas.Option.{slice_get-map, slice_get_within}
-use Rattle.std.specs.Option.{option_map}
-use Rattle.std.specs.List.Sorted.{IsPartitionPoint}
-use Rattle.couch_base.specs.MemberLaws.{Among-push}
-use Rattle.couch_base.specs.ListLaws.{none_some, some_is}
-use Rattle.couch_base.specs.Feed.{WindowValue}
-use Rattle.range_front.specs.Front.{FrontValue, is_window, is_done, appended, finished, finish_answer}
-use Rattle.range_front.specs.FrontLaws.{is_done-appended, is_done-finished, finish_answer-no_window, finish_answer-done}
-use Rattle.repl_peer.specs.session.Windows.{StoredWindowValue, windows_of, IsThinnedWhereDone, IsThinner}
-use Rattle.repl_peer.specs.session.SettlingParts.{Consecutive, IsWindowAt}
+use Rattle.proof_words.proofs.{◌≡◌, ℕ, ◌<◌, Bool, true, false, List, [], ◌∷◌, ◌++◌, length, set, get_or, Some, Ok, is_ok, inl, inr, zero, suc, slice_get, ◌≤◌, refl, sym, ap, ◌∙◌, subst, arith, false≢true, or_left, or_right, and_from, eq-eqb, length-map, get_or-map, slice_get-map, slice_get_within, option_map, IsPartitionPoint}
+use Rattle.couch_base.specs.{Among-push, none_some, some_is, WindowValue}
+use Rattle.range_front.specs.{FrontValue, is_window, is_done, appended, finished, finish_answer, is_done-appended, is_done-finished, finish_answer-no_window, finish_answer-done}
+use Rattle.repl_peer.specs.{StoredWindowValue, windows_of, IsThinnedWhereDone, IsThinner, Consecutive, IsWindowAt}
 use Rattle.repl_peer.proofs.lemmas.Members.{Among-at}
 use Rattle.repl_peer.proofs.lemmas.session.WindowsFound.{rises}
 use Rattle.repl_peer.proofs.lemmas.session.SettlingChecks.{Found, found}

@@ -1,14 +1,8 @@
 -- The stored windows of a session lie one behind the other.
-use Rattle.std.proofs.Common.{◌≡◌, ℕ, ◌<◌, ◌≤◌, List, [], ◌∷◌, true, sym, ap, ◌∙◌, subst, inl, inr, arith, eqb, ◌&&◌}
-use Rattle.std.proofs.lemmas.Bool.{and_parts, eqb-true}
-use Rattle.couch_base.specs.Lists.{Among}
-use Rattle.couch_base.specs.Feed.{WindowValue}
-use Rattle.range_front.specs.Front.{FrontValue, FrontWindow, Rises, IsFront, bounds, is_window}
-use Rattle.range_front.specs.WindowLaws.{bounds_from}
-use Rattle.range_front.specs.FrontLaws.{is_window-bounds}
-use Rattle.repl_peer.specs.peer.Law.{window_bounds}
-use Rattle.repl_peer.specs.session.SettlingParts.{Consecutive}
-use Rattle.couch_base.specs.MemberLaws.{Among-map, any_member}
+use Rattle.proof_words.proofs.{◌≡◌, ℕ, ◌<◌, ◌≤◌, List, [], ◌∷◌, true, sym, ap, ◌∙◌, subst, inl, inr, arith, eqb, ◌&&◌, and_parts, eqb-true}
+use Rattle.couch_base.specs.{Among, WindowValue, Among-map, any_member}
+use Rattle.range_front.specs.{FrontValue, FrontWindow, Rises, IsFront, bounds, is_window, bounds_from, is_window-bounds}
+use Rattle.repl_peer.specs.{window_bounds, Consecutive}
 
 consecutive_from : (lo : ℕ) (fs : List FrontWindow) (ws : List WindowValue) → window_bounds ws ≡ bounds_from lo fs → Rises lo fs → Consecutive lo ws
 consecutive_from lo [] [] e r = tt

@@ -1,12 +1,7 @@
 -- Stored windows, which stand one behind the other.
-use Rattle.std.proofs.Common.{◌≡◌, ℕ, ◌<◌, ◌≤◌, ◌==◌, Bool, false, ◌&&◌, List, [], ◌∷◌, length, get_or, Some, None, slice_get, zero, suc, refl, ap, ◌∙◌, subst, arith}
-use Rattle.std.proofs.lemmas.Bool.{cond-true, cond-false, and_left, and_from, eq-eqb, ne_eqb}
-use Rattle.std.proofs.lemmas.Option.{slice_get_within, get_or_from_slice_get}
-use Rattle.std.specs.List.{find}
-use Rattle.std.specs.List.Sorted.{IsPartitionPoint}
-use Rattle.couch_base.specs.ListLaws.{none_some, some_is}
-use Rattle.couch_base.specs.Feed.{WindowValue}
-use Rattle.repl_peer.specs.session.SettlingParts.{Consecutive, IsWindowAt}
+use Rattle.proof_words.proofs.{◌≡◌, ℕ, ◌<◌, ◌≤◌, ◌==◌, Bool, false, ◌&&◌, List, [], ◌∷◌, length, get_or, Some, None, slice_get, zero, suc, refl, ap, ◌∙◌, subst, arith, cond-true, cond-false, and_left, and_from, eq-eqb, ne_eqb, slice_get_within, get_or_from_slice_get, find, IsPartitionPoint}
+use Rattle.couch_base.specs.{none_some, some_is, WindowValue}
+use Rattle.repl_peer.specs.{Consecutive, IsWindowAt}
 
 abbrev is_at : ℕ → ℕ → WindowValue → Bool
 is_at lo hi w = (w.lo == lo) && (w.hi == hi)

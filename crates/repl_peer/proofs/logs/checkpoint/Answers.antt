@@ -1,9 +1,6 @@
-use Rattle.std.proofs.Common.{◌≡◌, List, [], ◌∷◌, None, refl, sym, ap, ◌∙◌}
-use Rattle.std.specs.Option.{option_copied}
-use Rattle.repl_log.specs.Entry.{EntryValue}
-use Rattle.repl_log.specs.Log.{common}
-use Rattle.repl_peer.specs.logs.Logs.{log_of}
-use Rattle.repl_log.specs.LogsLaws.{log_in-found, log_in-absent}
+use Rattle.proof_words.proofs.{◌≡◌, List, [], ◌∷◌, None, refl, sym, ap, ◌∙◌, option_copied}
+use Rattle.repl_log.specs.{EntryValue, common, log_in-found, log_in-absent}
+use Rattle.repl_peer.specs.{log_of}
 use Rattle.repl_peer.proofs.logs.checkpoint.Goals as goal
 
 -- no session is shared with a log that holds none

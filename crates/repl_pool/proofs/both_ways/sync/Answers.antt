@@ -1,10 +1,9 @@
-use Rattle.std.proofs.Common.{ap, subst}
-use Rattle.repl_peer.specs.peer.Peer.{PeerValue}
-use Rattle.repl_target.proofs.lemmas.replication.OthersStayTied.{turned_tied, source_stays, target_stays, both_stay}
-use Rattle.repl_target.proofs.lemmas.replication.BothWays.{both_meet}
+use Rattle.proof_words.proofs.{ap, subst}
+use Rattle.repl_peer.specs.{PeerValue}
+use Rattle.repl_target.proofs.{turned_tied, source_stays, target_stays, both_stay, both_meet}
 use Rattle.repl_pool.specs.Runs.{Runs}
-use Rattle.repl_pool.specs.Sync.{refused_there, refused_back, both}
-use Rattle.repl_pool.proofs.Syncing.{run_leaves}
+use Rattle.repl_pool.specs.{refused_there, refused_back, both}
+use Rattle.repl_pool.proofs.{run_leaves}
 use Rattle.repl_pool.proofs.both_ways.sync.Goals as goal
 
 pub returns-in-Err-clause-runs : goal.returns-in-Err-clause-runs

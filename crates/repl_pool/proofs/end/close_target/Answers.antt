@@ -1,9 +1,8 @@
-use Rattle.std.proofs.Common.{rules, ◌≡◌, None, true, false, sym, ap, ◌∙◌, subst}
-use Rattle.repl_peer.specs.peer.Peer.{PeerValue}
-use Rattle.repl_target.specs.replication.Replication.{closed_as}
-use Rattle.repl_peer.specs.session.Sessions.{after_record}
-use Rattle.repl_pool.specs.Runs.{IsRecorded, stopped, fewer, refused}
-use Rattle.repl_pool.proofs.Ending.{grown_conclude, grown_then}
+use Rattle.proof_words.proofs.{rules, ◌≡◌, None, true, false, sym, ap, ◌∙◌, subst}
+use Rattle.repl_peer.specs.{PeerValue, after_record}
+use Rattle.repl_target.specs.{closed_as}
+use Rattle.repl_pool.specs.{IsRecorded, stopped, fewer, refused}
+use Rattle.repl_pool.proofs.{grown_conclude, grown_then}
 use Rattle.repl_pool.proofs.end.close_target.Goals as goal
 
 pub returns-in-Ok-clause-grown : goal.returns-in-Ok-clause-grown

@@ -1,5 +1,4 @@
-use Rattle.repl_pool.proofs.Closing.{ends_either}
-use Rattle.repl_pool.proofs.Ending.{held_grown}
+use Rattle.repl_pool.proofs.{ends_either, held_grown}
 use Rattle.repl_pool.proofs.end.end.Goals as goal
 
 pub close-outcome-requires-clause-held : goal.close-outcome-requires-clause-held

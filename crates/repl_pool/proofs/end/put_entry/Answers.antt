@@ -1,6 +1,5 @@
-use Rattle.std.proofs.Common.{Ok, Err, refl}
-use Rattle.std.proofs.lemmas.Result.{err_from_is_err_and}
-use Rattle.repl_pool.proofs.Closing.{puts_entry}
+use Rattle.proof_words.proofs.{Ok, Err, refl, err_from_is_err_and}
+use Rattle.repl_pool.proofs.{puts_entry}
 use Rattle.repl_pool.proofs.end.put_entry.Goals as goal
 
 pub returns-in_err-report-clause-puts : goal.returns-in_err-report-clause-puts

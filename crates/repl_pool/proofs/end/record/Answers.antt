@@ -1,4 +1,4 @@
-use Rattle.repl_pool.proofs.Ending.{grown_record}
+use Rattle.repl_pool.proofs.{grown_record}
 use Rattle.repl_pool.proofs.end.record.Goals as goal
 
 pub returns-in-Ok-clause-grown : goal.returns-in-Ok-clause-grown

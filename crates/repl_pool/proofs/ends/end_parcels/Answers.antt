@@ -1,6 +1,6 @@
-use Rattle.std.proofs.Common.{◌<◌, subst, sym}
+use Rattle.proof_words.proofs.{◌<◌, subst, sym}
 use Rattle.crossbeam_channel.specs.Claims.{view}
-use Rattle.repl_pool.specs.declared.parcels.ParcelView.{ParcelView}
+use Rattle.repl_pool.specs.{ParcelView}
 use Rattle.repl_pool.specs.declared.parcels.ParcelMessage.TheVariants.{End}
 use Rattle.repl_pool.proofs.ParcelRule as parcel
 use Rattle.repl_pool.proofs.ends.end_parcels.Goals as goal

@@ -1,6 +1,6 @@
-use Rattle.std.proofs.Common.{◌<◌, subst, sym}
+use Rattle.proof_words.proofs.{◌<◌, subst, sym}
 use Rattle.crossbeam_channel.specs.Claims.{view}
-use Rattle.repl_pool.specs.declared.windows.WindowView.{WindowView}
+use Rattle.repl_pool.specs.{WindowView}
 use Rattle.repl_pool.proofs.WindowRule as window
 use Rattle.repl_pool.proofs.ends.end_windows.Goals as goal
 

@@ -1,4 +1,4 @@
-use Rattle.repl_pool.proofs.ParcelRule.{sends}
+use Rattle.repl_pool.proofs.{sends}
 use Rattle.repl_pool.specs.declared.parcels.ParcelMessage.TheVariants.{Parcel}
 use Rattle.repl_pool.proofs.fetcher.put.Goals as goal
 

@@ -1,10 +1,6 @@
-use Rattle.std.proofs.Common.{◌∙◌, sym, ap, subst, sum, None, is_some, vec_items, option_copied}
-use Rattle.std.proofs.lemmas.Bool.{false≢true}
-use Rattle.repl_pool.specs.Boards.{MayFill, HaveShown}
-use Rattle.repl_pool.proofs.Boarding.{seats_seated}
-use Rattle.repl_pool.proofs.Showing.{back_is, shown_start, shown_end}
-use Rattle.repl_pool.proofs.Ending.{grown_then, held_grown}
-use Rattle.repl_pool.proofs.RunLaws.{given_grown, no_workers, nothing_read, ends_free}
+use Rattle.proof_words.proofs.{◌∙◌, sym, ap, subst, sum, None, is_some, vec_items, option_copied, false≢true}
+use Rattle.repl_pool.specs.{MayFill, HaveShown}
+use Rattle.repl_pool.proofs.{seats_seated, back_is, shown_start, shown_end, grown_then, held_grown, given_grown, no_workers, nothing_read, ends_free}
 use Rattle.repl_pool.proofs.running.run_begun.Goals as goal
 
 pub returns-then-begun-update_seq-clause-grown : goal.returns-then-begun-update_seq-clause-grown

@@ -1,4 +1,4 @@
-use Rattle.repl_pool.proofs.Showing.{risen_by}
+use Rattle.repl_pool.proofs.{risen_by}
 use Rattle.repl_pool.proofs.running.run_on.Goals as goal
 
 pub returns-clause-shown : goal.returns-clause-shown

@@ -1,14 +1,8 @@
-use Rattle.std.proofs.Common.{rules, ◌≡◌, Ok, sym, ap, ◌∙◌, option_copied, arith}
-use Rattle.repl_peer.specs.peer.Peer.{PeerValue}
-use Rattle.repl_peer.specs.session.ReadCounts.{read_in}
-use Rattle.repl_target.proofs.lemmas.replication.ReadCounts.{begun_reads}
-use Rattle.repl_pool.specs.Faults.{early_answer}
-use Rattle.repl_pool.proofs.Ending.{begun_held}
-use Rattle.repl_pool.proofs.Paging.{begun_fresh}
-use Rattle.repl_pool.specs.Boards.{MayFill}
-use Rattle.repl_pool.proofs.Boarding.{seats_seated, seats_fewer, back_same}
-use Rattle.repl_pool.proofs.Crews.{crew_some, crew_most}
-use Rattle.repl_pool.proofs.RunLaws.{Passes, passes, runs_early, runs_refused, runs_begun, shown_well}
+use Rattle.proof_words.proofs.{rules, ◌≡◌, Ok, sym, ap, ◌∙◌, option_copied, arith}
+use Rattle.repl_peer.specs.{PeerValue, read_in}
+use Rattle.repl_target.proofs.{begun_reads}
+use Rattle.repl_pool.specs.{early_answer, MayFill}
+use Rattle.repl_pool.proofs.{begun_held, begun_fresh, seats_seated, seats_fewer, back_same, crew_some, crew_most, Passes, passes, runs_early, runs_refused, runs_begun, shown_well}
 use Rattle.repl_pool.proofs.running.run_with.Goals as goal
 
 pub run_begun-requires-clause-workers : goal.run_begun-requires-clause-workers

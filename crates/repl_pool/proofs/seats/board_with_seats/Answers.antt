@@ -1,8 +1,7 @@
-use Rattle.std.proofs.Common.{◌≡◌, ◌++◌, ◌∷◌, [], All, vec_items, sym, subst, arith}
-use Rattle.std.proofs.lemmas.List.Elements.{All-push}
-use Rattle.progress_board.specs.Seats.{CameWith}
-use Rattle.repl_pool.specs.Boards.{HasNothing}
-use Rattle.repl_pool.proofs.NewSeats.{new_left, new_taken}
+use Rattle.proof_words.proofs.{◌≡◌, ◌++◌, ◌∷◌, [], All, vec_items, sym, subst, arith, All-push}
+use Rattle.progress_board.specs.{CameWith}
+use Rattle.repl_pool.specs.{HasNothing}
+use Rattle.repl_pool.proofs.{new_left, new_taken}
 use Rattle.repl_pool.proofs.seats.board_with_seats.Goals as goal
 
 pub loop-i-preserved : goal.loop-i-preserved

@@ -1,12 +1,10 @@
-use Rattle.std.proofs.Common.{◌≡◌, ◌≤◌, ℕ, length, sym, subst, refl}
+use Rattle.proof_words.proofs.{◌≡◌, ◌≤◌, ℕ, length, sym, subst, refl}
 use Rattle.crossbeam_channel.specs.Claims.{view}
-use Rattle.repl_pool.specs.Sums.{times, weigh}
-use Rattle.repl_pool.specs.Workers.{names}
-use Rattle.repl_pool.specs.declared.windows.WindowView.{WindowView}
-use Rattle.repl_pool.specs.declared.parcels.ParcelView.{ParcelView}
+use Rattle.repl_pool.specs.{times, weigh, names, WindowView, ParcelView}
 use Rattle.repl_pool.proofs.WindowRule as window
 use Rattle.repl_pool.proofs.ParcelRule as parcel
-use Rattle.repl_pool.proofs.Steps.{taken_once, got_once, settles}
+use Rattle.repl_pool.proofs.Steps.{settles}
+use Rattle.repl_pool.proofs.{taken_once, got_once}
 use Rattle.repl_pool.proofs.totals.each_once.Goals as goal
 
 pub learn_as-requires-clause-rule : goal.learn_as-requires-clause-rule

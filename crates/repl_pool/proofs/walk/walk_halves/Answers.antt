@@ -1,10 +1,8 @@
-use Rattle.std.proofs.Common.{◌≡◌, ◌+◌, ◌-◌, ◌/◌, sym, ◌∙◌}
-use Rattle.std.specs.Option.{option_or}
-use Rattle.std.proofs.lemmas.Result.{IfOk-weaker}
-use Rattle.couch_base.specs.Feed.{chosen_feed}
-use Rattle.repl_target.specs.Audit.{hole_of}
-use Rattle.repl_peer.specs.peer.Covered.{first_uncovered}
-use Rattle.repl_pool.proofs.Walking.{hole_cut, middle_above, middle_under}
+use Rattle.proof_words.proofs.{◌≡◌, ◌+◌, ◌-◌, ◌/◌, sym, ◌∙◌, option_or, IfOk-weaker}
+use Rattle.couch_base.specs.{chosen_feed}
+use Rattle.repl_target.specs.{hole_of}
+use Rattle.repl_peer.specs.{first_uncovered}
+use Rattle.repl_pool.proofs.{hole_cut, middle_above, middle_under}
 use Rattle.repl_pool.proofs.walk.walk_halves.Goals as goal
 
 pub returns : goal.returns

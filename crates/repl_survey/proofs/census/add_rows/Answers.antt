@@ -1,9 +1,8 @@
-use Rattle.std.proofs.Common.{◌++◌, ◌∷◌, [], map, take, List, ap, ◌∙◌, take_all}
-use Rattle.rev_tree.specs.Tree.{TreeValue}
-use Rattle.couch_base.specs.Database.{tree_of}
-use Rattle.couch_base.specs.Feed.{RowValue}
-use Rattle.repl_survey.specs.Censuses.{census_of}
-use Rattle.repl_survey.proofs.Adding.{mapped_more}
+use Rattle.proof_words.proofs.{◌++◌, ◌∷◌, [], map, take, List, ap, ◌∙◌, take_all}
+use Rattle.rev_tree.specs.{TreeValue}
+use Rattle.couch_base.specs.{tree_of, RowValue}
+use Rattle.repl_survey.specs.{census_of}
+use Rattle.repl_survey.proofs.{mapped_more}
 use Rattle.repl_survey.proofs.census.add_rows.Goals as goal
 
 pub loop-row-preserved : goal.loop-row-preserved

@@ -1,8 +1,8 @@
 -- The documents of the rows so far are added to some.
-use Rattle.std.proofs.Common.{◌≡◌, ◌++◌, List, map, take}
-use Rattle.rev_tree.specs.Tree.{TreeValue}
-use Rattle.couch_base.specs.Database.{tree_of}
-use Rattle.repl_survey.specs.Censuses.{census_of}
+use Rattle.proof_words.proofs.{◌≡◌, ◌++◌, List, map, take}
+use Rattle.rev_tree.specs.{TreeValue}
+use Rattle.couch_base.specs.{tree_of}
+use Rattle.repl_survey.specs.{census_of}
 use Rattle.repl_survey.proofs.census.add_rows.Given as goal
 
 abbrev pub invariant-loop-row : goal.invariant-loop-row

@@ -1,10 +1,7 @@
-use Rattle.std.proofs.Common.{◌++◌, List, map, None, sym, ap, ◌∙◌, append-nil}
-use Rattle.couch_base.specs.Database.{tree_of}
-use Rattle.couch_base.specs.Feed.{RowValue, WindowValue, chosen_feed}
-use Rattle.couch_base.specs.FeedLaws.{feed-page, feed-none}
-use Rattle.repl_survey.specs.Censuses.{census_of}
-use Rattle.repl_survey.proofs.Adding.{mapped_on}
-use Rattle.repl_survey.proofs.FeedTrees.{trees_all}
+use Rattle.proof_words.proofs.{◌++◌, List, map, None, sym, ap, ◌∙◌, append-nil}
+use Rattle.couch_base.specs.{tree_of, RowValue, WindowValue, chosen_feed, feed-page, feed-none}
+use Rattle.repl_survey.specs.{census_of}
+use Rattle.repl_survey.proofs.{mapped_on, trees_all}
 use Rattle.repl_survey.proofs.census.census_of.Goals as goal
 
 pub loop-since-preserved : goal.loop-since-preserved

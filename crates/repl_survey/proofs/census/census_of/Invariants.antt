@@ -1,9 +1,8 @@
 -- The census is that of the documents so far, and those above `since` are left.
-use Rattle.std.proofs.Common.{◌≡◌, ◌++◌, ◌-◌, List, map, None}
-use Rattle.rev_tree.specs.Tree.{TreeValue}
-use Rattle.couch_base.specs.Database.{tree_of}
-use Rattle.couch_base.specs.Feed.{chosen_feed}
-use Rattle.repl_survey.specs.Censuses.{census_of}
+use Rattle.proof_words.proofs.{◌≡◌, ◌++◌, ◌-◌, List, map, None}
+use Rattle.rev_tree.specs.{TreeValue}
+use Rattle.couch_base.specs.{tree_of, chosen_feed}
+use Rattle.repl_survey.specs.{census_of}
 use Rattle.repl_survey.proofs.census.census_of.Given as goal
 
 abbrev pub invariant-loop-since : goal.invariant-loop-since

@@ -1,7 +1,6 @@
-use Rattle.std.proofs.Common.{ap, ◌∙◌}
-use Rattle.std.specs.List.{list_all}
-use Rattle.rev_tree.specs.Tree.{has, missing}
-use Rattle.repl_survey.proofs.LeafLists.{missing_known}
+use Rattle.proof_words.proofs.{ap, ◌∙◌, list_all}
+use Rattle.rev_tree.specs.{has, missing}
+use Rattle.repl_survey.proofs.{missing_known}
 use Rattle.repl_survey.proofs.comparison.compare_trees.Goals as goal
 
 pub first_under-requires : goal.first_under-requires

@@ -1,6 +1,6 @@
 -- Those of the revisions so far are found.
-use Rattle.std.proofs.Common.{◌≡◌, filter, take}
-use Rattle.repl_survey.specs.Comparing.{differs}
+use Rattle.proof_words.proofs.{◌≡◌, filter, take}
+use Rattle.repl_survey.specs.{differs}
 use Rattle.repl_survey.proofs.comparison.differing_of.Given as goal
 
 abbrev pub invariant-loop-leaf : goal.invariant-loop-leaf

@@ -1,6 +1,6 @@
 -- The leaves so far contradict nothing.
-use Rattle.std.proofs.Common.{◌≡◌, drop}
-use Rattle.repl_survey.specs.Comparing.{contradiction_under}
+use Rattle.proof_words.proofs.{◌≡◌, drop}
+use Rattle.repl_survey.specs.{contradiction_under}
 use Rattle.repl_survey.proofs.comparison.first_under.Given as goal
 
 abbrev pub invariant-loop-leaf : goal.invariant-loop-leaf

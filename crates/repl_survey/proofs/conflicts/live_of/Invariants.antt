@@ -1,6 +1,6 @@
 -- Those of the revisions so far are found.
-use Rattle.std.proofs.Common.{◌≡◌, not, filter, take}
-use Rattle.rev_tree.specs.Tree.{is_deleted}
+use Rattle.proof_words.proofs.{◌≡◌, not, filter, take}
+use Rattle.rev_tree.specs.{is_deleted}
 use Rattle.repl_survey.proofs.conflicts.live_of.Given as goal
 
 abbrev pub invariant-loop-rev : goal.invariant-loop-rev

@@ -1,15 +1,9 @@
-use Rattle.std.proofs.Common.{◌≡◌, sym, ap, ◌∙◌}
-use Rattle.std.proofs.lemmas.Result.{IfOk-weaker}
-use Rattle.std.specs.Option.{option_copied}
-use Rattle.doc_json.specs.Chosen.{Choice}
-use Rattle.couch_base.specs.Database.{DatabaseValue}
-use Rattle.couch_base.specs.Feed.{chosen_feed}
-use Rattle.repl_target.specs.Audit.{CoversFeed}
-use Rattle.repl_survey.specs.Comparisons.{comparisons}
-use Rattle.repl_survey.specs.Covering.{HasNoLedger}
-use Rattle.repl_survey.specs.Totals.{total_of}
-use Rattle.repl_survey.specs.declared.total.Total.{Total}
-use Rattle.repl_survey.proofs.Missing.{covered_all, refused_all, none_missing}
+use Rattle.proof_words.proofs.{◌≡◌, sym, ap, ◌∙◌, IfOk-weaker, option_copied}
+use Rattle.doc_json.specs.{Choice}
+use Rattle.couch_base.specs.{DatabaseValue, chosen_feed}
+use Rattle.repl_target.specs.{CoversFeed}
+use Rattle.repl_survey.specs.{comparisons, HasNoLedger, total_of, Total}
+use Rattle.repl_survey.proofs.{covered_all, refused_all, none_missing}
 use Rattle.repl_survey.proofs.covering.compare_feed.Goals as goal
 
 -- the total of two databases

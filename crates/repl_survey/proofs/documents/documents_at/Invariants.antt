@@ -1,7 +1,6 @@
 -- The leaves so far are made documents.
-use Rattle.std.proofs.Common.{◌≡◌, map, take}
-use Rattle.couch_base.specs.Database.{tree_of}
-use Rattle.couch_base.specs.Messages.{leaf_document}
+use Rattle.proof_words.proofs.{◌≡◌, map, take}
+use Rattle.couch_base.specs.{tree_of, leaf_document}
 use Rattle.repl_survey.proofs.documents.documents_at.Given as goal
 
 abbrev pub invariant-loop-leaf : goal.invariant-loop-leaf

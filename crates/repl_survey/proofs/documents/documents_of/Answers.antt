@@ -1,9 +1,7 @@
-use Rattle.std.proofs.Common.{ap, ◌∙◌}
-use Rattle.std.specs.List.{list_all}
-use Rattle.rev_tree.specs.Tree.{is_leaf, leaves}
-use Rattle.couch_base.specs.Database.{tree_of}
-use Rattle.repl_survey.proofs.LoadingBack.{loaded_back}
-use Rattle.repl_survey.proofs.LeafLists.{leaves_leaves}
+use Rattle.proof_words.proofs.{ap, ◌∙◌, list_all}
+use Rattle.rev_tree.specs.{is_leaf, leaves}
+use Rattle.couch_base.specs.{tree_of}
+use Rattle.repl_survey.proofs.{loaded_back, leaves_leaves}
 use Rattle.repl_survey.proofs.documents.documents_of.Goals as goal
 
 pub documents_at-requires : goal.documents_at-requires

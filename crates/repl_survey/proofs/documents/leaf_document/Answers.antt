@@ -1,5 +1,5 @@
-use Rattle.std.proofs.Common.{ap, ◌∙◌, is_some}
-use Rattle.repl_survey.proofs.LeafDocuments.{leaf_there}
+use Rattle.proof_words.proofs.{ap, ◌∙◌, is_some}
+use Rattle.repl_survey.proofs.{leaf_there}
 use Rattle.repl_survey.proofs.documents.leaf_document.Goals as goal
 
 pub unwrap-requires : goal.unwrap-requires

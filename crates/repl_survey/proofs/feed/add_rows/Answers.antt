@@ -1,9 +1,7 @@
-use Rattle.std.proofs.Common.{◌++◌, ◌∷◌, [], take, List, ap, ◌∙◌, take_all}
-use Rattle.couch_base.specs.Feed.{RowValue}
-use Rattle.repl_survey.specs.Comparing.{ComparisonValue}
-use Rattle.repl_survey.specs.Comparisons.{compared_at, comparisons}
-use Rattle.repl_survey.specs.Totals.{total_of}
-use Rattle.repl_survey.proofs.Adding.{mapped_more}
+use Rattle.proof_words.proofs.{◌++◌, ◌∷◌, [], take, List, ap, ◌∙◌, take_all}
+use Rattle.couch_base.specs.{RowValue}
+use Rattle.repl_survey.specs.{ComparisonValue, compared_at, comparisons, total_of}
+use Rattle.repl_survey.proofs.{mapped_more}
 use Rattle.repl_survey.proofs.feed.add_rows.Goals as goal
 
 pub loop-row-preserved : goal.loop-row-preserved

@@ -1,8 +1,6 @@
 -- The rows so far are added to the total of some.
-use Rattle.std.proofs.Common.{◌≡◌, ◌++◌, List, take}
-use Rattle.repl_survey.specs.Comparing.{ComparisonValue}
-use Rattle.repl_survey.specs.Comparisons.{comparisons}
-use Rattle.repl_survey.specs.Totals.{total_of}
+use Rattle.proof_words.proofs.{◌≡◌, ◌++◌, List, take}
+use Rattle.repl_survey.specs.{ComparisonValue, comparisons, total_of}
 use Rattle.repl_survey.proofs.feed.add_rows.Given as goal
 
 abbrev pub invariant-loop-row : goal.invariant-loop-row

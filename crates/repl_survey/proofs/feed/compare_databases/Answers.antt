@@ -1,10 +1,7 @@
-use Rattle.std.proofs.Common.{◌++◌, List, sym, ap, ◌∙◌, append-nil}
-use Rattle.std.specs.Option.{option_copied}
-use Rattle.couch_base.specs.Feed.{RowValue, WindowValue, chosen_feed}
-use Rattle.couch_base.specs.FeedLaws.{feed-page, feed-none}
-use Rattle.repl_survey.specs.Comparisons.{compared_at, comparisons}
-use Rattle.repl_survey.specs.Totals.{total_of}
-use Rattle.repl_survey.proofs.Adding.{mapped_on}
+use Rattle.proof_words.proofs.{◌++◌, List, sym, ap, ◌∙◌, append-nil, option_copied}
+use Rattle.couch_base.specs.{RowValue, WindowValue, chosen_feed, feed-page, feed-none}
+use Rattle.repl_survey.specs.{compared_at, comparisons, total_of}
+use Rattle.repl_survey.proofs.{mapped_on}
 use Rattle.repl_survey.proofs.feed.compare_databases.Goals as goal
 
 pub loop-since-preserved : goal.loop-since-preserved

@@ -1,10 +1,7 @@
 -- The total is that of the rows so far, and those above `since` are left.
-use Rattle.std.proofs.Common.{◌≡◌, ◌++◌, ◌-◌, List}
-use Rattle.std.specs.Option.{option_copied}
-use Rattle.couch_base.specs.Feed.{chosen_feed}
-use Rattle.repl_survey.specs.Comparing.{ComparisonValue}
-use Rattle.repl_survey.specs.Comparisons.{comparisons}
-use Rattle.repl_survey.specs.Totals.{total_of}
+use Rattle.proof_words.proofs.{◌≡◌, ◌++◌, ◌-◌, List, option_copied}
+use Rattle.couch_base.specs.{chosen_feed}
+use Rattle.repl_survey.specs.{ComparisonValue, comparisons, total_of}
 use Rattle.repl_survey.proofs.feed.compare_databases.Given as goal
 
 abbrev pub invariant-loop-since : goal.invariant-loop-since

@@ -1,15 +1,11 @@
-use Rattle.std.proofs.Common.{◌≡◌, None, IfOk, rules, sym, ap, ◌∙◌}
-use Rattle.std.proofs.lemmas.Result.{IfOk-weaker}
-use Rattle.std.specs.Option.{option_copied}
-use Rattle.doc_json.specs.Chosen.{Choice}
-use Rattle.couch_base.specs.Feed.{chosen_feed}
-use Rattle.repl_peer.specs.peer.Peer.{PeerValue}
-use Rattle.repl_peer.specs.peer.Covered.{covers}
-use Rattle.repl_peer.proofs.lemmas.session.FirstUnknownLeaf.{none_unknown}
-use Rattle.repl_target.specs.Audit.{hole_at, hole_of, audit_answer, IsAudited}
-use Rattle.repl_target.specs.ties.Ties.{IsTiedPair}
+use Rattle.proof_words.proofs.{◌≡◌, None, IfOk, rules, sym, ap, ◌∙◌, IfOk-weaker, option_copied}
+use Rattle.doc_json.specs.{Choice}
+use Rattle.couch_base.specs.{chosen_feed}
+use Rattle.repl_peer.specs.{PeerValue, covers}
+use Rattle.repl_peer.proofs.{none_unknown}
+use Rattle.repl_target.specs.{hole_at, hole_of, audit_answer, IsAudited, IsTiedPair}
 use Rattle.repl_target.specs.declared.auditing.found.Audit.TheVariants.{Clean}
-use Rattle.repl_target.proofs.lemmas.ties.TiedPeersCover.{clean_from, tied_none}
+use Rattle.repl_target.proofs.{clean_from, tied_none}
 use Rattle.repl_target.proofs.auditing.audit.Goals as goal
 
 -- where no leaf is named, all are covered

@@ -1,8 +1,7 @@
-use Rattle.std.proofs.Common.{Some, ap, sym, ◌∙◌}
-use Rattle.std.specs.Option.{option_map}
-use Rattle.rev_core.specs.Rev.{RevId}
-use Rattle.repl_peer.specs.peer.Covered.{Leaf, covers}
-use Rattle.repl_peer.proofs.lemmas.session.FirstUnknownLeaf.{unknown_here}
+use Rattle.proof_words.proofs.{Some, ap, sym, ◌∙◌, option_map}
+use Rattle.rev_core.specs.{RevId}
+use Rattle.repl_peer.specs.{Leaf, covers}
+use Rattle.repl_peer.proofs.{unknown_here}
 use Rattle.repl_target.proofs.auditing.first_hole.Goals as goal
 
 pub returns-in-Some : goal.returns-in-Some

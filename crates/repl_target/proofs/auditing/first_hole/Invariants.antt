@@ -1,5 +1,5 @@
-use Rattle.std.proofs.Common.{◌≡◌, drop}
-use Rattle.repl_peer.specs.peer.Covered.{first_uncovered}
+use Rattle.proof_words.proofs.{◌≡◌, drop}
+use Rattle.repl_peer.specs.{first_uncovered}
 use Rattle.repl_target.proofs.auditing.first_hole.Given as goal
 
 -- the leaves of the rows so far are covered

@@ -1,6 +1,5 @@
-use Rattle.std.proofs.Common.{◌≡◌, not, drop}
-use Rattle.std.specs.List.{find}
-use Rattle.repl_peer.specs.peer.Covered.{covers}
+use Rattle.proof_words.proofs.{◌≡◌, not, drop, find}
+use Rattle.repl_peer.specs.{covers}
 use Rattle.repl_target.proofs.auditing.hole_in.Given as goal
 
 -- the leaves so far are covered

@@ -1,24 +1,12 @@
 -- A session that began, in any later target that has grown by what the source answers.
-use Rattle.std.proofs.Common.{◌≡◌, ◌≤◌, Bool, false, ◌∷◌, Result, Ok, Err, is_ok, refl, sym, ap, ◌∙◌, subst, inl, inr, arith}
-use Rattle.std.proofs.lemmas.Bool.{cond_both, false≢true, both_ways, eq-eqb}
-use Rattle.rev_tree.specs.declared.origin.SessionId.{SessionId}
+use Rattle.proof_words.proofs.{◌≡◌, ◌≤◌, Bool, false, ◌∷◌, Result, Ok, Err, is_ok, refl, sym, ap, ◌∙◌, subst, inl, inr, arith, cond_both, false≢true, both_ways, eq-eqb}
+use Rattle.rev_tree.specs.{SessionId}
 use Rattle.doc_json.specs.Document.{Document}
-use Rattle.couch_base.specs.Lists.{Among}
-use Rattle.couch_base.specs.Database.{LawfulDatabase}
-use Rattle.couch_base.specs.Feed.{RowValue, WindowValue}
+use Rattle.couch_base.specs.{Among, LawfulDatabase, RowValue, WindowValue, any_from}
 use Rattle.repl_log.specs.declared.replication.RepId.{RepId}
-use Rattle.repl_peer.specs.declared.fault.TargetFault.{TargetFault}
+use Rattle.repl_peer.specs.{TargetFault, PeerValue, SessionValue, is_of, holds, covers, LawfulSessions, goal_answer, base_answer, new_session, begun, rep_between}
 use Rattle.repl_peer.specs.declared.fault.TargetFault.TheVariants as faults
-use Rattle.repl_target.specs.declared.replication.Plan.{Plan}
-use Rattle.repl_peer.specs.peer.Peer.{PeerValue, SessionValue, is_of, holds}
-use Rattle.repl_peer.specs.peer.Covered.{covers}
-use Rattle.repl_peer.specs.peer.Law.{LawfulSessions}
-use Rattle.repl_peer.specs.session.Sessions.{goal_answer, base_answer, new_session, begun}
-use Rattle.repl_peer.specs.logs.Checkpoint.{rep_between}
-use Rattle.repl_target.specs.replication.Replication.{start_between, base_at, checkpoint_of, begins_answer, after_begins, CoversFrom, beginning_between}
-use Rattle.couch_base.specs.MemberLaws.{any_from}
-use Rattle.repl_target.specs.ties.Ties.{IsTiedWindow}
-use Rattle.repl_target.specs.replication.Calls.{IsGrown, EachStored}
+use Rattle.repl_target.specs.{Plan, start_between, base_at, checkpoint_of, begins_answer, after_begins, CoversFrom, beginning_between, IsTiedWindow, IsGrown, EachStored}
 use Rattle.repl_target.proofs.lemmas.ties.TiedPages.{chosen_member}
 use Rattle.repl_target.proofs.lemmas.replication.CallLaws.{grown_law, grown_stores}
 use Rattle.repl_target.proofs.lemmas.ties.TiedPeersCover.{windows_cover}

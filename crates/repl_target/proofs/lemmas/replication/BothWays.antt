@@ -1,41 +1,16 @@
 -- Two replications, one each way: both databases end with the same documents.
-use Rattle.std.proofs.Common.{◌≡◌, ◌&&◌, true, List, [], Option, Some, unwrap_or, Bool, Result, Ok, Err, sym, ap, ◌∙◌, subst, inl, inr}
-use Rattle.std.specs.Str.{bytes_eq}
-use Rattle.std.proofs.lemmas.Bool.{cond_both, and_parts, or_cases}
-use Rattle.std.proofs.lemmas.Slice.Eq.{bytes_eq-Decides}
-use Rattle.rev_core.specs.Rev.{RevId}
-use Rattle.rev_tree.specs.Tree.{TreeValue, has, is_leaf, ancestors, merged, no_revisions}
-use Rattle.rev_tree.specs.Agreement.{Agree, IsWhole, IsGrownBy}
-use Rattle.rev_tree.specs.AgreementLaws.{IsGrownBy-same, IsGrownBy-merged, leaves_known, Agree-grown, IsWhole-there, IsWhole-back, same_by_leaves, same_leaves}
-use Rattle.rev_tree.specs.PartLaws.{given}
-use Rattle.rev_tree.specs.declared.origin.Origin.{Origin}
+use Rattle.proof_words.proofs.{◌≡◌, ◌&&◌, true, List, [], Option, Some, unwrap_or, Bool, Result, Ok, Err, sym, ap, ◌∙◌, subst, inl, inr, bytes_eq, cond_both, and_parts, or_cases, bytes_eq-Decides}
+use Rattle.rev_core.specs.{RevId, is_among}
+use Rattle.rev_tree.specs.{TreeValue, has, is_leaf, ancestors, merged, no_revisions, Agree, IsWhole, IsGrownBy, IsGrownBy-same, IsGrownBy-merged, leaves_known, Agree-grown, IsWhole-there, IsWhole-back, same_by_leaves, same_leaves, given, Origin}
 use Rattle.doc_json.specs.Document.{Document}
-use Rattle.doc_json.specs.Chosen.{Choice}
-use Rattle.couch_base.specs.Lists.{Among}
-use Rattle.couch_base.specs.MemberLaws.{any_member}
-use Rattle.couch_base.specs.Database.{Id, DatabaseValue, LawfulDatabase, tree_in, tree_of, with_tree}
-use Rattle.couch_base.specs.WriteLaws.{tree_in-with_tree}
-use Rattle.couch_base.specs.Messages.{leaf_document}
-use Rattle.couch_base.specs.Put.{put_answer, is_changed, after_put}
-use Rattle.rev_core.specs.Ancestry.{is_among}
-use Rattle.repl_peer.specs.peer.Peer.{PeerValue, SessionValue, RefusedValue}
-use Rattle.repl_peer.specs.peer.Covered.{in_ledger, covers}
-use Rattle.repl_target.specs.Audit.{CoversFeed}
-use Rattle.repl_peer.specs.peer.Backups.{BackupValue}
-use Rattle.repl_target.specs.ties.Ties.{IsTiedPair, IsTiedWith}
-use Rattle.repl_peer.specs.session.Sessions.{new_session, begun}
-use Rattle.repl_target.specs.replication.Calls.{IsLeft}
-use Rattle.repl_target.specs.replication.Replication.{SameDocument, beginning_between, begins_answer, after_begins, Replicates}
-use Rattle.repl_target.specs.replication.Sync.{HasRefusedNone, MeetBoth}
-use Rattle.repl_peer.specs.declared.fault.Report.{Report}
-use Rattle.repl_peer.specs.declared.fault.TargetFault.{TargetFault}
-use Rattle.repl_target.specs.declared.replication.Plan.{Plan}
+use Rattle.doc_json.specs.{Choice}
+use Rattle.couch_base.specs.{Among, any_member, Id, DatabaseValue, LawfulDatabase, tree_in, tree_of, with_tree, tree_in-with_tree, leaf_document, put_answer, is_changed, after_put}
+use Rattle.repl_peer.specs.{PeerValue, SessionValue, RefusedValue, in_ledger, covers, BackupValue, new_session, begun, Report, TargetFault}
+use Rattle.repl_target.specs.{CoversFeed, IsTiedPair, IsTiedWith, IsLeft, SameDocument, beginning_between, begins_answer, after_begins, Replicates, HasRefusedNone, MeetBoth, Plan, HasGrownBy, Leaves, KeepsOthersTied}
 use Rattle.repl_target.proofs.lemmas.replication.FetchedDocuments.{tree_lawful, IsLeafOf, run_keeps, database_kept}
 use Rattle.repl_target.proofs.lemmas.replication.EmptyTargetCopied.{leaf_covered}
 use Rattle.repl_target.proofs.lemmas.replication.ReplicationAsCalls.{replicates_left, replicates_puts}
 use Rattle.repl_target.proofs.lemmas.replication.OthersStayTied.{turned_tied}
-use Rattle.repl_target.specs.replication.Leaves.{HasGrownBy, Leaves}
-use Rattle.repl_target.specs.ties.Ties.{KeepsOthersTied}
 
 -- ---- a target's documents come from what it was, and from the source
 

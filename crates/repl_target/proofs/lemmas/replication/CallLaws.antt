@@ -1,29 +1,15 @@
 -- What calls keep: the law, what covers, and the windows that are stored.
-use Rattle.std.proofs.Common.{◌≡◌, ℕ, ◌<◌, ◌^◌, Bool, cond, List, Option, Result, Ok, Err, refl, sym, ap, ◌∙◌, subst, inl, inr, arith}
-use Rattle.std.proofs.lemmas.Bool.{cond_both}
-use Rattle.rev_core.specs.Rev.{RevId}
-use Rattle.rev_tree.specs.declared.origin.SessionId.{SessionId}
+use Rattle.proof_words.proofs.{◌≡◌, ℕ, ◌<◌, ◌^◌, Bool, cond, List, Option, Result, Ok, Err, refl, sym, ap, ◌∙◌, subst, inl, inr, arith, cond_both}
+use Rattle.rev_core.specs.{RevId}
+use Rattle.rev_tree.specs.{SessionId}
 use Rattle.doc_json.specs.Document.{Document}
-use Rattle.doc_json.specs.Chosen.{Choice}
-use Rattle.couch_base.specs.Lists.{Among}
-use Rattle.couch_base.specs.Database.{Id, DatabaseValue, LawfulDatabase}
-use Rattle.couch_base.specs.Feed.{WindowValue, page, IsWindow}
-use Rattle.couch_base.specs.FeedLaws.{IsWindow-page}
-use Rattle.couch_base.specs.Edit.{edited}
-use Rattle.couch_base.specs.declared.fault.BaseFault.{BaseFault}
+use Rattle.doc_json.specs.{Choice}
+use Rattle.couch_base.specs.{Among, Id, DatabaseValue, LawfulDatabase, WindowValue, page, IsWindow, IsWindow-page, edited, BaseFault, Among-map, Among-push}
 use Rattle.repl_log.specs.declared.replication.RepId.{RepId}
-use Rattle.repl_peer.specs.declared.fault.TargetFault.{TargetFault}
-use Rattle.repl_peer.specs.peer.Peer.{PeerValue, SessionValue, is_of, with_session}
-use Rattle.repl_peer.specs.peer.Writing.{load_edited}
-use Rattle.repl_peer.specs.session.Sessions.{begin_answer, new_session, begun, with_window}
-use Rattle.repl_peer.specs.session.Settling.{after_settle}
-use Rattle.repl_peer.specs.peer.Law.{LawfulSessions}
-use Rattle.couch_base.specs.MemberLaws.{Among-map, Among-push}
-use Rattle.repl_peer.proofs.lemmas.session.Changes.{Change, Stored, changed, Source, May, KeptByChanges, ends_keep, append_keep, record_keep, conclude_keep, after_settle_ends, after_stop_ends}
-use Rattle.repl_peer.proofs.lemmas.session.SettlingKeepsLaw.{AreWindows, StaysLawful, stays_same, law_kept}
+use Rattle.repl_peer.specs.{TargetFault, PeerValue, SessionValue, is_of, with_session, load_edited, begin_answer, new_session, begun, with_window, after_settle, LawfulSessions}
+use Rattle.repl_peer.proofs.{Change, Stored, changed, Source, May, KeptByChanges, ends_keep, append_keep, record_keep, conclude_keep, after_settle_ends, after_stop_ends, AreWindows, StaysLawful, stays_same, law_kept}
 use Rattle.repl_target.proofs.lemmas.replication.FetchedDocuments.{of_run, run_keeps}
-use Rattle.repl_target.specs.ties.Ties.{IsTiedWindow}
-use Rattle.repl_target.specs.replication.Calls.{Call, Load, Edit, Begin, Append, Settle, Stop, Record, Conclude, after_call, after_some, IsPageOf, IsGrown, EachStored}
+use Rattle.repl_target.specs.{IsTiedWindow, Call, Load, Edit, Begin, Append, Settle, Stop, Record, Conclude, after_call, after_some, IsPageOf, IsGrown, EachStored}
 use Rattle.repl_target.proofs.lemmas.ties.TiedPages.{page_within, IsTiedWindow-page}
 
 -- ---- pages

@@ -1,46 +1,17 @@
 -- Replicated into a peer that was empty, without a failure, each document is as it is at the source.
-use Rattle.std.proofs.Common.{◌≡◌, Bool, true, List, [], ◌∷◌, map, Option, Some, None, is_some, unwrap_or, Result, Ok, Err, IfOk, refl, sym, ap, ◌∙◌, subst, inl, inr}
-use Rattle.std.specs.Str.{bytes_eq}
-use Rattle.std.proofs.lemmas.Bool.{and_parts, cond_both, false≢true, or_cases}
-use Rattle.std.proofs.lemmas.List.{nil_from_length}
-use Rattle.std.proofs.lemmas.Slice.Eq.{bytes_eq-Decides}
-use Rattle.rev_core.specs.Rev.{RevId, rev_cmp}
-use Rattle.std.specs.FinMap.{get-empty}
-use Rattle.rev_tree.specs.Tree.{TreeValue, has, is_leaf, leaves, ancestors, merged, no_revisions}
-use Rattle.rev_tree.specs.LeafLaws.{is_among-leaves}
-use Rattle.rev_tree.specs.declared.origin.Origin.{Origin}
-use Rattle.rev_tree.specs.declared.origin.SessionId.{SessionId}
+use Rattle.proof_words.proofs.{◌≡◌, Bool, true, List, [], ◌∷◌, map, Option, Some, None, is_some, unwrap_or, Result, Ok, Err, IfOk, refl, sym, ap, ◌∙◌, subst, inl, inr, bytes_eq, and_parts, cond_both, false≢true, or_cases, nil_from_length, bytes_eq-Decides, get-empty}
+use Rattle.rev_core.specs.{RevId, rev_cmp}
+use Rattle.rev_tree.specs.{TreeValue, has, is_leaf, leaves, ancestors, merged, no_revisions, is_among-leaves, Origin, SessionId, same_leaves, IsPart, nothing_is_part, given, part_merged, whole_part}
 use Rattle.doc_json.specs.Document.{Document}
-use Rattle.doc_json.specs.Chosen.{Choice, is_chosen}
-use Rattle.couch_base.specs.Lists.{Among}
-use Rattle.couch_base.specs.ListLaws.{none_some, some_is}
-use Rattle.couch_base.specs.Database.{Id, DocumentValue, DatabaseValue, LawfulDatabase, tree_in, tree_of, with_tree}
-use Rattle.couch_base.specs.WriteLaws.{tree_in-with_tree}
-use Rattle.couch_base.specs.Feed.{row_of, feed}
-use Rattle.couch_base.specs.Messages.{leaf_document}
-use Rattle.couch_base.specs.Put.{put_answer, is_changed, after_put}
-use Rattle.repl_peer.specs.peer.Peer.{PeerValue, SessionValue, session_in}
-use Rattle.repl_peer.specs.peer.Covered.{in_ledger, covers}
-use Rattle.repl_peer.specs.peer.Law.{LawfulSessions}
-use Rattle.repl_peer.specs.logs.Checkpoint.{rep_between}
-use Rattle.repl_target.specs.Audit.{CoversFeedOf}
-use Rattle.repl_peer.specs.logs.Logs.{log_of, source_log}
-use Rattle.repl_log.specs.Log.{common}
-use Rattle.repl_peer.specs.session.Sessions.{new_session, begun}
-use Rattle.repl_target.specs.replication.Replication.{Reading, ReadsAll, start_at, start_between, begins_answer, after_begins, Closes, CoversFrom, IsEmpty, SameDocuments, beginning_between}
-use Rattle.repl_peer.specs.declared.fault.Report.{Report}
-use Rattle.repl_peer.specs.declared.fault.TargetFault.{TargetFault}
-use Rattle.repl_target.specs.declared.replication.Plan.{Plan}
-use Rattle.couch_base.specs.MemberLaws.{Among-mapped, any_member}
+use Rattle.doc_json.specs.{Choice, is_chosen}
+use Rattle.couch_base.specs.{Among, none_some, some_is, Id, DocumentValue, DatabaseValue, LawfulDatabase, tree_in, tree_of, with_tree, tree_in-with_tree, row_of, feed, leaf_document, put_answer, is_changed, after_put, Among-mapped, any_member}
+use Rattle.repl_peer.specs.{PeerValue, SessionValue, session_in, in_ledger, covers, LawfulSessions, rep_between, log_of, source_log, new_session, begun, Report, TargetFault}
+use Rattle.repl_target.specs.{CoversFeedOf, Reading, ReadsAll, start_at, start_between, begins_answer, after_begins, Closes, CoversFrom, IsEmpty, SameDocuments, beginning_between, Plan}
+use Rattle.repl_log.specs.{common}
 use Rattle.repl_target.proofs.lemmas.replication.FetchedDocuments.{tree_lawful, IsLeafOf, of_run, run_keeps, database_kept}
 use Rattle.repl_target.proofs.lemmas.replication.CallLaws.{each-kept}
-use Rattle.repl_peer.proofs.lemmas.session.Changes.{KeptByChanges}
-use Rattle.repl_peer.proofs.lemmas.Members.{among_from}
+use Rattle.repl_peer.proofs.{KeptByChanges, among_from, one_session, session_found, rises_member}
 use Rattle.repl_target.proofs.lemmas.ties.TiedPages.{in_chosen}
-use Rattle.repl_peer.proofs.lemmas.peer.LaterPeers.{one_session, session_found}
-use Rattle.rev_tree.specs.AgreementLaws.{same_leaves}
-use Rattle.rev_tree.specs.PartLaws.{IsPart, nothing_is_part, given, part_merged, whole_part}
-use Rattle.repl_peer.proofs.lemmas.peer.HonestSessions.{rises_member}
 use Rattle.repl_target.proofs.lemmas.replication.RunsConcluded.{Started, Concludes, all-concludes}
 
 -- ---- databases

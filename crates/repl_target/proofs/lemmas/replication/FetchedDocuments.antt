@@ -1,26 +1,13 @@
 -- Documents as a source hands them over, and what the calls of a run keep.
-use Rattle.std.proofs.Common.{◌≡◌, Bool, true, List, [], ◌∷◌, ◌++◌, map, Option, Some, None, unwrap_or, refl, sym, ◌∙◌, subst, inl, inr}
-use Rattle.std.specs.List.{AllByRecursion, list_any}
-use Rattle.rev_core.specs.Rev.{RevId}
-use Rattle.rev_core.specs.Ancestry.{is_among}
-use Rattle.rev_tree.specs.Tree.{TreeValue, IsTree, is_leaf, leaves, leaves_above, ancestors, no_revisions}
-use Rattle.rev_tree.specs.LeafLaws.{is_among-leaves}
-use Rattle.rev_tree.specs.declared.origin.Origin.{Origin}
-use Rattle.rev_tree.specs.declared.origin.SessionId.{SessionId}
+use Rattle.proof_words.proofs.{◌≡◌, Bool, true, List, [], ◌∷◌, ◌++◌, map, Option, Some, None, unwrap_or, refl, sym, ◌∙◌, subst, inl, inr, AllByRecursion, list_any}
+use Rattle.rev_core.specs.{RevId, is_among}
+use Rattle.rev_tree.specs.{TreeValue, IsTree, is_leaf, leaves, leaves_above, ancestors, no_revisions, is_among-leaves, Origin, SessionId}
 use Rattle.doc_json.specs.Document.{Document}
-use Rattle.doc_json.specs.Chosen.{Choice}
-use Rattle.couch_base.specs.Lists.{Among}
-use Rattle.couch_base.specs.MemberLaws.{each_member}
-use Rattle.couch_base.specs.Database.{Id, DatabaseValue, LawfulDatabase, tree_in, tree_of}
-use Rattle.couch_base.specs.DatabaseLaws.{IsDocumentTree-tree_in}
-use Rattle.couch_base.specs.DocumentTreeLaws.{IsTree-no_revisions}
-use Rattle.couch_base.specs.Messages.{WantedValue, ParcelValue, leaf_document, opened, open_revs, fetched}
-use Rattle.couch_base.specs.Put.{after_put}
-use Rattle.repl_peer.specs.peer.Peer.{PeerValue}
-use Rattle.repl_peer.specs.session.Settling.{fed, after_settle}
-use Rattle.repl_target.specs.replication.Calls.{Call, Append, Settle, Stop, Record, Conclude, after_call, after_calls, after_some, IsPageOf, IsFrom, AllFrom, IsGrown}
-use Rattle.repl_peer.proofs.lemmas.session.Changes.{Arrived, Source, KeptByChanges, ends_keep, append_keep, record_keep, conclude_keep, after_settle_ends, after_stop_ends}
-use Rattle.repl_peer.proofs.lemmas.Members.{Among-filter, among_test}
+use Rattle.doc_json.specs.{Choice}
+use Rattle.couch_base.specs.{Among, each_member, Id, DatabaseValue, LawfulDatabase, tree_in, tree_of, IsDocumentTree-tree_in, IsTree-no_revisions, WantedValue, ParcelValue, leaf_document, opened, open_revs, fetched, after_put}
+use Rattle.repl_peer.specs.{PeerValue, fed, after_settle}
+use Rattle.repl_target.specs.{Call, Append, Settle, Stop, Record, Conclude, after_call, after_calls, after_some, IsPageOf, IsFrom, AllFrom, IsGrown}
+use Rattle.repl_peer.proofs.{Arrived, Source, KeptByChanges, ends_keep, append_keep, record_keep, conclude_keep, after_settle_ends, after_stop_ends, Among-filter, among_test}
 
 pub tree_lawful : (db : DatabaseValue) → LawfulDatabase db → (id : Id) → IsTree (tree_of db.docs id)
 tree_lawful db law id = go (tree_in db.docs id) refl

@@ -1,23 +1,12 @@
 -- A replication leaves its two peers tied to every other one as they were.
-use Rattle.std.proofs.Common.{◌≡◌, ◌≢◌, ℕ, Bool, List, Result, Ok, Err, refl, sym, ap, ◌∙◌, subst, inl, inr}
+use Rattle.proof_words.proofs.{◌≡◌, ◌≢◌, ℕ, Bool, List, Result, Ok, Err, refl, sym, ap, ◌∙◌, subst, inl, inr}
 use Rattle.doc_json.specs.Document.{Document}
-use Rattle.doc_json.specs.Chosen.{Choice}
-use Rattle.couch_base.specs.Database.{LawfulDatabase}
+use Rattle.doc_json.specs.{Choice}
+use Rattle.couch_base.specs.{LawfulDatabase}
 use Rattle.repl_log.specs.declared.replication.RepId.{RepId}
-use Rattle.repl_peer.specs.peer.Peer.{PeerValue, SessionValue}
-use Rattle.repl_peer.specs.peer.Backups.{BackupValue}
-use Rattle.repl_peer.specs.peer.Law.{LawfulSessions}
-use Rattle.repl_peer.specs.logs.Checkpoint.{rep_between}
-use Rattle.repl_peer.specs.logs.Logs.{put_by, put_entry_answer}
-use Rattle.repl_peer.specs.session.Sessions.{new_session, begun}
-use Rattle.repl_peer.specs.declared.fault.TargetFault.{TargetFault}
-use Rattle.repl_peer.proofs.lemmas.peer.CallsKeepLaw.{begin_later}
-use Rattle.repl_peer.proofs.lemmas.logs.PutChangesLogsAlone.{logs_later}
-use Rattle.repl_target.specs.declared.replication.Plan.{Plan}
-use Rattle.repl_target.specs.ties.Ties.{IsTiedPair, AreTiedBackups, IsTiedWith, KeepsOthersTied, StaysTied}
-use Rattle.repl_target.specs.replication.Replication.{beginning_between, begins_answer, after_begins}
-use Rattle.repl_target.specs.replication.Calls.{Begin, IsLeft}
-use Rattle.repl_target.specs.replication.Leaves.{IsPut}
+use Rattle.repl_peer.specs.{PeerValue, SessionValue, BackupValue, LawfulSessions, rep_between, put_by, put_entry_answer, new_session, begun, TargetFault}
+use Rattle.repl_peer.proofs.{begin_later, logs_later}
+use Rattle.repl_target.specs.{Plan, IsTiedPair, AreTiedBackups, IsTiedWith, KeepsOthersTied, StaysTied, beginning_between, begins_answer, after_begins, Begin, IsLeft, IsPut}
 use Rattle.repl_target.proofs.lemmas.replication.FetchedDocuments.{run_keeps}
 use Rattle.repl_target.proofs.lemmas.replication.ReplicationAsCalls.{begun_law, begun_runs, left_law}
 use Rattle.repl_target.proofs.lemmas.ties.TiedPeersStay.{session-later, entry-later, backups-later, backups-source, tied_source, tied_call, tied_grown, log_with}

@@ -1,29 +1,14 @@
 -- How many documents a session has read, after each call.
-use Rattle.std.proofs.Common.{◌≡◌, ℕ, ◌+◌, ◌≤◌, ◌==◌, Bool, true, false, cond, List, [], ◌∷◌, Option, Some, None, Result, Ok, Err, take, length, refl, sym, ap, ◌∙◌, arith}
-use Rattle.std.specs.List.{find}
-use Rattle.std.proofs.lemmas.Bool.{cond_both, cond-true, cond-false, eq-eqb}
-use Rattle.std.proofs.Math.Seq.{take-length}
-use Rattle.rev_tree.specs.declared.origin.SessionId.{SessionId}
+use Rattle.proof_words.proofs.{◌≡◌, ℕ, ◌+◌, ◌≤◌, ◌==◌, Bool, true, false, cond, List, [], ◌∷◌, Option, Some, None, Result, Ok, Err, take, length, refl, sym, ap, ◌∙◌, arith, find, cond_both, cond-true, cond-false, eq-eqb, take-length}
+use Rattle.rev_tree.specs.{SessionId}
 use Rattle.doc_json.specs.Document.{Document}
-use Rattle.couch_base.specs.Feed.{WindowValue}
-use Rattle.couch_base.specs.Messages.{ParcelValue}
-use Rattle.repl_peer.specs.declared.fault.Settled.{Settled}
-use Rattle.repl_peer.specs.declared.fault.TargetFault.{TargetFault}
+use Rattle.couch_base.specs.{WindowValue, ParcelValue}
+use Rattle.repl_peer.specs.{Settled, TargetFault, PeerValue, SessionValue, is_of, session_in, with_session, covers_window, on_found, on_session, append_in, with_window, after_append, recorded_at, after_record, new_session, begun, settle_docs, settled_before, settle_check, settling_of, with_settling, with_done, after_documents, after_all, SettlesAt, Settles, SettleGives, LawfulSessions, read_of, read_in, taken}
 use Rattle.repl_peer.specs.declared.fault.TargetFault.TheVariants as faults
-use Rattle.repl_target.specs.declared.replication.Plan.{Plan}
-use Rattle.repl_peer.specs.peer.Peer.{PeerValue, SessionValue, is_of, session_in, with_session}
-use Rattle.repl_peer.specs.peer.Covered.{covers_window}
-use Rattle.repl_peer.specs.session.Sessions.{on_found, on_session, append_in, with_window, after_append, recorded_at, after_record, new_session, begun}
-use Rattle.repl_peer.specs.session.Settling.{settle_docs, settled_before, settle_check, settling_of, with_settling, with_done, after_documents, after_all, SettlesAt, Settles, SettleGives}
-use Rattle.repl_target.specs.replication.Replication.{begins_answer, after_begins, beginning_between}
-use Rattle.repl_peer.specs.peer.Law.{LawfulSessions}
-use Rattle.repl_peer.proofs.lemmas.peer.LaterPeers.{session_found}
+use Rattle.repl_target.specs.{Plan, begins_answer, after_begins, beginning_between}
+use Rattle.repl_peer.proofs.{session_found, settle_told, grows, check_refused}
 use Rattle.repl_target.proofs.lemmas.replication.RunsConcluded.{found-is}
-use Rattle.repl_peer.proofs.lemmas.session.Changes.{settle_told}
-use Rattle.repl_peer.proofs.lemmas.session.SettlingDocuments.{grows}
-use Rattle.repl_peer.proofs.lemmas.session.SettlingChecks.{check_refused}
 use Rattle.repl_target.proofs.lemmas.ties.SettlingTakes.{read-docs}
-use Rattle.repl_peer.specs.session.ReadCounts.{read_of, read_in, taken}
 
 -- ---- one session in the place of another
 

@@ -1,39 +1,16 @@
 -- A replication by one thread is calls on the target whose messages are what the source answers.
-use Rattle.std.proofs.Common.{◌≡◌, ℕ, min, zero, suc, ◌⊎◌, ◌==◌, ◌≤◌, Bool, true, cond, List, [], ◌∷◌, ◌++◌, Option, Some, None, Result, Ok, Err, is_ok, IfOk, OnOk, take, length, refl, sym, ap, ◌∙◌, subst, inl, inr, arith}
-use Rattle.std.proofs.lemmas.Bool.{cond_both, false≢true, and_parts, cond-true, cond-false, both_ways, eq-eqb, ne_eqb, leb-true, ltb-true}
-use Rattle.std.proofs.Math.Nat.{min-eq_left}
-use Rattle.std.specs.declared.alloc.AllocError.{AllocError}
-use Rattle.rev_tree.specs.declared.origin.SessionId.{SessionId}
+use Rattle.proof_words.proofs.{◌≡◌, ℕ, min, zero, suc, ◌⊎◌, ◌==◌, ◌≤◌, Bool, true, cond, List, [], ◌∷◌, ◌++◌, Option, Some, None, Result, Ok, Err, is_ok, IfOk, OnOk, take, length, refl, sym, ap, ◌∙◌, subst, inl, inr, arith, cond_both, false≢true, and_parts, cond-true, cond-false, both_ways, eq-eqb, ne_eqb, leb-true, ltb-true, min-eq_left, AllocError}
+use Rattle.rev_tree.specs.{SessionId}
 use Rattle.doc_json.specs.Document.{Document}
-use Rattle.doc_json.specs.Chosen.{Choice}
-use Rattle.couch_base.specs.Lists.{Among}
-use Rattle.couch_base.specs.Database.{DatabaseValue, LawfulDatabase}
-use Rattle.couch_base.specs.Feed.{WindowValue}
-use Rattle.couch_base.specs.Messages.{ParcelValue, open_revs}
+use Rattle.doc_json.specs.{Choice}
+use Rattle.couch_base.specs.{Among, DatabaseValue, LawfulDatabase, WindowValue, ParcelValue, open_revs, some_is, none_some, any_from}
 use Rattle.repl_peer.specs.declared.fault.Cause.TheVariants as causes
-use Rattle.repl_peer.specs.declared.fault.Report.{Report}
-use Rattle.repl_peer.specs.declared.fault.Settled.{Settled}
-use Rattle.repl_peer.specs.declared.fault.TargetFault.{TargetFault}
+use Rattle.repl_peer.specs.{Report, Settled, TargetFault, PeerValue, SessionValue, is_of, entry_of, LawfulSessions, new_session, begun, after_append, conclude_answer, session_answer, settle_check, settling_of, settled_before, after_all, after_documents, after_front, after_stop, settled_at, after_settle, SettlesAt, Settles, SettleGives, stopped_at, rep_between, BackupValue, IsLaterPeer}
 use Rattle.repl_peer.specs.declared.fault.TargetFault.TheVariants as faults
-use Rattle.repl_target.specs.declared.replication.Plan.{Plan}
-use Rattle.repl_peer.specs.peer.Peer.{PeerValue, SessionValue, is_of, entry_of}
-use Rattle.repl_peer.specs.peer.Law.{LawfulSessions}
-use Rattle.repl_peer.specs.session.Sessions.{new_session, begun, after_append, conclude_answer, session_answer}
-use Rattle.repl_peer.specs.session.Settling.{settle_check, settling_of, settled_before, after_all, after_documents, after_front, after_stop, settled_at, after_settle, SettlesAt, Settles, SettleGives, stopped_at}
-use Rattle.repl_peer.specs.logs.Checkpoint.{rep_between}
-use Rattle.repl_target.specs.Audit.{audit_answer, CoversFeed}
-use Rattle.repl_target.specs.replication.Replication.{Reading, is_batch, beginning_between, begins_answer, after_begins, next_window, parcel_for, Carries, WindowRefused, Reads, ReadsAll, ReadsUntil, is_due, first_reading, closed, closed_as, PutsOver, plan_answer, Replicates, cut, ended, IsReported}
+use Rattle.repl_target.specs.{Plan, audit_answer, CoversFeed, Reading, is_batch, beginning_between, begins_answer, after_begins, next_window, parcel_for, Carries, WindowRefused, Reads, ReadsAll, ReadsUntil, is_due, first_reading, closed, closed_as, PutsOver, plan_answer, Replicates, cut, ended, IsReported, Call, Append, Settle, Stop, Record, Conclude, after_call, after_calls, after_some, most_settled, settled_of, IsPageOf, IsFrom, AllFrom, IsGrown, IsLeft, IsTiedWindow, IsTiedPair, IsTiedWith, IsPut}
 use Rattle.repl_target.proofs.lemmas.replication.BegunSessions.{fresh_of}
-use Rattle.couch_base.specs.ListLaws.{some_is, none_some}
-use Rattle.couch_base.specs.MemberLaws.{any_from}
-use Rattle.repl_target.specs.replication.Calls.{Call, Append, Settle, Stop, Record, Conclude, after_call, after_calls, after_some, most_settled, settled_of, IsPageOf, IsFrom, AllFrom, IsGrown, IsLeft}
-use Rattle.repl_peer.specs.peer.Backups.{BackupValue}
-use Rattle.repl_target.specs.ties.Ties.{IsTiedWindow, IsTiedPair, IsTiedWith}
-use Rattle.repl_target.specs.replication.Leaves.{IsPut}
-use Rattle.repl_peer.specs.peer.Later.{IsLaterPeer}
-use Rattle.repl_log.specs.Entry.{EntryValue}
-use Rattle.repl_peer.proofs.lemmas.peer.LaterPeers.{IsLaterPeer-same, IsLaterPeer-later, session_found}
-use Rattle.repl_peer.proofs.lemmas.peer.CallsKeepLaw.{begin_law, begin_later}
+use Rattle.repl_log.specs.{EntryValue}
+use Rattle.repl_peer.proofs.{IsLaterPeer-same, IsLaterPeer-later, session_found, begin_law, begin_later}
 use Rattle.repl_target.proofs.lemmas.replication.CallLaws.{page_window, grown_law, IsRunOf}
 use Rattle.repl_target.proofs.lemmas.ties.TiedPeersCover.{session_reached, start_small, tied_none}
 use Rattle.repl_target.proofs.lemmas.ties.TiedPeersStay.{backups-later, backups-source, tied_grown, tied_begun, puts_tied, sent_entry}

@@ -1,28 +1,17 @@
 -- What a replication that ends says: its session is reported, and all of the source's feed from its start is covered.
-use Rattle.std.proofs.Common.{◌≡◌, ◌⊎◌, ℕ, suc, ◌+◌, ◌==◌, Bool, true, cond, List, [], ◌∷◌, Option, Some, None, Result, Ok, Err, is_ok, OnOk, IfOk, refl, sym, ap, ◌∙◌, subst, inl, inr, arith, eqb}
-use Rattle.std.specs.List.{find, IsDistinct}
-use Rattle.std.proofs.lemmas.Bool.{cond_both, cond-true, eqb-true, eq-eqb, false≢true}
-use Rattle.std.specs.declared.alloc.AllocError.{AllocError}
-use Rattle.rev_tree.specs.declared.origin.SessionId.{SessionId}
+use Rattle.proof_words.proofs.{◌≡◌, ◌⊎◌, ℕ, suc, ◌+◌, ◌==◌, Bool, true, cond, List, [], ◌∷◌, Option, Some, None, Result, Ok, Err, is_ok, OnOk, IfOk, refl, sym, ap, ◌∙◌, subst, inl, inr, arith, eqb, find, IsDistinct, cond_both, cond-true, eqb-true, eq-eqb, false≢true, AllocError}
+use Rattle.rev_tree.specs.{SessionId}
 use Rattle.doc_json.specs.Document.{Document}
-use Rattle.couch_base.specs.Lists.{Among}
-use Rattle.couch_base.specs.ListLaws.{none_some}
-use Rattle.couch_base.specs.Database.{DatabaseValue, LawfulDatabase}
-use Rattle.range_front.specs.Front.{low_water}
-use Rattle.repl_log.specs.Counts.{AddUp}
-use Rattle.repl_peer.specs.peer.Peer.{PeerValue, SessionValue, is_of, session_in, with_session}
-use Rattle.repl_peer.specs.peer.Law.{LawfulSessions, session_numbers}
-use Rattle.repl_peer.specs.session.Sessions.{found_answer, on_found, on_session, recorded_at, report_of, conclude_in, conclude_answer, after_conclude}
-use Rattle.repl_target.specs.replication.Replication.{Reading, plan_answer, Carries, Reads, start_between, begins_answer, after_begins, first_reading, closed_as, closed, told_by, Closes, is_due, CoversFrom, IsReported, ReadsAll, ReadsUntil, Replicates, not_planned, no_memory, not_begun, cut, ended}
-use Rattle.repl_peer.specs.declared.fault.Report.{Report}
-use Rattle.repl_peer.specs.declared.fault.TargetFault.{TargetFault}
+use Rattle.couch_base.specs.{Among, none_some, DatabaseValue, LawfulDatabase}
+use Rattle.range_front.specs.{low_water}
+use Rattle.repl_log.specs.{AddUp}
+use Rattle.repl_peer.specs.{PeerValue, SessionValue, is_of, session_in, with_session, LawfulSessions, session_numbers, found_answer, on_found, on_session, recorded_at, report_of, conclude_in, conclude_answer, after_conclude, Report, TargetFault}
+use Rattle.repl_target.specs.{Reading, plan_answer, Carries, Reads, start_between, begins_answer, after_begins, first_reading, closed_as, closed, told_by, Closes, is_due, CoversFrom, IsReported, ReadsAll, ReadsUntil, Replicates, not_planned, no_memory, not_begun, cut, ended, Plan, Conclude, IsGrown}
 use Rattle.repl_peer.specs.declared.fault.TargetFault.TheVariants as faults
-use Rattle.repl_target.specs.declared.replication.Plan.{Plan}
-use Rattle.repl_peer.proofs.lemmas.peer.LaterPeers.{one_session, session_found, with_session_holds}
+use Rattle.repl_peer.proofs.{one_session, session_found, with_session_holds}
 use Rattle.repl_target.proofs.lemmas.replication.CallLaws.{grown_law}
 use Rattle.repl_target.proofs.lemmas.replication.BegunSessions.{later_session, later_covers}
 use Rattle.repl_target.proofs.lemmas.replication.ReplicationAsCalls.{grown-later, grown-one, read_grown}
-use Rattle.repl_target.specs.replication.Calls.{Conclude, IsGrown}
 
 -- ---- lists
 

@@ -1,36 +1,13 @@
 -- What a settling takes: each document, in the counts too; so a parcel of a session's own window covers it.
-use Rattle.std.proofs.Common.{◌≡◌, ◌⊎◌, ℕ, zero, suc, ◌+◌, ◌≤◌, ◌&&◌, Bool, true, false, cond, not, List, [], ◌∷◌, Option, Some, None, Result, Ok, Err, take, length, refl, sym, ap, ◌∙◌, subst, inl, inr, arith}
-use Rattle.std.specs.List.{find, list_all}
-use Rattle.std.specs.Option.{option_map, option_or}
-use Rattle.std.specs.Str.{bytes_eq}
-use Rattle.std.proofs.lemmas.Bool.{and_from, cond_both, both_ways, or_left, or_right, cases_Bool}
-use Rattle.std.proofs.lemmas.Slice.Eq.{bytes_eq-Decides}
-use Rattle.rev_core.specs.Rev.{RevId}
-use Rattle.rev_core.specs.Ancestry.{is_among}
-use Rattle.rev_tree.specs.Tree.{has}
-use Rattle.rev_tree.specs.declared.origin.SessionId.{SessionId}
+use Rattle.proof_words.proofs.{◌≡◌, ◌⊎◌, ℕ, zero, suc, ◌+◌, ◌≤◌, ◌&&◌, Bool, true, false, cond, not, List, [], ◌∷◌, Option, Some, None, Result, Ok, Err, take, length, refl, sym, ap, ◌∙◌, subst, inl, inr, arith, find, list_all, option_map, option_or, bytes_eq, and_from, cond_both, both_ways, or_left, or_right, cases_Bool, bytes_eq-Decides}
+use Rattle.rev_core.specs.{RevId, is_among}
+use Rattle.rev_tree.specs.{has, SessionId}
 use Rattle.doc_json.specs.Document.{Document}
-use Rattle.couch_base.specs.Lists.{Among}
-use Rattle.couch_base.specs.ListLaws.{none_some}
-use Rattle.couch_base.specs.Database.{Id, tree_of}
-use Rattle.couch_base.specs.Feed.{RowValue, WindowValue}
-use Rattle.couch_base.specs.Messages.{ParcelValue, IsParcel}
-use Rattle.couch_base.specs.Put.{put_answer}
-use Rattle.repl_peer.specs.declared.fault.Reason.{Reason}
-use Rattle.repl_peer.specs.declared.fault.Settled.{Settled}
-use Rattle.repl_peer.specs.declared.fault.TargetFault.{TargetFault}
+use Rattle.couch_base.specs.{Among, none_some, Id, tree_of, RowValue, WindowValue, ParcelValue, IsParcel, put_answer, Among-left, Among-last, any_from}
+use Rattle.repl_peer.specs.{Reason, Settled, TargetFault, PeerValue, SessionValue, RefusedValue, written_of, with_session, refusal_of, in_ledger, covers, unknown_in, first_unknown, Settling, settle_as, settle_one, settle_docs, stops_as, stops_at, settled_before, is_full, has_row, settle_check, settling_of, with_settling, after_documents, after_all, Settles, SettleGives, is_uncovered, LawfulSessions}
 use Rattle.repl_peer.specs.declared.fault.TargetFault.TheVariants as faults
-use Rattle.repl_peer.specs.peer.Peer.{PeerValue, SessionValue, RefusedValue, written_of, with_session}
-use Rattle.repl_peer.specs.peer.Covered.{refusal_of, in_ledger, covers, unknown_in, first_unknown}
-use Rattle.repl_peer.specs.session.Settling.{Settling, settle_as, settle_one, settle_docs, stops_as, stops_at, settled_before, is_full, has_row, settle_check, settling_of, with_settling, after_documents, after_all, Settles, SettleGives, is_uncovered}
-use Rattle.repl_peer.specs.peer.Law.{LawfulSessions}
-use Rattle.couch_base.specs.MemberLaws.{Among-left, Among-last, any_from}
-use Rattle.repl_peer.proofs.lemmas.peer.LaterPeers.{covers-later, one_session}
-use Rattle.repl_peer.proofs.lemmas.session.SettlingChecks.{check_refused}
-use Rattle.repl_peer.proofs.lemmas.session.Changes.{Walked, settle_told}
-use Rattle.repl_peer.proofs.lemmas.session.SettlingKeepsLaw.{StaysLawful, documents_law, mark_law}
-use Rattle.repl_peer.proofs.lemmas.session.WindowsFollow.{windows-consecutive, window-above, one_window}
-use Rattle.repl_target.specs.ties.Ties.{IsTiedParcel}
+use Rattle.repl_peer.proofs.{covers-later, one_session, check_refused, Walked, settle_told, StaysLawful, documents_law, mark_law, windows-consecutive, window-above, one_window}
+use Rattle.repl_target.specs.{IsTiedParcel}
 use Rattle.repl_target.proofs.lemmas.ties.TiedMessages.{brought}
 
 -- ---- each document is taken

@@ -1,21 +1,12 @@
 -- What is asked and what is fetched for a tied window is tied.
-use Rattle.std.proofs.Common.{◌≡◌, ◌⊎◌, Bool, true, false, not, ◌||◌, List, [], ◌∷◌, ◌++◌, map, filter, refl, sym, ap, ◌∙◌, subst, inl, inr}
-use Rattle.std.specs.List.{list_any, list_all}
-use Rattle.std.proofs.lemmas.Bool.{and_parts, cond_both, both_ways, or_cases, false≢true, not_from_true, not_from_false}
-use Rattle.std.proofs.lemmas.Slice.Eq.{bytes_eq-Decides}
-use Rattle.rev_core.specs.Rev.{RevId}
-use Rattle.rev_core.specs.Ancestry.{is_among}
-use Rattle.rev_tree.specs.Tree.{has, missing}
+use Rattle.proof_words.proofs.{◌≡◌, ◌⊎◌, Bool, true, false, not, ◌||◌, List, [], ◌∷◌, ◌++◌, map, filter, refl, sym, ap, ◌∙◌, subst, inl, inr, list_any, list_all, and_parts, cond_both, both_ways, or_cases, false≢true, not_from_true, not_from_false, bytes_eq-Decides}
+use Rattle.rev_core.specs.{RevId, is_among}
+use Rattle.rev_tree.specs.{has, missing}
 use Rattle.doc_json.specs.Document.{Document}
-use Rattle.doc_json.specs.Chosen.{Choice}
-use Rattle.couch_base.specs.Lists.{Among}
-use Rattle.couch_base.specs.Database.{Id, DocumentValue, DatabaseValue, tree_of}
-use Rattle.couch_base.specs.Feed.{RowValue, WindowValue}
-use Rattle.couch_base.specs.Messages.{WantedValue, AskedValue, ParcelValue, want_first, wanted, revs_diff, open_revs, gone_of, brings, is_rev_of, is_answered, IsParcel}
-use Rattle.couch_base.specs.WriteLaws.{IsLater}
-use Rattle.couch_base.specs.MemberLaws.{any_member, all_member}
-use Rattle.repl_target.specs.ties.Ties.{IsTiedWindow, Asks, Names, IsTiedAsked, IsTiedParcel}
-use Rattle.repl_peer.proofs.lemmas.Members.{Among-filter, Among-filtered}
+use Rattle.doc_json.specs.{Choice}
+use Rattle.couch_base.specs.{Among, Id, DocumentValue, DatabaseValue, tree_of, RowValue, WindowValue, WantedValue, AskedValue, ParcelValue, want_first, wanted, revs_diff, open_revs, gone_of, brings, is_rev_of, is_answered, IsParcel, IsLater, any_member, all_member}
+use Rattle.repl_target.specs.{IsTiedWindow, Asks, Names, IsTiedAsked, IsTiedParcel}
+use Rattle.repl_peer.proofs.{Among-filter, Among-filtered}
 
 -- ---- asking
 

@@ -1,21 +1,11 @@
 -- A page is tied to its database, and what is tied stays so.
-use Rattle.std.proofs.Common.{◌≡◌, ℕ, zero, suc, ◌<◌, ◌≤◌, nat_lt, nat_le, ◌==◌, true, false, ◌&&◌, List, [], ◌∷◌, map, filter, length, take, Some, sym, ap, ◌∙◌, subst, inl, inr, arith, unwrap_or}
-use Rattle.std.specs.List.{list_any, AllByRecursion}
-use Rattle.std.specs.Str.{bytes_eq}
-use Rattle.std.proofs.lemmas.Bool.{and_parts, and_from, cond_both, cond-false, cond-true, lt-ltb, ltb-true, le-leb, leb-true, or_parts}
-use Rattle.std.proofs.lemmas.Slice.Eq.{bytes_eq-Decides}
-use Rattle.rev_core.specs.Rev.{RevId}
-use Rattle.rev_tree.specs.Tree.{has, leaves, is_leaf, no_revisions}
-use Rattle.rev_tree.specs.LeafLaws.{is_among-leaves}
-use Rattle.doc_json.specs.Chosen.{Choice, is_chosen}
-use Rattle.couch_base.specs.Lists.{Among, EachOnce}
-use Rattle.couch_base.specs.Database.{Id, DocumentValue, DatabaseValue, LawfulDatabase, tree_in, tree_of}
-use Rattle.couch_base.specs.Feed.{RowValue, WindowValue, row_of, feed, chosen_feed, last_seq, page}
-use Rattle.couch_base.specs.WriteLaws.{IsLater}
-use Rattle.couch_base.specs.MemberLaws.{Among-map, Among-mapped, Among-left}
-use Rattle.couch_base.specs.FeedLaws.{feed-page}
-use Rattle.repl_target.specs.ties.Ties.{IsTiedWindow}
-use Rattle.repl_peer.proofs.lemmas.Members.{Among-filter, Among-filtered, Among-split, among_test}
+use Rattle.proof_words.proofs.{◌≡◌, ℕ, zero, suc, ◌<◌, ◌≤◌, nat_lt, nat_le, ◌==◌, true, false, ◌&&◌, List, [], ◌∷◌, map, filter, length, take, Some, sym, ap, ◌∙◌, subst, inl, inr, arith, unwrap_or, list_any, AllByRecursion, bytes_eq, and_parts, and_from, cond_both, cond-false, cond-true, lt-ltb, ltb-true, le-leb, leb-true, or_parts, bytes_eq-Decides}
+use Rattle.rev_core.specs.{RevId}
+use Rattle.rev_tree.specs.{has, leaves, is_leaf, no_revisions, is_among-leaves}
+use Rattle.doc_json.specs.{Choice, is_chosen}
+use Rattle.couch_base.specs.{Among, EachOnce, Id, DocumentValue, DatabaseValue, LawfulDatabase, tree_in, tree_of, RowValue, WindowValue, row_of, feed, chosen_feed, last_seq, page, IsLater, Among-map, Among-mapped, Among-left, feed-page}
+use Rattle.repl_target.specs.{IsTiedWindow}
+use Rattle.repl_peer.proofs.{Among-filter, Among-filtered, Among-split, among_test}
 
 -- ---- documents
 

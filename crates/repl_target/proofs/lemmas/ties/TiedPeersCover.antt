@@ -1,37 +1,19 @@
 -- What tied peers cover.
-use Rattle.std.proofs.Common.{◌≡◌, ℕ, ◌<◌, ◌≤◌, ◌^◌, min, Bool, true, List, Option, Some, None, refl, sym, ap, ◌∙◌, subst, inl, inr, arith}
-use Rattle.std.proofs.lemmas.Bool.{cases_lt, eqb-true}
-use Rattle.rev_core.specs.Rev.{RevId}
-use Rattle.rev_tree.specs.Tree.{leaves}
-use Rattle.rev_tree.specs.declared.origin.SessionId.{SessionId}
+use Rattle.proof_words.proofs.{◌≡◌, ℕ, ◌<◌, ◌≤◌, ◌^◌, min, Bool, true, List, Option, Some, None, refl, sym, ap, ◌∙◌, subst, inl, inr, arith, cases_lt, eqb-true}
+use Rattle.rev_core.specs.{RevId}
+use Rattle.rev_tree.specs.{leaves, SessionId}
 use Rattle.doc_json.specs.Document.{Document}
-use Rattle.doc_json.specs.Chosen.{Choice, is_chosen}
-use Rattle.couch_base.specs.Lists.{Among}
-use Rattle.couch_base.specs.Database.{DocumentValue, DatabaseValue}
-use Rattle.couch_base.specs.Feed.{RowValue, WindowValue, row_of, chosen_feed}
-use Rattle.range_front.specs.Front.{is_done, low_water}
-use Rattle.range_front.specs.FrontLaws.{reached, is_window-is_done, low_water-is_end, low_water-le-end_of}
+use Rattle.doc_json.specs.{Choice, is_chosen}
+use Rattle.couch_base.specs.{Among, DocumentValue, DatabaseValue, RowValue, WindowValue, row_of, chosen_feed, Among-map, found_member}
+use Rattle.range_front.specs.{is_done, low_water, reached, is_window-is_done, low_water-is_end, low_water-le-end_of}
 use Rattle.repl_log.specs.declared.replication.RepId.{RepId}
-use Rattle.repl_log.specs.Entry.{EntryValue}
-use Rattle.repl_log.specs.Log.{is_of, common}
-use Rattle.repl_log.specs.LogLaws.{common-IsCommon, common-le}
-use Rattle.repl_log.specs.RepId.{same_rep}
-use Rattle.repl_peer.specs.peer.Peer.{PeerValue, SessionValue, entry_of}
-use Rattle.repl_peer.specs.peer.Covered.{covers}
-use Rattle.repl_peer.specs.peer.Law.{LawfulSession, LawfulSessions}
-use Rattle.repl_peer.specs.logs.Logs.{source_log, target_log}
-use Rattle.repl_peer.specs.logs.Checkpoint.{rep_between}
-use Rattle.repl_target.specs.Audit.{hole_at, hole_of, audit_answer, CoversFeedOf, IsAudited}
-use Rattle.repl_target.specs.replication.Replication.{start_at, checkpoint_of, start_between}
+use Rattle.repl_log.specs.{EntryValue, is_of, common, common-IsCommon, common-le, same_rep, same_rep-is}
+use Rattle.repl_peer.specs.{PeerValue, SessionValue, entry_of, covers, LawfulSession, LawfulSessions, source_log, target_log, rep_between}
+use Rattle.repl_target.specs.{hole_at, hole_of, audit_answer, CoversFeedOf, IsAudited, start_at, checkpoint_of, start_between, IsTiedWindow, IsReached, IsTiedSession, IsTiedEntry, AreTiedEntries, IsTiedPair, LogsAreHonest}
 use Rattle.repl_target.specs.declared.auditing.found.Audit.{Audit}
 use Rattle.repl_target.specs.declared.auditing.found.Audit.TheVariants.{Clean, Hole}
-use Rattle.couch_base.specs.MemberLaws.{Among-map, found_member}
-use Rattle.repl_log.specs.RepIdLaws.{same_rep-is}
-use Rattle.repl_peer.proofs.lemmas.session.WindowsFollow.{window-stored}
-use Rattle.repl_target.specs.ties.Ties.{IsTiedWindow, IsReached, IsTiedSession, IsTiedEntry, AreTiedEntries, IsTiedPair, LogsAreHonest}
-use Rattle.repl_peer.proofs.lemmas.Members.{Among-filter}
+use Rattle.repl_peer.proofs.{window-stored, Among-filter, one_session}
 use Rattle.repl_target.proofs.lemmas.ties.TiedPages.{chosen_member, in_chosen}
-use Rattle.repl_peer.proofs.lemmas.peer.LaterPeers.{one_session}
 use Rattle.repl_target.proofs.lemmas.ties.SettlingTakes.{all_known}
 
 -- each leaf of the document is covered

@@ -1,39 +1,16 @@
 -- Two tied peers stay tied, with the copies of the source.
-use Rattle.std.proofs.Common.{◌≡◌, ℕ, ◌≤◌, Bool, true, false, cond, ◌⊎◌, List, [], ◌∷◌, Option, Some, None, Result, Ok, Err, refl, sym, ap, ◌∙◌, subst, inl, inr, arith, ◌==◌}
-use Rattle.std.proofs.lemmas.Bool.{cond_both, eqb-true}
-use Rattle.rev_tree.specs.declared.origin.SessionId.{SessionId}
+use Rattle.proof_words.proofs.{◌≡◌, ℕ, ◌≤◌, Bool, true, false, cond, ◌⊎◌, List, [], ◌∷◌, Option, Some, None, Result, Ok, Err, refl, sym, ap, ◌∙◌, subst, inl, inr, arith, ◌==◌, cond_both, eqb-true}
+use Rattle.rev_tree.specs.{SessionId}
 use Rattle.doc_json.specs.Document.{Document}
-use Rattle.doc_json.specs.Chosen.{Choice}
-use Rattle.couch_base.specs.Lists.{Among}
-use Rattle.couch_base.specs.Database.{DatabaseValue, LawfulDatabase, in_life}
-use Rattle.couch_base.specs.Feed.{RowValue, WindowValue, chosen_feed}
-use Rattle.couch_base.specs.WriteLaws.{IsLater}
-use Rattle.couch_base.specs.MemberLaws.{Among-map, Among-push}
+use Rattle.doc_json.specs.{Choice}
+use Rattle.couch_base.specs.{Among, DatabaseValue, LawfulDatabase, in_life, RowValue, WindowValue, chosen_feed, IsLater, Among-map, Among-push}
 use Rattle.repl_log.specs.declared.replication.RepId.{RepId}
-use Rattle.repl_log.specs.Entry.{EntryValue}
-use Rattle.repl_log.specs.Log.{is_of, holds, replaced, with_entry}
-use Rattle.repl_log.specs.RepId.{same_rep}
-use Rattle.repl_peer.specs.peer.Peer.{PeerValue, SessionValue, entry_of, session_in}
-use Rattle.repl_peer.specs.peer.Law.{LawfulSessions}
-use Rattle.repl_peer.specs.peer.Later.{IsLaterPeer}
-use Rattle.repl_peer.specs.logs.Checkpoint.{rep_between}
-use Rattle.repl_peer.specs.peer.Backups.{BackupValue}
-use Rattle.repl_log.specs.Logs.{log_in, logs_with, put_answer_in}
-use Rattle.repl_peer.specs.logs.Logs.{source_log, as_log_answers, put_by, put_entry_answer, after_put_entry}
-use Rattle.repl_peer.specs.session.Sessions.{new_session, with_window, session_answer, found_answer}
-use Rattle.repl_target.specs.ties.Ties.{IsTiedWindow, IsReached, IsTiedSession, IsTiedEntry, AreTiedEntries, IsTiedPair, AreTiedBackups, IsSentEntry}
-use Rattle.repl_target.specs.replication.Calls.{Call, Begin, after_call, IsPageOf, IsGrown}
-use Rattle.repl_peer.specs.declared.fault.TargetFault.{TargetFault}
+use Rattle.repl_log.specs.{EntryValue, is_of, holds, replaced, with_entry, same_rep, log_in, logs_with, put_answer_in, same_rep-is}
+use Rattle.repl_peer.specs.{PeerValue, SessionValue, entry_of, session_in, LawfulSessions, IsLaterPeer, rep_between, BackupValue, source_log, as_log_answers, put_by, put_entry_answer, after_put_entry, new_session, with_window, session_answer, found_answer, TargetFault, Beginning}
+use Rattle.repl_target.specs.{IsTiedWindow, IsReached, IsTiedSession, IsTiedEntry, AreTiedEntries, IsTiedPair, AreTiedBackups, IsSentEntry, Call, Begin, after_call, IsPageOf, IsGrown, beginning_between, start_between, after_begins, Plan}
 use Rattle.repl_peer.specs.declared.fault.TargetFault.TheVariants as faults
-use Rattle.repl_target.specs.replication.Replication.{beginning_between, start_between, after_begins}
-use Rattle.repl_target.specs.declared.replication.Plan.{Plan}
-use Rattle.repl_peer.specs.declared.session.beginning.Beginning.{Beginning}
-use Rattle.repl_peer.proofs.lemmas.peer.LaterPeers.{covers-later, session_found}
-use Rattle.repl_log.specs.RepIdLaws.{same_rep-is}
-use Rattle.repl_peer.proofs.lemmas.peer.CallsKeepLaw.{begin_later}
+use Rattle.repl_peer.proofs.{covers-later, session_found, begin_later, changed, after_change, KeptByChanges, change_law}
 use Rattle.repl_target.proofs.lemmas.ties.TiedPages.{chosen_member, in_chosen, IsTiedWindow-later}
-use Rattle.repl_peer.proofs.lemmas.session.Changes.{changed, after_change, KeptByChanges}
-use Rattle.repl_peer.proofs.lemmas.session.SettlingKeepsLaw.{change_law}
 use Rattle.repl_target.proofs.lemmas.replication.FetchedDocuments.{of_run, run_keeps}
 use Rattle.repl_target.proofs.lemmas.replication.CallLaws.{Stays, Brings, call_keeps, each-with, each-changed, each-kept, run_windows, IsRunOf, run-stays}
 use Rattle.repl_target.proofs.lemmas.ties.TiedPeersCover.{session_reached, start_reached}

@@ -1,8 +1,6 @@
-use Rattle.std.proofs.Common.{Err, sym, ap, ◌∙◌, subst}
-use Rattle.std.proofs.lemmas.Result.{err_from_is_err_and}
-use Rattle.repl_target.specs.replication.Replication.{Reading, ReadsAll, ReadsUntil}
-use Rattle.repl_target.proofs.lemmas.replication.EmptyTargetCopied.{all-copied}
-use Rattle.repl_target.proofs.lemmas.replication.RunsConcluded.{refused_plan, refused_begin, cut_short, ended_all, all-found, all-covered, all-reported}
+use Rattle.proof_words.proofs.{Err, sym, ap, ◌∙◌, subst, err_from_is_err_and}
+use Rattle.repl_target.specs.{Reading, ReadsAll, ReadsUntil}
+use Rattle.repl_target.proofs.{all-copied, refused_plan, refused_begin, cut_short, ended_all, all-found, all-covered, all-reported}
 use Rattle.repl_target.proofs.replication.carry_all.Goals as goal
 
 pub returns-in_err-check_peers-clause-replicates : goal.returns-in_err-check_peers-clause-replicates

@@ -1,7 +1,6 @@
-use Rattle.std.proofs.Common.{◌≡◌, Some, Ok, Err, sym, ap, ◌∙◌, subst}
-use Rattle.std.proofs.lemmas.Result.{err_from_is_err_and}
-use Rattle.repl_peer.specs.peer.Peer.{PeerValue, SessionValue, session_in}
-use Rattle.repl_target.proofs.lemmas.replication.RunsConcluded.{closed-found}
+use Rattle.proof_words.proofs.{◌≡◌, Some, Ok, Err, sym, ap, ◌∙◌, subst, err_from_is_err_and}
+use Rattle.repl_peer.specs.{PeerValue, SessionValue, session_in}
+use Rattle.repl_target.proofs.{closed-found}
 use Rattle.repl_target.proofs.replication.close.Goals as goal
 
 pub record_at_source-requires : goal.record_at_source-requires

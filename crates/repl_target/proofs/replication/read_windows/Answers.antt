@@ -1,7 +1,6 @@
-use Rattle.std.proofs.Common.{◌<◌, sym, ◌∙◌, subst, arith}
-use Rattle.std.proofs.lemmas.Bool.{and_from, lt-ltb}
-use Rattle.repl_target.specs.replication.Replication.{Reading, Carries}
-use Rattle.repl_target.proofs.lemmas.replication.RunsConcluded.{reads_more}
+use Rattle.proof_words.proofs.{◌<◌, sym, ◌∙◌, subst, arith, and_from, lt-ltb}
+use Rattle.repl_target.specs.{Reading, Carries}
+use Rattle.repl_target.proofs.{reads_more}
 use Rattle.repl_target.proofs.replication.read_windows.Goals as goal
 
 pub loop-since-smaller : goal.loop-since-smaller

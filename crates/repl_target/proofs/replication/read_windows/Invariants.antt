@@ -1,5 +1,5 @@
-use Rattle.std.proofs.Common.{◌≡◌, ◌-◌, ◌≤◌}
-use Rattle.repl_target.specs.replication.Replication.{Reads}
+use Rattle.proof_words.proofs.{◌≡◌, ◌-◌, ◌≤◌}
+use Rattle.repl_target.specs.{Reads}
 use Rattle.repl_target.proofs.replication.read_windows.Given as goal
 
 -- so many windows are read

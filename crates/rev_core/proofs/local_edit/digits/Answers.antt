@@ -1,9 +1,7 @@
-use Rattle.std.proofs.Common.{◌≡◌, true, sym, ap, ◌∙◌, refl, subst}
-use Rattle.std.specs.Prelude.{IsOk}
-use Rattle.std.proofs.lemmas.Bool.{cond-true}
+use Rattle.proof_words.proofs.{◌≡◌, true, sym, ap, ◌∙◌, refl, subst, IsOk, cond-true}
 use Rattle.hex.specs.Hex.{encode_lower}
-use Rattle.rev_core.specs.Sig.{is_sig}
-use Rattle.rev_core.proofs.HexSigs.{is_sig-encode_lower}
+use Rattle.rev_core.specs.{is_sig}
+use Rattle.rev_core.proofs.{is_sig-encode_lower}
 use Rattle.rev_core.proofs.local_edit.digits.Goals as goal
 
 -- the digits are a signature

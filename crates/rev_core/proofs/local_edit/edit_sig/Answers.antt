@@ -1,7 +1,7 @@
-use Rattle.std.proofs.Common.{◌≡◌, [], ◌∷◌, ◌++◌, ap, ◌∙◌, append_assoc}
+use Rattle.proof_words.proofs.{◌≡◌, [], ◌∷◌, ◌++◌, ap, ◌∙◌, append_assoc}
 use Rattle.md5.specs.Md5.{md5}
 use Rattle.hex.specs.Hex.{encode_lower}
-use Rattle.rev_core.specs.NewRev.{edit_sig, parent_text}
+use Rattle.rev_core.specs.{edit_sig, parent_text}
 use Rattle.rev_core.proofs.local_edit.edit_sig.Goals as goal
 
 -- the pieces, one after another

@@ -1,7 +1,6 @@
-use Rattle.std.proofs.Common.{◌≡◌, ◌+◌, drop, get_or, fold, sym, ◌∙◌, arith}
-use Rattle.std.proofs.lemmas.List.{at_drop_more}
-use Rattle.rev_core.specs.Text.{with_digit, value_of}
-use Rattle.rev_core.proofs.Digits.{value_grows, too_large}
+use Rattle.proof_words.proofs.{◌≡◌, ◌+◌, drop, get_or, fold, sym, ◌∙◌, arith, at_drop_more}
+use Rattle.rev_core.specs.{with_digit, value_of}
+use Rattle.rev_core.proofs.{value_grows, too_large}
 use Rattle.rev_core.proofs.rev.generation_of.Goals as goal
 
 pub returns-then-value-ge4294967296-clause-value : goal.returns-then-value-ge4294967296-clause-value

@@ -1,6 +1,5 @@
-use Rattle.std.proofs.Common.{◌≡◌, ◌<◌, ◌≤◌, ◌^◌, drop, fold}
-use Rattle.std.specs.List.{list_all}
-use Rattle.rev_core.specs.Text.{with_digit, value_of, is_digit}
+use Rattle.proof_words.proofs.{◌≡◌, ◌<◌, ◌≤◌, ◌^◌, drop, fold, list_all}
+use Rattle.rev_core.specs.{with_digit, value_of, is_digit}
 use Rattle.rev_core.proofs.rev.generation_of.Given as goal
 
 -- the rest of the text gives what all of it gives

@@ -1,7 +1,6 @@
-use Rattle.std.proofs.Common.{◌≡◌, ◌++◌, ◌∷◌, [], get_or, sym, ◌∙◌, arith}
-use Rattle.std.proofs.lemmas.List.{length-set, take_all, take_more, take_more_set}
-use Rattle.rev_core.specs.ShortSig.{digits_of}
-use Rattle.rev_core.proofs.ShortSigs.{high_at, low_at, length-digits_of}
+use Rattle.proof_words.proofs.{◌≡◌, ◌++◌, ◌∷◌, [], get_or, sym, ◌∙◌, arith, length-set, take_all, take_more, take_more_set}
+use Rattle.rev_core.specs.{digits_of}
+use Rattle.rev_core.proofs.{high_at, low_at, length-digits_of}
 use Rattle.rev_core.proofs.short_sig.digits_of.Goals.{then-i-lt-ROOM, else-i-lt-ROOM}
 use Rattle.rev_core.proofs.short_sig.digits_of.Goals as goal
 

@@ -1,5 +1,5 @@
-use Rattle.std.proofs.Common.{◌≡◌, length, take}
-use Rattle.rev_core.specs.ShortSig.{digits_of}
+use Rattle.proof_words.proofs.{◌≡◌, length, take}
+use Rattle.rev_core.specs.{digits_of}
 use Rattle.rev_core.proofs.short_sig.digits_of.Given as goal
 
 -- the digits so far

@@ -1,5 +1,5 @@
-use Rattle.std.proofs.Common.{◌≡◌, ◌&&◌, ◌*◌, ◌+◌, slice_set, subst, sym, arith}
-use Rattle.rev_core.proofs.ShortSigs.{IsRead, read_more, read_all}
+use Rattle.proof_words.proofs.{◌≡◌, ◌&&◌, ◌*◌, ◌+◌, slice_set, subst, sym, arith}
+use Rattle.rev_core.proofs.{IsRead, read_more, read_all}
 use Rattle.rev_core.proofs.short_sig.joined.Goals as goal
 
 pub loop-i-preserved : goal.loop-i-preserved

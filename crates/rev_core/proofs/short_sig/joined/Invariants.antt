@@ -1,4 +1,4 @@
-use Rattle.rev_core.proofs.ShortSigs.{IsRead}
+use Rattle.rev_core.proofs.{IsRead}
 use Rattle.rev_core.proofs.short_sig.joined.Given as goal
 
 -- the digits so far

@@ -1,6 +1,5 @@
-use Rattle.std.proofs.Common.{◌≡◌, ◌&&◌, drop}
-use Rattle.std.specs.List.{list_all}
-use Rattle.rev_core.specs.Sig.{is_sig_byte}
+use Rattle.proof_words.proofs.{◌≡◌, ◌&&◌, drop, list_all}
+use Rattle.rev_core.specs.{is_sig_byte}
 use Rattle.rev_core.proofs.sig.all_sig_bytes.Given as goal
 
 -- the bytes so far, and those that are left

@@ -1,8 +1,6 @@
-use Rattle.std.proofs.Common.{◌≡◌, ◌-◌, suc, take, length, true, sym, ap, ◌∙◌, arith}
-use Rattle.rev_tree.specs.Index.{falls}
-use Rattle.rev_tree.specs.Nodes.{revs_in}
-use Rattle.rev_tree.proofs.Falling.{all_behind, falls_split}
-use Rattle.rev_tree.proofs.Linking.{length-revs_in}
+use Rattle.proof_words.proofs.{◌≡◌, ◌-◌, suc, take, length, true, sym, ap, ◌∙◌, arith}
+use Rattle.rev_tree.specs.{falls, revs_in}
+use Rattle.rev_tree.proofs.{all_behind, falls_split, length-revs_in}
 use Rattle.rev_tree.proofs.nodes.all_fall.Goals as goal
 
 pub returns-then-known-le-MOST_WALKED : goal.returns-then-known-le-MOST_WALKED

@@ -1,6 +1,5 @@
-use Rattle.std.proofs.Common.{◌≡◌, ◌+◌, ◌-◌, sym, ap, ◌∙◌, arith}
-use Rattle.rev_tree.proofs.Falling.{fallen_place, fallen_missed, nowhere}
-use Rattle.rev_tree.proofs.Places.{place_at, place_known, read_at}
+use Rattle.proof_words.proofs.{◌≡◌, ◌+◌, ◌-◌, sym, ap, ◌∙◌, arith}
+use Rattle.rev_tree.proofs.{fallen_place, fallen_missed, nowhere, place_at, place_known, read_at}
 use Rattle.rev_tree.proofs.nodes.fallen_to.Goals as goal
 
 pub returns-then-generation-top : goal.returns-then-generation-top

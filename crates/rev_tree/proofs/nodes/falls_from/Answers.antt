@@ -1,8 +1,6 @@
-use Rattle.std.proofs.Common.{◌≡◌, ◌+◌, ◌-◌, ◌&&◌, drop, sym, ap, ◌∙◌, arith}
-use Rattle.rev_tree.specs.Index.{falls}
-use Rattle.rev_tree.specs.Nodes.{revs_in}
-use Rattle.rev_tree.proofs.Falling.{falls_end, nodes_step}
-use Rattle.rev_tree.proofs.Linking.{length-revs_in}
+use Rattle.proof_words.proofs.{◌≡◌, ◌+◌, ◌-◌, ◌&&◌, drop, sym, ap, ◌∙◌, arith}
+use Rattle.rev_tree.specs.{falls, revs_in}
+use Rattle.rev_tree.proofs.{falls_end, nodes_step, length-revs_in}
 use Rattle.rev_tree.proofs.nodes.falls_from.Goals as goal
 
 pub loop-i-init : goal.loop-i-init

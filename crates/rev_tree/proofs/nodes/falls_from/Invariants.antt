@@ -1,6 +1,5 @@
-use Rattle.std.proofs.Common.{◌≡◌, ◌-◌, drop}
-use Rattle.rev_tree.specs.Index.{falls}
-use Rattle.rev_tree.specs.Nodes.{revs_in}
+use Rattle.proof_words.proofs.{◌≡◌, ◌-◌, drop}
+use Rattle.rev_tree.specs.{falls, revs_in}
 use Rattle.rev_tree.proofs.nodes.falls_from.Given as goal
 
 -- all fall if those from the last one on do

@@ -1,8 +1,6 @@
-use Rattle.std.proofs.Common.{◌+◌, length, take, length-take, ap, ◌∙◌, arith}
-use Rattle.rev_tree.specs.Index.{mark_of, noted}
-use Rattle.rev_tree.specs.Nodes.{revs_in}
-use Rattle.rev_tree.proofs.Linking.{length-revs_in}
-use Rattle.rev_tree.proofs.Indexing.{length_marks, marks_more}
+use Rattle.proof_words.proofs.{◌+◌, length, take, length-take, ap, ◌∙◌, arith}
+use Rattle.rev_tree.specs.{mark_of, noted, revs_in}
+use Rattle.rev_tree.proofs.{length-revs_in, length_marks, marks_more}
 use Rattle.rev_tree.proofs.nodes.index_from.Goals as goal
 
 pub loop-i-init : goal.loop-i-init

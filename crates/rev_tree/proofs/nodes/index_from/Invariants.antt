@@ -1,6 +1,5 @@
-use Rattle.std.proofs.Common.{◌≡◌, ◌+◌, ◌≤◌, [], length, take}
-use Rattle.rev_tree.specs.Index.{noted_from}
-use Rattle.rev_tree.specs.Nodes.{revs_in}
+use Rattle.proof_words.proofs.{◌≡◌, ◌+◌, ◌≤◌, [], length, take}
+use Rattle.rev_tree.specs.{noted_from, revs_in}
 use Rattle.rev_tree.proofs.nodes.index_from.Given as goal
 
 -- the marks so far, and room for the others

@@ -1,9 +1,6 @@
-use Rattle.std.proofs.Common.{sym, ap, ◌∙◌, arith}
-use Rattle.rev_tree.specs.Index.{falls}
-use Rattle.rev_tree.specs.Nodes.{revs_in}
-use Rattle.rev_tree.proofs.Falling.{all_behind}
-use Rattle.rev_tree.proofs.Indexing.{index_fallen, index_few}
-use Rattle.rev_tree.proofs.Linking.{length-revs_in}
+use Rattle.proof_words.proofs.{sym, ap, ◌∙◌, arith}
+use Rattle.rev_tree.specs.{falls, revs_in}
+use Rattle.rev_tree.proofs.{all_behind, index_fallen, index_few, length-revs_in}
 use Rattle.rev_tree.proofs.nodes.index_of.Goals as goal
 
 pub returns-then-nodes-le-MOST_WALKED : goal.returns-then-nodes-le-MOST_WALKED

@@ -1,11 +1,6 @@
-use Rattle.std.proofs.Common.{◌≡◌, ◌<◌, [], length, take, sym, ap, ◌∙◌, arith, length-take}
-use Rattle.std.proofs.lemmas.List.{take-map}
-use Rattle.rev_tree.specs.Index.{falls}
-use Rattle.rev_tree.specs.Node.{NodeValue}
-use Rattle.rev_tree.specs.Nodes.{revs_in}
-use Rattle.rev_tree.proofs.Falling.{none_first, stays_unfallen}
-use Rattle.rev_tree.proofs.Indexing.{index_empty, index_fallen, index_few, index_gone, index_held, index_many}
-use Rattle.rev_tree.proofs.Linking.{length-revs_in}
+use Rattle.proof_words.proofs.{◌≡◌, ◌<◌, [], length, take, sym, ap, ◌∙◌, arith, length-take, take-map}
+use Rattle.rev_tree.specs.{falls, NodeValue, revs_in}
+use Rattle.rev_tree.proofs.{none_first, stays_unfallen, index_empty, index_fallen, index_few, index_gone, index_held, index_many, length-revs_in}
 use Rattle.rev_tree.proofs.nodes.index_rest.Goals as goal
 
 pub returns-then-nodes-le-MOST_WALKED-clause-index : goal.returns-then-nodes-le-MOST_WALKED-clause-index

@@ -1,8 +1,7 @@
-use Rattle.std.proofs.Common.{sym, ap, ◌∙◌}
-use Rattle.std.specs.Ordering.{eq_by_cmp}
-use Rattle.rev_core.specs.Rev.{rev_cmp}
-use Rattle.rev_tree.specs.Node.{NodeValue}
-use Rattle.rev_tree.proofs.Indexing.{walk_here, walk_later, walk_end}
+use Rattle.proof_words.proofs.{sym, ap, ◌∙◌, eq_by_cmp}
+use Rattle.rev_core.specs.{rev_cmp}
+use Rattle.rev_tree.specs.{NodeValue}
+use Rattle.rev_tree.proofs.{walk_here, walk_later, walk_end}
 use Rattle.rev_tree.proofs.nodes.walked_to.Goals as goal
 
 pub returns-then-is_of : goal.returns-then-is_of

@@ -1,7 +1,7 @@
-use Rattle.std.proofs.Common.{◌≡◌, drop}
+use Rattle.proof_words.proofs.{◌≡◌, drop}
 use Rattle.std.specs.FinMap.{find}
-use Rattle.rev_core.specs.Rev.{rev_cmp}
-use Rattle.rev_tree.specs.Nodes.{place_of, places_from, revs_in}
+use Rattle.rev_core.specs.{rev_cmp}
+use Rattle.rev_tree.specs.{place_of, places_from, revs_in}
 use Rattle.rev_tree.proofs.nodes.walked_to.Given as goal
 
 -- the nodes from here on have the place

@@ -1,7 +1,6 @@
-use Rattle.std.proofs.Common.{◌≡◌, ℕ, List, ◌-◌, ◌++◌, length, replicate, ap, ◌∙◌, arith, length-append}
-use Rattle.std.proofs.lemmas.List.{drop-replicate, length-replicate}
-use Rattle.std.specs.Int.{from_be_bytes, w64}
-use Rattle.rev_tree.proofs.Fronts.{eight_are, front_of-padded}
+use Rattle.proof_words.proofs.{◌≡◌, ℕ, List, ◌-◌, ◌++◌, length, replicate, ap, ◌∙◌, arith, length-append, drop-replicate, length-replicate, from_be_bytes}
+use Rattle.std.specs.Int.{w64}
+use Rattle.rev_tree.proofs.{eight_are, front_of-padded}
 use Rattle.rev_tree.proofs.words.front_of.Goals as goal
 
 pub returns : goal.returns

@@ -1,6 +1,5 @@
-use Rattle.std.proofs.Common.{◌&&◌, sym, ◌∙◌}
-use Rattle.std.specs.Prelude.{nat_eq}
-use Rattle.rev_tree.proofs.Fronts.{bytes_of_sig, words_decide}
+use Rattle.proof_words.proofs.{◌&&◌, sym, ◌∙◌, nat_eq}
+use Rattle.rev_tree.proofs.{bytes_of_sig, words_decide}
 use Rattle.rev_tree.proofs.words.is_same.Goals as goal
 
 pub returns : goal.returns

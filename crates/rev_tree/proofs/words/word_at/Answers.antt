@@ -1,5 +1,5 @@
-use Rattle.std.proofs.Common.{◌∙◌}
-use Rattle.rev_tree.proofs.Fronts.{eight_at}
+use Rattle.proof_words.proofs.{◌∙◌}
+use Rattle.rev_tree.proofs.{eight_at}
 use Rattle.rev_tree.proofs.words.word_at.Goals as goal
 
 pub returns : goal.returns

@@ -1,8 +1,6 @@
-use Rattle.std.proofs.Common.{Some, sym, ap, ◌∙◌, take_all}
-use Rattle.std.specs.Prelude.{option_map}
-use Rattle.std.specs.List.{find}
-use Rattle.script_databases.specs.Databases.{NamedBackupValue, is_named}
-use Rattle.script_databases.proofs.BackupLemmas.{find_more, find_here}
+use Rattle.proof_words.proofs.{Some, sym, ap, ◌∙◌, take_all, option_map, find}
+use Rattle.script_databases.specs.{NamedBackupValue, is_named}
+use Rattle.script_databases.proofs.{find_more, find_here}
 use Rattle.script_databases.proofs.backups.find_backup.Goals as goal
 
 pub loop-copy-preserved : goal.loop-copy-preserved

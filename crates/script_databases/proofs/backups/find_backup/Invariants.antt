@@ -1,6 +1,5 @@
-use Rattle.std.proofs.Common.{◌≡◌, None, take}
-use Rattle.std.specs.List.{find}
-use Rattle.script_databases.specs.Databases.{is_named}
+use Rattle.proof_words.proofs.{◌≡◌, None, take, find}
+use Rattle.script_databases.specs.{is_named}
 use Rattle.script_databases.proofs.backups.find_backup.Given as goal
 
 -- none of the copies so far is it

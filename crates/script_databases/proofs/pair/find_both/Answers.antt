@@ -1,7 +1,6 @@
-use Rattle.std.proofs.Common.{refl, sym, ◌∙◌}
-use Rattle.std.proofs.lemmas.Bool.{true≢false}
-use Rattle.script_databases.specs.Stored.{deny_of}
-use Rattle.script_databases.proofs.TableLemmas.{found_there, found_absent}
+use Rattle.proof_words.proofs.{refl, sym, ◌∙◌, true≢false}
+use Rattle.script_databases.specs.{deny_of}
+use Rattle.script_databases.proofs.{found_there, found_absent}
 use Rattle.script_databases.proofs.pair.find_both.Goals as goal
 
 pub unreachable-requires : goal.unreachable-requires

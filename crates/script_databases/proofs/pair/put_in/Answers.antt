@@ -1,9 +1,7 @@
-use Rattle.std.proofs.Common.{refl, sym, ap, ◌∙◌, rules}
-use Rattle.std.specs.FinMap.{contains_key, insert}
-use Rattle.std.proofs.lemmas.Bool.{true≢false}
-use Rattle.script_databases.specs.Stored.{deny_of, peers_of}
-use Rattle.script_databases.proofs.ReplicationLemmas.{still_there}
-use Rattle.script_databases.proofs.TableLemmas.{found_absent, written}
+use Rattle.proof_words.proofs.{refl, sym, ap, ◌∙◌, rules, contains_key, true≢false}
+use Rattle.std.specs.FinMap.{insert}
+use Rattle.script_databases.specs.{deny_of, peers_of}
+use Rattle.script_databases.proofs.{still_there, found_absent, written}
 use Rattle.script_databases.proofs.pair.put_in.Goals as goal
 
 pub unreachable-requires : goal.unreachable-requires

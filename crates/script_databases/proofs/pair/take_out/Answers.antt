@@ -1,11 +1,8 @@
-use Rattle.std.proofs.Common.{Some, refl, sym, ap, ◌∙◌, rules, is_some}
-use Rattle.std.specs.FinMap.{get, insert}
-use Rattle.std.proofs.lemmas.Bool.{true≢false}
-use Rattle.repl_peer.specs.peer.Peer.{PeerValue}
-use Rattle.repl_peer.specs.declared.peer.filter.Rules.{Rules}
-use Rattle.script_databases.specs.Stored.{deny_of, denied_of, peers_of}
-use Rattle.script_databases.proofs.ReplicationLemmas.{other}
-use Rattle.script_databases.proofs.TableLemmas.{found_there, found_absent, written}
+use Rattle.proof_words.proofs.{Some, refl, sym, ap, ◌∙◌, rules, is_some, get, true≢false}
+use Rattle.std.specs.FinMap.{insert}
+use Rattle.repl_peer.specs.{PeerValue, Rules}
+use Rattle.script_databases.specs.{deny_of, denied_of, peers_of}
+use Rattle.script_databases.proofs.{other, found_there, found_absent, written}
 use Rattle.script_databases.proofs.pair.take_out.Goals as goal
 
 pub unreachable-requires : goal.unreachable-requires

@@ -1,8 +1,6 @@
-use Rattle.std.proofs.Common.{◌≢◌, [], ◌∷◌, ap, ◌∙◌, sym, append-nil, length}
-use Rattle.std.proofs.KnownBytes.{Appends-nil}
-use Rattle.std.proofs.lemmas.List.{nil_from_length}
-use Rattle.script_engine.specs.Lines.{lines_of}
-use Rattle.script_engine.proofs.ServedLemmas.{Served-none, lines_of-ended}
+use Rattle.proof_words.proofs.{◌≢◌, [], ◌∷◌, ap, ◌∙◌, sym, append-nil, length, Appends-nil, nil_from_length}
+use Rattle.script_engine.specs.{lines_of}
+use Rattle.script_engine.proofs.{Served-none, lines_of-ended}
 use Rattle.script_engine.proofs.lines.last_line.Goals as goal
 
 pub returns-then-begun-eq0-clause-ok : goal.returns-then-begun-eq0-clause-ok

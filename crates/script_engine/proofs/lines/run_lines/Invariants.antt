@@ -1,9 +1,7 @@
 -- What was read has been served, and its answers stand in the writer.
-use Rattle.std.proofs.Common.{◌≡◌, ◌≤◌, ◌-◌, false, vec_capacity}
-use Rattle.script_engine.specs.Chunks.{HasRead, AreChunks, max_reads}
-use Rattle.script_engine.specs.Lines.{has_line_end}
-use Rattle.script_engine.specs.Stored.{place_of}
-use Rattle.script_engine.proofs.RunLemmas.{Ran}
+use Rattle.proof_words.proofs.{◌≡◌, ◌≤◌, ◌-◌, false, vec_capacity}
+use Rattle.script_engine.specs.{HasRead, AreChunks, max_reads, has_line_end, place_of}
+use Rattle.script_engine.proofs.{Ran}
 use Rattle.script_engine.proofs.lines.run_lines.Given as goal
 
 abbrev pub invariant-loop-script : goal.invariant-loop-script

@@ -1,8 +1,6 @@
-use Rattle.std.proofs.Common.{◌++◌, [], sym, ap, ◌∙◌, append_assoc}
-use Rattle.std.specs.Prelude.{if◌then◌else◌}
-use Rattle.std.proofs.KnownBytes.{Appends-trans}
-use Rattle.script_engine.specs.Serving.{text_with}
-use Rattle.script_engine.proofs.PieceLemmas.{on_err, text_with-piece}
+use Rattle.proof_words.proofs.{◌++◌, [], sym, ap, ◌∙◌, append_assoc, if◌then◌else◌, Appends-trans}
+use Rattle.script_engine.specs.{text_with}
+use Rattle.script_engine.proofs.{on_err, text_with-piece}
 use Rattle.script_engine.proofs.lines.write_answer.Goals as goal
 
 pub returns-in-Err-clause-err : goal.returns-in-Err-clause-err

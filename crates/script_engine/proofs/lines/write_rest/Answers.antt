@@ -1,6 +1,4 @@
-use Rattle.std.proofs.Common.{◌++◌, [], sym, ap, ◌∙◌, append_assoc}
-use Rattle.std.specs.Prelude.{if◌then◌else◌}
-use Rattle.std.proofs.KnownBytes.{Appends-trans}
+use Rattle.proof_words.proofs.{◌++◌, [], sym, ap, ◌∙◌, append_assoc, if◌then◌else◌, Appends-trans}
 use Rattle.script_engine.proofs.lines.write_rest.Goals as goal
 
 pub returns-in-Err-write_all-clause-err : goal.returns-in-Err-write_all-clause-err

@@ -1,10 +1,8 @@
-use Rattle.std.proofs.Common.{◌++◌, ap, ◌∙◌}
-use Rattle.std.specs.List.{flat_map}
-use Rattle.couch_base.specs.Feed.{feed}
-use Rattle.couch_base.specs.FeedLaws.{chosen-all}
-use Rattle.script_rooms.specs.Texts.{last_line}
-use Rattle.script_reads.specs.Changes.{row_line}
-use Rattle.script_rooms.proofs.TextLemmas.{two_parts}
+use Rattle.proof_words.proofs.{◌++◌, ap, ◌∙◌, flat_map}
+use Rattle.couch_base.specs.{feed, chosen-all}
+use Rattle.script_rooms.specs.{last_line}
+use Rattle.script_reads.specs.{row_line}
+use Rattle.script_rooms.proofs.{two_parts}
 use Rattle.script_reads.proofs.changes.print.Goals as goal
 
 pub returns : goal.returns

@@ -1,7 +1,6 @@
-use Rattle.std.proofs.Common.{◌≡◌, ◌++◌, Option, sym, subst}
-use Rattle.std.specs.Prelude.{OnOk}
-use Rattle.rev_tree.specs.declared.fault.Contradiction.{Contradiction}
-use Rattle.script_reads.specs.Compare.{contradicts_line}
+use Rattle.proof_words.proofs.{◌≡◌, ◌++◌, Option, sym, subst, OnOk}
+use Rattle.rev_tree.specs.{Contradiction}
+use Rattle.script_reads.specs.{contradicts_line}
 use Rattle.script_reads.proofs.compare.push_contradiction.Goals as goal
 
 pub returns-in-Some : goal.returns-in-Some

@@ -1,7 +1,6 @@
 -- The documents so far have been printed.
-use Rattle.std.proofs.Common.{◌≡◌, ◌++◌, take}
-use Rattle.std.specs.List.{flat_map}
-use Rattle.script_reads.specs.Docs.{doc_line}
+use Rattle.proof_words.proofs.{◌≡◌, ◌++◌, take, flat_map}
+use Rattle.script_reads.specs.{doc_line}
 use Rattle.script_reads.proofs.docs.push_documents.Given as goal
 
 abbrev pub invariant-loop-document : goal.invariant-loop-document

@@ -1,6 +1,5 @@
-use Rattle.std.proofs.Common.{refl, sym, ap, ◌∙◌}
-use Rattle.couch_base.specs.Feed.{chosen_feed}
-use Rattle.couch_base.specs.FeedLaws.{feed-none}
+use Rattle.proof_words.proofs.{refl, sym, ap, ◌∙◌}
+use Rattle.couch_base.specs.{chosen_feed, feed-none}
 use Rattle.script_reads.proofs.feed.fill.Goals as goal
 
 pub loop-walk-init : goal.loop-walk-init

@@ -1,8 +1,7 @@
 -- The rows so far have been printed and counted, and those above the sequence are left.
-use Rattle.std.proofs.Common.{◌≡◌, ◌++◌, ◌-◌, List}
-use Rattle.std.specs.List.{flat_map}
-use Rattle.couch_base.specs.Feed.{RowValue}
-use Rattle.script_reads.specs.Walks.{rows_left}
+use Rattle.proof_words.proofs.{◌≡◌, ◌++◌, ◌-◌, List, flat_map}
+use Rattle.couch_base.specs.{RowValue}
+use Rattle.script_reads.specs.{rows_left}
 use Rattle.script_reads.proofs.feed.fill.Given as goal
 
 abbrev pub invariant-loop-walk : goal.invariant-loop-walk

@@ -1,7 +1,5 @@
-use Rattle.std.proofs.Common.{◌++◌, ℕ, List, refl, sym, ap, ◌∙◌, append-nil}
-use Rattle.std.specs.List.{flat_map}
-use Rattle.couch_base.specs.Feed.{RowValue, chosen_feed}
-use Rattle.couch_base.specs.FeedLaws.{feed-none}
+use Rattle.proof_words.proofs.{◌++◌, ℕ, List, refl, sym, ap, ◌∙◌, append-nil, flat_map}
+use Rattle.couch_base.specs.{RowValue, chosen_feed, feed-none}
 use Rattle.script_reads.proofs.feed.print_feed.Goals as goal
 
 pub loop-walk-init : goal.loop-walk-init

@@ -1,7 +1,6 @@
 -- The rows so far have been printed, and those above the sequence are left.
-use Rattle.std.proofs.Common.{◌≡◌, ◌++◌, ◌-◌}
-use Rattle.std.specs.List.{flat_map}
-use Rattle.script_reads.specs.Walks.{rows_left}
+use Rattle.proof_words.proofs.{◌≡◌, ◌++◌, ◌-◌, flat_map}
+use Rattle.script_reads.specs.{rows_left}
 use Rattle.script_reads.proofs.feed.print_feed.Given as goal
 
 abbrev pub invariant-loop-walk : goal.invariant-loop-walk

@@ -1,7 +1,6 @@
 -- The rows so far have been printed and counted.
-use Rattle.std.proofs.Common.{◌≡◌, ◌++◌, List, take}
-use Rattle.std.specs.List.{flat_map}
-use Rattle.couch_base.specs.Feed.{RowValue}
+use Rattle.proof_words.proofs.{◌≡◌, ◌++◌, List, take, flat_map}
+use Rattle.couch_base.specs.{RowValue}
 use Rattle.script_reads.proofs.feed.push_rows.Given as goal
 
 abbrev pub invariant-loop-row : goal.invariant-loop-row

@@ -1,11 +1,8 @@
-use Rattle.std.proofs.Common.{◌≡◌, ◌++◌, List, refl, sym, ap, subst, ◌∙◌, append_assoc}
-use Rattle.std.specs.List.{flat_map}
-use Rattle.std.specs.Option.{option_copied}
-use Rattle.doc_json.specs.Chosen.{Choice}
-use Rattle.couch_base.specs.Feed.{RowValue, WindowValue, chosen_feed}
-use Rattle.couch_base.specs.FeedLaws.{feed-page}
-use Rattle.script_reads.specs.Walks.{rows_left}
-use Rattle.script_rooms.proofs.TextLemmas.{texts_step}
+use Rattle.proof_words.proofs.{◌≡◌, ◌++◌, List, refl, sym, ap, subst, ◌∙◌, append_assoc, flat_map, option_copied}
+use Rattle.doc_json.specs.{Choice}
+use Rattle.couch_base.specs.{RowValue, WindowValue, chosen_feed, feed-page}
+use Rattle.script_reads.specs.{rows_left}
+use Rattle.script_rooms.proofs.{texts_step}
 use Rattle.script_reads.proofs.feed.step.Goals as goal
 
 pub returns-clause-text : goal.returns-clause-text

@@ -1,9 +1,8 @@
-use Rattle.std.proofs.Common.{◌++◌, ℕ, length, ap, ◌∙◌}
-use Rattle.couch_base.specs.Database.{DatabaseValue}
-use Rattle.repl_survey.specs.Censuses.{census_of, trees}
-use Rattle.repl_survey.specs.declared.census.Census.{Census}
-use Rattle.script_reads.specs.Info.{census_part, identity_part, sessions_part}
-use Rattle.script_rooms.proofs.TextLemmas.{two_parts}
+use Rattle.proof_words.proofs.{◌++◌, ℕ, length, ap, ◌∙◌}
+use Rattle.couch_base.specs.{DatabaseValue}
+use Rattle.repl_survey.specs.{census_of, trees, Census}
+use Rattle.script_reads.specs.{census_part, identity_part, sessions_part}
+use Rattle.script_rooms.proofs.{two_parts}
 use Rattle.script_reads.proofs.info.print.Goals as goal
 
 pub returns : goal.returns

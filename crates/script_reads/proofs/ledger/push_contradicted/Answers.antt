@@ -1,8 +1,7 @@
-use Rattle.std.proofs.Common.{[], ◌∷◌, ◌++◌}
-use Rattle.std.specs.Prelude.{codes}
-use Rattle.rev_core.specs.Text.{rev_text}
-use Rattle.script_reads.specs.Ledger.{parents_part, rev_part}
-use Rattle.script_rooms.proofs.TextLemmas.{two_parts}
+use Rattle.proof_words.proofs.{[], ◌∷◌, ◌++◌, codes}
+use Rattle.rev_core.specs.{rev_text}
+use Rattle.script_reads.specs.{parents_part, rev_part}
+use Rattle.script_rooms.proofs.{two_parts}
 use Rattle.script_reads.proofs.ledger.push_contradicted.Goals as goal
 
 pub returns : goal.returns

@@ -1,13 +1,10 @@
-use Rattle.std.proofs.Common.{◌≡◌, ◌++◌, ℕ, List, Option, Some, sym, ap, subst, ◌∙◌}
-use Rattle.std.specs.Prelude.{OnOk}
-use Rattle.rev_core.specs.Ancestry.{head_of}
-use Rattle.rev_core.specs.Rev.{RevId}
-use Rattle.rev_core.specs.Text.{rev_text}
+use Rattle.proof_words.proofs.{◌≡◌, ◌++◌, ℕ, List, Option, Some, sym, ap, subst, ◌∙◌, OnOk}
+use Rattle.rev_core.specs.{head_of, RevId, rev_text}
 use Rattle.doc_json.specs.Document.{Document}
-use Rattle.repl_peer.specs.peer.Peer.{RefusedValue}
+use Rattle.repl_peer.specs.{RefusedValue}
 use Rattle.repl_peer.specs.declared.fault.Reason.TheVariants as reasons
-use Rattle.script_rooms.specs.Texts.{text_of_any}
-use Rattle.script_reads.specs.Ledger.{contradicted_line, denied_line, refused_for, refused_line}
+use Rattle.script_rooms.specs.{text_of_any}
+use Rattle.script_reads.specs.{contradicted_line, denied_line, refused_for, refused_line}
 use Rattle.script_reads.proofs.ledger.push_refused.Goals as goal
 
 denied_is : (x : RefusedValue) (id : List ℕ) (rev : RevId) → id ≡ x.doc.id → x.reason ≡ reasons.Filtered → head_of x.doc.ancestry ≡ Some rev → denied_line id (rev_text rev) ≡ refused_line x

@@ -1,7 +1,6 @@
 -- The rows so far have been printed.
-use Rattle.std.proofs.Common.{◌≡◌, ◌++◌, take}
-use Rattle.std.specs.List.{flat_map}
-use Rattle.script_reads.specs.Ledger.{refused_line}
+use Rattle.proof_words.proofs.{◌≡◌, ◌++◌, take, flat_map}
+use Rattle.script_reads.specs.{refused_line}
 use Rattle.script_reads.proofs.ledger.push_rows.Given as goal
 
 abbrev pub invariant-loop-row : goal.invariant-loop-row

@@ -1,9 +1,6 @@
-use Rattle.std.proofs.Common.{◌≡◌, true, sym, ap, ◌∙◌}
-use Rattle.std.proofs.lemmas.Bool.{and_parts}
-use Rattle.std.specs.List.{list_all}
-use Rattle.rev_tree.specs.Tree.{TreeValue, has, leaves}
-use Rattle.rev_tree.specs.LeafLaws.{is_among-leaves}
-use Rattle.couch_base.specs.ListLaws.{all_members}
+use Rattle.proof_words.proofs.{◌≡◌, true, sym, ap, ◌∙◌, and_parts, list_all}
+use Rattle.rev_tree.specs.{TreeValue, has, leaves, is_among-leaves}
+use Rattle.couch_base.specs.{all_members}
 use Rattle.script_reads.proofs.show.print.Goals as goal
 
 -- the leaves of a tree are in it

@@ -1,7 +1,5 @@
-use Rattle.std.proofs.Common.{ap, ◌∙◌, arith}
-use Rattle.std.proofs.lemmas.Bool.{both_ways, true_from_ne_false}
-use Rattle.std.proofs.lemmas.List.Folds.{list_all_at}
-use Rattle.rev_tree.specs.Tree.{has}
+use Rattle.proof_words.proofs.{ap, ◌∙◌, arith, both_ways, true_from_ne_false, list_all_at}
+use Rattle.rev_tree.specs.{has}
 use Rattle.script_reads.proofs.show.push_leaves.Goals as goal
 
 -- what holds of all holds of each

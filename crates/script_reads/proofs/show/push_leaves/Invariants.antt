@@ -1,7 +1,6 @@
 -- The leaves so far have been printed.
-use Rattle.std.proofs.Common.{◌≡◌, ◌++◌, take}
-use Rattle.std.specs.List.{flat_map}
-use Rattle.script_reads.specs.Show.{leaf_line}
+use Rattle.proof_words.proofs.{◌≡◌, ◌++◌, take, flat_map}
+use Rattle.script_reads.specs.{leaf_line}
 use Rattle.script_reads.proofs.show.push_leaves.Given as goal
 
 abbrev pub invariant-loop-leaf : goal.invariant-loop-leaf

@@ -1,8 +1,7 @@
-use Rattle.std.proofs.Common.{◌≡◌, ℕ, List, ◌++◌, drop, Result, Ok, Err}
-use Rattle.json_values.specs.LineView.{line_items}
-use Rattle.script_databases.specs.declared.refusal.Refusal.{Refusal}
-use Rattle.script_rooms.specs.Given.{ids_given}
-use Rattle.script_rooms.specs.Members.{texts_of}
+use Rattle.proof_words.proofs.{◌≡◌, ℕ, List, ◌++◌, drop, Result, Ok, Err}
+use Rattle.json_values.specs.{line_items}
+use Rattle.script_databases.specs.{Refusal}
+use Rattle.script_rooms.specs.{ids_given, texts_of}
 use Rattle.script_rooms.proofs.given.read_ids.Given as goal
 
 -- ids, and those that follow them

@@ -1,6 +1,4 @@
-use Rattle.std.proofs.Common.{◌≡◌, drop}
-use Rattle.std.specs.List.{list_all, list_any}
-use Rattle.std.specs.Str.{bytes_eq}
+use Rattle.proof_words.proofs.{◌≡◌, drop, list_all, list_any, bytes_eq}
 use Rattle.script_rooms.proofs.members.are_all_among.Given as goal
 
 -- each name so far is one of them

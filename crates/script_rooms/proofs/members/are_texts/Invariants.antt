@@ -1,6 +1,6 @@
-use Rattle.std.proofs.Common.{◌≡◌, drop}
-use Rattle.json_values.specs.LineView.{line_items}
-use Rattle.script_rooms.specs.Members.{are_texts}
+use Rattle.proof_words.proofs.{◌≡◌, drop}
+use Rattle.json_values.specs.{line_items}
+use Rattle.script_rooms.specs.{are_texts}
 use Rattle.script_rooms.proofs.members.are_texts.Given as goal
 
 -- each item so far is one

@@ -1,9 +1,6 @@
 -- The number is that of the bytes that the text parses to.
-use Rattle.std.proofs.Common.{◌≡◌, true, false, Option, Some, None, refl, ap, ◌∙◌}
-use Rattle.std.proofs.lemmas.Bool.{false≢true}
-use Rattle.std.specs.Prelude.{option_map, option_and_then}
-use Rattle.std.specs.Int.{from_be_bytes, w128}
-use Rattle.script_rooms.specs.Members.{uuid_in}
+use Rattle.proof_words.proofs.{◌≡◌, true, false, Option, Some, None, refl, ap, ◌∙◌, false≢true, option_map, option_and_then, from_be_bytes, w128}
+use Rattle.script_rooms.specs.{uuid_in}
 use Rattle.script_rooms.proofs.members.as_uuid.Goals as goal
 
 pub returns-in-Ok : goal.returns-in-Ok

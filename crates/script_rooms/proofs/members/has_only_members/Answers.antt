@@ -1,8 +1,7 @@
 -- An object's keys are those of its view.
-use Rattle.std.proofs.Common.{map, ap, ◌∙◌, false}
-use Rattle.std.specs.Option.{option_map_or}
-use Rattle.script_rooms.specs.Members.{all_among}
-use Rattle.script_rooms.proofs.MembersLemmas.{all_among-keys}
+use Rattle.proof_words.proofs.{map, ap, ◌∙◌, false, option_map_or}
+use Rattle.script_rooms.specs.{all_among}
+use Rattle.script_rooms.proofs.{all_among-keys}
 use Rattle.script_rooms.proofs.members.has_only_members.Goals as goal
 
 pub returns-in-Some : goal.returns-in-Some

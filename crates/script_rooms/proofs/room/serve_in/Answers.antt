@@ -1,5 +1,5 @@
-use Rattle.std.proofs.Common.{sym}
-use Rattle.script_rooms.proofs.RoomLemmas.{room_answered, room_refused}
+use Rattle.proof_words.proofs.{sym}
+use Rattle.script_rooms.proofs.{room_answered, room_refused}
 use Rattle.script_rooms.proofs.room.serve_in.Goals as goal
 
 pub returns-in-Some : goal.returns-in-Some

@@ -1,5 +1,4 @@
-use Rattle.std.proofs.Common.{◌++◌, sym, ap, ◌∙◌, arith}
-use Rattle.std.proofs.lemmas.Fmt.{decimal_digit}
+use Rattle.proof_words.proofs.{◌++◌, sym, ap, ◌∙◌, arith, decimal_digit}
 use Rattle.script_rooms.proofs.texts.push_count.Goals as goal
 
 pub returns-then-count-lt10 : goal.returns-then-count-lt10

@@ -1,6 +1,6 @@
-use Rattle.std.proofs.Common.{◌++◌, ◌∷◌, [], List, ℕ, sym, ap, ◌∙◌, append_assoc}
-use Rattle.rev_core.specs.Text.{rev_text}
-use Rattle.script_rooms.proofs.TextLemmas.{texts-more, texts-first}
+use Rattle.proof_words.proofs.{◌++◌, ◌∷◌, [], List, ℕ, sym, ap, ◌∙◌, append_assoc}
+use Rattle.rev_core.specs.{rev_text}
+use Rattle.script_rooms.proofs.{texts-more, texts-first}
 use Rattle.script_rooms.proofs.texts.push_revs.Goals as goal
 use Rattle.script_rooms.proofs.texts.push_revs.Goals.{then-i-gt0+in_ok-extend_from_slice, else-i-gt0}
 

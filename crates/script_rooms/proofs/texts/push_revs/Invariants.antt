@@ -1,6 +1,6 @@
 -- The texts of the revisions so far have been added.
-use Rattle.std.proofs.Common.{◌≡◌, ◌++◌, take}
-use Rattle.script_rooms.specs.Texts.{texts_of_revs}
+use Rattle.proof_words.proofs.{◌≡◌, ◌++◌, take}
+use Rattle.script_rooms.specs.{texts_of_revs}
 use Rattle.script_rooms.proofs.texts.push_revs.Given as goal
 
 abbrev pub invariant-loop-i : goal.invariant-loop-i

@@ -1,6 +1,5 @@
-use Rattle.std.proofs.Common.{◌≡◌, ◌++◌, ◌==◌, [], length, if◌then◌else◌, true, false, sym, ap, subst, ◌∙◌, append-nil}
-use Rattle.std.specs.Prelude.{OnOk}
-use Rattle.script_rooms.specs.Texts.{line_of_revs}
+use Rattle.proof_words.proofs.{◌≡◌, ◌++◌, ◌==◌, [], length, if◌then◌else◌, true, false, sym, ap, subst, ◌∙◌, append-nil, OnOk}
+use Rattle.script_rooms.specs.{line_of_revs}
 use Rattle.script_rooms.proofs.texts.push_revs_line.Goals as goal
 
 pub returns-then-is_empty : goal.returns-then-is_empty

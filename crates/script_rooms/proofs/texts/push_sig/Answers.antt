@@ -1,5 +1,4 @@
-use Rattle.std.proofs.Common.{◌++◌, sym, ap, ◌∙◌, arith}
-use Rattle.std.proofs.lemmas.List.{length-take-le, take_all}
+use Rattle.proof_words.proofs.{◌++◌, sym, ap, ◌∙◌, arith, length-take-le, take_all}
 use Rattle.script_rooms.proofs.texts.push_sig.Goals as goal
 
 pub returns-then-sig-eq32 : goal.returns-then-sig-eq32

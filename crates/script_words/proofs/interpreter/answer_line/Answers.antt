@@ -1,13 +1,10 @@
-use Rattle.std.proofs.Common.{◌≡◌, ◌⊎◌, inl, inr, ℕ, List, Err, refl, sym, ap, subst}
-use Rattle.script_engine.specs.Serving.{MayTell, in_full, gave_up}
-use Rattle.script_databases.specs.Databases.{State}
-use Rattle.script_databases.specs.Refusals.{name_of}
-use Rattle.script_databases.specs.declared.refusal.Refusal.{Refusal}
+use Rattle.proof_words.proofs.{◌≡◌, ◌⊎◌, inl, inr, ℕ, List, Err, refl, sym, ap, subst}
+use Rattle.script_engine.specs.{MayTell, in_full, gave_up}
+use Rattle.script_databases.specs.{State, name_of, Refusal}
 use Rattle.script_databases.specs.declared.refusal.Refusal.TheVariants as why
-use Rattle.script_words.specs.Script.{IsNoObject, LinesAnswer}
-use Rattle.script_words.specs.words.{asked_in}
-use Rattle.json_values.specs.LineView.{line_view}
-use Rattle.script_rooms.proofs.TellingLemmas.{may_tell}
+use Rattle.script_words.specs.{IsNoObject, LinesAnswer, asked_in}
+use Rattle.json_values.specs.{line_view}
+use Rattle.script_rooms.proofs.{may_tell}
 use Rattle.script_words.proofs.interpreter.answer_line.Goals as goal
 
 -- a line that is no object, or for which memory was wanting

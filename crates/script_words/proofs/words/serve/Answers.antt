@@ -1,16 +1,11 @@
-use Rattle.std.proofs.Common.{◌≡◌, Result, Err, refl, sym, ap, subst, ◌∙◌}
+use Rattle.proof_words.proofs.{◌≡◌, Result, Err, refl, sym, ap, subst, ◌∙◌}
 use Rattle.serde_json.specs.Data.{Data}
-use Rattle.json_values.specs.LineView.{line_view}
-use Rattle.json_values.specs.declared.line.LineValue.{LineValue}
-use Rattle.script_engine.specs.Serving.{Told, MayTell, in_full}
-use Rattle.script_databases.specs.Databases.{State}
-use Rattle.script_databases.specs.Refusals.{name_of}
-use Rattle.script_databases.specs.declared.refusal.Refusal.{Refusal}
+use Rattle.json_values.specs.{line_view, LineValue}
+use Rattle.script_engine.specs.{Told, MayTell, in_full}
+use Rattle.script_databases.specs.{State, name_of, Refusal}
 use Rattle.script_databases.specs.declared.refusal.Refusal.TheVariants as why
-use Rattle.script_words.specs.Script.{AnswersAsked}
-use Rattle.script_words.specs.words.{Asked, asked_as, asked_in, load, edit, show, doc, changes, log, audit, replicate, backup, restore, compare, conflicts, docs, info, ledger, sync}
-use Rattle.script_words.specs.declared.words.Word.{Word}
-use Rattle.script_words.proofs.WordLemmas.{word_answered}
+use Rattle.script_words.specs.{AnswersAsked, Asked, asked_as, asked_in, load, edit, show, doc, changes, log, audit, replicate, backup, restore, compare, conflicts, docs, info, ledger, sync, Word}
+use Rattle.script_words.proofs.{word_answered}
 use Rattle.script_words.proofs.words.serve.Goals as goal
 
 -- what is told to what is asked by the word, is told to what is asked

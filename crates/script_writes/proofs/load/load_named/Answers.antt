@@ -1,7 +1,7 @@
-use Rattle.std.proofs.Common.{Ok, Err, Some, None, ap, refl, ◌∙◌}
-use Rattle.script_databases.specs.Databases.{peer_at}
-use Rattle.script_writes.proofs.LoadLemmas.{loads, refused_either}
-use Rattle.script_rooms.proofs.TellingLemmas.{handed_on, may_tell, unless_memory}
+use Rattle.proof_words.proofs.{Ok, Err, Some, None, ap, refl, ◌∙◌}
+use Rattle.script_databases.specs.{peer_at}
+use Rattle.script_writes.proofs.{loads, refused_either}
+use Rattle.script_rooms.proofs.{handed_on, may_tell, unless_memory}
 use Rattle.script_writes.proofs.load.load_named.Goals as goal
 
 pub returns-in_err-read_document : goal.returns-in_err-read_document

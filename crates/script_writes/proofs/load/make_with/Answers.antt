@@ -1,13 +1,11 @@
-use Rattle.std.proofs.Common.{refl, sym, ap, ◌∙◌}
-use Rattle.couch_base.specs.Put.{put_answer}
-use Rattle.repl_peer.specs.peer.Peer.{PeerValue, new_peer}
-use Rattle.repl_peer.specs.peer.Writing.{after_load}
-use Rattle.script_engine.specs.Serving.{in_full, gave_up, served_only}
-use Rattle.script_databases.specs.Databases.{with_peer}
-use Rattle.script_databases.specs.Refusals.{told_as, base_refusal}
-use Rattle.script_databases.proofs.NamedLemmas.{put_refused}
-use Rattle.script_writes.specs.Load.{put_line}
-use Rattle.script_rooms.proofs.TellingLemmas.{passes, stops, does, does_nothing, both, gave_up_at, printed, unless_memory, handed_on, refused_memory}
+use Rattle.proof_words.proofs.{refl, sym, ap, ◌∙◌}
+use Rattle.couch_base.specs.{put_answer}
+use Rattle.repl_peer.specs.{PeerValue, new_peer, after_load}
+use Rattle.script_engine.specs.{in_full, gave_up, served_only}
+use Rattle.script_databases.specs.{with_peer, told_as, base_refusal}
+use Rattle.script_databases.proofs.{put_refused}
+use Rattle.script_writes.specs.{put_line}
+use Rattle.script_rooms.proofs.{passes, stops, does, does_nothing, both, gave_up_at, printed, unless_memory, handed_on, refused_memory}
 use Rattle.script_writes.proofs.load.make_with.Goals as goal
 
 pub returns-in_err-peer : goal.returns-in_err-peer

@@ -1,6 +1,6 @@
-use Rattle.std.proofs.Common.{Some}
-use Rattle.script_writes.proofs.LoadLemmas.{loads_drawn, loads_taken}
-use Rattle.script_rooms.proofs.TellingLemmas.{handed_on}
+use Rattle.proof_words.proofs.{Some}
+use Rattle.script_writes.proofs.{loads_drawn, loads_taken}
+use Rattle.script_rooms.proofs.{handed_on}
 use Rattle.script_writes.proofs.load.put_new.Goals as goal
 
 pub returns-in_err-uuid : goal.returns-in_err-uuid

@@ -1,7 +1,7 @@
-use Rattle.std.proofs.Common.{◌≡◌, List, refl, sym, ap, ◌∙◌, map}
-use Rattle.answer_pictures.specs.declared.document.Leaf.{Leaf}
+use Rattle.proof_words.proofs.{◌≡◌, List, refl, sym, ap, ◌∙◌, map}
+use Rattle.answer_pictures.specs.{Leaf}
 use Rattle.answer_pictures.specs.Drawing.{state_of}
-use Rattle.answer_pictures.proofs.Leaves.{added}
+use Rattle.answer_pictures.proofs.{added}
 use Rattle.answer_pictures.proofs.document.Document.add.Goals as goal
 
 pub returns-clause-holds : goal.returns-clause-holds

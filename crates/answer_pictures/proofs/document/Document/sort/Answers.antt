@@ -1,4 +1,4 @@
-use Rattle.std.proofs.lemmas.List.Sorted.{IsPermutation-map}
+use Rattle.proof_words.proofs.{IsPermutation-map}
 use Rattle.answer_pictures.specs.Drawing.{state_of}
 use Rattle.answer_pictures.proofs.document.Document.sort.Goals as goal
 

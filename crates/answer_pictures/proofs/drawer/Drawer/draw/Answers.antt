@@ -1,5 +1,5 @@
-use Rattle.std.specs.Prelude.{option_map}
-use Rattle.answer_pictures.proofs.Leaves.{picture_by}
+use Rattle.proof_words.proofs.{option_map}
+use Rattle.answer_pictures.proofs.{picture_by}
 use Rattle.answer_pictures.proofs.drawer.Drawer.draw.Goals as goal
 
 pub returns-clause-draws : goal.returns-clause-draws

@@ -1,8 +1,7 @@
-use Rattle.std.proofs.Common.{Some, OnOk, sym, subst}
-use Rattle.std.specs.Prelude.{option_map, string_bytes}
+use Rattle.proof_words.proofs.{Some, OnOk, sym, subst, option_map, string_bytes}
 use Rattle.answer_pictures.specs.Drawing.{IsDrawn}
-use Rattle.answer_pictures.specs.Ink.{signs_of_found, signs_of_log, signs_of_row}
-use Rattle.answer_pictures.proofs.Leaves.{draws_new}
+use Rattle.answer_pictures.specs.{signs_of_found, signs_of_log, signs_of_row}
+use Rattle.answer_pictures.proofs.{draws_new}
 use Rattle.answer_pictures.proofs.drawer.Drawer.draw_whole.Goals as goal
 
 pub returns-in-Tree-clause-draws : goal.returns-in-Tree-clause-draws

@@ -1,7 +1,6 @@
-use Rattle.std.proofs.Common.{Some, None, refl, sym, ap, subst, ◌∙◌}
-use Rattle.std.specs.Prelude.{option_map}
+use Rattle.proof_words.proofs.{Some, None, refl, sym, ap, subst, ◌∙◌, option_map}
 use Rattle.answer_pictures.specs.Drawing.{IsNext, sketch_of}
-use Rattle.answer_pictures.proofs.Leaves.{none_open, takes_by}
+use Rattle.answer_pictures.proofs.{none_open, takes_by}
 use Rattle.answer_pictures.proofs.drawer.Drawer.take_in.Goals as goal
 
 pub returns-in-Some-clause-ok : goal.returns-in-Some-clause-ok

@@ -1,6 +1,5 @@
-use Rattle.std.proofs.Common.{[], refl, ap}
-use Rattle.std.specs.Prelude.{option_map}
-use Rattle.script_engine.specs.Serving.{in_full}
+use Rattle.proof_words.proofs.{[], refl, ap, option_map}
+use Rattle.script_engine.specs.{in_full}
 use Rattle.answer_pictures.proofs.drawer.DrawerServe.serve.Goals as goal
 
 pub returns-in-Ok-clause-told : goal.returns-in-Ok-clause-told

@@ -1,4 +1,4 @@
-use Rattle.progress_board.specs.Seats.{CameWith}
+use Rattle.progress_board.specs.{CameWith}
 use Rattle.call_tests.proofs.tests.pool_boards.sees_no_fall.Given as goal
 
 abbrev pub invariant-loop : goal.invariant-loop

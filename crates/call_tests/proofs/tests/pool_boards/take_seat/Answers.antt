@@ -1,5 +1,5 @@
-use Rattle.repl_pool.proofs.NewSeats.{new_left}
-use Rattle.call_tests.proofs.SeatLemmas.{taken_came}
+use Rattle.repl_pool.proofs.{new_left}
+use Rattle.call_tests.proofs.{taken_came}
 use Rattle.call_tests.proofs.tests.pool_boards.take_seat.Goals as goal
 
 pub returns-clause-rest : goal.returns-clause-rest

@@ -1,6 +1,6 @@
-use Rattle.std.proofs.Common.{inr, ◌∙◌, sym}
-use Rattle.couch_answers.specs.Stored.{state_of}
-use Rattle.couch_answers.proofs.Readings.{after_taken, pieces_taken, given_none}
+use Rattle.proof_words.proofs.{inr, ◌∙◌, sym}
+use Rattle.couch_answers.specs.{state_of}
+use Rattle.couch_answers.proofs.{after_taken, pieces_taken, given_none}
 use Rattle.couch_answers.proofs.reading.Reading.take_in.Goals as goal
 
 pub returns-then-stops-clause-state : goal.returns-then-stops-clause-state

@@ -1,7 +1,6 @@
 -- The bytes so far were taken, and nothing was made whole by them.
-use Rattle.std.proofs.Common.{◌≡◌, ◌⊎◌, [], take}
-use Rattle.couch_answers.specs.Stored.{state_of}
-use Rattle.couch_answers.specs.Reading.{after, given, pieces}
+use Rattle.proof_words.proofs.{◌≡◌, ◌⊎◌, [], take}
+use Rattle.couch_answers.specs.{state_of, after, given, pieces}
 use Rattle.couch_answers.proofs.reading.Reading.take_in.Given as goal
 
 abbrev pub invariant-loop-i : goal.invariant-loop-i

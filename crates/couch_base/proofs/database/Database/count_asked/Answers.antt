@@ -1,6 +1,6 @@
-use Rattle.std.proofs.Common.{◌+◌, drop, length, ap, ◌∙◌, arith}
-use Rattle.couch_base.specs.Messages.{fetched}
-use Rattle.couch_base.proofs.Exchanging.{counted_next, counted_end}
+use Rattle.proof_words.proofs.{◌+◌, drop, length, ap, ◌∙◌, arith}
+use Rattle.couch_base.specs.{fetched}
+use Rattle.couch_base.proofs.{counted_next, counted_end}
 use Rattle.couch_base.proofs.database.Database.count_asked.Goals as goal
 
 pub loop-wanted-preserved : goal.loop-wanted-preserved

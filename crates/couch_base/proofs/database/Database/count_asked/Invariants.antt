@@ -1,5 +1,5 @@
-use Rattle.std.proofs.Common.{◌≡◌, ◌+◌, ◌*◌, ◌^◌, ◌≤◌, drop, length}
-use Rattle.couch_base.specs.Messages.{fetched}
+use Rattle.proof_words.proofs.{◌≡◌, ◌+◌, ◌*◌, ◌^◌, ◌≤◌, drop, length}
+use Rattle.couch_base.specs.{fetched}
 use Rattle.couch_base.proofs.database.Database.count_asked.Given as goal
 
 -- how many are counted, with those of the other documents, are all; of each there are less than 2 ^ 64

@@ -1,10 +1,7 @@
-use Rattle.std.proofs.Common.{length, sym, ap, ◌∙◌}
-use Rattle.std.specs.Prelude.{unwrap_or}
-use Rattle.std.specs.Option.{option_copied}
-use Rattle.rev_tree.specs.Tree.{no_revisions}
-use Rattle.couch_base.specs.Database.{tree_in}
-use Rattle.couch_base.specs.Messages.{opened}
-use Rattle.couch_base.proofs.Exchanging.{opened-no_revisions}
+use Rattle.proof_words.proofs.{length, sym, ap, ◌∙◌, unwrap_or, option_copied}
+use Rattle.rev_tree.specs.{no_revisions}
+use Rattle.couch_base.specs.{tree_in, opened}
+use Rattle.couch_base.proofs.{opened-no_revisions}
 use Rattle.couch_base.proofs.database.Database.count_wanted.Goals as goal
 
 pub returns-in_default : goal.returns-in_default

@@ -1,9 +1,7 @@
-use Rattle.std.proofs.Common.{sym, ap, ◌∙◌}
-use Rattle.std.specs.Prelude.{unwrap_or}
-use Rattle.std.specs.Option.{option_copied}
-use Rattle.rev_tree.specs.Tree.{no_revisions}
-use Rattle.couch_base.specs.Messages.{document_in}
-use Rattle.couch_base.proofs.Exchanging.{document_in-no_revisions}
+use Rattle.proof_words.proofs.{sym, ap, ◌∙◌, unwrap_or, option_copied}
+use Rattle.rev_tree.specs.{no_revisions}
+use Rattle.couch_base.specs.{document_in}
+use Rattle.couch_base.proofs.{document_in-no_revisions}
 use Rattle.couch_base.proofs.database.Database.document.Goals as goal
 
 pub returns-in-None : goal.returns-in-None

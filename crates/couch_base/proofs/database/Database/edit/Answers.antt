@@ -1,9 +1,7 @@
-use Rattle.std.proofs.Common.{◌+◌, ◌<◌, arith, sym, ap, ◌∙◌}
-use Rattle.rev_tree.specs.Content.{ContentValue}
-use Rattle.rev_tree.specs.Tree.{merged, merge_answer}
-use Rattle.couch_base.specs.Database.{DatabaseValue, tree_of, with_tree, most}
-use Rattle.couch_base.proofs.Laws.{lawful}
-use Rattle.couch_base.proofs.Editing.{edited_from, new_revision_changes, after_edit-changed}
+use Rattle.proof_words.proofs.{◌+◌, ◌<◌, arith, sym, ap, ◌∙◌}
+use Rattle.rev_tree.specs.{ContentValue, merged, merge_answer}
+use Rattle.couch_base.specs.{DatabaseValue, tree_of, with_tree, most}
+use Rattle.couch_base.proofs.{lawful, edited_from, new_revision_changes, after_edit-changed}
 use Rattle.couch_base.proofs.database.Database.edit.Goals as goal
 
 pub write-requires-clause-change : goal.write-requires-clause-change

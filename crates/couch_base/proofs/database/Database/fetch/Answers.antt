@@ -1,12 +1,7 @@
-use Rattle.std.proofs.Common.{◌++◌, map, sym, ap, ◌∙◌}
-use Rattle.std.specs.Prelude.{unwrap_or}
-use Rattle.std.specs.List.{list_all}
-use Rattle.std.specs.Option.{option_copied}
-use Rattle.std.proofs.lemmas.List.{append-nil}
-use Rattle.rev_tree.specs.Tree.{is_leaf, missing, no_revisions}
-use Rattle.couch_base.specs.Database.{tree_in}
-use Rattle.couch_base.specs.Messages.{opened}
-use Rattle.couch_base.proofs.Exchanging.{opened-no_revisions, missing-no_revisions, all_leaves}
+use Rattle.proof_words.proofs.{◌++◌, map, sym, ap, ◌∙◌, unwrap_or, list_all, option_copied, append-nil}
+use Rattle.rev_tree.specs.{is_leaf, missing, no_revisions}
+use Rattle.couch_base.specs.{tree_in, opened}
+use Rattle.couch_base.proofs.{opened-no_revisions, missing-no_revisions, all_leaves}
 use Rattle.couch_base.proofs.database.Database.fetch.Goals as goal
 
 pub returns-in_default-clause-docs : goal.returns-in_default-clause-docs

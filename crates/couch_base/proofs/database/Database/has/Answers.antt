@@ -1,9 +1,6 @@
-use Rattle.std.proofs.Common.{is_some, sym, ap, ◌∙◌}
-use Rattle.std.specs.Prelude.{unwrap_or}
-use Rattle.std.specs.Option.{option_copied}
-use Rattle.std.specs.FinMap.{get-empty}
-use Rattle.rev_core.specs.Rev.{rev_cmp}
-use Rattle.rev_tree.specs.Tree.{has, no_revisions}
+use Rattle.proof_words.proofs.{is_some, sym, ap, ◌∙◌, unwrap_or, option_copied, get-empty}
+use Rattle.rev_core.specs.{rev_cmp}
+use Rattle.rev_tree.specs.{has, no_revisions}
 use Rattle.couch_base.proofs.database.Database.has.Goals as goal
 
 pub returns-in-None : goal.returns-in-None

@@ -1,6 +1,6 @@
-use Rattle.std.proofs.Common.{subst}
-use Rattle.couch_base.specs.Database.{LawfulDatabase}
-use Rattle.couch_base.proofs.Laws.{lawful}
+use Rattle.proof_words.proofs.{subst}
+use Rattle.couch_base.specs.{LawfulDatabase}
+use Rattle.couch_base.proofs.{lawful}
 use Rattle.couch_base.proofs.database.Database.law.Goals as goal
 
 pub returns : goal.returns

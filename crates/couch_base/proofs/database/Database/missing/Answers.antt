@@ -1,8 +1,6 @@
-use Rattle.std.proofs.Common.{◌≡◌, sym, ap, ◌∙◌, subst}
-use Rattle.std.specs.Prelude.{unwrap_or, IfOk}
-use Rattle.std.specs.Option.{option_copied}
-use Rattle.rev_tree.specs.Tree.{missing, no_revisions}
-use Rattle.couch_base.proofs.Exchanging.{missing-no_revisions}
+use Rattle.proof_words.proofs.{◌≡◌, sym, ap, ◌∙◌, subst, unwrap_or, IfOk, option_copied}
+use Rattle.rev_tree.specs.{missing, no_revisions}
+use Rattle.couch_base.proofs.{missing-no_revisions}
 use Rattle.couch_base.proofs.database.Database.missing.Goals as goal
 
 pub returns-in_default : goal.returns-in_default

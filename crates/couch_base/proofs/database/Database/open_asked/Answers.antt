@@ -1,7 +1,6 @@
-use Rattle.std.proofs.Common.{◌≡◌, ◌++◌, ◌+◌, drop, refl, subst, sym, ap, ◌∙◌, arith}
-use Rattle.couch_base.specs.Messages.{IsParcel, fetched, gone_of, open_revs}
-use Rattle.couch_base.specs.MessageLaws.{IsParcel-open_revs}
-use Rattle.couch_base.proofs.Exchanging.{fetched_next, gone_next, end_of}
+use Rattle.proof_words.proofs.{◌≡◌, ◌++◌, ◌+◌, drop, refl, subst, sym, ap, ◌∙◌, arith}
+use Rattle.couch_base.specs.{IsParcel, fetched, gone_of, open_revs, IsParcel-open_revs}
+use Rattle.couch_base.proofs.{fetched_next, gone_next, end_of}
 use Rattle.couch_base.proofs.database.Database.open_asked.Goals as goal
 
 pub loop-wanted-preserved : goal.loop-wanted-preserved

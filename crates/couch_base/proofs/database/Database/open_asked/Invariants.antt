@@ -1,5 +1,5 @@
-use Rattle.std.proofs.Common.{◌≡◌, ◌++◌, drop}
-use Rattle.couch_base.specs.Messages.{fetched, gone_of}
+use Rattle.proof_words.proofs.{◌≡◌, ◌++◌, drop}
+use Rattle.couch_base.specs.{fetched, gone_of}
 use Rattle.couch_base.proofs.database.Database.open_asked.Given as goal
 
 -- what is fetched and gone so far, with that of the other documents, is the whole

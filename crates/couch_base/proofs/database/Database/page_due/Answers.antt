@@ -1,9 +1,6 @@
-use Rattle.std.proofs.Common.{◌≡◌, subst, sym, ap, ◌∙◌}
-use Rattle.std.specs.Option.{option_copied}
-use Rattle.couch_base.specs.Database.{DatabaseValue}
-use Rattle.couch_base.specs.Feed.{IsWindow, page}
-use Rattle.couch_base.specs.FeedLaws.{IsWindow-page}
-use Rattle.couch_base.proofs.Pages.{page_of}
+use Rattle.proof_words.proofs.{◌≡◌, subst, sym, ap, ◌∙◌, option_copied}
+use Rattle.couch_base.specs.{DatabaseValue, IsWindow, page, IsWindow-page}
+use Rattle.couch_base.proofs.{page_of}
 use Rattle.couch_base.proofs.database.Database.page_due.Goals as goal
 
 same : (c : goal.In_ok-rows) → record { life = c.self.inside.life; lo = c.args.since; hi = c.in_ok-rows.hi; rows = c.in_ok-rows.rows.items } ≡ page c.args.self.now c.args.since c.args.goal c.args.limit (option_copied c.args.chosen)

@@ -1,13 +1,10 @@
-use Rattle.std.proofs.Common.{◌≡◌, ◌+◌, ◌<◌, Ok, Err, rules, subst, sym, ap, ◌∙◌, arith}
-use Rattle.std.specs.Prelude.{nat_lt, false, IsTrue}
-use Rattle.rev_tree.specs.declared.origin.Origin.{Origin}
+use Rattle.proof_words.proofs.{◌≡◌, ◌+◌, ◌<◌, Ok, Err, rules, subst, sym, ap, ◌∙◌, arith, nat_lt, false, IsTrue}
+use Rattle.rev_tree.specs.{Origin}
 use Rattle.rev_tree.specs.declared.origin.Origin.TheVariants.{Feed}
-use Rattle.couch_base.specs.Database.{DatabaseValue, with_tree, most}
-use Rattle.couch_base.specs.Put.{put_answer, is_changed, PutGives}
+use Rattle.couch_base.specs.{DatabaseValue, with_tree, most, put_answer, is_changed, PutGives}
 use Rattle.couch_base.specs.declared.fault.Put.TheVariants.{Changed}
 use Rattle.couch_base.specs.declared.fault.BaseFault.TheVariants.{Memory}
-use Rattle.couch_base.proofs.Laws.{lawful}
-use Rattle.couch_base.proofs.Readied.{left, taken, full}
+use Rattle.couch_base.proofs.{lawful, left, taken, full}
 use Rattle.couch_base.proofs.database.Database.put_made.Goals as goal
 
 pub returns-clause-ok : goal.returns-clause-ok

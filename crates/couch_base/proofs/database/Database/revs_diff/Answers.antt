@@ -1,7 +1,6 @@
-use Rattle.std.proofs.Common.{◌≡◌, refl, subst, sym, ap, ◌∙◌, arith}
-use Rattle.couch_base.specs.Messages.{IsAsked, wanted, revs_diff}
-use Rattle.couch_base.specs.MessageLaws.{IsAsked-revs_diff}
-use Rattle.couch_base.proofs.Exchanging.{end_of}
+use Rattle.proof_words.proofs.{◌≡◌, refl, subst, sym, ap, ◌∙◌, arith}
+use Rattle.couch_base.specs.{IsAsked, wanted, revs_diff, IsAsked-revs_diff}
+use Rattle.couch_base.proofs.{end_of}
 use Rattle.couch_base.proofs.database.Database.revs_diff.Goals as goal
 
 pub new-requires : goal.new-requires

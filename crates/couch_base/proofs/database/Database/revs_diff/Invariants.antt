@@ -1,5 +1,5 @@
-use Rattle.std.proofs.Common.{◌≡◌, ◌++◌, drop}
-use Rattle.couch_base.specs.Messages.{wanted}
+use Rattle.proof_words.proofs.{◌≡◌, ◌++◌, drop}
+use Rattle.couch_base.specs.{wanted}
 use Rattle.couch_base.proofs.database.Database.revs_diff.Given as goal
 
 -- what is wanted so far, with what is wanted of the other rows, is the whole

@@ -1,15 +1,8 @@
-use Rattle.std.proofs.Common.{◌≡◌, ◌+◌, ◌<◌, ◌++◌, ◌∷◌, [], None, length, ◌∙◌, sym, ap, subst, rules}
-use Rattle.std.specs.Str.{bytes_eq}
+use Rattle.proof_words.proofs.{◌≡◌, ◌+◌, ◌<◌, ◌++◌, ◌∷◌, [], None, length, ◌∙◌, sym, ap, subst, rules, bytes_eq}
 use Rattle.indexmap.specs.IndexMap.{insert_entry}
-use Rattle.rev_tree.specs.Tree.{TreeValue, IsTree, merged, merge_answer, no_revisions}
-use Rattle.couch_base.specs.Database.{Id, IsDocumentTree, tree_of, most}
-use Rattle.couch_base.specs.declared.kept.Kept.{Kept}
-use Rattle.couch_base.specs.DocumentTreeLaws.{merged_document, no_bodies}
-use Rattle.couch_base.specs.Stored.{TableValue, documents_of, found, tree_at, IsWritten}
-use Rattle.couch_base.proofs.Found.{tree_of-documents_of}
-use Rattle.couch_base.proofs.Naming.{inserted}
-use Rattle.couch_base.proofs.Putting.{new_changes}
-use Rattle.couch_base.proofs.Writing.{added}
+use Rattle.rev_tree.specs.{TreeValue, IsTree, merged, merge_answer, no_revisions}
+use Rattle.couch_base.specs.{Id, IsDocumentTree, tree_of, most, Kept, merged_document, no_bodies, TableValue, documents_of, found, tree_at, IsWritten}
+use Rattle.couch_base.proofs.{tree_of-documents_of, inserted, new_changes, added}
 use Rattle.couch_base.proofs.table.Table.add.Goals as goal
 
 pub merge_change-requires : goal.merge_change-requires

@@ -1,11 +1,7 @@
-use Rattle.std.proofs.Common.{◌≡◌, ◌+◌, ◌<◌, ◌++◌, ◌∷◌, [], None, length, ◌∙◌, sym, ap, subst, rules}
-use Rattle.std.specs.Str.{bytes_eq}
+use Rattle.proof_words.proofs.{◌≡◌, ◌+◌, ◌<◌, ◌++◌, ◌∷◌, [], None, length, ◌∙◌, sym, ap, subst, rules, bytes_eq}
 use Rattle.indexmap.specs.IndexMap.{insert_entry}
-use Rattle.couch_base.specs.Database.{most}
-use Rattle.couch_base.specs.declared.kept.Kept.{Kept}
-use Rattle.couch_base.specs.Stored.{TableValue, found, IsWritten}
-use Rattle.couch_base.proofs.Naming.{inserted}
-use Rattle.couch_base.proofs.Writing.{added}
+use Rattle.couch_base.specs.{most, Kept, TableValue, found, IsWritten}
+use Rattle.couch_base.proofs.{inserted, added}
 use Rattle.couch_base.proofs.table.Table.add_made.Goals as goal
 
 -- the table after it

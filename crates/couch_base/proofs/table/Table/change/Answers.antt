@@ -1,18 +1,9 @@
-use Rattle.std.proofs.Common.{◌≡◌, ℕ, List, ◌+◌, ◌-◌, ◌<◌, ◌++◌, ◌∷◌, [], ◌∙◌, Some, length, slice_get, take, refl, sym, ap, subst, arith}
-use Rattle.std.proofs.Math.Seq.{take-append_seam}
-use Rattle.std.proofs.lemmas.List.{length-append}
-use Rattle.std.proofs.lemmas.Cmp.{nat_list_eq_equiv}
-use Rattle.std.proofs.lemmas.Map.Entries.{lookup_from_place}
-use Rattle.std.proofs.lemmas.Option.{same_Some}
+use Rattle.proof_words.proofs.{◌≡◌, ℕ, List, ◌+◌, ◌-◌, ◌<◌, ◌++◌, ◌∷◌, [], ◌∙◌, Some, length, slice_get, take, refl, sym, ap, subst, arith, take-append_seam, length-append, nat_list_eq_equiv, lookup_from_place, same_Some}
 use Rattle.indexmap.specs.IndexMap.{set_value_at}
 use Rattle.indexmap.proofs.CallerLemmas.{keys-with_value_at, updates-with_value_at}
-use Rattle.rev_tree.specs.Tree.{TreeValue, IsTree, merged, merge_answer}
-use Rattle.couch_base.specs.Database.{Id, IsDocumentTree, tree_of, most}
-use Rattle.couch_base.specs.DocumentTreeLaws.{merged_document}
-use Rattle.couch_base.specs.Stored.{TableValue, documents_of, IsKept, IsPlace, IsWritten}
-use Rattle.couch_base.specs.declared.kept.Kept.{Kept}
-use Rattle.couch_base.proofs.Naming.{set_same, standing, tree_at_place}
-use Rattle.couch_base.proofs.Writing.{changed}
+use Rattle.rev_tree.specs.{TreeValue, IsTree, merged, merge_answer}
+use Rattle.couch_base.specs.{Id, IsDocumentTree, tree_of, most, merged_document, TableValue, documents_of, IsKept, IsPlace, IsWritten, Kept}
+use Rattle.couch_base.proofs.{set_same, standing, tree_at_place, changed}
 use Rattle.couch_base.proofs.table.Table.change.Goals as goal
 
 pub merge_change-requires : goal.merge_change-requires

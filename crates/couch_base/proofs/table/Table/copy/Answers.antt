@@ -1,6 +1,6 @@
-use Rattle.std.proofs.Common.{◌≡◌, sym, subst, ◌∙◌}
-use Rattle.couch_base.specs.Stored.{TableValue, IsKept}
-use Rattle.couch_base.proofs.Copying.{cloned_same}
+use Rattle.proof_words.proofs.{◌≡◌, sym, subst, ◌∙◌}
+use Rattle.couch_base.specs.{TableValue, IsKept}
+use Rattle.couch_base.proofs.{cloned_same}
 use Rattle.couch_base.proofs.table.Table.copy.Goals as goal
 
 same : (c : goal.In_ok-index) → record { entries = c.in_ok-docs.docs.entries; rows = c.in_ok-index.index.items; last = c.self.inside.last } ≡ c.args.self.now

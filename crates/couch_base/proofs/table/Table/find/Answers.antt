@@ -1,6 +1,6 @@
-use Rattle.std.proofs.Common.{Some, subst}
-use Rattle.couch_base.specs.Stored.{TableValue, IsPlace}
-use Rattle.couch_base.proofs.Naming.{placed}
+use Rattle.proof_words.proofs.{Some, subst}
+use Rattle.couch_base.specs.{TableValue, IsPlace}
+use Rattle.couch_base.proofs.{placed}
 use Rattle.couch_base.proofs.table.Table.find.Goals as goal
 
 pub returns-in-Some : goal.returns-in-Some

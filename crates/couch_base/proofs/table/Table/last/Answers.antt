@@ -1,5 +1,5 @@
-use Rattle.std.proofs.Common.{subst}
-use Rattle.couch_base.specs.Stored.{IsKept}
+use Rattle.proof_words.proofs.{subst}
+use Rattle.couch_base.specs.{IsKept}
 use Rattle.couch_base.proofs.table.Table.last.Goals as goal
 
 pub returns-clause-kept : goal.returns-clause-kept

@@ -1,11 +1,7 @@
-use Rattle.std.proofs.Common.{Some, subst, sym, ap, ◌∙◌}
-use Rattle.rev_tree.specs.Tree.{merge_answer}
-use Rattle.couch_base.specs.Database.{tree_of}
-use Rattle.couch_base.specs.Put.{is_change}
-use Rattle.couch_base.specs.Stored.{TableValue, documents_of, tree_at, IsPlace}
-use Rattle.couch_base.proofs.Found.{tree_of-documents_of}
-use Rattle.couch_base.proofs.Naming.{placed}
-use Rattle.couch_base.proofs.Putting.{new_changes}
+use Rattle.proof_words.proofs.{Some, subst, sym, ap, ◌∙◌}
+use Rattle.rev_tree.specs.{merge_answer}
+use Rattle.couch_base.specs.{tree_of, is_change, TableValue, documents_of, tree_at, IsPlace}
+use Rattle.couch_base.proofs.{tree_of-documents_of, placed, new_changes}
 use Rattle.couch_base.proofs.table.Table.look.Goals as goal
 
 pub returns-in-Some-clause-place : goal.returns-in-Some-clause-place

@@ -1,11 +1,6 @@
-use Rattle.std.proofs.Common.{◌≡◌, ℕ, List, ◌-◌, length, drop, of_calls, rules, sym, ap, ◌∙◌, subst, arith, length-drop}
-use Rattle.std.specs.Prelude.{nat_le, true, false}
-use Rattle.std.specs.List.Sorted.{IsPartitionPoint}
-use Rattle.std.proofs.lemmas.Fn.{always_returns_same}
-use Rattle.std.proofs.lemmas.List.{take_all}
-use Rattle.std.proofs.lemmas.List.Sorted.{IsPartitionedBy-leb}
-use Rattle.couch_base.specs.Stored.{TableValue, above, InOrder, IsKept}
-use Rattle.couch_base.proofs.Rows.{order_by, above_from}
+use Rattle.proof_words.proofs.{◌≡◌, ℕ, List, ◌-◌, length, drop, of_calls, rules, sym, ap, ◌∙◌, subst, arith, length-drop, nat_le, true, false, IsPartitionPoint, always_returns_same, take_all, IsPartitionedBy-leb}
+use Rattle.couch_base.specs.{TableValue, above, InOrder, IsKept}
+use Rattle.couch_base.proofs.{order_by, above_from}
 use Rattle.couch_base.proofs.table.Table.rows_above.Goals as goal
 
 pub returns-clause-rows : goal.returns-clause-rows

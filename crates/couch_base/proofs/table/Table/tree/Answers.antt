@@ -1,7 +1,6 @@
-use Rattle.std.proofs.Common.{sym, ap, ◌∙◌}
-use Rattle.couch_base.specs.Database.{tree_in}
-use Rattle.couch_base.specs.Stored.{TableValue, documents_of, feed_of, found}
-use Rattle.couch_base.proofs.Found.{none_in, found_in}
+use Rattle.proof_words.proofs.{sym, ap, ◌∙◌}
+use Rattle.couch_base.specs.{tree_in, TableValue, documents_of, feed_of, found}
+use Rattle.couch_base.proofs.{none_in, found_in}
 use Rattle.couch_base.proofs.table.Table.tree.Goals as goal
 
 pub returns-in-Some-clause-value : goal.returns-in-Some-clause-value

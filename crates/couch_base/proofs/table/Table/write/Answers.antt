@@ -1,11 +1,8 @@
-use Rattle.std.proofs.Common.{◌≡◌, ◌∙◌, Ok, Some, sym, ap, subst}
-use Rattle.std.proofs.lemmas.Option.{same_Some}
+use Rattle.proof_words.proofs.{◌≡◌, ◌∙◌, Ok, Some, sym, ap, subst, same_Some}
 use Rattle.indexmap.proofs.MapLemmas.{OnOk-map}
-use Rattle.rev_tree.specs.Tree.{merged, merge_answer}
+use Rattle.rev_tree.specs.{merged, merge_answer}
 use Rattle.rev_tree.specs.declared.fault.Merged.TheVariants.{Changed}
-use Rattle.couch_base.specs.Database.{Id, tree_of}
-use Rattle.couch_base.specs.Stored.{documents_of, IsPlace, IsWritten}
-use Rattle.couch_base.specs.declared.kept.Kept.{Kept}
+use Rattle.couch_base.specs.{Id, tree_of, documents_of, IsPlace, IsWritten, Kept}
 use Rattle.couch_base.proofs.table.Table.write.Goals as goal
 
 pub change-requires-clause-change : goal.change-requires-clause-change

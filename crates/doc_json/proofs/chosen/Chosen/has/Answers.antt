@@ -1,11 +1,6 @@
-use Rattle.std.proofs.Common.{sym, ◌∙◌, subst, rules}
-use Rattle.std.specs.Arc.{arc_slice_items}
-use Rattle.std.specs.List.Sorted.{IsBinarySearchResult}
-use Rattle.std.specs.Ordering.{nat_cmp}
-use Rattle.std.specs.Cmp.Lexicographic.{slice_cmp}
-use Rattle.doc_json.specs.Marks.{AreMarks}
-use Rattle.doc_json.proofs.Choosing.{found_by}
-use Rattle.doc_json.proofs.Marking.{not_among}
+use Rattle.proof_words.proofs.{sym, ◌∙◌, subst, rules, arc_slice_items, IsBinarySearchResult, nat_cmp, slice_cmp}
+use Rattle.doc_json.specs.{AreMarks}
+use Rattle.doc_json.proofs.{found_by, not_among}
 use Rattle.doc_json.proofs.chosen.Chosen.has.Goals as goal
 
 pub returns-then-is_marked : goal.returns-then-is_marked

@@ -1,11 +1,8 @@
-use Rattle.std.proofs.Common.{◌≡◌, ◌∷◌, sym, subst}
-use Rattle.std.specs.List.Sorted.{IsStrictlySortedBy}
-use Rattle.std.specs.Map.{keys_of}
-use Rattle.std.specs.String.{string_cmp}
+use Rattle.proof_words.proofs.{◌≡◌, ◌∷◌, sym, subst, IsStrictlySortedBy, keys_of, string_cmp}
 use Rattle.serde_json.proofs.Views.{Entry}
-use Rattle.json_values.specs.LineOrder.{AllBehind}
+use Rattle.json_values.specs.{AllBehind}
 use Rattle.serde_json.specs.View.{members_view}
-use Rattle.doc_json.proofs.OwnedMembers.{behind_first}
+use Rattle.doc_json.proofs.{behind_first}
 use Rattle.doc_json.proofs.owned_value.ValueJsonValue.next_member.Goals as goal
 
 pub returns-in-Some-clause-order : goal.returns-in-Some-clause-order

@@ -1,6 +1,6 @@
-use Rattle.std.proofs.Common.{◌==◌, ap, sym, ◌∙◌, length, List, ℕ}
-use Rattle.document_texts.specs.Stored.{held_of}
-use Rattle.document_texts.proofs.KitValues.{empty_utf8}
+use Rattle.proof_words.proofs.{◌==◌, ap, sym, ◌∙◌, length, List, ℕ}
+use Rattle.document_texts.specs.{held_of}
+use Rattle.document_texts.proofs.{empty_utf8}
 use Rattle.document_texts.proofs.envelope.Envelope.end_held.Goals as goal
 
 pub returns-then-is_empty-clause-is : goal.returns-then-is_empty-clause-is

@@ -1,8 +1,6 @@
-use Rattle.std.proofs.Common.{◌≡◌, sym, subst, ◌∙◌, IfOk}
-use Rattle.document_texts.specs.Envelopes.{is_envelope}
-use Rattle.document_texts.specs.Stored.{made_of, held_of}
-use Rattle.document_texts.proofs.Folds.{fold_enveloped}
-use Rattle.document_texts.proofs.KitValues.{put_end, put_none}
+use Rattle.proof_words.proofs.{◌≡◌, sym, subst, ◌∙◌, IfOk}
+use Rattle.document_texts.specs.{is_envelope, made_of, held_of}
+use Rattle.document_texts.proofs.{fold_enveloped, put_end, put_none}
 use Rattle.document_texts.proofs.envelope.Envelope.envelop.Goals as goal
 
 pub returns-then-not-branch : goal.returns-then-not-branch

@@ -1,10 +1,7 @@
-use Rattle.std.proofs.Common.{◌≡◌, ◌==◌, [], false, ap, sym, ◌∙◌, length, take, arith}
-use Rattle.std.proofs.lemmas.Grind.{common_steps}
-use Rattle.document_texts.specs.Members.{members_in, first_length}
-use Rattle.document_texts.specs.Steps.{texts_with, helds_by, behind_comma, text_with, held_by}
-use Rattle.document_texts.specs.Stored.{made_of, held_of}
+use Rattle.proof_words.proofs.{◌≡◌, ◌==◌, [], false, ap, sym, ◌∙◌, length, take, arith, common_steps}
+use Rattle.document_texts.specs.{members_in, first_length, texts_with, helds_by, behind_comma, text_with, held_by, made_of, held_of}
 use Rattle.document_texts.specs.declared.members.Mode.TheVariants.{Outside}
-use Rattle.document_texts.proofs.Splits.{members_first, members_none, no_bytes}
+use Rattle.document_texts.proofs.{members_first, members_none, no_bytes}
 use Rattle.document_texts.proofs.envelope.Envelope.fold.Goals as goal
 
 pub loop-rest-preserved : goal.loop-rest-preserved

@@ -1,8 +1,6 @@
 -- What the members behind will make of the texts so far is what all of them make.
-use Rattle.std.proofs.Common.{◌≡◌, [], ◌∷◌, drop, length}
-use Rattle.document_texts.specs.Members.{members_in}
-use Rattle.document_texts.specs.Steps.{texts_with, helds_by}
-use Rattle.document_texts.specs.Stored.{made_of, held_of}
+use Rattle.proof_words.proofs.{◌≡◌, [], ◌∷◌, drop, length}
+use Rattle.document_texts.specs.{members_in, texts_with, helds_by, made_of, held_of}
 use Rattle.document_texts.specs.declared.members.Mode.TheVariants.{Outside}
 use Rattle.document_texts.proofs.envelope.Envelope.fold.Given as goal
 

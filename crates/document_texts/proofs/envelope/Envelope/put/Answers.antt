@@ -1,5 +1,5 @@
-use Rattle.document_texts.specs.Stored.{made_of}
-use Rattle.document_texts.proofs.Round.{put_envelops}
+use Rattle.document_texts.specs.{made_of}
+use Rattle.document_texts.proofs.{put_envelops}
 use Rattle.document_texts.proofs.envelope.Envelope.put.Goals as goal
 
 pub returns-in-Ok-clause-envelops : goal.returns-in-Ok-clause-envelops

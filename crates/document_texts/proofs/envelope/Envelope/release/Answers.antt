@@ -1,7 +1,6 @@
-use Rattle.std.proofs.Common.{ap, ◌∙◌, cond, Some, None}
-use Rattle.document_texts.specs.Stored.{made_of}
-use Rattle.document_texts.proofs.Folds.{taken_none}
-use Rattle.document_texts.proofs.KitValues.{taken_end}
+use Rattle.proof_words.proofs.{ap, ◌∙◌, cond, Some, None}
+use Rattle.document_texts.specs.{made_of}
+use Rattle.document_texts.proofs.{taken_none, taken_end}
 use Rattle.document_texts.proofs.envelope.Envelope.release.Goals as goal
 
 pub returns-then-not-branch : goal.returns-then-not-branch

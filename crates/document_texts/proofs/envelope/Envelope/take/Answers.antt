@@ -1,5 +1,5 @@
-use Rattle.document_texts.specs.Stored.{made_of}
-use Rattle.document_texts.proofs.Round.{take_gives_back}
+use Rattle.document_texts.specs.{made_of}
+use Rattle.document_texts.proofs.{take_gives_back}
 use Rattle.document_texts.proofs.envelope.Envelope.take.Goals as goal
 
 pub returns-in-Ok-clause-gives_back : goal.returns-in-Ok-clause-gives_back

@@ -1,9 +1,7 @@
-use Rattle.std.proofs.Common.{◌≡◌, ◌==◌, [], false, ap, sym, ◌∙◌, length, take, cond, Some, None}
-use Rattle.document_texts.specs.Members.{members_in}
-use Rattle.document_texts.specs.Steps.{all_taken, behind_comma}
-use Rattle.document_texts.specs.Stored.{made_of}
+use Rattle.proof_words.proofs.{◌≡◌, ◌==◌, [], false, ap, sym, ◌∙◌, length, take, cond, Some, None}
+use Rattle.document_texts.specs.{members_in, all_taken, behind_comma, made_of}
 use Rattle.document_texts.specs.declared.members.Mode.TheVariants.{Outside}
-use Rattle.document_texts.proofs.Folds.{taken_first, taken_over}
+use Rattle.document_texts.proofs.{taken_first, taken_over}
 use Rattle.document_texts.proofs.envelope.Envelope.unfold.Goals as goal
 
 pub returns-then-not-branch : goal.returns-then-not-branch

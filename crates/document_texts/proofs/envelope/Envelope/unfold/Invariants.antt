@@ -1,8 +1,6 @@
 -- What is taken of the members behind the text so far is what is taken of all of them.
-use Rattle.std.proofs.Common.{◌≡◌, [], ◌∷◌, drop, length}
-use Rattle.document_texts.specs.Members.{members_in}
-use Rattle.document_texts.specs.Steps.{all_taken}
-use Rattle.document_texts.specs.Stored.{made_of}
+use Rattle.proof_words.proofs.{◌≡◌, [], ◌∷◌, drop, length}
+use Rattle.document_texts.specs.{members_in, all_taken, made_of}
 use Rattle.document_texts.specs.declared.members.Mode.TheVariants.{Outside}
 use Rattle.document_texts.proofs.envelope.Envelope.unfold.Given as goal
 

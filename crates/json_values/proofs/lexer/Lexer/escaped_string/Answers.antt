@@ -1,9 +1,7 @@
-use Rattle.std.proofs.Common.{◌≡◌, drop, sym, ap, ◌∙◌, subst, arith}
-use Rattle.std.proofs.lemmas.Str.{IsCharBoundary-after_ascii}
+use Rattle.proof_words.proofs.{◌≡◌, drop, sym, ap, ◌∙◌, subst, arith, IsCharBoundary-after_ascii}
 use Rattle.json.specs.Word.{head}
 use Rattle.json.specs.Lex.{between, in_string, lex}
-use Rattle.json_values.proofs.Passing.{lex-quote}
-use Rattle.json_values.proofs.Steps.{quote_at}
+use Rattle.json_values.proofs.{lex-quote, quote_at}
 use Rattle.json_values.proofs.lexer.Lexer.escaped_string.Goals as goal
 
 pub unescape-requires-clause-boundary : goal.unescape-requires-clause-boundary

@@ -1,9 +1,9 @@
-use Rattle.std.proofs.Common.{◌≡◌, ◌-◌, drop, take, sym, ap, ◌∙◌, subst}
+use Rattle.proof_words.proofs.{◌≡◌, ◌-◌, drop, take, sym, ap, ◌∙◌, subst}
 use Rattle.json.specs.Word.{head, word}
 use Rattle.json.specs.Lex.{class, between, lex}
 use Rattle.serde_json.specs.View.{number_view}
-use Rattle.json_values.specs.Words.{IntegerAt}
-use Rattle.json_values.proofs.Integers.{integer_word, integer_passed}
+use Rattle.json_values.specs.{IntegerAt}
+use Rattle.json_values.proofs.{integer_word, integer_passed}
 use Rattle.json_values.proofs.lexer.Lexer.integer.Goals as goal
 
 pub returns-clause-value : goal.returns-clause-value

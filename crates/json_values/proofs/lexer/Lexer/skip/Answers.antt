@@ -1,8 +1,7 @@
-use Rattle.std.proofs.Common.{◌≡◌, ◌+◌, drop, sym, ap, ◌∙◌, subst, arith, drop-drop}
-use Rattle.std.proofs.lemmas.List.{length-drop}
+use Rattle.proof_words.proofs.{◌≡◌, ◌+◌, drop, sym, ap, ◌∙◌, subst, arith, drop-drop, length-drop}
 use Rattle.json.specs.Word.{head}
 use Rattle.json.specs.Lex.{class, between, lex}
-use Rattle.json_values.proofs.Passing.{lex-operator}
+use Rattle.json_values.proofs.{lex-operator}
 use Rattle.json_values.proofs.lexer.Lexer.skip.Goals as goal
 
 pub after_blanks-self-inside-requires : goal.after_blanks-self-inside-requires

@@ -1,15 +1,9 @@
-use Rattle.std.proofs.Common.{◌≡◌, ◌+◌, ◌-◌, ◌<◌, length, take, drop, get_or, Some, sym, ap, ◌∙◌, subst, arith, lt_of_not-le}
-use Rattle.std.proofs.lemmas.Str.{IsCharBoundary-after_ascii}
-use Rattle.std.proofs.lemmas.List.{append-nil, get_or_default, get_or_past}
-use Rattle.std.specs.List.{prefix_len}
+use Rattle.proof_words.proofs.{◌≡◌, ◌+◌, ◌-◌, ◌<◌, length, take, drop, get_or, Some, sym, ap, ◌∙◌, subst, arith, lt_of_not-le, IsCharBoundary-after_ascii, append-nil, get_or_default, get_or_past, prefix_len}
 use Rattle.json.specs.Text.{content, plain, prepend}
 use Rattle.json.specs.Word.{head}
 use Rattle.json.specs.Lex.{between, in_string, lex}
 use Rattle.json.specs.Run.{is_plain}
-use Rattle.json_values.proofs.Content.{content-to_stop, at_quote}
-use Rattle.json_values.proofs.Passing.{lex-quote, in_string-to_stop, in_string-quote}
-use Rattle.json_values.proofs.PlainReads.{passing_front}
-use Rattle.json_values.proofs.Steps.{quote_at}
+use Rattle.json_values.proofs.{content-to_stop, at_quote, lex-quote, in_string-to_stop, in_string-quote, passing_front, quote_at}
 use Rattle.json_values.proofs.lexer.Lexer.string.Goals as goal
 
 pub range-requires-clause-start_boundary : goal.range-requires-clause-start_boundary

@@ -1,5 +1,5 @@
-use Rattle.json_values.specs.LineView.{line_view}
-use Rattle.json_values.proofs.PartReads.{part_found}
+use Rattle.json_values.specs.{line_view}
+use Rattle.json_values.proofs.{part_found}
 use Rattle.json_values.proofs.line_part.Line.get.Goals as goal
 
 pub invariant_of-result : goal.invariant_of-result

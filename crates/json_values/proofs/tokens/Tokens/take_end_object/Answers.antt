@@ -1,12 +1,11 @@
-use Rattle.std.proofs.Common.{◌≡◌, false, None, Some, refl, sym, ap, ◌∙◌, inl, ⊎_elim, arith}
-use Rattle.std.proofs.lemmas.Bool.{cases_eq}
+use Rattle.proof_words.proofs.{◌≡◌, false, None, Some, refl, sym, ap, ◌∙◌, inl, ⊎_elim, arith, cases_eq}
 use Rattle.json.specs.Token as spec
 use Rattle.json.specs.Word.{head}
 use Rattle.json.specs.Lex.{class, after_value, may_close, punctuate}
 use Rattle.json.specs.Align.{is_blank}
 use Rattle.json.specs.Json.{read_key}
-use Rattle.json_values.specs.Place.{tokens_at, ends_object}
-use Rattle.json_values.proofs.Punctuation.{rest, at_operator, allowed, closed, not_closed, no_brace, refused_no_brace}
+use Rattle.json_values.specs.{tokens_at, ends_object}
+use Rattle.json_values.proofs.{rest, at_operator, allowed, closed, not_closed, no_brace, refused_no_brace}
 use Rattle.json_values.proofs.tokens.Tokens.take_end_object.Goals as goal
 
 pub returns-then-peek-may_close-clause-end : goal.returns-then-peek-may_close-clause-end

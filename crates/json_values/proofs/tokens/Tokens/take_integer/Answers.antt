@@ -1,9 +1,8 @@
-use Rattle.std.proofs.Common.{◌≡◌, ◌∷◌, refl, sym, ap, ◌∙◌, arith}
+use Rattle.proof_words.proofs.{◌≡◌, ◌∷◌, refl, sym, ap, ◌∙◌, arith}
 use Rattle.json.specs.Token as spec
 use Rattle.json.specs.Lex.{other, token, after_value, punctuate}
-use Rattle.json_values.specs.Place.{tokens_at}
-use Rattle.json_values.proofs.Steps.{lex_first}
-use Rattle.json_values.proofs.Punctuation.{rest, begun, good_word}
+use Rattle.json_values.specs.{tokens_at}
+use Rattle.json_values.proofs.{lex_first, rest, begun, good_word}
 use Rattle.json_values.proofs.tokens.Tokens.take_integer.Goals as goal
 
 pub returns-clause-number : goal.returns-clause-number

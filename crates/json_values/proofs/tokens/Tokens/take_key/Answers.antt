@@ -1,13 +1,11 @@
-use Rattle.std.proofs.Common.{◌≡◌, ◌∷◌, false, refl, sym, ap, ◌∙◌, ⊎_elim, arith}
-use Rattle.std.proofs.lemmas.Bool.{cases_eq}
+use Rattle.proof_words.proofs.{◌≡◌, ◌∷◌, false, refl, sym, ap, ◌∙◌, ⊎_elim, arith, cases_eq}
 use Rattle.json.specs.Word.{head}
 use Rattle.json.specs.Lex.{class}
 use Rattle.json.specs.Align.{is_blank}
-use Rattle.json_values.specs.Place.{tokens_at, begins_key}
+use Rattle.json_values.specs.{tokens_at, begins_key}
 use Rattle.json.specs.Json.{read_key}
 use Rattle.json.specs.Reads.{token_of}
-use Rattle.json_values.proofs.FirstTokens.{keyless, not_a_key}
-use Rattle.json_values.proofs.Punctuation.{begun, no_key, no_key_yet}
+use Rattle.json_values.proofs.{keyless, not_a_key, begun, no_key, no_key_yet}
 use Rattle.json_values.proofs.tokens.Tokens.take_key.Goals as goal
 
 pub returns-then-peek-may_begin-clause-name : goal.returns-then-peek-may_begin-clause-name

@@ -1,9 +1,8 @@
-use Rattle.std.proofs.Common.{◌≡◌, ◌∷◌, sym, ap, ◌∙◌, arith}
+use Rattle.proof_words.proofs.{◌≡◌, ◌∷◌, sym, ap, ◌∙◌, arith}
 use Rattle.json.specs.Json.{value}
 use Rattle.json.specs.Reads.{token_of}
-use Rattle.json_values.specs.Place.{tokens_at}
-use Rattle.json_values.proofs.FirstTokens.{not_a_value}
-use Rattle.json_values.proofs.Punctuation.{begun}
+use Rattle.json_values.specs.{tokens_at}
+use Rattle.json_values.proofs.{not_a_value, begun}
 use Rattle.json_values.proofs.tokens.Tokens.take_text.Goals as goal
 
 pub returns-clause-text : goal.returns-clause-text

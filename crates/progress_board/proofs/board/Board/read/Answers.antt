@@ -1,5 +1,5 @@
-use Rattle.std.proofs.Common.{◌≡◌, ◌≤◌, length, sum, sym, ◌∙◌, ap, arith}
-use Rattle.progress_board.proofs.RuleLaws.{sum_le}
+use Rattle.proof_words.proofs.{◌≡◌, ◌≤◌, length, sum, sym, ◌∙◌, ap, arith}
+use Rattle.progress_board.proofs.{sum_le}
 use Rattle.progress_board.proofs.board.Board.read.Goals as goal
 
 pub returns-clause-in_order : goal.returns-clause-in_order

@@ -1,5 +1,5 @@
-use Rattle.std.proofs.Common.{◌≡◌, ◌*◌, ◌≤◌, take, sum}
-use Rattle.progress_board.specs.Seats.{CameWith, IsLater, SameSeat}
+use Rattle.proof_words.proofs.{◌≡◌, ◌*◌, ◌≤◌, take, sum}
+use Rattle.progress_board.specs.{CameWith, IsLater, SameSeat}
 use Rattle.progress_board.proofs.board.Board.sum_settled.Given as goal
 
 abbrev pub invariant-loop-i : goal.invariant-loop-i

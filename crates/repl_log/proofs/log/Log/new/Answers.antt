@@ -1,7 +1,6 @@
-use Rattle.std.proofs.Common.{sym, subst}
-use Rattle.repl_log.specs.Log.{IsLog}
-use Rattle.repl_log.specs.LogLaws.{IsLog-nothing}
-use Rattle.repl_log.proofs.Logging.{Entries, logged, Keyed}
+use Rattle.proof_words.proofs.{sym, subst}
+use Rattle.repl_log.specs.{IsLog, IsLog-nothing}
+use Rattle.repl_log.proofs.{Entries, logged, Keyed}
 use Rattle.repl_log.proofs.log.Log.new.Goals as goal
 
 pub invariant_of-result : goal.invariant_of-result

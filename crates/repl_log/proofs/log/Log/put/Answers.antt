@@ -1,17 +1,9 @@
-use Rattle.std.proofs.Common.{◌≡◌, ◌∷◌, ◌++◌, [], Ok, Err, List, is_ok, sym, ap, ◌∙◌, subst}
-use Rattle.std.specs.Option.{option_copied_mut}
-use Rattle.std.specs.Map.{set_value}
-use Rattle.std.proofs.lemmas.Bool.{false≢true}
-use Rattle.std.proofs.lemmas.Result.{err_from_is_err_and}
-use Rattle.std.proofs.lemmas.Map.Steps.{set_value_same}
+use Rattle.proof_words.proofs.{◌≡◌, ◌∷◌, ◌++◌, [], Ok, Err, List, is_ok, sym, ap, ◌∙◌, subst, option_copied_mut, set_value, false≢true, err_from_is_err_and, set_value_same}
 use Rattle.indexmap.specs.IndexMap.{insert_entry}
 use Rattle.indexmap.proofs.CallerLemmas.{insert_entry-new}
 use Rattle.repl_log.specs.declared.fault.LogFault.TheVariants as faults
-use Rattle.repl_log.specs.Entry.{EntryValue, value_of}
-use Rattle.repl_log.specs.Log.{IsLog, with_entry, put_answer, ChangesOnly}
-use Rattle.repl_log.specs.LogLaws.{ChangesOnly-with_entry}
-use Rattle.repl_log.specs.Stored.{at_session}
-use Rattle.repl_log.proofs.Logging.{Entries, logged, Lawful, Lawful-known, Lawful-new, put_answer-older, put_answer-known, put_answer-new, with_entry-known, with_entry-new, not_held}
+use Rattle.repl_log.specs.{EntryValue, value_of, IsLog, with_entry, put_answer, ChangesOnly, ChangesOnly-with_entry, at_session}
+use Rattle.repl_log.proofs.{Entries, logged, Lawful, Lawful-known, Lawful-new, put_answer-older, put_answer-known, put_answer-new, with_entry-known, with_entry-new, not_held}
 use Rattle.repl_log.proofs.log.Log.put.Goals as goal
 
 -- ---- the stored entry has a greater recorded sequence: nothing is written

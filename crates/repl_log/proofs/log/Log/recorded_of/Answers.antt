@@ -1,6 +1,5 @@
-use Rattle.std.proofs.Common.{Some, None, sym, ap, ◌∙◌}
-use Rattle.std.specs.Option.{option_copied}
-use Rattle.repl_log.proofs.Logging.{recorded_of-lookup}
+use Rattle.proof_words.proofs.{Some, None, sym, ap, ◌∙◌, option_copied}
+use Rattle.repl_log.proofs.{recorded_of-lookup}
 use Rattle.repl_log.proofs.log.Log.recorded_of.Goals as goal
 
 pub returns-in_err-entry : goal.returns-in_err-entry

@@ -1,5 +1,5 @@
-use Rattle.std.proofs.Common.{sym, ap, ◌∙◌, subst}
-use Rattle.repl_log.proofs.Logging.{logged, Lawful, entered}
+use Rattle.proof_words.proofs.{sym, ap, ◌∙◌, subst}
+use Rattle.repl_log.proofs.{logged, Lawful, entered}
 use Rattle.repl_log.proofs.log.Log.set.Goals as goal
 
 kept : (c : goal.In_ok-insert) → Lawful c.insert.new.self.entries

@@ -1,5 +1,5 @@
-use Rattle.std.proofs.Common.{sym}
-use Rattle.repl_log.proofs.LogTables.{copied_next}
+use Rattle.proof_words.proofs.{sym}
+use Rattle.repl_log.proofs.{copied_next}
 use Rattle.repl_log.proofs.logs.Logs.copy.Goals as goal
 
 pub loop-place-preserved : goal.loop-place-preserved

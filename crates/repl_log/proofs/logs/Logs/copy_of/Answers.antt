@@ -1,8 +1,5 @@
-use Rattle.std.proofs.Common.{◌≡◌, sym, ap, ◌∙◌}
-use Rattle.std.specs.Option.{option_copied}
-use Rattle.std.proofs.lemmas.Result.{IfOk-weaker}
-use Rattle.repl_log.specs.Logs.{log_in}
-use Rattle.repl_log.specs.LogsLaws.{log_in-found, log_in-absent}
+use Rattle.proof_words.proofs.{◌≡◌, sym, ap, ◌∙◌, option_copied, IfOk-weaker}
+use Rattle.repl_log.specs.{log_in, log_in-found, log_in-absent}
 use Rattle.repl_log.proofs.logs.Logs.copy_of.Goals as goal
 
 pub returns-in-Some : goal.returns-in-Some

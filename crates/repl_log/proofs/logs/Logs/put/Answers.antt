@@ -1,16 +1,8 @@
-use Rattle.std.proofs.Common.{[], ◌∷◌, ◌++◌, is_ok, sym, ap, ◌∙◌, subst}
-use Rattle.std.proofs.lemmas.Result.{err_from_is_err_and, on_ok_weaker, on_err_weaker}
-use Rattle.std.specs.Option.{option_copied_mut}
-use Rattle.std.specs.Map.{set_value}
-use Rattle.std.proofs.lemmas.Map.Steps.{set_value_same}
+use Rattle.proof_words.proofs.{[], ◌∷◌, ◌++◌, is_ok, sym, ap, ◌∙◌, subst, err_from_is_err_and, on_ok_weaker, on_err_weaker, option_copied_mut, set_value, set_value_same}
 use Rattle.indexmap.proofs.CallerLemmas.{insert_entry-new}
 use Rattle.indexmap.specs.IndexMap.{insert_entry}
-use Rattle.repl_log.specs.Answers.{GivesUnlessMemory}
-use Rattle.repl_log.specs.Entry.{value_of}
-use Rattle.repl_log.specs.Log.{with_entry, put_answer}
-use Rattle.repl_log.specs.RepId.{same_rep}
-use Rattle.repl_log.specs.LogsLaws.{log_in-found}
-use Rattle.repl_log.proofs.LogTables.{put_answer_in-new, logs_with-set, logs_with-new}
+use Rattle.repl_log.specs.{GivesUnlessMemory, value_of, with_entry, put_answer, same_rep, log_in-found}
+use Rattle.repl_log.proofs.{put_answer_in-new, logs_with-set, logs_with-new}
 use Rattle.repl_log.proofs.logs.Logs.put.Goals as goal
 
 pub returns-in-Some-clause-answer : goal.returns-in-Some-clause-answer

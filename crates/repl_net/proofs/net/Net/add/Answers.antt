@@ -1,9 +1,7 @@
-use Rattle.std.proofs.Common.{◌≡◌, [], ◌∷◌, ◌++◌, length, sym, ap, ◌∙◌, subst}
-use Rattle.repl_peer.specs.peer.Peer.{new_peer}
-use Rattle.repl_net.specs.Nets.{peers_of, IsHeld, IsNet}
-use Rattle.repl_net.specs.Made.{StaysMade}
-use Rattle.repl_net.proofs.Makes.{added_made}
-use Rattle.repl_net.proofs.Closed.{added_net}
+use Rattle.proof_words.proofs.{◌≡◌, [], ◌∷◌, ◌++◌, length, sym, ap, ◌∙◌, subst}
+use Rattle.repl_peer.specs.{new_peer}
+use Rattle.repl_net.specs.{peers_of, IsHeld, IsNet, StaysMade}
+use Rattle.repl_net.proofs.{added_made, added_net}
 use Rattle.repl_net.proofs.net.Net.add.Goals as goal
 
 pub invariant_of-self-2 : goal.invariant_of-self-2

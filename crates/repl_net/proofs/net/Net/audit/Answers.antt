@@ -1,9 +1,7 @@
-use Rattle.std.proofs.Common.{◌≡◌, Err, Some, MatchResult, slice_get, refl, sym, ap, ◌∙◌, subst, inr}
-use Rattle.std.specs.Option.{option_copied}
-use Rattle.std.proofs.lemmas.Result.{err_from_is_err_and}
-use Rattle.repl_target.specs.Audit.{audit_answer, hole_of}
+use Rattle.proof_words.proofs.{◌≡◌, Err, Some, MatchResult, slice_get, refl, sym, ap, ◌∙◌, subst, inr, option_copied, err_from_is_err_and}
+use Rattle.repl_target.specs.{audit_answer, hole_of}
 use Rattle.repl_net.specs.declared.fault.NetFault.TheVariants as faults
-use Rattle.repl_net.proofs.Places.{at_of, tied_two}
+use Rattle.repl_net.proofs.{at_of, tied_two}
 use Rattle.repl_net.proofs.net.Net.audit.Goals as goal
 
 pub returns-clause-clean : goal.returns-clause-clean

@@ -1,10 +1,7 @@
-use Rattle.std.proofs.Common.{◌≡◌, Bool, length, sym, ap, ◌∙◌, subst}
-use Rattle.couch_base.specs.Database.{Id}
-use Rattle.repl_net.specs.Nets.{peers_of, filters_of, EditFits, KeepsAgreement}
-use Rattle.repl_net.specs.Made.{EditValue, IsOneOf, AllMadeBy}
-use Rattle.couch_base.specs.Edit.{EditGives, edit_answer}
-use Rattle.repl_net.specs.Taken.{AnswersAt}
-use Rattle.repl_net.proofs.Places.{whole_vector}
+use Rattle.proof_words.proofs.{◌≡◌, Bool, length, sym, ap, ◌∙◌, subst}
+use Rattle.couch_base.specs.{Id, EditGives, edit_answer}
+use Rattle.repl_net.specs.{peers_of, filters_of, EditFits, KeepsAgreement, EditValue, IsOneOf, AllMadeBy, AnswersAt}
+use Rattle.repl_net.proofs.{whole_vector}
 use Rattle.repl_net.proofs.net.Net.edit.Goals as goal
 
 pub returns-clause-agree : goal.returns-clause-agree

@@ -1,5 +1,5 @@
-use Rattle.repl_net.specs.Nets.{peers_of}
-use Rattle.repl_net.proofs.Makes.{made_agree}
+use Rattle.repl_net.specs.{peers_of}
+use Rattle.repl_net.proofs.{made_agree}
 use Rattle.repl_net.proofs.net.Net.law.Goals as goal
 
 pub returns-clause-agree : goal.returns-clause-agree

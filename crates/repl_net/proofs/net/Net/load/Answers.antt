@@ -1,9 +1,7 @@
-use Rattle.std.proofs.Common.{◌≡◌, length, sym, ap, ◌∙◌, subst}
-use Rattle.couch_base.specs.Database.{Id}
-use Rattle.repl_net.specs.Nets.{peers_of, filters_of, FitsIn, IsRootedAt, KeepsAgreement}
-use Rattle.couch_base.specs.Put.{PutGives, put_answer}
-use Rattle.repl_net.specs.Taken.{AnswersAt}
-use Rattle.repl_net.proofs.Places.{whole_vector}
+use Rattle.proof_words.proofs.{◌≡◌, length, sym, ap, ◌∙◌, subst}
+use Rattle.couch_base.specs.{Id, PutGives, put_answer}
+use Rattle.repl_net.specs.{peers_of, filters_of, FitsIn, IsRootedAt, KeepsAgreement, AnswersAt}
+use Rattle.repl_net.proofs.{whole_vector}
 use Rattle.repl_net.proofs.net.Net.load.Goals as goal
 
 pub returns-clause-agree : goal.returns-clause-agree

@@ -1,10 +1,6 @@
-use Rattle.std.proofs.Common.{◌≡◌, length, OnOk, sym, ap, ◌∙◌, subst}
-use Rattle.std.proofs.lemmas.Result.{on_ok_weaker}
-use Rattle.repl_net.specs.Nets.{peers_of, filters_of, IsNet}
-use Rattle.repl_net.specs.Hubs.{HubSpread}
-use Rattle.repl_net.specs.Made.{StaysMade}
-use Rattle.repl_net.specs.Taken.{TakesHub}
-use Rattle.repl_net.proofs.Places.{whole_vector}
+use Rattle.proof_words.proofs.{◌≡◌, length, OnOk, sym, ap, ◌∙◌, subst, on_ok_weaker}
+use Rattle.repl_net.specs.{peers_of, filters_of, IsNet, HubSpread, StaysMade, TakesHub}
+use Rattle.repl_net.proofs.{whole_vector}
 use Rattle.repl_net.proofs.net.Net.sync_by_hub.Goals as goal
 
 pub invariant_of-self : goal.invariant_of-self

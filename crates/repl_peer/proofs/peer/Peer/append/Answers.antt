@@ -1,5 +1,5 @@
-use Rattle.std.proofs.Common.{◌<◌, ◌^◌, subst}
-use Rattle.repl_peer.proofs.lemmas.peer.PeerInvariant.{Lawful-appended}
+use Rattle.proof_words.proofs.{◌<◌, ◌^◌, subst}
+use Rattle.repl_peer.proofs.{Lawful-appended}
 use Rattle.repl_peer.proofs.peer.Peer.append.Goals as goal
 
 pub invariant_of-self : goal.invariant_of-self

@@ -1,7 +1,6 @@
-use Rattle.std.proofs.Common.{◌∙◌}
-use Rattle.repl_peer.specs.peer.Backups.{BackupValue}
-use Rattle.repl_peer.specs.peer.Peer.{PeerValue}
-use Rattle.repl_peer.proofs.lemmas.peer.RestoredPeers.{no_sessions, IsBackup-copied}
+use Rattle.proof_words.proofs.{◌∙◌}
+use Rattle.repl_peer.specs.{BackupValue, PeerValue}
+use Rattle.repl_peer.proofs.{no_sessions, IsBackup-copied}
 use Rattle.repl_peer.proofs.peer.Peer.backup.Goals as goal
 
 pub invariant_of-result : goal.invariant_of-result

@@ -1,5 +1,5 @@
-use Rattle.std.proofs.Common.{◌<◌, ◌^◌, arith}
-use Rattle.repl_peer.proofs.lemmas.peer.PeerInvariant.{Lawful-begun}
+use Rattle.proof_words.proofs.{◌<◌, ◌^◌, arith}
+use Rattle.repl_peer.proofs.{Lawful-begun}
 use Rattle.repl_peer.proofs.peer.Peer.begin.Goals as goal
 
 pub invariant_of-self : goal.invariant_of-self

@@ -1,4 +1,4 @@
-use Rattle.repl_peer.proofs.lemmas.peer.PeerInvariant.{Lawful-concluded}
+use Rattle.repl_peer.proofs.{Lawful-concluded}
 use Rattle.repl_peer.proofs.peer.Peer.conclude.Goals as goal
 
 pub invariant_of-self : goal.invariant_of-self

@@ -1,5 +1,4 @@
-use Rattle.repl_peer.proofs.lemmas.peer.HonestSessions.{honest_is}
-use Rattle.repl_peer.proofs.lemmas.peer.TrustedPeers.{trusted_is}
+use Rattle.repl_peer.proofs.{honest_is, trusted_is}
 use Rattle.repl_peer.proofs.peer.Peer.db.Goals as goal
 
 pub returns-clause-honest : goal.returns-clause-honest

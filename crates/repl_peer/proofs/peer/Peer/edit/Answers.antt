@@ -1,4 +1,4 @@
-use Rattle.repl_peer.proofs.lemmas.peer.PeerInvariant.{Lawful-edited}
+use Rattle.repl_peer.proofs.{Lawful-edited}
 use Rattle.repl_peer.proofs.peer.Peer.edit.Goals as goal
 
 pub invariant_of-self : goal.invariant_of-self

@@ -1,7 +1,5 @@
-use Rattle.std.proofs.Common.{Ok, sym, ap, ◌∙◌}
-use Rattle.std.specs.Option.{option_copied}
-use Rattle.repl_peer.specs.peer.Peer.{SessionValue, entry_of}
-use Rattle.repl_peer.specs.session.Sessions.{found_answer}
+use Rattle.proof_words.proofs.{Ok, sym, ap, ◌∙◌, option_copied}
+use Rattle.repl_peer.specs.{SessionValue, entry_of, found_answer}
 use Rattle.repl_peer.proofs.peer.Peer.entry.Goals as goal
 
 pub returns-in-Some : goal.returns-in-Some

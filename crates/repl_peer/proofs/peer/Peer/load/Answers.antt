@@ -1,4 +1,4 @@
-use Rattle.repl_peer.proofs.lemmas.peer.PeerInvariant.{Lawful-loaded}
+use Rattle.repl_peer.proofs.{Lawful-loaded}
 use Rattle.repl_peer.proofs.peer.Peer.load.Goals as goal
 
 pub invariant_of-self : goal.invariant_of-self

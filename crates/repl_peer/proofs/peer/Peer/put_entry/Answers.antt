@@ -1,4 +1,4 @@
-use Rattle.repl_peer.proofs.lemmas.logs.PutChangesLogsAlone.{Lawful-logs}
+use Rattle.repl_peer.proofs.{Lawful-logs}
 use Rattle.repl_peer.proofs.peer.Peer.put_entry.Goals as goal
 
 pub invariant_of-self : goal.invariant_of-self

@@ -1,4 +1,4 @@
-use Rattle.repl_peer.proofs.lemmas.peer.PeerInvariant.{Lawful-recorded}
+use Rattle.repl_peer.proofs.{Lawful-recorded}
 use Rattle.repl_peer.proofs.peer.Peer.record.Goals as goal
 
 pub invariant_of-self : goal.invariant_of-self

@@ -1,8 +1,7 @@
-use Rattle.std.proofs.Common.{ap, ◌∙◌}
-use Rattle.couch_base.specs.Database.{DatabaseValue}
-use Rattle.repl_peer.specs.peer.Backups.{BackupValue}
-use Rattle.repl_peer.specs.peer.Peer.{PeerValue}
-use Rattle.repl_peer.proofs.lemmas.peer.RestoredPeers.{none_seen, Lawful-restored}
+use Rattle.proof_words.proofs.{ap, ◌∙◌}
+use Rattle.couch_base.specs.{DatabaseValue}
+use Rattle.repl_peer.specs.{BackupValue, PeerValue}
+use Rattle.repl_peer.proofs.{none_seen, Lawful-restored}
 use Rattle.repl_peer.proofs.peer.Peer.restore.Goals as goal
 
 pub invariant_of-self : goal.invariant_of-self

@@ -1,7 +1,6 @@
-use Rattle.std.proofs.Common.{subst}
-use Rattle.repl_peer.specs.peer.Peer.{PeerValue}
-use Rattle.repl_peer.specs.session.Settling.{SettleGives}
-use Rattle.repl_peer.proofs.lemmas.peer.CallsKeepOrigins.{settle_lawful}
+use Rattle.proof_words.proofs.{subst}
+use Rattle.repl_peer.specs.{PeerValue, SettleGives}
+use Rattle.repl_peer.proofs.{settle_lawful}
 use Rattle.repl_peer.proofs.peer.Peer.settle.Goals as goal
 
 pub invariant_of-self : goal.invariant_of-self

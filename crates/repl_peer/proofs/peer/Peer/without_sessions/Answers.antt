@@ -1,6 +1,6 @@
-use Rattle.std.proofs.Common.{◌≡◌}
-use Rattle.repl_peer.specs.peer.Peer.{new_peer_at}
-use Rattle.repl_peer.proofs.lemmas.peer.PeerInvariant.{Lawful-new}
+use Rattle.proof_words.proofs.{◌≡◌}
+use Rattle.repl_peer.specs.{new_peer_at}
+use Rattle.repl_peer.proofs.{Lawful-new}
 use Rattle.repl_peer.proofs.peer.Peer.without_sessions.Goals as goal
 
 pub invariant_of-result : goal.invariant_of-result

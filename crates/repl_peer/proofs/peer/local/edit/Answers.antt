@@ -1,10 +1,9 @@
-use Rattle.std.proofs.Common.{rules, ◌≡◌, ◌∷◌, ◌++◌, [], sym, subst, ◌∙◌}
-use Rattle.std.specs.Option.{option_to_list}
-use Rattle.rev_core.specs.Ancestry.{FallsByOne}
+use Rattle.proof_words.proofs.{rules, ◌≡◌, ◌∷◌, ◌++◌, [], sym, subst, ◌∙◌, option_to_list}
+use Rattle.rev_core.specs.{FallsByOne}
 use Rattle.rev_tree.specs.declared.origin.Origin.TheVariants.{Local}
-use Rattle.couch_base.specs.Database.{tree_in}
-use Rattle.repl_peer.specs.peer.Local.{with_edit, stood_on}
-use Rattle.repl_peer.proofs.lemmas.peer.EditedPeers.{edit_answer-made, edit_noted}
+use Rattle.couch_base.specs.{tree_in}
+use Rattle.repl_peer.specs.{with_edit, stood_on}
+use Rattle.repl_peer.proofs.{edit_answer-made, edit_noted}
 use Rattle.repl_peer.proofs.peer.local.edit.Goals.{in-Some, in-None}
 use Rattle.repl_peer.proofs.peer.local.edit.Goals as goal
 

@@ -1,9 +1,6 @@
-use Rattle.std.proofs.Common.{sym, ap, ◌∙◌}
-use Rattle.std.specs.Prelude.{unwrap_or}
-use Rattle.std.specs.Option.{option_copied}
-use Rattle.std.specs.FinMap.{get, get-empty}
-use Rattle.rev_core.specs.Rev.{rev_cmp}
-use Rattle.rev_tree.specs.Tree.{no_revisions}
+use Rattle.proof_words.proofs.{sym, ap, ◌∙◌, unwrap_or, option_copied, get, get-empty}
+use Rattle.rev_core.specs.{rev_cmp}
+use Rattle.rev_tree.specs.{no_revisions}
 use Rattle.repl_peer.proofs.peer.written.parent_in.Goals as goal
 
 pub returns-in-None : goal.returns-in-None

@@ -1,9 +1,7 @@
-use Rattle.std.proofs.Common.{◌≡◌, ◌≤◌, ◌++◌, ◌∷◌, [], true, refl, sym, ap, ◌∙◌, subst, rules}
-use Rattle.std.proofs.lemmas.List.{map_push}
-use Rattle.range_front.specs.Front.{FrontValue, appended}
-use Rattle.repl_peer.specs.session.Windows.{StoredWindowValue, windows_of, IsThinnedWhereDone}
-use Rattle.repl_peer.proofs.lemmas.session.StoredWindows.{thinned_grown}
-use Rattle.repl_peer.proofs.lemmas.session.SessionLaws.{bounds_grown}
+use Rattle.proof_words.proofs.{◌≡◌, ◌≤◌, ◌++◌, ◌∷◌, [], true, refl, sym, ap, ◌∙◌, subst, rules, map_push}
+use Rattle.range_front.specs.{FrontValue, appended}
+use Rattle.repl_peer.specs.{StoredWindowValue, windows_of, IsThinnedWhereDone}
+use Rattle.repl_peer.proofs.{thinned_grown, bounds_grown}
 use Rattle.repl_peer.proofs.session.Session.append.Goals as goal
 
 pub invariant_of-self-2 : goal.invariant_of-self-2

@@ -1,8 +1,6 @@
-use Rattle.std.proofs.Common.{◌≡◌, ◌==◌, true, cond, Ok, Err, sym, ap, ◌∙◌}
-use Rattle.std.proofs.lemmas.Bool.{eq-eqb}
-use Rattle.range_front.specs.Front.{low_water}
-use Rattle.repl_peer.specs.peer.Peer.{SessionValue}
-use Rattle.repl_peer.specs.session.Sessions.{report_of, recorded_at}
+use Rattle.proof_words.proofs.{◌≡◌, ◌==◌, true, cond, Ok, Err, sym, ap, ◌∙◌, eq-eqb}
+use Rattle.range_front.specs.{low_water}
+use Rattle.repl_peer.specs.{SessionValue, report_of, recorded_at}
 use Rattle.repl_peer.specs.declared.fault.TargetFault.TheVariants as faults
 use Rattle.repl_peer.proofs.session.Session.conclude.Goals as goal
 

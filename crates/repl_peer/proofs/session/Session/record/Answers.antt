@@ -1,4 +1,4 @@
-use Rattle.repl_peer.proofs.lemmas.session.SessionLaws.{start_recorded}
+use Rattle.repl_peer.proofs.{start_recorded}
 use Rattle.repl_peer.proofs.session.Session.record.Goals as goal
 
 pub invariant_of-self : goal.invariant_of-self

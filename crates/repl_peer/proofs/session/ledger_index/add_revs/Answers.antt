@@ -1,5 +1,5 @@
-use Rattle.std.proofs.Common.{arith}
-use Rattle.repl_peer.proofs.lemmas.session.AddedToLedgerIndex.{among_next}
+use Rattle.proof_words.proofs.{arith}
+use Rattle.repl_peer.proofs.{among_next}
 use Rattle.repl_peer.proofs.session.ledger_index.add_revs.Goals as goal
 
 pub loop-rev-preserved : goal.loop-rev-preserved

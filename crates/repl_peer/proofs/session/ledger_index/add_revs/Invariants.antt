@@ -1,6 +1,5 @@
-use Rattle.std.proofs.Common.{◌≡◌, ◌≤◌, ◌||◌, ◌+◌, take}
-use Rattle.rev_core.specs.Rev.{RevId}
-use Rattle.rev_core.specs.Ancestry.{is_among}
+use Rattle.proof_words.proofs.{◌≡◌, ◌≤◌, ◌||◌, ◌+◌, take}
+use Rattle.rev_core.specs.{RevId, is_among}
 use Rattle.indexmap.specs.IndexSet.{spare}
 use Rattle.repl_peer.proofs.session.ledger_index.add_revs.Given as goal
 

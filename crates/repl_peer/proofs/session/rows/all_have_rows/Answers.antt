@@ -1,11 +1,7 @@
-use Rattle.std.proofs.Common.{◌≡◌, true, ap, sym, ◌∙◌, arith}
-use Rattle.std.proofs.lemmas.Option.{slice_get_within}
-use Rattle.std.specs.List.{list_any}
-use Rattle.std.specs.Str.{bytes_eq}
+use Rattle.proof_words.proofs.{◌≡◌, true, ap, sym, ◌∙◌, arith, slice_get_within, list_any, bytes_eq}
 use Rattle.doc_json.specs.Document.{Document}
-use Rattle.repl_peer.proofs.lemmas.session.RowsInTurn.{all_later}
-use Rattle.repl_peer.proofs.lemmas.Members.{Among-at}
-use Rattle.couch_base.specs.MemberLaws.{any_from}
+use Rattle.repl_peer.proofs.{all_later, Among-at}
+use Rattle.couch_base.specs.{any_from}
 use Rattle.repl_peer.proofs.session.rows.all_have_rows.Goals as goal
 
 pub loop-doc-preserved : goal.loop-doc-preserved

@@ -1,6 +1,4 @@
-use Rattle.std.proofs.Common.{◌≡◌, ◌≤◌, length, drop}
-use Rattle.std.specs.List.{list_any, list_all}
-use Rattle.std.specs.Str.{bytes_eq}
+use Rattle.proof_words.proofs.{◌≡◌, ◌≤◌, length, drop, list_any, list_all, bytes_eq}
 use Rattle.repl_peer.proofs.session.rows.all_have_rows.Given as goal
 
 -- the others decide

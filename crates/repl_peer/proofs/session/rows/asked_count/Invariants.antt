@@ -1,5 +1,4 @@
-use Rattle.std.proofs.Common.{◌≡◌, ◌-◌, ◌^◌, min, length, take}
-use Rattle.std.specs.List.{sum_by}
+use Rattle.proof_words.proofs.{◌≡◌, ◌-◌, ◌^◌, min, length, take, sum_by}
 use Rattle.repl_peer.proofs.session.rows.asked_count.Given as goal
 
 -- the count so far

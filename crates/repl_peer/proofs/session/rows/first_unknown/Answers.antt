@@ -1,9 +1,7 @@
-use Rattle.std.proofs.Common.{ap, sym, ◌∙◌}
-use Rattle.rev_core.specs.Rev.{RevId}
-use Rattle.repl_peer.specs.peer.Covered.{Leaf}
-use Rattle.std.specs.Option.{option_map}
-use Rattle.repl_peer.specs.session.SettlingParts.{known_of}
-use Rattle.repl_peer.proofs.lemmas.session.FirstUnknownLeaf.{unknown_here}
+use Rattle.proof_words.proofs.{ap, sym, ◌∙◌, option_map}
+use Rattle.rev_core.specs.{RevId}
+use Rattle.repl_peer.specs.{Leaf, known_of}
+use Rattle.repl_peer.proofs.{unknown_here}
 use Rattle.repl_peer.proofs.session.rows.first_unknown.Goals as goal
 
 pub returns-in-Some : goal.returns-in-Some

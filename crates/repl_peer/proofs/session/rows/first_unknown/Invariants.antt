@@ -1,6 +1,5 @@
-use Rattle.std.proofs.Common.{◌≡◌, drop}
-use Rattle.repl_peer.specs.peer.Covered.{first_unknown}
-use Rattle.repl_peer.specs.session.SettlingParts.{known_of}
+use Rattle.proof_words.proofs.{◌≡◌, drop}
+use Rattle.repl_peer.specs.{first_unknown, known_of}
 use Rattle.repl_peer.proofs.session.rows.first_unknown.Given as goal
 
 -- none of the rows so far has an unknown leaf

@@ -1,9 +1,6 @@
-use Rattle.std.proofs.Common.{◌≡◌, ◌-◌, false, drop, take, length, ap, sym, ◌∙◌, arith, length-drop}
-use Rattle.std.proofs.lemmas.List.{take_all}
-use Rattle.std.specs.List.{list_any}
-use Rattle.std.specs.Str.{bytes_eq}
-use Rattle.couch_base.specs.Feed.{RowValue}
-use Rattle.repl_peer.proofs.lemmas.session.RowsInTurn.{none_both, IfNone_then}
+use Rattle.proof_words.proofs.{◌≡◌, ◌-◌, false, drop, take, length, ap, sym, ◌∙◌, arith, length-drop, take_all, list_any, bytes_eq}
+use Rattle.couch_base.specs.{RowValue}
+use Rattle.repl_peer.proofs.{none_both, IfNone_then}
 use Rattle.repl_peer.proofs.session.rows.row_from.Goals as goal
 
 pub returns-in-None-clause-none : goal.returns-in-None-clause-none

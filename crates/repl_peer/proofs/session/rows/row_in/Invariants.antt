@@ -1,6 +1,4 @@
-use Rattle.std.proofs.Common.{◌≡◌, false, take}
-use Rattle.std.specs.List.{list_any}
-use Rattle.std.specs.Str.{bytes_eq}
+use Rattle.proof_words.proofs.{◌≡◌, false, take, list_any, bytes_eq}
 use Rattle.repl_peer.proofs.session.rows.row_in.Given as goal
 
 -- none of the rows so far is of the id

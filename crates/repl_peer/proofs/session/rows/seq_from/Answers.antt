@@ -1,8 +1,7 @@
-use Rattle.std.proofs.Common.{ap, ◌∙◌}
-use Rattle.std.proofs.lemmas.Option.{MatchOption-at_some, get_or_from_slice_get}
-use Rattle.couch_base.specs.Feed.{RowValue}
-use Rattle.repl_peer.proofs.lemmas.session.RowsInTurn.{seq_is}
-use Rattle.repl_peer.specs.session.SettlingParts.{IsRowOf}
+use Rattle.proof_words.proofs.{ap, ◌∙◌, MatchOption-at_some, get_or_from_slice_get}
+use Rattle.couch_base.specs.{RowValue}
+use Rattle.repl_peer.proofs.{seq_is}
+use Rattle.repl_peer.specs.{IsRowOf}
 use Rattle.repl_peer.proofs.session.rows.seq_from.Goals as goal
 
 pub returns-clause-seq : goal.returns-clause-seq

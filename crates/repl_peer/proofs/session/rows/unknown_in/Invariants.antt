@@ -1,6 +1,5 @@
-use Rattle.std.proofs.Common.{◌≡◌, not, drop}
-use Rattle.std.specs.List.{find}
-use Rattle.repl_peer.specs.session.SettlingParts.{known_of}
+use Rattle.proof_words.proofs.{◌≡◌, not, drop, find}
+use Rattle.repl_peer.specs.{known_of}
 use Rattle.repl_peer.proofs.session.rows.unknown_in.Given as goal
 
 -- none of the leaves so far is unknown

@@ -1,4 +1,4 @@
-use Rattle.std.proofs.Common.{rules, refl}
+use Rattle.proof_words.proofs.{rules, refl}
 use Rattle.repl_peer.proofs.session.settle.decide.Goals as goal
 
 pub returns-then-is_refused-clause-reason : goal.returns-then-is_refused-clause-reason

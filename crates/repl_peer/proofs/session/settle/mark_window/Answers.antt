@@ -1,17 +1,8 @@
-use Rattle.std.proofs.Common.{◌≡◌, ◌≤◌, List, Some, Ok, is_some, false, slice_get, refl, sym, ap, ◌∙◌, subst}
-use Rattle.std.proofs.lemmas.Bool.{false≢true}
-use Rattle.std.specs.Option.{option_map}
-use Rattle.couch_base.specs.Feed.{RowValue, WindowValue}
-use Rattle.range_front.specs.Front.{FrontValue, is_done, finished, finish_answer}
-use Rattle.repl_peer.specs.peer.Law.{window_bounds}
-use Rattle.repl_peer.specs.peer.Peer.{SessionValue}
-use Rattle.repl_peer.specs.peer.Covered.{first_unknown}
-use Rattle.repl_peer.specs.session.Settling.{with_checked}
-use Rattle.repl_peer.specs.session.SettlingParts.{known_of}
-use Rattle.repl_peer.specs.session.Stored.{session_value}
-use Rattle.repl_peer.specs.session.Windows.{windows_of, IsThinnedWhereDone}
-use Rattle.repl_peer.proofs.lemmas.session.StoredWindows.{stored_at, whole_at, remains_of, within_stored, thinned_marked}
-use Rattle.repl_peer.proofs.lemmas.session.SessionLaws.{bounds_done}
+use Rattle.proof_words.proofs.{◌≡◌, ◌≤◌, List, Some, Ok, is_some, false, slice_get, refl, sym, ap, ◌∙◌, subst, false≢true, option_map}
+use Rattle.couch_base.specs.{RowValue, WindowValue}
+use Rattle.range_front.specs.{FrontValue, is_done, finished, finish_answer}
+use Rattle.repl_peer.specs.{window_bounds, SessionValue, first_unknown, with_checked, known_of, session_value, windows_of, IsThinnedWhereDone}
+use Rattle.repl_peer.proofs.{stored_at, whole_at, remains_of, within_stored, thinned_marked, bounds_done}
 use Rattle.repl_peer.proofs.session.settle.mark_window.Goals as goal
 
 pub unreachable-requires : goal.unreachable-requires

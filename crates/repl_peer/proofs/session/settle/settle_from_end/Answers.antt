@@ -1,22 +1,11 @@
-use Rattle.std.proofs.Common.{◌≡◌, ◌∷◌, ◌+◌, ◌-◌, ◌≤◌, [], ℕ, Some, List, length, length-append, reverse, slice_get, true, false, is_some, sym, ap, ◌∙◌, subst, arith}
-use Rattle.std.proofs.lemmas.List.{reverse-append}
-use Rattle.std.specs.List.{list_any}
-use Rattle.std.specs.Str.{bytes_eq}
-use Rattle.rev_tree.specs.declared.origin.Origin.{Origin}
+use Rattle.proof_words.proofs.{◌≡◌, ◌∷◌, ◌+◌, ◌-◌, ◌≤◌, [], ℕ, Some, List, length, length-append, reverse, slice_get, true, false, is_some, sym, ap, ◌∙◌, subst, arith, reverse-append, list_any, bytes_eq, false≢true}
+use Rattle.rev_tree.specs.{Origin}
 use Rattle.rev_tree.specs.declared.origin.Origin.TheVariants.{Feed}
 use Rattle.doc_json.specs.Document.{Document}
-use Rattle.couch_base.specs.Feed.{WindowValue, RowValue}
-use Rattle.std.proofs.lemmas.Bool.{false≢true}
-use Rattle.range_front.specs.Front.{FrontValue, is_done}
-use Rattle.repl_peer.specs.peer.Peer.{SessionValue}
-use Rattle.repl_peer.specs.session.Stored.{session_value}
-use Rattle.repl_peer.specs.session.Settling.{Settling, has_row, seq_in}
-use Rattle.repl_peer.specs.session.SettlingParts.{Reached, settling_at}
-use Rattle.couch_base.specs.MemberLaws.{all_member}
-use Rattle.repl_peer.proofs.lemmas.Members.{Among-at}
-use Rattle.repl_peer.proofs.lemmas.session.RowsInTurn.{all_before}
-use Rattle.repl_peer.proofs.lemmas.session.SettlingDocuments.{last_at, last_is, reached_next}
-use Rattle.repl_peer.proofs.lemmas.session.StoredWindows.{stored_at, whole_at}
+use Rattle.couch_base.specs.{WindowValue, RowValue, all_member}
+use Rattle.range_front.specs.{FrontValue, is_done}
+use Rattle.repl_peer.specs.{SessionValue, session_value, Settling, has_row, seq_in, Reached, settling_at}
+use Rattle.repl_peer.proofs.{Among-at, all_before, last_at, last_is, reached_next, stored_at, whole_at}
 use Rattle.repl_peer.proofs.session.settle.settle_from_end.Goals as goal
 
 pub unreachable-requires : goal.unreachable-requires

@@ -1,10 +1,6 @@
-use Rattle.std.proofs.Common.{◌≡◌, ◌≤◌, ◌+◌, ◌-◌, Some, true, length, reverse, slice_get}
-use Rattle.std.specs.List.{list_all}
-use Rattle.couch_base.specs.Database.{most}
-use Rattle.couch_base.specs.Feed.{WindowValue}
-use Rattle.repl_peer.specs.declared.session.ledger_index.LedgerIndex.{LedgerIndex}
-use Rattle.repl_peer.specs.session.Settling.{has_row}
-use Rattle.repl_peer.specs.session.SettlingParts.{Reached, IndexesMore, settling_at}
+use Rattle.proof_words.proofs.{◌≡◌, ◌≤◌, ◌+◌, ◌-◌, Some, true, length, reverse, slice_get, list_all}
+use Rattle.couch_base.specs.{most, WindowValue}
+use Rattle.repl_peer.specs.{LedgerIndex, has_row, Reached, IndexesMore, settling_at}
 use Rattle.repl_peer.proofs.session.settle.settle_from_end.Given as goal
 
 -- the documents that were taken off are settled

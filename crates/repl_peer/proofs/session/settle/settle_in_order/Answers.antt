@@ -1,13 +1,9 @@
-use Rattle.std.proofs.Common.{◌≡◌, ◌-◌, Some, List, slice_get, length, ap, sym, subst, ◌∙◌, arith}
-use Rattle.std.proofs.lemmas.List.{length-reverse}
+use Rattle.proof_words.proofs.{◌≡◌, ◌-◌, Some, List, slice_get, length, ap, sym, subst, ◌∙◌, arith, length-reverse}
 use Rattle.doc_json.specs.Document.{Document}
-use Rattle.couch_base.specs.Feed.{WindowValue}
-use Rattle.range_front.specs.Front.{FrontValue, is_done}
-use Rattle.repl_peer.specs.peer.Peer.{SessionValue}
-use Rattle.repl_peer.specs.session.Stored.{session_value}
-use Rattle.repl_peer.specs.session.Settling.{has_row, stops_in}
-use Rattle.repl_peer.specs.session.SettlingParts.{settling_at, IndexesMore, Reached, cause_at}
-use Rattle.repl_peer.proofs.lemmas.session.SettlingDocuments.{reached_turned, halts_first, halts_from, all_turned, IfErr_then}
+use Rattle.couch_base.specs.{WindowValue}
+use Rattle.range_front.specs.{FrontValue, is_done}
+use Rattle.repl_peer.specs.{SessionValue, session_value, has_row, stops_in, settling_at, IndexesMore, Reached, cause_at}
+use Rattle.repl_peer.proofs.{reached_turned, halts_first, halts_from, all_turned, IfErr_then}
 use Rattle.repl_peer.proofs.session.settle.settle_in_order.Given.{Over}
 use Rattle.repl_peer.proofs.session.settle.settle_in_order.Goals as goal
 

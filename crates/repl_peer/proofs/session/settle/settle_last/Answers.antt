@@ -1,8 +1,6 @@
-use Rattle.std.proofs.Common.{◌≡◌, ◌++◌, ◌∷◌, [], List, Some, Option, MatchOption, refl, sym, ap, ◌∙◌, subst, rules}
-use Rattle.repl_peer.specs.peer.Peer.{RefusedValue, SessionValue}
-use Rattle.repl_peer.specs.session.SettlingParts.{Accepts, Rejects, IndexesMore, entered}
-use Rattle.repl_peer.specs.declared.fault.Reason.{Reason}
-use Rattle.repl_peer.proofs.lemmas.session.SettlingDocuments.{indexes_from}
+use Rattle.proof_words.proofs.{◌≡◌, ◌++◌, ◌∷◌, [], List, Some, Option, MatchOption, refl, sym, ap, ◌∙◌, subst, rules}
+use Rattle.repl_peer.specs.{RefusedValue, SessionValue, Accepts, Rejects, IndexesMore, entered, Reason}
+use Rattle.repl_peer.proofs.{indexes_from}
 use Rattle.repl_peer.proofs.session.settle.settle_last.Goals as goal
 
 pub returns-in-Some-clause-indexed : goal.returns-in-Some-clause-indexed

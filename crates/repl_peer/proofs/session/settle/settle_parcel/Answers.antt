@@ -1,18 +1,9 @@
-use Rattle.std.proofs.Common.{◌≡◌, ◌+◌, ◌-◌, ◌≤◌, ℕ, List, Some, Ok, length, slice_get, true, false, sym, ap, ◌∙◌, subst, arith}
-use Rattle.std.proofs.lemmas.Option.{same_Some}
+use Rattle.proof_words.proofs.{◌≡◌, ◌+◌, ◌-◌, ◌≤◌, ℕ, List, Some, Ok, length, slice_get, true, false, sym, ap, ◌∙◌, subst, arith, same_Some, list_all}
 use Rattle.doc_json.specs.Document.{Document}
-use Rattle.couch_base.specs.Database.{most}
-use Rattle.couch_base.specs.Feed.{WindowValue}
-use Rattle.couch_base.specs.Messages.{ParcelValue}
-use Rattle.std.specs.List.{list_all}
-use Rattle.range_front.specs.Front.{FrontValue, bounds, is_done, finish_answer}
-use Rattle.repl_peer.specs.peer.Peer.{SessionValue}
-use Rattle.repl_peer.specs.peer.Law.{window_bounds}
-use Rattle.repl_peer.specs.session.Settling.{Halts, has_row}
-use Rattle.repl_peer.specs.session.SettlingParts.{Reached, settling_at, known_of}
-use Rattle.repl_peer.proofs.lemmas.session.SettlingChecks.{passed_by, room_of, can_finish}
-use Rattle.repl_peer.proofs.lemmas.session.SettlingDocuments.{grown_by, reached_left, keeps_reached, keeps_marked}
-use Rattle.repl_peer.proofs.lemmas.session.SettlingParcels.{gives_from, stopped, ended_err, ended_ok}
+use Rattle.couch_base.specs.{most, WindowValue, ParcelValue}
+use Rattle.range_front.specs.{FrontValue, bounds, is_done, finish_answer}
+use Rattle.repl_peer.specs.{SessionValue, window_bounds, Halts, has_row, Reached, settling_at, known_of}
+use Rattle.repl_peer.proofs.{passed_by, room_of, can_finish, grown_by, reached_left, keeps_reached, keeps_marked, gives_from, stopped, ended_err, ended_ok}
 use Rattle.repl_peer.proofs.session.settle.settle_parcel.Goals as goal
 
 pub settle_in_order-stop-requires-clause-rows : goal.settle_in_order-stop-requires-clause-rows

@@ -1,17 +1,8 @@
-use Rattle.std.proofs.Common.{ℕ, subst, ◌≡◌, ◌+◌, ◌-◌, ◌^◌, ◌&&◌, true, false, min, is_some, nat_le, List, length, sym, ap, ◌∙◌}
-use Rattle.std.proofs.lemmas.Bool.{and_parts, false≢true}
-use Rattle.std.specs.List.{list_all, sum_by}
-use Rattle.couch_base.specs.Database.{most}
-use Rattle.couch_base.specs.Feed.{RowValue}
-use Rattle.couch_base.specs.Messages.{AskedValue, WantedValue}
-use Rattle.range_front.specs.Front.{is_done}
-use Rattle.repl_peer.specs.session.Settling.{settle_at, has_row, has_room, leaf_count, asked_count}
-use Rattle.repl_peer.specs.session.Stored.{session_value}
-use Rattle.repl_peer.specs.session.SettlingParts.{Consecutive}
-use Rattle.repl_peer.proofs.lemmas.session.SettlingChecks.{foreign, done_already, count_full, passes_all, cut_fits, uncut}
-use Rattle.repl_peer.proofs.lemmas.session.WindowsFollow.{windows-consecutive}
-use Rattle.repl_peer.specs.session.Windows.{StoredWindowValue, windows_of}
-use Rattle.repl_peer.proofs.lemmas.session.StoredWindows.{found_stored, whole_at}
+use Rattle.proof_words.proofs.{ℕ, subst, ◌≡◌, ◌+◌, ◌-◌, ◌^◌, ◌&&◌, true, false, min, is_some, nat_le, List, length, sym, ap, ◌∙◌, and_parts, false≢true, list_all, sum_by}
+use Rattle.couch_base.specs.{most, RowValue, AskedValue, WantedValue}
+use Rattle.range_front.specs.{is_done}
+use Rattle.repl_peer.specs.{settle_at, has_row, has_room, leaf_count, asked_count, session_value, Consecutive, StoredWindowValue, windows_of}
+use Rattle.repl_peer.proofs.{foreign, done_already, count_full, passes_all, cut_fits, uncut, windows-consecutive, found_stored, whole_at}
 use Rattle.repl_peer.proofs.session.stored.check.Goals as goal
 
 pub find_window-requires : goal.find_window-requires

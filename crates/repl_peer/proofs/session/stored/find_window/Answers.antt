@@ -1,11 +1,7 @@
-use Rattle.std.proofs.Common.{◌==◌, is_some, refl, sym, ap, ◌∙◌, arith}
-use Rattle.std.proofs.lemmas.Bool.{and_left, and_right, ne_eqb, ltb-true, lt-ltb, false≢true}
-use Rattle.std.proofs.lemmas.Option.{slice_get_within, slice_get_read, same_Some}
-use Rattle.std.proofs.lemmas.List.{length-map}
-use Rattle.couch_base.specs.Feed.{WindowValue}
-use Rattle.repl_peer.specs.session.Windows.{StoredWindowValue, windows_of}
-use Rattle.repl_peer.proofs.lemmas.session.WindowsFound.{window_at, no_window}
-use Rattle.repl_peer.proofs.lemmas.session.StoredWindows.{window_at_place}
+use Rattle.proof_words.proofs.{◌==◌, is_some, refl, sym, ap, ◌∙◌, arith, and_left, and_right, ne_eqb, ltb-true, lt-ltb, false≢true, slice_get_within, slice_get_read, same_Some, length-map}
+use Rattle.couch_base.specs.{WindowValue}
+use Rattle.repl_peer.specs.{StoredWindowValue, windows_of}
+use Rattle.repl_peer.proofs.{window_at, no_window, window_at_place}
 use Rattle.repl_peer.proofs.session.stored.find_window.Goals as goal
 
 pub returns-in-Some-clause-some : goal.returns-in-Some-clause-some

@@ -1,8 +1,6 @@
-use Rattle.std.proofs.Common.{ltb, ltb-true, rules}
-use Rattle.std.proofs.lemmas.Bool.{ltb-false}
-use Rattle.std.proofs.lemmas.List.Sorted.{IsPartitionPoint-from_clause, IsPartitionedBy-ltb}
-use Rattle.repl_peer.specs.session.Windows.{StoredWindowValue}
-use Rattle.repl_peer.proofs.lemmas.session.StoredWindows.{rises_stored, point_stored}
+use Rattle.proof_words.proofs.{ltb, ltb-true, rules, ltb-false, IsPartitionPoint-from_clause, IsPartitionedBy-ltb}
+use Rattle.repl_peer.specs.{StoredWindowValue}
+use Rattle.repl_peer.proofs.{rises_stored, point_stored}
 use Rattle.repl_peer.proofs.session.stored.place_from.Goals as goal
 
 pub returns : goal.returns

@@ -1,5 +1,5 @@
-use Rattle.std.proofs.Common.{[], ◌∷◌, ◌++◌, ap, ◌∙◌, arith}
-use Rattle.repl_peer.proofs.lemmas.peer.CopiedInTurn.{one_more}
+use Rattle.proof_words.proofs.{[], ◌∷◌, ◌++◌, ap, ◌∙◌, arith}
+use Rattle.repl_peer.proofs.{one_more}
 use Rattle.repl_peer.proofs.session.window.done_rows.Goals as goal
 
 pub loop-row-preserved : goal.loop-row-preserved

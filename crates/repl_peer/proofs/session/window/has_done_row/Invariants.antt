@@ -1,6 +1,4 @@
-use Rattle.std.proofs.Common.{◌≡◌, drop}
-use Rattle.std.specs.List.{list_any}
-use Rattle.std.specs.Str.{bytes_eq}
+use Rattle.proof_words.proofs.{◌≡◌, drop, list_any, bytes_eq}
 use Rattle.repl_peer.proofs.session.window.has_done_row.Given as goal
 
 -- the others decide

@@ -1,4 +1,4 @@
-use Rattle.repl_peer.proofs.lemmas.session.StoredWindows.{at_place, windows_kept, is_thinner}
+use Rattle.repl_peer.proofs.{at_place, windows_kept, is_thinner}
 use Rattle.repl_peer.proofs.session.window.let_leaves_go_at.Goals as goal
 
 pub returns-clause-windows : goal.returns-clause-windows

@@ -1,8 +1,7 @@
-use Rattle.std.proofs.Common.{[], IfSome}
+use Rattle.proof_words.proofs.{[], IfSome}
 use Rattle.crossbeam_channel.specs.Claims.{IsSeatAt}
 use Rattle.crossbeam_channel.specs.Ends.{sends_on, receives_on}
-use Rattle.repl_pool.specs.Workers.{FetcherKnows}
-use Rattle.repl_pool.specs.Faults.{Allows}
+use Rattle.repl_pool.specs.{FetcherKnows, Allows}
 use Rattle.repl_pool.proofs.context.Context.fetch_all.Given as goal
 
 abbrev pub invariant-loop : goal.invariant-loop

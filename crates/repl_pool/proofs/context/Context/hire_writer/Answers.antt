@@ -1,6 +1,6 @@
-use Rattle.std.proofs.Common.{◌++◌, sym, subst, option_copied, option_to_list}
-use Rattle.repl_pool.specs.Boards.{AreSeated, AreBack}
-use Rattle.repl_pool.proofs.Boarding.{seats_seated, seated_parts, back_same, back_append}
+use Rattle.proof_words.proofs.{◌++◌, sym, subst, option_copied, option_to_list}
+use Rattle.repl_pool.specs.{AreSeated, AreBack}
+use Rattle.repl_pool.proofs.{seats_seated, seated_parts, back_same, back_append}
 use Rattle.repl_pool.proofs.ParcelRule as parcel
 use Rattle.repl_pool.proofs.context.Context.hire_writer.Goals as goal
 

@@ -1,5 +1,5 @@
-use Rattle.std.proofs.Common.{option_copied, arith}
-use Rattle.repl_pool.proofs.Boarding.{back_seated, back_then, back_length}
+use Rattle.proof_words.proofs.{option_copied, arith}
+use Rattle.repl_pool.proofs.{back_seated, back_then, back_length}
 use Rattle.repl_pool.proofs.context.Context.in_scope.Goals as goal
 
 pub join_writers-requires-clause-seats : goal.join_writers-requires-clause-seats

@@ -1,8 +1,6 @@
-use Rattle.std.proofs.Common.{◌≡◌, subst, IfSome, ◌∙◌, arith}
-use Rattle.std.specs.Vec.Iter.{into_iter_items}
-use Rattle.repl_pool.proofs.Sums.{all_rest, all_first}
-use Rattle.repl_pool.proofs.Halting.{one_of}
-use Rattle.repl_pool.specs.Faults.{Allows}
+use Rattle.proof_words.proofs.{◌≡◌, subst, IfSome, ◌∙◌, arith, into_iter_items}
+use Rattle.repl_pool.proofs.{all_rest, all_first, one_of}
+use Rattle.repl_pool.specs.{Allows}
 use Rattle.repl_pool.proofs.context.Context.join_fetchers.Goals as goal
 
 pub loop-handle-preserved : goal.loop-handle-preserved

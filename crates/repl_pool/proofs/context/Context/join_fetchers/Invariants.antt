@@ -1,11 +1,7 @@
-use Rattle.std.proofs.Common.{◌≡◌, ◌+◌, ◌≤◌, vec_len, vec_capacity}
-use Rattle.std.specs.Prelude.{IfSome}
-use Rattle.repl_pool.specs.Faults.{Allows}
-use Rattle.std.specs.List.{All}
-use Rattle.std.specs.Vec.Iter.{into_iter_items, into_iter_len}
+use Rattle.proof_words.proofs.{◌≡◌, ◌+◌, ◌≤◌, vec_len, vec_capacity, IfSome, All, into_iter_items, into_iter_len}
+use Rattle.repl_pool.specs.{Allows, FetchedKnows}
 use Rattle.crossbeam_channel.specs.Claims.{view, IsSeatAt}
 use Rattle.crossbeam_channel.specs.Ends.{sends_on}
-use Rattle.repl_pool.specs.Gathered.{FetchedKnows}
 use Rattle.repl_pool.proofs.context.Context.join_fetchers.Given as goal
 
 abbrev pub invariant-loop-handle : goal.invariant-loop-handle

@@ -1,13 +1,9 @@
-use Rattle.std.proofs.Common.{rules, refl, ◌≡◌, ◌∙◌, Option, subst, IfSome, option_copied, option_to_list, arith}
+use Rattle.proof_words.proofs.{rules, refl, ◌≡◌, ◌∙◌, Option, subst, IfSome, option_copied, option_to_list, arith}
 use Rattle.crossbeam_channel.specs.Claims.{IsSeatAt}
 use Rattle.crossbeam_channel.specs.Ends.{sends_on}
-use Rattle.progress_board.specs.declared.board.Board.{Board}
-use Rattle.repl_pool.specs.declared.channels.Channels.{Channels}
-use Rattle.repl_pool.proofs.Halting.{one_of}
-use Rattle.repl_pool.specs.Boards.{MayFill, AreBack, HaveShown}
-use Rattle.repl_pool.specs.Faults.{AllowsOn}
-use Rattle.repl_pool.proofs.Boarding.{back_same, back_length}
-use Rattle.repl_pool.proofs.Showing.{all_popped, shown_start, held_room, held_back, held_shown}
+use Rattle.progress_board.specs.{Board}
+use Rattle.repl_pool.specs.{Channels, MayFill, AreBack, HaveShown, AllowsOn}
+use Rattle.repl_pool.proofs.{one_of, back_same, back_length, all_popped, shown_start, held_room, held_back, held_shown}
 use Rattle.repl_pool.proofs.context.Context.join_writers.Goals as goal
 
 pub loop-handle-init : goal.loop-handle-init

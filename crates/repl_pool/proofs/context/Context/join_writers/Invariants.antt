@@ -1,11 +1,7 @@
-use Rattle.std.proofs.Common.{◌≡◌, ◌+◌, ◌≤◌, ◌++◌, length, vec_len, vec_items, vec_capacity, option_copied}
-use Rattle.std.specs.Prelude.{IfSome}
-use Rattle.repl_pool.specs.Boards.{MayFill, AreBack, HaveShown, held}
-use Rattle.repl_pool.specs.Faults.{AllowsOn}
-use Rattle.std.specs.List.{All}
+use Rattle.proof_words.proofs.{◌≡◌, ◌+◌, ◌≤◌, ◌++◌, length, vec_len, vec_items, vec_capacity, option_copied, IfSome, All}
+use Rattle.repl_pool.specs.{MayFill, AreBack, HaveShown, held, AllowsOn, WrittenKnows}
 use Rattle.crossbeam_channel.specs.Claims.{view, IsSeatAt}
 use Rattle.crossbeam_channel.specs.Ends.{sends_on}
-use Rattle.repl_pool.specs.Gathered.{WrittenKnows}
 use Rattle.repl_pool.proofs.context.Context.join_writers.Given as goal
 
 abbrev pub invariant-loop-handle : goal.invariant-loop-handle

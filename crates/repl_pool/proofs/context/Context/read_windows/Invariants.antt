@@ -1,7 +1,7 @@
-use Rattle.std.proofs.Common.{◌≡◌, ◌-◌, ◌≤◌, []}
+use Rattle.proof_words.proofs.{◌≡◌, ◌-◌, ◌≤◌, []}
 use Rattle.crossbeam_channel.specs.Claims.{view, IsSeatAt}
 use Rattle.crossbeam_channel.specs.Ends.{sends_on}
-use Rattle.repl_pool.specs.Windows.{window_view}
+use Rattle.repl_pool.specs.{window_view}
 use Rattle.repl_pool.proofs.context.Context.read_windows.Given as goal
 
 abbrev pub invariant-loop-since : goal.invariant-loop-since

@@ -1,9 +1,7 @@
-use Rattle.std.proofs.Common.{◌≡◌, ◌+◌, [], vec_len, vec_items}
-use Rattle.std.specs.List.{All}
+use Rattle.proof_words.proofs.{◌≡◌, ◌+◌, [], vec_len, vec_items, All}
 use Rattle.crossbeam_channel.specs.Claims.{view, IsSeatAt}
 use Rattle.crossbeam_channel.specs.Ends.{sends_on}
-use Rattle.repl_pool.specs.Parcels.{parcel_view}
-use Rattle.repl_pool.specs.Windows.{window_view}
+use Rattle.repl_pool.specs.{parcel_view, window_view}
 use Rattle.repl_pool.proofs.context.Context.start_fetchers.Given as goal
 
 abbrev pub invariant-loop-i : goal.invariant-loop-i

@@ -1,6 +1,5 @@
-use Rattle.std.proofs.Common.{rules, ◌≡◌, option_copied}
-use Rattle.repl_pool.proofs.Boarding.{seats_seated}
-use Rattle.repl_pool.proofs.Showing.{all_pushed, back_is, held_same, held_next, back_rest}
+use Rattle.proof_words.proofs.{rules, ◌≡◌, option_copied}
+use Rattle.repl_pool.proofs.{seats_seated, all_pushed, back_is, held_same, held_next, back_rest}
 use Rattle.repl_pool.proofs.context.Context.start_writers.Goals as goal
 
 pub loop-i-preserved : goal.loop-i-preserved

@@ -1,9 +1,7 @@
-use Rattle.std.proofs.Common.{◌≡◌, ◌+◌, ◌++◌, [], vec_len, vec_items, vec_capacity, option_copied}
-use Rattle.std.specs.List.{All}
+use Rattle.proof_words.proofs.{◌≡◌, ◌+◌, ◌++◌, [], vec_len, vec_items, vec_capacity, option_copied, All}
 use Rattle.crossbeam_channel.specs.Claims.{view, IsSeatAt}
 use Rattle.crossbeam_channel.specs.Ends.{sends_on}
-use Rattle.repl_pool.specs.Boards.{AreSeats, held}
-use Rattle.repl_pool.specs.Parcels.{parcel_view}
+use Rattle.repl_pool.specs.{AreSeats, held, parcel_view}
 use Rattle.repl_pool.proofs.context.Context.start_writers.Given as goal
 
 abbrev pub invariant-loop-i : goal.invariant-loop-i

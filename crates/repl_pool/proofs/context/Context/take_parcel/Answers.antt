@@ -1,8 +1,7 @@
-use Rattle.std.proofs.Common.{rules, None, ◌≡◌, ◌<◌, ap, arith, length}
+use Rattle.proof_words.proofs.{rules, None, ◌≡◌, ◌<◌, ap, arith, length}
 use Rattle.crossbeam_channel.specs.Claims.{view}
-use Rattle.repl_pool.specs.declared.parcels.ParcelView.{ParcelView}
-use Rattle.repl_pool.proofs.ParcelRule.{gets}
-use Rattle.repl_pool.proofs.Steps.{GotOne, got_one}
+use Rattle.repl_pool.specs.{ParcelView}
+use Rattle.repl_pool.proofs.{gets, GotOne, got_one}
 use Rattle.repl_pool.proofs.context.Context.take_parcel.Goals as goal
 
 pub recv_as-requires-clause-rule : goal.recv_as-requires-clause-rule

@@ -1,7 +1,7 @@
-use Rattle.std.proofs.Common.{◌<◌, ap, arith}
+use Rattle.proof_words.proofs.{◌<◌, ap, arith}
 use Rattle.crossbeam_channel.specs.Claims.{view}
-use Rattle.repl_pool.specs.declared.windows.WindowView.{WindowView}
-use Rattle.repl_pool.proofs.WindowRule.{takes}
+use Rattle.repl_pool.specs.{WindowView}
+use Rattle.repl_pool.proofs.{takes}
 use Rattle.repl_pool.proofs.context.Context.take_window.Goals as goal
 
 pub recv_as-requires-clause-rule : goal.recv_as-requires-clause-rule

@@ -1,9 +1,7 @@
-use Rattle.std.proofs.Common.{[], IfSome, option_copied}
+use Rattle.proof_words.proofs.{[], IfSome, option_copied}
 use Rattle.crossbeam_channel.specs.Claims.{IsSeatAt}
 use Rattle.crossbeam_channel.specs.Ends.{receives_on}
-use Rattle.repl_pool.specs.Workers.{WriterKnows, WriterShows}
-use Rattle.repl_pool.specs.Boards.{MayFill, IsSeated}
-use Rattle.repl_pool.specs.Faults.{AllowsOn}
+use Rattle.repl_pool.specs.{WriterKnows, WriterShows, MayFill, IsSeated, AllowsOn}
 use Rattle.repl_pool.proofs.context.Context.write_all.Given as goal
 
 abbrev pub invariant-loop : goal.invariant-loop

@@ -1,9 +1,7 @@
-use Rattle.std.proofs.Common.{rules, ap, sym, ◌∙◌, arith, length}
+use Rattle.proof_words.proofs.{rules, ap, sym, ◌∙◌, arith, length, append-nil}
 use Rattle.crossbeam_channel.specs.Claims.{view}
-use Rattle.repl_pool.specs.Workers.{names}
-use Rattle.repl_pool.proofs.Steps.{SentOne, sent_one}
-use Rattle.repl_pool.specs.declared.parcels.ParcelView.{ParcelView}
-use Rattle.std.proofs.lemmas.List.{append-nil}
+use Rattle.repl_pool.specs.{names, ParcelView}
+use Rattle.repl_pool.proofs.{SentOne, sent_one}
 use Rattle.repl_pool.proofs.fetcher.Fetcher.hand_over.Goals as goal
 
 pub put-requires-clause-part : goal.put-requires-clause-part

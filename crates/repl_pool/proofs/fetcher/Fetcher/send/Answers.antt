@@ -1,4 +1,4 @@
-use Rattle.std.proofs.Common.{rules}
+use Rattle.proof_words.proofs.{rules}
 use Rattle.repl_pool.proofs.fetcher.Fetcher.send.Goals as goal
 
 pub hand_over-requires-clause-counted : goal.hand_over-requires-clause-counted

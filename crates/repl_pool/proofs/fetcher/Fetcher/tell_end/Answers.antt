@@ -1,7 +1,7 @@
-use Rattle.std.proofs.Common.{◌<◌, ap, arith}
+use Rattle.proof_words.proofs.{◌<◌, ap, arith}
 use Rattle.crossbeam_channel.specs.Claims.{view}
-use Rattle.repl_pool.specs.declared.parcels.ParcelView.{ParcelView}
-use Rattle.repl_pool.proofs.ParcelRule.{sends}
+use Rattle.repl_pool.specs.{ParcelView}
+use Rattle.repl_pool.proofs.{sends}
 use Rattle.repl_pool.proofs.fetcher.Fetcher.tell_end.Goals as goal
 
 pub send_as-requires-clause-rule : goal.send_as-requires-clause-rule

@@ -1,10 +1,7 @@
-use Rattle.std.proofs.Common.{◌≡◌, ℕ, ◌++◌, ◌∷◌, [], sum, ap, sym, ◌∙◌, arith}
-use Rattle.std.proofs.lemmas.List.{append-nil}
-use Rattle.std.proofs.lemmas.List.Sums.{sum_by_push}
+use Rattle.proof_words.proofs.{◌≡◌, ℕ, ◌++◌, ◌∷◌, [], sum, ap, sym, ◌∙◌, arith, append-nil, sum_by_push}
 use Rattle.crossbeam_channel.specs.Claims.{view}
-use Rattle.repl_pool.specs.Workers.{names}
-use Rattle.repl_pool.specs.declared.windows.WindowView.{WindowView}
-use Rattle.repl_pool.proofs.Steps.{Gathers, gathers}
+use Rattle.repl_pool.specs.{names, WindowView}
+use Rattle.repl_pool.proofs.{Gathers, gathers}
 use Rattle.repl_pool.proofs.WindowRule as window
 use Rattle.repl_pool.proofs.ParcelRule as parcel
 use Rattle.repl_pool.proofs.gather.FetchedAll.take_in.Goals as goal

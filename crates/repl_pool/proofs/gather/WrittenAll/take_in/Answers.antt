@@ -1,6 +1,6 @@
-use Rattle.std.proofs.Common.{sym, ◌∙◌, arith}
+use Rattle.proof_words.proofs.{sym, ◌∙◌, arith}
 use Rattle.crossbeam_channel.specs.Claims.{view}
-use Rattle.repl_pool.proofs.Steps.{Gathers, gathers}
+use Rattle.repl_pool.proofs.{Gathers, gathers}
 use Rattle.repl_pool.proofs.ParcelRule as parcel
 use Rattle.repl_pool.proofs.gather.WrittenAll.take_in.Goals as goal
 

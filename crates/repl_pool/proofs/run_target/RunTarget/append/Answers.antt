@@ -1,6 +1,6 @@
-use Rattle.std.proofs.Common.{sym, subst}
-use Rattle.repl_pool.proofs.Growing.{appends, stays}
-use Rattle.repl_pool.specs.Paging.{IsNext}
+use Rattle.proof_words.proofs.{sym, subst}
+use Rattle.repl_pool.proofs.{appends, stays}
+use Rattle.repl_pool.specs.{IsNext}
 use Rattle.repl_pool.proofs.run_target.RunTarget.append.Goals as goal
 
 pub invariant_of-self : goal.invariant_of-self

@@ -1,5 +1,5 @@
-use Rattle.std.proofs.Common.{subst, sym}
-use Rattle.repl_pool.specs.Grown.{TargetKeeps}
+use Rattle.proof_words.proofs.{subst, sym}
+use Rattle.repl_pool.specs.{TargetKeeps}
 use Rattle.repl_pool.proofs.run_target.RunTarget.close.Goals as goal
 
 pub returns : goal.returns

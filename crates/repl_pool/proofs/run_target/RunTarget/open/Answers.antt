@@ -1,6 +1,6 @@
-use Rattle.std.proofs.Common.{subst, sym}
-use Rattle.repl_pool.specs.Grown.{TargetKeeps}
-use Rattle.repl_pool.proofs.Growing.{starts}
+use Rattle.proof_words.proofs.{subst, sym}
+use Rattle.repl_pool.specs.{TargetKeeps}
+use Rattle.repl_pool.proofs.{starts}
 use Rattle.repl_pool.proofs.run_target.RunTarget.open.Goals as goal
 
 pub invariant_of-result : goal.invariant_of-result

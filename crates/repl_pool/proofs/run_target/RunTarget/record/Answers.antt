@@ -1,7 +1,6 @@
-use Rattle.std.proofs.Common.{sym, subst, IfErr}
-use Rattle.repl_pool.proofs.Growing.{records}
-use Rattle.repl_pool.specs.Faults.{IsStepFault}
-use Rattle.repl_pool.proofs.Refusals.{record_step}
+use Rattle.proof_words.proofs.{sym, subst, IfErr}
+use Rattle.repl_pool.proofs.{records, record_step}
+use Rattle.repl_pool.specs.{IsStepFault}
 use Rattle.repl_pool.proofs.run_target.RunTarget.record.Goals as goal
 
 pub invariant_of-self : goal.invariant_of-self

@@ -1,9 +1,8 @@
-use Rattle.std.proofs.Common.{rules, ◌≤◌, length, subst, sym}
-use Rattle.couch_base.specs.Messages.{ParcelValue}
-use Rattle.repl_peer.specs.session.ReadCounts.{taken}
-use Rattle.repl_pool.specs.Grown.{IsAnswerOf}
-use Rattle.repl_pool.proofs.Growing.{settles, taken_most}
-use Rattle.repl_pool.proofs.Refusals.{settle_step}
+use Rattle.proof_words.proofs.{rules, ◌≤◌, length, subst, sym}
+use Rattle.couch_base.specs.{ParcelValue}
+use Rattle.repl_peer.specs.{taken}
+use Rattle.repl_pool.specs.{IsAnswerOf}
+use Rattle.repl_pool.proofs.{settles, taken_most, settle_step}
 use Rattle.repl_pool.proofs.run_target.RunTarget.settle_counted.Goals as goal
 
 pub invariant_of-self : goal.invariant_of-self

@@ -1,10 +1,7 @@
-use Rattle.std.proofs.Common.{◌≡◌, Ok, Err, ap, subst}
-use Rattle.repl_target.specs.replication.Replication.{Replicates}
-use Rattle.repl_target.specs.replication.Sync.{refused_there, refused_back, both}
-use Rattle.repl_peer.specs.peer.Peer.{PeerValue}
-use Rattle.repl_target.proofs.lemmas.replication.ReplicationAsCalls.{replicates_left, left_law}
-use Rattle.repl_target.proofs.lemmas.replication.OthersStayTied.{turned_tied, source_stays, target_stays, both_stay}
-use Rattle.repl_target.proofs.lemmas.replication.BothWays.{replicates_leaves, both_meet}
+use Rattle.proof_words.proofs.{◌≡◌, Ok, Err, ap, subst}
+use Rattle.repl_target.specs.{Replicates, refused_there, refused_back, both}
+use Rattle.repl_peer.specs.{PeerValue}
+use Rattle.repl_target.proofs.{replicates_left, left_law, turned_tied, source_stays, target_stays, both_stay, replicates_leaves, both_meet}
 use Rattle.repl_target.proofs.replication.sync.sync_alone.Goals as goal
 
 pub returns-in-Err-clause-replicates : goal.returns-in-Err-clause-replicates

@@ -1,4 +1,4 @@
-use Rattle.repl_world.proofs.Messages.{parcel_more}
+use Rattle.repl_world.proofs.{parcel_more}
 use Rattle.repl_world.proofs.bag.Bag.put_parcel.Goals as goal
 
 pub invariant_of-self-2 : goal.invariant_of-self-2

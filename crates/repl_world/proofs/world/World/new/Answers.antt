@@ -1,6 +1,6 @@
-use Rattle.std.proofs.Common.{sym, ap, ◌∙◌}
-use Rattle.couch_base.specs.Database.{DatabaseValue}
-use Rattle.repl_world.proofs.Runs.{new_refused, new_tied}
+use Rattle.proof_words.proofs.{sym, ap, ◌∙◌}
+use Rattle.couch_base.specs.{DatabaseValue}
+use Rattle.repl_world.proofs.{new_refused, new_tied}
 use Rattle.repl_world.proofs.world.World.new.Goals as goal
 
 pub returns-then-uuid-clause-answer : goal.returns-then-uuid-clause-answer

@@ -1,4 +1,4 @@
-use Rattle.repl_world.proofs.Runs.{trustworthy}
+use Rattle.repl_world.proofs.{trustworthy}
 use Rattle.repl_world.proofs.world.World.run.Goals as goal
 
 pub returns-clause-trust : goal.returns-clause-trust

@@ -1,7 +1,6 @@
-use Rattle.std.proofs.Common.{◌≡◌, OnOk, OnErr, Some, slice_get, sym, ap, ◌∙◌, subst}
-use Rattle.std.specs.Option.{option_copied}
-use Rattle.repl_world.specs.Worlds.{WorldValue, settles, IsStopped}
-use Rattle.repl_world.proofs.Runs.{settled_ok, settled_err}
+use Rattle.proof_words.proofs.{◌≡◌, OnOk, OnErr, Some, slice_get, sym, ap, ◌∙◌, subst, option_copied}
+use Rattle.repl_world.specs.{WorldValue, settles, IsStopped}
+use Rattle.repl_world.proofs.{settled_ok, settled_err}
 use Rattle.repl_world.proofs.world.World.settle.Goals as goal
 
 pub returns-clause-ok : goal.returns-clause-ok

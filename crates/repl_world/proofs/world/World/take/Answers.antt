@@ -1,4 +1,4 @@
-use Rattle.repl_world.proofs.Runs.{taken_tied}
+use Rattle.repl_world.proofs.{taken_tied}
 use Rattle.repl_world.proofs.world.World.take.Goals as goal
 
 pub returns-clause-tied : goal.returns-clause-tied

@@ -1,6 +1,6 @@
-use Rattle.std.proofs.Common.{◌≡◌, ◌∙◌, subst, refl}
-use Rattle.repl_world.specs.Worlds.{happens, CutShort}
-use Rattle.repl_world.proofs.Runs.{run_next, run_all, stopped_at_step}
+use Rattle.proof_words.proofs.{◌≡◌, ◌∙◌, subst, refl}
+use Rattle.repl_world.specs.{happens, CutShort}
+use Rattle.repl_world.proofs.{run_next, run_all, stopped_at_step}
 use Rattle.repl_world.proofs.world.World.take_all.Goals as goal
 
 pub loop-step-init : goal.loop-step-init

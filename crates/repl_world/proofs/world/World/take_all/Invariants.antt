@@ -1,5 +1,5 @@
-use Rattle.std.proofs.Common.{◌≡◌, take}
-use Rattle.repl_world.specs.Worlds.{run}
+use Rattle.proof_words.proofs.{◌≡◌, take}
+use Rattle.repl_world.specs.{run}
 use Rattle.repl_world.specs.Tied.{Tied}
 use Rattle.repl_world.proofs.world.World.take_all.Given as goal
 

@@ -1,6 +1,6 @@
-use Rattle.std.proofs.Common.{ap, ◌∙◌}
-use Rattle.rev_core.specs.Ancestry.{is_among}
-use Rattle.rev_core.proofs.Ties.{list_any_turned}
+use Rattle.proof_words.proofs.{ap, ◌∙◌}
+use Rattle.rev_core.specs.{is_among}
+use Rattle.rev_core.proofs.{list_any_turned}
 use Rattle.rev_core.proofs.ancestry.Ancestry.contains.Goals as goal
 
 pub returns : goal.returns

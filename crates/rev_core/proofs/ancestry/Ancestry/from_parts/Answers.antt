@@ -1,7 +1,5 @@
-use Rattle.std.proofs.Common.{◌≡◌, ◌<◌, ◌++◌, length, sym, ap, ◌∙◌, subst, arith, rules}
-use Rattle.std.proofs.lemmas.List.{drop_all, append-nil}
-use Rattle.rev_core.specs.Ancestry.{numbered, FallsByOne}
-use Rattle.rev_core.specs.AncestryLaws.{falls_numbered, length-numbered}
+use Rattle.proof_words.proofs.{◌≡◌, ◌<◌, ◌++◌, length, sym, ap, ◌∙◌, subst, arith, rules, drop_all, append-nil}
+use Rattle.rev_core.specs.{numbered, FallsByOne, falls_numbered, length-numbered}
 use Rattle.rev_core.proofs.ancestry.Ancestry.from_parts.Goals as goal
 
 all : (c : goal.After-loop-id) → c.loop-id.revs.items ≡ numbered c.args.start c.args.ids.now

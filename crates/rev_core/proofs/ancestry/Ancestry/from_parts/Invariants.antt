@@ -1,7 +1,5 @@
-use Rattle.std.proofs.Common.{◌≡◌, ◌+◌, ◌++◌, drop}
-use Rattle.std.specs.List.{AllByRecursion}
-use Rattle.rev_core.specs.Rev.{IsRev}
-use Rattle.rev_core.specs.Ancestry.{numbered}
+use Rattle.proof_words.proofs.{◌≡◌, ◌+◌, ◌++◌, drop, AllByRecursion}
+use Rattle.rev_core.specs.{IsRev, numbered}
 use Rattle.rev_core.proofs.ancestry.Ancestry.from_parts.Given as goal
 
 abbrev pub invariant-loop-id : goal.invariant-loop-id

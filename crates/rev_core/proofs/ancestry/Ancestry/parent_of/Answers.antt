@@ -1,9 +1,7 @@
-use Rattle.std.proofs.Common.{sym, ap, ◌∙◌, rules}
+use Rattle.proof_words.proofs.{sym, ap, ◌∙◌, rules}
 use Rattle.std.specs.FinMap.{find}
-use Rattle.rev_core.specs.Rev.{rev_cmp}
-use Rattle.rev_core.specs.Ancestry.{edges_of}
-use Rattle.rev_core.specs.AncestryLaws.{edges_end}
-use Rattle.rev_core.proofs.Ties.{edge_found, edge_passed}
+use Rattle.rev_core.specs.{rev_cmp, edges_of, edges_end}
+use Rattle.rev_core.proofs.{edge_found, edge_passed}
 use Rattle.rev_core.proofs.ancestry.Ancestry.parent_of.Goals as goal
 
 pub returns-then-eq : goal.returns-then-eq

@@ -1,9 +1,6 @@
-use Rattle.std.proofs.Common.{◌+◌, Ok, drop, sym, ap, ◌∙◌}
-use Rattle.std.proofs.lemmas.List.{take_rest}
-use Rattle.rev_core.specs.Sig.{sig_read}
-use Rattle.rev_core.specs.Text.{cut_at, with_sig}
-use Rattle.rev_core.specs.TextLaws.{rev_text-read}
-use Rattle.rev_core.proofs.Digits.{with_read}
+use Rattle.proof_words.proofs.{◌+◌, Ok, drop, sym, ap, ◌∙◌, take_rest}
+use Rattle.rev_core.specs.{sig_read, cut_at, with_sig, rev_text-read}
+use Rattle.rev_core.proofs.{with_read}
 use Rattle.rev_core.proofs.rev.Rev.parse.Goals as goal
 
 -- the first dash, the generation before it and the signature behind it

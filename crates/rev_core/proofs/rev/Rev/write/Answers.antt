@@ -1,4 +1,4 @@
-use Rattle.rev_core.specs.TextLaws.{rev_read-text}
+use Rattle.rev_core.specs.{rev_read-text}
 use Rattle.rev_core.proofs.rev.Rev.write.Goals as goal
 
 pub returns-in_err-format-clause-parses_back : goal.returns-in_err-format-clause-parses_back

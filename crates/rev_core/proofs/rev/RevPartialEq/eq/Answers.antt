@@ -1,9 +1,5 @@
-use Rattle.std.proofs.Common.{◌≡◌, ◌&&◌, ℕ, true, false, nat_eq, refl, ap, sym, ◌∙◌}
-use Rattle.std.proofs.lemmas.Bool.{eq-eqb, eqb-true}
-use Rattle.std.specs.Ordering.{eq_by_cmp}
-use Rattle.std.specs.Cmp.Lexicographic.{pointwise}
-use Rattle.rev_core.specs.Rev.{rev_cmp}
-use Rattle.rev_core.specs.RevOrder.{rev_eq_is}
+use Rattle.proof_words.proofs.{◌≡◌, ◌&&◌, ℕ, true, false, nat_eq, refl, ap, sym, ◌∙◌, eq-eqb, eqb-true, eq_by_cmp, pointwise}
+use Rattle.rev_core.specs.{rev_cmp, rev_eq_is}
 use Rattle.rev_core.proofs.rev.RevPartialEq.eq.Goals as goal
 
 differ : (m n : ℕ) → (m ≡ n → ⊥) → nat_eq m n ≡ false

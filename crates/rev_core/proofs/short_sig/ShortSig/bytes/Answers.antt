@@ -1,5 +1,5 @@
-use Rattle.std.proofs.Common.{refl}
-use Rattle.rev_core.specs.ShortSig.{bytes_in}
+use Rattle.proof_words.proofs.{refl}
+use Rattle.rev_core.specs.{bytes_in}
 use Rattle.rev_core.proofs.short_sig.ShortSig.bytes.Goals as goal
 
 pub returns : goal.returns

@@ -1,5 +1,5 @@
-use Rattle.rev_core.specs.ShortSig.{bytes_in}
-use Rattle.rev_core.proofs.ShortSigs.{numbers_of}
+use Rattle.rev_core.specs.{bytes_in}
+use Rattle.rev_core.proofs.{numbers_of}
 use Rattle.rev_core.proofs.short_sig.ShortSig.new.Goals as goal
 
 pub returns-clause-bytes : goal.returns-clause-bytes

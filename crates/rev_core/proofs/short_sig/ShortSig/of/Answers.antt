@@ -1,5 +1,5 @@
-use Rattle.std.proofs.Common.{◌≤◌, length, ap, subst, ◌∙◌}
-use Rattle.rev_core.proofs.ShortSigs.{few}
+use Rattle.proof_words.proofs.{◌≤◌, length, ap, subst, ◌∙◌}
+use Rattle.rev_core.proofs.{few}
 use Rattle.rev_core.proofs.short_sig.ShortSig.of.Goals as goal
 
 pub returns-clause-text : goal.returns-clause-text

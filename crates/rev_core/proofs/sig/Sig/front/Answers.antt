@@ -1,6 +1,6 @@
-use Rattle.std.proofs.Common.{take, ap, ◌∙◌, arith}
-use Rattle.rev_core.specs.Sig.{padded}
-use Rattle.rev_core.proofs.ShortSigs.{listed-take}
+use Rattle.proof_words.proofs.{take, ap, ◌∙◌, arith}
+use Rattle.rev_core.specs.{padded}
+use Rattle.rev_core.proofs.{listed-take}
 use Rattle.rev_core.proofs.sig.Sig.front.Goals as goal
 
 pub returns : goal.returns

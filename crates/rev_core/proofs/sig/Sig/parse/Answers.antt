@@ -1,6 +1,6 @@
-use Rattle.std.proofs.Common.{◌≡◌, true, sym, ◌∙◌, length, subst}
-use Rattle.rev_core.specs.Sig.{is_sig, IsStored}
-use Rattle.rev_core.proofs.Pad.{stored, padded-front}
+use Rattle.proof_words.proofs.{◌≡◌, true, sym, ◌∙◌, length, subst}
+use Rattle.rev_core.specs.{is_sig, IsStored}
+use Rattle.rev_core.proofs.{stored, padded-front}
 use Rattle.rev_core.proofs.sig.Sig.parse.Goals as goal
 
 pub invariant_of-result : goal.invariant_of-result

@@ -1,7 +1,5 @@
-use Rattle.std.proofs.Common.{◌∙◌}
-use Rattle.std.specs.Ordering.{nat_cmp}
-use Rattle.std.specs.Cmp.Lexicographic.{slice_cmp}
-use Rattle.rev_core.proofs.Arrays.{first_decides}
+use Rattle.proof_words.proofs.{◌∙◌, nat_cmp, slice_cmp}
+use Rattle.rev_core.proofs.{first_decides}
 use Rattle.rev_core.proofs.sig.SigOrd.cmp.Goals as goal
 
 pub returns-then-first-against : goal.returns-then-first-against

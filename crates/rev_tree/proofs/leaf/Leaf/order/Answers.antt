@@ -1,6 +1,5 @@
-use Rattle.std.proofs.Common.{sym, ◌∙◌}
-use Rattle.std.specs.Ordering.{nat_cmp}
-use Rattle.rev_tree.proofs.Fronts.{front_first, bytes_of_sig, behind_ties}
+use Rattle.proof_words.proofs.{sym, ◌∙◌, nat_cmp}
+use Rattle.rev_tree.proofs.{front_first, bytes_of_sig, behind_ties}
 use Rattle.rev_tree.proofs.leaf.Leaf.order.Goals as goal
 
 pub returns-then-self-other-3 : goal.returns-then-self-other-3

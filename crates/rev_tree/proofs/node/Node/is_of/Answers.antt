@@ -1,10 +1,5 @@
-use Rattle.std.proofs.Common.{◌≡◌, ◌&&◌, sym, ap, ◌∙◌}
-use Rattle.std.proofs.lemmas.Bool.{eq-eqb}
-use Rattle.std.specs.Prelude.{nat_eq}
-use Rattle.std.specs.Cmp.Lexicographic.{pointwise}
-use Rattle.std.specs.Ordering.{eq_by_cmp}
-use Rattle.rev_core.specs.Rev.{rev_cmp}
-use Rattle.rev_core.specs.RevOrder.{rev_eq_is}
+use Rattle.proof_words.proofs.{◌≡◌, ◌&&◌, sym, ap, ◌∙◌, eq-eqb, nat_eq, pointwise, eq_by_cmp}
+use Rattle.rev_core.specs.{rev_cmp, rev_eq_is}
 use Rattle.rev_tree.proofs.node.Node.is_of.Goals as goal
 
 pub returns : goal.returns

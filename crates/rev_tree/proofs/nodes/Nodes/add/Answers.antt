@@ -1,7 +1,5 @@
-use Rattle.std.proofs.Common.{◌+◌, Some, sym, ap, ◌∙◌, arith}
-use Rattle.rev_tree.proofs.Places.{place_known, rev_at_place}
-use Rattle.rev_tree.proofs.Linking.{tree_known}
-use Rattle.rev_tree.proofs.Putting.{room_for}
+use Rattle.proof_words.proofs.{◌+◌, Some, sym, ap, ◌∙◌, arith}
+use Rattle.rev_tree.proofs.{place_known, rev_at_place, tree_known, room_for}
 use Rattle.rev_tree.proofs.nodes.Nodes.add.Goals as goal
 
 pub returns-in-Some : goal.returns-in-Some

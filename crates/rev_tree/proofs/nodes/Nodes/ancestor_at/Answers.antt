@@ -1,7 +1,7 @@
-use Rattle.std.proofs.Common.{◌≡◌, ℕ, ◌+◌, ◌-◌, ◌<◌, ◌∷◌, [], None, Some, suc, zero, slice_get, sym, ap, ◌∙◌, refl, arith}
-use Rattle.rev_core.specs.Rev.{RevId}
-use Rattle.rev_tree.specs.Walks.{ancestors_at}
-use Rattle.rev_tree.proofs.Walking.{step, last, first_there}
+use Rattle.proof_words.proofs.{◌≡◌, ℕ, ◌+◌, ◌-◌, ◌<◌, ◌∷◌, [], None, Some, suc, zero, slice_get, sym, ap, ◌∙◌, refl, arith}
+use Rattle.rev_core.specs.{RevId}
+use Rattle.rev_tree.specs.{ancestors_at}
+use Rattle.rev_tree.proofs.{step, last, first_there}
 use Rattle.rev_tree.proofs.nodes.Nodes.ancestor_at.Goals as goal
 
 pub loop-i-init : goal.loop-i-init

@@ -1,5 +1,5 @@
-use Rattle.std.proofs.Common.{◌≡◌, ℕ, ◌+◌, ◌<◌, length, slice_get}
-use Rattle.rev_tree.specs.Walks.{ancestors_at}
+use Rattle.proof_words.proofs.{◌≡◌, ℕ, ◌+◌, ◌<◌, length, slice_get}
+use Rattle.rev_tree.specs.{ancestors_at}
 use Rattle.rev_tree.proofs.nodes.Nodes.ancestor_at.Given as goal
 
 -- from the place that is reached on, the ancestors are those that are left

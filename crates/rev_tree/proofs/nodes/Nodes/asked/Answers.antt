@@ -1,8 +1,5 @@
-use Rattle.std.proofs.Common.{◌+◌, ◌++◌, ◌∷◌, [], take, sym, ap, ◌∙◌, subst, arith}
-use Rattle.std.proofs.lemmas.List.{take_more, take_all}
-use Rattle.rev_tree.proofs.Places.{place_known, place_unknown}
-use Rattle.rev_tree.proofs.Members.{item_among}
-use Rattle.rev_tree.proofs.Asking.{IsAsked, asked_at, asked_nowhere, told_from_asked}
+use Rattle.proof_words.proofs.{◌+◌, ◌++◌, ◌∷◌, [], take, sym, ap, ◌∙◌, subst, arith, take_more, take_all}
+use Rattle.rev_tree.proofs.{place_known, place_unknown, item_among, IsAsked, asked_at, asked_nowhere, told_from_asked}
 use Rattle.rev_tree.proofs.nodes.Nodes.asked.Goals as goal
 use Rattle.rev_tree.proofs.nodes.Nodes.asked.Goals.{in-Some, in_default}
 

@@ -1,5 +1,5 @@
-use Rattle.std.proofs.Common.{take}
-use Rattle.rev_tree.proofs.Asking.{IsAsked}
+use Rattle.proof_words.proofs.{take}
+use Rattle.rev_tree.proofs.{IsAsked}
 use Rattle.rev_tree.proofs.nodes.Nodes.asked.Given as goal
 
 -- those asked so far are told

@@ -1,6 +1,5 @@
-use Rattle.std.proofs.Common.{sym, ap, ◌∙◌, subst}
-use Rattle.rev_tree.specs.Index.{index_for}
-use Rattle.rev_tree.specs.Nodes.{IsLinked, revs_in}
+use Rattle.proof_words.proofs.{sym, ap, ◌∙◌, subst}
+use Rattle.rev_tree.specs.{index_for, IsLinked, revs_in}
 use Rattle.rev_tree.proofs.nodes.Nodes.copy.Goals as goal
 
 pub invariant_of-result : goal.invariant_of-result

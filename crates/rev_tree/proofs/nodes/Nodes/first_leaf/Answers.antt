@@ -1,12 +1,6 @@
-use Rattle.std.proofs.Common.{take, filter, Some, cond, not, slice_get, sym, ap, ◌∙◌, subst, is_some, refl}
-use Rattle.std.proofs.lemmas.Bool.{cond-true, cond-false, false≢true}
-use Rattle.std.specs.Option.{option_copied}
-use Rattle.rev_tree.specs.InOrder.{in_order, placed}
-use Rattle.rev_tree.specs.Tree.{is_leaf, leaf_cmp}
-use Rattle.rev_tree.specs.Nodes.{revs_in, tree_of}
-use Rattle.rev_tree.proofs.Leaves.{IsBest, best_none, best_placed, best_of_all, leaf_item, deleted_item, leaves_more}
-use Rattle.rev_tree.proofs.Places.{read_at}
-use Rattle.rev_tree.proofs.Winning.{rev_of_place}
+use Rattle.proof_words.proofs.{take, filter, Some, cond, not, slice_get, sym, ap, ◌∙◌, subst, is_some, refl, cond-true, cond-false, false≢true, option_copied}
+use Rattle.rev_tree.specs.{in_order, placed, is_leaf, leaf_cmp, revs_in, tree_of}
+use Rattle.rev_tree.proofs.{IsBest, best_none, best_placed, best_of_all, leaf_item, deleted_item, leaves_more, read_at, rev_of_place}
 use Rattle.rev_tree.proofs.nodes.Nodes.first_leaf.Goals as goal
 use Rattle.rev_tree.proofs.nodes.Nodes.first_leaf.Goals.{then-not-has_child+then-goes_before, then-not-has_child+else-goes_before, else-not-has_child}
 

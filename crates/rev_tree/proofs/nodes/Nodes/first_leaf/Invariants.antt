@@ -1,10 +1,6 @@
-use Rattle.std.proofs.Common.{◌≡◌, Some, take, filter, slice_get}
-use Rattle.std.specs.Option.{option_copied}
-use Rattle.rev_tree.specs.InOrder.{in_order}
-use Rattle.rev_tree.specs.Tree.{is_leaf, leaf_cmp}
-use Rattle.rev_tree.specs.Node.{NodeValue}
-use Rattle.rev_tree.specs.Nodes.{revs_in, tree_of}
-use Rattle.rev_tree.proofs.Leaves.{IsBest}
+use Rattle.proof_words.proofs.{◌≡◌, Some, take, filter, slice_get, option_copied}
+use Rattle.rev_tree.specs.{in_order, is_leaf, leaf_cmp, NodeValue, revs_in, tree_of}
+use Rattle.rev_tree.proofs.{IsBest}
 use Rattle.rev_tree.proofs.nodes.Nodes.first_leaf.Given as goal
 
 -- the best is the first of the leaves so far, and stands at its place

@@ -1,8 +1,5 @@
-use Rattle.std.proofs.Common.{◌<◌, Some, None, length, sym, ap, ◌∙◌, arith}
-use Rattle.std.proofs.lemmas.Option.{slice_get-get_or}
-use Rattle.rev_tree.proofs.Places.{rev_at_place}
-use Rattle.rev_tree.proofs.Walking.{step, last}
-use Rattle.rev_tree.proofs.Asking.{skip_step, skip_last}
+use Rattle.proof_words.proofs.{◌<◌, Some, None, length, sym, ap, ◌∙◌, arith, slice_get-get_or}
+use Rattle.rev_tree.proofs.{rev_at_place, step, last, skip_step, skip_last}
 use Rattle.rev_tree.proofs.nodes.Nodes.first_told.Goals as goal
 
 pub walk-preserved : goal.walk-preserved

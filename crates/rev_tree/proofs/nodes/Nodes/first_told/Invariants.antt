@@ -1,7 +1,7 @@
-use Rattle.std.proofs.Common.{◌≡◌, ◌<◌, List, length}
-use Rattle.rev_core.specs.Rev.{RevId}
-use Rattle.rev_tree.specs.Walks.{is_above_at, IsTold}
-use Rattle.rev_tree.proofs.Walking.{generation_at}
+use Rattle.proof_words.proofs.{◌≡◌, ◌<◌, List, length}
+use Rattle.rev_core.specs.{RevId}
+use Rattle.rev_tree.specs.{is_above_at, IsTold}
+use Rattle.rev_tree.proofs.{generation_at}
 use Rattle.rev_tree.proofs.nodes.Nodes.first_told.Given as goal
 
 -- the answer here is that at the start

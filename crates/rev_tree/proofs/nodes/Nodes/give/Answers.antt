@@ -1,11 +1,6 @@
-use Rattle.std.proofs.Common.{◌≡◌, ◌<◌, Some, is_some, not, set, length, slice_get, sym, ap, ◌∙◌, subst}
-use Rattle.rev_tree.specs.Index.{index_for}
-use Rattle.rev_tree.specs.Node.{NodeValue}
-use Rattle.rev_tree.specs.Nodes.{revs_in, tree_of}
-use Rattle.rev_tree.specs.Steps.{with_content}
-use Rattle.rev_tree.proofs.Places.{none_of, read_at, read_alike}
-use Rattle.rev_tree.proofs.Lookups.{is_some-copied}
-use Rattle.rev_tree.proofs.Linking.{IsGiven, given, tree_has}
+use Rattle.proof_words.proofs.{◌≡◌, ◌<◌, Some, is_some, not, set, length, slice_get, sym, ap, ◌∙◌, subst}
+use Rattle.rev_tree.specs.{index_for, NodeValue, revs_in, tree_of, with_content}
+use Rattle.rev_tree.proofs.{none_of, read_at, read_alike, is_some-copied, IsGiven, given, tree_has}
 use Rattle.rev_tree.proofs.nodes.Nodes.give.Goals as goal
 use Rattle.rev_tree.proofs.nodes.Nodes.give.Goals.{After-give}
 

@@ -1,6 +1,6 @@
-use Rattle.std.proofs.Common.{sym, ◌∙◌}
-use Rattle.rev_tree.specs.Nodes.{revs_in}
-use Rattle.rev_tree.proofs.Indexing.{index_gone}
+use Rattle.proof_words.proofs.{sym, ◌∙◌}
+use Rattle.rev_tree.specs.{revs_in}
+use Rattle.rev_tree.proofs.{index_gone}
 use Rattle.rev_tree.proofs.nodes.Nodes.give_back.Goals as goal
 
 pub invariant_of-self : goal.invariant_of-self

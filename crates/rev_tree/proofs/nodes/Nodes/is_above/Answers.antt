@@ -1,5 +1,5 @@
-use Rattle.std.proofs.Common.{sym, subst}
-use Rattle.rev_tree.specs.Walks.{IsTold}
+use Rattle.proof_words.proofs.{sym, subst}
+use Rattle.rev_tree.specs.{IsTold}
 use Rattle.rev_tree.proofs.nodes.Nodes.is_above.Goals as goal
 
 pub returns-clause-told : goal.returns-clause-told

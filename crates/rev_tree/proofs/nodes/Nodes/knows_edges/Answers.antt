@@ -1,18 +1,7 @@
-use Rattle.std.proofs.Common.{◌≡◌, ◌-◌, ◌<◌, ◌≤◌, ◌+◌, ◌&&◌, drop, get_or, length, slice_get, Some, not, sym, ap, ◌∙◌, arith}
-use Rattle.std.proofs.Math.Bool.{and-true}
-use Rattle.std.proofs.lemmas.List.{get_or_default}
-use Rattle.std.proofs.lemmas.Option.{slice_get-get_or, same_Some}
-use Rattle.std.specs.List.{list_all}
-use Rattle.std.specs.FinMap.{get}
-use Rattle.std.specs.Ordering.{eq_by_cmp}
-use Rattle.rev_core.specs.Rev.{RevId, rev_cmp}
-use Rattle.rev_core.specs.RevOrder.{rev_tie_is, rev_tie_self}
-use Rattle.rev_core.specs.Ancestry.{edges_of}
-use Rattle.rev_core.specs.AncestryLaws.{edges_end}
-use Rattle.rev_tree.specs.Tree.{has_edge, first_contradiction, contradiction_at}
-use Rattle.rev_tree.specs.Nodes.{rev_at, revs_in, place_of, tree_of}
-use Rattle.rev_tree.proofs.Places.{place_at, place_within, read_at, rev_at_place}
-use Rattle.rev_tree.proofs.Edges.{edges_known, edges_missed, no_contradiction_at, contradiction_here, not_is, told_contradiction, told_none}
+use Rattle.proof_words.proofs.{◌≡◌, ◌-◌, ◌<◌, ◌≤◌, ◌+◌, ◌&&◌, drop, get_or, length, slice_get, Some, not, sym, ap, ◌∙◌, arith, and-true, get_or_default, slice_get-get_or, same_Some, list_all, get, eq_by_cmp}
+use Rattle.rev_core.specs.{RevId, rev_cmp, rev_tie_is, rev_tie_self, edges_of, edges_end}
+use Rattle.rev_tree.specs.{has_edge, first_contradiction, contradiction_at, rev_at, revs_in, place_of, tree_of}
+use Rattle.rev_tree.proofs.{place_at, place_within, read_at, rev_at_place, edges_known, edges_missed, no_contradiction_at, contradiction_here, not_is, told_contradiction, told_none}
 use Rattle.rev_tree.proofs.nodes.Nodes.knows_edges.Goals as goal
 use Rattle.rev_tree.proofs.nodes.Nodes.knows_edges.Goals.{in-Some+else-ne, in-None}
 

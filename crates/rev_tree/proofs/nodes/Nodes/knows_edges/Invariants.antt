@@ -1,9 +1,6 @@
-use Rattle.std.proofs.Common.{◌≡◌, ◌-◌, ◌&&◌, drop, slice_get, Some}
-use Rattle.std.specs.List.{list_all}
-use Rattle.rev_core.specs.Rev.{RevId}
-use Rattle.rev_core.specs.Ancestry.{edges_of}
-use Rattle.rev_tree.specs.Tree.{has_edge, first_contradiction}
-use Rattle.rev_tree.specs.Nodes.{place_of, tree_of}
+use Rattle.proof_words.proofs.{◌≡◌, ◌-◌, ◌&&◌, drop, slice_get, Some, list_all}
+use Rattle.rev_core.specs.{RevId, edges_of}
+use Rattle.rev_tree.specs.{has_edge, first_contradiction, place_of, tree_of}
 use Rattle.rev_tree.proofs.nodes.Nodes.knows_edges.Given as goal
 
 -- what is left of the edges tells the rest; the place is that of the revision before

@@ -1,10 +1,6 @@
-use Rattle.std.proofs.Common.{◌≡◌, ◌<◌, Some, is_some, not, set, length, length-set, slice_get, sym, ap, ◌∙◌, subst, arith}
-use Rattle.rev_tree.specs.Index.{index_for}
-use Rattle.rev_tree.specs.Node.{NodeValue}
-use Rattle.rev_tree.specs.Nodes.{revs_in, tree_of}
-use Rattle.rev_tree.specs.Steps.{with_edge}
-use Rattle.rev_tree.proofs.Places.{none_of, read_at, read_alike}
-use Rattle.rev_tree.proofs.Linking.{IsEdged, edged, tree_named}
+use Rattle.proof_words.proofs.{◌≡◌, ◌<◌, Some, is_some, not, set, length, length-set, slice_get, sym, ap, ◌∙◌, subst, arith}
+use Rattle.rev_tree.specs.{index_for, NodeValue, revs_in, tree_of, with_edge}
+use Rattle.rev_tree.proofs.{none_of, read_at, read_alike, IsEdged, edged, tree_named}
 use Rattle.rev_tree.proofs.nodes.Nodes.link.Goals as goal
 use Rattle.rev_tree.proofs.nodes.Nodes.link.Goals.{After-mark}
 

@@ -1,7 +1,6 @@
-use Rattle.std.proofs.Common.{length, ap, arith}
-use Rattle.rev_tree.specs.Nodes.{revs_in}
-use Rattle.rev_tree.proofs.Linking.{length-revs_in}
-use Rattle.rev_tree.proofs.Indexing.{index_short}
+use Rattle.proof_words.proofs.{length, ap, arith}
+use Rattle.rev_tree.specs.{revs_in}
+use Rattle.rev_tree.proofs.{length-revs_in, index_short}
 use Rattle.rev_tree.proofs.nodes.Nodes.make_room.Goals as goal
 
 pub reserve_index-requires : goal.reserve_index-requires

@@ -1,4 +1,4 @@
-use Rattle.rev_tree.proofs.Starts.{IsIndexed-none}
+use Rattle.rev_tree.proofs.{IsIndexed-none}
 use Rattle.rev_tree.proofs.nodes.Nodes.new.Goals as goal
 
 pub invariant_of-result : goal.invariant_of-result

@@ -1,6 +1,5 @@
-use Rattle.std.proofs.Common.{sym, ap, ◌∙◌}
-use Rattle.std.specs.Option.{option_copied}
-use Rattle.rev_tree.proofs.Places.{place_known, place_unknown}
+use Rattle.proof_words.proofs.{sym, ap, ◌∙◌, option_copied}
+use Rattle.rev_tree.proofs.{place_known, place_unknown}
 use Rattle.rev_tree.proofs.nodes.Nodes.node_in.Goals as goal
 
 pub node_at-requires : goal.node_at-requires

@@ -1,8 +1,6 @@
-use Rattle.std.proofs.Common.{◌≡◌, ◌<◌, Some, None, IfSome, length, slice_get, get_or, sym, ap, ◌∙◌, subst, refl}
-use Rattle.std.proofs.lemmas.Option.{same_Some}
-use Rattle.rev_tree.specs.Nodes.{rev_at, revs_in, tree_of}
-use Rattle.rev_tree.proofs.Places.{node_at, place_known, place_unknown, read_at}
-use Rattle.rev_tree.proofs.Lookups.{parent_is}
+use Rattle.proof_words.proofs.{◌≡◌, ◌<◌, Some, None, IfSome, length, slice_get, get_or, sym, ap, ◌∙◌, subst, refl, same_Some}
+use Rattle.rev_tree.specs.{rev_at, revs_in, tree_of}
+use Rattle.rev_tree.proofs.{node_at, place_known, place_unknown, read_at, parent_is}
 use Rattle.rev_tree.proofs.nodes.Nodes.parent_at.Goals as goal
 use Rattle.rev_tree.proofs.nodes.Nodes.parent_at.Goals.{After-parent}
 

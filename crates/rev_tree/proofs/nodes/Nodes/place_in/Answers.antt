@@ -1,11 +1,6 @@
-use Rattle.std.proofs.Common.{[], length, is_some, sym, ap, ◌∙◌, subst, arith}
-use Rattle.std.specs.Prelude.{nat_eq}
-use Rattle.std.specs.Map.{lookup}
-use Rattle.rev_tree.specs.Index.{falls, noted_from}
-use Rattle.rev_tree.specs.Nodes.{Distinct, place_of, revs_in}
-use Rattle.rev_tree.proofs.Places.{none_of, is_some-node_of, place_none, place_at, read_at}
-use Rattle.rev_tree.proofs.Linking.{length-revs_in}
-use Rattle.rev_tree.proofs.Indexing.{index_empty, index_gone, index_held, index_many, unmarked, marks_within}
+use Rattle.proof_words.proofs.{[], length, is_some, sym, ap, ◌∙◌, subst, arith, nat_eq, lookup}
+use Rattle.rev_tree.specs.{falls, noted_from, Distinct, place_of, revs_in}
+use Rattle.rev_tree.proofs.{none_of, is_some-node_of, place_none, place_at, read_at, length-revs_in, index_empty, index_gone, index_held, index_many, unmarked, marks_within}
 use Rattle.rev_tree.proofs.nodes.Nodes.place_in.Goals as goal
 
 pub fallen_to-requires-clause-once : goal.fallen_to-requires-clause-once

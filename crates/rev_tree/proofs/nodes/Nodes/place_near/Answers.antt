@@ -1,5 +1,5 @@
-use Rattle.std.proofs.Common.{sym, ◌∙◌}
-use Rattle.rev_tree.proofs.Places.{place_at}
+use Rattle.proof_words.proofs.{sym, ◌∙◌}
+use Rattle.rev_tree.proofs.{place_at}
 use Rattle.rev_tree.proofs.nodes.Nodes.place_near.Goals as goal
 
 pub returns-then-is_of-clause-place : goal.returns-then-is_of-clause-place

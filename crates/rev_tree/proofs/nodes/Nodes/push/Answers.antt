@@ -1,10 +1,6 @@
-use Rattle.std.proofs.Common.{◌≡◌, ◌++◌, ◌∷◌, [], None, length, take, slice_get, sym, ap, ◌∙◌, subst, rules}
-use Rattle.std.proofs.Math.Seq.{take-append_seam}
-use Rattle.rev_tree.specs.Index.{index_for}
-use Rattle.rev_tree.specs.Nodes.{place_of, revs_in, tree_of}
-use Rattle.rev_tree.specs.Steps.{with_rev}
-use Rattle.rev_tree.proofs.Places.{slice_get-last}
-use Rattle.rev_tree.proofs.Linking.{IsAdded, added, new_node, length-revs_in}
+use Rattle.proof_words.proofs.{◌≡◌, ◌++◌, ◌∷◌, [], None, length, take, slice_get, sym, ap, ◌∙◌, subst, rules, take-append_seam}
+use Rattle.rev_tree.specs.{index_for, place_of, revs_in, tree_of, with_rev}
+use Rattle.rev_tree.proofs.{slice_get-last, IsAdded, added, new_node, length-revs_in}
 use Rattle.rev_tree.proofs.nodes.Nodes.push.Goals as goal
 use Rattle.rev_tree.proofs.nodes.Nodes.push.Goals.{After-index_rest}
 

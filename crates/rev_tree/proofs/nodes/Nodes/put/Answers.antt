@@ -1,9 +1,6 @@
-use Rattle.std.proofs.Common.{◌≡◌, ◌<◌, length, sym, ap, ◌∙◌, subst, rules}
-use Rattle.std.proofs.lemmas.List.{nil_from_length}
-use Rattle.rev_tree.specs.Nodes.{revs_in, tree_of}
-use Rattle.rev_tree.specs.Steps.{AddsHead}
-use Rattle.rev_tree.proofs.Putting.{standing}
-use Rattle.rev_tree.proofs.Winning.{adds_head, first_put, led_winner, some_head, first_at}
+use Rattle.proof_words.proofs.{◌≡◌, ◌<◌, length, sym, ap, ◌∙◌, subst, rules, nil_from_length}
+use Rattle.rev_tree.specs.{revs_in, tree_of, AddsHead}
+use Rattle.rev_tree.proofs.{standing, adds_head, first_put, led_winner, some_head, first_at}
 use Rattle.rev_tree.proofs.nodes.Nodes.put.Goals as goal
 
 pub winner_after-requires-clause-before : goal.winner_after-requires-clause-before

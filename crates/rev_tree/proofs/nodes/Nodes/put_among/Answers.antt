@@ -1,9 +1,7 @@
-use Rattle.std.proofs.Common.{◌≡◌, ℕ, ◌-◌, ◌<◌, Some, length, slice_get, sym, ap, ◌∙◌, arith}
-use Rattle.std.proofs.lemmas.Option.{slice_get-get_or}
-use Rattle.rev_core.specs.Rev.{RevId}
-use Rattle.rev_tree.specs.Nodes.{revs_in, tree_of}
-use Rattle.rev_tree.proofs.Places.{read_at}
-use Rattle.rev_tree.proofs.Putting.{child_at, put_start, put_next, put_end, room_for, standing}
+use Rattle.proof_words.proofs.{◌≡◌, ℕ, ◌-◌, ◌<◌, Some, length, slice_get, sym, ap, ◌∙◌, arith, slice_get-get_or}
+use Rattle.rev_core.specs.{RevId}
+use Rattle.rev_tree.specs.{revs_in, tree_of}
+use Rattle.rev_tree.proofs.{read_at, child_at, put_start, put_next, put_end, room_for, standing}
 use Rattle.rev_tree.proofs.nodes.Nodes.put_among.Goals as goal
 
 pub add-head-requires-clause-room : goal.add-head-requires-clause-room

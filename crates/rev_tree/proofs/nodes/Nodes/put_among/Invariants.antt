@@ -1,7 +1,7 @@
-use Rattle.std.proofs.Common.{◌≡◌, ℕ, Some, slice_get}
-use Rattle.rev_core.specs.Rev.{RevId}
-use Rattle.rev_tree.specs.Nodes.{revs_in, tree_of}
-use Rattle.rev_tree.proofs.Putting.{IsPut}
+use Rattle.proof_words.proofs.{◌≡◌, ℕ, Some, slice_get}
+use Rattle.rev_core.specs.{RevId}
+use Rattle.rev_tree.specs.{revs_in, tree_of}
+use Rattle.rev_tree.proofs.{IsPut}
 use Rattle.rev_tree.proofs.nodes.Nodes.put_among.Given as goal
 
 -- the head stands at its place, and each revision that was there at its own

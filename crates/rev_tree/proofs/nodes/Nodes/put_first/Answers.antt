@@ -1,8 +1,7 @@
-use Rattle.std.proofs.Common.{◌≡◌, ◌-◌, ◌<◌, ◌++◌, ◌∷◌, [], List, length, take, sym, ap, ◌∙◌, refl, arith}
-use Rattle.std.proofs.lemmas.List.{take_all, take_more}
-use Rattle.rev_core.specs.Rev.{RevId}
-use Rattle.rev_tree.specs.Nodes.{revs_in, tree_of}
-use Rattle.rev_tree.proofs.Putting.{child_at, next_unplaced, put_start, put_next, put_end, room_for, standing}
+use Rattle.proof_words.proofs.{◌≡◌, ◌-◌, ◌<◌, ◌++◌, ◌∷◌, [], List, length, take, sym, ap, ◌∙◌, refl, arith, take_all, take_more}
+use Rattle.rev_core.specs.{RevId}
+use Rattle.rev_tree.specs.{revs_in, tree_of}
+use Rattle.rev_tree.proofs.{child_at, next_unplaced, put_start, put_next, put_end, room_for, standing}
 use Rattle.rev_tree.proofs.nodes.Nodes.put_first.Goals as goal
 
 none_taken : (revs : List RevId) → [] ≡ take 0 revs

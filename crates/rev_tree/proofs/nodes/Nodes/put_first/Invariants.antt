@@ -1,6 +1,6 @@
-use Rattle.std.proofs.Common.{◌≡◌, take}
-use Rattle.rev_tree.specs.Nodes.{revs_in, tree_of}
-use Rattle.rev_tree.proofs.Putting.{IsPut}
+use Rattle.proof_words.proofs.{◌≡◌, take}
+use Rattle.rev_tree.specs.{revs_in, tree_of}
+use Rattle.rev_tree.proofs.{IsPut}
 use Rattle.rev_tree.proofs.nodes.Nodes.put_first.Given as goal
 
 -- the first revisions alone have nodes

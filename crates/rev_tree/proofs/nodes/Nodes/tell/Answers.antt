@@ -1,7 +1,5 @@
-use Rattle.std.proofs.Common.{◌<◌, Some, length, length-set, sym, ap, ◌∙◌, arith}
-use Rattle.rev_tree.proofs.Places.{none_of, read_at, rev_at_place}
-use Rattle.rev_tree.proofs.Walking.{step}
-use Rattle.rev_tree.proofs.Asking.{skip_step, told_more}
+use Rattle.proof_words.proofs.{◌<◌, Some, length, length-set, sym, ap, ◌∙◌, arith}
+use Rattle.rev_tree.proofs.{none_of, read_at, rev_at_place, step, skip_step, told_more}
 use Rattle.rev_tree.proofs.nodes.Nodes.tell.Goals as goal
 
 pub walk-preserved : goal.walk-preserved

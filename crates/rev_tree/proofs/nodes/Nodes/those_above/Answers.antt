@@ -1,13 +1,7 @@
-use Rattle.std.proofs.Common.{◌++◌, ◌∷◌, [], None, refl, sym, ap, ◌∙◌}
-use Rattle.std.proofs.lemmas.Bool.{false≢true}
-use Rattle.std.specs.List.{list_any}
-use Rattle.rev_core.specs.Ancestry.{is_among}
-use Rattle.rev_tree.specs.Nodes.{tree_of}
-use Rattle.rev_tree.specs.Walks.{is_above_one}
-use Rattle.rev_tree.proofs.Places.{place_known, place_unknown}
-use Rattle.rev_tree.proofs.Lookups.{has_is}
-use Rattle.rev_tree.proofs.Members.{item_among, kept_pass, kept_fail}
-use Rattle.rev_tree.proofs.Walking.{place_is}
+use Rattle.proof_words.proofs.{◌++◌, ◌∷◌, [], None, refl, sym, ap, ◌∙◌, false≢true, list_any}
+use Rattle.rev_core.specs.{is_among}
+use Rattle.rev_tree.specs.{tree_of, is_above_one}
+use Rattle.rev_tree.proofs.{place_known, place_unknown, has_is, item_among, kept_pass, kept_fail, place_is}
 use Rattle.rev_tree.proofs.nodes.Nodes.those_above.Goals as goal
 use Rattle.rev_tree.proofs.nodes.Nodes.those_above.Goals.{then-is_above+in_ok-push, else-is_above}
 

@@ -1,6 +1,5 @@
-use Rattle.std.proofs.Common.{◌≡◌, take, filter}
-use Rattle.rev_tree.specs.Nodes.{tree_of}
-use Rattle.rev_tree.specs.Walks.{is_above_one, IsTold}
+use Rattle.proof_words.proofs.{◌≡◌, take, filter}
+use Rattle.rev_tree.specs.{tree_of, is_above_one, IsTold}
 use Rattle.rev_tree.proofs.nodes.Nodes.those_above.Given as goal
 
 -- of the leaves so far, those above one of the revisions

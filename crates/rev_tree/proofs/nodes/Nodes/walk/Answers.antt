@@ -1,7 +1,6 @@
-use Rattle.std.proofs.Common.{◌++◌, ◌∷◌, [], sym, ap, ◌∙◌}
-use Rattle.std.proofs.lemmas.List.{append_assoc}
-use Rattle.rev_tree.specs.Walks.{ancestors_at}
-use Rattle.rev_tree.proofs.Walking.{step, last}
+use Rattle.proof_words.proofs.{◌++◌, ◌∷◌, [], sym, ap, ◌∙◌, append_assoc}
+use Rattle.rev_tree.specs.{ancestors_at}
+use Rattle.rev_tree.proofs.{step, last}
 use Rattle.rev_tree.proofs.nodes.Nodes.walk.Goals as goal
 
 pub walk-preserved : goal.walk-preserved

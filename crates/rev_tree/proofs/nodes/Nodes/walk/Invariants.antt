@@ -1,6 +1,6 @@
-use Rattle.std.proofs.Common.{◌≡◌, ◌++◌, ◌<◌, length}
-use Rattle.rev_tree.specs.Walks.{ancestors_at}
-use Rattle.rev_tree.proofs.Walking.{generation_at}
+use Rattle.proof_words.proofs.{◌≡◌, ◌++◌, ◌<◌, length}
+use Rattle.rev_tree.specs.{ancestors_at}
+use Rattle.rev_tree.proofs.{generation_at}
 use Rattle.rev_tree.proofs.nodes.Nodes.walk.Given as goal
 
 -- the walk so far, and the rest of it

@@ -1,7 +1,4 @@
-use Rattle.std.proofs.Common.{[], sym, ◌∙◌}
-use Rattle.std.specs.Prelude.{nat_eq}
-use Rattle.std.specs.Map.{lookup}
-use Rattle.std.specs.Option.{option_map_or}
+use Rattle.proof_words.proofs.{[], sym, ◌∙◌, nat_eq, lookup, option_map_or}
 use Rattle.rev_tree.proofs.place_index.Places.get.Goals as goal
 
 pub returns-in-Some : goal.returns-in-Some

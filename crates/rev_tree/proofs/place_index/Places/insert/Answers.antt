@@ -1,7 +1,4 @@
-use Rattle.std.proofs.Common.{◌≡◌, ◌++◌, ◌∷◌, [], ap, ◌∙◌}
-use Rattle.std.specs.Prelude.{nat_eq}
-use Rattle.std.specs.Map.{lookup}
-use Rattle.std.specs.Option.{option_map_or}
+use Rattle.proof_words.proofs.{◌≡◌, ◌++◌, ◌∷◌, [], ap, ◌∙◌, nat_eq, lookup, option_map_or}
 use Rattle.indexmap.proofs.CallerLemmas.{insert_entry-new}
 use Rattle.rev_tree.proofs.place_index.Places.insert.Goals as goal
 

@@ -1,8 +1,5 @@
-use Rattle.std.proofs.Common.{slice_get, sym, ap, ◌∙◌}
-use Rattle.std.proofs.lemmas.Bool.{false≢true}
-use Rattle.rev_tree.proofs.Places.{place_unknown}
-use Rattle.rev_tree.proofs.Lookups.{has_is}
-use Rattle.rev_tree.proofs.Walking.{place_is}
+use Rattle.proof_words.proofs.{slice_get, sym, ap, ◌∙◌, false≢true}
+use Rattle.rev_tree.proofs.{place_unknown, has_is, place_is}
 use Rattle.rev_tree.proofs.tree.Tree.ancestor.Goals as goal
 
 pub unreachable-requires : goal.unreachable-requires

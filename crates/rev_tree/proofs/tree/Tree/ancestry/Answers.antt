@@ -1,7 +1,5 @@
-use Rattle.std.proofs.Common.{Ok, sym, ap, ◌∙◌}
-use Rattle.std.proofs.lemmas.Bool.{cond-true, cond-false}
-use Rattle.std.proofs.lemmas.Result.{err_from_is_err_and}
-use Rattle.rev_tree.proofs.Lookups.{ok_known}
+use Rattle.proof_words.proofs.{Ok, sym, ap, ◌∙◌, cond-true, cond-false, err_from_is_err_and}
+use Rattle.rev_tree.proofs.{ok_known}
 use Rattle.rev_tree.proofs.tree.Tree.ancestry.Goals as goal
 
 pub returns-then-not-has : goal.returns-then-not-has

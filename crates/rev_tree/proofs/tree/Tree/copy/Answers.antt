@@ -1,5 +1,5 @@
-use Rattle.std.proofs.Common.{sym, subst}
-use Rattle.rev_tree.specs.Nodes.{IsLed}
+use Rattle.proof_words.proofs.{sym, subst}
+use Rattle.rev_tree.specs.{IsLed}
 use Rattle.rev_tree.proofs.tree.Tree.copy.Goals as goal
 
 pub invariant_of-result : goal.invariant_of-result

@@ -1,6 +1,5 @@
-use Rattle.std.proofs.Common.{Some, None, not, sym, ap, ◌∙◌}
-use Rattle.std.specs.Option.{option_copied}
-use Rattle.rev_tree.proofs.Lookups.{leaf_is}
+use Rattle.proof_words.proofs.{Some, None, not, sym, ap, ◌∙◌, option_copied}
+use Rattle.rev_tree.proofs.{leaf_is}
 use Rattle.rev_tree.proofs.tree.Tree.is_leaf.Goals as goal
 
 pub returns : goal.returns

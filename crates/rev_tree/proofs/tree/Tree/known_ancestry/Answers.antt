@@ -1,11 +1,7 @@
-use Rattle.std.proofs.Common.{sym, ◌∙◌, subst}
-use Rattle.std.proofs.lemmas.Bool.{false≢true}
-use Rattle.rev_core.specs.Ancestry.{IsAncestry}
-use Rattle.rev_tree.specs.Tree.{IsTree}
-use Rattle.rev_tree.specs.LeafLaws.{IsAncestry-ancestors}
-use Rattle.rev_tree.proofs.Places.{place_unknown}
-use Rattle.rev_tree.proofs.Lookups.{has_is}
-use Rattle.rev_tree.proofs.Walking.{place_is}
+use Rattle.proof_words.proofs.{sym, ◌∙◌, subst, false≢true}
+use Rattle.rev_core.specs.{IsAncestry}
+use Rattle.rev_tree.specs.{IsTree, IsAncestry-ancestors}
+use Rattle.rev_tree.proofs.{place_unknown, has_is, place_is}
 use Rattle.rev_tree.proofs.tree.Tree.known_ancestry.Goals as goal
 
 pub unreachable-requires : goal.unreachable-requires

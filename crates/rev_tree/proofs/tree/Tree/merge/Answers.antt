@@ -1,7 +1,6 @@
-use Rattle.std.proofs.Common.{Ok, sym, ap, ◌∙◌}
-use Rattle.rev_tree.specs.TreeLaws.{merged-same}
-use Rattle.std.proofs.lemmas.Bool.{false≢true}
-use Rattle.rev_tree.proofs.Answering.{is_told_same, same_from_answer, changed_from_answer}
+use Rattle.proof_words.proofs.{Ok, sym, ap, ◌∙◌, false≢true}
+use Rattle.rev_tree.specs.{merged-same}
+use Rattle.rev_tree.proofs.{is_told_same, same_from_answer, changed_from_answer}
 use Rattle.rev_tree.proofs.tree.Tree.merge.Goals as goal
 
 pub returns-in-Ok-Same-clause-ok : goal.returns-in-Ok-Same-clause-ok

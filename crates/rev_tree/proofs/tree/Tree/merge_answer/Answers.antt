@@ -1,9 +1,7 @@
-use Rattle.std.proofs.Common.{is_some, sym, ap, ◌∙◌, subst}
-use Rattle.std.specs.List.{list_all}
-use Rattle.rev_core.specs.Ancestry.{edges_of}
-use Rattle.rev_tree.specs.Tree.{IsTree, has_edge, first_contradiction, is_same, answer_of}
-use Rattle.rev_tree.proofs.Lookups.{is_some-copied}
-use Rattle.rev_tree.proofs.Answering.{answer_known, answer_missed}
+use Rattle.proof_words.proofs.{is_some, sym, ap, ◌∙◌, subst, list_all}
+use Rattle.rev_core.specs.{edges_of}
+use Rattle.rev_tree.specs.{IsTree, has_edge, first_contradiction, is_same, answer_of}
+use Rattle.rev_tree.proofs.{is_some-copied, answer_known, answer_missed}
 use Rattle.rev_tree.proofs.tree.Tree.merge_answer.Goals as goal
 use Rattle.rev_tree.proofs.tree.Tree.merge_answer.Goals.{else-all-via-then-all+else-is_some, else-all-via-else-all}
 

@@ -1,9 +1,7 @@
-use Rattle.std.proofs.Common.{◌≡◌, sym, ap, ◌∙◌, subst}
-use Rattle.rev_core.specs.Ancestry.{IsAncestry, edges_of}
-use Rattle.rev_tree.specs.Tree.{TreeValue, IsTree, first_contradiction, merged}
-use Rattle.rev_tree.specs.TreeLaws.{IsTree-merged}
-use Rattle.rev_tree.specs.Nodes.{IsLed, tree_of}
-use Rattle.rev_tree.proofs.Answering.{none_from_answer}
+use Rattle.proof_words.proofs.{◌≡◌, sym, ap, ◌∙◌, subst}
+use Rattle.rev_core.specs.{IsAncestry, edges_of}
+use Rattle.rev_tree.specs.{TreeValue, IsTree, first_contradiction, merged, IsTree-merged, IsLed, tree_of}
+use Rattle.rev_tree.proofs.{none_from_answer}
 use Rattle.rev_tree.specs.declared.fault.Merged.TheVariants.{Changed}
 use Rattle.rev_tree.proofs.tree.Tree.merge_change.Goals as goal
 use Rattle.rev_tree.proofs.tree.Tree.merge_change.Goals.{After-self-1}

@@ -1,11 +1,7 @@
-use Rattle.std.proofs.Common.{◌≡◌, ◌<◌, ◌++◌, ◌∷◌, [], Option, Some, None, is_some, refl, cond, not, length, take, get_or, filter, sym, ap, ◌∙◌, subst}
-use Rattle.std.specs.Option.{option_copied, option_to_list}
-use Rattle.std.specs.Borrow.{Bor}
-use Rattle.std.proofs.lemmas.List.{take_all, append-nil}
-use Rattle.rev_core.specs.Rev.{RevId}
-use Rattle.rev_tree.specs.Tree.{is_leaf}
-use Rattle.rev_tree.specs.Nodes.{revs_in}
-use Rattle.rev_tree.proofs.Leaves.{leaf_item, leaves_pushed, none_there, second_leaf, lone_leaf}
+use Rattle.proof_words.proofs.{◌≡◌, ◌<◌, ◌++◌, ◌∷◌, [], Option, Some, None, is_some, refl, cond, not, length, take, get_or, filter, sym, ap, ◌∙◌, subst, option_copied, option_to_list, Bor, take_all, append-nil}
+use Rattle.rev_core.specs.{RevId}
+use Rattle.rev_tree.specs.{is_leaf, revs_in}
+use Rattle.rev_tree.proofs.{leaf_item, leaves_pushed, none_there, second_leaf, lone_leaf}
 use Rattle.rev_tree.proofs.tree.Tree.only_leaf.Goals as goal
 use Rattle.rev_tree.proofs.tree.Tree.only_leaf.Goals.{then-not-has_child+else-is_some, else-not-has_child}
 

@@ -1,7 +1,5 @@
-use Rattle.std.proofs.Common.{◌≡◌, take, filter}
-use Rattle.std.specs.Option.{option_copied, option_to_list}
-use Rattle.rev_tree.specs.Tree.{is_leaf}
-use Rattle.rev_tree.specs.Nodes.{revs_in}
+use Rattle.proof_words.proofs.{◌≡◌, take, filter, option_copied, option_to_list}
+use Rattle.rev_tree.specs.{is_leaf, revs_in}
 use Rattle.rev_tree.proofs.tree.Tree.only_leaf.Given as goal
 
 -- the leaves so far, of which there is one at most

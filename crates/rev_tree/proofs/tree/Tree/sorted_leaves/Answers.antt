@@ -1,13 +1,6 @@
-use Rattle.std.proofs.Common.{◌≡◌, ◌++◌, ◌∷◌, [], take, filter, map, cond, not, IfOk, sym, ap, ◌∙◌, subst, rules}
-use Rattle.std.proofs.lemmas.List.{take_all, append-nil, map-append}
-use Rattle.std.proofs.lemmas.Fn.{always_returns_same}
-use Rattle.std.proofs.lemmas.List.Sorted.{ranks_by}
-use Rattle.std.specs.Ordering.{is_lt}
-use Rattle.rev_tree.specs.Tree.{is_leaf}
-use Rattle.rev_tree.specs.declared.leaf.Leaf.{Leaf}
-use Rattle.rev_tree.specs.Nodes.{revs_in}
-use Rattle.rev_tree.proofs.Leaves.{leaf_item, deleted_item, leaves_pushed, leaves_of_nodes, count_once}
-use Rattle.rev_tree.proofs.Sorting.{told_deleted, pair_cmp, pair_cmp_total, told, leaves_in_order}
+use Rattle.proof_words.proofs.{◌≡◌, ◌++◌, ◌∷◌, [], take, filter, map, cond, not, IfOk, sym, ap, ◌∙◌, subst, rules, take_all, append-nil, map-append, always_returns_same, ranks_by, is_lt}
+use Rattle.rev_tree.specs.{is_leaf, Leaf, revs_in}
+use Rattle.rev_tree.proofs.{leaf_item, deleted_item, leaves_pushed, leaves_of_nodes, count_once, told_deleted, pair_cmp, pair_cmp_total, told, leaves_in_order}
 use Rattle.rev_tree.proofs.tree.Tree.sorted_leaves.Goals as goal
 use Rattle.rev_tree.proofs.tree.Tree.sorted_leaves.Goals.{then-not-has_child+in_ok-push, else-not-has_child}
 

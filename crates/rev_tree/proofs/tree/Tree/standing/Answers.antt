@@ -1,12 +1,7 @@
-use Rattle.std.proofs.Common.{Some, sym, ap, ◌∙◌, subst}
-use Rattle.std.proofs.lemmas.Option.{same_Some}
-use Rattle.rev_core.specs.Ancestry.{IsAncestry}
-use Rattle.rev_tree.specs.Tree.{IsTree}
-use Rattle.rev_tree.specs.LeafLaws.{IsAncestry-ancestors}
-use Rattle.rev_tree.specs.Node.{NodeValue}
-use Rattle.rev_tree.proofs.Places.{place_known, place_unknown}
-use Rattle.rev_tree.proofs.Lookups.{content_is, has_is}
-use Rattle.rev_tree.proofs.Walking.{place_is}
+use Rattle.proof_words.proofs.{Some, sym, ap, ◌∙◌, subst, same_Some}
+use Rattle.rev_core.specs.{IsAncestry}
+use Rattle.rev_tree.specs.{IsTree, IsAncestry-ancestors, NodeValue}
+use Rattle.rev_tree.proofs.{place_known, place_unknown, content_is, has_is, place_is}
 use Rattle.rev_tree.proofs.tree.Tree.standing.Goals as goal
 
 pub walk-requires-clause-within : goal.walk-requires-clause-within

@@ -1,12 +1,9 @@
-use Rattle.std.proofs.Common.{ℕ, List, ap, sym, ◌∙◌, string_bytes, subst}
+use Rattle.proof_words.proofs.{ℕ, List, ap, sym, ◌∙◌, string_bytes, subst}
 use Rattle.std.specs.FinMap.{insert}
-use Rattle.couch_base.specs.Database.{DatabaseValue}
+use Rattle.couch_base.specs.{DatabaseValue}
 use Rattle.script_databases.specs.AllTied.{AllTied}
-use Rattle.script_databases.specs.Databases.{State, peer_at, with_peer}
-use Rattle.script_databases.specs.Stored.{AllDeny, Entries, IsIndex, beside_of, denied_of, deny_of, peers_of, state_of}
-use Rattle.script_databases.proofs.IndexLemmas.{deny_added, index_added, state_with}
-use Rattle.script_databases.proofs.TableLemmas.{written}
-use Rattle.script_databases.proofs.ties.OneMore.{made_tied}
+use Rattle.script_databases.specs.{State, peer_at, with_peer, AllDeny, Entries, IsIndex, beside_of, denied_of, deny_of, peers_of, state_of}
+use Rattle.script_databases.proofs.{deny_added, index_added, state_with, written, made_tied}
 use Rattle.script_databases.proofs.databases.Databases.add.Goals as goal
 
 pub invariant_of-self : goal.invariant_of-self

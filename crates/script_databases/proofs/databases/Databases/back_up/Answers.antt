@@ -1,18 +1,9 @@
-use Rattle.std.proofs.Common.{◌≡◌, inl, inr, Bor, List, [], ◌∷◌, ◌++◌, Option, Some, None, is_some, Ok, Err, sym, ap, ◌∙◌}
-use Rattle.std.specs.Prelude.{option_map}
-use Rattle.std.specs.Option.{option_copied}
-use Rattle.rev_tree.proofs.Lookups.{is_some-copied}
-use Rattle.rev_tree.proofs.Places.{none_of}
-use Rattle.couch_base.specs.Database.{DatabaseValue}
-use Rattle.repl_peer.specs.peer.Peer.{PeerValue}
-use Rattle.repl_peer.specs.peer.Backups.{backup_answer}
-use Rattle.repl_peer.specs.declared.peer.filter.Rules.{Rules}
-use Rattle.script_databases.specs.Databases.{State, NamedBackupValue, peer_at, backup_among, backup_at, with_backup, backed_of, backed_answer, backed_told, backed_by}
-use Rattle.script_databases.specs.Refusals.{told_as, target_refusal}
-use Rattle.script_databases.specs.Stored.{beside_of, state_of}
-use Rattle.script_databases.proofs.IndexLemmas.{found_at}
-use Rattle.script_databases.proofs.BackupLemmas.{copy_refused, taken_refused}
-use Rattle.script_databases.proofs.ties.Calls.{backed_tied}
+use Rattle.proof_words.proofs.{◌≡◌, inl, inr, Bor, List, [], ◌∷◌, ◌++◌, Option, Some, None, is_some, Ok, Err, sym, ap, ◌∙◌, option_map, option_copied}
+use Rattle.rev_tree.proofs.{is_some-copied, none_of}
+use Rattle.couch_base.specs.{DatabaseValue}
+use Rattle.repl_peer.specs.{PeerValue, backup_answer, Rules}
+use Rattle.script_databases.specs.{State, NamedBackupValue, peer_at, backup_among, backup_at, with_backup, backed_of, backed_answer, backed_told, backed_by, told_as, target_refusal, beside_of, state_of}
+use Rattle.script_databases.proofs.{found_at, copy_refused, taken_refused, backed_tied}
 use Rattle.script_databases.proofs.databases.Databases.back_up.Goals as goal
 
 pub returns-in_default-clause-answer : goal.returns-in_default-clause-answer

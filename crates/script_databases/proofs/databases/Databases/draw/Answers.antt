@@ -1,5 +1,5 @@
-use Rattle.std.proofs.Common.{rules}
-use Rattle.script_databases.proofs.ties.Calls.{drawn_left}
+use Rattle.proof_words.proofs.{rules}
+use Rattle.script_databases.proofs.{drawn_left}
 use Rattle.script_databases.proofs.databases.Databases.draw.Goals as goal
 
 pub returns-clause-tied : goal.returns-clause-tied

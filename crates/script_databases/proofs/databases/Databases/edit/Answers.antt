@@ -1,16 +1,8 @@
-use Rattle.std.proofs.Common.{◌≡◌, Result, Ok, Err, inl, sym, ap, ◌∙◌, rules, subst}
-use Rattle.std.proofs.lemmas.Result.{err_from_is_err_and}
-use Rattle.couch_base.specs.Database.{DatabaseValue}
-use Rattle.repl_peer.specs.peer.Peer.{PeerValue}
-use Rattle.repl_peer.specs.peer.Writing.{after_edit}
-use Rattle.script_databases.specs.Databases.{State, edited_answer, edited_as, edited_at, peer_at}
-use Rattle.script_databases.specs.Refusals.{GivesOrMemory, base_refusal}
-use Rattle.script_databases.specs.declared.databases.Edited.{Edited}
-use Rattle.script_databases.specs.declared.refusal.Refusal.{Refusal}
-use Rattle.script_databases.specs.Stored.{beside_of, state_of}
-use Rattle.script_databases.proofs.IndexLemmas.{edit_keeps}
-use Rattle.script_databases.proofs.NamedLemmas.{edit_refused, on_err, peer_absent, peer_there, state_changed, state_stays, tables_stay}
-use Rattle.script_databases.proofs.ties.Calls.{edited_tied, unchanged_tied}
+use Rattle.proof_words.proofs.{◌≡◌, Result, Ok, Err, inl, sym, ap, ◌∙◌, rules, subst, err_from_is_err_and}
+use Rattle.couch_base.specs.{DatabaseValue}
+use Rattle.repl_peer.specs.{PeerValue, after_edit}
+use Rattle.script_databases.specs.{State, edited_answer, edited_as, edited_at, peer_at, GivesOrMemory, base_refusal, Edited, Refusal, beside_of, state_of}
+use Rattle.script_databases.proofs.{edit_keeps, edit_refused, on_err, peer_absent, peer_there, state_changed, state_stays, tables_stay, edited_tied, unchanged_tied}
 use Rattle.script_databases.proofs.databases.Databases.edit.Goals as goal
 
 pub returns-in_default-clause-answer : goal.returns-in_default-clause-answer

@@ -1,9 +1,7 @@
-use Rattle.std.proofs.Common.{ap, ◌∙◌, Option}
-use Rattle.std.specs.Prelude.{option_map}
-use Rattle.repl_peer.specs.peer.Peer.{PeerValue}
-use Rattle.repl_peer.specs.declared.peer.filter.Rules.{Rules}
-use Rattle.script_databases.specs.Stored.{beside_of}
-use Rattle.script_databases.proofs.IndexLemmas.{found_at}
+use Rattle.proof_words.proofs.{ap, ◌∙◌, Option, option_map}
+use Rattle.repl_peer.specs.{PeerValue, Rules}
+use Rattle.script_databases.specs.{beside_of}
+use Rattle.script_databases.proofs.{found_at}
 use Rattle.script_databases.proofs.databases.Databases.find.Goals as goal
 
 pub returns : goal.returns

@@ -1,7 +1,6 @@
-use Rattle.std.proofs.Common.{ap, sym, ◌∙◌}
-use Rattle.std.specs.FinMap.{contains_key}
-use Rattle.script_databases.specs.Databases.{State}
-use Rattle.script_databases.proofs.TableLemmas.{contains_key-by_text}
+use Rattle.proof_words.proofs.{ap, sym, ◌∙◌, contains_key}
+use Rattle.script_databases.specs.{State}
+use Rattle.script_databases.proofs.{contains_key-by_text}
 use Rattle.script_databases.proofs.databases.Databases.has.Goals as goal
 
 pub returns : goal.returns

@@ -1,13 +1,7 @@
-use Rattle.std.proofs.Common.{◌≡◌, Err, inl, sym, ap, ◌∙◌, rules, subst}
-use Rattle.std.proofs.lemmas.Result.{err_from_is_err_and}
-use Rattle.repl_peer.specs.peer.Peer.{PeerValue}
-use Rattle.repl_peer.specs.peer.Writing.{after_load}
-use Rattle.script_databases.specs.Databases.{State, load_answer, loaded_at, peer_at}
-use Rattle.script_databases.specs.Refusals.{GivesOrMemory, base_refusal, told_as}
-use Rattle.script_databases.specs.Stored.{beside_of, state_of}
-use Rattle.script_databases.proofs.IndexLemmas.{load_keeps}
-use Rattle.script_databases.proofs.NamedLemmas.{on_err, peer_absent, peer_there, put_refused, state_changed, state_stays, tables_stay}
-use Rattle.script_databases.proofs.ties.Calls.{loaded_tied, unchanged_tied}
+use Rattle.proof_words.proofs.{◌≡◌, Err, inl, sym, ap, ◌∙◌, rules, subst, err_from_is_err_and}
+use Rattle.repl_peer.specs.{PeerValue, after_load}
+use Rattle.script_databases.specs.{State, load_answer, loaded_at, peer_at, GivesOrMemory, base_refusal, told_as, beside_of, state_of}
+use Rattle.script_databases.proofs.{load_keeps, on_err, peer_absent, peer_there, put_refused, state_changed, state_stays, tables_stay, loaded_tied, unchanged_tied}
 use Rattle.script_databases.proofs.databases.Databases.load.Goals as goal
 
 pub returns-in_default-clause-answer : goal.returns-in_default-clause-answer

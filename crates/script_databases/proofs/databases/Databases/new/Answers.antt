@@ -1,7 +1,6 @@
-use Rattle.std.proofs.Common.{rules}
-use Rattle.script_databases.specs.Stored.{program_of}
-use Rattle.script_databases.proofs.IndexLemmas.{index_none, none_deny}
-use Rattle.script_databases.proofs.ties.Calls.{none_left}
+use Rattle.proof_words.proofs.{rules}
+use Rattle.script_databases.specs.{program_of}
+use Rattle.script_databases.proofs.{index_none, none_deny, none_left}
 use Rattle.script_databases.proofs.databases.Databases.new.Goals as goal
 
 pub invariant_of-result : goal.invariant_of-result

@@ -1,15 +1,8 @@
-use Rattle.std.proofs.Common.{◌≡◌, List, Ok, Err, inl, inr, refl, sym, ap, ◌∙◌, rules, subst}
-use Rattle.std.proofs.lemmas.Result.{err_from_is_err_and}
-use Rattle.std.specs.Option.{option_copied}
-use Rattle.couch_base.specs.Database.{DatabaseValue}
-use Rattle.repl_peer.specs.peer.Peer.{PeerValue}
-use Rattle.repl_peer.specs.peer.Backups.{restored, restored_by, after_restore, restore_answer}
-use Rattle.script_databases.specs.Databases.{NamedBackupValue, State, backup_among, backup_at, peer_at, put_back_answer, put_back_by, put_back_of}
-use Rattle.script_databases.specs.Refusals.{GivesOrMemory, target_refusal, told_as}
-use Rattle.script_databases.specs.Stored.{beside_of, state_of}
-use Rattle.script_databases.proofs.BackupLemmas.{copy_refused, restore_keeps}
-use Rattle.script_databases.proofs.NamedLemmas.{on_err, peer_absent, peer_there, state_changed, state_stays, tables_stay}
-use Rattle.script_databases.proofs.ties.Calls.{put_back_tied, unchanged_tied}
+use Rattle.proof_words.proofs.{◌≡◌, List, Ok, Err, inl, inr, refl, sym, ap, ◌∙◌, rules, subst, err_from_is_err_and, option_copied}
+use Rattle.couch_base.specs.{DatabaseValue}
+use Rattle.repl_peer.specs.{PeerValue, restored, restored_by, after_restore, restore_answer}
+use Rattle.script_databases.specs.{NamedBackupValue, State, backup_among, backup_at, peer_at, put_back_answer, put_back_by, put_back_of, GivesOrMemory, target_refusal, told_as, beside_of, state_of}
+use Rattle.script_databases.proofs.{copy_refused, restore_keeps, on_err, peer_absent, peer_there, state_changed, state_stays, tables_stay, put_back_tied, unchanged_tied}
 use Rattle.script_databases.proofs.databases.Databases.put_back.Goals as goal
 
 pub returns-in_default-clause-answer : goal.returns-in_default-clause-answer

@@ -1,13 +1,7 @@
-use Rattle.std.proofs.Common.{Err, sym, ap, subst, ◌∙◌}
-use Rattle.std.proofs.lemmas.Result.{err_from_is_err_and}
-use Rattle.std.specs.FinMap.{contains_key}
-use Rattle.repl_peer.specs.peer.Law.{LawfulSessions}
-use Rattle.repl_peer.specs.peer.Peer.{PeerValue}
-use Rattle.script_databases.specs.Databases.{State}
-use Rattle.script_databases.specs.Replications.{Nowhere, ReplicatesBetween, ReplicatesByPool}
-use Rattle.script_databases.specs.Stored.{beside_of, deny_of, peers_of, state_of}
-use Rattle.script_databases.proofs.ReplicationLemmas.{deny_left, has_source, has_target, index_left, refuses_is, run_denied, run_names, run_refused, state_left}
-use Rattle.script_databases.proofs.ties.Calls.{pool_between}
+use Rattle.proof_words.proofs.{Err, sym, ap, subst, ◌∙◌, err_from_is_err_and, contains_key}
+use Rattle.repl_peer.specs.{LawfulSessions, PeerValue}
+use Rattle.script_databases.specs.{State, Nowhere, ReplicatesBetween, ReplicatesByPool, beside_of, deny_of, peers_of, state_of}
+use Rattle.script_databases.proofs.{deny_left, has_source, has_target, index_left, refuses_is, run_denied, run_names, run_refused, state_left, pool_between}
 use Rattle.script_databases.proofs.databases.Databases.replicate.Goals as goal
 
 pub take_out-sender-requires-clause-two : goal.take_out-sender-requires-clause-two

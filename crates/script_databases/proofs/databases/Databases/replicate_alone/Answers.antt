@@ -1,14 +1,9 @@
-use Rattle.std.proofs.Common.{Err, sym, ap, subst, ◌∙◌}
-use Rattle.std.proofs.lemmas.Result.{err_from_is_err_and}
-use Rattle.std.specs.FinMap.{contains_key}
-use Rattle.repl_peer.specs.peer.Peer.{PeerValue}
-use Rattle.repl_target.specs.replication.Replication.{Replicates}
-use Rattle.repl_target.proofs.lemmas.replication.ReplicationAsCalls.{left_law, replicates_left}
-use Rattle.script_databases.specs.Databases.{State}
-use Rattle.script_databases.specs.Replications.{ReplicatesAlone, ReplicatesBetween}
-use Rattle.script_databases.specs.Stored.{beside_of, deny_of, peers_of, state_of}
-use Rattle.script_databases.proofs.ReplicationLemmas.{alone_refused, deny_left, has_source, has_target, index_left, plan_names, refuses_is, state_left}
-use Rattle.script_databases.proofs.ties.Calls.{alone_between}
+use Rattle.proof_words.proofs.{Err, sym, ap, subst, ◌∙◌, err_from_is_err_and, contains_key}
+use Rattle.repl_peer.specs.{PeerValue}
+use Rattle.repl_target.specs.{Replicates}
+use Rattle.repl_target.proofs.{left_law, replicates_left}
+use Rattle.script_databases.specs.{State, ReplicatesAlone, ReplicatesBetween, beside_of, deny_of, peers_of, state_of}
+use Rattle.script_databases.proofs.{alone_refused, deny_left, has_source, has_target, index_left, plan_names, refuses_is, state_left, alone_between}
 use Rattle.script_databases.proofs.databases.Databases.replicate_alone.Goals as goal
 
 pub take_out-sender-requires-clause-two : goal.take_out-sender-requires-clause-two

@@ -1,16 +1,8 @@
-use Rattle.std.proofs.Common.{Result, Err, inl, inr, refl, sym, ap, subst, ◌∙◌}
-use Rattle.std.proofs.lemmas.Result.{err_from_is_err_and}
-use Rattle.std.specs.FinMap.{contains_key}
-use Rattle.repl_peer.specs.peer.Law.{LawfulSessions}
-use Rattle.repl_peer.specs.peer.Peer.{PeerValue}
-use Rattle.repl_peer.specs.declared.fault.Report.{Report}
-use Rattle.repl_pool.specs.Runs.{RunsOn}
-use Rattle.repl_pool.specs.declared.fault.PoolFault.{PoolFault}
-use Rattle.script_databases.specs.Databases.{State}
-use Rattle.script_databases.specs.Replications.{Nowhere, ReplicatesBetween, ReplicatesWatched, deny_refuses}
-use Rattle.script_databases.specs.Stored.{beside_of, deny_of, peers_of, state_of}
-use Rattle.script_databases.proofs.ReplicationLemmas.{deny_left, has_source, has_target, index_left, refuses_is, run_denied, run_names, state_left, watched_refused}
-use Rattle.script_databases.proofs.ties.Calls.{watched_between}
+use Rattle.proof_words.proofs.{Result, Err, inl, inr, refl, sym, ap, subst, ◌∙◌, err_from_is_err_and, contains_key}
+use Rattle.repl_peer.specs.{LawfulSessions, PeerValue, Report}
+use Rattle.repl_pool.specs.{RunsOn, PoolFault}
+use Rattle.script_databases.specs.{State, Nowhere, ReplicatesBetween, ReplicatesWatched, deny_refuses, beside_of, deny_of, peers_of, state_of}
+use Rattle.script_databases.proofs.{deny_left, has_source, has_target, index_left, refuses_is, run_denied, run_names, state_left, watched_refused, watched_between}
 use Rattle.script_databases.proofs.databases.Databases.replicate_watched.Goals as goal
 
 pub take_out-sender-requires-clause-two : goal.take_out-sender-requires-clause-two

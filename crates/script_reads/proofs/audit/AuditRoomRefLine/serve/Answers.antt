@@ -1,11 +1,10 @@
-use Rattle.std.proofs.Common.{◌≡◌, Ok, Err, refl, sym, ap, ◌∙◌}
-use Rattle.std.proofs.lemmas.Option.{none-some}
-use Rattle.script_engine.specs.Serving.{in_full, gave_up}
+use Rattle.proof_words.proofs.{◌≡◌, Ok, Err, refl, sym, ap, ◌∙◌, none-some}
+use Rattle.script_engine.specs.{in_full, gave_up}
 use Rattle.script_databases.specs.declared.refusal.Refusal.TheVariants as why
-use Rattle.repl_target.specs.Audit.{audit_answer}
-use Rattle.script_reads.specs.Audit.{audit_asked, audit_text}
-use Rattle.script_reads.proofs.trust.Audit.{finds_none}
-use Rattle.script_rooms.proofs.TellingLemmas.{passes, stops, is_found, is_missing, reads, printed, unless_memory, handed_on, refused_memory}
+use Rattle.repl_target.specs.{audit_answer}
+use Rattle.script_reads.specs.{audit_asked, audit_text}
+use Rattle.script_reads.proofs.{finds_none}
+use Rattle.script_rooms.proofs.{passes, stops, is_found, is_missing, reads, printed, unless_memory, handed_on, refused_memory}
 use Rattle.script_reads.proofs.audit.AuditRoomRefLine.serve.Goals as goal
 
 pub returns-in_default : goal.returns-in_default

@@ -1,16 +1,11 @@
-use Rattle.std.proofs.Common.{Ok, Err, [], refl, sym, ap, ◌∙◌}
-use Rattle.std.specs.Prelude.{string_bytes}
-use Rattle.repl_peer.specs.peer.Peer.{PeerValue}
-use Rattle.script_engine.specs.Serving.{in_full}
-use Rattle.script_databases.specs.Databases.{peer_at}
+use Rattle.proof_words.proofs.{Ok, Err, [], refl, sym, ap, ◌∙◌, string_bytes}
+use Rattle.repl_peer.specs.{PeerValue}
+use Rattle.script_engine.specs.{in_full}
+use Rattle.script_databases.specs.{peer_at}
 use Rattle.script_databases.specs.declared.refusal.Refusal.TheVariants as why
-use Rattle.script_reads.specs.Walks.{left_in, holds_in}
-use Rattle.script_reads.specs.Compare.{compare_left}
-use Rattle.script_reads.specs.declared.feed.Walk.{Walk}
-use Rattle.script_reads.specs.declared.compare.CompareRest.{CompareRest}
-use Rattle.script_rooms.proofs.TellingLemmas.{passes, stops, is_found, is_missing, reads, unless_memory}
-use Rattle.script_reads.proofs.CompareLemmas.{Counted, compare_rest}
-use Rattle.script_reads.proofs.RestLemmas.{left_found, holds_found, handed_from, memory_from}
+use Rattle.script_reads.specs.{left_in, holds_in, compare_left, Walk, CompareRest}
+use Rattle.script_rooms.proofs.{passes, stops, is_found, is_missing, reads, unless_memory}
+use Rattle.script_reads.proofs.{Counted, compare_rest, left_found, holds_found, handed_from, memory_from}
 use Rattle.script_reads.proofs.compare.CompareLongRoomRefLine.begin.Goals as goal
 
 pub returns-in_default-clause-told : goal.returns-in_default-clause-told

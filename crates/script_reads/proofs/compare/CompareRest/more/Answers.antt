@@ -1,18 +1,12 @@
-use Rattle.std.proofs.Common.{◌≡◌, ◌++◌, ℕ, List, [], refl, sym, ap, subst, ◌∙◌, append-nil}
-use Rattle.std.specs.List.{flat_map}
-use Rattle.std.specs.Prelude.{string_bytes}
-use Rattle.doc_json.specs.Chosen.{Choice}
-use Rattle.couch_base.specs.Database.{DatabaseValue}
-use Rattle.couch_base.specs.Feed.{RowValue, chosen_feed}
-use Rattle.repl_peer.specs.peer.Peer.{PeerValue}
-use Rattle.repl_survey.specs.Comparisons.{comparisons}
-use Rattle.repl_survey.specs.Totals.{total_of}
-use Rattle.script_databases.specs.Databases.{peer_at}
-use Rattle.script_reads.specs.Walks.{left_in, holds_in, rows_left, rows_walked}
-use Rattle.script_reads.specs.Compare.{compared_line, compared_lines}
-use Rattle.script_reads.proofs.CompareLemmas.{Counted, compare_rest}
-use Rattle.script_reads.proofs.RestLemmas.{left_found, holds_found, held_found}
-use Rattle.script_rooms.proofs.TextLemmas.{piece_on, piece_last}
+use Rattle.proof_words.proofs.{◌≡◌, ◌++◌, ℕ, List, [], refl, sym, ap, subst, ◌∙◌, append-nil, flat_map, string_bytes}
+use Rattle.doc_json.specs.{Choice}
+use Rattle.couch_base.specs.{DatabaseValue, RowValue, chosen_feed}
+use Rattle.repl_peer.specs.{PeerValue}
+use Rattle.repl_survey.specs.{comparisons, total_of}
+use Rattle.script_databases.specs.{peer_at}
+use Rattle.script_reads.specs.{left_in, holds_in, rows_left, rows_walked, compared_line, compared_lines}
+use Rattle.script_reads.proofs.{Counted, compare_rest, left_found, holds_found, held_found}
+use Rattle.script_rooms.proofs.{piece_on, piece_last}
 use Rattle.script_reads.proofs.compare.CompareRest.more.Goals as goal
 
 pub returns-then-branch-clause-piece : goal.returns-then-branch-clause-piece

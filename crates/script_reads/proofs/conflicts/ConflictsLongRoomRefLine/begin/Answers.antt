@@ -1,18 +1,13 @@
-use Rattle.std.proofs.Common.{◌≡◌, Ok, Err, None, List, [], map, refl, sym, ap, ◌∙◌, ◌++◌}
-use Rattle.std.specs.List.{flat_map}
-use Rattle.couch_base.specs.Feed.{RowValue, feed, chosen_feed}
-use Rattle.doc_json.specs.Chosen.{Choice}
-use Rattle.couch_base.specs.Database.{tree_of}
-use Rattle.couch_base.specs.FeedLaws.{chosen-all}
-use Rattle.repl_peer.specs.peer.Peer.{PeerValue}
-use Rattle.repl_survey.specs.Censuses.{census_of, trees}
-use Rattle.script_engine.specs.Serving.{in_full}
+use Rattle.proof_words.proofs.{◌≡◌, Ok, Err, None, List, [], map, refl, sym, ap, ◌∙◌, ◌++◌, flat_map}
+use Rattle.couch_base.specs.{RowValue, feed, chosen_feed, tree_of, chosen-all}
+use Rattle.doc_json.specs.{Choice}
+use Rattle.repl_peer.specs.{PeerValue}
+use Rattle.repl_survey.specs.{census_of, trees}
+use Rattle.script_engine.specs.{in_full}
 use Rattle.script_databases.specs.declared.refusal.Refusal.TheVariants as why
-use Rattle.script_reads.specs.Walks.{rows_left}
-use Rattle.script_reads.specs.Conflicts.{conflict_line, conflicts_left, conflicts_line}
-use Rattle.script_reads.specs.declared.conflicts.ConflictsRest.{ConflictsRest}
-use Rattle.script_rooms.proofs.TellingLemmas.{passes, stops, is_found, is_missing, reads}
-use Rattle.script_reads.proofs.RestLemmas.{left_found, holds_found, memory_from}
+use Rattle.script_reads.specs.{rows_left, conflict_line, conflicts_left, conflicts_line, ConflictsRest}
+use Rattle.script_rooms.proofs.{passes, stops, is_found, is_missing, reads}
+use Rattle.script_reads.proofs.{left_found, holds_found, memory_from}
 use Rattle.script_reads.proofs.conflicts.ConflictsLongRoomRefLine.begin.Goals as goal
 
 pub returns-in_default-clause-told : goal.returns-in_default-clause-told

@@ -1,17 +1,12 @@
-use Rattle.std.proofs.Common.{◌≡◌, ◌++◌, ℕ, List, [], None, map, refl, sym, ap, subst, ◌∙◌, append-nil}
-use Rattle.std.specs.List.{flat_map}
-use Rattle.doc_json.specs.Chosen.{Choice}
-use Rattle.couch_base.specs.Database.{DatabaseValue, tree_of}
-use Rattle.couch_base.specs.Feed.{RowValue, chosen_feed}
-use Rattle.repl_peer.specs.peer.Peer.{PeerValue}
-use Rattle.repl_survey.specs.Censuses.{census_of, trees}
-use Rattle.repl_survey.specs.declared.census.Census.{Census}
-use Rattle.repl_survey.proofs.FeedTrees.{trees_all}
-use Rattle.script_reads.specs.Walks.{rows_left, rows_walked}
-use Rattle.script_reads.specs.Conflicts.{conflict_line, conflicts_line}
-use Rattle.script_reads.specs.declared.feed.Walk.{Walk}
-use Rattle.script_reads.proofs.RestLemmas.{left_found, holds_found, held_found}
-use Rattle.script_rooms.proofs.TextLemmas.{piece_on, piece_last}
+use Rattle.proof_words.proofs.{◌≡◌, ◌++◌, ℕ, List, [], None, map, refl, sym, ap, subst, ◌∙◌, append-nil, flat_map}
+use Rattle.doc_json.specs.{Choice}
+use Rattle.couch_base.specs.{DatabaseValue, tree_of, RowValue, chosen_feed}
+use Rattle.repl_peer.specs.{PeerValue}
+use Rattle.repl_survey.specs.{census_of, trees, Census}
+use Rattle.repl_survey.proofs.{trees_all}
+use Rattle.script_reads.specs.{rows_left, rows_walked, conflict_line, conflicts_line, Walk}
+use Rattle.script_reads.proofs.{left_found, holds_found, held_found}
+use Rattle.script_rooms.proofs.{piece_on, piece_last}
 use Rattle.script_reads.proofs.conflicts.ConflictsRest.more.Goals as goal
 
 abbrev conflicts_rest : DatabaseValue → Walk → List ℕ

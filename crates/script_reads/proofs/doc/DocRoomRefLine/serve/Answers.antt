@@ -1,12 +1,11 @@
-use Rattle.std.proofs.Common.{◌≡◌, List, ℕ, Option, Ok, Err, Some, None, refl, sym, ap, ◌∙◌}
-use Rattle.rev_core.specs.Rev.{RevId}
+use Rattle.proof_words.proofs.{◌≡◌, List, ℕ, Option, Ok, Err, Some, None, refl, sym, ap, ◌∙◌}
+use Rattle.rev_core.specs.{RevId}
 use Rattle.doc_json.specs.Document.{Document}
-use Rattle.couch_base.specs.Database.{DatabaseValue}
-use Rattle.couch_base.specs.Messages.{document_at}
-use Rattle.repl_peer.specs.peer.Peer.{PeerValue}
-use Rattle.script_engine.specs.Serving.{in_full, gave_up}
+use Rattle.couch_base.specs.{DatabaseValue, document_at}
+use Rattle.repl_peer.specs.{PeerValue}
+use Rattle.script_engine.specs.{in_full, gave_up}
 use Rattle.script_databases.specs.declared.refusal.Refusal.TheVariants as why
-use Rattle.script_rooms.proofs.TellingLemmas.{passes, stops, is_found, is_missing, reads, printed, unless_memory, tree_is, handed_on, refused_memory}
+use Rattle.script_rooms.proofs.{passes, stops, is_found, is_missing, reads, printed, unless_memory, tree_is, handed_on, refused_memory}
 use Rattle.script_reads.proofs.doc.DocRoomRefLine.serve.Goals as goal
 
 pub returns-in_default : goal.returns-in_default

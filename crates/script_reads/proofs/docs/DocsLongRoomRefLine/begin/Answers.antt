@@ -1,14 +1,11 @@
-use Rattle.std.proofs.Common.{Ok, Err, refl, sym, ap, ◌∙◌, ◌++◌}
-use Rattle.std.specs.List.{flat_map}
-use Rattle.repl_peer.specs.peer.Peer.{PeerValue}
-use Rattle.script_engine.specs.Serving.{in_full}
+use Rattle.proof_words.proofs.{Ok, Err, refl, sym, ap, ◌∙◌, ◌++◌, flat_map}
+use Rattle.repl_peer.specs.{PeerValue}
+use Rattle.script_engine.specs.{in_full}
 use Rattle.script_databases.specs.declared.refusal.Refusal.TheVariants as why
-use Rattle.script_rooms.specs.Texts.{last_line}
-use Rattle.script_reads.specs.Walks.{rows_left}
-use Rattle.script_reads.specs.Docs.{docs_left, leaf_lines}
-use Rattle.script_reads.specs.declared.docs.DocsRest.{DocsRest}
-use Rattle.script_rooms.proofs.TellingLemmas.{passes, stops, is_found, is_missing, reads, unless_memory}
-use Rattle.script_reads.proofs.RestLemmas.{left_found, handed_from, memory_from}
+use Rattle.script_rooms.specs.{last_line}
+use Rattle.script_reads.specs.{rows_left, docs_left, leaf_lines, DocsRest}
+use Rattle.script_rooms.proofs.{passes, stops, is_found, is_missing, reads, unless_memory}
+use Rattle.script_reads.proofs.{left_found, handed_from, memory_from}
 use Rattle.script_reads.proofs.docs.DocsLongRoomRefLine.begin.Goals as goal
 
 pub returns-in_default-clause-told : goal.returns-in_default-clause-told

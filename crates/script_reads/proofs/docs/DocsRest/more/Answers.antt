@@ -1,13 +1,10 @@
-use Rattle.std.proofs.Common.{◌≡◌, ◌++◌, ℕ, List, [], refl, sym, ap, subst, ◌∙◌}
-use Rattle.std.specs.List.{flat_map}
-use Rattle.couch_base.specs.Database.{DatabaseValue}
-use Rattle.repl_peer.specs.peer.Peer.{PeerValue}
-use Rattle.script_rooms.specs.Texts.{last_line}
-use Rattle.script_reads.specs.Walks.{rows_left}
-use Rattle.script_reads.specs.Docs.{leaf_lines}
-use Rattle.script_reads.specs.declared.feed.Walk.{Walk}
-use Rattle.script_reads.proofs.RestLemmas.{left_found}
-use Rattle.script_rooms.proofs.TextLemmas.{piece_on, piece_last}
+use Rattle.proof_words.proofs.{◌≡◌, ◌++◌, ℕ, List, [], refl, sym, ap, subst, ◌∙◌, flat_map}
+use Rattle.couch_base.specs.{DatabaseValue}
+use Rattle.repl_peer.specs.{PeerValue}
+use Rattle.script_rooms.specs.{last_line}
+use Rattle.script_reads.specs.{rows_left, leaf_lines, Walk}
+use Rattle.script_reads.proofs.{left_found}
+use Rattle.script_rooms.proofs.{piece_on, piece_last}
 use Rattle.script_reads.proofs.docs.DocsRest.more.Goals as goal
 
 abbrev docs_rest : DatabaseValue → Walk → List ℕ

@@ -1,20 +1,15 @@
-use Rattle.std.proofs.Common.{◌≡◌, ◌⊎◌, inl, inr, ℕ, List, Result, Ok, Err, refl, sym, ap, ◌∙◌}
-use Rattle.doc_json.specs.Chosen.{Choice}
-use Rattle.repl_log.specs.Answers.{GivesUnlessMemory}
-use Rattle.repl_log.specs.Text.{log_text}
-use Rattle.repl_log.specs.declared.fault.LogFault.{LogFault}
+use Rattle.proof_words.proofs.{◌≡◌, ◌⊎◌, inl, inr, ℕ, List, Result, Ok, Err, refl, sym, ap, ◌∙◌}
+use Rattle.doc_json.specs.{Choice}
+use Rattle.repl_log.specs.{GivesUnlessMemory, log_text, LogFault, EntryValue}
 use Rattle.repl_log.specs.declared.fault.LogFault.TheVariants as faults
 use Rattle.repl_log.specs.declared.replication.RepId.{RepId}
-use Rattle.repl_log.specs.Entry.{EntryValue}
-use Rattle.repl_peer.specs.peer.Peer.{PeerValue}
-use Rattle.repl_peer.specs.logs.Checkpoint.{rep_between}
-use Rattle.script_engine.specs.Serving.{in_full, gave_up}
-use Rattle.script_databases.specs.Refusals.{told_as, log_refusal}
+use Rattle.repl_peer.specs.{PeerValue, rep_between}
+use Rattle.script_engine.specs.{in_full, gave_up}
+use Rattle.script_databases.specs.{told_as, log_refusal}
 use Rattle.script_databases.specs.declared.refusal.Refusal.TheVariants as why
-use Rattle.script_rooms.specs.Texts.{ended}
-use Rattle.script_reads.specs.Log.{log_held}
-use Rattle.script_reads.specs.declared.log.Side.{Side}
-use Rattle.script_rooms.proofs.TellingLemmas.{passes, stops, is_found, is_missing, reads, printed, unless_memory, handed_on, refused_memory}
+use Rattle.script_rooms.specs.{ended}
+use Rattle.script_reads.specs.{log_held, Side}
+use Rattle.script_rooms.proofs.{passes, stops, is_found, is_missing, reads, printed, unless_memory, handed_on, refused_memory}
 use Rattle.script_reads.proofs.log.LogRoomRefLine.serve.Goals as goal
 
 pub returns-in_default : goal.returns-in_default

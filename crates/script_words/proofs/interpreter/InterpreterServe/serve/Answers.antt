@@ -1,11 +1,9 @@
-use Rattle.std.proofs.Common.{◌≤◌, length, subst, sym}
-use Rattle.std.specs.Prelude.{Ok, Err}
-use Rattle.script_engine.specs.Serving.{MayTell, text_with}
-use Rattle.script_databases.specs.Databases.{State}
-use Rattle.script_databases.specs.Refusals.{name_of}
-use Rattle.script_reads.specs.Rest.{rest_left}
-use Rattle.script_words.specs.Script.{LinesAnswer}
-use Rattle.script_words.proofs.InterpreterLemmas.{name_short}
+use Rattle.proof_words.proofs.{◌≤◌, length, subst, sym, Ok, Err}
+use Rattle.script_engine.specs.{MayTell, text_with}
+use Rattle.script_databases.specs.{State, name_of}
+use Rattle.script_reads.specs.{rest_left}
+use Rattle.script_words.specs.{LinesAnswer}
+use Rattle.script_words.proofs.{name_short}
 use Rattle.script_words.proofs.interpreter.InterpreterServe.serve.Goals as goal
 
 pub returns-clause-told : goal.returns-clause-told

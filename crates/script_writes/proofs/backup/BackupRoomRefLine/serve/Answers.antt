@@ -1,10 +1,9 @@
-use Rattle.std.proofs.Common.{◌≡◌, ℕ, List, Result, Ok, Err, refl, sym, ap, ◌∙◌}
-use Rattle.repl_peer.specs.peer.Backups.{BackupValue}
-use Rattle.script_engine.specs.Serving.{in_full, served_only}
-use Rattle.script_databases.specs.Databases.{State, backed_answer, backed_told, backed_by}
-use Rattle.script_databases.specs.declared.refusal.Refusal.{Refusal}
-use Rattle.script_writes.specs.Backup.{BackupAsk, backup_asked, backup_done, backed_line}
-use Rattle.script_rooms.proofs.TellingLemmas.{passes, stops, does, does_nothing, both, printed, unless_memory, handed_on, refused_memory}
+use Rattle.proof_words.proofs.{◌≡◌, ℕ, List, Result, Ok, Err, refl, sym, ap, ◌∙◌}
+use Rattle.repl_peer.specs.{BackupValue}
+use Rattle.script_engine.specs.{in_full, served_only}
+use Rattle.script_databases.specs.{State, backed_answer, backed_told, backed_by, Refusal}
+use Rattle.script_writes.specs.{BackupAsk, backup_asked, backup_done, backed_line}
+use Rattle.script_rooms.proofs.{passes, stops, does, does_nothing, both, printed, unless_memory, handed_on, refused_memory}
 use Rattle.script_writes.proofs.backup.BackupRoomRefLine.serve.Goals as goal
 
 -- a copy that was kept

@@ -1,7 +1,6 @@
-use Rattle.std.proofs.Common.{◌≡◌, true, false, refl, ◌∙◌}
-use Rattle.std.proofs.lemmas.Str.Pattern.{starts_text}
-use Rattle.repl_peer.specs.peer.Rules.{rules_refuse}
-use Rattle.repl_peer.proofs.lemmas.peer.RulesTested.{refuses-tested}
+use Rattle.proof_words.proofs.{◌≡◌, true, false, refl, ◌∙◌, starts_text}
+use Rattle.repl_peer.specs.{rules_refuse}
+use Rattle.repl_peer.proofs.{refuses-tested}
 use Rattle.repl_peer.proofs.peer.filter.RulesWriteFilter.verdict.Goals as goal
 
 -- src/filter.rt:37:5

@@ -1,5 +1,5 @@
 -- `of` makes a value of no bytes, with the revisions that its clause names.
-use Rattle.std.proofs.Common.{List, [], ◌∷◌, ◌++◌, refl}
+use Rattle.proof_words.proofs.{List, [], ◌∷◌, ◌++◌, refl}
 use seplogic.Ra.Ura.{Ura}
 use mir.Syntax.{Fn}
 use mir.Val.{Val, vptr, vstruct, vnil}
@@ -26,7 +26,7 @@ use denote.Triple.Entry.{alive}
 use denote.Triple.Spec.{Meets, triple_of}
 use denote.Triple.Table.{entered}
 use denote.Triple.Walked.{says, Stays, stay_dropped, walk_of, ends_at, walk_Meets, Goes-dropped}
-use Rattle.repl_peer.specs.peer.Came.{came_revs}
+use Rattle.repl_peer.specs.{came_revs}
 use Rattle.repl_peer.specs.contracts.peer.ghost_revs.GhostRevs as GhostRevs
 use Rattle.repl_peer.specs.contracts.peer.ghost_revs.Came as Came
 use Rattle.repl_peer.specs.contracts.peer.ghost_revs.GhostRevs.of as F

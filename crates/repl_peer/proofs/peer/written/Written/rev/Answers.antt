@@ -1,5 +1,5 @@
-use Rattle.std.proofs.Common.{sym, ◌∙◌}
-use Rattle.repl_peer.proofs.lemmas.peer.WritesStand.{next_stands, next_there}
+use Rattle.proof_words.proofs.{sym, ◌∙◌}
+use Rattle.repl_peer.proofs.{next_stands, next_there}
 use Rattle.repl_peer.proofs.peer.written.Written.rev.Goals as goal
 
 pub unreachable-requires : goal.unreachable-requires

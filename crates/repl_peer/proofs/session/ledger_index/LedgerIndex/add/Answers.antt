@@ -1,10 +1,7 @@
-use Rattle.std.proofs.Common.{sym, ap, ◌∙◌, ◌||◌, ◌≡◌, cond, Some, None}
-use Rattle.std.specs.Map.{lookup}
-use Rattle.std.specs.Option.{option_copied_mut}
-use Rattle.std.specs.Str.{bytes_eq}
-use Rattle.rev_core.specs.Ancestry.{is_among}
-use Rattle.couch_base.specs.Database.{Id}
-use Rattle.repl_peer.proofs.lemmas.session.AddedToLedgerIndex.{added_new}
+use Rattle.proof_words.proofs.{sym, ap, ◌∙◌, ◌||◌, ◌≡◌, cond, Some, None, lookup, option_copied_mut, bytes_eq}
+use Rattle.rev_core.specs.{is_among}
+use Rattle.couch_base.specs.{Id}
+use Rattle.repl_peer.proofs.{added_new}
 use Rattle.repl_peer.proofs.session.ledger_index.LedgerIndex.add.Goals as goal
 
 pub returns-in_ok-insert-in-None-clause-ok : goal.returns-in_ok-insert-in-None-clause-ok

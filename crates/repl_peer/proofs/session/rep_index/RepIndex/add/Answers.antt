@@ -1,10 +1,8 @@
-use Rattle.std.proofs.Common.{◌∷◌, [], ◌++◌, None, sym, ap, ◌∙◌, ◌≡◌, cond, Some}
-use Rattle.std.specs.Map.{lookup}
-use Rattle.std.specs.Option.{option_copied_mut, option_map_or}
-use Rattle.std.proofs.lemmas.Result.{err_from_is_err_and}
+use Rattle.proof_words.proofs.{◌∷◌, [], ◌++◌, None, sym, ap, ◌∙◌, ◌≡◌, cond, Some, lookup, option_copied_mut, option_map_or, err_from_is_err_and}
 use Rattle.repl_log.specs.declared.replication.RepId.{RepId}
-use Rattle.repl_log.specs.RepId.{same_rep}
-use Rattle.repl_peer.proofs.lemmas.session.AddedToRepIndex.{added_known, added_new, kept_known}
+use Rattle.repl_log.specs.{same_rep}
+use Rattle.repl_peer.proofs.lemmas.session.AddedToRepIndex.{added_new}
+use Rattle.repl_peer.proofs.{added_known, kept_known}
 use Rattle.repl_peer.proofs.session.rep_index.RepIndex.add.Goals as goal
 
 pub returns-in_err-push-in-Some-clause-err : goal.returns-in_err-push-in-Some-clause-err

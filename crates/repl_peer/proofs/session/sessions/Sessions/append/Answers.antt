@@ -1,11 +1,6 @@
-use Rattle.std.proofs.Common.{sym, ap, ◌∙◌, subst}
-use Rattle.std.specs.Option.{option_copied_mut}
-use Rattle.std.proofs.lemmas.Result.{on_ok_weaker, on_err_weaker}
-use Rattle.repl_peer.specs.peer.Peer.{SessionValue}
-use Rattle.repl_peer.specs.session.Sessions.{GivesUnlessMemory, append_in, with_window, found_answer}
-use Rattle.repl_peer.specs.session.StoredSessions.{sessions_of, AreListed, IsTableOf}
-use Rattle.repl_peer.proofs.lemmas.session.SessionTable.{appended_same, session_in-at, sessions_of-changed, sessions_of-same, Stored-same}
-use Rattle.repl_peer.proofs.lemmas.session.SessionIndex.{listed-set}
+use Rattle.proof_words.proofs.{sym, ap, ◌∙◌, subst, option_copied_mut, on_ok_weaker, on_err_weaker}
+use Rattle.repl_peer.specs.{SessionValue, GivesUnlessMemory, append_in, with_window, found_answer, sessions_of, AreListed, IsTableOf}
+use Rattle.repl_peer.proofs.{appended_same, session_in-at, sessions_of-changed, sessions_of-same, Stored-same, listed-set}
 use Rattle.repl_peer.proofs.session.sessions.Sessions.append.Goals as goal
 
 pub invariant_of-self-2 : goal.invariant_of-self-2

@@ -1,15 +1,11 @@
-use Rattle.std.proofs.Common.{◌∷◌, [], ◌++◌, cond, List, sym, ap, ap₂, ◌∙◌, subst}
+use Rattle.proof_words.proofs.{◌∷◌, [], ◌++◌, cond, List, sym, ap, ap₂, ◌∙◌, subst}
 use Rattle.indexmap.specs.IndexMap.{insert_entry}
 use Rattle.indexmap.proofs.CallerLemmas.{insert_entry-new}
-use Rattle.rev_tree.specs.declared.origin.SessionId.{SessionId}
+use Rattle.rev_tree.specs.{SessionId}
 use Rattle.repl_log.specs.declared.replication.RepId.{RepId}
-use Rattle.repl_log.specs.Stored.{at_session}
-use Rattle.repl_log.specs.RepId.{same_rep}
-use Rattle.repl_peer.specs.peer.Peer.{SessionValue, holds}
-use Rattle.repl_peer.specs.session.RepIndex.{listed}
-use Rattle.repl_peer.specs.session.StoredSessions.{sessions_of, AreListed, IsTableOf}
-use Rattle.repl_peer.proofs.lemmas.session.SessionIndex.{AreListed-new, AreListed-same}
-use Rattle.repl_peer.proofs.lemmas.session.SessionTable.{absent-not_held, begin_in-new, sessions_of-new, Stored-new}
+use Rattle.repl_log.specs.{at_session, same_rep}
+use Rattle.repl_peer.specs.{SessionValue, holds, listed, sessions_of, AreListed, IsTableOf}
+use Rattle.repl_peer.proofs.{AreListed-new, AreListed-same, absent-not_held, begin_in-new, sessions_of-new, Stored-new}
 use Rattle.repl_peer.proofs.session.sessions.Sessions.begin.Goals as goal
 
 pub invariant_of-self : goal.invariant_of-self

@@ -1,7 +1,6 @@
-use Rattle.std.proofs.Common.{List, sym, ap, ◌∙◌}
-use Rattle.std.proofs.lemmas.Result.{err_from_is_err_and}
-use Rattle.repl_peer.specs.peer.Peer.{SessionValue, holds}
-use Rattle.repl_peer.proofs.lemmas.session.SessionTable.{holds-lookup, begin_in-exists, begin_in-no_base, begin_in-above, begin_in-below, begin_in-ok}
+use Rattle.proof_words.proofs.{List, sym, ap, ◌∙◌, err_from_is_err_and}
+use Rattle.repl_peer.specs.{SessionValue, holds}
+use Rattle.repl_peer.proofs.{holds-lookup, begin_in-exists, begin_in-no_base, begin_in-above, begin_in-below, begin_in-ok}
 use Rattle.repl_peer.proofs.session.sessions.Sessions.check_new.Goals as goal
 
 pub returns-then-contains_key : goal.returns-then-contains_key

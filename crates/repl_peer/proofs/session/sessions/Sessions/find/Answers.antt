@@ -1,5 +1,5 @@
-use Rattle.std.proofs.Common.{sym, ◌∙◌}
-use Rattle.repl_peer.proofs.lemmas.session.SessionTable.{session_in-lookup}
+use Rattle.proof_words.proofs.{sym, ◌∙◌}
+use Rattle.repl_peer.proofs.{session_in-lookup}
 use Rattle.repl_peer.proofs.session.sessions.Sessions.find.Goals as goal
 
 pub returns : goal.returns

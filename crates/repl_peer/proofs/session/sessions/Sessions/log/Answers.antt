@@ -1,10 +1,7 @@
-use Rattle.std.proofs.Common.{◌∙◌, sym, ap, arith, take_all}
-use Rattle.repl_log.specs.Entry.{value_of}
-use Rattle.repl_log.specs.RepId.{same_rep}
-use Rattle.repl_peer.specs.peer.Peer.{SessionValue}
-use Rattle.repl_peer.specs.session.StoredSessions.{sessions_of}
-use Rattle.repl_peer.specs.logs.Logs.{log_of}
-use Rattle.repl_peer.proofs.lemmas.logs.LogTables.{log_of-next, log_of-passed}
+use Rattle.proof_words.proofs.{◌∙◌, sym, ap, arith, take_all}
+use Rattle.repl_log.specs.{value_of, same_rep}
+use Rattle.repl_peer.specs.{SessionValue, sessions_of, log_of}
+use Rattle.repl_peer.proofs.{log_of-next, log_of-passed}
 use Rattle.repl_peer.proofs.session.sessions.Sessions.log.Goals as goal
 use Rattle.repl_peer.proofs.session.sessions.Sessions.log.Goals.{then-eq+in_ok-set, else-eq}
 

@@ -1,6 +1,5 @@
-use Rattle.std.proofs.Common.{◌≡◌, take}
-use Rattle.repl_peer.specs.session.StoredSessions.{sessions_of}
-use Rattle.repl_peer.specs.logs.Logs.{log_of}
+use Rattle.proof_words.proofs.{◌≡◌, take}
+use Rattle.repl_peer.specs.{sessions_of, log_of}
 use Rattle.repl_peer.proofs.session.sessions.Sessions.log.Given as goal
 
 -- what the sessions so far say

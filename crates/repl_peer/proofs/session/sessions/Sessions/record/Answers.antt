@@ -1,11 +1,7 @@
-use Rattle.std.proofs.Common.{Ok, sym, ap, ◌∙◌, subst}
-use Rattle.std.specs.Option.{option_copied_mut}
-use Rattle.range_front.specs.Front.{low_water}
-use Rattle.repl_peer.specs.peer.Peer.{SessionValue}
-use Rattle.repl_peer.specs.session.Sessions.{recorded_at, found_answer}
-use Rattle.repl_peer.specs.session.StoredSessions.{sessions_of, AreListed, IsTableOf}
-use Rattle.repl_peer.proofs.lemmas.session.SessionTable.{IsSame, session_in-at, sessions_of-changed, sessions_of-absent, Stored-same}
-use Rattle.repl_peer.proofs.lemmas.session.SessionIndex.{listed-set}
+use Rattle.proof_words.proofs.{Ok, sym, ap, ◌∙◌, subst, option_copied_mut}
+use Rattle.range_front.specs.{low_water}
+use Rattle.repl_peer.specs.{SessionValue, recorded_at, found_answer, sessions_of, AreListed, IsTableOf}
+use Rattle.repl_peer.proofs.{IsSame, session_in-at, sessions_of-changed, sessions_of-absent, Stored-same, listed-set}
 use Rattle.repl_peer.proofs.session.sessions.Sessions.record.Goals as goal
 
 pub invariant_of-self-2 : goal.invariant_of-self-2

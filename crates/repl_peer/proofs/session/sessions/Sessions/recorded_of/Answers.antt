@@ -1,10 +1,7 @@
-use Rattle.std.proofs.Common.{Ok, sym, ap, ◌∙◌}
-use Rattle.std.specs.Option.{option_copied}
-use Rattle.repl_log.specs.RepId.{same_rep}
-use Rattle.repl_peer.specs.peer.Peer.{SessionValue}
-use Rattle.repl_peer.specs.session.StoredSessions.{sessions_of}
-use Rattle.repl_peer.specs.session.SessionCalls.{recorded_by}
-use Rattle.repl_peer.proofs.lemmas.session.SessionTable.{recorded_by-found, recorded_by-other, recorded_by-at}
+use Rattle.proof_words.proofs.{Ok, sym, ap, ◌∙◌, option_copied}
+use Rattle.repl_log.specs.{same_rep}
+use Rattle.repl_peer.specs.{SessionValue, sessions_of, recorded_by}
+use Rattle.repl_peer.proofs.{recorded_by-found, recorded_by-other, recorded_by-at}
 use Rattle.repl_peer.proofs.session.sessions.Sessions.recorded_of.Goals as goal
 
 pub returns-then-eq : goal.returns-then-eq

@@ -1,15 +1,8 @@
-use Rattle.std.proofs.Common.{◌||◌, List, sym, ap, ◌∙◌, subst}
-use Rattle.std.specs.Option.{option_copied_mut}
-use Rattle.rev_tree.specs.Tree.{has}
-use Rattle.couch_base.specs.Database.{tree_of}
-use Rattle.repl_peer.specs.peer.Peer.{PeerValue, SessionValue}
-use Rattle.repl_peer.specs.session.Settling.{Settling, SettleGives}
-use Rattle.repl_peer.specs.session.SettlingParts.{known_of, settling_at, with_parts}
-use Rattle.repl_peer.specs.session.StoredSessions.{sessions_of, AreListed, IsTableOf}
-use Rattle.repl_peer.specs.session.SessionCalls.{in_ledgers}
-use Rattle.repl_peer.proofs.lemmas.session.SettlingPeers.{settle_gives, settle_absent}
-use Rattle.repl_peer.proofs.lemmas.session.SessionTable.{session_in-at, with_session-same, sessions_of-set, Stored-more}
-use Rattle.repl_peer.proofs.lemmas.session.SessionIndex.{listed-set}
+use Rattle.proof_words.proofs.{◌||◌, List, sym, ap, ◌∙◌, subst, option_copied_mut}
+use Rattle.rev_tree.specs.{has}
+use Rattle.couch_base.specs.{tree_of}
+use Rattle.repl_peer.specs.{PeerValue, SessionValue, Settling, SettleGives, known_of, settling_at, with_parts, sessions_of, AreListed, IsTableOf, in_ledgers}
+use Rattle.repl_peer.proofs.{settle_gives, settle_absent, session_in-at, with_session-same, sessions_of-set, Stored-more, listed-set}
 use Rattle.repl_peer.proofs.session.sessions.Sessions.settle_session.Goals as goal
 
 pub invariant_of-self-2 : goal.invariant_of-self-2

@@ -1,17 +1,9 @@
-use Rattle.std.proofs.Common.{◌≡◌, ◌+◌, ◌-◌, Some, None, List, drop, length, get_or, min, sym, ap, ap₂, ◌∙◌, arith}
-use Rattle.std.specs.Map.{lookup}
-use Rattle.std.specs.Option.{option_copied}
-use Rattle.rev_tree.specs.declared.origin.SessionId.{SessionId}
-use Rattle.couch_base.specs.ListLaws.{none_some, some_is}
-use Rattle.repl_log.specs.LogLaws.{common-at, common-behind}
-use Rattle.repl_log.specs.Entry.{EntryValue}
-use Rattle.repl_log.specs.Log.{common, recorded_of}
-use Rattle.repl_log.specs.Stored.{at_session}
-use Rattle.repl_peer.specs.peer.Peer.{SessionValue}
-use Rattle.repl_peer.specs.session.StoredSessions.{sessions_of}
-use Rattle.repl_peer.specs.logs.Logs.{log_of}
-use Rattle.repl_peer.specs.session.RepIndex.{listed}
-use Rattle.repl_peer.proofs.lemmas.session.SessionIndex.{next-at, stands-at}
+use Rattle.proof_words.proofs.{◌≡◌, ◌+◌, ◌-◌, Some, None, List, drop, length, get_or, min, sym, ap, ap₂, ◌∙◌, arith, lookup, option_copied}
+use Rattle.rev_tree.specs.{SessionId}
+use Rattle.couch_base.specs.{none_some, some_is}
+use Rattle.repl_log.specs.{common-at, common-behind, EntryValue, common, recorded_of, at_session}
+use Rattle.repl_peer.specs.{SessionValue, sessions_of, log_of, listed}
+use Rattle.repl_peer.proofs.{next-at, stands-at}
 use Rattle.repl_peer.proofs.session.sessions.Sessions.shared_with.Goals as goal
 
 abbrev nobody : SessionId

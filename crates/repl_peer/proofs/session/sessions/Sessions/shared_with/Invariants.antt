@@ -1,9 +1,7 @@
 -- no session so far is shared: those behind decide
-use Rattle.std.proofs.Common.{◌≡◌, ◌≤◌, ◌-◌, drop, length}
-use Rattle.repl_log.specs.Log.{common}
-use Rattle.repl_peer.specs.session.StoredSessions.{sessions_of}
-use Rattle.repl_peer.specs.logs.Logs.{log_of}
-use Rattle.repl_peer.specs.session.RepIndex.{listed}
+use Rattle.proof_words.proofs.{◌≡◌, ◌≤◌, ◌-◌, drop, length}
+use Rattle.repl_log.specs.{common}
+use Rattle.repl_peer.specs.{sessions_of, log_of, listed}
 use Rattle.repl_peer.proofs.session.sessions.Sessions.shared_with.Given as goal
 
 abbrev pub invariant-loop-left : goal.invariant-loop-left

@@ -1,9 +1,7 @@
-use Rattle.std.proofs.Common.{◌≡◌, true, sym, ap, ◌∙◌}
-use Rattle.std.specs.List.{list_any}
-use Rattle.std.specs.Str.{bytes_eq}
-use Rattle.couch_base.specs.Feed.{RowValue, WindowValue}
-use Rattle.repl_peer.specs.session.Settling.{has_row}
-use Rattle.repl_peer.proofs.lemmas.session.RowsInTurn.{all_later}
+use Rattle.proof_words.proofs.{◌≡◌, true, sym, ap, ◌∙◌, list_any, bytes_eq}
+use Rattle.couch_base.specs.{RowValue, WindowValue}
+use Rattle.repl_peer.specs.{has_row}
+use Rattle.repl_peer.proofs.{all_later}
 use Rattle.repl_peer.proofs.session.window.DoneWindow.has_rows_of.Goals as goal
 
 pub loop-doc-preserved : goal.loop-doc-preserved

@@ -1,6 +1,5 @@
-use Rattle.std.proofs.Common.{◌≡◌, drop}
-use Rattle.std.specs.List.{list_all}
-use Rattle.repl_peer.specs.session.Settling.{has_row}
+use Rattle.proof_words.proofs.{◌≡◌, drop, list_all}
+use Rattle.repl_peer.specs.{has_row}
 use Rattle.repl_peer.proofs.session.window.DoneWindow.has_rows_of.Given as goal
 
 -- the others decide

@@ -1,6 +1,5 @@
-use Rattle.std.proofs.Common.{◌<◌, ◌≤◌, ◌++◌, length, Ok, refl, ap, ◌∙◌, inl, inr, arith}
-use Rattle.std.specs.Prelude.{codes, decimal}
-use Rattle.script_engine.specs.Serving.{in_full, gave_up}
+use Rattle.proof_words.proofs.{◌<◌, ◌≤◌, ◌++◌, length, Ok, refl, ap, ◌∙◌, inl, inr, arith, codes, decimal}
+use Rattle.script_engine.specs.{in_full, gave_up}
 use Rattle.script_tests.proofs.tests.engine.LengthsServe.serve.Goals as goal
 
 pub returns-then-line-gt40-clause-refused : goal.returns-then-line-gt40-clause-refused

@@ -1,6 +1,5 @@
-use Rattle.std.proofs.Common.{◌++◌, Ok, ap, ◌∙◌}
-use Rattle.std.specs.Prelude.{codes}
-use Rattle.script_engine.specs.Serving.{in_full, gave_up}
+use Rattle.proof_words.proofs.{◌++◌, Ok, ap, ◌∙◌, codes}
+use Rattle.script_engine.specs.{in_full, gave_up}
 use Rattle.script_tests.proofs.tests.pieces.EchoServe.serve.Goals as goal
 
 pub returns-in-Ok-clause-told : goal.returns-in-Ok-clause-told
