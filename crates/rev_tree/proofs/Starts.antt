@@ -1,10 +1,10 @@
 -- No nodes, and the tree of no revisions.
-use Rattle.proof_words.proofs.{[], sym, ap, ◌∙◌, is_some, refl, and_parts, false≢true, get-empty}
+use Rattle.proof_words.proofs.{[], sym, ap, ◌∙◌, is_some, refl, arith, and_parts, false≢true, get-empty}
 use Rattle.rev_core.specs.{rev_cmp}
 use Rattle.rev_tree.specs.{IsTree, has, no_revisions, IsIndexed}
 
 pub IsIndexed-none : IsIndexed [] []
-IsIndexed-none = record { index = refl; linked = record { once = tt; each = λ r n h. absurd (false≢true (ap is_some h)) } }
+IsIndexed-none = record { few = omega arith; index = refl; linked = record { once = tt; each = λ r n h. absurd (false≢true (ap is_some h)) } }
 
 pub IsTree-no_revisions : IsTree no_revisions
 IsTree-no_revisions = record {

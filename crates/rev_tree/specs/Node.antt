@@ -19,12 +19,17 @@ pub record NodeValue : Type 0 where
 
 -- what is kept in one place
 abbrev pub marks_of : Known → Marks
-marks_of (Bare marks) = marks
-marks_of (Full marks content) = marks
+marks_of (Bare marks counted) = marks
+marks_of (Full marks counted content) = marks
+
+-- the place of the parent, counted from 1, or 0
+abbrev pub counted_of : Known → ℕ
+counted_of (Bare marks counted) = counted
+counted_of (Full marks counted content) = counted
 
 abbrev pub content_of : Known → Option ContentValue
-content_of (Bare marks) = None
-content_of (Full marks content) = Some content
+content_of (Bare marks counted) = None
+content_of (Full marks counted content) = Some content
 
 -- a place or none, counted from 1
 abbrev pub parent_of : ℕ → Option ℕ

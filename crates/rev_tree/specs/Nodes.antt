@@ -1,5 +1,5 @@
 -- A tree as it is kept: nodes that name their parents by place, and an index of the places.
-use Rattle.std.specs.Prelude.{◌≡◌, ℕ, ◌+◌, ◌<◌, ◌≤◌, Bool, true, false, List, [], ◌∷◌, ◌++◌, map, length, Option, Some, None, slice_get, IfSome}
+use Rattle.std.specs.Prelude.{◌≡◌, ℕ, ◌+◌, ◌^◌, ◌<◌, ◌≤◌, Bool, true, false, List, [], ◌∷◌, ◌++◌, map, length, Option, Some, None, slice_get, IfSome}
 use Rattle.std.specs.FinMap as finmap
 use Rattle.std.specs.Option.{option_map_or}
 use Rattle.std.specs.Ordering.{is_lt, bool_cmp, ordering_then}
@@ -82,8 +82,9 @@ abbrev pub goes_before : NodeValue → Option NodeValue → Bool
 goes_before n None = true
 goes_before n (Some best) = is_lt (ordering_then (bool_cmp (deletes n) (deletes best)) (rev_cmp best.rev n.rev))
 
--- what holds of the nodes and the index of their places
+-- what holds of the nodes and the index of their places: a place, counted from 1, is a number of 32 bits
 pub record IsIndexed (nodes : List NodeValue) (entries : List (ℕ × ℕ)) : Type 0 where
+  pub few : length nodes < 2 ^ 32
   pub index : entries ≡ index_for (revs_in nodes)
   pub linked : IsLinked nodes
 
@@ -100,6 +101,7 @@ pub record NodesValue : Type 0 where
 
 -- there is room for so many nodes more, and for their places where they are then too many to be walked
 pub record HasRoom (v : NodesValue) (more : ℕ) : Type 0 where
+  pub few : length v.items + more < 2 ^ 32
   pub nodes : length v.items + more ≤ v.capacity
   pub places : HasIndexRoom (length v.items + more) v.index_capacity
 

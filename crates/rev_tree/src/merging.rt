@@ -97,7 +97,6 @@ impl Nodes {
     {
         if self.all().is_empty() {
             self.put_first(revs, content, origin);
-            self.give_back();
             0
         } else {
             let head = self.put_among(revs, content, origin);

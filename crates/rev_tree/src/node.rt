@@ -3,7 +3,7 @@ ghost use Rattle.std.specs.Prelude.{◌≡◌, ◌+◌, ◌<◌, ◌^◌, Some, 
 ghost use Rattle.std.specs.Option.{option_copied};
 ghost use Rattle.std.specs.Ordering.{eq_by_cmp};
 ghost use Rattle.rev_core.specs.Rev.{IsRev, rev_cmp};
-ghost use Rattle.rev_tree.specs.Node.{marks_of, content_of};
+ghost use Rattle.rev_tree.specs.Node.{counted_of, marks_of, content_of};
 
 use crate::content::Content;
 use crate::origin::{Origin, SessionId};
@@ -17,12 +17,11 @@ const HALF: u128 = 1 << 64;
 
 /// A revision, the place of its parent where one is known, where it came from, and what else a tree knows of it.
 ///
-/// There may be very many, so they are kept small. The parent's place is counted from 1, and 0 where none is known: an
-/// `Option` takes a word more. A session's number is kept in halves: a `u128` stands at multiples of 16 bytes.
+/// There may be very many, so they are kept small. A session's number is kept in halves: a `u128` stands at multiples of
+/// 16 bytes.
 #[derive(Drop)]
 pub(crate) struct Node {
     rev: Rev,
-    parent: usize,
     known: Known,
     session_high: u64,
     session_low: u64,
@@ -36,13 +35,14 @@ pub(crate) struct Marks {
     has_child: bool,
 }
 
-/// The marks of a node, and what stands at it where that is known.
+/// The marks of a node, the place of its parent, and what stands at it where that is known.
 ///
-/// They are one enum, since the marks lie in the room that its own tag leaves free.
+/// They are one enum, since marks and place lie in the room that its own tag leaves free. The place is counted from 1, and
+/// 0 where no parent is known.
 #[derive(Drop)]
 pub(crate) enum Known {
-    Bare(Marks),
-    Full(Marks, Content),
+    Bare(Marks, u32),
+    Full(Marks, u32, Content),
 }
 
 impl Known {
@@ -51,8 +51,18 @@ impl Known {
         ensures { result ≡ marks_of self.now }
     {
         match self {
-            Known::Bare(marks) => *marks,
-            Known::Full(marks, _) => *marks,
+            Known::Bare(marks, _) => *marks,
+            Known::Full(marks, _, _) => *marks,
+        }
+    }
+
+    /// The place of the parent, counted from 1, and 0 where none is known.
+    fn parent(&self) -> u32
+        ensures { result ≡ counted_of self.now }
+    {
+        match self {
+            Known::Bare(_, parent) => *parent,
+            Known::Full(_, parent, _) => *parent,
         }
     }
 
@@ -61,19 +71,32 @@ impl Known {
         ensures { option_copied result ≡ content_of self.now }
     {
         match self {
-            Known::Bare(_) => None,
-            Known::Full(_, content) => Some(content),
+            Known::Bare(_, _) => None,
+            Known::Full(_, _, content) => Some(content),
         }
     }
 
     /// Takes other marks.
     fn mark(&mut self, marks: Marks)
         ensures marks { marks_of self.new ≡ marks }
+        ensures parent { counted_of self.new ≡ counted_of self.old }
         ensures content { content_of self.new ≡ content_of self.old }
     {
         match self {
-            Known::Bare(old) => *old = marks,
-            Known::Full(old, _) => *old = marks,
+            Known::Bare(old, _) => *old = marks,
+            Known::Full(old, _, _) => *old = marks,
+        }
+    }
+
+    /// Takes another place of the parent, counted from 1.
+    fn name_parent(&mut self, parent: u32)
+        ensures marks { marks_of self.new ≡ marks_of self.old }
+        ensures parent { counted_of self.new ≡ parent }
+        ensures content { content_of self.new ≡ content_of self.old }
+    {
+        match self {
+            Known::Bare(_, old) => *old = parent,
+            Known::Full(_, old, _) => *old = parent,
         }
     }
 
@@ -82,23 +105,23 @@ impl Known {
         ensures { IfOk result (λ k. k ≡ self.now) }
     {
         match self {
-            Known::Bare(marks) => Ok(Known::Bare(*marks)),
-            Known::Full(marks, content) => {
+            Known::Bare(marks, parent) => Ok(Known::Bare(*marks, *parent)),
+            Known::Full(marks, parent, content) => {
                 let content = content.copy()?;
-                Ok(Known::Full(*marks, content))
+                Ok(Known::Full(*marks, *parent, content))
             }
         }
     }
 }
 
 impl Model for Node {
-    ghost use Rattle.rev_tree.specs.Node.{NodeValue, parent_of, origin_of, marks_of, content_of};
+    ghost use Rattle.rev_tree.specs.Node.{NodeValue, parent_of, origin_of, counted_of, marks_of, content_of};
 
     ghost Value = { NodeValue };
 
     ghost view = { λ n. record {
       rev = n.rev;
-      parent = parent_of n.parent;
+      parent = parent_of (counted_of n.known);
       content = content_of n.known;
       origin = origin_of (marks_of n.known).is_fed n.session_high n.session_low n.number;
       has_child = (marks_of n.known).has_child;
@@ -120,8 +143,7 @@ impl Node {
         };
         Node {
             rev,
-            parent: 0,
-            known: Known::Bare(marks),
+            known: Known::Bare(marks, 0),
             session_high: (session / HALF) as u64,
             session_low: (session % HALF) as u64,
             number,
@@ -157,7 +179,10 @@ impl Node {
     pub(crate) fn parent(&self) -> Option<usize>
         ensures { result ≡ self.now.parent }
     {
-        self.parent.checked_sub(1)
+        match self.known.parent() {
+            0 => None,
+            counted => Some(counted as usize - 1),
+        }
     }
 
     /// What stands at it, where that is known.
@@ -196,12 +221,12 @@ impl Node {
           has_child = self.old.has_child;
         } }
     {
-        self.known = Known::Full(self.known.marks(), content);
+        self.known = Known::Full(self.known.marks(), self.known.parent(), content);
     }
 
     /// Names its parent, by its place.
     pub(crate) fn name_parent(&mut self, place: usize)
-        requires { place + 1 < 2 ^ 64 }
+        requires { place + 1 < 2 ^ 32 }
         ensures { self.new ≡ record {
           rev = self.old.rev;
           parent = Some place;
@@ -210,7 +235,7 @@ impl Node {
           has_child = self.old.has_child;
         } }
     {
-        self.parent = place + 1;
+        self.known.name_parent(place as u32 + 1);
     }
 
     /// Marks it as the parent of another node.
@@ -237,7 +262,6 @@ impl Node {
         let known = self.known.copy()?;
         Ok(Node {
             rev: self.rev,
-            parent: self.parent,
             known,
             session_high: self.session_high,
             session_low: self.session_low,

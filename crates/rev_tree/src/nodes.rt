@@ -18,6 +18,9 @@ use std::marker::Model;
 /// The most nodes that are walked for a revision. From one more on an index has their places.
 pub(crate) const MOST_WALKED: usize = 8;
 
+/// The most nodes of a tree: the place of a parent, counted from 1, is kept in 32 bits.
+const MOST_NODES: usize = u32::MAX as usize;
+
 ghost use Rattle.rev_tree.specs.Index.{falls, index_for, mark_of, noted_from};
 ghost use Rattle.rev_tree.specs.Nodes.{Distinct, HasGained, HasRoom, IsLinked, node_of, place_of, revs_in, tree_of};
 
@@ -101,23 +104,27 @@ impl Nodes {
         walked_to(&self.list, rev)
     }
 
-    /// Makes room for the revisions of an ancestry, known ones too, and for no more where all together are few.
+    /// Makes room for the revisions of an ancestry, known ones too, and for no more where all together are few. For more
+    /// nodes than have places there is none.
     pub(crate) fn make_room(&mut self, revs: &[Rev]) -> Result<(), AllocError>
         ensures items { self.new.items ≡ self.old.items }
         ensures room { OnOk result (HasRoom self.new (length revs.now)) }
     {
         let all = self.list.as_slice().len() + revs.len();
+        if all > MOST_NODES {
+            return Err(AllocError);
+        }
         reserve_nodes(&mut self.list, revs)?;
         reserve_index(*self.list.allocator(), &mut self.places, all)
     }
 
-    /// Gives back the room in the index, where no place is in it.
+    /// Gives back the room that no node and no place takes, where they are few and it was made for many: an ancestry may
+    /// have brought known revisions.
     pub(crate) fn give_back(&mut self)
         ensures { self.new.items ≡ self.old.items }
     {
-        if self.places.is_empty() {
-            self.places = Places::new();
-        }
+        fit_nodes(&mut self.list);
+        fit_index(&mut self.places);
     }
 
     /// Puts a revision, which is new, with its origin at the end, and gives its place. There is room for it.
@@ -299,6 +306,24 @@ fn reserve_nodes(list: &mut Vec<Node>, revs: &[Rev]) -> Result<(), AllocError>
         list.reserve_exact(revs.len())
     } else {
         list.reserve(revs.len())
+    }
+}
+
+/// Gives back the room that no node takes, where the nodes are few and the room was made for many.
+fn fit_nodes(list: &mut Vec<Node>)
+    ensures { list.new.items ≡ list.old.items }
+{
+    if list.as_slice().len() <= MOST_WALKED && list.capacity() > MOST_WALKED {
+        list.shrink_to_fit();
+    }
+}
+
+/// Gives back the room in an index that has no place.
+fn fit_index(places: &mut Places)
+    ensures { places.new.entries ≡ places.old.entries }
+{
+    if places.is_empty() {
+        *places = Places::new();
     }
 }
 

@@ -363,6 +363,7 @@ impl Tree {
         let revs = ancestry.revs();
         self.nodes.make_room(revs)?;
         let best = self.nodes.put(self.best, revs, content, origin);
+        self.nodes.give_back();
         self.best = best;
         Ok(())
     }

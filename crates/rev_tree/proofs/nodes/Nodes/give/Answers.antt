@@ -1,4 +1,4 @@
-use Rattle.proof_words.proofs.{◌≡◌, ◌<◌, Some, is_some, not, set, length, slice_get, sym, ap, ◌∙◌, subst}
+use Rattle.proof_words.proofs.{◌≡◌, ◌<◌, Some, is_some, not, set, length, length-set, slice_get, sym, ap, ◌∙◌, subst, arith}
 use Rattle.rev_tree.specs.{index_for, NodeValue, revs_in, tree_of, with_content}
 use Rattle.rev_tree.proofs.{none_of, read_at, read_alike, is_some-copied, IsGiven, given, tree_has}
 use Rattle.rev_tree.proofs.nodes.Nodes.give.Goals as goal
@@ -14,7 +14,7 @@ gives c =
     given items c.args.place n c.give.new.self c.args.content c.self.invariant.linked (read_at items c.args.place n low c.index_mut.ensures.value) none c.give.ensures
 
 pub invariant_of-self : goal.invariant_of-self
-invariant_of-self c = record { index = c.self.invariant.index ∙ ap index_for (sym (gives c.before).revs); linked = (gives c.before).linked }
+invariant_of-self c = record { few = omega (arith, c.self.invariant.few, length-set c.self.inside.list.items c.args.place c.give.new.self); index = c.self.invariant.index ∙ ap index_for (sym (gives c.before).revs); linked = (gives c.before).linked }
 
 pub returns-then-is_none-clause-tree : goal.returns-then-is_none-clause-tree
 returns-then-is_none-clause-tree c r is = (gives c.before).tree r (ap (λ v. slice_get (revs_in v.items) c.args.place) c.self.view_is ∙ is) ∙ ap (λ v. with_content (tree_of v.items) r c.args.content) c.self.view_is

@@ -19,7 +19,14 @@ links c =
     c.mark.ensures
 
 pub invariant_of-self : goal.invariant_of-self
-invariant_of-self c = record { index = c.self.invariant.index ∙ ap index_for (sym (links c.before).revs); linked = (links c.before).linked }
+invariant_of-self c =
+    let items = c.self.inside.list.items in
+    let named = set items c.args.child c.name_parent.new.self in
+    record {
+      few = omega (arith, c.self.invariant.few, length-set items c.args.child c.name_parent.new.self, length-set named c.args.parent c.mark.new.self);
+      index = c.self.invariant.index ∙ ap index_for (sym (links c.before).revs);
+      linked = (links c.before).linked;
+    }
 
 pub returns-then-is_none-clause-tree : goal.returns-then-is_none-clause-tree
 returns-then-is_none-clause-tree c child parent is at =

@@ -20,7 +20,7 @@ index_rest-requires-clause-begun c =
     c.self.invariant.index ∙ ap (λ l. index_for (revs_in l)) (sym first)
 
 pub invariant_of-self : goal.invariant_of-self
-invariant_of-self c = record { index = c.index_rest.ensures.index ∙ ap (λ l. index_for (revs_in l)) c.deref.ensures.value; linked = (adds c).linked }
+invariant_of-self c = record { few = search rules; index = c.index_rest.ensures.index ∙ ap (λ l. index_for (revs_in l)) c.deref.ensures.value; linked = (adds c).linked }
 
 pub returns-clause-gained : goal.returns-clause-gained
 returns-clause-gained c =

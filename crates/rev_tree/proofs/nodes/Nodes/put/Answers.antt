@@ -1,5 +1,5 @@
 use Rattle.proof_words.proofs.{◌≡◌, ◌<◌, length, sym, ap, ◌∙◌, subst, rules, nil_from_length}
-use Rattle.rev_tree.specs.{revs_in, tree_of, AddsHead}
+use Rattle.rev_tree.specs.{tree_of, AddsHead}
 use Rattle.rev_tree.proofs.{standing, adds_head, first_put, led_winner, some_head, first_at}
 use Rattle.rev_tree.proofs.nodes.Nodes.put.Goals as goal
 
@@ -18,11 +18,8 @@ pub returns-then-is_empty-clause-best : goal.returns-then-is_empty-clause-best
 returns-then-is_empty-clause-best c =
     let empty : length c.all.result.now ≡ 0 = search rules in
     let none = nil_from_length c.args.self.now.items (ap length (sym c.all.ensures.items) ∙ empty) in
-    first_put c.args.self.now.items c.give_back.new.self.items c.args.revs.now c.args.content c.args.origin none c.requires.led.tree c.requires.ancestry c.requires.none
-    (ap tree_of c.give_back.ensures ∙ c.put_first.ensures.tree) (ap revs_in c.give_back.ensures ∙ c.put_first.ensures.revs)
-
-pub returns-then-is_empty-clause-tree : goal.returns-then-is_empty-clause-tree
-returns-then-is_empty-clause-tree c = ap tree_of c.give_back.ensures ∙ c.put_first.ensures.tree
+    first_put c.args.self.now.items c.put_first.new.self.items c.args.revs.now c.args.content c.args.origin none c.requires.led.tree c.requires.ancestry c.requires.none
+    c.put_first.ensures.tree c.put_first.ensures.revs
 
 pub returns-else-is_empty-clause-best : goal.returns-else-is_empty-clause-best
 returns-else-is_empty-clause-best c =

@@ -1,6 +1,6 @@
-use Rattle.proof_words.proofs.{◌≡◌, sym, ap, ◌∙◌, subst}
+use Rattle.proof_words.proofs.{◌≡◌, slice_get, sym, ap, ◌∙◌, subst}
 use Rattle.rev_core.specs.{IsAncestry, edges_of}
-use Rattle.rev_tree.specs.{TreeValue, IsTree, first_contradiction, merged, IsTree-merged, IsLed, tree_of}
+use Rattle.rev_tree.specs.{TreeValue, IsTree, first_contradiction, merged, IsTree-merged, IsLed, first_of, leaves, revs_in, tree_of}
 use Rattle.rev_tree.proofs.{none_from_answer}
 use Rattle.rev_tree.specs.declared.fault.Merged.TheVariants.{Changed}
 use Rattle.rev_tree.proofs.tree.Tree.merge_change.Goals as goal
@@ -19,14 +19,15 @@ put-best-requires-clause-none c =
     ∙ none_from_answer c.args.self.now c.args.ancestry.now Changed c.requires
 
 -- the nodes with the ancestry are the merged tree, which is a tree
-after : (c : After-self-1) → tree_of c.put-best.new.self.items ≡ merged c.args.self.now c.args.ancestry.now c.args.content c.args.origin
+after : (c : After-self-1) → tree_of c.give_back.new.self.items ≡ merged c.args.self.now c.args.ancestry.now c.args.content c.args.origin
 after c =
-    c.put-best.ensures.tree
+    ap tree_of c.give_back.ensures
+    ∙ c.put-best.ensures.tree
     ∙ ap (λ l. merged (tree_of l) c.revs-revs.result.now c.args.content c.args.origin) c.make_room.ensures.items
     ∙ ap (λ t. merged t c.revs-revs.result.now c.args.content c.args.origin) c.self.view_is
     ∙ ap (λ revs. merged c.args.self.now revs c.args.content c.args.origin) c.revs-revs.ensures.all
 
-lawful : (c : After-self-1) → IsTree (tree_of c.put-best.new.self.items)
+lawful : (c : After-self-1) → IsTree (tree_of c.give_back.new.self.items)
 lawful c =
     let t = c.args.self.now in
     let revs = c.args.ancestry.now in
@@ -35,7 +36,7 @@ lawful c =
     (none_from_answer t revs Changed c.requires))
 
 pub invariant_of-self-2 : goal.invariant_of-self-2
-invariant_of-self-2 c = record { tree = lawful c; first = c.put-best.ensures.best }
+invariant_of-self-2 c = record { tree = lawful c; first = subst (λ l. slice_get (revs_in l) c.put-best.result ≡ first_of (leaves (tree_of l))) (sym c.give_back.ensures) c.put-best.ensures.best }
 
 pub returns-clause-ok : goal.returns-clause-ok
 returns-clause-ok c = after c
