@@ -1,13 +1,6 @@
 -- ASCII, sixteen bytes at a time, of which the last may overlap those before.
-use Rattle.proof_words.proofs.{◌≡◌, ℕ, suc, [], ◌∷◌, ◌++◌, ◌+◌, ◌-◌, ◌<◌, ◌≤◌, ◌⊎◌, inl, inr, List, length, take, get_or, ap, subst, ◌∙◌, arith, IsAscii, IsAscii-cons, cases_order, get_or-take, get_or_past, get_or-chunk}
+use Rattle.proof_words.proofs.{◌≡◌, ℕ, [], ◌∷◌, ◌++◌, ◌+◌, ◌-◌, ◌<◌, ◌≤◌, ◌⊎◌, inl, inr, List, length, take, get_or, ap, subst, ◌∙◌, arith, IsAscii, cases_order, get_or_past, get_or-chunk, get_or-take}
 use lib.Lanes.{chunk}
-
-tail_of : (x : ℕ) (xs : List ℕ) → IsAscii (x ∷ xs) → IsAscii xs
-tail_of x xs h i = h (suc i)
-
-pub IsAscii-joined : (xs ys : List ℕ) → IsAscii xs → IsAscii ys → IsAscii (xs ++ ys)
-IsAscii-joined [] ys p q = q
-IsAscii-joined (x ∷ xs) ys p q = IsAscii-cons x (xs ++ ys) (p 0) (IsAscii-joined xs ys (tail_of x xs p) q)
 
 module _ (xs : List ℕ) (i s : ℕ) (over : s ≤ i) (ends : s + 16 ≡ length xs) (front : IsAscii (take i xs)) (back : IsAscii (chunk s 16 xs)) where
   in_front : (m : ℕ) → m < i → get_or xs m 0 < 128

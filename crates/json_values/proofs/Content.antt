@@ -1,18 +1,16 @@
 -- The steps of `content`, at a place of the text.
-use Rattle.proof_words.proofs.{◌≡◌, ℕ, suc, ◌+◌, ◌-◌, ◌<◌, ◌≤◌, Bool, true, false, not, ◌||◌, cond, ◌&&◌, ◌==◌, nat_lt, List, [], ◌∷◌, ◌++◌, length, take, drop, get_or, Option, Some, None, option_and_then, refl, sym, ap, ◌∙◌, arith, drop_more, append_assoc, drop-drop, drop_all, take-take, length-take-le, get_or-drop, length-drop, or_parts, not-true, eqb-true, true≢false, ne_eqb, lt-ltb, le-ltb, prefix_len, len_utf8}
+use Rattle.proof_words.proofs.{◌≡◌, ℕ, suc, ◌+◌, ◌-◌, ◌<◌, ◌≤◌, Bool, true, false, not, ◌||◌, cond, ◌&&◌, ◌==◌, nat_lt, List, [], ◌∷◌, ◌++◌, length, take, drop, get_or, Option, Some, None, option_and_then, refl, sym, ap, ◌∙◌, arith, drop_more, drop_all, or_parts, not-true, prefix_len, len_utf8, append_assoc, drop-drop, take-take, length-take-le, get_or-drop, length-drop, eqb-true, true≢false, ne_eqb, lt-ltb, le-ltb}
 use Rattle.std.specs.Char.{encode_utf8}
 use Rattle.json.specs.Text.{code_unit, short_escape, is_high_surrogate, is_low_surrogate, surrogate_pair, Within, plain, after_backslash, after_u, after_high, prepend, content}
 use Rattle.json.specs.Run.{is_plain}
 
 pub content-plain : (d : List ℕ) (i : ℕ) → i < length d → content plain (drop i d)
     ≡ cond (get_or d i 0 == 34) (Some []) (cond (get_or d i 0 == 92) (content after_backslash (drop (i + 1) d)) (cond (nat_lt (get_or d i 0) 32) None (prepend (get_or d i 0 ∷ []) (content plain (drop (i + 1) d)))))
-unfolding content
-content-plain d i h = ap (content plain) (drop_more d i 0 h)
+content-plain d i h = unfold content in ap (content plain) (drop_more d i 0 h)
 
 pub content-after_backslash : (d : List ℕ) (i : ℕ) → i < length d → content after_backslash (drop i d)
     ≡ cond (get_or d i 0 == 117) (content after_u (drop (i + 1) d)) (option_and_then (λ c. prepend (c ∷ []) (content plain (drop (i + 1) d))) (short_escape (get_or d i 0)))
-unfolding content
-content-after_backslash d i h = ap (content after_backslash) (drop_more d i 0 h)
+content-after_backslash d i h = unfold content in ap (content after_backslash) (drop_more d i 0 h)
 
 pub four : (d : List ℕ) (i : ℕ) → i + 4 ≤ length d → drop i d ≡ get_or d i 0 ∷ get_or d (i + 1) 0 ∷ get_or d (i + 2) 0 ∷ get_or d (i + 3) 0 ∷ drop (i + 4) d
 four d i h =
@@ -23,44 +21,29 @@ four d i h =
 pub content-after_u : (d : List ℕ) (i : ℕ) → i + 4 ≤ length d → content after_u (drop i d)
     ≡ option_and_then (λ u. cond (is_high_surrogate u) (content (after_high u) (drop (i + 4) d)) (cond (is_low_surrogate u) None (prepend (encode_utf8 u) (content plain (drop (i + 4) d)))))
     (code_unit (get_or d i 0) (get_or d (i + 1) 0) (get_or d (i + 2) 0) (get_or d (i + 3) 0))
-unfolding content
-content-after_u d i h = ap (content after_u) (four d i h)
+content-after_u d i h = unfold content in ap (content after_u) (four d i h)
 
 pub content-after_high : (d : List ℕ) (i high : ℕ) → i + 6 ≤ length d → content (after_high high) (drop i d)
     ≡ cond ((get_or d i 0 == 92) && (get_or d (i + 1) 0 == 117))
     (option_and_then (λ l. cond (is_low_surrogate l) (prepend (encode_utf8 (surrogate_pair high l)) (content plain (drop (i + 6) d))) None)
     (code_unit (get_or d (i + 2) 0) (get_or d (i + 2 + 1) 0) (get_or d (i + 2 + 2) 0) (get_or d (i + 2 + 3) 0))) None
-unfolding content
-content-after_high d i high h =
+content-after_high d i high h = unfold content in
     let two : i + 1 + 1 ≡ i + 2 = omega arith in
     let six : i + 2 + 4 ≡ i + 6 = omega arith in
     let last = four d (i + 2) (omega arith) ∙ ap (λ n. get_or d (i + 2) 0 ∷ get_or d (i + 2 + 1) 0 ∷ get_or d (i + 2 + 2) 0 ∷ get_or d (i + 2 + 3) 0 ∷ drop n d) six in
     ap (content (after_high high)) (drop_more d i 0 (omega arith) ∙ ap (λ l. get_or d i 0 ∷ l) (drop_more d (i + 1) 0 (omega arith) ∙ ap (λ l. get_or d (i + 1) 0 ∷ l) (ap (λ n. drop n d) two ∙ last)))
 
 pub content-nil : (w : Within) → content w [] ≡ None
-unfolding content
-content-nil plain = refl
-content-nil after_backslash = refl
-content-nil after_u = refl
-content-nil (after_high h) = refl
+content-nil plain = unfold content in refl
+content-nil _ = unfold content in refl
 
 pub short_after_u : (xs : List ℕ) → length xs < 4 → content after_u xs ≡ None
-unfolding content
-short_after_u [] h = refl
-short_after_u (a ∷ []) h = refl
-short_after_u (a ∷ b ∷ []) h = refl
-short_after_u (a ∷ b ∷ c ∷ []) h = refl
-short_after_u (a ∷ b ∷ c ∷ d ∷ xs) h = let no : ⊥ = omega arith in absurd no
+short_after_u (a ∷ b ∷ c ∷ d ∷ xs) h = unfold content in let no : ⊥ = omega arith in absurd no
+short_after_u _ h = unfold content in refl
 
 pub short_after_high : (high : ℕ) (xs : List ℕ) → length xs < 6 → content (after_high high) xs ≡ None
-unfolding content
-short_after_high high [] h = refl
-short_after_high high (s ∷ []) h = refl
-short_after_high high (s ∷ u ∷ []) h = refl
-short_after_high high (s ∷ u ∷ a ∷ []) h = refl
-short_after_high high (s ∷ u ∷ a ∷ b ∷ []) h = refl
-short_after_high high (s ∷ u ∷ a ∷ b ∷ c ∷ []) h = refl
-short_after_high high (s ∷ u ∷ a ∷ b ∷ c ∷ d ∷ xs) h = let no : ⊥ = omega arith in absurd no
+short_after_high high (s ∷ u ∷ a ∷ b ∷ c ∷ d ∷ xs) h = unfold content in let no : ⊥ = omega arith in absurd no
+short_after_high high _ h = unfold content in refl
 
 abbrev pub is_found : Option ℕ → Bool
 is_found None = false
@@ -80,9 +63,8 @@ prepend-nil (Some s) = refl
 
 run_byte : (p : Bool) (x n : ℕ) (xs : List ℕ) → p ≡ is_plain x → content plain xs ≡ prepend (take n xs) (content plain (drop n xs))
     → content plain (x ∷ xs) ≡ prepend (take (cond p (1 + n) 0) (x ∷ xs)) (content plain (drop (cond p (1 + n) 0) (x ∷ xs)))
-unfolding content
-run_byte false x n xs e ih = sym (prepend-nil _)
-run_byte true x n xs e ih =
+run_byte false x n xs e ih = unfold content in sym (prepend-nil _)
+run_byte true x n xs e ih = unfold content in
     let next : suc n ≡ 1 + n = omega arith in
     let none = or_parts ((x == 34) || (x == 92)) _ (not-true _ (sym e)) in
     let tests = or_parts (x == 34) _ none.0 in
@@ -104,12 +86,10 @@ module _ (d : List ℕ) (i stop : ℕ) (is : stop ≡ i + prefix_len is_plain (d
       ∙ ap (λ k. prepend (take k (drop i d)) (content plain (drop stop d))) n
 
 pub at_quote : (d : List ℕ) (i : ℕ) → i < length d → get_or d i 0 ≡ 34 → content plain (drop i d) ≡ Some []
-unfolding content
-at_quote d i h e = ap (content plain) (drop_more d i 0 h ∙ ap (λ x. x ∷ drop (i + 1) d) e)
+at_quote d i h e = unfold content in ap (content plain) (drop_more d i 0 h ∙ ap (λ x. x ∷ drop (i + 1) d) e)
 
 pub at_backslash : (d : List ℕ) (i : ℕ) → i < length d → get_or d i 0 ≡ 92 → content plain (drop i d) ≡ content after_backslash (drop (i + 1) d)
-unfolding content
-at_backslash d i h e = ap (content plain) (drop_more d i 0 h ∙ ap (λ x. x ∷ drop (i + 1) d) e)
+at_backslash d i h e = unfold content in ap (content plain) (drop_more d i 0 h ∙ ap (λ x. x ∷ drop (i + 1) d) e)
 
 pub at_control : (d : List ℕ) (i : ℕ) → i < length d → get_or d i 0 < 32 → content plain (drop i d) ≡ None
 at_control d i h e =

@@ -1,11 +1,11 @@
 -- What a value is read as, by its first token.
-use Rattle.proof_words.proofs.{◌≡◌, ◌≢◌, ℕ, ◌-◌, ◌<◌, List, [], ◌∷◌, length, Bool, true, false, Bor, Option, Some, None, option_map, refl, ap, ◌∙◌, true≢false, false≢true}
+use Rattle.proof_words.proofs.{◌≡◌, ◌≢◌, ℕ, ◌-◌, ◌<◌, List, [], ◌∷◌, length, Bool, true, false, Bor, Option, Some, None, option_map, refl, ap, ◌∙◌, false≢true, true≢false}
 use Rattle.json.specs.Token.{Token}
 use Rattle.json.specs.Json as json
 use Rattle.json.specs.Json.{parse_map, items, members, read_key, value}
 use Rattle.json.specs.Reads.{token_of}
 use Rattle.json.specs.declared.token.Token as reader
-use Rattle.json.specs.declared.token.Token.TheVariants.{BeginObject, EndObject, BeginArray, EndArray, Key, String, Number, Bool as Boolean, Null, Bad}
+use Rattle.json.specs.declared.token.Token.TheVariants.{Key, String, Bad}
 use Rattle.json_values.specs.{begins_key, ends_object, of_string}
 use Rattle.json.proofs.Grammar.{value_is, value-begin_array, value-begin_object}
 use Rattle.serde_json.specs.Data.{null, boolean, number, string, array, object, no_members}
@@ -39,50 +39,28 @@ module _ (depth : ℕ) (rest : List Token) where
       ap (converted of_json) (value-begin_object depth rest some) ∙ converted-parse_map of_json json.object inside ∙ converted-option_map object (λ ms. of_members ms no_members) inside
 
 pub read-deep_array : (depth : ℕ) (rest : List Token) → depth ≡ 0 → converted of_json (value depth (Token.begin_array ∷ rest)) ≡ None
-unfolding value
-read-deep_array depth rest none = ap (λ n. converted of_json (value n (Token.begin_array ∷ rest))) none
+read-deep_array depth rest none = unfold value in ap (λ n. converted of_json (value n (Token.begin_array ∷ rest))) none
 
 pub read-deep_object : (depth : ℕ) (rest : List Token) → depth ≡ 0 → converted of_json (value depth (Token.begin_object ∷ rest)) ≡ None
-unfolding value
-read-deep_object depth rest none = ap (λ n. converted of_json (value n (Token.begin_object ∷ rest))) none
+read-deep_object depth rest none = unfold value in ap (λ n. converted of_json (value n (Token.begin_object ∷ rest))) none
 
 -- ---- a string that is no name, and one that is no value
 
 pub not_a_key : (t : reader.Token) (rest : List Token) → ((s : Bor (List ℕ)) → t ≢ Key s) → begins_key (token_of t ∷ rest) ≡ false
-not_a_key BeginObject rest other = refl
-not_a_key EndObject rest other = refl
-not_a_key BeginArray rest other = refl
-not_a_key EndArray rest other = refl
 not_a_key (Key s) rest other = absurd (other s refl)
-not_a_key (String s) rest other = refl
-not_a_key (Number s) rest other = refl
-not_a_key (Boolean b) rest other = refl
-not_a_key Null rest other = refl
-not_a_key Bad rest other = refl
+not_a_key _ rest other = refl
 
 pub keyless : (t : Token) (rest : List Token) → of_string t ≡ true → begins_key (t ∷ rest) ≡ false → read_key (t ∷ rest) ≡ None
-keyless Token.begin_object rest kind other = absurd (false≢true kind)
-keyless Token.end_object rest kind other = absurd (false≢true kind)
-keyless Token.begin_array rest kind other = absurd (false≢true kind)
-keyless Token.end_array rest kind other = absurd (false≢true kind)
 keyless (Token.key s) rest kind other = absurd (true≢false other)
 keyless (Token.string s) rest kind other = refl
-keyless (Token.number s) rest kind other = absurd (false≢true kind)
-keyless (Token.boolean b) rest kind other = absurd (false≢true kind)
-keyless Token.null rest kind other = absurd (false≢true kind)
 keyless Token.bad rest kind other = refl
+keyless _ rest kind other = absurd (false≢true kind)
 
 pub not_a_value : (t : reader.Token) (rest : List Token) → of_string (token_of t) ≡ true → ((s : Bor (List ℕ)) → t ≢ String s) → (depth : ℕ) → value depth (token_of t ∷ rest) ≡ None
-not_a_value BeginObject rest kind other depth = absurd (false≢true kind)
-not_a_value EndObject rest kind other depth = absurd (false≢true kind)
-not_a_value BeginArray rest kind other depth = absurd (false≢true kind)
-not_a_value EndArray rest kind other depth = absurd (false≢true kind)
 not_a_value (Key s) rest kind other depth = value_is depth (Token.key s.now ∷ rest)
 not_a_value (String s) rest kind other depth = absurd (other s refl)
-not_a_value (Number s) rest kind other depth = absurd (false≢true kind)
-not_a_value (Boolean b) rest kind other depth = absurd (false≢true kind)
-not_a_value Null rest kind other depth = absurd (false≢true kind)
 not_a_value Bad rest kind other depth = value_is depth (Token.bad ∷ rest)
+not_a_value _ rest kind other depth = absurd (false≢true kind)
 
 abbrev named : Option (Option (List ℕ) × List Token) → Bool
 named None = false
@@ -90,28 +68,12 @@ named (Some (None, ts)) = false
 named (Some (Some s, ts)) = true
 
 pub endless : (ts : List Token) → ends_object ts ≡ false → (rest : List Token) → read_key ts ≢ Some (None, rest)
-endless [] none rest e = cc
-endless (Token.begin_object ∷ ts) none rest e = cc
 endless (Token.end_object ∷ ts) none rest e = absurd (true≢false none)
-endless (Token.begin_array ∷ ts) none rest e = cc
-endless (Token.end_array ∷ ts) none rest e = cc
 endless (Token.key s ∷ ts) none rest e = true≢false (ap named e)
-endless (Token.string s ∷ ts) none rest e = cc
-endless (Token.number s ∷ ts) none rest e = cc
-endless (Token.boolean b ∷ ts) none rest e = cc
-endless (Token.null ∷ ts) none rest e = cc
-endless (Token.bad ∷ ts) none rest e = cc
+endless _ none rest e = cc
 
 -- where neither a name nor an end comes, no member does
 pub neither : (ts : List Token) → begins_key ts ≡ false → ((rest : List Token) → read_key ts ≢ Some (None, rest)) → read_key ts ≡ None
-neither [] other going = refl
-neither (Token.begin_object ∷ ts) other going = refl
 neither (Token.end_object ∷ ts) other going = absurd (going ts refl)
-neither (Token.begin_array ∷ ts) other going = refl
-neither (Token.end_array ∷ ts) other going = refl
 neither (Token.key s ∷ ts) other going = absurd (true≢false other)
-neither (Token.string s ∷ ts) other going = refl
-neither (Token.number s ∷ ts) other going = refl
-neither (Token.boolean b ∷ ts) other going = refl
-neither (Token.null ∷ ts) other going = refl
-neither (Token.bad ∷ ts) other going = refl
+neither _ other going = refl

@@ -1,11 +1,11 @@
 -- Numbers of few digits and nothing else.
-use Rattle.proof_words.proofs.{◌≡◌, ◌≢◌, ℕ, ◌+◌, ◌-◌, ◌<◌, ◌≤◌, ◌^◌, Bool, true, false, ◌||◌, ◌==◌, cond, leb-true, List, length, take, drop, get_or, Some, refl, sym, ap, ◌∙◌, subst, arith, T, drop-drop, length-drop, ne_eqb, eq-eqb, eqb-true, false≢true, and_parts, get_or-take, get_or_default, length-take-le, drop-take, digit_at, is_ascii_digit, IsInRange, AllDigits, digits_value}
+use Rattle.proof_words.proofs.{◌≡◌, ◌≢◌, ℕ, ◌+◌, ◌-◌, ◌<◌, ◌≤◌, ◌^◌, Bool, true, false, ◌||◌, ◌==◌, cond, leb-true, List, length, take, drop, get_or, Some, refl, sym, ap, ◌∙◌, subst, arith, T, drop-drop, length-drop, false≢true, and_parts, get_or_default, drop-take, digit_at, is_ascii_digit, IsInRange, AllDigits, digits_value, ne_eqb, eq-eqb, eqb-true, get_or-take, length-take-le}
 use Rattle.fast_float.specs.Text.{minus, scan, with_sign}
 use Rattle.serde_json.specs.Data.{Num, unsigned, negative}
 use Rattle.serde_json.specs.Read.{number_of, number_from}
 use Rattle.json.specs.Token.{number}
 use Rattle.json.specs.Word.{head, is_operator, is_space, ends_word, word, after_minus, after_whole, after_number, number_before}
-use Rattle.json.specs.Lex.{Class, quote, backslash, operator, space, other, class, between, lex}
+use Rattle.json.specs.Lex.{Class, other, class, between, lex}
 use Rattle.json_values.specs.{IntegerAt}
 use Rattle.json_values.proofs.Lanes.{upto_sound}
 use Rattle.json_values.proofs.NumberReads.{number_of-minus, number_of-no_minus, from_digits, below_digits}
@@ -13,8 +13,7 @@ use Rattle.json_values.proofs.Wording.{number_at}
 
 -- a word that begins with no letter is a number
 pub word-number : (t : List ℕ) → head t < 58 → word t ≡ number_before t (after_number t)
-unfolding word
-word-number t low =
+word-number t low = unfold word in
     let a : (head t == 116) ≡ false = ne_eqb _ _ (λ (e : head t ≡ 116). omega arith) in
     let b : (head t == 102) ≡ false = ne_eqb _ _ (λ (e : head t ≡ 102). omega arith) in
     let c : (head t == 110) ≡ false = ne_eqb _ _ (λ (e : head t ≡ 110). omega arith) in
@@ -26,18 +25,12 @@ pub digit_range : (x : ℕ) → is_ascii_digit x ≡ true → IsInRange 48 57 x
 digit_range x e = let h = and_parts _ _ e in (leb-true 48 x h.0, leb-true x 57 h.1)
 
 abbrev is_other : Class → Bool
-is_other quote = false
-is_other backslash = false
-is_other operator = false
-is_other space = false
 is_other other = true
+is_other _ = false
 
 other_is : (c : Class) → T (is_other c) → c ≡ other
-other_is quote h = absurd h
-other_is backslash h = absurd h
-other_is operator h = absurd h
-other_is space h = absurd h
 other_is other h = refl
+other_is _ h = absurd h
 
 digit_class : (x : ℕ) → IsInRange 48 57 x → class x ≡ other
 digit_class x h =
@@ -51,8 +44,7 @@ no_ender : (u : List ℕ) (c : ℕ) → ender c ≡ false → ends_word u ≡ tr
 no_ender u c none ended = ne_eqb _ _ (λ (e : head u ≡ c). false≢true (sym none ∙ ap ender (sym e) ∙ ended))
 
 ended_number : (t u : List ℕ) → after_whole (after_minus t) ≡ Some u → ends_word u ≡ true → after_number t ≡ Some u
-unfolding after_number
-ended_number t u whole ended =
+ended_number t u whole ended = unfold after_number in
     let dot = no_ender u 46 refl ended in
     let lower = no_ender u 101 refl ended in
     let upper = no_ender u 69 refl ended in

@@ -34,7 +34,7 @@ pub use OrderedReads.{ordered-read}
 pub use PlainReads.{items_more, items_still, members_more, members_still, narrows_on, passing_front}
 pub use PartReads.{part_found}
 pub use Lanes.{at_least, below, either, hit, is_high, masked, none_high}
-pub use AsciiText.{IsAscii-joined, ascii_joined}
+pub use AsciiText.{ascii_joined}
 pub use Runs.{both_clear, end_clear, end_stops, end_through, run_bound, run_stops, run_through}
 pub use Content.{at_backslash, at_control, at_end, at_quote, content-after_backslash, content-after_high, content-after_u, content-nil}
 pub use Content.{content-to_stop, cut_back, len_utf8-le, prepend-prepend, short_after_high, short_after_u, stop_is_backslash}

@@ -7,12 +7,10 @@ use Rattle.serde_json.specs.Read.{number_of, number_from}
 use Rattle.serde_json.specs.Find.{of_integer}
 
 pub number_of-minus : (s : List ℕ) → (get_or s 0 0 == minus) ≡ true → number_of s ≡ number_from true (scan (drop 1 s))
-unfolding number_of
-number_of-minus s e = rw e
+number_of-minus s e = unfold number_of in rw e
 
 pub number_of-no_minus : (s : List ℕ) → (get_or s 0 0 == minus) ≡ false → number_of s ≡ number_from false (scan s)
-unfolding number_of
-number_of-no_minus s e = rw e
+number_of-no_minus s e = unfold number_of in rw e
 
 abbrev digits : List ℕ → Parts
 digits ds = record { whole = ds; point = false; fraction = []; exponent_negative = false; exponent = []; len = length (ds ++ []) }

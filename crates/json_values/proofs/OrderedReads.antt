@@ -47,12 +47,10 @@ anything (Some a) = tt
 
 mutual
   ordered-of_json : (j : json.Json) → Where IsOrdered (of_json j)
-  ordered-of_json json.null = tt
-  ordered-of_json (json.boolean b) = tt
   ordered-of_json (json.number s) = where-map (λ _. ⊤) IsOrdered number (λ a x. tt) (number_of s) (anything _)
-  ordered-of_json (json.string s) = tt
   ordered-of_json (json.array js) = where-map AreOrdered IsOrdered array (λ a x. x) _ (ordered-of_items js)
   ordered-of_json (json.object ms) = where-map IsInOrderOfNames IsOrdered object (λ a x. x) _ (ordered-of_members ms no_members tt)
+  ordered-of_json _ = tt
 
   ordered-of_items : (js : json.Items) → Where AreOrdered (of_items js)
   ordered-of_items json.no_items = tt

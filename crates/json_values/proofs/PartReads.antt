@@ -1,6 +1,6 @@
 -- A member of a value that is in order is in order, and its texts are as plain.
 use Rattle.proof_words.proofs.{◌≡◌, ℕ, List, Option, Some, Ordering, Less, Equal, Greater, nat_cmp, sym, subst, IfSome, match_ordering, slice_cmp}
-use Rattle.serde_json.specs.Data.{Data, null, boolean, number, string, array, object, Members, no_members, member}
+use Rattle.serde_json.specs.Data.{Data, object, Members, no_members, member}
 use Rattle.serde_json.specs.Find.{get, get_member}
 use Rattle.json_values.specs.{IsOrdered, IsInOrderOfNames, ArePlain, AreMembersPlain, PlainTexts}
 
@@ -18,12 +18,8 @@ module _ (p : PlainTexts) where
   part_member k (member l e ms) order plain = one_of (slice_cmp nat_cmp k l) e (get_member k ms) (order.1, plain.1) (part_member k ms order.2 plain.2)
 
   part_get : (k : List ℕ) (d : Data) → IsOrdered d → ArePlain p d → IfSome (get k d) IsPart
-  part_get k null order plain = tt
-  part_get k (boolean b) order plain = tt
-  part_get k (number n) order plain = tt
-  part_get k (string s) order plain = tt
-  part_get k (array ds) order plain = tt
   part_get k (object ms) order plain = part_member k ms order plain
+  part_get k _ order plain = tt
 
   pub part_found : (k : List ℕ) (d e : Data) → Some e ≡ get k d → IsOrdered d → ArePlain p d → IsOrdered e × ArePlain p e
   part_found k d e is order plain = subst (λ o. IfSome o IsPart) (sym is) (part_get k d order plain)

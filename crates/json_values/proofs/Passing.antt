@@ -1,5 +1,5 @@
 -- What the lexer passes over, at a place of the text.
-use Rattle.proof_words.proofs.{◌≡◌, ℕ, suc, ◌+◌, ◌<◌, ◌≤◌, Bool, true, false, ◌&&◌, ◌||◌, ◌==◌, cond, List, [], ◌∷◌, length, drop, get_or, Option, Some, None, refl, sym, ap, ◌∙◌, arith, drop-drop, false≢true, or_parts, not-true, eqb-true, and_parts, drop_more, prefix_len, is_digit}
+use Rattle.proof_words.proofs.{◌≡◌, ℕ, suc, ◌+◌, ◌<◌, ◌≤◌, Bool, true, false, ◌&&◌, ◌||◌, ◌==◌, cond, List, [], ◌∷◌, length, drop, get_or, Option, Some, None, refl, sym, ap, ◌∙◌, arith, drop-drop, false≢true, or_parts, not-true, and_parts, drop_more, prefix_len, is_digit, eqb-true}
 use Rattle.json.specs.Text.{Within, content, code_unit}
 use Rattle.json.specs.Word.{is_operator, is_space, head}
 use Rattle.json.specs.Lex.{Lexeme, Class, quote, backslash, operator, space, other, class, Mode, between, in_string, in_escape, lex_byte, lex}
@@ -11,42 +11,30 @@ use Rattle.json_values.proofs.Content.{four, is_found, all_hex}
 -- ---- between lexemes
 
 blank_byte : (c : Class) (x : ℕ) (xs : List ℕ) (k : Mode → List Lexeme) → is_blank c ≡ true → lex_byte between c x xs k ≡ k between
-blank_byte quote x xs k h = absurd (false≢true h)
-blank_byte backslash x xs k h = absurd (false≢true h)
-blank_byte operator x xs k h = absurd (false≢true h)
 blank_byte space x xs k h = refl
-blank_byte other x xs k h = absurd (false≢true h)
+blank_byte _ x xs k h = absurd (false≢true h)
 
 pub lex-blank : (d : List ℕ) (i : ℕ) → i < length d → is_blank (class (get_or d i 0)) ≡ true → lex between (drop i d) ≡ lex between (drop (i + 1) d)
-unfolding lex
-lex-blank d i h e = ap (lex between) (drop_more d i 0 h) ∙ blank_byte (class (get_or d i 0)) (get_or d i 0) (drop (i + 1) d) (λ m. lex m (drop (i + 1) d)) e
+lex-blank d i h e = unfold lex in ap (lex between) (drop_more d i 0 h) ∙ blank_byte (class (get_or d i 0)) (get_or d i 0) (drop (i + 1) d) (λ m. lex m (drop (i + 1) d)) e
 
 abbrev is_mark : Class → Bool
-is_mark quote = false
-is_mark backslash = false
 is_mark operator = true
-is_mark space = false
-is_mark other = false
+is_mark _ = false
 
 mark_byte : (c : Class) (x : ℕ) (xs : List ℕ) (k : Mode → List Lexeme) → is_mark c ≡ true → drop 1 (lex_byte between c x xs k) ≡ k between
-mark_byte quote x xs k h = absurd (false≢true h)
-mark_byte backslash x xs k h = absurd (false≢true h)
 mark_byte operator x xs k h = refl
-mark_byte space x xs k h = absurd (false≢true h)
-mark_byte other x xs k h = absurd (false≢true h)
+mark_byte _ x xs k h = absurd (false≢true h)
 
 -- an operator is one lexeme
 pub lex-operator : (t : List ℕ) → class (head t) ≡ operator → (0 < length t) × (drop 1 (lex between t) ≡ lex between (drop 1 t))
-unfolding lex
-lex-operator [] e = absurd (false≢true (ap is_mark e))
-lex-operator (x ∷ xs) e = (omega arith, mark_byte (class x) x xs (λ m. lex m xs) (ap is_mark e))
+lex-operator [] e = unfold lex in absurd (false≢true (ap is_mark e))
+lex-operator (x ∷ xs) e = unfold lex in (omega arith, mark_byte (class x) x xs (λ m. lex m xs) (ap is_mark e))
 
 -- ---- within a string
 
 pub lex-quote : (t : List ℕ) → head t ≡ 34 → drop 1 (lex between t) ≡ lex in_string (drop 1 t)
-unfolding lex
-lex-quote [] e = let no : ⊥ = omega (arith, e) in absurd no
-lex-quote (x ∷ xs) e = ap (λ y. drop 1 (lex between (y ∷ xs))) e
+lex-quote [] e = unfold lex in let no : ⊥ = omega (arith, e) in absurd no
+lex-quote (x ∷ xs) e = unfold lex in ap (λ y. drop 1 (lex between (y ∷ xs))) e
 
 stays_inside : (o s : Bool) (x : ℕ) (r : List ℕ) (k : Mode → List Lexeme) → lex_byte in_string (cond o operator (cond s space other)) x r k ≡ k in_string
 stays_inside true s x r k = refl
@@ -54,8 +42,7 @@ stays_inside false true x r k = refl
 stays_inside false false x r k = refl
 
 in_string-other : (x : ℕ) (xs : List ℕ) → (x == 34) ≡ false → (x == 92) ≡ false → lex in_string (x ∷ xs) ≡ lex in_string xs
-unfolding lex
-in_string-other x xs q b =
+in_string-other x xs q b = unfold lex in
     (λ i. lex_byte in_string (cond (q i) quote (cond (b i) backslash (cond (is_operator x) operator (cond (is_space x) space other)))) x xs (λ m. lex m xs))
     ∙ stays_inside (is_operator x) (is_space x) x xs (λ m. lex m xs)
 
@@ -75,16 +62,13 @@ pub in_string-to_stop : (d : List ℕ) (i stop : ℕ) → stop ≡ i + prefix_le
 in_string-to_stop d i stop is = in_string-run (drop i d) ∙ ap (lex in_string) (drop-drop _ i d ∙ ap (λ k. drop k d) (sym is))
 
 pub in_string-quote : (d : List ℕ) (i : ℕ) → i < length d → get_or d i 0 ≡ 34 → lex in_string (drop i d) ≡ lex between (drop (i + 1) d)
-unfolding lex
-in_string-quote d i h e = ap (lex in_string) (drop_more d i 0 h ∙ ap (λ x. x ∷ drop (i + 1) d) e)
+in_string-quote d i h e = unfold lex in ap (lex in_string) (drop_more d i 0 h ∙ ap (λ x. x ∷ drop (i + 1) d) e)
 
 pub in_string-backslash : (d : List ℕ) (i : ℕ) → i < length d → get_or d i 0 ≡ 92 → lex in_string (drop i d) ≡ lex in_escape (drop (i + 1) d)
-unfolding lex
-in_string-backslash d i h e = ap (lex in_string) (drop_more d i 0 h ∙ ap (λ x. x ∷ drop (i + 1) d) e)
+in_string-backslash d i h e = unfold lex in ap (lex in_string) (drop_more d i 0 h ∙ ap (λ x. x ∷ drop (i + 1) d) e)
 
 pub in_escape-any : (d : List ℕ) (i : ℕ) → i < length d → lex in_escape (drop i d) ≡ lex in_string (drop (i + 1) d)
-unfolding lex
-in_escape-any d i h = ap (lex in_escape) (drop_more d i 0 h)
+in_escape-any d i h = unfold lex in ap (lex in_escape) (drop_more d i 0 h)
 
 not_this : (c x : ℕ) (t : Bool) → (t ≡ true → x ≡ c) → is_digit c 16 ≡ false → is_digit x 16 ≡ true → t ≡ false
 not_this c x false e never h = refl
@@ -94,8 +78,7 @@ in_string-hex : (x : ℕ) (xs : List ℕ) → is_digit x 16 ≡ true → lex in_
 in_string-hex x xs h = in_string-other x xs (not_this 34 x (x == 34) (eqb-true x 34) refl h) (not_this 92 x (x == 92) (eqb-true x 92) refl h)
 
 in_string-four : (a b c d : ℕ) (xs : List ℕ) → is_found (code_unit a b c d) ≡ true → lex in_string (a ∷ b ∷ c ∷ d ∷ xs) ≡ lex in_string xs
-unfolding code_unit
-in_string-four a b c d xs h =
+in_string-four a b c d xs h = unfold code_unit in
     let p = and_parts (is_digit a 16 && is_digit b 16 && is_digit c 16) (is_digit d 16) (all_hex _ _ h) in
     let q = and_parts (is_digit a 16 && is_digit b 16) (is_digit c 16) p.0 in
     let r = and_parts (is_digit a 16) (is_digit b 16) q.0 in

@@ -1,6 +1,6 @@
 -- Texts that are plain stay so while more is read.
-use Rattle.proof_words.proofs.{◌≡◌, ℕ, suc, ◌+◌, Bool, true, false, cond, List, [], ◌∷◌, ◌++◌, length, take, Ordering, Less, Equal, Greater, nat_cmp, Bor, refl, sym, ap, ◌∙◌, subst, arith, false≢true, match_ordering, slice_cmp, prefix_len}
-use Rattle.serde_json.specs.Data.{Data, null, boolean, number, string, array, object, Items, no_items, item, Members, no_members, member, put}
+use Rattle.proof_words.proofs.{◌≡◌, ℕ, suc, ◌+◌, Bool, true, false, cond, List, [], ◌∷◌, ◌++◌, length, take, Ordering, Less, Equal, Greater, nat_cmp, Bor, refl, sym, ap, ◌∙◌, subst, arith, match_ordering, slice_cmp, prefix_len}
+use Rattle.serde_json.specs.Data.{Data, string, array, object, Items, no_items, item, Members, no_members, member, put}
 use Rattle.json_values.specs.{put_entry, line_view, line_items, line_members, PlainIf, ArePlain, AreItemsPlain, AreMembersPlain, Narrows, PlainTexts, LineValue}
 use Rattle.json_values.proofs.LineReads.{Named, members-put}
 
@@ -24,18 +24,13 @@ passing_front p (x ∷ xs) = by (p x) refl (passing_front p xs)
 pub narrows_on : (a b c : PlainTexts) → Narrows a b → Narrows b c → Narrows a c
 narrows_on a b c first next = (λ known. first.0 (next.0 known), λ known. first.1 (next.1 known))
 
-pub none_known : (p : PlainTexts) → Narrows p (record { names = false; values = false })
-none_known p = (λ known. absurd (false≢true known), λ known. absurd (false≢true known))
-
 module _ (old new : PlainTexts) (less : Narrows old new) where
   mutual
     pub plain_still : (d : Data) → ArePlain old d → ArePlain new d
-    plain_still null plain = tt
-    plain_still (boolean b) plain = tt
-    plain_still (number n) plain = tt
     plain_still (string s) plain = λ known. plain (less.1 known)
     plain_still (array ds) plain = items_still ds plain
     plain_still (object ms) plain = members_still ms plain
+    plain_still _ plain = tt
 
     pub items_still : (ds : Items) → AreItemsPlain old ds → AreItemsPlain new ds
     items_still no_items plain = tt

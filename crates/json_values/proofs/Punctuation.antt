@@ -1,5 +1,5 @@
 -- What `punctuate` gives, by the first byte of the text.
-use Rattle.proof_words.proofs.{◌≡◌, ◌≢◌, ℕ, Bool, true, false, cond, ◌==◌, List, [], ◌∷◌, drop, Option, Some, None, ◌⊎◌, inl, inr, refl, sym, ap, ◌∙◌, subst, true≢false, false≢true, eqb-true, or_cases, ⊤}
+use Rattle.proof_words.proofs.{◌≡◌, ◌≢◌, ℕ, Bool, true, false, cond, ◌==◌, List, [], ◌∷◌, drop, Option, Some, None, ◌⊎◌, inl, inr, refl, sym, ap, ◌∙◌, subst, false≢true, or_cases, ⊤, true≢false, eqb-true}
 use Rattle.json.specs.Token.{Token, begin_object, end_object, begin_array, end_array, key, string, number, boolean, null, bad}
 use Rattle.json.specs.Text.{content, plain}
 use Rattle.json.specs.Word.{is_operator, is_space, head, ends_word, after_number, number_before, word}
@@ -24,16 +24,11 @@ at_string t o e found = lex_first quote t (ap class e) refl ∙ ap (λ r. token 
 -- ---- a word is a number, a literal or bad
 
 abbrev pub IsWord : Token → Type 0
-IsWord begin_object = ⊥
-IsWord end_object = ⊥
-IsWord begin_array = ⊥
-IsWord end_array = ⊥
-IsWord (key s) = ⊥
-IsWord (string s) = ⊥
 IsWord (number s) = ⊤
 IsWord (boolean v) = ⊤
 IsWord null = ⊤
 IsWord bad = ⊤
+IsWord _ = ⊥
 
 either : (b : Bool) (x y : Token) → IsWord x → IsWord y → IsWord (cond b x y)
 either true x y p q = p
@@ -43,32 +38,27 @@ number_word : (t : List ℕ) (o : Option (List ℕ)) → IsWord (number_before t
 number_word t None = tt
 number_word t (Some r) = either (ends_word r) _ bad tt tt
 
+-- each word is one of four
+pub by_word : (Q : Token → Type 0) → ((s : List ℕ) → Q (number s)) → ((b : Bool) → Q (boolean b)) → Q null → Q bad → (k : Token) → IsWord k → Q k
+by_word Q n b u x (number s) w = n s
+by_word Q n b u x (boolean v) w = b v
+by_word Q n b u x null w = u
+by_word Q n b u x bad w = x
+by_word Q n b u x _ w = absurd w
+
 pub plain_word : (p : PlainTexts) (k : Token) → IsWord k → IsPlainToken p k
-plain_word p begin_object w = absurd w
-plain_word p end_object w = absurd w
-plain_word p begin_array w = absurd w
-plain_word p end_array w = absurd w
-plain_word p (key s) w = absurd w
-plain_word p (string s) w = absurd w
-plain_word p (number s) w = tt
-plain_word p (boolean v) w = tt
-plain_word p null w = tt
-plain_word p bad w = tt
+plain_word p k w = by_word (IsPlainToken p) (λ s. tt) (λ b. tt) tt tt k w
 
 pub IsWord-word : (t : List ℕ) → IsWord (word t)
-unfolding word
-IsWord-word t =
+IsWord-word t = unfold word in
     either (head t == 116) _ _ (either _ (boolean true) bad tt tt) (either (head t == 102) _ _ (either _ (boolean false) bad tt tt)
     (either (head t == 110) _ _ (either _ null bad tt tt) (number_word t (after_number t))))
 
 -- ---- the cases of the first lexeme
 
 abbrev is_operator_class : Class → Bool
-is_operator_class quote = false
-is_operator_class backslash = false
 is_operator_class operator = true
-is_operator_class space = false
-is_operator_class other = false
+is_operator_class _ = false
 
 tested : (q b o s : Bool) → is_operator_class (cond q quote (cond b backslash (cond o operator (cond s space other)))) ≡ true → o ≡ true
 tested true b o s h = absurd (false≢true h)
@@ -88,10 +78,7 @@ six P a b c d e f x k =
 
 abbrev is_quote_class : Class → Bool
 is_quote_class quote = true
-is_quote_class backslash = false
-is_quote_class operator = false
-is_quote_class space = false
-is_quote_class other = false
+is_quote_class _ = false
 
 quoted : (q b o s : Bool) → is_quote_class (cond q quote (cond b backslash (cond o operator (cond s space other)))) ≡ true → q ≡ true
 quoted true b o s h = refl
@@ -129,30 +116,14 @@ pub allowed : (b : Bool) (t : Token) (k : Place → List Token) (next : Place) �
 allowed b t k next e = ap (λ x. if_allowed x t k next) e
 
 pub good_word : (p : Place) (k : Token) (ls : List Lexeme) → IsWord k → is_good k ≡ true → may_begin p ≡ true → punctuate p (token k ∷ ls) ≡ k ∷ punctuate after_value ls
-unfolding punctuate
-good_word p begin_object ls w good e = absurd w
-good_word p end_object ls w good e = absurd w
-good_word p begin_array ls w good e = absurd w
-good_word p end_array ls w good e = absurd w
-good_word p (key s) ls w good e = absurd w
-good_word p (string s) ls w good e = absurd w
-good_word p (number s) ls w good e = allowed (may_begin p) (number s) (λ n. punctuate n ls) after_value e
-good_word p (boolean v) ls w good e = allowed (may_begin p) (boolean v) (λ n. punctuate n ls) after_value e
-good_word p null ls w good e = allowed (may_begin p) null (λ n. punctuate n ls) after_value e
-good_word p bad ls w good e = absurd (false≢true good)
+good_word p k ls w good may = unfold punctuate in
+    let taken = λ (x : Token). allowed (may_begin p) x (λ n. punctuate n ls) after_value may in
+    by_word (λ x. is_good x ≡ true → punctuate p (token x ∷ ls) ≡ x ∷ punctuate after_value ls) (λ s _. taken (number s)) (λ b _. taken (boolean b)) (λ _. taken null)
+    (λ g. absurd (false≢true g)) k w good
 
 pub bad_word : (p : Place) (k : Token) (ls : List Lexeme) → is_good k ≡ false → punctuate p (token k ∷ ls) ≡ k ∷ []
-unfolding punctuate
-bad_word p begin_object ls e = absurd (true≢false e)
-bad_word p end_object ls e = absurd (true≢false e)
-bad_word p begin_array ls e = absurd (true≢false e)
-bad_word p end_array ls e = absurd (true≢false e)
-bad_word p (key s) ls e = absurd (true≢false e)
-bad_word p (string s) ls e = absurd (true≢false e)
-bad_word p (number s) ls e = absurd (true≢false e)
-bad_word p (boolean v) ls e = absurd (true≢false e)
-bad_word p null ls e = absurd (true≢false e)
-bad_word p bad ls e = refl
+bad_word p bad ls e = unfold punctuate in refl
+bad_word p _ ls e = unfold punctuate in absurd (true≢false e)
 
 stray_mark : (p : Place) (ls : List Lexeme) → may_begin p ≡ true → (punctuate p (comma ∷ ls) ≡ bad ∷ []) × (punctuate p (colon ∷ ls) ≡ bad ∷ [])
 unfolding punctuate
@@ -185,9 +156,8 @@ closed AfterComma t ts e f = absurd (false≢true e)
 closed Failed t ts e f = absurd (false≢true e)
 
 closing_after_comma : (t : List ℕ) → (head t ≡ 125) ⊎ (head t ≡ 93) → punctuate after_comma (lex between t) ≡ bad ∷ []
-unfolding punctuate
-closing_after_comma t (inl e) = ap (punctuate after_comma) (at_operator 125 t refl e)
-closing_after_comma t (inr e) = ap (punctuate after_comma) (at_operator 93 t refl e)
+closing_after_comma t (inl e) = unfold punctuate in ap (punctuate after_comma) (at_operator 125 t refl e)
+closing_after_comma t (inr e) = unfold punctuate in ap (punctuate after_comma) (at_operator 93 t refl e)
 
 pub not_closed : (place : reader.Place) (t : List ℕ) → closes_at place ≡ false → (head t ≡ 125) ⊎ (head t ≡ 93) → tokens_at place t ≡ refused_at place
 not_closed Fresh t e h = absurd (true≢false e)
@@ -208,16 +178,7 @@ text_after_value (Some s) true k = refl
 text_after_value (Some s) false k = refl
 
 pub word_after_value : (w : Token) (b : Bool) (k : Place → List Token) → IsWord w → place_token after_value w b k ≡ bad ∷ []
-word_after_value begin_object b k h = absurd h
-word_after_value end_object b k h = absurd h
-word_after_value begin_array b k h = absurd h
-word_after_value end_array b k h = absurd h
-word_after_value (key s) b k h = absurd h
-word_after_value (string s) b k h = absurd h
-word_after_value (number s) b k h = refl
-word_after_value (boolean v) b k h = refl
-word_after_value null b k h = refl
-word_after_value bad b k h = refl
+word_after_value w b k h = by_word (λ x. place_token after_value x b k ≡ bad ∷ []) (λ s. refl) (λ v. refl) refl refl w h
 
 pub not_begun : (place : reader.Place) (t : List ℕ) → begins_at place ≡ false → NotBeforeComma place t → is_blank (class (head t)) ≡ false → head t ≢ 125 → head t ≢ 93 → tokens_at place t ≡ refused_at place
 unfolding punctuate
@@ -228,86 +189,65 @@ not_begun AfterValue t e passed solid a b =
 not_begun AfterComma t e passed solid a b = absurd (true≢false e)
 not_begun Failed t e passed solid a b = refl
 
--- ---- where no array closes
+-- ---- where another token comes first
 
-other_token : (b : Bool) (t : Token) (k : Place → List Token) (next : Place) → after_end_array (t ∷ k next) ≡ None → after_end_array (if_allowed b t k next) ≡ None
-other_token true t k next e = e
-other_token false t k next e = refl
+-- what is said of tokens by the first of them, and holds of none, of words and of what opens
+module _ (P : List Token → Type 0) (none : P []) (a_number : (s : List ℕ) (ts : List Token) → P (number s ∷ ts)) (a_boolean : (b : Bool) (ts : List Token) → P (boolean b ∷ ts))
+    (a_null : (ts : List Token) → P (null ∷ ts))
+    (a_bad : (ts : List Token) → P (bad ∷ ts)) (an_object : (ts : List Token) → P (begin_object ∷ ts)) (an_array : (ts : List Token) → P (begin_array ∷ ts)) where
+  guarded : (b : Bool) (t : Token) (k : Place → List Token) (next : Place) → P (t ∷ k next) → P (if_allowed b t k next)
+  guarded true t k next e = e
+  guarded false t k next e = a_bad []
 
-text_no_end : (p : Place) (o : Option (List ℕ)) (b : Bool) (k : Place → List Token) → after_end_array (place_token p (string_token o) b k) ≡ None
-text_no_end p None b k = refl
-text_no_end p (Some s) true k = other_token (may_begin p) (key s) k after_key refl
-text_no_end p (Some s) false k = other_token (may_begin p) (string s) k after_value refl
+  worded : (p : Place) (w : Token) (b : Bool) (k : Place → List Token) → IsWord w → P (place_token p w b k)
+  worded p w b k h =
+      let taken = λ (x : Token) (is : P (x ∷ k after_value)). guarded (may_begin p) x k after_value is in
+      by_word (λ x. P (place_token p x b k)) (λ s. taken (number s) (a_number s (k after_value))) (λ v. taken (boolean v) (a_boolean v (k after_value)))
+      (taken null (a_null (k after_value))) (a_bad []) w h
 
-word_no_end : (p : Place) (w : Token) (b : Bool) (k : Place → List Token) → IsWord w → after_end_array (place_token p w b k) ≡ None
-word_no_end p begin_object b k h = absurd h
-word_no_end p end_object b k h = absurd h
-word_no_end p begin_array b k h = absurd h
-word_no_end p end_array b k h = absurd h
-word_no_end p (key s) b k h = absurd h
-word_no_end p (string s) b k h = absurd h
-word_no_end p (number s) b k h = other_token (may_begin p) (number s) k after_value refl
-word_no_end p (boolean v) b k h = other_token (may_begin p) (boolean v) k after_value refl
-word_no_end p null b k h = other_token (may_begin p) null k after_value refl
-word_no_end p bad b k h = refl
+  texted : (p : Place) (o : Option (List ℕ)) (b : Bool) (k : Place → List Token) → ((s : List ℕ) (ts : List Token) → P (key s ∷ ts))
+      → ((s : List ℕ) (ts : List Token) → P (string s ∷ ts)) → P (place_token p (string_token o) b k)
+  texted p None b k name text = a_bad []
+  texted p (Some s) true k name text = guarded (may_begin p) (key s) k after_key (name s (k after_key))
+  texted p (Some s) false k name text = guarded (may_begin p) (string s) k after_value (text s (k after_value))
 
-no_end : (p : Place) (t : List ℕ) → Ends t → head t ≢ 93 → after_end_array (punctuate p []) ≡ None → (head t ≡ 44 → after_end_array (punctuate p (comma ∷ rest t)) ≡ None)
-    → after_end_array (punctuate p (colon ∷ rest t)) ≡ None → after_end_array (punctuate p (lex between t)) ≡ None
-unfolding punctuate
-no_end p t ends other_byte none at_comma at_colon =
-    let k = λ (n : Place). punctuate n (rest t) in
-    first_cases t (λ ls. after_end_array (punctuate p ls) ≡ None) (λ b. ap (λ ls. after_end_array (punctuate p ls)) (ap (lex between) (ends b) ∙ lex-nil) ∙ none)
-    (λ o h. text_no_end p o _ k) (λ w h. word_no_end p w _ k h)
-    (six (λ x. head t ≡ x → after_end_array (punctuate p (operator_lexeme x ∷ rest t)) ≡ None) (λ h. other_token (may_begin p) begin_object k fresh refl) (λ h. other_token (may_close p) end_object k after_value refl)
-    (λ h. other_token (may_begin p) begin_array k fresh refl) (λ h. absurd (other_byte h)) (λ h. at_colon) at_comma)
+  -- the text begins with none of the bytes for which it does not hold
+  module _ (t : List ℕ) (ends : Ends t) (name : head t ≡ 34 → (s : List ℕ) (ts : List Token) → P (key s ∷ ts)) (text : head t ≡ 34 → (s : List ℕ) (ts : List Token) → P (string s ∷ ts))
+      (brace : head t ≡ 125 → (ts : List Token) → P (end_object ∷ ts)) (bracket : head t ≡ 93 → (ts : List Token) → P (end_array ∷ ts)) where
+    from : (p : Place) → P (punctuate p []) → (head t ≡ 44 → P (punctuate p (comma ∷ rest t))) → P (punctuate p (colon ∷ rest t)) → P (punctuate p (lex between t))
+    from p over at_comma at_colon = unfold punctuate in
+        let k = λ (n : Place). punctuate n (rest t) in
+        first_cases t (λ ls. P (punctuate p ls)) (λ b. subst (λ ls. P (punctuate p ls)) (sym (ap (lex between) (ends b) ∙ lex-nil)) over) (λ o h. texted p o _ k (name h) (text h))
+        (λ w h. worded p w _ k h)
+        (six (λ x. head t ≡ x → P (punctuate p (operator_lexeme x ∷ rest t))) (λ h. guarded (may_begin p) begin_object k fresh (an_object (k fresh)))
+        (λ h. guarded (may_close p) end_object k after_value (brace h (k after_value)))
+        (λ h. guarded (may_begin p) begin_array k fresh (an_array (k fresh))) (λ h. guarded (may_close p) end_array k after_value (bracket h (k after_value))) (λ h. at_colon) at_comma)
 
+    pub other_first : (place : reader.Place) → NotBeforeComma place t → P (tokens_at place t)
+    unfolding punctuate
+    other_first Fresh passed = from fresh none (λ e. a_bad []) (a_bad [])
+    other_first AfterValue passed = from after_value none (λ e. absurd (passed e)) (a_bad [])
+    other_first AfterComma passed = from after_comma (a_bad []) (λ e. a_bad []) (a_bad [])
+    other_first Failed passed = none
+
+  pub refused_first : (place : reader.Place) → P (refused_at place)
+  refused_first Failed = none
+  refused_first _ = a_bad []
+
+-- no array closes
 pub no_end_array : (place : reader.Place) (t : List ℕ) → Ends t → NotBeforeComma place t → head t ≢ 93 → after_end_array (tokens_at place t) ≡ None
-unfolding punctuate
-no_end_array Fresh t ends passed h = no_end fresh t ends h refl (λ e. refl) refl
-no_end_array AfterValue t ends passed h = no_end after_value t ends h refl (λ e. absurd (passed e)) refl
-no_end_array AfterComma t ends passed h = no_end after_comma t ends h refl (λ e. refl) refl
-no_end_array Failed t ends passed h = refl
+no_end_array place t ends passed apart =
+    other_first (λ ts. after_end_array ts ≡ None) refl (λ s ts. refl) (λ b ts. refl) (λ ts. refl) (λ ts. refl) (λ ts. refl) (λ ts. refl)
+    t ends (λ h s ts. refl) (λ h s ts. refl) (λ h ts. refl) (λ h. absurd (apart h)) place passed
 
 pub refused_no_end : (place : reader.Place) → after_end_array (refused_at place) ≡ None
-refused_no_end Fresh = refl
-refused_no_end AfterValue = refl
-refused_no_end AfterComma = refl
-refused_no_end Failed = refl
+refused_no_end = refused_first (λ ts. after_end_array ts ≡ None) refl (λ s ts. refl) (λ b ts. refl) (λ ts. refl) (λ ts. refl) (λ ts. refl) (λ ts. refl)
 
--- ---- where no name comes
-
-other_key : (b : Bool) (t : Token) (k : Place → List Token) (next : Place) → begins_key (t ∷ k next) ≡ false → begins_key (if_allowed b t k next) ≡ false
-other_key true t k next e = e
-other_key false t k next e = refl
-
-word_no_key : (p : Place) (w : Token) (b : Bool) (k : Place → List Token) → IsWord w → begins_key (place_token p w b k) ≡ false
-word_no_key p begin_object b k h = absurd h
-word_no_key p end_object b k h = absurd h
-word_no_key p begin_array b k h = absurd h
-word_no_key p end_array b k h = absurd h
-word_no_key p (key s) b k h = absurd h
-word_no_key p (string s) b k h = absurd h
-word_no_key p (number s) b k h = other_key (may_begin p) (number s) k after_value refl
-word_no_key p (boolean v) b k h = other_key (may_begin p) (boolean v) k after_value refl
-word_no_key p null b k h = other_key (may_begin p) null k after_value refl
-word_no_key p bad b k h = refl
-
-keyless : (p : Place) (t : List ℕ) → Ends t → head t ≢ 34 → begins_key (punctuate p []) ≡ false → (head t ≡ 44 → begins_key (punctuate p (comma ∷ rest t)) ≡ false)
-    → begins_key (punctuate p (colon ∷ rest t)) ≡ false → begins_key (punctuate p (lex between t)) ≡ false
-unfolding punctuate
-keyless p t ends other_byte none at_comma at_colon =
-    let k = λ (n : Place). punctuate n (rest t) in
-    first_cases t (λ ls. begins_key (punctuate p ls) ≡ false) (λ b. ap (λ ls. begins_key (punctuate p ls)) (ap (lex between) (ends b) ∙ lex-nil) ∙ none)
-    (λ o h. absurd (other_byte h)) (λ w h. word_no_key p w _ k h)
-    (six (λ x. head t ≡ x → begins_key (punctuate p (operator_lexeme x ∷ rest t)) ≡ false) (λ h. other_key (may_begin p) begin_object k fresh refl) (λ h. other_key (may_close p) end_object k after_value refl)
-    (λ h. other_key (may_begin p) begin_array k fresh refl) (λ h. other_key (may_close p) end_array k after_value refl) (λ h. at_colon) at_comma)
-
+-- no name comes
 pub no_key : (place : reader.Place) (t : List ℕ) → Ends t → NotBeforeComma place t → head t ≢ 34 → begins_key (tokens_at place t) ≡ false
-unfolding punctuate
-no_key Fresh t ends passed h = keyless fresh t ends h refl (λ e. refl) refl
-no_key AfterValue t ends passed h = keyless after_value t ends h refl (λ e. absurd (passed e)) refl
-no_key AfterComma t ends passed h = keyless after_comma t ends h refl (λ e. refl) refl
-no_key Failed t ends passed h = refl
+no_key place t ends passed apart =
+    other_first (λ ts. begins_key ts ≡ false) refl (λ s ts. refl) (λ b ts. refl) (λ ts. refl) (λ ts. refl) (λ ts. refl) (λ ts. refl)
+    t ends (λ h. absurd (apart h)) (λ h. absurd (apart h)) (λ h ts. refl) (λ h ts. refl) place passed
 
 pub no_key_yet : (place : reader.Place) (t : List ℕ) → begins_at place ≡ false → head t ≡ 34 → begins_key (tokens_at place t) ≡ false
 unfolding punctuate
@@ -316,48 +256,11 @@ no_key_yet AfterValue t e h = ap (λ ls. begins_key (punctuate after_value ls)) 
 no_key_yet AfterComma t e h = absurd (true≢false e)
 no_key_yet Failed t e h = refl
 
--- ---- where no object ends
-
-other_end : (b : Bool) (t : Token) (k : Place → List Token) (next : Place) → ends_object (t ∷ k next) ≡ false → ends_object (if_allowed b t k next) ≡ false
-other_end true t k next e = e
-other_end false t k next e = refl
-
-text_no_brace : (p : Place) (o : Option (List ℕ)) (b : Bool) (k : Place → List Token) → ends_object (place_token p (string_token o) b k) ≡ false
-text_no_brace p None b k = refl
-text_no_brace p (Some s) true k = other_end (may_begin p) (key s) k after_key refl
-text_no_brace p (Some s) false k = other_end (may_begin p) (string s) k after_value refl
-
-word_no_brace : (p : Place) (w : Token) (b : Bool) (k : Place → List Token) → IsWord w → ends_object (place_token p w b k) ≡ false
-word_no_brace p begin_object b k h = absurd h
-word_no_brace p end_object b k h = absurd h
-word_no_brace p begin_array b k h = absurd h
-word_no_brace p end_array b k h = absurd h
-word_no_brace p (key s) b k h = absurd h
-word_no_brace p (string s) b k h = absurd h
-word_no_brace p (number s) b k h = other_end (may_begin p) (number s) k after_value refl
-word_no_brace p (boolean v) b k h = other_end (may_begin p) (boolean v) k after_value refl
-word_no_brace p null b k h = other_end (may_begin p) null k after_value refl
-word_no_brace p bad b k h = refl
-
-braceless : (p : Place) (t : List ℕ) → Ends t → head t ≢ 125 → ends_object (punctuate p []) ≡ false → (head t ≡ 44 → ends_object (punctuate p (comma ∷ rest t)) ≡ false)
-    → ends_object (punctuate p (colon ∷ rest t)) ≡ false → ends_object (punctuate p (lex between t)) ≡ false
-unfolding punctuate
-braceless p t ends other_byte none at_comma at_colon =
-    let k = λ (n : Place). punctuate n (rest t) in
-    first_cases t (λ ls. ends_object (punctuate p ls) ≡ false) (λ b. ap (λ ls. ends_object (punctuate p ls)) (ap (lex between) (ends b) ∙ lex-nil) ∙ none)
-    (λ o h. text_no_brace p o _ k) (λ w h. word_no_brace p w _ k h)
-    (six (λ x. head t ≡ x → ends_object (punctuate p (operator_lexeme x ∷ rest t)) ≡ false) (λ h. other_end (may_begin p) begin_object k fresh refl) (λ h. absurd (other_byte h))
-    (λ h. other_end (may_begin p) begin_array k fresh refl) (λ h. other_end (may_close p) end_array k after_value refl) (λ h. at_colon) at_comma)
-
+-- no object ends
 pub no_brace : (place : reader.Place) (t : List ℕ) → Ends t → NotBeforeComma place t → head t ≢ 125 → ends_object (tokens_at place t) ≡ false
-unfolding punctuate
-no_brace Fresh t ends passed h = braceless fresh t ends h refl (λ e. refl) refl
-no_brace AfterValue t ends passed h = braceless after_value t ends h refl (λ e. absurd (passed e)) refl
-no_brace AfterComma t ends passed h = braceless after_comma t ends h refl (λ e. refl) refl
-no_brace Failed t ends passed h = refl
+no_brace place t ends passed apart =
+    other_first (λ ts. ends_object ts ≡ false) refl (λ s ts. refl) (λ b ts. refl) (λ ts. refl) (λ ts. refl) (λ ts. refl) (λ ts. refl)
+    t ends (λ h s ts. refl) (λ h s ts. refl) (λ h. absurd (apart h)) (λ h ts. refl) place passed
 
 pub refused_no_brace : (place : reader.Place) → ends_object (refused_at place) ≡ false
-refused_no_brace Fresh = refl
-refused_no_brace AfterValue = refl
-refused_no_brace AfterComma = refl
-refused_no_brace Failed = refl
+refused_no_brace = refused_first (λ ts. ends_object ts ≡ false) refl (λ s ts. refl) (λ b ts. refl) (λ ts. refl) (λ ts. refl) (λ ts. refl) (λ ts. refl)

@@ -1,5 +1,5 @@
 -- A member that is put among others.
-use Rattle.proof_words.proofs.{◌≡◌, ℕ, ◌+◌, ◌<◌, length, take, drop, List, [], ◌∷◌, ◌++◌, Ordering, Less, Equal, Greater, nat_cmp, Bor, refl, sym, ap, ◌∙◌, match_ordering, ordering_reverse, slice_cmp, AllByRecursion, slice_set, IsStrictlySortedBy, nat_list_cmp_total, alike_right, take-set, drop-set, take-append-drop}
+use Rattle.proof_words.proofs.{◌≡◌, ℕ, ◌+◌, ◌<◌, length, take, drop, List, [], ◌∷◌, ◌++◌, Ordering, Less, Equal, Greater, nat_cmp, Bor, refl, sym, ap, ◌∙◌, match_ordering, ordering_reverse, slice_cmp, AllByRecursion, IsStrictlySortedBy, nat_list_cmp_total, alike_right, take-set, drop-set, slice_set, take-append-drop}
 use Rattle.json_values.specs.{Entry, names_of, IsRising, put_entry}
 
 abbrev Behind : List ℕ → List (List ℕ) → Type 0
@@ -18,8 +18,7 @@ set_between xs i y within =
     ap (λ ys. ys ++ y ∷ drop (i + 1) xs) (sym (take-set xs i y)) ∙ ap (λ ys. take i (slice_set xs i y) ++ ys) (sym (drop-set xs i y within)) ∙ take-append-drop i (slice_set xs i y)
 
 pub rising_none : (T : Type 0) → IsRising {T = T} []
-unfolding IsStrictlySortedBy
-rising_none T = tt
+rising_none T = unfold IsStrictlySortedBy in tt
 
 -- the first ones of members in order are in order
 pub rising_front : (T : Type 0) (es more : List (Entry T)) → IsRising (es ++ more) → IsRising es

@@ -1,5 +1,5 @@
 -- One lexeme at a time: what stands first, and what is left after it.
-use Rattle.proof_words.proofs.{◌≡◌, ℕ, ◌+◌, ◌<◌, false, List, [], ◌∷◌, length, drop, get_or, add-zero, lt_of_not-le, refl, sym, ap, ◌∙◌, arith, drop-drop, get_or-drop, get_or_default, get_or_past, true≢false}
+use Rattle.proof_words.proofs.{◌≡◌, ℕ, ◌+◌, ◌<◌, false, List, [], ◌∷◌, length, drop, get_or, add-zero, lt_of_not-le, refl, sym, ap, ◌∙◌, arith, get_or_default, get_or_past, drop-drop, get_or-drop, true≢false}
 use Rattle.json.specs.Token.{bad}
 use Rattle.json.specs.Text.{content, plain}
 use Rattle.json.specs.Word.{head, word}
@@ -14,20 +14,15 @@ first_lexeme space t = token bad
 first_lexeme other t = token (word t)
 
 first_is : (c : Class) (x : ℕ) (xs : List ℕ) (k : Mode → List Lexeme) → is_blank c ≡ false → lex_byte between c x xs k ≡ first_lexeme c (x ∷ xs) ∷ drop 1 (lex_byte between c x xs k)
-first_is quote x xs k h = refl
-first_is backslash x xs k h = refl
-first_is operator x xs k h = refl
 first_is space x xs k h = absurd (true≢false h)
-first_is other x xs k h = refl
+first_is _ x xs k h = refl
 
 pub lex_first : (c : Class) (t : List ℕ) → class (head t) ≡ c → is_blank c ≡ false → lex between t ≡ first_lexeme c t ∷ drop 1 (lex between t)
-unfolding lex
-lex_first c [] e h = absurd (true≢false (ap is_blank e ∙ h))
-lex_first c (x ∷ xs) e h = first_is (class x) x xs (λ n. lex n xs) (ap is_blank e ∙ h) ∙ ap (λ k. first_lexeme k (x ∷ xs) ∷ drop 1 (lex between (x ∷ xs))) e
+lex_first c [] e h = unfold lex in absurd (true≢false (ap is_blank e ∙ h))
+lex_first c (x ∷ xs) e h = unfold lex in first_is (class x) x xs (λ n. lex n xs) (ap is_blank e ∙ h) ∙ ap (λ k. first_lexeme k (x ∷ xs) ∷ drop 1 (lex between (x ∷ xs))) e
 
 pub lex-nil : lex between [] ≡ []
-unfolding lex
-lex-nil = refl
+lex-nil = unfold lex in refl
 
 pub record AtQuote (d : List ℕ) (p : ℕ) : Type 0 where
   pub within : p < length d

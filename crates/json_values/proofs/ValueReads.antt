@@ -29,9 +29,8 @@ module _ (p : Parse json.Json) where
       ∙ converted-option_map (item d) of_items more
 
   pub items-refused : (turns : ℕ) (ts : List Token) → after_end_array ts ≡ None → converted of_json (p ts) ≡ None → converted of_items (items p turns ts) ≡ None
-  unfolding items
-  items-refused zero ts going e = refl
-  items-refused (suc turns) ts going e =
+  items-refused zero ts going e = unfold items in refl
+  items-refused (suc turns) ts going e = unfold items in
       ap (λ o. converted of_items (items_step p (items p turns) ts o)) going
       ∙ refused_then of_items json.item (λ j none js. ap (option_and_then (λ x. option_map (item x) (of_items js))) none) (items p turns) (p ts) e
 
@@ -51,9 +50,8 @@ module _ (p : Parse json.Json) (old : Members) where
 
   pub members-refused : (turns : ℕ) (k : List ℕ) (ts after : List Token) → read_key ts ≡ Some (Some k, after) → converted of_json (p after) ≡ None
       → converted (λ ms. of_members ms old) (members p turns ts) ≡ None
-  unfolding members
-  members-refused zero k ts after key e = refl
-  members-refused (suc turns) k ts after key e =
+  members-refused zero k ts after key e = unfold members in refl
+  members-refused (suc turns) k ts after key e = unfold members in
       rw key (refused_then (λ ms. of_members ms old) (json.member k) (λ j none ms. ap (option_and_then (λ x. of_members ms (put k x old))) none) (members p turns) (p after) e)
 
   pub members-no_key : (turns : ℕ) (ts : List Token) → read_key ts ≡ None → converted (λ ms. of_members ms old) (members p turns ts) ≡ None

@@ -15,6 +15,5 @@ read-all text d e = let j = behind of_json (value max_depth (tokens text)) d [] 
 
 -- where there are tokens there is a text
 pub some_text : (text : List ℕ) → 0 < length (tokens text) → 0 < length text
-unfolding lex punctuate
-some_text [] some = some
-some_text (c ∷ text) some = omega arith
+some_text [] some = unfold lex punctuate in some
+some_text (c ∷ text) some = unfold lex punctuate in omega arith

@@ -1,5 +1,5 @@
 -- Numbers and literals, and where the lexer goes on behind them.
-use Rattle.proof_words.proofs.{◌≡◌, ℕ, ◌+◌, ◌-◌, ◌<◌, ◌≤◌, List, [], ◌∷◌, ◌++◌, length, take, drop, true, is_some, ◌&&◌, cond, nat_eq, Some, refl, sym, ap, ap₂, ◌∙◌, arith, drop-drop, length-append, length-drop, length-take-le, take-append-drop, false≢true, Decides-eqb, starts_is, starts_with}
+use Rattle.proof_words.proofs.{◌≡◌, ℕ, ◌+◌, ◌-◌, ◌<◌, ◌≤◌, List, [], ◌∷◌, ◌++◌, length, take, drop, true, is_some, ◌&&◌, cond, nat_eq, Some, refl, sym, ap, ap₂, ◌∙◌, arith, drop-drop, length-append, false≢true, Decides-eqb, starts_is, starts_with, length-drop, length-take-le, take-append-drop}
 use Rattle.json.specs.Token as spec
 use Rattle.json.specs.Token.{number, bad}
 use Rattle.json.specs.Word.{ends_word, literal, after_number, number_before}
@@ -25,9 +25,8 @@ literal_at d name t i within named begins ends =
     )
 
 some_byte : (s : List ℕ) → after_number s ≡ Some [] → 0 < length s
-unfolding after_number
-some_byte [] h = absurd (false≢true (ap is_some h))
-some_byte (x ∷ s) h = omega arith
+some_byte [] h = unfold after_number in absurd (false≢true (ap is_some h))
+some_byte (x ∷ s) h = unfold after_number in omega arith
 
 pub number_at : (d : List ℕ) (i end : ℕ) → i < length d → after_number (drop i d) ≡ Some (drop end d) → i ≤ end → end ≤ length d → ends_word (drop end d) ≡ true
     → Stands d i (number_before (drop i d) (after_number (drop i d))) (number (take (end - i) (drop i d))) end

@@ -8,5 +8,4 @@ pub skip-requires : goal.skip-requires
 skip-requires c = let e : head c.args.lexer.now.text ≡ 44 = omega (arith, c.peek.ensures.value) in ap class e
 
 pub returns-then-peek-eq44-clause-same : goal.returns-then-peek-eq44-clause-same
-unfolding punctuate
-returns-then-peek-eq44-clause-same c = ap (punctuate after_comma) c.skip.ensures.passed ∙ sym (ap (punctuate after_value) (at_operator 44 c.args.lexer.now.text refl (omega (arith, c.peek.ensures.value))))
+returns-then-peek-eq44-clause-same c = unfold punctuate in ap (punctuate after_comma) c.skip.ensures.passed ∙ sym (ap (punctuate after_value) (at_operator 44 c.args.lexer.now.text refl (omega (arith, c.peek.ensures.value))))

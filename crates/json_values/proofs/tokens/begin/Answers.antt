@@ -14,14 +14,12 @@ pub skip-requires-in-91 : goal.skip-requires-in-91
 skip-requires-in-91 c = ap class (c.requires.first.0 ∙ c.in-91.is)
 
 pub returns-in-123-clause-value : goal.returns-in-123-clause-value
-unfolding punctuate
-returns-in-123-clause-value c p may =
+returns-in-123-clause-value c p may = unfold punctuate in
     let t = c.args.lexer.now.text in
     ap (punctuate p) (at_operator 123 t refl (c.requires.first.0 ∙ c.in-123.is)) ∙ allowed (may_begin p) spec.begin_object (λ n. punctuate n (rest t)) fresh may ∙ ap (λ ls. spec.begin_object ∷ punctuate fresh ls) (sym c.skip.ensures.passed)
 
 pub returns-in-91-clause-value : goal.returns-in-91-clause-value
-unfolding punctuate
-returns-in-91-clause-value c p may =
+returns-in-91-clause-value c p may = unfold punctuate in
     let t = c.args.lexer.now.text in
     ap (punctuate p) (at_operator 91 t refl (c.requires.first.0 ∙ c.in-91.is)) ∙ allowed (may_begin p) spec.begin_array (λ n. punctuate n (rest t)) fresh may ∙ ap (λ ls. spec.begin_array ∷ punctuate fresh ls) (sym c.skip-in-91.ensures.passed)
 

@@ -9,16 +9,14 @@ pub skip-requires : goal.skip-requires
 skip-requires c = closing c.args.lexer.now.text (grind arith)
 
 pub returns-then-c-eq125-clause-value : goal.returns-then-c-eq125-clause-value
-unfolding punctuate
-returns-then-c-eq125-clause-value c p may =
+returns-then-c-eq125-clause-value c p may = unfold punctuate in
     let t = c.args.lexer.now.text in
     let e : head t ≡ 125 = grind arith in
     ap (punctuate p) (at_operator 125 t refl e) ∙ allowed (may_close p) spec.end_object (λ n. punctuate n (rest t)) after_value may
     ∙ ap (λ ts. spec.end_object ∷ ts) (ap (punctuate after_value) (sym c.skip.ensures.passed) ∙ sym c.after_value-place.ensures.same)
 
 pub returns-else-c-eq125-clause-value : goal.returns-else-c-eq125-clause-value
-unfolding punctuate
-returns-else-c-eq125-clause-value c p may =
+returns-else-c-eq125-clause-value c p may = unfold punctuate in
     let t = c.args.lexer.now.text in
     let e : head t ≡ 93 = grind arith in
     ap (punctuate p) (at_operator 93 t refl e) ∙ allowed (may_close p) spec.end_array (λ n. punctuate n (rest t)) after_value may

@@ -7,15 +7,13 @@ use Rattle.json_values.proofs.{rest, at_operator, at_string, no_colon, allowed}
 use Rattle.json_values.proofs.tokens.string.Goals as goal
 
 pub returns-in_default-clause-value : goal.returns-in_default-clause-value
-unfolding punctuate
-returns-in_default-clause-value c p may = ap (punctuate p) (at_string c.args.lexer.now.text None c.requires (grind arith))
+returns-in_default-clause-value c p may = unfold punctuate in ap (punctuate p) (at_string c.args.lexer.now.text None c.requires (grind arith))
 
 pub skip-requires : goal.skip-requires
 skip-requires c = let e : head c.string.new.self.text ≡ 58 = omega (arith, c.peek.ensures.value) in ap class e
 
 pub returns-then-peek-eq58-clause-value : goal.returns-then-peek-eq58-clause-value
-unfolding punctuate
-returns-then-peek-eq58-clause-value c p may =
+returns-then-peek-eq58-clause-value c p may = unfold punctuate in
     let s = c.in-Some.text.now in
     let after = c.string.new.self.text in
     let next = sym c.in-Some.ensures.after ∙ at_operator 58 after refl (omega (arith, c.peek.ensures.value)) in
@@ -23,8 +21,7 @@ returns-then-peek-eq58-clause-value c p may =
     ∙ allowed (may_begin p) (spec.key s) (λ n. punctuate n (colon ∷ rest after)) after_key may ∙ ap (λ ls. spec.key s ∷ punctuate fresh ls) (sym c.skip.ensures.passed)
 
 pub returns-else-peek-eq58-clause-value : goal.returns-else-peek-eq58-clause-value
-unfolding punctuate
-returns-else-peek-eq58-clause-value c p may =
+returns-else-peek-eq58-clause-value c p may = unfold punctuate in
     let s = c.in-Some.text.now in
     let after = c.string.new.self.text in
     let seen = c.peek.ensures.value in

@@ -19,8 +19,7 @@ pub returns-in_err-c : goal.returns-in_err-c
 returns-in_err-c c = grind (arith, common_steps, content-after_backslash c.args.text.now c.args.i (omega arith))
 
 pub returns : goal.returns
-unfolding encode_utf8
-returns c =
+returns c = unfold encode_utf8 in
     let d = c.args.text.now in
     let i = c.args.i in
     let e : Escape d after_backslash i (Some (c.in_ok-c.c, i + 1)) = grind (arith, common_steps, content-after_backslash d i (omega arith)) in

@@ -1,4 +1,4 @@
-use Rattle.proof_words.proofs.{◌≡◌, ◌+◌, ◌-◌, ◌<◌, ◌++◌, length, take, drop, Some, None, sym, ap, ◌∙◌, subst, arith, length-take-le, length-drop, append-nil, IsUtf8-append, IsUtf8-between, IsCharBoundary-before_ascii, IsCharBoundary-after_ascii, prefix_len, IsUtf8, IsCharBoundary}
+use Rattle.proof_words.proofs.{◌≡◌, ◌+◌, ◌-◌, ◌<◌, ◌++◌, length, take, drop, Some, None, sym, ap, ◌∙◌, subst, arith, IsUtf8-append, IsUtf8-between, IsCharBoundary-before_ascii, IsCharBoundary-after_ascii, common_steps, prefix_len, IsUtf8, IsCharBoundary, length-take-le, length-drop, append-nil}
 use Rattle.json.specs.Text.{content, plain, after_backslash, prepend}
 use Rattle.json.specs.Run.{is_plain}
 use Rattle.json_values.proofs.{prepend-prepend, content-to_stop, at_quote, at_backslash, at_control, at_end, stop_is_backslash, in_string-to_stop, in_string-quote, in_string-backslash}
@@ -15,22 +15,8 @@ returns-then-stop-bytes-clause-value c =
     let none : content plain (drop stop d) ≡ None = grind (arith, at_end d stop, at_control d stop, same) in
     so_far ∙ ap (prepend _) none
 
-pub returns-then-bytes-stop-eq34-clause-value : goal.returns-then-bytes-stop-eq34-clause-value
-returns-then-bytes-stop-eq34-clause-value c =
-    let d = c.args.text.now in
-    let l = c.loop-bytes in
-    let stop = c.plain_end-stop.result in
-    let same = c.as_bytes-bytes.ensures.value in
-    let is : stop ≡ l.i + prefix_len is_plain (drop l.i d) = rw (← same) c.plain_end-stop.ensures.value in
-    let so_far = l.invariant.0 ∙ ap (prepend (take l.n l.out)) (content-to_stop d l.i stop is) ∙ prepend-prepend (take l.n l.out) _ _ in
-    let run = take (stop - l.i) (drop l.i d) in
-    let within : stop < length d = omega arith in
-    let long : length run ≡ stop - l.i = length-take-le (stop - l.i) (drop l.i d) (omega (arith, length-drop l.i d)) in
-    let written : take (l.n + (stop - l.i)) c.append_run.new.out ≡ take l.n l.out ++ run = rw (← same) c.append_run.ensures.written in
-    so_far ∙ ap (prepend _) (at_quote d stop within (grind (arith, same))) ∙ ap Some (append-nil _ ∙ sym written)
-
-pub returns-then-bytes-stop-eq34-clause-text : goal.returns-then-bytes-stop-eq34-clause-text
-returns-then-bytes-stop-eq34-clause-text c =
+pub returns-then-bytes-stop-eq34 : goal.returns-then-bytes-stop-eq34
+returns-then-bytes-stop-eq34 c =
     let d = c.args.text.now in
     let l = c.loop-bytes in
     let stop = c.plain_end-stop.result in
@@ -42,17 +28,13 @@ returns-then-bytes-stop-eq34-clause-text c =
     let long : length run ≡ stop - l.i = length-take-le (stop - l.i) (drop l.i d) (omega (arith, length-drop l.i d)) in
     let written : take (l.n + (stop - l.i)) c.append_run.new.out ≡ take l.n l.out ++ run = rw (← same) c.append_run.ensures.written in
     let ends = IsCharBoundary-before_ascii d stop within (grind (arith, same)) in
-    (omega arith, subst IsUtf8 (sym written) (IsUtf8-append _ run l.invariant.1 (IsUtf8-between d l.i stop c.utf8.text (omega arith) l.invariant.2 ends)))
-
-pub returns-then-bytes-stop-eq34-clause-after : goal.returns-then-bytes-stop-eq34-clause-after
-returns-then-bytes-stop-eq34-clause-after c =
-    let d = c.args.text.now in
-    let l = c.loop-bytes in
-    let stop = c.plain_end-stop.result in
-    let same = c.as_bytes-bytes.ensures.value in
-    let is : stop ≡ l.i + prefix_len is_plain (drop l.i d) = rw (← same) c.plain_end-stop.ensures.value in
-    let within : stop < length d = omega arith in
-    l.invariant.5 ∙ in_string-to_stop d l.i stop is ∙ in_string-quote d stop within (grind (arith, same))
+    record {
+      value = so_far ∙ ap (prepend _) (at_quote d stop within (grind (arith, same))) ∙ ap Some (append-nil _ ∙ sym written);
+      text = (omega arith, subst IsUtf8 (sym written) (IsUtf8-append _ run l.invariant.1 (IsUtf8-between d l.i stop c.utf8.text (omega arith) l.invariant.2 ends)));
+      after = l.invariant.5 ∙ in_string-to_stop d l.i stop is ∙ in_string-quote d stop within (grind (arith, same));
+      bounds = grind (arith, common_steps);
+      len = grind (arith, common_steps);
+    }
 
 pub returns-in_err-c-clause-value : goal.returns-in_err-c-clause-value
 returns-in_err-c-clause-value c =

@@ -3,13 +3,10 @@ use Rattle.json.specs.Word.{after_number}
 use Rattle.json_values.proofs.word.number_end.Goals as goal
 
 pub returns-in_err-point : goal.returns-in_err-point
-unfolding after_number
-returns-in_err-point c = first_of (search rules, grind (arith, common_steps))
+returns-in_err-point c = unfold after_number in first_of (search rules, grind (arith, common_steps))
 
 pub returns-in_err-power : goal.returns-in_err-power
-unfolding after_number
-returns-in_err-power c = first_of (search rules, grind (arith, common_steps))
+returns-in_err-power c = unfold after_number in first_of (search rules, grind (arith, common_steps))
 
 pub returns : goal.returns
-unfolding after_number
-returns c = first_of (search rules, grind (arith, common_steps))
+returns c = unfold after_number in first_of (search rules, grind (arith, common_steps))

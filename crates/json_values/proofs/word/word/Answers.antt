@@ -5,29 +5,22 @@ use Rattle.json.proofs.Printed.Numbers.{in_word-ended}
 use Rattle.json_values.proofs.word.word.Goals as goal
 
 pub literal-requires-clause-named : goal.literal-requires-clause-named
-unfolding lex
-literal-requires-clause-named c = (omega arith, refl, λ r ended. sym (in_word-ended r ended))
+literal-requires-clause-named c = unfold lex in (omega arith, refl, λ r ended. sym (in_word-ended r ended))
 
 pub literal-requires-in-102-clause-named : goal.literal-requires-in-102-clause-named
-unfolding lex
-literal-requires-in-102-clause-named c = (omega arith, refl, λ r ended. sym (in_word-ended r ended))
+literal-requires-in-102-clause-named c = unfold lex in (omega arith, refl, λ r ended. sym (in_word-ended r ended))
 
 pub literal-requires-in-110-clause-named : goal.literal-requires-in-110-clause-named
-unfolding lex
-literal-requires-in-110-clause-named c = (omega arith, refl, λ r ended. sym (in_word-ended r ended))
+literal-requires-in-110-clause-named c = unfold lex in (omega arith, refl, λ r ended. sym (in_word-ended r ended))
 
 pub returns-in-116 : goal.returns-in-116
-unfolding word
-returns-in-116 c = first_of (search rules, grind (arith, common_steps))
+returns-in-116 c = unfold word in first_of (search rules, grind (arith, common_steps))
 
 pub returns-in-102 : goal.returns-in-102
-unfolding word
-returns-in-102 c = first_of (search rules, grind (arith, common_steps))
+returns-in-102 c = unfold word in first_of (search rules, grind (arith, common_steps))
 
 pub returns-in-110 : goal.returns-in-110
-unfolding word
-returns-in-110 c = first_of (search rules, grind (arith, common_steps))
+returns-in-110 c = unfold word in first_of (search rules, grind (arith, common_steps))
 
 pub returns-in_default : goal.returns-in_default
-unfolding word
-returns-in_default c = first_of (search rules, grind (arith, common_steps))
+returns-in_default c = unfold word in first_of (search rules, grind (arith, common_steps))

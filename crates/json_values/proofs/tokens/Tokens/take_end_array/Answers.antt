@@ -21,8 +21,7 @@ pub skip-requires : goal.skip-requires
 skip-requires c = let e : head c.self.inside.lexer.text ≡ 93 = grind arith in ap class e
 
 pub returns-clause-end : goal.returns-clause-end
-unfolding punctuate
-returns-clause-end c =
+returns-clause-end c = unfold punctuate in
     let a = c.self.inside in
     let t = a.lexer.text in
     let e : head t ≡ 93 = grind arith in
