@@ -5,7 +5,7 @@ use Rattle.json.specs.Lex.{tokens}
 use Rattle.json.specs.Print.{print}
 use Rattle.json.specs.Json as json
 use Rattle.json.proofs.Printed.Trees.{value-json_tokens}
-use Rattle.serde_json.specs.Data.{Data, depth, null, boolean, number, string, array, object, Members, no_members, member}
+use Rattle.serde_json.specs.Data.{Data, depth, null, object, Members, no_members, member}
 use Rattle.serde_json.specs.Find.{as_object}
 use Rattle.serde_json.specs.Written.{compact_text, has_float, members_have_float, IsInOrder, WritesValue}
 use Rattle.serde_json.proofs.Texts.{tokens_from_order, print-outline}
@@ -15,27 +15,19 @@ use Rattle.doc_json.specs.declared.fault.DocFault.TheVariants as faults
 
 pub is_object : (d : Data) (ms : Members) → as_object d ≡ Some ms → d ≡ object ms
 is_object null ms e = cc
-is_object (boolean b) ms e = cc
-is_object (number n) ms e = cc
-is_object (string s) ms e = cc
-is_object (array ds) ms e = cc
-is_object (object ns) ms e = cc
+is_object _ ms e = cc
 
 pub body_no_object : (d : Data) → as_object d ≡ None → body_read d ≡ Err faults.NotObject
-unfolding body_read
-body_no_object d e = rw e refl
+body_no_object d e = unfold body_read in rw e refl
 
 pub body_special : (d : Data) (ms : Members) → as_object d ≡ Some ms → has_special ms ≡ true → body_read d ≡ Err faults.SpecialMember
-unfolding body_read
-body_special d ms e special = rw (e, special) refl
+body_special d ms e special = unfold body_read in rw (e, special) refl
 
 pub body_fraction : (d : Data) (ms : Members) → as_object d ≡ Some ms → has_special ms ≡ false → members_have_float ms ≡ true → body_read d ≡ Err faults.Fraction
-unfolding body_read
-body_fraction d ms e plain float = rw (e, plain, float) refl
+body_fraction d ms e plain float = unfold body_read in rw (e, plain, float) refl
 
 pub body_ok : (d : Data) (ms : Members) → as_object d ≡ Some ms → has_special ms ≡ false → members_have_float ms ≡ false → body_read d ≡ Ok (compact_text d)
-unfolding body_read
-body_ok d ms e plain exact = rw (e, plain, exact) (ap (λ x. Ok (compact_text x)) (sym (is_object d ms e)))
+body_ok d ms e plain exact = unfold body_read in rw (e, plain, exact) (ap (λ x. Ok (compact_text x)) (sym (is_object d ms e)))
 
 -- ---- the plain members are plain
 

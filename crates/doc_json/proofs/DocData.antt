@@ -37,14 +37,12 @@ sig_items_text r (q ∷ revs) h each =
     ∙ sym (append_assoc (sig_text r) (44 ∷ sig_texts (q ∷ revs)) (93 ∷ []))
 
 rest_of : (ms : Members) → members_text true ms ≡ rest_text (compact_text (object ms))
-unfolding escape_byte
-rest_of no_members = refl
-rest_of (member k d ms) = refl
+rest_of no_members = unfold escape_byte in refl
+rest_of (member k d ms) = unfold escape_byte in refl
 
 flag_text : (deleted : Bool) (ms : Members) → members_text true (with_flag deleted ms) ≡ deleted_text deleted ++ rest_text (compact_text (object ms))
-unfolding escape_byte
-flag_text true ms = ap (λ t. codes ",\"_deleted\":true" ++ t) (rest_of ms)
-flag_text false ms = rest_of ms
+flag_text true ms = unfold escape_byte in ap (λ t. codes ",\"_deleted\":true" ++ t) (rest_of ms)
+flag_text false ms = unfold escape_byte in rest_of ms
 
 -- the pieces of the text, each before the rest
 abbrev laid : List ℕ → List ℕ → List ℕ → List ℕ → List ℕ → List ℕ
@@ -53,16 +51,14 @@ laid id rev start ids rest =
 
 laid_is : (id : List ℕ) (head : RevId) (older : List RevId) (deleted : Bool) (ms : Members)
     → compact_text (object (doc_members id head older deleted ms)) ≡ laid (quoted id) (escape (rev_text head)) (decimal head.generation) (items_text false (sig_items (head ∷ older))) (members_text true (with_flag deleted ms))
-unfolding escape_byte
-laid_is id head older deleted ms = refl
+laid_is id head older deleted ms = unfold escape_byte in refl
 
 regroup : (a b c d e f g h i j k l m : List ℕ) → a ++ (b ++ (c ++ ((d ++ e) ++ (f ++ ((g ++ (h ++ (i ++ ((j ++ k) ++ l)))) ++ m))))) ≡ ((a ++ b) ++ ((((((c ++ d) ++ (e ++ (f ++ g))) ++ h) ++ i) ++ j) ++ (k ++ l))) ++ m
 regroup a b c d e f g h i j k l m = simp append_assoc
 
 pub doc_members_text : (id : List ℕ) (head : RevId) (older : List RevId) (deleted : Bool) (ms : Members) (body : List ℕ) → IsRev head → AllByRecursion IsRev older → body ≡ compact_text (object ms)
     → doc_text (record { id = id; ancestry = head ∷ older; deleted = deleted; body = body }) ≡ compact_text (object (doc_members id head older deleted ms))
-unfolding doc_text revs_text
-doc_members_text id head older deleted ms body rev each is =
+doc_members_text id head older deleted ms body rev each is = unfold doc_text revs_text in
     let revs = head ∷ older in
     let rest = deleted_text deleted ++ rest_text (compact_text (object ms)) in
     sym (laid_is id head older deleted ms

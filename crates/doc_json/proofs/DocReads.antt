@@ -22,39 +22,31 @@ pub found_at : (k : List ℕ) (d : Data) (ms : Members) (o : Option Data) → as
 found_at k d ms o object h = ap (get k) (is_object d ms object) ∙ sym h
 
 pub no_object : (d : Data) → as_object d ≡ None → doc_read d ≡ Err faults.NotObject
-unfolding doc_read
-no_object d e = rw e refl
+no_object d e = unfold doc_read in rw e refl
 
 module _ (d : Data) (ms : Members) (object : as_object d ≡ Some ms) where
   pub bad_id : (e : DocFault) → id_member d ≡ Err e → doc_read d ≡ Err e
-  unfolding doc_read
-  bad_id e h = rw (object, h) refl
+  bad_id e h = unfold doc_read in rw (object, h) refl
 
   module _ (id : List ℕ) (named : id_member d ≡ Ok id) where
     pub attached : is_some (get (codes "_attachments") d) ≡ true → doc_read d ≡ Err faults.Attachments
-    unfolding doc_read
-    attached h = rw (object, named, h) refl
+    attached h = unfold doc_read in rw (object, named, h) refl
 
     module _ (unattached : is_some (get (codes "_attachments") d) ≡ false) where
       pub unknown : has_unknown ms ≡ true → doc_read d ≡ Err faults.SpecialMember
-      unfolding doc_read
-      unknown h = rw (object, named, unattached, h) refl
+      unknown h = unfold doc_read in rw (object, named, unattached, h) refl
 
       module _ (known : has_unknown ms ≡ false) where
         pub bad_flag : (e : DocFault) → flag_of (get (codes "_deleted") d) ≡ Err e → doc_read d ≡ Err e
-        unfolding doc_read
-        bad_flag e h = rw (object, named, unattached, known, h) refl
+        bad_flag e h = unfold doc_read in rw (object, named, unattached, known, h) refl
 
         module _ (deleted : Bool) (flag : flag_of (get (codes "_deleted") d) ≡ Ok deleted) where
           pub bad_revs : (e : DocFault) → revs_read d ≡ Err e → doc_read d ≡ Err e
-          unfolding doc_read
-          bad_revs e h = rw (object, named, unattached, known, flag, h) refl
+          bad_revs e h = unfold doc_read in rw (object, named, unattached, known, flag, h) refl
 
           module _ (revs : List RevId) (read : revs_read d ≡ Ok revs) where
             pub fraction : members_have_float (plain_members ms) ≡ true → doc_read d ≡ Err faults.Fraction
-            unfolding doc_read
-            fraction h = rw (object, named, unattached, known, flag, read, h) refl
+            fraction h = unfold doc_read in rw (object, named, unattached, known, flag, read, h) refl
 
             pub accepted : members_have_float (plain_members ms) ≡ false → doc_read d ≡ Ok (record { id = id; ancestry = revs; deleted = deleted; body = body_text ms })
-            unfolding doc_read
-            accepted h = rw (object, named, unattached, known, flag, read, h) refl
+            accepted h = unfold doc_read in rw (object, named, unattached, known, flag, read, h) refl

@@ -1,5 +1,5 @@
 -- The members `_rev` and `_revisions`, before anything of them is copied.
-use Rattle.proof_words.proofs.{◌≡◌, ℕ, ◌^◌, ◌<◌, ◌≤◌, List, [], ◌∷◌, length, map, Bool, true, false, cond, nat_eq, nat_lt, nat_le, Option, Some, None, is_some, option_map, option_and_then, Result, Ok, Err, is_ok, codes, slice_get, inl, inr, refl, sym, ap, ◌∙◌, arith, eq_by_cmp, lt-ltb, le-ltb, le-leb, lt-leb, ne_eqb, cases_lt, false≢true}
+use Rattle.proof_words.proofs.{◌≡◌, ℕ, ◌^◌, ◌<◌, ◌≤◌, List, [], ◌∷◌, length, map, Bool, true, false, cond, nat_eq, nat_lt, nat_le, Option, Some, None, is_some, option_map, option_and_then, Result, Ok, Err, is_ok, codes, slice_get, inl, inr, refl, sym, ap, ◌∙◌, arith, eq_by_cmp, lt-leb, cases_lt, false≢true, lt-ltb, le-ltb, le-leb, ne_eqb}
 use Rattle.serde_json.specs.Data.{Data}
 use Rattle.serde_json.specs.Find.{get, as_str}
 use Rattle.serde_json.specs.View.{items_of}
@@ -73,9 +73,7 @@ head_none r s (first ∷ sigs) e = absurd (cc)
 -- ---- what a good document has
 
 pub revs_by : (d : Data) (rev : Option RevId) → rev_member (get (codes "_rev") d) ≡ Ok rev → revs_read d ≡ with_revisions (get (codes "_revisions") d) rev
-unfolding revs_read
-revs_by d rev e = ap (λ r. r >>= with_revisions (get (codes "_revisions") d)) e
+revs_by d rev e = unfold revs_read in ap (λ r. r >>= with_revisions (get (codes "_revisions") d)) e
 
 pub revs_refused : (d : Data) (fault : DocFault) → rev_member (get (codes "_rev") d) ≡ Err fault → revs_read d ≡ Err fault
-unfolding revs_read
-revs_refused d fault e = ap (λ r. r >>= with_revisions (get (codes "_revisions") d)) e
+revs_refused d fault e = unfold revs_read in ap (λ r. r >>= with_revisions (get (codes "_revisions") d)) e

@@ -1,6 +1,6 @@
 -- Numbers that are no floats, by what is asked of them.
 use Rattle.proof_words.proofs.{◌≡◌, ℕ, ℤ, pos, negsuc, true, Some, None, int_lt, SFits, w64, arith, signed_decimal}
-use Rattle.serde_json.specs.Data.{Num, unsigned, negative, float}
+use Rattle.serde_json.specs.Data.{Num, unsigned, negative}
 use Rattle.serde_json.specs.Find.{as_u64, as_i64}
 use Rattle.serde_json.specs.Number.{is_valid, num_of}
 use Rattle.serde_json.specs.Read.{number_of}
@@ -10,8 +10,7 @@ use Rattle.serde_json.proofs.Numbers.{number_of-negative}
 
 pub is_unsigned : (x : Num) (n : ℕ) → as_u64 x ≡ Some n → x ≡ unsigned n
 is_unsigned (unsigned m) n e = cc
-is_unsigned (negative z) n e = cc
-is_unsigned (float x) n e = cc
+is_unsigned _ n e = cc
 
 -- a number that is neither unsigned nor a float is below zero
 pub is_below_zero : (x : N) (z : ℤ) → is_valid x ≡ true → as_i64 (num_of x) ≡ Some z → as_u64 (num_of x) ≡ None → (num_of x ≡ negative z) × (int_lt z (pos 0) ≡ true)

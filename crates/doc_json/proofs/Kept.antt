@@ -1,5 +1,5 @@
 -- What was found for a name among the members so far.
-use Rattle.proof_words.proofs.{◌≡◌, ℕ, List, Bool, true, false, cond, Option, Some, None, is_some, refl, sym, ap, ◌∙◌, option_or, Ordering, Less, Equal, Greater, nat_cmp, match_ordering, is_eq, bytes_eq, slice_cmp, is_eq-slice_cmp, bytes_eq-Decides, false≢true, true≢false}
+use Rattle.proof_words.proofs.{◌≡◌, ℕ, List, Bool, true, false, cond, Option, Some, None, is_some, refl, sym, ap, ◌∙◌, option_or, nat_cmp, match_ordering, is_eq, bytes_eq, slice_cmp, is_eq-slice_cmp, bytes_eq-Decides, false≢true, Ordering, Less, true≢false, false_from_ne_true}
 use Rattle.serde_json.specs.Data.{Data, Members, no_members, member}
 use Rattle.serde_json.specs.Find.{get_member}
 
@@ -9,16 +9,11 @@ none_yet (Some x) p e = absurd (true≢false (sym e))
 
 chosen : (o : Ordering) (d : Data) (rest : Option Data) (b : Bool) → is_eq o ≡ b → match_ordering o rest (Some d) rest ≡ cond b (Some d) rest
 chosen Less d rest b e = ap (λ t. cond t (Some d) rest) e
-chosen Equal d rest b e = ap (λ t. cond t (Some d) rest) e
-chosen Greater d rest b e = ap (λ t. cond t (Some d) rest) e
+chosen _ d rest b e = ap (λ t. cond t (Some d) rest) e
 
 turned : (xs ys : List ℕ) (b : Bool) → b ≡ bytes_eq xs ys → bytes_eq ys xs ≡ b
 turned xs ys true e = (bytes_eq-Decides ys xs).1 (sym ((bytes_eq-Decides xs ys).0 (sym e)))
-turned xs ys false e = is_false _ (λ t. false≢true (e ∙ (bytes_eq-Decides xs ys).1 (sym ((bytes_eq-Decides ys xs).0 t))))
-  where
-    is_false : (x : Bool) → (x ≡ true → ⊥) → x ≡ false
-    is_false true h = absurd (h refl)
-    is_false false h = refl
+turned xs ys false e = false_from_ne_true _ (λ t. false≢true (e ∙ (bytes_eq-Decides xs ys).1 (sym ((bytes_eq-Decides ys xs).0 t))))
 
 -- the member of a name, or what is behind
 pub looked_at : (k name : List ℕ) (d : Data) (ms : Members) (b : Bool) → b ≡ bytes_eq name k → get_member k (member name d ms) ≡ cond b (Some d) (get_member k ms)
@@ -32,8 +27,7 @@ one_more k name d ms None found out e h = ap (λ t. option_or t (get_member k ms
   where
     behind : (o : Ordering) (d : Data) (rest : Option Data) → option_or (match_ordering o None (Some d) None) rest ≡ match_ordering o rest (Some d) rest
     behind Less d rest = refl
-    behind Equal d rest = refl
-    behind Greater d rest = refl
+    behind _ d rest = refl
 
 pub more : (k name : List ℕ) (d : Data) (ms before : Members) (o found out : Option Data) → before ≡ member name d ms
     → found ≡ option_or o (get_member k (member name d no_members)) → option_or o (get_member k before) ≡ out → option_or found (get_member k ms) ≡ out

@@ -1,16 +1,14 @@
 -- Where no text is known to be plain, nothing is said of any.
 use Rattle.proof_words.proofs.{false, false≢true}
-use Rattle.serde_json.specs.Data.{Data, null, boolean, number, string, array, object, Items, no_items, item, Members, no_members, member}
+use Rattle.serde_json.specs.Data.{Data, string, array, object, Items, no_items, item, Members, no_members, member}
 use Rattle.json_values.specs.{ArePlain, AreItemsPlain, AreMembersPlain}
 
 mutual
   pub none_plain : (d : Data) → ArePlain (record { names = false; values = false }) d
-  none_plain null = tt
-  none_plain (boolean b) = tt
-  none_plain (number n) = tt
   none_plain (string s) = λ known. absurd (false≢true known)
   none_plain (array ds) = no_item_plain ds
   none_plain (object ms) = no_member_plain ms
+  none_plain _ = tt
 
   no_item_plain : (ds : Items) → AreItemsPlain (record { names = false; values = false }) ds
   no_item_plain no_items = tt

@@ -3,7 +3,7 @@ use Rattle.proof_words.proofs.{◌≡◌, ℕ, List, [], Bool, true, false, cond
 use Rattle.json.specs.Json as json
 use Rattle.json.specs.Lex.{tokens}
 use Rattle.json.specs.Tree.{json_tokens, HasNumbers, ItemsHaveNumbers, MembersHaveNumbers}
-use Rattle.serde_json.specs.Data.{Data, null, boolean, number, string, array, object, Items, no_items, item, Members, no_members, member, put}
+use Rattle.serde_json.specs.Data.{Data, number, array, object, Items, no_items, item, Members, no_members, member, put}
 use Rattle.serde_json.specs.Read.{of_json, of_items, of_members}
 use Rattle.serde_json.specs.Written.{number_text, outline, items_outline, members_outline, blank, blank_items, blank_members, compact_text, has_float, items_have_float, members_have_float}
 use Rattle.serde_json.proofs.Texts.{print-outline, unless_float-number_of}
@@ -11,40 +11,6 @@ use Rattle.json_values.specs.{AllBehind, IsOrdered, AreOrdered, IsInOrderOfNames
 use Rattle.doc_json.specs.{IsWritten, is_special, plain_members, AllReadBack, ItemsReadBack, MembersReadBack}
 use Rattle.doc_json.proofs.BodyReads.{is_written}
 use Rattle.doc_json.proofs.WrittenTexts.{compact_tokens, depth-outline}
-
-mutual
-  has_numbers : (d : Data) → AllReadBack d → HasNumbers (outline d)
-  has_numbers null h = tt
-  has_numbers (boolean b) h = tt
-  has_numbers (number n) h = h.0
-  has_numbers (string s) h = tt
-  has_numbers (array ds) h = items_have_numbers ds h
-  has_numbers (object ms) h = members_have_numbers ms h
-
-  items_have_numbers : (ds : Items) → ItemsReadBack ds → ItemsHaveNumbers (items_outline ds)
-  items_have_numbers no_items h = tt
-  items_have_numbers (item d ds) h = (has_numbers d h.0, items_have_numbers ds h.1)
-
-  members_have_numbers : (ms : Members) → MembersReadBack ms → MembersHaveNumbers (members_outline ms)
-  members_have_numbers no_members h = tt
-  members_have_numbers (member k d ms) h = (has_numbers d h.0, members_have_numbers ms h.1)
-
-mutual
-  blank_outline : (d : Data) → AllReadBack d → has_float d ≡ false → blank (outline d) ≡ outline d
-  blank_outline null h e = refl
-  blank_outline (boolean b) h e = refl
-  blank_outline (number n) h e = ap json.number (unless_float-number_of _ n h.1 ∙ ap (λ b. cond b [] (number_text n)) e)
-  blank_outline (string s) h e = refl
-  blank_outline (array ds) h e = ap json.array (blank_items_outline ds h e)
-  blank_outline (object ms) h e = ap json.object (blank_members_outline ms h e)
-
-  blank_items_outline : (ds : Items) → ItemsReadBack ds → items_have_float ds ≡ false → blank_items (items_outline ds) ≡ items_outline ds
-  blank_items_outline no_items h e = refl
-  blank_items_outline (item d ds) h e = let p = or_parts (has_float d) _ e in ap₂ json.item (blank_outline d h.0 p.0) (blank_items_outline ds h.1 p.1)
-
-  blank_members_outline : (ms : Members) → MembersReadBack ms → members_have_float ms ≡ false → blank_members (members_outline ms) ≡ members_outline ms
-  blank_members_outline no_members h e = refl
-  blank_members_outline (member k d ms) h e = let p = or_parts (has_float d) _ e in ap₂ (json.member k) (blank_outline d h.0 p.0) (blank_members_outline ms h.1 p.1)
 
 -- ---- members that are put in one after another
 
@@ -76,33 +42,38 @@ middle : (found : Members) (k : List ℕ) (d : Data) (ms : Members) → IsInOrde
 middle no_members k d ms h = h.1
 middle (member l e found) k d ms h = middle found k d ms h.2
 
+-- the outline has numbers that can be written, none is a float, and it reads as the data
 mutual
-  of_json-outline : (d : Data) → AllReadBack d → IsOrdered d → of_json (outline d) ≡ Some d
-  of_json-outline null h o = refl
-  of_json-outline (boolean b) h o = refl
-  of_json-outline (number n) h o = ap (option_map number) h.1
-  of_json-outline (string s) h o = refl
-  of_json-outline (array ds) h o = ap (option_map array) (of_items-outline ds h o)
-  of_json-outline (object ms) h o = ap (option_map object) (of_members-outline ms no_members h o)
+  outlined : (d : Data) → AllReadBack d → IsOrdered d → has_float d ≡ false → HasNumbers (outline d) × (blank (outline d) ≡ outline d) × (of_json (outline d) ≡ Some d)
+  outlined (number n) h o e = (h.0, ap json.number (unless_float-number_of _ n h.1 ∙ ap (λ b. cond b [] (number_text n)) e), ap (option_map number) h.1)
+  outlined (array ds) h o e = let all = items_outlined ds h o e in (all.0, ap json.array all.1, ap (option_map array) all.2)
+  outlined (object ms) h o e = let all = members_outlined ms no_members h o e in (all.0, ap json.object all.1, ap (option_map object) all.2)
+  outlined _ h o e = (tt, refl, refl)
 
-  of_items-outline : (ds : Items) → ItemsReadBack ds → AreOrdered ds → of_items (items_outline ds) ≡ Some ds
-  of_items-outline no_items h o = refl
-  of_items-outline (item d ds) h o =
-      ap (option_and_then (λ e. option_map (item e) (of_items (items_outline ds)))) (of_json-outline d h.0 o.0) ∙ ap (option_map (item d)) (of_items-outline ds h.1 o.1)
+  items_outlined : (ds : Items) → ItemsReadBack ds → AreOrdered ds → items_have_float ds ≡ false
+      → ItemsHaveNumbers (items_outline ds) × (blank_items (items_outline ds) ≡ items_outline ds) × (of_items (items_outline ds) ≡ Some ds)
+  items_outlined no_items h o e = (tt, refl, refl)
+  items_outlined (item d ds) h o e =
+      let p = or_parts (has_float d) _ e in
+      let one = outlined d h.0 o.0 p.0 in
+      let more = items_outlined ds h.1 o.1 p.1 in
+      ((one.0, more.0), ap₂ json.item one.1 more.1, ap (option_and_then (λ e. option_map (item e) (of_items (items_outline ds)))) one.2 ∙ ap (option_map (item d)) more.2)
 
-  of_members-outline : (ms found : Members) → MembersReadBack ms → IsInOrderOfNames (onto found ms) → of_members (members_outline ms) found ≡ Some (onto found ms)
-  of_members-outline no_members found h o = ap Some (sym (onto-none found))
-  of_members-outline (member k d ms) found h o =
-      ap (option_and_then (λ e. of_members (members_outline ms) (put k e found))) (of_json-outline d h.0 (middle found k d ms o))
-      ∙ ap (of_members (members_outline ms)) (put_last found k d ms o)
-      ∙ of_members-outline ms (onto found (member k d no_members)) h.1 (subst IsInOrderOfNames (onto-one found k d ms) o)
-      ∙ ap Some (sym (onto-one found k d ms))
+  members_outlined : (ms found : Members) → MembersReadBack ms → IsInOrderOfNames (onto found ms) → members_have_float ms ≡ false
+      → MembersHaveNumbers (members_outline ms) × (blank_members (members_outline ms) ≡ members_outline ms) × (of_members (members_outline ms) found ≡ Some (onto found ms))
+  members_outlined no_members found h o e = (tt, refl, ap Some (sym (onto-none found)))
+  members_outlined (member k d ms) found h o e =
+      let p = or_parts (has_float d) _ e in
+      let one = outlined d h.0 (middle found k d ms o) p.0 in
+      let more = members_outlined ms (onto found (member k d no_members)) h.1 (subst IsInOrderOfNames (onto-one found k d ms) o) p.1 in
+      let read = ap (option_and_then (λ e. of_members (members_outline ms) (put k e found))) one.2 ∙ ap (of_members (members_outline ms)) (put_last found k d ms o) in
+      ((one.0, more.0), ap₂ (json.member k) one.1 more.1, read ∙ more.2 ∙ ap Some (sym (onto-one found k d ms)))
 
 -- the text of such data is what a writer promises
 pub written_text : (d : Data) (text : List ℕ) → text ≡ compact_text d → AllReadBack d → IsOrdered d → has_float d ≡ false → IsWritten text d
 written_text d text is numbers order exact =
-    is_written d (json_tokens (outline d)) text (outline d, refl, of_json-outline d numbers order, omega (arith, depth-outline d), blank_outline d numbers exact)
-    (is ∙ sym (print-outline d)) (ap tokens is ∙ compact_tokens d (has_numbers d numbers)) exact
+    let all = outlined d numbers order exact in
+    is_written d (json_tokens (outline d)) text (outline d, refl, all.2, omega (arith, depth-outline d), all.1) (is ∙ sym (print-outline d)) (ap tokens is ∙ compact_tokens d all.0) exact
 
 -- ---- the plain members stand in order too
 
@@ -113,11 +84,3 @@ behind_if false k l d ms less h = (less, h)
 pub behind_plain : (k : List ℕ) (ms : Members) → AllBehind k ms → AllBehind k (plain_members ms)
 behind_plain k no_members h = tt
 behind_plain k (member l d ms) h = behind_if (is_special l) k l d (plain_members ms) h.0 (behind_plain k ms h.1)
-
-ordered_if : (b : Bool) (l : List ℕ) (d : Data) (ms : Members) → AllBehind l ms → IsOrdered d → IsInOrderOfNames ms → IsInOrderOfNames (if b then ms else member l d ms)
-ordered_if true l d ms behind inside h = h
-ordered_if false l d ms behind inside h = (behind, inside, h)
-
-pub ordered_plain : (ms : Members) → IsInOrderOfNames ms → IsInOrderOfNames (plain_members ms)
-ordered_plain no_members h = tt
-ordered_plain (member l d ms) h = ordered_if (is_special l) l d (plain_members ms) (behind_plain l ms h.0) h.1 (ordered_plain ms h.2)

@@ -73,13 +73,9 @@ module _ (id : List ℕ) (head : RevId) (older : List RevId) where
 
 -- ---- reading them
 
-Some_members : (a b : Members) → Some a ≡ Some b → a ≡ b
-Some_members a b e = cc
-
 revs_back : (d : Data) (head : RevId) (older : List RevId) (deleted : Bool) (doc : Document) → doc.ancestry ≡ head ∷ older → IsDocument doc → get (codes "_rev") d ≡ Some (string (rev_text head))
     → get (codes "_revisions") d ≡ Some (revisions_value head older) → revs_read d ≡ Ok (head ∷ older)
-unfolding revs_read
-revs_back d head older deleted doc is h rev revisions =
+revs_back d head older deleted doc is h rev revisions = unfold revs_read in
     let ancestry = subst IsAncestry is h.ancestry in
     ap (λ r. rev_member r >>= with_revisions (get (codes "_revisions") d)) rev
     ∙ ap (λ r. (named faults.NoRev r >>= (λ x. Ok (Some x))) >>= with_revisions (get (codes "_revisions") d)) (rev_read-text head ancestry.each.0)
@@ -98,8 +94,8 @@ module _ (id : List ℕ) (head : RevId) (older : List RevId) (deleted : Bool) (b
     accepted_back out b back =
         let found : (k : List ℕ) → is_special k ≡ true → get k (object out) ≡ get_member k (special_members id head older deleted) = b.special in
         let ms = h.body.members in
-        let same : plain_members out ≡ ms =
-        Some_members _ _ (sym b.plain ∙ ap (of_members (members_outline ms)) (none_plain id head older deleted) ∙ back) in
+        let both : Some (plain_members out) ≡ Some ms = sym b.plain ∙ ap (of_members (members_outline ms)) (none_plain id head older deleted) ∙ back in
+        let same : plain_members out ≡ ms = cc in
         let named_id : id_member (object out) ≡ Ok id =
         ap (λ o. or_refused faults.NoId (option_and_then as_str o) >>= doc_id_read) (found (codes "_id") refl ∙ id_there id head older deleted) ∙ h.id in
         let text : body_text out ≡ body = ap (λ x. compact_text (object x)) same ∙ sym h.body.written.compact in

@@ -1,5 +1,5 @@
 -- Members in order of their names, with and without special ones.
-use Rattle.proof_words.proofs.{◌≡◌, ℕ, List, Bool, true, false, ◌||◌, cond, Ordering, Less, Equal, Greater, Option, Some, None, option_and_then, nat_cmp, is_eq, refl, sym, ap, ◌∙◌, ⊤, match_ordering, ordering_reverse, slice_cmp, nat_list_cmp_total, true≢false, is_eq-slice_cmp, bytes_eq-Decides}
+use Rattle.proof_words.proofs.{◌≡◌, ℕ, List, Bool, true, false, ◌||◌, cond, Ordering, Less, Equal, Greater, Option, Some, None, option_and_then, nat_cmp, is_eq, refl, sym, ap, ◌∙◌, ⊤, match_ordering, ordering_reverse, slice_cmp, nat_list_cmp_total, is_eq-slice_cmp, bytes_eq-Decides, true≢false}
 use Rattle.json.specs.Json as json
 use Rattle.serde_json.specs.Data.{Data, Members, no_members, member, put}
 use Rattle.serde_json.specs.Find.{get_member}
@@ -116,9 +116,6 @@ beside_more name j ms found out d plain sorted e h = record {
   known = h.known ∙ unknown-put name d found (not_unknown name plain);
 }
 
-Some_inj : (a b : Members) → Some a ≡ Some b → a ≡ b
-Some_inj a b e = cc
-
 beside_at : (name : List ℕ) (j : json.Json) (ms : json.Members) (found out : Members) → is_special name ≡ false → IsSorted found
     → ((d : Data) → of_members ms (put name d found) ≡ Some out → IsBeside ms (put name d found) out)
     → (o : Option Data) → of_json j ≡ o → option_and_then (λ d. of_members ms (put name d found)) o ≡ Some out → IsBeside (json.member name j ms) found out
@@ -127,7 +124,7 @@ beside_at name j ms found out plain sorted later (Some d) is e = beside_more nam
 
 pub beside : (ms : json.Members) (found out : Members) → ArePlain ms → IsSorted found → of_members ms found ≡ Some out → IsBeside ms found out
 beside json.no_members found out plain sorted e =
-    let same = Some_inj found out e in
+    let same : found ≡ out = cc in
     record { plain = ap (λ x. Some (plain_members x)) same; special = λ k special. ap (get_member k) (sym same); known = ap has_unknown (sym same) }
 beside (json.member name j ms) found out plain sorted e =
     beside_at name j ms found out plain.0 sorted (λ d. beside ms (put name d found) out plain.1 (IsSorted-put name d found sorted)) (of_json j) refl e

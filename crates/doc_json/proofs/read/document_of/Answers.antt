@@ -2,7 +2,7 @@ use Rattle.proof_words.proofs.{◌≡◌, List, Result, Ok, Some, ℕ, codes, is
 use Rattle.serde_json.specs.Data.{Data, Members}
 use Rattle.serde_json.specs.Find.{get, get_member, as_object}
 use Rattle.rev_core.specs.{RevId}
-use Rattle.doc_json.specs.{body_text, doc_read, flag_of, id_of, id_member, rev_member, with_revisions, revs_read, DocFault}
+use Rattle.doc_json.specs.{flag_of, id_of, id_member, rev_member, with_revisions, revs_read, DocFault}
 use Rattle.doc_json.specs.Document.{Document}
 use Rattle.doc_json.proofs.{is_object, is_some-option_map, ok_value, found_at, no_object, bad_id, attached, unknown, bad_flag, bad_revs, fraction, accepted, revs_by, revs_refused, refused, out_of_memory}
 use Rattle.json_values.specs.{ArePlain}

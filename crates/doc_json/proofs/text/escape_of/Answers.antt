@@ -3,13 +3,10 @@ use Rattle.json.specs.Print.{escape_byte}
 use Rattle.doc_json.proofs.text.escape_of.Goals as goal
 
 pub returns-then-letter-gt0-clause-value : goal.returns-then-letter-gt0-clause-value
-unfolding escape_byte
-returns-then-letter-gt0-clause-value c = search rules
+returns-then-letter-gt0-clause-value c = unfold escape_byte in search rules
 
 pub returns-then-byte-lt32-clause-value : goal.returns-then-byte-lt32-clause-value
-unfolding escape_byte
-returns-then-byte-lt32-clause-value c = search rules
+returns-then-byte-lt32-clause-value c = unfold escape_byte in search rules
 
 pub returns-clause-value : goal.returns-clause-value
-unfolding escape_byte
-returns-clause-value c = search rules
+returns-clause-value c = unfold escape_byte in search rules

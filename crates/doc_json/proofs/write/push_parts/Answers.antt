@@ -3,5 +3,4 @@ use Rattle.doc_json.specs.{doc_text}
 use Rattle.doc_json.proofs.write.push_parts.Goals as goal
 
 pub returns-clause-text : goal.returns-clause-text
-unfolding doc_text
-returns-clause-text c = search (rules, IfOk-equal, append_assoc)
+returns-clause-text c = unfold doc_text in search (rules, IfOk-equal, append_assoc)

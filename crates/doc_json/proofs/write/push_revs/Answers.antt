@@ -12,8 +12,7 @@ joined o a b c d e f g t u v w x y z =
 
 -- the pieces, one after another
 pub returns-clause-text : goal.returns-clause-text
-unfolding revs_text
-returns-clause-text c =
+returns-clause-text c = unfold revs_text in
     let revs = c.args.ancestry.now in
     joined c.args.out.now.items (codes ",\"_rev\":\"") (head_text revs) (codes "\",\"_revisions\":{\"start\":") (start_text revs) (codes ",\"ids\":[") (sig_texts revs) (codes "]}")
     c.in_ok-extend_from_slice.ensures.items c.in_ok-push_head.ensures.text c.in_ok-extend_from_slice-2.ensures.items c.in_ok-push_start.ensures.text c.in_ok-extend_from_slice-3.ensures.items
