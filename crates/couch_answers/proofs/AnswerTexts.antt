@@ -1,7 +1,7 @@
 -- Answers of CouchDB's forms are read as the documents that they hold.
 use Rattle.proof_words.proofs.{◌≡◌, ℕ, ◌+◌, ◌<◌, ◌==◌, ◌&&◌, nat_lt, List, [], ◌∷◌, ◌++◌, Bool, true, false, cond, refl, sym, ap, subst, ◌∙◌, append-nil, arith, inr}
 use Rattle.document_texts.specs.{Spaces}
-use Rattle.couch_answers.specs.{wants_documents, is_strict, start, is_plain, after, pieces, Piece, IsValue, IsNamed, Holds, document, no_object, of_passed, of_last, of_other, IsObject, no_members, with_members, itself, IsMembers, last_value, value, last_list, IsList, no_items, with_items, IsItems, last_item, item, AreAnswers, no_more, of_object, of_list, IsAnswered, object_first, list_first, Place, Name}
+use Rattle.couch_answers.specs.{wants_documents, is_strict, start, is_plain, after, pieces, Piece, IsValue, IsNamed, Holds, document, IsObject, no_members, with_members, itself, IsMembers, last_value, value, last_list, IsList, no_items, with_items, IsItems, last_item, item, AreAnswers, no_more, of_object, of_list, IsAnswered, object_first, list_first, Place, Name}
 use Rattle.couch_answers.specs.State.{State}
 use Rattle.couch_answers.specs.Grammar as grammar
 use Rattle.couch_answers.specs.declared.place.Place.TheVariants.{Start, Begin, Between, AfterItem, AfterMember, List as ListPlace, Value}
@@ -26,10 +26,7 @@ inner_closed n d p e = ap (λ z. closed_at z p) e ∙ ap (λ b. cond b p Between
 
 not_plain : {w : Wanted} {name : Name} {u : List ℕ} {ps : List Piece} → Holds w name u ps → is_plain name ≡ false
 not_plain (document e c) = refl
-not_plain (no_object e) = refl
-not_plain of_passed = refl
-not_plain of_last = refl
-not_plain of_other = refl
+not_plain _ = refl
 
 outside : (b : Bool) → b ≡ false → (0 == 0 && b) ≡ false
 outside b h = h

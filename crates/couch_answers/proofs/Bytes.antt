@@ -1,41 +1,29 @@
 -- Single bytes of answers, from a place on, where documents are wanted.
 use Rattle.proof_words.proofs.{◌≡◌, ℕ, ◌+◌, ◌-◌, ◌==◌, ◌&&◌, nat_lt, length, List, [], ◌∷◌, ◌++◌, Bool, true, false, cond, refl, sym, subst, arith, Some, and_right}
 use Rattle.document_texts.specs.{is_space, is_json, IsPlain, is_log}
-use Rattle.couch_answers.specs.{wants_documents, wants_leaves, wants_changes, is_strict, covered, at, name_of, is_plain, key_ended, step, given, Piece, Holds, document, no_object, of_passed, of_last, of_other, Place, Name}
+use Rattle.couch_answers.specs.{wants_documents, wants_leaves, wants_changes, is_strict, covered, name_of, is_plain, step, given, Piece, Holds, document, no_object, of_passed, of_last, of_other, Place, Name}
 use Rattle.couch_answers.specs.State.{State}
 use Rattle.couch_answers.specs.declared.place.Place.TheVariants.{Start, Begin, Between, Item, NextItem, AfterItem, Member, NextMember, AfterMember, Key, KeyEscape, Colon, List as ListPlace, Value, Quoted, Escaped}
 use Rattle.couch_answers.specs.declared.place.Wanted.{Wanted}
-use Rattle.couch_answers.specs.declared.place.Wanted.TheVariants.{Documents, Enveloped, Bodies, Unfolded, Leaves, Changes}
+use Rattle.couch_answers.specs.declared.place.Wanted.TheVariants.{Leaves, Changes}
 use Rattle.couch_answers.specs.declared.place.Name.TheVariants as names
 use Rattle.couch_answers.specs.declared.place.Found.TheVariants as found
 
 -- ---- what is wanted
 
 pub no_leaves : (w : Wanted) → wants_documents w ≡ true → wants_leaves w ≡ false
-no_leaves Documents h = refl
-no_leaves Enveloped h = refl
-no_leaves Bodies h = refl
-no_leaves Unfolded h = refl
 no_leaves Leaves h = absurd (cc)
-no_leaves Changes h = refl
+no_leaves _ h = refl
 
 pub no_changes : (w : Wanted) → wants_documents w ≡ true → wants_changes w ≡ false
-no_changes Documents h = refl
-no_changes Enveloped h = refl
-no_changes Bodies h = refl
-no_changes Unfolded h = refl
-no_changes Leaves h = refl
 no_changes Changes h = absurd (cc)
+no_changes _ h = refl
 
 -- within lists no name says anything else, where documents are wanted
 pub name_same : (w : Wanted) → wants_documents w ≡ true → (first inner : Bool) (d : ℕ) (t : List ℕ) → name_of w first inner false d t ≡ name_of w first false false d t
-unfolding name_of
-name_same Documents h first inner d t = refl
-name_same Enveloped h first inner d t = refl
-name_same Bodies h first inner d t = refl
-name_same Unfolded h first inner d t = refl
-name_same Leaves h first inner d t = absurd (cc)
-name_same Changes h first inner d t = absurd (cc)
+name_same Leaves h first inner d t = unfold name_of in absurd (cc)
+name_same Changes h first inner d t = unfold name_of in absurd (cc)
+name_same _ h first inner d t = unfold name_of in refl
 
 -- ---- outside of values
 
@@ -49,7 +37,7 @@ pub record At (w : Wanted) (p : Place) (d : ℕ) (s : State) : Type 0 where
 abbrev pub settled : State → Wanted → Place → ℕ → State
 settled s w p d = record s { wanted = w; place = p; depth = d; diff = false }
 
-is_settled : {w : Wanted} {p : Place} {d : ℕ} (s : State) → At w p d s → s ≡ settled s w p d
+pub is_settled : {w : Wanted} {p : Place} {d : ℕ} (s : State) → At w p d s → s ≡ settled s w p d
 is_settled s h = λ i. record s { wanted = h.wanted i; place = h.place i; depth = h.depth i; diff = h.diff i }
 
 -- a byte leads from one place to another, and makes these pieces whole
@@ -81,18 +69,13 @@ pub data BeforeList : Place → Type 0 where
 
 module _ (w : Wanted) where
   pub opens_object : {p : Place} (d : ℕ) → BeforeObject p → nat_lt d 8 ≡ true → Steps w p d 123 Member (d + 1) []
-  unfolding step
-  opens_object d o_start h = steps w Start d 123 Member (d + 1) [] (λ s. rw h (record { wanted = refl; place = refl; depth = refl; diff = refl }, refl))
-  opens_object d o_begin h = steps w Begin d 123 Member (d + 1) [] (λ s. rw h (record { wanted = refl; place = refl; depth = refl; diff = refl }, refl))
-  opens_object d o_between h = steps w Between d 123 Member (d + 1) [] (λ s. rw h (record { wanted = refl; place = refl; depth = refl; diff = refl }, refl))
-  opens_object d o_item h = steps w Item d 123 Member (d + 1) [] (λ s. rw h (record { wanted = refl; place = refl; depth = refl; diff = refl }, refl))
-  opens_object d o_next h = steps w NextItem d 123 Member (d + 1) [] (λ s. rw h (record { wanted = refl; place = refl; depth = refl; diff = refl }, refl))
+  opens_object d o_start h = unfold step in steps w Start d 123 Member (d + 1) [] (λ s. rw h (record { wanted = refl; place = refl; depth = refl; diff = refl }, refl))
+  opens_object d _ h = unfold step in steps w _ d 123 Member (d + 1) [] (λ s. rw h (record { wanted = refl; place = refl; depth = refl; diff = refl }, refl))
 
   pub opens_list : {p : Place} (d : ℕ) → BeforeList p → wants_changes w ≡ false → nat_lt d 8 ≡ true → Steps w p d 91 Item (d + 1) []
-  unfolding step
-  opens_list d l_start c h = steps w Start d 91 Item (d + 1) [] (λ s. rw (c, h) (record { wanted = refl; place = refl; depth = refl; diff = refl }, refl))
-  opens_list d l_between c h = steps w Between d 91 Item (d + 1) [] (λ s. rw (c, h) (record { wanted = refl; place = refl; depth = refl; diff = refl }, refl))
-  opens_list d l_list c h = steps w ListPlace d 91 Item (d + 1) [] (λ s. rw h (record { wanted = refl; place = refl; depth = refl; diff = refl }, refl))
+  opens_list d l_start c h = unfold step in steps w Start d 91 Item (d + 1) [] (λ s. rw (c, h) (record { wanted = refl; place = refl; depth = refl; diff = refl }, refl))
+  opens_list d l_between c h = unfold step in steps w Between d 91 Item (d + 1) [] (λ s. rw (c, h) (record { wanted = refl; place = refl; depth = refl; diff = refl }, refl))
+  opens_list d l_list c h = unfold step in steps w ListPlace d 91 Item (d + 1) [] (λ s. rw h (record { wanted = refl; place = refl; depth = refl; diff = refl }, refl))
 
 -- behind what closes, with so many still open
 abbrev pub closed_at : ℕ → Place → Place
@@ -103,8 +86,7 @@ less_one d = omega arith
 
 module _ (w : Wanted) where
   pub closes_empty : (d : ℕ) → wants_leaves w ≡ false → is_strict w ≡ false → Steps w Member (d + 1) 125 (closed_at d AfterItem) d []
-  unfolding step
-  closes_empty d l h = steps w Member (d + 1) 125 (closed_at d AfterItem) d [] (λ s. rw (l, h) (record { wanted = refl; place = refl; depth = less_one d; diff = refl }, refl))
+  closes_empty d l h = unfold step in steps w Member (d + 1) 125 (closed_at d AfterItem) d [] (λ s. rw (l, h) (record { wanted = refl; place = refl; depth = less_one d; diff = refl }, refl))
 
   pub closes_object : (d : ℕ) → is_strict w ≡ false → Steps w AfterMember (d + 1) 125 (closed_at d AfterItem) d []
   unfolding step
@@ -114,24 +96,19 @@ module _ (w : Wanted) where
     by_known s false = rw h (record { wanted = refl; place = refl; depth = less_one d; diff = refl }, refl)
 
   pub closes_no_items : (d : ℕ) → Steps w Item (d + 1) 93 (closed_at d AfterMember) d []
-  unfolding step
-  closes_no_items d = steps w Item (d + 1) 93 (closed_at d AfterMember) d [] (λ s. (record { wanted = refl; place = refl; depth = less_one d; diff = refl }, refl))
+  closes_no_items d = unfold step in steps w Item (d + 1) 93 (closed_at d AfterMember) d [] (λ s. (record { wanted = refl; place = refl; depth = less_one d; diff = refl }, refl))
 
   pub closes_list : (d : ℕ) → Steps w AfterItem (d + 1) 93 (closed_at d AfterMember) d []
-  unfolding step
-  closes_list d = steps w AfterItem (d + 1) 93 (closed_at d AfterMember) d [] (λ s. (record { wanted = refl; place = refl; depth = less_one d; diff = refl }, refl))
+  closes_list d = unfold step in steps w AfterItem (d + 1) 93 (closed_at d AfterMember) d [] (λ s. (record { wanted = refl; place = refl; depth = less_one d; diff = refl }, refl))
 
   pub item_comma : (d : ℕ) → Steps w AfterItem d 44 NextItem d []
-  unfolding step
-  item_comma d = steps w AfterItem d 44 NextItem d [] (λ s. (record { wanted = refl; place = refl; depth = refl; diff = refl }, refl))
+  item_comma d = unfold step in steps w AfterItem d 44 NextItem d [] (λ s. (record { wanted = refl; place = refl; depth = refl; diff = refl }, refl))
 
   pub member_comma : (d : ℕ) → Steps w AfterMember d 44 NextMember d []
-  unfolding step
-  member_comma d = steps w AfterMember d 44 NextMember d [] (λ s. (record { wanted = refl; place = refl; depth = refl; diff = refl }, refl))
+  member_comma d = unfold step in steps w AfterMember d 44 NextMember d [] (λ s. (record { wanted = refl; place = refl; depth = refl; diff = refl }, refl))
 
   pub list_colon : (d : ℕ) → wants_leaves w ≡ false → Steps w (Colon names.List) d 58 ListPlace d []
-  unfolding step
-  list_colon d l = steps w (Colon names.List) d 58 ListPlace d [] (λ s. rw l (record { wanted = refl; place = refl; depth = refl; diff = refl }, refl))
+  list_colon d l = unfold step in steps w (Colon names.List) d 58 ListPlace d [] (λ s. rw l (record { wanted = refl; place = refl; depth = refl; diff = refl }, refl))
 
 -- ---- white space
 
@@ -151,18 +128,8 @@ pub data MaySpace : Place → Type 0 where
 
 module _ (w : Wanted) where
   pub spaced : {p : Place} (d b : ℕ) → MaySpace p → is_space b ≡ true → Steps w p d b p d []
-  unfolding step
-  spaced d b s_start h = steps w Start d b Start d [] (λ s. rw h (record { wanted = refl; place = refl; depth = refl; diff = refl }, refl))
-  spaced d b s_begin h = steps w Begin d b Begin d [] (λ s. rw h (record { wanted = refl; place = refl; depth = refl; diff = refl }, refl))
-  spaced d b s_between h = steps w Between d b Between d [] (λ s. rw h (record { wanted = refl; place = refl; depth = refl; diff = refl }, refl))
-  spaced d b s_item h = steps w Item d b Item d [] (λ s. rw h (record { wanted = refl; place = refl; depth = refl; diff = refl }, refl))
-  spaced d b s_next_item h = steps w NextItem d b NextItem d [] (λ s. rw h (record { wanted = refl; place = refl; depth = refl; diff = refl }, refl))
-  spaced d b s_after_item h = steps w AfterItem d b AfterItem d [] (λ s. rw h (record { wanted = refl; place = refl; depth = refl; diff = refl }, refl))
-  spaced d b s_member h = steps w Member d b Member d [] (λ s. rw h (record { wanted = refl; place = refl; depth = refl; diff = refl }, refl))
-  spaced d b s_next_member h = steps w NextMember d b NextMember d [] (λ s. rw h (record { wanted = refl; place = refl; depth = refl; diff = refl }, refl))
-  spaced d b s_after_member h = steps w AfterMember d b AfterMember d [] (λ s. rw h (record { wanted = refl; place = refl; depth = refl; diff = refl }, refl))
-  spaced d b (s_colon {name}) h = steps w (Colon name) d b (Colon name) d [] (λ s. rw h (record { wanted = refl; place = refl; depth = refl; diff = refl }, refl))
-  spaced d b s_list h = steps w ListPlace d b ListPlace d [] (λ s. rw h (record { wanted = refl; place = refl; depth = refl; diff = refl }, refl))
+  spaced d b s_start h = unfold step in steps w Start d b Start d [] (λ s. rw h (record { wanted = refl; place = refl; depth = refl; diff = refl }, refl))
+  spaced d b _ h = unfold step in steps w _ d b _ d [] (λ s. rw h (record { wanted = refl; place = refl; depth = refl; diff = refl }, refl))
 
 -- ---- names
 
@@ -196,12 +163,10 @@ BeginsKey w p f d = Leads1 (At w p d) 34 (InKey w Key f d (34 ∷ [])) []
 
 module _ (w : Wanted) where
   pub first_key : (d : ℕ) → BeginsKey w Member true d
-  unfolding step
-  first_key d = from_at (InKey w Key true d (34 ∷ [])) w Member d 34 [] (λ s. (record { wanted = refl; place = refl; depth = refl; diff = refl; first = refl; text = refl }, refl))
+  first_key d = unfold step in from_at (InKey w Key true d (34 ∷ [])) w Member d 34 [] (λ s. (record { wanted = refl; place = refl; depth = refl; diff = refl; first = refl; text = refl }, refl))
 
   pub next_key : (d : ℕ) → BeginsKey w NextMember false d
-  unfolding step
-  next_key d = from_at (InKey w Key false d (34 ∷ [])) w NextMember d 34 [] (λ s. (record { wanted = refl; place = refl; depth = refl; diff = refl; first = refl; text = refl }, refl))
+  next_key d = unfold step in from_at (InKey w Key false d (34 ∷ [])) w NextMember d 34 [] (λ s. (record { wanted = refl; place = refl; depth = refl; diff = refl; first = refl; text = refl }, refl))
 
   module _ (f : Bool) (d : ℕ) (u : List ℕ) where
     pub key_plain : (b : ℕ) → (b == 34) ≡ false → (b == 92) ≡ false → Leads1 (InKey w Key f d u) b (InKey w Key f d (u ++ b ∷ [])) []
@@ -246,27 +211,19 @@ Takes w p d n u b p' n' u' = Leads1 (Within w p d n u) b (Within w p' d n' u') [
 
 -- the end of a name
 
-colon_at : (name : Name) (s : State) → is_plain name ≡ false → key_ended name s ≡ at (Colon name) s
-colon_at name s h = rw h
-
 module _ (w : Wanted) (docs : wants_documents w ≡ true) (f : Bool) (d : ℕ) (u : List ℕ) (json : is_json (u ++ 34 ∷ []) ≡ true) where
   pub key_end : (name : Name) → is_plain name ≡ false → name_of w f false false d (u ++ 34 ∷ []) ≡ name → Leads1 (InKey w Key f d u) 34 (At w (Colon name) d) []
-  unfolding step
-  key_end name other says = keys (At w (Colon name) d) w Key f d u 34 [] (λ s. rw (json, name_same w docs f s.inner d (u ++ 34 ∷ []), says, other) (record { wanted = refl; place = refl; depth = refl; diff = refl }, refl))
+  key_end name other says = unfold step in keys (At w (Colon name) d) w Key f d u 34 [] (λ s. rw (json, name_same w docs f s.inner d (u ++ 34 ∷ []), says, other) (record { wanted = refl; place = refl; depth = refl; diff = refl }, refl))
 
 module _ (w : Wanted) (f : Bool) (d : ℕ) (u : List ℕ) (json : is_json (u ++ 34 ∷ []) ≡ true) where
   pub key_itself : ((inner : Bool) → name_of w f inner false d (u ++ 34 ∷ []) ≡ names.Plain) → Leads1 (InKey w Key f d u) 34 (Within w (Value names.Plain) d 1 (123 ∷ 34 ∷ 95 ∷ 105 ∷ 100 ∷ 34 ∷ [])) []
-  unfolding step
-  key_itself says = keys (Within w (Value names.Plain) d 1 (123 ∷ 34 ∷ 95 ∷ 105 ∷ 100 ∷ 34 ∷ [])) w Key f d u 34 [] (λ s. rw (json, says s.inner) (record { wanted = refl; place = refl; depth = refl; diff = refl; nesting = refl; text = refl }, refl))
+  key_itself says = unfold step in keys (Within w (Value names.Plain) d 1 (123 ∷ 34 ∷ 95 ∷ 105 ∷ 100 ∷ 34 ∷ [])) w Key f d u 34 [] (λ s. rw (json, says s.inner) (record { wanted = refl; place = refl; depth = refl; diff = refl; nesting = refl; text = refl }, refl))
 
 module _ (w : Wanted) (leaves : wants_leaves w ≡ false) where
   pub value_colon : {name : Name} {u : List ℕ} {ps : List Piece} (d : ℕ) → Holds w name u ps → Leads1 (At w (Colon name) d) 58 (Within w (Value name) d 0 []) []
-  unfolding step
-  value_colon d (document e c) = from_at (Within w (Value names.Document) d 0 []) w (Colon names.Document) d 58 [] (λ s. rw leaves (record { wanted = refl; place = refl; depth = refl; diff = refl; nesting = refl; text = refl }, refl))
-  value_colon d (no_object e) = from_at (Within w (Value names.Document) d 0 []) w (Colon names.Document) d 58 [] (λ s. rw leaves (record { wanted = refl; place = refl; depth = refl; diff = refl; nesting = refl; text = refl }, refl))
-  value_colon d of_passed = from_at (Within w (Value names.Passed) d 0 []) w (Colon names.Passed) d 58 [] (λ s. rw leaves (record { wanted = refl; place = refl; depth = refl; diff = refl; nesting = refl; text = refl }, refl))
-  value_colon d of_last = from_at (Within w (Value names.Last) d 0 []) w (Colon names.Last) d 58 [] (λ s. rw leaves (record { wanted = refl; place = refl; depth = refl; diff = refl; nesting = refl; text = refl }, refl))
-  value_colon d of_other = from_at (Within w (Value names.Other) d 0 []) w (Colon names.Other) d 58 [] (λ s. rw leaves (record { wanted = refl; place = refl; depth = refl; diff = refl; nesting = refl; text = refl }, refl))
+  value_colon d (document e c) = unfold step in from_at (Within w (Value names.Document) d 0 []) w (Colon names.Document) d 58 [] (λ s. rw leaves (record { wanted = refl; place = refl; depth = refl; diff = refl; nesting = refl; text = refl }, refl))
+  value_colon d (no_object e) = unfold step in from_at (Within w (Value names.Document) d 0 []) w (Colon names.Document) d 58 [] (λ s. rw leaves (record { wanted = refl; place = refl; depth = refl; diff = refl; nesting = refl; text = refl }, refl))
+  value_colon {name} d _ = unfold step in from_at (Within w (Value name) d 0 []) w (Colon name) d 58 [] (λ s. rw leaves (record { wanted = refl; place = refl; depth = refl; diff = refl; nesting = refl; text = refl }, refl))
 
 some_not_zero : (n : ℕ) → (n + 1 == 0) ≡ false
 some_not_zero n = grind arith
@@ -277,48 +234,37 @@ module _ (w : Wanted) (name : Name) (d n : ℕ) (u : List ℕ) where
   value_lead b e = within (Within w (Value name) d 0 []) w (Value name) d 0 [] b [] (λ s. rw e (record { wanted = refl; place = refl; depth = refl; diff = refl; nesting = refl; text = refl }, refl))
 
   pub value_space : (b : ℕ) → is_space b ≡ true → (length u == 0) ≡ false → Takes w (Value name) d n u b (Value name) n (u ++ 32 ∷ [])
-  unfolding step
-  value_space b e f = within (Within w (Value name) d n (u ++ 32 ∷ [])) w (Value name) d n u b [] (λ s. rw (e, f) (record { wanted = refl; place = refl; depth = refl; diff = refl; nesting = refl; text = refl }, refl))
+  value_space b e f = unfold step in within (Within w (Value name) d n (u ++ 32 ∷ [])) w (Value name) d n u b [] (λ s. rw (e, f) (record { wanted = refl; place = refl; depth = refl; diff = refl; nesting = refl; text = refl }, refl))
 
   pub value_plain : (b : ℕ) → IsPlain n b → Takes w (Value name) d n u b (Value name) n (u ++ b ∷ [])
-  unfolding step
-  value_plain b h = within (Within w (Value name) d n (u ++ b ∷ [])) w (Value name) d n u b [] (λ s. rw (h.space, h.comma, h.quote, h.opens, h.closes) (record { wanted = refl; place = refl; depth = refl; diff = refl; nesting = refl; text = refl }, refl))
+  value_plain b h = unfold step in within (Within w (Value name) d n (u ++ b ∷ [])) w (Value name) d n u b [] (λ s. rw (h.space, h.comma, h.quote, h.opens, h.closes) (record { wanted = refl; place = refl; depth = refl; diff = refl; nesting = refl; text = refl }, refl))
 
   pub value_quote : Takes w (Value name) d n u 34 (Quoted name) n (u ++ 34 ∷ [])
-  unfolding step
-  value_quote = within (Within w (Quoted name) d n (u ++ 34 ∷ [])) w (Value name) d n u 34 [] (λ s. rw (and_right (n == 0) false refl) (record { wanted = refl; place = refl; depth = refl; diff = refl; nesting = refl; text = refl }, refl))
+  value_quote = unfold step in within (Within w (Quoted name) d n (u ++ 34 ∷ [])) w (Value name) d n u 34 [] (λ s. rw (and_right (n == 0) false refl) (record { wanted = refl; place = refl; depth = refl; diff = refl; nesting = refl; text = refl }, refl))
 
   pub object_opens : nat_lt n 128 ≡ true → Takes w (Value name) d n u 123 (Value name) (n + 1) (u ++ 123 ∷ [])
-  unfolding step
-  object_opens e = within (Within w (Value name) d (n + 1) (u ++ 123 ∷ [])) w (Value name) d n u 123 [] (λ s. rw (and_right (n == 0) false refl, e) (record { wanted = refl; place = refl; depth = refl; diff = refl; nesting = refl; text = refl }, refl))
+  object_opens e = unfold step in within (Within w (Value name) d (n + 1) (u ++ 123 ∷ [])) w (Value name) d n u 123 [] (λ s. rw (and_right (n == 0) false refl, e) (record { wanted = refl; place = refl; depth = refl; diff = refl; nesting = refl; text = refl }, refl))
 
   pub list_opens : nat_lt n 128 ≡ true → Takes w (Value name) d n u 91 (Value name) (n + 1) (u ++ 91 ∷ [])
-  unfolding step
-  list_opens e = within (Within w (Value name) d (n + 1) (u ++ 91 ∷ [])) w (Value name) d n u 91 [] (λ s. rw (and_right (n == 0) false refl, e) (record { wanted = refl; place = refl; depth = refl; diff = refl; nesting = refl; text = refl }, refl))
+  list_opens e = unfold step in within (Within w (Value name) d (n + 1) (u ++ 91 ∷ [])) w (Value name) d n u 91 [] (λ s. rw (and_right (n == 0) false refl, e) (record { wanted = refl; place = refl; depth = refl; diff = refl; nesting = refl; text = refl }, refl))
 
   pub object_closes : (n + 1 == 1 && is_plain name) ≡ false → Takes w (Value name) d (n + 1) u 125 (Value name) n (u ++ 125 ∷ [])
-  unfolding step
-  object_closes e = within (Within w (Value name) d n (u ++ 125 ∷ [])) w (Value name) d (n + 1) u 125 [] (λ s. rw (some_not_zero n, e) (record { wanted = refl; place = refl; depth = refl; diff = refl; nesting = less_one n; text = refl }, refl))
+  object_closes e = unfold step in within (Within w (Value name) d n (u ++ 125 ∷ [])) w (Value name) d (n + 1) u 125 [] (λ s. rw (some_not_zero n, e) (record { wanted = refl; place = refl; depth = refl; diff = refl; nesting = less_one n; text = refl }, refl))
 
   pub list_closes : (n + 1 == 1 && is_plain name) ≡ false → Takes w (Value name) d (n + 1) u 93 (Value name) n (u ++ 93 ∷ [])
-  unfolding step
-  list_closes e = within (Within w (Value name) d n (u ++ 93 ∷ [])) w (Value name) d (n + 1) u 93 [] (λ s. rw (some_not_zero n, e) (record { wanted = refl; place = refl; depth = refl; diff = refl; nesting = less_one n; text = refl }, refl))
+  list_closes e = unfold step in within (Within w (Value name) d n (u ++ 93 ∷ [])) w (Value name) d (n + 1) u 93 [] (λ s. rw (some_not_zero n, e) (record { wanted = refl; place = refl; depth = refl; diff = refl; nesting = less_one n; text = refl }, refl))
 
   pub quoted_plain : (b : ℕ) → (b == 34) ≡ false → (b == 92) ≡ false → Takes w (Quoted name) d n u b (Quoted name) n (u ++ b ∷ [])
-  unfolding step
-  quoted_plain b e f = within (Within w (Quoted name) d n (u ++ b ∷ [])) w (Quoted name) d n u b [] (λ s. rw (e, f) (record { wanted = refl; place = refl; depth = refl; diff = refl; nesting = refl; text = refl }, refl))
+  quoted_plain b e f = unfold step in within (Within w (Quoted name) d n (u ++ b ∷ [])) w (Quoted name) d n u b [] (λ s. rw (e, f) (record { wanted = refl; place = refl; depth = refl; diff = refl; nesting = refl; text = refl }, refl))
 
   pub quoted_escape : Takes w (Quoted name) d n u 92 (Escaped name) n (u ++ 92 ∷ [])
-  unfolding step
-  quoted_escape = within (Within w (Escaped name) d n (u ++ 92 ∷ [])) w (Quoted name) d n u 92 [] (λ s. (record { wanted = refl; place = refl; depth = refl; diff = refl; nesting = refl; text = refl }, refl))
+  quoted_escape = unfold step in within (Within w (Escaped name) d n (u ++ 92 ∷ [])) w (Quoted name) d n u 92 [] (λ s. (record { wanted = refl; place = refl; depth = refl; diff = refl; nesting = refl; text = refl }, refl))
 
   pub quoted_escaped : (b : ℕ) → Takes w (Escaped name) d n u b (Quoted name) n (u ++ b ∷ [])
-  unfolding step
-  quoted_escaped b = within (Within w (Quoted name) d n (u ++ b ∷ [])) w (Escaped name) d n u b [] (λ s. (record { wanted = refl; place = refl; depth = refl; diff = refl; nesting = refl; text = refl }, refl))
+  quoted_escaped b = unfold step in within (Within w (Quoted name) d n (u ++ b ∷ [])) w (Escaped name) d n u b [] (λ s. (record { wanted = refl; place = refl; depth = refl; diff = refl; nesting = refl; text = refl }, refl))
 
   pub quoted_end : Takes w (Quoted name) d n u 34 (Value name) n (u ++ 34 ∷ [])
-  unfolding step
-  quoted_end = within (Within w (Value name) d n (u ++ 34 ∷ [])) w (Quoted name) d n u 34 [] (λ s. (record { wanted = refl; place = refl; depth = refl; diff = refl; nesting = refl; text = refl }, refl))
+  quoted_end = unfold step in within (Within w (Value name) d n (u ++ 34 ∷ [])) w (Quoted name) d n u 34 [] (λ s. (record { wanted = refl; place = refl; depth = refl; diff = refl; nesting = refl; text = refl }, refl))
 
 -- ---- the byte behind a value
 
@@ -327,9 +273,7 @@ module _ (w : Wanted) (d : ℕ) (u : List ℕ) (json : is_json u ≡ true) where
   unfolding step
   ends_comma (document {v} e c) = within (At w NextMember d) w (Value names.Document) d 0 u 44 ((found.Document, v) ∷ []) (λ s. rw (json, e, c) (record { wanted = refl; place = refl; depth = refl; diff = refl }, refl))
   ends_comma (no_object e) = within (At w NextMember d) w (Value names.Document) d 0 u 44 [] (λ s. rw (json, e) (record { wanted = refl; place = refl; depth = refl; diff = refl }, refl))
-  ends_comma of_passed = within (At w NextMember d) w (Value names.Passed) d 0 u 44 [] (λ s. rw json (record { wanted = refl; place = refl; depth = refl; diff = refl }, refl))
-  ends_comma of_last = within (At w NextMember d) w (Value names.Last) d 0 u 44 [] (λ s. rw json (record { wanted = refl; place = refl; depth = refl; diff = refl }, refl))
-  ends_comma of_other = within (At w NextMember d) w (Value names.Other) d 0 u 44 [] (λ s. rw json (record { wanted = refl; place = refl; depth = refl; diff = refl }, refl))
+  ends_comma {name} _ = within (At w NextMember d) w (Value name) d 0 u 44 [] (λ s. rw json (record { wanted = refl; place = refl; depth = refl; diff = refl }, refl))
 
   pub ends_brace : {name : Name} {ps : List Piece} → is_strict w ≡ false → Holds w name u ps → Leads1 (Within w (Value name) (d + 1) 0 u) 125 (At w (closed_at d AfterItem) d) ps
   unfolding step
@@ -359,14 +303,11 @@ module _ (w : Wanted) (d : ℕ) (u : List ℕ) (json : is_json u ≡ true) where
 module _ (w : Wanted) (d : ℕ) (u : List ℕ) (json : is_json (u ++ 125 ∷ []) ≡ true) where
   pub itself_ends : (v : List ℕ) → wants_documents w ≡ true → is_log (u ++ 125 ∷ []) ≡ false → covered w (u ++ 125 ∷ []) ≡ Some v
       → Leads1 (Within w (Value names.Plain) (d + 1) 1 u) 125 (At w (closed_at d AfterItem) d) ((found.Document, v) ∷ [])
-  unfolding step
-  itself_ends v docs e c = within (At w (closed_at d AfterItem) d) w (Value names.Plain) (d + 1) 1 u 125 ((found.Document, v) ∷ []) (λ s. rw (json, docs, e, c) (record { wanted = refl; place = refl; depth = less_one d; diff = refl }, refl))
+  itself_ends v docs e c = unfold step in within (At w (closed_at d AfterItem) d) w (Value names.Plain) (d + 1) 1 u 125 ((found.Document, v) ∷ []) (λ s. rw (json, docs, e, c) (record { wanted = refl; place = refl; depth = less_one d; diff = refl }, refl))
 
   pub log_ends : wants_documents w ≡ true → is_log (u ++ 125 ∷ []) ≡ true → Leads1 (Within w (Value names.Plain) (d + 1) 1 u) 125 (At w (closed_at d AfterItem) d) []
-  unfolding step
-  log_ends docs e = within (At w (closed_at d AfterItem) d) w (Value names.Plain) (d + 1) 1 u 125 [] (λ s. rw (json, docs, e) (record { wanted = refl; place = refl; depth = less_one d; diff = refl }, refl))
+  log_ends docs e = unfold step in within (At w (closed_at d AfterItem) d) w (Value names.Plain) (d + 1) 1 u 125 [] (λ s. rw (json, docs, e) (record { wanted = refl; place = refl; depth = less_one d; diff = refl }, refl))
 
   -- where none is wanted
   pub unwanted_ends : wants_documents w ≡ false → Leads1 (Within w (Value names.Plain) (d + 1) 1 u) 125 (At w (closed_at d AfterItem) d) []
-  unfolding step
-  unwanted_ends docs = within (At w (closed_at d AfterItem) d) w (Value names.Plain) (d + 1) 1 u 125 [] (λ s. rw (json, docs) (record { wanted = refl; place = refl; depth = less_one d; diff = refl }, refl))
+  unwanted_ends docs = unfold step in within (At w (closed_at d AfterItem) d) w (Value names.Plain) (d + 1) 1 u 125 [] (λ s. rw (json, docs) (record { wanted = refl; place = refl; depth = less_one d; diff = refl }, refl))

@@ -1,5 +1,5 @@
 -- A script's answers are read as the changes among them.
-use Rattle.proof_words.proofs.{◌≡◌, ℕ, ◌||◌, ◌==◌, List, [], ◌∷◌, ◌++◌, Bool, true, false, inl, inr, refl, sym, ap, subst, ◌∙◌, append_assoc, append-nil, codes, list_all, bytes_eq, and_parts, not-true}
+use Rattle.proof_words.proofs.{◌≡◌, ℕ, ◌||◌, ◌==◌, List, [], ◌∷◌, ◌++◌, true, false, inl, inr, refl, sym, ap, subst, ◌∙◌, append_assoc, append-nil, codes, list_all, bytes_eq, and_parts, not-true, or_right}
 use Rattle.document_texts.specs.{is_space, is_json, EndsString, ends, plain, escaped}
 use Rattle.couch_answers.specs.State.{State}
 use Rattle.couch_answers.specs.{start, is_lower, is_digit, is_rev_byte, step, after, given, pieces, Piece, AreRevs, last_rev, rev, is_word_byte, AreChanges, none, empty, change, object, word, words, LinePlace}
@@ -9,17 +9,14 @@ use Rattle.couch_answers.specs.declared.place.LinePlace.TheVariants as at
 use Rattle.couch_answers.specs.declared.place.Wanted.{Wanted}
 use Rattle.couch_answers.specs.declared.place.Wanted.TheVariants.{Changes}
 use Rattle.couch_answers.specs.declared.place.Found.TheVariants.{Id, Rev}
-use Rattle.couch_answers.proofs.Bytes.{At, o_begin, o_between, s_begin, s_between, spaced}
+use Rattle.couch_answers.proofs.Bytes.{At, is_settled, o_begin, o_between}
 use Rattle.couch_answers.proofs.Texts.{Leads, none_read, then, then_held, joined}
 use Rattle.couch_answers.proofs.Itself.{unwanted}
-use Rattle.couch_answers.proofs.LineTexts.{no_end, lower_bracket, Before, from_either, to_between, is_at, EndsLines, before_ends, starts_strict}
+use Rattle.couch_answers.proofs.LineTexts.{no_end, lower_bracket, Before, from_either, to_between, EndsLines, before_ends, starts_strict, blank_step, InLine, lined, is_lined}
 
 -- a reading of changes that stands there, with so much of a text
-record Stands (p : LinePlace) (s : State) : Type 0 where
-  wanted : s.wanted ≡ Changes
-  place : s.place ≡ Line p
-  depth : s.depth ≡ 0
-  diff : s.diff ≡ false
+abbrev Stands : LinePlace → State → Type 0
+Stands p = InLine Changes p
 
 record Holds (p : LinePlace) (u : List ℕ) (s : State) : Type 0 where
   wanted : s.wanted ≡ Changes
@@ -28,25 +25,19 @@ record Holds (p : LinePlace) (u : List ℕ) (s : State) : Type 0 where
   diff : s.diff ≡ false
   text : s.text ≡ u
 
-abbrev stood : State → LinePlace → State
-stood s p = record s { wanted = Changes; place = Line p; depth = 0; diff = false }
-
 abbrev held_in : State → LinePlace → List ℕ → State
 held_in s p u = record s { wanted = Changes; place = Line p; depth = 0; diff = false; text = u }
-
-is_stood : {p : LinePlace} (s : State) → Stands p s → s ≡ stood s p
-is_stood s h = λ i. record s { wanted = h.wanted i; place = h.place i; depth = h.depth i; diff = h.diff i }
 
 is_held : {p : LinePlace} {u : List ℕ} (s : State) → Holds p u s → s ≡ held_in s p u
 is_held s h = λ i. record s { wanted = h.wanted i; place = h.place i; depth = h.depth i; diff = h.diff i; text = h.text i }
 
 -- a byte from a place on, from a text on, and from a text to a place
 module _ (p q : LinePlace) (b : ℕ) where
-  stands : (ps : List Piece) → ((s : State) → Stands q (step (stood s p) b) × (given (step (stood s p) b) ≡ ps)) → (s : State) → Stands p s → Stands q (step s b) × (given (step s b) ≡ ps)
-  stands ps f s h = subst (λ z. Stands q (step z b) × (given (step z b) ≡ ps)) (sym (is_stood s h)) (f s)
+  stands : (ps : List Piece) → ((s : State) → Stands q (step (lined s Changes p) b) × (given (step (lined s Changes p) b) ≡ ps)) → (s : State) → Stands p s → Stands q (step s b) × (given (step s b) ≡ ps)
+  stands ps f s h = subst (λ z. Stands q (step z b) × (given (step z b) ≡ ps)) (sym (is_lined s h)) (f s)
 
-  begins : (v : List ℕ) → ((s : State) → Holds q v (step (stood s p) b) × (given (step (stood s p) b) ≡ [])) → (s : State) → Stands p s → Holds q v (step s b) × (given (step s b) ≡ [])
-  begins v f s h = subst (λ z. Holds q v (step z b) × (given (step z b) ≡ [])) (sym (is_stood s h)) (f s)
+  begins : (v : List ℕ) → ((s : State) → Holds q v (step (lined s Changes p) b) × (given (step (lined s Changes p) b) ≡ [])) → (s : State) → Stands p s → Holds q v (step s b) × (given (step s b) ≡ [])
+  begins v f s h = subst (λ z. Holds q v (step z b) × (given (step z b) ≡ [])) (sym (is_lined s h)) (f s)
 
   holds : (u v : List ℕ) → ((s : State) → Holds q v (step (held_in s p u) b) × (given (step (held_in s p u) b) ≡ [])) → (s : State) → Holds p u s → Holds q v (step s b) × (given (step s b) ≡ [])
   holds u v f s h = subst (λ z. Holds q v (step z b) × (given (step z b) ≡ [])) (sym (is_held s h)) (f s)
@@ -58,98 +49,70 @@ module _ (p q : LinePlace) (b : ℕ) where
 ends_line : (p : LinePlace) (u : List ℕ) (ps : List Piece) → ((s : State) → At Changes Between 0 (step (held_in s p u) 10) × (given (step (held_in s p u) 10) ≡ ps)) → (s : State) → Holds p u s → Before Changes (step s 10) × (given (step s 10) ≡ ps)
 ends_line p u ps f s h = subst (λ z. Before Changes (step z 10) × (given (step z 10) ≡ ps)) (sym (is_held s h)) (let r = f s in (inr r.0, r.1))
 
--- a list or an object was closed before, or not: a line end leads before the next line
-or_true : (b : Bool) → (b || true) ≡ true
-or_true true = refl
-or_true false = refl
-
 -- ---- bytes
 
-blank_step : (b : ℕ) → is_space b ≡ true → (s : State) → Before Changes s → Before Changes (step s b) × (given (step s b) ≡ [])
-blank_step b h s (inl here) = let r = spaced Changes 0 b s_begin h s here in (inl r.0, r.1)
-blank_step b h s (inr here) = let r = spaced Changes 0 b s_between h s here in (inr r.0, r.1)
-
 rest_step : (b : ℕ) → (b == 10) ≡ false → (s : State) → Stands at.Rest s → Stands at.Rest (step s b) × (given (step s b) ≡ [])
-unfolding step
-rest_step b e = stands at.Rest at.Rest b [] (λ s. rw e (record { wanted = refl; place = refl; depth = refl; diff = refl }, refl))
+rest_step b e = unfold step in stands at.Rest at.Rest b [] (λ s. rw e (record { wanted = refl; place = refl; depth = refl; diff = refl }, refl))
 
 rest_end : (s : State) → Stands at.Rest s → Before Changes (step s 10) × (given (step s 10) ≡ [])
-unfolding step
-rest_end s h = subst (λ z. Before Changes (step z 10) × (given (step z 10) ≡ [])) (sym (is_stood s h)) (rw (or_true s.some) (inr (record { wanted = refl; place = refl; depth = refl; diff = refl }), refl))
+rest_end s h = unfold step in subst (λ z. Before Changes (step z 10) × (given (step z 10) ≡ [])) (sym (is_lined s h)) (rw (or_right s.some true refl) (inr (record { wanted = refl; place = refl; depth = refl; diff = refl }), refl))
 
 word_begins : (b : ℕ) → is_space b ≡ false → is_lower b ≡ true → (s : State) → Before Changes s → Holds at.Word (b ∷ []) (step s b) × (given (step s b) ≡ [])
-unfolding step
-word_begins b e h s (inl here) =
+word_begins b e h s (inl here) = unfold step in
     let k = lower_bracket b h in
-    subst (λ z. Holds at.Word (b ∷ []) (step z b) × (given (step z b) ≡ [])) (sym (is_at s here)) (rw (e, k.0, k.1, h) (record { wanted = refl; place = refl; depth = refl; diff = refl; text = refl }, refl))
-word_begins b e h s (inr here) =
+    subst (λ z. Holds at.Word (b ∷ []) (step z b) × (given (step z b) ≡ [])) (sym (is_settled s here)) (rw (e, k.0, k.1, h) (record { wanted = refl; place = refl; depth = refl; diff = refl; text = refl }, refl))
+word_begins b e h s (inr here) = unfold step in
     let k = lower_bracket b h in
-    subst (λ z. Holds at.Word (b ∷ []) (step z b) × (given (step z b) ≡ [])) (sym (is_at s here)) (rw (e, k.0, k.1, h) (record { wanted = refl; place = refl; depth = refl; diff = refl; text = refl }, refl))
+    subst (λ z. Holds at.Word (b ∷ []) (step z b) × (given (step z b) ≡ [])) (sym (is_settled s here)) (rw (e, k.0, k.1, h) (record { wanted = refl; place = refl; depth = refl; diff = refl; text = refl }, refl))
 
 word_step : (u : List ℕ) (b : ℕ) → (b == 10 || b == 32) ≡ false → (s : State) → Holds at.Word u s → Holds at.Word (u ++ b ∷ []) (step s b) × (given (step s b) ≡ [])
-unfolding step
-word_step u b e = holds at.Word at.Word b u (u ++ b ∷ []) (λ s. rw e (record { wanted = refl; place = refl; depth = refl; diff = refl; text = refl }, refl))
+word_step u b e = unfold step in holds at.Word at.Word b u (u ++ b ∷ []) (λ s. rw e (record { wanted = refl; place = refl; depth = refl; diff = refl; text = refl }, refl))
 
 word_end : (u : List ℕ) → bytes_eq u (codes "change") ≡ false → (s : State) → Holds at.Word u s → Before Changes (step s 10) × (given (step s 10) ≡ [])
-unfolding step
-word_end u e = ends_line at.Word u [] (λ s. rw (e, or_true s.some) (record { wanted = refl; place = refl; depth = refl; diff = refl }, refl))
+word_end u e = unfold step in ends_line at.Word u [] (λ s. rw (e, or_right s.some true refl) (record { wanted = refl; place = refl; depth = refl; diff = refl }, refl))
 
 word_blank : (u : List ℕ) → bytes_eq u (codes "change") ≡ false → (s : State) → Holds at.Word u s → Stands at.Rest (step s 32) × (given (step s 32) ≡ [])
-unfolding step
-word_blank u e = leaves at.Word at.Rest 32 u [] (λ s. rw e (record { wanted = refl; place = refl; depth = refl; diff = refl }, refl))
+word_blank u e = unfold step in leaves at.Word at.Rest 32 u [] (λ s. rw e (record { wanted = refl; place = refl; depth = refl; diff = refl }, refl))
 
 -- the word of a change
 change_end : (s : State) → Holds at.Word (codes "change") s → Stands at.Seq (step s 32) × (given (step s 32) ≡ [])
-unfolding step
-change_end = leaves at.Word at.Seq 32 (codes "change") [] (λ s. (record { wanted = refl; place = refl; depth = refl; diff = refl }, refl))
+change_end = unfold step in leaves at.Word at.Seq 32 (codes "change") [] (λ s. (record { wanted = refl; place = refl; depth = refl; diff = refl }, refl))
 
 digit_step : (b : ℕ) → is_digit b ≡ true → (s : State) → Stands at.Seq s → Stands at.Seq (step s b) × (given (step s b) ≡ [])
-unfolding step
-digit_step b h = stands at.Seq at.Seq b [] (λ s. rw h (record { wanted = refl; place = refl; depth = refl; diff = refl }, refl))
+digit_step b h = unfold step in stands at.Seq at.Seq b [] (λ s. rw h (record { wanted = refl; place = refl; depth = refl; diff = refl }, refl))
 
 seq_end : (s : State) → Stands at.Seq s → Stands at.BeforeId (step s 32) × (given (step s 32) ≡ [])
-unfolding step
-seq_end = stands at.Seq at.BeforeId 32 [] (λ s. (record { wanted = refl; place = refl; depth = refl; diff = refl }, refl))
+seq_end = unfold step in stands at.Seq at.BeforeId 32 [] (λ s. (record { wanted = refl; place = refl; depth = refl; diff = refl }, refl))
 
 id_begins : (s : State) → Stands at.BeforeId s → Holds at.Id (34 ∷ []) (step s 34) × (given (step s 34) ≡ [])
-unfolding step
-id_begins = begins at.BeforeId at.Id 34 (34 ∷ []) (λ s. (record { wanted = refl; place = refl; depth = refl; diff = refl; text = refl }, refl))
+id_begins = unfold step in begins at.BeforeId at.Id 34 (34 ∷ []) (λ s. (record { wanted = refl; place = refl; depth = refl; diff = refl; text = refl }, refl))
 
 id_plain : (u : List ℕ) (b : ℕ) → (b == 34) ≡ false → (b == 92) ≡ false → (s : State) → Holds at.Id u s → Holds at.Id (u ++ b ∷ []) (step s b) × (given (step s b) ≡ [])
-unfolding step
-id_plain u b e f = holds at.Id at.Id b u (u ++ b ∷ []) (λ s. rw (e, f) (record { wanted = refl; place = refl; depth = refl; diff = refl; text = refl }, refl))
+id_plain u b e f = unfold step in holds at.Id at.Id b u (u ++ b ∷ []) (λ s. rw (e, f) (record { wanted = refl; place = refl; depth = refl; diff = refl; text = refl }, refl))
 
 id_escape : (u : List ℕ) → (s : State) → Holds at.Id u s → Holds at.IdEscape (u ++ 92 ∷ []) (step s 92) × (given (step s 92) ≡ [])
-unfolding step
-id_escape u = holds at.Id at.IdEscape 92 u (u ++ 92 ∷ []) (λ s. (record { wanted = refl; place = refl; depth = refl; diff = refl; text = refl }, refl))
+id_escape u = unfold step in holds at.Id at.IdEscape 92 u (u ++ 92 ∷ []) (λ s. (record { wanted = refl; place = refl; depth = refl; diff = refl; text = refl }, refl))
 
 id_escaped : (u : List ℕ) (b : ℕ) → (s : State) → Holds at.IdEscape u s → Holds at.Id (u ++ b ∷ []) (step s b) × (given (step s b) ≡ [])
-unfolding step
-id_escaped u b = holds at.IdEscape at.Id b u (u ++ b ∷ []) (λ s. (record { wanted = refl; place = refl; depth = refl; diff = refl; text = refl }, refl))
+id_escaped u b = unfold step in holds at.IdEscape at.Id b u (u ++ b ∷ []) (λ s. (record { wanted = refl; place = refl; depth = refl; diff = refl; text = refl }, refl))
 
 id_end : (u : List ℕ) → is_json (u ++ 34 ∷ []) ≡ true → (s : State) → Holds at.Id u s → Stands at.AfterId (step s 34) × (given (step s 34) ≡ (Id, u ++ 34 ∷ []) ∷ [])
-unfolding step
-id_end u json = leaves at.Id at.AfterId 34 u ((Id, u ++ 34 ∷ []) ∷ []) (λ s. rw json (record { wanted = refl; place = refl; depth = refl; diff = refl }, refl))
+id_end u json = unfold step in leaves at.Id at.AfterId 34 u ((Id, u ++ 34 ∷ []) ∷ []) (λ s. rw json (record { wanted = refl; place = refl; depth = refl; diff = refl }, refl))
 
 id_blank : (s : State) → Stands at.AfterId s → Stands at.BeforeRev (step s 32) × (given (step s 32) ≡ [])
-unfolding step
-id_blank = stands at.AfterId at.BeforeRev 32 [] (λ s. (record { wanted = refl; place = refl; depth = refl; diff = refl }, refl))
+id_blank = unfold step in stands at.AfterId at.BeforeRev 32 [] (λ s. (record { wanted = refl; place = refl; depth = refl; diff = refl }, refl))
 
 rev_begins : (b : ℕ) → is_rev_byte b ≡ true → (s : State) → Stands at.BeforeRev s → Holds at.Rev (34 ∷ b ∷ []) (step s b) × (given (step s b) ≡ [])
-unfolding step
-rev_begins b h = begins at.BeforeRev at.Rev b (34 ∷ b ∷ []) (λ s. rw h (record { wanted = refl; place = refl; depth = refl; diff = refl; text = refl }, refl))
+rev_begins b h = unfold step in begins at.BeforeRev at.Rev b (34 ∷ b ∷ []) (λ s. rw h (record { wanted = refl; place = refl; depth = refl; diff = refl; text = refl }, refl))
 
 rev_step : (u : List ℕ) (b : ℕ) → is_rev_byte b ≡ true → (s : State) → Holds at.Rev u s → Holds at.Rev (u ++ b ∷ []) (step s b) × (given (step s b) ≡ [])
-unfolding step
-rev_step u b h = holds at.Rev at.Rev b u (u ++ b ∷ []) (λ s. rw h (record { wanted = refl; place = refl; depth = refl; diff = refl; text = refl }, refl))
+rev_step u b h = unfold step in holds at.Rev at.Rev b u (u ++ b ∷ []) (λ s. rw h (record { wanted = refl; place = refl; depth = refl; diff = refl; text = refl }, refl))
 
 rev_comma : (u : List ℕ) → (s : State) → Holds at.Rev u s → Stands at.BeforeRev (step s 44) × (given (step s 44) ≡ (Rev, u ++ 34 ∷ []) ∷ [])
-unfolding step
-rev_comma u = leaves at.Rev at.BeforeRev 44 u ((Rev, u ++ 34 ∷ []) ∷ []) (λ s. (record { wanted = refl; place = refl; depth = refl; diff = refl }, refl))
+rev_comma u = unfold step in leaves at.Rev at.BeforeRev 44 u ((Rev, u ++ 34 ∷ []) ∷ []) (λ s. (record { wanted = refl; place = refl; depth = refl; diff = refl }, refl))
 
 rev_end : (u : List ℕ) → (s : State) → Holds at.Rev u s → Before Changes (step s 10) × (given (step s 10) ≡ (Rev, u ++ 34 ∷ []) ∷ [])
-unfolding step
-rev_end u = ends_line at.Rev u ((Rev, u ++ 34 ∷ []) ∷ []) (λ s. (record { wanted = refl; place = refl; depth = refl; diff = refl }, refl))
+rev_end u = unfold step in ends_line at.Rev u ((Rev, u ++ 34 ∷ []) ∷ []) (λ s. (record { wanted = refl; place = refl; depth = refl; diff = refl }, refl))
 
 -- ---- texts
 
@@ -201,7 +164,7 @@ change_word =
 
 some_changes : (t : List ℕ) (ps : List Piece) → AreChanges t ps → Leads (Before Changes) t (Before Changes) ps
 some_changes t ps none = none_read
-some_changes t ps (empty {b} {t = rest} h m) = then (blank_step b h) (some_changes rest ps m)
+some_changes t ps (empty {b} {t = rest} h m) = then (blank_step Changes b h) (some_changes rest ps m)
 some_changes t ps (change n {k} {r} {t = rest} {ps = revs} {qs} h k_ends json m more) =
     joined change_word (joined (digits n h) (then seq_end (then id_begins (joined (id_text (34 ∷ []) k k_ends json) (then id_blank (joined (some_revs r revs m) (some_changes rest qs more)))))))
 some_changes t ps (object {o} {u} {t = rest} h m) =

@@ -7,7 +7,7 @@ use Rattle.couch_answers.specs.{wants_documents, wants_leaves, covered, name_of,
 use Rattle.couch_answers.specs.State.{State}
 use Rattle.couch_answers.specs.declared.place.Place.TheVariants.{AfterItem, Value}
 use Rattle.couch_answers.specs.declared.place.Wanted.{Wanted}
-use Rattle.couch_answers.specs.declared.place.Wanted.TheVariants.{Documents, Enveloped, Bodies, Unfolded, Leaves, Changes}
+use Rattle.couch_answers.specs.declared.place.Wanted.TheVariants.{Leaves}
 use Rattle.couch_answers.specs.declared.place.Name.TheVariants as names
 use Rattle.couch_answers.specs.declared.place.Found.TheVariants as found
 use Rattle.couch_answers.proofs.Bytes.{At, Within, BeforeObject, closed_at, opens_object, s_member, first_key, key_plain, key_itself, itself_ends, log_ends, unwanted_ends}
@@ -18,18 +18,12 @@ abbrev id_key : List ℕ
 id_key = 34 ∷ 95 ∷ 105 ∷ 100 ∷ 34 ∷ []
 
 id_is_json : is_json id_key ≡ true
-unfolding json_on_literals
-id_is_json = ap (λ b. b && true) (is_utf8-from_IsUtf8 id_key (IsUtf8-are_ascii id_key refl))
+id_is_json = unfold json_on_literals in ap (λ b. b && true) (is_utf8-from_IsUtf8 id_key (IsUtf8-are_ascii id_key refl))
 
 -- the first name of an object says that it is a document itself
 pub id_name : (w : Wanted) → wants_leaves w ≡ false → (d : ℕ) (inner : Bool) → name_of w true inner false d id_key ≡ names.Plain
-unfolding name_of
-id_name Documents h d inner = rw (and_right (d == 1) false refl)
-id_name Enveloped h d inner = rw (and_right (d == 1) false refl)
-id_name Bodies h d inner = rw (and_right (d == 1) false refl)
-id_name Unfolded h d inner = rw (and_right (d == 1) false refl)
-id_name Leaves h d inner = absurd (cc)
-id_name Changes h d inner = rw (and_right (d == 1) false refl)
+id_name Leaves h d inner = unfold name_of in absurd (cc)
+id_name _ h d inner = unfold name_of in rw (and_right (d == 1) false refl)
 
 module _ (w : Wanted) (leaves : wants_leaves w ≡ false) (d : ℕ) where
   -- up to its brace

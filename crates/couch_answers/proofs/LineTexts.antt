@@ -1,14 +1,14 @@
 -- A script's answers are read as the documents among them.
-use Rattle.proof_words.proofs.{◌≡◌, ℕ, ◌&&◌, ◌||◌, ◌==◌, length, List, [], ◌∷◌, ◌++◌, Bool, true, false, not, cond, refl, sym, ap, subst, ◌∙◌, arith, ◌⊎◌, inl, inr, Ok, list_all, false≢true}
+use Rattle.proof_words.proofs.{◌≡◌, ℕ, ◌&&◌, ◌||◌, ◌==◌, length, List, [], ◌∷◌, ◌++◌, Bool, true, false, not, cond, refl, sym, ap, subst, ◌∙◌, arith, ◌⊎◌, inl, inr, Ok, list_all, false≢true, or_right}
 use Rattle.document_texts.specs.{is_space}
 use Rattle.couch_answers.specs.{wants_documents, is_strict, start, begins_sign, is_lower, step, after, given, pieces, Piece, has_rest, end_of, Place, LinePlace}
 use Rattle.couch_answers.specs.State.{State}
 use Rattle.couch_answers.specs.LineGrammar.{InOneLine, AreLines, no_lines, blank, document, answer}
-use Rattle.couch_answers.specs.declared.place.Place.TheVariants.{Start, Begin, Sign, Between, Item, NextItem, AfterItem, Member, NextMember, AfterMember, Key, KeyEscape, Colon, Ahead, List as ListPlace, Value, Quoted, Escaped, Revs, Line, Refused}
+use Rattle.couch_answers.specs.declared.place.Place.TheVariants.{Start, Begin, Sign, Between, Value, Revs, Line}
 use Rattle.couch_answers.specs.declared.place.LinePlace.TheVariants.{Word, Rest}
 use Rattle.couch_answers.specs.declared.place.RevPlace.TheVariants as revs
 use Rattle.couch_answers.specs.declared.place.Wanted.{Wanted}
-use Rattle.couch_answers.proofs.Bytes.{At, settled, o_begin, o_between, s_begin, s_between, spaced, no_leaves, no_changes}
+use Rattle.couch_answers.proofs.Bytes.{At, is_settled, o_begin, o_between, s_begin, s_between, spaced, no_leaves, no_changes}
 use Rattle.couch_answers.proofs.Texts.{Leads, none_read, then, joined}
 use Rattle.couch_answers.proofs.Itself.{a_document}
 
@@ -41,52 +41,30 @@ is_lined s h = λ i. record s { wanted = h.wanted i; place = h.place i; depth = 
 abbrev Passes : Wanted → State → Type 0
 Passes w s = InLine w Word s ⊎ InLine w Rest s
 
-pub is_at : {w : Wanted} {p : Place} (s : State) → At w p 0 s → s ≡ settled s w p 0
-is_at s h = λ i. record s { wanted = h.wanted i; place = h.place i; depth = h.depth i; diff = h.diff i }
-
--- a line end leads before the next one, where nothing need be read
-strict_or : (b c : Bool) → c ≡ true → (b || c) ≡ true
-strict_or true c h = refl
-strict_or false c h = h
+-- white space changes nothing before a line
+pub blank_step : (w : Wanted) (b : ℕ) → is_space b ≡ true → (s : State) → Before w s → Before w (step s b) × (given (step s b) ≡ [])
+blank_step w b h s (inl at) = let r = spaced w 0 b s_begin h s at in (inl r.0, r.1)
+blank_step w b h s (inr at) = let r = spaced w 0 b s_between h s at in (inr r.0, r.1)
 
 module _ (w : Wanted) (docs : wants_documents w ≡ true) (strict : is_strict w ≡ true) where
-  blank_step : (b : ℕ) → is_space b ≡ true → (s : State) → Before w s → Before w (step s b) × (given (step s b) ≡ [])
-  blank_step b h s (inl at) = let r = spaced w 0 b s_begin h s at in (inl r.0, r.1)
-  blank_step b h s (inr at) = let r = spaced w 0 b s_between h s at in (inr r.0, r.1)
-
-  first_word : (b : ℕ) → is_space b ≡ false → (b == 91) ≡ false → (b == 123) ≡ false → is_lower b ≡ true → (s : State) → At w Begin 0 s → Passes w (step s b) × (given (step s b) ≡ [])
-  unfolding step
-  first_word b e f k h s at = subst (λ z. Passes w (step z b) × (given (step z b) ≡ [])) (sym (is_at s at)) (rw (e, f, k, h, no_leaves w docs) (inl (record { wanted = refl; place = refl; depth = refl; diff = refl }), refl))
-
-  next_word : (b : ℕ) → is_space b ≡ false → (b == 91) ≡ false → (b == 123) ≡ false → is_lower b ≡ true → (s : State) → At w Between 0 s → Passes w (step s b) × (given (step s b) ≡ [])
-  unfolding step
-  next_word b e f k h s at = subst (λ z. Passes w (step z b) × (given (step z b) ≡ [])) (sym (is_at s at)) (rw (e, f, k, h, no_leaves w docs) (inl (record { wanted = refl; place = refl; depth = refl; diff = refl }), refl))
-
   word_begins : (b : ℕ) → is_space b ≡ false → (b == 91) ≡ false → (b == 123) ≡ false → is_lower b ≡ true → (s : State) → Before w s → Passes w (step s b) × (given (step s b) ≡ [])
-  word_begins b e f k h s (inl at) = first_word b e f k h s at
-  word_begins b e f k h s (inr at) = next_word b e f k h s at
+  word_begins b e f k h s (inl at) = unfold step in subst (λ z. Passes w (step z b) × (given (step z b) ≡ [])) (sym (is_settled s at)) (rw (e, f, k, h, no_leaves w docs) (inl (record { wanted = refl; place = refl; depth = refl; diff = refl }), refl))
+  word_begins b e f k h s (inr at) = unfold step in subst (λ z. Passes w (step z b) × (given (step z b) ≡ [])) (sym (is_settled s at)) (rw (e, f, k, h, no_leaves w docs) (inl (record { wanted = refl; place = refl; depth = refl; diff = refl }), refl))
 
   -- within a line that holds nothing
   in_word : (b : ℕ) (space : Bool) → (b == 10) ≡ false → (b == 32) ≡ space → (s : State) → InLine w Word s → Passes w (step s b) × (given (step s b) ≡ [])
-  unfolding step
-  in_word b true e f s at = subst (λ z. Passes w (step z b) × (given (step z b) ≡ [])) (sym (is_lined s at)) (rw (e, f, no_changes w docs) (inr (record { wanted = refl; place = refl; depth = refl; diff = refl }), refl))
-  in_word b false e f s at = subst (λ z. Passes w (step z b) × (given (step z b) ≡ [])) (sym (is_lined s at)) (rw (e, f) (inl (record { wanted = refl; place = refl; depth = refl; diff = refl }), refl))
-
-  in_rest : (b : ℕ) → (b == 10) ≡ false → (s : State) → InLine w Rest s → Passes w (step s b) × (given (step s b) ≡ [])
-  unfolding step
-  in_rest b e s at = subst (λ z. Passes w (step z b) × (given (step z b) ≡ [])) (sym (is_lined s at)) (rw e (inr (record { wanted = refl; place = refl; depth = refl; diff = refl }), refl))
+  in_word b true e f s at = unfold step in subst (λ z. Passes w (step z b) × (given (step z b) ≡ [])) (sym (is_lined s at)) (rw (e, f, no_changes w docs) (inr (record { wanted = refl; place = refl; depth = refl; diff = refl }), refl))
+  in_word b false e f s at = unfold step in subst (λ z. Passes w (step z b) × (given (step z b) ≡ [])) (sym (is_lined s at)) (rw (e, f) (inl (record { wanted = refl; place = refl; depth = refl; diff = refl }), refl))
 
   pass_step : (b : ℕ) → (b == 10) ≡ false → (s : State) → Passes w s → Passes w (step s b) × (given (step s b) ≡ [])
-  pass_step b e s (inl at) = in_word b (b == 32) e refl s at
-  pass_step b e s (inr at) = in_rest b e s at
-
-  pass_end : (s : State) → Passes w s → At w Between 0 (step s 10) × (given (step s 10) ≡ [])
   unfolding step
-  pass_end s (inl at) = subst (λ z. At w Between 0 (step z 10) × (given (step z 10) ≡ [])) (sym (is_lined s at)) (rw (no_changes w docs, strict_or s.some (is_strict w) strict) (record { wanted = refl; place = refl; depth = refl; diff = refl }, refl))
-  pass_end s (inr at) = subst (λ z. At w Between 0 (step z 10) × (given (step z 10) ≡ [])) (sym (is_lined s at)) (rw (strict_or s.some (is_strict w) strict) (record { wanted = refl; place = refl; depth = refl; diff = refl }, refl))
+  pass_step b e s (inl at) = in_word b (b == 32) e refl s at
+  pass_step b e s (inr at) = subst (λ z. Passes w (step z b) × (given (step z b) ≡ [])) (sym (is_lined s at)) (rw e (inr (record { wanted = refl; place = refl; depth = refl; diff = refl }), refl))
 
-line_end : (w : Wanted) → wants_documents w ≡ true → is_strict w ≡ true → (s : State) → Passes w s → Before w (step s 10) × (given (step s 10) ≡ [])
-line_end w docs strict s h = let r = pass_end w docs strict s h in (inr r.0, r.1)
+  -- a line end leads before the next one, where nothing need be read
+  line_end : (s : State) → Passes w s → Before w (step s 10) × (given (step s 10) ≡ [])
+  line_end s (inl at) = unfold step in subst (λ z. Before w (step z 10) × (given (step z 10) ≡ [])) (sym (is_lined s at)) (rw (no_changes w docs, or_right s.some (is_strict w) strict) (inr (record { wanted = refl; place = refl; depth = refl; diff = refl }), refl))
+  line_end s (inr at) = unfold step in subst (λ z. Before w (step z 10) × (given (step z 10) ≡ [])) (sym (is_lined s at)) (rw (or_right s.some (is_strict w) strict) (inr (record { wanted = refl; place = refl; depth = refl; diff = refl }), refl))
 
 -- ---- texts
 
@@ -109,7 +87,7 @@ module _ (w : Wanted) (docs : wants_documents w ≡ true) (strict : is_strict w 
 
   some_lines : (t : List ℕ) (ps : List Piece) → AreLines w t ps → Leads (Before w) t (Before w) ps
   some_lines t ps no_lines = none_read
-  some_lines t ps (blank {b} {t = rest} h m) = then (blank_step w docs strict b h) (some_lines rest ps m)
+  some_lines t ps (blank {b} {t = rest} h m) = then (blank_step w b h) (some_lines rest ps m)
   some_lines t ps (document {o} {t = rest} {ps = ins} {qs} h m) =
       let leaves = no_leaves w docs in
       joined (to_between (from_either (a_document w leaves 0 o ins docs o_begin refl h) (a_document w leaves 0 o ins docs o_between refl h))) (some_lines rest qs m)
@@ -121,50 +99,14 @@ module _ (w : Wanted) (docs : wants_documents w ≡ true) (strict : is_strict w 
 
 -- a line may begin there, or the input end
 abbrev pub ends_lines : Place → Bool
-ends_lines Start = false
 ends_lines Begin = true
-ends_lines Sign = false
 ends_lines Between = true
-ends_lines Item = false
-ends_lines NextItem = false
-ends_lines AfterItem = false
-ends_lines Member = false
-ends_lines NextMember = false
-ends_lines AfterMember = false
-ends_lines Key = false
-ends_lines KeyEscape = false
-ends_lines (Colon n) = false
-ends_lines (Ahead n) = false
-ends_lines ListPlace = false
-ends_lines (Value n) = false
-ends_lines (Quoted n) = false
-ends_lines (Escaped n) = false
-ends_lines (Revs p) = false
-ends_lines (Line p) = false
-ends_lines (Refused why) = false
+ends_lines _ = false
 
 pub lines_end : (p : Place) → ends_lines p ≡ true → end_of p ≡ Ok tt
 lines_end Begin h = refl
 lines_end Between h = refl
-lines_end Start h = absurd (cc)
-lines_end Sign h = absurd (cc)
-lines_end Item h = absurd (cc)
-lines_end NextItem h = absurd (cc)
-lines_end AfterItem h = absurd (cc)
-lines_end Member h = absurd (cc)
-lines_end NextMember h = absurd (cc)
-lines_end AfterMember h = absurd (cc)
-lines_end Key h = absurd (cc)
-lines_end KeyEscape h = absurd (cc)
-lines_end (Colon n) h = absurd (cc)
-lines_end (Ahead n) h = absurd (cc)
-lines_end ListPlace h = absurd (cc)
-lines_end (Value n) h = absurd (cc)
-lines_end (Quoted n) h = absurd (cc)
-lines_end (Escaped n) h = absurd (cc)
-lines_end (Revs p) h = absurd (cc)
-lines_end (Line p) h = absurd (cc)
-lines_end (Refused why) h = absurd (cc)
+lines_end _ h = absurd (cc)
 
 -- by what the places of two states are
 one_of_two : (b : Bool) (p q : Place) → ends_lines p ≡ false → ends_lines q ≡ false → ends_lines (cond b p q) ≡ false
@@ -178,32 +120,13 @@ one_state false s z h k = k
 -- outside of lines a line end leads before a line only from there
 stays_out : (s : State) (p : Place) → has_rest p ≡ false → ends_lines p ≡ false → ends_lines (step (record s { place = p }) 10).place ≡ false
 unfolding step
-stays_out s Start r h = refl
 stays_out s Begin r h = absurd (cc)
 stays_out s Sign r h = one_of_two (begins_sign (s.text ++ 10 ∷ [])) _ _ refl refl
 stays_out s Between r h = absurd (cc)
-stays_out s Item r h = refl
-stays_out s NextItem r h = refl
-stays_out s AfterItem r h = refl
-stays_out s Member r h = refl
-stays_out s NextMember r h = refl
-stays_out s AfterMember r h = refl
-stays_out s Key r h = refl
-stays_out s KeyEscape r h = refl
-stays_out s (Colon n) r h = refl
-stays_out s (Ahead n) r h = refl
-stays_out s ListPlace r h = refl
 stays_out s (Value n) r h = one_state (length s.text == 0) _ _ refl refl
-stays_out s (Quoted n) r h = refl
-stays_out s (Escaped n) r h = refl
-stays_out s (Revs revs.List) r h = refl
-stays_out s (Revs revs.First) r h = refl
-stays_out s (Revs revs.Next) r h = refl
-stays_out s (Revs revs.Rev) r h = refl
-stays_out s (Revs revs.Escape) r h = refl
-stays_out s (Revs revs.Behind) r h = refl
 stays_out s (Line p) r h = absurd (cc)
-stays_out s (Refused why) r h = refl
+stays_out s (Revs revs.List) r h = refl
+stays_out s _ r h = refl
 
 pub stood_before : (s : State) → ends_lines (step s 10).place ≡ true → has_rest s.place ≡ false → ends_lines s.place ≡ true
 stood_before s h r = by (ends_lines s.place) refl where
@@ -216,25 +139,7 @@ none_at : (s : State) (p : Place) → ends_lines p ≡ true → given (step (rec
 unfolding step
 none_at s Begin h = refl
 none_at s Between h = refl
-none_at s Start h = absurd (cc)
-none_at s Sign h = absurd (cc)
-none_at s Item h = absurd (cc)
-none_at s NextItem h = absurd (cc)
-none_at s AfterItem h = absurd (cc)
-none_at s Member h = absurd (cc)
-none_at s NextMember h = absurd (cc)
-none_at s AfterMember h = absurd (cc)
-none_at s Key h = absurd (cc)
-none_at s KeyEscape h = absurd (cc)
-none_at s (Colon n) h = absurd (cc)
-none_at s (Ahead n) h = absurd (cc)
-none_at s ListPlace h = absurd (cc)
-none_at s (Value n) h = absurd (cc)
-none_at s (Quoted n) h = absurd (cc)
-none_at s (Escaped n) h = absurd (cc)
-none_at s (Revs p) h = absurd (cc)
-none_at s (Line p) h = absurd (cc)
-none_at s (Refused why) h = absurd (cc)
+none_at s _ h = absurd (cc)
 
 pub line_end_given : (s : State) → ends_lines s.place ≡ true → given (step s 10) ≡ []
 line_end_given s h = none_at s s.place h

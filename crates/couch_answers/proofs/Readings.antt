@@ -2,7 +2,7 @@
 use Rattle.proof_words.proofs.{◌≡◌, ℕ, ◌+◌, ◌<◌, List, [], ◌∷◌, ◌++◌, take, get_or, length, Bool, false, ◌||◌, refl, sym, ap, ◌∙◌, append_assoc, append-nil, take_more}
 use Rattle.couch_answers.specs.State.{State}
 use Rattle.couch_answers.specs.{step, is_refused, after, given, pieces, piece_of, is_piece, stops, Found}
-use Rattle.couch_answers.specs.declared.place.Found.TheVariants.{Nothing, Document, Id, Rev}
+use Rattle.couch_answers.specs.declared.place.Found.TheVariants.{Nothing}
 
 pub after-append : (s : State) (xs ys : List ℕ) → after s (xs ++ ys) ≡ after (after s xs) ys
 after-append s [] ys = refl
@@ -38,9 +38,7 @@ module _ (s m n : State) (bytes : List ℕ) (i : ℕ) where
 
 none_of : (f : Found) (text : List ℕ) (b : Bool) → (is_piece f || b) ≡ false → piece_of f text ≡ []
 none_of Nothing text b h = refl
-none_of Document text b h = absurd (cc)
-none_of Id text b h = absurd (cc)
-none_of Rev text b h = absurd (cc)
+none_of _ text b h = absurd (cc)
 
 -- a reading that goes on has nothing whole
 pub given_none : (s : State) → stops s ≡ false → given s ≡ []

@@ -13,12 +13,11 @@ pub mod LineGrammar
 pub mod ChangeGrammar
 pub mod Stored
 pub use Wanted.{covered, is_strict, wants_changes, wants_documents, wants_leaves}
-pub use State.{at, start}
+pub use State.{start}
 pub use Names.{is_plain}
 unfoldable pub use Names.{name_of}
 pub use Signs.{begins_sign}
 pub use Lines.{is_digit, is_lower, is_rev_byte}
-pub use Objects.{key_ended}
 pub use Steps.{is_refused}
 unfoldable pub use Steps.{step}
 pub use Reading.{Piece, after, end_of, given, has_rest, is_piece, last_end, piece_of, pieces, stops, whole}
