@@ -6,7 +6,7 @@ use Rattle.couch_answers.specs.State.{State}
 use Rattle.couch_answers.specs.LineGrammar.{IsScript}
 use Rattle.couch_wording.specs.Words.{Words}
 use Rattle.couch_wording.specs.{Answered, Stopped, ReadsAnswers, all_text, AnswerFault}
-use Rattle.couch_answers.specs.declared.place.Place.TheVariants.{Start, Begin, Sign, Between, Item, NextItem, AfterItem, Member, NextMember, AfterMember, Key, KeyEscape, Colon, Ahead, List as ListPlace, Value, Quoted, Escaped, Revs, Line, Refused}
+use Rattle.couch_answers.specs.declared.place.Place.TheVariants.{Between, Refused}
 use Rattle.couch_answers.specs.declared.place.Wanted.{Wanted}
 use Rattle.couch_answers.specs.declared.place.Wanted.TheVariants.{Changes}
 use Rattle.couch_wording.specs.declared.run.AnswerFault.TheVariants.{Device, Refused as Refusing}
@@ -14,26 +14,7 @@ use Rattle.couch_answers.proofs.{after-append, pieces-append, answers_read, chan
 
 refused_is : (p : Place) → is_refused p ≡ true → (why : Refusal) × (p ≡ Refused why)
 refused_is (Refused why) h = (why, refl)
-refused_is Start h = absurd (cc)
-refused_is Begin h = absurd (cc)
-refused_is Sign h = absurd (cc)
-refused_is Between h = absurd (cc)
-refused_is Item h = absurd (cc)
-refused_is NextItem h = absurd (cc)
-refused_is AfterItem h = absurd (cc)
-refused_is Member h = absurd (cc)
-refused_is NextMember h = absurd (cc)
-refused_is AfterMember h = absurd (cc)
-refused_is Key h = absurd (cc)
-refused_is KeyEscape h = absurd (cc)
-refused_is (Colon n) h = absurd (cc)
-refused_is (Ahead n) h = absurd (cc)
-refused_is ListPlace h = absurd (cc)
-refused_is (Value n) h = absurd (cc)
-refused_is (Quoted n) h = absurd (cc)
-refused_is (Escaped n) h = absurd (cc)
-refused_is (Revs n) h = absurd (cc)
-refused_is (Line n) h = absurd (cc)
+refused_is _ h = absurd (cc)
 
 stays_once : (s : State) (why : Refusal) (b : ℕ) → is_refused (step (record s { place = Refused why }) b).place ≡ true
 unfolding step

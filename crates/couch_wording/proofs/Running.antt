@@ -8,7 +8,7 @@ use Rattle.couch_answers.specs.{start, is_refused, Piece, after, given, piece_of
 use Rattle.couch_wording.specs.Words.{Words}
 use Rattle.couch_wording.specs.{text_for, words_then, texts, words_behind, last_text, Fed, IsWhole, Begins, EndsAnswers, Finishes, IsAll, IsLeft, Answered, Stopped, all_text, judged_by, ended_of, AnswerFault}
 use Rattle.couch_answers.specs.declared.place.Wanted.{Wanted}
-use Rattle.couch_answers.specs.declared.place.Wanted.TheVariants.{Documents, Enveloped, Bodies, Unfolded, Leaves, Changes}
+use Rattle.couch_answers.specs.declared.place.Wanted.TheVariants.{Documents}
 use Rattle.couch_answers.specs.declared.place.Found.TheVariants.{Nothing, Document, Id, Rev}
 use Rattle.couch_wording.specs.declared.run.AnswerFault.TheVariants.{Refused, Device}
 use Rattle.couch_answers.proofs.{after-append, pieces-append}
@@ -285,11 +285,7 @@ module _ {wanted : Wanted} {w : Words} {s : State} {w' : Words} {left left' held
 -- no byte is refused before the first one
 pub start_going : (w : Wanted) → is_refused (start w).place ≡ false
 start_going Documents = refl
-start_going Enveloped = refl
-start_going Bodies = refl
-start_going Unfolded = refl
-start_going Leaves = refl
-start_going Changes = refl
+start_going _ = refl
 
 -- nothing was read
 pub Stopped-none : (wanted : Wanted) (w : Words) (left held : Option (List ℕ)) (fault : ScriptFault) → IsWhole fault [] → Stopped wanted w left held held (Device fault)

@@ -58,15 +58,14 @@ abbrev TextsOf : List (List ℕ) → Type 0
 TextsOf ms = (fs : List (List ℕ)) → Filled fs → texts_with (123 ∷ joined fs) ms ≡ 123 ∷ joined (fs ++ filter stays (filter is_filled ms))
 
 texts_step : (m : List ℕ) (ms : List (List ℕ)) (blank front : Bool) → is_blank m ≡ blank → stays m ≡ front → TextsOf ms → TextsOf (m ∷ ms)
-unfolding texts_with
-texts_step m ms true front e f more fs h =
+texts_step m ms true front e f more fs h = unfold texts_with in
     subst (λ b. texts_with (cond b (123 ∷ joined fs) (cond (stays m) (added (123 ∷ joined fs) m) (123 ∷ joined fs))) ms ≡ 123 ∷ joined (fs ++ filter stays (cond (not b) (m ∷ filter is_filled ms) (filter is_filled ms)))) (sym e) (more fs h)
-texts_step m ms false true e f more fs h =
+texts_step m ms false true e f more fs h = unfold texts_with in
     let rest = filter stays (filter is_filled ms) in
     subst (λ b. texts_with (cond b (123 ∷ joined fs) (cond (stays m) (added (123 ∷ joined fs) m) (123 ∷ joined fs))) ms ≡ 123 ∷ joined (fs ++ filter stays (cond (not b) (m ∷ filter is_filled ms) (filter is_filled ms)))) (sym e)
     (subst (λ b. texts_with (cond b (added (123 ∷ joined fs) m) (123 ∷ joined fs)) ms ≡ 123 ∷ joined (fs ++ cond b (m ∷ rest) rest)) (sym f)
     (ap (λ z. texts_with z ms) (added_joined fs m h) ∙ more (fs ++ m ∷ []) (filled_more fs m h e) ∙ ap (λ z. 123 ∷ joined z) (append_assoc fs (m ∷ []) rest)))
-texts_step m ms false false e f more fs h =
+texts_step m ms false false e f more fs h = unfold texts_with in
     let rest = filter stays (filter is_filled ms) in
     subst (λ b. texts_with (cond b (123 ∷ joined fs) (cond (stays m) (added (123 ∷ joined fs) m) (123 ∷ joined fs))) ms ≡ 123 ∷ joined (fs ++ filter stays (cond (not b) (m ∷ filter is_filled ms) (filter is_filled ms)))) (sym e)
     (subst (λ b. texts_with (cond b (added (123 ∷ joined fs) m) (123 ∷ joined fs)) ms ≡ 123 ∷ joined (fs ++ cond b (m ∷ rest) rest)) (sym f) (more fs h))
@@ -95,16 +94,15 @@ abbrev HeldsOf : List (List ℕ) → Type 0
 HeldsOf ms = (os : List (List ℕ)) → Filled os → helds_by (joined os) ms ≡ joined (os ++ filter goes (filter is_filled ms))
 
 helds_step : (m : List ℕ) (ms : List (List ℕ)) (blank front : Bool) → is_blank m ≡ blank → stays m ≡ front → HeldsOf ms → HeldsOf (m ∷ ms)
-unfolding helds_by
-helds_step m ms true front e f more os h =
+helds_step m ms true front e f more os h = unfold helds_by in
     let H = joined os in
     subst (λ b. helds_by (cond b H (cond (stays m) H (held_with H m))) ms ≡ (joined (os ++ filter goes (cond (not b) (m ∷ filter is_filled ms) (filter is_filled ms))))) (sym e) (more os h)
-helds_step m ms false true e f more os h =
+helds_step m ms false true e f more os h = unfold helds_by in
     let H = joined os in
     let rest = filter goes (filter is_filled ms) in
     subst (λ b. helds_by (cond b H (cond (stays m) H (held_with H m))) ms ≡ (joined (os ++ filter goes (cond (not b) (m ∷ filter is_filled ms) (filter is_filled ms))))) (sym e)
     (subst (λ b. helds_by (cond b H (held_with H m)) ms ≡ (joined (os ++ cond (not b) (m ∷ rest) rest))) (sym f) (more os h))
-helds_step m ms false false e f more os h =
+helds_step m ms false false e f more os h = unfold helds_by in
     let H = joined os in
     let rest = filter goes (filter is_filled ms) in
     subst (λ b. helds_by (cond b H (cond (stays m) H (held_with H m))) ms ≡ (joined (os ++ filter goes (cond (not b) (m ∷ filter is_filled ms) (filter is_filled ms))))) (sym e)
@@ -151,8 +149,7 @@ fold_enveloped x text held e f =
 -- what is taken of a text, by its first member
 pub taken_first : (t rest first : List ℕ) (o : Option (List ℕ)) → (length rest == 0) ≡ false → first ≡ take (first_length rest) rest → taken_with t first ≡ o
     → all_taken t (members_in Outside 0 [] rest) ≡ option_and_then (λ u. all_taken u (members_in Outside 0 [] (behind_comma rest (first_length rest)))) o
-unfolding all_taken
-taken_first t rest first o some is one =
+taken_first t rest first o some is one = unfold all_taken in
     let more = members_in Outside 0 [] (behind_comma rest (first_length rest)) in
     ap (all_taken t) (members_first rest some) ∙ ap (option_and_then (λ u. all_taken u more)) (ap (taken_with t) (sym is) ∙ one)
 
@@ -196,10 +193,9 @@ taken_one m ms e (Some t) f more fs h =
     ∙ joins_more fs t (unfolded_members (filter is_filled ms)))
 
 taken_step : (m : List ℕ) (ms : List (List ℕ)) (blank : Bool) → is_blank m ≡ blank → TakenOf ms → TakenOf (m ∷ ms)
-unfolding all_taken
-taken_step m ms true e more fs h =
+taken_step m ms true e more fs h = unfold all_taken in
     subst (λ b. option_and_then (λ u. all_taken u ms) (cond b (Some (123 ∷ joined fs)) (option_map (added (123 ∷ joined fs)) (unfolded_member m))) ≡ option_map (λ ts. 123 ∷ joined (fs ++ ts)) (unfolded_members (cond (not b) (m ∷ filter is_filled ms) (filter is_filled ms)))) (sym e) (more fs h)
-taken_step m ms false e more fs h =
+taken_step m ms false e more fs h = unfold all_taken in
     subst (λ b. option_and_then (λ u. all_taken u ms) (cond b (Some (123 ∷ joined fs)) (option_map (added (123 ∷ joined fs)) (unfolded_member m))) ≡ option_map (λ ts. 123 ∷ joined (fs ++ ts)) (unfolded_members (cond (not b) (m ∷ filter is_filled ms) (filter is_filled ms)))) (sym e)
     (taken_one m ms e (unfolded_member m) refl more fs h)
 

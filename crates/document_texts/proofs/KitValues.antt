@@ -1,5 +1,5 @@
 -- What the kit's reader says of texts.
-use Rattle.proof_words.proofs.{◌≡◌, ℕ, List, [], ◌∷◌, ◌++◌, ◌&&◌, ◌==◌, map, drop, length, Bool, true, false, cond, refl, sym, ap, ◌∙◌, append-nil, suc, arith, Some, None, option_and_then, Result, Ok, Err, IfOk, Global, IsUtf8, list_all, filter, Bor, is_utf8, IsUtf8-from_is_utf8, is_utf8-from_IsUtf8, IsUtf8-nil}
+use Rattle.proof_words.proofs.{◌≡◌, ℕ, List, [], ◌∷◌, ◌++◌, ◌&&◌, ◌==◌, map, drop, length, Bool, true, false, cond, refl, sym, ap, ◌∙◌, append-nil, suc, arith, Some, None, option_and_then, Result, Ok, Err, IfOk, Global, IsUtf8, list_all, Bor, is_utf8, IsUtf8-from_is_utf8, is_utf8-from_IsUtf8, IsUtf8-nil, filter}
 use Rattle.json.specs.Json.{Json, document}
 use Rattle.json.specs.Token.{Token, string}
 use Rattle.json.specs.Print.{print, print_from, quoted}
@@ -44,8 +44,7 @@ empty_utf8 (b ∷ t) h = absurd (never (length t) h) where
 
 -- a string that is written behind nothing
 pub quoted_alone : (s : List ℕ) → print (string s ∷ []) ≡ quoted s
-unfolding print_from
-quoted_alone s = append-nil (quoted s)
+quoted_alone s = unfold print_from in append-nil (quoted s)
 
 pub quoted_behind : (made text said result : List ℕ) (tokens : List Token) → result ≡ made ++ print tokens → tokens ≡ string said ∷ [] → said ≡ text → result ≡ made ++ quoted text
 quoted_behind made text said result tokens e f g = e ∙ ap (λ ts. made ++ print ts) f ∙ ap (λ t. made ++ t) (quoted_alone said) ∙ ap (λ s. made ++ quoted s) g

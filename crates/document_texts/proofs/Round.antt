@@ -1,5 +1,5 @@
 -- What goes into an envelope comes out of it, member by member.
-use Rattle.proof_words.proofs.{◌≡◌, ℕ, ◌+◌, ◌-◌, ◌&&◌, ◌||◌, ◌==◌, ◌/◌, ◌%◌, nat_lt, List, [], ◌∷◌, ◌++◌, Bool, true, false, not, cond, refl, sym, ap, subst, ◌∙◌, append_assoc, append-nil, arith, Option, Some, None, option_map, option_and_then, filter, is_utf8, and_right, IsUtf8-from_is_utf8, is_utf8-from_IsUtf8, digit_char}
+use Rattle.proof_words.proofs.{◌≡◌, ℕ, ◌+◌, ◌-◌, ◌&&◌, ◌||◌, ◌==◌, ◌/◌, ◌%◌, nat_lt, List, [], ◌∷◌, ◌++◌, Bool, true, false, not, cond, refl, sym, ap, subst, ◌∙◌, append_assoc, append-nil, arith, Option, Some, None, option_map, option_and_then, is_utf8, and_right, or_parts, IsUtf8-from_is_utf8, is_utf8-from_IsUtf8, digit_char, filter}
 use Rattle.json.specs.Json.{document, value, items, members, if_last, max_depth}
 use Rattle.json.specs.Token.{string as json_string}
 use Rattle.json.specs.Lex.{lex, punctuate, in_string, between, fresh, token, string_token}
@@ -39,20 +39,16 @@ quoted_passes n q (escaped {b} {t} more) u rest =
     ∙ ap (λ z. members_in Outside n z rest) (append_assoc (u ++ 92 ∷ []) (b ∷ []) t ∙ append_assoc u (92 ∷ []) (b ∷ t))
 
 opens_in : (n b : ℕ) (u t : List ℕ) → (b == 123 || b == 91) ≡ true → (b == 44 || (b == 125 || b == 93)) ≡ false → (b == 34) ≡ false → members_in Outside n u (b ∷ t) ≡ members_in Outside (n + 1) (u ++ b ∷ []) t
-unfolding members_in
-opens_in n b u t o c q = rw (c, and_right (n == 0) false refl, q, o)
+opens_in n b u t o c q = unfold members_in in rw (c, and_right (n == 0) false refl, q, o)
 
 closes_in : (n b : ℕ) (u t : List ℕ) → (b == 125 || b == 93) ≡ true → (b == 123 || b == 91) ≡ false → (b == 34) ≡ false → members_in Outside (n + 1) u (b ∷ t) ≡ members_in Outside n (u ++ b ∷ []) t
-unfolding members_in
-closes_in n b u t c o q = rw (some_more n, q, o, c, less_one n)
+closes_in n b u t c o q = unfold members_in in rw (some_more n, q, o, c, less_one n)
 
 byte_in : (n b : ℕ) (u t : List ℕ) → IsByte n b → members_in Outside n u (b ∷ t) ≡ members_in Outside n (u ++ b ∷ []) t
-unfolding members_in
-byte_in n b u t h = rw (no_end (n == 0) (b == 44) (b == 125 || b == 93) h.comma h.closes, h.quote, h.opens, h.closes)
+byte_in n b u t h = unfold members_in in rw (no_end (n == 0) (b == 44) (b == 125 || b == 93) h.comma h.closes, h.quote, h.opens, h.closes)
 
 quote_in : (n : ℕ) (u t : List ℕ) → members_in Outside n u (34 ∷ t) ≡ members_in Quoted n (u ++ 34 ∷ []) t
-unfolding members_in
-quote_in n u t = rw (and_right (n == 0) false refl)
+quote_in n u t = unfold members_in in rw (and_right (n == 0) false refl)
 
 bracketed : (n b c : ℕ) (m t : List ℕ) → (b == 123 || b == 91) ≡ true → (b == 44 || (b == 125 || b == 93)) ≡ false → (b == 34) ≡ false → (c == 125 || c == 93) ≡ true → (c == 123 || c == 91) ≡ false → (c == 34) ≡ false
     → Passes Outside (n + 1) m Outside → Passes Outside n t Outside → Passes Outside n (b ∷ (m ++ c ∷ t)) Outside
@@ -76,12 +72,10 @@ paired_passes n t (object {m} {t = more} i p) u rest = bracketed n 123 125 m mor
 paired_passes n t (list {m} {t = more} i p) u rest = bracketed n 91 93 m more refl refl refl refl refl refl (paired_passes (n + 1) m i) (paired_passes n more p) u rest
 
 last_member : (u : List ℕ) → members_in Outside 0 u (125 ∷ []) ≡ u ∷ []
-unfolding members_in
-last_member u = refl
+last_member u = unfold members_in in refl
 
 next_member : (u t : List ℕ) → members_in Outside 0 u (44 ∷ t) ≡ u ∷ members_in Outside 0 [] t
-unfolding members_in
-next_member u t = refl
+next_member u t = unfold members_in in refl
 
 split : (m : List ℕ) (ms : List (List ℕ)) → AreMembers (m ∷ ms) → members_in Outside 0 [] (joined (m ∷ ms) ++ 125 ∷ []) ≡ m ∷ ms
 split m [] h = paired_passes 0 m h.0.paired [] (125 ∷ []) ∙ last_member m
@@ -126,15 +120,11 @@ clash x e h = grind arith
 letter_of : (x : ℕ) → (x == 34 || x == 92) ≡ true → escape_letter x ≡ x
 letter_of x e = rw e
 
-or_false : (b c : Bool) → (b || c) ≡ false → (b ≡ false) × (c ≡ false)
-or_false true c h = absurd (cc)
-or_false false c h = (refl, h)
-
 no_letter : (x : ℕ) → nat_lt 0 (escape_letter x) ≡ false → ((x == 34) ≡ false) × ((x == 92) ≡ false)
 no_letter x h = by (x == 34 || x == 92) refl where
   by : (b : Bool) → (x == 34 || x == 92) ≡ b → ((x == 34) ≡ false) × ((x == 92) ≡ false)
   by true e = absurd (clash x e (ap (nat_lt 0) (sym (letter_of x e)) ∙ h))
-  by false e = or_false (x == 34) (x == 92) e
+  by false e = or_parts (x == 34) (x == 92) e
 
 digit_by : (d : ℕ) (b : Bool) → nat_lt d 10 ≡ b → ((cond b (48 + d) (87 + d) == 34) ≡ false) × ((cond b (48 + d) (87 + d) == 92) ≡ false)
 digit_by d true h = (grind arith, grind arith)
@@ -164,13 +154,11 @@ whole_member t = record {
 }
 
 quoted_lexeme : (s : List ℕ) → lex between (quoted s) ≡ token (json_string s) ∷ []
-unfolding lex
-quoted_lexeme s =
+quoted_lexeme s = unfold lex in
     ap (λ o. token (string_token o) ∷ lex in_string (escape s ++ 34 ∷ [])) (content-escape s []) ∙ ap (λ ls. token (json_string s) ∷ ls) (lex-escape s [])
 
 lexeme_document : (s : List ℕ) → option_and_then as_str (option_and_then (λ p. if_last p.0 p.1) (value max_depth (punctuate fresh (token (json_string s) ∷ [])))) ≡ Some s
-unfolding punctuate value items members
-lexeme_document s = refl
+lexeme_document s = unfold punctuate value items members in refl
 
 string_document : (s : List ℕ) → option_and_then as_str (document (quoted s)) ≡ Some s
 string_document s = ap (λ ls. option_and_then as_str (option_and_then (λ p. if_last p.0 p.1) (value max_depth (punctuate fresh ls)))) (quoted_lexeme s) ∙ lexeme_document s

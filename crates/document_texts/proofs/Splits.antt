@@ -10,29 +10,25 @@ comma_one : (k b : ℕ) (t : List ℕ) → behind_comma (b ∷ t) (k + 1) ≡ be
 comma_one k b t = simp add-one
 
 comma_members : (c : Bool) (t : List ℕ) → cond c (members_in Outside 0 [] t) [] ≡ members_in Outside 0 [] (cond c t [])
-unfolding members_in
-comma_members true t = refl
-comma_members false t = refl
+comma_members true t = unfold members_in in refl
+comma_members false t = unfold members_in in refl
 
 -- of a text of which so much was read, the member is that and what follows of it, and the others stand behind its comma
 abbrev FirstBy : Mode → ℕ → List ℕ → List ℕ → Type 0
 FirstBy m n u t = members_in m n u t ≡ (u ++ take (length_in m n t) t) ∷ members_in Outside 0 [] (behind_comma t (length_in m n t))
 
 first_end : (m : Mode) (n : ℕ) (u : List ℕ) (b : ℕ) (t : List ℕ) → ends_member m n b ≡ true → FirstBy m n u (b ∷ t)
-unfolding members_in length_in
-first_end m n u b t h =
+first_end m n u b t h = unfold members_in length_in in
     rw h (ap (λ z. z ∷ cond (b == 44) (members_in Outside 0 [] t) []) (sym (append-nil u)) ∙ ap (λ z. (u ++ []) ∷ z) (comma_members (b == 44) t))
 
 first_more : (m : Mode) (n : ℕ) (u : List ℕ) (b : ℕ) (t : List ℕ) → ends_member m n b ≡ false → FirstBy (mode_behind m b) (nesting_behind m n b) (u ++ b ∷ []) t → FirstBy m n u (b ∷ t)
-unfolding members_in length_in
-first_more m n u b t h more =
+first_more m n u b t h more = unfold members_in length_in in
     let k = length_in (mode_behind m b) (nesting_behind m n b) t in
     rw h (more ∙ ap (λ z. z ∷ members_in Outside 0 [] (behind_comma t k)) (append_assoc u (b ∷ []) (take k t) ∙ ap (λ z. u ++ z) (sym (take_one k b t)))
     ∙ ap (λ z. (u ++ take (k + 1) (b ∷ t)) ∷ members_in Outside 0 [] z) (sym (comma_one k b t)))
 
 first_none : (m : Mode) (n : ℕ) (u : List ℕ) → (length u == 0) ≡ false → FirstBy m n u []
-unfolding members_in length_in
-first_none m n u h = rw h (ap (λ z. z ∷ []) (sym (append-nil u)))
+first_none m n u h = unfold members_in length_in in rw h (ap (λ z. z ∷ []) (sym (append-nil u)))
 
 first_by : (m : Mode) (n : ℕ) (u t : List ℕ) → (length (u ++ t) == 0) ≡ false → FirstBy m n u t
 first_by m n u [] some = first_none m n u (ap (λ z. length z == 0) (sym (append-nil u)) ∙ some)
@@ -46,22 +42,18 @@ pub members_first : (t : List ℕ) → (length t == 0) ≡ false → members_in 
 members_first t some = first_by Outside 0 [] t some
 
 pub members_none : members_in Outside 0 [] [] ≡ []
-unfolding members_in
-members_none = refl
+members_none = unfold members_in in refl
 
 -- ---- one byte more of the first member
 
 length_more : (m : Mode) (n : ℕ) (b : ℕ) (t : List ℕ) → ends_member m n b ≡ false → length_in m n (b ∷ t) ≡ length_in (mode_behind m b) (nesting_behind m n b) t + 1
-unfolding length_in
-length_more m n b t h = rw h
+length_more m n b t h = unfold length_in in rw h
 
 length_end : (m : Mode) (n : ℕ) (b : ℕ) (t : List ℕ) → ends_member m n b ≡ true → length_in m n (b ∷ t) ≡ 0
-unfolding length_in
-length_end m n b t h = rw h
+length_end m n b t h = unfold length_in in rw h
 
 length_none : (m : Mode) (n : ℕ) → length_in m n [] ≡ 0
-unfolding length_in
-length_none m n = refl
+length_none m n = unfold length_in in refl
 
 module _ (m : Mode) (n : ℕ) (text : List ℕ) (i : ℕ) where
   cut : i < length text → drop i text ≡ get_or text i 0 ∷ drop (i + 1) text

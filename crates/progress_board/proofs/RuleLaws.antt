@@ -1,5 +1,5 @@
 -- Each step keeps the rule of the board.
-use Rattle.proof_words.proofs.{◌≡◌, ◌≢◌, ℕ, zero, suc, ◌+◌, ◌<◌, ◌≤◌, ◌%◌, ◌^◌, true, false, true≢false, List, [], ◌∷◌, ◌++◌, length, max, get_or, set, sym, refl, ap, ◌∙◌, subst, ◌⊎◌, inl, inr, ⊎_elim, arith, replicate, sum, get_or-set_same, get_or-set_other, length-set, get_or-replicate, length-replicate, sum_by-cons}
+use Rattle.proof_words.proofs.{◌≡◌, ◌≢◌, ℕ, zero, suc, ◌+◌, ◌<◌, ◌≤◌, ◌%◌, ◌^◌, true, false, true≢false, List, [], ◌∷◌, ◌++◌, length, max, get_or, set, sym, refl, ap, ◌∙◌, subst, ◌⊎◌, inl, inr, ⊎_elim, arith, replicate, sum, length-replicate, sum_by-cons, get_or-set_same, get_or-set_other, length-set}
 use mathlib.Core.Option.{some, some-injective, some-ne-none}
 use mathlib.Core.Logic.{dite}
 use native.Mathlib.Decide.{ℕ_discrete}
@@ -19,84 +19,76 @@ write_same [] i = refl
 write_same (x ∷ xs) zero = refl
 write_same (x ∷ xs) (suc i) = ap (λ l. x ∷ l) (write_same xs i)
 
--- a seat's view before a step, at each place
-old : (views : List SeatView) (id : ℕ) (v w : SeatView) → get_elem? views id ≡ some v → w.works ≡ v.works → w.deals ≡ v.deals → w.number ≡ v.number
-    → (a : ℕ) (u : SeatView) → get_elem? (set views id w) a ≡ some u → (o : SeatView) × (get_elem? views a ≡ some o) × (o.works ≡ u.works) × (o.deals ≡ u.deals) × (o.number ≡ u.number)
-old views id v w here works deals number a u at =
+grown : (xs : List ℕ) (i n j : ℕ) → i < length xs → get_or xs i 0 ≤ n → get_or xs j 0 ≤ get_or (set xs i n) j 0
+grown xs i n j lt le = at_write xs i n j (λ y. get_or xs j 0 ≤ y) lt (λ e. let s : get_or xs j 0 ≡ get_or xs i 0 = ap (λ z. get_or xs z 0) e in omega arith) (λ ne. omega arith)
+
+-- the view before a step of the seat at a place
+record Was (views : List SeatView) (a : ℕ) (u : SeatView) : Type 0 where
+  seat : SeatView
+  at : get_elem? views a ≡ some seat
+  works : seat.works ≡ u.works
+  deals : seat.deals ≡ u.deals
+  number : u.works ≡ true → seat.number ≡ u.number
+  grows : seat.number ≤ u.number
+
+was : (views : List SeatView) (id : ℕ) (v w : SeatView) → get_elem? views id ≡ some v → w.works ≡ v.works → w.deals ≡ v.deals → (w.works ≡ true → w.number ≡ v.number) → v.number ≤ w.number
+    → (a : ℕ) (u : SeatView) → get_elem? (set views id w) a ≡ some u → Was views a u
+was views id v w here works deals number grows a u at =
     ⊎_elim
-    (λ (x : (a ≡ id) × (w ≡ u)). (v, subst (λ (z : ℕ). get_elem? views z ≡ some v) (sym x.0) here, sym works ∙ ap (λ (y : SeatView). y.works) x.1, sym deals ∙ ap (λ (y : SeatView). y.deals) x.1, sym number ∙ ap (λ (y : SeatView). y.number) x.1))
-    (λ (x : (a ≢ id) × (get_elem? views a ≡ some u)). (u, x.1, refl, refl, refl))
+    (λ (x : (a ≡ id) × (w ≡ u)).
+    let there : get_elem? views a ≡ some v = subst (λ (z : ℕ). get_elem? views z ≡ some v) (sym x.0) here in
+    subst (Was views a) x.1 (record { seat = v; at = there; works = sym works; deals = sym deals; number = λ t. sym (number t); grows = grows }))
+    (λ (x : (a ≢ id) × (get_elem? views a ≡ some u)). record { seat = u; at = x.1; works = refl; deals = refl; number = λ t. refl; grows = omega arith })
     (at_set views id a w u at)
 
-pub kept_step : (k id : ℕ) (words words' : List ℕ) (views : List SeatView) (v w : SeatView) → Kept k words views → get_elem? views id ≡ some v
+kept_step : (k id : ℕ) (words words' : List ℕ) (views : List SeatView) (v w : SeatView) → Kept k words views → get_elem? views id ≡ some v
     → length words' ≡ length words → InOrder k words' → Fits k words' w → ((a : ℕ) (u : SeatView) → a ≢ id → get_elem? views a ≡ some u → Fits k words' u)
-    → w.works ≡ v.works → w.deals ≡ v.deals → w.number ≡ v.number → Kept k words' (set views id w)
-kept_step k id words words' views v w kept here size order mine others works deals number = record {
-  size = size ∙ kept.size;
-  order = order;
-  fits = λ a u at.
-      ⊎_elim (λ (x : (a ≡ id) × (w ≡ u)). subst (λ (y : SeatView). Fits k words' y) x.1 mine) (λ (x : (a ≢ id) × (get_elem? views a ≡ some u)). others a u x.0 x.1) (at_set views id a w u at);
-  apart = λ a b u y at at' wu wy e.
-      let o = old views id v w here works deals number a u at in
-      let p = old views id v w here works deals number b y at' in
-      kept.apart a b o.0 p.0 o.1 p.1 (o.2 ∙ wu) (p.2 ∙ wy) (o.4 ∙ e ∙ sym p.4);
-  below = λ a b u y at at' du wy.
-      let o = old views id v w here works deals number a u at in
-      let p = old views id v w here works deals number b y at' in
-      let lt = kept.below a b o.0 p.0 o.1 p.1 (o.3 ∙ du) (p.2 ∙ wy) in
-      omega (arith, lt, o.4, p.4);
-  one = λ a b u y at at' du dy.
-      let o = old views id v w here works deals number a u at in
-      let p = old views id v w here works deals number b y at' in
-      kept.one a b o.0 p.0 o.1 p.1 (o.3 ∙ du) (p.3 ∙ dy);
-}
+    → w.works ≡ v.works → w.deals ≡ v.deals → (w.works ≡ true → w.number ≡ v.number) → v.number ≤ w.number → Kept k words' (set views id w)
+kept_step k id words words' views v w kept here size order mine others works deals number grows =
+    let old = was views id v w here works deals number grows in
+    record {
+      size = size ∙ kept.size;
+      order = order;
+      fits = λ a u at.
+          ⊎_elim (λ (x : (a ≡ id) × (w ≡ u)). subst (λ (y : SeatView). Fits k words' y) x.1 mine) (λ (x : (a ≢ id) × (get_elem? views a ≡ some u)). others a u x.0 x.1) (at_set views id a w u at);
+      apart = λ a b u y at at' wu wy e.
+          let o = old a u at in
+          let p = old b y at' in
+          kept.apart a b o.seat p.seat o.at p.at (o.works ∙ wu) (p.works ∙ wy) (o.number wu ∙ e ∙ sym (p.number wy));
+      below = λ a b u y at at' du wy.
+          let o = old a u at in
+          let p = old b y at' in
+          let lt = kept.below a b o.seat p.seat o.at p.at (o.deals ∙ du) (p.works ∙ wy) in
+          omega (arith, lt, o.grows, p.number wy);
+      one = λ a b u y at at' du dy.
+          let o = old a u at in
+          let p = old b y at' in
+          kept.one a b o.seat p.seat o.at p.at (o.deals ∙ du) (p.deals ∙ dy);
+    }
 
--- a load of what i has read
-pub looks_at_read : (k id i : ℕ) (words : List ℕ) (views : List SeatView) (v : SeatView) → i < k → Kept k words views → get_elem? views id ≡ some v
-    → Kept k words (set views id (seat_view v.deals v.works v.number (set v.reads i (get_or words i 0)) v.settles))
-looks_at_read k id i words views v low kept here =
-    let f = kept.fits id v here in
-    let n = get_or words i 0 in
-    let lt : i < length v.reads = omega (arith, f.read_size) in
-    kept_step k id words words views v (seat_view v.deals v.works v.number (set v.reads i n) v.settles) kept here refl kept.order
-    (record {
-      read_size = length-set v.reads i n ∙ f.read_size;
-      settle_size = f.settle_size;
-      read_bound = λ j b. at_write v.reads i n j (λ x. x ≤ get_or words j 0) lt (λ e. let s : get_or words j 0 ≡ n = ap (λ z. get_or words z 0) e in omega arith) (λ ne. f.read_bound j b);
-      settle_bound = f.settle_bound;
-      own = λ w. let o = f.own w in (o.0, at_write v.reads i n v.number (λ x. x ≡ get_or words v.number 0) lt (λ e. ap (λ z. get_or words z 0) (sym e)) (λ ne. o.1), o.2);
-      fresh = f.fresh;
-    })
-    (λ a u ne at. kept.fits a u at) refl refl refl
-
--- a load of what i has settled
-pub looks_at_settled : (k id i : ℕ) (words : List ℕ) (views : List SeatView) (v : SeatView) → i < k → Kept k words views → get_elem? views id ≡ some v
-    → Kept k words (set views id (seat_view v.deals v.works v.number (set v.reads i (max (get_or v.reads i 0) (get_or words (k + i) 0))) (set v.settles i (get_or words (k + i) 0))))
-looks_at_settled k id i words views v low kept here =
-    let f = kept.fits id v here in
-    let n = get_or words (k + i) 0 in
-    let m = max (get_or v.reads i 0) n in
-    let lt : i < length v.reads = omega (arith, f.read_size) in
-    let lt' : i < length v.settles = omega (arith, f.settle_size) in
-    let ord = (kept.order i low).0 in
-    let top : m ≤ get_or words i 0 = let b = f.read_bound i low in omega arith in
-    kept_step k id words words views v (seat_view v.deals v.works v.number (set v.reads i m) (set v.settles i n)) kept here refl kept.order
-    (record {
-      read_size = length-set v.reads i m ∙ f.read_size;
-      settle_size = length-set v.settles i n ∙ f.settle_size;
-      read_bound = λ j b. at_write v.reads i m j (λ x. x ≤ get_or words j 0) lt (λ e. let s : get_or words j 0 ≡ get_or words i 0 = ap (λ z. get_or words z 0) e in omega arith) (λ ne. f.read_bound j b);
-      settle_bound = λ j b. at_write v.settles i n j (λ x. x ≤ get_or words (k + j) 0) lt' (λ e. let s : get_or words (k + j) 0 ≡ n = ap (λ z. get_or words (k + z) 0) e in omega arith) (λ ne. f.settle_bound j b);
+-- a worker writes a word of its own, which grows: what the other seats know is as true
+others : (k id p x : ℕ) (words : List ℕ) (views : List SeatView) (v : SeatView) → v.works ≡ true → Kept k words views → get_elem? views id ≡ some v → p < length words → get_or words p 0 ≤ x
+    → ((j : ℕ) → j < k → j ≢ v.number → (j ≢ p) × (k + j ≢ p)) → (a : ℕ) (u : SeatView) → a ≢ id → get_elem? views a ≡ some u → Fits k (set words p x) u
+others k id p x words views v works kept here lt more away a u ne at =
+    let g = kept.fits a u at in
+    let words' : List ℕ = set words p x in
+    let up : (j : ℕ) → get_or words j 0 ≤ get_or words' j 0 = λ j. grown words p x j lt more in
+    let same : (j : ℕ) → j < k → j ≢ v.number → (get_or words' j 0 ≡ get_or words j 0) × (get_or words' (k + j) 0 ≡ get_or words (k + j) 0) =
+    λ j b other. (get_or-set_other words p j x 0 (away j b other).0, get_or-set_other words p (k + j) x 0 (away j b other).1) in
+    record {
+      read_size = g.read_size;
+      settle_size = g.settle_size;
+      read_bound = λ j b. let r = g.read_bound j b in let s = up j in omega arith;
+      settle_bound = λ j b. let r = g.settle_bound j b in let s = up (k + j) in omega arith;
       own = λ w.
-          let o = f.own w in (
-            o.0,
-            at_write v.reads i m v.number (λ x. x ≡ get_or words v.number 0) lt
-                (λ e. let s : get_or words v.number 0 ≡ get_or words i 0 = ap (λ z. get_or words z 0) e in let r : get_or v.reads v.number 0 ≡ get_or v.reads i 0 = ap (λ z. get_or v.reads z 0) e in let q = o.1 in omega arith)
-                (λ ne. o.1),
-            at_write v.settles i n v.number (λ x. x ≡ get_or words (k + v.number) 0) lt' (λ e. ap (λ z. get_or words (k + z) 0) (sym e)) (λ ne. o.2),
-          );
-      fresh = f.fresh;
-    })
-    (λ a u ne at. kept.fits a u at) refl refl refl
+          let o = g.own w in
+          let s = same u.number o.0 (λ e. ne (kept.apart a id u v at here w works e)) in
+          (o.0, o.1 ∙ sym s.0, o.2 ∙ sym s.1);
+      fresh = λ d.
+          let h = g.fresh d in
+          let below = kept.below a id u v at here d works in
+          (h.0, λ j from b. let s = same j b (λ e. omega arith) in (s.0 ∙ (h.1 j from b).0, s.1 ∙ (h.1 j from b).1));
+    }
 
 -- a worker adds to what it has read
 pub adds_read : (k id n : ℕ) (words : List ℕ) (views : List SeatView) (v : SeatView) → v.works ≡ true → get_or v.reads v.number 0 + n ≤ 9007199254740991 → Kept k words views → get_elem? views id ≡ some v
@@ -111,7 +103,7 @@ adds_read k id n words views v works most kept here =
     let size = kept.size in
     let lt : q < length words = omega arith in
     let rlt : q < length v.reads = omega (arith, f.read_size) in
-    let up : (j : ℕ) → get_or words j 0 ≤ get_or words' j 0 = λ j. at_write words q x j (λ y. get_or words j 0 ≤ y) lt (λ e. let s : get_or words j 0 ≡ get_or words q 0 = ap (λ z. get_or words z 0) e in omega arith) (λ ne. omega arith) in
+    let up : (j : ℕ) → get_or words j 0 ≤ get_or words' j 0 = λ j. grown words q x j lt (omega arith) in
     let far : (j : ℕ) → get_or words' (k + j) 0 ≡ get_or words (k + j) 0 = λ j. get_or-set_other words q (k + j) x 0 (λ e. omega arith) in
     kept_step k id words words' views v (added_read v n) kept here (length-set words q x)
     (λ j b.
@@ -136,35 +128,32 @@ adds_read k id n words views v works most kept here =
       );
       fresh = λ d. absurd (true≢false (sym works ∙ (f.fresh d).0));
     })
-    (λ a u ne at.
-    let g = kept.fits a u at in
-    record {
-      read_size = g.read_size;
-      settle_size = g.settle_size;
-      read_bound = λ j b. let r = g.read_bound j b in let s = up j in omega arith;
-      settle_bound = λ j b. let r = g.settle_bound j b in let s = far j in omega arith;
-      own = λ w.
-          let o = g.own w in
-          (o.0, o.1 ∙ sym (get_or-set_other words q u.number x 0 (λ e. ne (kept.apart a id u v at here w works e))), o.2 ∙ sym (far u.number));
-      fresh = λ d.
-          let h = g.fresh d in
-          let lt = kept.below a id u v at here d works in
-          (h.0, λ j from b. ((get_or-set_other words q j x 0 (λ e. omega arith)) ∙ (h.1 j from b).0, far j ∙ (h.1 j from b).1));
-    })
-    refl refl refl
+    (others k id q x words views v works kept here lt (omega arith) (λ j b ne. (ne, λ e. omega arith)))
+    refl refl (λ t. refl) (omega arith)
 
 -- whatever the board is, a load of what i has read
 pub load_read : {S : Type 0} (k slots id i : ℕ) (me : Me S SeatView) → i < k
     → Allows (λ (s : State S SeatView). Kept k s.words s.views) slots id me i (λ n. n) (λ n w. SeesRead me.0 i n w.0 × (w.1 ≡ me.1))
 load_read k slots id i me low s kept homes here small =
     let v = me.0 in
+    let f = kept.fits id v here in
     let n = get_or s.words i 0 in
-    let w : SeatView = seat_view v.deals v.works v.number (set v.reads i n) v.settles in (
+    let lt : i < length v.reads = omega (arith, f.read_size) in
+    let w : SeatView = seat_view v.deals v.works v.number (set v.reads i n) v.settles in
+    let mine : Fits k s.words w = record {
+      read_size = length-set v.reads i n ∙ f.read_size;
+      settle_size = f.settle_size;
+      read_bound = λ j b. at_write v.reads i n j (λ x. x ≤ get_or s.words j 0) lt (λ e. let same : get_or s.words j 0 ≡ n = ap (λ z. get_or s.words z 0) e in omega arith) (λ ne. f.read_bound j b);
+      settle_bound = f.settle_bound;
+      own = λ w. let o = f.own w in (o.0, at_write v.reads i n v.number (λ x. x ≡ get_or s.words v.number 0) lt (λ e. ap (λ z. get_or s.words z 0) (sym e)) (λ ne. o.1), o.2);
+      fresh = f.fresh;
+    } in
+    let next = kept_step k id s.words s.words s.views v w kept here refl kept.order mine (λ a u ne at. kept.fits a u at) refl refl (λ t. refl) (omega arith) in (
       w,
       keeps,
       tt,
-      subst (λ (ws : List ℕ). Kept k ws (set s.views id w)) (sym (write_same s.words i)) (looks_at_read k id i s.words s.views v low kept here),
-      ((refl, (kept.fits id v here).read_bound i low, (kept.order i low).1, λ works mine. let o = ((kept.fits id v here).own works).1 in ap (λ z. get_or s.words z 0) (sym mine) ∙ sym o ∙ ap (λ z. get_or v.reads z 0) mine), refl),
+      subst (λ (ws : List ℕ). Kept k ws (set s.views id w)) (sym (write_same s.words i)) next,
+      ((refl, f.read_bound i low, (kept.order i low).1, λ works own. let o = (f.own works).1 in ap (λ z. get_or s.words z 0) (sym own) ∙ sym o ∙ ap (λ z. get_or v.reads z 0) own), refl),
     )
 
 -- whatever the board is, a load of what i has settled
@@ -172,15 +161,37 @@ pub load_settled : {S : Type 0} (k slots id i : ℕ) (me : Me S SeatView) → i 
     → Allows (λ (s : State S SeatView). Kept k s.words s.views) slots id me (k + i) (λ n. n) (λ n w. SeesSettled me.0 i n w.0 × (w.1 ≡ me.1))
 load_settled k slots id i me low s kept homes here small =
     let v = me.0 in
+    let f = kept.fits id v here in
     let n = get_or s.words (k + i) 0 in
+    let m = max (get_or v.reads i 0) n in
+    let lt : i < length v.reads = omega (arith, f.read_size) in
+    let lt' : i < length v.settles = omega (arith, f.settle_size) in
+    let ord = (kept.order i low).0 in
+    let top : m ≤ get_or s.words i 0 = let b = f.read_bound i low in omega arith in
     let w : SeatView = seat_view v.deals v.works v.number (set v.reads i (max (get_or v.reads i 0) n)) (set v.settles i n) in
     let o = kept.order i low in
-    let most : n ≤ 9007199254740991 = let a = o.0 in let b = o.1 in omega arith in (
+    let most : n ≤ 9007199254740991 = let a = o.0 in let b = o.1 in omega arith in
+    let mine : Fits k s.words w = record {
+      read_size = length-set v.reads i m ∙ f.read_size;
+      settle_size = length-set v.settles i n ∙ f.settle_size;
+      read_bound = λ j b. at_write v.reads i m j (λ x. x ≤ get_or s.words j 0) lt (λ e. let same : get_or s.words j 0 ≡ get_or s.words i 0 = ap (λ z. get_or s.words z 0) e in omega arith) (λ ne. f.read_bound j b);
+      settle_bound = λ j b. at_write v.settles i n j (λ x. x ≤ get_or s.words (k + j) 0) lt' (λ e. let same : get_or s.words (k + j) 0 ≡ n = ap (λ z. get_or s.words (k + z) 0) e in omega arith) (λ ne. f.settle_bound j b);
+      own = λ w.
+          let o = f.own w in (
+            o.0,
+            at_write v.reads i m v.number (λ x. x ≡ get_or s.words v.number 0) lt
+                (λ e. let same : get_or s.words v.number 0 ≡ get_or s.words i 0 = ap (λ z. get_or s.words z 0) e in let r : get_or v.reads v.number 0 ≡ get_or v.reads i 0 = ap (λ z. get_or v.reads z 0) e in let q = o.1 in omega arith)
+                (λ ne. o.1),
+            at_write v.settles i n v.number (λ x. x ≡ get_or s.words (k + v.number) 0) lt' (λ e. ap (λ z. get_or s.words (k + z) 0) (sym e)) (λ ne. o.2),
+          );
+      fresh = f.fresh;
+    } in
+    let next = kept_step k id s.words s.words s.views v w kept here refl kept.order mine (λ a u ne at. kept.fits a u at) refl refl (λ t. refl) (omega arith) in (
       w,
       keeps,
       tt,
-      subst (λ (ws : List ℕ). Kept k ws (set s.views id w)) (sym (write_same s.words (k + i))) (looks_at_settled k id i s.words s.views v low kept here),
-      ((refl, (kept.fits id v here).settle_bound i low, most, λ works mine. let o = ((kept.fits id v here).own works).2 in ap (λ z. get_or s.words (k + z) 0) (sym mine) ∙ sym o ∙ ap (λ z. get_or v.settles z 0) mine), refl),
+      subst (λ (ws : List ℕ). Kept k ws (set s.views id w)) (sym (write_same s.words (k + i))) next,
+      ((refl, f.settle_bound i low, most, λ works own. let o = (f.own works).2 in ap (λ z. get_or s.words (k + z) 0) (sym own) ∙ sym o ∙ ap (λ z. get_or v.settles z 0) own), refl),
     )
 
 -- whatever the board is, a worker's addition to what it has read
@@ -211,7 +222,7 @@ adds_settled k id n words views v works most kept here =
     let lt : k + q < length words = omega arith in
     let slt : q < length v.settles = omega (arith, f.settle_size) in
     let near : (j : ℕ) → j < k → get_or words' j 0 ≡ get_or words j 0 = λ j b. get_or-set_other words (k + q) j x 0 (λ e. omega arith) in
-    let up : (j : ℕ) → get_or words j 0 ≤ get_or words' j 0 = λ j. at_write words (k + q) x j (λ y. get_or words j 0 ≤ y) lt (λ e. let s : get_or words j 0 ≡ get_or words (k + q) 0 = ap (λ z. get_or words z 0) e in omega arith) (λ ne. omega arith) in
+    let up : (j : ℕ) → get_or words j 0 ≤ get_or words' j 0 = λ j. grown words (k + q) x j lt (omega arith) in
     kept_step k id words words' views v (added_settled v n) kept here (length-set words (k + q) x)
     (λ j b.
     let o = kept.order j b in
@@ -236,22 +247,8 @@ adds_settled k id n words views v works most kept here =
       );
       fresh = λ d. absurd (true≢false (sym works ∙ (f.fresh d).0));
     })
-    (λ a u ne at.
-    let g = kept.fits a u at in
-    record {
-      read_size = g.read_size;
-      settle_size = g.settle_size;
-      read_bound = λ j b. let r = g.read_bound j b in let s = near j b in omega arith;
-      settle_bound = λ j b. let r = g.settle_bound j b in let s = up (k + j) in omega arith;
-      own = λ w.
-          let o = g.own w in
-          (o.0, o.1 ∙ sym (near u.number o.0), o.2 ∙ sym (get_or-set_other words (k + q) (k + u.number) x 0 (λ e. ne (kept.apart a id u v at here w works (omega arith)))));
-      fresh = λ d.
-          let h = g.fresh d in
-          let lt = kept.below a id u v at here d works in
-          (h.0, λ j from b. (near j b ∙ (h.1 j from b).0, get_or-set_other words (k + q) (k + j) x 0 (λ e. omega arith) ∙ (h.1 j from b).1));
-    })
-    refl refl refl
+    (others k id (k + q) x words views v works kept here lt (omega arith) (λ j b ne. ((λ e. omega arith), λ e. ne (omega arith))))
+    refl refl (λ t. refl) (omega arith)
 
 -- whatever the board is, a worker's addition to what it has settled
 pub add_settled : {S : Type 0} (k slots id n : ℕ) (me : Me S SeatView) → me.0.works ≡ true → get_or me.0.settles me.0.number 0 + n ≤ get_or me.0.reads me.0.number 0
@@ -310,9 +307,14 @@ kept_more k words views r kept mine quiet differs under =
           (is a u at);
     }
 
+pub zeros : (k j : ℕ) → ◌≡◌ {A = ℕ} (get_or (replicate k 0) j 0) 0
+zeros zero j = refl
+zeros (suc k) zero = refl
+zeros (suc k) (suc j) = zeros k j
+
 -- bounds of 0 are below all words
-blank_bound : (k j x : ℕ) → j < k → get_or (replicate k 0) j 0 ≤ x
-blank_bound k j x low = let zeros : List ℕ = replicate k 0 in let n : ℕ = get_or zeros j 0 in let none : ℕ = 0 in let z : n ≡ none = get_or-replicate k j 0 0 low in omega (arith, z)
+blank_bound : (k j x : ℕ) → get_or (replicate k 0) j 0 ≤ x
+blank_bound k j x = omega (arith, zeros k j)
 
 pub splits_viewer : {S : Type 0} (k id : ℕ) (v : SeatView) → Splits (λ (s : State S SeatView). Kept k s.words s.views) id v v (viewer v)
 splits_viewer k id v s kept here =
@@ -324,8 +326,8 @@ splits_viewer k id v s kept here =
     (record {
       read_size = length-replicate (length v.reads) 0 ∙ n;
       settle_size = length-replicate (length v.reads) 0 ∙ n;
-      read_bound = λ j b. blank_bound (length v.reads) j _ (omega arith);
-      settle_bound = λ j b. blank_bound (length v.reads) j _ (omega arith);
+      read_bound = λ j b. blank_bound (length v.reads) j _;
+      settle_bound = λ j b. blank_bound (length v.reads) j _;
       own = λ w. absurd (true≢false (sym w));
       fresh = λ d. absurd (true≢false (sym d));
     })
@@ -338,45 +340,16 @@ kept_dealt : (k id : ℕ) (words : List ℕ) (views : List SeatView) (v : SeatVi
 kept_dealt k id words views v kept here deals =
     let f = kept.fits id v here in
     let idle = (f.fresh deals).0 in
-    let w : SeatView = dealt v in
-    let New : ℕ → SeatView → Type 0 = λ a u. (a ≡ id) × (w ≡ u) in
-    let Old : ℕ → SeatView → Type 0 = λ a u. (a ≢ id) × (get_elem? views a ≡ some u) in
-    let is : (a : ℕ) (u : SeatView) → get_elem? (set views id w) a ≡ some u → New a u ⊎ Old a u = λ a u at. at_set views id a w u at in
-    let lazy : (u : SeatView) → w ≡ u → u.works ≢ true = λ u e wu. true≢false (sym wu ∙ ap (λ (y : SeatView). y.works) (sym e) ∙ idle) in
-    record {
-      size = kept.size;
-      order = kept.order;
-      fits = λ a u at.
-          ⊎_elim
-          (λ (h : New a u).
-          subst (λ (y : SeatView). Fits k words y) h.1
-          (record {
-            read_size = f.read_size;
-            settle_size = f.settle_size;
-            read_bound = f.read_bound;
-            settle_bound = f.settle_bound;
-            own = λ wu. absurd (true≢false (sym wu ∙ idle));
-            fresh = λ d. (idle, λ j from b. (f.fresh deals).1 j (omega arith) b);
-          }))
-          (λ (h : Old a u). kept.fits a u h.1)
-          (is a u at);
-      apart = λ a b u y at at' wu wy e.
-          ⊎_elim (λ (h : New a u). absurd (lazy u h.1 wu))
-          (λ (h : Old a u). ⊎_elim (λ (h' : New b y). absurd (lazy y h'.1 wy)) (λ (h' : Old b y). kept.apart a b u y h.1 h'.1 wu wy e) (is b y at'))
-          (is a u at);
-      below = λ a b u y at at' du wy.
-          ⊎_elim
-          (λ (h : New a u).
-          ⊎_elim (λ (h' : New b y). absurd (lazy y h'.1 wy))
-          (λ (h' : Old b y). subst (λ (z : SeatView). y.number < z.number) h.1 (let lt = kept.below id b v y here h'.1 deals wy in omega arith)) (is b y at'))
-          (λ (h : Old a u). ⊎_elim (λ (h' : New b y). absurd (lazy y h'.1 wy)) (λ (h' : Old b y). kept.below a b u y h.1 h'.1 du wy) (is b y at'))
-          (is a u at);
-      one = λ a b u y at at' du dy.
-          ⊎_elim
-          (λ (h : New a u). ⊎_elim (λ (h' : New b y). h.0 ∙ sym h'.0) (λ (h' : Old b y). absurd (h'.0 (kept.one b id y v h'.1 here dy deals))) (is b y at'))
-          (λ (h : Old a u). absurd (h.0 (kept.one a id u v h.1 here du deals)))
-          (is a u at);
-    }
+    kept_step k id words words views v (dealt v) kept here refl kept.order
+    (record {
+      read_size = f.read_size;
+      settle_size = f.settle_size;
+      read_bound = f.read_bound;
+      settle_bound = f.settle_bound;
+      own = λ w. absurd (true≢false (sym w ∙ idle));
+      fresh = λ d. (idle, λ j from b. (f.fresh deals).1 j (omega arith) b);
+    })
+    (λ a u ne at. kept.fits a u at) refl refl (λ w. absurd (true≢false (sym w ∙ idle))) (omega arith)
 
 pub splits_worker : {S : Type 0} (k id : ℕ) (v : SeatView) → v.deals ≡ true → v.number < k → Splits (λ (s : State S SeatView). Kept k s.words s.views) id v (dealt v) (hired v)
 splits_worker k id v deals low s kept here =
@@ -386,13 +359,13 @@ splits_worker k id v deals low s kept here =
     let w : SeatView = dealt v in
     let idle = (f.fresh deals).0 in
     let zero_at = (f.fresh deals).1 v.number (omega arith) low in
-    let blank : ◌≡◌ {A = ℕ} (get_or (replicate (length v.reads) 0) v.number 0) 0 = get_or-replicate (length v.reads) v.number 0 0 (omega arith) in
+    let blank = zeros (length v.reads) v.number in
     kept_more k s.words (set s.views id w) r (kept_dealt k id s.words s.views v kept here deals)
     (record {
       read_size = length-replicate (length v.reads) 0 ∙ n;
       settle_size = length-replicate (length v.reads) 0 ∙ n;
-      read_bound = λ j b. blank_bound (length v.reads) j _ (omega arith);
-      settle_bound = λ j b. blank_bound (length v.reads) j _ (omega arith);
+      read_bound = λ j b. blank_bound (length v.reads) j _;
+      settle_bound = λ j b. blank_bound (length v.reads) j _;
       own = λ x. (low, blank ∙ sym zero_at.0, blank ∙ sym zero_at.1);
       fresh = λ d. absurd (true≢false (sym d));
     })
@@ -415,11 +388,6 @@ sum_le (x ∷ xs) (y ∷ ys) e h =
     let b : sum (y ∷ ys) ≡ y + sum ys = sum_by-cons (λ (z : ℕ). z) y ys in
     omega arith
 
-pub zeros : (k j : ℕ) → ◌≡◌ {A = ℕ} (get_or (replicate k 0) j 0) 0
-zeros zero j = refl
-zeros (suc k) zero = refl
-zeros (suc k) (suc j) = zeros k j
-
 -- a new board, all of whose words are 0
 pub kept_new : (k : ℕ) (words : List ℕ) → length words ≡ k + k → ((j : ℕ) → get_or words j 0 ≡ 0) → Kept k words (dealer k 0 ∷ [])
 kept_new k words size none =
@@ -435,8 +403,8 @@ kept_new k words size none =
           (record {
             read_size = length-replicate k 0;
             settle_size = length-replicate k 0;
-            read_bound = λ j b. blank_bound k j _ b;
-            settle_bound = λ j b. blank_bound k j _ b;
+            read_bound = λ j b. blank_bound k j _;
+            settle_bound = λ j b. blank_bound k j _;
             own = λ w. absurd (true≢false (sym w));
             fresh = λ d. (refl, λ j from b. (none j, none (k + j)));
           });

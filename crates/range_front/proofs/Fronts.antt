@@ -1,10 +1,10 @@
 -- The front of ends, a mark and ranges: what each reading of it is, and what each change makes of it.
-use Rattle.proof_words.proofs.{◌≡◌, inl, inr, ℕ, suc, ◌<◌, ◌≤◌, ◌^◌, Bool, true, false, ◌&&◌, ◌||◌, eqb, List, [], ◌∷◌, ◌++◌, length, slice_get, Some, Ok, Err, ◌-◌, refl, sym, ap, ◌∙◌, subst, arith, eqb-true, ne_eqb, and_parts, and_left, and_right, and_from, or_cases, cond-true, cond-false, lt-leb, map_push}
+use Rattle.proof_words.proofs.{◌≡◌, inl, inr, ℕ, suc, ◌<◌, ◌≤◌, ◌^◌, Bool, true, false, ◌&&◌, ◌||◌, eqb, List, [], ◌∷◌, ◌++◌, length, slice_get, Some, Ok, Err, ◌-◌, refl, sym, ap, ◌∙◌, subst, arith, and_parts, and_left, and_right, and_from, or_cases, cond-true, cond-false, lt-leb, map_push, eqb-true, ne_eqb}
 use Rattle.range_front.specs.{DoneRange, FrontWindow, end_from, end_of, appended, finished, finished_from, finish_answer, is_done, is_window, low_water, range_count, run_count, Rises, IsFront, Rising, has_window, IsBound, Apart, AtBounds, covers, joined, marked, front_of, IsKept, window_in, done_in, low_in, low_in-is, run_count-done, run_count-open, run_count-above, IsFront-appended, IsFront-finished, finish_answer-no_window, finish_answer-done, finish_answer-ok}
 use Rattle.range_front.specs.declared.fault.FrontFault.TheVariants as faults
 use Rattle.range_front.proofs.RisingEnds.{bound-first, bound-le, bound-next, bound-append, has-within}
 use Rattle.range_front.proofs.Cover.{AllUnder, cover-low, cover-high, cover-under, cover-above}
-use Rattle.range_front.proofs.Joins.{Clear, Grown, clear-from, joined-grown, joined-apart, joined-bounds}
+use Rattle.range_front.proofs.Joins.{Grown, clear-from, Joins, joins}
 
 -- ---- windows with any marks
 
@@ -203,24 +203,19 @@ pub answer-ok : (start : ℕ) (es : List ℕ) (m : ℕ) (rs : List DoneRange) (l
 answer-ok start es m rs lo hi window open_yet =
     finish_answer-ok (front_of start es m rs) lo hi (front-window start es m rs lo hi ∙ window) (front-done start es m rs lo hi ∙ and_right _ _ open_yet)
 
-pub clear-kept : (start : ℕ) (es : List ℕ) (m : ℕ) (rs : List DoneRange) (lo hi : ℕ) → IsKept start es m rs → has_window start es lo hi ≡ true → covers m rs hi ≡ false → Clear lo hi m rs
-clear-kept start es m rs lo hi k window open_yet =
-    clear-from start es lo hi m rs (front-rising k) window (has-within start es lo hi (front-rising k) window).1 k.low k.bounds k.apart open_yet
+finish-joins : (start : ℕ) (es : List ℕ) (m : ℕ) (rs : List DoneRange) (lo hi : ℕ) → IsKept start es m rs → has_window start es lo hi ≡ true → covers m rs hi ≡ false → Joins start es lo hi m rs (joined m rs lo hi)
+finish-joins start es m rs lo hi k window open_yet =
+    let within = has-within start es lo hi (front-rising k) window in
+    let clear = clear-from start es lo hi m rs (front-rising k) window within.1 k.low k.bounds k.apart open_yet in
+    joins start es lo hi within.1 within.2 within.3 m rs k.apart clear k.low k.bounds
 
 pub front-finished : (start : ℕ) (es : List ℕ) (m : ℕ) (rs : List DoneRange) (lo hi : ℕ) → IsKept start es m rs → has_window start es lo hi ≡ true → covers m rs hi ≡ false → finished (front_of start es m rs) lo hi ≡ front_of start es (joined m rs lo hi).0 (joined m rs lo hi).1
 front-finished start es m rs lo hi k window open_yet =
-    let rising = front-rising k in
-    let within = has-within start es lo hi rising window in
-    let clear = clear-kept start es m rs lo hi k window open_yet in
-    ap (λ ws. record { start = start; windows = ws }) (finished-marked start es (covers m rs) (covers (joined m rs lo hi).0 (joined m rs lo hi).1) lo hi k.front.rises window (λ x. joined-grown m lo hi rs x within.1 k.apart clear))
+    let join = finish-joins start es m rs lo hi k window open_yet in
+    ap (λ ws. record { start = start; windows = ws }) (finished-marked start es (covers m rs) (covers (joined m rs lo hi).0 (joined m rs lo hi).1) lo hi k.front.rises window join.grown)
 
 pub kept-finished : (start : ℕ) (es : List ℕ) (m : ℕ) (rs : List DoneRange) (lo hi : ℕ) → IsKept start es m rs → has_window start es lo hi ≡ true → covers m rs hi ≡ false → IsKept start es (joined m rs lo hi).0 (joined m rs lo hi).1
 kept-finished start es m rs lo hi k window open_yet =
-    let within = has-within start es lo hi (front-rising k) window in
-    let ends = joined-bounds start es m lo hi rs k.low within.2 within.3 k.bounds in
-    record {
-      front = subst IsFront (front-finished start es m rs lo hi k window open_yet) (IsFront-finished (front_of start es m rs) lo hi k.front);
-      low = ends.0;
-      apart = joined-apart m lo hi rs within.1 k.apart (clear-kept start es m rs lo hi k window open_yet);
-      bounds = ends.1;
-    }
+    let join = finish-joins start es m rs lo hi k window open_yet in
+    let front = subst IsFront (front-finished start es m rs lo hi k window open_yet) (IsFront-finished (front_of start es m rs) lo hi k.front) in
+    record { front = front; low = join.low; apart = join.apart; bounds = join.bounds }

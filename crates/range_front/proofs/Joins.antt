@@ -1,5 +1,5 @@
 -- A window joined to the mark or put among the ranges: what is covered then, and that the ranges stay apart.
-use Rattle.proof_words.proofs.{◌≡◌, ◌⊎◌, inl, inr, ℕ, zero, suc, ◌<◌, ◌≤◌, Bool, true, false, cond, leb, eqb, List, [], ◌∷◌, ◌++◌, length, take, drop, set, get_or, slice_get, Some, add-one, ◌+◌, refl, sym, ap, ◌∙◌, arith, le-leb, lt-leb, leb-true, leb-false, eqb-true, eqb-false, eq-eqb, ne_eqb, cond-true, cond-false, cond_both, cases_lt, both_ways, slice_get_within, slice_get_read, get_or_from_slice_get, insert}
+use Rattle.proof_words.proofs.{◌≡◌, ◌⊎◌, inl, inr, ℕ, zero, suc, ◌<◌, ◌≤◌, Bool, true, false, cond, leb, eqb, List, [], ◌∷◌, ◌++◌, length, take, drop, set, get_or, slice_get, Some, add-one, ◌+◌, refl, sym, ap, ◌∙◌, arith, lt-leb, eqb-false, cond-true, cond-false, cond_both, cases_lt, both_ways, slice_get_within, slice_get_read, get_or_from_slice_get, le-leb, leb-true, leb-false, eqb-true, eq-eqb, ne_eqb, insert}
 use Rattle.range_front.specs.{DoneRange, Apart, AtBounds, IsBound, Rising, has_window, covers, absorbed, put_at, put_in, joined}
 use Rattle.range_front.proofs.RisingEnds.{bound-apart}
 use Rattle.range_front.proofs.Cover.{cover-low, cover-high, cover-under, EndBelow, end-below-next}
@@ -64,38 +64,13 @@ clear-before : (lo hi : ℕ) (r : DoneRange) (rs : List DoneRange) → lo ≤ r.
 clear-before lo hi r rs reach other (inl free) = free
 clear-before lo hi r rs reach other (inr later) = absurd (other (omega (arith, reach, clear-mark lo hi r.hi rs later)))
 
--- ---- what is covered
+-- ---- what is covered, and what is kept
 
 -- what b' covers is what b covers, and (lo, hi]
 pub record Grown (b b' : Bool) (lo hi x : ℕ) : Type 0 where
   pub within : lo < x → x ≤ hi → b' ≡ true
   pub below : x ≤ lo → b' ≡ b
   pub above : hi < x → b' ≡ b
-
-absorbed-grown : (m lo hi : ℕ) (rs : List DoneRange) (x : ℕ) → m ≡ lo → lo < hi → Apart m rs → Free hi rs → Grown (covers m rs x) (covers (absorbed hi rs).0 (absorbed hi rs).1 x) lo hi x
-absorbed-grown m lo hi [] x e l h f =
-    record {
-      within = λ a b. le-leb x hi b;
-      below = λ a. le-leb x hi (omega (arith, a, l)) ∙ sym (le-leb x m (omega (arith, a, e)));
-      above = λ a. lt-leb x hi a ∙ sym (lt-leb x m (omega (arith, a, e, l)));
-    }
-absorbed-grown m lo hi (r ∷ rs) x e l h f =
-    cond_both (eqb r.lo hi) (r.hi, rs) (hi, r ∷ rs) (λ (a : ℕ × List DoneRange). Grown (covers m (r ∷ rs) x) (covers a.0 a.1 x) lo hi x)
-    (λ t. let at = eqb-true r.lo hi t in
-    record {
-      within = λ a b. cover-under r.hi rs x h.2 (omega (arith, at, h.1, b));
-      below = λ a. cover-under r.hi rs x h.2 (omega (arith, at, h.1, a, l)) ∙ sym (cover-under m (r ∷ rs) x h (omega (arith, a, e)));
-      above = λ a. sym (cover-high m r rs x (omega (arith, at, a)));
-    })
-    (λ t.
-    record {
-      within = λ a b. cover-low hi r rs x (omega (arith, f, b)) ∙ le-leb x hi b;
-      below = λ a. cover-low hi r rs x (omega (arith, f, a, l)) ∙ le-leb x hi (omega (arith, a, l)) ∙ sym (cover-under m (r ∷ rs) x h (omega (arith, a, e)));
-      above = λ a. elim (cases_lt r.lo x) [
-        | inl over ↦ cover-high hi r rs x over ∙ sym (cover-high m r rs x over)
-        | inr under ↦ cover-low hi r rs x under ∙ lt-leb x hi a ∙ sym (cover-low m r rs x under ∙ lt-leb x m (omega (arith, a, e, l)))
-      ];
-    })
 
 -- behind a range that ends under the window
 grown-behind : (m lo hi : ℕ) (r : DoneRange) (rs : List DoneRange) (x : ℕ) (b : Bool) → r.lo ≤ lo → lo < hi → Grown (covers r.hi rs x) b lo hi x → Grown (covers m (r ∷ rs) x) (cond (leb x r.lo) (leb x m) b) lo hi x
@@ -114,117 +89,135 @@ grown-behind m lo hi r rs x b u l g =
       above = λ a. g.above a ∙ sym (cover-high m r rs x high);
     })
 
--- where the first range ends at lo or above it
-put_at-grown : (m lo hi : ℕ) (r : DoneRange) (rs : List DoneRange) (x : ℕ) → m < lo → lo < hi → Apart m (r ∷ rs) → Clear lo hi m (r ∷ rs) → lo ≤ r.hi → Grown (covers m (r ∷ rs) x) (covers m (put_at r rs lo hi) x) lo hi x
-put_at-grown m lo hi r rs x u l h c reach =
-    let P : List DoneRange → Type 0 = λ qs. Grown (covers m (r ∷ rs) x) (covers m qs x) lo hi x in
-    let next : DoneRange = record { lo = lo; hi = r.hi } in
-    let new : DoneRange = record { lo = lo; hi = hi } in
-    cond_both (eqb r.hi lo) _ _ P
-    (λ t. let at = eqb-true r.hi lo t in
-    grown-behind m lo hi r rs x (covers (absorbed hi rs).0 (absorbed hi rs).1 x) (omega (arith, at, h.1)) l
-    (absorbed-grown r.hi lo hi rs x at l h.2 (clear-free lo hi r.hi rs h.2 (clear-touched lo hi r rs h.1 l at c.1) at)))
-    (λ t. let free = clear-before lo hi r rs reach (eqb-false r.hi lo t) c.1 in
-    cond_both (eqb r.lo hi) _ _ P
-    (λ v. let at = eqb-true r.lo hi v in
+-- what the window makes of a mark and ranges: it is covered too, and they still stay apart, at bounds
+pub record Joins (start : ℕ) (es : List ℕ) (lo hi m : ℕ) (rs : List DoneRange) (made : ℕ × List DoneRange) : Type 0 where
+  pub grown : (x : ℕ) → Grown (covers m rs x) (covers made.0 made.1 x) lo hi x
+  pub apart : Apart made.0 made.1
+  pub low : IsBound start es made.0
+  pub bounds : AtBounds start es made.1
+
+module _ (start : ℕ) (es : List ℕ) (lo hi : ℕ) (l : lo < hi) (from : IsBound start es lo) (to : IsBound start es hi) where
+  absorbs : (m : ℕ) (rs : List DoneRange) → m ≡ lo → Apart m rs → Free hi rs → AtBounds start es rs → Joins start es lo hi m rs (absorbed hi rs) × (hi ≤ (absorbed hi rs).0)
+  absorbs m [] e h f b = (
     record {
-      within = λ a b. cover-high m next rs x a ∙ cover-under r.hi rs x h.2 (omega (arith, at, h.1, b));
-      below = λ a. cover-low m next rs x a ∙ sym (cover-low m r rs x (omega (arith, at, a, l)));
-      above = λ a. cover-high m next rs x (omega (arith, a, l)) ∙ sym (cover-high m r rs x (omega (arith, at, a)));
-    })
-    (λ v. let gap : hi < r.lo = strict free (eqb-false r.lo hi v) in
-    record {
-      within = λ a b. cover-high m new (r ∷ rs) x a ∙ cover-under hi (r ∷ rs) x (gap, h.1, h.2) b;
-      below = λ a. cover-low m new (r ∷ rs) x a ∙ sym (cover-low m r rs x (omega (arith, gap, a, l)));
-      above = λ a. cover-high m new (r ∷ rs) x (omega (arith, a, l)) ∙ elim (cases_lt r.lo x) [
-        | inl over ↦ cover-high hi r rs x over ∙ sym (cover-high m r rs x over)
-        | inr under ↦ cover-low hi r rs x under ∙ lt-leb x hi a ∙ sym (cover-low m r rs x under ∙ lt-leb x m (omega (arith, a, l, u)))
-      ];
-    }))
+      grown = λ x. record {
+        within = λ a c. le-leb x hi c;
+        below = λ a. le-leb x hi (omega (arith, a, l)) ∙ sym (le-leb x m (omega (arith, a, e)));
+        above = λ a. lt-leb x hi a ∙ sym (lt-leb x m (omega (arith, a, e, l)));
+      };
+      apart = tt;
+      low = to;
+      bounds = tt;
+    },
+    omega arith,
+  )
+  absorbs m (r ∷ rs) e h f b =
+      cond_both (eqb r.lo hi) (r.hi, rs) (hi, r ∷ rs) (λ (made : ℕ × List DoneRange). Joins start es lo hi m (r ∷ rs) made × (hi ≤ made.0))
+      (λ t. let at = eqb-true r.lo hi t in (
+        record {
+          grown = λ x. record {
+            within = λ a c. cover-under r.hi rs x h.2 (omega (arith, at, h.1, c));
+            below = λ a. cover-under r.hi rs x h.2 (omega (arith, at, h.1, a, l)) ∙ sym (cover-under m (r ∷ rs) x h (omega (arith, a, e)));
+            above = λ a. sym (cover-high m r rs x (omega (arith, at, a)));
+          };
+          apart = h.2;
+          low = b.1;
+          bounds = b.2;
+        },
+        omega (arith, f, h.1),
+      ))
+      (λ t. (
+        record {
+          grown = λ x. record {
+            within = λ a c. cover-low hi r rs x (omega (arith, f, c)) ∙ le-leb x hi c;
+            below = λ a. cover-low hi r rs x (omega (arith, f, a, l)) ∙ le-leb x hi (omega (arith, a, l)) ∙ sym (cover-under m (r ∷ rs) x h (omega (arith, a, e)));
+            above = λ a. elim (cases_lt r.lo x) [
+              | inl over ↦ cover-high hi r rs x over ∙ sym (cover-high m r rs x over)
+              | inr under ↦ cover-low hi r rs x under ∙ lt-leb x hi a ∙ sym (cover-low m r rs x under ∙ lt-leb x m (omega (arith, a, e, l)))
+            ];
+          };
+          apart = (strict f (eqb-false r.lo hi t), h.1, h.2);
+          low = to;
+          bounds = b;
+        },
+        omega arith,
+      ))
 
-put_in-grown : (m lo hi : ℕ) (rs : List DoneRange) (x : ℕ) → m < lo → lo < hi → Apart m rs → Clear lo hi m rs → Grown (covers m rs x) (covers m (put_in rs lo hi) x) lo hi x
-put_in-grown m lo hi [] x u l h c =
-    let new : DoneRange = record { lo = lo; hi = hi } in
-    record {
-      within = λ a b. cover-high m new [] x a ∙ le-leb x hi b;
-      below = λ a. cover-low m new [] x a;
-      above = λ a. cover-high m new [] x (omega (arith, a, l)) ∙ lt-leb x hi a ∙ sym (lt-leb x m (omega (arith, a, l, u)));
-    }
-put_in-grown m lo hi (r ∷ rs) x u l h c =
-    cond_both (leb lo r.hi) (put_at r rs lo hi) (r ∷ put_in rs lo hi) (λ qs. Grown (covers m (r ∷ rs) x) (covers m qs x) lo hi x)
-    (λ s. put_at-grown m lo hi r rs x u l h c (leb-true lo r.hi s))
-    (λ s. let under = leb-false lo r.hi s in
-    grown-behind m lo hi r rs x (covers r.hi (put_in rs lo hi) x) (omega (arith, under, h.1)) l (put_in-grown r.hi lo hi rs x under l h.2 (clear-behind lo hi r rs h.1 under l c.1)))
+  -- where the first range ends at lo or above it
+  puts_at : (m : ℕ) (r : DoneRange) (rs : List DoneRange) → m < lo → Apart m (r ∷ rs) → Clear lo hi m (r ∷ rs) → lo ≤ r.hi → IsBound start es m → AtBounds start es (r ∷ rs)
+      → Joins start es lo hi m (r ∷ rs) (m, put_at r rs lo hi)
+  puts_at m r rs u h c reach k b =
+      let P : List DoneRange → Type 0 = λ qs. Joins start es lo hi m (r ∷ rs) (m, qs) in
+      let next : DoneRange = record { lo = lo; hi = r.hi } in
+      let new : DoneRange = record { lo = lo; hi = hi } in
+      cond_both (eqb r.hi lo) _ _ P
+      (λ t. let at = eqb-true r.hi lo t in
+      let more = absorbs r.hi rs at h.2 (clear-free lo hi r.hi rs h.2 (clear-touched lo hi r rs h.1 l at c.1) at) b.2 in
+      record {
+        grown = λ x. grown-behind m lo hi r rs x (covers (absorbed hi rs).0 (absorbed hi rs).1 x) (omega (arith, at, h.1)) l (more.0.grown x);
+        apart = (h.0, omega (arith, h.1, at, l, more.1), more.0.apart);
+        low = k;
+        bounds = (b.0, more.0.low, more.0.bounds);
+      })
+      (λ t. let free = clear-before lo hi r rs reach (eqb-false r.hi lo t) c.1 in
+      cond_both (eqb r.lo hi) _ _ P
+      (λ v. let at = eqb-true r.lo hi v in
+      record {
+        grown = λ x. record {
+          within = λ a c. cover-high m next rs x a ∙ cover-under r.hi rs x h.2 (omega (arith, at, h.1, c));
+          below = λ a. cover-low m next rs x a ∙ sym (cover-low m r rs x (omega (arith, at, a, l)));
+          above = λ a. cover-high m next rs x (omega (arith, a, l)) ∙ sym (cover-high m r rs x (omega (arith, at, a)));
+        };
+        apart = (u, omega (arith, l, free, h.1), h.2);
+        low = k;
+        bounds = (from, b.1, b.2);
+      })
+      (λ v. let gap : hi < r.lo = strict free (eqb-false r.lo hi v) in
+      record {
+        grown = λ x. record {
+          within = λ a c. cover-high m new (r ∷ rs) x a ∙ cover-under hi (r ∷ rs) x (gap, h.1, h.2) c;
+          below = λ a. cover-low m new (r ∷ rs) x a ∙ sym (cover-low m r rs x (omega (arith, gap, a, l)));
+          above = λ a. cover-high m new (r ∷ rs) x (omega (arith, a, l)) ∙ elim (cases_lt r.lo x) [
+            | inl over ↦ cover-high hi r rs x over ∙ sym (cover-high m r rs x over)
+            | inr under ↦ cover-low hi r rs x under ∙ lt-leb x hi a ∙ sym (cover-low m r rs x under ∙ lt-leb x m (omega (arith, a, l, u)))
+          ];
+        };
+        apart = (u, l, (gap, h.1, h.2));
+        low = k;
+        bounds = (from, to, b);
+      }))
 
--- ---- the ranges stay apart
+  puts_in : (m : ℕ) (rs : List DoneRange) → m < lo → Apart m rs → Clear lo hi m rs → IsBound start es m → AtBounds start es rs → Joins start es lo hi m rs (m, put_in rs lo hi)
+  puts_in m [] u h c k b =
+      let new : DoneRange = record { lo = lo; hi = hi } in
+      record {
+        grown = λ x. record {
+          within = λ a c. cover-high m new [] x a ∙ le-leb x hi c;
+          below = λ a. cover-low m new [] x a;
+          above = λ a. cover-high m new [] x (omega (arith, a, l)) ∙ lt-leb x hi a ∙ sym (lt-leb x m (omega (arith, a, l, u)));
+        };
+        apart = (u, l, tt);
+        low = k;
+        bounds = (from, to, tt);
+      }
+  puts_in m (r ∷ rs) u h c k b =
+      cond_both (leb lo r.hi) (put_at r rs lo hi) (r ∷ put_in rs lo hi) (λ qs. Joins start es lo hi m (r ∷ rs) (m, qs))
+      (λ s. puts_at m r rs u h c (leb-true lo r.hi s) k b)
+      (λ s. let under = leb-false lo r.hi s in
+      let more = puts_in r.hi rs under h.2 (clear-behind lo hi r rs h.1 under l c.1) b.1 b.2 in
+      record {
+        grown = λ x. grown-behind m lo hi r rs x (covers r.hi (put_in rs lo hi) x) (omega (arith, under, h.1)) l (more.grown x);
+        apart = (h.0, h.1, more.apart);
+        low = k;
+        bounds = (b.0, b.1, more.bounds);
+      })
 
-absorbed-apart : (m lo hi : ℕ) (rs : List DoneRange) → Apart m rs → Free hi rs → Apart (absorbed hi rs).0 (absorbed hi rs).1 × (hi ≤ (absorbed hi rs).0)
-absorbed-apart m lo hi [] h f = (tt, omega arith)
-absorbed-apart m lo hi (r ∷ rs) h f =
-    cond_both (eqb r.lo hi) (r.hi, rs) (hi, r ∷ rs) (λ (a : ℕ × List DoneRange). Apart a.0 a.1 × (hi ≤ a.0))
-    (λ t. (h.2, omega (arith, f, h.1)))
-    (λ t. ((strict f (eqb-false r.lo hi t), h.1, h.2), omega arith))
-
-put_at-apart : (m lo hi : ℕ) (r : DoneRange) (rs : List DoneRange) → m < lo → lo < hi → Apart m (r ∷ rs) → Clear lo hi m (r ∷ rs) → lo ≤ r.hi → Apart m (put_at r rs lo hi)
-put_at-apart m lo hi r rs u l h c reach =
-    cond_both (eqb r.hi lo) _ _ (Apart m)
-    (λ t. let at = eqb-true r.hi lo t in
-    let a = absorbed-apart r.hi lo hi rs h.2 (clear-free lo hi r.hi rs h.2 (clear-touched lo hi r rs h.1 l at c.1) at) in
-    (h.0, omega (arith, h.1, at, l, a.1), a.0))
-    (λ t. let free = clear-before lo hi r rs reach (eqb-false r.hi lo t) c.1 in
-    cond_both (eqb r.lo hi) _ _ (Apart m)
-    (λ v. (u, omega (arith, l, free, h.1), h.2))
-    (λ v. (u, l, (strict free (eqb-false r.lo hi v), h.1, h.2))))
-
-put_in-apart : (m lo hi : ℕ) (rs : List DoneRange) → m < lo → lo < hi → Apart m rs → Clear lo hi m rs → Apart m (put_in rs lo hi)
-put_in-apart m lo hi [] u l h c = (u, l, tt)
-put_in-apart m lo hi (r ∷ rs) u l h c =
-    cond_both (leb lo r.hi) (put_at r rs lo hi) (r ∷ put_in rs lo hi) (Apart m)
-    (λ s. put_at-apart m lo hi r rs u l h c (leb-true lo r.hi s))
-    (λ s. let under = leb-false lo r.hi s in
-    (h.0, h.1, put_in-apart r.hi lo hi rs under l h.2 (clear-behind lo hi r rs h.1 under l c.1)))
-
--- ---- the ranges begin and end at bounds
-
-absorbed-bounds : (start : ℕ) (es : List ℕ) (hi : ℕ) (rs : List DoneRange) → IsBound start es hi → AtBounds start es rs → IsBound start es (absorbed hi rs).0 × AtBounds start es (absorbed hi rs).1
-absorbed-bounds start es hi [] b bs = (b, tt)
-absorbed-bounds start es hi (r ∷ rs) b bs =
-    cond_both (eqb r.lo hi) (r.hi, rs) (hi, r ∷ rs) (λ (a : ℕ × List DoneRange). IsBound start es a.0 × AtBounds start es a.1)
-    (λ t. (bs.1, bs.2))
-    (λ t. (b, bs))
-
-put_at-bounds : (start : ℕ) (es : List ℕ) (lo hi : ℕ) (r : DoneRange) (rs : List DoneRange) → IsBound start es lo → IsBound start es hi → AtBounds start es (r ∷ rs) → AtBounds start es (put_at r rs lo hi)
-put_at-bounds start es lo hi r rs a b bs =
-    cond_both (eqb r.hi lo) _ _ (AtBounds start es)
-    (λ t. let far = absorbed-bounds start es hi rs b bs.2 in (bs.0, far.0, far.1))
-    (λ t. cond_both (eqb r.lo hi) _ _ (AtBounds start es) (λ v. (a, bs.1, bs.2)) (λ v. (a, b, bs)))
-
-put_in-bounds : (start : ℕ) (es : List ℕ) (lo hi : ℕ) (rs : List DoneRange) → IsBound start es lo → IsBound start es hi → AtBounds start es rs → AtBounds start es (put_in rs lo hi)
-put_in-bounds start es lo hi [] a b bs = (a, b, tt)
-put_in-bounds start es lo hi (r ∷ rs) a b bs =
-    cond_both (leb lo r.hi) (put_at r rs lo hi) (r ∷ put_in rs lo hi) (AtBounds start es)
-    (λ s. put_at-bounds start es lo hi r rs a b bs)
-    (λ s. (bs.0, bs.1, put_in-bounds start es lo hi rs a b bs.2))
-
--- ---- all of it, at the mark too
-
-pub joined-grown : (m lo hi : ℕ) (rs : List DoneRange) (x : ℕ) → lo < hi → Apart m rs → Clear lo hi m rs → Grown (covers m rs x) (covers (joined m rs lo hi).0 (joined m rs lo hi).1 x) lo hi x
-joined-grown m lo hi rs x l h c =
-    cond_both (eqb m lo) (absorbed hi rs) (m, put_in rs lo hi) (λ (a : ℕ × List DoneRange). Grown (covers m rs x) (covers a.0 a.1 x) lo hi x)
-    (λ t. let at = eqb-true m lo t in absorbed-grown m lo hi rs x at l h (clear-free lo hi m rs h c at))
-    (λ t. put_in-grown m lo hi rs x (strict (clear-mark lo hi m rs c) (λ e. eqb-false m lo t (sym e))) l h c)
-
-pub joined-apart : (m lo hi : ℕ) (rs : List DoneRange) → lo < hi → Apart m rs → Clear lo hi m rs → Apart (joined m rs lo hi).0 (joined m rs lo hi).1
-joined-apart m lo hi rs l h c =
-    cond_both (eqb m lo) (absorbed hi rs) (m, put_in rs lo hi) (λ (a : ℕ × List DoneRange). Apart a.0 a.1)
-    (λ t. (absorbed-apart m lo hi rs h (clear-free lo hi m rs h c (eqb-true m lo t))).0)
-    (λ t. put_in-apart m lo hi rs (strict (clear-mark lo hi m rs c) (λ e. eqb-false m lo t (sym e))) l h c)
-
-pub joined-bounds : (start : ℕ) (es : List ℕ) (m lo hi : ℕ) (rs : List DoneRange) → IsBound start es m → IsBound start es lo → IsBound start es hi → AtBounds start es rs → IsBound start es (joined m rs lo hi).0 × AtBounds start es (joined m rs lo hi).1
-joined-bounds start es m lo hi rs k a b bs =
-    cond_both (eqb m lo) (absorbed hi rs) (m, put_in rs lo hi) (λ (q : ℕ × List DoneRange). IsBound start es q.0 × AtBounds start es q.1)
-    (λ t. absorbed-bounds start es hi rs b bs)
-    (λ t. (k, put_in-bounds start es lo hi rs a b bs))
+  -- all of it, at the mark too
+  pub joins : (m : ℕ) (rs : List DoneRange) → Apart m rs → Clear lo hi m rs → IsBound start es m → AtBounds start es rs → Joins start es lo hi m rs (joined m rs lo hi)
+  joins m rs h c k b =
+      cond_both (eqb m lo) (absorbed hi rs) (m, put_in rs lo hi) (Joins start es lo hi m rs)
+      (λ t. let at = eqb-true m lo t in (absorbs m rs at h (clear-free lo hi m rs h c at) b).0)
+      (λ t. puts_in m rs (strict (clear-mark lo hi m rs c) (λ e. eqb-false m lo t (sym e))) h c k b)
 
 -- ---- the window put in at the place of the first range that ends at lo or above it
 

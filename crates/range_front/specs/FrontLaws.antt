@@ -4,8 +4,8 @@ use Rattle.std.proofs.lemmas.Bool.{eqb-true, and_parts, or_cases}
 use Rattle.std.specs.List.{list_any}
 use Rattle.std.proofs.lemmas.List.{map_push}
 use Rattle.range_front.specs.declared.fault.FrontFault.TheVariants as faults
-use Rattle.range_front.specs.Front.{FrontValue, Span, spans, bounds, is_window, is_done, all_done, end_of, low_water, range_count, no_windows, appended, finished, finished_from, finish_answer, IsConsecutive, IsFront}
-use Rattle.range_front.specs.WindowLaws.{low_in-is, spans-consecutive_from, window-within, window-bounds, done-window, from-le-low, low-le-end, low-is-end, done-under_low, reached-in, low-all_done, all_done-low, run_count-above, run_count-low, end-append, Rises-append, spans-append, low-append, done-append, end-finished, Rises-finished, bounds-finished_from, done-finished_from, low-finished}
+use Rattle.range_front.specs.Front.{FrontValue, Span, spans, bounds, is_window, is_done, end_of, low_water, no_windows, appended, finished, finished_from, finish_answer, IsFront}
+use Rattle.range_front.specs.WindowLaws.{low_in-is, window-within, window-bounds, done-window, from-le-low, low-le-end, low-is-end, reached-in, end-append, Rises-append, spans-append, low-append, done-append, end-finished, Rises-finished, bounds-finished_from, done-finished_from, low-finished}
 
 -- ---- the law is kept
 
@@ -111,23 +111,3 @@ pub finish_answer-ok : (f : FrontValue) (lo hi : ℕ) → is_window f lo hi ≡ 
 finish_answer-ok f lo hi window open_yet = rw (window, open_yet)
 
 -- ---- what a front means: theorems for a reader, which no proof cites
-
--- each window begins where the one before it ends
-pub spans-consecutive : (f : FrontValue) → IsFront f → IsConsecutive f.start (spans f)
-spans-consecutive f front = spans-consecutive_from f.start f.windows front.rises
-
--- a window at or under the low water is done
-pub is_done-under_low_water : (f : FrontValue) (lo hi : ℕ) → IsFront f → is_window f lo hi ≡ true → hi ≤ low_water f → is_done f lo hi ≡ true
-is_done-under_low_water f lo hi front window under = done-under_low f.start f.windows lo hi front.rises window (rw low_in-is at under)
-
--- the low water is the end exactly where all windows are done
-pub low_water-all_done : (f : FrontValue) → all_done f ≡ true → low_water f ≡ end_of f
-low_water-all_done f all = low_in-is f.start f.windows ∙ low-all_done f.start f.windows all
-
-pub all_done-at_end : (f : FrontValue) → IsFront f → low_water f ≡ end_of f → all_done f ≡ true
-all_done-at_end f front all = all_done-low f.start f.windows front.rises (sym (low_in-is f.start f.windows) ∙ all)
-
--- where there are no ranges above the low water, it has reached each done window
-pub range_count-none : (f : FrontValue) (lo hi : ℕ) → IsFront f → range_count f ≡ 0 → is_done f lo hi ≡ true → hi ≤ low_water f
-range_count-none f lo hi front none done =
-    rw low_in-is (run_count-low f.start f.windows lo hi front.rises (sym (run_count-above f.windows) ∙ none) done)

@@ -1,10 +1,10 @@
 -- The laws of fronts by recursion over their windows; specs/FrontLaws.antt states them of a whole front.
 use Rattle.std.proofs.Common.{◌≡◌, ◌⊎◌, inl, inr, ℕ, ◌+◌, ◌<◌, ◌≤◌, Bool, true, false, cond, ◌&&◌, ◌||◌, eqb, List, [], ◌∷◌, ◌++◌, map, refl, sym, ap, ◌∙◌, arith}
-use Rattle.std.specs.List.{list_any, list_all, take_while}
+use Rattle.std.specs.List.{list_any, take_while}
 use Rattle.std.proofs.Math.Bool.{or_assoc}
-use Rattle.std.proofs.lemmas.Bool.{eqb-true, eq-eqb, both_ways, and_parts, and_from, or_cases, or_left, or_right, or_from, cond_both, cases_lt, cond-true}
+use Rattle.std.proofs.lemmas.Bool.{eqb-true, eq-eqb, both_ways, and_parts, and_from, or_cases, or_left, or_right, or_from, cond_both, cases_lt}
 use Rattle.std.proofs.lemmas.List.Sums.{take_while-cons}
-use Rattle.range_front.specs.Front.{FrontWindow, Span, spans_from, end_from, finished_from, above_low_water, run_count, IsConsecutive, Rises}
+use Rattle.range_front.specs.Front.{FrontWindow, Span, spans_from, end_from, finished_from, above_low_water, run_count, Rises}
 
 -- ---- readings of the windows from a place on
 
@@ -37,10 +37,6 @@ done_here x y d r a b c = or_left (x && (y && d)) r (and_from x (y && d) a (and_
 pub from-le-end : (from : ℕ) (ws : List FrontWindow) → Rises from ws → from ≤ end_from from ws
 from-le-end from [] h = omega arith
 from-le-end from (w ∷ ws) h = omega (arith, h.0, from-le-end w.hi ws h.1)
-
-pub spans-consecutive_from : (from : ℕ) (ws : List FrontWindow) → Rises from ws → IsConsecutive from (spans_from from ws)
-spans-consecutive_from from [] h = tt
-spans-consecutive_from from (w ∷ ws) h = (refl, h.0, spans-consecutive_from w.hi ws h.1)
 
 pub window-within : (from : ℕ) (ws : List FrontWindow) (lo hi : ℕ) → Rises from ws → window_in from ws lo hi ≡ true → (from ≤ lo) × (lo < hi) × (hi ≤ end_from from ws)
 window-within from [] lo hi h e = elim (both_ways false refl e) [ ]
@@ -91,19 +87,6 @@ low-is-end from (w ∷ ws) =
     ])
     (λ e. inl refl)
 
--- a window that the low water has reached is done
-pub done-under_low : (from : ℕ) (ws : List FrontWindow) (lo hi : ℕ) → Rises from ws → window_in from ws lo hi ≡ true → hi ≤ low_in from ws → done_in from ws lo hi ≡ true
-done-under_low from [] lo hi h e l = e
-done-under_low from (w ∷ ws) lo hi h e l =
-    let P : Bool → Type 0 = λ b. w.done ≡ b → hi ≤ cond b (low_in w.hi ws) from → done_in from (w ∷ ws) lo hi ≡ true in
-    let reached : P true =
-    λ d m. elim (or_cases _ _ e) [
-      | inl here ↦ let p = and_parts (eqb from lo) _ here in done_here (eqb from lo) (eqb w.hi hi) w.done _ p.0 p.1 d
-      | inr later ↦ or_right (eqb from lo && (eqb w.hi hi && w.done)) _ (done-under_low w.hi ws lo hi h.1 later m)
-    ] in
-    let not_reached : P false = λ d m. let p = window-within from (w ∷ ws) lo hi h e in absurd (omega (arith, p.0, p.1, m)) in
-    elim w.done as P [ true ↦ reached | false ↦ not_reached ] refl l
-
 -- what lies above the start and at or under the low water lies in a window that is done
 pub reached-in : (from : ℕ) (ws : List FrontWindow) (q : ℕ) → Rises from ws → from < q → q ≤ low_in from ws → (lo : ℕ) × (hi : ℕ) × (lo < q) × (q ≤ hi) × (done_in from ws lo hi ≡ true)
 reached-in from [] q h a l = absurd (omega arith)
@@ -118,20 +101,6 @@ reached-in from (w ∷ ws) q h a l =
     ] in
     let not_reached : P false = λ d m. absurd (omega (arith, a, m)) in
     elim w.done as P [ true ↦ reached | false ↦ not_reached ] refl l
-
-pub low-all_done : (from : ℕ) (ws : List FrontWindow) → list_all (λ (w : FrontWindow). w.done) ws ≡ true → low_in from ws ≡ end_from from ws
-low-all_done from [] e = refl
-low-all_done from (w ∷ ws) e =
-    let p = and_parts _ _ e in
-    cond-true w.done (low_in w.hi ws) from p.0 ∙ low-all_done w.hi ws p.1
-
-pub all_done-low : (from : ℕ) (ws : List FrontWindow) → Rises from ws → low_in from ws ≡ end_from from ws → list_all (λ (w : FrontWindow). w.done) ws ≡ true
-all_done-low from [] h e = refl
-all_done-low from (w ∷ ws) h e =
-    let P : Bool → Type 0 = λ b. w.done ≡ b → cond b (low_in w.hi ws) from ≡ end_from w.hi ws → list_all (λ (v : FrontWindow). v.done) (w ∷ ws) ≡ true in
-    let done : P true = λ d m. and_from w.done _ d (all_done-low w.hi ws h.1 m) in
-    let open_yet : P false = λ d m. absurd (omega (arith, h.0, from-le-end w.hi ws h.1, m)) in
-    elim w.done as P [ true ↦ done | false ↦ open_yet ] refl e
 
 -- ---- runs of done windows
 
@@ -149,41 +118,6 @@ run_count-above (w ∷ ws) =
       | true ↦ λ d. omega (arith, run_count-above ws, run_count-done true w ws d)
       | false ↦ λ d. omega (arith, run_count-open false w ws d, run_count-open true w ws d)
     ] refl
-
--- where none begins, no window is done
-run_count-none : (from : ℕ) (ws : List FrontWindow) (lo hi : ℕ) → run_count false ws ≡ 0 → done_in from ws lo hi ≡ true → ⊥
-run_count-none from [] lo hi e d = both_ways false refl d
-run_count-none from (w ∷ ws) lo hi e d =
-    let P : Bool → Type 0 = λ b. w.done ≡ b → ⊥ in
-    elim w.done as P [
-      | true ↦ λ t. omega (arith, e, run_count-done false w ws t)
-      | false ↦ λ t.
-          let rest : run_count false ws ≡ 0 = omega (arith, e, run_count-open false w ws t) in
-          elim (or_cases (eqb from lo && (eqb w.hi hi && w.done)) _ d) [
-            | inl here ↦ both_ways w.done t (and_parts (eqb w.hi hi) w.done (and_parts (eqb from lo) _ here).1).1
-            | inr later ↦ run_count-none w.hi ws lo hi rest later
-          ]
-    ] refl
-
--- where none begins behind the low water, the low water has reached each done window
-pub run_count-low : (from : ℕ) (ws : List FrontWindow) (lo hi : ℕ) → Rises from ws → run_count true ws ≡ 0 → done_in from ws lo hi ≡ true → hi ≤ low_in from ws
-run_count-low from [] lo hi h e d = absurd (both_ways false refl d)
-run_count-low from (w ∷ ws) lo hi h e d =
-    cond_both w.done (low_in w.hi ws) from (λ n. hi ≤ n)
-    (λ t.
-    let rest : run_count true ws ≡ 0 = omega (arith, e, run_count-done true w ws t) in
-    elim (or_cases (eqb from lo && (eqb w.hi hi && w.done)) _ d) [
-      | inl here ↦
-          let at : w.hi ≡ hi = eqb-true w.hi hi (and_parts (eqb w.hi hi) w.done (and_parts (eqb from lo) _ here).1).0 in
-          omega (arith, at, from-le-low w.hi ws h.1)
-      | inr later ↦ run_count-low w.hi ws lo hi h.1 rest later
-    ])
-    (λ t.
-    let rest : run_count false ws ≡ 0 = omega (arith, e, run_count-open true w ws t) in
-    elim (or_cases (eqb from lo && (eqb w.hi hi && w.done)) _ d) [
-      | inl here ↦ absurd (both_ways w.done t (and_parts (eqb w.hi hi) w.done (and_parts (eqb from lo) _ here).1).1)
-      | inr later ↦ absurd (run_count-none w.hi ws lo hi rest later)
-    ])
 
 -- ---- a window more
 

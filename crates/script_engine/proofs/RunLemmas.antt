@@ -1,6 +1,6 @@
 -- A script as far as it was read.
 use Rattle.proof_words.proofs.{inl, inr, ◌≡◌, Bool, ℕ, ◌+◌, ◌*◌, ◌<◌, ◌≤◌, List, [], ◌++◌, length, true, false, refl, sym, ap, subst, ◌∙◌, arith, append_assoc, append-nil, length-append, Option, Some, None, unwrap_or, min, Consumes, Appends, Keeps, IsAtEnd, Appends-nil, Appends-trans, Appends-kept, Consumes-nil, Consumes-trans, Consumes-kept}
-use Rattle.script_engine.specs.{ReadsChunk, FailsOnce, Gives, full, FeedsUntil, IsInAnswer, IsOfWriter, IsFaultOf, IsToldUntil, LeavesAs, ScriptFault, has_line_end, lines_of, Answering, AnswersEnded, IsAnswered, IsAnsweredSoFar, AnswersFirst, Place, start, Begins, Feeds, Finishes, FinishesInPart}
+use Rattle.script_engine.specs.{ReadsChunk, Gives, full, FeedsUntil, IsInAnswer, IsOfWriter, IsFaultOf, IsToldUntil, LeavesAs, ScriptFault, has_line_end, lines_of, Answering, AnswersEnded, IsAnswered, IsAnsweredSoFar, AnswersFirst, Place, start, Begins, Feeds, Finishes, FinishesInPart}
 use Rattle.script_engine.specs.declared.fault.ScriptFault.TheVariants.{Read, Write, Memory, Cut}
 use Rattle.script_engine.specs.Served.{Served}
 use Rattle.script_engine.proofs.ServedLemmas.{Served-none, Served-joined, Begins-joined, Begins-more, is_answered, is_answered_so_far}
@@ -238,9 +238,7 @@ Ran-end {left = left} {left'} left'' r k = record {
 
 IsRead : ScriptFault → Type 0
 IsRead Read = Unit {0}
-IsRead Write = ⊥
-IsRead Memory = ⊥
-IsRead Cut = ⊥
+IsRead _ = ⊥
 
 pub write_not_read : Write ≡ Read → ⊥
 unfolding IsRead
@@ -260,20 +258,6 @@ IsInAnswer-of_writer Read w w1 w' e h = absurd h
 IsInAnswer-of_writer Write w w1 w' e h = h ∙ ap (λ n. min (n + 1) full) e
 IsInAnswer-of_writer Memory w w1 w' e h = absurd h
 IsInAnswer-of_writer Cut w w1 w' e h = h ∙ e
-
--- nothing else failed before
-pub IsInAnswer-from : (fault : ScriptFault) (w w1 w' : ℕ) → w1 ≡ w → IsInAnswer fault w1 w' → IsInAnswer fault w w'
-IsInAnswer-from Read w w1 w' e h = absurd h
-IsInAnswer-from Write w w1 w' e h = h ∙ ap (λ n. min (n + 1) full) e
-IsInAnswer-from Memory w w1 w' e h = absurd h
-IsInAnswer-from Cut w w1 w' e h = h ∙ e
-
--- a write failed in an answer
-pub IsInAnswer-write : (fault : ScriptFault) (w w1 w' : ℕ) → w1 ≡ w → fault ≡ Write → FailsOnce w1 w' → IsInAnswer fault w w'
-IsInAnswer-write fault w w1 w' e is h = subst (λ f. IsInAnswer f w w') (sym is) (h ∙ ap (λ n. min (n + 1) full) e)
-
-pub IsOfWriter-write : (fault : ScriptFault) (w w' : ℕ) → fault ≡ Write → FailsOnce w w' → IsOfWriter fault w w'
-IsOfWriter-write fault w w' e h = subst (λ f. IsOfWriter f w w') (sym e) h
 
 -- memory that is out before anything is read, as the script leaves it
 pub LeavesAs-memory : {A : ScriptFault} (left : ScriptFault) (old new : ℕ) → A ≡ Memory → LeavesAs A left old new → LeavesAs Memory left old new

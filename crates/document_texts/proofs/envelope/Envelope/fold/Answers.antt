@@ -5,8 +5,7 @@ use Rattle.document_texts.proofs.{members_first, members_none, no_bytes}
 use Rattle.document_texts.proofs.envelope.Envelope.fold.Goals as goal
 
 pub loop-rest-preserved : goal.loop-rest-preserved
-unfolding texts_with helds_by
-loop-rest-preserved c =
+loop-rest-preserved c = unfold texts_with helds_by in
     let rest = c.loop-rest.rest.now in
     let some : (length rest == 0) ≡ false = grind (arith, common_steps, c.is_empty.ensures, c.loop-rest-test.true) in
     let count = c.first_length-length.ensures.value in
@@ -20,13 +19,11 @@ loop-rest-preserved c =
     }
 
 pub returns-clause-made : goal.returns-clause-made
-unfolding texts_with
-returns-clause-made c =
+returns-clause-made c = unfold texts_with in
     let none = no_bytes c.loop-rest.rest.now (grind (arith, common_steps, c.is_empty.ensures, c.loop-rest-test.false)) in
     ap (texts_with (made_of c.loop-rest.self)) (sym (ap (members_in Outside 0 []) none ∙ members_none)) ∙ c.loop-rest.invariant.made
 
 pub returns-clause-held : goal.returns-clause-held
-unfolding helds_by
-returns-clause-held c =
+returns-clause-held c = unfold helds_by in
     let none = no_bytes c.loop-rest.rest.now (grind (arith, common_steps, c.is_empty.ensures, c.loop-rest-test.false)) in
     ap (helds_by (held_of c.loop-rest.self)) (sym (ap (members_in Outside 0 []) none ∙ members_none)) ∙ c.loop-rest.invariant.held
