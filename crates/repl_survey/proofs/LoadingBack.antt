@@ -1,13 +1,13 @@
 -- The documents of all leaves make the same trees again.
-use Rattle.proof_words.proofs.{◌≡◌, ◌+◌, ◌||◌, nat_lt, true, false, List, [], ◌∷◌, ◌++◌, map, Option, Some, None, Result, Ok, Err, unwrap_or, refl, sym, ap, ◌∙◌, subst, inl, inr, Bool, ℕ, zero, suc, ◌<◌, ◌≤◌, cond, length, arith, AllByRecursion, flat_map, list_any, IsOk, bytes_eq, cond_both, false≢true, or_cases, lt-ltb, bytes_eq-Decides, option_map_or, option_or, eq_by_cmp, get}
+use Rattle.proof_words.proofs.{◌≡◌, ◌+◌, ◌||◌, nat_lt, true, false, List, [], ◌∷◌, ◌++◌, map, Option, Some, None, Result, Ok, Err, unwrap_or, refl, sym, ap, ◌∙◌, subst, inl, inr, Bool, ℕ, zero, suc, ◌<◌, ◌≤◌, cond, length, arith, AllByRecursion, list_any, IsOk, bytes_eq, cond_both, false≢true, or_cases, bytes_eq-Decides, option_map_or, option_or, eq_by_cmp, get, flat_map, lt-ltb}
 use Rattle.couch_base.specs.{none_some, some_is, Among, Among-left, Among-mapped, Id, DatabaseValue, LawfulDatabase, most, tree_in, tree_of, with_tree, RowValue, chosen_feed, leaf_document, put_answer, put_told, is_changed, after_put, content_of, IsLater-after_put, tree_in-with_tree, BaseFault}
 use Rattle.rev_core.specs.{rev_tie_self, RevId, rev_cmp, is_among, edges_of}
-use Rattle.rev_tree.specs.{TreeValue, has, is_leaf, is_same, leaves, ancestors, merged, no_revisions, answer_of, walk, contradiction_at, first_contradiction, has-merged_given, has-same, is_among-leaves, ancestors_self, same_leaves, IsPart, nothing_is_part, given, part_merged, whole_part, Contradiction, Origin}
+use Rattle.rev_tree.specs.{TreeValue, has, is_leaf, is_same, leaves, ancestors, merged, no_revisions, answer_of, walk, contradiction_at, first_contradiction, is_among-leaves, ancestors_self, same_leaves, IsPart, nothing_is_part, given, part_merged, whole_part, Contradiction, Origin}
 use Rattle.doc_json.specs.Document.{Document}
 use Rattle.doc_json.specs.{Choice, is_chosen}
 use Rattle.couch_base.specs.declared.fault.Put.{Put}
 use Rattle.repl_peer.specs.{PeerValue, SessionValue, contradiction_of, in_ledger, after_load, next_local, is_full}
-use Rattle.repl_peer.proofs.{among_test, changed_tree}
+use Rattle.repl_peer.proofs.{among_test, put_holds}
 use Rattle.repl_target.specs.{CoversFeedOf, IsEmpty, SameDocuments}
 use Rattle.repl_target.proofs.{IsPartOf, leaf_covered, IsLeafOf, tree_lawful, chosen_member, tree_of-member}
 use Rattle.repl_survey.specs.{documents_at, all_documents, after_loads, AllTaken}
@@ -45,17 +45,6 @@ not_refused db d ok = (go (contradiction_of db d) refl ok, room (put_answer db d
     room : (a : Result Put BaseFault) → IsOk a → is_full a ≡ false
     room (Ok put) taken = refl
     room (Err why) taken = absurd (false≢true taken)
-
--- what is taken stands in its document's tree
-put_holds : (db : DatabaseValue) (d : Document) (o : Origin) → contradiction_of db d ≡ None → is_full (put_answer db d) ≡ false → (r : RevId) → is_among r d.ancestry ≡ true → has (tree_of (after_put db d o).docs d.id) r ≡ true
-put_holds db d o none room r given = go (contradiction_of db d) (is_same (tree_of db.docs d.id) d.ancestry) (nat_lt db.update_seq most) none refl room
-  where
-    go : (c : Option Contradiction) (same left : Bool) → c ≡ None → is_same (tree_of db.docs d.id) d.ancestry ≡ same → is_full (put_told (answer_of c same) left (db.update_seq + 1)) ≡ false
-        → has (tree_of (cond (is_changed (put_told (answer_of c same) left (db.update_seq + 1))) (with_tree db d.id (merged (tree_of db.docs d.id) d.ancestry (content_of d.deleted d.body) o)) db).docs d.id) r ≡ true
-    go (Some c) same left e s f = absurd (none_some c (sym e))
-    go None true left e s f = has-same (tree_of db.docs d.id) d.ancestry r s given
-    go None false true e s f = ap (λ t. has t r) (changed_tree db d.id (merged (tree_of db.docs d.id) d.ancestry (content_of d.deleted d.body) o)) ∙ has-merged_given (tree_of db.docs d.id) d.ancestry (content_of d.deleted d.body) o r given
-    go None false false e s f = absurd (false≢true (sym f))
 
 -- and one that contradicts nothing is taken, where a sequence is left
 taken_ok : (db : DatabaseValue) (d : Document) → contradiction_of db d ≡ None → db.update_seq < most → IsOk (put_answer db d)

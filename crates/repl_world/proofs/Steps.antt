@@ -2,16 +2,16 @@
 use Rattle.proof_words.proofs.{◌≡◌, ℕ, ◌+◌, ◌<◌, ◌≤◌, ◌==◌, nat_lt, nat_le, List, [], ◌∷◌, Bool, true, false, cond, Option, Some, None, Result, Ok, Err, slice_get, refl, sym, ap, ◌∙◌, subst, inl, inr, arith, cond_both, eqb-true}
 use Rattle.rev_tree.specs.{SessionId}
 use Rattle.doc_json.specs.Document.{Document}
-use Rattle.couch_base.specs.{Id, LawfulDatabase, most, edited, WindowValue, page, page_answer, AskedValue, ParcelValue, revs_diff, open_revs, IsLater, BaseFault, Among-push}
+use Rattle.couch_base.specs.{Id, LawfulDatabase, most, WindowValue, page, page_answer, AskedValue, ParcelValue, revs_diff, open_revs, IsLater, BaseFault, Among-push}
 use Rattle.rev_core.specs.{RevId}
 use Rattle.repl_log.specs.declared.replication.RepId.{RepId}
 use Rattle.rev_tree.proofs.{slice_get-append}
 use Rattle.repl_log.specs.{EntryValue, log_in}
-use Rattle.repl_peer.specs.{PeerValue, SessionValue, after_record, after_conclude, conclude_answer, IsLaterPeer, rep_between, BackupValue, copy_of, is_target, backup_answer, greater_life, restore_answer, restored, restored_by, after_edit, load_edited, TargetFault}
+use Rattle.repl_peer.specs.{PeerValue, SessionValue, after_record, after_conclude, conclude_answer, IsLaterPeer, rep_between, BackupValue, copy_of, is_target, backup_answer, greater_life, restore_answer, restored, restored_by, after_edit, TargetFault}
 use Rattle.repl_target.specs.{IsTiedWindow, AreTiedEntries, IsTiedPair, IsSentEntry, Call, Load, Edit, after_call}
 use Rattle.repl_peer.specs.declared.fault.TargetFault.TheVariants as faults
 use Rattle.repl_target.specs.replication.Calls as calls
-use Rattle.repl_peer.proofs.{Among-at, load_later, edit_later, begin_later, put_entry_later, after_settle_ends, after_stop_ends, ends_law, append_law, record_law, conclude_law}
+use Rattle.repl_peer.proofs.{Among-at, edit_by_load, load_later, edit_later, begin_later, put_entry_later, after_settle_ends, after_stop_ends, ends_law, append_law, record_law, conclude_law}
 use Rattle.repl_target.proofs.{IsTiedWindow-page, IsTiedWindow-later, IsTiedAsked-revs_diff, IsTiedAsked-later, IsTiedParcel-open_revs, Brings, common_reached, entry-later, entry-source, entry-life, sent-later, sent_entry, backups-later, backups-source, TiedAt, tied-stays, tied-more, tied-new, tied_call, tied_source, puts_tied}
 use Rattle.repl_world.specs.{with_window, told, told_where, WorldValue, rep_of, paged, appends, differs, fetches, settles, stops, entry_in, puts, crashed, log_of_source, reads_log, beginning_in, begins, backs_up, restores, happens, CutShort, IsWorld, OwnAsked, OwnParcel, Step}
 use Rattle.repl_world.specs.Tied.{Tied}
@@ -60,11 +60,7 @@ write_step : (w : WorldValue) (p : PeerValue) → Tied w → IsLater w.source.db
 write_step w p h later logs = source_step w p h later (tied_source w.source p w.target w.chosen later logs h.peers.pair)
 
 edit_outgoing : (p : PeerValue) (id : Id) (parent : Option RevId) (deleted : Bool) (body : List ℕ) → (after_edit p id parent deleted body).outgoing ≡ p.outgoing
-edit_outgoing p id parent deleted body = go (edited p.db id parent deleted body)
-  where
-    go : (r : Result (RevId × Option RevId) BaseFault) → (load_edited p id deleted body r).outgoing ≡ p.outgoing
-    go (Ok e) = refl
-    go (Err fault) = refl
+edit_outgoing p = edit_by_load (λ q. q.outgoing ≡ p.outgoing) p (λ _. refl) refl
 
 -- what is asked of the sessions of the replication
 abbrev TiedSessions : WorldValue → SessionValue → Type 0

@@ -2,62 +2,41 @@ use Rattle.proof_words.proofs.{◌<◌, get_or, arith}
 use Rattle.repl_net.proofs.{two_filters, up, up_ended, up_hop, down, down_ended, down_hop}
 use Rattle.repl_net.proofs.along.carry.Goals as goal
 
-pub returns-then-hop-clause-hopped : goal.returns-then-hop-clause-hopped
-returns-then-hop-clause-hopped g c =
+pub returns-then-hop : goal.returns-then-hop
+returns-then-hop g c =
     let s = c.split_at_mut-front in
     let r = c.replicate_two in
-    up c.args.peers.now s.result.0.now s.result.1.now c.args.hop.now (g.F.WriteFilter.refuses (get_or s.result.1.now 0 c.index-back-0.result).0) c.index-front-hop.result c.index-back-0.result r.new.source r.new.target r.result
-    s.ensures.value s.ensures.front_len c.if-hop.true c.requires.to r.ensures.carried
+    record {
+      hop =
+          up_hop g.F.WriteFilter.refuses c.args.peers.now s.result.0.now s.result.1.now c.args.hop.now c.index-front-hop.result c.index-back-0.result r.new.source r.new.target r.result
+          s.ensures.value s.ensures.front_len c.if-hop.true c.requires.to r.ensures.filters.0 r.ensures.filters.1 r.ensures.replicates;
+      filters =
+          two_filters c.args.peers.now s.result.0.now s.result.1.now c.args.hop.now.from c.args.hop.now.to c.index-front-hop.result c.index-back-0.result r.new.source r.new.target s.ensures.value s.ensures.front_len c.if-hop.true c.requires.to
+          r.ensures.filters.0 r.ensures.filters.1;
+      hopped =
+          up c.args.peers.now s.result.0.now s.result.1.now c.args.hop.now (g.F.WriteFilter.refuses (get_or s.result.1.now 0 c.index-back-0.result).0) c.index-front-hop.result c.index-back-0.result r.new.source r.new.target r.result
+          s.ensures.value s.ensures.front_len c.if-hop.true c.requires.to r.ensures.carried;
+      ended =
+          up_ended c.args.peers.now s.result.0.now s.result.1.now c.args.hop.now (g.F.WriteFilter.refuses (get_or s.result.1.now 0 c.index-back-0.result).0) c.index-front-hop.result c.index-back-0.result r.new.source r.new.target r.result
+          s.ensures.value s.ensures.front_len c.if-hop.true c.requires.to r.ensures.carried r.ensures.whole;
+    }
 
-pub returns-then-hop-clause-ended : goal.returns-then-hop-clause-ended
-returns-then-hop-clause-ended g c =
-    let s = c.split_at_mut-front in
-    let r = c.replicate_two in
-    up_ended c.args.peers.now s.result.0.now s.result.1.now c.args.hop.now (g.F.WriteFilter.refuses (get_or s.result.1.now 0 c.index-back-0.result).0) c.index-front-hop.result c.index-back-0.result r.new.source r.new.target r.result
-    s.ensures.value s.ensures.front_len c.if-hop.true c.requires.to r.ensures.carried r.ensures.whole
-
-pub returns-else-hop-clause-hopped : goal.returns-else-hop-clause-hopped
-returns-else-hop-clause-hopped g c =
+pub returns-else-hop : goal.returns-else-hop
+returns-else-hop g c =
     let s = c.split_at_mut-front-else-hop in
     let r = c.replicate_two-else-hop in
     let low : c.args.hop.now.to < c.args.hop.now.from = omega (arith, c.if-hop.false, c.requires.two) in
-    down c.args.peers.now s.result.0.now s.result.1.now c.args.hop.now (g.F.WriteFilter.refuses (get_or s.result.0.now c.args.hop.now.to c.index-front-hop-else-hop.result).0) c.index-front-hop-else-hop.result c.index-back-0-else-hop.result r.new.source r.new.target r.result
-    s.ensures.value s.ensures.front_len low c.requires.from r.ensures.carried
-
-pub returns-else-hop-clause-ended : goal.returns-else-hop-clause-ended
-returns-else-hop-clause-ended g c =
-    let s = c.split_at_mut-front-else-hop in
-    let r = c.replicate_two-else-hop in
-    let low : c.args.hop.now.to < c.args.hop.now.from = omega (arith, c.if-hop.false, c.requires.two) in
-    down_ended c.args.peers.now s.result.0.now s.result.1.now c.args.hop.now (g.F.WriteFilter.refuses (get_or s.result.0.now c.args.hop.now.to c.index-front-hop-else-hop.result).0) c.index-front-hop-else-hop.result c.index-back-0-else-hop.result r.new.source r.new.target r.result
-    s.ensures.value s.ensures.front_len low c.requires.from r.ensures.carried r.ensures.whole
-
-pub returns-then-hop-clause-filters : goal.returns-then-hop-clause-filters
-returns-then-hop-clause-filters g c =
-    let s = c.split_at_mut-front in
-    let r = c.replicate_two in
-    two_filters c.args.peers.now s.result.0.now s.result.1.now c.args.hop.now.from c.args.hop.now.to c.index-front-hop.result c.index-back-0.result r.new.source r.new.target s.ensures.value s.ensures.front_len c.if-hop.true c.requires.to
-    r.ensures.filters.0 r.ensures.filters.1
-
-pub returns-else-hop-clause-filters : goal.returns-else-hop-clause-filters
-returns-else-hop-clause-filters g c =
-    let s = c.split_at_mut-front-else-hop in
-    let r = c.replicate_two-else-hop in
-    let low : c.args.hop.now.to < c.args.hop.now.from = omega (arith, c.if-hop.false, c.requires.two) in
-    two_filters c.args.peers.now s.result.0.now s.result.1.now c.args.hop.now.to c.args.hop.now.from c.index-front-hop-else-hop.result c.index-back-0-else-hop.result r.new.target r.new.source s.ensures.value s.ensures.front_len low c.requires.from
-    r.ensures.filters.1 r.ensures.filters.0
-
-pub returns-then-hop-clause-hop : goal.returns-then-hop-clause-hop
-returns-then-hop-clause-hop g c =
-    let s = c.split_at_mut-front in
-    let r = c.replicate_two in
-    up_hop g.F.WriteFilter.refuses c.args.peers.now s.result.0.now s.result.1.now c.args.hop.now c.index-front-hop.result c.index-back-0.result r.new.source r.new.target r.result
-    s.ensures.value s.ensures.front_len c.if-hop.true c.requires.to r.ensures.filters.0 r.ensures.filters.1 r.ensures.replicates
-
-pub returns-else-hop-clause-hop : goal.returns-else-hop-clause-hop
-returns-else-hop-clause-hop g c =
-    let s = c.split_at_mut-front-else-hop in
-    let r = c.replicate_two-else-hop in
-    let low : c.args.hop.now.to < c.args.hop.now.from = omega (arith, c.if-hop.false, c.requires.two) in
-    down_hop g.F.WriteFilter.refuses c.args.peers.now s.result.0.now s.result.1.now c.args.hop.now c.index-front-hop-else-hop.result c.index-back-0-else-hop.result r.new.source r.new.target r.result
-    s.ensures.value s.ensures.front_len low c.requires.from r.ensures.filters.0 r.ensures.filters.1 r.ensures.replicates
+    record {
+      hop =
+          down_hop g.F.WriteFilter.refuses c.args.peers.now s.result.0.now s.result.1.now c.args.hop.now c.index-front-hop-else-hop.result c.index-back-0-else-hop.result r.new.source r.new.target r.result
+          s.ensures.value s.ensures.front_len low c.requires.from r.ensures.filters.0 r.ensures.filters.1 r.ensures.replicates;
+      filters =
+          two_filters c.args.peers.now s.result.0.now s.result.1.now c.args.hop.now.to c.args.hop.now.from c.index-front-hop-else-hop.result c.index-back-0-else-hop.result r.new.target r.new.source s.ensures.value s.ensures.front_len low c.requires.from
+          r.ensures.filters.1 r.ensures.filters.0;
+      hopped =
+          down c.args.peers.now s.result.0.now s.result.1.now c.args.hop.now (g.F.WriteFilter.refuses (get_or s.result.0.now c.args.hop.now.to c.index-front-hop-else-hop.result).0) c.index-front-hop-else-hop.result c.index-back-0-else-hop.result r.new.source r.new.target r.result
+          s.ensures.value s.ensures.front_len low c.requires.from r.ensures.carried;
+      ended =
+          down_ended c.args.peers.now s.result.0.now s.result.1.now c.args.hop.now (g.F.WriteFilter.refuses (get_or s.result.0.now c.args.hop.now.to c.index-front-hop-else-hop.result).0) c.index-front-hop-else-hop.result c.index-back-0-else-hop.result r.new.source r.new.target r.result
+          s.ensures.value s.ensures.front_len low c.requires.from r.ensures.carried r.ensures.whole;
+    }

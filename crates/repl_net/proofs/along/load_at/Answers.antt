@@ -4,41 +4,31 @@ use Rattle.repl_net.specs.{peers_of, AreTied, IsNet, KeepsAgreement}
 use Rattle.repl_net.proofs.{set_filters, changed_at, unchanged_at, there_at, wrote_tied, wrote_agree, load_net}
 use Rattle.repl_net.proofs.along.load_at.Goals as goal
 
-pub returns-in-Ok-clause-ok : goal.returns-in-Ok-clause-ok
-returns-in-Ok-clause-ok g c = changed_at c.args.peers.now c.args.place c.index-peers-place.result c.if-place-peers.false c.load.new.self (λ p. after_load p c.args.doc.now) c.in-Ok.ensures.ok
-
-pub returns-in-Ok-clause-tied : goal.returns-in-Ok-clause-tied
-returns-in-Ok-clause-tied g c = wrote_tied (peers_of c.args.peers.now) c.args.place c.args.doc.now _ (returns-in-Ok-clause-ok g c)
-
-pub returns-in-Ok-clause-agree : goal.returns-in-Ok-clause-agree
-returns-in-Ok-clause-agree g c = wrote_agree (peers_of c.args.peers.now) c.args.place c.args.doc.now _ (returns-in-Ok-clause-ok g c)
-
-pub returns-in-Err-clause-err : goal.returns-in-Err-clause-err
-returns-in-Err-clause-err g c = unchanged_at c.args.peers.now c.args.place c.index-peers-place.result c.load.new.self c.if-place-peers.false c.in-Err.ensures.err
-
-pub returns-in-Err-clause-tied : goal.returns-in-Err-clause-tied
-returns-in-Err-clause-tied g c = λ net. subst AreTied (sym (returns-in-Err-clause-err g c)) net
-
-pub returns-in-Err-clause-agree : goal.returns-in-Err-clause-agree
-returns-in-Err-clause-agree g c = λ _ _ id. subst (λ ps. KeepsAgreement (peers_of c.args.peers.now) ps id) (sym (returns-in-Err-clause-err g c)) (λ agree whole. (agree, whole))
-
-pub returns-in-Ok-clause-net : goal.returns-in-Ok-clause-net
-returns-in-Ok-clause-net g c = load_net (peers_of c.args.peers.now) c.args.place c.args.doc.now _ (returns-in-Ok-clause-ok g c)
-
-pub returns-in-Err-clause-net : goal.returns-in-Err-clause-net
-returns-in-Err-clause-net g c = λ net. subst IsNet (sym (returns-in-Err-clause-err g c)) net
-
-pub returns-in-Ok-clause-filters : goal.returns-in-Ok-clause-filters
-returns-in-Ok-clause-filters g c = set_filters c.args.peers.now c.args.place c.index-peers-place.result c.load.new.self c.if-place-peers.false c.load.ensures.filter
-
-pub returns-in-Err-clause-filters : goal.returns-in-Err-clause-filters
-returns-in-Err-clause-filters g c = set_filters c.args.peers.now c.args.place c.index-peers-place.result c.load.new.self c.if-place-peers.false c.load.ensures.filter
-
 pub returns-then-place-peers-clause-answer : goal.returns-then-place-peers-clause-answer
 returns-then-place-peers-clause-answer g c = (let mapped = length-map c.args.peers.now (λ p. p.1) in inl (omega (arith, mapped, c.if-place-peers.true), refl))
 
-pub returns-in-Ok-clause-answer : goal.returns-in-Ok-clause-answer
-returns-in-Ok-clause-answer g c = inr (_, there_at c.args.peers.now c.args.place c.index-peers-place.result c.if-place-peers.false, Ok c.in-Ok.put, c.in-Ok.ensures.answer, refl)
+pub returns-in-Ok : goal.returns-in-Ok
+returns-in-Ok g c =
+    let changed = changed_at c.args.peers.now c.args.place c.index-peers-place.result c.if-place-peers.false c.load.new.self (λ p. after_load p c.args.doc.now) c.in-Ok.ensures.ok in
+    record {
+      answer = inr (_, there_at c.args.peers.now c.args.place c.index-peers-place.result c.if-place-peers.false, Ok c.in-Ok.put, c.in-Ok.ensures.answer, refl);
+      filters = set_filters c.args.peers.now c.args.place c.index-peers-place.result c.load.new.self c.if-place-peers.false c.load.ensures.filter;
+      tied = wrote_tied (peers_of c.args.peers.now) c.args.place c.args.doc.now _ changed;
+      net = load_net (peers_of c.args.peers.now) c.args.place c.args.doc.now _ changed;
+      ok = changed;
+      err = tt;
+      agree = wrote_agree (peers_of c.args.peers.now) c.args.place c.args.doc.now _ changed;
+    }
 
-pub returns-in-Err-clause-answer : goal.returns-in-Err-clause-answer
-returns-in-Err-clause-answer g c = inr (_, there_at c.args.peers.now c.args.place c.index-peers-place.result c.if-place-peers.false, Err c.in-Err.fault, c.in-Err.ensures.answer, refl)
+pub returns-in-Err : goal.returns-in-Err
+returns-in-Err g c =
+    let kept = unchanged_at c.args.peers.now c.args.place c.index-peers-place.result c.load.new.self c.if-place-peers.false c.in-Err.ensures.err in
+    record {
+      answer = inr (_, there_at c.args.peers.now c.args.place c.index-peers-place.result c.if-place-peers.false, Err c.in-Err.fault, c.in-Err.ensures.answer, refl);
+      filters = set_filters c.args.peers.now c.args.place c.index-peers-place.result c.load.new.self c.if-place-peers.false c.load.ensures.filter;
+      tied = λ net. subst AreTied (sym kept) net;
+      net = λ net. subst IsNet (sym kept) net;
+      ok = tt;
+      err = kept;
+      agree = λ _ _ id. subst (λ ps. KeepsAgreement (peers_of c.args.peers.now) ps id) (sym kept) (λ agree whole. (agree, whole));
+    }

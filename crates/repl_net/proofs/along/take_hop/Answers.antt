@@ -1,31 +1,29 @@
-use Rattle.proof_words.proofs.{arith}
+use Rattle.proof_words.proofs.{rules, arith, common_steps}
 use Rattle.repl_net.specs.{peers_of, no_source, no_target, one_place, refused, taken}
 use Rattle.repl_net.proofs.{hop_tied, hop_net, hop_made}
 use Rattle.repl_net.proofs.along.take_hop.Goals as goal
 
-pub returns-in-Ok-clause-tied : goal.returns-in-Ok-clause-tied
-returns-in-Ok-clause-tied g c = λ net. hop_tied (peers_of c.args.peers.now) c.args.hop.now (peers_of c.carry.new.peers) c.carry.ensures.hopped net
+pub returns-in-Ok : goal.returns-in-Ok
+returns-in-Ok g c =
+    record {
+      taken = taken c.in-Ok.ensures.hop;
+      filters = first_of (search rules, grind (arith, common_steps));
+      tied = λ net. hop_tied (peers_of c.args.peers.now) c.args.hop.now (peers_of c.carry.new.peers) c.carry.ensures.hopped net;
+      net = λ net. hop_net (peers_of c.args.peers.now) c.args.hop.now (peers_of c.carry.new.peers) c.carry.ensures.hopped net;
+      made = λ among id. hop_made among (peers_of c.args.peers.now) c.args.hop.now (peers_of c.carry.new.peers) c.carry.ensures.hopped id;
+      ended = first_of (search rules, grind (arith, common_steps));
+    }
 
-pub returns-in-Err-clause-tied : goal.returns-in-Err-clause-tied
-returns-in-Err-clause-tied g c = λ net. hop_tied (peers_of c.args.peers.now) c.args.hop.now (peers_of c.carry.new.peers) c.carry.ensures.hopped net
-
-pub returns-in-Ok-clause-net : goal.returns-in-Ok-clause-net
-returns-in-Ok-clause-net g c = λ net. hop_net (peers_of c.args.peers.now) c.args.hop.now (peers_of c.carry.new.peers) c.carry.ensures.hopped net
-
-pub returns-in-Err-clause-net : goal.returns-in-Err-clause-net
-returns-in-Err-clause-net g c = λ net. hop_net (peers_of c.args.peers.now) c.args.hop.now (peers_of c.carry.new.peers) c.carry.ensures.hopped net
-
-pub returns-in-Ok-clause-made : goal.returns-in-Ok-clause-made
-returns-in-Ok-clause-made g c = λ among id. hop_made among (peers_of c.args.peers.now) c.args.hop.now (peers_of c.carry.new.peers) c.carry.ensures.hopped id
-
-pub returns-in-Err-clause-made : goal.returns-in-Err-clause-made
-returns-in-Err-clause-made g c = λ among id. hop_made among (peers_of c.args.peers.now) c.args.hop.now (peers_of c.carry.new.peers) c.carry.ensures.hopped id
-
-pub returns-in-Ok-clause-taken : goal.returns-in-Ok-clause-taken
-returns-in-Ok-clause-taken g c = taken c.in-Ok.ensures.hop
-
-pub returns-in-Err-clause-taken : goal.returns-in-Err-clause-taken
-returns-in-Err-clause-taken g c = refused c.in-Err.ensures.hop
+pub returns-in-Err : goal.returns-in-Err
+returns-in-Err g c =
+    record {
+      taken = refused c.in-Err.ensures.hop;
+      filters = first_of (search rules, grind (arith, common_steps));
+      tied = λ net. hop_tied (peers_of c.args.peers.now) c.args.hop.now (peers_of c.carry.new.peers) c.carry.ensures.hopped net;
+      net = λ net. hop_net (peers_of c.args.peers.now) c.args.hop.now (peers_of c.carry.new.peers) c.carry.ensures.hopped net;
+      made = λ among id. hop_made among (peers_of c.args.peers.now) c.args.hop.now (peers_of c.carry.new.peers) c.carry.ensures.hopped id;
+      ended = first_of (search rules, grind (arith, common_steps));
+    }
 
 pub returns-then-hop-peers-clause-taken : goal.returns-then-hop-peers-clause-taken
 returns-then-hop-peers-clause-taken g c = no_source (omega (arith, c.if-hop-peers.true))

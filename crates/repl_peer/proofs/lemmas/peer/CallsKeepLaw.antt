@@ -1,5 +1,5 @@
 -- What loading, editing and beginning keep: the peer's law, and all that covers.
-use Rattle.proof_words.proofs.{◌≡◌, ◌⊎◌, ℕ, ◌<◌, ◌≤◌, ◌^◌, ◌==◌, List, [], ◌∷◌, ◌++◌, Bool, false, ◌&&◌, Option, Some, None, Result, Ok, Err, refl, sym, ap, subst, inl, inr, arith, eqb, nat_lt, slice_get, IsDistinct, AllByRecursion, and_parts, cond_both, eqb-true, eqb-false, ltb-false, or_parts, ne_eqb, IsDistinct-cons}
+use Rattle.proof_words.proofs.{◌≡◌, ◌⊎◌, ℕ, ◌<◌, ◌≤◌, ◌^◌, ◌==◌, List, [], ◌∷◌, ◌++◌, Bool, false, ◌&&◌, Option, Some, None, Result, Ok, Err, refl, sym, ap, subst, inl, inr, arith, eqb, nat_lt, IsDistinct, AllByRecursion, and_parts, cond_both, eqb-false, or_parts, IsDistinct-cons, slice_get, eqb-true, ltb-false, ne_eqb}
 use Rattle.rev_core.specs.{RevId}
 use Rattle.rev_tree.specs.{SessionId}
 use Rattle.doc_json.specs.Document.{Document}
@@ -33,19 +33,16 @@ load_law refuses p d l = record {
   distinct = l.distinct;
 }
 
-pub edit_law : (refuses : Document → Bool) (p : PeerValue) (id : Id) (parent : Option RevId) (deleted : Bool) (body : List ℕ) → LawfulSessions refuses p → LawfulSessions refuses (after_edit p id parent deleted body)
-edit_law refuses p id parent deleted body l = go (edited p.db id parent deleted body)
+-- what each put of the user's own leaves, an edit leaves
+pub edit_by_load : (P : PeerValue → Type 0) (p : PeerValue) → ((d : Document) → P (after_load p d)) → P p → (id : Id) (parent : Option RevId) (deleted : Bool) (body : List ℕ) → P (after_edit p id parent deleted body)
+edit_by_load P p puts h id parent deleted body = go (edited p.db id parent deleted body)
   where
-    go : (e : Result (RevId × Option RevId) BaseFault) → LawfulSessions refuses (load_edited p id deleted body e)
-    go (Ok e) = load_law refuses p (edit_document id e deleted body) l
-    go (Err fault) = l
+    go : (e : Result (RevId × Option RevId) BaseFault) → P (load_edited p id deleted body e)
+    go (Ok e) = puts (edit_document id e deleted body)
+    go (Err fault) = h
 
 pub edit_later : (p : PeerValue) (id : Id) (parent : Option RevId) (deleted : Bool) (body : List ℕ) → IsLaterPeer p (after_edit p id parent deleted body)
-edit_later p id parent deleted body = go (edited p.db id parent deleted body)
-  where
-    go : (e : Result (RevId × Option RevId) BaseFault) → IsLaterPeer p (load_edited p id deleted body e)
-    go (Ok e) = load_later p (edit_document id e deleted body)
-    go (Err fault) = IsLaterPeer-same p
+edit_later p = edit_by_load (IsLaterPeer p) p (load_later p) (IsLaterPeer-same p)
 
 -- ---- beginning
 

@@ -1,12 +1,12 @@
 -- Every revision of a peer has an origin, whatever is called.
-use Rattle.proof_words.proofs.{◌≡◌, ◌⊎◌, ℕ, ◌<◌, ◌^◌, List, [], ◌∷◌, ◌++◌, Bool, true, false, cond, ◌||◌, Option, Some, None, is_some, unwrap_or, Result, Ok, Err, map, length, refl, sym, ap, ◌∙◌, subst, inl, inr, slice_get, list_any, get, get-empty, eq_by_cmp, bytes_eq, cond_both, cond-true, false≢true, bytes_eq-Decides}
+use Rattle.proof_words.proofs.{◌≡◌, ◌⊎◌, ℕ, ◌<◌, ◌^◌, List, [], ◌∷◌, ◌++◌, Bool, true, false, cond, ◌||◌, Option, Some, None, is_some, unwrap_or, Result, Ok, Err, map, length, refl, sym, ap, ◌∙◌, subst, inl, inr, list_any, get, get-empty, eq_by_cmp, bytes_eq, cond_both, cond-true, false≢true, bytes_eq-Decides, slice_get}
 use Rattle.std.specs.FinMap.{find}
 use Rattle.rev_core.specs.{RevId, rev_cmp, is_among}
 use Rattle.rev_tree.specs.{TreeValue, merged, no_revisions, find-among, get-joined, some_or, Origin, SessionId}
 use Rattle.rev_tree.specs.declared.origin.Origin.TheVariants.{Local, Feed}
 use Rattle.doc_json.specs.Document.{Document}
-use Rattle.couch_base.specs.{Among, some_is, none_some, Id, DatabaseValue, tree_in, tree_of, with_tree, edited, edit_document, RowValue, WindowValue, IsWindow, ParcelValue, put_answer, is_changed, after_put, content_of, tree_in-with_tree, BaseFault, Among-last, at-end}
-use Rattle.repl_peer.specs.{Settled, TargetFault, PeerValue, SessionValue, new_peer_at, written_of, next_local, after_load, load_edited, after_edit, begin_answer, new_session, begun, after_begin, after_append, after_record, after_conclude, seq_in, fed, with_arrival, has_row, with_settling, SettleGives, Lawful, IsLaterPeer, ComesFrom, HasOrigins, Beginning}
+use Rattle.couch_base.specs.{Among, some_is, none_some, Id, DatabaseValue, tree_in, tree_of, with_tree, RowValue, WindowValue, IsWindow, ParcelValue, put_answer, is_changed, after_put, content_of, tree_in-with_tree, Among-last, at-end}
+use Rattle.repl_peer.specs.{Settled, TargetFault, PeerValue, SessionValue, new_peer_at, written_of, next_local, after_load, begin_answer, new_session, begun, after_begin, after_append, after_record, after_conclude, seq_in, fed, with_arrival, has_row, with_settling, SettleGives, Lawful, IsLaterPeer, ComesFrom, HasOrigins, Beginning}
 use Rattle.repl_peer.proofs.lemmas.peer.LaterPeers.{with_session_holds}
 use Rattle.repl_peer.proofs.lemmas.peer.CallsKeepLaw.{load_later, begin_later}
 use Rattle.repl_peer.proofs.lemmas.session.Changes.{Change, Arrived, after_change, Source, May, KeptByChanges, settle_ends, ends_keep, append_keep, record_keep, conclude_keep}
@@ -106,13 +106,6 @@ load_origins p d h = has_from (after_load p d) stands
           | inl old ↦ comes_later p (after_load p d) (load_later p d) id r o (stands_from p h id r o old)
           | inr new ↦ subst (ComesFrom (after_load p d) id r) new.is (record { write = written_of d; stored = stored new.changed; of = new.of; brings = new.brings })
         ]
-
-pub edit_origins : (p : PeerValue) (id : Id) (parent : Option RevId) (deleted : Bool) (body : List ℕ) → HasOrigins p → HasOrigins (after_edit p id parent deleted body)
-edit_origins p id parent deleted body h = go (edited p.db id parent deleted body)
-  where
-    go : (e : Result (RevId × Option RevId) BaseFault) → HasOrigins (load_edited p id deleted body e)
-    go (Ok e) = load_origins p (edit_document id e deleted body) h
-    go (Err fault) = h
 
 -- ---- beginning
 

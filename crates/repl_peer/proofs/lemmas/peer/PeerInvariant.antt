@@ -7,9 +7,9 @@ use Rattle.couch_base.specs.{Id, DatabaseValue, after_put, edited, after_edited,
 use Rattle.couch_base.specs.declared.fault.Put.{Put}
 use Rattle.range_front.specs.{low_water}
 use Rattle.repl_peer.specs.{PeerValue, SessionValue, WrittenValue, new_peer_at, session_in, next_local, after_load, after_edit, load_edited, GivesUnlessMemory, on_session, on_found, new_session, begin_answer, begun, after_begin, append_in, with_window, after_append, recorded_at, with_load, with_edited, with_edit, Lawful, with_changed, changed, TargetFault, Beginning}
-use Rattle.repl_peer.proofs.lemmas.peer.CallsKeepLaw.{new_law, load_law, edit_law, begin_law}
-use Rattle.repl_peer.proofs.lemmas.peer.WritesStand.{load_stands, edit_stands, begin_stands}
-use Rattle.repl_peer.proofs.lemmas.peer.CallsKeepOrigins.{new_origins, load_origins, edit_origins, begin_origins, append_lawful, record_lawful, conclude_lawful}
+use Rattle.repl_peer.proofs.lemmas.peer.CallsKeepLaw.{new_law, load_law, edit_by_load, begin_law}
+use Rattle.repl_peer.proofs.lemmas.peer.WritesStand.{load_stands, begin_stands}
+use Rattle.repl_peer.proofs.lemmas.peer.CallsKeepOrigins.{new_origins, load_origins, begin_origins, append_lawful, record_lawful, conclude_lawful}
 
 -- a change of one session changes the list of them
 found-changed : (p : PeerValue) (change : SessionValue → SessionValue) (o : Option SessionValue) → on_found p change o ≡ record p { sessions = changed change p.sessions o }
@@ -39,6 +39,9 @@ module _ (refuses : Document → Bool) (p : PeerValue) (lawful : Lawful refuses 
   both_err (Ok x) f a b = tt
   both_err (Err e) f a b = f a b
 
+  loaded : (d : Document) → Lawful refuses (after_load p d)
+  loaded d = record { sessions = load_law refuses p d lawful.sessions; origins = load_origins p d lawful.origins; locals = load_stands p d lawful.locals }
+
   edit_parts : (id : Id) (deleted : Bool) (body : List ℕ) (e : Result (RevId × Option RevId) BaseFault) → load_edited p id deleted body e ≡ record p { db = after_edited p.db id deleted body (next_local p) e; locals = with_edited p.db p.locals id deleted body e }
   edit_parts id deleted body (Ok e) = refl
   edit_parts id deleted body (Err fault) = refl
@@ -49,7 +52,7 @@ module _ (refuses : Document → Bool) (p : PeerValue) (lawful : Lawful refuses 
       either_way r (after_load p d) (record p { db = db; locals = locals })
       (both_ok r (λ x y i. record p { db = x i; locals = y i }) a b)
       (both_err r (λ x y i. record p { db = x i; locals = y i }) c e)
-      (record { sessions = load_law refuses p d lawful.sessions; origins = load_origins p d lawful.origins; locals = load_stands p d lawful.locals })
+      (loaded d)
 
   pub Lawful-edited : (id : Id) (parent : Option RevId) (deleted : Bool) (body : List ℕ) (r : Result RevId BaseFault) (db : DatabaseValue) (locals : List WrittenValue)
       → OnOk r (db ≡ database_after_edit p.db id parent deleted body (next_local p)) → OnOk r (locals ≡ with_edit p.db p.locals id parent deleted body) → OnErr r (db ≡ p.db) → OnErr r (locals ≡ p.locals)
@@ -59,7 +62,7 @@ module _ (refuses : Document → Bool) (p : PeerValue) (lawful : Lawful refuses 
       either_way r (after_edit p id parent deleted body) (record p { db = db; locals = locals })
       (both_ok r (λ x y. (λ i. record p { db = x i; locals = y i }) ∙ sym parts) a b)
       (both_err r (λ x y i. record p { db = x i; locals = y i }) c e)
-      (record { sessions = edit_law refuses p id parent deleted body lawful.sessions; origins = edit_origins p id parent deleted body lawful.origins; locals = edit_stands p id parent deleted body lawful.locals })
+      (edit_by_load (Lawful refuses) p loaded lawful id parent deleted body)
 
   begun_peer : (id : SessionId) (b : Beginning) (at : ℕ) (r : Result (Unit {0}) TargetFault) (sessions : List SessionValue)
       → GivesUnlessMemory r (begin_answer p id b) → OnOk r (sessions ≡ new_session id b at ∷ p.sessions) → OnOk r (record p { sessions = sessions } ≡ after_begin p id b at)

@@ -1,11 +1,11 @@
 -- What is written stands in its document's tree, and stays there: an edge that is there is never changed.
 use Rattle.proof_words.proofs.{◌≡◌, ℕ, zero, suc, ◌+◌, ◌<◌, length, slice_get, List, [], ◌∷◌, ◌++◌, Bool, true, false, cond, Option, Some, None, is_some, Result, Ok, Err, unwrap_or, refl, sym, ap, ◌∙◌, subst, inl, inr, arith, nat_lt, eq_by_cmp, option_or, bytes_eq, FinMap, get, false≢true, cond-true, same_Some, bytes_eq-Decides}
 use Rattle.std.specs.FinMap.{find}
-use Rattle.rev_core.specs.{RevId, rev_cmp, rev_tie_is, rev_tie_self, FallsByOne, edges_of}
-use Rattle.rev_tree.specs.{TreeValue, merged, joined, is_same, answer_of, no_revisions, first_contradiction, contradiction_at, apart, edge_found, get-joined, get-joined_known, lower_later, merged-same, no_contradiction, Contradiction, Origin, SessionId}
+use Rattle.rev_core.specs.{RevId, rev_cmp, rev_tie_is, rev_tie_self, FallsByOne, edges_of, is_among}
+use Rattle.rev_tree.specs.{TreeValue, has, merged, has-merged_given, joined, is_same, answer_of, no_revisions, first_contradiction, contradiction_at, apart, edge_found, get-joined, get-joined_known, lower_later, merged-same, no_contradiction, Contradiction, Origin, SessionId}
 use Rattle.doc_json.specs.Document.{Document}
-use Rattle.couch_base.specs.{Among, none_some, Among-push, Id, DatabaseValue, tree_in, tree_of, with_tree, most, put_told, put_answer, is_changed, after_put, content_of, edited, edit_document, IsLater, IsLater-after_put, tree_in-with_tree, BaseFault}
-use Rattle.repl_peer.specs.{PeerValue, SessionValue, WrittenValue, written_of, contradiction_of, Follows, StandsIn, next_local, after_load, load_edited, after_edit, new_session, begin_answer, begun, after_begin, is_full, Beginning, TargetFault}
+use Rattle.couch_base.specs.{Among, none_some, Among-push, Id, DatabaseValue, tree_in, tree_of, with_tree, most, put_told, put_answer, is_changed, after_put, content_of, IsLater, IsLater-after_put, tree_in-with_tree}
+use Rattle.repl_peer.specs.{PeerValue, SessionValue, WrittenValue, written_of, contradiction_of, Follows, StandsIn, next_local, after_load, new_session, begin_answer, begun, after_begin, is_full, Beginning, TargetFault}
 
 -- ---- an edge stays
 
@@ -73,22 +73,26 @@ pub changed_tree : (db : DatabaseValue) (id : Id) (t : TreeValue) → tree_of (w
 changed_tree db id t =
     ap (λ o. unwrap_or o no_revisions) (tree_in-with_tree db id t id ∙ cond-true (bytes_eq id id) (Some t) (tree_in db.docs id) ((bytes_eq-Decides id id).1 refl))
 
--- what isn't refused stands
-pub put_stands : (db : DatabaseValue) (d : Document) (o : Origin) → contradiction_of db d ≡ None → is_full (put_answer db d) ≡ false → StandsIn (after_put db d o) (written_of d)
-put_stands db d o none room falls = go (contradiction_of db d) (is_same (tree_of db.docs d.id) d.ancestry) (nat_lt db.update_seq most) none refl room
+-- what isn't refused leaves the merged tree
+put_tree : (db : DatabaseValue) (d : Document) (o : Origin) → contradiction_of db d ≡ None → is_full (put_answer db d) ≡ false → merged (tree_of db.docs d.id) d.ancestry (content_of d.deleted d.body) o ≡ tree_of (after_put db d o).docs d.id
+put_tree db d o none room = go (contradiction_of db d) (is_same (tree_of db.docs d.id) d.ancestry) (nat_lt db.update_seq most) none refl room
   where
     new : TreeValue
     new = merged (tree_of db.docs d.id) d.ancestry (content_of d.deleted d.body) o
 
-    all : Follows new.parents d.ancestry
-    all = follows_merged (tree_of db.docs d.id).parents d.ancestry none falls
-
     go : (c : Option Contradiction) (same left : Bool) → c ≡ None → is_same (tree_of db.docs d.id) d.ancestry ≡ same → is_full (put_told (answer_of c same) left (db.update_seq + 1)) ≡ false
-        → Follows (tree_of (cond (is_changed (put_told (answer_of c same) left (db.update_seq + 1))) (with_tree db d.id new) db).docs d.id).parents d.ancestry
+        → new ≡ tree_of (cond (is_changed (put_told (answer_of c same) left (db.update_seq + 1))) (with_tree db d.id new) db).docs d.id
     go (Some c) same left e s f = absurd (none_some c (sym e))
-    go None true left e s f = subst (λ (t : TreeValue). Follows t.parents d.ancestry) (merged-same (tree_of db.docs d.id) d.ancestry (content_of d.deleted d.body) o s) all
-    go None false true e s f = subst (λ (t : TreeValue). Follows t.parents d.ancestry) (sym (changed_tree db d.id new)) all
+    go None true left e s f = merged-same (tree_of db.docs d.id) d.ancestry (content_of d.deleted d.body) o s
+    go None false true e s f = sym (changed_tree db d.id new)
     go None false false e s f = absurd (false≢true (sym f))
+
+-- so it holds its ancestry, and stands
+pub put_holds : (db : DatabaseValue) (d : Document) (o : Origin) → contradiction_of db d ≡ None → is_full (put_answer db d) ≡ false → (r : RevId) → is_among r d.ancestry ≡ true → has (tree_of (after_put db d o).docs d.id) r ≡ true
+put_holds db d o none room r given = ap (λ t. has t r) (sym (put_tree db d o none room)) ∙ has-merged_given (tree_of db.docs d.id) d.ancestry (content_of d.deleted d.body) o r given
+
+pub put_stands : (db : DatabaseValue) (d : Document) (o : Origin) → contradiction_of db d ≡ None → is_full (put_answer db d) ≡ false → StandsIn (after_put db d o) (written_of d)
+put_stands db d o none room falls = subst (λ (t : TreeValue). Follows t.parents d.ancestry) (put_tree db d o none room) (follows_merged (tree_of db.docs d.id).parents d.ancestry none falls)
 
 -- and so does what changes the database
 changed_stands : (db : DatabaseValue) (d : Document) (o : Origin) → is_changed (put_answer db d) ≡ true → StandsIn (after_put db d o) (written_of d)
@@ -118,13 +122,6 @@ load_stands p d h a m = go (is_changed (put_answer p.db d)) refl m
       | inr is ↦ subst (StandsIn (after_load p d).db) (sym is) (changed_stands p.db d (next_local p) e)
     ]
     go false e n = old a n
-
-pub edit_stands : (p : PeerValue) (id : Id) (parent : Option RevId) (deleted : Bool) (body : List ℕ) → LocalsStand p → LocalsStand (after_edit p id parent deleted body)
-edit_stands p id parent deleted body h = go (edited p.db id parent deleted body)
-  where
-    go : (e : Result (RevId × Option RevId) BaseFault) → LocalsStand (load_edited p id deleted body e)
-    go (Ok e) = load_stands p (edit_document id e deleted body) h
-    go (Err fault) = h
 
 begun_stands : (p : PeerValue) (s : SessionValue) (r : Result (Unit {0}) TargetFault) → LocalsStand p → LocalsStand (begun p s r)
 begun_stands p s (Ok done) h = h

@@ -1,10 +1,9 @@
 -- The first unknown leaf of a feed, and of its pages.
-use Rattle.proof_words.proofs.{◌≡◌, ℕ, ◌+◌, ◌<◌, Bool, true, false, cond, not, inl, inr, List, [], ◌∷◌, ◌++◌, length, drop, get_or, Option, Some, None, refl, sym, ap, ◌∙◌, find, option_or, option_map, drop_more}
+use Rattle.proof_words.proofs.{◌≡◌, ℕ, ◌+◌, ◌<◌, Bool, true, false, cond, not, ◌&&◌, List, [], ◌∷◌, ◌++◌, length, drop, get_or, Option, Some, None, is_some, refl, sym, ap, ◌∙◌, list_all, option_or, option_map, drop_more, find}
 use Rattle.rev_core.specs.{RevId}
-use Rattle.rev_tree.specs.{both_none}
 use Rattle.doc_json.specs.{Choice}
-use Rattle.couch_base.specs.{Among, Id, DatabaseValue, LawfulDatabase, RowValue, chosen_feed, page, feed-page}
-use Rattle.repl_peer.specs.{Leaf, unknown_in, first_unknown}
+use Rattle.couch_base.specs.{Among, Id, DatabaseValue, LawfulDatabase, RowValue, chosen_feed, page, feed-page, all_member}
+use Rattle.repl_peer.specs.{Leaf, knows_row, unknown_in, first_unknown}
 
 -- ---- the first unknown leaf
 
@@ -32,24 +31,24 @@ feed-passed known db since goal limit c law is =
     let w = page db since goal limit c in
     ap (first_unknown known) (feed-page db since goal limit c law) ∙ first_unknown-append known w.rows (chosen_feed c db w.hi goal) ∙ ap (λ o. option_or o (first_unknown known (chosen_feed c db w.hi goal))) is
 
--- where none is unknown, each is known
-found_step : {X P : Type 0} (b : Bool) (y : X) (o : Option X) → cond (not b) (Some y) o ≡ None → (b ≡ true → o ≡ None → P) → P
-found_step true y o none go = go refl none
-found_step false y o none go = cc
+leaf_known : (test : RevId → Bool) (f : RevId → Leaf) (leaves : List RevId) → not (is_some (option_map f (find (λ r. not (test r)) leaves))) ≡ list_all test leaves
+leaf_known test f [] = refl
+leaf_known test f (r ∷ leaves) = elim (test r) as (λ b. not (is_some (option_map f (cond (not b) (Some r) (find (λ r. not (test r)) leaves)))) ≡ (b && list_all test leaves)) [
+  | true ↦ leaf_known test f leaves
+  | false ↦ refl
+]
 
-none_found : {X : Type 0} (test : X → Bool) (xs : List X) → find (λ x. not (test x)) xs ≡ None → (x : X) → Among x xs → test x ≡ true
-none_found test [] none x held = absurd held
-none_found test (y ∷ ys) none x held = found_step (test y) y (find (λ x. not (test x)) ys) none (λ b later. elim held [ inl here ↦ ap test here ∙ b | inr there ↦ none_found test ys later x there ])
-
-mapped_none : {X Y : Type 0} (f : X → Y) (o : Option X) → option_map f o ≡ None → o ≡ None
-mapped_none f None is = refl
-mapped_none f (Some x) is = cc
+-- each leaf is known where the first that isn't is not found
+pub rows_known : (known : Id → RevId → Bool) (rows : List RowValue) → not (is_some (first_unknown known rows)) ≡ list_all (knows_row known) rows
+rows_known known [] = refl
+rows_known known (row ∷ rows) =
+    first_of_two (unknown_in known row) (first_unknown known rows)
+    ∙ (λ i. leaf_known (known row.id) (λ rev. record { seq = row.seq; id = row.id; rev = rev }) row.leaves i && rows_known known rows i)
+  where
+    first_of_two : (o rest : Option Leaf) → not (is_some (option_or o rest)) ≡ (not (is_some o) && not (is_some rest))
+    first_of_two None rest = refl
+    first_of_two (Some u) rest = refl
 
 pub none_unknown : (known : Id → RevId → Bool) (rows : List RowValue) → first_unknown known rows ≡ None → (row : RowValue) → Among row rows → (leaf : RevId) → Among leaf row.leaves → known row.id leaf ≡ true
-none_unknown known [] none row held leaf k = absurd held
-none_unknown known (x ∷ rows) none row held leaf k =
-    let parts = both_none (unknown_in known x) (first_unknown known rows) none in
-    elim held [
-      | inl here ↦ none_found (known row.id) row.leaves (ap (λ (r : RowValue). find (λ rev. not (known r.id rev)) r.leaves) here ∙ mapped_none _ _ parts.0) leaf k
-      | inr there ↦ none_unknown known rows parts.1 row there leaf k
-    ]
+none_unknown known rows none row held leaf k =
+    all_member (known row.id) leaf row.leaves (all_member (knows_row known) row rows (sym (rows_known known rows) ∙ ap (λ o. not (is_some o)) none) held) k

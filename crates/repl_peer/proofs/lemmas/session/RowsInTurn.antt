@@ -1,15 +1,12 @@
 -- Rows, one after another.
-use Rattle.proof_words.proofs.{◌≡◌, ℕ, ◌+◌, ◌<◌, Bool, true, false, ◌&&◌, ◌||◌, List, [], ◌∷◌, ◌++◌, length, map, take, drop, get_or, Option, Some, None, slice_get, IfNone, sym, ap, ◌∙◌, zero, suc, cond-true, cond-false, and_parts, drop_more, take-append-drop, list_any-append, list_all-append, list_any, list_all, bytes_eq, bytes_eq-Decides}
+use Rattle.proof_words.proofs.{◌≡◌, ℕ, ◌+◌, ◌<◌, Bool, true, false, ◌&&◌, ◌||◌, List, [], ◌∷◌, ◌++◌, length, map, take, drop, get_or, Option, Some, None, slice_get, IfNone, sym, ap, ◌∙◌, zero, suc, cond-true, cond-false, and_parts, drop_more, list_any-append, list_all-append, list_any, list_all, bytes_eq, bytes_eq-Decides, take-append-drop}
 use Rattle.couch_base.specs.{EachOnce, Id, RowValue, none_some, some_is, both_false}
 use Rattle.repl_peer.specs.{seq_in}
-
-pub next_of : {X : Type 0} (xs : List X) (i : ℕ) (x : X) → i < length xs → x ≡ get_or xs i x → drop i xs ≡ x ∷ drop (i + 1) xs
-next_of xs i x h is = drop_more xs i x h ∙ ap (λ y. y ∷ drop (i + 1) xs) (sym is)
 
 -- ---- a test of all
 
 pub all_later : {X : Type 0} (test : X → Bool) (xs : List X) (i : ℕ) (x : X) → i < length xs → x ≡ get_or xs i x → test x ≡ true → list_all test (drop i xs) ≡ list_all test (drop (i + 1) xs)
-all_later test xs i x h is so = ap (list_all test) (next_of xs i x h is) ∙ ap (λ b. b && list_all test (drop (i + 1) xs)) so
+all_later test xs i x h is so = ap (list_all test) (drop_more xs i x h ∙ ap (λ y. y ∷ drop (i + 1) xs) (sym is)) ∙ ap (λ b. b && list_all test (drop (i + 1) xs)) so
 
 -- ---- places
 

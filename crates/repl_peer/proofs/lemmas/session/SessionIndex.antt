@@ -1,12 +1,12 @@
 -- The index of the sessions by their replications.
-use Rattle.proof_words.proofs.{◌≡◌, ℕ, ◌-◌, ◌<◌, ◌≤◌, true, false, cond, List, [], ◌∷◌, ◌++◌, map, filter, reverse, length, Option, Some, None, refl, sym, ap, ◌∙◌, subst, inl, inr, arith, get_or, slice_get, AllByRecursion, IsDistinct, option_map, keys_of, lookup, set_value, cond-true, cond-false, eq-eqb, eqb-false, ne_eqb, reverse_onto, length-reverse, get_or-reverse, slice_get_within, get_or_from_slice_get, slice_get-map, slice_get-get_or}
+use Rattle.proof_words.proofs.{◌≡◌, ℕ, ◌-◌, ◌<◌, ◌≤◌, true, false, cond, List, [], ◌∷◌, ◌++◌, map, filter, reverse, length, Option, Some, None, refl, sym, ap, ◌∙◌, subst, inl, inr, arith, get_or, AllByRecursion, IsDistinct, option_map, keys_of, lookup, set_value, cond-true, cond-false, eqb-false, reverse_onto, length-reverse, get_or-reverse, slice_get_within, get_or_from_slice_get, slice_get-map, slice_get-get_or, slice_get, eq-eqb, ne_eqb}
 use Rattle.rev_tree.specs.{SessionId}
 use Rattle.couch_base.specs.{Among, none_some, some_is, Among-push}
 use Rattle.repl_log.specs.declared.replication.RepId.{RepId}
 use Rattle.repl_log.specs.{EntryValue, at_session, IsKeyed, EachSessionOnce, same_rep}
 use Rattle.repl_peer.specs.{SessionValue, is_of, entry_of, with_session, log_of, listed, sessions_of, ids_of, AreListed, IsTableOf, RepIndex, LedgerIndex}
 use Rattle.repl_peer.proofs.lemmas.Members.{Among-filter, Among-at}
-use Rattle.repl_peer.proofs.lemmas.session.SessionTable.{Entries, id_of, with_session-same, sessions_of-set}
+use Rattle.repl_peer.proofs.lemmas.session.SessionTable.{Entries, id_of, IsSame, with_session-same, sessions_of-set, Stored-same}
 
 -- ---- the index
 
@@ -137,3 +137,9 @@ pub listed-set : (ledgered : LedgerIndex) (by_rep : RepIndex) (es : Entries) (st
     → lookup (at_session id) es ≡ Some s → t.id ≡ s.id → t.rep ≡ s.rep → AreListed by_rep (sessions_of (set_value (at_session id) es t))
 listed-set ledgered by_rep es stored id s t law is same of =
     AreListed-set by_rep es id s t law same of (with_session-same ledgered es stored id s s is) (sessions_of-set ledgered es stored id s t is same)
+
+-- and the table with it is right, where its ledger stays too
+pub table-set : (ledgered : LedgerIndex) (by_rep : RepIndex) (es new : Entries) (law : IsTableOf ledgered es × AreListed by_rep (sessions_of es)) (id : SessionId) (s t : SessionValue)
+    → lookup (at_session id) es ≡ Some s → new ≡ set_value (at_session id) es t → IsSame s t → IsTableOf ledgered new × AreListed by_rep (sessions_of new)
+table-set ledgered by_rep es new law id s t is set same =
+    (Stored-same ledgered es law.0 id s t is new set same, subst (λ xs. AreListed by_rep (sessions_of xs)) (sym set) (listed-set ledgered by_rep es law.0 id s t law.1 is same.id same.rep))

@@ -1,5 +1,5 @@
 -- The table of sessions: its look-ups and its writes, as contracts see them.
-use Rattle.proof_words.proofs.{◌≡◌, ℕ, ◌<◌, ◌≤◌, nat_lt, ◌==◌, ◌&&◌, ◌||◌, true, false, cond, if◌then◌else◌, Bool, List, [], ◌∷◌, ◌++◌, map, Option, Some, None, is_some, Result, Ok, Err, OnOk, OnErr, refl, sym, ap, ◌∙◌, subst, IsDistinct, option_map, keys_of, lookup, set_value, lt-ltb, le-ltb, keys-set_value, set_value_same}
+use Rattle.proof_words.proofs.{◌≡◌, ℕ, nat_lt, ◌==◌, ◌&&◌, ◌||◌, true, false, cond, if◌then◌else◌, Bool, List, [], ◌∷◌, ◌++◌, map, Option, Some, None, is_some, Result, Ok, Err, OnOk, OnErr, refl, sym, ap, ◌∙◌, subst, IsDistinct, option_map, keys_of, lookup, set_value, keys-set_value, set_value_same}
 use Rattle.rev_core.specs.{RevId}
 use Rattle.rev_tree.specs.{SessionId}
 use Rattle.rev_tree.proofs.{none_of}
@@ -158,7 +158,7 @@ started-base : (sessions : List SessionValue) (rep : RepId) (base : Option Sessi
 started-base sessions rep None start = refl
 started-base sessions rep (Some base) start = started-on_base start (base_in sessions rep base)
 
-begin_in-started : (sessions : List SessionValue) (id : SessionId) (b : Beginning) (r : Result ℕ TargetFault) → holds sessions id ≡ false → r ≡ recorded_by sessions b.rep b.base
+pub begin_in-started : (sessions : List SessionValue) (id : SessionId) (b : Beginning) (r : Result ℕ TargetFault) → holds sessions id ≡ false → r ≡ recorded_by sessions b.rep b.base
     → begin_in sessions id b ≡ goal_answer b.start b.goal (started b.start r)
 begin_in-started sessions id b r new is =
     ap (λ c. cond c (Err faults.SessionExists) (goal_answer b.start b.goal (base_answer sessions b.rep b.base b.start))) new
@@ -169,37 +169,18 @@ pub begin_in-exists : (sessions : List SessionValue) (id : SessionId) (b : Begin
 begin_in-exists sessions id b there =
     ap (λ c. cond c (Err faults.SessionExists) (goal_answer b.start b.goal (base_answer sessions b.rep b.base b.start))) (sym there)
 
-pub begin_in-no_base : (sessions : List SessionValue) (id : SessionId) (b : Beginning) (fault : TargetFault) → holds sessions id ≡ false → Err fault ≡ recorded_by sessions b.rep b.base
-    → Err fault ≡ begin_in sessions id b
-begin_in-no_base sessions id b fault new is = sym (begin_in-started sessions id b (Err fault) new is)
+-- what a base and a goal answer, by the two tests
+abbrev started_at : ℕ → Bool → Bool → Result (Unit {0}) TargetFault
+started_at recorded above below = if above then Err (faults.StartAboveBase recorded) else (if below then Err faults.GoalBelowStart else Ok tt)
 
-pub begin_in-above : (sessions : List SessionValue) (id : SessionId) (b : Beginning) (recorded : ℕ) → holds sessions id ≡ false → Ok recorded ≡ recorded_by sessions b.rep b.base → recorded < b.start
-    → Err (faults.StartAboveBase recorded) ≡ begin_in sessions id b
-begin_in-above sessions id b recorded new is above =
-    let told : nat_lt recorded b.start ≡ true = lt-ltb recorded b.start above in
-    sym
-    (begin_in-started sessions id b (Ok recorded) new is
-    ∙ ap (λ c. goal_answer b.start b.goal (cond c (Err (faults.StartAboveBase recorded)) (Ok tt))) told)
-
-reaches : (start goal recorded : ℕ) → start ≤ recorded → goal_answer start goal (started start (Ok recorded)) ≡ cond (nat_lt goal start) (Err faults.GoalBelowStart) (Ok tt)
-reaches start goal recorded within =
-    ap (λ b. goal_answer start goal (cond b (Err (faults.StartAboveBase recorded)) (Ok tt))) (le-ltb recorded start within)
-
-pub begin_in-below : (sessions : List SessionValue) (id : SessionId) (b : Beginning) (recorded : ℕ) → holds sessions id ≡ false → Ok recorded ≡ recorded_by sessions b.rep b.base → b.start ≤ recorded → b.goal < b.start
-    → Err faults.GoalBelowStart ≡ begin_in sessions id b
-begin_in-below sessions id b recorded new is within below =
-    sym
-    (begin_in-started sessions id b (Ok recorded) new is
-    ∙ reaches b.start b.goal recorded within
-    ∙ ap (λ c. cond c (Err faults.GoalBelowStart) (Ok tt)) (lt-ltb b.goal b.start below))
-
-pub begin_in-ok : (sessions : List SessionValue) (id : SessionId) (b : Beginning) (recorded : ℕ) → holds sessions id ≡ false → Ok recorded ≡ recorded_by sessions b.rep b.base → b.start ≤ recorded → b.start ≤ b.goal
-    → Ok tt ≡ begin_in sessions id b
-begin_in-ok sessions id b recorded new is within above =
-    sym
-    (begin_in-started sessions id b (Ok recorded) new is
-    ∙ reaches b.start b.goal recorded within
-    ∙ ap (λ c. cond c (Err faults.GoalBelowStart) (Ok tt)) (le-ltb b.goal b.start above))
+pub begin_in-told : (sessions : List SessionValue) (id : SessionId) (b : Beginning) (recorded : ℕ) (above below : Bool) → holds sessions id ≡ false → Ok recorded ≡ recorded_by sessions b.rep b.base → nat_lt recorded b.start ≡ above → nat_lt b.goal b.start ≡ below
+    → started_at recorded above below ≡ begin_in sessions id b
+begin_in-told sessions id b recorded above below new is up down =
+    (λ i. started_at recorded (sym up i) (sym down i)) ∙ by (nat_lt recorded b.start) ∙ sym (begin_in-started sessions id b (Ok recorded) new is)
+  where
+    by : (c : Bool) → started_at recorded c (nat_lt b.goal b.start) ≡ goal_answer b.start b.goal (cond c (Err (faults.StartAboveBase recorded)) (Ok tt))
+    by true = refl
+    by false = refl
 
 -- only a new session begins
 new_at : (b : Bool) (r : Result (Unit {0}) TargetFault) → Ok tt ≡ cond b (Err faults.SessionExists) r → b ≡ false

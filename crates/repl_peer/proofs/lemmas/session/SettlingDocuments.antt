@@ -1,5 +1,5 @@
 -- The documents of a parcel, one after another.
-use Rattle.proof_words.proofs.{◌≡◌, ℕ, ◌+◌, ◌-◌, ◌<◌, ◌≤◌, Bool, true, false, ◌&&◌, ◌||◌, List, [], ◌∷◌, ◌++◌, length, length-append, take, drop, reverse, Option, Some, None, Result, Ok, Err, IfErr, slice_get, zero, suc, refl, sym, ap, ◌∙◌, subst, arith, or-false, or_assoc, and_parts, and_from, cond-true, cond-false, cond_both, list_any-append, list_all-append, list_all, get_or, length-drop, drop_more, take_more, take_all, reverse-reverse, reverse-append, length-reverse, MatchOption, bytes_eq}
+use Rattle.proof_words.proofs.{◌≡◌, ℕ, ◌+◌, ◌-◌, ◌<◌, ◌≤◌, Bool, true, false, ◌&&◌, ◌||◌, List, [], ◌∷◌, ◌++◌, length, length-append, take, drop, reverse, Option, Some, None, Result, Ok, Err, IfErr, slice_get, zero, suc, refl, sym, ap, ◌∙◌, subst, arith, or-false, or_assoc, and_parts, and_from, cond-true, cond-false, cond_both, list_any-append, list_all-append, list_all, get_or, length-drop, drop_more, take_more, reverse-reverse, reverse-append, length-reverse, MatchOption, bytes_eq, take_all}
 use Rattle.rev_core.specs.{is_among, RevId}
 use Rattle.rev_tree.specs.{Origin}
 use Rattle.doc_json.specs.Document.{Document}

@@ -1,27 +1,15 @@
 -- What settling keeps, in full or as far as it came: the peer's law, and all that covers.
-use Rattle.proof_words.proofs.{◌≡◌, ℕ, ◌+◌, ◌<◌, ◌^◌, List, [], ◌∷◌, ◌++◌, Bool, true, false, cond, Option, Some, None, refl, sym, ap, ◌∙◌, subst, inl, inr, arith, nat_lt, list_all, false≢true, length-append, map_push}
-use Rattle.rev_core.specs.{RevId, is_among}
-use Rattle.rev_tree.specs.{has, merged, is_same, answer_of, has-merged_given, has-same, Contradiction, Origin, SessionId}
+use Rattle.proof_words.proofs.{◌≡◌, ℕ, ◌+◌, ◌<◌, ◌^◌, List, [], ◌∷◌, ◌++◌, Bool, true, refl, sym, ap, ◌∙◌, subst, inl, inr, arith, list_all, map_push, length-append}
+use Rattle.rev_core.specs.{is_among}
+use Rattle.rev_tree.specs.{has, SessionId}
 use Rattle.doc_json.specs.Document.{Document}
-use Rattle.couch_base.specs.{Among, none_some, DatabaseValue, tree_of, with_tree, most, WindowValue, IsWindow, ParcelValue, put_told, put_answer, is_changed, after_put, content_of, IsLater, IsLater-same, IsLater-after_put, Among-left, Among-push, each_push, all_member}
+use Rattle.couch_base.specs.{Among, DatabaseValue, tree_of, WindowValue, IsWindow, ParcelValue, after_put, IsLater, IsLater-same, IsLater-after_put, Among-left, Among-push, each_push, all_member}
 use Rattle.range_front.specs.{bounds, end_of, IsFront-appended, bounds-appended, end_of-appended, is_done-appended, low_water-appended, is_window-within, is_window-is_done, IsFront-finished, bounds-finished, end_of-finished, is_done-finished_cases, low_water-finished}
-use Rattle.repl_peer.specs.{PeerValue, SessionValue, WrittenValue, RefusedValue, written_of, contradiction_of, rightly_refused, CoversWindow, fed, is_full, settle_docs, has_row, settling_of, marked, after_append, after_record, after_conclude, StandsIn, LawfulSession, LawfulSessions, Keeps, IsLaterPeer}
-use Rattle.repl_peer.proofs.lemmas.peer.WritesStand.{changed_tree, put_stands}
+use Rattle.repl_peer.specs.{PeerValue, SessionValue, WrittenValue, RefusedValue, written_of, rightly_refused, CoversWindow, fed, settle_docs, has_row, settling_of, marked, after_append, after_record, after_conclude, StandsIn, LawfulSession, LawfulSessions, Keeps, IsLaterPeer}
+use Rattle.repl_peer.proofs.lemmas.peer.WritesStand.{put_holds, put_stands}
 use Rattle.repl_peer.proofs.lemmas.peer.LaterPeers.{IsLaterPeer-same, IsLaterPeer-later, covers-later, session_law}
 use Rattle.repl_peer.proofs.lemmas.session.WindowsFollow.{windows-consecutive, window-above, one_window}
 use Rattle.repl_peer.proofs.lemmas.session.Changes.{Change, Kept, Stored, Refused, Arrived, Marked, Recorded, changed, written, after_change, Source, May, KeptByChanges, Walked, documents, mark, LeavesAfter, ends_keep, append_keep, record_keep, conclude_keep}
-
--- ---- a put that isn't refused holds its ancestry
-
-put_holds : (db : DatabaseValue) (d : Document) (o : Origin) → contradiction_of db d ≡ None → is_full (put_answer db d) ≡ false → (r : RevId) → is_among r d.ancestry ≡ true → has (tree_of (after_put db d o).docs d.id) r ≡ true
-put_holds db d o none room r given = go (contradiction_of db d) (is_same (tree_of db.docs d.id) d.ancestry) (nat_lt db.update_seq most) none refl room
-  where
-    go : (c : Option Contradiction) (same left : Bool) → c ≡ None → is_same (tree_of db.docs d.id) d.ancestry ≡ same → is_full (put_told (answer_of c same) left (db.update_seq + 1)) ≡ false
-        → has (tree_of (cond (is_changed (put_told (answer_of c same) left (db.update_seq + 1))) (with_tree db d.id (merged (tree_of db.docs d.id) d.ancestry (content_of d.deleted d.body) o)) db).docs d.id) r ≡ true
-    go (Some c) same left e s f = absurd (none_some c (sym e))
-    go None true left e s f = has-same (tree_of db.docs d.id) d.ancestry r s given
-    go None false true e s f = ap (λ t. has t r) (changed_tree db d.id (merged (tree_of db.docs d.id) d.ancestry (content_of d.deleted d.body) o)) ∙ has-merged_given (tree_of db.docs d.id) d.ancestry (content_of d.deleted d.body) o r given
-    go None false false e s f = absurd (false≢true (sym f))
 
 -- ---- what each change of a session keeps
 

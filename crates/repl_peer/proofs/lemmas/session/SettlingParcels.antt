@@ -1,5 +1,6 @@
 -- What settling a parcel answers and leaves.
-use Rattle.proof_words.proofs.{◌≡◌, ℕ, ◌-◌, Bool, List, [], Result, Ok, Err, sym, ap, ◌∙◌, subst, arith, Vec}
+use Rattle.proof_words.proofs.{◌≡◌, ℕ, ◌-◌, Bool, List, [], Result, Ok, Err, sym, ap, ◌∙◌, subst, arith}
+use Rattle.std.specs.Global.{Vec}
 use Rattle.rev_core.specs.{RevId}
 use Rattle.doc_json.specs.Document.{Document}
 use Rattle.couch_base.specs.{Id, DatabaseValue, WindowValue, ParcelValue}

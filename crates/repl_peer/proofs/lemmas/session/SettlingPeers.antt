@@ -1,51 +1,16 @@
 -- What settling over the parts of a peer gives of the peer.
-use Rattle.proof_words.proofs.{◌≡◌, Bool, true, false, not, cond, if◌then◌else◌, ◌&&◌, ◌||◌, List, [], ◌∷◌, Option, Some, None, Result, Ok, Err, refl, sym, ap, ◌∙◌, subst, inl, inr, find, list_all, option_map, option_or, and_from, and_left, and_right, cond_both, cond-true, cond-false, or_cases, or_left, or_right}
+use Rattle.proof_words.proofs.{◌≡◌, Bool, true, false, not, is_some, if◌then◌else◌, ◌||◌, List, [], ◌∷◌, Option, Some, None, Result, Ok, Err, refl, sym, ap, ◌∙◌, subst, inl, inr, list_all, cond_both, cond-true, cond-false, or_cases, or_left, or_right}
 use Rattle.rev_core.specs.{RevId}
 use Rattle.rev_tree.specs.{has, SessionId, same_tests}
 use Rattle.doc_json.specs.Document.{Document}
-use Rattle.couch_base.specs.{Id, tree_of, RowValue, WindowValue, Among, none_some, ParcelValue, Among-map, Among-mapped, any_member, any_from}
-use Rattle.repl_peer.specs.{PeerValue, SessionValue, is_of, session_in, with_session, in_ledger, covers, knows_row, covers_window, unknown_in, first_unknown, Leaf, found_answer, Settling, settle_docs, settle_at, window_in, settle_check, with_settling, settling_of, with_done, after_all, SettlesAt, Settles, SettleGives, with_mark, PartsSettled, PartsSettle, PartsGive, in_ledgers, is_ledgered, Indexes, LedgerIndex, Settled, TargetFault}
+use Rattle.couch_base.specs.{Id, tree_of, WindowValue, Among, ParcelValue, Among-map, Among-mapped, any_member, any_from}
+use Rattle.repl_peer.specs.{PeerValue, SessionValue, is_of, session_in, with_session, in_ledger, covers, knows_row, covers_window, first_unknown, found_answer, Settling, settle_docs, settle_at, window_in, settle_check, with_settling, settling_of, with_done, after_all, SettlesAt, Settles, SettleGives, with_mark, PartsSettled, PartsSettle, PartsGive, in_ledgers, is_ledgered, Indexes, LedgerIndex, Settled, TargetFault}
 use Rattle.repl_peer.proofs.lemmas.session.AddedToLedgerIndex.{or_held}
 use Rattle.repl_peer.specs.declared.fault.TargetFault.TheVariants as faults
 use Rattle.repl_peer.proofs.lemmas.peer.LaterPeers.{with_session_holds}
 use Rattle.repl_peer.proofs.lemmas.session.Changes.{with_session-twice}
+use Rattle.repl_peer.proofs.lemmas.session.FirstUnknownLeaf.{rows_known}
 use Rattle.repl_peer.proofs.lemmas.session.SettlingChecks.{passed}
-
--- ---- leaves
-
-none_unknown : (test : RevId → Bool) (leaves : List RevId) (f : RevId → Leaf) → option_map f (find (λ r. not (test r)) leaves) ≡ None → list_all test leaves ≡ true
-none_unknown test [] f h = refl
-none_unknown test (r ∷ leaves) f h =
-    elim (test r) as (λ b. test r ≡ b → option_map f (cond (not b) (Some r) (find (λ r. not (test r)) leaves)) ≡ None → (b && list_all test leaves) ≡ true) [
-      | true ↦ λ _ k. none_unknown test leaves f k
-      | false ↦ λ _ k. absurd (none_some (f r) (sym k))
-    ] refl h
-
-some_unknown : (test : RevId → Bool) (leaves : List RevId) (f : RevId → Leaf) (u : Leaf) → option_map f (find (λ r. not (test r)) leaves) ≡ Some u → list_all test leaves ≡ false
-some_unknown test [] f u h = absurd (none_some u h)
-some_unknown test (r ∷ leaves) f u h =
-    elim (test r) as (λ b. test r ≡ b → option_map f (cond (not b) (Some r) (find (λ r. not (test r)) leaves)) ≡ Some u → (b && list_all test leaves) ≡ false) [
-      | true ↦ λ _ k. some_unknown test leaves f u k
-      | false ↦ λ _ k. refl
-    ] refl h
-
-known_step : (known : Id → RevId → Bool) (row : RowValue) (rows : List RowValue) → (first_unknown known rows ≡ None → list_all (knows_row known) rows ≡ true)
-    → (o : Option Leaf) → unknown_in known row ≡ o → option_or o (first_unknown known rows) ≡ None → list_all (knows_row known) (row ∷ rows) ≡ true
-known_step known row rows rest None e k = and_from (knows_row known row) (list_all (knows_row known) rows) (none_unknown (known row.id) row.leaves _ e) (rest k)
-known_step known row rows rest (Some u) e k = absurd (none_some u (sym k))
-
-all_known : (known : Id → RevId → Bool) (rows : List RowValue) → first_unknown known rows ≡ None → list_all (knows_row known) rows ≡ true
-all_known known [] h = refl
-all_known known (row ∷ rows) h = known_step known row rows (all_known known rows) (unknown_in known row) refl h
-
-unknown_step : (known : Id → RevId → Bool) (row : RowValue) (rows : List RowValue) (u : Leaf) → (first_unknown known rows ≡ Some u → list_all (knows_row known) rows ≡ false)
-    → (o : Option Leaf) → unknown_in known row ≡ o → option_or o (first_unknown known rows) ≡ Some u → list_all (knows_row known) (row ∷ rows) ≡ false
-unknown_step known row rows u rest None e k = and_right (knows_row known row) (list_all (knows_row known) rows) (rest k)
-unknown_step known row rows u rest (Some v) e k = and_left (knows_row known row) (list_all (knows_row known) rows) (some_unknown (known row.id) row.leaves _ v e)
-
-not_known : (known : Id → RevId → Bool) (rows : List RowValue) (u : Leaf) → first_unknown known rows ≡ Some u → list_all (knows_row known) rows ≡ false
-not_known known [] u h = absurd (none_some u h)
-not_known known (row ∷ rows) u h = unknown_step known row rows u (not_known known rows u) (unknown_in known row) refl h
 
 -- ---- one session in the place of another
 
@@ -79,7 +44,7 @@ module _ (refuses : Document → Bool) (known : Id → RevId → Bool) (p : Peer
       let covered : known ≡ covers documents =
       agreed known (with_settling p after) agrees ∙ ap covers q
       ∙ (λ i id r. has (tree_of z.db.docs id) r || same_ledgers p.sessions z.session t id r refl refl i) in
-      let known_all : covers_window documents w ≡ true = ap (λ k. list_all (knows_row k) w.rows) (sym covered) ∙ all_known known w.rows h.covered in
+      let known_all : covers_window documents w ≡ true = ap (λ k. list_all (knows_row k) w.rows) (sym covered) ∙ sym (rows_known known w.rows) ∙ ap (λ o. not (is_some o)) h.covered in
       let whole : with_settling p (with_mark w parcel z) ≡ after_all refuses p s w parcel =
       (λ i. record documents { sessions = sym (with_session-twice p.sessions z.session t refl) i })
       ∙ sym (cond-true (covers_window documents w) (record documents { sessions = with_session documents.sessions t }) documents known_all) in
@@ -89,7 +54,7 @@ module _ (refuses : Document → Bool) (known : Id → RevId → Bool) (p : Peer
       let documents : PeerValue = with_settling p z in
       let q : with_settling p after ≡ documents = ap (with_settling p) h.0.settling in
       let covered : known ≡ covers documents = agreed known (with_settling p after) agrees ∙ ap covers q in
-      let missing : covers_window documents w ≡ false = ap (λ k. list_all (knows_row k) w.rows) (sym covered) ∙ not_known known w.rows _ h.1 in
+      let missing : covers_window documents w ≡ false = ap (λ k. list_all (knows_row k) w.rows) (sym covered) ∙ sym (rows_known known w.rows) ∙ ap (λ o. not (is_some o)) h.1 in
       let whole : documents ≡ after_all refuses p s w parcel =
       sym (cond-false (covers_window documents w) (record documents { sessions = with_session documents.sessions (with_done w parcel z.session) }) documents missing) in
       (record { all = h.0.all; peer = q ∙ whole }, ap (λ k. first_unknown k w.rows) (sym (agreed known (with_settling p after) agrees)) ∙ h.1)

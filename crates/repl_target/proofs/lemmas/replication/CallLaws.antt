@@ -1,13 +1,12 @@
 -- What calls keep: the law, what covers, and the windows that are stored.
-use Rattle.proof_words.proofs.{◌≡◌, ℕ, ◌<◌, ◌^◌, Bool, cond, List, Option, Result, Ok, Err, refl, sym, ap, ◌∙◌, subst, inl, inr, arith, cond_both}
-use Rattle.rev_core.specs.{RevId}
+use Rattle.proof_words.proofs.{◌≡◌, ℕ, ◌<◌, ◌^◌, Bool, cond, List, Result, Ok, Err, refl, sym, ap, ◌∙◌, subst, inl, inr, arith, cond_both}
 use Rattle.rev_tree.specs.{SessionId}
 use Rattle.doc_json.specs.Document.{Document}
 use Rattle.doc_json.specs.{Choice}
-use Rattle.couch_base.specs.{Among, Id, DatabaseValue, LawfulDatabase, WindowValue, page, IsWindow, IsWindow-page, edited, BaseFault, Among-map, Among-push}
+use Rattle.couch_base.specs.{Among, DatabaseValue, LawfulDatabase, ParcelValue, WindowValue, page, IsWindow, IsWindow-page, Among-map, Among-push}
 use Rattle.repl_log.specs.declared.replication.RepId.{RepId}
-use Rattle.repl_peer.specs.{TargetFault, PeerValue, SessionValue, is_of, with_session, load_edited, begin_answer, new_session, begun, with_window, after_settle, LawfulSessions}
-use Rattle.repl_peer.proofs.{Change, Stored, changed, Source, May, KeptByChanges, ends_keep, append_keep, record_keep, conclude_keep, after_settle_ends, after_stop_ends, AreWindows, StaysLawful, stays_same, law_kept}
+use Rattle.repl_peer.specs.{Settled, TargetFault, PeerValue, SessionValue, SettleGives, is_of, with_session, begin_answer, new_session, begun, with_window, after_settle, LawfulSessions}
+use Rattle.repl_peer.proofs.{edit_by_load, Change, Stored, changed, Source, May, KeptByChanges, ends_keep, append_keep, record_keep, conclude_keep, after_settle_ends, after_stop_ends, settle_ends, AreWindows, StaysLawful, stays_same, law_kept}
 use Rattle.repl_target.proofs.lemmas.replication.FetchedDocuments.{of_run, run_keeps}
 use Rattle.repl_target.specs.{IsTiedWindow, Call, Load, Edit, Begin, Append, Settle, Stop, Record, Conclude, after_call, after_some, IsPageOf, IsGrown, EachStored}
 use Rattle.repl_target.proofs.lemmas.ties.TiedPages.{page_within, IsTiedWindow-page}
@@ -68,10 +67,6 @@ module _ (S : SessionValue → Type 0) (stays : (s t : SessionValue) → Stays s
   pub each-kept : (refuses : Document → Bool) (Of : Source) → ((s : SessionValue) (w : WindowValue) → Of.window s w → w.life ≡ s.life → S s → S (with_window w s (Ok tt))) → KeptByChanges refuses Of (λ p _. Each p.sessions)
   each-kept refuses Of more p s c m may h = each-with p.sessions (changed s c) (each-changed refuses Of p s c may (more s) (h s m)) h
 
-  each-edited : (p : PeerValue) (id : Id) (deleted : Bool) (body : List ℕ) (e : Result (RevId × Option RevId) BaseFault) → Each p.sessions → Each (load_edited p id deleted body e).sessions
-  each-edited p id deleted body (Ok e) h = h
-  each-edited p id deleted body (Err fault) h = h
-
   each-begun : (p : PeerValue) (s : SessionValue) (r : Result (Unit {0}) TargetFault) → (r ≡ Ok tt → S s) → Each p.sessions → Each (begun p s r).sessions
   each-begun p s (Err fault) new h = h
   each-begun p s (Ok done) new h = λ t m. elim m [ inl e ↦ subst S (sym e) (new refl) | inr o ↦ h t o ]
@@ -80,9 +75,13 @@ module _ (S : SessionValue → Type 0) (stays : (s t : SessionValue) → Stays s
   abbrev growing : Source
   growing = record { doc = λ _. Unit {0}; window = λ s w. w.life ≡ s.life → S s → S (with_window w s (Ok tt)) }
 
+  -- a settling, however it ends
+  pub settling_keeps : (refuses : Document → Bool) (p : PeerValue) (id : SessionId) (parcel : ParcelValue) (result : Result Settled TargetFault) (q : PeerValue) → SettleGives refuses p id parcel result q → Each p.sessions → Each q.sessions
+  settling_keeps refuses p id parcel result q gives h = ends_keep refuses growing (λ q. Each q.sessions) (each-kept refuses growing (λ _ _ k. k)) p id parcel q (settle_ends refuses p id parcel result q gives) (λ _ _. tt) h
+
   pub call_keeps : (refuses : Document → Bool) (p : PeerValue) (c : Call) → Brings p c → Each p.sessions → Each (after_call refuses p c).sessions
   call_keeps refuses p (Load doc) b h = h
-  call_keeps refuses p (Edit id parent deleted body) b h = each-edited p id deleted body (edited p.db id parent deleted body) h
+  call_keeps refuses p (Edit id parent deleted body) b h = edit_by_load (λ q. Each q.sessions) p (λ _. h) h id parent deleted body
   call_keeps refuses p (Begin session beginning at) b h = each-begun p (new_session session beginning at) (begin_answer p session beginning) b h
   call_keeps refuses p (Append session window) b h = append_keep refuses growing (λ q. Each q.sessions) (each-kept refuses growing (λ _ _ k. k)) p session window b h
   call_keeps refuses p (Settle session parcel) b h = ends_keep refuses growing (λ q. Each q.sessions) (each-kept refuses growing (λ _ _ k. k)) p session parcel (after_settle refuses p session parcel) (after_settle_ends refuses p session parcel) (λ _ _. tt) h

@@ -4,25 +4,22 @@ use Rattle.repl_net.specs.declared.fault.NetFault.TheVariants as faults
 use Rattle.repl_net.proofs.{at_of, tied_two}
 use Rattle.repl_net.proofs.net.Net.audit.Goals as goal
 
-pub returns-clause-clean : goal.returns-clause-clean
-returns-clause-clean g c =
+pub returns : goal.returns
+returns g c =
     let items = c.args.self.now in
     let from : slice_get items c.args.source ≡ Some c.in-Some.from.now = sym c.peer.ensures ∙ ap option_copied c.in-Some.is in
     let into : slice_get items c.args.target ≡ Some c.in-Some-peer.into.now = sym c.peer-2.ensures ∙ ap option_copied c.in-Some-peer.is in
-    λ apart. c.in_ok-audit.ensures.tied (tied_two items c.args.source c.args.target c.in-Some.from.now c.in-Some-peer.into.now (option_copied c.args.chosen) c.law.ensures.net.tied from into apart)
-
-pub returns-clause-answer : goal.returns-clause-answer
-returns-clause-answer g c =
-    let items = c.args.self.now in
-    let from : slice_get items c.args.source ≡ Some c.in-Some.from.now = sym c.peer.ensures ∙ ap option_copied c.in-Some.is in
-    let into : slice_get items c.args.target ≡ Some c.in-Some-peer.into.now = sym c.peer-2.ensures ∙ ap option_copied c.in-Some-peer.is in
-    inr (inr (
-      c.in-Some.from.now.1,
-      c.in-Some-peer.into.now.1,
-      at_of items c.args.source c.in-Some.from.now from,
-      at_of items c.args.target c.in-Some-peer.into.now into,
-      c.in_ok-audit.ensures.answer,
-    ))
+    record {
+      answer =
+          inr (inr (
+            c.in-Some.from.now.1,
+            c.in-Some-peer.into.now.1,
+            at_of items c.args.source c.in-Some.from.now from,
+            at_of items c.args.target c.in-Some-peer.into.now into,
+            c.in_ok-audit.ensures.answer,
+          ));
+      clean = λ apart. c.in_ok-audit.ensures.tied (tied_two items c.args.source c.args.target c.in-Some.from.now c.in-Some-peer.into.now (option_copied c.args.chosen) c.law.ensures.net.tied from into apart);
+    }
 
 pub returns-in_err-audit-clause-answer : goal.returns-in_err-audit-clause-answer
 returns-in_err-audit-clause-answer g c =

@@ -9,13 +9,12 @@ whole c =
     ap (λ (s : SessionValue). low_water s.front == s.goal) (sym c.self.view_is)
     ∙ eq-eqb (low_water c.self.inside.front.front) c.self.inside.goal (sym c.low_water-low_water.ensures.value ∙ c.if-low_water-self.false)
 
-pub returns-clause-answer : goal.returns-clause-answer
-returns-clause-answer c =
+pub returns : goal.returns
+returns c =
     let s = c.args.self.now in
-    ap Ok (c.report.ensures ∙ ap report_of c.record.ensures.session)
-    ∙ ap (λ b. cond b (Ok (report_of (record s { recorded = low_water s.front }))) (Err (faults.Unfinished (low_water s.front)))) (sym (whole c))
-
-pub returns-clause-session : goal.returns-clause-session
-returns-clause-session c =
-    let s = c.args.self.now in
-    c.record.ensures.session ∙ ap (λ b. cond b (recorded_at c.args.at s) s) (sym (whole c))
+    record {
+      answer =
+          ap Ok (c.report.ensures ∙ ap report_of c.record.ensures.session)
+          ∙ ap (λ b. cond b (Ok (report_of (record s { recorded = low_water s.front }))) (Err (faults.Unfinished (low_water s.front)))) (sym (whole c));
+      session = c.record.ensures.session ∙ ap (λ b. cond b (recorded_at c.args.at s) s) (sym (whole c));
+    }

@@ -6,30 +6,20 @@ use Rattle.repl_peer.specs.{SessionValue, window_bounds, Halts, has_row, Reached
 use Rattle.repl_peer.proofs.{passed_by, room_of, can_finish, grown_by, reached_left, keeps_reached, keeps_marked, gives_from, stopped, ended_err, ended_ok}
 use Rattle.repl_peer.proofs.session.settle.settle_parcel.Goals as goal
 
-pub settle_in_order-stop-requires-clause-rows : goal.settle_in_order-stop-requires-clause-rows
-settle_in_order-stop-requires-clause-rows g c =
-    let docs = ap (λ (p : ParcelValue). p.docs) c.into_parts-docs.ensures.parts in
-    let p = c.in_ok-checked.ensures.ok in
-    let q = passed_by c.args.session.now c.args.parcel _ _ _ p in
-    (p.window, p.at, subst (λ (l : List Document). list_all (has_row p.window) l ≡ true) docs q.rows)
-
-pub settle_in_order-stop-requires-clause-remains : goal.settle_in_order-stop-requires-clause-remains
-settle_in_order-stop-requires-clause-remains g c = λ w at.
-    let p = c.in_ok-checked.ensures.ok in
-    let q = passed_by c.args.session.now c.args.parcel _ _ _ p in
-    let same = same_Some p.window w (sym p.at ∙ at) in
-    subst (λ (v : WindowValue). is_done c.args.session.now.front v.lo v.hi ≡ false) same q.remains
-
-pub settle_in_order-stop-requires-clause-room : goal.settle_in_order-stop-requires-clause-room
-settle_in_order-stop-requires-clause-room g c =
+pub settle_in_order-stop-requires : goal.settle_in_order-stop-requires
+settle_in_order-stop-requires g c =
     let docs = ap (λ (p : ParcelValue). p.docs) c.into_parts-docs.ensures.parts in
     let p = c.in_ok-checked.ensures.ok in
     let q = passed_by c.args.session.now c.args.parcel _ _ _ p in
     let room = room_of c.args.session.now p.window c.args.parcel q.room in
-    subst (λ (l : List Document). c.args.session.now.counts.read + length l ≤ most) docs room.read
+    record {
+      rows = (p.window, p.at, subst (λ (l : List Document). list_all (has_row p.window) l ≡ true) docs q.rows);
+      remains = λ w at. subst (λ (v : WindowValue). is_done c.args.session.now.front v.lo v.hi ≡ false) (same_Some p.window w (sym p.at ∙ at)) q.remains;
+      room = subst (λ (l : List Document). c.args.session.now.counts.read + length l ≤ most) docs room.read;
+    }
 
-pub returns-in-Err-clause-gives : goal.returns-in-Err-clause-gives
-returns-in-Err-clause-gives g c =
+pub returns-in-Err : goal.returns-in-Err
+returns-in-Err g c =
     let docs = ap (λ (p : ParcelValue). p.docs) c.into_parts-docs.ensures.parts in
     let p = c.in_ok-checked.ensures.ok in
     let before = settling_at c.args.db.now c.args.session.now in
@@ -38,45 +28,38 @@ returns-in-Err-clause-gives g c =
     let known = known_of c.settle_in_order-stop.new.db c.settle_in_order-stop.new.ledgered in
     let all = c.into_parts-docs.result.1 in
     let left = c.settle_in_order-stop.new.docs in
+    let reached = c.settle_in_order-stop.ensures.reached p.window p.at in
     let n : length all.items - length left.items ≡ c.len-all.result - c.len.result = omega (arith, all.ok, left.ok, c.len-all.ensures, c.len.ensures) in
-    gives_from refuses known before after c.args.parcel _ _ _ _ p
-    (stopped refuses known p.window before after c.args.parcel all.items (c.len-all.result - c.len.result) left c.in-Err.cause (sym docs)
-    (subst (λ (k : ℕ). Reached refuses p.window before all.items k left.items after) n (c.settle_in_order-stop.ensures.reached p.window p.at))
-    (subst (λ (k : ℕ). Halts refuses p.window before all.items k c.in-Err.cause) n (c.in-Err.ensures.why p.window p.at)))
+    record {
+      gives =
+          gives_from refuses known before after c.args.parcel _ _ _ _ p
+          (stopped refuses known p.window before after c.args.parcel all.items (c.len-all.result - c.len.result) left c.in-Err.cause (sym docs)
+          (subst (λ (k : ℕ). Reached refuses p.window before all.items k left.items after) n reached)
+          (subst (λ (k : ℕ). Halts refuses p.window before all.items k c.in-Err.cause) n (c.in-Err.ensures.why p.window p.at)));
+      keeps = keeps_reached _ _ before _ _ _ _ _ _ reached c.settle_in_order-stop.ensures.indexed;
+    }
 
-pub mark_window-requires-clause-stored : goal.mark_window-requires-clause-stored
-mark_window-requires-clause-stored g c =
+pub mark_window-requires : goal.mark_window-requires
+mark_window-requires g c =
     let p = c.in_ok-checked.ensures.ok in
     let bounded = subst (λ (s : SessionValue). window_bounds s.windows ≡ bounds s.front) c.session.view_is c.session.invariant.bounds in
-    let q = passed_by c.args.session.now c.args.parcel _ _ _ p in (
-      p.window,
-      subst (λ (l : List WindowValue). slice_get l c.in_ok-checked.checked.place ≡ Some p.window) (sym c.settle_in_order-stop.ensures.windows) p.at,
-      subst (λ (f : FrontValue). finish_answer f p.window.lo p.window.hi ≡ Ok tt) (sym c.settle_in_order-stop.ensures.front)
-          (can_finish c.args.session.now.front c.args.session.now.windows c.in_ok-checked.checked.place p.window bounded p.at q.remains),
-    )
-
-pub mark_window-requires-clause-checked : goal.mark_window-requires-clause-checked
-mark_window-requires-clause-checked g c =
-    let p = c.in_ok-checked.ensures.ok in
     let q = passed_by c.args.session.now c.args.parcel _ _ _ p in
     let room = room_of c.args.session.now p.window c.args.parcel q.room in
-    let before = settling_at c.args.db.now c.args.session.now in
-    let reached = c.settle_in_order-stop.ensures.reached p.window p.at in
-    let same : c.settle_in_order-stop.new.session.counts.checked ≡ c.args.session.now.counts.checked = (grown_by _ _ before _ _ _ _ reached).checked in
-    omega (arith, room.checked, same, p.leaf_count)
+    let grown = grown_by _ _ (settling_at c.args.db.now c.args.session.now) _ _ _ _ (c.settle_in_order-stop.ensures.reached p.window p.at) in
+    record {
+      none_left = c.in_default.ensures.ok;
+      stored = (
+        p.window,
+        subst (λ (l : List WindowValue). slice_get l c.in_ok-checked.checked.place ≡ Some p.window) (sym c.settle_in_order-stop.ensures.windows) p.at,
+        subst (λ (f : FrontValue). finish_answer f p.window.lo p.window.hi ≡ Ok tt) (sym c.settle_in_order-stop.ensures.front)
+            (can_finish c.args.session.now.front c.args.session.now.windows c.in_ok-checked.checked.place p.window bounded p.at q.remains),
+      );
+      checked = omega (arith, room.checked, grown.checked, p.leaf_count);
+      found = omega (arith, room.found, grown.found, p.asked_count);
+    }
 
-pub mark_window-requires-clause-found : goal.mark_window-requires-clause-found
-mark_window-requires-clause-found g c =
-    let p = c.in_ok-checked.ensures.ok in
-    let q = passed_by c.args.session.now c.args.parcel _ _ _ p in
-    let room = room_of c.args.session.now p.window c.args.parcel q.room in
-    let before = settling_at c.args.db.now c.args.session.now in
-    let reached = c.settle_in_order-stop.ensures.reached p.window p.at in
-    let same : c.settle_in_order-stop.new.session.counts.found ≡ c.args.session.now.counts.found = (grown_by _ _ before _ _ _ _ reached).found in
-    omega (arith, room.found, same, p.asked_count)
-
-pub returns-in-Err-mark_window-clause-gives : goal.returns-in-Err-mark_window-clause-gives
-returns-in-Err-mark_window-clause-gives g c =
+pub returns-in-Err-mark_window : goal.returns-in-Err-mark_window
+returns-in-Err-mark_window g c =
     let docs = ap (λ (p : ParcelValue). p.docs) c.into_parts-docs.ensures.parts in
     let p = c.in_ok-checked.ensures.ok in
     let before = settling_at c.args.db.now c.args.session.now in
@@ -89,29 +72,29 @@ returns-in-Err-mark_window-clause-gives g c =
     let n : length all.items - length left.items ≡ c.len-all.result - c.len.result = omega (arith, all.ok, left.ok, c.len-all.ensures, c.len.ensures) in
     let reached = reached_left refuses p.window before mid all.items c.args.parcel.docs left.items _ (c.len-all.result - c.len.result) (sym docs) n c.in_default.ensures.ok (c.settle_in_order-stop.ensures.reached p.window p.at) in
     let still = subst (λ (l : List WindowValue). slice_get l c.in_ok-checked.checked.place ≡ Some p.window) (sym c.settle_in_order-stop.ensures.windows) p.at in
-    gives_from refuses known before after c.args.parcel _ _ _ _ p
-    (ended_err refuses known p.window before mid.db mid.session after.session c.args.parcel (c.len-all.result - c.len.result) c.in_ok-checked.checked.leaves c.in_ok-checked.checked.asked c.in-Err-mark_window.fault reached (c.in-Err-mark_window.ensures.ends p.window still))
+    record {
+      gives =
+          gives_from refuses known before after c.args.parcel _ _ _ _ p
+          (ended_err refuses known p.window before mid.db mid.session after.session c.args.parcel (c.len-all.result - c.len.result) c.in_ok-checked.checked.leaves c.in_ok-checked.checked.asked c.in-Err-mark_window.fault reached (c.in-Err-mark_window.ensures.ends p.window still));
+      keeps =
+          keeps_marked _ _ _ _ _ (keeps_reached _ _ before _ _ _ _ _ _ (c.settle_in_order-stop.ensures.reached p.window p.at) c.settle_in_order-stop.ensures.indexed)
+          c.mark_window.ensures.id c.mark_window.ensures.rep c.mark_window.ensures.ledger;
+    }
 
 pub overflow_sub-result : goal.overflow_sub-result
 overflow_sub-result g c =
     let p = c.in_ok-checked.ensures.ok in
-    let before = settling_at c.args.db.now c.args.session.now in
-    let grown = grown_by _ _ before _ _ _ _ (c.settle_in_order-stop.ensures.reached p.window p.at) in
-    let old : c.session.inside.counts.written ≡ c.args.session.now.counts.written = ap (λ (s : SessionValue). s.counts.written) c.session.view_is in
-    let new : c.session-2.inside.counts.written ≡ c.mark_window.new.session.counts.written = ap (λ (s : SessionValue). s.counts.written) c.session-2.view_is in
-    omega (arith, grown.written, c.mark_window.ensures.written, old, new)
+    let grown = grown_by _ _ (settling_at c.args.db.now c.args.session.now) _ _ _ _ (c.settle_in_order-stop.ensures.reached p.window p.at) in
+    omega (arith, grown.written, c.mark_window.ensures.written, ap (λ (s : SessionValue). s.counts.written) c.session.view_is, ap (λ (s : SessionValue). s.counts.written) c.session-2.view_is)
 
 pub overflow_sub-result-2 : goal.overflow_sub-result-2
 overflow_sub-result-2 g c =
     let p = c.in_ok-checked.ensures.ok in
-    let before = settling_at c.args.db.now c.args.session.now in
-    let grown = grown_by _ _ before _ _ _ _ (c.settle_in_order-stop.ensures.reached p.window p.at) in
-    let old : c.session.inside.counts.failures ≡ c.args.session.now.counts.failures = ap (λ (s : SessionValue). s.counts.failures) c.session.view_is in
-    let new : c.session-2.inside.counts.failures ≡ c.mark_window.new.session.counts.failures = ap (λ (s : SessionValue). s.counts.failures) c.session-2.view_is in
-    omega (arith, grown.failures, c.mark_window.ensures.failures, old, new)
+    let grown = grown_by _ _ (settling_at c.args.db.now c.args.session.now) _ _ _ _ (c.settle_in_order-stop.ensures.reached p.window p.at) in
+    omega (arith, grown.failures, c.mark_window.ensures.failures, ap (λ (s : SessionValue). s.counts.failures) c.session.view_is, ap (λ (s : SessionValue). s.counts.failures) c.session-2.view_is)
 
-pub returns-clause-gives : goal.returns-clause-gives
-returns-clause-gives g c =
+pub returns : goal.returns
+returns g c =
     let docs = ap (λ (p : ParcelValue). p.docs) c.into_parts-docs.ensures.parts in
     let p = c.in_ok-checked.ensures.ok in
     let before = settling_at c.args.db.now c.args.session.now in
@@ -124,24 +107,13 @@ returns-clause-gives g c =
     let n : length all.items - length left.items ≡ c.len-all.result - c.len.result = omega (arith, all.ok, left.ok, c.len-all.ensures, c.len.ensures) in
     let reached = reached_left refuses p.window before mid all.items c.args.parcel.docs left.items _ (c.len-all.result - c.len.result) (sym docs) n c.in_default.ensures.ok (c.settle_in_order-stop.ensures.reached p.window p.at) in
     let still = subst (λ (l : List WindowValue). slice_get l c.in_ok-checked.checked.place ≡ Some p.window) (sym c.settle_in_order-stop.ensures.windows) p.at in
-    gives_from refuses known before after c.args.parcel _ _ _ _ p
-    (ended_ok refuses known p.window before mid.db mid.session after.session c.args.parcel (c.len-all.result - c.len.result) c.in_ok-checked.checked.leaves c.in_ok-checked.checked.asked _ _ reached (c.in_default-mark_window.ensures.ends p.window still) p.leaf_count p.asked_count
-    (λ i. (ap (λ (s : SessionValue). s.counts.written) c.session-2.view_is ∙ c.mark_window.ensures.written) i - ap (λ (s : SessionValue). s.counts.written) c.session.view_is i)
-    (λ i. (ap (λ (s : SessionValue). s.counts.failures) c.session-2.view_is ∙ c.mark_window.ensures.failures) i - ap (λ (s : SessionValue). s.counts.failures) c.session.view_is i))
-
-pub returns-in-Err-clause-keeps : goal.returns-in-Err-clause-keeps
-returns-in-Err-clause-keeps g c =
-    let p = c.in_ok-checked.ensures.ok in
-    keeps_reached _ _ (settling_at c.args.db.now c.args.session.now) _ _ _ _ _ _ (c.settle_in_order-stop.ensures.reached p.window p.at) c.settle_in_order-stop.ensures.indexed
-
-pub returns-in-Err-mark_window-clause-keeps : goal.returns-in-Err-mark_window-clause-keeps
-returns-in-Err-mark_window-clause-keeps g c =
-    let p = c.in_ok-checked.ensures.ok in
-    keeps_marked _ _ _ _ _ (keeps_reached _ _ (settling_at c.args.db.now c.args.session.now) _ _ _ _ _ _ (c.settle_in_order-stop.ensures.reached p.window p.at) c.settle_in_order-stop.ensures.indexed)
-    c.mark_window.ensures.id c.mark_window.ensures.rep c.mark_window.ensures.ledger
-
-pub returns-clause-keeps : goal.returns-clause-keeps
-returns-clause-keeps g c =
-    let p = c.in_ok-checked.ensures.ok in
-    keeps_marked _ _ _ _ _ (keeps_reached _ _ (settling_at c.args.db.now c.args.session.now) _ _ _ _ _ _ (c.settle_in_order-stop.ensures.reached p.window p.at) c.settle_in_order-stop.ensures.indexed)
-    c.mark_window.ensures.id c.mark_window.ensures.rep c.mark_window.ensures.ledger
+    record {
+      gives =
+          gives_from refuses known before after c.args.parcel _ _ _ _ p
+          (ended_ok refuses known p.window before mid.db mid.session after.session c.args.parcel (c.len-all.result - c.len.result) c.in_ok-checked.checked.leaves c.in_ok-checked.checked.asked _ _ reached (c.in_default-mark_window.ensures.ends p.window still) p.leaf_count p.asked_count
+          (λ i. (ap (λ (s : SessionValue). s.counts.written) c.session-2.view_is ∙ c.mark_window.ensures.written) i - ap (λ (s : SessionValue). s.counts.written) c.session.view_is i)
+          (λ i. (ap (λ (s : SessionValue). s.counts.failures) c.session-2.view_is ∙ c.mark_window.ensures.failures) i - ap (λ (s : SessionValue). s.counts.failures) c.session.view_is i));
+      keeps =
+          keeps_marked _ _ _ _ _ (keeps_reached _ _ before _ _ _ _ _ _ (c.settle_in_order-stop.ensures.reached p.window p.at) c.settle_in_order-stop.ensures.indexed)
+          c.mark_window.ensures.id c.mark_window.ensures.rep c.mark_window.ensures.ledger;
+    }

@@ -1,54 +1,37 @@
 use Rattle.proof_words.proofs.{sym, ap, ◌∙◌, subst, option_copied_mut, on_ok_weaker, on_err_weaker}
 use Rattle.repl_peer.specs.{SessionValue, GivesUnlessMemory, append_in, with_window, found_answer, sessions_of, AreListed, IsTableOf}
-use Rattle.repl_peer.proofs.{appended_same, session_in-at, sessions_of-changed, sessions_of-same, Stored-same, listed-set}
+use Rattle.repl_peer.proofs.{appended_same, session_in-at, sessions_of-changed, sessions_of-same, table-set}
 use Rattle.repl_peer.proofs.session.sessions.Sessions.append.Goals as goal
 
 pub invariant_of-self-2 : goal.invariant_of-self-2
 invariant_of-self-2 c =
-    let there = sym c.get_mut.ensures.value ∙ ap option_copied_mut c.in-Some.is in
-    let same = appended_same c.args.window c.in-Some.session.now c.append.new.self c.append.result c.append.ensures.ok c.append.ensures.err in
-    let set = (c.get_mut.follows.holds c.append.new.self).0 in (
-      Stored-same c.self.inside.ledgered c.self.inside.entries.entries c.self.invariant.0 c.args.id c.in-Some.session.now c.append.new.self there _ set same,
-      subst (λ es. AreListed c.self.inside.by_rep (sessions_of es)) (sym set) (listed-set c.self.inside.ledgered c.self.inside.by_rep c.self.inside.entries.entries c.self.invariant.0 c.args.id c.in-Some.session.now c.append.new.self c.self.invariant.1 there same.id same.rep),
-    )
+    table-set c.self.inside.ledgered c.self.inside.by_rep c.self.inside.entries.entries _ c.self.invariant c.args.id c.in-Some.session.now c.append.new.self (sym c.get_mut.ensures.value ∙ ap option_copied_mut c.in-Some.is) (c.get_mut.follows.holds c.append.new.self).0
+    (appended_same c.args.window c.in-Some.session.now c.append.new.self c.append.result c.append.ensures.ok c.append.ensures.err)
 
-pub returns-clause-answer : goal.returns-clause-answer
-returns-clause-answer c =
-    let there = sym c.get_mut.ensures.value ∙ ap option_copied_mut c.in-Some.is in
-    let found = session_in-at c.self.inside.ledgered c.self.inside.entries.entries c.self.invariant.0 c.args.id _ there in
-    rw (← c.self.view_is) (subst (λ o. GivesUnlessMemory c.append.result (found_answer (append_in c.args.window) o)) (sym found) c.append.ensures.answer)
-
-pub returns-clause-ok : goal.returns-clause-ok
-returns-clause-ok c =
+pub returns : goal.returns
+returns c =
     let es = c.self.inside.entries.entries in
+    let s = c.in-Some.session.now in
+    let t = c.append.new.self in
     let there = sym c.get_mut.ensures.value ∙ ap option_copied_mut c.in-Some.is in
-    let same = appended_same c.args.window c.in-Some.session.now c.append.new.self c.append.result c.append.ensures.ok c.append.ensures.err in
+    let found = session_in-at c.self.inside.ledgered es c.self.invariant.0 c.args.id _ there in
+    let same = appended_same c.args.window s t c.append.result c.append.ensures.ok c.append.ensures.err in
+    let set = ap sessions_of (c.get_mut.follows.holds t).0 in
     let change = λ (s : SessionValue). with_window c.args.window s (append_in c.args.window s) in
-    rw (← c.self.view_is)
-    (on_ok_weaker c.append.result
-    (λ made.
-    ap sessions_of (c.get_mut.follows.holds c.append.new.self).0
-    ∙ sessions_of-changed c.self.inside.ledgered es c.self.invariant.0 c.args.id c.in-Some.session.now c.append.new.self there change same.id made)
-    c.append.ensures.ok)
-
-pub returns-clause-err : goal.returns-clause-err
-returns-clause-err c =
-    let es = c.self.inside.entries.entries in
-    let there = sym c.get_mut.ensures.value ∙ ap option_copied_mut c.in-Some.is in
-    rw (← c.self.view_is)
-    (on_err_weaker c.append.result
-    (λ same.
-    ap sessions_of (c.get_mut.follows.holds c.append.new.self).0
-    ∙ sessions_of-same c.self.inside.ledgered es c.self.invariant.0 c.args.id c.in-Some.session.now c.append.new.self there same)
-    c.append.ensures.err)
+    record {
+      answer = rw (← c.self.view_is) (subst (λ o. GivesUnlessMemory c.append.result (found_answer (append_in c.args.window) o)) (sym found) c.append.ensures.answer);
+      ok = rw (← c.self.view_is) (on_ok_weaker c.append.result (λ made. set ∙ sessions_of-changed c.self.inside.ledgered es c.self.invariant.0 c.args.id s t there change same.id made) c.append.ensures.ok);
+      err = rw (← c.self.view_is) (on_err_weaker c.append.result (λ kept. set ∙ sessions_of-same c.self.inside.ledgered es c.self.invariant.0 c.args.id s t there kept) c.append.ensures.err);
+    }
 
 pub invariant_of-self : goal.invariant_of-self
 invariant_of-self c = subst (λ m. IsTableOf c.self.inside.ledgered m.entries × AreListed c.self.inside.by_rep (sessions_of m.entries)) (sym c.get_mut.follows.holds-at-none) c.self.invariant
 
-pub returns-in_default-clause-answer : goal.returns-in_default-clause-answer
-returns-in_default-clause-answer c =
-    let there = sym c.get_mut.ensures.value ∙ ap option_copied_mut c.in_default.is in
-    rw (← c.self.view_is) (ap (found_answer (append_in c.args.window)) (sym (session_in-at c.self.inside.ledgered c.self.inside.entries.entries c.self.invariant.0 c.args.id _ there)))
-
-pub returns-in_default-clause-err : goal.returns-in_default-clause-err
-returns-in_default-clause-err c = rw (← c.self.view_is) (ap (λ m. sessions_of m.entries) c.get_mut.follows.holds-at-none)
+pub returns-in_default : goal.returns-in_default
+returns-in_default c =
+    let absent = session_in-at c.self.inside.ledgered c.self.inside.entries.entries c.self.invariant.0 c.args.id _ (sym c.get_mut.ensures.value ∙ ap option_copied_mut c.in_default.is) in
+    record {
+      answer = rw (← c.self.view_is) (ap (found_answer (append_in c.args.window)) (sym absent));
+      ok = tt;
+      err = rw (← c.self.view_is) (ap (λ m. sessions_of m.entries) c.get_mut.follows.holds-at-none);
+    }
