@@ -4,10 +4,10 @@ use Rattle.rev_tree.specs.{SessionId}
 use Rattle.doc_json.specs.Document.{Document}
 use Rattle.couch_base.specs.{Among, Among-map, Among-push, any_from, DatabaseValue, LawfulDatabase, WindowValue, ParcelValue}
 use Rattle.range_front.specs.{FrontWindow, Span, spans_from}
-use Rattle.repl_peer.specs.{Report, Settled, TargetFault, LawfulSessions, PeerValue, SessionValue, is_of, session_in, with_session, GivesUnlessMemory, new_session, begun as begun_by, found_answer, on_found, append_in, append_answer, with_window, after_append, after_record, after_conclude, SettleGives, stopped_at}
+use Rattle.repl_peer.specs.{Report, Settled, TargetFault, LawfulSessions, PeerValue, SessionValue, is_of, session_in, with_session, GivesUnlessMemory, new_session, begun as begun_by, found_answer, on_found, append_in, append_answer, with_window, after_append, after_record, after_conclude, SettleGives}
 use Rattle.repl_peer.proofs.{session_found}
-use Rattle.repl_target.specs.{Plan, Settle, Stop, Record, Conclude, IsPageOf, IsGrown, begins_answer, after_begins, beginning_between, next_window, closed_as}
-use Rattle.repl_target.proofs.{Stays, call_keeps, settle_left, settle_gives, settle_stops, fresh_of, later_session, found-is}
+use Rattle.repl_target.specs.{Plan, Record, Conclude, IsPageOf, IsGrown, begins_answer, after_begins, beginning_between, next_window, closed_as}
+use Rattle.repl_target.proofs.{Stays, call_keeps, settling_keeps, fresh_of, later_session, found-is}
 use Rattle.repl_pool.specs.{ArePages, AreAllowed, IsPaged, IsNext, AllowsMore, IsOneLess, HasPages, KeepsPages, HasNoWindows, IsRecorded, stopped, fewer, refused, ClosesRun, concluded, recorded, PoolFault}
 
 -- ---- one window
@@ -61,15 +61,7 @@ module _ (source : DatabaseValue) (plan : Plan) (run : SessionId) where
   pages_conclude more p at q is h = subst (λ (x : PeerValue). KeepsPages source plan run more x.sessions) (sym is) (call_keeps (Keeps more) (keeps-stays more) (λ _. false) p (Conclude run at) tt h)
 
   pub pages_settle : (more : Option ℕ) (refuses : Document → Bool) (p : PeerValue) (parcel : ParcelValue) (result : Result Settled TargetFault) (q : PeerValue) → SettleGives refuses p run parcel result q → KeepsPages source plan run more p.sessions → KeepsPages source plan run more q.sessions
-  pages_settle more refuses p parcel result q gives h = go (stopped_at result) refl
-    where
-      go : (o : Option ℕ) → stopped_at result ≡ o → KeepsPages source plan run more q.sessions
-      go None e = subst (λ (x : PeerValue). KeepsPages source plan run more x.sessions) (sym (settle_gives refuses p run parcel result q gives ∙ ap (settle_left refuses p run parcel) e)) (call_keeps (Keeps more) (keeps-stays more) refuses p (Settle run parcel) tt h)
-      go (Some n) e =
-          elim (settle_stops refuses p run parcel result q gives n e) [
-            | inl same ↦ subst (λ (x : PeerValue). KeepsPages source plan run more x.sessions) (sym same) h
-            | inr stops ↦ subst (λ (x : PeerValue). KeepsPages source plan run more x.sessions) (sym stops.1) (call_keeps (Keeps more) (keeps-stays more) refuses p (Stop run parcel n) tt h)
-          ]
+  pages_settle more refuses p = settling_keeps (Keeps more) (keeps-stays more) refuses p run
 
   -- the next window is stored
   with_next : (more less : Option ℕ) (w : WindowValue) (ws : List WindowValue) → IsNext source plan w → IsOneLess more less → HasPages source plan more ws → HasPages source plan less (ws ++ w ∷ [])

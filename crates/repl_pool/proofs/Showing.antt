@@ -1,5 +1,5 @@
 -- What a run shows, from what its writers' seats show.
-use Rattle.proof_words.proofs.{◌≡◌, ℕ, ◌+◌, ◌≤◌, List, [], ◌∷◌, ◌++◌, length, Option, None, Some, Result, Ok, Err, IfOk, IfSome, option_to_list, All, refl, sym, ap, ◌∙◌, subst, arith, length-append, append_assoc, All-push, All-pop}
+use Rattle.proof_words.proofs.{◌≡◌, ℕ, ◌+◌, ◌≤◌, List, [], ◌∷◌, ◌++◌, length, Option, None, Some, Result, Ok, Err, IfOk, IfSome, option_to_list, All, refl, sym, ap, ◌∙◌, subst, arith, length-append, All-push, All-pop, append_assoc}
 use Rattle.progress_board.specs.{Board, BoardSeat}
 use Rattle.repl_peer.specs.{Report}
 use Rattle.repl_pool.specs.{HaveRisenBy, AreSeated, AreBack, HaveShown, held, Halt, PoolFault}

@@ -1,5 +1,5 @@
 -- The walk over a feed that is cut in two.
-use Rattle.proof_words.proofs.{◌≡◌, ℕ, ◌+◌, ◌-◌, ◌/◌, ◌<◌, ◌≤◌, Bool, true, false, cond, ◌&&◌, nat_lt, nat_le, List, [], ◌∷◌, ◌++◌, map, refl, sym, ap, subst, ◌∙◌, arith, option_or, and_parts, cond_both, leb-true, lt-ltb, le-ltb, le-leb, leb-false, map-append, filter-append}
+use Rattle.proof_words.proofs.{◌≡◌, ℕ, ◌+◌, ◌-◌, ◌/◌, ◌<◌, ◌≤◌, Bool, true, false, cond, ◌&&◌, nat_lt, nat_le, List, [], ◌∷◌, ◌++◌, map, refl, sym, ap, subst, ◌∙◌, arith, option_or, and_parts, cond_both, map-append, filter-append, leb-true, lt-ltb, le-ltb, le-leb, leb-false}
 use Rattle.doc_json.specs.{Choice, is_chosen}
 use Rattle.couch_base.specs.{Rises, DatabaseValue, DocumentValue, LawfulDatabase, RowValue, row_of, chosen_rows, chosen_feed, in_range}
 use Rattle.repl_peer.specs.{PeerValue, covers, first_uncovered}

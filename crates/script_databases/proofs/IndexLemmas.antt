@@ -1,11 +1,10 @@
 -- The numbers of the databases' UUIDs, beside the databases.
-use Rattle.proof_words.proofs.{◌≡◌, ℕ, Bool, true, false, cond, List, [], refl, sym, ap, ◌∙◌, Option, Some, None, Result, Ok, Err, nat_eq, option_map, list_any, Equal-is, eq_by_cmp, is_eq, lookup, get, get-insert, get-empty, cond_both, true≢false, eqb-true, eq-eqb, nat_list_cmp_total, tied_itself, is_text, same_Some, none-some}
+use Rattle.proof_words.proofs.{◌≡◌, ℕ, Bool, true, false, cond, List, [], refl, sym, ap, ◌∙◌, Option, Some, None, nat_eq, option_map, list_any, Equal-is, eq_by_cmp, is_eq, lookup, get, get-insert, get-empty, nat_list_cmp_total, tied_itself, is_text, same_Some, none-some, true≢false, eqb-true, eq-eqb}
 use Rattle.std.specs.FinMap.{insert}
 use Rattle.rev_core.specs.{RevId}
 use Rattle.doc_json.specs.Document.{Document}
-use Rattle.rev_tree.specs.{Origin}
-use Rattle.couch_base.specs.{DatabaseValue, edited, edit_document, after_put, put_answer, is_changed, BaseFault}
-use Rattle.repl_peer.specs.{PeerValue, after_edit, after_load, load_edited, next_local}
+use Rattle.repl_peer.specs.{PeerValue, after_edit, after_load}
+use Rattle.repl_peer.proofs.{edit_later, load_later}
 use Rattle.script_databases.specs.{State, peer_at, with_peer, IsTaken, text_cmp, Beside, Entries, peers_of, state_of, IsIndex, AllDeny, denied_of}
 use Rattle.script_databases.proofs.TableLemmas.{text_cmp-IsAntisymmetric, get-by_text}
 
@@ -96,18 +95,11 @@ index_written old new name l m uuids index there is e = record {
 
 -- ---- neither a load nor an edit changes the UUID
 
-put_keeps : (db : DatabaseValue) (d : Document) (o : Origin) → (after_put db d o).uuid ≡ db.uuid
-put_keeps db d o = cond_both (is_changed (put_answer db d)) _ db (λ (x : DatabaseValue). x.uuid ≡ db.uuid) (λ _. refl) (λ _. refl)
-
 pub load_keeps : (d : Document) (l : PeerValue) → (after_load l d).db.uuid ≡ l.db.uuid
-load_keeps d l = put_keeps l.db d (next_local l)
-
-edited_keeps : (l : PeerValue) (id : List ℕ) (deleted : Bool) (body : List ℕ) (e : Result (RevId × Option RevId) BaseFault) → (load_edited l id deleted body e).db.uuid ≡ l.db.uuid
-edited_keeps l id deleted body (Ok e) = load_keeps (edit_document id e deleted body) l
-edited_keeps l id deleted body (Err fault) = refl
+load_keeps d l = (load_later l d).db.uuid
 
 pub edit_keeps : (id : List ℕ) (parent : Option RevId) (deleted : Bool) (body : List ℕ) (l : PeerValue) → (after_edit l id parent deleted body).db.uuid ≡ l.db.uuid
-edit_keeps id parent deleted body l = edited_keeps l id deleted body (edited l.db id parent deleted body)
+edit_keeps id parent deleted body l = (edit_later l id parent deleted body).db.uuid
 
 -- ---- what the peers refuse
 

@@ -1,14 +1,14 @@
 -- One database is changed: by a write of its own, or by a copy that is put back.
-use Rattle.proof_words.proofs.{◌≡◌, inl, inr, ℕ, Bool, List, [], ◌∷◌, Result, Ok, Err, refl, sym, ap, subst, ◌∙◌, Option, Some, None, and_parts, option_map, find, same_Some, none-some}
+use Rattle.proof_words.proofs.{◌≡◌, inl, inr, ℕ, Bool, List, [], ◌∷◌, Result, Ok, Err, refl, sym, ap, subst, ◌∙◌, Option, Some, None, and_parts, option_map, same_Some, none-some, find}
 use Rattle.doc_json.specs.Document.{Document}
 use Rattle.doc_json.specs.{Choice}
-use Rattle.couch_base.specs.{Among, Id, found_member, id_is, edited, BaseFault}
+use Rattle.couch_base.specs.{Among, Id, found_member, id_is}
 use Rattle.repl_log.specs.declared.replication.RepId.{RepId}
 use Rattle.repl_log.specs.{EntryValue, log_in}
-use Rattle.repl_peer.specs.{TargetFault, BackupValue, restore_answer, restored, restored_by, after_restore, IsLaterPeer, PeerValue, SessionValue, rep_between, after_load, after_edit, load_edited}
+use Rattle.repl_peer.specs.{TargetFault, BackupValue, restore_answer, restored, restored_by, after_restore, IsLaterPeer, PeerValue, SessionValue, rep_between, after_load, after_edit}
 use Rattle.repl_target.specs.{IsTiedWith}
 use Rattle.rev_core.specs.{RevId}
-use Rattle.repl_peer.proofs.{load_later, edit_later, IsLaterPeer-same}
+use Rattle.repl_peer.proofs.{edit_by_load, load_later, edit_later, IsLaterPeer-same}
 use Rattle.script_databases.specs.{NamedBackupValue, State, backup_at, is_named, peer_at, with_peer, IsOther, LeadToOthers, ComeFromOthers, AreCopiesOf}
 use Rattle.script_databases.specs.AllTied.{AllTied}
 use Rattle.script_databases.proofs.ties.MovedPairs.{source_moves, target_moves, stays_same}
@@ -60,13 +60,9 @@ module _ (old : State) (h : AllTied old) (a : List ℕ) (p new : PeerValue) (at 
 pub load_tied : (old : State) → AllTied old → (a : List ℕ) (p : PeerValue) → peer_at old a ≡ Some p → (d : Document) → AllTied (with_peer old a (after_load p d))
 load_tied old h a p at d = local_tied old h a p (after_load p d) at (load_later p d) refl refl
 
-edit_outgoing : (p : PeerValue) (id : Id) (deleted : Bool) (body : List ℕ) (r : Result (RevId × Option RevId) BaseFault) → ((load_edited p id deleted body r).outgoing ≡ p.outgoing) × ((load_edited p id deleted body r).sessions ≡ p.sessions)
-edit_outgoing p id deleted body (Ok e) = (refl, refl)
-edit_outgoing p id deleted body (Err fault) = (refl, refl)
-
 pub edit_tied : (old : State) → AllTied old → (a : List ℕ) (p : PeerValue) → peer_at old a ≡ Some p → (id : Id) (parent : Option RevId) (deleted : Bool) (body : List ℕ) → AllTied (with_peer old a (after_edit p id parent deleted body))
 edit_tied old h a p at id parent deleted body =
-    let e = edit_outgoing p id deleted body (edited p.db id parent deleted body) in
+    let e = edit_by_load (λ q. (q.outgoing ≡ p.outgoing) × (q.sessions ≡ p.sessions)) p (λ _. (refl, refl)) (refl, refl) id parent deleted body in
     local_tied old h a p (after_edit p id parent deleted body) at (edit_later p id parent deleted body) e.0 e.1
 
 -- it is put back to one of its copies

@@ -1,4 +1,4 @@
-use Rattle.proof_words.proofs.{◌≡◌, ◌+◌, ◌≤◌, vec_len, vec_capacity, IfSome, All, into_iter_items, into_iter_len}
+use Rattle.proof_words.proofs.{◌≡◌, ◌+◌, ◌≤◌, vec_len, vec_capacity, IfSome, into_iter_items, into_iter_len, All}
 use Rattle.repl_pool.specs.{Allows, FetchedKnows}
 use Rattle.crossbeam_channel.specs.Claims.{view, IsSeatAt}
 use Rattle.crossbeam_channel.specs.Ends.{sends_on}

@@ -1,4 +1,4 @@
-use Rattle.proof_words.proofs.{◌≡◌, ℕ, ◌++◌, ◌∷◌, [], sum, ap, sym, ◌∙◌, arith, append-nil, sum_by_push}
+use Rattle.proof_words.proofs.{◌≡◌, ℕ, ◌++◌, ◌∷◌, [], sum, ap, sym, ◌∙◌, arith, sum_by_push, append-nil}
 use Rattle.crossbeam_channel.specs.Claims.{view}
 use Rattle.repl_pool.specs.{names, WindowView}
 use Rattle.repl_pool.proofs.{Gathers, gathers}

@@ -37,8 +37,8 @@ returns-in-Err-clause-answer c =
       | inr m ↦ inr (c.from.ensures ∙ ap target_refusal m)
     ]
 
-pub returns-clause-answer : goal.returns-clause-answer
-returns-clause-answer c =
+pub returns : goal.returns
+returns c =
     let g = beside_of c.self.inside.settings c.self.inside.drawn c.self.inside.backups.items in
     let found = ap (λ (o : Option (Rules × PeerValue)). option_map (λ (p : Rules × PeerValue). p.1) o) c.get.ensures.value ∙ found_at g c.self.inside.by_name.entries c.args.self.now c.args.db.now c.self.view_is in
     let p = c.in-Some.peer.now.1 in
@@ -47,21 +47,14 @@ returns-clause-answer c =
     let free : backup_at c.args.self.now c.args.db.now c.args.name.now ≡ None = kept ∙ none_of (option_copied c.find_backup.result) (sym (is_some-copied c.find_backup.result) ∙ sym c.is_some.ensures ∙ c.if-is_some.false) in
     let is : backed_answer c.args.self.now c.args.db.now c.args.name.now ≡ told_as target_refusal (backup_answer p) = (λ i. backed_of (there i) (free i)) in
     let seq = c.update_seq-seq.ensures.seq ∙ ap (λ (d : DatabaseValue). d.update_seq) c.db.ensures.value in
-    ap backed_told is ∙ ap (λ r. backed_told (told_as target_refusal r)) (sym c.in-Ok.ensures) ∙ ap (λ n. Ok n) (sym seq)
-
-pub returns-clause-ok : goal.returns-clause-ok
-returns-clause-ok c =
-    let g = beside_of c.self.inside.settings c.self.inside.drawn c.self.inside.backups.items in
-    let found = ap (λ (o : Option (Rules × PeerValue)). option_map (λ (p : Rules × PeerValue). p.1) o) c.get.ensures.value ∙ found_at g c.self.inside.by_name.entries c.args.self.now c.args.db.now c.self.view_is in
-    let p = c.in-Some.peer.now.1 in
-    let there : peer_at c.args.self.now c.args.db.now ≡ Some p = sym found ∙ ap (λ (o : Option (Bor (Rules × PeerValue))). option_map (λ (p : Rules × PeerValue). p.1) (option_copied o)) c.in-Some.is in
-    let kept = sym (c.find_backup.ensures ∙ ap (λ (ks : List NamedBackupValue). backup_among ks c.args.db.now c.args.name.now) c.deref.ensures.value ∙ ap (λ (s : State). backup_at s c.args.db.now c.args.name.now) c.self.view_is) in
-    let free : backup_at c.args.self.now c.args.db.now c.args.name.now ≡ None = kept ∙ none_of (option_copied c.find_backup.result) (sym (is_some-copied c.find_backup.result) ∙ sym c.is_some.ensures ∙ c.if-is_some.false) in
-    let is : backed_answer c.args.self.now c.args.db.now c.args.name.now ≡ told_as target_refusal (backup_answer p) = (λ i. backed_of (there i) (free i)) in
     let made = is ∙ ap (told_as target_refusal) (sym c.in-Ok.ensures) in
+    let ok =
     ap (λ (ks : List NamedBackupValue). state_of (beside_of c.self.inside.settings c.self.inside.drawn ks) c.self.inside.by_name.entries) (c.in_ok-push.ensures.items ∙ ap (λ (k : NamedBackupValue). c.self.inside.backups.items ++ k ∷ []) c.in_ok-copy.ensures)
     ∙ ap (λ (s : State). with_backup s c.args.db.now c.args.name.now c.in-Ok.backup) c.self.view_is
-    ∙ sym (ap (backed_by c.args.self.now c.args.db.now c.args.name.now) made)
-
-pub returns-clause-tied : goal.returns-clause-tied
-returns-clause-tied c = backed_tied _ _ _ _ (returns-clause-ok c)
+    ∙ sym (ap (backed_by c.args.self.now c.args.db.now c.args.name.now) made) in
+    record {
+      answer = ap backed_told is ∙ ap (λ r. backed_told (told_as target_refusal r)) (sym c.in-Ok.ensures) ∙ ap (λ n. Ok n) (sym seq);
+      ok = ok;
+      err = tt;
+      tied = backed_tied _ _ _ _ ok;
+    }

@@ -9,19 +9,21 @@ returns-in_default-clause-answer c =
     let g = beside_of c.self.inside.settings c.self.inside.drawn c.self.inside.backups.items in
     inl (ap (λ o. load_answer o c.args.doc.now) (ap (λ (s : State). peer_at s c.args.name.now) (sym c.self.view_is) ∙ peer_absent g c.self.inside.by_name.entries c.args.name.now c.in_default.ensures.value))
 
-pub returns-clause-answer : goal.returns-clause-answer
-returns-clause-answer c =
+pub returns : goal.returns
+returns c =
     let g = beside_of c.self.inside.settings c.self.inside.drawn c.self.inside.backups.items in
     let there = ap (λ (s : State). peer_at s c.args.name.now) (sym c.self.view_is) ∙ peer_there g c.self.inside.by_name.entries c.args.name.now c.in-Some.peer.now c.in-Some.ensures.value in
-    ap (λ o. load_answer o c.args.doc.now) there ∙ ap (told_as base_refusal) (sym c.in_ok-put.ensures.answer)
-
-pub returns-clause-ok : goal.returns-clause-ok
-returns-clause-ok c =
-    let g = beside_of c.self.inside.settings c.self.inside.drawn c.self.inside.backups.items in
     let u = c.load.new.self in
     let left = c.get_mut.follows.lender u in
+    let ok =
     subst (λ (s : State). state_of g left.entries ≡ loaded_at s c.args.name.now c.args.doc.now) c.self.view_is
-    (state_changed g c.self.inside.by_name left c.args.name.now c.in-Some.peer.now u c.in-Some.ensures.value ((c.get_mut.follows.holds u).3 (search rules)) (λ l. after_load l c.args.doc.now) c.in_ok-put.ensures.ok)
+    (state_changed g c.self.inside.by_name left c.args.name.now c.in-Some.peer.now u c.in-Some.ensures.value ((c.get_mut.follows.holds u).3 (search rules)) (λ l. after_load l c.args.doc.now) c.in_ok-put.ensures.ok) in
+    record {
+      answer = ap (λ o. load_answer o c.args.doc.now) there ∙ ap (told_as base_refusal) (sym c.in_ok-put.ensures.answer);
+      ok = ok;
+      err = tt;
+      tied = loaded_tied _ _ _ _ ok;
+    }
 
 pub invariant_of-self-2 : goal.invariant_of-self-2
 invariant_of-self-2 c =
@@ -31,21 +33,22 @@ invariant_of-self-2 c =
     tables_stay g c.self.inside.by_name (c.get_mut.follows.lender u) c.args.name.now l u c.in-Some.ensures.value ((c.get_mut.follows.holds u).3 (search rules)) c.self.inside.uuids.keys
     (ap (λ (p : PeerValue). p.db.uuid) c.in_ok-put.ensures.ok ∙ load_keeps c.args.doc.now l.1) c.load.ensures.filter c.self.invariant
 
-pub returns-in_err-put-clause-answer : goal.returns-in_err-put-clause-answer
-returns-in_err-put-clause-answer c =
+pub returns-in_err-put : goal.returns-in_err-put
+returns-in_err-put c =
     let g = beside_of c.self.inside.settings c.self.inside.drawn c.self.inside.backups.items in
     let fault = c.in_err-put.field-0.0 in
     let there = ap (λ (s : State). peer_at s c.args.name.now) (sym c.self.view_is) ∙ peer_there g c.self.inside.by_name.entries c.args.name.now c.in-Some.peer.now c.in-Some.ensures.value in
     let told = err_from_is_err_and c.from_residual.result c.from_residual.ensures.1 in
-    subst (λ r. GivesOrMemory r (load_answer (peer_at c.args.self.now c.args.name.now) c.args.doc.now)) (sym (told.1 ∙ ap Err told.2))
-    (subst (λ o. GivesOrMemory (Err (base_refusal fault)) (load_answer o c.args.doc.now)) (sym there) (put_refused fault _ c.in_err-put.ensures.answer))
-
-pub returns-in_err-put-clause-err : goal.returns-in_err-put-clause-err
-returns-in_err-put-clause-err c =
-    let g = beside_of c.self.inside.settings c.self.inside.drawn c.self.inside.backups.items in
     let u = c.load.new.self in
-    on_err c.from_residual.result
-    (state_stays g c.self.inside.by_name (c.get_mut.follows.lender u) c.args.name.now c.in-Some.peer.now u c.in-Some.ensures.value ((c.get_mut.follows.holds u).3 (search rules)) c.in_err-put.ensures.err ∙ c.self.view_is)
+    let stays = state_stays g c.self.inside.by_name (c.get_mut.follows.lender u) c.args.name.now c.in-Some.peer.now u c.in-Some.ensures.value ((c.get_mut.follows.holds u).3 (search rules)) c.in_err-put.ensures.err ∙ c.self.view_is in
+    record {
+      answer =
+          subst (λ r. GivesOrMemory r (load_answer (peer_at c.args.self.now c.args.name.now) c.args.doc.now)) (sym (told.1 ∙ ap Err told.2))
+          (subst (λ o. GivesOrMemory (Err (base_refusal fault)) (load_answer o c.args.doc.now)) (sym there) (put_refused fault _ c.in_err-put.ensures.answer));
+      ok = rw told.1 tt;
+      err = on_err c.from_residual.result stays;
+      tied = unchanged_tied _ _ stays;
+    }
 
 pub invariant_of-self-in_err-put : goal.invariant_of-self-in_err-put
 invariant_of-self-in_err-put c =
@@ -53,12 +56,3 @@ invariant_of-self-in_err-put c =
     let u = c.load.new.self in
     tables_stay g c.self.inside.by_name (c.get_mut.follows.lender u) c.args.name.now c.in-Some.peer.now u c.in-Some.ensures.value ((c.get_mut.follows.holds u).3 (search rules)) c.self.inside.uuids.keys
     (ap (λ (p : PeerValue). p.db.uuid) c.in_err-put.ensures.err) c.load.ensures.filter c.self.invariant
-
-pub returns-clause-tied : goal.returns-clause-tied
-returns-clause-tied c = loaded_tied _ _ _ _ (returns-clause-ok c)
-
-pub returns-in_err-put-clause-tied : goal.returns-in_err-put-clause-tied
-returns-in_err-put-clause-tied c =
-    let g = beside_of c.self.inside.settings c.self.inside.drawn c.self.inside.backups.items in
-    let u = c.load.new.self in
-    unchanged_tied _ _ (state_stays g c.self.inside.by_name (c.get_mut.follows.lender u) c.args.name.now c.in-Some.peer.now u c.in-Some.ensures.value ((c.get_mut.follows.holds u).3 (search rules)) c.in_err-put.ensures.err ∙ c.self.view_is)

@@ -30,8 +30,8 @@ invariant_of-self-in_default-find_backup c =
     let u = c.in-Some.peer.now in
     tables_stay g c.self.inside.by_name (c.get_mut.follows.lender u) c.args.db.now u u c.in-Some.ensures.value ((c.get_mut.follows.holds u).3 (search rules)) c.self.inside.uuids.keys refl refl c.self.invariant
 
-pub returns-in_err-restore-clause-answer : goal.returns-in_err-restore-clause-answer
-returns-in_err-restore-clause-answer c =
+pub returns-in_err-restore : goal.returns-in_err-restore
+returns-in_err-restore c =
     let g = beside_of c.self.inside.settings c.self.inside.drawn c.self.inside.backups.items in
     let p = c.in-Some.peer.now.1 in
     let b = c.in-Some-find_backup.backup.now in
@@ -41,18 +41,19 @@ returns-in_err-restore-clause-answer c =
     let told = err_from_is_err_and c.from_residual.result c.from_residual.ensures.1 in
     let is : put_back_answer (peer_at c.args.self.now c.args.db.now) (backup_at c.args.self.now c.args.db.now c.args.name.now) ≡ put_back_of (restored p b) (told_as target_refusal (restore_answer p b)) =
     (λ i. put_back_answer (there i) ((kept ∙ ap option_copied c.in-Some-find_backup.is) i)) in
-    subst (λ r. GivesOrMemory r (put_back_answer (peer_at c.args.self.now c.args.db.now) (backup_at c.args.self.now c.args.db.now c.args.name.now))) (sym (told.1 ∙ ap Err told.2))
-    (elim (copy_refused fault (restore_answer p b) c.in_err-restore.ensures.answer) [
-      | inl e ↦ inl (is ∙ ap (λ r. put_back_of (restored p b) (told_as target_refusal r)) e)
-      | inr m ↦ inr (ap target_refusal m)
-    ])
-
-pub returns-in_err-restore-clause-err : goal.returns-in_err-restore-clause-err
-returns-in_err-restore-clause-err c =
-    let g = beside_of c.self.inside.settings c.self.inside.drawn c.self.inside.backups.items in
     let u = c.restore.new.self in
-    on_err c.from_residual.result
-    (state_stays g c.self.inside.by_name (c.get_mut.follows.lender u) c.args.db.now c.in-Some.peer.now u c.in-Some.ensures.value ((c.get_mut.follows.holds u).3 (search rules)) c.in_err-restore.ensures.err ∙ c.self.view_is)
+    let stays = state_stays g c.self.inside.by_name (c.get_mut.follows.lender u) c.args.db.now c.in-Some.peer.now u c.in-Some.ensures.value ((c.get_mut.follows.holds u).3 (search rules)) c.in_err-restore.ensures.err ∙ c.self.view_is in
+    record {
+      answer =
+          subst (λ r. GivesOrMemory r (put_back_answer (peer_at c.args.self.now c.args.db.now) (backup_at c.args.self.now c.args.db.now c.args.name.now))) (sym (told.1 ∙ ap Err told.2))
+          (elim (copy_refused fault (restore_answer p b) c.in_err-restore.ensures.answer) [
+            | inl e ↦ inl (is ∙ ap (λ r. put_back_of (restored p b) (told_as target_refusal r)) e)
+            | inr m ↦ inr (ap target_refusal m)
+          ]);
+      ok = rw told.1 tt;
+      err = on_err c.from_residual.result stays;
+      tied = unchanged_tied _ _ stays;
+    }
 
 pub invariant_of-self-in_err-restore : goal.invariant_of-self-in_err-restore
 invariant_of-self-in_err-restore c =
@@ -61,8 +62,8 @@ invariant_of-self-in_err-restore c =
     tables_stay g c.self.inside.by_name (c.get_mut.follows.lender u) c.args.db.now c.in-Some.peer.now u c.in-Some.ensures.value ((c.get_mut.follows.holds u).3 (search rules)) c.self.inside.uuids.keys
     (ap (λ (p : PeerValue). p.db.uuid) c.in_err-restore.ensures.err) c.restore.ensures.filter c.self.invariant
 
-pub returns-clause-answer : goal.returns-clause-answer
-returns-clause-answer c =
+pub returns : goal.returns
+returns c =
     let g = beside_of c.self.inside.settings c.self.inside.drawn c.self.inside.backups.items in
     let p = c.in-Some.peer.now.1 in
     let b = c.in-Some-find_backup.backup.now in
@@ -71,20 +72,21 @@ returns-clause-answer c =
     let left : c.restore.new.self.1 ≡ restored p b = c.in_ok-restore.ensures.ok ∙ ap (restored_by p b) (sym c.in_ok-restore.ensures.answer) in
     let seq = c.update_seq-seq.ensures.seq ∙ ap (λ (d : DatabaseValue). d.update_seq) c.db.ensures.value ∙ ap (λ (q : PeerValue). q.db.update_seq) left in
     let life = c.life-life.ensures.value ∙ ap (λ (d : DatabaseValue). d.life) c.db-2.ensures.value ∙ ap (λ (q : PeerValue). q.db.life) left in
-    (λ i. put_back_answer (there i) ((kept ∙ ap option_copied c.in-Some-find_backup.is) i))
-    ∙ ap (λ r. put_back_of (restored p b) (told_as target_refusal r)) (sym c.in_ok-restore.ensures.answer)
-    ∙ (λ i. Ok (record { seq = sym seq i; life = sym life i }))
-
-pub returns-clause-ok : goal.returns-clause-ok
-returns-clause-ok c =
-    let g = beside_of c.self.inside.settings c.self.inside.drawn c.self.inside.backups.items in
     let u = c.restore.new.self in
-    let left = c.get_mut.follows.lender u in
-    let b = c.in-Some-find_backup.backup.now in
-    let kept = sym (c.find_backup.ensures ∙ ap (λ (ks : List NamedBackupValue). backup_among ks c.args.db.now c.args.name.now) c.deref.ensures.value ∙ ap (λ (s : State). backup_at s c.args.db.now c.args.name.now) c.self.view_is) in
-    subst (λ (s : State). state_of g left.entries ≡ put_back_by s c.args.db.now (backup_at c.args.self.now c.args.db.now c.args.name.now)) c.self.view_is
-    (state_changed g c.self.inside.by_name left c.args.db.now c.in-Some.peer.now u c.in-Some.ensures.value ((c.get_mut.follows.holds u).3 (search rules)) (λ l. after_restore l b) c.in_ok-restore.ensures.ok
-    ∙ sym (ap (put_back_by (state_of g c.self.inside.by_name.entries) c.args.db.now) (kept ∙ ap option_copied c.in-Some-find_backup.is)))
+    let table = c.get_mut.follows.lender u in
+    let ok =
+    subst (λ (s : State). state_of g table.entries ≡ put_back_by s c.args.db.now (backup_at c.args.self.now c.args.db.now c.args.name.now)) c.self.view_is
+    (state_changed g c.self.inside.by_name table c.args.db.now c.in-Some.peer.now u c.in-Some.ensures.value ((c.get_mut.follows.holds u).3 (search rules)) (λ l. after_restore l b) c.in_ok-restore.ensures.ok
+    ∙ sym (ap (put_back_by (state_of g c.self.inside.by_name.entries) c.args.db.now) (kept ∙ ap option_copied c.in-Some-find_backup.is))) in
+    record {
+      answer =
+          (λ i. put_back_answer (there i) ((kept ∙ ap option_copied c.in-Some-find_backup.is) i))
+          ∙ ap (λ r. put_back_of (restored p b) (told_as target_refusal r)) (sym c.in_ok-restore.ensures.answer)
+          ∙ (λ i. Ok (record { seq = sym seq i; life = sym life i }));
+      ok = ok;
+      err = tt;
+      tied = put_back_tied _ _ _ _ ok;
+    }
 
 pub invariant_of-self-2 : goal.invariant_of-self-2
 invariant_of-self-2 c =
@@ -96,12 +98,3 @@ invariant_of-self-2 c =
 
 pub returns-in_default-find_backup-clause-tied : goal.returns-in_default-find_backup-clause-tied
 returns-in_default-find_backup-clause-tied c = unchanged_tied _ _ (returns-in_default-find_backup-clause-err c)
-
-pub returns-in_err-restore-clause-tied : goal.returns-in_err-restore-clause-tied
-returns-in_err-restore-clause-tied c =
-    let g = beside_of c.self.inside.settings c.self.inside.drawn c.self.inside.backups.items in
-    let u = c.restore.new.self in
-    unchanged_tied _ _ (state_stays g c.self.inside.by_name (c.get_mut.follows.lender u) c.args.db.now c.in-Some.peer.now u c.in-Some.ensures.value ((c.get_mut.follows.holds u).3 (search rules)) c.in_err-restore.ensures.err ∙ c.self.view_is)
-
-pub returns-clause-tied : goal.returns-clause-tied
-returns-clause-tied c = put_back_tied _ _ _ _ (returns-clause-ok c)

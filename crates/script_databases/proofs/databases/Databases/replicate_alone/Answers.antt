@@ -20,8 +20,8 @@ put_in-requires-clause-target c =
     let left = c.take_out-sender.ensures.left in
     has_target (peers_of c.self.inside.by_name.entries) _ c.args.source.now c.args.target.now left.0.1 left.1.1 left.2 (ap (λ (s : State). contains_key s.peers c.args.target.now) c.self.view_is ∙ c.requires.target)
 
-pub returns-in_err-check_peers-clause-between : goal.returns-in_err-check_peers-clause-between
-returns-in_err-check_peers-clause-between c =
+pub returns-in_err-check_peers : goal.returns-in_err-check_peers
+returns-in_err-check_peers c =
     let g = beside_of c.self.inside.settings c.self.inside.drawn c.self.inside.backups.items in
     let es = c.self.inside.by_name.entries in
     let a = c.args.source.now in
@@ -29,8 +29,11 @@ returns-in_err-check_peers-clause-between c =
     let plan = c.args.plan.now in
     let told = err_from_is_err_and c.from_residual.result c.from_residual.ensures.1 in
     let refused = alone_refused g es a b _ _ plan c.in_err-check_peers.field-0.0 c.find_both.ensures.source c.find_both.ensures.target.0 (sym c.in_err-check_peers.ensures) in
+    let between =
     subst (λ st. ReplicatesBetween ReplicatesAlone st a b plan c.from_residual.result st) c.self.view_is
-    (subst (λ r. ReplicatesBetween ReplicatesAlone (state_of g es) a b plan r (state_of g es)) (sym (told.1 ∙ ap Err told.2)) refused)
+    (subst (λ r. ReplicatesBetween ReplicatesAlone (state_of g es) a b plan r (state_of g es)) (sym (told.1 ∙ ap Err told.2)) refused) in
+    let told = alone_between _ _ _ _ _ _ between in
+    record { between = between; tied = told.0; covered = told.1 }
 
 pub invariant_of-self : goal.invariant_of-self
 invariant_of-self c =
@@ -57,8 +60,8 @@ invariant_of-self c =
           (ap deny_of ran.filters.0) (ap deny_of ran.filters.1) there.1 there'.1 c.self.invariant.1,
     )
 
-pub returns-clause-between : goal.returns-clause-between
-returns-clause-between c =
+pub returns : goal.returns
+returns c =
     let g = beside_of c.self.inside.settings c.self.inside.drawn c.self.inside.backups.items in
     let es = c.self.inside.by_name.entries in
     let mid = c.take_out-sender.new.names.entries in
@@ -75,6 +78,7 @@ returns-clause-between c =
     let t' = c.replicate_alone-outcome.new.target in
     let ran = c.replicate_alone-outcome.ensures in
     let result = c.replicate_alone-outcome.result in
+    let between =
     subst (λ (st : State). ReplicatesBetween ReplicatesAlone st a b plan result (state_of g new)) c.self.view_is (
       s.1,
       t.1,
@@ -93,16 +97,6 @@ returns-clause-between c =
         },
         state_left g es mid new a b left.0.1 left.1.1 s'.1 t'.1 left.2 c.put_in.ensures.peers,
       ),
-    )
-
-pub returns-in_err-check_peers-clause-tied : goal.returns-in_err-check_peers-clause-tied
-returns-in_err-check_peers-clause-tied c = (alone_between _ _ _ _ _ _ (returns-in_err-check_peers-clause-between c)).0
-
-pub returns-in_err-check_peers-clause-covered : goal.returns-in_err-check_peers-clause-covered
-returns-in_err-check_peers-clause-covered c = (alone_between _ _ _ _ _ _ (returns-in_err-check_peers-clause-between c)).1
-
-pub returns-clause-tied : goal.returns-clause-tied
-returns-clause-tied c = (alone_between _ _ _ _ _ _ (returns-clause-between c)).0
-
-pub returns-clause-covered : goal.returns-clause-covered
-returns-clause-covered c = (alone_between _ _ _ _ _ _ (returns-clause-between c)).1
+    ) in
+    let told = alone_between _ _ _ _ _ _ between in
+    record { between = between; tied = told.0; covered = told.1 }

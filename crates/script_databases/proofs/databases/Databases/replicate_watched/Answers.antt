@@ -19,8 +19,8 @@ put_in-requires-clause-target g c =
     let left = c.take_out-sender.ensures.left in
     has_target (peers_of c.self.inside.by_name.entries) _ c.args.source.now c.args.target.now left.0.1 left.1.1 left.2 (ap (λ (s : State). contains_key s.peers c.args.target.now) c.self.view_is ∙ c.requires.target)
 
-pub returns-in_err-check_run-clause-between : goal.returns-in_err-check_run-clause-between
-returns-in_err-check_run-clause-between g c =
+pub returns-in_err-check_run : goal.returns-in_err-check_run
+returns-in_err-check_run g c =
     let beside = beside_of c.self.inside.settings c.self.inside.drawn c.self.inside.backups.items in
     let es = c.self.inside.by_name.entries in
     let a = c.args.source.now in
@@ -30,14 +30,20 @@ returns-in_err-check_run-clause-between g c =
     let told = err_from_is_err_and c.from_residual.result c.from_residual.ensures.1 in
     let lawful = subst (λ f. LawfulSessions f t.1) (refuses_is beside.program.deny es b t.0 c.self.invariant.1 c.find_both.ensures.target.1) c.law.ensures.peer.sessions in
     let refused = watched_refused beside es a b _ t.1 plan c.in_err-check_run.field-0.0 c.find_both.ensures.source c.find_both.ensures.target.0 lawful (sym c.in_err-check_run.ensures) in
+    let between =
     subst (λ st. ReplicatesBetween ReplicatesWatched st a b plan c.from_residual.result st) c.self.view_is
-    (subst (λ r. ReplicatesBetween ReplicatesWatched (state_of beside es) a b plan r (state_of beside es)) (sym (told.1 ∙ ap Err told.2)) refused)
+    (subst (λ r. ReplicatesBetween ReplicatesWatched (state_of beside es) a b plan r (state_of beside es)) (sym (told.1 ∙ ap Err told.2)) refused) in
+    let told = watched_between _ _ _ _ _ _ between in
+    record { between = between; tied = told.0; covered = told.1 }
 
-pub returns-in_err-board-clause-between : goal.returns-in_err-board-clause-between
-returns-in_err-board-clause-between g c =
+pub returns-in_err-board : goal.returns-in_err-board
+returns-in_err-board g c =
     let told = err_from_is_err_and c.from_residual-in_err-board.result c.from_residual-in_err-board.ensures.1 in
+    let between =
     subst (λ st. ReplicatesBetween ReplicatesWatched st c.args.source.now c.args.target.now c.args.plan.now c.from_residual-in_err-board.result st) c.self.view_is
-    (_, _, c.find_both.ensures.source, c.find_both.ensures.target.0, inl (sym c.in_ok-check_run.ensures, told.1 ∙ ap Err (told.2 ∙ c.in_err-board.ensures.err), refl))
+    (_, _, c.find_both.ensures.source, c.find_both.ensures.target.0, inl (sym c.in_ok-check_run.ensures, told.1 ∙ ap Err (told.2 ∙ c.in_err-board.ensures.err), refl)) in
+    let told = watched_between _ _ _ _ _ _ between in
+    record { between = between; tied = told.0; covered = told.1 }
 
 pub invariant_of-self : goal.invariant_of-self
 invariant_of-self g c =
@@ -61,8 +67,8 @@ invariant_of-self g c =
           (ap deny_of runs.filter) (ap deny_of runs.grown.0) there.1 there'.1 c.self.invariant.1,
     )
 
-pub returns-clause-between : goal.returns-clause-between
-returns-clause-between g c =
+pub returns : goal.returns
+returns g c =
     let beside = beside_of c.self.inside.settings c.self.inside.drawn c.self.inside.backups.items in
     let es = c.self.inside.by_name.entries in
     let mid = c.take_out-sender.new.names.entries in
@@ -77,6 +83,7 @@ returns-clause-between g c =
     let there' = c.take_out-sender.ensures.target in
     let ran = c.run_on-sender.result in
     let runs = c.run_on-sender.ensures.runs in
+    let between =
     subst (λ (st : State). ReplicatesBetween ReplicatesWatched st a b plan c.with_reading.result (state_of beside new)) c.self.view_is (
       s.1,
       t.1,
@@ -92,22 +99,6 @@ returns-clause-between g c =
             (run_denied (Unit {0}) Nowhere plan beside.program.deny s t ran.source ran.target ran.fetched.items ran.outcome (refuses_is beside.program.deny es b t.0 c.self.invariant.1 there'.1) runs),
         state_left beside es mid new a b left.0.1 left.1.1 ran.source.1 ran.target.1 left.2 c.put_in.ensures.peers,
       ),
-    )
-
-pub returns-in_err-check_run-clause-tied : goal.returns-in_err-check_run-clause-tied
-returns-in_err-check_run-clause-tied g c = (watched_between _ _ _ _ _ _ (returns-in_err-check_run-clause-between g c)).0
-
-pub returns-in_err-check_run-clause-covered : goal.returns-in_err-check_run-clause-covered
-returns-in_err-check_run-clause-covered g c = (watched_between _ _ _ _ _ _ (returns-in_err-check_run-clause-between g c)).1
-
-pub returns-in_err-board-clause-tied : goal.returns-in_err-board-clause-tied
-returns-in_err-board-clause-tied g c = (watched_between _ _ _ _ _ _ (returns-in_err-board-clause-between g c)).0
-
-pub returns-in_err-board-clause-covered : goal.returns-in_err-board-clause-covered
-returns-in_err-board-clause-covered g c = (watched_between _ _ _ _ _ _ (returns-in_err-board-clause-between g c)).1
-
-pub returns-clause-tied : goal.returns-clause-tied
-returns-clause-tied g c = (watched_between _ _ _ _ _ _ (returns-clause-between g c)).0
-
-pub returns-clause-covered : goal.returns-clause-covered
-returns-clause-covered g c = (watched_between _ _ _ _ _ _ (returns-clause-between g c)).1
+    ) in
+    let told = watched_between _ _ _ _ _ _ between in
+    record { between = between; tied = told.0; covered = told.1 }
