@@ -1,5 +1,5 @@
 -- The texts of lists.
-use Rattle.proof_words.proofs.{◌≡◌, ℕ, ◌+◌, ◌<◌, ◌≤◌, List, [], ◌∷◌, ◌++◌, length, take, get_or, map, sym, ap, ◌∙◌, append_assoc, append-nil, arith, flat_map-append, flat_map, join_with_byte, take_more, map-append}
+use Rattle.proof_words.proofs.{◌≡◌, ℕ, ◌+◌, ◌<◌, ◌≤◌, List, [], ◌∷◌, ◌++◌, length, take, get_or, map, sym, ap, ◌∙◌, append_assoc, append-nil, arith, flat_map-append, join_with_byte, take_more, map-append, flat_map}
 use Rattle.rev_core.specs.{RevId, rev_text}
 use Rattle.script_rooms.specs.{texts_of_revs}
 

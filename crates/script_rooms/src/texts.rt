@@ -1,5 +1,5 @@
 //! Parts of answers that several words print (docs/PROFILE.md, "Answers").
-ghost use Rattle.std.specs.Prelude.{◌≡◌, ◌++◌, IfOk, OnOk, decimal, string_bytes};
+ghost use Rattle.std.specs.Prelude.{◌≡◌, ◌<◌, ◌≤◌, ◌++◌, ◌∷◌, length, IfOk, OnOk, decimal, string_bytes};
 ghost use Rattle.rev_core.specs.Text.{rev_text};
 ghost use Rattle.repl_log.specs.Text.{id_digits};
 ghost use Rattle.script_rooms.specs.Telling.{hushed};
@@ -10,9 +10,36 @@ use itoa::Buffer;
 use rev_core::Rev;
 use std::alloc::{AllocError, Global};
 
-/// Adds a number.
+/// Adds a number. Mostly it has four digits, and there is room for them: then they are copied as a whole.
 #[inline(never)]
 pub fn push_number(text: &mut Vec<u8>, number: u64) -> Result<(), AllocError>
+    ensures { OnOk result (text.new.items ≡ text.old.items ++ decimal number) }
+{
+    if number < 1_000 || number >= 10_000 || text.capacity() - text.len() < 4 {
+        return push_any_number(text, number);
+    }
+    text.extend_from_slice(&four_digits(number as u32))
+}
+
+/// The digits of a number that has four.
+#[inline(always)]
+fn four_digits(number: u32) -> [u8; 4]
+    requires { (1000 ≤ number) × (number < 10000) }
+    ensures { result ≡ decimal number }
+{
+    let front = number / 100;
+    let back = number % 100;
+    [
+        b'0' + (front / 10) as u8,
+        b'0' + (front % 10) as u8,
+        b'0' + (back / 10) as u8,
+        b'0' + (back % 10) as u8,
+    ]
+}
+
+/// Adds a number of any length.
+#[inline(never)]
+fn push_any_number(text: &mut Vec<u8>, number: u64) -> Result<(), AllocError>
     ensures { OnOk result (text.new.items ≡ text.old.items ++ decimal number) }
 {
     let mut digits = Buffer::new();
@@ -31,13 +58,42 @@ pub fn push_count(text: &mut Vec<u8>, count: usize) -> Result<(), AllocError>
     push_number(text, count as u64)
 }
 
-/// Adds the text of a revision.
+/// Adds the text of a revision. Mostly it has one digit and 32 bytes, and there is room for it: then it is copied as a
+/// whole.
+#[inline(never)]
 pub fn push_rev(text: &mut Vec<u8>, rev: &Rev) -> Result<(), AllocError>
     ensures { OnOk result (text.new.items ≡ text.old.items ++ rev_text rev.now) }
 {
-    push_generation(text, rev.generation())?;
+    let generation = rev.generation();
+    let sig = rev.sig_bytes();
+    if generation < 10 && sig.len() == 32 && text.capacity() - text.len() >= 34 {
+        return text.extend_from_slice(&short_text(generation, sig));
+    }
+    push_parts(text, generation, sig)
+}
+
+/// The text of a revision of a generation of one digit and a signature of 32 bytes.
+#[inline(always)]
+fn short_text(generation: u32, sig: &[u8]) -> [u8; 34]
+    requires generation { generation < 10 }
+    requires sig { length sig.now ≡ 32 }
+    ensures { result ≡ decimal generation ++ 45 ∷ sig.now }
+{
+    let bytes = &sig[..32];
+    let mut text = [b'-'; 34];
+    text[0] = b'0' + generation as u8;
+    text[2..].copy_from_slice(bytes);
+    text
+}
+
+/// Adds the text of a revision, part by part.
+#[inline(never)]
+fn push_parts(text: &mut Vec<u8>, generation: u32, sig: &[u8]) -> Result<(), AllocError>
+    ensures { OnOk result (text.new.items ≡ text.old.items ++ (decimal generation ++ 45 ∷ sig.now)) }
+{
+    push_generation(text, generation)?;
     text.push(b'-')?;
-    push_sig(text, rev.sig_bytes())
+    text.extend_from_slice(sig)
 }
 
 /// Adds a generation. Mostly it has one digit.
@@ -52,25 +108,13 @@ fn push_generation(text: &mut Vec<u8>, generation: u32) -> Result<(), AllocError
     push_number(text, u64::from(generation))
 }
 
-/// Adds the bytes of a signature. Mostly they are 32, and their count is known where they are copied.
-#[inline(always)]
-fn push_sig(text: &mut Vec<u8>, sig: &[u8]) -> Result<(), AllocError>
-    ensures { OnOk result (text.new.items ≡ text.old.items ++ sig.now) }
-{
-    if sig.len() == 32 {
-        text.extend_from_slice(&sig[..32])?;
-        return Ok(());
-    }
-    text.extend_from_slice(sig)
-}
-
 /// Adds the texts of revisions, joined by commas.
 pub fn push_revs(text: &mut Vec<u8>, revs: &[Rev]) -> Result<(), AllocError>
     ensures { OnOk result (text.new.items ≡ text.old.items ++ texts_of_revs revs.now) }
 {
     for i in 0..revs.len() {
         if i > 0 {
-            text.extend_from_slice(b",")?;
+            text.push(b',')?;
         }
         push_rev(text, &revs[i])?;
     }
@@ -114,7 +158,8 @@ fn push_line_of_revs(
     push_json(text, id)?;
     text.push(b' ')?;
     push_revs(text, revs)?;
-    text.extend_from_slice(b"\n")
+    text.push(b'\n')?;
+    Ok(())
 }
 
 /// Adds the line of the sequence up to which a feed was listed.
@@ -123,7 +168,8 @@ pub fn push_last(text: &mut Vec<u8>, last: u64) -> Result<(), AllocError>
 {
     text.extend_from_slice(b"last ")?;
     push_number(text, last)?;
-    text.extend_from_slice(b"\n")
+    text.push(b'\n')?;
+    Ok(())
 }
 
 /// Takes the answer back, where the program is quiet.

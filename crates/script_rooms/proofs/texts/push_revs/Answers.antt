@@ -2,7 +2,7 @@ use Rattle.proof_words.proofs.{◌++◌, ◌∷◌, [], List, ℕ, sym, ap, ◌�
 use Rattle.rev_core.specs.{rev_text}
 use Rattle.script_rooms.proofs.{texts-more, texts-first}
 use Rattle.script_rooms.proofs.texts.push_revs.Goals as goal
-use Rattle.script_rooms.proofs.texts.push_revs.Goals.{then-i-gt0+in_ok-extend_from_slice, else-i-gt0}
+use Rattle.script_rooms.proofs.texts.push_revs.Goals.{then-i-gt0+in_ok-push, else-i-gt0}
 
 pub loop-i-preserved : goal.loop-i-preserved
 loop-i-preserved c =
@@ -10,10 +10,10 @@ loop-i-preserved c =
     let revs = c.args.revs.now in
     let rev = c.index-revs-i.result in
     elim c.if-i-gt0.branch [
-      | then-i-gt0+in_ok-extend_from_slice w ↦
+      | then-i-gt0+in_ok-push w ↦
           let more = texts-more revs c.loop-i.i rev w.if-i-gt0.true c.loop-i-test.true c.index-revs-i.is in
           c.in_ok-push_rev.ensures ∙ ap (λ v. v.items ++ rev_text rev) w.text-is
-          ∙ ap (λ (t : List ℕ). t ++ rev_text rev) (w.in_ok-extend_from_slice.ensures.items ∙ ap (λ (t : List ℕ). t ++ 44 ∷ []) c.loop-i.invariant)
+          ∙ ap (λ (t : List ℕ). t ++ rev_text rev) (w.in_ok-push.ensures.items ∙ ap (λ (t : List ℕ). t ++ 44 ∷ []) c.loop-i.invariant)
           ∙ simp append_assoc (ap (λ (t : List ℕ). old ++ t) (simp append_assoc at (sym more)))
       | else-i-gt0 w ↦
           c.in_ok-push_rev.ensures ∙ ap (λ v. v.items ++ rev_text rev) w.text-is
