@@ -1,7 +1,7 @@
 -- What is left of an answer about databases that are there.
-use Rattle.proof_words.proofs.{◌≡◌, List, [], ℕ, ◌++◌, Option, Some, None, Result, Ok, Err, Bool, true, false, sym, ap, subst, ◌∙◌, IsErrAnd, if◌then◌else◌, IfOk, IfErr}
+use Rattle.proof_words.proofs.{◌≡◌, List, [], ℕ, ◌++◌, Option, Some, None, Result, Ok, Err, Bool, sym, ap, subst, ◌∙◌, IsErrAnd, if◌then◌else◌, IfOk, IfErr}
 use Rattle.repl_peer.specs.{PeerValue}
-use Rattle.script_engine.specs.{Told, Answering, MayTell, gave_up, text_with}
+use Rattle.script_engine.specs.{Answering, MayTell, gave_up, text_with}
 use Rattle.script_databases.specs.{State, peer_at, name_of, Refusal}
 use Rattle.script_databases.specs.declared.refusal.Refusal.TheVariants as why
 use Rattle.script_reads.specs.{rest_left, told_begun, told_from, left_in, holds_in}

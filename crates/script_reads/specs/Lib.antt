@@ -15,8 +15,8 @@ pub use Show.{leaf_line, show_text}
 pub use Changes.{row_line}
 pub use Log.{log_held}
 pub use Audit.{AuditAsk, Audits, FindsNone, IsClean, audit_asked, audit_text, audit_told}
-pub use Compare.{compare_left, compared_line, compared_lines, contradicts_line}
-pub use Conflicts.{conflict_line, conflicts_left, conflicts_line}
+pub use Compare.{FitsCompare, compare_left, compared_line, compared_lines, contradicts_line}
+pub use Conflicts.{FitsConflicts, conflict_line, conflicts_left, conflicts_line}
 pub use Docs.{doc_line, docs_left, leaf_lines}
 pub use Info.{census_part, identity_part, sessions_part}
 pub use Ledger.{contradicted_line, denied_line, parents_part, refused_for, refused_line, rev_part}

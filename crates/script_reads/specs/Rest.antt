@@ -12,14 +12,14 @@ use Rattle.script_reads.specs.declared.rest.Rest.TheVariants.{Compare, Conflicts
 
 -- the text that is left, in the state that the answer was begun in
 abbrev pub rest_left : State → Rest → List ℕ
-rest_left s (Compare r) = compare_left s r
-rest_left s (Conflicts r) = conflicts_left s r
-rest_left s (Docs r) = docs_left s r
+rest_left s (Compare r) = compare_left s r.value
+rest_left s (Conflicts r) = conflicts_left s r.value
+rest_left s (Docs r) = docs_left s r.value
 
 -- it was begun in this state
 abbrev pub FitsRest : State → Rest → Type 0
-FitsRest s (Compare r) = FitsCompare s r
-FitsRest s (Conflicts r) = FitsConflicts s r
+FitsRest s (Compare r) = FitsCompare s r.value
+FitsRest s (Conflicts r) = FitsConflicts s r.value
 FitsRest s (Docs r) = Unit {0}
 
 -- what an answer tells of which nothing was given yet

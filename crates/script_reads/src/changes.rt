@@ -116,10 +116,11 @@ impl RowPrinter for ChangeRows {
     ) -> Result<(), AllocError> {
         answer.extend_from_slice(b"change ")?;
         push_number(answer, row.seq())?;
-        answer.extend_from_slice(b" ")?;
+        answer.push(b' ')?;
         push_json(answer, row.id().text())?;
-        answer.extend_from_slice(b" ")?;
+        answer.push(b' ')?;
         push_revs(answer, row.leaves())?;
-        answer.extend_from_slice(b"\n")
+        answer.push(b'\n')?;
+        Ok(())
     }
 }

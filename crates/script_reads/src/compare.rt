@@ -63,12 +63,14 @@ impl<'v, 'a> LongRoom<&'v Line<'a>> for Compare<'v, 'a> {
         let chosen = read_choice(alloc, self.doc_ids)?;
         let source = String::from_str(alloc, self.source)?;
         let target = String::from_str(alloc, self.target)?;
-        Ok(Rest::Compare(CompareRest {
+        let rest = CompareRest {
             source,
             target,
             walk: Walk { since: 0, chosen },
             total: Total::none(),
-        }))
+        };
+        let block = Box::new(alloc, rest)?;
+        Ok(Rest::Compare(block))
     }
 }
 

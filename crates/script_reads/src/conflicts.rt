@@ -51,11 +51,13 @@ impl<'v, 'a> LongRoom<&'v Line<'a>> for Conflicts<'v> {
             since: 0,
             chosen: None,
         };
-        Ok(Rest::Conflicts(ConflictsRest {
+        let rest = ConflictsRest {
             db,
             walk,
             census: Census::none(),
-        }))
+        };
+        let block = Box::new(alloc, rest)?;
+        Ok(Rest::Conflicts(block))
     }
 }
 

@@ -93,5 +93,6 @@ fn print(answer: &mut Vec<u8>, document: &doc_json::Doc) -> Result<(), AllocErro
     ensures { OnOk result (answer.new.items ≡ answer.old.items ++ ended (doc_text document.now)) }
 {
     push_doc(answer, document)?;
-    answer.extend_from_slice(b"\n")
+    answer.push(b'\n')?;
+    Ok(())
 }

@@ -62,7 +62,8 @@ impl<'v, 'a> LongRoom<&'v Line<'a>> for Docs<'v, 'a> {
             since: self.since,
             chosen,
         };
-        Ok(Rest::Docs(DocsRest { db, walk }))
+        let block = Box::new(alloc, DocsRest { db, walk })?;
+        Ok(Rest::Docs(block))
     }
 }
 

@@ -8,12 +8,12 @@ use crate::docs::DocsRest;
 use script_databases::Databases;
 use std::alloc::{AllocError, Global};
 
-/// What is left of an answer. It names the databases that it is about.
+/// What is left of an answer. It names the databases that it is about. It is small, since each line hands on one or none.
 #[derive(Drop)]
 pub enum Rest {
-    Compare(CompareRest),
-    Conflicts(ConflictsRest),
-    Docs(DocsRest),
+    Compare(Box<CompareRest>),
+    Conflicts(Box<ConflictsRest>),
+    Docs(Box<DocsRest>),
 }
 
 impl Rest {

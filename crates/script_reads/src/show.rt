@@ -92,7 +92,8 @@ fn push_head(answer: &mut Vec<u8>, id: &str, tree: &Tree, all: &[Rev]) -> Result
     push_count(answer, all.len())?;
     answer.extend_from_slice(b" revs ")?;
     push_count(answer, tree.rev_count())?;
-    answer.extend_from_slice(b"\n")
+    answer.push(b'\n')?;
+    Ok(())
 }
 
 /// Prints the winner, which is the first of the leaves. Each tree of a database has one.
@@ -116,21 +117,21 @@ fn push_leaves(
     ensures { OnOk result (answer.new.items ≡ answer.old.items ++ flat_map (leaf_line tree.now) leaves.now) }
 {
     for leaf in leaves {
-        push_leaf(alloc, answer, tree, *leaf)?;
+        push_leaf(alloc, answer, tree, leaf)?;
     }
     Ok(())
 }
 
 /// Prints a revision of the tree.
-fn push_leaf(alloc: Global, answer: &mut Vec<u8>, tree: &Tree, leaf: Rev) -> Result<(), AllocError>
-    requires { has tree.now leaf ≡ true }
-    ensures { OnOk result (answer.new.items ≡ answer.old.items ++ leaf_line tree.now leaf) }
+fn push_leaf(alloc: Global, answer: &mut Vec<u8>, tree: &Tree, leaf: &Rev) -> Result<(), AllocError>
+    requires { has tree.now leaf.now ≡ true }
+    ensures { OnOk result (answer.new.items ≡ answer.old.items ++ leaf_line tree.now leaf.now) }
 {
-    let Some(standing) = tree.standing(alloc, leaf)? else {
+    let Some(standing) = tree.standing(alloc, *leaf)? else {
         unreachable!()
     };
     let deleted = is_deletion(standing.content);
-    push_leaf_text(answer, &leaf, deleted, standing.ancestry.revs())
+    push_leaf_text(answer, leaf, deleted, standing.ancestry.revs())
 }
 
 /// Whether what is known of a content is that it is a deletion.
@@ -160,5 +161,6 @@ fn push_leaf_text(
         answer.extend_from_slice(b" live ")?;
     }
     push_revs(answer, ancestry)?;
-    answer.extend_from_slice(b"\n")
+    answer.push(b'\n')?;
+    Ok(())
 }

@@ -256,7 +256,8 @@ fn print_made(answer: &mut Vec<u8>, db: &str) -> Result<(), AllocError>
 {
     answer.extend_from_slice(b"made ")?;
     answer.extend_from_slice(db.as_bytes())?;
-    answer.extend_from_slice(b"\n")
+    answer.push(b'\n')?;
+    Ok(())
 }
 
 /// Prints that a database is there.
@@ -265,7 +266,8 @@ fn print_there(answer: &mut Vec<u8>, db: &str) -> Result<(), AllocError>
 {
     answer.extend_from_slice(b"there ")?;
     answer.extend_from_slice(db.as_bytes())?;
-    answer.extend_from_slice(b"\n")
+    answer.push(b'\n')?;
+    Ok(())
 }
 
 /// Prints what putting a document did.
@@ -284,11 +286,12 @@ fn print_loaded(answer: &mut Vec<u8>, db: &str, document: &Doc, seq: u64) -> Res
 {
     answer.extend_from_slice(b"loaded ")?;
     answer.extend_from_slice(db.as_bytes())?;
-    answer.extend_from_slice(b" ")?;
+    answer.push(b' ')?;
     push_document(answer, document)?;
     answer.extend_from_slice(b" seq ")?;
     push_number(answer, seq)?;
-    answer.extend_from_slice(b"\n")
+    answer.push(b'\n')?;
+    Ok(())
 }
 
 /// Prints that putting a document changed nothing.
@@ -297,9 +300,10 @@ fn print_same(answer: &mut Vec<u8>, db: &str, document: &Doc) -> Result<(), Allo
 {
     answer.extend_from_slice(b"same ")?;
     answer.extend_from_slice(db.as_bytes())?;
-    answer.extend_from_slice(b" ")?;
+    answer.push(b' ')?;
     push_document(answer, document)?;
-    answer.extend_from_slice(b"\n")
+    answer.push(b'\n')?;
+    Ok(())
 }
 
 /// Prints a document's id, and its newest revision.
@@ -308,6 +312,6 @@ fn push_document(answer: &mut Vec<u8>, document: &Doc) -> Result<(), AllocError>
 {
     let rev = document.ancestry().head();
     push_json(answer, document.id().text())?;
-    answer.extend_from_slice(b" ")?;
+    answer.push(b' ')?;
     push_rev(answer, &rev)
 }

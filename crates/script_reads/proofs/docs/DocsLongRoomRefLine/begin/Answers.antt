@@ -17,8 +17,11 @@ returns-in_err-chosen-clause-told c = handed_from c.args.databases.now c.in_err-
 pub returns-in_err-db-clause-told : goal.returns-in_err-db-clause-told
 returns-in_err-db-clause-told c = memory_from c.args.databases.now c.from_residual-in_err-db.result c.from_residual-in_err-db.ensures.1
 
+pub returns-in_err-block-clause-told : goal.returns-in_err-block-clause-told
+returns-in_err-block-clause-told c = memory_from c.args.databases.now c.from_residual-in_err-block.result c.from_residual-in_err-block.ensures.1
+
 pub returns-clause-told : goal.returns-clause-told
 returns-clause-told c =
     let rest : DocsRest = record { db = c.in_ok-db.db; walk = record { since = c.args.self.now.since; chosen = c.in_ok-chosen.chosen } } in
     let left = left_found c.args.databases.now (λ (l : PeerValue). flat_map (leaf_lines l.db) (rows_left l.db rest.walk) ++ last_line l.db.update_seq) c.in_ok-db.ensures.ok (sym c.in-Some.ensures) in
-    in_full (reads (Ok (docs_left c.args.databases.now rest)) (passes _ (is_found why.NoDatabase (sym c.in-Some.ensures)) ∙ passes _ c.in_ok-chosen.ensures ∙ ap Ok (sym left)))
+    in_full (reads (Ok (docs_left c.args.databases.now c.in_ok-block.block.value)) (passes _ (is_found why.NoDatabase (sym c.in-Some.ensures)) ∙ passes _ c.in_ok-chosen.ensures ∙ ap Ok (sym (ap (docs_left c.args.databases.now) c.in_ok-block.ensures.ok ∙ left))))
