@@ -7,7 +7,7 @@ ghost use Rattle.script_reads.specs.Rest.{FitsRest, told_begun};
 ghost use Rattle.script_words.specs.Script.{AnswersAsked};
 ghost use Rattle.script_words.specs.words.{asked_if, asked_in};
 
-use json_values::{Line, LineValue};
+use json_values::{Line, LineValue, is_same_text};
 use script_databases::{Databases, Refusal};
 use script_reads::{
     Audit, Changes, Compare, Conflicts, Doc, Docs, Info, Ledger, Log, Rest, Show, begin_in, whole,
@@ -44,22 +44,22 @@ fn word_of(value: &LineValue<'_>) -> Option<Word>
     ensures { asked_in (line_view value.now) ≡ asked_if result (line_view value.now) }
 {
     match text_member(value, "do") {
-        Some("load") => Some(Word::Load),
-        Some("edit") => Some(Word::Edit),
-        Some("show") => Some(Word::Show),
-        Some("doc") => Some(Word::Doc),
-        Some("changes") => Some(Word::Changes),
-        Some("log") => Some(Word::Log),
-        Some("audit") => Some(Word::Audit),
-        Some("replicate") => Some(Word::Replicate),
-        Some("backup") => Some(Word::Backup),
-        Some("restore") => Some(Word::Restore),
-        Some("compare") => Some(Word::Compare),
-        Some("conflicts") => Some(Word::Conflicts),
-        Some("docs") => Some(Word::Docs),
-        Some("info") => Some(Word::Info),
-        Some("ledger") => Some(Word::Ledger),
-        Some("sync") => Some(Word::Sync),
+        Some(name) if is_same_text(name, "load") => Some(Word::Load),
+        Some(name) if is_same_text(name, "edit") => Some(Word::Edit),
+        Some(name) if is_same_text(name, "show") => Some(Word::Show),
+        Some(name) if is_same_text(name, "doc") => Some(Word::Doc),
+        Some(name) if is_same_text(name, "changes") => Some(Word::Changes),
+        Some(name) if is_same_text(name, "log") => Some(Word::Log),
+        Some(name) if is_same_text(name, "audit") => Some(Word::Audit),
+        Some(name) if is_same_text(name, "replicate") => Some(Word::Replicate),
+        Some(name) if is_same_text(name, "backup") => Some(Word::Backup),
+        Some(name) if is_same_text(name, "restore") => Some(Word::Restore),
+        Some(name) if is_same_text(name, "compare") => Some(Word::Compare),
+        Some(name) if is_same_text(name, "conflicts") => Some(Word::Conflicts),
+        Some(name) if is_same_text(name, "docs") => Some(Word::Docs),
+        Some(name) if is_same_text(name, "info") => Some(Word::Info),
+        Some(name) if is_same_text(name, "ledger") => Some(Word::Ledger),
+        Some(name) if is_same_text(name, "sync") => Some(Word::Sync),
         _ => None,
     }
 }
