@@ -1,7 +1,6 @@
 -- A text ends in columns in one way.
-use Rattle.proof_words.proofs.{◌≡◌, ℕ, zero, suc, ◌+◌, ◌<◌, ◌≤◌, List, [], ◌∷◌, ◌++◌, length, get_or, drop, refl, sym, ap, subst, ◌∙◌, append_assoc, arith, codes, append-nil, append_cancel_left, decimal_is_IsNumeral, digits_value}
-use Rattle.std.proofs.Math.Seq.{drop-cons}
-use Rattle.answer_lines.specs.{IsNumber, EndsIn, IsFront, column_text, Column, Table}
+use Rattle.proof_words.proofs.{◌≡◌, ℕ, ◌+◌, ◌<◌, ◌≤◌, List, [], ◌∷◌, ◌++◌, sym, ap, subst, ◌∙◌, arith, codes, append_cancel_left, decimal_is_IsNumeral, digits_value}
+use Rattle.answer_lines.specs.{IsNumber, EndsIn, IsFront, column_text, Table}
 use Rattle.answer_lines.specs.declared.told.Table.TheVariants as tables
 use Rattle.answer_lines.proofs.LineLemmas.{named_unique}
 use Rattle.answer_lines.proofs.TurnLemmas.{OneWay}

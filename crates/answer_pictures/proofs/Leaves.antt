@@ -4,7 +4,7 @@ use Rattle.std.proofs.Math.Seq.{drop-cons}
 use Rattle.rev_core.specs.{RevId}
 use Rattle.answer_lines.specs.{Told, Tells}
 use Rattle.answer_pictures.specs.{Document, Leaf, Form, Whole, Draws, Sign, signs_of}
-use Rattle.answer_pictures.specs.Drawing.{IsDrawn, IsNext, IsPicture, Sketch, State, Takes, conflict, empty, found, log, loose, more, opened, other, row, state_of, states, whole, with_all, with_leaf}
+use Rattle.answer_pictures.specs.Drawing.{IsDrawn, IsNext, IsPicture, Sketch, State, Takes, conflict, found, log, row, state_of, states, whole, with_all, with_leaf}
 
 state_is : (r s : RevId) (a b c d : Bool) → r ≡ s → a ≡ b → c ≡ d → Path State (r, a, c) (s, b, d)
 state_is r s a b c d p q o = λ i. (p i, q i, o i)

@@ -35,7 +35,7 @@ pub use Rattle.std.proofs.lemmas.Option.{MatchOption-at_some, get_or_from_slice_
 pub use Rattle.std.proofs.lemmas.Result.{IfOk-equal, IfOk-weaker, MatchResult-at_ok, err_from_is_err_and, on_err_weaker, on_ok_weaker}
 pub use Rattle.std.proofs.lemmas.Simd.{chunk-drop, get_or-chunk, leading_from_mask_l, length-chunk, length-put_chunk, mask_l-mod, take_more_put_chunk, trailing_mask_l, zip2_splat, zip2_splat_left}
 pub use Rattle.std.proofs.lemmas.Slice.Eq.{bytes_eq-Decides, starts_is, strip_prefix_is, strip_suffix_is}
-pub use Rattle.std.proofs.lemmas.Str.{IsCharBoundary-after_ascii, IsCharBoundary-before_ascii, IsUtf8-append, IsUtf8-between, IsUtf8-from_ascii, IsUtf8-from_is_utf8, IsUtf8-nil, digit_value_digit, encodes-append, is_utf8-from_IsUtf8}
+pub use Rattle.std.proofs.lemmas.Str.{IsAscii-append, IsCharBoundary-after_ascii, IsCharBoundary-before_ascii, IsUtf8-append, IsUtf8-between, IsUtf8-from_ascii, IsUtf8-from_is_utf8, IsUtf8-nil, digit_value_digit, encodes-append, is_utf8-from_IsUtf8}
 pub use Rattle.std.proofs.lemmas.Str.Ascii.{IsAscii-cons, IsAscii-more}
 pub use Rattle.std.proofs.lemmas.Str.Parse.{IsNumeralModel, digit_at, numerals_by_fold}
 pub use Rattle.std.proofs.lemmas.Str.Pattern.{starts_text}

@@ -1,4 +1,4 @@
-use Rattle.proof_words.proofs.{sym, subst, ℕ, List}
+use Rattle.proof_words.proofs.{subst, ℕ, List}
 use Rattle.rev_core.specs.{RevId}
 use Rattle.answer_lines.specs.{IsRevs}
 use Rattle.answer_lines.proofs.{listed_list, none_at}

@@ -1,4 +1,3 @@
-use Rattle.proof_words.proofs.{ℕ, List}
 use Rattle.answer_lines.specs.{NoFinding, NoLog, NoRow}
 use Rattle.answer_lines.specs.declared.told.Finding.TheVariants as findings
 use Rattle.answer_lines.specs.declared.told.Table.TheVariants as tables

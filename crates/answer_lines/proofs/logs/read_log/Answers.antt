@@ -1,4 +1,4 @@
-use Rattle.proof_words.proofs.{List, ℕ, subst}
+use Rattle.proof_words.proofs.{List, subst}
 use Rattle.answer_lines.specs.{IsHistory, Logged}
 use Rattle.answer_lines.proofs.{none_at, heads_same}
 use Rattle.answer_lines.proofs.logs.read_log.Goals as goal

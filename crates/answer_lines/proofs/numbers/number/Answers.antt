@@ -1,4 +1,4 @@
-use Rattle.proof_words.proofs.{◌≡◌, ℕ, sym, ap, subst, ◌∙◌, decimal, List, Ok, Result, false≢true, IsUtf8, IsUtf8-from_ascii, IsAscii-decimal, parse-decimal, pointwise, bytes_decides}
+use Rattle.proof_words.proofs.{◌≡◌, ℕ, sym, ap, subst, ◌∙◌, decimal, Ok, Result, false≢true, IsUtf8, IsUtf8-from_ascii, IsAscii-decimal, parse-decimal, bytes_decides}
 use Rattle.answer_lines.proofs.{clash}
 use Rattle.answer_lines.proofs.numbers.number.Goals as goal
 

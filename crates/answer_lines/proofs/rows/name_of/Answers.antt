@@ -1,4 +1,4 @@
-use Rattle.proof_words.proofs.{subst, sym, IsUtf8}
+use Rattle.proof_words.proofs.{subst, IsUtf8}
 use Rattle.answer_lines.proofs.{front_unique}
 use Rattle.answer_lines.proofs.rows.name_of.Goals as goal
 

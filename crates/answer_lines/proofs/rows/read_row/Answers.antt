@@ -1,4 +1,4 @@
-use Rattle.proof_words.proofs.{Some, subst, List, ℕ, reverse}
+use Rattle.proof_words.proofs.{subst, reverse}
 use Rattle.answer_lines.specs.{Ends, EndsIn, IsFront, columns_of}
 use Rattle.answer_lines.proofs.{some_at, column_unique, turns_unique}
 use Rattle.answer_lines.proofs.rows.read_row.Goals as goal

@@ -1,4 +1,4 @@
-use Rattle.proof_words.proofs.{◌≡◌, ℕ, ◌<◌, false, nat_le, sym, subst, ◌∙◌, arith, string_bytes, leb-true, nat_tests}
+use Rattle.proof_words.proofs.{◌≡◌, ℕ, ◌<◌, false, nat_le, sym, subst, ◌∙◌, arith, string_bytes, nat_tests, leb-true}
 use Rattle.answer_pictures.specs.Drawing.{Holds, empty, more, states, whole, with_leaf}
 use Rattle.answer_pictures.proofs.reading.read_leaf.Goals as goal
 

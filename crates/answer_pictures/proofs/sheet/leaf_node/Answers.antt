@@ -1,4 +1,4 @@
-use Rattle.proof_words.proofs.{◌++◌, refl, sym, append_assoc, ◌∙◌, arith, common_steps}
+use Rattle.proof_words.proofs.{◌++◌, append_assoc, ◌∙◌, arith, common_steps}
 use Rattle.rev_core.specs.{rev_text}
 use Rattle.answer_pictures.specs.declared.form.Form.TheVariants.{Svg}
 use Rattle.answer_pictures.specs.{leaf, node_label, shape_text, short_text}

@@ -1,5 +1,5 @@
 use Rattle.proof_words.proofs.{ap, refl, subst, subst₂, ◌≡◌, ◌∙◌, true, map, string_bytes, List, ℕ, codes, Result, Ok, Err, IfOk, IfErr}
-use Rattle.clap.specs.Words.{HasKind, app_of, fault_of, is_simple_and_free}
+use Rattle.clap.specs.Words.{HasKind, fault_of, is_simple_and_free}
 use Rattle.clap.proofs.OnLiterals.{clap_on_literals}
 use Rattle.program_shell.specs.{IsFound}
 use Rattle.couch_lines.specs.{command_line, SaysBy, RefusesBy, Refused, Refuses, Task, NoTask}
