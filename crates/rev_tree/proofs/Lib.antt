@@ -10,6 +10,7 @@ pub mod Lookups
 pub mod Members
 pub mod Places
 pub mod Putting
+pub mod Rooms
 pub mod Setting
 pub mod Sorting
 pub mod Starts
@@ -30,7 +31,8 @@ pub use Lookups.{content_is, has_is, is_some-copied, leaf_is, ok_known, origin_i
 pub use Members.{item_among, kept_fail, kept_pass}
 pub use Places.{is_some-node_of, node_at, none_of, place_at, place_known, place_none, place_unknown, place_within, read_alike, read_at, rev_at_place}
 pub use Places.{slice_get-append, slice_get-last}
-pub use Putting.{IsPut, child_at, next_unplaced, put_end, put_next, put_start, room_for, standing}
+pub use Putting.{IsPut, child_at, next_unplaced, put_end, put_next, put_start, room_first, room_for, room_next, standing}
+pub use Rooms.{all_new, count_next, count_within, fewer_new, known_counts_not, new_counts}
 pub use Sorting.{leaves_in_order, pair_cmp, pair_cmp_total, told, told_deleted}
 pub use Starts.{IsIndexed-none}
 pub use Views.{len-origins}

@@ -1,5 +1,5 @@
 -- A tree as it is kept: nodes that name their parents by place, and an index of the places.
-use Rattle.std.specs.Prelude.{◌≡◌, ℕ, ◌+◌, ◌^◌, ◌<◌, ◌≤◌, Bool, true, false, List, [], ◌∷◌, ◌++◌, map, length, Option, Some, None, slice_get, IfSome}
+use Rattle.std.specs.Prelude.{◌≡◌, ℕ, ◌+◌, ◌^◌, ◌<◌, ◌≤◌, Bool, true, false, cond, List, [], ◌∷◌, ◌++◌, map, length, Option, Some, None, slice_get, IfSome}
 use Rattle.std.specs.FinMap as finmap
 use Rattle.std.specs.Option.{option_map_or}
 use Rattle.std.specs.Ordering.{is_lt, bool_cmp, ordering_then}
@@ -88,6 +88,15 @@ pub record IsIndexed (nodes : List NodeValue) (entries : List (ℕ × ℕ)) : Ty
   pub index : entries ≡ index_for (revs_in nodes)
   pub linked : IsLinked nodes
 
+-- 1 for a revision that is not among others, else 0
+abbrev pub unless_among : List RevId → RevId → ℕ
+unless_among known r = cond (is_among r known) 0 1
+
+-- how many revisions are not among others
+abbrev pub count_new : List RevId → List RevId → ℕ
+count_new known [] = 0
+count_new known (r ∷ revs) = unless_among known r + count_new known revs
+
 -- the nodes make a tree, of whose winner, where there is one, the node stands at a place
 pub record IsLed (nodes : List NodeValue) (best : ℕ) : Type 0 where
   pub tree : IsTree (tree_of nodes)
@@ -110,4 +119,4 @@ pub record HasGained (old new : NodesValue) (r : RevId) (origin : Origin) (k : �
   pub tree : tree_of new.items ≡ with_rev (tree_of old.items) r origin
   pub at : slice_get (revs_in new.items) k ≡ Some r
   pub kept : (i : ℕ) (q : RevId) → slice_get (revs_in old.items) i ≡ Some q → slice_get (revs_in new.items) i ≡ Some q
-  pub room : (more : ℕ) → HasRoom old (more + 1) → HasRoom new more
+  pub room : (more : ℕ) → HasRoom old (unless_among (revs_in old.items) r + more) → HasRoom new more

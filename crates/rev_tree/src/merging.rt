@@ -6,7 +6,7 @@ ghost use Rattle.rev_core.specs.Rev.{RevId};
 ghost use Rattle.rev_core.specs.Ancestry.{IsAncestry, edges_of};
 ghost use Rattle.rev_tree.specs.Tree.{merged, has_edge, first_contradiction, leaves};
 ghost use Rattle.rev_tree.specs.InOrder.{first_of};
-ghost use Rattle.rev_tree.specs.Nodes.{HasGained, HasRoom, IsLed, IsLinked, place_of, rev_at, revs_in, tree_of};
+ghost use Rattle.rev_tree.specs.Nodes.{HasGained, HasRoom, IsLed, IsLinked, count_new, place_of, rev_at, revs_in, tree_of, unless_among};
 
 use crate::content::Content;
 use crate::fault::Contradiction;
@@ -80,7 +80,7 @@ impl Nodes {
     }
 
     /// Puts the revisions of an ancestry, its edges and the content of its head among the nodes, of which the winner's
-    /// stands at a place, and gives the place of the winner's node then. There is room for all.
+    /// stands at a place, and gives the place of the winner's node then. There is room for the missing ones.
     pub(crate) fn put(
         &mut self,
         best: usize,
@@ -91,7 +91,7 @@ impl Nodes {
         requires led { IsLed self.old.items best }
         requires ancestry { IsAncestry revs.now }
         requires none { first_contradiction (tree_of self.old.items).parents (edges_of revs.now) ≡ None }
-        requires room { HasRoom self.old (length revs.now) }
+        requires room { HasRoom self.old (count_new (revs_in self.old.items) revs.now) }
         ensures tree { tree_of self.new.items ≡ merged (tree_of self.old.items) revs.now content origin }
         ensures best { slice_get (revs_in self.new.items) result ≡ first_of (leaves (tree_of self.new.items)) }
     {
@@ -108,7 +108,7 @@ impl Nodes {
     fn put_first(&mut self, revs: &[Rev], content: Content, origin: Origin)
         requires none { self.old.items ≡ [] }
         requires ancestry { IsAncestry revs.now }
-        requires room { HasRoom self.old (length revs.now) }
+        requires room { HasRoom self.old (count_new (revs_in self.old.items) revs.now) }
         ensures tree { tree_of self.new.items ≡ merged (tree_of self.old.items) revs.now content origin }
         ensures revs { revs_in self.new.items ≡ revs.now }
     {
@@ -124,7 +124,7 @@ impl Nodes {
     /// Puts an ancestry among nodes, of which some may be its own, and gives the place of its head.
     fn put_among(&mut self, revs: &[Rev], content: Content, origin: Origin) -> usize
         requires some { 0 < length revs.now }
-        requires room { HasRoom self.old (length revs.now) }
+        requires room { HasRoom self.old (count_new (revs_in self.old.items) revs.now) }
         ensures tree { tree_of self.new.items ≡ merged (tree_of self.old.items) revs.now content origin }
         ensures head { slice_get (revs_in self.new.items) result ≡ slice_get revs.now 0 }
         ensures kept { (i : ℕ) (r : RevId)
@@ -148,7 +148,7 @@ impl Nodes {
     /// It is looked for at one place first.
     fn add(&mut self, near: Option<usize>, rev: Rev, origin: Origin) -> usize
         requires near { IfSome near (λ i. i < length self.old.items) }
-        requires room { HasRoom self.old 1 }
+        requires room { HasRoom self.old (unless_among (revs_in self.old.items) rev) }
         ensures { HasGained self.old self.new rev origin result }
     {
         match self.place_near(near, &rev) {

@@ -18,11 +18,14 @@ use std::marker::Model;
 /// The most nodes that are walked for a revision. From one more on an index has their places.
 pub(crate) const MOST_WALKED: usize = 8;
 
+/// The most nodes and given revisions together of which the missing ones are counted, so that room is made for them alone.
+const MOST_COUNTED: usize = 4;
+
 /// The most nodes of a tree: the place of a parent, counted from 1, is kept in 32 bits.
 const MOST_NODES: usize = u32::MAX as usize;
 
 ghost use Rattle.rev_tree.specs.Index.{falls, index_for, mark_of, noted_from};
-ghost use Rattle.rev_tree.specs.Nodes.{Distinct, HasGained, HasRoom, IsLinked, node_of, place_of, revs_in, tree_of};
+ghost use Rattle.rev_tree.specs.Nodes.{Distinct, HasGained, HasRoom, IsLinked, count_new, node_of, place_of, revs_in, tree_of, unless_among};
 
 /// Nodes with the index of their places. A node is never removed, so places stay.
 ///
@@ -104,11 +107,12 @@ impl Nodes {
         walked_to(&self.list, rev)
     }
 
-    /// Makes room for the revisions of an ancestry, known ones too, and for no more where all together are few. For more
-    /// nodes than have places there is none.
+    /// Makes room for the revisions of an ancestry, known ones too, for no more where all together are few, and for the
+    /// missing ones alone where they are very few. For more nodes than have places there is none.
+    #[tactic(auto, using(crate::proofs::Rooms::count_within))]
     pub(crate) fn make_room(&mut self, revs: &[Rev]) -> Result<(), AllocError>
         ensures items { self.new.items ≡ self.old.items }
-        ensures room { OnOk result (HasRoom self.new (length revs.now)) }
+        ensures room { OnOk result (HasRoom self.new (count_new (revs_in self.new.items) revs.now)) }
     {
         let all = self.list.as_slice().len() + revs.len();
         if all > MOST_NODES {
@@ -297,12 +301,43 @@ fn index_from(nodes: &[Node], places: &mut Places, first: usize)
     }
 }
 
-/// Makes room in the list for the nodes of revisions, and for no more where all together are few.
+/// How many of some revisions have no node. The nodes are walked.
+fn count_new(nodes: &[Node], revs: &[Rev]) -> usize
+    ensures { result ≡ count_new (revs_in nodes.now) revs.now }
+{
+    if nodes.is_empty() {
+        return revs.len();
+    }
+    let mut count = 0;
+    for rev in revs {
+        count += once_new(nodes, rev);
+    }
+    count
+}
+
+/// 1 for a revision that has no node, else 0. The nodes are walked.
+fn once_new(nodes: &[Node], rev: &Rev) -> usize
+    ensures new { result ≡ unless_among (revs_in nodes.now) rev.now }
+    ensures most { result ≤ 1 }
+{
+    match walked_to(nodes, rev) {
+        Some(_) => 0,
+        None => 1,
+    }
+}
+
+/// Makes room in the list for the nodes of revisions: for no more where all together are few, and for the missing ones
+/// alone where they are very few.
+#[tactic(auto, using(crate::proofs::Rooms::count_within))]
 fn reserve_nodes(list: &mut Vec<Node>, revs: &[Rev]) -> Result<(), AllocError>
     ensures items { list.new.items ≡ list.old.items }
-    ensures room { OnOk result (length list.new.items + length revs.now ≤ vec_capacity list.new) }
+    ensures room { OnOk result (length list.new.items + count_new (revs_in list.new.items) revs.now ≤ vec_capacity list.new) }
 {
-    if list.as_slice().len() + revs.len() <= MOST_WALKED {
+    let all = list.as_slice().len() + revs.len();
+    if all <= MOST_COUNTED {
+        let more = count_new(list, revs).min(revs.len());
+        list.reserve_exact(more)
+    } else if all <= MOST_WALKED {
         list.reserve_exact(revs.len())
     } else {
         list.reserve(revs.len())

@@ -1,6 +1,6 @@
-use Rattle.proof_words.proofs.{◌≡◌, ◌++◌, ◌∷◌, [], None, length, take, slice_get, sym, ap, ◌∙◌, subst, rules, take-append_seam}
-use Rattle.rev_tree.specs.{index_for, place_of, revs_in, tree_of, with_rev}
-use Rattle.rev_tree.proofs.{slice_get-last, IsAdded, added, new_node, length-revs_in}
+use Rattle.proof_words.proofs.{◌≡◌, ◌+◌, ◌++◌, ◌∷◌, [], None, length, take, slice_get, sym, ap, ◌∙◌, subst, rules, take-append_seam}
+use Rattle.rev_tree.specs.{HasRoom, index_for, place_of, revs_in, tree_of, with_rev}
+use Rattle.rev_tree.proofs.{slice_get-last, IsAdded, added, new_node, length-revs_in, new_counts}
 use Rattle.rev_tree.proofs.nodes.Nodes.push.Goals as goal
 use Rattle.rev_tree.proofs.nodes.Nodes.push.Goals.{After-index_rest}
 
@@ -32,7 +32,7 @@ returns-clause-gained c =
           ∙ ap (slice_get (revs_in items ++ c.args.rev ∷ [])) (ap length c.as_slice-place.ensures.value ∙ sym (length-revs_in items))
           ∙ slice_get-last (revs_in items) c.args.rev;
       kept = λ i r h. (adds c).kept i r (ap (λ v. slice_get (revs_in v.items) i) c.self.view_is ∙ h);
-      room = λ n h. search rules;
+      room = λ n h. let more = subst (λ k. HasRoom c.args.self.now (k + n)) (new_counts c.args.self.now.items c.args.rev c.requires.new) h in search rules;
     }
 
 pub returns-clause-revs : goal.returns-clause-revs

@@ -1,11 +1,11 @@
 use Rattle.proof_words.proofs.{◌≡◌, ℕ, ◌-◌, ◌<◌, Some, length, slice_get, sym, ap, ◌∙◌, arith, slice_get-get_or}
 use Rattle.rev_core.specs.{RevId}
 use Rattle.rev_tree.specs.{revs_in, tree_of}
-use Rattle.rev_tree.proofs.{read_at, child_at, put_start, put_next, put_end, room_for, standing}
+use Rattle.rev_tree.proofs.{read_at, child_at, put_start, put_next, put_end, room_first, room_next, standing}
 use Rattle.rev_tree.proofs.nodes.Nodes.put_among.Goals as goal
 
 pub add-head-requires-clause-room : goal.add-head-requires-clause-room
-add-head-requires-clause-room c = room_for c.args.self.now (length c.args.revs.now) 1 c.requires.some c.requires.room
+add-head-requires-clause-room c = room_first c.args.self.now c.args.revs.now c.index-revs-0.result c.requires.some c.index-revs-0.is c.requires.room
 
 pub give-requires : goal.give-requires
 give-requires c = record { within = standing c.add-head.new.self c.add-head.result c.index-revs-0.result c.add-head.ensures.at }
@@ -28,7 +28,7 @@ near-near-requires c =
     standing c.loop-i.self c.loop-i.child _ (child_at _ c.loop-i.self c.args.origin c.args.revs.now c.args.content c.loop-i.i c.loop-i.child c.loop-i.invariant.put (omega arith) c.index-revs-0.result low)
 
 pub add-parent-requires-clause-room : goal.add-parent-requires-clause-room
-add-parent-requires-clause-room c = room_for c.loop-i.self (length c.args.revs.now - c.loop-i.i) 1 (omega (arith, c.loop-i-test.true)) c.loop-i.invariant.put.room
+add-parent-requires-clause-room c = room_next c.loop-i.self c.args.revs.now c.loop-i.i c.index-revs-i.result c.loop-i-test.true c.index-revs-i.is c.loop-i.invariant.put.room
 
 pub link-requires-clause-parent_within : goal.link-requires-clause-parent_within
 link-requires-clause-parent_within c = standing c.add-parent.new.self c.add-parent.result c.index-revs-i.result c.add-parent.ensures.at

@@ -1,7 +1,7 @@
-use Rattle.proof_words.proofs.{◌≡◌, ◌-◌, ◌<◌, ◌++◌, ◌∷◌, [], List, length, take, sym, ap, ◌∙◌, refl, arith, take_more, take_all}
+use Rattle.proof_words.proofs.{◌≡◌, ◌-◌, ◌<◌, ◌++◌, ◌∷◌, [], List, length, take, sym, ap, ◌∙◌, subst, refl, arith, take_more, take_all}
 use Rattle.rev_core.specs.{RevId}
-use Rattle.rev_tree.specs.{revs_in, tree_of}
-use Rattle.rev_tree.proofs.{child_at, next_unplaced, put_start, put_next, put_end, room_for, standing}
+use Rattle.rev_tree.specs.{HasRoom, revs_in, tree_of}
+use Rattle.rev_tree.proofs.{child_at, next_unplaced, put_start, put_next, put_end, new_counts, room_first, room_next, standing}
 use Rattle.rev_tree.proofs.nodes.Nodes.put_first.Goals as goal
 
 none_taken : (revs : List RevId) → [] ≡ take 0 revs
@@ -13,7 +13,10 @@ push-child-requires-clause-new c =
     next_unplaced c.args.self.now.items c.args.revs.now 0 c.index-revs-0.result c.requires.ancestry.falls c.requires.ancestry.nonempty c.index-revs-0.is (ap revs_in c.requires.none ∙ none_taken c.args.revs.now)
 
 pub push-child-requires-clause-room : goal.push-child-requires-clause-room
-push-child-requires-clause-room c = room_for c.args.self.now (length c.args.revs.now) 1 c.requires.ancestry.nonempty c.requires.room
+push-child-requires-clause-room c =
+    let r = c.index-revs-0.result in
+    subst (HasRoom c.args.self.now) (new_counts c.args.self.now.items r (push-child-requires-clause-new c))
+    (room_first c.args.self.now c.args.revs.now r c.requires.ancestry.nonempty c.index-revs-0.is c.requires.room)
 
 pub give-requires : goal.give-requires
 give-requires c = record { within = standing c.push-child.new.self c.push-child.result c.index-revs-0.result c.push-child.ensures.gained.at }
@@ -36,7 +39,10 @@ push-parent-requires-clause-new c =
     next_unplaced c.loop-i.self.items c.args.revs.now c.loop-i.i c.index-revs-i.result c.requires.ancestry.falls c.loop-i-test.true c.index-revs-i.is c.loop-i.invariant.revs
 
 pub push-parent-requires-clause-room : goal.push-parent-requires-clause-room
-push-parent-requires-clause-room c = room_for c.loop-i.self (length c.args.revs.now - c.loop-i.i) 1 (omega (arith, c.loop-i-test.true)) c.loop-i.invariant.put.room
+push-parent-requires-clause-room c =
+    let r = c.index-revs-i.result in
+    subst (HasRoom c.loop-i.self) (new_counts c.loop-i.self.items r (push-parent-requires-clause-new c))
+    (room_next c.loop-i.self c.args.revs.now c.loop-i.i r c.loop-i-test.true c.index-revs-i.is c.loop-i.invariant.put.room)
 
 pub link-requires-clause-parent_within : goal.link-requires-clause-parent_within
 link-requires-clause-parent_within c = standing c.push-parent.new.self c.push-parent.result c.index-revs-i.result c.push-parent.ensures.gained.at
