@@ -4,5 +4,5 @@ use Rattle.doc_json.specs.declared.doc_id.IdText.{IdText}
 use Rattle.doc_json.specs.declared.doc_id.IdText.TheVariants.{Near, Far}
 
 abbrev pub text_of : IdText → List ℕ
-text_of (Near text) = text.bytes
+text_of (Near text) = text
 text_of (Far text) = string_bytes text

@@ -8,7 +8,7 @@ ghost use Rattle.std.proofs.Common.{rules};
 ghost use Rattle.doc_json.specs.DocId.{doc_id_read, is_special, is_design};
 
 use crate::fault::DocFault;
-use arrayvec::ArrayString;
+use crate::near_text::NearText;
 use std::alloc::{AllocError, Global};
 use std::cmp::Ordering;
 use std::hash::{Hash, Hasher};
@@ -17,7 +17,7 @@ use std::marker::Model;
 /// The text of an id: in place where it has at most 32 bytes, so that it takes no memory of its own.
 #[derive(Debug, Drop)]
 enum IdText {
-    Near(ArrayString<32>),
+    Near(NearText),
     Far(String),
 }
 
@@ -29,18 +29,18 @@ impl IdText {
     fn keep(alloc: Global, text: &str) -> Result<IdText, AllocError>
         ensures kept { IfOk result (λ t. text_of t ≡ text.now) }
     {
-        if let Ok(near) = ArrayString::from(text) {
+        if let Some(near) = NearText::keep(text) {
             return Ok(IdText::Near(near));
         }
         Ok(IdText::Far(String::from_str(alloc, text)?))
     }
 
-    /// The same text. A near one is copied with its whole room, which is of a size that the compiler knows.
+    /// The same text.
     fn copy(&self, alloc: Global) -> Result<IdText, AllocError>
         ensures copied { IfOk result (λ t. text_of t ≡ text_of self.now) }
     {
         match self {
-            IdText::Near(near) => Ok(IdText::Near(*near)),
+            IdText::Near(near) => Ok(IdText::Near(near.copy())),
             IdText::Far(far) => Ok(IdText::Far(String::from_str(alloc, far.as_str())?)),
         }
     }

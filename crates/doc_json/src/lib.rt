@@ -14,6 +14,7 @@ mod json_value;
 mod line_value;
 mod marks;
 mod members;
+mod near_text;
 mod owned_value;
 mod read;
 mod revisions;
