@@ -16,7 +16,12 @@ use crate::text::push_name;
 use json_values::PlainTexts;
 use std::alloc::{AllocError, Global};
 
-/// The compact text of the object of the members without a leading `_`, in a buffer with fewer than 32 bytes to spare.
+/// The room that a text begins with, in bytes: most bodies of small documents need no more. The allocator gives as much
+/// where fewer by up to 15 are asked for.
+const SHORT: usize = 136;
+
+/// The compact text of the object of the members without a leading `_`, in a buffer with fewer than 32 bytes to spare, or
+/// fewer than 16 where it is short and memory is there.
 pub(crate) fn plain_text<'v, V: JsonValue<'v>>(
     alloc: Global,
     members: &'v V::Object,
@@ -27,9 +32,9 @@ pub(crate) fn plain_text<'v, V: JsonValue<'v>>(
     requires plain { AreMembersPlain plain (V.members_seen members.now) }
     ensures { IfOk result (λ v. IsWritten v.items (object (plain_members (V.members_seen members.now)))) }
 {
-    let mut out = Vec::with_capacity(alloc, 128)?;
+    let mut out = Vec::with_capacity(alloc, SHORT)?;
     push_plain::<V>(members, plain, &mut out)?;
-    Ok(trimmed(out))
+    Ok(fitted(alloc, trimmed(out)))
 }
 
 /// The compact text of a value, in a buffer with fewer than 32 bytes to spare.
@@ -43,7 +48,7 @@ pub(crate) fn value_text<'v, V: JsonValue<'v>>(
     requires plain { ArePlain plain (V.seen value.now) }
     ensures { IfOk result (λ v. IsWritten v.items (V.seen value.now)) }
 {
-    let mut out = Vec::with_capacity(alloc, 128)?;
+    let mut out = Vec::with_capacity(alloc, SHORT)?;
     value.push(plain, &mut out)?;
     Ok(trimmed(out))
 }
@@ -57,6 +62,21 @@ fn trimmed(text: Vec<u8>) -> Vec<u8>
         text.shrink_to_fit();
     }
     text
+}
+
+/// The text, of which one that is short and leaves a step of the allocator unused is copied to a buffer of its own length,
+/// where memory is there.
+fn fitted(alloc: Global, text: Vec<u8>) -> Vec<u8>
+    ensures { result.items ≡ text.items }
+{
+    let spare = text.capacity().saturating_sub(text.len());
+    if spare < 16 || text.len() > SHORT {
+        return text;
+    }
+    match Vec::from_slice(alloc, &text) {
+        Ok(exact) => exact,
+        Err(_) => text,
+    }
 }
 
 /// The object of the members without a leading `_`.

@@ -9,4 +9,4 @@ pub returns : goal.returns
 returns g c =
     let d = object (plain_members (g.V.JsonValue.members_seen c.args.members.now)) in
     let w = c.in_ok-push_plain.ensures in
-    written_text d _ (c.trimmed.ensures ∙ w.text ∙ ap (λ s. s ++ compact_text d) c.in_ok-out.ensures.items) w.numbers w.order c.requires.exact
+    written_text d _ (c.fitted.ensures ∙ c.trimmed.ensures ∙ w.text ∙ ap (λ s. s ++ compact_text d) c.in_ok-out.ensures.items) w.numbers w.order c.requires.exact
