@@ -3,7 +3,7 @@ use anyhow::{Result, bail};
 use couch_base::{Asked, BaseFault, Parcel, Put, Window};
 use doc_json::{Body, Doc, DocFault, DocId, read_body, read_doc};
 use repl_log::{Moment, RepId};
-use repl_target::{Beginning, Cause, Peer, Report, Rules, Settled, TargetFault};
+use repl_target::{Beginning, Cause, Peer, Report, Rules, Scope, Settled, TargetFault};
 use rev_core::Rev;
 use rev_tree::SessionId;
 use serde_json::Value;
@@ -114,13 +114,13 @@ fn opened(alloc: Global, peer: &Peer<Rules>, asked: &Asked) -> Option<Parcel> {
 
 /// From 0 to a goal, in life 0 of the source.
 fn beginning(goal: u64) -> Beginning {
-    Beginning {
+    let scope = Scope {
         rep: REP,
         life: 0,
         base: None,
-        start: 0,
         goal,
-    }
+    };
+    Beginning { scope, start: 0 }
 }
 
 fn begin(peer: &mut Peer<Rules>, goal: u64, at: Moment) -> Option<()> {

@@ -7,7 +7,7 @@ pub use peer.Came.{came_revs}
 pub use peer.Covered.{CoversWindow, Honest, Leaf, contradiction_of, covers, covers_window, first_uncovered, first_unknown, in_ledger, knows_row}
 pub use peer.Covered.{refusal_of, rightly_refused, unknown_in}
 pub use peer.Later.{IsLaterPeer, Keeps}
-pub use peer.Law.{AllBased, Lawful, LawfulSession, LawfulSessions, session_numbers, window_bounds}
+pub use peer.Law.{AllBased, Lawful, LawfulCounts, LawfulSession, LawfulSessions, LawfulStore, session_numbers, window_bounds}
 pub use peer.Local.{stood_on, with_edit, with_edited, with_load}
 pub use peer.Origins.{ComesFrom, HasOrigins}
 pub use peer.Peer.{PeerValue, RefusedValue, SessionValue, WrittenValue, entry_of, holds, is_of, new_peer, new_peer_at, session_in, with_session}
@@ -41,5 +41,6 @@ pub use declared.fault.Settled.{Settled}
 pub use declared.fault.TargetFault.{TargetFault}
 pub use declared.peer.filter.Rules.{Rules}
 pub use declared.session.beginning.Beginning.{Beginning}
+pub use declared.session.beginning.Scope.{Scope}
 pub use declared.session.ledger_index.LedgerIndex.{LedgerIndex}
 pub use declared.session.rep_index.RepIndex.{RepIndex}

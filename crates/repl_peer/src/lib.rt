@@ -15,6 +15,6 @@ pub use peer::Peer;
 pub use peer::backup::Backup;
 pub use peer::filter::{Rules, Verdict, WriteFilter};
 pub use peer::written::Written;
-pub use session::beginning::Beginning;
+pub use session::beginning::{Beginning, Scope};
 pub use session::refused::Refused;
 pub use session::window::StoredWindow;

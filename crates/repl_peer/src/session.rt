@@ -19,12 +19,12 @@ pub(crate) mod window;
 use crate::fault::{Report, TargetFault};
 use crate::peer::written::Written;
 use crate::room::room_for_one;
-use crate::session::beginning::Beginning;
+use crate::session::beginning::{Beginning, Scope};
 use crate::session::refused::Refused;
 use crate::session::window::StoredWindow;
 use couch_base::Window;
 use range_front::Front;
-use repl_log::{Counts, Entry, Moment, RepId};
+use repl_log::{Counts, Entry, Moment};
 use rev_tree::SessionId;
 use std::alloc::Global;
 use std::marker::Model;
@@ -33,10 +33,7 @@ use std::marker::Model;
 #[derive(Drop)]
 pub(crate) struct Session {
     pub(crate) id: SessionId,
-    pub(crate) rep: RepId,
-    pub(crate) life: u64,
-    pub(crate) base: Option<SessionId>,
-    pub(crate) goal: u64,
+    pub(crate) scope: Scope,
     pub(crate) front: Front,
     pub(crate) windows: Vec<StoredWindow>,
     pub(crate) recorded: u64,
@@ -67,19 +64,10 @@ impl Session {
     pub(crate) fn new(alloc: Global, id: SessionId, beginning: Beginning, at: Moment) -> Session
         ensures { result ≡ new_session id beginning at }
     {
-        let Beginning {
-            rep,
-            life,
-            base,
-            start,
-            goal,
-        } = beginning;
+        let Beginning { scope, start } = beginning;
         Session {
             id,
-            rep,
-            life,
-            base,
-            goal,
+            scope,
             front: Front::new(alloc, start),
             windows: Vec::new(alloc),
             recorded: start,
@@ -100,15 +88,17 @@ impl Session {
         ensures ok { OnOk result (self.new ≡ with_window window self.old (append_in window self.old)) }
         ensures err { OnErr result (self.new ≡ self.old) }
     {
-        if window.life() != self.life {
-            return Err(TargetFault::OtherLife { now: self.life });
+        if window.life() != self.scope.life {
+            return Err(TargetFault::OtherLife {
+                now: self.scope.life,
+            });
         }
         let expected = self.front.end();
         let hi = window.hi();
         if window.lo() != expected {
             return Err(TargetFault::Gap { expected });
         }
-        if hi > self.goal {
+        if hi > self.scope.goal {
             return Err(TargetFault::PastGoal);
         }
         room_for_one(&mut self.windows)?;
@@ -135,7 +125,7 @@ impl Session {
             ≡ (if low_water self.old.front == self.old.goal then recorded_at at self.old else self.old) }
     {
         let low_water = self.front.low_water();
-        if low_water != self.goal {
+        if low_water != self.scope.goal {
             return Err(TargetFault::Unfinished { low_water });
         }
         self.record(at);
@@ -160,7 +150,7 @@ impl Session {
     {
         Entry {
             session: self.id,
-            life: self.life,
+            life: self.scope.life,
             start: self.front.start(),
             recorded: self.recorded,
             start_time: self.start_time,

@@ -10,7 +10,7 @@ mod replication;
 pub use auditing::found::Audit;
 pub use auditing::{audit, hole_above, hole_within};
 pub use repl_peer::{
-    Backup, Beginning, Cause, Peer, Reason, Refused, Report, Rules, Settled, StoredWindow,
+    Backup, Beginning, Cause, Peer, Reason, Refused, Report, Rules, Scope, Settled, StoredWindow,
     TargetFault, Verdict, WriteFilter, Written, checkpoint, rep_between,
 };
 pub use replication::sync::{SyncFault, Synced, sync_alone};

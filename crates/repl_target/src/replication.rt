@@ -17,7 +17,9 @@ pub(crate) mod sync;
 
 use doc_json::Chosen;
 use repl_log::Moment;
-use repl_peer::{Beginning, Peer, Report, TargetFault, WriteFilter, checkpoint, rep_between};
+use repl_peer::{
+    Beginning, Peer, Report, Scope, TargetFault, WriteFilter, checkpoint, rep_between,
+};
 use rev_tree::SessionId;
 use std::alloc::{AllocError, Global};
 
@@ -189,13 +191,13 @@ pub fn begin_plan<F: WriteFilter, G: WriteFilter>(
         Some((session, recorded)) => (Some(session), recorded),
         None => (None, 0),
     };
-    let beginning = Beginning {
+    let scope = Scope {
         rep,
         life,
         base,
-        start,
         goal,
     };
+    let beginning = Beginning { scope, start };
     target.begin(plan.session, beginning, plan.at)?;
     Ok(start)
 }

@@ -127,11 +127,8 @@ agreed w log = common log (target_log w.target (rep_of w))
 -- a session begins there, in the life of that log
 abbrev pub beginning_in : WorldValue → ℕ → ℕ × List EntryValue → Beginning
 beginning_in w goal log = record {
-  rep = rep_of w;
-  life = log.0;
-  base = base_at (agreed w log.1);
+  scope = record { rep = rep_of w; life = log.0; base = base_at (agreed w log.1); goal = goal };
   start = start_at (agreed w log.1);
-  goal = goal;
 }
 
 abbrev pub begins : WorldValue → SessionId → ℕ → ℕ → Option (ℕ × List EntryValue) → WorldValue

@@ -10,7 +10,9 @@ use crate::step::Step;
 use couch_base::BaseFault;
 use doc_json::{Body, Chosen, Doc, DocId};
 use repl_log::{Moment, common};
-use repl_target::{Backup, Beginning, Cause, Peer, Settled, TargetFault, WriteFilter, rep_between};
+use repl_target::{
+    Backup, Beginning, Cause, Peer, Scope, Settled, TargetFault, WriteFilter, rep_between,
+};
 use rev_core::Rev;
 use rev_tree::SessionId;
 use std::alloc::{AllocError, Global};
@@ -313,13 +315,13 @@ impl<F: WriteFilter> World<F> {
             Some((session, recorded)) => (Some(session), recorded),
             None => (None, 0),
         };
-        let beginning = Beginning {
+        let scope = Scope {
             rep,
             life,
             base,
-            start,
             goal,
         };
+        let beginning = Beginning { scope, start };
         unless_memory(self.target.begin(session, beginning, at))
     }
 

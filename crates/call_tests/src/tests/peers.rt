@@ -13,7 +13,7 @@ use crate::tests::{backups, large, plans};
 use couch_base::{Asked, Parcel, Window};
 use doc_json::DocId;
 use repl_log::{Entry, Moment, RepId};
-use repl_target::{Audit, Backup, Peer, Rules, WriteFilter, audit, hole_above};
+use repl_target::{Audit, Backup, Peer, Rules, Scope, WriteFilter, audit, hole_above};
 use rev_tree::SessionId;
 use std::alloc::{AllocError, Global};
 use std::process::Abort;
@@ -497,12 +497,15 @@ fn begin(
     moment: u64,
 ) -> Option<String> {
     let at = Moment::new(moment).ok()?;
-    let beginning = repl_target::Beginning {
+    let scope = Scope {
         rep: how.rep.id(),
         life: 0,
         base: how.base,
-        start: how.start,
         goal: how.goal,
+    };
+    let beginning = repl_target::Beginning {
+        scope,
+        start: how.start,
     };
     match peer.begin(session, beginning, at) {
         Ok(()) => "begun".to_string(alloc).ok(),

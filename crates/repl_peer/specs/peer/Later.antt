@@ -5,13 +5,11 @@ use Rattle.couch_base.specs.WriteLaws.{IsLater}
 use Rattle.couch_base.specs.Feed.{WindowValue}
 use Rattle.repl_peer.specs.peer.Peer.{PeerValue, SessionValue, WrittenValue, RefusedValue}
 
--- a session keeps what it began with; its windows, its arrivals, its ledger and its recorded sequence only grow
+-- a session keeps what it belongs to and its start; its windows, its arrivals, its ledger and its recorded sequence only
+-- grow
 pub record Keeps (old new : SessionValue) : Type 0 where
   pub id : new.id ≡ old.id
-  pub rep : new.rep ≡ old.rep
-  pub life : new.life ≡ old.life
-  pub base : new.base ≡ old.base
-  pub goal : new.goal ≡ old.goal
+  pub scope : new.scope ≡ old.scope
   pub start : new.front.start ≡ old.front.start
   pub recorded : old.recorded ≤ new.recorded
   pub windows : (w : WindowValue) → Among w old.windows → Among w new.windows

@@ -8,8 +8,9 @@ use Rattle.doc_json.specs.Document.{Document}
 use Rattle.couch_base.specs.Lists.{Among}
 use Rattle.couch_base.specs.Database.{tree_of}
 use Rattle.couch_base.specs.Feed.{WindowValue, IsWindow}
-use Rattle.range_front.specs.Front.{IsFront, bounds, end_of, is_done, low_water}
+use Rattle.range_front.specs.Front.{FrontValue, IsFront, bounds, end_of, is_done, low_water}
 use Rattle.repl_log.specs.Counts.{AddUp}
+use Rattle.repl_log.specs.declared.counts.Counts.{Counts}
 use Rattle.repl_peer.specs.peer.Peer.{PeerValue, SessionValue, WrittenValue, RefusedValue}
 use Rattle.repl_peer.specs.peer.Stands.{StandsIn}
 use Rattle.repl_peer.specs.peer.Covered.{rightly_refused, CoversWindow}
@@ -18,27 +19,36 @@ use Rattle.repl_peer.specs.peer.Origins.{HasOrigins}
 abbrev pub window_bounds : List WindowValue → List (ℕ × ℕ)
 window_bounds ws = map (λ w. (w.lo, w.hi)) ws
 
-pub record LawfulSession (refuses : Document → Bool) (p : PeerValue) (s : SessionValue) : Type 0 where
+-- what a session stores: its front, its windows, what it has recorded, and its goal
+pub record LawfulStore (f : FrontValue) (ws : List WindowValue) (n goal : ℕ) : Type 0 where
   -- the windows are consecutive from the start, inside the goal, with rows rising; the done ones are of them
-  pub front : IsFront s.front
-  pub bounds : window_bounds s.windows ≡ bounds s.front
-  pub within : end_of s.front ≤ s.goal
-  pub windows : AllByRecursion IsWindow s.windows
+  pub front : IsFront f
+  pub bounds : window_bounds ws ≡ bounds f
+  pub within : end_of f ≤ goal
+  pub windows : AllByRecursion IsWindow ws
+  -- what is recorded is within the low water
+  pub start : f.start ≤ n
+  pub recorded : n ≤ low_water f
+
+-- the counts add up
+pub record LawfulCounts (arrivals : List WrittenValue) (ledger : List RefusedValue) (counts : Counts) : Type 0 where
+  pub written : counts.written ≡ length arrivals
+  pub failures : counts.failures ≡ length ledger
+  pub read : AddUp counts
+
+pub record LawfulSession (refuses : Document → Bool) (p : PeerValue) (s : SessionValue) : Type 0 where
+  pub store : LawfulStore s.front s.windows s.recorded s.goal
+  pub open store use *
   -- each leaf in the rows of a done window is covered
   pub done : (w : WindowValue) → Among w s.windows → is_done s.front w.lo w.hi ≡ true → CoversWindow p w
-  -- what is recorded is within the low water
-  pub start : s.front.start ≤ s.recorded
-  pub recorded : s.recorded ≤ low_water s.front
   -- each document of the ledger is rightly refused
   pub ledger : (x : RefusedValue) → Among x s.ledger → rightly_refused refuses p.db x.doc ≡ true
   -- each arrival stands in its document's tree
   pub arrivals : (a : WrittenValue) → Among a s.arrivals → (r : RevId) → is_among r a.ancestry ≡ true
       → has (tree_of p.db.docs a.id) r ≡ true
   pub stands : (a : WrittenValue) → Among a s.arrivals → StandsIn p.db a
-  -- the counts add up
-  pub written : s.counts.written ≡ length s.arrivals
-  pub failures : s.counts.failures ≡ length s.ledger
-  pub read : AddUp s.counts
+  pub counts : LawfulCounts s.arrivals s.ledger s.counts
+  pub open counts use *
 
 -- a session starts at 0, or at most at what an earlier one of the same replication has recorded
 abbrev pub IsBased : List SessionValue → SessionValue → Type 0

@@ -20,6 +20,7 @@ use Rattle.repl_log.specs.declared.replication.RepId.{RepId}
 use Rattle.repl_log.specs.Entry.{EntryValue}
 use Rattle.repl_log.specs.declared.counts.Counts.{Counts}
 use Rattle.repl_peer.specs.declared.fault.Reason.{Reason}
+use Rattle.repl_peer.specs.declared.session.beginning.Scope.{Scope}
 
 -- revisions of a document that were written: those of a local write, or the ancestry of an arrival
 pub record WrittenValue : Type 0 where
@@ -31,15 +32,13 @@ pub record RefusedValue : Type 0 where
   pub doc : Document
   pub reason : Reason
 
--- an incoming session: what it began with, the life of the source among it; its windows, and which of them are done,
--- from its start on; the documents that were taken and those that were refused; the counts of leaves checked and found
--- missing, and of documents read, written and refused; and when it began and last recorded
+-- an incoming session: what it belongs to, which stays; its windows, and which of them are done, from its start on; the
+-- documents that were taken and those that were refused; the counts of leaves checked and found missing, and of
+-- documents read, written and refused; and when it began and last recorded
 pub record SessionValue : Type 0 where
   pub id : SessionId
-  pub rep : RepId
-  pub life : ℕ
-  pub base : Option SessionId
-  pub goal : ℕ
+  pub scope : Scope
+  pub open scope use *
   pub front : FrontValue
   pub windows : List WindowValue
   pub recorded : ℕ

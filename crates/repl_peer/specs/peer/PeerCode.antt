@@ -20,6 +20,7 @@ use Rattle.repl_peer.specs.peer.Peer.{PeerValue, SessionValue, WrittenValue, Ref
 use Rattle.repl_peer.specs.peer.Backups.{BackupValue}
 use Rattle.repl_peer.specs.declared.fault.Reason.{Reason}
 use Rattle.repl_peer.specs.declared.fault.Reason.TheVariants.{Filtered, Contradicting}
+use Rattle.repl_peer.specs.declared.session.beginning.Scope.{Scope}
 
 -- ---- documents and reasons
 
@@ -53,9 +54,13 @@ coded_refused =
 
 -- ---- sessions
 
--- what a session began with
-abbrev Begun : Type 0
-Begun = SessionId × (RepId × (ℕ × (Option SessionId × ℕ)))
+-- what a session belongs to
+abbrev coded_scope : Coded Scope
+coded_scope =
+    code_by (RepId × (ℕ × (Option SessionId × ℕ)))
+    (coded× coded_rep (coded× coded_ℕ (coded× (coded_option coded_session_id) coded_ℕ)))
+    (λ c. (c.rep, (c.life, (c.base, c.goal))))
+    (λ p. record { rep = p.0; life = p.1.0; base = p.1.1.0; goal = p.1.1.1 }) (λ _. refl)
 
 -- its windows, which of them are done, and what is recorded
 abbrev Windows : Type 0
@@ -70,14 +75,13 @@ abbrev Counted : Type 0
 Counted = Counts × (ℕ × ℕ)
 
 abbrev pub coded_session : Coded SessionValue
-coded_session = code_by (Begun × (Windows × (Brought × Counted)))
-    (coded×
-    (coded× coded_session_id (coded× coded_rep (coded× coded_ℕ (coded× (coded_option coded_session_id) coded_ℕ))))
+coded_session = code_by ((SessionId × Scope) × (Windows × (Brought × Counted)))
+    (coded× (coded× coded_session_id coded_scope)
     (coded× (coded× coded_front (coded× (coded_list coded_window) coded_ℕ))
     (coded× (coded× (coded_list coded_written) (coded_list coded_refused))
     (coded× coded_counts (coded× coded_ℕ coded_ℕ)))))
     (λ s. (
-      (s.id, (s.rep, (s.life, (s.base, s.goal)))),
+      (s.id, s.scope),
       (
         (s.front, (s.windows, s.recorded)),
         ((s.arrivals, s.ledger), (s.counts, (s.start_time, s.end_time))),
@@ -85,10 +89,7 @@ coded_session = code_by (Begun × (Windows × (Brought × Counted)))
     ))
     (λ p. record {
       id = p.0.0;
-      rep = p.0.1.0;
-      life = p.0.1.1.0;
-      base = p.0.1.1.1.0;
-      goal = p.0.1.1.1.1;
+      scope = p.0.1;
       front = p.1.0.0;
       windows = p.1.0.1.0;
       recorded = p.1.0.1.1;

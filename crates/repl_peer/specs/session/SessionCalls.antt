@@ -31,7 +31,7 @@ answer_in sessions id answer = found_answer answer (session_in sessions id)
 abbrev pub begin_in : List SessionValue → SessionId → Beginning → Result (Unit {0}) TargetFault
 begin_in sessions id b =
     if holds sessions id then Err faults.SessionExists
-    else goal_answer b.start b.goal (base_answer sessions b.rep b.base b.start)
+    else goal_answer b.start b.scope.goal (base_answer sessions b.scope.rep b.scope.base b.start)
 
 -- what a base has recorded, 0 where there is none
 abbrev pub recorded_of : Option SessionValue → Result ℕ TargetFault

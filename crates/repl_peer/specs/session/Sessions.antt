@@ -72,16 +72,13 @@ goal_answer start goal (Ok done) = if nat_lt goal start then Err faults.GoalBelo
 abbrev pub begin_answer : PeerValue → SessionId → Beginning → Result (Unit {0}) TargetFault
 begin_answer p id b =
     if holds p.sessions id then Err faults.SessionExists
-    else goal_answer b.start b.goal (base_answer p.sessions b.rep b.base b.start)
+    else goal_answer b.start b.scope.goal (base_answer p.sessions b.scope.rep b.scope.base b.start)
 
 -- a session as it begins: nothing is stored, and its start is recorded
 abbrev pub new_session : SessionId → Beginning → ℕ → SessionValue
 new_session id b at = record {
   id = id;
-  rep = b.rep;
-  life = b.life;
-  base = b.base;
-  goal = b.goal;
+  scope = b.scope;
   front = no_windows b.start;
   windows = [];
   recorded = b.start;

@@ -11,10 +11,7 @@ use Rattle.repl_peer.specs.declared.session.Session.TheInside.{Inside}
 abbrev pub session_value : Inside → SessionValue
 session_value s = record {
   id = s.id;
-  rep = s.rep;
-  life = s.life;
-  base = s.base;
-  goal = s.goal;
+  scope = s.scope;
   front = s.front.front;
   windows = windows_of s.windows.items;
   recorded = s.recorded;

@@ -110,7 +110,7 @@ impl Sessions {
             let Some((_, session)) = self.entries.get_index(i) else {
                 unreachable!()
             };
-            if session.rep == *rep {
+            if session.scope.rep == *rep {
                 log.set(session.entry())?;
             }
         }
@@ -157,7 +157,7 @@ impl Sessions {
         self.check_new(id, &beginning)?;
         let alloc = *self.entries.allocator();
         self.entries.reserve(1)?;
-        self.by_rep.add(&beginning.rep, id)?;
+        self.by_rep.add(&beginning.scope.rep, id)?;
         let session = Session::new(alloc, id, beginning, at);
         let Ok(_) = self.entries.insert(id, session) else {
             unreachable!()
@@ -169,11 +169,11 @@ impl Sessions {
     fn check_new(&self, id: SessionId, beginning: &Beginning) -> Result<(), TargetFault>
         ensures { result ≡ begin_in self.now id beginning.now }
     {
-        let (start, goal) = (beginning.start, beginning.goal);
+        let (start, goal) = (beginning.start, beginning.scope.goal);
         if self.entries.contains_key(&id) {
             return Err(TargetFault::SessionExists);
         }
-        let recorded = self.recorded_of(&beginning.rep, beginning.base)?;
+        let recorded = self.recorded_of(&beginning.scope.rep, beginning.scope.base)?;
         if start > recorded {
             return Err(TargetFault::StartAboveBase { recorded });
         }
@@ -192,7 +192,7 @@ impl Sessions {
         };
         match self.entries.get(&base) {
             Some(session) => {
-                if session.rep == *rep {
+                if session.scope.rep == *rep {
                     Ok(session.recorded)
                 } else {
                     Err(TargetFault::NoSuchBase)

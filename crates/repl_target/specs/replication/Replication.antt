@@ -20,6 +20,7 @@ use Rattle.repl_peer.specs.session.Settling.{SettleGives}
 use Rattle.repl_peer.specs.logs.Logs.{after_put_entry}
 use Rattle.repl_peer.specs.logs.Checkpoint.{rep_between, checkpoint_between}
 use Rattle.repl_peer.specs.declared.session.beginning.Beginning.{Beginning}
+use Rattle.repl_peer.specs.declared.session.beginning.Scope.{Scope}
 use Rattle.repl_peer.specs.declared.fault.Report.{Report}
 use Rattle.repl_peer.specs.declared.fault.Settled.{Settled}
 use Rattle.repl_peer.specs.declared.fault.TargetFault.{TargetFault}
@@ -54,15 +55,19 @@ checkpoint_of source target chosen = checkpoint_between source target (rep_betwe
 abbrev pub start_between : PeerValue → PeerValue → Choice → ℕ
 start_between source target chosen = start_at (checkpoint_of source target chosen)
 
--- it is of the source's life, and its goal is the source's update sequence
-abbrev pub beginning_between : PeerValue → PeerValue → Choice → Beginning
-beginning_between source target chosen = record {
+-- what its session belongs to: it is of the source's life, based on the session of that checkpoint, and its goal is the
+-- source's update sequence
+abbrev pub scope_between : PeerValue → PeerValue → Choice → Scope
+scope_between source target chosen = record {
   rep = rep_between source target chosen;
   life = source.db.life;
   base = base_at (checkpoint_of source target chosen);
-  start = start_between source target chosen;
   goal = source.db.update_seq;
 }
+
+abbrev pub beginning_between : PeerValue → PeerValue → Choice → Beginning
+beginning_between source target chosen =
+    record { scope = scope_between source target chosen; start = start_between source target chosen }
 
 abbrev pub begins_answer : PeerValue → PeerValue → Plan → Result (Unit {0}) TargetFault
 begins_answer source target plan = begin_answer target plan.session (beginning_between source target plan.chosen)
@@ -211,10 +216,7 @@ pub record IsReported (source target target' : PeerValue) (plan : Plan) (report 
   pub session : SessionValue
   pub held : session_in target'.sessions plan.session ≡ Some session
   pub is : report ≡ report_of session
-  pub rep : session.rep ≡ rep_between source target plan.chosen
-  pub life : session.life ≡ source.db.life
-  pub base : session.base ≡ base_at (checkpoint_of source target plan.chosen)
-  pub goal : session.goal ≡ source.db.update_seq
+  pub scope : session.scope ≡ scope_between source target plan.chosen
   pub start : report.start ≡ start_between source target plan.chosen
   pub recorded : report.recorded ≡ source.db.update_seq
   pub counts : AddUp report.counts

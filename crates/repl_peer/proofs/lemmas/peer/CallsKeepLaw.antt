@@ -71,14 +71,14 @@ goal_within start goal (Ok x) done h =
 -- what beginning a session has asked
 record Begins (p : PeerValue) (id : SessionId) (b : Beginning) (done : Unit {0}) : Type 0 where
   fresh : holds p.sessions id ≡ false
-  within : b.start ≤ b.goal
-  based : base_answer p.sessions b.rep b.base b.start ≡ Ok done
+  within : b.start ≤ b.scope.goal
+  based : base_answer p.sessions b.scope.rep b.scope.base b.start ≡ Ok done
 
 begins : (p : PeerValue) (id : SessionId) (b : Beginning) (done : Unit {0}) → begin_answer p id b ≡ Ok done → Begins p id b done
 begins p id b done h =
-    cond_both (holds p.sessions id) (Err faults.SessionExists) (goal_answer b.start b.goal (base_answer p.sessions b.rep b.base b.start)) (λ (r : Result (Unit {0}) TargetFault). r ≡ Ok done → Begins p id b done)
+    cond_both (holds p.sessions id) (Err faults.SessionExists) (goal_answer b.start b.scope.goal (base_answer p.sessions b.scope.rep b.scope.base b.start)) (λ (r : Result (Unit {0}) TargetFault). r ≡ Ok done → Begins p id b done)
     (λ _ k. cc k)
-    (λ e k. let w = goal_within b.start b.goal (base_answer p.sessions b.rep b.base b.start) done k in record { fresh = e; within = w.0; based = w.1 })
+    (λ e k. let w = goal_within b.start b.scope.goal (base_answer p.sessions b.scope.rep b.scope.base b.start) done k in record { fresh = e; within = w.0; based = w.1 })
     h
 
 -- a number that no session has
@@ -95,21 +95,14 @@ begun_later p s (Err fault) = IsLaterPeer-same p
 pub begin_later : (p : PeerValue) (id : SessionId) (b : Beginning) (at : ℕ) → IsLaterPeer p (after_begin p id b at)
 begin_later p id b at = begun_later p (new_session id b at) (begin_answer p id b)
 
-new_lawful : (refuses : Document → Bool) (p : PeerValue) (id : SessionId) (b : Beginning) (at : ℕ) → b.start < 2 ^ 64 → b.start ≤ b.goal → LawfulSession refuses p (new_session id b at)
+new_lawful : (refuses : Document → Bool) (p : PeerValue) (id : SessionId) (b : Beginning) (at : ℕ) → b.start < 2 ^ 64 → b.start ≤ b.scope.goal → LawfulSession refuses p (new_session id b at)
 new_lawful refuses p id b at small within = record {
-  front = IsFront-no_windows b.start small;
-  bounds = refl;
-  within = within;
-  windows = tt;
+  store = record { front = IsFront-no_windows b.start small; bounds = refl; within = within; windows = tt; start = omega arith; recorded = omega arith };
   done = λ w m. absurd m;
-  start = omega arith;
-  recorded = omega arith;
   ledger = λ x m. absurd m;
   arrivals = λ a m. absurd m;
   stands = λ a m. absurd m;
-  written = refl;
-  failures = refl;
-  read = refl;
+  counts = record { written = refl; failures = refl; read = refl };
 }
 
 pub begin_law : (refuses : Document → Bool) (p : PeerValue) (id : SessionId) (b : Beginning) (at : ℕ) → b.start < 2 ^ 64 → LawfulSessions refuses p → LawfulSessions refuses (after_begin p id b at)
@@ -126,6 +119,6 @@ begin_law refuses p id b at small l = go (begin_answer p id b) refl
             | inl i ↦ subst (LawfulSession refuses q) (sym i) (new_lawful refuses q id b at small k.within)
             | inr n ↦ lawful-later refuses p q s (begun_later p new (Ok done)) (l.sessions s n)
           ];
-          based = (is_based p.sessions b.rep b.base b.start done k.based, l.based);
+          based = (is_based p.sessions b.scope.rep b.scope.base b.start done k.based, l.based);
           distinct = IsDistinct-cons eqb id.0 (session_numbers p.sessions) (fresh_number p.sessions id k.fresh) l.distinct;
         }

@@ -4,21 +4,18 @@ use Rattle.rev_core.specs.{RevId, edges_of, is_among}
 use Rattle.rev_tree.specs.{SessionId}
 use Rattle.doc_json.specs.Document.{Document}
 use Rattle.couch_base.specs.{Among, Id, DatabaseValue, IsLater, IsLater-same, IsLater-later, Among-map, Among-mapped, any_member, any_from, each_member, found_member}
-use Rattle.repl_peer.specs.{PeerValue, SessionValue, WrittenValue, RefusedValue, is_of, session_in, with_session, in_ledger, covers, rightly_refused, LawfulSession, AllBased, LawfulSessions, session_numbers, Keeps, IsLaterPeer}
+use Rattle.repl_peer.specs.{PeerValue, Scope, SessionValue, WrittenValue, RefusedValue, is_of, session_in, with_session, in_ledger, covers, rightly_refused, LawfulSession, AllBased, LawfulSessions, session_numbers, Keeps, IsLaterPeer}
 use Rattle.repl_peer.proofs.lemmas.peer.WritesStand.{stands_later}
 
 -- ---- later sessions and later peers
 
 pub Keeps-same : (s : SessionValue) → Keeps s s
-Keeps-same s = record { id = refl; rep = refl; life = refl; base = refl; goal = refl; start = refl; recorded = omega arith; windows = λ w m. m; arrivals = λ a m. m; ledger = λ x m. m }
+Keeps-same s = record { id = refl; scope = refl; start = refl; recorded = omega arith; windows = λ w m. m; arrivals = λ a m. m; ledger = λ x m. m }
 
 pub Keeps-later : (a b c : SessionValue) → Keeps a b → Keeps b c → Keeps a c
 Keeps-later a b c h k = record {
   id = k.id ∙ h.id;
-  rep = k.rep ∙ h.rep;
-  life = k.life ∙ h.life;
-  base = k.base ∙ h.base;
-  goal = k.goal ∙ h.goal;
+  scope = k.scope ∙ h.scope;
   start = k.start ∙ h.start;
   recorded = omega (arith, h.recorded, k.recorded);
   windows = λ w m. k.windows w (h.windows w m);
@@ -56,19 +53,12 @@ refused-later refuses a b h d e =
 -- a session that stays as it is is lawful in a later peer
 pub lawful-later : (refuses : Document → Bool) (p q : PeerValue) (s : SessionValue) → IsLaterPeer p q → LawfulSession refuses p s → LawfulSession refuses q s
 lawful-later refuses p q s h l = record {
-  front = l.front;
-  bounds = l.bounds;
-  within = l.within;
-  windows = l.windows;
+  store = l.store;
   done = λ w m e row n leaf k. covers-later p q h row.id leaf (l.done w m e row n leaf k);
-  start = l.start;
-  recorded = l.recorded;
   ledger = λ x m. refused-later refuses p.db q.db h.db x.doc (l.ledger x m);
   arrivals = λ a m r e. h.db.has a.id r (l.arrivals a m r e);
   stands = λ a m. stands_later p.db q.db h.db a (l.stands a m);
-  written = l.written;
-  failures = l.failures;
-  read = l.read;
+  counts = l.counts;
 }
 
 -- ---- a change of each session
@@ -78,10 +68,10 @@ AllBased-map f [] k b = tt
 AllBased-map f (s ∷ sessions) k b =
     let here = k s (inl refl) in (
       elim b.0 [
-        | inl none ↦ inl (here.base ∙ none.0, here.start ∙ none.1)
+        | inl none ↦ inl (ap (λ (c : Scope). c.base) here.scope ∙ none.0, here.start ∙ none.1)
         | inr base ↦
             let t = k base.0 (inr base.1) in
-            inr (f base.0, Among-mapped f base.0 sessions base.1, here.base ∙ (base.2 ∙ ap Some (sym t.id)), here.rep ∙ (base.3 ∙ sym t.rep), omega (arith, base.4, here.start, t.recorded))
+            inr (f base.0, Among-mapped f base.0 sessions base.1, ap (λ (c : Scope). c.base) here.scope ∙ (base.2 ∙ ap Some (sym t.id)), ap (λ (c : Scope). c.rep) here.scope ∙ (base.3 ∙ sym (ap (λ (c : Scope). c.rep) t.scope)), omega (arith, base.4, here.start, t.recorded))
       ],
       AllBased-map f sessions (λ x m. k x (inr m)) b.1,
     )

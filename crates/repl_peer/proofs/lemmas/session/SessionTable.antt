@@ -158,27 +158,27 @@ started-base : (sessions : List SessionValue) (rep : RepId) (base : Option Sessi
 started-base sessions rep None start = refl
 started-base sessions rep (Some base) start = started-on_base start (base_in sessions rep base)
 
-pub begin_in-started : (sessions : List SessionValue) (id : SessionId) (b : Beginning) (r : Result ℕ TargetFault) → holds sessions id ≡ false → r ≡ recorded_by sessions b.rep b.base
-    → begin_in sessions id b ≡ goal_answer b.start b.goal (started b.start r)
+pub begin_in-started : (sessions : List SessionValue) (id : SessionId) (b : Beginning) (r : Result ℕ TargetFault) → holds sessions id ≡ false → r ≡ recorded_by sessions b.scope.rep b.scope.base
+    → begin_in sessions id b ≡ goal_answer b.start b.scope.goal (started b.start r)
 begin_in-started sessions id b r new is =
-    ap (λ c. cond c (Err faults.SessionExists) (goal_answer b.start b.goal (base_answer sessions b.rep b.base b.start))) new
-    ∙ ap (goal_answer b.start b.goal) (started-base sessions b.rep b.base b.start)
-    ∙ ap (λ x. goal_answer b.start b.goal (started b.start x)) (sym is)
+    ap (λ c. cond c (Err faults.SessionExists) (goal_answer b.start b.scope.goal (base_answer sessions b.scope.rep b.scope.base b.start))) new
+    ∙ ap (goal_answer b.start b.scope.goal) (started-base sessions b.scope.rep b.scope.base b.start)
+    ∙ ap (λ x. goal_answer b.start b.scope.goal (started b.start x)) (sym is)
 
 pub begin_in-exists : (sessions : List SessionValue) (id : SessionId) (b : Beginning) → holds sessions id ≡ true → Err faults.SessionExists ≡ begin_in sessions id b
 begin_in-exists sessions id b there =
-    ap (λ c. cond c (Err faults.SessionExists) (goal_answer b.start b.goal (base_answer sessions b.rep b.base b.start))) (sym there)
+    ap (λ c. cond c (Err faults.SessionExists) (goal_answer b.start b.scope.goal (base_answer sessions b.scope.rep b.scope.base b.start))) (sym there)
 
 -- what a base and a goal answer, by the two tests
 abbrev started_at : ℕ → Bool → Bool → Result (Unit {0}) TargetFault
 started_at recorded above below = if above then Err (faults.StartAboveBase recorded) else (if below then Err faults.GoalBelowStart else Ok tt)
 
-pub begin_in-told : (sessions : List SessionValue) (id : SessionId) (b : Beginning) (recorded : ℕ) (above below : Bool) → holds sessions id ≡ false → Ok recorded ≡ recorded_by sessions b.rep b.base → nat_lt recorded b.start ≡ above → nat_lt b.goal b.start ≡ below
+pub begin_in-told : (sessions : List SessionValue) (id : SessionId) (b : Beginning) (recorded : ℕ) (above below : Bool) → holds sessions id ≡ false → Ok recorded ≡ recorded_by sessions b.scope.rep b.scope.base → nat_lt recorded b.start ≡ above → nat_lt b.scope.goal b.start ≡ below
     → started_at recorded above below ≡ begin_in sessions id b
 begin_in-told sessions id b recorded above below new is up down =
     (λ i. started_at recorded (sym up i) (sym down i)) ∙ by (nat_lt recorded b.start) ∙ sym (begin_in-started sessions id b (Ok recorded) new is)
   where
-    by : (c : Bool) → started_at recorded c (nat_lt b.goal b.start) ≡ goal_answer b.start b.goal (cond c (Err (faults.StartAboveBase recorded)) (Ok tt))
+    by : (c : Bool) → started_at recorded c (nat_lt b.scope.goal b.start) ≡ goal_answer b.start b.scope.goal (cond c (Err (faults.StartAboveBase recorded)) (Ok tt))
     by true = refl
     by false = refl
 

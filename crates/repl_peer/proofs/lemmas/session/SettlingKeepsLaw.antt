@@ -21,11 +21,11 @@ abbrev pub any : Source
 any = record { doc = λ _. Unit {0}; window = λ _ w. IsWindow w × (w.hi < 2 ^ 64) }
 
 change_keeps : (refuses : Document → Bool) (q : PeerValue) (s : SessionValue) (c : Change) → LawfulSession refuses q s → Keeps s (changed s c)
-change_keeps refuses q s (Stored window) l = record { id = refl; rep = refl; life = refl; base = refl; goal = refl; start = refl; recorded = omega arith; windows = λ w m. Among-left w s.windows _ m; arrivals = λ a m. m; ledger = λ x m. m }
-change_keeps refuses q s (Refused doc reason) l = record { id = refl; rep = refl; life = refl; base = refl; goal = refl; start = refl; recorded = omega arith; windows = λ w m. m; arrivals = λ a m. m; ledger = λ x m. Among-left x s.ledger _ m }
-change_keeps refuses q s (Arrived window doc) l = record { id = refl; rep = refl; life = refl; base = refl; goal = refl; start = refl; recorded = omega arith; windows = λ w m. m; arrivals = λ a m. Among-left a s.arrivals _ m; ledger = λ x m. m }
-change_keeps refuses q s (Recorded at) l = record { id = refl; rep = refl; life = refl; base = refl; goal = refl; start = refl; recorded = l.recorded; windows = λ w m. m; arrivals = λ a m. m; ledger = λ x m. m }
-change_keeps refuses q s change l = record { id = refl; rep = refl; life = refl; base = refl; goal = refl; start = refl; recorded = omega arith; windows = λ w m. m; arrivals = λ a m. m; ledger = λ x m. m }
+change_keeps refuses q s (Stored window) l = record { id = refl; scope = refl; start = refl; recorded = omega arith; windows = λ w m. Among-left w s.windows _ m; arrivals = λ a m. m; ledger = λ x m. m }
+change_keeps refuses q s (Refused doc reason) l = record { id = refl; scope = refl; start = refl; recorded = omega arith; windows = λ w m. m; arrivals = λ a m. m; ledger = λ x m. Among-left x s.ledger _ m }
+change_keeps refuses q s (Arrived window doc) l = record { id = refl; scope = refl; start = refl; recorded = omega arith; windows = λ w m. m; arrivals = λ a m. Among-left a s.arrivals _ m; ledger = λ x m. m }
+change_keeps refuses q s (Recorded at) l = record { id = refl; scope = refl; start = refl; recorded = l.recorded; windows = λ w m. m; arrivals = λ a m. m; ledger = λ x m. m }
+change_keeps refuses q s change l = record { id = refl; scope = refl; start = refl; recorded = omega arith; windows = λ w m. m; arrivals = λ a m. m; ledger = λ x m. m }
 
 written_later : (db : DatabaseValue) (s : SessionValue) (c : Change) → IsLater db (written db s c)
 written_later db s (Arrived window doc) = IsLater-after_put db doc (fed window s.id doc)
@@ -38,10 +38,14 @@ change_lawful refuses Of are p s (Stored w) may later l =
     let window = are s w may.from in
     let above : end_of s.front < w.hi = omega (arith, window.0.range, may.at) in
     record {
-      front = IsFront-appended s.front w.hi l.front above window.1;
-      bounds = map_push (λ (v : WindowValue). (v.lo, v.hi)) s.windows w ∙ ap (λ bs. bs ++ (w.lo, w.hi) ∷ []) l.bounds ∙ ap (λ n. bounds s.front ++ (n, w.hi) ∷ []) may.at ∙ sym (bounds-appended s.front w.hi);
-      within = omega (arith, end_of-appended s.front w.hi, may.within);
-      windows = each_push IsWindow s.windows w l.windows window.0;
+      store = record {
+        front = IsFront-appended s.front w.hi l.front above window.1;
+        bounds = map_push (λ (v : WindowValue). (v.lo, v.hi)) s.windows w ∙ ap (λ bs. bs ++ (w.lo, w.hi) ∷ []) l.bounds ∙ ap (λ n. bounds s.front ++ (n, w.hi) ∷ []) may.at ∙ sym (bounds-appended s.front w.hi);
+        within = omega (arith, end_of-appended s.front w.hi, may.within);
+        windows = each_push IsWindow s.windows w l.windows window.0;
+        start = l.start;
+        recorded = omega (arith, l.recorded, low_water-appended s.front w.hi);
+      };
       done = λ v m e. (let before = sym (is_done-appended s.front w.hi v.lo v.hi) ∙ e in elim (Among-push v s.windows w m) [
         | inl old ↦ l.done v old before
         | inr new ↦
@@ -49,42 +53,26 @@ change_lawful refuses Of are p s (Stored w) may later l =
             let under = is_window-within s.front v.lo v.hi l.front (is_window-is_done s.front v.lo v.hi before) in
             absurd (omega (arith, under.2, last, above))
       ]);
-      start = l.start;
-      recorded = omega (arith, l.recorded, low_water-appended s.front w.hi);
       ledger = l.ledger;
       arrivals = l.arrivals;
       stands = l.stands;
-      written = l.written;
-      failures = l.failures;
-      read = l.read;
+      counts = l.counts;
     }
 change_lawful refuses Of are p s (Refused doc reason) may later l =
     let new : RefusedValue = record { doc = doc; reason = reason } in
     record {
-      front = l.front;
-      bounds = l.bounds;
-      within = l.within;
-      windows = l.windows;
+      store = l.store;
       done = l.done;
-      start = l.start;
-      recorded = l.recorded;
       ledger = λ x m. elim (Among-push x s.ledger new m) [ inl old ↦ l.ledger x old | inr e ↦ ap (λ (y : RefusedValue). rightly_refused refuses p.db y.doc) e ∙ may ];
       arrivals = l.arrivals;
       stands = l.stands;
-      written = l.written;
-      failures = omega (arith, l.failures, length-append s.ledger (new ∷ []));
-      read = omega (arith, l.read);
+      counts = record { written = l.written; failures = omega (arith, l.failures, length-append s.ledger (new ∷ [])); read = omega (arith, l.read) };
     }
 change_lawful refuses Of are p s (Arrived window doc) may later l =
     let db = after_put p.db doc (fed window s.id doc) in
     record {
-      front = l.front;
-      bounds = l.bounds;
-      within = l.within;
-      windows = l.windows;
+      store = l.store;
       done = l.done;
-      start = l.start;
-      recorded = l.recorded;
       ledger = l.ledger;
       arrivals = λ a m r e. elim (Among-push a s.arrivals (written_of doc) m) [
         | inl old ↦ l.arrivals a old r e
@@ -94,47 +82,38 @@ change_lawful refuses Of are p s (Arrived window doc) may later l =
         | inl old ↦ l.stands a old
         | inr is ↦ subst (StandsIn db) (sym is) (put_stands p.db doc (fed window s.id doc) may.clear may.room)
       ];
-      written = omega (arith, l.written, length-append s.arrivals (written_of doc ∷ []));
-      failures = l.failures;
-      read = omega (arith, l.read);
+      counts = record { written = omega (arith, l.written, length-append s.arrivals (written_of doc ∷ [])); failures = l.failures; read = omega (arith, l.read) };
     }
 change_lawful refuses Of are p s (Marked window parcel) may later l =
     let follows = windows-consecutive s.front s.windows l.bounds l.front in
     let covered : CoversWindow (after_change p s (Marked window parcel)) window = λ row i leaf j. covers-later p _ later row.id leaf (may.1 row i leaf j) in
     record {
-      front = IsFront-finished s.front window.lo window.hi l.front;
-      bounds = l.bounds ∙ sym (bounds-finished s.front window.lo window.hi);
-      within = omega (arith, l.within, end_of-finished s.front window.lo window.hi);
-      windows = l.windows;
+      store = record {
+        front = IsFront-finished s.front window.lo window.hi l.front;
+        bounds = l.bounds ∙ sym (bounds-finished s.front window.lo window.hi);
+        within = omega (arith, l.within, end_of-finished s.front window.lo window.hi);
+        windows = l.windows;
+        start = l.start;
+        recorded = omega (arith, l.recorded, low_water-finished s.front window.lo window.hi l.front);
+      };
       done = λ v n e. elim (is_done-finished_cases s.front window.lo window.hi v.lo v.hi e) [
         | inl before ↦ l.done v n before
         | inr same ↦
             let range = (window-above s.front.start s.windows v follows n).1 in
             subst (CoversWindow (after_change p s (Marked window parcel))) (one_window s.front.start s.windows window v v.hi follows may.0 n (omega (arith, range, same.0)) (omega (arith, same.1)) range (omega arith)) covered
       ];
-      start = l.start;
-      recorded = omega (arith, l.recorded, low_water-finished s.front window.lo window.hi l.front);
       ledger = l.ledger;
       arrivals = l.arrivals;
       stands = l.stands;
-      written = l.written;
-      failures = l.failures;
-      read = l.read;
+      counts = record { written = l.written; failures = l.failures; read = l.read };
     }
 change_lawful refuses Of are p s (Recorded at) may later l = record {
-  front = l.front;
-  bounds = l.bounds;
-  within = l.within;
-  windows = l.windows;
+  store = record { front = l.front; bounds = l.bounds; within = l.within; windows = l.windows; start = omega (arith, l.start, l.recorded); recorded = omega arith };
   done = l.done;
-  start = omega (arith, l.start, l.recorded);
-  recorded = omega arith;
   ledger = l.ledger;
   arrivals = l.arrivals;
   stands = l.stands;
-  written = l.written;
-  failures = l.failures;
-  read = l.read;
+  counts = l.counts;
 }
 
 -- ---- so the calls

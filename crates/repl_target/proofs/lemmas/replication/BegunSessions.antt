@@ -6,7 +6,7 @@ use Rattle.couch_base.specs.{Among, LawfulDatabase, RowValue, WindowValue, any_f
 use Rattle.repl_log.specs.declared.replication.RepId.{RepId}
 use Rattle.repl_peer.specs.{TargetFault, PeerValue, SessionValue, is_of, holds, covers, LawfulSessions, goal_answer, base_answer, new_session, begun, rep_between}
 use Rattle.repl_peer.specs.declared.fault.TargetFault.TheVariants as faults
-use Rattle.repl_target.specs.{Plan, start_between, base_at, checkpoint_of, begins_answer, after_begins, CoversFrom, beginning_between, IsTiedWindow, IsGrown, EachStored}
+use Rattle.repl_target.specs.{Plan, start_between, base_at, checkpoint_of, begins_answer, after_begins, CoversFrom, scope_between, beginning_between, IsTiedWindow, IsGrown, EachStored}
 use Rattle.repl_target.proofs.lemmas.ties.TiedPages.{chosen_member}
 use Rattle.repl_target.proofs.lemmas.replication.CallLaws.{grown_law, grown_stores}
 use Rattle.repl_target.proofs.lemmas.ties.TiedPeersCover.{windows_cover}
@@ -16,11 +16,8 @@ pub record Later (source target : PeerValue) (plan : Plan) (now : PeerValue) : T
   pub session : SessionValue
   pub held : Among session now.sessions
   pub id : session.id ≡ plan.session
-  pub rep : session.rep ≡ rep_between source target plan.chosen
-  pub life : session.life ≡ source.db.life
-  pub base : session.base ≡ base_at (checkpoint_of source target plan.chosen)
+  pub scope : session.scope ≡ scope_between source target plan.chosen
   pub start : session.front.start ≡ start_between source target plan.chosen
-  pub goal : session.goal ≡ source.db.update_seq
   pub tied : (w : WindowValue) → Among w session.windows → IsTiedWindow source.db plan.chosen w
 
 -- no session of the target has the id of one that begins
@@ -48,11 +45,8 @@ later_session refuses source target plan now law l ok grown =
       session = k.0;
       held = k.1;
       id = k.2.id;
-      rep = k.2.rep;
-      life = k.2.life;
-      base = k.2.base;
+      scope = k.2.scope;
       start = k.2.start;
-      goal = k.2.goal;
       tied = λ w n. stored k.0 k.1 k.2.id w n;
     }
 

@@ -5,7 +5,7 @@ use Rattle.doc_json.specs.Document.{Document}
 use Rattle.doc_json.specs.{Choice}
 use Rattle.couch_base.specs.{Among, DatabaseValue, LawfulDatabase, WindowValue, ParcelValue, open_revs, some_is, none_some, any_from}
 use Rattle.repl_peer.specs.declared.fault.Cause.TheVariants as causes
-use Rattle.repl_peer.specs.{Report, Settled, TargetFault, PeerValue, SessionValue, is_of, entry_of, LawfulSessions, new_session, begun, after_append, conclude_answer, session_answer, settle_check, settling_of, settled_before, after_all, after_documents, after_front, after_stop, settled_at, after_settle, SettlesAt, Settles, SettleGives, stopped_at, rep_between, BackupValue, IsLaterPeer}
+use Rattle.repl_peer.specs.{Report, Scope, Settled, TargetFault, PeerValue, SessionValue, is_of, entry_of, LawfulSessions, new_session, begun, after_append, conclude_answer, session_answer, settle_check, settling_of, settled_before, after_all, after_documents, after_front, after_stop, settled_at, after_settle, SettlesAt, Settles, SettleGives, stopped_at, rep_between, BackupValue, IsLaterPeer}
 use Rattle.repl_peer.specs.declared.fault.TargetFault.TheVariants as faults
 use Rattle.repl_target.specs.{Plan, audit_answer, CoversFeed, Reading, is_batch, beginning_between, begins_answer, after_begins, next_window, parcel_for, Carries, WindowRefused, Reads, ReadsAll, ReadsUntil, is_due, first_reading, closed, closed_as, PutsOver, plan_answer, Replicates, cut, ended, IsReported, Call, Append, Settle, Stop, Record, Conclude, after_call, after_calls, after_some, most_settled, settled_of, IsPageOf, IsFrom, AllFrom, IsGrown, IsLeft, IsTiedWindow, IsTiedPair, IsTiedWith, IsPut}
 use Rattle.repl_target.proofs.lemmas.replication.BegunSessions.{fresh_of}
@@ -274,10 +274,10 @@ reported_whole refuses source target plan target' report law l l' begun grown ti
     let left : IsLeft refuses source target plan target' = inr (begun, grown) in
     let held : Among s target'.sessions = (session_found target'.sessions plan.session s reported.held).0 in
     let after = (left_law refuses source target plan target' law l left).1 in
-    let rep : s.rep ≡ rep_between source target' plan.chosen = reported.rep ∙ (λ i. record { source = source.db.uuid; target = sym after.db.uuid i; chosen = plan.chosen }) in
+    let rep : s.rep ≡ rep_between source target' plan.chosen = ap (λ (c : Scope). c.rep) reported.scope ∙ (λ i. record { source = source.db.uuid; target = sym after.db.uuid i; chosen = plan.chosen }) in
     let recorded : s.recorded ≡ source.db.update_seq = sym (ap (λ (r : Report). r.recorded) reported.is) ∙ reported.recorded in
     let pair = left_tied refuses source target plan target' plan.chosen law l left tied in
-    (session_reached refuses plan.chosen source.db target' l' s held (pair.sessions s held rep) reported.life source.db.update_seq (omega (arith, recorded))).covered
+    (session_reached refuses plan.chosen source.db target' l' s held (pair.sessions s held rep) (ap (λ (c : Scope). c.life) reported.scope) source.db.update_seq (omega (arith, recorded))).covered
 
 pub replicates_whole : (refuses : Document → Bool) (source target : PeerValue) (plan : Plan) (result : Result Report TargetFault) (source' target' : PeerValue) → LawfulDatabase source.db → LawfulSessions refuses target → LawfulSessions refuses target'
     → Replicates refuses source target plan result source' target' → IsTiedPair source target plan.chosen → IfOk result (λ report. IsReported source target target' plan report → CoversFeed source target' plan.chosen source.db.update_seq)

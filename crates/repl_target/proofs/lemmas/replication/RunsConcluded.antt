@@ -5,7 +5,7 @@ use Rattle.doc_json.specs.Document.{Document}
 use Rattle.couch_base.specs.{Among, none_some, DatabaseValue, LawfulDatabase}
 use Rattle.range_front.specs.{low_water}
 use Rattle.repl_log.specs.{AddUp}
-use Rattle.repl_peer.specs.{PeerValue, SessionValue, is_of, session_in, with_session, LawfulSessions, session_numbers, found_answer, on_found, on_session, recorded_at, report_of, conclude_in, conclude_answer, after_conclude, Report, TargetFault}
+use Rattle.repl_peer.specs.{Scope, PeerValue, SessionValue, is_of, session_in, with_session, LawfulSessions, session_numbers, found_answer, on_found, on_session, recorded_at, report_of, conclude_in, conclude_answer, after_conclude, Report, TargetFault}
 use Rattle.repl_target.specs.{Reading, plan_answer, Carries, Reads, start_between, begins_answer, after_begins, first_reading, closed_as, closed, told_by, Closes, is_due, CoversFrom, IsReported, ReadsAll, ReadsUntil, Replicates, not_planned, no_memory, not_begun, cut, ended, Plan, Conclude, IsGrown}
 use Rattle.repl_peer.specs.declared.fault.TargetFault.TheVariants as faults
 use Rattle.repl_peer.proofs.{one_session, session_found, with_session_holds}
@@ -88,7 +88,7 @@ module _ (refuses : Document → Bool) (source target : PeerValue) (plan : Plan)
       let same : t.session ≡ recorded_at plan.at c.session = one_session now.sessions t.session (recorded_at plan.at c.session) l'.distinct t.held c.held (ap (λ (i : SessionId). i.0) t.id ∙ sym (session_found p.sessions plan.session c.session c.was).1) in
       let is : report ≡ report_of t.session = c.is ∙ ap report_of (sym same) in
       let recorded : t.session.recorded ≡ source.db.update_seq =
-      ap (λ (s : SessionValue). s.recorded) same ∙ c.reached ∙ sym (ap (λ (s : SessionValue). s.goal) same) ∙ t.goal in
+      ap (λ (s : SessionValue). s.recorded) same ∙ c.reached ∙ sym (ap (λ (s : SessionValue). s.goal) same) ∙ ap (λ (c : Scope). c.goal) t.scope in
       record {
         grown = whole;
         law = l';
@@ -97,10 +97,7 @@ module _ (refuses : Document → Bool) (source target : PeerValue) (plan : Plan)
           session = t.session;
           held = found-is now.sessions plan.session t.session l'.distinct t.held t.id;
           is = is;
-          rep = t.rep;
-          life = t.life;
-          base = t.base;
-          goal = t.goal;
+          scope = t.scope;
           start = ap (λ (r : Report). r.start) is ∙ t.start;
           recorded = ap (λ (r : Report). r.recorded) is ∙ recorded;
           counts = subst AddUp (ap (λ (x : Report). x.counts) (sym is)) (l'.sessions t.session t.held).read;

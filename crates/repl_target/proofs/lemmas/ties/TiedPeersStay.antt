@@ -6,7 +6,7 @@ use Rattle.doc_json.specs.{Choice}
 use Rattle.couch_base.specs.{Among, DatabaseValue, LawfulDatabase, in_life, RowValue, WindowValue, chosen_feed, IsLater, Among-map, Among-push}
 use Rattle.repl_log.specs.declared.replication.RepId.{RepId}
 use Rattle.repl_log.specs.{EntryValue, is_of, holds, replaced, with_entry, same_rep, log_in, logs_with, put_answer_in, same_rep-is}
-use Rattle.repl_peer.specs.{PeerValue, SessionValue, entry_of, session_in, LawfulSessions, IsLaterPeer, rep_between, BackupValue, source_log, as_log_answers, put_by, put_entry_answer, after_put_entry, new_session, with_window, session_answer, found_answer, TargetFault, Beginning}
+use Rattle.repl_peer.specs.{PeerValue, Scope, SessionValue, entry_of, session_in, LawfulSessions, IsLaterPeer, rep_between, BackupValue, source_log, as_log_answers, put_by, put_entry_answer, after_put_entry, new_session, with_window, session_answer, found_answer, TargetFault, Beginning}
 use Rattle.repl_target.specs.{IsTiedWindow, IsReached, IsTiedSession, IsTiedEntry, AreTiedEntries, IsTiedPair, AreTiedBackups, IsSentEntry, Call, Begin, after_call, IsPageOf, IsGrown, beginning_between, start_between, after_begins, Plan}
 use Rattle.repl_peer.specs.declared.fault.TargetFault.TheVariants as faults
 use Rattle.repl_peer.proofs.{covers-later, session_found, begin_later, changed, after_change, KeptByChanges, change_law}
@@ -30,14 +30,14 @@ entry-later db p q rep e later h =
       session = k.0;
       held = k.1;
       named = k.2.id ∙ h.named;
-      recorded = λ r. (let less = h.recorded (sym k.2.rep ∙ r) in omega (arith, less, k.2.recorded));
-      reached = λ r. reached-later rep.chosen db p q e.recorded later (h.reached (sym k.2.rep ∙ r));
+      recorded = λ r. (let less = h.recorded (sym (ap (λ (c : Scope). c.rep) k.2.scope) ∙ r) in omega (arith, less, k.2.recorded));
+      reached = λ r. reached-later rep.chosen db p q e.recorded later (h.reached (sym (ap (λ (c : Scope). c.rep) k.2.scope) ∙ r));
     }
 
 pub sent-later : (p q : PeerValue) (e : EntryValue) → IsLaterPeer p q → IsSentEntry p e → IsSentEntry q e
 sent-later p q e later h =
     let k = later.sessions h.session h.held in
-    record { session = k.0; held = k.1; named = k.2.id ∙ h.named; life = k.2.life ∙ h.life; recorded = omega (arith, h.recorded, k.2.recorded) }
+    record { session = k.0; held = k.1; named = k.2.id ∙ h.named; life = ap (λ (c : Scope). c.life) k.2.scope ∙ h.life; recorded = omega (arith, h.recorded, k.2.recorded) }
 
 rep_later : (source p q : PeerValue) (c : Choice) → IsLaterPeer p q → rep_between source p c ≡ rep_between source q c
 rep_later source p q c later = λ i. record { source = source.db.uuid; target = sym later.db.uuid i; chosen = c }
@@ -72,7 +72,7 @@ tied-more db p rep w s tied h = λ r.
     }
 
 -- a session that begins
-pub tied-new : (db : DatabaseValue) (p : PeerValue) (rep : RepId) (id : SessionId) (b : Beginning) (at : ℕ) → b.life ≤ db.life → (b.rep ≡ rep → b.life ≡ db.life → IsReached rep.chosen db p b.start) → TiedAt db p rep (new_session id b at)
+pub tied-new : (db : DatabaseValue) (p : PeerValue) (rep : RepId) (id : SessionId) (b : Beginning) (at : ℕ) → b.scope.life ≤ db.life → (b.scope.rep ≡ rep → b.scope.life ≡ db.life → IsReached rep.chosen db p b.start) → TiedAt db p rep (new_session id b at)
 tied-new db p rep id b at under reach = λ r. record { life = under; windows = λ e w m. absurd m; start = reach r }
 
 -- two peers stay tied where the target becomes a later one, whose sessions are so

@@ -7,7 +7,7 @@ use Rattle.repl_peer.proofs.session.Session.conclude.Goals as goal
 whole : (c : goal.After-report) → (low_water c.args.self.now.front == c.args.self.now.goal) ≡ true
 whole c =
     ap (λ (s : SessionValue). low_water s.front == s.goal) (sym c.self.view_is)
-    ∙ eq-eqb (low_water c.self.inside.front.front) c.self.inside.goal (sym c.low_water-low_water.ensures.value ∙ c.if-low_water-self.false)
+    ∙ eq-eqb (low_water c.self.inside.front.front) c.self.inside.scope.goal (sym c.low_water-low_water.ensures.value ∙ c.if-low_water-self.false)
 
 pub returns : goal.returns
 returns c =
