@@ -17,4 +17,5 @@ pub use peer::filter::{Rules, Verdict, WriteFilter};
 pub use peer::written::Written;
 pub use session::beginning::{Beginning, Scope};
 pub use session::refused::Refused;
+pub use session::spent::Spent;
 pub use session::window::StoredWindow;

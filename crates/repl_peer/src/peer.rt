@@ -16,6 +16,7 @@ use crate::peer::filter::WriteFilter;
 use crate::peer::written::Written;
 use crate::session::beginning::Beginning;
 use crate::session::sessions::Sessions;
+use crate::session::spent::Spent;
 use couch_base::{Asked, BaseFault, Database, Listed, Parcel, Put, Revised, Window};
 use doc_json::{Body, Chosen, Doc, DocId};
 use repl_log::{Entry, Logs, Moment};
@@ -306,8 +307,24 @@ impl<F: WriteFilter> Peer<F> {
         ensures filter { self.new.0 ≡ self.old.0 }
         ensures law { Lawful (F.refuses self.new.0) self.new.1 }
     {
+        let mut spent = Spent::new(*self.locals.allocator());
+        self.settle_into(id, parcel, &mut spent)
+    }
+
+    /// `settle`, which lets nothing go that it has used up of the parcel, so far as there is room for it: who holds the
+    /// peer behind a lock lets that go without the lock.
+    pub fn settle_into(
+        &mut self,
+        id: SessionId,
+        parcel: Parcel,
+        spent: &mut Spent,
+    ) -> Result<Settled, TargetFault>
+        ensures settles { SettleGives (F.refuses self.old.0) self.old.1 id parcel result self.new.1 }
+        ensures filter { self.new.0 ≡ self.old.0 }
+        ensures law { Lawful (F.refuses self.new.0) self.new.1 }
+    {
         self.sessions
-            .settle_session(&self.filter, &mut self.db, id, parcel)
+            .settle_session(&self.filter, &mut self.db, id, parcel, spent)
     }
 
     /// Records what a session has done without a gap, and answers it: the source's sequence up to which all is done.

@@ -13,6 +13,7 @@ mod rep_index;
 mod rows;
 pub(crate) mod sessions;
 mod settle;
+pub(crate) mod spent;
 mod stored;
 pub(crate) mod window;
 

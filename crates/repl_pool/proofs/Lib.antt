@@ -16,6 +16,8 @@ pub mod RunLaws
 pub mod Syncing
 pub mod Walking
 pub mod Crews
+pub mod Empty
+pub mod Counting
 pub use Sums.{all_first, all_rest}
 pub use ParcelRule.{gets, sends}
 pub use WindowRule.{takes}
@@ -34,3 +36,5 @@ pub use RunLaws.{Passes, ends_free, given_grown, no_workers, nothing_read, passe
 pub use Syncing.{run_leaves}
 pub use Walking.{hole_cut, middle_above, middle_under}
 pub use Crews.{crew_most, crew_some}
+pub use Empty.{some_from, unchanged}
+pub use Counting.{counted_page}

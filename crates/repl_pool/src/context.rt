@@ -2,6 +2,7 @@
 
 use crate::brands::{SourceBrand, TargetBrand};
 use crate::channels::Channels;
+use crate::given_target::GivenTarget;
 use crate::run_target::RunTarget;
 use progress_board::Board;
 use repl_target::{Peer, Plan, WriteFilter};
@@ -10,7 +11,8 @@ use std::sync::Mutex;
 use std::sync::ledger::Ledger;
 
 /// What all threads of a run share: the runtime and the allocator, the two channels, the source, the target behind its
-/// lock, the gate, the plan, and the board, where there is one. Each step of a worker is a method of it.
+/// lock, what is known of it as it was given, the gate, the plan, and the board, where there is one. Each step of a
+/// worker is a method of it.
 #[derive(Drop)]
 pub struct Context<'e, F: WriteFilter, S: SourceBrand, T: TargetBrand<F>, L: Ledger, G, R> {
     pub rt: &'e R,
@@ -18,6 +20,7 @@ pub struct Context<'e, F: WriteFilter, S: SourceBrand, T: TargetBrand<F>, L: Led
     pub channels: &'e Channels<S>,
     pub source: &'e Peer<F>,
     pub target: &'e Mutex<RunTarget<F, S, T, L>>,
+    pub given: &'e GivenTarget<F, T>,
     pub gate: &'e G,
     pub plan: &'e Plan,
     pub board: Option<&'e Board>,

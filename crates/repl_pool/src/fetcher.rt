@@ -158,6 +158,11 @@ impl<F: WriteFilter, S: SourceBrand, T: TargetBrand<F>, L: Ledger, G: Gate, R: W
         ensures uncounted { IfErr result SaysNoFull }
     {
         pass(self.rt, self.gate, Place::Took(number))?;
+        if let Some(asked) = self.given.diff(self.alloc, &page) {
+            let asked = asked?;
+            pass(self.rt, self.gate, Place::Asked(number))?;
+            return Ok(Found::<S>::whole(self.source, asked, page));
+        }
         let asked = self.ask(&page)?;
         pass(self.rt, self.gate, Place::Asked(number))?;
         let fetched = Found::<S>::count(self.alloc, self.source, asked, page)?;

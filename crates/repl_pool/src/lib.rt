@@ -15,6 +15,7 @@ mod fault;
 mod fetcher;
 mod gate;
 mod gather;
+mod given_target;
 mod messages;
 mod parcels;
 mod reader;

@@ -17,7 +17,7 @@ use crate::brands::{SourceBrand, TargetBrand};
 use crate::messages::{Fetched, Paged};
 use couch_base::Asked;
 use repl_log::Moment;
-use repl_target::{Peer, Settled, TargetFault, WriteFilter, has_left};
+use repl_target::{Peer, Settled, Spent, TargetFault, WriteFilter, has_left};
 use rev_tree::SessionId;
 use std::alloc::{AllocError, Global};
 use std::marker::{Model, PhantomData};
@@ -130,11 +130,12 @@ impl<F: WriteFilter, S: SourceBrand, T: TargetBrand<F>, L: Ledger> RunTarget<F, 
         self.target.revs_diff(alloc, page.window())
     }
 
-    /// Settles what the source answers: `Peer::settle`. The share grows by the documents that this has taken.
+    /// Settles what the source answers: `Peer::settle_into`. The share grows by the documents that this has taken.
     pub fn settle_counted(
         &mut self,
         share: &mut Share<L>,
         fetched: Fetched<S>,
+        spent: &mut Spent,
     ) -> Result<Settled, TargetFault>
         requires { 0 < share.old.parts }
         ensures parts { share.new.parts ≡ share.old.parts }
@@ -148,7 +149,7 @@ impl<F: WriteFilter, S: SourceBrand, T: TargetBrand<F>, L: Ledger> RunTarget<F, 
         self.target.law();
         let documents = fetched.documents();
         let parcel = fetched.into_parcel();
-        let result = self.target.settle(self.session, parcel);
+        let result = self.target.settle_into(self.session, parcel, spent);
         let taken = taken_of(&result, documents);
         self.ledger.add(share, taken);
         result

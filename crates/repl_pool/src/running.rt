@@ -19,6 +19,7 @@ use crate::context::Context;
 use crate::end::end;
 use crate::fault::PoolFault;
 use crate::gate::Gate;
+use crate::given_target::GivenTarget;
 use crate::run_target::RunTarget;
 use crate::threads::Owned;
 use crate::totals::{Summed, collect};
@@ -190,6 +191,7 @@ fn run_begun<
         start,
         crew: _,
     } = begun;
+    let given = GivenTarget::<F, T>::of(alloc, &target, plan.session);
     let (ledger, all) = blank.open::<L>();
     let locked = Mutex::new(RunTarget::<F, S, T, L>::open(
         target,
@@ -203,6 +205,7 @@ fn run_begun<
         channels: &channels,
         source: &source,
         target: &locked,
+        given: &given,
         gate,
         plan,
         board,

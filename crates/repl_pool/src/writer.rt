@@ -19,7 +19,7 @@ use crate::parcels::{Gets, ParcelMessage, ParcelPass};
 use crate::run_target::taken_of;
 use crate::show::{show_read, show_settled};
 use progress_board::BoardSeat;
-use repl_target::WriteFilter;
+use repl_target::{Spent, WriteFilter};
 use std::sync::Wait;
 use std::sync::ledger::{Ledger, Share};
 
@@ -49,6 +49,7 @@ impl<F: WriteFilter, S: SourceBrand, T: TargetBrand<F>, L: Ledger, G: Gate, R: W
         share: &mut Share<L>,
         seat: &mut Option<BoardSeat>,
         fetched: Fetched<S>,
+        spent: &mut Spent,
     ) -> Result<(), Halt>
         requires parts { 0 < share.old.parts }
         requires seat { IsSeated (option_copied self.now.board) seat.old }
@@ -59,7 +60,10 @@ impl<F: WriteFilter, S: SourceBrand, T: TargetBrand<F>, L: Ledger, G: Gate, R: W
         ensures shows { HasSettled (option_copied self.now.board) share.old.amount share.new.amount seat.old seat.new }
     {
         let documents = fetched.documents();
-        let result = self.target.lock(self.rt).settle_counted(share, fetched);
+        let result = self
+            .target
+            .lock(self.rt)
+            .settle_counted(share, fetched, spent);
         show_settled(self.board, seat, taken_of(&result, documents));
         match result {
             Ok(_) => Ok(()),
@@ -95,8 +99,11 @@ impl<F: WriteFilter, S: SourceBrand, T: TargetBrand<F>, L: Ledger, G: Gate, R: W
         ensures shows { HasWritten (option_copied self.now.board) share.old.amount share.new.amount (halt_in result)
             seat.old seat.new }
     {
-        show_read(self.board, seat, fetched.documents())?;
-        self.settle_and_show(share, seat, fetched)?;
+        let documents = fetched.documents();
+        let mut spent = Spent::with_room(self.alloc, documents as usize)?;
+        show_read(self.board, seat, documents)?;
+        self.settle_and_show(share, seat, fetched, &mut spent)?;
+        drop(spent);
         pass(self.rt, self.gate, Place::Settled(number))?;
         let recorded = self.record()?;
         pass(self.rt, self.gate, Place::Recorded(number, recorded))
@@ -121,8 +128,12 @@ impl<F: WriteFilter, S: SourceBrand, T: TargetBrand<F>, L: Ledger, G: Gate, R: W
         ensures shows { HasWritten (option_copied self.now.board) share.old.amount share.new.amount (halt_in result)
             seat.old seat.new }
     {
+        // The rows live as long: else they are let go of under the lock.
+        let page = found.page(self.alloc)?;
         let fetched = found.fetch(self.alloc, self.source, self.plan.session)?;
-        self.settle_and_record(share, seat, number, fetched)
+        let settled = self.settle_and_record(share, seat, number, fetched);
+        drop(page);
+        settled
     }
 
     /// Settles the parcel that a writer got last, and counts it, or keeps why it halts. `CountFull` only where its count

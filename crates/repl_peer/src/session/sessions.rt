@@ -17,6 +17,7 @@ use crate::session::beginning::Beginning;
 use crate::session::ledger_index::LedgerIndex;
 use crate::session::rep_index::RepIndex;
 use crate::session::settle::settle_parcel;
+use crate::session::spent::Spent;
 use couch_base::{Database, Parcel, Window};
 use doc_json::DocId;
 use indexmap::IndexMap;
@@ -222,6 +223,7 @@ impl Sessions {
         db: &mut Database,
         id: SessionId,
         parcel: Parcel,
+        spent: &mut Spent,
     ) -> Result<Settled, TargetFault>
         ensures { (p : PeerValue)
             → SettleGives (F.refuses filter.now) (with_parts p db.old self.old) id parcel result
@@ -230,7 +232,7 @@ impl Sessions {
         let Some(session) = self.entries.get_mut(&id) else {
             return Err(TargetFault::NoSuchSession);
         };
-        settle_parcel(filter, db, &mut self.ledgered, session, parcel)
+        settle_parcel(filter, db, &mut self.ledgered, session, parcel, spent)
     }
 
     /// Records what a session has done without a gap.

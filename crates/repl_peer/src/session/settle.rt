@@ -24,6 +24,7 @@ use crate::session::Session;
 use crate::session::ledger_index::LedgerIndex;
 use crate::session::refused::Refused;
 use crate::session::rows::{first_unknown, seq_from};
+use crate::session::spent::Spent;
 use crate::session::stored::{Checked, check};
 use crate::session::window::let_leaves_go_at;
 use couch_base::{BaseFault, Brought, Database, Parcel};
@@ -45,16 +46,26 @@ pub(crate) fn settle_parcel<F: WriteFilter>(
     ledgered: &mut LedgerIndex,
     session: &mut Session,
     parcel: Parcel,
+    spent: &mut Spent,
 ) -> Result<Settled, TargetFault>
     ensures gives { PartsGive (F.refuses filter.now) (known_of db.new ledgered.new)
         (settling_at db.old session.old) parcel result (settling_at db.new session.new) }
     ensures keeps { KeepsIndexed session.old ledgered.old session.new ledgered.new }
 {
     let checked = check(session, &parcel)?;
-    let (_, mut docs, _) = parcel.into_parts();
+    let (asked, mut docs, gone) = parcel.into_parts();
+    spent.keep_asked(asked, gone);
     let (written, failures) = (session.counts.written, session.counts.failures);
     let all = docs.len();
-    let stop = settle_in_order(filter, db, ledgered, session, checked.place, &mut docs);
+    let stop = settle_in_order(
+        filter,
+        db,
+        ledgered,
+        session,
+        checked.place,
+        &mut docs,
+        spent,
+    );
     let settled = (all - docs.len()) as u64;
     if let Err(cause) = stop {
         return Err(TargetFault::Stopped {
@@ -82,6 +93,7 @@ fn settle_in_order<F: WriteFilter>(
     session: &mut Session,
     place: usize,
     docs: &mut Vec<Brought>,
+    spent: &mut Spent,
 ) -> Result<(), Cause>
     requires rows { (w : WindowValue)
         × (slice_get session.old.windows place ≡ Some w)
@@ -114,7 +126,7 @@ fn settle_in_order<F: WriteFilter>(
         return Err(cause_of(filter, db, doc.doc(), refused));
     }
     docs.reverse();
-    let settled = settle_from_end(filter, db, ledgered, session, place, docs);
+    let settled = settle_from_end(filter, db, ledgered, session, place, docs, spent);
     docs.reverse();
     settled
 }
@@ -129,6 +141,7 @@ fn settle_from_end<F: WriteFilter>(
     session: &mut Session,
     place: usize,
     docs: &mut Vec<Brought>,
+    spent: &mut Spent,
 ) -> Result<(), Cause>
     requires rows { (w : WindowValue)
         × (slice_get session.old.windows place ≡ Some w)
@@ -160,7 +173,7 @@ fn settle_from_end<F: WriteFilter>(
         let (found, seq) = seq_from(rows, doc.id(), row);
         row = found;
         let origin = Origin::Feed(session.id, seq);
-        settle_last(filter, db, ledgered, session, docs, origin)?;
+        settle_last(filter, db, ledgered, session, docs, origin, spent)?;
     }
     Ok(())
 }
@@ -174,6 +187,7 @@ fn settle_last<F: WriteFilter>(
     session: &mut Session,
     docs: &mut Vec<Brought>,
     origin: Origin,
+    spent: &mut Spent,
 ) -> Result<(), Cause>
     requires one { 0 < vec_len docs.old }
     requires room { session.old.counts.read < most }
@@ -225,8 +239,9 @@ fn settle_last<F: WriteFilter>(
             Ok(())
         }
         None => {
-            let (id, ancestry, _, _) = doc.into_parts();
+            let (id, ancestry, _, body) = doc.into_parts();
             let written = Written::whole(id, head, &ancestry);
+            spent.keep(ancestry, body);
             session.arrivals.push(written).unwrap();
             session.counts.written += 1;
             Ok(())

@@ -8,7 +8,7 @@ use Rattle.repl_peer.proofs.session.settle.settle_parcel.Goals as goal
 
 pub settle_in_order-stop-requires : goal.settle_in_order-stop-requires
 settle_in_order-stop-requires g c =
-    let docs = ap (λ (p : ParcelValue). p.docs) c.into_parts-docs.ensures.parts in
+    let docs = ap (λ (p : ParcelValue). p.docs) c.into_parts-asked.ensures.parts in
     let p = c.in_ok-checked.ensures.ok in
     let q = passed_by c.args.session.now c.args.parcel _ _ _ p in
     let room = room_of c.args.session.now p.window c.args.parcel q.room in
@@ -20,13 +20,13 @@ settle_in_order-stop-requires g c =
 
 pub returns-in-Err : goal.returns-in-Err
 returns-in-Err g c =
-    let docs = ap (λ (p : ParcelValue). p.docs) c.into_parts-docs.ensures.parts in
+    let docs = ap (λ (p : ParcelValue). p.docs) c.into_parts-asked.ensures.parts in
     let p = c.in_ok-checked.ensures.ok in
     let before = settling_at c.args.db.now c.args.session.now in
     let after = settling_at c.settle_in_order-stop.new.db c.settle_in_order-stop.new.session in
     let refuses = g.F.WriteFilter.refuses c.args.filter.now in
     let known = known_of c.settle_in_order-stop.new.db c.settle_in_order-stop.new.ledgered in
-    let all = c.into_parts-docs.result.1 in
+    let all = c.into_parts-asked.result.1 in
     let left = c.settle_in_order-stop.new.docs in
     let reached = c.settle_in_order-stop.ensures.reached p.window p.at in
     let n : length all.items - length left.items ≡ c.len-all.result - c.len.result = omega (arith, all.ok, left.ok, c.len-all.ensures, c.len.ensures) in
@@ -60,14 +60,14 @@ mark_window-requires g c =
 
 pub returns-in-Err-mark_window : goal.returns-in-Err-mark_window
 returns-in-Err-mark_window g c =
-    let docs = ap (λ (p : ParcelValue). p.docs) c.into_parts-docs.ensures.parts in
+    let docs = ap (λ (p : ParcelValue). p.docs) c.into_parts-asked.ensures.parts in
     let p = c.in_ok-checked.ensures.ok in
     let before = settling_at c.args.db.now c.args.session.now in
     let mid = settling_at c.settle_in_order-stop.new.db c.settle_in_order-stop.new.session in
     let after = settling_at c.settle_in_order-stop.new.db c.mark_window.new.session in
     let refuses = g.F.WriteFilter.refuses c.args.filter.now in
     let known = known_of c.settle_in_order-stop.new.db c.settle_in_order-stop.new.ledgered in
-    let all = c.into_parts-docs.result.1 in
+    let all = c.into_parts-asked.result.1 in
     let left = c.settle_in_order-stop.new.docs in
     let n : length all.items - length left.items ≡ c.len-all.result - c.len.result = omega (arith, all.ok, left.ok, c.len-all.ensures, c.len.ensures) in
     let reached = reached_left refuses p.window before mid all.items c.args.parcel.docs left.items _ (c.len-all.result - c.len.result) (sym docs) n c.in_default.ensures.ok (c.settle_in_order-stop.ensures.reached p.window p.at) in
@@ -95,14 +95,14 @@ overflow_sub-result-2 g c =
 
 pub returns : goal.returns
 returns g c =
-    let docs = ap (λ (p : ParcelValue). p.docs) c.into_parts-docs.ensures.parts in
+    let docs = ap (λ (p : ParcelValue). p.docs) c.into_parts-asked.ensures.parts in
     let p = c.in_ok-checked.ensures.ok in
     let before = settling_at c.args.db.now c.args.session.now in
     let mid = settling_at c.settle_in_order-stop.new.db c.settle_in_order-stop.new.session in
     let after = settling_at c.settle_in_order-stop.new.db c.mark_window.new.session in
     let refuses = g.F.WriteFilter.refuses c.args.filter.now in
     let known = known_of c.settle_in_order-stop.new.db c.settle_in_order-stop.new.ledgered in
-    let all = c.into_parts-docs.result.1 in
+    let all = c.into_parts-asked.result.1 in
     let left = c.settle_in_order-stop.new.docs in
     let n : length all.items - length left.items ≡ c.len-all.result - c.len.result = omega (arith, all.ok, left.ok, c.len-all.ensures, c.len.ensures) in
     let reached = reached_left refuses p.window before mid all.items c.args.parcel.docs left.items _ (c.len-all.result - c.len.result) (sym docs) n c.in_default.ensures.ok (c.settle_in_order-stop.ensures.reached p.window p.at) in

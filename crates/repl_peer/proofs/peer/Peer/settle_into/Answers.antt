@@ -1,7 +1,7 @@
 use Rattle.proof_words.proofs.{subst}
 use Rattle.repl_peer.specs.{PeerValue, SettleGives}
 use Rattle.repl_peer.proofs.{settle_lawful}
-use Rattle.repl_peer.proofs.peer.Peer.settle.Goals as goal
+use Rattle.repl_peer.proofs.peer.Peer.settle_into.Goals as goal
 
 pub invariant_of-self : goal.invariant_of-self
 invariant_of-self g c =

@@ -1,0 +1,60 @@
+//! What is known, without the lock, of the target that a run was given.
+ghost use Rattle.std.specs.Prelude.{◌≡◌, [], Some, length, IfOk, IfSome};
+ghost use Rattle.std.specs.Option.{ForSome};
+ghost use Rattle.couch_base.specs.Database.{DatabaseValue};
+ghost use Rattle.couch_base.specs.Messages.{revs_diff};
+
+use crate::brands::{SourceBrand, TargetBrand};
+use crate::messages::Paged;
+use couch_base::{Asked, Database};
+use repl_target::{Peer, WriteFilter};
+use rev_tree::SessionId;
+use std::alloc::{AllocError, Global};
+use std::marker::PhantomData;
+
+/// The documents of the target that a run was given, where it had none: a database that has none either. Nothing is
+/// known where it had some.
+#[derive(Drop)]
+pub struct GivenTarget<F: WriteFilter, T: TargetBrand<F>> {
+    none: Option<Database>,
+    filter: PhantomData<F>,
+    given: PhantomData<T>,
+    ghost empty: { ForSome none (λ db. (length db.docs ≡ 0) × ForSome T.given (λ g. length g.0.1.db.docs ≡ 0)) },
+}
+
+impl<F: WriteFilter, T: TargetBrand<F>> GivenTarget<F, T> {
+    /// Of the target that is given.
+    pub fn of(alloc: Global, target: &Peer<F>, _session: SessionId) -> GivenTarget<F, T>
+        requires { T.given ≡ Some (target.now, _session) }
+    {
+        let db = target.db();
+        let none = if db.update_seq() == 0 {
+            Some(Database::new(alloc, db.uuid()))
+        } else {
+            None
+        };
+        GivenTarget {
+            none,
+            filter: PhantomData,
+            given: PhantomData,
+        }
+    }
+
+    /// What the given target misses of a page, where it had no documents: all leaves of its rows. It needs no lock.
+    pub fn diff<S: SourceBrand>(
+        &self,
+        alloc: Global,
+        page: &Paged<S>,
+    ) -> Option<Result<Asked, AllocError>>
+        ensures given { IfSome result
+            (λ r. IfOk r (λ asked. IfSome T.given (λ g. asked ≡ revs_diff g.0.1.db page.now))) }
+        ensures whole { IfSome result
+            (λ r. IfOk r
+            (λ asked. (db : DatabaseValue) × (db.docs ≡ []) × (asked ≡ revs_diff db page.now))) }
+    {
+        match &self.none {
+            Some(none) => Some(none.revs_diff(alloc, page.window())),
+            None => None,
+        }
+    }
+}
