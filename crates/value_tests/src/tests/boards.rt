@@ -11,9 +11,15 @@ fn two_workers(alloc: Global) -> Option<([Added; 4], [(u64, u64); 2])> {
     let Ok((board, mut seats)) = Board::new(alloc, 2, 1) else {
         return None;
     };
-    let mut viewer = seats.pop()?;
-    let _second = seats.pop()?;
-    let mut first = seats.pop()?;
+    let Some(mut viewer) = seats.pop() else {
+        return None;
+    };
+    let Some(_second) = seats.pop() else {
+        return None;
+    };
+    let Some(mut first) = seats.pop() else {
+        return None;
+    };
     let read = board.add_read(&mut first, 3);
     let settled = board.add_settled(&mut first, 2);
     let seen = [board.read(&mut first), board.read(&mut viewer)];
@@ -39,8 +45,12 @@ fn all_read(alloc: Global) -> Option<([Added; 3], (u64, u64))> {
     let Ok((board, mut seats)) = Board::new(alloc, 1, 1) else {
         return None;
     };
-    let mut viewer = seats.pop()?;
-    let mut worker = seats.pop()?;
+    let Some(mut viewer) = seats.pop() else {
+        return None;
+    };
+    let Some(mut worker) = seats.pop() else {
+        return None;
+    };
     let most = board.add_read(&mut worker, 9_007_199_254_740_991);
     let more = board.add_read(&mut worker, 1);
     let viewed = board.add_settled(&mut viewer, 0);

@@ -61,10 +61,10 @@ impl Bench {
         match *call {
             Call::Make => self.keep(Log::new(self.alloc)),
             Call::Copy(at) => self.keep_copy(at),
-            Call::Put(at, session, recorded) => self.put(at, entry(session, recorded)?),
-            Call::PutOne(at, moment) => self.put(at, one_document(moment)?),
+            Call::Put(at, session, recorded) => self.put(at, entry(session, recorded)),
+            Call::PutOne(at, moment) => self.put(at, one_document(moment)),
             Call::PutInto(target, session, recorded) => {
-                self.put_into(target, entry(session, recorded)?)
+                self.put_into(target, entry(session, recorded))
             }
             Call::CopyInto(target) => self.keep_into(target),
             reading => self.reading(&reading),
@@ -81,11 +81,11 @@ impl Bench {
     /// Makes a call that changes nothing.
     fn reading(&self, call: &Call) -> Option<String> {
         match *call {
-            Call::HasInto(target) => shown(self.alloc, &self.all.get(&from_one(target)).is_some()),
-            Call::Has(at, sessions) => has(self.alloc, self.logs.get(at)?, sessions),
+            Call::HasInto(target) => self.has_into(target),
+            Call::Has(at, sessions) => self.has(at, sessions),
             Call::Common(source, target) => self.common(source, target),
             Call::Name => named(self.alloc, &replication()),
-            Call::Write(at) => written(self.alloc, &replication(), self.logs.get(at)?),
+            Call::Write(at) => self.written(at),
             Call::Moment(seconds) => moment_text(self.alloc, seconds),
             _ => None,
         }
@@ -93,39 +93,82 @@ impl Bench {
 
     /// Keeps a log.
     fn keep(&mut self, log: Log) -> Option<String> {
-        self.logs.push(log).ok()?;
-        "made".to_string(self.alloc).ok()
+        match self.logs.push(log) {
+            Ok(()) => "made".to_string(self.alloc).ok(),
+            Err(_) => None,
+        }
     }
 
     /// Keeps a copy of a log.
     fn keep_copy(&mut self, at: usize) -> Option<String> {
-        let copy = self.logs.get(at)?.copy(self.alloc).ok()?;
-        self.keep(copy)
+        let Some(log) = self.logs.get(at) else {
+            return None;
+        };
+        match log.copy(self.alloc) {
+            Ok(copy) => self.keep(copy),
+            Err(_) => None,
+        }
     }
 
-    /// Puts an entry into a log.
-    fn put(&mut self, at: usize, entry: Entry) -> Option<String> {
-        let answer = self.logs.get_mut(at)?.put(entry);
-        shown(self.alloc, &answer)
+    /// Puts an entry, where there is one, into a log.
+    fn put(&mut self, at: usize, entry: Option<Entry>) -> Option<String> {
+        match (self.logs.get_mut(at), entry) {
+            (Some(log), Some(entry)) => shown(self.alloc, &log.put(entry)),
+            _ => None,
+        }
     }
 
-    /// Puts an entry into the log of the replication from 1 into a database.
-    fn put_into(&mut self, target: u128, entry: Entry) -> Option<String> {
-        let answer = self.all.put(&from_one(target), entry);
-        shown(self.alloc, &answer)
+    /// Puts an entry, where there is one, into the log of the replication from 1 into a database.
+    fn put_into(&mut self, target: u128, entry: Option<Entry>) -> Option<String> {
+        match entry {
+            Some(entry) => shown(self.alloc, &self.all.put(&from_one(target), entry)),
+            None => None,
+        }
     }
 
     /// Keeps a copy of the log of the replication from 1 into a database, out of a copy of all.
     fn keep_into(&mut self, target: u128) -> Option<String> {
-        let all = self.all.copy(self.alloc).ok()?;
-        let log = all.copy_of(self.alloc, &from_one(target)).ok()?;
-        self.keep(log)
+        match copy_into(self.alloc, &self.all, target) {
+            Some(log) => self.keep(log),
+            None => None,
+        }
+    }
+
+    /// Whether there is a log of the replication from 1 into a database.
+    fn has_into(&self, target: u128) -> Option<String> {
+        shown(self.alloc, &self.all.get(&from_one(target)).is_some())
+    }
+
+    /// Whether a log has just the entries of sessions, newest first.
+    fn has(&self, at: usize, sessions: &[(u128, u64)]) -> Option<String> {
+        match self.logs.get(at) {
+            Some(log) => has(self.alloc, log, sessions),
+            None => None,
+        }
+    }
+
+    /// What writing a log answers.
+    fn written(&self, at: usize) -> Option<String> {
+        match self.logs.get(at) {
+            Some(log) => written(self.alloc, &replication(), log),
+            None => None,
+        }
     }
 
     /// Compares two logs.
     fn common(&self, source: usize, target: usize) -> Option<String> {
-        let found = common(self.logs.get(source)?, self.logs.get(target)?);
-        shown(self.alloc, &found)
+        match (self.logs.get(source), self.logs.get(target)) {
+            (Some(source), Some(target)) => shown(self.alloc, &common(source, target)),
+            _ => None,
+        }
+    }
+}
+
+/// A copy of the log of the replication from 1 into a database, out of a copy of all.
+fn copy_into(alloc: Global, all: &Logs, target: u128) -> Option<Log> {
+    match all.copy(alloc) {
+        Ok(all) => all.copy_of(alloc, &from_one(target)).ok(),
+        Err(_) => None,
     }
 }
 
@@ -140,13 +183,17 @@ fn from_one(target: u128) -> RepId {
 
 /// An entry of a session that recorded up to a sequence and read nothing.
 fn entry(session: u128, recorded: u64) -> Option<Entry> {
-    let at = Moment::new(0).ok()?;
+    let Ok(at) = Moment::new(0) else {
+        return None;
+    };
     Some(bare_entry(SessionId(session), recorded, at))
 }
 
 /// The entry of the session 1 that read one document, and recorded 1, at a moment.
 fn one_document(moment: u64) -> Option<Entry> {
-    let at = Moment::new(moment).ok()?;
+    let Ok(at) = Moment::new(moment) else {
+        return None;
+    };
     Some(Entry {
         session: SessionId(1),
         life: 0,
@@ -168,7 +215,9 @@ fn one_document(moment: u64) -> Option<Entry> {
 fn has(alloc: Global, log: &Log, sessions: &[(u128, u64)]) -> Option<String> {
     let mut same = log.len() == sessions.len();
     for (i, &(session, recorded)) in sessions.iter().enumerate() {
-        let wanted = entry(session, recorded)?;
+        let Some(wanted) = entry(session, recorded) else {
+            return None;
+        };
         same = same && log.get(i) == Some(wanted);
     }
     shown(alloc, &same)
@@ -176,8 +225,12 @@ fn has(alloc: Global, log: &Log, sessions: &[(u128, u64)]) -> Option<String> {
 
 /// The name of a copy of a replication id.
 fn named(alloc: Global, id: &RepId) -> Option<String> {
-    let copy = id.copy(alloc).ok()?;
-    let name = rep_id(alloc, &copy).ok()?;
+    let Ok(copy) = id.copy(alloc) else {
+        return None;
+    };
+    let Ok(name) = rep_id(alloc, &copy) else {
+        return None;
+    };
     String::from_utf8(name).ok()
 }
 

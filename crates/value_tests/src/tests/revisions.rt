@@ -60,13 +60,13 @@ fn run(rt: &impl Abort, alloc: Global, calls: &[(Call, &str)]) {
 fn answer(alloc: Global, call: &Call) -> Option<String> {
     match *call {
         Call::Parse(text) => parsed(alloc, text),
-        Call::Write(text) => rev_text(alloc, rev(text)?),
-        Call::Compare(first, second) => compared(alloc, rev(first)?, rev(second)?),
+        Call::Write(text) => written(alloc, text),
+        Call::Compare(first, second) => compared_texts(alloc, first, second),
         Call::Ancestry(start, texts) => made(alloc, start, texts),
         Call::Copy(parts) => copy_text(alloc, parts),
-        Call::Contains(parts, text) => contains_text(alloc, parts, rev(text)?),
-        Call::Parent(parts, text) => parent_text(alloc, parts, rev(text)?),
-        Call::Keep(text) => kept_text(alloc, rev(text)?),
+        Call::Contains(parts, text) => contains_text(alloc, parts, text),
+        Call::Parent(parts, text) => parent_text(alloc, parts, text),
+        Call::Keep(text) => kept_text(alloc, text),
         Call::Digest(text) => digest_text(alloc, text),
         Call::Decode(text) => decoded(alloc, text),
         Call::Edit(parent, deleted, body) => edited(alloc, parent, deleted, body),
@@ -81,19 +81,42 @@ fn digest_text(alloc: Global, text: &str) -> Option<String> {
 
 /// The text of hexadecimal digits.
 fn decoded(alloc: Global, digits: &str) -> Option<String> {
-    let bytes = hex::decode(alloc, digits).ok()?;
+    let Ok(bytes) = hex::decode(alloc, digits) else {
+        return None;
+    };
     String::from_utf8(bytes).ok()
 }
 
 /// What reading a text as a revision answers.
 fn parsed(alloc: Global, text: &str) -> Option<String> {
     match Rev::parse(text.as_bytes()) {
-        Ok(rev) => {
-            let sig = rev.sig();
-            let sig = std::str::from_utf8(sig.bytes()).ok()?;
-            format!(in alloc; "{} {sig}", rev.generation()).ok()
-        }
+        Ok(rev) => parts_text(alloc, rev),
         Err(fault) => shown(alloc, &fault),
+    }
+}
+
+/// The generation and the signature of a revision.
+fn parts_text(alloc: Global, rev: Rev) -> Option<String> {
+    let sig = rev.sig();
+    let Ok(sig) = std::str::from_utf8(sig.bytes()) else {
+        return None;
+    };
+    format!(in alloc; "{} {sig}", rev.generation()).ok()
+}
+
+/// The text of the revision of a text.
+fn written(alloc: Global, text: &str) -> Option<String> {
+    let Some(rev) = rev(text) else {
+        return None;
+    };
+    rev_text(alloc, rev)
+}
+
+/// Whether the first of two revisions is less, and whether they are equal.
+fn compared_texts(alloc: Global, first: &str, second: &str) -> Option<String> {
+    match (rev(first), rev(second)) {
+        (Some(first), Some(second)) => compared(alloc, first, second),
+        _ => None,
     }
 }
 
@@ -105,7 +128,9 @@ fn compared(alloc: Global, first: Rev, second: Rev) -> Option<String> {
 
 /// What making an ancestry answers.
 fn made(alloc: Global, start: u32, texts: &[&str]) -> Option<String> {
-    let sigs = sigs(alloc, texts)?;
+    let Some(sigs) = sigs(alloc, texts) else {
+        return None;
+    };
     match Ancestry::from_parts(alloc, start, &sigs) {
         Ok(ancestry) => revs_text(alloc, ancestry.revs()),
         Err(fault) => shown(alloc, &fault),
@@ -119,26 +144,36 @@ fn copied(alloc: Global, parts: Parts) -> Option<Ancestry> {
 
 /// The head and the revisions of the copy of an ancestry.
 fn copy_text(alloc: Global, parts: Parts) -> Option<String> {
-    let copy = copied(alloc, parts)?;
+    let Some(copy) = copied(alloc, parts) else {
+        return None;
+    };
     head_text(alloc, &copy)
 }
 
 /// The head and the revisions of an ancestry.
 fn head_text(alloc: Global, copy: &Ancestry) -> Option<String> {
-    let head = rev_text(alloc, copy.head())?;
-    let revs = revs_text(alloc, copy.revs())?;
+    let Some(head) = rev_text(alloc, copy.head()) else {
+        return None;
+    };
+    let Some(revs) = revs_text(alloc, copy.revs()) else {
+        return None;
+    };
     format!(in alloc; "{head} of {revs}").ok()
 }
 
 /// Whether the copy of an ancestry contains a revision.
-fn contains_text(alloc: Global, parts: Parts, rev: Rev) -> Option<String> {
-    let copy = copied(alloc, parts)?;
-    shown(alloc, &copy.contains(rev))
+fn contains_text(alloc: Global, parts: Parts, text: &str) -> Option<String> {
+    match (copied(alloc, parts), rev(text)) {
+        (Some(copy), Some(rev)) => shown(alloc, &copy.contains(rev)),
+        _ => None,
+    }
 }
 
 /// The parent of a revision in the copy of an ancestry.
-fn parent_text(alloc: Global, parts: Parts, rev: Rev) -> Option<String> {
-    let copy = copied(alloc, parts)?;
+fn parent_text(alloc: Global, parts: Parts, text: &str) -> Option<String> {
+    let (Some(copy), Some(rev)) = (copied(alloc, parts), rev(text)) else {
+        return None;
+    };
     match copy.parent_of(rev) {
         Some(parent) => rev_text(alloc, parent),
         None => "no parent".to_string(alloc).ok(),
@@ -146,14 +181,39 @@ fn parent_text(alloc: Global, parts: Parts, rev: Rev) -> Option<String> {
 }
 
 /// Whether a revision has a short signature, and the text of the copy of it that is kept.
-fn kept_text(alloc: Global, rev: Rev) -> Option<String> {
-    let form = match KeptRev::short(&rev) {
-        Some(_) => "short",
-        None => "long",
+fn kept_text(alloc: Global, text: &str) -> Option<String> {
+    let Some(rev) = rev(text) else {
+        return None;
     };
-    let kept = KeptRev::keep(alloc, &rev).ok()?.copy(alloc).ok()?;
-    let text = rev_text(alloc, kept.rev())?;
-    format!(in alloc; "{form} {text}").ok()
+    let Some(mut all) = form_text(alloc, &rev) else {
+        return None;
+    };
+    let Some(text) = copy_of_kept(alloc, &rev) else {
+        return None;
+    };
+    match all.push_str(text.as_str()) {
+        Ok(()) => Some(all),
+        Err(_) => None,
+    }
+}
+
+/// Whether a revision has a short signature, and a blank.
+fn form_text(alloc: Global, rev: &Rev) -> Option<String> {
+    match KeptRev::short(rev) {
+        Some(_) => "short ".to_string(alloc).ok(),
+        None => "long ".to_string(alloc).ok(),
+    }
+}
+
+/// The text of a copy of what is kept of a revision.
+fn copy_of_kept(alloc: Global, rev: &Rev) -> Option<String> {
+    let Ok(kept) = KeptRev::keep(alloc, rev) else {
+        return None;
+    };
+    match kept.copy(alloc) {
+        Ok(copy) => rev_text(alloc, copy.rev()),
+        Err(_) => None,
+    }
 }
 
 /// What making the id of an edit answers.
@@ -191,8 +251,7 @@ static PARSING_ROWS: Rows = &[
 
 #[test]
 fn revision_parsing(rt: HostRuntime) {
-    assert_eq!(rt; LONGEST.len(), 2 + 64);
-    assert_eq!(rt; TOO_LONG.len(), 2 + 65);
+    assert!(rt; LONGEST.len() == 2 + 64 && TOO_LONG.len() == 2 + 65);
     run(&rt, rt.alloc(), PARSING_ROWS);
 }
 
@@ -286,7 +345,7 @@ static KEPT_ROWS: Rows = &[
 
 #[test]
 fn keeps_a_revision(rt: HostRuntime) {
-    assert_eq!(rt; DIGITS.len(), 2 + 32);
+    assert!(rt; DIGITS.len() == 2 + 32);
     run(&rt, rt.alloc(), KEPT_ROWS);
 }
 

@@ -32,29 +32,46 @@ fn run(rt: &impl Abort, alloc: Global, calls: &[(Call, &str)]) {
 fn answer(alloc: Global, reader: &mut ValueReader, call: &Call) -> Option<String> {
     match *call {
         Call::Read(bytes) => written(alloc, reader, bytes),
-        Call::Nested(depth) => {
-            let text = nested(alloc, depth)?;
-            let answer = written(alloc, reader, text.as_bytes())?;
-            if answer == text {
-                return "as it was given".to_string(alloc).ok();
-            }
-            Some(answer)
-        }
-        Call::Falling(count) => {
-            let answer = written(alloc, reader, falling(alloc, count)?.as_bytes())?;
-            if answer == rising(alloc, count)? {
-                return "each once, in rising order".to_string(alloc).ok();
-            }
-            Some(answer)
-        }
+        Call::Nested(depth) => nested_text(alloc, reader, depth),
+        Call::Falling(count) => falling_text(alloc, reader, count),
+    }
+}
+
+/// What lists in one another, so many deep, are written as.
+fn nested_text(alloc: Global, reader: &mut ValueReader, depth: usize) -> Option<String> {
+    let Some(text) = nested(alloc, depth) else {
+        return None;
+    };
+    match written(alloc, reader, text.as_bytes()) {
+        Some(answer) if answer == text => "as it was given".to_string(alloc).ok(),
+        answer => answer,
+    }
+}
+
+/// What an object of so many names in falling order, each twice, is written as.
+fn falling_text(alloc: Global, reader: &mut ValueReader, count: usize) -> Option<String> {
+    let (Some(text), Some(wanted)) = (falling(alloc, count), rising(alloc, count)) else {
+        return None;
+    };
+    match written(alloc, reader, text.as_bytes()) {
+        Some(answer) if answer == wanted => "each once, in rising order".to_string(alloc).ok(),
+        answer => answer,
     }
 }
 
 /// The compact text of the value that bytes are, or why they are none.
 fn written(alloc: Global, reader: &mut ValueReader, bytes: &[u8]) -> Option<String> {
     match reader.read_line(alloc, bytes) {
-        Ok(line) => owned(alloc, line.value())?.to_string(alloc).ok(),
+        Ok(line) => value_text(alloc, line.value()),
         Err(fault) => shown(alloc, &fault),
+    }
+}
+
+/// The compact text of a value.
+fn value_text(alloc: Global, value: &LineValue<'_>) -> Option<String> {
+    match owned(alloc, value) {
+        Some(value) => value.to_string(alloc).ok(),
+        None => None,
     }
 }
 
@@ -76,7 +93,9 @@ fn owned(alloc: Global, value: &LineValue<'_>) -> Option<Value> {
 fn owned_items(alloc: Global, items: &Vec<LineValue<'_>>) -> Option<Value> {
     let mut list = Vec::new(alloc);
     for item in items {
-        serde_json::push(&mut list, owned(alloc, item)?).ok()?;
+        let Ok(()) = serde_json::push(&mut list, owned(alloc, item)?) else {
+            return None;
+        };
     }
     Some(Value::Array(list))
 }
@@ -86,7 +105,9 @@ fn owned_items(alloc: Global, items: &Vec<LineValue<'_>>) -> Option<Value> {
 fn owned_members(alloc: Global, members: &Vec<(&str, LineValue<'_>)>) -> Option<Value> {
     let mut object = Map::new(alloc);
     for member in members {
-        serde_json::put(&mut object, alloc, member.0, owned(alloc, &member.1)?).ok()?;
+        let Ok(()) = serde_json::put(&mut object, alloc, member.0, owned(alloc, &member.1)?) else {
+            return None;
+        };
     }
     Some(Value::Object(object))
 }
@@ -95,39 +116,65 @@ fn owned_members(alloc: Global, members: &Vec<(&str, LineValue<'_>)>) -> Option<
 fn nested(alloc: Global, depth: usize) -> Option<String> {
     let mut text = String::new(alloc);
     for _ in 0..depth {
-        text.push_str("[").ok()?;
+        let Ok(()) = text.push_str("[") else {
+            return None;
+        };
     }
     for _ in 0..depth {
-        text.push_str("]").ok()?;
+        let Ok(()) = text.push_str("]") else {
+            return None;
+        };
     }
     Some(text)
 }
 
 /// An object of so many names in falling order, each twice.
 fn falling(alloc: Global, count: usize) -> Option<String> {
-    let mut text = "{".to_string(alloc).ok()?;
+    let Ok(mut text) = "{".to_string(alloc) else {
+        return None;
+    };
     for i in 0..count {
-        let number = count - i;
-        text.push_str(&format!(in alloc; "\"{number:05}\":null,").ok()?)
-            .ok()?;
+        let Some(()) = append_null(alloc, &mut text, count - i) else {
+            return None;
+        };
     }
     for i in 0..count {
         let number = count - i;
-        let comma = if number == 1 { "}" } else { "," };
-        text.push_str(&format!(in alloc; "\"{number:05}\":{number}{comma}").ok()?)
-            .ok()?;
+        let end = if number == 1 { "}" } else { "," };
+        let Some(()) = append_number(alloc, &mut text, number, end) else {
+            return None;
+        };
     }
     Some(text)
 }
 
+/// Appends a member whose name is a number, and whose value is null.
+fn append_null(alloc: Global, text: &mut String, number: usize) -> Option<()> {
+    match format!(in alloc; "\"{number:05}\":null,") {
+        Ok(member) => text.push_str(member.as_str()).ok(),
+        Err(_) => None,
+    }
+}
+
+/// Appends a member whose name is a number and its value too, and what stands behind it.
+fn append_number(alloc: Global, text: &mut String, number: usize, end: &str) -> Option<()> {
+    match format!(in alloc; "\"{number:05}\":{number}{end}") {
+        Ok(member) => text.push_str(member.as_str()).ok(),
+        Err(_) => None,
+    }
+}
+
 /// The same object with each name once, in rising order.
 fn rising(alloc: Global, count: usize) -> Option<String> {
-    let mut text = "{".to_string(alloc).ok()?;
+    let Ok(mut text) = "{".to_string(alloc) else {
+        return None;
+    };
     for i in 0..count {
         let number = i + 1;
-        let comma = if number == count { "}" } else { "," };
-        text.push_str(&format!(in alloc; "\"{number:05}\":{number}{comma}").ok()?)
-            .ok()?;
+        let end = if number == count { "}" } else { "," };
+        let Some(()) = append_number(alloc, &mut text, number, end) else {
+            return None;
+        };
     }
     Some(text)
 }
