@@ -19,19 +19,40 @@ fn reserved(front: &mut Front) -> Result<(), AllocError> {
     }
 }
 
-pub(crate) fn run(rt: &impl Print, alloc: Global) -> Result<()> {
+/// Where the windows end.
+static ENDS: &[u64] = &[2, 4, 6, 8, 10];
+
+/// Whether all windows could be appended.
+fn grows(front: &mut Front) -> bool {
+    let mut grows = true;
+    for hi in ENDS {
+        grows = grows && appended(front, *hi).is_ok();
+    }
+    grows
+}
+
+/// Whether a window could be finished: with room there is no want of memory, so the first answer counts.
+fn finishes(front: &mut Front, lo: u64) -> bool {
+    reserved(front).is_ok() && front.finish(lo, lo.saturating_add(2)).is_ok()
+}
+
+/// Where the windows begin that are finished, in that order.
+static BEGINNINGS: &[u64] = &[2, 6, 0, 4];
+
+/// The low water after them, where all could be finished.
+fn ended(alloc: Global) -> Option<u64> {
     let mut front = Front::new(alloc, 0);
-    for hi in [2u64, 4, 6, 8, 10] {
-        appended(&mut front, hi)?;
+    let mut well = grows(&mut front);
+    for lo in BEGINNINGS {
+        well = well && finishes(&mut front, *lo);
     }
-    for lo in [2u64, 6, 0, 4] {
-        reserved(&mut front)?;
-        // With room there is no want of memory, so the first answer counts.
-        if front.finish(lo, lo + 2).is_err() {
-            bail!("a window was not finished");
-        }
-    }
-    let water = front.low_water();
+    if well { Some(front.low_water()) } else { None }
+}
+
+pub(crate) fn run(rt: &impl Print, alloc: Global) -> Result<()> {
+    let Some(water) = ended(alloc) else {
+        bail!("fronts: another answer");
+    };
     println!(rt; "fronts as wanted: low water {water}")?;
     Ok(())
 }

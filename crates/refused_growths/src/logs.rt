@@ -67,52 +67,88 @@ fn copy_of(alloc: Global, logs: &Logs, id: &RepId) -> Result<Log, AllocError> {
     }
 }
 
-/// Two entries in the log of each of three replications, and in a copy.
-fn by_replication(alloc: Global) -> Result<()> {
-    let mut logs = Logs::new(alloc);
+/// The replication from 1 into a database.
+fn from_one(target: u64) -> RepId {
+    RepId {
+        source: 1,
+        target: u128::from(target),
+        chosen: None,
+    }
+}
+
+/// Whether six entries, two of each replication, could be put.
+fn fills(logs: &mut Logs) -> bool {
+    let mut fills = true;
     for number in 0..6u64 {
-        let id = RepId {
-            source: 1,
-            target: u128::from(number % 3),
-            chosen: None,
-        };
-        put_into(&mut logs, &id, number)?;
+        fills = fills && put_into(logs, &from_one(number % 3), number).is_ok();
     }
-    let logs = all_copied(alloc, &logs)?;
-    for number in 0..3u64 {
-        let id = RepId {
-            source: 1,
-            target: u128::from(number),
-            chosen: None,
-        };
-        if copy_of(alloc, &logs, &id)?.len() != 2 {
-            bail!("another log of a replication");
+    fills
+}
+
+/// Whether the log of a replication has two entries.
+fn has_two(alloc: Global, logs: &Logs, target: u64) -> bool {
+    match copy_of(alloc, logs, &from_one(target)) {
+        Ok(log) => log.len() == 2,
+        Err(AllocError) => false,
+    }
+}
+
+/// Two entries in the log of each of three replications, and in a copy.
+fn by_replication(alloc: Global) -> bool {
+    let mut logs = Logs::new(alloc);
+    if !fills(&mut logs) {
+        return false;
+    }
+    match all_copied(alloc, &logs) {
+        Ok(copy) => {
+            has_two(alloc, &copy, 0) && has_two(alloc, &copy, 1) && has_two(alloc, &copy, 2)
         }
+        Err(AllocError) => false,
     }
-    Ok(())
+}
+
+/// Whether five entries could be put, and no refusal changed the log.
+fn grows(log: &mut Log) -> bool {
+    let mut grows = true;
+    for recorded in 1..6u64 {
+        grows = grows && put(log, recorded).ok() == Some(false);
+    }
+    grows
+}
+
+/// Whether the id of a replication has the length that it is to have.
+fn is_named(alloc: Global, id: &RepId) -> bool {
+    match named(alloc, id) {
+        Ok(name) => name.len() == 32 + 1 + 32,
+        Err(AllocError) => false,
+    }
+}
+
+/// Whether a log is written with the id before it.
+fn is_written(alloc: Global, id: &RepId, log: &Log) -> bool {
+    match written(alloc, id, log) {
+        Ok(text) => text.starts_with(b"{\"_id\":\"_local/00000000000000000000000000000001-"),
+        Err(_) => false,
+    }
+}
+
+/// Whether a log grows, and its copy is written as wanted.
+fn of_one(alloc: Global) -> bool {
+    let mut log = Log::new(alloc);
+    if !grows(&mut log) {
+        return false;
+    }
+    let id = from_one(2);
+    match copied(alloc, &log) {
+        Ok(copy) => is_named(alloc, &id) && is_written(alloc, &id, &copy),
+        Err(AllocError) => false,
+    }
 }
 
 pub(crate) fn run(rt: &impl Print, alloc: Global) -> Result<()> {
-    let mut log = Log::new(alloc);
-    for recorded in 1..6u64 {
-        if put(&mut log, recorded)? {
-            bail!("a refused put changed the log");
-        }
+    if !of_one(alloc) || !by_replication(alloc) {
+        bail!("logs: another answer");
     }
-    let log = copied(alloc, &log)?;
-    let id = RepId {
-        source: 1,
-        target: 2,
-        chosen: None,
-    };
-    if named(alloc, &id)?.len() != 32 + 1 + 32 {
-        bail!("another id");
-    }
-    let text = written(alloc, &id, &log)?;
-    if !text.starts_with(b"{\"_id\":\"_local/00000000000000000000000000000001-") {
-        bail!("another text");
-    }
-    by_replication(alloc)?;
     println!(rt; "logs as wanted")?;
     Ok(())
 }

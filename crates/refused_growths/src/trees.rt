@@ -66,40 +66,48 @@ fn missing(alloc: Global, tree: &Tree, revs: &[Rev]) -> Result<Revs, AllocError>
     }
 }
 
+/// The ancestry of a generation and signatures, once more where it was refused.
+fn of_sigs(alloc: Global, start: u32, sigs: &[Sig]) -> Option<Ancestry> {
+    match Ancestry::from_parts(alloc, start, sigs) {
+        Ok(ancestry) => Some(ancestry),
+        Err(_) => Ancestry::from_parts(alloc, start, sigs).ok(),
+    }
+}
+
 /// 4-d, 3-x, one generation above nothing that is known.
-fn other(alloc: Global) -> Result<Ancestry> {
-    let sigs = [Sig::parse(b"d")?, Sig::parse(b"x")?];
-    match Ancestry::from_parts(alloc, 4, &sigs) {
-        Ok(ancestry) => Ok(ancestry),
-        Err(_) => Ok(Ancestry::from_parts(alloc, 4, &sigs)?),
+fn other(alloc: Global) -> Option<Ancestry> {
+    match (Sig::parse(b"d"), Sig::parse(b"x")) {
+        (Ok(d), Ok(x)) => of_sigs(alloc, 4, &[d, x]),
+        _ => None,
     }
 }
 
 /// 12-l to 1-l: with them the revisions are too many to be walked, and have an index.
-fn long(alloc: Global) -> Result<Ancestry> {
-    let sigs = [Sig::parse(b"l")?; 12];
-    match Ancestry::from_parts(alloc, 12, &sigs) {
-        Ok(ancestry) => Ok(ancestry),
-        Err(_) => Ok(Ancestry::from_parts(alloc, 12, &sigs)?),
+fn long(alloc: Global) -> Option<Ancestry> {
+    match Sig::parse(b"l") {
+        Ok(sig) => of_sigs(alloc, 12, &[sig; 12]),
+        Err(_) => None,
     }
 }
 
-/// The tree of the three ancestries, the first of them merged twice.
-fn grown(alloc: Global) -> Result<Tree> {
-    let mut tree = Tree::new(alloc);
-    let three = revisions::three(alloc)?;
-    for (given, wanted) in [
-        (&three, Merged::Changed),
-        (&other(alloc)?, Merged::Changed),
-        (&long(alloc)?, Merged::Changed),
-        (&three, Merged::Same),
-    ] {
-        let (answer, changed) = merged(alloc, &mut tree, given)?;
-        if answer != wanted || changed {
-            bail!("another answer, or a refused merge changed the tree");
-        }
+/// Merges an ancestry, where there is one. Says whether that is answered as wanted, and no refusal changed the tree.
+fn merges(alloc: Global, tree: &mut Tree, given: Option<&Ancestry>, wanted: Merged) -> bool {
+    let Some(given) = given else {
+        return false;
+    };
+    match merged(alloc, tree, given) {
+        Ok((answer, changed)) => answer == wanted && !changed,
+        Err(_) => false,
     }
-    Ok(tree)
+}
+
+/// Merges the three ancestries, and the first of them once more. Says whether each is answered as wanted.
+fn grows(alloc: Global, tree: &mut Tree) -> bool {
+    let three = revisions::three(alloc).ok();
+    merges(alloc, tree, three.as_ref(), Merged::Changed)
+        && merges(alloc, tree, other(alloc).as_ref(), Merged::Changed)
+        && merges(alloc, tree, long(alloc).as_ref(), Merged::Changed)
+        && merges(alloc, tree, three.as_ref(), Merged::Same)
 }
 
 fn copied(alloc: Global, tree: &Tree) -> Result<Tree, AllocError> {
@@ -109,19 +117,60 @@ fn copied(alloc: Global, tree: &Tree) -> Result<Tree, AllocError> {
     }
 }
 
-pub(crate) fn run(rt: &impl Print, alloc: Global) -> Result<()> {
-    let tree = copied(alloc, &grown(alloc)?)?;
-    let leaves = leaves(alloc, &tree)?;
-    for leaf in leaves.as_slice() {
-        let walk = ancestry(alloc, &tree, *leaf)?;
-        let above = leaves_above(alloc, &tree, walk.revs())?;
-        if above.as_slice() != [*leaf].as_slice()
-            || !missing(alloc, &tree, walk.revs())?.as_slice().is_empty()
-        {
-            bail!("another reading");
-        }
+/// Whether the leaves above some revisions are one alone.
+fn is_above(alloc: Global, tree: &Tree, revs: &[Rev], leaf: Rev) -> bool {
+    match leaves_above(alloc, tree, revs) {
+        Ok(above) => above.as_slice() == [leaf].as_slice(),
+        Err(AllocError) => false,
     }
-    let (leaf_count, rev_count, _) = reading(&tree);
-    println!(rt; "trees as wanted: {leaf_count} leaves, {rev_count} revisions")?;
+}
+
+/// Whether a tree has some revisions.
+fn has_all(alloc: Global, tree: &Tree, revs: &[Rev]) -> bool {
+    match missing(alloc, tree, revs) {
+        Ok(missing) => missing.as_slice().is_empty(),
+        Err(AllocError) => false,
+    }
+}
+
+/// Whether a leaf alone stands above its ancestry, and that is there.
+fn is_read(alloc: Global, tree: &Tree, leaf: Rev) -> bool {
+    match ancestry(alloc, tree, leaf) {
+        Ok(walk) => {
+            is_above(alloc, tree, walk.revs(), leaf) && has_all(alloc, tree, walk.revs())
+        }
+        Err(_) => false,
+    }
+}
+
+/// The same of each leaf.
+fn are_read(alloc: Global, tree: &Tree) -> bool {
+    let Ok(leaves) = leaves(alloc, tree) else {
+        return false;
+    };
+    let mut are_read = true;
+    for leaf in leaves.as_slice() {
+        are_read = are_read && is_read(alloc, tree, *leaf);
+    }
+    are_read
+}
+
+/// How many leaves and revisions a copy of the grown tree has, where it is read as wanted.
+fn ended(alloc: Global) -> Option<(usize, usize)> {
+    let mut tree = Tree::new(alloc);
+    if !grows(alloc, &mut tree) {
+        return None;
+    }
+    match copied(alloc, &tree) {
+        Ok(copy) if are_read(alloc, &copy) => Some((copy.leaf_count(), copy.rev_count())),
+        _ => None,
+    }
+}
+
+pub(crate) fn run(rt: &impl Print, alloc: Global) -> Result<()> {
+    let Some((leaves, revs)) = ended(alloc) else {
+        bail!("trees: another answer");
+    };
+    println!(rt; "trees as wanted: {leaves} leaves, {revs} revisions")?;
     Ok(())
 }

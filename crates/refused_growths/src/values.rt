@@ -1,8 +1,8 @@
 //! `ValueReader::read_line` with one reader, `read_line_body` and `read_line_doc`.
 use anyhow::{Result, bail};
-use doc_json::{DocFault, read_line_body, read_line_doc, write_doc};
+use doc_json::{Doc, DocFault, read_line_body, read_line_doc, write_doc};
 use json_values::{ReadFault, ValueReader};
-use std::alloc::Global;
+use std::alloc::{AllocError, Global};
 
 /// Compact texts, the second of which wants more room than the first left.
 static TEXTS: &[&[u8]] = &[
@@ -34,9 +34,18 @@ fn is_its_document(reader: &mut ValueReader, alloc: Global, text: &[u8]) -> Resu
         Err(ReadFault::Memory) => return Err(DocFault::Memory),
         Err(ReadFault::NotJson) => return Ok(false),
     };
-    let doc = read_line_doc(alloc, &line.part())?;
-    let written = write_doc(alloc, &doc)?;
-    Ok(written.as_slice() == text)
+    match read_line_doc(alloc, &line.part()) {
+        Ok(doc) => is_written_as(alloc, &doc, text),
+        Err(fault) => Err(fault),
+    }
+}
+
+/// Whether a document is written as a text.
+fn is_written_as(alloc: Global, doc: &Doc, text: &[u8]) -> Result<bool, DocFault> {
+    match write_doc(alloc, doc) {
+        Ok(written) => Ok(written.as_slice() == text),
+        Err(AllocError) => Err(DocFault::Memory),
+    }
 }
 
 /// The same, once more where memory was wanting.
@@ -47,19 +56,27 @@ fn is_written(reader: &mut ValueReader, alloc: Global, text: &[u8]) -> Result<bo
     }
 }
 
-pub(crate) fn run(rt: &impl Print, alloc: Global) -> Result<()> {
-    let mut reader = ValueReader::new(alloc);
-    for text in TEXTS {
-        let is_same = match is_its_body(&mut reader, alloc, text) {
-            Err(DocFault::Memory) => is_its_body(&mut reader, alloc, text)?,
-            answer => answer?,
-        };
-        if !is_same {
-            bail!("another value was read");
-        }
+/// Whether a text is the body of its value, once more where memory was wanting.
+fn is_body(reader: &mut ValueReader, alloc: Global, text: &[u8]) -> Result<bool, DocFault> {
+    match is_its_body(reader, alloc, text) {
+        Err(DocFault::Memory) => is_its_body(reader, alloc, text),
+        answer => answer,
     }
-    if !is_written(&mut reader, alloc, DOCUMENT)? {
-        bail!("another document was read");
+}
+
+/// Whether all texts are read as wanted, by one reader.
+fn are_read(alloc: Global) -> bool {
+    let mut reader = ValueReader::new(alloc);
+    let mut are_read = true;
+    for text in TEXTS {
+        are_read = are_read && is_body(&mut reader, alloc, text).ok() == Some(true);
+    }
+    are_read && is_written(&mut reader, alloc, DOCUMENT).ok() == Some(true)
+}
+
+pub(crate) fn run(rt: &impl Print, alloc: Global) -> Result<()> {
+    if !are_read(alloc) {
+        bail!("values: another answer");
     }
     println!(rt; "values as wanted")?;
     Ok(())
