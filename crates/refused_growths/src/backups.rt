@@ -27,7 +27,9 @@ fn entries(alloc: Global, peer: &Peer<Rules>) -> Option<usize> {
 }
 
 fn look(alloc: Global, peer: &Peer<Rules>) -> Option<Seen> {
-    let entries = entries(alloc, peer)?;
+    let Some(entries) = entries(alloc, peer) else {
+        return None;
+    };
     let db = peer.db();
     Some((db.life(), db.update_seq(), peer.locals().len(), entries))
 }
@@ -49,7 +51,9 @@ fn backup(alloc: Global, peer: &Peer<Rules>) -> Option<Backup> {
 }
 
 fn restore(alloc: Global, peer: &mut Peer<Rules>, backup: &Backup) -> Option<()> {
-    let before = look(alloc, peer)?;
+    let Some(before) = look(alloc, peer) else {
+        return None;
+    };
     match peer.restore(backup) {
         Err(TargetFault::Memory) => {
             if look(alloc, peer)? != before {
@@ -68,9 +72,15 @@ fn fill(alloc: Global, peer: &mut Peer<Rules>) -> Option<()> {
         peer,
         r#"{"_id":"d","_revisions":{"start":2,"ids":["b","a"]},"n":1}"#,
     )?;
-    load(alloc, peer, r#"{"_id":"e","_rev":"1-a"}"#)?;
-    let at = Moment::new(10).ok()?;
-    put_entry(peer, 1, at)?;
+    let Some(_put) = load(alloc, peer, r#"{"_id":"e","_rev":"1-a"}"#) else {
+        return None;
+    };
+    let Ok(at) = Moment::new(10) else {
+        return None;
+    };
+    let Some(()) = put_entry(peer, 1, at) else {
+        return None;
+    };
     put_entry(peer, 2, at)
 }
 
@@ -81,17 +91,29 @@ fn go_on(alloc: Global, peer: &mut Peer<Rules>) -> Option<()> {
         peer,
         r#"{"_id":"e","_revisions":{"start":2,"ids":["b","a"]}}"#,
     )?;
-    load(alloc, peer, r#"{"_id":"f","_rev":"1-a"}"#)?;
+    let Some(_put) = load(alloc, peer, r#"{"_id":"f","_rev":"1-a"}"#) else {
+        return None;
+    };
     put_entry(peer, 3, Moment::new(11).ok()?)
 }
 
 /// Copies a peer, goes on with it, and puts it back. Tells how it was before that, and how it is then.
 fn put_back(alloc: Global, peer: &mut Peer<Rules>) -> Option<(Seen, Seen)> {
-    fill(alloc, peer)?;
-    let copy = backup(alloc, peer)?;
-    go_on(alloc, peer)?;
-    let before = look(alloc, peer)?;
-    restore(alloc, peer, &copy)?;
+    let Some(()) = fill(alloc, peer) else {
+        return None;
+    };
+    let Some(copy) = backup(alloc, peer) else {
+        return None;
+    };
+    let Some(()) = go_on(alloc, peer) else {
+        return None;
+    };
+    let Some(before) = look(alloc, peer) else {
+        return None;
+    };
+    let Some(()) = restore(alloc, peer, &copy) else {
+        return None;
+    };
     Some((before, look(alloc, peer)?))
 }
 

@@ -20,11 +20,17 @@ fn id(alloc: Global, text: &str) -> Option<DocId> {
 fn ids(alloc: Global) -> Option<Vec<DocId>> {
     let mut ids = Vec::new(alloc);
     for text in ["f", "d", "f"] {
-        let id = id(alloc, text)?;
+        let Some(id) = id(alloc, text) else {
+            return None;
+        };
         if ids.reserve(1).is_err() {
-            ids.reserve(1).ok()?;
+            let Ok(()) = ids.reserve(1) else {
+                return None;
+            };
         }
-        ids.push(id).ok()?;
+        let Ok(()) = ids.push(id) else {
+            return None;
+        };
     }
     Some(ids)
 }
@@ -39,7 +45,9 @@ fn choose(alloc: Global) -> Option<Chosen> {
 
 /// The length of the text of a replication's id under a choice.
 fn named(alloc: Global, chosen: &Chosen) -> Option<usize> {
-    let rep = RepId::new(1, 2, Some(chosen)).ok()?.copy(alloc).ok()?;
+    let Ok(rep) = RepId::new(1, 2, Some(chosen)).ok()?.copy(alloc) else {
+        return None;
+    };
     match rep_id(alloc, &rep) {
         Err(AllocError) => Some(rep_id(alloc, &rep).ok()?.len()),
         answer => Some(answer.ok()?.len()),
@@ -123,9 +131,15 @@ fn replicate(
 
 /// Loads three documents, of which two are chosen.
 fn fill(alloc: Global, source: &mut Peer<Rules>) -> Option<()> {
-    load(alloc, source, r#"{"_id":"d","_rev":"1-a"}"#)?;
-    load(alloc, source, r#"{"_id":"e","_rev":"1-a"}"#)?;
-    load(alloc, source, r#"{"_id":"f","_rev":"1-a"}"#)?;
+    let Some(_put) = load(alloc, source, r#"{"_id":"d","_rev":"1-a"}"#) else {
+        return None;
+    };
+    let Some(_put) = load(alloc, source, r#"{"_id":"e","_rev":"1-a"}"#) else {
+        return None;
+    };
+    let Some(_put) = load(alloc, source, r#"{"_id":"f","_rev":"1-a"}"#) else {
+        return None;
+    };
     Some(())
 }
 
@@ -135,12 +149,22 @@ type Seen = (usize, usize, u64, u64, bool);
 
 /// What is seen of two peers after a replication of chosen documents.
 fn ended(alloc: Global, source: &mut Peer<Rules>, target: &mut Peer<Rules>) -> Option<Seen> {
-    fill(alloc, source)?;
-    let chosen = choose(alloc)?;
-    let named = named(alloc, &chosen)?;
+    let Some(()) = fill(alloc, source) else {
+        return None;
+    };
+    let Some(chosen) = choose(alloc) else {
+        return None;
+    };
+    let Some(named) = named(alloc, &chosen) else {
+        return None;
+    };
     let rows = page(alloc, source, &chosen)?.rows().len();
-    let report = replicate(alloc, source, target, &chosen)?;
-    let clean = is_clean(alloc, source, target, &chosen)?;
+    let Some(report) = replicate(alloc, source, target, &chosen) else {
+        return None;
+    };
+    let Some(clean) = is_clean(alloc, source, target, &chosen) else {
+        return None;
+    };
     let alone = clean && has_them_alone(alloc, source, target, &chosen)?;
     Some((
         named,

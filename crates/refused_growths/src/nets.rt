@@ -37,25 +37,35 @@ fn add(alloc: Global, net: &mut Net<Rules>, uuid: u128) -> Option<usize> {
 
 /// Loads a document, once more where memory was refused.
 fn load(alloc: Global, net: &mut Net<Rules>, place: usize, text: &str) -> Option<()> {
-    let doc = doc(alloc, text)?;
+    let Some(doc) = doc(alloc, text) else {
+        return None;
+    };
     if let Err(fault) = net.load(place, &doc) {
         if !is_wanting(fault) {
             return None;
         }
-        let _put = net.load(place, &doc).ok()?;
+        let Ok(_put) = net.load(place, &doc) else {
+            return None;
+        };
     }
     Some(())
 }
 
 /// Edits a document, once more where memory was refused.
 fn edit(alloc: Global, net: &mut Net<Rules>, place: usize, id: &str) -> Option<()> {
-    let id = doc_id(alloc, id)?;
-    let body = body(alloc, r#"{"n":1}"#)?;
+    let Some(id) = doc_id(alloc, id) else {
+        return None;
+    };
+    let Some(body) = body(alloc, r#"{"n":1}"#) else {
+        return None;
+    };
     if let Err(fault) = net.edit(place, &id, None, false, &body) {
         if !is_wanting(fault) {
             return None;
         }
-        let _rev = net.edit(place, &id, None, false, &body).ok()?;
+        let Ok(_rev) = net.edit(place, &id, None, false, &body) else {
+            return None;
+        };
     }
     Some(())
 }
@@ -91,13 +101,17 @@ fn hops(alloc: Global, first: u128, at: Moment) -> Option<Vec<Hop>> {
         to: 2,
         plan: plan(first, at),
     };
-    hops.push(hop).ok()?;
+    let Ok(()) = hops.push(hop) else {
+        return None;
+    };
     let hop = Hop {
         from: 2,
         to: 0,
         plan: plan(first.saturating_add(1), at),
     };
-    hops.push(hop).ok()?;
+    let Ok(()) = hops.push(hop) else {
+        return None;
+    };
     Some(hops)
 }
 
@@ -111,13 +125,19 @@ fn some_hops(alloc: Global, first: u128, at: Moment) -> Option<Vec<Hop>> {
 
 /// Replicates along the chain, and once more by further sessions where memory was refused.
 fn along(alloc: Global, net: &mut Net<Rules>, at: Moment) -> Option<()> {
-    let first = some_hops(alloc, 1, at)?;
+    let Some(first) = some_hops(alloc, 1, at) else {
+        return None;
+    };
     if let Err(fault) = net.replicate_along(alloc, &first) {
         if !is_wanting(fault) || !are_clean(alloc, net) {
             return None;
         }
-        let again = some_hops(alloc, 3, at)?;
-        net.replicate_along(alloc, &again).ok()?;
+        let Some(again) = some_hops(alloc, 3, at) else {
+            return None;
+        };
+        let Ok(()) = net.replicate_along(alloc, &again) else {
+            return None;
+        };
     }
     Some(())
 }
@@ -125,8 +145,12 @@ fn along(alloc: Global, net: &mut Net<Rules>, at: Moment) -> Option<()> {
 /// A plan for each peer behind the hub.
 fn plans(alloc: Global, first: u128, at: Moment) -> Option<Vec<Plan>> {
     let mut plans = Vec::new(alloc);
-    plans.push(plan(first, at)).ok()?;
-    plans.push(plan(first.saturating_add(1), at)).ok()?;
+    let Ok(()) = plans.push(plan(first, at)) else {
+        return None;
+    };
+    let Ok(()) = plans.push(plan(first.saturating_add(1), at)) else {
+        return None;
+    };
     Some(plans)
 }
 
@@ -140,15 +164,25 @@ fn some_plans(alloc: Global, first: u128, at: Moment) -> Option<Vec<Plan>> {
 
 /// Replicates by the hub, and once more by further sessions where memory was refused.
 fn by_hub(alloc: Global, net: &mut Net<Rules>, at: Moment) -> Option<()> {
-    let there = some_plans(alloc, 5, at)?;
-    let back = some_plans(alloc, 7, at)?;
+    let Some(there) = some_plans(alloc, 5, at) else {
+        return None;
+    };
+    let Some(back) = some_plans(alloc, 7, at) else {
+        return None;
+    };
     if let Err(fault) = net.sync_by_hub(alloc, &there, &back) {
         if !is_wanting(fault) || !are_clean(alloc, net) {
             return None;
         }
-        let there = some_plans(alloc, 9, at)?;
-        let back = some_plans(alloc, 11, at)?;
-        net.sync_by_hub(alloc, &there, &back).ok()?;
+        let Some(there) = some_plans(alloc, 9, at) else {
+            return None;
+        };
+        let Some(back) = some_plans(alloc, 11, at) else {
+            return None;
+        };
+        let Ok(()) = net.sync_by_hub(alloc, &there, &back) else {
+            return None;
+        };
     }
     Some(())
 }
@@ -164,9 +198,13 @@ fn sequences(net: &Net<Rules>) -> Option<u64> {
 
 /// What is written and replicated in a net of three peers: the sum of their sequences, and whether audits are clean.
 fn ended(alloc: Global, net: &mut Net<Rules>) -> Option<(u64, bool)> {
-    let at = Moment::new(10).ok()?;
+    let Ok(at) = Moment::new(10) else {
+        return None;
+    };
     for uuid in 1..4u64 {
-        let _place = add(alloc, net, uuid as u128)?;
+        let Some(_place) = add(alloc, net, uuid as u128) else {
+            return None;
+        };
     }
     load(
         alloc,
@@ -174,10 +212,18 @@ fn ended(alloc: Global, net: &mut Net<Rules>) -> Option<(u64, bool)> {
         1,
         r#"{"_id":"d","_revisions":{"start":2,"ids":["b","a"]}}"#,
     )?;
-    edit(alloc, net, 1, "e")?;
-    along(alloc, net, at)?;
-    edit(alloc, net, 2, "f")?;
-    by_hub(alloc, net, at)?;
+    let Some(()) = edit(alloc, net, 1, "e") else {
+        return None;
+    };
+    let Some(()) = along(alloc, net, at) else {
+        return None;
+    };
+    let Some(()) = edit(alloc, net, 2, "f") else {
+        return None;
+    };
+    let Some(()) = by_hub(alloc, net, at) else {
+        return None;
+    };
     let clean = are_clean(alloc, net);
     Some((sequences(net)?, clean))
 }

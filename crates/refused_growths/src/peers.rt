@@ -27,7 +27,9 @@ fn value(alloc: Global, text: &str) -> Option<Value> {
 }
 
 pub(crate) fn doc(alloc: Global, text: &str) -> Option<Doc> {
-    let value = value(alloc, text)?;
+    let Some(value) = value(alloc, text) else {
+        return None;
+    };
     match read_doc(alloc, &value) {
         Err(DocFault::Memory) => read_doc(alloc, &value).ok(),
         answer => answer.ok(),
@@ -35,7 +37,9 @@ pub(crate) fn doc(alloc: Global, text: &str) -> Option<Doc> {
 }
 
 pub(crate) fn body(alloc: Global, text: &str) -> Option<Body> {
-    let value = value(alloc, text)?;
+    let Some(value) = value(alloc, text) else {
+        return None;
+    };
     match read_body(alloc, &value) {
         Err(DocFault::Memory) => read_body(alloc, &value).ok(),
         answer => answer.ok(),
@@ -50,7 +54,9 @@ pub(crate) fn doc_id(alloc: Global, text: &str) -> Option<DocId> {
 }
 
 pub(crate) fn load(alloc: Global, peer: &mut Peer<Rules>, text: &str) -> Option<Put> {
-    let doc = doc(alloc, text)?;
+    let Some(doc) = doc(alloc, text) else {
+        return None;
+    };
     let before = peer.db().update_seq();
     match peer.load(&doc) {
         Err(BaseFault::Memory) => {
@@ -69,8 +75,12 @@ fn edited(peer: &mut Peer<Rules>, id: &DocId, parent: &Option<Rev>, body: &Body)
 }
 
 fn edit(alloc: Global, peer: &mut Peer<Rules>, id: &str, parent: &Option<Rev>) -> Option<Rev> {
-    let id = doc_id(alloc, id)?;
-    let body = body(alloc, r#"{"n":1}"#)?;
+    let Some(id) = doc_id(alloc, id) else {
+        return None;
+    };
+    let Some(body) = body(alloc, r#"{"n":1}"#) else {
+        return None;
+    };
     let before = peer.db().update_seq();
     match edited(peer, &id, parent, &body) {
         Some(rev) => Some(rev),
@@ -156,7 +166,9 @@ fn stopped(fault: TargetFault) -> Option<(u64, usize)> {
 
 /// How many documents the session read, and how many leaves it checked.
 fn counted(peer: &Peer<Rules>) -> Option<(u64, u64)> {
-    let entry = peer.entry(SESSION).ok()?;
+    let Ok(entry) = peer.entry(SESSION) else {
+        return None;
+    };
     Some((entry.counts.read, entry.counts.checked))
 }
 
@@ -167,7 +179,9 @@ fn settle(
     source: &Peer<Rules>,
     asked: &Asked,
 ) -> Option<Settled> {
-    let first = opened(alloc, source, asked)?;
+    let Some(first) = opened(alloc, source, asked) else {
+        return None;
+    };
     let all = first.docs().len();
     match peer.settle(SESSION, first) {
         Ok(settled) => Some(settled),
@@ -178,7 +192,9 @@ fn settle(
             {
                 return None;
             }
-            let again = opened(alloc, source, asked)?;
+            let Some(again) = opened(alloc, source, asked) else {
+                return None;
+            };
             peer.settle(SESSION, again).ok()
         }
     }
@@ -191,10 +207,16 @@ fn fill_source(alloc: Global, source: &mut Peer<Rules>) -> Option<()> {
         r#"{"_id":"secret","_revisions":{"start":2,"ids":["b","a"]}}"#,
         r#"{"_id":"d","_revisions":{"start":3,"ids":["d","c","x"]}}"#,
     ] {
-        load(alloc, source, text)?;
+        let Some(_put) = load(alloc, source, text) else {
+            return None;
+        };
     }
-    let rev = edit(alloc, source, "e", &None)?;
-    edit(alloc, source, "e", &Some(rev))?;
+    let Some(rev) = edit(alloc, source, "e", &None) else {
+        return None;
+    };
+    let Some(_rev) = edit(alloc, source, "e", &Some(rev)) else {
+        return None;
+    };
     Some(())
 }
 
@@ -207,9 +229,15 @@ fn prefix(alloc: Global) -> Option<String> {
 
 /// Begins the session with the source's whole feed, and asks for what the target misses.
 fn ask(alloc: Global, source: &Peer<Rules>, target: &mut Peer<Rules>, at: Moment) -> Option<Asked> {
-    let window = page(alloc, source)?;
-    begin(target, source.db().update_seq(), at)?;
-    append(alloc, target, &window)?;
+    let Some(window) = page(alloc, source) else {
+        return None;
+    };
+    let Some(()) = begin(target, source.db().update_seq(), at) else {
+        return None;
+    };
+    let Some(()) = append(alloc, target, &window) else {
+        return None;
+    };
     asked(alloc, target, &window)
 }
 
@@ -219,9 +247,15 @@ fn replicate(
     source: &Peer<Rules>,
     target: &mut Peer<Rules>,
 ) -> Option<(Settled, Report)> {
-    let at = Moment::new(10).ok()?;
-    let asked = ask(alloc, source, target, at)?;
-    let settled = settle(alloc, target, source, &asked)?;
+    let Ok(at) = Moment::new(10) else {
+        return None;
+    };
+    let Some(asked) = ask(alloc, source, target, at) else {
+        return None;
+    };
+    let Some(settled) = settle(alloc, target, source, &asked) else {
+        return None;
+    };
     Some((settled, target.conclude(SESSION, at).ok()?))
 }
 
@@ -241,13 +275,17 @@ fn session(
     source: &mut Peer<Rules>,
     target: &mut Peer<Rules>,
 ) -> Option<(Settled, Report, u64)> {
-    fill_source(alloc, source)?;
+    let Some(()) = fill_source(alloc, source) else {
+        return None;
+    };
     load(
         alloc,
         target,
         r#"{"_id":"d","_revisions":{"start":2,"ids":["c","b"]}}"#,
     )?;
-    let (settled, report) = replicate(alloc, source, target)?;
+    let Some((settled, report)) = replicate(alloc, source, target) else {
+        return None;
+    };
     Some((settled, report, target.db().update_seq()))
 }
 
@@ -269,7 +307,9 @@ fn between(alloc: Global, deny: Option<String>) -> Option<(Settled, Report, u64)
 
 /// The session with a target that refuses the documents of the prefix.
 fn refusing(alloc: Global) -> Option<(Settled, Report, u64)> {
-    let deny = prefix(alloc)?;
+    let Some(deny) = prefix(alloc) else {
+        return None;
+    };
     between(alloc, Some(deny))
 }
 

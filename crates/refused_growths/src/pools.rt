@@ -88,9 +88,15 @@ fn ended<R: Threads + Wait + Sync>(
     source: &mut Peer<Rules>,
     target: &mut Peer<Rules>,
 ) -> Option<(u64, u64, bool)> {
-    let at = Moment::new(10).ok()?;
-    fill(alloc, source)?;
-    let report = replicate(rt, alloc, source, target, at)?;
+    let Ok(at) = Moment::new(10) else {
+        return None;
+    };
+    let Some(()) = fill(alloc, source) else {
+        return None;
+    };
+    let Some(report) = replicate(rt, alloc, source, target, at) else {
+        return None;
+    };
     let clean = is_clean(alloc, source, target);
     Some((report.recorded, target.db().update_seq(), clean))
 }

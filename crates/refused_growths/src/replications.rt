@@ -72,7 +72,9 @@ fn fill(alloc: Global, source: &mut Peer<Rules>) -> Option<()> {
         source,
         r#"{"_id":"d","_revisions":{"start":2,"ids":["b","a"]},"n":1}"#,
     )?;
-    load(alloc, source, r#"{"_id":"e","_rev":"1-a"}"#)?;
+    let Some(_put) = load(alloc, source, r#"{"_id":"e","_rev":"1-a"}"#) else {
+        return None;
+    };
     Some(())
 }
 
@@ -82,9 +84,15 @@ fn ended(
     source: &mut Peer<Rules>,
     target: &mut Peer<Rules>,
 ) -> Option<(u64, u64, bool)> {
-    let at = Moment::new(10).ok()?;
-    fill(alloc, source)?;
-    let report = replicate(alloc, source, target, at)?;
+    let Ok(at) = Moment::new(10) else {
+        return None;
+    };
+    let Some(()) = fill(alloc, source) else {
+        return None;
+    };
+    let Some(report) = replicate(alloc, source, target, at) else {
+        return None;
+    };
     let clean = is_clean(alloc, source, target);
     Some((report.recorded, target.db().update_seq(), clean))
 }

@@ -52,7 +52,9 @@ fn counted(alloc: Global, tree: &Tree) -> Option<Census> {
         if census != Census::none() {
             return None;
         }
-        census.add(alloc, tree).ok()?;
+        let Ok(()) = census.add(alloc, tree) else {
+            return None;
+        };
     }
     Some(census)
 }
@@ -80,8 +82,12 @@ fn of_document(
     target: &Database,
     id: &DocId,
 ) -> Option<(usize, usize, usize)> {
-    let comparison = compared(alloc, source, target, id)?;
-    let _contradiction = comparison.contradiction()?;
+    let Some(comparison) = compared(alloc, source, target, id) else {
+        return None;
+    };
+    let Some(_contradiction) = comparison.contradiction() else {
+        return None;
+    };
     Some((
         comparison.leaves(),
         comparison.missing().len(),
@@ -91,18 +97,32 @@ fn of_document(
 
 /// How many leaves of the one document are in conflict, and how many documents they make.
 fn of_leaves(alloc: Global, database: &Database, id: &DocId) -> Option<(usize, usize)> {
-    let tree = database.tree(id)?;
-    let _census = counted(alloc, tree)?;
+    let Some(tree) = database.tree(id) else {
+        return None;
+    };
+    let Some(_census) = counted(alloc, tree) else {
+        return None;
+    };
     Some((in_conflict(alloc, tree)?, documents(alloc, database, id)?))
 }
 
 /// Everything that is asked.
 fn asked(alloc: Global, source: &Peer<Rules>, target: &Peer<Rules>) -> Option<bool> {
-    let id = doc_id(alloc, "d")?;
-    let of_document = of_document(alloc, source.db(), target.db(), &id)?;
-    let of_leaves = of_leaves(alloc, source.db(), &id)?;
-    let total = total(alloc, source, target)?;
-    let census = census(alloc, source.db())?;
+    let Some(id) = doc_id(alloc, "d") else {
+        return None;
+    };
+    let Some(of_document) = of_document(alloc, source.db(), target.db(), &id) else {
+        return None;
+    };
+    let Some(of_leaves) = of_leaves(alloc, source.db(), &id) else {
+        return None;
+    };
+    let Some(total) = total(alloc, source, target) else {
+        return None;
+    };
+    let Some(census) = census(alloc, source.db()) else {
+        return None;
+    };
     let totals = total.missing == 1 && total.contradicting == 1 && total.differing == 1;
     let counts = census.conflicts == 1 && census.leaves == 2 && census.revisions == 4;
     Some(of_document == (2, 1, 1) && of_leaves == (2, 2) && totals && counts)
@@ -112,7 +132,9 @@ fn asked(alloc: Global, source: &Peer<Rules>, target: &Peer<Rules>) -> Option<bo
 fn with_target(alloc: Global, source: &Peer<Rules>) -> Option<bool> {
     let mut target = Peer::new(alloc, 2, Rules { deny: None });
     for text in TARGET {
-        let _put = load(alloc, &mut target, text)?;
+        let Some(_put) = load(alloc, &mut target, text) else {
+            return None;
+        };
     }
     asked(alloc, source, &target)
 }
@@ -121,7 +143,9 @@ fn with_target(alloc: Global, source: &Peer<Rules>) -> Option<bool> {
 fn of_peers(alloc: Global) -> Option<bool> {
     let mut source = Peer::new(alloc, 1, Rules { deny: None });
     for text in SOURCE {
-        let _put = load(alloc, &mut source, text)?;
+        let Some(_put) = load(alloc, &mut source, text) else {
+            return None;
+        };
     }
     with_target(alloc, &source)
 }

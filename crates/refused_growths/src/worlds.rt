@@ -60,9 +60,13 @@ static BEFORE: &[(
 
 /// An edit of a document at 1-a: its id, its parent and its body.
 fn edit(alloc: Global, id: &str) -> Option<(doc_json::DocId, Option<Rev>, doc_json::Body)> {
-    let id = doc_id(alloc, id)?;
+    let Some(id) = doc_id(alloc, id) else {
+        return None;
+    };
     let parent = Rev::parse(b"1-a").ok();
-    let body = body(alloc, r#"{"n":1}"#)?;
+    let Some(body) = body(alloc, r#"{"n":1}"#) else {
+        return None;
+    };
     Some((id, parent, body))
 }
 
@@ -126,22 +130,38 @@ fn step(at: Moment, place: usize) -> Step {
 
 /// The steps that copy the source, go on with it, and put it back.
 fn restoring(alloc: Global, steps: &mut Vec<Step>) -> Option<()> {
-    steps.push(Step::Backup).ok()?;
-    let g = doc(alloc, r#"{"_id":"g","_rev":"1-a"}"#)?;
-    steps.push(Step::LoadSource(g)).ok()?;
-    steps.push(Step::Restore { backup: 0 }).ok()?;
+    let Ok(()) = steps.push(Step::Backup) else {
+        return None;
+    };
+    let Some(g) = doc(alloc, r#"{"_id":"g","_rev":"1-a"}"#) else {
+        return None;
+    };
+    let Ok(()) = steps.push(Step::LoadSource(g)) else {
+        return None;
+    };
+    let Ok(()) = steps.push(Step::Restore { backup: 0 }) else {
+        return None;
+    };
     steps.push(Step::ReadLog).ok()
 }
 
 /// All the steps; nothing where memory is refused.
 fn steps(alloc: Global) -> Option<Vec<Step>> {
-    let at = Moment::new(10).ok()?;
+    let Ok(at) = Moment::new(10) else {
+        return None;
+    };
     let mut steps = Vec::new(alloc);
-    writes(alloc, &mut steps)?;
+    let Some(()) = writes(alloc, &mut steps) else {
+        return None;
+    };
     for place in 0..10usize {
-        steps.push(step(at, place)).ok()?;
+        let Ok(()) = steps.push(step(at, place)) else {
+            return None;
+        };
     }
-    restoring(alloc, &mut steps)?;
+    let Some(()) = restoring(alloc, &mut steps) else {
+        return None;
+    };
     Some(steps)
 }
 
@@ -185,7 +205,9 @@ fn take(alloc: Global, world: &mut World<Rules>, steps: &[Step]) -> Option<()> {
     if world.run(alloc, steps).is_ok() {
         return Some(());
     }
-    let place = left(look(world))?;
+    let Some(place) = left(look(world)) else {
+        return None;
+    };
     world.run(alloc, steps.get(place..)?).ok()
 }
 
@@ -207,9 +229,16 @@ fn ended(alloc: Global, world: &mut World<Rules>) -> Option<(u64, Seen, bool)> {
         Some(all) => Some(all),
         None => steps(alloc),
     };
-    take(alloc, world, &all?)?;
+    let Some(all) = all else {
+        return None;
+    };
+    let Some(()) = take(alloc, world, &all) else {
+        return None;
+    };
     let clean = is_clean(alloc, world);
-    let entry = world.target().entry(SESSION).ok()?;
+    let Ok(entry) = world.target().entry(SESSION) else {
+        return None;
+    };
     Some((entry.recorded, look(world), clean))
 }
 
@@ -217,7 +246,9 @@ fn ended(alloc: Global, world: &mut World<Rules>) -> Option<(u64, Seen, bool)> {
 fn of_two(alloc: Global) -> Option<(u64, Seen, bool)> {
     let source = Peer::new(alloc, 1, Rules { deny: None });
     let target = Peer::new(alloc, 2, Rules { deny: None });
-    let mut world = World::new(alloc, source, target, None).ok()?;
+    let Ok(mut world) = World::new(alloc, source, target, None) else {
+        return None;
+    };
     ended(alloc, &mut world)
 }
 
