@@ -1,6 +1,9 @@
 //! Generated tests over several crates: each compares a crate with a reference of its own, written from the definitions
 //! by other means.
 
+// What all modules assert by.
+mod checks;
+
 // Trees, and their reference.
 mod merges;
 mod reference;

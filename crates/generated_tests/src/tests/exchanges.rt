@@ -1,4 +1,5 @@
 //! What one database asks for another one's feed, and what is fetched for it, compared with the reference.
+use crate::tests::checks::holds;
 use crate::tests::feeds::{number_of, put};
 use crate::tests::merges::{are, rev};
 use crate::tests::plain_sides::{IDS, PlainSide, next_above};
@@ -72,7 +73,11 @@ fn asks_of(
     let same = number_of(rt, wanted.id().text()) == number;
     let leaves = tree.leaves(alloc).expect(rt, "memory");
     let missing = held.missing(rt, alloc, &leaves);
-    assert!(rt; same && are(rt, wanted.revs(), &missing), "what is asked");
+    holds(
+        rt,
+        same && are(rt, wanted.revs(), &missing),
+        "what is asked",
+    );
 }
 
 /// Asserts that what is asked is what the target has not, in the order of the source's feed.
@@ -91,7 +96,7 @@ fn asks(rt: &impl Abort, alloc: Global, source: &PlainSide, target: &PlainSide, 
             at = at.saturating_add(1);
         }
     }
-    assert!(rt; asked.docs().len() == at, "the documents that are asked");
+    holds(rt, asked.docs().len() == at, "the documents that are asked");
 }
 
 /// Asserts that a fetched document is a leaf of a tree.
@@ -105,8 +110,12 @@ fn is_leaf(
 ) {
     let same = number_of(rt, doc.id().text()) == number;
     let walk = tree.ancestry(alloc, leaf).expect(rt, "memory");
-    assert!(rt; same && are(rt, doc.ancestry().revs(), &walk), "a leaf");
-    assert!(rt; tree.content(leaf) == Some((doc.deleted(), 0)));
+    holds(rt, same && are(rt, doc.ancestry().revs(), &walk), "a leaf");
+    holds(
+        rt,
+        tree.content(leaf) == Some((doc.deleted(), 0)),
+        "the content of a leaf",
+    );
 }
 
 /// Asserts that the documents from a place on are the leaves of a tree above some revisions. Gives the place behind
@@ -142,9 +151,10 @@ fn loses(
     for one in revs {
         if !tree.has(place_of(rt, *one)) {
             let (id, lost) = parcel.gone().get(at).expect(rt, "a gone revision too few");
-            assert!(rt;
+            holds(
+                rt,
                 number_of(rt, id.text()) == number && *lost == *one,
-                "a gone one"
+                "a gone one",
             );
             at = at.saturating_add(1);
         }
@@ -169,9 +179,10 @@ fn brings(
         docs = brings_leaves(rt, alloc, parcel, docs, number, &tree, revs);
         gone = loses(rt, parcel, gone, number, &tree, wanted.revs());
     }
-    assert!(rt;
+    holds(
+        rt,
         parcel.docs().len() == docs && parcel.gone().len() == gone,
-        "a parcel"
+        "a parcel",
     );
     docs
 }

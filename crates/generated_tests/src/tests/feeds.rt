@@ -1,4 +1,5 @@
 //! Puts and pages by chance, compared with a reference that filters and sorts all documents.
+use crate::tests::checks::holds;
 use crate::tests::merges::{ancestry, are, below, places};
 use crate::tests::plain_sides::{IDS, PlainSide, next_above};
 use crate::tests::reference::{Answer, Reference};
@@ -81,14 +82,14 @@ pub(crate) fn put(
 ) {
     let (doc, wanted) = document_by_chance(rt, alloc, rng, plain, IDS);
     let answer = db.put(&doc, Origin::Local(0));
-    assert!(rt; is_answer(answer, wanted, plain.update_seq), "a put");
+    holds(rt, is_answer(answer, wanted, plain.update_seq), "a put");
 }
 
 /// Asserts that a row has an id and the leaves of a tree.
 fn row_has(rt: &impl Abort, alloc: Global, row: &Row, number: usize, tree: &Reference) {
     let leaves = tree.leaves(alloc).expect(rt, "memory");
     let same = number_of(rt, row.id().text()) == number;
-    assert!(rt; same && are(rt, row.leaves(), &leaves), "a row");
+    holds(rt, same && are(rt, row.leaves(), &leaves), "a row");
 }
 
 /// Asserts that a row is that of the document next above a sequence. Gives its own.
@@ -103,7 +104,7 @@ fn row_is(
     let Some((number, seq)) = next_above(&plain.documents, after, goal) else {
         rt.panic(format_args!("a row too many"))
     };
-    assert!(rt; row.seq() == seq, "the sequence of a row");
+    holds(rt, row.seq() == seq, "the sequence of a row");
     row_has(rt, alloc, row, number, &plain.tree(number));
     seq
 }
@@ -125,9 +126,13 @@ fn window_is(
         rows = rows.saturating_add(1);
     }
     let is_last = next_above(&plain.documents, at, goal).is_none();
-    assert!(rt; rows <= limit && (rows == limit || is_last));
+    holds(
+        rt,
+        rows <= limit && (rows == limit || is_last),
+        "the number of rows",
+    );
     let hi = if rows == limit { at } else { goal };
-    assert!(rt; window.lo() == since && window.hi() == hi, "the bounds");
+    holds(rt, window.lo() == since && window.hi() == hi, "the bounds");
 }
 
 /// Asks for a page by chance.
@@ -159,7 +164,7 @@ fn page_refused(
         }
         _ => false,
     };
-    assert!(rt; rightly, "a page is refused");
+    holds(rt, rightly, "a page is refused");
 }
 
 /// Forty puts, and a page after each.
@@ -167,7 +172,7 @@ fn grow(rt: &impl Abort, alloc: Global, rng: &mut ChaCha8Rng, db: &mut Database)
     let mut plain = PlainSide::new();
     for _ in 0..40 {
         put(rt, alloc, rng, db, &mut plain);
-        assert!(rt; db.update_seq() == plain.update_seq, "a sequence");
+        holds(rt, db.update_seq() == plain.update_seq, "a sequence");
         page(rt, alloc, rng, db, &plain);
     }
 }

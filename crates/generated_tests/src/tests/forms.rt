@@ -1,5 +1,6 @@
 //! Both forms of a tree after merges by chance: each call answers in the one as it does in the other.
 
+use crate::tests::checks::holds;
 use crate::tests::merges::{ancestry, below, content, places, rev};
 use crate::tests::plain::{PlainAnswer, PlainTree};
 use crate::tests::reference::PLACES;
@@ -30,7 +31,11 @@ fn plain_answer(rt: &impl Abort, answer: Result<Merged, TreeFault>) -> PlainAnsw
 fn agree_on_content(rt: &impl Abort, tree: &Tree, plain: &PlainTree, one: Rev) {
     match (tree.content(one), plain.content(one)) {
         (Some(content), Some((deleted, byte))) => {
-            assert!(rt; content.deleted() == deleted && content.body() == [byte].as_slice());
+            holds(
+                rt,
+                content.deleted() == deleted && content.body() == [byte].as_slice(),
+                "a content",
+            );
         }
         (None, None) => {}
         _ => rt.panic(format_args!("a content in one form alone")),
@@ -40,21 +45,25 @@ fn agree_on_content(rt: &impl Abort, tree: &Tree, plain: &PlainTree, one: Rev) {
 /// Asserts that revisions are those of the plain form.
 fn are_same(rt: &impl Abort, answer: Result<Revs, AllocError>, wanted: &[Rev]) {
     let revs = answer.expect(rt, "revisions");
-    assert!(rt; revs.as_slice() == wanted);
+    holds(rt, revs.as_slice() == wanted, "revisions");
 }
 
 /// Asserts that a revision has the ancestry of the plain form.
 fn agree_on_walk(rt: &impl Abort, alloc: Global, tree: &Tree, plain: &PlainTree, one: Rev) {
     match tree.ancestry(alloc, one) {
         Ok(walk) => is_walk(rt, alloc, plain, one, walk.revs()),
-        Err(_) => assert!(rt; plain.origin(one).is_none()),
+        Err(_) => holds(rt, plain.origin(one).is_none(), "no revision"),
     }
 }
 
 /// Asserts that revisions are the ancestry of one in the plain form.
 fn is_walk(rt: &impl Abort, alloc: Global, plain: &PlainTree, one: Rev, walk: &[Rev]) {
     let wanted = plain.ancestry(alloc, one).expect(rt, "memory");
-    assert!(rt; plain.origin(one).is_some() && walk == wanted.as_slice());
+    holds(
+        rt,
+        plain.origin(one).is_some() && walk == wanted.as_slice(),
+        "an ancestry",
+    );
 }
 
 /// Whether a tree has a revision, as a leaf or not, and its origin, as the plain form does.
@@ -66,8 +75,8 @@ fn has_as(tree: &Tree, plain: &PlainTree, one: Rev) -> bool {
 
 /// Asserts that a tree answers as the plain form does about a revision.
 fn agree_on_rev(rt: &impl Abort, alloc: Global, tree: &Tree, plain: &PlainTree, one: Rev) {
-    assert!(rt; has_as(tree, plain, one), "a revision");
-    assert!(rt; tree.parent_of(one) == plain.parent_of(one));
+    holds(rt, has_as(tree, plain, one), "a revision");
+    holds(rt, tree.parent_of(one) == plain.parent_of(one), "a parent");
     agree_on_content(rt, tree, plain, one);
     agree_on_walk(rt, alloc, tree, plain, one);
 }
@@ -75,8 +84,8 @@ fn agree_on_rev(rt: &impl Abort, alloc: Global, tree: &Tree, plain: &PlainTree, 
 /// Asserts that a tree has leaves.
 fn agree_on_leaves(rt: &impl Abort, alloc: Global, tree: &Tree, leaves: &[Rev]) {
     are_same(rt, tree.leaves(alloc), leaves);
-    assert!(rt; tree.leaf_count() == leaves.len(), "the leaves");
-    assert!(rt; tree.winner() == leaves.first().copied());
+    holds(rt, tree.leaf_count() == leaves.len(), "the leaves");
+    holds(rt, tree.winner() == leaves.first().copied(), "the winner");
 }
 
 /// Asserts that a tree has the leaves of the plain form above some revisions.
@@ -102,7 +111,7 @@ fn agree_on_missing(rt: &impl Abort, alloc: Global, tree: &Tree, plain: &PlainTr
 fn agree(rt: &impl Abort, alloc: Global, tree: &Tree, plain: &PlainTree, asked: &[Rev]) {
     let leaves = plain.leaves(alloc).expect(rt, "memory");
     agree_on_leaves(rt, alloc, tree, &leaves);
-    assert!(rt; tree.rev_count() == plain.rev_count(), "the revisions");
+    holds(rt, tree.rev_count() == plain.rev_count(), "the revisions");
     agree_on_above(rt, alloc, tree, plain, &leaves, asked);
     agree_on_missing(rt, alloc, tree, plain, asked);
     for one in asked {
@@ -139,7 +148,11 @@ fn merge(
     let origin = origin_of(rng, round);
     let answer = tree.merge(&given, content(rt, alloc, deleted, byte), origin);
     let wanted = plain.merge(alloc, &given, (deleted, byte), origin);
-    assert!(rt; wanted.ok() == Some(plain_answer(rt, answer)));
+    holds(
+        rt,
+        wanted.ok() == Some(plain_answer(rt, answer)),
+        "an answer",
+    );
     agree(rt, alloc, tree, plain, given.revs());
 }
 

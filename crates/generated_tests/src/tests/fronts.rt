@@ -1,4 +1,5 @@
 //! Windows finished in orders by chance, compared after each with a list of marks.
+use crate::tests::checks::holds;
 use rand_chacha::ChaCha8Rng;
 use rand_core::{Rng, SeedableRng};
 use range_front::{Front, FrontFault};
@@ -54,9 +55,17 @@ fn finish_one(rt: &impl Abort, front: &mut Front, lo: u64, is_done: bool) {
     let was_done = front.is_done(lo, hi);
     front.reserve().expect(rt, "memory");
     let answer = front.finish(lo, hi);
-    assert!(rt; was_done == is_done && answer == wanted && front.is_done(lo, hi));
+    holds(
+        rt,
+        was_done == is_done && answer == wanted && front.is_done(lo, hi),
+        "a window",
+    );
     let beyond = front.finish(lo, lo.saturating_add(20));
-    assert!(rt; beyond == Err(FrontFault::NoSuchWindow), "no such window");
+    holds(
+        rt,
+        beyond == Err(FrontFault::NoSuchWindow),
+        "no such window",
+    );
 }
 
 /// Whether a front has the low water and the runs of some marks.
@@ -73,12 +82,13 @@ fn finishes(rt: &impl Abort, front: &mut Front, seed: u64) {
         let i = (rng.next_u32() % WINDOWS as u32) as usize;
         finish_one(rt, front, start + 10 * i as u64, marks[i]);
         marks[i] = true;
-        assert!(rt;
+        holds(
+            rt,
             is_marked(front, start, &marks),
-            "the low water, or the runs"
+            "the low water, or the runs",
         );
     }
-    assert!(rt; front.end() == start + 10 * WINDOWS as u64, "the end");
+    holds(rt, front.end() == start + 10 * WINDOWS as u64, "the end");
 }
 
 #[test]
@@ -124,8 +134,16 @@ fn seventy_thousand_windows(rt: HostRuntime) {
     let mut front = Front::new(rt.alloc(), 0);
     many(&rt, &mut front, 70_000);
     finish_odd(&rt, &mut front, 35_000);
-    assert!(rt; front.range_count() == 35_000 && front.low_water() == 0);
+    holds(
+        &rt,
+        front.range_count() == 35_000 && front.low_water() == 0,
+        "ranges above the low water",
+    );
     front.reserve().expect(&rt, "room for one range more");
     finish_even(&rt, &mut front, 35_000);
-    assert!(rt; front.range_count() == 0 && front.low_water() == 140_000);
+    holds(
+        &rt,
+        front.range_count() == 0 && front.low_water() == 140_000,
+        "no range is left",
+    );
 }

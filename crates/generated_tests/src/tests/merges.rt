@@ -1,6 +1,7 @@
 //! Merges by chance, compared after each with the reference: every reading of the tree, and every answer.
 ghost use Rattle.std.specs.Prelude.{◌≤◌};
 
+use crate::tests::checks::holds;
 use crate::tests::reference::{Answer, PLACES, Reference, mask_of};
 use rand_chacha::ChaCha8Rng;
 use rand_core::{Rng, SeedableRng};
@@ -78,7 +79,11 @@ pub(crate) fn ancestry(rt: &impl Abort, alloc: Global, places: &[usize]) -> Ance
 fn agree_on_content(rt: &impl Abort, tree: &Tree, reference: &Reference, one: Rev, place: usize) {
     match (tree.content(one), reference.content(place)) {
         (Some(content), Some((deleted, body))) => {
-            assert!(rt; content.deleted() == deleted && content.body() == [body].as_slice());
+            holds(
+                rt,
+                content.deleted() == deleted && content.body() == [body].as_slice(),
+                "a content",
+            );
         }
         (None, None) => {}
         _ => rt.panic(format_args!("a content on one side alone")),
@@ -88,7 +93,7 @@ fn agree_on_content(rt: &impl Abort, tree: &Tree, reference: &Reference, one: Re
 /// Asserts that revisions are those at the places.
 fn assert_are(rt: &impl Abort, answer: Result<Revs, AllocError>, places: &[usize]) {
     let revs = answer.expect(rt, "revisions");
-    assert!(rt; are(rt, revs.as_slice(), places));
+    holds(rt, are(rt, revs.as_slice(), places), "revisions");
 }
 
 /// Asserts that a revision has the ancestry that the reference has.
@@ -102,14 +107,18 @@ fn agree_on_walk(
 ) {
     match tree.ancestry(alloc, one) {
         Ok(walk) => is_walk(rt, alloc, reference, place, walk.revs()),
-        Err(_) => assert!(rt; !reference.has(place)),
+        Err(_) => holds(rt, !reference.has(place), "no revision"),
     }
 }
 
 /// Asserts that revisions are the ancestry of one that the reference has.
 fn is_walk(rt: &impl Abort, alloc: Global, reference: &Reference, place: usize, walk: &[Rev]) {
     let places = reference.ancestry(alloc, place).expect(rt, "memory");
-    assert!(rt; reference.has(place) && are(rt, walk, &places));
+    holds(
+        rt,
+        reference.has(place) && are(rt, walk, &places),
+        "an ancestry",
+    );
 }
 
 /// Whether a tree has a revision, as a leaf or not, and its origin, as the reference does.
@@ -126,7 +135,7 @@ fn has_as(tree: &Tree, reference: &Reference, one: Rev, place: usize) -> bool {
 /// Asserts that every reading of a revision is that of the reference.
 fn agree_at(rt: &impl Abort, alloc: Global, tree: &Tree, reference: &Reference, place: usize) {
     let one = rev(rt, place);
-    assert!(rt; has_as(tree, reference, one, place), "a revision");
+    holds(rt, has_as(tree, reference, one, place), "a revision");
     agree_on_content(rt, tree, reference, one, place);
     agree_on_walk(rt, alloc, tree, reference, one, place);
 }
@@ -134,10 +143,10 @@ fn agree_at(rt: &impl Abort, alloc: Global, tree: &Tree, reference: &Reference, 
 /// Asserts that the leaves, and the winner, are those at the places.
 fn agree_on_leaves(rt: &impl Abort, alloc: Global, tree: &Tree, places: &[usize]) {
     assert_are(rt, tree.leaves(alloc), places);
-    assert!(rt; tree.leaf_count() == places.len(), "the leaves");
+    holds(rt, tree.leaf_count() == places.len(), "the leaves");
     match places.first() {
-        Some(place) => assert!(rt; tree.winner() == Some(rev(rt, *place))),
-        None => assert!(rt; tree.winner().is_none()),
+        Some(place) => holds(rt, tree.winner() == Some(rev(rt, *place)), "the winner"),
+        None => holds(rt, tree.winner().is_none(), "no winner"),
     }
 }
 
@@ -145,7 +154,7 @@ fn agree_on_leaves(rt: &impl Abort, alloc: Global, tree: &Tree, places: &[usize]
 fn agree(rt: &impl Abort, alloc: Global, tree: &Tree, reference: &Reference) {
     let leaves = reference.leaves(alloc).expect(rt, "memory");
     agree_on_leaves(rt, alloc, tree, &leaves);
-    assert!(rt; tree.rev_count() == reference.count(), "the revisions");
+    holds(rt, tree.rev_count() == reference.count(), "the revisions");
     for place in 0..PLACES {
         agree_at(rt, alloc, tree, reference, place);
     }
@@ -202,8 +211,8 @@ fn agree_on_asked(
 /// Asserts that the answer is that of the reference.
 fn answers(rt: &impl Abort, answer: Result<Merged, TreeFault>, wanted: Answer) {
     match answer {
-        Ok(Merged::Changed) => assert!(rt; wanted == Answer::Changed, "a change"),
-        Ok(Merged::Same) => assert!(rt; wanted == Answer::Same, "no change"),
+        Ok(Merged::Changed) => holds(rt, wanted == Answer::Changed, "a change"),
+        Ok(Merged::Same) => holds(rt, wanted == Answer::Same, "no change"),
         Err(fault) => refused(rt, fault, wanted),
     }
 }
@@ -233,7 +242,11 @@ fn refused(rt: &impl Abort, fault: TreeFault, wanted: Answer) {
         } => [child, known, given],
         _ => rt.panic(format_args!("refused, where {wanted:?} was wanted")),
     };
-    assert!(rt; are(rt, &[child, known, given], &places));
+    holds(
+        rt,
+        are(rt, &[child, known, given], &places),
+        "a contradiction",
+    );
 }
 
 /// A content with a body of one byte.

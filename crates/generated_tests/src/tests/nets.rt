@@ -1,6 +1,7 @@
 //! Nets whose peers diverge by chance: by a hub, and along a ring that is gone round twice, all end with the same
 //! documents, a second time carries nothing, and no audit finds a hole; along hops by chance, whoever a chain leads to
 //! has all that its beginning had.
+use crate::tests::checks::holds;
 use crate::tests::feeds::id;
 use crate::tests::merges::below;
 use crate::tests::plain_sides::IDS;
@@ -46,7 +47,7 @@ fn assert_clean(rt: &impl Abort, alloc: Global, net: &Net<Rules>) {
         for other in 0..PEERS {
             if one != other {
                 let found = net.audit(alloc, one, other, None).expect(rt, "memory");
-                assert!(rt; matches!(found, Audit::Clean), "an audit is clean");
+                holds(rt, matches!(found, Audit::Clean), "an audit is clean");
             }
         }
     }
@@ -156,7 +157,7 @@ fn assert_led(
         for place in 0..PEERS {
             if reached[*from % PEERS] & (1 << place) != 0 {
                 let there = has(rt, alloc, at(rt, net, place), *number, *leaf);
-                assert!(rt; there, "a leaf is at the end of each chain");
+                holds(rt, there, "a leaf is at the end of each chain");
             }
         }
     }
@@ -219,9 +220,10 @@ fn of_seed(rt: &impl Abort, alloc: Global, seed: u64) {
             }
             assert_all_same(rt, alloc, &net);
             assert_clean(rt, alloc, &net);
-            assert!(rt;
+            holds(
+                rt,
                 again == 0 || sequences(rt, &net) == before,
-                "nothing is left to carry"
+                "nothing is left to carry",
             );
             before = sequences(rt, &net);
         }

@@ -1,5 +1,6 @@
 //! Replications of random pairs, by one thread and by the pool, of all documents and of two choices by chance, each
 //! compared with the plain model: both sides' trees, what is covered, the report, and the session's ledger.
+use crate::tests::checks::holds;
 use crate::tests::choices::{chosen, some};
 use crate::tests::feeds::{document_by_chance, is_answer};
 use crate::tests::merges::below;
@@ -81,7 +82,11 @@ impl Side {
     fn load(&mut self, rt: &impl Abort, alloc: Global, rng: &mut ChaCha8Rng) {
         let (doc, wanted) = document_by_chance(rt, alloc, rng, &mut self.plain, IDS);
         let answer = self.peer.load(&doc);
-        assert!(rt; is_answer(answer, wanted, self.plain.update_seq), "a load");
+        holds(
+            rt,
+            is_answer(answer, wanted, self.plain.update_seq),
+            "a load",
+        );
     }
 }
 
@@ -252,13 +257,15 @@ fn replicate<R: Abort + Threads + Wait + Sync>(
 ) {
     let report = carry_peers(rt, alloc, &mut source.peer, &mut target.peer, plan);
     compare(rt, alloc, source, target, how, plan.session, report);
-    assert!(rt;
+    holds(
+        rt,
         agrees(rt, alloc, &source.peer, &source.plain, IDS),
-        "the source"
+        "the source",
     );
-    assert!(rt;
+    holds(
+        rt,
         agrees(rt, alloc, &target.peer, &target.plain, IDS),
-        "the target"
+        "the target",
     );
     source.carried[how.choice % 3] = source.plain.update_seq;
 }
@@ -281,7 +288,7 @@ fn compare(
         Some(wanted(&source.plain, since, session, &carried))
     );
     let same = has_ledger(rt, alloc, &target.peer, session, &mut carried.ledger);
-    assert!(rt; same, "the ledger");
+    holds(rt, same, "the ledger");
 }
 
 /// The report of what was carried above a sequence.

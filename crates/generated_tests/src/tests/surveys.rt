@@ -1,5 +1,6 @@
 //! What a target misses of a source, which documents are in conflict and how much a database holds, compared with the
 //! reference; and the documents of all leaves, put into an empty database.
+use crate::tests::checks::holds;
 use crate::tests::exchanges::Side;
 use crate::tests::feeds::id;
 use crate::tests::merges::{are, rev};
@@ -70,10 +71,18 @@ fn says(
     let missing = held.missing(rt, alloc, &leaves);
     let differing = differ(rt, alloc, tree, held, &leaves);
     let place = contradicts(rt, alloc, tree, held, &missing);
-    assert!(rt; comparison.leaves() == leaves.len(), "the leaves");
-    assert!(rt; are(rt, comparison.missing(), &missing), "what is missing");
-    assert!(rt; are(rt, comparison.differing(), &differing), "what differs");
-    assert!(rt; names(rt, comparison, place), "what contradicts");
+    holds(rt, comparison.leaves() == leaves.len(), "the leaves");
+    holds(
+        rt,
+        are(rt, comparison.missing(), &missing),
+        "what is missing",
+    );
+    holds(
+        rt,
+        are(rt, comparison.differing(), &differing),
+        "what differs",
+    );
+    holds(rt, names(rt, comparison, place), "what contradicts");
 }
 
 /// Compares each document of two sides, and gives the total.
@@ -105,7 +114,7 @@ fn conflicts(rt: &impl Abort, alloc: Global, database: &Database, id: &DocId, li
     if let Some(tree) = database.tree(id) {
         let found = conflicting(alloc, tree).expect(rt, "memory");
         let wanted = if live.len() < 2 { &[] } else { live };
-        assert!(rt; are(rt, &found, wanted), "what is in conflict");
+        holds(rt, are(rt, &found, wanted), "what is in conflict");
     }
 }
 
@@ -119,7 +128,7 @@ fn counts(census: &mut Census, tree: &Reference, leaves: usize, live: usize) {
 }
 
 /// Asserts what is in conflict, and how much there is. Gives how many documents are in conflict.
-fn holds(rt: &impl Abort, alloc: Global, side: &Side) -> u64 {
+fn in_conflict(rt: &impl Abort, alloc: Global, side: &Side) -> u64 {
     let mut wanted = Census::none();
     for number in 0..IDS {
         let tree = side.plain.tree(number);
@@ -131,14 +140,14 @@ fn holds(rt: &impl Abort, alloc: Global, side: &Side) -> u64 {
         }
     }
     let census = census_of(alloc, &side.db).expect(rt, "memory");
-    assert!(rt; census == wanted, "how much there is");
+    holds(rt, census == wanted, "how much there is");
     wanted.conflicts
 }
 
 /// Puts the documents of all leaves of a document.
 fn give(rt: &impl Abort, alloc: Global, source: &Database, id: &DocId, target: &mut Database) {
     for doc in &documents_of(alloc, source, id).expect(rt, "memory") {
-        assert!(rt; target.put(doc, Origin::Local(0)).is_ok(), "a put");
+        holds(rt, target.put(doc, Origin::Local(0)).is_ok(), "a put");
     }
 }
 
@@ -149,9 +158,13 @@ fn has_leaves(rt: &impl Abort, alloc: Global, database: &Database, plain: &Plain
         match database.tree(&id(rt, alloc, number)) {
             Some(tree) => {
                 let leaves = tree.leaves(alloc).expect(rt, "memory");
-                assert!(rt; are(rt, leaves.as_slice(), &wanted), "leaves that are back");
+                holds(
+                    rt,
+                    are(rt, leaves.as_slice(), &wanted),
+                    "leaves that are back",
+                );
             }
-            None => assert!(rt; wanted.is_empty(), "a document that is back"),
+            None => holds(rt, wanted.is_empty(), "a document that is back"),
         }
     }
 }
@@ -168,7 +181,7 @@ fn comes_back(rt: &impl Abort, alloc: Global, side: &Side, again: &mut Database)
 /// how many leaves differ, and how many documents are in conflict.
 fn survey(rt: &impl Abort, alloc: Global, source: &Side, target: &Side) -> [u64; 3] {
     let total = compares(rt, alloc, source, target);
-    let conflicts = holds(rt, alloc, source);
+    let conflicts = in_conflict(rt, alloc, source);
     let mut again = Database::new(alloc, 3);
     comes_back(rt, alloc, source, &mut again);
     [total.contradicting, total.differing, conflicts]

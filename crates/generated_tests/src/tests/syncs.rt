@@ -1,5 +1,6 @@
 //! Pairs that diverge by chance and are replicated both ways, by one thread and by the pool: then both sides hold the
 //! same documents, and a second time carries nothing.
+use crate::tests::checks::holds;
 use crate::tests::feeds::id;
 use crate::tests::merges::below;
 use crate::tests::plain_sides::IDS;
@@ -124,7 +125,7 @@ fn is_same(rt: &impl Abort, alloc: Global, a: &Peer<Rules>, b: &Peer<Rules>, id:
 pub(crate) fn assert_same(rt: &impl Abort, alloc: Global, a: &Peer<Rules>, b: &Peer<Rules>) {
     for number in 0..IDS {
         let same = is_same(rt, alloc, a, b, &id(rt, alloc, number));
-        assert!(rt; same, "a document is the same on both sides");
+        holds(rt, same, "a document is the same on both sides");
     }
 }
 
@@ -132,11 +133,11 @@ pub(crate) fn assert_same(rt: &impl Abort, alloc: Global, a: &Peer<Rules>, b: &P
 fn assert_same_but_d0(rt: &impl Abort, alloc: Global, a: &Peer<Rules>, b: &Peer<Rules>) {
     for number in 1..IDS {
         let same = is_same(rt, alloc, a, b, &id(rt, alloc, number));
-        assert!(rt; same, "a document that nobody refused is the same");
+        holds(rt, same, "a document that nobody refused is the same");
     }
     let d0 = id(rt, alloc, 0);
-    assert!(rt; a.db().tree(&d0).is_some(), "one side has the other one");
-    assert!(rt; b.db().tree(&d0).is_none(), "the other side hasn't");
+    holds(rt, a.db().tree(&d0).is_some(), "one side has the other one");
+    holds(rt, b.db().tree(&d0).is_none(), "the other side hasn't");
 }
 
 /// A plan of the next session, with windows that scan 1 to 4 rows by chance.
@@ -194,7 +195,7 @@ fn of_seed<R: Abort + Threads + Wait + Sync>(rt: &R, alloc: Global, seed: u64, w
                 .counts
                 .read
                 .saturating_add(synced.back.counts.read);
-            assert!(rt; again == 0 || carried == 0, "nothing is left to carry");
+            holds(rt, again == 0 || carried == 0, "nothing is left to carry");
             (a, b) = (one, other);
         }
     }
@@ -233,7 +234,7 @@ fn beside_refusals<R: Abort + Threads + Wait + Sync>(
         let back = plan(rt, &mut rng, workers, &mut sessions);
         let (one, other, synced) = meet(rt, alloc, a, b, &there, &back);
         assert_same_but_d0(rt, alloc, &one, &other);
-        assert!(rt; 0 < synced.there.counts.failures, "d0 is refused");
+        holds(rt, 0 < synced.there.counts.failures, "d0 is refused");
         (a, b) = (one, other);
     }
 }

@@ -1,4 +1,5 @@
 //! Lists of steps by chance, taken by a world and by its plain model, and compared: both peers, the logs and the bag.
+use crate::tests::checks::holds;
 use crate::tests::choices::{all_or_some, chosen};
 use crate::tests::feeds::{body, document_by_chance, id};
 use crate::tests::merges::below;
@@ -371,15 +372,19 @@ fn compare_documents(
     wanted: &PlainSide,
     chain: &[Rev],
 ) {
-    assert!(rt; agrees(rt, alloc, peer, wanted, EDITED), "the documents");
+    holds(rt, agrees(rt, alloc, peer, wanted, EDITED), "the documents");
     let held = wanted.tree(EDITED).count();
-    assert!(rt; has_chain(rt, alloc, peer.db(), held, chain), "the edits");
+    holds(
+        rt,
+        has_chain(rt, alloc, peer.db(), held, chain),
+        "the edits",
+    );
 }
 
 /// Asserts that a log, newest first, tells what is wanted, oldest first.
 fn compare_log(rt: &impl Abort, log: Option<Log>, wanted: &[Done]) {
     let log = log.expect(rt, "a log");
-    assert!(rt; is_log(&log, wanted), "a log");
+    holds(rt, is_log(&log, wanted), "a log");
 }
 
 /// Asserts that what the target tells of its sessions is that of the model.
@@ -407,7 +412,7 @@ fn compare_ledger(
 ) {
     let mut wanted = model.ledger(rt, alloc, session);
     let has = has_ledger(rt, alloc, target, SessionId(session), &mut wanted);
-    assert!(rt; has, "a ledger");
+    holds(rt, has, "a ledger");
 }
 
 /// Asserts that an audit of the documents that are replicated finds nothing.
@@ -438,10 +443,10 @@ fn compare_peers(
     compare_documents(rt, alloc, source, &model.source, &dealer.chain);
     compare_documents(rt, alloc, target, &model.target, &dealer.chain);
     compare_log(rt, source.source_log(alloc, &rep).ok(), &model.log.entries);
-    assert!(rt; source.db().life() == model.log.life, "the life");
+    holds(rt, source.db().life() == model.log.life, "the life");
     // Each change of the source is a local write.
     let writes = source.locals().len() as u64;
-    assert!(rt; writes == model.source.update_seq, "the local writes");
+    holds(rt, writes == model.source.update_seq, "the local writes");
     compare_sessions(rt, alloc, target, &rep, model);
     is_clean(rt, alloc, source, target, chosen.as_ref());
 }
@@ -465,7 +470,7 @@ fn world(
 /// Takes a list, and asserts that the world is then its model.
 fn take(rt: &impl Abort, alloc: Global, world: &mut World<Rules>, steps: &[Step], dealer: &Dealer) {
     world.run(alloc, steps).expect(rt, "memory");
-    assert!(rt; world.bag_sizes() == dealer.model.sizes(), "the bag");
+    holds(rt, world.bag_sizes() == dealer.model.sizes(), "the bag");
     compare_peers(rt, alloc, world.source(), world.target(), dealer);
 }
 
