@@ -4,12 +4,15 @@ use crate::tests::texts::numbers_text;
 use repl_target::{Backup, Peer, Rules};
 use std::alloc::Global;
 
-/// Copies a peer.
+/// Copies the peer of a place.
 pub(crate) fn back_up(
     alloc: Global,
-    peer: &Peer<Rules>,
+    peer: Option<&Peer<Rules>>,
     backups: &mut Vec<Backup>,
 ) -> Option<String> {
+    let Some(peer) = peer else {
+        return None;
+    };
     match peer.backup(alloc) {
         Ok(backup) => keep(alloc, backups, backup),
         Err(fault) => fault_text(alloc, fault),
@@ -18,8 +21,23 @@ pub(crate) fn back_up(
 
 /// Keeps a copy, and gives the uuid and the update sequence of its database.
 fn keep(alloc: Global, backups: &mut Vec<Backup>, backup: Backup) -> Option<String> {
-    backups.push(backup).ok()?;
-    numbers_text(alloc, backups.last()?.db())
+    let text = numbers_text(alloc, backup.db());
+    let Ok(()) = backups.push(backup) else {
+        return None;
+    };
+    text
+}
+
+/// Puts the peer of a place back to the copy of one.
+pub(crate) fn restore_at(
+    alloc: Global,
+    peer: Option<&mut Peer<Rules>>,
+    backup: Option<&Backup>,
+) -> Option<String> {
+    match (peer, backup) {
+        (Some(peer), Some(backup)) => restore(alloc, peer, backup),
+        _ => None,
+    }
 }
 
 /// Puts a peer back to a copy.

@@ -1,5 +1,5 @@
 //! What a peer holds of a document, and what was refused of one.
-use crate::tests::texts::{append, doc_text};
+use crate::tests::texts::{doc_text, joined};
 use couch_base::Database;
 use doc_json::DocId;
 use repl_target::{Peer, Refused, Rules};
@@ -10,27 +10,33 @@ use test_texts::shown;
 
 /// The documents at the leaves of a document, winner first.
 pub(crate) fn leaves(alloc: Global, db: &Database, id: &str) -> Option<String> {
-    let id = DocId::parse(alloc, id).ok()?;
+    let Ok(id) = DocId::parse(alloc, id) else {
+        return None;
+    };
     let Some(tree) = db.tree(&id) else {
         return "no document".to_string(alloc).ok();
     };
-    let leaves = tree.leaves(alloc).ok()?;
+    let Ok(leaves) = tree.leaves(alloc) else {
+        return None;
+    };
     all_at(alloc, db, &id, leaves.as_slice())
 }
 
 /// The documents at some revisions of a document.
 fn all_at(alloc: Global, db: &Database, id: &DocId, revs: &[Rev]) -> Option<String> {
-    let mut all = String::new(alloc);
+    let mut all = Some(String::new(alloc));
     for rev in revs {
-        append(&mut all, at(alloc, db, id, *rev))?;
+        all = joined(all, at(alloc, db, id, *rev));
     }
-    Some(all)
+    all
 }
 
 /// The document at a revision.
 fn at(alloc: Global, db: &Database, id: &DocId, rev: Rev) -> Option<String> {
-    let found = db.document(alloc, id, rev).ok()?;
-    doc_text(alloc, &found?)
+    match db.document(alloc, id, rev) {
+        Ok(Some(doc)) => doc_text(alloc, &doc),
+        _ => None,
+    }
 }
 
 /// The documents of an id that were refused to a session, in the order in which they came, each with why.
@@ -40,18 +46,24 @@ pub(crate) fn refused(
     session: SessionId,
     id: &str,
 ) -> Option<String> {
-    let mut all = String::new(alloc);
-    for row in peer.ledger(session)? {
+    match peer.ledger(session) {
+        Some(rows) => refused_of(alloc, rows, id),
+        None => None,
+    }
+}
+
+/// The documents of an id in a ledger, each with why it was refused.
+fn refused_of(alloc: Global, rows: &[Refused], id: &str) -> Option<String> {
+    let mut all = Some(String::new(alloc));
+    for row in rows {
         if row.doc().id().text() == id {
-            append(&mut all, refused_text(alloc, row))?;
+            all = joined(all, refused_text(alloc, row));
         }
     }
-    Some(all)
+    all
 }
 
 /// A document that was refused, and why.
 fn refused_text(alloc: Global, row: &Refused) -> Option<String> {
-    let mut all = doc_text(alloc, row.doc())?;
-    append(&mut all, shown(alloc, &row.reason()))?;
-    Some(all)
+    joined(doc_text(alloc, row.doc()), shown(alloc, &row.reason()))
 }

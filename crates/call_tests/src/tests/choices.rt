@@ -2,7 +2,7 @@
 use crate::tests::peers::{agreed, found_text, load, source_log, target_log};
 use crate::tests::plans::plan;
 use crate::tests::records::{fault_text, report_text};
-use crate::tests::texts::{append, base_fault_text, expect_answer, window_text};
+use crate::tests::texts::{base_fault_text, expect_answer, joined, window_text};
 use couch_base::Window;
 use doc_json::{Chosen, DocId, is_chosen};
 use repl_log::{RepId, rep_id};
@@ -102,56 +102,74 @@ impl Bench {
         let (source, target) = (&mut self.source, &mut self.target);
         match *call {
             Call::Equal(one, other) => equal(self.alloc, &self.choices, one, other),
-            Call::Has(under, id) => has(self.alloc, chosen(&self.choices, under)?, id),
-            Call::Replicate(session, batch, under) => {
-                let chosen = chosen(&self.choices, under)?;
-                replicate(self.alloc, source, target, session, batch, chosen)
+            other => {
+                let Some(chosen) = chosen(&self.choices, under_of(&other)) else {
+                    return None;
+                };
+                of_peers(self.alloc, source, target, chosen, &other)
             }
-            Call::Begin(session, under) => {
-                let chosen = chosen(&self.choices, under)?;
-                begin(self.alloc, source, target, session, chosen)
-            }
-            Call::Append(session, since, goal, under) => {
-                let window = page_of(
-                    self.alloc,
-                    source,
-                    since,
-                    goal,
-                    chosen(&self.choices, under)?,
-                )?;
-                store(self.alloc, target, session, window)
-            }
-            other => read(self.alloc, source, target, &self.choices, &other),
         }
     }
 }
 
-/// Makes a call that changes nothing.
+/// The choice that a call is under.
+fn under_of(call: &Call) -> Under {
+    match *call {
+        Call::Has(under, _)
+        | Call::Text(under)
+        | Call::Page(_, _, _, under)
+        | Call::Replicate(_, _, under)
+        | Call::Begin(_, under)
+        | Call::Append(_, _, _, under)
+        | Call::Audit(under)
+        | Call::HoleAbove(_, under)
+        | Call::Common(under)
+        | Call::SourceLog(under)
+        | Call::TargetLog(under) => under,
+        _ => None,
+    }
+}
+
+/// Makes a call under a choice.
+fn of_peers(
+    alloc: Global,
+    source: &mut Peer<Rules>,
+    target: &mut Peer<Rules>,
+    chosen: Option<&Chosen>,
+    call: &Call,
+) -> Option<String> {
+    match *call {
+        Call::Has(_, id) => has(alloc, chosen, id),
+        Call::Replicate(session, batch, _) => {
+            replicate(alloc, source, target, session, batch, chosen)
+        }
+        Call::Begin(session, _) => begin(alloc, source, target, session, chosen),
+        Call::Append(session, since, goal, _) => {
+            let window = page_of(alloc, source, since, goal, chosen);
+            store(alloc, target, session, window)
+        }
+        other => read(alloc, source, target, chosen, &other),
+    }
+}
+
+/// Makes a call under a choice that changes nothing.
 fn read(
     alloc: Global,
     source: &Peer<Rules>,
     target: &Peer<Rules>,
-    choices: &[Chosen],
+    chosen: Option<&Chosen>,
     call: &Call,
 ) -> Option<String> {
     match *call {
-        Call::Page(since, goal, limit, under) => {
-            page(alloc, source, since, goal, limit, chosen(choices, under)?)
-        }
-        Call::Audit(under) => {
-            let chosen = chosen(choices, under)?;
-            found_text(alloc, audit(alloc, source, target, chosen))
-        }
-        Call::HoleAbove(since, under) => {
-            let chosen = chosen(choices, under)?;
+        Call::Page(since, goal, limit, _) => page(alloc, source, since, goal, limit, chosen),
+        Call::Audit(_) => found_text(alloc, audit(alloc, source, target, chosen)),
+        Call::HoleAbove(since, _) => {
             found_text(alloc, hole_above(alloc, source, target, since, chosen))
         }
-        Call::Text(under) | Call::Common(under) | Call::SourceLog(under) | Call::TargetLog(under) =>
-            {
-                let rep = rep_between(source, target, chosen(choices, under)?).ok()?;
-                of_replication(alloc, source, target, &rep, call)
-            }
-        _ => None,
+        _ => match rep_between(source, target, chosen) {
+            Ok(rep) => of_replication(alloc, source, target, &rep, call),
+            Err(_) => None,
+        },
     }
 }
 
@@ -164,7 +182,7 @@ fn of_replication(
     call: &Call,
 ) -> Option<String> {
     match *call {
-        Call::Text(_) => String::from_utf8(rep_id(alloc, rep).ok()?).ok(),
+        Call::Text(_) => rep_text(alloc, rep),
         Call::Common(_) => agreed(alloc, source, target, rep),
         Call::SourceLog(_) => source_log(alloc, source, rep),
         Call::TargetLog(_) => target_log(alloc, target, rep),
@@ -172,10 +190,18 @@ fn of_replication(
     }
 }
 
-/// The choice of a place, none for all documents.
+/// The text of the id of a replication.
+fn rep_text(alloc: Global, rep: &RepId) -> Option<String> {
+    match rep_id(alloc, rep) {
+        Ok(text) => String::from_utf8(text).ok(),
+        Err(_) => None,
+    }
+}
+
+/// The choice of a place, none for all documents; nothing where no choice has that place.
 fn chosen(choices: &[Chosen], under: Under) -> Option<Option<&Chosen>> {
     match under {
-        Some(at) => Some(Some(choices.get(at)?)),
+        Some(at) => choices.get(at).map(Some),
         None => Some(None),
     }
 }
@@ -191,19 +217,21 @@ fn choose_ids(alloc: Global, choices: &mut Vec<Chosen>, ids: Vec<DocId>) -> Opti
 /// Keeps a choice, and tells how many ids it has, and the ids where these are few.
 fn keep(alloc: Global, choices: &mut Vec<Chosen>, chosen: Chosen) -> Option<String> {
     let text = ids_text(alloc, chosen.ids());
-    choices.push(chosen).ok()?;
+    let Ok(()) = choices.push(chosen) else {
+        return None;
+    };
     text
 }
 
 /// How many ids there are, and the ids where these are few.
 fn ids_text(alloc: Global, ids: &[DocId]) -> Option<String> {
-    let mut all = shown(alloc, &ids.len())?;
+    let mut all = shown(alloc, &ids.len());
     if ids.len() < 10 {
         for id in ids {
-            append(&mut all, id_text(alloc, id))?;
+            all = joined(all, id_text(alloc, id));
         }
     }
-    Some(all)
+    all
 }
 
 /// A blank and an id.
@@ -211,18 +239,30 @@ fn id_text(alloc: Global, id: &DocId) -> Option<String> {
     format!(in alloc; " {}", id.text()).ok()
 }
 
+/// Appends an id that is one.
+fn push_id(ids: &mut Vec<DocId>, id: Option<DocId>) -> Option<()> {
+    match id {
+        Some(id) => ids.push(id).ok(),
+        None => None,
+    }
+}
+
 /// Chooses documents.
 fn choose(alloc: Global, choices: &mut Vec<Chosen>, names: &[&str]) -> Option<String> {
     let mut ids = Vec::new(alloc);
     for name in names {
-        ids.push(DocId::parse(alloc, name).ok()?).ok()?;
+        let Some(()) = push_id(&mut ids, DocId::parse(alloc, name).ok()) else {
+            return None;
+        };
     }
     choose_ids(alloc, choices, ids)
 }
 
 /// The id of a number.
 fn number_id(alloc: Global, number: u32) -> Option<DocId> {
-    let text = number.to_string(alloc).ok()?;
+    let Ok(text) = number.to_string(alloc) else {
+        return None;
+    };
     DocId::parse(alloc, text.as_str()).ok()
 }
 
@@ -230,27 +270,40 @@ fn number_id(alloc: Global, number: u32) -> Option<DocId> {
 fn choose_many(alloc: Global, choices: &mut Vec<Chosen>, count: u32) -> Option<String> {
     let mut ids = Vec::new(alloc);
     for number in 0..count {
-        ids.push(number_id(alloc, number.saturating_add(1))?).ok()?;
+        let Some(()) = push_id(&mut ids, number_id(alloc, number.saturating_add(1))) else {
+            return None;
+        };
     }
-    ids.push(number_id(alloc, 1)?).ok()?;
+    let Some(()) = push_id(&mut ids, number_id(alloc, 1)) else {
+        return None;
+    };
     choose_ids(alloc, choices, ids)
 }
 
 /// Copies a choice.
 fn copy(alloc: Global, choices: &mut Vec<Chosen>, at: usize) -> Option<String> {
-    let chosen = choices.get(at)?.copy().ok()?;
+    let Some(chosen) = choices.get(at) else {
+        return None;
+    };
+    let Ok(chosen) = chosen.copy() else {
+        return None;
+    };
     keep(alloc, choices, chosen)
 }
 
 /// Whether two choices are equal.
 fn equal(alloc: Global, choices: &[Chosen], one: usize, other: usize) -> Option<String> {
-    let same = choices.get(one)? == choices.get(other)?;
-    shown(alloc, &same)
+    match (choices.get(one), choices.get(other)) {
+        (Some(one), Some(other)) => shown(alloc, &(one == other)),
+        _ => None,
+    }
 }
 
 /// Whether a document is chosen.
 fn has(alloc: Global, chosen: Option<&Chosen>, id: &str) -> Option<String> {
-    let id = DocId::parse(alloc, id).ok()?;
+    let Ok(id) = DocId::parse(alloc, id) else {
+        return None;
+    };
     shown(alloc, &is_chosen(chosen, &id))
 }
 
@@ -280,13 +333,16 @@ fn page_of(
     source.page(alloc, since, goal, 500, chosen).ok()
 }
 
-/// Appends a window to a session.
+/// Appends a window, where there is one, to a session.
 fn store(
     alloc: Global,
     target: &mut Peer<Rules>,
     session: SessionId,
-    window: Window,
+    window: Option<Window>,
 ) -> Option<String> {
+    let Some(window) = window else {
+        return None;
+    };
     match target.append(session, window) {
         Ok(()) => "appended".to_string(alloc).ok(),
         Err(fault) => fault_text(alloc, fault),
@@ -295,11 +351,15 @@ fn store(
 
 /// The plan of a session under a choice, as a copy of it has it.
 fn plan_under(session: SessionId, batch: u64, chosen: Option<&Chosen>) -> Option<Plan> {
-    let mut plan = plan(session, batch, 0)?;
-    plan.chosen = match chosen {
-        Some(chosen) => Some(chosen.copy().ok()?),
-        None => None,
+    let Some(mut plan) = plan(session, batch, 0) else {
+        return None;
     };
+    if let Some(chosen) = chosen {
+        let Ok(chosen) = chosen.copy() else {
+            return None;
+        };
+        plan.chosen = Some(chosen);
+    }
     plan.copy().ok()
 }
 
@@ -312,7 +372,10 @@ fn replicate(
     batch: u64,
     chosen: Option<&Chosen>,
 ) -> Option<String> {
-    match replicate_alone(alloc, source, target, &plan_under(session, batch, chosen)?) {
+    let Some(plan) = plan_under(session, batch, chosen) else {
+        return None;
+    };
+    match replicate_alone(alloc, source, target, &plan) {
         Ok(report) => report_text(alloc, report),
         Err(fault) => fault_text(alloc, fault),
     }
@@ -326,7 +389,10 @@ fn begin(
     session: SessionId,
     chosen: Option<&Chosen>,
 ) -> Option<String> {
-    match begin_plan(source, target, &plan_under(session, 500, chosen)?) {
+    let Some(plan) = plan_under(session, 500, chosen) else {
+        return None;
+    };
+    match begin_plan(source, target, &plan) {
         Ok(start) => shown(alloc, &start),
         Err(fault) => fault_text(alloc, fault),
     }

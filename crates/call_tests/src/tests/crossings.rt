@@ -17,10 +17,18 @@ const LATER: &str = r#"{"_id":"d","_revisions":{"start":3,"ids":["c","b","a"]},"
 /// What an empty database misses of one that has the document.
 fn parcel(alloc: Global) -> Option<Parcel> {
     let mut source = Database::new(alloc, 1);
-    let document = doc(alloc, DOCUMENT)?;
-    source.put(&document, Origin::Local(0)).ok()?;
-    let window = source.page(alloc, 0, 1, 10, None).ok()?;
-    let asked = Database::new(alloc, 2).revs_diff(alloc, &window).ok()?;
+    let Some(document) = doc(alloc, DOCUMENT) else {
+        return None;
+    };
+    let Ok(_put) = source.put(&document, Origin::Local(0)) else {
+        return None;
+    };
+    let Ok(window) = source.page(alloc, 0, 1, 10, None) else {
+        return None;
+    };
+    let Ok(asked) = Database::new(alloc, 2).revs_diff(alloc, &window) else {
+        return None;
+    };
     source.open_revs(alloc, &asked).ok()
 }
 

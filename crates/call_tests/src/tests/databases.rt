@@ -101,19 +101,28 @@ impl Bench {
         match *call {
             Call::DatabaseAt(uuid, seq) => make_at(self.alloc, &mut self.databases, uuid, seq),
             Call::Copy(at, life) => copy(self.alloc, &mut self.databases, at, life),
-            Call::WindowLife(window) => shown(self.alloc, &self.held.windows.get(window)?.life()),
+            Call::WindowLife(window) => window_life(self.alloc, &self.held.windows, window),
             other => self.answer_of(place_of(&other), &other),
         }
     }
 
     /// Makes a call on the database of a place.
     fn answer_of(&mut self, place: Option<usize>, call: &Call) -> Option<String> {
-        of_one(
-            self.alloc,
-            self.databases.get_mut(place?)?,
-            &mut self.held,
-            call,
-        )
+        let Some(at) = place else {
+            return None;
+        };
+        match self.databases.get_mut(at) {
+            Some(db) => of_one(self.alloc, db, &mut self.held, call),
+            None => None,
+        }
+    }
+}
+
+/// Reads the life of a window.
+fn window_life(alloc: Global, windows: &[Window], at: usize) -> Option<String> {
+    match windows.get(at) {
+        Some(window) => shown(alloc, &window.life()),
+        None => None,
     }
 }
 
@@ -157,7 +166,7 @@ fn read(alloc: Global, db: &Database, call: &Call) -> Option<String> {
         Call::Life(_) => shown(alloc, &db.life()),
         Call::Tree(_, id) => tree(alloc, db, id),
         Call::Node(_, id, rev) => node(alloc, db, id, rev),
-        Call::Document(_, id, text) => document(alloc, db, id, rev(text)?),
+        Call::Document(_, id, text) => document(alloc, db, id, text),
         _ => None,
     }
 }
@@ -180,7 +189,12 @@ fn copy(
     at: usize,
     life: Option<u64>,
 ) -> Option<String> {
-    let copy = copied(alloc, databases.get(at)?, life)?;
+    let Some(db) = databases.get(at) else {
+        return None;
+    };
+    let Some(copy) = copied(alloc, db, life) else {
+        return None;
+    };
     made_text(alloc, databases.push(copy).ok())
 }
 
@@ -210,8 +224,10 @@ fn page(
 
 /// Asks a database for what it misses of a window.
 fn diff(alloc: Global, db: &Database, held: &mut Held, window: usize) -> Option<String> {
-    let asked = missed(alloc, db, held.windows.get(window)?)?;
-    keep_asked(alloc, &mut held.asked, asked)
+    let Some(window) = held.windows.get(window) else {
+        return None;
+    };
+    keep_asked(alloc, &mut held.asked, missed(alloc, db, window))
 }
 
 /// What a database misses of a window.
@@ -221,8 +237,10 @@ fn missed(alloc: Global, db: &Database, window: &Window) -> Option<Asked> {
 
 /// Fetches an asked list.
 fn fetch(alloc: Global, db: &Database, held: &mut Held, asked: usize) -> Option<String> {
-    let parcel = fetched(alloc, db, held.asked.get(asked)?)?;
-    keep_parcel(alloc, &mut held.parcels, parcel)
+    let Some(asked) = held.asked.get(asked) else {
+        return None;
+    };
+    keep_parcel(alloc, &mut held.parcels, fetched(alloc, db, asked))
 }
 
 /// What a database answers to an asked list.
@@ -232,8 +250,10 @@ fn fetched(alloc: Global, db: &Database, asked: &Asked) -> Option<Parcel> {
 
 /// That something new was made and kept.
 pub(crate) fn made_text(alloc: Global, kept: Option<()>) -> Option<String> {
-    kept?;
-    "made".to_string(alloc).ok()
+    match kept {
+        Some(()) => "made".to_string(alloc).ok(),
+        None => None,
+    }
 }
 
 /// Keeps a window, and gives its text.
@@ -242,24 +262,43 @@ pub(crate) fn keep_window(
     windows: &mut Vec<Window>,
     window: Window,
 ) -> Option<String> {
-    windows.push(window).ok()?;
-    window_text(alloc, windows.last()?)
+    let text = window_text(alloc, &window);
+    let Ok(()) = windows.push(window) else {
+        return None;
+    };
+    text
 }
 
-/// Keeps an asked list, and gives its text.
-pub(crate) fn keep_asked(alloc: Global, lists: &mut Vec<Asked>, asked: Asked) -> Option<String> {
-    lists.push(asked).ok()?;
-    asked_text(alloc, lists.last()?)
+/// Keeps an asked list, where there is one, and gives its text.
+pub(crate) fn keep_asked(
+    alloc: Global,
+    lists: &mut Vec<Asked>,
+    asked: Option<Asked>,
+) -> Option<String> {
+    let Some(asked) = asked else {
+        return None;
+    };
+    let text = asked_text(alloc, &asked);
+    let Ok(()) = lists.push(asked) else {
+        return None;
+    };
+    text
 }
 
-/// Keeps a parcel, and gives its text.
+/// Keeps a parcel, where there is one, and gives its text.
 pub(crate) fn keep_parcel(
     alloc: Global,
     parcels: &mut Vec<Parcel>,
-    parcel: Parcel,
+    parcel: Option<Parcel>,
 ) -> Option<String> {
-    parcels.push(parcel).ok()?;
-    parcel_text(alloc, parcels.last()?)
+    let Some(parcel) = parcel else {
+        return None;
+    };
+    let text = parcel_text(alloc, &parcel);
+    let Ok(()) = parcels.push(parcel) else {
+        return None;
+    };
+    text
 }
 
 /// Makes lists of calls on a bench of their own, with databases of these uuids, and asserts what each answers.
@@ -291,12 +330,14 @@ pub(crate) fn parent_of(text: &str) -> Option<Option<Rev>> {
     if text.is_empty() {
         return Some(None);
     }
-    Some(Some(rev(text)?))
+    rev(text).map(Some)
 }
 
 /// Puts a document.
 fn put(alloc: Global, db: &mut Database, text: &str) -> Option<String> {
-    let doc = doc(alloc, text)?;
+    let Some(doc) = doc(alloc, text) else {
+        return None;
+    };
     put_text(alloc, db.put(&doc, Origin::Local(0)))
 }
 
@@ -310,16 +351,24 @@ fn edit(
     text: &str,
     number: u64,
 ) -> Option<String> {
-    let id = DocId::parse(alloc, id).ok()?;
-    let parent = parent_of(parent)?;
-    let body = body(alloc, text)?;
+    let Ok(id) = DocId::parse(alloc, id) else {
+        return None;
+    };
+    let Some(parent) = parent_of(parent) else {
+        return None;
+    };
+    let Some(body) = body(alloc, text) else {
+        return None;
+    };
     let answer = db.edit(&id, parent, deleted, &body, Origin::Local(number));
     edit_text(alloc, answer)
 }
 
 /// Reads the tree of a document.
 pub(crate) fn tree(alloc: Global, db: &Database, id: &str) -> Option<String> {
-    let id = DocId::parse(alloc, id).ok()?;
+    let Ok(id) = DocId::parse(alloc, id) else {
+        return None;
+    };
     match db.tree(&id) {
         Some(tree) => tree_text(alloc, tree),
         None => "no document".to_string(alloc).ok(),
@@ -328,15 +377,27 @@ pub(crate) fn tree(alloc: Global, db: &Database, id: &str) -> Option<String> {
 
 /// Reads a revision of a document.
 pub(crate) fn node(alloc: Global, db: &Database, id: &str, text: &str) -> Option<String> {
-    let id = DocId::parse(alloc, id).ok()?;
-    node_text(alloc, db.tree(&id)?, rev(text)?)
+    let Ok(id) = DocId::parse(alloc, id) else {
+        return None;
+    };
+    match (db.tree(&id), rev(text)) {
+        (Some(tree), Some(rev)) => node_text(alloc, tree, rev),
+        _ => None,
+    }
 }
 
 /// Reads the document at a revision.
-fn document(alloc: Global, db: &Database, id: &str, rev: Rev) -> Option<String> {
-    let id = DocId::parse(alloc, id).ok()?;
-    let found = db.document(alloc, &id, rev).ok()?;
-    content_text(alloc, found)
+fn document(alloc: Global, db: &Database, id: &str, text: &str) -> Option<String> {
+    let Ok(id) = DocId::parse(alloc, id) else {
+        return None;
+    };
+    let Some(rev) = rev(text) else {
+        return None;
+    };
+    match db.document(alloc, &id, rev) {
+        Ok(found) => content_text(alloc, found),
+        Err(_) => None,
+    }
 }
 
 /// A document, where there is one.

@@ -12,7 +12,9 @@ use test_texts::rev_text;
 
 /// The signature of a number: its digits.
 fn sig(alloc: Global, number: u32) -> Option<Sig> {
-    let text = number.to_string(alloc).ok()?;
+    let Ok(text) = number.to_string(alloc) else {
+        return None;
+    };
     Sig::parse(text.as_bytes()).ok()
 }
 
@@ -20,29 +22,49 @@ fn sig(alloc: Global, number: u32) -> Option<Sig> {
 fn sigs(alloc: Global, length: u32) -> Option<Vec<Sig>> {
     let mut sigs = Vec::new(alloc);
     for number in 0..length {
-        sigs.push(sig(alloc, number)?).ok()?;
+        let Some(sig) = sig(alloc, number) else {
+            return None;
+        };
+        let Ok(()) = sigs.push(sig) else {
+            return None;
+        };
     }
     Some(sigs)
 }
 
 /// The document d at an ancestry from a generation down, with an empty body.
 fn doc(alloc: Global, start: u32, sigs: &[Sig]) -> Option<Doc> {
-    let id = DocId::parse(alloc, "d").ok()?;
-    let ancestry = Ancestry::from_parts(alloc, start, sigs).ok()?;
-    Some(Doc::new(id, ancestry, false, body(alloc, "{}")?))
+    let Ok(id) = DocId::parse(alloc, "d") else {
+        return None;
+    };
+    let Ok(ancestry) = Ancestry::from_parts(alloc, start, sigs) else {
+        return None;
+    };
+    let Some(body) = body(alloc, "{}") else {
+        return None;
+    };
+    Some(Doc::new(id, ancestry, false, body))
 }
 
 /// Loads d with an ancestry of so many revisions, down to the generation 1.
 pub(crate) fn load_long(alloc: Global, peer: &mut Peer<Rules>, length: u32) -> Option<String> {
-    let sigs = sigs(alloc, length)?;
-    let doc = doc(alloc, length, &sigs)?;
+    let Some(sigs) = sigs(alloc, length) else {
+        return None;
+    };
+    let Some(doc) = doc(alloc, length, &sigs) else {
+        return None;
+    };
     put_text(alloc, peer.load(&doc))
 }
 
 /// Loads d at the signature of a number, of the generation 1.
 fn load_leaf(alloc: Global, peer: &mut Peer<Rules>, number: u32) -> Option<String> {
-    let sig = sig(alloc, number)?;
-    let doc = doc(alloc, 1, &[sig])?;
+    let Some(sig) = sig(alloc, number) else {
+        return None;
+    };
+    let Some(doc) = doc(alloc, 1, &[sig]) else {
+        return None;
+    };
     put_text(alloc, peer.load(&doc))
 }
 
@@ -50,54 +72,87 @@ fn load_leaf(alloc: Global, peer: &mut Peer<Rules>, number: u32) -> Option<Strin
 pub(crate) fn load_wide(alloc: Global, peer: &mut Peer<Rules>, leaves: u32) -> Option<String> {
     let mut text = String::new(alloc);
     for number in 0..leaves {
-        text = load_leaf(alloc, peer, number)?;
+        let Some(answer) = load_leaf(alloc, peer, number) else {
+            return None;
+        };
+        text = answer;
     }
     Some(text)
 }
 
 /// A body of so many letters x.
 fn letters_body(alloc: Global, letters: usize) -> Option<Body> {
-    let mut text = r#"{"t":""#.to_string(alloc).ok()?;
+    let Ok(mut text) = r#"{"t":""#.to_string(alloc) else {
+        return None;
+    };
     for _ in 0..letters {
-        text.push('x').ok()?;
+        let Ok(()) = text.push('x') else {
+            return None;
+        };
     }
-    text.push_str(r#""}"#).ok()?;
+    let Ok(()) = text.push_str(r#""}"#) else {
+        return None;
+    };
     body(alloc, text.as_str())
 }
 
 /// Makes d by an edit, with a body of so many letters x.
 pub(crate) fn edit_large(alloc: Global, peer: &mut Peer<Rules>, letters: usize) -> Option<String> {
-    let body = letters_body(alloc, letters)?;
-    let id = DocId::parse(alloc, "d").ok()?;
+    let Some(body) = letters_body(alloc, letters) else {
+        return None;
+    };
+    let Ok(id) = DocId::parse(alloc, "d") else {
+        return None;
+    };
     edit_text(alloc, peer.edit(&id, None, false, &body))
 }
 
 /// Reads how large the tree of d is: the winner, the leaves, the revisions, the winner's ancestry and the length of its
 /// body.
 pub(crate) fn sizes(alloc: Global, peer: &Peer<Rules>) -> Option<String> {
-    let id = DocId::parse(alloc, "d").ok()?;
-    tree_sizes(alloc, peer.db().tree(&id)?)
+    let Ok(id) = DocId::parse(alloc, "d") else {
+        return None;
+    };
+    match peer.db().tree(&id) {
+        Some(tree) => tree_sizes(alloc, tree),
+        None => None,
+    }
 }
 
 /// How many leaves a tree lists.
 fn leaf_count(alloc: Global, tree: &Tree) -> Option<usize> {
-    let leaves = tree.leaves(alloc).ok()?;
+    let Ok(leaves) = tree.leaves(alloc) else {
+        return None;
+    };
     Some(leaves.as_slice().len())
 }
 
 /// How many revisions the ancestry of a revision has.
 fn walk_length(alloc: Global, tree: &Tree, rev: Rev) -> Option<usize> {
-    let walk = tree.ancestry(alloc, rev).ok()?;
+    let Ok(walk) = tree.ancestry(alloc, rev) else {
+        return None;
+    };
     Some(walk.revs().len())
 }
 
 /// Reads how large a tree is.
 fn tree_sizes(alloc: Global, tree: &Tree) -> Option<String> {
-    let winner = tree.winner()?;
-    let leaves = leaf_count(alloc, tree)?;
-    let walk = walk_length(alloc, tree, winner)?;
-    let body = tree.content(winner)?.body().len();
-    let text = rev_text(alloc, winner)?;
+    let Some(winner) = tree.winner() else {
+        return None;
+    };
+    let Some(leaves) = leaf_count(alloc, tree) else {
+        return None;
+    };
+    let Some(walk) = walk_length(alloc, tree, winner) else {
+        return None;
+    };
+    let Some(content) = tree.content(winner) else {
+        return None;
+    };
+    let body = content.body().len();
+    let Some(text) = rev_text(alloc, winner) else {
+        return None;
+    };
     format!(in alloc;
         "{text} of {leaves} leaves and {} revs, walk {walk}, body {body}",
         tree.rev_count()
@@ -113,7 +168,10 @@ pub(crate) fn replicate(
     session: SessionId,
     batch: u64,
 ) -> Option<String> {
-    match replicate_alone(alloc, source, target, &plan(session, batch, 0)?) {
+    let Some(plan) = plan(session, batch, 0) else {
+        return None;
+    };
+    match replicate_alone(alloc, source, target, &plan) {
         Ok(report) => report_text(alloc, report),
         Err(fault) => fault_text(alloc, fault),
     }

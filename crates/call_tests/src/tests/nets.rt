@@ -4,7 +4,8 @@ use crate::tests::databases::{parent_of, tree};
 use crate::tests::peers::found_text;
 use crate::tests::plans::plan;
 use crate::tests::records::fault_text;
-use crate::tests::texts::{append, base_fault_text, body, doc, expect_answer};
+use crate::tests::texts::{base_fault_text, body, doc, expect_answer, joined};
+use couch_base::Database;
 use doc_json::DocId;
 use repl_net::{Hop, Net, NetFault, edit_at, load_at, replicate_along, sync_by_hub};
 use repl_target::{Peer, Plan, Rules};
@@ -71,8 +72,10 @@ impl Bench {
     fn read(&self, call: &Call) -> Option<String> {
         match *call {
             Call::Audit(source, target) => self.audit(source, target),
-            Call::Tree(place, id) => tree(self.alloc, self.net.peer(place)?.db(), id),
-            Call::Leaves(place, id) => leaves(self.alloc, self.net.peer(place)?.db(), id),
+            Call::Tree(place, _) | Call::Leaves(place, _) => match self.net.peer(place) {
+                Some(peer) => of_database(self.alloc, peer.db(), call),
+                None => None,
+            },
             _ => None,
         }
     }
@@ -80,7 +83,12 @@ impl Bench {
     /// Adds a peer, and tells its place.
     fn add(&mut self, uuid: u128, deny: Option<&str>) -> Option<String> {
         let deny = match deny {
-            Some(prefix) => Some(prefix.to_string(self.alloc).ok()?),
+            Some(prefix) => {
+                let Ok(prefix) = prefix.to_string(self.alloc) else {
+                    return None;
+                };
+                Some(prefix)
+            }
             None => None,
         };
         match self.net.add(self.alloc, uuid, Rules { deny }) {
@@ -91,7 +99,9 @@ impl Bench {
 
     /// Loads a document.
     fn load(&mut self, place: usize, text: &str) -> Option<String> {
-        let doc = doc(self.alloc, text)?;
+        let Some(doc) = doc(self.alloc, text) else {
+            return None;
+        };
         match self.net.load(place, &doc) {
             Ok(put) => shown(self.alloc, &put),
             Err(fault) => net_fault_text(self.alloc, fault),
@@ -100,9 +110,15 @@ impl Bench {
 
     /// Edits a document.
     fn edit(&mut self, place: usize, id: &str, parent: &str, text: &str) -> Option<String> {
-        let id = DocId::parse(self.alloc, id).ok()?;
-        let parent = parent_of(parent)?;
-        let body = body(self.alloc, text)?;
+        let Ok(id) = DocId::parse(self.alloc, id) else {
+            return None;
+        };
+        let Some(parent) = parent_of(parent) else {
+            return None;
+        };
+        let Some(body) = body(self.alloc, text) else {
+            return None;
+        };
         match self.net.edit(place, &id, parent, false, &body) {
             Ok(rev) => rev_text(self.alloc, rev),
             Err(fault) => net_fault_text(self.alloc, fault),
@@ -113,7 +129,9 @@ impl Bench {
     fn next_plan(&mut self, stop_after: Option<u64>) -> Option<Plan> {
         self.session = self.session.saturating_add(1);
         let batch = if stop_after.is_some() { 1 } else { 500 };
-        let mut plan = plan(SessionId(self.session), batch, 0)?;
+        let Some(mut plan) = plan(SessionId(self.session), batch, 0) else {
+            return None;
+        };
         plan.stop_after = stop_after;
         Some(plan)
     }
@@ -122,7 +140,12 @@ impl Bench {
     fn plans(&mut self, count: usize) -> Option<Vec<Plan>> {
         let mut plans = Vec::new(self.alloc);
         for _ in 0..count {
-            plans.push(self.next_plan(None)?).ok()?;
+            let Some(plan) = self.next_plan(None) else {
+                return None;
+            };
+            let Ok(()) = plans.push(plan) else {
+                return None;
+            };
         }
         Some(plans)
     }
@@ -131,9 +154,13 @@ impl Bench {
     fn along(&mut self, places: &[Places], stop_after: Option<u64>) -> Option<String> {
         let mut hops = Vec::new(self.alloc);
         for (from, to) in places {
-            let plan = self.next_plan(stop_after)?;
+            let Some(plan) = self.next_plan(stop_after) else {
+                return None;
+            };
             let (from, to) = (*from, *to);
-            hops.push(Hop { from, to, plan }).ok()?;
+            let Ok(()) = hops.push(Hop { from, to, plan }) else {
+                return None;
+            };
         }
         let done = self.net.replicate_along(self.alloc, &hops);
         done_text(self.alloc, done)
@@ -141,8 +168,12 @@ impl Bench {
 
     /// Replicates by the hub.
     fn by_hub(&mut self, there: usize, back: usize) -> Option<String> {
-        let there = self.plans(there)?;
-        let back = self.plans(back)?;
+        let Some(there) = self.plans(there) else {
+            return None;
+        };
+        let Some(back) = self.plans(back) else {
+            return None;
+        };
         let done = self.net.sync_by_hub(self.alloc, &there, &back);
         done_text(self.alloc, done)
     }
@@ -153,6 +184,15 @@ impl Bench {
             Ok(found) => found_text(self.alloc, Ok(found)),
             Err(fault) => net_fault_text(self.alloc, fault),
         }
+    }
+}
+
+/// Reads the tree of a document, or the documents at its leaves.
+fn of_database(alloc: Global, db: &Database, call: &Call) -> Option<String> {
+    match *call {
+        Call::Tree(_, id) => tree(alloc, db, id),
+        Call::Leaves(_, id) => leaves(alloc, db, id),
+        _ => None,
     }
 }
 
@@ -168,9 +208,7 @@ fn done_text(alloc: Global, done: Result<(), NetFault>) -> Option<String> {
 pub(crate) fn net_fault_text(alloc: Global, fault: NetFault) -> Option<String> {
     match fault {
         NetFault::Hop(at, why) => {
-            let mut all = format!(in alloc; "hop {at}: ").ok()?;
-            append(&mut all, fault_text(alloc, why))?;
-            Some(all)
+            joined(format!(in alloc; "hop {at}: ").ok(), fault_text(alloc, why))
         }
         NetFault::Write(why) => base_fault_text(alloc, why),
         plain => shown(alloc, &plain),
@@ -195,48 +233,84 @@ pub(crate) fn expect(rt: &impl Abort, alloc: Global, lists: Lists) {
 fn three(alloc: Global) -> Option<Vec<Peer<Rules>>> {
     let mut peers = Vec::new(alloc);
     for uuid in 1..4u64 {
-        peers
-            .push(Peer::new(alloc, uuid as u128, Rules { deny: None }))
-            .ok()?;
+        let peer = Peer::new(alloc, uuid as u128, Rules { deny: None });
+        let Ok(()) = peers.push(peer) else {
+            return None;
+        };
     }
     Some(peers)
 }
 
 /// Writes at two of them.
 fn write(alloc: Global, peers: &mut [Peer<Rules>]) -> Option<()> {
-    let doc = doc(alloc, r#"{"_id":"d","_rev":"1-a"}"#)?;
-    load_at(peers, 1, &doc).ok()?;
-    let id = DocId::parse(alloc, "e").ok()?;
-    let body = body(alloc, "{}")?;
-    let _rev = edit_at(peers, 2, &id, None, false, &body).ok()?;
+    let Some(doc) = doc(alloc, r#"{"_id":"d","_rev":"1-a"}"#) else {
+        return None;
+    };
+    let Ok(_put) = load_at(peers, 1, &doc) else {
+        return None;
+    };
+    let Ok(id) = DocId::parse(alloc, "e") else {
+        return None;
+    };
+    let Some(body) = body(alloc, "{}") else {
+        return None;
+    };
+    let Ok(_rev) = edit_at(peers, 2, &id, None, false, &body) else {
+        return None;
+    };
     Some(())
+}
+
+/// The plans of a session and the next.
+fn two_plans(session: u128) -> Option<[Plan; 2]> {
+    let Some(one) = plan(SessionId(session), 500, 0) else {
+        return None;
+    };
+    let Some(other) = plan(SessionId(session.saturating_add(1)), 500, 0) else {
+        return None;
+    };
+    Some([one, other])
 }
 
 /// Replicates the second into the third, and then all by the first.
 fn replicate(alloc: Global, peers: &mut [Peer<Rules>]) -> Option<()> {
-    let plan = |session| plan(SessionId(session), 500, 0);
+    let Some(first) = plan(SessionId(1), 500, 0) else {
+        return None;
+    };
     let hop = Hop {
         from: 1,
         to: 2,
-        plan: plan(1)?,
+        plan: first,
     };
-    replicate_along(alloc, peers, &[hop]).ok()?;
-    let there = [plan(2)?, plan(3)?];
-    let back = [plan(4)?, plan(5)?];
+    let Ok(()) = replicate_along(alloc, peers, &[hop]) else {
+        return None;
+    };
+    let Some(there) = two_plans(2) else {
+        return None;
+    };
+    let Some(back) = two_plans(4) else {
+        return None;
+    };
     sync_by_hub(alloc, peers, &there, &back).ok()
 }
 
 /// What each of three peers that wrote and replicated has of the two documents.
 fn replicated(alloc: Global) -> Option<String> {
-    let mut peers = three(alloc)?;
-    write(alloc, &mut peers)?;
-    replicate(alloc, &mut peers)?;
-    let mut all = String::new(alloc);
+    let Some(mut peers) = three(alloc) else {
+        return None;
+    };
+    let Some(()) = write(alloc, &mut peers) else {
+        return None;
+    };
+    let Some(()) = replicate(alloc, &mut peers) else {
+        return None;
+    };
+    let mut all = Some(String::new(alloc));
     for peer in &peers {
-        append(&mut all, leaves(alloc, peer.db(), "d"))?;
-        append(&mut all, leaves(alloc, peer.db(), "e"))?;
+        all = joined(all, leaves(alloc, peer.db(), "d"));
+        all = joined(all, leaves(alloc, peer.db(), "e"));
     }
-    Some(all)
+    all
 }
 
 /// Asserts what writes and replications on a slice of peers leave.

@@ -166,12 +166,12 @@ impl Bench {
             Call::Peer(uuid, deny) => make(self.alloc, &mut self.peers, uuid, deny),
             Call::PeerAt(uuid, deny, seq) => make_at(self.alloc, &mut self.peers, uuid, deny, seq),
             Call::Backup(at) => {
-                backups::back_up(self.alloc, self.peers.get(at)?, &mut self.backups)
+                backups::back_up(self.alloc, self.peers.get(at), &mut self.backups)
             }
-            Call::Restore(at, backup) => backups::restore(
+            Call::Restore(at, backup) => backups::restore_at(
                 self.alloc,
-                self.peers.get_mut(at)?,
-                self.backups.get(backup)?,
+                self.peers.get_mut(at),
+                self.backups.get(backup),
             ),
             other => self.answer_of(place_of(&other), &other),
         }
@@ -179,9 +179,12 @@ impl Bench {
 
     /// Makes a call on the peer of a place, or on two peers.
     fn answer_of(&mut self, place: Option<usize>, call: &Call) -> Option<String> {
-        match place {
-            Some(at) => of_one(self.alloc, self.peers.get_mut(at)?, &mut self.held, call),
-            None => of_two(self.alloc, &mut self.peers, call),
+        let Some(at) = place else {
+            return of_two(self.alloc, &mut self.peers, call);
+        };
+        match self.peers.get_mut(at) {
+            Some(peer) => of_one(self.alloc, peer, &mut self.held, call),
+            None => None,
         }
     }
 }
@@ -225,10 +228,10 @@ fn of_one(alloc: Global, peer: &mut Peer<Rules>, held: &mut Held, call: &Call) -
         Call::Diff(_, window) => diff(alloc, peer, held, window),
         Call::Fetch(_, asked) => fetch(alloc, peer, held, asked),
         Call::Append(_, session, window) => {
-            append(alloc, peer, session, held.windows.get(window)?)
+            append(alloc, peer, session, held.windows.get(window))
         }
         Call::Settle(_, session, parcel) => {
-            settle(alloc, peer, session, held.parcels.get(parcel)?)
+            settle(alloc, peer, session, held.parcels.get(parcel))
         }
         other => of_one_alone(alloc, peer, &other),
     }
@@ -263,7 +266,7 @@ fn read(alloc: Global, peer: &Peer<Rules>, call: &Call) -> Option<String> {
         Call::Covered(_, id, rev) => covered(alloc, peer, id, rev),
         Call::Sizes(_) => large::sizes(alloc, peer),
         Call::Entry(_, session) => entry(alloc, peer, session),
-        Call::Windows(_, session) => stored_text(alloc, peer.windows(session)?),
+        Call::Windows(_, session) => windows(alloc, peer, session),
         Call::TargetLog(_, rep) => target_log(alloc, peer, &rep.id()),
         Call::SourceLog(_, rep) => source_log(alloc, peer, &rep.id()),
         _ => None,
@@ -280,7 +283,10 @@ fn of_two(alloc: Global, peers: &mut Vec<Peer<Rules>>, call: &Call) -> Option<St
         | Call::Audit(source, target)
         | Call::CheckPlan(source, target, _)
         | Call::HoleAbove(source, target, _) => {
-            compare(alloc, peers.get(source)?, peers.get(target)?, call)
+            match (peers.get(source), peers.get(target)) {
+                (Some(source), Some(target)) => compare(alloc, source, target, call),
+                _ => None,
+            }
         }
         _ => of_first_two(alloc, peers, call),
     }
@@ -306,8 +312,12 @@ fn compare(
 
 /// Makes a call on the first peer, as the source, and the second one.
 fn of_first_two(alloc: Global, peers: &mut Vec<Peer<Rules>>, call: &Call) -> Option<String> {
-    let (source, others) = peers.split_first_mut()?;
-    let target = others.first_mut()?;
+    let Some((source, others)) = peers.split_first_mut() else {
+        return None;
+    };
+    let Some(target) = others.first_mut() else {
+        return None;
+    };
     match *call {
         Call::BeginPlan(session, moment) => plans::begin(alloc, source, target, session, moment),
         Call::RecordAtSource(session) => plans::record(alloc, source, target, session),
@@ -323,8 +333,10 @@ pub(crate) fn make(
     uuid: u128,
     deny: Option<&str>,
 ) -> Option<String> {
-    let peer = Peer::new(alloc, uuid, rules(alloc, deny)?);
-    made_text(alloc, peers.push(peer).ok())
+    let Some(rules) = rules(alloc, deny) else {
+        return None;
+    };
+    made_text(alloc, peers.push(Peer::new(alloc, uuid, rules)).ok())
 }
 
 /// Makes the next peer, with a database at a sequence.
@@ -335,7 +347,10 @@ fn make_at(
     deny: Option<&str>,
     seq: u64,
 ) -> Option<String> {
-    match Peer::new_at(alloc, uuid, rules(alloc, deny)?, seq) {
+    let Some(rules) = rules(alloc, deny) else {
+        return None;
+    };
+    match Peer::new_at(alloc, uuid, rules, seq) {
         Ok(peer) => made_text(alloc, peers.push(peer).ok()),
         Err(fault) => base_fault_text(alloc, fault),
     }
@@ -357,8 +372,10 @@ fn page(
 
 /// Asks a peer for what it misses of a window.
 fn diff(alloc: Global, peer: &Peer<Rules>, held: &mut Held, window: usize) -> Option<String> {
-    let asked = missed(alloc, peer, held.windows.get(window)?)?;
-    keep_asked(alloc, &mut held.asked, asked)
+    let Some(window) = held.windows.get(window) else {
+        return None;
+    };
+    keep_asked(alloc, &mut held.asked, missed(alloc, peer, window))
 }
 
 /// What a peer misses of a window.
@@ -368,8 +385,10 @@ fn missed(alloc: Global, peer: &Peer<Rules>, window: &Window) -> Option<Asked> {
 
 /// Fetches an asked list.
 fn fetch(alloc: Global, peer: &Peer<Rules>, held: &mut Held, asked: usize) -> Option<String> {
-    let parcel = fetched(alloc, peer, held.asked.get(asked)?)?;
-    keep_parcel(alloc, &mut held.parcels, parcel)
+    let Some(asked) = held.asked.get(asked) else {
+        return None;
+    };
+    keep_parcel(alloc, &mut held.parcels, fetched(alloc, peer, asked))
 }
 
 /// What a peer answers to an asked list.
@@ -377,27 +396,39 @@ fn fetched(alloc: Global, peer: &Peer<Rules>, asked: &Asked) -> Option<Parcel> {
     peer.open_revs(alloc, asked).ok()
 }
 
-/// Appends a copy of a window.
+/// Appends a copy of a window, where there is one.
 fn append(
     alloc: Global,
     peer: &mut Peer<Rules>,
     session: SessionId,
-    window: &Window,
+    window: Option<&Window>,
 ) -> Option<String> {
-    match peer.append(session, window.copy(alloc).ok()?) {
+    let Some(window) = window else {
+        return None;
+    };
+    let Ok(copy) = window.copy(alloc) else {
+        return None;
+    };
+    match peer.append(session, copy) {
         Ok(()) => "appended".to_string(alloc).ok(),
         Err(fault) => fault_text(alloc, fault),
     }
 }
 
-/// Settles a copy of a parcel.
+/// Settles a copy of a parcel, where there is one.
 fn settle(
     alloc: Global,
     peer: &mut Peer<Rules>,
     session: SessionId,
-    parcel: &Parcel,
+    parcel: Option<&Parcel>,
 ) -> Option<String> {
-    match peer.settle(session, parcel.copy(alloc).ok()?) {
+    let Some(parcel) = parcel else {
+        return None;
+    };
+    let Ok(copy) = parcel.copy(alloc) else {
+        return None;
+    };
+    match peer.settle(session, copy) {
         Ok(settled) => settled_text(alloc, settled),
         Err(fault) => fault_text(alloc, fault),
     }
@@ -412,8 +443,16 @@ fn put_of(
     target: usize,
     session: SessionId,
 ) -> Option<String> {
-    let entry = peers.get(target)?.entry(session).ok()?;
-    put(alloc, peers.get_mut(at)?, rep, entry)
+    let Some(target) = peers.get(target) else {
+        return None;
+    };
+    let Ok(entry) = target.entry(session) else {
+        return None;
+    };
+    let Some(source) = peers.get_mut(at) else {
+        return None;
+    };
+    put(alloc, source, rep, entry)
 }
 
 /// Compares the logs of a replication at its source and its target.
@@ -423,20 +462,28 @@ pub(crate) fn agreed(
     target: &Peer<Rules>,
     rep: &RepId,
 ) -> Option<String> {
-    let outgoing = source.source_log(alloc, rep).ok()?;
-    let incoming = target.target_log(alloc, rep).ok()?;
+    let Ok(outgoing) = source.source_log(alloc, rep) else {
+        return None;
+    };
+    let Ok(incoming) = target.target_log(alloc, rep) else {
+        return None;
+    };
     common_text(alloc, &outgoing, &incoming)
 }
 
 /// Reads the log of a replication into a peer.
 pub(crate) fn target_log(alloc: Global, peer: &Peer<Rules>, rep: &RepId) -> Option<String> {
-    let log = peer.target_log(alloc, rep).ok()?;
+    let Ok(log) = peer.target_log(alloc, rep) else {
+        return None;
+    };
     log_text(alloc, &log)
 }
 
 /// Reads the log of a replication from a peer.
 pub(crate) fn source_log(alloc: Global, peer: &Peer<Rules>, rep: &RepId) -> Option<String> {
-    let log = peer.source_log(alloc, rep).ok()?;
+    let Ok(log) = peer.source_log(alloc, rep) else {
+        return None;
+    };
     log_text(alloc, &log)
 }
 
@@ -451,9 +498,10 @@ pub(crate) fn expect(rt: &impl Abort, alloc: Global, lists: &[Rows]) {
 /// The filter that refuses a prefix.
 fn rules(alloc: Global, deny: Option<&str>) -> Option<Rules> {
     match deny {
-        Some(prefix) => Some(Rules {
-            deny: Some(prefix.to_string(alloc).ok()?),
-        }),
+        Some(prefix) => match prefix.to_string(alloc) {
+            Ok(prefix) => Some(Rules { deny: Some(prefix) }),
+            Err(_) => None,
+        },
         None => Some(Rules { deny: None }),
     }
 }
@@ -469,7 +517,9 @@ pub(crate) fn found_text(alloc: Global, found: Result<Audit, AllocError>) -> Opt
 
 /// Loads a document.
 pub(crate) fn load(alloc: Global, peer: &mut Peer<Rules>, text: &str) -> Option<String> {
-    let doc = doc(alloc, text)?;
+    let Some(doc) = doc(alloc, text) else {
+        return None;
+    };
     put_text(alloc, peer.load(&doc))
 }
 
@@ -482,9 +532,15 @@ fn edit(
     deleted: bool,
     text: &str,
 ) -> Option<String> {
-    let id = DocId::parse(alloc, id).ok()?;
-    let parent = parent_of(parent)?;
-    let body = body(alloc, text)?;
+    let Ok(id) = DocId::parse(alloc, id) else {
+        return None;
+    };
+    let Some(parent) = parent_of(parent) else {
+        return None;
+    };
+    let Some(body) = body(alloc, text) else {
+        return None;
+    };
     edit_text(alloc, peer.edit(&id, parent, deleted, &body))
 }
 
@@ -496,7 +552,9 @@ fn begin(
     how: Beginning,
     moment: u64,
 ) -> Option<String> {
-    let at = Moment::new(moment).ok()?;
+    let Ok(at) = Moment::new(moment) else {
+        return None;
+    };
     let scope = Scope {
         rep: how.rep.id(),
         life: 0,
@@ -520,7 +578,9 @@ fn record(
     session: SessionId,
     moment: u64,
 ) -> Option<String> {
-    let at = Moment::new(moment).ok()?;
+    let Ok(at) = Moment::new(moment) else {
+        return None;
+    };
     match peer.record(session, at) {
         Ok(recorded) => shown(alloc, &recorded),
         Err(fault) => fault_text(alloc, fault),
@@ -534,7 +594,9 @@ fn conclude(
     session: SessionId,
     moment: u64,
 ) -> Option<String> {
-    let at = Moment::new(moment).ok()?;
+    let Ok(at) = Moment::new(moment) else {
+        return None;
+    };
     match peer.conclude(session, at) {
         Ok(report) => report_text(alloc, report),
         Err(fault) => fault_text(alloc, fault),
@@ -549,7 +611,9 @@ fn put_entry(
     session: SessionId,
     recorded: u64,
 ) -> Option<String> {
-    let at = Moment::new(10).ok()?;
+    let Ok(at) = Moment::new(10) else {
+        return None;
+    };
     put(alloc, peer, rep, bare_entry(session, recorded, at))
 }
 
@@ -571,12 +635,27 @@ pub(crate) fn entry(alloc: Global, peer: &Peer<Rules>, session: SessionId) -> Op
 
 /// Asks the filter for its verdict on a document.
 fn verdict(alloc: Global, peer: &Peer<Rules>, text: &str) -> Option<String> {
-    let doc = doc(alloc, text)?;
+    let Some(doc) = doc(alloc, text) else {
+        return None;
+    };
     shown(alloc, &peer.filter().verdict(&doc))
 }
 
 /// Asks whether a revision of a document is covered.
 fn covered(alloc: Global, peer: &Peer<Rules>, id: &str, text: &str) -> Option<String> {
-    let id = DocId::parse(alloc, id).ok()?;
-    shown(alloc, &peer.covered(&id, rev(text)?))
+    let Ok(id) = DocId::parse(alloc, id) else {
+        return None;
+    };
+    let Some(rev) = rev(text) else {
+        return None;
+    };
+    shown(alloc, &peer.covered(&id, rev))
+}
+
+/// Reads the windows that a session stores.
+fn windows(alloc: Global, peer: &Peer<Rules>, session: SessionId) -> Option<String> {
+    match peer.windows(session) {
+        Some(windows) => stored_text(alloc, windows),
+        None => None,
+    }
 }

@@ -8,12 +8,15 @@ use test_texts::shown;
 
 /// The plan of a session with windows of some rows at most, at a moment.
 pub(crate) fn plan(session: SessionId, batch: u64, moment: u64) -> Option<Plan> {
+    let Ok(at) = Moment::new(moment) else {
+        return None;
+    };
     Some(Plan {
         session,
         workers: 1,
         batch,
         stop_after: None,
-        at: Moment::new(moment).ok()?,
+        at,
         chosen: None,
     })
 }
@@ -26,7 +29,10 @@ pub(crate) fn check(
     batch: u64,
 ) -> Option<String> {
     let (source, target) = (source.db().uuid(), target.db().uuid());
-    match check_plan(source, target, &plan(SessionId(1), batch, 0)?) {
+    let Some(plan) = plan(SessionId(1), batch, 0) else {
+        return None;
+    };
+    match check_plan(source, target, &plan) {
         Ok(()) => "can begin".to_string(alloc).ok(),
         Err(fault) => fault_text(alloc, fault),
     }
@@ -40,7 +46,10 @@ pub(crate) fn begin(
     session: SessionId,
     moment: u64,
 ) -> Option<String> {
-    match begin_plan(source, target, &plan(session, 500, moment)?) {
+    let Some(plan) = plan(session, 500, moment) else {
+        return None;
+    };
+    match begin_plan(source, target, &plan) {
         Ok(start) => shown(alloc, &start),
         Err(fault) => fault_text(alloc, fault),
     }
@@ -53,9 +62,15 @@ pub(crate) fn record(
     target: &Peer<Rules>,
     session: SessionId,
 ) -> Option<String> {
-    let plan = plan(session, 500, 0)?;
+    let Some(plan) = plan(session, 500, 0) else {
+        return None;
+    };
     // The call asks for a session that the target holds.
-    let _windows = target.windows(plan.session)?;
-    record_at_source(source, target, &plan).ok()?;
+    let Some(_windows) = target.windows(plan.session) else {
+        return None;
+    };
+    let Ok(()) = record_at_source(source, target, &plan) else {
+        return None;
+    };
     "recorded".to_string(alloc).ok()
 }

@@ -176,10 +176,18 @@ fn board_for_four(alloc: Global, workers: usize) -> Option<(Board, Vec<BoardSeat
     let Ok((board, mut seats)) = Board::new(alloc, workers, 4) else {
         return None;
     };
-    let d = take_seat(&board, &mut seats)?;
-    let c = take_seat(&board, &mut seats)?;
-    let b = take_seat(&board, &mut seats)?;
-    let a = take_seat(&board, &mut seats)?;
+    let Some(d) = take_seat(&board, &mut seats) else {
+        return None;
+    };
+    let Some(c) = take_seat(&board, &mut seats) else {
+        return None;
+    };
+    let Some(b) = take_seat(&board, &mut seats) else {
+        return None;
+    };
+    let Some(a) = take_seat(&board, &mut seats) else {
+        return None;
+    };
     if seats.len() > workers {
         return None;
     }

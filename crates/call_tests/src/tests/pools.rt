@@ -7,7 +7,7 @@ use crate::tests::carried::{leaves, refused};
 use crate::tests::databases::tree;
 use crate::tests::peers::{Rep, entry, found_text, load, make, source_log, target_log};
 use crate::tests::records::{fault_text, report_text};
-use crate::tests::texts::{expect_answer, place_text};
+use crate::tests::texts::{expect_answer, joined, place_text};
 use progress_board::{Board, BoardSeat};
 use repl_log::{Moment, RepId, common};
 use repl_pool::{Gate, Open, PoolFault, Progress, Ran, run, run_on};
@@ -111,8 +111,10 @@ impl Bench {
         match *call {
             Call::Peer(uuid, deny) => make(self.alloc, &mut self.peers, uuid, deny),
             Call::Common(source, target, _) | Call::Audit(source, target) => {
-                let (source, target) = (self.peers.get(source)?, self.peers.get(target)?);
-                compare(self.alloc, source, target, call)
+                match (self.peers.get(source), self.peers.get(target)) {
+                    (Some(source), Some(target)) => compare(self.alloc, source, target, call),
+                    _ => None,
+                }
             }
             Call::Fill(at, _)
             | Call::Load(at, _)
@@ -121,14 +123,19 @@ impl Bench {
             | Call::Leaves(at, _)
             | Call::Refused(at, _, _)
             | Call::SourceLog(at, _)
-            | Call::TargetLog(at, _) => of_one(self.alloc, self.peers.get_mut(at)?, call),
+            | Call::TargetLog(at, _) => match self.peers.get_mut(at) {
+                Some(peer) => of_one(self.alloc, peer, call),
+                None => None,
+            },
             Call::Run(_, _, _) => None,
         }
     }
 
     /// How a run is planned.
     fn plan(&self, how: How) -> Option<Plan> {
-        let at = Moment::new(0).ok()?;
+        let Ok(at) = Moment::new(0) else {
+            return None;
+        };
         Some(Plan {
             session: how.session,
             workers: how.workers.unwrap_or(self.workers),
@@ -159,7 +166,9 @@ impl Bench {
         target: usize,
         how: How,
     ) -> Option<String> {
-        let plan = self.plan(how)?;
+        let Some(plan) = self.plan(how) else {
+            return None;
+        };
         let from = self.taken(rt, source);
         let into = self.taken(rt, target);
         let ran = ran(rt, self.alloc, from, into, &plan, gate);
@@ -177,7 +186,9 @@ impl Bench {
     ) -> Option<String>
         requires { All (WorksAt board.now) seats.items }
     {
-        let plan = self.plan(how)?;
+        let Some(plan) = self.plan(how) else {
+            return None;
+        };
         if seats.len() as u64 != plan.workers {
             return None;
         }
@@ -279,8 +290,15 @@ fn ended_text(
     outcome: Result<Report, PoolFault>,
     fetched: &[u64],
 ) -> Option<String> {
-    let text = outcome_text(alloc, outcome)?;
-    format!(in alloc; "{text}, fetched {}", sum_of(fetched)).ok()
+    joined(
+        outcome_text(alloc, outcome),
+        fetched_text(alloc, sum_of(fetched)),
+    )
+}
+
+/// How many documents were fetched.
+fn fetched_text(alloc: Global, fetched: u64) -> Option<String> {
+    format!(in alloc; ", fetched {fetched}").ok()
 }
 
 /// The sum of some counts.
@@ -304,15 +322,20 @@ fn outcome_text(alloc: Global, outcome: Result<Report, PoolFault>) -> Option<Str
 
 /// Loads the document of a number.
 fn load_number(alloc: Global, peer: &mut Peer<Rules>, number: u64) -> Option<String> {
-    let text = format!(in alloc; "{{\"_id\":\"d{number}\",\"_rev\":\"1-a\"}}").ok()?;
-    load(alloc, peer, text.as_str())
+    match format!(in alloc; "{{\"_id\":\"d{number}\",\"_rev\":\"1-a\"}}") {
+        Ok(text) => load(alloc, peer, text.as_str()),
+        Err(_) => None,
+    }
 }
 
 /// Loads so many documents of one revision each, and tells what the last load answers.
 fn fill(alloc: Global, peer: &mut Peer<Rules>, documents: u64) -> Option<String> {
     let mut text = String::new(alloc);
     for number in 0..documents {
-        text = load_number(alloc, peer, number)?;
+        let Some(answer) = load_number(alloc, peer, number) else {
+            return None;
+        };
+        text = answer;
     }
     Some(text)
 }
@@ -324,8 +347,12 @@ fn agreed(
     target: &Peer<Rules>,
     rep: &RepId,
 ) -> Option<String> {
-    let outgoing = source.source_log(alloc, rep).ok()?;
-    let incoming = target.target_log(alloc, rep).ok()?;
+    let Ok(outgoing) = source.source_log(alloc, rep) else {
+        return None;
+    };
+    let Ok(incoming) = target.target_log(alloc, rep) else {
+        return None;
+    };
     recorded_text(alloc, common(&outgoing, &incoming))
 }
 

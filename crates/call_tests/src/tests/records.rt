@@ -1,5 +1,5 @@
 //! Texts of what sessions say and refuse.
-use crate::tests::texts::{append, place_text};
+use crate::tests::texts::{joined, place_text};
 use couch_base::Brought;
 use repl_log::{Entry, Log, common};
 use repl_target::{Cause, Report, Settled, TargetFault};
@@ -14,10 +14,9 @@ pub(crate) fn settled_text(alloc: Global, settled: Settled) -> Option<String> {
 
 /// A report, as the program prints it.
 pub(crate) fn report_text(alloc: Global, report: Report) -> Option<String> {
-    let mut all = bounds_text(alloc, report)?;
-    append(&mut all, read_text(alloc, report))?;
-    append(&mut all, written_text(alloc, report))?;
-    Some(all)
+    let all = bounds_text(alloc, report);
+    let all = joined(all, read_text(alloc, report));
+    joined(all, written_text(alloc, report))
 }
 
 /// The session of a report, and its bounds.
@@ -50,23 +49,30 @@ pub(crate) fn entry_text(alloc: Global, entry: Entry) -> Option<String> {
         recorded: entry.recorded,
         counts: entry.counts,
     };
-    let text = report_text(alloc, report)?;
+    joined(report_text(alloc, report), moments_text(alloc, entry))
+}
+
+/// The moments of an entry.
+fn moments_text(alloc: Global, entry: Entry) -> Option<String> {
     let (begun, ended) = (entry.start_time.seconds(), entry.end_time.seconds());
-    format!(in alloc; "{text}, {begun} to {ended}").ok()
+    format!(in alloc; ", {begun} to {ended}").ok()
 }
 
 /// Of each entry the session and what it has recorded, newest session first.
 pub(crate) fn log_text(alloc: Global, log: &Log) -> Option<String> {
-    let mut all = String::new(alloc);
+    let mut all = Some(String::new(alloc));
     for i in 0..log.len() {
-        append(&mut all, recorded_text(alloc, log.get(i)?))?;
+        all = joined(all, recorded_text(alloc, log.get(i)));
     }
-    Some(all)
+    all
 }
 
-/// The session of an entry and what it has recorded.
-fn recorded_text(alloc: Global, entry: Entry) -> Option<String> {
-    format!(in alloc; "{} at {};", entry.session.0, entry.recorded).ok()
+/// The session of an entry, where there is one, and what it has recorded.
+fn recorded_text(alloc: Global, entry: Option<Entry>) -> Option<String> {
+    match entry {
+        Some(entry) => format!(in alloc; "{} at {};", entry.session.0, entry.recorded).ok(),
+        None => None,
+    }
 }
 
 /// What the logs of a source and a target agree about.
@@ -92,7 +98,9 @@ pub(crate) fn fault_text(alloc: Global, fault: TargetFault) -> Option<String> {
 
 /// Where a parcel was settled only in part: how many documents are settled, the others, and why.
 fn stopped_text(alloc: Global, settled: u64, rest: &[Brought], cause: Cause) -> Option<String> {
-    let rest = ids_text(alloc, rest)?;
+    let Some(rest) = ids_text(alloc, rest) else {
+        return None;
+    };
     format!(in alloc; "Stopped {settled}, rest{rest}, {cause:?}").ok()
 }
 
@@ -100,8 +108,12 @@ fn stopped_text(alloc: Global, settled: u64, rest: &[Brought], cause: Cause) -> 
 fn ids_text(alloc: Global, docs: &[Brought]) -> Option<String> {
     let mut all = String::new(alloc);
     for doc in docs {
-        all.push_str(" ").ok()?;
-        all.push_str(doc.id().text()).ok()?;
+        let Ok(()) = all.push_str(" ") else {
+            return None;
+        };
+        let Ok(()) = all.push_str(doc.id().text()) else {
+            return None;
+        };
     }
     Some(all)
 }

@@ -4,14 +4,14 @@ use crate::tests::large::load_wide;
 use crate::tests::peers::load;
 use crate::tests::plans::plan;
 use crate::tests::records::{fault_text, report_text};
-use crate::tests::texts::{append, doc_text, expect_answer};
-use doc_json::{Chosen, DocId};
+use crate::tests::texts::{doc_text, expect_answer, joined, plain};
+use doc_json::{Chosen, Doc, DocId};
 use repl_survey::{
     Comparison, LedgerRow, census_of, compare, compare_feed, conflicting, documents_of, ledger_row,
 };
 use repl_target::{Peer, Refused, Rules, replicate_alone};
 use rev_core::Rev;
-use rev_tree::SessionId;
+use rev_tree::{SessionId, Tree};
 use std::alloc::Global;
 use std::process::Abort;
 use test_texts::{rev_text, shown};
@@ -75,8 +75,8 @@ impl Bench {
             Call::Compare(id) => self.compare(id),
             Call::Total(id) => self.total(id),
             Call::Conflict(id) => self.conflict(id),
-            Call::Census => shown(self.alloc, &census_of(self.alloc, self.source.db()).ok()?),
-            Call::Ledger => ledger(self.alloc, self.target.ledger(SESSION)?),
+            Call::Census => self.census(),
+            Call::Ledger => self.ledger(),
             Call::Documents(id) => self.documents(id),
             Call::Tree(id) => tree(self.alloc, self.target.db(), id),
             _ => None,
@@ -85,7 +85,9 @@ impl Bench {
 
     /// Replicates by one thread.
     fn replicate(&mut self) -> Option<String> {
-        let plan = plan(SESSION, 500, 0)?;
+        let Some(plan) = plan(SESSION, 500, 0) else {
+            return None;
+        };
         match replicate_alone(self.alloc, &mut self.source, &mut self.target, &plan) {
             Ok(report) => report_text(self.alloc, report),
             Err(fault) => fault_text(self.alloc, fault),
@@ -94,94 +96,155 @@ impl Bench {
 
     /// Compares a document.
     fn compare(&self, id: &str) -> Option<String> {
-        let id = DocId::parse(self.alloc, id).ok()?;
-        let found = compare(self.alloc, self.source.db(), self.target.db(), &id).ok()?;
-        comparison_text(self.alloc, &found)
+        let Ok(id) = DocId::parse(self.alloc, id) else {
+            return None;
+        };
+        match compare(self.alloc, self.source.db(), self.target.db(), &id) {
+            Ok(found) => comparison_text(self.alloc, &found),
+            Err(_) => None,
+        }
+    }
+
+    /// How much the source holds.
+    fn census(&self) -> Option<String> {
+        match census_of(self.alloc, self.source.db()) {
+            Ok(census) => shown(self.alloc, &census),
+            Err(_) => None,
+        }
+    }
+
+    /// The ledger of the session.
+    fn ledger(&self) -> Option<String> {
+        match self.target.ledger(SESSION) {
+            Some(rows) => ledger(self.alloc, rows),
+            None => None,
+        }
     }
 
     /// The total of the feed.
     fn total(&self, id: Option<&str>) -> Option<String> {
-        let chosen = match id {
-            Some(id) => Some(choice(self.alloc, id)?),
-            None => None,
-        };
-        let total = compare_feed(self.alloc, &self.source, &self.target, chosen.as_ref()).ok()?;
-        shown(self.alloc, &total)
+        match id {
+            Some(id) => {
+                let Some(chosen) = choice(self.alloc, id) else {
+                    return None;
+                };
+                self.total_under(Some(&chosen))
+            }
+            None => self.total_under(None),
+        }
+    }
+
+    /// The total under a choice.
+    fn total_under(&self, chosen: Option<&Chosen>) -> Option<String> {
+        match compare_feed(self.alloc, &self.source, &self.target, chosen) {
+            Ok(total) => shown(self.alloc, &total),
+            Err(_) => None,
+        }
     }
 
     /// The leaves in conflict.
     fn conflict(&self, id: &str) -> Option<String> {
-        let id = DocId::parse(self.alloc, id).ok()?;
-        let found = conflicting(self.alloc, self.source.db().tree(&id)?).ok()?;
-        revs_text(self.alloc, &found)
+        let Ok(id) = DocId::parse(self.alloc, id) else {
+            return None;
+        };
+        match self.source.db().tree(&id) {
+            Some(tree) => conflict_text(self.alloc, tree),
+            None => None,
+        }
     }
 
     /// The documents of all leaves.
     fn documents(&self, id: &str) -> Option<String> {
-        let id = DocId::parse(self.alloc, id).ok()?;
-        let mut all = String::new(self.alloc);
-        for doc in &documents_of(self.alloc, self.source.db(), &id).ok()? {
-            append(&mut all, doc_text(self.alloc, doc))?;
+        let Ok(id) = DocId::parse(self.alloc, id) else {
+            return None;
+        };
+        match documents_of(self.alloc, self.source.db(), &id) {
+            Ok(docs) => docs_text(self.alloc, &docs),
+            Err(_) => None,
         }
-        Some(all)
     }
+}
+
+/// The leaves of a tree that are in conflict.
+fn conflict_text(alloc: Global, tree: &Tree) -> Option<String> {
+    match conflicting(alloc, tree) {
+        Ok(found) => revs_text(alloc, &found),
+        Err(_) => None,
+    }
+}
+
+/// The texts of documents.
+fn docs_text(alloc: Global, docs: &[Doc]) -> Option<String> {
+    let mut all = Some(String::new(alloc));
+    for doc in docs {
+        all = joined(all, doc_text(alloc, doc));
+    }
+    all
 }
 
 /// The choice of one document.
 fn choice(alloc: Global, id: &str) -> Option<Chosen> {
     let mut ids = Vec::new(alloc);
-    ids.push(DocId::parse(alloc, id).ok()?).ok()?;
+    let Ok(id) = DocId::parse(alloc, id) else {
+        return None;
+    };
+    let Ok(()) = ids.push(id) else {
+        return None;
+    };
     Chosen::new(ids).ok()
 }
 
 /// Revisions, each behind a space.
 fn revs_text(alloc: Global, revs: &[Rev]) -> Option<String> {
-    let mut all = String::new(alloc);
+    let mut all = Some(String::new(alloc));
     for rev in revs {
-        all.push(' ').ok()?;
-        append(&mut all, rev_text(alloc, *rev))?;
+        all = joined(all, plain(alloc, " "));
+        all = joined(all, rev_text(alloc, *rev));
     }
-    Some(all)
+    all
 }
 
 /// How many leaves there are, those that are missing, the child that contradicts, and the leaves that differ.
 fn comparison_text(alloc: Global, found: &Comparison) -> Option<String> {
-    let mut all = format!(in alloc; "{} missing", found.leaves()).ok()?;
-    append(&mut all, revs_text(alloc, found.missing()))?;
-    if let Some(contradiction) = found.contradiction() {
-        all.push_str(" contradicts ").ok()?;
-        append(&mut all, rev_text(alloc, contradiction.child))?;
+    let all = joined(leaves_text(alloc, found), revs_text(alloc, found.missing()));
+    let all = joined(all, contradiction_text(alloc, found));
+    let all = joined(all, plain(alloc, " differing"));
+    joined(all, revs_text(alloc, found.differing()))
+}
+
+/// How many leaves there are.
+fn leaves_text(alloc: Global, found: &Comparison) -> Option<String> {
+    format!(in alloc; "{} missing", found.leaves()).ok()
+}
+
+/// The child that contradicts; an empty text where none does.
+fn contradiction_text(alloc: Global, found: &Comparison) -> Option<String> {
+    match found.contradiction() {
+        Some(told) => joined(plain(alloc, " contradicts "), rev_text(alloc, told.child)),
+        None => plain(alloc, ""),
     }
-    all.push_str(" differing").ok()?;
-    append(&mut all, revs_text(alloc, found.differing()))?;
-    Some(all)
 }
 
 /// A row of a ledger.
 fn row_text(alloc: Global, row: LedgerRow) -> Option<String> {
     match row {
-        LedgerRow::Denied { rev } => {
-            let mut all = " denied".to_string(alloc).ok()?;
-            append(&mut all, revs_text(alloc, &[rev]))?;
-            Some(all)
-        }
+        LedgerRow::Denied { rev } => { joined(plain(alloc, " denied"), revs_text(alloc, &[rev])) }
         LedgerRow::Contradicted { rev, known, given } => {
-            let mut all = " contradicted".to_string(alloc).ok()?;
-            append(&mut all, revs_text(alloc, &[rev, known, given]))?;
-            Some(all)
+            let revs = revs_text(alloc, &[rev, known, given]);
+            joined(plain(alloc, " contradicted"), revs)
         }
     }
 }
 
 /// The rows of a ledger, each behind its document's id.
 fn ledger(alloc: Global, rows: &[Refused]) -> Option<String> {
-    let mut all = String::new(alloc);
+    let mut all = Some(String::new(alloc));
     for row in rows {
-        all.push_str(row.doc().id().text()).ok()?;
-        append(&mut all, row_text(alloc, ledger_row(row)))?;
-        all.push(';').ok()?;
+        all = joined(all, plain(alloc, row.doc().id().text()));
+        all = joined(all, row_text(alloc, ledger_row(row)));
+        all = joined(all, plain(alloc, ";"));
     }
-    Some(all)
+    all
 }
 
 /// A bench of no documents. The target refuses documents whose ids begin with x.

@@ -9,32 +9,45 @@ use std::alloc::Global;
 use std::process::Abort;
 use test_texts::{rev_text, revs_text, shown};
 
-/// Asserts that the call of a number could be made, and what it answered.
+/// Asserts that the call of a number could be made, and what it answered. `None` is told of a call that could not.
 pub(crate) fn expect_answer(rt: &impl Abort, number: usize, answer: Option<String>, wanted: &str) {
-    match answer {
-        Some(text) => assert!(rt;
-            text.as_str() == wanted,
-            "call {number}: {text}, not {wanted}"
-        ),
-        None => rt.panic(format_args!("call {number} can't be made")),
-    }
+    let is_wanted = match &answer {
+        Some(text) => text.as_str() == wanted,
+        None => false,
+    };
+    assert!(rt; is_wanted, "call {number}: {answer:?}, not {wanted}");
 }
 
 /// The document of a text that is one.
 pub(crate) fn doc(alloc: Global, text: &str) -> Option<Doc> {
-    let value = Value::from_str(alloc, text).ok()?;
+    let Ok(value) = Value::from_str(alloc, text) else {
+        return None;
+    };
     read_doc(alloc, &value).ok()
 }
 
 /// The body of a text that is one.
 pub(crate) fn body(alloc: Global, text: &str) -> Option<Body> {
-    let value = Value::from_str(alloc, text).ok()?;
+    let Ok(value) = Value::from_str(alloc, text) else {
+        return None;
+    };
     read_body(alloc, &value).ok()
 }
 
-/// Appends a text that could be made.
-pub(crate) fn append(all: &mut String, text: Option<String>) -> Option<()> {
-    all.push_str(text?.as_str()).ok()
+/// A text and one behind it, where both could be made. Whoever joins many asks only at the end whether all could.
+pub(crate) fn joined(all: Option<String>, text: Option<String>) -> Option<String> {
+    let (Some(mut all), Some(text)) = (all, text) else {
+        return None;
+    };
+    match all.push_str(text.as_str()) {
+        Ok(()) => Some(all),
+        Err(_) => None,
+    }
+}
+
+/// A text of its own.
+pub(crate) fn plain(alloc: Global, text: &str) -> Option<String> {
+    text.to_string(alloc).ok()
 }
 
 /// The bounds of what was read or fetched.
@@ -44,26 +57,28 @@ fn bounds_text(alloc: Global, lo: u64, hi: u64) -> Option<String> {
 
 /// The bounds of a window, and its rows.
 pub(crate) fn window_text(alloc: Global, window: &Window) -> Option<String> {
-    let mut all = bounds_text(alloc, window.lo(), window.hi())?;
+    let mut all = bounds_text(alloc, window.lo(), window.hi());
     for row in window.rows() {
-        append(&mut all, row_text(alloc, row))?;
+        all = joined(all, row_text(alloc, row));
     }
-    Some(all)
+    all
 }
 
 /// The sequence, the id and the leaves of a row.
 fn row_text(alloc: Global, row: &Row) -> Option<String> {
-    let leaves = revs_text(alloc, row.leaves())?;
+    let Some(leaves) = revs_text(alloc, row.leaves()) else {
+        return None;
+    };
     format!(in alloc; " {} {} {leaves};", row.seq(), row.id().text()).ok()
 }
 
 /// The bounds of stored windows, and of each whether it is kept whole.
 pub(crate) fn stored_text(alloc: Global, windows: &[StoredWindow]) -> Option<String> {
-    let mut all = String::new(alloc);
+    let mut all = Some(String::new(alloc));
     for window in windows {
-        append(&mut all, one_stored_text(alloc, window))?;
+        all = joined(all, one_stored_text(alloc, window));
     }
-    Some(all)
+    all
 }
 
 /// The same of one window.
@@ -77,34 +92,38 @@ fn one_stored_text(alloc: Global, window: &StoredWindow) -> Option<String> {
 
 /// The bounds of what is asked, and the documents.
 pub(crate) fn asked_text(alloc: Global, asked: &Asked) -> Option<String> {
-    let mut all = bounds_text(alloc, asked.lo(), asked.hi())?;
+    let mut all = bounds_text(alloc, asked.lo(), asked.hi());
     for wanted in asked.docs() {
-        append(&mut all, wanted_text(alloc, wanted))?;
+        all = joined(all, wanted_text(alloc, wanted));
     }
-    Some(all)
+    all
 }
 
 /// The id and the revisions of a document that is asked for.
 fn wanted_text(alloc: Global, wanted: &Wanted) -> Option<String> {
-    let revs = revs_text(alloc, wanted.revs())?;
+    let Some(revs) = revs_text(alloc, wanted.revs()) else {
+        return None;
+    };
     format!(in alloc; " {} {revs};", wanted.id().text()).ok()
 }
 
 /// The bounds of a parcel, its documents, and what is gone.
 pub(crate) fn parcel_text(alloc: Global, parcel: &Parcel) -> Option<String> {
-    let mut all = bounds_text(alloc, parcel.lo(), parcel.hi())?;
+    let mut all = bounds_text(alloc, parcel.lo(), parcel.hi());
     for doc in parcel.docs() {
-        append(&mut all, doc_text(alloc, doc.doc()))?;
+        all = joined(all, doc_text(alloc, doc.doc()));
     }
     for (id, rev) in parcel.gone() {
-        append(&mut all, gone_text(alloc, id, *rev))?;
+        all = joined(all, gone_text(alloc, id, *rev));
     }
-    Some(all)
+    all
 }
 
 /// A revision that is gone.
 fn gone_text(alloc: Global, id: &DocId, rev: Rev) -> Option<String> {
-    let rev = rev_text(alloc, rev)?;
+    let Some(rev) = rev_text(alloc, rev) else {
+        return None;
+    };
     format!(in alloc; " gone {} {rev};", id.text()).ok()
 }
 
@@ -115,25 +134,32 @@ pub(crate) fn numbers_text(alloc: Global, db: &Database) -> Option<String> {
 
 /// A fetched document: its id, its ancestry, whether it is deleted, and its body.
 pub(crate) fn doc_text(alloc: Global, doc: &Doc) -> Option<String> {
-    let body = std::str::from_utf8(doc.body().text()).ok()?;
+    let Ok(body) = std::str::from_utf8(doc.body().text()) else {
+        return None;
+    };
     let kind = if doc.deleted() { "deleted" } else { "live" };
-    let revs = revs_text(alloc, doc.ancestry().revs())?;
+    let Some(revs) = revs_text(alloc, doc.ancestry().revs()) else {
+        return None;
+    };
     format!(in alloc; " {} {revs} {kind} {body};", doc.id().text()).ok()
 }
 
 /// The leaves of a tree, winner first, and how many revisions it has.
 pub(crate) fn tree_text(alloc: Global, tree: &Tree) -> Option<String> {
-    let leaves = tree.leaves(alloc).ok()?;
-    let text = revs_text(alloc, leaves.as_slice())?;
+    let Ok(leaves) = tree.leaves(alloc) else {
+        return None;
+    };
+    let Some(text) = revs_text(alloc, leaves.as_slice()) else {
+        return None;
+    };
     format!(in alloc; "{text} of {}", tree.rev_count()).ok()
 }
 
 /// A revision of a tree: its parent, its origin and its content.
 pub(crate) fn node_text(alloc: Global, tree: &Tree, rev: Rev) -> Option<String> {
-    let mut all = parent_text(alloc, tree, rev)?;
-    append(&mut all, origin_text(alloc, tree.origin(rev)?))?;
-    append(&mut all, content_text(alloc, tree, rev))?;
-    Some(all)
+    let all = parent_text(alloc, tree, rev);
+    let all = joined(all, origin_text(alloc, tree.origin(rev)));
+    joined(all, content_text(alloc, tree, rev))
 }
 
 /// The parent of a revision.
@@ -144,9 +170,12 @@ fn parent_text(alloc: Global, tree: &Tree, rev: Rev) -> Option<String> {
     }
 }
 
-/// An origin, between commas.
-fn origin_text(alloc: Global, origin: Origin) -> Option<String> {
-    format!(in alloc; ", {origin:?}, ").ok()
+/// An origin, where there is one, between commas.
+fn origin_text(alloc: Global, origin: Option<Origin>) -> Option<String> {
+    match origin {
+        Some(origin) => format!(in alloc; ", {origin:?}, ").ok(),
+        None => None,
+    }
 }
 
 /// The content of a revision.
@@ -154,7 +183,9 @@ fn content_text(alloc: Global, tree: &Tree, rev: Rev) -> Option<String> {
     let Some(content) = tree.content(rev) else {
         return "no content".to_string(alloc).ok();
     };
-    let body = std::str::from_utf8(content.body()).ok()?;
+    let Ok(body) = std::str::from_utf8(content.body()) else {
+        return None;
+    };
     let kind = if content.deleted() { "deleted" } else { "live" };
     format!(in alloc; "{kind} {body}").ok()
 }
@@ -180,12 +211,16 @@ pub(crate) fn place_text(
     id: &DocId,
     rev: Rev,
 ) -> Option<String> {
-    let rev = rev_text(alloc, rev)?;
+    let Some(rev) = rev_text(alloc, rev) else {
+        return None;
+    };
     format!(in alloc; "{name} {seq} {} {rev}", id.text()).ok()
 }
 
 /// A name, and the revisions behind it.
 fn named_text(alloc: Global, name: &str, revs: &[Rev]) -> Option<String> {
-    let revs = revs_text(alloc, revs)?;
+    let Some(revs) = revs_text(alloc, revs) else {
+        return None;
+    };
     format!(in alloc; "{name} {revs}").ok()
 }

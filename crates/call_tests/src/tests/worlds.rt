@@ -2,7 +2,7 @@
 use crate::tests::databases::tree;
 use crate::tests::peers::{agreed, entry, source_log, target_log};
 use crate::tests::texts::{body, doc, expect_answer};
-use doc_json::{Body, DocId};
+use doc_json::DocId;
 use repl_log::{Moment, RepId};
 use repl_target::{Audit, Peer, Rules, audit};
 use repl_world::{Step, World, WorldFault};
@@ -76,18 +76,24 @@ fn at_0() -> Option<Moment> {
 /// The step of an act.
 fn step(alloc: Global, act: Act) -> Option<Step> {
     match act {
-        Act::EditSource(id, parent, text) => edit_source(alloc, id, parent, body(alloc, text)?),
-        Act::EditTarget(id, parent, text) => edit_target(alloc, id, parent, body(alloc, text)?),
-        Act::LoadSource(text) => Some(Step::LoadSource(doc(alloc, text)?)),
-        Act::ThirdParty(text) => Some(Step::ThirdParty(doc(alloc, text)?)),
+        Act::EditSource(id, parent, text) => edit_source(alloc, id, parent, text),
+        Act::EditTarget(id, parent, text) => edit_target(alloc, id, parent, text),
+        Act::LoadSource(text) => doc(alloc, text).map(Step::LoadSource),
+        Act::ThirdParty(text) => doc(alloc, text).map(Step::ThirdParty),
         other => plain_step(other),
     }
 }
 
 /// The edit of a document at the source.
-fn edit_source(alloc: Global, id: &str, parent: &str, body: Body) -> Option<Step> {
+fn edit_source(alloc: Global, id: &str, parent: &str, text: &str) -> Option<Step> {
+    let Some(body) = body(alloc, text) else {
+        return None;
+    };
+    let Ok(id) = DocId::parse(alloc, id) else {
+        return None;
+    };
     Some(Step::EditSource {
-        id: DocId::parse(alloc, id).ok()?,
+        id,
         parent: rev(parent),
         deleted: false,
         body,
@@ -95,9 +101,15 @@ fn edit_source(alloc: Global, id: &str, parent: &str, body: Body) -> Option<Step
 }
 
 /// The same at the target.
-fn edit_target(alloc: Global, id: &str, parent: &str, body: Body) -> Option<Step> {
+fn edit_target(alloc: Global, id: &str, parent: &str, text: &str) -> Option<Step> {
+    let Some(body) = body(alloc, text) else {
+        return None;
+    };
+    let Ok(id) = DocId::parse(alloc, id) else {
+        return None;
+    };
     Some(Step::EditTarget {
-        id: DocId::parse(alloc, id).ok()?,
+        id,
         parent: rev(parent),
         deleted: false,
         body,
@@ -106,7 +118,9 @@ fn edit_target(alloc: Global, id: &str, parent: &str, body: Body) -> Option<Step
 
 /// The step of an act without a document.
 fn plain_step(act: Act) -> Option<Step> {
-    let at = at_0()?;
+    let Some(at) = at_0() else {
+        return None;
+    };
     match act {
         Act::ReadLog => Some(Step::ReadLog),
         Act::Begin(session, log, goal) => Some(Step::Begin {
@@ -133,19 +147,26 @@ fn plain_step(act: Act) -> Option<Step> {
 fn steps(alloc: Global, acts: &[Act]) -> Option<Vec<Step>> {
     let mut all = Vec::new(alloc);
     for act in acts {
-        push_step(&mut all, step(alloc, *act))?;
+        let Some(()) = push_step(&mut all, step(alloc, *act)) else {
+            return None;
+        };
     }
     Some(all)
 }
 
 /// Appends a step that could be made.
 fn push_step(all: &mut Vec<Step>, step: Option<Step>) -> Option<()> {
-    all.push(step?).ok()
+    match step {
+        Some(step) => all.push(step).ok(),
+        None => None,
+    }
 }
 
 /// Takes the steps of acts.
 fn take(alloc: Global, world: &mut World<Rules>, acts: &[Act]) -> Option<()> {
-    let steps = steps(alloc, acts)?;
+    let Some(steps) = steps(alloc, acts) else {
+        return None;
+    };
     world.run(alloc, &steps).ok()
 }
 
@@ -233,8 +254,12 @@ pub(crate) fn expect(rt: &impl Abort, alloc: Global, lists: &[Acts], told: Told)
 /// Loads so many documents at the source: d0, d1 and so on, each at 1-a.
 fn load_many(alloc: Global, world: &mut World<Rules>, count: u64) -> Option<()> {
     for number in 0..count {
-        let text = format!(in alloc; r#"{{"_id":"d{number}","_rev":"1-a"}}"#).ok()?;
-        take(alloc, world, &[Act::LoadSource(text.as_str())])?;
+        let Ok(text) = format!(in alloc; r#"{{"_id":"d{number}","_rev":"1-a"}}"#) else {
+            return None;
+        };
+        let Some(()) = take(alloc, world, &[Act::LoadSource(text.as_str())]) else {
+            return None;
+        };
     }
     Some(())
 }
