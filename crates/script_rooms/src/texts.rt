@@ -58,16 +58,21 @@ pub fn push_count(text: &mut Vec<u8>, count: usize) -> Result<(), AllocError>
     push_number(text, count as u64)
 }
 
-/// Adds the text of a revision. Mostly it has one digit and 32 bytes, and there is room for it: then it is copied as a
-/// whole.
+/// Adds the text of a revision. Mostly it has one digit, or three in a long history, and 32 bytes, and there is room for
+/// it: then it is copied as a whole.
 #[inline(never)]
 pub fn push_rev(text: &mut Vec<u8>, rev: &Rev) -> Result<(), AllocError>
     ensures { OnOk result (text.new.items ≡ text.old.items ++ rev_text rev.now) }
 {
     let generation = rev.generation();
     let sig = rev.sig_bytes();
-    if generation < 10 && sig.len() == 32 && text.capacity() - text.len() >= 34 {
-        return text.extend_from_slice(&short_text(generation, sig));
+    if sig.len() == 32 && text.capacity() - text.len() >= 36 {
+        if generation < 10 {
+            return text.extend_from_slice(&short_text(generation, sig));
+        }
+        if generation >= 100 && generation < 1_000 {
+            return text.extend_from_slice(&three_digit_text(generation, sig));
+        }
     }
     push_parts(text, generation, sig)
 }
@@ -83,6 +88,23 @@ fn short_text(generation: u32, sig: &[u8]) -> [u8; 34]
     let mut text = [b'-'; 34];
     text[0] = b'0' + generation as u8;
     text[2..].copy_from_slice(bytes);
+    text
+}
+
+/// The text of a revision of a generation of three digits and a signature of 32 bytes.
+#[inline(always)]
+fn three_digit_text(generation: u32, sig: &[u8]) -> [u8; 36]
+    requires generation { (100 ≤ generation) × (generation < 1000) }
+    requires sig { length sig.now ≡ 32 }
+    ensures { result ≡ decimal generation ++ 45 ∷ sig.now }
+{
+    let bytes = &sig[..32];
+    let front = generation / 10;
+    let mut text = [b'-'; 36];
+    text[0] = b'0' + (front / 10) as u8;
+    text[1] = b'0' + (front % 10) as u8;
+    text[2] = b'0' + (generation % 10) as u8;
+    text[4..].copy_from_slice(bytes);
     text
 }
 
