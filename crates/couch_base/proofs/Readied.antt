@@ -1,15 +1,32 @@
--- Putting a document whose tree is made, where it is new.
-use Rattle.proof_words.proofs.{◌≡◌, ℕ, ◌+◌, ◌<◌, None, Ok, Err, sym, ap, ◌∙◌, nat_lt, false}
+-- Documents whose trees are made, and putting one of them where it is new.
+use Rattle.proof_words.proofs.{◌≡◌, ℕ, zero, suc, ◌+◌, ◌<◌, List, [], ◌∷◌, ◌++◌, length, slice_get, Option, Some, None, Ok, Err, refl, sym, ap, subst, ◌∙◌, ◌⊎◌, inl, inr, nat_lt, false, same_Some, none-some}
 use Rattle.rev_tree.specs.{merged, merge_answer, no_revisions, Origin}
 use Rattle.rev_tree.specs.declared.fault.Merged.TheVariants.{Changed}
 use Rattle.rev_tree.specs.declared.origin.Origin.TheVariants.{Feed}
 use Rattle.doc_json.specs.Document.{Document}
 use Rattle.rev_core.specs.{IsAncestry}
-use Rattle.couch_base.specs.{DatabaseValue, tree_of, with_tree, most, put_answer, put_told, after_put, content_of, IsMadeOf, Made, TableValue, database_of, found, tree_at, IsKept}
+use Rattle.couch_base.specs.{DatabaseValue, tree_of, with_tree, most, put_answer, put_told, after_put, content_of, AreMade, IsMadeOf, Made, TableValue, database_of, found, tree_at, IsKept}
 use Rattle.couch_base.specs.declared.fault.Put.TheVariants as answers
 use Rattle.couch_base.specs.declared.fault.BaseFault.TheVariants as faults
 use Rattle.couch_base.proofs.Found.{tree_of-documents_of}
 use Rattle.couch_base.proofs.Putting.{new_changes, answer-changed, after_put-changed}
+
+-- what stands where one more is put at the end
+at_end : {X : Type 0} (xs : List X) (x : X) (i : ℕ) (y : X) → slice_get (xs ++ x ∷ []) i ≡ Some y → (slice_get xs i ≡ Some y) ⊎ ((i ≡ length xs) × (x ≡ y))
+at_end [] x zero y at = inr (refl, same_Some x y at)
+at_end [] x (suc i) y at = absurd (none-some y at)
+at_end (z ∷ xs) x zero y at = inl at
+at_end (z ∷ xs) x (suc i) y at = elim (at_end xs x i y at) [ inl before ↦ inl before | inr last ↦ inr (ap suc last.0, last.1) ]
+
+-- what is made of the next document
+pub made_next : (docs : List Document) (all : List (Option Made)) (d : Document) (m : Made) → AreMade docs all → slice_get docs (length all) ≡ Some d → IsMadeOf d m → AreMade docs (all ++ Some m ∷ [])
+made_next docs all d m made next new i e n doc at =
+    elim (at_end all (Some m) i (Some n) at) [
+      | inl before ↦ made i e n doc before
+      | inr last ↦
+          let same : d ≡ e = same_Some d e (sym next ∙ ap (slice_get docs) (sym last.0) ∙ doc) in
+          subst (λ (x : Document). IsMadeOf x n) same (subst (IsMadeOf d) (same_Some m n last.1) new)
+    ]
 
 module _ (uuid life : ℕ) (t : TableValue) (db : DatabaseValue) (view : database_of uuid life t ≡ db) (kept : IsKept t) (d : Document) (a : IsAncestry d.ancestry) (m : Made) (made : IsMadeOf d m) (absent : found t.entries m.key ≡ None) where
   -- it has no tree yet

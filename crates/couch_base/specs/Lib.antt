@@ -17,7 +17,7 @@ pub mod MessageLaws
 pub use Lists.{Among, EachOnce, Rises}
 pub use Database.{DatabaseValue, DocumentValue, Id, IsDocumentTree, LawfulDatabase, in_life, most, tree_in, tree_of, with_tree, without}
 pub use Put.{PutGives, after_put, content_of, is_change, is_changed, put_answer, put_told}
-pub use Readied.{IsMadeOf}
+pub use Readied.{AreMade, IsMadeOf}
 pub use Feed.{IsWindow, RowValue, WindowValue, chosen_feed, chosen_rows, feed, last_seq, page, page_answer, page_end, row_of, window_of}
 pub use Stored.{AllBelow, AreFew, ArePlaces, AreRows, InOrder, IsKept, IsPlace, IsTable, IsWritten, Sets, TableValue, above, at_seq, database_of}
 pub use Stored.{document, documents, documents_of, feed_of, feed_without, found, id_at, is_live, live, live_upto, named, row_by, rows_within, seq_of}
@@ -33,6 +33,6 @@ pub use WriteLaws.{IsLater, IsLater-after_put, IsLater-later, IsLater-same, tree
 pub use Messages.{AskedValue, IsAsked, IsParcel, ParcelValue, WantedValue, brings, document_at, document_in, fetched, gone_of, is_answered}
 pub use Messages.{is_rev_of, leaf_document, open_revs, opened, revs_diff, want_first, wanted}
 pub use MessageLaws.{IsAsked-revs_diff, IsParcel-open_revs}
-pub use declared.brought.Made.{Made}
+pub use declared.made.Made.{Made}
 pub use declared.fault.BaseFault.{BaseFault}
 pub use declared.kept.Kept.{Kept}

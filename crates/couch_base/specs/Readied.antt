@@ -1,14 +1,22 @@
--- The tree that a document makes where it is new, made beforehand.
-use Rattle.std.specs.Prelude.{◌≡◌}
+-- What documents make where they are new, made beforehand.
+use Rattle.std.specs.Prelude.{◌≡◌, ℕ, List, Option, Some, slice_get}
+use Rattle.rev_core.specs.Ancestry.{head_of}
 use Rattle.rev_tree.specs.Tree.{merged, no_revisions}
 use Rattle.rev_tree.specs.declared.origin.Origin.TheVariants.{Feed}
 use Rattle.doc_json.specs.Document.{Document}
 use Rattle.couch_base.specs.Database.{IsDocumentTree}
 use Rattle.couch_base.specs.Put.{content_of}
-use Rattle.couch_base.specs.declared.brought.Made.{Made}
+use Rattle.couch_base.specs.declared.made.Made.{Made}
 
--- what a document makes where it is new: its id, and its ancestry and its content merged into no revisions
+-- what a document makes where it is new: its id, its newest revision, and its ancestry and its content merged into no
+-- revisions
 pub record IsMadeOf (d : Document) (m : Made) : Type 0 where
   pub key : m.key ≡ d.id
+  pub head : head_of d.ancestry ≡ Some m.head
   pub tree : m.tree ≡ merged no_revisions d.ancestry (content_of d.deleted d.body) (Feed m.session m.seq)
   pub document : IsDocumentTree m.tree
+
+-- what was made of documents, each at its document's place
+abbrev pub AreMade : List Document → List (Option Made) → Type 0
+AreMade docs all =
+    (i : ℕ) (d : Document) (m : Made) → slice_get docs i ≡ Some d → slice_get all i ≡ Some (Some m) → IsMadeOf d m

@@ -6,8 +6,8 @@ ghost use Rattle.couch_base.specs.Database.{IsDocumentTree, tree_of};
 ghost use Rattle.couch_base.specs.Messages.{document_in, leaf_document, opened, want_first};
 
 use crate::asked::{Asked, Wanted};
-use crate::brought::Brought;
 use crate::database::Database;
+use crate::near::Near;
 use crate::parcel::Parcel;
 use crate::row::Row;
 use crate::window::Window;
@@ -27,8 +27,9 @@ impl Database {
         ensures asked { IfOk result (λ a. a ≡ revs_diff self.now window.now) }
     {
         let mut docs = Vec::with_capacity(alloc, window.rows().len())?;
+        let mut near = Near::new();
         for row in window.rows() {
-            self.want(alloc, row, &mut docs)?;
+            self.want(alloc, row, &mut near, &mut docs)?;
         }
         Ok(Asked::new(window.lo(), window.hi(), docs))
     }
@@ -51,10 +52,11 @@ impl Database {
         self.law();
         let mut docs = Vec::with_capacity(alloc, asked.docs().len())?;
         let mut gone = Vec::new(alloc);
+        let mut near = Near::new();
         for wanted in asked.docs() {
-            self.fetch(alloc, wanted, &mut docs, &mut gone)?;
+            self.fetch(alloc, wanted, &mut near, &mut docs, &mut gone)?;
         }
-        Ok(Parcel::new(asked, docs, gone))
+        Ok(Parcel::new(alloc, asked, docs, gone))
     }
 
     /// How many documents `open_revs` has for what is asked.
@@ -62,19 +64,25 @@ impl Database {
         ensures count { IfOk result (λ n. n ≡ length (open_revs self.now asked.now).docs) }
     {
         let mut count: u128 = 0;
+        let mut near = Near::new();
         for wanted in asked.docs() {
-            let more = self.count_wanted(alloc, wanted)?;
+            let more = self.count_wanted(alloc, wanted, &mut near)?;
             count += more as u128;
         }
         Ok(count)
     }
 
     /// How many documents there are for the wanted revisions of one.
-    fn count_wanted(&self, alloc: Global, wanted: &Wanted) -> Result<u64, AllocError>
+    fn count_wanted(
+        &self,
+        alloc: Global,
+        wanted: &Wanted,
+        near: &mut Near,
+    ) -> Result<u64, AllocError>
         ensures count { IfOk result
             (λ n. n ≡ length (opened wanted.now.id (tree_of self.now.docs wanted.now.id) wanted.now.revs)) }
     {
-        let Some(tree) = self.tree(wanted.id()) else {
+        let Some(tree) = self.tree_near(near, wanted.id()) else {
             return Ok(0);
         };
         let leaves = tree.leaves_above(alloc, wanted.revs())?;
@@ -93,11 +101,17 @@ impl Database {
     }
 
     /// Adds what is missing of a row.
-    fn want(&self, alloc: Global, row: &Row, docs: &mut Vec<Wanted>) -> Result<(), AllocError>
+    fn want(
+        &self,
+        alloc: Global,
+        row: &Row,
+        near: &mut Near,
+        docs: &mut Vec<Wanted>,
+    ) -> Result<(), AllocError>
         ensures ok { OnOk result (docs.new.items ≡ docs.old.items
             ++ want_first row.now.id (missing (tree_of self.now.docs row.now.id) row.now.leaves) []) }
     {
-        let revs = self.missing(alloc, row.id(), row.leaves())?;
+        let revs = self.missing(alloc, near, row.id(), row.leaves())?;
         if revs.is_empty() {
             return Ok(());
         }
@@ -112,7 +126,8 @@ impl Database {
         &self,
         alloc: Global,
         wanted: &Wanted,
-        docs: &mut Vec<Brought>,
+        near: &mut Near,
+        docs: &mut Vec<Doc>,
         gone: &mut Vec<(DocId, Rev)>,
     ) -> Result<(), AllocError>
         ensures docs { OnOk result (docs.new.items ≡ docs.old.items
@@ -122,7 +137,7 @@ impl Database {
     {
         let id = wanted.id();
         let asked = wanted.revs();
-        let Some(tree) = self.tree(id) else {
+        let Some(tree) = self.tree_near(near, id) else {
             add_revs(alloc, id, asked, gone)?;
             return Ok(());
         };
@@ -134,10 +149,16 @@ impl Database {
     }
 
     /// The revisions that are not in the tree of a document.
-    fn missing(&self, alloc: Global, id: &DocId, revs: &[Rev]) -> Result<Revs, AllocError>
+    fn missing(
+        &self,
+        alloc: Global,
+        near: &mut Near,
+        id: &DocId,
+        revs: &[Rev],
+    ) -> Result<Revs, AllocError>
         ensures missing { IfOk result (λ r. r ≡ missing (tree_of self.now.docs id.now) revs.now) }
     {
-        let Some(tree) = self.tree(id) else {
+        let Some(tree) = self.tree_near(near, id) else {
             return Revs::from_slice(alloc, revs);
         };
         tree.missing(alloc, revs)
@@ -150,7 +171,7 @@ fn add_documents(
     id: &DocId,
     tree: &Tree,
     leaves: &[Rev],
-    docs: &mut Vec<Brought>,
+    docs: &mut Vec<Doc>,
 ) -> Result<(), AllocError>
     requires document { IsDocumentTree tree.now }
     requires leaves { list_all (is_leaf tree.now) leaves.now ≡ true }
@@ -159,7 +180,7 @@ fn add_documents(
 {
     for leaf in leaves {
         let doc = leaf_document(alloc, id, tree, *leaf)?;
-        docs.push(Brought::new(doc))?;
+        docs.push(doc)?;
     }
     Ok(())
 }

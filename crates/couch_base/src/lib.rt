@@ -5,7 +5,6 @@
 #![tactic(auto)]
 
 mod asked;
-mod brought;
 mod copies;
 mod database;
 mod edit;
@@ -13,6 +12,8 @@ mod exchange;
 mod fault;
 mod id_hash;
 mod kept;
+mod made;
+mod near;
 mod paging;
 mod parcel;
 mod row;
@@ -20,9 +21,10 @@ mod table;
 mod window;
 
 pub use asked::{Asked, Wanted};
-pub use brought::{Brought, Made};
 pub use database::{Database, MOST_SEQUENCE};
 pub use fault::{BaseFault, Listed, Put, Revised};
+pub use made::Made;
+pub use near::Near;
 pub use parcel::Parcel;
 pub use row::Row;
 pub use window::Window;

@@ -1,11 +1,12 @@
 //! What is fetched.
 ghost use Rattle.std.specs.Prelude.{◌≡◌, IfOk};
+ghost use Rattle.couch_base.specs.Readied.{AreMade};
 
 use crate::asked::Asked;
-use crate::brought::Brought;
 use crate::copies::copied;
+use crate::made::Made;
 use crate::row::Row;
-use doc_json::DocId;
+use doc_json::{Doc, DocId};
 use rev_core::Rev;
 use rev_tree::SessionId;
 use std::alloc::{AllocError, Global};
@@ -17,8 +18,10 @@ use std::marker::Model;
 /// revision. No id and head comes twice.
 pub struct Parcel {
     asked: Asked,
-    docs: Vec<Brought>,
+    docs: Vec<Doc>,
     gone: Vec<(DocId, Rev)>,
+    // In a list of its own: few readers prepare a parcel, and the others move small documents.
+    made: Vec<Option<Made>>,
 }
 
 // By hand, so that it is proved once: docs/DECISIONS.md, "Letting values go".
@@ -28,6 +31,7 @@ impl Drop for Parcel {
             asked: _,
             docs: _,
             gone: _,
+            made: _,
         } = self;
     }
 }
@@ -38,21 +42,33 @@ impl Model for Parcel {
     ghost Value = { ParcelValue };
 
     ghost use Rattle.couch_base.specs.Messages.{IsParcel};
+    ghost use Rattle.couch_base.specs.Readied.{AreMade};
 
     ghost view = { λ p. record { asked = p.asked; docs = p.docs.items; gone = p.gone.items } };
 
-    ghost invariant = { λ p. IsParcel (record { asked = p.asked; docs = p.docs.items; gone = p.gone.items }) };
+    ghost invariant = { λ p. IsParcel (record { asked = p.asked; docs = p.docs.items; gone = p.gone.items })
+        × AreMade p.docs.items p.made.items };
 }
 
 impl Parcel {
     ghost use Rattle.couch_base.specs.Messages.{ParcelValue, IsParcel};
 
     /// The parcel of these parts, which make one.
-    pub(crate) fn new(asked: Asked, docs: Vec<Brought>, gone: Vec<(DocId, Rev)>) -> Parcel
+    pub(crate) fn new(
+        alloc: Global,
+        asked: Asked,
+        docs: Vec<Doc>,
+        gone: Vec<(DocId, Rev)>,
+    ) -> Parcel
         requires { IsParcel (record { asked = asked; docs = docs.items; gone = gone.items }) }
         ensures { result ≡ record { asked = asked; docs = docs.items; gone = gone.items } }
     {
-        Parcel { asked, docs, gone }
+        Parcel {
+            asked,
+            docs,
+            gone,
+            made: Vec::new(alloc),
+        }
     }
 
     /// The sequence above which the window begins.
@@ -80,7 +96,7 @@ impl Parcel {
     }
 
     /// The fetched documents, in the order of the asked ones, of each one the winner first.
-    pub fn docs(&self) -> &[Brought]
+    pub fn docs(&self) -> &[Doc]
         ensures value { result.now ≡ self.now.docs }
         ensures parcel { IsParcel self.now }
     {
@@ -95,18 +111,24 @@ impl Parcel {
         &self.gone
     }
 
-    /// The asked, the documents and the gone revisions.
-    pub fn into_parts(self) -> (Asked, Vec<Brought>, Vec<(DocId, Rev)>)
+    /// The asked, the documents, the gone revisions, and what was made of the documents, in their order: nothing of any
+    /// where the parcel wasn't prepared.
+    pub fn into_parts(self) -> (Asked, Vec<Doc>, Vec<(DocId, Rev)>, Vec<Option<Made>>)
         ensures parts { self ≡ record { asked = result.0; docs = result.1.items; gone = result.2.items } }
         ensures parcel { IsParcel self }
+        ensures made { AreMade result.1.items result.3.items }
     {
-        let Parcel { asked, docs, gone } = self;
-        (asked, docs, gone)
+        let Parcel {
+            asked,
+            docs,
+            gone,
+            made,
+        } = self;
+        (asked, docs, gone, made)
     }
 
     /// Makes what the documents make where they are new, and come from a session's feed at the sequences of some rows.
-    /// It stays the same parcel: what is made spares the put of such a document the making. Where memory is refused,
-    /// some are made.
+    /// It stays the same parcel: what is made spares the put of such a document the making.
     pub fn prepare(
         &mut self,
         alloc: Global,
@@ -115,7 +137,8 @@ impl Parcel {
     ) -> Result<(), AllocError>
         ensures same { self.new ≡ self.old }
     {
-        prepare(alloc, session, rows, &mut self.docs)
+        self.made = make_all(alloc, session, rows, &self.docs)?;
+        Ok(())
     }
 
     /// The same parcel.
@@ -126,29 +149,31 @@ impl Parcel {
         let asked = self.asked.copy(alloc)?;
         let docs = copied(alloc, &self.docs, |doc| doc.copy(alloc))?;
         let gone = copied(alloc, &self.gone, |(id, rev)| Ok((id.copy(alloc)?, *rev)))?;
-        Ok(Parcel { asked, docs, gone })
+        Ok(Parcel::new(alloc, asked, docs, gone))
     }
 }
 
-/// Makes what documents make where they are new. Their rows are looked for in order, and those behind one that has none
-/// are left as they are.
-fn prepare(
+/// What documents make where they are new. Their rows are looked for in order, and nothing is made of those behind one that
+/// has none.
+fn make_all(
     alloc: Global,
     session: SessionId,
     rows: &[Row],
-    docs: &mut Vec<Brought>,
-) -> Result<(), AllocError>
-    ensures same { docs.new.items ≡ docs.old.items }
+    docs: &[Doc],
+) -> Result<Vec<Option<Made>>, AllocError>
+    ensures made { IfOk result (λ made. AreMade docs.now made.items) }
 {
+    let mut all = Vec::with_capacity(alloc, docs.len())?;
     let mut row = 0;
-    for i in 0..docs.len() {
-        row = row_from(rows, docs[i].id(), row);
+    for doc in docs {
+        row = row_from(rows, doc.id(), row);
         if row >= rows.len() {
-            return Ok(());
+            return Ok(all);
         }
-        docs[i].prepare(alloc, session, rows[row].seq())?;
+        let made = Made::of(alloc, doc, session, rows[row].seq())?;
+        all.push(Some(made))?;
     }
-    Ok(())
+    Ok(all)
 }
 
 /// The first place from one on with a row of an id, or that of the end.

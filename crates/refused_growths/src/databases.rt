@@ -1,7 +1,7 @@
-//! `Database::put`, `edit`, `page`, `revs_diff`, `open_revs`, `count_asked`, `put_brought` and `copy_in`, the copies of their
+//! `Database::put`, `edit`, `page`, `revs_diff`, `open_revs`, `count_asked`, `put_made` and `copy_in`, the copies of their
 //! messages, and `Parcel::prepare`. A refused growth leaves a database as it was.
 use anyhow::{Result, bail};
-use couch_base::{Asked, BaseFault, Brought, Database, Parcel, Put, Row, Window};
+use couch_base::{Asked, BaseFault, Database, Made, Parcel, Put, Row, Window};
 use doc_json::{Body, Doc, DocFault, DocId, read_body, read_doc};
 use rev_core::Rev;
 use rev_tree::{Origin, SessionId};
@@ -193,26 +193,48 @@ fn prepare(alloc: Global, parcel: &mut Parcel, window: &Window) -> Result<()> {
     }
 }
 
-fn put_brought(alloc: Global, db: &mut Database, doc: &mut Brought, seq: u64) -> Result<Put> {
+/// Puts a document by what was made of it, or where that is used up or does not serve, as it is: at a row's sequence.
+fn put_made(
+    alloc: Global,
+    db: &mut Database,
+    doc: &Doc,
+    made: &mut Option<Made>,
+    seq: u64,
+) -> Result<()> {
     let origin = Origin::Feed(SessionId(1), seq);
     let before = reading(db, doc.id());
     let rows = feed(alloc, db)?;
-    match db.put_brought(doc, origin) {
-        Err(BaseFault::Memory) => {
+    match db.put_made(doc, made, origin) {
+        Ok(Some(_head)) => return Ok(()),
+        Ok(None) => {}
+        Err(AllocError) => {
             if reading(db, doc.id()) != before || feed(alloc, db)? != rows {
                 bail!("a refused put changed the database");
             }
-            Ok(db.put_brought(doc, origin)?)
         }
-        answer => Ok(answer?),
     }
+    match db.put(doc, origin) {
+        Err(BaseFault::Memory) => {
+            let _answer = db.put(doc, origin)?;
+        }
+        answer => {
+            let _answer = answer?;
+        }
+    }
+    Ok(())
 }
 
-/// Puts the documents of a row.
-fn put_row(alloc: Global, db: &mut Database, docs: &mut [Brought], row: &Row) -> Result<()> {
+/// Puts the documents of a row, by what was made of them.
+fn put_row(
+    alloc: Global,
+    db: &mut Database,
+    docs: &[Doc],
+    made: &mut [Option<Made>],
+    row: &Row,
+) -> Result<()> {
     for i in 0..docs.len() {
-        if docs[i].id() == row.id() {
-            let _answer = put_brought(alloc, db, &mut docs[i], row.seq())?;
+        if i < made.len() && docs[i].id() == row.id() {
+            put_made(alloc, db, &docs[i], &mut made[i], row.seq())?;
         }
     }
     Ok(())
@@ -223,9 +245,9 @@ fn arrived(alloc: Global, window: &Window, parcel: Parcel) -> Result<u64> {
     let mut db = Database::new(alloc, 9);
     let mut parcel = parcel;
     prepare(alloc, &mut parcel, window)?;
-    let (_, mut docs, _) = parcel.into_parts();
+    let (_, docs, _, mut made) = parcel.into_parts();
     for row in window.rows() {
-        put_row(alloc, &mut db, &mut docs, row)?;
+        put_row(alloc, &mut db, &docs, &mut made, row)?;
     }
     Ok(db.update_seq())
 }

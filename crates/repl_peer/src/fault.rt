@@ -6,8 +6,8 @@ ghost use Rattle.repl_peer.specs.session.Settling.{cause_by_database, cause_by_f
 ghost use Rattle.repl_peer.specs.declared.fault.Cause.TheVariants as causes;
 ghost use Rattle.repl_peer.specs.declared.fault.TargetFault.TheVariants as faults;
 
-use couch_base::{BaseFault, Brought};
-use doc_json::DocId;
+use couch_base::BaseFault;
+use doc_json::{Doc, DocId};
 use range_front::FrontFault;
 use repl_log::{Counts, LogFault};
 use rev_core::Rev;
@@ -88,7 +88,7 @@ pub enum TargetFault {
     #[error("stopped after {settled} documents")]
     Stopped {
         settled: u64,
-        rest: Vec<Brought>,
+        rest: Vec<Doc>,
         cause: Cause,
     },
     /// All documents are settled, and this leaf of the window's rows, the first such one, isn't covered. The window

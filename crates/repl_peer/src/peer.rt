@@ -1,5 +1,6 @@
 //! Peers.
-ghost use Rattle.std.specs.Prelude.{◌≡◌, ◌<◌, ◌≤◌, length, Ok, OnOk, OnErr, IfOk};
+ghost use Rattle.std.specs.Prelude.{◌≡◌, ◌<◌, ◌≤◌, not, length, Ok, OnOk, OnErr, IfOk};
+ghost use Rattle.std.specs.List.{find};
 ghost use Rattle.std.specs.Option.{option_copied};
 ghost use Rattle.rev_tree.specs.Tree.{has};
 ghost use Rattle.couch_base.specs.Database.{tree_of};
@@ -15,9 +16,11 @@ use crate::fault::{Report, Settled, TargetFault};
 use crate::peer::filter::WriteFilter;
 use crate::peer::written::Written;
 use crate::session::beginning::Beginning;
+use crate::session::ready_window::ReadyWindow;
+use crate::session::rows::has_in;
 use crate::session::sessions::Sessions;
 use crate::session::spent::Spent;
-use couch_base::{Asked, BaseFault, Database, Listed, Parcel, Put, Revised, Window};
+use couch_base::{Asked, BaseFault, Database, Listed, Near, Parcel, Put, Revised, Row, Window};
 use doc_json::{Body, Chosen, Doc, DocId};
 use repl_log::{Entry, Logs, Moment};
 use rev_core::Rev;
@@ -248,7 +251,20 @@ impl<F: WriteFilter> Peer<F> {
     pub fn covered(&self, id: &DocId, rev: Rev) -> bool
         ensures { result ≡ covers self.now.1 id.now rev }
     {
-        stores(&self.db, id, rev) || self.sessions.has_refused(id, rev)
+        has_in(self.db.tree(id), rev) || self.sessions.has_refused(id, rev)
+    }
+
+    /// The first leaf of a row that isn't covered, where the rows are looked at one behind the other.
+    pub fn uncovered_in(&self, near: &mut Near, row: &Row) -> Option<Rev>
+        ensures { result ≡ find (λ rev. not (covers self.now.1 row.now.id rev)) row.now.leaves }
+    {
+        let tree = self.db.tree_near(near, row.id());
+        for rev in row.leaves() {
+            if !(has_in(tree, *rev) || self.sessions.has_refused(row.id(), *rev)) {
+                return Some(*rev);
+            }
+        }
+        None
     }
 
     // ---- sessions
@@ -285,9 +301,20 @@ impl<F: WriteFilter> Peer<F> {
         ensures err { OnErr result (self.new.1 ≡ self.old.1) }
         ensures law { Lawful (F.refuses self.new.0) self.new.1 }
     {
+        self.append_ready(id, ReadyWindow::new(window))
+    }
+
+    /// As `append`, of a window that was made ready: once it is done, what is kept of it isn't made then.
+    pub fn append_ready(&mut self, id: SessionId, ready: ReadyWindow) -> Result<(), TargetFault>
+        ensures answer { GivesUnlessMemory result (append_answer self.old.1 id ready) }
+        ensures filter { self.new.0 ≡ self.old.0 }
+        ensures ok { OnOk result (self.new.1 ≡ after_append self.old.1 id ready) }
+        ensures err { OnErr result (self.new.1 ≡ self.old.1) }
+        ensures law { Lawful (F.refuses self.new.0) self.new.1 }
+    {
         // Readings of the window tell the proof that it is one.
-        let _hi = window.hi();
-        self.sessions.append(id, window)
+        let _hi = ready.window().hi();
+        self.sessions.append(id, ready)
     }
 
     /// Settles a parcel that a session fetched: its documents in order, then the mark of its window.
@@ -379,15 +406,5 @@ impl<F: WriteFilter + Drop> Peer<F> {
     {
         let db = Database::new_at(alloc, uuid, seq)?;
         Ok(Peer::without_sessions(alloc, db, filter))
-    }
-}
-
-/// Whether a revision is in its document's tree.
-fn stores(db: &Database, id: &DocId, rev: Rev) -> bool
-    ensures { result ≡ has (tree_of db.now.docs id.now) rev }
-{
-    match db.tree(id) {
-        Some(tree) => tree.has(rev),
-        None => false,
     }
 }

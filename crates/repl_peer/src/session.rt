@@ -8,9 +8,10 @@ ghost use Rattle.repl_peer.specs.session.Sessions.{GivesUnlessMemory, new_sessio
 
 pub(crate) mod beginning;
 mod ledger_index;
+pub(crate) mod ready_window;
 pub(crate) mod refused;
 mod rep_index;
-mod rows;
+pub(crate) mod rows;
 pub(crate) mod sessions;
 mod settle;
 pub(crate) mod spent;
@@ -21,9 +22,9 @@ use crate::fault::{Report, TargetFault};
 use crate::peer::written::Written;
 use crate::room::room_for_one;
 use crate::session::beginning::{Beginning, Scope};
+use crate::session::ready_window::ReadyWindow;
 use crate::session::refused::Refused;
 use crate::session::window::StoredWindow;
-use couch_base::Window;
 use range_front::Front;
 use repl_log::{Counts, Entry, Moment};
 use rev_tree::SessionId;
@@ -84,11 +85,12 @@ impl Session {
     ///
     /// `OtherLife` where it is of another life than the session; else `Gap` where it doesn't begin where the stored ones
     /// end; else `PastGoal` where it ends above the goal; else `Memory`. A refusal changes nothing.
-    pub(crate) fn append(&mut self, window: Window) -> Result<(), TargetFault>
-        ensures answer { GivesUnlessMemory result (append_in window self.old) }
-        ensures ok { OnOk result (self.new ≡ with_window window self.old (append_in window self.old)) }
+    pub(crate) fn append(&mut self, ready: ReadyWindow) -> Result<(), TargetFault>
+        ensures answer { GivesUnlessMemory result (append_in ready self.old) }
+        ensures ok { OnOk result (self.new ≡ with_window ready self.old (append_in ready self.old)) }
         ensures err { OnErr result (self.new ≡ self.old) }
     {
+        let window = ready.window();
         if window.life() != self.scope.life {
             return Err(TargetFault::OtherLife {
                 now: self.scope.life,
@@ -104,7 +106,7 @@ impl Session {
         }
         room_for_one(&mut self.windows)?;
         self.front.append(hi)?;
-        self.windows.push(StoredWindow::whole(window)).unwrap();
+        self.windows.push(StoredWindow::whole(ready)).unwrap();
         Ok(())
     }
 

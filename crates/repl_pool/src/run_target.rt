@@ -96,8 +96,8 @@ impl<F: WriteFilter, S: SourceBrand, T: TargetBrand<F>, L: Ledger> RunTarget<F, 
         }
     }
 
-    /// Stores a page of the source in the run's session: `Peer::append`. `None` exactly where the plan allows no further
-    /// window; then nothing is stored.
+    /// Stores a page of the source in the run's session: `Peer::append_ready`. `None` exactly where the plan allows no
+    /// further window; then nothing is stored.
     pub fn append(&mut self, page: Paged<S>) -> Option<Result<(), TargetFault>>
         ensures filter { self.new.0 ≡ self.old.0 }
         ensures left { IfSome T.given (λ g. LetsStore S.plan g.1 (is_some result) self.old.1.sessions) }
@@ -113,8 +113,8 @@ impl<F: WriteFilter, S: SourceBrand, T: TargetBrand<F>, L: Ledger> RunTarget<F, 
             return None;
         }
         let less = one_less(self.more);
-        let window = page.into_window();
-        match self.target.append(self.session, window) {
+        let ready = page.into_ready();
+        match self.target.append_ready(self.session, ready) {
             Ok(()) => {
                 self.more = less;
                 Some(Ok(()))

@@ -14,6 +14,30 @@ use std::thread::Threads;
 /// How many sequences are worth a thread of their own.
 const WORTH_A_THREAD: u64 = 2_000;
 
+/// Calls both, each in a thread of its own, or last in this one where none can be made, and waits for them.
+///
+/// This thread does no half itself: the system may let a thread that a busy one has made stand behind it for
+/// milliseconds, while other processors have nothing to do.
+fn join_apart<R: Threads, F: FnOnce() -> A + Send, G: FnOnce() -> B + Send, A: Send, B: Send>(
+    rt: &R,
+    f: F,
+    g: G,
+) -> (A, B)
+    requires { F.pre f × G.pre g }
+    ensures first { F.post f result.0 }
+    ensures second { G.post g result.1 }
+{
+    let (a, (b, _)) = thread::join(
+        rt,
+        f,
+        move || -> (B, ())
+            requires { G.pre g }
+            ensures { G.post g result.0 }
+        { thread::join(rt, g, || -> () {}) },
+    );
+    (a, b)
+}
+
 /// The first leaf that isn't covered of two stretches of a feed, the second behind the first.
 fn first_of(
     first: Result<Audit, AllocError>,
@@ -60,7 +84,7 @@ fn walk_halves<F: WriteFilter + Send + Sync, R: Threads + Sync>(
 {
     source.law();
     let middle = since + (upto - since) / 2;
-    let (first, second) = thread::join(
+    let (first, second) = join_apart(
         rt,
         || -> Result<Audit, AllocError>
             ensures { IfOk result (λ a. hole_of a
@@ -92,7 +116,7 @@ fn walk_quarters<F: WriteFilter + Send + Sync, R: Threads + Sync>(
 {
     source.law();
     let middle = since + (upto - since) / 2;
-    let (first, second) = thread::join(
+    let (first, second) = join_apart(
         rt,
         || -> Result<Audit, AllocError>
             requires { IsSync R.row × (since ≤ middle) }

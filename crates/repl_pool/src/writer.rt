@@ -100,7 +100,7 @@ impl<F: WriteFilter, S: SourceBrand, T: TargetBrand<F>, L: Ledger, G: Gate, R: W
             seat.old seat.new }
     {
         let documents = fetched.documents();
-        let mut spent = Spent::with_room(self.alloc, documents as usize)?;
+        let mut spent = Spent::new(self.alloc);
         show_read(self.board, seat, documents)?;
         self.settle_and_show(share, seat, fetched, &mut spent)?;
         drop(spent);

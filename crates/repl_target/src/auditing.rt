@@ -1,7 +1,6 @@
 //! The audit of a replication.
-ghost use Rattle.std.specs.Prelude.{◌≡◌, not, IfOk};
-ghost use Rattle.std.specs.List.{find};
-ghost use Rattle.repl_peer.specs.peer.Covered.{covers, first_uncovered};
+ghost use Rattle.std.specs.Prelude.{◌≡◌, IfOk};
+ghost use Rattle.repl_peer.specs.peer.Covered.{first_uncovered};
 ghost use Rattle.std.specs.Option.{option_copied};
 ghost use Rattle.couch_base.specs.Feed.{chosen_feed};
 ghost use Rattle.repl_target.specs.Audit.{audit_answer, hole_of, IsAudited};
@@ -10,10 +9,9 @@ ghost use Rattle.repl_target.specs.ties.Ties.{IsTiedPair};
 pub(crate) mod found;
 
 use crate::auditing::found::Audit;
-use couch_base::Row;
+use couch_base::{Near, Row};
 use doc_json::Chosen;
 use repl_peer::{Peer, WriteFilter, checkpoint, rep_between};
-use rev_core::Rev;
 use std::alloc::{AllocError, Global};
 
 /// How many rows of the source's feed are read at once.
@@ -84,9 +82,10 @@ pub fn hole_within<F: WriteFilter, G: WriteFilter>(
 {
     let goal = upto.min(source.db().update_seq());
     let mut since = above;
+    let mut near = Near::new();
     while since < goal {
         let page = source.page_due(alloc, since, goal, PAGE, chosen)?;
-        let found = first_hole(alloc, target, page.rows())?;
+        let found = first_hole(alloc, target, page.rows(), &mut near)?;
         if let Audit::Hole { seq, id, rev } = found {
             return Ok(Audit::Hole { seq, id, rev });
         }
@@ -100,11 +99,12 @@ fn first_hole<G: WriteFilter>(
     alloc: Global,
     target: &Peer<G>,
     rows: &[Row],
+    near: &mut Near,
 ) -> Result<Audit, AllocError>
     ensures answer { IfOk result (λ a. hole_of a ≡ first_uncovered target.now.1 rows.now) }
 {
     for row in rows {
-        if let Some(rev) = hole_in(target, row) {
+        if let Some(rev) = target.uncovered_in(near, row) {
             let id = row.id().copy(alloc)?;
             return Ok(Audit::Hole {
                 seq: row.seq(),
@@ -114,16 +114,4 @@ fn first_hole<G: WriteFilter>(
         }
     }
     Ok(Audit::Clean)
-}
-
-/// The first leaf of a row that isn't covered.
-fn hole_in<G: WriteFilter>(target: &Peer<G>, row: &Row) -> Option<Rev>
-    ensures { result ≡ find (λ rev. not (covers target.now.1 row.now.id rev)) row.now.leaves }
-{
-    for rev in row.leaves() {
-        if !target.covered(row.id(), *rev) {
-            return Some(*rev);
-        }
-    }
-    None
 }

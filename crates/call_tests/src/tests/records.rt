@@ -1,6 +1,6 @@
 //! Texts of what sessions say and refuse.
 use crate::tests::texts::{joined, place_text};
-use couch_base::Brought;
+use doc_json::Doc;
 use repl_log::{Entry, Log, common};
 use repl_target::{Cause, Report, Settled, TargetFault};
 use std::alloc::Global;
@@ -97,7 +97,7 @@ pub(crate) fn fault_text(alloc: Global, fault: TargetFault) -> Option<String> {
 }
 
 /// Where a parcel was settled only in part: how many documents are settled, the others, and why.
-fn stopped_text(alloc: Global, settled: u64, rest: &[Brought], cause: Cause) -> Option<String> {
+fn stopped_text(alloc: Global, settled: u64, rest: &[Doc], cause: Cause) -> Option<String> {
     let Some(rest) = ids_text(alloc, rest) else {
         return None;
     };
@@ -105,7 +105,7 @@ fn stopped_text(alloc: Global, settled: u64, rest: &[Brought], cause: Cause) -> 
 }
 
 /// The ids of documents.
-fn ids_text(alloc: Global, docs: &[Brought]) -> Option<String> {
+fn ids_text(alloc: Global, docs: &[Doc]) -> Option<String> {
     let mut all = String::new(alloc);
     for doc in docs {
         let Ok(()) = all.push_str(" ") else {

@@ -111,7 +111,7 @@ fn wanted_text(alloc: Global, wanted: &Wanted) -> Option<String> {
 pub(crate) fn parcel_text(alloc: Global, parcel: &Parcel) -> Option<String> {
     let mut all = bounds_text(alloc, parcel.lo(), parcel.hi());
     for doc in parcel.docs() {
-        all = joined(all, doc_text(alloc, doc.doc()));
+        all = joined(all, doc_text(alloc, doc));
     }
     for (id, rev) in parcel.gone() {
         all = joined(all, gone_text(alloc, id, *rev));

@@ -132,7 +132,7 @@ fn brings_leaves(
     let mut at = from;
     for leaf in &tree.leaves_above(rt, alloc, revs) {
         let doc = parcel.docs().get(at).expect(rt, "a document too few");
-        is_leaf(rt, alloc, doc.doc(), number, tree, *leaf);
+        is_leaf(rt, alloc, doc, number, tree, *leaf);
         at = at.saturating_add(1);
     }
     at

@@ -1,5 +1,5 @@
 -- Settling over the parts of a peer: a database, one session and the index of refused revisions.
-use Rattle.std.specs.Prelude.{◌≡◌, ℕ, ◌<◌, ◌≤◌, ◌==◌, Bool, true, false, ◌&&◌, ◌||◌, if◌then◌else◌, List, [], ◌∷◌, ◌++◌, length, take, drop, slice_get, Option, Some, None, Result, Ok, Err}
+use Rattle.std.specs.Prelude.{◌≡◌, ℕ, ◌<◌, ◌≤◌, ◌==◌, Bool, true, false, ◌&&◌, ◌||◌, if◌then◌else◌, List, [], ◌∷◌, length, take, drop, slice_get, Some, None, Result, Ok, Err}
 use Rattle.std.specs.List.{find}
 use Rattle.std.specs.Str.{bytes_eq}
 use Rattle.rev_core.specs.Rev.{RevId}
@@ -10,15 +10,13 @@ use Rattle.doc_json.specs.Document.{Document}
 use Rattle.couch_base.specs.Database.{Id, DatabaseValue, tree_of}
 use Rattle.couch_base.specs.Feed.{RowValue, WindowValue}
 use Rattle.couch_base.specs.Messages.{ParcelValue}
-use Rattle.couch_base.specs.Put.{put_answer, after_put}
 use Rattle.range_front.specs.Front.{finished}
 use Rattle.repl_peer.specs.peer.Peer.{PeerValue, SessionValue, RefusedValue}
 use Rattle.repl_peer.specs.peer.Covered.{in_ledger, first_unknown}
 use Rattle.repl_peer.specs.session.LedgerIndex.{is_ledgered}
-use Rattle.repl_peer.specs.session.Settling.{Settling, is_full, with_refused, with_arrival, fed, Halts, stops_in, stops_at, settle_one, leaf_count, asked_count, settle_docs, settled_before, settle_at, window_in, with_done, with_checked, GrownBy}
+use Rattle.repl_peer.specs.session.Settling.{Settling, fed, Halts, stops_at, settle_one, leaf_count, asked_count, settle_docs, settled_before, settle_at, window_in, with_done, with_checked, GrownBy}
 use Rattle.repl_peer.specs.declared.fault.Cause.{Cause}
 use Rattle.repl_peer.specs.declared.fault.Cause.TheVariants as causes
-use Rattle.repl_peer.specs.declared.fault.Reason.{Reason}
 use Rattle.repl_peer.specs.declared.fault.Settled.{Settled}
 use Rattle.repl_peer.specs.declared.fault.TargetFault.{TargetFault}
 use Rattle.repl_peer.specs.declared.fault.TargetFault.TheVariants as faults
@@ -59,22 +57,14 @@ pub record IsWindowAt (ws : List WindowValue) (lo hi i : ℕ) : Type 0 where
 
 -- ---- one document
 
--- a document that is taken: the database has it, and nothing more is refused
-pub record Accepts (d : Document) (o : Origin) (before after : DatabaseValue) (old new : LedgerIndex) : Type 0 where
-  pub room : is_full (put_answer before d) ≡ false
-  pub db : after ≡ after_put before d o
-  pub index : (id : Id) (r : RevId) → is_ledgered new id r ≡ is_ledgered old id r
+-- an index keeps its revisions
+abbrev pub IsSameIndex : LedgerIndex → LedgerIndex → Type 0
+IsSameIndex old new = (id : Id) (r : RevId) → is_ledgered new id r ≡ is_ledgered old id r
 
--- a document that is refused: the database stays, and its revisions are refused
-pub record Rejects (d : Document) (before after : DatabaseValue) (old new : LedgerIndex) : Type 0 where
-  pub db : after ≡ before
-  pub index : (id : Id) (r : RevId)
-      → is_ledgered new id r ≡ (is_ledgered old id r || (bytes_eq d.id id && is_among r d.ancestry))
-
--- the session with it
-abbrev pub entered : Document → Option Reason → SessionValue → SessionValue
-entered d None s = with_arrival d s
-entered d (Some reason) s = with_refused d reason s
+-- an index has the revisions of a document more
+abbrev pub IsIndexedWith : Document → LedgerIndex → LedgerIndex → Type 0
+IsIndexedWith d old new =
+    (id : Id) (r : RevId) → is_ledgered new id r ≡ (is_ledgered old id r || (bytes_eq d.id id && is_among r d.ancestry))
 
 abbrev pub settling_at : DatabaseValue → SessionValue → Settling
 settling_at db session = record { db = db; session = session }
@@ -87,14 +77,6 @@ pub record Steps (refuses : Document → Bool) (o : Origin) (d : Document) (befo
 -- why a document stops, where it does: it finds no sequence, or memory was refused
 abbrev pub cause_at : Bool → Cause
 cause_at full = if full then causes.SeqFull else causes.Memory
-
--- the last of some documents stops
-pub record Stuck (refuses : Document → Bool) (all : List Document) (before : DatabaseValue) (cause : Cause) : Type 0
-  where
-    pub others : List Document
-    pub last : Document
-    pub split : all ≡ others ++ last ∷ []
-    pub why : cause ≡ cause_at (stops_in refuses before last)
 
 -- ---- the documents of a parcel
 

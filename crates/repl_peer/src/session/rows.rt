@@ -11,8 +11,8 @@ ghost use Rattle.repl_peer.specs.session.Settling.{seq_in};
 ghost use Rattle.repl_peer.specs.session.SettlingParts.{known_of, IsRowOf};
 
 use crate::session::ledger_index::LedgerIndex;
-use couch_base::{Brought, Database, Row, Wanted};
-use doc_json::DocId;
+use couch_base::{Database, Near, Row, Wanted};
+use doc_json::{Doc, DocId};
 use rev_core::Rev;
 use rev_tree::Tree;
 
@@ -62,7 +62,7 @@ pub(crate) fn seq_from(rows: &[Row], id: &DocId, from: usize) -> (usize, u64)
 }
 
 /// Whether each document has a row.
-pub(crate) fn all_have_rows(rows: &[Row], docs: &[Brought]) -> bool
+pub(crate) fn all_have_rows(rows: &[Row], docs: &[Doc]) -> bool
     ensures { result ≡ list_all (λ d. list_any (λ row. bytes_eq row.id d.id) rows.now) docs.now }
 {
     let mut place = 0;
@@ -98,7 +98,7 @@ pub(crate) fn asked_count(docs: &[Wanted]) -> u64
 }
 
 /// Whether a revision is in a tree, which may not be there.
-fn has_in(tree: Option<&Tree>, rev: Rev) -> bool
+pub(crate) fn has_in(tree: Option<&Tree>, rev: Rev) -> bool
     ensures { result ≡ has (unwrap_or (option_copied tree.entry) no_revisions) rev }
 {
     match tree {
@@ -116,10 +116,10 @@ fn is_known(tree: Option<&Tree>, ledgered: &LedgerIndex, id: &DocId, rev: Rev) -
 }
 
 /// The first leaf of a row that is neither in its document's tree nor refused.
-fn unknown_in(db: &Database, ledgered: &LedgerIndex, row: &Row) -> Option<Rev>
+fn unknown_in(db: &Database, ledgered: &LedgerIndex, row: &Row, near: &mut Near) -> Option<Rev>
     ensures { result ≡ find (λ rev. not (known_of db.now ledgered.now row.now.id rev)) row.now.leaves }
 {
-    let tree = db.tree(row.id());
+    let tree = db.tree_near(near, row.id());
     for rev in row.leaves() {
         if !is_known(tree, ledgered, row.id(), *rev) {
             return Some(*rev);
@@ -137,8 +137,9 @@ pub(crate) fn first_unknown<'a>(
     ensures { option_map (λ u. record { seq = u.0.now.seq; id = u.0.now.id; rev = u.1 }) result
         ≡ first_unknown (known_of db.now ledgered.now) rows.now }
 {
+    let mut near = Near::new();
     for row in rows {
-        if let Some(rev) = unknown_in(db, ledgered, row) {
+        if let Some(rev) = unknown_in(db, ledgered, row, &mut near) {
             return Some((row, rev));
         }
     }

@@ -15,10 +15,11 @@ use crate::peer::filter::WriteFilter;
 use crate::session::Session;
 use crate::session::beginning::Beginning;
 use crate::session::ledger_index::LedgerIndex;
+use crate::session::ready_window::ReadyWindow;
 use crate::session::rep_index::RepIndex;
 use crate::session::settle::settle_parcel;
 use crate::session::spent::Spent;
-use couch_base::{Database, Parcel, Window};
+use couch_base::{Database, Parcel};
 use doc_json::DocId;
 use indexmap::IndexMap;
 use repl_log::{Log, Moment, RepId};
@@ -204,16 +205,16 @@ impl Sessions {
     }
 
     /// Stores the next window of a session.
-    pub(crate) fn append(&mut self, id: SessionId, window: Window) -> Result<(), TargetFault>
-        ensures answer { GivesUnlessMemory result (answer_in self.old id (append_in window)) }
+    pub(crate) fn append(&mut self, id: SessionId, ready: ReadyWindow) -> Result<(), TargetFault>
+        ensures answer { GivesUnlessMemory result (answer_in self.old id (append_in ready)) }
         ensures ok { OnOk result (self.new
-            ≡ with_changed self.old id (λ s. with_window window s (append_in window s))) }
+            ≡ with_changed self.old id (λ s. with_window ready s (append_in ready s))) }
         ensures err { OnErr result (self.new ≡ self.old) }
     {
         let Some(session) = self.entries.get_mut(&id) else {
             return Err(TargetFault::NoSuchSession);
         };
-        session.append(window)
+        session.append(ready)
     }
 
     /// Settles a parcel of a session, as `settle_parcel` says. `NoSuchSession` comes before all else.

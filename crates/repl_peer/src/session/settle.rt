@@ -1,20 +1,19 @@
 //! Settling a parcel.
-ghost use Rattle.std.specs.Prelude.{◌≡◌, ◌<◌, ◌≤◌, ◌+◌, ◌-◌, ◌&&◌, ◌||◌, [], ◌∷◌, ◌++◌, Some, Ok, true, false, length, reverse, slice_get, OnOk, OnErr, IfOk, IfErr, MatchOption};
+ghost use Rattle.std.specs.Prelude.{◌≡◌, ◌<◌, ◌≤◌, ◌+◌, ◌-◌, [], ◌∷◌, ◌++◌, Some, Ok, true, false, length, drop, slice_get, OnOk, OnErr, IfOk, IfErr, IfSome, IfNone};
 ghost use Rattle.std.specs.List.{list_all};
 ghost use Rattle.std.specs.Vec.{vec_len, vec_capacity};
-ghost use Rattle.std.specs.Str.{bytes_eq};
-ghost use Rattle.rev_core.specs.Rev.{RevId};
-ghost use Rattle.rev_core.specs.Ancestry.{head_of, is_among};
+ghost use Rattle.rev_core.specs.Ancestry.{head_of};
 ghost use Rattle.doc_json.specs.Document.{Document};
-ghost use Rattle.couch_base.specs.Database.{Id, most};
+ghost use Rattle.couch_base.specs.Database.{most};
 ghost use Rattle.couch_base.specs.Feed.{WindowValue};
-ghost use Rattle.couch_base.specs.Put.{after_put};
+ghost use Rattle.couch_base.specs.Put.{put_answer, after_put};
+ghost use Rattle.couch_base.specs.Readied.{AreMade};
+ghost use Rattle.couch_base.specs.declared.fault.Put.TheVariants as puts;
 ghost use Rattle.range_front.specs.Front.{finish_answer, is_done};
-ghost use Rattle.repl_peer.specs.peer.Covered.{refusal_of};
 ghost use Rattle.repl_peer.specs.declared.session.ledger_index.LedgerIndex.{LedgerIndex};
-ghost use Rattle.repl_peer.specs.session.LedgerIndex.{is_ledgered};
-ghost use Rattle.repl_peer.specs.session.Settling.{Halts, stops_in, has_row};
-ghost use Rattle.repl_peer.specs.session.SettlingParts.{PartsGive, Reached, Marks, Accepts, Rejects, Steps, Stuck, cause_at, IndexesMore, KeepsIndexed, known_of, settling_at};
+ghost use Rattle.repl_peer.specs.peer.Peer.{written_of};
+ghost use Rattle.repl_peer.specs.session.Settling.{Halts, stops_in, has_row, with_refused};
+ghost use Rattle.repl_peer.specs.session.SettlingParts.{PartsGive, Reached, ReachedAll, Marks, Steps, cause_at, IndexesMore, IsIndexedWith, IsSameIndex, KeepsIndexed, known_of, settling_at};
 
 use crate::fault::{Cause, Reason, Settled, TargetFault};
 use crate::peer::filter::{Verdict, WriteFilter};
@@ -27,11 +26,19 @@ use crate::session::rows::{first_unknown, seq_from};
 use crate::session::spent::Spent;
 use crate::session::stored::{Checked, check};
 use crate::session::window::let_leaves_go_at;
-use couch_base::{BaseFault, Brought, Database, Parcel};
-use doc_json::Doc;
+use couch_base::{BaseFault, Database, Made, Parcel};
+use doc_json::{Doc, DocId};
+use repl_log::Counts;
 use rev_core::KeptRev;
 use rev_tree::Origin;
 use std::alloc::{AllocError, Global};
+
+/// Why the documents of a parcel stopped, and how many were settled before.
+#[derive(Drop)]
+struct Stop {
+    settled: usize,
+    cause: Cause,
+}
 
 /// Settles a parcel: its documents in order, then the mark of its window.
 ///
@@ -53,28 +60,26 @@ pub(crate) fn settle_parcel<F: WriteFilter>(
     ensures keeps { KeepsIndexed session.old ledgered.old session.new ledgered.new }
 {
     let checked = check(session, &parcel)?;
-    let (asked, mut docs, gone) = parcel.into_parts();
-    spent.keep_asked(asked, gone);
+    let (asked, docs, gone, mut made) = parcel.into_parts();
     let (written, failures) = (session.counts.written, session.counts.failures);
-    let all = docs.len();
-    let stop = settle_in_order(
+    let settled = docs.len() as u64;
+    if let Err(stop) = settle_in_order(
         filter,
         db,
         ledgered,
         session,
         checked.place,
-        &mut docs,
-        spent,
-    );
-    let settled = (all - docs.len()) as u64;
-    if let Err(cause) = stop {
+        &docs,
+        &mut made,
+    ) {
         return Err(TargetFault::Stopped {
-            settled,
-            rest: docs,
-            cause,
+            settled: stop.settled as u64,
+            rest: without_first(docs, stop.settled),
+            cause: stop.cause,
         });
     }
-    if let Err(fault) = mark_window(db, ledgered, session, checked, settled, docs) {
+    spent.keep(asked, docs, gone, made);
+    if let Err(fault) = mark_window(db, ledgered, session, checked, settled) {
         return Err(fault);
     }
     Ok(Settled {
@@ -83,7 +88,20 @@ pub(crate) fn settle_parcel<F: WriteFilter>(
     })
 }
 
-/// Settles documents in order, until one stops. Those that are left stay.
+/// Some documents without so many of the first. It takes no memory.
+fn without_first(mut docs: Vec<Doc>, count: usize) -> Vec<Doc>
+    requires { count ≤ length docs.items }
+    ensures { result.items ≡ drop count docs.items }
+{
+    let left = docs.len() - count;
+    docs.reverse();
+    docs.truncate(left);
+    docs.reverse();
+    docs
+}
+
+/// Settles documents in order, until one stops. What is made of them stands beside them, and is taken out where it is
+/// used.
 ///
 /// Each has a row in the window at the place. What the mark of that window needs is made first.
 fn settle_in_order<F: WriteFilter>(
@@ -92,27 +110,29 @@ fn settle_in_order<F: WriteFilter>(
     ledgered: &mut LedgerIndex,
     session: &mut Session,
     place: usize,
-    docs: &mut Vec<Brought>,
-    spent: &mut Spent,
-) -> Result<(), Cause>
+    docs: &[Doc],
+    made: &mut Vec<Option<Made>>,
+) -> Result<(), Stop>
     requires rows { (w : WindowValue)
         × (slice_get session.old.windows place ≡ Some w)
-        × (list_all (has_row w) docs.old.items ≡ true) }
+        × (list_all (has_row w) docs.now ≡ true) }
     requires remains { (w : WindowValue)
         → slice_get session.old.windows place ≡ Some w
         → is_done session.old.front w.lo w.hi ≡ false }
-    requires room { session.old.counts.read + length docs.old.items ≤ most }
-    ensures reached { (w : WindowValue)
+    requires room { session.old.counts.read + length docs.now ≤ most }
+    requires made { AreMade docs.now made.old.items }
+    ensures within { IfErr result (λ stop. stop.settled ≤ length docs.now) }
+    ensures ok { OnOk result ((w : WindowValue)
         → slice_get session.old.windows place ≡ Some w
-        → Reached (F.refuses filter.now) w (settling_at db.old session.old) docs.old.items
-        (length docs.old.items - length docs.new.items) docs.new.items (settling_at db.new session.new) }
-    ensures fewer { length docs.new.items ≤ length docs.old.items }
-    ensures ok { OnOk result (docs.new.items ≡ []) }
-    ensures why { IfErr result
-        (λ cause. (w : WindowValue)
+        → ReachedAll (F.refuses filter.now) w (settling_at db.old session.old) docs.now
+        (settling_at db.new session.new)) }
+    ensures reached { IfErr result (λ stop. (w : WindowValue)
         → slice_get session.old.windows place ≡ Some w
-        → Halts (F.refuses filter.now) w (settling_at db.old session.old) docs.old.items
-        (length docs.old.items - length docs.new.items) cause) }
+        → Reached (F.refuses filter.now) w (settling_at db.old session.old) docs.now stop.settled
+        (drop stop.settled docs.now) (settling_at db.new session.new)) }
+    ensures why { IfErr result (λ stop. (w : WindowValue)
+        → slice_get session.old.windows place ≡ Some w
+        → Halts (F.refuses filter.now) w (settling_at db.old session.old) docs.now stop.settled stop.cause) }
     ensures front { session.new.front ≡ session.old.front }
     ensures windows { session.new.windows ≡ session.old.windows }
     ensures indexed { (base : LedgerIndex)
@@ -120,44 +140,45 @@ fn settle_in_order<F: WriteFilter>(
         → IndexesMore base session.new.ledger ledgered.new }
 {
     if let Err(refused) = session.front.reserve() {
-        let Some(doc) = docs.first() else {
-            return Err(Cause::from(refused));
+        let cause = match docs.first() {
+            Some(doc) => cause_of(filter, db, doc, refused),
+            None => Cause::from(refused),
         };
-        return Err(cause_of(filter, db, doc.doc(), refused));
+        return Err(Stop { settled: 0, cause });
     }
-    docs.reverse();
-    let settled = settle_from_end(filter, db, ledgered, session, place, docs, spent);
-    docs.reverse();
-    settled
+    settle_each(filter, db, ledgered, session, place, docs, made)
 }
 
-/// Settles documents, which stand in reverse, until one stops. Those that are left stay, in reverse.
-///
-/// Each has a row in the window at the place.
-fn settle_from_end<F: WriteFilter>(
+/// Settles documents in order, until one stops: `settle_in_order`.
+fn settle_each<F: WriteFilter>(
     filter: &F,
     db: &mut Database,
     ledgered: &mut LedgerIndex,
     session: &mut Session,
     place: usize,
-    docs: &mut Vec<Brought>,
-    spent: &mut Spent,
-) -> Result<(), Cause>
+    docs: &[Doc],
+    made: &mut Vec<Option<Made>>,
+) -> Result<(), Stop>
     requires rows { (w : WindowValue)
         × (slice_get session.old.windows place ≡ Some w)
-        × (list_all (has_row w) docs.old.items ≡ true) }
+        × (list_all (has_row w) docs.now ≡ true) }
     requires remains { (w : WindowValue)
         → slice_get session.old.windows place ≡ Some w
         → is_done session.old.front w.lo w.hi ≡ false }
-    requires room { session.old.counts.read + length docs.old.items ≤ most }
-    ensures reached { (w : WindowValue)
+    requires room { session.old.counts.read + length docs.now ≤ most }
+    requires made { AreMade docs.now made.old.items }
+    ensures within { IfErr result (λ stop. stop.settled ≤ length docs.now) }
+    ensures ok { OnOk result ((w : WindowValue)
         → slice_get session.old.windows place ≡ Some w
-        → Reached (F.refuses filter.now) w (settling_at db.old session.old) (reverse docs.old.items)
-        (length docs.old.items - length docs.new.items) (reverse docs.new.items)
-        (settling_at db.new session.new) }
-    ensures fewer { length docs.new.items ≤ length docs.old.items }
-    ensures ok { OnOk result (docs.new.items ≡ []) }
-    ensures why { IfErr result (Stuck (F.refuses filter.now) docs.new.items db.new) }
+        → ReachedAll (F.refuses filter.now) w (settling_at db.old session.old) docs.now
+        (settling_at db.new session.new)) }
+    ensures reached { IfErr result (λ stop. (w : WindowValue)
+        → slice_get session.old.windows place ≡ Some w
+        → Reached (F.refuses filter.now) w (settling_at db.old session.old) docs.now stop.settled
+        (drop stop.settled docs.now) (settling_at db.new session.new)) }
+    ensures why { IfErr result (λ stop. (d : Document)
+        × (slice_get docs.now stop.settled ≡ Some d)
+        × (stop.cause ≡ cause_at (stops_in (F.refuses filter.now) db.new d))) }
     ensures front { session.new.front ≡ session.old.front }
     ensures windows { session.new.windows ≡ session.old.windows }
     ensures indexed { (base : LedgerIndex)
@@ -165,40 +186,43 @@ fn settle_from_end<F: WriteFilter>(
         → IndexesMore base session.new.ledger ledgered.new }
 {
     let mut row = 0;
-    while let Some(doc) = docs.last() {
+    for i in 0..docs.len() {
         // Only done windows are not kept whole.
         let Some(rows) = session.windows[place].rows() else {
             unreachable!()
         };
-        let (found, seq) = seq_from(rows, doc.id(), row);
+        let (found, seq) = seq_from(rows, docs[i].id(), row);
         row = found;
         let origin = Origin::Feed(session.id, seq);
-        settle_last(filter, db, ledgered, session, docs, origin, spent)?;
+        if let Err(cause) = settle_one(filter, db, ledgered, session, docs, i, made, origin) {
+            return Err(Stop { settled: i, cause });
+        }
     }
     Ok(())
 }
 
-/// Settles the last of some documents, of which there is one: it is entered among the arrivals, or into the ledger, and
-/// counted. An error changes nothing.
-fn settle_last<F: WriteFilter>(
+/// Settles the document at a place: it is entered among the arrivals, or into the ledger, and counted. An error changes
+/// nothing, but what was made of it may be gone.
+fn settle_one<F: WriteFilter>(
     filter: &F,
     db: &mut Database,
     ledgered: &mut LedgerIndex,
     session: &mut Session,
-    docs: &mut Vec<Brought>,
+    docs: &[Doc],
+    i: usize,
+    made: &mut Vec<Option<Made>>,
     origin: Origin,
-    spent: &mut Spent,
 ) -> Result<(), Cause>
-    requires one { 0 < vec_len docs.old }
+    requires within { i < length docs.now }
+    requires made { AreMade docs.now made.old.items }
     requires room { session.old.counts.read < most }
-    ensures settled { OnOk result
-        ((d : Document)
-        × (docs.old.items ≡ docs.new.items ++ d ∷ [])
-        × Steps (F.refuses filter.now) origin d (settling_at db.old session.old) (settling_at db.new session.new)) }
-    ensures docs { OnErr result (docs.new.items ≡ docs.old.items) }
+    ensures settled { OnOk result ((d : Document) → slice_get docs.now i ≡ Some d
+        → Steps (F.refuses filter.now) origin d (settling_at db.old session.old) (settling_at db.new session.new)) }
     ensures db { OnErr result (db.new ≡ db.old) }
     ensures session { OnErr result (session.new ≡ session.old) }
-    ensures why { IfErr result (Stuck (F.refuses filter.now) docs.old.items db.old) }
+    ensures why { IfErr result (λ cause. (d : Document) → slice_get docs.now i ≡ Some d
+        → cause ≡ cause_at (stops_in (F.refuses filter.now) db.old d)) }
+    ensures made { AreMade docs.now made.new.items }
     ensures read { OnOk result (session.new.counts.read ≡ session.old.counts.read + 1) }
     ensures front { session.new.front ≡ session.old.front }
     ensures windows { session.new.windows ≡ session.old.windows }
@@ -206,143 +230,188 @@ fn settle_last<F: WriteFilter>(
         → IndexesMore base session.old.ledger ledgered.old
         → IndexesMore base session.new.ledger ledgered.new }
 {
-    let mut doc = docs.pop().unwrap();
-    let alloc = *session.arrivals.allocator();
-    let head = match keep_head(filter, db, alloc, doc.doc()) {
-        Ok(head) => head,
-        Err(cause) => {
-            docs.push_reserved(doc);
-            return Err(cause);
-        }
+    let doc = &docs[i];
+    if is_refused(filter, doc) {
+        return refuse(ledgered, session, doc, Reason::Filtered);
+    }
+    let id = match room_for_arrival(&mut session.arrivals, doc) {
+        Ok(id) => id,
+        Err(refused) => return Err(cause_of(filter, db, doc, refused)),
     };
-    let reason = match decide(
-        filter,
-        db,
-        ledgered,
-        &mut session.arrivals,
-        &mut session.ledger,
-        &mut doc,
-        origin,
-    ) {
-        Ok(reason) => reason,
-        Err(cause) => {
-            docs.push_reserved(doc);
-            return Err(cause);
-        }
-    };
-    let doc = doc.into_doc();
-    session.counts.read += 1;
-    match reason {
-        Some(reason) => {
-            session.ledger.push(Refused::new(doc, reason)).unwrap();
-            session.counts.failures += 1;
+    match put_made_at(db, docs, i, made, origin)? {
+        Some(head) => {
+            arrive(&mut session.arrivals, &mut session.counts, id, head, doc);
             Ok(())
         }
-        None => {
-            let (id, ancestry, _, body) = doc.into_parts();
-            let written = Written::whole(id, head, &ancestry);
-            spent.keep(ancestry, body);
-            session.arrivals.push(written).unwrap();
-            session.counts.written += 1;
-            Ok(())
-        }
+        None => settle_unmade(filter, db, ledgered, session, doc, id, origin),
     }
 }
 
-/// The head of a document, kept.
-fn keep_head<F: WriteFilter>(
-    filter: &F,
-    db: &Database,
-    alloc: Global,
-    doc: &Doc,
-) -> Result<KeptRev, Cause>
-    ensures head { IfOk result (λ head. head_of doc.now.ancestry ≡ Some head) }
-    ensures why { IfErr result (λ cause. cause ≡ cause_at (stops_in (F.refuses filter.now) db.now doc.now)) }
+/// Makes a place among the arrivals, and copies a document's id for it. A refusal changes nothing.
+fn room_for_arrival(arrivals: &mut Vec<Written>, doc: &Doc) -> Result<DocId, AllocError>
+    ensures place { OnOk result (vec_len arrivals.new < vec_capacity arrivals.new) }
+    ensures id { IfOk result (λ id. id ≡ doc.now.id) }
+    ensures arrivals { arrivals.new.items ≡ arrivals.old.items }
 {
-    match KeptRev::keep(alloc, &doc.ancestry().head()) {
-        Ok(head) => Ok(head),
-        Err(refused) => Err(cause_of(filter, db, doc, refused)),
+    room_for_one(arrivals)?;
+    doc.id().copy(*arrivals.allocator())
+}
+
+/// Puts the document at a place by what was made of it, where that can be: `Database::put_made`.
+fn put_made_at(
+    db: &mut Database,
+    docs: &[Doc],
+    i: usize,
+    made: &mut Vec<Option<Made>>,
+    origin: Origin,
+) -> Result<Option<KeptRev>, AllocError>
+    requires within { i < length docs.now }
+    requires made { AreMade docs.now made.old.items }
+    ensures made { AreMade docs.now made.new.items }
+    ensures put { IfOk result (λ put. IfSome put (λ head. (d : Document) → slice_get docs.now i ≡ Some d
+        → (head_of d.ancestry ≡ Some head)
+        × (put_answer db.old d ≡ Ok (puts.Changed (db.old.update_seq + 1)))
+        × (db.new ≡ after_put db.old d origin))) }
+    ensures unlike { IfOk result (λ put. IfNone put (db.new ≡ db.old)) }
+    ensures room { OnErr result ((d : Document) → slice_get docs.now i ≡ Some d
+        → put_answer db.old d ≡ Ok (puts.Changed (db.old.update_seq + 1))) }
+    ensures err { OnErr result (db.new ≡ db.old) }
+{
+    if i < made.len() {
+        db.put_made(&docs[i], &mut made[i], origin)
+    } else {
+        Ok(None)
     }
 }
 
-/// Puts a document, or answers why it is refused. Its arrival or its place in the ledger then needs no memory.
-///
-/// It stays the same document. An error changes nothing.
-fn decide<F: WriteFilter>(
+/// Enters a document among the arrivals, for which there is room, and counts it.
+fn arrive(arrivals: &mut Vec<Written>, counts: &mut Counts, id: DocId, head: KeptRev, doc: &Doc)
+    requires place { vec_len arrivals.old < vec_capacity arrivals.old }
+    requires id { id ≡ doc.now.id }
+    requires head { head_of doc.now.ancestry ≡ Some head }
+    requires read { counts.old.read < most }
+    requires written { counts.old.written < most }
+    ensures arrivals { arrivals.new.items ≡ arrivals.old.items ++ written_of doc.now ∷ [] }
+    ensures counts { counts.new ≡ record counts.old { read = counts.old.read + 1; written = counts.old.written + 1 } }
+{
+    arrivals
+        .push(Written::whole(id, head, doc.ancestry()))
+        .unwrap();
+    counts.read += 1;
+    counts.written += 1;
+}
+
+/// Settles a document that the filter accepts, and that can't be put by what was made of it: nothing was made for its
+/// origin, or it is there already, or no sequence is left. An error changes nothing.
+#[inline(never)]
+fn settle_unmade<F: WriteFilter>(
     filter: &F,
     db: &mut Database,
     ledgered: &mut LedgerIndex,
-    arrivals: &mut Vec<Written>,
-    ledger: &mut Vec<Refused>,
-    brought: &mut Brought,
+    session: &mut Session,
+    doc: &Doc,
+    id: DocId,
     origin: Origin,
-) -> Result<Option<Reason>, Cause>
-    ensures reason { IfOk result (λ reason. reason ≡ refusal_of (F.refuses filter.now) db.old brought.old) }
-    ensures decided { IfOk result
-        (λ reason. MatchOption reason (Accepts brought.old origin db.old db.new ledgered.old ledgered.new)
-        (λ _. Rejects brought.old db.old db.new ledgered.old ledgered.new)) }
-    ensures place { IfOk result
-        (λ reason. MatchOption reason (vec_len arrivals.new < vec_capacity arrivals.new)
-        (λ _. vec_len ledger.new < vec_capacity ledger.new)) }
-    ensures same { brought.new ≡ brought.old }
-    ensures arrivals { arrivals.new.items ≡ arrivals.old.items }
-    ensures ledger { ledger.new.items ≡ ledger.old.items }
+) -> Result<(), Cause>
+    requires accepted { F.refuses filter.now doc.now ≡ false }
+    requires id { id ≡ doc.now.id }
+    requires room { session.old.counts.read < most }
+    ensures settled { OnOk result
+        (Steps (F.refuses filter.now) origin doc.now (settling_at db.old session.old) (settling_at db.new session.new)) }
     ensures db { OnErr result (db.new ≡ db.old) }
-    ensures index { OnErr result
-        ((id : Id) (r : RevId) → is_ledgered ledgered.new id r ≡ is_ledgered ledgered.old id r) }
-    ensures why { IfErr result (λ cause. cause ≡ cause_at (stops_in (F.refuses filter.now) db.old brought.old)) }
+    ensures session { OnErr result (session.new ≡ session.old) }
+    ensures why { IfErr result (λ cause. cause ≡ cause_at (stops_in (F.refuses filter.now) db.old doc.now)) }
+    ensures read { OnOk result (session.new.counts.read ≡ session.old.counts.read + 1) }
+    ensures front { session.new.front ≡ session.old.front }
+    ensures windows { session.new.windows ≡ session.old.windows }
+    ensures indexed { (base : LedgerIndex)
+        → IndexesMore base session.old.ledger ledgered.old
+        → IndexesMore base session.new.ledger ledgered.new }
 {
-    if is_refused(filter, brought) {
-        note_ledgered(ledgered, ledger, brought.doc())?;
-        return Ok(Some(Reason::Filtered));
-    }
-    if let Err(refused) = room_for_one(arrivals) {
-        return Err(cause_of(filter, db, brought.doc(), refused));
-    }
-    match db.put_brought(brought, origin) {
-        Ok(_) => Ok(None),
+    let head = match room_and_head(&mut session.arrivals, doc) {
+        Ok(head) => head,
+        Err(refused) => return Err(cause_of(filter, db, doc, refused)),
+    };
+    match db.put(doc, origin) {
+        Ok(_) => {
+            arrive(&mut session.arrivals, &mut session.counts, id, head, doc);
+            Ok(())
+        }
         Err(fault) => match fault {
             BaseFault::Contradiction {
                 child,
                 known,
                 given,
             } => {
-                note_ledgered(ledgered, ledger, brought.doc())?;
-                Ok(Some(Reason::Contradicting {
+                let reason = Reason::Contradicting {
                     child,
                     known,
                     given,
-                }))
+                };
+                refuse(ledgered, session, doc, reason)
             }
             other => Err(Cause::from(other)),
         },
     }
 }
 
-/// Whether the filter refuses a document.
-fn is_refused<F: WriteFilter>(filter: &F, brought: &Brought) -> bool
-    ensures { result ≡ F.refuses filter.now brought.now }
+/// Makes a place among the arrivals, where there is none, and keeps a document's head for it. A refusal changes nothing.
+fn room_and_head(arrivals: &mut Vec<Written>, doc: &Doc) -> Result<KeptRev, AllocError>
+    ensures place { OnOk result (vec_len arrivals.new < vec_capacity arrivals.new) }
+    ensures head { IfOk result (λ head. head_of doc.now.ancestry ≡ Some head) }
+    ensures arrivals { arrivals.new.items ≡ arrivals.old.items }
 {
-    filter.verdict(brought.doc()) == Verdict::Refuse
+    room_for_one(arrivals)?;
+    KeptRev::keep(*arrivals.allocator(), &doc.ancestry().head())
 }
 
-/// Makes a place in the ledger, and adds a document's revisions to its index. A refusal changes nothing.
-fn note_ledgered(
+/// Enters a document into the ledger and its index. A refusal changes nothing.
+#[inline(never)]
+fn refuse(
+    ledgered: &mut LedgerIndex,
+    session: &mut Session,
+    doc: &Doc,
+    reason: Reason,
+) -> Result<(), Cause>
+    requires room { session.old.counts.read < most }
+    ensures refused { OnOk result (session.new ≡ with_refused doc.now reason session.old) }
+    ensures noted { OnOk result (IsIndexedWith doc.now ledgered.old ledgered.new) }
+    ensures session { OnErr result (session.new ≡ session.old) }
+    ensures index { OnErr result (IsSameIndex ledgered.old ledgered.new) }
+    ensures why { IfErr result (λ cause. cause ≡ cause_at false) }
+{
+    let refused = note_refused(ledgered, &mut session.ledger, doc, reason)?;
+    session.ledger.push(refused).unwrap();
+    session.counts.read += 1;
+    session.counts.failures += 1;
+    Ok(())
+}
+
+/// Whether the filter refuses a document.
+fn is_refused<F: WriteFilter>(filter: &F, doc: &Doc) -> bool
+    ensures { result ≡ F.refuses filter.now doc.now }
+{
+    filter.verdict(doc) == Verdict::Refuse
+}
+
+/// Makes a place in the ledger, and adds a document's revisions to its index: its entry of the ledger. A refusal changes
+/// nothing.
+fn note_refused(
     ledgered: &mut LedgerIndex,
     ledger: &mut Vec<Refused>,
     doc: &Doc,
-) -> Result<(), AllocError>
+    reason: Reason,
+) -> Result<Refused, AllocError>
     ensures place { OnOk result (vec_len ledger.new < vec_capacity ledger.new) }
-    ensures noted { OnOk result
-        ((id : Id) (r : RevId)
-        → is_ledgered ledgered.new id r
-        ≡ (is_ledgered ledgered.old id r || (bytes_eq doc.now.id id && is_among r doc.now.ancestry))) }
+    ensures entry { IfOk result (λ refused. refused ≡ record { doc = doc.now; reason = reason }) }
+    ensures noted { OnOk result (IsIndexedWith doc.now ledgered.old ledgered.new) }
     ensures ledger { ledger.new.items ≡ ledger.old.items }
-    ensures index { OnErr result
-        ((id : Id) (r : RevId) → is_ledgered ledgered.new id r ≡ is_ledgered ledgered.old id r) }
+    ensures index { OnErr result (IsSameIndex ledgered.old ledgered.new) }
 {
     room_for_one(ledger)?;
-    ledgered.add(doc)
+    let copy = doc.copy(*ledger.allocator())?;
+    ledgered.add(doc)?;
+    Ok(Refused::new(copy, reason))
 }
 
 /// Why a document for which memory is refused stops: it may find no sequence either. It takes no memory.
@@ -361,16 +430,14 @@ fn cause_of<F: WriteFilter>(filter: &F, db: &Database, doc: &Doc, refused: Alloc
 /// Marks the window at a place as done where each leaf of its rows is known, and counts its leaves and what was asked
 /// for.
 ///
-/// `settled` documents are settled, and none is left: `docs` is empty.
+/// `settled` documents are settled, and none is left.
 fn mark_window(
     db: &Database,
     ledgered: &LedgerIndex,
     session: &mut Session,
     checked: Checked,
     settled: u64,
-    docs: Vec<Brought>,
 ) -> Result<(), TargetFault>
-    requires none_left { docs.items ≡ [] }
     requires stored { (w : WindowValue)
         × (slice_get session.old.windows checked.place ≡ Some w)
         × (finish_answer session.old.front w.lo w.hi ≡ Ok tt) }
@@ -397,7 +464,7 @@ fn mark_window(
             Err(refused) => {
                 return Err(TargetFault::Stopped {
                     settled,
-                    rest: docs,
+                    rest: Vec::new(*session.windows.allocator()),
                     cause: Cause::from(refused),
                 });
             }
@@ -412,7 +479,7 @@ fn mark_window(
     if let Err(fault) = session.front.finish(lo, hi) {
         return Err(TargetFault::Stopped {
             settled,
-            rest: docs,
+            rest: Vec::new(*session.windows.allocator()),
             cause: Cause::from(fault),
         });
     }

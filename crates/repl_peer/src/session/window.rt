@@ -6,9 +6,10 @@ ghost use Rattle.repl_peer.specs.session.Settling.{has_row};
 ghost use Rattle.repl_peer.specs.session.Windows.{windows_of, IsThinner};
 
 use crate::peer::ghost_revs::{Came, GhostRevs};
+use crate::session::ready_window::ReadyWindow;
 use crate::session::rows::all_have_rows;
-use couch_base::{Brought, Row, Window};
-use doc_json::DocId;
+use couch_base::{Row, Window};
+use doc_json::{Doc, DocId};
 use std::alloc::{AllocError, Global};
 use std::marker::Model;
 
@@ -70,7 +71,7 @@ impl Model for DoneWindow {
 
 impl DoneWindow {
     /// A window without the leaves of its rows.
-    fn of(alloc: Global, window: &Window) -> Result<DoneWindow, AllocError>
+    pub(crate) fn of(alloc: Global, window: &Window) -> Result<DoneWindow, AllocError>
         ensures of { IfOk result (λ w. w ≡ window.now) }
     {
         let rows = done_rows(alloc, window.rows())?;
@@ -83,7 +84,7 @@ impl DoneWindow {
     }
 
     /// Whether each document has a row.
-    fn has_rows_of(&self, docs: &[Brought]) -> bool
+    fn has_rows_of(&self, docs: &[Doc]) -> bool
         ensures { result ≡ list_all (has_row self.now) docs.now }
     {
         for doc in docs {
@@ -131,7 +132,7 @@ pub struct StoredWindow {
 #[derive(Drop)]
 pub(crate) enum Kept {
     /// All of it.
-    Whole(Window),
+    Whole(ReadyWindow),
     /// What is asked of a done window.
     Done(DoneWindow),
 }
@@ -152,12 +153,12 @@ impl StoredWindow {
     ghost use Rattle.couch_base.specs.Feed.{IsWindow};
 
     /// A window as it comes.
-    pub(crate) fn whole(window: Window) -> StoredWindow
-        requires { IsWindow window }
-        ensures { result ≡ record { window = window; whole = true } }
+    pub(crate) fn whole(ready: ReadyWindow) -> StoredWindow
+        requires { IsWindow ready }
+        ensures { result ≡ record { window = ready; whole = true } }
     {
         StoredWindow {
-            kept: Kept::Whole(window),
+            kept: Kept::Whole(ready),
         }
     }
 
@@ -166,7 +167,7 @@ impl StoredWindow {
         ensures { result ≡ self.now.window.life }
     {
         match &self.kept {
-            Kept::Whole(window) => window.life(),
+            Kept::Whole(ready) => ready.window().life(),
             Kept::Done(window) => window.life,
         }
     }
@@ -177,7 +178,7 @@ impl StoredWindow {
         ensures window { IsWindow self.now.window }
     {
         match &self.kept {
-            Kept::Whole(window) => window.lo(),
+            Kept::Whole(ready) => ready.window().lo(),
             Kept::Done(window) => window.lo,
         }
     }
@@ -188,7 +189,7 @@ impl StoredWindow {
         ensures window { IsWindow self.now.window }
     {
         match &self.kept {
-            Kept::Whole(window) => window.hi(),
+            Kept::Whole(ready) => ready.window().hi(),
             Kept::Done(window) => window.hi,
         }
     }
@@ -200,27 +201,28 @@ impl StoredWindow {
         ensures window { IsWindow self.now.window }
     {
         match &self.kept {
-            Kept::Whole(window) => Some(window.rows()),
+            Kept::Whole(ready) => Some(ready.window().rows()),
             Kept::Done(_) => None,
         }
     }
 
     /// Whether each document has a row.
-    pub(crate) fn has_rows_of(&self, docs: &[Brought]) -> bool
+    pub(crate) fn has_rows_of(&self, docs: &[Doc]) -> bool
         ensures { result ≡ list_all (has_row self.now.window) docs.now }
     {
         match &self.kept {
-            Kept::Whole(window) => all_have_rows(window.rows(), docs),
+            Kept::Whole(ready) => all_have_rows(ready.window().rows(), docs),
             Kept::Done(window) => window.has_rows_of(docs),
         }
     }
 
-    /// Lets the leaves of the rows go. Where there is no memory for what is left, the window stays as it is.
+    /// Lets the leaves of the rows go. Where what is left was not made beforehand, and there is no memory for it, the
+    /// window stays as it is.
     pub(crate) fn let_leaves_go(&mut self, alloc: Global)
         ensures { self.new.window ≡ self.old.window }
     {
-        if let Kept::Whole(window) = &self.kept {
-            if let Ok(done) = DoneWindow::of(alloc, window) {
+        if let Kept::Whole(ready) = &mut self.kept {
+            if let Some(done) = ready.take_done(alloc) {
                 self.kept = Kept::Done(done);
             }
         }

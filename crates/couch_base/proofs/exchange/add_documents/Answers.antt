@@ -12,5 +12,5 @@ leaf_document-requires-clause-leaf c =
 pub loop-leaf-preserved : goal.loop-leaf-preserved
 loop-leaf-preserved c =
     let l = c.loop-leaf in
-    c.in_ok-push.ensures.items ∙ ap (λ (d : Document). l.docs.items ++ d ∷ []) (c.new.ensures ∙ c.in_ok-doc.ensures.document)
+    c.in_ok-push.ensures.items ∙ ap (λ (d : Document). l.docs.items ++ d ∷ []) c.in_ok-doc.ensures.document
     ∙ one_more_of (leaf_document c.args.id.now c.args.tree.now) c.args.leaves.now c.args.docs.now.items l.docs.items l.leaf-index c.leaf-item.result (omega arith) c.leaf-item.is l.invariant

@@ -1,5 +1,5 @@
 -- Rows, one after another.
-use Rattle.proof_words.proofs.{◌≡◌, ℕ, ◌+◌, ◌<◌, Bool, true, false, ◌&&◌, ◌||◌, List, [], ◌∷◌, ◌++◌, length, map, take, drop, get_or, Option, Some, None, slice_get, IfNone, sym, ap, ◌∙◌, zero, suc, cond-true, cond-false, and_parts, drop_more, list_any-append, list_all-append, list_any, list_all, bytes_eq, bytes_eq-Decides, take-append-drop}
+use Rattle.proof_words.proofs.{◌≡◌, ℕ, ◌+◌, ◌<◌, Bool, true, false, ◌&&◌, ◌||◌, List, [], ◌∷◌, length, map, take, drop, get_or, Option, Some, None, slice_get, IfNone, sym, ap, ◌∙◌, zero, suc, cond-true, cond-false, drop_more, list_any-append, list_any, list_all, bytes_eq, bytes_eq-Decides, take-append-drop}
 use Rattle.couch_base.specs.{EachOnce, Id, RowValue, none_some, some_is, both_false}
 use Rattle.repl_peer.specs.{seq_in}
 
@@ -17,9 +17,6 @@ none_both test xs n front back =
 pub IfNone_then : {X : Type 0} {P Q : Type 0} (o : Option X) → (P → Q) → IfNone o P → IfNone o Q
 IfNone_then None f h = f h
 IfNone_then (Some x) f h = tt
-
-pub all_before : {X : Type 0} (test : X → Bool) (all others : List X) (last : X) → all ≡ others ++ last ∷ [] → list_all test all ≡ true → list_all test others ≡ true
-all_before test all others last split h = (and_parts (list_all test others) (list_all test (last ∷ [])) (sym (list_all-append test others (last ∷ [])) ∙ sym (ap (list_all test) split) ∙ h)).0
 
 -- ---- sequences
 

@@ -1,33 +1,106 @@
 -- The documents of a parcel, one after another.
-use Rattle.proof_words.proofs.{◌≡◌, ℕ, ◌+◌, ◌-◌, ◌<◌, ◌≤◌, Bool, true, false, ◌&&◌, ◌||◌, List, [], ◌∷◌, ◌++◌, length, length-append, take, drop, reverse, Option, Some, None, Result, Ok, Err, IfErr, slice_get, zero, suc, refl, sym, ap, ◌∙◌, subst, arith, or-false, or_assoc, and_parts, and_from, cond-true, cond-false, cond_both, list_any-append, list_all-append, list_all, get_or, length-drop, drop_more, take_more, reverse-reverse, reverse-append, length-reverse, MatchOption, bytes_eq, take_all}
+use Rattle.proof_words.proofs.{◌≡◌, ℕ, ◌+◌, ◌-◌, ◌<◌, ◌≤◌, Bool, true, false, ◌&&◌, ◌||◌, List, [], ◌∷◌, ◌++◌, length, take, drop, Option, Some, None, Result, Ok, Err, IfErr, slice_get, zero, suc, refl, sym, ap, ◌∙◌, subst, arith, or-false, or_assoc, cond-true, cond-false, cond_both, list_any-append, get_or, length-drop, drop_more, take_more, bytes_eq, take_all, nat_lt, option_map, set, same_Some, IfSome, ◌⊎◌, inl, inr, OnOk, OnErr, IsTrue, false≢true, drop_all, slice_get_within, get_or_from_slice_get}
 use Rattle.rev_core.specs.{is_among, RevId}
-use Rattle.rev_tree.specs.{Origin}
+use Rattle.rev_tree.specs.Tree.{answer_of, is_same}
+use Rattle.rev_tree.specs.declared.fault.Contradiction.{Contradiction}
 use Rattle.doc_json.specs.Document.{Document}
-use Rattle.couch_base.specs.{Id, DatabaseValue, WindowValue, at-end, some_is, none_some, any_left, put_answer, after_put}
-use Rattle.repl_peer.specs.{SessionValue, RefusedValue, refusal_of, in_ledger, is_ledgered, Settling, is_full, settle_as, settle_one, settle_docs, Halts, stops_in, stops_at, settled_before, fed, Accepts, Rejects, Stuck, IndexesMore, KeepsIndexed, Reached, ReachedAll, cause_at, entered, Cause, Reason, LedgerIndex}
+use Rattle.couch_base.specs.{AreMade, Id, IsMadeOf, DatabaseValue, Made, WindowValue, none_some, any_left, most, tree_of, PutGives, is_changed, put_answer, put_told, after_put, BaseFault}
+use Rattle.couch_base.specs.declared.fault.BaseFault.TheVariants as base_faults
+use Rattle.couch_base.specs.declared.fault.Put.{Put}
+use Rattle.repl_peer.specs.{SessionValue, RefusedValue, contradiction_of, refusal_of, in_ledger, is_ledgered, Settling, is_full, settle_as, settle_one, settle_docs, Halts, stops_as, stops_in, stops_at, settled_before, fed, with_arrival, with_refused, IndexesMore, IsIndexedWith, IsSameIndex, KeepsIndexed, Reached, ReachedAll, cause_at, settling_at, Cause, Reason, LedgerIndex}
+use Rattle.repl_peer.specs.session.Settling.{cause_by_database}
 use Rattle.repl_peer.specs.declared.fault.Cause.TheVariants as causes
+use Rattle.repl_peer.specs.declared.fault.Reason.TheVariants as reasons
+
+-- ---- what is made of documents
+
+-- what stands where one was put in another's place
+set_at : {X : Type 0} (xs : List X) (i : ℕ) (x : X) (j : ℕ) (y : X) → slice_get (set xs i x) j ≡ Some y → (slice_get xs j ≡ Some y) ⊎ ((j ≡ i) × (x ≡ y))
+set_at [] i x j y at = inl at
+set_at (z ∷ xs) zero x zero y at = inr (refl, same_Some x y at)
+set_at (z ∷ xs) zero x (suc j) y at = inl at
+set_at (z ∷ xs) (suc i) x zero y at = inl at
+set_at (z ∷ xs) (suc i) x (suc j) y at = elim (set_at xs i x j y at) [ inl before ↦ inl before | inr here ↦ inr (ap suc here.0, here.1) ]
+
+pub made_set : (docs : List Document) (made : List (Option Made)) (i : ℕ) (d : Document) (m : Option Made) → AreMade docs made → slice_get docs i ≡ Some d → IfSome m (IsMadeOf d) → AreMade docs (set made i m)
+made_set docs made i d m all at so j e n doc here =
+    elim (set_at made i m j (Some n) here) [
+      | inl before ↦ all j e n doc before
+      | inr put ↦
+          let same : d ≡ e = same_Some d e (sym at ∙ ap (slice_get docs) (sym put.0) ∙ doc) in
+          subst (λ (x : Document). IsMadeOf x n) same (subst (λ (o : Option Made). IfSome o (IsMadeOf d)) put.1 so)
+    ]
 
 -- ---- one document
 
-pub indexes_from : (o : Origin) (d : Document) (before after : DatabaseValue) (old new base : LedgerIndex) (reason : Option Reason) (s t : SessionValue)
-    → MatchOption reason (Accepts d o before after old new) (λ _. Rejects d before after old new)
-    → t ≡ entered d reason s → IndexesMore base s.ledger old → IndexesMore base t.ledger new
-indexes_from o d before after old new base None s t a e h id r =
-    a.index id r ∙ h id r ∙ ap (λ (x : SessionValue). is_ledgered base id r || in_ledger x.ledger id r) (sym e)
-indexes_from o d before after old new base (Some reason) s t a e h id r =
+-- an index that has the ledger has what a refused document brings
+indexes_refused : (d : Document) (reason : Reason) (base old new : LedgerIndex) (s t : SessionValue) → IsIndexedWith d old new
+    → t ≡ with_refused d reason s → IndexesMore base s.ledger old → IndexesMore base t.ledger new
+indexes_refused d reason base old new s t noted e h id r =
     let x : RefusedValue = record { doc = d; reason = reason } in
     let here = bytes_eq d.id id && is_among r d.ancestry in
     let more : in_ledger (s.ledger ++ x ∷ []) id r ≡ (in_ledger s.ledger id r || here) =
     list_any-append (λ (y : RefusedValue). bytes_eq y.doc.id id && is_among r y.doc.ancestry) s.ledger (x ∷ []) ∙ ap (λ b. in_ledger s.ledger id r || b) (or-false here) in
-    a.index id r ∙ ap (λ b. b || here) (h id r) ∙ or_assoc (is_ledgered base id r) (in_ledger s.ledger id r) here
+    noted id r ∙ ap (λ b. b || here) (h id r) ∙ or_assoc (is_ledgered base id r) (in_ledger s.ledger id r) here
     ∙ ap (λ b. is_ledgered base id r || b) (sym more)
     ∙ ap (λ (x : SessionValue). is_ledgered base id r || in_ledger x.ledger id r) (sym e)
 
-pub last_is : {X : Type 0} (all others : List X) (last x : X) → all ≡ others ++ last ∷ [] → slice_get all (length all - 1) ≡ Some x → x ≡ last
-last_is all others last x split at =
-    let count : length all ≡ length others + 1 = ap length split ∙ length-append others (last ∷ []) in
-    let place : length all - 1 ≡ length others = omega (arith, count) in
-    some_is x last (sym (subst (λ k. slice_get all k ≡ Some x) place at) ∙ ap (λ l. slice_get l (length others)) split ∙ at-end others last)
+indexes_same : (base old new : LedgerIndex) (s t : SessionValue) → IsSameIndex old new → t.ledger ≡ s.ledger → IndexesMore base s.ledger old → IndexesMore base t.ledger new
+indexes_same base old new s t same e h id r = same id r ∙ h id r ∙ ap (λ (l : List RefusedValue). is_ledgered base id r || in_ledger l id r) (sym e)
+
+abbrev told_as : Contradiction → Reason
+told_as c = reasons.Contradicting c.child c.known c.given
+
+-- what is put contradicts nothing
+free_by : (c : Option Contradiction) (same room : Bool) (next : ℕ) (answer : Put) → put_told (answer_of c same) room next ≡ Ok answer → c ≡ None
+free_by None same room next answer h = refl
+free_by (Some c) same room next answer h = cc
+
+accepted_by : (refuses : Document → Bool) (d : Document) (db : DatabaseValue) (answer : Put) → refuses d ≡ false → put_answer db d ≡ Ok answer → refusal_of refuses db d ≡ None
+accepted_by refuses d db answer accepted ok =
+    cond-false (refuses d) (Some reasons.Filtered) (option_map told_as (contradiction_of db d)) accepted
+    ∙ ap (option_map told_as) (free_by (contradiction_of db d) (is_same (tree_of db.docs d.id) d.ancestry) (nat_lt db.update_seq most) (db.update_seq + 1) answer ok)
+
+-- an index after a document is refused, or finds no memory
+pub indexes_by : {A E : Type 0} (r : Result A E) (d : Document) (reason : Reason) (base old new : LedgerIndex) (s t : SessionValue)
+    → OnOk r (t ≡ with_refused d reason s) → OnOk r (IsIndexedWith d old new) → OnErr r (t ≡ s) → OnErr r (IsSameIndex old new)
+    → IndexesMore base s.ledger old → IndexesMore base t.ledger new
+indexes_by (Ok a) d reason base old new s t e noted kept same h = indexes_refused d reason base old new s t noted e h
+indexes_by (Err f) d reason base old new s t e noted kept same h = indexes_same base old new s t same (ap (λ (x : SessionValue). x.ledger) kept) h
+
+-- why a document that is put, or finds no memory for it, doesn't stop for want of a sequence
+goes_by : (refuses : Document → Bool) (db : DatabaseValue) (d : Document) (answer : Put) → refuses d ≡ false → put_answer db d ≡ Ok answer → stops_in refuses db d ≡ false
+goes_by refuses db d answer accepted ok = ap (stops_as db d) (accepted_by refuses d db answer accepted ok) ∙ ap is_full ok
+
+-- what a put of a document that contradicts nothing refuses
+full_by : (c : Option Contradiction) (same room : Bool) (next : ℕ) (fault : BaseFault) → put_told (answer_of c same) room next ≡ Err fault
+    → ((child known given : RevId) → fault ≡ base_faults.Contradiction child known given → ⊥) → (c ≡ None) × (fault ≡ base_faults.SeqFull)
+full_by (Some c) same room next fault h other = absurd (other c.child c.known c.given (cc))
+full_by None true room next fault h other = absurd (cc)
+full_by None false true next fault h other = absurd (cc)
+full_by None false false next fault h other = (refl, cc)
+
+given_by : (fault : BaseFault) (expected : Result Put BaseFault) → PutGives (Err fault) expected → ((fault ≡ base_faults.Memory) × (IsTrue (is_changed expected))) ⊎ (Err fault ≡ expected)
+given_by base_faults.Memory expected h = inl (refl, h)
+given_by fault expected h = inr h
+
+changed_by : (r : Result Put BaseFault) → IsTrue (is_changed r) → (p : Put) × (r ≡ Ok p)
+changed_by (Ok p) h = (p, refl)
+changed_by (Err fault) h = absurd (false≢true h)
+
+pub stops_by : (refuses : Document → Bool) (db : DatabaseValue) (d : Document) (fault : BaseFault) → refuses d ≡ false → PutGives (Err fault) (put_answer db d)
+    → ((child known given : RevId) → fault ≡ base_faults.Contradiction child known given → ⊥) → cause_by_database fault ≡ cause_at (stops_in refuses db d)
+stops_by refuses db d fault accepted gives other =
+    elim (given_by fault (put_answer db d) gives) [
+      | inl memory ↦
+          let changed = changed_by (put_answer db d) memory.1 in
+          ap cause_by_database memory.0 ∙ sym (ap cause_at (goes_by refuses db d changed.0 accepted changed.1))
+      | inr told ↦
+          let full = full_by (contradiction_of db d) (is_same (tree_of db.docs d.id) d.ancestry) (nat_lt db.update_seq most) (db.update_seq + 1) fault (sym told) other in
+          let free = cond-false (refuses d) (Some reasons.Filtered) (option_map told_as (contradiction_of db d)) accepted ∙ ap (option_map told_as) full.0 in
+          ap cause_by_database full.1
+          ∙ sym (ap cause_at (ap (stops_as db d) free ∙ ap is_full (sym told) ∙ ap (λ (f : BaseFault). is_full (Err f)) full.1))
+    ]
 
 -- ---- documents in order
 
@@ -74,7 +147,7 @@ drop_tail xs n x rest h =
 pub reached_none : (refuses : Document → Bool) (w : WindowValue) (z : Settling) (ds : List Document) → Reached refuses w z ds 0 ds z
 reached_none refuses w z ds = record { within = omega arith; rest = refl; settling = refl }
 
-pub reached_next : (refuses : Document → Bool) (w : WindowValue) (z mid after : Settling) (ds : List Document) (n : ℕ) (d : Document) (rest : List Document)
+reached_next : (refuses : Document → Bool) (w : WindowValue) (z mid after : Settling) (ds : List Document) (n : ℕ) (d : Document) (rest : List Document)
     → Reached refuses w z ds n (d ∷ rest) mid → stops_at refuses mid d ≡ false → after ≡ settle_one refuses w mid d → Reached refuses w z ds (n + 1) rest after
 reached_next refuses w z mid after ds n d rest h goes step =
     let parts = drop_tail ds n d rest h.rest in
@@ -96,7 +169,7 @@ reached_full refuses w z mid ds n d rest h stops =
     (λ i. settled_before refuses w (sym h.settling i) (sym h.rest i)) ∙ halts refuses w mid d rest stops in
     (omega (arith, split, none), parts.2)
 
-pub reached_all : (refuses : Document → Bool) (w : WindowValue) (z after : Settling) (ds : List Document) (n : ℕ) → Reached refuses w z ds n [] after → ReachedAll refuses w z ds after
+reached_all : (refuses : Document → Bool) (w : WindowValue) (z after : Settling) (ds : List Document) (n : ℕ) → Reached refuses w z ds n [] after → ReachedAll refuses w z ds after
 reached_all refuses w z after ds n h =
     let none : 0 ≡ length ds - n = ap length h.rest ∙ length-drop n ds in
     let some = before-le refuses w z ds in
@@ -105,11 +178,35 @@ reached_all refuses w z after ds n h =
       settling = h.settling ∙ ap (settle_docs refuses w z) (take_all n ds (omega (arith, none)));
     }
 
--- ---- what a loop reads
+-- the documents from a place on
+cut_at : (ds : List Document) (n : ℕ) (d : Document) → slice_get ds n ≡ Some d → drop n ds ≡ d ∷ drop (n + 1) ds
+cut_at ds n d at = drop_more ds n d (slice_get_within ds n d at) ∙ ap (λ (x : Document). x ∷ drop (n + 1) ds) (get_or_from_slice_get ds n d d at)
 
--- the last document
-pub last_at : (read docs : List Document) (d : Document) → read ≡ docs → slice_get read (length read - 1) ≡ Some d → slice_get docs (length docs - 1) ≡ Some d
-last_at read docs d same at = subst (λ (l : List Document). slice_get l (length l - 1) ≡ Some d) same at
+-- the one at the place is settled too
+pub reached_at : (refuses : Document → Bool) (w : WindowValue) (z mid after : Settling) (ds : List Document) (n : ℕ) (d : Document)
+    → Reached refuses w z ds n (drop n ds) mid → slice_get ds n ≡ Some d → stops_at refuses mid d ≡ false → after ≡ settle_one refuses w mid d
+    → Reached refuses w z ds (n + 1) (drop (n + 1) ds) after
+reached_at refuses w z mid after ds n d h at goes step =
+    reached_next refuses w z mid after ds n d (drop (n + 1) ds) (subst (λ (l : List Document). Reached refuses w z ds n l mid) (cut_at ds n d at) h) goes step
+
+-- none is left
+pub reached_end : (refuses : Document → Bool) (w : WindowValue) (z after : Settling) (ds : List Document) (n : ℕ) → Reached refuses w z ds n (drop n ds) after → length ds ≤ n → ReachedAll refuses w z ds after
+reached_end refuses w z after ds n h end =
+    reached_all refuses w z after ds n (subst (λ (l : List Document). Reached refuses w z ds n l after) (drop_all n ds end) h)
+
+-- all are settled, as the first of them
+pub reached_whole : (refuses : Document → Bool) (w : WindowValue) (z after : Settling) (ds : List Document) → ReachedAll refuses w z ds after → Reached refuses w z ds (length ds) [] after
+reached_whole refuses w z after ds h = record {
+  within = omega (arith, h.all);
+  rest = sym (drop_all (length ds) ds (omega arith));
+  settling = h.settling ∙ sym (ap (settle_docs refuses w z) (take_all (length ds) ds (omega arith)));
+}
+
+-- a document that stops leaves what was settled
+pub reached_kept : (refuses : Document → Bool) (w : WindowValue) (z : Settling) (db db' : DatabaseValue) (s t : SessionValue) (ds : List Document) (n : ℕ)
+    → db' ≡ db → t ≡ s → Reached refuses w z ds n (drop n ds) (settling_at db s) → Reached refuses w z ds n (drop n ds) (settling_at db' t)
+reached_kept refuses w z db db' s t ds n base same h =
+    subst (Reached refuses w z ds n (drop n ds)) (λ i. settling_at (sym base i) (sym same i)) h
 
 -- ---- what documents leave in the session
 
@@ -146,7 +243,7 @@ grows_as w z d (Some reason) =
       ledger = λ id r there. any_left (λ (x : RefusedValue). bytes_eq x.doc.id id && is_among r x.doc.ancestry) z.session.ledger (record { doc = d; reason = reason } ∷ []) there;
     }
 grows_as w z d None =
-    cond_both (is_full (put_answer z.db d)) z (record { db = after_put z.db d (fed w z.session.id d); session = entered d None z.session }) (λ (y : Settling). Grows z.session y.session)
+    cond_both (is_full (put_answer z.db d)) z (record { db = after_put z.db d (fed w z.session.id d); session = with_arrival d z.session }) (λ (y : Settling). Grows z.session y.session)
     (λ _. record { id = refl; rep = refl; checked = refl; found = refl; written = omega arith; failures = omega arith; ledger = λ id r there. there })
     (λ _. record { id = refl; rep = refl; checked = refl; found = refl; written = omega arith; failures = omega arith; ledger = λ id r there. there })
 
@@ -155,19 +252,7 @@ grows refuses w z [] = record { id = refl; rep = refl; checked = refl; found = r
 grows refuses w z (d ∷ ds) =
     grows_later z.session (settle_one refuses w z d).session (settle_docs refuses w z (d ∷ ds)).session (grows_as w z d (refusal_of refuses z.db d)) (grows refuses w (settle_one refuses w z d) ds)
 
--- ---- documents that stood in reverse
-
-pub reached_turned : (refuses : Document → Bool) (w : WindowValue) (z z' after : Settling) (docs given others left : List Document)
-    → z ≡ z' → given ≡ reverse docs → left ≡ reverse others
-    → Reached refuses w z (reverse given) (length given - length others) (reverse others) after → Reached refuses w z' docs (length docs - length left) left after
-reached_turned refuses w z z' after docs given others left same turned back h =
-    let all : reverse given ≡ docs = ap reverse turned ∙ reverse-reverse docs in
-    let n : length given - length others ≡ length docs - length left =
-    (λ i. length (turned i) - length others) ∙ (let a = length-reverse docs in let b = length-reverse others in let c = ap length back in omega (arith, a, b, c)) in
-    subst (λ (y : Settling). Reached refuses w y docs (length docs - length left) left after) same
-    (subst (λ (l : List Document). Reached refuses w z docs (length docs - length left) l after) (sym back)
-    (subst (λ (k : ℕ). Reached refuses w z docs k (reverse others) after) n
-    (subst (λ (l : List Document). Reached refuses w z l (length given - length others) (reverse others) after) all h)))
+-- ---- why documents stop
 
 -- why the next of them stops
 halts_at : (refuses : Document → Bool) (w : WindowValue) (z mid : Settling) (ds : List Document) (n : ℕ) (d : Document) (rest : List Document) → Reached refuses w z ds n (d ∷ rest) mid → (b : Bool) → stops_at refuses mid d ≡ b → Halts refuses w z ds n (cause_at b)
@@ -175,47 +260,38 @@ halts_at refuses w z mid ds n d rest h true stops = reached_full refuses w z mid
 halts_at refuses w z mid ds n d rest h false goes =
     λ within. let next = (reached_next refuses w z mid (settle_one refuses w mid d) ds n d rest h goes refl).within in omega (arith, next)
 
-pub halts_next : (refuses : Document → Bool) (w : WindowValue) (z mid : Settling) (ds : List Document) (n : ℕ) (d : Document) (rest : List Document) (cause : Cause) → Reached refuses w z ds n (d ∷ rest) mid → cause ≡ cause_at (stops_in refuses mid.db d) → Halts refuses w z ds n cause
+halts_next : (refuses : Document → Bool) (w : WindowValue) (z mid : Settling) (ds : List Document) (n : ℕ) (d : Document) (rest : List Document) (cause : Cause) → Reached refuses w z ds n (d ∷ rest) mid → cause ≡ cause_at (stops_in refuses mid.db d) → Halts refuses w z ds n cause
 halts_next refuses w z mid ds n d rest cause h why = subst (Halts refuses w z ds n) (sym why) (halts_at refuses w z mid ds n d rest h (stops_in refuses mid.db d) refl)
 
-pub halts_first : (refuses : Document → Bool) (w : WindowValue) (z : Settling) (ds : List Document) (n : ℕ) (d : Document) (cause : Cause) → n ≡ 0 → Some d ≡ slice_get ds 0 → cause ≡ cause_at (stops_in refuses z.db d) → Halts refuses w z ds n cause
-halts_first refuses w z [] n d cause none at why = absurd (none_some d (sym at))
-halts_first refuses w z (x ∷ rest) n d cause none at why =
-    let same : x ≡ d = some_is x d (sym at) in
-    subst (λ k. Halts refuses w z (x ∷ rest) k cause) (sym none)
-    (halts_next refuses w z z (x ∷ rest) 0 x rest cause (reached_none refuses w z (x ∷ rest)) (why ∙ ap (λ (y : Document). cause_at (stops_in refuses z.db y)) (sym same)))
+halts_by : (refuses : Document → Bool) (w : WindowValue) (z mid : Settling) (ds : List Document) (n : ℕ) (d : Document) (cause : Cause)
+    → Reached refuses w z ds n (drop n ds) mid → slice_get ds n ≡ Some d → cause ≡ cause_at (stops_in refuses mid.db d) → Halts refuses w z ds n cause
+halts_by refuses w z mid ds n d cause h at why =
+    halts_next refuses w z mid ds n d (drop (n + 1) ds) cause (subst (λ (l : List Document). Reached refuses w z ds n l mid) (cut_at ds n d at) h) why
+
+pub halts_first : (refuses : Document → Bool) (w : WindowValue) (z : Settling) (ds : List Document) (d : Document) (cause : Cause)
+    → slice_get ds 0 ≡ Some d → cause ≡ cause_at (stops_in refuses z.db d) → Halts refuses w z ds 0 cause
+halts_first refuses w z ds d cause at why = halts_by refuses w z z ds 0 d cause (reached_none refuses w z ds) at why
+
+-- why documents stop that stood before what was made ready for them
+pub halts_stop : (refuses : Document → Bool) (w : WindowValue) (z z' mid : Settling) (ds : List Document) (n : ℕ) (cause : Cause) → z ≡ z' → Reached refuses w z ds n (drop n ds) mid
+    → (d : Document) × (slice_get ds n ≡ Some d) × (cause ≡ cause_at (stops_in refuses mid.db d)) → Halts refuses w z' ds n cause
+halts_stop refuses w z z' mid ds n cause same h why = subst (λ (y : Settling). Halts refuses w y ds n cause) same (halts_by refuses w z mid ds n why.0 cause h why.1 why.2)
+
+-- there are none
+pub halts_none : (refuses : Document → Bool) (w : WindowValue) (z : Settling) (ds : List Document) → slice_get ds 0 ≡ None → Halts refuses w z ds 0 causes.Memory
+halts_none refuses w z [] none = λ within. absurd (omega (arith, within))
+halts_none refuses w z (d ∷ ds) none = absurd (none_some d (sym none))
 
 -- none of them is left
 pub halts_end : (refuses : Document → Bool) (w : WindowValue) (z mid : Settling) (ds : List Document) (n : ℕ) → Reached refuses w z ds n [] mid → Halts refuses w z ds n causes.Memory
 halts_end refuses w z mid ds n h = λ within. let none : 0 ≡ length ds - n = ap length h.rest ∙ length-drop n ds in absurd (omega (arith, none, within))
 
-pub halts_from : (refuses : Document → Bool) (w : WindowValue) (z after : Settling) (docs others left : List Document) (n : ℕ) (cause : Cause)
-    → Reached refuses w z docs n left after → left ≡ reverse others → Stuck refuses others after.db cause → Halts refuses w z docs n cause
-halts_from refuses w z after docs others left n cause h back s =
-    let turned : left ≡ s.last ∷ reverse s.others = back ∙ ap reverse s.split ∙ reverse-append s.others (s.last ∷ []) in
-    halts_next refuses w z after docs n s.last (reverse s.others) cause (subst (λ (l : List Document). Reached refuses w z docs n l after) turned h) s.why
-
-pub all_turned : (test : Document → Bool) (docs given : List Document) → given ≡ reverse docs → list_all test docs ≡ true → list_all test given ≡ true
-all_turned test docs given turned h = ap (list_all test) turned ∙ all_reverse test docs h
-  where
-    all_reverse : (test : Document → Bool) (docs : List Document) → list_all test docs ≡ true → list_all test (reverse docs) ≡ true
-    all_reverse test [] h = h
-    all_reverse test (d ∷ docs) h =
-        let parts = and_parts (test d) (list_all test docs) h in
-        ap (list_all test) (reverse-append (d ∷ []) docs) ∙ list_all-append test (reverse docs) (d ∷ []) ∙ and_from (list_all test (reverse docs)) (test d && true) (all_reverse test docs parts.1) (and_from (test d) true parts.0 refl)
-
-pub IfErr_then : {A E : Type 0} {P Q : E → Type 0} (r : Result A E) → ((e : E) → P e → Q e) → IfErr r P → IfErr r Q
-IfErr_then (Ok x) f h = tt
-IfErr_then (Err e) f h = f e h
+pub IfErr_both : {A E : Type 0} {P Q R : E → Type 0} (r : Result A E) → ((e : E) → P e → Q e → R e) → IfErr r P → IfErr r Q → IfErr r R
+IfErr_both (Ok x) f p q = tt
+IfErr_both (Err e) f p q = f e p q
 
 pub grown_by : (refuses : Document → Bool) (w : WindowValue) (z after : Settling) (docs others : List Document) (n : ℕ) → Reached refuses w z docs n others after → Grows z.session after.session
 grown_by refuses w z after docs others n h = subst (λ (y : Settling). Grows z.session y.session) (sym h.settling) (grows refuses w z (take n docs))
-
-pub reached_left : (refuses : Document → Bool) (w : WindowValue) (z after : Settling) (docs all left : List Document) (n m : ℕ) → docs ≡ all → n ≡ m → left ≡ [] → Reached refuses w z docs n left after → Reached refuses w z all m [] after
-reached_left refuses w z after docs all left n m same count none h =
-    subst (λ (l : List Document). Reached refuses w z l m [] after) same
-    (subst (λ (l : List Document). Reached refuses w z docs m l after) none
-    (subst (λ (k : ℕ). Reached refuses w z docs k left after) count h))
 
 -- what is kept while documents are settled
 pub keeps_reached : (refuses : Document → Bool) (w : WindowValue) (z after : Settling) (docs others : List Document) (n : ℕ) (index index' : LedgerIndex) → Reached refuses w z docs n others after

@@ -19,4 +19,4 @@ returns g c =
     (λ a. hole_of a ≡ option_or (first_uncovered target (chosen_feed chosen db since middle)) (first_uncovered target (chosen_feed chosen db middle upto)))
     (λ a. hole_of a ≡ first_uncovered target (chosen_feed chosen db since upto))
     (λ a e. e ∙ sym cut)
-    (c.first_of.ensures _ _ c.join-first.ensures.first c.join-first.ensures.second)
+    (c.first_of.ensures _ _ c.join_apart-first.ensures.first c.join_apart-first.ensures.second)

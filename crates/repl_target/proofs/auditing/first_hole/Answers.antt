@@ -12,6 +12,6 @@ returns-in-Some g c =
       answer = (λ i. Some (record { seq = c.seq.ensures i; id = (c.in_ok-id.ensures.copied ∙ c.id.ensures) i; rev = c.in-Some.rev }))
           ∙ sym
           (unknown_here (covers c.args.target.now.1) c.args.rows.now c.loop-row.row-index row u c.loop-row-test.true c.row-item.is
-          (ap (option_map (λ (rev : RevId). let l : Leaf = record { seq = row.seq; id = row.id; rev = rev } in l)) (sym c.hole_in.ensures ∙ c.in-Some.is)))
+          (ap (option_map (λ (rev : RevId). let l : Leaf = record { seq = row.seq; id = row.id; rev = rev } in l)) (sym c.uncovered_in.ensures ∙ c.in-Some.is)))
           ∙ c.loop-row.invariant;
     }

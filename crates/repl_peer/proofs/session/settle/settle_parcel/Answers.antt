@@ -1,42 +1,43 @@
-use Rattle.proof_words.proofs.{◌≡◌, ◌+◌, ◌-◌, ◌≤◌, ℕ, List, Some, Ok, length, slice_get, true, false, sym, ap, ◌∙◌, subst, arith, same_Some, list_all}
+use Rattle.proof_words.proofs.{◌≡◌, ◌+◌, ◌-◌, ◌≤◌, List, Some, Ok, length, drop, slice_get, true, false, sym, ap, ◌∙◌, subst, arith, same_Some, list_all}
 use Rattle.doc_json.specs.Document.{Document}
-use Rattle.couch_base.specs.{most, WindowValue, ParcelValue}
+use Rattle.couch_base.specs.{most, AreMade, WindowValue, ParcelValue}
 use Rattle.range_front.specs.{FrontValue, bounds, is_done, finish_answer}
-use Rattle.repl_peer.specs.{SessionValue, window_bounds, Halts, has_row, Reached, settling_at, known_of}
-use Rattle.repl_peer.proofs.{passed_by, room_of, can_finish, grown_by, reached_left, keeps_reached, keeps_marked, gives_from, stopped, ended_err, ended_ok}
+use Rattle.repl_peer.specs.{SessionValue, window_bounds, has_row, Reached, ReachedAll, settling_at, known_of}
+use Rattle.repl_peer.proofs.{passed_by, room_of, can_finish, grown_by, reached_whole, keeps_reached, keeps_marked, gives_from, stopped, ended_err, ended_ok}
 use Rattle.repl_peer.proofs.session.settle.settle_parcel.Goals as goal
 
-pub settle_in_order-stop-requires : goal.settle_in_order-stop-requires
-settle_in_order-stop-requires g c =
-    let docs = ap (λ (p : ParcelValue). p.docs) c.into_parts-asked.ensures.parts in
+pub settle_in_order-requires : goal.settle_in_order-requires
+settle_in_order-requires g c =
+    let docs : c.deref.result.now ≡ c.args.parcel.docs = c.deref.ensures.value ∙ sym (ap (λ (p : ParcelValue). p.docs) c.into_parts-asked.ensures.parts) in
     let p = c.in_ok-checked.ensures.ok in
     let q = passed_by c.args.session.now c.args.parcel _ _ _ p in
     let room = room_of c.args.session.now p.window c.args.parcel q.room in
     record {
-      rows = (p.window, p.at, subst (λ (l : List Document). list_all (has_row p.window) l ≡ true) docs q.rows);
+      rows = (p.window, p.at, subst (λ (l : List Document). list_all (has_row p.window) l ≡ true) (sym docs) q.rows);
       remains = λ w at. subst (λ (v : WindowValue). is_done c.args.session.now.front v.lo v.hi ≡ false) (same_Some p.window w (sym p.at ∙ at)) q.remains;
-      room = subst (λ (l : List Document). c.args.session.now.counts.read + length l ≤ most) docs room.read;
+      room = subst (λ (l : List Document). c.args.session.now.counts.read + length l ≤ most) (sym docs) room.read;
+      made = subst (λ (l : List Document). AreMade l c.into_parts-asked.result.3.items) (sym c.deref.ensures.value) c.into_parts-asked.ensures.made;
     }
 
 pub returns-in-Err : goal.returns-in-Err
 returns-in-Err g c =
-    let docs = ap (λ (p : ParcelValue). p.docs) c.into_parts-asked.ensures.parts in
+    let read = c.deref.result.now in
+    let docs : read ≡ c.args.parcel.docs = c.deref.ensures.value ∙ sym (ap (λ (p : ParcelValue). p.docs) c.into_parts-asked.ensures.parts) in
     let p = c.in_ok-checked.ensures.ok in
     let before = settling_at c.args.db.now c.args.session.now in
-    let after = settling_at c.settle_in_order-stop.new.db c.settle_in_order-stop.new.session in
+    let after = settling_at c.settle_in_order.new.db c.settle_in_order.new.session in
     let refuses = g.F.WriteFilter.refuses c.args.filter.now in
-    let known = known_of c.settle_in_order-stop.new.db c.settle_in_order-stop.new.ledgered in
-    let all = c.into_parts-asked.result.1 in
-    let left = c.settle_in_order-stop.new.docs in
-    let reached = c.settle_in_order-stop.ensures.reached p.window p.at in
-    let n : length all.items - length left.items ≡ c.len-all.result - c.len.result = omega (arith, all.ok, left.ok, c.len-all.ensures, c.len.ensures) in
+    let known = known_of c.settle_in_order.new.db c.settle_in_order.new.ledgered in
+    let n = c.in-Err.stop.settled in
+    let left : c.without_first.result.items ≡ drop n read = c.without_first.ensures ∙ ap (drop n) (sym c.deref.ensures.value) in
+    let reached = c.in-Err.ensures.reached p.window p.at in
     record {
       gives =
           gives_from refuses known before after c.args.parcel _ _ _ _ p
-          (stopped refuses known p.window before after c.args.parcel all.items (c.len-all.result - c.len.result) left c.in-Err.cause (sym docs)
-          (subst (λ (k : ℕ). Reached refuses p.window before all.items k left.items after) n reached)
-          (subst (λ (k : ℕ). Halts refuses p.window before all.items k c.in-Err.cause) n (c.in-Err.ensures.why p.window p.at)));
-      keeps = keeps_reached _ _ before _ _ _ _ _ _ reached c.settle_in_order-stop.ensures.indexed;
+          (stopped refuses known p.window before after c.args.parcel read n c.without_first.result c.in-Err.stop.cause docs
+          (subst (λ (l : List Document). Reached refuses p.window before read n l after) (sym left) reached)
+          (c.in-Err.ensures.why p.window p.at));
+      keeps = keeps_reached _ _ before _ _ _ _ _ _ reached c.settle_in_order.ensures.indexed;
     }
 
 pub mark_window-requires : goal.mark_window-requires
@@ -45,13 +46,13 @@ mark_window-requires g c =
     let bounded = subst (λ (s : SessionValue). window_bounds s.windows ≡ bounds s.front) c.session.view_is c.session.invariant.bounds in
     let q = passed_by c.args.session.now c.args.parcel _ _ _ p in
     let room = room_of c.args.session.now p.window c.args.parcel q.room in
-    let grown = grown_by _ _ (settling_at c.args.db.now c.args.session.now) _ _ _ _ (c.settle_in_order-stop.ensures.reached p.window p.at) in
+    let before = settling_at c.args.db.now c.args.session.now in
+    let grown = grown_by _ _ before _ _ _ _ (reached_whole _ _ before _ _ (c.in_default.ensures.ok p.window p.at)) in
     record {
-      none_left = c.in_default.ensures.ok;
       stored = (
         p.window,
-        subst (λ (l : List WindowValue). slice_get l c.in_ok-checked.checked.place ≡ Some p.window) (sym c.settle_in_order-stop.ensures.windows) p.at,
-        subst (λ (f : FrontValue). finish_answer f p.window.lo p.window.hi ≡ Ok tt) (sym c.settle_in_order-stop.ensures.front)
+        subst (λ (l : List WindowValue). slice_get l c.in_ok-checked.checked.place ≡ Some p.window) (sym c.settle_in_order.ensures.windows) p.at,
+        subst (λ (f : FrontValue). finish_answer f p.window.lo p.window.hi ≡ Ok tt) (sym c.settle_in_order.ensures.front)
             (can_finish c.args.session.now.front c.args.session.now.windows c.in_ok-checked.checked.place p.window bounded p.at q.remains),
       );
       checked = omega (arith, room.checked, grown.checked, p.leaf_count);
@@ -63,34 +64,34 @@ returns-in-Err-mark_window g c =
     let docs = ap (λ (p : ParcelValue). p.docs) c.into_parts-asked.ensures.parts in
     let p = c.in_ok-checked.ensures.ok in
     let before = settling_at c.args.db.now c.args.session.now in
-    let mid = settling_at c.settle_in_order-stop.new.db c.settle_in_order-stop.new.session in
-    let after = settling_at c.settle_in_order-stop.new.db c.mark_window.new.session in
+    let mid = settling_at c.settle_in_order.new.db c.settle_in_order.new.session in
+    let after = settling_at c.settle_in_order.new.db c.mark_window.new.session in
     let refuses = g.F.WriteFilter.refuses c.args.filter.now in
-    let known = known_of c.settle_in_order-stop.new.db c.settle_in_order-stop.new.ledgered in
-    let all = c.into_parts-asked.result.1 in
-    let left = c.settle_in_order-stop.new.docs in
-    let n : length all.items - length left.items ≡ c.len-all.result - c.len.result = omega (arith, all.ok, left.ok, c.len-all.ensures, c.len.ensures) in
-    let reached = reached_left refuses p.window before mid all.items c.args.parcel.docs left.items _ (c.len-all.result - c.len.result) (sym docs) n c.in_default.ensures.ok (c.settle_in_order-stop.ensures.reached p.window p.at) in
-    let still = subst (λ (l : List WindowValue). slice_get l c.in_ok-checked.checked.place ≡ Some p.window) (sym c.settle_in_order-stop.ensures.windows) p.at in
+    let known = known_of c.settle_in_order.new.db c.settle_in_order.new.ledgered in
+    let all = subst (λ (l : List Document). ReachedAll refuses p.window before l mid) (c.deref.ensures.value ∙ sym docs) (c.in_default.ensures.ok p.window p.at) in
+    let count : c.len-settled.result ≡ length c.args.parcel.docs = omega (arith, c.into_parts-asked.result.1.ok, c.len-settled.ensures, ap length docs) in
+    let still = subst (λ (l : List WindowValue). slice_get l c.in_ok-checked.checked.place ≡ Some p.window) (sym c.settle_in_order.ensures.windows) p.at in
     record {
       gives =
           gives_from refuses known before after c.args.parcel _ _ _ _ p
-          (ended_err refuses known p.window before mid.db mid.session after.session c.args.parcel (c.len-all.result - c.len.result) c.in_ok-checked.checked.leaves c.in_ok-checked.checked.asked c.in-Err-mark_window.fault reached (c.in-Err-mark_window.ensures.ends p.window still));
+          (ended_err refuses known p.window before mid.db mid.session after.session c.args.parcel c.len-settled.result c.in_ok-checked.checked.leaves c.in_ok-checked.checked.asked c.in-Err-mark_window.fault all count (c.in-Err-mark_window.ensures.ends p.window still));
       keeps =
-          keeps_marked _ _ _ _ _ (keeps_reached _ _ before _ _ _ _ _ _ (c.settle_in_order-stop.ensures.reached p.window p.at) c.settle_in_order-stop.ensures.indexed)
+          keeps_marked _ _ _ _ _ (keeps_reached _ _ before _ _ _ _ _ _ (reached_whole refuses p.window before mid c.args.parcel.docs all) c.settle_in_order.ensures.indexed)
           c.mark_window.ensures.id c.mark_window.ensures.rep c.mark_window.ensures.ledger;
     }
 
 pub overflow_sub-result : goal.overflow_sub-result
 overflow_sub-result g c =
     let p = c.in_ok-checked.ensures.ok in
-    let grown = grown_by _ _ (settling_at c.args.db.now c.args.session.now) _ _ _ _ (c.settle_in_order-stop.ensures.reached p.window p.at) in
+    let before = settling_at c.args.db.now c.args.session.now in
+    let grown = grown_by _ _ before _ _ _ _ (reached_whole _ _ before _ _ (c.in_default.ensures.ok p.window p.at)) in
     omega (arith, grown.written, c.mark_window.ensures.written, ap (λ (s : SessionValue). s.counts.written) c.session.view_is, ap (λ (s : SessionValue). s.counts.written) c.session-2.view_is)
 
 pub overflow_sub-result-2 : goal.overflow_sub-result-2
 overflow_sub-result-2 g c =
     let p = c.in_ok-checked.ensures.ok in
-    let grown = grown_by _ _ (settling_at c.args.db.now c.args.session.now) _ _ _ _ (c.settle_in_order-stop.ensures.reached p.window p.at) in
+    let before = settling_at c.args.db.now c.args.session.now in
+    let grown = grown_by _ _ before _ _ _ _ (reached_whole _ _ before _ _ (c.in_default.ensures.ok p.window p.at)) in
     omega (arith, grown.failures, c.mark_window.ensures.failures, ap (λ (s : SessionValue). s.counts.failures) c.session.view_is, ap (λ (s : SessionValue). s.counts.failures) c.session-2.view_is)
 
 pub returns : goal.returns
@@ -98,22 +99,19 @@ returns g c =
     let docs = ap (λ (p : ParcelValue). p.docs) c.into_parts-asked.ensures.parts in
     let p = c.in_ok-checked.ensures.ok in
     let before = settling_at c.args.db.now c.args.session.now in
-    let mid = settling_at c.settle_in_order-stop.new.db c.settle_in_order-stop.new.session in
-    let after = settling_at c.settle_in_order-stop.new.db c.mark_window.new.session in
+    let mid = settling_at c.settle_in_order.new.db c.settle_in_order.new.session in
+    let after = settling_at c.settle_in_order.new.db c.mark_window.new.session in
     let refuses = g.F.WriteFilter.refuses c.args.filter.now in
-    let known = known_of c.settle_in_order-stop.new.db c.settle_in_order-stop.new.ledgered in
-    let all = c.into_parts-asked.result.1 in
-    let left = c.settle_in_order-stop.new.docs in
-    let n : length all.items - length left.items ≡ c.len-all.result - c.len.result = omega (arith, all.ok, left.ok, c.len-all.ensures, c.len.ensures) in
-    let reached = reached_left refuses p.window before mid all.items c.args.parcel.docs left.items _ (c.len-all.result - c.len.result) (sym docs) n c.in_default.ensures.ok (c.settle_in_order-stop.ensures.reached p.window p.at) in
-    let still = subst (λ (l : List WindowValue). slice_get l c.in_ok-checked.checked.place ≡ Some p.window) (sym c.settle_in_order-stop.ensures.windows) p.at in
+    let known = known_of c.settle_in_order.new.db c.settle_in_order.new.ledgered in
+    let all = subst (λ (l : List Document). ReachedAll refuses p.window before l mid) (c.deref.ensures.value ∙ sym docs) (c.in_default.ensures.ok p.window p.at) in
+    let still = subst (λ (l : List WindowValue). slice_get l c.in_ok-checked.checked.place ≡ Some p.window) (sym c.settle_in_order.ensures.windows) p.at in
     record {
       gives =
           gives_from refuses known before after c.args.parcel _ _ _ _ p
-          (ended_ok refuses known p.window before mid.db mid.session after.session c.args.parcel (c.len-all.result - c.len.result) c.in_ok-checked.checked.leaves c.in_ok-checked.checked.asked _ _ reached (c.in_default-mark_window.ensures.ends p.window still) p.leaf_count p.asked_count
+          (ended_ok refuses known p.window before mid.db mid.session after.session c.args.parcel c.len-settled.result c.in_ok-checked.checked.leaves c.in_ok-checked.checked.asked _ _ all (c.in_default-mark_window.ensures.ends p.window still) p.leaf_count p.asked_count
           (λ i. (ap (λ (s : SessionValue). s.counts.written) c.session-2.view_is ∙ c.mark_window.ensures.written) i - ap (λ (s : SessionValue). s.counts.written) c.session.view_is i)
           (λ i. (ap (λ (s : SessionValue). s.counts.failures) c.session-2.view_is ∙ c.mark_window.ensures.failures) i - ap (λ (s : SessionValue). s.counts.failures) c.session.view_is i));
       keeps =
-          keeps_marked _ _ _ _ _ (keeps_reached _ _ before _ _ _ _ _ _ (c.settle_in_order-stop.ensures.reached p.window p.at) c.settle_in_order-stop.ensures.indexed)
+          keeps_marked _ _ _ _ _ (keeps_reached _ _ before _ _ _ _ _ _ (reached_whole refuses p.window before mid c.args.parcel.docs all) c.settle_in_order.ensures.indexed)
           c.mark_window.ensures.id c.mark_window.ensures.rep c.mark_window.ensures.ledger;
     }

@@ -1,0 +1,10 @@
+use Rattle.proof_words.proofs.{◌≡◌, length}
+use Rattle.couch_base.specs.{AreMade}
+use Rattle.couch_base.proofs.parcel.make_all.Given as goal
+
+-- what was made so far is of the documents so far
+abbrev pub invariant-loop-doc : goal.invariant-loop-doc
+invariant-loop-doc l = record {
+  made : AreMade l.docs l.all.items;
+  long : length l.all.items ≡ l.doc-index;
+}
