@@ -1,7 +1,7 @@
-//! `Database::put`, `edit`, `page`, `revs_diff`, `open_revs`, `count_asked`, `put_made` and `copy_in`, the copies of their
-//! messages, and `Parcel::prepare`. A refused growth leaves a database as it was.
+//! `Database::put`, `edit`, `page`, `revs_diff`, `open_revs`, `count_asked` and `copy_in`, the copies of their messages, and
+//! `Parcel::prepare`. A refused growth leaves a database as it was.
 use anyhow::{Result, bail};
-use couch_base::{Asked, BaseFault, Database, Made, Parcel, Put, Row, Window};
+use couch_base::{Asked, BaseFault, Database, Parcel, Put, Row, Window};
 use doc_json::{Body, Doc, DocFault, DocId, read_body, read_doc};
 use rev_core::Rev;
 use rev_tree::{Origin, SessionId};
@@ -64,22 +64,22 @@ fn feed(alloc: Global, db: &Database) -> Result<u64> {
     Ok(sum)
 }
 
-fn put_doc(alloc: Global, db: &mut Database, doc: &Doc) -> Result<Put> {
+fn put_doc(alloc: Global, db: &mut Database, doc: &Doc, origin: Origin) -> Result<Put> {
     let before = reading(db, doc.id());
     let rows = feed(alloc, db)?;
-    match db.put(doc, Origin::Local(0)) {
+    match db.put(doc, origin) {
         Err(BaseFault::Memory) => {
             if reading(db, doc.id()) != before || feed(alloc, db)? != rows {
                 bail!("a refused put changed the database");
             }
-            Ok(db.put(doc, Origin::Local(0))?)
+            Ok(db.put(doc, origin)?)
         }
         answer => Ok(answer?),
     }
 }
 
 fn put(alloc: Global, db: &mut Database, text: &str) -> Result<Put> {
-    put_doc(alloc, db, &doc(alloc, text)?)
+    put_doc(alloc, db, &doc(alloc, text)?, Origin::Local(0))
 }
 
 fn edit(
@@ -193,48 +193,12 @@ fn prepare(alloc: Global, parcel: &mut Parcel, window: &Window) -> Result<()> {
     }
 }
 
-/// Puts a document by what was made of it, or where that is used up or does not serve, as it is: at a row's sequence.
-fn put_made(
-    alloc: Global,
-    db: &mut Database,
-    doc: &Doc,
-    made: &mut Option<Made>,
-    seq: u64,
-) -> Result<()> {
-    let origin = Origin::Feed(SessionId(1), seq);
-    let before = reading(db, doc.id());
-    let rows = feed(alloc, db)?;
-    match db.put_made(doc, made, origin) {
-        Ok(Some(_head)) => return Ok(()),
-        Ok(None) => {}
-        Err(AllocError) => {
-            if reading(db, doc.id()) != before || feed(alloc, db)? != rows {
-                bail!("a refused put changed the database");
-            }
-        }
-    }
-    match db.put(doc, origin) {
-        Err(BaseFault::Memory) => {
-            let _answer = db.put(doc, origin)?;
-        }
-        answer => {
-            let _answer = answer?;
-        }
-    }
-    Ok(())
-}
-
-/// Puts the documents of a row, by what was made of them.
-fn put_row(
-    alloc: Global,
-    db: &mut Database,
-    docs: &[Doc],
-    made: &mut [Option<Made>],
-    row: &Row,
-) -> Result<()> {
-    for i in 0..docs.len() {
-        if i < made.len() && docs[i].id() == row.id() {
-            put_made(alloc, db, &docs[i], &mut made[i], row.seq())?;
+/// Puts the documents of a row.
+fn put_row(alloc: Global, db: &mut Database, docs: &[Doc], row: &Row) -> Result<()> {
+    let origin = Origin::Feed(SessionId(1), row.seq());
+    for doc in docs {
+        if doc.id() == row.id() {
+            let _answer = put_doc(alloc, db, doc, origin)?;
         }
     }
     Ok(())
@@ -245,9 +209,9 @@ fn arrived(alloc: Global, window: &Window, parcel: Parcel) -> Result<u64> {
     let mut db = Database::new(alloc, 9);
     let mut parcel = parcel;
     prepare(alloc, &mut parcel, window)?;
-    let (_, docs, _, mut made) = parcel.into_parts();
+    let (_, docs, _, _) = parcel.into_parts();
     for row in window.rows() {
-        put_row(alloc, &mut db, &docs, &mut made, row)?;
+        put_row(alloc, &mut db, &docs, row)?;
     }
     Ok(db.update_seq())
 }
