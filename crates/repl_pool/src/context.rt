@@ -11,8 +11,8 @@ use std::sync::Mutex;
 use std::sync::ledger::Ledger;
 
 /// What all threads of a run share: the runtime and the allocator, the two channels, the source, the target behind its
-/// lock, what is known of it as it was given, the gate, the plan, and the board, where there is one. Each step of a
-/// worker is a method of it.
+/// lock, what is known of it as it was given, the gate, the plan, the board, where there is one, and how many workers
+/// there are of each crew. Each step of a worker is a method of it.
 #[derive(Drop)]
 pub struct Context<'e, F: WriteFilter, S: SourceBrand, T: TargetBrand<F>, L: Ledger, G, R> {
     pub rt: &'e R,
@@ -24,4 +24,5 @@ pub struct Context<'e, F: WriteFilter, S: SourceBrand, T: TargetBrand<F>, L: Led
     pub gate: &'e G,
     pub plan: &'e Plan,
     pub board: Option<&'e Board>,
+    pub workers: usize,
 }

@@ -20,6 +20,7 @@ use crate::run_target::taken_of;
 use crate::show::{show_read, show_settled};
 use progress_board::BoardSeat;
 use repl_target::{Spent, WriteFilter};
+use rev_tree::SessionId;
 use std::sync::Wait;
 use std::sync::ledger::{Ledger, Share};
 
@@ -103,14 +104,25 @@ impl<F: WriteFilter, S: SourceBrand, T: TargetBrand<F>, L: Ledger, G: Gate, R: W
         let mut spent = Spent::new(self.alloc);
         show_read(self.board, seat, documents)?;
         self.settle_and_show(share, seat, fetched, &mut spent)?;
-        drop(spent);
         pass(self.rt, self.gate, Place::Settled(number))?;
+        // The lock is mostly still free: a writer that was waiting for it takes a while to come.
         let recorded = self.record()?;
+        drop(spent);
         pass(self.rt, self.gate, Place::Recorded(number, recorded))
     }
 
-    /// Reads a parcel at the source, makes its documents ready before the lock is taken, settles it and records:
-    /// `settle_and_record`.
+    /// The session for which a parcel is made ready before the lock is taken. None where one writer settles all: nobody
+    /// waits for its lock then, and what is made where it is put stays in the processor's cache.
+    fn session_ahead(&self) -> Option<SessionId> {
+        if self.workers > 1 {
+            Some(self.plan.session)
+        } else {
+            None
+        }
+    }
+
+    /// Reads a parcel at the source, makes its documents ready before the lock is taken, where several writers settle,
+    /// settles it and records: `settle_and_record`.
     fn read_and_settle(
         &self,
         share: &mut Share<L>,
@@ -130,7 +142,7 @@ impl<F: WriteFilter, S: SourceBrand, T: TargetBrand<F>, L: Ledger, G: Gate, R: W
     {
         // The rows live as long: else they are let go of under the lock.
         let page = found.page(self.alloc)?;
-        let fetched = found.fetch(self.alloc, self.source, self.plan.session)?;
+        let fetched = found.fetch(self.alloc, self.source, self.session_ahead())?;
         let settled = self.settle_and_record(share, seat, number, fetched);
         drop(page);
         settled
