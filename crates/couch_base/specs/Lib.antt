@@ -22,7 +22,7 @@ pub use Feed.{IsWindow, RowValue, WindowValue, chosen_feed, chosen_rows, feed, l
 pub use Stored.{AllBelow, AreFew, ArePlaces, AreRows, InOrder, IsKept, IsPlace, IsTable, IsWritten, Sets, TableValue, above, at_seq, database_of}
 pub use Stored.{document, documents, documents_of, feed_of, feed_without, found, id_at, is_live, live, live_upto, named, row_by, rows_within, seq_of}
 pub use Stored.{swept, tree_at}
-pub use FeedLaws.{IsWindow-page, both_hold, chosen-all, feed-none, feed-page, feed-to, in_range, rises_from, rises_le}
+pub use FeedLaws.{IsWindow-page, both_hold, chosen-all, feed-none, feed-page, in_range, rises_from, rises_le}
 pub use Edit.{EditGives, after_edit, after_edited, edit_answer, edit_document, edit_id, edit_revs, edited, parent_answer}
 pub use ListLaws.{all_members, any_left, both_false, id_is, id_same, none_append, none_some, some_is}
 pub use MemberLaws.{Among-last, Among-left, Among-map, Among-mapped, Among-push, all_member, any_from, any_member, at-append, at-end, each_member}

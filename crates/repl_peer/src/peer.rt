@@ -20,7 +20,7 @@ use crate::session::ready_window::ReadyWindow;
 use crate::session::rows::has_in;
 use crate::session::sessions::Sessions;
 use crate::session::spent::Spent;
-use couch_base::{Asked, BaseFault, Database, Listed, Near, Parcel, Put, Revised, Row, Window};
+use couch_base::{Asked, BaseFault, Change, Database, Listed, Near, Parcel, Put, Revised, Window};
 use doc_json::{Body, Chosen, Doc, DocId};
 use repl_log::{Entry, Logs, Moment};
 use rev_core::Rev;
@@ -254,17 +254,24 @@ impl<F: WriteFilter> Peer<F> {
         has_in(self.db.tree(id), rev) || self.sessions.has_refused(id, rev)
     }
 
-    /// The first leaf of a row that isn't covered, where the rows are looked at one behind the other.
-    pub fn uncovered_in(&self, near: &mut Near, row: &Row) -> Option<Rev>
-        ensures { result ≡ find (λ rev. not (covers self.now.1 row.now.id rev)) row.now.leaves }
+    /// The first leaf of a document of a feed that isn't covered, where its documents are looked at one behind the other.
+    pub fn uncovered_in(
+        &self,
+        alloc: Global,
+        near: &mut Near,
+        change: &Change<'_>,
+    ) -> Result<Option<Rev>, AllocError>
+        ensures { IfOk result
+            (λ rev. rev ≡ find (λ rev. not (covers self.now.1 change.now.id rev)) change.now.leaves) }
     {
-        let tree = self.db.tree_near(near, row.id());
-        for rev in row.leaves() {
-            if !(has_in(tree, *rev) || self.sessions.has_refused(row.id(), *rev)) {
-                return Some(*rev);
+        let tree = self.db.tree_near(near, change.id());
+        let leaves = change.leaves(alloc)?;
+        for rev in leaves.as_slice() {
+            if !(has_in(tree, *rev) || self.sessions.has_refused(change.id(), *rev)) {
+                return Ok(Some(*rev));
             }
         }
-        None
+        Ok(None)
     }
 
     // ---- sessions
@@ -338,8 +345,8 @@ impl<F: WriteFilter> Peer<F> {
         self.settle_into(id, parcel, &mut spent)
     }
 
-    /// `settle`, which lets nothing go that it has used up of the parcel, so far as there is room for it: who holds the
-    /// peer behind a lock lets that go without the lock.
+    /// `settle`, which lets nothing go that it has used up of the parcel, where all its documents are settled: it hands
+    /// that over, and who holds the peer behind a lock lets it go without the lock.
     pub fn settle_into(
         &mut self,
         id: SessionId,

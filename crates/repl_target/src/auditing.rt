@@ -1,27 +1,24 @@
 //! The audit of a replication.
-ghost use Rattle.std.specs.Prelude.{◌≡◌, IfOk};
+ghost use Rattle.std.specs.Prelude.{◌≡◌, ◌∷◌, [], IfOk};
 ghost use Rattle.repl_peer.specs.peer.Covered.{first_uncovered};
 ghost use Rattle.std.specs.Option.{option_copied};
-ghost use Rattle.couch_base.specs.Feed.{chosen_feed};
+ghost use Rattle.couch_base.specs.Feed.{chosen_feed, chosen_rows};
 ghost use Rattle.repl_target.specs.Audit.{audit_answer, hole_of, IsAudited};
 ghost use Rattle.repl_target.specs.ties.Ties.{IsTiedPair};
 
 pub(crate) mod found;
 
 use crate::auditing::found::Audit;
-use couch_base::{Near, Row};
-use doc_json::Chosen;
+use couch_base::{Change, Near};
+use doc_json::{Chosen, is_chosen};
 use repl_peer::{Peer, WriteFilter, checkpoint, rep_between};
 use std::alloc::{AllocError, Global};
-
-/// How many rows of the source's feed are read at once.
-const PAGE: u64 = 1000;
 
 /// Whether the target covers all that the two logs of the replication of the chosen documents say is done: each leaf of
 /// the source's chosen feed at or under the common checkpoint.
 ///
 /// Where the windows that the target stores of this replication are tied to the source's database, it is `Clean`. It
-/// reads the source's feed in pages.
+/// reads the source's feed where it stands.
 pub fn audit<F: WriteFilter, G: WriteFilter>(
     alloc: Global,
     source: &Peer<F>,
@@ -44,7 +41,7 @@ pub fn audit<F: WriteFilter, G: WriteFilter>(
 
 /// Whether the target covers each leaf of the source's chosen feed above a sequence, else the first that it doesn't.
 ///
-/// It reads the feed in pages.
+/// It reads the feed where it stands.
 pub fn hole_above<F: WriteFilter, G: WriteFilter>(
     alloc: Global,
     source: &Peer<F>,
@@ -66,9 +63,10 @@ pub fn hole_above<F: WriteFilter, G: WriteFilter>(
     )
 }
 
-/// Whether the target covers each leaf of the source's chosen feed above a sequence, and at or under another.
+/// Whether the target covers each leaf of the source's chosen feed above a sequence, and at or under another, else the
+/// first that it doesn't.
 ///
-/// It reads the feed in pages.
+/// It reads the feed where it stands.
 pub fn hole_within<F: WriteFilter, G: WriteFilter>(
     alloc: Global,
     source: &Peer<F>,
@@ -80,38 +78,40 @@ pub fn hole_within<F: WriteFilter, G: WriteFilter>(
     ensures answer { IfOk result (λ a. hole_of a
         ≡ first_uncovered target.now.1 (chosen_feed (option_copied chosen.entry) source.now.1.db above upto)) }
 {
-    let goal = upto.min(source.db().update_seq());
-    let mut since = above;
+    let mut feed = source.db().feed_within(above, upto);
     let mut near = Near::new();
-    while since < goal {
-        let page = source.page_due(alloc, since, goal, PAGE, chosen)?;
-        let found = first_hole(alloc, target, page.rows(), &mut near)?;
+    while let Some(change) = feed.next() {
+        let found = hole_in(alloc, target, &change, &mut near, chosen)?;
         if let Audit::Hole { seq, id, rev } = found {
             return Ok(Audit::Hole { seq, id, rev });
         }
-        since = page.hi();
     }
     Ok(Audit::Clean)
 }
 
-/// Whether the target covers each leaf of some rows.
-fn first_hole<G: WriteFilter>(
+/// Whether the target covers each leaf of a document of a feed, if it is chosen, else the first that it doesn't.
+fn hole_in<G: WriteFilter>(
     alloc: Global,
     target: &Peer<G>,
-    rows: &[Row],
+    change: &Change<'_>,
     near: &mut Near,
+    chosen: Option<&Chosen>,
 ) -> Result<Audit, AllocError>
-    ensures answer { IfOk result (λ a. hole_of a ≡ first_uncovered target.now.1 rows.now) }
+    ensures answer { IfOk result (λ a. hole_of a
+        ≡ first_uncovered target.now.1 (chosen_rows (option_copied chosen.entry) (change.now ∷ []))) }
 {
-    for row in rows {
-        if let Some(rev) = target.uncovered_in(near, row) {
-            let id = row.id().copy(alloc)?;
-            return Ok(Audit::Hole {
-                seq: row.seq(),
+    if !is_chosen(chosen, change.id()) {
+        return Ok(Audit::Clean);
+    }
+    match target.uncovered_in(alloc, near, change)? {
+        Some(rev) => {
+            let id = change.id().copy(alloc)?;
+            Ok(Audit::Hole {
+                seq: change.seq(),
                 id,
                 rev,
-            });
+            })
         }
+        None => Ok(Audit::Clean),
     }
-    Ok(Audit::Clean)
 }

@@ -1,8 +1,7 @@
--- The first unknown leaf of a feed, and of its pages.
+-- The first unknown leaf of some rows.
 use Rattle.proof_words.proofs.{◌≡◌, ℕ, ◌+◌, ◌<◌, Bool, true, false, cond, not, ◌&&◌, List, [], ◌∷◌, ◌++◌, length, drop, get_or, Option, Some, None, is_some, refl, sym, ap, ◌∙◌, list_all, option_or, option_map, drop_more, find}
 use Rattle.rev_core.specs.{RevId}
-use Rattle.doc_json.specs.{Choice}
-use Rattle.couch_base.specs.{Among, Id, DatabaseValue, LawfulDatabase, RowValue, chosen_feed, page, feed-page, all_member}
+use Rattle.couch_base.specs.{Among, Id, RowValue, all_member}
 use Rattle.repl_peer.specs.{Leaf, knows_row, unknown_in, first_unknown}
 
 -- ---- the first unknown leaf
@@ -18,18 +17,6 @@ first_unknown-append known (x ∷ xs) ys = ap (option_or (unknown_in known x)) (
 pub unknown_here : (known : Id → RevId → Bool) (rows : List RowValue) (i : ℕ) (row : RowValue) (u : Leaf) → i < length rows → row ≡ get_or rows i row → unknown_in known row ≡ Some u → first_unknown known (drop i rows) ≡ Some u
 unknown_here known rows i row u h is so =
     ap (first_unknown known) (drop_more rows i row h ∙ ap (λ y. y ∷ drop (i + 1) rows) (sym is)) ∙ ap (λ o. option_or o (first_unknown known (drop (i + 1) rows))) so
-
--- a page has the feed's first unknown leaf
-pub feed-hole : (known : Id → RevId → Bool) (db : DatabaseValue) (since goal limit : ℕ) (c : Choice) (u : Leaf) → LawfulDatabase db → first_unknown known (page db since goal limit c).rows ≡ Some u → first_unknown known (chosen_feed c db since goal) ≡ Some u
-feed-hole known db since goal limit c u law is =
-    let w = page db since goal limit c in
-    ap (first_unknown known) (feed-page db since goal limit c law) ∙ first_unknown-append known w.rows (chosen_feed c db w.hi goal) ∙ ap (λ o. option_or o (first_unknown known (chosen_feed c db w.hi goal))) is
-
--- a page without one is passed
-pub feed-passed : (known : Id → RevId → Bool) (db : DatabaseValue) (since goal limit : ℕ) (c : Choice) → LawfulDatabase db → first_unknown known (page db since goal limit c).rows ≡ None → first_unknown known (chosen_feed c db since goal) ≡ first_unknown known (chosen_feed c db (page db since goal limit c).hi goal)
-feed-passed known db since goal limit c law is =
-    let w = page db since goal limit c in
-    ap (first_unknown known) (feed-page db since goal limit c law) ∙ first_unknown-append known w.rows (chosen_feed c db w.hi goal) ∙ ap (λ o. option_or o (first_unknown known (chosen_feed c db w.hi goal))) is
 
 leaf_known : (test : RevId → Bool) (f : RevId → Leaf) (leaves : List RevId) → not (is_some (option_map f (find (λ r. not (test r)) leaves))) ≡ list_all test leaves
 leaf_known test f [] = refl

@@ -1,0 +1,107 @@
+//! The changes feed, read where it stands.
+ghost use Rattle.std.specs.Prelude.{◌≡◌, ◌∷◌, [], None, IfOk, IfSome};
+
+use crate::table::Table;
+use doc_json::DocId;
+use rev_tree::{Revs, Tree};
+use std::alloc::{AllocError, Global};
+use std::marker::Model;
+
+/// A document in the changes feed, where it stands. What contracts see of it is its row.
+#[derive(Drop)]
+pub struct Change<'a> {
+    seq: u64,
+    id: &'a DocId,
+    tree: &'a Tree,
+}
+
+impl<'a> Model for Change<'a> {
+    ghost use Rattle.rev_tree.specs.Tree.{leaves};
+    ghost use Rattle.couch_base.specs.Feed.{RowValue};
+
+    ghost Value = { RowValue };
+
+    ghost view = { λ c. record { seq = c.seq; id = c.id.now; leaves = leaves c.tree.now } };
+}
+
+impl<'a> Change<'a> {
+    /// The sequence of the document's latest change.
+    pub fn seq(&self) -> u64
+        ensures { result ≡ self.now.seq }
+    {
+        self.seq
+    }
+
+    /// The document's id.
+    pub fn id(&self) -> &'a DocId
+        ensures { result.now ≡ self.now.id }
+    {
+        self.id
+    }
+
+    /// All leaves of the document, winner first. One alone takes no memory.
+    pub fn leaves(&self, alloc: Global) -> Result<Revs, AllocError>
+        ensures { IfOk result (λ revs. revs ≡ self.now.leaves) }
+    {
+        self.tree.leaves(alloc)
+    }
+}
+
+/// What is left of a part of the changes feed: its rows, by rising sequences.
+///
+/// It looks at the documents where they stand, and copies none of them.
+#[derive(Drop)]
+pub struct Feed<'a> {
+    table: &'a Table,
+    rest: &'a [(u64, usize)],
+    goal: u64,
+}
+
+impl<'a> Model for Feed<'a> {
+    ghost use Rattle.std.specs.Prelude.{List, map};
+    ghost use Rattle.couch_base.specs.Feed.{RowValue};
+    ghost use Rattle.couch_base.specs.Stored.{row_by, live_upto, InOrder};
+
+    ghost Value = { List RowValue };
+
+    ghost view = { λ f. map (row_by f.table.now.entries) (live_upto f.table.now.entries f.goal f.rest.now) };
+
+    ghost invariant = { λ f. InOrder f.rest.now };
+}
+
+impl<'a> Feed<'a> {
+    ghost use Rattle.couch_base.specs.Stored.{rows_within};
+
+    /// The part of a table's feed above a sequence, and at or under another.
+    pub(crate) fn within(table: &'a Table, since: u64, goal: u64) -> Feed<'a>
+        ensures { result ≡ rows_within table.now since goal }
+    {
+        Feed {
+            table,
+            rest: table.rows_above(since),
+            goal,
+        }
+    }
+
+    /// Takes the first document. `None` where none is left.
+    pub fn next(&mut self) -> Option<Change<'a>>
+        ensures first { IfSome result (λ c. self.old ≡ c ∷ self.new) }
+        ensures none { result ≡ None → self.old ≡ [] }
+    {
+        for i in 0..self.rest.len() {
+            let (seq, place) = self.rest[i];
+            if seq > self.goal {
+                return None;
+            }
+            if let Some((id, kept)) = self.table.live_at(seq, place) {
+                self.rest = &self.rest[i + 1..];
+                return Some(Change {
+                    seq,
+                    id,
+                    tree: &kept.tree,
+                });
+            }
+        }
+        None
+    }
+}
