@@ -24,7 +24,7 @@ pub use WindowRule.{takes}
 pub use Paging.{begun_fresh}
 pub use Growing.{appends, records, settles, starts, stays, taken_most}
 pub use Steps.{Gathers, GotOne, SentOne, gathers, got_once, got_one, sent_one, taken_once}
-pub use Boarding.{back_append, back_length, back_same, back_seated, back_then, seated_parts, seats_fewer, seats_seated}
+pub use Boarding.{back_last, back_length, back_same, back_seated, back_then, seated_parts, seats_fewer, seats_seated, shown_last}
 pub use Ending.{begun_held, grown_conclude, grown_record, grown_then, held_grown}
 pub use Halting.{merged_halt, one_of}
 pub use Refusals.{record_step, settle_step}

@@ -21,6 +21,7 @@ pub use Paging.{AllowsMore, AreAllowed, ArePages, HasNoWindows, HasPages, IsNext
 pub use Grown.{GrownPeer, IsAnswerOf, TargetKeeps}
 pub use Workers.{FetcherKnows, WriterKnows, WriterShows, amounts, names}
 pub use Gathered.{FetchedKnows, IsOneOf, WrittenKnows}
+pub use Scopes.{StandBy}
 pub use Runs.{ClosesRun, EarlyOrLate, EndsRun, EndsWell, IsConcluded, IsRecorded, LeavesOrPuts, PutsEntry, RunsOn, TellsLowWater, UnlessMemory}
 pub use Runs.{Walks, clean, concluded, fewer, hole, no_memory, recorded, refused, stopped, unfinished_at}
 pub use Sync.{both, refused_back, refused_there}
@@ -33,5 +34,6 @@ pub use declared.gather.FetchedAll.{FetchedAll}
 pub use declared.gather.WrittenAll.{WrittenAll}
 pub use declared.parcels.ParcelMessage.{ParcelMessage}
 pub use declared.parcels.ParcelView.{ParcelView}
+pub use declared.turns.Pair.{Pair}
 pub use declared.windows.WindowMessage.{WindowMessage}
 pub use declared.windows.WindowView.{WindowView}

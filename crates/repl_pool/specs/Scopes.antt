@@ -8,10 +8,13 @@ use Rattle.repl_pool.specs.declared.channels.Channels.{Channels}
 use Rattle.repl_pool.specs.declared.gate.Place.{Place}
 use Rattle.repl_pool.specs.declared.threads.Ended.{Ended}
 use Rattle.repl_pool.specs.declared.threads.Owned.{Owned}
-use Rattle.repl_pool.specs.Boards.{MayFill, AreSeats, AreBack, HaveShown}
+use Rattle.repl_pool.specs.declared.turns.Pair.{Pair}
+use Rattle.repl_pool.specs.Boards.{MayFill, AreSeats, AreBack, HaveShown, IsSeated}
+use Rattle.repl_pool.specs.Faults.{AllowsOn, Allows}
 use Rattle.repl_pool.specs.Gathered.{IsWhole, Tells, StopsWhere}
 use Rattle.repl_pool.specs.Parcels.{parcel_view}
 use Rattle.repl_pool.specs.Windows.{window_view}
+use Rattle.repl_pool.specs.Workers.{FetcherKnows, WriterKnows}
 
 -- room for a count of each fetcher, every part of both channels, on which nothing was sent, every part of the ledger,
 -- which is at 0, and a seat of each writer where there is a board
@@ -34,3 +37,13 @@ pub record HaveEnded {S L : Type 0} (channels : Channels S) (board : Option Boar
   pub halted : IfSome ended (StopsWhere (MayFill board) may_stop)
   pub back : AreBack board given seats
   pub shown : IfSome ended (λ e. HaveShown board e.all.amount e.written.stopped given seats)
+
+-- a fetcher and a writer have nothing in hand, and each that was stopped was where the gate allows it
+pub record StandBy {S L : Type 0} (channels : Channels S) (board : Option Board) (may_stop : Place → Type 0)
+    (p : Pair S L) : Type 0 where
+  pub window_seat : IsSeatAt (sends_on channels.to_fetchers) p.fetcher.windows
+  pub parcel_seats : IsSeatAt (sends_on channels.to_writers) p.fetcher.parcels
+      × IsSeatAt (sends_on channels.to_writers) p.writer.parcels
+  pub knows : FetcherKnows [] p.fetcher × WriterKnows [] p.writer
+  pub halted : IfSome p.fetcher.stopped (Allows may_stop) × IfSome p.writer.stopped (AllowsOn (MayFill board) may_stop)
+  pub seated : IsSeated board p.writer.seat

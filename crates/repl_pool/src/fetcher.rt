@@ -67,6 +67,24 @@ fn put<S: SourceBrand, R: Wait>(
 }
 
 impl<S: SourceBrand> Fetcher<S> {
+    /// A fetcher that has taken no window.
+    pub fn new(windows: WindowPass<S>, parcels: ParcelPass<S>) -> Fetcher<S>
+        requires windows { view windows ≡ window_view 1 0 0 [] }
+        requires parcels { view parcels ≡ parcel_view 1 [] [] }
+        ensures windows { result.windows ≡ windows }
+        ensures parcels { result.parcels ≡ parcels }
+        ensures knows { FetcherKnows [] result }
+        ensures free { result.stopped ≡ None }
+    {
+        Fetcher {
+            windows,
+            parcels,
+            sent: 0,
+            fetched: 0,
+            stopped: None,
+        }
+    }
+
     /// Sends what was fetched and counted.
     fn hand_over<R: Wait>(
         &mut self,
@@ -194,7 +212,7 @@ impl<F: WriteFilter, S: SourceBrand, T: TargetBrand<F>, L: Ledger, G: Gate, R: W
     }
 
     /// Takes one message. False at the end of the windows.
-    fn take_window(&self, fetcher: &mut Fetcher<S>) -> bool
+    pub fn take_window(&self, fetcher: &mut Fetcher<S>) -> bool
         requires source { S.source ≡ self.now.source.now.1.db }
         requires window_seat { IsSeatAt (receives_on self.now.channels.now.from_reader) fetcher.old.windows }
         requires parcel_seat { IsSeatAt (sends_on self.now.channels.now.to_writers) fetcher.old.parcels }
@@ -233,13 +251,7 @@ impl<F: WriteFilter, S: SourceBrand, T: TargetBrand<F>, L: Ledger, G: Gate, R: W
         ensures knows { FetcherKnows [] result }
         ensures halted { IfSome result.stopped (Allows (G.may_stop self.now.gate.now)) }
     {
-        let mut fetcher = Fetcher {
-            windows,
-            parcels,
-            sent: 0,
-            fetched: 0,
-            stopped: None,
-        };
+        let mut fetcher = Fetcher::new(windows, parcels);
         for _ in self.rt.forever() {
             if !self.take_window(&mut fetcher) {
                 break;

@@ -27,7 +27,8 @@ pub enum Turn {
     Stop,
 }
 
-/// Says whether a worker goes on at a place. It is called from several threads, with no lock held, and may wait.
+/// Says whether a worker goes on at a place. It is called with no lock held, from several threads where there are some, and
+/// may wait.
 pub trait Gate {
     ghost use Rattle.repl_pool.specs.Gates.{Stops};
 
@@ -37,6 +38,12 @@ pub trait Gate {
     /// Whether the worker that has come to a place goes on.
     fn at<R: Wait>(&self, rt: &R, place: Place) -> Turn
         ensures { Stops result (may_stop self.now place) };
+
+    /// Whether it may hold a worker at a place until another one has come to a place of its own. Where it holds none, one
+    /// thread may do the work of several, in turn.
+    fn may_hold(&self) -> bool {
+        true
+    }
 }
 
 /// The gate that always answers `Go`.
@@ -48,5 +55,9 @@ impl Gate for Open {
 
     fn at<R: Wait>(&self, _rt: &R, _place: Place) -> Turn {
         Turn::Go
+    }
+
+    fn may_hold(&self) -> bool {
+        false
     }
 }

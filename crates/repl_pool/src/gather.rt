@@ -60,8 +60,19 @@ fn count_up(
 }
 
 impl FetchedAll {
+    /// What no fetcher did.
+    pub fn new(counts: Vec<u64>) -> FetchedAll
+        ensures { result ≡ record { counts = counts; sent = 0; stopped = None } }
+    {
+        FetchedAll {
+            counts,
+            sent: 0,
+            stopped: None,
+        }
+    }
+
     /// Takes one fetcher in.
-    fn take_in<S: SourceBrand>(
+    pub fn take_in<S: SourceBrand>(
         &mut self,
         channels: &Channels<S>,
         windows: &mut WindowPass<S>,
@@ -108,8 +119,18 @@ impl FetchedAll {
 }
 
 impl WrittenAll {
+    /// What no writer did.
+    pub fn new() -> WrittenAll
+        ensures { result ≡ record { got = 0; stopped = None } }
+    {
+        WrittenAll {
+            got: 0,
+            stopped: None,
+        }
+    }
+
     /// Takes one writer in.
-    fn take_in<S: SourceBrand, L: Ledger>(
+    pub fn take_in<S: SourceBrand, L: Ledger>(
         &mut self,
         channels: &Channels<S>,
         parcels: &mut ParcelPass<S>,

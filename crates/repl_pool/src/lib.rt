@@ -26,6 +26,7 @@ mod show;
 mod start;
 mod threads;
 mod totals;
+mod turns;
 mod walk;
 mod windows;
 mod writer;

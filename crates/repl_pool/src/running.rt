@@ -20,7 +20,6 @@ use crate::end::end;
 use crate::fault::PoolFault;
 use crate::gate::Gate;
 use crate::given_target::GivenTarget;
-use crate::messages::keep_heaps;
 use crate::run_target::RunTarget;
 use crate::threads::Owned;
 use crate::totals::{Summed, collect};
@@ -172,7 +171,6 @@ fn run_begun<
         return without_workers(rt, alloc, begun, plan, seats, None);
     }
     let workers = begun.crew as usize;
-    keep_heaps(alloc);
     let counts = match Vec::with_capacity(alloc, workers) {
         Ok(counts) => counts,
         Err(refused) => {

@@ -136,8 +136,8 @@ fn walk_quarters<F: WriteFilter + Send + Sync, R: Threads + Sync>(
 
 /// Whether the target covers each leaf of the source's chosen feed above a sequence, else the first that it doesn't.
 ///
-/// By four threads where the plan has two workers, of each crew, and there are 8,000 sequences to walk over; by two where
-/// there are 4,000; and else by this thread alone.
+/// By four threads where there are 8,000 sequences to walk over; by two where there are 4,000; and else by this thread
+/// alone.
 pub fn walk<F: WriteFilter + Send + Sync, R: Threads + Sync>(
     rt: &R,
     alloc: Global,
@@ -151,7 +151,7 @@ pub fn walk<F: WriteFilter + Send + Sync, R: Threads + Sync>(
 {
     let upto = source.db().update_seq();
     let length = upto.saturating_sub(since);
-    if plan.workers >= 2 && length >= 4 * WORTH_A_THREAD {
+    if length >= 4 * WORTH_A_THREAD {
         return walk_quarters(rt, alloc, source, target, since, upto, plan);
     }
     if length >= 2 * WORTH_A_THREAD {

@@ -35,6 +35,27 @@ pub struct Writer<S: SourceBrand, L: Ledger> {
     pub stopped: Option<Halt>,
 }
 
+impl<S: SourceBrand, L: Ledger> Writer<S, L> {
+    /// A writer that has got no parcel.
+    pub fn new(parcels: ParcelPass<S>, share: Share<L>, seat: Option<BoardSeat>) -> Writer<S, L>
+        requires parcels { view parcels ≡ parcel_view 1 [] [] }
+        requires share { (share.parts ≡ 1) × (share.amount ≡ 0) }
+        ensures parcels { result.parcels ≡ parcels }
+        ensures knows { WriterKnows [] result }
+        ensures free { result.stopped ≡ None }
+        ensures share { result.share.amount ≡ 0 }
+        ensures seat { result.seat ≡ seat }
+    {
+        Writer {
+            parcels,
+            share,
+            got: 0,
+            seat,
+            stopped: None,
+        }
+    }
+}
+
 impl<F: WriteFilter, S: SourceBrand, T: TargetBrand<F>, L: Ledger, G: Gate, R: Wait> Context<
     '_,
     F,
@@ -111,8 +132,8 @@ impl<F: WriteFilter, S: SourceBrand, T: TargetBrand<F>, L: Ledger, G: Gate, R: W
         pass(self.rt, self.gate, Place::Recorded(number, recorded))
     }
 
-    /// The session for which a parcel is made ready before the lock is taken. None where one writer settles all: nobody
-    /// waits for its lock then, and what is made where it is put stays in the processor's cache.
+    /// The session for which a parcel is made ready before the lock is taken. None where one thread does all: nobody waits
+    /// for its lock, and what is made where it is put stays in the processor's cache.
     fn session_ahead(&self) -> Option<SessionId> {
         if self.workers > 1 {
             Some(self.plan.session)
@@ -175,7 +196,7 @@ impl<F: WriteFilter, S: SourceBrand, T: TargetBrand<F>, L: Ledger, G: Gate, R: W
     }
 
     /// Takes one message. False at the end of the parcels.
-    fn take_parcel(&self, writer: &mut Writer<S, L>) -> bool
+    pub fn take_parcel(&self, writer: &mut Writer<S, L>) -> bool
         requires source { S.source ≡ self.now.source.now.1.db }
         requires seat { IsSeatAt (receives_on self.now.channels.now.from_fetchers) writer.old.parcels }
         requires knows { WriterKnows [] writer.old }
@@ -224,13 +245,7 @@ impl<F: WriteFilter, S: SourceBrand, T: TargetBrand<F>, L: Ledger, G: Gate, R: W
             (AllowsOn (MayFill (option_copied self.now.board)) (G.may_stop self.now.gate.now)) }
         ensures shows { WriterShows (option_copied self.now.board) seat result }
     {
-        let mut writer = Writer {
-            parcels,
-            share,
-            got: 0,
-            seat,
-            stopped: None,
-        };
+        let mut writer = Writer::new(parcels, share, seat);
         for _ in self.rt.forever() {
             if !self.take_parcel(&mut writer) {
                 break;

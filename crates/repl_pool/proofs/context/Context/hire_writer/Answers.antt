@@ -1,6 +1,6 @@
 use Rattle.proof_words.proofs.{◌++◌, sym, subst, option_copied, option_to_list}
 use Rattle.repl_pool.specs.{AreSeated, AreBack}
-use Rattle.repl_pool.proofs.{seats_seated, seated_parts, back_same, back_append}
+use Rattle.repl_pool.proofs.{seats_seated, back_last}
 use Rattle.repl_pool.proofs.ParcelRule as parcel
 use Rattle.repl_pool.proofs.context.Context.hire_writer.Goals as goal
 
@@ -12,7 +12,7 @@ returns-in-Err-clause-back g c _ =
     let b = option_copied c.args.self.now.board in
     let popped = c.pop-seat.ensures.items in
     let left = c.pop-seat.new.self.items in
-    let parts = seated_parts b left (option_to_list c.pop-seat.result) (subst (AreSeated b) popped (seats_seated b c.args.others c.requires.seats.0 c.args.seats.now.items c.requires.seats.3)) in
+    let seated = subst (AreSeated b) popped (seats_seated b c.args.others c.requires.seats.0 c.args.seats.now.items c.requires.seats.3) in
     subst (λ l. AreBack b l c.give_back.new.seats.items) (sym popped)
     (subst (AreBack b (left ++ option_to_list c.pop-seat.result)) (sym c.give_back.ensures.items)
-    (back_append b left left (option_to_list c.pop-seat.result) (option_to_list c.in-Err.seat) (back_same b left parts.0) c.in-Err.ensures.back))
+    (back_last b left (option_to_list c.pop-seat.result) (option_to_list c.in-Err.seat) seated c.in-Err.ensures.back))

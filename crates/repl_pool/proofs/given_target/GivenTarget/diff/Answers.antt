@@ -1,5 +1,5 @@
-use Rattle.proof_words.proofs.{◌≡◌, [], sym, ap, ◌∙◌, IfOk-weaker, nil_from_length}
-use Rattle.couch_base.specs.{AskedValue, WindowValue, DocumentValue, revs_diff, wanted}
+use Rattle.proof_words.proofs.{sym, ap, ◌∙◌, IfOk-weaker, nil_from_length}
+use Rattle.couch_base.specs.{revs_diff, wanted}
 use Rattle.repl_pool.proofs.{some_from}
 use Rattle.repl_pool.proofs.given_target.GivenTarget.diff.Goals as goal
 

@@ -1,4 +1,4 @@
-use Rattle.proof_words.proofs.{◌≡◌, length, sym, ap, ◌∙◌, subst, same_Some, Option, IfSome}
+use Rattle.proof_words.proofs.{length, sym, ap, ◌∙◌, subst, same_Some, Option, IfSome}
 use Rattle.couch_base.specs.{DatabaseValue}
 use Rattle.repl_pool.proofs.{unchanged}
 use Rattle.repl_pool.proofs.given_target.GivenTarget.of.Goals as goal
