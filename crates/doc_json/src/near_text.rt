@@ -9,7 +9,7 @@ const MOST_BYTES: usize = 32;
 
 /// A text of at most 32 bytes: it stands in front, and zeros behind it.
 ///
-/// There may be very many, so the length takes a byte.
+/// There may be very many, so the length takes four bytes, and no `usize`.
 #[derive(Drop)]
 pub(crate) struct NearText {
     len: u32,
