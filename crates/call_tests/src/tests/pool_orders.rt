@@ -166,6 +166,11 @@ fn run_held<R: Abort + Threads + Wait + Sync>(rt: &R, alloc: Global, holds: Hold
         (Call::Peer(1, None), "made"),
         (Call::Peer(2, None), "made"),
         (Call::Fill(A, 8), "Changed { seq: 8 }"),
+        // A target without documents would be asked without its lock.
+        (
+            Call::Load(B, r#"{"_id":"own","_rev":"1-a"}"#),
+            "Changed { seq: 1 }",
+        ),
     ];
     let gate = Orders::new(holds);
     let mut bench = Bench::new(alloc, 1);
