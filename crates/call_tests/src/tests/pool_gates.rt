@@ -105,15 +105,18 @@ impl Gate for HoldsFetched {
 struct StopsOnce {
     kind: u64,
     window: u64,
+    /// Whether it says that it holds workers, though it holds none: then they are threads, however few.
+    may_hold: bool,
     stopped: AtomicBool,
 }
 
 impl StopsOnce {
     /// It has not stopped yet.
-    fn new(kind: u64, window: u64) -> StopsOnce {
+    fn new(kind: u64, window: u64, may_hold: bool) -> StopsOnce {
         StopsOnce {
             kind,
             window,
+            may_hold,
             stopped: AtomicBool::new(false),
         }
     }
@@ -141,6 +144,10 @@ impl Gate for StopsOnce {
         } else {
             Turn::Go
         }
+    }
+
+    fn may_hold(&self) -> bool {
+        self.may_hold
     }
 }
 
@@ -208,11 +215,13 @@ fn fetched_is_counted_where_a_run_stops(rt: HostRuntime) {
         (Call::SourceLog(A, REP), "1 at 0;"),
         (Call::Audit(A, B), "clean"),
     ];
-    let gate = StopsOnce::new(2, 0);
-    let mut bench = Bench::new(rt.alloc(), 1);
-    bench.run(&rt, FOUR);
-    expect_answer(&rt, 3, bench.replicate(&rt, &gate, A, B, TWO_ROWS), HALTED);
-    bench.run(&rt, THEN);
+    for may_hold in [true, false] {
+        let gate = StopsOnce::new(2, 0, may_hold);
+        let mut bench = Bench::new(rt.alloc(), 1);
+        bench.run(&rt, FOUR);
+        expect_answer(&rt, 3, bench.replicate(&rt, &gate, A, B, TWO_ROWS), HALTED);
+        bench.run(&rt, THEN);
+    }
 }
 
 /// The beginning of what is told of a stop at a kind of place.
@@ -262,10 +271,16 @@ pub(crate) fn go_on<R: Abort + Threads + Wait + Sync>(rt: &R, alloc: Global, ben
     bench.run(rt, AT_GOAL);
 }
 
-/// A run that stops, and a further one that carries the rest.
-fn stop_and_go_on<R: Abort + Threads + Wait + Sync>(rt: &R, alloc: Global, kind: u64, window: u64) {
-    let gate = StopsOnce::new(kind, window);
-    let mut bench = Bench::new(alloc, 2);
+/// A run by so many workers that stops, and a further one that carries the rest.
+fn stop_and_go_on<R: Abort + Threads + Wait + Sync>(
+    rt: &R,
+    alloc: Global,
+    workers: u64,
+    kind: u64,
+    window: u64,
+) {
+    let gate = StopsOnce::new(kind, window, workers > 1);
+    let mut bench = Bench::new(alloc, workers);
     bench.run(rt, OPEN_PEERS);
     bench.run(rt, DOCUMENTS);
     expect_stop(rt, alloc, &mut bench, &gate, kind, window);
@@ -273,11 +288,14 @@ fn stop_and_go_on<R: Abort + Threads + Wait + Sync>(rt: &R, alloc: Global, kind:
     bench.run(rt, CARRIED);
 }
 
+// By two workers of each crew, and by one, who works on the caller's thread.
 #[test]
 fn a_stop_at_each_place(rt: HostRuntime) {
-    for kind in 0..5u64 {
-        for window in 0..3u64 {
-            stop_and_go_on(&rt, rt.alloc(), kind, window);
+    for workers in 1..3u64 {
+        for kind in 0..5u64 {
+            for window in 0..3u64 {
+                stop_and_go_on(&rt, rt.alloc(), workers, kind, window);
+            }
         }
     }
 }

@@ -30,11 +30,13 @@ const fn in_windows_of(batch: u64) -> How {
 struct Counts {
     places: Vec<AtomicU64>,
     strays: AtomicU64,
+    /// Whether it says that it holds workers, though it holds none: then they are threads, however few.
+    may_hold: bool,
 }
 
 impl Counts {
     /// So many windows, of which none was asked for.
-    fn new(rt: &impl Abort, alloc: Global, windows: usize) -> Counts {
+    fn new(rt: &impl Abort, alloc: Global, windows: usize, may_hold: bool) -> Counts {
         let mut places = Vec::new(alloc);
         for _ in 0..windows {
             places.push(AtomicU64::new(0)).expect(rt, "memory");
@@ -42,6 +44,7 @@ impl Counts {
         Counts {
             places,
             strays: AtomicU64::new(0),
+            may_hold,
         }
     }
 
@@ -71,11 +74,14 @@ impl Gate for Counts {
         }
         Turn::Go
     }
+
+    fn may_hold(&self) -> bool {
+        self.may_hold
+    }
 }
 
-// A window's count is at a kind of place only where the gate was asked at each one before, once.
-#[test]
-fn each_place_once_and_in_order(rt: HostRuntime) {
+/// Asserts that a run by so many workers asks the gate at each place of a window, once and in order.
+fn expect_in_order<R: Abort + Threads + Wait + Sync>(rt: &R, alloc: Global, workers: u64) {
     const WELL: &str =
         "session 1 from 0 to 300 checked 300 found 300 read 300 written 300 failed 0, fetched 300";
     static MANY: Rows = &[
@@ -83,18 +89,27 @@ fn each_place_once_and_in_order(rt: HostRuntime) {
         (Call::Peer(2, None), "made"),
         (Call::Fill(A, 300), "Changed { seq: 300 }"),
     ];
-    let gate = Counts::new(&rt, rt.alloc(), 30);
-    let mut bench = Bench::new(rt.alloc(), 4);
-    bench.run(&rt, MANY);
+    let gate = Counts::new(rt, alloc, 30, workers > 1);
+    let mut bench = Bench::new(alloc, workers);
+    bench.run(rt, MANY);
     expect_answer(
-        &rt,
+        rt,
         3,
-        bench.replicate(&rt, &gate, A, B, in_windows_of(10)),
+        bench.replicate(rt, &gate, A, B, in_windows_of(10)),
         WELL,
     );
     assert_eq!(rt; gate.strays.load(Ordering::SeqCst), 0);
     assert_eq!(rt; gate.gone_through(), 30);
-    assert_eq!(rt; bench.fetchers(), 4);
+    assert_eq!(rt; bench.fetchers() as u64, workers);
+}
+
+// A window's count is at a kind of place only where the gate was asked at each one before, once. One worker works on the
+// caller's thread.
+#[test]
+fn each_place_once_and_in_order(rt: HostRuntime) {
+    for workers in [4, 1] {
+        expect_in_order(&rt, rt.alloc(), workers);
+    }
 }
 
 /// A kind of place, by its number from 0, of a window.
