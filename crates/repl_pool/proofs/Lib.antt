@@ -14,7 +14,6 @@ pub mod Showing
 pub mod NewSeats
 pub mod RunLaws
 pub mod Syncing
-pub mod Walking
 pub mod Crews
 pub mod Empty
 pub mod Counting
@@ -28,13 +27,12 @@ pub use Boarding.{back_last, back_length, back_same, back_seated, back_then, sea
 pub use Ending.{begun_held, grown_conclude, grown_record, grown_then, held_grown}
 pub use Halting.{merged_halt, one_of}
 pub use Refusals.{record_step, settle_step}
-pub use Closing.{ends_either, puts_entry, walks_clean, walks_lost}
+pub use Closing.{ends_either, puts_entry}
 pub use Showing.{all_popped, all_pushed, back_is, back_rest, held_back, held_next, held_room, held_same, held_shown, risen_by, shown_end}
 pub use Showing.{shown_start}
 pub use NewSeats.{new_left, new_taken}
 pub use RunLaws.{Passes, ends_free, given_grown, no_workers, nothing_read, passes, runs_begun, runs_early, runs_refused, shown_well}
 pub use Syncing.{run_leaves}
-pub use Walking.{hole_cut, middle_above, middle_under}
 pub use Crews.{crew_most, crew_some}
 pub use Empty.{some_from, unchanged}
 pub use Counting.{counted_page}

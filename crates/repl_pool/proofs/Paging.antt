@@ -150,7 +150,7 @@ recorded_pages db plan more fault complete before after why h (refused none whol
     let middle = after_conclude before plan.session plan.at in
     pages_record db plan plan.session more middle plan.at after (same ∙ ap (closed_as before plan) answer) (pages_conclude db plan plan.session more before plan.at middle refl h)
 
-pub closes_pages : (db : DatabaseValue) (plan : Plan) (more : Option ℕ) (start : ℕ) (fault : Option PoolFault) (complete : Bool) (source before source' after : PeerValue) (outcome : Result Report PoolFault) → KeepsPages db plan plan.session more before.sessions
-    → ClosesRun plan start fault complete source before source' after outcome → KeepsPages db plan plan.session more after.sessions
-closes_pages db plan more start fault complete source before source' after outcome h (concluded c w) = pages_conclude db plan plan.session more before plan.at after c.peer h
-closes_pages db plan more start fault complete source before source' after outcome h (recorded r put) = recorded_pages db plan more fault complete before after _ h r
+pub closes_pages : (db : DatabaseValue) (plan : Plan) (more : Option ℕ) (fault : Option PoolFault) (complete : Bool) (source before source' after : PeerValue) (outcome : Result Report PoolFault) → KeepsPages db plan plan.session more before.sessions
+    → ClosesRun plan fault complete source before source' after outcome → KeepsPages db plan plan.session more after.sessions
+closes_pages db plan more fault complete source before source' after outcome h (concluded c told put) = pages_conclude db plan plan.session more before plan.at after c.peer h
+closes_pages db plan more fault complete source before source' after outcome h (recorded r put) = recorded_pages db plan more fault complete before after _ h r

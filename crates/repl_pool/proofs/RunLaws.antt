@@ -1,14 +1,14 @@
 -- What a run says, from what came out of the lock.
-use Rattle.proof_words.proofs.{◌≡◌, ◌⊎◌, ℕ, ◌<◌, ◌≤◌, ◌==◌, Bool, true, false, cond, nat_lt, List, [], Option, Some, None, Result, Ok, Err, is_ok, is_some, IfOk, IfErr, IfSome, sum, refl, sym, ap, ◌∙◌, subst, inl, inr, arith, cond_both, false≢true, nat_tests}
+use Rattle.proof_words.proofs.{◌≡◌, ◌⊎◌, ℕ, ◌<◌, ◌≤◌, ◌==◌, Bool, true, false, cond, nat_lt, List, [], Option, Some, None, Result, Ok, Err, is_ok, IfOk, IfErr, IfSome, sum, refl, sym, ap, ◌∙◌, subst, inl, inr, arith, cond_both, false≢true, nat_tests}
 use Rattle.rev_tree.specs.{SessionId}
 use Rattle.doc_json.specs.Document.{Document}
-use Rattle.couch_base.specs.{DatabaseValue, LawfulDatabase, chosen_feed}
-use Rattle.repl_peer.specs.{Report, TargetFault, Leaf, covers, first_uncovered, PeerValue, LawfulSessions, read_in, record_answer}
+use Rattle.couch_base.specs.{DatabaseValue, LawfulDatabase}
+use Rattle.repl_peer.specs.{Report, TargetFault, PeerValue, LawfulSessions, read_in, record_answer}
 use Rattle.repl_peer.specs.declared.fault.TargetFault.TheVariants as refusals
-use Rattle.repl_target.specs.{Plan, IsGrown, IsLeft, CoversFeed, IsTiedPair, is_batch, start_between, begins_answer, after_begins}
-use Rattle.repl_target.proofs.{others_same, others_tied, tied_none, grown-same, left_law, both_tied, puts_over, reported_whole, tied_clean, all_known}
+use Rattle.repl_target.specs.{Plan, IsGrown, IsLeft, CoversFeed, IsTiedPair, is_batch, begins_answer, after_begins}
+use Rattle.repl_target.proofs.{others_same, others_tied, tied_none, grown-same, left_law, both_tied, puts_over, reported_whole, tied_clean}
 use Rattle.repl_peer.proofs.{IsLaterPeer-same}
-use Rattle.repl_pool.specs.{GrownPeer, TargetKeeps, IsConcluded, unfinished_at, IsRecorded, stopped, fewer, refused, PutsEntry, Walks, clean, hole, no_memory, ClosesRun, concluded, recorded, EndsRun, EndsWell, EarlyOrLate, TellsLowWater, RunsOn, early_answer, IsLateOn, IsHaltOn, HaveShown, Place, PoolFault, HasNoWindows}
+use Rattle.repl_pool.specs.{GrownPeer, TargetKeeps, IsConcluded, unfinished_at, IsRecorded, stopped, fewer, refused, UnlessMemory, PutsEntry, ClosesRun, concluded, recorded, EndsRun, EndsWell, EarlyOrLate, TellsLowWater, RunsOn, early_answer, IsLateOn, IsHaltOn, HaveShown, Place, PoolFault, HasNoWindows}
 use Rattle.progress_board.specs.{Board, BoardSeat}
 use Rattle.repl_pool.specs.declared.fault.PoolFault.TheVariants as faults
 use Rattle.repl_pool.proofs.Paging.{starts_pages, is_paged, closes_pages}
@@ -37,67 +37,55 @@ recorded_late B P plan fault complete before after why late (stopped e same) = h
 recorded_late B P plan fault complete before after why late (fewer none less same) = unfinished_late B P (record_answer before plan.session)
 recorded_late B P plan fault complete before after why late (refused none whole answer same) = tt
 
-module _ {F : Type 0} (refuses : F → Document → Bool) (may_fill : Type 0) (may_stop : Place → Type 0) (source target : PeerValue) (begun : F × PeerValue) (plan : Plan) (start : ℕ) (counts : List ℕ) (source' now : PeerValue) (law : LawfulDatabase source.db) (l : LawfulSessions (refuses begun.0) begun.1) (ok : begins_answer source target plan ≡ Ok tt) (is : begun.1 ≡ after_begins source target plan) (first : start ≡ start_between source target plan.chosen) where
-  -- what a session says that concluded
-  concluded_well : (fault : Option PoolFault) (complete : Bool) (before : PeerValue) (report : Report) → IsGrown (refuses begun.0) source.db plan.chosen plan.session begun.1 before → (fault ≡ None → complete ≡ true → read_in before.sessions plan.session ≡ sum counts)
-      → IsConcluded plan fault complete before now report → EndsWell source target now plan (sum counts) report
-  concluded_well fault complete before report grown read c =
-      ends_well (refuses begun.0) source target plan before now report (sum counts) law (subst (LawfulSessions (refuses begun.0)) is l) ok
-      (subst (λ p. IsGrown (refuses begun.0) source.db plan.chosen plan.session p before) is grown) (read c.free c.whole) c.answer c.peer
+-- what stands of a report, and of a want of memory, stands of the outcome
+told_of : (X : Result Report PoolFault → Type 0) (report : Report) (outcome : Result Report PoolFault) → UnlessMemory (Ok report) outcome → X (Ok report) → X (Err faults.Memory) → X outcome
+told_of X report outcome told ok memory = elim told [
+  | inl is ↦ subst X (sym is) ok
+  | inr is ↦ subst X (sym is) memory
+]
 
-  -- so the walk finds nothing
-  no_hole : (report : Report) → EndsWell source target now plan (sum counts) report → (leaf : Leaf) → first_uncovered now (chosen_feed plan.chosen source.db start source.db.update_seq) ≡ Some leaf → ⊥
-  no_hole report w leaf some =
-      let none : first_uncovered now (chosen_feed plan.chosen source.db start source.db.update_seq) ≡ None =
-      ap (λ n. first_uncovered now (chosen_feed plan.chosen source.db n source.db.update_seq)) first ∙ all_known (covers now) (chosen_feed plan.chosen source.db (start_between source target plan.chosen) source.db.update_seq) w.covered in
-      false≢true (ap is_some (sym none ∙ some))
-
-  walk_well : (report : Report) (outcome : Result Report PoolFault) → Walks source now plan start report source' outcome → EndsWell source target now plan (sum counts) report → IfOk outcome (EndsWell source target now plan (sum counts))
-  walk_well report outcome (clean none put) w = w
-  walk_well report outcome (hole found same) w = tt
-  walk_well report outcome (no_memory put) w = tt
-
-  walk_late : (report : Report) (outcome : Result Report PoolFault) → Walks source now plan start report source' outcome → EndsWell source target now plan (sum counts) report → IfErr outcome (IsLateOn may_fill may_stop) × PutsEntry source now source' plan outcome
-  walk_late report outcome (clean none put) w = (tt, put)
-  walk_late report outcome (hole found same) w = absurd (no_hole report w _ found)
-  walk_late report outcome (no_memory put) w = (tt, put)
-
-  pub run_well : (outcome : Result Report PoolFault) → EndsRun refuses may_fill may_stop plan start source begun counts source' now outcome → IfOk outcome (EndsWell source target now plan (sum counts))
-  run_well outcome e = go outcome e.ends
-    where
-      go : (o : Result Report PoolFault) → ClosesRun plan start e.fault e.complete source e.before source' now o → IfOk o (EndsWell source target now plan (sum counts))
-      go o (concluded c w) = walk_well _ o w (concluded_well e.fault e.complete e.before _ e.grown e.read c)
-      go o (recorded r put) = tt
-
-  pub run_late : (outcome : Result Report PoolFault) → EndsRun refuses may_fill may_stop plan start source begun counts source' now outcome → IfErr outcome (IsLateOn may_fill may_stop) × PutsEntry source now source' plan outcome
+module _ {F : Type 0} (refuses : F → Document → Bool) (may_fill : Type 0) (may_stop : Place → Type 0) (source : PeerValue) (begun : F × PeerValue) (plan : Plan) (counts : List ℕ) (source' now : PeerValue) where
+  -- the entry is put, and a halt is told where the gate allows it
+  pub run_late : (outcome : Result Report PoolFault) → EndsRun refuses may_fill may_stop plan source begun counts source' now outcome → IfErr outcome (IsLateOn may_fill may_stop) × PutsEntry source now source' plan outcome
   run_late outcome e = go outcome e.ends
     where
-      go : (o : Result Report PoolFault) → ClosesRun plan start e.fault e.complete source e.before source' now o → IfErr o (IsLateOn may_fill may_stop) × PutsEntry source now source' plan o
-      go o (concluded c w) = walk_late _ o w (concluded_well e.fault e.complete e.before _ e.grown e.read c)
+      go : (o : Result Report PoolFault) → ClosesRun plan e.fault e.complete source e.before source' now o → IfErr o (IsLateOn may_fill may_stop) × PutsEntry source now source' plan o
+      go o (concluded c told put) = (told_of (λ r. IfErr r (IsLateOn may_fill may_stop)) _ o told tt tt, put)
       go o (recorded r put) = (recorded_late may_fill may_stop plan e.fault e.complete e.before now _ e.late r, put)
 
   -- an unfinished run tells what is recorded
-  walk_tells : (report : Report) (outcome : Result Report PoolFault) → Walks source now plan start report source' outcome → IfErr outcome (TellsLowWater now plan.session)
-  walk_tells report outcome (clean none put) = tt
-  walk_tells report outcome (hole found same) = tt
-  walk_tells report outcome (no_memory put) = tt
-
-  pub run_tells : (outcome : Result Report PoolFault) → EndsRun refuses may_fill may_stop plan start source begun counts source' now outcome → IfErr outcome (TellsLowWater now plan.session)
+  pub run_tells : (outcome : Result Report PoolFault) → EndsRun refuses may_fill may_stop plan source begun counts source' now outcome → IfErr outcome (TellsLowWater now plan.session)
   run_tells outcome e = go outcome e.ends
     where
-      go : (o : Result Report PoolFault) → ClosesRun plan start e.fault e.complete source e.before source' now o → IfErr o (TellsLowWater now plan.session)
-      go o (concluded c w) = walk_tells _ o w
+      go : (o : Result Report PoolFault) → ClosesRun plan e.fault e.complete source e.before source' now o → IfErr o (TellsLowWater now plan.session)
+      go o (concluded c told put) = told_of (λ r. IfErr r (TellsLowWater now plan.session)) _ o told tt tt
       go o (recorded r put) = recorded_tells may_fill may_stop plan e.fault e.complete e.before now _ e.late r
+
+  -- where it is Ok, the session concluded: so all of the chosen feed above its start is covered, though nobody looks at it
+  -- once more
+  pub run_well : (target : PeerValue) → LawfulDatabase source.db → LawfulSessions (refuses begun.0) begun.1 → begins_answer source target plan ≡ Ok tt → begun.1 ≡ after_begins source target plan → (outcome : Result Report PoolFault)
+      → EndsRun refuses may_fill may_stop plan source begun counts source' now outcome → IfOk outcome (EndsWell source target now plan (sum counts))
+  run_well target law l ok is outcome e = go outcome e.ends
+    where
+      since : IsGrown (refuses begun.0) source.db plan.chosen plan.session (after_begins source target plan) e.before
+      since = subst (λ p. IsGrown (refuses begun.0) source.db plan.chosen plan.session p e.before) is e.grown
+
+      well : (report : Report) → IsConcluded plan e.fault e.complete e.before now report → EndsWell source target now plan (sum counts) report
+      well report c = ends_well (refuses begun.0) source target plan e.before now report (sum counts) law (subst (LawfulSessions (refuses begun.0)) is l) ok since (e.read c.free c.whole) c.answer c.peer
+
+      go : (o : Result Report PoolFault) → ClosesRun plan e.fault e.complete source e.before source' now o → IfOk o (EndsWell source target now plan (sum counts))
+      go o (concluded c told put) = told_of (λ r. IfOk r (EndsWell source target now plan (sum counts))) _ o told (well _ c) tt
+      go o (recorded r put) = tt
 
 ok_of : {A E : Type 0} (r : Result A E) (X : Type 0) → X → IfOk r (λ _. X)
 ok_of (Ok a) X x = x
 ok_of (Err e) X x = tt
 
 -- where it is Ok, nothing was stopped and all was got
-pub ends_free : (plan : Plan) (start : ℕ) (fault : Option PoolFault) (complete : Bool) (source before source' after : PeerValue) (outcome : Result Report PoolFault) (X : Type 0)
-    → ClosesRun plan start fault complete source before source' after outcome → (fault ≡ None → complete ≡ true → X) → IfOk outcome (λ _. X)
-ends_free plan start fault complete source before source' after outcome X (concluded c w) f = ok_of outcome X (f c.free c.whole)
-ends_free plan start fault complete source before source' after outcome X (recorded r put) f = tt
+pub ends_free : (plan : Plan) (fault : Option PoolFault) (complete : Bool) (source before source' after : PeerValue) (outcome : Result Report PoolFault) (X : Type 0)
+    → ClosesRun plan fault complete source before source' after outcome → (fault ≡ None → complete ≡ true → X) → IfOk outcome (λ _. X)
+ends_free plan fault complete source before source' after outcome X (concluded c told put) f = ok_of outcome X (f c.free c.whole)
+ends_free plan fault complete source before source' after outcome X (recorded r put) f = tt
 
 -- and what was shown is what the report tells
 pub shown_well : (board : Option Board) (given now : List BoardSeat) (source target target' : PeerValue) (plan : Plan) (n : ℕ) (outcome : Result Report PoolFault)
@@ -115,9 +103,9 @@ whole_of refuses source target target' plan n law l l' ok grown (Err why) w = tt
 -- ---- what it says
 
 -- no worker was started, for want of memory
-pub no_workers : {F : Type 0} (refuses : F → Document → Bool) (may_fill : Type 0) (may_stop : Place → Type 0) (plan : Plan) (start : ℕ) (source : PeerValue) (given : F × PeerValue) (counts : List ℕ) (source' after : PeerValue) (outcome : Result Report PoolFault) (fault : PoolFault) → fault ≡ faults.Memory
-    → HasNoWindows plan.session given.1.sessions → ClosesRun plan start (Some fault) false source given.1 source' after outcome → EndsRun refuses may_fill may_stop plan start source given counts source' after outcome
-no_workers refuses may_fill may_stop plan start source given counts source' after outcome fault is fresh e = record {
+pub no_workers : {F : Type 0} (refuses : F → Document → Bool) (may_fill : Type 0) (may_stop : Place → Type 0) (plan : Plan) (source : PeerValue) (given : F × PeerValue) (counts : List ℕ) (source' after : PeerValue) (outcome : Result Report PoolFault) (fault : PoolFault) → fault ≡ faults.Memory
+    → HasNoWindows plan.session given.1.sessions → ClosesRun plan (Some fault) false source given.1 source' after outcome → EndsRun refuses may_fill may_stop plan source given counts source' after outcome
+no_workers refuses may_fill may_stop plan source given counts source' after outcome fault is fresh e = record {
   fault = Some fault;
   complete = false;
   before = given.1;
@@ -130,9 +118,9 @@ no_workers refuses may_fill may_stop plan start source given counts source' afte
 }
 
 -- nor was one needed, since there was nothing to read
-pub nothing_read : {F : Type 0} (refuses : F → Document → Bool) (may_fill : Type 0) (may_stop : Place → Type 0) (plan : Plan) (start : ℕ) (source : PeerValue) (given : F × PeerValue) (counts : List ℕ) (source' after : PeerValue) (outcome : Result Report PoolFault)
-    → read_in given.1.sessions plan.session ≡ 0 → counts ≡ [] → HasNoWindows plan.session given.1.sessions → ClosesRun plan start None true source given.1 source' after outcome → EndsRun refuses may_fill may_stop plan start source given counts source' after outcome
-nothing_read refuses may_fill may_stop plan start source given counts source' after outcome none empty fresh e = record {
+pub nothing_read : {F : Type 0} (refuses : F → Document → Bool) (may_fill : Type 0) (may_stop : Place → Type 0) (plan : Plan) (source : PeerValue) (given : F × PeerValue) (counts : List ℕ) (source' after : PeerValue) (outcome : Result Report PoolFault)
+    → read_in given.1.sessions plan.session ≡ 0 → counts ≡ [] → HasNoWindows plan.session given.1.sessions → ClosesRun plan None true source given.1 source' after outcome → EndsRun refuses may_fill may_stop plan source given counts source' after outcome
+nothing_read refuses may_fill may_stop plan source given counts source' after outcome none empty fresh e = record {
   fault = None;
   complete = true;
   before = given.1;
@@ -190,20 +178,20 @@ module _ {F : Type 0} (refuses : F → Document → Bool) (may_fill : Type 0) (m
       })
 
   -- the workers were to be started
-  pub runs_begun : (begun : F × PeerValue) (start : ℕ) (counts : List ℕ) (source' target' : F × PeerValue) (outcome : Result Report PoolFault) → early_answer source.1 target.1 plan ≡ Ok tt
-      → LawfulDatabase source.1.db → LawfulSessions (refuses target.0) target.1 → LawfulSessions (refuses begun.0) begun.1 → begins_answer source.1 target.1 plan ≡ Ok tt → begun.0 ≡ target.0 → begun.1 ≡ after_begins source.1 target.1 plan → start ≡ start_between source.1 target.1 plan.chosen
-      → source'.0 ≡ source.0 → source'.1 ≡ record source.1 { outgoing = source'.1.outgoing } → GrownPeer refuses source.1.db plan.chosen plan.session begun target' → EndsRun refuses may_fill may_stop plan start source.1 begun counts source'.1 target'.1 outcome
+  pub runs_begun : (begun : F × PeerValue) (counts : List ℕ) (source' target' : F × PeerValue) (outcome : Result Report PoolFault) → early_answer source.1 target.1 plan ≡ Ok tt
+      → LawfulDatabase source.1.db → LawfulSessions (refuses target.0) target.1 → LawfulSessions (refuses begun.0) begun.1 → begins_answer source.1 target.1 plan ≡ Ok tt → begun.0 ≡ target.0 → begun.1 ≡ after_begins source.1 target.1 plan
+      → source'.0 ≡ source.0 → source'.1 ≡ record source.1 { outgoing = source'.1.outgoing } → GrownPeer refuses source.1.db plan.chosen plan.session begun target' → EndsRun refuses may_fill may_stop plan source.1 begun counts source'.1 target'.1 outcome
       → RunsOn refuses may_fill may_stop plan source target source' target' counts outcome
-  runs_begun begun start counts source' target' outcome early law lawful lawful_begun ok same is first filter log more e =
+  runs_begun begun counts source' target' outcome early law lawful lawful_begun ok same is filter log more e =
       let since : IsGrown (refuses target.0) source.1.db plan.chosen plan.session (after_begins source.1 target.1 plan) target'.1 =
       subst (λ f. IsGrown (refuses f) source.1.db plan.chosen plan.session (after_begins source.1 target.1 plan) target'.1) same (subst (λ p. IsGrown (refuses begun.0) source.1.db plan.chosen plan.session p target'.1) is more.1) in
       let left : IsLeft (refuses target.0) source.1 target.1 plan target'.1 = inr (ok, since) in
       let l' : LawfulSessions (refuses target.0) target'.1 = (left_law (refuses target.0) source.1 target.1 plan target'.1 law lawful left).0 in
-      let late = run_late refuses may_fill may_stop source.1 target.1 begun plan start counts source'.1 target'.1 law lawful_begun ok is first outcome e in
+      let late = run_late refuses may_fill may_stop source.1 begun plan counts source'.1 target'.1 outcome e in
       let same_db = ap (λ (q : PeerValue). q.db) log in
       let put = puts_over source.1 target'.1 plan late.1.entry late.1.put source'.1 late.1.told late.1.puts in
       let tied = both_tied (refuses target.0) source.1 target.1 plan source'.1 target'.1 law lawful left put same_db in
-      let well = run_well refuses may_fill may_stop source.1 target.1 begun plan start counts source'.1 target'.1 law lawful_begun ok is first outcome e in
+      let well = run_well refuses may_fill may_stop source.1 begun plan counts source'.1 target'.1 target.1 law lawful_begun ok is outcome e in
       record {
         early = subst (λ r. EarlyOrLate may_fill may_stop r source target source' target' counts outcome) (sym early) late.0;
         filter = filter;
@@ -216,9 +204,9 @@ module _ {F : Type 0} (refuses : F → Document → Bool) (may_fill : Type 0) (m
         put = inr (record {
           begun = ok;
           paged = is_paged (refuses target.0) source.1 target.1 plan target'.1 e.more law (subst (λ f. LawfulSessions (refuses f) (after_begins source.1 target.1 plan)) same (subst (LawfulSessions (refuses begun.0)) is lawful_begun)) ok since l'
-              (closes_pages source.1.db plan e.more start e.fault e.complete source.1 e.before source'.1 target'.1 outcome e.paged e.ends);
+              (closes_pages source.1.db plan e.more e.fault e.complete source.1 e.before source'.1 target'.1 outcome e.paged e.ends);
           put = late.1;
-          unfinished = run_tells refuses may_fill may_stop source.1 target.1 begun plan start counts source'.1 target'.1 law lawful_begun ok is first outcome e;
+          unfinished = run_tells refuses may_fill may_stop source.1 begun plan counts source'.1 target'.1 outcome e;
         });
         well = well;
         whole = whole_of (refuses target.0) source.1 target.1 target'.1 plan (sum counts) law lawful l' ok since outcome well;

@@ -23,7 +23,7 @@ pub use Workers.{FetcherKnows, WriterKnows, WriterShows, amounts, names}
 pub use Gathered.{FetchedKnows, IsOneOf, WrittenKnows}
 pub use Scopes.{StandBy}
 pub use Runs.{ClosesRun, EarlyOrLate, EndsRun, EndsWell, IsConcluded, IsRecorded, LeavesOrPuts, PutsEntry, RunsOn, TellsLowWater, UnlessMemory}
-pub use Runs.{Walks, clean, concluded, fewer, hole, no_memory, recorded, refused, stopped, unfinished_at}
+pub use Runs.{concluded, fewer, recorded, refused, stopped, unfinished_at}
 pub use Sync.{both, refused_back, refused_there}
 pub use Crews.{crew_of, most_windows}
 pub use declared.channels.Channels.{Channels}

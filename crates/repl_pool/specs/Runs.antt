@@ -1,11 +1,8 @@
 -- A run of the pool: docs/PROFILE.md, "The pool".
 use Rattle.std.specs.Prelude.{◌≡◌, ◌⊎◌, ℕ, Bool, true, false, List, [], Option, Some, None, Result, Ok, Err, IfOk, IfErr, IfSome, sum}
 use Rattle.std.specs.declared.alloc.AllocError.{AllocError}
-use Rattle.rev_core.specs.Rev.{RevId}
 use Rattle.doc_json.specs.Document.{Document}
 use Rattle.doc_json.specs.Chosen.{Choice}
-use Rattle.couch_base.specs.Database.{Id}
-use Rattle.couch_base.specs.Feed.{chosen_feed}
 use Rattle.repl_log.specs.Entry.{EntryValue}
 use Rattle.range_front.specs.Front.{low_water}
 use Rattle.rev_tree.specs.declared.origin.SessionId.{SessionId}
@@ -14,7 +11,6 @@ use Rattle.repl_target.specs.Audit.{audit_answer, CoversFeed}
 use Rattle.repl_peer.specs.peer.Backups.{BackupValue}
 use Rattle.repl_target.specs.ties.Ties.{IsTiedPair, IsTiedWith, KeepsOthersTied}
 use Rattle.repl_target.specs.replication.Calls.{IsGrown}
-use Rattle.repl_peer.specs.peer.Covered.{first_uncovered}
 use Rattle.repl_peer.specs.peer.Later.{IsLaterPeer}
 use Rattle.repl_peer.specs.peer.Peer.{PeerValue, SessionValue, session_in, entry_of}
 use Rattle.repl_peer.specs.session.ReadCounts.{read_in}
@@ -71,35 +67,23 @@ pub record PutsEntry (source target source' : PeerValue) (plan : Plan) (outcome 
     pub puts : PutsOver source (rep_between source target plan.chosen) entry put source'
     pub done : IfOk outcome (λ _. put ≡ Ok tt)
 
--- what a walk above the start finds, where the session was concluded: nothing, and the entry is put; or a leaf that
--- isn't covered, and nothing is put; or no memory
-pub data Walks (source target : PeerValue) (plan : Plan) (start : ℕ) (report : Report) (source' : PeerValue) : Result
-    Report PoolFault → Type 0 where
-  clean : first_uncovered target (chosen_feed plan.chosen source.db start source.db.update_seq) ≡ None
-      → PutsEntry source target source' plan (Ok report) → Walks source target plan start report source' (Ok report)
-  hole : {seq : ℕ} {id : Id} {rev : RevId}
-      → first_uncovered target (chosen_feed plan.chosen source.db start source.db.update_seq)
-      ≡ Some (record { seq = seq; id = id; rev = rev })
-      → source' ≡ source → Walks source target plan start report source' (Err (faults.Hole seq id rev))
-  no_memory : PutsEntry source target source' plan (Err faults.Memory)
-      → Walks source target plan start report source' (Err faults.Memory)
-
--- from the target as the workers left it: concluded, and then the walk; or recorded, and the entry is put
-pub data ClosesRun (plan : Plan) (start : ℕ) (fault : Option PoolFault) (complete : Bool)
+-- from the target as the workers left it: its session is concluded, or recorded; and the entry is put
+pub data ClosesRun (plan : Plan) (fault : Option PoolFault) (complete : Bool)
     (source before source' after : PeerValue) : Result Report PoolFault → Type 0 where
   concluded : {report : Report} {outcome : Result Report PoolFault}
       → IsConcluded plan fault complete before after report
-      → Walks source after plan start report source' outcome
-      → ClosesRun plan start fault complete source before source' after outcome
+      → UnlessMemory (Ok report) outcome
+      → PutsEntry source after source' plan outcome
+      → ClosesRun plan fault complete source before source' after outcome
   recorded : {why : PoolFault} → IsRecorded plan fault complete before after why
       → PutsEntry source after source' plan (Err why)
-      → ClosesRun plan start fault complete source before source' after (Err why)
+      → ClosesRun plan fault complete source before source' after (Err why)
 
 -- with what is known of the workers: the target had grown from the given one, the windows of its session are pages of
 -- the source, each halt stands where the gate allows it, or is what a worker's call was refused for, and where nothing
 -- was stopped and all was got, the session had read what the fetchers fetched
 pub record EndsRun {F : Type 0} (refuses : F → Document → Bool) (may_fill : Type 0) (may_stop : Place → Type 0)
-    (plan : Plan) (start : ℕ) (source : PeerValue) (given : F × PeerValue) (counts : List ℕ) (source' after : PeerValue)
+    (plan : Plan) (source : PeerValue) (given : F × PeerValue) (counts : List ℕ) (source' after : PeerValue)
     (outcome : Result Report PoolFault) : Type 0 where
   pub fault : Option PoolFault
   pub complete : Bool
@@ -109,7 +93,7 @@ pub record EndsRun {F : Type 0} (refuses : F → Document → Bool) (may_fill : 
   pub paged : KeepsPages source.db plan plan.session more before.sessions
   pub late : IfSome fault (IsHaltOn may_fill may_stop)
   pub read : fault ≡ None → complete ≡ true → read_in before.sessions plan.session ≡ sum counts
-  pub ends : ClosesRun plan start fault complete source before source' after outcome
+  pub ends : ClosesRun plan fault complete source before source' after outcome
 
 -- ---- a run
 

@@ -5,15 +5,12 @@ ghost use Rattle.repl_peer.specs.peer.Peer.{SessionValue, session_in};
 ghost use Rattle.doc_json.specs.Chosen.{Choice};
 ghost use Rattle.repl_pool.specs.Grown.{GrownPeer};
 ghost use Rattle.repl_peer.specs.session.Sessions.{record_answer, after_record};
-ghost use Rattle.repl_pool.specs.Runs.{IsConcluded, unfinished_at, IsRecorded, UnlessMemory, PutsEntry, Walks, ClosesRun};
+ghost use Rattle.repl_pool.specs.Runs.{IsConcluded, unfinished_at, IsRecorded, UnlessMemory, PutsEntry, ClosesRun};
 
 use crate::fault::PoolFault;
 use crate::running::Ran;
 use crate::totals::Summed;
-use crate::walk::walk;
-use repl_target::{Audit, Peer, Plan, Report, TargetFault, WriteFilter, record_at_source};
-use std::alloc::Global;
-use std::thread::Threads;
+use repl_target::{Peer, Plan, Report, TargetFault, WriteFilter, record_at_source};
 
 /// Records at the target, and tells that a run didn't reach its goal.
 fn record<F: WriteFilter>(target: &mut Peer<F>, plan: &Plan) -> PoolFault
@@ -76,63 +73,8 @@ fn put_entry<F: WriteFilter>(
     Ok(report)
 }
 
-/// Walks over the source's feed above a run's start, where the run was concluded, and puts its entry.
-///
-/// `Hole` is the first leaf that the target doesn't cover; nothing is put then. `Memory` where the walk or the log
-/// finds none.
-fn walk_and_put<F: WriteFilter + Send + Sync, R: Threads + Sync>(
-    rt: &R,
-    alloc: Global,
-    source: &mut Peer<F>,
-    target: &Peer<F>,
-    plan: &Plan,
-    start: u64,
-    report: Report,
-) -> Result<Report, PoolFault>
-    requires held { (s : SessionValue) × (session_in target.now.1.sessions plan.now.session ≡ Some s) }
-    ensures filter { source.new.0 ≡ source.old.0 }
-    ensures source { source.new.1 ≡ record source.old.1 { outgoing = source.new.1.outgoing } }
-    ensures walks { Walks source.old.1 target.now.1 plan.now start report source.new.1 result }
-{
-    match walk(rt, alloc, source, target, start, plan) {
-        Ok(Audit::Hole { seq, id, rev }) => Err(PoolFault::Hole { seq, id, rev }),
-        Ok(Audit::Clean) => put_entry(source, target, plan, Ok(report)),
-        Err(refused) => put_entry(source, target, plan, Err(PoolFault::from(refused))),
-    }
-}
-
-/// Closes a run whose session was concluded at the target, or recorded, at the source: walks and puts, or puts alone.
-fn close<F: WriteFilter + Send + Sync, R: Threads + Sync>(
-    rt: &R,
-    alloc: Global,
-    source: &mut Peer<F>,
-    target: &Peer<F>,
-    plan: &Plan,
-    start: u64,
-    concluded: Result<Report, PoolFault>,
-) -> Result<Report, PoolFault>
-    requires held { (s : SessionValue) × (session_in target.now.1.sessions plan.now.session ≡ Some s) }
-    ensures filter { source.new.0 ≡ source.old.0 }
-    ensures source { source.new.1 ≡ record source.old.1 { outgoing = source.new.1.outgoing } }
-    ensures walks { IfOk concluded (λ report. Walks source.old.1 target.now.1 plan.now start report source.new.1 result) }
-    ensures puts { IfErr concluded
-        (λ why. (result ≡ Err why) × PutsEntry source.old.1 target.now.1 source.new.1 plan.now result) }
-{
-    match concluded {
-        Ok(report) => walk_and_put(rt, alloc, source, target, plan, start, report),
-        Err(fault) => put_entry(source, target, plan, Err(fault)),
-    }
-}
-
-/// Ends a run: both peers are closed, and given back.
-pub fn end<F: WriteFilter + Send + Sync, R: Threads + Sync>(
-    rt: &R,
-    alloc: Global,
-    source: Peer<F>,
-    summed: Summed<F>,
-    plan: &Plan,
-    start: u64,
-) -> Ran<F>
+/// Ends a run: the session is closed at the target and its entry put at the source, and both peers are given back.
+pub fn end<F: WriteFilter>(source: Peer<F>, summed: Summed<F>, plan: &Plan) -> Ran<F>
     requires held { (s : SessionValue) × (session_in summed.target.1.sessions plan.now.session ≡ Some s) }
     ensures fetched { result.fetched ≡ summed.fetched }
     ensures seats { result.seats ≡ summed.seats }
@@ -140,7 +82,7 @@ pub fn end<F: WriteFilter + Send + Sync, R: Threads + Sync>(
     ensures source { result.source.1 ≡ record source.1 { outgoing = result.source.1.outgoing } }
     ensures grown { (db : DatabaseValue) (c : Choice)
         → GrownPeer F.refuses db c plan.now.session summed.target result.target }
-    ensures ends { ClosesRun plan.now start summed.fault summed.complete source.1 summed.target.1 result.source.1
+    ensures ends { ClosesRun plan.now summed.fault summed.complete source.1 summed.target.1 result.source.1
         result.target.1 result.outcome }
 {
     let Summed {
@@ -154,7 +96,7 @@ pub fn end<F: WriteFilter + Send + Sync, R: Threads + Sync>(
     source.law();
     target.law();
     let concluded = close_target(&mut target, plan, fault, complete);
-    let outcome = close(rt, alloc, &mut source, &target, plan, start, concluded);
+    let outcome = put_entry(&mut source, &target, plan, concluded);
     Ran {
         source,
         target,

@@ -57,8 +57,8 @@ pub enum PoolFault {
     /// The gate answered `Stop` at this place.
     #[error("stopped by the gate")]
     Halted(Place),
-    /// The first leaf of the source's feed above the start that the target doesn't cover. It never comes: the run's
-    /// contract says so.
+    /// The first leaf of the source's feed above the start that a run has left uncovered. It never comes: the run's
+    /// contract excludes it (`runs`: `early`), and no code makes it.
     #[error("a leaf of the source is not covered")]
     Hole { seq: u64, id: DocId, rev: Rev },
     /// A fetcher's count of documents would pass 9,007,199,254,740,991.

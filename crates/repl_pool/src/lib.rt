@@ -27,7 +27,6 @@ mod start;
 mod threads;
 mod totals;
 mod turns;
-mod walk;
 mod windows;
 mod writer;
 

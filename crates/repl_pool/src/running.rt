@@ -91,8 +91,7 @@ struct Shows<'a> {
 
 /// The end of a run whose workers weren't started: memory ran out, or where no fault is given, there was nothing to
 /// read.
-fn without_workers<F: WriteFilter + Send + Sync, R: Threads + Sync>(
-    rt: &R,
+fn without_workers<F: WriteFilter>(
     alloc: Global,
     begun: Begun<F>,
     plan: &Plan,
@@ -106,13 +105,13 @@ fn without_workers<F: WriteFilter + Send + Sync, R: Threads + Sync>(
     ensures source { result.source.1 ≡ record begun.source.1 { outgoing = result.source.1.outgoing } }
     ensures grown { (db : DatabaseValue) (c : Choice)
         → GrownPeer F.refuses db c plan.now.session begun.target result.target }
-    ensures ends { ClosesRun plan.now begun.start fault (is_none fault) begun.source.1 begun.target.1
-        result.source.1 result.target.1 result.outcome }
+    ensures ends { ClosesRun plan.now fault (is_none fault) begun.source.1 begun.target.1 result.source.1
+        result.target.1 result.outcome }
 {
     let Begun {
         source,
         target,
-        start,
+        start: _,
         crew: _,
     } = begun;
     let complete = fault.is_none();
@@ -123,7 +122,7 @@ fn without_workers<F: WriteFilter + Send + Sync, R: Threads + Sync>(
         fault,
         complete,
     };
-    end(rt, alloc, source, summed, plan, start)
+    end(source, summed, plan)
 }
 
 /// Runs the pool over a target whose session has begun at a start.
@@ -158,7 +157,7 @@ fn run_begun<
     ensures source { result.source.1 ≡ record begun.source.1 { outgoing = result.source.1.outgoing } }
     ensures grown { GrownPeer F.refuses begun.source.1.db plan.now.chosen plan.now.session begun.target result.target }
     ensures ends { EndsRun F.refuses (MayFill (option_copied shows.entry.board)) (G.may_stop gate.now) plan.now
-        begun.start begun.source.1 begun.target result.fetched.items result.source.1 result.target.1 result.outcome }
+        begun.source.1 begun.target result.fetched.items result.source.1 result.target.1 result.outcome }
     ensures back { AreBack (option_copied shows.entry.board) shows.entry.seats.items result.seats.items }
     ensures shown { IfOk result.outcome
         (λ _. HaveShown (option_copied shows.entry.board) (sum result.fetched.items) None shows.entry.seats.items
@@ -168,21 +167,21 @@ fn run_begun<
     begun.source.law();
     begun.target.law();
     if begun.start == begun.source.db().update_seq() {
-        return without_workers(rt, alloc, begun, plan, seats, None);
+        return without_workers(alloc, begun, plan, seats, None);
     }
     let workers = begun.crew as usize;
     let counts = match Vec::with_capacity(alloc, workers) {
         Ok(counts) => counts,
         Err(refused) => {
             let fault = Some(PoolFault::from(refused));
-            return without_workers(rt, alloc, begun, plan, seats, fault);
+            return without_workers(alloc, begun, plan, seats, fault);
         }
     };
     let (channels, windows, parcels) = match Channels::<S>::open(alloc, 2 * workers) {
         Ok(opened) => opened,
         Err(refused) => {
             let fault = Some(PoolFault::from(refused));
-            return without_workers(rt, alloc, begun, plan, seats, fault);
+            return without_workers(alloc, begun, plan, seats, fault);
         }
     };
     let Begun {
@@ -221,7 +220,7 @@ fn run_begun<
     let (ended, seats) = context.with_workers(workers, start, owned);
     let locked = locked.into_inner();
     let summed = collect(alloc, &channels, gate, board, locked, ended, seats);
-    end(rt, alloc, source, summed, plan, start)
+    end(source, summed, plan)
 }
 
 /// A run with a board, where the writers show what they do, or without one: `run_on`, `run`.
@@ -279,8 +278,8 @@ fn run_with<F: WriteFilter + Send + Sync, G: Gate + Sync, R: Threads + Wait + Sy
 /// Replicates the source's documents into the target by a pool of threads: the caller's thread begins the session from
 /// the common checkpoint of the two logs, reads the source's feed in windows, stores each at the target and sends it to
 /// `plan.workers` fetchers, or fewer where fewer windows may come; these ask the target, count at the source, and send
-/// parcels to as many writers, which read, settle and record. The target stands behind a lock, the source is shared. The gate is asked at each place, with no
-/// lock held.
+/// parcels to as many writers, which read, settle and record. The target stands behind a lock, the source is shared. The
+/// gate is asked at each place, with no lock held.
 ///
 /// `NoWorkers`, else `TooManyWorkers` above 64, else `BadBatch` where the batch isn't 1 to 10,000, else `SamePeer`
 /// where the two databases have one UUID: then both peers are as given. Else `Refused` of what a step refuses; `Halted`
@@ -290,9 +289,9 @@ fn run_with<F: WriteFilter + Send + Sync, G: Gate + Sync, R: Threads + Wait + Sy
 /// it is `Refused` of `Unfinished`.
 ///
 /// Once all workers have ended, the caller's thread concludes the session, or where that isn't due or is refused
-/// records it, and puts its entry into the source's log; an older one is passed over. Before that it walks the source's
-/// feed above the start, where it concluded: the first leaf that the target doesn't cover would be `Hole`, which never
-/// comes.
+/// records it, and puts its entry into the source's log; an older one is passed over. It doesn't walk over the feed
+/// once more: each leaf was looked at when its window was marked as done, and that none above the start is uncovered
+/// where the session is concluded is proved. So `Hole`, the name of such a leaf, never comes.
 ///
 /// At `Ok` each leaf of the source's feed above the start is covered at the target, the report is that of the session,
 /// which began at the common checkpoint and is recorded at the source's update sequence, and what the fetchers fetched

@@ -11,18 +11,21 @@ returns-then-begun-update_seq g c =
       filter = first_of (search rules, grind (arith, common_steps));
       source = first_of (search rules, grind (arith, common_steps));
       grown = c.without_workers.ensures.grown c.args.begun.source.1.db c.args.plan.now.chosen;
-      ends = nothing_read g.F.WriteFilter.refuses (MayFill (option_copied c.args.shows.board)) (g.G.Gate.may_stop c.args.gate.now) _ _ _ c.args.begun.target _ _ _ _ c.requires.none c.without_workers.ensures.fetched c.requires.fresh c.without_workers.ensures.ends;
+      ends = nothing_read g.F.WriteFilter.refuses (MayFill (option_copied c.args.shows.board)) (g.G.Gate.may_stop c.args.gate.now) _ _ c.args.begun.target _ _ _ _ c.requires.none c.without_workers.ensures.fetched c.requires.fresh c.without_workers.ensures.ends;
       back = back_is (option_copied c.args.shows.board) c.args.shows.seats.items _ (seats_seated (option_copied c.args.shows.board) 0 c.args.begun.crew c.args.shows.seats.items c.requires.seats) (ap vec_items (sym c.without_workers.ensures.seats));
       shown =
-          ends_free _ _ _ _ _ _ _ _ r.outcome (shows r.seats.items) c.without_workers.ensures.ends
+          ends_free _ _ _ _ _ _ _ r.outcome (shows r.seats.items) c.without_workers.ensures.ends
           (λ _ _. subst shows (ap vec_items (sym c.without_workers.ensures.seats)) (shown_start (option_copied c.args.shows.board) (sum r.fetched.items) c.args.shows.seats.items (ap sum c.without_workers.ensures.fetched)));
     }
 
-pub end-requires-clause-held : goal.end-requires-clause-held
-end-requires-clause-held g c κs within =
+pub end-requires : goal.end-requires
+end-requires g c =
     let d = c.collect-summed.ensures.target in
-    held_grown g.F.WriteFilter.refuses c.args.begun.source.1.db c.args.plan.now.chosen c.args.begun.target c.collect-summed.result.target c.args.plan.now.session c.law.ensures.database c.law-2.ensures.peer.sessions
-    (given_grown g.F.WriteFilter.refuses c.args.begun.source.1.db g.S.SourceBrand.source c.requires.source c.args.plan.now g.S.SourceBrand.plan c.requires.plan c.args.begun.target c.args.plan.now.session g.T.TargetBrand.given c.requires.given d.0 d.1 d.2 c.collect-summed.result.target d.3).0 c.requires.held
+    record {
+      held =
+          held_grown g.F.WriteFilter.refuses c.args.begun.source.1.db c.args.plan.now.chosen c.args.begun.target c.collect-summed.result.target c.args.plan.now.session c.law.ensures.database c.law-2.ensures.peer.sessions
+          (given_grown g.F.WriteFilter.refuses c.args.begun.source.1.db g.S.SourceBrand.source c.requires.source c.args.plan.now g.S.SourceBrand.plan c.requires.plan c.args.begun.target c.args.plan.now.session g.T.TargetBrand.given c.requires.given d.0 d.1 d.2 c.collect-summed.result.target d.3).0 c.requires.held;
+    }
 
 pub returns-in-Err : goal.returns-in-Err
 returns-in-Err g c =
@@ -31,9 +34,9 @@ returns-in-Err g c =
       filter = first_of (search rules, grind (arith, common_steps));
       source = first_of (search rules, grind (arith, common_steps));
       grown = c.without_workers-in-Err.ensures.grown c.args.begun.source.1.db c.args.plan.now.chosen;
-      ends = no_workers g.F.WriteFilter.refuses (MayFill (option_copied c.args.shows.board)) (g.G.Gate.may_stop c.args.gate.now) _ _ _ c.args.begun.target _ _ _ _ c.from.result c.from.ensures c.requires.fresh c.without_workers-in-Err.ensures.ends;
+      ends = no_workers g.F.WriteFilter.refuses (MayFill (option_copied c.args.shows.board)) (g.G.Gate.may_stop c.args.gate.now) _ _ c.args.begun.target _ _ _ _ c.from.result c.from.ensures c.requires.fresh c.without_workers-in-Err.ensures.ends;
       back = back_is (option_copied c.args.shows.board) c.args.shows.seats.items _ (seats_seated (option_copied c.args.shows.board) 0 c.args.begun.crew c.args.shows.seats.items c.requires.seats) (ap vec_items (sym c.without_workers-in-Err.ensures.seats));
-      shown = ends_free _ _ _ _ _ _ _ _ r.outcome (HaveShown (option_copied c.args.shows.board) (sum r.fetched.items) None c.args.shows.seats.items r.seats.items) c.without_workers-in-Err.ensures.ends (λ e _. absurd (false≢true (sym (ap is_some e))));
+      shown = ends_free _ _ _ _ _ _ _ r.outcome (HaveShown (option_copied c.args.shows.board) (sum r.fetched.items) None c.args.shows.seats.items r.seats.items) c.without_workers-in-Err.ensures.ends (λ e _. absurd (false≢true (sym (ap is_some e))));
     }
 
 pub returns-in-Err-open : goal.returns-in-Err-open
@@ -43,9 +46,9 @@ returns-in-Err-open g c =
       filter = first_of (search rules, grind (arith, common_steps));
       source = first_of (search rules, grind (arith, common_steps));
       grown = c.without_workers-in-Err-open.ensures.grown c.args.begun.source.1.db c.args.plan.now.chosen;
-      ends = no_workers g.F.WriteFilter.refuses (MayFill (option_copied c.args.shows.board)) (g.G.Gate.may_stop c.args.gate.now) _ _ _ c.args.begun.target _ _ _ _ c.from-in-Err-open.result c.from-in-Err-open.ensures c.requires.fresh c.without_workers-in-Err-open.ensures.ends;
+      ends = no_workers g.F.WriteFilter.refuses (MayFill (option_copied c.args.shows.board)) (g.G.Gate.may_stop c.args.gate.now) _ _ c.args.begun.target _ _ _ _ c.from-in-Err-open.result c.from-in-Err-open.ensures c.requires.fresh c.without_workers-in-Err-open.ensures.ends;
       back = back_is (option_copied c.args.shows.board) c.args.shows.seats.items _ (seats_seated (option_copied c.args.shows.board) 0 c.args.begun.crew c.args.shows.seats.items c.requires.seats) (ap vec_items (sym c.without_workers-in-Err-open.ensures.seats));
-      shown = ends_free _ _ _ _ _ _ _ _ r.outcome (HaveShown (option_copied c.args.shows.board) (sum r.fetched.items) None c.args.shows.seats.items r.seats.items) c.without_workers-in-Err-open.ensures.ends (λ e _. absurd (false≢true (sym (ap is_some e))));
+      shown = ends_free _ _ _ _ _ _ _ r.outcome (HaveShown (option_copied c.args.shows.board) (sum r.fetched.items) None c.args.shows.seats.items r.seats.items) c.without_workers-in-Err-open.ensures.ends (λ e _. absurd (false≢true (sym (ap is_some e))));
     }
 
 pub returns : goal.returns
@@ -78,7 +81,7 @@ returns g c =
           };
       back = first_of (search rules, grind (arith, common_steps));
       shown =
-          ends_free _ _ _ _ _ _ _ _ r.outcome (HaveShown (option_copied c.args.shows.board) (sum r.fetched.items) None c.args.shows.seats.items r.seats.items) c.end.ensures.ends
+          ends_free _ _ _ _ _ _ _ r.outcome (HaveShown (option_copied c.args.shows.board) (sum r.fetched.items) None c.args.shows.seats.items r.seats.items) c.end.ensures.ends
           (λ none whole.
           let k = c.collect-summed.ensures.amount none whole in
           shown_end (option_copied c.args.shows.board) c.args.shows.seats.items _ r.seats.items _ k.0 (λ x. x.all.amount) (λ x. x.written.stopped) _ c.with_workers-ended.ensures.shown k.1 k.2

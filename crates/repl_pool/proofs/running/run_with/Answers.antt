@@ -43,8 +43,8 @@ pub returns-in-Ok-clause-runs : goal.returns-in-Ok-clause-runs
 returns-in-Ok-clause-runs g c =
     let e = c.in-Ok.ensures in
     let early : early_answer c.args.source.1 c.args.target.1 c.args.plan.now ≡ Ok tt = sym c.check_run.ensures ∙ c.in_default.is in
-    runs_begun g.F.WriteFilter.refuses (MayFill (option_copied c.args.shows.board)) (g.G.Gate.may_stop c.args.gate.now) c.args.plan.now c.args.source c.args.target c.begin_plan.new.target _ _ c.run_begun.result.source c.run_begun.result.target _
-    early e.source_law c.law-2.ensures.peer.sessions e.target_law.sessions e.ok.0 e.filter e.ok.1 e.start
+    runs_begun g.F.WriteFilter.refuses (MayFill (option_copied c.args.shows.board)) (g.G.Gate.may_stop c.args.gate.now) c.args.plan.now c.args.source c.args.target c.begin_plan.new.target _ c.run_begun.result.source c.run_begun.result.target _
+    early e.source_law c.law-2.ensures.peer.sessions e.target_law.sessions e.ok.0 e.filter e.ok.1
     c.run_begun.ensures.filter c.run_begun.ensures.source c.run_begun.ensures.grown c.run_begun.ensures.ends
 
 pub returns-in-Ok-clause-shown : goal.returns-in-Ok-clause-shown
