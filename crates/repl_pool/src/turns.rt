@@ -142,10 +142,10 @@ impl<F: WriteFilter, S: SourceBrand, T: TargetBrand<F>, L: Ledger, G: Gate, R: W
         let mut since = start;
         let mut number = 0;
         while since < goal && has_left(self.plan.stop_after, number) {
-            match self.read_window(windows, since, number) {
-                Ok(hi) => {
+            match self.read_some(windows, since, number, 1) {
+                Ok((hi, next)) => {
                     since = hi;
-                    number += 1;
+                    number = next;
                 }
                 Err(halt) => return Some(halt),
             }

@@ -1,4 +1,4 @@
-use Rattle.proof_words.proofs.{◌≡◌, ◌-◌, ◌≤◌, []}
+use Rattle.proof_words.proofs.{◌≡◌, ◌-◌, ◌<◌, ◌≤◌, []}
 use Rattle.crossbeam_channel.specs.Claims.{view, IsSeatAt}
 use Rattle.crossbeam_channel.specs.Ends.{sends_on}
 use Rattle.repl_pool.specs.{window_view}
@@ -9,6 +9,7 @@ invariant-loop-since g l = record {
   seat : IsSeatAt (sends_on l.self.channels.now.to_fetchers) l.windows;
   read : view l.windows ≡ window_view (view l.initial.windows).parts 1 l.number [];
   below : l.number ≤ l.since;
+  some : 0 < l.most;
   goal : l.goal ≡ l.self.source.now.1.db.update_seq;
 }
 
