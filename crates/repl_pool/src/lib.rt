@@ -17,6 +17,7 @@ mod gate;
 mod gather;
 mod given_target;
 mod messages;
+mod pairs;
 mod parcels;
 mod reader;
 mod run_target;

@@ -279,7 +279,8 @@ fn run_with<F: WriteFilter + Send + Sync, G: Gate + Sync, R: Threads + Wait + Sy
 /// the common checkpoint of the two logs, reads the source's feed in windows, stores each at the target and sends it to
 /// `plan.workers` fetchers, or fewer where fewer windows may come; these ask the target, count at the source, and send
 /// parcels to as many writers, which read, settle and record. The target stands behind a lock, the source is shared. The
-/// gate is asked at each place, with no lock held.
+/// gate is asked at each place, with no lock held. Where it says that it holds nobody, a fetcher and a writer share one
+/// thread, in turn.
 ///
 /// `NoWorkers`, else `TooManyWorkers` above 64, else `BadBatch` where the batch isn't 1 to 10,000, else `SamePeer`
 /// where the two databases have one UUID: then both peers are as given. Else `Refused` of what a step refuses; `Halted`

@@ -1,8 +1,8 @@
-//! A crew of one: one thread reads, fetches and settles in turn.
+//! A fetcher and a writer in one thread, in turn; and a crew of one, whose thread reads the windows as well.
 //!
 //! With one fetcher and one writer no two documents are settled side by side, and what one processor has read is cold for
-//! another. So no thread is started: the caller's thread takes each window through both channels before it reads the
-//! next one.
+//! another. So no thread is started for them: the caller's thread takes each window through both channels before it reads
+//! the next one.
 ghost use Rattle.std.specs.Prelude.{◌≡◌, ℕ, ◌+◌, ◌-◌, ◌<◌, ◌++◌, [], true, Option, None, Some, IfSome, option_copied, option_to_list, vec_capacity};
 ghost use Rattle.crossbeam_channel.specs.Claims.{view, IsSeatAt};
 ghost use Rattle.crossbeam_channel.specs.Ends.{sends_on};
@@ -30,7 +30,7 @@ use repl_target::{WriteFilter, has_left};
 use std::sync::Wait;
 use std::sync::ledger::{Ledger, Share};
 
-/// The fetcher and the writer of a crew of one.
+/// A fetcher and a writer that one thread is in turn.
 #[derive(Drop)]
 pub struct Pair<S: SourceBrand, L: Ledger> {
     pub fetcher: Fetcher<S>,
@@ -47,7 +47,11 @@ impl<F: WriteFilter, S: SourceBrand, T: TargetBrand<F>, L: Ledger, G: Gate, R: W
     R,
 > {
     /// Cuts a pass of each channel off, for a fetcher of this thread.
-    fn fetcher_here(&self, windows: &mut WindowPass<S>, parcels: &mut ParcelPass<S>) -> Fetcher<S>
+    pub fn fetcher_here(
+        &self,
+        windows: &mut WindowPass<S>,
+        parcels: &mut ParcelPass<S>,
+    ) -> Fetcher<S>
         requires windows { IsSeatAt (sends_on self.now.channels.now.to_fetchers) windows.old
             × (1 < (view windows.old).parts) }
         requires parcels { IsSeatAt (sends_on self.now.channels.now.to_writers) parcels.old
@@ -70,7 +74,7 @@ impl<F: WriteFilter, S: SourceBrand, T: TargetBrand<F>, L: Ledger, G: Gate, R: W
     }
 
     /// Cuts a pass and the part of the ledger off, and takes a seat, where there is a board, for a writer of this thread.
-    fn writer_here(
+    pub fn writer_here(
         &self,
         parcels: &mut ParcelPass<S>,
         all: &mut Share<L>,
@@ -79,7 +83,8 @@ impl<F: WriteFilter, S: SourceBrand, T: TargetBrand<F>, L: Ledger, G: Gate, R: W
         requires parcels { IsSeatAt (sends_on self.now.channels.now.to_writers) parcels.old
             × (1 < (view parcels.old).parts) }
         requires all { (0 < all.old.parts) × (all.old.amount ≡ 0) }
-        requires seats { AreSeats (option_copied self.now.board) 0 1 seats.old.items }
+        requires seats { (others : ℕ) × (workers : ℕ) × (others < workers)
+            × AreSeats (option_copied self.now.board) others workers seats.old.items }
         ensures parcel_seats { IsSeatAt (sends_on self.now.channels.now.to_writers) parcels.new
             × IsSeatAt (sends_on self.now.channels.now.to_writers) result.parcels }
         ensures parcels { view parcels.new
@@ -90,6 +95,9 @@ impl<F: WriteFilter, S: SourceBrand, T: TargetBrand<F>, L: Ledger, G: Gate, R: W
         ensures share { result.share.amount ≡ 0 }
         ensures seated { IsSeated (option_copied self.now.board) result.seat }
         ensures seats { seats.old.items ≡ seats.new.items ++ option_to_list result.seat }
+        ensures left { (others : ℕ) (workers : ℕ) → others < workers
+            → AreSeats (option_copied self.now.board) others workers seats.old.items
+            → AreSeats (option_copied self.now.board) (others + 1) workers seats.new.items }
         ensures capacity { vec_capacity seats.new ≡ vec_capacity seats.old }
     {
         let its_parcels = self.channels.to_writers.another::<ParcelCut>(parcels);
@@ -97,8 +105,8 @@ impl<F: WriteFilter, S: SourceBrand, T: TargetBrand<F>, L: Ledger, G: Gate, R: W
         Writer::new(its_parcels, share, seats.pop())
     }
 
-    /// Fetches the window that was sent last, and settles its parcel, where one was sent.
-    fn take_turn(&self, pair: &mut Pair<S, L>)
+    /// Fetches a window, and settles a parcel, where one was sent for it. False at the end of the windows.
+    fn take_turn(&self, pair: &mut Pair<S, L>) -> bool
         requires source { S.source ≡ self.now.source.now.1.db }
         requires stand { StandBy self.now.channels.now (option_copied self.now.board) (G.may_stop self.now.gate.now)
             pair.old }
@@ -108,10 +116,30 @@ impl<F: WriteFilter, S: SourceBrand, T: TargetBrand<F>, L: Ledger, G: Gate, R: W
             → WriterShows (option_copied self.now.board) given pair.new.writer }
     {
         let sent = pair.fetcher.sent;
-        self.take_window(&mut pair.fetcher);
+        let more = self.take_window(&mut pair.fetcher);
         if pair.fetcher.sent > sent {
             self.take_parcel(&mut pair.writer);
         }
+        more
+    }
+
+    /// Takes windows until their end, each in a turn.
+    pub fn take_turns(&self, pair: Pair<S, L>) -> Pair<S, L>
+        requires source { S.source ≡ self.now.source.now.1.db }
+        requires stand { StandBy self.now.channels.now (option_copied self.now.board) (G.may_stop self.now.gate.now)
+            pair }
+        ensures stand { StandBy self.now.channels.now (option_copied self.now.board) (G.may_stop self.now.gate.now)
+            result }
+        ensures shows { (given : Option BoardSeat) → WriterShows (option_copied self.now.board) given pair.writer
+            → WriterShows (option_copied self.now.board) given result.writer }
+    {
+        let mut pair = pair;
+        for _ in self.rt.forever() {
+            if !self.take_turn(&mut pair) {
+                break;
+            }
+        }
+        pair
     }
 
     /// Reads windows from a start, stores each at the target and takes it through both channels, until none is due.
@@ -149,7 +177,7 @@ impl<F: WriteFilter, S: SourceBrand, T: TargetBrand<F>, L: Ledger, G: Gate, R: W
                 }
                 Err(halt) => return Some(halt),
             }
-            self.take_turn(pair);
+            let _more = self.take_turn(pair);
         }
         None
     }

@@ -105,7 +105,7 @@ impl Gate for HoldsFetched {
 struct StopsOnce {
     kind: u64,
     window: u64,
-    /// Whether it says that it holds workers, though it holds none: then they are threads, however few.
+    /// Whether it says that it holds workers, though it holds none: then each is a thread of its own, however few.
     may_hold: bool,
     stopped: AtomicBool,
 }
@@ -271,15 +271,16 @@ pub(crate) fn go_on<R: Abort + Threads + Wait + Sync>(rt: &R, alloc: Global, ben
     bench.run(rt, AT_GOAL);
 }
 
-/// A run by so many workers that stops, and a further one that carries the rest.
+/// A run by so many workers, whom the gate may hold or not, that stops, and a further one that carries the rest.
 fn stop_and_go_on<R: Abort + Threads + Wait + Sync>(
     rt: &R,
     alloc: Global,
     workers: u64,
+    may_hold: bool,
     kind: u64,
     window: u64,
 ) {
-    let gate = StopsOnce::new(kind, window, workers > 1);
+    let gate = StopsOnce::new(kind, window, may_hold);
     let mut bench = Bench::new(alloc, workers);
     bench.run(rt, OPEN_PEERS);
     bench.run(rt, DOCUMENTS);
@@ -288,14 +289,14 @@ fn stop_and_go_on<R: Abort + Threads + Wait + Sync>(
     bench.run(rt, CARRIED);
 }
 
-// By two workers of each crew, and by one, who works on the caller's thread.
+// By two workers of each crew, by two pairs, and by one worker, who works on the caller's thread.
 #[test]
 fn a_stop_at_each_place(rt: HostRuntime) {
-    for workers in 1..3u64 {
-        for kind in 0..5u64 {
-            for window in 0..3u64 {
-                stop_and_go_on(&rt, rt.alloc(), workers, kind, window);
-            }
+    for kind in 0..5u64 {
+        for window in 0..3u64 {
+            stop_and_go_on(&rt, rt.alloc(), 2, true, kind, window);
+            stop_and_go_on(&rt, rt.alloc(), 2, false, kind, window);
+            stop_and_go_on(&rt, rt.alloc(), 1, false, kind, window);
         }
     }
 }

@@ -80,8 +80,14 @@ impl Gate for Counts {
     }
 }
 
-/// Asserts that a run by so many workers asks the gate at each place of a window, once and in order.
-fn expect_in_order<R: Abort + Threads + Wait + Sync>(rt: &R, alloc: Global, workers: u64) {
+/// Asserts that a run by so many workers asks the gate, which may hold them or not, at each place of a window, once and in
+/// order.
+fn expect_in_order<R: Abort + Threads + Wait + Sync>(
+    rt: &R,
+    alloc: Global,
+    workers: u64,
+    may_hold: bool,
+) {
     const WELL: &str =
         "session 1 from 0 to 300 checked 300 found 300 read 300 written 300 failed 0, fetched 300";
     static MANY: Rows = &[
@@ -89,7 +95,7 @@ fn expect_in_order<R: Abort + Threads + Wait + Sync>(rt: &R, alloc: Global, work
         (Call::Peer(2, None), "made"),
         (Call::Fill(A, 300), "Changed { seq: 300 }"),
     ];
-    let gate = Counts::new(rt, alloc, 30, workers > 1);
+    let gate = Counts::new(rt, alloc, 30, may_hold);
     let mut bench = Bench::new(alloc, workers);
     bench.run(rt, MANY);
     expect_answer(
@@ -103,13 +109,13 @@ fn expect_in_order<R: Abort + Threads + Wait + Sync>(rt: &R, alloc: Global, work
     assert_eq!(rt; bench.fetchers() as u64, workers);
 }
 
-// A window's count is at a kind of place only where the gate was asked at each one before, once. One worker works on the
-// caller's thread.
+// A window's count is at a kind of place only where the gate was asked at each one before, once. By two crews, by pairs,
+// and by one worker, who works on the caller's thread.
 #[test]
 fn each_place_once_and_in_order(rt: HostRuntime) {
-    for workers in [4, 1] {
-        expect_in_order(&rt, rt.alloc(), workers);
-    }
+    expect_in_order(&rt, rt.alloc(), 4, true);
+    expect_in_order(&rt, rt.alloc(), 4, false);
+    expect_in_order(&rt, rt.alloc(), 1, false);
 }
 
 /// A kind of place, by its number from 0, of a window.
