@@ -1,9 +1,11 @@
 -- The index with ids in the place of places.
 use Rattle.proof_words.proofs.{◌≡◌, ℕ, zero, suc, ◌<◌, ◌≤◌, List, [], ◌∷◌, ◌++◌, Bool, true, false, Some, None, length, cond, sym, ap, subst, ◌∙◌, refl, arith, inl, inr, ◌==◌, nat_lt, not, slice_get, unwrap_or, position, get_or, IsDistinct, option_map, keys_of, bytes_eq, cond_both, cases_Bool, both_ways, false_from_ne_true, get_or_append_left, filter-append, position-Some, nat_list_eq_equiv, length-keys_of, lookup_from_place, apart_from_distinct, slice_get-map, slice_get_within, unwrap_or-slice_get, get_or_from_slice_get, same_Some, none-some}
+use Rattle.std.specs.List.{insert}
+use Rattle.std.proofs.lemmas.Map.{lookup-insert, none_passes_from_lookup}
 use Rattle.rev_tree.proofs.{slice_get-last}
 use Rattle.indexmap.specs.IndexMap.{insert_entry, set_value_at}
 use Rattle.indexmap.proofs.MapLemmas.{absent_from_lookup, insert_entry-absent}
-use Rattle.couch_base.specs.{id_is, id_same, Id, tree_of, TableValue, documents_of, found, id_at, is_live, live, swept, named, feed_of, feed_without, tree_at, ArePlaces, AreRows, AllBelow, IsKept, IsPlace, Kept}
+use Rattle.couch_base.specs.{id_is, id_same, Id, tree_of, TableValue, documents_of, found, id_at, is_live, live, swept, named, feed_of, feed_without, tree_at, ArePlaces, AreRows, AllBelow, IsKept, IsPlace, Kept, Sets}
 use Rattle.couch_base.proofs.Found.{tree_of-documents_of}
 use Rattle.couch_base.proofs.Rows.{live_at, dead_at, live_same, live_more, get_set, get_set_apart, feed_swept, places_filter}
 
@@ -152,6 +154,17 @@ added_feed docs new before after s id k grown latest longer places =
     ∙ named_append (ids ++ id ∷ []) (live docs before) s (length ids)
     ∙ (λ j. named_more ids id (live docs before) (subst (λ n. ArePlaces n (live docs before)) (sym size) (places_filter (length docs) (is_live docs) before places)) j ++ (s, id_last ids id j) ∷ [])
 
+-- what is inserted behind the others stands at the end
+insert_end : (docs : List (Id × Kept)) (e : Id × Kept) → insert docs (length docs) e ≡ docs ++ e ∷ []
+insert_end [] e = refl
+insert_end (d ∷ ds) e = ap (λ l. d ∷ l) (insert_end ds e)
+
 -- an id that the table hasn't goes last
 pub inserted : (docs : List (Id × Kept)) (id : Id) (k : Kept) → found docs id ≡ None → insert_entry bytes_eq docs id k ≡ docs ++ (id, k) ∷ []
 inserted docs id k gone = insert_entry-absent bytes_eq id k docs (absent_from_lookup (bytes_eq id) docs gone)
+
+-- and is found there
+pub found_last : (docs : List (Id × Kept)) (id : Id) (k : Kept) → found docs id ≡ None → Sets (found docs) (found (docs ++ (id, k) ∷ [])) id k
+found_last docs id k gone q =
+    ap (λ es. found es q) (sym (insert_end docs (id, k)))
+    ∙ lookup-insert nat_list_eq_equiv id k q docs (length docs) (none_passes_from_lookup (bytes_eq id) docs gone)

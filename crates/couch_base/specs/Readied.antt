@@ -1,6 +1,5 @@
 -- What documents make where they are new, made beforehand.
 use Rattle.std.specs.Prelude.{◌≡◌, ℕ, List, Option, Some, slice_get}
-use Rattle.rev_core.specs.Ancestry.{head_of}
 use Rattle.rev_tree.specs.Tree.{merged, no_revisions}
 use Rattle.rev_tree.specs.declared.origin.Origin.TheVariants.{Feed}
 use Rattle.doc_json.specs.Document.{Document}
@@ -8,11 +7,9 @@ use Rattle.couch_base.specs.Database.{IsDocumentTree}
 use Rattle.couch_base.specs.Put.{content_of}
 use Rattle.couch_base.specs.declared.made.Made.{Made}
 
--- what a document makes where it is new: its id, its newest revision, and its ancestry and its content merged into no
--- revisions
+-- what a document makes where it is new: its id, and its ancestry and its content merged into no revisions
 pub record IsMadeOf (d : Document) (m : Made) : Type 0 where
   pub key : m.key ≡ d.id
-  pub head : head_of d.ancestry ≡ Some m.head
   pub tree : m.tree ≡ merged no_revisions d.ancestry (content_of d.deleted d.body) (Feed m.session m.seq)
   pub document : IsDocumentTree m.tree
 

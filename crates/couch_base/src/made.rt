@@ -4,16 +4,13 @@ ghost use Rattle.couch_base.specs.Readied.{IsMadeOf};
 
 use crate::edit::content_of;
 use doc_json::{Doc, DocId};
-use rev_core::KeptRev;
 use rev_tree::{Origin, SessionId, Tree};
 use std::alloc::{AllocError, Global};
 
-/// What a document makes where it is new: its id, its newest revision, and its tree, whose revisions come from a session's
-/// feed at a sequence.
+/// What a document makes where it is new: its id, and its tree, whose revisions come from a session's feed at a sequence.
 #[derive(Drop)]
 pub struct Made {
     pub(crate) key: DocId,
-    pub(crate) head: KeptRev,
     pub(crate) tree: Tree,
     pub(crate) session: SessionId,
     pub(crate) seq: u64,
@@ -35,11 +32,9 @@ impl Made {
         let content = content_of(doc.deleted(), doc.body())?;
         let mut tree = Tree::new(alloc);
         tree.merge_change(ancestry, content, Origin::Feed(session, seq))?;
-        let head = KeptRev::keep(alloc, &ancestry.head())?;
         let key = doc.id().copy(alloc)?;
         Ok(Made {
             key,
-            head,
             tree,
             session,
             seq,

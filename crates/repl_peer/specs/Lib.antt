@@ -16,6 +16,7 @@ pub use peer.Rules.{rules_refuse}
 pub use peer.Stands.{Follows, StandsIn}
 pub use peer.Trusted.{IsAccounted, IsTrusted}
 pub use peer.Writing.{after_edit, after_load, load_edited, next_local}
+pub use session.Arriving.{AreArrivalsOf, with_arrivals}
 pub use session.LedgerIndex.{is_ledgered}
 pub use session.ReadCounts.{read_in, read_of, taken}
 pub use session.RepIndex.{listed}

@@ -1,4 +1,5 @@
 -- The sessions of a peer, and settling.
+pub mod Arriving
 pub mod Sessions
 pub mod Settling
 pub mod Stored

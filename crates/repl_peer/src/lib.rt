@@ -16,6 +16,7 @@ pub use peer::backup::Backup;
 pub use peer::filter::{Rules, Verdict, WriteFilter};
 pub use peer::written::Written;
 pub use session::beginning::{Beginning, Scope};
+pub use session::ready_parcel::ReadyParcel;
 pub use session::ready_window::ReadyWindow;
 pub use session::refused::Refused;
 pub use session::spent::Spent;

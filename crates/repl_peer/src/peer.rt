@@ -16,6 +16,7 @@ use crate::fault::{Report, Settled, TargetFault};
 use crate::peer::filter::WriteFilter;
 use crate::peer::written::Written;
 use crate::session::beginning::Beginning;
+use crate::session::ready_parcel::ReadyParcel;
 use crate::session::ready_window::ReadyWindow;
 use crate::session::rows::has_in;
 use crate::session::sessions::Sessions;
@@ -341,8 +342,9 @@ impl<F: WriteFilter> Peer<F> {
         ensures filter { self.new.0 ≡ self.old.0 }
         ensures law { Lawful (F.refuses self.new.0) self.new.1 }
     {
-        let mut spent = Spent::new(*self.locals.allocator());
-        self.settle_into(id, parcel, &mut spent)
+        let alloc = *self.locals.allocator();
+        let mut spent = Spent::new(alloc);
+        self.settle_into(id, ReadyParcel::new(alloc, parcel), &mut spent)
     }
 
     /// `settle`, which lets nothing go that it has used up of the parcel, where all its documents are settled: it hands
@@ -350,7 +352,7 @@ impl<F: WriteFilter> Peer<F> {
     pub fn settle_into(
         &mut self,
         id: SessionId,
-        parcel: Parcel,
+        parcel: ReadyParcel,
         spent: &mut Spent,
     ) -> Result<Settled, TargetFault>
         ensures settles { SettleGives (F.refuses self.old.0) self.old.1 id parcel result self.new.1 }

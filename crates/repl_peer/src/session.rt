@@ -6,8 +6,10 @@ ghost use Rattle.repl_log.specs.Entry.{value_of};
 ghost use Rattle.repl_peer.specs.peer.Peer.{entry_of};
 ghost use Rattle.repl_peer.specs.session.Sessions.{GivesUnlessMemory, new_session, append_in, with_window, recorded_at, report_of, conclude_in};
 
+mod ahead;
 pub(crate) mod beginning;
 mod ledger_index;
+pub(crate) mod ready_parcel;
 pub(crate) mod ready_window;
 pub(crate) mod refused;
 mod rep_index;
@@ -32,6 +34,8 @@ use std::alloc::Global;
 use std::marker::Model;
 
 /// An incoming session.
+///
+/// What arrived stands in lists one behind the other: those that were entered at once are kept as they came.
 #[derive(Drop)]
 pub(crate) struct Session {
     pub(crate) id: SessionId,
@@ -39,6 +43,7 @@ pub(crate) struct Session {
     pub(crate) front: Front,
     pub(crate) windows: Vec<StoredWindow>,
     pub(crate) recorded: u64,
+    pub(crate) earlier: Vec<Vec<Written>>,
     pub(crate) arrivals: Vec<Written>,
     pub(crate) ledger: Vec<Refused>,
     pub(crate) counts: Counts,
@@ -73,6 +78,7 @@ impl Session {
             front: Front::new(alloc, start),
             windows: Vec::new(alloc),
             recorded: start,
+            earlier: Vec::new(alloc),
             arrivals: Vec::new(alloc),
             ledger: Vec::new(alloc),
             counts: Counts::none(),

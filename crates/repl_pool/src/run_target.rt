@@ -148,8 +148,8 @@ impl<F: WriteFilter, S: SourceBrand, T: TargetBrand<F>, L: Ledger> RunTarget<F, 
     {
         self.target.law();
         let documents = fetched.documents();
-        let parcel = fetched.into_parcel();
-        let result = self.target.settle_into(self.session, parcel, spent);
+        let ready = fetched.into_ready();
+        let result = self.target.settle_into(self.session, ready, spent);
         let taken = taken_of(&result, documents);
         self.ledger.add(share, taken);
         result

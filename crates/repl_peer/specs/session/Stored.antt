@@ -1,5 +1,6 @@
 -- A session as it is stored.
-use Rattle.std.specs.Prelude.{◌≡◌, ◌≤◌}
+use Rattle.std.specs.Prelude.{◌≡◌, ◌≤◌, ◌++◌}
+use Rattle.std.specs.List.{flat_map}
 use Rattle.range_front.specs.Front.{IsFront, bounds}
 use Rattle.repl_log.specs.Counts.{AddUp}
 use Rattle.repl_peer.specs.peer.Peer.{SessionValue}
@@ -15,7 +16,7 @@ session_value s = record {
   front = s.front.front;
   windows = windows_of s.windows.items;
   recorded = s.recorded;
-  arrivals = s.arrivals.items;
+  arrivals = flat_map (λ list. list.items) s.earlier.items ++ s.arrivals.items;
   ledger = s.ledger.items;
   counts = s.counts;
   start_time = s.start_time;

@@ -12,7 +12,7 @@ use crate::peer::written::Written;
 use crate::room::room_for_one;
 use couch_base::{BaseFault, Database, Put};
 use doc_json::{Body, Doc, DocId};
-use rev_core::{KeptRev, Rev};
+use rev_core::Rev;
 use rev_tree::Origin;
 use std::alloc::AllocError;
 
@@ -56,10 +56,8 @@ fn prepare(locals: &mut Vec<Written>, doc: &Doc) -> Result<Written, AllocError>
     ensures place { OnOk result (vec_len locals.new < vec_capacity locals.new) }
     ensures locals { locals.new.items ≡ locals.old.items }
 {
-    let id = prepare_id(locals, doc.id())?;
-    let ancestry = doc.ancestry();
-    let head = KeptRev::keep(*locals.allocator(), &ancestry.head())?;
-    Ok(Written::whole(id, head, ancestry))
+    room_for_one(locals)?;
+    Written::of(*locals.allocator(), doc)
 }
 
 /// The id of a document that a local write names, and a place for it.

@@ -8,7 +8,8 @@ use range_front::Front;
 use rev_tree::SessionId;
 
 impl<F: WriteFilter> Peer<F> {
-    ghost use Rattle.std.specs.Prelude.{◌≡◌, ◌+◌, map, length, slice_get};
+    ghost use Rattle.std.specs.Prelude.{◌≡◌, ◌+◌, ◌++◌, map, length, slice_get};
+    ghost use Rattle.std.specs.List.{flat_map};
     ghost use Rattle.std.specs.Option.{option_copied, option_map};
     ghost use Rattle.repl_peer.specs.peer.Peer.{session_in};
     ghost use Rattle.repl_peer.specs.session.Windows.{windows_of};
@@ -56,12 +57,14 @@ impl<F: WriteFilter> Peer<F> {
         }
     }
 
-    /// The documents that a session brought, where the peer holds it, in the order in which they were taken.
-    pub fn arrivals(&self, id: SessionId) -> Option<&[Written]>
-        ensures { option_copied result ≡ option_map (λ s. s.arrivals) (session_in self.now.1.sessions id) }
+    /// The documents that a session brought, where the peer holds it, in the order in which they were taken: those of
+    /// lists one behind the other, and then the others.
+    pub fn arrivals(&self, id: SessionId) -> Option<(&[Vec<Written>], &[Written])>
+        ensures { option_map (λ lists. flat_map (λ list. list.items) lists.0.now ++ lists.1.now) result
+            ≡ option_map (λ s. s.arrivals) (session_in self.now.1.sessions id) }
     {
         match self.sessions.find(id) {
-            Some(session) => Some(&session.arrivals),
+            Some(session) => Some((&session.earlier, &session.arrivals)),
             None => None,
         }
     }

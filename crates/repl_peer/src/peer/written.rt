@@ -4,12 +4,12 @@ ghost use Rattle.std.specs.FinMap.{get};
 ghost use Rattle.std.specs.Option.{option_to_list};
 ghost use Rattle.couch_base.specs.Database.{tree_of};
 ghost use Rattle.rev_core.specs.ShortSig.{is_short};
-ghost use Rattle.rev_core.specs.Ancestry.{FallsByOne, head_of};
+ghost use Rattle.rev_core.specs.Ancestry.{FallsByOne};
 
 use crate::peer::ghost_revs::{Came, GhostRevs};
 use couch_base::Database;
-use doc_json::DocId;
-use rev_core::{Ancestry, KeptRev, Rev};
+use doc_json::{Doc, DocId};
+use rev_core::{KeptRev, Rev};
 use std::alloc::{AllocError, Global};
 use std::marker::Model;
 
@@ -37,20 +37,22 @@ impl Model for Written {
 }
 
 impl Written {
-    ghost use Rattle.repl_peer.specs.peer.Peer.{WrittenValue};
+    ghost use Rattle.repl_peer.specs.peer.Peer.{WrittenValue, written_of};
     ghost use Rattle.repl_peer.specs.peer.Stands.{StandsIn};
 
-    /// A document with its whole ancestry, whose head is kept already.
-    pub(crate) fn whole(id: DocId, head: KeptRev, ancestry: &Ancestry) -> Written
-        requires { head_of ancestry.now ≡ Some head }
-        ensures { result ≡ record { id = id; ancestry = ancestry.now } }
+    /// A document with its whole ancestry.
+    pub(crate) fn of(alloc: Global, doc: &Doc) -> Result<Written, AllocError>
+        ensures { IfOk result (λ w. w ≡ written_of doc.now) }
     {
-        Written {
+        let id = doc.id().copy(alloc)?;
+        let ancestry = doc.ancestry();
+        let head = KeptRev::keep(alloc, &ancestry.head())?;
+        Ok(Written {
             id,
             head,
             count: ancestry.revs().len(),
             was: GhostRevs::of(&Came::Whole(ancestry.revs())),
-        }
+        })
     }
 
     /// What an edit brought: the new revision, which has a short signature, and the one that it stands on.

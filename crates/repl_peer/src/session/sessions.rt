@@ -15,11 +15,12 @@ use crate::peer::filter::WriteFilter;
 use crate::session::Session;
 use crate::session::beginning::Beginning;
 use crate::session::ledger_index::LedgerIndex;
+use crate::session::ready_parcel::ReadyParcel;
 use crate::session::ready_window::ReadyWindow;
 use crate::session::rep_index::RepIndex;
 use crate::session::settle::settle_parcel;
 use crate::session::spent::Spent;
-use couch_base::{Database, Parcel};
+use couch_base::Database;
 use doc_json::DocId;
 use indexmap::IndexMap;
 use repl_log::{Log, Moment, RepId};
@@ -223,7 +224,7 @@ impl Sessions {
         filter: &F,
         db: &mut Database,
         id: SessionId,
-        parcel: Parcel,
+        parcel: ReadyParcel,
         spent: &mut Spent,
     ) -> Result<Settled, TargetFault>
         ensures { (p : PeerValue)

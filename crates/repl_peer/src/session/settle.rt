@@ -2,17 +2,15 @@
 ghost use Rattle.std.specs.Prelude.{◌≡◌, ◌<◌, ◌≤◌, ◌+◌, ◌-◌, [], ◌∷◌, ◌++◌, Some, Ok, true, false, length, drop, slice_get, OnOk, OnErr, IfOk, IfErr, IfSome, IfNone};
 ghost use Rattle.std.specs.List.{list_all};
 ghost use Rattle.std.specs.Vec.{vec_len, vec_capacity};
-ghost use Rattle.rev_core.specs.Ancestry.{head_of};
 ghost use Rattle.doc_json.specs.Document.{Document};
 ghost use Rattle.couch_base.specs.Database.{most};
 ghost use Rattle.couch_base.specs.Feed.{WindowValue};
-ghost use Rattle.couch_base.specs.Put.{put_answer, after_put};
 ghost use Rattle.couch_base.specs.Readied.{AreMade};
-ghost use Rattle.couch_base.specs.declared.fault.Put.TheVariants as puts;
 ghost use Rattle.range_front.specs.Front.{finish_answer, is_done};
 ghost use Rattle.repl_peer.specs.declared.session.ledger_index.LedgerIndex.{LedgerIndex};
 ghost use Rattle.repl_peer.specs.peer.Peer.{written_of};
-ghost use Rattle.repl_peer.specs.session.Settling.{Halts, stops_in, has_row, with_refused};
+ghost use Rattle.repl_peer.specs.session.Arriving.{AreArrivalsOf};
+ghost use Rattle.repl_peer.specs.session.Settling.{Halts, Settling, stops_in, has_row, with_refused};
 ghost use Rattle.repl_peer.specs.session.SettlingParts.{PartsGive, Reached, ReachedAll, Marks, Steps, cause_at, IndexesMore, IsIndexedWith, IsSameIndex, KeepsIndexed, known_of, settling_at};
 
 use crate::fault::{Cause, Reason, Settled, TargetFault};
@@ -20,18 +18,19 @@ use crate::peer::filter::{Verdict, WriteFilter};
 use crate::peer::written::Written;
 use crate::room::room_for_one;
 use crate::session::Session;
+use crate::session::ahead::{is_refused, put_made_at, settle_ahead};
 use crate::session::ledger_index::LedgerIndex;
+use crate::session::ready_parcel::ReadyParcel;
 use crate::session::refused::Refused;
 use crate::session::rows::{first_unknown, seq_from};
 use crate::session::spent::Spent;
 use crate::session::stored::{Checked, check};
 use crate::session::window::let_leaves_go_at;
-use couch_base::{BaseFault, Database, Made, Parcel};
-use doc_json::{Doc, DocId};
+use couch_base::{BaseFault, Database, Made};
+use doc_json::Doc;
 use repl_log::Counts;
-use rev_core::KeptRev;
 use rev_tree::Origin;
-use std::alloc::{AllocError, Global};
+use std::alloc::AllocError;
 
 /// Why the documents of a parcel stopped, and how many were settled before.
 #[derive(Drop)]
@@ -52,15 +51,15 @@ pub(crate) fn settle_parcel<F: WriteFilter>(
     db: &mut Database,
     ledgered: &mut LedgerIndex,
     session: &mut Session,
-    parcel: Parcel,
+    parcel: ReadyParcel,
     spent: &mut Spent,
 ) -> Result<Settled, TargetFault>
     ensures gives { PartsGive (F.refuses filter.now) (known_of db.new ledgered.new)
         (settling_at db.old session.old) parcel result (settling_at db.new session.new) }
     ensures keeps { KeepsIndexed session.old ledgered.old session.new ledgered.new }
 {
-    let checked = check(session, &parcel)?;
-    let (asked, docs, gone, mut made) = parcel.into_parts();
+    let checked = check(session, parcel.parcel())?;
+    let (asked, docs, gone, mut made, arrivals) = parcel.into_parts();
     let (written, failures) = (session.counts.written, session.counts.failures);
     let settled = docs.len() as u64;
     if let Err(stop) = settle_in_order(
@@ -71,6 +70,7 @@ pub(crate) fn settle_parcel<F: WriteFilter>(
         checked.place,
         &docs,
         &mut made,
+        arrivals,
     ) {
         return Err(TargetFault::Stopped {
             settled: stop.settled as u64,
@@ -100,8 +100,8 @@ fn without_first(mut docs: Vec<Doc>, count: usize) -> Vec<Doc>
     docs
 }
 
-/// Settles documents in order, until one stops. What is made of them stands beside them, and is taken out where it is
-/// used.
+/// Settles documents in order, until one stops: the first of them at once, the others one by one. What is made of them
+/// stands beside them, and is taken out where it is used.
 ///
 /// Each has a row in the window at the place. What the mark of that window needs is made first.
 fn settle_in_order<F: WriteFilter>(
@@ -112,6 +112,7 @@ fn settle_in_order<F: WriteFilter>(
     place: usize,
     docs: &[Doc],
     made: &mut Vec<Option<Made>>,
+    arrivals: Vec<Written>,
 ) -> Result<(), Stop>
     requires rows { (w : WindowValue)
         × (slice_get session.old.windows place ≡ Some w)
@@ -121,6 +122,7 @@ fn settle_in_order<F: WriteFilter>(
         → is_done session.old.front w.lo w.hi ≡ false }
     requires room { session.old.counts.read + length docs.now ≤ most }
     requires made { AreMade docs.now made.old.items }
+    requires arrivals { AreArrivalsOf docs.now arrivals.items }
     ensures within { IfErr result (λ stop. stop.settled ≤ length docs.now) }
     ensures ok { OnOk result ((w : WindowValue)
         → slice_get session.old.windows place ≡ Some w
@@ -146,10 +148,11 @@ fn settle_in_order<F: WriteFilter>(
         };
         return Err(Stop { settled: 0, cause });
     }
-    settle_each(filter, db, ledgered, session, place, docs, made)
+    let from = settle_ahead(filter, db, session, place, docs, made, arrivals);
+    settle_each(filter, db, ledgered, session, place, docs, made, from)
 }
 
-/// Settles documents in order, until one stops: `settle_in_order`.
+/// Settles documents from a place on, in order, until one stops: `settle_in_order`.
 fn settle_each<F: WriteFilter>(
     filter: &F,
     db: &mut Database,
@@ -158,24 +161,27 @@ fn settle_each<F: WriteFilter>(
     place: usize,
     docs: &[Doc],
     made: &mut Vec<Option<Made>>,
+    from: usize,
 ) -> Result<(), Stop>
+    requires from { from ≤ length docs.now }
     requires rows { (w : WindowValue)
         × (slice_get session.old.windows place ≡ Some w)
         × (list_all (has_row w) docs.now ≡ true) }
     requires remains { (w : WindowValue)
         → slice_get session.old.windows place ≡ Some w
         → is_done session.old.front w.lo w.hi ≡ false }
-    requires room { session.old.counts.read + length docs.now ≤ most }
+    requires room { session.old.counts.read + length docs.now ≤ most + from }
     requires made { AreMade docs.now made.old.items }
     ensures within { IfErr result (λ stop. stop.settled ≤ length docs.now) }
-    ensures ok { OnOk result ((w : WindowValue)
+    ensures ok { OnOk result ((w : WindowValue) (before : Settling)
         → slice_get session.old.windows place ≡ Some w
-        → ReachedAll (F.refuses filter.now) w (settling_at db.old session.old) docs.now
+        → Reached (F.refuses filter.now) w before docs.now from (drop from docs.now) (settling_at db.old session.old)
+        → ReachedAll (F.refuses filter.now) w before docs.now (settling_at db.new session.new)) }
+    ensures reached { IfErr result (λ stop. (w : WindowValue) (before : Settling)
+        → slice_get session.old.windows place ≡ Some w
+        → Reached (F.refuses filter.now) w before docs.now from (drop from docs.now) (settling_at db.old session.old)
+        → Reached (F.refuses filter.now) w before docs.now stop.settled (drop stop.settled docs.now)
         (settling_at db.new session.new)) }
-    ensures reached { IfErr result (λ stop. (w : WindowValue)
-        → slice_get session.old.windows place ≡ Some w
-        → Reached (F.refuses filter.now) w (settling_at db.old session.old) docs.now stop.settled
-        (drop stop.settled docs.now) (settling_at db.new session.new)) }
     ensures why { IfErr result (λ stop. (d : Document)
         × (slice_get docs.now stop.settled ≡ Some d)
         × (stop.cause ≡ cause_at (stops_in (F.refuses filter.now) db.new d))) }
@@ -186,7 +192,7 @@ fn settle_each<F: WriteFilter>(
         → IndexesMore base session.new.ledger ledgered.new }
 {
     let mut row = 0;
-    for i in 0..docs.len() {
+    for i in from..docs.len() {
         // Only done windows are not kept whole.
         let Some(rows) = session.windows[place].rows() else {
             unreachable!()
@@ -234,69 +240,36 @@ fn settle_one<F: WriteFilter>(
     if is_refused(filter, doc) {
         return refuse(ledgered, session, doc, Reason::Filtered);
     }
-    let id = match room_for_arrival(&mut session.arrivals, doc) {
-        Ok(id) => id,
+    let written = match arrival(&mut session.arrivals, doc) {
+        Ok(written) => written,
         Err(refused) => return Err(cause_of(filter, db, doc, refused)),
     };
-    match put_made_at(db, docs, i, made, origin)? {
-        Some(head) => {
-            arrive(&mut session.arrivals, &mut session.counts, id, head, doc);
-            Ok(())
-        }
-        None => settle_unmade(filter, db, ledgered, session, doc, id, origin),
+    if put_made_at(db, docs, i, made, origin) {
+        arrive(&mut session.arrivals, &mut session.counts, written);
+        return Ok(());
     }
+    settle_unmade(filter, db, ledgered, session, doc, written, origin)
 }
 
-/// Makes a place among the arrivals, and copies a document's id for it. A refusal changes nothing.
-fn room_for_arrival(arrivals: &mut Vec<Written>, doc: &Doc) -> Result<DocId, AllocError>
+/// Makes a place among the arrivals, and what a document enters there. A refusal changes nothing.
+fn arrival(arrivals: &mut Vec<Written>, doc: &Doc) -> Result<Written, AllocError>
     ensures place { OnOk result (vec_len arrivals.new < vec_capacity arrivals.new) }
-    ensures id { IfOk result (λ id. id ≡ doc.now.id) }
+    ensures written { IfOk result (λ written. written ≡ written_of doc.now) }
     ensures arrivals { arrivals.new.items ≡ arrivals.old.items }
 {
     room_for_one(arrivals)?;
-    doc.id().copy(*arrivals.allocator())
-}
-
-/// Puts the document at a place by what was made of it, where that can be: `Database::put_made`.
-fn put_made_at(
-    db: &mut Database,
-    docs: &[Doc],
-    i: usize,
-    made: &mut Vec<Option<Made>>,
-    origin: Origin,
-) -> Result<Option<KeptRev>, AllocError>
-    requires within { i < length docs.now }
-    requires made { AreMade docs.now made.old.items }
-    ensures made { AreMade docs.now made.new.items }
-    ensures put { IfOk result (λ put. IfSome put (λ head. (d : Document) → slice_get docs.now i ≡ Some d
-        → (head_of d.ancestry ≡ Some head)
-        × (put_answer db.old d ≡ Ok (puts.Changed (db.old.update_seq + 1)))
-        × (db.new ≡ after_put db.old d origin))) }
-    ensures unlike { IfOk result (λ put. IfNone put (db.new ≡ db.old)) }
-    ensures room { OnErr result ((d : Document) → slice_get docs.now i ≡ Some d
-        → put_answer db.old d ≡ Ok (puts.Changed (db.old.update_seq + 1))) }
-    ensures err { OnErr result (db.new ≡ db.old) }
-{
-    if i < made.len() {
-        db.put_made(&docs[i], &mut made[i], origin)
-    } else {
-        Ok(None)
-    }
+    Written::of(*arrivals.allocator(), doc)
 }
 
 /// Enters a document among the arrivals, for which there is room, and counts it.
-fn arrive(arrivals: &mut Vec<Written>, counts: &mut Counts, id: DocId, head: KeptRev, doc: &Doc)
+fn arrive(arrivals: &mut Vec<Written>, counts: &mut Counts, written: Written)
     requires place { vec_len arrivals.old < vec_capacity arrivals.old }
-    requires id { id ≡ doc.now.id }
-    requires head { head_of doc.now.ancestry ≡ Some head }
     requires read { counts.old.read < most }
     requires written { counts.old.written < most }
-    ensures arrivals { arrivals.new.items ≡ arrivals.old.items ++ written_of doc.now ∷ [] }
+    ensures arrivals { arrivals.new.items ≡ arrivals.old.items ++ written ∷ [] }
     ensures counts { counts.new ≡ record counts.old { read = counts.old.read + 1; written = counts.old.written + 1 } }
 {
-    arrivals
-        .push(Written::whole(id, head, doc.ancestry()))
-        .unwrap();
+    arrivals.push(written).unwrap();
     counts.read += 1;
     counts.written += 1;
 }
@@ -310,11 +283,11 @@ fn settle_unmade<F: WriteFilter>(
     ledgered: &mut LedgerIndex,
     session: &mut Session,
     doc: &Doc,
-    id: DocId,
+    written: Written,
     origin: Origin,
 ) -> Result<(), Cause>
     requires accepted { F.refuses filter.now doc.now ≡ false }
-    requires id { id ≡ doc.now.id }
+    requires written { written ≡ written_of doc.now }
     requires room { session.old.counts.read < most }
     ensures settled { OnOk result
         (Steps (F.refuses filter.now) origin doc.now (settling_at db.old session.old) (settling_at db.new session.new)) }
@@ -328,13 +301,13 @@ fn settle_unmade<F: WriteFilter>(
         → IndexesMore base session.old.ledger ledgered.old
         → IndexesMore base session.new.ledger ledgered.new }
 {
-    let head = match room_and_head(&mut session.arrivals, doc) {
-        Ok(head) => head,
-        Err(refused) => return Err(cause_of(filter, db, doc, refused)),
-    };
+    // The place is still there: this tells the proof.
+    if let Err(refused) = room_for_one(&mut session.arrivals) {
+        return Err(cause_of(filter, db, doc, refused));
+    }
     match db.put(doc, origin) {
         Ok(_) => {
-            arrive(&mut session.arrivals, &mut session.counts, id, head, doc);
+            arrive(&mut session.arrivals, &mut session.counts, written);
             Ok(())
         }
         Err(fault) => match fault {
@@ -353,16 +326,6 @@ fn settle_unmade<F: WriteFilter>(
             other => Err(Cause::from(other)),
         },
     }
-}
-
-/// Makes a place among the arrivals, where there is none, and keeps a document's head for it. A refusal changes nothing.
-fn room_and_head(arrivals: &mut Vec<Written>, doc: &Doc) -> Result<KeptRev, AllocError>
-    ensures place { OnOk result (vec_len arrivals.new < vec_capacity arrivals.new) }
-    ensures head { IfOk result (λ head. head_of doc.now.ancestry ≡ Some head) }
-    ensures arrivals { arrivals.new.items ≡ arrivals.old.items }
-{
-    room_for_one(arrivals)?;
-    KeptRev::keep(*arrivals.allocator(), &doc.ancestry().head())
 }
 
 /// Enters a document into the ledger and its index. A refusal changes nothing.
@@ -385,13 +348,6 @@ fn refuse(
     session.counts.read += 1;
     session.counts.failures += 1;
     Ok(())
-}
-
-/// Whether the filter refuses a document.
-fn is_refused<F: WriteFilter>(filter: &F, doc: &Doc) -> bool
-    ensures { result ≡ F.refuses filter.now doc.now }
-{
-    filter.verdict(doc) == Verdict::Refuse
 }
 
 /// Makes a place in the ledger, and adds a document's revisions to its index: its entry of the ledger. A refusal changes

@@ -1,13 +1,14 @@
 -- The documents of a parcel, one after another.
-use Rattle.proof_words.proofs.{◌≡◌, ℕ, ◌+◌, ◌-◌, ◌<◌, ◌≤◌, Bool, true, false, ◌&&◌, ◌||◌, List, [], ◌∷◌, ◌++◌, length, take, drop, Option, Some, None, Result, Ok, Err, IfErr, slice_get, zero, suc, refl, sym, ap, ◌∙◌, subst, arith, or-false, or_assoc, cond-true, cond-false, cond_both, list_any-append, get_or, length-drop, drop_more, take_more, bytes_eq, take_all, nat_lt, option_map, set, same_Some, IfSome, ◌⊎◌, inl, inr, OnOk, OnErr, IsTrue, false≢true, drop_all, slice_get_within, get_or_from_slice_get}
+use Rattle.proof_words.proofs.{◌≡◌, ℕ, ◌+◌, ◌-◌, ◌<◌, ◌≤◌, Bool, true, false, ◌&&◌, ◌||◌, List, [], ◌∷◌, ◌++◌, length, take, drop, Option, Some, None, Result, Ok, Err, IfErr, slice_get, zero, suc, refl, sym, ap, ◌∙◌, subst, arith, or-false, or_assoc, cond-true, cond-false, cond_both, list_any-append, get_or, length-drop, drop_more, take_more, bytes_eq, take_all, nat_lt, option_map, set, same_Some, IfSome, ◌⊎◌, inl, inr, OnOk, OnErr, IsTrue, false≢true, drop_all, slice_get_within, get_or_from_slice_get, map, map-append, append_assoc, append-nil, length-append, take-map, take-take}
 use Rattle.rev_core.specs.{is_among, RevId}
 use Rattle.rev_tree.specs.Tree.{answer_of, is_same}
 use Rattle.rev_tree.specs.declared.fault.Contradiction.{Contradiction}
+use Rattle.rev_tree.specs.declared.origin.Origin.{Origin}
 use Rattle.doc_json.specs.Document.{Document}
 use Rattle.couch_base.specs.{AreMade, Id, IsMadeOf, DatabaseValue, Made, WindowValue, none_some, any_left, most, tree_of, PutGives, is_changed, put_answer, put_told, after_put, BaseFault}
 use Rattle.couch_base.specs.declared.fault.BaseFault.TheVariants as base_faults
 use Rattle.couch_base.specs.declared.fault.Put.{Put}
-use Rattle.repl_peer.specs.{SessionValue, RefusedValue, contradiction_of, refusal_of, in_ledger, is_ledgered, Settling, is_full, settle_as, settle_one, settle_docs, Halts, stops_as, stops_in, stops_at, settled_before, fed, with_arrival, with_refused, IndexesMore, IsIndexedWith, IsSameIndex, KeepsIndexed, Reached, ReachedAll, cause_at, settling_at, Cause, Reason, LedgerIndex}
+use Rattle.repl_peer.specs.{AreArrivalsOf, WrittenValue, written_of, with_arrivals, SessionValue, RefusedValue, contradiction_of, refusal_of, in_ledger, is_ledgered, Settling, is_full, settle_as, settle_one, settle_docs, Halts, stops_as, stops_in, stops_at, settled_before, fed, with_arrival, with_refused, IndexesMore, IsIndexedWith, IsSameIndex, KeepsIndexed, Reached, ReachedAll, Steps, cause_at, settling_at, Cause, Reason, LedgerIndex}
 use Rattle.repl_peer.specs.session.Settling.{cause_by_database}
 use Rattle.repl_peer.specs.declared.fault.Cause.TheVariants as causes
 use Rattle.repl_peer.specs.declared.fault.Reason.TheVariants as reasons
@@ -71,6 +72,21 @@ indexes_by (Err f) d reason base old new s t e noted kept same h = indexes_same 
 -- why a document that is put, or finds no memory for it, doesn't stop for want of a sequence
 goes_by : (refuses : Document → Bool) (db : DatabaseValue) (d : Document) (answer : Put) → refuses d ≡ false → put_answer db d ≡ Ok answer → stops_in refuses db d ≡ false
 goes_by refuses db d answer accepted ok = ap (stops_as db d) (accepted_by refuses d db answer accepted ok) ∙ ap is_full ok
+
+-- a document that is put arrives
+arrives : (refuses : Document → Bool) (w : WindowValue) (db : DatabaseValue) (s : SessionValue) (d : Document) (answer : Put) → refuses d ≡ false → put_answer db d ≡ Ok answer
+    → settle_one refuses w (settling_at db s) d ≡ settling_at (after_put db d (fed w s.id d)) (with_arrival d s)
+arrives refuses w db s d answer accepted ok =
+    let z = settling_at db s in
+    ap (settle_as w z d) (accepted_by refuses d db answer accepted ok)
+    ∙ cond-false (is_full (put_answer db d)) z (settling_at (after_put db d (fed w s.id d)) (with_arrival d s)) (ap is_full ok)
+
+pub arrives_by : (refuses : Document → Bool) (o : Origin) (d : Document) (db db' : DatabaseValue) (s t : SessionValue) (answer : Put) → refuses d ≡ false → put_answer db d ≡ Ok answer
+    → db' ≡ after_put db d o → t ≡ with_arrival d s → Steps refuses o d (settling_at db s) (settling_at db' t)
+arrives_by refuses o d db db' s t answer accepted ok put arrived = record {
+  goes = goes_by refuses db d answer accepted ok;
+  step = λ w is. (λ i. settling_at ((put ∙ ap (after_put db d) is) i) (arrived i)) ∙ sym (arrives refuses w db s d answer accepted ok);
+}
 
 -- what a put of a document that contradicts nothing refuses
 full_by : (c : Option Contradiction) (same room : Bool) (next : ℕ) (fault : BaseFault) → put_told (answer_of c same) room next ≡ Err fault
@@ -208,6 +224,43 @@ pub reached_kept : (refuses : Document → Bool) (w : WindowValue) (z : Settling
 reached_kept refuses w z db db' s t ds n base same h =
     subst (Reached refuses w z ds n (drop n ds)) (λ i. settling_at (sym base i) (sym same i)) h
 
+-- ---- documents that are put ahead
+
+arrived_end : (front : List Document) (d : Document) (s : SessionValue) → with_arrivals (front ++ d ∷ []) s ≡ with_arrival d (with_arrivals front s)
+arrived_end front d s =
+    let entered : s.arrivals ++ map written_of (front ++ d ∷ []) ≡ (s.arrivals ++ map written_of front) ++ written_of d ∷ [] =
+    ap (λ (l : List WrittenValue). s.arrivals ++ l) (map-append written_of front (d ∷ [])) ∙ sym (append_assoc s.arrivals (map written_of front) (written_of d ∷ [])) in
+    let read : s.counts.read + length (front ++ d ∷ []) ≡ s.counts.read + length front + 1 = omega (arith, length-append front (d ∷ [])) in
+    let written : s.counts.written + length (front ++ d ∷ []) ≡ s.counts.written + length front + 1 = omega (arith, length-append front (d ∷ [])) in
+    λ i. record s { arrivals = entered i; counts = record s.counts { read = read i; written = written i } }
+
+arrived_none : (s : SessionValue) → with_arrivals [] s ≡ s
+arrived_none s =
+    let read : s.counts.read + 0 ≡ s.counts.read = omega arith in
+    let written : s.counts.written + 0 ≡ s.counts.written = omega arith in
+    λ i. record s { arrivals = append-nil s.arrivals i; counts = record s.counts { read = read i; written = written i } }
+
+-- none is put yet
+pub ahead_none : (refuses : Document → Bool) (w : WindowValue) (db : DatabaseValue) (s : SessionValue) (ds : List Document) → Reached refuses w (settling_at db s) ds 0 ds (settling_at db (with_arrivals [] s))
+ahead_none refuses w db s ds =
+    subst (λ (t : SessionValue). Reached refuses w (settling_at db s) ds 0 ds (settling_at db t)) (sym (arrived_none s)) (reached_none refuses w (settling_at db s) ds)
+
+-- the one at the place is put too
+pub ahead_next : (refuses : Document → Bool) (w : WindowValue) (z : Settling) (s : SessionValue) (ds : List Document) (n : ℕ) (db after : DatabaseValue) (d : Document) (answer : Put)
+    → Reached refuses w z ds n (drop n ds) (settling_at db (with_arrivals (take n ds) s)) → slice_get ds n ≡ Some d → refuses d ≡ false → put_answer db d ≡ Ok answer → after ≡ after_put db d (fed w s.id d)
+    → Reached refuses w z ds (n + 1) (drop (n + 1) ds) (settling_at after (with_arrivals (take (n + 1) ds) s))
+ahead_next refuses w z s ds n db after d answer h at accepted ok put =
+    let t = with_arrivals (take n ds) s in
+    let front : take (n + 1) ds ≡ take n ds ++ d ∷ [] = take_more ds n d (slice_get_within ds n d at) ∙ ap (λ (x : Document). take n ds ++ x ∷ []) (get_or_from_slice_get ds n d d at) in
+    let arrived : with_arrivals (take (n + 1) ds) s ≡ with_arrival d t = ap (λ (l : List Document). with_arrivals l s) front ∙ arrived_end (take n ds) d s in
+    reached_at refuses w z (settling_at db t) (settling_at after (with_arrivals (take (n + 1) ds) s)) ds n d h at (goes_by refuses db d answer accepted ok)
+    ((λ i. settling_at (put i) (arrived i)) ∙ sym (arrives refuses w db t d answer accepted ok))
+
+-- the first of what documents enter
+pub first_arrivals : (ds : List Document) (all : List WrittenValue) (n : ℕ) → AreArrivalsOf ds all → n ≤ length all → take n all ≡ map written_of (take n ds)
+first_arrivals ds all n are within =
+    ap (take n) are ∙ take-map written_of n (take (length all) ds) ∙ ap (map written_of) (take-take n (length all) ds within)
+
 -- ---- what documents leave in the session
 
 -- the counts of leaves stay, and those of documents grow
@@ -285,6 +338,10 @@ halts_none refuses w z (d ∷ ds) none = absurd (none_some d (sym none))
 -- none of them is left
 pub halts_end : (refuses : Document → Bool) (w : WindowValue) (z mid : Settling) (ds : List Document) (n : ℕ) → Reached refuses w z ds n [] mid → Halts refuses w z ds n causes.Memory
 halts_end refuses w z mid ds n h = λ within. let none : 0 ≡ length ds - n = ap length h.rest ∙ length-drop n ds in absurd (omega (arith, none, within))
+
+pub OnOk_then : {A E : Type 0} {P Q : Type 0} (r : Result A E) → (P → Q) → OnOk r P → OnOk r Q
+OnOk_then (Ok x) f h = f h
+OnOk_then (Err e) f h = tt
 
 pub IfErr_both : {A E : Type 0} {P Q R : E → Type 0} (r : Result A E) → ((e : E) → P e → Q e → R e) → IfErr r P → IfErr r Q → IfErr r R
 IfErr_both (Ok x) f p q = tt

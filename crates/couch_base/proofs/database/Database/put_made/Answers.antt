@@ -1,9 +1,8 @@
-use Rattle.proof_words.proofs.{◌≡◌, ◌+◌, ◌<◌, Option, Some, None, Ok, Err, IfSome, OnErr, subst, sym, ap, ◌∙◌, arith, same_Some}
+use Rattle.proof_words.proofs.{◌≡◌, ◌<◌, Option, Some, None, IfSome, subst, sym, ap, ◌∙◌, arith, same_Some}
 use Rattle.rev_tree.specs.{Origin}
 use Rattle.rev_tree.specs.declared.origin.Origin.TheVariants.{Feed}
 use Rattle.doc_json.specs.Document.{Document}
-use Rattle.couch_base.specs.{DatabaseValue, with_tree, most, put_answer, IsMadeOf, Made, found}
-use Rattle.couch_base.specs.declared.fault.Put.TheVariants.{Changed}
+use Rattle.couch_base.specs.{DatabaseValue, with_tree, most, IsMadeOf, Made, found}
 use Rattle.couch_base.proofs.{left, taken}
 use Rattle.couch_base.proofs.database.Database.put_made.Goals as goal
 
@@ -16,32 +15,20 @@ module _ (ready m : Made) (o : Option Made) (looked : o ≡ Some ready) (took : 
   made_of = subst (λ (p : Option Made). IfSome p (IsMadeOf d)) (sym took) made
 
 pub returns-clause-put : goal.returns-clause-put
-returns-clause-put c =
+returns-clause-put c put =
     let m = c.in-Some-take.field-0 in
     let d = c.args.doc.now in
     let t = c.self.inside.table in
     let one = same c.in-Some.ready m c.args.made.now c.in-Some.is c.in-Some-take.ensures.value d c.requires in
     let made = made_of c.in-Some.ready m c.args.made.now c.in-Some.is c.in-Some-take.ensures.value d c.requires in
-    let absent : found t.entries m.key ≡ None = subst (λ (n : Made). found t.entries n.key ≡ None) one (c.find.ensures.absent c.in-None.is) in
+    let written = c.add_made.ensures.put put in
+    let absent : found t.entries m.key ≡ None = written.0 in
     let room : c.args.self.now.update_seq < most = subst (λ (v : DatabaseValue). v.update_seq < most) c.self.view_is (omega (arith, c.last.ensures.seq, c.if-last-ge-MOST_SEQUENCE.false)) in
     let from : Feed m.session m.seq ≡ c.args.origin = ap (λ (n : Made). let o : Origin = Feed n.session n.seq in o) (sym one)
     ∙ (λ i. let o : Origin = Feed (record { 0 = c.if-ready-session.false i }) (c.if-ready-seq.false i) in o)
     ∙ sym c.in-Feed.is in (
-      made.head,
       taken c.self.inside.uuid c.self.inside.life t c.args.self.now c.self.view_is c.last.ensures.kept d c.ancestry.ensures.document.ancestry m made absent room,
-      c.in_ok-add_made.ensures.ok.value c.self.inside.uuid c.self.inside.life
+      written.1.value c.self.inside.uuid c.self.inside.life
           ∙ ap (λ (v : DatabaseValue). with_tree v m.key m.tree) c.self.view_is
           ∙ left c.self.inside.uuid c.self.inside.life t c.args.self.now c.self.view_is c.last.ensures.kept d c.ancestry.ensures.document.ancestry m made absent c.args.origin from room,
     )
-
-pub returns-in_err-add_made-clause-room : goal.returns-in_err-add_made-clause-room
-returns-in_err-add_made-clause-room c =
-    let m = c.in-Some-take.field-0 in
-    let d = c.args.doc.now in
-    let t = c.self.inside.table in
-    let one = same c.in-Some.ready m c.args.made.now c.in-Some.is c.in-Some-take.ensures.value d c.requires in
-    let made = made_of c.in-Some.ready m c.args.made.now c.in-Some.is c.in-Some-take.ensures.value d c.requires in
-    let absent : found t.entries m.key ≡ None = subst (λ (n : Made). found t.entries n.key ≡ None) one (c.find.ensures.absent c.in-None.is) in
-    let room : c.args.self.now.update_seq < most = subst (λ (v : DatabaseValue). v.update_seq < most) c.self.view_is (omega (arith, c.last.ensures.seq, c.if-last-ge-MOST_SEQUENCE.false)) in
-    let answer = taken c.self.inside.uuid c.self.inside.life t c.args.self.now c.self.view_is c.last.ensures.kept d c.ancestry.ensures.document.ancestry m made absent room in
-    elim c.from_residual.result as (λ r. OnErr r (put_answer c.args.self.now d ≡ Ok (Changed (c.args.self.now.update_seq + 1)))) [ Ok _ ↦ tt | Err _ ↦ answer ]

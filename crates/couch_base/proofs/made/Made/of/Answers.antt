@@ -1,5 +1,4 @@
-use Rattle.proof_words.proofs.{◌≡◌, Some, sym, ap, ◌∙◌, subst}
-use Rattle.rev_core.specs.{RevId, head_of}
+use Rattle.proof_words.proofs.{◌≡◌, sym, ap, ◌∙◌, subst}
 use Rattle.rev_tree.specs.{IsTree, merged, merge_answer, no_revisions, Origin}
 use Rattle.rev_tree.specs.declared.origin.Origin.TheVariants.{Feed}
 use Rattle.couch_base.specs.{IsDocumentTree, merged_document, no_bodies, content_of}
@@ -17,7 +16,6 @@ returns c =
     let empty : c.merge_change.new.self ≡ merged no_revisions c.ancestry-ancestry.result.now c.in_ok-content.content o = c.in_ok-merge_change.ensures.ok ∙ ap (λ t. merged t c.ancestry-ancestry.result.now c.in_ok-content.content o) c.new-tree.ensures in
     record {
       key = c.in_ok-key.ensures.copied ∙ c.id.ensures.part;
-      head = ap head_of (sym c.ancestry-ancestry.ensures.part) ∙ c.head.ensures ∙ ap (λ (r : RevId). Some r) (sym c.in_ok-head.ensures);
       tree = empty ∙ (λ i. merged no_revisions (c.ancestry-ancestry.ensures.part i) (content i) o);
       document = subst IsDocumentTree (sym empty) (merged_document no_revisions c.ancestry-ancestry.result.now c.in_ok-content.content o c.revs-revs.ensures.ancestry c.in_ok-content.ensures.body no_bodies (subst IsTree empty c.in_ok-merge_change.ensures.tree));
     }

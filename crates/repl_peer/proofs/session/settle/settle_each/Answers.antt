@@ -31,7 +31,6 @@ seq_from-found-requires-clause-there g c =
 
 pub loop-i-preserved : goal.loop-i-preserved
 loop-i-preserved g c =
-    let before : Settling = settling_at c.args.db.now c.args.session.now in
     let mid : Settling = settling_at c.loop-i.db c.loop-i.session in
     let after : Settling = settling_at c.settle_one.new.db c.settle_one.new.session in
     let docs = c.args.docs.now in
@@ -46,9 +45,9 @@ loop-i-preserved g c =
     let rows = λ (w : WindowValue) (is : slice_get c.args.session.now.windows c.args.place ≡ Some w).
     c.in-Some.ensures.rows ∙ ap (λ (v : WindowValue). v.rows) (window w is) in
     record {
-      reached = λ w is.
+      reached = λ w before is h.
           let origin : c.seq_from-found.result.1 ≡ seq_in w.rows d.id = c.seq_from-found.ensures.seq ∙ (λ j. seq_in (rows w is j) (c.id.ensures.part j)) in
-          reached_at (g.F.WriteFilter.refuses c.args.filter.now) w before mid after docs i d (inv.reached w is) at step.goes
+          reached_at (g.F.WriteFilter.refuses c.args.filter.now) w before mid after docs i d (inv.reached w before is h) at step.goes
           (step.step w (λ j. let o : Origin = Feed (ap (λ (s : SessionValue). s.id) c.session.view_is j) (origin j) in o));
       row = λ w is. let within = c.seq_from-found.ensures.within in subst (λ (l : List RowValue). c.seq_from-found.result.0 ≤ length l) (rows w is) within;
       made = done.made;
@@ -59,9 +58,9 @@ loop-i-preserved g c =
     }
 
 pub returns-in-Err-clause-reached : goal.returns-in-Err-clause-reached
-returns-in-Err-clause-reached g c = λ w is.
-    reached_kept (g.F.WriteFilter.refuses c.args.filter.now) w (settling_at c.args.db.now c.args.session.now) c.loop-i.db c.settle_one.new.db c.loop-i.session c.settle_one.new.session c.args.docs.now c.loop-i.i
-    c.in-Err.ensures.db c.in-Err.ensures.session (c.loop-i.invariant.reached w is)
+returns-in-Err-clause-reached g c = λ w before is h.
+    reached_kept (g.F.WriteFilter.refuses c.args.filter.now) w before c.loop-i.db c.settle_one.new.db c.loop-i.session c.settle_one.new.session c.args.docs.now c.loop-i.i
+    c.in-Err.ensures.db c.in-Err.ensures.session (c.loop-i.invariant.reached w before is h)
 
 pub returns-in-Err-clause-why : goal.returns-in-Err-clause-why
 returns-in-Err-clause-why g c =
@@ -74,5 +73,5 @@ pub returns-in-Err-clause-indexed : goal.returns-in-Err-clause-indexed
 returns-in-Err-clause-indexed g c = λ base h. c.in-Err.ensures.indexed base (c.loop-i.invariant.indexed base h)
 
 pub returns-clause-ok : goal.returns-clause-ok
-returns-clause-ok g c = λ w is.
-    reached_end (g.F.WriteFilter.refuses c.args.filter.now) w (settling_at c.args.db.now c.args.session.now) (settling_at c.loop-i.db c.loop-i.session) c.args.docs.now c.loop-i.i (c.loop-i.invariant.reached w is) (omega (arith, c.loop-i-test.false))
+returns-clause-ok g c = λ w before is h.
+    reached_end (g.F.WriteFilter.refuses c.args.filter.now) w before (settling_at c.loop-i.db c.loop-i.session) c.args.docs.now c.loop-i.i (c.loop-i.invariant.reached w before is h) (omega (arith, c.loop-i-test.false))

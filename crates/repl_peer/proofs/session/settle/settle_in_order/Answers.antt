@@ -1,13 +1,20 @@
-use Rattle.proof_words.proofs.{◌≡◌, Some, slice_get, sym, ◌∙◌, subst}
-use Rattle.repl_peer.specs.{SessionValue, session_value, Halts, IndexesMore, Settling, settling_at, Cause}
+use Rattle.proof_words.proofs.{◌≡◌, List, Some, slice_get, sym, ap, ◌∙◌, subst}
+use Rattle.couch_base.specs.{WindowValue}
+use Rattle.repl_peer.specs.{RefusedValue, SessionValue, session_value, Halts, IndexesMore, Settling, settling_at, Cause}
 use Rattle.repl_peer.proofs.{halts_first, halts_none, halts_stop, IfErr_both}
 use Rattle.repl_peer.proofs.session.settle.settle_in_order.Goals as goal
 use Rattle.repl_peer.proofs.session.settle.settle_in_order.Goals.{in-Some, in-None}
 
+pub settle_ahead-from-requires-clause-rows : goal.settle_ahead-from-requires-clause-rows
+settle_ahead-from-requires-clause-rows g c =
+    let stored = c.requires.rows in
+    (stored.0, subst (λ (s : SessionValue). slice_get s.windows c.args.place ≡ Some stored.0) (sym c.session.view_is) stored.1, stored.2)
+
 pub settle_each-requires-clause-rows : goal.settle_each-requires-clause-rows
 settle_each-requires-clause-rows g c =
     let stored = c.requires.rows in
-    (stored.0, subst (λ (s : SessionValue). slice_get s.windows c.args.place ≡ Some stored.0) (sym c.session.view_is) stored.1, stored.2)
+    let windows = c.settle_ahead-from.ensures.windows ∙ ap (λ (s : SessionValue). s.windows) c.session.view_is in
+    (stored.0, ap (λ (ws : List WindowValue). slice_get ws c.args.place) windows ∙ stored.1, stored.2)
 
 pub returns-in-Err-clause-why : goal.returns-in-Err-clause-why
 returns-in-Err-clause-why g c = λ w is.
@@ -29,11 +36,15 @@ returns-clause-why g c =
     (λ i. record (session_value c.session.inside) { front = c.reserve.ensures.kept i }) ∙ c.session.view_is in
     let same : settling_at c.args.db.now (record (session_value c.session.inside) { front = c.reserve.new.self.front }) ≡ settling_at c.args.db.now c.args.session.now =
     λ i. record { db = c.args.db.now; session = kept i } in
+    let started = λ (w : WindowValue) (is : slice_get c.args.session.now.windows c.args.place ≡ Some w).
+    c.settle_ahead-from.ensures.reached w (subst (λ (s : SessionValue). slice_get s.windows c.args.place ≡ Some w) (sym c.session.view_is) is) in
+    let windows = c.settle_ahead-from.ensures.windows ∙ ap (λ (s : SessionValue). s.windows) c.session.view_is in
     IfErr_both c.settle_each.result
     (λ stop reached why w is.
-    halts_stop refuses w _ _ _ docs stop.settled stop.cause same (reached w (subst (λ (s : SessionValue). slice_get s.windows c.args.place ≡ Some w) (sym c.session.view_is) is)) why)
+    halts_stop refuses w _ _ _ docs stop.settled stop.cause same (reached w _ (ap (λ (ws : List WindowValue). slice_get ws c.args.place) windows ∙ is) (started w is)) why)
     c.settle_each.ensures.reached c.settle_each.ensures.why
 
 pub returns-clause-indexed : goal.returns-clause-indexed
 returns-clause-indexed g c = λ base h.
-    c.settle_each.ensures.indexed base (subst (λ (s : SessionValue). IndexesMore base s.ledger c.args.ledgered.now) (sym c.session.view_is) h)
+    let kept = sym (c.settle_ahead-from.ensures.ledger ∙ ap (λ (s : SessionValue). s.ledger) c.session.view_is) in
+    c.settle_each.ensures.indexed base (subst (λ (l : List RefusedValue). IndexesMore base l c.args.ledgered.now) kept h)
