@@ -5,7 +5,7 @@
 ghost use Rattle.std.specs.Prelude.{◌≡◌, vec_len};
 ghost use Rattle.std.specs.List.{All};
 ghost use Rattle.progress_board.specs.Seats.{CameWith};
-ghost use Rattle.repl_pool.specs.Boards.{WorksAt};
+ghost use Rattle.pool_workers.specs.Boards.{WorksAt};
 
 use anyhow::{Result, bail};
 use doc_json::{DocId, read_body};

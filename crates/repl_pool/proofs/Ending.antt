@@ -8,7 +8,8 @@ use Rattle.repl_peer.specs.{Report, PeerValue, SessionValue, is_of, session_in, 
 use Rattle.repl_target.specs.{Plan, begins_answer, after_begins, beginning_between, Record, Conclude, IsGrown}
 use Rattle.repl_peer.proofs.{session_found}
 use Rattle.repl_target.proofs.{found-is, concludes, grown_law, grown-later, grown-one, copied}
-use Rattle.repl_pool.specs.{GrownPeer, EndsWell}
+use Rattle.pool_workers.specs.{GrownPeer}
+use Rattle.repl_pool.specs.{EndsWell}
 
 module _ {F : Type 0} (refuses : F → Document → Bool) (db : DatabaseValue) (chosen : Choice) (run : SessionId) where
   pub grown_record : (p q : F × PeerValue) (at : ℕ) → q.0 ≡ p.0 → q.1 ≡ after_record p.1 run at → GrownPeer refuses db chosen run p q

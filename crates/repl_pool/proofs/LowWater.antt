@@ -7,8 +7,9 @@ use Rattle.repl_peer.specs.declared.fault.TargetFault.TheVariants as refusals
 use Rattle.repl_target.specs.{Plan, closed, closed_as}
 use Rattle.repl_peer.proofs.{session_found}
 use Rattle.repl_target.proofs.{swap_some}
-use Rattle.repl_pool.specs.{IsHaltOn, unfinished_at, IsRecorded, stopped, fewer, refused, TellsLowWater, Place, PoolFault}
-use Rattle.repl_pool.specs.declared.fault.PoolFault.TheVariants as faults
+use Rattle.pool_workers.specs.{IsHaltOn, Place, PoolFault}
+use Rattle.repl_pool.specs.{unfinished_at, IsRecorded, stopped, fewer, refused, TellsLowWater}
+use Rattle.pool_workers.specs.declared.fault.PoolFault.TheVariants as faults
 
 -- a worker's halt tells no low water
 halt_tells : (B : Type 0) (P : Place → Type 0) (p : PeerValue) (id : SessionId) (fault : PoolFault) → IsHaltOn B P fault → TellsLowWater p id fault

@@ -1,5 +1,5 @@
 -- What a run says, from what came out of the lock.
-use Rattle.proof_words.proofs.{◌≡◌, ◌⊎◌, ℕ, ◌<◌, ◌≤◌, ◌==◌, Bool, true, false, cond, nat_lt, List, [], Option, Some, None, Result, Ok, Err, is_ok, IfOk, IfErr, IfSome, sum, refl, sym, ap, ◌∙◌, subst, inl, inr, arith, cond_both, false≢true, nat_tests}
+use Rattle.proof_words.proofs.{◌≡◌, ◌⊎◌, ℕ, ◌<◌, ◌≤◌, ◌==◌, Bool, true, false, cond, nat_lt, List, [], Option, Some, None, Result, Ok, Err, is_ok, IfOk, IfErr, IfSome, sum, refl, sym, ap, ◌∙◌, subst, inl, inr, arith, cond_both, false≢true, nat_tests, same_Some}
 use Rattle.rev_tree.specs.{SessionId}
 use Rattle.doc_json.specs.Document.{Document}
 use Rattle.couch_base.specs.{DatabaseValue, LawfulDatabase}
@@ -8,16 +8,26 @@ use Rattle.repl_peer.specs.declared.fault.TargetFault.TheVariants as refusals
 use Rattle.repl_target.specs.{Plan, IsGrown, IsLeft, CoversFeed, IsTiedPair, is_batch, begins_answer, after_begins}
 use Rattle.repl_target.proofs.{others_same, others_tied, tied_none, grown-same, left_law, both_tied, puts_over, reported_whole, tied_clean}
 use Rattle.repl_peer.proofs.{IsLaterPeer-same}
-use Rattle.repl_pool.specs.{GrownPeer, TargetKeeps, IsConcluded, unfinished_at, IsRecorded, stopped, fewer, refused, UnlessMemory, PutsEntry, ClosesRun, concluded, recorded, EndsRun, EndsWell, EarlyOrLate, TellsLowWater, RunsOn, early_answer, IsLateOn, IsHaltOn, HaveShown, Place, PoolFault, HasNoWindows}
+use Rattle.pool_workers.specs.{GrownPeer, TargetKeeps, IsLateOn, IsHaltOn, HaveShown, Place, PoolFault, HasNoWindows, KeepsPages}
+use Rattle.pool_workers.specs.declared.fault.PoolFault.TheVariants as faults
+use Rattle.pool_workers.proofs.{starts_pages}
+use Rattle.repl_pool.specs.{IsConcluded, unfinished_at, IsRecorded, stopped, fewer, refused, UnlessMemory, PutsEntry, ClosesRun, concluded, recorded, EndsRun, EndsWell, EarlyOrLate, TellsLowWater, RunsOn, early_answer}
 use Rattle.progress_board.specs.{Board, BoardSeat}
-use Rattle.repl_pool.specs.declared.fault.PoolFault.TheVariants as faults
-use Rattle.repl_pool.proofs.Paging.{starts_pages, is_paged, closes_pages}
-use Rattle.repl_pool.proofs.Growing.{IsKnown, from_given}
+use Rattle.repl_pool.proofs.RunPages.{is_paged, closes_pages}
 use Rattle.repl_pool.proofs.Ending.{ends_well}
-use Rattle.repl_pool.proofs.Halting.{halt_late}
 use Rattle.repl_pool.proofs.LowWater.{recorded_tells}
 
 -- ---- what was given
+
+module _ {F : Type 0} (refuses : F → Document → Bool) (source : DatabaseValue) (plan : Plan) where
+  -- where it is known which was given
+  abbrev pub IsKnown : F × PeerValue → SessionId → ℕ → Option ℕ → F × PeerValue → Type 0
+  IsKnown given run total more now =
+      GrownPeer refuses source plan.chosen run given now × (read_in now.1.sessions run ≡ total) × KeepsPages source plan run more now.1.sessions
+
+  from_given : (given : F × PeerValue) (run : SessionId) (session : SessionId) (total : ℕ) (more : Option ℕ) (now : F × PeerValue) → TargetKeeps refuses source plan (Some (given, run)) session total more now → IsKnown given run total more now
+  from_given given run session total more now h =
+      subst (λ (x : (F × PeerValue) × SessionId). IsKnown x.0 x.1 total more now) (sym (same_Some (given, run) (h.0, session) h.1)) (h.2, h.3, h.4)
 
 module _ {F : Type 0} (refuses : F → Document → Bool) (db source : DatabaseValue) (origin : source ≡ db) (choice plan : Plan) (planning : plan ≡ choice) (given : F × PeerValue) (run : SessionId) (o : Option ((F × PeerValue) × SessionId)) (is : o ≡ Some (given, run)) where
   pub given_grown : (session : SessionId) (total : ℕ) (more : Option ℕ) (t : F × PeerValue) → TargetKeeps refuses source plan o session total more t → IsKnown refuses db choice given run total more t
@@ -26,6 +36,11 @@ module _ {F : Type 0} (refuses : F → Document → Bool) (db source : DatabaseV
       (subst (λ c. TargetKeeps refuses db c (Some (given, run)) session total more t) planning (subst (λ s. TargetKeeps refuses s plan (Some (given, run)) session total more t) origin (subst (λ x. TargetKeeps refuses source plan x session total more t) is h)))
 
 -- ---- how a run ends
+
+-- a fault that a halt is told as is none of an early refusal
+halt_late : (B : Type 0) (P : Place → Type 0) (fault : PoolFault) → IsHaltOn B P fault → IsLateOn B P fault
+halt_late B P (faults.Refused why) h = tt
+halt_late B P fault h = h
 
 unfinished_late : (B : Type 0) (P : Place → Type 0) (r : Result ℕ TargetFault) → IsLateOn B P (unfinished_at r)
 unfinished_late B P (Ok n) = tt

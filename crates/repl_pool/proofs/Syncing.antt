@@ -5,7 +5,8 @@ use Rattle.repl_peer.specs.{PeerValue, Report}
 use Rattle.repl_target.specs.{Plan, IsPut, Leaves}
 use Rattle.repl_target.proofs.{puts_over}
 use Rattle.repl_pool.specs.Runs.{Runs}
-use Rattle.repl_pool.specs.{LeavesOrPuts, Place, PoolFault}
+use Rattle.pool_workers.specs.{Place, PoolFault}
+use Rattle.repl_pool.specs.{LeavesOrPuts}
 
 run_puts : {F : Type 0} (plan : Plan) (source target source' target' : F × PeerValue) (outcome : Result Report PoolFault) → LeavesOrPuts plan source target source' target' outcome → IsPut source.1 target'.1 plan.chosen source'.1
 run_puts {F = F} plan source target source' target' outcome (inl same) = inl (ap (λ (p : F × PeerValue). p.1) same.0)

@@ -10,7 +10,7 @@ use Rattle.repl_peer.specs.logs.Checkpoint.{rep_between}
 use Rattle.repl_target.specs.Audit.{audit_answer, CoversFeed}
 use Rattle.repl_peer.specs.peer.Backups.{BackupValue}
 use Rattle.repl_target.specs.ties.Ties.{IsTiedPair, IsTiedWith, KeepsOthersTied}
-use Rattle.repl_target.specs.replication.Calls.{IsGrown}
+use Rattle.repl_target.specs.replication.Calls.{IsGrown, IsLeft}
 use Rattle.repl_peer.specs.peer.Later.{IsLaterPeer}
 use Rattle.repl_peer.specs.peer.Peer.{PeerValue, SessionValue, session_in, entry_of}
 use Rattle.repl_peer.specs.session.ReadCounts.{read_in}
@@ -20,12 +20,13 @@ use Rattle.repl_peer.specs.declared.fault.Report.{Report}
 use Rattle.repl_peer.specs.declared.fault.TargetFault.{TargetFault}
 use Rattle.repl_peer.specs.declared.fault.TargetFault.TheVariants as refusals
 use Rattle.repl_target.specs.declared.replication.Plan.{Plan}
-use Rattle.repl_pool.specs.Faults.{early_answer, IsLateOn, IsHaltOn}
-use Rattle.repl_pool.specs.Grown.{LeftPeer}
-use Rattle.repl_pool.specs.Paging.{IsPaged, KeepsPages}
-use Rattle.repl_pool.specs.declared.gate.Place.{Place}
-use Rattle.repl_pool.specs.declared.fault.PoolFault.{PoolFault}
-use Rattle.repl_pool.specs.declared.fault.PoolFault.TheVariants as faults
+use Rattle.pool_workers.specs.Faults.{IsLateOn, IsHaltOn}
+use Rattle.pool_workers.specs.Paging.{KeepsPages}
+use Rattle.pool_workers.specs.declared.gate.Place.{Place}
+use Rattle.pool_workers.specs.declared.fault.PoolFault.{PoolFault}
+use Rattle.pool_workers.specs.declared.fault.PoolFault.TheVariants as faults
+use Rattle.repl_pool.specs.Early.{early_answer}
+use Rattle.repl_pool.specs.Pages.{IsPaged}
 
 -- ---- how a run ends that began
 
@@ -147,6 +148,10 @@ pub record EndsWell (source target target' : PeerValue) (plan : Plan) (n : ℕ) 
   pub covered : CoversFrom source target' plan.chosen (start_between source target plan.chosen)
   pub copied : IsEmpty target → report.counts.failures ≡ 0 → SameDocuments plan.chosen source.db target'.db
   pub sum : n ≡ report.counts.read
+
+-- the filter is the given one; the peer is as it was given, or the plan's session has begun, and it has grown since
+abbrev pub LeftPeer : {F : Type 0} → (F → Document → Bool) → PeerValue → F × PeerValue → Plan → F × PeerValue → Type 0
+LeftPeer refuses source given plan now = (now.0 ≡ given.0) × IsLeft (refuses given.0) source given.1 plan now.1
 
 -- What running the pool answers, and the two peers that it gives back; a board may be found full where there is one.
 pub record RunsOn {F : Type 0} (refuses : F → Document → Bool) (may_fill : Type 0) (may_stop : Place → Type 0)

@@ -6,8 +6,8 @@ use Rattle.repl_peer.specs.declared.fault.Report.{Report}
 use Rattle.repl_target.specs.declared.replication.Plan.{Plan}
 use Rattle.repl_target.specs.declared.replication.sync.Synced.{Synced}
 use Rattle.repl_pool.specs.Runs.{Runs}
-use Rattle.repl_pool.specs.declared.gate.Place.{Place}
-use Rattle.repl_pool.specs.declared.fault.PoolFault.{PoolFault}
+use Rattle.pool_workers.specs.declared.gate.Place.{Place}
+use Rattle.pool_workers.specs.declared.fault.PoolFault.{PoolFault}
 use Rattle.repl_pool.specs.declared.both_ways.SyncFault.{SyncFault}
 use Rattle.repl_pool.specs.declared.both_ways.SyncFault.TheVariants as faults
 

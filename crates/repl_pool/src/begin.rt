@@ -1,8 +1,8 @@
 //! What a run is refused for before anything else.
 ghost use Rattle.std.specs.Prelude.{◌≡◌};
-ghost use Rattle.repl_pool.specs.Faults.{early_answer};
+ghost use Rattle.repl_pool.specs.Early.{early_answer};
 
-use crate::fault::PoolFault;
+use pool_workers::PoolFault;
 use progress_board::MOST_WORKERS;
 use repl_target::{Peer, Plan, TargetFault, WriteFilter, check_plan};
 

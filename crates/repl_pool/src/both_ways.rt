@@ -6,9 +6,8 @@ ghost use Rattle.repl_target.specs.ties.Ties.{IsTiedWith, StaysTied};
 ghost use Rattle.repl_target.specs.replication.Sync.{MeetBoth};
 ghost use Rattle.repl_pool.specs.Sync.{SyncRuns};
 
-use crate::fault::PoolFault;
-use crate::gate::Gate;
 use crate::running::{Ran, run};
+use pool_workers::{Gate, PoolFault};
 use repl_target::{Peer, Plan, Synced, WriteFilter};
 use std::alloc::Global;
 use std::sync::Wait;

@@ -3,13 +3,12 @@ ghost use Rattle.std.specs.Prelude.{◌≡◌, Some, Ok, Err, IfOk, IfErr, OnOk}
 ghost use Rattle.couch_base.specs.Database.{DatabaseValue};
 ghost use Rattle.repl_peer.specs.peer.Peer.{SessionValue, session_in};
 ghost use Rattle.doc_json.specs.Chosen.{Choice};
-ghost use Rattle.repl_pool.specs.Grown.{GrownPeer};
+ghost use Rattle.pool_workers.specs.Grown.{GrownPeer};
 ghost use Rattle.repl_peer.specs.session.Sessions.{record_answer, after_record};
 ghost use Rattle.repl_pool.specs.Runs.{IsConcluded, unfinished_at, IsRecorded, UnlessMemory, PutsEntry, ClosesRun};
 
-use crate::fault::PoolFault;
 use crate::running::Ran;
-use crate::totals::Summed;
+use pool_workers::{PoolFault, Summed};
 use repl_target::{Peer, Plan, Report, TargetFault, WriteFilter, record_at_source};
 
 /// Records at the target, and tells that a run didn't reach its goal.

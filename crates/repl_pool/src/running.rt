@@ -6,23 +6,18 @@ ghost use Rattle.repl_peer.specs.peer.Peer.{SessionValue, session_in};
 ghost use Rattle.repl_peer.specs.session.ReadCounts.{read_in};
 ghost use Rattle.repl_target.specs.replication.Replication.{is_batch};
 ghost use Rattle.doc_json.specs.Chosen.{Choice};
-ghost use Rattle.repl_pool.specs.Grown.{GrownPeer};
-ghost use Rattle.repl_pool.specs.Paging.{HasNoWindows};
-ghost use Rattle.repl_pool.specs.Boards.{WorksAt, AreRisen, HaveRisenBy, MayFill, AreSeats, AreBack, HaveShown};
+ghost use Rattle.pool_workers.specs.Grown.{GrownPeer};
+ghost use Rattle.pool_workers.specs.Paging.{HasNoWindows};
+ghost use Rattle.pool_workers.specs.Boards.{WorksAt, AreRisen, HaveRisenBy, MayFill, AreSeats, AreBack, HaveShown};
 ghost use Rattle.repl_pool.specs.Crews.{crew_of};
 ghost use Rattle.repl_pool.specs.Runs.{ClosesRun, EndsRun, RunsOn, Runs};
 
 use crate::begin::check_run;
-use crate::brands::{SourceBrand, TargetBrand};
-use crate::channels::Channels;
-use crate::context::Context;
 use crate::end::end;
-use crate::fault::PoolFault;
-use crate::gate::Gate;
-use crate::given_target::GivenTarget;
-use crate::run_target::RunTarget;
-use crate::threads::Owned;
-use crate::totals::{Summed, collect};
+use pool_workers::{
+    Channels, Context, Gate, GivenTarget, Owned, PoolFault, RunTarget, SourceBrand, Summed,
+    TargetBrand, collect,
+};
 use progress_board::{Board, BoardSeat};
 use repl_target::{Peer, Plan, Report, WriteFilter, begin_plan};
 use std::alloc::Global;

@@ -2,7 +2,7 @@
 ghost use Rattle.std.specs.Prelude.{◌≡◌, true, IfOk, IfErr, vec_len};
 ghost use Rattle.std.specs.List.{All};
 ghost use Rattle.progress_board.specs.Seats.{CameWith, are_seats, new_fault};
-ghost use Rattle.repl_pool.specs.Boards.{HasNothing, WorksAt};
+ghost use Rattle.pool_workers.specs.Boards.{HasNothing, WorksAt};
 
 use progress_board::{Board, BoardFault, BoardSeat};
 use std::alloc::Global;

@@ -7,8 +7,9 @@ use Rattle.repl_peer.specs.{LawfulSessions, PeerValue, rules_refuse, Report, Tar
 use Rattle.repl_peer.proofs.{IsLaterPeer-same}
 use Rattle.repl_target.specs.{IsLeft, is_batch, not_planned, plan_answer, Plan}
 use Rattle.repl_peer.specs.declared.fault.TargetFault.TheVariants as refusals
-use Rattle.repl_pool.specs.{early_answer, EarlyOrLate, LeavesOrPuts, RunsOn, PoolFault, Place}
-use Rattle.repl_pool.specs.declared.fault.PoolFault.TheVariants as faults
+use Rattle.pool_workers.specs.{PoolFault, Place}
+use Rattle.repl_pool.specs.{early_answer, EarlyOrLate, LeavesOrPuts, RunsOn}
+use Rattle.pool_workers.specs.declared.fault.PoolFault.TheVariants as faults
 use Rattle.repl_pool.proofs.{runs_early}
 use Rattle.script_databases.specs.{State, peer_at, with_peer, text_cmp, Nowhere, ReplicatesAlone, ReplicatesBetween, ReplicatesByPool, ReplicatesWatched, deny_refuses, with_both, AllDeny, Beside, Entries, IsIndex, denied_of, deny_of, peers_of, state_of}
 use Rattle.script_databases.proofs.IndexLemmas.{deny_kept, index_written}

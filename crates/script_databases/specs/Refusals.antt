@@ -8,8 +8,8 @@ use Rattle.couch_base.specs.declared.fault.BaseFault.{BaseFault}
 use Rattle.couch_base.specs.declared.fault.BaseFault.TheVariants as base
 use Rattle.repl_log.specs.declared.fault.LogFault.{LogFault}
 use Rattle.repl_log.specs.declared.fault.LogFault.TheVariants as log
-use Rattle.repl_pool.specs.declared.fault.PoolFault.{PoolFault}
-use Rattle.repl_pool.specs.declared.fault.PoolFault.TheVariants as pool
+use Rattle.pool_workers.specs.declared.fault.PoolFault.{PoolFault}
+use Rattle.pool_workers.specs.declared.fault.PoolFault.TheVariants as pool
 use Rattle.repl_peer.specs.declared.fault.TargetFault.{TargetFault}
 use Rattle.repl_peer.specs.declared.fault.TargetFault.TheVariants as target
 use Rattle.script_databases.specs.declared.refusal.Refusal.{Refusal}

@@ -4,11 +4,11 @@ use Rattle.std.specs.List.{starts_with}
 use Rattle.std.specs.Option.{option_map_or}
 use Rattle.doc_json.specs.Document.{Document}
 use Rattle.doc_json.specs.Chosen.{Choice}
-use Rattle.repl_pool.specs.Faults.{early_answer}
+use Rattle.repl_pool.specs.Early.{early_answer}
 use Rattle.repl_pool.specs.Runs.{Runs, RunsOn}
-use Rattle.repl_pool.specs.declared.fault.PoolFault.{PoolFault}
-use Rattle.repl_pool.specs.declared.fault.PoolFault.TheVariants as faults
-use Rattle.repl_pool.specs.declared.gate.Place.{Place}
+use Rattle.pool_workers.specs.declared.fault.PoolFault.{PoolFault}
+use Rattle.pool_workers.specs.declared.fault.PoolFault.TheVariants as faults
+use Rattle.pool_workers.specs.declared.gate.Place.{Place}
 use Rattle.repl_peer.specs.peer.Backups.{BackupValue}
 use Rattle.repl_peer.specs.peer.Later.{IsLaterPeer}
 use Rattle.repl_peer.specs.peer.Peer.{PeerValue}

@@ -2,8 +2,8 @@
 ghost use Rattle.std.specs.Prelude.{◌≡◌, ◌≤◌, true, IfErr, IfOk, vec_len};
 ghost use Rattle.std.specs.List.{All};
 ghost use Rattle.progress_board.specs.Seats.{CameWith, are_seats};
-ghost use Rattle.repl_pool.specs.Boards.{WorksAt};
-ghost use Rattle.repl_pool.specs.declared.fault.PoolFault.TheVariants.{Memory};
+ghost use Rattle.pool_workers.specs.Boards.{WorksAt};
+ghost use Rattle.pool_workers.specs.declared.fault.PoolFault.TheVariants.{Memory};
 ghost use Rattle.script_databases.specs.Replications.{unwatched};
 
 use progress_board::{Board, BoardFault, BoardSeat};

@@ -6,7 +6,7 @@ use Rattle.json_values.specs.LineView.{line_items}
 use Rattle.doc_json.specs.Chosen.{Choice}
 use Rattle.rev_tree.specs.declared.origin.SessionId.{SessionId}
 use Rattle.repl_log.specs.Text.{id_digits}
-use Rattle.repl_pool.specs.declared.fault.PoolFault.{PoolFault}
+use Rattle.pool_workers.specs.declared.fault.PoolFault.{PoolFault}
 use Rattle.repl_peer.specs.peer.Peer.{PeerValue}
 use Rattle.repl_peer.specs.declared.fault.Report.{Report}
 use Rattle.repl_peer.specs.declared.fault.TargetFault.{TargetFault}

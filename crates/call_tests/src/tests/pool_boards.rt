@@ -2,7 +2,7 @@
 ghost use Rattle.std.specs.Prelude.{◌≡◌, ◌≤◌, IfSome, IfOk, vec_len};
 ghost use Rattle.std.specs.List.{All};
 ghost use Rattle.progress_board.specs.Seats.{AreNew, CameWith};
-ghost use Rattle.repl_pool.specs.Boards.{WorksAt};
+ghost use Rattle.pool_workers.specs.Boards.{WorksAt};
 
 use crate::tests::pools::{Bench, Call, How, Rows};
 use crate::tests::texts::expect_answer;

@@ -1,7 +1,7 @@
 //! Peers that are replicated by the pool, and the calls on these by name.
 ghost use Rattle.std.specs.Prelude.{◌≡◌, vec_len};
 ghost use Rattle.std.specs.List.{All};
-ghost use Rattle.repl_pool.specs.Boards.{WorksAt};
+ghost use Rattle.pool_workers.specs.Boards.{WorksAt};
 
 use crate::tests::carried::{leaves, refused};
 use crate::tests::databases::tree;

@@ -4,7 +4,8 @@ use Rattle.repl_peer.specs.{PeerValue, Report}
 use Rattle.repl_target.specs.{Plan, IsTiedPair, CoversFeed}
 use Rattle.script_databases.specs.{State, peer_at, with_both, Nowhere, deny_refuses, ReplicatesByPool, ReplicatesWatched, unwatched, CoversUpTo, Watched}
 use Rattle.script_databases.specs.AllTied.{AllTied}
-use Rattle.repl_pool.specs.{early_answer, EarlyOrLate, EndsWell, RunsOn, PoolFault}
+use Rattle.pool_workers.specs.{PoolFault}
+use Rattle.repl_pool.specs.{early_answer, EarlyOrLate, EndsWell, RunsOn}
 use Rattle.script_databases.proofs.ReplicationLemmas.{run_apart}
 use Rattle.script_databases.proofs.ties.TwoChanged.{Moves}
 use Rattle.script_databases.proofs.ties.Replications.{Unchanged, covered_at, moved_tied, put_of}

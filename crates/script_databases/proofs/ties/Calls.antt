@@ -6,7 +6,7 @@ use Rattle.repl_peer.specs.{TargetFault, PeerValue, Report, BackupValue, after_r
 use Rattle.repl_target.specs.{Plan}
 use Rattle.script_databases.specs.{Program, State, drawn_one, no_databases, peer_at, with_peer, backed_answer, backed_at, backed_by, backed_of, backup_at, changed_at, edited_at, loaded_at, put_back_by, with_backup, with_changed, ReplicatesAlone, ReplicatesBetween, ReplicatesByPool, ReplicatesWatched, unwatched, CoversUpTo, target_refusal, told_as, Refusal, Watched}
 use Rattle.script_databases.specs.AllTied.{AllTied}
-use Rattle.repl_pool.specs.{PoolFault}
+use Rattle.pool_workers.specs.{PoolFault}
 use Rattle.rev_core.specs.{RevId}
 use Rattle.repl_peer.specs.declared.fault.TargetFault.TheVariants as faults
 use Rattle.script_databases.proofs.ties.OneChanged.{edit_tied, load_tied, restore_tied}

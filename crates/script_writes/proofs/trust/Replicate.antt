@@ -3,7 +3,7 @@ use Rattle.proof_words.proofs.{◌≡◌, inl, inr, ℕ, Bool, true, false, List
 use Rattle.rev_tree.specs.{SessionId}
 use Rattle.doc_json.specs.{Choice}
 use Rattle.repl_peer.specs.{Report, TargetFault, PeerValue}
-use Rattle.repl_pool.specs.{PoolFault}
+use Rattle.pool_workers.specs.{PoolFault}
 use Rattle.repl_target.specs.{Plan}
 use Rattle.script_engine.specs.{Told}
 use Rattle.script_databases.specs.AllTied.{AllTied}

@@ -1,8 +1,10 @@
 use Rattle.proof_words.proofs.{rules, ◌≡◌, Ok, sym, ap, ◌∙◌, option_copied, arith}
 use Rattle.repl_peer.specs.{PeerValue, read_in}
 use Rattle.repl_target.proofs.{begun_reads}
-use Rattle.repl_pool.specs.{early_answer, MayFill}
-use Rattle.repl_pool.proofs.{begun_held, begun_fresh, seats_seated, seats_fewer, back_same, crew_some, crew_most, Passes, passes, runs_early, runs_refused, runs_begun, shown_well}
+use Rattle.pool_workers.specs.{MayFill}
+use Rattle.pool_workers.proofs.{seats_seated, seats_fewer, back_same}
+use Rattle.repl_pool.specs.{early_answer}
+use Rattle.repl_pool.proofs.{begun_held, begun_fresh, crew_some, crew_most, Passes, passes, runs_early, runs_refused, runs_begun, shown_well}
 use Rattle.repl_pool.proofs.running.run_with.Goals as goal
 
 pub run_begun-requires-clause-workers : goal.run_begun-requires-clause-workers

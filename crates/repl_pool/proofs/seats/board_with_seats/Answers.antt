@@ -1,6 +1,6 @@
 use Rattle.proof_words.proofs.{◌≡◌, ◌++◌, ◌∷◌, [], All, vec_items, sym, subst, arith, All-push}
 use Rattle.progress_board.specs.{CameWith}
-use Rattle.repl_pool.specs.{HasNothing}
+use Rattle.pool_workers.specs.{HasNothing}
 use Rattle.repl_pool.proofs.{new_left, new_taken}
 use Rattle.repl_pool.proofs.seats.board_with_seats.Goals as goal
 

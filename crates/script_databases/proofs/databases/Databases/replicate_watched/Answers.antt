@@ -1,6 +1,7 @@
 use Rattle.proof_words.proofs.{Result, Err, inl, inr, refl, sym, ap, subst, ◌∙◌, err_from_is_err_and, contains_key}
 use Rattle.repl_peer.specs.{LawfulSessions, PeerValue, Report}
-use Rattle.repl_pool.specs.{RunsOn, PoolFault}
+use Rattle.pool_workers.specs.{PoolFault}
+use Rattle.repl_pool.specs.{RunsOn}
 use Rattle.script_databases.specs.{State, Nowhere, ReplicatesBetween, ReplicatesWatched, deny_refuses, beside_of, deny_of, peers_of, state_of}
 use Rattle.script_databases.proofs.{deny_left, has_source, has_target, index_left, refuses_is, run_denied, run_names, state_left, watched_refused, watched_between}
 use Rattle.script_databases.proofs.databases.Databases.replicate_watched.Goals as goal

@@ -1,0 +1,7 @@
+use Rattle.proof_words.proofs.{◌≡◌}
+use Rattle.crossbeam_channel.specs.Claims.{view, IsSeatAt}
+use Rattle.crossbeam_channel.specs.Ends.{sends_on}
+use Rattle.pool_workers.proofs.ends.end_windows.Given as goal
+
+abbrev pub invariant-loop-i : goal.invariant-loop-i
+invariant-loop-i g l = IsSeatAt (sends_on l.channels.to_fetchers) l.windows × (view l.windows ≡ view l.initial.windows)

@@ -1,0 +1,32 @@
+pub mod Sums
+pub mod Parcels
+pub mod Windows
+pub mod Gates
+pub mod Faults
+pub mod Boards
+pub mod Paging
+pub mod Grown
+pub mod Workers
+pub mod Gathered
+pub mod Scopes
+pub use Sums.{once_below, times, total, weigh}
+pub use Parcels.{Accounts, Balanced, IdleIsEmpty, has_got, has_sent, parcel_view, parcels}
+pub use Windows.{Covers, KeepsRole, Numbered, has_read, has_taken, numbers, window_view}
+pub use Faults.{Allows, AllowsOn, IsHaltOn, IsLateOn, IsOneFault, IsStepFault, fault_of}
+pub use Boards.{AreBack, AreRisen, AreSeated, AreSeats, HasNothing, HaveRisenBy, HaveShown, IsRisen, IsSeated, MayFill, WorksAt, held}
+pub use Paging.{AllowsMore, HasNoWindows, HasPages, IsNext, IsOneLess, KeepsPages}
+pub use Grown.{GrownPeer, IsAnswerOf, TargetKeeps}
+pub use Workers.{FetcherKnows, WriterKnows, WriterShows, amounts, names}
+pub use Gathered.{FetchedKnows, IsOneOf, WrittenKnows}
+pub use Scopes.{StandBy}
+pub use declared.channels.Channels.{Channels}
+pub use declared.fault.Halt.{Halt}
+pub use declared.fault.PoolFault.{PoolFault}
+pub use declared.gate.Place.{Place}
+pub use declared.gather.FetchedAll.{FetchedAll}
+pub use declared.gather.WrittenAll.{WrittenAll}
+pub use declared.parcels.ParcelMessage.{ParcelMessage}
+pub use declared.parcels.ParcelView.{ParcelView}
+pub use declared.turns.Pair.{Pair}
+pub use declared.windows.WindowMessage.{WindowMessage}
+pub use declared.windows.WindowView.{WindowView}

@@ -1,0 +1,49 @@
+-- What the threads of a run start with, and what is known once all have ended: docs/PROFILE.md, "The pool".
+use Rattle.std.specs.Prelude.{◌≡◌, ◌≤◌, ℕ, List, [], Option, IfSome, vec_capacity}
+use Rattle.crossbeam_channel.specs.Claims.{view, IsSeatAt}
+use Rattle.crossbeam_channel.specs.Ends.{sends_on}
+use Rattle.progress_board.specs.declared.board.Board.{Board}
+use Rattle.progress_board.specs.declared.seat.BoardSeat.{BoardSeat}
+use Rattle.pool_workers.specs.declared.channels.Channels.{Channels}
+use Rattle.pool_workers.specs.declared.gate.Place.{Place}
+use Rattle.pool_workers.specs.declared.threads.Ended.{Ended}
+use Rattle.pool_workers.specs.declared.threads.Owned.{Owned}
+use Rattle.pool_workers.specs.declared.turns.Pair.{Pair}
+use Rattle.pool_workers.specs.Boards.{MayFill, AreSeats, AreBack, HaveShown, IsSeated}
+use Rattle.pool_workers.specs.Faults.{AllowsOn, Allows}
+use Rattle.pool_workers.specs.Gathered.{IsWhole, Tells, StopsWhere}
+use Rattle.pool_workers.specs.Parcels.{parcel_view}
+use Rattle.pool_workers.specs.Windows.{window_view}
+use Rattle.pool_workers.specs.Workers.{FetcherKnows, WriterKnows}
+
+-- room for a count of each fetcher, every part of both channels, on which nothing was sent, every part of the ledger,
+-- which is at 0, and a seat of each writer where there is a board
+pub record IsReady {S L : Type 0} (channels : Channels S) (board : Option Board) (workers : ℕ) (o : Owned S L) : Type 0
+  where
+    pub counts : (o.counts.items ≡ []) × (workers ≤ vec_capacity o.counts)
+    pub windows : IsSeatAt (sends_on channels.to_fetchers) o.windows × (view o.windows ≡ window_view 1024 1 0 [])
+    pub parcels : IsSeatAt (sends_on channels.to_writers) o.parcels × (view o.parcels ≡ parcel_view 1024 [] [])
+    pub all : (o.all.parts ≡ workers) × (o.all.amount ≡ 0)
+    pub seats : AreSeats board 0 workers o.seats.items
+
+-- the seats are back; and where all workers were started, every part of both channels and of the ledger is, and it is
+-- known what they did, where they were stopped and what they have shown
+pub record HaveEnded {S L : Type 0} (channels : Channels S) (board : Option Board) (may_stop : Place → Type 0)
+    (workers : ℕ) (given : List BoardSeat) (ended : Option (Ended S L)) (seats : List BoardSeat) : Type 0 where
+  pub window_seat : IfSome ended (λ e. IsSeatAt (sends_on channels.to_fetchers) e.windows)
+  pub parcel_seat : IfSome ended (λ e. IsSeatAt (sends_on channels.to_writers) e.parcels)
+  pub whole : IfSome ended (IsWhole workers)
+  pub tells : IfSome ended Tells
+  pub halted : IfSome ended (StopsWhere (MayFill board) may_stop)
+  pub back : AreBack board given seats
+  pub shown : IfSome ended (λ e. HaveShown board e.all.amount e.written.stopped given seats)
+
+-- a fetcher and a writer have nothing in hand, and each that was stopped was where the gate allows it
+pub record StandBy {S L : Type 0} (channels : Channels S) (board : Option Board) (may_stop : Place → Type 0)
+    (p : Pair S L) : Type 0 where
+  pub window_seat : IsSeatAt (sends_on channels.to_fetchers) p.fetcher.windows
+  pub parcel_seats : IsSeatAt (sends_on channels.to_writers) p.fetcher.parcels
+      × IsSeatAt (sends_on channels.to_writers) p.writer.parcels
+  pub knows : FetcherKnows [] p.fetcher × WriterKnows [] p.writer
+  pub halted : IfSome p.fetcher.stopped (Allows may_stop) × IfSome p.writer.stopped (AllowsOn (MayFill board) may_stop)
+  pub seated : IsSeated board p.writer.seat

@@ -1,0 +1,54 @@
+-- What a worker knows between two messages: docs/PROFILE.md, "The pool".
+use Rattle.std.specs.Prelude.{◌≡◌, ◌+◌, ℕ, List, [], ◌∷◌, ◌++◌, map, length, Option, None, option_to_list}
+use Rattle.crossbeam_channel.specs.Claims.{view}
+use Rattle.progress_board.specs.declared.board.Board.{Board}
+use Rattle.progress_board.specs.declared.seat.BoardSeat.{BoardSeat}
+use Rattle.pool_workers.specs.Boards.{AreBack, HaveShown}
+use Rattle.pool_workers.specs.Sums.{weigh}
+use Rattle.pool_workers.specs.Parcels.{parcel_view}
+use Rattle.pool_workers.specs.Windows.{window_view}
+use Rattle.pool_workers.specs.declared.fetcher.Fetcher.{Fetcher}
+use Rattle.pool_workers.specs.declared.writer.Writer.{Writer}
+
+-- the sum of the amounts
+abbrev pub amounts : List (ℕ × ℕ) → ℕ
+amounts xs = weigh (λ n a. a) xs
+
+-- and the numbers
+abbrev pub names : List (ℕ × ℕ) → List ℕ
+names xs = map (λ (x : ℕ × ℕ). x.0) xs
+
+-- what a fetcher knows: where it wasn't stopped, its count is that of what it sent, which is what it took, but for the
+-- windows in hand
+abbrev pub FetcherKnows : {S : Type 0} → List ℕ → Fetcher S → Type 0
+FetcherKnows in_hand f =
+    (view f.windows ≡ window_view 1 0 0 (view f.windows).taken)
+    × (view f.parcels ≡ parcel_view 1 (view f.parcels).sent [])
+    × (f.sent ≡ length (view f.parcels).sent)
+    × (f.stopped ≡ None → (f.fetched ≡ amounts (view f.parcels).sent)
+    × ((view f.windows).taken ≡ names (view f.parcels).sent ++ in_hand))
+
+-- what it knows between counting a parcel and sending it
+abbrev pub HasCounted : {S : Type 0} → ℕ × ℕ → Fetcher S → Type 0
+HasCounted x f =
+    (view f.windows ≡ window_view 1 0 0 (view f.windows).taken)
+    × (view f.parcels ≡ parcel_view 1 (view f.parcels).sent [])
+    × (f.sent ≡ length (view f.parcels).sent)
+    × (f.stopped ≡ None)
+    × (f.fetched ≡ amounts (view f.parcels).sent + x.1)
+    × ((view f.windows).taken ≡ names (view f.parcels).sent ++ x.0 ∷ [])
+
+-- what a writer knows: where it wasn't stopped, its count and its share are those of what it got, but for the parcels
+-- in hand
+abbrev pub WriterKnows : {S L : Type 0} → List (ℕ × ℕ) → Writer S L → Type 0
+WriterKnows in_hand w =
+    (view w.parcels ≡ parcel_view 1 [] (view w.parcels).got)
+    × (w.share.parts ≡ 1)
+    × (w.stopped ≡ None → (w.got + length in_hand ≡ length (view w.parcels).got)
+    × (w.share.amount + amounts in_hand ≡ amounts (view w.parcels).got))
+
+-- what a writer's seat shows: what its share has grown to since the seat was given
+abbrev pub WriterShows : {S L : Type 0} → Option Board → Option BoardSeat → Writer S L → Type 0
+WriterShows board given w =
+    AreBack board (option_to_list given) (option_to_list w.seat)
+    × HaveShown board w.share.amount w.stopped (option_to_list given) (option_to_list w.seat)

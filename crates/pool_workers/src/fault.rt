@@ -1,0 +1,110 @@
+//! Why a worker halts, and why a run doesn't end well.
+ghost use Rattle.std.specs.Prelude.{◌≡◌, None, IfSome};
+ghost use Rattle.pool_workers.specs.Faults.{fault_of, IsOneFault};
+ghost use Rattle.pool_workers.specs.declared.fault.Halt.TheVariants as halts;
+ghost use Rattle.pool_workers.specs.declared.fault.PoolFault.TheVariants as faults;
+
+use crate::gate::Place;
+use doc_json::DocId;
+use repl_target::TargetFault;
+use rev_core::Rev;
+use std::alloc::AllocError;
+use thiserror::Error;
+
+/// Why a worker, or the reading of the windows, takes no further step.
+#[derive(Debug, Drop)]
+pub enum Halt {
+    /// The gate stopped it.
+    Stopped(Place),
+    /// A call on the target is refused.
+    Refused(TargetFault),
+    /// A count would pass its limit.
+    CountFull,
+    /// The worker's count on the board would pass its limit.
+    BoardFull,
+    /// An allocation was refused.
+    Memory,
+    /// A channel was cut, or a window came beyond those that the plan allows.
+    Lost,
+}
+
+impl From<AllocError> for Halt {
+    ghost from_gives = { λ _ e. e ≡ halts.Memory };
+
+    fn from(_refused: AllocError) -> Halt {
+        Halt::Memory
+    }
+}
+
+/// Why a run of the pool doesn't end well.
+#[derive(Debug, Drop, Error)]
+pub enum PoolFault {
+    /// The plan has no workers.
+    #[error("a pool has 1 to 64 workers")]
+    NoWorkers,
+    /// The plan has more than 64 workers.
+    #[error("a pool has 1 to 64 workers")]
+    TooManyWorkers,
+    /// The plan's windows have no rows, or more than 10,000.
+    #[error("a window has 1 to 10000 rows")]
+    BadBatch,
+    /// The source and the target have one UUID.
+    #[error("a database is not replicated into itself")]
+    SamePeer,
+    /// A step is refused.
+    #[error(transparent)]
+    Refused(TargetFault),
+    /// The gate answered `Stop` at this place.
+    #[error("stopped by the gate")]
+    Halted(Place),
+    /// The first leaf of the source's feed above the start that a run has left uncovered. It never comes: the run's
+    /// contract excludes it (`runs`: `early`), and no code makes it.
+    #[error("a leaf of the source is not covered")]
+    Hole { seq: u64, id: DocId, rev: Rev },
+    /// A fetcher's count of documents would pass 9,007,199,254,740,991.
+    #[error("a count of documents is full")]
+    CountFull,
+    /// A writer's count on the board of documents read would pass 9,007,199,254,740,991. Only a run with a board tells
+    /// it.
+    #[error("a worker's count on the board is full")]
+    BoardFull,
+    /// An allocation was refused, or a thread can't be made.
+    #[error("out of memory")]
+    Memory,
+}
+
+impl From<AllocError> for PoolFault {
+    ghost from_gives = { λ _ e. e ≡ faults.Memory };
+
+    fn from(_refused: AllocError) -> PoolFault {
+        PoolFault::Memory
+    }
+}
+
+impl From<Halt> for PoolFault {
+    ghost from_gives = { λ halt e. e ≡ fault_of halt };
+
+    fn from(halt: Halt) -> PoolFault {
+        match halt {
+            Halt::Stopped(place) => PoolFault::Halted(place),
+            Halt::Refused(fault) => PoolFault::Refused(fault),
+            Halt::CountFull => PoolFault::CountFull,
+            Halt::BoardFull => PoolFault::BoardFull,
+            Halt::Memory => PoolFault::Memory,
+            Halt::Lost => PoolFault::Memory,
+        }
+    }
+}
+
+/// One of the halts of the reading, the fetchers and the writers, where there is one.
+pub fn merge(read: Option<Halt>, fetched: Option<Halt>, written: Option<Halt>) -> Option<PoolFault>
+    ensures none { result ≡ None → (read ≡ None) × (fetched ≡ None) × (written ≡ None) }
+    ensures some { IfSome result (IsOneFault read fetched written) }
+{
+    match (read, fetched, written) {
+        (Some(halt), _, _) => Some(PoolFault::from(halt)),
+        (None, Some(halt), _) => Some(PoolFault::from(halt)),
+        (None, None, Some(halt)) => Some(PoolFault::from(halt)),
+        (None, None, None) => None,
+    }
+}

@@ -1,0 +1,37 @@
+//! The workers of a run of the pool: what they send each other, what each does, and what all of them have done.
+//!
+//! The rules stand in docs/PROFILE.md: "The pool".
+#![tactic(auto)]
+
+mod brands;
+mod channels;
+mod context;
+mod crew;
+mod ends;
+mod fault;
+mod fetcher;
+mod gate;
+mod gather;
+mod given_target;
+mod messages;
+mod pairs;
+mod parcels;
+mod reader;
+mod run_target;
+mod show;
+mod start;
+mod threads;
+mod totals;
+mod turns;
+mod windows;
+mod writer;
+
+pub use brands::{SourceBrand, TargetBrand};
+pub use channels::Channels;
+pub use context::Context;
+pub use fault::{Halt, PoolFault};
+pub use gate::{Gate, Open, Place, Turn};
+pub use given_target::GivenTarget;
+pub use run_target::RunTarget;
+pub use threads::{Ended, Owned};
+pub use totals::{Summed, collect};

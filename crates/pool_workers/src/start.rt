@@ -1,0 +1,206 @@
+//! Starting the workers.
+ghost use Rattle.std.specs.Prelude.{◌≡◌, ℕ, ◌+◌, ◌-◌, ◌<◌, ◌≤◌, ◌++◌, [], None, IfSome, vec_len, vec_capacity, option_copied, option_to_list};
+ghost use Rattle.std.specs.List.{All};
+ghost use Rattle.crossbeam_channel.specs.Claims.{view, IsSeatAt};
+ghost use Rattle.crossbeam_channel.specs.Ends.{sends_on};
+ghost use Rattle.pool_workers.specs.Boards.{AreSeats, AreBack, held};
+ghost use Rattle.pool_workers.specs.Parcels.{parcel_view};
+ghost use Rattle.pool_workers.specs.Windows.{window_view};
+
+use crate::brands::{SourceBrand, TargetBrand};
+use crate::context::Context;
+use crate::crew::{FetcherPromise, WriterPromise};
+use crate::ends::end_parcels;
+use crate::fetcher::Fetcher;
+use crate::gate::Gate;
+use crate::parcels::{ParcelCut, ParcelPass};
+use crate::show::give_back;
+use crate::windows::{WindowCut, WindowPass};
+use crate::writer::Writer;
+use progress_board::BoardSeat;
+use repl_target::WriteFilter;
+use std::sync::Wait;
+use std::sync::ledger::{Ledger, Share};
+use std::thread::{PromisedHandle, Scope};
+
+/// A fetcher that was started.
+pub type FetcherHandle<'e, S, G> = PromisedHandle<Fetcher<S>, FetcherPromise<'e, S, G>>;
+
+/// A writer that was started.
+pub type WriterHandle<'e, S, L, G> = PromisedHandle<Writer<S, L>, WriterPromise<'e, S, G>>;
+
+impl<
+    'e,
+    F: WriteFilter + Send + Sync,
+    S: SourceBrand + Send + Sync,
+    T: TargetBrand<F> + Send + Sync,
+    L: Ledger + Send + Sync,
+    G: Gate + Sync,
+    R: Wait + Sync,
+> Context<'e, F, S, T, L, G, R> {
+    /// Cuts a pass of each channel off, and starts a fetcher with them.
+    fn hire_fetcher<'s, E>(
+        &'e self,
+        scope: &Scope<'s, E>,
+        windows: &mut WindowPass<S>,
+        parcels: &mut ParcelPass<S>,
+    ) -> Option<FetcherHandle<'e, S, G>>
+    where
+        'e: 's,
+        requires source { S.source ≡ self.now.source.now.1.db }
+        requires windows { IsSeatAt (sends_on self.now.channels.now.to_fetchers) windows.old
+            × (1 < (view windows.old).parts) }
+        requires parcels { IsSeatAt (sends_on self.now.channels.now.to_writers) parcels.old
+            × (1 < (view parcels.old).parts) }
+        ensures window_seat { IsSeatAt (sends_on self.now.channels.now.to_fetchers) windows.new }
+        ensures windows { view windows.new
+            ≡ window_view ((view windows.old).parts - 1) (view windows.old).reads (view windows.old).count
+            (view windows.old).taken }
+        ensures parcel_seat { IsSeatAt (sends_on self.now.channels.now.to_writers) parcels.new }
+        ensures parcels { view parcels.new
+            ≡ parcel_view ((view parcels.old).parts - 1) (view parcels.old).sent (view parcels.old).got }
+        ensures promised { IfSome result
+            (λ h. (h.promise.channels.now ≡ self.now.channels.now) × (h.promise.gate.now ≡ self.now.gate.now)) }
+    {
+        let window_pass = self.channels.to_fetchers.another::<WindowCut>(windows);
+        let parcel_pass = self.channels.to_writers.another::<ParcelCut>(parcels);
+        self.start_fetcher(scope, window_pass, parcel_pass)
+    }
+
+    /// Starts the fetchers. There are fewer than asked for where no thread can be made or memory runs out.
+    pub fn start_fetchers<'s, E>(
+        &'e self,
+        scope: &Scope<'s, E>,
+        workers: usize,
+        windows: &mut WindowPass<S>,
+        parcels: &mut ParcelPass<S>,
+    ) -> Vec<FetcherHandle<'e, S, G>>
+    where
+        'e: 's,
+        requires source { S.source ≡ self.now.source.now.1.db }
+        requires workers { workers ≤ 64 }
+        requires windows { IsSeatAt (sends_on self.now.channels.now.to_fetchers) windows.old
+            × (view windows.old ≡ window_view (view windows.old).parts 1 0 []) × (64 < (view windows.old).parts) }
+        requires parcels { IsSeatAt (sends_on self.now.channels.now.to_writers) parcels.old
+            × (view parcels.old ≡ parcel_view (view parcels.old).parts [] []) × (64 < (view parcels.old).parts) }
+        ensures windows { IsSeatAt (sends_on self.now.channels.now.to_fetchers) windows.new
+            × (view windows.new ≡ window_view (view windows.new).parts 1 0 []) × (0 < (view windows.new).parts) }
+        ensures parcels { IsSeatAt (sends_on self.now.channels.now.to_writers) parcels.new
+            × (view parcels.new ≡ parcel_view (view parcels.new).parts [] []) × (0 < (view parcels.new).parts) }
+        ensures most { vec_len result ≤ workers }
+        ensures whole_windows { vec_len result ≡ workers
+            → (view windows.new).parts + workers ≡ (view windows.old).parts }
+        ensures whole_parcels { vec_len result ≡ workers
+            → (view parcels.new).parts + workers ≡ (view parcels.old).parts }
+        ensures promised { All
+            (λ h. (h.promise.channels.now ≡ self.now.channels.now) × (h.promise.gate.now ≡ self.now.gate.now))
+            result.items }
+    {
+        let mut started = Vec::new(self.alloc);
+        for _i in 0..workers {
+            if started.reserve(1).is_err() {
+                break;
+            }
+            match self.hire_fetcher(scope, windows, parcels) {
+                Some(handle) => started.push_reserved(handle),
+                None => break,
+            }
+        }
+        started
+    }
+
+    /// Cuts a pass and a part of the ledger off, takes the last seat, and starts a writer with them: `start_writer`.
+    /// There are so many others. `None` where no thread can be made; then its seat is back.
+    fn hire_writer<'s, E>(
+        &'e self,
+        scope: &Scope<'s, E>,
+        others: usize,
+        parcels: &mut ParcelPass<S>,
+        all: &mut Share<L>,
+        seats: &mut Vec<BoardSeat>,
+    ) -> Option<WriterHandle<'e, S, L, G>>
+    where
+        'e: 's,
+        requires source { S.source ≡ self.now.source.now.1.db }
+        requires parcels { IsSeatAt (sends_on self.now.channels.now.to_writers) parcels.old
+            × (1 < (view parcels.old).parts) }
+        requires all { (0 < all.old.parts) × (all.old.amount ≡ 0) }
+        requires seats { (workers : ℕ) × (others < workers) × (workers ≤ 64)
+            × AreSeats (option_copied self.now.board) others workers seats.old.items }
+        ensures parcel_seat { IsSeatAt (sends_on self.now.channels.now.to_writers) parcels.new }
+        ensures parcels { view parcels.new
+            ≡ parcel_view ((view parcels.old).parts - 1) (view parcels.old).sent (view parcels.old).got }
+        ensures all { (all.new.parts + 1 ≡ all.old.parts) × (all.new.amount ≡ 0) }
+        ensures promised { IfSome result
+            (λ h. (h.promise.channels.now ≡ self.now.channels.now) × (h.promise.gate.now ≡ self.now.gate.now)
+            × (option_copied h.promise.board ≡ option_copied self.now.board)) }
+        ensures seats { IfSome result
+            (λ h. seats.old.items ≡ seats.new.items ++ option_to_list h.promise.seat.value) }
+        ensures left { IfSome result
+            (λ _. (workers : ℕ) → others < workers
+            → AreSeats (option_copied self.now.board) others workers seats.old.items
+            → AreSeats (option_copied self.now.board) (others + 1) workers seats.new.items) }
+        ensures back { result ≡ None → AreBack (option_copied self.now.board) seats.old.items seats.new.items }
+        ensures capacity { vec_capacity seats.new ≡ vec_capacity seats.old }
+    {
+        let parcel_pass = self.channels.to_writers.another::<ParcelCut>(parcels);
+        let share = all.split_off(1, 0);
+        let seat = seats.pop();
+        match self.start_writer(scope, others, parcels, parcel_pass, share, seat) {
+            Ok(handle) => Some(handle),
+            Err(seat) => {
+                give_back(seats, seat);
+                None
+            }
+        }
+    }
+
+    /// Starts the writers, each with a seat where there is a board, the first with the last. There are fewer than asked
+    /// for where no thread can be made or memory runs out; then they are told the end of the parcels.
+    pub fn start_writers<'s, E>(
+        &'e self,
+        scope: &Scope<'s, E>,
+        workers: usize,
+        parcels: &mut ParcelPass<S>,
+        all: &mut Share<L>,
+        seats: &mut Vec<BoardSeat>,
+    ) -> Vec<WriterHandle<'e, S, L, G>>
+    where
+        'e: 's,
+        requires source { S.source ≡ self.now.source.now.1.db }
+        requires workers { workers ≤ 64 }
+        requires parcels { IsSeatAt (sends_on self.now.channels.now.to_writers) parcels.old
+            × (view parcels.old ≡ parcel_view (view parcels.old).parts [] []) × (64 < (view parcels.old).parts) }
+        requires all { (all.old.parts ≡ workers) × (all.old.amount ≡ 0) }
+        requires seats { AreSeats (option_copied self.now.board) 0 workers seats.old.items }
+        ensures parcels { IsSeatAt (sends_on self.now.channels.now.to_writers) parcels.new
+            × (view parcels.new ≡ parcel_view (view parcels.new).parts [] [])
+            × ((view parcels.old).parts ≤ (view parcels.new).parts + 64) }
+        ensures most { vec_len result ≤ workers }
+        ensures whole_parcels { vec_len result ≡ workers
+            → (view parcels.new).parts + workers ≡ (view parcels.old).parts }
+        ensures whole_shares { vec_len result ≡ workers → all.new.parts ≡ 0 }
+        ensures amount { all.new.amount ≡ 0 }
+        ensures promised { All
+            (λ h. (h.promise.channels.now ≡ self.now.channels.now) × (h.promise.gate.now ≡ self.now.gate.now)
+            × (option_copied h.promise.board ≡ option_copied self.now.board)) result.items }
+        ensures back { AreBack (option_copied self.now.board) seats.old.items
+            (seats.new.items ++ held (λ h. h.promise.seat.value) result.items) }
+        ensures whole_seats { vec_len result ≡ workers
+            → seats.old.items ≡ seats.new.items ++ held (λ h. h.promise.seat.value) result.items }
+        ensures capacity { vec_capacity seats.new ≡ vec_capacity seats.old }
+    {
+        let mut started = Vec::new(self.alloc);
+        for i in 0..workers {
+            if started.reserve(1).is_err() {
+                end_parcels(self.rt, self.channels, parcels, i);
+                break;
+            }
+            match self.hire_writer(scope, i, parcels, all, seats) {
+                Some(handle) => started.push_reserved(handle),
+                None => break,
+            }
+        }
+        started
+    }
+}

@@ -1,0 +1,105 @@
+//! The channel of windows: its messages, what each thread knows of it, and its rule.
+use crate::brands::SourceBrand;
+use crate::messages::Paged;
+use crossbeam_channel::protocol::{Join, Lesson, Outcome, Protocol, Split};
+use crossbeam_channel::{Pass, RuledReceiver, RuledSender};
+use std::collections::LinkedList;
+
+/// What the page reader tells a fetcher.
+#[derive(Drop)]
+pub enum WindowMessage<S: SourceBrand> {
+    /// The next window, by its number.
+    Window { number: u64, page: Paged<S> },
+    /// No further window comes.
+    End,
+}
+
+/// What a thread knows of the channel: its parts of the right to know the whole, of 1,024; whether it is the page
+/// reader's (1, else 0), and then how many windows it has sent; the numbers of the windows that it has taken. No value
+/// of it is made.
+pub struct WindowView {
+    pub parts: u64,
+    pub reads: u64,
+    pub count: u64,
+    pub taken: LinkedList<u64>,
+}
+
+/// The rule: what is queued and what was taken are, without repeats, the numbers below the reader's count.
+pub struct InTurn;
+
+impl<S: SourceBrand> Protocol<WindowMessage<S>, WindowView> for InTurn {
+    ghost use Rattle.std.specs.Prelude.{[]};
+    ghost use Rattle.pool_workers.specs.Windows.{window_view, Numbered};
+
+    ghost holds = { Numbered };
+
+    ghost first = { window_view 1024 1 0 [] };
+}
+
+/// How a pass is cut off for a fetcher, and put back.
+pub struct WindowCut;
+
+impl Split<WindowView> for WindowCut {
+    ghost use Rattle.std.specs.Prelude.{◌-◌, []};
+    ghost use Rattle.pool_workers.specs.Windows.{window_view};
+
+    ghost left = { λ v. window_view (v.parts - 1) v.reads v.count v.taken };
+
+    ghost right = { λ _. window_view 1 0 0 [] };
+}
+
+impl Join<WindowView> for WindowCut {
+    ghost use Rattle.std.specs.Prelude.{◌+◌, ◌++◌, []};
+    ghost use Rattle.pool_workers.specs.Windows.{window_view};
+
+    ghost both = { λ v w. window_view (v.parts + w.parts) (v.reads + w.reads) (v.count + w.count)
+        (v.taken ++ w.taken) };
+
+    ghost spent = { window_view 0 0 0 [] };
+}
+
+/// Sending, as the page reader.
+pub struct Reads;
+
+impl<S: SourceBrand> Outcome<WindowMessage<S>, WindowView> for Reads {
+    ghost use Rattle.std.specs.Prelude.{◌≡◌};
+    ghost use Rattle.pool_workers.specs.Windows.{has_read};
+
+    ghost then = { λ v x w. w ≡ has_read v x };
+}
+
+impl<S: SourceBrand> Lesson<WindowMessage<S>, WindowView> for Reads {
+    ghost fact = { λ _ _. Unit {0} };
+}
+
+/// Receiving, as a fetcher.
+pub struct Takes;
+
+impl<S: SourceBrand> Outcome<WindowMessage<S>, WindowView> for Takes {
+    ghost use Rattle.std.specs.Prelude.{◌≡◌};
+    ghost use Rattle.pool_workers.specs.Windows.{has_taken};
+
+    ghost then = { λ v x w. w ≡ has_taken v x };
+}
+
+impl<S: SourceBrand> Lesson<WindowMessage<S>, WindowView> for Takes {
+    ghost fact = { λ _ _. Unit {0} };
+}
+
+/// What the pass with every part learns.
+pub struct AllTaken;
+
+impl<S: SourceBrand> Lesson<WindowMessage<S>, WindowView> for AllTaken {
+    ghost use Rattle.pool_workers.specs.Windows.{Covers};
+
+    ghost fact = { Covers };
+}
+
+/// What a thread knows of the channel of windows.
+pub type WindowPass<S> = Pass<WindowMessage<S>, WindowView>;
+
+/// Its sending end.
+pub type WindowSender<S> = RuledSender<WindowMessage<S>, WindowView, InTurn>;
+
+/// Its receiving end.
+pub type WindowReceiver<S> = RuledReceiver<WindowMessage<S>, WindowView, InTurn>;

@@ -1,0 +1,256 @@
+//! What one writer does.
+ghost use Rattle.std.specs.Prelude.{◌≡◌, ◌+◌, ◌-◌, ◌^◌, ◌<◌, [], ◌∷◌, length, IfSome, IfErr, OnOk, Option, None, option_copied};
+ghost use Rattle.crossbeam_channel.specs.Claims.{view, IsSeatAt};
+ghost use Rattle.crossbeam_channel.specs.Ends.{receives_on};
+ghost use Rattle.pool_workers.specs.Parcels.{parcel_view};
+ghost use Rattle.progress_board.specs.declared.seat.BoardSeat.{BoardSeat};
+ghost use Rattle.repl_peer.specs.declared.fault.TargetFault.{TargetFault};
+ghost use Rattle.pool_workers.specs.Boards.{MayFill, IsSeated, IsFullFor, HasRoom, HasSettled, HasWritten, halt_in};
+ghost use Rattle.pool_workers.specs.Workers.{WriterKnows, WriterShows};
+ghost use Rattle.pool_workers.specs.Faults.{AllowsOn, IsStepFault, SaysFull};
+
+use crate::brands::{SourceBrand, TargetBrand};
+use crate::context::Context;
+use crate::fault::Halt;
+use crate::fetcher::pass;
+use crate::gate::{Gate, Place};
+use crate::messages::{Fetched, Found};
+use crate::parcels::{Gets, ParcelMessage, ParcelPass};
+use crate::run_target::taken_of;
+use crate::show::{show_read, show_settled};
+use progress_board::BoardSeat;
+use repl_target::{Spent, WriteFilter};
+use rev_tree::SessionId;
+use std::sync::Wait;
+use std::sync::ledger::{Ledger, Share};
+
+/// A writer: what it knows of the channel of parcels, its share of the ledger, its count of the parcels that it
+/// settled, its seat at the board, where there is one, and why it was stopped.
+#[derive(Drop)]
+pub struct Writer<S: SourceBrand, L: Ledger> {
+    pub parcels: ParcelPass<S>,
+    pub share: Share<L>,
+    pub got: u64,
+    pub seat: Option<BoardSeat>,
+    pub stopped: Option<Halt>,
+}
+
+impl<S: SourceBrand, L: Ledger> Writer<S, L> {
+    /// A writer that has got no parcel.
+    pub fn new(parcels: ParcelPass<S>, share: Share<L>, seat: Option<BoardSeat>) -> Writer<S, L>
+        requires parcels { view parcels ≡ parcel_view 1 [] [] }
+        requires share { (share.parts ≡ 1) × (share.amount ≡ 0) }
+        ensures parcels { result.parcels ≡ parcels }
+        ensures knows { WriterKnows [] result }
+        ensures free { result.stopped ≡ None }
+        ensures share { result.share.amount ≡ 0 }
+        ensures seat { result.seat ≡ seat }
+    {
+        Writer {
+            parcels,
+            share,
+            got: 0,
+            seat,
+            stopped: None,
+        }
+    }
+}
+
+impl<F: WriteFilter, S: SourceBrand, T: TargetBrand<F>, L: Ledger, G: Gate, R: Wait> Context<
+    '_,
+    F,
+    S,
+    T,
+    L,
+    G,
+    R,
+> {
+    /// Settles a parcel, and shows the documents that this counted as settled.
+    fn settle_and_show(
+        &self,
+        share: &mut Share<L>,
+        seat: &mut Option<BoardSeat>,
+        fetched: Fetched<S>,
+        spent: &mut Spent,
+    ) -> Result<(), Halt>
+        requires parts { 0 < share.old.parts }
+        requires seat { IsSeated (option_copied self.now.board) seat.old }
+        requires room { HasRoom (option_copied self.now.board) (length fetched.docs) seat.old }
+        ensures parts { share.new.parts ≡ share.old.parts }
+        ensures ok { OnOk result (share.new.amount ≡ share.old.amount + length fetched.docs) }
+        ensures err { IfErr result (λ halt. (fault : TargetFault) × (halt ≡ Halt.Refused fault) × IsStepFault fault) }
+        ensures shows { HasSettled (option_copied self.now.board) share.old.amount share.new.amount seat.old seat.new }
+    {
+        let documents = fetched.documents();
+        let result = self
+            .target
+            .lock(self.rt)
+            .settle_counted(share, fetched, spent);
+        show_settled(self.board, seat, taken_of(&result, documents));
+        match result {
+            Ok(_) => Ok(()),
+            Err(fault) => Err(Halt::Refused(fault)),
+        }
+    }
+
+    /// Records, and lets the lock go: what the session has recorded.
+    fn record(&self) -> Result<u64, Halt>
+        ensures { IfErr result (λ halt. (fault : TargetFault) × (halt ≡ Halt.Refused fault) × IsStepFault fault) }
+    {
+        match self.target.lock(self.rt).record(self.plan.at) {
+            Ok(recorded) => Ok(recorded),
+            Err(fault) => Err(Halt::Refused(fault)),
+        }
+    }
+
+    /// Settles a parcel and records, unless the gate stops the writer or a call is refused. Its documents are shown as
+    /// read before, and those that were settled as settled before the gate is asked.
+    fn settle_and_record(
+        &self,
+        share: &mut Share<L>,
+        seat: &mut Option<BoardSeat>,
+        number: u64,
+        fetched: Fetched<S>,
+    ) -> Result<(), Halt>
+        requires parts { 0 < share.old.parts }
+        requires seat { IsSeated (option_copied self.now.board) seat.old }
+        ensures parts { share.new.parts ≡ share.old.parts }
+        ensures ok { OnOk result (share.new.amount ≡ share.old.amount + length fetched.docs) }
+        ensures err { IfErr result (AllowsOn (MayFill (option_copied self.now.board)) (G.may_stop self.now.gate.now)) }
+        ensures full { IfErr result (SaysFull ⊥ (IsFullFor (length fetched.docs) seat.old)) }
+        ensures shows { HasWritten (option_copied self.now.board) share.old.amount share.new.amount (halt_in result)
+            seat.old seat.new }
+    {
+        let documents = fetched.documents();
+        let mut spent = Spent::new(self.alloc);
+        show_read(self.board, seat, documents)?;
+        self.settle_and_show(share, seat, fetched, &mut spent)?;
+        pass(self.rt, self.gate, Place::Settled(number))?;
+        // The lock is mostly still free: a writer that was waiting for it takes a while to come.
+        let recorded = self.record()?;
+        drop(spent);
+        pass(self.rt, self.gate, Place::Recorded(number, recorded))
+    }
+
+    /// The session for which a parcel is made ready before the lock is taken. None where one thread does all: nobody waits
+    /// for its lock, and what is made where it is put stays in the processor's cache.
+    fn session_ahead(&self) -> Option<SessionId> {
+        if self.workers > 1 {
+            Some(self.plan.session)
+        } else {
+            None
+        }
+    }
+
+    /// Reads a parcel at the source, makes its documents ready before the lock is taken, where several writers settle,
+    /// settles it and records: `settle_and_record`.
+    fn read_and_settle(
+        &self,
+        share: &mut Share<L>,
+        seat: &mut Option<BoardSeat>,
+        number: u64,
+        found: Found<S>,
+    ) -> Result<(), Halt>
+        requires source { S.source ≡ self.now.source.now.1.db }
+        requires parts { 0 < share.old.parts }
+        requires seat { IsSeated (option_copied self.now.board) seat.old }
+        ensures parts { share.new.parts ≡ share.old.parts }
+        ensures ok { OnOk result (share.new.amount ≡ share.old.amount + length found.docs) }
+        ensures err { IfErr result (AllowsOn (MayFill (option_copied self.now.board)) (G.may_stop self.now.gate.now)) }
+        ensures full { IfErr result (SaysFull ⊥ (IsFullFor (length found.docs) seat.old)) }
+        ensures shows { HasWritten (option_copied self.now.board) share.old.amount share.new.amount (halt_in result)
+            seat.old seat.new }
+    {
+        // The rows live as long: else they are let go of under the lock.
+        let page = found.page(self.alloc)?;
+        let fetched = found.fetch(self.alloc, self.source, self.session_ahead())?;
+        let settled = self.settle_and_record(share, seat, number, fetched);
+        drop(page);
+        settled
+    }
+
+    /// Settles the parcel that a writer got last, and counts it, or keeps why it halts. `CountFull` only where its count
+    /// is full, `BoardFull` only where the word of its seat would pass its limit.
+    fn write(&self, writer: &mut Writer<S, L>, number: u64, found: Found<S>)
+        requires source { S.source ≡ self.now.source.now.1.db }
+        requires knows { WriterKnows ((number, length found.docs) ∷ []) writer.old × (writer.old.stopped ≡ None) }
+        requires seat { IsSeated (option_copied self.now.board) writer.old.seat }
+        ensures same { writer.new.parcels ≡ writer.old.parcels }
+        ensures knows { WriterKnows [] writer.new }
+        ensures halted { IfSome writer.new.stopped
+            (AllowsOn (MayFill (option_copied self.now.board)) (G.may_stop self.now.gate.now)) }
+        ensures full { IfSome writer.new.stopped
+            (SaysFull (writer.old.got ≡ 2 ^ 64 - 1) (IsFullFor (length found.docs) writer.old.seat)) }
+        ensures seat { IsSeated (option_copied self.now.board) writer.new.seat }
+        ensures shows { (given : Option BoardSeat) → WriterShows (option_copied self.now.board) given writer.old
+            → WriterShows (option_copied self.now.board) given writer.new }
+    {
+        if writer.got == u64::MAX {
+            writer.stopped = Some(Halt::CountFull);
+            return;
+        }
+        match self.read_and_settle(&mut writer.share, &mut writer.seat, number, found) {
+            Ok(()) => writer.got += 1,
+            Err(halt) => writer.stopped = Some(halt),
+        }
+    }
+
+    /// Takes one message. False at the end of the parcels.
+    pub fn take_parcel(&self, writer: &mut Writer<S, L>) -> bool
+        requires source { S.source ≡ self.now.source.now.1.db }
+        requires seat { IsSeatAt (receives_on self.now.channels.now.from_fetchers) writer.old.parcels }
+        requires knows { WriterKnows [] writer.old }
+        requires halted { IfSome writer.old.stopped
+            (AllowsOn (MayFill (option_copied self.now.board)) (G.may_stop self.now.gate.now)) }
+        requires board_seat { IsSeated (option_copied self.now.board) writer.old.seat }
+        ensures seat { IsSeatAt (receives_on self.now.channels.now.from_fetchers) writer.new.parcels }
+        ensures knows { WriterKnows [] writer.new }
+        ensures halted { IfSome writer.new.stopped
+            (AllowsOn (MayFill (option_copied self.now.board)) (G.may_stop self.now.gate.now)) }
+        ensures board_seat { IsSeated (option_copied self.now.board) writer.new.seat }
+        ensures shows { (given : Option BoardSeat) → WriterShows (option_copied self.now.board) given writer.old
+            → WriterShows (option_copied self.now.board) given writer.new }
+    {
+        match self
+            .channels
+            .from_fetchers
+            .recv_as::<Gets, R>(self.rt, &mut writer.parcels)
+        {
+            Ok(ParcelMessage::Parcel { number, fetched }) => {
+                if writer.stopped.is_none() {
+                    self.write(writer, number, fetched);
+                }
+                true
+            }
+            Ok(ParcelMessage::End) => false,
+            Err(_) => false,
+        }
+    }
+
+    /// Takes parcels until their end, and settles them.
+    pub fn write_all(
+        &self,
+        parcels: ParcelPass<S>,
+        share: Share<L>,
+        seat: Option<BoardSeat>,
+    ) -> Writer<S, L>
+        requires source { S.source ≡ self.now.source.now.1.db }
+        requires parcels { IsSeatAt (receives_on self.now.channels.now.from_fetchers) parcels
+            × (view parcels ≡ parcel_view 1 [] []) }
+        requires share { (share.parts ≡ 1) × (share.amount ≡ 0) }
+        requires board_seat { IsSeated (option_copied self.now.board) seat }
+        ensures seat { IsSeatAt (receives_on self.now.channels.now.from_fetchers) result.parcels }
+        ensures knows { WriterKnows [] result }
+        ensures halted { IfSome result.stopped
+            (AllowsOn (MayFill (option_copied self.now.board)) (G.may_stop self.now.gate.now)) }
+        ensures shows { WriterShows (option_copied self.now.board) seat result }
+    {
+        let mut writer = Writer::new(parcels, share, seat);
+        for _ in self.rt.forever() {
+            if !self.take_parcel(&mut writer) {
+                break;
+            }
+        }
+        writer
+    }
+}

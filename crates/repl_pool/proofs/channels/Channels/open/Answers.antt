@@ -1,9 +1,0 @@
-use Rattle.repl_pool.proofs.WindowRule as window
-use Rattle.repl_pool.proofs.ParcelRule as parcel
-use Rattle.repl_pool.proofs.channels.Channels.open.Goals as goal
-
-pub bounded_with-requires-clause-rule : goal.bounded_with-requires-clause-rule
-bounded_with-requires-clause-rule g c = window.windows_begin g.row.S.Denot
-
-pub bounded_with-requires-2-clause-rule : goal.bounded_with-requires-2-clause-rule
-bounded_with-requires-2-clause-rule g c = parcel.parcels_begin g.row.S.Denot

@@ -1,5 +1,0 @@
-use Rattle.repl_pool.proofs.ParcelRule as parcel
-use Rattle.repl_pool.proofs.context.Context.writer_here.Goals as goal
-
-pub another-its_parcels-requires-clause-rule : goal.another-its_parcels-requires-clause-rule
-another-its_parcels-requires-clause-rule g c = parcel.forks _ _ c.requires.parcels.1

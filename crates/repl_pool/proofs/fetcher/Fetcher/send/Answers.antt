@@ -1,5 +1,0 @@
-use Rattle.proof_words.proofs.{rules}
-use Rattle.repl_pool.proofs.fetcher.Fetcher.send.Goals as goal
-
-pub hand_over-requires-clause-counted : goal.hand_over-requires-clause-counted
-hand_over-requires-clause-counted g c = search rules

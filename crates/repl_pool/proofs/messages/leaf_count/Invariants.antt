@@ -1,9 +1,0 @@
-use Rattle.proof_words.proofs.{◌≡◌, ◌*◌, ◌^◌, ◌≤◌, length, take, sum_by}
-use Rattle.repl_pool.proofs.messages.leaf_count.Given as goal
-
--- the count so far; of each row there are less than 2 ^ 64
-abbrev pub invariant-loop-row : goal.invariant-loop-row
-invariant-loop-row l = record {
-  all : l.count ≡ sum_by (λ row. length row.leaves) (take l.row-index l.rows);
-  fits : l.count ≤ l.row-index * 2 ^ 64;
-}

@@ -1,8 +1,0 @@
--- What a gate's answer says: docs/PROFILE.md, "The pool".
-use Rattle.repl_pool.specs.declared.gate.Turn.{Turn}
-use Rattle.repl_pool.specs.declared.gate.Turn.TheVariants.{Go, Stop}
-
--- `Stop` is answered only where it is allowed
-abbrev pub Stops : Turn → Type 0 → Type 0
-Stops Go allowed = Unit {0}
-Stops Stop allowed = allowed
