@@ -1,7 +1,5 @@
 //! A replication by threads that is watched: a shop of a thousand orders and its copy as two peers, four fetchers and four
 //! writers, and a viewer who reads beside them how far they are. What the viewer sees goes to standard error.
-#![tactic(auto)]
-
 ghost use Rattle.std.specs.Prelude.{◌≡◌, vec_len};
 ghost use Rattle.std.specs.List.{All};
 ghost use Rattle.progress_board.specs.Seats.{CameWith};
@@ -15,7 +13,7 @@ use repl_target::{Peer, Plan, Rules};
 use rev_tree::SessionId;
 use serde_json::Value;
 use std::alloc::Global;
-use std::io::Eprint;
+use std::io::{Eprint, Print};
 use std::sync::Wait;
 use std::sync::atomic::{AtomicBool, Ordering};
 use std::thread;
@@ -30,15 +28,16 @@ const WORKERS: usize = 4;
 /// How often the viewer looks at most.
 const LOOKS: u64 = 10_000_000;
 
-fn main(rt: HostRuntime) -> Result<()> {
-    let mut shop = Peer::new(rt.alloc(), 1, Rules { deny: None });
-    let copy = Peer::new(rt.alloc(), 2, Rules { deny: None });
-    write_orders(rt.alloc(), &mut shop)?;
+/// Copies the shop while a viewer watches.
+pub fn run<R: Threads + Wait + Print + Eprint + Sync>(rt: &R, alloc: Global) -> Result<()> {
+    let mut shop = Peer::new(alloc, 1, Rules { deny: None });
+    let copy = Peer::new(alloc, 2, Rules { deny: None });
+    write_orders(alloc, &mut shop)?;
     let Seats {
         board,
         workers,
         mut viewers,
-    } = board_with_seats(rt.alloc(), WORKERS, 1)?;
+    } = board_with_seats(alloc, WORKERS, 1)?;
     let Some(viewer) = viewers.pop() else {
         bail!("a board without viewers");
     };
@@ -54,7 +53,7 @@ fn main(rt: HostRuntime) -> Result<()> {
         board: &board,
         seats: workers,
     };
-    let (ran, seen) = run_watched(&rt, rt.alloc(), shop, copy, &plan, progress, viewer);
+    let (ran, seen) = run_watched(rt, alloc, shop, copy, &plan, progress, viewer);
     let report = ran.outcome?;
     let (written, recorded) = (report.counts.written, report.recorded);
     println!(rt; "{written} documents written, up to sequence {recorded}")?;

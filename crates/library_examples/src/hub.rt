@@ -1,6 +1,4 @@
 //! Three laptops and a hub: four peers of one net, which write by themselves and meet by the hub, twice.
-#![tactic(auto)]
-
 use anyhow::Result;
 use doc_json::{DocId, read_body};
 use repl_log::Moment;
@@ -15,17 +13,18 @@ use std::str::from_utf8;
 /// The peers by their places; the first is the hub.
 const NAMES: [&str; 4] = ["hub", "ann", "ben", "cleo"];
 
-fn main(rt: HostRuntime) -> Result<()> {
+/// Has the laptops write and meet, twice, and audits every two.
+pub fn run(rt: &HostRuntime) -> Result<()> {
     let mut net = Net::new(rt.alloc());
     for uuid in 1..5u64 {
         net.add(rt.alloc(), uuid as u128, Rules { deny: None })?;
     }
     let milk = first_day(rt.alloc(), &mut net)?;
     meet(rt.alloc(), &mut net, 1)?;
-    tell(&rt, &net)?;
+    tell(rt, &net)?;
     second_day(rt.alloc(), &mut net, milk)?;
     meet(rt.alloc(), &mut net, 7)?;
-    tell(&rt, &net)?;
+    tell(rt, &net)?;
     println!(rt; "holes found by audits: {}", holes(rt.alloc(), &net)?)?;
     Ok(())
 }

@@ -1,6 +1,4 @@
 //! A write filter of one's own, and a replication both ways: an office, and a phone that takes no large document.
-#![tactic(auto)]
-
 use anyhow::{Result, bail};
 use doc_json::{Doc, DocId, read_body, write_doc};
 use repl_log::Moment;
@@ -29,7 +27,8 @@ impl WriteFilter for Small {
     }
 }
 
-fn main(rt: HostRuntime) -> Result<()> {
+/// Writes on both sides, replicates both ways, and shows what is where.
+pub fn run(rt: &HostRuntime) -> Result<()> {
     let mut office = Peer::new(rt.alloc(), 1, Rules { deny: None });
     let mut phone = Peer::new(rt.alloc(), 2, Small { most: 40 });
     edit(rt.alloc(), &mut office, "hours", r#"{"open":8,"close":18}"#)?;
@@ -40,10 +39,10 @@ fn main(rt: HostRuntime) -> Result<()> {
         r#"{"text":"of more than forty bytes, so it stays"}"#,
     )?;
     edit(rt.alloc(), &mut phone, "call", r#"{"to":"the baker"}"#)?;
-    meet(&rt, &mut office, &mut phone)?;
-    show(&rt, &phone, "hours")?;
-    show(&rt, &phone, "manual")?;
-    show(&rt, &office, "call")
+    meet(rt, &mut office, &mut phone)?;
+    show(rt, &phone, "hours")?;
+    show(rt, &phone, "manual")?;
+    show(rt, &office, "call")
 }
 
 /// Writes the first revision of a document.

@@ -1,0 +1,20 @@
+//! The libraries in use, four times. Each module stands by itself: its `run` is what the `main` of such a program would be.
+#![tactic(auto)]
+
+mod backup;
+mod filter;
+mod hub;
+mod pool;
+
+use anyhow::Result;
+
+fn main(rt: HostRuntime) -> Result<()> {
+    println!(rt; "backup:")?;
+    backup::run(&rt)?;
+    println!(rt; "filter:")?;
+    filter::run(&rt)?;
+    println!(rt; "hub:")?;
+    hub::run(&rt)?;
+    println!(rt; "pool:")?;
+    pool::run(&rt, rt.alloc())
+}
