@@ -1,10 +1,9 @@
 -- Documents and their leaves.
-use Rattle.proof_words.proofs.{◌≡◌, ℕ, ◌==◌, Bool, true, false, List, [], ◌∷◌, ◌++◌, length, map, refl, sym, ap, subst, ◌∙◌, Result, Ok, Err, OnOk, Option, Some, None, get_or, drop, arith, ◌<◌, suc, IsPermutation, string_bytes, map-append, nat_tests}
-use Rattle.std.proofs.Math.Seq.{drop-cons}
+use Rattle.proof_words.proofs.{◌≡◌, ℕ, ◌==◌, Bool, true, false, List, [], ◌∷◌, ◌++◌, length, map, refl, ap, subst, ◌∙◌, Result, Ok, Err, OnOk, Option, Some, None, arith, IsPermutation, string_bytes, map-append, nat_tests}
 use Rattle.rev_core.specs.{RevId}
 use Rattle.answer_lines.specs.{Told, Tells}
 use Rattle.answer_pictures.specs.{Document, Leaf, Form, Whole, Draws, Sign, signs_of}
-use Rattle.answer_pictures.specs.Drawing.{IsDrawn, IsNext, IsPicture, Sketch, State, Takes, conflict, found, log, row, state_of, states, whole, with_all, with_leaf}
+use Rattle.answer_pictures.specs.Drawing.{IsDrawn, IsNext, IsPicture, Sketch, State, Takes, state_of, states, whole, with_leaf}
 
 state_is : (r s : RevId) (a b c d : Bool) → r ≡ s → a ≡ b → c ≡ d → Path State (r, a, c) (s, b, d)
 state_is r s a b c d p q o = λ i. (p i, q i, o i)
@@ -28,10 +27,7 @@ picture_by (Err x) form db d s a b e each same h = tt
 -- where something is whole, no document is open
 pub none_open : (old new : Option Document) (t : Told) (w : Whole) → IsNext old t new (Some w) → new ≡ None
 none_open old new t w (whole r h k n low) = refl
-none_open old new t w (conflict h) = refl
-none_open old new t w found = refl
-none_open old new t w row = refl
-none_open old new t w log = refl
+none_open old new t w _ = refl
 
 -- from an empty text on
 pub draws_new : {T E : Type 0} (r : Result T E) (signs : List Sign) (a b : List ℕ) → a ≡ [] → OnOk r (Draws a b signs) → OnOk r (Draws [] b signs)
@@ -40,7 +36,3 @@ draws_new r signs a b e h = subst (λ (t : List ℕ). OnOk r (Draws t b signs)) 
 pub takes_by : {T E : Type 0} (r : Result T E) (old new : Sketch) (line text : List ℕ) (t : Told) (d : Option Whole) → Tells line t → IsNext old.begun t new.begun d → new.form ≡ old.form → new.db ≡ old.db → OnOk r (IsDrawn old.form old.db d text) → OnOk r (Takes old line new text)
 takes_by (Ok x) old new line text t d tells next f g h = record { told = t; whole = d; tells = tells; next = next; drawn = h; form = f; db = g }
 takes_by (Err x) old new line text t d tells next f g h = tt
-
-pub with_all_more : (leaves : List State) (revs : List RevId) (i : ℕ) (r : RevId) → i < length revs → r ≡ get_or revs i r → with_all leaves (drop i revs) ≡ with_all (with_leaf leaves r true) (drop (suc i) revs)
-with_all_more leaves revs i r low is =
-    ap (with_all leaves) (drop-cons revs i r low) ∙ ap (λ q. with_all (with_leaf leaves q true) (drop (suc i) revs)) (sym is)

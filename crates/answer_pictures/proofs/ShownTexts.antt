@@ -1,21 +1,11 @@
 -- A text that is shown has no hidden character, and in XML none that is markup.
-use Rattle.proof_words.proofs.{◌≡◌, ℕ, ◌/◌, ◌%◌, ◌<◌, ◌≤◌, ◌==◌, ◌&&◌, ◌||◌, nat_le, Bool, true, false, if◌then◌else◌, List, [], ◌∷◌, ◌++◌, refl, sym, ap, ◌∙◌, append_assoc, arith, encode_utf8_all, codes, list_any, digit_char, lt-leb, nat_tests, list_any-append, flat_map-append, encodes-append, append-nil}
+use Rattle.proof_words.proofs.{◌≡◌, ℕ, ◌/◌, ◌%◌, ◌<◌, ◌≤◌, ◌==◌, ◌||◌, nat_le, Bool, true, false, if◌then◌else◌, List, [], ◌∷◌, ◌++◌, refl, sym, ap, ◌∙◌, append_assoc, arith, encode_utf8_all, codes, list_any, digit_char, lt-leb, or_from, and_left, and_right, nat_tests, list_any-append, flat_map-append, encodes-append, append-nil}
 use Rattle.answer_pictures.specs.{Form, IsEscaped, IsSafe, IsSeen, done, entity_of, escape_of, is_hidden, is_markup, named, plain, shown, shown_char}
 use Rattle.answer_pictures.specs.declared.form.Form.TheVariants.{Text, Svg}
 
 by_if : {X : Type 0} (P : X → Type 0) (b : Bool) (x y : X) → (b ≡ true → P x) → (b ≡ false → P y) → P (if b then x else y)
 by_if P true x y f g = f refl
 by_if P false x y f g = g refl
-
-none_of : (a b : Bool) → a ≡ false → b ≡ false → (a || b) ≡ false
-none_of a b p q = ap (λ x. x || b) p ∙ q
-
-not_first : (a b : Bool) → a ≡ false → (a && b) ≡ false
-not_first a b p = ap (λ x. x && b) p
-
-not_second : (a b : Bool) → b ≡ false → (a && b) ≡ false
-not_second true b q = q
-not_second false b q = refl
 
 -- a printable character of ASCII is seen
 printable : (n : ℕ) → 32 ≤ n → n ≤ 126 → is_hidden n ≡ false
@@ -27,8 +17,8 @@ printable n low high =
     let e : nat_le 8288 n ≡ false = lt-leb 8288 n (omega arith) in
     let f : nat_le 65279 n ≡ false = lt-leb 65279 n (omega arith) in
     let g : nat_le 65534 n ≡ false = lt-leb 65534 n (omega arith) in
-    none_of _ _ (none_of _ _ (none_of _ _ (none_of _ _ (none_of _ _ (none_of _ _ (not_second _ _ a) (not_first _ _ b))
-    (not_first _ _ c)) (not_first _ _ d)) (not_first _ _ e)) (not_first _ _ f)) (not_first _ _ g)
+    or_from _ _ (or_from _ _ (or_from _ _ (or_from _ _ (or_from _ _ (or_from _ _ (and_right _ _ a) (and_left _ _ b))
+    (and_left _ _ c)) (and_left _ _ d)) (and_left _ _ e)) (and_left _ _ f)) (and_left _ _ g)
 
 digit_low : (d : ℕ) → d < 16 → (48 ≤ digit_char d) × (digit_char d ≤ 102)
 digit_low d low = grind (arith, nat_tests)
@@ -52,7 +42,7 @@ escape_seen c h =
     let b = digit_seen (c / 256 % 16) (omega arith) in
     let d = digit_seen (c / 16 % 16) (omega arith) in
     let e = digit_seen (c % 16) (omega arith) in
-    none_of _ _ a (none_of _ _ b (none_of _ _ d (none_of _ _ e refl)))
+    or_from _ _ a (or_from _ _ b (or_from _ _ d (or_from _ _ e refl)))
 
 entity_seen : (c : ℕ) → is_hidden c ≡ false → list_any is_hidden (entity_of c) ≡ false
 entity_seen c h =
@@ -60,11 +50,11 @@ entity_seen c h =
     by_if P (c == 38) (codes "&amp;") _ (λ e. refl) (λ e.
     by_if P (c == 60) (codes "&lt;") _ (λ e. refl) (λ e.
     by_if P (c == 62) (codes "&gt;") _ (λ e. refl) (λ e.
-    by_if P (c == 34) (codes "&quot;") (c ∷ []) (λ e. refl) (λ e. none_of _ _ h refl))))
+    by_if P (c == 34) (codes "&quot;") (c ∷ []) (λ e. refl) (λ e. or_from _ _ h refl))))
 
 char_seen : (form : Form) (c : ℕ) → list_any is_hidden (shown_char form c) ≡ false
 char_seen Text c =
-    by_if (λ (t : List ℕ). list_any is_hidden t ≡ false) (is_hidden c) (escape_of c) (c ∷ []) (escape_seen c) (λ h. none_of _ _ h refl)
+    by_if (λ (t : List ℕ). list_any is_hidden t ≡ false) (is_hidden c) (escape_of c) (c ∷ []) (escape_seen c) (λ h. or_from _ _ h refl)
 char_seen Svg c =
     by_if (λ (t : List ℕ). list_any is_hidden t ≡ false) (is_hidden c) (escape_of c) (entity_of c) (escape_seen c) (entity_seen c)
 
@@ -92,7 +82,7 @@ entity_escaped c rest h k =
     by_if P (c == 60) (codes "&lt;") _ (λ e. named 60 refl k) (λ lt.
     by_if P (c == 62) (codes "&gt;") _ (λ e. named 62 refl k) (λ gt.
     by_if P (c == 34) (codes "&quot;") (c ∷ []) (λ e. named 34 refl k)
-    (λ quot. plain h (none_of _ _ (none_of _ _ (none_of _ _ amp lt) gt) quot) k))))
+    (λ quot. plain h (or_from _ _ (or_from _ _ (or_from _ _ amp lt) gt) quot) k))))
 
 pub escaped_shown : (cs : List ℕ) → IsEscaped (shown Svg cs)
 escaped_shown [] = done

@@ -1,4 +1,4 @@
-use Rattle.proof_words.proofs.{sym, subst, ◌∙◌, IsUtf8}
+use Rattle.proof_words.proofs.{sym, subst, IsUtf8}
 use Rattle.answer_lines.specs.{IsNumber}
 use Rattle.answer_lines.proofs.{if_none, doc_two, doc_one, doc_id}
 use Rattle.answer_lines.proofs.lines.read_doc.Goals as goal

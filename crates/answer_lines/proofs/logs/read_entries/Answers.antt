@@ -1,4 +1,4 @@
-use Rattle.proof_words.proofs.{◌∷◌, ◌++◌, ◌≡◌, [], List, ℕ, length, map, sym, ap, subst, ◌∙◌, arith}
+use Rattle.proof_words.proofs.{◌∷◌, ◌++◌, [], List, ℕ, length, map, sym, ap, subst, ◌∙◌, arith}
 use Rattle.answer_lines.specs.{IsEntry, Logged, logged}
 use Rattle.answer_lines.proofs.{none_at, some_at, ReadsEntries, entries_all, entries_more, entries_none, entries_unclosed, entry_shorter, none_at_all, one_entry}
 use Rattle.answer_lines.proofs.logs.read_entries.Goals as goal

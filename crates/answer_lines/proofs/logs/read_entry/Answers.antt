@@ -1,4 +1,4 @@
-use Rattle.proof_words.proofs.{◌∷◌, ◌≡◌, List, ℕ, sym, ap, subst, ◌∙◌}
+use Rattle.proof_words.proofs.{◌∷◌, List, ℕ, sym, ap, subst, ◌∙◌}
 use Rattle.answer_lines.specs.{InTurn, IsMember, Logged, Values, texts_of}
 use Rattle.answer_lines.proofs.{none_at, some_at, values_same}
 use Rattle.answer_lines.proofs.logs.read_entry.Goals as goal

@@ -1,4 +1,4 @@
-use Rattle.proof_words.proofs.{◌++◌, ◌∷◌, [], ap, ◌∙◌, arith, map-append, Bor, List, ℕ}
+use Rattle.proof_words.proofs.{◌∷◌, [], ap, ◌∙◌, arith, map-append, Bor, List, ℕ}
 use Rattle.answer_lines.specs.{IsMember, texts_of}
 use Rattle.answer_lines.proofs.{member_unique, drop_all, reads_all, reads_more, reads_none}
 use Rattle.answer_lines.proofs.logs.read_values.Goals as goal

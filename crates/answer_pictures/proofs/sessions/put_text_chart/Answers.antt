@@ -1,4 +1,4 @@
-use Rattle.proof_words.proofs.{◌≡◌, ◌++◌, ◌-◌, refl, codes, take, drop, arith, common_steps}
+use Rattle.proof_words.proofs.{◌++◌, ◌-◌, refl, codes, take, drop, arith, common_steps}
 use Rattle.answer_pictures.specs.declared.form.Form.TheVariants.{Text}
 use Rattle.answer_pictures.specs.{chart, filled, reached}
 use Rattle.answer_pictures.proofs.{sign_by, then_text}

@@ -1,4 +1,4 @@
-use Rattle.proof_words.proofs.{◌≡◌, refl, ap, ◌∙◌, map}
+use Rattle.proof_words.proofs.{refl, ap, ◌∙◌, map}
 use Rattle.answer_pictures.specs.Drawing.{state_of}
 use Rattle.answer_pictures.proofs.{added}
 use Rattle.answer_pictures.proofs.document.Document.add.Goals as goal
