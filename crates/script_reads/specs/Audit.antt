@@ -12,11 +12,11 @@ use Rattle.script_engine.specs.Serving.{Told, Answering}
 use Rattle.script_databases.specs.Databases.{State, peer_at}
 use Rattle.script_databases.specs.declared.refusal.Refusal.{Refusal}
 use Rattle.rev_core.specs.Checks.{◌>>=◌}
-use Rattle.script_rooms.specs.Checks.{needed}
-use Rattle.script_rooms.specs.Given.{choice_given}
-use Rattle.script_rooms.specs.Members.{as_texts, name_at, optional, texts_of, if_only}
-use Rattle.script_rooms.specs.Telling.{database_of, Reads}
-use Rattle.script_rooms.specs.Texts.{ended, quoted}
+use Rattle.command_api.specs.Checks.{needed}
+use Rattle.command_api.specs.Given.{choice_given}
+use Rattle.command_api.specs.Members.{as_texts, name_at, optional, texts_of, if_only}
+use Rattle.command_api.specs.Telling.{database_of, Reads}
+use Rattle.command_api.specs.Texts.{ended, quoted}
 use Rattle.script_reads.specs.declared.audit.Audit.{Audit}
 
 -- ---- what it asks

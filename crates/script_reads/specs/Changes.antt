@@ -7,10 +7,10 @@ use Rattle.script_engine.specs.Serving.{Answering}
 use Rattle.script_databases.specs.Databases.{State}
 use Rattle.script_databases.specs.declared.refusal.Refusal.{Refusal}
 use Rattle.rev_core.specs.Checks.{◌>>=◌}
-use Rattle.script_rooms.specs.Checks.{needed}
-use Rattle.script_rooms.specs.Members.{name_at, optional, if_only, as_whole}
-use Rattle.script_rooms.specs.Telling.{database_of, Reads}
-use Rattle.script_rooms.specs.Texts.{ended, last_line, quoted, texts_of_revs}
+use Rattle.command_api.specs.Checks.{needed}
+use Rattle.command_api.specs.Members.{name_at, optional, if_only, as_whole}
+use Rattle.command_api.specs.Telling.{database_of, Reads}
+use Rattle.command_api.specs.Texts.{ended, last_line, quoted, texts_of_revs}
 use Rattle.script_reads.specs.declared.changes.Changes.{Changes}
 
 -- ---- what it asks

@@ -15,11 +15,11 @@ use Rattle.script_engine.specs.Serving.{Answering}
 use Rattle.script_databases.specs.Databases.{State, peer_at}
 use Rattle.script_databases.specs.declared.refusal.Refusal.{Refusal}
 use Rattle.rev_core.specs.Checks.{◌>>=◌}
-use Rattle.script_rooms.specs.Checks.{needed}
-use Rattle.script_rooms.specs.Given.{choice_given}
-use Rattle.script_rooms.specs.Members.{as_texts, name_at, optional, texts_of, if_only}
-use Rattle.script_rooms.specs.Telling.{database_of, Reads}
-use Rattle.script_rooms.specs.Texts.{ended, revs_line}
+use Rattle.command_api.specs.Checks.{needed}
+use Rattle.command_api.specs.Given.{choice_given}
+use Rattle.command_api.specs.Members.{as_texts, name_at, optional, texts_of, if_only}
+use Rattle.command_api.specs.Telling.{database_of, Reads}
+use Rattle.command_api.specs.Texts.{ended, revs_line}
 use Rattle.script_reads.specs.Walks.{left_in, holds_in, rows_left, rows_walked}
 use Rattle.script_reads.specs.declared.compare.Compare.{Compare}
 use Rattle.script_reads.specs.declared.compare.CompareRest.{CompareRest}

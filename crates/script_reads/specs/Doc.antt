@@ -14,11 +14,11 @@ use Rattle.script_databases.specs.Databases.{State}
 use Rattle.script_databases.specs.declared.refusal.Refusal.{Refusal}
 use Rattle.script_databases.specs.declared.refusal.Refusal.TheVariants as why
 use Rattle.rev_core.specs.Checks.{◌>>=◌, or_refused}
-use Rattle.script_rooms.specs.Checks.{needed}
-use Rattle.script_rooms.specs.Given.{id_given, rev_given}
-use Rattle.script_rooms.specs.Members.{name_at, text_at, optional, if_only}
-use Rattle.script_rooms.specs.Telling.{database_of, Reads}
-use Rattle.script_rooms.specs.Texts.{ended}
+use Rattle.command_api.specs.Checks.{needed}
+use Rattle.command_api.specs.Given.{id_given, rev_given}
+use Rattle.command_api.specs.Members.{name_at, text_at, optional, if_only}
+use Rattle.command_api.specs.Telling.{database_of, Reads}
+use Rattle.command_api.specs.Texts.{ended}
 use Rattle.script_reads.specs.declared.doc.Doc.{Doc}
 
 -- ---- what it asks

@@ -10,10 +10,10 @@ use Rattle.script_engine.specs.Serving.{Answering}
 use Rattle.script_databases.specs.Databases.{State}
 use Rattle.script_databases.specs.declared.refusal.Refusal.{Refusal}
 use Rattle.rev_core.specs.Checks.{◌>>=◌}
-use Rattle.script_rooms.specs.Checks.{needed}
-use Rattle.script_rooms.specs.Members.{name_at, if_only}
-use Rattle.script_rooms.specs.Telling.{database_of, Reads}
-use Rattle.script_rooms.specs.Texts.{ended}
+use Rattle.command_api.specs.Checks.{needed}
+use Rattle.command_api.specs.Members.{name_at, if_only}
+use Rattle.command_api.specs.Telling.{database_of, Reads}
+use Rattle.command_api.specs.Texts.{ended}
 use Rattle.script_reads.specs.declared.info.Info.{Info}
 
 -- ---- what it asks

@@ -13,10 +13,10 @@ use Rattle.script_databases.specs.Databases.{State}
 use Rattle.script_databases.specs.declared.refusal.Refusal.{Refusal}
 use Rattle.script_databases.specs.declared.refusal.Refusal.TheVariants as why
 use Rattle.rev_core.specs.Checks.{◌>>=◌, or_refused}
-use Rattle.script_rooms.specs.Checks.{needed}
-use Rattle.script_rooms.specs.Members.{as_uuid, name_at, optional, if_only}
-use Rattle.script_rooms.specs.Telling.{database_of, Reads}
-use Rattle.script_rooms.specs.Texts.{ended, quoted, text_of_any}
+use Rattle.command_api.specs.Checks.{needed}
+use Rattle.command_api.specs.Members.{as_uuid, name_at, optional, if_only}
+use Rattle.command_api.specs.Telling.{database_of, Reads}
+use Rattle.command_api.specs.Texts.{ended, quoted, text_of_any}
 use Rattle.script_reads.specs.declared.ledger.Ledger.{Ledger}
 
 -- ---- what it asks

@@ -14,11 +14,11 @@ use Rattle.script_databases.specs.Databases.{State}
 use Rattle.script_databases.specs.Refusals.{told_as, log_refusal}
 use Rattle.script_databases.specs.declared.refusal.Refusal.{Refusal}
 use Rattle.rev_core.specs.Checks.{◌>>=◌}
-use Rattle.script_rooms.specs.Checks.{needed}
-use Rattle.script_rooms.specs.Given.{choice_given}
-use Rattle.script_rooms.specs.Members.{as_texts, name_at, optional, text_at, texts_of, if_only}
-use Rattle.script_rooms.specs.Telling.{database_of, Reads}
-use Rattle.script_rooms.specs.Texts.{ended}
+use Rattle.command_api.specs.Checks.{needed}
+use Rattle.command_api.specs.Given.{choice_given}
+use Rattle.command_api.specs.Members.{as_texts, name_at, optional, text_at, texts_of, if_only}
+use Rattle.command_api.specs.Telling.{database_of, Reads}
+use Rattle.command_api.specs.Texts.{ended}
 use Rattle.script_reads.specs.declared.log.Log.{Log}
 use Rattle.script_reads.specs.declared.log.Side.{Side}
 use Rattle.script_reads.specs.declared.log.Side.TheVariants.{Source, Target}

@@ -8,7 +8,7 @@ use json_values::{Line, LineValue};
 use repl_target::{Audit as Found, audit};
 use rev_core::Rev;
 use script_databases::{Databases, Refusal};
-use script_rooms::{
+use command_api::{
     Room, has_only_members, name_member, optional_texts, push_json, push_number, push_rev,
     read_choice,
 };

@@ -4,13 +4,13 @@ ghost use Rattle.std.specs.List.{flat_map};
 ghost use Rattle.couch_base.specs.Feed.{feed};
 ghost use Rattle.json_values.specs.LineView.{line_view};
 ghost use Rattle.script_reads.specs.Changes.{row_line};
-ghost use Rattle.script_rooms.specs.Texts.{last_line};
+ghost use Rattle.command_api.specs.Texts.{last_line};
 
 use crate::feed::{NoTally, RowPrinter, Walk, print_feed};
 use couch_base::{Database, Row};
 use json_values::Line;
 use script_databases::{Databases, Refusal};
-use script_rooms::{
+use command_api::{
     Room, has_only_members, name_member, optional_whole, push_json, push_last, push_number,
     push_revs,
 };

@@ -11,7 +11,7 @@ use json_values::{Line, LineValue};
 use repl_survey::{Comparison, Total, compare};
 use rev_tree::Contradiction;
 use script_databases::{Databases, Refusal};
-use script_rooms::{
+use command_api::{
     has_only_members, name_member, optional_texts, push_number, push_revs_line, read_choice,
 };
 use std::alloc::{AllocError, Global};

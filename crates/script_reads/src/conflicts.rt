@@ -11,7 +11,7 @@ use json_values::Line;
 use repl_survey::{Census, conflicting};
 use rev_tree::Tree;
 use script_databases::{Databases, Refusal};
-use script_rooms::{has_only_members, name_member, push_number, push_revs_line};
+use command_api::{has_only_members, name_member, push_number, push_revs_line};
 use std::alloc::{AllocError, Global};
 
 /// What a `conflicts` line asks.

@@ -1,7 +1,7 @@
 //! `doc`: a document at a revision, with its known ancestry.
 ghost use Rattle.std.specs.Prelude.{◌≡◌, ◌++◌, OnOk};
 ghost use Rattle.doc_json.specs.DocText.{doc_text};
-ghost use Rattle.script_rooms.specs.Texts.{ended};
+ghost use Rattle.command_api.specs.Texts.{ended};
 ghost use Rattle.json_values.specs.LineView.{line_view};
 ghost use Rattle.script_reads.specs.Doc.{chosen};
 
@@ -10,7 +10,7 @@ use json_values::Line;
 use rev_core::Rev;
 use rev_tree::Tree;
 use script_databases::{Databases, Refusal};
-use script_rooms::{
+use command_api::{
     Room, has_only_members, name_member, optional_text, read_id, read_rev, text_member,
 };
 use std::alloc::{AllocError, Global};

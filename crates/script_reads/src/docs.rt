@@ -12,7 +12,7 @@ use doc_json::{Doc, push_doc};
 use json_values::{Line, LineValue};
 use repl_survey::documents_of;
 use script_databases::{Databases, Refusal};
-use script_rooms::{
+use command_api::{
     has_only_members, name_member, optional_texts, optional_whole, push_last, read_choice,
 };
 use std::alloc::{AllocError, Global};

@@ -8,7 +8,7 @@ use json_values::Line;
 use repl_survey::{Census, census_of};
 use repl_target::{Peer, Rules};
 use script_databases::{Databases, Refusal};
-use script_rooms::{Room, has_only_members, id_text, name_member, push_count, push_number};
+use command_api::{Room, has_only_members, id_text, name_member, push_count, push_number};
 use std::alloc::{AllocError, Global};
 use std::sync::Wait;
 use std::thread::Threads;

@@ -11,7 +11,7 @@ use repl_target::Refused;
 use rev_core::Rev;
 use rev_tree::SessionId;
 use script_databases::{Databases, Refusal};
-use script_rooms::{
+use command_api::{
     Room, has_only_members, name_member, optional_uuid, push_count, push_json, push_rev,
 };
 use std::alloc::{AllocError, Global};

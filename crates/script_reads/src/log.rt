@@ -2,14 +2,14 @@
 ghost use Rattle.std.specs.Prelude.{◌≡◌, ◌++◌, OnOk, IfOk};
 ghost use Rattle.json_values.specs.LineView.{line_view};
 ghost use Rattle.repl_peer.specs.logs.Checkpoint.{rep_between};
-ghost use Rattle.script_rooms.specs.Texts.{ended};
+ghost use Rattle.command_api.specs.Texts.{ended};
 ghost use Rattle.script_reads.specs.Log.{log_held, side_at};
 
 use json_values::{Line, LineValue};
 use repl_log::{RepId, write_log};
 use repl_target::{Peer, Rules, rep_between};
 use script_databases::{Databases, Refusal};
-use script_rooms::{Room, has_only_members, name_member, optional_texts, read_choice, text_member};
+use command_api::{Room, has_only_members, name_member, optional_texts, read_choice, text_member};
 use std::alloc::{AllocError, Global};
 use std::sync::Wait;
 use std::thread::Threads;

@@ -3,9 +3,9 @@ ghost use Rattle.std.specs.Prelude.{◌≡◌, ℕ, List, [], option_map, IfOk, 
 ghost use Rattle.script_engine.specs.Serving.{Fits, MayTell, text_with};
 ghost use Rattle.script_databases.specs.Databases.{State};
 ghost use Rattle.script_databases.specs.declared.refusal.Refusal.TheVariants.{Memory};
-ghost use Rattle.script_rooms.specs.Checks.{needed};
+ghost use Rattle.command_api.specs.Checks.{needed};
 ghost use Rattle.script_reads.specs.Rest.{FitsRest, rest_left, told_begun, told_from};
-ghost use Rattle.script_rooms.specs.Telling.{AnswersIn, told_by};
+ghost use Rattle.command_api.specs.Telling.{AnswersIn, told_by};
 
 use crate::rest::Rest;
 use script_databases::{Databases, Refusal};

@@ -4,7 +4,7 @@ ghost use Rattle.std.specs.List.{flat_map, list_all};
 ghost use Rattle.std.specs.Option.{option_copied, option_map_or};
 ghost use Rattle.rev_tree.specs.InOrder.{first_of};
 ghost use Rattle.rev_tree.specs.Tree.{has, leaves};
-ghost use Rattle.script_rooms.specs.Texts.{text_of_any};
+ghost use Rattle.command_api.specs.Texts.{text_of_any};
 ghost use Rattle.json_values.specs.LineView.{line_view};
 ghost use Rattle.script_reads.specs.Show.{head_line, leaf_line, leaf_text, show_text};
 
@@ -12,7 +12,7 @@ use json_values::Line;
 use rev_core::Rev;
 use rev_tree::{Content, Tree};
 use script_databases::{Databases, Refusal};
-use script_rooms::{
+use command_api::{
     Room, has_only_members, name_member, push_count, push_json, push_rev, push_revs, read_id,
     text_member,
 };

@@ -2,9 +2,9 @@
 use Rattle.proof_words.proofs.{Result, Ok, Err}
 use Rattle.script_engine.specs.{Told, Answering, MayTell}
 use Rattle.script_databases.specs.{State, Refusal}
-use Rattle.script_rooms.specs.{seen_as, AnswersIn}
+use Rattle.command_api.specs.{seen_as, AnswersIn}
 use Rattle.script_words.specs.{AnswersAsked, Asked, WordsAnswer}
-use Rattle.script_rooms.proofs.{may_tell}
+use Rattle.command_api.proofs.{may_tell}
 
 -- what a word's room answers, the line is told
 pub word_answered : {K : Type 0} {room : Answering State K} {old new : State} {told : Told} (word : K → Asked) → ((ask : K) (t : Told) → room old ask t new → WordsAnswer old (word ask) t new) → (part : Result K Refusal) → MayTell (AnswersIn room) old part told new → MayTell AnswersAsked old (seen_as word part) told new

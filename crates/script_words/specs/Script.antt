@@ -8,7 +8,7 @@ use Rattle.script_engine.specs.Serving.{Answering}
 use Rattle.script_databases.specs.Databases.{State}
 use Rattle.script_databases.specs.declared.refusal.Refusal.{Refusal}
 use Rattle.script_databases.specs.declared.refusal.Refusal.TheVariants as why
-use Rattle.script_rooms.specs.Telling.{AnswersIn}
+use Rattle.command_api.specs.Telling.{AnswersIn}
 use Rattle.script_words.specs.words.{Asked, asked_in, WordsAnswer}
 
 -- the line is this JSON object

@@ -7,8 +7,8 @@ use Rattle.script_databases.specs.Databases.{State}
 use Rattle.script_databases.specs.declared.refusal.Refusal.{Refusal}
 use Rattle.script_databases.specs.declared.refusal.Refusal.TheVariants as why
 use Rattle.rev_core.specs.Checks.{◌>>=◌}
-use Rattle.script_rooms.specs.Checks.{needed, seen_as}
-use Rattle.script_rooms.specs.Members.{text_at}
+use Rattle.command_api.specs.Checks.{needed, seen_as}
+use Rattle.command_api.specs.Members.{text_at}
 use Rattle.script_writes.specs.Load.{LoadAsk, load_in, Loads}
 use Rattle.script_writes.specs.Edit.{EditAsk, edit_in, Edits}
 use Rattle.script_reads.specs.Show.{ShowAsk, show_in, Shows}

@@ -12,7 +12,7 @@ use script_databases::{Databases, Refusal};
 use script_reads::{
     Audit, Changes, Compare, Conflicts, Doc, Docs, Info, Ledger, Log, Rest, Show, begin_in, whole,
 };
-use script_rooms::{serve_in, text_member};
+use command_api::{serve_in, text_member};
 use script_writes::{Backup, BothWays, Edit, Load, Replicate, Restore};
 use std::alloc::Global;
 use std::sync::Wait;

@@ -6,7 +6,7 @@ use Rattle.repl_peer.specs.{PeerValue}
 use Rattle.script_engine.specs.{Told, MayTell, in_full, gave_up, served_only}
 use Rattle.script_databases.specs.{State, peer_at, IsTaken, drawn_one, load_answer, next_made, name_of, Refusal}
 use Rattle.script_databases.specs.declared.refusal.Refusal.TheVariants as why
-use Rattle.script_rooms.specs.{document_given}
+use Rattle.command_api.specs.{document_given}
 use Rattle.script_writes.specs.{LoadAsk, NamedLoad, LoadsLoud, LoadsAt, LoadsNamed, LoadsNew}
 
 -- where it is known whether the database is there, whether a UUID is given, and what the document is

@@ -6,9 +6,9 @@ use Rattle.repl_target.specs.{Plan}
 use Rattle.script_engine.specs.{Told}
 use Rattle.script_databases.specs.{Program, State, peer_at, ReplicatesBetween, Refusal, GivesOrMemory, name_of}
 use Rattle.script_databases.specs.declared.refusal.Refusal.TheVariants as why
-use Rattle.script_rooms.specs.{choice_given, told_of}
+use Rattle.command_api.specs.{choice_given, told_of}
 use Rattle.script_writes.specs.{EndsBy, ReplicateAsk, ReportsReplication, ReplicatesFound, both_of, last_second, moment_of, plan_of, plan_with, replicated_text, session_of, with_drawn, with_session, Ending}
-use Rattle.script_rooms.proofs.{passes, is_found}
+use Rattle.command_api.proofs.{passes, is_found}
 
 -- where it is known whether both databases are there
 pub replicates : (old new : State) (ask : ReplicateAsk) (told : Told) (found : Result (PeerValue × PeerValue) Refusal) → both_of old ask ≡ found → ReplicatesFound old ask found told new → ReportsReplication old ask told new

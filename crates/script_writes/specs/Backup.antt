@@ -5,10 +5,10 @@ use Rattle.script_engine.specs.Serving.{Answering}
 use Rattle.script_databases.specs.Databases.{State, backed_answer, with_backup}
 use Rattle.script_databases.specs.declared.refusal.Refusal.{Refusal}
 use Rattle.rev_core.specs.Checks.{◌>>=◌}
-use Rattle.script_rooms.specs.Checks.{needed}
-use Rattle.script_rooms.specs.Members.{name_at, if_only}
-use Rattle.script_rooms.specs.Telling.{Does}
-use Rattle.script_rooms.specs.Texts.{ended}
+use Rattle.command_api.specs.Checks.{needed}
+use Rattle.command_api.specs.Members.{name_at, if_only}
+use Rattle.command_api.specs.Telling.{Does}
+use Rattle.command_api.specs.Texts.{ended}
 use Rattle.script_writes.specs.declared.backup.Backup.{Backup}
 
 -- ---- what it asks

@@ -11,11 +11,11 @@ use Rattle.script_databases.specs.Databases.{State, with_peer, edited_answer}
 use Rattle.script_databases.specs.declared.databases.Edited.{Edited}
 use Rattle.script_databases.specs.declared.refusal.Refusal.{Refusal}
 use Rattle.rev_core.specs.Checks.{◌>>=◌}
-use Rattle.script_rooms.specs.Checks.{needed}
-use Rattle.script_rooms.specs.Given.{id_given, rev_given, body_given_or_empty}
-use Rattle.script_rooms.specs.Members.{name_at, text_at, optional, if_only}
-use Rattle.script_rooms.specs.Telling.{database_of, Does, UnlessQuiet}
-use Rattle.script_rooms.specs.Texts.{ended, quoted}
+use Rattle.command_api.specs.Checks.{needed}
+use Rattle.command_api.specs.Given.{id_given, rev_given, body_given_or_empty}
+use Rattle.command_api.specs.Members.{name_at, text_at, optional, if_only}
+use Rattle.command_api.specs.Telling.{database_of, Does, UnlessQuiet}
+use Rattle.command_api.specs.Texts.{ended, quoted}
 use Rattle.script_writes.specs.declared.edit.Edit.{Edit}
 
 -- ---- what it asks

@@ -16,11 +16,11 @@ use Rattle.script_databases.specs.Refusals.{told_as, base_refusal}
 use Rattle.script_databases.specs.declared.refusal.Refusal.{Refusal}
 use Rattle.script_databases.specs.declared.refusal.Refusal.TheVariants as why
 use Rattle.rev_core.specs.Checks.{◌>>=◌}
-use Rattle.script_rooms.specs.Checks.{needed}
-use Rattle.script_rooms.specs.Given.{document_given}
-use Rattle.script_rooms.specs.Members.{name_at, optional, if_only, as_uuid}
-use Rattle.script_rooms.specs.Telling.{Refuses, Does, UnlessQuiet}
-use Rattle.script_rooms.specs.Texts.{ended, quoted, text_of_any}
+use Rattle.command_api.specs.Checks.{needed}
+use Rattle.command_api.specs.Given.{document_given}
+use Rattle.command_api.specs.Members.{name_at, optional, if_only, as_uuid}
+use Rattle.command_api.specs.Telling.{Refuses, Does, UnlessQuiet}
+use Rattle.command_api.specs.Texts.{ended, quoted, text_of_any}
 use Rattle.script_writes.specs.declared.load.Load.{Load}
 
 -- ---- what it asks

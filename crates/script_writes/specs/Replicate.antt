@@ -20,11 +20,11 @@ use Rattle.script_databases.specs.declared.watched.Watched.{Watched}
 use Rattle.script_databases.specs.declared.refusal.Refusal.{Refusal}
 use Rattle.script_databases.specs.declared.refusal.Refusal.TheVariants as why
 use Rattle.rev_core.specs.Checks.{◌>>=◌}
-use Rattle.script_rooms.specs.Checks.{needed}
-use Rattle.script_rooms.specs.Given.{choice_given}
-use Rattle.script_rooms.specs.Members.{as_texts, as_uuid, as_whole, name_at, optional, texts_of, if_only}
-use Rattle.script_rooms.specs.Telling.{database_of, told_of, Refuses}
-use Rattle.script_rooms.specs.Texts.{ended}
+use Rattle.command_api.specs.Checks.{needed}
+use Rattle.command_api.specs.Given.{choice_given}
+use Rattle.command_api.specs.Members.{as_texts, as_uuid, as_whole, name_at, optional, texts_of, if_only}
+use Rattle.command_api.specs.Telling.{database_of, told_of, Refuses}
+use Rattle.command_api.specs.Texts.{ended}
 use Rattle.script_writes.specs.declared.replicate.Ending.{Ending}
 use Rattle.script_writes.specs.declared.replicate.Ending.TheVariants.{Done, Shown, Stopped}
 use Rattle.script_writes.specs.declared.replicate.Options.{Options}

@@ -6,10 +6,10 @@ use Rattle.script_databases.specs.Databases.{State, peer_at, backup_at, put_back
 use Rattle.script_databases.specs.declared.databases.PutBack.{PutBack}
 use Rattle.script_databases.specs.declared.refusal.Refusal.{Refusal}
 use Rattle.rev_core.specs.Checks.{◌>>=◌}
-use Rattle.script_rooms.specs.Checks.{needed}
-use Rattle.script_rooms.specs.Members.{name_at, if_only}
-use Rattle.script_rooms.specs.Telling.{Does}
-use Rattle.script_rooms.specs.Texts.{ended}
+use Rattle.command_api.specs.Checks.{needed}
+use Rattle.command_api.specs.Members.{name_at, if_only}
+use Rattle.command_api.specs.Telling.{Does}
+use Rattle.command_api.specs.Texts.{ended}
 use Rattle.script_writes.specs.declared.restore.Restore.{Restore}
 
 -- ---- what it asks

@@ -7,8 +7,8 @@ use Rattle.script_databases.specs.AllTied.{AllTied}
 use Rattle.script_databases.specs.Databases.{State}
 use Rattle.script_databases.specs.declared.refusal.Refusal.{Refusal}
 use Rattle.rev_core.specs.Checks.{◌>>=◌}
-use Rattle.script_rooms.specs.Checks.{needed}
-use Rattle.script_rooms.specs.Members.{as_texts, as_uuid, as_whole, name_at, optional, if_only}
+use Rattle.command_api.specs.Checks.{needed}
+use Rattle.command_api.specs.Members.{as_texts, as_uuid, as_whole, name_at, optional, if_only}
 use Rattle.script_writes.specs.Replicate.{ReplicateAsk, ReportsReplication, IsCovered, replicate_asked}
 use Rattle.script_writes.specs.declared.replicate.Options.{Options}
 use Rattle.script_writes.specs.declared.sync.BothWays.{BothWays}

@@ -3,11 +3,11 @@ ghost use Rattle.std.specs.Prelude.{◌≡◌, ◌++◌, [], OnOk};
 ghost use Rattle.json_values.specs.LineView.{line_view};
 ghost use Rattle.script_writes.specs.Edit.{EditsLoud, edit_asked, edited_line};
 ghost use Rattle.script_engine.specs.Serving.{MayTell};
-ghost use Rattle.script_rooms.specs.Telling.{told_by};
+ghost use Rattle.command_api.specs.Telling.{told_by};
 
 use json_values::{Line, LinePart};
 use script_databases::{Databases, Edited, Refusal};
-use script_rooms::{
+use command_api::{
     Room, has_only_members, hush, name_member, optional_flag, optional_text, push_json,
     push_number, push_rev, read_content_or_empty, read_id, read_rev, text_member,
 };

@@ -4,14 +4,14 @@ ghost use Rattle.json_values.specs.LineView.{line_view};
 ghost use Rattle.script_engine.specs.Serving.{MayTell};
 ghost use Rattle.script_databases.specs.Databases.{IsTaken, drawn_one, next_made, peer_at};
 ghost use Rattle.script_databases.specs.declared.refusal.Refusal.TheVariants.{UuidTaken};
-ghost use Rattle.script_rooms.specs.Telling.{told_by};
+ghost use Rattle.command_api.specs.Telling.{told_by};
 ghost use Rattle.script_writes.specs.Load.{LoadsLoud, LoadsNamed, LoadsNew, document_part, load_asked, loaded_line, made_line, put_line, same_line, there_line};
 
 use couch_base::Put;
 use doc_json::Doc;
 use json_values::{Line, LinePart};
 use script_databases::{Databases, Refusal};
-use script_rooms::{
+use command_api::{
     Room, has_only_members, hush, name_member, optional_uuid, push_json, push_number, push_rev,
     read_document,
 };

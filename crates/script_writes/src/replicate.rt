@@ -1,12 +1,12 @@
 //! `replicate`: a replication from one database into another.
 ghost use Rattle.std.specs.Prelude.{◌≡◌, ◌<◌, ◌≤◌, ◌++◌, [], true, OnOk, IfOk, IfErr};
-ghost use Rattle.script_rooms.specs.Checks.{needed};
+ghost use Rattle.command_api.specs.Checks.{needed};
 ghost use Rattle.std.specs.FinMap.{contains_key};
 ghost use Rattle.script_databases.specs.Replications.{ReplicatesBetween};
 ghost use Rattle.script_databases.specs.declared.refusal.Refusal.TheVariants.{BadMoment};
 ghost use Rattle.json_values.specs.LineView.{line_view};
 ghost use Rattle.script_engine.specs.Serving.{MayTell};
-ghost use Rattle.script_rooms.specs.Telling.{told_by};
+ghost use Rattle.command_api.specs.Telling.{told_by};
 ghost use Rattle.script_writes.specs.Replicate.{EndsBy, ReportsReplication, checked_part, documents_part, ending_line, ending_of, ending_of_run, ending_of_watched, last_second, moment_of, options_in, plan_with, progress_line, replicate_asked, report_line, session_of, session_part, stopped_line, with_session};
 
 use doc_json::Chosen;
@@ -16,7 +16,7 @@ use repl_pool::PoolFault;
 use repl_target::{Plan, Report, TargetFault};
 use rev_tree::SessionId;
 use script_databases::{Databases, Refusal, Watched};
-use script_rooms::{
+use command_api::{
     Room, has_only_members, id_text, name_member, optional_flag, optional_texts, optional_uuid,
     optional_whole, push_number, read_choice,
 };

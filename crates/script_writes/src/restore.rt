@@ -5,7 +5,7 @@ ghost use Rattle.script_writes.specs.Restore.{left_part, restored_line};
 
 use json_values::Line;
 use script_databases::{Databases, PutBack, Refusal};
-use script_rooms::{Room, has_only_members, name_member, push_number};
+use command_api::{Room, has_only_members, name_member, push_number};
 use std::alloc::{AllocError, Global};
 use std::sync::Wait;
 use std::thread::Threads;

@@ -1,13 +1,13 @@
 //! `sync`: a replication each way between two databases.
 ghost use Rattle.std.specs.Prelude.{◌≡◌};
 ghost use Rattle.json_values.specs.LineView.{line_view};
-ghost use Rattle.script_rooms.specs.Checks.{needed};
+ghost use Rattle.command_api.specs.Checks.{needed};
 ghost use Rattle.script_writes.specs.Sync.{shared_in, way_options};
 
 use crate::replicate::{Options, Replicate, serve_replication};
 use json_values::{Line, LineValue};
 use script_databases::{Databases, Refusal};
-use script_rooms::{
+use command_api::{
     Room, has_only_members, name_member, optional_flag, optional_texts, optional_uuid,
     optional_whole,
 };

@@ -6,12 +6,12 @@ use Rattle.repl_target.specs.{audit_answer, hole_of, IsTiedPair}
 use Rattle.script_engine.specs.{Told}
 use Rattle.script_databases.specs.AllTied.{AllTied}
 use Rattle.script_databases.specs.{State, peer_at, Refusal}
-use Rattle.script_rooms.specs.{choice_given, database_of, told_of}
+use Rattle.command_api.specs.{choice_given, database_of, told_of}
 use Rattle.script_reads.specs.{AuditAsk, Audits, audit_told, audit_text, FindsNone, IsClean}
 use Rattle.repl_target.specs.declared.auditing.found.Audit.{Audit}
 use Rattle.repl_target.specs.declared.auditing.found.Audit.TheVariants.{Clean}
 use Rattle.script_databases.proofs.{same_Ok}
-use Rattle.script_rooms.proofs.{bound, found}
+use Rattle.command_api.proofs.{bound, found}
 
 -- what was found is what an audit of the two finds, which is nothing where they are tied
 pub finds_none : (old : State) (ask : AuditAsk) (s t : PeerValue) (v w : Choice) (found : Audit) → peer_at old ask.source ≡ Some s → peer_at old ask.target ≡ Some t → choice_given ask.doc_ids ≡ Ok v → w ≡ v → hole_of found ≡ audit_answer s t v → (IsTiedPair s t w → found ≡ Clean)

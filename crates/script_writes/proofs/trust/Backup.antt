@@ -5,7 +5,7 @@ use Rattle.script_databases.specs.AllTied.{AllTied}
 use Rattle.script_databases.specs.{State, backed_answer, with_backup, backed_by}
 use Rattle.script_writes.specs.{BackupAsk, BacksUp, backup_done}
 use Rattle.script_databases.proofs.{backed_tied}
-use Rattle.script_rooms.proofs.{bound, does_tied, left_is}
+use Rattle.command_api.proofs.{bound, does_tied, left_is}
 
 pub backs_tied : (old new : State) → AllTied old → (ask : BackupAsk) (told : Told) → BacksUp old ask told new → AllTied new
 backs_tied old new h ask told d =

@@ -3,10 +3,10 @@ use Rattle.proof_words.proofs.{Some}
 use Rattle.script_engine.specs.{Told}
 use Rattle.script_databases.specs.AllTied.{AllTied}
 use Rattle.script_databases.specs.{State, edited_answer}
-use Rattle.script_rooms.specs.{body_given_or_empty, id_given, rev_given, database_of}
+use Rattle.command_api.specs.{body_given_or_empty, id_given, rev_given, database_of}
 use Rattle.script_writes.specs.{EditAsk, EditsLoud, edit_done}
 use Rattle.script_databases.proofs.{edit_tied}
-use Rattle.script_rooms.proofs.{bound, does_tied, found, left_is}
+use Rattle.command_api.proofs.{bound, does_tied, found, left_is}
 
 pub edits_tied : (old new : State) → AllTied old → (ask : EditAsk) (told : Told) → EditsLoud old ask told new → AllTied new
 edits_tied old new h ask told d =

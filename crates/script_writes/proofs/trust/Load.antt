@@ -9,7 +9,7 @@ use Rattle.script_databases.specs.{IsTaken, State, drawn_one, next_made, peer_at
 use Rattle.script_databases.proofs.{load_keeps, load_tied, made_tied, drawn_tied}
 use Rattle.rev_core.specs.{◌>>=◌}
 use Rattle.script_writes.specs.{LoadsAt, LoadsUntaken, load_new, load_there}
-use Rattle.script_rooms.proofs.{bound, does_tied, left_is}
+use Rattle.command_api.proofs.{bound, does_tied, left_is}
 
 -- a document is put, or none
 there_tied : (s : State) → AllTied s → (db : List ℕ) (l : PeerValue) → peer_at s db ≡ Some l → (doc : Option Document) (done : List ℕ × State) → load_there s db l doc ≡ Ok done → AllTied done.1

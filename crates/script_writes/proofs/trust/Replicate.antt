@@ -9,12 +9,12 @@ use Rattle.script_engine.specs.{Told}
 use Rattle.script_databases.specs.AllTied.{AllTied}
 use Rattle.script_databases.specs.{CoversUpTo, State, peer_at, GivesOrMemory, run_stop_of, stop_of, unwatched, Refusal, Watched}
 use Rattle.rev_core.specs.{◌>>=◌}
-use Rattle.script_rooms.specs.{choice_given, database_of, told_of}
+use Rattle.command_api.specs.{choice_given, database_of, told_of}
 use Rattle.script_writes.specs.{EndsBy, ReplicateAsk, ReplicatesChosen, ReplicatesFound, both_of, ending_of, ending_of_run, ending_of_watched, plan_of, replicated_text, with_drawn, with_session, CoversIfDone, IsCovered, Ending}
 use Rattle.script_writes.specs.declared.replicate.Ending.TheVariants.{Stopped}
 use Rattle.script_databases.proofs.{same_Ok, drawn_tied, alone_left, pool_left, watched_left}
 use Rattle.script_writes.proofs.ReplicateLemmas.{same_peer}
-use Rattle.script_rooms.proofs.{bound, found}
+use Rattle.command_api.proofs.{bound, found}
 
 -- ---- an id is drawn, or none
 

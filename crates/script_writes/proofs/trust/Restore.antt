@@ -5,7 +5,7 @@ use Rattle.script_databases.specs.AllTied.{AllTied}
 use Rattle.script_databases.specs.{State, backup_at, peer_at, put_back_answer, put_back_by}
 use Rattle.script_writes.specs.{RestoreAsk, Restores, restore_done}
 use Rattle.script_databases.proofs.{put_back_tied}
-use Rattle.script_rooms.proofs.{bound, does_tied, left_is}
+use Rattle.command_api.proofs.{bound, does_tied, left_is}
 
 pub restores_tied : (old new : State) → AllTied old → (ask : RestoreAsk) (told : Told) → Restores old ask told new → AllTied new
 restores_tied old new h ask told d =

@@ -1,8 +1,8 @@
 use Rattle.proof_words.proofs.{◌++◌, ap, ◌∙◌, flat_map}
 use Rattle.couch_base.specs.{feed, chosen-all}
-use Rattle.script_rooms.specs.{last_line}
+use Rattle.command_api.specs.{last_line}
 use Rattle.script_reads.specs.{row_line}
-use Rattle.script_rooms.proofs.{two_parts}
+use Rattle.command_api.proofs.{two_parts}
 use Rattle.script_reads.proofs.changes.print.Goals as goal
 
 pub returns : goal.returns

@@ -1,6 +1,6 @@
 use Rattle.proof_words.proofs.{◌++◌, List, take, sym, ap, subst, ◌∙◌, append-nil, take_all, flat_map}
 use Rattle.couch_base.specs.{RowValue}
-use Rattle.script_rooms.proofs.{rows_more, list_more}
+use Rattle.command_api.proofs.{rows_more, list_more}
 use Rattle.script_reads.proofs.feed.push_rows.Goals as goal
 
 pub loop-row-init : goal.loop-row-init

@@ -2,7 +2,7 @@ use Rattle.proof_words.proofs.{◌≡◌, ◌++◌, List, refl, sym, ap, subst, 
 use Rattle.doc_json.specs.{Choice}
 use Rattle.couch_base.specs.{RowValue, WindowValue, chosen_feed, feed-page}
 use Rattle.script_reads.specs.{rows_left}
-use Rattle.script_rooms.proofs.{texts_step}
+use Rattle.command_api.proofs.{texts_step}
 use Rattle.script_reads.proofs.feed.step.Goals as goal
 
 pub returns-clause-text : goal.returns-clause-text

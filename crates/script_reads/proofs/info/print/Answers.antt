@@ -2,7 +2,7 @@ use Rattle.proof_words.proofs.{◌++◌, ℕ, length, ap, ◌∙◌}
 use Rattle.couch_base.specs.{DatabaseValue}
 use Rattle.repl_survey.specs.{census_of, trees, Census}
 use Rattle.script_reads.specs.{census_part, identity_part, sessions_part}
-use Rattle.script_rooms.proofs.{two_parts}
+use Rattle.command_api.proofs.{two_parts}
 use Rattle.script_reads.proofs.info.print.Goals as goal
 
 pub returns : goal.returns

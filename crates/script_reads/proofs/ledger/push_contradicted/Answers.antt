@@ -1,7 +1,7 @@
 use Rattle.proof_words.proofs.{[], ◌∷◌, ◌++◌, codes}
 use Rattle.rev_core.specs.{rev_text}
 use Rattle.script_reads.specs.{parents_part, rev_part}
-use Rattle.script_rooms.proofs.{two_parts}
+use Rattle.command_api.proofs.{two_parts}
 use Rattle.script_reads.proofs.ledger.push_contradicted.Goals as goal
 
 pub returns : goal.returns

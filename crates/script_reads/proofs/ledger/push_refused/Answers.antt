@@ -3,7 +3,7 @@ use Rattle.rev_core.specs.{head_of, RevId, rev_text}
 use Rattle.doc_json.specs.Document.{Document}
 use Rattle.repl_peer.specs.{RefusedValue}
 use Rattle.repl_peer.specs.declared.fault.Reason.TheVariants as reasons
-use Rattle.script_rooms.specs.{text_of_any}
+use Rattle.command_api.specs.{text_of_any}
 use Rattle.script_reads.specs.{contradicted_line, denied_line, refused_for, refused_line}
 use Rattle.script_reads.proofs.ledger.push_refused.Goals as goal
 

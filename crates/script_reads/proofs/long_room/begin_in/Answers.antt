@@ -1,6 +1,6 @@
 use Rattle.proof_words.proofs.{sym}
 use Rattle.script_reads.proofs.{give_told}
-use Rattle.script_rooms.proofs.{room_answered, room_refused}
+use Rattle.command_api.proofs.{room_answered, room_refused}
 use Rattle.script_reads.proofs.long_room.begin_in.Goals as goal
 
 pub returns-in-None-clause-told : goal.returns-in-None-clause-told

@@ -4,7 +4,7 @@ use Rattle.script_databases.specs.{State, name_of, Refusal}
 use Rattle.script_databases.specs.declared.refusal.Refusal.TheVariants as why
 use Rattle.script_words.specs.{IsNoObject, LinesAnswer, asked_in}
 use Rattle.json_values.specs.{line_view}
-use Rattle.script_rooms.proofs.{may_tell}
+use Rattle.command_api.proofs.{may_tell}
 use Rattle.script_words.proofs.interpreter.answer_line.Goals as goal
 
 -- a line that is no object, or for which memory was wanting

@@ -4,7 +4,7 @@ use Rattle.script_engine.specs.{in_full, served_only}
 use Rattle.script_databases.specs.{edited_answer}
 use Rattle.script_databases.specs.declared.refusal.Refusal.TheVariants as why
 use Rattle.script_writes.specs.{edited_line}
-use Rattle.script_rooms.proofs.{passes, stops, is_found, is_missing, is_there, is_absent, does, does_nothing, both, printed, unless_memory, changed_is, handed_on, refused_memory}
+use Rattle.command_api.proofs.{passes, stops, is_found, is_missing, is_there, is_absent, does, does_nothing, both, printed, unless_memory, changed_is, handed_on, refused_memory}
 use Rattle.script_writes.proofs.edit.edit_loud.Goals as goal
 
 pub returns-then-not-has : goal.returns-then-not-has

@@ -1,7 +1,7 @@
 use Rattle.proof_words.proofs.{Ok, Err, Some, None, ap, inl, inr, refl, sym, ◌∙◌}
 use Rattle.script_engine.specs.{in_full}
 use Rattle.script_writes.proofs.{loads}
-use Rattle.script_rooms.proofs.{handed_on, is_absent, is_there, may_tell, unless_memory}
+use Rattle.command_api.proofs.{handed_on, is_absent, is_there, may_tell, unless_memory}
 use Rattle.script_writes.proofs.load.load_given.Goals as goal
 
 pub returns-then-has : goal.returns-then-has

@@ -1,7 +1,7 @@
 use Rattle.proof_words.proofs.{Ok, Err, Some, None, ap, refl, ◌∙◌}
 use Rattle.script_databases.specs.{peer_at}
 use Rattle.script_writes.proofs.{loads, refused_either}
-use Rattle.script_rooms.proofs.{handed_on, may_tell, unless_memory}
+use Rattle.command_api.proofs.{handed_on, may_tell, unless_memory}
 use Rattle.script_writes.proofs.load.load_named.Goals as goal
 
 pub returns-in_err-read_document : goal.returns-in_err-read_document

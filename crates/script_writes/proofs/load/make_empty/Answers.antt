@@ -2,7 +2,7 @@ use Rattle.proof_words.proofs.{Ok, refl, ap, ◌∙◌}
 use Rattle.script_engine.specs.{in_full, gave_up, served_only}
 use Rattle.script_databases.specs.{with_peer}
 use Rattle.script_writes.specs.{made_line}
-use Rattle.script_rooms.proofs.{gave_up_at, printed, refused_memory}
+use Rattle.command_api.proofs.{gave_up_at, printed, refused_memory}
 use Rattle.script_writes.proofs.load.make_empty.Goals as goal
 
 pub returns-in_err-peer : goal.returns-in_err-peer

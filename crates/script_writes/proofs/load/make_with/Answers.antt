@@ -5,7 +5,7 @@ use Rattle.script_engine.specs.{in_full, gave_up, served_only}
 use Rattle.script_databases.specs.{with_peer, told_as, base_refusal}
 use Rattle.script_databases.proofs.{put_refused}
 use Rattle.script_writes.specs.{put_line}
-use Rattle.script_rooms.proofs.{passes, stops, does, does_nothing, both, gave_up_at, printed, unless_memory, handed_on, refused_memory}
+use Rattle.command_api.proofs.{passes, stops, does, does_nothing, both, gave_up_at, printed, unless_memory, handed_on, refused_memory}
 use Rattle.script_writes.proofs.load.make_with.Goals as goal
 
 pub returns-in_err-peer : goal.returns-in_err-peer

@@ -2,7 +2,7 @@ use Rattle.proof_words.proofs.{Ok, Some, None, ap, refl, sym, ◌∙◌}
 use Rattle.script_engine.specs.{in_full, served_only}
 use Rattle.script_writes.specs.{there_line}
 use Rattle.script_writes.proofs.{loads_drawn, loads_named, loads_taken}
-use Rattle.script_rooms.proofs.{handed_on, is_absent, is_there, printed, refused_memory}
+use Rattle.command_api.proofs.{handed_on, is_absent, is_there, printed, refused_memory}
 use Rattle.script_writes.proofs.load.open.Goals as goal
 
 pub returns-then-has : goal.returns-then-has

@@ -4,7 +4,7 @@ use Rattle.script_engine.specs.{in_full, served_only}
 use Rattle.script_databases.specs.{State, load_answer, peer_at}
 use Rattle.script_writes.specs.{put_line}
 use Rattle.script_writes.proofs.{loads_named, there_told}
-use Rattle.script_rooms.proofs.{both, changed_is, does, does_nothing, is_absent, is_there, passes, printed, refused_memory, stops, unless_memory}
+use Rattle.command_api.proofs.{both, changed_is, does, does_nothing, is_absent, is_there, passes, printed, refused_memory, stops, unless_memory}
 use Rattle.script_writes.proofs.load.put.Goals as goal
 
 pub returns-in_ok-print_put-in-Ok : goal.returns-in_ok-print_put-in-Ok

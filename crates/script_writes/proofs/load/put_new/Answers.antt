@@ -1,6 +1,6 @@
 use Rattle.proof_words.proofs.{Some}
 use Rattle.script_writes.proofs.{loads_drawn, loads_taken}
-use Rattle.script_rooms.proofs.{handed_on}
+use Rattle.command_api.proofs.{handed_on}
 use Rattle.script_writes.proofs.load.put_new.Goals as goal
 
 pub returns-in_err-uuid : goal.returns-in_err-uuid

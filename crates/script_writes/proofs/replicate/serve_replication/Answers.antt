@@ -2,10 +2,10 @@ use Rattle.proof_words.proofs.{Ok, Err, refl, sym, ap, subst, ◌∙◌}
 use Rattle.script_engine.specs.{MayTell, in_full, served_only}
 use Rattle.script_databases.specs.{name_of}
 use Rattle.script_databases.specs.declared.refusal.Refusal.TheVariants as why
-use Rattle.script_rooms.specs.{told_of}
+use Rattle.command_api.specs.{told_of}
 use Rattle.script_writes.specs.{ReportsReplication, replicate_asked, ending_line}
 use Rattle.script_writes.proofs.{replicates, replicated, unchosen, too_late}
-use Rattle.script_rooms.proofs.{passes, stops, is_found, is_missing, is_there, is_absent, printed, handed_on, refused_memory}
+use Rattle.command_api.proofs.{passes, stops, is_found, is_missing, is_there, is_absent, printed, handed_on, refused_memory}
 use Rattle.script_writes.proofs.replicate.serve_replication.Goals as goal
 
 pub returns-then-not-has : goal.returns-then-not-has

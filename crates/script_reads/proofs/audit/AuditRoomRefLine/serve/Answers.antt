@@ -4,7 +4,7 @@ use Rattle.script_databases.specs.declared.refusal.Refusal.TheVariants as why
 use Rattle.repl_target.specs.{audit_answer}
 use Rattle.script_reads.specs.{audit_asked, audit_text}
 use Rattle.script_reads.proofs.{finds_none}
-use Rattle.script_rooms.proofs.{passes, stops, is_found, is_missing, reads, printed, unless_memory, handed_on, refused_memory}
+use Rattle.command_api.proofs.{passes, stops, is_found, is_missing, reads, printed, unless_memory, handed_on, refused_memory}
 use Rattle.script_reads.proofs.audit.AuditRoomRefLine.serve.Goals as goal
 
 pub returns-in_default : goal.returns-in_default

@@ -2,9 +2,9 @@ use Rattle.proof_words.proofs.{◌++◌, Ok, Err, sym, ap, ◌∙◌, flat_map}
 use Rattle.couch_base.specs.{DatabaseValue, feed}
 use Rattle.script_engine.specs.{in_full, gave_up}
 use Rattle.script_databases.specs.declared.refusal.Refusal.TheVariants as why
-use Rattle.script_rooms.specs.{last_line}
+use Rattle.command_api.specs.{last_line}
 use Rattle.script_reads.specs.{row_line}
-use Rattle.script_rooms.proofs.{passes, stops, is_found, is_missing, reads, printed, refused_memory}
+use Rattle.command_api.proofs.{passes, stops, is_found, is_missing, reads, printed, refused_memory}
 use Rattle.script_reads.proofs.changes.ChangesRoomRefLine.serve.Goals as goal
 
 pub returns-in_default : goal.returns-in_default

@@ -4,7 +4,7 @@ use Rattle.script_engine.specs.{in_full}
 use Rattle.script_databases.specs.{peer_at}
 use Rattle.script_databases.specs.declared.refusal.Refusal.TheVariants as why
 use Rattle.script_reads.specs.{left_in, holds_in, compare_left, FitsCompare, Walk, CompareRest}
-use Rattle.script_rooms.proofs.{passes, stops, is_found, is_missing, reads, unless_memory}
+use Rattle.command_api.proofs.{passes, stops, is_found, is_missing, reads, unless_memory}
 use Rattle.script_reads.proofs.{Counted, compare_rest, left_found, holds_found, handed_from, memory_from}
 use Rattle.script_reads.proofs.compare.CompareLongRoomRefLine.begin.Goals as goal
 

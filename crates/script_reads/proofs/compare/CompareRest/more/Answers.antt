@@ -6,7 +6,7 @@ use Rattle.repl_survey.specs.{comparisons, total_of}
 use Rattle.script_databases.specs.{peer_at}
 use Rattle.script_reads.specs.{left_in, holds_in, rows_left, rows_walked, compared_line, compared_lines}
 use Rattle.script_reads.proofs.{Counted, compare_rest, left_found, holds_found, held_found}
-use Rattle.script_rooms.proofs.{piece_on, piece_last}
+use Rattle.command_api.proofs.{piece_on, piece_last}
 use Rattle.script_reads.proofs.compare.CompareRest.more.Goals as goal
 
 pub returns-then-branch-clause-piece : goal.returns-then-branch-clause-piece

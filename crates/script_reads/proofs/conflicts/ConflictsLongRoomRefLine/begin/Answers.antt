@@ -6,7 +6,7 @@ use Rattle.repl_survey.specs.{census_of, trees}
 use Rattle.script_engine.specs.{in_full}
 use Rattle.script_databases.specs.declared.refusal.Refusal.TheVariants as why
 use Rattle.script_reads.specs.{rows_left, conflict_line, conflicts_left, conflicts_line, FitsConflicts, ConflictsRest}
-use Rattle.script_rooms.proofs.{passes, stops, is_found, is_missing, reads}
+use Rattle.command_api.proofs.{passes, stops, is_found, is_missing, reads}
 use Rattle.script_reads.proofs.{left_found, holds_found, memory_from}
 use Rattle.script_reads.proofs.conflicts.ConflictsLongRoomRefLine.begin.Goals as goal
 

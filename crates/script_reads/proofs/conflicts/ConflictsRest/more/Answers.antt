@@ -6,7 +6,7 @@ use Rattle.repl_survey.specs.{census_of, trees, Census}
 use Rattle.repl_survey.proofs.{trees_all}
 use Rattle.script_reads.specs.{rows_left, rows_walked, conflict_line, conflicts_line, Walk}
 use Rattle.script_reads.proofs.{left_found, holds_found, held_found}
-use Rattle.script_rooms.proofs.{piece_on, piece_last}
+use Rattle.command_api.proofs.{piece_on, piece_last}
 use Rattle.script_reads.proofs.conflicts.ConflictsRest.more.Goals as goal
 
 abbrev conflicts_rest : DatabaseValue → Walk → List ℕ

@@ -5,7 +5,7 @@ use Rattle.couch_base.specs.{DatabaseValue, document_at}
 use Rattle.repl_peer.specs.{PeerValue}
 use Rattle.script_engine.specs.{in_full, gave_up}
 use Rattle.script_databases.specs.declared.refusal.Refusal.TheVariants as why
-use Rattle.script_rooms.proofs.{passes, stops, is_found, is_missing, reads, printed, unless_memory, tree_is, handed_on, refused_memory}
+use Rattle.command_api.proofs.{passes, stops, is_found, is_missing, reads, printed, unless_memory, tree_is, handed_on, refused_memory}
 use Rattle.script_reads.proofs.doc.DocRoomRefLine.serve.Goals as goal
 
 pub returns-in_default : goal.returns-in_default

@@ -2,9 +2,9 @@ use Rattle.proof_words.proofs.{Ok, Err, refl, sym, ap, ◌∙◌, ◌++◌, flat
 use Rattle.repl_peer.specs.{PeerValue}
 use Rattle.script_engine.specs.{in_full}
 use Rattle.script_databases.specs.declared.refusal.Refusal.TheVariants as why
-use Rattle.script_rooms.specs.{last_line}
+use Rattle.command_api.specs.{last_line}
 use Rattle.script_reads.specs.{rows_left, docs_left, leaf_lines, DocsRest}
-use Rattle.script_rooms.proofs.{passes, stops, is_found, is_missing, reads, unless_memory}
+use Rattle.command_api.proofs.{passes, stops, is_found, is_missing, reads, unless_memory}
 use Rattle.script_reads.proofs.{left_found, handed_from, memory_from}
 use Rattle.script_reads.proofs.docs.DocsLongRoomRefLine.begin.Goals as goal
 

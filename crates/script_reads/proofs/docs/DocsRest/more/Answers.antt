@@ -1,10 +1,10 @@
 use Rattle.proof_words.proofs.{◌≡◌, ◌++◌, ℕ, List, [], refl, sym, ap, subst, ◌∙◌, flat_map}
 use Rattle.couch_base.specs.{DatabaseValue}
 use Rattle.repl_peer.specs.{PeerValue}
-use Rattle.script_rooms.specs.{last_line}
+use Rattle.command_api.specs.{last_line}
 use Rattle.script_reads.specs.{rows_left, leaf_lines, Walk}
 use Rattle.script_reads.proofs.{left_found}
-use Rattle.script_rooms.proofs.{piece_on, piece_last}
+use Rattle.command_api.proofs.{piece_on, piece_last}
 use Rattle.script_reads.proofs.docs.DocsRest.more.Goals as goal
 
 abbrev docs_rest : DatabaseValue → Walk → List ℕ

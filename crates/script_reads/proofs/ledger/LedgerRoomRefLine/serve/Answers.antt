@@ -1,7 +1,7 @@
 use Rattle.proof_words.proofs.{Ok, Err, refl, sym, ap, ◌∙◌}
 use Rattle.script_engine.specs.{in_full, gave_up}
 use Rattle.script_databases.specs.declared.refusal.Refusal.TheVariants as why
-use Rattle.script_rooms.proofs.{passes, stops, is_found, is_missing, reads, printed, refused_memory}
+use Rattle.command_api.proofs.{passes, stops, is_found, is_missing, reads, printed, refused_memory}
 use Rattle.script_reads.proofs.ledger.LedgerRoomRefLine.serve.Goals as goal
 
 pub returns-in_default : goal.returns-in_default

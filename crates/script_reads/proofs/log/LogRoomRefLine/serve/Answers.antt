@@ -7,9 +7,9 @@ use Rattle.repl_peer.specs.{PeerValue, rep_between}
 use Rattle.script_engine.specs.{in_full, gave_up}
 use Rattle.script_databases.specs.{told_as, log_refusal}
 use Rattle.script_databases.specs.declared.refusal.Refusal.TheVariants as why
-use Rattle.script_rooms.specs.{ended}
+use Rattle.command_api.specs.{ended}
 use Rattle.script_reads.specs.{log_held, Side}
-use Rattle.script_rooms.proofs.{passes, stops, is_found, is_missing, reads, printed, unless_memory, handed_on, refused_memory}
+use Rattle.command_api.proofs.{passes, stops, is_found, is_missing, reads, printed, unless_memory, handed_on, refused_memory}
 use Rattle.script_reads.proofs.log.LogRoomRefLine.serve.Goals as goal
 
 pub returns-in_default : goal.returns-in_default

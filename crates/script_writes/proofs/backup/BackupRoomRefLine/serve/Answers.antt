@@ -3,7 +3,7 @@ use Rattle.repl_peer.specs.{BackupValue}
 use Rattle.script_engine.specs.{in_full, served_only}
 use Rattle.script_databases.specs.{State, backed_answer, backed_told, backed_by, Refusal}
 use Rattle.script_writes.specs.{BackupAsk, backup_asked, backup_done, backed_line}
-use Rattle.script_rooms.proofs.{passes, stops, does, does_nothing, both, printed, unless_memory, handed_on, refused_memory}
+use Rattle.command_api.proofs.{passes, stops, does, does_nothing, both, printed, unless_memory, handed_on, refused_memory}
 use Rattle.script_writes.proofs.backup.BackupRoomRefLine.serve.Goals as goal
 
 -- a copy that was kept

@@ -1,6 +1,6 @@
 use Rattle.proof_words.proofs.{ap}
 use Rattle.script_databases.specs.{Program}
-use Rattle.script_rooms.proofs.{taken_back}
+use Rattle.command_api.proofs.{taken_back}
 use Rattle.script_writes.proofs.edit.EditRoomRefLine.serve.Goals as goal
 
 pub returns : goal.returns

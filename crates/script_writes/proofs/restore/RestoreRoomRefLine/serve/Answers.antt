@@ -1,7 +1,7 @@
 use Rattle.proof_words.proofs.{refl, ◌∙◌}
 use Rattle.script_engine.specs.{in_full, served_only}
 use Rattle.script_writes.specs.{restored_line}
-use Rattle.script_rooms.proofs.{passes, stops, does, does_nothing, both, printed, unless_memory, handed_on, refused_memory}
+use Rattle.command_api.proofs.{passes, stops, does, does_nothing, both, printed, unless_memory, handed_on, refused_memory}
 use Rattle.script_writes.proofs.restore.RestoreRoomRefLine.serve.Goals as goal
 
 pub returns-in_err-back : goal.returns-in_err-back

@@ -1,7 +1,7 @@
 use Rattle.proof_words.proofs.{◌++◌, Ok, Err, refl, ap, ◌∙◌}
 use Rattle.script_engine.specs.{in_full, served_only}
 use Rattle.script_databases.specs.{name_of}
-use Rattle.script_rooms.proofs.{handed_on, refused_memory}
+use Rattle.command_api.proofs.{handed_on, refused_memory}
 use Rattle.script_writes.proofs.sync.BothWaysRoomRefLine.serve.Goals as goal
 
 pub returns-in_err-serve_replication : goal.returns-in_err-serve_replication

@@ -1,8 +1,0 @@
-use Rattle.proof_words.proofs.{◌≡◌, drop}
-use Rattle.json_values.specs.{line_items}
-use Rattle.script_rooms.specs.{are_texts}
-use Rattle.script_rooms.proofs.members.are_texts.Given as goal
-
--- each item so far is one
-abbrev pub invariant-loop-item : goal.invariant-loop-item
-invariant-loop-item l = are_texts (line_items (drop l.item-index l.item-items)) ≡ are_texts (line_items l.item-items)
