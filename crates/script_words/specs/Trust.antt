@@ -6,7 +6,7 @@ use Rattle.script_databases.specs.Databases.{State}
 use Rattle.script_databases.specs.declared.refusal.Refusal.{Refusal}
 use Rattle.script_words.specs.Script.{Asks, AnswersAsked}
 use Rattle.script_words.specs.words.{Asked, audit, replicate, sync}
-use Rattle.script_reads.specs.Audit.{IsClean}
+use Rattle.read_commands.specs.Audit.{IsClean}
 use Rattle.script_writes.specs.Replicate.{IsCovered}
 use Rattle.script_writes.specs.Sync.{IsMet}
 

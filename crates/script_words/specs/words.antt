@@ -11,19 +11,19 @@ use Rattle.command_api.specs.Checks.{needed, seen_as}
 use Rattle.command_api.specs.Members.{text_at}
 use Rattle.script_writes.specs.Load.{LoadAsk, load_in, Loads}
 use Rattle.script_writes.specs.Edit.{EditAsk, edit_in, Edits}
-use Rattle.script_reads.specs.Show.{ShowAsk, show_in, Shows}
-use Rattle.script_reads.specs.Doc.{DocAsk, doc_in, PrintsDocument}
-use Rattle.script_reads.specs.Changes.{ChangesAsk, changes_in, ListsChanges}
-use Rattle.script_reads.specs.Log.{LogAsk, log_in, Logs}
-use Rattle.script_reads.specs.Audit.{AuditAsk, audit_in, Audits}
+use Rattle.read_commands.specs.Show.{ShowAsk, show_in, Shows}
+use Rattle.read_commands.specs.Doc.{DocAsk, doc_in, PrintsDocument}
+use Rattle.read_commands.specs.Changes.{ChangesAsk, changes_in, ListsChanges}
+use Rattle.read_commands.specs.Log.{LogAsk, log_in, Logs}
+use Rattle.read_commands.specs.Audit.{AuditAsk, audit_in, Audits}
 use Rattle.script_writes.specs.Replicate.{ReplicateAsk, replicate_in, ReportsReplication}
 use Rattle.script_writes.specs.Backup.{BackupAsk, backup_in, BacksUp}
 use Rattle.script_writes.specs.Restore.{RestoreAsk, restore_in, Restores}
-use Rattle.script_reads.specs.Compare.{CompareAsk, compare_in, Compares}
-use Rattle.script_reads.specs.Conflicts.{ConflictsAsk, conflicts_in, ListsConflicts}
-use Rattle.script_reads.specs.Docs.{DocsAsk, docs_in, PrintsDocuments}
-use Rattle.script_reads.specs.Info.{InfoAsk, info_in, Informs}
-use Rattle.script_reads.specs.Ledger.{LedgerAsk, ledger_in, ListsLedger}
+use Rattle.read_commands.specs.Compare.{CompareAsk, compare_in, Compares}
+use Rattle.read_commands.specs.Conflicts.{ConflictsAsk, conflicts_in, ListsConflicts}
+use Rattle.read_commands.specs.Docs.{DocsAsk, docs_in, PrintsDocuments}
+use Rattle.read_commands.specs.Info.{InfoAsk, info_in, Informs}
+use Rattle.read_commands.specs.Ledger.{LedgerAsk, ledger_in, ListsLedger}
 use Rattle.script_writes.specs.Sync.{SyncAsk, sync_in, Syncs}
 use Rattle.script_words.specs.declared.words.Word.{Word}
 use Rattle.script_words.specs.declared.words.Word.TheVariants as word

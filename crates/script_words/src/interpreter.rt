@@ -12,7 +12,7 @@ ghost use Rattle.script_databases.specs.declared.refusal.Refusal.TheVariants.{Ba
 ghost use Rattle.script_engine.specs.Serving.{Fits, MayTell};
 ghost use Rattle.script_words.specs.Script.{IsNoObject, IsObject, LinesAnswer};
 ghost use Rattle.script_words.specs.Trust.{TrustedLines};
-ghost use Rattle.script_reads.specs.Rest.{FitsRest, told_begun};
+ghost use Rattle.read_commands.specs.Rest.{FitsRest, told_begun};
 ghost use Rattle.script_databases.specs.Stored.{program_of};
 
 use crate::attend::Attend;
@@ -20,7 +20,7 @@ use crate::words;
 use json_values::{Line, ReadFault, ValueReader};
 use script_databases::{Databases, Refusal, Settings};
 use script_engine::{ScriptFault, ScriptRead, ScriptWrite, Serve, leave, run_lines};
-use script_reads::Rest;
+use read_commands::Rest;
 use std::alloc::{AllocError, Global};
 use std::marker::Model;
 use std::mem;
@@ -50,7 +50,7 @@ impl<'a, H, L> Model for Interpreter<'a, H, L> {
 
 impl<'a, H: Threads + Wait + Sync, L: Attend> Serve for Interpreter<'a, H, L> {
     ghost use Rattle.std.specs.Thread.{IsSync};
-    ghost use Rattle.script_reads.specs.Rest.{FitsRest, rest_left};
+    ghost use Rattle.read_commands.specs.Rest.{FitsRest, rest_left};
 
     ghost can_serve = { IsSync H.row };
 

@@ -1,4 +1,4 @@
-use Rattle.script_reads.proofs.{piece_given}
+use Rattle.read_commands.proofs.{piece_given}
 use Rattle.script_words.proofs.interpreter.InterpreterServe.more.Goals as goal
 
 pub returns-clause-piece : goal.returns-clause-piece

@@ -1,7 +1,7 @@
 use Rattle.proof_words.proofs.{◌≤◌, length, subst, sym, Ok, Err}
 use Rattle.script_engine.specs.{MayTell, text_with}
 use Rattle.script_databases.specs.{State, name_of}
-use Rattle.script_reads.specs.{rest_left}
+use Rattle.read_commands.specs.{rest_left}
 use Rattle.script_words.specs.{LinesAnswer}
 use Rattle.script_words.proofs.{name_short}
 use Rattle.script_words.proofs.interpreter.InterpreterServe.serve.Goals as goal

@@ -1,0 +1,150 @@
+//! Rows of a database's changes feed, printed page by page, until a piece of an answer is full (docs/PROFILE.md, "Changes
+//! feed" and "Answers").
+ghost use Rattle.std.specs.Prelude.{◌≡◌, ◌++◌, ◌∷◌, ◌<◌, [], List, length, true, false, OnOk, IfOk};
+ghost use Rattle.std.specs.List.{flat_map};
+ghost use Rattle.couch_base.specs.Feed.{RowValue};
+ghost use Rattle.read_commands.specs.Walks.{rows_left};
+
+use couch_base::{Database, Row};
+use doc_json::Chosen;
+use std::alloc::{AllocError, Global};
+
+/// How many bytes a piece of an answer has at least, unless it is the last.
+const PIECE: usize = 65_536;
+
+/// How far a feed was walked.
+#[derive(Drop)]
+pub struct Walk {
+    /// The sequence above which rows are left.
+    pub since: u64,
+    /// The documents of which they are, where not of all.
+    pub chosen: Option<Chosen>,
+}
+
+/// What a word prints of a row of a feed, and what it counts of the rows.
+pub trait RowPrinter {
+    ghost use Rattle.std.specs.Prelude.{ℕ, List};
+    ghost use Rattle.couch_base.specs.Feed.{RowValue};
+
+    /// What is counted.
+    type Tally;
+
+    // What is printed of a row.
+    ghost row_text: { Self → RowValue → List ℕ };
+
+    // Whether what was counted is that of these rows.
+    ghost counts: { Self → Self.Tally → List RowValue → Type 0 } = { λ _ _ _. Unit {0} };
+
+    /// Prints a row, and counts it.
+    fn push_row(
+        &self,
+        alloc: Global,
+        answer: &mut Vec<u8>,
+        row: &Row,
+        tally: &mut Self::Tally,
+    ) -> Result<(), AllocError>
+        ensures text { OnOk result (answer.new.items ≡ answer.old.items ++ row_text self.now row.now) }
+        ensures counted { OnOk result ((earlier : List RowValue) → counts self.now tally.old earlier
+            → counts self.now tally.new (earlier ++ row.now ∷ [])) };
+}
+
+/// Nothing is counted.
+#[derive(Drop)]
+pub struct NoTally;
+
+/// Prints rows that are left, at most so many at a time, until the piece is full, and tells whether it is; else no rows
+/// are left.
+pub fn fill<P: RowPrinter>(
+    alloc: Global,
+    piece: &mut Vec<u8>,
+    database: &Database,
+    walk: &mut Walk,
+    limit: u64,
+    printer: &P,
+    tally: &mut P::Tally,
+) -> Result<bool, AllocError>
+    requires { 0 < limit }
+    ensures text { OnOk result (piece.new.items ++ flat_map (P.row_text printer.now) (rows_left database.now walk.new)
+        ≡ piece.old.items ++ flat_map (P.row_text printer.now) (rows_left database.now walk.old)) }
+    ensures chosen { OnOk result (walk.new.chosen ≡ walk.old.chosen) }
+    ensures full { IfOk result (λ more. more ≡ true → 0 < length piece.new.items) }
+    ensures end { IfOk result (λ more. more ≡ false → rows_left database.now walk.new ≡ []) }
+    ensures counted { OnOk result ((earlier : List RowValue) → P.counts printer.now tally.old earlier
+        → (later : List RowValue) × P.counts printer.now tally.new later
+        × (later ++ rows_left database.now walk.new ≡ earlier ++ rows_left database.now walk.old)) }
+{
+    let goal = database.update_seq();
+    while walk.since < goal {
+        if piece.len() >= PIECE {
+            return Ok(true);
+        }
+        step(alloc, piece, database, walk, limit, printer, tally)?;
+    }
+    Ok(false)
+}
+
+/// Prints all rows that are left, at most so many at a time.
+pub fn print_feed<P: RowPrinter>(
+    alloc: Global,
+    answer: &mut Vec<u8>,
+    database: &Database,
+    mut walk: Walk,
+    limit: u64,
+    printer: &P,
+    tally: &mut P::Tally,
+) -> Result<(), AllocError>
+    requires { 0 < limit }
+    ensures { OnOk result (answer.new.items
+        ≡ answer.old.items ++ flat_map (P.row_text printer.now) (rows_left database.now walk)) }
+{
+    let goal = database.update_seq();
+    while walk.since < goal {
+        step(alloc, answer, database, &mut walk, limit, printer, tally)?;
+    }
+    Ok(())
+}
+
+/// Prints the rows of a page, of at most so many.
+fn step<P: RowPrinter>(
+    alloc: Global,
+    piece: &mut Vec<u8>,
+    database: &Database,
+    walk: &mut Walk,
+    limit: u64,
+    printer: &P,
+    tally: &mut P::Tally,
+) -> Result<(), AllocError>
+    requires some { 0 < limit }
+    requires left { walk.old.since < database.now.update_seq }
+    ensures text { OnOk result (piece.new.items ++ flat_map (P.row_text printer.now) (rows_left database.now walk.new)
+        ≡ piece.old.items ++ flat_map (P.row_text printer.now) (rows_left database.now walk.old)) }
+    ensures chosen { OnOk result (walk.new.chosen ≡ walk.old.chosen) }
+    ensures on { OnOk result (walk.old.since < walk.new.since) }
+    ensures counted { OnOk result ((earlier : List RowValue) → P.counts printer.now tally.old earlier
+        → (later : List RowValue) × P.counts printer.now tally.new later
+        × (later ++ rows_left database.now walk.new ≡ earlier ++ rows_left database.now walk.old)) }
+{
+    let goal = database.update_seq();
+    let page = database.page_due(alloc, walk.since, goal, limit, walk.chosen.as_ref())?;
+    push_rows(alloc, piece, page.rows(), printer, tally)?;
+    walk.since = page.hi();
+    Ok(())
+}
+
+/// Prints rows.
+fn push_rows<P: RowPrinter>(
+    alloc: Global,
+    piece: &mut Vec<u8>,
+    rows: &[Row],
+    printer: &P,
+    tally: &mut P::Tally,
+) -> Result<(), AllocError>
+    ensures text { OnOk result (piece.new.items ≡ piece.old.items ++ flat_map (P.row_text printer.now) rows.now) }
+    ensures counted { OnOk result ((earlier : List RowValue) → P.counts printer.now tally.old earlier
+        → P.counts printer.now tally.new (earlier ++ rows.now)) }
+{
+    for row in rows {
+        printer.push_row(alloc, piece, row, tally)?;
+    }
+    Ok(())
+}

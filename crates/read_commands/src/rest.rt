@@ -1,0 +1,40 @@
+//! What is left of an answer that goes out in pieces (docs/PROFILE.md, "Answers").
+ghost use Rattle.std.specs.Prelude.{◌≡◌, ◌++◌, ◌<◌, [], length, true, if◌then◌else◌, OnOk, IfOk};
+ghost use Rattle.read_commands.specs.Rest.{FitsRest, rest_left};
+
+use crate::compare::CompareRest;
+use crate::conflicts::ConflictsRest;
+use crate::docs::DocsRest;
+use script_databases::Databases;
+use std::alloc::{AllocError, Global};
+
+/// What is left of an answer. It names the databases that it is about. It is small, since each line hands on one or none.
+#[derive(Drop)]
+pub enum Rest {
+    Compare(Box<CompareRest>),
+    Conflicts(Box<ConflictsRest>),
+    Docs(Box<DocsRest>),
+}
+
+impl Rest {
+    /// Adds to a piece until it is full, and tells whether more is left.
+    pub fn more(
+        &mut self,
+        alloc: Global,
+        databases: &Databases,
+        piece: &mut Vec<u8>,
+    ) -> Result<bool, AllocError>
+        requires fits { FitsRest databases.now self.old }
+        ensures piece { IfOk result
+            (λ more. piece.new.items ++ (if more then rest_left databases.now self.new else [])
+            ≡ piece.old.items ++ rest_left databases.now self.old) }
+        ensures some { IfOk result (λ more. more ≡ true → 0 < length piece.new.items) }
+        ensures fits { OnOk result (FitsRest databases.now self.new) }
+    {
+        match self {
+            Rest::Compare(rest) => rest.more(alloc, databases, piece),
+            Rest::Conflicts(rest) => rest.more(alloc, databases, piece),
+            Rest::Docs(rest) => rest.more(alloc, databases, piece),
+        }
+    }
+}

@@ -1,7 +1,0 @@
--- The documents so far have been printed.
-use Rattle.proof_words.proofs.{◌≡◌, ◌++◌, take, flat_map}
-use Rattle.script_reads.specs.{doc_line}
-use Rattle.script_reads.proofs.docs.push_documents.Given as goal
-
-abbrev pub invariant-loop-document : goal.invariant-loop-document
-invariant-loop-document l = l.answer.items ≡ l.fn.answer.items ++ flat_map doc_line (take l.document-index l.documents)

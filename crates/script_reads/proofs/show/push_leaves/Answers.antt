@@ -1,9 +1,0 @@
-use Rattle.proof_words.proofs.{ap, ◌∙◌, arith, both_ways, true_from_ne_false, list_all_at}
-use Rattle.rev_tree.specs.{has}
-use Rattle.script_reads.proofs.show.push_leaves.Goals as goal
-
--- what holds of all holds of each
-pub push_leaf-requires : goal.push_leaf-requires
-push_leaf-requires c =
-    ap (has c.args.tree.now) c.leaf-item.is
-    ∙ true_from_ne_false _ (λ no. both_ways _ (list_all_at (has c.args.tree.now) c.args.leaves.now c.loop-leaf.leaf-index _ (omega arith) no) c.requires)
