@@ -7,8 +7,8 @@ use Rattle.script_databases.specs.declared.refusal.Refusal.{Refusal}
 use Rattle.script_words.specs.Script.{Asks, AnswersAsked}
 use Rattle.script_words.specs.words.{Asked, audit, replicate, sync}
 use Rattle.read_commands.specs.Audit.{IsClean}
-use Rattle.script_writes.specs.Replicate.{IsCovered}
-use Rattle.script_writes.specs.Sync.{IsMet}
+use Rattle.write_commands.specs.Replicate.{IsCovered}
+use Rattle.write_commands.specs.Sync.{IsMet}
 
 -- what is told to an audit, to a replication, and to one each way
 abbrev pub IsTrusted : Asked → Told → State → Type 0

@@ -9,22 +9,22 @@ use Rattle.script_databases.specs.declared.refusal.Refusal.TheVariants as why
 use Rattle.rev_core.specs.Checks.{◌>>=◌}
 use Rattle.command_api.specs.Checks.{needed, seen_as}
 use Rattle.command_api.specs.Members.{text_at}
-use Rattle.script_writes.specs.Load.{LoadAsk, load_in, Loads}
-use Rattle.script_writes.specs.Edit.{EditAsk, edit_in, Edits}
+use Rattle.write_commands.specs.Load.{LoadAsk, load_in, Loads}
+use Rattle.write_commands.specs.Edit.{EditAsk, edit_in, Edits}
 use Rattle.read_commands.specs.Show.{ShowAsk, show_in, Shows}
 use Rattle.read_commands.specs.Doc.{DocAsk, doc_in, PrintsDocument}
 use Rattle.read_commands.specs.Changes.{ChangesAsk, changes_in, ListsChanges}
 use Rattle.read_commands.specs.Log.{LogAsk, log_in, Logs}
 use Rattle.read_commands.specs.Audit.{AuditAsk, audit_in, Audits}
-use Rattle.script_writes.specs.Replicate.{ReplicateAsk, replicate_in, ReportsReplication}
-use Rattle.script_writes.specs.Backup.{BackupAsk, backup_in, BacksUp}
-use Rattle.script_writes.specs.Restore.{RestoreAsk, restore_in, Restores}
+use Rattle.write_commands.specs.Replicate.{ReplicateAsk, replicate_in, ReportsReplication}
+use Rattle.write_commands.specs.Backup.{BackupAsk, backup_in, BacksUp}
+use Rattle.write_commands.specs.Restore.{RestoreAsk, restore_in, Restores}
 use Rattle.read_commands.specs.Compare.{CompareAsk, compare_in, Compares}
 use Rattle.read_commands.specs.Conflicts.{ConflictsAsk, conflicts_in, ListsConflicts}
 use Rattle.read_commands.specs.Docs.{DocsAsk, docs_in, PrintsDocuments}
 use Rattle.read_commands.specs.Info.{InfoAsk, info_in, Informs}
 use Rattle.read_commands.specs.Ledger.{LedgerAsk, ledger_in, ListsLedger}
-use Rattle.script_writes.specs.Sync.{SyncAsk, sync_in, Syncs}
+use Rattle.write_commands.specs.Sync.{SyncAsk, sync_in, Syncs}
 use Rattle.script_words.specs.declared.words.Word.{Word}
 use Rattle.script_words.specs.declared.words.Word.TheVariants as word
 

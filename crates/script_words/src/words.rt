@@ -13,7 +13,7 @@ use read_commands::{
     Audit, Changes, Compare, Conflicts, Doc, Docs, Info, Ledger, Log, Rest, Show, begin_in, whole,
 };
 use command_api::{serve_in, text_member};
-use script_writes::{Backup, BothWays, Edit, Load, Replicate, Restore};
+use write_commands::{Backup, BothWays, Edit, Load, Replicate, Restore};
 use std::alloc::Global;
 use std::sync::Wait;
 use std::thread::Threads;

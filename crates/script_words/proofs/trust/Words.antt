@@ -4,8 +4,8 @@ use Rattle.script_engine.specs.{Told}
 use Rattle.script_databases.specs.AllTied.{AllTied}
 use Rattle.script_databases.specs.{State, peer_at}
 use Rattle.script_words.specs.{Asked, WordsAnswer, load, edit, show, doc, changes, log, audit, replicate, backup, restore, compare, conflicts, docs, info, ledger, sync, IsTrusted}
-use Rattle.script_writes.specs.{both_of}
-use Rattle.script_writes.proofs.{loads_tied, edits_tied, backs_tied, restores_tied, reports_tied, syncs_tied}
+use Rattle.write_commands.specs.{both_of}
+use Rattle.write_commands.proofs.{loads_tied, edits_tied, backs_tied, restores_tied, reports_tied, syncs_tied}
 use Rattle.read_commands.proofs.{audits_clean}
 
 pub words_trusted : (old new : State) → AllTied old → (ask : Asked) (told : Told) → WordsAnswer old ask told new → AllTied new × IsTrusted ask told new

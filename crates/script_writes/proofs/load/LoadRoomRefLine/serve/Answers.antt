@@ -1,7 +1,0 @@
-use Rattle.proof_words.proofs.{ap}
-use Rattle.script_databases.specs.{Program}
-use Rattle.command_api.proofs.{taken_back}
-use Rattle.script_writes.proofs.load.LoadRoomRefLine.serve.Goals as goal
-
-pub returns : goal.returns
-returns g c = taken_back _ c.load_loud-served.result c.load_loud-served.new.answer.items _ (ap (λ (p : Program). p.quiet) c.settings.ensures) c.hush.ensures c.load_loud-served.ensures

@@ -1,0 +1,40 @@
+use Rattle.proof_words.proofs.{refl, sym, ap, ◌∙◌}
+use Rattle.couch_base.specs.{put_answer}
+use Rattle.repl_peer.specs.{PeerValue, new_peer, after_load}
+use Rattle.script_engine.specs.{in_full, gave_up, served_only}
+use Rattle.script_databases.specs.{with_peer, told_as, base_refusal}
+use Rattle.script_databases.proofs.{put_refused}
+use Rattle.write_commands.specs.{put_line}
+use Rattle.command_api.proofs.{passes, stops, does, does_nothing, both, gave_up_at, printed, unless_memory, handed_on, refused_memory}
+use Rattle.write_commands.proofs.load.make_with.Goals as goal
+
+pub returns-in_err-peer : goal.returns-in_err-peer
+returns-in_err-peer c = refused_memory c.from_residual.result _ c.from_residual.ensures.1 gave_up
+
+pub returns-in_err-put : goal.returns-in_err-put
+returns-in_err-put c =
+    let d = c.args.document.now in
+    let fault = c.in_err-put.field-0.0 in
+    let same = ap (λ (l : PeerValue). put_answer l.db d) c.in_ok-peer.ensures.0 in
+    handed_on (base_refusal fault) c.from_residual-in_err-put.result _ c.from_residual-in_err-put.ensures.1
+    (unless_memory _ (put_refused fault (put_answer (new_peer c.args.uuid).db d) (rw same at c.in_err-put.ensures.answer)) refl
+    (λ e. does_nothing (base_refusal fault) (stops _ e) refl))
+
+pub returns-in_err-add : goal.returns-in_err-add
+returns-in_err-add c = refused_memory c.from_residual-in_err-add.result _ c.from_residual-in_err-add.ensures.1 (gave_up_at c.in_err-add.ensures.err)
+
+pub returns : goal.returns
+returns c =
+    let d = c.args.document.now in
+    let answer = c.in_ok-put.ensures.answer ∙ ap (λ (l : PeerValue). put_answer l.db d) c.in_ok-peer.ensures.0 in
+    let state = c.in_ok-add.ensures.ok ∙ ap (with_peer c.args.databases.now c.args.db.now) (c.in_ok-put.ensures.ok ∙ ap (λ (l : PeerValue). after_load l d) c.in_ok-peer.ensures.0) in
+    let text = printed c.in_ok-print_put.ensures c.requires.empty refl in
+    in_full (does c.args.databases.now c.print_put.new.answer.items (passes _ (ap (told_as base_refusal) (sym answer)) ∙ both text state))
+
+pub returns-in_err-print_put : goal.returns-in_err-print_put
+returns-in_err-print_put c =
+    let d = c.args.document.now in
+    let answer = c.in_ok-put.ensures.answer ∙ ap (λ (l : PeerValue). put_answer l.db d) c.in_ok-peer.ensures.0 in
+    let state = c.in_ok-add.ensures.ok ∙ ap (with_peer c.args.databases.now c.args.db.now) (c.in_ok-put.ensures.ok ∙ ap (λ (l : PeerValue). after_load l d) c.in_ok-peer.ensures.0) in
+    let line = put_line c.args.db.now d c.in_ok-put.put in
+    refused_memory c.from_residual-in_err-print_put.result _ c.from_residual-in_err-print_put.ensures.1 (served_only line (does c.args.databases.now line (passes _ (ap (told_as base_refusal) (sym answer)) ∙ both refl state)))

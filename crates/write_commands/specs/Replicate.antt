@@ -1,0 +1,241 @@
+-- `replicate`: docs/PROFILE.md, "Command lines", "Order of checks" and "Answers".
+use Rattle.std.specs.Prelude.{◌≡◌, ◌⊎◌, ◌<◌, ◌≤◌, ℕ, Bool, true, false, List, [], ◌∷◌, ◌++◌, codes, decimal, Option, Some, None, unwrap_or, option_map, Result, Ok, Err}
+use Rattle.serde_json.specs.Data.{Data}
+use Rattle.serde_json.specs.Find.{as_bool}
+use Rattle.json_values.specs.LineView.{line_items}
+use Rattle.doc_json.specs.Chosen.{Choice}
+use Rattle.rev_tree.specs.declared.origin.SessionId.{SessionId}
+use Rattle.repl_log.specs.Text.{id_digits}
+use Rattle.pool_workers.specs.declared.fault.PoolFault.{PoolFault}
+use Rattle.repl_peer.specs.peer.Peer.{PeerValue}
+use Rattle.repl_peer.specs.declared.fault.Report.{Report}
+use Rattle.repl_peer.specs.declared.fault.TargetFault.{TargetFault}
+use Rattle.repl_target.specs.declared.replication.Plan.{Plan}
+use Rattle.script_engine.specs.Serving.{Told, Answering}
+use Rattle.script_databases.specs.AllTied.{CoversUpTo}
+use Rattle.script_databases.specs.Replications.{ReplicatesAlone, ReplicatesByPool, ReplicatesWatched}
+use Rattle.script_databases.specs.Databases.{Program, State, drawn_one, next_made}
+use Rattle.script_databases.specs.Refusals.{GivesOrMemory, run_stop_of, stop_of}
+use Rattle.script_databases.specs.declared.watched.Watched.{Watched}
+use Rattle.script_databases.specs.declared.refusal.Refusal.{Refusal}
+use Rattle.script_databases.specs.declared.refusal.Refusal.TheVariants as why
+use Rattle.rev_core.specs.Checks.{◌>>=◌}
+use Rattle.command_api.specs.Checks.{needed}
+use Rattle.command_api.specs.Given.{choice_given}
+use Rattle.command_api.specs.Members.{as_texts, as_uuid, as_whole, name_at, optional, texts_of, if_only}
+use Rattle.command_api.specs.Telling.{database_of, told_of, Refuses}
+use Rattle.command_api.specs.Texts.{ended}
+use Rattle.write_commands.specs.declared.replicate.Ending.{Ending}
+use Rattle.write_commands.specs.declared.replicate.Ending.TheVariants.{Done, Shown, Stopped}
+use Rattle.write_commands.specs.declared.replicate.Options.{Options}
+use Rattle.write_commands.specs.declared.replicate.Replicate.{Replicate}
+
+-- ---- what it asks
+
+-- the replication from one database into another, of some documents or of all
+pub record ReplicateAsk : Type 0 where
+  pub source : List ℕ
+  pub target : List ℕ
+  pub doc_ids : Option (List (List ℕ))
+  pub options : Options
+
+abbrev pub replicate_asked : Replicate → ReplicateAsk
+replicate_asked ask = record {
+  source = ask.source.now;
+  target = ask.target.now;
+  doc_ids = option_map (λ v. texts_of (line_items v.now.items)) ask.doc_ids;
+  options = ask.options;
+}
+
+-- what is left out is None, and `alone` and `progress` are false then
+abbrev pub options_in : Data → Result Options Refusal
+options_in d = do
+  session ← needed (optional as_uuid (codes "session") d)
+  workers ← needed (optional as_whole (codes "workers") d)
+  batch ← needed (optional as_whole (codes "batch") d)
+  at ← needed (optional as_whole (codes "at") d)
+  stop_after ← needed (optional as_whole (codes "stop_after") d)
+  alone ← needed (optional as_bool (codes "alone") d)
+  progress ← needed (optional as_bool (codes "progress") d)
+  Ok (record {
+    session = session;
+    workers = workers;
+    batch = batch;
+    at = at;
+    stop_after = stop_after;
+    alone = unwrap_or alone false;
+    progress = unwrap_or progress false;
+  })
+
+abbrev pub replicate_keys : List (List ℕ)
+replicate_keys =
+    codes "do" ∷ codes "source" ∷ codes "target" ∷ codes "doc_ids" ∷ codes "session" ∷ codes "workers" ∷ codes "batch"
+    ∷ codes "at" ∷ codes "stop_after" ∷ codes "alone" ∷ codes "progress" ∷ []
+
+abbrev pub replicate_in : Data → Result ReplicateAsk Refusal
+replicate_in d = do
+  source ← needed (name_at (codes "source") d)
+  target ← needed (name_at (codes "target") d)
+  doc_ids ← needed (optional as_texts (codes "doc_ids") d)
+  options ← options_in d
+  needed (if_only replicate_keys d (record {
+    source = source;
+    target = target;
+    doc_ids = doc_ids;
+    options = options;
+  }))
+
+-- ---- what it prints
+
+-- from where a session read, and up to where all is done
+abbrev pub session_part : Report → List ℕ
+session_part r =
+    codes "session " ++ id_digits r.session.0 ++ codes " from " ++ decimal r.start ++ codes " to " ++ decimal r.recorded
+
+-- how many leaves it checked, and how many of them were missing
+abbrev pub checked_part : Report → List ℕ
+checked_part r = codes " checked " ++ decimal r.counts.checked ++ codes " found " ++ decimal r.counts.found
+
+-- how many documents it read, wrote and failed to write
+abbrev pub documents_part : Report → List ℕ
+documents_part r =
+    codes " read " ++ decimal r.counts.read ++ codes " written " ++ decimal r.counts.written ++ codes " failed " ++ decimal r.counts.failures
+
+-- what a session did
+abbrev pub report_line : Report → List ℕ
+report_line r = ended (session_part r ++ checked_part r ++ documents_part r)
+
+-- how many documents a board showed as settled, of those that it showed as read
+abbrev pub progress_line : Watched → List ℕ
+progress_line w = ended (codes "progress " ++ decimal w.settled ++ codes " of " ++ decimal w.read)
+
+-- how far a session came that its plan stopped
+abbrev pub stopped_line : SessionId → ℕ → List ℕ
+stopped_line session low_water = ended (codes "stopped " ++ id_digits session.0 ++ codes " at " ++ decimal low_water)
+
+abbrev pub ending_line : SessionId → Ending → List ℕ
+ending_line session (Done report) = report_line report
+ending_line session (Shown watched) = progress_line watched ++ report_line watched.report
+ending_line session (Stopped low_water) = stopped_line session low_water
+
+-- ---- its plan
+
+-- the last moment
+abbrev pub last_second : ℕ
+last_second = 253402300799
+
+-- the moment, which is the program's where a line names none
+abbrev pub moment_of : Program → Options → ℕ
+moment_of program options = unwrap_or options.at program.at
+
+-- a session's id is the given one, or else the next made one, which is drawn
+abbrev pub session_of : State → Options → ℕ
+session_of s options = unwrap_or options.session (next_made s)
+
+abbrev pub with_drawn : State → Option ℕ → State
+with_drawn s (Some given) = s
+with_drawn s None = drawn_one s
+
+abbrev pub with_session : State → Options → State
+with_session s options = with_drawn s options.session
+
+-- what a line leaves out is the program's
+abbrev pub plan_with : Program → Options → ℕ → Choice → Plan
+plan_with program options session chosen = record {
+  session = record { 0 = session };
+  workers = unwrap_or options.workers program.workers;
+  batch = unwrap_or options.batch program.batch;
+  stop_after = options.stop_after;
+  at = moment_of program options;
+  chosen = chosen;
+}
+
+-- the plan of a line
+abbrev pub plan_of : State → Options → Choice → Plan
+plan_of s options chosen = plan_with s.program options (session_of s options) chosen
+
+-- ---- what it does
+
+-- by one thread: a replication that its plan stopped is not refused
+abbrev pub ending_of : Result Report TargetFault → Result Ending Refusal
+ending_of (Ok report) = Ok (Done report)
+ending_of (Err fault) = do
+  low_water ← stop_of fault
+  Ok (Stopped low_water)
+
+-- by the pool
+abbrev pub ending_of_run : Result Report PoolFault → Result Ending Refusal
+ending_of_run (Ok report) = Ok (Done report)
+ending_of_run (Err fault) = do
+  low_water ← run_stop_of fault
+  Ok (Stopped low_water)
+
+-- by the pool, watched
+abbrev pub ending_of_watched : Result Watched PoolFault → Result Ending Refusal
+ending_of_watched (Ok watched) = Ok (Shown watched)
+ending_of_watched (Err fault) = ending_of_run (Err fault)
+
+-- how a replication ended by one thread, where the line says so; else by the pool, with a board where the line asks for
+-- progress
+abbrev pub EndsBy : Bool → Bool → State → List ℕ → List ℕ → PeerValue → PeerValue → Plan → Result Ending Refusal → State
+    → Type 0
+EndsBy true progress old source target s t plan ending new =
+    (result : Result Report TargetFault) × ReplicatesAlone old source target s t plan result new
+    × (ending ≡ ending_of result)
+EndsBy false true old source target s t plan ending new =
+    (result : Result Watched PoolFault) × ReplicatesWatched old source target s t plan result new
+    × (ending ≡ ending_of_watched result)
+EndsBy false false old source target s t plan ending new =
+    (result : Result Report PoolFault) × ReplicatesByPool old source target s t plan result new
+    × (ending ≡ ending_of_run result)
+
+abbrev pub replicated_text : SessionId → Result Ending Refusal → Result (List ℕ) Refusal
+replicated_text session ended = do
+  ending ← ended
+  Ok (ending_line session ending)
+
+-- of the chosen documents of two databases that are there, where the choice isn't refused
+abbrev pub ReplicatesChosen : State → ReplicateAsk → PeerValue × PeerValue → Result Choice Refusal → Told → State
+    → Type 0
+ReplicatesChosen old ask both (Ok chosen) told new =
+    (last_second < moment_of old.program ask.options) × Refuses why.BadMoment (with_session old ask.options) told new
+    ⊎ (moment_of old.program ask.options ≤ last_second) × (ending : Result Ending Refusal)
+    × EndsBy ask.options.alone ask.options.progress (with_session old ask.options) ask.source ask.target both.0 both.1
+    (plan_of old ask.options chosen) ending new
+    × (told ≡ told_of (replicated_text (plan_of old ask.options chosen).session ending))
+ReplicatesChosen old ask both (Err refusal) told new = Refuses refusal (with_session old ask.options) told new
+
+-- the session's id is drawn before the choice is made, which may find no memory
+abbrev pub ReplicatesBoth : State → ReplicateAsk → PeerValue × PeerValue → Told → State → Type 0
+ReplicatesBoth old ask both told new =
+    (chosen : Result Choice Refusal) × GivesOrMemory chosen (choice_given ask.doc_ids)
+    × ReplicatesChosen old ask both chosen told new
+
+abbrev pub ReplicatesFound : State → ReplicateAsk → Result (PeerValue × PeerValue) Refusal → Told → State → Type 0
+ReplicatesFound old ask (Ok both) told new = ReplicatesBoth old ask both told new
+ReplicatesFound old ask (Err refusal) told new = Refuses refusal old told new
+
+abbrev pub both_of : State → ReplicateAsk → Result (PeerValue × PeerValue) Refusal
+both_of s ask = do
+  source ← database_of s ask.source
+  target ← database_of s ask.target
+  Ok (source, target)
+
+abbrev pub ReportsReplication : Answering State ReplicateAsk
+ReportsReplication old ask told new = ReplicatesFound old ask (both_of old ask) told new
+
+-- ---- what it may be trusted for: docs/PROFILE.md, "Tied databases"
+
+-- a session that was not stopped, and is told to have come to n: that is the source's update sequence, and the target
+-- covers each leaf of the source's chosen feed
+abbrev pub CoversIfDone : State → List ℕ → List ℕ → Choice → Ending → Type 0
+CoversIfDone s source target chosen (Done report) = CoversUpTo s source target chosen report.recorded
+CoversIfDone s source target chosen (Shown watched) = CoversUpTo s source target chosen watched.report.recorded
+CoversIfDone s source target chosen (Stopped low_water) = Unit {0}
+
+-- a replication is answered with the line of an ending, of which that is so, unless the line is refused
+abbrev pub IsCovered : State → ReplicateAsk → Told → Type 0
+IsCovered s ask (Ok text) =
+    (session : SessionId) × (ending : Ending) × (chosen : Choice) × (text ≡ ending_line session ending)
+    × (choice_given ask.doc_ids ≡ Ok chosen) × CoversIfDone s ask.source ask.target chosen ending
+IsCovered s ask (Err name) = Unit {0}

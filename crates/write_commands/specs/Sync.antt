@@ -1,0 +1,95 @@
+-- `sync`: docs/PROFILE.md, "Command lines" and "Answers".
+use Rattle.std.specs.Prelude.{◌≡◌, ℕ, false, List, [], ◌∷◌, ◌++◌, codes, Option, None, unwrap_or, Result, Ok, Err}
+use Rattle.serde_json.specs.Data.{Data}
+use Rattle.serde_json.specs.Find.{as_bool}
+use Rattle.script_engine.specs.Serving.{Told, Answering, MayTell}
+use Rattle.script_databases.specs.AllTied.{AllTied}
+use Rattle.script_databases.specs.Databases.{State}
+use Rattle.script_databases.specs.declared.refusal.Refusal.{Refusal}
+use Rattle.rev_core.specs.Checks.{◌>>=◌}
+use Rattle.command_api.specs.Checks.{needed}
+use Rattle.command_api.specs.Members.{as_texts, as_uuid, as_whole, name_at, optional, if_only}
+use Rattle.write_commands.specs.Replicate.{ReplicateAsk, ReportsReplication, IsCovered, replicate_asked}
+use Rattle.write_commands.specs.declared.replicate.Options.{Options}
+use Rattle.write_commands.specs.declared.sync.BothWays.{BothWays}
+use Rattle.write_commands.specs.declared.sync.Shared.{Shared}
+
+-- ---- what it asks
+
+-- a replication there, and one back
+pub record SyncAsk : Type 0 where
+  pub there : ReplicateAsk
+  pub back : ReplicateAsk
+
+abbrev pub sync_asked : BothWays → SyncAsk
+sync_asked ask = record { there = replicate_asked ask.there; back = replicate_asked ask.back }
+
+-- what is said of both ways: what is left out is None, and `alone` is false then
+abbrev pub shared_in : Data → Result Shared Refusal
+shared_in d = do
+  workers ← needed (optional as_whole (codes "workers") d)
+  batch ← needed (optional as_whole (codes "batch") d)
+  at ← needed (optional as_whole (codes "at") d)
+  alone ← needed (optional as_bool (codes "alone") d)
+  Ok (record { workers = workers; batch = batch; at = at; alone = unwrap_or alone false })
+
+-- what that says of one way: no plan stops it, and its progress is not told
+abbrev pub way_options : Shared → Option ℕ → Options
+way_options shared session = record {
+  session = session;
+  alone = shared.alone;
+  workers = shared.workers;
+  batch = shared.batch;
+  at = shared.at;
+  stop_after = None;
+  progress = false;
+}
+
+-- from one of two databases into the other
+abbrev pub way : List ℕ → List ℕ → Option (List (List ℕ)) → Options → ReplicateAsk
+way source target doc_ids options = record { source = source; target = target; doc_ids = doc_ids; options = options }
+
+abbrev pub sync_keys : List (List ℕ)
+sync_keys =
+    codes "do" ∷ codes "a" ∷ codes "b" ∷ codes "doc_ids" ∷ codes "there" ∷ codes "back" ∷ codes "workers" ∷ codes "batch"
+    ∷ codes "at" ∷ codes "alone" ∷ []
+
+abbrev pub sync_in : Data → Result SyncAsk Refusal
+sync_in d = do
+  a ← needed (name_at (codes "a") d)
+  b ← needed (name_at (codes "b") d)
+  doc_ids ← needed (optional as_texts (codes "doc_ids") d)
+  there ← needed (optional as_uuid (codes "there") d)
+  back ← needed (optional as_uuid (codes "back") d)
+  shared ← shared_in d
+  needed (if_only sync_keys d (record {
+    there = way a b doc_ids (way_options shared there);
+    back = way b a doc_ids (way_options shared back);
+  }))
+
+-- ---- what it does
+
+-- one answer behind another: the text of both, or the second's refusal
+abbrev pub both_told : List ℕ → Told → Told
+both_told text (Ok more) = Ok (text ++ more)
+both_told text (Err name) = Err name
+
+-- behind what the way there is told: the way back, unless that one was refused
+abbrev pub SyncsBack : State → SyncAsk → Told → Told → State → Type 0
+SyncsBack mid ask (Ok text) told new =
+    (second : Told) × MayTell ReportsReplication mid ask.back second new × (told ≡ both_told text second)
+SyncsBack mid ask (Err name) told new = (told ≡ Err name) × (new ≡ mid)
+
+-- what two lines of `replicate` may be told, one behind the other
+abbrev pub Syncs : Answering State SyncAsk
+Syncs old ask told new =
+    (first : Told) × (mid : State) × MayTell ReportsReplication old ask.there first mid × SyncsBack mid ask first told new
+
+-- ---- what it may be trusted for: docs/PROFILE.md, "Tied databases"
+
+-- between its two ways all databases are tied, and each way may be trusted for what a replication may
+abbrev pub IsMet : State → SyncAsk → Told → Type 0
+IsMet new ask (Ok text) =
+    (mid : State) × (first : List ℕ) × (second : List ℕ) × (text ≡ first ++ second) × AllTied mid
+    × IsCovered mid ask.there (Ok first) × IsCovered new ask.back (Ok second)
+IsMet new ask (Err name) = Unit {0}

@@ -1,0 +1,317 @@
+//! `load`: a database is made, or a document is put into one.
+ghost use Rattle.std.specs.Prelude.{◌≡◌, ◌++◌, [], None, Some, OnOk, IfOk, IfErr, option_map};
+ghost use Rattle.json_values.specs.LineView.{line_view};
+ghost use Rattle.script_engine.specs.Serving.{MayTell};
+ghost use Rattle.script_databases.specs.Databases.{IsTaken, drawn_one, next_made, peer_at};
+ghost use Rattle.script_databases.specs.declared.refusal.Refusal.TheVariants.{UuidTaken};
+ghost use Rattle.command_api.specs.Telling.{told_by};
+ghost use Rattle.write_commands.specs.Load.{LoadsLoud, LoadsNamed, LoadsNew, document_part, load_asked, loaded_line, made_line, put_line, same_line, there_line};
+
+use couch_base::Put;
+use doc_json::Doc;
+use json_values::{Line, LinePart};
+use script_databases::{Databases, Refusal};
+use command_api::{
+    Room, has_only_members, hush, name_member, optional_uuid, push_json, push_number, push_rev,
+    read_document,
+};
+use std::alloc::{AllocError, Global};
+use std::sync::Wait;
+use std::thread::Threads;
+
+/// What a `load` line asks.
+#[derive(Drop)]
+pub struct Load<'v, 'a> {
+    pub db: &'v str,
+    /// The number of the UUID of a database that is made.
+    pub uuid: Option<u128>,
+    pub doc: Option<LinePart<'v, 'a>>,
+}
+
+impl<'v, 'a> Room<&'v Line<'a>> for Load<'v, 'a> {
+    ghost use Rattle.write_commands.specs.Load.{LoadAsk, Loads, load_asked, load_in};
+
+    ghost seen = { λ line. line_view line.now };
+
+    ghost Ask = { LoadAsk };
+
+    ghost asked = { load_asked };
+
+    ghost asked_in = { load_in };
+
+    ghost answers = { Loads };
+
+    fn read(line: &'v Line<'a>) -> Option<Load<'v, 'a>> {
+        let value = line.value();
+        let db = name_member(value, "db")?;
+        let uuid = optional_uuid(value, "uuid")?;
+        if !has_only_members(value, &["do", "db", "uuid", "doc"]) {
+            return None;
+        }
+        let doc = line.get("doc");
+        Some(Load { db, uuid, doc })
+    }
+
+    /// Serves `load`. Where the program is quiet, what is done is answered nothing.
+    fn serve<H: Threads + Wait + Sync>(
+        &self,
+        _rt: &H,
+        alloc: Global,
+        databases: &mut Databases,
+        answer: &mut Vec<u8>,
+    ) -> Result<(), Refusal> {
+        let quiet = databases.settings().quiet;
+        let served = load_loud(alloc, databases, self, answer);
+        hush(answer, quiet);
+        served
+    }
+}
+
+/// Loads. A UUID is given only for a database that is new.
+fn load_loud(
+    alloc: Global,
+    databases: &mut Databases,
+    ask: &Load<'_, '_>,
+    answer: &mut Vec<u8>,
+) -> Result<(), Refusal>
+    requires empty { answer.old.items ≡ [] }
+    ensures { MayTell LoadsLoud databases.old (load_asked ask.now) (told_by result answer.new.items) databases.new }
+{
+    match ask.uuid {
+        Some(uuid) => load_given(alloc, databases, ask.db, uuid, &ask.doc, answer),
+        None => load_named(alloc, databases, ask.db, &ask.doc, answer),
+    }
+}
+
+/// Makes a database with a UUID: that none has the name is looked at first, then that none has the UUID.
+fn load_given(
+    alloc: Global,
+    databases: &mut Databases,
+    db: &str,
+    uuid: u128,
+    doc: &Option<LinePart<'_, '_>>,
+    answer: &mut Vec<u8>,
+) -> Result<(), Refusal>
+    requires empty { answer.old.items ≡ [] }
+    ensures { MayTell LoadsLoud databases.old
+        (record { db = db.now; uuid = Some uuid; doc = option_map line_view doc.now })
+        (told_by result answer.new.items) databases.new }
+{
+    if databases.has(db) {
+        return Err(Refusal::DatabaseExists);
+    }
+    if databases.is_taken(uuid) {
+        return Err(Refusal::UuidTaken);
+    }
+    match read_document(alloc, doc)? {
+        None => make_empty(alloc, databases, db, uuid, answer),
+        Some(document) => make_with(alloc, databases, db, uuid, &document, answer),
+    }
+}
+
+/// Loads into the database of a name, or where none has it, into one that is made. The document is read before it is
+/// known which.
+fn load_named(
+    alloc: Global,
+    databases: &mut Databases,
+    db: &str,
+    doc: &Option<LinePart<'_, '_>>,
+    answer: &mut Vec<u8>,
+) -> Result<(), Refusal>
+    requires empty { answer.old.items ≡ [] }
+    ensures { MayTell LoadsLoud databases.old
+        (record { db = db.now; uuid = None; doc = option_map line_view doc.now })
+        (told_by result answer.new.items) databases.new }
+{
+    match read_document(alloc, doc)? {
+        None => open(alloc, databases, db, answer),
+        Some(document) => put(alloc, databases, db, &document, answer),
+    }
+}
+
+/// Makes a database of no documents, where none has the name.
+fn open(
+    alloc: Global,
+    databases: &mut Databases,
+    db: &str,
+    answer: &mut Vec<u8>,
+) -> Result<(), Refusal>
+    requires empty { answer.old.items ≡ [] }
+    ensures { MayTell LoadsNamed databases.old (record { db = db.now; doc = None })
+        (told_by result answer.new.items) databases.new }
+{
+    if databases.has(db) {
+        print_there(answer, db)?;
+        return Ok(());
+    }
+    let uuid = draw_free(databases)?;
+    make_empty(alloc, databases, db, uuid, answer)
+}
+
+/// Puts a document into the database of a name, or where none has it, into one that is made.
+///
+/// Only where the put is refused it is asked whether one has the name, so that a document that is put costs one look-up.
+fn put(
+    alloc: Global,
+    databases: &mut Databases,
+    db: &str,
+    document: &Doc,
+    answer: &mut Vec<u8>,
+) -> Result<(), Refusal>
+    requires empty { answer.old.items ≡ [] }
+    ensures { MayTell LoadsNamed databases.old (record { db = db.now; doc = Some document.now })
+        (told_by result answer.new.items) databases.new }
+{
+    match databases.load(db, document) {
+        Ok(put) => {
+            print_put(answer, db, document, put)?;
+            Ok(())
+        }
+        Err(refusal) => {
+            if databases.has(db) {
+                return Err(refusal);
+            }
+            put_new(alloc, databases, db, document, answer)
+        }
+    }
+}
+
+/// Puts a document into a database that is made.
+fn put_new(
+    alloc: Global,
+    databases: &mut Databases,
+    db: &str,
+    document: &Doc,
+    answer: &mut Vec<u8>,
+) -> Result<(), Refusal>
+    requires empty { answer.old.items ≡ [] }
+    requires absent { peer_at databases.old db.now ≡ None }
+    ensures { MayTell LoadsNamed databases.old (record { db = db.now; doc = Some document.now })
+        (told_by result answer.new.items) databases.new }
+{
+    let uuid = draw_free(databases)?;
+    make_with(alloc, databases, db, uuid, document, answer)
+}
+
+/// Draws the UUID of a database that is made.
+///
+/// `UuidTaken` where a database has it.
+fn draw_free(databases: &mut Databases) -> Result<u128, Refusal>
+    ensures drawn { databases.new ≡ drawn_one databases.old }
+    ensures ok { IfOk result
+        (λ uuid. (uuid ≡ next_made databases.old) × (IsTaken (drawn_one databases.old) uuid → ⊥)) }
+    ensures err { IfErr result
+        (λ why. (why ≡ UuidTaken) × IsTaken (drawn_one databases.old) (next_made databases.old)) }
+{
+    let uuid = databases.draw();
+    if databases.is_taken(uuid) {
+        return Err(Refusal::UuidTaken);
+    }
+    Ok(uuid)
+}
+
+/// Makes a database of no documents.
+fn make_empty(
+    alloc: Global,
+    databases: &mut Databases,
+    db: &str,
+    uuid: u128,
+    answer: &mut Vec<u8>,
+) -> Result<(), Refusal>
+    requires empty { answer.old.items ≡ [] }
+    requires absent { peer_at databases.old db.now ≡ None }
+    ensures { MayTell LoadsNew databases.old (record { db = db.now; uuid = uuid; doc = None })
+        (told_by result answer.new.items) databases.new }
+{
+    let peer = databases.make(alloc, uuid)?;
+    databases.add(alloc, db, peer)?;
+    print_made(answer, db)?;
+    Ok(())
+}
+
+/// Makes a database with a document.
+fn make_with(
+    alloc: Global,
+    databases: &mut Databases,
+    db: &str,
+    uuid: u128,
+    document: &Doc,
+    answer: &mut Vec<u8>,
+) -> Result<(), Refusal>
+    requires empty { answer.old.items ≡ [] }
+    requires absent { peer_at databases.old db.now ≡ None }
+    ensures { MayTell LoadsNew databases.old (record { db = db.now; uuid = uuid; doc = Some document.now })
+        (told_by result answer.new.items) databases.new }
+{
+    let mut peer = databases.make(alloc, uuid)?;
+    let put = peer.load(document)?;
+    databases.add(alloc, db, peer)?;
+    print_put(answer, db, document, put)?;
+    Ok(())
+}
+
+/// Prints that a database was made.
+fn print_made(answer: &mut Vec<u8>, db: &str) -> Result<(), AllocError>
+    ensures { OnOk result (answer.new.items ≡ answer.old.items ++ made_line db.now) }
+{
+    answer.extend_from_slice(b"made ")?;
+    answer.extend_from_slice(db.as_bytes())?;
+    answer.push(b'\n')?;
+    Ok(())
+}
+
+/// Prints that a database is there.
+fn print_there(answer: &mut Vec<u8>, db: &str) -> Result<(), AllocError>
+    ensures { OnOk result (answer.new.items ≡ answer.old.items ++ there_line db.now) }
+{
+    answer.extend_from_slice(b"there ")?;
+    answer.extend_from_slice(db.as_bytes())?;
+    answer.push(b'\n')?;
+    Ok(())
+}
+
+/// Prints what putting a document did.
+fn print_put(answer: &mut Vec<u8>, db: &str, document: &Doc, put: Put) -> Result<(), AllocError>
+    ensures { OnOk result (answer.new.items ≡ answer.old.items ++ put_line db.now document.now put) }
+{
+    match put {
+        Put::Changed { seq } => print_loaded(answer, db, document, seq),
+        Put::Same => print_same(answer, db, document),
+    }
+}
+
+/// Prints that putting a document changed something.
+fn print_loaded(answer: &mut Vec<u8>, db: &str, document: &Doc, seq: u64) -> Result<(), AllocError>
+    ensures { OnOk result (answer.new.items ≡ answer.old.items ++ loaded_line db.now document.now seq) }
+{
+    answer.extend_from_slice(b"loaded ")?;
+    answer.extend_from_slice(db.as_bytes())?;
+    answer.push(b' ')?;
+    push_document(answer, document)?;
+    answer.extend_from_slice(b" seq ")?;
+    push_number(answer, seq)?;
+    answer.push(b'\n')?;
+    Ok(())
+}
+
+/// Prints that putting a document changed nothing.
+fn print_same(answer: &mut Vec<u8>, db: &str, document: &Doc) -> Result<(), AllocError>
+    ensures { OnOk result (answer.new.items ≡ answer.old.items ++ same_line db.now document.now) }
+{
+    answer.extend_from_slice(b"same ")?;
+    answer.extend_from_slice(db.as_bytes())?;
+    answer.push(b' ')?;
+    push_document(answer, document)?;
+    answer.push(b'\n')?;
+    Ok(())
+}
+
+/// Prints a document's id, and its newest revision.
+fn push_document(answer: &mut Vec<u8>, document: &Doc) -> Result<(), AllocError>
+    ensures { OnOk result (answer.new.items ≡ answer.old.items ++ document_part document.now) }
+{
+    let rev = document.ancestry().head();
+    push_json(answer, document.id().text())?;
+    answer.push(b' ')?;
+    push_rev(answer, &rev)
+}

@@ -1,0 +1,78 @@
+//! `restore`: a database put back to a copy of it.
+ghost use Rattle.std.specs.Prelude.{◌≡◌, ◌++◌, OnOk};
+ghost use Rattle.json_values.specs.LineView.{line_view};
+ghost use Rattle.write_commands.specs.Restore.{left_part, restored_line};
+
+use json_values::Line;
+use script_databases::{Databases, PutBack, Refusal};
+use command_api::{Room, has_only_members, name_member, push_number};
+use std::alloc::{AllocError, Global};
+use std::sync::Wait;
+use std::thread::Threads;
+
+/// What a `restore` line asks.
+#[derive(Drop)]
+pub struct Restore<'a> {
+    pub db: &'a str,
+    /// The name of the copy, among those of the database.
+    pub name: &'a str,
+}
+
+impl<'v, 'a> Room<&'v Line<'a>> for Restore<'v> {
+    ghost use Rattle.write_commands.specs.Restore.{RestoreAsk, Restores, restore_asked, restore_in};
+
+    ghost seen = { λ line. line_view line.now };
+
+    ghost Ask = { RestoreAsk };
+
+    ghost asked = { restore_asked };
+
+    ghost asked_in = { restore_in };
+
+    ghost answers = { Restores };
+
+    fn read(line: &'v Line<'a>) -> Option<Restore<'v>> {
+        let value = line.value();
+        let db = name_member(value, "db")?;
+        let name = name_member(value, "name")?;
+        if !has_only_members(value, &["do", "db", "name"]) {
+            return None;
+        }
+        Some(Restore { db, name })
+    }
+
+    /// Serves `restore`.
+    fn serve<H: Threads + Wait + Sync>(
+        &self,
+        _rt: &H,
+        _alloc: Global,
+        databases: &mut Databases,
+        answer: &mut Vec<u8>,
+    ) -> Result<(), Refusal> {
+        let back = databases.put_back(self.db, self.name)?;
+        print(answer, self.db, self.name, back)?;
+        Ok(())
+    }
+}
+
+/// Prints the two names, and the database's update sequence and life.
+fn print(answer: &mut Vec<u8>, db: &str, name: &str, back: PutBack) -> Result<(), AllocError>
+    ensures { OnOk result (answer.new.items ≡ answer.old.items ++ restored_line db.now name.now back) }
+{
+    answer.extend_from_slice(b"restored ")?;
+    answer.extend_from_slice(db.as_bytes())?;
+    answer.extend_from_slice(b" ")?;
+    answer.extend_from_slice(name.as_bytes())?;
+    push_left(answer, back)?;
+    answer.extend_from_slice(b"\n")
+}
+
+/// Adds the update sequence and the life of a database that was put back.
+fn push_left(answer: &mut Vec<u8>, back: PutBack) -> Result<(), AllocError>
+    ensures { OnOk result (answer.new.items ≡ answer.old.items ++ left_part back) }
+{
+    answer.extend_from_slice(b" at ")?;
+    push_number(answer, back.seq)?;
+    answer.extend_from_slice(b" life ")?;
+    push_number(answer, back.life)
+}

@@ -1,0 +1,129 @@
+//! `sync`: a replication each way between two databases.
+ghost use Rattle.std.specs.Prelude.{◌≡◌};
+ghost use Rattle.json_values.specs.LineView.{line_view};
+ghost use Rattle.command_api.specs.Checks.{needed};
+ghost use Rattle.write_commands.specs.Sync.{shared_in, way_options};
+
+use crate::replicate::{Options, Replicate, serve_replication};
+use json_values::{Line, LineValue};
+use script_databases::{Databases, Refusal};
+use command_api::{
+    Room, has_only_members, name_member, optional_flag, optional_texts, optional_uuid,
+    optional_whole,
+};
+use std::alloc::Global;
+use std::sync::Wait;
+use std::thread::Threads;
+
+/// What a `sync` line asks: a replication there, from `a` into `b`, and one back.
+#[derive(Drop)]
+pub struct BothWays<'v, 'a> {
+    pub there: Replicate<'v, 'a>,
+    pub back: Replicate<'v, 'a>,
+}
+
+/// What a line says of both of its ways.
+#[derive(Clone, Copy, Debug, PartialEq, Eq)]
+pub struct Shared {
+    /// How many workers fetch, and how many write.
+    pub workers: Option<u64>,
+    /// How many rows a window has at most.
+    pub batch: Option<u64>,
+    /// When it takes place, in seconds since 1970.
+    pub at: Option<u64>,
+    /// Whether each way is to have one thread.
+    pub alone: bool,
+}
+
+impl<'v, 'a> Room<&'v Line<'a>> for BothWays<'v, 'a> {
+    ghost use Rattle.write_commands.specs.Sync.{SyncAsk, Syncs, sync_asked, sync_in};
+
+    ghost seen = { λ line. line_view line.now };
+
+    ghost Ask = { SyncAsk };
+
+    ghost asked = { sync_asked };
+
+    ghost asked_in = { sync_in };
+
+    ghost answers = { Syncs };
+
+    fn read(line: &'v Line<'a>) -> Option<BothWays<'v, 'a>> {
+        let value = line.value();
+        let a = name_member(value, "a")?;
+        let b = name_member(value, "b")?;
+        let doc_ids = optional_texts(value, "doc_ids")?;
+        let there = optional_uuid(value, "there")?;
+        let back = optional_uuid(value, "back")?;
+        let shared = shared_of(value)?;
+        if !has_only_members(
+            value,
+            &[
+                "do", "a", "b", "doc_ids", "there", "back", "workers", "batch", "at", "alone",
+            ],
+        ) {
+            return None;
+        }
+        Some(BothWays {
+            there: Replicate {
+                source: a,
+                target: b,
+                doc_ids,
+                options: options_of(&shared, there),
+            },
+            back: Replicate {
+                source: b,
+                target: a,
+                doc_ids,
+                options: options_of(&shared, back),
+            },
+        })
+    }
+
+    /// Serves `sync`: the way back is not begun where the way there is refused. It waits, where the line does not ask for
+    /// one thread.
+    fn serve<H: Threads + Wait + Sync>(
+        &self,
+        rt: &H,
+        alloc: Global,
+        databases: &mut Databases,
+        answer: &mut Vec<u8>,
+    ) -> Result<(), Refusal> {
+        serve_replication(rt, alloc, databases, &self.there, answer)?;
+        let mut behind = Vec::new(alloc);
+        serve_replication(rt, alloc, databases, &self.back, &mut behind)?;
+        answer.extend_from_slice(behind.as_slice())?;
+        Ok(())
+    }
+}
+
+/// What an object says of both ways.
+fn shared_of(value: &LineValue<'_>) -> Option<Shared>
+    ensures { needed result ≡ shared_in (line_view value.now) }
+{
+    let workers = optional_whole(value, "workers")?;
+    let batch = optional_whole(value, "batch")?;
+    let at = optional_whole(value, "at")?;
+    let alone = optional_flag(value, "alone")?.unwrap_or(false);
+    Some(Shared {
+        workers,
+        batch,
+        at,
+        alone,
+    })
+}
+
+/// What is said of one way, whose session has that id: it is stopped by no plan, and its progress is not told.
+fn options_of(shared: &Shared, session: Option<u128>) -> Options
+    ensures { result ≡ way_options shared.now session }
+{
+    Options {
+        session,
+        alone: shared.alone,
+        workers: shared.workers,
+        batch: shared.batch,
+        at: shared.at,
+        stop_after: None,
+        progress: false,
+    }
+}
