@@ -8,7 +8,7 @@ use Rattle.script_engine.specs.declared.fault.ScriptFault.{ScriptFault}
 use Rattle.script_engine.specs.declared.fault.ScriptFault.TheVariants.{Read}
 use Rattle.script_databases.specs.Databases.{Program, State, no_databases}
 use Rattle.script_databases.specs.Stored.{program_of}
-use Rattle.script_words.specs.Trust.{TrustedLines}
+use Rattle.commands.specs.Trust.{TrustedLines}
 use Rattle.couch_replicate.specs.Options.{Says, Refuses}
 use Rattle.couch_replicate.specs.declared.options.Options.{Options}
 use Rattle.couch_replicate.specs.declared.run.Ended.{Ended}

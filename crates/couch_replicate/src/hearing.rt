@@ -6,7 +6,7 @@ use json_values::{ValueReader, is_same_text};
 use script_databases::Settings;
 use script_engine::Listen;
 use script_explanations::explain;
-use script_words::Attend;
+use commands::Attend;
 use std::alloc::{AllocError, Global};
 use std::io::Eprint;
 use std::rt::Clock;

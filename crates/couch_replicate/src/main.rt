@@ -1,7 +1,7 @@
 //! A program that runs scripts of commands on document databases in memory.
 //!
 //! What a script is stands in docs/PROFILE.md, "Command lines" and "Answers". Its lines are taken in by
-//! `script_engine`, and served by `script_words` over `script_databases`; here stand the command line, the standard
+//! `script_engine`, and served by `commands` over `script_databases`; here stand the command line, the standard
 //! streams and the exit status.
 #![tactic(auto)]
 

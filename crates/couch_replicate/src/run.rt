@@ -5,7 +5,7 @@ ghost use Rattle.couch_replicate.specs.RunWords.{RunsWords};
 use crate::hearing::Hearing;
 use crate::options::{NoSettings, read_words};
 use script_engine::{ScriptFault, ScriptRead, ScriptWrite};
-use script_words::run_script;
+use commands::run_script;
 use std::io::Eprint;
 use std::rt::Clock;
 use std::sync::Wait;

@@ -2,7 +2,7 @@ use Rattle.proof_words.proofs.{◌≡◌, ℕ, List, Bool, Option, Result, Ok, E
 use Rattle.script_engine.specs.{Gives, IsToldUntil, AnswersEnded, IsAnswered, ScriptFault}
 use Rattle.script_engine.specs.declared.fault.ScriptFault.TheVariants.{Read}
 use Rattle.script_databases.specs.{Program, State, no_databases}
-use Rattle.script_words.specs.{TrustedLines}
+use Rattle.commands.specs.{TrustedLines}
 use Rattle.couch_replicate.specs.{Answered}
 use Rattle.couch_replicate.proofs.run.run_words.Goals as goal
 

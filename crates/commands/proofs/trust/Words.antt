@@ -3,7 +3,7 @@ use Rattle.proof_words.proofs.{refl, sym, subst}
 use Rattle.script_engine.specs.{Told}
 use Rattle.script_databases.specs.AllTied.{AllTied}
 use Rattle.script_databases.specs.{State, peer_at}
-use Rattle.script_words.specs.{Asked, WordsAnswer, load, edit, show, doc, changes, log, audit, replicate, backup, restore, compare, conflicts, docs, info, ledger, sync, IsTrusted}
+use Rattle.commands.specs.{Asked, WordsAnswer, load, edit, show, doc, changes, log, audit, replicate, backup, restore, compare, conflicts, docs, info, ledger, sync, IsTrusted}
 use Rattle.write_commands.specs.{both_of}
 use Rattle.write_commands.proofs.{loads_tied, edits_tied, backs_tied, restores_tied, reports_tied, syncs_tied}
 use Rattle.read_commands.proofs.{audits_clean}

@@ -4,8 +4,8 @@ ghost use Rattle.std.specs.Prelude.{◌≡◌, [], IfOk};
 ghost use Rattle.json_values.specs.LineView.{line_view};
 ghost use Rattle.script_engine.specs.Serving.{Fits, MayTell};
 ghost use Rattle.read_commands.specs.Rest.{FitsRest, told_begun};
-ghost use Rattle.script_words.specs.Script.{AnswersAsked};
-ghost use Rattle.script_words.specs.words.{asked_if, asked_in};
+ghost use Rattle.commands.specs.Script.{AnswersAsked};
+ghost use Rattle.commands.specs.words.{asked_if, asked_in};
 
 use json_values::{Line, LineValue, is_same_text};
 use script_databases::{Databases, Refusal};

@@ -2,9 +2,9 @@ use Rattle.proof_words.proofs.{◌≤◌, length, subst, sym, Ok, Err}
 use Rattle.script_engine.specs.{MayTell, text_with}
 use Rattle.script_databases.specs.{State, name_of}
 use Rattle.read_commands.specs.{rest_left}
-use Rattle.script_words.specs.{LinesAnswer}
-use Rattle.script_words.proofs.{name_short}
-use Rattle.script_words.proofs.interpreter.InterpreterServe.serve.Goals as goal
+use Rattle.commands.specs.{LinesAnswer}
+use Rattle.commands.proofs.{name_short}
+use Rattle.commands.proofs.interpreter.InterpreterServe.serve.Goals as goal
 
 pub returns-clause-told : goal.returns-clause-told
 returns-clause-told g c =

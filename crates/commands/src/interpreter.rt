@@ -10,8 +10,8 @@ ghost use Rattle.script_engine.specs.declared.fault.ScriptFault.TheVariants.{Rea
 ghost use Rattle.script_databases.specs.Databases.{State, no_databases};
 ghost use Rattle.script_databases.specs.declared.refusal.Refusal.TheVariants.{BadLine, Memory};
 ghost use Rattle.script_engine.specs.Serving.{Fits, MayTell};
-ghost use Rattle.script_words.specs.Script.{IsNoObject, IsObject, LinesAnswer};
-ghost use Rattle.script_words.specs.Trust.{TrustedLines};
+ghost use Rattle.commands.specs.Script.{IsNoObject, IsObject, LinesAnswer};
+ghost use Rattle.commands.specs.Trust.{TrustedLines};
 ghost use Rattle.read_commands.specs.Rest.{FitsRest, told_begun};
 ghost use Rattle.script_databases.specs.Stored.{program_of};
 

@@ -9,7 +9,7 @@ use Rattle.script_databases.specs.Databases.{State}
 use Rattle.script_databases.specs.declared.refusal.Refusal.{Refusal}
 use Rattle.script_databases.specs.declared.refusal.Refusal.TheVariants as why
 use Rattle.command_api.specs.Telling.{AnswersIn}
-use Rattle.script_words.specs.words.{Asked, asked_in, WordsAnswer}
+use Rattle.commands.specs.words.{Asked, asked_in, WordsAnswer}
 
 -- the line is this JSON object
 abbrev pub IsObject : List ℕ → Members → Type 0

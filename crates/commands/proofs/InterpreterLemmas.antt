@@ -5,8 +5,8 @@ use Rattle.script_engine.specs.declared.fault.ScriptFault.TheVariants.{Read}
 use Rattle.script_databases.specs.{State, name_of, Refusal}
 use Rattle.script_databases.specs.declared.refusal.Refusal.TheVariants as whys
 use Rattle.script_databases.specs.AllTied.{AllTied}
-use Rattle.script_words.specs.{LinesAnswer, TrustedLines}
-use Rattle.script_words.proofs.trust.Lines.{answered_trusted, ended_trusted, until_trusted}
+use Rattle.commands.specs.{LinesAnswer, TrustedLines}
+use Rattle.commands.proofs.trust.Lines.{answered_trusted, ended_trusted, until_trusted}
 
 -- the state that is left is one
 pub some_state : (old s new : State) (l h h' : Option (List ℕ)) (r : Result Bool ScriptFault) → old ≡ s → IfOk r (λ clean. (input : List ℕ) × (text : List ℕ) × Gives l input × Appends h h' text × IsAnswered LinesAnswer old input clean text new) →

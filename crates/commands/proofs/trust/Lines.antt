@@ -4,8 +4,8 @@ use Rattle.script_engine.specs.{AnswersEnded, AnswersFirst, IsAnswered, IsAnswer
 use Rattle.script_engine.specs.declared.fault.ScriptFault.TheVariants.{Cut, Memory, Read, Write}
 use Rattle.script_databases.specs.AllTied.{AllTied}
 use Rattle.script_databases.specs.{State, Refusal}
-use Rattle.script_words.specs.{AnswersAsked, Asks, LinesAnswer, Asked, TrustedLines}
-use Rattle.script_words.proofs.trust.Words.{words_trusted}
+use Rattle.commands.specs.{AnswersAsked, Asks, LinesAnswer, Asked, TrustedLines}
+use Rattle.commands.proofs.trust.Words.{words_trusted}
 
 line_trusted : (old new : State) → AllTied old → (line : List ℕ) (told : Told) → LinesAnswer old line told new → TrustedLines old line told new
 line_trusted old new h line told (asked, asks, answers) = go asked asks answers

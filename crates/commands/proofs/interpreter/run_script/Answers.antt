@@ -2,8 +2,8 @@ use Rattle.proof_words.proofs.{refl}
 use Rattle.script_engine.specs.declared.fault.ScriptFault.TheVariants.{Memory}
 use Rattle.script_engine.proofs.{LeavesAs-memory, IsFaultOf-left, SoFar-not_begun, not_read}
 use Rattle.script_databases.proofs.{none_are_tied}
-use Rattle.script_words.proofs.{some_end, some_state, some_trust, same_start, same_trust, until_trusted}
-use Rattle.script_words.proofs.interpreter.run_script.Goals as goal
+use Rattle.commands.proofs.{some_end, some_state, some_trust, same_start, same_trust, until_trusted}
+use Rattle.commands.proofs.interpreter.run_script.Goals as goal
 
 pub returns-in-Err-clause-fault : goal.returns-in-Err-clause-fault
 returns-in-Err-clause-fault g c =

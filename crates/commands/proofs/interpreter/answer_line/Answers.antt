@@ -2,10 +2,10 @@ use Rattle.proof_words.proofs.{◌≡◌, ◌⊎◌, inl, inr, ℕ, List, Err, r
 use Rattle.script_engine.specs.{MayTell, in_full, gave_up}
 use Rattle.script_databases.specs.{State, name_of, Refusal}
 use Rattle.script_databases.specs.declared.refusal.Refusal.TheVariants as why
-use Rattle.script_words.specs.{IsNoObject, LinesAnswer, asked_in}
+use Rattle.commands.specs.{IsNoObject, LinesAnswer, asked_in}
 use Rattle.json_values.specs.{line_view}
 use Rattle.command_api.proofs.{may_tell}
-use Rattle.script_words.proofs.interpreter.answer_line.Goals as goal
+use Rattle.commands.proofs.interpreter.answer_line.Goals as goal
 
 -- a line that is no object, or for which memory was wanting
 line_refused : (old : State) (line : List ℕ) (refusal : Refusal) → (refusal ≡ why.Memory) ⊎ ((refusal ≡ why.BadLine) × IsNoObject line) → MayTell LinesAnswer old line (Err (name_of refusal)) old

@@ -25,8 +25,8 @@ use Rattle.read_commands.specs.Docs.{DocsAsk, docs_in, PrintsDocuments}
 use Rattle.read_commands.specs.Info.{InfoAsk, info_in, Informs}
 use Rattle.read_commands.specs.Ledger.{LedgerAsk, ledger_in, ListsLedger}
 use Rattle.write_commands.specs.Sync.{SyncAsk, sync_in, Syncs}
-use Rattle.script_words.specs.declared.words.Word.{Word}
-use Rattle.script_words.specs.declared.words.Word.TheVariants as word
+use Rattle.commands.specs.declared.words.Word.{Word}
+use Rattle.commands.specs.declared.words.Word.TheVariants as word
 
 -- what a line asks: a word, with what it names
 pub data Asked : Type 0 where

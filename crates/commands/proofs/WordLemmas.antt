@@ -3,7 +3,7 @@ use Rattle.proof_words.proofs.{Result, Ok, Err}
 use Rattle.script_engine.specs.{Told, Answering, MayTell}
 use Rattle.script_databases.specs.{State, Refusal}
 use Rattle.command_api.specs.{seen_as, AnswersIn}
-use Rattle.script_words.specs.{AnswersAsked, Asked, WordsAnswer}
+use Rattle.commands.specs.{AnswersAsked, Asked, WordsAnswer}
 use Rattle.command_api.proofs.{may_tell}
 
 -- what a word's room answers, the line is told

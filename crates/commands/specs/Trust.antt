@@ -4,8 +4,8 @@ use Rattle.script_engine.specs.Serving.{Told, Answering}
 use Rattle.script_databases.specs.AllTied.{AllTied}
 use Rattle.script_databases.specs.Databases.{State}
 use Rattle.script_databases.specs.declared.refusal.Refusal.{Refusal}
-use Rattle.script_words.specs.Script.{Asks, AnswersAsked}
-use Rattle.script_words.specs.words.{Asked, audit, replicate, sync}
+use Rattle.commands.specs.Script.{Asks, AnswersAsked}
+use Rattle.commands.specs.words.{Asked, audit, replicate, sync}
 use Rattle.read_commands.specs.Audit.{IsClean}
 use Rattle.write_commands.specs.Replicate.{IsCovered}
 use Rattle.write_commands.specs.Sync.{IsMet}
