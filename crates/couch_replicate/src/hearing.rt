@@ -5,7 +5,7 @@ use crate::seen::Seen;
 use json_values::{ValueReader, is_same_text};
 use script_databases::Settings;
 use script_engine::Listen;
-use script_explanations::explain;
+use error_messages::explain;
 use commands::Attend;
 use std::alloc::{AllocError, Global};
 use std::io::Eprint;

@@ -1,6 +1,6 @@
 //! What is told of a refused line.
 ghost use Rattle.std.specs.Prelude.{◌≡◌, ℕ, ◌++◌, List, OnOk};
-ghost use Rattle.script_explanations.specs.Told.{AddsTo, IsTold, beginning};
+ghost use Rattle.error_messages.specs.Told.{AddsTo, IsTold, beginning};
 
 use crate::commands::{CommandFault, fault_of};
 use crate::places::push_place;

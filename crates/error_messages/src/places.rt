@@ -1,6 +1,6 @@
 //! Where in a line a refusal stands: the document, its member, or the databases.
 ghost use Rattle.std.specs.Prelude.{OnOk};
-ghost use Rattle.script_explanations.specs.Told.{AddsTo};
+ghost use Rattle.error_messages.specs.Told.{AddsTo};
 
 use crate::texts::{push_named, push_words};
 use doc_json::has_fraction;
