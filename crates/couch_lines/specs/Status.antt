@@ -1,7 +1,7 @@
 -- The exit status of the program: docs/PROFILE.md, "Options of `couch_lines`".
 use Rattle.std.specs.Prelude.{ℕ, ◌==◌, Bool, true, false, cond, Result, Ok, Err}
 use Rattle.clap.specs.Words.{kind_of}
-use Rattle.program_shell.specs.Status.{kind_status}
+use Rattle.cli_common.specs.Status.{kind_status}
 use Rattle.script_engine.specs.declared.fault.ScriptFault.{ScriptFault}
 use Rattle.script_engine.specs.declared.fault.ScriptFault.TheVariants as faults
 use Rattle.couch_wording.specs.declared.run.AnswerFault.{AnswerFault}

@@ -4,7 +4,7 @@ use Rattle.std.specs.List.{list_all}
 use Rattle.std.specs.Str.Parse.{without_leading_plus, IsNumeral, digits_value}
 use Rattle.clap.specs.Words.{App, HasKind, Rule, fault_of, first_of, one_of, matches_of, new_rule, with_rule}
 use Rattle.clap.specs.declared.builder.action.ArgAction.TheVariants.{Set}
-use Rattle.program_shell.specs.Words.{IsFlag, flag_option, hidden_option, program_app}
+use Rattle.cli_common.specs.Words.{IsFlag, flag_option, hidden_option, program_app}
 use Rattle.couch_lines.specs.declared.tasks.Named.{Named}
 use Rattle.couch_lines.specs.declared.tasks.Named.TheVariants as named
 use Rattle.couch_lines.specs.declared.tasks.Task.{Task}

@@ -6,7 +6,7 @@ ghost use Rattle.couch_lines.specs.Tasks.{Says, Refuses, SaysBy, RefusesBy, task
 
 use crate::tasks::{Named, Task, task_of};
 use clap::{Arg, ArgAction, ArgMatches, Command, Error};
-use program_shell::{find, flag, hidden_word, program};
+use cli_common::{find, flag, hidden_word, program};
 use std::alloc::{AllocError, Global};
 
 /// What the program says of itself.

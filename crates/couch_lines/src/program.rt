@@ -7,7 +7,7 @@ use crate::run::{Ended, Run, run_words};
 use crate::tasks::Named;
 use couch_answers::Refusal;
 use couch_wording::AnswerFault;
-use program_shell::{BAD_COMMAND_LINE, tell_no_memory, tell_no_words, tell_words, words_of};
+use cli_common::{BAD_COMMAND_LINE, tell_no_memory, tell_no_words, tell_words, words_of};
 use script_engine::{OverRead, OverWrite, ScriptFault, ScriptWrite};
 use std::env::Env;
 use std::io::{Eprint, Input, Print};

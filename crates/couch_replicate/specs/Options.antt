@@ -4,7 +4,7 @@ use Rattle.std.specs.Str.Parse.{without_leading_plus, IsNumeral, digits_value}
 use Rattle.clap.specs.Words.{App, HasKind, Rule, fault_of, first_of, one_of, matches_of, new_rule, with_rule}
 use Rattle.clap.specs.declared.builder.action.ArgAction.TheVariants.{Set}
 use Rattle.clap.specs.declared.builder.value_parser.ValueParser.TheVariants as vp
-use Rattle.program_shell.specs.Words.{IsFlag, flag_option, hidden_option, program_app}
+use Rattle.cli_common.specs.Words.{IsFlag, flag_option, hidden_option, program_app}
 use Rattle.script_databases.specs.declared.settings.Settings.{Settings}
 use Rattle.couch_replicate.specs.declared.options.NoSettings.{NoSettings}
 use Rattle.couch_replicate.specs.declared.options.Options.{Options}

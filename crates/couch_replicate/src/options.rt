@@ -5,7 +5,7 @@ ghost use Rattle.couch_replicate.specs.declared.options.NoSettings.TheVariants.{
 ghost use Rattle.couch_replicate.specs.Options.{AreOptions, AreSettings, IsNumber, Refuses, Says, deny_option, number_option, options, SetNothing};
 
 use clap::{Arg, ArgAction, ArgMatches, Command, Error, value_parser};
-use program_shell::{find, flag, hidden_word, program};
+use cli_common::{find, flag, hidden_word, program};
 use script_databases::Settings;
 use std::alloc::{AllocError, Global};
 

@@ -4,7 +4,7 @@ ghost use Rattle.couch_replicate.specs.Status.{ended_status, status_of};
 
 use crate::options::NoSettings;
 use crate::run::{Ended, run_words};
-use program_shell::{BAD_COMMAND_LINE, tell_no_memory, tell_no_words, tell_words, words_of};
+use cli_common::{BAD_COMMAND_LINE, tell_no_memory, tell_no_words, tell_words, words_of};
 use script_engine::{OverRead, OverWrite, ScriptFault};
 use std::env::Env;
 use std::io;

@@ -1,7 +1,7 @@
 use Rattle.proof_words.proofs.{ap, refl, subst, subst₂, ◌≡◌, ◌∙◌, true, map, string_bytes, List, ℕ, codes, Result, Ok, Err, IfOk, IfErr}
 use Rattle.clap.specs.Words.{HasKind, fault_of, is_simple_and_free}
 use Rattle.clap.proofs.OnLiterals.{clap_on_literals}
-use Rattle.program_shell.specs.{IsFound}
+use Rattle.cli_common.specs.{IsFound}
 use Rattle.couch_lines.specs.{command_line, SaysBy, RefusesBy, Refused, Refuses, Task, NoTask}
 use Rattle.couch_lines.specs.declared.options.NoTask.TheVariants.{Words, Unknown, Wrong, Memory}
 use Rattle.couch_lines.proofs.options.read_words.Goals as goal

@@ -1,7 +1,7 @@
 use Rattle.proof_words.proofs.{ap, refl, subst, subst₂, ◌≡◌, ◌∙◌, true, map, string_bytes, List, ℕ, Result, Ok, Err, IfOk, IfErr}
 use Rattle.clap.specs.Words.{HasKind, fault_of, first_of, is_simple_and_free, matches_of, one_of}
 use Rattle.clap.proofs.OnLiterals.{clap_on_literals}
-use Rattle.program_shell.specs.{IsFound}
+use Rattle.cli_common.specs.{IsFound}
 use Rattle.couch_replicate.specs.{options, AreOptions, Refuses, SetNothing, NoSettings}
 use Rattle.couch_replicate.specs.declared.options.NoSettings.TheVariants.{Words, NoNumber, File, Memory}
 use Rattle.couch_replicate.specs.declared.options.Options.{Options}

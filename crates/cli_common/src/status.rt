@@ -1,7 +1,7 @@
 //! How a program begins and ends: its words, and its exit status where they ask for nothing.
 ghost use Rattle.std.specs.Prelude.{◌≡◌, ◌≤◌};
 ghost use Rattle.clap.specs.Words.{kind_of};
-ghost use Rattle.program_shell.specs.Status.{kind_status};
+ghost use Rattle.cli_common.specs.Status.{kind_status};
 
 use clap::Error;
 use clap::error::ErrorKind;

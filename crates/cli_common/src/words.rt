@@ -1,7 +1,7 @@
 //! The command line: its parts, and what is found of them.
 ghost use Rattle.std.specs.Prelude.{◌≡◌, IfOk, IfErr, map, string_bytes, true, false};
 ghost use Rattle.clap.specs.Words.{HasKind, app_of, fault_of, is_simple_and_free, rule_of};
-ghost use Rattle.program_shell.specs.Words.{IsFound, flag_option, hidden_option, program_app};
+ghost use Rattle.cli_common.specs.Words.{IsFound, flag_option, hidden_option, program_app};
 
 use clap::{Arg, ArgAction, ArgMatches, Command, Error};
 use std::alloc::Global;

@@ -3,7 +3,7 @@ use Rattle.clap.specs.Words.{app_of}
 use Rattle.clap.specs.Simple.{app_of_fields, on_top}
 use Rattle.clap.specs.declared.builder.command.Command.{Command}
 use Rattle.clap.specs.declared.builder.command.Command.TheViews.{out-Command}
-use Rattle.program_shell.proofs.words.program.Goals as goal
+use Rattle.cli_common.proofs.words.program.Goals as goal
 
 -- texts are no part of what is read
 with_about : (x y : Command) (text : Option (Bor (List ℕ))) → out-Command y ≡ record (out-Command x) { about = text } → app_of y ≡ app_of x
