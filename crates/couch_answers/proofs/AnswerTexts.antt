@@ -1,6 +1,6 @@
 -- Answers of CouchDB's forms are read as the documents that they hold.
 use Rattle.proof_words.proofs.{◌≡◌, ℕ, ◌+◌, ◌<◌, ◌==◌, ◌&&◌, nat_lt, List, [], ◌∷◌, ◌++◌, Bool, true, false, cond, refl, sym, ap, subst, ◌∙◌, append-nil, arith, inr}
-use Rattle.document_texts.specs.{Spaces}
+use Rattle.doc_envelope.specs.{Spaces}
 use Rattle.couch_answers.specs.{wants_documents, is_strict, start, is_plain, after, pieces, Piece, IsValue, IsNamed, Holds, document, IsObject, no_members, with_members, itself, IsMembers, last_value, value, last_list, IsList, no_items, with_items, IsItems, last_item, item, AreAnswers, no_more, of_object, of_list, IsAnswered, object_first, list_first, Place, Name}
 use Rattle.couch_answers.specs.State.{State}
 use Rattle.couch_answers.specs.Grammar as grammar

@@ -1,6 +1,6 @@
 -- Single bytes of answers, from a place on, where documents are wanted.
 use Rattle.proof_words.proofs.{◌≡◌, ℕ, ◌+◌, ◌-◌, ◌==◌, ◌&&◌, nat_lt, length, List, [], ◌∷◌, ◌++◌, Bool, true, false, cond, refl, sym, subst, arith, Some, and_right}
-use Rattle.document_texts.specs.{is_space, is_json, IsPlain, is_log}
+use Rattle.doc_envelope.specs.{is_space, is_json, IsPlain, is_log}
 use Rattle.couch_answers.specs.{wants_documents, wants_leaves, wants_changes, is_strict, covered, name_of, is_plain, step, given, Piece, Holds, document, no_object, of_passed, of_last, of_other, Place, Name}
 use Rattle.couch_answers.specs.State.{State}
 use Rattle.couch_answers.specs.declared.place.Place.TheVariants.{Start, Begin, Between, Item, NextItem, AfterItem, Member, NextMember, AfterMember, Key, KeyEscape, Colon, List as ListPlace, Value, Quoted, Escaped}

@@ -1,6 +1,6 @@
 -- A script's answers are read as the changes among them.
 use Rattle.proof_words.proofs.{◌≡◌, ℕ, ◌||◌, ◌==◌, List, [], ◌∷◌, ◌++◌, true, false, inl, inr, refl, sym, ap, subst, ◌∙◌, append_assoc, append-nil, codes, list_all, bytes_eq, and_parts, not-true, or_right}
-use Rattle.document_texts.specs.{is_space, is_json, EndsString, ends, plain, escaped}
+use Rattle.doc_envelope.specs.{is_space, is_json, EndsString, ends, plain, escaped}
 use Rattle.couch_answers.specs.State.{State}
 use Rattle.couch_answers.specs.{start, is_lower, is_digit, is_rev_byte, step, after, given, pieces, Piece, AreRevs, last_rev, rev, is_word_byte, AreChanges, none, empty, change, object, word, words, LinePlace}
 use Rattle.couch_answers.specs.LineGrammar.{InOneLine}

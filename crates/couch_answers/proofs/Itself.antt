@@ -2,7 +2,7 @@
 use Rattle.proof_words.proofs.{◌≡◌, ℕ, ◌+◌, ◌==◌, ◌&&◌, nat_lt, List, [], ◌∷◌, ◌++◌, Bool, true, false, codes, refl, sym, ap, ◌∙◌, append_assoc, inl, and_right, is_utf8-from_IsUtf8}
 use Rattle.json.proofs.Printed.Utf8.{IsUtf8-are_ascii}
 use Rattle.json.proofs.OnLiterals.{json_on_literals}
-use Rattle.document_texts.specs.{is_json, is_log}
+use Rattle.doc_envelope.specs.{is_json, is_log}
 use Rattle.couch_answers.specs.{wants_documents, wants_leaves, covered, name_of, Piece, IsPlainDocument, IsDocument, document, log, Place}
 use Rattle.couch_answers.specs.State.{State}
 use Rattle.couch_answers.specs.declared.place.Place.TheVariants.{AfterItem, Value}

@@ -1,6 +1,6 @@
 -- Texts from a place on: names, values and white space.
 use Rattle.proof_words.proofs.{◌≡◌, ℕ, suc, ◌+◌, ◌<◌, ◌==◌, ◌&&◌, nat_lt, length, slice_index, List, [], ◌∷◌, ◌++◌, Bool, true, false, refl, sym, ap, subst, ◌∙◌, append_assoc, append-nil, arith, ◌⊎◌, inl, inr, list_all, and_parts}
-use Rattle.document_texts.specs.{Spaces, EndsString, ends, plain, escaped, Closed, nothing, space, other, string, object, list, is_space, is_json}
+use Rattle.doc_envelope.specs.{Spaces, EndsString, ends, plain, escaped, Closed, nothing, space, other, string, object, list, is_space, is_json}
 use Rattle.couch_answers.specs.{wants_documents, name_of, is_plain, step, after, given, pieces, Piece, IsNamed, Place, Name}
 use Rattle.couch_answers.specs.State.{State}
 use Rattle.couch_answers.specs.declared.place.Place.TheVariants.{Key, Colon, Value, Quoted}

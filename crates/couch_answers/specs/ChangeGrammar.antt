@@ -2,7 +2,7 @@
 use Rattle.std.specs.Prelude.{◌≡◌, ℕ, ◌||◌, ◌==◌, List, [], ◌∷◌, ◌++◌, Bool, true, false, not, codes}
 use Rattle.std.specs.List.{list_all}
 use Rattle.std.specs.Str.{bytes_eq}
-use Rattle.document_texts.specs.Texts.{is_space, is_json, EndsString}
+use Rattle.doc_envelope.specs.Texts.{is_space, is_json, EndsString}
 use Rattle.couch_answers.specs.Lines.{is_lower, is_digit, is_rev_byte}
 use Rattle.couch_answers.specs.Reading.{Piece}
 use Rattle.couch_answers.specs.Grammar.{IsPlainDocument}

@@ -1,8 +1,8 @@
 -- CouchDB's answers in terms of JSON's grammar, each with the documents that it holds: docs/PROFILE.md, "CouchDB's
 -- answers". Whether a text is JSON is asked of the kit's own grammar (`is_json`).
 use Rattle.std.specs.Prelude.{◌≡◌, ℕ, ◌+◌, ◌<◌, ◌==◌, slice_index, List, [], ◌∷◌, ◌++◌, Bool, true, false, codes, Some}
-use Rattle.document_texts.specs.Texts.{Spaces, EndsString, Closed, is_space, is_json}
-use Rattle.document_texts.specs.Names.{is_log}
+use Rattle.doc_envelope.specs.Texts.{Spaces, EndsString, Closed, is_space, is_json}
+use Rattle.doc_envelope.specs.Names.{is_log}
 use Rattle.couch_answers.specs.Wanted.{covered}
 use Rattle.couch_answers.specs.Names.{name_of}
 use Rattle.couch_answers.specs.Reading.{Piece}

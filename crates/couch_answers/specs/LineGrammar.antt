@@ -1,7 +1,7 @@
 -- A script's answers, each with the documents that it holds: docs/PROFILE.md, "Lines of documents".
 use Rattle.std.specs.Prelude.{◌≡◌, ℕ, ◌==◌, List, [], ◌∷◌, ◌++◌, true, false, not}
 use Rattle.std.specs.List.{list_all}
-use Rattle.document_texts.specs.Texts.{is_space}
+use Rattle.doc_envelope.specs.Texts.{is_space}
 use Rattle.couch_answers.specs.Lines.{is_lower}
 use Rattle.couch_answers.specs.Reading.{Piece}
 use Rattle.couch_answers.specs.Grammar.{IsDocument}

@@ -1,7 +1,7 @@
 -- What one byte of a line of a script's answers does: docs/PROFILE.md, "Lines of documents".
 use Rattle.std.specs.Prelude.{ℕ, ◌&&◌, ◌||◌, ◌==◌, nat_le, [], ◌∷◌, Bool, cond, codes}
 use Rattle.std.specs.Str.{bytes_eq}
-use Rattle.document_texts.specs.Texts.{is_json}
+use Rattle.doc_envelope.specs.Texts.{is_json}
 use Rattle.couch_answers.specs.Wanted.{wants_changes, is_strict}
 use Rattle.couch_answers.specs.State.{State, more, at, refused, added}
 use Rattle.couch_answers.specs.declared.place.Place.{Place}

@@ -1,6 +1,6 @@
 -- What one byte of an answer does outside of names and values: docs/PROFILE.md, "CouchDB's answers".
 use Rattle.std.specs.Prelude.{ℕ, ◌+◌, ◌-◌, ◌&&◌, ◌||◌, ◌==◌, nat_lt, [], ◌∷◌, Bool, true, false, not, cond, codes}
-use Rattle.document_texts.specs.Texts.{is_space, is_json}
+use Rattle.doc_envelope.specs.Texts.{is_space, is_json}
 use Rattle.couch_answers.specs.Wanted.{wants_leaves, wants_changes, is_strict}
 use Rattle.couch_answers.specs.State.{State, more, at, refused, added}
 use Rattle.couch_answers.specs.Names.{name_of, is_plain, is_known, is_id, is_changes}

@@ -1,6 +1,6 @@
 -- What one byte of a list of missing revisions does: docs/PROFILE.md, "CouchDB's answers".
 use Rattle.std.specs.Prelude.{ℕ, ◌==◌, [], ◌∷◌, cond}
-use Rattle.document_texts.specs.Texts.{is_space, is_json}
+use Rattle.doc_envelope.specs.Texts.{is_space, is_json}
 use Rattle.couch_answers.specs.State.{State, at, refused, added}
 use Rattle.couch_answers.specs.declared.place.Place.TheVariants.{AfterMember, Revs}
 use Rattle.couch_answers.specs.declared.place.RevPlace.{RevPlace}

@@ -1,7 +1,7 @@
 -- What one byte of a value does: docs/PROFILE.md, "CouchDB's answers".
 use Rattle.std.specs.Prelude.{ℕ, ◌+◌, ◌-◌, ◌&&◌, ◌||◌, ◌==◌, nat_lt, length, slice_index, List, [], ◌∷◌, ◌++◌, true, not, cond, Option, Some, None}
-use Rattle.document_texts.specs.Texts.{is_space, is_json}
-use Rattle.document_texts.specs.Names.{is_log}
+use Rattle.doc_envelope.specs.Texts.{is_space, is_json}
+use Rattle.doc_envelope.specs.Names.{is_log}
 use Rattle.couch_answers.specs.Wanted.{wants_documents, covered}
 use Rattle.couch_answers.specs.State.{State, more, at, refused, added}
 use Rattle.couch_answers.specs.Names.{is_plain, is_error, found_of, passes, refusal_of}

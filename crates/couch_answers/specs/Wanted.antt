@@ -1,6 +1,6 @@
 -- What each kind of what is wanted asks for: docs/PROFILE.md, "CouchDB's answers" and "Lines of documents".
 use Rattle.std.specs.Prelude.{ℕ, List, Bool, true, false, cond, Option, Some}
-use Rattle.document_texts.specs.Envelopes.{enveloped, unfolded}
+use Rattle.doc_envelope.specs.Envelopes.{enveloped, unfolded}
 use Rattle.couch_answers.specs.declared.place.Place.{Place}
 use Rattle.couch_answers.specs.declared.place.Place.TheVariants.{Start, Begin}
 use Rattle.couch_answers.specs.declared.place.Wanted.{Wanted}

@@ -2,7 +2,7 @@
 ghost use Rattle.std.specs.Prelude.{◌≡◌, OnOk, Some};
 ghost use Rattle.couch_answers.specs.Stored.{state_of};
 ghost use Rattle.couch_answers.specs.Values.{document_found, found_as};
-ghost use Rattle.document_texts.specs.Stored.{made_of};
+ghost use Rattle.doc_envelope.specs.Stored.{made_of};
 
 use crate::place::{Found, Refusal, Wanted};
 use crate::reading::Reading;

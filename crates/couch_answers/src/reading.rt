@@ -8,7 +8,7 @@ ghost use Rattle.couch_answers.specs.Steps.{is_refused, begun, moved, step};
 use crate::place::{Found, Place, Refusal, Wanted};
 use crate::spelling::more;
 use crate::wanted::first_place;
-use document_texts::Envelope;
+use doc_envelope::Envelope;
 use json::Scratch;
 use std::alloc::{AllocError, Global};
 

@@ -1,7 +1,7 @@
 //! Single bytes and names.
 ghost use Rattle.std.specs.Prelude.{◌≡◌, ◌||◌};
 ghost use Rattle.std.specs.Str.{bytes_eq};
-ghost use Rattle.document_texts.specs.Texts.{is_space};
+ghost use Rattle.doc_envelope.specs.Texts.{is_space};
 ghost use Rattle.couch_answers.specs.State.{more};
 ghost use Rattle.couch_answers.specs.Names.{name_of, wanted_name, document_name, leaf_name, change_name};
 

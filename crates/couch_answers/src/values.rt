@@ -1,6 +1,6 @@
 //! Values of members.
 ghost use Rattle.std.specs.Prelude.{◌≡◌, IfOk, OnOk, slice_index};
-ghost use Rattle.document_texts.specs.Texts.{is_json};
+ghost use Rattle.doc_envelope.specs.Texts.{is_json};
 ghost use Rattle.couch_answers.specs.Stored.{state_of};
 ghost use Rattle.couch_answers.specs.Names.{found_of, passes, refusal_of, is_error};
 ghost use Rattle.couch_answers.specs.Values.{error_kept, told, judged, value_passed, value_ended, deeper, shallower, spaced, plain_ended, in_value, in_quoted, in_escaped};
@@ -10,7 +10,7 @@ use crate::place::{Found, Name, Place, Refusal};
 use crate::reading::Reading;
 use crate::spelling::{is_space, more};
 use crate::wanted::wants_documents;
-use document_texts::is_log;
+use doc_envelope::is_log;
 use std::alloc::AllocError;
 
 /// How many brackets may be open within a value.

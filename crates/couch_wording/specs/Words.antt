@@ -1,6 +1,6 @@
 -- What is written for what was read: docs/PROFILE.md, "CouchDB's answers" and "Lines of documents".
 use Rattle.std.specs.Prelude.{ℕ, ◌&&◌, ◌==◌, nat_lt, List, [], ◌∷◌, ◌++◌, Bool, true, false, not, cond, codes}
-use Rattle.document_texts.specs.Names.{id_of}
+use Rattle.doc_envelope.specs.Names.{id_of}
 use Rattle.couch_answers.specs.State.{more}
 use Rattle.couch_answers.specs.Reading.{Piece}
 use Rattle.couch_answers.specs.declared.place.Found.{Found}

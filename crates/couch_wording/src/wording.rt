@@ -7,7 +7,7 @@ ghost use Rattle.couch_wording.specs.Words.{before, behind, is_full, document_te
 
 use crate::forms::{Form, before_rev, closing, empty, ends, has_lists, opening, separator};
 use couch_answers::Found;
-use document_texts::id_of;
+use doc_envelope::id_of;
 use std::alloc::{AllocError, Global};
 
 /// How what was read is written.

@@ -9,7 +9,7 @@ use Rattle.serde_json.specs.Read.{of_json, of_items, of_members, number_of, read
 use Rattle.serde_json.specs.Find.{get_member, get, as_str, as_bool}
 use Rattle.serde_json.specs.Written.{has_float, members_have_float}
 use Rattle.rev_core.specs.{◌>>=◌, or_refused, refused_if, named, RevId, rev_read, ancestry_read}
-use Rattle.document_texts.specs.{may_stand, all_may_stand, is_envelope_value, is_envelope, envelope_of, enveloped, goes, members_of, joined}
+use Rattle.doc_envelope.specs.{may_stand, all_may_stand, is_envelope_value, is_envelope, envelope_of, enveloped, goes, members_of, joined}
 use Rattle.doc_json.specs.{has_unknown, is_unknown, plain_members, is_special, is_design, doc_id_read, doc_read, id_of, flag_of, revs_read, rev_of_text, rev_member, with_revisions, revisions_read, numbered_from, start_of, ids_read, alone, matched, agrees, GivesUnlessMemory, DocFault}
 use Rattle.doc_json.specs.declared.fault.DocFault.TheVariants as faults
 use Rattle.envelope_reads.specs.{looks_into, may_be, AllMayBe, IsSpared}

@@ -4,7 +4,7 @@ ghost use Rattle.envelope_reads.specs.Spared.{looks_into, IsSpared};
 ghost use Rattle.json_values.specs.LineView.{line_view};
 
 use doc_json::{Doc, DocFault, read_line_doc};
-use document_texts::Envelope;
+use doc_envelope::Envelope;
 use json_values::{LinePart, ReadFault, ValueReader};
 use std::alloc::Global;
 

@@ -1,7 +1,7 @@
 use Rattle.proof_words.proofs.{ap, sym, subst, ◌∙◌, cond, Some, None}
 use Rattle.serde_json.specs.Read.{read as read_text}
 use Rattle.json_values.specs.{line_view}
-use Rattle.document_texts.specs.{made_of}
+use Rattle.doc_envelope.specs.{made_of}
 use Rattle.envelope_reads.specs.{IsSpared}
 use Rattle.envelope_reads.proofs.{made_envelope, read_spared}
 use Rattle.envelope_reads.proofs.read.read_envelope.Goals as goal

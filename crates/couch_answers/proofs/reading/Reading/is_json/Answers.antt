@@ -1,6 +1,6 @@
 use Rattle.proof_words.proofs.{◌≡◌, IfOk, subst, false}
-use Rattle.document_texts.specs.{is_json}
-use Rattle.document_texts.proofs.{no_utf8, utf8}
+use Rattle.doc_envelope.specs.{is_json}
+use Rattle.doc_envelope.proofs.{no_utf8, utf8}
 use Rattle.couch_answers.proofs.reading.Reading.is_json.Goals as goal
 
 pub returns-in_default-clause-value : goal.returns-in_default-clause-value

@@ -1,0 +1,10 @@
+-- What is left has the same text behind its blanks.
+use Rattle.proof_words.proofs.{◌≡◌, length}
+use Rattle.doc_envelope.specs.{trimmed}
+use Rattle.doc_envelope.proofs.names.trimmed.Given as goal
+
+abbrev pub invariant-loop-rest : goal.invariant-loop-rest
+invariant-loop-rest l = trimmed l.rest ≡ trimmed l.text
+
+abbrev pub decreases-loop-rest : goal.decreases-loop-rest
+decreases-loop-rest l = length l.rest

@@ -1,0 +1,64 @@
+-- The members of an object's text, each by its own text: docs/PROFILE.md, "Documents in envelopes".
+use Rattle.std.specs.Prelude.{ℕ, ◌+◌, ◌-◌, ◌&&◌, ◌||◌, ◌==◌, length, drop, List, [], ◌∷◌, ◌++◌, Bool, false, not, cond}
+use Rattle.std.specs.List.{list_all, filter}
+use Rattle.doc_envelope.specs.declared.members.Mode.{Mode}
+use Rattle.doc_envelope.specs.declared.members.Mode.TheVariants.{Outside, Quoted, Escaped}
+
+-- ---- byte by byte
+
+abbrev pub opens : ℕ → Bool
+opens b = b == 123 || b == 91
+
+abbrev pub closes : ℕ → Bool
+closes b = b == 125 || b == 93
+
+-- a byte stands behind a member, within which so many brackets are open: a comma, or a bracket that closes the object
+abbrev pub ends_member : Mode → ℕ → ℕ → Bool
+ends_member Outside n b = n == 0 && (b == 44 || closes b)
+ends_member Quoted n b = false
+ends_member Escaped n b = false
+
+abbrev pub mode_behind : Mode → ℕ → Mode
+mode_behind Outside b = cond (b == 34) Quoted Outside
+mode_behind Quoted b = cond (b == 34) Outside (cond (b == 92) Escaped Quoted)
+mode_behind Escaped b = Quoted
+
+abbrev pub nesting_behind : Mode → ℕ → ℕ → ℕ
+nesting_behind Outside n b = cond (opens b) (n + 1) (cond (closes b) (n - 1) n)
+nesting_behind Quoted n b = n
+nesting_behind Escaped n b = n
+
+-- ---- members
+
+-- how many bytes the member has that is being read
+unfoldable pub length_in : Mode → ℕ → List ℕ → ℕ
+length_in m n [] = 0
+length_in m n (b ∷ t) = cond (ends_member m n b) 0 (length_in (mode_behind m b) (nesting_behind m n b) t + 1)
+
+-- how many bytes the first member of a text has
+abbrev pub first_length : List ℕ → ℕ
+first_length t = length_in Outside 0 t
+
+-- the members of a text up to the bracket that closes the object, of the first one of which so much was read
+unfoldable pub members_in : Mode → ℕ → List ℕ → List ℕ → List (List ℕ)
+members_in m n u [] = cond (length u == 0) [] (u ∷ [])
+members_in m n u (b ∷ t) =
+    cond (ends_member m n b) (u ∷ cond (b == 44) (members_in Outside 0 [] t) [])
+    (members_in (mode_behind m b) (nesting_behind m n b) (u ++ b ∷ []) t)
+
+abbrev pub is_blank : List ℕ → Bool
+is_blank m = list_all (λ b. b == 32) m
+
+-- the members of an object's text, without white space that is none
+abbrev pub members_of : List ℕ → List (List ℕ)
+members_of x = filter (λ m. not (is_blank m)) (members_in Outside 0 [] (drop 1 x))
+
+-- members with commas between them
+abbrev pub joined : List (List ℕ) → List ℕ
+joined [] = []
+joined (m ∷ []) = m
+joined (m ∷ n ∷ ms) = m ++ 44 ∷ joined (n ∷ ms)
+
+-- the text of an object
+abbrev pub object_of : List (List ℕ) → List ℕ
+object_of ms = 123 ∷ (joined ms ++ 125 ∷ [])

@@ -1,0 +1,9 @@
+-- An envelope's room as it is stored: the text that was made last, and the members that go into the string.
+use Rattle.std.specs.Prelude.{ℕ, List}
+use Rattle.doc_envelope.specs.declared.envelope.Envelope.{Envelope}
+
+abbrev pub made_of : Envelope → List ℕ
+made_of e = e.text.items
+
+abbrev pub held_of : Envelope → List ℕ
+held_of e = e.held.items

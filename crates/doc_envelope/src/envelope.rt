@@ -1,0 +1,293 @@
+//! Envelopes: documents whose other members stand in one text.
+ghost use Rattle.std.specs.Prelude.{◌≡◌, ◌++◌, ◌∷◌, [], ◌<◌, ◌≤◌, ℕ, List, length, drop, cond, Some, None, option_map, option_and_then, true, IfOk, OnOk};
+ghost use Rattle.std.specs.Str.{is_utf8};
+ghost use Rattle.doc_envelope.specs.Texts.{is_json};
+ghost use Rattle.doc_envelope.specs.Members.{is_blank, members_in};
+ghost use Rattle.doc_envelope.specs.declared.members.Mode.TheVariants.{Outside};
+ghost use Rattle.doc_envelope.specs.Envelopes.{stays, enveloped, unfolded, if_any, string_of};
+ghost use Rattle.doc_envelope.specs.Carried.{HasMembers, Envelops, AreOthers, Carries, AreMembers};
+ghost use Rattle.doc_envelope.specs.Steps.{added, held_with, text_with, held_by, taken_with, behind_comma, with_held, texts_with, helds_by, all_taken};
+ghost use Rattle.doc_envelope.specs.Stored.{made_of, held_of};
+
+use crate::members::first_length;
+use crate::names::{has_name, value_of};
+use crate::values::{is_envelope, quote, string_of};
+use json::Scratch;
+use std::alloc::{AllocError, Global};
+
+/// The name of the member that holds the others.
+const WHOLE: &[u8] = b"\"whole\"";
+
+/// Puts documents into envelopes and takes them out, and keeps its room from one to the next.
+#[derive(Drop)]
+pub struct Envelope {
+    alloc: Global,
+    /// The text that was made last.
+    text: Vec<u8>,
+    /// The members that go into one, as the text of a string.
+    held: Vec<u8>,
+    scratch: Scratch,
+}
+
+impl Envelope {
+    /// No text is made yet.
+    pub fn new(alloc: Global) -> Envelope
+        ensures { made_of result ≡ [] }
+    {
+        Envelope {
+            alloc,
+            text: Vec::new(alloc),
+            held: Vec::new(alloc),
+            scratch: Scratch::new(alloc),
+        }
+    }
+
+    /// The text that was made last.
+    pub fn text(&self) -> &[u8]
+        ensures { result.now ≡ made_of self.now }
+    {
+        self.text.as_slice()
+    }
+
+    /// Puts a document into an envelope. False where it is no object, or is deleted in another way than by true or
+    /// false.
+    pub fn put(&mut self, document: &[u8]) -> Result<bool, AllocError>
+        ensures text { IfOk result (λ ok. enveloped document.now ≡ cond ok (Some (made_of self.new)) None) }
+        ensures envelops { (ms : List (List ℕ)) → HasMembers document.now ms
+            → IfOk result (λ ok. ok ≡ true → Envelops ms (made_of self.new)) }
+    {
+        match self.envelop(document) {
+            Ok(made) => Ok(made),
+            Err(refused) => Err(refused),
+        }
+    }
+
+    /// Puts a document into an envelope.
+    fn envelop(&mut self, document: &[u8]) -> Result<bool, AllocError>
+        ensures { IfOk result (λ ok. enveloped document.now ≡ cond ok (Some (made_of self.new)) None) }
+    {
+        self.fold(document)?;
+        if !self.end_fold()? {
+            return Ok(false);
+        }
+        is_envelope(self.alloc, self.text.as_slice(), &mut self.scratch)
+    }
+
+    /// Takes a document out of its envelope. False where it is no object, or a member `whole` of it holds none.
+    pub fn take(&mut self, document: &[u8]) -> Result<bool, AllocError>
+        ensures text { IfOk result (λ ok. unfolded document.now ≡ cond ok (Some (made_of self.new)) None) }
+        ensures gives_back { (fs ws os : List (List ℕ)) → HasMembers document.now (fs ++ ws) → AreOthers fs
+            → Carries ws os → AreMembers os
+            → IfOk result (λ ok. ok ≡ true → HasMembers (made_of self.new) (fs ++ os)) }
+    {
+        match self.release(document) {
+            Ok(made) => Ok(made),
+            Err(refused) => Err(refused),
+        }
+    }
+
+    /// Takes a document out of its envelope.
+    fn release(&mut self, document: &[u8]) -> Result<bool, AllocError>
+        ensures { IfOk result (λ ok. unfolded document.now ≡ cond ok (Some (made_of self.new)) None) }
+    {
+        if !self.unfold(document)? {
+            return Ok(false);
+        }
+        self.text.push(b'}')?;
+        self.is_json()
+    }
+
+    /// Whether the text is JSON.
+    fn is_json(&mut self) -> Result<bool, AllocError>
+        ensures value { IfOk result (λ json. json ≡ is_json (made_of self.old)) }
+        ensures same { made_of self.new ≡ made_of self.old }
+    {
+        let Ok(text) = simdutf8::basic::from_utf8(self.text.as_slice()) else {
+            return Ok(false);
+        };
+        json::is_valid(text, &mut self.scratch)
+    }
+
+    /// Begins a text.
+    fn begin(&mut self) -> Result<(), AllocError>
+        ensures made { OnOk result (made_of self.new ≡ 123 ∷ []) }
+        ensures held { OnOk result (held_of self.new ≡ []) }
+    {
+        self.text.clear();
+        self.held.clear();
+        self.text.push(b'{')?;
+        Ok(())
+    }
+
+    /// Each member in front, or in the text of a string.
+    fn fold(&mut self, document: &[u8]) -> Result<(), AllocError>
+        ensures made { OnOk result
+            (made_of self.new ≡ texts_with (123 ∷ []) (members_in Outside 0 [] (drop 1 document.now))) }
+        ensures held { OnOk result
+            (held_of self.new ≡ helds_by [] (members_in Outside 0 [] (drop 1 document.now))) }
+    {
+        self.begin()?;
+        let mut rest = behind_brace(document);
+        while !rest.is_empty() {
+            let length = first_length(rest);
+            self.put_member(&rest[..length])?;
+            rest = behind_comma(rest, length);
+        }
+        Ok(())
+    }
+
+    /// Ends an envelope, with the member that holds the others. False where they are no UTF-8.
+    fn end_fold(&mut self) -> Result<bool, AllocError>
+        ensures is { IfOk result (λ ok. ok ≡ is_utf8 (held_of self.old)) }
+        ensures made { IfOk result (λ ok. ok ≡ true
+            → made_of self.new ≡ with_held (made_of self.old) (held_of self.old) ++ 125 ∷ []) }
+    {
+        if !self.end_held()? {
+            return Ok(false);
+        }
+        self.text.push(b'}')?;
+        Ok(true)
+    }
+
+    /// Each member by its own text, or those that it holds. False where one should hold some, and does not.
+    fn unfold(&mut self, document: &[u8]) -> Result<bool, AllocError>
+        ensures { IfOk result (λ ok. all_taken (123 ∷ []) (members_in Outside 0 [] (drop 1 document.now))
+            ≡ cond ok (Some (made_of self.new)) None) }
+    {
+        self.begin()?;
+        let mut rest = behind_brace(document);
+        while !rest.is_empty() {
+            let length = first_length(rest);
+            if !self.take_member(&rest[..length])? {
+                return Ok(false);
+            }
+            rest = behind_comma(rest, length);
+        }
+        Ok(true)
+    }
+
+    /// A member that stays in front, or goes into the text of a string.
+    fn put_member(&mut self, member: &[u8]) -> Result<(), AllocError>
+        ensures made { OnOk result (made_of self.new ≡ text_with (made_of self.old) member.now) }
+        ensures held { OnOk result (held_of self.new ≡ held_by (held_of self.old) member.now) }
+    {
+        if is_blank(member) {
+            return Ok(());
+        }
+        if stays(member) {
+            return self.add(member);
+        }
+        self.hold(member)
+    }
+
+    /// A member of the text.
+    fn add(&mut self, member: &[u8]) -> Result<(), AllocError>
+        ensures made { OnOk result (made_of self.new ≡ added (made_of self.old) member.now) }
+        ensures held { held_of self.new ≡ held_of self.old }
+    {
+        if self.text.len() > 1 {
+            self.text.push(b',')?;
+        }
+        self.text.extend_from_slice(member)
+    }
+
+    /// A member as a part of the string.
+    fn hold(&mut self, member: &[u8]) -> Result<(), AllocError>
+        ensures held { OnOk result (held_of self.new ≡ held_with (held_of self.old) member.now) }
+        ensures made { made_of self.new ≡ made_of self.old }
+    {
+        if !self.held.is_empty() {
+            self.held.push(b',')?;
+        }
+        self.held.extend_from_slice(member)
+    }
+
+    /// The member that holds the others, where there are some. False where they are no UTF-8.
+    fn end_held(&mut self) -> Result<bool, AllocError>
+        ensures is { IfOk result (λ ok. ok ≡ is_utf8 (held_of self.old)) }
+        ensures made { IfOk result (λ ok. ok ≡ true
+            → made_of self.new ≡ with_held (made_of self.old) (held_of self.old)) }
+    {
+        if self.held.as_slice().is_empty() {
+            return Ok(true);
+        }
+        self.add(b"\"whole\":")?;
+        quote(self.alloc, self.held.as_slice(), &mut self.text)
+    }
+
+    /// A member by its own text, or those that it holds. False where it should hold some, and does not.
+    fn take_member(&mut self, member: &[u8]) -> Result<bool, AllocError>
+        ensures { IfOk result (λ ok. taken_with (made_of self.old) member.now
+            ≡ cond ok (Some (made_of self.new)) None) }
+    {
+        if is_blank(member) {
+            return Ok(true);
+        }
+        if has_name(member, WHOLE) {
+            return self.take_held(value_of(member, WHOLE));
+        }
+        self.add(member)?;
+        Ok(true)
+    }
+
+    /// The members that a string stands for.
+    fn take_held(&mut self, value: &[u8]) -> Result<bool, AllocError>
+        ensures { IfOk result (λ ok. option_map (added (made_of self.old))
+            (option_and_then if_any (string_of value.now)) ≡ cond ok (Some (made_of self.new)) None) }
+    {
+        let members = match string_of(self.alloc, value, &mut self.scratch) {
+            Ok(Some(members)) => members,
+            Ok(None) => return Ok(false),
+            Err(refused) => return Err(refused),
+        };
+        if is_blank(members.as_bytes()) {
+            return Ok(false);
+        }
+        if self.text.len() > 1 {
+            self.text.push(b',')?;
+        }
+        self.text.extend_from_slice(members.as_bytes())?;
+        Ok(true)
+    }
+}
+
+/// The text behind the brace that opens an object.
+fn behind_brace(document: &[u8]) -> &[u8]
+    ensures { result.now ≡ drop 1 document.now }
+{
+    if document.is_empty() {
+        document
+    } else {
+        &document[1..]
+    }
+}
+
+/// The text behind a member of so many bytes, where a comma stands there; else nothing.
+fn behind_comma(text: &[u8], count: usize) -> &[u8]
+    requires { count ≤ length text.now }
+    ensures value { result.now ≡ behind_comma text.now count }
+    ensures shorter { 0 < length text.now → length result.now < length text.now }
+{
+    if count < text.len() && text[count] == b',' {
+        &text[count + 1..]
+    } else {
+        &text[..0]
+    }
+}
+
+/// Whether there are blanks and nothing else.
+fn is_blank(text: &[u8]) -> bool
+    ensures { result ≡ is_blank text.now }
+{
+    text.iter().all(|b| *b == b' ')
+}
+
+/// Whether a member stands in front of an envelope.
+fn stays(member: &[u8]) -> bool
+    ensures { result ≡ stays member.now }
+{
+    has_name(member, b"\"_id\"")
+        || has_name(member, b"\"_rev\"")
+        || has_name(member, b"\"_revisions\"")
+        || has_name(member, b"\"_deleted\"")
+}

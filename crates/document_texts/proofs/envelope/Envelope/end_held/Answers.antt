@@ -1,8 +1,0 @@
-use Rattle.proof_words.proofs.{◌==◌, ap, sym, ◌∙◌, length, List, ℕ}
-use Rattle.document_texts.specs.{held_of}
-use Rattle.document_texts.proofs.{empty_utf8}
-use Rattle.document_texts.proofs.envelope.Envelope.end_held.Goals as goal
-
-pub returns-then-is_empty-clause-is : goal.returns-then-is_empty-clause-is
-returns-then-is_empty-clause-is c =
-    empty_utf8 (held_of c.args.self.now) (ap (λ (t : List ℕ). length t == 0) (sym c.as_slice.ensures.value) ∙ sym c.is_empty.ensures ∙ c.if-is_empty.true)

@@ -1,9 +1,0 @@
--- An envelope's room as it is stored: the text that was made last, and the members that go into the string.
-use Rattle.std.specs.Prelude.{ℕ, List}
-use Rattle.document_texts.specs.declared.envelope.Envelope.{Envelope}
-
-abbrev pub made_of : Envelope → List ℕ
-made_of e = e.text.items
-
-abbrev pub held_of : Envelope → List ℕ
-held_of e = e.held.items
