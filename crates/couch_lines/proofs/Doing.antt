@@ -1,9 +1,9 @@
 -- What a task does, by what its reading and its wording do.
 use Rattle.proof_words.proofs.{◌≡◌, ℕ, List, true, false, Option, Some, Result, Ok, Err, IfOk, IfErr, refl, subst, true≢false}
-use Rattle.couch_answers.specs.{wants_documents, is_strict, Piece, IsAnswered, IsChangeScript}
-use Rattle.couch_answers.specs.LineGrammar.{IsScript}
-use Rattle.couch_answers.specs.declared.place.Wanted.{Wanted}
-use Rattle.couch_answers.specs.declared.place.Wanted.TheVariants.{Changes}
+use Rattle.response_parser.specs.{wants_documents, is_strict, Piece, IsAnswered, IsChangeScript}
+use Rattle.response_parser.specs.LineGrammar.{IsScript}
+use Rattle.response_parser.specs.declared.place.Wanted.{Wanted}
+use Rattle.response_parser.specs.declared.place.Wanted.TheVariants.{Changes}
 use Rattle.couch_wording.specs.Words.{Words}
 use Rattle.couch_wording.specs.{Answered, Stopped, ReadsAnswers, AnswerFault}
 use Rattle.couch_lines.specs.{IsDone, Makes, is_drawn, wanted_of, words_of_task, Task}

@@ -1,12 +1,12 @@
 -- How the words of a command line are run, over any reader and writer: docs/PROFILE.md, "CouchDB's answers".
 use Rattle.std.specs.Prelude.{◌≡◌, ℕ, List, Bool, true, false, Option, Some, Result, Ok, Err, IfOk, String, string_bytes, option_map, ⊤}
 use Rattle.std.specs.declared.alloc.Global.{Global}
-use Rattle.couch_answers.specs.Reading.{Piece}
-use Rattle.couch_answers.specs.Grammar.{IsAnswered}
-use Rattle.couch_answers.specs.LineGrammar.{IsScript}
-use Rattle.couch_answers.specs.ChangeGrammar.{IsChangeScript}
-use Rattle.couch_answers.specs.declared.place.Wanted.{Wanted}
-use Rattle.couch_answers.specs.declared.place.Wanted.TheVariants.{Documents, Enveloped, Bodies, Unfolded, Leaves as InFeed, Changes}
+use Rattle.response_parser.specs.Reading.{Piece}
+use Rattle.response_parser.specs.Grammar.{IsAnswered}
+use Rattle.response_parser.specs.LineGrammar.{IsScript}
+use Rattle.response_parser.specs.ChangeGrammar.{IsChangeScript}
+use Rattle.response_parser.specs.declared.place.Wanted.{Wanted}
+use Rattle.response_parser.specs.declared.place.Wanted.TheVariants.{Documents, Enveloped, Bodies, Unfolded, Leaves as InFeed, Changes}
 use Rattle.couch_wording.specs.Words.{Words, loads_of, asked_of, diffs_of, docs_of, bodies_of}
 use Rattle.couch_wording.specs.Runs.{Answered, Stopped, ReadsAnswers}
 use Rattle.couch_wording.specs.declared.run.AnswerFault.{AnswerFault}

@@ -5,7 +5,7 @@ ghost use Rattle.couch_lines.specs.Status.{drawn_status, ended_status, status_of
 use crate::options::NoTask;
 use crate::run::{Ended, Run, run_words};
 use crate::tasks::Named;
-use couch_answers::Refusal;
+use response_parser::Refusal;
 use couch_wording::AnswerFault;
 use cli_common::{BAD_COMMAND_LINE, tell_no_memory, tell_no_words, tell_words, words_of};
 use script_engine::{OverRead, OverWrite, ScriptFault, ScriptWrite};

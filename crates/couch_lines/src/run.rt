@@ -7,7 +7,7 @@ ghost use Rattle.couch_lines.specs.Runs.{RunsWords, IsDone, Makes, form_of, is_d
 use crate::options::{NoTask, read_words};
 use crate::tasks::Task;
 use answer_pictures::{Form, draw_answers};
-use couch_answers::{Reading, Wanted};
+use response_parser::{Reading, Wanted};
 use couch_wording::{AnswerFault, Wording, run_answers};
 use script_engine::{ScriptFault, ScriptRead, ScriptWrite};
 use std::alloc::{AllocError, Global};

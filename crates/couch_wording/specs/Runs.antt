@@ -5,12 +5,12 @@ use Rattle.script_engine.specs.Device.{Gives}
 use Rattle.script_engine.specs.Faults.{IsFaultOf, IsOfWriter}
 use Rattle.script_engine.specs.declared.fault.ScriptFault.{ScriptFault}
 use Rattle.script_engine.specs.declared.fault.ScriptFault.TheVariants.{Read, Write, Memory, Cut}
-use Rattle.couch_answers.specs.State.{State, start}
-use Rattle.couch_answers.specs.Steps.{is_refused}
-use Rattle.couch_answers.specs.Reading.{Piece, after, pieces, end_of, last_end, whole}
+use Rattle.response_parser.specs.State.{State, start}
+use Rattle.response_parser.specs.Steps.{is_refused}
+use Rattle.response_parser.specs.Reading.{Piece, after, pieces, end_of, last_end, whole}
 use Rattle.couch_wording.specs.Words.{Words, texts, words_behind, last_text}
-use Rattle.couch_answers.specs.declared.place.Wanted.{Wanted}
-use Rattle.couch_answers.specs.declared.place.Refusal.{Refusal}
+use Rattle.response_parser.specs.declared.place.Wanted.{Wanted}
+use Rattle.response_parser.specs.declared.place.Refusal.{Refusal}
 use Rattle.couch_wording.specs.declared.run.AnswerFault.{AnswerFault}
 use Rattle.couch_wording.specs.declared.run.AnswerFault.TheVariants.{Refused, Device}
 

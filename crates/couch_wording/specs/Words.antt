@@ -1,10 +1,10 @@
 -- What is written for what was read: docs/PROFILE.md, "CouchDB's answers" and "Lines of documents".
 use Rattle.std.specs.Prelude.{ℕ, ◌&&◌, ◌==◌, nat_lt, List, [], ◌∷◌, ◌++◌, Bool, true, false, not, cond, codes}
 use Rattle.doc_envelope.specs.Names.{id_of}
-use Rattle.couch_answers.specs.State.{more}
-use Rattle.couch_answers.specs.Reading.{Piece}
-use Rattle.couch_answers.specs.declared.place.Found.{Found}
-use Rattle.couch_answers.specs.declared.place.Found.TheVariants.{Nothing, Document, Id, Rev}
+use Rattle.response_parser.specs.State.{more}
+use Rattle.response_parser.specs.Reading.{Piece}
+use Rattle.response_parser.specs.declared.place.Found.{Found}
+use Rattle.response_parser.specs.declared.place.Found.TheVariants.{Nothing, Document, Id, Rev}
 use Rattle.couch_wording.specs.Forms.{opening, separator, ends, closing, empty, before_rev, has_lists}
 use Rattle.couch_wording.specs.declared.forms.Form.{Form}
 use Rattle.couch_wording.specs.declared.forms.Form.TheVariants.{Loads, Asked, Diffs, Docs, Bodies}

@@ -1,5 +1,5 @@
 use Rattle.proof_words.proofs.{ap, ◌∙◌}
-use Rattle.couch_answers.specs.State.{State}
+use Rattle.response_parser.specs.State.{State}
 use Rattle.couch_wording.specs.{words_of_wording}
 use Rattle.couch_lines.proofs.{is_done, makes}
 use Rattle.couch_lines.proofs.run.run_task.Goals as goal

@@ -1,6 +1,6 @@
 use Rattle.proof_words.proofs.{◌++◌, take, arith, ◌∙◌, refl, sym, subst, err_from_is_err_and, common_steps}
 use Rattle.couch_wording.specs.{Begins, words_of_wording}
-use Rattle.couch_answers.specs.{pieces, state_of}
+use Rattle.response_parser.specs.{pieces, state_of}
 use Rattle.couch_wording.proofs.{Begins-none, Begins-in, Begins-taken, Fed-joined, Fed-taken}
 use Rattle.couch_wording.proofs.run.feed.Goals as goal
 

@@ -1,6 +1,6 @@
 -- A front of the bytes was read, and what it holds is written.
 use Rattle.proof_words.proofs.{◌≡◌, ◌++◌, ℕ, List, length}
-use Rattle.couch_answers.specs.{state_of}
+use Rattle.response_parser.specs.{state_of}
 use Rattle.couch_wording.specs.{words_of_wording, Fed}
 use Rattle.couch_wording.proofs.run.feed.Given as goal
 

@@ -1,4 +1,4 @@
-use Rattle.couch_answers.specs.{state_of}
+use Rattle.response_parser.specs.{state_of}
 use Rattle.couch_wording.specs.{words_of_wording}
 use Rattle.couch_wording.proofs.{Finishes-end}
 use Rattle.couch_wording.proofs.run.finish.Goals as goal

@@ -1,8 +1,8 @@
 use Rattle.proof_words.proofs.{◌≡◌, [], ap, ◌∙◌, sym, subst, refl, false}
 use Rattle.script_engine.specs.{counted, chunk_of}
 use Rattle.script_engine.proofs.{a_chunk, no_chunk}
-use Rattle.couch_answers.specs.State.{State}
-use Rattle.couch_answers.specs.{is_refused, state_of}
+use Rattle.response_parser.specs.State.{State}
+use Rattle.response_parser.specs.{is_refused, state_of}
 use Rattle.couch_wording.specs.{IsWhole, words_of_wording}
 use Rattle.couch_wording.proofs.{Ran-none, start_going, Ran-more, Ran-end, Stopped-before, Stopped-in, Answered-end, Stopped-end, Stopped-refused}
 use Rattle.couch_wording.proofs.run.run_chunks.Goals as goal

@@ -1,6 +1,6 @@
 -- What was read so far is answers, and what they hold is written.
 use Rattle.proof_words.proofs.{◌≡◌, ◌-◌, false}
-use Rattle.couch_answers.specs.{is_refused, state_of}
+use Rattle.response_parser.specs.{is_refused, state_of}
 use Rattle.script_engine.specs.{HasRead, AreChunks, max_reads}
 use Rattle.couch_wording.specs.{words_of_wording}
 use Rattle.couch_wording.proofs.{Ran}

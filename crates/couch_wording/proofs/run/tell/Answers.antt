@@ -1,5 +1,5 @@
 use Rattle.proof_words.proofs.{◌∙◌, refl, err_from_is_err_and}
-use Rattle.couch_answers.specs.{state_of}
+use Rattle.response_parser.specs.{state_of}
 use Rattle.couch_wording.specs.{words_of_wording}
 use Rattle.couch_wording.proofs.{Begins-none, Begins-part}
 use Rattle.couch_wording.proofs.run.tell.Goals as goal

@@ -1,0 +1,45 @@
+-- Bytes read one after another.
+use Rattle.proof_words.proofs.{◌≡◌, ℕ, ◌+◌, ◌<◌, List, [], ◌∷◌, ◌++◌, take, get_or, length, Bool, false, ◌||◌, refl, sym, ap, ◌∙◌, append_assoc, append-nil, take_more}
+use Rattle.response_parser.specs.State.{State}
+use Rattle.response_parser.specs.{step, is_refused, after, given, pieces, piece_of, is_piece, stops, Found}
+use Rattle.response_parser.specs.declared.place.Found.TheVariants.{Nothing}
+
+pub after-append : (s : State) (xs ys : List ℕ) → after s (xs ++ ys) ≡ after (after s xs) ys
+after-append s [] ys = refl
+after-append s (x ∷ xs) ys = after-append (step s x) xs ys
+
+pub pieces-append : (s : State) (xs ys : List ℕ) → pieces s (xs ++ ys) ≡ pieces s xs ++ pieces (after s xs) ys
+pieces-append s [] ys = refl
+pieces-append s (x ∷ xs) ys =
+    ap (λ l. given (step s x) ++ l) (pieces-append (step s x) xs ys)
+    ∙ sym (append_assoc (given (step s x)) (pieces (step s x) xs) (pieces (after (step s x) xs) ys))
+
+-- one byte more
+pub after_more : (s : State) (bytes : List ℕ) (i : ℕ) → i < length bytes
+    → after s (take (i + 1) bytes) ≡ step (after s (take i bytes)) (get_or bytes i 0)
+after_more s bytes i h = ap (after s) (take_more bytes i 0 h) ∙ after-append s (take i bytes) (get_or bytes i 0 ∷ [])
+
+pub pieces_more : (s : State) (bytes : List ℕ) (i : ℕ) → i < length bytes
+    → pieces s (take (i + 1) bytes) ≡ pieces s (take i bytes) ++ given (step (after s (take i bytes)) (get_or bytes i 0))
+pieces_more s bytes i h =
+    ap (pieces s) (take_more bytes i 0 h) ∙ pieces-append s (take i bytes) (get_or bytes i 0 ∷ [])
+    ∙ ap (λ l. pieces s (take i bytes) ++ l) (append-nil (given (step (after s (take i bytes)) (get_or bytes i 0))))
+
+-- the same, from a reading that has come so far
+module _ (s m n : State) (bytes : List ℕ) (i : ℕ) where
+  pub after_taken : i < length bytes → m ≡ after s (take i bytes) → n ≡ step m (get_or bytes i 0) → n ≡ after s (take (i + 1) bytes)
+  after_taken h come one = one ∙ ap (λ z. step z (get_or bytes i 0)) come ∙ sym (after_more s bytes i h)
+
+  pub pieces_taken : i < length bytes → m ≡ after s (take i bytes) → n ≡ step m (get_or bytes i 0) → pieces s (take i bytes) ≡ []
+      → pieces s (take (i + 1) bytes) ≡ given n
+  pieces_taken h come one none =
+      pieces_more s bytes i h ∙ ap (λ l. l ++ given (step (after s (take i bytes)) (get_or bytes i 0))) none
+      ∙ ap given (sym (one ∙ ap (λ z. step z (get_or bytes i 0)) come))
+
+none_of : (f : Found) (text : List ℕ) (b : Bool) → (is_piece f || b) ≡ false → piece_of f text ≡ []
+none_of Nothing text b h = refl
+none_of _ text b h = absurd (cc)
+
+-- a reading that goes on has nothing whole
+pub given_none : (s : State) → stops s ≡ false → given s ≡ []
+given_none s h = none_of s.found s.text (is_refused s.place) h

@@ -1,0 +1,11 @@
+-- The bytes so far were taken, and nothing was made whole by them.
+use Rattle.proof_words.proofs.{◌≡◌, ◌⊎◌, [], take}
+use Rattle.response_parser.specs.{state_of, after, given, pieces}
+use Rattle.response_parser.proofs.reading.Reading.take_in.Given as goal
+
+abbrev pub invariant-loop-i : goal.invariant-loop-i
+invariant-loop-i l = record {
+  state : state_of l.self ≡ after (state_of l.fn.self) (take l.i l.bytes);
+  pieces : pieces (state_of l.fn.self) (take l.i l.bytes) ≡ [];
+  going : (l.i ≡ 0) ⊎ (given (state_of l.self) ≡ []);
+}

@@ -1,0 +1,177 @@
+-- What the name of a member says of its value: docs/PROFILE.md, "CouchDB's answers".
+use Rattle.std.specs.Prelude.{ℕ, ◌||◌, ◌&&◌, ◌==◌, List, Bool, true, false, cond, codes, Option, Some, None}
+use Rattle.std.specs.Str.{bytes_eq}
+use Rattle.response_parser.specs.declared.place.Wanted.{Wanted}
+use Rattle.response_parser.specs.declared.place.Wanted.TheVariants.{Documents, Enveloped, Bodies, Unfolded, Leaves, Changes as InChanges}
+use Rattle.response_parser.specs.declared.place.Name.{Name}
+use Rattle.response_parser.specs.declared.place.Name.TheVariants.{Plain, Document, Id, List as ListName, Changes, Rev, Missing, Passed, Last, Error, Reason, Other, Foreign}
+use Rattle.response_parser.specs.declared.place.Refusal.{Refusal}
+use Rattle.response_parser.specs.declared.place.Refusal.TheVariants.{NoAnswer, CouchError}
+use Rattle.response_parser.specs.declared.place.Found.{Found}
+use Rattle.response_parser.specs.declared.place.Found.TheVariants as found
+
+-- ---- of a name with its quotation marks
+
+-- where documents are wanted; the flag says that it is the first one of its object
+abbrev pub document_name : Bool → List ℕ → Name
+document_name first t =
+    cond (first && bytes_eq t (codes "\"_id\"")) Plain
+    (cond (bytes_eq t (codes "\"ok\"") || bytes_eq t (codes "\"doc\"")) Document
+    (cond (bytes_eq t (codes "\"results\"") || bytes_eq t (codes "\"rows\"") || bytes_eq t (codes "\"docs\"")) ListName
+    (cond (bytes_eq t (codes "\"missing\"") || bytes_eq t (codes "\"error\"")) Passed
+    (cond (bytes_eq t (codes "\"last_seq\"")) Last Other))))
+
+-- where leaves are wanted; the flags say that it stands in a list of a document's revisions, and in the entry of a
+-- document that misses revisions
+abbrev pub leaf_name : Bool → Bool → List ℕ → Name
+leaf_name inner entry t =
+    cond entry (cond (bytes_eq t (codes "\"missing\"")) Missing Other)
+    (cond (bytes_eq t (codes "\"results\"")) ListName
+    (cond (bytes_eq t (codes "\"id\"")) Id
+    (cond (bytes_eq t (codes "\"changes\"")) Changes
+    (cond (inner && bytes_eq t (codes "\"rev\"")) Rev
+    (cond (bytes_eq t (codes "\"last_seq\"")) Last Other)))))
+
+-- where a script's changes are wanted
+abbrev pub change_name : Bool → List ℕ → Name
+change_name first t = cond (first && bytes_eq t (codes "\"_id\"")) Plain Foreign
+
+abbrev pub wanted_name : Wanted → Bool → Bool → Bool → List ℕ → Name
+wanted_name Documents first inner entry t = document_name first t
+wanted_name Enveloped first inner entry t = document_name first t
+wanted_name Bodies first inner entry t = document_name first t
+wanted_name Unfolded first inner entry t = document_name first t
+wanted_name Leaves first inner entry t = leaf_name inner entry t
+wanted_name InChanges first inner entry t = change_name first t
+
+-- CouchDB's own error is an object outside of all others
+unfoldable pub name_of : Wanted → Bool → Bool → Bool → ℕ → List ℕ → Name
+name_of wanted first inner diff depth t =
+    cond (depth == 1 && bytes_eq t (codes "\"error\"")) Error
+    (cond (depth == 1 && bytes_eq t (codes "\"reason\"")) Reason (wanted_name wanted first inner (diff && depth == 2) t))
+
+-- ---- of a name
+
+abbrev pub is_plain : Name → Bool
+is_plain Plain = true
+is_plain Document = false
+is_plain Id = false
+is_plain ListName = false
+is_plain Changes = false
+is_plain Rev = false
+is_plain Missing = false
+is_plain Passed = false
+is_plain Last = false
+is_plain Error = false
+is_plain Reason = false
+is_plain Other = false
+is_plain Foreign = false
+
+abbrev pub is_known : Name → Bool
+is_known Plain = true
+is_known Document = true
+is_known Id = false
+is_known ListName = true
+is_known Changes = true
+is_known Rev = true
+is_known Missing = true
+is_known Passed = true
+is_known Last = true
+is_known Error = true
+is_known Reason = false
+is_known Other = false
+is_known Foreign = true
+
+abbrev pub is_id : Name → Bool
+is_id Plain = false
+is_id Document = false
+is_id Id = true
+is_id ListName = false
+is_id Changes = false
+is_id Rev = false
+is_id Missing = false
+is_id Passed = false
+is_id Last = false
+is_id Error = false
+is_id Reason = false
+is_id Other = false
+is_id Foreign = false
+
+abbrev pub is_changes : Name → Bool
+is_changes Plain = false
+is_changes Document = false
+is_changes Id = false
+is_changes ListName = false
+is_changes Changes = true
+is_changes Rev = false
+is_changes Missing = false
+is_changes Passed = false
+is_changes Last = false
+is_changes Error = false
+is_changes Reason = false
+is_changes Other = false
+is_changes Foreign = false
+
+abbrev pub is_error : Name → Bool
+is_error Plain = false
+is_error Document = false
+is_error Id = false
+is_error ListName = false
+is_error Changes = false
+is_error Rev = false
+is_error Missing = false
+is_error Passed = false
+is_error Last = false
+is_error Error = true
+is_error Reason = false
+is_error Other = false
+is_error Foreign = false
+
+-- What a value of that name is whose text begins with the byte: a document begins with a brace, an id and a revision
+-- with a quotation mark.
+abbrev pub found_of : Name → ℕ → Found
+found_of Plain first = found.Nothing
+found_of Document first = cond (first == 123) found.Document found.Nothing
+found_of Id first = cond (first == 34) found.Id found.Nothing
+found_of ListName first = found.Nothing
+found_of Changes first = found.Nothing
+found_of Rev first = cond (first == 34) found.Rev found.Nothing
+found_of Missing first = found.Nothing
+found_of Passed first = found.Nothing
+found_of Last first = found.Nothing
+found_of Error first = found.Nothing
+found_of Reason first = found.Nothing
+found_of Other first = found.Nothing
+found_of Foreign first = found.Nothing
+
+-- it stands in the place of a document
+abbrev pub passes : Name → ℕ → Bool
+passes Plain first = false
+passes Document first = cond (first == 123) false true
+passes Id first = false
+passes ListName first = false
+passes Changes first = false
+passes Rev first = false
+passes Missing first = false
+passes Passed first = true
+passes Last first = false
+passes Error first = true
+passes Reason first = false
+passes Other first = false
+passes Foreign first = false
+
+-- it is no id or no revision, though its name says so; or the reason of an error
+abbrev pub refusal_of : Name → ℕ → Bool → Option Refusal
+refusal_of Plain first failed = None
+refusal_of Document first failed = None
+refusal_of Id first failed = cond (first == 34) None (Some NoAnswer)
+refusal_of ListName first failed = None
+refusal_of Changes first failed = None
+refusal_of Rev first failed = cond (first == 34) None (Some NoAnswer)
+refusal_of Missing first failed = None
+refusal_of Passed first failed = None
+refusal_of Last first failed = None
+refusal_of Error first failed = None
+refusal_of Reason first failed = cond (first == 34 && failed) (Some CouchError) None
+refusal_of Other first failed = None
+refusal_of Foreign first failed = None

@@ -1,0 +1,32 @@
+-- First bytes of what is no answer, but known: docs/PROFILE.md, "CouchDB's answers". Gzip is RFC 1952, a status line
+-- RFC 9112, the delimiter of a part RFC 2046; a byte order mark is that of UTF-8 or UTF-16.
+use Rattle.std.specs.Prelude.{ℕ, ◌||◌, List, [], ◌∷◌, ◌++◌, Bool, cond, codes}
+use Rattle.std.specs.Str.{bytes_eq}
+use Rattle.response_parser.specs.State.{State}
+use Rattle.response_parser.specs.declared.place.Place.TheVariants.{Sign, Refused}
+use Rattle.response_parser.specs.declared.place.Refusal.{Refusal}
+use Rattle.response_parser.specs.declared.place.Refusal.TheVariants.{NoAnswer, Gzip, Html, Headers, Multipart, ByteOrderMark}
+
+-- a front of such bytes, and not all of them
+abbrev pub begins_sign : List ℕ → Bool
+begins_sign t =
+    bytes_eq t (31 ∷ []) || bytes_eq t (codes "<") || bytes_eq t (codes "-") || bytes_eq t (239 ∷ []) || bytes_eq t (239 ∷ 187 ∷ [])
+    || bytes_eq t (254 ∷ []) || bytes_eq t (255 ∷ []) || bytes_eq t (codes "H") || bytes_eq t (codes "HT") || bytes_eq t (codes "HTT")
+    || bytes_eq t (codes "HTTP")
+
+-- what a text is the beginning of
+abbrev pub sign_of : List ℕ → Refusal
+sign_of t =
+    cond (bytes_eq t (31 ∷ 139 ∷ [])) Gzip
+    (cond (bytes_eq t (codes "<!") || bytes_eq t (codes "<h") || bytes_eq t (codes "<H")) Html
+    (cond (bytes_eq t (codes "HTTP/")) Headers
+    (cond (bytes_eq t (codes "--")) Multipart
+    (cond (bytes_eq t (239 ∷ 187 ∷ 191 ∷ []) || bytes_eq t (254 ∷ 255 ∷ []) || bytes_eq t (255 ∷ 254 ∷ [])) ByteOrderMark NoAnswer))))
+
+abbrev pub in_sign : State → ℕ → State
+in_sign s b =
+    let t = s.text ++ b ∷ [] in
+    record s { place = cond (begins_sign t) Sign (Refused (sign_of t)); text = t }
+
+abbrev pub sign_begun : State → ℕ → State
+sign_begun s b = in_sign (record s { text = [] }) b

@@ -1,0 +1,166 @@
+//! Brackets and commas outside of values.
+ghost use Rattle.std.specs.Prelude.{◌≡◌};
+ghost use Rattle.response_parser.specs.Stored.{state_of};
+ghost use Rattle.response_parser.specs.State.{at, refused};
+ghost use Rattle.response_parser.specs.Objects.{opened, closed, list_closed, behind_object, object_closed, empty_closed, entry_opened, list_opened, at_item, at_next_item, after_item};
+
+use crate::place::{Found, Place, Refusal};
+use crate::reading::Reading;
+use crate::spelling::{is_space, more};
+use crate::wanted::{is_strict, wants_changes, wants_leaves};
+
+/// How many lists and objects may be open.
+const MAX_DEPTH: u8 = 8;
+
+impl Reading {
+    /// Goes on at a place.
+    #[inline(always)]
+    pub(crate) fn stand_at(&mut self, place: Place)
+        ensures { state_of self.new ≡ at place (state_of self.old) }
+    {
+        self.place = place;
+    }
+
+    /// Refuses a byte.
+    #[inline(always)]
+    pub(crate) fn refuse(&mut self, why: Refusal)
+        ensures { state_of self.new ≡ refused why (state_of self.old) }
+    {
+        self.place = Place::Refused(why);
+    }
+
+    /// Opens a list or an object, behind whose bracket is the place.
+    pub(crate) fn open(&mut self, place: Place)
+        ensures { state_of self.new ≡ opened place (state_of self.old) }
+    {
+        if self.depth < MAX_DEPTH {
+            self.place = place;
+            self.diff = self.diff && self.depth > 0;
+            self.depth += 1;
+            self.known = false;
+            self.named = false;
+            self.failed = false;
+        } else {
+            self.refuse(Refusal::NoAnswer);
+        }
+    }
+
+    /// Closes a list or an object, behind which is the place, unless it was the outermost one.
+    pub(crate) fn close(&mut self, place: Place)
+        ensures { state_of self.new ≡ closed place (state_of self.old) }
+    {
+        self.place = if self.depth > 1 {
+            place
+        } else {
+            Place::Between
+        };
+        self.some = true;
+        self.depth = if self.depth > 0 { self.depth - 1 } else { 0 };
+        self.known = true;
+        self.named = false;
+        self.failed = false;
+    }
+
+    /// Closes a list.
+    fn close_list(&mut self)
+        ensures { state_of self.new ≡ list_closed (state_of self.old) }
+    {
+        self.inner = false;
+        self.close(Place::AfterMember);
+    }
+
+    /// Closes an object. Where it has no known member it is passed over, or refused.
+    pub(crate) fn close_object(&mut self)
+        ensures { state_of self.new ≡ object_closed (state_of self.old) }
+    {
+        let behind = self.behind_object();
+        if self.known {
+            self.close(behind);
+        } else if is_strict(self.wanted) {
+            self.refuse(Refusal::NoDocument);
+        } else {
+            self.passed = more(self.passed);
+            self.close(behind);
+        }
+    }
+
+    /// Where the byte behind an object stands, which is an item, or the entry of a document.
+    fn behind_object(&self) -> Place
+        ensures { result ≡ behind_object (state_of self.now) }
+    {
+        if self.diff && self.depth == 2 {
+            Place::AfterMember
+        } else {
+            Place::AfterItem
+        }
+    }
+
+    /// Closes an object without members. An answer without any says that nothing is missing.
+    pub(crate) fn close_empty(&mut self)
+        ensures { state_of self.new ≡ empty_closed (state_of self.old) }
+    {
+        self.known = wants_leaves(self.wanted) && self.depth == 1;
+        self.close_object();
+    }
+
+    /// Opens the entry of a document, at whose name it was found.
+    pub(crate) fn open_entry(&mut self)
+        ensures { state_of self.new ≡ entry_opened (state_of self.old) }
+    {
+        self.diff = true;
+        self.found = Found::Id;
+        self.open(Place::Member);
+    }
+
+    /// A byte behind the bracket that opens a list.
+    pub(crate) fn at_item(&mut self, byte: u8)
+        ensures { state_of self.new ≡ at_item (state_of self.old) byte }
+    {
+        if is_space(byte) {
+            return;
+        }
+        match byte {
+            b'{' => self.open(Place::Member),
+            b']' => self.close_list(),
+            _ => self.refuse(Refusal::NoAnswer),
+        }
+    }
+
+    /// A byte behind a comma of a list.
+    pub(crate) fn at_next_item(&mut self, byte: u8)
+        ensures { state_of self.new ≡ at_next_item (state_of self.old) byte }
+    {
+        if is_space(byte) {
+            return;
+        }
+        match byte {
+            b'{' => self.open(Place::Member),
+            _ => self.refuse(Refusal::NoAnswer),
+        }
+    }
+
+    /// A byte behind an item.
+    pub(crate) fn after_item(&mut self, byte: u8)
+        ensures { state_of self.new ≡ after_item (state_of self.old) byte }
+    {
+        if is_space(byte) {
+            return;
+        }
+        match byte {
+            b',' => self.stand_at(Place::NextItem),
+            b']' => self.close_list(),
+            _ => self.refuse(Refusal::NotJson),
+        }
+    }
+
+    /// The bracket that opens an answer which is a list.
+    pub(crate) fn open_list(&mut self)
+        ensures { state_of self.new ≡ list_opened (state_of self.old) }
+    {
+        if wants_changes(self.wanted) {
+            self.refuse(Refusal::NoAnswer);
+        } else {
+            self.open(Place::Item);
+        }
+    }
+}

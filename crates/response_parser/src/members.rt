@@ -1,0 +1,289 @@
+//! Members of objects: their names, and what stands round them.
+ghost use Rattle.std.specs.Prelude.{◌≡◌, OnOk};
+ghost use Rattle.response_parser.specs.Stored.{state_of};
+ghost use Rattle.response_parser.specs.State.{added};
+ghost use Rattle.response_parser.specs.Names.{is_known, is_plain, is_id, is_changes};
+ghost use Rattle.response_parser.specs.Objects.{key_begun, at_member, at_next_member, after_member, name_in, named, plain_begun, in_key, in_key_escape, value_place, value_begun, begun_as, is_ahead, at_colon, at_list, moved_between};
+ghost use Rattle.response_parser.specs.Values.{at_ahead, begun_in};
+
+use crate::place::{Name, Place, Refusal, RevPlace};
+use crate::reading::Reading;
+use crate::spelling::{is_space, name_of};
+use crate::wanted::wants_leaves;
+use std::alloc::AllocError;
+
+impl Reading {
+    /// Takes in a byte of a name or a value.
+    #[inline(always)]
+    pub(crate) fn add(&mut self, byte: u8) -> Result<(), AllocError>
+        ensures { OnOk result (state_of self.new ≡ added byte (state_of self.old)) }
+    {
+        self.text.push(byte)?;
+        Ok(())
+    }
+
+    /// A byte where none is taken in.
+    pub(crate) fn between(&mut self, byte: u8)
+        ensures { state_of self.new ≡ moved_between self.old.place (state_of self.old) byte }
+    {
+        match self.place {
+            Place::Item => self.at_item(byte),
+            Place::NextItem => self.at_next_item(byte),
+            Place::AfterItem => self.after_item(byte),
+            Place::AfterMember => self.after_member(byte),
+            Place::Colon(name) => self.at_colon(name, byte),
+            Place::List => self.at_list(byte),
+            _ => {}
+        }
+    }
+
+    /// Begins a name, at its quotation mark.
+    fn begin_key(&mut self, first: bool) -> Result<(), AllocError>
+        ensures { OnOk result (state_of self.new ≡ key_begun first (state_of self.old)) }
+    {
+        self.text.clear();
+        self.text.push(b'"')?;
+        self.place = Place::Key;
+        self.first = first;
+        Ok(())
+    }
+
+    /// A byte behind the brace that opens an object.
+    pub(crate) fn at_member(&mut self, byte: u8) -> Result<(), AllocError>
+        ensures { OnOk result (state_of self.new ≡ at_member (state_of self.old) byte) }
+    {
+        if is_space(byte) {
+            return Ok(());
+        }
+        match byte {
+            b'"' => return self.begin_key(true),
+            b'}' => self.close_empty(),
+            _ => self.refuse(Refusal::NotJson),
+        }
+        Ok(())
+    }
+
+    /// A byte behind a comma of an object.
+    pub(crate) fn at_next_member(&mut self, byte: u8) -> Result<(), AllocError>
+        ensures { OnOk result (state_of self.new ≡ at_next_member (state_of self.old) byte) }
+    {
+        if is_space(byte) {
+            return Ok(());
+        }
+        if byte == b'"' {
+            return self.begin_key(false);
+        }
+        self.refuse(Refusal::NotJson);
+        Ok(())
+    }
+
+    /// A byte behind a member whose value is no text.
+    fn after_member(&mut self, byte: u8)
+        ensures { state_of self.new ≡ after_member (state_of self.old) byte }
+    {
+        if is_space(byte) {
+            return;
+        }
+        match byte {
+            b',' => self.stand_at(Place::NextMember),
+            b'}' => self.close_object(),
+            _ => self.refuse(Refusal::NotJson),
+        }
+    }
+
+    /// A byte of a name.
+    pub(crate) fn in_key(&mut self, byte: u8) -> Result<(), AllocError>
+        ensures { OnOk result (state_of self.new ≡ in_key (state_of self.old) byte) }
+    {
+        self.add(byte)?;
+        match byte {
+            b'"' => self.end_key(),
+            b'\\' => {
+                self.stand_at(Place::KeyEscape);
+                Ok(())
+            }
+            _ => Ok(()),
+        }
+    }
+
+    /// A byte behind a backslash of a name.
+    pub(crate) fn in_key_escape(&mut self, byte: u8) -> Result<(), AllocError>
+        ensures { OnOk result (state_of self.new ≡ in_key_escape (state_of self.old) byte) }
+    {
+        self.add(byte)?;
+        self.stand_at(Place::Key);
+        Ok(())
+    }
+
+    /// Ends a name, behind its last quotation mark.
+    fn end_key(&mut self) -> Result<(), AllocError>
+        ensures { OnOk result (state_of self.new ≡ named (state_of self.old)) }
+    {
+        if !self.is_json()? {
+            self.refuse(Refusal::NotJson);
+            return Ok(());
+        }
+        let name = self.name();
+        if is_plain(name) {
+            return self.begin_plain();
+        }
+        self.stand_at(Place::Colon(name));
+        Ok(())
+    }
+
+    /// What the name says that was read.
+    fn name(&self) -> Name
+        ensures { result ≡ name_in (state_of self.now) }
+    {
+        name_of(
+            self.wanted,
+            self.first,
+            self.inner,
+            self.diff,
+            self.depth,
+            self.text.as_slice(),
+        )
+    }
+
+    /// Begins a document that the object is, behind the name `_id` of its first member.
+    fn begin_plain(&mut self) -> Result<(), AllocError>
+        ensures { OnOk result (state_of self.new ≡ plain_begun (state_of self.old)) }
+    {
+        self.text.clear();
+        self.text.extend_from_slice(b"{\"_id\"")?;
+        self.place = Place::Value(Name::Plain);
+        self.nesting = 1;
+        Ok(())
+    }
+
+    /// A byte behind a name.
+    fn at_colon(&mut self, name: Name, byte: u8)
+        ensures { state_of self.new ≡ at_colon name (state_of self.old) byte }
+    {
+        if is_space(byte) {
+            return;
+        }
+        if byte != b':' {
+            self.refuse(Refusal::NotJson);
+        } else if self.is_ahead() {
+            self.stand_at(Place::Ahead(name));
+        } else {
+            self.begin_as(name);
+        }
+    }
+
+    /// Whether the value may be the entry of a document, which the name is the id of.
+    fn is_ahead(&self) -> bool
+        ensures { result ≡ is_ahead (state_of self.now) }
+    {
+        wants_leaves(self.wanted) && self.depth == 1 && (self.first || self.diff)
+    }
+
+    /// A byte before a value that may be the entry of a document.
+    pub(crate) fn at_ahead(&mut self, name: Name, byte: u8) -> Result<(), AllocError>
+        ensures { OnOk result (state_of self.new ≡ at_ahead name (state_of self.old) byte) }
+    {
+        if is_space(byte) {
+            return Ok(());
+        }
+        if byte == b'{' {
+            self.open_entry();
+            return Ok(());
+        }
+        if self.diff {
+            self.refuse(Refusal::NoAnswer);
+            return Ok(());
+        }
+        self.begin_as(name);
+        self.in_begun(byte)
+    }
+
+    /// The first byte of what a name says.
+    fn in_begun(&mut self, byte: u8) -> Result<(), AllocError>
+        ensures { OnOk result (state_of self.new ≡ begun_in (state_of self.old) byte) }
+    {
+        match self.place {
+            Place::Value(name) => self.in_value(name, byte),
+            _ => {
+                self.between(byte);
+                Ok(())
+            }
+        }
+    }
+
+    /// Begins what a name says, behind its colon.
+    fn begin_as(&mut self, name: Name)
+        ensures { state_of self.new ≡ begun_as name (state_of self.old) }
+    {
+        match name {
+            Name::Foreign => self.refuse(Refusal::NoDocument),
+            Name::Changes if !self.named => self.refuse(Refusal::NoAnswer),
+            _ => self.begin_value(name),
+        }
+    }
+
+    /// Begins a value, behind the colon of its name.
+    fn begin_value(&mut self, name: Name)
+        ensures { state_of self.new ≡ value_begun name (state_of self.old) }
+    {
+        self.place = value_place(name);
+        self.known = self.known || is_known(name);
+        self.named = self.named || is_id(name);
+        self.inner = self.inner || is_changes(name);
+        self.text.clear();
+        self.nesting = 0;
+    }
+
+    /// A byte before the bracket that opens a list.
+    fn at_list(&mut self, byte: u8)
+        ensures { state_of self.new ≡ at_list (state_of self.old) byte }
+    {
+        if is_space(byte) {
+            return;
+        }
+        if byte == b'[' {
+            self.open(Place::Item);
+        } else {
+            self.refuse(Refusal::NoAnswer);
+        }
+    }
+}
+
+/// Where the value of a name begins.
+fn value_place(name: Name) -> Place
+    ensures { result ≡ value_place name }
+{
+    match name {
+        Name::List | Name::Changes => Place::List,
+        Name::Missing => Place::Revs(RevPlace::List),
+        _ => Place::Value(name),
+    }
+}
+
+/// Whether a name says something of its value.
+fn is_known(name: Name) -> bool
+    ensures { result ≡ is_known name }
+{
+    !matches!(name, Name::Other | Name::Id | Name::Reason)
+}
+
+/// Whether a name says that its object is a document itself.
+pub(crate) fn is_plain(name: Name) -> bool
+    ensures { result ≡ is_plain name }
+{
+    matches!(name, Name::Plain)
+}
+
+/// Whether it is that of an id.
+fn is_id(name: Name) -> bool
+    ensures { result ≡ is_id name }
+{
+    matches!(name, Name::Id)
+}
+
+/// Whether it is that of a list of revisions.
+fn is_changes(name: Name) -> bool
+    ensures { result ≡ is_changes name }
+{
+    matches!(name, Name::Changes)
+}

@@ -1,0 +1,221 @@
+//! A reading of answers, byte by byte.
+ghost use Rattle.std.specs.Prelude.{◌≡◌, ◌<◌, ◌≤◌, false, length, take, IfOk, OnOk};
+ghost use Rattle.response_parser.specs.Stored.{state_of};
+ghost use Rattle.response_parser.specs.State.{start};
+ghost use Rattle.response_parser.specs.Reading.{after, end_of, given, has_rest, pieces, stops};
+ghost use Rattle.response_parser.specs.Steps.{is_refused, begun, moved, step};
+
+use crate::place::{Found, Place, Refusal, Wanted};
+use crate::spelling::more;
+use crate::wanted::first_place;
+use doc_envelope::Envelope;
+use json::Scratch;
+use std::alloc::{AllocError, Global};
+
+/// How far answers were read.
+#[derive(Drop)]
+pub struct Reading {
+    pub(crate) wanted: Wanted,
+    pub(crate) place: Place,
+    /// Whether a list or an object was closed.
+    pub(crate) some: bool,
+    /// How many lists and objects are open.
+    pub(crate) depth: u8,
+    /// Whether the innermost object has a member that is known.
+    pub(crate) known: bool,
+    /// Whether it has an id.
+    pub(crate) named: bool,
+    /// Whether the name that was read last is the first one of its object.
+    pub(crate) first: bool,
+    /// Whether the innermost list is one of a document's revisions.
+    pub(crate) inner: bool,
+    /// Whether the answer is one of what is missing, by the ids of documents.
+    pub(crate) diff: bool,
+    /// Whether the answer has an error.
+    pub(crate) failed: bool,
+    /// How many brackets are open within a value.
+    pub(crate) nesting: u8,
+    /// The text of a name or a value.
+    pub(crate) text: Vec<u8>,
+    /// The text of the error that was read last.
+    pub(crate) error: Vec<u8>,
+    pub(crate) found: Found,
+    /// How many documents were passed over.
+    pub(crate) passed: u64,
+    /// How many bytes were read.
+    pub(crate) taken: u64,
+    pub(crate) scratch: Scratch,
+    pub(crate) envelope: Envelope,
+}
+
+impl Reading {
+    /// A reading that begins.
+    pub fn new(alloc: Global, wanted: Wanted) -> Reading
+        ensures { state_of result ≡ start wanted }
+    {
+        Reading {
+            wanted,
+            place: first_place(wanted),
+            some: false,
+            depth: 0,
+            known: false,
+            named: false,
+            first: false,
+            inner: false,
+            diff: false,
+            failed: false,
+            nesting: 0,
+            text: Vec::new(alloc),
+            error: Vec::new(alloc),
+            found: Found::Nothing,
+            passed: 0,
+            taken: 0,
+            scratch: Scratch::new(alloc),
+            envelope: Envelope::new(alloc),
+        }
+    }
+
+    /// Takes bytes up to one that makes something whole, or is refused, or to their end. Gives how many were taken.
+    ///
+    /// Where memory was wanting, nothing can be read any more.
+    pub fn take_in(&mut self, bytes: &[u8]) -> Result<usize, AllocError>
+        requires { 0 < length bytes.now }
+        ensures some { IfOk result (λ count. 0 < count) }
+        ensures within { IfOk result (λ count. count ≤ length bytes.now) }
+        ensures state { IfOk result (λ count. state_of self.new ≡ after (state_of self.old) (take count bytes.now)) }
+        ensures pieces { IfOk result
+            (λ count. pieces (state_of self.old) (take count bytes.now) ≡ given (state_of self.new)) }
+        ensures all { IfOk result (λ count. stops (state_of self.new) ≡ false → count ≡ length bytes.now) }
+    {
+        for (i, byte) in bytes.iter().enumerate() {
+            self.take(*byte)?;
+            if self.stops() {
+                return Ok(i + 1);
+            }
+        }
+        Ok(bytes.len())
+    }
+
+    /// What the last byte made whole.
+    pub fn found(&self) -> Found
+        ensures { result ≡ (state_of self.now).found }
+    {
+        self.found
+    }
+
+    /// Its text, where something was made whole.
+    pub fn text(&self) -> &[u8]
+        ensures { result.now ≡ (state_of self.now).text }
+    {
+        self.text.as_slice()
+    }
+
+    /// The text of CouchDB's own error, with its quotation marks.
+    pub fn error(&self) -> &[u8]
+        ensures { result.now ≡ (state_of self.now).error }
+    {
+        self.error.as_slice()
+    }
+
+    /// How many documents were passed over.
+    pub fn passed(&self) -> u64
+        ensures { result ≡ (state_of self.now).passed }
+    {
+        self.passed
+    }
+
+    /// How many bytes were taken, with the one that was refused.
+    pub fn taken(&self) -> u64
+        ensures { result ≡ (state_of self.now).taken }
+    {
+        self.taken
+    }
+
+    /// Whether a byte was refused.
+    pub fn is_refused(&self) -> bool
+        ensures { result ≡ is_refused (state_of self.now).place }
+    {
+        is_refused(self.place)
+    }
+
+    /// Why what was taken is not whole answers and nothing else, where no byte follows.
+    pub fn end(&self) -> Result<(), Refusal>
+        ensures { result ≡ end_of (state_of self.now).place }
+    {
+        match self.place {
+            Place::Between | Place::Begin => Ok(()),
+            Place::Start | Place::Sign => Err(Refusal::NoAnswer),
+            Place::Refused(why) => Err(why),
+            _ => Err(Refusal::CutOff),
+        }
+    }
+
+    /// Whether a line has begun that has no line end.
+    pub fn has_rest(&self) -> bool
+        ensures { result ≡ has_rest (state_of self.now).place }
+    {
+        matches!(self.place, Place::Line(_))
+    }
+
+    /// Whether the last byte made something whole, or was refused.
+    #[inline(always)]
+    fn stops(&self) -> bool
+        ensures { result ≡ stops (state_of self.now) }
+    {
+        self.found != Found::Nothing || is_refused(self.place)
+    }
+
+    /// Takes a byte.
+    #[inline(always)]
+    #[tactic(auto, unfolding(crate::specs::Steps::step))]
+    fn take(&mut self, byte: u8) -> Result<(), AllocError>
+        ensures { OnOk result (state_of self.new ≡ step (state_of self.old) byte) }
+    {
+        self.begin();
+        self.advance(byte)
+    }
+
+    /// Counts a byte, until one is refused.
+    #[inline(always)]
+    fn begin(&mut self)
+        ensures { state_of self.new ≡ begun (state_of self.old) }
+    {
+        self.found = Found::Nothing;
+        if !is_refused(self.place) {
+            self.taken = more(self.taken);
+        }
+    }
+
+    /// Does what a byte does at the place where the reading stands.
+    #[inline(always)]
+    fn advance(&mut self, byte: u8) -> Result<(), AllocError>
+        ensures { OnOk result (state_of self.new ≡ moved self.old.place (state_of self.old) byte) }
+    {
+        match self.place {
+            Place::Value(name) => self.in_value(name, byte),
+            Place::Quoted(name) => self.in_quoted(name, byte),
+            Place::Escaped(name) => self.in_escaped(name, byte),
+            Place::Line(place) => self.in_line(place, byte),
+            Place::Revs(place) => self.in_revs(place, byte),
+            Place::Ahead(name) => self.at_ahead(name, byte),
+            Place::Start | Place::Begin | Place::Between => self.at_answer(byte),
+            Place::Sign => self.in_sign(byte),
+            Place::Key => self.in_key(byte),
+            Place::KeyEscape => self.in_key_escape(byte),
+            Place::Member => self.at_member(byte),
+            Place::NextMember => self.at_next_member(byte),
+            _ => {
+                self.between(byte);
+                Ok(())
+            }
+        }
+    }
+}
+
+/// Whether a byte was refused.
+#[inline(always)]
+fn is_refused(place: Place) -> bool
+    ensures { result ≡ is_refused place }
+{
+    matches!(place, Place::Refused(_))
+}

@@ -1,0 +1,129 @@
+//! Single bytes and names.
+ghost use Rattle.std.specs.Prelude.{◌≡◌, ◌||◌};
+ghost use Rattle.std.specs.Str.{bytes_eq};
+ghost use Rattle.doc_envelope.specs.Texts.{is_space};
+ghost use Rattle.response_parser.specs.State.{more};
+ghost use Rattle.response_parser.specs.Names.{name_of, wanted_name, document_name, leaf_name, change_name};
+
+use crate::place::{Name, Wanted};
+
+/// Whether a byte is white space of JSON.
+#[inline(always)]
+pub(crate) fn is_space(byte: u8) -> bool
+    ensures { result ≡ is_space byte }
+{
+    byte == b' ' || byte == b'\t' || byte == b'\n' || byte == b'\r'
+}
+
+/// One more, up to 2^64 - 1.
+#[inline(always)]
+pub(crate) fn more(count: u64) -> u64
+    ensures { result ≡ more count }
+{
+    if count < u64::MAX { count + 1 } else { count }
+}
+
+/// Whether two texts are the same.
+#[inline(always)]
+pub(crate) fn is(text: &[u8], name: &[u8]) -> bool
+    ensures { result ≡ bytes_eq text.now name.now }
+{
+    text == name
+}
+
+/// Whether a text is one of two.
+#[inline(always)]
+fn is_either(text: &[u8], one: &[u8], other: &[u8]) -> bool
+    ensures { result ≡ (bytes_eq text.now one.now || bytes_eq text.now other.now) }
+{
+    is(text, one) || is(text, other)
+}
+
+/// What a member's name, with its quotation marks, says of its value. The flags say that it is the first one of its
+/// object, that it stands in a list of a document's revisions, and that the answer is one of what is missing; so many
+/// lists and objects are open.
+#[tactic(auto, unfolding(crate::specs::Names::name_of))]
+pub(crate) fn name_of(
+    wanted: Wanted,
+    first: bool,
+    inner: bool,
+    diff: bool,
+    depth: u8,
+    text: &[u8],
+) -> Name
+    ensures { result ≡ name_of wanted first inner diff depth text.now }
+{
+    if depth == 1 && is(text, b"\"error\"") {
+        return Name::Error;
+    }
+    if depth == 1 && is(text, b"\"reason\"") {
+        return Name::Reason;
+    }
+    wanted_name(wanted, first, inner, diff && depth == 2, text)
+}
+
+/// The same, of an object within others.
+fn wanted_name(wanted: Wanted, first: bool, inner: bool, entry: bool, text: &[u8]) -> Name
+    ensures { result ≡ wanted_name wanted first inner entry text.now }
+{
+    match wanted {
+        Wanted::Leaves => name_of_leaves(inner, entry, text),
+        Wanted::Changes => name_of_changes(first, text),
+        _ => name_of_documents(first, text),
+    }
+}
+
+/// The same, where documents are wanted.
+fn name_of_documents(first: bool, text: &[u8]) -> Name
+    ensures { result ≡ document_name first text.now }
+{
+    if first && is(text, b"\"_id\"") {
+        Name::Plain
+    } else if is_either(text, b"\"ok\"", b"\"doc\"") {
+        Name::Document
+    } else if is_either(text, b"\"results\"", b"\"rows\"") || is(text, b"\"docs\"") {
+        Name::List
+    } else if is_either(text, b"\"missing\"", b"\"error\"") {
+        Name::Passed
+    } else if is(text, b"\"last_seq\"") {
+        Name::Last
+    } else {
+        Name::Other
+    }
+}
+
+/// The same, where leaves are wanted.
+fn name_of_leaves(inner: bool, entry: bool, text: &[u8]) -> Name
+    ensures { result ≡ leaf_name inner entry text.now }
+{
+    if entry {
+        if is(text, b"\"missing\"") {
+            Name::Missing
+        } else {
+            Name::Other
+        }
+    } else if is(text, b"\"results\"") {
+        Name::List
+    } else if is(text, b"\"id\"") {
+        Name::Id
+    } else if is(text, b"\"changes\"") {
+        Name::Changes
+    } else if inner && is(text, b"\"rev\"") {
+        Name::Rev
+    } else if is(text, b"\"last_seq\"") {
+        Name::Last
+    } else {
+        Name::Other
+    }
+}
+
+/// The same, where a script's changes are wanted.
+fn name_of_changes(first: bool, text: &[u8]) -> Name
+    ensures { result ≡ change_name first text.now }
+{
+    if first && is(text, b"\"_id\"") {
+        Name::Plain
+    } else {
+        Name::Foreign
+    }
+}

@@ -1,0 +1,243 @@
+//! Values of members.
+ghost use Rattle.std.specs.Prelude.{◌≡◌, IfOk, OnOk, slice_index};
+ghost use Rattle.doc_envelope.specs.Texts.{is_json};
+ghost use Rattle.response_parser.specs.Stored.{state_of};
+ghost use Rattle.response_parser.specs.Names.{found_of, passes, refusal_of, is_error};
+ghost use Rattle.response_parser.specs.Values.{error_kept, told, judged, value_passed, value_ended, deeper, shallower, spaced, plain_ended, in_value, in_quoted, in_escaped};
+
+use crate::members::is_plain;
+use crate::place::{Found, Name, Place, Refusal};
+use crate::reading::Reading;
+use crate::spelling::{is_space, more};
+use crate::wanted::wants_documents;
+use doc_envelope::is_log;
+use std::alloc::AllocError;
+
+/// How many brackets may be open within a value.
+const MAX_NESTING: u8 = 128;
+
+impl Reading {
+    /// Whether the text is a JSON text in UTF-8.
+    pub(crate) fn is_json(&mut self) -> Result<bool, AllocError>
+        ensures value { IfOk result (λ json. json ≡ is_json self.old.text.items) }
+        ensures same { OnOk result (state_of self.new ≡ state_of self.old) }
+    {
+        let Ok(text) = simdutf8::basic::from_utf8(self.text.as_slice()) else {
+            return Ok(false);
+        };
+        json::is_valid(text, &mut self.scratch)
+    }
+
+    /// A byte of a value.
+    pub(crate) fn in_value(&mut self, name: Name, byte: u8) -> Result<(), AllocError>
+        ensures { OnOk result (state_of self.new ≡ in_value name (state_of self.old) byte) }
+    {
+        if is_space(byte) {
+            return self.space();
+        }
+        if self.nesting == 0 && (byte == b',' || byte == b'}') {
+            return self.end_value(name, byte);
+        }
+        match byte {
+            b'"' => {
+                self.add(byte)?;
+                self.stand_at(Place::Quoted(name));
+                Ok(())
+            }
+            b'{' | b'[' => self.nest(byte),
+            b'}' | b']' => self.unnest(name, byte),
+            _ => self.add(byte),
+        }
+    }
+
+    /// White space outside of strings. Before a value it goes.
+    fn space(&mut self) -> Result<(), AllocError>
+        ensures { OnOk result (state_of self.new ≡ spaced (state_of self.old)) }
+    {
+        if self.text.is_empty() {
+            return Ok(());
+        }
+        self.add(b' ')
+    }
+
+    /// A bracket that opens.
+    fn nest(&mut self, byte: u8) -> Result<(), AllocError>
+        ensures { OnOk result (state_of self.new ≡ deeper (state_of self.old) byte) }
+    {
+        if self.nesting < MAX_NESTING {
+            self.nesting += 1;
+            return self.add(byte);
+        }
+        self.refuse(Refusal::NotJson);
+        Ok(())
+    }
+
+    /// A bracket that closes, and with it a document that is the object itself.
+    fn unnest(&mut self, name: Name, byte: u8) -> Result<(), AllocError>
+        ensures { OnOk result (state_of self.new ≡ shallower name (state_of self.old) byte) }
+    {
+        if self.nesting == 0 {
+            self.refuse(Refusal::NotJson);
+            return Ok(());
+        }
+        let ends = self.nesting == 1 && is_plain(name);
+        self.nesting -= 1;
+        self.add(byte)?;
+        if ends {
+            return self.end_plain();
+        }
+        Ok(())
+    }
+
+    /// Ends a document that is the object itself.
+    fn end_plain(&mut self) -> Result<(), AllocError>
+        ensures { OnOk result (state_of self.new ≡ plain_ended (state_of self.old)) }
+    {
+        if !self.is_json()? {
+            self.refuse(Refusal::NotJson);
+            return Ok(());
+        }
+        self.known = true;
+        self.close_object();
+        if wants_documents(self.wanted) && !is_log(self.text.as_slice()) {
+            return self.find_document();
+        }
+        Ok(())
+    }
+
+    /// The byte behind a value, a comma or the brace that closes the object.
+    fn end_value(&mut self, name: Name, byte: u8) -> Result<(), AllocError>
+        ensures { OnOk result (state_of self.new ≡ value_ended name (state_of self.old) byte) }
+    {
+        if !self.is_json()? {
+            self.refuse(Refusal::NotJson);
+            return Ok(());
+        }
+        let first = first_of(self.text.as_slice());
+        if let Some(why) = refusal_of(name, first, self.failed) {
+            self.refuse(why);
+            return Ok(());
+        }
+        self.pass_value(byte);
+        self.judge(name, first)
+    }
+
+    /// The byte behind a value that was told.
+    fn pass_value(&mut self, byte: u8)
+        ensures { state_of self.new ≡ value_passed (state_of self.old) byte }
+    {
+        if byte == b',' {
+            self.stand_at(Place::NextMember);
+        } else {
+            self.close_object();
+        }
+    }
+
+    /// Tells what a value is that is whole, by its first byte.
+    fn judge(&mut self, name: Name, first: u8) -> Result<(), AllocError>
+        ensures { OnOk result (state_of self.new ≡ judged name first (state_of self.old)) }
+    {
+        if passes(name, first) {
+            self.passed = more(self.passed);
+        }
+        self.keep_error(name, first)?;
+        let found = found_of(name, first);
+        self.tell(found)
+    }
+
+    /// Keeps CouchDB's own error.
+    fn keep_error(&mut self, name: Name, first: u8) -> Result<(), AllocError>
+        ensures { OnOk result (state_of self.new ≡ error_kept name first (state_of self.old)) }
+    {
+        if !is_error(name) || first != b'"' {
+            return Ok(());
+        }
+        self.failed = true;
+        self.error.clear();
+        self.error.extend_from_slice(self.text.as_slice())
+    }
+
+    /// Tells what the text is.
+    fn tell(&mut self, found: Found) -> Result<(), AllocError>
+        ensures { OnOk result (state_of self.new ≡ told found (state_of self.old)) }
+    {
+        match found {
+            Found::Document => self.find_document(),
+            found => {
+                self.found = found;
+                Ok(())
+            }
+        }
+    }
+
+    /// A byte of a string.
+    pub(crate) fn in_quoted(&mut self, name: Name, byte: u8) -> Result<(), AllocError>
+        ensures { OnOk result (state_of self.new ≡ in_quoted name (state_of self.old) byte) }
+    {
+        self.add(byte)?;
+        match byte {
+            b'"' => self.stand_at(Place::Value(name)),
+            b'\\' => self.stand_at(Place::Escaped(name)),
+            _ => {}
+        }
+        Ok(())
+    }
+
+    /// A byte behind a backslash of a string.
+    pub(crate) fn in_escaped(&mut self, name: Name, byte: u8) -> Result<(), AllocError>
+        ensures { OnOk result (state_of self.new ≡ in_escaped name (state_of self.old) byte) }
+    {
+        self.add(byte)?;
+        self.stand_at(Place::Quoted(name));
+        Ok(())
+    }
+}
+
+/// The first byte of a text, or 0 where it has none.
+fn first_of(text: &[u8]) -> u8
+    ensures { result ≡ slice_index text.now 0 }
+{
+    if text.is_empty() { 0 } else { text[0] }
+}
+
+/// What a value of a name is that begins with a byte.
+fn found_of(name: Name, first: u8) -> Found
+    ensures { result ≡ found_of name first }
+{
+    match name {
+        Name::Document if first == b'{' => Found::Document,
+        Name::Id if first == b'"' => Found::Id,
+        Name::Rev if first == b'"' => Found::Rev,
+        _ => Found::Nothing,
+    }
+}
+
+/// Whether it stands in the place of a document.
+fn passes(name: Name, first: u8) -> bool
+    ensures { result ≡ passes name first }
+{
+    match name {
+        Name::Document => first != b'{',
+        Name::Passed | Name::Error => true,
+        _ => false,
+    }
+}
+
+/// Why a value of a name is refused that begins with a byte: it is no id or no revision, though its name says so, or
+/// the reason of an error.
+fn refusal_of(name: Name, first: u8, failed: bool) -> Option<Refusal>
+    ensures { result ≡ refusal_of name first failed }
+{
+    match name {
+        Name::Id | Name::Rev if first != b'"' => Some(Refusal::NoAnswer),
+        Name::Reason if first == b'"' && failed => Some(Refusal::CouchError),
+        _ => None,
+    }
+}
+
+/// Whether a name is that of an error.
+fn is_error(name: Name) -> bool
+    ensures { result ≡ is_error name }
+{
+    matches!(name, Name::Error)
+}
