@@ -4,8 +4,8 @@ use Rattle.response_parser.specs.{wants_documents, is_strict, Piece, IsAnswered,
 use Rattle.response_parser.specs.LineGrammar.{IsScript}
 use Rattle.response_parser.specs.declared.place.Wanted.{Wanted}
 use Rattle.response_parser.specs.declared.place.Wanted.TheVariants.{Changes}
-use Rattle.couch_wording.specs.Words.{Words}
-use Rattle.couch_wording.specs.{Answered, Stopped, ReadsAnswers, AnswerFault}
+use Rattle.response_output.specs.Words.{Words}
+use Rattle.response_output.specs.{Answered, Stopped, ReadsAnswers, AnswerFault}
 use Rattle.couch_lines.specs.{IsDone, Makes, is_drawn, wanted_of, words_of_task, Task}
 use Rattle.couch_lines.specs.declared.tasks.Task.TheVariants.{Load, Ids, Diff, Leaves, Bulk, Trees}
 

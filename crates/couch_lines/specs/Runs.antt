@@ -7,9 +7,9 @@ use Rattle.response_parser.specs.LineGrammar.{IsScript}
 use Rattle.response_parser.specs.ChangeGrammar.{IsChangeScript}
 use Rattle.response_parser.specs.declared.place.Wanted.{Wanted}
 use Rattle.response_parser.specs.declared.place.Wanted.TheVariants.{Documents, Enveloped, Bodies, Unfolded, Leaves as InFeed, Changes}
-use Rattle.couch_wording.specs.Words.{Words, loads_of, asked_of, diffs_of, docs_of, bodies_of}
-use Rattle.couch_wording.specs.Runs.{Answered, Stopped, ReadsAnswers}
-use Rattle.couch_wording.specs.declared.run.AnswerFault.{AnswerFault}
+use Rattle.response_output.specs.Words.{Words, loads_of, asked_of, diffs_of, docs_of, bodies_of}
+use Rattle.response_output.specs.Runs.{Answered, Stopped, ReadsAnswers}
+use Rattle.response_output.specs.declared.run.AnswerFault.{AnswerFault}
 use Rattle.answer_pictures.specs.Drawing.{IsPictured}
 use Rattle.answer_pictures.specs.declared.form.Form.{Form}
 use Rattle.answer_pictures.specs.declared.form.Form.TheVariants.{Text, Svg}

@@ -4,8 +4,8 @@ use Rattle.clap.specs.Words.{kind_of}
 use Rattle.cli_common.specs.Status.{kind_status}
 use Rattle.script_engine.specs.declared.fault.ScriptFault.{ScriptFault}
 use Rattle.script_engine.specs.declared.fault.ScriptFault.TheVariants as faults
-use Rattle.couch_wording.specs.declared.run.AnswerFault.{AnswerFault}
-use Rattle.couch_wording.specs.declared.run.AnswerFault.TheVariants.{Device}
+use Rattle.response_output.specs.declared.run.AnswerFault.{AnswerFault}
+use Rattle.response_output.specs.declared.run.AnswerFault.TheVariants.{Device}
 use Rattle.couch_lines.specs.declared.options.NoTask.{NoTask}
 use Rattle.couch_lines.specs.declared.options.NoTask.TheVariants.{Words, Unknown, Wrong, Memory}
 use Rattle.couch_lines.specs.declared.run.Ended.{Ended}

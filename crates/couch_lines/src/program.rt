@@ -6,7 +6,7 @@ use crate::options::NoTask;
 use crate::run::{Ended, Run, run_words};
 use crate::tasks::Named;
 use response_parser::Refusal;
-use couch_wording::AnswerFault;
+use response_output::AnswerFault;
 use cli_common::{BAD_COMMAND_LINE, tell_no_memory, tell_no_words, tell_words, words_of};
 use script_engine::{OverRead, OverWrite, ScriptFault, ScriptWrite};
 use std::env::Env;

@@ -1,6 +1,6 @@
 use Rattle.proof_words.proofs.{ap, ◌∙◌}
 use Rattle.response_parser.specs.State.{State}
-use Rattle.couch_wording.specs.{words_of_wording}
+use Rattle.response_output.specs.{words_of_wording}
 use Rattle.couch_lines.proofs.{is_done, makes}
 use Rattle.couch_lines.proofs.run.run_task.Goals as goal
 

@@ -5,12 +5,12 @@ use Rattle.script_engine.specs.declared.fault.ScriptFault.TheVariants.{Write}
 use Rattle.script_engine.proofs.{Gives-left, Gives-end}
 use Rattle.response_parser.specs.State.{State}
 use Rattle.response_parser.specs.{start, is_refused, Piece, after, given, piece_of, pieces, end_of, last_end, whole, Refusal, Found}
-use Rattle.couch_wording.specs.Words.{Words}
-use Rattle.couch_wording.specs.{text_for, words_then, texts, words_behind, last_text, Fed, IsWhole, Begins, EndsAnswers, Finishes, IsAll, IsLeft, Answered, Stopped, all_text, judged_by, ended_of, AnswerFault}
+use Rattle.response_output.specs.Words.{Words}
+use Rattle.response_output.specs.{text_for, words_then, texts, words_behind, last_text, Fed, IsWhole, Begins, EndsAnswers, Finishes, IsAll, IsLeft, Answered, Stopped, all_text, judged_by, ended_of, AnswerFault}
 use Rattle.response_parser.specs.declared.place.Wanted.{Wanted}
 use Rattle.response_parser.specs.declared.place.Wanted.TheVariants.{Documents}
 use Rattle.response_parser.specs.declared.place.Found.TheVariants.{Nothing, Document, Id, Rev}
-use Rattle.couch_wording.specs.declared.run.AnswerFault.TheVariants.{Refused, Device}
+use Rattle.response_output.specs.declared.run.AnswerFault.TheVariants.{Refused, Device}
 use Rattle.response_parser.proofs.{after-append, pieces-append}
 
 -- ---- texts

@@ -8,11 +8,11 @@ use Rattle.script_engine.specs.declared.fault.ScriptFault.TheVariants.{Read, Wri
 use Rattle.response_parser.specs.State.{State, start}
 use Rattle.response_parser.specs.Steps.{is_refused}
 use Rattle.response_parser.specs.Reading.{Piece, after, pieces, end_of, last_end, whole}
-use Rattle.couch_wording.specs.Words.{Words, texts, words_behind, last_text}
+use Rattle.response_output.specs.Words.{Words, texts, words_behind, last_text}
 use Rattle.response_parser.specs.declared.place.Wanted.{Wanted}
 use Rattle.response_parser.specs.declared.place.Refusal.{Refusal}
-use Rattle.couch_wording.specs.declared.run.AnswerFault.{AnswerFault}
-use Rattle.couch_wording.specs.declared.run.AnswerFault.TheVariants.{Refused, Device}
+use Rattle.response_output.specs.declared.run.AnswerFault.{AnswerFault}
+use Rattle.response_output.specs.declared.run.AnswerFault.TheVariants.{Refused, Device}
 
 -- ---- some bytes
 

@@ -5,9 +5,9 @@ use Rattle.response_parser.specs.State.{more}
 use Rattle.response_parser.specs.Reading.{Piece}
 use Rattle.response_parser.specs.declared.place.Found.{Found}
 use Rattle.response_parser.specs.declared.place.Found.TheVariants.{Nothing, Document, Id, Rev}
-use Rattle.couch_wording.specs.Forms.{opening, separator, ends, closing, empty, before_rev, has_lists}
-use Rattle.couch_wording.specs.declared.forms.Form.{Form}
-use Rattle.couch_wording.specs.declared.forms.Form.TheVariants.{Loads, Asked, Diffs, Docs, Bodies}
+use Rattle.response_output.specs.Forms.{opening, separator, ends, closing, empty, before_rev, has_lists}
+use Rattle.response_output.specs.declared.forms.Form.{Form}
+use Rattle.response_output.specs.declared.forms.Form.TheVariants.{Loads, Asked, Diffs, Docs, Bodies}
 
 -- how the next text is written
 pub record Words : Type 0 where

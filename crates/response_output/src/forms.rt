@@ -1,6 +1,6 @@
 //! What stands round the texts that are written.
 ghost use Rattle.std.specs.Prelude.{◌≡◌};
-ghost use Rattle.couch_wording.specs.Forms.{opening as opening_of, separator as separator_of, ends as ends_of, closing as closing_of, empty as empty_of, before_rev as before_rev_of, has_lists as has_lists_of};
+ghost use Rattle.response_output.specs.Forms.{opening as opening_of, separator as separator_of, ends as ends_of, closing as closing_of, empty as empty_of, before_rev as before_rev_of, has_lists as has_lists_of};
 
 /// What is made of what was read.
 #[derive(Clone, Copy, Debug, PartialEq, Eq)]

@@ -1,8 +1,8 @@
 -- A front of the bytes was read, and what it holds is written.
 use Rattle.proof_words.proofs.{◌≡◌, ◌++◌, ℕ, List, length}
 use Rattle.response_parser.specs.{state_of}
-use Rattle.couch_wording.specs.{words_of_wording, Fed}
-use Rattle.couch_wording.proofs.run.feed.Given as goal
+use Rattle.response_output.specs.{words_of_wording, Fed}
+use Rattle.response_output.proofs.run.feed.Given as goal
 
 abbrev pub invariant-loop-rest : goal.invariant-loop-rest
 invariant-loop-rest g l =

@@ -2,9 +2,9 @@
 use Rattle.proof_words.proofs.{◌≡◌, ◌-◌, false}
 use Rattle.response_parser.specs.{is_refused, state_of}
 use Rattle.script_engine.specs.{HasRead, AreChunks, max_reads}
-use Rattle.couch_wording.specs.{words_of_wording}
-use Rattle.couch_wording.proofs.{Ran}
-use Rattle.couch_wording.proofs.run.run_chunks.Given as goal
+use Rattle.response_output.specs.{words_of_wording}
+use Rattle.response_output.proofs.{Ran}
+use Rattle.response_output.proofs.run.run_chunks.Given as goal
 
 abbrev pub invariant-loop-more : goal.invariant-loop-more
 invariant-loop-more g l =

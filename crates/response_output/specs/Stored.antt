@@ -1,7 +1,7 @@
 -- A wording as it is stored: what it stands for.
 use Rattle.std.specs.Prelude.{ℕ, List}
-use Rattle.couch_wording.specs.Words.{Words}
-use Rattle.couch_wording.specs.declared.wording.Wording.{Wording}
+use Rattle.response_output.specs.Words.{Words}
+use Rattle.response_output.specs.declared.wording.Wording.{Wording}
 
 abbrev pub words_of_wording : Wording → Words
 words_of_wording w = record { form = w.form; begins = w.begins.items; id = w.id.items; listed = w.listed; count = w.count; size = w.size; told = w.told }

@@ -1,9 +1,9 @@
 use Rattle.proof_words.proofs.{refl, err_from_is_err_and}
 use Rattle.script_engine.specs.declared.fault.ScriptFault.TheVariants.{Memory}
 use Rattle.response_parser.specs.{state_of}
-use Rattle.couch_wording.specs.{words_of_wording}
-use Rattle.couch_wording.proofs.{Stopped-none, reads_answers, reads_changes, reads_script}
-use Rattle.couch_wording.proofs.run.run_answers.Goals as goal
+use Rattle.response_output.specs.{words_of_wording}
+use Rattle.response_output.proofs.{Stopped-none, reads_answers, reads_changes, reads_script}
+use Rattle.response_output.proofs.run.run_answers.Goals as goal
 
 pub returns-in_err-chunks-clause-fault : goal.returns-in_err-chunks-clause-fault
 returns-in_err-chunks-clause-fault g c =

@@ -1,7 +1,7 @@
 -- What stands round the texts that are written: docs/PROFILE.md, "CouchDB's answers" and "Lines of documents".
 use Rattle.std.specs.Prelude.{ℕ, List, [], Bool, true, false, codes}
-use Rattle.couch_wording.specs.declared.forms.Form.{Form}
-use Rattle.couch_wording.specs.declared.forms.Form.TheVariants.{Loads, Asked, Diffs, Docs, Bodies}
+use Rattle.response_output.specs.declared.forms.Form.{Form}
+use Rattle.response_output.specs.declared.forms.Form.TheVariants.{Loads, Asked, Diffs, Docs, Bodies}
 
 -- what opens a body
 abbrev pub opening : Form → List ℕ

@@ -1,8 +1,8 @@
 use Rattle.proof_words.proofs.{◌++◌, take, arith, ◌∙◌, refl, sym, subst, err_from_is_err_and, common_steps}
-use Rattle.couch_wording.specs.{Begins, words_of_wording}
+use Rattle.response_output.specs.{Begins, words_of_wording}
 use Rattle.response_parser.specs.{pieces, state_of}
-use Rattle.couch_wording.proofs.{Begins-none, Begins-in, Begins-taken, Fed-joined, Fed-taken}
-use Rattle.couch_wording.proofs.run.feed.Goals as goal
+use Rattle.response_output.proofs.{Begins-none, Begins-in, Begins-taken, Fed-joined, Fed-taken}
+use Rattle.response_output.proofs.run.feed.Goals as goal
 
 pub returns-in_err-count-clause-err : goal.returns-in_err-count-clause-err
 returns-in_err-count-clause-err g c =

@@ -3,9 +3,9 @@ use Rattle.script_engine.specs.{counted, chunk_of}
 use Rattle.script_engine.proofs.{a_chunk, no_chunk}
 use Rattle.response_parser.specs.State.{State}
 use Rattle.response_parser.specs.{is_refused, state_of}
-use Rattle.couch_wording.specs.{IsWhole, words_of_wording}
-use Rattle.couch_wording.proofs.{Ran-none, start_going, Ran-more, Ran-end, Stopped-before, Stopped-in, Answered-end, Stopped-end, Stopped-refused}
-use Rattle.couch_wording.proofs.run.run_chunks.Goals as goal
+use Rattle.response_output.specs.{IsWhole, words_of_wording}
+use Rattle.response_output.proofs.{Ran-none, start_going, Ran-more, Ran-end, Stopped-before, Stopped-in, Answered-end, Stopped-end, Stopped-refused}
+use Rattle.response_output.proofs.run.run_chunks.Goals as goal
 
 pub loop-more-init : goal.loop-more-init
 loop-more-init g c =

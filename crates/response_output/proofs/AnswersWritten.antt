@@ -4,12 +4,12 @@ use Rattle.script_engine.specs.{Gives}
 use Rattle.response_parser.specs.{wants_documents, is_strict, start, step, is_refused, after, pieces, Piece, end_of, has_rest, last_end, whole, IsAnswered, IsChangeScript, Place, Refusal}
 use Rattle.response_parser.specs.State.{State}
 use Rattle.response_parser.specs.LineGrammar.{IsScript}
-use Rattle.couch_wording.specs.Words.{Words}
-use Rattle.couch_wording.specs.{Answered, Stopped, ReadsAnswers, all_text, AnswerFault}
+use Rattle.response_output.specs.Words.{Words}
+use Rattle.response_output.specs.{Answered, Stopped, ReadsAnswers, all_text, AnswerFault}
 use Rattle.response_parser.specs.declared.place.Place.TheVariants.{Between, Refused}
 use Rattle.response_parser.specs.declared.place.Wanted.{Wanted}
 use Rattle.response_parser.specs.declared.place.Wanted.TheVariants.{Changes}
-use Rattle.couch_wording.specs.declared.run.AnswerFault.TheVariants.{Device, Refused as Refusing}
+use Rattle.response_output.specs.declared.run.AnswerFault.TheVariants.{Device, Refused as Refusing}
 use Rattle.response_parser.proofs.{after-append, pieces-append, answers_read, changes_read, lines_read, ends_lines, lines_end, stood_before, line_end_given}
 
 refused_is : (p : Place) → is_refused p ≡ true → (why : Refusal) × (p ≡ Refused why)

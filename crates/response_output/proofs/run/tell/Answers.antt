@@ -1,8 +1,8 @@
 use Rattle.proof_words.proofs.{◌∙◌, refl, err_from_is_err_and}
 use Rattle.response_parser.specs.{state_of}
-use Rattle.couch_wording.specs.{words_of_wording}
-use Rattle.couch_wording.proofs.{Begins-none, Begins-part}
-use Rattle.couch_wording.proofs.run.tell.Goals as goal
+use Rattle.response_output.specs.{words_of_wording}
+use Rattle.response_output.proofs.{Begins-none, Begins-part}
+use Rattle.response_output.proofs.run.tell.Goals as goal
 
 pub returns-in_err-put-clause-err : goal.returns-in_err-put-clause-err
 returns-in_err-put-clause-err g c =

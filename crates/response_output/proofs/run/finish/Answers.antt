@@ -1,7 +1,7 @@
 use Rattle.response_parser.specs.{state_of}
-use Rattle.couch_wording.specs.{words_of_wording}
-use Rattle.couch_wording.proofs.{Finishes-end}
-use Rattle.couch_wording.proofs.run.finish.Goals as goal
+use Rattle.response_output.specs.{words_of_wording}
+use Rattle.response_output.proofs.{Finishes-end}
+use Rattle.response_output.proofs.run.finish.Goals as goal
 
 pub returns-in-Ok-clause-finishes : goal.returns-in-Ok-clause-finishes
 returns-in-Ok-clause-finishes g c =
