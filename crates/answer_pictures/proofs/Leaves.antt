@@ -1,7 +1,7 @@
 -- Documents and their leaves.
 use Rattle.proof_words.proofs.{◌≡◌, ℕ, ◌==◌, Bool, true, false, List, [], ◌∷◌, ◌++◌, length, map, refl, ap, subst, ◌∙◌, Result, Ok, Err, OnOk, Option, Some, None, arith, IsPermutation, string_bytes, map-append, nat_tests}
 use Rattle.rev_core.specs.{RevId}
-use Rattle.answer_lines.specs.{Told, Tells}
+use Rattle.output_parser.specs.{Told, Tells}
 use Rattle.answer_pictures.specs.{Document, Leaf, Form, Whole, Draws, Sign, signs_of}
 use Rattle.answer_pictures.specs.Drawing.{IsDrawn, IsNext, IsPicture, Sketch, State, Takes, state_of, states, whole, with_leaf}
 

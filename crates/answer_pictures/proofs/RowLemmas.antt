@@ -1,6 +1,6 @@
 -- Drawing one row behind another.
 use Rattle.proof_words.proofs.{◌≡◌, ℕ, zero, suc, ◌+◌, ◌<◌, ◌≤◌, List, [], ◌∷◌, ◌++◌, length, get_or, take, map, refl, sym, ap, subst, ◌∙◌, arith, map-append, take_more, flat_map-append, flat_map, append-nil}
-use Rattle.answer_lines.specs.{Column}
+use Rattle.output_parser.specs.{Column}
 use Rattle.answer_pictures.specs.{Draws, Sign, count, counts_of}
 use Rattle.answer_pictures.proofs.Inks.{drawn_then}
 

@@ -8,12 +8,12 @@ use Rattle.rev_core.specs.Ancestry.{head_of}
 use Rattle.script_engine.specs.Device.{Gives}
 use Rattle.script_engine.specs.Serving.{Answering}
 use Rattle.script_engine.specs.Script.{IsAnswered}
-use Rattle.answer_lines.specs.Lines.{Tells}
-use Rattle.answer_lines.specs.declared.told.Found.{Found}
-use Rattle.answer_lines.specs.declared.told.Log.{Log}
-use Rattle.answer_lines.specs.declared.told.Row.{Row}
-use Rattle.answer_lines.specs.declared.told.Told.{Told}
-use Rattle.answer_lines.specs.declared.told.Told.TheVariants as told
+use Rattle.output_parser.specs.Lines.{Tells}
+use Rattle.output_parser.specs.declared.told.Found.{Found}
+use Rattle.output_parser.specs.declared.told.Log.{Log}
+use Rattle.output_parser.specs.declared.told.Row.{Row}
+use Rattle.output_parser.specs.declared.told.Told.{Told}
+use Rattle.output_parser.specs.declared.told.Told.TheVariants as told
 use Rattle.answer_pictures.specs.declared.document.Document.{Document}
 use Rattle.answer_pictures.specs.declared.document.Leaf.{Leaf}
 use Rattle.answer_pictures.specs.declared.form.Form.{Form}

@@ -3,14 +3,14 @@ use Rattle.std.specs.Prelude.{◌≡◌, ◌==◌, ◌&&◌, ◌*◌, ◌/◌, �
 use Rattle.std.specs.List.{flat_map}
 use Rattle.rev_core.specs.Rev.{RevId}
 use Rattle.rev_core.specs.Text.{rev_text}
-use Rattle.answer_lines.specs.Lines.{finding_text}
-use Rattle.answer_lines.specs.Columns.{columns_of}
-use Rattle.answer_lines.specs.declared.told.Column.{Column}
-use Rattle.answer_lines.specs.declared.told.Column.TheVariants as columns
-use Rattle.answer_lines.specs.declared.told.Entry.{Entry}
-use Rattle.answer_lines.specs.declared.told.Finding.{Finding}
-use Rattle.answer_lines.specs.declared.told.Table.{Table}
-use Rattle.answer_lines.specs.declared.told.Table.TheVariants as tables
+use Rattle.output_parser.specs.Lines.{finding_text}
+use Rattle.output_parser.specs.Columns.{columns_of}
+use Rattle.output_parser.specs.declared.told.Column.{Column}
+use Rattle.output_parser.specs.declared.told.Column.TheVariants as columns
+use Rattle.output_parser.specs.declared.told.Entry.{Entry}
+use Rattle.output_parser.specs.declared.told.Finding.{Finding}
+use Rattle.output_parser.specs.declared.told.Table.{Table}
+use Rattle.output_parser.specs.declared.told.Table.TheVariants as tables
 use Rattle.answer_pictures.specs.declared.document.Leaf.{Leaf}
 use Rattle.answer_pictures.specs.declared.form.Form.{Form}
 use Rattle.answer_pictures.specs.declared.form.Form.TheVariants as forms

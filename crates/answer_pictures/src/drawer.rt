@@ -11,7 +11,7 @@ use crate::reading::{Whole, next};
 use crate::sheet::{mark, number};
 use crate::svg::Extent;
 use crate::{lines, sessions, svg, text};
-use answer_lines::{Found, Log, Row, read_line};
+use output_parser::{Found, Log, Row, read_line};
 use script_engine::{NoRest, ScriptFault, ScriptRead, ScriptWrite, Serve, run_lines, write_all};
 use std::alloc::{AllocError, Global};
 

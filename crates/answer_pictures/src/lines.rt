@@ -8,7 +8,7 @@ use crate::form::Form;
 use crate::markup::Markup;
 use crate::sheet::{mark, number, push_short, put_number, put_text};
 use crate::svg::{Extent, width_of};
-use answer_lines::{Column, Finding, Found, Row, Table};
+use output_parser::{Column, Finding, Found, Row, Table};
 use rev_core::Rev;
 use std::alloc::AllocError;
 

@@ -1,11 +1,11 @@
 //! Documents, as the lines of a script's answers tell them.
 ghost use Rattle.std.specs.Prelude.{◌≡◌, [], Some, None, true, IfOk, IfSome, IfNone, string_bytes};
 ghost use Rattle.rev_core.specs.Ancestry.{head_of};
-ghost use Rattle.answer_lines.specs.declared.told.Told.TheVariants as lines;
+ghost use Rattle.output_parser.specs.declared.told.Told.TheVariants as lines;
 ghost use Rattle.answer_pictures.specs.Drawing.{Holds, IsNext, with_all};
 
 use crate::document::{Document, Leaf};
-use answer_lines::{Found, Log, Row, Told};
+use output_parser::{Found, Log, Row, Told};
 use rev_core::Rev;
 use std::alloc::{AllocError, Global};
 

@@ -10,7 +10,7 @@ use crate::lines::{begin, end_line, put_count, put_heading, share};
 use crate::markup::Markup;
 use crate::sheet::{mark, put_number, put_text};
 use crate::svg::{Extent, width_of};
-use answer_lines::{Column, Entry, Log, Table};
+use output_parser::{Column, Entry, Log, Table};
 use std::alloc::AllocError;
 
 /// How high the row of a session is, and that of the log's own id.

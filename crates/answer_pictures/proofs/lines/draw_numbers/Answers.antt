@@ -1,5 +1,5 @@
 use Rattle.proof_words.proofs.{List, ℕ, [], ◌∷◌, ◌++◌, OnOk, subst, string_bytes}
-use Rattle.answer_lines.specs.{columns_of, Column}
+use Rattle.output_parser.specs.{columns_of, Column}
 use Rattle.answer_pictures.specs.{Draws, Sign, bars_of, counts_of, heading, signs_of_row}
 use Rattle.answer_pictures.proofs.{drawn_plain, drawn_then, plain_by}
 use Rattle.answer_pictures.proofs.lines.draw_numbers.Goals as goal

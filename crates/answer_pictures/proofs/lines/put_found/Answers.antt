@@ -1,5 +1,5 @@
 use Rattle.proof_words.proofs.{refl, arith, common_steps}
-use Rattle.answer_lines.specs.{finding_text}
+use Rattle.output_parser.specs.{finding_text}
 use Rattle.answer_pictures.specs.{found, shown_text}
 use Rattle.answer_pictures.proofs.{sign_by}
 use Rattle.answer_pictures.proofs.lines.put_found.Goals as goal

@@ -1,6 +1,6 @@
 use Rattle.proof_words.proofs.{List, [], Some, None, sym, subst, string_bytes}
 use Rattle.rev_core.specs.{RevId}
-use Rattle.answer_lines.specs.declared.told.Told.TheVariants as lines
+use Rattle.output_parser.specs.declared.told.Told.TheVariants as lines
 use Rattle.answer_pictures.specs.Drawing.{Holds, IsNext, conflict, found, log, loose, opened, other, row, with_all}
 use Rattle.answer_pictures.specs.declared.reading.Whole.TheVariants as wholes
 use Rattle.answer_pictures.proofs.reading.next.Goals as goal

@@ -1,5 +1,5 @@
 use Rattle.proof_words.proofs.{List, ℕ, [], ◌∷◌, subst, string_bytes, flat_map}
-use Rattle.answer_lines.specs.{Entry}
+use Rattle.output_parser.specs.{Entry}
 use Rattle.answer_pictures.specs.{Draws, Sign, log, most_from, signs_of_session}
 use Rattle.answer_pictures.proofs.{drawn_plain, drawn_then, plain_by}
 use Rattle.answer_pictures.proofs.sessions.draw_log.Goals as goal

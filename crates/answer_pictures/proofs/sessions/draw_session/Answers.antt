@@ -1,6 +1,6 @@
 use Rattle.proof_words.proofs.{List, ℕ, [], ◌∷◌, subst, string_bytes}
-use Rattle.answer_lines.specs.declared.told.Column.TheVariants as columns
-use Rattle.answer_lines.specs.declared.told.Table.TheVariants as tables
+use Rattle.output_parser.specs.declared.told.Column.TheVariants as columns
+use Rattle.output_parser.specs.declared.told.Table.TheVariants as tables
 use Rattle.answer_pictures.specs.{Draws, Sign, chart, count, heading, moment}
 use Rattle.answer_pictures.proofs.{drawn_plain, drawn_then, plain_by}
 use Rattle.answer_pictures.proofs.sessions.draw_session.Goals as goal

@@ -1,9 +1,0 @@
-use Rattle.proof_words.proofs.{subst, IsUtf8}
-use Rattle.answer_lines.proofs.{front_unique}
-use Rattle.answer_lines.proofs.rows.name_of.Goals as goal
-
-pub returns-in-Err-clause-none : goal.returns-in-Err-clause-none
-returns-in-Err-clause-none c =
-    λ name h utf8.
-    let same = front_unique c.args.table name c.in_ok-name.name.now c.args.front.now h c.in_ok-name.ensures.some in
-    c.in-Err.ensures.cases.0 (subst IsUtf8 same utf8)

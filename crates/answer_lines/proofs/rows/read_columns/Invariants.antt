@@ -1,7 +1,0 @@
-use Rattle.proof_words.proofs.{drop}
-use Rattle.answer_lines.specs.{EndsIn}
-use Rattle.answer_lines.proofs.TurnLemmas.{Reads}
-use Rattle.answer_lines.proofs.rows.read_columns.Given as goal
-
-abbrev pub invariant-loop-i : goal.invariant-loop-i
-invariant-loop-i l = Reads EndsIn l.columns l.text l.rest (drop l.i l.columns) l.numbers.items

@@ -1,0 +1,100 @@
+-- What lines of a script's answers tell: docs/PROFILE.md, "Answers" and "Pictures".
+use Rattle.std.specs.Prelude.{◌≡◌, ℕ, List, [], ◌∷◌, ◌++◌, Bool, true, false, codes, map, string_bytes}
+use Rattle.std.specs.Str.{IsUtf8}
+use Rattle.rev_core.specs.Rev.{RevId}
+use Rattle.rev_core.specs.Text.{rev_text}
+use Rattle.rev_core.specs.Ancestry.{FallsByOne}
+use Rattle.output_parser.specs.Words.{lacks, named, IsNumber, IsRevs}
+use Rattle.output_parser.specs.Columns.{IsRow}
+use Rattle.output_parser.specs.Logs.{IsLog, Logged, logged}
+use Rattle.output_parser.specs.declared.told.Finding.{Finding}
+use Rattle.output_parser.specs.declared.told.Finding.TheVariants as findings
+use Rattle.output_parser.specs.declared.told.Table.{Table}
+use Rattle.output_parser.specs.declared.told.Told.{Told}
+use Rattle.output_parser.specs.declared.told.Told.TheVariants as told
+
+-- `doc ID winner REV leaves N revs N`: the last six words, and the id before them
+pub record IsDocLine (line id : List ℕ) (count : ℕ) : Type 0 where
+  pub winner : List ℕ
+  pub leaves : List ℕ
+  pub revs : List ℕ
+  pub winner_word : lacks 32 winner ≡ true
+  pub leaves_word : lacks 32 leaves ≡ true
+  pub revs_word : lacks 32 revs ≡ true
+  pub form : line ≡ codes "doc " ++ (((id ++ named (codes " winner") winner) ++ named (codes " leaves") leaves)
+      ++ named (codes " revs") revs)
+  pub counted : IsNumber leaves count
+  pub utf8 : IsUtf8 id
+
+abbrev pub state_text : Bool → List ℕ
+state_text true = codes "live "
+state_text false = codes "deleted "
+
+-- `leaf REV live REVS` or `leaf REV deleted REVS`, by its texts
+pub record LeafParts (line own : List ℕ) (live : Bool) (list : List ℕ) : Type 0 where
+  pub word : lacks 32 own ≡ true
+  pub form : line ≡ codes "leaf " ++ (own ++ 32 ∷ (state_text live ++ list))
+
+-- the first revision has this text
+abbrev pub BeginsWith : List ℕ → List RevId → Type 0
+BeginsWith own [] = ⊥
+BeginsWith own (r ∷ rest) = own ≡ rev_text r
+
+-- the list is the leaf's ancestry, which begins with itself
+pub record IsLeafLine (line : List ℕ) (live : Bool) (revs : List RevId) : Type 0 where
+  pub own : List ℕ
+  pub list : List ℕ
+  pub parts : LeafParts line own live list
+  pub listed : IsRevs list revs
+  pub falls : FallsByOne revs
+  pub begins : BeginsWith own revs
+
+-- a word, an id and a joined list of revisions, by its texts; the word ends with a blank
+pub record ListedParts (word line id list : List ℕ) : Type 0 where
+  pub lacks_blank : lacks 32 list ≡ true
+  pub form : line ≡ word ++ (id ++ 32 ∷ list)
+  pub utf8 : IsUtf8 id
+
+pub record IsListed (word line id : List ℕ) (revs : List RevId) : Type 0 where
+  pub list : List ℕ
+  pub parts : ListedParts word line id list
+  pub listed : IsRevs list revs
+
+-- `missing ID REVS`, `contradicts ID REV` or `differs ID REVS`
+abbrev pub finding_text : Finding → List ℕ
+finding_text findings.Missing = codes "missing "
+finding_text findings.Contradicts = codes "contradicts "
+finding_text findings.Differs = codes "differs "
+
+-- the line is none of these
+abbrev pub NoFinding : List ℕ → Finding → Type 0
+NoFinding line finding = (id : List ℕ) (revs : List RevId) → IsListed (finding_text finding) line id revs → ⊥
+
+abbrev pub NoRow : List ℕ → Table → Type 0
+NoRow line table = (name numbers : List ℕ) → IsRow table line name numbers → ⊥
+
+abbrev pub NoLog : List ℕ → Type 0
+NoLog line = (id : List ℕ) (entries : List Logged) → IsLog line id entries → ⊥
+
+-- What a line tells that is of no tree.
+abbrev pub TellsMore : List ℕ → Told → Type 0
+TellsMore line (told.Document id count) = ⊥
+TellsMore line (told.Leaf live revs) = ⊥
+TellsMore line (told.Conflict id revs) = ⊥
+TellsMore line (told.Found f) = IsListed (finding_text f.finding) line (string_bytes f.id) f.revs.items
+TellsMore line (told.Row r) = IsRow r.table line (string_bytes r.name) r.numbers.items
+TellsMore line (told.Log l) = IsLog line (string_bytes l.id) (map logged l.entries.items)
+TellsMore line told.Other = ((finding : Finding) → NoFinding line finding) × ((table : Table) → NoRow line table) × NoLog line
+
+-- What a line tells; nothing, where it has none of the forms.
+abbrev pub Tells : List ℕ → Told → Type 0
+Tells line (told.Document id count) = IsDocLine line (string_bytes id) count
+Tells line (told.Leaf live revs) = IsLeafLine line live revs.items
+Tells line (told.Conflict id revs) = IsListed (codes "conflict ") line (string_bytes id) revs.items
+Tells line (told.Found f) = IsListed (finding_text f.finding) line (string_bytes f.id) f.revs.items
+Tells line (told.Row r) = IsRow r.table line (string_bytes r.name) r.numbers.items
+Tells line (told.Log l) = IsLog line (string_bytes l.id) (map logged l.entries.items)
+Tells line told.Other =
+    ((id : List ℕ) (count : ℕ) → IsDocLine line id count → ⊥) × ((live : Bool) (revs : List RevId) → IsLeafLine line live revs → ⊥)
+    × ((id : List ℕ) (revs : List RevId) → IsListed (codes "conflict ") line id revs → ⊥)
+    × (((finding : Finding) → NoFinding line finding) × ((table : Table) → NoRow line table) × NoLog line)

@@ -1,0 +1,171 @@
+//! What a line tells.
+ghost use Rattle.std.specs.Prelude.{◌≡◌, ℕ, List, Bool, IfOk, IfSome, IfNone, true, false, string_bytes};
+ghost use Rattle.std.specs.List.{AllByRecursion};
+ghost use Rattle.rev_core.specs.Rev.{IsRev, RevId};
+ghost use Rattle.output_parser.specs.Lines.{BeginsWith, IsDocLine, IsLeafLine, IsListed, LeafParts, ListedParts, Tells, TellsMore, finding_text};
+
+use crate::cuts::{behind, cut_first, cut_last, cut_named};
+use crate::logs::read_log;
+use crate::numbers::number;
+use crate::revs::{falls_by_one, read_revs, revision};
+use crate::rows::read_row;
+use crate::told::{Finding, Found, Table, Told};
+use rev_core::Rev;
+use std::alloc::{AllocError, Global};
+use std::str;
+
+/// What a line tells (docs/PROFILE.md, "Answers" and "Pictures"): it is read as what it tells if and only if it has the
+/// form.
+pub fn read_line(alloc: Global, line: &[u8]) -> Result<Told, AllocError>
+    ensures { IfOk result (λ told. Tells line.now told) }
+{
+    if let Some((id, count)) = read_doc(line) {
+        let id = String::from_str(alloc, id)?;
+        return Ok(Told::Document { id, count });
+    }
+    if let Some((live, revs)) = read_leaf(alloc, line)? {
+        return Ok(Told::Leaf { live, revs });
+    }
+    if let Some((id, revs)) = read_listed(alloc, line, b"conflict ")? {
+        let id = String::from_str(alloc, id)?;
+        return Ok(Told::Conflict { id, revs });
+    }
+    read_more(alloc, line)
+}
+
+/// The same, of a line that tells of no tree.
+fn read_more(alloc: Global, line: &[u8]) -> Result<Told, AllocError>
+    ensures { IfOk result (λ told. TellsMore line.now told) }
+{
+    if let Some(found) = read_found(alloc, line, Finding::Missing)? {
+        return Ok(Told::Found(found));
+    }
+    if let Some(found) = read_found(alloc, line, Finding::Contradicts)? {
+        return Ok(Told::Found(found));
+    }
+    if let Some(found) = read_found(alloc, line, Finding::Differs)? {
+        return Ok(Told::Found(found));
+    }
+    if let Some(row) = read_row(alloc, line, Table::Compared)? {
+        return Ok(Told::Row(row));
+    }
+    if let Some(row) = read_row(alloc, line, Table::Info)? {
+        return Ok(Told::Row(row));
+    }
+    if let Some(row) = read_row(alloc, line, Table::Session)? {
+        return Ok(Told::Row(row));
+    }
+    match read_log(alloc, line)? {
+        Some(log) => Ok(Told::Log(log)),
+        None => Ok(Told::Other),
+    }
+}
+
+/// What a line of `compare` finds of a document.
+fn read_found(alloc: Global, line: &[u8], finding: Finding) -> Result<Option<Found>, AllocError>
+    ensures some { IfOk result (λ o. IfSome o (λ f. (f.finding ≡ finding)
+        × IsListed (finding_text finding) line.now (string_bytes f.id) f.revs.items)) }
+    ensures none { IfOk result (λ o. IfNone o ((id : List ℕ) (revs : List RevId)
+        → IsListed (finding_text finding) line.now id revs → ⊥)) }
+{
+    let Some((id, revs)) = read_listed(alloc, line, finding.text().as_bytes())? else {
+        return Ok(None);
+    };
+    let id = String::from_str(alloc, id)?;
+    Ok(Some(Found { finding, id, revs }))
+}
+
+/// The id and the number of leaves that a `doc` line tells.
+fn read_doc(line: &[u8]) -> Option<(&str, u64)>
+    ensures some { IfSome result (λ x. IsDocLine line.now x.0.now x.1) }
+    ensures none { IfNone result ((id : List ℕ) (count : ℕ) → IsDocLine line.now id count → ⊥) }
+{
+    let rest = behind(line, b"doc ")?;
+    let (rest, _) = cut_named(rest, b" revs")?;
+    let (rest, count) = cut_named(rest, b" leaves")?;
+    let (id, _) = cut_named(rest, b" winner")?;
+    let count = number(count)?;
+    match str::from_utf8(id) {
+        Ok(id) => Some((id, count)),
+        Err(_) => None,
+    }
+}
+
+/// Whether the leaf that a `leaf` line tells is live, and its ancestry.
+fn read_leaf(alloc: Global, line: &[u8]) -> Result<Option<(bool, Vec<Rev>)>, AllocError>
+    ensures some { IfOk result (λ o. IfSome o (λ x. IsLeafLine line.now x.0 x.1.items)) }
+    ensures none { IfOk result (λ o. IfNone o ((live : Bool) (revs : List RevId) → IsLeafLine line.now live revs → ⊥)) }
+{
+    let Some((own, live, list)) = leaf_parts(line) else {
+        return Ok(None);
+    };
+    let Some(revs) = read_revs(alloc, list)? else {
+        return Ok(None);
+    };
+    if !falls_by_one(revs.as_slice()) {
+        return Ok(None);
+    }
+    if !begins_with(revs.as_slice(), own) {
+        return Ok(None);
+    }
+    Ok(Some((live, revs)))
+}
+
+/// The parts of a `leaf` line: the text of its revision, whether it is live, and the text of its ancestry.
+fn leaf_parts(line: &[u8]) -> Option<(&[u8], bool, &[u8])>
+    ensures some { IfSome result (λ x. LeafParts line.now x.0.now x.1 x.2.now) }
+    ensures none { IfNone result ((own : List ℕ) (live : Bool) (list : List ℕ) → LeafParts line.now own live list → ⊥) }
+{
+    let rest = behind(line, b"leaf ")?;
+    let (own, rest) = cut_first(rest, b' ')?;
+    if let Some(list) = behind(rest, b"live ") {
+        return Some((own, true, list));
+    }
+    let list = behind(rest, b"deleted ")?;
+    Some((own, false, list))
+}
+
+/// Whether a list begins with a revision of this text.
+fn begins_with(revs: &[Rev], own: &[u8]) -> bool
+    ensures yes { result ≡ true → BeginsWith own.now revs.now }
+    ensures no { result ≡ false → AllByRecursion IsRev revs.now → BeginsWith own.now revs.now → ⊥ }
+{
+    if revs.is_empty() {
+        return false;
+    }
+    let Some(own) = revision(own) else {
+        return false;
+    };
+    revs[0] == own
+}
+
+/// The id and the revisions that a line tells behind its first word; `None` where it does not begin so.
+fn read_listed<'a>(
+    alloc: Global,
+    line: &'a [u8],
+    word: &[u8],
+) -> Result<Option<(&'a str, Vec<Rev>)>, AllocError>
+    ensures some { IfOk result (λ o. IfSome o (λ x. IsListed word.now line.now x.0.now x.1.items)) }
+    ensures none { IfOk result (λ o. IfNone o ((id : List ℕ) (revs : List RevId) → IsListed word.now line.now id revs → ⊥)) }
+{
+    let Some((id, list)) = listed_parts(line, word) else {
+        return Ok(None);
+    };
+    match read_revs(alloc, list)? {
+        Some(revs) => Ok(Some((id, revs))),
+        None => Ok(None),
+    }
+}
+
+/// The parts of such a line: the id, and the text of its revisions.
+fn listed_parts<'a>(line: &'a [u8], word: &[u8]) -> Option<(&'a str, &'a [u8])>
+    ensures some { IfSome result (λ x. ListedParts word.now line.now x.0.now x.1.now) }
+    ensures none { IfNone result ((id list : List ℕ) → ListedParts word.now line.now id list → ⊥) }
+{
+    let rest = behind(line, word)?;
+    let (id, list) = cut_last(rest, b' ')?;
+    match str::from_utf8(id) {
+        Ok(id) => Some((id, list)),
+        Err(_) => None,
+    }
+}

@@ -1,0 +1,190 @@
+//! Lines that are the text of a log.
+ghost use Rattle.std.specs.Prelude.{◌≡◌, ◌∷◌, ℕ, List, IfOk, IfSome, IfNone, get_or, map, string_bytes, []};
+ghost use Rattle.std.specs.Str.{IsUtf8};
+ghost use Rattle.output_parser.specs.Words.{InTurn, IsNumber};
+ghost use Rattle.output_parser.specs.Logs.{IsEntry, IsHead, IsHistory, IsLog, IsMember, Logged, Values, all_members, logged, texts_of};
+
+use crate::cuts::{behind, cut_first};
+use crate::numbers::number;
+use crate::told::{Entry, Log, Member};
+use std::alloc::{AllocError, Global};
+use std::str;
+
+/// The log that a line is; `None` where it is none.
+pub fn read_log(alloc: Global, line: &[u8]) -> Result<Option<Log>, AllocError>
+    ensures some { IfOk result (λ o. IfSome o (λ l. IsLog line.now (string_bytes l.id) (map logged l.entries.items))) }
+    ensures none { IfOk result (λ o. IfNone o ((id : List ℕ) (entries : List Logged) → IsLog line.now id entries → ⊥)) }
+{
+    let Some((id, text)) = log_head(line) else {
+        return Ok(None);
+    };
+    let Some(entries) = read_entries(alloc, text)? else {
+        return Ok(None);
+    };
+    Ok(Some(Log {
+        id: String::from_str(alloc, id)?,
+        entries,
+    }))
+}
+
+/// The id of a log's replication, and what stands behind the beginning of its list; `None` where the line is no log.
+fn log_head(line: &[u8]) -> Option<(&str, &[u8])>
+    ensures some { IfSome result (λ x. IsHead line.now x.0.now x.1.now) }
+    ensures none { IfNone result ((id text : List ℕ) → IsHead line.now id text → ⊥) }
+{
+    let rest = behind(line, b"{\"_id\":\"_local/")?;
+    let (id, rest) = cut_first(rest, b'"')?;
+    let text = behind(rest, b",\"history\":[")?;
+    match str::from_utf8(id) {
+        Ok(id) => Some((id, text)),
+        Err(_) => None,
+    }
+}
+
+/// The sessions of a log's list; `None` where the text is none.
+fn read_entries(alloc: Global, text: &[u8]) -> Result<Option<Vec<Entry>>, AllocError>
+    ensures some { IfOk result (λ o. IfSome o (λ v. IsHistory text.now (map logged v.items))) }
+    ensures none { IfOk result (λ o. IfNone o ((entries : List Logged) → IsHistory text.now entries → ⊥)) }
+{
+    let Some((first, mut rest)) = read_entry(alloc, text)? else {
+        return Ok(None);
+    };
+    let mut entries = Vec::new(alloc);
+    entries.push(first)?;
+    while let Some(begins) = behind(rest, b",") {
+        let Some((entry, after)) = read_entry(alloc, begins)? else {
+            return Ok(None);
+        };
+        entries.push(entry)?;
+        rest = after;
+    }
+    match behind(rest, b"],\"replication_id_version\":3,\"session_id\":\"") {
+        Some(_) => Ok(Some(entries)),
+        None => Ok(None),
+    }
+}
+
+/// The session that a text begins with, and what stands behind its closing brace; `None` where it begins with none.
+fn read_entry(alloc: Global, text: &[u8]) -> Result<Option<(Entry, &[u8])>, AllocError>
+    ensures some { IfOk result (λ o. IfSome o (λ x. IsEntry (logged x.0) x.1.now text.now)) }
+    ensures none { IfOk result (λ o. IfNone o ((e : Logged) (after : List ℕ) → IsEntry e after text.now → ⊥)) }
+{
+    let Some((values, rest)) = read_values(alloc, text, members())? else {
+        return Ok(None);
+    };
+    let Some(after) = behind(rest, b"}") else {
+        return Ok(None);
+    };
+    match read_told(alloc, values.as_slice())? {
+        Some(entry) => Ok(Some((entry, after))),
+        None => Ok(None),
+    }
+}
+
+/// The values of members that a text begins with, and what stands behind them; `None` where it does not begin so.
+fn read_values<'a>(
+    alloc: Global,
+    text: &'a [u8],
+    members: &[Member],
+) -> Result<Option<(Vec<&'a [u8]>, &'a [u8])>, AllocError>
+    ensures some { IfOk result (λ o. IfSome o (λ x. InTurn IsMember members.now (texts_of x.0.items) x.1.now text.now)) }
+    ensures none { IfOk result (λ o. IfNone o ((values : List (List ℕ)) (rest : List ℕ)
+        → InTurn IsMember members.now values rest text.now → ⊥)) }
+{
+    let mut values = Vec::new(alloc);
+    let mut rest = text;
+    for i in 0..members.len() {
+        let Some((value, after)) = cut_member(rest, members[i]) else {
+            return Ok(None);
+        };
+        values.push(value)?;
+        rest = after;
+    }
+    Ok(Some((values, rest)))
+}
+
+/// The value of a member that a text begins with, and what stands behind it; `None` where it does not begin so.
+fn cut_member(text: &[u8], member: Member) -> Option<(&[u8], &[u8])>
+    ensures some { IfSome result (λ x. IsMember member x.0.now x.1.now text.now) }
+    ensures none { IfNone result ((value after : List ℕ) → IsMember member value after text.now → ⊥) }
+{
+    let rest = behind(text, member.text().as_bytes())?;
+    cut_first(rest, member.end())
+}
+
+/// The members of a session, in their order.
+fn members() -> &'static [Member]
+    ensures { result.now ≡ all_members }
+{
+    &[
+        Member::Failed,
+        Member::Read,
+        Member::Written,
+        Member::End,
+        Member::EndTime,
+        Member::Checked,
+        Member::Found,
+        Member::Recorded,
+        Member::Session,
+        Member::Start,
+        Member::StartTime,
+    ]
+}
+
+/// What the values of its members tell of a session; `None` where they tell nothing.
+fn read_told(alloc: Global, values: &[&[u8]]) -> Result<Option<Entry>, AllocError>
+    ensures some { IfOk result (λ o. IfSome o (λ e. Values (texts_of values.now) (logged e))) }
+    ensures none { IfOk result (λ o. IfNone o ((e : Logged) → Values (texts_of values.now) e → ⊥)) }
+{
+    let Some((session, begun)) = texts(values) else {
+        return Ok(None);
+    };
+    let Some((failed, read, written)) = counts(values) else {
+        return Ok(None);
+    };
+    Ok(Some(Entry {
+        session: String::from_str(alloc, session)?,
+        begun: String::from_str(alloc, begun)?,
+        read,
+        written,
+        failed,
+    }))
+}
+
+/// The id of a session, and when it began.
+fn texts<'a>(values: &[&'a [u8]]) -> Option<(&'a str, &'a str)>
+    ensures some { IfSome result (λ x. (get_or (texts_of values.now) 8 [] ≡ x.0.now) × (get_or (texts_of values.now) 10 [] ≡ x.1.now)
+        × IsUtf8 x.0.now × IsUtf8 x.1.now) }
+    ensures none { IfNone result (IsUtf8 (get_or (texts_of values.now) 8 []) → IsUtf8 (get_or (texts_of values.now) 10 []) → ⊥) }
+{
+    let Ok(session) = str::from_utf8(value_at(values, 8)) else {
+        return None;
+    };
+    match str::from_utf8(value_at(values, 10)) {
+        Ok(begun) => Some((session, begun)),
+        Err(_) => None,
+    }
+}
+
+/// How many writes failed, how many documents were read, and how many of them were written.
+fn counts(values: &[&[u8]]) -> Option<(u64, u64, u64)>
+    ensures some { IfSome result (λ x. IsNumber (get_or (texts_of values.now) 0 []) x.0 × IsNumber (get_or (texts_of values.now) 1 []) x.1
+        × IsNumber (get_or (texts_of values.now) 2 []) x.2) }
+    ensures none { IfNone result ((failed read written : ℕ) → IsNumber (get_or (texts_of values.now) 0 []) failed
+        → IsNumber (get_or (texts_of values.now) 1 []) read → IsNumber (get_or (texts_of values.now) 2 []) written → ⊥) }
+{
+    let failed = number(value_at(values, 0))?;
+    let read = number(value_at(values, 1))?;
+    let written = number(value_at(values, 2))?;
+    Some((failed, read, written))
+}
+
+/// The value at a place, empty where there is none.
+fn value_at<'a>(values: &[&'a [u8]], place: usize) -> &'a [u8]
+    ensures { result.now ≡ get_or (texts_of values.now) place [] }
+{
+    match values.get(place) {
+        Some(value) => value,
+        None => &[],
+    }
+}

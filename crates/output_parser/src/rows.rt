@@ -1,0 +1,139 @@
+//! Lines that are a row of numbers.
+ghost use Rattle.std.specs.Prelude.{◌≡◌, ℕ, List, IfOk, IfSome, IfNone, reverse, string_bytes};
+ghost use Rattle.std.specs.Str.{IsUtf8};
+ghost use Rattle.output_parser.specs.declared.told.Table.TheVariants as tables;
+ghost use Rattle.output_parser.specs.Columns.{Ends, EndsIn, IsFront, IsRow, columns_of};
+
+use crate::cuts::{behind, cut_named};
+use crate::numbers::number;
+use crate::told::{Column, Row, Table};
+use std::alloc::{AllocError, Global};
+use std::str;
+
+/// The row of numbers of a table that a line is; `None` where it is none.
+pub fn read_row(alloc: Global, line: &[u8], table: Table) -> Result<Option<Row>, AllocError>
+    ensures some { IfOk result (λ o. IfSome o (λ r. (r.table ≡ table) × IsRow table line.now (string_bytes r.name) r.numbers.items)) }
+    ensures none { IfOk result (λ o. IfNone o ((name numbers : List ℕ) → IsRow table line.now name numbers → ⊥)) }
+{
+    let Some((front, mut numbers)) = read_columns(alloc, line, columns_back(table))? else {
+        return Ok(None);
+    };
+    let Some(name) = name_of(front, table) else {
+        return Ok(None);
+    };
+    numbers.as_mut_slice().reverse();
+    Ok(Some(Row {
+        table,
+        name: String::from_str(alloc, name)?,
+        numbers,
+    }))
+}
+
+/// The columns of a table, the last one first.
+fn columns_back(table: Table) -> &'static [Column]
+    ensures { result.now ≡ reverse (columns_of table) }
+{
+    match table {
+        Table::Compared => &[
+            Column::Differing,
+            Column::Contradicting,
+            Column::ComparedMissing,
+            Column::ComparedLeaves,
+            Column::ComparedDocuments,
+        ],
+        Table::Info => &[
+            Column::Sessions,
+            Column::Revisions,
+            Column::Conflicts,
+            Column::Leaves,
+            Column::Deleted,
+            Column::Documents,
+            Column::Life,
+            Column::Seq,
+        ],
+        Table::Session => &[
+            Column::Failed,
+            Column::Written,
+            Column::Read,
+            Column::Found,
+            Column::Checked,
+            Column::To,
+            Column::From,
+        ],
+    }
+}
+
+/// What stands before the columns that a text ends in, the last one first, and their numbers; `None` where it does not end
+/// so.
+fn read_columns<'a>(
+    alloc: Global,
+    text: &'a [u8],
+    columns: &[Column],
+) -> Result<Option<(&'a [u8], Vec<u64>)>, AllocError>
+    ensures some { IfOk result (λ o. IfSome o (λ x. Ends columns.now x.1.items x.0.now text.now)) }
+    ensures none { IfOk result (λ o. IfNone o ((front numbers : List ℕ) → Ends columns.now numbers front text.now → ⊥)) }
+{
+    let mut numbers = Vec::new(alloc);
+    let mut rest = text;
+    for i in 0..columns.len() {
+        let Some((front, number)) = cut_column(rest, columns[i]) else {
+            return Ok(None);
+        };
+        numbers.push(number)?;
+        rest = front;
+    }
+    Ok(Some((rest, numbers)))
+}
+
+/// What stands before the column that a text ends in, and its number; `None` where it does not end so.
+fn cut_column(text: &[u8], column: Column) -> Option<(&[u8], u64)>
+    ensures some { IfSome result (λ x. EndsIn column x.1 x.0.now text.now) }
+    ensures none { IfNone result ((front : List ℕ) (n : ℕ) → EndsIn column n front text.now → ⊥) }
+{
+    let (front, word) = cut_named(text, column.text().as_bytes())?;
+    match number(word) {
+        Some(number) => Some((front, number)),
+        None => None,
+    }
+}
+
+/// The name that a row of a table begins with; `None` where the text is no such beginning.
+fn name_of(front: &[u8], table: Table) -> Option<&str>
+    ensures some { IfSome result (λ name. IsFront table name.now front.now × IsUtf8 name.now) }
+    ensures none { IfNone result ((name : List ℕ) → IsFront table name front.now → IsUtf8 name → ⊥) }
+{
+    let name = name_in(front, table)?;
+    match str::from_utf8(name) {
+        Ok(name) => Some(name),
+        Err(_) => None,
+    }
+}
+
+/// The bytes of that name.
+fn name_in(front: &[u8], table: Table) -> Option<&[u8]>
+    ensures some { IfSome result (λ name. IsFront table name.now front.now) }
+    ensures none { IfNone result ((name : List ℕ) → IsFront table name front.now → ⊥) }
+{
+    match table {
+        Table::Compared => empty_name(front),
+        Table::Info => database_name(front),
+        Table::Session => behind(front, b"session "),
+    }
+}
+
+/// No name, where nothing stands before the columns.
+fn empty_name(front: &[u8]) -> Option<&[u8]>
+    ensures some { IfSome result (λ name. IsFront tables.Compared name.now front.now) }
+    ensures none { IfNone result ((name : List ℕ) → IsFront tables.Compared name front.now → ⊥) }
+{
+    if front.is_empty() { Some(front) } else { None }
+}
+
+/// The name of a database, before its UUID.
+fn database_name(front: &[u8]) -> Option<&[u8]>
+    ensures some { IfSome result (λ name. IsFront tables.Info name.now front.now) }
+    ensures none { IfNone result ((name : List ℕ) → IsFront tables.Info name front.now → ⊥) }
+{
+    let (name, _) = cut_named(front, b" uuid")?;
+    behind(name, b"info ")
+}
