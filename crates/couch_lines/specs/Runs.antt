@@ -10,9 +10,9 @@ use Rattle.response_parser.specs.declared.place.Wanted.TheVariants.{Documents, E
 use Rattle.response_output.specs.Words.{Words, loads_of, asked_of, diffs_of, docs_of, bodies_of}
 use Rattle.response_output.specs.Runs.{Answered, Stopped, ReadsAnswers}
 use Rattle.response_output.specs.declared.run.AnswerFault.{AnswerFault}
-use Rattle.answer_pictures.specs.Drawing.{IsPictured}
-use Rattle.answer_pictures.specs.declared.form.Form.{Form}
-use Rattle.answer_pictures.specs.declared.form.Form.TheVariants.{Text, Svg}
+use Rattle.diagrams.specs.Drawing.{IsPictured}
+use Rattle.diagrams.specs.declared.form.Form.{Form}
+use Rattle.diagrams.specs.declared.form.Form.TheVariants.{Text, Svg}
 use Rattle.couch_lines.specs.Tasks.{Says, Refuses}
 use Rattle.couch_lines.specs.declared.tasks.Task.{Task}
 use Rattle.couch_lines.specs.declared.tasks.Task.TheVariants.{Load, Ids, Diff, Leaves, Bulk, Trees}

@@ -1,12 +1,12 @@
 //! A run of the program over any reader and writer: its words, and what they ask for.
 ghost use Rattle.std.specs.Prelude.{◌≡◌, IfOk, false, map, option_map, string_bytes};
 ghost use Rattle.response_output.specs.Stored.{words_of_wording};
-ghost use Rattle.answer_pictures.specs.Drawing.{IsPictured};
+ghost use Rattle.diagrams.specs.Drawing.{IsPictured};
 ghost use Rattle.couch_lines.specs.Runs.{RunsWords, IsDone, Makes, form_of, is_drawn, wanted_of, words_of_task};
 
 use crate::options::{NoTask, read_words};
 use crate::tasks::Task;
-use answer_pictures::{Form, draw_answers};
+use diagrams::{Form, draw_answers};
 use response_parser::{Reading, Wanted};
 use response_output::{AnswerFault, Wording, run_answers};
 use script_engine::{ScriptFault, ScriptRead, ScriptWrite};

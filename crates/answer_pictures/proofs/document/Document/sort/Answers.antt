@@ -1,6 +1,0 @@
-use Rattle.proof_words.proofs.{IsPermutation-map}
-use Rattle.answer_pictures.specs.Drawing.{state_of}
-use Rattle.answer_pictures.proofs.document.Document.sort.Goals as goal
-
-pub returns-clause-leaves : goal.returns-clause-leaves
-returns-clause-leaves c = IsPermutation-map state_of _ _ c.sort.ensures.permutation

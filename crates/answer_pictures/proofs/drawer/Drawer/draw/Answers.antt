@@ -1,8 +1,0 @@
-use Rattle.proof_words.proofs.{option_map}
-use Rattle.answer_pictures.proofs.{picture_by}
-use Rattle.answer_pictures.proofs.drawer.Drawer.draw.Goals as goal
-
-pub returns-clause-draws : goal.returns-clause-draws
-returns-clause-draws c =
-    picture_by c.draw_sorted.result c.args.self.now.form (option_map (λ s. s.now) c.args.self.now.db) c.args.document c.sort.new.self
-    c.args.answer.now.items c.draw_sorted.new.answer.items c.requires c.sort.ensures.leaves c.sort.ensures.id c.draw_sorted.ensures.draws

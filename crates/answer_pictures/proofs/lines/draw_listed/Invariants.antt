@@ -1,6 +1,0 @@
-use Rattle.proof_words.proofs.{map, take}
-use Rattle.answer_pictures.specs.{Draws, listed}
-use Rattle.answer_pictures.proofs.lines.draw_listed.Given as goal
-
-abbrev pub invariant-loop-i : goal.invariant-loop-i
-invariant-loop-i l = Draws l.initial.out.items l.out.items (map listed (take l.i l.revs))

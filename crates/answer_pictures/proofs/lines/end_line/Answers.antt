@@ -1,6 +1,0 @@
-use Rattle.proof_words.proofs.{[]}
-use Rattle.answer_pictures.proofs.{then_by}
-use Rattle.answer_pictures.proofs.lines.end_line.Goals as goal
-
-pub returns : goal.returns
-returns c = then_by c.mark-3.result _ _ _ [] [] c.in_ok-mark.ensures.draws c.mark-3.ensures.draws

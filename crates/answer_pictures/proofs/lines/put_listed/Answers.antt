@@ -1,9 +1,0 @@
-use Rattle.proof_words.proofs.{refl, codes}
-use Rattle.answer_pictures.specs.{listed, short_text}
-use Rattle.answer_pictures.proofs.{sign_by}
-use Rattle.answer_pictures.proofs.lines.put_listed.Goals as goal
-
-pub returns : goal.returns
-returns c =
-    sign_by c.push_short.result (listed c.args.rev.now) c.args.out.now.items c.extend_from_slice.new.self.items
-    c.push_short.new.out.items (codes " ") (short_text c.args.rev.now) refl c.in_ok-extend_from_slice.ensures.items c.push_short.ensures

@@ -1,7 +1,0 @@
-use Rattle.proof_words.proofs.{ap}
-use Rattle.answer_pictures.specs.Drawing.{with_all}
-use Rattle.answer_pictures.proofs.reading.conflict_of.Goals as goal
-
-pub loop-i-init : goal.loop-i-init
-loop-i-init c =
-    (ap (λ s. with_all s c.args.revs.now) c.new-document.ensures.holds.read, c.new-document.ensures.holds.named)

@@ -1,5 +1,0 @@
-use Rattle.proof_words.proofs.{◌≡◌, vec_len}
-use Rattle.answer_pictures.proofs.rows.rows_of.Given as goal
-
-abbrev pub invariant-loop-i : goal.invariant-loop-i
-invariant-loop-i l = vec_len l.rows ≡ l.i

@@ -1,9 +1,0 @@
-use Rattle.proof_words.proofs.{arith}
-use Rattle.answer_pictures.specs.{signs_of_session}
-use Rattle.answer_pictures.proofs.{all_more}
-use Rattle.answer_pictures.proofs.sessions.draw_sessions.Goals as goal
-
-pub loop-i-preserved : goal.loop-i-preserved
-loop-i-preserved c =
-    all_more (signs_of_session c.args.form c.most_read-most.result) _ _ _ c.args.entries.now c.loop-i.i c.index-entries-i.result (omega arith)
-    c.index-entries-i.is c.loop-i.invariant c.in_ok-draw_session.ensures

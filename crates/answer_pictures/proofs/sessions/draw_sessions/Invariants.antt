@@ -1,6 +1,0 @@
-use Rattle.proof_words.proofs.{take, flat_map}
-use Rattle.answer_pictures.specs.{Draws, signs_of_session}
-use Rattle.answer_pictures.proofs.sessions.draw_sessions.Given as goal
-
-abbrev pub invariant-loop-i : goal.invariant-loop-i
-invariant-loop-i l = Draws l.initial.out.items l.out.items (flat_map (signs_of_session l.form l.most) (take l.i l.entries))

@@ -1,6 +1,0 @@
-use Rattle.proof_words.proofs.{[]}
-use Rattle.answer_pictures.specs.{Draws}
-use Rattle.answer_pictures.proofs.sheet.blanks.Given as goal
-
-abbrev pub invariant-loop-turn : goal.invariant-loop-turn
-invariant-loop-turn l = Draws l.initial.out.items l.out.items []

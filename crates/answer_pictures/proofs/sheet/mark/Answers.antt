@@ -1,9 +1,0 @@
-use Rattle.proof_words.proofs.{arith, common_steps}
-use Rattle.answer_pictures.specs.{mark}
-use Rattle.answer_pictures.proofs.{drawn_by}
-use Rattle.answer_pictures.proofs.sheet.mark.Goals as goal
-
-pub returns-clause-draws : goal.returns-clause-draws
-returns-clause-draws c =
-    drawn_by c.extend_from_slice.result (mark c.args.markup) c.args.out.now.items c.extend_from_slice.new.self.items
-    (grind (arith, common_steps))

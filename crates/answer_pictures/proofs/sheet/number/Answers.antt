@@ -1,8 +1,0 @@
-use Rattle.proof_words.proofs.{arith, common_steps}
-use Rattle.answer_pictures.specs.{number}
-use Rattle.answer_pictures.proofs.{drawn_by}
-use Rattle.answer_pictures.proofs.sheet.number.Goals as goal
-
-pub returns-clause-draws : goal.returns-clause-draws
-returns-clause-draws c =
-    drawn_by c.put_number.result (number c.args.number) c.args.out.now.items c.put_number.new.out.items (grind (arith, common_steps))

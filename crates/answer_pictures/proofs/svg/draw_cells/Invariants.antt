@@ -1,6 +1,0 @@
-use Rattle.proof_words.proofs.{[]}
-use Rattle.answer_pictures.specs.{Draws}
-use Rattle.answer_pictures.proofs.svg.draw_cells.Given as goal
-
-abbrev pub invariant-loop-i : goal.invariant-loop-i
-invariant-loop-i l = Draws l.initial.out.items l.out.items []

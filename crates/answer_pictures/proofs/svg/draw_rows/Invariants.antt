@@ -1,7 +1,0 @@
-use Rattle.proof_words.proofs.{map, take}
-use Rattle.answer_pictures.specs.declared.form.Form.TheVariants.{Svg}
-use Rattle.answer_pictures.specs.{Draws, leaf_sign}
-use Rattle.answer_pictures.proofs.svg.draw_rows.Given as goal
-
-abbrev pub invariant-loop-i : goal.invariant-loop-i
-invariant-loop-i l = Draws l.initial.out.items l.out.items (map (leaf_sign Svg) (take l.i l.leaves))

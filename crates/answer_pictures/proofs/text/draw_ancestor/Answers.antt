@@ -1,9 +1,0 @@
-use Rattle.proof_words.proofs.{[]}
-use Rattle.answer_pictures.proofs.{then_by}
-use Rattle.answer_pictures.proofs.text.draw_ancestor.Goals as goal
-
-pub returns : goal.returns
-returns c =
-    then_by c.blanks.result _ _ _ [] []
-    c.in_ok-short_rev.ensures.draws
-    c.blanks.ensures.draws

@@ -1,6 +1,0 @@
-use Rattle.proof_words.proofs.{[]}
-use Rattle.answer_pictures.proofs.{then_by}
-use Rattle.answer_pictures.proofs.text.draw_column.Goals as goal
-
-pub returns-then-cell-generation-2 : goal.returns-then-cell-generation-2
-returns-then-cell-generation-2 c = then_by c.draw_cell.result _ _ _ [] [] c.in_ok-draw_edge.ensures c.draw_cell.ensures

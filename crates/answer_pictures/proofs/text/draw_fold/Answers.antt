@@ -1,9 +1,0 @@
-use Rattle.proof_words.proofs.{[]}
-use Rattle.answer_pictures.proofs.{drawn_then, then_by}
-use Rattle.answer_pictures.proofs.text.draw_fold.Goals as goal
-
-pub returns : goal.returns
-returns c =
-    then_by c.blanks.result _ _ _ [] []
-    (drawn_then _ _ _ [] [] c.in_ok-number.ensures.draws c.in_ok-mark.ensures.draws)
-    c.blanks.ensures.draws

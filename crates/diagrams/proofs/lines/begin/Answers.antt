@@ -1,0 +1,9 @@
+use Rattle.proof_words.proofs.{[]}
+use Rattle.diagrams.proofs.{drawn_then, then_by}
+use Rattle.diagrams.proofs.lines.begin.Goals as goal
+
+pub returns : goal.returns
+returns c =
+    then_by c.mark-2.result _ _ _ [] []
+    (drawn_then _ _ _ [] [] c.in_ok-mark.ensures.draws c.in_ok-number.ensures.draws)
+    c.mark-2.ensures.draws

@@ -1,0 +1,5 @@
+use Rattle.proof_words.proofs.{◌+◌, ◌≤◌}
+use Rattle.diagrams.proofs.sheet.digits.Given as goal
+
+abbrev pub invariant-loop-step : goal.invariant-loop-step
+invariant-loop-step l = l.count ≤ l.step + 1

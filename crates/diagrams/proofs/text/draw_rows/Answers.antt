@@ -1,0 +1,10 @@
+use Rattle.proof_words.proofs.{arith}
+use Rattle.diagrams.specs.declared.form.Form.TheVariants.{Text}
+use Rattle.diagrams.specs.{leaf_sign}
+use Rattle.diagrams.proofs.{rows_more}
+use Rattle.diagrams.proofs.text.draw_rows.Goals as goal
+
+pub loop-i-preserved : goal.loop-i-preserved
+loop-i-preserved c =
+    rows_more (leaf_sign Text) _ _ _ c.args.leaves.now c.loop-i.i c.index-leaves-i.result (omega arith) c.index-leaves-i.is c.loop-i.invariant
+    c.in_ok-draw_row.ensures

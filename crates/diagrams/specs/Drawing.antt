@@ -1,0 +1,134 @@
+-- What is drawn of a script's answers: docs/PROFILE.md, "Pictures".
+use Rattle.std.specs.Prelude.{◌≡◌, ℕ, ◌<◌, ◌≤◌, Bool, true, false, List, [], ◌∷◌, ◌++◌, Option, Some, None, Ok, Err, IsPermutation, map, codes, option_map, String, string_bytes, Vec, vec_len, chars}
+use Rattle.std.specs.declared.alloc.Global.{Global}
+use Rattle.std.specs.Borrow.{Bor}
+use Rattle.std.specs.Io.KnownBytes.{Appends}
+use Rattle.rev_core.specs.Rev.{RevId}
+use Rattle.rev_core.specs.Ancestry.{head_of}
+use Rattle.script_engine.specs.Device.{Gives}
+use Rattle.script_engine.specs.Serving.{Answering}
+use Rattle.script_engine.specs.Script.{IsAnswered}
+use Rattle.output_parser.specs.Lines.{Tells}
+use Rattle.output_parser.specs.declared.told.Found.{Found}
+use Rattle.output_parser.specs.declared.told.Log.{Log}
+use Rattle.output_parser.specs.declared.told.Row.{Row}
+use Rattle.output_parser.specs.declared.told.Told.{Told}
+use Rattle.output_parser.specs.declared.told.Told.TheVariants as told
+use Rattle.diagrams.specs.declared.document.Document.{Document}
+use Rattle.diagrams.specs.declared.document.Leaf.{Leaf}
+use Rattle.diagrams.specs.declared.form.Form.{Form}
+use Rattle.diagrams.specs.declared.reading.Whole.{Whole}
+use Rattle.diagrams.specs.declared.reading.Whole.TheVariants as wholes
+use Rattle.diagrams.specs.Shown.{IsSafe, shown}
+use Rattle.diagrams.specs.Ink.{Draws, signs_of, signs_of_found, signs_of_log, signs_of_row}
+
+-- ---- documents, line by line
+
+-- a leaf as it was read: its revision, whether it wins, and whether it is live
+abbrev pub State : Type 0
+State = RevId × Bool × Bool
+
+abbrev pub state_of : Leaf → State
+state_of l = (l.rev, l.wins, l.live)
+
+abbrev pub states : Document → List State
+states d = map state_of d.leaves.items
+
+-- with a leaf more, of which the first wins
+abbrev pub with_leaf : List State → RevId → Bool → List State
+with_leaf [] r live = (r, true, live) ∷ []
+with_leaf (s ∷ rest) r live = (s ∷ rest) ++ (r, false, live) ∷ []
+
+-- with several more, which are live
+abbrev pub with_all : List State → List RevId → List State
+with_all leaves [] = leaves
+with_all leaves (r ∷ revs) = with_all (with_leaf leaves r true) revs
+
+-- the document has this id and these leaves
+pub record Holds (d : Document) (id : List ℕ) (leaves : List State) : Type 0 where
+  pub named : string_bytes d.id ≡ id
+  pub read : states d ≡ leaves
+
+-- What a line tells leaves open this document, and makes that whole.
+pub data IsNext : Option Document → Told → Option Document → Option Whole → Type 0 where
+  -- a document begins
+  opened : {old : Option Document} {id : String Global} {count : ℕ} {d : Document} → Holds d (string_bytes id) [] → d.count ≡ count
+      → IsNext old (told.Document id count) (Some d) None
+  -- a leaf comes, and others are to come
+  more : {d e : Document} {live : Bool} {revs : Vec RevId Global} (r : RevId) → head_of revs.items ≡ Some r
+      → Holds e (string_bytes d.id) (with_leaf (states d) r live) → e.count ≡ d.count → vec_len e.leaves < e.count
+      → IsNext (Some d) (told.Leaf live revs) (Some e) None
+  -- the last one comes
+  whole : {d e : Document} {live : Bool} {revs : Vec RevId Global} (r : RevId) → head_of revs.items ≡ Some r
+      → Holds e (string_bytes d.id) (with_leaf (states d) r live) → e.count ≡ d.count → e.count ≤ vec_len e.leaves
+      → IsNext (Some d) (told.Leaf live revs) None (Some (wholes.Tree e))
+  -- a leaf of no document
+  loose : {live : Bool} {revs : Vec RevId Global} → IsNext None (told.Leaf live revs) None None
+  -- no line tells an empty list
+  empty : {old : Option Document} {live : Bool} {revs : Vec RevId Global} → head_of revs.items ≡ None → IsNext old (told.Leaf live revs) None None
+  -- a document of which the live leaves are told alone
+  conflict : {old : Option Document} {id : String Global} {revs : Vec RevId Global} {e : Document} → Holds e (string_bytes id) (with_all [] revs.items)
+      → IsNext old (told.Conflict id revs) None (Some (wholes.Tree e))
+  -- what `compare` finds of a document, and a row of numbers
+  found : {old : Option Document} {f : Found} → IsNext old (told.Found f) None (Some (wholes.Found f))
+  row : {old : Option Document} {r : Row} → IsNext old (told.Row r) None (Some (wholes.Row r))
+  -- a log
+  log : {old : Option Document} {l : Log} → IsNext old (told.Log l) None (Some (wholes.Log l))
+  -- another line
+  other : {old : Option Document} → IsNext old told.Other None None
+
+-- ---- pictures
+
+-- a picture of the document: its id and each of its leaves once, in some order, and the lines that end its conflict
+pub record IsPicture (form : Form) (db : Option (List ℕ)) (d : Document) (text : List ℕ) : Type 0 where
+  pub leaves : List Leaf
+  pub each : IsPermutation (states d) (map state_of leaves)
+  pub draws : Draws [] text (signs_of form db (string_bytes d.id) leaves)
+
+-- what is drawn: what is whole, or nothing
+abbrev pub IsDrawn : Form → Option (List ℕ) → Option Whole → List ℕ → Type 0
+IsDrawn form db None text = text ≡ []
+IsDrawn form db (Some (wholes.Tree d)) text = IsPicture form db d text
+IsDrawn form db (Some (wholes.Found f)) text = Draws [] text (signs_of_found form f.finding (string_bytes f.id) f.revs.items)
+IsDrawn form db (Some (wholes.Row r)) text = Draws [] text (signs_of_row form r.table (string_bytes r.name) r.numbers.items)
+IsDrawn form db (Some (wholes.Log l)) text = Draws [] text (signs_of_log form (string_bytes l.id) l.entries.items)
+
+-- what is drawn as, for which database, and the document that is open
+pub record Sketch : Type 0 where
+  pub form : Form
+  pub db : Option (List ℕ)
+  pub begun : Option Document
+
+abbrev pub sketch_of : Form → Option (Bor (List ℕ)) → Option Document → Sketch
+sketch_of form db begun = record { form = form; db = option_map (λ (s : Bor (List ℕ)). s.now) db; begun = begun }
+
+-- the picture of what a line makes whole, or nothing
+pub record Takes (old : Sketch) (line : List ℕ) (new : Sketch) (text : List ℕ) : Type 0 where
+  pub told : Told
+  pub whole : Option Whole
+  pub tells : Tells line told
+  pub next : IsNext old.begun told new.begun whole
+  pub drawn : IsDrawn old.form old.db whole text
+  pub form : new.form ≡ old.form
+  pub db : new.db ≡ old.db
+
+-- what a line is told: the picture of what it makes whole; or memory was wanting, and none is open
+abbrev pub Pictures : Answering Sketch (List ℕ)
+Pictures old line (Ok text) new = Takes old line new text
+Pictures old line (Err name) new =
+    (name ≡ codes "Memory") × (new.begun ≡ None) × (new.form ≡ old.form) × (new.db ≡ old.db)
+
+-- What is written of what the reader has left: a beginning, what its lines are told, and an end. No character of a text of
+-- an answer is hidden in it, and in SVG none is markup.
+pub record IsPictured (form : Form) (db : Option (List ℕ)) (left held held' : Option (List ℕ)) (clean : Bool) : Type 0 where
+  pub input : List ℕ
+  pub gives : Gives left input
+  pub head : List ℕ
+  pub head_drawn : Draws [] head []
+  pub text : List ℕ
+  pub left_open : Sketch
+  pub answered : IsAnswered Pictures (record { form = form; db = db; begun = None }) input clean text left_open
+  pub tail : List ℕ
+  pub tail_drawn : Draws [] tail []
+  pub written : Appends held held' ((head ++ text) ++ tail)
+  pub safe : (shows : List ℕ) → IsSafe form (shown form (chars shows))

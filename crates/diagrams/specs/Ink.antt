@@ -1,0 +1,277 @@
+-- What pictures are drawn of: docs/PROFILE.md, "Pictures".
+use Rattle.std.specs.Prelude.{◌≡◌, ◌==◌, ◌&&◌, ◌*◌, ◌/◌, ◌-◌, nat_le, drop, get_or, ℕ, Bool, true, false, not, if◌then◌else◌, List, [], ◌∷◌, ◌++◌, Option, Some, None, map, codes, chars, decimal, encode_utf8_all, max, string_bytes, take}
+use Rattle.std.specs.List.{flat_map}
+use Rattle.rev_core.specs.Rev.{RevId}
+use Rattle.rev_core.specs.Text.{rev_text}
+use Rattle.output_parser.specs.Lines.{finding_text}
+use Rattle.output_parser.specs.Columns.{columns_of}
+use Rattle.output_parser.specs.declared.told.Column.{Column}
+use Rattle.output_parser.specs.declared.told.Column.TheVariants as columns
+use Rattle.output_parser.specs.declared.told.Entry.{Entry}
+use Rattle.output_parser.specs.declared.told.Finding.{Finding}
+use Rattle.output_parser.specs.declared.told.Table.{Table}
+use Rattle.output_parser.specs.declared.told.Table.TheVariants as tables
+use Rattle.diagrams.specs.declared.document.Leaf.{Leaf}
+use Rattle.diagrams.specs.declared.form.Form.{Form}
+use Rattle.diagrams.specs.declared.form.Form.TheVariants as forms
+use Rattle.diagrams.specs.declared.markup.Markup.{Markup}
+use Rattle.diagrams.specs.declared.markup.Markup.TheVariants as own
+use Rattle.diagrams.specs.Shown.{shown}
+
+-- the program's own markup, in UTF-8
+abbrev pub markup_text : Markup → List ℕ
+markup_text own.Space = codes " "
+markup_text own.LineEnd = codes "\n"
+markup_text own.Indent = codes "  "
+markup_text own.Blank = codes "   "
+markup_text own.Bar = 32 ∷ 226 ∷ 148 ∷ 130 ∷ 32 ∷ []  --  │
+markup_text own.Step = 32 ∷ 226 ∷ 148 ∷ 128 ∷ 32 ∷ []  --  ─
+markup_text own.Fork = 32 ∷ 226 ∷ 148 ∷ 172 ∷ 32 ∷ []  --  ┬
+markup_text own.Branch = 32 ∷ 226 ∷ 148 ∷ 156 ∷ 32 ∷ []  --  ├
+markup_text own.Corner = 32 ∷ 226 ∷ 148 ∷ 148 ∷ 32 ∷ []  --  └
+markup_text own.More = codes " more"
+markup_text own.Head = codes "<svg xmlns=\"http://www.w3.org/2000/svg\" role=\"img\" font-family=\"sans-serif\" font-size=\"13\"><title>Revision trees</title><desc>Each document is a tree of its revisions, the oldest to the left, with the winner in the first row. Filled marks are live leaves, a disc for the winner and squares for those that lose; hollow marks are deleted leaves.</desc><style>svg{background:#fff}text{fill:#222;white-space:pre}.b{font-weight:bold}.r{font-size:10px;text-anchor:middle;fill:#555}.e{stroke:#7f8c8d;stroke-width:1.6;fill:none}.a{fill:#95a5a6}.w{fill:#0072b2}.l{fill:#d55e00}.d{fill:#fff;stroke:#555;stroke-width:2}@media(prefers-color-scheme:dark){svg{background:#1b1b1b}text{fill:#eee}.r{fill:#bbb}.d{fill:#1b1b1b;stroke:#bbb}}</style>\n"
+markup_text own.TailWidth = codes "<style>svg{width:"
+markup_text own.TailHeight = codes "px;height:"
+markup_text own.Tail = codes "px}</style></svg>\n"
+markup_text own.Group = codes "<g transform=\"translate(0,"
+markup_text own.Title = codes ")\"><text x=\"20\" y=\"18\" class=\"b\">"
+markup_text own.TitleEnd = codes "</text>\n"
+markup_text own.GroupEnd = codes "</g>\n"
+markup_text own.Path = codes "<path class=\"e\" d=\"M"
+markup_text own.Comma = codes ","
+markup_text own.Curve = codes " C"
+markup_text own.PathEnd = codes "\"/>\n"
+markup_text own.Node = codes "<g transform=\"translate("
+markup_text own.NodeTitle = codes ")\"><title>"
+markup_text own.Ancestor = codes "</title><circle r=\"6\" class=\"a\"/><text y=\"-11\" class=\"r\">"
+markup_text own.Folded = codes ")\"><text y=\"4\" class=\"r\">"
+markup_text own.NodeNone = codes ")\"></g>\n"
+markup_text own.NodeEnd = codes "</text></g>\n"
+markup_text own.Line = codes ")\"><text x=\"20\" y=\"18\">"
+markup_text own.Numbers = codes "</text>\n<text x=\"20\" y=\"40\">"
+
+-- a revision by its generation and the first six characters of its signature
+abbrev pub short_text : RevId → List ℕ
+short_text r = decimal r.generation ++ 45 ∷ take 6 r.sig
+
+-- ---- what a picture tells
+
+-- what stands beside a leaf, and how it looks: whether it wins, and whether it is live
+abbrev pub label_text : Bool → Bool → List ℕ
+label_text true true = codes "  wins, live\n"
+label_text true false = codes "  wins, deleted\n"
+label_text false true = codes "  live\n"
+label_text false false = codes "  deleted\n"
+
+abbrev pub shape_text : Bool → Bool → List ℕ
+shape_text true true = codes "</title><circle r=\"8\" class=\"w\"/><text y=\"-11\" class=\"r\">"
+shape_text true false = codes "</title><circle r=\"8\" class=\"d\"/><text y=\"-11\" class=\"r\">"
+shape_text false true = codes "</title><rect x=\"-7\" y=\"-7\" width=\"14\" height=\"14\" class=\"l\"/><text y=\"-11\" class=\"r\">"
+shape_text false false = codes "</title><rect x=\"-7\" y=\"-7\" width=\"14\" height=\"14\" class=\"d\"/><text y=\"-11\" class=\"r\">"
+
+abbrev pub node_label : Bool → Bool → List ℕ
+node_label true true = codes "</text><text x=\"14\" y=\"4\">wins, live</text></g>\n"
+node_label true false = codes "</text><text x=\"14\" y=\"4\">wins, deleted</text></g>\n"
+node_label false true = codes "</text><text x=\"14\" y=\"4\">live</text></g>\n"
+node_label false false = codes "</text><text x=\"14\" y=\"4\">deleted</text></g>\n"
+
+-- a text of an answer, in UTF-8
+abbrev pub shown_text : Form → List ℕ → List ℕ
+shown_text form text = encode_utf8_all (shown form (chars text))
+
+pub data Sign : Type 0 where
+  -- a document's id
+  title : Form → List ℕ → Sign
+  -- a leaf, whether it wins, and whether it is live
+  leaf : Form → RevId → Bool → Bool → Sign
+  -- the line that ends a leaf's part of a conflict: its database, its id and its revision
+  edit : List ℕ → List ℕ → RevId → Sign
+  -- what `compare` finds of a document, by its id
+  found : Form → Finding → List ℕ → Sign
+  -- a revision of which that is so
+  listed : RevId → Sign
+  -- what a row of numbers tells of, by its name
+  heading : Form → Table → List ℕ → Sign
+  -- the number of a column
+  count : Column → ℕ → Sign
+  -- how much of a whole is there
+  bar : Form → ℕ → ℕ → Sign
+  -- a log, by the id of its replication
+  log : Form → List ℕ → Sign
+  -- when a session began
+  moment : Form → List ℕ → Sign
+  -- how many documents it wrote, and how many it read, beside the most that a session of its log read
+  chart : Form → ℕ → ℕ → ℕ → Sign
+
+abbrev pub leaf_ink : Form → RevId → Bool → Bool → List ℕ
+leaf_ink forms.Text r wins live = short_text r ++ label_text wins live
+leaf_ink forms.Svg r wins live = rev_text r ++ (shape_text wins live ++ (short_text r ++ node_label wins live))
+
+abbrev pub edit_ink : List ℕ → List ℕ → RevId → List ℕ
+edit_ink db id r =
+    codes "  to keep the winner alone: {\"do\":\"edit\",\"db\":\"" ++ (shown_text forms.Text db ++ (codes "\",\"id\":"
+    ++ (shown_text forms.Text id ++ (codes ",\"parent\":\"" ++ (rev_text r ++ codes "\",\"deleted\":true}\n")))))
+
+-- how a column is called
+abbrev pub caption : Column → List ℕ
+caption columns.ComparedDocuments = codes "documents"
+caption columns.ComparedLeaves = codes "leaves"
+caption columns.ComparedMissing = codes "missing leaves"
+caption columns.Contradicting = codes "contradicting documents"
+caption columns.Differing = codes "differing leaves"
+caption columns.Seq = codes "seq"
+caption columns.Life = codes "life"
+caption columns.Documents = codes "documents"
+caption columns.Deleted = codes "deleted"
+caption columns.Leaves = codes "leaves"
+caption columns.Conflicts = codes "conflicts"
+caption columns.Revisions = codes "revisions"
+caption columns.Sessions = codes "sessions"
+caption columns.From = codes "from"
+caption columns.To = codes "to"
+caption columns.Checked = codes "checked"
+caption columns.Found = codes "found"
+caption columns.Read = codes "read"
+caption columns.Written = codes "written"
+caption columns.Failed = codes "failed"
+
+-- what a row of numbers tells of
+abbrev pub table_text : Table → List ℕ
+table_text tables.Compared = codes "compare"
+table_text tables.Info = codes "database "
+table_text tables.Session = codes "session "
+
+-- how much of a whole is there, in parts of 400
+abbrev pub share : ℕ → ℕ → ℕ
+share part all = if all == 0 then 400 else (if nat_le 400 (part * 400 / all) then 400 else part * 400 / all)
+
+abbrev pub ratio : ℕ → ℕ → List ℕ
+ratio part all = (decimal part ++ codes " of ") ++ decimal all
+
+-- a bar of 40 characters, or 400 wide
+abbrev pub bar_ink : Form → ℕ → ℕ → List ℕ
+bar_ink forms.Text part all =
+    ((((codes "  [" ++ take (share part all / 10) (codes "########################################"))
+    ++ drop (share part all / 10) (codes "........................................")) ++ codes "] ") ++ ratio part all) ++ codes "\n"
+bar_ink forms.Svg part all =
+    (((codes "<rect x=\"20\" y=\"54\" width=\"400\" height=\"10\" class=\"d\"/><rect x=\"20\" y=\"54\" width=\""
+    ++ decimal (share part all)) ++ codes "\" height=\"10\" class=\"w\"/><text x=\"432\" y=\"63\">") ++ ratio part all)
+    ++ codes "</text>\n"
+
+-- how far a chart is filled, and how far it reaches, in 40 characters
+abbrev pub filled : ℕ → ℕ → ℕ
+filled written most = share written most / 10
+
+abbrev pub reached : ℕ → ℕ → ℕ → ℕ
+reached written read most = max (filled written most) (share read most / 10)
+
+abbrev pub chart_ink : Form → ℕ → ℕ → ℕ → List ℕ
+chart_ink forms.Text written read most =
+    (((codes "  [" ++ take (filled written most) (codes "########################################"))
+    ++ take (reached written read most - filled written most) (codes "........................................"))
+    ++ drop (reached written read most) (codes "                                        ")) ++ codes "]"
+chart_ink forms.Svg written read most =
+    (((codes "</text>\n<rect x=\"250\" y=\"8\" height=\"10\" class=\"d\" width=\"" ++ decimal (share read most))
+    ++ codes "\"/><rect x=\"250\" y=\"8\" height=\"10\" class=\"w\" width=\"") ++ decimal (share written most))
+    ++ codes "\"/>\n<text x=\"662\" y=\"18\">"
+
+abbrev pub sign_ink : Sign → List ℕ
+sign_ink (title form text) = shown_text form text
+sign_ink (leaf form r wins live) = leaf_ink form r wins live
+sign_ink (edit db id r) = edit_ink db id r
+sign_ink (found form finding id) = finding_text finding ++ shown_text form id
+sign_ink (listed r) = codes " " ++ short_text r
+sign_ink (heading form table name) = table_text table ++ shown_text form name
+sign_ink (count column n) = ((codes "  " ++ caption column) ++ codes " ") ++ decimal n
+sign_ink (bar form part all) = bar_ink form part all
+sign_ink (log form id) = codes "log " ++ shown_text form id
+sign_ink (moment form text) = shown_text form text
+sign_ink (chart form written read most) = chart_ink form written read most
+
+-- ---- what it is drawn of
+
+-- all that may stand in a picture: markup, numbers, ancestors, and what it tells
+pub data Piece : Type 0 where
+  mark : Markup → Piece
+  number : ℕ → Piece
+  whole : RevId → Piece
+  short : RevId → Piece
+  sign : Sign → Piece
+
+-- the bytes of a piece
+abbrev pub ink_of : Piece → List ℕ
+ink_of (mark m) = markup_text m
+ink_of (number n) = decimal n
+ink_of (whole r) = rev_text r
+ink_of (short r) = short_text r
+ink_of (sign s) = sign_ink s
+
+-- what a piece tells
+abbrev pub sign_in : Piece → List Sign
+sign_in (mark m) = []
+sign_in (number n) = []
+sign_in (whole r) = []
+sign_in (short r) = []
+sign_in (sign s) = s ∷ []
+
+-- from one text to the next such pieces were drawn, which tell this, in order
+pub record Draws (old new : List ℕ) (signs : List Sign) : Type 0 where
+  pub pieces : List Piece
+  pub ink : new ≡ old ++ flat_map ink_of pieces
+  pub drawn : flat_map sign_in pieces ≡ signs
+
+-- ---- what is told of a document
+
+abbrev pub leaf_sign : Form → Leaf → Sign
+leaf_sign form l = leaf form l.rev l.wins l.live
+
+-- a leaf that is live and loses has a line that ends its part of the conflict, where the database is named
+abbrev pub edit_of : List ℕ → List ℕ → Leaf → List Sign
+edit_of db id l = if not l.wins && l.live then edit db id l.rev ∷ [] else []
+
+abbrev pub edits_of : Option (List ℕ) → List ℕ → List Leaf → List Sign
+edits_of None id leaves = []
+edits_of (Some db) id leaves = flat_map (edit_of db id) leaves
+
+-- its id, its leaves, and in a text the lines that end its conflict
+abbrev pub signs_of : Form → Option (List ℕ) → List ℕ → List Leaf → List Sign
+signs_of forms.Text db id leaves = title forms.Text id ∷ (map (leaf_sign forms.Text) leaves ++ edits_of db id leaves)
+signs_of forms.Svg db id leaves = title forms.Svg id ∷ map (leaf_sign forms.Svg) leaves
+
+-- ---- what is told of other lines
+
+-- what `compare` finds of a document, and of which revisions
+abbrev pub signs_of_found : Form → Finding → List ℕ → List RevId → List Sign
+signs_of_found form finding id revs = found form finding id ∷ map listed revs
+
+-- each number by its column
+abbrev pub counts_of : List Column → List ℕ → List Sign
+counts_of (c ∷ cs) (n ∷ ns) = count c n ∷ counts_of cs ns
+counts_of cs ns = []
+
+-- of what `compare` counts, how many leaves are at the target; of a session, how many of the documents that were read were
+-- written
+abbrev pub bars_of : Form → Table → List ℕ → List Sign
+bars_of form tables.Compared ns = bar form (get_or ns 1 0 - get_or ns 2 0) (get_or ns 1 0) ∷ []
+bars_of form tables.Info ns = []
+bars_of form tables.Session ns = bar form (get_or ns 5 0) (get_or ns 4 0) ∷ []
+
+-- its name, its numbers, and a bar
+abbrev pub signs_of_row : Form → Table → List ℕ → List ℕ → List Sign
+signs_of_row form table name ns = heading form table name ∷ (counts_of (columns_of table) ns ++ bars_of form table ns)
+
+-- the most documents that a session of these read, or this many
+abbrev pub most_from : ℕ → List Entry → ℕ
+most_from most [] = most
+most_from most (e ∷ es) = most_from (max most e.read) es
+
+-- of a session of a log: when it began, its documents, and its id
+abbrev pub signs_of_session : Form → ℕ → Entry → List Sign
+signs_of_session form most e =
+    moment form (string_bytes e.begun) ∷ chart form e.written e.read most ∷ count columns.Read e.read ∷ count columns.Written e.written
+    ∷ count columns.Failed e.failed ∷ heading form tables.Session (string_bytes e.session) ∷ []
+
+-- its id, and each session
+abbrev pub signs_of_log : Form → List ℕ → List Entry → List Sign
+signs_of_log form id es = log form id ∷ flat_map (signs_of_session form (most_from 1 es)) es

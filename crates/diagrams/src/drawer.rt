@@ -1,0 +1,235 @@
+//! A run over a script's answers.
+ghost use Rattle.std.specs.Prelude.{◌≡◌, [], Some, None, IfOk, OnOk, OnErr, option_map, string_bytes};
+ghost use Rattle.std.specs.Io.KnownBytes.{Keeps};
+ghost use Rattle.diagrams.specs.Ink.{Draws, signs_of, signs_of_found, signs_of_log, signs_of_row};
+ghost use Rattle.diagrams.specs.Drawing.{IsDrawn, IsPicture, IsPictured, Pictures, Takes, sketch_of};
+
+use crate::document::Document;
+use crate::form::Form;
+use crate::markup::Markup;
+use crate::reading::{Whole, next};
+use crate::sheet::{mark, number};
+use crate::svg::Extent;
+use crate::{lines, sessions, svg, text};
+use output_parser::{Found, Log, Row, read_line};
+use script_engine::{NoRest, ScriptFault, ScriptRead, ScriptWrite, Serve, run_lines, write_all};
+use std::alloc::{AllocError, Global};
+
+/// Whoever draws.
+#[derive(Drop)]
+struct Drawer<'a> {
+    alloc: Global,
+    form: Form,
+    /// The database of the answers, where it was named.
+    db: Option<&'a str>,
+    /// The document whose leaves are being read.
+    begun: Option<Document>,
+    /// How wide and high the picture is.
+    extent: Extent,
+}
+
+impl Serve for Drawer<'_> {
+    ghost answers = { λ old line told new. Pictures (sketch_of old.form old.db old.begun) line told (sketch_of new.form new.db new.begun) };
+
+    type Rest = NoRest;
+
+    ghost left = { λ _ _. [] };
+
+    fn serve(&mut self, line: &[u8], answer: &mut Vec<u8>) -> Result<Option<NoRest>, &'static str> {
+        match self.take_in(line, answer) {
+            Ok(()) => Ok(None),
+            Err(_) => Err("Memory"),
+        }
+    }
+
+    fn more(&self, _rest: &mut NoRest, _piece: &mut Vec<u8>) -> Result<bool, AllocError> {
+        Ok(false)
+    }
+
+    fn hear(&mut self, _number: u64, _line: &[u8], _refused: Option<&'static str>) {}
+}
+
+impl Drawer<'_> {
+    /// Takes in a line, and draws the document that it makes whole. Where memory is wanting, none is open.
+    fn take_in(&mut self, line: &[u8], answer: &mut Vec<u8>) -> Result<(), AllocError>
+        requires { answer.old.items ≡ [] }
+        ensures ok { OnOk result (Takes (sketch_of self.old.form self.old.db self.old.begun) line.now
+            (sketch_of self.new.form self.new.db self.new.begun) answer.new.items) }
+        ensures err { OnErr result (self.new.begun ≡ None) }
+        ensures form { self.new.form ≡ self.old.form }
+        ensures db { self.new.db ≡ self.old.db }
+    {
+        let begun = self.begun.take();
+        let told = read_line(self.alloc, line)?;
+        let (begun, whole) = next(self.alloc, begun, told)?;
+        match whole {
+            Some(whole) => self.draw_whole(whole, answer),
+            None => {
+                self.begun = begun;
+                Ok(())
+            }
+        }
+    }
+
+    /// Draws what is whole.
+    fn draw_whole(&mut self, whole: Whole, answer: &mut Vec<u8>) -> Result<(), AllocError>
+        requires { answer.old.items ≡ [] }
+        ensures draws { OnOk result (IsDrawn self.old.form (option_map (λ s. s.now) self.old.db) (Some whole) answer.new.items) }
+        ensures begun { self.new.begun ≡ self.old.begun }
+        ensures form { self.new.form ≡ self.old.form }
+        ensures db { self.new.db ≡ self.old.db }
+    {
+        match whole {
+            Whole::Tree(document) => self.draw(document, answer),
+            Whole::Found(found) => self.draw_found(&found, answer),
+            Whole::Row(row) => self.draw_row(&row, answer),
+            Whole::Log(log) => self.draw_log(&log, answer),
+        }
+    }
+
+    /// Draws what `compare` finds of a document.
+    fn draw_found(&mut self, found: &Found, answer: &mut Vec<u8>) -> Result<(), AllocError>
+        ensures draws { OnOk result (Draws answer.old.items answer.new.items (signs_of_found self.old.form
+            found.now.finding (string_bytes found.now.id) found.now.revs.items)) }
+        ensures begun { self.new.begun ≡ self.old.begun }
+        ensures form { self.new.form ≡ self.old.form }
+        ensures db { self.new.db ≡ self.old.db }
+    {
+        lines::draw_found(answer, self.form, self.extent.height, found)?;
+        self.extent = self.extent.with_below(lines::extent_of_found(found));
+        Ok(())
+    }
+
+    /// Draws a row of numbers.
+    fn draw_row(&mut self, row: &Row, answer: &mut Vec<u8>) -> Result<(), AllocError>
+        ensures draws { OnOk result (Draws answer.old.items answer.new.items (signs_of_row self.old.form
+            row.now.table (string_bytes row.now.name) row.now.numbers.items)) }
+        ensures begun { self.new.begun ≡ self.old.begun }
+        ensures form { self.new.form ≡ self.old.form }
+        ensures db { self.new.db ≡ self.old.db }
+    {
+        lines::draw_numbers(answer, self.form, self.extent.height, row)?;
+        self.extent = self.extent.with_below(lines::extent_of_row(row));
+        Ok(())
+    }
+
+    /// Draws a log.
+    fn draw_log(&mut self, log: &Log, answer: &mut Vec<u8>) -> Result<(), AllocError>
+        ensures draws { OnOk result (Draws answer.old.items answer.new.items (signs_of_log self.old.form
+            (string_bytes log.now.id) log.now.entries.items)) }
+        ensures begun { self.new.begun ≡ self.old.begun }
+        ensures form { self.new.form ≡ self.old.form }
+        ensures db { self.new.db ≡ self.old.db }
+    {
+        sessions::draw_log(answer, self.form, self.extent.height, log)?;
+        self.extent = self.extent.with_below(sessions::extent_of(log));
+        Ok(())
+    }
+
+    /// Draws a document.
+    fn draw(&mut self, mut document: Document, answer: &mut Vec<u8>) -> Result<(), AllocError>
+        requires { answer.old.items ≡ [] }
+        ensures draws { OnOk result (IsPicture self.old.form (option_map (λ s. s.now) self.old.db) document answer.new.items) }
+        ensures begun { self.new.begun ≡ self.old.begun }
+        ensures form { self.new.form ≡ self.old.form }
+        ensures db { self.new.db ≡ self.old.db }
+    {
+        document.sort()?;
+        self.draw_sorted(&document, answer)
+    }
+
+    /// Draws a document whose leaves stand in their order.
+    fn draw_sorted(&mut self, document: &Document, answer: &mut Vec<u8>) -> Result<(), AllocError>
+        ensures draws { OnOk result (Draws answer.old.items answer.new.items (signs_of self.old.form
+            (option_map (λ s. s.now) self.old.db) (string_bytes document.now.id) document.now.leaves.items)) }
+        ensures begun { self.new.begun ≡ self.old.begun }
+        ensures form { self.new.form ≡ self.old.form }
+        ensures db { self.new.db ≡ self.old.db }
+    {
+        match self.form {
+            Form::Text => text::draw_document(self.alloc, answer, self.db, document),
+            Form::Svg => {
+                let extent = svg::draw_document(self.alloc, answer, self.extent.height, document)?;
+                self.extent = self.extent.with_below(extent);
+                Ok(())
+            }
+        }
+    }
+}
+
+/// Reads a script's answers, and writes a picture of each document that an answer of `show` or `conflicts` tells, of what
+/// `compare` finds and counts, of the numbers of `info` and of sessions, and of logs (docs/PROFILE.md, "Pictures"): as text, or all of
+/// them as one picture in SVG. Where the database is named, a text has the lines that end the conflicts.
+///
+/// `true` where memory was wanting for no line. `Read` and `Write` where that device failed, `Memory` where memory was
+/// wanting between lines: then a beginning was written.
+pub fn draw_answers<R: ScriptRead, W: ScriptWrite>(
+    alloc: Global,
+    form: Form,
+    db: Option<&str>,
+    reader: &mut R,
+    writer: &mut W,
+) -> Result<bool, ScriptFault>
+    ensures { IfOk result (λ clean. IsPictured form (option_map (λ s. s.now) db.entry)
+        (R.left reader.old) (W.held writer.old) (W.held writer.new) clean) }
+{
+    let mut drawer = Drawer {
+        alloc,
+        form,
+        db,
+        begun: None,
+        extent: Extent {
+            width: 0,
+            height: 0,
+        },
+    };
+    write_all(writer, head_of(form).as_bytes())?;
+    let clean = run_lines(alloc, &mut drawer, reader, writer)?;
+    let tail = tail_of(alloc, form, drawer.extent)?;
+    write_all(writer, tail.as_slice())?;
+    pass_on(writer)?;
+    Ok(clean)
+}
+
+/// Passes on what was written.
+fn pass_on<W: ScriptWrite>(writer: &mut W) -> Result<(), ScriptFault>
+    ensures { OnOk result (Keeps (W.held writer.old) (W.held writer.new)) }
+{
+    match writer.flush() {
+        Ok(()) => Ok(()),
+        Err(_) => Err(ScriptFault::Write),
+    }
+}
+
+/// The beginning of a picture.
+fn head_of(form: Form) -> &'static str
+    ensures { Draws [] result.now [] }
+{
+    match form {
+        Form::Text => "",
+        Form::Svg => Markup::Head.text(),
+    }
+}
+
+/// The end of a picture.
+fn tail_of(alloc: Global, form: Form, extent: Extent) -> Result<Vec<u8>, AllocError>
+    ensures { IfOk result (λ tail. Draws [] tail.items []) }
+{
+    let mut tail = Vec::new(alloc);
+    if form == Form::Text {
+        return Ok(tail);
+    }
+    draw_size(&mut tail, extent)?;
+    mark(&mut tail, Markup::Tail)?;
+    Ok(tail)
+}
+
+/// Draws the width and the height of a picture.
+fn draw_size(out: &mut Vec<u8>, extent: Extent) -> Result<(), AllocError>
+    ensures { OnOk result (Draws out.old.items out.new.items []) }
+{
+    mark(out, Markup::TailWidth)?;
+    number(out, extent.width.saturating_add(120))?;
+    mark(out, Markup::TailHeight)?;
+    number(out, extent.height.saturating_add(20))
+}

@@ -1,0 +1,43 @@
+//! What stands beside a leaf, and how it looks. Nothing else that is drawn looks so.
+ghost use Rattle.std.specs.Prelude.{◌≡◌};
+ghost use Rattle.diagrams.specs.Ink.{label_text, node_label, shape_text};
+
+/// What stands behind a leaf in a text.
+pub fn label_text(wins: bool, live: bool) -> &'static str
+    ensures { result.now ≡ label_text wins live }
+{
+    match (wins, live) {
+        (true, true) => "  wins, live\n",
+        (true, false) => "  wins, deleted\n",
+        (false, true) => "  live\n",
+        (false, false) => "  deleted\n",
+    }
+}
+
+/// What stands between a leaf's whole id and its short one in SVG: its mark.
+pub fn shape_text(wins: bool, live: bool) -> &'static str
+    ensures { result.now ≡ shape_text wins live }
+{
+    match (wins, live) {
+        (true, true) => "</title><circle r=\"8\" class=\"w\"/><text y=\"-11\" class=\"r\">",
+        (true, false) => "</title><circle r=\"8\" class=\"d\"/><text y=\"-11\" class=\"r\">",
+        (false, true) => {
+            "</title><rect x=\"-7\" y=\"-7\" width=\"14\" height=\"14\" class=\"l\"/><text y=\"-11\" class=\"r\">"
+        }
+        (false, false) => {
+            "</title><rect x=\"-7\" y=\"-7\" width=\"14\" height=\"14\" class=\"d\"/><text y=\"-11\" class=\"r\">"
+        }
+    }
+}
+
+/// What stands behind a leaf in SVG.
+pub fn node_label(wins: bool, live: bool) -> &'static str
+    ensures { result.now ≡ node_label wins live }
+{
+    match (wins, live) {
+        (true, true) => "</text><text x=\"14\" y=\"4\">wins, live</text></g>\n",
+        (true, false) => "</text><text x=\"14\" y=\"4\">wins, deleted</text></g>\n",
+        (false, true) => "</text><text x=\"14\" y=\"4\">live</text></g>\n",
+        (false, false) => "</text><text x=\"14\" y=\"4\">deleted</text></g>\n",
+    }
+}

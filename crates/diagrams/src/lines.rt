@@ -1,0 +1,309 @@
+//! What `compare` finds of documents, and rows of numbers, as text and as SVG.
+
+ghost use Rattle.std.specs.Prelude.{◌≡◌, ◌≤◌, ◌++◌, ◌∷◌, [], OnOk, get_or, map, string_bytes};
+ghost use Rattle.diagrams.specs.declared.form.Form.TheVariants.{Svg, Text};
+ghost use Rattle.diagrams.specs.Ink.{Draws, bar, bars_of, caption, count, counts_of, found, heading, listed, ratio, share, signs_of_found, signs_of_row, table_text};
+
+use crate::form::Form;
+use crate::markup::Markup;
+use crate::sheet::{mark, number, push_short, put_number, put_text};
+use crate::svg::{Extent, width_of};
+use output_parser::{Column, Finding, Found, Row, Table};
+use rev_core::Rev;
+use std::alloc::AllocError;
+
+/// Draws what `compare` finds of a document, in SVG at a height.
+pub fn draw_found(
+    out: &mut Vec<u8>,
+    form: Form,
+    height: u64,
+    what: &Found,
+) -> Result<(), AllocError>
+    ensures { OnOk result (Draws out.old.items out.new.items
+        (signs_of_found form what.now.finding (string_bytes what.now.id) what.now.revs.items)) }
+{
+    begin(out, form, height, Markup::Line)?;
+    put_found(out, form, what.finding, what.id.as_str())?;
+    draw_listed(out, what.revs.as_slice())?;
+    end_line(out, form)
+}
+
+/// Draws revisions.
+fn draw_listed(out: &mut Vec<u8>, revs: &[Rev]) -> Result<(), AllocError>
+    ensures { OnOk result (Draws out.old.items out.new.items (map listed revs.now)) }
+{
+    for i in 0..revs.len() {
+        put_listed(out, &revs[i])?;
+    }
+    Ok(())
+}
+
+/// Draws a row of numbers, in SVG at a height.
+pub fn draw_numbers(out: &mut Vec<u8>, form: Form, height: u64, row: &Row) -> Result<(), AllocError>
+    ensures { OnOk result (Draws out.old.items out.new.items
+        (signs_of_row form row.now.table (string_bytes row.now.name) row.now.numbers.items)) }
+{
+    let numbers = row.numbers.as_slice();
+    begin(out, form, height, Markup::Title)?;
+    put_heading(out, form, row.table, row.name.as_str())?;
+    between(out, form)?;
+    draw_counts(out, row.table.columns(), numbers)?;
+    behind_numbers(out, form)?;
+    draw_bar(out, form, row.table, numbers)?;
+    end(out, form)
+}
+
+/// Draws each number by its column.
+fn draw_counts(out: &mut Vec<u8>, columns: &[Column], numbers: &[u64]) -> Result<(), AllocError>
+    ensures { OnOk result (Draws out.old.items out.new.items (counts_of columns.now numbers.now)) }
+{
+    for i in 0..columns.len() {
+        if i >= numbers.len() {
+            return Ok(());
+        }
+        put_count(out, columns[i], number_at(numbers, i))?;
+    }
+    Ok(())
+}
+
+/// Draws how much of a whole is there, where a row tells that.
+fn draw_bar(out: &mut Vec<u8>, form: Form, table: Table, numbers: &[u64]) -> Result<(), AllocError>
+    ensures { OnOk result (Draws out.old.items out.new.items (bars_of form table numbers.now)) }
+{
+    match table {
+        Table::Compared => {
+            let leaves = number_at(numbers, 1);
+            put_bar(
+                out,
+                form,
+                leaves.saturating_sub(number_at(numbers, 2)),
+                leaves,
+            )
+        }
+        Table::Info => Ok(()),
+        Table::Session => put_bar(out, form, number_at(numbers, 5), number_at(numbers, 4)),
+    }
+}
+
+/// The number at a place, or 0.
+fn number_at(numbers: &[u64], place: usize) -> u64
+    ensures { result ≡ get_or numbers.now place 0 }
+{
+    if place < numbers.len() {
+        numbers[place]
+    } else {
+        0
+    }
+}
+
+// ---- where it stands
+
+/// How wide and high such a line is.
+pub fn extent_of_found(found: &Found) -> Extent {
+    Extent {
+        width: width_of(found.id.as_str()).saturating_add(
+            (found.revs.len() as u64).min(1 << 32) * 140 + 60,
+        ),
+        height: 24,
+    }
+}
+
+/// How wide and high a row of numbers is.
+pub fn extent_of_row(row: &Row) -> Extent {
+    Extent {
+        width: width_of(row.name.as_str()).max(900),
+        height: if row.table == Table::Info { 54 } else { 84 },
+    }
+}
+
+/// Draws where something stands, in SVG.
+pub fn begin(out: &mut Vec<u8>, form: Form, height: u64, behind: Markup) -> Result<(), AllocError>
+    ensures { OnOk result (Draws out.old.items out.new.items []) }
+{
+    if form == Form::Text {
+        return Ok(());
+    }
+    mark(out, Markup::Group)?;
+    number(out, height)?;
+    mark(out, behind)
+}
+
+/// Draws what stands between a name and the numbers.
+fn between(out: &mut Vec<u8>, form: Form) -> Result<(), AllocError>
+    ensures { OnOk result (Draws out.old.items out.new.items []) }
+{
+    match form {
+        Form::Text => mark(out, Markup::LineEnd),
+        Form::Svg => mark(out, Markup::Numbers),
+    }
+}
+
+/// Draws what stands behind the numbers.
+fn behind_numbers(out: &mut Vec<u8>, form: Form) -> Result<(), AllocError>
+    ensures { OnOk result (Draws out.old.items out.new.items []) }
+{
+    match form {
+        Form::Text => mark(out, Markup::LineEnd),
+        Form::Svg => mark(out, Markup::TitleEnd),
+    }
+}
+
+/// Draws the end of a row.
+fn end(out: &mut Vec<u8>, form: Form) -> Result<(), AllocError>
+    ensures { OnOk result (Draws out.old.items out.new.items []) }
+{
+    match form {
+        Form::Text => mark(out, Markup::LineEnd),
+        Form::Svg => mark(out, Markup::GroupEnd),
+    }
+}
+
+/// Draws the end of a line.
+pub fn end_line(out: &mut Vec<u8>, form: Form) -> Result<(), AllocError>
+    ensures { OnOk result (Draws out.old.items out.new.items []) }
+{
+    if form == Form::Text {
+        return mark(out, Markup::LineEnd);
+    }
+    mark(out, Markup::TitleEnd)?;
+    mark(out, Markup::GroupEnd)
+}
+
+// ---- what it tells
+
+/// Draws what is so of a document, and its id.
+fn put_found(out: &mut Vec<u8>, form: Form, finding: Finding, id: &str) -> Result<(), AllocError>
+    ensures { OnOk result (Draws out.old.items out.new.items (found form finding id.now ∷ [])) }
+{
+    out.extend_from_slice(finding.text().as_bytes())?;
+    put_text(out, form, id)
+}
+
+/// Draws a revision of which it is so.
+fn put_listed(out: &mut Vec<u8>, rev: &Rev) -> Result<(), AllocError>
+    ensures { OnOk result (Draws out.old.items out.new.items (listed rev.now ∷ [])) }
+{
+    out.extend_from_slice(b" ")?;
+    push_short(out, rev)
+}
+
+/// Draws what a row tells of, and its name.
+pub fn put_heading(
+    out: &mut Vec<u8>,
+    form: Form,
+    table: Table,
+    name: &str,
+) -> Result<(), AllocError>
+    ensures { OnOk result (Draws out.old.items out.new.items (heading form table name.now ∷ [])) }
+{
+    out.extend_from_slice(table_text(table).as_bytes())?;
+    put_text(out, form, name)
+}
+
+/// What a row tells of.
+fn table_text(table: Table) -> &'static str
+    ensures { result.now ≡ table_text table }
+{
+    match table {
+        Table::Compared => "compare",
+        Table::Info => "database ",
+        Table::Session => "session ",
+    }
+}
+
+/// Draws the number of a column.
+pub fn put_count(out: &mut Vec<u8>, column: Column, number: u64) -> Result<(), AllocError>
+    ensures { OnOk result (Draws out.old.items out.new.items (count column number ∷ [])) }
+{
+    out.extend_from_slice(b"  ")?;
+    out.extend_from_slice(caption(column).as_bytes())?;
+    out.extend_from_slice(b" ")?;
+    put_number(out, number)
+}
+
+/// How a column is called.
+fn caption(column: Column) -> &'static str
+    ensures { result.now ≡ caption column }
+{
+    match column {
+        Column::ComparedDocuments => "documents",
+        Column::ComparedLeaves => "leaves",
+        Column::ComparedMissing => "missing leaves",
+        Column::Contradicting => "contradicting documents",
+        Column::Differing => "differing leaves",
+        Column::Seq => "seq",
+        Column::Life => "life",
+        Column::Documents => "documents",
+        Column::Deleted => "deleted",
+        Column::Leaves => "leaves",
+        Column::Conflicts => "conflicts",
+        Column::Revisions => "revisions",
+        Column::Sessions => "sessions",
+        Column::From => "from",
+        Column::To => "to",
+        Column::Checked => "checked",
+        Column::Found => "found",
+        Column::Read => "read",
+        Column::Written => "written",
+        Column::Failed => "failed",
+    }
+}
+
+/// Draws how much of a whole is there.
+fn put_bar(out: &mut Vec<u8>, form: Form, part: u64, whole: u64) -> Result<(), AllocError>
+    ensures { OnOk result (Draws out.old.items out.new.items (bar form part whole ∷ [])) }
+{
+    match form {
+        Form::Text => put_text_bar(out, part, whole),
+        Form::Svg => put_svg_bar(out, part, whole),
+    }
+}
+
+/// Draws it in 40 characters.
+fn put_text_bar(out: &mut Vec<u8>, part: u64, whole: u64) -> Result<(), AllocError>
+    ensures { OnOk result (Draws out.old.items out.new.items (bar Text part whole ∷ [])) }
+{
+    let length = (share(part, whole) / 10) as usize;
+    let full: &[u8] = b"########################################";
+    let empty: &[u8] = b"........................................";
+    out.extend_from_slice(b"  [")?;
+    out.extend_from_slice(&full[..length])?;
+    out.extend_from_slice(&empty[length..])?;
+    out.extend_from_slice(b"] ")?;
+    put_ratio(out, part, whole)?;
+    out.extend_from_slice(b"\n")
+}
+
+/// Draws it 400 wide.
+fn put_svg_bar(out: &mut Vec<u8>, part: u64, whole: u64) -> Result<(), AllocError>
+    ensures { OnOk result (Draws out.old.items out.new.items (bar Svg part whole ∷ [])) }
+{
+    out.extend_from_slice(
+        b"<rect x=\"20\" y=\"54\" width=\"400\" height=\"10\" class=\"d\"/><rect x=\"20\" y=\"54\" width=\"",
+    )?;
+    put_number(out, share(part, whole))?;
+    out.extend_from_slice(b"\" height=\"10\" class=\"w\"/><text x=\"432\" y=\"63\">")?;
+    put_ratio(out, part, whole)?;
+    out.extend_from_slice(b"</text>\n")
+}
+
+/// Puts a part and its whole.
+fn put_ratio(out: &mut Vec<u8>, part: u64, whole: u64) -> Result<(), AllocError>
+    ensures { OnOk result (out.new.items ≡ out.old.items ++ ratio part whole) }
+{
+    put_number(out, part)?;
+    out.extend_from_slice(b" of ")?;
+    put_number(out, whole)
+}
+
+/// How much of a whole is there, in parts of 400.
+pub fn share(part: u64, whole: u64) -> u64
+    ensures share { result ≡ share part whole }
+    ensures most { result ≤ 400 }
+{
+    if whole == 0 {
+        return 400;
+    }
+    let parts = u128::from(part) * 400 / u128::from(whole);
+    if parts >= 400 { 400 } else { parts as u64 }
+}

@@ -1,0 +1,103 @@
+//! The program's own markup: all that a picture holds beside numbers and what its answers name.
+ghost use Rattle.std.specs.Prelude.{◌≡◌};
+ghost use Rattle.diagrams.specs.Ink.{markup_text};
+
+/// A piece of markup.
+#[derive(Clone, Copy, Debug, PartialEq, Eq)]
+pub enum Markup {
+    /// A blank.
+    Space,
+    /// The end of a line.
+    LineEnd,
+    /// What stands before each row of a text.
+    Indent,
+    /// An edge of a text where nothing stands.
+    Blank,
+    /// An edge that passes by.
+    Bar,
+    /// An edge to the next revision.
+    Step,
+    /// The same, from where something hangs.
+    Fork,
+    /// An edge from above, behind which it goes on.
+    Branch,
+    /// An edge from above, the last one.
+    Corner,
+    /// Behind the number of folded revisions.
+    More,
+    /// The beginning of a picture in SVG.
+    Head,
+    /// Its end, around its width and height.
+    TailWidth,
+    TailHeight,
+    Tail,
+    /// A document, before its place.
+    Group,
+    /// Before its id.
+    Title,
+    /// Behind its id.
+    TitleEnd,
+    GroupEnd,
+    /// An edge, its points, and its end.
+    Path,
+    Comma,
+    Curve,
+    PathEnd,
+    /// A revision, before its place.
+    Node,
+    /// Before its whole id.
+    NodeTitle,
+    /// Behind its whole id, before its short one.
+    Ancestor,
+    Folded,
+    /// Where there is none.
+    NodeNone,
+    /// Behind its short id.
+    NodeEnd,
+    /// Before what a line tells.
+    Line,
+    /// Between the name of a row and its numbers.
+    Numbers,
+}
+
+impl Markup {
+    /// Its text.
+    pub fn text(self) -> &'static str
+        ensures { result.now ≡ markup_text self }
+    {
+        match self {
+            Markup::Space => " ",
+            Markup::LineEnd => "\n",
+            Markup::Indent => "  ",
+            Markup::Blank => "   ",
+            Markup::Bar => " │ ",
+            Markup::Step => " ─ ",
+            Markup::Fork => " ┬ ",
+            Markup::Branch => " ├ ",
+            Markup::Corner => " └ ",
+            Markup::More => " more",
+            Markup::Head => {
+                "<svg xmlns=\"http://www.w3.org/2000/svg\" role=\"img\" font-family=\"sans-serif\" font-size=\"13\"><title>Revision trees</title><desc>Each document is a tree of its revisions, the oldest to the left, with the winner in the first row. Filled marks are live leaves, a disc for the winner and squares for those that lose; hollow marks are deleted leaves.</desc><style>svg{background:#fff}text{fill:#222;white-space:pre}.b{font-weight:bold}.r{font-size:10px;text-anchor:middle;fill:#555}.e{stroke:#7f8c8d;stroke-width:1.6;fill:none}.a{fill:#95a5a6}.w{fill:#0072b2}.l{fill:#d55e00}.d{fill:#fff;stroke:#555;stroke-width:2}@media(prefers-color-scheme:dark){svg{background:#1b1b1b}text{fill:#eee}.r{fill:#bbb}.d{fill:#1b1b1b;stroke:#bbb}}</style>\n"
+            }
+            Markup::TailWidth => "<style>svg{width:",
+            Markup::TailHeight => "px;height:",
+            Markup::Tail => "px}</style></svg>\n",
+            Markup::Group => "<g transform=\"translate(0,",
+            Markup::Title => ")\"><text x=\"20\" y=\"18\" class=\"b\">",
+            Markup::TitleEnd => "</text>\n",
+            Markup::GroupEnd => "</g>\n",
+            Markup::Path => "<path class=\"e\" d=\"M",
+            Markup::Comma => ",",
+            Markup::Curve => " C",
+            Markup::PathEnd => "\"/>\n",
+            Markup::Node => "<g transform=\"translate(",
+            Markup::NodeTitle => ")\"><title>",
+            Markup::Ancestor => "</title><circle r=\"6\" class=\"a\"/><text y=\"-11\" class=\"r\">",
+            Markup::Folded => ")\"><text y=\"4\" class=\"r\">",
+            Markup::NodeNone => ")\"></g>\n",
+            Markup::NodeEnd => "</text></g>\n",
+            Markup::Line => ")\"><text x=\"20\" y=\"18\">",
+            Markup::Numbers => "</text>\n<text x=\"20\" y=\"40\">",
+        }
+    }
+}

@@ -1,0 +1,112 @@
+//! Documents, as the lines of a script's answers tell them.
+ghost use Rattle.std.specs.Prelude.{◌≡◌, [], Some, None, true, IfOk, IfSome, IfNone, string_bytes};
+ghost use Rattle.rev_core.specs.Ancestry.{head_of};
+ghost use Rattle.output_parser.specs.declared.told.Told.TheVariants as lines;
+ghost use Rattle.diagrams.specs.Drawing.{Holds, IsNext, with_all};
+
+use crate::document::{Document, Leaf};
+use output_parser::{Found, Log, Row, Told};
+use rev_core::Rev;
+use std::alloc::{AllocError, Global};
+
+/// What a line makes whole, so that it is drawn.
+#[derive(Drop)]
+pub enum Whole {
+    /// A document, with each of its leaves.
+    Tree(Document),
+    /// What `compare` finds of a document.
+    Found(Found),
+    /// A row of numbers.
+    Row(Row),
+    /// A log.
+    Log(Log),
+}
+
+/// The document that is open behind what a line tells, and what it makes whole.
+pub fn next(
+    alloc: Global,
+    begun: Option<Document>,
+    told: Told,
+) -> Result<(Option<Document>, Option<Whole>), AllocError>
+    ensures { IfOk result (λ x. IsNext begun told x.0 x.1) }
+{
+    match told {
+        Told::Document { id, count } => Ok((Some(Document::new(alloc, id, count)), None)),
+        Told::Leaf { live, revs } => match begun {
+            Some(document) => read_leaf(document, live, revs),
+            None => Ok((None, None)),
+        },
+        Told::Conflict { id, revs } => Ok((
+            None,
+            Some(Whole::Tree(conflict_of(alloc, id, revs.as_slice())?)),
+        )),
+        Told::Found(found) => Ok((None, Some(Whole::Found(found)))),
+        Told::Row(row) => Ok((None, Some(Whole::Row(row)))),
+        Told::Log(log) => Ok((None, Some(Whole::Log(log)))),
+        Told::Other => Ok((None, None)),
+    }
+}
+
+/// The same, of a leaf of a document.
+fn read_leaf(
+    mut document: Document,
+    live: bool,
+    revs: Vec<Rev>,
+) -> Result<(Option<Document>, Option<Whole>), AllocError>
+    ensures { IfOk result (λ x. IsNext (Some document) (lines.Leaf live revs) x.0 x.1) }
+{
+    let Some(leaf) = leaf_of(live, revs) else {
+        return Ok((None, None));
+    };
+    document.add(leaf)?;
+    if document.is_whole() {
+        Ok((None, Some(Whole::Tree(document))))
+    } else {
+        Ok((Some(document), None))
+    }
+}
+
+/// The leaf of an ancestry, newest first; none of an empty list.
+fn leaf_of(live: bool, mut revs: Vec<Rev>) -> Option<Leaf>
+    ensures some { IfSome result (λ l. (head_of revs.items ≡ Some l.rev) × (l.live ≡ live)) }
+    ensures none { IfNone result (head_of revs.items ≡ None) }
+{
+    if revs.is_empty() {
+        return None;
+    }
+    let rev = revs[0];
+    revs.as_mut_slice().reverse();
+    let _own = revs.pop();
+    Some(Leaf {
+        apart: 0,
+        before: revs,
+        rev,
+        wins: false,
+        live,
+    })
+}
+
+/// The document of these live leaves, whose ancestors are not known.
+fn conflict_of(alloc: Global, id: String, revs: &[Rev]) -> Result<Document, AllocError>
+    ensures { IfOk result (λ d. Holds d (string_bytes id) (with_all [] revs.now)) }
+{
+    let mut document = Document::new(alloc, id, revs.len() as u64);
+    for i in 0..revs.len() {
+        document.add(alone(alloc, revs[i]))?;
+    }
+    Ok(document)
+}
+
+/// A live leaf whose ancestors are not known.
+fn alone(alloc: Global, rev: Rev) -> Leaf
+    ensures rev { result.rev ≡ rev }
+    ensures live { result.live ≡ true }
+{
+    Leaf {
+        apart: 0,
+        before: Vec::new(alloc),
+        rev,
+        wins: false,
+        live: true,
+    }
+}

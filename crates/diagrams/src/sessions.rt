@@ -1,0 +1,172 @@
+//! Logs as charts of their sessions, as text and as SVG.
+
+ghost use Rattle.std.specs.Prelude.{◌≡◌, ◌++◌, ◌∷◌, [], OnOk, string_bytes};
+ghost use Rattle.std.specs.List.{flat_map};
+ghost use Rattle.diagrams.specs.declared.form.Form.TheVariants.{Svg, Text};
+ghost use Rattle.diagrams.specs.Ink.{Draws, chart, log, moment, most_from, signs_of_log, signs_of_session};
+
+use crate::form::Form;
+use crate::lines::{begin, end_line, put_count, put_heading, share};
+use crate::markup::Markup;
+use crate::sheet::{mark, put_number, put_text};
+use crate::svg::{Extent, width_of};
+use output_parser::{Column, Entry, Log, Table};
+use std::alloc::AllocError;
+
+/// How high the row of a session is, and that of the log's own id.
+const ROW: u64 = 24;
+
+/// Draws a log, in SVG at a height.
+pub fn draw_log(out: &mut Vec<u8>, form: Form, height: u64, log: &Log) -> Result<(), AllocError>
+    ensures { OnOk result (Draws out.old.items out.new.items (signs_of_log form (string_bytes log.now.id) log.now.entries.items)) }
+{
+    begin(out, form, height, Markup::Title)?;
+    put_log(out, form, log.id.as_str())?;
+    end_line(out, form)?;
+    draw_sessions(out, form, height, log.entries.as_slice())?;
+    end_log(out, form)
+}
+
+/// Draws the sessions of a log.
+fn draw_sessions(
+    out: &mut Vec<u8>,
+    form: Form,
+    height: u64,
+    entries: &[Entry],
+) -> Result<(), AllocError>
+    ensures { OnOk result (Draws out.old.items out.new.items
+        (flat_map (signs_of_session form (most_from 1 entries.now)) entries.now)) }
+{
+    let most = most_read(entries);
+    for i in 0..entries.len() {
+        draw_session(out, form, height_of(height, i), most, &entries[i])?;
+    }
+    Ok(())
+}
+
+/// The most documents that a session read, and 1 at least.
+fn most_read(entries: &[Entry]) -> u64
+    ensures { result ≡ most_from 1 entries.now }
+{
+    let mut most = 1;
+    for i in 0..entries.len() {
+        most = most.max(entries[i].read);
+    }
+    most
+}
+
+/// Draws a session of a log.
+fn draw_session(
+    out: &mut Vec<u8>,
+    form: Form,
+    height: u64,
+    most: u64,
+    entry: &Entry,
+) -> Result<(), AllocError>
+    ensures { OnOk result (Draws out.old.items out.new.items (signs_of_session form most entry.now)) }
+{
+    begin_session(out, form, height)?;
+    put_moment(out, form, entry.begun.as_str())?;
+    put_chart(out, form, entry.written, entry.read, most)?;
+    put_count(out, Column::Read, entry.read)?;
+    put_count(out, Column::Written, entry.written)?;
+    put_count(out, Column::Failed, entry.failed)?;
+    mark(out, Markup::Indent)?;
+    put_heading(out, form, Table::Session, entry.session.as_str())?;
+    end_line(out, form)
+}
+
+// ---- where it stands
+
+/// How wide and high a log is.
+pub fn extent_of(log: &Log) -> Extent {
+    Extent {
+        width: width_of(log.id.as_str()).max(1240),
+        height: height_of(ROW, log.entries.len()).saturating_add(6),
+    }
+}
+
+/// Where the session at a place stands, in a log at a height.
+fn height_of(height: u64, place: usize) -> u64 {
+    height.saturating_add((place as u64).min(1 << 32) * ROW + ROW)
+}
+
+/// Draws what stands before a session.
+fn begin_session(out: &mut Vec<u8>, form: Form, height: u64) -> Result<(), AllocError>
+    ensures { OnOk result (Draws out.old.items out.new.items []) }
+{
+    match form {
+        Form::Text => mark(out, Markup::Indent),
+        Form::Svg => begin(out, form, height, Markup::Line),
+    }
+}
+
+/// Draws the end of a log.
+fn end_log(out: &mut Vec<u8>, form: Form) -> Result<(), AllocError>
+    ensures { OnOk result (Draws out.old.items out.new.items []) }
+{
+    match form {
+        Form::Text => mark(out, Markup::LineEnd),
+        Form::Svg => Ok(()),
+    }
+}
+
+// ---- what it tells
+
+/// Draws the id of a log.
+fn put_log(out: &mut Vec<u8>, form: Form, id: &str) -> Result<(), AllocError>
+    ensures { OnOk result (Draws out.old.items out.new.items (log form id.now ∷ [])) }
+{
+    out.extend_from_slice(b"log ")?;
+    put_text(out, form, id)
+}
+
+/// Draws when a session began.
+fn put_moment(out: &mut Vec<u8>, form: Form, begun: &str) -> Result<(), AllocError>
+    ensures { OnOk result (Draws out.old.items out.new.items (moment form begun.now ∷ [])) }
+{
+    put_text(out, form, begun)
+}
+
+/// Draws how many documents a session wrote, and how many it read, beside the most that one read.
+fn put_chart(
+    out: &mut Vec<u8>,
+    form: Form,
+    written: u64,
+    read: u64,
+    most: u64,
+) -> Result<(), AllocError>
+    ensures { OnOk result (Draws out.old.items out.new.items (chart form written read most ∷ [])) }
+{
+    match form {
+        Form::Text => put_text_chart(out, written, read, most),
+        Form::Svg => put_svg_chart(out, written, read, most),
+    }
+}
+
+/// Draws it in 40 characters.
+fn put_text_chart(out: &mut Vec<u8>, written: u64, read: u64, most: u64) -> Result<(), AllocError>
+    ensures { OnOk result (Draws out.old.items out.new.items (chart Text written read most ∷ [])) }
+{
+    let filled = (share(written, most) / 10) as usize;
+    let reached = filled.max((share(read, most) / 10) as usize);
+    let full: &[u8] = b"########################################";
+    let failed: &[u8] = b"........................................";
+    let empty: &[u8] = b"                                        ";
+    out.extend_from_slice(b"  [")?;
+    out.extend_from_slice(&full[..filled])?;
+    out.extend_from_slice(&failed[..reached - filled])?;
+    out.extend_from_slice(&empty[reached..])?;
+    out.extend_from_slice(b"]")
+}
+
+/// Draws it 400 wide.
+fn put_svg_chart(out: &mut Vec<u8>, written: u64, read: u64, most: u64) -> Result<(), AllocError>
+    ensures { OnOk result (Draws out.old.items out.new.items (chart Svg written read most ∷ [])) }
+{
+    out.extend_from_slice(b"</text>\n<rect x=\"250\" y=\"8\" height=\"10\" class=\"d\" width=\"")?;
+    put_number(out, share(read, most))?;
+    out.extend_from_slice(b"\"/><rect x=\"250\" y=\"8\" height=\"10\" class=\"w\" width=\"")?;
+    put_number(out, share(written, most))?;
+    out.extend_from_slice(b"\"/>\n<text x=\"662\" y=\"18\">")
+}

@@ -1,0 +1,234 @@
+//! What a picture is drawn on: each thing that may stand in it.
+ghost use Rattle.std.specs.Prelude.{◌≡◌, ◌++◌, ◌∷◌, ◌<◌, [], OnOk, string_bytes, decimal, encode_utf8_all, chars, take};
+ghost use Rattle.std.specs.Char.{digit_char};
+ghost use Rattle.rev_core.specs.Text.{rev_text};
+ghost use Rattle.diagrams.specs.declared.form.Form.TheVariants.{Svg, Text};
+ghost use Rattle.diagrams.specs.Ink.{Draws, edit, leaf, markup_text, short_text, shown_text, title};
+ghost use Rattle.diagrams.specs.Shown.{IsEscaped, IsSeen, entity_of, escape_of, is_hidden, seen_char, shown, shown_char};
+
+use crate::form::Form;
+use crate::labels::{label_text, node_label, shape_text};
+use crate::markup::Markup;
+use itoa::Buffer;
+use rev_core::Rev;
+use std::alloc::AllocError;
+
+/// Draws markup.
+pub fn mark(out: &mut Vec<u8>, markup: Markup) -> Result<(), AllocError>
+    ensures text { OnOk result (out.new.items ≡ out.old.items ++ markup_text markup) }
+    ensures draws { OnOk result (Draws out.old.items out.new.items []) }
+{
+    out.extend_from_slice(markup.text().as_bytes())
+}
+
+/// Draws a number.
+pub fn number(out: &mut Vec<u8>, number: u64) -> Result<(), AllocError>
+    ensures text { OnOk result (out.new.items ≡ out.old.items ++ decimal number) }
+    ensures draws { OnOk result (Draws out.old.items out.new.items []) }
+{
+    put_number(out, number)
+}
+
+/// Puts a number.
+pub fn put_number(out: &mut Vec<u8>, number: u64) -> Result<(), AllocError>
+    ensures { OnOk result (out.new.items ≡ out.old.items ++ decimal number) }
+{
+    let mut digits = Buffer::new();
+    out.extend_from_slice(digits.format(number).as_bytes())
+}
+
+/// Draws blanks.
+pub fn blanks(out: &mut Vec<u8>, count: usize) -> Result<(), AllocError>
+    ensures draws { OnOk result (Draws out.old.items out.new.items []) }
+{
+    for turn in 0..count {
+        mark(out, Markup::Space)?;
+    }
+    Ok(())
+}
+
+/// Puts a text of an answer, so that no character of it is markup and each is seen.
+pub fn put_text(out: &mut Vec<u8>, form: Form, text: &str) -> Result<(), AllocError>
+    ensures text { OnOk result (out.new.items ≡ out.old.items ++ shown_text form text.now) }
+    ensures seen { IsSeen (shown form (chars text.now)) }
+    ensures escaped { IsEscaped (shown Svg (chars text.now)) }
+{
+    let mut shown = String::new(*out.allocator());
+    push_shown(&mut shown, form, text)?;
+    out.extend_from_slice(shown.as_bytes())
+}
+
+/// Draws a document's id.
+pub fn title(out: &mut Vec<u8>, form: Form, id: &str) -> Result<(), AllocError>
+    ensures { OnOk result (Draws out.old.items out.new.items (title form id.now ∷ [])) }
+{
+    put_text(out, form, id)
+}
+
+/// Draws a leaf as text.
+pub fn leaf_row(out: &mut Vec<u8>, rev: &Rev, wins: bool, live: bool) -> Result<(), AllocError>
+    ensures { OnOk result (Draws out.old.items out.new.items (leaf Text rev.now wins live ∷ [])) }
+{
+    push_rev(out, rev.generation(), short_sig(rev))?;
+    out.extend_from_slice(label_text(wins, live).as_bytes())
+}
+
+/// Draws a leaf in SVG, behind its place.
+pub fn leaf_node(out: &mut Vec<u8>, rev: &Rev, wins: bool, live: bool) -> Result<(), AllocError>
+    ensures { OnOk result (Draws out.old.items out.new.items (leaf Svg rev.now wins live ∷ [])) }
+{
+    push_rev(out, rev.generation(), rev.sig_bytes())?;
+    out.extend_from_slice(shape_text(wins, live).as_bytes())?;
+    push_rev(out, rev.generation(), short_sig(rev))?;
+    out.extend_from_slice(node_label(wins, live).as_bytes())
+}
+
+/// Draws the line that ends a leaf's part of a conflict.
+pub fn edit_line(out: &mut Vec<u8>, db: &str, id: &str, rev: &Rev) -> Result<(), AllocError>
+    ensures { OnOk result (Draws out.old.items out.new.items (edit db.now id.now rev.now ∷ [])) }
+{
+    out.extend_from_slice(b"  to keep the winner alone: {\"do\":\"edit\",\"db\":\"")?;
+    put_text(out, Form::Text, db)?;
+    out.extend_from_slice(b"\",\"id\":")?;
+    put_text(out, Form::Text, id)?;
+    out.extend_from_slice(b",\"parent\":\"")?;
+    push_rev(out, rev.generation(), rev.sig_bytes())?;
+    out.extend_from_slice(b"\",\"deleted\":true}\n")
+}
+
+/// Draws a revision by its whole id.
+pub fn whole_rev(out: &mut Vec<u8>, rev: &Rev) -> Result<(), AllocError>
+    ensures text { OnOk result (out.new.items ≡ out.old.items ++ rev_text rev.now) }
+    ensures draws { OnOk result (Draws out.old.items out.new.items []) }
+{
+    push_rev(out, rev.generation(), rev.sig_bytes())
+}
+
+/// How many characters of a signature are drawn.
+const SHORT: usize = 6;
+
+/// Draws a revision by the beginning of its id.
+pub fn short_rev(out: &mut Vec<u8>, rev: &Rev) -> Result<(), AllocError>
+    ensures text { OnOk result (out.new.items ≡ out.old.items ++ short_text rev.now) }
+    ensures draws { OnOk result (Draws out.old.items out.new.items []) }
+{
+    push_short(out, rev)
+}
+
+/// Puts a revision by the beginning of its id.
+pub fn push_short(out: &mut Vec<u8>, rev: &Rev) -> Result<(), AllocError>
+    ensures { OnOk result (out.new.items ≡ out.old.items ++ short_text rev.now) }
+{
+    push_rev(out, rev.generation(), short_sig(rev))
+}
+
+/// The beginning of a revision's signature.
+fn short_sig(rev: &Rev) -> &[u8]
+    ensures { result.now ≡ take 6 rev.now.sig }
+{
+    let sig = rev.sig_bytes();
+    &sig[..sig.len().min(SHORT)]
+}
+
+/// How many characters the beginning of a revision's id has.
+pub fn short_len(rev: &Rev) -> usize {
+    digits(u64::from(rev.generation())) + 1 + short_sig(rev).len()
+}
+
+/// How many digits a number has.
+pub fn digits(mut number: u64) -> usize
+    ensures { result < 21 }
+{
+    let mut count = 1;
+    for step in 0..19u8 {
+        if number >= 10 {
+            number /= 10;
+            count += 1;
+        }
+    }
+    count
+}
+
+/// Puts a generation, a dash and a signature, or its beginning.
+fn push_rev(out: &mut Vec<u8>, generation: u32, sig: &[u8]) -> Result<(), AllocError>
+    ensures { OnOk result (out.new.items ≡ out.old.items ++ (decimal generation ++ 45 ∷ sig.now)) }
+{
+    let mut digits = Buffer::new();
+    out.extend_from_slice(digits.format(generation).as_bytes())?;
+    out.push(b'-')?;
+    out.extend_from_slice(sig)
+}
+
+/// Puts a text so that no character of it is markup and each is seen.
+fn push_shown(out: &mut String, form: Form, text: &str) -> Result<(), AllocError>
+    ensures { OnOk result
+        (string_bytes out.new ≡ string_bytes out.old ++ encode_utf8_all (shown form (chars text.now))) }
+{
+    for c in text.chars() {
+        push_char(out, form, c)?;
+    }
+    Ok(())
+}
+
+/// Whether a character isn't seen, moves others, or may not stand in XML.
+fn is_hidden(c: char) -> bool
+    ensures { result ≡ is_hidden c }
+{
+    match c {
+        '\0'..='\u{1f}' | '\u{7f}'..='\u{9f}' => true,
+        '\u{200b}'..='\u{200f}' | '\u{2028}'..='\u{202e}' | '\u{2060}'..='\u{206f}' => true,
+        '\u{feff}' | '\u{fffe}'..='\u{ffff}' => true,
+        _ => false,
+    }
+}
+
+/// Puts a character.
+fn push_char(out: &mut String, form: Form, c: char) -> Result<(), AllocError>
+    ensures { OnOk result (string_bytes out.new ≡ string_bytes out.old ++ encode_utf8_all (shown_char form c)) }
+{
+    if is_hidden(c) {
+        return push_escape(out, c);
+    }
+    match form {
+        Form::Text => out.push(c),
+        Form::Svg => push_entity(out, c),
+    }
+}
+
+/// Puts a character of XML's markup by its name, and any other as it is.
+fn push_entity(out: &mut String, c: char) -> Result<(), AllocError>
+    ensures { OnOk result (string_bytes out.new ≡ string_bytes out.old ++ encode_utf8_all (entity_of c)) }
+{
+    match c {
+        '&' => out.push_str("&amp;"),
+        '<' => out.push_str("&lt;"),
+        '>' => out.push_str("&gt;"),
+        '"' => out.push_str("&quot;"),
+        c => out.push(c),
+    }
+}
+
+/// Puts a hidden character as `\u` and four hexadecimal digits.
+fn push_escape(out: &mut String, c: char) -> Result<(), AllocError>
+    requires { c < 65536 }
+    ensures { OnOk result (string_bytes out.new ≡ string_bytes out.old ++ encode_utf8_all (escape_of c)) }
+{
+    let code = c as u32;
+    out.push_str("\\u")?;
+    out.push(hex_digit(code / 4096))?;
+    out.push(hex_digit(code / 256 % 16))?;
+    out.push(hex_digit(code / 16 % 16))?;
+    out.push(hex_digit(code % 16))
+}
+
+/// A hexadecimal digit.
+fn hex_digit(digit: u32) -> char
+    requires { digit < 16 }
+    ensures { result ≡ digit_char digit }
+{
+    if digit < 10 {
+        char::from(b'0' + digit as u8)
+    } else {
+        char::from(b'a' + (digit as u8 - 10))
+    }
+}

@@ -1,0 +1,262 @@
+//! A document as a picture in SVG.
+
+ghost use Rattle.std.specs.Prelude.{◌≡◌, ◌∷◌, [], None, OnOk, length, map, string_bytes};
+ghost use Rattle.diagrams.specs.declared.form.Form.TheVariants.{Svg};
+ghost use Rattle.diagrams.specs.Ink.{Draws, leaf_sign, signs_of, title};
+
+use crate::axis::{Cell, axis_of, folded, start_of};
+use crate::document::{Document, Leaf};
+use crate::form::Form;
+use crate::markup::Markup;
+use crate::rows::{Row, rows_of};
+use crate::sheet::{leaf_node, mark, number, short_rev, title, whole_rev};
+use rev_core::Rev;
+use std::alloc::{AllocError, Global};
+
+/// How far columns, rows and the first of each stand apart.
+const COLUMN: u64 = 110;
+
+const ROW: u64 = 44;
+
+const LEFT: u64 = 60;
+
+const TOP: u64 = 52;
+
+/// How wide and high a document is, or all of them.
+#[derive(Clone, Copy, Debug)]
+pub struct Extent {
+    pub width: u64,
+    pub height: u64,
+}
+
+impl Extent {
+    /// Both, one under the other.
+    pub fn with_below(self, below: Extent) -> Extent {
+        Extent {
+            width: self.width.max(below.width),
+            height: self.height.saturating_add(below.height),
+        }
+    }
+}
+
+/// How wide a text is at most.
+pub fn width_of(text: &str) -> u64 {
+    (text.len() as u64).min(1 << 32) * 9
+}
+
+/// Where the middle of a column is.
+fn x_of(place: usize) -> u64 {
+    (place as u64).min(1 << 32) * COLUMN + LEFT
+}
+
+/// Where the middle of a row is.
+fn y_of(place: usize) -> u64 {
+    (place as u64).min(1 << 32) * ROW + TOP
+}
+
+/// Draws a document whose leaves stand in their order, at a height, and gives how wide and high it is.
+pub fn draw_document(
+    alloc: Global,
+    out: &mut Vec<u8>,
+    height: u64,
+    document: &Document,
+) -> Result<Extent, AllocError>
+    ensures { OnOk result (Draws out.old.items out.new.items (signs_of Svg None (string_bytes document.now.id) document.now.leaves.items)) }
+{
+    let leaves = document.leaves.as_slice();
+    let rows = rows_of(alloc, leaves)?;
+    let cells = axis_of(alloc, leaves, rows.as_slice())?;
+    draw_head(out, height, document)?;
+    draw_rows(out, cells.as_slice(), leaves, rows.as_slice())?;
+    mark(out, Markup::GroupEnd)?;
+    Ok(Extent {
+        width: x_of(cells.len()).max(width_of(document.id.as_str())),
+        height: y_of(leaves.len()),
+    })
+}
+
+/// Draws where a document stands, and its id.
+fn draw_head(out: &mut Vec<u8>, height: u64, document: &Document) -> Result<(), AllocError>
+    ensures { OnOk result (Draws out.old.items out.new.items (title Svg (string_bytes document.now.id) ∷ [])) }
+{
+    mark(out, Markup::Group)?;
+    number(out, height)?;
+    mark(out, Markup::Title)?;
+    title(out, Form::Svg, document.id.as_str())?;
+    mark(out, Markup::TitleEnd)
+}
+
+/// Draws the rows.
+fn draw_rows(
+    out: &mut Vec<u8>,
+    cells: &[Cell],
+    leaves: &[Leaf],
+    rows: &[Row],
+) -> Result<(), AllocError>
+    requires { length rows.now ≡ length leaves.now }
+    ensures { OnOk result (Draws out.old.items out.new.items (map (leaf_sign Svg) leaves.now)) }
+{
+    for i in 0..leaves.len() {
+        draw_row(out, cells, &leaves[i], &rows[i], i)?;
+    }
+    Ok(())
+}
+
+/// Draws a row: the columns before the leaf's, and the leaf.
+fn draw_row(
+    out: &mut Vec<u8>,
+    cells: &[Cell],
+    leaf: &Leaf,
+    row: &Row,
+    place: usize,
+) -> Result<(), AllocError>
+    ensures { OnOk result (Draws out.old.items out.new.items (leaf_sign Svg leaf.now ∷ [])) }
+{
+    draw_cells(out, cells, leaf, row, place)?;
+    draw_leaf(out, leaf, column_of(cells, leaf), place)
+}
+
+/// The column of a leaf.
+fn column_of(cells: &[Cell], leaf: &Leaf) -> usize {
+    for i in 0..cells.len() {
+        if cells[i].high >= leaf.generation() {
+            return i;
+        }
+    }
+    cells.len()
+}
+
+/// Draws the columns of a row before the leaf's, and the edge before it.
+fn draw_cells(
+    out: &mut Vec<u8>,
+    cells: &[Cell],
+    leaf: &Leaf,
+    row: &Row,
+    place: usize,
+) -> Result<(), AllocError>
+    ensures { OnOk result (Draws out.old.items out.new.items []) }
+{
+    for i in 0..cells.len() {
+        draw_column(out, &cells[i], leaf, row, i, place)?;
+    }
+    Ok(())
+}
+
+/// Draws what a row has in a column, if that isn't behind its leaf: the edge to it, and the column before a leaf's own.
+fn draw_column(
+    out: &mut Vec<u8>,
+    cell: &Cell,
+    leaf: &Leaf,
+    row: &Row,
+    i: usize,
+    place: usize,
+) -> Result<(), AllocError>
+    ensures { OnOk result (Draws out.old.items out.new.items []) }
+{
+    if cell.low < start_of(leaf, row) || cell.high > leaf.generation() {
+        return Ok(());
+    }
+    draw_edge(out, cell.low, row, i, place)?;
+    if cell.high < leaf.generation() {
+        return draw_cell(out, cell, leaf, i, place);
+    }
+    Ok(())
+}
+
+/// Draws the edge to a column that begins with a generation: from the column before it, of its row, or of the row that it
+/// hangs from.
+fn draw_edge(
+    out: &mut Vec<u8>,
+    low: u32,
+    row: &Row,
+    i: usize,
+    place: usize,
+) -> Result<(), AllocError>
+    ensures { OnOk result (Draws out.old.items out.new.items []) }
+{
+    if i == 0 || row.hang == 0 && row.first == low {
+        return Ok(());
+    }
+    let from = if u64::from(row.hang) + 1 == u64::from(low) {
+        row.parent
+    } else {
+        place
+    };
+    draw_curve(out, x_of(i - 1), y_of(from), x_of(i), y_of(place))
+}
+
+/// Draws a curve from one point to another.
+fn draw_curve(out: &mut Vec<u8>, x: u64, y: u64, to_x: u64, to_y: u64) -> Result<(), AllocError>
+    ensures { OnOk result (Draws out.old.items out.new.items []) }
+{
+    mark(out, Markup::Path)?;
+    draw_point(out, x.saturating_add(10), y)?;
+    mark(out, Markup::Curve)?;
+    draw_point(out, x.saturating_add(50), y)?;
+    mark(out, Markup::Space)?;
+    draw_point(out, to_x.saturating_sub(60), to_y)?;
+    mark(out, Markup::Space)?;
+    draw_point(out, to_x.saturating_sub(10), to_y)?;
+    mark(out, Markup::PathEnd)
+}
+
+/// Draws a point.
+fn draw_point(out: &mut Vec<u8>, x: u64, y: u64) -> Result<(), AllocError>
+    ensures { OnOk result (Draws out.old.items out.new.items []) }
+{
+    number(out, x)?;
+    mark(out, Markup::Comma)?;
+    number(out, y)
+}
+
+/// Draws what stands in a column before a leaf's own.
+fn draw_cell(
+    out: &mut Vec<u8>,
+    cell: &Cell,
+    leaf: &Leaf,
+    i: usize,
+    place: usize,
+) -> Result<(), AllocError>
+    ensures { OnOk result (Draws out.old.items out.new.items []) }
+{
+    mark(out, Markup::Node)?;
+    draw_point(out, x_of(i), y_of(place))?;
+    if cell.low < cell.high {
+        return draw_fold(out, folded(cell.low, cell.high));
+    }
+    match leaf.ancestor(cell.low) {
+        Some(rev) => draw_ancestor(out, rev),
+        None => mark(out, Markup::NodeNone),
+    }
+}
+
+/// Draws so many folded revisions.
+fn draw_fold(out: &mut Vec<u8>, count: u64) -> Result<(), AllocError>
+    ensures { OnOk result (Draws out.old.items out.new.items []) }
+{
+    mark(out, Markup::Folded)?;
+    number(out, count)?;
+    mark(out, Markup::More)?;
+    mark(out, Markup::NodeEnd)
+}
+
+/// Draws an ancestor, behind its place.
+fn draw_ancestor(out: &mut Vec<u8>, rev: &Rev) -> Result<(), AllocError>
+    ensures { OnOk result (Draws out.old.items out.new.items []) }
+{
+    mark(out, Markup::NodeTitle)?;
+    whole_rev(out, rev)?;
+    mark(out, Markup::Ancestor)?;
+    short_rev(out, rev)?;
+    mark(out, Markup::NodeEnd)
+}
+
+/// Draws a leaf, and what it is.
+fn draw_leaf(out: &mut Vec<u8>, leaf: &Leaf, i: usize, place: usize) -> Result<(), AllocError>
+    ensures { OnOk result (Draws out.old.items out.new.items (leaf_sign Svg leaf.now ∷ [])) }
+{
+    mark(out, Markup::Node)?;
+    draw_point(out, x_of(i), y_of(place))?;
+    mark(out, Markup::NodeTitle)?;
+    leaf_node(out, &leaf.rev, leaf.wins, leaf.live)
+}
