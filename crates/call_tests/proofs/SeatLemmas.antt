@@ -1,5 +1,5 @@
 -- The seats of a new board, taken from the end.
-use Rattle.proof_words.proofs.{◌≡◌, ◌++◌, List, Option, None, Some, option_to_list, IfSome}
+use Rattle.proof_prelude.proofs.{◌≡◌, ◌++◌, List, Option, None, Some, option_to_list, IfSome}
 use Rattle.progress_board.specs.{AreNew, CameWith, Board, BoardSeat}
 use Rattle.repl_pool.proofs.{new_taken}
 

@@ -1,5 +1,5 @@
 -- Checks, one behind the other, and what a line leaves that is refused at one of them.
-use Rattle.proof_words.proofs.{◌≡◌, ℕ, List, Option, Some, None, Result, Ok, Err, refl, sym, ap, subst}
+use Rattle.proof_prelude.proofs.{◌≡◌, ℕ, List, Option, Some, None, Result, Ok, Err, refl, sym, ap, subst}
 use Rattle.repl_peer.specs.{PeerValue}
 use Rattle.script_engine.specs.{Told}
 use Rattle.script_databases.specs.AllTied.{AllTied}

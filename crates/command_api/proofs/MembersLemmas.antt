@@ -1,5 +1,5 @@
 -- Laws of members and names.
-use Rattle.proof_words.proofs.{◌≡◌, ℕ, List, [], ◌∷◌, ◌&&◌, ◌||◌, map, refl, ap, ◌∙◌, Bor, list_any, list_all, bytes_eq}
+use Rattle.proof_prelude.proofs.{◌≡◌, ℕ, List, [], ◌∷◌, ◌&&◌, ◌||◌, map, refl, ap, ◌∙◌, Bor, list_any, list_all, bytes_eq}
 use Rattle.json_values.specs.{line_members, LineValue}
 use Rattle.command_api.specs.{is_among, all_among}
 

@@ -1,5 +1,5 @@
 -- From what a room may tell to what is told to what an object asks.
-use Rattle.proof_words.proofs.{◌≡◌, Result, Ok, Err, refl, sym, subst}
+use Rattle.proof_prelude.proofs.{◌≡◌, Result, Ok, Err, refl, sym, subst}
 use Rattle.script_engine.specs.{Told, Answering, MayTell, in_full}
 use Rattle.script_databases.specs.{State, name_of, Refusal}
 use Rattle.command_api.specs.{AnswersIn}

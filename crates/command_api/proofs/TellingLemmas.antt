@@ -1,5 +1,5 @@
 -- From checks that pass, or don't, to what a word is told.
-use Rattle.proof_words.proofs.{◌≡◌, ◌⊎◌, inl, inr, ℕ, Bool, true, false, List, [], ◌++◌, Option, Some, None, Result, Ok, Err, IsErrAnd, refl, sym, ap, subst, ◌∙◌, is_some, contains_key, true≢false}
+use Rattle.proof_prelude.proofs.{◌≡◌, ◌⊎◌, inl, inr, ℕ, Bool, true, false, List, [], ◌++◌, Option, Some, None, Result, Ok, Err, IsErrAnd, refl, sym, ap, subst, ◌∙◌, is_some, contains_key, true≢false}
 use Rattle.rev_tree.specs.{TreeValue}
 use Rattle.couch_base.specs.{DatabaseValue, tree_in}
 use Rattle.repl_peer.specs.{PeerValue}

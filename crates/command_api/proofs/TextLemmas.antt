@@ -1,5 +1,5 @@
 -- The texts of lists.
-use Rattle.proof_words.proofs.{◌≡◌, ℕ, ◌+◌, ◌<◌, ◌≤◌, List, [], ◌∷◌, ◌++◌, length, take, get_or, map, sym, ap, ◌∙◌, append_assoc, append-nil, arith, flat_map-append, join_with_byte, take_more, map-append, flat_map}
+use Rattle.proof_prelude.proofs.{◌≡◌, ℕ, ◌+◌, ◌<◌, ◌≤◌, List, [], ◌∷◌, ◌++◌, length, take, get_or, map, sym, ap, ◌∙◌, append_assoc, append-nil, arith, flat_map-append, join_with_byte, take_more, map-append, flat_map}
 use Rattle.rev_core.specs.{RevId, rev_text}
 use Rattle.command_api.specs.{texts_of_revs}
 

@@ -1,5 +1,5 @@
 -- A script that was run on databases that are there, and the names of refusals.
-use Rattle.proof_words.proofs.{◌≡◌, ◌≤◌, ℕ, List, length, Bool, Option, Result, Ok, Err, subst, arith, IfOk, IfErr, Appends, Consumes}
+use Rattle.proof_prelude.proofs.{◌≡◌, ◌≤◌, ℕ, List, length, Bool, Option, Result, Ok, Err, subst, arith, IfOk, IfErr, Appends, Consumes}
 use Rattle.script_engine.specs.{Gives, IsFaultOf, IsToldUntil, AnswersEnded, IsAnswered, ScriptFault}
 use Rattle.script_engine.specs.declared.fault.ScriptFault.TheVariants.{Read}
 use Rattle.script_databases.specs.{State, name_of, Refusal}

@@ -1,5 +1,5 @@
 -- From what a word's room may tell to what its line may be told.
-use Rattle.proof_words.proofs.{Result, Ok, Err}
+use Rattle.proof_prelude.proofs.{Result, Ok, Err}
 use Rattle.script_engine.specs.{Told, Answering, MayTell}
 use Rattle.script_databases.specs.{State, Refusal}
 use Rattle.command_api.specs.{seen_as, AnswersIn}

@@ -1,5 +1,5 @@
 -- Lists that grow by what another one has, one element after another.
-use Rattle.proof_words.proofs.{◌≡◌, ℕ, ◌+◌, ◌<◌, Bool, true, List, [], ◌∷◌, ◌++◌, length, get_or, take, map, zero, suc, sym, ap, ◌∙◌, append_assoc, arith, and_parts, take_more, map_more, list_all}
+use Rattle.proof_prelude.proofs.{◌≡◌, ℕ, ◌+◌, ◌<◌, Bool, true, List, [], ◌∷◌, ◌++◌, length, get_or, take, map, zero, suc, sym, ap, ◌∙◌, append_assoc, arith, and_parts, take_more, map_more, list_all}
 
 -- one element more is there
 pub one_more : {X : Type 0} (xs done : List X) (i : ℕ) (x : X) → i < length xs → x ≡ get_or xs i x → done ≡ take i xs → done ++ x ∷ [] ≡ take (i + 1) xs

@@ -1,6 +1,6 @@
 -- Where the winner is deleted all leaves are.
 use Rattle.couch_base.specs.{both_hold}
-use Rattle.proof_words.proofs.{◌≡◌, true, false, T, ◌&&◌, List, [], ◌∷◌, map, filter, Some, ap, subst, ◌∙◌, refl, list_all, is_lt, bool_cmp, ordering_then, from_entries, entries, entries_sorted, is_sorted, below_all, same_Some, none-some}
+use Rattle.proof_prelude.proofs.{◌≡◌, true, false, T, ◌&&◌, List, [], ◌∷◌, map, filter, Some, ap, subst, ◌∙◌, refl, list_all, is_lt, bool_cmp, ordering_then, from_entries, entries, entries_sorted, is_sorted, below_all, same_Some, none-some}
 use Rattle.std.specs.FinMap as finmap
 use Rattle.rev_core.specs.{RevId, rev_cmp}
 use Rattle.rev_tree.specs.{marked, first_of, TreeValue, is_deleted, is_leaf, leaf_cmp, leaves}

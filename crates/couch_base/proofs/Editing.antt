@@ -1,5 +1,5 @@
 -- What an edit leaves.
-use Rattle.proof_words.proofs.{◌≡◌, ℕ, ◌+◌, ◌<◌, Bool, false, ◌&&◌, List, ◌∷◌, Option, Some, None, is_some, Ok, Err, sym, ap, ◌∙◌, refl, Result, unwrap_or, list_all, option_or, option_to_list, get, get-empty, false≢true, same_Some}
+use Rattle.proof_prelude.proofs.{◌≡◌, ℕ, ◌+◌, ◌<◌, Bool, false, ◌&&◌, List, ◌∷◌, Option, Some, None, is_some, Ok, Err, sym, ap, ◌∙◌, refl, Result, unwrap_or, list_all, option_or, option_to_list, get, get-empty, false≢true, same_Some}
 use Rattle.rev_core.specs.{RevId, rev_cmp, edges_of, head_of, ◌>>=◌, refused_if}
 use Rattle.rev_tree.specs.{TreeValue, IsTree, has, has_edge, no_revisions, first_contradiction, contradiction_at, is_same, at_head, merged, merge_answer, Origin}
 use Rattle.rev_tree.specs.declared.fault.Merged.TheVariants.{Changed}

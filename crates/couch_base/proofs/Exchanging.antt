@@ -1,5 +1,5 @@
 -- Asking and fetching, one document after another.
-use Rattle.proof_words.proofs.{◌≡◌, ℕ, ◌+◌, ◌<◌, ◌≤◌, true, List, [], ◌∷◌, ◌++◌, map, filter, None, drop, length, get_or, sym, ap, ◌∙◌, refl, append_assoc, length-append, arith, and_parts, drop_more, drop_all, list_any, list_all, option_map, get-empty, append-nil}
+use Rattle.proof_prelude.proofs.{◌≡◌, ℕ, ◌+◌, ◌<◌, ◌≤◌, true, List, [], ◌∷◌, ◌++◌, map, filter, None, drop, length, get_or, sym, ap, ◌∙◌, refl, append_assoc, length-append, arith, and_parts, drop_more, drop_all, list_any, list_all, option_map, get-empty, append-nil}
 use Rattle.rev_core.specs.{RevId, rev_cmp, is_among}
 use Rattle.rev_tree.specs.{ContentValue, TreeValue, is_leaf, leaves, leaves_above, ancestors, missing, no_revisions, any_filter, is_among-leaves}
 use Rattle.doc_json.specs.Document.{Document}

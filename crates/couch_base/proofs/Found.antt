@@ -1,5 +1,5 @@
 -- What a look-up by id finds.
-use Rattle.proof_words.proofs.{◌≡◌, ℕ, List, [], ◌∷◌, Option, Some, None, Bool, true, false, cond, sym, ap, ◌∙◌, refl, arith, inl, inr, cond_both, both_ways, nat_cmp, is_at, unwrap_or, unsigned_ties, bytes_eq, same_Some, none-some, eqb-true}
+use Rattle.proof_prelude.proofs.{◌≡◌, ℕ, List, [], ◌∷◌, Option, Some, None, Bool, true, false, cond, sym, ap, ◌∙◌, refl, arith, inl, inr, cond_both, both_ways, nat_cmp, is_at, unwrap_or, unsigned_ties, bytes_eq, same_Some, none-some, eqb-true}
 use Rattle.rev_tree.specs.{no_revisions}
 use Rattle.couch_base.specs.{id_is, id_same, Among, Id, tree_in, tree_of, TableValue, at_seq, documents, documents_of, feed_of, found, seq_of, tree_at, IsKept, Kept}
 

@@ -1,5 +1,5 @@
 -- Look-ups in the index, and its end.
-use Rattle.proof_words.proofs.{◌≡◌, ℕ, ◌<◌, List, [], ◌∷◌, ◌++◌, Option, Some, None, Bool, true, false, cond, sym, ap, ◌∙◌, refl, arith, inl, inr, cond_both, cases_Bool, false_from_ne_true, nat_cmp, is_at, bytes_eq, none-some}
+use Rattle.proof_prelude.proofs.{◌≡◌, ℕ, ◌<◌, List, [], ◌∷◌, ◌++◌, Option, Some, None, Bool, true, false, cond, sym, ap, ◌∙◌, refl, arith, inl, inr, cond_both, cases_Bool, false_from_ne_true, nat_cmp, is_at, bytes_eq, none-some}
 use Rattle.couch_base.specs.{Id, at_seq, feed_without, AllBelow, id_is}
 use Rattle.couch_base.proofs.Found.{seq_is, seq_same, not_first}
 

@@ -1,5 +1,5 @@
 -- What a write does to the documents.
-use Rattle.proof_words.proofs.{◌≡◌, ℕ, ◌<◌, ◌≤◌, List, [], ◌∷◌, ◌++◌, Option, Some, None, true, cond, subst, sym, ap, ◌∙◌, refl, inl, inr, not, both_ways, cases_Bool, false≢true, false_from_ne_true, bytes_eq, same_Some, none-some}
+use Rattle.proof_prelude.proofs.{◌≡◌, ℕ, ◌<◌, ◌≤◌, List, [], ◌∷◌, ◌++◌, Option, Some, None, true, cond, subst, sym, ap, ◌∙◌, refl, inl, inr, not, both_ways, cases_Bool, false≢true, false_from_ne_true, bytes_eq, same_Some, none-some}
 use Rattle.couch_base.specs.{Among, Id, DocumentValue, IsDocumentTree, without, most, at_seq, feed_without, seq_of, tree_at, document, documents, IsTable, Sets, Kept, id_is, id_same, Among-push}
 use Rattle.couch_base.proofs.Rising.{Rising, all_below, rising_append, rising_filter, among_filter}
 use Rattle.couch_base.proofs.Index.{at_append, at_new, at_without}

@@ -1,5 +1,5 @@
 -- The index with ids in the place of places.
-use Rattle.proof_words.proofs.{◌≡◌, ℕ, zero, suc, ◌<◌, ◌≤◌, List, [], ◌∷◌, ◌++◌, Bool, true, false, Some, None, length, cond, sym, ap, subst, ◌∙◌, refl, arith, inl, inr, ◌==◌, nat_lt, not, slice_get, unwrap_or, position, get_or, IsDistinct, option_map, keys_of, bytes_eq, cond_both, cases_Bool, both_ways, false_from_ne_true, get_or_append_left, filter-append, position-Some, nat_list_eq_equiv, length-keys_of, lookup_from_place, apart_from_distinct, slice_get-map, slice_get_within, unwrap_or-slice_get, get_or_from_slice_get, same_Some, none-some}
+use Rattle.proof_prelude.proofs.{◌≡◌, ℕ, zero, suc, ◌<◌, ◌≤◌, List, [], ◌∷◌, ◌++◌, Bool, true, false, Some, None, length, cond, sym, ap, subst, ◌∙◌, refl, arith, inl, inr, ◌==◌, nat_lt, not, slice_get, unwrap_or, position, get_or, IsDistinct, option_map, keys_of, bytes_eq, cond_both, cases_Bool, both_ways, false_from_ne_true, get_or_append_left, filter-append, position-Some, nat_list_eq_equiv, length-keys_of, lookup_from_place, apart_from_distinct, slice_get-map, slice_get_within, unwrap_or-slice_get, get_or_from_slice_get, same_Some, none-some}
 use Rattle.std.specs.List.{insert}
 use Rattle.std.proofs.lemmas.Map.{lookup-insert, none_passes_from_lookup}
 use Rattle.rev_tree.proofs.{slice_get-last}

@@ -1,5 +1,5 @@
 -- Rising sequences of an index.
-use Rattle.proof_words.proofs.{◌≡◌, ℕ, ◌<◌, ◌≤◌, List, [], ◌∷◌, ◌++◌, Bool, true, map, ap, ◌∙◌, arith, inl, inr, filter, cond_both}
+use Rattle.proof_prelude.proofs.{◌≡◌, ℕ, ◌<◌, ◌≤◌, List, [], ◌∷◌, ◌++◌, Bool, true, map, ap, ◌∙◌, arith, inl, inr, filter, cond_both}
 use Rattle.couch_base.specs.{Among, Rises, Id, rises_from, rises_le, AllBelow}
 
 -- the sequences of an index rise

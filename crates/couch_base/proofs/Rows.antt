@@ -1,5 +1,5 @@
 -- The rows of an index: what a change leaves of them, and which ones are live.
-use Rattle.proof_words.proofs.{◌≡◌, ℕ, zero, suc, ◌+◌, ◌*◌, ◌<◌, ◌≤◌, List, [], ◌∷◌, ◌++◌, Bool, true, false, Option, Some, None, eqb, length, map, drop, cond, sym, ap, subst, ◌∙◌, refl, arith, inl, inr, ◌==◌, ◌/◌, nat_lt, nat_le, filter, slice_get, get_or, AllWithin, AllByRecursion, IsDistinct, list_any, IsNonDecreasingBy, IsPartitionPoint, keys_of, option_map_or, cond_both, cases_Bool, false≢true, false_from_ne_true, length-map, length-le_from_distinct_below, same_Some, none-some, eqb-true, length-append}
+use Rattle.proof_prelude.proofs.{◌≡◌, ℕ, zero, suc, ◌+◌, ◌*◌, ◌<◌, ◌≤◌, List, [], ◌∷◌, ◌++◌, Bool, true, false, Option, Some, None, eqb, length, map, drop, cond, sym, ap, subst, ◌∙◌, refl, arith, inl, inr, ◌==◌, ◌/◌, nat_lt, nat_le, filter, slice_get, get_or, AllWithin, AllByRecursion, IsDistinct, list_any, IsNonDecreasingBy, IsPartitionPoint, keys_of, option_map_or, cond_both, cases_Bool, false≢true, false_from_ne_true, length-map, length-le_from_distinct_below, same_Some, none-some, eqb-true, length-append}
 use Rattle.indexmap.specs.IndexMap.{set_value_at}
 use Rattle.couch_base.specs.{Among, Id, is_live, live, live_upto, above, swept, named, feed_of, ArePlaces, AllBelow, InOrder, AreFew, AreRows, Kept, Among-push}
 use Rattle.couch_base.proofs.Rising.{among_filter}

@@ -1,5 +1,5 @@
 -- What a task does, by what its reading and its wording do.
-use Rattle.proof_words.proofs.{◌≡◌, ℕ, List, true, false, Option, Some, Result, Ok, Err, IfOk, IfErr, refl, subst, true≢false}
+use Rattle.proof_prelude.proofs.{◌≡◌, ℕ, List, true, false, Option, Some, Result, Ok, Err, IfOk, IfErr, refl, subst, true≢false}
 use Rattle.response_parser.specs.{wants_documents, is_strict, Piece, IsAnswered, IsChangeScript}
 use Rattle.response_parser.specs.LineGrammar.{IsScript}
 use Rattle.response_parser.specs.declared.place.Wanted.{Wanted}

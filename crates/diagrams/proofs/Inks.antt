@@ -1,5 +1,5 @@
 -- Drawing one thing behind another.
-use Rattle.proof_words.proofs.{◌≡◌, ℕ, List, [], ◌∷◌, ◌++◌, sym, ap, subst, ◌∙◌, append_assoc, Result, Ok, Err, OnOk, flat_map-append, flat_map, append-nil}
+use Rattle.proof_prelude.proofs.{◌≡◌, ℕ, List, [], ◌∷◌, ◌++◌, sym, ap, subst, ◌∙◌, append_assoc, Result, Ok, Err, OnOk, flat_map-append, flat_map, append-nil}
 use Rattle.diagrams.specs.{Draws, Piece, Sign, ink_of, sign, sign_in, sign_ink}
 
 -- a piece

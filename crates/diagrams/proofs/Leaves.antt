@@ -1,5 +1,5 @@
 -- Documents and their leaves.
-use Rattle.proof_words.proofs.{◌≡◌, ℕ, ◌==◌, Bool, true, false, List, [], ◌∷◌, ◌++◌, length, map, refl, ap, subst, ◌∙◌, Result, Ok, Err, OnOk, Option, Some, None, arith, IsPermutation, string_bytes, map-append, nat_tests}
+use Rattle.proof_prelude.proofs.{◌≡◌, ℕ, ◌==◌, Bool, true, false, List, [], ◌∷◌, ◌++◌, length, map, refl, ap, subst, ◌∙◌, Result, Ok, Err, OnOk, Option, Some, None, arith, IsPermutation, string_bytes, map-append, nat_tests}
 use Rattle.rev_core.specs.{RevId}
 use Rattle.output_parser.specs.{Told, Tells}
 use Rattle.diagrams.specs.{Document, Leaf, Form, Whole, Draws, Sign, signs_of}

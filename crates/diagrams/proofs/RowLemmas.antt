@@ -1,5 +1,5 @@
 -- Drawing one row behind another.
-use Rattle.proof_words.proofs.{◌≡◌, ℕ, zero, suc, ◌+◌, ◌<◌, ◌≤◌, List, [], ◌∷◌, ◌++◌, length, get_or, take, map, refl, sym, ap, subst, ◌∙◌, arith, map-append, take_more, flat_map-append, flat_map, append-nil}
+use Rattle.proof_prelude.proofs.{◌≡◌, ℕ, zero, suc, ◌+◌, ◌<◌, ◌≤◌, List, [], ◌∷◌, ◌++◌, length, get_or, take, map, refl, sym, ap, subst, ◌∙◌, arith, map-append, take_more, flat_map-append, flat_map, append-nil}
 use Rattle.output_parser.specs.{Column}
 use Rattle.diagrams.specs.{Draws, Sign, count, counts_of}
 use Rattle.diagrams.proofs.Inks.{drawn_then}

@@ -1,5 +1,5 @@
 -- A run of whoever draws, by the document that is open alone.
-use Rattle.proof_words.proofs.{ℕ, List, [], ◌∷◌, ap, Bool}
+use Rattle.proof_prelude.proofs.{ℕ, List, [], ◌∷◌, ap, Bool}
 use Rattle.script_engine.specs.{Answering, MayTell, Told, gave_up, in_full, served_only, IsAnswered, Run, Step, blank, served}
 
 module _ {S T : Type 0} (answers : Answering S (List ℕ)) (others : Answering T (List ℕ)) (view : S → T) (seen : (old : S) (line : List ℕ) (told : Told) (new : S) → answers old line told new → others (view old) line told (view new)) where

@@ -1,5 +1,5 @@
 -- A text that is shown has no hidden character, and in XML none that is markup.
-use Rattle.proof_words.proofs.{◌≡◌, ℕ, ◌/◌, ◌%◌, ◌<◌, ◌≤◌, ◌==◌, ◌||◌, nat_le, Bool, true, false, if◌then◌else◌, List, [], ◌∷◌, ◌++◌, refl, sym, ap, ◌∙◌, append_assoc, arith, encode_utf8_all, codes, list_any, digit_char, lt-leb, or_from, and_left, and_right, nat_tests, list_any-append, flat_map-append, encodes-append, append-nil}
+use Rattle.proof_prelude.proofs.{◌≡◌, ℕ, ◌/◌, ◌%◌, ◌<◌, ◌≤◌, ◌==◌, ◌||◌, nat_le, Bool, true, false, if◌then◌else◌, List, [], ◌∷◌, ◌++◌, refl, sym, ap, ◌∙◌, append_assoc, arith, encode_utf8_all, codes, list_any, digit_char, lt-leb, or_from, and_left, and_right, nat_tests, list_any-append, flat_map-append, encodes-append, append-nil}
 use Rattle.diagrams.specs.{Form, IsEscaped, IsSafe, IsSeen, done, entity_of, escape_of, is_hidden, is_markup, named, plain, shown, shown_char}
 use Rattle.diagrams.specs.declared.form.Form.TheVariants.{Text, Svg}
 

@@ -1,5 +1,5 @@
 -- Whether a text is JSON, by its two tests.
-use Rattle.proof_words.proofs.{◌≡◌, ℕ, List, Bool, true, false, ◌&&◌, Result, IfOk, Ok, Err, Option, Some, None, IsTrue, IsSome, is_some, ◌↔◌, refl, sym, ap, ◌∙◌, IsUtf8, is_utf8, IsUtf8-from_is_utf8, is_utf8-from_IsUtf8, false_from_ne_true}
+use Rattle.proof_prelude.proofs.{◌≡◌, ℕ, List, Bool, true, false, ◌&&◌, Result, IfOk, Ok, Err, Option, Some, None, IsTrue, IsSome, is_some, ◌↔◌, refl, sym, ap, ◌∙◌, IsUtf8, is_utf8, IsUtf8-from_is_utf8, is_utf8-from_IsUtf8, false_from_ne_true}
 use Rattle.json.specs.Json.{Json, document}
 use Rattle.doc_envelope.specs.{is_json}
 

@@ -1,5 +1,5 @@
 -- What the kit's reader says of texts.
-use Rattle.proof_words.proofs.{◌≡◌, ℕ, List, [], ◌∷◌, ◌++◌, ◌&&◌, ◌==◌, map, drop, length, Bool, true, false, cond, refl, sym, ap, ◌∙◌, append-nil, suc, arith, Some, None, option_and_then, Result, Ok, Err, IfOk, Global, IsUtf8, list_all, Bor, is_utf8, IsUtf8-from_is_utf8, is_utf8-from_IsUtf8, IsUtf8-nil, filter}
+use Rattle.proof_prelude.proofs.{◌≡◌, ℕ, List, [], ◌∷◌, ◌++◌, ◌&&◌, ◌==◌, map, drop, length, Bool, true, false, cond, refl, sym, ap, ◌∙◌, append-nil, suc, arith, Some, None, option_and_then, Result, Ok, Err, IfOk, Global, IsUtf8, list_all, Bor, is_utf8, IsUtf8-from_is_utf8, is_utf8-from_IsUtf8, IsUtf8-nil, filter}
 use Rattle.json.specs.Json.{Json, document}
 use Rattle.json.specs.Token.{Token, string}
 use Rattle.json.specs.Print.{print, print_from, quoted}

@@ -1,5 +1,5 @@
 -- What goes into an envelope comes out of it, member by member.
-use Rattle.proof_words.proofs.{◌≡◌, ℕ, ◌+◌, ◌-◌, ◌&&◌, ◌||◌, ◌==◌, ◌/◌, ◌%◌, nat_lt, List, [], ◌∷◌, ◌++◌, Bool, true, false, not, cond, refl, sym, ap, subst, ◌∙◌, append_assoc, append-nil, arith, Option, Some, None, option_map, option_and_then, is_utf8, and_right, or_parts, IsUtf8-from_is_utf8, is_utf8-from_IsUtf8, digit_char, filter}
+use Rattle.proof_prelude.proofs.{◌≡◌, ℕ, ◌+◌, ◌-◌, ◌&&◌, ◌||◌, ◌==◌, ◌/◌, ◌%◌, nat_lt, List, [], ◌∷◌, ◌++◌, Bool, true, false, not, cond, refl, sym, ap, subst, ◌∙◌, append_assoc, append-nil, arith, Option, Some, None, option_map, option_and_then, is_utf8, and_right, or_parts, IsUtf8-from_is_utf8, is_utf8-from_IsUtf8, digit_char, filter}
 use Rattle.json.specs.Json.{document, value, items, members, if_last, max_depth}
 use Rattle.json.specs.Token.{string as json_string}
 use Rattle.json.specs.Lex.{lex, punctuate, in_string, between, fresh, token, string_token}

@@ -1,5 +1,5 @@
 -- The members of a text, one after another.
-use Rattle.proof_words.proofs.{◌≡◌, ℕ, ◌+◌, ◌<◌, ◌==◌, get_or, take, drop, length, List, [], ◌∷◌, ◌++◌, Bool, true, false, cond, refl, sym, ap, ◌∙◌, append_assoc, append-nil, add-one, drop-cons, arith, common_steps}
+use Rattle.proof_prelude.proofs.{◌≡◌, ℕ, ◌+◌, ◌<◌, ◌==◌, get_or, take, drop, length, List, [], ◌∷◌, ◌++◌, Bool, true, false, cond, refl, sym, ap, ◌∙◌, append_assoc, append-nil, add-one, drop-cons, arith, common_steps}
 use Rattle.doc_envelope.specs.{ends_member, mode_behind, nesting_behind, length_in, first_length, members_in, behind_comma, Mode}
 use Rattle.doc_envelope.specs.declared.members.Mode.TheVariants.{Outside}
 

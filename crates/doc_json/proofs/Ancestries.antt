@@ -1,5 +1,5 @@
 -- The ancestry of a document's members is that of the document.
-use Rattle.proof_words.proofs.{◌≡◌, ℕ, ◌-◌, ◌^◌, ◌≤◌, List, [], ◌∷◌, length, map, false, cond, Some, None, option_map, option_and_then, Ok, refl, ap, ◌∙◌, arith, nat_eq, AllByRecursion, cond-true, cond-false, lt-ltb, le-ltb, ne_eqb}
+use Rattle.proof_prelude.proofs.{◌≡◌, ℕ, ◌-◌, ◌^◌, ◌≤◌, List, [], ◌∷◌, length, map, false, cond, Some, None, option_map, option_and_then, Ok, refl, ap, ◌∙◌, arith, nat_eq, AllByRecursion, cond-true, cond-false, lt-ltb, le-ltb, ne_eqb}
 use Rattle.rev_core.specs.{RevId, IsRev, rev_tie_self, FallsByOne, IsAncestry, numbered, ancestry_read, named}
 use Rattle.doc_json.specs.{sigs_of, numbered_from, revisions_read, matched}
 use Rattle.doc_json.specs.declared.fault.DocFault.TheVariants as faults

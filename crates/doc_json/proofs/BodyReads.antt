@@ -1,5 +1,5 @@
 -- Reading a value as a body, check by check.
-use Rattle.proof_words.proofs.{◌≡◌, ◌≤◌, ◌∙◌, ℕ, List, [], Option, option_and_then, arith, append-nil, Bool, true, false, cond, Some, None, Ok, Err, refl, sym, ap, subst}
+use Rattle.proof_prelude.proofs.{◌≡◌, ◌≤◌, ◌∙◌, ℕ, List, [], Option, option_and_then, arith, append-nil, Bool, true, false, cond, Some, None, Ok, Err, refl, sym, ap, subst}
 use Rattle.json.specs.Token.{Token}
 use Rattle.json.specs.Lex.{tokens}
 use Rattle.json.specs.Print.{print}

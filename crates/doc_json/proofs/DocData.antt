@@ -1,5 +1,5 @@
 -- The value that the text of a document is, with its members in the order of the text.
-use Rattle.proof_words.proofs.{◌≡◌, ℕ, List, [], ◌∷◌, ◌++◌, Bool, true, false, Some, option_map, codes, refl, sym, ap, ◌∙◌, arith, append_assoc, decimal, AllByRecursion}
+use Rattle.proof_prelude.proofs.{◌≡◌, ℕ, List, [], ◌∷◌, ◌++◌, Bool, true, false, Some, option_map, codes, refl, sym, ap, ◌∙◌, arith, append_assoc, decimal, AllByRecursion}
 use Rattle.json.specs.Print.{quoted, escape, escape_byte}
 use Rattle.serde_json.specs.Data.{Data, Items, no_items, item, Members, no_members, member, object, boolean, number, string, array, unsigned}
 use Rattle.serde_json.specs.Read.{of_json, of_items, of_members}

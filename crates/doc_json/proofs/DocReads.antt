@@ -1,5 +1,5 @@
 -- Reading a value as a document, check by check.
-use Rattle.proof_words.proofs.{◌≡◌, ℕ, List, Bool, true, false, Option, Some, None, option_map, is_some, Result, Ok, Err, codes, refl, sym, ap, ◌∙◌, IsOk, false≢true}
+use Rattle.proof_prelude.proofs.{◌≡◌, ℕ, List, Bool, true, false, Option, Some, None, option_map, is_some, Result, Ok, Err, codes, refl, sym, ap, ◌∙◌, IsOk, false≢true}
 use Rattle.serde_json.specs.Data.{Data, Members}
 use Rattle.serde_json.specs.Find.{get, get_member, as_object}
 use Rattle.serde_json.specs.Written.{members_have_float}

@@ -1,5 +1,5 @@
 -- Numbers that are no floats, by what is asked of them.
-use Rattle.proof_words.proofs.{◌≡◌, ℕ, ℤ, pos, negsuc, true, Some, None, int_lt, SFits, w64, arith, signed_decimal}
+use Rattle.proof_prelude.proofs.{◌≡◌, ℕ, ℤ, pos, negsuc, true, Some, None, int_lt, SFits, w64, arith, signed_decimal}
 use Rattle.serde_json.specs.Data.{Num, unsigned, negative}
 use Rattle.serde_json.specs.Find.{as_u64, as_i64}
 use Rattle.serde_json.specs.Number.{is_valid, num_of}

@@ -1,5 +1,5 @@
 -- What a buffer held is kept, step by step.
-use Rattle.proof_words.proofs.{◌≡◌, ℕ, List, [], ◌++◌, Bool, true, false, cond, sym, ap, ◌∙◌, append_assoc, append-nil}
+use Rattle.proof_prelude.proofs.{◌≡◌, ℕ, List, [], ◌++◌, Bool, true, false, cond, sym, ap, ◌∙◌, append_assoc, append-nil}
 use Rattle.doc_json.specs.{Keeps}
 
 -- with more behind it

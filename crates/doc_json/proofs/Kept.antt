@@ -1,5 +1,5 @@
 -- What was found for a name among the members so far.
-use Rattle.proof_words.proofs.{◌≡◌, ℕ, List, Bool, true, false, cond, Option, Some, None, is_some, refl, sym, ap, ◌∙◌, option_or, nat_cmp, match_ordering, is_eq, bytes_eq, slice_cmp, is_eq-slice_cmp, bytes_eq-Decides, false≢true, Ordering, Less, true≢false, false_from_ne_true}
+use Rattle.proof_prelude.proofs.{◌≡◌, ℕ, List, Bool, true, false, cond, Option, Some, None, is_some, refl, sym, ap, ◌∙◌, option_or, nat_cmp, match_ordering, is_eq, bytes_eq, slice_cmp, is_eq-slice_cmp, bytes_eq-Decides, false≢true, Ordering, Less, true≢false, false_from_ne_true}
 use Rattle.serde_json.specs.Data.{Data, Members, no_members, member}
 use Rattle.serde_json.specs.Find.{get_member}
 

@@ -1,5 +1,5 @@
 -- What marks tell of ids.
-use Rattle.proof_words.proofs.{◌≡◌, ℕ, ◌<◌, ◌==◌, Bool, true, false, ◌||◌, List, [], ◌∷◌, ◌++◌, length, get_or, set, refl, sym, ap, ◌∙◌, subst, false≢true, eqb-false, list_any, AllByRecursion, bytes_eq, bytes_decides, eqb-true, get_or-set_same, get_or-set_other, length-set}
+use Rattle.proof_prelude.proofs.{◌≡◌, ℕ, ◌<◌, ◌==◌, Bool, true, false, ◌||◌, List, [], ◌∷◌, ◌++◌, length, get_or, set, refl, sym, ap, ◌∙◌, subst, false≢true, eqb-false, list_any, AllByRecursion, bytes_eq, bytes_decides, eqb-true, get_or-set_same, get_or-set_other, length-set}
 use Rattle.doc_json.specs.{AreMarks, is_marked, is_marked_of, place_of}
 use Rattle.doc_json.proofs.ChosenBytes.{each_more}
 

@@ -1,5 +1,5 @@
 -- Members that are left of a walk over them.
-use Rattle.proof_words.proofs.{ℕ, suc}
+use Rattle.proof_prelude.proofs.{ℕ, suc}
 use Rattle.serde_json.specs.Data.{Members, no_members, member}
 
 abbrev pub count : Members → ℕ

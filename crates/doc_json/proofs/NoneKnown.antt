@@ -1,5 +1,5 @@
 -- Where no text is known to be plain, nothing is said of any.
-use Rattle.proof_words.proofs.{false, false≢true}
+use Rattle.proof_prelude.proofs.{false, false≢true}
 use Rattle.serde_json.specs.Data.{Data, string, array, object, Items, no_items, item, Members, no_members, member}
 use Rattle.json_values.specs.{ArePlain, AreItemsPlain, AreMembersPlain}
 

@@ -1,5 +1,5 @@
 -- The revisions that a start and a list of signatures give.
-use Rattle.proof_words.proofs.{◌≡◌, ℕ, ◌-◌, ◌^◌, ◌<◌, ◌≤◌, ◌⊎◌, List, [], ◌∷◌, length, map, Bool, true, false, cond, nat_eq, nat_lt, Option, Some, None, option_map, Result, Ok, Err, inl, inr, refl, sym, ap, ◌∙◌, subst, arith, AllByRecursion, lt-ltb, le-ltb, ne_eqb, eq-eqb}
+use Rattle.proof_prelude.proofs.{◌≡◌, ℕ, ◌-◌, ◌^◌, ◌<◌, ◌≤◌, ◌⊎◌, List, [], ◌∷◌, length, map, Bool, true, false, cond, nat_eq, nat_lt, Option, Some, None, option_map, Result, Ok, Err, inl, inr, refl, sym, ap, ◌∙◌, subst, arith, AllByRecursion, lt-ltb, le-ltb, ne_eqb, eq-eqb}
 use Rattle.serde_json.specs.Data.{Data}
 use Rattle.serde_json.specs.Find.{as_str}
 use Rattle.serde_json.specs.View.{items_of}

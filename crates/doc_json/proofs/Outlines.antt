@@ -1,5 +1,5 @@
 -- The text of data whose numbers read as themselves and whose members stand in order.
-use Rattle.proof_words.proofs.{◌≡◌, ℕ, List, [], Bool, true, false, cond, Some, option_map, option_and_then, Less, Greater, nat_cmp, refl, sym, ap, ap₂, ◌∙◌, subst, arith, if◌then◌else◌, or_parts, nat_list_cmp_total, slice_cmp, ordering_reverse, match_ordering}
+use Rattle.proof_prelude.proofs.{◌≡◌, ℕ, List, [], Bool, true, false, cond, Some, option_map, option_and_then, Less, Greater, nat_cmp, refl, sym, ap, ap₂, ◌∙◌, subst, arith, if◌then◌else◌, or_parts, nat_list_cmp_total, slice_cmp, ordering_reverse, match_ordering}
 use Rattle.json.specs.Json as json
 use Rattle.json.specs.Lex.{tokens}
 use Rattle.json.specs.Tree.{json_tokens, HasNumbers, ItemsHaveNumbers, MembersHaveNumbers}

@@ -1,5 +1,5 @@
 -- The members of a map, in the order of their names.
-use Rattle.proof_words.proofs.{◌≡◌, List, [], ◌∷◌, String, Global, Less, string_bytes, string_cmp, AllByRecursion, IsStrictlySortedBy, keys_of}
+use Rattle.proof_prelude.proofs.{◌≡◌, List, [], ◌∷◌, String, Global, Less, string_bytes, string_cmp, AllByRecursion, IsStrictlySortedBy, keys_of}
 use Rattle.serde_json.specs.View.{members_view}
 use Rattle.serde_json.proofs.Views.{Entry}
 use Rattle.json_values.specs.{AllBehind}

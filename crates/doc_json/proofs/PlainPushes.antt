@@ -1,5 +1,5 @@
 -- One member more of an object whose members without a leading `_` are pushed.
-use Rattle.proof_words.proofs.{◌≡◌, ℕ, List, ◌∷◌, ◌++◌, Bool, true, false, if◌then◌else◌, sym, ap, ◌∙◌, subst, append_assoc, or_parts}
+use Rattle.proof_prelude.proofs.{◌≡◌, ℕ, List, ◌∷◌, ◌++◌, Bool, true, false, if◌then◌else◌, sym, ap, ◌∙◌, subst, append_assoc, or_parts}
 use Rattle.json.specs.Print.{quoted}
 use Rattle.serde_json.specs.Data.{Data, Members, member}
 use Rattle.serde_json.specs.Written.{comma_if, compact_text, members_text, has_float, members_have_float}

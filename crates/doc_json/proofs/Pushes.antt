@@ -1,5 +1,5 @@
 -- What is pushed piece by piece.
-use Rattle.proof_words.proofs.{◌≡◌, List, [], ◌++◌, ℕ, ◌∷◌, sym, ap, ◌∙◌, append_assoc}
+use Rattle.proof_prelude.proofs.{◌≡◌, List, [], ◌++◌, ℕ, ◌∷◌, sym, ap, ◌∙◌, append_assoc}
 
 -- one piece more stands there, and one less is left
 pub moved : (out new piece before left all : List ℕ) → new ≡ out ++ piece → before ≡ piece ++ left → out ++ before ≡ all → new ++ left ≡ all

@@ -1,5 +1,5 @@
 -- A plain text in quotation marks stands as it is.
-use Rattle.proof_words.proofs.{◌≡◌, ℕ, Bool, true, Result, Ok, Err, ◌-◌, ◌++◌, List, [], ◌∷◌, length, take, drop, sym, ap, ◌∙◌, arith, OnOk, prefix_len, take_all}
+use Rattle.proof_prelude.proofs.{◌≡◌, ℕ, Bool, true, Result, Ok, Err, ◌-◌, ◌++◌, List, [], ◌∷◌, length, take, drop, sym, ap, ◌∙◌, arith, OnOk, prefix_len, take_all}
 use Rattle.json_values.specs.{PlainIf}
 use Rattle.json.specs.Print.{escape, quoted}
 use Rattle.json.specs.Run.{is_plain}

@@ -1,5 +1,5 @@
 -- The text of a document is read as that document.
-use Rattle.proof_words.proofs.{◌≡◌, ℕ, ◌≤◌, List, [], ◌∷◌, Bool, true, false, Option, Some, None, option_map, option_and_then, is_some, Ok, codes, refl, sym, ap, ◌∙◌, subst, arith, or_parts}
+use Rattle.proof_prelude.proofs.{◌≡◌, ℕ, ◌≤◌, List, [], ◌∷◌, Bool, true, false, Option, Some, None, option_map, option_and_then, is_some, Ok, codes, refl, sym, ap, ◌∙◌, subst, arith, or_parts}
 use Rattle.json.specs.Lex.{tokens}
 use Rattle.json.specs.Tree as tree
 use Rattle.json.specs.Tree.{json_tokens, HasNumbers, ItemsHaveNumbers, MembersHaveNumbers}

@@ -1,5 +1,5 @@
 -- What is answered where a call that may find no memory is refused.
-use Rattle.proof_words.proofs.{◌≡◌, Result, Err, inl, inr, sym, ap, ◌∙◌, subst, IsOk, IsErrAnd, err_from_is_err_and}
+use Rattle.proof_prelude.proofs.{◌≡◌, Result, Err, inl, inr, sym, ap, ◌∙◌, subst, IsOk, IsErrAnd, err_from_is_err_and}
 use Rattle.doc_json.specs.{GivesUnlessMemory, DocFault}
 use Rattle.doc_json.specs.declared.fault.DocFault.TheVariants as faults
 

@@ -1,5 +1,5 @@
 -- Signatures and revision ids are written as JSON texts without escapes.
-use Rattle.proof_words.proofs.{◌≡◌, ℕ, ◌<◌, List, [], ◌∷◌, ◌++◌, true, false, inl, inr, refl, sym, ap, ap₂, ◌∙◌, arith, rules, list_all, decimal, fold, and_parts, and_from, cases_lt, nat_tests, list_all-append, digits_decimal, IsNumeralModel, numerals_by_fold, true≢false}
+use Rattle.proof_prelude.proofs.{◌≡◌, ℕ, ◌<◌, List, [], ◌∷◌, ◌++◌, true, false, inl, inr, refl, sym, ap, ap₂, ◌∙◌, arith, rules, list_all, decimal, fold, and_parts, and_from, cases_lt, nat_tests, list_all-append, digits_decimal, IsNumeralModel, numerals_by_fold, true≢false}
 use Rattle.json.specs.Print.{escape, escape_byte}
 use Rattle.json.proofs.Printed.Strings.{escape_byte_plain}
 use Rattle.rev_core.specs.{is_sig, is_sig_byte, RevId, IsRev, is_digit, with_digit, value_of, rev_text}

@@ -1,5 +1,5 @@
 -- Signatures joined by commas, one after another.
-use Rattle.proof_words.proofs.{◌≡◌, ℕ, zero, suc, ◌+◌, ◌<◌, List, [], ◌∷◌, ◌++◌, length, take, get_or, refl, sym, ap, ◌∙◌, arith, append_assoc, take_more}
+use Rattle.proof_prelude.proofs.{◌≡◌, ℕ, zero, suc, ◌+◌, ◌<◌, List, [], ◌∷◌, ◌++◌, length, take, get_or, refl, sym, ap, ◌∙◌, arith, append_assoc, take_more}
 use Rattle.rev_core.specs.{RevId}
 use Rattle.doc_json.specs.{sig_text, sig_texts}
 

@@ -1,5 +1,5 @@
 -- Members in order of their names, with and without special ones.
-use Rattle.proof_words.proofs.{◌≡◌, ℕ, List, Bool, true, false, ◌||◌, cond, Ordering, Less, Equal, Greater, Option, Some, None, option_and_then, nat_cmp, is_eq, refl, sym, ap, ◌∙◌, ⊤, match_ordering, ordering_reverse, slice_cmp, nat_list_cmp_total, is_eq-slice_cmp, bytes_eq-Decides, true≢false}
+use Rattle.proof_prelude.proofs.{◌≡◌, ℕ, List, Bool, true, false, ◌||◌, cond, Ordering, Less, Equal, Greater, Option, Some, None, option_and_then, nat_cmp, is_eq, refl, sym, ap, ◌∙◌, ⊤, match_ordering, ordering_reverse, slice_cmp, nat_list_cmp_total, is_eq-slice_cmp, bytes_eq-Decides, true≢false}
 use Rattle.json.specs.Json as json
 use Rattle.serde_json.specs.Data.{Data, Members, no_members, member, put}
 use Rattle.serde_json.specs.Find.{get_member}

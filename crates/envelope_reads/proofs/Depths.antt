@@ -1,5 +1,5 @@
 -- What is read within so many brackets is read within one more.
-use Rattle.proof_words.proofs.{◌≡◌, ℕ, zero, suc, List, [], ◌∷◌, length, refl, ap, ◌∙◌, Option, Some, None, option_and_then}
+use Rattle.proof_prelude.proofs.{◌≡◌, ℕ, zero, suc, List, [], ◌∷◌, length, refl, ap, ◌∙◌, Option, Some, None, option_and_then}
 use Rattle.json.specs.Token.{Token}
 use Rattle.json.specs.Json.{Json, Items, Members, Parse, parse_map, item, member, array, object, items, members, items_step, members_step, after_end_array, read_key, value, value_with}
 

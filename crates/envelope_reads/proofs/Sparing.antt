@@ -1,5 +1,5 @@
 -- The data of an envelope, and what reading it as a document refuses.
-use Rattle.proof_words.proofs.{◌≡◌, ℕ, List, [], ◌∷◌, ◌&&◌, ◌||◌, Bool, true, false, cond, codes, not, refl, sym, ap, subst, ◌∙◌, Option, Some, None, option_map, option_and_then, is_some, if◌then◌else◌, Result, Ok, Err, IfErr, inl, inr, length, ◌==◌, bytes_eq, nat_cmp, match_ordering, is_eq, slice_cmp, bytes_eq-Decides, is_eq-slice_cmp, is_utf8, Ordering, Less, Equal, Greater, filter}
+use Rattle.proof_prelude.proofs.{◌≡◌, ℕ, List, [], ◌∷◌, ◌&&◌, ◌||◌, Bool, true, false, cond, codes, not, refl, sym, ap, subst, ◌∙◌, Option, Some, None, option_map, option_and_then, is_some, if◌then◌else◌, Result, Ok, Err, IfErr, inl, inr, length, ◌==◌, bytes_eq, nat_cmp, match_ordering, is_eq, slice_cmp, bytes_eq-Decides, is_eq-slice_cmp, is_utf8, Ordering, Less, Equal, Greater, filter}
 use Rattle.json.specs.Json as json
 use Rattle.json.specs.Token.{Token}
 use Rattle.json.specs.Lex.{tokens}

@@ -1,5 +1,5 @@
 -- ASCII, sixteen bytes at a time, of which the last may overlap those before.
-use Rattle.proof_words.proofs.{◌≡◌, ℕ, [], ◌∷◌, ◌++◌, ◌+◌, ◌-◌, ◌<◌, ◌≤◌, ◌⊎◌, inl, inr, List, length, take, get_or, ap, subst, ◌∙◌, arith, IsAscii, cases_order, get_or_past, get_or-chunk, get_or-take}
+use Rattle.proof_prelude.proofs.{◌≡◌, ℕ, [], ◌∷◌, ◌++◌, ◌+◌, ◌-◌, ◌<◌, ◌≤◌, ◌⊎◌, inl, inr, List, length, take, get_or, ap, subst, ◌∙◌, arith, IsAscii, cases_order, get_or_past, get_or-chunk, get_or-take}
 use lib.Lanes.{chunk}
 
 module _ (xs : List ℕ) (i s : ℕ) (over : s ≤ i) (ends : s + 16 ≡ length xs) (front : IsAscii (take i xs)) (back : IsAscii (chunk s 16 xs)) where

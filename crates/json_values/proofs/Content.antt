@@ -1,5 +1,5 @@
 -- The steps of `content`, at a place of the text.
-use Rattle.proof_words.proofs.{◌≡◌, ℕ, suc, ◌+◌, ◌-◌, ◌<◌, ◌≤◌, Bool, true, false, not, ◌||◌, cond, ◌&&◌, ◌==◌, nat_lt, List, [], ◌∷◌, ◌++◌, length, take, drop, get_or, Option, Some, None, option_and_then, refl, sym, ap, ◌∙◌, arith, drop_more, drop_all, or_parts, not-true, prefix_len, len_utf8, append_assoc, drop-drop, take-take, length-take-le, get_or-drop, length-drop, eqb-true, true≢false, ne_eqb, lt-ltb, le-ltb}
+use Rattle.proof_prelude.proofs.{◌≡◌, ℕ, suc, ◌+◌, ◌-◌, ◌<◌, ◌≤◌, Bool, true, false, not, ◌||◌, cond, ◌&&◌, ◌==◌, nat_lt, List, [], ◌∷◌, ◌++◌, length, take, drop, get_or, Option, Some, None, option_and_then, refl, sym, ap, ◌∙◌, arith, drop_more, drop_all, or_parts, not-true, prefix_len, len_utf8, append_assoc, drop-drop, take-take, length-take-le, get_or-drop, length-drop, eqb-true, true≢false, ne_eqb, lt-ltb, le-ltb}
 use Rattle.std.specs.Char.{encode_utf8}
 use Rattle.json.specs.Text.{code_unit, short_escape, is_high_surrogate, is_low_surrogate, surrogate_pair, Within, plain, after_backslash, after_u, after_high, prepend, content}
 use Rattle.json.specs.Run.{is_plain}

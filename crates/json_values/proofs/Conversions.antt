@@ -1,5 +1,5 @@
 -- What was read, under a conversion that may refuse it.
-use Rattle.proof_words.proofs.{◌≡◌, List, Option, Some, None, option_map, refl, ap, ◌∙◌}
+use Rattle.proof_prelude.proofs.{◌≡◌, List, Option, Some, None, option_map, refl, ap, ◌∙◌}
 use Rattle.json.specs.Token.{Token}
 use Rattle.json.specs.Json.{parse_map}
 use Rattle.serde_json.specs.Read.{converted}

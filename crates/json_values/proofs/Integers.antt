@@ -1,5 +1,5 @@
 -- Numbers of few digits and nothing else.
-use Rattle.proof_words.proofs.{◌≡◌, ◌≢◌, ℕ, ◌+◌, ◌-◌, ◌<◌, ◌≤◌, ◌^◌, Bool, true, false, ◌||◌, ◌==◌, cond, leb-true, List, length, take, drop, get_or, Some, refl, sym, ap, ◌∙◌, subst, arith, T, drop-drop, length-drop, false≢true, and_parts, get_or_default, drop-take, digit_at, is_ascii_digit, IsInRange, AllDigits, digits_value, ne_eqb, eq-eqb, eqb-true, get_or-take, length-take-le}
+use Rattle.proof_prelude.proofs.{◌≡◌, ◌≢◌, ℕ, ◌+◌, ◌-◌, ◌<◌, ◌≤◌, ◌^◌, Bool, true, false, ◌||◌, ◌==◌, cond, leb-true, List, length, take, drop, get_or, Some, refl, sym, ap, ◌∙◌, subst, arith, T, drop-drop, length-drop, false≢true, and_parts, get_or_default, drop-take, digit_at, is_ascii_digit, IsInRange, AllDigits, digits_value, ne_eqb, eq-eqb, eqb-true, get_or-take, length-take-le}
 use Rattle.fast_float.specs.Text.{minus, scan, with_sign}
 use Rattle.serde_json.specs.Data.{Num, unsigned, negative}
 use Rattle.serde_json.specs.Read.{number_of, number_from}

@@ -1,5 +1,5 @@
 -- The members of a value of a line.
-use Rattle.proof_words.proofs.{◌≡◌, ℕ, List, true, false, Some, Option, Ordering, Less, Equal, Greater, nat_cmp, is_eq, bytes_eq, refl, ◌∙◌, match_ordering, slice_cmp, is_eq-slice_cmp}
+use Rattle.proof_prelude.proofs.{◌≡◌, ℕ, List, true, false, Some, Option, Ordering, Less, Equal, Greater, nat_cmp, is_eq, bytes_eq, refl, ◌∙◌, match_ordering, slice_cmp, is_eq-slice_cmp}
 use Rattle.serde_json.specs.Data.{Data, Members, member}
 use Rattle.serde_json.specs.Find.{get_member}
 

@@ -1,5 +1,5 @@
 -- Values of a line: level by level, lists that grow at their end, and members that are put in.
-use Rattle.proof_words.proofs.{◌≡◌, ℕ, List, [], ◌∷◌, ◌++◌, Option, Some, None, Ordering, Less, Equal, Greater, nat_cmp, Vec, Bor, Global, refl, ap, rules, match_ordering, slice_cmp}
+use Rattle.proof_prelude.proofs.{◌≡◌, ℕ, List, [], ◌∷◌, ◌++◌, Option, Some, None, Ordering, Less, Equal, Greater, nat_cmp, Vec, Bor, Global, refl, ap, rules, match_ordering, slice_cmp}
 use Rattle.json.specs.Token.{Token}
 use Rattle.json.specs.Json.{parse_map}
 use Rattle.serde_json.specs.Data.{array, object, Items, no_items, item, member, put}

@@ -1,5 +1,5 @@
 -- The last element of a list is moved to a place, past one other at a time.
-use Rattle.proof_words.proofs.{◌≡◌, ℕ, ◌+◌, ◌-◌, ◌<◌, ◌≤◌, List, [], ◌∷◌, ◌++◌, length, take, drop, get_or, refl, sym, ap, ◌∙◌, arith, append_assoc, set-append_seam, get_or-append_seam, take_more, drop_more, drop_all, set-append_right, swap, slice_set, take_all, length-append, length-take-le, get_or-append-add}
+use Rattle.proof_prelude.proofs.{◌≡◌, ℕ, ◌+◌, ◌-◌, ◌<◌, ◌≤◌, List, [], ◌∷◌, ◌++◌, length, take, drop, get_or, refl, sym, ap, ◌∙◌, arith, append_assoc, set-append_seam, get_or-append_seam, take_more, drop_more, drop_all, set-append_right, swap, slice_set, take_all, length-append, length-take-le, get_or-append-add}
 
 module _ {X : Type 0} where
   exchanged : (d : X) (a : List X) (y x : X) (b : List X)

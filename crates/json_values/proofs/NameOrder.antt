@@ -1,5 +1,5 @@
 -- Names of one first byte, by their second ones.
-use Rattle.proof_words.proofs.{◌≡◌, ℕ, ◌<◌, List, [], ◌∷◌, length, get_or, Ordering, Less, Equal, Greater, nat_cmp, sym, ap, ◌∙◌, arith, ordering_then, nat_cmp_is, slice_cmp}
+use Rattle.proof_prelude.proofs.{◌≡◌, ℕ, ◌<◌, List, [], ◌∷◌, length, get_or, Ordering, Less, Equal, Greater, nat_cmp, sym, ap, ◌∙◌, arith, ordering_then, nat_cmp_is, slice_cmp}
 
 by_second : (x u y v : ℕ) (o rest : Ordering) → x ≡ y → nat_cmp u v ≡ o → ordering_then (nat_cmp x y) (ordering_then (nat_cmp u v) rest) ≡ ordering_then o rest
 by_second x u y v o rest e is = ap (λ p. ordering_then p (ordering_then (nat_cmp u v) rest)) (sym (nat_cmp_is x y Equal e)) ∙ ap (λ p. ordering_then p rest) is

@@ -1,5 +1,5 @@
 -- Which numeral a number's text is read by, and what digits alone are read as.
-use Rattle.proof_words.proofs.{◌≡◌, ℕ, ◌^◌, ◌<◌, ◌≤◌, List, [], ◌++◌, length, drop, get_or, true, false, ◌==◌, Some, refl, sym, ap, ◌∙◌, append-nil, lt-ltb, le-leb, suc, zero, pos, negsuc, ◌-ℤ◌, SFits, w64, to_z, of_z, to_z-of_z, arith, to_z_pos, AllDigits, digits_value}
+use Rattle.proof_prelude.proofs.{◌≡◌, ℕ, ◌^◌, ◌<◌, ◌≤◌, List, [], ◌++◌, length, drop, get_or, true, false, ◌==◌, Some, refl, sym, ap, ◌∙◌, append-nil, lt-ltb, le-leb, suc, zero, pos, negsuc, ◌-ℤ◌, SFits, w64, to_z, of_z, to_z-of_z, arith, to_z_pos, AllDigits, digits_value}
 use Rattle.fast_float.specs.Text.{minus, scan, Parts, IsWellFormed, with_sign}
 use Rattle.fast_float.proofs.Writing.{scan-text_of}
 use Rattle.serde_json.specs.Data.{unsigned, negative}

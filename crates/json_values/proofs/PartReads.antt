@@ -1,5 +1,5 @@
 -- A member of a value that is in order is in order, and its texts are as plain.
-use Rattle.proof_words.proofs.{◌≡◌, ℕ, List, Option, Some, Ordering, Less, Equal, Greater, nat_cmp, sym, subst, IfSome, match_ordering, slice_cmp}
+use Rattle.proof_prelude.proofs.{◌≡◌, ℕ, List, Option, Some, Ordering, Less, Equal, Greater, nat_cmp, sym, subst, IfSome, match_ordering, slice_cmp}
 use Rattle.serde_json.specs.Data.{Data, object, Members, no_members, member}
 use Rattle.serde_json.specs.Find.{get, get_member}
 use Rattle.json_values.specs.{IsOrdered, IsInOrderOfNames, ArePlain, AreMembersPlain, PlainTexts}

@@ -1,5 +1,5 @@
 -- What the lexer passes over, at a place of the text.
-use Rattle.proof_words.proofs.{◌≡◌, ℕ, suc, ◌+◌, ◌<◌, ◌≤◌, Bool, true, false, ◌&&◌, ◌||◌, ◌==◌, cond, List, [], ◌∷◌, length, drop, get_or, Option, Some, None, refl, sym, ap, ◌∙◌, arith, drop-drop, false≢true, or_parts, not-true, and_parts, drop_more, prefix_len, is_digit, eqb-true}
+use Rattle.proof_prelude.proofs.{◌≡◌, ℕ, suc, ◌+◌, ◌<◌, ◌≤◌, Bool, true, false, ◌&&◌, ◌||◌, ◌==◌, cond, List, [], ◌∷◌, length, drop, get_or, Option, Some, None, refl, sym, ap, ◌∙◌, arith, drop-drop, false≢true, or_parts, not-true, and_parts, drop_more, prefix_len, is_digit, eqb-true}
 use Rattle.json.specs.Text.{Within, content, code_unit}
 use Rattle.json.specs.Word.{is_operator, is_space, head}
 use Rattle.json.specs.Lex.{Lexeme, Class, quote, backslash, operator, space, other, class, Mode, between, in_string, in_escape, lex_byte, lex}

@@ -1,5 +1,5 @@
 -- Texts that are plain stay so while more is read.
-use Rattle.proof_words.proofs.{◌≡◌, ℕ, suc, ◌+◌, Bool, true, false, cond, List, [], ◌∷◌, ◌++◌, length, take, Ordering, Less, Equal, Greater, nat_cmp, Bor, refl, sym, ap, ◌∙◌, subst, arith, match_ordering, slice_cmp, prefix_len}
+use Rattle.proof_prelude.proofs.{◌≡◌, ℕ, suc, ◌+◌, Bool, true, false, cond, List, [], ◌∷◌, ◌++◌, length, take, Ordering, Less, Equal, Greater, nat_cmp, Bor, refl, sym, ap, ◌∙◌, subst, arith, match_ordering, slice_cmp, prefix_len}
 use Rattle.serde_json.specs.Data.{Data, string, array, object, Items, no_items, item, Members, no_members, member, put}
 use Rattle.json_values.specs.{put_entry, line_view, line_items, line_members, PlainIf, ArePlain, AreItemsPlain, AreMembersPlain, Narrows, PlainTexts, LineValue}
 use Rattle.json_values.proofs.LineReads.{Named, members-put}

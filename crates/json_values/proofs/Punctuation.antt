@@ -1,5 +1,5 @@
 -- What `punctuate` gives, by the first byte of the text.
-use Rattle.proof_words.proofs.{◌≡◌, ◌≢◌, ℕ, Bool, true, false, cond, ◌==◌, List, [], ◌∷◌, drop, Option, Some, None, ◌⊎◌, inl, inr, refl, sym, ap, ◌∙◌, subst, false≢true, or_cases, ⊤, true≢false, eqb-true}
+use Rattle.proof_prelude.proofs.{◌≡◌, ◌≢◌, ℕ, Bool, true, false, cond, ◌==◌, List, [], ◌∷◌, drop, Option, Some, None, ◌⊎◌, inl, inr, refl, sym, ap, ◌∙◌, subst, false≢true, or_cases, ⊤, true≢false, eqb-true}
 use Rattle.json.specs.Token.{Token, begin_object, end_object, begin_array, end_array, key, string, number, boolean, null, bad}
 use Rattle.json.specs.Text.{content, plain}
 use Rattle.json.specs.Word.{is_operator, is_space, head, ends_word, after_number, number_before, word}

@@ -1,5 +1,5 @@
 -- A member that is put among others.
-use Rattle.proof_words.proofs.{◌≡◌, ℕ, ◌+◌, ◌<◌, length, take, drop, List, [], ◌∷◌, ◌++◌, Ordering, Less, Equal, Greater, nat_cmp, Bor, refl, sym, ap, ◌∙◌, match_ordering, ordering_reverse, slice_cmp, AllByRecursion, IsStrictlySortedBy, nat_list_cmp_total, alike_right, take-set, drop-set, slice_set, take-append-drop}
+use Rattle.proof_prelude.proofs.{◌≡◌, ℕ, ◌+◌, ◌<◌, length, take, drop, List, [], ◌∷◌, ◌++◌, Ordering, Less, Equal, Greater, nat_cmp, Bor, refl, sym, ap, ◌∙◌, match_ordering, ordering_reverse, slice_cmp, AllByRecursion, IsStrictlySortedBy, nat_list_cmp_total, alike_right, take-set, drop-set, slice_set, take-append-drop}
 use Rattle.json_values.specs.{Entry, names_of, IsRising, put_entry}
 
 abbrev Behind : List ℕ → List (List ℕ) → Type 0

@@ -1,5 +1,5 @@
 -- One lexeme at a time: what stands first, and what is left after it.
-use Rattle.proof_words.proofs.{◌≡◌, ℕ, ◌+◌, ◌<◌, false, List, [], ◌∷◌, length, drop, get_or, add-zero, lt_of_not-le, refl, sym, ap, ◌∙◌, arith, get_or_default, get_or_past, drop-drop, get_or-drop, true≢false}
+use Rattle.proof_prelude.proofs.{◌≡◌, ℕ, ◌+◌, ◌<◌, false, List, [], ◌∷◌, length, drop, get_or, add-zero, lt_of_not-le, refl, sym, ap, ◌∙◌, arith, get_or_default, get_or_past, drop-drop, get_or-drop, true≢false}
 use Rattle.json.specs.Token.{bad}
 use Rattle.json.specs.Text.{content, plain}
 use Rattle.json.specs.Word.{head, word}

@@ -1,5 +1,5 @@
 -- What the whole of a text is read as.
-use Rattle.proof_words.proofs.{◌≡◌, ℕ, ◌<◌, List, [], ◌∷◌, length, Option, Some, option_and_then, ap, ◌∙◌, arith}
+use Rattle.proof_prelude.proofs.{◌≡◌, ℕ, ◌<◌, List, [], ◌∷◌, length, Option, Some, option_and_then, ap, ◌∙◌, arith}
 use Rattle.json.specs.Token.{Token}
 use Rattle.json.specs.Lex.{lex, punctuate, tokens}
 use Rattle.json.specs.Json.{Json, if_last, value}

@@ -1,5 +1,5 @@
 -- Numbers and literals, and where the lexer goes on behind them.
-use Rattle.proof_words.proofs.{◌≡◌, ℕ, ◌+◌, ◌-◌, ◌<◌, ◌≤◌, List, [], ◌∷◌, ◌++◌, length, take, drop, true, is_some, ◌&&◌, cond, nat_eq, Some, refl, sym, ap, ap₂, ◌∙◌, arith, drop-drop, length-append, false≢true, Decides-eqb, starts_is, starts_with, length-drop, length-take-le, take-append-drop}
+use Rattle.proof_prelude.proofs.{◌≡◌, ℕ, ◌+◌, ◌-◌, ◌<◌, ◌≤◌, List, [], ◌∷◌, ◌++◌, length, take, drop, true, is_some, ◌&&◌, cond, nat_eq, Some, refl, sym, ap, ap₂, ◌∙◌, arith, drop-drop, length-append, false≢true, Decides-eqb, starts_is, starts_with, length-drop, length-take-le, take-append-drop}
 use Rattle.json.specs.Token as spec
 use Rattle.json.specs.Token.{number, bad}
 use Rattle.json.specs.Word.{ends_word, literal, after_number, number_before}

@@ -1,5 +1,5 @@
 -- A text ends in columns in one way.
-use Rattle.proof_words.proofs.{◌≡◌, ℕ, List, ◌++◌, sym, ap, subst, ◌∙◌, codes, append_cancel_left, decimal_is_IsNumeral, digits_value}
+use Rattle.proof_prelude.proofs.{◌≡◌, ℕ, List, ◌++◌, sym, ap, subst, ◌∙◌, codes, append_cancel_left, decimal_is_IsNumeral, digits_value}
 use Rattle.output_parser.specs.{IsNumber, EndsIn, IsFront, column_text, Table}
 use Rattle.output_parser.specs.declared.told.Table.TheVariants as tables
 use Rattle.output_parser.proofs.LineLemmas.{named_unique}

@@ -1,5 +1,5 @@
 -- The parts of a line are what they are in one way.
-use Rattle.proof_words.proofs.{◌≡◌, ℕ, Bool, true, false, List, [], ◌∷◌, ◌++◌, sym, ap, ◌∙◌, append_assoc, codes, Option, Some, None, IfNone, IfSome, arith, subst, is_none, false≢true, append_cancel_left, append_cancel_right}
+use Rattle.proof_prelude.proofs.{◌≡◌, ℕ, Bool, true, false, List, [], ◌∷◌, ◌++◌, sym, ap, ◌∙◌, append_assoc, codes, Option, Some, None, IfNone, IfSome, arith, subst, is_none, false≢true, append_cancel_left, append_cancel_right}
 use Rattle.output_parser.specs.{lacks, IsDocLine, LeafParts, ListedParts, NoFinding, NoRow, state_text, Finding, Table}
 use Rattle.output_parser.specs.declared.told.Finding.TheVariants as findings
 use Rattle.output_parser.specs.declared.told.Table.TheVariants as tables

@@ -1,5 +1,5 @@
 -- A log is read in one way.
-use Rattle.proof_words.proofs.{◌≡◌, ℕ, ◌<◌, ◌≤◌, true, List, [], ◌∷◌, ◌++◌, length, refl, sym, ap, subst, ◌∙◌, append_assoc, codes, map, arith, append_cancel_left, map-append, IsUtf8, append-nil, length-append}
+use Rattle.proof_prelude.proofs.{◌≡◌, ℕ, ◌<◌, ◌≤◌, true, List, [], ◌∷◌, ◌++◌, length, refl, sym, ap, subst, ◌∙◌, append_assoc, codes, map, arith, append_cancel_left, map-append, IsUtf8, append-nil, length-append}
 use Rattle.output_parser.specs.{lacks, InTurn, AreEntries, AreFurther, IsEntry, IsHead, IsHistory, IsMember, Logged, Values, all_members, logged, member_end, member_text, Entry, Member}
 use Rattle.output_parser.proofs.ColumnLemmas.{number_unique}
 use Rattle.output_parser.proofs.LineLemmas.{after, first_apart}

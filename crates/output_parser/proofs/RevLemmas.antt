@@ -1,5 +1,5 @@
 -- Joined lists, and lists whose generations fall by one.
-use Rattle.proof_words.proofs.{◌≡◌, ℕ, suc, zero, ◌+◌, ◌-◌, ◌<◌, ◌==◌, true, false, not, List, [], ◌∷◌, ◌++◌, length, get_or, drop, map, refl, sym, ap, subst, ◌∙◌, append_assoc, arith, Result, Ok, Err, AllByRecursion, slice_split, and_parts, false≢true, nat_tests, map-append, All-cons, All-nil, slice_split_at, slice_split_none, is_ok, eq_by_cmp, All}
+use Rattle.proof_prelude.proofs.{◌≡◌, ℕ, suc, zero, ◌+◌, ◌-◌, ◌<◌, ◌==◌, true, false, not, List, [], ◌∷◌, ◌++◌, length, get_or, drop, map, refl, sym, ap, subst, ◌∙◌, append_assoc, arith, Result, Ok, Err, AllByRecursion, slice_split, and_parts, false≢true, nat_tests, map-append, All-cons, All-nil, slice_split_at, slice_split_none, is_ok, eq_by_cmp, All}
 use Rattle.rev_core.specs.{IsRev, RevId, rev_cmp, rev_tie_is, rev_tie_self, FallsByOne, rev_read, rev_text, rev_read-text}
 use Rattle.output_parser.specs.{IsRevs, lacks, BeginsWith}
 

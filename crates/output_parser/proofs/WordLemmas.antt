@@ -1,5 +1,5 @@
 -- A text is cut in one way at the first such byte, and at the last.
-use Rattle.proof_words.proofs.{◌≡◌, ℕ, true, List, [], ◌∷◌, ◌++◌, refl, sym, ap, ap₂, ◌∙◌, arith, Option, Some, None, IfSome, IfNone, MatchOption, and_parts, nat_tests}
+use Rattle.proof_prelude.proofs.{◌≡◌, ℕ, true, List, [], ◌∷◌, ◌++◌, refl, sym, ap, ap₂, ◌∙◌, arith, Option, Some, None, IfSome, IfNone, MatchOption, and_parts, nat_tests}
 use Rattle.output_parser.specs.{lacks}
 
 pub none_of : {T : Type 0} (o : Option T) (P : Type 0) (Q : T → Type 0) → MatchOption o P Q → IfNone o P

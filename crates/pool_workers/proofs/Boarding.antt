@@ -1,5 +1,5 @@
 -- What seats at a board show, as they go out and come back.
-use Rattle.proof_words.proofs.{◌≡◌, ℕ, ◌+◌, ◌≤◌, List, [], ◌∷◌, ◌++◌, length, Option, None, Some, option_to_list, All, refl, sym, ap, ◌∙◌, subst, arith, All-nil, All-cons, All-head, All-tail, append-nil, append_assoc}
+use Rattle.proof_prelude.proofs.{◌≡◌, ℕ, ◌+◌, ◌≤◌, List, [], ◌∷◌, ◌++◌, length, Option, None, Some, option_to_list, All, refl, sym, ap, ◌∙◌, subst, arith, All-nil, All-cons, All-head, All-tail, append-nil, append_assoc}
 use Rattle.progress_board.specs.{Board, BoardSeat}
 use Rattle.pool_workers.specs.{total, WorksAt, IsRisen, AreRisen, AreSeated, AreSeats, AreBack, HaveShown, held, Halt}
 

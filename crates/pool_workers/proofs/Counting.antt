@@ -1,5 +1,5 @@
 -- How many documents a source has for all leaves of its page.
-use Rattle.proof_words.proofs.{◌≡◌, ℕ, zero, suc, ◌+◌, Bool, true, not, is_some, List, [], ◌∷◌, filter, length, length-append, refl, sym, ap, ◌∙◌, subst, arith, inl, inr, list_any, sum_by, FinMap, get-empty, cond-true, or_left, length-map, sum_by-cons}
+use Rattle.proof_prelude.proofs.{◌≡◌, ℕ, zero, suc, ◌+◌, Bool, true, not, is_some, List, [], ◌∷◌, filter, length, length-append, refl, sym, ap, ◌∙◌, subst, arith, inl, inr, list_any, sum_by, FinMap, get-empty, cond-true, or_left, length-map, sum_by-cons}
 use Rattle.rev_core.specs.{RevId, rev_cmp, is_among, rev_tie_self}
 use Rattle.rev_tree.specs.{TreeValue, ancestors, has, leaves, leaves_above, missing, no_revisions, walk}
 use Rattle.couch_base.specs.{Among, DatabaseValue, LawfulDatabase, tree_of, RowValue, WindowValue, chosen_feed, page, feed-page, Among-left, any_from, AskedValue, fetched, leaf_document, open_revs, opened, revs_diff, want_first, wanted}

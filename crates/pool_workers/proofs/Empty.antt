@@ -1,5 +1,5 @@
 -- A database without changes has no documents.
-use Rattle.proof_words.proofs.{◌≡◌, ℕ, List, [], ◌∷◌, map, refl, arith, Option, Some, None, IfSome}
+use Rattle.proof_prelude.proofs.{◌≡◌, ℕ, List, [], ◌∷◌, map, refl, arith, Option, Some, None, IfSome}
 use Rattle.couch_base.specs.{DatabaseValue, DocumentValue, LawfulDatabase, Rises, rises_le}
 
 none_under : (ds : List DocumentValue) (hi : ℕ) → hi ≡ 0 → Rises 0 (map (λ (d : DocumentValue). d.seq) ds) hi → ds ≡ []

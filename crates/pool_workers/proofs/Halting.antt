@@ -1,5 +1,5 @@
 -- A run halts only where the gate allows it, or where a worker's call is refused.
-use Rattle.proof_words.proofs.{◌≡◌, ◌⊎◌, ⊎_elim, Option, None, Some, IfSome, sym, subst, inl, inr}
+use Rattle.proof_prelude.proofs.{◌≡◌, ◌⊎◌, ⊎_elim, Option, None, Some, IfSome, sym, subst, inl, inr}
 use Rattle.pool_workers.specs.{AllowsOn, Allows, IsHaltOn, fault_of, IsOneFault, IsOneOf, Place, Halt, PoolFault}
 use Rattle.pool_workers.specs.declared.fault.Halt.TheVariants as halts
 

@@ -1,5 +1,5 @@
 -- The windows that a run's session stores are pages of the source.
-use Rattle.proof_words.proofs.{◌≡◌, ℕ, ◌+◌, Bool, false, cond, List, [], ◌∷◌, ◌++◌, length, Option, Some, None, Result, Ok, is_ok, refl, sym, ap, ◌∙◌, subst, inl, inr, arith, length-append, and_parts, cond_both, false≢true, both_ways, eq-eqb, leb-true}
+use Rattle.proof_prelude.proofs.{◌≡◌, ℕ, ◌+◌, Bool, false, cond, List, [], ◌∷◌, ◌++◌, length, Option, Some, None, Result, Ok, is_ok, refl, sym, ap, ◌∙◌, subst, inl, inr, arith, length-append, and_parts, cond_both, false≢true, both_ways, eq-eqb, leb-true}
 use Rattle.rev_tree.specs.{SessionId}
 use Rattle.doc_json.specs.Document.{Document}
 use Rattle.couch_base.specs.{Among, Among-map, Among-push, DatabaseValue, WindowValue, ParcelValue}

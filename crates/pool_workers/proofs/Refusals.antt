@@ -1,5 +1,5 @@
 -- What a worker's call on the target may be refused for.
-use Rattle.proof_words.proofs.{Bool, cond, Option, None, Some, Result, Ok, Err, IfErr, sym, subst, cond_both, list_all}
+use Rattle.proof_prelude.proofs.{Bool, cond, Option, None, Some, Result, Ok, Err, IfErr, sym, subst, cond_both, list_all}
 use Rattle.rev_tree.specs.{SessionId}
 use Rattle.doc_json.specs.Document.{Document}
 use Rattle.couch_base.specs.{WindowValue, ParcelValue}

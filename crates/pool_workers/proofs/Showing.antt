@@ -1,5 +1,5 @@
 -- What a run shows while it goes, from what its writers' seats show.
-use Rattle.proof_words.proofs.{◌≡◌, ℕ, ◌+◌, ◌≤◌, List, [], ◌∷◌, ◌++◌, length, Option, None, Some, option_to_list, All, sym, ap, ◌∙◌, subst, arith, length-append, All-push, All-pop, append_assoc}
+use Rattle.proof_prelude.proofs.{◌≡◌, ℕ, ◌+◌, ◌≤◌, List, [], ◌∷◌, ◌++◌, length, Option, None, Some, option_to_list, All, sym, ap, ◌∙◌, subst, arith, length-append, All-push, All-pop, append_assoc}
 use Rattle.progress_board.specs.{Board, BoardSeat}
 use Rattle.pool_workers.specs.{AreSeated, AreBack, HaveShown, held, Halt}
 use Rattle.pool_workers.proofs.Boarding.{held_push, seated_parts, back_same, back_append, back_one, shown_none, shown_one}

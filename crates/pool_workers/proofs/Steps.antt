@@ -1,5 +1,5 @@
 -- What a worker knows after one message.
-use Rattle.proof_words.proofs.{◌≡◌, ℕ, ◌+◌, ◌≤◌, ◌==◌, if◌then◌else◌, List, [], ◌∷◌, ◌++◌, length, refl, ap, ◌∙◌, arith, length-append, map-append, nat_tests}
+use Rattle.proof_prelude.proofs.{◌≡◌, ℕ, ◌+◌, ◌≤◌, ◌==◌, if◌then◌else◌, List, [], ◌∷◌, ◌++◌, length, refl, ap, ◌∙◌, arith, length-append, map-append, nat_tests}
 use Rattle.pool_workers.specs.{weigh, times, once_below, WindowView, WindowMessage, Covers, ParcelView, ParcelMessage, parcel_view, parcels, Accounts, amounts, names}
 use Rattle.pool_workers.proofs.Sums.{weigh-append}
 

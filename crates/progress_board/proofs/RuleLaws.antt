@@ -1,5 +1,5 @@
 -- Each step keeps the rule of the board.
-use Rattle.proof_words.proofs.{◌≡◌, ◌≢◌, ℕ, zero, suc, ◌+◌, ◌<◌, ◌≤◌, ◌%◌, ◌^◌, true, false, true≢false, List, [], ◌∷◌, ◌++◌, length, max, get_or, set, sym, refl, ap, ◌∙◌, subst, ◌⊎◌, inl, inr, ⊎_elim, arith, replicate, sum, length-replicate, sum_by-cons, get_or-set_same, get_or-set_other, length-set}
+use Rattle.proof_prelude.proofs.{◌≡◌, ◌≢◌, ℕ, zero, suc, ◌+◌, ◌<◌, ◌≤◌, ◌%◌, ◌^◌, true, false, true≢false, List, [], ◌∷◌, ◌++◌, length, max, get_or, set, sym, refl, ap, ◌∙◌, subst, ◌⊎◌, inl, inr, ⊎_elim, arith, replicate, sum, length-replicate, sum_by-cons, get_or-set_same, get_or-set_other, length-set}
 use mathlib.Core.Option.{some, some-injective, some-ne-none}
 use mathlib.Core.Logic.{dite}
 use native.Mathlib.Decide.{ℕ_discrete}

@@ -1,5 +1,5 @@
 -- The front of ends, a mark and ranges: what each reading of it is, and what each change makes of it.
-use Rattle.proof_words.proofs.{◌≡◌, inl, inr, ℕ, suc, ◌<◌, ◌≤◌, ◌^◌, Bool, true, false, ◌&&◌, ◌||◌, eqb, List, [], ◌∷◌, ◌++◌, length, slice_get, Some, Ok, Err, ◌-◌, refl, sym, ap, ◌∙◌, subst, arith, and_parts, and_left, and_right, and_from, or_cases, cond-true, cond-false, lt-leb, map_push, eqb-true, ne_eqb}
+use Rattle.proof_prelude.proofs.{◌≡◌, inl, inr, ℕ, suc, ◌<◌, ◌≤◌, ◌^◌, Bool, true, false, ◌&&◌, ◌||◌, eqb, List, [], ◌∷◌, ◌++◌, length, slice_get, Some, Ok, Err, ◌-◌, refl, sym, ap, ◌∙◌, subst, arith, and_parts, and_left, and_right, and_from, or_cases, cond-true, cond-false, lt-leb, map_push, eqb-true, ne_eqb}
 use Rattle.range_front.specs.{DoneRange, FrontWindow, end_from, end_of, appended, finished, finished_from, finish_answer, is_done, is_window, low_water, range_count, run_count, Rises, IsFront, Rising, has_window, IsBound, Apart, AtBounds, covers, joined, marked, front_of, IsKept, window_in, done_in, low_in, low_in-is, run_count-done, run_count-open, run_count-above, IsFront-appended, IsFront-finished, finish_answer-no_window, finish_answer-done, finish_answer-ok}
 use Rattle.range_front.specs.declared.fault.FrontFault.TheVariants as faults
 use Rattle.range_front.proofs.RisingEnds.{bound-first, bound-le, bound-next, bound-append, has-within}

@@ -1,5 +1,5 @@
 -- A window joined to the mark or put among the ranges: what is covered then, and that the ranges stay apart.
-use Rattle.proof_words.proofs.{◌≡◌, ◌⊎◌, inl, inr, ℕ, zero, suc, ◌<◌, ◌≤◌, Bool, true, false, cond, leb, eqb, List, [], ◌∷◌, ◌++◌, length, take, drop, set, get_or, slice_get, Some, add-one, ◌+◌, refl, sym, ap, ◌∙◌, arith, lt-leb, eqb-false, cond-true, cond-false, cond_both, cases_lt, both_ways, slice_get_within, slice_get_read, get_or_from_slice_get, le-leb, leb-true, leb-false, eqb-true, eq-eqb, ne_eqb, insert}
+use Rattle.proof_prelude.proofs.{◌≡◌, ◌⊎◌, inl, inr, ℕ, zero, suc, ◌<◌, ◌≤◌, Bool, true, false, cond, leb, eqb, List, [], ◌∷◌, ◌++◌, length, take, drop, set, get_or, slice_get, Some, add-one, ◌+◌, refl, sym, ap, ◌∙◌, arith, lt-leb, eqb-false, cond-true, cond-false, cond_both, cases_lt, both_ways, slice_get_within, slice_get_read, get_or_from_slice_get, le-leb, leb-true, leb-false, eqb-true, eq-eqb, ne_eqb, insert}
 use Rattle.range_front.specs.{DoneRange, Apart, AtBounds, IsBound, Rising, has_window, covers, absorbed, put_at, put_in, joined}
 use Rattle.range_front.proofs.RisingEnds.{bound-apart}
 use Rattle.range_front.proofs.Cover.{cover-low, cover-high, cover-under, EndBelow, end-below-next}

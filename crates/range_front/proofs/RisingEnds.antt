@@ -1,5 +1,5 @@
 -- The rising ends: the window that an end found by halving belongs to.
-use Rattle.proof_words.proofs.{◌≡◌, ◌⊎◌, inl, inr, ℕ, zero, suc, ◌<◌, ◌≤◌, ◌-◌, Bool, true, false, ◌&&◌, ◌||◌, eqb, List, [], ◌∷◌, ◌++◌, length, get_or, Result, Ok, Err, refl, ap, ◌∙◌, arith, and_right, and_parts, or_from, or_cases, cases_lt, searched, IsBinarySearchResult, nat_cmp, ne_eqb, eq-eqb, eqb-true}
+use Rattle.proof_prelude.proofs.{◌≡◌, ◌⊎◌, inl, inr, ℕ, zero, suc, ◌<◌, ◌≤◌, ◌-◌, Bool, true, false, ◌&&◌, ◌||◌, eqb, List, [], ◌∷◌, ◌++◌, length, get_or, Result, Ok, Err, refl, ap, ◌∙◌, arith, and_right, and_parts, or_from, or_cases, cases_lt, searched, IsBinarySearchResult, nat_cmp, ne_eqb, eq-eqb, eqb-true}
 use Rattle.range_front.specs.{Rising, has_window, IsBound}
 
 from-le : (from : ℕ) (es : List ℕ) (j : ℕ) → Rising from es → j < length es → from < get_or es j 0

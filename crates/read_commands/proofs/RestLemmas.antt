@@ -1,5 +1,5 @@
 -- What is left of an answer about databases that are there.
-use Rattle.proof_words.proofs.{◌≡◌, List, [], ℕ, ◌++◌, Option, Some, None, Result, Ok, Err, Bool, sym, ap, subst, ◌∙◌, IsErrAnd, if◌then◌else◌, IfOk, IfErr}
+use Rattle.proof_prelude.proofs.{◌≡◌, List, [], ℕ, ◌++◌, Option, Some, None, Result, Ok, Err, Bool, sym, ap, subst, ◌∙◌, IsErrAnd, if◌then◌else◌, IfOk, IfErr}
 use Rattle.repl_peer.specs.{PeerValue}
 use Rattle.script_engine.specs.{Answering, MayTell, gave_up, text_with}
 use Rattle.script_databases.specs.{State, peer_at, name_of, Refusal}

@@ -1,5 +1,5 @@
 -- The texts of entries, with commas between them.
-use Rattle.proof_words.proofs.{◌≡◌, ℕ, zero, suc, ◌+◌, nat_lt, Bool, true, false, List, [], ◌∷◌, ◌++◌, map, take, slice_get, Some, refl, sym, ap, ◌∙◌, append_assoc, arith, take_more, none-some, slice_get_within, get_or_from_slice_get, lt-ltb, append-nil}
+use Rattle.proof_prelude.proofs.{◌≡◌, ℕ, zero, suc, ◌+◌, nat_lt, Bool, true, false, List, [], ◌∷◌, ◌++◌, map, take, slice_get, Some, refl, sym, ap, ◌∙◌, append_assoc, arith, take_more, none-some, slice_get_within, get_or_from_slice_get, lt-ltb, append-nil}
 use Rattle.serde_json.specs.View.{items_of}
 use Rattle.serde_json.specs.Written.{compact_text, comma_if, items_text}
 use Rattle.repl_log.specs.{EntryValue, entry_json, listed}

@@ -1,5 +1,5 @@
 -- The table of logs by replication: what a put writes, and what a copy holds.
-use Rattle.proof_words.proofs.{◌≡◌, ℕ, zero, suc, ◌+◌, Bool, true, false, cond, List, [], ◌∷◌, ◌++◌, take, Option, Some, None, Ok, refl, sym, ap, ◌∙◌, IsDistinct, AllByRecursion, keys_of, lookup, set_value, both_ways, false_from_ne_true, take_more, same_Some, slice_get_within, get_or_from_slice_get, slice_get}
+use Rattle.proof_prelude.proofs.{◌≡◌, ℕ, zero, suc, ◌+◌, Bool, true, false, cond, List, [], ◌∷◌, ◌++◌, take, Option, Some, None, Ok, refl, sym, ap, ◌∙◌, IsDistinct, AllByRecursion, keys_of, lookup, set_value, both_ways, false_from_ne_true, take_more, same_Some, slice_get_within, get_or_from_slice_get, slice_get}
 use Rattle.indexmap.specs.IndexMap.{insert_entry}
 use Rattle.indexmap.proofs.MapLemmas.{insert_entry-absent}
 use Rattle.repl_log.specs.declared.replication.RepId.{RepId}

@@ -1,5 +1,5 @@
 -- What a log's text and those of its entries are made of, and how it grows piece by piece.
-use Rattle.proof_words.proofs.{◌≡◌, ℕ, false, List, [], ◌∷◌, ◌++◌, codes, decimal, refl, ap, ◌∙◌, append_assoc}
+use Rattle.proof_prelude.proofs.{◌≡◌, ℕ, false, List, [], ◌∷◌, ◌++◌, codes, decimal, refl, ap, ◌∙◌, append_assoc}
 use Rattle.json.specs.Print.{escape_byte, quoted}
 use Rattle.serde_json.specs.Data.{Items}
 use Rattle.serde_json.specs.Written.{compact_text, items_text}

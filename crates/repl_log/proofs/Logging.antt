@@ -1,5 +1,5 @@
 -- The table of a log's sessions, and the log that contracts see.
-use Rattle.proof_words.proofs.{◌≡◌, ◌<◌, ◌≤◌, nat_lt, false, List, ◌∷◌, ◌++◌, [], Option, Some, None, is_some, Ok, Err, refl, sym, ap, ◌∙◌, subst, option_map, lookup, set_value, cond-true, cond-false, le-ltb, lt-ltb}
+use Rattle.proof_prelude.proofs.{◌≡◌, ◌<◌, ◌≤◌, nat_lt, false, List, ◌∷◌, ◌++◌, [], Option, Some, None, is_some, Ok, Err, refl, sym, ap, ◌∙◌, subst, option_map, lookup, set_value, cond-true, cond-false, le-ltb, lt-ltb}
 use Rattle.indexmap.specs.IndexMap.{IndexMap, insert_entry}
 use Rattle.indexmap.proofs.CallerLemmas.{insert_entry-new}
 use Rattle.rev_tree.specs.{SessionId}

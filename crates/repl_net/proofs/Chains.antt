@@ -1,5 +1,5 @@
 -- Chains of hops by a hub.
-use Rattle.proof_words.proofs.{◌≡◌, ℕ, zero, suc, ◌+◌, ◌<◌, ◌≤◌, List, [], ◌∷◌, ◌++◌, length, take, get_or, refl, sym, ap, ◌∙◌, subst, inl, inr, arith, cases_lt, append_assoc}
+use Rattle.proof_prelude.proofs.{◌≡◌, ℕ, zero, suc, ◌+◌, ◌<◌, ◌≤◌, List, [], ◌∷◌, ◌++◌, length, take, get_or, refl, sym, ap, ◌∙◌, subst, inl, inr, arith, cases_lt, append_assoc}
 use Rattle.std.proofs.Math.Seq.{take-suc}
 use Rattle.couch_base.specs.{Id}
 use Rattle.repl_peer.specs.{PeerValue}

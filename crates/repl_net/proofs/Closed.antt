@@ -1,5 +1,5 @@
 -- A net stays closed: what its sessions and logs speak of was replicated between two of its peers.
-use Rattle.proof_words.proofs.{◌≡◌, ◌≢◌, ◌⊎◌, ℕ, zero, suc, Bool, List, [], ◌∷◌, ◌++◌, length, slice_get, Option, is_some, unwrap_or, Result, Ok, Err, refl, sym, ap, ◌∙◌, subst, inl, inr, false≢true}
+use Rattle.proof_prelude.proofs.{◌≡◌, ◌≢◌, ◌⊎◌, ℕ, zero, suc, Bool, List, [], ◌∷◌, ◌++◌, length, slice_get, Option, is_some, unwrap_or, Result, Ok, Err, refl, sym, ap, ◌∙◌, subst, inl, inr, false≢true}
 use Rattle.rev_core.specs.{RevId}
 use Rattle.doc_json.specs.Document.{Document}
 use Rattle.doc_json.specs.{Choice}

@@ -1,5 +1,5 @@
 -- The document that an edit puts is cut off nowhere but at what its peer has.
-use Rattle.proof_words.proofs.{◌≡◌, ◌⊎◌, ℕ, ◌^◌, Bool, true, false, cond, List, [], ◌∷◌, Option, Some, None, is_some, unwrap_or, Result, Ok, Err, refl, sym, ap, ◌∙◌, subst, inl, inr, nat_lt, is_ok, list_all, option_to_list, result_unwrap_or, get-empty, eq_by_cmp, false≢true, and_parts, or_cases, or_left, same_Some}
+use Rattle.proof_prelude.proofs.{◌≡◌, ◌⊎◌, ℕ, ◌^◌, Bool, true, false, cond, List, [], ◌∷◌, Option, Some, None, is_some, unwrap_or, Result, Ok, Err, refl, sym, ap, ◌∙◌, subst, inl, inr, nat_lt, is_ok, list_all, option_to_list, result_unwrap_or, get-empty, eq_by_cmp, false≢true, and_parts, or_cases, or_left, same_Some}
 use Rattle.std.specs.FinMap.{find}
 use Rattle.rev_core.specs.{RevId, rev_cmp, rev_tie_is, rev_tie_self, edges_of, is_among, ◌>>=◌, refused_if, named, next_generation, edit_sig, edit_rev}
 use Rattle.rev_tree.specs.{first_of, TreeValue, has, is_leaf, is_deleted, leaves, no_revisions, has-merged, is_among-leaves, IsRoot}

@@ -1,5 +1,5 @@
 -- What replications in a net leave: its peers stay tied, and documents spread along chains of them.
-use Rattle.proof_words.proofs.{◌≡◌, ◌≢◌, ◌⊎◌, ℕ, ◌==◌, true, List, [], ◌∷◌, length, refl, sym, ◌∙◌, subst, inl, inr, cases_Bool, eqb-false, and_parts, slice_get_within, eqb-true}
+use Rattle.proof_prelude.proofs.{◌≡◌, ◌≢◌, ◌⊎◌, ℕ, ◌==◌, true, List, [], ◌∷◌, length, refl, sym, ◌∙◌, subst, inl, inr, cases_Bool, eqb-false, and_parts, slice_get_within, eqb-true}
 use Rattle.rev_core.specs.{RevId}
 use Rattle.rev_tree.specs.{TreeValue, has, is_leaf, IsGrownBy-same, all_known, same_by_leaves, same_leaves}
 use Rattle.doc_json.specs.{Choice, is_chosen}

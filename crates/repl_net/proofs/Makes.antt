@@ -1,5 +1,5 @@
 -- What edits alone have made agrees, where no two of them have one MD5; and it stays made by them.
-use Rattle.proof_words.proofs.{◌≡◌, ℕ, Bool, true, false, List, [], ◌∷◌, ◌++◌, ◌⊎◌, length, Option, Some, None, is_some, Result, Ok, Err, refl, sym, ap, ◌∙◌, subst, inl, inr, bytes_eq, option_to_list, get, get-empty, eq_by_cmp, false≢true, cases_Bool, cond_both, same_Some, bytes_eq-Decides}
+use Rattle.proof_prelude.proofs.{◌≡◌, ℕ, Bool, true, false, List, [], ◌∷◌, ◌++◌, ◌⊎◌, length, Option, Some, None, is_some, Result, Ok, Err, refl, sym, ap, ◌∙◌, subst, inl, inr, bytes_eq, option_to_list, get, get-empty, eq_by_cmp, false≢true, cases_Bool, cond_both, same_Some, bytes_eq-Decides}
 use Rattle.rev_core.specs.{RevId, rev_cmp, rev_tie_is, edges_of, edit_rev}
 use Rattle.rev_tree.specs.{ContentValue, TreeValue, at_head, Agree, IsGrownBy}
 use Rattle.couch_base.specs.{Id, tree_of, content_of, edited, edit_document, BaseFault}

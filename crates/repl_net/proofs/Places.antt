@@ -1,5 +1,5 @@
 -- Two peers of a slice that was split between them.
-use Rattle.proof_words.proofs.{◌≡◌, ◌≢◌, ℕ, zero, suc, ◌+◌, ◌<◌, ◌≤◌, Bool, List, [], ◌∷◌, ◌++◌, length, take, drop, slice_get, slice_set, get_or, option_map, Option, Some, unwrap_or, Result, Ok, Err, OnOk, refl, sym, ap, ◌∙◌, subst, inl, inr, arith, cases_lt, slice_get-map, slice_get-get_or, slice_get_within, length-map}
+use Rattle.proof_prelude.proofs.{◌≡◌, ◌≢◌, ℕ, zero, suc, ◌+◌, ◌<◌, ◌≤◌, Bool, List, [], ◌∷◌, ◌++◌, length, take, drop, slice_get, slice_set, get_or, option_map, Option, Some, unwrap_or, Result, Ok, Err, OnOk, refl, sym, ap, ◌∙◌, subst, inl, inr, arith, cases_lt, slice_get-map, slice_get-get_or, slice_get_within, length-map}
 use Rattle.doc_json.specs.Document.{Document}
 use Rattle.repl_peer.specs.{PeerValue, Report, TargetFault}
 use Rattle.repl_target.specs.{CoversFeed, IsTiedPair, Replicates}

@@ -1,5 +1,5 @@
 -- Trees that each grow by what one of them has, or by what is written.
-use Rattle.proof_words.proofs.{◌≡◌, ◌⊎◌, true, List, Option, Some, sym, ap, ◌∙◌, inl, inr, option_map_or, option_or, get, empty, get-empty, or_cases}
+use Rattle.proof_prelude.proofs.{◌≡◌, ◌⊎◌, true, List, Option, Some, sym, ap, ◌∙◌, inl, inr, option_map_or, option_or, get, empty, get-empty, or_cases}
 use Rattle.std.specs.FinMap.{find}
 use Rattle.rev_core.specs.{RevId, rev_cmp, edges_of}
 use Rattle.rev_tree.specs.{ContentValue, TreeValue, has, joined, merged, at_head, no_revisions, some_or, both_none, get-joined, get-joined_known, has-merged, has-merged_given, Agree, IsWhole, IsRoot, IsGrownBy, Origin}

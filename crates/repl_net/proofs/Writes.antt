@@ -1,5 +1,5 @@
 -- What a write at one peer of a net leaves: its peers stay tied, and trees that agree go on doing so where it fits.
-use Rattle.proof_words.proofs.{◌≡◌, ◌≢◌, ◌⊎◌, ℕ, ◌==◌, Bool, true, false, cond, List, slice_get, Option, Some, unwrap_or, Result, Ok, Err, refl, sym, ap, ◌∙◌, subst, inl, inr, bytes_eq, cases_Bool, cond_both, eqb-false, bytes_eq-Decides, eqb-true}
+use Rattle.proof_prelude.proofs.{◌≡◌, ◌≢◌, ◌⊎◌, ℕ, ◌==◌, Bool, true, false, cond, List, slice_get, Option, Some, unwrap_or, Result, Ok, Err, refl, sym, ap, ◌∙◌, subst, inl, inr, bytes_eq, cases_Bool, cond_both, eqb-false, bytes_eq-Decides, eqb-true}
 use Rattle.rev_core.specs.{RevId}
 use Rattle.rev_tree.specs.{TreeValue, has, merged, no_revisions, Agree, IsWhole, IsRoot, IsGrownBy, IsGrownBy-same, Origin}
 use Rattle.rev_tree.specs.declared.origin.Origin.TheVariants.{Local}

@@ -1,5 +1,5 @@
 -- How many workers a crew has.
-use Rattle.proof_words.proofs.{◌≡◌, ℕ, ◌<◌, ◌≤◌, nat_le, min, sym, subst, arith, cond_both, min-le_right}
+use Rattle.proof_prelude.proofs.{◌≡◌, ℕ, ◌<◌, ◌≤◌, nat_le, min, sym, subst, arith, cond_both, min-le_right}
 use Rattle.repl_target.specs.{Plan}
 use Rattle.repl_pool.specs.{most_windows, crew_of}
 

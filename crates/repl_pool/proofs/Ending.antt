@@ -1,5 +1,5 @@
 -- The end of a run.
-use Rattle.proof_words.proofs.{◌≡◌, ℕ, ◌==◌, Bool, Some, Ok, refl, sym, ap, ◌∙◌, subst, arith, cond-true, eq-eqb, find}
+use Rattle.proof_prelude.proofs.{◌≡◌, ℕ, ◌==◌, Bool, Some, Ok, refl, sym, ap, ◌∙◌, subst, arith, cond-true, eq-eqb, find}
 use Rattle.rev_tree.specs.{SessionId}
 use Rattle.doc_json.specs.Document.{Document}
 use Rattle.doc_json.specs.{Choice}

@@ -1,5 +1,5 @@
 -- What an unfinished run tells is the low water of its session, which is recorded.
-use Rattle.proof_words.proofs.{◌≡◌, ℕ, ◌==◌, Bool, cond, Option, Some, None, Result, Ok, Err, is_ok, IfSome, refl, sym, ap, ◌∙◌, subst, cond_both, cond-false, false≢true}
+use Rattle.proof_prelude.proofs.{◌≡◌, ℕ, ◌==◌, Bool, cond, Option, Some, None, Result, Ok, Err, is_ok, IfSome, refl, sym, ap, ◌∙◌, subst, cond_both, cond-false, false≢true}
 use Rattle.rev_tree.specs.{SessionId}
 use Rattle.range_front.specs.{low_water}
 use Rattle.repl_peer.specs.{Report, TargetFault, PeerValue, SessionValue, session_in, with_session, found_answer, on_found, recorded_at, record_answer, after_record, report_of, conclude_in, conclude_answer, after_conclude}

@@ -1,5 +1,5 @@
 -- The seats of a new board, for who runs the pool on it.
-use Rattle.proof_words.proofs.{◌≡◌, ◌+◌, ◌++◌, List, [], ◌∷◌, length, slice_index_or, ap, ◌∙◌, subst, arith, length-append, get_or-append_seam, get_or_append_left}
+use Rattle.proof_prelude.proofs.{◌≡◌, ◌+◌, ◌++◌, List, [], ◌∷◌, length, slice_index_or, ap, ◌∙◌, subst, arith, length-append, get_or-append_seam, get_or_append_left}
 use Rattle.progress_board.specs.{AreNew, IsNew, Board, BoardSeat}
 
 -- ---- seats that are taken from the end

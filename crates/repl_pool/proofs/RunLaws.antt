@@ -1,5 +1,5 @@
 -- What a run says, from what came out of the lock.
-use Rattle.proof_words.proofs.{◌≡◌, ◌⊎◌, ℕ, ◌<◌, ◌≤◌, ◌==◌, Bool, true, false, cond, nat_lt, List, [], Option, Some, None, Result, Ok, Err, is_ok, IfOk, IfErr, IfSome, sum, refl, sym, ap, ◌∙◌, subst, inl, inr, arith, cond_both, false≢true, nat_tests, same_Some}
+use Rattle.proof_prelude.proofs.{◌≡◌, ◌⊎◌, ℕ, ◌<◌, ◌≤◌, ◌==◌, Bool, true, false, cond, nat_lt, List, [], Option, Some, None, Result, Ok, Err, is_ok, IfOk, IfErr, IfSome, sum, refl, sym, ap, ◌∙◌, subst, inl, inr, arith, cond_both, false≢true, nat_tests, same_Some}
 use Rattle.rev_tree.specs.{SessionId}
 use Rattle.doc_json.specs.Document.{Document}
 use Rattle.couch_base.specs.{DatabaseValue, LawfulDatabase}

@@ -1,5 +1,5 @@
 -- What a run has read is pages of the source, and closing it stores no window.
-use Rattle.proof_words.proofs.{◌≡◌, ℕ, Bool, true, false, List, [], ◌∷◌, map, length, Option, Some, None, Result, Ok, refl, sym, ap, ◌∙◌, subst, inl, inr, arith, false≢true, both_ways, eq-eqb}
+use Rattle.proof_prelude.proofs.{◌≡◌, ℕ, Bool, true, false, List, [], ◌∷◌, map, length, Option, Some, None, Result, Ok, refl, sym, ap, ◌∙◌, subst, inl, inr, arith, false≢true, both_ways, eq-eqb}
 use Rattle.rev_tree.specs.{SessionId}
 use Rattle.doc_json.specs.Document.{Document}
 use Rattle.couch_base.specs.{Among, any_from, DatabaseValue, LawfulDatabase, WindowValue}

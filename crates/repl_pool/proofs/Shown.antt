@@ -1,5 +1,5 @@
 -- What a run shows at its end, from what its writers' seats show.
-use Rattle.proof_words.proofs.{◌≡◌, ℕ, List, Option, None, Some, Result, Ok, Err, IfOk, IfSome, refl, sym, subst}
+use Rattle.proof_prelude.proofs.{◌≡◌, ℕ, List, Option, None, Some, Result, Ok, Err, IfOk, IfSome, refl, sym, subst}
 use Rattle.progress_board.specs.{Board, BoardSeat}
 use Rattle.repl_peer.specs.{Report}
 use Rattle.pool_workers.specs.{HaveRisenBy, HaveShown, Halt, PoolFault}

@@ -1,5 +1,5 @@
 -- What a run leaves, for two runs, one each way.
-use Rattle.proof_words.proofs.{ℕ, Bool, List, Result, ap, inl, inr}
+use Rattle.proof_prelude.proofs.{ℕ, Bool, List, Result, ap, inl, inr}
 use Rattle.doc_json.specs.Document.{Document}
 use Rattle.repl_peer.specs.{PeerValue, Report}
 use Rattle.repl_target.specs.{Plan, IsPut, Leaves}

@@ -1,5 +1,5 @@
 -- A content stands at each leaf, so that there is a document of it.
-use Rattle.proof_words.proofs.{◌≡◌, true, false, [], Option, Some, None, is_some, refl, sym, ap, ◌∙◌, option_map, option_map_or, get, and_parts, false≢true}
+use Rattle.proof_prelude.proofs.{◌≡◌, true, false, [], Option, Some, None, is_some, refl, sym, ap, ◌∙◌, option_map, option_map_or, get, and_parts, false≢true}
 use Rattle.rev_core.specs.{RevId}
 use Rattle.rev_tree.specs.{ContentValue, TreeValue, is_leaf, ancestors}
 use Rattle.doc_json.specs.Document.{Document}

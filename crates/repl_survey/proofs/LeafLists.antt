@@ -1,5 +1,5 @@
 -- Leaves of a tree are in it.
-use Rattle.proof_words.proofs.{◌≡◌, true, not, sym, ◌∙◌, list_all, and_parts}
+use Rattle.proof_prelude.proofs.{◌≡◌, true, not, sym, ◌∙◌, list_all, and_parts}
 use Rattle.rev_tree.specs.{TreeValue, has, is_leaf, leaves, missing, any_filter, is_among-leaves}
 use Rattle.couch_base.specs.{all_members}
 

@@ -1,5 +1,5 @@
 -- The documents of all leaves make the same trees again.
-use Rattle.proof_words.proofs.{◌≡◌, ◌+◌, ◌||◌, nat_lt, true, false, List, [], ◌∷◌, ◌++◌, map, Option, Some, None, Result, Ok, Err, unwrap_or, refl, sym, ap, ◌∙◌, subst, inl, inr, Bool, ℕ, zero, suc, ◌<◌, ◌≤◌, cond, length, arith, AllByRecursion, list_any, IsOk, bytes_eq, cond_both, false≢true, or_cases, bytes_eq-Decides, option_map_or, option_or, eq_by_cmp, get, flat_map, lt-ltb}
+use Rattle.proof_prelude.proofs.{◌≡◌, ◌+◌, ◌||◌, nat_lt, true, false, List, [], ◌∷◌, ◌++◌, map, Option, Some, None, Result, Ok, Err, unwrap_or, refl, sym, ap, ◌∙◌, subst, inl, inr, Bool, ℕ, zero, suc, ◌<◌, ◌≤◌, cond, length, arith, AllByRecursion, list_any, IsOk, bytes_eq, cond_both, false≢true, or_cases, bytes_eq-Decides, option_map_or, option_or, eq_by_cmp, get, flat_map, lt-ltb}
 use Rattle.couch_base.specs.{none_some, some_is, Among, Among-left, Among-mapped, Id, DatabaseValue, LawfulDatabase, most, tree_in, tree_of, with_tree, RowValue, chosen_feed, leaf_document, put_answer, put_told, is_changed, after_put, content_of, IsLater-after_put, tree_in-with_tree, BaseFault}
 use Rattle.rev_core.specs.{rev_tie_self, RevId, rev_cmp, is_among, edges_of}
 use Rattle.rev_tree.specs.{TreeValue, has, is_leaf, is_same, leaves, ancestors, merged, no_revisions, answer_of, walk, contradiction_at, first_contradiction, is_among-leaves, ancestors_self, same_leaves, IsPart, nothing_is_part, given, part_merged, whole_part, Contradiction, Origin}

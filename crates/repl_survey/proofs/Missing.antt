@@ -1,5 +1,5 @@
 -- What is missing, and what is covered.
-use Rattle.proof_words.proofs.{◌≡◌, ℕ, ◌+◌, not, ◌||◌, List, [], ◌∷◌, length, refl, sym, ap, ◌∙◌, subst, inl, inr, arith, list_any, or_cases, false≢true, cases_Bool, nil_from_length, sum_by-cons, sum_by}
+use Rattle.proof_prelude.proofs.{◌≡◌, ℕ, ◌+◌, not, ◌||◌, List, [], ◌∷◌, length, refl, sym, ap, ◌∙◌, subst, inl, inr, arith, list_any, or_cases, false≢true, cases_Bool, nil_from_length, sum_by-cons, sum_by}
 use Rattle.rev_core.specs.{RevId}
 use Rattle.rev_tree.specs.{has, leaves, missing}
 use Rattle.doc_json.specs.{Choice}

@@ -1,5 +1,5 @@
 -- Runs of steps, and what a tied world may be trusted for.
-use Rattle.proof_words.proofs.{◌≡◌, ℕ, suc, ◌+◌, ◌<◌, ◌≤◌, ◌==◌, List, [], ◌∷◌, ◌++◌, Bool, Option, Some, None, Result, Ok, Err, OnOk, OnErr, IfSome, take, get_or, length, slice_get, take_all, refl, sym, ap, ◌∙◌, subst, inl, inr, arith, cond-true, slice_get-get_or, same_Some, eq-eqb}
+use Rattle.proof_prelude.proofs.{◌≡◌, ℕ, suc, ◌+◌, ◌<◌, ◌≤◌, ◌==◌, List, [], ◌∷◌, ◌++◌, Bool, Option, Some, None, Result, Ok, Err, OnOk, OnErr, IfSome, take, get_or, length, slice_get, take_all, refl, sym, ap, ◌∙◌, subst, inl, inr, arith, cond-true, slice_get-get_or, same_Some, eq-eqb}
 use Rattle.std.proofs.Math.Seq.{take-suc}
 use Rattle.rev_tree.specs.{SessionId}
 use Rattle.doc_json.specs.Document.{Document}

@@ -1,5 +1,5 @@
 -- What is made of texts that are answers, or lines, by their grammar.
-use Rattle.proof_words.proofs.{◌≡◌, ℕ, List, [], ◌∷◌, ◌++◌, Bool, true, false, cond, refl, sym, ap, subst, ◌∙◌, append_assoc, append-nil, inl, inr, Result, Ok, Err, Option, Some, IfOk, IfErr, Appends}
+use Rattle.proof_prelude.proofs.{◌≡◌, ℕ, List, [], ◌∷◌, ◌++◌, Bool, true, false, cond, refl, sym, ap, subst, ◌∙◌, append_assoc, append-nil, inl, inr, Result, Ok, Err, Option, Some, IfOk, IfErr, Appends}
 use Rattle.script_engine.specs.{Gives}
 use Rattle.response_parser.specs.{wants_documents, is_strict, start, step, is_refused, after, pieces, Piece, end_of, has_rest, last_end, whole, IsAnswered, IsChangeScript, Place, Refusal}
 use Rattle.response_parser.specs.State.{State}

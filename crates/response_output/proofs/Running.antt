@@ -1,5 +1,5 @@
 -- Answers as far as they were read, and what is written of them.
-use Rattle.proof_words.proofs.{◌≡◌, ℕ, List, [], ◌∷◌, ◌++◌, true, false, Option, Result, Ok, Err, IfOk, IfErr, refl, sym, ap, subst, ◌∙◌, append_assoc, append-nil, inl, inr, take, drop, take-append-drop, unwrap_or, Appends, Consumes, Keeps, IsAtEnd, Appends-nil, Appends-trans, Consumes-nil, Consumes-trans, Consumes-kept, Keeps-refl}
+use Rattle.proof_prelude.proofs.{◌≡◌, ℕ, List, [], ◌∷◌, ◌++◌, true, false, Option, Result, Ok, Err, IfOk, IfErr, refl, sym, ap, subst, ◌∙◌, append_assoc, append-nil, inl, inr, take, drop, take-append-drop, unwrap_or, Appends, Consumes, Keeps, IsAtEnd, Appends-nil, Appends-trans, Consumes-nil, Consumes-trans, Consumes-kept, Keeps-refl}
 use Rattle.script_engine.specs.{ScriptFault}
 use Rattle.script_engine.specs.declared.fault.ScriptFault.TheVariants.{Write}
 use Rattle.script_engine.proofs.{Gives-left, Gives-end}

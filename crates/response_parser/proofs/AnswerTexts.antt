@@ -1,5 +1,5 @@
 -- Answers of CouchDB's forms are read as the documents that they hold.
-use Rattle.proof_words.proofs.{◌≡◌, ℕ, ◌+◌, ◌<◌, ◌==◌, ◌&&◌, nat_lt, List, [], ◌∷◌, ◌++◌, Bool, true, false, cond, refl, sym, ap, subst, ◌∙◌, append-nil, arith, inr}
+use Rattle.proof_prelude.proofs.{◌≡◌, ℕ, ◌+◌, ◌<◌, ◌==◌, ◌&&◌, nat_lt, List, [], ◌∷◌, ◌++◌, Bool, true, false, cond, refl, sym, ap, subst, ◌∙◌, append-nil, arith, inr}
 use Rattle.doc_envelope.specs.{Spaces}
 use Rattle.response_parser.specs.{wants_documents, is_strict, start, is_plain, after, pieces, Piece, IsValue, IsNamed, Holds, document, IsObject, no_members, with_members, itself, IsMembers, last_value, value, last_list, IsList, no_items, with_items, IsItems, last_item, item, AreAnswers, no_more, of_object, of_list, IsAnswered, object_first, list_first, Place, Name}
 use Rattle.response_parser.specs.State.{State}

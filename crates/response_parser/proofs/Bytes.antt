@@ -1,5 +1,5 @@
 -- Single bytes of answers, from a place on, where documents are wanted.
-use Rattle.proof_words.proofs.{◌≡◌, ℕ, ◌+◌, ◌-◌, ◌==◌, ◌&&◌, nat_lt, length, List, [], ◌∷◌, ◌++◌, Bool, true, false, cond, refl, sym, subst, arith, Some, and_right}
+use Rattle.proof_prelude.proofs.{◌≡◌, ℕ, ◌+◌, ◌-◌, ◌==◌, ◌&&◌, nat_lt, length, List, [], ◌∷◌, ◌++◌, Bool, true, false, cond, refl, sym, subst, arith, Some, and_right}
 use Rattle.doc_envelope.specs.{is_space, is_json, IsPlain, is_log}
 use Rattle.response_parser.specs.{wants_documents, wants_leaves, wants_changes, is_strict, covered, name_of, is_plain, step, given, Piece, Holds, document, no_object, of_passed, of_last, of_other, Place, Name}
 use Rattle.response_parser.specs.State.{State}

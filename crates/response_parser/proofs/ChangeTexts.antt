@@ -1,5 +1,5 @@
 -- A script's answers are read as the changes among them.
-use Rattle.proof_words.proofs.{◌≡◌, ℕ, ◌||◌, ◌==◌, List, [], ◌∷◌, ◌++◌, true, false, inl, inr, refl, sym, ap, subst, ◌∙◌, append_assoc, append-nil, codes, list_all, bytes_eq, and_parts, not-true, or_right}
+use Rattle.proof_prelude.proofs.{◌≡◌, ℕ, ◌||◌, ◌==◌, List, [], ◌∷◌, ◌++◌, true, false, inl, inr, refl, sym, ap, subst, ◌∙◌, append_assoc, append-nil, codes, list_all, bytes_eq, and_parts, not-true, or_right}
 use Rattle.doc_envelope.specs.{is_space, is_json, EndsString, ends, plain, escaped}
 use Rattle.response_parser.specs.State.{State}
 use Rattle.response_parser.specs.{start, is_lower, is_digit, is_rev_byte, step, after, given, pieces, Piece, AreRevs, last_rev, rev, is_word_byte, AreChanges, none, empty, change, object, word, words, LinePlace}

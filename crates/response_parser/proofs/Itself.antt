@@ -1,5 +1,5 @@
 -- An object whose first member is `_id` is read as a document.
-use Rattle.proof_words.proofs.{◌≡◌, ℕ, ◌+◌, ◌==◌, ◌&&◌, nat_lt, List, [], ◌∷◌, ◌++◌, Bool, true, false, codes, refl, sym, ap, ◌∙◌, append_assoc, inl, and_right, is_utf8-from_IsUtf8}
+use Rattle.proof_prelude.proofs.{◌≡◌, ℕ, ◌+◌, ◌==◌, ◌&&◌, nat_lt, List, [], ◌∷◌, ◌++◌, Bool, true, false, codes, refl, sym, ap, ◌∙◌, append_assoc, inl, and_right, is_utf8-from_IsUtf8}
 use Rattle.json.proofs.Printed.Utf8.{IsUtf8-are_ascii}
 use Rattle.json.proofs.OnLiterals.{json_on_literals}
 use Rattle.doc_envelope.specs.{is_json, is_log}

@@ -1,5 +1,5 @@
 -- A script's answers are read as the documents among them.
-use Rattle.proof_words.proofs.{◌≡◌, ℕ, ◌&&◌, ◌==◌, length, List, [], ◌∷◌, ◌++◌, Bool, true, false, not, cond, refl, sym, ap, subst, ◌∙◌, arith, ◌⊎◌, inl, inr, Ok, list_all, false≢true, or_right}
+use Rattle.proof_prelude.proofs.{◌≡◌, ℕ, ◌&&◌, ◌==◌, length, List, [], ◌∷◌, ◌++◌, Bool, true, false, not, cond, refl, sym, ap, subst, ◌∙◌, arith, ◌⊎◌, inl, inr, Ok, list_all, false≢true, or_right}
 use Rattle.doc_envelope.specs.{is_space}
 use Rattle.response_parser.specs.{wants_documents, is_strict, start, begins_sign, is_lower, step, after, given, pieces, Piece, has_rest, end_of, Place, LinePlace}
 use Rattle.response_parser.specs.State.{State}

@@ -1,5 +1,5 @@
 -- Bytes read one after another.
-use Rattle.proof_words.proofs.{◌≡◌, ℕ, ◌+◌, ◌<◌, List, [], ◌∷◌, ◌++◌, take, get_or, length, Bool, false, ◌||◌, refl, sym, ap, ◌∙◌, append_assoc, append-nil, take_more}
+use Rattle.proof_prelude.proofs.{◌≡◌, ℕ, ◌+◌, ◌<◌, List, [], ◌∷◌, ◌++◌, take, get_or, length, Bool, false, ◌||◌, refl, sym, ap, ◌∙◌, append_assoc, append-nil, take_more}
 use Rattle.response_parser.specs.State.{State}
 use Rattle.response_parser.specs.{step, is_refused, after, given, pieces, piece_of, is_piece, stops, Found}
 use Rattle.response_parser.specs.declared.place.Found.TheVariants.{Nothing}

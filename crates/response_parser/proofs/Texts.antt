@@ -1,5 +1,5 @@
 -- Texts from a place on: names, values and white space.
-use Rattle.proof_words.proofs.{◌≡◌, ℕ, suc, ◌+◌, ◌<◌, ◌==◌, ◌&&◌, nat_lt, length, slice_index, List, [], ◌∷◌, ◌++◌, Bool, true, false, refl, sym, ap, subst, ◌∙◌, append_assoc, append-nil, arith, ◌⊎◌, inl, inr, list_all, and_parts}
+use Rattle.proof_prelude.proofs.{◌≡◌, ℕ, suc, ◌+◌, ◌<◌, ◌==◌, ◌&&◌, nat_lt, length, slice_index, List, [], ◌∷◌, ◌++◌, Bool, true, false, refl, sym, ap, subst, ◌∙◌, append_assoc, append-nil, arith, ◌⊎◌, inl, inr, list_all, and_parts}
 use Rattle.doc_envelope.specs.{Spaces, EndsString, ends, plain, escaped, Closed, nothing, space, other, string, object, list, is_space, is_json}
 use Rattle.response_parser.specs.{wants_documents, name_of, is_plain, step, after, given, pieces, Piece, IsNamed, Place, Name}
 use Rattle.response_parser.specs.State.{State}

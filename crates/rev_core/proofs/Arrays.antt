@@ -1,5 +1,5 @@
 -- Signatures are ordered as they are stored.
-use Rattle.proof_words.proofs.{◌≡◌, ℕ, zero, suc, List, [], ◌∷◌, take, get_or, refl, sym, arith, false≢true, nat_cmp, ordering_then, slice_cmp, nat_cmp-IsAntisymmetric, Ordering, Less, Equal, Greater}
+use Rattle.proof_prelude.proofs.{◌≡◌, ℕ, zero, suc, List, [], ◌∷◌, take, get_or, refl, sym, arith, false≢true, nat_cmp, ordering_then, slice_cmp, nat_cmp-IsAntisymmetric, Ordering, Less, Equal, Greater}
 use Rattle.rev_core.specs.{IsStored}
 
 then_first : (o p : Ordering) → (o ≡ Equal → ⊥) → ordering_then o p ≡ o

@@ -1,5 +1,5 @@
 -- Numbers grow with each digit.
-use Rattle.proof_words.proofs.{◌≡◌, ℕ, ◌≤◌, ◌^◌, Bool, true, false, ◌&&◌, cond, List, [], ◌∷◌, Some, None, Result, Ok, Err, is_ok, fold, get_or, nat_le, sym, ap, ◌∙◌, refl, arith, list_all, result_unwrap_or, cond-false, false≢true, le-ltb}
+use Rattle.proof_prelude.proofs.{◌≡◌, ℕ, ◌≤◌, ◌^◌, Bool, true, false, ◌&&◌, cond, List, [], ◌∷◌, Some, None, Result, Ok, Err, is_ok, fold, get_or, nat_le, sym, ap, ◌∙◌, refl, arith, list_all, result_unwrap_or, cond-false, false≢true, le-ltb}
 use Rattle.rev_core.specs.{is_sig, sig_read, RevId, RevFault, with_digit, value_of, is_digit, generation_read, with_sig}
 use Rattle.rev_core.specs.declared.fault.RevFault.TheVariants as faults
 

@@ -1,5 +1,5 @@
 -- The digits of a digest are a signature, and a short one.
-use Rattle.proof_words.proofs.{list_all, ◌≡◌, ℕ, zero, suc, ◌/◌, ◌%◌, ◌<◌, ◌≤◌, Bool, true, ◌&&◌, List, [], ◌∷◌, length, slice_index, refl, subst, inl, inr, arith, ◌∙◌, and_parts, and_from, cases_lt, cond-true, le-leb, eq-eqb}
+use Rattle.proof_prelude.proofs.{list_all, ◌≡◌, ℕ, zero, suc, ◌/◌, ◌%◌, ◌<◌, ◌≤◌, Bool, true, ◌&&◌, List, [], ◌∷◌, length, slice_index, refl, subst, inl, inr, arith, ◌∙◌, and_parts, and_from, cases_lt, cond-true, le-leb, eq-eqb}
 use Rattle.hex.specs.Hex.{encode_with, encode_lower, lower_digits}
 use Rattle.hex.proofs.HexLemmas.{length-encode_with}
 use Rattle.rev_core.specs.{is_sig, is_sig_byte, is_hex_digit, is_short}

@@ -1,5 +1,5 @@
 -- A signature in an array, with zeros behind it.
-use Rattle.proof_words.proofs.{nat_le, list_all, ◌≡◌, ℕ, ◌+◌, ◌-◌, ◌≤◌, List, length, take, true, ap, sym, arith, ◌∙◌, refl, subst, length-replicate, and_parts, take_at, length-append, leb-true}
+use Rattle.proof_prelude.proofs.{nat_le, list_all, ◌≡◌, ℕ, ◌+◌, ◌-◌, ◌≤◌, List, length, take, true, ap, sym, arith, ◌∙◌, refl, subst, length-replicate, and_parts, take_at, length-append, leb-true}
 use Rattle.rev_core.specs.{is_sig, is_sig_byte, IsStored, padded}
 
 pub padded-front : (text : List ℕ) → take (length text) (padded text) ≡ text

@@ -1,5 +1,5 @@
 -- The signature of a local edit is short.
-use Rattle.proof_words.proofs.{◌≡◌, ℕ, zero, suc, ◌-◌, ◌^◌, ◌<◌, Bool, true, false, List, length, get_or, slice_index, cond, Ok, Err, Option, ap, sym, subst, arith, inl, inr, is_ok, nat_lt, to_le_bytes, result_unwrap_or, false≢true, cases_lt, get_or_append_left, get_or-append_right}
+use Rattle.proof_prelude.proofs.{◌≡◌, ℕ, zero, suc, ◌-◌, ◌^◌, ◌<◌, Bool, true, false, List, length, get_or, slice_index, cond, Ok, Err, Option, ap, sym, subst, arith, inl, inr, is_ok, nat_lt, to_le_bytes, result_unwrap_or, false≢true, cases_lt, get_or_append_left, get_or-append_right}
 use Rattle.std.specs.Int.{w32}
 use Rattle.md5.specs.Md5.{md5, digest_bytes}
 use Rattle.md5.proofs.StandardFacts.{length-md5}

@@ -1,5 +1,5 @@
 -- Digits of bytes, and bytes of digits.
-use Rattle.proof_words.proofs.{◌≡◌, ℕ, zero, suc, Bool, true, false, ◌&&◌, ◌+◌, ◌-◌, ◌*◌, ◌/◌, ◌%◌, ◌<◌, ◌≤◌, List, [], ◌∷◌, ◌++◌, length, take, drop, map, get_or, slice_set, refl, sym, ap, subst, ◌∙◌, arith, get_or-map, get_or_append_left, length-map, drop_all, drop_more, map-append, take_more, take_more_set, and_parts, cond-false, false≢true, eqb-suc-zero, list_all-append, le_bytes_8, list_all, from_le_bytes, to_le_bytes, get_or-append-add, get_or-drop, length-append, length-drop, length-set, take_all, take-append-drop, take-take}
+use Rattle.proof_prelude.proofs.{◌≡◌, ℕ, zero, suc, Bool, true, false, ◌&&◌, ◌+◌, ◌-◌, ◌*◌, ◌/◌, ◌%◌, ◌<◌, ◌≤◌, List, [], ◌∷◌, ◌++◌, length, take, drop, map, get_or, slice_set, refl, sym, ap, subst, ◌∙◌, arith, get_or-map, get_or_append_left, length-map, drop_all, drop_more, map-append, take_more, take_more_set, and_parts, cond-false, false≢true, eqb-suc-zero, list_all-append, le_bytes_8, list_all, from_le_bytes, to_le_bytes, get_or-append-add, get_or-drop, length-append, length-drop, length-set, take_all, take-append-drop, take-take}
 use Rattle.std.specs.Int.{w64}
 use Rattle.rev_core.specs.{is_sig, padded, bytes_in, digit_of, digits_of, is_hex_digit, text_in}
 use Rattle.rev_core.proofs.Pad.{padded-front}

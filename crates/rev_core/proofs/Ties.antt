@@ -1,5 +1,5 @@
 -- Tests of revisions, one after another.
-use Rattle.proof_words.proofs.{◌≡◌, ℕ, ◌+◌, ◌-◌, ◌<◌, ◌≤◌, true, false, cond, Some, ◌||◌, List, [], ◌∷◌, length, get_or, drop, ap, sym, ◌∙◌, refl, arith, cond-true, cond-false, get_or_default, list_any, eq_by_cmp, eq_by_cmp_equiv}
+use Rattle.proof_prelude.proofs.{◌≡◌, ℕ, ◌+◌, ◌-◌, ◌<◌, ◌≤◌, true, false, cond, Some, ◌||◌, List, [], ◌∷◌, length, get_or, drop, ap, sym, ◌∙◌, refl, arith, cond-true, cond-false, get_or_default, list_any, eq_by_cmp, eq_by_cmp_equiv}
 use Rattle.std.specs.FinMap.{find}
 use Rattle.rev_core.specs.{RevId, rev_cmp, rev_cmp_total, edges_of, edges_at}
 

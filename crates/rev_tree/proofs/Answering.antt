@@ -1,5 +1,5 @@
 -- What a merge answers, from the edges and the content of the head.
-use Rattle.proof_words.proofs.{◌≡◌, ◌&&◌, List, [], ◌∷◌, Option, Some, None, Bool, true, false, is_some, Result, Ok, Err, sym, ap, ◌∙◌, subst, refl, false≢true, and_parts, and_from, and-false, list_all, get, same_Some}
+use Rattle.proof_prelude.proofs.{◌≡◌, ◌&&◌, List, [], ◌∷◌, Option, Some, None, Bool, true, false, is_some, Result, Ok, Err, sym, ap, ◌∙◌, subst, refl, false≢true, and_parts, and_from, and-false, list_all, get, same_Some}
 use Rattle.std.specs.Cmp.{both_ways}
 use Rattle.rev_core.specs.{RevId, edges_of, head_of}
 use Rattle.rev_tree.specs.{TreeValue, IsTree, has, has_edge, contradiction_at, first_contradiction, is_same, at_head, answer_of, merge_answer, merged, ContentValue, both_none, agrees, same_from_merged, Merged, Contradiction, Origin}

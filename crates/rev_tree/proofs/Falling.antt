@@ -1,5 +1,5 @@
 -- Revisions of which each is one generation below the one before it: where each of them stands.
-use Rattle.proof_words.proofs.{◌≡◌, ℕ, zero, suc, ◌+◌, ◌-◌, ◌<◌, ◌≤◌, ◌&&◌, List, [], ◌∷◌, length, take, drop, get_or, Some, None, true, false, slice_get, sym, ap, ◌∙◌, refl, arith, and_parts, false≢true, slice_get-get_or, same_Some, eq_by_cmp, drop_more, nat_eq, take-map, eqb-true, length-drop}
+use Rattle.proof_prelude.proofs.{◌≡◌, ℕ, zero, suc, ◌+◌, ◌-◌, ◌<◌, ◌≤◌, ◌&&◌, List, [], ◌∷◌, length, take, drop, get_or, Some, None, true, false, slice_get, sym, ap, ◌∙◌, refl, arith, and_parts, false≢true, slice_get-get_or, same_Some, eq_by_cmp, drop_more, nat_eq, take-map, eqb-true, length-drop}
 use Rattle.rev_core.specs.{RevId, rev_cmp, rev_tie_self}
 use Rattle.rev_tree.specs.{falls, noted_from, place_of, revs_in, NodeValue}
 use Rattle.rev_tree.proofs.Places.{place_known, read_at, rev_at_place}

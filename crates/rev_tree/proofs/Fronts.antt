@@ -1,5 +1,5 @@
 -- Bytes of texts as numbers, which stand to one another as the bytes do.
-use Rattle.proof_words.proofs.{◌≡◌, ℕ, zero, suc, ◌+◌, ◌*◌, ◌^◌, ◌<◌, ◌≤◌, ◌++◌, ◌∷◌, [], List, Bool, true, false, not, ◌&&◌, length, length-drop, get_or, take, drop, replicate, sym, ap, ◌∙◌, refl, arith, and_parts, false≢true, beq, list_all, from_be_bytes, nat_cmp, bool_cmp, ordering_then, ordering_reverse, MatchOrdering, ranks, nat_cmp_total, bool_cmp_total, slice_cmp, pointwise, bytes_decides, nat_eq, drop_more, nat_tests, eqb-true, eq-eqb, Ordering, Less, Equal, Greater, drop-drop, take-append-drop, take_all}
+use Rattle.proof_prelude.proofs.{◌≡◌, ℕ, zero, suc, ◌+◌, ◌*◌, ◌^◌, ◌<◌, ◌≤◌, ◌++◌, ◌∷◌, [], List, Bool, true, false, not, ◌&&◌, length, length-drop, get_or, take, drop, replicate, sym, ap, ◌∙◌, refl, arith, and_parts, false≢true, beq, list_all, from_be_bytes, nat_cmp, bool_cmp, ordering_then, ordering_reverse, MatchOrdering, ranks, nat_cmp_total, bool_cmp_total, slice_cmp, pointwise, bytes_decides, nat_eq, drop_more, nat_tests, eqb-true, eq-eqb, Ordering, Less, Equal, Greater, drop-drop, take-append-drop, take_all}
 use Rattle.std.proofs.Math.Nat.{mul-le-mul_right, pow-suc}
 use Rattle.std.specs.Int.{w64}
 use Rattle.std.specs.Cmp.{tied_itself, both_ways}

@@ -1,5 +1,5 @@
 -- The index of the nodes: walked while they are few, and noted by marks from there on.
-use Rattle.proof_words.proofs.{◌≡◌, ℕ, suc, ◌+◌, ◌<◌, ◌≤◌, ◌&&◌, ◌||◌, List, [], ◌∷◌, ◌++◌, length, take, drop, get_or, Option, Some, None, Bool, true, false, not, cond, is_some, inl, inr, sym, ap, ◌∙◌, subst, refl, arith, length-append, length-take, false≢true, and-false, drop_more, drop_all, nat_eq, nat_lt, eq_by_cmp, option_or, lookup, same_Some, lt-ltb, ltb-true, eq-eqb, eqb-true}
+use Rattle.proof_prelude.proofs.{◌≡◌, ℕ, suc, ◌+◌, ◌<◌, ◌≤◌, ◌&&◌, ◌||◌, List, [], ◌∷◌, ◌++◌, length, take, drop, get_or, Option, Some, None, Bool, true, false, not, cond, is_some, inl, inr, sym, ap, ◌∙◌, subst, refl, arith, length-append, length-take, false≢true, and-false, drop_more, drop_all, nat_eq, nat_lt, eq_by_cmp, option_or, lookup, same_Some, lt-ltb, ltb-true, eq-eqb, eqb-true}
 use Rattle.std.specs.FinMap.{find}
 use Rattle.rev_core.specs.{RevId, rev_cmp, rev_tie_is, is_among}
 use Rattle.rev_tree.specs.{some_or, falls, index_for, mark_of, noted, noted_from, revs_in, places_from, NodeValue, MOST_WALKED}

@@ -1,5 +1,5 @@
 -- Nodes that are added, filled and linked.
-use Rattle.proof_words.proofs.{length-map, ◌≡◌, ℕ, zero, suc, ◌<◌, ◌⊎◌, List, [], ◌∷◌, ◌++◌, length, set, slice_get, Option, Some, None, Bool, true, false, ◌||◌, ◌&&◌, cond, is_some, IfSome, sym, ap, ◌∙◌, subst, refl, inl, inr, arith, length-append, length-set, false≢true, or_right, or_cases, eq_by_cmp, option_or, get, from_entries, same_Some}
+use Rattle.proof_prelude.proofs.{length-map, ◌≡◌, ℕ, zero, suc, ◌<◌, ◌⊎◌, List, [], ◌∷◌, ◌++◌, length, set, slice_get, Option, Some, None, Bool, true, false, ◌||◌, ◌&&◌, cond, is_some, IfSome, sym, ap, ◌∙◌, subst, refl, inl, inr, arith, length-append, length-set, false≢true, or_right, or_cases, eq_by_cmp, option_or, get, from_entries, same_Some}
 use Rattle.std.specs.FinMap.{find}
 use Rattle.std.specs.Cmp.{both_ways}
 use Rattle.rev_core.specs.{RevId, rev_cmp, rev_tie_is, rev_tie_self, is_among}

@@ -1,5 +1,5 @@
 -- Nodes by their places and by their revisions.
-use Rattle.proof_words.proofs.{◌≡◌, ℕ, zero, suc, ◌+◌, ◌<◌, List, [], ◌∷◌, ◌++◌, map, length, get_or, Option, Some, None, true, false, ◌||◌, cond, is_some, IfSome, slice_get, sym, ap, ◌∙◌, subst, refl, arith, false≢true, or_right, or_parts, or_from, slice_get-map, slice_get_within, slice_get_read, same_Some, map-append, eq_by_cmp, option_map, option_or, eq_by_cmp_equiv}
+use Rattle.proof_prelude.proofs.{◌≡◌, ℕ, zero, suc, ◌+◌, ◌<◌, List, [], ◌∷◌, ◌++◌, map, length, get_or, Option, Some, None, true, false, ◌||◌, cond, is_some, IfSome, slice_get, sym, ap, ◌∙◌, subst, refl, arith, false≢true, or_right, or_parts, or_from, slice_get-map, slice_get_within, slice_get_read, same_Some, map-append, eq_by_cmp, option_map, option_or, eq_by_cmp_equiv}
 use Rattle.std.specs.FinMap.{find}
 use Rattle.rev_core.specs.{RevId, rev_cmp, rev_cmp_total, rev_tie_is, rev_tie_self, is_among}
 use Rattle.rev_tree.specs.{find-joined, revs_in, node_of, place_of, places_from, Distinct, NodeValue}

@@ -1,5 +1,5 @@
 -- How many revisions have no node yet: there is to be room for them.
-use Rattle.proof_words.proofs.{◌≡◌, ℕ, zero, suc, ◌+◌, ◌<◌, ◌≤◌, List, [], ◌∷◌, length, take, get_or, Some, None, true, false, ◌||◌, cond, is_some, slice_get, sym, ap, ◌∙◌, refl, arith, false≢true, same_Some, eq_by_cmp}
+use Rattle.proof_prelude.proofs.{◌≡◌, ℕ, zero, suc, ◌+◌, ◌<◌, ◌≤◌, List, [], ◌∷◌, length, take, get_or, Some, None, true, false, ◌||◌, cond, is_some, slice_get, sym, ap, ◌∙◌, refl, arith, false≢true, same_Some, eq_by_cmp}
 use Rattle.rev_core.specs.{RevId, rev_cmp, is_among}
 use Rattle.rev_tree.specs.{NodeValue, count_new, place_of, revs_in, unless_among}
 use Rattle.rev_tree.proofs.Places.{is_some-node_of, place_none}

@@ -1,5 +1,5 @@
 -- One step of a walk from a node to its parent.
-use Rattle.proof_words.proofs.{◌≡◌, ℕ, zero, suc, ◌<◌, List, [], ◌∷◌, length, slice_get, Some, None, true, IfSome, sym, ap, ◌∙◌, subst, refl, arith, option_map_or, FinMap, get}
+use Rattle.proof_prelude.proofs.{◌≡◌, ℕ, zero, suc, ◌<◌, List, [], ◌∷◌, length, slice_get, Some, None, true, IfSome, sym, ap, ◌∙◌, subst, refl, arith, option_map_or, FinMap, get}
 use Rattle.rev_core.specs.{RevId, rev_cmp}
 use Rattle.rev_tree.specs.{TreeValue, IsTree, has, ancestors, walk, ancestors_step, ancestors_last, revs_in, rev_at, place_of, tree_of, IsLinked, ancestors_at, NodeValue}
 use Rattle.rev_tree.proofs.Places.{node_at, rev_at_place, place_known}

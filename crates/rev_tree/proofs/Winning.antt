@@ -1,5 +1,5 @@
 -- The winner after a merge: the head, the winner before, or another leaf.
-use Rattle.proof_words.proofs.{◌≡◌, ℕ, ◌<◌, length, arith, List, [], ◌∷◌, Option, Some, None, true, false, not, cond, ◌||◌, ◌&&◌, is_some, inl, inr, ◌⊎◌, filter, slice_get, sym, ap, ◌∙◌, subst, refl, false≢true, or_cases, or_right, not-true, same_Some, list_any, option_map, option_map_or, eq_by_cmp, is_eq, is_lt, bool_cmp, ordering_reverse, ordering_then, IsTotalOrder, eq_by_cmp_equiv, get, keys, get-empty, Ordering, Less, Equal, Greater}
+use Rattle.proof_prelude.proofs.{◌≡◌, ℕ, ◌<◌, length, arith, List, [], ◌∷◌, Option, Some, None, true, false, not, cond, ◌||◌, ◌&&◌, is_some, inl, inr, ◌⊎◌, filter, slice_get, sym, ap, ◌∙◌, subst, refl, false≢true, or_cases, or_right, not-true, same_Some, list_any, option_map, option_map_or, eq_by_cmp, is_eq, is_lt, bool_cmp, ordering_reverse, ordering_then, IsTotalOrder, eq_by_cmp_equiv, get, keys, get-empty, Ordering, Less, Equal, Greater}
 use Rattle.rev_core.specs.{RevId, rev_cmp, rev_tie_self, IsAncestry, edges_of, is_among}
 use Rattle.rev_tree.specs.{ContentValue, in_order, first_of, first_of-placed, better, in_order-cons, in_order-nil, any-in_order, TreeValue, IsTree, at_head, first_contradiction, is_deleted, is_leaf, is_parent, leaf_cmp, leaves, merged, no_revisions, IsTree-merged, get-joined_known, has-merged_given, head_is, leaf_cases, any_agree, is_among-leaves, leaf_above, leaf_cmp_exact, leaf_cmp_total, leaf_tie, NodeValue, IsLed, IsLinked, deletes, goes_before, revs_in, tree_of, AddsHead, Origin}
 use Rattle.rev_tree.proofs.Places.{node_at, rev_at_place}

@@ -1,5 +1,5 @@
 -- Copies under names.
-use Rattle.proof_words.proofs.{◌≡◌, ◌⊎◌, inl, inr, ℕ, zero, suc, ◌+◌, ◌<◌, Bool, true, false, cond, List, [], ◌∷◌, ◌++◌, take, get_or, length, slice_get, Option, Some, None, is_some, Result, Ok, Err, nat_lt, ◌==◌, refl, sym, ap, ◌∙◌, cond_both, take_more, slice_get-get_or, same_Some, none-some, find, eqb-true}
+use Rattle.proof_prelude.proofs.{◌≡◌, ◌⊎◌, inl, inr, ℕ, zero, suc, ◌+◌, ◌<◌, Bool, true, false, cond, List, [], ◌∷◌, ◌++◌, take, get_or, length, slice_get, Option, Some, None, is_some, Result, Ok, Err, nat_lt, ◌==◌, refl, sym, ap, ◌∙◌, cond_both, take_more, slice_get-get_or, same_Some, none-some, find, eqb-true}
 use Rattle.repl_peer.specs.{PeerValue, GivesUnlessMemory, BackupValue, is_target, greater_life, restore_answer, restored_by, after_restore, TargetFault}
 use Rattle.couch_base.specs.{most}
 use Rattle.repl_peer.specs.declared.fault.TargetFault.TheVariants as faults

@@ -1,5 +1,5 @@
 -- The numbers of the databases' UUIDs, beside the databases.
-use Rattle.proof_words.proofs.{◌≡◌, ℕ, Bool, true, false, cond, List, [], refl, sym, ap, ◌∙◌, Option, Some, None, nat_eq, option_map, list_any, Equal-is, eq_by_cmp, is_eq, lookup, get, get-insert, get-empty, nat_list_cmp_total, tied_itself, is_text, same_Some, none-some, true≢false, eqb-true, eq-eqb}
+use Rattle.proof_prelude.proofs.{◌≡◌, ℕ, Bool, true, false, cond, List, [], refl, sym, ap, ◌∙◌, Option, Some, None, nat_eq, option_map, list_any, Equal-is, eq_by_cmp, is_eq, lookup, get, get-insert, get-empty, nat_list_cmp_total, tied_itself, is_text, same_Some, none-some, true≢false, eqb-true, eq-eqb}
 use Rattle.std.specs.FinMap.{insert}
 use Rattle.rev_core.specs.{RevId}
 use Rattle.doc_json.specs.Document.{Document}

@@ -1,5 +1,5 @@
 -- Changes of one database in a table of names.
-use Rattle.proof_words.proofs.{◌≡◌, ◌⊎◌, inl, inr, ℕ, List, refl, sym, ap, ◌∙◌, Some, None, Result, Ok, Err, OnErr, String, string_bytes, FinMap, get, UpdatesBy, lookup, bytes_eq, is_text, string_eq}
+use Rattle.proof_prelude.proofs.{◌≡◌, ◌⊎◌, inl, inr, ℕ, List, refl, sym, ap, ◌∙◌, Some, None, Result, Ok, Err, OnErr, String, string_bytes, FinMap, get, UpdatesBy, lookup, bytes_eq, is_text, string_eq}
 use Rattle.std.specs.declared.alloc.Global.{Global}
 use Rattle.std.specs.FinMap.{insert}
 use Rattle.std.specs.HashMap.{HashMap}

@@ -1,5 +1,5 @@
 -- Replications between two of the databases.
-use Rattle.proof_words.proofs.{◌≡◌, ◌≢◌, inl, inr, ℕ, Bool, true, false, cond, nat_eq, nat_lt, ◌==◌, List, [], Option, Some, None, is_some, Result, Ok, Err, String, string_bytes, refl, sym, ap, subst, ◌∙◌, option_map, starts_with, option_map_or, Equal-is, eq_by_cmp, FinMap, get, contains_key, get-insert, same_map, nat_list_cmp_total, cond_both, same_Some, true≢false, eq-eqb}
+use Rattle.proof_prelude.proofs.{◌≡◌, ◌≢◌, inl, inr, ℕ, Bool, true, false, cond, nat_eq, nat_lt, ◌==◌, List, [], Option, Some, None, is_some, Result, Ok, Err, String, string_bytes, refl, sym, ap, subst, ◌∙◌, option_map, starts_with, option_map_or, Equal-is, eq_by_cmp, FinMap, get, contains_key, get-insert, same_map, nat_list_cmp_total, cond_both, same_Some, true≢false, eq-eqb}
 use Rattle.std.specs.declared.alloc.Global.{Global}
 use Rattle.std.specs.FinMap.{insert}
 use Rattle.doc_json.specs.Document.{Document}

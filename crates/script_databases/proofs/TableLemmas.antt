@@ -1,5 +1,5 @@
 -- Tables by the bytes of their names.
-use Rattle.proof_words.proofs.{◌≡◌, ℕ, Bool, true, false, cond, List, [], ◌∷◌, map, refl, sym, ap, ◌∙◌, Option, Some, None, String, string_bytes, is_some, option_map, lookup, update, bytes_eq, Equal-is, eq_by_cmp_equiv, eq_by_cmp, FinMap, get, contains_key, get-from_entries, get-insert, same_map, slice_cmp-IsAntisymmetric, nat_cmp-IsAntisymmetric, IsAntisymmetric, nat_list_cmp_total, UpdatesBy, is_text, is_eq-slice_cmp, hash_map_updates_text, string_eq, true≢false}
+use Rattle.proof_prelude.proofs.{◌≡◌, ℕ, Bool, true, false, cond, List, [], ◌∷◌, map, refl, sym, ap, ◌∙◌, Option, Some, None, String, string_bytes, is_some, option_map, lookup, update, bytes_eq, Equal-is, eq_by_cmp_equiv, eq_by_cmp, FinMap, get, contains_key, get-from_entries, get-insert, same_map, slice_cmp-IsAntisymmetric, nat_cmp-IsAntisymmetric, IsAntisymmetric, nat_list_cmp_total, UpdatesBy, is_text, is_eq-slice_cmp, hash_map_updates_text, string_eq, true≢false}
 use Rattle.std.specs.declared.alloc.Global.{Global}
 use Rattle.std.specs.FinMap.{find, insert}
 use Rattle.std.specs.HashMap.{HashMap}

@@ -1,5 +1,5 @@
 -- An answer in pieces.
-use Rattle.proof_words.proofs.{◌≡◌, ℕ, List, [], ◌++◌, Option, Some, None, Result, Ok, Err, refl, sym, append-nil, OnErr}
+use Rattle.proof_prelude.proofs.{◌≡◌, ℕ, List, [], ◌++◌, Option, Some, None, Result, Ok, Err, refl, sym, append-nil, OnErr}
 use Rattle.script_engine.specs.{text_with}
 
 -- its first piece, and what is left

@@ -1,5 +1,5 @@
 -- A script as far as it was read.
-use Rattle.proof_words.proofs.{inl, inr, ◌≡◌, Bool, ℕ, ◌+◌, ◌*◌, ◌<◌, ◌≤◌, List, [], ◌++◌, length, true, false, refl, sym, ap, subst, ◌∙◌, arith, append_assoc, append-nil, length-append, Option, Some, None, unwrap_or, min, Consumes, Appends, Keeps, IsAtEnd, Appends-nil, Appends-trans, Appends-kept, Consumes-nil, Consumes-trans, Consumes-kept}
+use Rattle.proof_prelude.proofs.{inl, inr, ◌≡◌, Bool, ℕ, ◌+◌, ◌*◌, ◌<◌, ◌≤◌, List, [], ◌++◌, length, true, false, refl, sym, ap, subst, ◌∙◌, arith, append_assoc, append-nil, length-append, Option, Some, None, unwrap_or, min, Consumes, Appends, Keeps, IsAtEnd, Appends-nil, Appends-trans, Appends-kept, Consumes-nil, Consumes-trans, Consumes-kept}
 use Rattle.script_engine.specs.{ReadsChunk, Gives, full, FeedsUntil, IsInAnswer, IsOfWriter, IsFaultOf, IsToldUntil, LeavesAs, ScriptFault, has_line_end, lines_of, Answering, AnswersEnded, IsAnswered, IsAnsweredSoFar, AnswersFirst, Place, start, Begins, Feeds, Finishes, FinishesInPart}
 use Rattle.script_engine.specs.declared.fault.ScriptFault.TheVariants.{Read, Write, Memory, Cut}
 use Rattle.script_engine.specs.Served.{Served}

@@ -1,5 +1,5 @@
 -- What loads are told, by their parts.
-use Rattle.proof_words.proofs.{◌≡◌, inl, inr, ℕ, List, Option, Some, None, Result, Ok, Err, refl, sym, subst}
+use Rattle.proof_prelude.proofs.{◌≡◌, inl, inr, ℕ, List, Option, Some, None, Result, Ok, Err, refl, sym, subst}
 use Rattle.doc_json.specs.Document.{Document}
 use Rattle.couch_base.specs.declared.fault.Put.{Put}
 use Rattle.repl_peer.specs.{PeerValue}

@@ -1,5 +1,5 @@
 -- What replications are told.
-use Rattle.proof_words.proofs.{◌≡◌, ◌≤◌, ◌<◌, inl, inr, ℕ, List, Option, Some, None, Result, Ok, Err, refl, sym, ap, subst, ◌∙◌}
+use Rattle.proof_prelude.proofs.{◌≡◌, ◌≤◌, ◌<◌, inl, inr, ℕ, List, Option, Some, None, Result, Ok, Err, refl, sym, ap, subst, ◌∙◌}
 use Rattle.doc_json.specs.{Choice}
 use Rattle.repl_peer.specs.{PeerValue}
 use Rattle.repl_target.specs.{Plan}

@@ -1,5 +1,5 @@
 -- Each word keeps all databases tied, and its answer may be trusted.
-use Rattle.proof_words.proofs.{refl, sym, subst}
+use Rattle.proof_prelude.proofs.{refl, sym, subst}
 use Rattle.script_engine.specs.{Told}
 use Rattle.script_databases.specs.AllTied.{AllTied}
 use Rattle.script_databases.specs.{State, peer_at}

@@ -1,5 +1,5 @@
 -- `audit` is told `clean` where all databases are tied.
-use Rattle.proof_words.proofs.{◌≡◌, ℕ, List, [], codes, Some, None, Result, Ok, Err, refl, sym, ap, subst, ◌∙◌, same_Some}
+use Rattle.proof_prelude.proofs.{◌≡◌, ℕ, List, [], codes, Some, None, Result, Ok, Err, refl, sym, ap, subst, ◌∙◌, same_Some}
 use Rattle.doc_json.specs.{Choice}
 use Rattle.repl_peer.specs.{PeerValue}
 use Rattle.repl_target.specs.{audit_answer, hole_of, IsTiedPair}

@@ -1,5 +1,5 @@
 -- What stands at a name of a state, where a peer was written at one.
-use Rattle.proof_words.proofs.{◌≡◌, ◌≢◌, ◌⊎◌, inl, inr, ℕ, Bool, false, cond, List, refl, sym, ap, ◌∙◌, true, Some, Equal-is, eq_by_cmp, is_eq, get-insert, nat_list_cmp_total, tied_itself, same_Some, true≢false}
+use Rattle.proof_prelude.proofs.{◌≡◌, ◌≢◌, ◌⊎◌, inl, inr, ℕ, Bool, false, cond, List, refl, sym, ap, ◌∙◌, true, Some, Equal-is, eq_by_cmp, is_eq, get-insert, nat_list_cmp_total, tied_itself, same_Some, true≢false}
 use Rattle.repl_peer.specs.{PeerValue}
 use Rattle.script_databases.specs.{State, peer_at, text_cmp, with_peer}
 use Rattle.script_databases.proofs.TableLemmas.{text_cmp-IsAntisymmetric}

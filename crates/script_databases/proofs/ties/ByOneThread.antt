@@ -1,5 +1,5 @@
 -- Replications by one thread between two of the databases keep all of them tied, and cover what they say.
-use Rattle.proof_words.proofs.{◌≡◌, ◌≢◌, ◌⊎◌, inl, inr, ℕ, Bool, List, [], Result, Ok, Err, refl, sym, subst, Some, IfOk, eqb-false}
+use Rattle.proof_prelude.proofs.{◌≡◌, ◌≢◌, ◌⊎◌, inl, inr, ℕ, Bool, List, [], Result, Ok, Err, refl, sym, subst, Some, IfOk, eqb-false}
 use Rattle.doc_json.specs.Document.{Document}
 use Rattle.repl_log.specs.{EntryValue}
 use Rattle.repl_peer.specs.{TargetFault, PeerValue, rep_between, after_put_entry, Report}

@@ -1,5 +1,5 @@
 -- Runs of the pool between two of the databases keep all of them tied, and cover what they say.
-use Rattle.proof_words.proofs.{◌≡◌, ◌≢◌, inl, inr, ℕ, List, [], Result, Ok, Err, refl, sym, ap, subst, ◌∙◌, Option, Some, IfOk, eqb-false, sum}
+use Rattle.proof_prelude.proofs.{◌≡◌, ◌≢◌, inl, inr, ℕ, List, [], Result, Ok, Err, refl, sym, ap, subst, ◌∙◌, Option, Some, IfOk, eqb-false, sum}
 use Rattle.repl_peer.specs.{PeerValue, Report}
 use Rattle.repl_target.specs.{Plan, IsTiedPair, CoversFeed}
 use Rattle.script_databases.specs.{State, peer_at, with_both, Nowhere, deny_refuses, ReplicatesByPool, ReplicatesWatched, unwatched, CoversUpTo, Watched}

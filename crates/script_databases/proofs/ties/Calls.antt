@@ -1,5 +1,5 @@
 -- What each call on the databases leaves: all of them stay tied, and a replication covers what it says.
-use Rattle.proof_words.proofs.{◌≡◌, ℕ, Bool, List, Result, Ok, Err, refl, sym, subst, Option, Some, IfOk, None, cond_both, MatchResult-at_ok}
+use Rattle.proof_prelude.proofs.{◌≡◌, ℕ, Bool, List, Result, Ok, Err, refl, sym, subst, Option, Some, IfOk, None, cond_both, MatchResult-at_ok}
 use Rattle.doc_json.specs.Document.{Document}
 use Rattle.couch_base.specs.{Id}
 use Rattle.repl_peer.specs.{TargetFault, PeerValue, Report, BackupValue, after_restore, copy_of, is_target, after_load, after_edit}

@@ -1,5 +1,5 @@
 -- The same databases later: all are tied where each two that are not one are.
-use Rattle.proof_words.proofs.{◌≡◌, ◌≢◌, inl, inr, ℕ, List, sym, ap, subst, ◌∙◌, Some, get-empty, same_Some, none-some}
+use Rattle.proof_prelude.proofs.{◌≡◌, ◌≢◌, inl, inr, ℕ, List, sym, ap, subst, ◌∙◌, Some, get-empty, same_Some, none-some}
 use Rattle.doc_json.specs.{Choice}
 use Rattle.couch_base.specs.{Among}
 use Rattle.repl_log.specs.declared.replication.RepId.{RepId}

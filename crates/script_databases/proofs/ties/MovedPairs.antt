@@ -1,5 +1,5 @@
 -- Two peers that stay tied where a call changed the source, or the target; and two of which neither knows the replication.
-use Rattle.proof_words.proofs.{◌≡◌, List, refl, sym, subst, ◌∙◌}
+use Rattle.proof_prelude.proofs.{◌≡◌, List, refl, sym, subst, ◌∙◌}
 use Rattle.doc_json.specs.{Choice}
 use Rattle.couch_base.specs.{Among, IsLater}
 use Rattle.repl_log.specs.declared.replication.RepId.{RepId}

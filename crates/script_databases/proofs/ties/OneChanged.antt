@@ -1,5 +1,5 @@
 -- One database is changed: by a write of its own, or by a copy that is put back.
-use Rattle.proof_words.proofs.{◌≡◌, inl, inr, ℕ, Bool, List, [], ◌∷◌, Result, Ok, Err, refl, sym, ap, subst, ◌∙◌, Option, Some, None, and_parts, option_map, same_Some, none-some, find}
+use Rattle.proof_prelude.proofs.{◌≡◌, inl, inr, ℕ, Bool, List, [], ◌∷◌, Result, Ok, Err, refl, sym, ap, subst, ◌∙◌, Option, Some, None, and_parts, option_map, same_Some, none-some, find}
 use Rattle.doc_json.specs.Document.{Document}
 use Rattle.doc_json.specs.{Choice}
 use Rattle.couch_base.specs.{Among, Id, found_member, id_is}

@@ -1,5 +1,5 @@
 -- One copy, one id or one database more.
-use Rattle.proof_words.proofs.{◌≡◌, ◌≢◌, inl, inr, ℕ, List, [], ◌∷◌, refl, sym, ap, subst, ◌∙◌, Some, None, same_Some, none-some}
+use Rattle.proof_prelude.proofs.{◌≡◌, ◌≢◌, inl, inr, ℕ, List, [], ◌∷◌, refl, sym, ap, subst, ◌∙◌, Some, None, same_Some, none-some}
 use Rattle.couch_base.specs.{Among, Among-push}
 use Rattle.repl_log.specs.declared.replication.RepId.{RepId}
 use Rattle.repl_log.specs.{EntryValue, log_in}

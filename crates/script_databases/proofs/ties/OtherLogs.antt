@@ -1,5 +1,5 @@
 -- Logs of a peer, where an entry is put into one of them.
-use Rattle.proof_words.proofs.{◌≡◌, ◌≢◌, ◌⊎◌, inl, inr, cond, List, [], ◌∷◌, Result, Ok, Err, refl, sym, ap, ◌∙◌, cond_both}
+use Rattle.proof_prelude.proofs.{◌≡◌, ◌≢◌, ◌⊎◌, inl, inr, cond, List, [], ◌∷◌, Result, Ok, Err, refl, sym, ap, ◌∙◌, cond_both}
 use Rattle.couch_base.specs.{Among}
 use Rattle.repl_log.specs.declared.replication.RepId.{RepId}
 use Rattle.repl_log.specs.{EntryValue, with_entry, log_in, logs_with, same_rep, same_rep-is}

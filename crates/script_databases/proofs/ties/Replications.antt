@@ -1,5 +1,5 @@
 -- A replication between two of the databases, or one that changed nothing.
-use Rattle.proof_words.proofs.{◌≡◌, ◌≢◌, ◌⊎◌, inl, inr, ℕ, Bool, List, Result, Ok, Err, sym, ap, subst, ◌∙◌, Some, FinMap, same_Some, AllocError}
+use Rattle.proof_prelude.proofs.{◌≡◌, ◌≢◌, ◌⊎◌, inl, inr, ℕ, Bool, List, Result, Ok, Err, sym, ap, subst, ◌∙◌, Some, FinMap, same_Some, AllocError}
 use Rattle.doc_json.specs.Document.{Document}
 use Rattle.doc_json.specs.{Choice}
 use Rattle.couch_base.specs.{DatabaseValue}

@@ -1,5 +1,5 @@
 -- Two peers that stay tied where one of them is put back to a copy.
-use Rattle.proof_words.proofs.{◌≡◌, ℕ, false, cond, List, [], ◌∷◌, Result, Ok, Err, ◌+◌, ◌<◌, ◌≤◌, ◌==◌, nat_lt, sym, subst, ◌∙◌, arith, cond_both, eqb-true}
+use Rattle.proof_prelude.proofs.{◌≡◌, ℕ, false, cond, List, [], ◌∷◌, Result, Ok, Err, ◌+◌, ◌<◌, ◌≤◌, ◌==◌, nat_lt, sym, subst, ◌∙◌, arith, cond_both, eqb-true}
 use Rattle.doc_json.specs.{Choice}
 use Rattle.couch_base.specs.{Among, most}
 use Rattle.repl_log.specs.declared.replication.RepId.{RepId}

@@ -1,5 +1,5 @@
 -- The sessions of a target behind a replication: those that were there, and others from its source.
-use Rattle.proof_words.proofs.{◌≡◌, ◌⊎◌, inl, inr, ℕ, Bool, List, [], ◌∷◌, Ok, sym, ap, subst, ◌∙◌, both_ways, eq-eqb}
+use Rattle.proof_prelude.proofs.{◌≡◌, ◌⊎◌, inl, inr, ℕ, Bool, List, [], ◌∷◌, Ok, sym, ap, subst, ◌∙◌, both_ways, eq-eqb}
 use Rattle.rev_tree.specs.{SessionId}
 use Rattle.doc_json.specs.Document.{Document}
 use Rattle.doc_json.specs.{Choice}

@@ -1,5 +1,5 @@
 -- A replication between two databases, in all pairs of them and of a third.
-use Rattle.proof_words.proofs.{◌≡◌, ◌≢◌, ◌⊎◌, inl, inr, ℕ, Bool, List, refl, sym, ap, subst, ◌∙◌, Some, same_Some}
+use Rattle.proof_prelude.proofs.{◌≡◌, ◌≢◌, ◌⊎◌, inl, inr, ℕ, Bool, List, refl, sym, ap, subst, ◌∙◌, Some, same_Some}
 use Rattle.doc_json.specs.Document.{Document}
 use Rattle.doc_json.specs.{Choice}
 use Rattle.couch_base.specs.{Among, DatabaseValue, IsLater, IsLater-same}

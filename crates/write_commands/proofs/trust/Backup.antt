@@ -1,5 +1,5 @@
 -- `backup` keeps all databases tied.
-use Rattle.proof_words.proofs.{sym, ap}
+use Rattle.proof_prelude.proofs.{sym, ap}
 use Rattle.script_engine.specs.{Told}
 use Rattle.script_databases.specs.AllTied.{AllTied}
 use Rattle.script_databases.specs.{State, backed_answer, with_backup, backed_by}

@@ -1,5 +1,5 @@
 -- `edit` keeps all databases tied.
-use Rattle.proof_words.proofs.{Some}
+use Rattle.proof_prelude.proofs.{Some}
 use Rattle.script_engine.specs.{Told}
 use Rattle.script_databases.specs.AllTied.{AllTied}
 use Rattle.script_databases.specs.{State, edited_answer}

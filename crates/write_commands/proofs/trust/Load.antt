@@ -1,5 +1,5 @@
 -- `load` keeps all databases tied.
-use Rattle.proof_words.proofs.{◌≡◌, inl, inr, ℕ, List, Option, Some, None, Result, Ok, Err, refl, sym, subst}
+use Rattle.proof_prelude.proofs.{◌≡◌, inl, inr, ℕ, List, Option, Some, None, Result, Ok, Err, refl, sym, subst}
 use Rattle.doc_json.specs.Document.{Document}
 use Rattle.couch_base.specs.{put_answer}
 use Rattle.repl_peer.specs.{PeerValue, new_peer, after_load}

@@ -1,5 +1,5 @@
 -- `replicate` keeps all databases tied, and a session that came to its goal covers all of the chosen source.
-use Rattle.proof_words.proofs.{◌≡◌, inl, inr, ℕ, Bool, true, false, List, Option, Some, None, Result, Ok, Err, IfOk, refl, sym, ap, subst, ◌∙◌}
+use Rattle.proof_prelude.proofs.{◌≡◌, inl, inr, ℕ, Bool, true, false, List, Option, Some, None, Result, Ok, Err, IfOk, refl, sym, ap, subst, ◌∙◌}
 use Rattle.rev_tree.specs.{SessionId}
 use Rattle.doc_json.specs.{Choice}
 use Rattle.repl_peer.specs.{Report, TargetFault, PeerValue}

@@ -1,5 +1,5 @@
 -- `restore` keeps all databases tied.
-use Rattle.proof_words.proofs.{refl}
+use Rattle.proof_prelude.proofs.{refl}
 use Rattle.script_engine.specs.{Told}
 use Rattle.script_databases.specs.AllTied.{AllTied}
 use Rattle.script_databases.specs.{State, backup_at, peer_at, put_back_answer, put_back_by}

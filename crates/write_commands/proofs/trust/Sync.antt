@@ -1,5 +1,5 @@
 -- `sync` keeps all databases tied, and each of its ways may be trusted.
-use Rattle.proof_words.proofs.{Ok, Err, refl, sym, subst}
+use Rattle.proof_prelude.proofs.{Ok, Err, refl, sym, subst}
 use Rattle.script_engine.specs.{Told, MayTell, in_full, gave_up, served_only}
 use Rattle.script_databases.specs.AllTied.{AllTied}
 use Rattle.script_databases.specs.{State}

@@ -1,4 +1,4 @@
-use Rattle.proof_words.proofs.{ap, ◌≡◌, ◌∙◌, true, map, string_bytes, fun_ext, and_parts}
+use Rattle.proof_prelude.proofs.{ap, ◌≡◌, ◌∙◌, true, map, string_bytes, fun_ext, and_parts}
 use Rattle.clap.specs.Words.{app_of, is_simple, matches_of, found_of, first_of, one_of, rows_of}
 use Rattle.clap.proofs.WalkLemmas.{first_value-rows, one_text-rows}
 use Rattle.cli_common.proofs.words.find.Goals as goal

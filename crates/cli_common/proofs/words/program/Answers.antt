@@ -1,4 +1,4 @@
-use Rattle.proof_words.proofs.{ap, ◌≡◌, ◌∙◌, true, Option, Some, List, ℕ, Bor}
+use Rattle.proof_prelude.proofs.{ap, ◌≡◌, ◌∙◌, true, Option, Some, List, ℕ, Bor}
 use Rattle.clap.specs.Words.{app_of}
 use Rattle.clap.specs.Simple.{app_of_fields, on_top}
 use Rattle.clap.specs.declared.builder.command.Command.{Command}

@@ -1,4 +1,4 @@
-use Rattle.proof_words.proofs.{◌≡◌, ℕ, List, ◌++◌, drop, Result, Ok, Err}
+use Rattle.proof_prelude.proofs.{◌≡◌, ℕ, List, ◌++◌, drop, Result, Ok, Err}
 use Rattle.json_values.specs.{line_items}
 use Rattle.script_databases.specs.{Refusal}
 use Rattle.command_api.specs.{ids_given, texts_of}

@@ -1,4 +1,4 @@
-use Rattle.proof_words.proofs.{◌≡◌, drop, list_all, list_any, bytes_eq}
+use Rattle.proof_prelude.proofs.{◌≡◌, drop, list_all, list_any, bytes_eq}
 use Rattle.command_api.proofs.members.are_all_among.Given as goal
 
 -- each name so far is one of them

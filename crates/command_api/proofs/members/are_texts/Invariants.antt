@@ -1,4 +1,4 @@
-use Rattle.proof_words.proofs.{◌≡◌, drop}
+use Rattle.proof_prelude.proofs.{◌≡◌, drop}
 use Rattle.json_values.specs.{line_items}
 use Rattle.command_api.specs.{are_texts}
 use Rattle.command_api.proofs.members.are_texts.Given as goal

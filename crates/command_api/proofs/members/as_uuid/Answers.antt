@@ -1,5 +1,5 @@
 -- The number is that of the bytes that the text parses to.
-use Rattle.proof_words.proofs.{◌≡◌, true, false, Option, Some, None, refl, ap, ◌∙◌, false≢true, option_map, option_and_then, from_be_bytes, w128}
+use Rattle.proof_prelude.proofs.{◌≡◌, true, false, Option, Some, None, refl, ap, ◌∙◌, false≢true, option_map, option_and_then, from_be_bytes, w128}
 use Rattle.command_api.specs.{uuid_in}
 use Rattle.command_api.proofs.members.as_uuid.Goals as goal
 

@@ -1,5 +1,5 @@
 -- An object's keys are those of its view.
-use Rattle.proof_words.proofs.{map, ap, ◌∙◌, false, option_map_or}
+use Rattle.proof_prelude.proofs.{map, ap, ◌∙◌, false, option_map_or}
 use Rattle.command_api.specs.{all_among}
 use Rattle.command_api.proofs.{all_among-keys}
 use Rattle.command_api.proofs.members.has_only_members.Goals as goal

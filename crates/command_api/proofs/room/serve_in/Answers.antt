@@ -1,4 +1,4 @@
-use Rattle.proof_words.proofs.{sym}
+use Rattle.proof_prelude.proofs.{sym}
 use Rattle.command_api.proofs.{room_answered, room_refused}
 use Rattle.command_api.proofs.room.serve_in.Goals as goal
 

@@ -1,4 +1,4 @@
-use Rattle.proof_words.proofs.{◌≡◌, ◌/◌, ◌%◌, refl, arith}
+use Rattle.proof_prelude.proofs.{◌≡◌, ◌/◌, ◌%◌, refl, arith}
 use Rattle.itoa.proofs.Decimal.{decimal_two, decimal_pair}
 use Rattle.command_api.proofs.texts.four_digits.Goals as goal
 

@@ -1,4 +1,4 @@
-use Rattle.proof_words.proofs.{◌++◌, sym, ap, ◌∙◌, arith, decimal_digit}
+use Rattle.proof_prelude.proofs.{◌++◌, sym, ap, ◌∙◌, arith, decimal_digit}
 use Rattle.command_api.proofs.texts.push_count.Goals as goal
 
 pub returns-then-count-lt10 : goal.returns-then-count-lt10

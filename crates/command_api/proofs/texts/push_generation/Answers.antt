@@ -1,4 +1,4 @@
-use Rattle.proof_words.proofs.{◌++◌, sym, ap, ◌∙◌, arith, decimal_digit}
+use Rattle.proof_prelude.proofs.{◌++◌, sym, ap, ◌∙◌, arith, decimal_digit}
 use Rattle.command_api.proofs.texts.push_generation.Goals as goal
 
 pub returns-then-generation-lt10 : goal.returns-then-generation-lt10

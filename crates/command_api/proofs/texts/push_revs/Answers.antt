@@ -1,4 +1,4 @@
-use Rattle.proof_words.proofs.{◌++◌, ◌∷◌, [], List, ℕ, sym, ap, ◌∙◌, append_assoc}
+use Rattle.proof_prelude.proofs.{◌++◌, ◌∷◌, [], List, ℕ, sym, ap, ◌∙◌, append_assoc}
 use Rattle.rev_core.specs.{rev_text}
 use Rattle.command_api.proofs.{texts-more, texts-first}
 use Rattle.command_api.proofs.texts.push_revs.Goals as goal

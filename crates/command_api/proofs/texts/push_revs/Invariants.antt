@@ -1,5 +1,5 @@
 -- The texts of the revisions so far have been added.
-use Rattle.proof_words.proofs.{◌≡◌, ◌++◌, take}
+use Rattle.proof_prelude.proofs.{◌≡◌, ◌++◌, take}
 use Rattle.command_api.specs.{texts_of_revs}
 use Rattle.command_api.proofs.texts.push_revs.Given as goal
 

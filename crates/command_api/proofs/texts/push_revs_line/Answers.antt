@@ -1,4 +1,4 @@
-use Rattle.proof_words.proofs.{◌≡◌, ◌++◌, ◌==◌, [], length, if◌then◌else◌, true, false, sym, ap, subst, ◌∙◌, append-nil, OnOk}
+use Rattle.proof_prelude.proofs.{◌≡◌, ◌++◌, ◌==◌, [], length, if◌then◌else◌, true, false, sym, ap, subst, ◌∙◌, append-nil, OnOk}
 use Rattle.command_api.specs.{line_of_revs}
 use Rattle.command_api.proofs.texts.push_revs_line.Goals as goal
 

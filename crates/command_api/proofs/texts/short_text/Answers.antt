@@ -1,4 +1,4 @@
-use Rattle.proof_words.proofs.{sym, ap, ◌∙◌, ◌∷◌, ◌++◌, ◌+◌, append-nil, arith, decimal_digit, length-take-le, take_all}
+use Rattle.proof_prelude.proofs.{sym, ap, ◌∙◌, ◌∷◌, ◌++◌, ◌+◌, append-nil, arith, decimal_digit, length-take-le, take_all}
 use Rattle.command_api.proofs.texts.short_text.Goals as goal
 
 pub slice_bounds-bytes-end : goal.slice_bounds-bytes-end

@@ -1,4 +1,4 @@
-use Rattle.proof_words.proofs.{refl}
+use Rattle.proof_prelude.proofs.{refl}
 use Rattle.script_engine.specs.declared.fault.ScriptFault.TheVariants.{Memory}
 use Rattle.script_engine.proofs.{LeavesAs-memory, IsFaultOf-left, SoFar-not_begun, not_read}
 use Rattle.script_databases.proofs.{none_are_tied}

@@ -1,4 +1,4 @@
-use Rattle.proof_words.proofs.{◌≡◌, Result, Err, refl, sym, ap, subst, ◌∙◌}
+use Rattle.proof_prelude.proofs.{◌≡◌, Result, Err, refl, sym, ap, subst, ◌∙◌}
 use Rattle.serde_json.specs.Data.{Data}
 use Rattle.json_values.specs.{line_view, LineValue}
 use Rattle.script_engine.specs.{Told, MayTell, in_full}

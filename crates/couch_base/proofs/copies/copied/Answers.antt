@@ -1,4 +1,4 @@
-use Rattle.proof_words.proofs.{[], ◌∷◌, ◌++◌, ap, ◌∙◌, refl, arith}
+use Rattle.proof_prelude.proofs.{[], ◌∷◌, ◌++◌, ap, ◌∙◌, refl, arith}
 use Rattle.couch_base.proofs.{one_more}
 use Rattle.couch_base.proofs.copies.copied.Goals as goal
 

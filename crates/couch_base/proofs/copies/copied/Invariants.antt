@@ -1,4 +1,4 @@
-use Rattle.proof_words.proofs.{◌≡◌, take}
+use Rattle.proof_prelude.proofs.{◌≡◌, take}
 use Rattle.couch_base.proofs.copies.copied.Given as goal
 
 -- the elements so far

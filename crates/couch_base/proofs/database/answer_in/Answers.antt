@@ -1,4 +1,4 @@
-use Rattle.proof_words.proofs.{sym, ap, ◌∙◌, unwrap_or, option_copied}
+use Rattle.proof_prelude.proofs.{sym, ap, ◌∙◌, unwrap_or, option_copied}
 use Rattle.rev_tree.specs.{merge_answer, no_revisions}
 use Rattle.couch_base.proofs.{new_changes}
 use Rattle.couch_base.proofs.database.answer_in.Goals as goal

@@ -1,4 +1,4 @@
-use Rattle.proof_words.proofs.{Ok, Err, cond, sym, ap, ◌∙◌}
+use Rattle.proof_prelude.proofs.{Ok, Err, cond, sym, ap, ◌∙◌}
 use Rattle.rev_tree.specs.{first_of, leaves}
 use Rattle.couch_base.specs.declared.fault.BaseFault.TheVariants as faults
 use Rattle.couch_base.proofs.{all_deleted}

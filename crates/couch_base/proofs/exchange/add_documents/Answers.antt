@@ -1,4 +1,4 @@
-use Rattle.proof_words.proofs.{[], ◌∷◌, ◌++◌, ap, ◌∙◌, arith}
+use Rattle.proof_prelude.proofs.{[], ◌∷◌, ◌++◌, ap, ◌∙◌, arith}
 use Rattle.rev_tree.specs.{is_leaf}
 use Rattle.doc_json.specs.Document.{Document}
 use Rattle.couch_base.specs.{leaf_document}

@@ -1,4 +1,4 @@
-use Rattle.proof_words.proofs.{[], ◌∷◌, ◌++◌, ap, ◌∙◌, arith}
+use Rattle.proof_prelude.proofs.{[], ◌∷◌, ◌++◌, ap, ◌∙◌, arith}
 use Rattle.couch_base.proofs.{one_more_of}
 use Rattle.couch_base.proofs.exchange.add_revs.Goals as goal
 

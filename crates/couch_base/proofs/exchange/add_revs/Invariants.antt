@@ -1,4 +1,4 @@
-use Rattle.proof_words.proofs.{◌≡◌, ◌++◌, map, take}
+use Rattle.proof_prelude.proofs.{◌≡◌, ◌++◌, map, take}
 use Rattle.couch_base.proofs.exchange.add_revs.Given as goal
 
 -- those of the revisions so far are added

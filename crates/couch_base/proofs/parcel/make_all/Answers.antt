@@ -1,4 +1,4 @@
-use Rattle.proof_words.proofs.{◌+◌, [], ◌∷◌, length, Some, sym, ap, ◌∙◌, subst, slice_get, slice_get-get_or, arith, length-append}
+use Rattle.proof_prelude.proofs.{◌+◌, [], ◌∷◌, length, Some, sym, ap, ◌∙◌, subst, slice_get, slice_get-get_or, arith, length-append}
 use Rattle.doc_json.specs.Document.{Document}
 use Rattle.couch_base.specs.{AreMade, IsMadeOf}
 use Rattle.couch_base.proofs.{made_next}

@@ -1,4 +1,4 @@
-use Rattle.proof_words.proofs.{◌≡◌, length}
+use Rattle.proof_prelude.proofs.{◌≡◌, length}
 use Rattle.couch_base.specs.{AreMade}
 use Rattle.couch_base.proofs.parcel.make_all.Given as goal
 

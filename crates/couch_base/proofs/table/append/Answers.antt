@@ -1,4 +1,4 @@
-use Rattle.proof_words.proofs.{◌≡◌, List, ◌∷◌, ◌++◌, [], None, rules, bytes_eq, ◌∙◌}
+use Rattle.proof_prelude.proofs.{◌≡◌, List, ◌∷◌, ◌++◌, [], None, rules, bytes_eq, ◌∙◌}
 use Rattle.indexmap.specs.IndexMap.{insert_entry}
 use Rattle.couch_base.specs.{Id, Kept, found}
 use Rattle.couch_base.proofs.{inserted}

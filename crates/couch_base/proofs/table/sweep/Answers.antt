@@ -1,4 +1,4 @@
-use Rattle.proof_words.proofs.{◌≡◌, ◌/◌, length, nat_lt, true, cond, rules, sym, ap, ◌∙◌, arith, filter_same}
+use Rattle.proof_prelude.proofs.{◌≡◌, ◌/◌, length, nat_lt, true, cond, rules, sym, ap, ◌∙◌, arith, filter_same}
 use Rattle.couch_base.specs.{is_live, live}
 use Rattle.couch_base.proofs.table.sweep.Goals as goal
 

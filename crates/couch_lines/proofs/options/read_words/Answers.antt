@@ -1,4 +1,4 @@
-use Rattle.proof_words.proofs.{ap, refl, subst, subst₂, ◌≡◌, ◌∙◌, true, map, string_bytes, List, ℕ, codes, Result, Ok, Err, IfOk, IfErr}
+use Rattle.proof_prelude.proofs.{ap, refl, subst, subst₂, ◌≡◌, ◌∙◌, true, map, string_bytes, List, ℕ, codes, Result, Ok, Err, IfOk, IfErr}
 use Rattle.clap.specs.Words.{HasKind, fault_of, is_simple_and_free}
 use Rattle.clap.proofs.OnLiterals.{clap_on_literals}
 use Rattle.cli_common.specs.{IsFound}

@@ -1,4 +1,4 @@
-use Rattle.proof_words.proofs.{ap, ◌∙◌}
+use Rattle.proof_prelude.proofs.{ap, ◌∙◌}
 use Rattle.response_parser.specs.State.{State}
 use Rattle.response_output.specs.{words_of_wording}
 use Rattle.couch_lines.proofs.{is_done, makes}

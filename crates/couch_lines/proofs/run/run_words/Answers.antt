@@ -1,4 +1,4 @@
-use Rattle.proof_words.proofs.{map, string_bytes, subst}
+use Rattle.proof_prelude.proofs.{map, string_bytes, subst}
 use Rattle.couch_lines.specs.{Says}
 use Rattle.couch_lines.proofs.run.run_words.Goals as goal
 

@@ -1,4 +1,4 @@
-use Rattle.proof_words.proofs.{ap₂, ◌∙◌}
+use Rattle.proof_prelude.proofs.{ap₂, ◌∙◌}
 use Rattle.clap.specs.Words.{with_rule}
 use Rattle.couch_replicate.proofs.options.command.Goals as goal
 

@@ -1,4 +1,4 @@
-use Rattle.proof_words.proofs.{◌≡◌, ℕ, List, Bool, Option, Result, Ok, Err, IfOk, IfErr, Appends, Consumes}
+use Rattle.proof_prelude.proofs.{◌≡◌, ℕ, List, Bool, Option, Result, Ok, Err, IfOk, IfErr, Appends, Consumes}
 use Rattle.script_engine.specs.{Gives, IsToldUntil, AnswersEnded, IsAnswered, ScriptFault}
 use Rattle.script_engine.specs.declared.fault.ScriptFault.TheVariants.{Read}
 use Rattle.script_databases.specs.{Program, State, no_databases}

@@ -1,4 +1,4 @@
-use Rattle.proof_words.proofs.{ℕ, List, [], sym, subst, Appends-kept, Appends-trans, chars}
+use Rattle.proof_prelude.proofs.{ℕ, List, [], sym, subst, Appends-kept, Appends-trans, chars}
 use Rattle.diagrams.specs.Drawing.{Pictures, sketch_of}
 use Rattle.diagrams.specs.{Draws}
 use Rattle.diagrams.proofs.{seen_as, safe_shown}

@@ -1,4 +1,4 @@
-use Rattle.proof_words.proofs.{[]}
+use Rattle.proof_prelude.proofs.{[]}
 use Rattle.diagrams.proofs.{drawn_then, then_by}
 use Rattle.diagrams.proofs.drawer.draw_size.Goals as goal
 

@@ -1,4 +1,4 @@
-use Rattle.proof_words.proofs.{[]}
+use Rattle.proof_prelude.proofs.{[]}
 use Rattle.diagrams.specs.declared.markup.Markup.TheVariants.{Head}
 use Rattle.diagrams.specs.{mark}
 use Rattle.diagrams.proofs.{drawn}

@@ -1,4 +1,4 @@
-use Rattle.proof_words.proofs.{ℕ, List, [], subst}
+use Rattle.proof_prelude.proofs.{ℕ, List, [], subst}
 use Rattle.diagrams.specs.{Draws}
 use Rattle.diagrams.proofs.{drawn_then}
 use Rattle.diagrams.proofs.drawer.tail_of.Goals as goal

@@ -1,4 +1,4 @@
-use Rattle.proof_words.proofs.{arith}
+use Rattle.proof_prelude.proofs.{arith}
 use Rattle.diagrams.proofs.{counts_all, counts_more}
 use Rattle.diagrams.proofs.lines.draw_counts.Goals as goal
 

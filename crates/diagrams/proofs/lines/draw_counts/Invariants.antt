@@ -1,4 +1,4 @@
-use Rattle.proof_words.proofs.{take}
+use Rattle.proof_prelude.proofs.{take}
 use Rattle.diagrams.specs.{Draws, counts_of}
 use Rattle.diagrams.proofs.lines.draw_counts.Given as goal
 

@@ -1,4 +1,4 @@
-use Rattle.proof_words.proofs.{List, ℕ, [], ◌∷◌, map, subst, string_bytes}
+use Rattle.proof_prelude.proofs.{List, ℕ, [], ◌∷◌, map, subst, string_bytes}
 use Rattle.rev_core.specs.{RevId}
 use Rattle.diagrams.specs.{Draws, Sign, found, listed}
 use Rattle.diagrams.proofs.{drawn_then, plain_by}

@@ -1,4 +1,4 @@
-use Rattle.proof_words.proofs.{arith}
+use Rattle.proof_prelude.proofs.{arith}
 use Rattle.diagrams.specs.{listed}
 use Rattle.diagrams.proofs.{rows_more}
 use Rattle.diagrams.proofs.lines.draw_listed.Goals as goal

@@ -1,4 +1,4 @@
-use Rattle.proof_words.proofs.{map, take}
+use Rattle.proof_prelude.proofs.{map, take}
 use Rattle.diagrams.specs.{Draws, listed}
 use Rattle.diagrams.proofs.lines.draw_listed.Given as goal
 

@@ -1,4 +1,4 @@
-use Rattle.proof_words.proofs.{List, ℕ, [], ◌∷◌, ◌++◌, OnOk, subst, string_bytes}
+use Rattle.proof_prelude.proofs.{List, ℕ, [], ◌∷◌, ◌++◌, OnOk, subst, string_bytes}
 use Rattle.output_parser.specs.{columns_of, Column}
 use Rattle.diagrams.specs.{Draws, Sign, bars_of, counts_of, heading, signs_of_row}
 use Rattle.diagrams.proofs.{drawn_plain, drawn_then, plain_by}

@@ -1,4 +1,4 @@
-use Rattle.proof_words.proofs.{◌++◌, refl, codes, decimal, arith, common_steps}
+use Rattle.proof_prelude.proofs.{◌++◌, refl, codes, decimal, arith, common_steps}
 use Rattle.diagrams.specs.{caption, count}
 use Rattle.diagrams.proofs.{sign_by, then_text}
 use Rattle.diagrams.proofs.lines.put_count.Goals as goal

@@ -1,4 +1,4 @@
-use Rattle.proof_words.proofs.{refl, arith, common_steps}
+use Rattle.proof_prelude.proofs.{refl, arith, common_steps}
 use Rattle.output_parser.specs.{finding_text}
 use Rattle.diagrams.specs.{found, shown_text}
 use Rattle.diagrams.proofs.{sign_by}

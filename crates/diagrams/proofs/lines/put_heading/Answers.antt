@@ -1,4 +1,4 @@
-use Rattle.proof_words.proofs.{refl, arith, common_steps}
+use Rattle.proof_prelude.proofs.{refl, arith, common_steps}
 use Rattle.diagrams.specs.{table_text, heading, shown_text}
 use Rattle.diagrams.proofs.{sign_by}
 use Rattle.diagrams.proofs.lines.put_heading.Goals as goal

@@ -1,4 +1,4 @@
-use Rattle.proof_words.proofs.{refl, codes}
+use Rattle.proof_prelude.proofs.{refl, codes}
 use Rattle.diagrams.specs.{listed, short_text}
 use Rattle.diagrams.proofs.{sign_by}
 use Rattle.diagrams.proofs.lines.put_listed.Goals as goal

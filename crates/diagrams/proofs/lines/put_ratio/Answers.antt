@@ -1,4 +1,4 @@
-use Rattle.proof_words.proofs.{◌++◌, codes, decimal}
+use Rattle.proof_prelude.proofs.{◌++◌, codes, decimal}
 use Rattle.diagrams.proofs.{text_by, then_text}
 use Rattle.diagrams.proofs.lines.put_ratio.Goals as goal
 

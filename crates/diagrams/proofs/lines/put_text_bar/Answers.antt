@@ -1,4 +1,4 @@
-use Rattle.proof_words.proofs.{◌++◌, ◌/◌, refl, codes, take, drop, arith, common_steps}
+use Rattle.proof_prelude.proofs.{◌++◌, ◌/◌, refl, codes, take, drop, arith, common_steps}
 use Rattle.diagrams.specs.declared.form.Form.TheVariants.{Text}
 use Rattle.diagrams.specs.{bar, ratio, share}
 use Rattle.diagrams.proofs.{sign_by, then_text}

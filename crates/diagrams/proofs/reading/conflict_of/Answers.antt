@@ -1,4 +1,4 @@
-use Rattle.proof_words.proofs.{ap}
+use Rattle.proof_prelude.proofs.{ap}
 use Rattle.diagrams.specs.Drawing.{with_all}
 use Rattle.diagrams.proofs.reading.conflict_of.Goals as goal
 

@@ -1,4 +1,4 @@
-use Rattle.proof_words.proofs.{◌≡◌, [], drop, string_bytes}
+use Rattle.proof_prelude.proofs.{◌≡◌, [], drop, string_bytes}
 use Rattle.diagrams.specs.Drawing.{states, with_all}
 use Rattle.diagrams.proofs.reading.conflict_of.Given as goal
 

@@ -1,4 +1,4 @@
-use Rattle.proof_words.proofs.{List, [], Some, None, sym, subst, string_bytes}
+use Rattle.proof_prelude.proofs.{List, [], Some, None, sym, subst, string_bytes}
 use Rattle.rev_core.specs.{RevId}
 use Rattle.output_parser.specs.declared.told.Told.TheVariants as lines
 use Rattle.diagrams.specs.Drawing.{Holds, IsNext, conflict, found, log, loose, opened, other, row, with_all}

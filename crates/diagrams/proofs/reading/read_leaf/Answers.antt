@@ -1,4 +1,4 @@
-use Rattle.proof_words.proofs.{◌≡◌, ℕ, ◌<◌, false, nat_le, sym, subst, ◌∙◌, arith, string_bytes, nat_tests, leb-true}
+use Rattle.proof_prelude.proofs.{◌≡◌, ℕ, ◌<◌, false, nat_le, sym, subst, ◌∙◌, arith, string_bytes, nat_tests, leb-true}
 use Rattle.diagrams.specs.Drawing.{Holds, empty, more, states, whole, with_leaf}
 use Rattle.diagrams.proofs.reading.read_leaf.Goals as goal
 

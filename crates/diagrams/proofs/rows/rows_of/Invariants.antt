@@ -1,4 +1,4 @@
-use Rattle.proof_words.proofs.{◌≡◌, vec_len}
+use Rattle.proof_prelude.proofs.{◌≡◌, vec_len}
 use Rattle.diagrams.proofs.rows.rows_of.Given as goal
 
 abbrev pub invariant-loop-i : goal.invariant-loop-i

@@ -1,4 +1,4 @@
-use Rattle.proof_words.proofs.{List, ℕ, [], ◌∷◌, subst, string_bytes, flat_map}
+use Rattle.proof_prelude.proofs.{List, ℕ, [], ◌∷◌, subst, string_bytes, flat_map}
 use Rattle.output_parser.specs.{Entry}
 use Rattle.diagrams.specs.{Draws, Sign, log, most_from, signs_of_session}
 use Rattle.diagrams.proofs.{drawn_plain, drawn_then, plain_by}

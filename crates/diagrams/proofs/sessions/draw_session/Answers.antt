@@ -1,4 +1,4 @@
-use Rattle.proof_words.proofs.{List, ℕ, [], ◌∷◌, subst, string_bytes}
+use Rattle.proof_prelude.proofs.{List, ℕ, [], ◌∷◌, subst, string_bytes}
 use Rattle.output_parser.specs.declared.told.Column.TheVariants as columns
 use Rattle.output_parser.specs.declared.told.Table.TheVariants as tables
 use Rattle.diagrams.specs.{Draws, Sign, chart, count, heading, moment}

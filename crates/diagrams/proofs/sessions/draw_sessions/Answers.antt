@@ -1,4 +1,4 @@
-use Rattle.proof_words.proofs.{arith}
+use Rattle.proof_prelude.proofs.{arith}
 use Rattle.diagrams.specs.{signs_of_session}
 use Rattle.diagrams.proofs.{all_more}
 use Rattle.diagrams.proofs.sessions.draw_sessions.Goals as goal

@@ -1,4 +1,4 @@
-use Rattle.proof_words.proofs.{take, flat_map}
+use Rattle.proof_prelude.proofs.{take, flat_map}
 use Rattle.diagrams.specs.{Draws, signs_of_session}
 use Rattle.diagrams.proofs.sessions.draw_sessions.Given as goal
 

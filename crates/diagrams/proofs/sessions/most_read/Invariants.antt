@@ -1,4 +1,4 @@
-use Rattle.proof_words.proofs.{◌≡◌, drop}
+use Rattle.proof_prelude.proofs.{◌≡◌, drop}
 use Rattle.diagrams.specs.{most_from}
 use Rattle.diagrams.proofs.sessions.most_read.Given as goal
 

@@ -1,4 +1,4 @@
-use Rattle.proof_words.proofs.{codes, refl}
+use Rattle.proof_prelude.proofs.{codes, refl}
 use Rattle.diagrams.specs.{log, shown_text}
 use Rattle.diagrams.proofs.{sign_by}
 use Rattle.diagrams.proofs.sessions.put_log.Goals as goal

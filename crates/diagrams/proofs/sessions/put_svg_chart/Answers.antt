@@ -1,4 +1,4 @@
-use Rattle.proof_words.proofs.{◌≡◌, ◌++◌, refl, codes, decimal, subst, arith, common_steps}
+use Rattle.proof_prelude.proofs.{◌≡◌, ◌++◌, refl, codes, decimal, subst, arith, common_steps}
 use Rattle.diagrams.specs.declared.form.Form.TheVariants.{Svg}
 use Rattle.diagrams.specs.{chart, share}
 use Rattle.diagrams.proofs.{sign_by, then_text}

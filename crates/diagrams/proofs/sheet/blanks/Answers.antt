@@ -1,4 +1,4 @@
-use Rattle.proof_words.proofs.{[]}
+use Rattle.proof_prelude.proofs.{[]}
 use Rattle.diagrams.proofs.{drawn_then}
 use Rattle.diagrams.proofs.sheet.blanks.Goals as goal
 

@@ -1,4 +1,4 @@
-use Rattle.proof_words.proofs.{[]}
+use Rattle.proof_prelude.proofs.{[]}
 use Rattle.diagrams.specs.{Draws}
 use Rattle.diagrams.proofs.sheet.blanks.Given as goal
 

@@ -1,4 +1,4 @@
-use Rattle.proof_words.proofs.{◌+◌, ◌≤◌}
+use Rattle.proof_prelude.proofs.{◌+◌, ◌≤◌}
 use Rattle.diagrams.proofs.sheet.digits.Given as goal
 
 abbrev pub invariant-loop-step : goal.invariant-loop-step

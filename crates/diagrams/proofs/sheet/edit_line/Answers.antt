@@ -1,4 +1,4 @@
-use Rattle.proof_words.proofs.{◌≡◌, ℕ, List, ◌++◌, codes, ◌∙◌, append_assoc, arith, common_steps}
+use Rattle.proof_prelude.proofs.{◌≡◌, ℕ, List, ◌++◌, codes, ◌∙◌, append_assoc, arith, common_steps}
 use Rattle.rev_core.specs.{rev_text}
 use Rattle.diagrams.specs.declared.form.Form.TheVariants.{Text}
 use Rattle.diagrams.specs.{edit, shown_text}

@@ -1,4 +1,4 @@
-use Rattle.proof_words.proofs.{◌++◌, append_assoc, ◌∙◌, arith, common_steps}
+use Rattle.proof_prelude.proofs.{◌++◌, append_assoc, ◌∙◌, arith, common_steps}
 use Rattle.rev_core.specs.{rev_text}
 use Rattle.diagrams.specs.declared.form.Form.TheVariants.{Svg}
 use Rattle.diagrams.specs.{leaf, node_label, shape_text, short_text}

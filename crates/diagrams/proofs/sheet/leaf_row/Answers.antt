@@ -1,4 +1,4 @@
-use Rattle.proof_words.proofs.{refl, arith, common_steps}
+use Rattle.proof_prelude.proofs.{refl, arith, common_steps}
 use Rattle.diagrams.specs.declared.form.Form.TheVariants.{Text}
 use Rattle.diagrams.specs.{label_text, leaf, short_text}
 use Rattle.diagrams.proofs.{sign_by}

@@ -1,4 +1,4 @@
-use Rattle.proof_words.proofs.{arith, common_steps}
+use Rattle.proof_prelude.proofs.{arith, common_steps}
 use Rattle.diagrams.specs.{number}
 use Rattle.diagrams.proofs.{drawn_by}
 use Rattle.diagrams.proofs.sheet.number.Goals as goal

@@ -1,4 +1,4 @@
-use Rattle.proof_words.proofs.{◌++◌, ap, sym, ◌∙◌, string_bytes, encode_utf8_all, YieldsList-from_chars, YieldsList-end, map-id}
+use Rattle.proof_prelude.proofs.{◌++◌, ap, sym, ◌∙◌, string_bytes, encode_utf8_all, YieldsList-from_chars, YieldsList-end, map-id}
 use Rattle.diagrams.specs.{shown}
 use Rattle.diagrams.proofs.{shown_more}
 use Rattle.diagrams.proofs.sheet.push_shown.Goals as goal

@@ -1,4 +1,4 @@
-use Rattle.proof_words.proofs.{◌≡◌, ◌++◌, string_bytes, encode_utf8_all}
+use Rattle.proof_prelude.proofs.{◌≡◌, ◌++◌, string_bytes, encode_utf8_all}
 use Rattle.diagrams.specs.{shown}
 use Rattle.diagrams.proofs.sheet.push_shown.Given as goal
 

@@ -1,4 +1,4 @@
-use Rattle.proof_words.proofs.{chars}
+use Rattle.proof_prelude.proofs.{chars}
 use Rattle.diagrams.proofs.{escaped_shown, seen_shown}
 use Rattle.diagrams.proofs.sheet.put_text.Goals as goal
 

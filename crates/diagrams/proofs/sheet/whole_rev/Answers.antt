@@ -1,4 +1,4 @@
-use Rattle.proof_words.proofs.{arith, common_steps}
+use Rattle.proof_prelude.proofs.{arith, common_steps}
 use Rattle.diagrams.specs.{whole}
 use Rattle.diagrams.proofs.{drawn_by}
 use Rattle.diagrams.proofs.sheet.whole_rev.Goals as goal

@@ -1,4 +1,4 @@
-use Rattle.proof_words.proofs.{[]}
+use Rattle.proof_prelude.proofs.{[]}
 use Rattle.diagrams.proofs.{then_by}
 use Rattle.diagrams.proofs.svg.draw_column.Goals as goal
 

@@ -1,4 +1,4 @@
-use Rattle.proof_words.proofs.{List, [], ◌∷◌, map, subst, string_bytes}
+use Rattle.proof_prelude.proofs.{List, [], ◌∷◌, map, subst, string_bytes}
 use Rattle.diagrams.specs.{Leaf, Draws, Sign, leaf_sign, title}
 use Rattle.diagrams.specs.declared.form.Form.TheVariants.{Svg}
 use Rattle.diagrams.proofs.{drawn_plain, drawn_then}

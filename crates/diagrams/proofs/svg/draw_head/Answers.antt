@@ -1,4 +1,4 @@
-use Rattle.proof_words.proofs.{[], ◌∷◌, List, ℕ, subst, string_bytes}
+use Rattle.proof_prelude.proofs.{[], ◌∷◌, List, ℕ, subst, string_bytes}
 use Rattle.diagrams.specs.declared.form.Form.TheVariants.{Svg}
 use Rattle.diagrams.specs.{Draws, title}
 use Rattle.diagrams.proofs.{drawn_then, plain_by}

@@ -1,4 +1,4 @@
-use Rattle.proof_words.proofs.{[], ◌∷◌}
+use Rattle.proof_prelude.proofs.{[], ◌∷◌}
 use Rattle.diagrams.specs.declared.form.Form.TheVariants.{Svg}
 use Rattle.diagrams.specs.{leaf_sign}
 use Rattle.diagrams.proofs.{drawn_then, then_by}

@@ -1,4 +1,4 @@
-use Rattle.proof_words.proofs.{map, take}
+use Rattle.proof_prelude.proofs.{map, take}
 use Rattle.diagrams.specs.declared.form.Form.TheVariants.{Svg}
 use Rattle.diagrams.specs.{Draws, leaf_sign}
 use Rattle.diagrams.proofs.svg.draw_rows.Given as goal

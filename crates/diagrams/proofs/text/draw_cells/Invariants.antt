@@ -1,4 +1,4 @@
-use Rattle.proof_words.proofs.{[]}
+use Rattle.proof_prelude.proofs.{[]}
 use Rattle.diagrams.specs.{Draws}
 use Rattle.diagrams.proofs.text.draw_cells.Given as goal
 

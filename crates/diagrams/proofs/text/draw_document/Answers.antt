@@ -1,4 +1,4 @@
-use Rattle.proof_words.proofs.{List, ℕ, [], ◌∷◌, ◌++◌, map, subst, OnOk, option_map, string_bytes}
+use Rattle.proof_prelude.proofs.{List, ℕ, [], ◌∷◌, ◌++◌, map, subst, OnOk, option_map, string_bytes}
 use Rattle.diagrams.specs.{Leaf, Draws, Sign, edits_of, leaf_sign, signs_of, title}
 use Rattle.diagrams.specs.declared.form.Form.TheVariants.{Text}
 use Rattle.diagrams.proofs.{drawn_plain, drawn_then, plain_by}

@@ -1,4 +1,4 @@
-use Rattle.proof_words.proofs.{arith}
+use Rattle.proof_prelude.proofs.{arith}
 use Rattle.diagrams.specs.{edit_of}
 use Rattle.diagrams.proofs.{all_more}
 use Rattle.diagrams.proofs.text.draw_edits_of.Goals as goal

@@ -1,4 +1,4 @@
-use Rattle.proof_words.proofs.{take, flat_map}
+use Rattle.proof_prelude.proofs.{take, flat_map}
 use Rattle.diagrams.specs.{Draws, edit_of}
 use Rattle.diagrams.proofs.text.draw_edits_of.Given as goal
 

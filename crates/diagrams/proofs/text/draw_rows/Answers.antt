@@ -1,4 +1,4 @@
-use Rattle.proof_words.proofs.{arith}
+use Rattle.proof_prelude.proofs.{arith}
 use Rattle.diagrams.specs.declared.form.Form.TheVariants.{Text}
 use Rattle.diagrams.specs.{leaf_sign}
 use Rattle.diagrams.proofs.{rows_more}

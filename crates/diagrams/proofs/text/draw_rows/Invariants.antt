@@ -1,4 +1,4 @@
-use Rattle.proof_words.proofs.{map, take}
+use Rattle.proof_prelude.proofs.{map, take}
 use Rattle.diagrams.specs.declared.form.Form.TheVariants.{Text}
 use Rattle.diagrams.specs.{Draws, leaf_sign}
 use Rattle.diagrams.proofs.text.draw_rows.Given as goal

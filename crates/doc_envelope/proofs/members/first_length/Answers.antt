@@ -1,4 +1,4 @@
-use Rattle.proof_words.proofs.{◌≡◌, ◌+◌, ◌∙◌, ap, sym, subst, arith, get_or, drop, length}
+use Rattle.proof_prelude.proofs.{◌≡◌, ◌+◌, ◌∙◌, ap, sym, subst, arith, get_or, drop, length}
 use Rattle.doc_envelope.specs.{length_in, mode_behind, nesting_behind}
 use Rattle.doc_envelope.proofs.{length_step, length_stop, length_over}
 use Rattle.doc_envelope.proofs.members.first_length.Goals as goal

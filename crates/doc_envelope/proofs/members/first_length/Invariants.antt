@@ -1,5 +1,5 @@
 -- The bytes so far belong to the member.
-use Rattle.proof_words.proofs.{◌≡◌, ◌+◌, ◌≤◌, drop}
+use Rattle.proof_prelude.proofs.{◌≡◌, ◌+◌, ◌≤◌, drop}
 use Rattle.doc_envelope.specs.{length_in}
 use Rattle.doc_envelope.specs.declared.members.Mode.TheVariants.{Outside}
 use Rattle.doc_envelope.proofs.members.first_length.Given as goal

@@ -1,5 +1,5 @@
 -- What is left has the same text behind its blanks.
-use Rattle.proof_words.proofs.{◌≡◌, length}
+use Rattle.proof_prelude.proofs.{◌≡◌, length}
 use Rattle.doc_envelope.specs.{trimmed}
 use Rattle.doc_envelope.proofs.names.trimmed.Given as goal
 

@@ -1,4 +1,4 @@
-use Rattle.proof_words.proofs.{◌∙◌, ap, Err}
+use Rattle.proof_prelude.proofs.{◌∙◌, ap, Err}
 use Rattle.json.specs.Value.{value_view}
 use Rattle.doc_envelope.proofs.{value_envelope, no_envelope}
 use Rattle.doc_envelope.proofs.values.is_envelope.Goals as goal

@@ -1,4 +1,4 @@
-use Rattle.proof_words.proofs.{ap, sym, ◌∙◌, Some, List, ℕ, Global, Bor, list_all}
+use Rattle.proof_prelude.proofs.{ap, sym, ◌∙◌, Some, List, ℕ, Global, Bor, list_all}
 use Rattle.json.specs.Value.{value_view}
 use Rattle.json.specs.declared.value.Value.{Value}
 use Rattle.json.proofs.Trees.{view-Object}

@@ -1,4 +1,4 @@
-use Rattle.proof_words.proofs.{◌++◌, ◌∷◌, [], ap, sym, ◌∙◌, ℕ, Vec, Global, is_utf8, IsUtf8-from_is_utf8, is_utf8-from_IsUtf8, false_from_ne_true}
+use Rattle.proof_prelude.proofs.{◌++◌, ◌∷◌, [], ap, sym, ◌∙◌, ℕ, Vec, Global, is_utf8, IsUtf8-from_is_utf8, is_utf8-from_IsUtf8, false_from_ne_true}
 use Rattle.json.specs.Token.{string}
 use Rattle.json.specs.Print.{print}
 use Rattle.doc_envelope.proofs.{quoted_behind}

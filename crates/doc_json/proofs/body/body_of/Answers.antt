@@ -1,4 +1,4 @@
-use Rattle.proof_words.proofs.{Ok, inl, refl, sym, ap, ◌∙◌, subst, IsOk, arc_slice_items}
+use Rattle.proof_prelude.proofs.{Ok, inl, refl, sym, ap, ◌∙◌, subst, IsOk, arc_slice_items}
 use Rattle.serde_json.specs.Written.{has_float}
 use Rattle.doc_json.proofs.{body_no_object, body_special, body_fraction, body_ok, is_object, is_body, out_of_memory}
 use Rattle.doc_json.proofs.body.body_of.Goals as goal

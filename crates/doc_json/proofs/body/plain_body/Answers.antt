@@ -1,4 +1,4 @@
-use Rattle.proof_words.proofs.{refl, arc_slice_items}
+use Rattle.proof_prelude.proofs.{refl, arc_slice_items}
 use Rattle.doc_json.proofs.{is_body, plain_members_plain}
 use Rattle.doc_json.proofs.body.plain_body.Goals as goal
 

@@ -1,4 +1,4 @@
-use Rattle.proof_words.proofs.{refl}
+use Rattle.proof_prelude.proofs.{refl}
 use Rattle.doc_json.proofs.{none_plain}
 use Rattle.doc_json.proofs.body.read_body.Goals as goal
 

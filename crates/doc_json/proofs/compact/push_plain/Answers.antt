@@ -1,4 +1,4 @@
-use Rattle.proof_words.proofs.{◌++◌, ap, ◌∙◌, refl, sym, subst}
+use Rattle.proof_prelude.proofs.{◌++◌, ap, ◌∙◌, refl, sym, subst}
 use Rattle.serde_json.specs.Written.{members_text, members_have_float}
 use Rattle.json_values.specs.{IsInOrderOfNames, AreMembersPlain}
 use Rattle.doc_json.specs.{is_special, plain_members, MembersReadBack}

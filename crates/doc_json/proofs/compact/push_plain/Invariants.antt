@@ -1,4 +1,4 @@
-use Rattle.proof_words.proofs.{◌≡◌, ◌++◌, ◌∷◌, false}
+use Rattle.proof_prelude.proofs.{◌≡◌, ◌++◌, ◌∷◌, false}
 use Rattle.serde_json.specs.Written.{members_text, members_have_float}
 use Rattle.json_values.specs.{IsInOrderOfNames, AreMembersPlain}
 use Rattle.doc_json.specs.{plain_members, MembersReadBack}

@@ -1,4 +1,4 @@
-use Rattle.proof_words.proofs.{refl}
+use Rattle.proof_prelude.proofs.{refl}
 use Rattle.json.specs.Print.{quoted}
 use Rattle.serde_json.specs.Written.{comma_if, compact_text}
 use Rattle.doc_json.proofs.{member_put}

@@ -1,4 +1,4 @@
-use Rattle.proof_words.proofs.{◌++◌, ap, ◌∙◌}
+use Rattle.proof_prelude.proofs.{◌++◌, ap, ◌∙◌}
 use Rattle.serde_json.specs.Written.{compact_text}
 use Rattle.doc_json.proofs.{written_text}
 use Rattle.doc_json.proofs.compact.value_text.Goals as goal

@@ -1,4 +1,4 @@
-use Rattle.proof_words.proofs.{◌≡◌, drop}
+use Rattle.proof_prelude.proofs.{◌≡◌, drop}
 use Rattle.json_values.specs.{line_items, line_members}
 use Rattle.serde_json.specs.Written.{items_have_float, members_have_float}
 use Rattle.doc_json.proofs.line_value.+fraction.Given as goal

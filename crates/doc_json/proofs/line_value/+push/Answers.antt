@@ -1,4 +1,4 @@
-use Rattle.proof_words.proofs.{◌≡◌, ◌+◌, ◌||◌, ◌∷◌, ◌++◌, List, drop, true, false, sym, ap, ◌∙◌, subst, arith, or_parts, drop_more}
+use Rattle.proof_prelude.proofs.{◌≡◌, ◌+◌, ◌||◌, ◌∷◌, ◌++◌, List, drop, true, false, sym, ap, ◌∙◌, subst, arith, or_parts, drop_more}
 use Rattle.json.specs.Print.{quoted}
 use Rattle.serde_json.specs.Written.{comma_if, compact_text, items_text, members_text, has_float, items_have_float, members_have_float}
 use Rattle.json_values.specs.{line_view, line_items, line_members, AreItemsPlain, AreMembersPlain}

@@ -1,4 +1,4 @@
-use Rattle.proof_words.proofs.{◌≡◌, ◌++◌, ◌∷◌, drop, false}
+use Rattle.proof_prelude.proofs.{◌≡◌, ◌++◌, ◌∷◌, drop, false}
 use Rattle.json_values.specs.{line_items, line_members, AreItemsPlain, AreMembersPlain}
 use Rattle.serde_json.specs.Written.{items_text, members_text, items_have_float, members_have_float}
 use Rattle.doc_json.specs.{ItemsReadBack, MembersReadBack}

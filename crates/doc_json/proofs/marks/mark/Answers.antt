@@ -1,4 +1,4 @@
-use Rattle.proof_words.proofs.{◌++◌, ◌∷◌, [], true, take, sym, ap, ◌∙◌, subst, take_more, length-set}
+use Rattle.proof_prelude.proofs.{◌++◌, ◌∷◌, [], true, take, sym, ap, ◌∙◌, subst, take_more, length-set}
 use Rattle.doc_json.specs.{AreMarks}
 use Rattle.doc_json.proofs.{marked_more}
 use Rattle.doc_json.proofs.marks.mark.Goals as goal

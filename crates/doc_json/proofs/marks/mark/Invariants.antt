@@ -1,4 +1,4 @@
-use Rattle.proof_words.proofs.{◌≡◌, length, take}
+use Rattle.proof_prelude.proofs.{◌≡◌, length, take}
 use Rattle.doc_json.specs.{AreMarks}
 use Rattle.doc_json.proofs.marks.mark.Given as goal
 

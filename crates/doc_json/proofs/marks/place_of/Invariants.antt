@@ -1,4 +1,4 @@
-use Rattle.proof_words.proofs.{◌≡◌, ◌-◌, ◌<◌, drop, length}
+use Rattle.proof_prelude.proofs.{◌≡◌, ◌-◌, ◌<◌, drop, length}
 use Rattle.doc_json.specs.{place_from}
 use Rattle.doc_json.proofs.marks.place_of.Given as goal
 

@@ -1,4 +1,4 @@
-use Rattle.proof_words.proofs.{◌≡◌, ◌||◌, ℕ, List, Bool, true, false, if◌then◌else◌, codes, refl, sym, ap, ◌∙◌}
+use Rattle.proof_prelude.proofs.{◌≡◌, ◌||◌, ℕ, List, Bool, true, false, if◌then◌else◌, codes, refl, sym, ap, ◌∙◌}
 use Rattle.serde_json.specs.Data.{Data, Members, no_members, member}
 use Rattle.serde_json.specs.Written.{has_float, members_have_float}
 use Rattle.doc_json.specs.{is_special, has_unknown, plain_members}

@@ -1,4 +1,4 @@
-use Rattle.proof_words.proofs.{◌≡◌, ◌||◌, codes, option_map, option_or}
+use Rattle.proof_prelude.proofs.{◌≡◌, ◌||◌, codes, option_map, option_or}
 use Rattle.serde_json.specs.Find.{get_member}
 use Rattle.serde_json.specs.Written.{members_have_float}
 use Rattle.doc_json.specs.{has_unknown, plain_members}

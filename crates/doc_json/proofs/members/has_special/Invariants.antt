@@ -1,4 +1,4 @@
-use Rattle.proof_words.proofs.{◌≡◌}
+use Rattle.proof_prelude.proofs.{◌≡◌}
 use Rattle.doc_json.specs.{has_special}
 use Rattle.doc_json.proofs.{count}
 use Rattle.doc_json.proofs.members.has_special.Given as goal

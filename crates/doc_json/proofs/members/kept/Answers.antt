@@ -1,4 +1,4 @@
-use Rattle.proof_words.proofs.{◌≡◌, true, false, is_some, option_map, sym, ◌∙◌}
+use Rattle.proof_prelude.proofs.{◌≡◌, true, false, is_some, option_map, sym, ◌∙◌}
 use Rattle.serde_json.specs.Data.{no_members}
 use Rattle.doc_json.proofs.{is_some-option_map, none_yet, looked_at}
 use Rattle.doc_json.proofs.members.kept.Goals as goal

@@ -1,4 +1,4 @@
-use Rattle.proof_words.proofs.{◌≡◌, drop}
+use Rattle.proof_prelude.proofs.{◌≡◌, drop}
 use Rattle.serde_json.specs.View.{items_view, members_view}
 use Rattle.serde_json.specs.Written.{items_have_float, members_have_float}
 use Rattle.doc_json.proofs.owned_value.+fraction.Given as goal

@@ -1,4 +1,4 @@
-use Rattle.proof_words.proofs.{◌≡◌, ◌+◌, [], ◌∷◌, ◌++◌, drop, true, string_bytes, sym, ap, ◌∙◌, subst, arith, or_parts, false≢true, drop_more, IsStrictlySortedBy, keys_of, string_cmp}
+use Rattle.proof_prelude.proofs.{◌≡◌, ◌+◌, [], ◌∷◌, ◌++◌, drop, true, string_bytes, sym, ap, ◌∙◌, subst, arith, or_parts, false≢true, drop_more, IsStrictlySortedBy, keys_of, string_cmp}
 use Rattle.json.specs.Print.{quoted}
 use Rattle.serde_json.specs.View.{view, items_view, members_view}
 use Rattle.serde_json.specs.Written.{comma_if, compact_text, items_text, members_text, has_float, items_have_float, members_have_float}

@@ -1,4 +1,4 @@
-use Rattle.proof_words.proofs.{◌≡◌, ◌++◌, ◌∷◌, drop, false, IsStrictlySortedBy, keys_of, string_cmp}
+use Rattle.proof_prelude.proofs.{◌≡◌, ◌++◌, ◌∷◌, drop, false, IsStrictlySortedBy, keys_of, string_cmp}
 use Rattle.serde_json.specs.View.{items_view, members_view}
 use Rattle.serde_json.specs.Written.{items_text, members_text, items_have_float, members_have_float}
 use Rattle.json_values.specs.{AreOrdered, IsInOrderOfNames}

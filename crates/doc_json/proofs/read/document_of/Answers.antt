@@ -1,4 +1,4 @@
-use Rattle.proof_words.proofs.{◌≡◌, List, Result, Ok, Some, ℕ, codes, is_some, option_map, Bool, Option, inl, refl, sym, ap, ◌∙◌, subst, IsOk, IfOk}
+use Rattle.proof_prelude.proofs.{◌≡◌, List, Result, Ok, Some, ℕ, codes, is_some, option_map, Bool, Option, inl, refl, sym, ap, ◌∙◌, subst, IsOk, IfOk}
 use Rattle.serde_json.specs.Data.{Data, Members}
 use Rattle.serde_json.specs.Find.{get, get_member, as_object}
 use Rattle.rev_core.specs.{RevId}

@@ -1,4 +1,4 @@
-use Rattle.proof_words.proofs.{sym, ap, ◌∙◌}
+use Rattle.proof_prelude.proofs.{sym, ap, ◌∙◌}
 use Rattle.doc_json.specs.{agrees, is_head}
 use Rattle.doc_json.proofs.{numbered_ok, sigs_first, head_some, head_none}
 use Rattle.doc_json.proofs.revisions.agrees.Goals as goal

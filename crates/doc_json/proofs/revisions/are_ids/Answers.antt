@@ -1,4 +1,4 @@
-use Rattle.proof_words.proofs.{map, arith, sym, ◌∙◌}
+use Rattle.proof_prelude.proofs.{map, arith, sym, ◌∙◌}
 use Rattle.serde_json.specs.View.{items_of}
 use Rattle.doc_json.specs.{sigs_of}
 use Rattle.doc_json.proofs.{ids_test, sigs_count}

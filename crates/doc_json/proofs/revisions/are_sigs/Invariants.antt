@@ -1,4 +1,4 @@
-use Rattle.proof_words.proofs.{map, ◌≡◌, drop, is_some}
+use Rattle.proof_prelude.proofs.{map, ◌≡◌, drop, is_some}
 use Rattle.serde_json.specs.View.{items_of}
 use Rattle.doc_json.specs.{sigs_of}
 use Rattle.doc_json.proofs.revisions.are_sigs.Given as goal

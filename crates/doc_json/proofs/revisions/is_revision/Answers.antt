@@ -1,4 +1,4 @@
-use Rattle.proof_words.proofs.{◌&&◌, nat_eq, ap, sym, ◌∙◌, pointwise, eq-eqb}
+use Rattle.proof_prelude.proofs.{◌&&◌, nat_eq, ap, sym, ◌∙◌, pointwise, eq-eqb}
 use Rattle.rev_core.specs.{rev_eq_is}
 use Rattle.doc_json.proofs.revisions.is_revision.Goals as goal
 

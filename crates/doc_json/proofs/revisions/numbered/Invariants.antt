@@ -1,4 +1,4 @@
-use Rattle.proof_words.proofs.{map, ◌≡◌, ◌+◌, ◌≤◌, ◌++◌, drop, length, option_map, vec_len, vec_capacity}
+use Rattle.proof_prelude.proofs.{map, ◌≡◌, ◌+◌, ◌≤◌, ◌++◌, drop, length, option_map, vec_len, vec_capacity}
 use Rattle.serde_json.specs.View.{items_of}
 use Rattle.rev_core.specs.{numbered}
 use Rattle.doc_json.specs.{sigs_of}

@@ -1,4 +1,4 @@
-use Rattle.proof_words.proofs.{◌≡◌, length, inl, inr, sym, ap, ◌∙◌, arith, Ok, option_map}
+use Rattle.proof_prelude.proofs.{◌≡◌, length, inl, inr, sym, ap, ◌∙◌, arith, Ok, option_map}
 use Rattle.doc_json.proofs.{start_refused, count_refused, is_ancestry, is_read}
 use Rattle.doc_json.proofs.revisions.numbered_from.Goals as goal
 use Rattle.doc_json.proofs.revisions.numbered_from.Goals.{then-start-gt4294967295-via-then-start-gt4294967295, then-start-gt4294967295-via-else-start-gt4294967295+then-count-lt1, then-start-gt4294967295-via-else-start-gt4294967295+else-count-lt1+then-count-start}

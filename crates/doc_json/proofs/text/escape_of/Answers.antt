@@ -1,4 +1,4 @@
-use Rattle.proof_words.proofs.{rules}
+use Rattle.proof_prelude.proofs.{rules}
 use Rattle.json.specs.Print.{escape_byte}
 use Rattle.doc_json.proofs.text.escape_of.Goals as goal
 

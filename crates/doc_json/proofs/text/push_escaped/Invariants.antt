@@ -1,4 +1,4 @@
-use Rattle.proof_words.proofs.{◌≡◌, ◌-◌, ◌≤◌, [], ◌∷◌, ◌++◌, length, drop}
+use Rattle.proof_prelude.proofs.{◌≡◌, ◌-◌, ◌≤◌, [], ◌∷◌, ◌++◌, length, drop}
 use Rattle.json.specs.Print.{escape, quoted}
 use Rattle.doc_json.specs.{Keeps}
 use Rattle.doc_json.proofs.text.push_escaped.Given as goal

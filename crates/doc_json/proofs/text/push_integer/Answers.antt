@@ -1,4 +1,4 @@
-use Rattle.proof_words.proofs.{◌≡◌, true, SFits, w64, sym, ◌∙◌, subst, arith}
+use Rattle.proof_prelude.proofs.{◌≡◌, true, SFits, w64, sym, ◌∙◌, subst, arith}
 use Rattle.json.proofs.Printed.Decimals.{IsNumber-decimal, IsNumber-signed_decimal}
 use Rattle.serde_json.specs.Number.{is_valid}
 use Rattle.serde_json.proofs.Numbers.{number_of-decimal}

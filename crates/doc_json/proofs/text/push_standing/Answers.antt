@@ -1,4 +1,4 @@
-use Rattle.proof_words.proofs.{◌≡◌, ◌++◌, ◌∷◌, [], ap, ◌∙◌, append_assoc}
+use Rattle.proof_prelude.proofs.{◌≡◌, ◌++◌, ◌∷◌, [], ap, ◌∙◌, append_assoc}
 use Rattle.doc_json.proofs.text.push_standing.Goals as goal
 
 pub returns-clause-text : goal.returns-clause-text

@@ -1,4 +1,4 @@
-use Rattle.proof_words.proofs.{◌++◌, sym, ap, ◌∙◌, arith, decimal_digit}
+use Rattle.proof_prelude.proofs.{◌++◌, sym, ap, ◌∙◌, arith, decimal_digit}
 use Rattle.doc_json.proofs.text.push_whole.Goals as goal
 
 pub returns-then-n-lt10 : goal.returns-then-n-lt10

@@ -1,4 +1,4 @@
-use Rattle.proof_words.proofs.{rules, append_assoc, IfOk-equal}
+use Rattle.proof_prelude.proofs.{rules, append_assoc, IfOk-equal}
 use Rattle.doc_json.specs.{doc_text}
 use Rattle.doc_json.proofs.write.push_parts.Goals as goal
 

@@ -1,4 +1,4 @@
-use Rattle.proof_words.proofs.{◌≡◌, ℕ, List, ◌++◌, ap, ◌∙◌, append_assoc, codes}
+use Rattle.proof_prelude.proofs.{◌≡◌, ℕ, List, ◌++◌, ap, ◌∙◌, append_assoc, codes}
 use Rattle.doc_json.specs.{revs_text, head_text, start_text, sig_texts}
 use Rattle.doc_json.proofs.write.push_revs.Goals as goal
 

@@ -1,4 +1,4 @@
-use Rattle.proof_words.proofs.{◌≡◌, ℕ, List, Vec, Global, [], ◌∷◌, ◌++◌, take, get_or, sym, ap, ◌∙◌, arith, append_assoc, subst, take_all}
+use Rattle.proof_prelude.proofs.{◌≡◌, ℕ, List, Vec, Global, [], ◌∷◌, ◌++◌, take, get_or, sym, ap, ◌∙◌, arith, append_assoc, subst, take_all}
 use Rattle.doc_json.specs.{Keeps, sig_text, sig_texts}
 use Rattle.doc_json.proofs.{kept_if, kept_more, kept_then, sig_texts-more, sig_texts-first}
 use Rattle.doc_json.proofs.write.push_sigs.Goals as goal

@@ -1,4 +1,4 @@
-use Rattle.proof_words.proofs.{◌≡◌, ◌++◌, take}
+use Rattle.proof_prelude.proofs.{◌≡◌, ◌++◌, take}
 use Rattle.doc_json.specs.{sig_texts}
 use Rattle.doc_json.proofs.write.push_sigs.Given as goal
 

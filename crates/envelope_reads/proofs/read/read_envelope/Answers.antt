@@ -1,4 +1,4 @@
-use Rattle.proof_words.proofs.{ap, sym, subst, ◌∙◌, cond, Some, None}
+use Rattle.proof_prelude.proofs.{ap, sym, subst, ◌∙◌, cond, Some, None}
 use Rattle.serde_json.specs.Read.{read as read_text}
 use Rattle.json_values.specs.{line_view}
 use Rattle.doc_envelope.specs.{made_of}

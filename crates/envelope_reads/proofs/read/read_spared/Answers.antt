@@ -1,4 +1,4 @@
-use Rattle.proof_words.proofs.{Err}
+use Rattle.proof_prelude.proofs.{Err}
 use Rattle.json_values.specs.{line_view}
 use Rattle.doc_json.specs.{doc_read}
 use Rattle.envelope_reads.proofs.{doc_spares, given_spares}

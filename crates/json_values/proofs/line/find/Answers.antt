@@ -1,4 +1,4 @@
-use Rattle.proof_words.proofs.{◌≡◌, ℕ, List, Bor, ◌+◌, [], ◌∷◌, drop, sym, ap, ◌∙◌, arith, refl, drop_more, drop_all}
+use Rattle.proof_prelude.proofs.{◌≡◌, ℕ, List, Bor, ◌+◌, [], ◌∷◌, drop, sym, ap, ◌∙◌, arith, refl, drop_more, drop_all}
 use Rattle.serde_json.specs.Find.{get_member}
 use Rattle.json_values.specs.{LineValue, line_view, line_members}
 use Rattle.json_values.proofs.{get_member-here, get_member-past}

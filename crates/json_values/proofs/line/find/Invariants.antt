@@ -1,4 +1,4 @@
-use Rattle.proof_words.proofs.{◌≡◌, drop}
+use Rattle.proof_prelude.proofs.{◌≡◌, drop}
 use Rattle.serde_json.specs.Find.{get_member}
 use Rattle.json_values.specs.{line_members}
 use Rattle.json_values.proofs.line.find.Given as goal

@@ -1,4 +1,4 @@
-use Rattle.proof_words.proofs.{◌≡◌, ◌+◌, ◌-◌, ◌<◌, List, [], ◌∷◌, ◌++◌, length, take, drop, Greater, nat_cmp, sym, ap, subst, ◌∙◌, arith, slice_cmp, drop_more, drop_all, take-append-drop}
+use Rattle.proof_prelude.proofs.{◌≡◌, ◌+◌, ◌-◌, ◌<◌, List, [], ◌∷◌, ◌++◌, length, take, drop, Greater, nat_cmp, sym, ap, subst, ◌∙◌, arith, slice_cmp, drop_more, drop_all, take-append-drop}
 use Rattle.json_values.specs.{Entry, IsRising, put_entry}
 use Rattle.json_values.proofs.{put_last}
 use Rattle.json_values.proofs.members.comes_last.Goals as goal

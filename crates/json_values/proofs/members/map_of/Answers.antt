@@ -1,4 +1,4 @@
-use Rattle.proof_words.proofs.{◌≡◌, ◌∷◌, ◌++◌, [], List, sym, ap, subst, ◌∙◌, append_assoc, into_iter_items}
+use Rattle.proof_prelude.proofs.{◌≡◌, ◌∷◌, ◌++◌, [], List, sym, ap, subst, ◌∙◌, append_assoc, into_iter_items}
 use Rattle.json_values.specs.{Entry, IsRising}
 use Rattle.json_values.proofs.{put_behind}
 use Rattle.json_values.proofs.members.map_of.Goals as goal

@@ -1,4 +1,4 @@
-use Rattle.proof_words.proofs.{◌≡◌, ◌++◌, into_iter_items}
+use Rattle.proof_prelude.proofs.{◌≡◌, ◌++◌, into_iter_items}
 use Rattle.json_values.proofs.members.map_of.Given as goal
 
 -- the members so far, and those that are left, are all in their order

@@ -1,4 +1,4 @@
-use Rattle.proof_words.proofs.{◌≡◌, ◌<◌, ◌≤◌, length}
+use Rattle.proof_prelude.proofs.{◌≡◌, ◌<◌, ◌≤◌, length}
 use Rattle.json_values.specs.{MovesLast}
 use Rattle.json_values.proofs.members.move_last.Given as goal
 

@@ -1,4 +1,4 @@
-use Rattle.proof_words.proofs.{◌≡◌, length, get_or, nat_cmp, sym, ap, ap₂, ◌∙◌, arith, slice_cmp}
+use Rattle.proof_prelude.proofs.{◌≡◌, length, get_or, nat_cmp, sym, ap, ap₂, ◌∙◌, arith, slice_cmp}
 use Rattle.json_values.proofs.{second_less, second_greater}
 use Rattle.json_values.proofs.members.order_behind.Goals as goal
 

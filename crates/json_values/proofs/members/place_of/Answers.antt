@@ -1,4 +1,4 @@
-use Rattle.proof_words.proofs.{◌≡◌, ◌+◌, ◌-◌, List, [], ◌∷◌, ◌++◌, length, take, drop, Less, Equal, Greater, nat_cmp, sym, ap, subst, ◌∙◌, arith, append_assoc, append-nil, slice_cmp, drop_more, take_more, drop_all, get_or_from_slice_get, take_all, take-append-drop, slice_set}
+use Rattle.proof_prelude.proofs.{◌≡◌, ◌+◌, ◌-◌, List, [], ◌∷◌, ◌++◌, length, take, drop, Less, Equal, Greater, nat_cmp, sym, ap, subst, ◌∙◌, arith, append_assoc, append-nil, slice_cmp, drop_more, take_more, drop_all, get_or_from_slice_get, take_all, take-append-drop, slice_set}
 use Rattle.json_values.specs.{Entry, IsRising, put_entry}
 use Rattle.json_values.proofs.{put_front, put_tied, put_last, rising_front, set_between}
 use Rattle.json_values.proofs.members.place_of.Goals as goal

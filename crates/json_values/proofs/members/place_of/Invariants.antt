@@ -1,4 +1,4 @@
-use Rattle.proof_words.proofs.{◌≡◌, ◌≤◌, ℕ, List, ◌++◌, length, Bor, take, drop}
+use Rattle.proof_prelude.proofs.{◌≡◌, ◌≤◌, ℕ, List, ◌++◌, length, Bor, take, drop}
 use Rattle.json_values.specs.{put_entry}
 use Rattle.json_values.proofs.members.place_of.Given as goal
 

@@ -1,4 +1,4 @@
-use Rattle.proof_words.proofs.{◌≡◌, ◌<◌, ◌≤◌, List, Some, length, refl, sym, ◌∙◌, subst, slice_get_read, slice_get}
+use Rattle.proof_prelude.proofs.{◌≡◌, ◌<◌, ◌≤◌, List, Some, length, refl, sym, ◌∙◌, subst, slice_get_read, slice_get}
 use Rattle.json_values.specs.{Entry, IsGapFor, IsPlaceOf}
 use Rattle.json_values.proofs.members.put_listed.Goals as goal
 

@@ -1,4 +1,4 @@
-use Rattle.proof_words.proofs.{◌≡◌, drop, AllDigits, digits_value, digits_value_after}
+use Rattle.proof_prelude.proofs.{◌≡◌, drop, AllDigits, digits_value, digits_value_after}
 use Rattle.json_values.proofs.numbers.few_digits.Given as goal
 
 -- the digits that are left follow those of n

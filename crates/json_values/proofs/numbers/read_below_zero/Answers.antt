@@ -1,4 +1,4 @@
-use Rattle.proof_words.proofs.{Some, sym, ap, ◌∙◌, arith}
+use Rattle.proof_prelude.proofs.{Some, sym, ap, ◌∙◌, arith}
 use Rattle.json_values.proofs.{below_digits, opposite}
 use Rattle.json_values.proofs.numbers.read_below_zero.Goals as goal
 

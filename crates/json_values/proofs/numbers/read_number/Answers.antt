@@ -1,4 +1,4 @@
-use Rattle.proof_words.proofs.{drop, true, ap, ◌∙◌, sym, arith, take_all, length-drop}
+use Rattle.proof_prelude.proofs.{drop, true, ap, ◌∙◌, sym, arith, take_all, length-drop}
 use Rattle.fast_float.specs.Text.{scan}
 use Rattle.serde_json.specs.Read.{number_of, number_from}
 use Rattle.json_values.proofs.{number_of-minus, number_of-no_minus}

@@ -1,4 +1,4 @@
-use Rattle.proof_words.proofs.{◌≡◌, ◌≤◌, [], Some, sym, subst, arith, rules}
+use Rattle.proof_prelude.proofs.{◌≡◌, ◌≤◌, [], Some, sym, subst, arith, rules}
 use Rattle.serde_json.specs.Data.{depth}
 use Rattle.serde_json.specs.Read.{max_depth, read}
 use Rattle.serde_json.proofs.Nesting.{depth-read}

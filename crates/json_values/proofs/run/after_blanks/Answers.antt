@@ -1,4 +1,4 @@
-use Rattle.proof_words.proofs.{sym, ◌∙◌, arith}
+use Rattle.proof_prelude.proofs.{sym, ◌∙◌, arith}
 use Rattle.json_values.proofs.{lex-blank}
 use Rattle.json_values.proofs.run.after_blanks.Goals as goal
 

@@ -1,4 +1,4 @@
-use Rattle.proof_words.proofs.{◌≡◌, ◌-◌, ◌≤◌, length, drop}
+use Rattle.proof_prelude.proofs.{◌≡◌, ◌-◌, ◌≤◌, length, drop}
 use Rattle.json.specs.Lex.{between, lex}
 use Rattle.json_values.proofs.run.after_blanks.Given as goal
 

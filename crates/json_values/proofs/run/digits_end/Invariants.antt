@@ -1,4 +1,4 @@
-use Rattle.proof_words.proofs.{◌≡◌, ◌+◌, ◌-◌, ◌≤◌, length, drop, prefix_len, is_ascii_digit}
+use Rattle.proof_prelude.proofs.{◌≡◌, ◌+◌, ◌-◌, ◌≤◌, length, drop, prefix_len, is_ascii_digit}
 use Rattle.json_values.proofs.run.digits_end.Given as goal
 
 abbrev pub invariant-loop-i : goal.invariant-loop-i

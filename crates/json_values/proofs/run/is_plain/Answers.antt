@@ -1,4 +1,4 @@
-use Rattle.proof_words.proofs.{◌-◌, length, refl, sym, ◌∙◌, arith, eqb-true}
+use Rattle.proof_prelude.proofs.{◌-◌, length, refl, sym, ◌∙◌, arith, eqb-true}
 use Rattle.json.specs.Run.{is_stop, is_plain}
 use Rattle.json_values.proofs.{run_through, end_clear}
 use Rattle.json_values.proofs.run.is_plain.Goals as goal

@@ -1,4 +1,4 @@
-use Rattle.proof_words.proofs.{refl, sym, ◌∙◌, arith, and_parts, eqb-true}
+use Rattle.proof_prelude.proofs.{refl, sym, ◌∙◌, arith, and_parts, eqb-true}
 use Rattle.json.specs.Run.{is_stop, is_plain}
 use Rattle.json_values.proofs.{both_clear}
 use Rattle.json_values.proofs.run.is_plain_4.Goals as goal

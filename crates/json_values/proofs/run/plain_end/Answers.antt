@@ -1,4 +1,4 @@
-use Rattle.proof_words.proofs.{refl, sym, ap, ◌∙◌, arith}
+use Rattle.proof_prelude.proofs.{refl, sym, ap, ◌∙◌, arith}
 use lib.Count.{count_trailing_zeros}
 use Rattle.json.specs.Run.{is_stop, is_plain}
 use Rattle.json_values.proofs.{run_bound, run_through, run_stops}

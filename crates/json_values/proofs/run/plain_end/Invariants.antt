@@ -1,4 +1,4 @@
-use Rattle.proof_words.proofs.{◌≡◌, ◌+◌, ◌-◌, ◌≤◌, length, drop, prefix_len}
+use Rattle.proof_prelude.proofs.{◌≡◌, ◌+◌, ◌-◌, ◌≤◌, length, drop, prefix_len}
 use Rattle.json.specs.Run.{is_plain}
 use Rattle.json_values.proofs.run.plain_end.Given as goal
 

@@ -1,4 +1,4 @@
-use Rattle.proof_words.proofs.{◌≡◌, ◌+◌, ◌-◌, ◌/◌, ◌^◌, ◌<◌, length, refl, sym, ap, subst, ◌∙◌, arith}
+use Rattle.proof_prelude.proofs.{◌≡◌, ◌+◌, ◌-◌, ◌/◌, ◌^◌, ◌<◌, length, refl, sym, ap, subst, ◌∙◌, arith}
 use lib.Count.{count_trailing_zeros}
 use Rattle.json.specs.Run.{is_stop, is_plain}
 use Rattle.json_values.proofs.{end_through, end_stops}

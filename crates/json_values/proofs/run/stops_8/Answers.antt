@@ -1,4 +1,4 @@
-use Rattle.proof_words.proofs.{arith, zip2_splat}
+use Rattle.proof_prelude.proofs.{arith, zip2_splat}
 use Rattle.json.specs.Run.{is_stop}
 use Rattle.json_values.proofs.{hit, below, either, masked}
 use Rattle.json_values.proofs.run.stops_8.Goals as goal

@@ -1,4 +1,4 @@
-use Rattle.proof_words.proofs.{◌≡◌, refl, sym, ap, ◌∙◌, arith}
+use Rattle.proof_prelude.proofs.{◌≡◌, refl, sym, ap, ◌∙◌, arith}
 use Rattle.json.specs.Word.{head}
 use Rattle.json.specs.Lex.{class, after_value, after_comma, punctuate}
 use Rattle.json_values.proofs.{at_operator}

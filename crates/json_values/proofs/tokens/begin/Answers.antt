@@ -1,4 +1,4 @@
-use Rattle.proof_words.proofs.{◌≡◌, ◌∷◌, refl, sym, ap, ◌∙◌, subst, arith, rules}
+use Rattle.proof_prelude.proofs.{◌≡◌, ◌∷◌, refl, sym, ap, ◌∙◌, subst, arith, rules}
 use Rattle.json.specs.Token as spec
 use Rattle.json.specs.Word.{head}
 use Rattle.json.specs.Lex.{token, class, other, fresh, after_value, may_begin, punctuate}

@@ -1,4 +1,4 @@
-use Rattle.proof_words.proofs.{◌≡◌, [], cond, sym, ap, ◌∙◌, subst, arith}
+use Rattle.proof_prelude.proofs.{◌≡◌, [], cond, sym, ap, ◌∙◌, subst, arith}
 use Rattle.json.specs.Lex.{class}
 use Rattle.json.specs.Align.{is_blank}
 use Rattle.json.specs.Reads.{Yields}

@@ -1,4 +1,4 @@
-use Rattle.proof_words.proofs.{◌≡◌, ◌+◌, ◌-◌, ◌++◌, length, take, drop, sym, ap, ◌∙◌, arith, take-add, take_more_put_chunk, length-chunk, length-put_chunk, append_assoc, drop-drop}
+use Rattle.proof_prelude.proofs.{◌≡◌, ◌+◌, ◌-◌, ◌++◌, length, take, drop, sym, ap, ◌∙◌, arith, take-add, take_more_put_chunk, length-chunk, length-put_chunk, append_assoc, drop-drop}
 use lib.Lanes.{chunk}
 use Rattle.json_values.proofs.{cut_back}
 use Rattle.json_values.proofs.unescape.append_run.Goals as goal

@@ -1,4 +1,4 @@
-use Rattle.proof_words.proofs.{◌≡◌, ◌+◌, drop, Some, ap, ◌∙◌, arith, common_steps, drop_all}
+use Rattle.proof_prelude.proofs.{◌≡◌, ◌+◌, drop, Some, ap, ◌∙◌, arith, common_steps, drop_all}
 use Rattle.json_values.proofs.{content-after_backslash, content-nil, in_escape-any, escape_from}
 use Rattle.std.specs.Char.{encode_utf8}
 use Rattle.json.specs.Text.{content, after_backslash, after_u}

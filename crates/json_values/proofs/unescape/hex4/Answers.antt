@@ -1,4 +1,4 @@
-use Rattle.proof_words.proofs.{arith}
+use Rattle.proof_prelude.proofs.{arith}
 use Rattle.json.specs.Text.{code_unit}
 use Rattle.json_values.proofs.unescape.hex4.Goals as goal
 

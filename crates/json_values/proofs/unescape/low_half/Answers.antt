@@ -1,4 +1,4 @@
-use Rattle.proof_words.proofs.{◌≡◌, ◌+◌, ◌-◌, drop, sym, arith, common_steps, length-drop}
+use Rattle.proof_prelude.proofs.{◌≡◌, ◌+◌, ◌-◌, drop, sym, arith, common_steps, length-drop}
 use Rattle.json_values.proofs.{content-after_high, short_after_high, len_utf8-le, in_string-low_half}
 use Rattle.json_values.proofs.unescape.low_half.Goals as goal
 

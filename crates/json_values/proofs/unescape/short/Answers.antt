@@ -1,4 +1,4 @@
-use Rattle.proof_words.proofs.{rules, arith, common_steps}
+use Rattle.proof_prelude.proofs.{rules, arith, common_steps}
 use Rattle.json.specs.Text.{short_escape}
 use Rattle.json_values.proofs.unescape.short.Goals as goal
 

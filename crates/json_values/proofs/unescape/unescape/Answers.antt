@@ -1,4 +1,4 @@
-use Rattle.proof_words.proofs.{◌≡◌, ◌+◌, ◌-◌, ◌<◌, ◌++◌, length, take, drop, Some, None, sym, ap, ◌∙◌, subst, arith, IsUtf8-append, IsUtf8-between, IsCharBoundary-before_ascii, IsCharBoundary-after_ascii, common_steps, prefix_len, IsUtf8, IsCharBoundary, length-take-le, length-drop, append-nil}
+use Rattle.proof_prelude.proofs.{◌≡◌, ◌+◌, ◌-◌, ◌<◌, ◌++◌, length, take, drop, Some, None, sym, ap, ◌∙◌, subst, arith, IsUtf8-append, IsUtf8-between, IsCharBoundary-before_ascii, IsCharBoundary-after_ascii, common_steps, prefix_len, IsUtf8, IsCharBoundary, length-take-le, length-drop, append-nil}
 use Rattle.json.specs.Text.{content, plain, after_backslash, prepend}
 use Rattle.json.specs.Run.{is_plain}
 use Rattle.json_values.proofs.{prepend-prepend, content-to_stop, at_quote, at_backslash, at_control, at_end, stop_is_backslash, in_string-to_stop, in_string-quote, in_string-backslash}

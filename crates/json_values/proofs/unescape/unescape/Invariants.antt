@@ -1,4 +1,4 @@
-use Rattle.proof_words.proofs.{◌≡◌, ◌+◌, ◌-◌, ◌≤◌, length, take, drop, IsUtf8, IsCharBoundary}
+use Rattle.proof_prelude.proofs.{◌≡◌, ◌+◌, ◌-◌, ◌≤◌, length, take, drop, IsUtf8, IsCharBoundary}
 use Rattle.json.specs.Text.{content, plain, prepend}
 use Rattle.json.specs.Lex.{in_string, lex}
 use Rattle.json_values.proofs.unescape.unescape.Given as goal

@@ -1,4 +1,4 @@
-use Rattle.proof_words.proofs.{◌≡◌, ◌+◌, ◌-◌, drop, sym, arith, length-drop}
+use Rattle.proof_prelude.proofs.{◌≡◌, ◌+◌, ◌-◌, drop, sym, arith, length-drop}
 use Rattle.json.specs.Text.{content, after_u, after_high}
 use Rattle.json_values.proofs.{content-after_u, short_after_u, len_utf8-le, in_string-unit, escape_from}
 use Rattle.json_values.proofs.unescape.unicode.Goals as goal

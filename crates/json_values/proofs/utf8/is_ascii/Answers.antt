@@ -1,4 +1,4 @@
-use Rattle.proof_words.proofs.{◌-◌, length, sym, subst, arith, take-add, IsAscii, IsAscii-append}
+use Rattle.proof_prelude.proofs.{◌-◌, length, sym, subst, arith, take-add, IsAscii, IsAscii-append}
 use Rattle.json_values.proofs.{ascii_joined}
 use Rattle.json_values.proofs.utf8.is_ascii.Goals as goal
 

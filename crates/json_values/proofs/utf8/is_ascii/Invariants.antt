@@ -1,4 +1,4 @@
-use Rattle.proof_words.proofs.{◌-◌, ◌≤◌, length, take, IsAscii}
+use Rattle.proof_prelude.proofs.{◌-◌, ◌≤◌, length, take, IsAscii}
 use Rattle.json_values.proofs.utf8.is_ascii.Given as goal
 
 abbrev pub invariant-loop-i : goal.invariant-loop-i

@@ -1,4 +1,4 @@
-use Rattle.proof_words.proofs.{cond, leb, sym, ◌∙◌, arith, zip2_splat_left, eqb-true}
+use Rattle.proof_prelude.proofs.{cond, leb, sym, ◌∙◌, arith, zip2_splat_left, eqb-true}
 use Rattle.json_values.proofs.{at_least, is_high, masked, none_high}
 use Rattle.json_values.proofs.utf8.is_ascii_16.Goals as goal
 

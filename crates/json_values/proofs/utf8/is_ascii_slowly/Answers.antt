@@ -1,4 +1,4 @@
-use Rattle.proof_words.proofs.{subst, arith, IsAscii, IsAscii-more, take_all}
+use Rattle.proof_prelude.proofs.{subst, arith, IsAscii, IsAscii-more, take_all}
 use Rattle.json_values.proofs.utf8.is_ascii_slowly.Goals as goal
 
 pub loop-i-preserved : goal.loop-i-preserved

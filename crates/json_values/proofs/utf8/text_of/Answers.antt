@@ -1,4 +1,4 @@
-use Rattle.proof_words.proofs.{IsUtf8-from_ascii}
+use Rattle.proof_prelude.proofs.{IsUtf8-from_ascii}
 use Rattle.json_values.proofs.utf8.text_of.Goals as goal
 
 pub from_utf8_unchecked-requires : goal.from_utf8_unchecked-requires

@@ -1,4 +1,4 @@
-use Rattle.proof_words.proofs.{List, false, ◌≡◌, ◌-◌, ◌<◌, [], ◌∷◌, length, Some, None, sym, ap, subst, ◌∙◌, arith, rules}
+use Rattle.proof_prelude.proofs.{List, false, ◌≡◌, ◌-◌, ◌<◌, [], ◌∷◌, length, Some, None, sym, ap, subst, ◌∙◌, arith, rules}
 use Rattle.json.specs.Token.{Token}
 use Rattle.json.specs.Json.{parse_map, after_end_array, read_key, items, members, value}
 use Rattle.json.specs.Reads.{token_of}

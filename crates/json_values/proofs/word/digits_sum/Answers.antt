@@ -1,4 +1,4 @@
-use Rattle.proof_words.proofs.{◌≡◌, ◌+◌, ◌<◌, true, length, get_or, arith, is_ascii_digit, digit_value, digit_value_digit, digits_more, digits_value_more, prefix_len-drop_yes}
+use Rattle.proof_prelude.proofs.{◌≡◌, ◌+◌, ◌<◌, true, length, get_or, arith, is_ascii_digit, digit_value, digit_value_digit, digits_more, digits_value_more, prefix_len-drop_yes}
 use Rattle.json_values.proofs.{digit_range}
 use Rattle.json_values.proofs.word.digits_sum.Goals as goal
 

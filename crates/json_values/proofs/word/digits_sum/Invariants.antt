@@ -1,4 +1,4 @@
-use Rattle.proof_words.proofs.{◌≡◌, ◌+◌, ◌-◌, ◌<◌, ◌≤◌, ◌^◌, length, take, drop, prefix_len, is_ascii_digit, AllDigits, digits_value}
+use Rattle.proof_prelude.proofs.{◌≡◌, ◌+◌, ◌-◌, ◌<◌, ◌≤◌, ◌^◌, length, take, drop, prefix_len, is_ascii_digit, AllDigits, digits_value}
 use Rattle.json_values.proofs.word.digits_sum.Given as goal
 
 -- n is what the digits up to i write

@@ -1,4 +1,4 @@
-use Rattle.proof_words.proofs.{◌≡◌, ℕ, ◌+◌, ◌≤◌, ◌||◌, List, length, take, drop, true, Some, sym, ap, ◌∙◌, subst, arith, length-drop, take_rest, AllDigits, digits_value}
+use Rattle.proof_prelude.proofs.{◌≡◌, ℕ, ◌+◌, ◌≤◌, ◌||◌, List, length, take, drop, true, Some, sym, ap, ◌∙◌, subst, arith, length-drop, take_rest, AllDigits, digits_value}
 use Rattle.serde_json.specs.View.{number_view}
 use Rattle.json.specs.Word.{is_operator, is_space, ends_word, after_whole}
 use Rattle.json_values.specs.{IntegerAt}

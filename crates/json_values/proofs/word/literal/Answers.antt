@@ -1,4 +1,4 @@
-use Rattle.proof_words.proofs.{◌≡◌, ◌-◌, ◌||◌, nat_eq, true, length, take, drop, sym, ap, ◌∙◌, subst, arith, take_all, length-drop, starts_with}
+use Rattle.proof_prelude.proofs.{◌≡◌, ◌-◌, ◌||◌, nat_eq, true, length, take, drop, sym, ap, ◌∙◌, subst, arith, take_all, length-drop, starts_with}
 use Rattle.json.specs.Word.{is_operator, is_space, ends_word}
 use Rattle.json_values.proofs.{literal_at}
 use Rattle.json_values.proofs.word.literal.Goals as goal

@@ -1,4 +1,4 @@
-use Rattle.proof_words.proofs.{◌≡◌, ◌<◌, drop, get_or, Some, sym, ap, ◌∙◌, subst, add-zero, ◌||◌, true, IsCharBoundary-before_ascii, get_or_default, get_or-drop}
+use Rattle.proof_prelude.proofs.{◌≡◌, ◌<◌, drop, get_or, Some, sym, ap, ◌∙◌, subst, add-zero, ◌||◌, true, IsCharBoundary-before_ascii, get_or_default, get_or-drop}
 use Rattle.json.specs.Word.{is_operator, is_space, ends_word, after_number, number_before}
 use Rattle.json.specs.Token.{number}
 use Rattle.json_values.proofs.{Found, number_ascii, Stands, number_at}

@@ -1,4 +1,4 @@
-use Rattle.proof_words.proofs.{rules, arith, common_steps}
+use Rattle.proof_prelude.proofs.{rules, arith, common_steps}
 use Rattle.json.specs.Word.{after_number}
 use Rattle.json_values.proofs.word.number_end.Goals as goal
 

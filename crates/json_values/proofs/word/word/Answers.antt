@@ -1,4 +1,4 @@
-use Rattle.proof_words.proofs.{refl, sym, rules, arith, common_steps}
+use Rattle.proof_prelude.proofs.{refl, sym, rules, arith, common_steps}
 use Rattle.json.specs.Word.{word}
 use Rattle.json.specs.Lex.{lex}
 use Rattle.json.proofs.Printed.Numbers.{in_word-ended}

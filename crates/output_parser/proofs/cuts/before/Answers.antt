@@ -1,4 +1,4 @@
-use Rattle.proof_words.proofs.{◌≡◌, ◌≢◌, ◌++◌, ℕ, List, Decides-eqb, strip_suffix_is}
+use Rattle.proof_prelude.proofs.{◌≡◌, ◌≢◌, ◌++◌, ℕ, List, Decides-eqb, strip_suffix_is}
 use Rattle.output_parser.proofs.{none_of, some_of}
 use Rattle.output_parser.proofs.cuts.before.Goals as goal
 

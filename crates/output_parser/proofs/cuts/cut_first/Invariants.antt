@@ -1,4 +1,4 @@
-use Rattle.proof_words.proofs.{◌≡◌, true, take}
+use Rattle.proof_prelude.proofs.{◌≡◌, true, take}
 use Rattle.output_parser.specs.{lacks}
 use Rattle.output_parser.proofs.cuts.cut_first.Given as goal
 

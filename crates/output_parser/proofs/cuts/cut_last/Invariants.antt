@@ -1,4 +1,4 @@
-use Rattle.proof_words.proofs.{◌≡◌, true, drop}
+use Rattle.proof_prelude.proofs.{◌≡◌, true, drop}
 use Rattle.output_parser.specs.{lacks}
 use Rattle.output_parser.proofs.cuts.cut_last.Given as goal
 

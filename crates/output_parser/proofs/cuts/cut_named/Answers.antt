@@ -1,4 +1,4 @@
-use Rattle.proof_words.proofs.{◌++◌, ◌∷◌, sym, ◌∙◌, append_assoc}
+use Rattle.proof_prelude.proofs.{◌++◌, ◌∷◌, sym, ◌∙◌, append_assoc}
 use Rattle.output_parser.proofs.{last_unique}
 use Rattle.output_parser.proofs.cuts.cut_named.Goals as goal
 

@@ -1,4 +1,4 @@
-use Rattle.proof_words.proofs.{sym, ◌∙◌, arith, rules, common_steps}
+use Rattle.proof_prelude.proofs.{sym, ◌∙◌, arith, rules, common_steps}
 use Rattle.output_parser.proofs.{begins_bad, begins_no, begins_yes}
 use Rattle.output_parser.proofs.lines.begins_with.Goals as goal
 

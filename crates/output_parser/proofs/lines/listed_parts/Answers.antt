@@ -1,4 +1,4 @@
-use Rattle.proof_words.proofs.{◌++◌, ◌∷◌, sym, ap, subst, ◌∙◌, IsUtf8}
+use Rattle.proof_prelude.proofs.{◌++◌, ◌∷◌, sym, ap, subst, ◌∙◌, IsUtf8}
 use Rattle.output_parser.proofs.{after, if_none, listed_unique, lacks_not}
 use Rattle.output_parser.specs.{lacks}
 use Rattle.output_parser.proofs.lines.listed_parts.Goals as goal

@@ -1,4 +1,4 @@
-use Rattle.proof_words.proofs.{sym, subst, IsUtf8}
+use Rattle.proof_prelude.proofs.{sym, subst, IsUtf8}
 use Rattle.output_parser.specs.{IsNumber}
 use Rattle.output_parser.proofs.{if_none, doc_two, doc_one, doc_id}
 use Rattle.output_parser.proofs.lines.read_doc.Goals as goal

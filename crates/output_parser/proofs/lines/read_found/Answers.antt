@@ -1,4 +1,4 @@
-use Rattle.proof_words.proofs.{ℕ, List, sym, subst, ◌∙◌}
+use Rattle.proof_prelude.proofs.{ℕ, List, sym, subst, ◌∙◌}
 use Rattle.rev_core.specs.{RevId}
 use Rattle.output_parser.specs.{IsListed}
 use Rattle.output_parser.proofs.{none_at}

@@ -1,4 +1,4 @@
-use Rattle.proof_words.proofs.{sym, subst, ◌∙◌, ◌≡◌, ℕ, List, AllByRecursion}
+use Rattle.proof_prelude.proofs.{sym, subst, ◌∙◌, ◌≡◌, ℕ, List, AllByRecursion}
 use Rattle.rev_core.specs.{IsRev, RevId, FallsByOne}
 use Rattle.output_parser.specs.{IsRevs, BeginsWith}
 use Rattle.output_parser.proofs.{revs_unique, leaf_list, none_at, some_at}

@@ -1,4 +1,4 @@
-use Rattle.proof_words.proofs.{subst, ℕ, List}
+use Rattle.proof_prelude.proofs.{subst, ℕ, List}
 use Rattle.rev_core.specs.{RevId}
 use Rattle.output_parser.specs.{IsRevs}
 use Rattle.output_parser.proofs.{listed_list, none_at}

@@ -1,4 +1,4 @@
-use Rattle.proof_words.proofs.{sym, subst, IsUtf8}
+use Rattle.proof_prelude.proofs.{sym, subst, IsUtf8}
 use Rattle.output_parser.proofs.{if_none, head_cut, head_is}
 use Rattle.output_parser.proofs.logs.log_head.Goals as goal
 

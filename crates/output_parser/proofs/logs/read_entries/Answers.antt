@@ -1,4 +1,4 @@
-use Rattle.proof_words.proofs.{◌∷◌, ◌++◌, [], List, ℕ, length, map, sym, ap, subst, ◌∙◌, arith}
+use Rattle.proof_prelude.proofs.{◌∷◌, ◌++◌, [], List, ℕ, length, map, sym, ap, subst, ◌∙◌, arith}
 use Rattle.output_parser.specs.{IsEntry, Logged, logged}
 use Rattle.output_parser.proofs.{none_at, some_at, ReadsEntries, entries_all, entries_more, entries_none, entries_unclosed, entry_shorter, none_at_all, one_entry}
 use Rattle.output_parser.proofs.logs.read_entries.Goals as goal

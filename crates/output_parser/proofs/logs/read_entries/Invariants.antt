@@ -1,4 +1,4 @@
-use Rattle.proof_words.proofs.{length, map}
+use Rattle.proof_prelude.proofs.{length, map}
 use Rattle.output_parser.specs.{logged}
 use Rattle.output_parser.proofs.{ReadsEntries}
 use Rattle.output_parser.proofs.logs.read_entries.Given as goal

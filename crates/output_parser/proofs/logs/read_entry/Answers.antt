@@ -1,4 +1,4 @@
-use Rattle.proof_words.proofs.{◌∷◌, List, ℕ, sym, ap, subst, ◌∙◌}
+use Rattle.proof_prelude.proofs.{◌∷◌, List, ℕ, sym, ap, subst, ◌∙◌}
 use Rattle.output_parser.specs.{InTurn, IsMember, Logged, Values, texts_of}
 use Rattle.output_parser.proofs.{none_at, some_at, values_same}
 use Rattle.output_parser.proofs.logs.read_entry.Goals as goal

@@ -1,4 +1,4 @@
-use Rattle.proof_words.proofs.{List, subst}
+use Rattle.proof_prelude.proofs.{List, subst}
 use Rattle.output_parser.specs.{IsHistory, Logged}
 use Rattle.output_parser.proofs.{none_at, heads_same}
 use Rattle.output_parser.proofs.logs.read_log.Goals as goal

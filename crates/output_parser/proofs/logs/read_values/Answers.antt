@@ -1,4 +1,4 @@
-use Rattle.proof_words.proofs.{◌∷◌, [], ap, ◌∙◌, arith, map-append, Bor, List, ℕ}
+use Rattle.proof_prelude.proofs.{◌∷◌, [], ap, ◌∙◌, arith, map-append, Bor, List, ℕ}
 use Rattle.output_parser.specs.{IsMember, texts_of}
 use Rattle.output_parser.proofs.{member_unique, drop_all, reads_all, reads_more, reads_none}
 use Rattle.output_parser.proofs.logs.read_values.Goals as goal

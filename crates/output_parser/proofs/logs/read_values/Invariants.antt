@@ -1,4 +1,4 @@
-use Rattle.proof_words.proofs.{drop}
+use Rattle.proof_prelude.proofs.{drop}
 use Rattle.output_parser.specs.{IsMember, texts_of}
 use Rattle.output_parser.proofs.TurnLemmas.{Reads}
 use Rattle.output_parser.proofs.logs.read_values.Given as goal

@@ -1,4 +1,4 @@
-use Rattle.proof_words.proofs.{◌≡◌, ℕ, sym, ap, subst, ◌∙◌, decimal, Ok, Result, false≢true, IsUtf8, IsUtf8-from_ascii, IsAscii-decimal, parse-decimal, bytes_decides}
+use Rattle.proof_prelude.proofs.{◌≡◌, ℕ, sym, ap, subst, ◌∙◌, decimal, Ok, Result, false≢true, IsUtf8, IsUtf8-from_ascii, IsAscii-decimal, parse-decimal, bytes_decides}
 use Rattle.output_parser.proofs.{clash}
 use Rattle.output_parser.proofs.numbers.number.Goals as goal
 

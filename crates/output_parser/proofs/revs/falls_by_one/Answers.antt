@@ -1,4 +1,4 @@
-use Rattle.proof_words.proofs.{◌-◌, arith}
+use Rattle.proof_prelude.proofs.{◌-◌, arith}
 use Rattle.output_parser.proofs.{falls_init, falls_read}
 use Rattle.output_parser.proofs.revs.falls_by_one.Goals as goal
 

@@ -1,4 +1,4 @@
-use Rattle.proof_words.proofs.{◌-◌, drop}
+use Rattle.proof_prelude.proofs.{◌-◌, drop}
 use Rattle.rev_core.specs.{FallsByOne}
 use Rattle.output_parser.proofs.revs.falls_by_one.Given as goal
 

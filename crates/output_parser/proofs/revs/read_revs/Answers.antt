@@ -1,4 +1,4 @@
-use Rattle.proof_words.proofs.{[], ◌++◌, map, sym, ap, ◌∙◌, append-nil}
+use Rattle.proof_prelude.proofs.{[], ◌++◌, map, sym, ap, ◌∙◌, append-nil}
 use Rattle.rev_core.specs.{rev_text}
 use Rattle.output_parser.proofs.{no_piece, pieces, pieces_first, pieces_last, read_more, revs_more}
 use Rattle.output_parser.proofs.revs.read_revs.Goals as goal

@@ -1,4 +1,4 @@
-use Rattle.proof_words.proofs.{◌≡◌, ◌++◌, ◌==◌, length, map, AllByRecursion, slice_split}
+use Rattle.proof_prelude.proofs.{◌≡◌, ◌++◌, ◌==◌, length, map, AllByRecursion, slice_split}
 use Rattle.rev_core.specs.{IsRev, rev_text}
 use Rattle.output_parser.proofs.revs.read_revs.Given as goal
 

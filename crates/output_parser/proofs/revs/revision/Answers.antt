@@ -1,4 +1,4 @@
-use Rattle.proof_words.proofs.{sym, ap, ◌∙◌}
+use Rattle.proof_prelude.proofs.{sym, ap, ◌∙◌}
 use Rattle.rev_core.specs.{rev_read, rev_read-text}
 use Rattle.output_parser.proofs.{clash}
 use Rattle.output_parser.proofs.revs.revision.Goals as goal

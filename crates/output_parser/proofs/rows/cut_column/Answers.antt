@@ -1,4 +1,4 @@
-use Rattle.proof_words.proofs.{◌≡◌, ◌++◌, ◌∷◌, ◌∙◌, subst}
+use Rattle.proof_prelude.proofs.{◌≡◌, ◌++◌, ◌∷◌, ◌∙◌, subst}
 use Rattle.output_parser.specs.{IsNumber, column_text}
 use Rattle.output_parser.proofs.{named_unique}
 use Rattle.output_parser.proofs.rows.cut_column.Goals as goal

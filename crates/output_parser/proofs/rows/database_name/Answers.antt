@@ -1,4 +1,4 @@
-use Rattle.proof_words.proofs.{◌≡◌, ◌++◌, ℕ, List, codes, sym}
+use Rattle.proof_prelude.proofs.{◌≡◌, ◌++◌, ℕ, List, codes, sym}
 use Rattle.output_parser.specs.{IsFront}
 use Rattle.output_parser.specs.declared.told.Table.TheVariants as tables
 use Rattle.output_parser.proofs.{if_none, named_unique, none_map}

@@ -1,4 +1,4 @@
-use Rattle.proof_words.proofs.{ℕ, List, subst}
+use Rattle.proof_prelude.proofs.{ℕ, List, subst}
 use Rattle.output_parser.specs.{IsFront}
 use Rattle.output_parser.specs.declared.told.Table.TheVariants as tables
 use Rattle.output_parser.proofs.{none_map}

@@ -1,4 +1,4 @@
-use Rattle.proof_words.proofs.{subst, IsUtf8}
+use Rattle.proof_prelude.proofs.{subst, IsUtf8}
 use Rattle.output_parser.proofs.{front_unique}
 use Rattle.output_parser.proofs.rows.name_of.Goals as goal
 

@@ -1,4 +1,4 @@
-use Rattle.proof_words.proofs.{arith}
+use Rattle.proof_prelude.proofs.{arith}
 use Rattle.output_parser.specs.{EndsIn}
 use Rattle.output_parser.proofs.{column_unique, drop_all, reads_all, reads_more, reads_none}
 use Rattle.output_parser.proofs.rows.read_columns.Goals as goal

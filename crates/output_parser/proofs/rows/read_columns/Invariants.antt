@@ -1,4 +1,4 @@
-use Rattle.proof_words.proofs.{drop}
+use Rattle.proof_prelude.proofs.{drop}
 use Rattle.output_parser.specs.{EndsIn}
 use Rattle.output_parser.proofs.TurnLemmas.{Reads}
 use Rattle.output_parser.proofs.rows.read_columns.Given as goal

@@ -1,4 +1,4 @@
-use Rattle.proof_words.proofs.{subst, reverse}
+use Rattle.proof_prelude.proofs.{subst, reverse}
 use Rattle.output_parser.specs.{Ends, EndsIn, IsFront, columns_of}
 use Rattle.output_parser.proofs.{some_at, column_unique, turns_unique}
 use Rattle.output_parser.proofs.rows.read_row.Goals as goal

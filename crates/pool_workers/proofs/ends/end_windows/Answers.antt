@@ -1,4 +1,4 @@
-use Rattle.proof_words.proofs.{◌<◌, subst, sym}
+use Rattle.proof_prelude.proofs.{◌<◌, subst, sym}
 use Rattle.crossbeam_channel.specs.Claims.{view}
 use Rattle.pool_workers.specs.{WindowView}
 use Rattle.pool_workers.proofs.WindowRule as window

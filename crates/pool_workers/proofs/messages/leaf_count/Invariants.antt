@@ -1,4 +1,4 @@
-use Rattle.proof_words.proofs.{◌≡◌, ◌*◌, ◌^◌, ◌≤◌, length, take, sum_by}
+use Rattle.proof_prelude.proofs.{◌≡◌, ◌*◌, ◌^◌, ◌≤◌, length, take, sum_by}
 use Rattle.pool_workers.proofs.messages.leaf_count.Given as goal
 
 -- the count so far; of each row there are less than 2 ^ 64

@@ -1,4 +1,4 @@
-use Rattle.proof_words.proofs.{◌≡◌, ◌≤◌, ℕ, length, sym, subst, refl}
+use Rattle.proof_prelude.proofs.{◌≡◌, ◌≤◌, ℕ, length, sym, subst, refl}
 use Rattle.crossbeam_channel.specs.Claims.{view}
 use Rattle.pool_workers.specs.{times, weigh, names, WindowView, ParcelView}
 use Rattle.pool_workers.proofs.WindowRule as window

@@ -1,4 +1,4 @@
-use Rattle.proof_words.proofs.{◌≡◌, IfSome, Option, None, refl, sym, ◌∙◌, subst, sum, length, option_copied, arith, eqb-true}
+use Rattle.proof_prelude.proofs.{◌≡◌, IfSome, Option, None, refl, sym, ◌∙◌, subst, sum, length, option_copied, arith, eqb-true}
 use Rattle.crossbeam_channel.specs.Claims.{view}
 use Rattle.pool_workers.specs.{AllowsOn, Allows, MayFill, amounts, TargetKeeps, Halt, FetchedAll, WrittenAll}
 use Rattle.pool_workers.proofs.{merged_halt}

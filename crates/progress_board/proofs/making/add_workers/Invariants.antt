@@ -1,4 +1,4 @@
-use Rattle.proof_words.proofs.{◌≡◌, [], vec_len, vec_capacity, vec_items}
+use Rattle.proof_prelude.proofs.{◌≡◌, [], vec_len, vec_capacity, vec_items}
 use Rattle.progress_board.specs.{dealer, SeatsAre}
 use Rattle.progress_board.proofs.making.add_workers.Given as goal
 

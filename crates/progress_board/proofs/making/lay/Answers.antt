@@ -1,4 +1,4 @@
-use Rattle.proof_words.proofs.{rules, ◌≡◌, ◌*◌, ℕ, get_or, length, replicate, ap, ◌∙◌, arith, length-replicate}
+use Rattle.proof_prelude.proofs.{rules, ◌≡◌, ◌*◌, ℕ, get_or, length, replicate, ap, ◌∙◌, arith, length-replicate}
 use Rattle.progress_board.proofs.{zeros}
 use Rattle.progress_board.proofs.making.lay.Goals as goal
 

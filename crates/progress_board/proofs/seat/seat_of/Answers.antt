@@ -1,4 +1,4 @@
-use Rattle.proof_words.proofs.{◌≡◌, ℕ, get_or, length, ap, sym, ◌∙◌, arith, length-replicate}
+use Rattle.proof_prelude.proofs.{◌≡◌, ℕ, get_or, length, ap, sym, ◌∙◌, arith, length-replicate}
 use Rattle.progress_board.proofs.{zeros}
 use Rattle.progress_board.proofs.seat.seat_of.Goals as goal
 

@@ -1,4 +1,4 @@
-use Rattle.proof_words.proofs.{◌≡◌, ◌≤◌, ◌%◌, ◌^◌, ℕ, slice_index, ◌+◌, subst, arith}
+use Rattle.proof_prelude.proofs.{◌≡◌, ◌≤◌, ◌%◌, ◌^◌, ℕ, slice_index, ◌+◌, subst, arith}
 use Rattle.atomic_table.specs.Table.{State, Allows}
 use Rattle.progress_board.specs.{added_read, Kept, SeatView}
 use Rattle.progress_board.proofs.{add_read}

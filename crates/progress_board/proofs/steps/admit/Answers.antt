@@ -1,4 +1,4 @@
-use Rattle.proof_words.proofs.{arith}
+use Rattle.proof_prelude.proofs.{arith}
 use Rattle.progress_board.proofs.{splits_viewer}
 use Rattle.progress_board.proofs.steps.admit.Goals as goal
 

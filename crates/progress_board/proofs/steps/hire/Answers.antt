@@ -1,4 +1,4 @@
-use Rattle.proof_words.proofs.{◌<◌, arith}
+use Rattle.proof_prelude.proofs.{◌<◌, arith}
 use Rattle.progress_board.proofs.{splits_worker}
 use Rattle.progress_board.proofs.steps.hire.Goals as goal
 

@@ -1,4 +1,4 @@
-use Rattle.proof_words.proofs.{◌<◌, arith}
+use Rattle.proof_prelude.proofs.{◌<◌, arith}
 use Rattle.progress_board.proofs.{load_read}
 use Rattle.progress_board.proofs.steps.look_at_read.Goals as goal
 

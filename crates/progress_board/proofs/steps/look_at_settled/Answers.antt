@@ -1,4 +1,4 @@
-use Rattle.proof_words.proofs.{◌≡◌, ◌+◌, ◌-◌, ◌<◌, ℕ, length, subst, arith}
+use Rattle.proof_prelude.proofs.{◌≡◌, ◌+◌, ◌-◌, ◌<◌, ℕ, length, subst, arith}
 use Rattle.atomic_table.specs.Table.{State, Allows}
 use Rattle.progress_board.specs.{SeesSettled, Kept, SeatView}
 use Rattle.progress_board.proofs.{load_settled}

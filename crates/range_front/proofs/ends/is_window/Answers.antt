@@ -1,4 +1,4 @@
-use Rattle.proof_words.proofs.{eqb, sym, ap, ◌∙◌}
+use Rattle.proof_prelude.proofs.{eqb, sym, ap, ◌∙◌}
 use Rattle.range_front.proofs.{begin_at, begin_at-before, has-found, has-missed}
 use Rattle.range_front.proofs.ends.is_window.Goals as goal
 

@@ -1,4 +1,4 @@
-use Rattle.proof_words.proofs.{◌++◌, ap, ◌∙◌, flat_map}
+use Rattle.proof_prelude.proofs.{◌++◌, ap, ◌∙◌, flat_map}
 use Rattle.couch_base.specs.{feed, chosen-all}
 use Rattle.command_api.specs.{last_line}
 use Rattle.read_commands.specs.{row_line}

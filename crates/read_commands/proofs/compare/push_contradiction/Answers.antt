@@ -1,4 +1,4 @@
-use Rattle.proof_words.proofs.{◌≡◌, ◌++◌, Option, sym, subst, OnOk}
+use Rattle.proof_prelude.proofs.{◌≡◌, ◌++◌, Option, sym, subst, OnOk}
 use Rattle.rev_tree.specs.{Contradiction}
 use Rattle.read_commands.specs.{contradicts_line}
 use Rattle.read_commands.proofs.compare.push_contradiction.Goals as goal

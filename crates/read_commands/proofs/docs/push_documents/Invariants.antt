@@ -1,5 +1,5 @@
 -- The documents so far have been printed.
-use Rattle.proof_words.proofs.{◌≡◌, ◌++◌, take, flat_map}
+use Rattle.proof_prelude.proofs.{◌≡◌, ◌++◌, take, flat_map}
 use Rattle.read_commands.specs.{doc_line}
 use Rattle.read_commands.proofs.docs.push_documents.Given as goal
 

@@ -1,4 +1,4 @@
-use Rattle.proof_words.proofs.{refl, sym, ap, ◌∙◌}
+use Rattle.proof_prelude.proofs.{refl, sym, ap, ◌∙◌}
 use Rattle.couch_base.specs.{chosen_feed, feed-none}
 use Rattle.read_commands.proofs.feed.fill.Goals as goal
 

@@ -1,5 +1,5 @@
 -- The rows so far have been printed and counted, and those above the sequence are left.
-use Rattle.proof_words.proofs.{◌≡◌, ◌++◌, ◌-◌, List, flat_map}
+use Rattle.proof_prelude.proofs.{◌≡◌, ◌++◌, ◌-◌, List, flat_map}
 use Rattle.couch_base.specs.{RowValue}
 use Rattle.read_commands.specs.{rows_left}
 use Rattle.read_commands.proofs.feed.fill.Given as goal

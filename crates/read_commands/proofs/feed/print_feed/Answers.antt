@@ -1,4 +1,4 @@
-use Rattle.proof_words.proofs.{◌++◌, List, refl, sym, ap, ◌∙◌, append-nil, flat_map}
+use Rattle.proof_prelude.proofs.{◌++◌, List, refl, sym, ap, ◌∙◌, append-nil, flat_map}
 use Rattle.couch_base.specs.{RowValue, chosen_feed, feed-none}
 use Rattle.read_commands.proofs.feed.print_feed.Goals as goal
 

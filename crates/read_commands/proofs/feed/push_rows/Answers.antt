@@ -1,4 +1,4 @@
-use Rattle.proof_words.proofs.{◌++◌, List, take, sym, ap, subst, ◌∙◌, append-nil, take_all, flat_map}
+use Rattle.proof_prelude.proofs.{◌++◌, List, take, sym, ap, subst, ◌∙◌, append-nil, take_all, flat_map}
 use Rattle.couch_base.specs.{RowValue}
 use Rattle.command_api.proofs.{rows_more, list_more}
 use Rattle.read_commands.proofs.feed.push_rows.Goals as goal

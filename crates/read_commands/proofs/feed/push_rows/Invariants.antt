@@ -1,5 +1,5 @@
 -- The rows so far have been printed and counted.
-use Rattle.proof_words.proofs.{◌≡◌, ◌++◌, List, take, flat_map}
+use Rattle.proof_prelude.proofs.{◌≡◌, ◌++◌, List, take, flat_map}
 use Rattle.couch_base.specs.{RowValue}
 use Rattle.read_commands.proofs.feed.push_rows.Given as goal
 

@@ -1,4 +1,4 @@
-use Rattle.proof_words.proofs.{◌≡◌, ◌++◌, List, refl, sym, ap, subst, ◌∙◌, append_assoc, option_copied, flat_map}
+use Rattle.proof_prelude.proofs.{◌≡◌, ◌++◌, List, refl, sym, ap, subst, ◌∙◌, append_assoc, option_copied, flat_map}
 use Rattle.doc_json.specs.{Choice}
 use Rattle.couch_base.specs.{RowValue, WindowValue, chosen_feed, feed-page}
 use Rattle.read_commands.specs.{rows_left}

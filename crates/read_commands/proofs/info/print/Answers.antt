@@ -1,4 +1,4 @@
-use Rattle.proof_words.proofs.{◌++◌, ℕ, length, ap, ◌∙◌}
+use Rattle.proof_prelude.proofs.{◌++◌, ℕ, length, ap, ◌∙◌}
 use Rattle.couch_base.specs.{DatabaseValue}
 use Rattle.repl_survey.specs.{census_of, trees, Census}
 use Rattle.read_commands.specs.{census_part, identity_part, sessions_part}

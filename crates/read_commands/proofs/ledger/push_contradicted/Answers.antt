@@ -1,4 +1,4 @@
-use Rattle.proof_words.proofs.{[], ◌∷◌, ◌++◌, codes}
+use Rattle.proof_prelude.proofs.{[], ◌∷◌, ◌++◌, codes}
 use Rattle.rev_core.specs.{rev_text}
 use Rattle.read_commands.specs.{parents_part, rev_part}
 use Rattle.command_api.proofs.{two_parts}

@@ -1,4 +1,4 @@
-use Rattle.proof_words.proofs.{◌≡◌, ◌++◌, ℕ, List, Option, Some, sym, ap, subst, ◌∙◌, OnOk}
+use Rattle.proof_prelude.proofs.{◌≡◌, ◌++◌, ℕ, List, Option, Some, sym, ap, subst, ◌∙◌, OnOk}
 use Rattle.rev_core.specs.{head_of, RevId, rev_text}
 use Rattle.doc_json.specs.Document.{Document}
 use Rattle.repl_peer.specs.{RefusedValue}

@@ -1,5 +1,5 @@
 -- The rows so far have been printed.
-use Rattle.proof_words.proofs.{◌≡◌, ◌++◌, take, flat_map}
+use Rattle.proof_prelude.proofs.{◌≡◌, ◌++◌, take, flat_map}
 use Rattle.read_commands.specs.{refused_line}
 use Rattle.read_commands.proofs.ledger.push_rows.Given as goal
 

@@ -1,4 +1,4 @@
-use Rattle.proof_words.proofs.{sym}
+use Rattle.proof_prelude.proofs.{sym}
 use Rattle.read_commands.proofs.{give_told}
 use Rattle.command_api.proofs.{room_answered, room_refused}
 use Rattle.read_commands.proofs.long_room.begin_in.Goals as goal

@@ -1,4 +1,4 @@
-use Rattle.proof_words.proofs.{◌≡◌, true, sym, ap, ◌∙◌, and_parts, list_all}
+use Rattle.proof_prelude.proofs.{◌≡◌, true, sym, ap, ◌∙◌, and_parts, list_all}
 use Rattle.rev_tree.specs.{TreeValue, has, leaves, is_among-leaves}
 use Rattle.couch_base.specs.{all_members}
 use Rattle.read_commands.proofs.show.print.Goals as goal

@@ -1,4 +1,4 @@
-use Rattle.proof_words.proofs.{ap, ◌∙◌, arith, both_ways, true_from_ne_false, list_all_at}
+use Rattle.proof_prelude.proofs.{ap, ◌∙◌, arith, both_ways, true_from_ne_false, list_all_at}
 use Rattle.rev_tree.specs.{has}
 use Rattle.read_commands.proofs.show.push_leaves.Goals as goal
 

@@ -1,5 +1,5 @@
 -- The leaves so far have been printed.
-use Rattle.proof_words.proofs.{◌≡◌, ◌++◌, take, flat_map}
+use Rattle.proof_prelude.proofs.{◌≡◌, ◌++◌, take, flat_map}
 use Rattle.read_commands.specs.{leaf_line}
 use Rattle.read_commands.proofs.show.push_leaves.Given as goal
 

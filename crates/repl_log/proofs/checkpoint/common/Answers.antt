@@ -1,4 +1,4 @@
-use Rattle.proof_words.proofs.{◌≡◌, List, [], None, drop, sym, ap, ◌∙◌, arith, drop_all}
+use Rattle.proof_prelude.proofs.{◌≡◌, List, [], None, drop, sym, ap, ◌∙◌, arith, drop_all}
 use Rattle.repl_log.specs.{EntryValue, value_of, common, recorded_of, common-at, common-behind, common-IsCommon, common-none}
 use Rattle.repl_log.proofs.checkpoint.common.Goals as goal
 

@@ -1,4 +1,4 @@
-use Rattle.proof_words.proofs.{◌≡◌, drop}
+use Rattle.proof_prelude.proofs.{◌≡◌, drop}
 use Rattle.repl_log.specs.{common}
 use Rattle.repl_log.proofs.checkpoint.common.Given as goal
 

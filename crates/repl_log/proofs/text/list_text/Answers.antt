@@ -1,4 +1,4 @@
-use Rattle.proof_words.proofs.{◌≡◌, map, false, ap, ◌∙◌, IfOk-weaker}
+use Rattle.proof_prelude.proofs.{◌≡◌, map, false, ap, ◌∙◌, IfOk-weaker}
 use Rattle.serde_json.specs.Data.{string, array}
 use Rattle.serde_json.specs.View.{view, items_of}
 use Rattle.serde_json.specs.Written.{compact_text, has_float}

@@ -1,4 +1,4 @@
-use Rattle.proof_words.proofs.{◌≡◌, sym, ap, ◌∙◌}
+use Rattle.proof_prelude.proofs.{◌≡◌, sym, ap, ◌∙◌}
 use Rattle.httpdate.specs.Date.{date_text}
 use Rattle.repl_log.specs.{time_text, time_text-date}
 use Rattle.repl_log.proofs.written.date.Goals as goal

@@ -1,4 +1,4 @@
-use Rattle.proof_words.proofs.{ℕ, List, ◌++◌, false, nat_lt, take, ap, sym, ◌∙◌, append_assoc}
+use Rattle.proof_prelude.proofs.{ℕ, List, ◌++◌, false, nat_lt, take, ap, sym, ◌∙◌, append_assoc}
 use Rattle.serde_json.specs.Written.{comma_if}
 use Rattle.repl_log.specs.{EntryValue, value_of, listed}
 use Rattle.repl_log.proofs.{entry_text, listed_more}

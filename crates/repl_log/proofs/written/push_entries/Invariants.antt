@@ -1,4 +1,4 @@
-use Rattle.proof_words.proofs.{◌≡◌, ◌++◌, false, take}
+use Rattle.proof_prelude.proofs.{◌≡◌, ◌++◌, false, take}
 use Rattle.repl_log.specs.{listed}
 use Rattle.repl_log.proofs.written.push_entries.Given as goal
 

@@ -1,4 +1,4 @@
-use Rattle.proof_words.proofs.{ℕ, List, ◌∷◌, ◌++◌, [], codes, decimal, ap, sym, ◌∙◌}
+use Rattle.proof_prelude.proofs.{ℕ, List, ◌∷◌, ◌++◌, [], codes, decimal, ap, sym, ◌∙◌}
 use Rattle.json.specs.Print.{quoted}
 use Rattle.repl_log.specs.{EntryValue, value_of}
 use Rattle.repl_log.proofs.{moved, entry_pieces}

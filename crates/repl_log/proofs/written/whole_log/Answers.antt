@@ -1,4 +1,4 @@
-use Rattle.proof_words.proofs.{◌≡◌, ℕ, List, ◌∷◌, ◌++◌, [], false, map, codes, decimal, ap, sym, ◌∙◌, append_assoc}
+use Rattle.proof_prelude.proofs.{◌≡◌, ℕ, List, ◌∷◌, ◌++◌, [], false, map, codes, decimal, ap, sym, ◌∙◌, append_assoc}
 use Rattle.json.specs.Print.{quoted}
 use Rattle.serde_json.specs.Data.{Items}
 use Rattle.serde_json.specs.View.{items_of}

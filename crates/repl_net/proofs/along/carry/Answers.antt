@@ -1,4 +1,4 @@
-use Rattle.proof_words.proofs.{◌<◌, get_or, arith}
+use Rattle.proof_prelude.proofs.{◌<◌, get_or, arith}
 use Rattle.repl_net.proofs.{two_filters, up, up_ended, up_hop, down, down_ended, down_hop}
 use Rattle.repl_net.proofs.along.carry.Goals as goal
 

@@ -1,4 +1,4 @@
-use Rattle.proof_words.proofs.{Ok, Err, refl, sym, subst, inl, inr, arith, length-map}
+use Rattle.proof_prelude.proofs.{Ok, Err, refl, sym, subst, inl, inr, arith, length-map}
 use Rattle.repl_peer.specs.{after_edit}
 use Rattle.repl_net.specs.{peers_of, AreTied, IsNet, KeepsAgreement, AllMadeBy}
 use Rattle.repl_net.proofs.{set_filters, changed_at, unchanged_at, there_at, edit_tied, edit_agree, edit_net, edit_made}

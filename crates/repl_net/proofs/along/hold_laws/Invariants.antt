@@ -1,4 +1,4 @@
-use Rattle.proof_words.proofs.{ℕ, ◌<◌}
+use Rattle.proof_prelude.proofs.{ℕ, ◌<◌}
 use Rattle.couch_base.specs.{LawfulDatabase}
 use Rattle.repl_peer.specs.{PeerValue}
 use Rattle.repl_net.specs.{peers_of, IsAt}

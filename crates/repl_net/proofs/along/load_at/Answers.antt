@@ -1,4 +1,4 @@
-use Rattle.proof_words.proofs.{Ok, Err, refl, sym, subst, inl, inr, arith, length-map}
+use Rattle.proof_prelude.proofs.{Ok, Err, refl, sym, subst, inl, inr, arith, length-map}
 use Rattle.repl_peer.specs.{after_load}
 use Rattle.repl_net.specs.{peers_of, AreTied, IsNet, KeepsAgreement}
 use Rattle.repl_net.proofs.{set_filters, changed_at, unchanged_at, there_at, wrote_tied, wrote_agree, load_net}

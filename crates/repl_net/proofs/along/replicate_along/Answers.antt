@@ -1,4 +1,4 @@
-use Rattle.proof_words.proofs.{◌+◌, Err, sym, ap, ◌∙◌, subst, err_from_is_err_and}
+use Rattle.proof_prelude.proofs.{◌+◌, Err, sym, ap, ◌∙◌, subst, err_from_is_err_and}
 use Rattle.repl_net.specs.{peers_of, TakesHops}
 use Rattle.repl_net.proofs.{all_spread, hops_next, hops_all, takes_next, takes_refused, takes_all}
 use Rattle.repl_net.proofs.along.replicate_along.Goals as goal

@@ -1,4 +1,4 @@
-use Rattle.proof_words.proofs.{◌≡◌, List, drop}
+use Rattle.proof_prelude.proofs.{◌≡◌, List, drop}
 use Rattle.repl_peer.specs.{PeerValue}
 use Rattle.repl_net.specs.{peers_of, filters_of, AreTied, IsNet, AllHopped, AllLawful, StaysMade}
 use Rattle.repl_net.proofs.{IsOnTheWay}

@@ -1,4 +1,4 @@
-use Rattle.proof_words.proofs.{rules, arith, common_steps}
+use Rattle.proof_prelude.proofs.{rules, arith, common_steps}
 use Rattle.repl_net.specs.{peers_of, no_source, no_target, one_place, refused, taken}
 use Rattle.repl_net.proofs.{hop_tied, hop_net, hop_made}
 use Rattle.repl_net.proofs.along.take_hop.Goals as goal

@@ -1,4 +1,4 @@
-use Rattle.proof_words.proofs.{◌+◌, [], ◌∷◌, ◌++◌, ap, ◌∙◌}
+use Rattle.proof_prelude.proofs.{◌+◌, [], ◌∷◌, ◌++◌, ap, ◌∙◌}
 use Rattle.repl_net.specs.{gathers}
 use Rattle.repl_net.proofs.{gathers_next, spreads_next}
 use Rattle.repl_net.proofs.hub.hub_hops.Goals as goal

@@ -1,4 +1,4 @@
-use Rattle.proof_words.proofs.{◌≡◌, ◌++◌, take}
+use Rattle.proof_prelude.proofs.{◌≡◌, ◌++◌, take}
 use Rattle.repl_net.specs.{gathers, spreads}
 use Rattle.repl_net.proofs.hub.hub_hops.Given as goal
 

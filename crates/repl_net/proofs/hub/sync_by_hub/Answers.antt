@@ -1,4 +1,4 @@
-use Rattle.proof_words.proofs.{◌≡◌, ◌+◌, length, ◌∙◌, subst, inr, arith, length-map, on_ok_weaker}
+use Rattle.proof_prelude.proofs.{◌≡◌, ◌+◌, length, ◌∙◌, subst, inr, arith, length-map, on_ok_weaker}
 use Rattle.repl_net.specs.{peers_of, TakesHops}
 use Rattle.repl_net.proofs.{hub_spread}
 use Rattle.repl_net.proofs.hub.sync_by_hub.Goals as goal

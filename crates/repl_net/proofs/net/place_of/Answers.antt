@@ -1,4 +1,4 @@
-use Rattle.proof_words.proofs.{◌≡◌, ◌≢◌, get_or, sym, ap, ◌∙◌}
+use Rattle.proof_prelude.proofs.{◌≡◌, ◌≢◌, get_or, sym, ap, ◌∙◌}
 use Rattle.couch_base.specs.{DatabaseValue}
 use Rattle.repl_net.proofs.{each_more, each_all, there_at}
 use Rattle.repl_net.proofs.net.place_of.Goals as goal

@@ -1,4 +1,4 @@
-use Rattle.proof_words.proofs.{◌≢◌, ℕ, ◌<◌}
+use Rattle.proof_prelude.proofs.{◌≢◌, ℕ, ◌<◌}
 use Rattle.repl_peer.specs.{PeerValue}
 use Rattle.repl_net.specs.{peers_of, IsAt}
 use Rattle.repl_net.proofs.net.place_of.Given as goal

@@ -1,5 +1,5 @@
 -- The log of a replication, as the table of sessions says it.
-use Rattle.proof_words.proofs.{◌≡◌, ℕ, zero, suc, ◌+◌, ◌==◌, ◌||◌, true, false, List, [], ◌∷◌, ◌++◌, map, filter, take, Some, refl, sym, ap, ◌∙◌, subst, list_any, IsDistinct, AllByRecursion, keys_of, cond_both, cond-true, cond-false, take_more, slice_get_within, get_or_from_slice_get, reverse_onto, slice_get}
+use Rattle.proof_prelude.proofs.{◌≡◌, ℕ, zero, suc, ◌+◌, ◌==◌, ◌||◌, true, false, List, [], ◌∷◌, ◌++◌, map, filter, take, Some, refl, sym, ap, ◌∙◌, subst, list_any, IsDistinct, AllByRecursion, keys_of, cond_both, cond-true, cond-false, take_more, slice_get_within, get_or_from_slice_get, reverse_onto, slice_get}
 use Rattle.rev_tree.specs.{SessionId}
 use Rattle.couch_base.specs.{some_is, none_some, none_append, both_false}
 use Rattle.repl_log.specs.declared.replication.RepId.{RepId}

@@ -1,5 +1,5 @@
 -- Putting an entry changes nothing but the outgoing logs.
-use Rattle.proof_words.proofs.{Bool, List, Result, Ok, Err, refl}
+use Rattle.proof_prelude.proofs.{Bool, List, Result, Ok, Err, refl}
 use Rattle.doc_json.specs.Document.{Document}
 use Rattle.couch_base.specs.{IsLater-same}
 use Rattle.repl_log.specs.declared.replication.RepId.{RepId}

@@ -1,5 +1,5 @@
 -- What loading, editing and beginning keep: the peer's law, and all that covers.
-use Rattle.proof_words.proofs.{◌≡◌, ◌⊎◌, ℕ, ◌<◌, ◌≤◌, ◌^◌, ◌==◌, List, [], ◌∷◌, ◌++◌, Bool, false, ◌&&◌, Option, Some, None, Result, Ok, Err, refl, sym, ap, subst, inl, inr, arith, eqb, nat_lt, IsDistinct, AllByRecursion, and_parts, cond_both, eqb-false, or_parts, IsDistinct-cons, slice_get, eqb-true, ltb-false, ne_eqb}
+use Rattle.proof_prelude.proofs.{◌≡◌, ◌⊎◌, ℕ, ◌<◌, ◌≤◌, ◌^◌, ◌==◌, List, [], ◌∷◌, ◌++◌, Bool, false, ◌&&◌, Option, Some, None, Result, Ok, Err, refl, sym, ap, subst, inl, inr, arith, eqb, nat_lt, IsDistinct, AllByRecursion, and_parts, cond_both, eqb-false, or_parts, IsDistinct-cons, slice_get, eqb-true, ltb-false, ne_eqb}
 use Rattle.rev_core.specs.{RevId}
 use Rattle.rev_tree.specs.{SessionId}
 use Rattle.doc_json.specs.Document.{Document}

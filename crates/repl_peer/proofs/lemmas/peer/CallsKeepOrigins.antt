@@ -1,5 +1,5 @@
 -- Every revision of a peer has an origin, whatever is called.
-use Rattle.proof_words.proofs.{◌≡◌, ◌⊎◌, ℕ, ◌<◌, ◌^◌, List, [], ◌∷◌, ◌++◌, Bool, true, false, cond, ◌||◌, Option, Some, None, is_some, unwrap_or, Result, Ok, Err, map, length, refl, sym, ap, ◌∙◌, subst, inl, inr, list_any, get, get-empty, eq_by_cmp, bytes_eq, cond_both, cond-true, false≢true, bytes_eq-Decides, slice_get}
+use Rattle.proof_prelude.proofs.{◌≡◌, ◌⊎◌, ℕ, ◌<◌, ◌^◌, List, [], ◌∷◌, ◌++◌, Bool, true, false, cond, ◌||◌, Option, Some, None, is_some, unwrap_or, Result, Ok, Err, map, length, refl, sym, ap, ◌∙◌, subst, inl, inr, list_any, get, get-empty, eq_by_cmp, bytes_eq, cond_both, cond-true, false≢true, bytes_eq-Decides, slice_get}
 use Rattle.std.specs.FinMap.{find}
 use Rattle.rev_core.specs.{RevId, rev_cmp, is_among}
 use Rattle.rev_tree.specs.{TreeValue, merged, no_revisions, find-among, get-joined, some_or, Origin, SessionId}

@@ -1,5 +1,5 @@
 -- Lists that are copied, one element after another.
-use Rattle.proof_words.proofs.{◌≡◌, ℕ, ◌+◌, ◌<◌, List, [], ◌∷◌, ◌++◌, take, get_or, length, sym, ap, ◌∙◌, take_more}
+use Rattle.proof_prelude.proofs.{◌≡◌, ℕ, ◌+◌, ◌<◌, List, [], ◌∷◌, ◌++◌, take, get_or, length, sym, ap, ◌∙◌, take_more}
 
 -- one element more is there
 pub one_more : {X : Type 0} (xs done : List X) (i : ℕ) (x : X) → i < length xs → x ≡ get_or xs i x → done ≡ take i xs → done ++ x ∷ [] ≡ take (i + 1) xs

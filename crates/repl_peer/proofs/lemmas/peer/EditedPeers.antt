@@ -1,5 +1,5 @@
 -- What a local edit answers and notes: its signature is short, and it is the next local write.
-use Rattle.proof_words.proofs.{◌≡◌, ◌+◌, ◌∷◌, ◌++◌, [], ℕ, Bool, true, false, List, Option, Some, None, Result, Ok, Err, is_ok, nat_le, nat_lt, ◌^◌, refl, ap, sym, ◌∙◌, cond, subst, arith, false≢true, result_unwrap_or, list_all, option_to_list, cond-true}
+use Rattle.proof_prelude.proofs.{◌≡◌, ◌+◌, ◌∷◌, ◌++◌, [], ℕ, Bool, true, false, List, Option, Some, None, Result, Ok, Err, is_ok, nat_le, nat_lt, ◌^◌, refl, ap, sym, ◌∙◌, cond, subst, arith, false≢true, result_unwrap_or, list_all, option_to_list, cond-true}
 use Rattle.rev_core.specs.{RevId, FallsByOne, next_generation, edit_rev, edit_sig, is_short, ◌>>=◌, refused_if, named}
 use Rattle.rev_core.specs.declared.fault.RevFault.TheVariants as rev_faults
 use Rattle.rev_core.proofs.{is_short-edit_rev}

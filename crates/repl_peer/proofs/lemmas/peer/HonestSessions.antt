@@ -1,5 +1,5 @@
 -- What a lawful peer's sessions say of themselves is so.
-use Rattle.proof_words.proofs.{◌≡◌, ℕ, ◌<◌, ◌≤◌, List, [], ◌∷◌, Bool, true, map, sym, ap, ◌∙◌, subst, inl, inr, arith}
+use Rattle.proof_prelude.proofs.{◌≡◌, ℕ, ◌<◌, ◌≤◌, List, [], ◌∷◌, Bool, true, map, sym, ap, ◌∙◌, subst, inl, inr, arith}
 use Rattle.doc_json.specs.Document.{Document}
 use Rattle.couch_base.specs.{Among, Rises, RowValue, WindowValue, IsWindow, rises_le, Among-mapped, each_member}
 use Rattle.range_front.specs.{is_done, low_water, reached, is_window-is_done}

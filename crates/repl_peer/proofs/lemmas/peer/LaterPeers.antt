@@ -1,5 +1,5 @@
 -- What is kept from one moment of a peer to a later one.
-use Rattle.proof_words.proofs.{◌≡◌, ℕ, List, [], ◌∷◌, Bool, true, false, cond, ◌&&◌, Some, map, refl, sym, ap, ◌∙◌, subst, inl, inr, arith, eqb, ◌==◌, IsDistinct, bytes_eq, IsDistinct-head, IsDistinct-tail, or_cases, or_left, or_right, cond_both, cond-true, both_ways, slice_get, eqb-true, eq-eqb}
+use Rattle.proof_prelude.proofs.{◌≡◌, ℕ, List, [], ◌∷◌, Bool, true, false, cond, ◌&&◌, Some, map, refl, sym, ap, ◌∙◌, subst, inl, inr, arith, eqb, ◌==◌, IsDistinct, bytes_eq, IsDistinct-head, IsDistinct-tail, or_cases, or_left, or_right, cond_both, cond-true, both_ways, slice_get, eqb-true, eq-eqb}
 use Rattle.rev_core.specs.{RevId, edges_of, is_among}
 use Rattle.rev_tree.specs.{SessionId}
 use Rattle.doc_json.specs.Document.{Document}

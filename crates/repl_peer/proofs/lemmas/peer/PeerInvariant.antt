@@ -1,5 +1,5 @@
 -- What the calls keep of a peer: its law.
-use Rattle.proof_words.proofs.{◌≡◌, ℕ, ◌==◌, ◌<◌, ◌^◌, Bool, if◌then◌else◌, List, ◌∷◌, Option, Some, None, Result, Ok, Err, refl, sym, ap, ◌∙◌, subst, OnOk, OnErr, on_ok_weaker, on_err_weaker}
+use Rattle.proof_prelude.proofs.{◌≡◌, ℕ, ◌==◌, ◌<◌, ◌^◌, Bool, if◌then◌else◌, List, ◌∷◌, Option, Some, None, Result, Ok, Err, refl, sym, ap, ◌∙◌, subst, OnOk, OnErr, on_ok_weaker, on_err_weaker}
 use Rattle.rev_core.specs.{RevId}
 use Rattle.rev_tree.specs.{SessionId}
 use Rattle.doc_json.specs.Document.{Document}

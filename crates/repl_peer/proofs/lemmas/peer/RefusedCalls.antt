@@ -1,5 +1,5 @@
 -- What is refused changes nothing.
-use Rattle.proof_words.proofs.{◌≡◌, Bool, cond, List, [], ◌∷◌, Option, Some, None, Result, Ok, Err, is_ok, map, refl, sym, ap, ◌∙◌, inl, inr, cond_both, false≢true, eqb-true}
+use Rattle.proof_prelude.proofs.{◌≡◌, Bool, cond, List, [], ◌∷◌, Option, Some, None, Result, Ok, Err, is_ok, map, refl, sym, ap, ◌∙◌, inl, inr, cond_both, false≢true, eqb-true}
 use Rattle.rev_tree.specs.{SessionId}
 use Rattle.doc_json.specs.Document.{Document}
 use Rattle.couch_base.specs.{Among, WindowValue}

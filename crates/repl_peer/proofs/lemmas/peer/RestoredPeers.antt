@@ -1,5 +1,5 @@
 -- A peer that is put back to an earlier copy is lawful.
-use Rattle.proof_words.proofs.{◌≡◌, ℕ, ◌≤◌, Bool, List, [], ◌∷◌, length, false, refl, sym, ap, ◌∙◌, subst, eqb, arith, IsDistinct, get, false≢true, slice_get}
+use Rattle.proof_prelude.proofs.{◌≡◌, ℕ, ◌≤◌, Bool, List, [], ◌∷◌, length, false, refl, sym, ap, ◌∙◌, subst, eqb, arith, IsDistinct, get, false≢true, slice_get}
 use Rattle.rev_core.specs.{RevId, FallsByOne}
 use Rattle.rev_tree.specs.{has, Origin}
 use Rattle.rev_tree.specs.declared.origin.Origin.TheVariants.{Local, Feed}

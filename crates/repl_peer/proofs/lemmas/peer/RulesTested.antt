@@ -1,5 +1,5 @@
 -- What the program's filter tests.
-use Rattle.proof_words.proofs.{◌≡◌, ℕ, Bool, nat_eq, List, Some, string_bytes, ap, sym, ◌∙◌, starts_with}
+use Rattle.proof_prelude.proofs.{◌≡◌, ℕ, Bool, nat_eq, List, Some, string_bytes, ap, sym, ◌∙◌, starts_with}
 use Rattle.doc_json.specs.Document.{Document}
 use Rattle.repl_peer.specs.{Rules, rules_refuse}
 

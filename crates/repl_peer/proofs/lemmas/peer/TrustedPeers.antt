@@ -1,5 +1,5 @@
 -- A lawful peer may be trusted.
-use Rattle.proof_words.proofs.{◌≡◌, Bool, true, ◌&&◌, inl, inr, bytes_eq, or_cases, and_parts, bytes_eq-Decides}
+use Rattle.proof_prelude.proofs.{◌≡◌, Bool, true, ◌&&◌, inl, inr, bytes_eq, or_cases, and_parts, bytes_eq-Decides}
 use Rattle.rev_core.specs.{RevId, is_among}
 use Rattle.doc_json.specs.Document.{Document}
 use Rattle.couch_base.specs.{Id, any_member}

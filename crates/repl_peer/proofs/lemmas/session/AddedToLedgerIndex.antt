@@ -1,5 +1,5 @@
 -- Adding revisions to the index.
-use Rattle.proof_words.proofs.{◌≡◌, ℕ, ◌+◌, ◌<◌, Bool, true, false, ◌||◌, List, [], ◌∷◌, ◌++◌, length, take, get_or, cond, ◌&&◌, Option, Some, None, refl, subst, sym, ap, ◌∙◌, or-false, or_assoc, cond_both, or_right, list_any-append, list_any_more, eq_by_cmp, option_map_or, bytes_eq, bytes_eq-Decides}
+use Rattle.proof_prelude.proofs.{◌≡◌, ℕ, ◌+◌, ◌<◌, Bool, true, false, ◌||◌, List, [], ◌∷◌, ◌++◌, length, take, get_or, cond, ◌&&◌, Option, Some, None, refl, subst, sym, ap, ◌∙◌, or-false, or_assoc, cond_both, or_right, list_any-append, list_any_more, eq_by_cmp, option_map_or, bytes_eq, bytes_eq-Decides}
 use Rattle.rev_core.specs.{RevId, rev_cmp, rev_tie_is, is_among}
 use Rattle.indexmap.specs.IndexSet.{insert_key}
 use Rattle.std.specs.HashSet.{HashSet}

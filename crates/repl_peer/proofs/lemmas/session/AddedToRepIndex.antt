@@ -1,5 +1,5 @@
 -- What the index of replications has after a session was added.
-use Rattle.proof_words.proofs.{◌≡◌, Bool, true, false, cond, List, [], ◌∷◌, ◌++◌, Option, Some, None, refl, sym, ap, ◌∙◌, IsEquivalence, option_map_or, lookup, set_value, lookup-set_value}
+use Rattle.proof_prelude.proofs.{◌≡◌, Bool, true, false, cond, List, [], ◌∷◌, ◌++◌, Option, Some, None, refl, sym, ap, ◌∙◌, IsEquivalence, option_map_or, lookup, set_value, lookup-set_value}
 use Rattle.rev_tree.specs.{SessionId}
 use Rattle.repl_log.specs.declared.replication.RepId.{RepId}
 use Rattle.repl_log.specs.{same_rep, same_rep-is, same_rep-self}

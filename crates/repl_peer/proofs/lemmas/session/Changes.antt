@@ -1,5 +1,5 @@
 -- A peer's sessions change by small changes: what each of them keeps, the calls keep.
-use Rattle.proof_words.proofs.{◌≡◌, ◌⊎◌, ℕ, zero, suc, ◌≤◌, ◌==◌, nat_lt, List, [], ◌∷◌, Bool, true, false, cond, ◌&&◌, ◌||◌, Option, Some, None, is_some, Result, Ok, Err, take, length, refl, sym, ap, ◌∙◌, subst, inl, inr, list_all, option_map, and_parts, cond_both, cond-true, eqb-true, eq-eqb, ltb-false}
+use Rattle.proof_prelude.proofs.{◌≡◌, ◌⊎◌, ℕ, zero, suc, ◌≤◌, ◌==◌, nat_lt, List, [], ◌∷◌, Bool, true, false, cond, ◌&&◌, ◌||◌, Option, Some, None, is_some, Result, Ok, Err, take, length, refl, sym, ap, ◌∙◌, subst, inl, inr, list_all, option_map, and_parts, cond_both, cond-true, eqb-true, eq-eqb, ltb-false}
 use Rattle.rev_tree.specs.{Contradiction, SessionId}
 use Rattle.doc_json.specs.Document.{Document}
 use Rattle.couch_base.specs.{Among, none_some, DatabaseValue, WindowValue, ParcelValue, put_answer, after_put, all_member, found_member}

@@ -1,5 +1,5 @@
 -- The first unknown leaf of some rows.
-use Rattle.proof_words.proofs.{◌≡◌, ℕ, ◌+◌, ◌<◌, Bool, true, false, cond, not, ◌&&◌, List, [], ◌∷◌, ◌++◌, length, drop, get_or, Option, Some, None, is_some, refl, sym, ap, ◌∙◌, list_all, option_or, option_map, drop_more, find}
+use Rattle.proof_prelude.proofs.{◌≡◌, ℕ, ◌+◌, ◌<◌, Bool, true, false, cond, not, ◌&&◌, List, [], ◌∷◌, ◌++◌, length, drop, get_or, Option, Some, None, is_some, refl, sym, ap, ◌∙◌, list_all, option_or, option_map, drop_more, find}
 use Rattle.rev_core.specs.{RevId}
 use Rattle.couch_base.specs.{Among, Id, RowValue, all_member}
 use Rattle.repl_peer.specs.{Leaf, knows_row, unknown_in, first_unknown}

@@ -1,5 +1,5 @@
 -- Rows, one after another.
-use Rattle.proof_words.proofs.{◌≡◌, ℕ, ◌+◌, ◌<◌, Bool, true, false, ◌&&◌, ◌||◌, List, [], ◌∷◌, length, map, take, drop, get_or, Option, Some, None, slice_get, IfNone, sym, ap, ◌∙◌, zero, suc, cond-true, cond-false, drop_more, list_any-append, list_any, list_all, bytes_eq, bytes_eq-Decides, take-append-drop}
+use Rattle.proof_prelude.proofs.{◌≡◌, ℕ, ◌+◌, ◌<◌, Bool, true, false, ◌&&◌, ◌||◌, List, [], ◌∷◌, length, map, take, drop, get_or, Option, Some, None, slice_get, IfNone, sym, ap, ◌∙◌, zero, suc, cond-true, cond-false, drop_more, list_any-append, list_any, list_all, bytes_eq, bytes_eq-Decides, take-append-drop}
 use Rattle.couch_base.specs.{EachOnce, Id, RowValue, none_some, some_is, both_false}
 use Rattle.repl_peer.specs.{seq_in}
 

@@ -1,5 +1,5 @@
 -- The index of the sessions by their replications.
-use Rattle.proof_words.proofs.{◌≡◌, ℕ, ◌-◌, ◌<◌, ◌≤◌, true, false, cond, List, [], ◌∷◌, ◌++◌, map, filter, reverse, length, Option, Some, None, refl, sym, ap, ◌∙◌, subst, inl, inr, arith, get_or, AllByRecursion, IsDistinct, option_map, keys_of, lookup, set_value, cond-true, cond-false, eqb-false, reverse_onto, length-reverse, get_or-reverse, slice_get_within, get_or_from_slice_get, slice_get-map, slice_get-get_or, slice_get, eq-eqb, ne_eqb}
+use Rattle.proof_prelude.proofs.{◌≡◌, ℕ, ◌-◌, ◌<◌, ◌≤◌, true, false, cond, List, [], ◌∷◌, ◌++◌, map, filter, reverse, length, Option, Some, None, refl, sym, ap, ◌∙◌, subst, inl, inr, arith, get_or, AllByRecursion, IsDistinct, option_map, keys_of, lookup, set_value, cond-true, cond-false, eqb-false, reverse_onto, length-reverse, get_or-reverse, slice_get_within, get_or_from_slice_get, slice_get-map, slice_get-get_or, slice_get, eq-eqb, ne_eqb}
 use Rattle.rev_tree.specs.{SessionId}
 use Rattle.couch_base.specs.{Among, none_some, some_is, Among-push}
 use Rattle.repl_log.specs.declared.replication.RepId.{RepId}

@@ -1,5 +1,5 @@
 -- A session's own law: what appending, recording and marking keep of it.
-use Rattle.proof_words.proofs.{◌≡◌, ℕ, ◌≤◌, List, [], ◌∷◌, ◌++◌, sym, ap, ◌∙◌, subst, map_push}
+use Rattle.proof_prelude.proofs.{◌≡◌, ℕ, ◌≤◌, List, [], ◌∷◌, ◌++◌, sym, ap, ◌∙◌, subst, map_push}
 use Rattle.couch_base.specs.{WindowValue}
 use Rattle.range_front.specs.{FrontValue, IsFront, bounds, end_of, low_water, appended, finished, start-le-low_water, bounds-appended, bounds-finished}
 use Rattle.repl_peer.specs.{window_bounds}

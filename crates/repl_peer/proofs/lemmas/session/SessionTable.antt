@@ -1,5 +1,5 @@
 -- The table of sessions: its look-ups and its writes, as contracts see them.
-use Rattle.proof_words.proofs.{◌≡◌, ℕ, nat_lt, ◌==◌, ◌&&◌, ◌||◌, true, false, cond, if◌then◌else◌, Bool, List, [], ◌∷◌, ◌++◌, map, Option, Some, None, is_some, Result, Ok, Err, OnOk, OnErr, refl, sym, ap, ◌∙◌, subst, IsDistinct, option_map, keys_of, lookup, set_value, keys-set_value, set_value_same}
+use Rattle.proof_prelude.proofs.{◌≡◌, ℕ, nat_lt, ◌==◌, ◌&&◌, ◌||◌, true, false, cond, if◌then◌else◌, Bool, List, [], ◌∷◌, ◌++◌, map, Option, Some, None, is_some, Result, Ok, Err, OnOk, OnErr, refl, sym, ap, ◌∙◌, subst, IsDistinct, option_map, keys_of, lookup, set_value, keys-set_value, set_value_same}
 use Rattle.rev_core.specs.{RevId}
 use Rattle.rev_tree.specs.{SessionId}
 use Rattle.rev_tree.proofs.{none_of}

@@ -1,5 +1,5 @@
 -- The check of a parcel against the stored windows.
-use Rattle.proof_words.proofs.{◌≡◌, ℕ, ◌+◌, ◌-◌, ◌≤◌, ◌^◌, ◌==◌, Bool, true, false, ◌&&◌, min, nat_le, List, [], ◌∷◌, inl, inr, length, get_or, Option, Some, None, Result, Ok, Err, is_ok, if◌then◌else◌, zero, suc, slice_get, refl, sym, ap, ◌∙◌, subst, arith, and_parts, lt-leb, cases_lt, and_from, or_left, or_right, false≢true, get_or_from_slice_get, list_all, list_any, eqb-true, leb-true, le-leb, eq-eqb, find}
+use Rattle.proof_prelude.proofs.{◌≡◌, ℕ, ◌+◌, ◌-◌, ◌≤◌, ◌^◌, ◌==◌, Bool, true, false, ◌&&◌, min, nat_le, List, [], ◌∷◌, inl, inr, length, get_or, Option, Some, None, Result, Ok, Err, is_ok, if◌then◌else◌, zero, suc, slice_get, refl, sym, ap, ◌∙◌, subst, arith, and_parts, lt-leb, cases_lt, and_from, or_left, or_right, false≢true, get_or_from_slice_get, list_all, list_any, eqb-true, leb-true, le-leb, eq-eqb, find}
 use Rattle.couch_base.specs.{most, WindowValue, found_member, none_some, some_is, ParcelValue}
 use Rattle.range_front.specs.{FrontValue, bounds, is_window, is_done, finish_answer, is_window-bounds, finish_answer-ok}
 use Rattle.rev_tree.specs.{SessionId}

@@ -1,5 +1,5 @@
 -- What settling keeps, in full or as far as it came: the peer's law, and all that covers.
-use Rattle.proof_words.proofs.{◌≡◌, ℕ, ◌<◌, ◌^◌, List, [], ◌∷◌, ◌++◌, Bool, true, refl, sym, ap, ◌∙◌, subst, inl, inr, arith, list_all, map_push, length-append}
+use Rattle.proof_prelude.proofs.{◌≡◌, ℕ, ◌<◌, ◌^◌, List, [], ◌∷◌, ◌++◌, Bool, true, refl, sym, ap, ◌∙◌, subst, inl, inr, arith, list_all, map_push, length-append}
 use Rattle.rev_core.specs.{is_among}
 use Rattle.rev_tree.specs.{has, SessionId}
 use Rattle.doc_json.specs.Document.{Document}

@@ -1,5 +1,5 @@
 -- What settling a parcel answers and leaves.
-use Rattle.proof_words.proofs.{◌≡◌, ℕ, ◌-◌, Bool, List, [], length, Result, Ok, Err, sym, ap, ◌∙◌, subst, arith}
+use Rattle.proof_prelude.proofs.{◌≡◌, ℕ, ◌-◌, Bool, List, [], length, Result, Ok, Err, sym, ap, ◌∙◌, subst, arith}
 use Rattle.std.specs.Global.{Vec}
 use Rattle.rev_core.specs.{RevId}
 use Rattle.doc_json.specs.Document.{Document}

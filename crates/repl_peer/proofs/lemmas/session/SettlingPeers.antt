@@ -1,5 +1,5 @@
 -- What settling over the parts of a peer gives of the peer.
-use Rattle.proof_words.proofs.{◌≡◌, Bool, true, false, not, is_some, if◌then◌else◌, ◌||◌, List, [], ◌∷◌, Option, Some, None, Result, Ok, Err, refl, sym, ap, ◌∙◌, subst, inl, inr, list_all, cond_both, cond-true, cond-false, or_cases, or_left, or_right}
+use Rattle.proof_prelude.proofs.{◌≡◌, Bool, true, false, not, is_some, if◌then◌else◌, ◌||◌, List, [], ◌∷◌, Option, Some, None, Result, Ok, Err, refl, sym, ap, ◌∙◌, subst, inl, inr, list_all, cond_both, cond-true, cond-false, or_cases, or_left, or_right}
 use Rattle.rev_core.specs.{RevId}
 use Rattle.rev_tree.specs.{has, SessionId, same_tests}
 use Rattle.doc_json.specs.Document.{Document}

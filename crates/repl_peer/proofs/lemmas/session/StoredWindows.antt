@@ -1,5 +1,5 @@
 -- Stored windows: which of them are kept whole, and what thinning keeps.
-use Rattle.proof_words.proofs.{◌≡◌, ℕ, ◌<◌, Bool, true, false, List, [], ◌∷◌, ◌++◌, length, set, get_or, Some, Ok, is_ok, inl, inr, zero, suc, slice_get, ◌≤◌, refl, sym, ap, ◌∙◌, subst, arith, false≢true, or_left, or_right, and_from, length-map, get_or-map, slice_get-map, slice_get_within, option_map, IsPartitionPoint, eq-eqb}
+use Rattle.proof_prelude.proofs.{◌≡◌, ℕ, ◌<◌, Bool, true, false, List, [], ◌∷◌, ◌++◌, length, set, get_or, Some, Ok, is_ok, inl, inr, zero, suc, slice_get, ◌≤◌, refl, sym, ap, ◌∙◌, subst, arith, false≢true, or_left, or_right, and_from, length-map, get_or-map, slice_get-map, slice_get_within, option_map, IsPartitionPoint, eq-eqb}
 use Rattle.couch_base.specs.{Among-push, none_some, some_is, WindowValue}
 use Rattle.range_front.specs.{FrontValue, is_window, is_done, appended, finished, finish_answer, is_done-appended, is_done-finished, finish_answer-no_window, finish_answer-done}
 use Rattle.repl_peer.specs.{StoredWindowValue, windows_of, IsThinnedWhereDone, IsThinner, Consecutive, IsWindowAt}

@@ -1,5 +1,5 @@
 -- The stored windows of a session lie one behind the other.
-use Rattle.proof_words.proofs.{◌≡◌, ℕ, ◌<◌, ◌≤◌, List, [], ◌∷◌, true, sym, ap, ◌∙◌, subst, inl, inr, arith, eqb, ◌&&◌, and_parts, eqb-true}
+use Rattle.proof_prelude.proofs.{◌≡◌, ℕ, ◌<◌, ◌≤◌, List, [], ◌∷◌, true, sym, ap, ◌∙◌, subst, inl, inr, arith, eqb, ◌&&◌, and_parts, eqb-true}
 use Rattle.couch_base.specs.{Among, WindowValue, Among-map, any_member}
 use Rattle.range_front.specs.{FrontValue, FrontWindow, Rises, IsFront, bounds, is_window, bounds_from, is_window-bounds}
 use Rattle.repl_peer.specs.{window_bounds, Consecutive}

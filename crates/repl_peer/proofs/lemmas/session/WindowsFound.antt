@@ -1,5 +1,5 @@
 -- Stored windows, which stand one behind the other.
-use Rattle.proof_words.proofs.{◌≡◌, ℕ, ◌<◌, ◌≤◌, ◌==◌, Bool, false, ◌&&◌, List, [], ◌∷◌, length, get_or, Some, None, slice_get, zero, suc, refl, ap, ◌∙◌, subst, arith, cond-true, cond-false, and_left, and_from, slice_get_within, get_or_from_slice_get, IsPartitionPoint, eq-eqb, ne_eqb, find}
+use Rattle.proof_prelude.proofs.{◌≡◌, ℕ, ◌<◌, ◌≤◌, ◌==◌, Bool, false, ◌&&◌, List, [], ◌∷◌, length, get_or, Some, None, slice_get, zero, suc, refl, ap, ◌∙◌, subst, arith, cond-true, cond-false, and_left, and_from, slice_get_within, get_or_from_slice_get, IsPartitionPoint, eq-eqb, ne_eqb, find}
 use Rattle.couch_base.specs.{none_some, some_is, WindowValue}
 use Rattle.repl_peer.specs.{Consecutive, IsWindowAt}
 

@@ -1,4 +1,4 @@
-use Rattle.proof_words.proofs.{◌≡◌, List, [], ◌∷◌, None, refl, sym, ap, ◌∙◌, option_copied}
+use Rattle.proof_prelude.proofs.{◌≡◌, List, [], ◌∷◌, None, refl, sym, ap, ◌∙◌, option_copied}
 use Rattle.repl_log.specs.{EntryValue, common, log_in-found, log_in-absent}
 use Rattle.repl_peer.specs.{log_of}
 use Rattle.repl_peer.proofs.logs.checkpoint.Goals as goal

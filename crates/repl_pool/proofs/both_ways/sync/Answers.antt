@@ -1,4 +1,4 @@
-use Rattle.proof_words.proofs.{ap, subst}
+use Rattle.proof_prelude.proofs.{ap, subst}
 use Rattle.repl_peer.specs.{PeerValue}
 use Rattle.repl_target.proofs.{turned_tied, source_stays, target_stays, both_stay, both_meet}
 use Rattle.repl_pool.specs.Runs.{Runs}

@@ -1,4 +1,4 @@
-use Rattle.proof_words.proofs.{rules, ◌≡◌, None, true, false, sym, ap, ◌∙◌, subst}
+use Rattle.proof_prelude.proofs.{rules, ◌≡◌, None, true, false, sym, ap, ◌∙◌, subst}
 use Rattle.repl_peer.specs.{PeerValue, after_record}
 use Rattle.repl_target.specs.{closed_as}
 use Rattle.repl_pool.specs.{IsRecorded, stopped, fewer, refused}

@@ -1,4 +1,4 @@
-use Rattle.proof_words.proofs.{Ok, Err, refl, err_from_is_err_and}
+use Rattle.proof_prelude.proofs.{Ok, Err, refl, err_from_is_err_and}
 use Rattle.repl_pool.proofs.{puts_entry}
 use Rattle.repl_pool.proofs.end.put_entry.Goals as goal
 

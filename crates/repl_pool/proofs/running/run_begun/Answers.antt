@@ -1,4 +1,4 @@
-use Rattle.proof_words.proofs.{rules, ◌∙◌, sym, ap, subst, sum, None, is_some, vec_items, option_copied, false≢true, arith, common_steps}
+use Rattle.proof_prelude.proofs.{rules, ◌∙◌, sym, ap, subst, sum, None, is_some, vec_items, option_copied, false≢true, arith, common_steps}
 use Rattle.pool_workers.specs.{MayFill, HaveShown}
 use Rattle.pool_workers.proofs.{seats_seated, back_is, shown_start}
 use Rattle.repl_pool.proofs.{shown_end, grown_then, held_grown, given_grown, no_workers, nothing_read, ends_free}

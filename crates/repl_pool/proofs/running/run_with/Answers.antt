@@ -1,4 +1,4 @@
-use Rattle.proof_words.proofs.{rules, ◌≡◌, Ok, sym, ap, ◌∙◌, option_copied, arith}
+use Rattle.proof_prelude.proofs.{rules, ◌≡◌, Ok, sym, ap, ◌∙◌, option_copied, arith}
 use Rattle.repl_peer.specs.{PeerValue, read_in}
 use Rattle.repl_target.proofs.{begun_reads}
 use Rattle.pool_workers.specs.{MayFill}

@@ -1,4 +1,4 @@
-use Rattle.proof_words.proofs.{◌≡◌, ◌++◌, ◌∷◌, [], All, vec_items, sym, subst, arith, All-push}
+use Rattle.proof_prelude.proofs.{◌≡◌, ◌++◌, ◌∷◌, [], All, vec_items, sym, subst, arith, All-push}
 use Rattle.progress_board.specs.{CameWith}
 use Rattle.pool_workers.specs.{HasNothing}
 use Rattle.repl_pool.proofs.{new_left, new_taken}

@@ -1,5 +1,5 @@
 -- The seats that are left are as the board was made with them, and those that were taken came with it and have nothing.
-use Rattle.proof_words.proofs.{◌≡◌, ◌+◌, ◌≤◌, All, vec_len, vec_capacity, vec_items}
+use Rattle.proof_prelude.proofs.{◌≡◌, ◌+◌, ◌≤◌, All, vec_len, vec_capacity, vec_items}
 use Rattle.progress_board.specs.{AreNew, CameWith}
 use Rattle.pool_workers.specs.{HasNothing}
 use Rattle.repl_pool.proofs.seats.board_with_seats.Given as goal

@@ -1,4 +1,4 @@
-use Rattle.proof_words.proofs.{◌++◌, ◌∷◌, [], map, take, List, ap, ◌∙◌, take_all}
+use Rattle.proof_prelude.proofs.{◌++◌, ◌∷◌, [], map, take, List, ap, ◌∙◌, take_all}
 use Rattle.rev_tree.specs.{TreeValue}
 use Rattle.couch_base.specs.{tree_of, RowValue}
 use Rattle.repl_survey.specs.{census_of}

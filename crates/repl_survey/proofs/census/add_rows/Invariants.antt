@@ -1,5 +1,5 @@
 -- The documents of the rows so far are added to some.
-use Rattle.proof_words.proofs.{◌≡◌, ◌++◌, List, map, take}
+use Rattle.proof_prelude.proofs.{◌≡◌, ◌++◌, List, map, take}
 use Rattle.rev_tree.specs.{TreeValue}
 use Rattle.couch_base.specs.{tree_of}
 use Rattle.repl_survey.specs.{census_of}

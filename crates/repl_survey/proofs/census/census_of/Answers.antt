@@ -1,4 +1,4 @@
-use Rattle.proof_words.proofs.{◌++◌, List, map, None, sym, ap, ◌∙◌, append-nil}
+use Rattle.proof_prelude.proofs.{◌++◌, List, map, None, sym, ap, ◌∙◌, append-nil}
 use Rattle.couch_base.specs.{tree_of, RowValue, WindowValue, chosen_feed, feed-page, feed-none}
 use Rattle.repl_survey.specs.{census_of}
 use Rattle.repl_survey.proofs.{mapped_on, trees_all}

@@ -1,5 +1,5 @@
 -- The census is that of the documents so far, and those above `since` are left.
-use Rattle.proof_words.proofs.{◌≡◌, ◌++◌, ◌-◌, List, map, None}
+use Rattle.proof_prelude.proofs.{◌≡◌, ◌++◌, ◌-◌, List, map, None}
 use Rattle.rev_tree.specs.{TreeValue}
 use Rattle.couch_base.specs.{tree_of, chosen_feed}
 use Rattle.repl_survey.specs.{census_of}

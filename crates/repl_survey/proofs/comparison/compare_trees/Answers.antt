@@ -1,4 +1,4 @@
-use Rattle.proof_words.proofs.{ap, ◌∙◌, list_all}
+use Rattle.proof_prelude.proofs.{ap, ◌∙◌, list_all}
 use Rattle.rev_tree.specs.{has, missing}
 use Rattle.repl_survey.proofs.{missing_known}
 use Rattle.repl_survey.proofs.comparison.compare_trees.Goals as goal

@@ -1,5 +1,5 @@
 -- Those of the revisions so far are found.
-use Rattle.proof_words.proofs.{◌≡◌, filter, take}
+use Rattle.proof_prelude.proofs.{◌≡◌, filter, take}
 use Rattle.repl_survey.specs.{differs}
 use Rattle.repl_survey.proofs.comparison.differing_of.Given as goal
 

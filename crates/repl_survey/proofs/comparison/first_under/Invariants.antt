@@ -1,5 +1,5 @@
 -- The leaves so far contradict nothing.
-use Rattle.proof_words.proofs.{◌≡◌, drop}
+use Rattle.proof_prelude.proofs.{◌≡◌, drop}
 use Rattle.repl_survey.specs.{contradiction_under}
 use Rattle.repl_survey.proofs.comparison.first_under.Given as goal
 

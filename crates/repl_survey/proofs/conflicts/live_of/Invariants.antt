@@ -1,5 +1,5 @@
 -- Those of the revisions so far are found.
-use Rattle.proof_words.proofs.{◌≡◌, not, filter, take}
+use Rattle.proof_prelude.proofs.{◌≡◌, not, filter, take}
 use Rattle.rev_tree.specs.{is_deleted}
 use Rattle.repl_survey.proofs.conflicts.live_of.Given as goal
 

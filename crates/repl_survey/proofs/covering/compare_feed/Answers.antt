@@ -1,4 +1,4 @@
-use Rattle.proof_words.proofs.{◌≡◌, sym, ap, ◌∙◌, IfOk-weaker, option_copied}
+use Rattle.proof_prelude.proofs.{◌≡◌, sym, ap, ◌∙◌, IfOk-weaker, option_copied}
 use Rattle.doc_json.specs.{Choice}
 use Rattle.couch_base.specs.{DatabaseValue, chosen_feed}
 use Rattle.repl_target.specs.{CoversFeed}

@@ -1,5 +1,5 @@
 -- The leaves so far are made documents.
-use Rattle.proof_words.proofs.{◌≡◌, map, take}
+use Rattle.proof_prelude.proofs.{◌≡◌, map, take}
 use Rattle.couch_base.specs.{tree_of, leaf_document}
 use Rattle.repl_survey.proofs.documents.documents_at.Given as goal
 

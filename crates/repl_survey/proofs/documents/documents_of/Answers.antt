@@ -1,4 +1,4 @@
-use Rattle.proof_words.proofs.{ap, ◌∙◌, list_all}
+use Rattle.proof_prelude.proofs.{ap, ◌∙◌, list_all}
 use Rattle.rev_tree.specs.{is_leaf, leaves}
 use Rattle.couch_base.specs.{tree_of}
 use Rattle.repl_survey.proofs.{loaded_back, leaves_leaves}

@@ -1,4 +1,4 @@
-use Rattle.proof_words.proofs.{ap, ◌∙◌, is_some}
+use Rattle.proof_prelude.proofs.{ap, ◌∙◌, is_some}
 use Rattle.repl_survey.proofs.{leaf_there}
 use Rattle.repl_survey.proofs.documents.leaf_document.Goals as goal
 

@@ -1,4 +1,4 @@
-use Rattle.proof_words.proofs.{◌++◌, ◌∷◌, [], take, List, ap, ◌∙◌, take_all}
+use Rattle.proof_prelude.proofs.{◌++◌, ◌∷◌, [], take, List, ap, ◌∙◌, take_all}
 use Rattle.couch_base.specs.{RowValue}
 use Rattle.repl_survey.specs.{ComparisonValue, compared_at, comparisons, total_of}
 use Rattle.repl_survey.proofs.{mapped_more}

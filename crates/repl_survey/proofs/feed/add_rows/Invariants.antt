@@ -1,5 +1,5 @@
 -- The rows so far are added to the total of some.
-use Rattle.proof_words.proofs.{◌≡◌, ◌++◌, List, take}
+use Rattle.proof_prelude.proofs.{◌≡◌, ◌++◌, List, take}
 use Rattle.repl_survey.specs.{ComparisonValue, comparisons, total_of}
 use Rattle.repl_survey.proofs.feed.add_rows.Given as goal
 

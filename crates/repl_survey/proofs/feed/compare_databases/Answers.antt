@@ -1,4 +1,4 @@
-use Rattle.proof_words.proofs.{◌++◌, List, sym, ap, ◌∙◌, append-nil, option_copied}
+use Rattle.proof_prelude.proofs.{◌++◌, List, sym, ap, ◌∙◌, append-nil, option_copied}
 use Rattle.couch_base.specs.{RowValue, WindowValue, chosen_feed, feed-page, feed-none}
 use Rattle.repl_survey.specs.{compared_at, comparisons, total_of}
 use Rattle.repl_survey.proofs.{mapped_on}

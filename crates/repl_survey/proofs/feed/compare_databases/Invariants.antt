@@ -1,5 +1,5 @@
 -- The total is that of the rows so far, and those above `since` are left.
-use Rattle.proof_words.proofs.{◌≡◌, ◌++◌, ◌-◌, List, option_copied}
+use Rattle.proof_prelude.proofs.{◌≡◌, ◌++◌, ◌-◌, List, option_copied}
 use Rattle.couch_base.specs.{chosen_feed}
 use Rattle.repl_survey.specs.{ComparisonValue, comparisons, total_of}
 use Rattle.repl_survey.proofs.feed.compare_databases.Given as goal

@@ -1,4 +1,4 @@
-use Rattle.proof_words.proofs.{◌≡◌, None, IfOk, rules, sym, ap, ◌∙◌, IfOk-weaker, option_copied, arith, common_steps}
+use Rattle.proof_prelude.proofs.{◌≡◌, None, IfOk, rules, sym, ap, ◌∙◌, IfOk-weaker, option_copied, arith, common_steps}
 use Rattle.doc_json.specs.{Choice}
 use Rattle.couch_base.specs.{chosen_feed}
 use Rattle.repl_peer.specs.{PeerValue, covers}

@@ -1,5 +1,5 @@
 -- A session that began, in any later target that has grown by what the source answers.
-use Rattle.proof_words.proofs.{◌≡◌, ◌≤◌, Bool, false, ◌∷◌, Result, Ok, Err, is_ok, refl, sym, ap, ◌∙◌, subst, inl, inr, arith, cond_both, false≢true, both_ways, eq-eqb}
+use Rattle.proof_prelude.proofs.{◌≡◌, ◌≤◌, Bool, false, ◌∷◌, Result, Ok, Err, is_ok, refl, sym, ap, ◌∙◌, subst, inl, inr, arith, cond_both, false≢true, both_ways, eq-eqb}
 use Rattle.rev_tree.specs.{SessionId}
 use Rattle.doc_json.specs.Document.{Document}
 use Rattle.couch_base.specs.{Among, LawfulDatabase, RowValue, WindowValue, any_from}

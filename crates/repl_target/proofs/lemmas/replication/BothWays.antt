@@ -1,5 +1,5 @@
 -- Two replications, one each way: both databases end with the same documents.
-use Rattle.proof_words.proofs.{◌≡◌, ◌&&◌, true, List, [], Option, Some, unwrap_or, Bool, Result, Ok, Err, sym, ap, ◌∙◌, subst, inl, inr, bytes_eq, cond_both, and_parts, or_cases, bytes_eq-Decides}
+use Rattle.proof_prelude.proofs.{◌≡◌, ◌&&◌, true, List, [], Option, Some, unwrap_or, Bool, Result, Ok, Err, sym, ap, ◌∙◌, subst, inl, inr, bytes_eq, cond_both, and_parts, or_cases, bytes_eq-Decides}
 use Rattle.rev_core.specs.{RevId, is_among}
 use Rattle.rev_tree.specs.{TreeValue, has, is_leaf, ancestors, merged, no_revisions, Agree, IsWhole, IsGrownBy, IsGrownBy-same, IsGrownBy-merged, leaves_known, Agree-grown, IsWhole-there, IsWhole-back, same_by_leaves, same_leaves, given, Origin}
 use Rattle.doc_json.specs.Document.{Document}

@@ -1,5 +1,5 @@
 -- What calls keep: the law, what covers, and the windows that are stored.
-use Rattle.proof_words.proofs.{◌≡◌, ℕ, ◌<◌, ◌^◌, Bool, cond, List, Result, Ok, Err, refl, sym, ap, ◌∙◌, subst, inl, inr, arith, cond_both}
+use Rattle.proof_prelude.proofs.{◌≡◌, ℕ, ◌<◌, ◌^◌, Bool, cond, List, Result, Ok, Err, refl, sym, ap, ◌∙◌, subst, inl, inr, arith, cond_both}
 use Rattle.rev_tree.specs.{SessionId}
 use Rattle.doc_json.specs.Document.{Document}
 use Rattle.doc_json.specs.{Choice}

@@ -1,5 +1,5 @@
 -- Replicated into a peer that was empty, without a failure, each document is as it is at the source.
-use Rattle.proof_words.proofs.{◌≡◌, Bool, true, List, [], ◌∷◌, map, Option, Some, None, is_some, unwrap_or, Result, Ok, Err, IfOk, refl, sym, ap, ◌∙◌, subst, inl, inr, bytes_eq, and_parts, cond_both, false≢true, or_cases, nil_from_length, bytes_eq-Decides, get-empty}
+use Rattle.proof_prelude.proofs.{◌≡◌, Bool, true, List, [], ◌∷◌, map, Option, Some, None, is_some, unwrap_or, Result, Ok, Err, IfOk, refl, sym, ap, ◌∙◌, subst, inl, inr, bytes_eq, and_parts, cond_both, false≢true, or_cases, nil_from_length, bytes_eq-Decides, get-empty}
 use Rattle.rev_core.specs.{RevId, rev_cmp}
 use Rattle.rev_tree.specs.{TreeValue, has, is_leaf, leaves, ancestors, merged, no_revisions, is_among-leaves, Origin, SessionId, same_leaves, IsPart, nothing_is_part, given, part_merged, whole_part}
 use Rattle.doc_json.specs.Document.{Document}

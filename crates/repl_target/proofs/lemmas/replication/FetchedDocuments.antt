@@ -1,5 +1,5 @@
 -- Documents as a source hands them over, and what the calls of a run keep.
-use Rattle.proof_words.proofs.{◌≡◌, Bool, true, List, [], ◌∷◌, ◌++◌, map, Option, Some, None, unwrap_or, refl, sym, ◌∙◌, subst, inl, inr, AllByRecursion, list_any}
+use Rattle.proof_prelude.proofs.{◌≡◌, Bool, true, List, [], ◌∷◌, ◌++◌, map, Option, Some, None, unwrap_or, refl, sym, ◌∙◌, subst, inl, inr, AllByRecursion, list_any}
 use Rattle.rev_core.specs.{RevId, is_among}
 use Rattle.rev_tree.specs.{TreeValue, IsTree, is_leaf, leaves, leaves_above, ancestors, no_revisions, is_among-leaves, Origin, SessionId}
 use Rattle.doc_json.specs.Document.{Document}

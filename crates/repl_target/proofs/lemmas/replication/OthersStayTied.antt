@@ -1,5 +1,5 @@
 -- A replication leaves its two peers tied to every other one as they were.
-use Rattle.proof_words.proofs.{◌≡◌, ◌≢◌, ℕ, Bool, List, Result, Ok, Err, refl, sym, ap, ◌∙◌, subst, inl, inr}
+use Rattle.proof_prelude.proofs.{◌≡◌, ◌≢◌, ℕ, Bool, List, Result, Ok, Err, refl, sym, ap, ◌∙◌, subst, inl, inr}
 use Rattle.doc_json.specs.Document.{Document}
 use Rattle.doc_json.specs.{Choice}
 use Rattle.couch_base.specs.{LawfulDatabase}

@@ -1,5 +1,5 @@
 -- How many documents a session has read, after each call.
-use Rattle.proof_words.proofs.{◌≡◌, ℕ, ◌+◌, ◌≤◌, ◌==◌, Bool, true, false, cond, List, [], ◌∷◌, Option, Some, None, Result, Ok, Err, take, length, refl, sym, ap, ◌∙◌, arith, cond_both, cond-true, cond-false, take-length, find, eq-eqb}
+use Rattle.proof_prelude.proofs.{◌≡◌, ℕ, ◌+◌, ◌≤◌, ◌==◌, Bool, true, false, cond, List, [], ◌∷◌, Option, Some, None, Result, Ok, Err, take, length, refl, sym, ap, ◌∙◌, arith, cond_both, cond-true, cond-false, take-length, find, eq-eqb}
 use Rattle.rev_tree.specs.{SessionId}
 use Rattle.doc_json.specs.Document.{Document}
 use Rattle.couch_base.specs.{WindowValue, ParcelValue}

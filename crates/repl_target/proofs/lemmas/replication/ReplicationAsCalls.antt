@@ -1,5 +1,5 @@
 -- A replication by one thread is calls on the target whose messages are what the source answers.
-use Rattle.proof_words.proofs.{◌≡◌, ℕ, min, zero, suc, ◌⊎◌, ◌==◌, ◌≤◌, Bool, true, cond, List, [], ◌∷◌, ◌++◌, Option, Some, None, Result, Ok, Err, is_ok, IfOk, OnOk, take, length, refl, sym, ap, ◌∙◌, subst, inl, inr, arith, cond_both, false≢true, and_parts, cond-true, cond-false, both_ways, min-eq_left, AllocError, eq-eqb, ne_eqb, leb-true, ltb-true}
+use Rattle.proof_prelude.proofs.{◌≡◌, ℕ, min, zero, suc, ◌⊎◌, ◌==◌, ◌≤◌, Bool, true, cond, List, [], ◌∷◌, ◌++◌, Option, Some, None, Result, Ok, Err, is_ok, IfOk, OnOk, take, length, refl, sym, ap, ◌∙◌, subst, inl, inr, arith, cond_both, false≢true, and_parts, cond-true, cond-false, both_ways, min-eq_left, AllocError, eq-eqb, ne_eqb, leb-true, ltb-true}
 use Rattle.rev_tree.specs.{SessionId}
 use Rattle.doc_json.specs.Document.{Document}
 use Rattle.doc_json.specs.{Choice}

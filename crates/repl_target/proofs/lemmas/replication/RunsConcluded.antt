@@ -1,5 +1,5 @@
 -- What a replication that ends says: its session is reported, and all of the source's feed from its start is covered.
-use Rattle.proof_words.proofs.{◌≡◌, ◌⊎◌, ℕ, suc, ◌+◌, ◌==◌, Bool, true, cond, List, [], ◌∷◌, Option, Some, None, Result, Ok, Err, is_ok, OnOk, IfOk, refl, sym, ap, ◌∙◌, subst, inl, inr, arith, eqb, IsDistinct, cond_both, cond-true, false≢true, AllocError, find, eqb-true, eq-eqb}
+use Rattle.proof_prelude.proofs.{◌≡◌, ◌⊎◌, ℕ, suc, ◌+◌, ◌==◌, Bool, true, cond, List, [], ◌∷◌, Option, Some, None, Result, Ok, Err, is_ok, OnOk, IfOk, refl, sym, ap, ◌∙◌, subst, inl, inr, arith, eqb, IsDistinct, cond_both, cond-true, false≢true, AllocError, find, eqb-true, eq-eqb}
 use Rattle.rev_tree.specs.{SessionId}
 use Rattle.doc_json.specs.Document.{Document}
 use Rattle.couch_base.specs.{Among, none_some, DatabaseValue, LawfulDatabase}

@@ -1,5 +1,5 @@
 -- What a settling takes: each document, in the counts too; so a parcel of a session's own window covers it.
-use Rattle.proof_words.proofs.{◌≡◌, ◌⊎◌, ℕ, zero, suc, ◌+◌, ◌≤◌, ◌&&◌, Bool, true, false, cond, not, List, [], ◌∷◌, Option, Some, None, Result, Ok, Err, take, length, refl, sym, ap, ◌∙◌, subst, inl, inr, arith, list_all, option_map, option_or, bytes_eq, and_from, cond_both, both_ways, or_left, or_right, cases_Bool, bytes_eq-Decides, find}
+use Rattle.proof_prelude.proofs.{◌≡◌, ◌⊎◌, ℕ, zero, suc, ◌+◌, ◌≤◌, ◌&&◌, Bool, true, false, cond, not, List, [], ◌∷◌, Option, Some, None, Result, Ok, Err, take, length, refl, sym, ap, ◌∙◌, subst, inl, inr, arith, list_all, option_map, option_or, bytes_eq, and_from, cond_both, both_ways, or_left, or_right, cases_Bool, bytes_eq-Decides, find}
 use Rattle.rev_core.specs.{RevId, is_among}
 use Rattle.rev_tree.specs.{has, SessionId}
 use Rattle.doc_json.specs.Document.{Document}

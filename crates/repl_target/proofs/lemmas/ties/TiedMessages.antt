@@ -1,5 +1,5 @@
 -- What is asked and what is fetched for a tied window is tied.
-use Rattle.proof_words.proofs.{◌≡◌, ◌⊎◌, Bool, true, false, not, ◌||◌, List, [], ◌∷◌, ◌++◌, map, filter, refl, sym, ap, ◌∙◌, subst, inl, inr, list_any, list_all, and_parts, cond_both, both_ways, or_cases, false≢true, not_from_true, not_from_false, bytes_eq-Decides}
+use Rattle.proof_prelude.proofs.{◌≡◌, ◌⊎◌, Bool, true, false, not, ◌||◌, List, [], ◌∷◌, ◌++◌, map, filter, refl, sym, ap, ◌∙◌, subst, inl, inr, list_any, list_all, and_parts, cond_both, both_ways, or_cases, false≢true, not_from_true, not_from_false, bytes_eq-Decides}
 use Rattle.rev_core.specs.{RevId, is_among}
 use Rattle.rev_tree.specs.{has, missing}
 use Rattle.doc_json.specs.Document.{Document}

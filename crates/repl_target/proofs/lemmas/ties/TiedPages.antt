@@ -1,5 +1,5 @@
 -- A page is tied to its database, and what is tied stays so.
-use Rattle.proof_words.proofs.{◌≡◌, ℕ, zero, suc, ◌<◌, ◌≤◌, nat_lt, nat_le, ◌==◌, true, false, ◌&&◌, List, [], ◌∷◌, map, filter, length, take, Some, sym, ap, ◌∙◌, subst, inl, inr, arith, unwrap_or, list_any, AllByRecursion, bytes_eq, and_parts, and_from, cond_both, cond-false, cond-true, or_parts, bytes_eq-Decides, lt-ltb, ltb-true, le-leb, leb-true}
+use Rattle.proof_prelude.proofs.{◌≡◌, ℕ, zero, suc, ◌<◌, ◌≤◌, nat_lt, nat_le, ◌==◌, true, false, ◌&&◌, List, [], ◌∷◌, map, filter, length, take, Some, sym, ap, ◌∙◌, subst, inl, inr, arith, unwrap_or, list_any, AllByRecursion, bytes_eq, and_parts, and_from, cond_both, cond-false, cond-true, or_parts, bytes_eq-Decides, lt-ltb, ltb-true, le-leb, leb-true}
 use Rattle.rev_core.specs.{RevId}
 use Rattle.rev_tree.specs.{has, leaves, is_leaf, no_revisions, is_among-leaves}
 use Rattle.doc_json.specs.{Choice, is_chosen}

@@ -1,5 +1,5 @@
 -- What tied peers cover.
-use Rattle.proof_words.proofs.{◌≡◌, ℕ, ◌<◌, ◌≤◌, ◌^◌, min, Bool, true, List, Option, Some, None, refl, sym, ap, ◌∙◌, subst, inl, inr, arith, cases_lt, eqb-true}
+use Rattle.proof_prelude.proofs.{◌≡◌, ℕ, ◌<◌, ◌≤◌, ◌^◌, min, Bool, true, List, Option, Some, None, refl, sym, ap, ◌∙◌, subst, inl, inr, arith, cases_lt, eqb-true}
 use Rattle.rev_core.specs.{RevId}
 use Rattle.rev_tree.specs.{leaves, SessionId}
 use Rattle.doc_json.specs.Document.{Document}

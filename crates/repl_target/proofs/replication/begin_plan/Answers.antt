@@ -1,4 +1,4 @@
-use Rattle.proof_words.proofs.{rules}
+use Rattle.proof_prelude.proofs.{rules}
 use Rattle.repl_target.proofs.replication.begin_plan.Goals as goal
 
 pub returns-clause-ok : goal.returns-clause-ok

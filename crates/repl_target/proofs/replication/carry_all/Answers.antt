@@ -1,4 +1,4 @@
-use Rattle.proof_words.proofs.{rules, Err, sym, ap, ◌∙◌, subst, err_from_is_err_and, arith, common_steps}
+use Rattle.proof_prelude.proofs.{rules, Err, sym, ap, ◌∙◌, subst, err_from_is_err_and, arith, common_steps}
 use Rattle.repl_target.specs.{Reading, ReadsAll, ReadsUntil}
 use Rattle.repl_target.proofs.{Started, all-copied, refused_plan, refused_begin, cut_short, ended_all, all-found, all-covered, all-reported}
 use Rattle.repl_target.proofs.replication.carry_all.Goals as goal

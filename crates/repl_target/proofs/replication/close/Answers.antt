@@ -1,4 +1,4 @@
-use Rattle.proof_words.proofs.{◌≡◌, Some, Ok, Err, sym, ap, ◌∙◌, subst, err_from_is_err_and}
+use Rattle.proof_prelude.proofs.{◌≡◌, Some, Ok, Err, sym, ap, ◌∙◌, subst, err_from_is_err_and}
 use Rattle.repl_peer.specs.{PeerValue, SessionValue, session_in}
 use Rattle.repl_target.proofs.{closed-found}
 use Rattle.repl_target.proofs.replication.close.Goals as goal

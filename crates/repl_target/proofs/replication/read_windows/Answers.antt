@@ -1,4 +1,4 @@
-use Rattle.proof_words.proofs.{◌<◌, sym, ◌∙◌, subst, arith, and_from, lt-ltb}
+use Rattle.proof_prelude.proofs.{◌<◌, sym, ◌∙◌, subst, arith, and_from, lt-ltb}
 use Rattle.repl_target.specs.{Reading, Carries}
 use Rattle.repl_target.proofs.{reads_more}
 use Rattle.repl_target.proofs.replication.read_windows.Goals as goal

@@ -1,4 +1,4 @@
-use Rattle.proof_words.proofs.{◌≡◌, ◌-◌, ◌≤◌}
+use Rattle.proof_prelude.proofs.{◌≡◌, ◌-◌, ◌≤◌}
 use Rattle.repl_target.specs.{Reads}
 use Rattle.repl_target.proofs.replication.read_windows.Given as goal
 

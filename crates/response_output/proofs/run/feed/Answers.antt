@@ -1,4 +1,4 @@
-use Rattle.proof_words.proofs.{◌++◌, take, arith, ◌∙◌, refl, sym, subst, err_from_is_err_and, common_steps}
+use Rattle.proof_prelude.proofs.{◌++◌, take, arith, ◌∙◌, refl, sym, subst, err_from_is_err_and, common_steps}
 use Rattle.response_output.specs.{Begins, words_of_wording}
 use Rattle.response_parser.specs.{pieces, state_of}
 use Rattle.response_output.proofs.{Begins-none, Begins-in, Begins-taken, Fed-joined, Fed-taken}

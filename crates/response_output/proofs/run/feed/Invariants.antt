@@ -1,5 +1,5 @@
 -- A front of the bytes was read, and what it holds is written.
-use Rattle.proof_words.proofs.{◌≡◌, ◌++◌, ℕ, List, length}
+use Rattle.proof_prelude.proofs.{◌≡◌, ◌++◌, ℕ, List, length}
 use Rattle.response_parser.specs.{state_of}
 use Rattle.response_output.specs.{words_of_wording, Fed}
 use Rattle.response_output.proofs.run.feed.Given as goal

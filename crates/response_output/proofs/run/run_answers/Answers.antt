@@ -1,4 +1,4 @@
-use Rattle.proof_words.proofs.{refl, err_from_is_err_and}
+use Rattle.proof_prelude.proofs.{refl, err_from_is_err_and}
 use Rattle.script_engine.specs.declared.fault.ScriptFault.TheVariants.{Memory}
 use Rattle.response_parser.specs.{state_of}
 use Rattle.response_output.specs.{words_of_wording}

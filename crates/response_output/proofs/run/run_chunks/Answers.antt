@@ -1,4 +1,4 @@
-use Rattle.proof_words.proofs.{◌≡◌, [], ap, ◌∙◌, sym, subst, refl, false}
+use Rattle.proof_prelude.proofs.{◌≡◌, [], ap, ◌∙◌, sym, subst, refl, false}
 use Rattle.script_engine.specs.{counted, chunk_of}
 use Rattle.script_engine.proofs.{a_chunk, no_chunk}
 use Rattle.response_parser.specs.State.{State}

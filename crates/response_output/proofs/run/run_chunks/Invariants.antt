@@ -1,5 +1,5 @@
 -- What was read so far is answers, and what they hold is written.
-use Rattle.proof_words.proofs.{◌≡◌, ◌-◌, false}
+use Rattle.proof_prelude.proofs.{◌≡◌, ◌-◌, false}
 use Rattle.response_parser.specs.{is_refused, state_of}
 use Rattle.script_engine.specs.{HasRead, AreChunks, max_reads}
 use Rattle.response_output.specs.{words_of_wording}

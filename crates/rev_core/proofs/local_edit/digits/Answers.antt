@@ -1,4 +1,4 @@
-use Rattle.proof_words.proofs.{◌≡◌, true, sym, ap, ◌∙◌, refl, subst, IsOk, cond-true}
+use Rattle.proof_prelude.proofs.{◌≡◌, true, sym, ap, ◌∙◌, refl, subst, IsOk, cond-true}
 use Rattle.hex.specs.Hex.{encode_lower}
 use Rattle.rev_core.specs.{is_sig}
 use Rattle.rev_core.proofs.{is_sig-encode_lower}

@@ -1,4 +1,4 @@
-use Rattle.proof_words.proofs.{◌≡◌, [], ◌∷◌, ◌++◌, ap, ◌∙◌, append_assoc}
+use Rattle.proof_prelude.proofs.{◌≡◌, [], ◌∷◌, ◌++◌, ap, ◌∙◌, append_assoc}
 use Rattle.md5.specs.Md5.{md5}
 use Rattle.hex.specs.Hex.{encode_lower}
 use Rattle.rev_core.specs.{edit_sig, parent_text}

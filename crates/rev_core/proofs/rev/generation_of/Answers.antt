@@ -1,4 +1,4 @@
-use Rattle.proof_words.proofs.{◌≡◌, ◌+◌, drop, get_or, fold, sym, ◌∙◌, arith, at_drop_more}
+use Rattle.proof_prelude.proofs.{◌≡◌, ◌+◌, drop, get_or, fold, sym, ◌∙◌, arith, at_drop_more}
 use Rattle.rev_core.specs.{with_digit, value_of}
 use Rattle.rev_core.proofs.{value_grows, too_large}
 use Rattle.rev_core.proofs.rev.generation_of.Goals as goal

@@ -1,4 +1,4 @@
-use Rattle.proof_words.proofs.{◌≡◌, ◌<◌, ◌≤◌, ◌^◌, drop, fold, list_all}
+use Rattle.proof_prelude.proofs.{◌≡◌, ◌<◌, ◌≤◌, ◌^◌, drop, fold, list_all}
 use Rattle.rev_core.specs.{with_digit, value_of, is_digit}
 use Rattle.rev_core.proofs.rev.generation_of.Given as goal
 

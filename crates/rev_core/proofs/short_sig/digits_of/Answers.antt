@@ -1,4 +1,4 @@
-use Rattle.proof_words.proofs.{◌≡◌, ◌++◌, ◌∷◌, [], get_or, sym, ◌∙◌, arith, take_more, take_more_set, length-set, take_all}
+use Rattle.proof_prelude.proofs.{◌≡◌, ◌++◌, ◌∷◌, [], get_or, sym, ◌∙◌, arith, take_more, take_more_set, length-set, take_all}
 use Rattle.rev_core.specs.{digits_of}
 use Rattle.rev_core.proofs.{high_at, low_at, length-digits_of}
 use Rattle.rev_core.proofs.short_sig.digits_of.Goals.{then-i-lt-ROOM, else-i-lt-ROOM}

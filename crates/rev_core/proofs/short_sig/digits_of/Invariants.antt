@@ -1,4 +1,4 @@
-use Rattle.proof_words.proofs.{◌≡◌, length, take}
+use Rattle.proof_prelude.proofs.{◌≡◌, length, take}
 use Rattle.rev_core.specs.{digits_of}
 use Rattle.rev_core.proofs.short_sig.digits_of.Given as goal
 

@@ -1,4 +1,4 @@
-use Rattle.proof_words.proofs.{◌≡◌, ◌&&◌, ◌*◌, ◌+◌, slice_set, subst, sym, arith}
+use Rattle.proof_prelude.proofs.{◌≡◌, ◌&&◌, ◌*◌, ◌+◌, slice_set, subst, sym, arith}
 use Rattle.rev_core.proofs.{IsRead, read_more, read_all}
 use Rattle.rev_core.proofs.short_sig.joined.Goals as goal
 

@@ -1,4 +1,4 @@
-use Rattle.proof_words.proofs.{◌≡◌, ◌&&◌, drop, list_all}
+use Rattle.proof_prelude.proofs.{◌≡◌, ◌&&◌, drop, list_all}
 use Rattle.rev_core.specs.{is_sig_byte}
 use Rattle.rev_core.proofs.sig.all_sig_bytes.Given as goal
 

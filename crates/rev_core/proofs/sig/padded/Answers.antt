@@ -1,4 +1,4 @@
-use Rattle.proof_words.proofs.{length, ◌++◌, ◌-◌, replicate, sym, ap, ◌∙◌, drop-replicate}
+use Rattle.proof_prelude.proofs.{length, ◌++◌, ◌-◌, replicate, sym, ap, ◌∙◌, drop-replicate}
 use Rattle.rev_core.proofs.sig.padded.Goals as goal
 
 pub returns-then-text-eq32 : goal.returns-then-text-eq32

@@ -1,4 +1,4 @@
-use Rattle.proof_words.proofs.{◌≡◌, ◌-◌, suc, take, sym, ap, ◌∙◌, arith}
+use Rattle.proof_prelude.proofs.{◌≡◌, ◌-◌, suc, take, sym, ap, ◌∙◌, arith}
 use Rattle.rev_tree.specs.{falls, revs_in}
 use Rattle.rev_tree.proofs.{all_behind, falls_split, length-revs_in}
 use Rattle.rev_tree.proofs.nodes.all_fall.Goals as goal

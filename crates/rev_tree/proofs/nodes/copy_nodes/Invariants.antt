@@ -1,4 +1,4 @@
-use Rattle.proof_words.proofs.{◌≡◌, take}
+use Rattle.proof_prelude.proofs.{◌≡◌, take}
 use Rattle.rev_tree.proofs.nodes.copy_nodes.Given as goal
 
 -- those so far

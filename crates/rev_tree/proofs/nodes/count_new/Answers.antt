@@ -1,4 +1,4 @@
-use Rattle.proof_words.proofs.{length, sym, rules, ◌≡◌, get_or, ap, arith}
+use Rattle.proof_prelude.proofs.{length, sym, rules, ◌≡◌, get_or, ap, arith}
 use Rattle.rev_tree.specs.{revs_in, unless_among}
 use Rattle.rev_tree.proofs.{all_new, count_next}
 use Rattle.rev_tree.proofs.nodes.count_new.Goals as goal

@@ -1,4 +1,4 @@
-use Rattle.proof_words.proofs.{◌≡◌, ◌≤◌, take}
+use Rattle.proof_prelude.proofs.{◌≡◌, ◌≤◌, take}
 use Rattle.rev_tree.specs.{count_new, revs_in}
 use Rattle.rev_tree.proofs.nodes.count_new.Given as goal
 

@@ -1,4 +1,4 @@
-use Rattle.proof_words.proofs.{sym, ◌∙◌, arith}
+use Rattle.proof_prelude.proofs.{sym, ◌∙◌, arith}
 use Rattle.rev_tree.proofs.{fallen_place, fallen_missed, nowhere, place_at, place_known, read_at}
 use Rattle.rev_tree.proofs.nodes.fallen_to.Goals as goal
 

@@ -1,4 +1,4 @@
-use Rattle.proof_words.proofs.{◌≡◌, ◌+◌, ◌-◌, ◌&&◌, drop, sym, ap, ◌∙◌, arith}
+use Rattle.proof_prelude.proofs.{◌≡◌, ◌+◌, ◌-◌, ◌&&◌, drop, sym, ap, ◌∙◌, arith}
 use Rattle.rev_tree.specs.{falls, revs_in}
 use Rattle.rev_tree.proofs.{falls_end, nodes_step, length-revs_in}
 use Rattle.rev_tree.proofs.nodes.falls_from.Goals as goal

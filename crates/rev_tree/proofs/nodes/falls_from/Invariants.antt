@@ -1,4 +1,4 @@
-use Rattle.proof_words.proofs.{◌≡◌, ◌-◌, drop}
+use Rattle.proof_prelude.proofs.{◌≡◌, ◌-◌, drop}
 use Rattle.rev_tree.specs.{falls, revs_in}
 use Rattle.rev_tree.proofs.nodes.falls_from.Given as goal
 

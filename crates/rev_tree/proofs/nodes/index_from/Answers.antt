@@ -1,4 +1,4 @@
-use Rattle.proof_words.proofs.{◌+◌, length, take, length-take, ap, ◌∙◌, arith}
+use Rattle.proof_prelude.proofs.{◌+◌, length, take, length-take, ap, ◌∙◌, arith}
 use Rattle.rev_tree.specs.{mark_of, noted, revs_in}
 use Rattle.rev_tree.proofs.{length-revs_in, length_marks, marks_more}
 use Rattle.rev_tree.proofs.nodes.index_from.Goals as goal

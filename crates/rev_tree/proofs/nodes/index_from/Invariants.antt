@@ -1,4 +1,4 @@
-use Rattle.proof_words.proofs.{◌≡◌, ◌+◌, ◌≤◌, [], length, take}
+use Rattle.proof_prelude.proofs.{◌≡◌, ◌+◌, ◌≤◌, [], length, take}
 use Rattle.rev_tree.specs.{noted_from, revs_in}
 use Rattle.rev_tree.proofs.nodes.index_from.Given as goal
 

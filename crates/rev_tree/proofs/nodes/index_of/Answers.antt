@@ -1,4 +1,4 @@
-use Rattle.proof_words.proofs.{sym, ap, ◌∙◌, arith}
+use Rattle.proof_prelude.proofs.{sym, ap, ◌∙◌, arith}
 use Rattle.rev_tree.specs.{falls, revs_in}
 use Rattle.rev_tree.proofs.{all_behind, index_fallen, index_few, length-revs_in}
 use Rattle.rev_tree.proofs.nodes.index_of.Goals as goal

@@ -1,4 +1,4 @@
-use Rattle.proof_words.proofs.{length, take, sym, ap, ◌∙◌, arith, length-take, take-map}
+use Rattle.proof_prelude.proofs.{length, take, sym, ap, ◌∙◌, arith, length-take, take-map}
 use Rattle.rev_tree.specs.{falls, NodeValue, revs_in}
 use Rattle.rev_tree.proofs.{none_first, stays_unfallen, index_empty, index_fallen, index_few, index_gone, index_held, index_many, length-revs_in}
 use Rattle.rev_tree.proofs.nodes.index_rest.Goals as goal

@@ -1,4 +1,4 @@
-use Rattle.proof_words.proofs.{sym, ◌∙◌}
+use Rattle.proof_prelude.proofs.{sym, ◌∙◌}
 use Rattle.rev_tree.proofs.{known_counts_not, new_counts}
 use Rattle.rev_tree.proofs.nodes.once_new.Goals as goal
 

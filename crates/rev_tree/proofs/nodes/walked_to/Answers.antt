@@ -1,4 +1,4 @@
-use Rattle.proof_words.proofs.{sym, ap, ◌∙◌, eq_by_cmp}
+use Rattle.proof_prelude.proofs.{sym, ap, ◌∙◌, eq_by_cmp}
 use Rattle.rev_core.specs.{rev_cmp}
 use Rattle.rev_tree.specs.{NodeValue}
 use Rattle.rev_tree.proofs.{walk_here, walk_later, walk_end}

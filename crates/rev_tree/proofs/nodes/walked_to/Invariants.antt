@@ -1,4 +1,4 @@
-use Rattle.proof_words.proofs.{◌≡◌, drop}
+use Rattle.proof_prelude.proofs.{◌≡◌, drop}
 use Rattle.std.specs.FinMap.{find}
 use Rattle.rev_core.specs.{rev_cmp}
 use Rattle.rev_tree.specs.{place_of, places_from, revs_in}

@@ -1,4 +1,4 @@
-use Rattle.proof_words.proofs.{◌≡◌, ℕ, List, ◌-◌, ◌++◌, length, replicate, ap, ◌∙◌, arith, length-append, drop-replicate, length-replicate, from_be_bytes}
+use Rattle.proof_prelude.proofs.{◌≡◌, ℕ, List, ◌-◌, ◌++◌, length, replicate, ap, ◌∙◌, arith, length-append, drop-replicate, length-replicate, from_be_bytes}
 use Rattle.std.specs.Int.{w64}
 use Rattle.rev_tree.proofs.{eight_are, front_of-padded}
 use Rattle.rev_tree.proofs.words.front_of.Goals as goal

@@ -1,4 +1,4 @@
-use Rattle.proof_words.proofs.{◌&&◌, sym, ◌∙◌, nat_eq}
+use Rattle.proof_prelude.proofs.{◌&&◌, sym, ◌∙◌, nat_eq}
 use Rattle.rev_tree.proofs.{bytes_of_sig, words_decide}
 use Rattle.rev_tree.proofs.words.is_same.Goals as goal
 

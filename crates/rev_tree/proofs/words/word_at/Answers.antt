@@ -1,4 +1,4 @@
-use Rattle.proof_words.proofs.{◌∙◌}
+use Rattle.proof_prelude.proofs.{◌∙◌}
 use Rattle.rev_tree.proofs.{eight_at}
 use Rattle.rev_tree.proofs.words.word_at.Goals as goal
 

@@ -1,4 +1,4 @@
-use Rattle.proof_words.proofs.{Some, sym, ap, ◌∙◌, take_all, option_map, find}
+use Rattle.proof_prelude.proofs.{Some, sym, ap, ◌∙◌, take_all, option_map, find}
 use Rattle.script_databases.specs.{NamedBackupValue, is_named}
 use Rattle.script_databases.proofs.{find_more, find_here}
 use Rattle.script_databases.proofs.backups.find_backup.Goals as goal

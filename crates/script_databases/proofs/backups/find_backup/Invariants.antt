@@ -1,4 +1,4 @@
-use Rattle.proof_words.proofs.{◌≡◌, None, take, find}
+use Rattle.proof_prelude.proofs.{◌≡◌, None, take, find}
 use Rattle.script_databases.specs.{is_named}
 use Rattle.script_databases.proofs.backups.find_backup.Given as goal
 

@@ -1,4 +1,4 @@
-use Rattle.proof_words.proofs.{refl, sym, ◌∙◌, true≢false}
+use Rattle.proof_prelude.proofs.{refl, sym, ◌∙◌, true≢false}
 use Rattle.script_databases.specs.{deny_of}
 use Rattle.script_databases.proofs.{found_there, found_absent}
 use Rattle.script_databases.proofs.pair.find_both.Goals as goal

@@ -1,4 +1,4 @@
-use Rattle.proof_words.proofs.{refl, sym, ap, ◌∙◌, rules, contains_key, true≢false}
+use Rattle.proof_prelude.proofs.{refl, sym, ap, ◌∙◌, rules, contains_key, true≢false}
 use Rattle.std.specs.FinMap.{insert}
 use Rattle.script_databases.specs.{deny_of, peers_of}
 use Rattle.script_databases.proofs.{still_there, found_absent, written}

@@ -1,4 +1,4 @@
-use Rattle.proof_words.proofs.{Some, refl, sym, ap, ◌∙◌, rules, is_some, get, true≢false}
+use Rattle.proof_prelude.proofs.{Some, refl, sym, ap, ◌∙◌, rules, is_some, get, true≢false}
 use Rattle.std.specs.FinMap.{insert}
 use Rattle.repl_peer.specs.{PeerValue, Rules}
 use Rattle.script_databases.specs.{deny_of, denied_of, peers_of}

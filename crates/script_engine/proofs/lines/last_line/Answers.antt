@@ -1,4 +1,4 @@
-use Rattle.proof_words.proofs.{◌≢◌, [], ◌∷◌, ap, ◌∙◌, sym, append-nil, length, Appends-nil, nil_from_length}
+use Rattle.proof_prelude.proofs.{◌≢◌, [], ◌∷◌, ap, ◌∙◌, sym, append-nil, length, Appends-nil, nil_from_length}
 use Rattle.script_engine.specs.{lines_of}
 use Rattle.script_engine.proofs.{Served-none, lines_of-ended}
 use Rattle.script_engine.proofs.lines.last_line.Goals as goal

@@ -1,5 +1,5 @@
 -- What was read has been served, and its answers stand in the writer.
-use Rattle.proof_words.proofs.{◌≡◌, ◌≤◌, ◌-◌, false, vec_capacity}
+use Rattle.proof_prelude.proofs.{◌≡◌, ◌≤◌, ◌-◌, false, vec_capacity}
 use Rattle.script_engine.specs.{HasRead, AreChunks, max_reads, has_line_end, place_of}
 use Rattle.script_engine.proofs.{Ran}
 use Rattle.script_engine.proofs.lines.run_lines.Given as goal

@@ -1,4 +1,4 @@
-use Rattle.proof_words.proofs.{◌++◌, [], sym, ap, ◌∙◌, append_assoc, if◌then◌else◌, Appends-trans}
+use Rattle.proof_prelude.proofs.{◌++◌, [], sym, ap, ◌∙◌, append_assoc, if◌then◌else◌, Appends-trans}
 use Rattle.script_engine.specs.{text_with}
 use Rattle.script_engine.proofs.{on_err, text_with-piece}
 use Rattle.script_engine.proofs.lines.write_answer.Goals as goal

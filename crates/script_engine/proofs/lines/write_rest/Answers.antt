@@ -1,4 +1,4 @@
-use Rattle.proof_words.proofs.{◌++◌, [], sym, ap, ◌∙◌, append_assoc, if◌then◌else◌, Appends-trans}
+use Rattle.proof_prelude.proofs.{◌++◌, [], sym, ap, ◌∙◌, append_assoc, if◌then◌else◌, Appends-trans}
 use Rattle.script_engine.proofs.lines.write_rest.Goals as goal
 
 pub returns-in-Err-write_all-clause-err : goal.returns-in-Err-write_all-clause-err

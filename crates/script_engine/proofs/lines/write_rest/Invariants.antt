@@ -1,5 +1,5 @@
 -- What has been written is the front of what was left, and no call has failed.
-use Rattle.proof_words.proofs.{◌≡◌, ◌++◌, ℕ, List, length, Appends}
+use Rattle.proof_prelude.proofs.{◌≡◌, ◌++◌, ℕ, List, length, Appends}
 use Rattle.script_engine.proofs.lines.write_rest.Given as goal
 
 abbrev pub invariant-loop-more : goal.invariant-loop-more

@@ -1,4 +1,4 @@
-use Rattle.proof_words.proofs.{List, ℕ, refl, sym, ap, ◌∙◌}
+use Rattle.proof_prelude.proofs.{List, ℕ, refl, sym, ap, ◌∙◌}
 use Rattle.repl_peer.specs.{after_edit}
 use Rattle.script_engine.specs.{in_full, served_only}
 use Rattle.script_databases.specs.{edited_answer}

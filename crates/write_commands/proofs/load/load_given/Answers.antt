@@ -1,4 +1,4 @@
-use Rattle.proof_words.proofs.{Ok, Err, Some, None, ap, inl, inr, refl, sym, ◌∙◌}
+use Rattle.proof_prelude.proofs.{Ok, Err, Some, None, ap, inl, inr, refl, sym, ◌∙◌}
 use Rattle.script_engine.specs.{in_full}
 use Rattle.write_commands.proofs.{loads}
 use Rattle.command_api.proofs.{handed_on, is_absent, is_there, may_tell, unless_memory}

@@ -1,4 +1,4 @@
-use Rattle.proof_words.proofs.{Ok, Err, Some, None, ap, refl, ◌∙◌}
+use Rattle.proof_prelude.proofs.{Ok, Err, Some, None, ap, refl, ◌∙◌}
 use Rattle.script_databases.specs.{peer_at}
 use Rattle.write_commands.proofs.{loads, refused_either}
 use Rattle.command_api.proofs.{handed_on, may_tell, unless_memory}

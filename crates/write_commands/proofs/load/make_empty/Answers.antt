@@ -1,4 +1,4 @@
-use Rattle.proof_words.proofs.{Ok, refl, ap, ◌∙◌}
+use Rattle.proof_prelude.proofs.{Ok, refl, ap, ◌∙◌}
 use Rattle.script_engine.specs.{in_full, gave_up, served_only}
 use Rattle.script_databases.specs.{with_peer}
 use Rattle.write_commands.specs.{made_line}

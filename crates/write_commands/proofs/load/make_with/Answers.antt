@@ -1,4 +1,4 @@
-use Rattle.proof_words.proofs.{refl, sym, ap, ◌∙◌}
+use Rattle.proof_prelude.proofs.{refl, sym, ap, ◌∙◌}
 use Rattle.couch_base.specs.{put_answer}
 use Rattle.repl_peer.specs.{PeerValue, new_peer, after_load}
 use Rattle.script_engine.specs.{in_full, gave_up, served_only}

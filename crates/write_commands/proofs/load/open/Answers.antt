@@ -1,4 +1,4 @@
-use Rattle.proof_words.proofs.{Ok, Some, None, ap, refl, sym, ◌∙◌}
+use Rattle.proof_prelude.proofs.{Ok, Some, None, ap, refl, sym, ◌∙◌}
 use Rattle.script_engine.specs.{in_full, served_only}
 use Rattle.write_commands.specs.{there_line}
 use Rattle.write_commands.proofs.{loads_drawn, loads_named, loads_taken}

@@ -1,4 +1,4 @@
-use Rattle.proof_words.proofs.{Some, ap, refl, sym, ◌∙◌}
+use Rattle.proof_prelude.proofs.{Some, ap, refl, sym, ◌∙◌}
 use Rattle.repl_peer.specs.{after_load}
 use Rattle.script_engine.specs.{in_full, served_only}
 use Rattle.script_databases.specs.{State, load_answer, peer_at}

@@ -1,4 +1,4 @@
-use Rattle.proof_words.proofs.{Some}
+use Rattle.proof_prelude.proofs.{Some}
 use Rattle.write_commands.proofs.{loads_drawn, loads_taken}
 use Rattle.command_api.proofs.{handed_on}
 use Rattle.write_commands.proofs.load.put_new.Goals as goal

@@ -1,4 +1,4 @@
-use Rattle.proof_words.proofs.{Ok, Err, refl, sym, ap, subst, ◌∙◌}
+use Rattle.proof_prelude.proofs.{Ok, Err, refl, sym, ap, subst, ◌∙◌}
 use Rattle.script_engine.specs.{MayTell, in_full, served_only}
 use Rattle.script_databases.specs.{name_of}
 use Rattle.script_databases.specs.declared.refusal.Refusal.TheVariants as why

@@ -1,4 +1,4 @@
-use Rattle.proof_words.proofs.{◌≤◌, length, subst, sym, Ok, Err}
+use Rattle.proof_prelude.proofs.{◌≤◌, length, subst, sym, Ok, Err}
 use Rattle.script_engine.specs.{MayTell, text_with}
 use Rattle.script_databases.specs.{State, name_of}
 use Rattle.read_commands.specs.{rest_left}

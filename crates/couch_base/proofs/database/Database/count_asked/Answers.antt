@@ -1,4 +1,4 @@
-use Rattle.proof_words.proofs.{◌+◌, drop, length, ap, ◌∙◌, arith}
+use Rattle.proof_prelude.proofs.{◌+◌, drop, length, ap, ◌∙◌, arith}
 use Rattle.couch_base.specs.{fetched}
 use Rattle.couch_base.proofs.{counted_next, counted_end}
 use Rattle.couch_base.proofs.database.Database.count_asked.Goals as goal

@@ -1,4 +1,4 @@
-use Rattle.proof_words.proofs.{◌≡◌, ◌+◌, ◌*◌, ◌^◌, ◌≤◌, drop, length}
+use Rattle.proof_prelude.proofs.{◌≡◌, ◌+◌, ◌*◌, ◌^◌, ◌≤◌, drop, length}
 use Rattle.couch_base.specs.{fetched}
 use Rattle.couch_base.proofs.database.Database.count_asked.Given as goal
 

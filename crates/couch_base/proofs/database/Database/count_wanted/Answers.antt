@@ -1,4 +1,4 @@
-use Rattle.proof_words.proofs.{length, sym, ap, ◌∙◌, unwrap_or, option_copied}
+use Rattle.proof_prelude.proofs.{length, sym, ap, ◌∙◌, unwrap_or, option_copied}
 use Rattle.rev_tree.specs.{no_revisions}
 use Rattle.couch_base.specs.{tree_in, opened}
 use Rattle.couch_base.proofs.{opened-no_revisions}

@@ -1,4 +1,4 @@
-use Rattle.proof_words.proofs.{sym, ap, ◌∙◌, unwrap_or, option_copied}
+use Rattle.proof_prelude.proofs.{sym, ap, ◌∙◌, unwrap_or, option_copied}
 use Rattle.rev_tree.specs.{no_revisions}
 use Rattle.couch_base.specs.{document_in}
 use Rattle.couch_base.proofs.{document_in-no_revisions}

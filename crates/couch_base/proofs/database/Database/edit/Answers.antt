@@ -1,4 +1,4 @@
-use Rattle.proof_words.proofs.{◌+◌, ◌<◌, arith, sym, ap, ◌∙◌}
+use Rattle.proof_prelude.proofs.{◌+◌, ◌<◌, arith, sym, ap, ◌∙◌}
 use Rattle.rev_tree.specs.{ContentValue, merged, merge_answer}
 use Rattle.couch_base.specs.{DatabaseValue, tree_of, with_tree, most}
 use Rattle.couch_base.proofs.{lawful, edited_from, new_revision_changes, after_edit-changed}

@@ -1,4 +1,4 @@
-use Rattle.proof_words.proofs.{ap, ◌∙◌}
+use Rattle.proof_prelude.proofs.{ap, ◌∙◌}
 use Rattle.couch_base.specs.{DatabaseValue, feed}
 use Rattle.couch_base.proofs.{rows_are_feed}
 use Rattle.couch_base.proofs.database.Database.feed_within.Goals as goal

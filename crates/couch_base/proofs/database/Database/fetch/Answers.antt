@@ -1,4 +1,4 @@
-use Rattle.proof_words.proofs.{◌++◌, map, sym, ap, ◌∙◌, unwrap_or, list_all, option_copied, append-nil}
+use Rattle.proof_prelude.proofs.{◌++◌, map, sym, ap, ◌∙◌, unwrap_or, list_all, option_copied, append-nil}
 use Rattle.rev_tree.specs.{is_leaf, missing, no_revisions}
 use Rattle.couch_base.specs.{tree_in, opened}
 use Rattle.couch_base.proofs.{opened-no_revisions, missing-no_revisions, all_leaves}

@@ -1,4 +1,4 @@
-use Rattle.proof_words.proofs.{subst}
+use Rattle.proof_prelude.proofs.{subst}
 use Rattle.couch_base.specs.{LawfulDatabase}
 use Rattle.couch_base.proofs.{lawful}
 use Rattle.couch_base.proofs.database.Database.law.Goals as goal

@@ -1,4 +1,4 @@
-use Rattle.proof_words.proofs.{◌≡◌, sym, ap, ◌∙◌, subst, unwrap_or, IfOk, option_copied}
+use Rattle.proof_prelude.proofs.{◌≡◌, sym, ap, ◌∙◌, subst, unwrap_or, IfOk, option_copied}
 use Rattle.rev_tree.specs.{missing, no_revisions}
 use Rattle.couch_base.proofs.{missing-no_revisions}
 use Rattle.couch_base.proofs.database.Database.missing.Goals as goal

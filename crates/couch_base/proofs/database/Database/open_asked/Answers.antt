@@ -1,4 +1,4 @@
-use Rattle.proof_words.proofs.{◌≡◌, ◌++◌, ◌+◌, drop, refl, subst, sym, ap, ◌∙◌, arith}
+use Rattle.proof_prelude.proofs.{◌≡◌, ◌++◌, ◌+◌, drop, refl, subst, sym, ap, ◌∙◌, arith}
 use Rattle.couch_base.specs.{IsParcel, fetched, gone_of, open_revs, IsParcel-open_revs}
 use Rattle.couch_base.proofs.{fetched_next, gone_next, end_of}
 use Rattle.couch_base.proofs.database.Database.open_asked.Goals as goal

@@ -1,4 +1,4 @@
-use Rattle.proof_words.proofs.{◌≡◌, ◌++◌, drop}
+use Rattle.proof_prelude.proofs.{◌≡◌, ◌++◌, drop}
 use Rattle.couch_base.specs.{fetched, gone_of}
 use Rattle.couch_base.proofs.database.Database.open_asked.Given as goal
 

@@ -1,4 +1,4 @@
-use Rattle.proof_words.proofs.{◌≡◌, subst, sym, ap, ◌∙◌, option_copied}
+use Rattle.proof_prelude.proofs.{◌≡◌, subst, sym, ap, ◌∙◌, option_copied}
 use Rattle.couch_base.specs.{DatabaseValue, IsWindow, page, IsWindow-page}
 use Rattle.couch_base.proofs.{page_of}
 use Rattle.couch_base.proofs.database.Database.page_due.Goals as goal

@@ -1,4 +1,4 @@
-use Rattle.proof_words.proofs.{◌≡◌, ◌<◌, Option, Some, None, IfSome, subst, sym, ap, ◌∙◌, arith, same_Some}
+use Rattle.proof_prelude.proofs.{◌≡◌, ◌<◌, Option, Some, None, IfSome, subst, sym, ap, ◌∙◌, arith, same_Some}
 use Rattle.rev_tree.specs.{Origin}
 use Rattle.rev_tree.specs.declared.origin.Origin.TheVariants.{Feed}
 use Rattle.doc_json.specs.Document.{Document}

@@ -1,4 +1,4 @@
-use Rattle.proof_words.proofs.{◌≡◌, refl, subst, sym, ap, ◌∙◌, arith}
+use Rattle.proof_prelude.proofs.{◌≡◌, refl, subst, sym, ap, ◌∙◌, arith}
 use Rattle.couch_base.specs.{IsAsked, wanted, revs_diff, IsAsked-revs_diff}
 use Rattle.couch_base.proofs.{end_of}
 use Rattle.couch_base.proofs.database.Database.revs_diff.Goals as goal

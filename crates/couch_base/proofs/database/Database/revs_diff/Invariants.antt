@@ -1,4 +1,4 @@
-use Rattle.proof_words.proofs.{◌≡◌, ◌++◌, drop}
+use Rattle.proof_prelude.proofs.{◌≡◌, ◌++◌, drop}
 use Rattle.couch_base.specs.{wanted}
 use Rattle.couch_base.proofs.database.Database.revs_diff.Given as goal
 

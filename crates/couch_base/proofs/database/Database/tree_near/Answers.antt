@@ -1,4 +1,4 @@
-use Rattle.proof_words.proofs.{sym, ap, ◌∙◌}
+use Rattle.proof_prelude.proofs.{sym, ap, ◌∙◌}
 use Rattle.couch_base.specs.{DatabaseValue, tree_in, feed_of, found}
 use Rattle.couch_base.proofs.{none_in}
 use Rattle.couch_base.proofs.database.Database.tree_near.Goals as goal

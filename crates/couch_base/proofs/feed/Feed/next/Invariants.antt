@@ -1,4 +1,4 @@
-use Rattle.proof_words.proofs.{◌≡◌, drop}
+use Rattle.proof_prelude.proofs.{◌≡◌, drop}
 use Rattle.couch_base.specs.{live_upto, InOrder}
 use Rattle.couch_base.proofs.feed.Feed.next.Given as goal
 

@@ -1,4 +1,4 @@
-use Rattle.proof_words.proofs.{sym, subst}
+use Rattle.proof_prelude.proofs.{sym, subst}
 use Rattle.couch_base.specs.{InOrder}
 use Rattle.couch_base.proofs.{order_above}
 use Rattle.couch_base.proofs.feed.Feed.within.Goals as goal

@@ -1,4 +1,4 @@
-use Rattle.proof_words.proofs.{◌≡◌, sym, ap, ◌∙◌, subst}
+use Rattle.proof_prelude.proofs.{◌≡◌, sym, ap, ◌∙◌, subst}
 use Rattle.rev_tree.specs.{IsTree, merged, merge_answer, no_revisions, Origin}
 use Rattle.rev_tree.specs.declared.origin.Origin.TheVariants.{Feed}
 use Rattle.couch_base.specs.{IsDocumentTree, merged_document, no_bodies, content_of}

@@ -1,4 +1,4 @@
-use Rattle.proof_words.proofs.{◌≡◌, ◌+◌, ◌<◌, ◌++◌, ◌∷◌, [], None, length, ◌∙◌, sym, ap, subst, rules, bytes_eq}
+use Rattle.proof_prelude.proofs.{◌≡◌, ◌+◌, ◌<◌, ◌++◌, ◌∷◌, [], None, length, ◌∙◌, sym, ap, subst, rules, bytes_eq}
 use Rattle.indexmap.specs.IndexMap.{insert_entry}
 use Rattle.rev_tree.specs.{TreeValue, IsTree, merged, merge_answer, no_revisions}
 use Rattle.couch_base.specs.{Id, IsDocumentTree, tree_of, most, Kept, merged_document, no_bodies, TableValue, documents_of, found, tree_at, IsWritten}

@@ -1,4 +1,4 @@
-use Rattle.proof_words.proofs.{◌≡◌, ◌+◌, ◌<◌, ◌++◌, ◌∷◌, [], None, length, ◌∙◌, sym, subst}
+use Rattle.proof_prelude.proofs.{◌≡◌, ◌+◌, ◌<◌, ◌++◌, ◌∷◌, [], None, length, ◌∙◌, sym, subst}
 use Rattle.couch_base.specs.{most, Kept, TableValue, found, IsWritten, Sets}
 use Rattle.couch_base.proofs.{added, found_last}
 use Rattle.couch_base.proofs.table.Table.add_made.Goals as goal

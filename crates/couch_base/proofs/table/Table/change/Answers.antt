@@ -1,4 +1,4 @@
-use Rattle.proof_words.proofs.{◌≡◌, ℕ, List, ◌+◌, ◌-◌, ◌<◌, ◌++◌, ◌∷◌, [], ◌∙◌, Some, length, slice_get, take, refl, sym, ap, subst, arith, take-append_seam, nat_list_eq_equiv, lookup_from_place, same_Some, length-append}
+use Rattle.proof_prelude.proofs.{◌≡◌, ℕ, List, ◌+◌, ◌-◌, ◌<◌, ◌++◌, ◌∷◌, [], ◌∙◌, Some, length, slice_get, take, refl, sym, ap, subst, arith, take-append_seam, nat_list_eq_equiv, lookup_from_place, same_Some, length-append}
 use Rattle.indexmap.specs.IndexMap.{set_value_at}
 use Rattle.indexmap.proofs.CallerLemmas.{keys-with_value_at, updates-with_value_at}
 use Rattle.rev_tree.specs.{TreeValue, IsTree, merged, merge_answer}

@@ -1,4 +1,4 @@
-use Rattle.proof_words.proofs.{◌≡◌, sym, subst, ◌∙◌}
+use Rattle.proof_prelude.proofs.{◌≡◌, sym, subst, ◌∙◌}
 use Rattle.couch_base.specs.{TableValue, IsKept}
 use Rattle.couch_base.proofs.{cloned_same}
 use Rattle.couch_base.proofs.table.Table.copy.Goals as goal

@@ -1,4 +1,4 @@
-use Rattle.proof_words.proofs.{Some, subst}
+use Rattle.proof_prelude.proofs.{Some, subst}
 use Rattle.couch_base.specs.{TableValue, IsPlace}
 use Rattle.couch_base.proofs.{placed}
 use Rattle.couch_base.proofs.table.Table.find.Goals as goal

@@ -1,4 +1,4 @@
-use Rattle.proof_words.proofs.{Some, subst, sym, none-some}
+use Rattle.proof_prelude.proofs.{Some, subst, sym, none-some}
 use Rattle.couch_base.specs.{id_is, Id, TableValue, IsPlace}
 use Rattle.couch_base.proofs.table.Table.find_near.Goals as goal
 

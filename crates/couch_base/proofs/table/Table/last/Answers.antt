@@ -1,4 +1,4 @@
-use Rattle.proof_words.proofs.{subst}
+use Rattle.proof_prelude.proofs.{subst}
 use Rattle.couch_base.specs.{IsKept}
 use Rattle.couch_base.proofs.table.Table.last.Goals as goal
 

@@ -1,4 +1,4 @@
-use Rattle.proof_words.proofs.{Some, subst, sym, ap, ◌∙◌}
+use Rattle.proof_prelude.proofs.{Some, subst, sym, ap, ◌∙◌}
 use Rattle.rev_tree.specs.{merge_answer}
 use Rattle.couch_base.specs.{tree_of, is_change, TableValue, documents_of, tree_at, IsPlace}
 use Rattle.couch_base.proofs.{tree_of-documents_of, placed, new_changes}

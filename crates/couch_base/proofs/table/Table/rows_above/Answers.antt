@@ -1,4 +1,4 @@
-use Rattle.proof_words.proofs.{◌≡◌, ℕ, List, ◌-◌, length, drop, of_calls, rules, sym, ap, ◌∙◌, subst, arith, length-drop, nat_le, true, false, IsPartitionPoint, always_returns_same, IsPartitionedBy-leb, take_all}
+use Rattle.proof_prelude.proofs.{◌≡◌, ℕ, List, ◌-◌, length, drop, of_calls, rules, sym, ap, ◌∙◌, subst, arith, length-drop, nat_le, true, false, IsPartitionPoint, always_returns_same, IsPartitionedBy-leb, take_all}
 use Rattle.couch_base.specs.{TableValue, above, InOrder, IsKept}
 use Rattle.couch_base.proofs.{order_by, above_from}
 use Rattle.couch_base.proofs.table.Table.rows_above.Goals as goal

@@ -1,4 +1,4 @@
-use Rattle.proof_words.proofs.{sym, ap, ◌∙◌}
+use Rattle.proof_prelude.proofs.{sym, ap, ◌∙◌}
 use Rattle.couch_base.specs.{tree_in, TableValue, documents_of, feed_of, found}
 use Rattle.couch_base.proofs.{none_in, found_in}
 use Rattle.couch_base.proofs.table.Table.tree.Goals as goal

@@ -1,4 +1,4 @@
-use Rattle.proof_words.proofs.{◌≡◌, Some, sym, ap, ◌∙◌, slice_get, same_Some}
+use Rattle.proof_prelude.proofs.{◌≡◌, Some, sym, ap, ◌∙◌, slice_get, same_Some}
 use Rattle.couch_base.specs.{tree_in, Id, Kept, TableValue, documents_of, feed_of, found}
 use Rattle.couch_base.proofs.{found_in}
 use Rattle.couch_base.proofs.table.Table.tree_at.Goals as goal

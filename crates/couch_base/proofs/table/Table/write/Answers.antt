@@ -1,4 +1,4 @@
-use Rattle.proof_words.proofs.{◌≡◌, ◌∙◌, Ok, Some, sym, ap, subst, same_Some}
+use Rattle.proof_prelude.proofs.{◌≡◌, ◌∙◌, Ok, Some, sym, ap, subst, same_Some}
 use Rattle.indexmap.proofs.MapLemmas.{OnOk-map}
 use Rattle.rev_tree.specs.{merged, merge_answer}
 use Rattle.rev_tree.specs.declared.fault.Merged.TheVariants.{Changed}

@@ -1,4 +1,4 @@
-use Rattle.proof_words.proofs.{refl, ap, ◌∙◌, map}
+use Rattle.proof_prelude.proofs.{refl, ap, ◌∙◌, map}
 use Rattle.diagrams.specs.Drawing.{state_of}
 use Rattle.diagrams.proofs.{added}
 use Rattle.diagrams.proofs.document.Document.add.Goals as goal

@@ -1,4 +1,4 @@
-use Rattle.proof_words.proofs.{IsPermutation-map}
+use Rattle.proof_prelude.proofs.{IsPermutation-map}
 use Rattle.diagrams.specs.Drawing.{state_of}
 use Rattle.diagrams.proofs.document.Document.sort.Goals as goal
 

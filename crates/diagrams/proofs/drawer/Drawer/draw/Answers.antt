@@ -1,4 +1,4 @@
-use Rattle.proof_words.proofs.{option_map}
+use Rattle.proof_prelude.proofs.{option_map}
 use Rattle.diagrams.proofs.{picture_by}
 use Rattle.diagrams.proofs.drawer.Drawer.draw.Goals as goal
 

@@ -1,4 +1,4 @@
-use Rattle.proof_words.proofs.{Some, OnOk, sym, subst, option_map, string_bytes}
+use Rattle.proof_prelude.proofs.{Some, OnOk, sym, subst, option_map, string_bytes}
 use Rattle.diagrams.specs.Drawing.{IsDrawn}
 use Rattle.diagrams.specs.{signs_of_found, signs_of_log, signs_of_row}
 use Rattle.diagrams.proofs.{draws_new}

@@ -1,4 +1,4 @@
-use Rattle.proof_words.proofs.{Some, None, refl, sym, ap, subst, ◌∙◌, option_map}
+use Rattle.proof_prelude.proofs.{Some, None, refl, sym, ap, subst, ◌∙◌, option_map}
 use Rattle.diagrams.specs.Drawing.{IsNext, sketch_of}
 use Rattle.diagrams.proofs.{none_open, takes_by}
 use Rattle.diagrams.proofs.drawer.Drawer.take_in.Goals as goal

@@ -1,4 +1,4 @@
-use Rattle.proof_words.proofs.{refl, ap, option_map}
+use Rattle.proof_prelude.proofs.{refl, ap, option_map}
 use Rattle.script_engine.specs.{in_full}
 use Rattle.diagrams.proofs.drawer.DrawerServe.serve.Goals as goal
 

@@ -1,4 +1,4 @@
-use Rattle.proof_words.proofs.{◌==◌, ap, sym, ◌∙◌, length, List, ℕ}
+use Rattle.proof_prelude.proofs.{◌==◌, ap, sym, ◌∙◌, length, List, ℕ}
 use Rattle.doc_envelope.specs.{held_of}
 use Rattle.doc_envelope.proofs.{empty_utf8}
 use Rattle.doc_envelope.proofs.envelope.Envelope.end_held.Goals as goal

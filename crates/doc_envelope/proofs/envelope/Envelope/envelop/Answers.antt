@@ -1,4 +1,4 @@
-use Rattle.proof_words.proofs.{◌≡◌, sym, subst, ◌∙◌, IfOk}
+use Rattle.proof_prelude.proofs.{◌≡◌, sym, subst, ◌∙◌, IfOk}
 use Rattle.doc_envelope.specs.{is_envelope, made_of, held_of}
 use Rattle.doc_envelope.proofs.{fold_enveloped, put_end, put_none}
 use Rattle.doc_envelope.proofs.envelope.Envelope.envelop.Goals as goal

@@ -1,5 +1,5 @@
 -- What the members behind will make of the texts so far is what all of them make.
-use Rattle.proof_words.proofs.{◌≡◌, [], ◌∷◌, drop, length}
+use Rattle.proof_prelude.proofs.{◌≡◌, [], ◌∷◌, drop, length}
 use Rattle.doc_envelope.specs.{members_in, texts_with, helds_by, made_of, held_of}
 use Rattle.doc_envelope.specs.declared.members.Mode.TheVariants.{Outside}
 use Rattle.doc_envelope.proofs.envelope.Envelope.fold.Given as goal

@@ -1,4 +1,4 @@
-use Rattle.proof_words.proofs.{◌≡◌, IfOk, subst, false}
+use Rattle.proof_prelude.proofs.{◌≡◌, IfOk, subst, false}
 use Rattle.doc_envelope.specs.{is_json}
 use Rattle.doc_envelope.proofs.{no_utf8, utf8}
 use Rattle.doc_envelope.proofs.envelope.Envelope.is_json.Goals as goal

@@ -1,4 +1,4 @@
-use Rattle.proof_words.proofs.{ap, ◌∙◌, cond, Some, None}
+use Rattle.proof_prelude.proofs.{ap, ◌∙◌, cond, Some, None}
 use Rattle.doc_envelope.specs.{made_of}
 use Rattle.doc_envelope.proofs.{taken_none, taken_end}
 use Rattle.doc_envelope.proofs.envelope.Envelope.release.Goals as goal

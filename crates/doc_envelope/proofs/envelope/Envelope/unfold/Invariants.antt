@@ -1,5 +1,5 @@
 -- What is taken of the members behind the text so far is what is taken of all of them.
-use Rattle.proof_words.proofs.{◌≡◌, [], ◌∷◌, drop, length}
+use Rattle.proof_prelude.proofs.{◌≡◌, [], ◌∷◌, drop, length}
 use Rattle.doc_envelope.specs.{members_in, all_taken, made_of}
 use Rattle.doc_envelope.specs.declared.members.Mode.TheVariants.{Outside}
 use Rattle.doc_envelope.proofs.envelope.Envelope.unfold.Given as goal

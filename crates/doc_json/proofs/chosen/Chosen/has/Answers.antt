@@ -1,4 +1,4 @@
-use Rattle.proof_words.proofs.{sym, ◌∙◌, subst, rules, arc_slice_items, IsBinarySearchResult, nat_cmp, slice_cmp}
+use Rattle.proof_prelude.proofs.{sym, ◌∙◌, subst, rules, arc_slice_items, IsBinarySearchResult, nat_cmp, slice_cmp}
 use Rattle.doc_json.specs.{AreMarks}
 use Rattle.doc_json.proofs.{found_by, not_among}
 use Rattle.doc_json.proofs.chosen.Chosen.has.Goals as goal

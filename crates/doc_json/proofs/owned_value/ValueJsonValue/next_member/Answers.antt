@@ -1,4 +1,4 @@
-use Rattle.proof_words.proofs.{◌≡◌, ◌∷◌, sym, subst, IsStrictlySortedBy, keys_of, string_cmp}
+use Rattle.proof_prelude.proofs.{◌≡◌, ◌∷◌, sym, subst, IsStrictlySortedBy, keys_of, string_cmp}
 use Rattle.serde_json.proofs.Views.{Entry}
 use Rattle.json_values.specs.{AllBehind}
 use Rattle.serde_json.specs.View.{members_view}

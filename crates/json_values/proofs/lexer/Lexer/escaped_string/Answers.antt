@@ -1,4 +1,4 @@
-use Rattle.proof_words.proofs.{◌≡◌, drop, sym, ap, ◌∙◌, subst, arith, IsCharBoundary-after_ascii}
+use Rattle.proof_prelude.proofs.{◌≡◌, drop, sym, ap, ◌∙◌, subst, arith, IsCharBoundary-after_ascii}
 use Rattle.json.specs.Word.{head}
 use Rattle.json.specs.Lex.{between, in_string, lex}
 use Rattle.json_values.proofs.{lex-quote, quote_at}

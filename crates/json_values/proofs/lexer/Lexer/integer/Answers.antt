@@ -1,4 +1,4 @@
-use Rattle.proof_words.proofs.{◌≡◌, ◌-◌, drop, take, sym, ap, ◌∙◌, subst, arith, common_steps}
+use Rattle.proof_prelude.proofs.{◌≡◌, ◌-◌, drop, take, sym, ap, ◌∙◌, subst, arith, common_steps}
 use Rattle.json.specs.Word.{head, word}
 use Rattle.json.specs.Lex.{class, between, lex}
 use Rattle.serde_json.specs.View.{number_view}

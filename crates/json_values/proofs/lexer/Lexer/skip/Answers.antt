@@ -1,4 +1,4 @@
-use Rattle.proof_words.proofs.{◌≡◌, ◌+◌, drop, sym, ap, ◌∙◌, subst, arith, drop-drop, length-drop}
+use Rattle.proof_prelude.proofs.{◌≡◌, ◌+◌, drop, sym, ap, ◌∙◌, subst, arith, drop-drop, length-drop}
 use Rattle.json.specs.Word.{head}
 use Rattle.json.specs.Lex.{class, between, lex}
 use Rattle.json_values.proofs.{lex-operator}

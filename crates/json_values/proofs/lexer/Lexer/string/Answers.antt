@@ -1,4 +1,4 @@
-use Rattle.proof_words.proofs.{◌≡◌, ◌+◌, ◌-◌, ◌<◌, length, take, drop, get_or, Some, sym, ap, ◌∙◌, subst, arith, lt_of_not-le, IsCharBoundary-after_ascii, get_or_default, get_or_past, common_steps, prefix_len, append-nil}
+use Rattle.proof_prelude.proofs.{◌≡◌, ◌+◌, ◌-◌, ◌<◌, length, take, drop, get_or, Some, sym, ap, ◌∙◌, subst, arith, lt_of_not-le, IsCharBoundary-after_ascii, get_or_default, get_or_past, common_steps, prefix_len, append-nil}
 use Rattle.json.specs.Text.{content, plain, prepend}
 use Rattle.json.specs.Word.{head}
 use Rattle.json.specs.Lex.{between, in_string, lex}

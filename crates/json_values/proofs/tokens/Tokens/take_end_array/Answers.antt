@@ -1,4 +1,4 @@
-use Rattle.proof_words.proofs.{◌≡◌, None, Some, refl, sym, ap, ◌∙◌, inr, ⊎_elim, arith, cases_eq}
+use Rattle.proof_prelude.proofs.{◌≡◌, None, Some, refl, sym, ap, ◌∙◌, inr, ⊎_elim, arith, cases_eq}
 use Rattle.json.specs.Token as spec
 use Rattle.json.specs.Word.{head}
 use Rattle.json.specs.Lex.{class, after_value, may_close, punctuate}

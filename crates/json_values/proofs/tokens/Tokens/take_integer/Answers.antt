@@ -1,4 +1,4 @@
-use Rattle.proof_words.proofs.{◌≡◌, ◌∷◌, refl, sym, ap, ◌∙◌, arith}
+use Rattle.proof_prelude.proofs.{◌≡◌, ◌∷◌, refl, sym, ap, ◌∙◌, arith}
 use Rattle.json.specs.Token as spec
 use Rattle.json.specs.Lex.{other, token, after_value, punctuate}
 use Rattle.json_values.specs.{tokens_at}

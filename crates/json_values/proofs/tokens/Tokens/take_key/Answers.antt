@@ -1,4 +1,4 @@
-use Rattle.proof_words.proofs.{◌≡◌, ◌∷◌, false, refl, sym, ap, ◌∙◌, ⊎_elim, arith, cases_eq}
+use Rattle.proof_prelude.proofs.{◌≡◌, ◌∷◌, false, refl, sym, ap, ◌∙◌, ⊎_elim, arith, cases_eq}
 use Rattle.json.specs.Word.{head}
 use Rattle.json.specs.Lex.{class}
 use Rattle.json.specs.Align.{is_blank}

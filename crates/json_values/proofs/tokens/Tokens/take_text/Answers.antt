@@ -1,4 +1,4 @@
-use Rattle.proof_words.proofs.{◌≡◌, ◌∷◌, sym, ap, ◌∙◌, arith}
+use Rattle.proof_prelude.proofs.{◌≡◌, ◌∷◌, sym, ap, ◌∙◌, arith}
 use Rattle.json.specs.Json.{value}
 use Rattle.json.specs.Reads.{token_of}
 use Rattle.json_values.specs.{tokens_at}

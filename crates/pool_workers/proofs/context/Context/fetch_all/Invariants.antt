@@ -1,4 +1,4 @@
-use Rattle.proof_words.proofs.{[], IfSome}
+use Rattle.proof_prelude.proofs.{[], IfSome}
 use Rattle.crossbeam_channel.specs.Claims.{IsSeatAt}
 use Rattle.crossbeam_channel.specs.Ends.{sends_on, receives_on}
 use Rattle.pool_workers.specs.{FetcherKnows, Allows}

@@ -1,4 +1,4 @@
-use Rattle.proof_words.proofs.{◌++◌, sym, subst, option_copied, option_to_list}
+use Rattle.proof_prelude.proofs.{◌++◌, sym, subst, option_copied, option_to_list}
 use Rattle.pool_workers.specs.{AreSeated, AreBack}
 use Rattle.pool_workers.proofs.{seats_seated, back_last}
 use Rattle.pool_workers.proofs.context.Context.hire_pair.Goals as goal

@@ -1,4 +1,4 @@
-use Rattle.proof_words.proofs.{option_copied, arith}
+use Rattle.proof_prelude.proofs.{option_copied, arith}
 use Rattle.pool_workers.proofs.{back_seated, back_then, back_length}
 use Rattle.pool_workers.proofs.context.Context.in_scope.Goals as goal
 

@@ -1,4 +1,4 @@
-use Rattle.proof_words.proofs.{rules, ◌≡◌, ◌++◌, Option, sym, subst, option_copied, option_to_list, arith}
+use Rattle.proof_prelude.proofs.{rules, ◌≡◌, ◌++◌, Option, sym, subst, option_copied, option_to_list, arith}
 use Rattle.progress_board.specs.{Board}
 use Rattle.pool_workers.specs.{AreSeated, AreBack, HaveShown}
 use Rattle.pool_workers.proofs.{seats_seated, seated_parts, back_same, back_last, shown_start, shown_last}

@@ -1,4 +1,4 @@
-use Rattle.proof_words.proofs.{◌≡◌, subst, IfSome, ◌∙◌, arith, into_iter_items}
+use Rattle.proof_prelude.proofs.{◌≡◌, subst, IfSome, ◌∙◌, arith, into_iter_items}
 use Rattle.pool_workers.proofs.{all_rest, all_first, one_of}
 use Rattle.pool_workers.specs.{Allows}
 use Rattle.pool_workers.proofs.context.Context.join_fetchers.Goals as goal

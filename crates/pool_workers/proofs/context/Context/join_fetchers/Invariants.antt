@@ -1,4 +1,4 @@
-use Rattle.proof_words.proofs.{◌≡◌, ◌+◌, ◌≤◌, vec_len, vec_capacity, IfSome, into_iter_items, into_iter_len, All}
+use Rattle.proof_prelude.proofs.{◌≡◌, ◌+◌, ◌≤◌, vec_len, vec_capacity, IfSome, into_iter_items, into_iter_len, All}
 use Rattle.pool_workers.specs.{Allows, FetchedKnows}
 use Rattle.crossbeam_channel.specs.Claims.{view, IsSeatAt}
 use Rattle.crossbeam_channel.specs.Ends.{sends_on}

@@ -1,4 +1,4 @@
-use Rattle.proof_words.proofs.{rules, refl, ℕ, List, ◌≡◌, Option, sum, length, sym, subst, option_copied, option_to_list, arith}
+use Rattle.proof_prelude.proofs.{rules, refl, ℕ, List, ◌≡◌, Option, sum, length, sym, subst, option_copied, option_to_list, arith}
 use Rattle.crossbeam_channel.specs.Claims.{view}
 use Rattle.progress_board.specs.{Board}
 use Rattle.pool_workers.specs.{Channels, Pair, Place, StandBy, MayFill, AreBack, HaveShown, Allows, AllowsOn, amounts, names}

@@ -1,4 +1,4 @@
-use Rattle.proof_words.proofs.{rules, refl, ◌≡◌, ◌∙◌, Option, subst, IfSome, option_copied, option_to_list, arith}
+use Rattle.proof_prelude.proofs.{rules, refl, ◌≡◌, ◌∙◌, Option, subst, IfSome, option_copied, option_to_list, arith}
 use Rattle.crossbeam_channel.specs.Claims.{IsSeatAt}
 use Rattle.crossbeam_channel.specs.Ends.{sends_on}
 use Rattle.progress_board.specs.{Board}

@@ -1,4 +1,4 @@
-use Rattle.proof_words.proofs.{◌≡◌, ◌+◌, ◌≤◌, ◌++◌, length, vec_len, vec_items, vec_capacity, option_copied, IfSome, All}
+use Rattle.proof_prelude.proofs.{◌≡◌, ◌+◌, ◌≤◌, ◌++◌, length, vec_len, vec_items, vec_capacity, option_copied, IfSome, All}
 use Rattle.pool_workers.specs.{MayFill, AreBack, HaveShown, held, AllowsOn, WrittenKnows}
 use Rattle.crossbeam_channel.specs.Claims.{view, IsSeatAt}
 use Rattle.crossbeam_channel.specs.Ends.{sends_on}

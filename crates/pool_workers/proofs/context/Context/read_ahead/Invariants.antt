@@ -1,4 +1,4 @@
-use Rattle.proof_words.proofs.{◌≡◌, ◌+◌, ◌≤◌, None, IfSome, length}
+use Rattle.proof_prelude.proofs.{◌≡◌, ◌+◌, ◌≤◌, None, IfSome, length}
 use Rattle.pool_workers.proofs.context.Context.read_ahead.Given as goal
 
 -- so many pages are read, one behind the other, and the plan allows them

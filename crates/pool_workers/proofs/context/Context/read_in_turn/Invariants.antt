@@ -1,4 +1,4 @@
-use Rattle.proof_words.proofs.{◌≡◌, ◌-◌, ◌≤◌, [], Option, option_copied}
+use Rattle.proof_prelude.proofs.{◌≡◌, ◌-◌, ◌≤◌, [], Option, option_copied}
 use Rattle.crossbeam_channel.specs.Claims.{view, IsSeatAt}
 use Rattle.crossbeam_channel.specs.Ends.{sends_on}
 use Rattle.progress_board.specs.{BoardSeat}

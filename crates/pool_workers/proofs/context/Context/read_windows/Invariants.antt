@@ -1,4 +1,4 @@
-use Rattle.proof_words.proofs.{◌≡◌, ◌-◌, ◌<◌, ◌≤◌, []}
+use Rattle.proof_prelude.proofs.{◌≡◌, ◌-◌, ◌<◌, ◌≤◌, []}
 use Rattle.crossbeam_channel.specs.Claims.{view, IsSeatAt}
 use Rattle.crossbeam_channel.specs.Ends.{sends_on}
 use Rattle.pool_workers.specs.{window_view}

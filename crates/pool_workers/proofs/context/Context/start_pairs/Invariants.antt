@@ -1,4 +1,4 @@
-use Rattle.proof_words.proofs.{◌≡◌, ◌+◌, ◌++◌, [], vec_len, vec_items, vec_capacity, option_copied, All}
+use Rattle.proof_prelude.proofs.{◌≡◌, ◌+◌, ◌++◌, [], vec_len, vec_items, vec_capacity, option_copied, All}
 use Rattle.crossbeam_channel.specs.Claims.{view, IsSeatAt}
 use Rattle.crossbeam_channel.specs.Ends.{sends_on}
 use Rattle.pool_workers.specs.{AreSeats, held, parcel_view, window_view}

@@ -1,4 +1,4 @@
-use Rattle.proof_words.proofs.{rules, ◌≡◌, option_copied}
+use Rattle.proof_prelude.proofs.{rules, ◌≡◌, option_copied}
 use Rattle.pool_workers.proofs.{seats_seated, all_pushed, back_is, held_same, held_next, back_rest}
 use Rattle.pool_workers.proofs.context.Context.start_writers.Goals as goal
 

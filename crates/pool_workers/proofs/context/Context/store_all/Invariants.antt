@@ -1,4 +1,4 @@
-use Rattle.proof_words.proofs.{◌≡◌, ◌+◌, length}
+use Rattle.proof_prelude.proofs.{◌≡◌, ◌+◌, length}
 use Rattle.std.specs.Vec.Iter.{into_iter_items}
 use Rattle.pool_workers.proofs.context.Context.store_all.Given as goal
 

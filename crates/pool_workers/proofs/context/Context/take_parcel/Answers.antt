@@ -1,4 +1,4 @@
-use Rattle.proof_words.proofs.{rules, None, ◌≡◌, ◌<◌, ap, arith, length}
+use Rattle.proof_prelude.proofs.{rules, None, ◌≡◌, ◌<◌, ap, arith, length}
 use Rattle.crossbeam_channel.specs.Claims.{view}
 use Rattle.pool_workers.specs.{ParcelView}
 use Rattle.pool_workers.proofs.{gets, GotOne, got_one}

@@ -1,4 +1,4 @@
-use Rattle.proof_words.proofs.{Option, option_copied}
+use Rattle.proof_prelude.proofs.{Option, option_copied}
 use Rattle.progress_board.specs.{BoardSeat}
 use Rattle.pool_workers.specs.{StandBy, WriterShows}
 use Rattle.pool_workers.proofs.context.Context.take_turns.Given as goal

@@ -1,4 +1,4 @@
-use Rattle.proof_words.proofs.{[], IfSome, option_copied}
+use Rattle.proof_prelude.proofs.{[], IfSome, option_copied}
 use Rattle.crossbeam_channel.specs.Claims.{IsSeatAt}
 use Rattle.crossbeam_channel.specs.Ends.{receives_on}
 use Rattle.pool_workers.specs.{WriterKnows, WriterShows, MayFill, IsSeated, AllowsOn}

@@ -1,4 +1,4 @@
-use Rattle.proof_words.proofs.{rules, ap, sym, ◌∙◌, arith, length, append-nil}
+use Rattle.proof_prelude.proofs.{rules, ap, sym, ◌∙◌, arith, length, append-nil}
 use Rattle.crossbeam_channel.specs.Claims.{view}
 use Rattle.pool_workers.specs.{names, ParcelView}
 use Rattle.pool_workers.proofs.{SentOne, sent_one}

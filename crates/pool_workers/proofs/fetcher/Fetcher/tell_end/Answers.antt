@@ -1,4 +1,4 @@
-use Rattle.proof_words.proofs.{◌<◌, ap, arith}
+use Rattle.proof_prelude.proofs.{◌<◌, ap, arith}
 use Rattle.crossbeam_channel.specs.Claims.{view}
 use Rattle.pool_workers.specs.{ParcelView}
 use Rattle.pool_workers.proofs.{sends}

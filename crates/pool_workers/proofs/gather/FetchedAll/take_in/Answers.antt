@@ -1,4 +1,4 @@
-use Rattle.proof_words.proofs.{◌≡◌, ℕ, ◌++◌, ◌∷◌, [], sum, ap, sym, ◌∙◌, arith, sum_by_push, append-nil}
+use Rattle.proof_prelude.proofs.{◌≡◌, ℕ, ◌++◌, ◌∷◌, [], sum, ap, sym, ◌∙◌, arith, sum_by_push, append-nil}
 use Rattle.crossbeam_channel.specs.Claims.{view}
 use Rattle.pool_workers.specs.{names, WindowView}
 use Rattle.pool_workers.proofs.{Gathers, gathers}

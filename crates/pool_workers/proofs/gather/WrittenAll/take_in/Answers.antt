@@ -1,4 +1,4 @@
-use Rattle.proof_words.proofs.{sym, ◌∙◌, arith}
+use Rattle.proof_prelude.proofs.{sym, ◌∙◌, arith}
 use Rattle.crossbeam_channel.specs.Claims.{view}
 use Rattle.pool_workers.proofs.{Gathers, gathers}
 use Rattle.pool_workers.proofs.ParcelRule as parcel

@@ -1,4 +1,4 @@
-use Rattle.proof_words.proofs.{sym, ap, ◌∙◌, IfOk-weaker, nil_from_length}
+use Rattle.proof_prelude.proofs.{sym, ap, ◌∙◌, IfOk-weaker, nil_from_length}
 use Rattle.couch_base.specs.{revs_diff, wanted}
 use Rattle.pool_workers.proofs.{some_from}
 use Rattle.pool_workers.proofs.given_target.GivenTarget.diff.Goals as goal

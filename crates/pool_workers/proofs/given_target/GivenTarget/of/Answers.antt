@@ -1,4 +1,4 @@
-use Rattle.proof_words.proofs.{length, sym, ap, ◌∙◌, subst, same_Some, Option, IfSome}
+use Rattle.proof_prelude.proofs.{length, sym, ap, ◌∙◌, subst, same_Some, Option, IfSome}
 use Rattle.couch_base.specs.{DatabaseValue}
 use Rattle.pool_workers.proofs.{unchanged}
 use Rattle.pool_workers.proofs.given_target.GivenTarget.of.Goals as goal

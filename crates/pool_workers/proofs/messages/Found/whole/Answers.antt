@@ -1,4 +1,4 @@
-use Rattle.proof_words.proofs.{sym, ap, ◌∙◌, subst, length, sum_by}
+use Rattle.proof_prelude.proofs.{sym, ap, ◌∙◌, subst, length, sum_by}
 use Rattle.couch_base.specs.{LawfulDatabase, RowValue, WindowValue}
 use Rattle.pool_workers.proofs.{counted_page}
 use Rattle.pool_workers.proofs.messages.Found.whole.Goals as goal

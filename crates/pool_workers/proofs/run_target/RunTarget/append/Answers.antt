@@ -1,4 +1,4 @@
-use Rattle.proof_words.proofs.{sym, subst}
+use Rattle.proof_prelude.proofs.{sym, subst}
 use Rattle.pool_workers.proofs.{appends, stays}
 use Rattle.pool_workers.specs.{IsNext}
 use Rattle.pool_workers.proofs.run_target.RunTarget.append.Goals as goal

@@ -1,4 +1,4 @@
-use Rattle.proof_words.proofs.{subst, sym}
+use Rattle.proof_prelude.proofs.{subst, sym}
 use Rattle.pool_workers.specs.{TargetKeeps}
 use Rattle.pool_workers.proofs.run_target.RunTarget.close.Goals as goal
 

@@ -1,4 +1,4 @@
-use Rattle.proof_words.proofs.{sym, subst, IfErr}
+use Rattle.proof_prelude.proofs.{sym, subst, IfErr}
 use Rattle.pool_workers.proofs.{records, record_step}
 use Rattle.pool_workers.specs.{IsStepFault}
 use Rattle.pool_workers.proofs.run_target.RunTarget.record.Goals as goal

@@ -1,4 +1,4 @@
-use Rattle.proof_words.proofs.{rules, ◌≤◌, length, subst, sym}
+use Rattle.proof_prelude.proofs.{rules, ◌≤◌, length, subst, sym}
 use Rattle.couch_base.specs.{ParcelValue}
 use Rattle.repl_peer.specs.{taken}
 use Rattle.pool_workers.specs.{IsAnswerOf}

@@ -1,4 +1,4 @@
-use Rattle.proof_words.proofs.{◌≡◌, ◌≤◌, length, sum, sym, ◌∙◌, ap, arith}
+use Rattle.proof_prelude.proofs.{◌≡◌, ◌≤◌, length, sum, sym, ◌∙◌, ap, arith}
 use Rattle.progress_board.proofs.{sum_le}
 use Rattle.progress_board.proofs.board.Board.read.Goals as goal
 

@@ -1,4 +1,4 @@
-use Rattle.proof_words.proofs.{◌≡◌, ◌*◌, ◌≤◌, take, sum}
+use Rattle.proof_prelude.proofs.{◌≡◌, ◌*◌, ◌≤◌, take, sum}
 use Rattle.progress_board.specs.{CameWith, IsLater, SameSeat}
 use Rattle.progress_board.proofs.board.Board.sum_read.Given as goal
 

@@ -1,4 +1,4 @@
-use Rattle.proof_words.proofs.{◌≡◌, Ok, Err, refl, sym, ap, ◌∙◌, none-some}
+use Rattle.proof_prelude.proofs.{◌≡◌, Ok, Err, refl, sym, ap, ◌∙◌, none-some}
 use Rattle.script_engine.specs.{in_full, gave_up}
 use Rattle.script_databases.specs.declared.refusal.Refusal.TheVariants as why
 use Rattle.repl_target.specs.{audit_answer}

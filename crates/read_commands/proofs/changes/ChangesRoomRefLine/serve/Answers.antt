@@ -1,4 +1,4 @@
-use Rattle.proof_words.proofs.{◌++◌, Ok, Err, sym, ap, ◌∙◌, flat_map}
+use Rattle.proof_prelude.proofs.{◌++◌, Ok, Err, sym, ap, ◌∙◌, flat_map}
 use Rattle.couch_base.specs.{DatabaseValue, feed}
 use Rattle.script_engine.specs.{in_full, gave_up}
 use Rattle.script_databases.specs.declared.refusal.Refusal.TheVariants as why

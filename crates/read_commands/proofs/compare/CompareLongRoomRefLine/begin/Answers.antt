@@ -1,4 +1,4 @@
-use Rattle.proof_words.proofs.{Ok, Err, [], refl, sym, ap, subst, ◌∙◌, string_bytes}
+use Rattle.proof_prelude.proofs.{Ok, Err, [], refl, sym, ap, subst, ◌∙◌, string_bytes}
 use Rattle.repl_peer.specs.{PeerValue}
 use Rattle.script_engine.specs.{in_full}
 use Rattle.script_databases.specs.{peer_at}

@@ -1,4 +1,4 @@
-use Rattle.proof_words.proofs.{◌≡◌, ◌++◌, List, [], refl, sym, ap, subst, ◌∙◌, append-nil, string_bytes, flat_map}
+use Rattle.proof_prelude.proofs.{◌≡◌, ◌++◌, List, [], refl, sym, ap, subst, ◌∙◌, append-nil, string_bytes, flat_map}
 use Rattle.doc_json.specs.{Choice}
 use Rattle.couch_base.specs.{DatabaseValue, RowValue, chosen_feed}
 use Rattle.repl_peer.specs.{PeerValue}

@@ -1,4 +1,4 @@
-use Rattle.proof_words.proofs.{◌≡◌, Ok, Err, None, List, [], map, refl, sym, ap, subst, ◌∙◌, ◌++◌, flat_map}
+use Rattle.proof_prelude.proofs.{◌≡◌, Ok, Err, None, List, [], map, refl, sym, ap, subst, ◌∙◌, ◌++◌, flat_map}
 use Rattle.couch_base.specs.{RowValue, feed, chosen_feed, tree_of, chosen-all}
 use Rattle.doc_json.specs.{Choice}
 use Rattle.repl_peer.specs.{PeerValue}

@@ -1,4 +1,4 @@
-use Rattle.proof_words.proofs.{◌≡◌, ◌++◌, ℕ, List, [], None, map, refl, sym, ap, subst, ◌∙◌, append-nil, flat_map}
+use Rattle.proof_prelude.proofs.{◌≡◌, ◌++◌, ℕ, List, [], None, map, refl, sym, ap, subst, ◌∙◌, append-nil, flat_map}
 use Rattle.doc_json.specs.{Choice}
 use Rattle.couch_base.specs.{DatabaseValue, tree_of, RowValue, chosen_feed}
 use Rattle.repl_peer.specs.{PeerValue}

@@ -1,4 +1,4 @@
-use Rattle.proof_words.proofs.{◌≡◌, List, ℕ, Option, Ok, Err, Some, None, refl, sym, ap, ◌∙◌}
+use Rattle.proof_prelude.proofs.{◌≡◌, List, ℕ, Option, Ok, Err, Some, None, refl, sym, ap, ◌∙◌}
 use Rattle.rev_core.specs.{RevId}
 use Rattle.doc_json.specs.Document.{Document}
 use Rattle.couch_base.specs.{DatabaseValue, document_at}

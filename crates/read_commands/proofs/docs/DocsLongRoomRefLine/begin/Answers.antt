@@ -1,4 +1,4 @@
-use Rattle.proof_words.proofs.{Ok, Err, refl, sym, ap, ◌∙◌, ◌++◌, flat_map}
+use Rattle.proof_prelude.proofs.{Ok, Err, refl, sym, ap, ◌∙◌, ◌++◌, flat_map}
 use Rattle.repl_peer.specs.{PeerValue}
 use Rattle.script_engine.specs.{in_full}
 use Rattle.script_databases.specs.declared.refusal.Refusal.TheVariants as why

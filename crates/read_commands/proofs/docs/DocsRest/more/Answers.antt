@@ -1,4 +1,4 @@
-use Rattle.proof_words.proofs.{◌≡◌, ◌++◌, ℕ, List, [], refl, sym, ap, subst, ◌∙◌, flat_map}
+use Rattle.proof_prelude.proofs.{◌≡◌, ◌++◌, ℕ, List, [], refl, sym, ap, subst, ◌∙◌, flat_map}
 use Rattle.couch_base.specs.{DatabaseValue}
 use Rattle.repl_peer.specs.{PeerValue}
 use Rattle.command_api.specs.{last_line}

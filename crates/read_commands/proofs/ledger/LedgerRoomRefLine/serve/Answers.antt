@@ -1,4 +1,4 @@
-use Rattle.proof_words.proofs.{Ok, Err, refl, sym, ap, ◌∙◌}
+use Rattle.proof_prelude.proofs.{Ok, Err, refl, sym, ap, ◌∙◌}
 use Rattle.script_engine.specs.{in_full, gave_up}
 use Rattle.script_databases.specs.declared.refusal.Refusal.TheVariants as why
 use Rattle.command_api.proofs.{passes, stops, is_found, is_missing, reads, printed, refused_memory}

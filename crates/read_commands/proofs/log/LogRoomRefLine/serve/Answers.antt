@@ -1,4 +1,4 @@
-use Rattle.proof_words.proofs.{◌≡◌, ◌⊎◌, inl, inr, ℕ, List, Result, Ok, Err, refl, sym, ap, ◌∙◌}
+use Rattle.proof_prelude.proofs.{◌≡◌, ◌⊎◌, inl, inr, ℕ, List, Result, Ok, Err, refl, sym, ap, ◌∙◌}
 use Rattle.doc_json.specs.{Choice}
 use Rattle.repl_log.specs.{GivesUnlessMemory, log_text, LogFault, EntryValue}
 use Rattle.repl_log.specs.declared.fault.LogFault.TheVariants as faults

@@ -1,4 +1,4 @@
-use Rattle.proof_words.proofs.{List, ℕ, Ok, Err, refl, sym, ap, ◌∙◌}
+use Rattle.proof_prelude.proofs.{List, ℕ, Ok, Err, refl, sym, ap, ◌∙◌}
 use Rattle.script_engine.specs.{in_full, gave_up}
 use Rattle.script_databases.specs.declared.refusal.Refusal.TheVariants as why
 use Rattle.read_commands.specs.{show_text}

@@ -1,4 +1,4 @@
-use Rattle.proof_words.proofs.{sym, subst}
+use Rattle.proof_prelude.proofs.{sym, subst}
 use Rattle.repl_log.specs.{IsLog, IsLog-nothing}
 use Rattle.repl_log.proofs.{Entries, logged, Keyed}
 use Rattle.repl_log.proofs.log.Log.new.Goals as goal

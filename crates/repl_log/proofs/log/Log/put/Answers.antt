@@ -1,4 +1,4 @@
-use Rattle.proof_words.proofs.{◌≡◌, ◌∷◌, ◌++◌, [], Ok, Err, List, is_ok, sym, ap, ◌∙◌, subst, option_copied_mut, set_value, false≢true, err_from_is_err_and, set_value_same}
+use Rattle.proof_prelude.proofs.{◌≡◌, ◌∷◌, ◌++◌, [], Ok, Err, List, is_ok, sym, ap, ◌∙◌, subst, option_copied_mut, set_value, false≢true, err_from_is_err_and, set_value_same}
 use Rattle.indexmap.specs.IndexMap.{insert_entry}
 use Rattle.indexmap.proofs.CallerLemmas.{insert_entry-new}
 use Rattle.repl_log.specs.declared.fault.LogFault.TheVariants as faults

@@ -1,4 +1,4 @@
-use Rattle.proof_words.proofs.{Some, None, sym, ap, ◌∙◌, option_copied}
+use Rattle.proof_prelude.proofs.{Some, None, sym, ap, ◌∙◌, option_copied}
 use Rattle.repl_log.proofs.{recorded_of-lookup}
 use Rattle.repl_log.proofs.log.Log.recorded_of.Goals as goal
 

@@ -1,4 +1,4 @@
-use Rattle.proof_words.proofs.{sym, ap, ◌∙◌, subst}
+use Rattle.proof_prelude.proofs.{sym, ap, ◌∙◌, subst}
 use Rattle.repl_log.proofs.{logged, Lawful, entered}
 use Rattle.repl_log.proofs.log.Log.set.Goals as goal
 

@@ -1,4 +1,4 @@
-use Rattle.proof_words.proofs.{sym}
+use Rattle.proof_prelude.proofs.{sym}
 use Rattle.repl_log.proofs.{copied_next}
 use Rattle.repl_log.proofs.logs.Logs.copy.Goals as goal
 

@@ -1,4 +1,4 @@
-use Rattle.proof_words.proofs.{◌≡◌, take}
+use Rattle.proof_prelude.proofs.{◌≡◌, take}
 use Rattle.repl_log.proofs.logs.Logs.copy.Given as goal
 
 -- the logs so far

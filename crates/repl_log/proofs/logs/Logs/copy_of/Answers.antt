@@ -1,4 +1,4 @@
-use Rattle.proof_words.proofs.{◌≡◌, sym, ap, ◌∙◌, option_copied, IfOk-weaker}
+use Rattle.proof_prelude.proofs.{◌≡◌, sym, ap, ◌∙◌, option_copied, IfOk-weaker}
 use Rattle.repl_log.specs.{log_in, log_in-found, log_in-absent}
 use Rattle.repl_log.proofs.logs.Logs.copy_of.Goals as goal
 

@@ -1,4 +1,4 @@
-use Rattle.proof_words.proofs.{[], ◌∷◌, ◌++◌, is_ok, sym, ap, ◌∙◌, subst, err_from_is_err_and, on_ok_weaker, on_err_weaker, option_copied_mut, set_value, set_value_same}
+use Rattle.proof_prelude.proofs.{[], ◌∷◌, ◌++◌, is_ok, sym, ap, ◌∙◌, subst, err_from_is_err_and, on_ok_weaker, on_err_weaker, option_copied_mut, set_value, set_value_same}
 use Rattle.indexmap.proofs.CallerLemmas.{insert_entry-new}
 use Rattle.indexmap.specs.IndexMap.{insert_entry}
 use Rattle.repl_log.specs.{GivesUnlessMemory, value_of, with_entry, put_answer, same_rep, log_in-found}

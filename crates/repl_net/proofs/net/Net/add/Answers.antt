@@ -1,4 +1,4 @@
-use Rattle.proof_words.proofs.{◌≡◌, [], ◌∷◌, ◌++◌, length, sym, ap, ◌∙◌, subst}
+use Rattle.proof_prelude.proofs.{◌≡◌, [], ◌∷◌, ◌++◌, length, sym, ap, ◌∙◌, subst}
 use Rattle.repl_peer.specs.{new_peer}
 use Rattle.repl_net.specs.{peers_of, IsHeld, IsNet, StaysMade}
 use Rattle.repl_net.proofs.{added_made, added_net}

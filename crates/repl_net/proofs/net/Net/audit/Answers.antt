@@ -1,4 +1,4 @@
-use Rattle.proof_words.proofs.{◌≡◌, Err, Some, MatchResult, slice_get, refl, sym, ap, ◌∙◌, subst, inr, option_copied, err_from_is_err_and}
+use Rattle.proof_prelude.proofs.{◌≡◌, Err, Some, MatchResult, slice_get, refl, sym, ap, ◌∙◌, subst, inr, option_copied, err_from_is_err_and}
 use Rattle.repl_target.specs.{audit_answer, hole_of}
 use Rattle.repl_net.specs.declared.fault.NetFault.TheVariants as faults
 use Rattle.repl_net.proofs.{at_of, tied_two}

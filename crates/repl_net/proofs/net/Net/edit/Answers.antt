@@ -1,4 +1,4 @@
-use Rattle.proof_words.proofs.{◌≡◌, Bool, length, sym, ap, ◌∙◌, subst}
+use Rattle.proof_prelude.proofs.{◌≡◌, Bool, length, sym, ap, ◌∙◌, subst}
 use Rattle.couch_base.specs.{Id, EditGives, edit_answer}
 use Rattle.repl_net.specs.{peers_of, filters_of, EditFits, KeepsAgreement, EditValue, IsOneOf, AllMadeBy, AnswersAt}
 use Rattle.repl_net.proofs.{whole_vector}

@@ -1,4 +1,4 @@
-use Rattle.proof_words.proofs.{◌≡◌, length, sym, ap, ◌∙◌, subst}
+use Rattle.proof_prelude.proofs.{◌≡◌, length, sym, ap, ◌∙◌, subst}
 use Rattle.couch_base.specs.{Id, PutGives, put_answer}
 use Rattle.repl_net.specs.{peers_of, filters_of, FitsIn, IsRootedAt, KeepsAgreement, AnswersAt}
 use Rattle.repl_net.proofs.{whole_vector}

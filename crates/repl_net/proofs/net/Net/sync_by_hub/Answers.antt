@@ -1,4 +1,4 @@
-use Rattle.proof_words.proofs.{◌≡◌, length, OnOk, sym, ap, ◌∙◌, subst, on_ok_weaker}
+use Rattle.proof_prelude.proofs.{◌≡◌, length, OnOk, sym, ap, ◌∙◌, subst, on_ok_weaker}
 use Rattle.repl_net.specs.{peers_of, filters_of, IsNet, HubSpread, StaysMade, TakesHub}
 use Rattle.repl_net.proofs.{whole_vector}
 use Rattle.repl_net.proofs.net.Net.sync_by_hub.Goals as goal

@@ -1,4 +1,4 @@
-use Rattle.proof_words.proofs.{◌<◌, ◌^◌, ◌∙◌, ap, subst}
+use Rattle.proof_prelude.proofs.{◌<◌, ◌^◌, ◌∙◌, ap, subst}
 use Rattle.couch_base.specs.{IsWindow, WindowValue}
 use Rattle.repl_peer.proofs.{Lawful-appended}
 use Rattle.repl_peer.proofs.peer.Peer.append_ready.Goals as goal

@@ -1,4 +1,4 @@
-use Rattle.proof_words.proofs.{◌∙◌}
+use Rattle.proof_prelude.proofs.{◌∙◌}
 use Rattle.repl_peer.specs.{BackupValue, PeerValue}
 use Rattle.repl_peer.proofs.{no_sessions, IsBackup-copied}
 use Rattle.repl_peer.proofs.peer.Peer.backup.Goals as goal

@@ -1,4 +1,4 @@
-use Rattle.proof_words.proofs.{◌<◌, ◌^◌, arith}
+use Rattle.proof_prelude.proofs.{◌<◌, ◌^◌, arith}
 use Rattle.repl_peer.proofs.{Lawful-begun}
 use Rattle.repl_peer.proofs.peer.Peer.begin.Goals as goal
 

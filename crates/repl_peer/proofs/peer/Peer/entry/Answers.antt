@@ -1,4 +1,4 @@
-use Rattle.proof_words.proofs.{Ok, sym, ap, ◌∙◌, option_copied}
+use Rattle.proof_prelude.proofs.{Ok, sym, ap, ◌∙◌, option_copied}
 use Rattle.repl_peer.specs.{SessionValue, entry_of, found_answer}
 use Rattle.repl_peer.proofs.peer.Peer.entry.Goals as goal
 

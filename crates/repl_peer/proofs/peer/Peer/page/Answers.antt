@@ -1,4 +1,4 @@
-use Rattle.proof_words.proofs.{rules}
+use Rattle.proof_prelude.proofs.{rules}
 use Rattle.repl_peer.proofs.peer.Peer.page.Goals as goal
 
 pub returns : goal.returns

@@ -1,4 +1,4 @@
-use Rattle.proof_words.proofs.{subst}
+use Rattle.proof_prelude.proofs.{subst}
 use Rattle.repl_peer.specs.{PeerValue, SettleGives}
 use Rattle.repl_peer.proofs.{settle_lawful}
 use Rattle.repl_peer.proofs.peer.Peer.settle_into.Goals as goal

@@ -1,4 +1,4 @@
-use Rattle.proof_words.proofs.{◌≡◌, not, drop, find}
+use Rattle.proof_prelude.proofs.{◌≡◌, not, drop, find}
 use Rattle.repl_peer.specs.{covers}
 use Rattle.repl_peer.proofs.peer.Peer.uncovered_in.Given as goal
 

@@ -1,4 +1,4 @@
-use Rattle.proof_words.proofs.{◌≡◌}
+use Rattle.proof_prelude.proofs.{◌≡◌}
 use Rattle.repl_peer.specs.{new_peer_at}
 use Rattle.repl_peer.proofs.{Lawful-new}
 use Rattle.repl_peer.proofs.peer.Peer.without_sessions.Goals as goal

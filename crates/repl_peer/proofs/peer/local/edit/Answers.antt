@@ -1,4 +1,4 @@
-use Rattle.proof_words.proofs.{rules, ◌≡◌, ◌∷◌, ◌++◌, [], sym, subst, ◌∙◌, option_to_list}
+use Rattle.proof_prelude.proofs.{rules, ◌≡◌, ◌∷◌, ◌++◌, [], sym, subst, ◌∙◌, option_to_list}
 use Rattle.rev_core.specs.{FallsByOne}
 use Rattle.rev_tree.specs.declared.origin.Origin.TheVariants.{Local}
 use Rattle.couch_base.specs.{tree_in}

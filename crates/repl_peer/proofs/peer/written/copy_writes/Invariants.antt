@@ -1,4 +1,4 @@
-use Rattle.proof_words.proofs.{◌≡◌, take}
+use Rattle.proof_prelude.proofs.{◌≡◌, take}
 use Rattle.repl_peer.proofs.peer.written.copy_writes.Given as goal
 
 -- the writes so far

@@ -1,4 +1,4 @@
-use Rattle.proof_words.proofs.{sym, ap, ◌∙◌, unwrap_or, option_copied, get, get-empty}
+use Rattle.proof_prelude.proofs.{sym, ap, ◌∙◌, unwrap_or, option_copied, get, get-empty}
 use Rattle.rev_core.specs.{rev_cmp}
 use Rattle.rev_tree.specs.{no_revisions}
 use Rattle.repl_peer.proofs.peer.written.parent_in.Goals as goal

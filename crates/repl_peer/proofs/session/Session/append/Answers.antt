@@ -1,4 +1,4 @@
-use Rattle.proof_words.proofs.{◌≡◌, ◌<◌, ◌≤◌, ◌==◌, ◌++◌, ◌∷◌, [], true, Ok, Err, if◌then◌else◌, nat_lt, refl, sym, ap, ◌∙◌, subst, rules, map_push, cond-true, eq-eqb, lt-ltb}
+use Rattle.proof_prelude.proofs.{◌≡◌, ◌<◌, ◌≤◌, ◌==◌, ◌++◌, ◌∷◌, [], true, Ok, Err, if◌then◌else◌, nat_lt, refl, sym, ap, ◌∙◌, subst, rules, map_push, cond-true, eq-eqb, lt-ltb}
 use Rattle.couch_base.specs.{WindowValue}
 use Rattle.range_front.specs.{FrontValue, appended, end_of}
 use Rattle.repl_peer.specs.{StoredWindowValue, append_in, next_in, session_value, windows_of, IsThinnedWhereDone}

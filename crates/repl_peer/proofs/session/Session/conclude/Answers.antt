@@ -1,4 +1,4 @@
-use Rattle.proof_words.proofs.{◌≡◌, ◌==◌, true, cond, Ok, Err, sym, ap, ◌∙◌, eq-eqb}
+use Rattle.proof_prelude.proofs.{◌≡◌, ◌==◌, true, cond, Ok, Err, sym, ap, ◌∙◌, eq-eqb}
 use Rattle.range_front.specs.{low_water}
 use Rattle.repl_peer.specs.{SessionValue, report_of, recorded_at}
 use Rattle.repl_peer.specs.declared.fault.TargetFault.TheVariants as faults

@@ -1,4 +1,4 @@
-use Rattle.proof_words.proofs.{◌≡◌, ◌<◌, Some, length, sym, ap, ◌∙◌, arith, slice_get-get_or}
+use Rattle.proof_prelude.proofs.{◌≡◌, ◌<◌, Some, length, sym, ap, ◌∙◌, arith, slice_get-get_or}
 use Rattle.rev_tree.specs.{Origin}
 use Rattle.rev_tree.specs.declared.origin.Origin.TheVariants.{Feed}
 use Rattle.doc_json.specs.Document.{Document}

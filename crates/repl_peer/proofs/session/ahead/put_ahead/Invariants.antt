@@ -1,4 +1,4 @@
-use Rattle.proof_words.proofs.{◌≡◌, ◌≤◌, length, take, drop}
+use Rattle.proof_prelude.proofs.{◌≡◌, ◌≤◌, length, take, drop}
 use Rattle.couch_base.specs.{AreMade, WindowValue}
 use Rattle.repl_peer.specs.{SessionValue, Reached, settling_at, with_arrivals}
 use Rattle.repl_peer.proofs.session.ahead.put_ahead.Given as goal

@@ -1,4 +1,4 @@
-use Rattle.proof_words.proofs.{◌≡◌, ◌+◌, Some, Ok, sym, ap, ◌∙◌, subst, slice_get-get_or, get_or_from_slice_get}
+use Rattle.proof_prelude.proofs.{◌≡◌, ◌+◌, Some, Ok, sym, ap, ◌∙◌, subst, slice_get-get_or, get_or_from_slice_get}
 use Rattle.doc_json.specs.Document.{Document}
 use Rattle.couch_base.specs.{put_answer, after_put}
 use Rattle.couch_base.specs.declared.fault.Put.TheVariants as puts

@@ -1,4 +1,4 @@
-use Rattle.proof_words.proofs.{◌≡◌, ◌+◌, true, Result, Ok, Err, OnOk, is_ok, sym, ◌∙◌, false≢true, get_or_from_slice_get}
+use Rattle.proof_prelude.proofs.{◌≡◌, ◌+◌, true, Result, Ok, Err, OnOk, is_ok, sym, ◌∙◌, false≢true, get_or_from_slice_get}
 use Rattle.couch_base.specs.{BaseFault, PutGives, put_answer, after_put}
 use Rattle.couch_base.specs.declared.fault.Put.{Put}
 use Rattle.couch_base.specs.declared.fault.Put.TheVariants as puts

@@ -1,4 +1,4 @@
-use Rattle.proof_words.proofs.{◌≡◌, ◌+◌, ◌++◌, List, Some, true, false, is_some, length, length-take-le, take, drop, flat_map, map, slice_get, sym, ap, ◌∙◌, subst, arith, list_any, list_all, bytes_eq, false≢true}
+use Rattle.proof_prelude.proofs.{◌≡◌, ◌+◌, ◌++◌, List, Some, true, false, is_some, length, length-take-le, take, drop, flat_map, map, slice_get, sym, ap, ◌∙◌, subst, arith, list_any, list_all, bytes_eq, false≢true}
 use Rattle.couch_base.specs.{WindowValue, RowValue}
 use Rattle.range_front.specs.{is_done}
 use Rattle.repl_peer.specs.{SessionValue, session_value, written_of, Reached, settling_at, with_arrivals}

@@ -1,4 +1,4 @@
-use Rattle.proof_words.proofs.{arith}
+use Rattle.proof_prelude.proofs.{arith}
 use Rattle.repl_peer.proofs.{among_next}
 use Rattle.repl_peer.proofs.session.ledger_index.add_revs.Goals as goal
 

@@ -1,4 +1,4 @@
-use Rattle.proof_words.proofs.{◌≡◌, ◌≤◌, ◌||◌, ◌+◌, take}
+use Rattle.proof_prelude.proofs.{◌≡◌, ◌≤◌, ◌||◌, ◌+◌, take}
 use Rattle.rev_core.specs.{RevId, is_among}
 use Rattle.indexmap.specs.IndexSet.{spare}
 use Rattle.repl_peer.proofs.session.ledger_index.add_revs.Given as goal

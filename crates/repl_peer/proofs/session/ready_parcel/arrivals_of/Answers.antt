@@ -1,4 +1,4 @@
-use Rattle.proof_words.proofs.{[], ◌∷◌, ◌++◌, ap, ◌∙◌, sym, arith, map, map-append, take}
+use Rattle.proof_prelude.proofs.{[], ◌∷◌, ◌++◌, ap, ◌∙◌, sym, arith, map, map-append, take}
 use Rattle.repl_peer.specs.{written_of}
 use Rattle.repl_peer.proofs.{one_more}
 use Rattle.repl_peer.proofs.session.ready_parcel.arrivals_of.Goals as goal

@@ -1,4 +1,4 @@
-use Rattle.proof_words.proofs.{◌≡◌, map, take}
+use Rattle.proof_prelude.proofs.{◌≡◌, map, take}
 use Rattle.repl_peer.specs.{written_of}
 use Rattle.repl_peer.proofs.session.ready_parcel.arrivals_of.Given as goal
 

@@ -1,4 +1,4 @@
-use Rattle.proof_words.proofs.{◌≡◌, true, ap, sym, ◌∙◌, arith, slice_get_within, list_any, bytes_eq}
+use Rattle.proof_prelude.proofs.{◌≡◌, true, ap, sym, ◌∙◌, arith, slice_get_within, list_any, bytes_eq}
 use Rattle.doc_json.specs.Document.{Document}
 use Rattle.repl_peer.proofs.{all_later, Among-at}
 use Rattle.couch_base.specs.{any_from}

@@ -1,4 +1,4 @@
-use Rattle.proof_words.proofs.{◌≡◌, ◌≤◌, length, drop, list_any, list_all, bytes_eq}
+use Rattle.proof_prelude.proofs.{◌≡◌, ◌≤◌, length, drop, list_any, list_all, bytes_eq}
 use Rattle.repl_peer.proofs.session.rows.all_have_rows.Given as goal
 
 -- the others decide

@@ -1,4 +1,4 @@
-use Rattle.proof_words.proofs.{◌≡◌, ◌-◌, ◌^◌, min, length, take, sum_by}
+use Rattle.proof_prelude.proofs.{◌≡◌, ◌-◌, ◌^◌, min, length, take, sum_by}
 use Rattle.repl_peer.proofs.session.rows.asked_count.Given as goal
 
 -- the count so far

@@ -1,4 +1,4 @@
-use Rattle.proof_words.proofs.{ap, sym, ◌∙◌, option_map}
+use Rattle.proof_prelude.proofs.{ap, sym, ◌∙◌, option_map}
 use Rattle.rev_core.specs.{RevId}
 use Rattle.repl_peer.specs.{Leaf, known_of}
 use Rattle.repl_peer.proofs.{unknown_here}

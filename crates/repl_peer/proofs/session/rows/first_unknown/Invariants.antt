@@ -1,4 +1,4 @@
-use Rattle.proof_words.proofs.{◌≡◌, drop}
+use Rattle.proof_prelude.proofs.{◌≡◌, drop}
 use Rattle.repl_peer.specs.{first_unknown, known_of}
 use Rattle.repl_peer.proofs.session.rows.first_unknown.Given as goal
 

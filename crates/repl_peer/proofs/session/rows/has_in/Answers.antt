@@ -1,4 +1,4 @@
-use Rattle.proof_words.proofs.{is_some, sym, ap, ◌∙◌, unwrap_or, option_copied, get-empty}
+use Rattle.proof_prelude.proofs.{is_some, sym, ap, ◌∙◌, unwrap_or, option_copied, get-empty}
 use Rattle.rev_core.specs.{rev_cmp}
 use Rattle.rev_tree.specs.{has, no_revisions}
 use Rattle.repl_peer.proofs.session.rows.has_in.Goals as goal

@@ -1,4 +1,4 @@
-use Rattle.proof_words.proofs.{◌≡◌, ◌-◌, false, drop, take, length, ap, sym, ◌∙◌, arith, length-drop, list_any, bytes_eq, take_all}
+use Rattle.proof_prelude.proofs.{◌≡◌, ◌-◌, false, drop, take, length, ap, sym, ◌∙◌, arith, length-drop, list_any, bytes_eq, take_all}
 use Rattle.couch_base.specs.{RowValue}
 use Rattle.repl_peer.proofs.{none_both, IfNone_then}
 use Rattle.repl_peer.proofs.session.rows.row_from.Goals as goal

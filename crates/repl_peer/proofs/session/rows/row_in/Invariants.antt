@@ -1,4 +1,4 @@
-use Rattle.proof_words.proofs.{◌≡◌, false, take, list_any, bytes_eq}
+use Rattle.proof_prelude.proofs.{◌≡◌, false, take, list_any, bytes_eq}
 use Rattle.repl_peer.proofs.session.rows.row_in.Given as goal
 
 -- none of the rows so far is of the id

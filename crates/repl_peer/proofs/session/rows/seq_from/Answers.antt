@@ -1,4 +1,4 @@
-use Rattle.proof_words.proofs.{ap, ◌∙◌, MatchOption-at_some, get_or_from_slice_get}
+use Rattle.proof_prelude.proofs.{ap, ◌∙◌, MatchOption-at_some, get_or_from_slice_get}
 use Rattle.couch_base.specs.{RowValue}
 use Rattle.repl_peer.proofs.{seq_is}
 use Rattle.repl_peer.specs.{IsRowOf}

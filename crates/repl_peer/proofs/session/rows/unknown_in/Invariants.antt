@@ -1,4 +1,4 @@
-use Rattle.proof_words.proofs.{◌≡◌, not, drop, find}
+use Rattle.proof_prelude.proofs.{◌≡◌, not, drop, find}
 use Rattle.repl_peer.specs.{known_of}
 use Rattle.repl_peer.proofs.session.rows.unknown_in.Given as goal
 

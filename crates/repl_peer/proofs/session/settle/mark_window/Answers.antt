@@ -1,4 +1,4 @@
-use Rattle.proof_words.proofs.{◌≡◌, ◌≤◌, List, Some, Ok, is_some, slice_get, refl, sym, ap, ◌∙◌, subst, false≢true, option_map}
+use Rattle.proof_prelude.proofs.{◌≡◌, ◌≤◌, List, Some, Ok, is_some, slice_get, refl, sym, ap, ◌∙◌, subst, false≢true, option_map}
 use Rattle.couch_base.specs.{RowValue, WindowValue}
 use Rattle.range_front.specs.{FrontValue, is_done, finished, finish_answer}
 use Rattle.repl_peer.specs.{window_bounds, SessionValue, first_unknown, with_checked, known_of, session_value, windows_of, IsThinnedWhereDone}

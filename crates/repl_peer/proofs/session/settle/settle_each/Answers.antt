@@ -1,4 +1,4 @@
-use Rattle.proof_words.proofs.{◌≡◌, ◌≤◌, ℕ, Some, List, length, slice_get, slice_get-get_or, true, false, is_some, sym, ap, ◌∙◌, subst, arith, list_any, bytes_eq, false≢true}
+use Rattle.proof_prelude.proofs.{◌≡◌, ◌≤◌, ℕ, Some, List, length, slice_get, slice_get-get_or, true, false, is_some, sym, ap, ◌∙◌, subst, arith, list_any, bytes_eq, false≢true}
 use Rattle.rev_tree.specs.{Origin}
 use Rattle.rev_tree.specs.declared.origin.Origin.TheVariants.{Feed}
 use Rattle.doc_json.specs.Document.{Document}

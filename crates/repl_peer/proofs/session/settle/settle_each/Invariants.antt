@@ -1,4 +1,4 @@
-use Rattle.proof_words.proofs.{◌≡◌, ◌≤◌, ◌+◌, Some, length, drop, slice_get}
+use Rattle.proof_prelude.proofs.{◌≡◌, ◌≤◌, ◌+◌, Some, length, drop, slice_get}
 use Rattle.couch_base.specs.{most, AreMade, WindowValue}
 use Rattle.repl_peer.specs.{LedgerIndex, Reached, Settling, IndexesMore, settling_at}
 use Rattle.repl_peer.proofs.session.settle.settle_each.Given as goal

@@ -1,4 +1,4 @@
-use Rattle.proof_words.proofs.{◌≡◌, List, Some, slice_get, sym, ap, ◌∙◌, subst}
+use Rattle.proof_prelude.proofs.{◌≡◌, List, Some, slice_get, sym, ap, ◌∙◌, subst}
 use Rattle.couch_base.specs.{WindowValue}
 use Rattle.repl_peer.specs.{RefusedValue, SessionValue, session_value, Halts, IndexesMore, Settling, settling_at, Cause}
 use Rattle.repl_peer.proofs.{halts_first, halts_none, halts_stop, IfErr_both}

@@ -1,4 +1,4 @@
-use Rattle.proof_words.proofs.{◌≡◌, ◌+◌, List, [], ◌∷◌, ◌++◌, false, flat_map, sym, ap, ◌∙◌, subst, append_assoc, get_or_from_slice_get}
+use Rattle.proof_prelude.proofs.{◌≡◌, ◌+◌, List, [], ◌∷◌, ◌++◌, false, flat_map, sym, ap, ◌∙◌, subst, append_assoc, get_or_from_slice_get}
 use Rattle.doc_json.specs.Document.{Document}
 use Rattle.couch_base.specs.declared.fault.Put.TheVariants as puts
 use Rattle.repl_peer.specs.{SessionValue, WrittenValue, Settling, IndexesMore, Steps, cause_at, session_value, settling_at, stops_in, with_arrival, written_of}

@@ -1,4 +1,4 @@
-use Rattle.proof_words.proofs.{◌≡◌, ◌+◌, ◌-◌, ◌≤◌, List, Some, Ok, length, drop, slice_get, true, false, sym, ap, ◌∙◌, subst, arith, same_Some, list_all}
+use Rattle.proof_prelude.proofs.{◌≡◌, ◌+◌, ◌-◌, ◌≤◌, List, Some, Ok, length, drop, slice_get, true, false, sym, ap, ◌∙◌, subst, arith, same_Some, list_all}
 use Rattle.doc_json.specs.Document.{Document}
 use Rattle.couch_base.specs.{most, AreMade, WindowValue, ParcelValue}
 use Rattle.range_front.specs.{FrontValue, bounds, is_done, finish_answer}

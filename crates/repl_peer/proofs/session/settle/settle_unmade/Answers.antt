@@ -1,4 +1,4 @@
-use Rattle.proof_words.proofs.{◌≡◌, List, [], ◌∷◌, ◌++◌, flat_map, sym, ap, ◌∙◌, subst, rules, append_assoc}
+use Rattle.proof_prelude.proofs.{◌≡◌, List, [], ◌∷◌, ◌++◌, flat_map, sym, ap, ◌∙◌, subst, rules, append_assoc}
 use Rattle.repl_peer.specs.{SessionValue, WrittenValue, IndexesMore, session_value, with_arrival, written_of}
 use Rattle.repl_peer.specs.declared.fault.Reason.TheVariants as reasons
 use Rattle.repl_peer.proofs.{arrives_by, indexes_by, stops_by}

@@ -1,4 +1,4 @@
-use Rattle.proof_words.proofs.{◌≡◌, ℕ, ◌-◌, ◌++◌, List, length, length-drop, take, drop, reverse, sym, ap, ◌∙◌, arith, length-reverse, reverse-append, reverse-reverse, take-append-drop, take-append_seam}
+use Rattle.proof_prelude.proofs.{◌≡◌, ℕ, ◌-◌, ◌++◌, List, length, length-drop, take, drop, reverse, sym, ap, ◌∙◌, arith, length-reverse, reverse-append, reverse-reverse, take-append-drop, take-append_seam}
 use Rattle.repl_peer.proofs.session.settle.without_first.Goals as goal
 
 -- what is left of a turned list, turned back

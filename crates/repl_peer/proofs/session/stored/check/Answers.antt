@@ -1,4 +1,4 @@
-use Rattle.proof_words.proofs.{ℕ, subst, ◌≡◌, ◌+◌, ◌-◌, ◌^◌, ◌&&◌, true, false, min, is_some, nat_le, List, length, sym, ap, ◌∙◌, and_parts, false≢true, list_all, sum_by}
+use Rattle.proof_prelude.proofs.{ℕ, subst, ◌≡◌, ◌+◌, ◌-◌, ◌^◌, ◌&&◌, true, false, min, is_some, nat_le, List, length, sym, ap, ◌∙◌, and_parts, false≢true, list_all, sum_by}
 use Rattle.couch_base.specs.{most, RowValue, AskedValue, WantedValue}
 use Rattle.range_front.specs.{is_done}
 use Rattle.repl_peer.specs.{settle_at, has_row, has_room, leaf_count, asked_count, session_value, Consecutive, StoredWindowValue, windows_of}

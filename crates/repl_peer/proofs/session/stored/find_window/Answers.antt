@@ -1,4 +1,4 @@
-use Rattle.proof_words.proofs.{◌≡◌, ◌==◌, Some, slice_get, is_some, refl, sym, ap, ◌∙◌, arith, and_left, and_right, false≢true, slice_get_within, slice_get_read, same_Some, length-map, ne_eqb, ltb-true, lt-ltb}
+use Rattle.proof_prelude.proofs.{◌≡◌, ◌==◌, Some, slice_get, is_some, refl, sym, ap, ◌∙◌, arith, and_left, and_right, false≢true, slice_get_within, slice_get_read, same_Some, length-map, ne_eqb, ltb-true, lt-ltb}
 use Rattle.couch_base.specs.{WindowValue}
 use Rattle.repl_peer.specs.{StoredWindowValue, windows_of}
 use Rattle.repl_peer.proofs.{window_at, no_window, window_at_place}

@@ -1,4 +1,4 @@
-use Rattle.proof_words.proofs.{ltb, ltb-true, rules, IsPartitionPoint-from_clause, IsPartitionedBy-ltb, ltb-false}
+use Rattle.proof_prelude.proofs.{ltb, ltb-true, rules, IsPartitionPoint-from_clause, IsPartitionedBy-ltb, ltb-false}
 use Rattle.repl_peer.specs.{StoredWindowValue}
 use Rattle.repl_peer.proofs.{rises_stored, point_stored}
 use Rattle.repl_peer.proofs.session.stored.place_from.Goals as goal

@@ -1,4 +1,4 @@
-use Rattle.proof_words.proofs.{[], ◌∷◌, ◌++◌, ap, ◌∙◌, arith}
+use Rattle.proof_prelude.proofs.{[], ◌∷◌, ◌++◌, ap, ◌∙◌, arith}
 use Rattle.repl_peer.proofs.{one_more}
 use Rattle.repl_peer.proofs.session.window.done_rows.Goals as goal
 

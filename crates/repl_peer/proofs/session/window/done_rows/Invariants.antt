@@ -1,4 +1,4 @@
-use Rattle.proof_words.proofs.{◌≡◌, take}
+use Rattle.proof_prelude.proofs.{◌≡◌, take}
 use Rattle.repl_peer.proofs.session.window.done_rows.Given as goal
 
 -- the rows so far

@@ -1,4 +1,4 @@
-use Rattle.proof_words.proofs.{◌≡◌, drop, list_any, bytes_eq}
+use Rattle.proof_prelude.proofs.{◌≡◌, drop, list_any, bytes_eq}
 use Rattle.repl_peer.proofs.session.window.has_done_row.Given as goal
 
 -- the others decide

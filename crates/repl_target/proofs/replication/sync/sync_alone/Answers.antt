@@ -1,4 +1,4 @@
-use Rattle.proof_words.proofs.{◌≡◌, Ok, Err, ap, subst}
+use Rattle.proof_prelude.proofs.{◌≡◌, Ok, Err, ap, subst}
 use Rattle.repl_target.specs.{Replicates, refused_there, refused_back, both}
 use Rattle.repl_peer.specs.{PeerValue}
 use Rattle.repl_target.proofs.{replicates_left, left_law, turned_tied, source_stays, target_stays, both_stay, replicates_leaves, both_meet}

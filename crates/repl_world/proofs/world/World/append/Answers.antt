@@ -1,4 +1,4 @@
-use Rattle.proof_words.proofs.{◌≡◌, OnOk, OnErr, Some, slice_get, sym, ap, ◌∙◌, subst, option_copied}
+use Rattle.proof_prelude.proofs.{◌≡◌, OnOk, OnErr, Some, slice_get, sym, ap, ◌∙◌, subst, option_copied}
 use Rattle.repl_world.specs.{WorldValue, appends}
 use Rattle.repl_world.proofs.{appended_ok, appended_err}
 use Rattle.repl_world.proofs.world.World.append.Goals as goal

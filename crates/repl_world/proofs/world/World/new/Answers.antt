@@ -1,4 +1,4 @@
-use Rattle.proof_words.proofs.{sym, ap, ◌∙◌}
+use Rattle.proof_prelude.proofs.{sym, ap, ◌∙◌}
 use Rattle.couch_base.specs.{DatabaseValue}
 use Rattle.repl_world.proofs.{new_refused, new_tied}
 use Rattle.repl_world.proofs.world.World.new.Goals as goal

@@ -1,4 +1,4 @@
-use Rattle.proof_words.proofs.{◌≡◌, OnOk, OnErr, Some, slice_get, sym, ap, ◌∙◌, subst, option_copied}
+use Rattle.proof_prelude.proofs.{◌≡◌, OnOk, OnErr, Some, slice_get, sym, ap, ◌∙◌, subst, option_copied}
 use Rattle.repl_world.specs.{WorldValue, settles, IsStopped}
 use Rattle.repl_world.proofs.{settled_ok, settled_err}
 use Rattle.repl_world.proofs.world.World.settle.Goals as goal

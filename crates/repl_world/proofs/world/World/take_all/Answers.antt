@@ -1,4 +1,4 @@
-use Rattle.proof_words.proofs.{◌≡◌, ◌∙◌, subst, refl}
+use Rattle.proof_prelude.proofs.{◌≡◌, ◌∙◌, subst, refl}
 use Rattle.repl_world.specs.{happens, CutShort}
 use Rattle.repl_world.proofs.{run_next, run_all, stopped_at_step}
 use Rattle.repl_world.proofs.world.World.take_all.Goals as goal

@@ -1,4 +1,4 @@
-use Rattle.proof_words.proofs.{◌≡◌, take}
+use Rattle.proof_prelude.proofs.{◌≡◌, take}
 use Rattle.repl_world.specs.{run}
 use Rattle.repl_world.specs.Tied.{Tied}
 use Rattle.repl_world.proofs.world.World.take_all.Given as goal

@@ -1,4 +1,4 @@
-use Rattle.proof_words.proofs.{inr, ◌∙◌, sym}
+use Rattle.proof_prelude.proofs.{inr, ◌∙◌, sym}
 use Rattle.response_parser.specs.{state_of}
 use Rattle.response_parser.proofs.{after_taken, pieces_taken, given_none}
 use Rattle.response_parser.proofs.reading.Reading.take_in.Goals as goal

@@ -1,5 +1,5 @@
 -- The bytes so far were taken, and nothing was made whole by them.
-use Rattle.proof_words.proofs.{◌≡◌, ◌⊎◌, [], take}
+use Rattle.proof_prelude.proofs.{◌≡◌, ◌⊎◌, [], take}
 use Rattle.response_parser.specs.{state_of, after, given, pieces}
 use Rattle.response_parser.proofs.reading.Reading.take_in.Given as goal
 

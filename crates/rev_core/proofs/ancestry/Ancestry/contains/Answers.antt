@@ -1,4 +1,4 @@
-use Rattle.proof_words.proofs.{ap, ◌∙◌}
+use Rattle.proof_prelude.proofs.{ap, ◌∙◌}
 use Rattle.rev_core.specs.{is_among}
 use Rattle.rev_core.proofs.{list_any_turned}
 use Rattle.rev_core.proofs.ancestry.Ancestry.contains.Goals as goal

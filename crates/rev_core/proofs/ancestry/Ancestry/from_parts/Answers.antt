@@ -1,4 +1,4 @@
-use Rattle.proof_words.proofs.{◌≡◌, ◌<◌, ◌++◌, length, sym, ap, ◌∙◌, subst, arith, rules, drop_all, append-nil}
+use Rattle.proof_prelude.proofs.{◌≡◌, ◌<◌, ◌++◌, length, sym, ap, ◌∙◌, subst, arith, rules, drop_all, append-nil}
 use Rattle.rev_core.specs.{numbered, FallsByOne, falls_numbered, length-numbered}
 use Rattle.rev_core.proofs.ancestry.Ancestry.from_parts.Goals as goal
 

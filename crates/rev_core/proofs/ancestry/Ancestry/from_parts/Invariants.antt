@@ -1,4 +1,4 @@
-use Rattle.proof_words.proofs.{◌≡◌, ◌+◌, ◌++◌, drop, AllByRecursion}
+use Rattle.proof_prelude.proofs.{◌≡◌, ◌+◌, ◌++◌, drop, AllByRecursion}
 use Rattle.rev_core.specs.{IsRev, numbered}
 use Rattle.rev_core.proofs.ancestry.Ancestry.from_parts.Given as goal
 

@@ -1,4 +1,4 @@
-use Rattle.proof_words.proofs.{sym, ap, ◌∙◌, rules}
+use Rattle.proof_prelude.proofs.{sym, ap, ◌∙◌, rules}
 use Rattle.std.specs.FinMap.{find}
 use Rattle.rev_core.specs.{rev_cmp, edges_of, edges_end}
 use Rattle.rev_core.proofs.{edge_found, edge_passed}

@@ -1,4 +1,4 @@
-use Rattle.proof_words.proofs.{◌+◌, Ok, drop, sym, ap, ◌∙◌, take_rest}
+use Rattle.proof_prelude.proofs.{◌+◌, Ok, drop, sym, ap, ◌∙◌, take_rest}
 use Rattle.rev_core.specs.{sig_read, cut_at, with_sig, rev_text-read}
 use Rattle.rev_core.proofs.{with_read}
 use Rattle.rev_core.proofs.rev.Rev.parse.Goals as goal

@@ -1,4 +1,4 @@
-use Rattle.proof_words.proofs.{◌≡◌, ◌&&◌, ℕ, true, false, nat_eq, refl, ap, sym, ◌∙◌, eq_by_cmp, pointwise, eq-eqb, eqb-true}
+use Rattle.proof_prelude.proofs.{◌≡◌, ◌&&◌, ℕ, true, false, nat_eq, refl, ap, sym, ◌∙◌, eq_by_cmp, pointwise, eq-eqb, eqb-true}
 use Rattle.rev_core.specs.{rev_cmp, rev_eq_is}
 use Rattle.rev_core.proofs.rev.RevPartialEq.eq.Goals as goal
 

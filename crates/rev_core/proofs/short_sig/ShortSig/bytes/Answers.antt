@@ -1,4 +1,4 @@
-use Rattle.proof_words.proofs.{refl}
+use Rattle.proof_prelude.proofs.{refl}
 use Rattle.rev_core.specs.{bytes_in}
 use Rattle.rev_core.proofs.short_sig.ShortSig.bytes.Goals as goal
 

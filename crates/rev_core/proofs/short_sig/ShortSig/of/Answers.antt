@@ -1,4 +1,4 @@
-use Rattle.proof_words.proofs.{◌≤◌, length, ap, subst, ◌∙◌}
+use Rattle.proof_prelude.proofs.{◌≤◌, length, ap, subst, ◌∙◌}
 use Rattle.rev_core.proofs.{few}
 use Rattle.rev_core.proofs.short_sig.ShortSig.of.Goals as goal
 

@@ -1,4 +1,4 @@
-use Rattle.proof_words.proofs.{take, ap, ◌∙◌, arith}
+use Rattle.proof_prelude.proofs.{take, ap, ◌∙◌, arith}
 use Rattle.rev_core.specs.{padded}
 use Rattle.rev_core.proofs.{listed-take}
 use Rattle.rev_core.proofs.sig.Sig.front.Goals as goal

@@ -1,4 +1,4 @@
-use Rattle.proof_words.proofs.{◌≡◌, true, sym, ◌∙◌, length, subst}
+use Rattle.proof_prelude.proofs.{◌≡◌, true, sym, ◌∙◌, length, subst}
 use Rattle.rev_core.specs.{is_sig, IsStored}
 use Rattle.rev_core.proofs.{stored, padded-front}
 use Rattle.rev_core.proofs.sig.Sig.parse.Goals as goal

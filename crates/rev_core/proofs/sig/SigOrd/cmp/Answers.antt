@@ -1,4 +1,4 @@
-use Rattle.proof_words.proofs.{◌∙◌, nat_cmp, slice_cmp}
+use Rattle.proof_prelude.proofs.{◌∙◌, nat_cmp, slice_cmp}
 use Rattle.rev_core.proofs.{first_decides}
 use Rattle.rev_core.proofs.sig.SigOrd.cmp.Goals as goal
 

@@ -1,4 +1,4 @@
-use Rattle.proof_words.proofs.{sym, ◌∙◌, nat_cmp}
+use Rattle.proof_prelude.proofs.{sym, ◌∙◌, nat_cmp}
 use Rattle.rev_tree.proofs.{front_first, bytes_of_sig, behind_ties}
 use Rattle.rev_tree.proofs.leaf.Leaf.order.Goals as goal
 

@@ -1,4 +1,4 @@
-use Rattle.proof_words.proofs.{◌≡◌, ◌&&◌, sym, ap, ◌∙◌, nat_eq, pointwise, eq_by_cmp, eq-eqb}
+use Rattle.proof_prelude.proofs.{◌≡◌, ◌&&◌, sym, ap, ◌∙◌, nat_eq, pointwise, eq_by_cmp, eq-eqb}
 use Rattle.rev_core.specs.{rev_cmp, rev_eq_is}
 use Rattle.rev_tree.proofs.node.Node.is_of.Goals as goal
 

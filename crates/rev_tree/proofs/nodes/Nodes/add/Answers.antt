@@ -1,4 +1,4 @@
-use Rattle.proof_words.proofs.{◌+◌, Some, sym, ap, ◌∙◌, subst, arith}
+use Rattle.proof_prelude.proofs.{◌+◌, Some, sym, ap, ◌∙◌, subst, arith}
 use Rattle.rev_tree.specs.{HasRoom, revs_in, unless_among}
 use Rattle.rev_tree.proofs.{place_known, rev_at_place, tree_known, room_for, new_counts}
 use Rattle.rev_tree.proofs.nodes.Nodes.add.Goals as goal

@@ -1,4 +1,4 @@
-use Rattle.proof_words.proofs.{◌≡◌, ℕ, ◌+◌, ◌-◌, ◌<◌, ◌∷◌, [], None, Some, suc, zero, slice_get, sym, ap, ◌∙◌, refl, arith}
+use Rattle.proof_prelude.proofs.{◌≡◌, ℕ, ◌+◌, ◌-◌, ◌<◌, ◌∷◌, [], None, Some, suc, zero, slice_get, sym, ap, ◌∙◌, refl, arith}
 use Rattle.rev_core.specs.{RevId}
 use Rattle.rev_tree.specs.{ancestors_at}
 use Rattle.rev_tree.proofs.{step, last, first_there}

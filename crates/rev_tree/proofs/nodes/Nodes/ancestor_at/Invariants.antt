@@ -1,4 +1,4 @@
-use Rattle.proof_words.proofs.{◌≡◌, ℕ, ◌+◌, ◌<◌, length, slice_get}
+use Rattle.proof_prelude.proofs.{◌≡◌, ℕ, ◌+◌, ◌<◌, length, slice_get}
 use Rattle.rev_tree.specs.{ancestors_at}
 use Rattle.rev_tree.proofs.nodes.Nodes.ancestor_at.Given as goal
 

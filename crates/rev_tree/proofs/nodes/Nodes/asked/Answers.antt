@@ -1,4 +1,4 @@
-use Rattle.proof_words.proofs.{◌+◌, ◌++◌, ◌∷◌, [], take, sym, ap, ◌∙◌, subst, arith, take_more, take_all}
+use Rattle.proof_prelude.proofs.{◌+◌, ◌++◌, ◌∷◌, [], take, sym, ap, ◌∙◌, subst, arith, take_more, take_all}
 use Rattle.rev_tree.proofs.{place_known, place_unknown, item_among, IsAsked, asked_at, asked_nowhere, told_from_asked}
 use Rattle.rev_tree.proofs.nodes.Nodes.asked.Goals as goal
 use Rattle.rev_tree.proofs.nodes.Nodes.asked.Goals.{in-Some, in_default}

@@ -1,4 +1,4 @@
-use Rattle.proof_words.proofs.{take}
+use Rattle.proof_prelude.proofs.{take}
 use Rattle.rev_tree.proofs.{IsAsked}
 use Rattle.rev_tree.proofs.nodes.Nodes.asked.Given as goal
 

@@ -1,4 +1,4 @@
-use Rattle.proof_words.proofs.{◌<◌, ◌^◌, length, sym, ap, ◌∙◌, subst}
+use Rattle.proof_prelude.proofs.{◌<◌, ◌^◌, length, sym, ap, ◌∙◌, subst}
 use Rattle.rev_tree.specs.{index_for, IsLinked, revs_in}
 use Rattle.rev_tree.proofs.nodes.Nodes.copy.Goals as goal
 

@@ -1,4 +1,4 @@
-use Rattle.proof_words.proofs.{◌≡◌, Some, take, filter, slice_get, option_copied}
+use Rattle.proof_prelude.proofs.{◌≡◌, Some, take, filter, slice_get, option_copied}
 use Rattle.rev_tree.specs.{in_order, is_leaf, leaf_cmp, NodeValue, revs_in, tree_of}
 use Rattle.rev_tree.proofs.{IsBest}
 use Rattle.rev_tree.proofs.nodes.Nodes.first_leaf.Given as goal

@@ -1,4 +1,4 @@
-use Rattle.proof_words.proofs.{◌<◌, Some, None, length, sym, ap, ◌∙◌, arith, slice_get-get_or}
+use Rattle.proof_prelude.proofs.{◌<◌, Some, None, length, sym, ap, ◌∙◌, arith, slice_get-get_or}
 use Rattle.rev_tree.proofs.{rev_at_place, step, last, skip_step, skip_last}
 use Rattle.rev_tree.proofs.nodes.Nodes.first_told.Goals as goal
 

@@ -1,4 +1,4 @@
-use Rattle.proof_words.proofs.{◌≡◌, ◌<◌, List, length}
+use Rattle.proof_prelude.proofs.{◌≡◌, ◌<◌, List, length}
 use Rattle.rev_core.specs.{RevId}
 use Rattle.rev_tree.specs.{is_above_at, IsTold}
 use Rattle.rev_tree.proofs.{generation_at}

@@ -1,4 +1,4 @@
-use Rattle.proof_words.proofs.{sym, subst}
+use Rattle.proof_prelude.proofs.{sym, subst}
 use Rattle.rev_tree.specs.{IsTold}
 use Rattle.rev_tree.proofs.nodes.Nodes.is_above.Goals as goal
 

@@ -1,4 +1,4 @@
-use Rattle.proof_words.proofs.{◌≡◌, ◌-◌, ◌<◌, ◌≤◌, ◌+◌, ◌&&◌, drop, get_or, length, slice_get, Some, not, sym, ap, ◌∙◌, arith, and-true, get_or_default, slice_get-get_or, same_Some, list_all, get, eq_by_cmp}
+use Rattle.proof_prelude.proofs.{◌≡◌, ◌-◌, ◌<◌, ◌≤◌, ◌+◌, ◌&&◌, drop, get_or, length, slice_get, Some, not, sym, ap, ◌∙◌, arith, and-true, get_or_default, slice_get-get_or, same_Some, list_all, get, eq_by_cmp}
 use Rattle.rev_core.specs.{RevId, rev_cmp, rev_tie_is, rev_tie_self, edges_of, edges_end}
 use Rattle.rev_tree.specs.{has_edge, first_contradiction, contradiction_at, rev_at, revs_in, place_of, tree_of}
 use Rattle.rev_tree.proofs.{place_at, place_within, read_at, rev_at_place, edges_known, edges_missed, no_contradiction_at, contradiction_here, not_is, told_contradiction, told_none}

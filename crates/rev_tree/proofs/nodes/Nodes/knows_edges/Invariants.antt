@@ -1,4 +1,4 @@
-use Rattle.proof_words.proofs.{◌≡◌, ◌-◌, ◌&&◌, drop, slice_get, Some, list_all}
+use Rattle.proof_prelude.proofs.{◌≡◌, ◌-◌, ◌&&◌, drop, slice_get, Some, list_all}
 use Rattle.rev_core.specs.{RevId, edges_of}
 use Rattle.rev_tree.specs.{has_edge, first_contradiction, place_of, tree_of}
 use Rattle.rev_tree.proofs.nodes.Nodes.knows_edges.Given as goal

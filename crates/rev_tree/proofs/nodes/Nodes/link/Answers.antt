@@ -1,4 +1,4 @@
-use Rattle.proof_words.proofs.{◌≡◌, ◌<◌, Some, is_some, not, set, length, length-set, slice_get, sym, ap, ◌∙◌, subst, arith}
+use Rattle.proof_prelude.proofs.{◌≡◌, ◌<◌, Some, is_some, not, set, length, length-set, slice_get, sym, ap, ◌∙◌, subst, arith}
 use Rattle.rev_tree.specs.{index_for, NodeValue, revs_in, tree_of, with_edge}
 use Rattle.rev_tree.proofs.{none_of, read_at, read_alike, IsEdged, edged, tree_named}
 use Rattle.rev_tree.proofs.nodes.Nodes.link.Goals as goal

@@ -1,4 +1,4 @@
-use Rattle.proof_words.proofs.{length, ap, arith}
+use Rattle.proof_prelude.proofs.{length, ap, arith}
 use Rattle.rev_tree.specs.{revs_in}
 use Rattle.rev_tree.proofs.{length-revs_in, index_short}
 use Rattle.rev_tree.proofs.nodes.Nodes.make_room.Goals as goal

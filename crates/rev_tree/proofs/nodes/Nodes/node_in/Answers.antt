@@ -1,4 +1,4 @@
-use Rattle.proof_words.proofs.{sym, ap, ◌∙◌, option_copied}
+use Rattle.proof_prelude.proofs.{sym, ap, ◌∙◌, option_copied}
 use Rattle.rev_tree.proofs.{place_known, place_unknown}
 use Rattle.rev_tree.proofs.nodes.Nodes.node_in.Goals as goal
 

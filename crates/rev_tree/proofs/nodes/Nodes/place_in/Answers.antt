@@ -1,4 +1,4 @@
-use Rattle.proof_words.proofs.{[], length, is_some, sym, ap, ◌∙◌, subst, arith, nat_eq, lookup}
+use Rattle.proof_prelude.proofs.{[], length, is_some, sym, ap, ◌∙◌, subst, arith, nat_eq, lookup}
 use Rattle.rev_tree.specs.{falls, noted_from, Distinct, place_of, revs_in}
 use Rattle.rev_tree.proofs.{none_of, is_some-node_of, place_none, place_at, read_at, length-revs_in, index_empty, index_gone, index_held, index_many, unmarked, marks_within}
 use Rattle.rev_tree.proofs.nodes.Nodes.place_in.Goals as goal

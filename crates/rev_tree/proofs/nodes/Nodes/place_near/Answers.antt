@@ -1,4 +1,4 @@
-use Rattle.proof_words.proofs.{sym, ◌∙◌}
+use Rattle.proof_prelude.proofs.{sym, ◌∙◌}
 use Rattle.rev_tree.proofs.{place_at}
 use Rattle.rev_tree.proofs.nodes.Nodes.place_near.Goals as goal
 

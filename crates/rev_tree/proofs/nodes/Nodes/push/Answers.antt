@@ -1,4 +1,4 @@
-use Rattle.proof_words.proofs.{◌≡◌, ◌+◌, ◌++◌, ◌∷◌, [], None, length, take, slice_get, sym, ap, ◌∙◌, subst, rules, take-append_seam}
+use Rattle.proof_prelude.proofs.{◌≡◌, ◌+◌, ◌++◌, ◌∷◌, [], None, length, take, slice_get, sym, ap, ◌∙◌, subst, rules, take-append_seam}
 use Rattle.rev_tree.specs.{HasRoom, index_for, place_of, revs_in, tree_of, with_rev}
 use Rattle.rev_tree.proofs.{slice_get-last, IsAdded, added, new_node, length-revs_in, new_counts}
 use Rattle.rev_tree.proofs.nodes.Nodes.push.Goals as goal

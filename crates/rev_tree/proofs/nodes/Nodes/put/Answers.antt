@@ -1,4 +1,4 @@
-use Rattle.proof_words.proofs.{◌≡◌, ◌<◌, length, sym, ap, ◌∙◌, subst, rules, nil_from_length}
+use Rattle.proof_prelude.proofs.{◌≡◌, ◌<◌, length, sym, ap, ◌∙◌, subst, rules, nil_from_length}
 use Rattle.rev_tree.specs.{tree_of, AddsHead}
 use Rattle.rev_tree.proofs.{standing, adds_head, first_put, led_winner, some_head, first_at}
 use Rattle.rev_tree.proofs.nodes.Nodes.put.Goals as goal

@@ -1,4 +1,4 @@
-use Rattle.proof_words.proofs.{◌≡◌, ℕ, ◌-◌, ◌<◌, Some, length, slice_get, sym, ap, ◌∙◌, arith, slice_get-get_or}
+use Rattle.proof_prelude.proofs.{◌≡◌, ℕ, ◌-◌, ◌<◌, Some, length, slice_get, sym, ap, ◌∙◌, arith, slice_get-get_or}
 use Rattle.rev_core.specs.{RevId}
 use Rattle.rev_tree.specs.{revs_in, tree_of}
 use Rattle.rev_tree.proofs.{read_at, child_at, put_start, put_next, put_end, room_first, room_next, standing}

@@ -1,4 +1,4 @@
-use Rattle.proof_words.proofs.{◌≡◌, ℕ, Some, slice_get}
+use Rattle.proof_prelude.proofs.{◌≡◌, ℕ, Some, slice_get}
 use Rattle.rev_core.specs.{RevId}
 use Rattle.rev_tree.specs.{revs_in, tree_of}
 use Rattle.rev_tree.proofs.{IsPut}

@@ -1,4 +1,4 @@
-use Rattle.proof_words.proofs.{◌≡◌, ◌-◌, ◌<◌, ◌++◌, ◌∷◌, [], List, length, take, sym, ap, ◌∙◌, subst, refl, arith, take_more, take_all}
+use Rattle.proof_prelude.proofs.{◌≡◌, ◌-◌, ◌<◌, ◌++◌, ◌∷◌, [], List, length, take, sym, ap, ◌∙◌, subst, refl, arith, take_more, take_all}
 use Rattle.rev_core.specs.{RevId}
 use Rattle.rev_tree.specs.{HasRoom, revs_in, tree_of}
 use Rattle.rev_tree.proofs.{child_at, next_unplaced, put_start, put_next, put_end, new_counts, room_first, room_next, standing}

@@ -1,4 +1,4 @@
-use Rattle.proof_words.proofs.{◌<◌, Some, length, length-set, sym, ap, ◌∙◌, arith}
+use Rattle.proof_prelude.proofs.{◌<◌, Some, length, length-set, sym, ap, ◌∙◌, arith}
 use Rattle.rev_tree.proofs.{none_of, read_at, rev_at_place, step, skip_step, told_more}
 use Rattle.rev_tree.proofs.nodes.Nodes.tell.Goals as goal
 

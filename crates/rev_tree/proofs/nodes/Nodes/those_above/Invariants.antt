@@ -1,4 +1,4 @@
-use Rattle.proof_words.proofs.{◌≡◌, take, filter}
+use Rattle.proof_prelude.proofs.{◌≡◌, take, filter}
 use Rattle.rev_tree.specs.{tree_of, is_above_one, IsTold}
 use Rattle.rev_tree.proofs.nodes.Nodes.those_above.Given as goal
 

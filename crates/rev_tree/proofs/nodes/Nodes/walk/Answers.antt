@@ -1,4 +1,4 @@
-use Rattle.proof_words.proofs.{◌++◌, ◌∷◌, [], sym, ap, ◌∙◌, append_assoc}
+use Rattle.proof_prelude.proofs.{◌++◌, ◌∷◌, [], sym, ap, ◌∙◌, append_assoc}
 use Rattle.rev_tree.specs.{ancestors_at}
 use Rattle.rev_tree.proofs.{step, last}
 use Rattle.rev_tree.proofs.nodes.Nodes.walk.Goals as goal

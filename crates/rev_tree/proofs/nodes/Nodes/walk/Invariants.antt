@@ -1,4 +1,4 @@
-use Rattle.proof_words.proofs.{◌≡◌, ◌++◌, ◌<◌, length}
+use Rattle.proof_prelude.proofs.{◌≡◌, ◌++◌, ◌<◌, length}
 use Rattle.rev_tree.specs.{ancestors_at}
 use Rattle.rev_tree.proofs.{generation_at}
 use Rattle.rev_tree.proofs.nodes.Nodes.walk.Given as goal

@@ -1,4 +1,4 @@
-use Rattle.proof_words.proofs.{sym, ◌∙◌, false≢true}
+use Rattle.proof_prelude.proofs.{sym, ◌∙◌, false≢true}
 use Rattle.rev_tree.proofs.{after_head, after_stays, after_walk}
 use Rattle.rev_tree.proofs.nodes.Nodes.winner_after.Goals as goal
 use Rattle.rev_tree.proofs.nodes.Nodes.winner_after.Goals.{then-not-has_child+else-goes_before, else-not-has_child}

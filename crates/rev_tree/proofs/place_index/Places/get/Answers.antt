@@ -1,4 +1,4 @@
-use Rattle.proof_words.proofs.{[], sym, ◌∙◌, nat_eq, lookup, option_map_or}
+use Rattle.proof_prelude.proofs.{[], sym, ◌∙◌, nat_eq, lookup, option_map_or}
 use Rattle.rev_tree.proofs.place_index.Places.get.Goals as goal
 
 pub returns-in-Some : goal.returns-in-Some

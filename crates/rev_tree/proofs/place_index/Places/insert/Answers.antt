@@ -1,4 +1,4 @@
-use Rattle.proof_words.proofs.{◌≡◌, ◌++◌, ◌∷◌, [], ap, ◌∙◌, nat_eq, lookup, option_map_or}
+use Rattle.proof_prelude.proofs.{◌≡◌, ◌++◌, ◌∷◌, [], ap, ◌∙◌, nat_eq, lookup, option_map_or}
 use Rattle.indexmap.proofs.CallerLemmas.{insert_entry-new}
 use Rattle.rev_tree.proofs.place_index.Places.insert.Goals as goal
 

@@ -1,4 +1,4 @@
-use Rattle.proof_words.proofs.{slice_get, sym, ap, ◌∙◌, false≢true}
+use Rattle.proof_prelude.proofs.{slice_get, sym, ap, ◌∙◌, false≢true}
 use Rattle.rev_tree.proofs.{place_unknown, has_is, place_is}
 use Rattle.rev_tree.proofs.tree.Tree.ancestor.Goals as goal
 

@@ -1,4 +1,4 @@
-use Rattle.proof_words.proofs.{Ok, sym, ap, ◌∙◌, cond-true, cond-false, err_from_is_err_and}
+use Rattle.proof_prelude.proofs.{Ok, sym, ap, ◌∙◌, cond-true, cond-false, err_from_is_err_and}
 use Rattle.rev_tree.proofs.{ok_known}
 use Rattle.rev_tree.proofs.tree.Tree.ancestry.Goals as goal
 

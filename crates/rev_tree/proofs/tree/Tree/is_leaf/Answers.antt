@@ -1,4 +1,4 @@
-use Rattle.proof_words.proofs.{Some, None, not, sym, ap, ◌∙◌, option_copied}
+use Rattle.proof_prelude.proofs.{Some, None, not, sym, ap, ◌∙◌, option_copied}
 use Rattle.rev_tree.proofs.{leaf_is}
 use Rattle.rev_tree.proofs.tree.Tree.is_leaf.Goals as goal
 

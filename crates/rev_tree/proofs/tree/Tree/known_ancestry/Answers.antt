@@ -1,4 +1,4 @@
-use Rattle.proof_words.proofs.{sym, ◌∙◌, subst, false≢true}
+use Rattle.proof_prelude.proofs.{sym, ◌∙◌, subst, false≢true}
 use Rattle.rev_core.specs.{IsAncestry}
 use Rattle.rev_tree.specs.{IsTree, IsAncestry-ancestors}
 use Rattle.rev_tree.proofs.{place_unknown, has_is, place_is}

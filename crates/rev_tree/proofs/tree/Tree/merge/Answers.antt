@@ -1,4 +1,4 @@
-use Rattle.proof_words.proofs.{Ok, sym, ap, ◌∙◌, false≢true}
+use Rattle.proof_prelude.proofs.{Ok, sym, ap, ◌∙◌, false≢true}
 use Rattle.rev_tree.specs.{merged-same}
 use Rattle.rev_tree.proofs.{is_told_same, same_from_answer, changed_from_answer}
 use Rattle.rev_tree.proofs.tree.Tree.merge.Goals as goal

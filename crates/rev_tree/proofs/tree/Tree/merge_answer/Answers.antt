@@ -1,4 +1,4 @@
-use Rattle.proof_words.proofs.{is_some, sym, ap, ◌∙◌, subst, list_all}
+use Rattle.proof_prelude.proofs.{is_some, sym, ap, ◌∙◌, subst, list_all}
 use Rattle.rev_core.specs.{edges_of}
 use Rattle.rev_tree.specs.{IsTree, has_edge, first_contradiction, is_same, answer_of}
 use Rattle.rev_tree.proofs.{is_some-copied, answer_known, answer_missed}

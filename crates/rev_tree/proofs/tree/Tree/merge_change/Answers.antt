@@ -1,4 +1,4 @@
-use Rattle.proof_words.proofs.{◌≡◌, slice_get, sym, ap, ◌∙◌, subst}
+use Rattle.proof_prelude.proofs.{◌≡◌, slice_get, sym, ap, ◌∙◌, subst}
 use Rattle.rev_core.specs.{IsAncestry, edges_of}
 use Rattle.rev_tree.specs.{TreeValue, IsTree, first_contradiction, merged, IsTree-merged, IsLed, first_of, leaves, revs_in, tree_of}
 use Rattle.rev_tree.proofs.{none_from_answer}

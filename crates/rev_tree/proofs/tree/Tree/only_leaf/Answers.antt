@@ -1,4 +1,4 @@
-use Rattle.proof_words.proofs.{◌≡◌, ◌<◌, ◌++◌, ◌∷◌, [], Option, Some, None, is_some, refl, cond, not, length, take, get_or, filter, sym, ap, ◌∙◌, subst, option_copied, option_to_list, Bor, take_all, append-nil}
+use Rattle.proof_prelude.proofs.{◌≡◌, ◌<◌, ◌++◌, ◌∷◌, [], Option, Some, None, is_some, refl, cond, not, length, take, get_or, filter, sym, ap, ◌∙◌, subst, option_copied, option_to_list, Bor, take_all, append-nil}
 use Rattle.rev_core.specs.{RevId}
 use Rattle.rev_tree.specs.{is_leaf, revs_in}
 use Rattle.rev_tree.proofs.{leaf_item, leaves_pushed, none_there, second_leaf, lone_leaf}

@@ -1,4 +1,4 @@
-use Rattle.proof_words.proofs.{◌≡◌, take, filter, option_copied, option_to_list}
+use Rattle.proof_prelude.proofs.{◌≡◌, take, filter, option_copied, option_to_list}
 use Rattle.rev_tree.specs.{is_leaf, revs_in}
 use Rattle.rev_tree.proofs.tree.Tree.only_leaf.Given as goal
 

@@ -1,4 +1,4 @@
-use Rattle.proof_words.proofs.{◌≡◌, ◌++◌, ◌∷◌, [], take, filter, map, cond, not, IfOk, sym, ap, ◌∙◌, subst, rules, map-append, always_returns_same, ranks_by, is_lt, take_all, append-nil}
+use Rattle.proof_prelude.proofs.{◌≡◌, ◌++◌, ◌∷◌, [], take, filter, map, cond, not, IfOk, sym, ap, ◌∙◌, subst, rules, map-append, always_returns_same, ranks_by, is_lt, take_all, append-nil}
 use Rattle.rev_tree.specs.{is_leaf, Leaf, revs_in}
 use Rattle.rev_tree.proofs.{leaf_item, deleted_item, leaves_pushed, leaves_of_nodes, count_once, told_deleted, pair_cmp, pair_cmp_total, told, leaves_in_order}
 use Rattle.rev_tree.proofs.tree.Tree.sorted_leaves.Goals as goal

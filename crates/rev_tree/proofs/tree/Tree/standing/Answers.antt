@@ -1,4 +1,4 @@
-use Rattle.proof_words.proofs.{Some, sym, ap, ◌∙◌, subst, same_Some}
+use Rattle.proof_prelude.proofs.{Some, sym, ap, ◌∙◌, subst, same_Some}
 use Rattle.rev_core.specs.{IsAncestry}
 use Rattle.rev_tree.specs.{IsTree, IsAncestry-ancestors, NodeValue}
 use Rattle.rev_tree.proofs.{place_known, place_unknown, content_is, has_is, place_is}

@@ -1,4 +1,4 @@
-use Rattle.proof_words.proofs.{ℕ, List, ap, sym, ◌∙◌, string_bytes, subst}
+use Rattle.proof_prelude.proofs.{ℕ, List, ap, sym, ◌∙◌, string_bytes, subst}
 use Rattle.std.specs.FinMap.{insert}
 use Rattle.couch_base.specs.{DatabaseValue}
 use Rattle.script_databases.specs.AllTied.{AllTied}

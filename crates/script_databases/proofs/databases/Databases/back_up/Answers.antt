@@ -1,4 +1,4 @@
-use Rattle.proof_words.proofs.{◌≡◌, inl, inr, Bor, List, [], ◌∷◌, ◌++◌, Option, Some, None, is_some, Ok, Err, sym, ap, ◌∙◌, option_map, option_copied}
+use Rattle.proof_prelude.proofs.{◌≡◌, inl, inr, Bor, List, [], ◌∷◌, ◌++◌, Option, Some, None, is_some, Ok, Err, sym, ap, ◌∙◌, option_map, option_copied}
 use Rattle.rev_tree.proofs.{is_some-copied, none_of}
 use Rattle.couch_base.specs.{DatabaseValue}
 use Rattle.repl_peer.specs.{PeerValue, backup_answer, Rules}

@@ -1,4 +1,4 @@
-use Rattle.proof_words.proofs.{rules}
+use Rattle.proof_prelude.proofs.{rules}
 use Rattle.script_databases.proofs.{drawn_left}
 use Rattle.script_databases.proofs.databases.Databases.draw.Goals as goal
 

@@ -1,4 +1,4 @@
-use Rattle.proof_words.proofs.{◌≡◌, Result, Ok, Err, inl, sym, ap, ◌∙◌, rules, subst, err_from_is_err_and}
+use Rattle.proof_prelude.proofs.{◌≡◌, Result, Ok, Err, inl, sym, ap, ◌∙◌, rules, subst, err_from_is_err_and}
 use Rattle.couch_base.specs.{DatabaseValue}
 use Rattle.repl_peer.specs.{PeerValue, after_edit}
 use Rattle.script_databases.specs.{State, edited_answer, edited_as, edited_at, peer_at, GivesOrMemory, base_refusal, Edited, Refusal, beside_of, state_of}

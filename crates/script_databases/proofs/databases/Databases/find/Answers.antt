@@ -1,4 +1,4 @@
-use Rattle.proof_words.proofs.{ap, ◌∙◌, Option, option_map}
+use Rattle.proof_prelude.proofs.{ap, ◌∙◌, Option, option_map}
 use Rattle.repl_peer.specs.{PeerValue, Rules}
 use Rattle.script_databases.specs.{beside_of}
 use Rattle.script_databases.proofs.{found_at}

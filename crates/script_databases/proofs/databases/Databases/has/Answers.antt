@@ -1,4 +1,4 @@
-use Rattle.proof_words.proofs.{ap, sym, ◌∙◌, contains_key}
+use Rattle.proof_prelude.proofs.{ap, sym, ◌∙◌, contains_key}
 use Rattle.script_databases.specs.{State}
 use Rattle.script_databases.proofs.{contains_key-by_text}
 use Rattle.script_databases.proofs.databases.Databases.has.Goals as goal

@@ -1,4 +1,4 @@
-use Rattle.proof_words.proofs.{◌≡◌, Err, inl, sym, ap, ◌∙◌, rules, subst, err_from_is_err_and}
+use Rattle.proof_prelude.proofs.{◌≡◌, Err, inl, sym, ap, ◌∙◌, rules, subst, err_from_is_err_and}
 use Rattle.repl_peer.specs.{PeerValue, after_load}
 use Rattle.script_databases.specs.{State, load_answer, loaded_at, peer_at, GivesOrMemory, base_refusal, told_as, beside_of, state_of}
 use Rattle.script_databases.proofs.{load_keeps, on_err, peer_absent, peer_there, put_refused, state_changed, state_stays, tables_stay, loaded_tied, unchanged_tied}

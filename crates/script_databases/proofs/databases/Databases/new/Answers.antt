@@ -1,4 +1,4 @@
-use Rattle.proof_words.proofs.{rules}
+use Rattle.proof_prelude.proofs.{rules}
 use Rattle.script_databases.specs.{program_of}
 use Rattle.script_databases.proofs.{index_none, none_deny, none_left}
 use Rattle.script_databases.proofs.databases.Databases.new.Goals as goal

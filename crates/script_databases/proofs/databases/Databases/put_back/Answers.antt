@@ -1,4 +1,4 @@
-use Rattle.proof_words.proofs.{◌≡◌, List, Ok, Err, inl, inr, refl, sym, ap, ◌∙◌, rules, subst, err_from_is_err_and, option_copied}
+use Rattle.proof_prelude.proofs.{◌≡◌, List, Ok, Err, inl, inr, refl, sym, ap, ◌∙◌, rules, subst, err_from_is_err_and, option_copied}
 use Rattle.couch_base.specs.{DatabaseValue}
 use Rattle.repl_peer.specs.{PeerValue, restored, restored_by, after_restore, restore_answer}
 use Rattle.script_databases.specs.{NamedBackupValue, State, backup_among, backup_at, peer_at, put_back_answer, put_back_by, put_back_of, GivesOrMemory, target_refusal, told_as, beside_of, state_of}

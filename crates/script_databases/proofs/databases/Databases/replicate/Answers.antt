@@ -1,4 +1,4 @@
-use Rattle.proof_words.proofs.{Err, sym, ap, subst, ◌∙◌, err_from_is_err_and, contains_key}
+use Rattle.proof_prelude.proofs.{Err, sym, ap, subst, ◌∙◌, err_from_is_err_and, contains_key}
 use Rattle.repl_peer.specs.{LawfulSessions, PeerValue}
 use Rattle.script_databases.specs.{State, Nowhere, ReplicatesBetween, ReplicatesByPool, beside_of, deny_of, peers_of, state_of}
 use Rattle.script_databases.proofs.{deny_left, has_source, has_target, index_left, refuses_is, run_denied, run_names, run_refused, state_left, pool_between}

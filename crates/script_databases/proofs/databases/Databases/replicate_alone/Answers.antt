@@ -1,4 +1,4 @@
-use Rattle.proof_words.proofs.{Err, sym, ap, subst, ◌∙◌, err_from_is_err_and, contains_key}
+use Rattle.proof_prelude.proofs.{Err, sym, ap, subst, ◌∙◌, err_from_is_err_and, contains_key}
 use Rattle.repl_peer.specs.{PeerValue}
 use Rattle.repl_target.specs.{Replicates}
 use Rattle.repl_target.proofs.{left_law, replicates_left}

@@ -1,4 +1,4 @@
-use Rattle.proof_words.proofs.{Result, Err, inl, inr, refl, sym, ap, subst, ◌∙◌, err_from_is_err_and, contains_key}
+use Rattle.proof_prelude.proofs.{Result, Err, inl, inr, refl, sym, ap, subst, ◌∙◌, err_from_is_err_and, contains_key}
 use Rattle.repl_peer.specs.{LawfulSessions, PeerValue, Report}
 use Rattle.pool_workers.specs.{PoolFault}
 use Rattle.repl_pool.specs.{RunsOn}

@@ -1,4 +1,4 @@
-use Rattle.proof_words.proofs.{◌≡◌, ℕ, List, Result, Ok, Err, refl, sym, ap, ◌∙◌}
+use Rattle.proof_prelude.proofs.{◌≡◌, ℕ, List, Result, Ok, Err, refl, sym, ap, ◌∙◌}
 use Rattle.repl_peer.specs.{BackupValue}
 use Rattle.script_engine.specs.{in_full, served_only}
 use Rattle.script_databases.specs.{State, backed_answer, backed_told, backed_by, Refusal}

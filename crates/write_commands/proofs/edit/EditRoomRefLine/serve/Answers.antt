@@ -1,4 +1,4 @@
-use Rattle.proof_words.proofs.{ap}
+use Rattle.proof_prelude.proofs.{ap}
 use Rattle.script_databases.specs.{Program}
 use Rattle.command_api.proofs.{taken_back}
 use Rattle.write_commands.proofs.edit.EditRoomRefLine.serve.Goals as goal

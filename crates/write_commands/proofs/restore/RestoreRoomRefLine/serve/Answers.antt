@@ -1,4 +1,4 @@
-use Rattle.proof_words.proofs.{refl, ◌∙◌}
+use Rattle.proof_prelude.proofs.{refl, ◌∙◌}
 use Rattle.script_engine.specs.{in_full, served_only}
 use Rattle.write_commands.specs.{restored_line}
 use Rattle.command_api.proofs.{passes, stops, does, does_nothing, both, printed, unless_memory, handed_on, refused_memory}

@@ -1,4 +1,4 @@
-use Rattle.proof_words.proofs.{◌++◌, Ok, Err, refl, ap, ◌∙◌}
+use Rattle.proof_prelude.proofs.{◌++◌, Ok, Err, refl, ap, ◌∙◌}
 use Rattle.script_engine.specs.{in_full, served_only}
 use Rattle.script_databases.specs.{name_of}
 use Rattle.command_api.proofs.{handed_on, refused_memory}

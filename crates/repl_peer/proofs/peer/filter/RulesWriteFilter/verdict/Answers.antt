@@ -1,4 +1,4 @@
-use Rattle.proof_words.proofs.{◌≡◌, true, false, refl, ◌∙◌, starts_text}
+use Rattle.proof_prelude.proofs.{◌≡◌, true, false, refl, ◌∙◌, starts_text}
 use Rattle.repl_peer.specs.{rules_refuse}
 use Rattle.repl_peer.proofs.{refuses-tested}
 use Rattle.repl_peer.proofs.peer.filter.RulesWriteFilter.verdict.Goals as goal

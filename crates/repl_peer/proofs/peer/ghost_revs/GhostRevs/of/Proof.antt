@@ -1,5 +1,5 @@
 -- `of` makes a value of no bytes, with the revisions that its clause names.
-use Rattle.proof_words.proofs.{List, [], ◌∷◌, ◌++◌, refl}
+use Rattle.proof_prelude.proofs.{List, [], ◌∷◌, ◌++◌, refl}
 use seplogic.Ra.Ura.{Ura}
 use mir.Syntax.{Fn}
 use mir.Val.{Val, vptr, vstruct, vnil}

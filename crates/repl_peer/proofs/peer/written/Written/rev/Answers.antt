@@ -1,4 +1,4 @@
-use Rattle.proof_words.proofs.{sym, ◌∙◌}
+use Rattle.proof_prelude.proofs.{sym, ◌∙◌}
 use Rattle.repl_peer.proofs.{next_stands, next_there}
 use Rattle.repl_peer.proofs.peer.written.Written.rev.Goals as goal
 

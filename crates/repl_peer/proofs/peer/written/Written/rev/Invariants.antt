@@ -1,4 +1,4 @@
-use Rattle.proof_words.proofs.{◌≡◌, Some, slice_get}
+use Rattle.proof_prelude.proofs.{◌≡◌, Some, slice_get}
 use Rattle.repl_peer.proofs.peer.written.Written.rev.Given as goal
 
 -- the revision at the place so far

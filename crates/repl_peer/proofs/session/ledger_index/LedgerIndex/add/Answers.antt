@@ -1,4 +1,4 @@
-use Rattle.proof_words.proofs.{sym, ap, ◌∙◌, ◌||◌, ◌≡◌, cond, Some, None, lookup, option_copied_mut, bytes_eq}
+use Rattle.proof_prelude.proofs.{sym, ap, ◌∙◌, ◌||◌, ◌≡◌, cond, Some, None, lookup, option_copied_mut, bytes_eq}
 use Rattle.rev_core.specs.{is_among}
 use Rattle.couch_base.specs.{Id}
 use Rattle.repl_peer.proofs.{added_new}

@@ -1,4 +1,4 @@
-use Rattle.proof_words.proofs.{◌∷◌, [], ◌++◌, None, sym, ap, ◌∙◌, ◌≡◌, cond, Some, lookup, option_copied_mut, option_map_or, err_from_is_err_and}
+use Rattle.proof_prelude.proofs.{◌∷◌, [], ◌++◌, None, sym, ap, ◌∙◌, ◌≡◌, cond, Some, lookup, option_copied_mut, option_map_or, err_from_is_err_and}
 use Rattle.repl_log.specs.declared.replication.RepId.{RepId}
 use Rattle.repl_log.specs.{same_rep}
 use Rattle.repl_peer.proofs.lemmas.session.AddedToRepIndex.{added_new}

@@ -1,4 +1,4 @@
-use Rattle.proof_words.proofs.{sym, ap, ◌∙◌, subst, option_copied_mut, on_ok_weaker, on_err_weaker}
+use Rattle.proof_prelude.proofs.{sym, ap, ◌∙◌, subst, option_copied_mut, on_ok_weaker, on_err_weaker}
 use Rattle.repl_peer.specs.{SessionValue, GivesUnlessMemory, append_in, with_window, found_answer, sessions_of, AreListed, IsTableOf}
 use Rattle.repl_peer.proofs.{appended_same, session_in-at, sessions_of-changed, sessions_of-same, table-set}
 use Rattle.repl_peer.proofs.session.sessions.Sessions.append.Goals as goal

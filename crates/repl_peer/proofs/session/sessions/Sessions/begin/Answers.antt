@@ -1,4 +1,4 @@
-use Rattle.proof_words.proofs.{◌∷◌, [], ◌++◌, cond, List, sym, ap, ap₂, ◌∙◌, subst}
+use Rattle.proof_prelude.proofs.{◌∷◌, [], ◌++◌, cond, List, sym, ap, ap₂, ◌∙◌, subst}
 use Rattle.indexmap.specs.IndexMap.{insert_entry}
 use Rattle.indexmap.proofs.CallerLemmas.{insert_entry-new}
 use Rattle.rev_tree.specs.{SessionId}

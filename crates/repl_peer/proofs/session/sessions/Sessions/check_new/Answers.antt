@@ -1,4 +1,4 @@
-use Rattle.proof_words.proofs.{◌≡◌, List, true, false, refl, sym, ap, ◌∙◌, err_from_is_err_and, le-ltb, lt-ltb}
+use Rattle.proof_prelude.proofs.{◌≡◌, List, true, false, refl, sym, ap, ◌∙◌, err_from_is_err_and, le-ltb, lt-ltb}
 use Rattle.repl_peer.specs.{SessionValue, holds}
 use Rattle.repl_peer.proofs.{holds-lookup, begin_in-exists, begin_in-started, begin_in-told}
 use Rattle.repl_peer.proofs.session.sessions.Sessions.check_new.Goals as goal

@@ -1,4 +1,4 @@
-use Rattle.proof_words.proofs.{◌==◌, if◌then◌else◌, sym, ap, ◌∙◌, subst, option_copied_mut}
+use Rattle.proof_prelude.proofs.{◌==◌, if◌then◌else◌, sym, ap, ◌∙◌, subst, option_copied_mut}
 use Rattle.range_front.specs.{low_water}
 use Rattle.repl_peer.specs.{SessionValue, recorded_at, conclude_in, found_answer, sessions_of, AreListed, IsTableOf}
 use Rattle.repl_peer.proofs.{concluded_same, session_in-at, sessions_of-changed, sessions_of-absent, table-set}

@@ -1,4 +1,4 @@
-use Rattle.proof_words.proofs.{sym, ◌∙◌}
+use Rattle.proof_prelude.proofs.{sym, ◌∙◌}
 use Rattle.repl_peer.proofs.{session_in-lookup}
 use Rattle.repl_peer.proofs.session.sessions.Sessions.find.Goals as goal
 

@@ -1,4 +1,4 @@
-use Rattle.proof_words.proofs.{◌∙◌, sym, ap, arith, take_all}
+use Rattle.proof_prelude.proofs.{◌∙◌, sym, ap, arith, take_all}
 use Rattle.repl_log.specs.{value_of, same_rep}
 use Rattle.repl_peer.specs.{SessionValue, sessions_of, log_of}
 use Rattle.repl_peer.proofs.{log_of-next, log_of-passed}

@@ -1,4 +1,4 @@
-use Rattle.proof_words.proofs.{◌≡◌, take}
+use Rattle.proof_prelude.proofs.{◌≡◌, take}
 use Rattle.repl_peer.specs.{sessions_of, log_of}
 use Rattle.repl_peer.proofs.session.sessions.Sessions.log.Given as goal
 

@@ -1,4 +1,4 @@
-use Rattle.proof_words.proofs.{Ok, sym, ap, ◌∙◌, subst, option_copied_mut}
+use Rattle.proof_prelude.proofs.{Ok, sym, ap, ◌∙◌, subst, option_copied_mut}
 use Rattle.range_front.specs.{low_water}
 use Rattle.repl_peer.specs.{SessionValue, recorded_at, found_answer, sessions_of, AreListed, IsTableOf}
 use Rattle.repl_peer.proofs.{session_in-at, sessions_of-changed, sessions_of-absent, table-set}

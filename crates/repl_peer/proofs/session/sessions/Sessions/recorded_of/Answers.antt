@@ -1,4 +1,4 @@
-use Rattle.proof_words.proofs.{Ok, sym, ap, ◌∙◌, option_copied}
+use Rattle.proof_prelude.proofs.{Ok, sym, ap, ◌∙◌, option_copied}
 use Rattle.repl_log.specs.{same_rep}
 use Rattle.repl_peer.specs.{SessionValue, sessions_of, recorded_by}
 use Rattle.repl_peer.proofs.{recorded_by-found, recorded_by-other, recorded_by-at}

@@ -1,4 +1,4 @@
-use Rattle.proof_words.proofs.{◌||◌, List, sym, ap, ◌∙◌, subst, option_copied_mut}
+use Rattle.proof_prelude.proofs.{◌||◌, List, sym, ap, ◌∙◌, subst, option_copied_mut}
 use Rattle.rev_tree.specs.{has}
 use Rattle.couch_base.specs.{tree_of}
 use Rattle.repl_peer.specs.{PeerValue, SessionValue, Settling, SettleGives, known_of, settling_at, with_parts, sessions_of, AreListed, IsTableOf, in_ledgers}

@@ -1,4 +1,4 @@
-use Rattle.proof_words.proofs.{◌≡◌, ◌+◌, ◌-◌, Some, None, List, drop, length, get_or, min, sym, ap, ap₂, ◌∙◌, arith, lookup, option_copied}
+use Rattle.proof_prelude.proofs.{◌≡◌, ◌+◌, ◌-◌, Some, None, List, drop, length, get_or, min, sym, ap, ap₂, ◌∙◌, arith, lookup, option_copied}
 use Rattle.rev_tree.specs.{SessionId}
 use Rattle.couch_base.specs.{none_some, some_is}
 use Rattle.repl_log.specs.{common-at, common-behind, EntryValue, common, recorded_of, at_session}

@@ -1,5 +1,5 @@
 -- no session so far is shared: those behind decide
-use Rattle.proof_words.proofs.{◌≡◌, ◌≤◌, ◌-◌, drop, length}
+use Rattle.proof_prelude.proofs.{◌≡◌, ◌≤◌, ◌-◌, drop, length}
 use Rattle.repl_log.specs.{common}
 use Rattle.repl_peer.specs.{sessions_of, log_of, listed}
 use Rattle.repl_peer.proofs.session.sessions.Sessions.shared_with.Given as goal

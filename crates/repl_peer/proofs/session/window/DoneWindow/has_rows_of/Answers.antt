@@ -1,4 +1,4 @@
-use Rattle.proof_words.proofs.{◌≡◌, true, sym, ap, ◌∙◌, list_any, bytes_eq}
+use Rattle.proof_prelude.proofs.{◌≡◌, true, sym, ap, ◌∙◌, list_any, bytes_eq}
 use Rattle.couch_base.specs.{RowValue, WindowValue}
 use Rattle.repl_peer.specs.{has_row}
 use Rattle.repl_peer.proofs.{all_later}

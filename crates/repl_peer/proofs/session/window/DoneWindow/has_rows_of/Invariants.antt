@@ -1,4 +1,4 @@
-use Rattle.proof_words.proofs.{◌≡◌, drop, list_all}
+use Rattle.proof_prelude.proofs.{◌≡◌, drop, list_all}
 use Rattle.repl_peer.specs.{has_row}
 use Rattle.repl_peer.proofs.session.window.DoneWindow.has_rows_of.Given as goal
 

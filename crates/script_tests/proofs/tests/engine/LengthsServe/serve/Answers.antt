@@ -1,4 +1,4 @@
-use Rattle.proof_words.proofs.{◌<◌, ◌≤◌, ◌++◌, length, Ok, refl, ap, ◌∙◌, inl, inr, arith, codes, decimal}
+use Rattle.proof_prelude.proofs.{◌<◌, ◌≤◌, ◌++◌, length, Ok, refl, ap, ◌∙◌, inl, inr, arith, codes, decimal}
 use Rattle.script_engine.specs.{in_full, gave_up}
 use Rattle.script_tests.proofs.tests.engine.LengthsServe.serve.Goals as goal
 

@@ -1,4 +1,4 @@
-use Rattle.proof_words.proofs.{◌++◌, Ok, ap, ◌∙◌, codes}
+use Rattle.proof_prelude.proofs.{◌++◌, Ok, ap, ◌∙◌, codes}
 use Rattle.script_engine.specs.{in_full, gave_up}
 use Rattle.script_tests.proofs.tests.pieces.EchoServe.serve.Goals as goal
 
