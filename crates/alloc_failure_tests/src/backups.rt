@@ -5,7 +5,7 @@ use repl_log::{Moment, RepId};
 use repl_target::{Backup, Peer, Rules, TargetFault};
 use rev_tree::SessionId;
 use std::alloc::{AllocError, Global};
-use test_texts::bare_entry;
+use test_support::bare_entry;
 
 /// The replication from the peer.
 const REP: RepId = RepId {

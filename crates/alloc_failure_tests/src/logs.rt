@@ -3,7 +3,7 @@ use anyhow::{Result, bail};
 use repl_log::{Entry, Log, LogFault, Logs, Moment, RepId, rep_id, write_log};
 use rev_tree::SessionId;
 use std::alloc::{AllocError, Global};
-use test_texts::bare_entry;
+use test_support::bare_entry;
 
 /// The entry of a session that recorded up to the sequence of its own number and read nothing.
 fn entry(recorded: u64) -> Result<Entry, LogFault> {

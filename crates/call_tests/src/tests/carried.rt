@@ -6,7 +6,7 @@ use repl_target::{Peer, Refused, Rules};
 use rev_core::Rev;
 use rev_tree::SessionId;
 use std::alloc::Global;
-use test_texts::shown;
+use test_support::shown;
 
 /// The documents at the leaves of a document, winner first.
 pub(crate) fn leaves(alloc: Global, db: &Database, id: &str) -> Option<String> {

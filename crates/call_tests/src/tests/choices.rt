@@ -10,7 +10,7 @@ use repl_target::{Peer, Plan, Rules, audit, begin_plan, hole_above, rep_between,
 use rev_tree::SessionId;
 use std::alloc::Global;
 use std::process::Abort;
-use test_texts::shown;
+use test_support::shown;
 
 /// The place of a choice; none for all documents.
 pub(crate) type Under = Option<usize>;

@@ -9,7 +9,7 @@ use rev_core::Rev;
 use rev_tree::Origin;
 use std::alloc::Global;
 use std::process::Abort;
-use test_texts::{rev, rev_text, shown};
+use test_support::{rev, rev_text, shown};
 
 /// A call on a database, which is named by its place, as windows, asked lists and parcels are.
 #[derive(Clone, Copy)]

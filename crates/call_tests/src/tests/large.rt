@@ -8,7 +8,7 @@ use repl_target::{Peer, Rules, replicate_alone};
 use rev_core::{Ancestry, Rev, Sig};
 use rev_tree::{SessionId, Tree};
 use std::alloc::Global;
-use test_texts::rev_text;
+use test_support::rev_text;
 
 /// The signature of a number: its digits.
 fn sig(alloc: Global, number: u32) -> Option<Sig> {

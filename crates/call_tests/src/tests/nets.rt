@@ -12,7 +12,7 @@ use repl_target::{Peer, Plan, Rules};
 use rev_tree::SessionId;
 use std::alloc::Global;
 use std::process::Abort;
-use test_texts::{rev_text, shown};
+use test_support::{rev_text, shown};
 
 /// The places of a hop: its source and its target.
 type Places = (usize, usize);

@@ -17,7 +17,7 @@ use repl_target::{Audit, Backup, Peer, Rules, Scope, WriteFilter, audit, hole_ab
 use rev_tree::SessionId;
 use std::alloc::{AllocError, Global};
 use std::process::Abort;
-use test_texts::{bare_entry, rev, shown};
+use test_support::{bare_entry, rev, shown};
 
 /// The replication of all documents between two databases, by their uuids.
 #[derive(Clone, Copy)]

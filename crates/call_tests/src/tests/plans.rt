@@ -4,7 +4,7 @@ use repl_log::Moment;
 use repl_target::{Peer, Plan, Rules, begin_plan, check_plan, record_at_source};
 use rev_tree::SessionId;
 use std::alloc::Global;
-use test_texts::shown;
+use test_support::shown;
 
 /// The plan of a session with windows of some rows at most, at a moment.
 pub(crate) fn plan(session: SessionId, batch: u64, moment: u64) -> Option<Plan> {

@@ -18,7 +18,7 @@ use std::mem;
 use std::process::Abort;
 use std::sync::Wait;
 use std::thread::Threads;
-use test_texts::shown;
+use test_support::shown;
 
 /// How a run is planned.
 #[derive(Clone, Copy)]

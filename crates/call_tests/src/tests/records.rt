@@ -4,7 +4,7 @@ use doc_json::Doc;
 use repl_log::{Entry, Log, common};
 use repl_target::{Cause, Report, Settled, TargetFault};
 use std::alloc::Global;
-use test_texts::shown;
+use test_support::shown;
 
 /// How many documents were written, and how many refused.
 pub(crate) fn settled_text(alloc: Global, settled: Settled) -> Option<String> {

@@ -14,7 +14,7 @@ use rev_core::Rev;
 use rev_tree::{SessionId, Tree};
 use std::alloc::Global;
 use std::process::Abort;
-use test_texts::{rev_text, shown};
+use test_support::{rev_text, shown};
 
 /// The one session.
 const SESSION: SessionId = SessionId(1);

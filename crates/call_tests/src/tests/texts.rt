@@ -7,7 +7,7 @@ use rev_tree::{Origin, Tree};
 use serde_json::Value;
 use std::alloc::Global;
 use std::process::Abort;
-use test_texts::{rev_text, revs_text, shown};
+use test_support::{rev_text, revs_text, shown};
 
 /// Asserts that the call of a number could be made, and what it answered. `None` is told of a call that could not.
 pub(crate) fn expect_answer(rt: &impl Abort, number: usize, answer: Option<String>, wanted: &str) {

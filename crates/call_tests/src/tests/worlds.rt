@@ -9,7 +9,7 @@ use repl_world::{Step, World, WorldFault};
 use rev_tree::SessionId;
 use std::alloc::{AllocError, Global};
 use std::process::Abort;
-use test_texts::rev;
+use test_support::rev;
 
 /// The replication of a world's peers, which have the uuids 1 and 2.
 const REP: RepId = RepId {

@@ -3,7 +3,7 @@ use crate::tests::texts::expect_answer;
 use range_front::Front;
 use std::alloc::Global;
 use std::process::Abort;
-use test_texts::shown;
+use test_support::shown;
 
 /// A call on a front.
 #[derive(Clone, Copy)]

@@ -4,7 +4,7 @@ use repl_log::{Counts, Entry, Log, Logs, Moment, RepId, common, rep_id, write_lo
 use rev_tree::SessionId;
 use std::alloc::Global;
 use std::process::Abort;
-use test_texts::{bare_entry, shown};
+use test_support::{bare_entry, shown};
 
 /// A call on logs, which are named by their places.
 #[derive(Clone, Copy)]

@@ -4,7 +4,7 @@ use md5::{Digest, Md5};
 use rev_core::{Ancestry, KeptRev, Rev, new_rev};
 use std::alloc::Global;
 use std::process::Abort;
-use test_texts::{rev, rev_text, revs_text, shown};
+use test_support::{rev, rev_text, revs_text, shown};
 
 /// A call on texts of revisions.
 #[derive(Clone, Copy)]

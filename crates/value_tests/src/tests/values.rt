@@ -4,7 +4,7 @@ use json_values::{LineValue, ValueReader};
 use serde_json::{Map, Value};
 use std::alloc::Global;
 use std::process::Abort;
-use test_texts::shown;
+use test_support::shown;
 
 /// What is read.
 #[derive(Clone, Copy)]
