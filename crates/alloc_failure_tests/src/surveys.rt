@@ -3,7 +3,7 @@ use crate::peers::{doc_id, load};
 use anyhow::{Result, bail};
 use couch_base::Database;
 use doc_json::DocId;
-use repl_survey::{
+use repl_inspect::{
     Census, Comparison, Total, census_of, compare, compare_feed, conflicting, documents_of,
 };
 use repl_target::{Peer, Rules};

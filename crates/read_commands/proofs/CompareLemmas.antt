@@ -1,7 +1,7 @@
 -- What is left of a comparison of two databases that are there.
 use Rattle.proof_prelude.proofs.{◌≡◌, ℕ, List, ◌++◌, flat_map}
 use Rattle.couch_base.specs.{DatabaseValue, RowValue}
-use Rattle.repl_survey.specs.{comparisons, total_of, Total}
+use Rattle.repl_inspect.specs.{comparisons, total_of, Total}
 use Rattle.read_commands.specs.{rows_left, rows_walked, compared_line, compared_lines, Walk}
 
 abbrev pub compare_rest : DatabaseValue → DatabaseValue → Walk → List ℕ

@@ -7,10 +7,10 @@ use Rattle.rev_tree.specs.declared.fault.Contradiction.{Contradiction}
 use Rattle.doc_json.specs.Chosen.{Choice}
 use Rattle.couch_base.specs.Database.{DatabaseValue}
 use Rattle.couch_base.specs.Feed.{RowValue, chosen_feed}
-use Rattle.repl_survey.specs.Comparing.{ComparisonValue}
-use Rattle.repl_survey.specs.Comparisons.{compared_at, comparisons}
-use Rattle.repl_survey.specs.Totals.{total_of}
-use Rattle.repl_survey.specs.declared.total.Total.{Total}
+use Rattle.repl_inspect.specs.Comparing.{ComparisonValue}
+use Rattle.repl_inspect.specs.Comparisons.{compared_at, comparisons}
+use Rattle.repl_inspect.specs.Totals.{total_of}
+use Rattle.repl_inspect.specs.declared.total.Total.{Total}
 use Rattle.script_engine.specs.Serving.{Answering}
 use Rattle.script_databases.specs.Databases.{State, peer_at}
 use Rattle.script_databases.specs.declared.refusal.Refusal.{Refusal}

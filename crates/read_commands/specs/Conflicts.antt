@@ -5,9 +5,9 @@ use Rattle.std.specs.Option.{option_map_or}
 use Rattle.serde_json.specs.Data.{Data}
 use Rattle.couch_base.specs.Database.{DatabaseValue, tree_in, tree_of}
 use Rattle.couch_base.specs.Feed.{RowValue, feed}
-use Rattle.repl_survey.specs.Censuses.{census_of, trees}
-use Rattle.repl_survey.specs.Conflicts.{conflicting}
-use Rattle.repl_survey.specs.declared.census.Census.{Census}
+use Rattle.repl_inspect.specs.Censuses.{census_of, trees}
+use Rattle.repl_inspect.specs.Conflicts.{conflicting}
+use Rattle.repl_inspect.specs.declared.census.Census.{Census}
 use Rattle.script_engine.specs.Serving.{Answering}
 use Rattle.script_databases.specs.Databases.{State, peer_at}
 use Rattle.script_databases.specs.declared.refusal.Refusal.{Refusal}

@@ -8,7 +8,7 @@ use Rattle.doc_json.specs.Document.{Document}
 use Rattle.doc_json.specs.DocText.{doc_text}
 use Rattle.couch_base.specs.Database.{DatabaseValue}
 use Rattle.couch_base.specs.Feed.{RowValue, chosen_feed}
-use Rattle.repl_survey.specs.Documents.{documents_at}
+use Rattle.repl_inspect.specs.Documents.{documents_at}
 use Rattle.script_engine.specs.Serving.{Answering}
 use Rattle.script_databases.specs.Databases.{State, peer_at}
 use Rattle.script_databases.specs.declared.refusal.Refusal.{Refusal}

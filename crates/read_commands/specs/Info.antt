@@ -4,8 +4,8 @@ use Rattle.serde_json.specs.Data.{Data}
 use Rattle.couch_base.specs.Database.{DatabaseValue}
 use Rattle.repl_log.specs.Text.{id_digits}
 use Rattle.repl_peer.specs.peer.Peer.{PeerValue}
-use Rattle.repl_survey.specs.Censuses.{census_of, trees}
-use Rattle.repl_survey.specs.declared.census.Census.{Census}
+use Rattle.repl_inspect.specs.Censuses.{census_of, trees}
+use Rattle.repl_inspect.specs.declared.census.Census.{Census}
 use Rattle.script_engine.specs.Serving.{Answering}
 use Rattle.script_databases.specs.Databases.{State}
 use Rattle.script_databases.specs.declared.refusal.Refusal.{Refusal}

@@ -8,7 +8,7 @@ use crate::long_room::LongRoom;
 use crate::rest::Rest;
 use couch_base::{Database, Row};
 use json_values::{Line, LineValue};
-use repl_survey::{Comparison, Total, compare};
+use repl_inspect::{Comparison, Total, compare};
 use rev_tree::Contradiction;
 use script_databases::{Databases, Refusal};
 use command_api::{
@@ -162,8 +162,8 @@ struct ComparedRows<'a> {
 
 impl<'a> RowPrinter for ComparedRows<'a> {
     ghost use Rattle.std.specs.Prelude.{◌≡◌};
-    ghost use Rattle.repl_survey.specs.Comparisons.{comparisons};
-    ghost use Rattle.repl_survey.specs.Totals.{total_of};
+    ghost use Rattle.repl_inspect.specs.Comparisons.{comparisons};
+    ghost use Rattle.repl_inspect.specs.Totals.{total_of};
     ghost use Rattle.read_commands.specs.Compare.{compared_lines};
 
     type Tally = Total;

@@ -8,7 +8,7 @@ use crate::long_room::LongRoom;
 use crate::rest::Rest;
 use couch_base::{Database, Row};
 use json_values::Line;
-use repl_survey::{Census, conflicting};
+use repl_inspect::{Census, conflicting};
 use rev_tree::Tree;
 use script_databases::{Databases, Refusal};
 use command_api::{has_only_members, name_member, push_number, push_revs_line};
@@ -122,7 +122,7 @@ struct ConflictRows<'a> {
 impl<'a> RowPrinter for ConflictRows<'a> {
     ghost use Rattle.std.specs.Prelude.{◌≡◌, map};
     ghost use Rattle.couch_base.specs.Database.{tree_of};
-    ghost use Rattle.repl_survey.specs.Censuses.{census_of};
+    ghost use Rattle.repl_inspect.specs.Censuses.{census_of};
     ghost use Rattle.read_commands.specs.Conflicts.{conflict_line};
 
     type Tally = Census;

@@ -10,7 +10,7 @@ use crate::rest::Rest;
 use couch_base::{Database, Row};
 use doc_json::{Doc, push_doc};
 use json_values::{Line, LineValue};
-use repl_survey::documents_of;
+use repl_inspect::documents_of;
 use script_databases::{Databases, Refusal};
 use command_api::{
     has_only_members, name_member, optional_texts, optional_whole, push_last, read_choice,

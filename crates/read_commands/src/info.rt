@@ -5,7 +5,7 @@ ghost use Rattle.read_commands.specs.Info.{census_part, documents_part, identity
 
 use couch_base::Database;
 use json_values::Line;
-use repl_survey::{Census, census_of};
+use repl_inspect::{Census, census_of};
 use repl_target::{Peer, Rules};
 use script_databases::{Databases, Refusal};
 use command_api::{Room, has_only_members, id_text, name_member, push_count, push_number};

@@ -6,7 +6,7 @@ ghost use Rattle.read_commands.specs.Ledger.{contradicted_line, denied_line, led
 ghost use Rattle.rev_core.specs.Text.{rev_text};
 
 use json_values::Line;
-use repl_survey::{LedgerRow, ledger_row};
+use repl_inspect::{LedgerRow, ledger_row};
 use repl_target::Refused;
 use rev_core::Rev;
 use rev_tree::SessionId;

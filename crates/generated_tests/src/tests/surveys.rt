@@ -10,7 +10,7 @@ use couch_base::Database;
 use doc_json::DocId;
 use rand_chacha::ChaCha8Rng;
 use rand_core::SeedableRng;
-use repl_survey::{Census, Comparison, Total, census_of, compare, conflicting, documents_of};
+use repl_inspect::{Census, Comparison, Total, census_of, compare, conflicting, documents_of};
 use rev_tree::Origin;
 use std::alloc::Global;
 use std::process::Abort;

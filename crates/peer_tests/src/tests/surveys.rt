@@ -6,7 +6,7 @@ use crate::tests::plans::plan;
 use crate::tests::records::{fault_text, report_text};
 use crate::tests::texts::{doc_text, expect_answer, joined, plain};
 use doc_json::{Chosen, Doc, DocId};
-use repl_survey::{
+use repl_inspect::{
     Comparison, LedgerRow, census_of, compare, compare_feed, conflicting, documents_of, ledger_row,
 };
 use repl_target::{Peer, Refused, Rules, replicate_alone};

@@ -1,6 +1,6 @@
 use Rattle.proof_prelude.proofs.{◌++◌, ℕ, length, ap, ◌∙◌}
 use Rattle.couch_base.specs.{DatabaseValue}
-use Rattle.repl_survey.specs.{census_of, trees, Census}
+use Rattle.repl_inspect.specs.{census_of, trees, Census}
 use Rattle.read_commands.specs.{census_part, identity_part, sessions_part}
 use Rattle.command_api.proofs.{two_parts}
 use Rattle.read_commands.proofs.info.print.Goals as goal

@@ -2,7 +2,7 @@ use Rattle.proof_prelude.proofs.{◌≡◌, ◌++◌, List, [], refl, sym, ap, s
 use Rattle.doc_json.specs.{Choice}
 use Rattle.couch_base.specs.{DatabaseValue, RowValue, chosen_feed}
 use Rattle.repl_peer.specs.{PeerValue}
-use Rattle.repl_survey.specs.{comparisons, total_of}
+use Rattle.repl_inspect.specs.{comparisons, total_of}
 use Rattle.script_databases.specs.{peer_at}
 use Rattle.read_commands.specs.{left_in, holds_in, rows_left, rows_walked, compared_line, compared_lines}
 use Rattle.read_commands.proofs.{Counted, compare_rest, left_found, holds_found, held_found}

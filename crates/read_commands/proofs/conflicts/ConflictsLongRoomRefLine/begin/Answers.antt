@@ -2,7 +2,7 @@ use Rattle.proof_prelude.proofs.{◌≡◌, Ok, Err, None, List, [], map, refl, 
 use Rattle.couch_base.specs.{RowValue, feed, chosen_feed, tree_of, chosen-all}
 use Rattle.doc_json.specs.{Choice}
 use Rattle.repl_peer.specs.{PeerValue}
-use Rattle.repl_survey.specs.{census_of, trees}
+use Rattle.repl_inspect.specs.{census_of, trees}
 use Rattle.script_engine.specs.{in_full}
 use Rattle.script_databases.specs.declared.refusal.Refusal.TheVariants as why
 use Rattle.read_commands.specs.{rows_left, conflict_line, conflicts_left, conflicts_line, FitsConflicts, ConflictsRest}

@@ -2,8 +2,8 @@ use Rattle.proof_prelude.proofs.{◌≡◌, ◌++◌, ℕ, List, [], None, map, 
 use Rattle.doc_json.specs.{Choice}
 use Rattle.couch_base.specs.{DatabaseValue, tree_of, RowValue, chosen_feed}
 use Rattle.repl_peer.specs.{PeerValue}
-use Rattle.repl_survey.specs.{census_of, trees, Census}
-use Rattle.repl_survey.proofs.{trees_all}
+use Rattle.repl_inspect.specs.{census_of, trees, Census}
+use Rattle.repl_inspect.proofs.{trees_all}
 use Rattle.read_commands.specs.{rows_left, rows_walked, conflict_line, conflicts_line, Walk}
 use Rattle.read_commands.proofs.{left_found, holds_found, held_found}
 use Rattle.command_api.proofs.{piece_on, piece_last}

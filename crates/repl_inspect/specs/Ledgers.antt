@@ -1,0 +1,14 @@
+-- Rows of a session's ledger: docs/PROFILE.md, "Settling".
+use Rattle.std.specs.Prelude.{◌≡◌}
+use Rattle.rev_core.specs.Ancestry.{head_of}
+use Rattle.std.specs.Prelude.{Some}
+use Rattle.repl_peer.specs.peer.Peer.{RefusedValue}
+use Rattle.repl_peer.specs.declared.fault.Reason.TheVariants as reasons
+use Rattle.repl_inspect.specs.declared.ledger.LedgerRow.{LedgerRow}
+use Rattle.repl_inspect.specs.declared.ledger.LedgerRow.TheVariants as rows
+
+-- what a row of a ledger says: of a document that the filter denied its newest revision, and of one that contradicted
+-- its tree the first such revision with the parent that is known and the one that was given
+abbrev pub Says : RefusedValue → LedgerRow → Type 0
+Says x (rows.Denied rev) = (x.reason ≡ reasons.Filtered) × (head_of x.doc.ancestry ≡ Some rev)
+Says x (rows.Contradicted rev known given) = x.reason ≡ reasons.Contradicting rev known given

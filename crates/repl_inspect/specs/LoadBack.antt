@@ -1,0 +1,34 @@
+-- Documents given to an empty database: docs/PROFILE.md, "Local writes", "Fetching" and "Merging".
+use Rattle.std.specs.Prelude.{◌+◌, ◌≤◌, List, [], ◌∷◌, length}
+use Rattle.std.specs.List.{flat_map}
+use Rattle.std.specs.Result.{IsOk}
+use Rattle.doc_json.specs.Document.{Document}
+use Rattle.doc_json.specs.Chosen.{Choice}
+use Rattle.couch_base.specs.Database.{DatabaseValue, most}
+use Rattle.couch_base.specs.Feed.{chosen_feed}
+use Rattle.couch_base.specs.Put.{put_answer}
+use Rattle.repl_peer.specs.peer.Peer.{PeerValue}
+use Rattle.repl_peer.specs.peer.Writing.{after_load}
+use Rattle.repl_target.specs.replication.Replication.{IsEmpty, SameDocuments}
+use Rattle.repl_inspect.specs.Documents.{documents_at}
+
+-- the documents of all leaves in a database's (chosen) feed, in its order, the winner of each first
+abbrev pub all_documents : Choice → DatabaseValue → List Document
+all_documents chosen db = flat_map (λ r. documents_at db r.id) (chosen_feed chosen db 0 db.update_seq)
+
+-- a peer after documents were loaded in their order
+abbrev pub after_loads : PeerValue → List Document → PeerValue
+after_loads p [] = p
+after_loads p (d ∷ ds) = after_loads (after_load p d) ds
+
+-- none of them is refused
+abbrev pub AllTaken : PeerValue → List Document → Type 0
+AllTaken p [] = Unit {0}
+AllTaken p (d ∷ ds) = IsOk (put_answer p.db d) × AllTaken (after_load p d) ds
+
+-- the documents of all leaves are all taken by an empty peer that has a sequence left for each, and make each chosen
+-- document as it is: the same revisions, parents and contents of leaves, and the same winner
+abbrev pub LoadBack : DatabaseValue → Type 0
+LoadBack db =
+    (chosen : Choice) (p : PeerValue) → IsEmpty p → p.db.update_seq + length (all_documents chosen db) ≤ most
+    → AllTaken p (all_documents chosen db) × SameDocuments chosen db (after_loads p (all_documents chosen db)).db

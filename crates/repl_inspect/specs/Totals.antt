@@ -1,0 +1,17 @@
+-- The total of some comparisons: docs/PROFILE.md, "Missing revisions" and "Merging".
+use Rattle.std.specs.Prelude.{List, length, is_some}
+use Rattle.std.specs.List.{sum_by, count_by}
+use Rattle.repl_inspect.specs.Comparing.{ComparisonValue}
+use Rattle.repl_inspect.specs.Counting.{counted}
+use Rattle.repl_inspect.specs.declared.total.Total.{Total}
+
+-- how many documents were compared, and leaves of them; how many of these leaves are missing; how many documents
+-- contradict; and how many leaves differ
+abbrev pub total_of : List ComparisonValue → Total
+total_of cs = record {
+  documents = counted (length cs);
+  leaves = counted (sum_by (λ (c : ComparisonValue). c.leaves) cs);
+  missing = counted (sum_by (λ (c : ComparisonValue). length c.missing) cs);
+  contradicting = counted (count_by (λ (c : ComparisonValue). is_some c.contradiction) cs);
+  differing = counted (sum_by (λ (c : ComparisonValue). length c.differing) cs);
+}

@@ -1,0 +1,92 @@
+//! How much a database holds.
+ghost use Rattle.std.specs.Prelude.{◌≡◌, ◌++◌, ◌∷◌, [], ◌≤◌, List, IfOk, OnOk, OnErr, map};
+ghost use Rattle.rev_tree.specs.Tree.{TreeValue};
+ghost use Rattle.couch_base.specs.Database.{tree_of};
+ghost use Rattle.repl_inspect.specs.Censuses.{census_of, trees};
+
+use crate::conflicts::live;
+use crate::counting::{plus, plus_if};
+use crate::trees::tree_or;
+use couch_base::{Database, Row};
+use rev_tree::Tree;
+use std::alloc::{AllocError, Global};
+
+/// How many rows of the feed are read at once.
+const PAGE: u64 = 1000;
+
+/// How much some documents are. Each count ends at 9,007,199,254,740,991.
+#[derive(Clone, Copy, Debug, PartialEq, Eq)]
+pub struct Census {
+    /// How many documents there are, deleted ones too.
+    pub documents: u64,
+    /// How many of these have no leaf that is not deleted.
+    pub deleted: u64,
+    /// How many of these are in conflict: two or more of their leaves are not deleted.
+    pub conflicts: u64,
+    /// How many leaves they have.
+    pub leaves: u64,
+    /// How many revisions they have.
+    pub revisions: u64,
+}
+
+impl Census {
+    /// That of no documents.
+    pub fn none() -> Census
+        ensures { result ≡ census_of [] }
+    {
+        Census {
+            documents: 0,
+            deleted: 0,
+            conflicts: 0,
+            leaves: 0,
+            revisions: 0,
+        }
+    }
+
+    /// Adds a document's tree to some. Where memory is refused, nothing is added.
+    pub fn add(&mut self, alloc: Global, tree: &Tree) -> Result<(), AllocError>
+        ensures ok { OnOk result ((earlier : List TreeValue) → self.old ≡ census_of earlier
+            → self.new ≡ census_of (earlier ++ tree.now ∷ [])) }
+        ensures err { OnErr result (self.new ≡ self.old) }
+    {
+        let live = live(alloc, tree)?.len();
+        self.documents = plus(self.documents, 1);
+        self.deleted = plus_if(self.deleted, live == 0);
+        self.conflicts = plus_if(self.conflicts, live >= 2);
+        self.leaves = plus(self.leaves, tree.leaf_count() as u64);
+        self.revisions = plus(self.revisions, tree.rev_count() as u64);
+        Ok(())
+    }
+}
+
+/// How much a database holds. Its feed is read in pages.
+pub fn census_of(alloc: Global, database: &Database) -> Result<Census, AllocError>
+    ensures { IfOk result (λ c. c ≡ census_of (trees database.now)) }
+{
+    let goal = database.update_seq();
+    let mut census = Census::none();
+    let mut since = 0;
+    while since < goal {
+        let page = database.page_due(alloc, since, goal, PAGE, None)?;
+        add_rows(alloc, database, page.rows(), &mut census)?;
+        since = page.hi();
+    }
+    Ok(census)
+}
+
+/// Adds the documents of some rows to some.
+fn add_rows(
+    alloc: Global,
+    database: &Database,
+    rows: &[Row],
+    census: &mut Census,
+) -> Result<(), AllocError>
+    ensures { OnOk result ((earlier : List TreeValue) → census.old ≡ census_of earlier
+        → census.new ≡ census_of (earlier ++ map (λ r. tree_of database.now.docs r.id) rows.now)) }
+{
+    let none = Tree::new(alloc);
+    for row in rows {
+        census.add(alloc, tree_or(database, row.id(), &none))?;
+    }
+    Ok(())
+}

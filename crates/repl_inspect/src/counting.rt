@@ -1,0 +1,22 @@
+//! Counts of documents and revisions.
+ghost use Rattle.std.specs.Prelude.{◌≡◌, ◌+◌, if◌then◌else◌};
+ghost use Rattle.repl_inspect.specs.Counting.{counted};
+
+use couch_base::MOST_SEQUENCE;
+
+/// The sum of two counts. It ends at 9,007,199,254,740,991, as what is counted of documents and revisions does.
+pub(crate) fn plus(count: u64, more: u64) -> u64
+    ensures { result ≡ counted (count + more) }
+{
+    if count > MOST_SEQUENCE || more > MOST_SEQUENCE - count {
+        return MOST_SEQUENCE;
+    }
+    count + more
+}
+
+/// One more where a test holds.
+pub(crate) fn plus_if(count: u64, holds: bool) -> u64
+    ensures { result ≡ counted (count + (if holds then 1 else 0)) }
+{
+    plus(count, u64::from(holds))
+}

@@ -1,0 +1,39 @@
+//! The whole feed of a source, compared with a target, and what that says of the leaves that the target covers.
+ghost use Rattle.std.specs.Prelude.{◌≡◌, IfOk};
+ghost use Rattle.std.specs.Option.{option_copied};
+ghost use Rattle.couch_base.specs.Feed.{chosen_feed};
+ghost use Rattle.repl_target.specs.Audit.{CoversFeed};
+ghost use Rattle.repl_inspect.specs.Comparisons.{comparisons};
+ghost use Rattle.repl_inspect.specs.Covering.{HasNoLedger, MissingIsRefused};
+ghost use Rattle.repl_inspect.specs.Totals.{total_of};
+
+use crate::feed::compare_databases;
+use crate::total::Total;
+use doc_json::Chosen;
+use repl_target::{Peer, WriteFilter};
+use std::alloc::{AllocError, Global};
+
+/// The total of what a target misses of a source's whole feed, or of that of chosen documents. No log is looked at, and
+/// the source's feed is read in pages.
+///
+/// No leaf is missing: then the target covers the whole feed. And where the target covers the whole feed, each leaf that
+/// is missing stands in a ledger of the target, so that none is missing where no ledger has a row.
+pub fn compare_feed<F: WriteFilter, G: WriteFilter>(
+    alloc: Global,
+    source: &Peer<F>,
+    target: &Peer<G>,
+    chosen: Option<&Chosen>,
+) -> Result<Total, AllocError>
+    ensures total { IfOk result (λ t. t ≡ total_of (comparisons source.now.1.db target.now.1.db
+        (chosen_feed (option_copied chosen.entry) source.now.1.db 0 source.now.1.db.update_seq))) }
+    ensures covers { IfOk result (λ t. t.missing ≡ 0
+        → CoversFeed source.now.1 target.now.1 (option_copied chosen.entry) source.now.1.db.update_seq) }
+    ensures whole { IfOk result (λ t. HasNoLedger target.now.1
+        → CoversFeed source.now.1 target.now.1 (option_copied chosen.entry) source.now.1.db.update_seq
+        → t.missing ≡ 0) }
+    ensures refused { CoversFeed source.now.1 target.now.1 (option_copied chosen.entry) source.now.1.db.update_seq
+        → MissingIsRefused source.now.1 target.now.1 (option_copied chosen.entry) }
+{
+    source.law();
+    compare_databases(alloc, source.db(), target.db(), chosen)
+}

@@ -1,0 +1,63 @@
+//! A document's leaves, each as a document.
+ghost use Rattle.std.specs.Prelude.{◌≡◌, true, map, IfOk};
+ghost use Rattle.std.specs.List.{list_all};
+ghost use Rattle.rev_tree.specs.Tree.{is_leaf};
+ghost use Rattle.couch_base.specs.Database.{tree_of};
+ghost use Rattle.couch_base.specs.Messages.{leaf_document};
+ghost use Rattle.repl_inspect.specs.Documents.{documents_at};
+ghost use Rattle.repl_inspect.specs.LoadBack.{LoadBack};
+
+use crate::trees::tree_or;
+use couch_base::Database;
+use doc_json::{Doc, DocId};
+use rev_core::Rev;
+use rev_tree::Tree;
+use std::alloc::{AllocError, Global};
+
+/// The leaves of a document, winner first, each as a document with its whole known ancestry and its content. None where
+/// the database hasn't the document.
+///
+/// Those of all rows of a feed, loaded in their order into a peer without documents and sessions that has a sequence left
+/// for each of them, are all taken, and make each chosen document as it is here.
+pub fn documents_of(alloc: Global, database: &Database, id: &DocId) -> Result<Vec<Doc>, AllocError>
+    ensures documents { IfOk result (λ v. v.items ≡ documents_at database.now id.now) }
+    ensures documents_load_back { LoadBack database.now }
+{
+    database.law();
+    let none = Tree::new(alloc);
+    let leaves = tree_or(database, id, &none).leaves(alloc)?;
+    documents_at(alloc, database, id, leaves.as_slice())
+}
+
+/// Some leaves of a document, each as a document.
+fn documents_at(
+    alloc: Global,
+    database: &Database,
+    id: &DocId,
+    leaves: &[Rev],
+) -> Result<Vec<Doc>, AllocError>
+    requires { list_all (is_leaf (tree_of database.now.docs id.now)) leaves.now ≡ true }
+    ensures { IfOk result (λ v. v.items ≡ map (leaf_document id.now (tree_of database.now.docs id.now)) leaves.now) }
+{
+    let mut found = Vec::with_capacity(alloc, leaves.len())?;
+    for leaf in leaves {
+        let doc = leaf_document(alloc, database, id, *leaf)?;
+        found.push(doc)?;
+    }
+    Ok(found)
+}
+
+/// A leaf of a document, at which a content always stands, as a document with its ancestry and that content.
+pub fn leaf_document(
+    alloc: Global,
+    database: &Database,
+    id: &DocId,
+    leaf: Rev,
+) -> Result<Doc, AllocError>
+    requires { is_leaf (tree_of database.now.docs id.now) leaf ≡ true }
+    ensures { IfOk result (λ d. d ≡ leaf_document id.now (tree_of database.now.docs id.now) leaf) }
+{
+    database.law();
+    let found = database.document(alloc, id, leaf)?;
+    Ok(found.unwrap())
+}

@@ -1,0 +1,73 @@
+//! Documents of a source, one and those of its whole feed, compared with a target.
+ghost use Rattle.std.specs.Prelude.{◌≡◌, ◌++◌, List, IfOk, OnOk};
+ghost use Rattle.std.specs.Option.{option_copied};
+ghost use Rattle.couch_base.specs.Feed.{chosen_feed};
+ghost use Rattle.repl_inspect.specs.Comparing.{ComparisonValue};
+ghost use Rattle.repl_inspect.specs.Comparisons.{compared_at, comparisons};
+ghost use Rattle.repl_inspect.specs.Totals.{total_of};
+
+use crate::comparison::{Comparison, compare_trees};
+use crate::total::Total;
+use crate::trees::tree_or;
+use couch_base::{Database, Row};
+use doc_json::{Chosen, DocId};
+use rev_tree::Tree;
+use std::alloc::{AllocError, Global};
+
+/// How many rows of the source's feed are read at once.
+const PAGE: u64 = 1000;
+
+/// Compares a document of a source with the target's: by their trees alone, whatever was replicated. A database that
+/// hasn't the document has no revisions of it.
+pub fn compare(
+    alloc: Global,
+    source: &Database,
+    target: &Database,
+    id: &DocId,
+) -> Result<Comparison, AllocError>
+    ensures { IfOk result (λ c. c ≡ compared_at source.now target.now id.now) }
+{
+    let none = Tree::new(alloc);
+    let ours = tree_or(source, id, &none);
+    let theirs = tree_or(target, id, &none);
+    compare_trees(alloc, ours, theirs)
+}
+
+/// The total of what a target's database misses of a source's feed.
+pub(crate) fn compare_databases(
+    alloc: Global,
+    source: &Database,
+    target: &Database,
+    chosen: Option<&Chosen>,
+) -> Result<Total, AllocError>
+    ensures { IfOk result (λ t. t ≡ total_of (comparisons source.now target.now
+        (chosen_feed (option_copied chosen.entry) source.now 0 source.now.update_seq))) }
+{
+    let goal = source.update_seq();
+    let mut total = Total::none();
+    let mut since = 0;
+    while since < goal {
+        let page = source.page_due(alloc, since, goal, PAGE, chosen)?;
+        add_rows(alloc, source, target, page.rows(), &mut total)?;
+        since = page.hi();
+    }
+    Ok(total)
+}
+
+/// Adds the comparisons of some rows to the total of some.
+fn add_rows(
+    alloc: Global,
+    source: &Database,
+    target: &Database,
+    rows: &[Row],
+    total: &mut Total,
+) -> Result<(), AllocError>
+    ensures { OnOk result ((earlier : List ComparisonValue) → total.old ≡ total_of earlier
+        → total.new ≡ total_of (earlier ++ comparisons source.now target.now rows.now)) }
+{
+    for row in rows {
+        let comparison = compare(alloc, source, target, row.id())?;
+        total.add(&comparison);
+    }
+    Ok(())
+}

@@ -1,0 +1,34 @@
+//! Rows of a session's ledger.
+ghost use Rattle.repl_inspect.specs.Ledgers.{Says};
+
+use repl_target::{Reason, Refused};
+use rev_core::Rev;
+
+/// Why a document was refused, and of which revision that is said.
+#[derive(Clone, Copy, Debug)]
+pub enum LedgerRow {
+    /// The write filter refuses the document, whose newest revision this is.
+    Denied { rev: Rev },
+    /// The document's ancestry gives this revision another parent than the tree knows: the first such one, newest first.
+    Contradicted { rev: Rev, known: Rev, given: Rev },
+}
+
+/// What a row of a ledger says of its document.
+pub fn ledger_row(refused: &Refused) -> LedgerRow
+    ensures { Says refused.now result }
+{
+    match refused.reason() {
+        Reason::Filtered => LedgerRow::Denied {
+            rev: refused.doc().ancestry().head(),
+        },
+        Reason::Contradicting {
+            child,
+            known,
+            given,
+        } => LedgerRow::Contradicted {
+            rev: child,
+            known,
+            given,
+        },
+    }
+}
