@@ -5,7 +5,7 @@ use crate::replications::{is_memory, is_nothing, plan};
 use anyhow::{Result, bail};
 use couch_base::BaseFault;
 use repl_log::Moment;
-use repl_net::{Hop, Net, NetFault};
+use repl_network::{Hop, Net, NetFault};
 use repl_target::{Plan, Rules};
 use std::alloc::Global;
 

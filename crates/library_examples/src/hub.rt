@@ -2,7 +2,7 @@
 use anyhow::Result;
 use doc_json::{DocId, read_body};
 use repl_log::Moment;
-use repl_net::Net;
+use repl_network::Net;
 use repl_target::{Audit, Peer, Plan, Rules};
 use rev_core::Rev;
 use rev_tree::SessionId;

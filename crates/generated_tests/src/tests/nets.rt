@@ -8,7 +8,7 @@ use crate::tests::plain_sides::IDS;
 use crate::tests::syncs::{assert_same, body, leaf, plan};
 use rand_chacha::ChaCha8Rng;
 use rand_core::SeedableRng;
-use repl_net::{Hop, Net};
+use repl_network::{Hop, Net};
 use repl_target::{Audit, Peer, Plan, Rules};
 use rev_core::Rev;
 use std::alloc::Global;

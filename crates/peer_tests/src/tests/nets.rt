@@ -7,7 +7,7 @@ use crate::tests::records::fault_text;
 use crate::tests::texts::{base_fault_text, body, doc, expect_answer, joined};
 use couch_base::Database;
 use doc_json::DocId;
-use repl_net::{Hop, Net, NetFault, edit_at, load_at, replicate_along, sync_by_hub};
+use repl_network::{Hop, Net, NetFault, edit_at, load_at, replicate_along, sync_by_hub};
 use repl_target::{Peer, Plan, Rules};
 use rev_tree::SessionId;
 use std::alloc::Global;

@@ -1,9 +1,0 @@
-use Rattle.proof_prelude.proofs.{ℕ, ◌<◌}
-use Rattle.couch_base.specs.{LawfulDatabase}
-use Rattle.repl_peer.specs.{PeerValue}
-use Rattle.repl_net.specs.{peers_of, IsAt}
-use Rattle.repl_net.proofs.along.hold_laws.Given as goal
-
--- those so far keep it
-abbrev pub invariant-loop-peer : goal.invariant-loop-peer
-invariant-loop-peer g l = (n : ℕ) (p : PeerValue) → n < l.peer-index → IsAt (peers_of l.peers) n p → LawfulDatabase p.db

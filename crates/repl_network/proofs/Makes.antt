@@ -1,0 +1,121 @@
+-- What edits alone have made agrees, where no two of them have one MD5; and it stays made by them.
+use Rattle.proof_prelude.proofs.{◌≡◌, ℕ, Bool, true, false, List, [], ◌∷◌, ◌++◌, ◌⊎◌, length, Option, Some, None, is_some, Result, Ok, Err, refl, sym, ap, ◌∙◌, subst, inl, inr, bytes_eq, option_to_list, get, get-empty, eq_by_cmp, false≢true, cases_Bool, cond_both, same_Some, bytes_eq-Decides}
+use Rattle.rev_core.specs.{RevId, rev_cmp, rev_tie_is, edges_of, edit_rev}
+use Rattle.rev_tree.specs.{ContentValue, TreeValue, at_head, Agree, IsGrownBy}
+use Rattle.couch_base.specs.{Id, tree_of, content_of, edited, edit_document, BaseFault}
+use Rattle.repl_peer.specs.{PeerValue, new_peer, after_edit}
+use Rattle.repl_network.specs.{Hop, IsAt, peers_of, tree_alone, IsRooted, IsRootedAt, IsChangedAt, EditValue, Makes, IsMadeBy, AllMadeBy, HaveNoCollision, IsOneOf, MadeAgree, StaysMade}
+use Rattle.repl_network.specs.Hopped.{Hopped}
+use Rattle.repl_network.proofs.Trees.{alone, IsWhole-grown}
+use Rattle.repl_network.proofs.Edits.{edit_rooted, edit_makes, sig_of}
+use Rattle.repl_network.proofs.Closed.{old_or_new, peers_more}
+use Rattle.repl_network.proofs.Hops.{was}
+use Rattle.repl_network.proofs.Writes as writes
+
+-- ---- agreement
+
+one_edit : (among : EditValue → Bool) → HaveNoCollision among → (e f : EditValue) (r : RevId) → among e ≡ true → among f ≡ true → Makes e r → Makes f r → e ≡ f
+one_edit among apart e f r a b m n = apart e f a b (sig_of e.before e.deleted e.body r m ∙ sym (sig_of f.before f.deleted f.body r n))
+
+pub made_agree : (peers : List PeerValue) → MadeAgree peers
+made_agree peers among apart id made = (
+  λ m n p q a b. both (tree_of p.db.docs id) (tree_of q.db.docs id) (made m p a) (made n q b),
+  λ n p at. (made n p at).whole,
+)
+  where
+    both : (s t : TreeValue) → IsMadeBy among s → IsMadeBy among t → Agree s t
+    both s t x y = record {
+      parents = λ c p q h k.
+          (let e = x.parents c p h in
+          let f = y.parents c q k in
+          let same = one_edit among apart e.0 f.0 c e.1 f.1 e.2 f.2 in
+          same_Some p q (sym e.3 ∙ (ap (λ (z : EditValue). z.before) same ∙ f.3)));
+      contents = λ r b d h k.
+          (let e = x.contents r b h in
+          let f = y.contents r d k in
+          let same = one_edit among apart e.0 f.0 r e.1 f.1 e.2 f.2 in
+          sym e.3 ∙ (ap (λ (z : EditValue). content_of z.deleted z.body) same ∙ f.3));
+    }
+
+-- ---- it stays made
+
+module _ (among : EditValue → Bool) where
+  grown : (s by s' : TreeValue) → IsGrownBy s by s' → IsMadeBy among s → IsMadeBy among by → IsMadeBy among s'
+  grown s by s' g x y = record {
+    parents = λ c p h. elim (g.parents c p h) [ inl own ↦ x.parents c p own | inr new ↦ y.parents c p new ];
+    contents = λ r b h. elim (g.contents r b h) [ inl own ↦ x.contents r b own | inr new ↦ y.contents r b new ];
+    whole = IsWhole-grown s by s' g x.whole y.whole;
+  }
+
+  pub hop_made : (peers : List PeerValue) (hop : Hop) (peers' : List PeerValue) → Hopped peers hop peers' → (id : Id) → AllMadeBy among peers id → AllMadeBy among peers' id
+  hop_made peers hop peers' h id made n p at =
+      let x = was peers hop peers' h n p at in
+      grown (tree_of x.0.db.docs id) (tree_of h.source.db.docs id) (tree_of p.db.docs id) (x.2.grown id) (made n x.0 x.1) (made hop.from h.source h.from)
+
+  -- the document of an edit, but for where it begins
+  module _ (id : Id) (deleted : Bool) (body : List ℕ) (rev : RevId) where
+    edge_of : (before : Option RevId) → edit_rev before deleted body ≡ Ok rev → among (record { before = before; deleted = deleted; body = body }) ≡ true → (c p : RevId) → get (tree_alone (edit_document id (rev, before) deleted body)).parents c ≡ Some p
+        → (e : EditValue) × (among e ≡ true) × Makes e c × (e.before ≡ Some p)
+    edge_of None makes one c p h = absurd (false≢true (ap is_some (sym (alone (edges_of (rev ∷ [])) c) ∙ h)))
+    edge_of (Some b) makes one c p h =
+        cond_both (eq_by_cmp rev_cmp c rev) (Some b) None (λ (o : Option RevId). o ≡ Some p → (e : EditValue) × (among e ≡ true) × Makes e c × (e.before ≡ Some p))
+        (λ tie k. (record { before = Some b; deleted = deleted; body = body }, one, makes ∙ ap Ok (sym (rev_tie_is c rev tie)), k))
+        (λ _ k. absurd (false≢true (ap is_some k)))
+        (sym (alone (edges_of (rev ∷ b ∷ [])) c) ∙ h)
+
+    content_at : (before : Option RevId) → edit_rev before deleted body ≡ Ok rev → among (record { before = before; deleted = deleted; body = body }) ≡ true → (r : RevId) (x : ContentValue) → get (tree_alone (edit_document id (rev, before) deleted body)).contents r ≡ Some x
+        → (e : EditValue) × (among e ≡ true) × Makes e r × (content_of e.deleted e.body ≡ x)
+    content_at before makes one r x h =
+        cond_both (eq_by_cmp rev_cmp r rev) (Some (content_of deleted body)) None (λ (o : Option ContentValue). o ≡ Some x → (e : EditValue) × (among e ≡ true) × Makes e r × (content_of e.deleted e.body ≡ x))
+        (λ tie k. (record { before = before; deleted = deleted; body = body }, one, makes ∙ ap Ok (sym (rev_tie_is r rev tie)), same_Some (content_of deleted body) x k))
+        (λ _ k. absurd (false≢true (ap is_some k)))
+        (sym (alone (at_head (rev ∷ option_to_list before) (content_of deleted body)) r) ∙ h)
+
+  module _ (peers : List PeerValue) (place : ℕ) (id : Id) (parent : Option RevId) (deleted : Bool) (body : List ℕ) (peers' : List PeerValue) (w : IsChangedAt place (λ p. after_edit p id parent deleted body) peers peers')
+      (one : IsOneOf among peers place id parent deleted body) where
+    own_made : (e : RevId × Option RevId) → edited w.before.db id parent deleted body ≡ Ok e → AllMadeBy among peers id → AllMadeBy among peers' id
+    own_made e is made n p at =
+        let d = edit_document id e deleted body in
+        let put = writes.put_of peers place id parent deleted body peers' w e is in
+        let x = writes.tree_at peers place d peers' put n p at (writes.where_is peers place d peers' put n) in
+        let was = made n x.0 x.1 in
+        let makes = edit_makes w.before.db id parent deleted body e is in
+        let rooted : IsRootedAt peers place d = λ q here. subst (λ (y : PeerValue). IsRooted y.db d) (writes.one_peer peers place w.before q w.at here) (edit_rooted w.before.db id parent deleted body e is) in
+        record {
+          parents = λ c q h. elim (x.2.parents c q h) [ inl own ↦ was.parents c q own | inr new ↦ edge_of id deleted body e.0 e.1 makes (one w.before w.at e is) c q new ];
+          contents = λ r b h. elim (x.2.contents r b h) [ inl own ↦ was.contents r b own | inr new ↦ content_at id deleted body e.0 e.1 makes (one w.before w.at e is) r b new ];
+          whole = writes.wrote_whole peers place d peers' put (λ m q k. (made m q k).whole) rooted n p at;
+        }
+
+    other_made : (e : RevId × Option RevId) → edited w.before.db id parent deleted body ≡ Ok e → (other : Id) → bytes_eq id other ≡ false → AllMadeBy among peers other → AllMadeBy among peers' other
+    other_made e is other apart made n p at =
+        let d = edit_document id e deleted body in
+        let put = writes.put_of peers place id parent deleted body peers' w e is in
+        let x = writes.same_at peers place d peers' put other apart n p at (writes.where_is peers place d peers' put n) in
+        subst (IsMadeBy among) (sym x.2) (made n x.0 x.1)
+
+    made_by : (r : Result (RevId × Option RevId) BaseFault) → edited w.before.db id parent deleted body ≡ r → (at : Id) → AllMadeBy among peers at → AllMadeBy among peers' at
+    made_by (Err why) is at made = λ n p here. made n p (writes.before_at peers peers' (writes.none_of peers place id parent deleted body peers' w why is) n p here)
+    made_by (Ok e) is at made =
+        elim (cases_Bool (bytes_eq id at)) [
+          | inl same ↦ (let equal = (bytes_eq-Decides id at).0 same in subst (AllMadeBy among peers') equal (own_made e is (subst (AllMadeBy among peers) (sym equal) made)))
+          | inr apart ↦ other_made e is at apart made
+        ]
+
+    pub edit_made : (at : Id) → AllMadeBy among peers at → AllMadeBy among peers' at
+    edit_made at made = made_by (edited w.before.db id parent deleted body) refl at made
+
+-- a new peer has no documents
+in_old_or_new : (among : EditValue → Bool) (peers : List PeerValue) (uuid : ℕ) (id : Id) → AllMadeBy among peers id → (n : ℕ) (p : PeerValue) → IsAt peers n p ⊎ ((n ≡ length peers) × (new_peer uuid ≡ p)) → IsMadeBy among (tree_of p.db.docs id)
+in_old_or_new among peers uuid id made n p (inl old) = made n p old
+in_old_or_new among peers uuid id made n p (inr new) = subst (λ (x : PeerValue). IsMadeBy among (tree_of x.db.docs id)) new.1 (record {
+  parents = λ c q h. absurd (false≢true (ap is_some (sym (get-empty rev_cmp c) ∙ h)));
+  contents = λ r b h. absurd (false≢true (ap is_some (sym (get-empty rev_cmp r) ∙ h)));
+  whole = λ r there none. absurd (false≢true (sym (ap is_some (get-empty rev_cmp r)) ∙ there));
+})
+
+pub added_made : {F : Type 0} (peers : List (F × PeerValue)) (filter : F) (x : F × PeerValue) (uuid : ℕ) → x ≡ (filter, new_peer uuid) → StaysMade (peers_of peers) (peers_of (peers ++ x ∷ []))
+added_made {F = F} peers filter x uuid is among id made n p at =
+    let one : x.1 ≡ new_peer uuid = ap (λ (y : F × PeerValue). y.1) is in
+    let there : IsAt (peers_of peers ++ new_peer uuid ∷ []) n p = subst (λ q. IsAt (peers_of peers ++ q ∷ []) n p) one (subst (λ ps. IsAt ps n p) (peers_more peers x) at) in
+    in_old_or_new among (peers_of peers) uuid id made n p (old_or_new (peers_of peers) (new_peer uuid) n p there)

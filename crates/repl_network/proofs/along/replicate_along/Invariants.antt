@@ -1,0 +1,17 @@
+use Rattle.proof_prelude.proofs.{◌≡◌, List, drop}
+use Rattle.repl_peer.specs.{PeerValue}
+use Rattle.repl_network.specs.{peers_of, filters_of, AreTied, IsNet, AllHopped, AllLawful, StaysMade}
+use Rattle.repl_network.proofs.{IsOnTheWay}
+use Rattle.repl_network.proofs.along.replicate_along.Given as goal
+
+-- what the hops that are left make of the peers is what all make of them as they were
+abbrev pub invariant-loop-hop : goal.invariant-loop-hop
+invariant-loop-hop g l =
+    (l.at ≡ l.hop-index)
+    × AllLawful (peers_of l.initial.peers)
+    × (AreTied (peers_of l.initial.peers) → AreTied (peers_of l.peers))
+    × (IsNet (peers_of l.initial.peers) → IsNet (peers_of l.peers))
+    × StaysMade (peers_of l.initial.peers) (peers_of l.peers)
+    × ((end : List PeerValue) → AllHopped (peers_of l.peers) (drop l.hop-index l.hops) end → AllHopped (peers_of l.initial.peers) l.hops end)
+    × (filters_of l.peers ≡ filters_of l.initial.peers)
+    × IsOnTheWay g.F.WriteFilter.refuses l.initial.peers l.hop-index l.peers l.hops

@@ -1,0 +1,57 @@
+-- What a replication leaves of two peers of a net, and of the net.
+use Rattle.std.specs.Prelude.{◌≡◌, ◌≢◌, ℕ, Bool, List, [], ◌∷◌, slice_get}
+use Rattle.doc_json.specs.Document.{Document}
+use Rattle.couch_base.specs.Database.{LawfulDatabase}
+use Rattle.repl_peer.specs.peer.Peer.{PeerValue}
+use Rattle.repl_peer.specs.peer.Law.{LawfulSessions}
+use Rattle.repl_target.specs.Audit.{CoversFeed}
+use Rattle.repl_target.specs.ties.Ties.{IsTiedPair}
+use Rattle.repl_target.specs.declared.replication.Plan.{Plan}
+use Rattle.repl_target.specs.replication.Leaves.{Leaves}
+use Rattle.repl_network.specs.declared.hop.Hop.{Hop}
+use Rattle.repl_network.specs.Nets.{IsAt}
+
+-- the two, whatever it answers, by one thread or by many
+pub record Carried (refuses : Document → Bool) (source target : PeerValue) (plan : Plan) (source' target' : PeerValue) : Type 0
+  where
+    pub source_law : LawfulDatabase source.db
+    pub sessions_law : LawfulSessions refuses target
+    pub target_law : LawfulDatabase target'.db
+    pub leaves : Leaves refuses source target plan source' target'
+
+-- the net: whoever isn't one of the two is as before
+pub record Hopped (peers : List PeerValue) (hop : Hop) (peers' : List PeerValue) : Type 0 where
+  pub refuses : Document → Bool
+  pub source : PeerValue
+  pub target : PeerValue
+  pub source_then : PeerValue
+  pub target_then : PeerValue
+  pub two : hop.from ≢ hop.to
+  pub from : IsAt peers hop.from source
+  pub to : IsAt peers hop.to target
+  pub from_then : IsAt peers' hop.from source_then
+  pub to_then : IsAt peers' hop.to target_then
+  pub others : (n : ℕ) → n ≢ hop.from → n ≢ hop.to → slice_get peers' n ≡ slice_get peers n
+  pub carried : Carried refuses source target hop.plan source_then target_then
+
+-- where it was Ok, the source's whole chosen feed is covered then
+pub record Ended (peers : List PeerValue) (hop : Hop) (peers' : List PeerValue) : Type 0 where
+  pub hopped : Hopped peers hop peers'
+  pub whole : IsTiedPair hopped.source hopped.target hop.plan.chosen
+      → CoversFeed hopped.source hopped.target_then hop.plan.chosen hopped.source.db.update_seq
+
+-- some that were Ok, one behind the other
+abbrev pub AllHopped : List PeerValue → List Hop → List PeerValue → Type 0
+AllHopped peers [] peers' = peers' ≡ peers
+AllHopped peers (hop ∷ hops) peers' = (mid : List PeerValue) × Ended peers hop mid × AllHopped mid hops peers'
+
+-- each database keeps its law
+abbrev pub AllLawful : List PeerValue → Type 0
+AllLawful peers = (n : ℕ) (p : PeerValue) → IsAt peers n p → LawfulDatabase p.db
+
+-- one peer has changed, and nobody else
+pub record IsChangedAt (place : ℕ) (change : PeerValue → PeerValue) (peers peers' : List PeerValue) : Type 0 where
+  pub before : PeerValue
+  pub at : IsAt peers place before
+  pub at_then : IsAt peers' place (change before)
+  pub others : (n : ℕ) → n ≢ place → slice_get peers' n ≡ slice_get peers n

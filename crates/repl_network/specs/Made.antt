@@ -1,0 +1,56 @@
+-- Documents that edits alone have made: docs/PROFILE.md, "Nets" and "Ids of local edits".
+use Rattle.std.specs.Prelude.{◌≡◌, ℕ, Bool, true, List, Option, Some, Ok}
+use Rattle.std.specs.FinMap.{get}
+use Rattle.rev_core.specs.Rev.{RevId}
+use Rattle.rev_core.specs.NewRev.{edit_sig, edit_rev}
+use Rattle.rev_tree.specs.Content.{ContentValue}
+use Rattle.rev_tree.specs.Tree.{TreeValue}
+use Rattle.rev_tree.specs.Agreement.{IsWhole}
+use Rattle.couch_base.specs.Database.{Id, tree_of}
+use Rattle.couch_base.specs.Put.{content_of}
+use Rattle.couch_base.specs.Edit.{edited}
+use Rattle.repl_peer.specs.peer.Peer.{PeerValue}
+use Rattle.repl_network.specs.Nets.{IsAt, AllAgree, AllWhole}
+
+-- an edit: the revision that it stands on, whether it deletes, and its body
+pub record EditValue : Type 0 where
+  pub before : Option RevId
+  pub deleted : Bool
+  pub body : List ℕ
+
+-- it makes this revision
+abbrev pub Makes : EditValue → RevId → Type 0
+Makes e r = edit_rev e.before e.deleted e.body ≡ Ok r
+
+-- each parent and each content in a tree was given by one of some edits, and no history is cut off
+pub record IsMadeBy (among : EditValue → Bool) (t : TreeValue) : Type 0 where
+  pub parents : (c p : RevId) → get t.parents c ≡ Some p
+      → (e : EditValue) × (among e ≡ true) × Makes e c × (e.before ≡ Some p)
+  pub contents : (r : RevId) (b : ContentValue) → get t.contents r ≡ Some b
+      → (e : EditValue) × (among e ≡ true) × Makes e r × (content_of e.deleted e.body ≡ b)
+  pub whole : IsWhole t
+
+abbrev pub AllMadeBy : (EditValue → Bool) → List PeerValue → Id → Type 0
+AllMadeBy among peers id = (n : ℕ) (p : PeerValue) → IsAt peers n p → IsMadeBy among (tree_of p.db.docs id)
+
+-- no two different ones of them have one MD5
+abbrev pub HaveNoCollision : (EditValue → Bool) → Type 0
+HaveNoCollision among =
+    (e f : EditValue) → among e ≡ true → among f ≡ true
+    → edit_sig e.before e.deleted e.body ≡ edit_sig f.before f.deleted f.body → e ≡ f
+
+-- an edit at a place, where it isn't refused, is one of them
+abbrev pub IsOneOf : (EditValue → Bool) → List PeerValue → ℕ → Id → Option RevId → Bool → List ℕ → Type 0
+IsOneOf among peers place id parent deleted body =
+    (p : PeerValue) → IsAt peers place p → (e : RevId × Option RevId) → edited p.db id parent deleted body ≡ Ok e
+    → among (record { before = e.1; deleted = deleted; body = body }) ≡ true
+
+-- so what edits without a collision have made agrees everywhere, and is whole
+abbrev pub MadeAgree : List PeerValue → Type 0
+MadeAgree peers =
+    (among : EditValue → Bool) → HaveNoCollision among → (id : Id) → AllMadeBy among peers id
+    → AllAgree peers id × AllWhole peers id
+
+-- and stays made so
+abbrev pub StaysMade : List PeerValue → List PeerValue → Type 0
+StaysMade peers peers' = (among : EditValue → Bool) (id : Id) → AllMadeBy among peers id → AllMadeBy among peers' id

@@ -1,0 +1,195 @@
+//! Replications in a net.
+ghost use Rattle.std.specs.Prelude.{◌≡◌, Bool, ◌≢◌, ◌<◌, ◌≤◌, length, OnOk, OnErr, slice_get};
+ghost use Rattle.repl_network.specs.Nets.{peers_of, filters_of, AreTied, IsNet, Spread, FitsIn, IsRootedAt, EditFits, KeepsAgreement};
+ghost use Rattle.repl_network.specs.Made.{EditValue, IsOneOf, AllMadeBy, StaysMade};
+ghost use Rattle.repl_network.specs.Hopped.{Carried, Hopped, Ended, AllHopped, AllLawful, IsChangedAt};
+ghost use Rattle.repl_network.specs.Taken.{IsHop, TakesHop, TakesHops, AnswersAt};
+ghost use Rattle.repl_target.specs.replication.Replication.{Replicates};
+ghost use Rattle.couch_base.specs.Put.{PutGives, put_answer};
+ghost use Rattle.couch_base.specs.Edit.{EditGives, edit_answer};
+ghost use Rattle.repl_target.specs.Audit.{CoversFeed};
+ghost use Rattle.repl_target.specs.ties.Ties.{IsTiedPair};
+ghost use Rattle.repl_peer.specs.peer.Writing.{after_load, after_edit};
+ghost use Rattle.couch_base.specs.Database.{Id, LawfulDatabase};
+
+use crate::fault::NetFault;
+use crate::hop::Hop;
+use couch_base::Put;
+use doc_json::{Body, Doc, DocId};
+use repl_target::{Peer, Plan, Report, TargetFault, WriteFilter, replicate_alone};
+use rev_core::Rev;
+use std::alloc::Global;
+
+/// Replicates along hops between the peers of a net, one behind the other, until one is refused. Each is
+/// `replicate_alone` by its plan, whose session is of its own target.
+///
+/// Peers of which every two are tied each way (docs/PROFILE.md, "Nets") stay so, whatever the answer. At `Ok`, of a
+/// document that each plan chooses and that nobody has refused, and whose trees agreed and were whole: where a chain of
+/// the hops leads from every place to every other, it is the same everywhere, and so has the same winner; and the
+/// premises hold again.
+pub fn replicate_along<F: WriteFilter>(
+    alloc: Global,
+    peers: &mut [Peer<F>],
+    hops: &[Hop],
+) -> Result<(), NetFault>
+    ensures taken { TakesHops F.refuses 0 peers.old hops.now result peers.new }
+    ensures filters { filters_of peers.new ≡ filters_of peers.old }
+    ensures tied { AreTied (peers_of peers.old) → AreTied (peers_of peers.new) }
+    ensures net { IsNet (peers_of peers.old) → IsNet (peers_of peers.new) }
+    ensures made { StaysMade (peers_of peers.old) (peers_of peers.new) }
+    ensures spread { OnOk result
+        (AreTied (peers_of peers.old) → Spread (peers_of peers.old) hops.now (peers_of peers.new)) }
+{
+    hold_laws(peers);
+    let mut at = 0;
+    for hop in hops {
+        take_hop(alloc, peers, at, hop)?;
+        at += 1;
+    }
+    Ok(())
+}
+
+/// Puts a document of the user's own at one peer of a net: `Peer::load`.
+///
+/// Tied peers stay tied, whatever the answer. Where the document gives no revision another parent or another content
+/// than a peer does, and is cut off nowhere but at what its peer has, trees that agreed and were whole do and are so
+/// still.
+pub fn load_at<F: WriteFilter>(
+    peers: &mut [Peer<F>],
+    place: usize,
+    doc: &Doc,
+) -> Result<Put, NetFault>
+    ensures answer { AnswersAt (peers_of peers.old) place (λ p r. PutGives r (put_answer p.db doc.now)) result }
+    ensures filters { filters_of peers.new ≡ filters_of peers.old }
+    ensures tied { AreTied (peers_of peers.old) → AreTied (peers_of peers.new) }
+    ensures net { IsNet (peers_of peers.old) → IsNet (peers_of peers.new) }
+    ensures ok { OnOk result (IsChangedAt place (λ p. after_load p doc.now) (peers_of peers.old) (peers_of peers.new)) }
+    ensures err { OnErr result (peers_of peers.new ≡ peers_of peers.old) }
+    ensures agree { FitsIn (peers_of peers.old) doc.now → IsRootedAt (peers_of peers.old) place doc.now → (id : Id)
+        → KeepsAgreement (peers_of peers.old) (peers_of peers.new) id }
+{
+    if place >= peers.len() {
+        return Err(NetFault::NoPeer(place));
+    }
+    match peers[place].load(doc) {
+        Ok(put) => Ok(put),
+        Err(fault) => Err(NetFault::Write(fault)),
+    }
+}
+
+/// Edits a document at one peer of a net: `Peer::edit`.
+///
+/// Tied peers stay tied, whatever the answer. Where no peer has the new revision with another parent or another content,
+/// which is so unless two edits have one MD5, trees that agreed and were whole do and are so still.
+pub fn edit_at<F: WriteFilter>(
+    peers: &mut [Peer<F>],
+    place: usize,
+    id: &DocId,
+    parent: Option<Rev>,
+    deleted: bool,
+    body: &Body,
+) -> Result<Rev, NetFault>
+    ensures answer { AnswersAt (peers_of peers.old) place
+        (λ p r. EditGives r (edit_answer p.db id.now parent deleted body.now)) result }
+    ensures filters { filters_of peers.new ≡ filters_of peers.old }
+    ensures tied { AreTied (peers_of peers.old) → AreTied (peers_of peers.new) }
+    ensures net { IsNet (peers_of peers.old) → IsNet (peers_of peers.new) }
+    ensures ok { OnOk result
+        (IsChangedAt place (λ p. after_edit p id.now parent deleted body.now) (peers_of peers.old) (peers_of peers.new)) }
+    ensures err { OnErr result (peers_of peers.new ≡ peers_of peers.old) }
+    ensures made { (among : EditValue → Bool) → IsOneOf among (peers_of peers.old) place id.now parent deleted body.now
+        → (at : Id) → AllMadeBy among (peers_of peers.old) at → AllMadeBy among (peers_of peers.new) at }
+    ensures agree { EditFits (peers_of peers.old) place id.now parent deleted body.now → (at : Id)
+        → KeepsAgreement (peers_of peers.old) (peers_of peers.new) at }
+{
+    if place >= peers.len() {
+        return Err(NetFault::NoPeer(place));
+    }
+    match peers[place].edit(id, parent, deleted, body) {
+        Ok(rev) => Ok(rev),
+        Err(fault) => Err(NetFault::Write(fault)),
+    }
+}
+
+/// What holds of the database of each peer, for the proofs that stand on it.
+fn hold_laws<F: WriteFilter>(peers: &[Peer<F>])
+    ensures { AllLawful (peers_of peers.now) }
+{
+    for peer in peers {
+        peer.law();
+    }
+}
+
+/// Replicates from one place into another.
+fn take_hop<F: WriteFilter>(
+    alloc: Global,
+    peers: &mut [Peer<F>],
+    at: usize,
+    hop: &Hop,
+) -> Result<Report, NetFault>
+    ensures taken { TakesHop F.refuses at peers.old hop.now result peers.new }
+    ensures filters { filters_of peers.new ≡ filters_of peers.old }
+    ensures tied { AreTied (peers_of peers.old) → AreTied (peers_of peers.new) }
+    ensures net { IsNet (peers_of peers.old) → IsNet (peers_of peers.new) }
+    ensures made { StaysMade (peers_of peers.old) (peers_of peers.new) }
+    ensures ended { OnOk result (Ended (peers_of peers.old) hop.now (peers_of peers.new)) }
+{
+    if hop.from >= peers.len() {
+        return Err(NetFault::NoPeer(hop.from));
+    }
+    if hop.to >= peers.len() {
+        return Err(NetFault::NoPeer(hop.to));
+    }
+    if hop.from == hop.to {
+        return Err(NetFault::Hop(at, TargetFault::SamePeer));
+    }
+    match carry(alloc, peers, hop) {
+        Ok(report) => Ok(report),
+        Err(why) => Err(NetFault::Hop(at, why)),
+    }
+}
+
+/// Replicates between two places that are there.
+fn carry<F: WriteFilter>(
+    alloc: Global,
+    peers: &mut [Peer<F>],
+    hop: &Hop,
+) -> Result<Report, TargetFault>
+    requires from { hop.now.from < length peers.old }
+    requires to { hop.now.to < length peers.old }
+    requires two { hop.now.from ≢ hop.now.to }
+    ensures hop { IsHop F.refuses peers.old hop.now result peers.new }
+    ensures filters { filters_of peers.new ≡ filters_of peers.old }
+    ensures hopped { Hopped (peers_of peers.old) hop.now (peers_of peers.new) }
+    ensures ended { OnOk result (Ended (peers_of peers.old) hop.now (peers_of peers.new)) }
+{
+    if hop.from < hop.to {
+        let (front, back) = peers.split_at_mut(hop.to);
+        replicate_two(alloc, &mut front[hop.from], &mut back[0], &hop.plan)
+    } else {
+        let (front, back) = peers.split_at_mut(hop.from);
+        replicate_two(alloc, &mut back[0], &mut front[hop.to], &hop.plan)
+    }
+}
+
+/// Replicates between two peers.
+fn replicate_two<F: WriteFilter>(
+    alloc: Global,
+    source: &mut Peer<F>,
+    target: &mut Peer<F>,
+    plan: &Plan,
+) -> Result<Report, TargetFault>
+    ensures replicates { Replicates (F.refuses target.old.0) source.old.1 target.old.1 plan.now result source.new.1
+        target.new.1 }
+    ensures filters { (source.new.0 ≡ source.old.0) × (target.new.0 ≡ target.old.0) }
+    ensures carried { Carried (F.refuses target.old.0) source.old.1 target.old.1 plan.now source.new.1 target.new.1 }
+    ensures whole { OnOk result
+        (IsTiedPair source.old.1 target.old.1 plan.now.chosen
+        → CoversFeed source.old.1 target.new.1 plan.now.chosen source.old.1.db.update_seq) }
+{
+    source.law();
+    target.law();
+    let answer = replicate_alone(alloc, source, target, plan);
+    target.law();
+    answer
+}

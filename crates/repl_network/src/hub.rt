@@ -1,0 +1,66 @@
+//! Replications by a hub: every peer into the first one, and that one into every other.
+ghost use Rattle.std.specs.Prelude.{◌≡◌, ◌+◌, ◌++◌, length, IfOk, OnOk};
+ghost use Rattle.repl_network.specs.Nets.{peers_of, filters_of, AreTied, IsNet};
+ghost use Rattle.repl_network.specs.Made.{StaysMade};
+ghost use Rattle.repl_network.specs.Hubs.{gathers, spreads, HubSpread};
+ghost use Rattle.repl_network.specs.Taken.{TakesHub};
+
+use crate::along::replicate_along;
+use crate::fault::NetFault;
+use crate::hop::Hop;
+use repl_target::{Peer, Plan, WriteFilter};
+use std::alloc::{AllocError, Global};
+
+/// Replicates every peer of a net into the first one, its hub, and then the hub into every other, by one thread: two
+/// replications a peer. The plans are those of the peers behind the hub, in their order.
+///
+/// `Plans` where there isn't one each way for each of them; else what `replicate_along` refuses.
+///
+/// Tied peers stay tied, whatever the answer. At `Ok`, of a document that each plan chooses and that nobody has refused,
+/// and whose trees agreed and were whole: it is the same everywhere, and the premises hold again.
+pub fn sync_by_hub<F: WriteFilter>(
+    alloc: Global,
+    peers: &mut [Peer<F>],
+    there: &[Plan],
+    back: &[Plan],
+) -> Result<(), NetFault>
+    ensures taken { TakesHub F.refuses peers.old there.now back.now result peers.new }
+    ensures filters { filters_of peers.new ≡ filters_of peers.old }
+    ensures tied { AreTied (peers_of peers.old) → AreTied (peers_of peers.new) }
+    ensures net { IsNet (peers_of peers.old) → IsNet (peers_of peers.new) }
+    ensures made { StaysMade (peers_of peers.old) (peers_of peers.new) }
+    ensures same { OnOk result
+        (AreTied (peers_of peers.old) → HubSpread (peers_of peers.old) there.now back.now (peers_of peers.new)) }
+{
+    if peers.len() != there.len() + 1 || peers.len() != back.len() + 1 {
+        return Err(NetFault::Plans);
+    }
+    let hops = hub_hops(alloc, there, back)?;
+    replicate_along(alloc, peers, &hops)
+}
+
+/// The hops of plans by a hub.
+fn hub_hops(alloc: Global, there: &[Plan], back: &[Plan]) -> Result<Vec<Hop>, AllocError>
+    ensures { IfOk result (λ hops. hops.items ≡ gathers 0 there.now ++ spreads 0 back.now) }
+{
+    let mut hops = Vec::new(alloc);
+    let mut place = 0;
+    for plan in there {
+        place += 1;
+        hops.push(Hop {
+            from: place,
+            to: 0,
+            plan: plan.copy()?,
+        })?;
+    }
+    let mut place = 0;
+    for plan in back {
+        place += 1;
+        hops.push(Hop {
+            from: 0,
+            to: place,
+            plan: plan.copy()?,
+        })?;
+    }
+    Ok(hops)
+}
