@@ -7,16 +7,16 @@ ghost use Rattle.read_commands.specs.Rest.{FitsRest, told_begun};
 ghost use Rattle.commands.specs.Script.{AnswersAsked};
 ghost use Rattle.commands.specs.words.{asked_if, asked_in};
 
+use command_api::{serve_in, text_member};
 use json_values::{Line, LineValue, is_same_text};
-use script_databases::{Databases, Refusal};
 use read_commands::{
     Audit, Changes, Compare, Conflicts, Doc, Docs, Info, Ledger, Log, Rest, Show, begin_in, whole,
 };
-use command_api::{serve_in, text_member};
-use write_commands::{Backup, BothWays, Edit, Load, Replicate, Restore};
+use script_databases::{Databases, Refusal};
 use std::alloc::Global;
 use std::sync::Wait;
 use std::thread::Threads;
+use write_commands::{Backup, BothWays, Edit, Load, Replicate, Restore};
 
 /// The words.
 #[derive(Clone, Copy, Drop)]

@@ -5,9 +5,9 @@ ghost use Rattle.couch_lines.specs.Status.{drawn_status, ended_status, status_of
 use crate::options::NoTask;
 use crate::run::{Ended, Run, run_words};
 use crate::tasks::Named;
-use response_parser::Refusal;
-use response_output::AnswerFault;
 use cli_common::{BAD_COMMAND_LINE, tell_no_memory, tell_no_words, tell_words, words_of};
+use response_output::AnswerFault;
+use response_parser::Refusal;
 use script_engine::{OverRead, OverWrite, ScriptFault, ScriptWrite};
 use std::env::Env;
 use std::io::{Eprint, Input, Print};

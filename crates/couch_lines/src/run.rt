@@ -7,8 +7,8 @@ ghost use Rattle.couch_lines.specs.Runs.{RunsWords, IsDone, Makes, form_of, is_d
 use crate::options::{NoTask, read_words};
 use crate::tasks::Task;
 use diagrams::{Form, draw_answers};
-use response_parser::{Reading, Wanted};
 use response_output::{AnswerFault, Wording, run_answers};
+use response_parser::{Reading, Wanted};
 use script_engine::{ScriptFault, ScriptRead, ScriptWrite};
 use std::alloc::{AllocError, Global};
 

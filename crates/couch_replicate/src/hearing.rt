@@ -2,11 +2,11 @@
 //! (docs/PROFILE.md, "Options").
 
 use crate::seen::Seen;
+use commands::Attend;
+use error_messages::explain;
 use json_values::{ValueReader, is_same_text};
 use script_databases::Settings;
 use script_engine::Listen;
-use error_messages::explain;
-use commands::Attend;
 use std::alloc::{AllocError, Global};
 use std::io::Eprint;
 use std::rt::Clock;

@@ -4,8 +4,8 @@ ghost use Rattle.couch_replicate.specs.RunWords.{RunsWords};
 
 use crate::hearing::Hearing;
 use crate::options::{NoSettings, read_words};
-use script_engine::{ScriptFault, ScriptRead, ScriptWrite};
 use commands::run_script;
+use script_engine::{ScriptFault, ScriptRead, ScriptWrite};
 use std::io::Eprint;
 use std::rt::Clock;
 use std::sync::Wait;

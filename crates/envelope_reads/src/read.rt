@@ -3,8 +3,8 @@ ghost use Rattle.std.specs.Prelude.{◌≡◌, false, IfErr};
 ghost use Rattle.envelope_reads.specs.Spared.{looks_into, IsSpared};
 ghost use Rattle.json_values.specs.LineView.{line_view};
 
-use doc_json::{Doc, DocFault, read_line_doc};
 use doc_envelope::Envelope;
+use doc_json::{Doc, DocFault, read_line_doc};
 use json_values::{LinePart, ReadFault, ValueReader};
 use std::alloc::Global;
 

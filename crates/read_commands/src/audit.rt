@@ -4,14 +4,14 @@ ghost use Rattle.repl_target.specs.Audit.{hole_of};
 ghost use Rattle.json_values.specs.LineView.{line_view};
 ghost use Rattle.read_commands.specs.Audit.{audit_text, hole_line};
 
-use json_values::{Line, LineValue};
-use repl_target::{Audit as Found, audit};
-use rev_core::Rev;
-use script_databases::{Databases, Refusal};
 use command_api::{
     Room, has_only_members, name_member, optional_texts, push_json, push_number, push_rev,
     read_choice,
 };
+use json_values::{Line, LineValue};
+use repl_target::{Audit as Found, audit};
+use rev_core::Rev;
+use script_databases::{Databases, Refusal};
 use std::alloc::{AllocError, Global};
 use std::sync::Wait;
 use std::thread::Threads;

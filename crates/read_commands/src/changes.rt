@@ -7,13 +7,13 @@ ghost use Rattle.read_commands.specs.Changes.{row_line};
 ghost use Rattle.command_api.specs.Texts.{last_line};
 
 use crate::feed::{NoTally, RowPrinter, Walk, print_feed};
-use couch_base::{Database, Row};
-use json_values::Line;
-use script_databases::{Databases, Refusal};
 use command_api::{
     Room, has_only_members, name_member, optional_whole, push_json, push_last, push_number,
     push_revs,
 };
+use couch_base::{Database, Row};
+use json_values::Line;
+use script_databases::{Databases, Refusal};
 use std::alloc::{AllocError, Global};
 use std::sync::Wait;
 use std::thread::Threads;

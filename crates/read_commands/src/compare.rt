@@ -6,14 +6,14 @@ ghost use Rattle.read_commands.specs.Compare.{FitsCompare, compare_left, compare
 use crate::feed::{RowPrinter, Walk, fill};
 use crate::long_room::LongRoom;
 use crate::rest::Rest;
+use command_api::{
+    has_only_members, name_member, optional_texts, push_number, push_revs_line, read_choice,
+};
 use couch_base::{Database, Row};
 use json_values::{Line, LineValue};
 use repl_inspect::{Comparison, Total, compare};
 use rev_tree::Contradiction;
 use script_databases::{Databases, Refusal};
-use command_api::{
-    has_only_members, name_member, optional_texts, push_number, push_revs_line, read_choice,
-};
 use std::alloc::{AllocError, Global};
 
 /// What a `compare` line asks.

@@ -6,12 +6,12 @@ ghost use Rattle.read_commands.specs.Conflicts.{FitsConflicts, conflicts_left, c
 use crate::feed::{RowPrinter, Walk, fill};
 use crate::long_room::LongRoom;
 use crate::rest::Rest;
+use command_api::{has_only_members, name_member, push_number, push_revs_line};
 use couch_base::{Database, Row};
 use json_values::Line;
 use repl_inspect::{Census, conflicting};
 use rev_tree::Tree;
 use script_databases::{Databases, Refusal};
-use command_api::{has_only_members, name_member, push_number, push_revs_line};
 use std::alloc::{AllocError, Global};
 
 /// What a `conflicts` line asks.

@@ -5,14 +5,14 @@ ghost use Rattle.command_api.specs.Texts.{ended};
 ghost use Rattle.json_values.specs.LineView.{line_view};
 ghost use Rattle.read_commands.specs.Doc.{chosen};
 
+use command_api::{
+    Room, has_only_members, name_member, optional_text, read_id, read_rev, text_member,
+};
 use doc_json::push_doc;
 use json_values::Line;
 use rev_core::Rev;
 use rev_tree::Tree;
 use script_databases::{Databases, Refusal};
-use command_api::{
-    Room, has_only_members, name_member, optional_text, read_id, read_rev, text_member,
-};
 use std::alloc::{AllocError, Global};
 use std::sync::Wait;
 use std::thread::Threads;

@@ -7,14 +7,14 @@ ghost use Rattle.read_commands.specs.Docs.{doc_line, docs_left};
 use crate::feed::{NoTally, RowPrinter, Walk, fill};
 use crate::long_room::LongRoom;
 use crate::rest::Rest;
+use command_api::{
+    has_only_members, name_member, optional_texts, optional_whole, push_last, read_choice,
+};
 use couch_base::{Database, Row};
 use doc_json::{Doc, push_doc};
 use json_values::{Line, LineValue};
 use repl_inspect::documents_of;
 use script_databases::{Databases, Refusal};
-use command_api::{
-    has_only_members, name_member, optional_texts, optional_whole, push_last, read_choice,
-};
 use std::alloc::{AllocError, Global};
 
 /// What a `docs` line asks.

@@ -3,12 +3,12 @@ ghost use Rattle.std.specs.Prelude.{◌≡◌, ◌++◌, OnOk};
 ghost use Rattle.json_values.specs.LineView.{line_view};
 ghost use Rattle.read_commands.specs.Info.{census_part, documents_part, identity_part, info_text, leaves_part, sessions_part};
 
+use command_api::{Room, has_only_members, id_text, name_member, push_count, push_number};
 use couch_base::Database;
 use json_values::Line;
 use repl_inspect::{Census, census_of};
 use repl_target::{Peer, Rules};
 use script_databases::{Databases, Refusal};
-use command_api::{Room, has_only_members, id_text, name_member, push_count, push_number};
 use std::alloc::{AllocError, Global};
 use std::sync::Wait;
 use std::thread::Threads;

@@ -5,15 +5,15 @@ ghost use Rattle.json_values.specs.LineView.{line_view};
 ghost use Rattle.read_commands.specs.Ledger.{contradicted_line, denied_line, ledger_text, parents_part, refused_line, rev_part};
 ghost use Rattle.rev_core.specs.Text.{rev_text};
 
+use command_api::{
+    Room, has_only_members, name_member, optional_uuid, push_count, push_json, push_rev,
+};
 use json_values::Line;
 use repl_inspect::{LedgerRow, ledger_row};
 use repl_target::Refused;
 use rev_core::Rev;
 use rev_tree::SessionId;
 use script_databases::{Databases, Refusal};
-use command_api::{
-    Room, has_only_members, name_member, optional_uuid, push_count, push_json, push_rev,
-};
 use std::alloc::{AllocError, Global};
 use std::sync::Wait;
 use std::thread::Threads;

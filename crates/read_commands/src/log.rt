@@ -5,11 +5,11 @@ ghost use Rattle.repl_peer.specs.logs.Checkpoint.{rep_between};
 ghost use Rattle.command_api.specs.Texts.{ended};
 ghost use Rattle.read_commands.specs.Log.{log_held, side_at};
 
+use command_api::{Room, has_only_members, name_member, optional_texts, read_choice, text_member};
 use json_values::{Line, LineValue};
 use repl_log::{RepId, write_log};
 use repl_target::{Peer, Rules, rep_between};
 use script_databases::{Databases, Refusal};
-use command_api::{Room, has_only_members, name_member, optional_texts, read_choice, text_member};
 use std::alloc::{AllocError, Global};
 use std::sync::Wait;
 use std::thread::Threads;

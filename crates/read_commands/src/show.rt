@@ -8,14 +8,14 @@ ghost use Rattle.command_api.specs.Texts.{text_of_any};
 ghost use Rattle.json_values.specs.LineView.{line_view};
 ghost use Rattle.read_commands.specs.Show.{head_line, leaf_line, leaf_text, show_text};
 
-use json_values::Line;
-use rev_core::Rev;
-use rev_tree::{Content, Tree};
-use script_databases::{Databases, Refusal};
 use command_api::{
     Room, has_only_members, name_member, push_count, push_json, push_rev, push_revs, read_id,
     text_member,
 };
+use json_values::Line;
+use rev_core::Rev;
+use rev_tree::{Content, Tree};
+use script_databases::{Databases, Refusal};
 use std::alloc::{AllocError, Global};
 use std::sync::Wait;
 use std::thread::Threads;

@@ -6,8 +6,8 @@ ghost use Rattle.response_output.specs.Forms.{before_rev as before_rev_of};
 ghost use Rattle.response_output.specs.Words.{before, behind, is_full, document_text, with_document, id_kept, rev_text, with_rev, first_rev_text, with_first_rev, over_text, over, text_for, counted_up, words_then, last_text, words_of, loads_of, asked_of, diffs_of, docs_of, bodies_of};
 
 use crate::forms::{Form, before_rev, closing, empty, ends, has_lists, opening, separator};
-use response_parser::Found;
 use doc_envelope::id_of;
+use response_parser::Found;
 use std::alloc::{AllocError, Global};
 
 /// How what was read is written.

@@ -3,9 +3,9 @@ ghost use Rattle.std.specs.Prelude.{◌≡◌, ◌++◌, OnOk};
 ghost use Rattle.json_values.specs.LineView.{line_view};
 ghost use Rattle.write_commands.specs.Backup.{backed_line};
 
+use command_api::{Room, has_only_members, name_member, push_number};
 use json_values::Line;
 use script_databases::{Databases, Refusal};
-use command_api::{Room, has_only_members, name_member, push_number};
 use std::alloc::{AllocError, Global};
 use std::sync::Wait;
 use std::thread::Threads;

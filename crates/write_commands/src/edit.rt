@@ -5,12 +5,12 @@ ghost use Rattle.write_commands.specs.Edit.{EditsLoud, edit_asked, edited_line};
 ghost use Rattle.script_engine.specs.Serving.{MayTell};
 ghost use Rattle.command_api.specs.Telling.{told_by};
 
-use json_values::{Line, LinePart};
-use script_databases::{Databases, Edited, Refusal};
 use command_api::{
     Room, has_only_members, hush, name_member, optional_flag, optional_text, push_json,
     push_number, push_rev, read_content_or_empty, read_id, read_rev, text_member,
 };
+use json_values::{Line, LinePart};
+use script_databases::{Databases, Edited, Refusal};
 use std::alloc::{AllocError, Global};
 use std::sync::Wait;
 use std::thread::Threads;

@@ -7,14 +7,14 @@ ghost use Rattle.script_databases.specs.declared.refusal.Refusal.TheVariants.{Uu
 ghost use Rattle.command_api.specs.Telling.{told_by};
 ghost use Rattle.write_commands.specs.Load.{LoadsLoud, LoadsNamed, LoadsNew, document_part, load_asked, loaded_line, made_line, put_line, same_line, there_line};
 
-use couch_base::Put;
-use doc_json::Doc;
-use json_values::{Line, LinePart};
-use script_databases::{Databases, Refusal};
 use command_api::{
     Room, has_only_members, hush, name_member, optional_uuid, push_json, push_number, push_rev,
     read_document,
 };
+use couch_base::Put;
+use doc_json::Doc;
+use json_values::{Line, LinePart};
+use script_databases::{Databases, Refusal};
 use std::alloc::{AllocError, Global};
 use std::sync::Wait;
 use std::thread::Threads;

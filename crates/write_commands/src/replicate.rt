@@ -9,6 +9,10 @@ ghost use Rattle.script_engine.specs.Serving.{MayTell};
 ghost use Rattle.command_api.specs.Telling.{told_by};
 ghost use Rattle.write_commands.specs.Replicate.{EndsBy, ReportsReplication, checked_part, documents_part, ending_line, ending_of, ending_of_run, ending_of_watched, last_second, moment_of, options_in, plan_with, progress_line, replicate_asked, report_line, session_of, session_part, stopped_line, with_session};
 
+use command_api::{
+    Room, has_only_members, id_text, name_member, optional_flag, optional_texts, optional_uuid,
+    optional_whole, push_number, read_choice,
+};
 use doc_json::Chosen;
 use json_values::{Line, LineValue};
 use repl_log::Moment;
@@ -16,10 +20,6 @@ use repl_pool::PoolFault;
 use repl_target::{Plan, Report, TargetFault};
 use rev_tree::SessionId;
 use script_databases::{Databases, Refusal, Watched};
-use command_api::{
-    Room, has_only_members, id_text, name_member, optional_flag, optional_texts, optional_uuid,
-    optional_whole, push_number, read_choice,
-};
 use std::alloc::{AllocError, Global};
 use std::sync::Wait;
 use std::thread::Threads;

@@ -5,12 +5,12 @@ ghost use Rattle.command_api.specs.Checks.{needed};
 ghost use Rattle.write_commands.specs.Sync.{shared_in, way_options};
 
 use crate::replicate::{Options, Replicate, serve_replication};
-use json_values::{Line, LineValue};
-use script_databases::{Databases, Refusal};
 use command_api::{
     Room, has_only_members, name_member, optional_flag, optional_texts, optional_uuid,
     optional_whole,
 };
+use json_values::{Line, LineValue};
+use script_databases::{Databases, Refusal};
 use std::alloc::Global;
 use std::sync::Wait;
 use std::thread::Threads;
